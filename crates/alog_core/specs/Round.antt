@@ -3,28 +3,10 @@
 use Rattle.std.specs.Prelude.{◌≡◌, ℕ, ◌+◌, ◌==◌, ◌&&◌, ◌||◌, not, nat_lt, Bool, true, false, if◌then◌else◌, Option, None, Some, is_none, option_and_then, List, [], ◌∷◌}
 use Rattle.std.specs.List.{list_any}
 use Rattle.alog_core.specs.Queue.{Cell, Queue, Event, Claim, Write, Grab, Take, Full, Empty, PushBusy, PopBusy, Spent, last, cell_of, after}
+use Rattle.alog_core.specs.declared.round.Round.{Round}
+use Rattle.alog_core.specs.declared.round.Round.TheVariants.{Idle, Push, PushRead, PushFree, PushClaimed, Pop, PopRead, PopReady, PopGrabbed}
 use Rattle.alog_core.specs.declared.mark.Mark.{Mark}
 use Rattle.alog_core.specs.declared.mark.Mark.TheVariants.{Claimed, Written, Emptying}
-
--- Where an actor stands: in no call, or before one of the four steps of a push or of a pop.
-pub data Round (T : Type 0) : Type 0 where
-  Idle : Round T
-  -- a push before its first step, with the item that it brings
-  Push : (item : T) → Round T
-  -- it read the enqueue position
-  PushRead : (ticket : ℕ) (item : T) → Round T
-  -- it found the place of that ticket free
-  PushFree : (ticket : ℕ) (item : T) → Round T
-  -- it claimed the ticket: the item is in the cell
-  PushClaimed : (ticket : ℕ) → Round T
-  -- a pop before its first step
-  Pop : Round T
-  -- it read the dequeue position
-  PopRead : (ticket : ℕ) → Round T
-  -- it found that ticket written
-  PopReady : (ticket : ℕ) → Round T
-  -- it grabbed the ticket
-  PopGrabbed : (ticket : ℕ) → Round T
 
 -- What a step is for the queue, if it is an event, and where it leaves the actor.
 pub record Move (T : Type 0) : Type 0 where
@@ -87,7 +69,3 @@ move_of n q (PopRead p) =
     else goes_on (PopReady p)
 move_of n q (PopReady p) = if q.front == p then makes (Grab p) (PopGrabbed p) else ends (PopBusy p)
 move_of n q (PopGrabbed p) = taking p (cell_of p q.cells)
-
--- the queue after a step
-abbrev pub queue_after : {T : Type 0} → Queue T → ℕ → Move T → Queue T
-queue_after q a m = after_event q a m.event

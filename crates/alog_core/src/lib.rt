@@ -1,6 +1,32 @@
-//! The queue of the logger as atomic steps of up to 64 actors, in any interleaving.
+//! The bounded queue for many producers and many consumers, as atomic steps of up to 64 actors in any interleaving.
+//!
+//! The rule is Dmitry Vyukov's (1024cores.net, "Bounded MPMC queue"). Contracts see a `World` as a queue of cells in
+//! ticket order and the round in which each actor stands; whatever keeps them is private. Read `specs/Queue.antt` for
+//! cells, events and what each is allowed to do, `specs/History.antt` for histories, `specs/Round.antt` for the steps
+//! of a push and of a pop, and `specs/World.antt` for the machine; then `world.rt`, whose calls are that machine.
+//! `table.rt` makes the steps over a plain list of cells (`listed.rt`), and `laws.rt` states what is true of every
+//! history.
 #![tactic(auto)]
 
+mod fault;
+mod listed;
 mod mark;
+mod round;
+mod said;
+mod table;
 
+
+pub use fault::{BeginFault, Refused, StepFault, WorldFault};
 pub use mark::Mark;
+pub use round::Round;
+pub use said::{Answer, Call, CellView, Said};
+
+
+/// Actors are numbered from 0 to 63.
+pub const ACTORS: u32 = 64;
+
+/// A queue has at most so many places.
+pub const MOST_PLACES: usize = 65_536;
+
+/// No ticket is as large. A queue that issued all tickets below it is spent.
+pub const LAST_TICKET: u64 = 1 << 62;

@@ -1,0 +1,58 @@
+use std::alloc::AllocError;
+use thiserror::Error;
+
+/// Why `World::new` made no queue.
+#[derive(Clone, Copy, Debug, PartialEq, Eq, Drop, Error)]
+pub enum WorldFault {
+    /// The number of places is no power of two from 2 to 65,536.
+    #[error("the number of places is no power of two from 2 to 65,536")]
+    BadSize,
+    /// The first ticket is 2^62 or more.
+    #[error("the first ticket is not below 2^62")]
+    BadFirst,
+    /// There was no memory for the cells and the actors.
+    #[error("out of memory")]
+    OutOfMemory,
+}
+
+impl From<AllocError> for WorldFault {
+    ghost use Rattle.std.specs.Prelude.{◌≡◌};
+    ghost use Rattle.alog_core.specs.declared.fault.WorldFault.TheVariants.{OutOfMemory};
+
+    ghost from_gives = { λ _ e. e ≡ OutOfMemory };
+
+    fn from(_e: AllocError) -> WorldFault {
+        WorldFault::OutOfMemory
+    }
+}
+
+/// Why a push or a pop did not begin.
+#[derive(Clone, Copy, Debug, PartialEq, Eq, Drop, Error)]
+pub enum BeginFault {
+    /// Actors are 0 to 63.
+    #[error("there is no such actor")]
+    NoActor,
+    /// The actor has a call that has not ended.
+    #[error("the actor is in a call")]
+    InCall,
+}
+
+/// Why a step was not made.
+#[derive(Clone, Copy, Debug, PartialEq, Eq, Drop, Error)]
+pub enum StepFault {
+    /// Actors are 0 to 63.
+    #[error("there is no such actor")]
+    NoActor,
+    /// The actor is in no call.
+    #[error("the actor is in no call")]
+    NotInCall,
+}
+
+/// A push that did not begin, and the item that it brought.
+#[derive(Debug, PartialEq, Eq, Drop)]
+pub struct Refused<T> {
+    /// Why.
+    pub fault: BeginFault,
+    /// The item, handed back.
+    pub item: T,
+}

@@ -1,0 +1,49 @@
+/// Where an actor stands: in no call, or before one of the four steps of a push or of a pop.
+///
+/// A ticket here is a position that an earlier step of the round read.
+#[derive(Debug, Drop)]
+pub enum Round<T> {
+    /// In no call.
+    Idle,
+    /// A push before it loads the enqueue position.
+    Push {
+        /// What it brings.
+        item: T,
+    },
+    /// A push before it loads the sequence of its ticket's place.
+    PushRead {
+        /// The enqueue position that it read.
+        ticket: u64,
+        /// What it brings.
+        item: T,
+    },
+    /// A push before it exchanges the enqueue position: it found the place free.
+    PushFree {
+        /// The enqueue position that it read.
+        ticket: u64,
+        /// What it brings.
+        item: T,
+    },
+    /// A push before it stores the sequence: the ticket is its own, and the item in the cell.
+    PushClaimed {
+        /// The ticket that it claimed.
+        ticket: u64,
+    },
+    /// A pop before it loads the dequeue position.
+    Pop,
+    /// A pop before it loads the sequence of its ticket's place.
+    PopRead {
+        /// The dequeue position that it read.
+        ticket: u64,
+    },
+    /// A pop before it exchanges the dequeue position: it found the ticket written.
+    PopReady {
+        /// The dequeue position that it read.
+        ticket: u64,
+    },
+    /// A pop before it stores the sequence: the cell is its own to empty.
+    PopGrabbed {
+        /// The ticket that it grabbed.
+        ticket: u64,
+    },
+}
