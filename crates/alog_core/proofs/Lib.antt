@@ -1,0 +1,4 @@
+pub mod Cells
+pub mod Rising
+pub mod Sound
+pub mod Histories
