@@ -5,3 +5,4 @@ pub mod World
 pub mod Staged
 pub mod Listed
 pub mod Table
+pub mod Inside

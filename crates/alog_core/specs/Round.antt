@@ -1,6 +1,6 @@
 -- A round: the steps of one push or pop. Each step reads or writes one word, and all a step knows of the words
 -- that earlier steps read is the ticket in its round.
-use Rattle.std.specs.Prelude.{◌≡◌, ℕ, ◌+◌, ◌==◌, ◌&&◌, ◌||◌, not, nat_lt, Bool, true, false, if◌then◌else◌, Option, None, Some, is_none, option_and_then, List, [], ◌∷◌}
+use Rattle.std.specs.Prelude.{ℕ, ◌+◌, ◌==◌, ◌&&◌, ◌||◌, not, nat_lt, Bool, true, false, if◌then◌else◌, Option, None, Some, is_none, List}
 use Rattle.std.specs.List.{list_any}
 use Rattle.alog_core.specs.Queue.{Cell, Queue, Event, Claim, Write, Grab, Take, Full, Empty, PushBusy, PopBusy, Spent, last, cell_of, after}
 use Rattle.alog_core.specs.declared.round.Round.{Round}

@@ -9,18 +9,20 @@
 #![tactic(auto)]
 
 mod fault;
+mod laws;
 mod listed;
 mod mark;
 mod round;
 mod said;
 mod table;
-
+mod world;
 
 pub use fault::{BeginFault, Refused, StepFault, WorldFault};
+pub use laws::reached_states_are_sound;
 pub use mark::Mark;
 pub use round::Round;
 pub use said::{Answer, Call, CellView, Said};
-
+pub use world::World;
 
 /// Actors are numbered from 0 to 63.
 pub const ACTORS: u32 = 64;

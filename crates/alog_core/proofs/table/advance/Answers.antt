@@ -1,0 +1,14 @@
+use Rattle.std.proofs.Common.{arith}
+use Rattle.alog_core.proofs.table.advance.Goals as goal
+
+pub returns-in-Push : goal.returns-in-Push
+returns-in-Push g c = rw c.in-Push.is (c.load_enqueue_position.ensures c.args.actor)
+
+pub returns-in-PushRead : goal.returns-in-PushRead
+returns-in-PushRead g c = rw c.in-PushRead.is (c.load_sequence_to_push.ensures c.args.actor)
+
+pub returns-in-PopRead : goal.returns-in-PopRead
+returns-in-PopRead g c = rw c.in-PopRead.is (c.load_sequence_to_pop.ensures c.args.actor)
+
+pub returns-in-None : goal.returns-in-None
+returns-in-None g c = ?
