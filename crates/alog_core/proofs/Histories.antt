@@ -1,6 +1,9 @@
 -- Histories taken from the back, and the facts of the queues that legal ones leave.
-use Rattle.std.proofs.Common.{◌≡◌, ℕ, ◌≤◌, cond, List, [], ◌∷◌, ◌++◌, refl, sym, ap, subst, ◌∙◌}
-use Rattle.alog_core.specs.Queue.{Queue, start, after, Allows, IsSound}
+use Rattle.std.proofs.Common.{◌≡◌, ℕ, ◌≤◌, cond, Option, None, Some, List, [], ◌∷◌, ◌++◌, refl, sym, ap, subst, ◌∙◌}
+use Rattle.std.proofs.lemmas.List.{append-nil}
+use Rattle.alog_core.specs.Queue.{Queue, Event, start, after, Allows, IsSound}
+use Rattle.alog_core.specs.Round.{after_event}
+use Rattle.alog_core.specs.World.{entries_of}
 use Rattle.alog_core.specs.History.{Entry, left_by, IsLegalFrom, IsLegal, own_of, StandsFor, ReachedStatesAreSound}
 use Rattle.alog_core.proofs.Cells.{on_test}
 use Rattle.alog_core.proofs.Sound.{sound_start, sound_after, length-sound}
@@ -73,3 +76,8 @@ stands_sound {T} n f h q some stands =
 pub reached_states_are_sound : (T N : Type 0) → ReachedStatesAreSound T N
 reached_states_are_sound T N n f h some legal =
     let s : IsSound n (left_by (start f) h) = sound_by_history n f h some legal in (s, length-sound n (left_by (start f) h) s)
+
+-- a history goes on with a step that is an event, and stays where it is none
+pub stands_step : {T N : Type 0} (n f : ℕ) (h : List (Entry T N)) (q : Queue T) (a : ℕ) (note : N) (o : Option (Event T)) → StandsFor n f h q → ((e : Event T) → o ≡ Some e → Allows n q a e) → StandsFor n f (h ++ entries_of a note o) (after_event q a o)
+stands_step {T} {N} n f h q a note None s may = subst (λ (g : List (Entry T N)). StandsFor n f g q) (sym (append-nil h)) s
+stands_step n f h q a note (Some e) s may = stands_after n f h q (record { actor = a; event = e; note = note }) s (may e refl)

@@ -4,3 +4,7 @@ pub mod Sound
 pub mod Histories
 pub mod Places
 pub mod Moves
+pub mod Steps
+pub mod Others
+pub mod Reached
+pub mod Calls

@@ -1,3 +1,6 @@
+ghost use Rattle.std.specs.Prelude.{◌≡◌};
+ghost use Rattle.alog_core.specs.Fault.{begin_number, step_number};
+
 use std::alloc::AllocError;
 use thiserror::Error;
 
@@ -16,7 +19,6 @@ pub enum WorldFault {
 }
 
 impl From<AllocError> for WorldFault {
-    ghost use Rattle.std.specs.Prelude.{◌≡◌};
     ghost use Rattle.alog_core.specs.declared.fault.WorldFault.TheVariants.{OutOfMemory};
 
     ghost from_gives = { λ _ e. e ≡ OutOfMemory };
@@ -37,6 +39,18 @@ pub enum BeginFault {
     InCall,
 }
 
+impl BeginFault {
+    /// The number of the refusal: 6 no such actor, 7 in a call already.
+    pub fn number(self) -> u32
+        ensures { result ≡ begin_number self }
+    {
+        match self {
+            BeginFault::NoActor => 6,
+            BeginFault::InCall => 7,
+        }
+    }
+}
+
 /// Why a step was not made.
 #[derive(Clone, Copy, Debug, PartialEq, Eq, Drop, Error)]
 pub enum StepFault {
@@ -46,6 +60,18 @@ pub enum StepFault {
     /// The actor is in no call.
     #[error("the actor is in no call")]
     NotInCall,
+}
+
+impl StepFault {
+    /// The number of the refusal: 6 no such actor, 8 not in a call.
+    pub fn number(self) -> u32
+        ensures { result ≡ step_number self }
+    {
+        match self {
+            StepFault::NoActor => 6,
+            StepFault::NotInCall => 8,
+        }
+    }
 }
 
 /// A push that did not begin, and the item that it brought.

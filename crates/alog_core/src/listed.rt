@@ -1,11 +1,14 @@
 //! A plain list of cells in ticket order.
-ghost use Rattle.std.specs.Prelude.{◌≡◌, ◌+◌, ◌==◌, ◌<◌, ◌++◌, ◌∷◌, [], Some, None, length, position, find, vec_len, vec_capacity};
+ghost use Rattle.std.specs.Prelude.{◌≡◌, ◌+◌, ◌==◌, ◌<◌, ◌++◌, ◌∷◌, [], Some, None, length, position, map, IfOk, vec_capacity};
 ghost use Rattle.std.specs.Option.{option_map};
 ghost use Rattle.alog_core.specs.Queue.{cell_of, marked, without};
 ghost use Rattle.alog_core.specs.Listed.{cells_of};
 ghost use Rattle.alog_core.specs.Round.{is_blocked};
+ghost use Rattle.alog_core.specs.World.{shown};
 
 use crate::mark::Mark;
+use crate::said::CellView;
+use std::alloc::{AllocError, Global};
 
 /// One ticket of the queue: how far it has come, its item, and its actor, who is the claimer, and from the grab on
 /// the taker.
@@ -14,7 +17,7 @@ pub struct Listed<T> {
     pub ticket: u64,
     pub mark: Mark,
     pub item: T,
-    pub actor: u64,
+    pub actor: u32,
 }
 
 /// The index of a ticket's cell.
@@ -40,7 +43,7 @@ pub fn blocks<T>(cells: &[Listed<T>], places: u64, ticket: u64) -> bool
 }
 
 /// Gives the ticket's cell this mark and this actor.
-pub fn set_mark<T>(cells: &mut Vec<Listed<T>>, ticket: u64, mark: Mark, actor: u64)
+pub fn set_mark<T>(cells: &mut Vec<Listed<T>>, ticket: u64, mark: Mark, actor: u32)
     ensures cells { cells_of cells.new.items ≡ marked ticket mark actor (cells_of cells.old.items) }
     ensures room { vec_capacity cells.new ≡ vec_capacity cells.old }
 {
@@ -65,4 +68,18 @@ pub fn take_out<T>(cells: &mut Vec<Listed<T>>, ticket: u64) -> Option<T>
         actor: _,
     } = cells.remove(index);
     Some(item)
+}
+
+/// What is shown of each cell.
+pub fn views<T>(alloc: Global, cells: &[Listed<T>]) -> Result<Vec<CellView>, AllocError>
+    ensures { IfOk result (λ v. v.items ≡ map shown (cells_of cells.now)) }
+{
+    let mut views = Vec::with_capacity(alloc, cells.len())?;
+    for cell in cells {
+        views.push_reserved(CellView {
+            ticket: cell.ticket,
+            mark: cell.mark,
+        });
+    }
+    Ok(views)
 }

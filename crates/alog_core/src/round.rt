@@ -1,3 +1,5 @@
+ghost use Rattle.std.specs.Prelude.{◌≡◌};
+
 /// Where an actor stands: in no call, or before one of the four steps of a push or of a pop.
 ///
 /// A ticket here is a position that an earlier step of the round read.
@@ -46,4 +48,25 @@ pub enum Round<T> {
         /// The ticket that it grabbed.
         ticket: u64,
     },
+}
+
+impl<T> Round<T> {
+    ghost use Rattle.alog_core.specs.World.{is_idle};
+
+    /// Whether the actor is in no call.
+    pub fn is_idle(&self) -> bool
+        ensures { result ≡ is_idle self.now }
+    {
+        match self {
+            Round::Idle => true,
+            Round::Push { .. }
+            | Round::PushRead { .. }
+            | Round::PushFree { .. }
+            | Round::PushClaimed { .. }
+            | Round::Pop
+            | Round::PopRead { .. }
+            | Round::PopReady { .. }
+            | Round::PopGrabbed { .. } => false,
+        }
+    }
 }

@@ -20,7 +20,7 @@ pub struct Table<T> {
 }
 
 /// Makes the next step of an actor, and says what it answers and where it leaves the actor.
-pub fn advance<T>(table: &mut Table<T>, actor: u64, round: Round<T>) -> (Said<T>, Round<T>)
+pub fn advance<T>(table: &mut Table<T>, actor: u32, round: Round<T>) -> (Said<T>, Round<T>)
     requires { HasRoom table.old round }
     ensures { Advances table.old table.new actor round result }
 {
@@ -81,7 +81,7 @@ fn load_sequence_to_push<T>(table: &Table<T>, ticket: u64, item: T) -> (Said<T>,
 }
 
 /// A push exchanges the enqueue position: the ticket is its own, or another actor was faster.
-fn claim<T>(table: &mut Table<T>, actor: u64, ticket: u64, item: T) -> (Said<T>, Round<T>)
+fn claim<T>(table: &mut Table<T>, actor: u32, ticket: u64, item: T) -> (Said<T>, Round<T>)
     requires { HasRoom table.old (round.PushFree ticket item) }
     ensures { Advances table.old table.new actor (round.PushFree ticket item) result }
 {
@@ -114,7 +114,7 @@ fn load_sequence_to_pop<T>(table: &Table<T>, ticket: u64) -> (Said<T>, Round<T>)
 }
 
 /// A pop exchanges the dequeue position: the ticket is its own, or another actor was faster.
-fn grab<T>(table: &mut Table<T>, actor: u64, ticket: u64) -> (Said<T>, Round<T>)
+fn grab<T>(table: &mut Table<T>, actor: u32, ticket: u64) -> (Said<T>, Round<T>)
     requires { table.old.front ≤ last }
     ensures { Advances table.old table.new actor (round.PopReady ticket) result }
 {

@@ -1,11 +1,12 @@
 //! The stepped queue: what its calls answer, and in which order they refuse.
-ghost use Rattle.std.specs.Prelude.{◌≡◌, ◌≢◌, ◌+◌, ◌<◌, ◌≤◌, ◌^◌, ◌↔◌, ◌++◌, ℕ, Some, List, true, false, map, IfOk, OnOk, OnErr, IfErr, IsErrOf};
+ghost use Rattle.std.specs.Prelude.{◌≡◌, ◌≢◌, ◌+◌, ◌<◌, ◌≤◌, ◌^◌, ◌↔◌, ◌++◌, ℕ, Some, List, true, false, map, IfOk, OnOk, OnErr, IfErr, IsOk, IsErrOf};
 ghost use Rattle.alog_core.specs.Queue.{Event, Allows, last};
 ghost use Rattle.alog_core.specs.History.{Entry, StandsFor};
-ghost use Rattle.alog_core.specs.World.{IsSize, fresh, round_of, is_idle, began, next_move, stepped, told, entries_of, replies_to, after_calls, shown};
+ghost use Rattle.alog_core.specs.World.{IsSize, fresh, round_of, is_idle, began, next_move, stepped, told, entries_of, reply_to, after_call, replies_to, after_calls, shown};
 ghost use Rattle.alog_core.specs.declared.round.Round.TheVariants as round;
 
 use crate::fault::{BeginFault, Refused, StepFault, WorldFault};
+use crate::listed::views;
 use crate::round::Round;
 use crate::said::{Answer, Call, CellView, Said};
 use crate::table::{Table, advance};
@@ -63,5 +64,138 @@ impl<T: Drop> World<T> {
             cells: Vec::with_capacity(alloc, places)?,
         };
         Ok(World { table, rounds })
+    }
+
+    /// Begins a push of this item by an actor, 0 to 63. It takes no memory.
+    ///
+    /// A refusal changes nothing and hands the item back.
+    pub fn begin_push(&mut self, actor: u32, item: T) -> Result<(), Refused<T>>
+        ensures began { OnOk result (self.new ≡ began self.old actor (round.Push item)) }
+        ensures begins { IsOk result ↔ ((actor < 64) × (is_idle (round_of self.old actor) ≡ true)) }
+        ensures no_actor { IfErr result (λ r. (r.fault ≡ BeginFault.NoActor) ↔ (64 ≤ actor)) }
+        ensures item { IfErr result (λ r. r.item ≡ item) }
+        ensures err { OnErr result (self.new ≡ self.old) }
+    {
+        match self.may_begin(actor) {
+            Ok(()) => {
+                self.rounds[actor as usize] = Round::Push { item };
+                Ok(())
+            }
+            Err(fault) => Err(Refused { fault, item }),
+        }
+    }
+
+    /// Begins a pop by an actor, 0 to 63. It takes no memory, and a refusal changes nothing.
+    pub fn begin_pop(&mut self, actor: u32) -> Result<(), BeginFault>
+        ensures began { OnOk result (self.new ≡ began self.old actor round.Pop) }
+        ensures begins { IsOk result ↔ ((actor < 64) × (is_idle (round_of self.old actor) ≡ true)) }
+        ensures no_actor { IsErrOf result BeginFault.NoActor ↔ (64 ≤ actor) }
+        ensures err { OnErr result (self.new ≡ self.old) }
+    {
+        self.may_begin(actor)?;
+        self.rounds[actor as usize] = Round::Pop;
+        Ok(())
+    }
+
+    /// Whether a call of this actor may begin.
+    fn may_begin(&self, actor: u32) -> Result<(), BeginFault>
+        ensures begins { IsOk result ↔ ((actor < 64) × (is_idle (round_of self.now actor) ≡ true)) }
+        ensures no_actor { IsErrOf result BeginFault.NoActor ↔ (64 ≤ actor) }
+        ensures in_call { IsErrOf result BeginFault.InCall → (actor < 64) × (is_idle (round_of self.now actor) ≡ false) }
+    {
+        if actor >= ACTORS {
+            Err(BeginFault::NoActor)
+        } else if self.rounds[actor as usize].is_idle() {
+            Ok(())
+        } else {
+            Err(BeginFault::InCall)
+        }
+    }
+
+    /// Makes the next atomic step of the actor's call. It takes no memory.
+    ///
+    /// Each step is one event of the queue, which the queue allows, or none, and it is the one that the table of a
+    /// round names. A refusal changes nothing.
+    pub fn step(&mut self, actor: u32) -> Result<Said<T>, StepFault>
+        ensures no_actor { IsErrOf result StepFault.NoActor ↔ (64 ≤ actor) }
+        ensures not_in_call { IsErrOf result StepFault.NotInCall ↔ ((actor < 64) × (is_idle (round_of self.old actor) ≡ true)) }
+        ensures err { OnErr result (self.new ≡ self.old) }
+
+        ensures said { IfOk result (λ s. s ≡ told self.old actor) }
+        ensures stepped { OnOk result (self.new ≡ stepped self.old actor) }
+        // The queue allows the step's event, so each history that it stood for goes on with it.
+        ensures allowed { OnOk result ((e : Event T) → (next_move self.old actor).event ≡ Some e → Allows self.old.places self.old.queue actor e) }
+        ensures history { OnOk result ((f : ℕ) (h : List (Entry T (Unit {0}))) → StandsFor self.old.places f h self.old.queue
+            → StandsFor self.old.places f (h ++ entries_of actor tt (next_move self.old actor).event) self.new.queue) }
+    {
+        match self.may_begin(actor) {
+            Err(BeginFault::NoActor) => Err(StepFault::NoActor),
+            Ok(()) => Err(StepFault::NotInCall),
+            Err(BeginFault::InCall) => Ok(self.advance(actor)),
+        }
+    }
+
+    /// Makes the next step of an actor, 0 to 63.
+    fn advance(&mut self, actor: u32) -> Said<T>
+        requires { actor < 64 }
+        ensures said { result ≡ told self.old actor }
+        ensures stepped { self.new ≡ stepped self.old actor }
+        ensures allowed { (e : Event T) → (next_move self.old actor).event ≡ Some e → Allows self.old.places self.old.queue actor e }
+    {
+        let place = actor as usize;
+        let round = mem::replace(&mut self.rounds[place], Round::Idle);
+        let (said, next) = advance(&mut self.table, actor, round);
+        self.rounds[place] = next;
+        said
+    }
+
+    /// The cells in ticket order.
+    pub fn cells(&self, alloc: Global) -> Result<Vec<CellView>, AllocError>
+        ensures { IfOk result (λ v. v.items ≡ map shown self.now.queue.cells) }
+    {
+        views(alloc, &self.table.cells)
+    }
+
+    /// Makes the calls one after another and answers their answers, one for each.
+    ///
+    /// Out of memory changes nothing and hands the calls back.
+    pub fn run(
+        &mut self,
+        alloc: Global,
+        calls: Vec<Call<T>>,
+    ) -> Result<Vec<Answer<T>>, AllocFailed<Vec<Call<T>>>>
+        ensures answers { IfOk result (λ v. v.items ≡ replies_to self.old calls.items) }
+        ensures after { OnOk result (self.new ≡ after_calls self.old calls.items) }
+        ensures handed_back { IfErr result (λ e. e.value ≡ calls) }
+        ensures err { OnErr result (self.new ≡ self.old) }
+    {
+        let Ok(mut answers) = Vec::with_capacity(alloc, calls.len()) else {
+            return Err(AllocFailed { value: calls });
+        };
+        for call in calls {
+            answers.push_reserved(self.answer(call));
+        }
+        Ok(answers)
+    }
+
+    /// Makes one call.
+    fn answer(&mut self, call: Call<T>) -> Answer<T>
+        ensures reply { result ≡ reply_to self.old call }
+        ensures after { self.new ≡ after_call self.old call }
+    {
+        match call {
+            Call::Push(actor, item) => match self.begin_push(actor, item) {
+                Ok(()) => Answer::Began,
+                Err(refused) => Answer::Refused(refused.fault.number(), Some(refused.item)),
+            },
+            Call::Pop(actor) => match self.begin_pop(actor) {
+                Ok(()) => Answer::Began,
+                Err(fault) => Answer::Refused(fault.number(), None),
+            },
+            Call::Step(actor) => match self.step(actor) {
+                Ok(said) => Answer::Said(said),
+                Err(fault) => Answer::Refused(fault.number(), None),
+            },
+        }
     }
 }

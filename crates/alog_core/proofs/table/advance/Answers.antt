@@ -1,4 +1,5 @@
-use Rattle.std.proofs.Common.{arith}
+use Rattle.std.proofs.Common.{refl}
+use Rattle.alog_core.proofs.Moves.{takes_nothing}
 use Rattle.alog_core.proofs.table.advance.Goals as goal
 
 pub returns-in-Push : goal.returns-in-Push
@@ -11,4 +12,5 @@ pub returns-in-PopRead : goal.returns-in-PopRead
 returns-in-PopRead g c = rw c.in-PopRead.is (c.load_sequence_to_pop.ensures c.args.actor)
 
 pub returns-in-None : goal.returns-in-None
-returns-in-None g c = ?
+returns-in-None g c =
+    rw c.in-PopGrabbed.is (takes_nothing c.args.table.now (record { places = c.args.table.now.places; next = c.args.table.now.next; front = c.args.table.now.front; cells = c.take_out.new.cells }) c.args.actor c.in-PopGrabbed.ticket c.in-None.ensures.item c.in-None.ensures.cells c.in-None.ensures.room refl refl refl)

@@ -1,0 +1,12 @@
+use Rattle.std.proofs.Common.{refl}
+use Rattle.alog_core.specs.World.{round_of, is_idle}
+use Rattle.alog_core.specs.declared.round.Round.TheVariants as round
+use Rattle.alog_core.proofs.Reached.{kept, reached_began}
+use Rattle.alog_core.proofs.world.World.begin_push.Goals as goal
+
+pub invariant_of-self : goal.invariant_of-self
+invariant_of-self g c =
+    record {
+      reached = reached_began (kept c.self.inside.table c.self.inside.rounds.items) c.args.actor (round.Push c.args.item) c.self.invariant.reached (c.in-Ok.ensures.begins.0 refl).0 tt;
+      room = c.self.invariant.room;
+    }
