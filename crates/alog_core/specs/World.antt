@@ -1,5 +1,5 @@
 -- The machine: a queue and 64 actors, each in a round of its own.
-use Rattle.std.specs.Prelude.{◌≡◌, ℕ, ◌^◌, ◌<◌, ◌≤◌, IsTrue, nat_lt, Bool, true, false, if◌then◌else◌, Option, None, Some, List, [], ◌∷◌, ◌++◌, map, replicate, slice_index_or, slice_set}
+use Rattle.std.specs.Prelude.{ℕ, ◌&&◌, nat_lt, nat_le, Bool, true, false, if◌then◌else◌, Option, None, Some, List, [], ◌∷◌, ◌++◌, map, replicate, slice_index_or, slice_set}
 use Rattle.std.specs.Int.{is_power_of_two}
 use Rattle.alog_core.specs.Queue.{Cell, Queue, Event, Claim, Write, Grab, Take, Full, Empty, PushBusy, PopBusy, Spent, start}
 use Rattle.alog_core.specs.Round.{Move, move_of, after_event}
@@ -21,11 +21,9 @@ pub record Machine (T : Type 0) : Type 0 where
   -- the round of each actor, by its number
   pub rounds : List (Round T)
 
--- a number of places that a queue may have
-pub record IsSize (n : ℕ) : Type 0 where
-  pub power : IsTrue (is_power_of_two n)
-  pub least : 2 ≤ n
-  pub most : n ≤ 65536
+-- a number of places that a queue may have: a power of two from 2 to 65,536
+abbrev pub is_size : ℕ → Bool
+is_size n = is_power_of_two n && (nat_le 2 n && nat_le n 65536)
 
 -- an empty queue, and nobody in a call
 abbrev pub fresh : {T : Type 0} → ℕ → ℕ → Machine T

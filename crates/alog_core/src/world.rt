@@ -2,7 +2,7 @@
 ghost use Rattle.std.specs.Prelude.{◌≡◌, ◌≢◌, ◌+◌, ◌<◌, ◌≤◌, ◌^◌, ◌↔◌, ◌++◌, ℕ, Some, List, true, false, map, IfOk, OnOk, OnErr, IfErr, IsOk, IsErrOf};
 ghost use Rattle.alog_core.specs.Queue.{Event, Allows, last};
 ghost use Rattle.alog_core.specs.History.{Entry, StandsFor};
-ghost use Rattle.alog_core.specs.World.{IsSize, fresh, round_of, is_idle, began, next_move, stepped, told, entries_of, reply_to, after_call, replies_to, after_calls, shown};
+ghost use Rattle.alog_core.specs.World.{is_size, fresh, round_of, is_idle, began, next_move, stepped, told, entries_of, reply_to, after_call, replies_to, after_calls, shown};
 ghost use Rattle.alog_core.specs.declared.round.Round.TheVariants as round;
 
 use crate::fault::{BeginFault, Refused, StepFault, WorldFault};
@@ -44,10 +44,10 @@ impl<T: Drop> World<T> {
     /// Nobody is in a call. All the memory that `begin_push`, `begin_pop` and `step` need is taken here.
     pub fn new(alloc: Global, places: usize, first: u64) -> Result<World<T>, WorldFault>
         ensures made { IfOk result (λ w. w ≡ fresh places first) }
-        ensures bad_size { IsErrOf result WorldFault.BadSize ↔ ¬ IsSize places }
-        ensures bad_first { IsErrOf result WorldFault.BadFirst ↔ (IsSize places × (last ≤ first)) }
+        ensures bad_size { IsErrOf result WorldFault.BadSize ↔ (is_size places ≡ false) }
+        ensures bad_first { IsErrOf result WorldFault.BadFirst ↔ ((is_size places ≡ true) × (last ≤ first)) }
     {
-        if places < 2 || places > MOST_PLACES || !places.is_power_of_two() {
+        if !(places.is_power_of_two() && places >= 2 && places <= MOST_PLACES) {
             return Err(WorldFault::BadSize);
         }
         if first >= LAST_TICKET {
