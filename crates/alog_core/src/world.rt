@@ -97,6 +97,14 @@ impl<T: Drop> World<T> {
         Ok(())
     }
 
+    /// Whether this actor, 0 to 63, is in no call.
+    pub fn is_idle(&self, actor: u32) -> bool
+        requires { actor < 64 }
+        ensures { result ≡ is_idle (round_of self.now actor) }
+    {
+        self.rounds[actor as usize].is_idle()
+    }
+
     /// Whether a call of this actor may begin.
     fn may_begin(&self, actor: u32) -> Result<(), BeginFault>
         ensures begins { IsOk result ↔ ((actor < 64) × (is_idle (round_of self.now actor) ≡ true)) }
@@ -105,7 +113,7 @@ impl<T: Drop> World<T> {
     {
         if actor >= ACTORS {
             Err(BeginFault::NoActor)
-        } else if self.rounds[actor as usize].is_idle() {
+        } else if self.is_idle(actor) {
             Ok(())
         } else {
             Err(BeginFault::InCall)

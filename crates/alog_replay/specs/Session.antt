@@ -1,0 +1,188 @@
+-- A queue under a script: the stepped queue, what its actors owe, and the memory file.
+use Rattle.std.specs.Prelude.{ℕ, zero, suc, pos, ◌&&◌, nat_lt, nat_le, Bool, true, false, if◌then◌else◌, Option, None, Some, List, [], ◌∷◌, ◌++◌, length, map, replicate, slice_index_or, slice_set, codes}
+use Rattle.std.specs.Fmt.{decimal}
+use Rattle.std.specs.List.{flat_map}
+use Rattle.alog_core.specs.Queue.{last}
+use Rattle.alog_core.specs.World.{Machine, is_size, is_idle, fresh, round_of, began, stepped, told, shown}
+use Rattle.alog_core.specs.declared.mark.Mark.{Mark}
+use Rattle.alog_core.specs.declared.mark.Mark.TheVariants as mark
+use Rattle.alog_core.specs.declared.round.Round.TheVariants as round
+use Rattle.alog_core.specs.declared.said.Said.{Said}
+use Rattle.alog_core.specs.declared.said.Said.TheVariants as said
+use Rattle.alog_core.specs.declared.said.CellView.{CellView}
+use Rattle.alog_msg.specs.declared.level.Level.TheVariants.{Info}
+use Rattle.alog_msg.specs.declared.message.Message.{Message}
+use Rattle.alog_replay.specs.declared.command.Command.{Command}
+use Rattle.alog_replay.specs.declared.command.Command.TheVariants as command
+use Rattle.alog_replay.specs.declared.duty.Duty.{Duty}
+use Rattle.alog_replay.specs.declared.duty.Duty.TheVariants.{Free, Works, Owes}
+
+pub record Stage : Type 0 where
+  pub world : Machine Message
+  -- what each actor owes beside its round
+  pub duties : List Duty
+  -- the bytes of the memory file
+  pub file : List ℕ
+
+-- an empty queue, nobody in a call, and no file
+abbrev pub opened : ℕ → ℕ → Stage
+opened places first = record { world = fresh places first; duties = replicate 64 Free; file = [] }
+
+abbrev pub duty_of : Stage → ℕ → Duty
+duty_of s a = slice_index_or s.duties a Free
+
+abbrev pub owes_nothing : Duty → Bool
+owes_nothing Free = true
+owes_nothing Works = true
+owes_nothing (Owes t text) = false
+
+-- the actor is in no call
+abbrev pub is_free : Stage → ℕ → Bool
+is_free s a = is_idle (round_of s.world a) && owes_nothing (duty_of s a)
+
+-- a pushed text as a message
+abbrev pub message_of : ℕ → List ℕ → Message
+message_of a text = record { logger = 0; level = Info; time = pos 0; thread = a; text = text; source = None }
+
+-- a line of an actor: its number, the words, and the end of the line
+abbrev pub line_of : ℕ → List ℕ → List ℕ
+line_of a words = decimal a ++ (32 ∷ words ++ 10 ∷ [])
+
+-- the line of an event, which names a ticket
+abbrev pub ticket_line : ℕ → List ℕ → ℕ → List ℕ
+ticket_line a event t = line_of a (event ++ 32 ∷ decimal t)
+
+-- what is printed of a step
+abbrev pub said_text : ℕ → Said Message → List ℕ
+said_text a said.Nothing = []
+said_text a (said.Claim t) = ticket_line a (codes "claim") t
+said_text a (said.Write t) = ticket_line a (codes "write") t
+said_text a (said.Full t m) = ticket_line a (codes "full") t
+said_text a (said.Grab t) = ticket_line a (codes "grab") t
+said_text a (said.Take t m) = line_of a (codes "take" ++ (32 ∷ decimal t ++ 32 ∷ m.text))
+said_text a (said.Empty t) = ticket_line a (codes "empty") t
+said_text a (said.Busy t m) = ticket_line a (codes "busy") t
+said_text a (said.Spent m) = line_of a (codes "spent")
+
+-- what is printed of a turn of the memory file
+abbrev pub turn_text : ℕ → ℕ → List ℕ
+turn_text a t = line_of a (codes "line" ++ (32 ∷ decimal t ++ 32 ∷ codes "memory"))
+
+-- what a worker owes after a step of its pop: a turn for what it took, and nothing where the pop has ended without
+abbrev pub work_after : Said Message → Duty
+work_after said.Nothing = Works
+work_after (said.Claim t) = Free
+work_after (said.Write t) = Free
+work_after (said.Full t m) = Free
+work_after (said.Grab t) = Works
+work_after (said.Take t m) = Owes t m.text
+work_after (said.Empty t) = Free
+work_after (said.Busy t m) = Free
+work_after (said.Spent m) = Free
+
+-- the stage where only the world has moved, or only what an actor owes, or only the file
+abbrev pub with_world : Stage → Machine Message → Stage
+with_world s world = record { world = world; duties = s.duties; file = s.file }
+
+abbrev pub with_duty : Stage → ℕ → Duty → Stage
+with_duty s a duty = record { world = s.world; duties = slice_set s.duties a duty; file = s.file }
+
+abbrev pub with_line : Stage → List ℕ → Stage
+with_line s text = record { world = s.world; duties = s.duties; file = s.file ++ (text ++ 10 ∷ []) }
+
+-- one step of an actor in a call: the turn that it owes, or else the next step of its round
+abbrev pub printed_by : Stage → ℕ → Duty → List ℕ
+printed_by s a Free = said_text a (told s.world a)
+printed_by s a Works = said_text a (told s.world a)
+printed_by s a (Owes t text) = turn_text a t
+
+abbrev pub stage_by : Stage → ℕ → Duty → Stage
+stage_by s a Free = with_duty (with_world s (stepped s.world a)) a Free
+stage_by s a Works = with_duty (with_world s (stepped s.world a)) a (work_after (told s.world a))
+stage_by s a (Owes t text) = with_duty (with_line s text) a Free
+
+abbrev pub step_text : Stage → ℕ → List ℕ
+step_text s a = printed_by s a (duty_of s a)
+
+abbrev pub after_step : Stage → ℕ → Stage
+after_step s a = stage_by s a (duty_of s a)
+
+-- A command was carried out, with what it printed and the stage after it; or it was refused, with what had been printed.
+pub data Played : Type 0 where
+  Done : (text : List ℕ) (stage : Stage) → Played
+  Refused : (text : List ℕ) → Played
+
+-- the same after these bytes
+abbrev pub behind : List ℕ → Played → Played
+behind text (Done more s) = Done (text ++ more) s
+behind text (Refused more) = Refused (text ++ more)
+
+-- a number of steps of an actor
+unfoldable pub steps : ℕ → ℕ → Stage → Played
+steps zero a s = Done [] s
+steps (suc k) a s = if is_free s a then Refused [] else behind (step_text s a) (steps k a (after_step s a))
+
+-- steps of an actor until its call has ended, but no more than this number
+unfoldable pub run : ℕ → ℕ → Stage → Played
+run zero a s = Done [] s
+run (suc k) a s = if is_free s a then Done [] s else behind (step_text s a) (run k a (after_step s a))
+
+-- the stage with an actor's call begun
+abbrev pub pushing : Stage → ℕ → List ℕ → Stage
+pushing s a text = with_duty (with_world s (began s.world a (round.Push (message_of a text)))) a Free
+
+abbrev pub popping : Stage → ℕ → Duty → Stage
+popping s a duty = with_duty (with_world s (began s.world a round.Pop)) a duty
+
+-- an actor in no call may push this text
+abbrev pub may_push : Stage → ℕ → List ℕ → Bool
+may_push s a text = is_free s a && nat_le (length text) 2048
+
+abbrev pub mark_name : Mark → List ℕ
+mark_name mark.Claimed = codes "claimed"
+mark_name mark.Written = codes "written"
+mark_name mark.Emptying = codes "emptying"
+
+-- a cell as it is printed
+abbrev pub cell_text : CellView → List ℕ
+cell_text c = 32 ∷ decimal c.ticket ++ (58 ∷ mark_name c.mark)
+
+abbrev pub cells_line : List CellView → List ℕ
+cells_line cells = codes "cells" ++ (flat_map cell_text cells ++ 10 ∷ [])
+
+abbrev pub cells_text : Stage → List ℕ
+cells_text s = cells_line (map shown s.world.queue.cells)
+
+-- what a command does where the queue is open
+abbrev pub play_open : Stage → Command → Played
+play_open s (command.Ring places first) = Refused []
+play_open s (command.Push a text) =
+    if may_push s a text then Done [] (pushing s a text) else Refused []
+play_open s (command.Pop a) = if is_free s a then Done [] (popping s a Free) else Refused []
+play_open s (command.Work a) = if is_free s a then Done [] (popping s a Works) else Refused []
+play_open s (command.Step a count) = steps count a s
+play_open s (command.Run a) = if is_free s a then Refused [] else run 512 a s
+play_open s command.Cells = Done (cells_text s) s
+
+-- before the queue is open, only `ring` is a command
+abbrev pub play_first : Command → Played
+play_first (command.Ring places first) = if is_size places && nat_lt first last then Done [] (opened places first) else Refused []
+play_first (command.Push a text) = Refused []
+play_first (command.Pop a) = Refused []
+play_first (command.Work a) = Refused []
+play_first (command.Step a count) = Refused []
+play_first (command.Run a) = Refused []
+play_first command.Cells = Refused []
+
+abbrev pub play : Option Stage → Command → Played
+play None c = play_first c
+play (Some s) c = play_open s c
+
+-- the memory file as it is printed at the end: nothing where no turn wrote to it
+abbrev pub file_text : List ℕ → List ℕ
+file_text [] = []
+file_text (b ∷ bytes) = codes "== memory memory " ++ (decimal (length (b ∷ bytes)) ++ (10 ∷ b ∷ bytes))
+
+abbrev pub files_text : Option Stage → List ℕ
+files_text None = []
+files_text (Some s) = file_text s.file

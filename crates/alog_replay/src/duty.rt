@@ -1,0 +1,12 @@
+use alog_msg::Text;
+
+/// What an actor still does beside the steps of its round.
+#[derive(Debug, Drop)]
+pub enum Duty {
+    /// Nothing.
+    Free,
+    /// It is a worker: what its pop takes goes to the memory file.
+    Works,
+    /// It took this text with this ticket, and its next step is the turn of the memory file.
+    Owes { ticket: u64, text: Text },
+}

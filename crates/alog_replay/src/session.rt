@@ -1,0 +1,172 @@
+//! A queue under a script: the stepped queue, what its actors owe, and the memory file.
+ghost use Rattle.std.specs.Prelude.{◌≡◌, ◌<◌, ◌↔◌, ◌++◌, true, false, nat_lt, ◌&&◌, IfOk, IfErr, IsErr, OnOk, IsErrOf, string_bytes};
+ghost use Rattle.alog_core.specs.Queue.{last};
+ghost use Rattle.alog_core.specs.World.{is_size, is_idle, round_of, told, stepped};
+ghost use Rattle.alog_core.specs.declared.said.Said.{Said};
+ghost use Rattle.alog_msg.specs.declared.message.Message.{Message};
+ghost use Rattle.alog_replay.specs.Session.{opened, is_free, may_push, pushing, popping, duty_of, with_duty, with_world, said_text, work_after, step_text, after_step};
+
+use crate::duty::Duty;
+use crate::fault::LineFault;
+use crate::print::{print_said, print_turn};
+use alog_core::{ACTORS, Said, World};
+use alog_msg::{Level, Message, Text};
+use std::alloc::Global;
+use std::marker::Model;
+use std::mem;
+
+/// The most bytes that a pushed text has.
+pub const TEXT_LIMIT: usize = 2048;
+
+/// Contracts see it as the `Stage` of `specs/Session.antt`.
+#[derive(Drop)]
+pub struct Session {
+    world: World<Message>,
+    duties: Vec<Duty>,
+    file: String,
+}
+
+impl Model for Session {
+    ghost use Rattle.std.specs.Prelude.{◌≡◌, length, string_bytes};
+    ghost use Rattle.alog_replay.specs.Session.{Stage};
+
+    ghost Value = { Stage };
+
+    ghost view = { λ s. record { world = s.world; duties = s.duties.items; file = string_bytes s.file } };
+
+    ghost invariant = { λ s. length s.duties.items ≡ 64 };
+}
+
+impl Session {
+    /// An empty queue and nobody in a call.
+    pub fn open(alloc: Global, places: u64, first: u64) -> Result<Session, LineFault>
+        ensures opened { IfOk result (λ s. s ≡ opened places first) }
+        ensures refused { IsErrOf result LineFault.Refused ↔ ((is_size places && nat_lt first last) ≡ false) }
+    {
+        let world = World::new(alloc, places as usize, first)?;
+        let mut duties = Vec::with_capacity(alloc, ACTORS as usize)?;
+        for _ in 0..ACTORS {
+            duties.push_reserved(Duty::Free);
+        }
+        let file = String::new(alloc);
+        Ok(Session {
+            world,
+            duties,
+            file,
+        })
+    }
+
+    /// Whether an actor, 0 to 63, is in no call.
+    pub fn is_free(&self, actor: u8) -> bool
+        requires { actor < 64 }
+        ensures { result ≡ is_free self.now actor }
+    {
+        let owes = matches!(self.duties[actor as usize], Duty::Owes { .. });
+        self.world.is_idle(u32::from(actor)) && !owes
+    }
+
+    /// An actor, 0 to 63, begins a push of a text of at most 2,048 bytes.
+    pub fn push(&mut self, alloc: Global, actor: u8, text: &str) -> Result<(), LineFault>
+        requires { actor < 64 }
+        ensures begun { OnOk result (self.new ≡ pushing self.old actor text.now) }
+        ensures refused { IsErrOf result LineFault.Refused ↔ (may_push self.old actor text.now ≡ false) }
+    {
+        if !(self.is_free(actor) && text.len() <= TEXT_LIMIT) {
+            return Err(LineFault::Refused);
+        }
+        let thread = u64::from(actor);
+        let message = Message::new(alloc, TEXT_LIMIT, 0, Level::Info, 0, thread, text, None)?;
+        self.world.begin_push(u32::from(actor), message)?;
+        self.owe(actor, Duty::Free);
+        Ok(())
+    }
+
+    /// An actor, 0 to 63, begins a pop, as a worker or not.
+    pub fn pop(&mut self, actor: u8, duty: Duty) -> Result<(), LineFault>
+        requires { actor < 64 }
+        ensures begun { OnOk result (self.new ≡ popping self.old actor duty) }
+        ensures refused { IsErr result ↔ (is_free self.old actor ≡ false) }
+        ensures cause { IfErr result (λ e. e ≡ LineFault.Refused) }
+    {
+        if !self.is_free(actor) {
+            return Err(LineFault::Refused);
+        }
+        self.world.begin_pop(u32::from(actor))?;
+        self.owe(actor, duty);
+        Ok(())
+    }
+
+    /// An actor, 0 to 63, makes the next step of its call, which is printed.
+    pub fn step(&mut self, actor: u8, out: &mut String) -> Result<(), LineFault>
+        requires { actor < 64 }
+        ensures stepped { OnOk result (self.new ≡ after_step self.old actor) }
+        ensures printed { OnOk result (string_bytes out.new ≡ string_bytes out.old ++ step_text self.old actor) }
+        ensures refused { IsErrOf result LineFault.Refused ↔ (is_free self.old actor ≡ true) }
+        ensures same { IsErrOf result LineFault.Refused → string_bytes out.new ≡ string_bytes out.old }
+    {
+        if self.is_free(actor) {
+            return Err(LineFault::Refused);
+        }
+        match self.take_duty(actor) {
+            Duty::Free => {
+                self.advance(actor, out)?;
+                Ok(())
+            }
+            Duty::Works => {
+                let said = self.advance(actor, out)?;
+                self.owe(actor, owed(said));
+                Ok(())
+            }
+            Duty::Owes { ticket, text } => {
+                self.file.push_str(text.as_str())?;
+                self.file.push_str("\n")?;
+                Ok(print_turn(out, actor, ticket)?)
+            }
+        }
+    }
+
+    /// What the actor owes, which it then owes no more.
+    fn take_duty(&mut self, actor: u8) -> Duty
+        requires { actor < 64 }
+        ensures duty { result ≡ duty_of self.old actor }
+        ensures after { self.new ≡ with_duty self.old actor Duty.Free }
+    {
+        mem::replace(&mut self.duties[actor as usize], Duty::Free)
+    }
+
+    /// The actor owes this from now on.
+    fn owe(&mut self, actor: u8, duty: Duty)
+        requires { actor < 64 }
+        ensures { self.new ≡ with_duty self.old actor duty }
+    {
+        self.duties[actor as usize] = duty;
+    }
+
+    /// The next step of a round.
+    fn advance(&mut self, actor: u8, out: &mut String) -> Result<Said<Message>, LineFault>
+        requires actor { actor < 64 }
+        requires in_call { is_idle (round_of self.old.world actor) ≡ false }
+        ensures said { IfOk result (λ said. said ≡ told self.old.world actor) }
+        ensures stepped { OnOk result (self.new ≡ with_world self.old (stepped self.old.world actor)) }
+        ensures printed { OnOk result (string_bytes out.new ≡ string_bytes out.old ++ said_text actor (told self.old.world actor)) }
+        ensures cause { IfErr result (λ e. e ≡ LineFault.OutOfMemory) }
+    {
+        let said = self.world.step(u32::from(actor))?;
+        print_said(out, actor, &said)?;
+        Ok(said)
+    }
+}
+
+/// What a worker owes after a step of its pop.
+fn owed(said: Said<Message>) -> Duty
+    ensures { result ≡ work_after said }
+{
+    match said {
+        Said::Take(ticket, message) => Duty::Owes {
+            ticket,
+            text: message.text,
+        },
+        Said::Nothing | Said::Grab(_) => Duty::Works,
+        _ => Duty::Free,
+    }
+}
