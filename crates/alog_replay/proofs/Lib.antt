@@ -1,2 +1,5 @@
 pub mod CutLemmas
 pub mod CommandLemmas
+pub mod LineLemmas
+pub mod PieceLemmas
+pub mod KnownLemmas

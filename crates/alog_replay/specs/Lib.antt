@@ -1,2 +1,5 @@
 pub mod Command
 pub mod Cut
+pub mod Lines
+pub mod LineState
+pub mod Reading

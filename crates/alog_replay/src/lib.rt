@@ -2,6 +2,9 @@
 #![tactic(auto)]
 
 pub mod command;
-pub mod parse;
+pub mod lines;
+pub mod parser;
 
 pub use command::{Command, TextRef};
+pub use lines::{LINE_MAX, Line, LineReader, READS_MAX, ReadFault};
+pub use parser::parse;
