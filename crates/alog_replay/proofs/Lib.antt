@@ -3,3 +3,4 @@ pub mod CommandLemmas
 pub mod LineLemmas
 pub mod PieceLemmas
 pub mod KnownLemmas
+pub mod EntryLemmas

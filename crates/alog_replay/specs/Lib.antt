@@ -3,3 +3,4 @@ pub mod Cut
 pub mod Lines
 pub mod LineState
 pub mod Reading
+pub mod Entry

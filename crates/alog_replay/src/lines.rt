@@ -1,6 +1,6 @@
 ghost use Rattle.std.specs.Prelude.{◌≡◌, ◌≢◌, ◌≤◌, ◌<◌, ◌^◌, ℕ, [], IfOk, OnOk, OnErr, length, slice_index, ◌==◌, if◌then◌else◌};
 ghost use Rattle.std.specs.Io.KnownBytes.{Consumes, IsAtEnd};
-ghost use Rattle.alog_replay.specs.LineState.{rest_of};
+ghost use Rattle.alog_replay.specs.LineState.{rest_of, work_left};
 
 use std::alloc::{AllocError, Global};
 use std::io::{ErrorKind, Read};
@@ -105,6 +105,7 @@ impl LineReader {
             (rest_of self.old (R.remaining reader.old)) (rest_of self.new (R.remaining reader.new)) self.new.line) }
         ensures fault { OnErr result (Consumes
             (rest_of self.old (R.remaining reader.old)) (rest_of self.new (R.remaining reader.new)) self.new.line) }
+        ensures fewer { IfOk result (λ line. line ≡ Line.Found → work_left self.new < work_left self.old) }
     {
         self.begin();
         loop {
@@ -163,6 +164,7 @@ impl LineReader {
         requires { self.old.pending ≡ [] }
         ensures line { self.new.line ≡ self.old.line }
         ensures fewer { OnOk result (self.new.reads_left < self.old.reads_left) }
+        ensures bound { length self.new.pending ≤ 8192 }
         ensures rest { Consumes (rest_of self.old (R.remaining reader.old)) (rest_of self.new (R.remaining reader.new)) [] }
         ensures end { IfOk result (λ fill. fill ≡ Fill.End → IsAtEnd (rest_of self.new (R.remaining reader.new))) }
     {

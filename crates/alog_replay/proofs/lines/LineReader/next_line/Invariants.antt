@@ -1,6 +1,6 @@
 use Rattle.std.proofs.Common.{◌≤◌, length}
 use Rattle.std.specs.Io.KnownBytes.{Consumes}
-use Rattle.alog_replay.specs.LineState.{rest_of}
+use Rattle.alog_replay.specs.LineState.{rest_of, work_left}
 use Rattle.alog_replay.specs.Lines.{IsUnbroken}
 use Rattle.alog_replay.proofs.lines.LineReader.next_line.Given as goal
 
@@ -10,6 +10,7 @@ invariant-loop-self g l =
     IsUnbroken l.self.line
         × Consumes (rest_of l.fn.self (g.R.Read.remaining l.fn.reader)) (rest_of l.self (g.R.Read.remaining l.reader)) l.self.line
         × (length l.self.line ≤ 16384)
+        × (work_left l.self ≤ work_left l.fn.self)
 
 abbrev pub decreases-loop-self : goal.decreases-loop-self
 decreases-loop-self g l = l.self.reads_left
