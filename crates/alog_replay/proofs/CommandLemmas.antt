@@ -32,7 +32,7 @@ by_name line name text rest o cut e given command =
     , λ s. let h = spelled.1 s in (given command).1 (h.0 ∙ e, h.1) )
 
 -- two texts differ where a byte does
-differ : (i : ℕ) (v w : List ℕ) → eqb (get_or v i 0) (get_or w i 0) ≡ false → v ≡ w → ⊥
+pub differ : (i : ℕ) (v w : List ℕ) → eqb (get_or v i 0) (get_or w i 0) ≡ false → v ≡ w → ⊥
 differ i v w d e = false≢true (sym d ∙ eq-eqb _ _ (ap (λ x. get_or x i 0) e))
 
 -- the commands of each name with two arguments

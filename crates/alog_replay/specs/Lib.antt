@@ -1,6 +1,9 @@
 pub mod Command
 pub mod Cut
 pub mod Lines
+pub mod LineState
+pub mod Reading
+pub mod Entry
 pub mod Session
 pub mod Script
 pub mod Fault

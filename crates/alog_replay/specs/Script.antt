@@ -1,33 +1,11 @@
 -- What a script prints.
-use Rattle.std.specs.Prelude.{◌≡◌, ℕ, ◌+◌, ◌≤◌, Option, None, Some, List, [], ◌∷◌, ◌++◌, length}
-use Rattle.std.specs.Str.{IsUtf8}
-use Rattle.alog_replay.specs.Command.{Spells}
+use Rattle.std.specs.Prelude.{◌≡◌, ℕ, ◌+◌, Option, None, Some, List, [], ◌∷◌, ◌++◌}
 use Rattle.alog_replay.specs.Lines.{lines_of}
 use Rattle.alog_replay.specs.Session.{Stage, Played, Done, Refused, play, files_text}
-use Rattle.alog_replay.specs.declared.command.Command.{Command}
-
--- a line is text of at most 16,384 bytes
-pub record IsReadable (line : List ℕ) : Type 0 where
-  pub short : length line ≤ 16384
-  pub text : IsUtf8 line
-
--- an empty line or a comment, which is counted and passed over
-abbrev pub IsSkipped : List ℕ → Type 0
-IsSkipped [] = Unit {0}
-IsSkipped (b ∷ line) = b ≡ 35
-
--- what a line is for a script
-pub data Reading : Type 0 where
-  Unreadable : Reading
-  Skip : Reading
-  Unknown : Reading
-  Asks : Command → Reading
-
-abbrev pub Reads : List ℕ → Reading → Type 0
-Reads line Unreadable = ¬ IsReadable line
-Reads line Skip = IsReadable line × IsSkipped line
-Reads line Unknown = IsReadable line × (¬ IsSkipped line) × ((c : Command) → ¬ Spells line c)
-Reads line (Asks c) = IsReadable line × (¬ IsSkipped line) × Spells line c
+use Rattle.alog_replay.specs.Entry.{IsEntry}
+use Rattle.alog_replay.specs.declared.entry.Entry.{Entry}
+use Rattle.alog_replay.specs.declared.entry.Entry.TheVariants.{Skipped, Does}
+use Rattle.alog_replay.specs.declared.entry.Entry.TheVariants as entry
 
 -- A whole script, with what it printed and the number of its lines; or its first refused line, counted from 1, with
 -- what was printed before and of it.
@@ -50,16 +28,15 @@ TellsPlayed n (Refused text) rest t = t ≡ RefusedAt (n + 1) text
 TellsPlayed n (Done text s) rest t = (u : Told) × rest s u × (t ≡ told_behind text u)
 
 -- a line after n others
-abbrev pub TellsLine : Option Stage → ℕ → Reading → (Option Stage → Told → Type 0) → Told → Type 0
-TellsLine stage n Unreadable rest t = t ≡ RefusedAt (n + 1) []
-TellsLine stage n Unknown rest t = t ≡ RefusedAt (n + 1) []
-TellsLine stage n Skip rest t = rest stage t
-TellsLine stage n (Asks c) rest t = TellsPlayed n (play stage c) (λ s u. rest (Some s) u) t
+abbrev pub TellsLine : Option Stage → ℕ → Entry → (Option Stage → Told → Type 0) → Told → Type 0
+TellsLine stage n Skipped rest t = rest stage t
+TellsLine stage n (Does c) rest t = TellsPlayed n (play stage c) (λ s u. rest (Some s) u) t
+TellsLine stage n entry.Refused rest t = t ≡ RefusedAt (n + 1) []
 
 -- what the lines tell, after n others that led to this stage; before the queue is open there is no stage
 unfoldable pub Tells : Option Stage → ℕ → List (List ℕ) → Told → Type 0
 Tells stage n [] t = t ≡ Whole (files_text stage) n
-Tells stage n (line ∷ lines) t = (r : Reading) × Reads line r × TellsLine stage n r (λ s u. Tells s (n + 1) lines u) t
+Tells stage n (line ∷ lines) t = (e : Entry) × IsEntry line e × TellsLine stage n e (λ s u. Tells s (n + 1) lines u) t
 
 -- what a script tells, from its bytes
 abbrev pub ScriptTells : List ℕ → Told → Type 0

@@ -1,5 +1,5 @@
 -- A queue under a script: the stepped queue, what its actors owe, and the memory file.
-use Rattle.std.specs.Prelude.{ℕ, zero, suc, pos, ◌&&◌, nat_lt, nat_le, Bool, true, false, if◌then◌else◌, Option, None, Some, List, [], ◌∷◌, ◌++◌, length, map, replicate, slice_index_or, slice_set, codes}
+use Rattle.std.specs.Prelude.{◌≡◌, ◌<◌, ℕ, zero, suc, pos, ◌&&◌, nat_lt, nat_le, Bool, true, false, if◌then◌else◌, Option, None, Some, List, [], ◌∷◌, ◌++◌, length, map, replicate, slice_index_or, slice_set, codes}
 use Rattle.std.specs.Fmt.{decimal}
 use Rattle.std.specs.List.{flat_map}
 use Rattle.alog_core.specs.Queue.{last}
@@ -126,6 +126,24 @@ steps (suc k) a s = if is_free s a then Refused [] else behind (step_text s a) (
 unfoldable pub run : ℕ → ℕ → Stage → Played
 run zero a s = Done [] s
 run (suc k) a s = if is_free s a then Done [] s else behind (step_text s a) (run k a (after_step s a))
+
+-- what was printed and the stage after it are those of a command that was carried out
+abbrev pub IsDone : Played → List ℕ → List ℕ → Stage → Type 0
+IsDone played before after s = (text : List ℕ) × (played ≡ Done text s) × (after ≡ before ++ text)
+
+-- what was printed is that of a command that was refused
+abbrev pub IsRefused : Played → List ℕ → List ℕ → Type 0
+IsRefused played before after = (text : List ℕ) × (played ≡ Refused text) × (after ≡ before ++ text)
+
+-- the command's actor is 0 to 63
+abbrev pub IsInRange : Command → Type 0
+IsInRange (command.Ring places first) = Unit {0}
+IsInRange (command.Push a text) = a < 64
+IsInRange (command.Pop a) = a < 64
+IsInRange (command.Work a) = a < 64
+IsInRange (command.Step a count) = a < 64
+IsInRange (command.Run a) = a < 64
+IsInRange command.Cells = Unit {0}
 
 -- the stage with an actor's call begun
 abbrev pub pushing : Stage → ℕ → List ℕ → Stage

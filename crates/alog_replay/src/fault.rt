@@ -1,7 +1,9 @@
 ghost use Rattle.std.specs.Prelude.{◌≡◌};
 ghost use Rattle.alog_replay.specs.declared.fault.LineFault.TheVariants.{Refused, OutOfMemory};
+ghost use Rattle.alog_replay.specs.declared.fault.ReplayFault.TheVariants as fault;
 ghost use Rattle.alog_replay.specs.Fault.{line_fault_of, line_fault_of_message};
 
+use crate::lines::ReadFault;
 use alog_core::{BeginFault, Refused, StepFault, WorldFault};
 use alog_msg::{Message, MessageError};
 use std::alloc::AllocError;
@@ -69,5 +71,38 @@ impl From<StepFault> for LineFault {
 
     fn from(_fault: StepFault) -> LineFault {
         LineFault::Refused
+    }
+}
+
+/// Why a script was not replayed to its end. What was written before stands.
+#[derive(Clone, Copy, Debug, PartialEq, Eq, Error)]
+pub enum ReplayFault {
+    /// This line, counted from 1, is refused: the lines before it and the steps done on it are written.
+    #[error("line {line} is refused")]
+    LineRefused { line: u64 },
+    /// The script could not be read to its end.
+    #[error("the script could not be read")]
+    ReadFault,
+    /// What was to be printed could not be written.
+    #[error("the output could not be written")]
+    WriteFault,
+    /// There was no memory.
+    #[error("out of memory")]
+    OutOfMemory,
+}
+
+impl From<AllocError> for ReplayFault {
+    ghost from_gives = { λ _ e. e ≡ fault.OutOfMemory };
+
+    fn from(_error: AllocError) -> ReplayFault {
+        ReplayFault::OutOfMemory
+    }
+}
+
+impl From<ReadFault> for ReplayFault {
+    ghost from_gives = { λ _ e. e ≡ fault.ReadFault };
+
+    fn from(_fault: ReadFault) -> ReplayFault {
+        ReplayFault::ReadFault
     }
 }

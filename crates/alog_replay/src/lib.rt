@@ -3,9 +3,20 @@
 
 pub mod command;
 pub mod duty;
+pub mod entry;
 pub mod fault;
-pub mod parse;
+pub mod lines;
+pub mod parser;
 pub mod print;
+pub mod replay;
 pub mod session;
 
+#[cfg(test)]
+mod tests;
+
 pub use command::{Command, TextRef};
+pub use entry::{Entry, entry_of, one_command};
+pub use fault::{LineFault, ReplayFault};
+pub use lines::{LINE_MAX, Line, LineReader, READS_MAX, ReadFault};
+pub use parser::parse;
+pub use session::Session;

@@ -4,11 +4,12 @@ ghost use Rattle.alog_core.specs.Queue.{last};
 ghost use Rattle.alog_core.specs.World.{is_size, is_idle, round_of, told, stepped};
 ghost use Rattle.alog_core.specs.declared.said.Said.{Said};
 ghost use Rattle.alog_msg.specs.declared.message.Message.{Message};
-ghost use Rattle.alog_replay.specs.Session.{opened, is_free, may_push, pushing, popping, duty_of, with_duty, with_world, said_text, work_after, step_text, after_step};
+ghost use Rattle.alog_replay.specs.Session.{opened, is_free, may_push, pushing, popping, duty_of, with_duty, with_world, said_text, work_after, step_text, after_step, steps, run, play_open, IsDone, IsRefused, IsInRange};
 
+use crate::command::Command;
 use crate::duty::Duty;
 use crate::fault::LineFault;
-use crate::print::{print_said, print_turn};
+use crate::print::{print_cells, print_said, print_turn};
 use alog_core::{ACTORS, Said, World};
 use alog_msg::{Level, Message, Text};
 use std::alloc::Global;
@@ -17,6 +18,9 @@ use std::mem;
 
 /// The most bytes that a pushed text has.
 pub const TEXT_LIMIT: usize = 2048;
+
+/// The most steps that one `run` makes.
+const STEPS_MAX: u32 = 512;
 
 /// Contracts see it as the `Stage` of `specs/Session.antt`.
 #[derive(Drop)]
@@ -123,6 +127,66 @@ impl Session {
                 Ok(print_turn(out, actor, ticket)?)
             }
         }
+    }
+
+    /// An actor, 0 to 63, makes this many steps.
+    fn steps(&mut self, actor: u8, count: u32, out: &mut String) -> Result<(), LineFault>
+        requires { actor < 64 }
+        ensures done { OnOk result (IsDone (steps count actor self.old) (string_bytes out.old) (string_bytes out.new) self.new) }
+        ensures refused { IsErrOf result LineFault.Refused → IsRefused (steps count actor self.old) (string_bytes out.old) (string_bytes out.new) }
+    {
+        for _ in 0..count {
+            self.step(actor, out)?;
+        }
+        Ok(())
+    }
+
+    /// An actor, 0 to 63, makes steps until its call has ended, but no more than `STEPS_MAX`.
+    fn run(&mut self, actor: u8, out: &mut String) -> Result<(), LineFault>
+        requires { actor < 64 }
+        ensures done { OnOk result (IsDone (run 512 actor self.old) (string_bytes out.old) (string_bytes out.new) self.new) }
+        ensures cause { IfErr result (λ e. e ≡ LineFault.OutOfMemory) }
+    {
+        for _ in 0..STEPS_MAX {
+            if self.is_free(actor) {
+                return Ok(());
+            }
+            self.step(actor, out)?;
+        }
+        Ok(())
+    }
+
+    /// Carries out a command where the queue is open, and prints what it prints behind `out`.
+    pub fn play(
+        &mut self,
+        alloc: Global,
+        command: Command<'_>,
+        out: &mut String,
+    ) -> Result<(), LineFault>
+        requires { IsInRange command }
+        ensures done { OnOk result (IsDone (play_open self.old command.entry) (string_bytes out.old) (string_bytes out.new) self.new) }
+        ensures refused { IsErrOf result LineFault.Refused → IsRefused (play_open self.old command.entry) (string_bytes out.old) (string_bytes out.new) }
+    {
+        match command {
+            Command::Ring { .. } => Err(LineFault::Refused),
+            Command::Push { actor, text } => self.push(alloc, actor, text.as_str()),
+            Command::Pop { actor } => self.pop(actor, Duty::Free),
+            Command::Work { actor } => self.pop(actor, Duty::Works),
+            Command::Step { actor, count } => self.steps(actor, count, out),
+            Command::Run { actor } if self.is_free(actor) => Err(LineFault::Refused),
+            Command::Run { actor } => self.run(actor, out),
+            Command::Cells => {
+                let cells = self.world.cells(alloc)?;
+                Ok(print_cells(out, &cells)?)
+            }
+        }
+    }
+
+    /// The bytes of the memory file.
+    pub fn file(&self) -> &str
+        ensures { result.now ≡ self.now.file }
+    {
+        self.file.as_str()
     }
 
     /// What the actor owes, which it then owes no more.

@@ -3,7 +3,7 @@ use Rattle.std.proofs.lemmas.Option.{none-some}
 use Rattle.std.specs.Option.{option_copied}
 use Rattle.alog_replay.proofs.CutLemmas.{none_of}
 use Rattle.alog_replay.proofs.CommandLemmas.{push_parts, one_push}
-use Rattle.alog_replay.proofs.parse.push.Goals as goal
+use Rattle.alog_replay.proofs.parser.push.Goals as goal
 
 pub returns-in_err-actor : goal.returns-in_err-actor
 returns-in_err-actor c = none_of _ _ c.from_residual-in_err-actor.ensures (λ command h.

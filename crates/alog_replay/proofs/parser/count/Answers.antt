@@ -1,4 +1,4 @@
-use Rattle.alog_replay.proofs.parse.count.Goals as goal
+use Rattle.alog_replay.proofs.parser.count.Goals as goal
 
 pub returns-in_err-n-in-Some : goal.returns-in_err-n-in-Some
 returns-in_err-n-in-Some c = rw (c.in-Some.is, c.from_residual.ensures) c.in_err-n-in-Some.ensures.spelled

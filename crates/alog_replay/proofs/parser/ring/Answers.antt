@@ -4,7 +4,7 @@ use Rattle.std.specs.Option.{option_copied}
 use Rattle.alog_replay.specs.Command.{SpellsWord64}
 use Rattle.alog_replay.proofs.CutLemmas.{none_of}
 use Rattle.alog_replay.proofs.CommandLemmas.{ring_parts, one_ring}
-use Rattle.alog_replay.proofs.parse.ring.Goals as goal
+use Rattle.alog_replay.proofs.parser.ring.Goals as goal
 
 pub returns-in_err-size : goal.returns-in_err-size
 returns-in_err-size c = none_of _ _ c.from_residual-in_err-size.ensures (λ command h.

@@ -1,7 +1,7 @@
 use Rattle.std.proofs.Common.{refl}
 use Rattle.alog_replay.proofs.CutLemmas.{none_of}
 use Rattle.alog_replay.proofs.CommandLemmas.{by_name, line_spells, unnamed}
-use Rattle.alog_replay.proofs.parse.parse.Goals as goal
+use Rattle.alog_replay.proofs.parser.parse.Goals as goal
 
 pub returns-in-ring : goal.returns-in-ring
 returns-in-ring c = by_name _ _ _ _ _ c.cut.ensures c.in-ring.is c.ring.ensures

@@ -1,0 +1,25 @@
+-- What a line of a script is: refused, skipped or a command.
+use Rattle.std.specs.Prelude.{◌≡◌, ◌≤◌, ◌<◌, ◌⊎◌, ℕ, List, [], ◌∷◌, length, IsUtf8}
+use Rattle.alog_replay.specs.Command.{Spells}
+use Rattle.alog_replay.specs.declared.command.Command.{Command}
+use Rattle.alog_replay.specs.declared.entry.Entry.{Entry}
+use Rattle.alog_replay.specs.declared.entry.Entry.TheVariants.{Skipped, Does, Refused}
+
+-- a line of at most 16,384 bytes, in UTF-8
+abbrev pub IsReadable : List ℕ → Type 0
+IsReadable line = (length line ≤ 16384) × IsUtf8 line
+
+-- an empty line, or one that begins with '#'
+abbrev pub IsSkipped : List ℕ → Type 0
+IsSkipped [] = Unit {0}
+IsSkipped (b ∷ line) = b ≡ 35
+
+-- what a line is
+abbrev pub IsEntry : List ℕ → Entry → Type 0
+IsEntry line Skipped = IsReadable line × IsSkipped line
+IsEntry line (Does command) = IsReadable line × Spells line command
+IsEntry line Refused = (IsReadable line → ⊥) ⊎ ((IsSkipped line → ⊥) × ((command : Command) → Spells line command → ⊥))
+
+-- a line spells one command at most
+abbrev pub OneCommand : Type 0
+OneCommand = (line : List ℕ) (c d : Command) → Spells line c → Spells line d → c ≡ d

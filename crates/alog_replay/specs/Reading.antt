@@ -1,0 +1,26 @@
+-- What the next line of a script is.
+use Rattle.std.specs.Prelude.{◌≡◌, ◌++◌, ◌∷◌, ◌<◌, ◌+◌, ℕ, List, [], Option, Some, None, length, ⊤}
+use Rattle.alog_replay.specs.Lines.{TakesLine, BeginsTooLong, IsUnbroken}
+use Rattle.alog_replay.specs.LineState.{LineState}
+use Rattle.alog_replay.specs.declared.lines.Line.{Line}
+use Rattle.alog_replay.specs.declared.lines.Line.TheVariants as next
+use Rattle.alog_replay.specs.declared.lines.Piece.{Piece}
+use Rattle.alog_replay.specs.declared.lines.Piece.TheVariants as piece
+
+-- what an answer says of the script before, of the line, and of the bytes after it
+abbrev pub IsNextLine : Line → List ℕ → List ℕ → List ℕ → Type 0
+IsNextLine next.Found script line after = TakesLine script line after
+IsNextLine next.TooLong script line after = (script ≡ line ++ after) × BeginsTooLong script
+IsNextLine next.End script line after = (script ≡ []) × (line ≡ []) × (after ≡ [])
+
+-- the same where the bytes of the script are known
+abbrev pub FindsLine : Line → Option (List ℕ) → Option (List ℕ) → List ℕ → Type 0
+FindsLine answer None after line = ⊤
+FindsLine answer (Some script) None line = ⊥
+FindsLine answer (Some script) (Some after) line = IsNextLine answer script line after
+
+-- a piece of the pending bytes was moved behind the line
+abbrev pub MovesPiece : Piece → LineState → LineState → Type 0
+MovesPiece piece.Ended old new = (p : List ℕ) × (old.pending ≡ p ++ 10 ∷ new.pending) × (new.line ≡ old.line ++ p) × IsUnbroken p
+MovesPiece piece.Whole old new = (new.pending ≡ []) × (new.line ≡ old.line ++ old.pending) × IsUnbroken old.pending
+MovesPiece piece.TooLong old new = (new ≡ old) × (p : List ℕ) × (q : List ℕ) × (old.pending ≡ p ++ q) × IsUnbroken p × (16384 < length old.line + length p)

@@ -1,0 +1,1 @@
+//! The replay of a script, from a reader to a writer.
