@@ -6,3 +6,7 @@ pub mod KnownLemmas
 pub mod EntryLemmas
 pub mod Duties
 pub mod Stepping
+pub mod Writing
+pub mod Ranges
+pub mod Telling
+pub mod Endings

@@ -7,8 +7,8 @@ pub mod entry;
 pub mod fault;
 pub mod lines;
 pub mod parser;
+pub mod player;
 pub mod print;
-pub mod replay;
 pub mod session;
 
 #[cfg(test)]
@@ -19,4 +19,5 @@ pub use entry::{Entry, entry_of, one_command};
 pub use fault::{LineFault, ReplayFault};
 pub use lines::{LINE_MAX, Line, LineReader, READS_MAX, ReadFault};
 pub use parser::parse;
+pub use player::replay;
 pub use session::Session;

@@ -1,1 +1,0 @@
-//! The replay of a script, from a reader to a writer.
