@@ -1,0 +1,312 @@
+//! The worked scripts and the bad forms, on the whole program.
+use crate::run;
+use std::alloc::{AllocError, Global};
+use std::io;
+use std::io::{Error, ErrorKind, Read, Write};
+use std::process::Abort;
+use std::test::Fail;
+
+/// Runs `alog replay` on a script, and checks its status, what it prints, and its line on standard error.
+fn expect<R: AllocGlobal + Abort>(rt: &R, script: &[u8], status: u8, printed: &str, error: &str) {
+    let mut input = script;
+    let mut output = Vec::new(rt.alloc());
+    let mut errors = Vec::new(rt.alloc());
+    let words = ["alog", "replay"];
+    let found = run(rt, words.as_slice(), &mut input, &mut output, &mut errors);
+    assert_eq!(rt; found, status);
+    assert!(rt; output.as_slice() == printed.as_bytes());
+    assert!(rt; errors.as_slice() == error.as_bytes());
+}
+
+fn prints<R: AllocGlobal + Abort>(rt: &R, script: &str, printed: &str) {
+    expect(rt, script.as_bytes(), 0, printed, "");
+}
+
+fn refuses<R: AllocGlobal + Abort>(rt: &R, script: &str, printed: &str, error: &str) {
+    expect(rt, script.as_bytes(), 2, printed, error);
+}
+
+#[test]
+fn whole_scripts(rt: HostRuntime) {
+    for (script, printed) in [
+        // A text through the queue into the memory file.
+        (
+            "ring 2 0\npush 1 a\nstep 1 4\nwork 2\nstep 2 5\n",
+            "1 claim 0\n1 write 0\n2 grab 0\n2 take 0 a\n2 line 0 memory\n== memory memory 2\na\n",
+        ),
+        // An empty queue.
+        ("ring 2 0\npop 2\nstep 2 2", "2 empty 0\n"),
+        // A claimed cell in front.
+        (
+            "ring 4 0\npush 1 a\nstep 1 3\npush 2 b\nrun 2\npop 3\nrun 3\ncells",
+            "1 claim 0\n2 claim 1\n2 write 1\n3 empty 0\ncells 0:claimed 1:written\n",
+        ),
+        // A cell that is being emptied keeps its place.
+        (
+            "ring 2 0\npush 1 a\nrun 1\npush 2 b\nrun 2\npop 3\nstep 3 3\npop 4\nrun 4\npush 5 c\nrun 5\ncells\nrun 3\npush 5 c\nrun 5",
+            "1 claim 0\n1 write 0\n2 claim 1\n2 write 1\n3 grab 0\n4 grab 1\n4 take 1 b\n5 full 2\ncells 0:emptying\n3 take 0 a\n5 claim 2\n5 write 2\n",
+        ),
+        // Busy at the sequence.
+        (
+            "ring 4 0\npush 1 a\nstep 1\npush 2 b\nrun 2\nstep 1",
+            "2 claim 0\n2 write 0\n1 busy 0\n",
+        ),
+        // Busy at the exchange.
+        (
+            "ring 4 0\npush 1 a\nstep 1 2\npush 2 b\nstep 2 3\nstep 1",
+            "2 claim 0\n1 busy 0\n",
+        ),
+        // The last ticket of all.
+        (
+            "ring 2 4611686018427387903\npush 1 a\nrun 1\npush 2 b\nstep 2\npop 3\nrun 3\npop 3\nrun 3",
+            "1 claim 4611686018427387903\n1 write 4611686018427387903\n2 spent\n3 grab 4611686018427387903\n3 take 4611686018427387903 a\n3 empty 4611686018427387904\n",
+        ),
+        // No line counts, or no line is there.
+        ("", ""),
+        ("\n# a comment\n\n", ""),
+        // The largest queue, leading zeros, an empty text, a text of spaces, and no newline at the end.
+        (
+            "# first\n\nring 065536 00\npush 01 \nrun 1\nwork 2\nrun 2\npush 63  b \nrun 63\nwork 2\nrun 2",
+            "1 claim 0\n1 write 0\n2 grab 0\n2 take 0 \n2 line 0 memory\n63 claim 1\n63 write 1\n2 grab 1\n2 take 1  b \n2 line 1 memory\n== memory memory 5\n\n b \n",
+        ),
+        // Two workers: the turns are in the order in which they are made.
+        (
+            "ring 4 0\npush 1 a\nrun 1\npush 1 b\nrun 1\nwork 3\nstep 3 4\nwork 4\nrun 4\nrun 3\ncells",
+            "1 claim 0\n1 write 0\n1 claim 1\n1 write 1\n3 grab 0\n3 take 0 a\n4 grab 1\n4 take 1 b\n4 line 1 memory\n3 line 0 memory\ncells\n== memory memory 4\nb\na\n",
+        ),
+    ] {
+        prints(&rt, script, printed);
+    }
+}
+
+#[test]
+fn refused_lines(rt: HostRuntime) {
+    for (script, printed, error) in [
+        ("ring 3 0\n", "", "alog: refused 33 at line 1\n"),
+        ("ring 0 0", "", "alog: refused 33 at line 1\n"),
+        ("ring 1 0", "", "alog: refused 33 at line 1\n"),
+        ("ring 131072 0", "", "alog: refused 33 at line 1\n"),
+        (
+            "ring 2 4611686018427387904",
+            "",
+            "alog: refused 33 at line 1\n",
+        ),
+        (
+            "ring 2 18446744073709551616",
+            "",
+            "alog: refused 33 at line 1\n",
+        ),
+        (
+            "\n#\nring 2 0\nring 2 0",
+            "",
+            "alog: refused 33 at line 4\n",
+        ),
+        ("cells\nring 2 0", "", "alog: refused 33 at line 1\n"),
+        ("push 1 a", "", "alog: refused 33 at line 1\n"),
+        ("ring 2 0\nfold 1", "", "alog: refused 33 at line 2\n"),
+        (
+            "ring 2 0\npost 1 block a",
+            "",
+            "alog: refused 33 at line 2\n",
+        ),
+        ("ring 2 0\npop", "", "alog: refused 33 at line 2\n"),
+        ("ring 2 0\npop 64", "", "alog: refused 33 at line 2\n"),
+        ("ring 2 0\npush 64 a", "", "alog: refused 33 at line 2\n"),
+        ("ring 2 0\npop +1", "", "alog: refused 33 at line 2\n"),
+        ("ring 2 0\npop  1", "", "alog: refused 33 at line 2\n"),
+        ("ring 2 0\npop 1 ", "", "alog: refused 33 at line 2\n"),
+        ("ring 2 0\npop 1\r\n", "", "alog: refused 33 at line 2\n"),
+        ("ring 2 0\ncells \n", "", "alog: refused 33 at line 2\n"),
+        (
+            "ring 2 0\npop 1\nstep 1 0",
+            "",
+            "alog: refused 33 at line 3\n",
+        ),
+        (
+            "ring 2 0\npop 1\nstep 1 513",
+            "",
+            "alog: refused 33 at line 3\n",
+        ),
+        ("ring 2 0\nstep 1", "", "alog: refused 33 at line 2\n"),
+        ("ring 2 0\nrun 1", "", "alog: refused 33 at line 2\n"),
+        (
+            "ring 2 0\npop 1\npush 1 a",
+            "",
+            "alog: refused 33 at line 3\n",
+        ),
+        (
+            "ring 2 0\npop 1\nwork 1",
+            "",
+            "alog: refused 33 at line 3\n",
+        ),
+        // The steps that were made stand.
+        (
+            "ring 2 0\npush 1 a\nstep 1 6\npop 2\n",
+            "1 claim 0\n1 write 0\n",
+            "alog: refused 33 at line 3\n",
+        ),
+        // A worker that owes its turn is in its call still, and the file is not printed.
+        (
+            "ring 2 0\npush 1 a\nrun 1\nwork 2\nstep 2 4\nwork 2",
+            "1 claim 0\n1 write 0\n2 grab 0\n2 take 0 a\n",
+            "alog: refused 33 at line 6\n",
+        ),
+    ] {
+        refuses(&rt, script, printed, error);
+    }
+}
+
+/// A text of this many letters, after a front.
+fn long(alloc: Global, front: &str, letters: usize) -> Result<String, AllocError> {
+    let mut text = String::from_str(alloc, front)?;
+    for _ in 0..letters {
+        text.push('x')?;
+    }
+    Ok(text)
+}
+
+#[test]
+fn long_lines(rt: HostRuntime) -> Result<(), Fail> {
+    let alloc = rt.alloc();
+    prints(&rt, long(alloc, "#", 16_383)?.as_str(), "");
+    let error = "alog: refused 33 at line 1\n";
+    refuses(&rt, long(alloc, "#", 16_384)?.as_str(), "", error);
+    let error = "alog: refused 33 at line 2\n";
+    prints(&rt, long(alloc, "ring 2 0\npush 1 ", 2_048)?.as_str(), "");
+    refuses(
+        &rt,
+        long(alloc, "ring 2 0\npush 1 ", 2_049)?.as_str(),
+        "",
+        error,
+    );
+    expect(&rt, b"ring 2 0\n#\xff\n".as_slice(), 2, "", error);
+    Ok(())
+}
+
+/// Gives its bytes one at a time, and then fails or ends.
+#[derive(Drop)]
+struct Trickle<'a> {
+    bytes: &'a [u8],
+    fails: bool,
+}
+
+impl Read for Trickle<'_> {
+    fn read(&mut self, buf: &mut [u8]) -> io::Result<usize> {
+        match (self.bytes, buf) {
+            ([first, rest @ ..], [place, ..]) => {
+                *place = *first;
+                self.bytes = rest;
+                Ok(1)
+            }
+            _ if self.fails => Err(Error::from(ErrorKind::BrokenPipe)),
+            _ => Ok(0),
+        }
+    }
+}
+
+/// Takes this many bytes, one at a time, and then fails or takes none.
+#[derive(Drop)]
+struct Narrow {
+    taken: Vec<u8>,
+    room: usize,
+    fails: bool,
+}
+
+impl Write for Narrow {
+    fn write(&mut self, buf: &[u8]) -> io::Result<usize> {
+        match buf {
+            [first, ..] if self.taken.len() < self.room => {
+                self.taken.push(*first)?;
+                Ok(1)
+            }
+            _ if self.fails => Err(Error::from(ErrorKind::BrokenPipe)),
+            _ => Ok(0),
+        }
+    }
+
+    fn flush(&mut self) -> io::Result<()> {
+        Ok(())
+    }
+}
+
+const SCRIPT: &str = "ring 2 0\npush 1 a\nrun 1\nwork 2\nrun 2\n";
+
+const PRINTED: &str =
+    "1 claim 0\n1 write 0\n2 grab 0\n2 take 0 a\n2 line 0 memory\n== memory memory 2\na\n";
+
+/// Replays a front of the script into a writer of some room, and checks the status and what was written.
+fn trickles<R: AllocGlobal + Abort>(
+    rt: &R,
+    fails: bool,
+    room: usize,
+    writes: bool,
+    status: u8,
+    error: &str,
+) {
+    let mut input = Trickle {
+        bytes: SCRIPT.as_bytes(),
+        fails,
+    };
+    let mut output = Narrow {
+        taken: Vec::new(rt.alloc()),
+        room,
+        fails: writes,
+    };
+    let mut errors = Vec::new(rt.alloc());
+    let words = ["alog", "replay"];
+    let found = run(rt, words.as_slice(), &mut input, &mut output, &mut errors);
+    assert_eq!(rt; found, status);
+    assert!(rt; errors.as_slice() == error.as_bytes());
+    assert!(rt; PRINTED.as_bytes().starts_with(output.taken.as_slice()));
+    assert!(rt; output.taken.len() == room.min(PRINTED.len()) || fails);
+}
+
+#[test]
+fn one_byte_at_a_time(rt: HostRuntime) {
+    trickles(&rt, false, PRINTED.len(), true, 0, "");
+    trickles(&rt, true, PRINTED.len(), true, 3, "alog: refused 34\n");
+}
+
+#[test]
+fn each_write_failing(rt: HostRuntime) {
+    for room in 0..PRINTED.len() {
+        trickles(&rt, false, room, true, 3, "alog: refused 35\n");
+        trickles(&rt, false, room, false, 3, "alog: refused 35\n");
+    }
+}
+
+/// Runs the program on these words, with nothing to read, and checks the status and which stream has text.
+fn says<R: AllocGlobal + Abort>(
+    rt: &R,
+    words: &[&str],
+    status: u8,
+    on_output: bool,
+    on_errors: bool,
+) {
+    let mut input = b"".as_slice();
+    let mut output = Vec::new(rt.alloc());
+    let mut errors = Vec::new(rt.alloc());
+    let found = run(rt, words, &mut input, &mut output, &mut errors);
+    assert_eq!(rt; found, status);
+    assert_eq!(rt; !output.is_empty(), on_output);
+    assert_eq!(rt; !errors.is_empty(), on_errors);
+}
+
+#[test]
+fn command_lines(rt: HostRuntime) {
+    says(&rt, ["alog", "replay"].as_slice(), 0, false, false);
+    says(&rt, ["alog", "--help"].as_slice(), 0, true, false);
+    says(&rt, ["alog", "replay", "--help"].as_slice(), 0, true, false);
+    says(&rt, ["alog", "--version"].as_slice(), 0, true, false);
+    says(&rt, ["alog"].as_slice(), 1, false, true);
+    says(&rt, ["alog", "play"].as_slice(), 1, false, true);
+    says(&rt, ["alog", "replay", "file"].as_slice(), 1, false, true);
+    says(
+        &rt,
+        ["alog", "replay", "--config", "c.toml"].as_slice(),
+        1,
+        false,
+        true,
+    );
+    says(&rt, ["alog", "load", "c.toml"].as_slice(), 1, false, true);
+}
