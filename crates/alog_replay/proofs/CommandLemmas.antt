@@ -1,12 +1,12 @@
 -- What a line spells, by its name and its arguments.
-use Rattle.std.proofs.Common.{◌≡◌, ◌↔◌, ℕ, List, [], ◌∷◌, ◌++◌, refl, sym, ◌∙◌, ap, arith, subst, rules, Option, Some, None, codes, unwrap_or, get_or, eqb, eq-eqb, false}
+use Rattle.std.proofs.Common.{◌≡◌, ◌↔◌, ℕ, List, [], ◌++◌, refl, sym, ◌∙◌, ap, subst, rules, Option, Some, codes, unwrap_or, get_or, eqb, eq-eqb, false}
 use Rattle.std.proofs.lemmas.Bool.{false≢true}
-use Rattle.std.proofs.lemmas.Option.{same_Some, none-some}
+use Rattle.std.proofs.lemmas.Option.{same_Some}
 use Rattle.alog_replay.specs.Command.{tail_of, SpellsWord64, SpellsActor, SpellsCount, SpellsArguments, Spells, name_of}
 use Rattle.alog_replay.specs.Cut.{IsWord, IsCut}
 use Rattle.alog_replay.specs.declared.command.Command.{Command}
 use Rattle.alog_replay.specs.declared.command.Command.TheVariants.{Ring, Push, Pop, Work, Step, Run, Cells}
-use Rattle.alog_replay.proofs.CutLemmas.{cut_once, argument_is, none_of, one_of}
+use Rattle.alog_replay.proofs.CutLemmas.{cut_once, argument_is, one_of}
 
 pub name_is_word : (command : Command) → IsWord (name_of command)
 name_is_word (Ring _ _) = search rules
@@ -19,17 +19,19 @@ name_is_word Cells = search rules
 
 -- a line spells the commands of its name that its rest spells
 pub line_spells : (line name : List ℕ) (rest : Option (List ℕ)) (command : Command) → IsCut line name rest → ((name_of command ≡ name) × SpellsArguments rest command) ↔ Spells line command
-line_spells line name rest command cut =
-    ( λ h. (rest, cut.0 ∙ ap (λ w. w ++ tail_of rest) (sym h.0), h.1)
-    , λ h. let once = cut_once (name_of command) name h.0 rest (name_is_word command) cut.1 (sym h.1 ∙ cut.0) in
-        (once.0, subst (λ r. SpellsArguments r command) once.1 h.2) )
+line_spells line name rest command cut = (
+  λ h. (rest, cut.0 ∙ ap (λ w. w ++ tail_of rest) (sym h.0), h.1),
+  λ h. let once = cut_once (name_of command) name h.0 rest (name_is_word command) cut.1 (sym h.1 ∙ cut.0) in
+      (once.0, subst (λ r. SpellsArguments r command) once.1 h.2),
+)
 
 -- what is given for the rest by name is given for the line
 pub by_name : (line name text : List ℕ) (rest : Option (List ℕ)) (o : Option Command) → IsCut line name rest → name ≡ text → ((command : Command) → (o ≡ Some command) ↔ ((name_of command ≡ text) × SpellsArguments rest command)) → (command : Command) → (o ≡ Some command) ↔ Spells line command
 by_name line name text rest o cut e given command =
-    let spelled = line_spells line name rest command cut in
-    ( λ s. let h = (given command).0 s in spelled.0 (h.0 ∙ sym e, h.1)
-    , λ s. let h = spelled.1 s in (given command).1 (h.0 ∙ e, h.1) )
+    let spelled = line_spells line name rest command cut in (
+      λ s. let h = (given command).0 s in spelled.0 (h.0 ∙ sym e, h.1),
+      λ s. let h = spelled.1 s in (given command).1 (h.0 ∙ e, h.1),
+    )
 
 -- two texts differ where a byte does
 pub differ : (i : ℕ) (v w : List ℕ) → eqb (get_or v i 0) (get_or w i 0) ≡ false → v ≡ w → ⊥
@@ -78,13 +80,13 @@ pub one_ring : (rest : Option (List ℕ)) (r a b : List ℕ) (t : Option (List �
     → (command : Command) → (Some (Ring size first) ≡ Some command) ↔ ((name_of command ≡ codes "ring") × SpellsArguments rest command)
 one_ring rest r a b t size first e cut u sizes firsts =
     one_of _ (Ring size first)
-        (refl, (a, b, e ∙ ap Some (cut.0 ∙ ap (λ x. a ++ tail_of x) u), (sizes size).0 refl, (firsts first).0 refl))
-        (λ command h.
-            let p = ring_parts rest r a t command e cut h in
-            let second : SpellsWord64 b p.1 = subst (λ w. SpellsWord64 w p.1) (same_Some _ _ (sym p.4 ∙ u)) p.6 in
-            let s = same_Some _ _ ((sizes p.0).1 p.5) in
-            let f = same_Some _ _ ((firsts p.1).1 second) in
-            ap (λ n. Ring n first) s ∙ ap (λ n. Ring p.0 n) f ∙ sym p.3)
+    (refl, (a, b, e ∙ ap Some (cut.0 ∙ ap (λ x. a ++ tail_of x) u), (sizes size).0 refl, (firsts first).0 refl))
+    (λ command h.
+    let p = ring_parts rest r a t command e cut h in
+    let second : SpellsWord64 b p.1 = subst (λ w. SpellsWord64 w p.1) (same_Some _ _ (sym p.4 ∙ u)) p.6 in
+    let s = same_Some _ _ ((sizes p.0).1 p.5) in
+    let f = same_Some _ _ ((firsts p.1).1 second) in
+    ap (λ n. Ring n first) s ∙ ap (λ n. Ring p.0 n) f ∙ sym p.3)
 
 -- what a cut rest says of a push's arguments
 pub push_parts : (rest : Option (List ℕ)) (r a : List ℕ) (t : Option (List ℕ)) (command : Command) → rest ≡ Some r → IsCut r a t → (name_of command ≡ codes "push") × SpellsArguments rest command
@@ -92,21 +94,22 @@ pub push_parts : (rest : Option (List ℕ)) (r a : List ℕ) (t : Option (List �
 push_parts rest r a t command e cut h =
     let found = as_push command h.0 in
     let said : SpellsArguments rest (Push found.0 found.1) = subst (SpellsArguments rest) found.2 h.1 in
-    let once = argument_is r a said.0 t said.1 cut (sym e ∙ said.2) said.3.0 in
-    ( found.0
-    , found.2 ∙ ap (Push found.0) (said.4 ∙ ap (λ x. unwrap_or x []) once.1)
-    , subst (λ w. SpellsActor w found.0) once.0 said.3 )
+    let once = argument_is r a said.0 t said.1 cut (sym e ∙ said.2) said.3.0 in (
+      found.0,
+      found.2 ∙ ap (Push found.0) (said.4 ∙ ap (λ x. unwrap_or x []) once.1),
+      subst (λ w. SpellsActor w found.0) once.0 said.3,
+    )
 
 pub one_push : (rest : Option (List ℕ)) (r a text : List ℕ) (t : Option (List ℕ)) (actor : ℕ) → rest ≡ Some r → IsCut r a t → text ≡ unwrap_or t []
     → ((n : ℕ) → (Some actor ≡ Some n) ↔ SpellsActor a n)
     → (command : Command) → (Some (Push actor text) ≡ Some command) ↔ ((name_of command ≡ codes "push") × SpellsArguments rest command)
 one_push rest r a text t actor e cut u actors =
     one_of _ (Push actor text)
-        (refl, (a, t, e ∙ ap Some cut.0, (actors actor).0 refl, u))
-        (λ command h.
-            let p = push_parts rest r a t command e cut h in
-            let s = same_Some _ _ ((actors p.0).1 p.2) in
-            ap (λ n. Push n text) s ∙ ap (Push p.0) u ∙ sym p.1)
+    (refl, (a, t, e ∙ ap Some cut.0, (actors actor).0 refl, u))
+    (λ command h.
+    let p = push_parts rest r a t command e cut h in
+    let s = same_Some _ _ ((actors p.0).1 p.2) in
+    ap (λ n. Push n text) s ∙ ap (Push p.0) u ∙ sym p.1)
 
 -- what a cut rest says of a step's arguments
 pub step_parts : (rest : Option (List ℕ)) (r a : List ℕ) (t : Option (List ℕ)) (command : Command) → rest ≡ Some r → IsCut r a t → (name_of command ≡ codes "step") × SpellsArguments rest command
@@ -122,12 +125,12 @@ pub one_step : (rest : Option (List ℕ)) (r a : List ℕ) (t : Option (List ℕ
     → (command : Command) → (Some (Step actor count) ≡ Some command) ↔ ((name_of command ≡ codes "step") × SpellsArguments rest command)
 one_step rest r a t actor count e cut actors counts =
     one_of _ (Step actor count)
-        (refl, (a, t, e ∙ ap Some cut.0, (actors actor).0 refl, (counts count).0 refl))
-        (λ command h.
-            let p = step_parts rest r a t command e cut h in
-            let s = same_Some _ _ ((actors p.0).1 p.3) in
-            let k = same_Some _ _ ((counts p.1).1 p.4) in
-            ap (λ n. Step n count) s ∙ ap (λ n. Step p.0 n) k ∙ sym p.2)
+    (refl, (a, t, e ∙ ap Some cut.0, (actors actor).0 refl, (counts count).0 refl))
+    (λ command h.
+    let p = step_parts rest r a t command e cut h in
+    let s = same_Some _ _ ((actors p.0).1 p.3) in
+    let k = same_Some _ _ ((counts p.1).1 p.4) in
+    ap (λ n. Step n count) s ∙ ap (λ n. Step p.0 n) k ∙ sym p.2)
 
 -- a line of no command's name spells no command
 pub unnamed : (name : List ℕ) → (name ≡ codes "ring" → ⊥) → (name ≡ codes "push" → ⊥) → (name ≡ codes "pop" → ⊥) → (name ≡ codes "work" → ⊥) → (name ≡ codes "step" → ⊥) → (name ≡ codes "run" → ⊥) → (name ≡ codes "cells" → ⊥)

@@ -1,7 +1,7 @@
 -- A line spells one command at most, and none where it is skipped.
-use Rattle.std.proofs.Common.{◌≡◌, ◌↔◌, ℕ, List, [], ◌∷◌, ◌++◌, refl, sym, ◌∙◌, ap, arith, subst, Option, Some, None, codes, inl, inr}
-use Rattle.std.proofs.lemmas.Option.{same_Some, none-some}
-use Rattle.alog_replay.specs.Command.{tail_of, SpellsNumber, SpellsActor, SpellsOnlyActor, SpellsCount, SpellsArguments, Spells, name_of}
+use Rattle.std.proofs.Common.{◌≡◌, ◌↔◌, ℕ, List, ◌∷◌, ◌++◌, refl, sym, ◌∙◌, ap, arith, subst, Option, Some, None, codes, inl, inr}
+use Rattle.std.proofs.lemmas.Option.{same_Some}
+use Rattle.alog_replay.specs.Command.{tail_of, SpellsNumber, SpellsOnlyActor, SpellsCount, SpellsArguments, Spells, name_of}
 use Rattle.alog_replay.specs.Cut.{IsCut}
 use Rattle.alog_replay.specs.Entry.{IsReadable, IsSkipped, IsEntry, OneCommand}
 use Rattle.alog_replay.specs.declared.command.Command.{Command}

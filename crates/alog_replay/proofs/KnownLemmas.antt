@@ -1,15 +1,15 @@
 -- What a reading of the next line says of the bytes of a script, where they are known.
-use Rattle.std.proofs.Common.{◌≡◌, ◌≤◌, ◌<◌, ◌==◌, ℕ, ◌+◌, List, [], ◌∷◌, ◌++◌, length, Bool, true, false, cond, eqb, Option, Some, None, refl, sym, ◌∙◌, ap, subst, arith, append_assoc, length-append, if◌then◌else◌}
+use Rattle.std.proofs.Common.{◌≡◌, ◌≤◌, ◌<◌, ◌==◌, ℕ, List, [], ◌∷◌, ◌++◌, length, cond, Option, Some, None, refl, sym, ◌∙◌, ap, subst, arith, append_assoc, length-append, if◌then◌else◌}
 use Rattle.std.proofs.Math.Dec.{eqb-suc-zero}
 use Rattle.std.proofs.lemmas.List.{append-nil}
 use Rattle.std.specs.Io.KnownBytes.{Consumes, IsAtEnd}
-use Rattle.alog_replay.specs.Lines.{IsUnbroken}
+use Rattle.alog_replay.specs.Lines.{lines_of, IsUnbroken}
 use Rattle.alog_replay.specs.LineState.{LineState, rest_of}
 use Rattle.alog_replay.specs.Reading.{FindsLine, IsNextLine, MovesPiece}
 use Rattle.alog_replay.specs.declared.lines.Line.{Line}
 use Rattle.alog_replay.specs.declared.lines.Line.TheVariants as next
 use Rattle.alog_replay.specs.declared.lines.Piece.TheVariants as piece
-use Rattle.alog_replay.proofs.LineLemmas.{takes_ended, takes_last, begins_too_long, unbroken-append}
+use Rattle.alog_replay.proofs.LineLemmas.{lines_of-nil, takes_ended, takes_last, begins_too_long, unbroken-append}
 
 -- nothing was taken
 pub consumes_nothing : (known : Option (List ℕ)) → Consumes known known []
@@ -51,7 +51,7 @@ finds_too_long (Some s) (Some xs) old new u h m =
 
 -- what is there at the end of the script: a last line, or nothing
 finds_at_end : (s line : List ℕ) → IsUnbroken line → s ≡ line → length line ≤ 16384 → (answer : Line) → answer ≡ (if length line == 0 then next.End else next.Found) → IsNextLine answer s line []
-finds_at_end s [] u e fits answer a = rw a (e, refl, refl)
+finds_at_end s [] u e fits answer a = rw a (e, ap lines_of e ∙ lines_of-nil, refl, refl)
 finds_at_end s (b ∷ line) u e fits answer a =
     let found : answer ≡ next.Found = a ∙ ap (λ t. cond t next.End next.Found) (eqb-suc-zero (length line)) in
     rw found (takes_last s (b ∷ line) u (omega arith) e fits)

@@ -1,5 +1,5 @@
 -- What lies before the first newline of the pending bytes.
-use Rattle.std.proofs.Common.{◌≡◌, ◌≢◌, ◌≤◌, ◌<◌, ℕ, zero, suc, ◌+◌, ◌-◌, List, [], ◌∷◌, ◌++◌, length, get_or, take, drop, refl, sym, ◌∙◌, ap, subst, arith}
+use Rattle.std.proofs.Common.{◌≡◌, ◌≢◌, ◌≤◌, ◌<◌, ℕ, zero, suc, ◌+◌, ◌-◌, List, [], ◌∷◌, ◌++◌, length, get_or, take, drop, sym, ◌∙◌, ap, subst, arith}
 use Rattle.std.proofs.lemmas.List.{take-append-drop, take_all, length-take, length-take-le, drop-take, drop-drop, drop_more}
 use Rattle.std.specs.List.{slice_range}
 use Rattle.alog_replay.specs.Lines.{IsUnbroken}
@@ -33,9 +33,9 @@ ended xs start end n h fits within newline =
     let size = length-take (end - start) (drop start xs) in
     let more : end - start ≡ (n + 1) + (end - (start + (n + 1))) = omega (arith, size) in
     let after : drop (n + 1) s ≡ slice_range xs (start + (n + 1)) end =
-        ap (λ k. drop (n + 1) (take k (drop start xs))) more
-            ∙ drop-take (n + 1) (end - (start + (n + 1))) (drop start xs)
-            ∙ ap (take (end - (start + (n + 1)))) (drop-drop (n + 1) start xs) in
+    ap (λ k. drop (n + 1) (take k (drop start xs))) more
+    ∙ drop-take (n + 1) (end - (start + (n + 1))) (drop start xs)
+    ∙ ap (take (end - (start + (n + 1)))) (drop-drop (n + 1) start xs) in
     let at : drop n s ≡ 10 ∷ drop (n + 1) s = drop_more s n 0 within ∙ ap (λ b. b ∷ drop (n + 1) s) newline in
     sym (take-append-drop n s) ∙ ap (λ r. take n s ++ r) (at ∙ ap (λ r. 10 ∷ r) after)
 

@@ -1,5 +1,5 @@
 -- What a line of a script is: refused, skipped or a command.
-use Rattle.std.specs.Prelude.{◌≡◌, ◌≤◌, ◌<◌, ◌⊎◌, ℕ, List, [], ◌∷◌, length, IsUtf8}
+use Rattle.std.specs.Prelude.{◌≡◌, ◌≤◌, ◌⊎◌, ℕ, List, [], ◌∷◌, length, IsUtf8}
 use Rattle.alog_replay.specs.Command.{Spells}
 use Rattle.alog_replay.specs.declared.command.Command.{Command}
 use Rattle.alog_replay.specs.declared.entry.Entry.{Entry}

@@ -1,6 +1,6 @@
 -- What the next line of a script is.
 use Rattle.std.specs.Prelude.{◌≡◌, ◌++◌, ◌∷◌, ◌<◌, ◌+◌, ℕ, List, [], Option, Some, None, length, ⊤}
-use Rattle.alog_replay.specs.Lines.{TakesLine, BeginsTooLong, IsUnbroken}
+use Rattle.alog_replay.specs.Lines.{lines_of, TakesLine, BeginsTooLong, IsUnbroken}
 use Rattle.alog_replay.specs.LineState.{LineState}
 use Rattle.alog_replay.specs.declared.lines.Line.{Line}
 use Rattle.alog_replay.specs.declared.lines.Line.TheVariants as next
@@ -11,7 +11,7 @@ use Rattle.alog_replay.specs.declared.lines.Piece.TheVariants as piece
 abbrev pub IsNextLine : Line → List ℕ → List ℕ → List ℕ → Type 0
 IsNextLine next.Found script line after = TakesLine script line after
 IsNextLine next.TooLong script line after = (script ≡ line ++ after) × BeginsTooLong script
-IsNextLine next.End script line after = (script ≡ []) × (line ≡ []) × (after ≡ [])
+IsNextLine next.End script line after = (script ≡ []) × (lines_of script ≡ []) × (line ≡ []) × (after ≡ [])
 
 -- the same where the bytes of the script are known
 abbrev pub FindsLine : Line → Option (List ℕ) → Option (List ℕ) → List ℕ → Type 0

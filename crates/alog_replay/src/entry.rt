@@ -42,5 +42,4 @@ fn is_skipped(line: &str) -> bool
 /// No line spells two commands.
 pub fn one_command()
     ensures { OneCommand }
-{
-}
+{}

@@ -1,6 +1,7 @@
 ghost use Rattle.std.specs.Prelude.{◌≡◌, ◌≢◌, ◌≤◌, ◌<◌, ◌^◌, ℕ, [], IfOk, OnOk, OnErr, length, slice_index, ◌==◌, if◌then◌else◌};
 ghost use Rattle.std.specs.Io.KnownBytes.{Consumes, IsAtEnd};
 ghost use Rattle.alog_replay.specs.LineState.{rest_of, work_left};
+ghost use Rattle.alog_replay.specs.Lines.{IsUnbroken};
 
 use std::alloc::{AllocError, Global};
 use std::io::{ErrorKind, Read};
@@ -106,6 +107,9 @@ impl LineReader {
         ensures fault { OnErr result (Consumes
             (rest_of self.old (R.remaining reader.old)) (rest_of self.new (R.remaining reader.new)) self.new.line) }
         ensures fewer { IfOk result (λ line. line ≡ Line.Found → work_left self.new < work_left self.old) }
+
+        // A line whose newline was read takes no further read.
+        ensures unread { ¬ IsUnbroken self.old.pending → self.new.reads_left ≡ self.old.reads_left }
     {
         self.begin();
         loop {

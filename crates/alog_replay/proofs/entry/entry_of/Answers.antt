@@ -16,5 +16,5 @@ pub returns-in-None : goal.returns-in-None
 returns-in-None c =
     let text = c.in-Ok.ensures.cases in
     is_no_command c.args.line.now
-        (λ s. false≢true (sym c.if-is_skipped.false ∙ c.is_skipped.ensures.1 (subst IsSkipped (sym text.0) s)))
-        (λ command s. none-some _ ((c.in-None.ensures command).1 (subst (λ l. Spells l command) (sym text.0) s)))
+    (λ s. false≢true (sym c.if-is_skipped.false ∙ c.is_skipped.ensures.1 (subst IsSkipped (sym text.0) s)))
+    (λ command s. none-some _ ((c.in-None.ensures command).1 (subst (λ l. Spells l command) (sym text.0) s)))

@@ -1,4 +1,4 @@
-use Rattle.std.proofs.Common.{◌≡◌, ◌++◌, sym, ◌∙◌, subst}
+use Rattle.std.proofs.Common.{◌++◌, sym, ◌∙◌, subst}
 use Rattle.alog_replay.specs.LineState.{rest_of}
 use Rattle.alog_replay.proofs.KnownLemmas.{consumes_more, consumes_same, takes_whole, finds_ended, finds_too_long, finds_last}
 use Rattle.alog_replay.proofs.LineLemmas.{unbroken-append}
@@ -24,8 +24,8 @@ returns-in-End-clause-found g c =
     let line = c.loop-self.self.line in
     let pending = c.loop-self.self.pending in
     let taken = consumes_more script before between line pending c.loop-self.invariant.1
-        (takes_whole (g.R.Read.remaining c.loop-self.reader) c.loop-self.self c.take_piece.new.self moved) in
+    (takes_whole (g.R.Read.remaining c.loop-self.reader) c.loop-self.self c.take_piece.new.self moved) in
     let kept = consumes_same script between after (line ++ pending) c.fill.new.self.line taken c.in_ok-fill.ensures.rest grown in
     let unbroken = subst IsUnbroken (sym grown) (unbroken-append line pending c.loop-self.invariant.0 moved.2) in
     finds_last script after c.fill.new.self.line _ unbroken kept (c.in_ok-fill.ensures.end c.in-End.is)
-        (rw c.in_ok-fill.ensures.line c.in-Whole.ensures.fits) c.last.ensures
+    (rw c.in_ok-fill.ensures.line c.in-Whole.ensures.fits) c.last.ensures

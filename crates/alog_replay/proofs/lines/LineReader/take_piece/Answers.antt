@@ -1,4 +1,4 @@
-use Rattle.std.proofs.Common.{◌≡◌, ◌<◌, ◌≤◌, ◌++◌, length, refl, sym, ◌∙◌, ap, arith}
+use Rattle.std.proofs.Common.{◌<◌, ◌++◌, length, refl, ◌∙◌, ap, arith}
 use Rattle.std.specs.List.{slice_range}
 use Rattle.alog_replay.proofs.PieceLemmas.{unbroken_take, too_long, whole, all_taken, ended, none_left}
 use Rattle.alog_replay.proofs.lines.LineReader.take_piece.Goals as goal
