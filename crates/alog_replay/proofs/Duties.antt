@@ -13,6 +13,6 @@ pub works_stepped : (s taken moved after : Stage) (a : ℕ) (what : Said Message
 works_stepped s taken moved after a what duty e f g h i j =
     let Q : Stage → Type 0 = λ t. with_duty (with_world t (stepped t.world a)) a (work_after (told t.world a)) ≡ stage_by s a Works in
     let once : with_duty (with_world (with_duty s a Free) (stepped s.world a)) a (work_after (told s.world a)) ≡ stage_by s a Works =
-      ap (λ ds. let r : Stage = record { world = stepped s.world a; duties = ds; file = s.file } in r) (set-set s.duties a Free (work_after (told s.world a))) in
+    ap (λ ds. let r : Stage = record { world = stepped s.world a; duties = ds; file = s.file } in r) (set-set s.duties a Free (work_after (told s.world a))) in
     let made : with_duty (with_world taken (stepped taken.world a)) a (work_after (told taken.world a)) ≡ stage_by s a Works = subst Q (sym e) once in
     i ∙ (ap (λ t. with_duty t a duty) f ∙ (ap (λ d. with_duty (with_world taken (stepped taken.world a)) a d) (h ∙ ap work_after g) ∙ (made ∙ ap (stage_by s a) j)))

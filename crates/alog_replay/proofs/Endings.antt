@@ -102,8 +102,8 @@ front_longer text more old new w =
 printed_front : (script rest after line : List ℕ) (stage : Option Stage) (n : ℕ) (old mid new : Option (List ℕ)) (text : List ℕ) → Progress script rest stage n old mid → TakesLine rest line after → LinePrints stage line text → WritesFrontOf text mid new → WritesFront script old new
 printed_front script rest after line stage n old mid new text p k prints w =
     elim prints [
-      inl d ↦ line_front_at script rest after line stage n old mid new p k (told_behind text (Whole (files_text d.0) (n + 1))) (done_told stage d.0 n line text [] (Whole (files_text d.0) (n + 1)) d.1 (no_line_told d.0 (n + 1))) (front_longer text (files_text d.0) mid new w)
-    | inr d ↦ line_front_at script rest after line stage n old mid new p k (RefusedAt (n + 1) text) (refused_told stage n line text [] d) w
+      | inl d ↦ line_front_at script rest after line stage n old mid new p k (told_behind text (Whole (files_text d.0) (n + 1))) (done_told stage d.0 n line text [] (Whole (files_text d.0) (n + 1)) d.1 (no_line_told d.0 (n + 1))) (front_longer text (files_text d.0) mid new w)
+      | inr d ↦ line_front_at script rest after line stage n old mid new p k (RefusedAt (n + 1) text) (refused_told stage n line text [] d) w
     ]
 
 pub line_front : (script rest after : Option (List ℕ)) (line : List ℕ) (stage : Option Stage) (n : ℕ) (old mid new : Option (List ℕ)) → HasTold script rest stage n old mid → FindsLine found.Found rest after line → WritesLineFront stage line mid new → IfSome script (λ s. WritesFront s old new)
@@ -112,6 +112,6 @@ line_front (Some script) None after line stage n old mid new h f w = absurd h
 line_front (Some script) (Some rest) None line stage n old mid new h f w = absurd f
 line_front (Some script) (Some rest) (Some after) line stage n old mid new h f w =
     elim w [
-      inl a ↦ finish_front (Some script) (Some rest) stage n old mid new h (record { front = []; back = files_text stage; split = refl; writes = a })
-    | inr d ↦ printed_front script rest after line stage n old mid new d.0 h f d.1 d.2
+      | inl a ↦ finish_front (Some script) (Some rest) stage n old mid new h (record { front = []; back = files_text stage; split = refl; writes = a })
+      | inr d ↦ printed_front script rest after line stage n old mid new d.0 h f d.1 d.2
     ]

@@ -7,7 +7,6 @@ pub behind-behind : (x y : List ℕ) (p : Played) → behind x (behind y p) ≡ 
 behind-behind x y (Done z s) = ap (λ t. Done t s) (sym (append_assoc x y z))
 behind-behind x y (Refused z) = ap Refused (sym (append_assoc x y z))
 
-
 less_one : (k : ℕ) → k ≡ suc k - 1
 less_one k = omega arith
 
@@ -16,7 +15,6 @@ pub steps_step : (k a : ℕ) (s : Stage) → 0 < k → is_free s a ≡ false →
 unfolding steps
 steps_step zero a s h f = absurd (omega arith)
 steps_step (suc k) a s h f = ap (λ b. cond b (Refused []) (behind (step_text s a) (steps k a (after_step s a)))) f ∙ ap (λ j. behind (step_text s a) (steps j a (after_step s a))) (less_one k)
-
 
 -- a step that is refused
 pub steps_free : (k a : ℕ) (s : Stage) → 0 < k → is_free s a ≡ true → steps k a s ≡ Refused []

@@ -122,11 +122,11 @@ progress_line script rest after line stage next n old mid new p k w =
       text = p.text ++ w.text;
       writes = appends_more old mid new p.text w.text p.writes w.writes;
       goes_on = λ x y t e h.
-        let taken : rest ≡ (k.taken ++ x) ++ y = k.whole ∙ (ap (λ xs. k.taken ++ xs) e ∙ sym (append_assoc k.taken x y)) in
-        let line_told : Tells stage n (lines_of (k.taken ++ x)) (told_behind w.text t) = subst (λ (ls : List (List ℕ)). Tells stage n ls (told_behind w.text t)) (sym (k.fronts x y e)) (done_told stage next n line w.text (lines_of x) t w.done h) in
-        let told : ScriptTells (p.read ++ (k.taken ++ x)) (told_behind p.text (told_behind w.text t)) = p.goes_on (k.taken ++ x) y (told_behind w.text t) taken line_told in
-        subst (ScriptTells ((p.read ++ k.taken) ++ x)) (behind_twice p.text w.text t)
-        (subst (λ (xs : List ℕ). ScriptTells xs (told_behind p.text (told_behind w.text t))) (sym (append_assoc p.read k.taken x)) told);
+          let taken : rest ≡ (k.taken ++ x) ++ y = k.whole ∙ (ap (λ xs. k.taken ++ xs) e ∙ sym (append_assoc k.taken x y)) in
+          let line_told : Tells stage n (lines_of (k.taken ++ x)) (told_behind w.text t) = subst (λ (ls : List (List ℕ)). Tells stage n ls (told_behind w.text t)) (sym (k.fronts x y e)) (done_told stage next n line w.text (lines_of x) t w.done h) in
+          let told : ScriptTells (p.read ++ (k.taken ++ x)) (told_behind p.text (told_behind w.text t)) = p.goes_on (k.taken ++ x) y (told_behind w.text t) taken line_told in
+          subst (ScriptTells ((p.read ++ k.taken) ++ x)) (behind_twice p.text w.text t)
+          (subst (λ (xs : List ℕ). ScriptTells xs (told_behind p.text (told_behind w.text t))) (sym (append_assoc p.read k.taken x)) told);
     }
 
 pub told_line : (script rest after : Option (List ℕ)) (line : List ℕ) (stage next : Option Stage) (n : ℕ) (old mid new : Option (List ℕ)) → HasTold script rest stage n old mid → FindsLine found.Found rest after line → WritesLine stage line next mid new → HasTold script after next (n + 1) old new

@@ -7,11 +7,7 @@ use alog_msg::Message;
 use std::alloc::AllocError;
 
 /// Prints the line of a step, or nothing for a step that is no event.
-pub fn print_said(
-    out: &mut String,
-    actor: u8,
-    said: &Said<Message>,
-) -> Result<(), AllocError>
+pub fn print_said(out: &mut String, actor: u8, said: &Said<Message>) -> Result<(), AllocError>
     ensures { OnOk result (string_bytes out.new ≡ string_bytes out.old ++ said_text actor said.now) }
 {
     match said {

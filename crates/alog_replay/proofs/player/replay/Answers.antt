@@ -68,10 +68,10 @@ returns-in_err-play_and_write-clause-refused g c =
     let p = err_from_is_err_and c.from_residual-in_err-play_and_write.result c.from_residual-in_err-play_and_write.ensures.1 in
     let found = rw c.in-Found.is at c.in_ok-next_line.ensures.found in
     rw (p.1, p.2) (λ line e.
-        let told = c.in_err-play_and_write.ensures.refused line e in
-        let wrote = subst (λ (text : List ℕ). WritesRefused c.lines.session text (contents c.lines.writer) (contents c.play_and_write.new.writer)) c.line.ensures.value told.1 in
-        subst (λ (k : ℕ). IfSome (remaining c.args.reader.now) (λ script. WritesText script (RefusedAt k) (contents c.args.writer.now) (contents c.play_and_write.new.writer))) (sym told.0)
-        (line_refused (remaining c.args.reader.now) (rest_of c.lines.lines (remaining c.lines.reader)) (rest_of c.next_line.new.self (remaining c.next_line.new.reader)) c.next_line.new.self.line c.lines.session c.lines.count (contents c.args.writer.now) (contents c.lines.writer) (contents c.play_and_write.new.writer) c.lines.invariant.told found wrote))
+    let told = c.in_err-play_and_write.ensures.refused line e in
+    let wrote = subst (λ (text : List ℕ). WritesRefused c.lines.session text (contents c.lines.writer) (contents c.play_and_write.new.writer)) c.line.ensures.value told.1 in
+    subst (λ (k : ℕ). IfSome (remaining c.args.reader.now) (λ script. WritesText script (RefusedAt k) (contents c.args.writer.now) (contents c.play_and_write.new.writer))) (sym told.0)
+    (line_refused (remaining c.args.reader.now) (rest_of c.lines.lines (remaining c.lines.reader)) (rest_of c.next_line.new.self (remaining c.next_line.new.reader)) c.next_line.new.self.line c.lines.session c.lines.count (contents c.args.writer.now) (contents c.lines.writer) (contents c.play_and_write.new.writer) c.lines.invariant.told found wrote))
 
 pub returns-in_err-play_and_write-clause-front : goal.returns-in_err-play_and_write-clause-front
 returns-in_err-play_and_write-clause-front g c =
