@@ -10,3 +10,4 @@ pub mod Writing
 pub mod Ranges
 pub mod Telling
 pub mod Endings
+pub mod OneText

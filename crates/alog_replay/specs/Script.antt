@@ -45,6 +45,10 @@ Tells stage n (line ∷ lines) t = (e : Entry) × IsEntry line e × TellsLine st
 abbrev pub ScriptTells : List ℕ → Told → Type 0
 ScriptTells script t = Tells None 0 (lines_of script) t
 
+-- a script tells one thing alone
+abbrev pub OneText : Type 0
+OneText = (script : List ℕ) (t u : Told) → ScriptTells script t → ScriptTells script u → t ≡ u
+
 -- a line was carried out: what was printed behind what stood there, and the stage after it
 abbrev pub EntryDone : Option Stage → Entry → List ℕ → List ℕ → Option Stage → Type 0
 EntryDone stage Skipped before after next = (next ≡ stage) × (after ≡ before)

@@ -25,5 +25,5 @@ pub use entry::{Entry, entry_of, one_command};
 pub use fault::{LineFault, ReplayFault};
 pub use lines::{LINE_MAX, Line, LineReader, READS_MAX, ReadFault};
 pub use parser::parse;
-pub use player::replay;
+pub use player::{one_text, replay};
 pub use session::Session;

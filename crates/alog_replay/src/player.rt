@@ -3,7 +3,7 @@ ghost use Rattle.std.specs.Prelude.{◌≡◌, ◌+◌, ◌++◌, ◌<◌, ◌�
 ghost use Rattle.std.specs.Io.KnownBytes.{Appends};
 ghost use Rattle.alog_replay.specs.Entry.{IsEntry};
 ghost use Rattle.alog_replay.specs.Session.{Stage, IsDone, IsRefused, IsInRange, Done, Refused, play, files_text};
-ghost use Rattle.alog_replay.specs.Script.{Whole, RefusedAt, LineDone, LineRefused, WritesLine, WritesRefused, WritesLineFront, WritesFrontOf, IsNoRefusal, WritesText, WritesFront};
+ghost use Rattle.alog_replay.specs.Script.{Whole, RefusedAt, LineDone, LineRefused, WritesLine, WritesRefused, WritesLineFront, WritesFrontOf, IsNoRefusal, WritesText, WritesFront, OneText};
 ghost use Rattle.alog_replay.specs.declared.entry.Entry.{Entry};
 
 use crate::command::Command;
@@ -172,3 +172,9 @@ pub fn replay<R: Read, W: Write>(
         play_and_write(alloc, &mut session, lines.line(), count, writer, &mut out)?;
     }
 }
+
+/// What a script tells is determined: its whole text, or its first refused line with what was printed before. It does
+/// nothing: its contract is the law.
+pub fn one_text()
+    ensures { OneText }
+{}
