@@ -1,12 +1,14 @@
 //! The worked scripts and the bad forms, on the whole program.
 use crate::run;
+use alog_replay::replay;
 use std::alloc::{AllocError, Global};
 use std::io;
 use std::io::{Error, ErrorKind, Read, Write};
 use std::process::Abort;
 use std::test::Fail;
 
-/// Runs `alog replay` on a script, and checks its status, what it prints, and its line on standard error.
+/// Runs `alog replay` on a script, and checks its status, what it prints, and its line on standard error. `replay`
+/// prints the same.
 fn expect<R: AllocGlobal + Abort>(rt: &R, script: &[u8], status: u8, printed: &str, error: &str) {
     let mut input = script;
     let mut output = Vec::new(rt.alloc());
@@ -16,6 +18,12 @@ fn expect<R: AllocGlobal + Abort>(rt: &R, script: &[u8], status: u8, printed: &s
     assert_eq!(rt; found, status);
     assert!(rt; output.as_slice() == printed.as_bytes());
     assert!(rt; errors.as_slice() == error.as_bytes());
+
+    let mut input = script;
+    let mut output = Vec::new(rt.alloc());
+    let answer = replay(rt.alloc(), &mut input, &mut output);
+    assert_eq!(rt; answer.is_ok(), status == 0);
+    assert!(rt; output.as_slice() == printed.as_bytes());
 }
 
 fn prints<R: AllocGlobal + Abort>(rt: &R, script: &str, printed: &str) {
