@@ -1,7 +1,9 @@
 -- Which fault has which status.
-use Rattle.std.proofs.Common.{◌≡◌, ℕ, Option, Some, None, refl, arith}
+use Rattle.std.proofs.Common.{◌≡◌, ℕ, Option, Some, None, List, inr, refl, ◌∙◌, sym, arith}
 use Rattle.std.specs.Prelude.{IfSome}
 use Rattle.alog.specs.Status.{status_of}
+use Rattle.alog.specs.Replays.{Replays}
+use Rattle.alog_replay.specs.Script.{RefusedAt, WritesText, WritesFront}
 use Rattle.alog_replay.specs.declared.fault.ReplayFault.{ReplayFault}
 use Rattle.alog_replay.specs.declared.fault.ReplayFault.TheVariants.{LineRefused, ReadFault, WriteFault, OutOfMemory}
 
@@ -16,3 +18,29 @@ refused_line OutOfMemory status e h = absurd (omega arith)
 pub if_some_weaker : {T : Type 0} (o : Option T) (P Q : T → Type 0) → ((x : T) → P x → Q x) → IfSome o P → IfSome o Q
 if_some_weaker None P Q f h = tt
 if_some_weaker (Some x) P Q f h = f x h
+
+not_zero : (fault : ReplayFault) → status_of fault ≡ 0 → ⊥
+not_zero (LineRefused line) h = absurd (omega arith)
+not_zero ReadFault h = absurd (omega arith)
+not_zero WriteFault h = absurd (omega arith)
+not_zero OutOfMemory h = absurd (omega arith)
+
+not_one : (fault : ReplayFault) → status_of fault ≡ 1 → ⊥
+not_one (LineRefused line) h = absurd (omega arith)
+not_one ReadFault h = absurd (omega arith)
+not_one WriteFault h = absurd (omega arith)
+not_one OutOfMemory h = absurd (omega arith)
+
+-- what a replay that ended by a fault leaves is what its status says
+pub replays_fault : (fault : ReplayFault) (status : ℕ) (remaining old new : Option (List ℕ)) → status ≡ status_of fault
+    → ((line : ℕ) → fault ≡ LineRefused line → IfSome remaining (λ script. WritesText script (RefusedAt line) old new))
+    → IfSome remaining (λ script. WritesFront script old new) → Replays status remaining old new
+replays_fault fault status remaining old new e refused front =
+    record {
+      understood = λ h. not_one fault (sym e ∙ h);
+      whole = λ h. absurd (not_zero fault (sym e ∙ h));
+      refused = λ h.
+          let at = refused_line fault status e h in
+          if_some_weaker remaining (λ script. WritesText script (RefusedAt at.0) old new) (λ script. (line : ℕ) × WritesText script (RefusedAt line) old new) (λ script w. (at.0, w)) (refused at.0 at.1);
+      front = λ h. inr front;
+    }

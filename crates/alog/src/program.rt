@@ -1,8 +1,9 @@
 //! The whole program over any reader and two writers.
-ghost use Rattle.std.specs.Prelude.{◌≡◌, ◌≤◌, ◌⊎◌, ℕ, IfSome};
+ghost use Rattle.std.specs.Prelude.{◌≡◌, ◌≤◌, ◌⊎◌, map};
 ghost use Rattle.std.specs.Io.KnownBytes.{Keeps};
+ghost use Rattle.alog.specs.Replays.{Replays};
 ghost use Rattle.alog.specs.Status.{status_of};
-ghost use Rattle.alog_replay.specs.Script.{Whole, RefusedAt, WritesText, WritesFront};
+ghost use Rattle.alog.specs.Words.{AsksReplay};
 
 use crate::status::{number_of, status_of};
 use crate::words::{Request, read};
@@ -16,6 +17,7 @@ use std::io::{Read, Write};
 /// done, 1 for a wrong command line, 2 for refused input, 3 for a read or write fault, 4 for want of memory.
 ///
 /// A fault prints its line on `errors`. Help goes to `output`, and a wrong command line writes nothing there.
+/// `alog replay` replays the script of `input`, as `alog_replay::replay` does.
 pub fn run<R: AllocGlobal, S: AsStr, I: Read, O: Write, E: Write>(
     rt: &R,
     words: &[S],
@@ -25,8 +27,8 @@ pub fn run<R: AllocGlobal, S: AsStr, I: Read, O: Write, E: Write>(
 ) -> u8
     ensures status { result ≤ 4 }
     ensures usage { result ≡ 1 → Keeps (O.contents output.old) (O.contents output.new) }
-    ensures refused { result ≡ 2 → IfSome (I.remaining input.old) (λ script. (line : ℕ)
-        × WritesText script (RefusedAt line) (O.contents output.old) (O.contents output.new)) }
+    ensures replays { AsksReplay (map S.text words.now)
+        → Replays result (I.remaining input.old) (O.contents output.old) (O.contents output.new) }
 {
     match read(rt.alloc(), words) {
         Ok(Request::Replay) => replay_command(rt.alloc(), input, output, errors),
@@ -49,13 +51,7 @@ fn replay_command<I: Read, O: Write, E: Write>(
     errors: &mut E,
 ) -> u8
     ensures status { result ≤ 4 }
-    ensures whole { result ≡ 0 → IfSome (I.remaining input.old) (λ script. (n : ℕ)
-        × WritesText script (λ text. Whole text n) (O.contents output.old) (O.contents output.new)) }
-    ensures no_usage { result ≡ 1 → ⊥ }
-    ensures refused { result ≡ 2 → IfSome (I.remaining input.old) (λ script. (line : ℕ)
-        × WritesText script (RefusedAt line) (O.contents output.old) (O.contents output.new)) }
-    ensures front { 3 ≤ result → IfSome (I.remaining input.old) (λ script.
-        WritesFront script (O.contents output.old) (O.contents output.new)) }
+    ensures replays { Replays result (I.remaining input.old) (O.contents output.old) (O.contents output.new) }
 {
     match replay(alloc, input, output) {
         Ok(_) => 0,

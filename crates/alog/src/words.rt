@@ -1,4 +1,9 @@
 //! The command line.
+ghost use Rattle.std.specs.Prelude.{◌≡◌, IfErr, map};
+ghost use Rattle.clap.specs.Words.{kind_of};
+ghost use Rattle.alog.specs.Words.{AsksReplay};
+
+use clap::error::ErrorKind;
 use clap::{Command, Error};
 use std::alloc::Global;
 use std::convert::AsStr;
@@ -11,12 +16,11 @@ pub enum Request {
 }
 
 /// Reads the command line, the program's name first.
-pub fn read<'a, S: AsStr>(alloc: Global, words: &'a [S]) -> Result<Request, Error> {
-    command(alloc)?.try_get_matches_from(words)?;
-    Ok(Request::Replay)
-}
-
-fn command<'a>(alloc: Global) -> Result<Command<'a>, Error> {
+///
+/// `alog replay` is read, whatever name the program was called by, unless memory runs out.
+pub fn read<'a, S: AsStr>(alloc: Global, words: &'a [S]) -> Result<Request, Error>
+    ensures { AsksReplay (map S.text words.entry.now) → IfErr result (λ e. kind_of e ≡ ErrorKind.OutOfMemory) }
+{
     let replay = Command::new(alloc, "replay")
         .about("Replay a schedule script from standard input")
         .long_about(REPLAY_HELP);
@@ -25,7 +29,8 @@ fn command<'a>(alloc: Global) -> Result<Command<'a>, Error> {
         .about("The back end of an asynchronous logger, step by step")
         .subcommand_required(true)
         .subcommand(replay)?;
-    Ok(alog)
+    alog.try_get_matches_from(words)?;
+    Ok(Request::Replay)
 }
 
 const REPLAY_HELP: &str =

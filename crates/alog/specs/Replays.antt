@@ -1,0 +1,12 @@
+-- What `alog replay` does.
+use Rattle.std.specs.Prelude.{◌≡◌, ◌≢◌, ◌≤◌, ◌⊎◌, ℕ, List, Option, IfSome}
+use Rattle.std.specs.Io.KnownBytes.{Keeps}
+use Rattle.alog_replay.specs.Script.{Whole, RefusedAt, WritesText, WritesFront}
+
+-- By the exit status: the script's whole text was written, or what a refused line leaves, or at another fault nothing or
+-- a front. The command line is not at fault.
+pub record Replays (status : ℕ) (remaining old new : Option (List ℕ)) : Type 0 where
+  pub understood : status ≢ 1
+  pub whole : status ≡ 0 → IfSome remaining (λ script. (n : ℕ) × WritesText script (λ text. Whole text n) old new)
+  pub refused : status ≡ 2 → IfSome remaining (λ script. (line : ℕ) × WritesText script (RefusedAt line) old new)
+  pub front : 3 ≤ status → Keeps old new ⊎ IfSome remaining (λ script. WritesFront script old new)
