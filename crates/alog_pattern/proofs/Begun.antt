@@ -1,20 +1,19 @@
 -- Where the plain program stands, beside what it has read of a spelling, and what the next byte does there.
-use Rattle.std.proofs.Common.{◌≡◌, ◌≢◌, ℕ, ◌+◌, ◌-◌, ◌*◌, ◌≤◌, min, cond, Bool, true, false, eqb, List, [], ◌∷◌, ◌++◌, fold, Option, Some, None, refl, sym, ap, ◌∙◌, append-nil, append_assoc, arith, inl, inr, IsTrue}
+use Rattle.std.proofs.Common.{◌≡◌, ◌≢◌, ℕ, ◌+◌, ◌-◌, ◌*◌, ◌≤◌, min, cond, Bool, true, false, List, [], ◌∷◌, ◌++◌, Option, Some, None, refl, sym, ap, ◌∙◌, append-nil, append_assoc, arith, inl, inr, IsTrue}
 use Rattle.std.specs.Char.{is_ascii_digit}
 use Rattle.std.specs.List.{AllByRecursion}
-use Rattle.std.proofs.lemmas.Bool.{and_parts, both_ways, cases_Bool, ne_eqb, leb-true, false≢true}
+use Rattle.std.proofs.lemmas.Bool.{and_parts, both_ways, cases_Bool, ne_eqb, leb-true}
 use Rattle.std.proofs.lemmas.Bool.Decides.{eqb_tells}
 use Rattle.std.proofs.lemmas.List.Sums.{fold-append}
 use Rattle.alog_pattern.specs.declared.items.Side.{Side}
 use Rattle.alog_pattern.specs.declared.items.Side.TheVariants.{Right, Left, Centre}
 use Rattle.alog_pattern.specs.declared.items.Item.{Item}
-use Rattle.alog_pattern.specs.declared.items.Padding.{Padding}
 use Rattle.alog_pattern.specs.declared.flags.Flag.{Flag}
 use Rattle.alog_pattern.specs.declared.scan.Scan.{Scan}
 use Rattle.alog_pattern.specs.declared.scan.Scan.TheVariants.{Between, Opened, Sided, Wide, Cut}
 use Rattle.alog_pattern.specs.Flag.{flag_of}
-use Rattle.alog_pattern.specs.Grammar.{Spelling, IsSpelling, opening, number, Piece, Single, Spelled, IsPiece, piece_bytes, item, spelled_item, cut_bytes, side_bytes, padding}
-use Rattle.alog_pattern.specs.Scan.{step, items_from, items_of, item_by, completed}
+use Rattle.alog_pattern.specs.Grammar.{Spelling, opening, number, Piece, Single, Spelled, IsPiece, piece_bytes, item, spelled_item, side_bytes}
+use Rattle.alog_pattern.specs.Scan.{step, item_by, completed}
 
 abbrev pub IsDigit : ℕ → Type 0
 IsDigit b = IsTrue (is_ascii_digit b)
@@ -115,22 +114,22 @@ push_opening Centre b = refl
 
 goes_sided : (side : Side) (flag b : ℕ) → NoSide side b → Move (Some (flagged side [] false flag)) b (step (behind_side side) b)
 goes_sided side flag b free = elim (cases_Bool (is_ascii_digit b)) [
-    | inl digit ↦ GoesOn (flagged side (b ∷ []) false 0) (record { digits = (digit, tt); cut = λ e. absurd cc }) (push_opening side b)
-        (after_side side b free ∙ rw digit (ap (λ (scan : Scan). (scan, None)) (first_digit side b digit)))
-    | inr other ↦ Ends (Spelled (flagged side [] false b))
-        (record { digits = tt; cut = λ e. absurd cc; no_digit = λ e. absurd (both_ways _ other e); no_side = λ e. free (opening_alone side b e); no_cut = λ ne e. absurd (ne refl) })
-        refl
-        (after_side side b free ∙ rw other (ap (λ (i : Item). (Between, Some i)) (plain_item (flag_of b) side b)))
-  ]
+  | inl digit ↦ GoesOn (flagged side (b ∷ []) false 0) (record { digits = (digit, tt); cut = λ e. absurd cc }) (push_opening side b)
+      (after_side side b free ∙ rw digit (ap (λ (scan : Scan). (scan, None)) (first_digit side b digit)))
+  | inr other ↦ Ends (Spelled (flagged side [] false b))
+      (record { digits = tt; cut = λ e. absurd cc; no_digit = λ e. absurd (both_ways _ other e); no_side = λ e. free (opening_alone side b e); no_cut = λ ne e. absurd (ne refl) })
+      refl
+      (after_side side b free ∙ rw other (ap (λ (i : Item). (Between, Some i)) (plain_item (flag_of b) side b)))
+]
 
 goes_opened : (flag b : ℕ) → Move (Some (flagged Right [] false flag)) b (step Opened b)
 goes_opened flag b = elim (eqb_tells b 45) [
-    | inl left ↦ GoesOn (flagged Left [] false 0) (record { digits = tt; cut = λ e. absurd cc }) (ap (λ x. 37 ∷ x ∷ []) (sym left.1)) (rw left.0 refl)
-    | inr not_left ↦ elim (eqb_tells b 61) [
-        | inl centre ↦ GoesOn (flagged Centre [] false 0) (record { digits = tt; cut = λ e. absurd cc }) (ap (λ x. 37 ∷ x ∷ []) (sym centre.1)) (rw (not_left.0, centre.0) refl)
-        | inr not_centre ↦ goes_sided Right flag b (λ e. (not_left.1, not_centre.1))
-      ]
+  | inl left ↦ GoesOn (flagged Left [] false 0) (record { digits = tt; cut = λ e. absurd cc }) (ap (λ x. 37 ∷ x ∷ []) (sym left.1)) (rw left.0 refl)
+  | inr not_left ↦ elim (eqb_tells b 61) [
+    | inl centre ↦ GoesOn (flagged Centre [] false 0) (record { digits = tt; cut = λ e. absurd cc }) (ap (λ x. 37 ∷ x ∷ []) (sym centre.1)) (rw (not_left.0, centre.0) refl)
+    | inr not_centre ↦ goes_sided Right flag b (λ e. (not_left.1, not_centre.1))
   ]
+]
 
 -- one more byte at the end of an opening
 opening_push : (side : Side) (ds more : List ℕ) → 37 ∷ (side_bytes side ++ (ds ++ more)) ≡ (37 ∷ (side_bytes side ++ (ds ++ []))) ++ more
@@ -141,29 +140,29 @@ digits_push side ds more = simp (append-nil, append_assoc)
 
 goes_wide : (side : Side) (d : ℕ) (ds : List ℕ) (flag b : ℕ) → AllByRecursion IsDigit (d ∷ ds) → Move (Some (flagged side (d ∷ ds) false flag)) b (step (behind side (d ∷ ds) false) b)
 goes_wide side d ds flag b all = elim (cases_Bool (is_ascii_digit b)) [
-    | inl digit ↦ GoesOn (flagged side (d ∷ (ds ++ b ∷ [])) false 0) (record { digits = (all.0, AllDigits-push ds b all.1 digit); cut = λ e. absurd cc }) (digits_push side (d ∷ ds) (b ∷ []))
-        (rw digit (ap (λ w. (Wide side w, None)) (wider_width (d ∷ ds) b)))
-    | inr other ↦ elim (eqb_tells b 33) [
-        | inl cut ↦ GoesOn (flagged side (d ∷ ds) true 0) (record { digits = all; cut = λ e. λ n. cc }) (rw cut.1 (opening_push side (d ∷ ds) (33 ∷ []))) (rw (other, cut.0) refl)
-        | inr not_cut ↦ Ends (Spelled (flagged side (d ∷ ds) false b))
-            (record { digits = all; cut = λ e. absurd cc; no_digit = λ e. absurd (both_ways _ other e); no_side = λ e. absurd (long_opening side d ds false b e); no_cut = λ ne e. absurd (not_cut.1 e) })
-            refl
-            (rw (other, not_cut.0) (ap (λ (i : Item). (Between, Some i)) (padded_item (flag_of b) side d ds false b)))
-      ]
+  | inl digit ↦ GoesOn (flagged side (d ∷ (ds ++ b ∷ [])) false 0) (record { digits = (all.0, AllDigits-push ds b all.1 digit); cut = λ e. absurd cc }) (digits_push side (d ∷ ds) (b ∷ []))
+      (rw digit (ap (λ w. (Wide side w, None)) (wider_width (d ∷ ds) b)))
+  | inr other ↦ elim (eqb_tells b 33) [
+    | inl cut ↦ GoesOn (flagged side (d ∷ ds) true 0) (record { digits = all; cut = λ e. λ n. cc }) (rw cut.1 (opening_push side (d ∷ ds) (33 ∷ []))) (rw (other, cut.0) refl)
+    | inr not_cut ↦ Ends (Spelled (flagged side (d ∷ ds) false b))
+        (record { digits = all; cut = λ e. absurd cc; no_digit = λ e. absurd (both_ways _ other e); no_side = λ e. absurd (long_opening side d ds false b e); no_cut = λ ne e. absurd (not_cut.1 e) })
+        refl
+        (rw (other, not_cut.0) (ap (λ (i : Item). (Between, Some i)) (padded_item (flag_of b) side d ds false b)))
   ]
+]
 
 goes_cut : (side : Side) (d : ℕ) (ds : List ℕ) (flag b : ℕ) → AllByRecursion IsDigit (d ∷ ds) → Move (Some (flagged side (d ∷ ds) true flag)) b (step (behind side (d ∷ ds) true) b)
 goes_cut side d ds flag b all =
     Ends (Spelled (flagged side (d ∷ ds) true b))
-        (record { digits = all; cut = λ e n. cc; no_digit = λ e. refl; no_side = λ e. absurd (long_opening side d ds true b e); no_cut = λ ne e. refl })
-        refl
-        (ap (λ (i : Item). (Between, Some i)) (padded_item (flag_of b) side d ds true b))
+    (record { digits = all; cut = λ e n. cc; no_digit = λ e. refl; no_side = λ e. absurd (long_opening side d ds true b e); no_cut = λ ne e. refl })
+    refl
+    (ap (λ (i : Item). (Between, Some i)) (padded_item (flag_of b) side d ds true b))
 
 goes_between : (b : ℕ) → Move None b (step Between b)
 goes_between b = elim (eqb_tells b 37) [
-    | inl percent ↦ GoesOn (flagged Right [] false 0) (record { digits = tt; cut = λ e. absurd cc }) (ap (λ x. x ∷ []) (sym percent.1)) (rw percent.0 refl)
-    | inr other ↦ Ends (Single b) other.1 refl (rw other.0 refl)
-  ]
+  | inl percent ↦ GoesOn (flagged Right [] false 0) (record { digits = tt; cut = λ e. absurd cc }) (ap (λ x. x ∷ []) (sym percent.1)) (rw percent.0 refl)
+  | inr other ↦ Ends (Single b) other.1 refl (rw other.0 refl)
+]
 
 goes_by : (side : Side) (digits : List ℕ) (cut : Bool) (flag b : ℕ) → IsOpening (flagged side digits cut flag) → Move (Some (flagged side digits cut flag)) b (step (behind side digits cut) b)
 goes_by side [] true flag b h = absurd (h.cut refl refl)

@@ -1,5 +1,5 @@
 -- Each string has exactly one reading: that of the plain program.
-use Rattle.std.proofs.Common.{◌≡◌, ◌≢◌, ◌<◌, ℕ, Bool, true, false, min, fold, eqb, ◌+◌, ◌-◌, ◌*◌, List, [], ◌∷◌, ◌++◌, map, Option, Some, None, refl, sym, ap, subst, ◌∙◌, append-nil, append_assoc, inl, inr, IsTrue, ◌⊎◌, arith}
+use Rattle.std.proofs.Common.{◌≡◌, ◌≢◌, ◌<◌, ℕ, Bool, true, false, min, fold, eqb, ◌+◌, ◌-◌, ◌*◌, List, [], ◌∷◌, ◌++◌, map, Option, Some, None, refl, sym, ap, subst, ◌∙◌, append-nil, append_assoc, inl, inr, ◌⊎◌, arith}
 use Rattle.std.specs.Char.{is_ascii_digit}
 use Rattle.std.specs.List.{flat_map, AllByRecursion}
 use Rattle.std.specs.Option.{option_to_list}
@@ -8,13 +8,12 @@ use Rattle.alog_pattern.specs.Flag.{flag_of}
 use Rattle.alog_pattern.specs.declared.items.Side.{Side}
 use Rattle.alog_pattern.specs.declared.items.Side.TheVariants.{Right, Left, Centre}
 use Rattle.alog_pattern.specs.declared.items.Item.{Item}
-use Rattle.alog_pattern.specs.declared.items.Padding.{Padding}
 use Rattle.alog_pattern.specs.declared.scan.Scan.{Scan}
-use Rattle.alog_pattern.specs.declared.scan.Scan.TheVariants.{Between, Opened, Sided, Wide, Cut}
+use Rattle.alog_pattern.specs.declared.scan.Scan.TheVariants.{Between, Wide}
 use Rattle.alog_pattern.specs.Grammar.{Spelling, IsSpelling, opening, number, Piece, Single, Spelled, IsPiece, piece_bytes, item, IsUnfinished, IsReading, HasOneReading, side_bytes, cut_bytes}
 use Rattle.alog_pattern.specs.Length.{longest_line, LineExceeds}
 use Rattle.alog_pattern.specs.Scan.{step, items_from, items_of}
-use Rattle.alog_pattern.proofs.Begun.{Move, GoesOn, Ends, goes, read, scan_of, IsOpening, IsBegun, IsDigit, digit_range, plain_item, padded_item, first_digit, after_side, NoSide, flagged, behind_side, behind_width, behind}
+use Rattle.alog_pattern.proofs.Begun.{GoesOn, Ends, goes, read, scan_of, IsOpening, IsBegun, IsDigit, digit_range, plain_item, padded_item, first_digit, after_side, NoSide, flagged, behind_side, behind_width, behind}
 
 -- ---- there is one
 
@@ -57,11 +56,11 @@ reads begun (b ∷ bs) h =
     let gives : Scan × Option Item → List Item = λ out. option_to_list out.1 ++ items_from out.0 bs in
     elim (goes begun b h) [
       | GoesOn next begins bytes out ↦
-        along (opening next ++ bs) (read begun ++ b ∷ bs) (items_from (scan_of (Some next)) bs) (items_from (scan_of begun) (b ∷ bs))
-            (ap (λ x. x ++ bs) bytes ∙ append_assoc (read begun) (b ∷ []) bs) (ap gives (sym out)) (reads (Some next) bs begins)
+          along (opening next ++ bs) (read begun ++ b ∷ bs) (items_from (scan_of (Some next)) bs) (items_from (scan_of begun) (b ∷ bs))
+          (ap (λ x. x ++ bs) bytes ∙ append_assoc (read begun) (b ∷ []) bs) (ap gives (sym out)) (reads (Some next) bs begins)
       | Ends piece is bytes out ↦
-        along (piece_bytes piece ++ bs) (read begun ++ b ∷ bs) (item piece ∷ items_of bs) (items_from (scan_of begun) (b ∷ bs))
-            (ap (λ x. x ++ bs) bytes ∙ append_assoc (read begun) (b ∷ []) bs) (ap gives (sym out)) (cons_reading piece bs (items_of bs) is (reads None bs tt))
+          along (piece_bytes piece ++ bs) (read begun ++ b ∷ bs) (item piece ∷ items_of bs) (items_from (scan_of begun) (b ∷ bs))
+          (ap (λ x. x ++ bs) bytes ∙ append_assoc (read begun) (b ∷ []) bs) (ap gives (sym out)) (cons_reading piece bs (items_of bs) is (reads None bs tt))
     ]
 
 -- the plain program gives a reading
@@ -174,7 +173,7 @@ unfinished_reads bytes (inl e) = rw e refl
 unfinished_reads bytes (inr u) =
     let s = u.whole in
     let r = before_last bytes u.missing (opening s) s.flag u.proper u.prefix in
-    nothing_before Between bytes r.0 (ap items_of (r.1 ∙ sym (append-nil (opening s))) ∙ opening_reads s.side s.digits s.cut s.flag [] (opening_of s u.is_spelling) )
+    nothing_before Between bytes r.0 (ap items_of (r.1 ∙ sym (append-nil (opening s))) ∙ opening_reads s.side s.digits s.cut s.flag [] (opening_of s u.is_spelling))
 
 -- each reading is that of the plain program
 pub only_reading : (bytes : List ℕ) (items : List Item) → IsReading bytes items → items ≡ items_of bytes

@@ -85,7 +85,7 @@ impl Flag {
 
     /// The flag that a byte stands for after `%`, if it stands for one.
     #[tactic(auto, unfolding(crate::specs::Flag::flag_of))]
-    pub fn of(byte: u8) -> Option<Flag>
+    pub(crate) fn of(byte: u8) -> Option<Flag>
         ensures { result ≡ flag_of byte }
     {
         match byte {
@@ -141,7 +141,7 @@ impl Flag {
     }
 
     /// The greatest length of the flag's text in bytes, where the text of a message has at most `text_limit`.
-    pub fn greatest_len(self, text_limit: usize) -> usize
+    pub(crate) fn greatest_len(self, text_limit: usize) -> usize
         requires { text_limit ≤ 8192 }
         ensures { result ≡ greatest_len text_limit self }
     {

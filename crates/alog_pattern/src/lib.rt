@@ -18,3 +18,6 @@ mod scan;
 pub use flags::Flag;
 pub use items::{Item, Padding, Side};
 pub use patterns::{Pattern, PatternError};
+
+#[cfg(test)]
+mod tests;

@@ -2,12 +2,12 @@ ghost use Rattle.std.specs.Prelude.{◌≡◌, ◌+◌, ◌<◌, ◌≤◌, ◌�
 ghost use Rattle.alog_pattern.specs.Length.{item_len, longest_line as longest_line_of};
 ghost use Rattle.alog_pattern.specs.Scan.{items_of as items_of_bytes};
 
+use crate::flags::Flag;
+use crate::items::{Item, Padding};
+use crate::scan::Scan;
 use std::alloc::{AllocError, AllocFailed, Global};
 use std::marker::Model;
 use thiserror::Error;
-
-use crate::items::{Item, Padding};
-use crate::scan::Scan;
 
 /// The greatest length of a pattern in bytes.
 const MAX_PATTERN: usize = 256;
@@ -164,7 +164,12 @@ fn item_len(item: Item, text_limit: usize) -> usize
         }
         Item::Flag(flag, _) => flag.greatest_len(text_limit),
         Item::Unknown(_) => 2,
-        Item::Function { width, .. } => FUNCTION_LEN.max(usize::from(width)) + 1,
+        Item::Function { width, .. } => {
+            Flag::Function
+                .greatest_len(text_limit)
+                .max(usize::from(width))
+                + 1
+        }
     }
 }
 
@@ -175,4 +180,3 @@ fn padded_len(padding: Padding, len: usize) -> usize
     let width = usize::from(padding.width);
     if padding.cut { width } else { width.max(len) }
 }
-const FUNCTION_LEN: usize = 128;

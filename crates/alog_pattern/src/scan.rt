@@ -35,11 +35,19 @@ impl Scan {
             (Scan::Wide(side, width), b'!') => (Scan::Cut(side, width), None),
             (Scan::Opened | Scan::Sided(_), _) => (Scan::Between, Some(completed(None, byte))),
             (Scan::Wide(side, width), _) => {
-                let padding = Padding { width, side, cut: false };
+                let padding = Padding {
+                    width,
+                    side,
+                    cut: false,
+                };
                 (Scan::Between, Some(completed(Some(padding), byte)))
             }
             (Scan::Cut(side, width), _) => {
-                let padding = Padding { width, side, cut: true };
+                let padding = Padding {
+                    width,
+                    side,
+                    cut: true,
+                };
                 (Scan::Between, Some(completed(Some(padding), byte)))
             }
         }
@@ -63,20 +71,15 @@ fn wider(width: u8, digit: u8) -> u8
 fn completed(padding: Option<Padding>, byte: u8) -> Item
     ensures { result ≡ completed_item padding byte }
 {
-    match (Flag::of(byte), padding) {
-        (Some(flag), _) => Item::Flag(flag, padding),
-        (
-            None,
-            Some(Padding {
-                width,
-                side,
-                cut: true,
-            }),
-        ) => Item::Function {
-            width,
-            side,
+    if let Some(flag) = Flag::of(byte) {
+        return Item::Flag(flag, padding);
+    }
+    match padding {
+        Some(padding) if padding.cut => Item::Function {
+            width: padding.width,
+            side: padding.side,
             next: byte,
         },
-        (None, _) => Item::Unknown(byte),
+        _ => Item::Unknown(byte),
     }
 }

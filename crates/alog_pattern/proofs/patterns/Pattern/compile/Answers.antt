@@ -1,8 +1,6 @@
 -- The lengths and the items are those of the plain program, whose reading is the only one.
-use Rattle.std.proofs.Common.{◌≡◌, ℕ, ◌<◌, List, refl, ap, subst, sym, arith}
+use Rattle.std.proofs.Common.{refl, arith}
 use Rattle.std.proofs.lemmas.Result.{err_from_is_err_and}
-use Rattle.alog_pattern.specs.Length.{longest_line}
-use Rattle.alog_pattern.specs.Scan.{items_of}
 use Rattle.alog_pattern.proofs.Readings.{has_reading, line_exceeds, line_within}
 use Rattle.alog_pattern.proofs.patterns.Pattern.compile.Goals as goal
 
