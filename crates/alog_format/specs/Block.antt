@@ -1,0 +1,8 @@
+-- What a move within the block makes of its bytes.
+use Rattle.std.specs.Prelude.{ℕ, ◌+◌, ◌-◌, List, ◌++◌, take, drop, replicate}
+use Rattle.std.specs.Str.{byte}
+
+-- the bytes from `at` to `len` moved up by `by`, and spaces in the gap
+abbrev pub gapped : List ℕ → ℕ → ℕ → ℕ → List ℕ
+gapped block len at by =
+    take at block ++ (replicate by (byte " ") ++ (take (len - at) (drop at block) ++ drop (len + by) block))

@@ -1,0 +1,14 @@
+//! Lines: how a message is written out by a pattern, after spdlog's custom formatting.
+//!
+//! `LineBuf` is the block of bytes that lines are made in. The model of a buffer is its bytes and its capacity
+//! (`specs/Buffer.antt`).
+//!
+//! Read `line_buf.rt` first.
+#![tactic(auto)]
+
+mod line_buf;
+
+pub use line_buf::{LineBuf, NoRoom};
+
+#[cfg(test)]
+mod tests;
