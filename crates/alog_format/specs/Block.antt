@@ -6,3 +6,7 @@ use Rattle.std.specs.Str.{byte}
 abbrev pub gapped : List ℕ → ℕ → ℕ → ℕ → List ℕ
 gapped block len at by =
     take at block ++ (replicate by (byte " ") ++ (take (len - at) (drop at block) ++ drop (len + by) block))
+
+-- the `count` bytes from `from` on, copied to the places from `to` on
+abbrev pub moved : List ℕ → ℕ → ℕ → ℕ → List ℕ
+moved block from to count = take to block ++ (take count (drop from block) ++ drop (to + count) block)

@@ -1,5 +1,5 @@
 ghost use Rattle.std.specs.Prelude.{◌≡◌, ◌+◌, ◌≤◌, ◌↔◌, [], length, IfOk, IsErr, OnOk, OnErr, ◌==◌};
-ghost use Rattle.alog_format.specs.Block.{gapped};
+ghost use Rattle.alog_format.specs.Block.{gapped, moved};
 
 use std::alloc::{AllocError, Global};
 use std::marker::Model;
@@ -114,12 +114,29 @@ impl LineBuf {
     }
 }
 
+/// Copies the `count` bytes from `from` on up to the places from `to` on. The last goes first, since the places may
+/// overlap.
+fn move_up(block: &mut [u8], from: usize, to: usize, count: usize)
+    requires { (from ≤ to) × (to + count ≤ length block.old) }
+    ensures { block.new ≡ moved block.old from to count }
+{
+    let start = block.as_mut_ptr();
+    let mut left = count;
+    while 0 < left {
+        left -= 1;
+        unsafe {
+            let byte = *start.add(from + left);
+            *start.add(to + left) = byte;
+        }
+    }
+}
+
 /// Moves the bytes from `at` to `len` up by `by`, and fills the gap with spaces.
 fn open_gap(block: &mut [u8], len: usize, at: usize, by: usize)
     requires inside { at ≤ len }
     requires fits { len + by ≤ length block.old }
     ensures { block.new ≡ gapped block.old len at by }
 {
-    block.copy_within(at..len, at + by);
+    move_up(block, at, at + by, len - at);
     block[at..at + by].fill(b' ');
 }
