@@ -1,5 +1,5 @@
 -- Bytes that move up within a block, the last one first.
-use Rattle.std.proofs.Common.{◌≡◌, ℕ, suc, ◌+◌, ◌-◌, ◌≤◌, ◌<◌, List, [], ◌∷◌, ◌++◌, length, get_or, set, take, drop, refl, ap, sym, ◌∙◌, append_assoc, append-nil, arith, length-append, length-take, length-drop}
+use Rattle.std.proofs.Common.{◌≡◌, ℕ, suc, ◌+◌, ◌≤◌, List, [], ◌∷◌, ◌++◌, length, get_or, set, take, drop, ap, sym, ◌∙◌, append_assoc, arith, length-append, length-take, length-drop}
 use Rattle.std.proofs.Math.Seq.{take-suc, drop-cons, set-append_seam}
 use Rattle.std.proofs.Math.ListN.{get_or-append, drop_of_length-le, take-append-drop}
 use Rattle.std.proofs.lemmas.List.{get_or-take, drop-take}
@@ -37,15 +37,15 @@ module _ (xs : List ℕ) (from to count : ℕ) where
       let after : suc (from + j) ≡ from + suc j = omega arith in
       let room : length low ≡ to + j = omega (arith, length-take (to + j) xs) in
       let read : get_or (upper (suc j)) (from + j) 0 ≡ x =
-          get_or-append (take (to + suc j) xs) tail 0 (from + j) (omega (arith, length-take (to + suc j) xs))
-          ∙ get_or-take (to + suc j) xs (from + j) 0 (omega arith) in
+      get_or-append (take (to + suc j) xs) tail 0 (from + j) (omega (arith, length-take (to + suc j) xs))
+      ∙ get_or-take (to + suc j) xs (from + j) 0 (omega arith) in
       let cut : upper (suc j) ≡ low ++ y ∷ tail =
-          ap (λ l. l ++ tail) (ap (λ k. take k xs) next ∙ take-suc xs (to + j) 0 (omega arith)) ∙ append_assoc low (y ∷ []) tail in
+      ap (λ l. l ++ tail) (ap (λ k. take k xs) next ∙ take-suc xs (to + j) 0 (omega arith)) ∙ append_assoc low (y ∷ []) tail in
       let here : get_or (take (from + count) xs) (from + j) 0 ≡ x = get_or-take (from + count) xs (from + j) 0 (omega arith) in
       let more : drop (from + j) (take (from + count) xs) ≡ x ∷ drop (from + suc j) (take (from + count) xs) =
-          drop-cons (take (from + count) xs) (from + j) 0 (omega (arith, length-take (from + count) xs))
-          ∙ ap (λ k. k ∷ drop (suc (from + j)) (take (from + count) xs)) here
-          ∙ ap (λ k. x ∷ drop k (take (from + count) xs)) after in
+      drop-cons (take (from + count) xs) (from + j) 0 (omega (arith, length-take (from + count) xs))
+      ∙ ap (λ k. k ∷ drop (suc (from + j)) (take (from + count) xs)) here
+      ∙ ap (λ k. x ∷ drop k (take (from + count) xs)) after in
       ap (λ v. set (upper (suc j)) (to + j) v) read
       ∙ ap (λ l. set l (to + j) x) cut
       ∙ ap (λ k. set (low ++ y ∷ tail) k x) (sym room)

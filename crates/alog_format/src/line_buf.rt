@@ -1,5 +1,5 @@
 ghost use Rattle.std.specs.Prelude.{◌≡◌, ◌+◌, ◌≤◌, ◌↔◌, [], length, IfOk, IsErr, OnOk, OnErr, ◌==◌};
-ghost use Rattle.alog_format.specs.Block.{gapped, moved};
+ghost use Rattle.alog_format.specs.Block.{gapped, moved, overwritten};
 
 use std::alloc::{AllocError, Global};
 use std::marker::Model;
@@ -10,7 +10,9 @@ use thiserror::Error;
 #[error("the line buffer has no room")]
 pub struct NoRoom;
 
-/// A block of bytes of fixed capacity, in which one worker makes its lines.
+/// A block of bytes of fixed capacity, in which one worker makes its lines. The block is taken once and never grows;
+/// bytes are written into it by `copy_in`, `move_up` and `open_gap` alone, of which the first two go through raw
+/// pointers and are proved by hand.
 #[derive(Drop)]
 pub struct LineBuf {
     block: Vec<u8>,
@@ -49,9 +51,8 @@ impl LineBuf {
         if bytes.len() > self.room() {
             return Err(NoRoom);
         }
-        let end = self.len + bytes.len();
-        self.block[self.len..end].copy_from_slice(bytes);
-        self.len = end;
+        copy_in(&mut self.block, self.len, bytes);
+        self.len += bytes.len();
         Ok(())
     }
 
@@ -111,6 +112,24 @@ impl LineBuf {
         ensures { result + length self.now.bytes ≡ self.now.capacity }
     {
         self.block.len() - self.len
+    }
+}
+
+/// Copies the bytes to the places from `at` on.
+fn copy_in(block: &mut [u8], at: usize, bytes: &[u8])
+    requires { at + length bytes.now ≤ length block.old }
+    ensures { block.new ≡ overwritten block.old at bytes.now }
+{
+    let to = block.as_mut_ptr();
+    let from = bytes.as_ptr();
+    let count = bytes.len();
+    let mut i = 0;
+    while i < count {
+        unsafe {
+            let byte = *from.add(i);
+            *to.add(at + i) = byte;
+        }
+        i += 1;
     }
 }
 

@@ -1,5 +1,5 @@
 -- `move_up` meets its contract: a walk of its MIR by hand. The bytes from `left` on are moved, the last one first.
-use Rattle.std.proofs.Common.{◌≡◌, ℕ, zero, suc, ◌+◌, ◌-◌, ◌*◌, ◌^◌, ◌<◌, ◌≤◌, List, [], ◌∷◌, length, get_or, set, take, drop, sym, refl, ap, subst, ◌∙◌, arith, length-set, length-append, length-take, length-drop, w8, w64, MutBor, lit<}
+use Rattle.std.proofs.Common.{◌≡◌, ℕ, zero, suc, ◌+◌, ◌-◌, ◌^◌, ◌<◌, ◌≤◌, List, [], ◌∷◌, length, get_or, set, sym, refl, ap, subst, ◌∙◌, arith, w8, w64, MutBor}
 use mathlib.Core.WellFounded.InvImage
 use lib.WfN.{lt-wf_rel}
 use lib.Dec.{ltb→lt, nltb→le}
@@ -16,7 +16,7 @@ use types.Logic.{Logic}
 use contract.Monad.{Fun}
 use contract.Running.{tables, tables_of}
 use sound.WpLaws.{WpFn-mono}
-use types.Kit.{Item, Sq, any_q, runs, ‵, ◌⊛◌, ⋆, at_ret, ◌$◌, ◌∵◌, !, qed, by, move, keep, use1, use2, drop as drops, split, join, fsplit, fjoin, feq_i, flt_i, rewrite, suffices, frame, done}
+use types.Kit.{Item, Sq, any_q, runs, ‵, ◌⊛◌, ⋆, at_ret, ◌$◌, ◌∵◌, !, qed, by, move, keep, use1, use2, drop as drops, split, join, fsplit, fjoin, feq_i, rewrite, suffices, frame, done}
 use types.Part.{whole, sub}
 use types.Run.{look, store, stop, fld, load, addr, hop, from as place_from, lit, unit_lit, of_opd, bin, assigns_last, first, blocks, skips, jumps, branches, exec, returns, enter, well_typed, loops, again, Below}
 use types.ByLocal.{alloc_all, pass_all, free_all, look_at, look_in_at, get, through, sets, env, holding, forget_but}
