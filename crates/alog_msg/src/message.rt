@@ -1,0 +1,96 @@
+ghost use Rattle.std.specs.Prelude.{◌≡◌, ◌↔◌, ◌<◌, ◌≤◌, IfOk, IsErrOf, length};
+ghost use Rattle.alog_msg.specs.declared.message.MessageError.TheVariants.{OutOfMemory};
+
+use crate::level::Level;
+use crate::source::{FILE_MAX, FUNCTION_MAX, Source, SourceRef};
+use crate::text::Text;
+use std::alloc::{AllocError, Global};
+use thiserror::Error;
+
+/// Why no message was made.
+#[derive(Clone, Copy, Debug, PartialEq, Eq, Error)]
+pub enum MessageError {
+    /// The text has more bytes than the text limit.
+    #[error("the text is longer than the text limit")]
+    TextTooLong,
+    /// The source's file has more than 256 bytes, or its function more than 128.
+    #[error("the file has more than 256 bytes or the function more than 128")]
+    FieldTooLong,
+    /// There was no memory for the copies of text, file and function.
+    #[error("out of memory")]
+    OutOfMemory,
+}
+
+impl From<AllocError> for MessageError {
+    ghost from_gives = { λ _ e. e ≡ OutOfMemory };
+
+    fn from(_error: AllocError) -> MessageError {
+        MessageError::OutOfMemory
+    }
+}
+
+/// One message: what was said, to which logger, how severe it is, when, and by which thread.
+#[derive(Debug, Drop)]
+pub struct Message {
+    /// The number of the logger.
+    pub logger: u32,
+    pub level: Level,
+    /// Nanoseconds since the epoch, 1970-01-01 00:00:00 UTC.
+    pub time: i64,
+    /// The number of the thread.
+    pub thread: u64,
+    pub text: Text,
+    pub source: Option<Source>,
+}
+
+impl Message {
+    ghost use Rattle.alog_msg.specs.Message.{source_of, HasLongField};
+
+    /// Makes a message of copies of the text and the source. A text limit is 64 to 8,192 bytes.
+    ///
+    /// The refusals are tested in the order of `MessageError`.
+    pub fn new(
+        alloc: Global,
+        text_limit: usize,
+        logger: u32,
+        level: Level,
+        time: i64,
+        thread: u64,
+        text: &str,
+        source: Option<SourceRef<'_>>,
+    ) -> Result<Message, MessageError>
+        requires { (64 ≤ text_limit) × (text_limit ≤ 8192) }
+        ensures made { IfOk result (λ m. m ≡ record {
+          logger = logger;
+          level = level;
+          time = time;
+          thread = thread;
+          text = text.now;
+          source = source_of source.entry;
+        }) }
+        ensures text_too_long { IsErrOf result MessageError.TextTooLong ↔ (text_limit < length text.now) }
+        ensures field_too_long { IsErrOf result MessageError.FieldTooLong ↔
+            ((length text.now ≤ text_limit) × HasLongField source.entry) }
+    {
+        if text.len() > text_limit {
+            return Err(MessageError::TextTooLong);
+        }
+        if let Some(source) = source
+            && (source.file.len() > FILE_MAX || source.function.len() > FUNCTION_MAX)
+        {
+            return Err(MessageError::FieldTooLong);
+        }
+        let source = match source {
+            Some(source) => Some(Source::copy_of(alloc, source)?),
+            None => None,
+        };
+        Ok(Message {
+            logger,
+            level,
+            time,
+            thread,
+            text: Text::copy_of(alloc, text)?,
+            source,
+        })
+    }
+}

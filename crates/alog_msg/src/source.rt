@@ -1,0 +1,79 @@
+ghost use Rattle.std.specs.Prelude.{◌≡◌, ◌≤◌, IfOk, length};
+
+use crate::text::Text;
+use std::alloc::{AllocError, Global};
+use std::marker::Model;
+
+/// The most bytes that the file of a source has.
+pub const FILE_MAX: usize = 256;
+
+/// The most bytes that the function of a source has.
+pub const FUNCTION_MAX: usize = 128;
+
+/// A source that is lent, to make a message from.
+#[derive(Clone, Copy, Debug)]
+pub struct SourceRef<'a> {
+    pub file: &'a str,
+    pub line: u32,
+    pub function: &'a str,
+}
+
+/// The place in a program that a message comes from: a file of at most 256 bytes, a line, and a function of at
+/// most 128 bytes. File and function may be empty.
+#[derive(Debug, Drop)]
+pub struct Source {
+    file: Text,
+    line: u32,
+    function: Text,
+}
+
+impl Model for Source {
+    ghost use Rattle.std.specs.Prelude.{◌≤◌, length};
+    ghost use Rattle.alog_msg.specs.Source.{SourceFields};
+
+    ghost Value = { SourceFields };
+
+    ghost view = { λ s. record { file = s.file; line = s.line; function = s.function } };
+
+    ghost invariant = { λ s. (length s.file ≤ 256) × (length s.function ≤ 128) };
+}
+
+impl Source {
+    ghost use Rattle.alog_msg.specs.Message.{fields_of};
+
+    /// Copies a source whose fields are not too long.
+    pub fn copy_of(alloc: Global, source: SourceRef<'_>) -> Result<Source, AllocError>
+        requires file_fits { length source.file.now ≤ 256 }
+        requires function_fits { length source.function.now ≤ 128 }
+        ensures { IfOk result (λ s. s ≡ fields_of source.entry) }
+    {
+        Ok(Source {
+            file: Text::copy_of(alloc, source.file)?,
+            line: source.line,
+            function: Text::copy_of(alloc, source.function)?,
+        })
+    }
+
+    /// The file as it was given.
+    pub fn file(&self) -> &str
+        ensures value { result.now ≡ self.now.file }
+        ensures fits { length result.now ≤ 256 }
+    {
+        self.file.as_str()
+    }
+
+    /// The line in the file.
+    pub fn line(&self) -> u32
+        ensures { result ≡ self.now.line }
+    {
+        self.line
+    }
+
+    /// The name of the function.
+    pub fn function(&self) -> &str
+        ensures value { result.now ≡ self.now.function }
+        ensures fits { length result.now ≤ 128 }
+    {
+        self.function.as_str()
+    }
+}
