@@ -6,8 +6,12 @@
 //! Read `line_buf.rt` first.
 #![tactic(auto)]
 
+mod civil;
+mod clip;
+mod context;
 mod line_buf;
 
+pub use context::{Context, Zone};
 pub use line_buf::{LineBuf, NoRoom};
 
 #[cfg(test)]

@@ -1,0 +1,33 @@
+-- The line of a message.
+use Rattle.std.specs.Prelude.{◌≡◌, ℕ, List, [], ◌∷◌, ◌++◌, false, if◌then◌else◌}
+use Rattle.std.specs.List.{flat_map}
+use Rattle.std.specs.Str.{byte}
+use Rattle.jiff_core.specs.declared.civil.datetime.DateTime.{DateTime}
+use Rattle.alog_msg.specs.declared.message.Message.{Message}
+use Rattle.alog_pattern.specs.declared.items.Item.{Item}
+use Rattle.alog_pattern.specs.declared.items.Item.TheVariants as items
+use Rattle.alog_pattern.specs.Flag.{ignores_padding}
+use Rattle.alog_pattern.specs.Padding.{pad, padded}
+use Rattle.alog_format.specs.declared.context.Context.{Context}
+use Rattle.alog_format.specs.Civil.{IsShownAt, offset_minutes}
+use Rattle.alog_format.specs.Text.{Shown, flag_text, of_source}
+
+abbrev pub item_text : Shown → Item → List ℕ
+item_text s (items.Byte b) = b ∷ []
+item_text s (items.Flag flag padding) = if ignores_padding flag then flag_text s flag else padded padding (flag_text s flag)
+item_text s (items.Unknown b) = byte "%" ∷ b ∷ []
+item_text s (items.Function width side next) =
+    pad width side false (of_source (λ source. source.function) s.message.source) ++ next ∷ []
+
+-- the texts of the items in order, and a newline
+abbrev pub line_text : Shown → List Item → List ℕ
+line_text s items = flat_map (item_text s) items ++ 10 ∷ []
+
+-- what a line of the message shows where a clock shows `at`
+abbrev pub shown : Context → List ℕ → Message → DateTime → Shown
+shown context name message at = record { message = message; name = name; process = context.process; offset = offset_minutes context.zone; at = at }
+
+-- the bytes are the message's line
+abbrev pub IsLine : Context → List Item → List ℕ → Message → List ℕ → Type 0
+IsLine context items name message bytes =
+    (at : DateTime) × IsShownAt context.zone message.time at × (bytes ≡ line_text (shown context name message at) items)

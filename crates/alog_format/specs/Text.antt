@@ -1,0 +1,168 @@
+-- The texts of the flags.
+use Rattle.std.specs.Prelude.{ℕ, zero, suc, ◌+◌, ◌-◌, ◌*◌, ◌/◌, ◌%◌, List, [], ◌∷◌, ◌++◌, length, take, Option, Some, None, ℤ, pos, negsuc, unsigned_abs, codes, decimal, nat_lt, ◌==◌, if◌then◌else◌}
+use Rattle.std.specs.Fmt.{signed_decimal}
+use Rattle.std.specs.Int.{int_div_euclid}
+use Rattle.std.specs.List.{after_last}
+use Rattle.std.specs.Str.{byte}
+use Rattle.jiff_core.specs.declared.civil.datetime.DateTime.{DateTime}
+use Rattle.jiff.specs.Words.{weekday_of}
+use Rattle.alog_msg.specs.Level.{row_of}
+use Rattle.alog_msg.specs.Source.{SourceFields}
+use Rattle.alog_msg.specs.declared.message.Message.{Message}
+use Rattle.alog_pattern.specs.declared.flags.Flag.{Flag}
+use Rattle.alog_pattern.specs.declared.flags.Flag.TheVariants as flags
+
+-- what a line shows: the message, the name of its logger, the process, the offset from UTC in minutes, and what a
+-- clock shows at the message's time
+pub record Shown : Type 0 where
+  pub message : Message
+  pub name : List ℕ
+  pub process : ℕ
+  pub offset : ℤ
+  pub at : DateTime
+
+-- the last k decimal digits of n
+abbrev pub digits : ℕ → ℕ → List ℕ
+digits zero n = []
+digits (suc k) n = digits k (n / 10) ++ (byte "0" + n % 10) ∷ []
+
+-- a day of the week, 0 for Monday to 6 for Sunday
+abbrev pub weekday_name : ℕ → List ℕ
+weekday_name n =
+    if n == 0 then codes "Monday" else (if n == 1 then codes "Tuesday" else (if n == 2 then codes "Wednesday"
+    else (if n == 3 then codes "Thursday" else (if n == 4 then codes "Friday" else (if n == 5 then codes "Saturday" else codes "Sunday")))))
+
+-- a month, 1 for January to 12 for December
+abbrev pub month_name : ℕ → List ℕ
+month_name n =
+    if n == 1 then codes "January" else (if n == 2 then codes "February" else (if n == 3 then codes "March"
+    else (if n == 4 then codes "April" else (if n == 5 then codes "May" else (if n == 6 then codes "June"
+    else (if n == 7 then codes "July" else (if n == 8 then codes "August" else (if n == 9 then codes "September"
+    else (if n == 10 then codes "October" else (if n == 11 then codes "November" else codes "December"))))))))))
+
+abbrev pub short_weekday : DateTime → List ℕ
+short_weekday at = take 3 (weekday_name (weekday_of at.date))
+
+abbrev pub short_month : DateTime → List ℕ
+short_month at = take 3 (month_name at.date.month)
+
+-- The years that a message can have are 1677 to 2262.
+abbrev pub year : DateTime → ℕ
+year at = unsigned_abs at.date.year
+
+-- midnight and noon are 12
+abbrev pub half_day_hour : ℕ → ℕ
+half_day_hour hour = if hour % 12 == 0 then 12 else hour % 12
+
+abbrev pub half_day : ℕ → List ℕ
+half_day hour = if nat_lt hour 12 then codes "AM" else codes "PM"
+
+-- HH:MM
+abbrev pub short_time : DateTime → List ℕ
+short_time at = digits 2 at.time.hour ++ codes ":" ++ digits 2 at.time.minute
+
+-- HH:MM:SS
+abbrev pub time : DateTime → List ℕ
+time at = short_time at ++ codes ":" ++ digits 2 at.time.second
+
+-- MM/DD/YY
+abbrev pub short_date : DateTime → List ℕ
+short_date at = digits 2 at.date.month ++ codes "/" ++ digits 2 at.date.day ++ codes "/" ++ digits 2 (year at)
+
+-- as 03:35:46 PM
+abbrev pub half_day_time : DateTime → List ℕ
+half_day_time at =
+    digits 2 (half_day_hour at.time.hour) ++ codes ":" ++ digits 2 at.time.minute ++ codes ":" ++ digits 2 at.time.second
+    ++ codes " " ++ half_day at.time.hour
+
+-- as Sat Feb 3 15:35:46 2024
+abbrev pub date_and_time : DateTime → List ℕ
+date_and_time at =
+    short_weekday at ++ codes " " ++ short_month at ++ codes " " ++ decimal at.date.day ++ codes " " ++ time at
+    ++ codes " " ++ digits 4 (year at)
+
+-- the sign, hours and minutes of an offset in minutes, as +02:00
+abbrev pub offset_sign : ℤ → List ℕ
+offset_sign (pos n) = codes "+"
+offset_sign (negsuc n) = codes "-"
+
+abbrev pub offset_text : ℤ → List ℕ
+offset_text minutes =
+    offset_sign minutes ++ digits 2 (unsigned_abs minutes / 60) ++ codes ":" ++ digits 2 (unsigned_abs minutes % 60)
+
+-- whole seconds since the epoch, rounded down
+abbrev pub epoch : ℤ → List ℕ
+epoch time = signed_decimal (int_div_euclid time (pos 1_000_000_000))
+
+-- the file after its last `/`
+abbrev pub base : List ℕ → List ℕ
+base file = after_last (λ b. b == byte "/") file
+
+abbrev pub location : List ℕ → SourceFields → List ℕ
+location file source = file ++ codes ":" ++ decimal source.line
+
+-- a message without a source has the empty text there
+abbrev pub of_source : (SourceFields → List ℕ) → Option SourceFields → List ℕ
+of_source text None = []
+of_source text (Some source) = text source
+
+-- a text in brackets, with a space behind them
+abbrev pub bracketed : List ℕ → List ℕ
+bracketed text = codes "[" ++ text ++ codes "] "
+
+-- YYYY-MM-DD HH:MM:SS.mmm
+abbrev pub stamp : DateTime → List ℕ
+stamp at =
+    digits 4 (year at) ++ codes "-" ++ digits 2 at.date.month ++ codes "-" ++ digits 2 at.date.day ++ codes " " ++ time at
+    ++ codes "." ++ digits 3 (at.time.subsec_nanosecond / 1_000_000)
+
+abbrev pub name_part : List ℕ → List ℕ
+name_part [] = []
+name_part (b ∷ bs) = bracketed (b ∷ bs)
+
+-- `[YYYY-MM-DD HH:MM:SS.mmm] [name] [level] [base:line] text`, without the name where it is empty and without the
+-- place where there is no source
+abbrev pub default_text : Shown → List ℕ
+default_text s =
+    bracketed (stamp s.at) ++ name_part s.name ++ bracketed (row_of s.message.level).name
+    ++ of_source (λ source. bracketed (location (base source.file) source)) s.message.source ++ s.message.text
+
+abbrev pub flag_text : Shown → Flag → List ℕ
+flag_text s flags.Text = s.message.text
+flag_text s flags.Thread = decimal s.message.thread
+flag_text s flags.Process = decimal s.process
+flag_text s flags.Name = s.name
+flag_text s flags.Level = (row_of s.message.level).name
+flag_text s flags.ShortLevel = (row_of s.message.level).short
+flag_text s flags.ShortWeekday = short_weekday s.at
+flag_text s flags.Weekday = weekday_name (weekday_of s.at.date)
+flag_text s flags.ShortMonth = short_month s.at
+flag_text s flags.Month = month_name s.at.date.month
+flag_text s flags.DateTime = date_and_time s.at
+flag_text s flags.ShortYear = digits 2 (year s.at)
+flag_text s flags.Year = digits 4 (year s.at)
+flag_text s flags.ShortDate = short_date s.at
+flag_text s flags.MonthNumber = digits 2 s.at.date.month
+flag_text s flags.Day = digits 2 s.at.date.day
+flag_text s flags.Hour = digits 2 s.at.time.hour
+flag_text s flags.HalfDayHour = digits 2 (half_day_hour s.at.time.hour)
+flag_text s flags.Minute = digits 2 s.at.time.minute
+flag_text s flags.Second = digits 2 s.at.time.second
+flag_text s flags.Milliseconds = digits 3 (s.at.time.subsec_nanosecond / 1_000_000)
+flag_text s flags.Microseconds = digits 6 (s.at.time.subsec_nanosecond / 1_000)
+flag_text s flags.Nanoseconds = digits 9 s.at.time.subsec_nanosecond
+flag_text s flags.HalfDay = half_day s.at.time.hour
+flag_text s flags.HalfDayTime = half_day_time s.at
+flag_text s flags.ShortTime = short_time s.at
+flag_text s flags.Time = time s.at
+flag_text s flags.Offset = offset_text s.offset
+flag_text s flags.Epoch = epoch s.message.time
+flag_text s flags.Percent = codes "%"
+flag_text s flags.Default = default_text s
+flag_text s flags.ColourStart = []
+flag_text s flags.ColourEnd = []
+flag_text s flags.Location = of_source (λ source. location source.file source) s.message.source
+flag_text s flags.FileBase = of_source (λ source. base source.file) s.message.source
+flag_text s flags.File = of_source (λ source. source.file) s.message.source
+flag_text s flags.Line = of_source (λ source. decimal source.line) s.message.source
+flag_text s flags.Function = of_source (λ source. source.function) s.message.source
