@@ -46,6 +46,7 @@ then_written a b c end xs ys e f = f ∙ ap (λ (x : Buffer). clipped x end ys) 
 pub digits_more : (text : List ℕ) (left count rest : ℕ) → 0 < left → left ≤ count → left ≤ length text
     → digits (left - 1) (rest / 10) ++ take (count - (left - 1)) (drop (left - 1) (set text (left - 1) (48 + rest % 10)))
       ≡ digits left rest ++ take (count - left) (drop left text)
+unfolding digits
 digits_more text left count rest some less room =
     let j : ℕ = left - 1 in
     let next : left ≡ suc j = omega arith in

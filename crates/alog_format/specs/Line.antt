@@ -2,7 +2,7 @@
 use Rattle.std.specs.Prelude.{◌≡◌, ℕ, List, [], ◌∷◌, ◌++◌, false, if◌then◌else◌}
 use Rattle.std.specs.List.{flat_map}
 use Rattle.std.specs.Str.{byte}
-use Rattle.jiff_core.specs.declared.civil.datetime.DateTime.{DateTime}
+use Rattle.alog_format.specs.declared.civil.Civil.{Civil}
 use Rattle.alog_msg.specs.declared.message.Message.{Message}
 use Rattle.alog_pattern.specs.declared.items.Item.{Item}
 use Rattle.alog_pattern.specs.declared.items.Item.TheVariants as items
@@ -24,10 +24,10 @@ abbrev pub line_text : Shown → List Item → List ℕ
 line_text s items = flat_map (item_text s) items ++ 10 ∷ []
 
 -- what a line of the message shows where a clock shows `at`
-abbrev pub shown : Context → List ℕ → Message → DateTime → Shown
+abbrev pub shown : Context → List ℕ → Message → Civil → Shown
 shown context name message at = record { message = message; name = name; process = context.process; offset = offset_minutes context.zone; at = at }
 
 -- the bytes are the message's line
 abbrev pub IsLine : Context → List Item → List ℕ → Message → List ℕ → Type 0
 IsLine context items name message bytes =
-    (at : DateTime) × IsShownAt context.zone message.time at × (bytes ≡ line_text (shown context name message at) items)
+    (at : Civil) × IsShownAt context.zone message.time at × (bytes ≡ line_text (shown context name message at) items)

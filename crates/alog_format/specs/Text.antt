@@ -4,8 +4,7 @@ use Rattle.std.specs.Fmt.{signed_decimal}
 use Rattle.std.specs.Int.{int_div_euclid}
 use Rattle.std.specs.List.{after_last}
 use Rattle.std.specs.Str.{byte}
-use Rattle.jiff_core.specs.declared.civil.datetime.DateTime.{DateTime}
-use Rattle.jiff.specs.Words.{weekday_of}
+use Rattle.alog_format.specs.declared.civil.Civil.{Civil}
 use Rattle.alog_msg.specs.Level.{row_of}
 use Rattle.alog_msg.specs.Source.{SourceFields}
 use Rattle.alog_msg.specs.declared.message.Message.{Message}
@@ -19,86 +18,82 @@ pub record Shown : Type 0 where
   pub name : List ℕ
   pub process : ℕ
   pub offset : ℤ
-  pub at : DateTime
+  pub at : Civil
 
 -- the last k decimal digits of n
-abbrev pub digits : ℕ → ℕ → List ℕ
+unfoldable pub digits : ℕ → ℕ → List ℕ
 digits zero n = []
 digits (suc k) n = digits k (n / 10) ++ (byte "0" + n % 10) ∷ []
 
 -- a day of the week, 0 for Monday to 6 for Sunday
-abbrev pub weekday_name : ℕ → List ℕ
+unfoldable pub weekday_name : ℕ → List ℕ
 weekday_name n =
     if n == 0 then codes "Monday" else (if n == 1 then codes "Tuesday" else (if n == 2 then codes "Wednesday"
     else (if n == 3 then codes "Thursday" else (if n == 4 then codes "Friday" else (if n == 5 then codes "Saturday" else codes "Sunday")))))
 
 -- a month, 1 for January to 12 for December
-abbrev pub month_name : ℕ → List ℕ
+unfoldable pub month_name : ℕ → List ℕ
 month_name n =
     if n == 1 then codes "January" else (if n == 2 then codes "February" else (if n == 3 then codes "March"
     else (if n == 4 then codes "April" else (if n == 5 then codes "May" else (if n == 6 then codes "June"
     else (if n == 7 then codes "July" else (if n == 8 then codes "August" else (if n == 9 then codes "September"
     else (if n == 10 then codes "October" else (if n == 11 then codes "November" else codes "December"))))))))))
 
-abbrev pub short_weekday : DateTime → List ℕ
-short_weekday at = take 3 (weekday_name (weekday_of at.date))
+unfoldable pub short_weekday : Civil → List ℕ
+short_weekday at = take 3 (weekday_name at.weekday)
 
-abbrev pub short_month : DateTime → List ℕ
-short_month at = take 3 (month_name at.date.month)
-
--- The years that a message can have are 1677 to 2262.
-abbrev pub year : DateTime → ℕ
-year at = unsigned_abs at.date.year
+unfoldable pub short_month : Civil → List ℕ
+short_month at = take 3 (month_name at.month)
 
 -- midnight and noon are 12
-abbrev pub half_day_hour : ℕ → ℕ
+unfoldable pub half_day_hour : ℕ → ℕ
 half_day_hour hour = if hour % 12 == 0 then 12 else hour % 12
 
-abbrev pub half_day : ℕ → List ℕ
+unfoldable pub half_day : ℕ → List ℕ
 half_day hour = if nat_lt hour 12 then codes "AM" else codes "PM"
 
 -- HH:MM
-abbrev pub short_time : DateTime → List ℕ
-short_time at = digits 2 at.time.hour ++ codes ":" ++ digits 2 at.time.minute
+unfoldable pub short_time : Civil → List ℕ
+short_time at = digits 2 at.hour ++ codes ":" ++ digits 2 at.minute
 
 -- HH:MM:SS
-abbrev pub time : DateTime → List ℕ
-time at = short_time at ++ codes ":" ++ digits 2 at.time.second
+unfoldable pub time : Civil → List ℕ
+time at = short_time at ++ codes ":" ++ digits 2 at.second
 
 -- MM/DD/YY
-abbrev pub short_date : DateTime → List ℕ
-short_date at = digits 2 at.date.month ++ codes "/" ++ digits 2 at.date.day ++ codes "/" ++ digits 2 (year at)
+unfoldable pub short_date : Civil → List ℕ
+short_date at = digits 2 at.month ++ codes "/" ++ digits 2 at.day ++ codes "/" ++ digits 2 at.year
 
 -- as 03:35:46 PM
-abbrev pub half_day_time : DateTime → List ℕ
+unfoldable pub half_day_time : Civil → List ℕ
 half_day_time at =
-    digits 2 (half_day_hour at.time.hour) ++ codes ":" ++ digits 2 at.time.minute ++ codes ":" ++ digits 2 at.time.second
-    ++ codes " " ++ half_day at.time.hour
+    digits 2 (half_day_hour at.hour) ++ codes ":" ++ digits 2 at.minute ++ codes ":" ++ digits 2 at.second
+    ++ codes " " ++ half_day at.hour
 
 -- as Sat Feb 3 15:35:46 2024
-abbrev pub date_and_time : DateTime → List ℕ
+unfoldable pub date_and_time : Civil → List ℕ
 date_and_time at =
-    short_weekday at ++ codes " " ++ short_month at ++ codes " " ++ decimal at.date.day ++ codes " " ++ time at
-    ++ codes " " ++ digits 4 (year at)
+    short_weekday at ++ codes " " ++ short_month at ++ codes " " ++ decimal at.day ++ codes " " ++ time at
+    ++ codes " " ++ digits 4 at.year
 
 -- the sign, hours and minutes of an offset in minutes, as +02:00
 abbrev pub offset_sign : ℤ → List ℕ
 offset_sign (pos n) = codes "+"
 offset_sign (negsuc n) = codes "-"
 
-abbrev pub offset_text : ℤ → List ℕ
+unfoldable pub offset_text : ℤ → List ℕ
 offset_text minutes =
     offset_sign minutes ++ digits 2 (unsigned_abs minutes / 60) ++ codes ":" ++ digits 2 (unsigned_abs minutes % 60)
 
 -- whole seconds since the epoch, rounded down
-abbrev pub epoch : ℤ → List ℕ
+unfoldable pub epoch : ℤ → List ℕ
 epoch time = signed_decimal (int_div_euclid time (pos 1_000_000_000))
 
 -- the file after its last `/`
-abbrev pub base : List ℕ → List ℕ
+unfoldable pub base : List ℕ → List ℕ
 base file = after_last (λ b. b == byte "/") file
 
-abbrev pub location : List ℕ → SourceFields → List ℕ
+unfoldable pub location : List ℕ → SourceFields → List ℕ
 location file source = file ++ codes ":" ++ decimal source.line
 
 -- a message without a source has the empty text there
@@ -107,14 +102,14 @@ of_source text None = []
 of_source text (Some source) = text source
 
 -- a text in brackets, with a space behind them
-abbrev pub bracketed : List ℕ → List ℕ
+unfoldable pub bracketed : List ℕ → List ℕ
 bracketed text = codes "[" ++ text ++ codes "] "
 
 -- YYYY-MM-DD HH:MM:SS.mmm
-abbrev pub stamp : DateTime → List ℕ
+unfoldable pub stamp : Civil → List ℕ
 stamp at =
-    digits 4 (year at) ++ codes "-" ++ digits 2 at.date.month ++ codes "-" ++ digits 2 at.date.day ++ codes " " ++ time at
-    ++ codes "." ++ digits 3 (at.time.subsec_nanosecond / 1_000_000)
+    digits 4 at.year ++ codes "-" ++ digits 2 at.month ++ codes "-" ++ digits 2 at.day ++ codes " " ++ time at
+    ++ codes "." ++ digits 3 (at.nanosecond / 1_000_000)
 
 abbrev pub name_part : List ℕ → List ℕ
 name_part [] = []
@@ -122,12 +117,12 @@ name_part (b ∷ bs) = bracketed (b ∷ bs)
 
 -- `[YYYY-MM-DD HH:MM:SS.mmm] [name] [level] [base:line] text`, without the name where it is empty and without the
 -- place where there is no source
-abbrev pub default_text : Shown → List ℕ
+unfoldable pub default_text : Shown → List ℕ
 default_text s =
     bracketed (stamp s.at) ++ name_part s.name ++ bracketed (row_of s.message.level).name
     ++ of_source (λ source. bracketed (location (base source.file) source)) s.message.source ++ s.message.text
 
-abbrev pub flag_text : Shown → Flag → List ℕ
+unfoldable pub flag_text : Shown → Flag → List ℕ
 flag_text s flags.Text = s.message.text
 flag_text s flags.Thread = decimal s.message.thread
 flag_text s flags.Process = decimal s.process
@@ -135,23 +130,23 @@ flag_text s flags.Name = s.name
 flag_text s flags.Level = (row_of s.message.level).name
 flag_text s flags.ShortLevel = (row_of s.message.level).short
 flag_text s flags.ShortWeekday = short_weekday s.at
-flag_text s flags.Weekday = weekday_name (weekday_of s.at.date)
+flag_text s flags.Weekday = weekday_name s.at.weekday
 flag_text s flags.ShortMonth = short_month s.at
-flag_text s flags.Month = month_name s.at.date.month
+flag_text s flags.Month = month_name s.at.month
 flag_text s flags.DateTime = date_and_time s.at
-flag_text s flags.ShortYear = digits 2 (year s.at)
-flag_text s flags.Year = digits 4 (year s.at)
+flag_text s flags.ShortYear = digits 2 s.at.year
+flag_text s flags.Year = digits 4 s.at.year
 flag_text s flags.ShortDate = short_date s.at
-flag_text s flags.MonthNumber = digits 2 s.at.date.month
-flag_text s flags.Day = digits 2 s.at.date.day
-flag_text s flags.Hour = digits 2 s.at.time.hour
-flag_text s flags.HalfDayHour = digits 2 (half_day_hour s.at.time.hour)
-flag_text s flags.Minute = digits 2 s.at.time.minute
-flag_text s flags.Second = digits 2 s.at.time.second
-flag_text s flags.Milliseconds = digits 3 (s.at.time.subsec_nanosecond / 1_000_000)
-flag_text s flags.Microseconds = digits 6 (s.at.time.subsec_nanosecond / 1_000)
-flag_text s flags.Nanoseconds = digits 9 s.at.time.subsec_nanosecond
-flag_text s flags.HalfDay = half_day s.at.time.hour
+flag_text s flags.MonthNumber = digits 2 s.at.month
+flag_text s flags.Day = digits 2 s.at.day
+flag_text s flags.Hour = digits 2 s.at.hour
+flag_text s flags.HalfDayHour = digits 2 (half_day_hour s.at.hour)
+flag_text s flags.Minute = digits 2 s.at.minute
+flag_text s flags.Second = digits 2 s.at.second
+flag_text s flags.Milliseconds = digits 3 (s.at.nanosecond / 1_000_000)
+flag_text s flags.Microseconds = digits 6 (s.at.nanosecond / 1_000)
+flag_text s flags.Nanoseconds = digits 9 s.at.nanosecond
+flag_text s flags.HalfDay = half_day s.at.hour
 flag_text s flags.HalfDayTime = half_day_time s.at
 flag_text s flags.ShortTime = short_time s.at
 flag_text s flags.Time = time s.at

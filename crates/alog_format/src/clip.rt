@@ -37,6 +37,7 @@ pub(crate) fn write_signed(line: &mut LineBuf, end: usize, number: i64)
 }
 
 /// Appends the last `count` decimal digits of a number, at most nine.
+#[tactic(auto, unfolding(crate::specs::Text::digits))]
 pub(crate) fn write_digits(line: &mut LineBuf, end: usize, count: usize, number: u32)
     requires end { HasEnd line.old end }
     requires count { count ≤ 9 }

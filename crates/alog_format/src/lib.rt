@@ -10,6 +10,7 @@ mod civil;
 mod clip;
 mod context;
 mod line_buf;
+mod times;
 
 pub use context::{Context, Zone};
 pub use line_buf::{LineBuf, NoRoom};
