@@ -9,8 +9,12 @@ use Rattle.alog_pattern.specs.declared.items.Item.TheVariants as items
 use Rattle.alog_pattern.specs.Flag.{ignores_padding}
 use Rattle.alog_pattern.specs.Padding.{pad, padded}
 use Rattle.alog_format.specs.declared.context.Context.{Context}
+use Rattle.alog_format.specs.declared.flag_texts.Facts.{Facts}
 use Rattle.alog_format.specs.Civil.{IsShownAt, offset_minutes}
 use Rattle.alog_format.specs.Text.{Shown, flag_text, of_source}
+
+abbrev pub shown_by : Facts → Shown
+shown_by f = record { message = f.message.now; name = f.name.now; process = f.process; offset = f.offset; at = f.at }
 
 abbrev pub item_text : Shown → Item → List ℕ
 item_text s (items.Byte b) = b ∷ []

@@ -115,12 +115,40 @@ abbrev pub name_part : List ℕ → List ℕ
 name_part [] = []
 name_part (b ∷ bs) = bracketed (b ∷ bs)
 
+abbrev pub place_part : Option SourceFields → List ℕ
+place_part source = of_source (λ s. bracketed (location (base s.file) s)) source
+
 -- `[YYYY-MM-DD HH:MM:SS.mmm] [name] [level] [base:line] text`, without the name where it is empty and without the
 -- place where there is no source
 unfoldable pub default_text : Shown → List ℕ
 default_text s =
     bracketed (stamp s.at) ++ name_part s.name ++ bracketed (row_of s.message.level).name
-    ++ of_source (λ source. bracketed (location (base source.file) source)) s.message.source ++ s.message.text
+    ++ place_part s.message.source ++ s.message.text
+
+-- the text of a flag of the time, and the empty text for another
+unfoldable pub time_text : Civil → Flag → List ℕ
+time_text at flags.ShortWeekday = short_weekday at
+time_text at flags.Weekday = weekday_name at.weekday
+time_text at flags.ShortMonth = short_month at
+time_text at flags.Month = month_name at.month
+time_text at flags.DateTime = date_and_time at
+time_text at flags.ShortYear = digits 2 at.year
+time_text at flags.Year = digits 4 at.year
+time_text at flags.ShortDate = short_date at
+time_text at flags.MonthNumber = digits 2 at.month
+time_text at flags.Day = digits 2 at.day
+time_text at flags.Hour = digits 2 at.hour
+time_text at flags.HalfDayHour = digits 2 (half_day_hour at.hour)
+time_text at flags.Minute = digits 2 at.minute
+time_text at flags.Second = digits 2 at.second
+time_text at flags.Milliseconds = digits 3 (at.nanosecond / 1_000_000)
+time_text at flags.Microseconds = digits 6 (at.nanosecond / 1_000)
+time_text at flags.Nanoseconds = digits 9 at.nanosecond
+time_text at flags.HalfDay = half_day at.hour
+time_text at flags.HalfDayTime = half_day_time at
+time_text at flags.ShortTime = short_time at
+time_text at flags.Time = time at
+time_text at _ = []
 
 unfoldable pub flag_text : Shown → Flag → List ℕ
 flag_text s flags.Text = s.message.text
@@ -129,27 +157,6 @@ flag_text s flags.Process = decimal s.process
 flag_text s flags.Name = s.name
 flag_text s flags.Level = (row_of s.message.level).name
 flag_text s flags.ShortLevel = (row_of s.message.level).short
-flag_text s flags.ShortWeekday = short_weekday s.at
-flag_text s flags.Weekday = weekday_name s.at.weekday
-flag_text s flags.ShortMonth = short_month s.at
-flag_text s flags.Month = month_name s.at.month
-flag_text s flags.DateTime = date_and_time s.at
-flag_text s flags.ShortYear = digits 2 s.at.year
-flag_text s flags.Year = digits 4 s.at.year
-flag_text s flags.ShortDate = short_date s.at
-flag_text s flags.MonthNumber = digits 2 s.at.month
-flag_text s flags.Day = digits 2 s.at.day
-flag_text s flags.Hour = digits 2 s.at.hour
-flag_text s flags.HalfDayHour = digits 2 (half_day_hour s.at.hour)
-flag_text s flags.Minute = digits 2 s.at.minute
-flag_text s flags.Second = digits 2 s.at.second
-flag_text s flags.Milliseconds = digits 3 (s.at.nanosecond / 1_000_000)
-flag_text s flags.Microseconds = digits 6 (s.at.nanosecond / 1_000)
-flag_text s flags.Nanoseconds = digits 9 s.at.nanosecond
-flag_text s flags.HalfDay = half_day s.at.hour
-flag_text s flags.HalfDayTime = half_day_time s.at
-flag_text s flags.ShortTime = short_time s.at
-flag_text s flags.Time = time s.at
 flag_text s flags.Offset = offset_text s.offset
 flag_text s flags.Epoch = epoch s.message.time
 flag_text s flags.Percent = codes "%"
@@ -161,3 +168,4 @@ flag_text s flags.FileBase = of_source (λ source. base source.file) s.message.s
 flag_text s flags.File = of_source (λ source. source.file) s.message.source
 flag_text s flags.Line = of_source (λ source. decimal source.line) s.message.source
 flag_text s flags.Function = of_source (λ source. source.function) s.message.source
+flag_text s flag = time_text s.at flag

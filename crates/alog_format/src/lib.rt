@@ -9,7 +9,10 @@
 mod civil;
 mod clip;
 mod context;
+mod flag_texts;
 mod line_buf;
+mod names;
+mod pads;
 mod times;
 
 pub use context::{Context, Zone};
