@@ -1,3 +1,4 @@
 pub mod Clips
 pub mod Gaps
 pub mod Moves
+pub mod PaddedTexts

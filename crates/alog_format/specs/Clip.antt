@@ -15,7 +15,7 @@ HasEnd b end = (length b.bytes ≤ end) × (end ≤ b.capacity)
 
 -- how far a text may go that is padded: as far as the width where it is cut
 abbrev pub limit_of : Buffer → Padding → ℕ
-limit_of b p = length b.bytes + (if p.cut then p.width else b.capacity - length b.bytes)
+limit_of b p = if p.cut then length b.bytes + p.width else b.capacity
 
 -- the bytes from `start` on with spaces round them
 abbrev pub surrounded : Buffer → ℕ → ℕ → Side → Buffer

@@ -107,6 +107,14 @@ impl LineBuf {
         self.len == 0
     }
 
+    /// How many bytes the buffer has room for in all.
+    pub fn capacity(&self) -> usize
+        ensures value { result ≡ self.now.capacity }
+        ensures bytes_within { length self.now.bytes ≤ result }
+    {
+        self.block.len()
+    }
+
     /// How many more bytes the buffer takes.
     pub fn room(&self) -> usize
         ensures { result + length self.now.bytes ≡ self.now.capacity }

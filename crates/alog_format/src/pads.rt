@@ -13,7 +13,7 @@ use crate::line_buf::LineBuf;
 /// Appends the text of a flag, padded.
 pub(crate) fn write_padded(line: &mut LineBuf, padding: Padding, flag: Flag, facts: Facts<'_>)
     requires { length line.old.bytes
-        + length (padded_text padding.width padding.side padding.cut (flag_text (shown_by facts.entry) flag))
+        + length (padded_text padding.width padding.side padding.cut (flag_text (shown_by facts) flag))
         ≤ line.old.capacity }
     ensures { line.new
         ≡ appended line.old (padded_text padding.width padding.side padding.cut (flag_text (shown_by facts.entry) flag)) }
@@ -29,12 +29,12 @@ fn end_of(line: &LineBuf, padding: Padding) -> usize
     requires { length line.now.bytes + (if padding.cut then padding.width else 0) ≤ line.now.capacity }
     ensures { result ≡ limit_of line.now padding }
 {
-    let room = if padding.cut {
-        usize::from(padding.width)
+    let capacity = line.capacity();
+    if padding.cut {
+        line.len() + usize::from(padding.width)
     } else {
-        line.room()
-    };
-    line.len() + room
+        capacity
+    }
 }
 
 /// Pads what was written from `start` on, which is not cut.
