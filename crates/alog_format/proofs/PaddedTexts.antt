@@ -84,3 +84,13 @@ padded_is b new out p text start width e f w last =
     ∙ ap (λ n. padded_from (appended b (kept p.width p.cut text)) (length b.bytes) n p.side) f
     ∙ from_start b p.width p.side (kept p.width p.cut text)
     ∙ ap (appended b) (pad-kept p.width p.side p.cut text)
+
+-- a text for which there is room is written whole
+pub whole_end : (b : Buffer) (end : ℕ) → length b.bytes ≤ end → end ≡ b.capacity → HasEnd b end
+unfolding HasEnd
+whole_end b end le e = (le, omega arith)
+
+pub whole_is : (b new : Buffer) (text : List ℕ) (end : ℕ) → length b.bytes + length text ≤ b.capacity → end ≡ b.capacity → new ≡ clipped b end text → new ≡ appended b text
+unfolding clipped
+whole_is b new text end room e w =
+    w ∙ ap (λ (l : List ℕ). record b { bytes = l }) (take_all end (b.bytes ++ text) (omega (arith, length-append b.bytes text)))

@@ -1,5 +1,8 @@
 -- The line of a message.
-use Rattle.std.specs.Prelude.{◌≡◌, ℕ, List, [], ◌∷◌, ◌++◌, false, if◌then◌else◌}
+use Rattle.std.specs.Prelude.{◌≡◌, ℕ, ◌^◌, ◌<◌, ◌≤◌, List, [], ◌∷◌, ◌++◌, length, Option, Some, None, false, FitsSigned, if◌then◌else◌}
+use Rattle.std.specs.Int.{w64}
+use Rattle.alog_msg.specs.Source.{SourceFields}
+use Rattle.alog_format.specs.Buffer.{Buffer, appended}
 use Rattle.std.specs.List.{flat_map}
 use Rattle.std.specs.Str.{byte}
 use Rattle.alog_format.specs.declared.civil.Civil.{Civil}
@@ -35,3 +38,22 @@ shown context name message at = record { message = message; name = name; process
 abbrev pub IsLine : Context → List Item → List ℕ → Message → List ℕ → Type 0
 IsLine context items name message bytes =
     (at : Civil) × IsShownAt context.zone message.time at × (bytes ≡ line_text (shown context name message at) items)
+
+-- the fields of a source keep to their limits
+abbrev pub SourceFits : Option SourceFields → Type 0
+SourceFits None = Unit {0}
+SourceFits (Some source) = (length source.file ≤ 256) × (source.line < 2 ^ 32) × (length source.function ≤ 128)
+
+-- what keeps each flag's text within its greatest length, where texts of messages have at most limit bytes
+pub record IsShowable (limit : ℕ) (s : Shown) : Type 0 where
+  pub text : length s.message.text ≤ limit
+  pub name : length s.name ≤ 64
+  pub thread : s.message.thread < 2 ^ 64
+  pub process : s.process < 2 ^ 32
+  pub time : FitsSigned w64 s.message.time
+  pub day : s.at.day ≤ 31
+  pub source : SourceFits s.message.source
+
+-- the new buffer is the old one with the message's line behind it
+abbrev pub AppendsLine : Context → List Item → List ℕ → Message → Buffer → Buffer → Type 0
+AppendsLine context items name message old new = (bytes : List ℕ) × IsLine context items name message bytes × (new ≡ appended old bytes)

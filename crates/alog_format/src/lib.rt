@@ -11,12 +11,14 @@ mod clip;
 mod context;
 mod flag_texts;
 mod line_buf;
+mod lines;
 mod names;
 mod pads;
 mod times;
 
 pub use context::{Context, Zone};
 pub use line_buf::{LineBuf, NoRoom};
+pub use lines::format;
 
 #[cfg(test)]
 mod tests;
