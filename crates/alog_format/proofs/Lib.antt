@@ -2,3 +2,4 @@ pub mod Clips
 pub mod Gaps
 pub mod Moves
 pub mod PaddedTexts
+pub mod TextLengths
