@@ -34,10 +34,14 @@ line_text s items = flat_map (item_text s) items ++ 10 ∷ []
 abbrev pub shown : Context → List ℕ → Message → Civil → Shown
 shown context name message at = record { message = message; name = name; process = context.process; offset = offset_minutes context.zone; at = at }
 
+-- a line of the message shows this
+abbrev pub IsShown : Context → List ℕ → Message → Shown → Type 0
+IsShown context name message s = (at : Civil) × IsShownAt context.zone message.time at × (s ≡ shown context name message at)
+
 -- the bytes are the message's line
 abbrev pub IsLine : Context → List Item → List ℕ → Message → List ℕ → Type 0
 IsLine context items name message bytes =
-    (at : Civil) × IsShownAt context.zone message.time at × (bytes ≡ line_text (shown context name message at) items)
+    (s : Shown) × IsShown context name message s × (bytes ≡ line_text s items)
 
 -- the fields of a source keep to their limits
 abbrev pub SourceFits : Option SourceFields → Type 0

@@ -42,7 +42,7 @@ fn local(zone: Zone, time: i64) -> DateTime
     requires { IsZone zone }
     ensures { civil_nanos result ≡ local_nanos zone time }
 {
-    let Zone::Fixed(minutes) = zone;
+    let minutes = zone.offset_minutes();
     let timestamp = Timestamp::from_nanosecond(i128::from(time)).unwrap();
     let offset = Offset::from_seconds(i32::from(minutes) * 60).unwrap();
     offset.to_datetime(timestamp)

@@ -7,6 +7,20 @@ pub enum Zone {
     Fixed(i16),
 }
 
+impl Zone {
+    ghost use Rattle.std.specs.Prelude.{◌≡◌};
+    ghost use Rattle.alog_format.specs.Civil.{offset_minutes};
+
+    /// Minutes east of UTC.
+    pub(crate) fn offset_minutes(self) -> i16
+        ensures { result ≡ offset_minutes self }
+    {
+        match self {
+            Zone::Fixed(minutes) => minutes,
+        }
+    }
+}
+
 /// What the lines of a sink show beside their messages.
 #[derive(Clone, Copy, Debug)]
 pub struct Context {
@@ -15,4 +29,15 @@ pub struct Context {
     /// The number of the process.
     pub process: u32,
     ghost near: { IsZone zone },
+}
+
+impl Context {
+    ghost use Rattle.std.specs.Prelude.{◌≡◌};
+
+    /// The number of the process.
+    pub(crate) fn process(&self) -> u32
+        ensures { result ≡ self.now.process }
+    {
+        self.process
+    }
 }

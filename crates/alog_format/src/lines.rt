@@ -1,17 +1,18 @@
-ghost use Rattle.std.specs.Prelude.{◌≡◌, ◌+◌, ◌≤◌, ◌<◌, ◌∷◌, [], length, sum_by, false};
+ghost use Rattle.std.specs.Prelude.{◌≡◌, ◌+◌, ◌≤◌, ◌<◌, ◌∷◌, [], length, sum_by, false, ◌^◌, FitsSigned};
+ghost use Rattle.std.specs.Int.{w64};
 ghost use Rattle.std.specs.List.{flat_map};
 ghost use Rattle.alog_pattern.specs.Compiled.{longest};
 ghost use Rattle.alog_pattern.specs.Length.{item_len};
 ghost use Rattle.alog_pattern.specs.Padding.{pad};
 ghost use Rattle.alog_format.specs.Buffer.{appended};
-ghost use Rattle.alog_format.specs.Line.{shown_by, item_text, AppendsLine, IsShowable, SourceFits};
+ghost use Rattle.alog_format.specs.Line.{shown_by, item_text, AppendsLine, IsShown, IsShowable, SourceFits};
 ghost use Rattle.alog_format.specs.Text.{flag_text, of_source};
 
 use alog_msg::Message;
 use alog_pattern::{Flag, Item, Padding, Pattern, Side};
 
 use crate::civil::civil_at;
-use crate::context::{Context, Zone};
+use crate::context::Context;
 use crate::flag_texts::{Facts, write_flag};
 use crate::line_buf::LineBuf;
 use crate::pads::write_padded;
@@ -32,23 +33,44 @@ pub fn format(
     requires room { length line.old.bytes + longest pattern.now ≤ line.old.capacity }
     ensures { AppendsLine context.now pattern.now.items name.now message.now line.old line.new }
 {
-    let Zone::Fixed(offset) = context.zone;
-    let facts = Facts {
-        message,
-        name,
-        process: context.process,
-        offset,
-        at: civil_at(context.zone, message.time),
-    };
+    let facts = facts_of(context, name, message);
     write_items(line, pattern.items(), pattern.text_limit(), facts);
-    let _ = line.put(b"\n");
+    put(line, b"\n");
 }
 
-/// Appends the texts of items in order.
+/// What a line of the message shows.
+fn facts_of<'a>(context: &Context, name: &'a str, message: &'a Message) -> Facts<'a>
+    ensures shown { IsShown context.now name.now message.now (shown_by result) }
+    ensures source { SourceFits message.now.source }
+    ensures thread { message.now.thread < 2 ^ 64 }
+    ensures process { context.now.process < 2 ^ 32 }
+    ensures time { FitsSigned w64 message.now.time }
+{
+    let process = context.process();
+    // The source's own limits, which its methods tell.
+    if let Some(source) = &message.source {
+        let _file = source.file();
+        let _line = source.line();
+        let _function = source.function();
+    }
+    let _thread = message.thread;
+    let offset = context.zone.offset_minutes();
+    let at = civil_at(context.zone, message.time);
+    Facts {
+        message,
+        name,
+        process,
+        offset,
+        at,
+    }
+}
+
+/// Appends the texts of items in order, and leaves room for a newline.
 fn write_items(line: &mut LineBuf, items: &[Item], text_limit: usize, facts: Facts<'_>)
     requires showable { IsShowable text_limit (shown_by facts) }
-    requires room { length line.old.bytes + sum_by (item_len text_limit) items.now ≤ line.old.capacity }
-    ensures { line.new ≡ appended line.old (flat_map (item_text (shown_by facts.entry)) items.now) }
+    requires room { length line.old.bytes + sum_by (item_len text_limit) items.now < line.old.capacity }
+    ensures written { line.new ≡ appended line.old (flat_map (item_text (shown_by facts.entry)) items.now) }
+    ensures room_left { length line.new.bytes < line.new.capacity }
 {
     for item in items {
         write_item(line, *item, facts);
