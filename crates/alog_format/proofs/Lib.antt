@@ -1,0 +1,6 @@
+pub mod Clips
+pub mod Gaps
+pub mod ItemTexts
+pub mod Moves
+pub mod PaddedTexts
+pub mod TextLengths

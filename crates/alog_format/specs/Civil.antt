@@ -1,0 +1,36 @@
+-- What a clock of a zone shows at a time.
+use Rattle.std.specs.Prelude.{◌≡◌, ℤ, pos, neg_ℤ, unsigned_abs, ◌+ℤ◌, ◌*ℤ◌, ◌≤ℤ◌}
+use Rattle.jiff_core.specs.declared.civil.datetime.DateTime.{DateTime}
+use Rattle.jiff.specs.Words.{weekday_of, civil_nanos, nanos_of_seconds}
+use Rattle.alog_format.specs.declared.civil.Civil.{Civil}
+use Rattle.alog_format.specs.declared.context.Zone.{Zone}
+use Rattle.alog_format.specs.declared.context.Zone.TheVariants.{Fixed}
+
+-- minutes east of UTC
+abbrev pub offset_minutes : Zone → ℤ
+offset_minutes (Fixed minutes) = minutes
+
+-- less than a day, either way
+abbrev pub IsZone : Zone → Type 0
+IsZone zone = (neg_ℤ (pos 1439) ≤ℤ offset_minutes zone) × (offset_minutes zone ≤ℤ pos 1439)
+
+-- the fields of a date and a time of day; the years that a message can have are 1677 to 2262
+abbrev pub fields : DateTime → Civil
+fields at = record {
+  year = unsigned_abs at.date.year;
+  month = at.date.month;
+  day = at.date.day;
+  weekday = weekday_of at.date;
+  hour = at.time.hour;
+  minute = at.time.minute;
+  second = at.time.second;
+  nanosecond = at.time.subsec_nanosecond;
+}
+
+-- nanoseconds from 1970-01-01 00:00:00 on a clock of the zone, at a time in nanoseconds since the epoch
+abbrev pub local_nanos : Zone → ℤ → ℤ
+local_nanos zone time = time +ℤ nanos_of_seconds (offset_minutes zone *ℤ pos 60)
+
+-- a clock of the zone shows this at the time
+abbrev pub IsShownAt : Zone → ℤ → Civil → Type 0
+IsShownAt zone time civil = (at : DateTime) × (civil_nanos at ≡ local_nanos zone time) × (civil ≡ fields at)

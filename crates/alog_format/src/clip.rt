@@ -1,0 +1,56 @@
+ghost use Rattle.std.specs.Prelude.{◌≡◌, ◌≤◌, decimal};
+ghost use Rattle.std.specs.Fmt.{signed_decimal};
+ghost use Rattle.alog_format.specs.Clip.{clipped, HasEnd};
+ghost use Rattle.alog_format.specs.Text.{digits};
+
+use itoa::Buffer;
+
+use crate::line_buf::LineBuf;
+
+/// Appends the bytes as far as the end.
+#[tactic(auto, unfolding(crate::specs::Clip::clipped, crate::specs::Clip::HasEnd))]
+pub(crate) fn write(line: &mut LineBuf, end: usize, bytes: &[u8])
+    requires { HasEnd line.old end }
+    ensures written { line.new ≡ clipped line.old end bytes.now }
+    ensures ends { HasEnd line.new end }
+{
+    let count = (end - line.len()).min(bytes.len());
+    let _ = line.put(&bytes[..count]);
+}
+
+/// Appends a number in decimal.
+pub(crate) fn write_decimal(line: &mut LineBuf, end: usize, number: u64)
+    requires { HasEnd line.old end }
+    ensures written { line.new ≡ clipped line.old end (decimal number) }
+    ensures ends { HasEnd line.new end }
+{
+    write(line, end, Buffer::new().format(number).as_bytes());
+}
+
+/// Appends a signed number in decimal.
+pub(crate) fn write_signed(line: &mut LineBuf, end: usize, number: i64)
+    requires { HasEnd line.old end }
+    ensures written { line.new ≡ clipped line.old end (signed_decimal number) }
+    ensures ends { HasEnd line.new end }
+{
+    write(line, end, Buffer::new().format(number).as_bytes());
+}
+
+/// Appends the last `count` decimal digits of a number, at most nine.
+#[tactic(auto, unfolding(crate::specs::Text::digits))]
+pub(crate) fn write_digits(line: &mut LineBuf, end: usize, count: usize, number: u32)
+    requires end { HasEnd line.old end }
+    requires count { count ≤ 9 }
+    ensures written { line.new ≡ clipped line.old end (digits count number) }
+    ensures ends { HasEnd line.new end }
+{
+    let mut text = [b'0'; 9];
+    let mut rest = number;
+    let mut left = count;
+    while 0 < left {
+        left -= 1;
+        text[left] = b'0' + (rest % 10) as u8;
+        rest /= 10;
+    }
+    write(line, end, &text[..count]);
+}

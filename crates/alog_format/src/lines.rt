@@ -1,0 +1,131 @@
+ghost use Rattle.std.specs.Prelude.{◌≡◌, ◌+◌, ◌≤◌, ◌<◌, ◌∷◌, [], length, sum_by, false, ◌^◌, FitsSigned};
+ghost use Rattle.std.specs.Int.{w64};
+ghost use Rattle.std.specs.List.{flat_map};
+ghost use Rattle.alog_pattern.specs.Compiled.{longest};
+ghost use Rattle.alog_pattern.specs.Length.{item_len};
+ghost use Rattle.alog_pattern.specs.Padding.{pad};
+ghost use Rattle.alog_format.specs.Buffer.{appended};
+ghost use Rattle.alog_format.specs.Line.{shown_by, item_text, AppendsLine, IsShown, IsShowable, SourceFits};
+ghost use Rattle.alog_format.specs.Text.{flag_text, of_source};
+
+use alog_msg::Message;
+use alog_pattern::{Flag, Item, Padding, Pattern, Side};
+
+use crate::civil::civil_at;
+use crate::context::Context;
+use crate::flag_texts::{Facts, write_flag};
+use crate::line_buf::LineBuf;
+use crate::pads::write_padded;
+
+/// Appends the line of a message: the texts of the pattern's items in order, and a newline.
+///
+/// The buffer has room for the pattern's longest line, the text keeps to the pattern's limit, and the name of the
+/// logger has at most 64 bytes.
+pub fn format(
+    pattern: &Pattern,
+    context: &Context,
+    name: &str,
+    message: &Message,
+    line: &mut LineBuf,
+)
+    requires text { length message.now.text ≤ pattern.now.text_limit }
+    requires name { length name.now ≤ 64 }
+    requires room { length line.old.bytes + longest pattern.now ≤ line.old.capacity }
+    ensures { AppendsLine context.now pattern.now.items name.now message.now line.old line.new }
+{
+    let facts = facts_of(context, name, message);
+    write_items(line, pattern.items(), pattern.text_limit(), facts);
+    put(line, b"\n");
+}
+
+/// What a line of the message shows.
+fn facts_of<'a>(context: &Context, name: &'a str, message: &'a Message) -> Facts<'a>
+    ensures shown { IsShown context.now name.now message.now (shown_by result) }
+    ensures source { SourceFits message.now.source }
+    ensures thread { message.now.thread < 2 ^ 64 }
+    ensures process { context.now.process < 2 ^ 32 }
+    ensures time { FitsSigned w64 message.now.time }
+{
+    let process = context.process();
+    // The source's own limits, which its methods tell.
+    if let Some(source) = &message.source {
+        let _file = source.file();
+        let _line = source.line();
+        let _function = source.function();
+    }
+    let _thread = message.thread;
+    let offset = context.zone.offset_minutes();
+    let at = civil_at(context.zone, message.time);
+    Facts {
+        message,
+        name,
+        process,
+        offset,
+        at,
+    }
+}
+
+/// Appends the texts of items in order, and leaves room for a newline.
+fn write_items(line: &mut LineBuf, items: &[Item], text_limit: usize, facts: Facts<'_>)
+    requires showable { IsShowable text_limit (shown_by facts) }
+    requires room { length line.old.bytes + sum_by (item_len text_limit) items.now < line.old.capacity }
+    ensures written { line.new ≡ appended line.old (flat_map (item_text (shown_by facts.entry)) items.now) }
+    ensures room_left { length line.new.bytes < line.new.capacity }
+{
+    for item in items {
+        write_item(line, *item, facts);
+    }
+}
+
+/// Appends the text of an item.
+fn write_item(line: &mut LineBuf, item: Item, facts: Facts<'_>)
+    requires { length line.old.bytes + length (item_text (shown_by facts) item) ≤ line.old.capacity }
+    ensures { line.new ≡ appended line.old (item_text (shown_by facts.entry) item) }
+{
+    match item {
+        Item::Byte(byte) => put(line, &[byte]),
+        Item::Flag(flag, Some(padding)) if !flag.ignores_padding() => {
+            write_padded(line, padding, flag, facts)
+        }
+        Item::Flag(flag, _) => write_whole(line, flag, facts),
+        Item::Unknown(byte) => put(line, &[b'%', byte]),
+        Item::Function { width, side, next } => {
+            write_function(line, width, side, facts);
+            put(line, &[next]);
+        }
+    }
+}
+
+/// Appends the function of the source, padded and not cut.
+#[tactic(auto, unfolding(crate::specs::Text::flag_text))]
+fn write_function(line: &mut LineBuf, width: u8, side: Side, facts: Facts<'_>)
+    requires { length line.old.bytes
+        + length (pad width side false (of_source (λ source. source.function) facts.message.now.source))
+        ≤ line.old.capacity }
+    ensures { line.new
+        ≡ appended line.old (pad width side false (of_source (λ source. source.function) facts.entry.message.now.source)) }
+{
+    let padding = Padding {
+        width,
+        side,
+        cut: false,
+    };
+    write_padded(line, padding, Flag::Function, facts);
+}
+
+/// Appends bytes for which there is room.
+fn put(line: &mut LineBuf, bytes: &[u8])
+    requires { length line.old.bytes + length bytes.now ≤ line.old.capacity }
+    ensures { line.new ≡ appended line.old bytes.now }
+{
+    let _ = line.put(bytes);
+}
+
+/// Appends the text of a flag for which there is room.
+fn write_whole(line: &mut LineBuf, flag: Flag, facts: Facts<'_>)
+    requires { length line.old.bytes + length (flag_text (shown_by facts) flag) ≤ line.old.capacity }
+    ensures { line.new ≡ appended line.old (flag_text (shown_by facts.entry) flag) }
+{
+    let end = line.capacity();
+    write_flag(line, end, flag, facts);
+}

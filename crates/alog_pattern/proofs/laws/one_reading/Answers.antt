@@ -1,0 +1,5 @@
+use Rattle.alog_pattern.proofs.Readings.{one_reading}
+use Rattle.alog_pattern.proofs.laws.one_reading.Goals as goal
+
+pub returns : goal.returns
+returns c = one_reading
