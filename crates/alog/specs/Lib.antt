@@ -1,3 +1,5 @@
 pub mod Status
 pub mod Words
 pub mod Replays
+pub mod LineFault
+pub mod Line

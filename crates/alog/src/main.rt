@@ -5,7 +5,9 @@
 //! error each fault has. `main` hands `run` the arguments and the standard streams.
 #![tactic(auto)]
 
+mod line;
 mod program;
+mod request;
 mod status;
 #[cfg(test)]
 mod tests;

@@ -1,16 +1,20 @@
 //! The whole program over any reader and two writers.
-ghost use Rattle.std.specs.Prelude.{◌≡◌, ◌≤◌, ◌⊎◌, map};
-ghost use Rattle.std.specs.Io.KnownBytes.{Keeps};
+ghost use Rattle.std.specs.Prelude.{◌≡◌, ◌≤◌, ◌⊎◌, map, OnOk};
+ghost use Rattle.std.specs.Io.KnownBytes.{Appends, Keeps};
+ghost use Rattle.alog.specs.Line.{WritesLineOf};
 ghost use Rattle.alog.specs.Replays.{Replays};
 ghost use Rattle.alog.specs.Status.{status_of};
 ghost use Rattle.alog.specs.Words.{AsksReplay};
 
+use crate::line::line_of;
+use crate::request::{LineRequest, Request};
 use crate::status::{number_of, status_of};
-use crate::words::{Request, read};
+use crate::words::{WordsFault, read};
 use alog_replay::{ReplayFault, replay};
 use clap::error::ErrorKind;
 use std::alloc::Global;
 use std::convert::AsStr;
+use std::io;
 use std::io::{Read, Write};
 
 /// Runs the program on these words, of which the first is its own name, and answers its exit status: 0 where all was
@@ -32,15 +36,61 @@ pub fn run<R: AllocGlobal, S: AsStr, I: Read, O: Write, E: Write>(
 {
     match read(rt.alloc(), words) {
         Ok(Request::Replay) => replay_command(rt.alloc(), input, output, errors),
-        Err(error) if !error.use_stderr() => help(&error, output, errors),
-        Err(error) if error.kind() == ErrorKind::OutOfMemory => {
-            fail(ReplayFault::OutOfMemory, errors)
-        }
-        Err(error) => {
-            let _ = write!(errors, "{error}");
+        Ok(Request::Format(request)) => format_command(rt.alloc(), &request, output, errors),
+        Err(WordsFault::Unreadable(name)) => {
+            let _ = writeln!(errors, "alog: the value of --{name} cannot be read");
             1
         }
+        Err(WordsFault::Clap(error)) => explain(&error, output, errors),
     }
+}
+
+/// Says what `clap` says: help and the version on the output, and usage on standard error.
+fn explain<O: Write, E: Write>(error: &clap::Error, output: &mut O, errors: &mut E) -> u8
+    ensures status { result ≤ 4 }
+    ensures usage { result ≡ 1 → Keeps (O.contents output.old) (O.contents output.new) }
+{
+    if !error.use_stderr() {
+        return help(error, output, errors);
+    }
+    if error.kind() == ErrorKind::OutOfMemory {
+        return fail(ReplayFault::OutOfMemory, errors);
+    }
+    let _ = write!(errors, "{error}");
+    1
+}
+
+/// `alog format`.
+fn format_command<O: Write, E: Write>(
+    alloc: Global,
+    request: &LineRequest<'_>,
+    output: &mut O,
+    errors: &mut E,
+) -> u8
+    ensures status { (result ≡ 0) ⊎ ((2 ≤ result) × (result ≤ 4)) }
+    ensures line { result ≡ 0 → WritesLineOf request.now (O.contents output.old) (O.contents output.new) }
+    ensures refused { result ≡ 2 → Keeps (O.contents output.old) (O.contents output.new) }
+{
+    let line = match line_of(alloc, request) {
+        Ok(line) => line,
+        Err(fault) => {
+            let number = fault.number();
+            let _ = writeln!(errors, "alog: refused {number}");
+            return fault.status();
+        }
+    };
+    match write_out(output, line.as_slice()) {
+        Ok(()) => 0,
+        Err(_) => fail(ReplayFault::WriteFault, errors),
+    }
+}
+
+/// Writes all these bytes, and flushes.
+fn write_out<O: Write>(output: &mut O, bytes: &[u8]) -> io::Result<()>
+    ensures { OnOk result (Appends (O.contents output.old) (O.contents output.new) bytes.now) }
+{
+    output.write_all(bytes)?;
+    output.flush()
 }
 
 /// `alog replay`.

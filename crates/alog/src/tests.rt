@@ -283,6 +283,120 @@ fn each_write_failing(rt: HostRuntime) {
     }
 }
 
+/// Runs `alog format` on these words, and checks its status, what it prints, and its line on standard error.
+fn formats<R: AllocGlobal + Abort>(rt: &R, words: &[&str], status: u8, printed: &str, error: &str) {
+    let mut input = b"".as_slice();
+    let mut output = Vec::new(rt.alloc());
+    let mut errors = Vec::new(rt.alloc());
+    let found = run(rt, words, &mut input, &mut output, &mut errors);
+    assert_eq!(rt; found, status);
+    assert!(rt; output.as_slice() == printed.as_bytes());
+    assert!(rt; errors.as_slice() == error.as_bytes() || error == "..");
+}
+
+#[test]
+fn lines(rt: HostRuntime) {
+    let words = ["alog", "format", "%=5L|%-3!n|", "x", "--name", "abcdef"];
+    formats(&rt, words.as_slice(), 0, "  I  |abc|\n", "");
+    let words = [
+        "alog",
+        "format",
+        "[%Y-%m-%d %T.%e] [%l] %v",
+        "hello",
+        "--time=1706974546123000000",
+        "--offset=60",
+    ];
+    formats(
+        &rt,
+        words.as_slice(),
+        0,
+        "[2024-02-03 16:35:46.123] [info] hello\n",
+        "",
+    );
+    let words = ["alog", "format", "%Y-%m-%d %T.%F %E", "", "--time=-1"];
+    formats(
+        &rt,
+        words.as_slice(),
+        0,
+        "1969-12-31 23:59:59.999999999 -1\n",
+        "",
+    );
+    let words = [
+        "alog",
+        "format",
+        "%t %P %L %@ %! %v",
+        "t",
+        "--level",
+        "err",
+        "--thread",
+        "7",
+        "--process",
+        "9",
+        "--file",
+        "a/b.rs",
+        "--line",
+        "12",
+    ];
+    formats(&rt, words.as_slice(), 0, "7 9 E a/b.rs:12  t\n", "");
+    let words = ["alog", "format", "[%6!]", "x", "--function", "main"];
+    formats(&rt, words.as_slice(), 0, "[  main]\n", "");
+    let words = ["alog", "format", "%+", "--", "-x"];
+    formats(
+        &rt,
+        words.as_slice(),
+        0,
+        "[1970-01-01 00:00:00.000] [info] -x\n",
+        "",
+    );
+}
+
+#[test]
+fn refused_words(rt: HostRuntime) {
+    for words in [
+        ["alog", "format", "%v", "x", "--time=1x"],
+        ["alog", "format", "%v", "x", "--time=9223372036854775808"],
+        ["alog", "format", "%v", "x", "--time=+1"],
+        ["alog", "format", "%v", "x", "--offset=1440"],
+        ["alog", "format", "%v", "x", "--offset=-1440"],
+        ["alog", "format", "%v", "x", "--level=Info"],
+        ["alog", "format", "%v", "x", "--thread=-1"],
+        ["alog", "format", "%v", "x", "--process=4294967296"],
+        ["alog", "format", "%v", "x", "--line=x"],
+        ["alog", "format", "%v", "x", "--previous=0"],
+        ["alog", "format", "%v", "x", "y"],
+    ] {
+        formats(&rt, words.as_slice(), 1, "", "..");
+    }
+    formats(&rt, ["alog", "format", "%v"].as_slice(), 1, "", "..");
+}
+
+#[test]
+fn refused_lines_of_format(rt: HostRuntime) -> Result<(), Fail> {
+    let alloc = rt.alloc();
+    let pattern = long(alloc, "", 257)?;
+    let text = long(alloc, "", 2_049)?;
+    let name = long(alloc, "", 65)?;
+    let (long_pattern, long_text) = (pattern.as_str(), text.as_str());
+    let long_name = name.as_str();
+    let wide = "%v%v%v%v%v%v%v%v%v%v%v%v%v%v%v%v%v%v%v%v%v%v%v%v%v%v%v%v%v%v%v%v";
+    for (pattern, text, name, error) in [
+        (long_pattern, long_text, long_name, "alog: refused 17\n"),
+        (wide, long_text, long_name, "alog: refused 18\n"),
+        ("%v", long_text, long_name, "alog: refused 2\n"),
+        ("%v", "x", long_name, "alog: refused 3\n"),
+    ] {
+        let words = ["alog", "format", pattern, text, "--name", name];
+        formats(&rt, words.as_slice(), 2, "", error);
+    }
+    let file = long(alloc, "", 257)?;
+    let words = ["alog", "format", "%v", "x", "--file", file.as_str()];
+    formats(&rt, words.as_slice(), 2, "", "alog: refused 3\n");
+    let function = long(alloc, "", 129)?;
+    let words = ["alog", "format", "%v", "x", "--function", function.as_str()];
+    formats(&rt, words.as_slice(), 2, "", "alog: refused 3\n");
+    Ok(())
+}
+
 /// Runs the program on these words, with nothing to read, and checks the status and which stream has text.
 fn says<R: AllocGlobal + Abort>(
     rt: &R,

@@ -1,36 +1,203 @@
 //! The command line.
-ghost use Rattle.std.specs.Prelude.{◌≡◌, IfErr, map};
-ghost use Rattle.clap.specs.Words.{kind_of};
+ghost use Rattle.std.specs.Prelude.{◌≡◌, map, true, Ok};
 ghost use Rattle.alog.specs.Words.{AsksReplay};
+ghost use Rattle.alog.specs.declared.request.Request.{Request};
 
+use crate::request::{LineRequest, Request};
+use alog_format::{Context, Zone};
+use alog_msg::{Level, SourceRef};
 use clap::error::ErrorKind;
-use clap::{Command, Error};
-use std::alloc::Global;
+use clap::{Arg, ArgMatches, Command, Error};
+use std::alloc::{AllocError, Global};
 use std::convert::AsStr;
+use std::str::FromStr;
 
-/// What the command line asks for.
-#[derive(Clone, Copy, Debug, PartialEq, Eq)]
-pub enum Request {
-    /// `alog replay`: the script on standard input.
-    Replay,
+/// The most minutes that an offset is from UTC, either way.
+const OFFSET_MAX: i16 = 1439;
+
+/// Why a command line asks for nothing.
+#[derive(Debug, Drop)]
+pub enum WordsFault {
+    /// What `clap` says: help, the version, usage, or that there is no memory.
+    Clap(Error),
+    /// The value of this option cannot be read, or lies outside its limits.
+    Unreadable(&'static str),
+}
+
+impl From<Error> for WordsFault {
+    fn from(error: Error) -> WordsFault {
+        WordsFault::Clap(error)
+    }
+}
+
+impl From<AllocError> for WordsFault {
+    fn from(error: AllocError) -> WordsFault {
+        WordsFault::Clap(Error::from(error))
+    }
 }
 
 /// Reads the command line, the program's name first.
 ///
-/// `alog replay` is read, whatever name the program was called by, unless memory runs out.
-pub fn read<'a, S: AsStr>(alloc: Global, words: &'a [S]) -> Result<Request, Error>
-    ensures { AsksReplay (map S.text words.entry.now) → IfErr result (λ e. kind_of e ≡ ErrorKind.OutOfMemory) }
+/// `alog replay` alone needs no parser: it is read whatever name the program was called by.
+pub fn read<'a, S: AsStr>(alloc: Global, words: &'a [S]) -> Result<Request<'a>, WordsFault>
+    ensures { AsksReplay (map S.text words.entry.now) → result ≡ Ok Request.Replay }
 {
+    if is_replay(words) {
+        return Ok(Request::Replay);
+    }
+    let matches = alog(alloc)?.try_get_matches_from(words)?;
+    match matches.subcommand_matches("format") {
+        Some(format) => Ok(Request::Format(line_request(format)?)),
+        None => Ok(Request::Replay),
+    }
+}
+
+/// Whether the words are `alog replay`.
+fn is_replay<S: AsStr>(words: &[S]) -> bool
+    ensures { AsksReplay (map S.text words.now) → result ≡ true }
+{
+    match words {
+        [_, word] => word.as_str() == "replay",
+        _ => false,
+    }
+}
+
+fn alog<'a>(alloc: Global) -> Result<Command<'a>, AllocError> {
     let replay = Command::new(alloc, "replay")
         .about("Replay a schedule script from standard input")
         .long_about(REPLAY_HELP);
-    let alog = Command::new(alloc, "alog")
+    Command::new(alloc, "alog")
         .version("0.1.0")
         .about("The back end of an asynchronous logger, step by step")
         .subcommand_required(true)
-        .subcommand(replay)?;
-    alog.try_get_matches_from(words)?;
-    Ok(Request::Replay)
+        .subcommand(replay)?
+        .subcommand(format(alloc)?)
+}
+
+fn format<'a>(alloc: Global) -> Result<Command<'a>, AllocError> {
+    let pattern = Arg::new(alloc, "PATTERN").required(true).help(
+        "A pattern in the manner of spdlog, as '[%Y-%m-%d %T.%e] [%l] %v'",
+    );
+    let text = Arg::new(alloc, "TEXT")
+        .required(true)
+        .help("The text of the message, at most 2048 bytes");
+    Command::new(alloc, "format")
+        .about("Print the line of a message by a pattern")
+        .arg(pattern)?
+        .arg(text)?
+        .arg(option(
+            alloc,
+            "time",
+            "N",
+            "Nanoseconds since 1970, as --time=-1 where negative [0]",
+        ))?
+        .arg(option(
+            alloc,
+            "offset",
+            "N",
+            "Minutes east of UTC, -1439 to 1439 [0]",
+        ))?
+        .arg(option(
+            alloc,
+            "name",
+            "N",
+            "The name of the logger, at most 64 bytes [none]",
+        ))?
+        .arg(option(
+            alloc,
+            "level",
+            "L",
+            "trace, debug, info, warning, error, critical or off [info]",
+        ))?
+        .arg(option(alloc, "thread", "N", "The number of the thread [0]"))?
+        .arg(option(alloc, "process", "N", "The number of the process [0]"))?
+        .arg(option(
+            alloc,
+            "file",
+            "F",
+            "The file of the source, at most 256 bytes",
+        ))?
+        .arg(option(alloc, "line", "N", "The line in that file [0]"))?
+        .arg(option(
+            alloc,
+            "function",
+            "F",
+            "The function of the source, at most 128 bytes",
+        ))
+}
+
+fn option<'a>(alloc: Global, name: &'a str, value: &'a str, help: &'a str) -> Arg<'a> {
+    Arg::new(alloc, name)
+        .long(name)
+        .value_name(value)
+        .help(help)
+}
+
+/// What `alog format` is asked for. The options are read in the order in which help lists them.
+fn line_request<'a>(matches: &ArgMatches<'a>) -> Result<LineRequest<'a>, WordsFault> {
+    let time = number(matches, "time", 0)?;
+    let offset = number(matches, "offset", 0)?;
+    if offset < -OFFSET_MAX || offset > OFFSET_MAX {
+        return Err(WordsFault::Unreadable("offset"));
+    }
+    let level = match matches.get_str("level") {
+        Some(text) => Level::read(text).ok_or(WordsFault::Unreadable("level"))?,
+        None => Level::Info,
+    };
+    let thread = number(matches, "thread", 0)?;
+    let process = number(matches, "process", 0)?;
+    let line = number(matches, "line", 0)?;
+    Ok(LineRequest {
+        pattern: text(matches, "PATTERN"),
+        text: text(matches, "TEXT"),
+        name: text(matches, "name"),
+        level,
+        time,
+        thread,
+        source: source(matches, line),
+        context: Context {
+            zone: Zone::Fixed(offset),
+            process,
+        },
+    })
+}
+
+/// The source, where its file or its function is given.
+fn source<'a>(matches: &ArgMatches<'a>, line: u32) -> Option<SourceRef<'a>> {
+    if matches.get_str("file").is_none() && matches.get_str("function").is_none() {
+        return None;
+    }
+    Some(SourceRef {
+        file: text(matches, "file"),
+        line,
+        function: text(matches, "function"),
+    })
+}
+
+/// The value of an argument, or the empty text.
+fn text<'a>(matches: &ArgMatches<'a>, name: &str) -> &'a str {
+    match matches.get_str(name) {
+        Some(text) => text,
+        None => "",
+    }
+}
+
+/// The value of an option as a decimal number without `+`, or this one where the option is not there.
+fn number<T: FromStr + Drop>(
+    matches: &ArgMatches<'_>,
+    name: &'static str,
+    absent: T,
+) -> Result<T, WordsFault>
+where
+    T::Err: Drop,
+{
+    let Some(text) = matches.get_str(name) else {
+        return Ok(absent);
+    };
+    match text.parse::<T>() {
+        Ok(number) if !text.starts_with('+') => Ok(number),
+        _ => Err(WordsFault::Unreadable(name)),
+    }
 }
 
 const REPLAY_HELP: &str =

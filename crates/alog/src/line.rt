@@ -1,0 +1,133 @@
+//! `alog format`: the line of a message, by a pattern.
+ghost use Rattle.std.specs.Prelude.{◌≡◌, ◌↔◌, ◌<◌, ◌≤◌, IfOk, IsErrOf, length};
+ghost use Rattle.alog.specs.LineFault.{number_of, status_of};
+ghost use Rattle.alog.specs.Line.{IsLineOf, IsPatternTooLong, IsLineTooLong, IsTextTooLong, IsFieldTooLong};
+
+use crate::request::LineRequest;
+use alog_format::{LineBuf, format};
+use alog_msg::{Message, MessageError};
+use alog_pattern::{Pattern, PatternError};
+use std::alloc::{AllocError, Global};
+use thiserror::Error;
+
+/// The most bytes that the text has.
+const TEXT_LIMIT: usize = 2048;
+
+/// The most bytes that the name has.
+const NAME_MAX: usize = 64;
+
+/// Why no line was made.
+#[derive(Clone, Copy, Debug, PartialEq, Eq, Error)]
+pub enum LineFault {
+    #[error("the pattern has more than 256 bytes")]
+    PatternTooLong,
+    #[error("a line of the pattern may have more than 65,536 bytes")]
+    LineTooLong,
+    #[error("the text has more than 2,048 bytes")]
+    TextTooLong,
+    #[error("the name has more than 64 bytes, the file more than 256 or the function more than 128")]
+    FieldTooLong,
+    #[error("out of memory")]
+    OutOfMemory,
+}
+
+impl From<PatternError> for LineFault {
+    ghost use Rattle.std.specs.Prelude.{◌≡◌};
+    ghost use Rattle.alog.specs.LineFault.{of_pattern};
+
+    ghost from_gives = { λ p e. e ≡ of_pattern p };
+
+    fn from(error: PatternError) -> LineFault {
+        match error {
+            PatternError::PatternTooLong => LineFault::PatternTooLong,
+            PatternError::LineTooLong => LineFault::LineTooLong,
+            PatternError::OutOfMemory => LineFault::OutOfMemory,
+        }
+    }
+}
+
+impl From<MessageError> for LineFault {
+    ghost use Rattle.std.specs.Prelude.{◌≡◌};
+    ghost use Rattle.alog.specs.LineFault.{of_message};
+
+    ghost from_gives = { λ m e. e ≡ of_message m };
+
+    fn from(error: MessageError) -> LineFault {
+        match error {
+            MessageError::TextTooLong => LineFault::TextTooLong,
+            MessageError::FieldTooLong => LineFault::FieldTooLong,
+            MessageError::OutOfMemory => LineFault::OutOfMemory,
+        }
+    }
+}
+
+impl From<AllocError> for LineFault {
+    ghost use Rattle.std.specs.Prelude.{◌≡◌};
+    ghost use Rattle.alog.specs.declared.line.LineFault.TheVariants.{OutOfMemory};
+
+    ghost from_gives = { λ _ e. e ≡ OutOfMemory };
+
+    fn from(_error: AllocError) -> LineFault {
+        LineFault::OutOfMemory
+    }
+}
+
+impl LineFault {
+    /// The number of the refusal, as `docs/FORMATS.md` has them.
+    pub fn number(self) -> u8
+        ensures { result ≡ number_of self }
+    {
+        match self {
+            LineFault::OutOfMemory => 1,
+            LineFault::TextTooLong => 2,
+            LineFault::FieldTooLong => 3,
+            LineFault::PatternTooLong => 17,
+            LineFault::LineTooLong => 18,
+        }
+    }
+
+    /// The program's exit status: 4 for want of memory, else 2.
+    pub fn status(self) -> u8
+        ensures { result ≡ status_of self }
+    {
+        match self {
+            LineFault::OutOfMemory => 4,
+            _ => 2,
+        }
+    }
+}
+
+/// The line that is asked for, with its newline. The refusals come in the order of the pattern, the text, and the name,
+/// file and function.
+pub fn line_of(alloc: Global, request: &LineRequest<'_>) -> Result<LineBuf, LineFault>
+    ensures made { IfOk result (λ line. IsLineOf request.now line.bytes) }
+    ensures pattern { IsErrOf result LineFault.PatternTooLong ↔ IsPatternTooLong request.now }
+    ensures line { IsErrOf result LineFault.LineTooLong ↔ IsLineTooLong request.now }
+    ensures text { IsErrOf result LineFault.TextTooLong → IsTextTooLong request.now }
+    ensures field { IsErrOf result LineFault.FieldTooLong → IsFieldTooLong request.now }
+{
+    let pattern = Pattern::compile(alloc, request.pattern.as_bytes(), TEXT_LIMIT)?;
+    let time = request.time;
+    let message = Message::new(
+        alloc,
+        TEXT_LIMIT,
+        0,
+        request.level,
+        time,
+        request.thread,
+        request.text,
+        request.source,
+    )?;
+    if request.name.len() > NAME_MAX {
+        return Err(LineFault::FieldTooLong);
+    }
+    let mut line = LineBuf::new(alloc, pattern.longest())?;
+    format(
+        &pattern,
+        &request.context,
+        request.name,
+        &message,
+        &mut line,
+    );
+    Ok(line)
+}

@@ -1,0 +1,28 @@
+//! What the command line asks for.
+use alog_format::Context;
+use alog_msg::{Level, SourceRef};
+
+/// A line to be made of a message, by a pattern.
+#[derive(Clone, Copy, Debug)]
+pub struct LineRequest<'a> {
+    pub pattern: &'a str,
+    pub text: &'a str,
+    /// The name of the message's logger.
+    pub name: &'a str,
+    pub level: Level,
+    /// Nanoseconds since the epoch.
+    pub time: i64,
+    pub thread: u64,
+    pub source: Option<SourceRef<'a>>,
+    /// The zone and the process.
+    pub context: Context,
+}
+
+/// What the command line asks for.
+#[derive(Clone, Copy, Debug)]
+pub enum Request<'a> {
+    /// `alog replay`: the script on standard input.
+    Replay,
+    /// `alog format`: a line.
+    Format(LineRequest<'a>),
+}
