@@ -65,7 +65,7 @@ keeps_claim {T} n q a b t y some s is =
     let c : Cell T = record { ticket = t; mark = Claimed; item = y; actor = a } in
     let none : cell_of t q.cells ≡ None = next_is_unlisted n q t s (omega (arith, is)) in
     let stays : (p : ℕ) (m : Mark) (x : T) (w : ℕ) → HasCell q.cells p m x w → HasCell (q.cells ++ c ∷ []) p m x w =
-      λ p m x w h. cell_of-append_other p q.cells c (λ e. let bad = subst (λ (u : ℕ). cell_of u q.cells ≡ None) e none in absurd (cc)) ∙ h
+    λ p m x w h. cell_of-append_other p q.cells c (λ e. let bad = subst (λ (u : ℕ). cell_of u q.cells ≡ None) e none in absurd (cc)) ∙ h
     in
     record {
       next = omega arith;

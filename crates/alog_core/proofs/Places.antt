@@ -1,5 +1,5 @@
 -- The index of a ticket's cell in a plain list, and what stands there.
-use Rattle.std.proofs.Common.{◌≡◌, ℕ, suc,  ◌+◌, ◌-◌, ◌<◌, ◌≤◌, ◌==◌, ◌||◌, ltb, leb, cond, not, Bool, true, false, Option, None, Some, List, [], ◌∷◌, ◌++◌, length, get_or, set, take, drop, refl, sym, ap, subst, ◌∙◌, arith}
+use Rattle.std.proofs.Common.{◌≡◌, ℕ, suc, ◌+◌, ◌-◌, ◌<◌, ◌≤◌, ◌==◌, ◌||◌, ltb, leb, cond, not, Bool, true, false, Option, None, Some, List, [], ◌∷◌, ◌++◌, length, get_or, set, take, drop, refl, sym, ap, subst, ◌∙◌, arith}
 use Rattle.std.specs.List.{position, position_or_len, prefix_len, remove, list_any}
 use Rattle.std.specs.Option.{option_map, is_some}
 use Rattle.std.proofs.lemmas.Bool.Decides.{nat_tests}
@@ -23,19 +23,19 @@ one_more n = omega arith
 pub at_place : {T : Type 0} (t i : ℕ) (cs : List (Listed T)) → position (λ c. c.ticket == t) cs ≡ Some i → (before t cs ≡ i) × (i < length cs)
 at_place t i cs h =
     let by : (b : Bool) → ltb (before t cs) (length cs) ≡ b → cond b (Some (before t cs)) None ≡ Some i → (before t cs ≡ i) × (i < length cs) =
-      λ b. elim b as (λ v. ltb (before t cs) (length cs) ≡ v → cond v (Some (before t cs)) None ≡ Some i → (before t cs ≡ i) × (i < length cs)) [
-        true ↦ λ e g. let same : before t cs ≡ i = cc in (same, grind (arith, nat_tests))
+    λ b. elim b as (λ v. ltb (before t cs) (length cs) ≡ v → cond v (Some (before t cs)) None ≡ Some i → (before t cs ≡ i) × (i < length cs)) [
+      | true ↦ λ e g. let same : before t cs ≡ i = cc in (same, grind (arith, nat_tests))
       | false ↦ λ e g. absurd (cc)
-      ]
+    ]
     in by (ltb (before t cs) (length cs)) refl h
 
 pub no_place : {T : Type 0} (t : ℕ) (cs : List (Listed T)) → position (λ c. c.ticket == t) cs ≡ None → length cs ≤ before t cs
 no_place t cs h =
     let by : (b : Bool) → ltb (before t cs) (length cs) ≡ b → cond b (Some (before t cs)) None ≡ None → length cs ≤ before t cs =
-      λ b. elim b as (λ v. ltb (before t cs) (length cs) ≡ v → cond v (Some (before t cs)) None ≡ None → length cs ≤ before t cs) [
-        true ↦ λ e g. absurd (cc)
+    λ b. elim b as (λ v. ltb (before t cs) (length cs) ≡ v → cond v (Some (before t cs)) None ≡ None → length cs ≤ before t cs) [
+      | true ↦ λ e g. absurd (cc)
       | false ↦ λ e g. grind (arith, nat_tests)
-      ]
+    ]
     in by (ltb (before t cs) (length cs)) refl h
 
 -- the cell of a ticket stands at its index
@@ -43,16 +43,16 @@ pub cell_of_at : {T : Type 0} (t : ℕ) (d : Listed T) (cs : List (Listed T)) �
 cell_of_at t d [] = λ h. absurd (omega arith)
 cell_of_at {T} t d (c ∷ cs) =
     elim (c.ticket == t) as (λ b. cond (not b) (1 + before t cs) 0 < length (c ∷ cs) → cond b (Some (seen c)) (cell_of t (cells_of cs)) ≡ Some (seen (get_or (c ∷ cs) (cond (not b) (1 + before t cs) 0) d))) [
-      true ↦ λ h. refl
-    | false ↦ λ h. rw one_more (cell_of_at t d cs (omega arith))
+      | true ↦ λ h. refl
+      | false ↦ λ h. rw one_more (cell_of_at t d cs (omega arith))
     ]
 
 pub cell_of_none : {T : Type 0} (t : ℕ) (cs : List (Listed T)) → length cs ≤ before t cs → cell_of t (cells_of cs) ≡ None
 cell_of_none t [] = λ h. refl
 cell_of_none t (c ∷ cs) =
     elim (c.ticket == t) as (λ b. length (c ∷ cs) ≤ cond (not b) (1 + before t cs) 0 → cond b (Some (seen c)) (cell_of t (cells_of cs)) ≡ None) [
-      true ↦ λ h. absurd (omega arith)
-    | false ↦ λ h. cell_of_none t cs (omega arith)
+      | true ↦ λ h. absurd (omega arith)
+      | false ↦ λ h. cell_of_none t cs (omega arith)
     ]
 
 -- a mark is set at that index, and nowhere where there is none
@@ -60,16 +60,16 @@ pub marked_at : {T : Type 0} (t : ℕ) (m : Mark) (a : ℕ) (d : Listed T) (cs :
 marked_at t m a d [] = refl
 marked_at t m a d (c ∷ cs) =
     elim (c.ticket == t) as (λ b. cond b (record { ticket = c.ticket; mark = m; item = c.item; actor = a } ∷ cells_of cs) (seen c ∷ marked t m a (cells_of cs)) ≡ cells_of (set (c ∷ cs) (cond (not b) (1 + before t cs) 0) (with_mark (get_or (c ∷ cs) (cond (not b) (1 + before t cs) 0) d) m a))) [
-      true ↦ refl
-    | false ↦ rw one_more (ap (λ xs. seen c ∷ xs) (marked_at t m a d cs))
+      | true ↦ refl
+      | false ↦ rw one_more (ap (λ xs. seen c ∷ xs) (marked_at t m a d cs))
     ]
 
 pub without_at : {T : Type 0} (t : ℕ) (cs : List (Listed T)) → without t (cells_of cs) ≡ cells_of (remove cs (before t cs))
 without_at t [] = refl
 without_at t (c ∷ cs) =
     elim (c.ticket == t) as (λ b. cond b (cells_of cs) (seen c ∷ without t (cells_of cs)) ≡ cells_of (remove (c ∷ cs) (cond (not b) (1 + before t cs) 0))) [
-      true ↦ refl
-    | false ↦ rw one_more (ap (λ xs. seen c ∷ xs) (without_at t cs))
+      | true ↦ refl
+      | false ↦ rw one_more (ap (λ xs. seen c ∷ xs) (without_at t cs))
     ]
 
 -- the same, where a search has told the index
@@ -95,8 +95,8 @@ pub marks_none : {T : Type 0} (t : ℕ) (m : Mark) (a : ℕ) (cs : List (Listed 
 marks_none t m a [] = λ h. refl
 marks_none t m a (c ∷ cs) =
     elim (c.ticket == t) as (λ b. length (c ∷ cs) ≤ cond (not b) (1 + before t cs) 0 → cells_of (c ∷ cs) ≡ cond b (record { ticket = c.ticket; mark = m; item = c.item; actor = a } ∷ cells_of cs) (seen c ∷ marked t m a (cells_of cs))) [
-      true ↦ λ h. absurd (omega arith)
-    | false ↦ λ h. ap (λ xs. seen c ∷ xs) (marks_none t m a cs (omega arith))
+      | true ↦ λ h. absurd (omega arith)
+      | false ↦ λ h. ap (λ xs. seen c ∷ xs) (marks_none t m a cs (omega arith))
     ]
 
 pub takes_at : {T : Type 0} (t i : ℕ) (cs : List (Listed T)) → (before t cs ≡ i) × (i < length cs) → cells_of (remove cs i) ≡ without t (cells_of cs)
@@ -106,8 +106,8 @@ pub takes_none : {T : Type 0} (t : ℕ) (cs : List (Listed T)) → length cs ≤
 takes_none t [] = λ h. refl
 takes_none t (c ∷ cs) =
     elim (c.ticket == t) as (λ b. length (c ∷ cs) ≤ cond (not b) (1 + before t cs) 0 → cells_of (c ∷ cs) ≡ cond b (cells_of cs) (seen c ∷ without t (cells_of cs))) [
-      true ↦ λ h. absurd (omega arith)
-    | false ↦ λ h. ap (λ xs. seen c ∷ xs) (takes_none t cs (omega arith))
+      | true ↦ λ h. absurd (omega arith)
+      | false ↦ λ h. ap (λ xs. seen c ∷ xs) (takes_none t cs (omega arith))
     ]
 
 same_sum : (n t u : ℕ) → n ≤ t → (u + n == t) ≡ (u == t - n)
@@ -129,8 +129,8 @@ blocked_before : {T : Type 0} (n t : ℕ) → n ≤ t → (cs : List (Listed T))
 blocked_before n t h [] = refl
 blocked_before n t h (c ∷ cs) =
     rw (same_sum n t c.ticket h) (elim (c.ticket == t - n) as (λ b. (b || is_blocked n t (cells_of cs)) ≡ ltb (cond (not b) (1 + before (t - n) cs) 0) (length (c ∷ cs))) [
-      true ↦ some_first (length cs)
-    | false ↦ blocked_before n t h cs ∙ sym (one_less (before (t - n) cs) (length cs))
+      | true ↦ some_first (length cs)
+      | false ↦ blocked_before n t h cs ∙ sym (one_less (before (t - n) cs) (length cs))
     ])
 
 -- the ticket n before this one has a cell exactly if it has an index

@@ -22,15 +22,15 @@ use Rattle.alog_core.proofs.Others.{issued_step, others_staged}
 staged_set : {T : Type 0} (n : ℕ) (q : Queue T) (rounds : List (Round T)) (a : ℕ) (r : Round T) → length rounds ≡ 64 → a < 64 → IsStaged n q a r → ((b : ℕ) → a ≢ b → b < 64 → IsStaged n q b (get_or rounds b round.Idle)) → (b : ℕ) → b < 64 → IsStaged n q b (get_or (set rounds a r) b round.Idle)
 staged_set {T} n q rounds a r all lt st others b below =
     elim (eqb_tells a b) [
-      inl h ↦
-        let P : ℕ → Type 0 = λ u. IsStaged n q u (get_or (set rounds a r) u round.Idle) in
-        let at : a < length rounds = omega (arith, all, lt) in
-        let here : get_or (set rounds a r) a round.Idle ≡ r = get_or-set_same rounds a r round.Idle at in
-        subst P h.1 (subst (λ (x : Round T). IsStaged n q a x) (sym here) st)
-    | inr h ↦
-        let other : b ≢ a = λ e. h.1 (sym e) in
-        let there : get_or (set rounds a r) b round.Idle ≡ get_or rounds b round.Idle = get_or-set_other rounds a b r round.Idle other in
-        subst (λ (x : Round T). IsStaged n q b x) (sym there) (others b h.1 below)
+      | inl h ↦
+          let P : ℕ → Type 0 = λ u. IsStaged n q u (get_or (set rounds a r) u round.Idle) in
+          let at : a < length rounds = omega (arith, all, lt) in
+          let here : get_or (set rounds a r) a round.Idle ≡ r = get_or-set_same rounds a r round.Idle at in
+          subst P h.1 (subst (λ (x : Round T). IsStaged n q a x) (sym here) st)
+      | inr h ↦
+          let other : b ≢ a = λ e. h.1 (sym e) in
+          let there : get_or (set rounds a r) b round.Idle ≡ get_or rounds b round.Idle = get_or-set_other rounds a b r round.Idle other in
+          subst (λ (x : Round T). IsStaged n q b x) (sym there) (others b h.1 below)
     ]
 
 pub reached_began : {T : Type 0} (m : Machine T) (a : ℕ) (r : Round T) → IsReached m → a < 64 → IsStaged m.places m.queue a r → IsReached (began m a r)
@@ -84,8 +84,8 @@ has_room {T} t rounds a r h room lt e =
     subst (λ (s : Round T). HasRoom t s) (sym e)
     (record {
       cell = λ p x is.
-        let fits = claim_room (kept t rounds) a p x h lt is in
-        omega (arith, fits.0, room, t.cells.ok.0, length-map t.cells.items seen);
+          let fits = claim_room (kept t rounds) a p x h lt is in
+          omega (arith, fits.0, room, t.cells.ok.0, length-map t.cells.items seen);
       next = λ p x is. (claim_room (kept t rounds) a p x h lt is).1;
       front = omega (arith, h.sound.ordered, h.issued);
     })

@@ -67,12 +67,12 @@ room_from_test {T} n t (c ∷ cs) h =
     t
     (λ _ found. absurd (cc))
     (λ other found u e.
-        on_test
-        (λ b. cond b (Some c) (cell_of u cs) ≡ None)
-        c.ticket
-        u
-        (λ same. absurd (other (ap (λ m. m + n) same ∙ e)))
-        (λ _. room_from_test n t cs found u e))
+    on_test
+    (λ b. cond b (Some c) (cell_of u cs) ≡ None)
+    c.ticket
+    u
+    (λ same. absurd (other (ap (λ m. m + n) same ∙ e)))
+    (λ _. room_from_test n t cs found u e))
     h
 
 -- A push whose place is not free read the next ticket: an earlier one has no cell so far back.
@@ -102,7 +102,7 @@ by_mark cs t Emptying x a h = IsEmptying x a h
 found : {T : Type 0} (cs : List (Cell T)) (t : ℕ) → Found T cs t
 found {T} cs t =
     let by : (o : Option (Cell T)) → cell_of t cs ≡ o → Found T cs t =
-      λ o. elim o as (λ v. cell_of t cs ≡ v → Found T cs t) [ None ↦ λ h. Absent h | Some c ↦ λ h. by_mark cs t c.mark c.item c.actor (cell_is cs t c h) ]
+    λ o. elim o as (λ v. cell_of t cs ≡ v → Found T cs t) [ None ↦ λ h. Absent h | Some c ↦ λ h. by_mark cs t c.mark c.item c.actor (cell_is cs t c h) ]
     in by (cell_of t cs) refl
 
 eq_from_test : (a b : ℕ) → (a == b) ≡ true → a ≡ b
@@ -127,10 +127,10 @@ written_at : {T : Type 0} (n : ℕ) (q : Queue T) (p : ℕ) → IsSound n q → 
 written_at {T} n q p s e h =
     let at : (is_none (cell_of p q.cells) || is_claimed (cell_of p q.cells)) ≡ false = on_test (λ v. (v && (is_none (cell_of p q.cells) || is_claimed (cell_of p q.cells))) ≡ false → (is_none (cell_of p q.cells) || is_claimed (cell_of p q.cells)) ≡ false) p q.front (λ _ g. g) (λ other _. absurd (other e)) h in
     elim (found q.cells p) [
-      Absent none ↦ let bad = rw none at at in absurd (cc)
-    | IsClaimed x b c ↦ let bad = rw c at at in absurd (cc)
-    | IsThere x b c ↦ (x, b, c)
-    | IsEmptying x b c ↦ let early = (s.emptied p _ c).0 refl in absurd (omega (arith, early, e))
+      | Absent none ↦ let bad = rw none at at in absurd (cc)
+      | IsClaimed x b c ↦ let bad = rw c at at in absurd (cc)
+      | IsThere x b c ↦ (x, b, c)
+      | IsEmptying x b c ↦ let early = (s.emptied p _ c).0 refl in absurd (omega (arith, early, e))
     ]
 
 fine_push : {T : Type 0} (n : ℕ) (q : Queue T) (a : ℕ) (x : T) → q.next ≤ last → IsFine n q a (move_of n q (round.Push x))
@@ -152,13 +152,13 @@ fine_push_read n q a p x s le below =
     (cond (ltb p q.next && not (is_claimed (cell_of p q.cells))) (ends (PushBusy p)) (goes_on (round.PushFree p x)))
     (λ h. let b = blocked_from_test n p q.cells h in fine_ends n q a (Full p) (full_is_next n q p s le b, b))
     (λ h.
-        on_either
-        (IsFine n q a)
-        (ltb p q.next && not (is_claimed (cell_of p q.cells)))
-        (ends (PushBusy p))
-        (goes_on (round.PushFree p x))
-        (λ late. fine_ends n q a (PushBusy p) (less_from_test p q.next (and_first _ _ late)))
-        (λ _. fine_goes_on n q a (round.PushFree p x) (le, below, room_from_test n p q.cells h)))
+    on_either
+    (IsFine n q a)
+    (ltb p q.next && not (is_claimed (cell_of p q.cells)))
+    (ends (PushBusy p))
+    (goes_on (round.PushFree p x))
+    (λ late. fine_ends n q a (PushBusy p) (less_from_test p q.next (and_first _ _ late)))
+    (λ _. fine_goes_on n q a (round.PushFree p x) (le, below, room_from_test n p q.cells h)))
 
 fine_push_free : {T : Type 0} (n : ℕ) (q : Queue T) (a p : ℕ) (x : T) → IsSound n q → p ≤ q.next → p < last → IsRoom n p q.cells → IsFine n q a (move_of n q (round.PushFree p x))
 fine_push_free {T} n q a p x s le below room =
@@ -168,18 +168,18 @@ fine_push_free {T} n q a p x s le below room =
     (makes (Claim p x) (round.PushClaimed p))
     (ends (PushBusy p))
     (λ h.
-        let e = eq_from_test q.next p h in
-        let c : Cell T = record { ticket = p; mark = Claimed; item = x; actor = a } in
-        fine_makes n q a (Claim p x) (round.PushClaimed p) (sym e, below, room) (x, cell_of-append_same p q.cells c refl (next_is_unlisted n q p s (omega (arith, e)))))
+    let e = eq_from_test q.next p h in
+    let c : Cell T = record { ticket = p; mark = Claimed; item = x; actor = a } in
+    fine_makes n q a (Claim p x) (round.PushClaimed p) (sym e, below, room) (x, cell_of-append_same p q.cells c refl (next_is_unlisted n q p s (omega (arith, e)))))
     (λ h. let other = other_from_test q.next p h in fine_ends n q a (PushBusy p) (omega (arith, other, le)))
 
 unwritten_at : {T : Type 0} (q : Queue T) (p : ℕ) → (is_none (cell_of p q.cells) || is_claimed (cell_of p q.cells)) ≡ true → IsUnwritten p q.cells
 unwritten_at q p h =
     elim (found q.cells p) [
-      Absent none ↦ inl none
-    | IsClaimed x b c ↦ inr (x, b, c)
-    | IsThere x b c ↦ let bad = rw c at h in absurd (cc)
-    | IsEmptying x b c ↦ let bad = rw c at h in absurd (cc)
+      | Absent none ↦ inl none
+      | IsClaimed x b c ↦ inr (x, b, c)
+      | IsThere x b c ↦ let bad = rw c at h in absurd (cc)
+      | IsEmptying x b c ↦ let bad = rw c at h in absurd (cc)
     ]
 
 fine_pop_read : {T : Type 0} (n : ℕ) (q : Queue T) (a p : ℕ) → IsSound n q → p ≤ q.front → IsFine n q a (move_of n q (round.PopRead p))
@@ -190,16 +190,16 @@ fine_pop_read {T} n q a p s le =
     (ends (Empty p))
     (cond (ltb p q.front && is_none (cell_of p q.cells)) (ends (PopBusy p)) (goes_on (round.PopReady p)))
     (λ h.
-        fine_ends n q a (Empty p)
-        (eq_from_test p q.front (and_first _ _ h), unwritten_at q p (and_second _ _ h)))
+    fine_ends n q a (Empty p)
+    (eq_from_test p q.front (and_first _ _ h), unwritten_at q p (and_second _ _ h)))
     (λ h.
-        on_either
-        (IsFine n q a)
-        (ltb p q.front && is_none (cell_of p q.cells))
-        (ends (PopBusy p))
-        (goes_on (round.PopReady p))
-        (λ late. fine_ends n q a (PopBusy p) (less_from_test p q.front (and_first _ _ late)))
-        (λ _. fine_goes_on n q a (round.PopReady p) (le, λ e. written_at n q p s e h)))
+    on_either
+    (IsFine n q a)
+    (ltb p q.front && is_none (cell_of p q.cells))
+    (ends (PopBusy p))
+    (goes_on (round.PopReady p))
+    (λ late. fine_ends n q a (PopBusy p) (less_from_test p q.front (and_first _ _ late)))
+    (λ _. fine_goes_on n q a (round.PopReady p) (le, λ e. written_at n q p s e h)))
 
 fine_pop_ready : {T : Type 0} (n : ℕ) (q : Queue T) (a p : ℕ) → p ≤ q.front → (p ≡ q.front → IsWritten p q.cells) → IsFine n q a (move_of n q (round.PopReady p))
 fine_pop_ready n q a p le there =
@@ -209,9 +209,9 @@ fine_pop_ready n q a p le there =
     (makes (Grab p) (round.PopGrabbed p))
     (ends (PopBusy p))
     (λ h.
-        let e = eq_from_test q.front p h in
-        let w = there (sym e) in
-        fine_makes n q a (Grab p) (round.PopGrabbed p) (sym e, w) (w.0, HasCell-marked q.cells p Written w.0 w.1 Emptying a w.2))
+    let e = eq_from_test q.front p h in
+    let w = there (sym e) in
+    fine_makes n q a (Grab p) (round.PopGrabbed p) (sym e, w) (w.0, HasCell-marked q.cells p Written w.0 w.1 Emptying a w.2))
     (λ h. let other = other_from_test q.front p h in fine_ends n q a (PopBusy p) (omega (arith, other, le)))
 
 fine_pop_grabbed : {T : Type 0} (n : ℕ) (q : Queue T) (a p : ℕ) (x : T) → HasCell q.cells p Emptying x a → IsFine n q a (move_of n q (round.PopGrabbed p))

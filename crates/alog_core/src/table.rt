@@ -4,11 +4,11 @@ ghost use Rattle.alog_core.specs.Queue.{last};
 ghost use Rattle.alog_core.specs.Table.{Advances, HasRoom};
 ghost use Rattle.alog_core.specs.declared.round.Round.TheVariants as round;
 
+use crate::LAST_TICKET;
 use crate::listed::{Listed, blocks, mark_of, set_mark, take_out};
 use crate::mark::Mark;
 use crate::round::Round;
 use crate::said::Said;
-use crate::LAST_TICKET;
 
 /// The queue: how many places it has, the ticket to claim next, the front ticket, and the cells.
 #[derive(Debug, Drop)]
