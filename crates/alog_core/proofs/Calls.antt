@@ -1,12 +1,11 @@
 -- A list of calls, one after another.
-use Rattle.std.proofs.Common.{◌≡◌, ℕ, suc, ◌+◌, ◌<◌, Option, None, Some, List, [], ◌∷◌, ◌++◌, length, length-append, refl, sym, ap, ◌∙◌, arith}
+use Rattle.std.proofs.Common.{◌≡◌, suc, List, [], ◌∷◌, ◌++◌, length, refl, ap, ◌∙◌, arith}
 use Rattle.std.proofs.lemmas.List.{append-nil}
 use Rattle.std.specs.Iterator.{Yields}
 use Rattle.std.specs.Vec.Iter.{into_iter_items, into_iter_len, into_iter_steps}
 use Rattle.std.specs.declared.vec.IntoIter.{IntoIter}
 use Rattle.alog_core.specs.World.{Machine, reply_to, after_call, replies_to, after_calls}
 use Rattle.alog_core.specs.declared.said.Call.{Call}
-use Rattle.alog_core.specs.declared.said.Answer.{Answer}
 
 pub after_calls_last : {T : Type 0} (m : Machine T) (cs : List (Call T)) (c : Call T) → after_calls m (cs ++ c ∷ []) ≡ after_call (after_calls m cs) c
 after_calls_last m [] c = refl

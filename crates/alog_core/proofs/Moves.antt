@@ -1,14 +1,13 @@
 -- What the table of a round gives, step by step.
-use Rattle.std.proofs.Common.{◌≡◌, ◌≢◌, ℕ, ◌==◌, cond, true, Option, None, Some, List, [], ◌∷◌, refl, sym, ap, ◌∙◌, vec_capacity}
+use Rattle.std.proofs.Common.{◌≡◌, ℕ, cond, Option, None, Some, List, [], ◌∷◌, refl, sym, ap, ◌∙◌, vec_capacity}
 use Rattle.std.specs.Option.{option_map}
-use Rattle.alog_core.specs.Queue.{Cell, Queue, Event, Claim, cell_of, without}
+use Rattle.alog_core.specs.Queue.{Cell, Queue, Claim, cell_of, without}
 use Rattle.alog_core.specs.Round.{Move, move_of, goes_on, taking, after_event}
 use Rattle.alog_core.specs.World.{said_of}
 use Rattle.alog_core.specs.Listed.{cells_of}
 use Rattle.alog_core.specs.Table.{queue_in, Advances}
 use Rattle.alog_core.specs.declared.table.Table.{Table}
 use Rattle.alog_core.specs.declared.said.Said.TheVariants as said
-use Rattle.alog_core.specs.declared.round.Round.{Round}
 use Rattle.alog_core.specs.declared.round.Round.TheVariants as round
 use Rattle.alog_core.proofs.Cells.{on_test, at_same}
 

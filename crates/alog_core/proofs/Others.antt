@@ -1,16 +1,14 @@
 -- What a round knows stays true whatever another actor does.
-use Rattle.std.proofs.Common.{◌≡◌, ◌≢◌, ℕ, ◌+◌, ◌<◌, ◌≤◌, Option, None, Some, List, [], ◌∷◌, ◌++◌, inl, inr, refl, sym, ap, subst, ◌∙◌, arith}
-use Rattle.std.proofs.lemmas.Bool.Decides.{eqb_tells}
-use Rattle.alog_core.specs.Queue.{Cell, Queue, Event, Claim, Write, Grab, Take, Full, Empty, PushBusy, PopBusy, Spent, last, Allows, after, cell_of, marked, without, HasCell, IsListed, IsRoom, IsWritten, IsSound}
+use Rattle.std.proofs.Common.{◌≡◌, ◌≢◌, ℕ, ◌≤◌, Option, None, Some, List, [], ◌∷◌, ◌++◌, refl, ap, subst, ◌∙◌, arith}
+use Rattle.alog_core.specs.Queue.{Cell, Queue, Event, Claim, Write, Grab, Take, Full, Empty, PushBusy, PopBusy, Spent, last, Allows, after, cell_of, marked, without, HasCell, IsRoom, IsWritten, IsSound}
 use Rattle.alog_core.specs.Round.{after_event}
 use Rattle.alog_core.specs.Staged.{IsStaged}
 use Rattle.alog_core.specs.declared.round.Round.{Round}
 use Rattle.alog_core.specs.declared.round.Round.TheVariants as round
 use Rattle.alog_core.specs.declared.mark.Mark.{Mark}
 use Rattle.alog_core.specs.declared.mark.Mark.TheVariants.{Claimed, Written, Emptying}
-use Rattle.alog_core.proofs.Cells.{cell_of-append_other, HasCell-marked, cell_of-marked_other, cell_of-without_other}
+use Rattle.alog_core.proofs.Cells.{cell_of-append_other, cell_of-marked_other, cell_of-without_other}
 use Rattle.alog_core.proofs.Sound.{next_is_unlisted}
-use Rattle.alog_core.proofs.Steps.{on_either}
 
 -- another actor's event leaves what actor b relies on
 pub record Keeps {T : Type 0} (n : ℕ) (q new : Queue T) (b : ℕ) : Type 0 where

@@ -3,7 +3,7 @@ use Rattle.std.proofs.Common.{◌≡◌, ℕ, suc, ◌+◌, ◌-◌, ◌<◌, �
 use Rattle.std.specs.List.{position, position_or_len, prefix_len, remove, list_any}
 use Rattle.std.specs.Option.{option_map, is_some}
 use Rattle.std.proofs.lemmas.Bool.Decides.{nat_tests}
-use Rattle.alog_core.specs.Queue.{Cell, cell_of, marked, without}
+use Rattle.alog_core.specs.Queue.{cell_of, marked, without}
 use Rattle.alog_core.specs.Round.{is_blocked}
 use Rattle.alog_core.specs.Listed.{seen, cells_of}
 use Rattle.alog_core.specs.declared.listed.Listed.{Listed}

@@ -1,11 +1,11 @@
 -- What holds of every machine that calls lead to stays true.
-use Rattle.std.proofs.Common.{◌≡◌, ◌≢◌, ℕ, ◌+◌, ◌<◌, ◌≤◌, Option, None, Some, List, [], ◌∷◌, ◌++◌, length, length-append, vec_len, vec_capacity, get_or, set, inl, inr, refl, sym, ap, subst, ◌∙◌, arith, length-set, get_or-set_other, get_or-set_same}
+use Rattle.std.proofs.Common.{◌≡◌, ◌≢◌, ℕ, ◌+◌, ◌<◌, ◌≤◌, Option, None, Some, List, [], ◌∷◌, ◌++◌, length, length-append, vec_capacity, get_or, set, inl, inr, refl, sym, ap, subst, ◌∙◌, arith, length-set, get_or-set_other, get_or-set_same}
 use Rattle.std.proofs.lemmas.Bool.Decides.{eqb_tells}
 use Rattle.alog_core.specs.Queue.{Cell, Queue, Event, Claim, Allows, after, IsSound, last}
 use Rattle.alog_core.specs.Round.{after_event}
 use Rattle.std.proofs.Common.{set-set}
 use Rattle.std.proofs.lemmas.List.{get_or_read, length-map}
-use Rattle.alog_core.specs.Listed.{seen, cells_of}
+use Rattle.alog_core.specs.Listed.{seen}
 use Rattle.alog_core.specs.Table.{queue_in, Advances, HasRoom}
 use Rattle.alog_core.specs.World.{Machine, round_of, began, next_move, stepped}
 use Rattle.alog_core.specs.declared.said.Said.{Said}

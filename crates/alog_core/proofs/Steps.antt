@@ -1,16 +1,15 @@
 -- Each step of a round is an event that the queue allows, or none, and leaves what each round knows true.
-use Rattle.std.proofs.Common.{◌≡◌, ◌≢◌, ℕ, suc, ◌+◌, ◌-◌, ◌<◌, ◌≤◌, ◌==◌, ◌&&◌, ◌||◌, ltb, not, Bool, true, false, cond, Option, None, Some, List, [], ◌∷◌, ◌++◌, inl, inr, refl, sym, ap, subst, ◌∙◌, arith}
-use Rattle.std.specs.List.{list_any}
+use Rattle.std.proofs.Common.{◌≡◌, ◌≢◌, ℕ, ◌+◌, ◌-◌, ◌<◌, ◌≤◌, ◌==◌, ◌&&◌, ◌||◌, ltb, not, Bool, true, false, cond, Option, None, Some, List, [], ◌∷◌, inl, inr, refl, sym, ap, subst, ◌∙◌, arith}
 use Rattle.std.specs.Option.{is_none}
-use Rattle.std.proofs.lemmas.Bool.Decides.{nat_tests, eqb_tells, leb_tells}
-use Rattle.alog_core.specs.Queue.{Cell, Queue, Event, Claim, Write, Grab, Take, Full, Empty, PushBusy, PopBusy, Spent, last, Allows, after, cell_of, marked, without, HasCell, IsListed, IsBlocked, IsRoom, IsWritten, IsUnwritten, IsSound}
+use Rattle.std.proofs.lemmas.Bool.Decides.{nat_tests}
+use Rattle.alog_core.specs.Queue.{Cell, Queue, Event, Claim, Write, Grab, Take, Full, Empty, PushBusy, PopBusy, Spent, last, Allows, after, cell_of, HasCell, IsListed, IsBlocked, IsRoom, IsWritten, IsUnwritten, IsSound}
 use Rattle.alog_core.specs.Round.{Move, move_of, after_event, goes_on, makes, ends, taking, is_blocked, is_claimed}
 use Rattle.alog_core.specs.Staged.{IsStaged}
 use Rattle.alog_core.specs.declared.round.Round.{Round}
 use Rattle.alog_core.specs.declared.round.Round.TheVariants as round
 use Rattle.alog_core.specs.declared.mark.Mark.{Mark}
 use Rattle.alog_core.specs.declared.mark.Mark.TheVariants.{Claimed, Written, Emptying}
-use Rattle.alog_core.proofs.Cells.{on_test, ticket_of_cell, cell_of-append_same, cell_of-append_other, cell_of-append_listed, HasCell-marked, cell_of-marked_other, cell_of-without_other}
+use Rattle.alog_core.proofs.Cells.{on_test, ticket_of_cell, cell_of-append_same, HasCell-marked}
 use Rattle.alog_core.proofs.Rising.{listed_within}
 use Rattle.alog_core.proofs.Sound.{next_is_unlisted}
 

@@ -1,5 +1,5 @@
 -- What a world keeps, seen as the machine.
-use Rattle.std.specs.Prelude.{◌≡◌, ℕ, ◌≤◌, vec_capacity}
+use Rattle.std.specs.Prelude.{◌≤◌, vec_capacity}
 use Rattle.alog_core.specs.World.{Machine}
 use Rattle.alog_core.specs.Staged.{IsReached}
 use Rattle.alog_core.specs.Table.{queue_in}

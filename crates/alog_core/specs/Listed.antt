@@ -1,6 +1,6 @@
 -- The cells of a plain list, as the definitions see them.
-use Rattle.std.specs.Prelude.{List, map, ℕ}
-use Rattle.alog_core.specs.Queue.{Cell, Queue}
+use Rattle.std.specs.Prelude.{List, map}
+use Rattle.alog_core.specs.Queue.{Cell}
 use Rattle.alog_core.specs.declared.listed.Listed.{Listed}
 
 abbrev pub seen : {T : Type 0} → Listed T → Cell T

@@ -1,5 +1,5 @@
 -- What a round knows of the queue, whatever other actors did since its last step.
-use Rattle.std.specs.Prelude.{◌≡◌, ℕ, ◌<◌, ◌≤◌, List, length, slice_index_or}
+use Rattle.std.specs.Prelude.{◌≡◌, ℕ, ◌<◌, ◌≤◌, length}
 use Rattle.alog_core.specs.Queue.{Queue, IsSound, IsRoom, IsWritten, HasCell, last}
 use Rattle.alog_core.specs.World.{Machine, round_of}
 use Rattle.alog_core.specs.declared.round.Round.{Round}

@@ -1,5 +1,5 @@
 -- The machine: a queue and 64 actors, each in a round of its own.
-use Rattle.std.specs.Prelude.{ℕ, ◌&&◌, nat_lt, nat_le, Bool, true, false, if◌then◌else◌, Option, None, Some, List, [], ◌∷◌, ◌++◌, map, replicate, slice_index_or, slice_set}
+use Rattle.std.specs.Prelude.{ℕ, ◌&&◌, nat_lt, nat_le, Bool, true, false, if◌then◌else◌, Option, None, Some, List, [], ◌∷◌, replicate, slice_index_or, slice_set}
 use Rattle.std.specs.Int.{is_power_of_two}
 use Rattle.alog_core.specs.Queue.{Cell, Queue, Event, Claim, Write, Grab, Take, Full, Empty, PushBusy, PopBusy, Spent, start}
 use Rattle.alog_core.specs.Round.{Move, move_of, after_event}

@@ -15,6 +15,8 @@ mod mark;
 mod round;
 mod said;
 mod table;
+#[cfg(test)]
+mod tests;
 mod world;
 
 pub use fault::{BeginFault, Refused, StepFault, WorldFault};

@@ -1,5 +1,5 @@
 //! A plain list of cells in ticket order.
-ghost use Rattle.std.specs.Prelude.{◌≡◌, ◌+◌, ◌==◌, ◌<◌, ◌++◌, ◌∷◌, [], Some, None, length, position, map, IfOk, vec_capacity};
+ghost use Rattle.std.specs.Prelude.{◌≡◌, ◌==◌, position, map, IfOk, vec_capacity};
 ghost use Rattle.std.specs.Option.{option_map};
 ghost use Rattle.alog_core.specs.Queue.{cell_of, marked, without};
 ghost use Rattle.alog_core.specs.Listed.{cells_of};

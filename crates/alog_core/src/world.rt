@@ -1,5 +1,5 @@
 //! The stepped queue: what its calls answer, and in which order they refuse.
-ghost use Rattle.std.specs.Prelude.{◌≡◌, ◌≢◌, ◌+◌, ◌<◌, ◌≤◌, ◌^◌, ◌↔◌, ◌++◌, ℕ, Some, List, true, false, map, IfOk, OnOk, OnErr, IfErr, IsOk, IsErrOf};
+ghost use Rattle.std.specs.Prelude.{◌≡◌, ◌<◌, ◌≤◌, ◌↔◌, ◌++◌, ℕ, Some, List, true, false, map, IfOk, OnOk, OnErr, IfErr, IsOk, IsErrOf};
 ghost use Rattle.alog_core.specs.Queue.{Event, Allows, last};
 ghost use Rattle.alog_core.specs.History.{Entry, StandsFor};
 ghost use Rattle.alog_core.specs.World.{is_size, fresh, round_of, is_idle, began, next_move, stepped, told, entries_of, reply_to, after_call, replies_to, after_calls, shown};

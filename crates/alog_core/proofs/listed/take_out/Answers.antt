@@ -1,4 +1,4 @@
-use Rattle.std.proofs.Common.{refl, ap, sym, ◌∙◌}
+use Rattle.std.proofs.Common.{ap, sym, ◌∙◌}
 use Rattle.std.specs.Option.{option_map}
 use Rattle.alog_core.proofs.Places.{place_told, none_told, cell_at, cell_of_none, takes_at, takes_none}
 use Rattle.alog_core.proofs.listed.take_out.Goals as goal

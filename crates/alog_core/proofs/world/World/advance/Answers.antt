@@ -1,4 +1,4 @@
-use Rattle.std.proofs.Common.{◌≡◌, ◌<◌, ◌≤◌, Some, length, ap, sym, subst, ◌∙◌, arith, vec_capacity}
+use Rattle.std.proofs.Common.{◌≡◌, ◌<◌, Some, length, ap, sym, subst, ◌∙◌, arith}
 use Rattle.alog_core.specs.Queue.{Event, Allows}
 use Rattle.alog_core.specs.World.{Machine, next_move, stepped}
 use Rattle.alog_core.specs.Staged.{IsReached}

@@ -1,5 +1,4 @@
 use Rattle.std.proofs.Common.{refl}
-use Rattle.alog_core.specs.World.{round_of, is_idle}
 use Rattle.alog_core.specs.declared.round.Round.TheVariants as round
 use Rattle.alog_core.proofs.Reached.{kept, reached_began}
 use Rattle.alog_core.proofs.world.World.begin_push.Goals as goal

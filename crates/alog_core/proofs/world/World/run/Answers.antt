@@ -1,6 +1,6 @@
-use Rattle.std.proofs.Common.{◌≡◌, ◌+◌, ◌++◌, ◌∷◌, [], length, length-append, ap, sym, ◌∙◌, arith}
+use Rattle.std.proofs.Common.{◌++◌, ◌∷◌, [], length, length-append, ap, sym, ◌∙◌, arith}
 use Rattle.std.specs.Vec.Iter.{into_iter_items}
-use Rattle.alog_core.specs.World.{Machine, reply_to, after_call, replies_to, after_calls}
+use Rattle.alog_core.specs.World.{reply_to, after_call, replies_to, after_calls}
 use Rattle.alog_core.proofs.Calls.{given_front, after_calls_last, replies_to_last, length-replies_to, all_given}
 use Rattle.alog_core.proofs.world.World.run.Goals as goal
 

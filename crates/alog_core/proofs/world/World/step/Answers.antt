@@ -1,5 +1,5 @@
-use Rattle.std.proofs.Common.{ℕ, List, ◌++◌, sym, subst}
-use Rattle.alog_core.specs.History.{Entry, StandsFor}
+use Rattle.std.proofs.Common.{◌++◌, sym, subst}
+use Rattle.alog_core.specs.History.{StandsFor}
 use Rattle.alog_core.specs.World.{Machine, next_move, entries_of}
 use Rattle.alog_core.proofs.Histories.{stands_step}
 use Rattle.alog_core.proofs.world.World.step.Goals as goal

@@ -1,0 +1,287 @@
+use crate::{
+    Answer, BeginFault, Call, CellView, Mark, Refused, Said, StepFault, World, WorldFault,
+    reached_states_are_sound,
+};
+use std::process::Abort;
+use std::test::Fail;
+
+const LAST: u64 = 4_611_686_018_427_387_903;
+
+/// The next steps of an actor answer this.
+fn says(rt: &impl Abort, world: &mut World<u64>, actor: u32, wanted: &[Said<u64>]) {
+    for said in wanted {
+        let found = world.step(actor);
+        let is_said = found.as_ref().is_ok_and(|found| found == said);
+        assert!(rt; is_said, "actor {actor}: {found:?} and not {said:?}");
+    }
+}
+
+/// A whole push, which gets this ticket.
+fn pushes(rt: &impl Abort, world: &mut World<u64>, actor: u32, item: u64, ticket: u64) {
+    assert!(rt; world.begin_push(actor, item).is_ok());
+    let wanted = [
+        Said::Nothing,
+        Said::Nothing,
+        Said::Claim(ticket),
+        Said::Write(ticket),
+    ];
+    says(rt, world, actor, &wanted);
+    assert!(rt; world.step(actor) == Err(StepFault::NotInCall));
+}
+
+/// A whole pop, which gets this ticket and this item.
+fn pops(rt: &impl Abort, world: &mut World<u64>, actor: u32, ticket: u64, item: u64) {
+    assert!(rt; world.begin_pop(actor).is_ok());
+    let wanted = [
+        Said::Nothing,
+        Said::Nothing,
+        Said::Grab(ticket),
+        Said::Take(ticket, item),
+    ];
+    says(rt, world, actor, &wanted);
+    assert!(rt; world.step(actor) == Err(StepFault::NotInCall));
+}
+
+fn cell(ticket: u64, mark: Mark) -> CellView {
+    CellView { ticket, mark }
+}
+
+#[test]
+fn sizes_and_first_tickets(rt: HostRuntime) {
+    let sizes = [
+        (0, Some(WorldFault::BadSize)),
+        (1, Some(WorldFault::BadSize)),
+        (2, None),
+        (3, Some(WorldFault::BadSize)),
+        (65_536, None),
+        (131_072, Some(WorldFault::BadSize)),
+    ];
+    for (places, refused) in sizes {
+        let made = World::<u64>::new(rt.alloc(), places, 0);
+        assert!(rt; made.err() == refused, "at {places} places");
+    }
+    let firsts = [
+        (2, LAST, None),
+        (2, LAST + 1, Some(WorldFault::BadFirst)),
+        (3, LAST + 1, Some(WorldFault::BadSize)),
+    ];
+    for (places, first, refused) in firsts {
+        let made = World::<u64>::new(rt.alloc(), places, first);
+        assert!(rt; made.err() == refused, "at {places} places from {first}");
+    }
+}
+
+#[test]
+fn empty_queue(rt: HostRuntime) -> Result<(), Fail> {
+    let mut world = World::new(rt.alloc(), 2, 0)?;
+    world.begin_pop(2)?;
+    says(&rt, &mut world, 2, &[Said::Nothing, Said::Empty(0)]);
+    assert!(rt; world.is_idle(2));
+    assert!(rt; world.cells(rt.alloc())?.is_empty());
+    reached_states_are_sound::<u64, u64>();
+    Ok(())
+}
+
+#[test]
+fn claimed_cell_in_front(rt: HostRuntime) -> Result<(), Fail> {
+    let mut world = World::new(rt.alloc(), 4, 0)?;
+    world.begin_push(1, 10)?;
+    says(
+        &rt,
+        &mut world,
+        1,
+        &[Said::Nothing, Said::Nothing, Said::Claim(0)],
+    );
+    pushes(&rt, &mut world, 2, 20, 1);
+    world.begin_pop(3)?;
+    says(&rt, &mut world, 3, &[Said::Nothing, Said::Empty(0)]);
+    assert_eq!(rt;
+        world.cells(rt.alloc())?.as_slice(),
+        [cell(0, Mark::Claimed), cell(1, Mark::Written)].as_slice()
+    );
+    Ok(())
+}
+
+#[test]
+fn emptying_cell_keeps_its_place(rt: HostRuntime) -> Result<(), Fail> {
+    let mut world = World::new(rt.alloc(), 2, 0)?;
+    pushes(&rt, &mut world, 1, 10, 0);
+    pushes(&rt, &mut world, 2, 20, 1);
+    world.begin_pop(3)?;
+    says(
+        &rt,
+        &mut world,
+        3,
+        &[Said::Nothing, Said::Nothing, Said::Grab(0)],
+    );
+    pops(&rt, &mut world, 4, 1, 20);
+    world.begin_push(5, 30)?;
+    says(
+        &rt,
+        &mut world,
+        5,
+        &[Said::Nothing, Said::Full(2, Some(30))],
+    );
+    assert_eq!(rt;
+        world.cells(rt.alloc())?.as_slice(),
+        [cell(0, Mark::Emptying)].as_slice()
+    );
+    says(&rt, &mut world, 3, &[Said::Take(0, 10)]);
+    pushes(&rt, &mut world, 5, 30, 2);
+    Ok(())
+}
+
+#[test]
+fn busy_push(rt: HostRuntime) -> Result<(), Fail> {
+    let mut at_sequence = World::new(rt.alloc(), 4, 0)?;
+    at_sequence.begin_push(1, 10)?;
+    says(&rt, &mut at_sequence, 1, &[Said::Nothing]);
+    pushes(&rt, &mut at_sequence, 2, 20, 0);
+    says(&rt, &mut at_sequence, 1, &[Said::Busy(0, Some(10))]);
+
+    let mut at_exchange = World::new(rt.alloc(), 4, 0)?;
+    at_exchange.begin_push(1, 10)?;
+    says(&rt, &mut at_exchange, 1, &[Said::Nothing, Said::Nothing]);
+    at_exchange.begin_push(2, 20)?;
+    says(
+        &rt,
+        &mut at_exchange,
+        2,
+        &[Said::Nothing, Said::Nothing, Said::Claim(0)],
+    );
+    says(&rt, &mut at_exchange, 1, &[Said::Busy(0, Some(10))]);
+    Ok(())
+}
+
+#[test]
+fn busy_pop(rt: HostRuntime) -> Result<(), Fail> {
+    let mut at_sequence = World::new(rt.alloc(), 4, 0)?;
+    pushes(&rt, &mut at_sequence, 1, 10, 0);
+    at_sequence.begin_pop(3)?;
+    says(&rt, &mut at_sequence, 3, &[Said::Nothing]);
+    pops(&rt, &mut at_sequence, 4, 0, 10);
+    says(&rt, &mut at_sequence, 3, &[Said::Busy(0, None)]);
+
+    let mut at_exchange = World::new(rt.alloc(), 4, 0)?;
+    pushes(&rt, &mut at_exchange, 1, 10, 0);
+    at_exchange.begin_pop(3)?;
+    says(&rt, &mut at_exchange, 3, &[Said::Nothing, Said::Nothing]);
+    at_exchange.begin_pop(4)?;
+    says(
+        &rt,
+        &mut at_exchange,
+        4,
+        &[Said::Nothing, Said::Nothing, Said::Grab(0)],
+    );
+    says(&rt, &mut at_exchange, 3, &[Said::Busy(0, None)]);
+    Ok(())
+}
+
+#[test]
+fn last_ticket(rt: HostRuntime) -> Result<(), Fail> {
+    let mut world = World::new(rt.alloc(), 2, LAST)?;
+    pushes(&rt, &mut world, 1, 10, LAST);
+    world.begin_push(2, 20)?;
+    says(&rt, &mut world, 2, &[Said::Spent(Some(20))]);
+    pops(&rt, &mut world, 3, LAST, 10);
+    world.begin_pop(3)?;
+    says(
+        &rt,
+        &mut world,
+        3,
+        &[Said::Nothing, Said::Empty(4_611_686_018_427_387_904)],
+    );
+    Ok(())
+}
+
+#[test]
+fn refusals(rt: HostRuntime) -> Result<(), Fail> {
+    let mut world = World::new(rt.alloc(), 2, 0)?;
+    let no_actor = Refused {
+        fault: BeginFault::NoActor,
+        item: 10,
+    };
+    assert!(rt; world.begin_push(64, 10) == Err(no_actor));
+    assert!(rt; world.begin_pop(64) == Err(BeginFault::NoActor));
+    assert!(rt; world.step(64) == Err(StepFault::NoActor));
+    world.begin_push(63, 10)?;
+    let in_call = Refused {
+        fault: BeginFault::InCall,
+        item: 20,
+    };
+    assert!(rt; world.begin_push(63, 20) == Err(in_call));
+    assert!(rt; world.begin_pop(63) == Err(BeginFault::InCall));
+    assert!(rt; world.step(62) == Err(StepFault::NotInCall));
+    pushes(&rt, &mut world, 62, 30, 0);
+    assert_eq!(rt; BeginFault::NoActor.number(), 6);
+    assert_eq!(rt; BeginFault::InCall.number(), 7);
+    assert_eq!(rt; StepFault::NoActor.number(), 6);
+    assert_eq!(rt; StepFault::NotInCall.number(), 8);
+    Ok(())
+}
+
+#[test]
+fn calls_and_their_answers(rt: HostRuntime) -> Result<(), Fail> {
+    let mut world = World::new(rt.alloc(), 2, 0)?;
+    let calls = vec![in rt.alloc();
+        Call::Push(1, 10),
+        Call::Step(1),
+        Call::Step(1),
+        Call::Step(1),
+        Call::Step(1),
+        Call::Step(1),
+    ]?;
+    let wanted = [
+        Answer::Began,
+        Answer::Said(Said::Nothing),
+        Answer::Said(Said::Nothing),
+        Answer::Said(Said::Claim(0)),
+        Answer::Said(Said::Write(0)),
+        Answer::Refused(8, None),
+    ];
+    assert_eq!(rt; world.run(rt.alloc(), calls)?.as_slice(), wanted.as_slice());
+    let refused = vec![in rt.alloc();
+        Call::Push(64, 20),
+        Call::Pop(0),
+        Call::Push(0, 30),
+        Call::Step(64),
+    ]?;
+    let wanted = [
+        Answer::Refused(6, Some(20)),
+        Answer::Began,
+        Answer::Refused(7, Some(30)),
+        Answer::Refused(6, None),
+    ];
+    assert_eq!(rt;
+        world.run(rt.alloc(), refused)?.as_slice(),
+        wanted.as_slice()
+    );
+    Ok(())
+}
+
+#[test]
+fn items_that_own_memory(rt: HostRuntime) -> Result<(), Fail> {
+    let alloc = rt.alloc();
+    let mut world = World::new(alloc, 2, 5)?;
+    let calls = vec![in alloc;
+        Call::Push(0, String::from_str(alloc, "first")?),
+        Call::Push(0, String::from_str(alloc, "refused")?),
+        Call::Step(0),
+        Call::Step(0),
+        Call::Step(0),
+        Call::Step(0),
+        Call::Push(1, String::from_str(alloc, "left in its round")?),
+        Call::Pop(0),
+        Call::Step(0),
+        Call::Step(0),
+        Call::Step(0),
+        Call::Step(0),
+    ]?;
+    let answers = world.run(alloc, calls)?;
+    assert_eq!(rt; answers.len(), 12);
+    let refused = Answer::Refused(7, Some(String::from_str(alloc, "refused")?));
+    assert!(rt; answers[1] == refused);
+    let taken = Answer::Said(Said::Take(5, String::from_str(alloc, "first")?));
+    assert!(rt; answers[11] == taken);
+    Ok(())
+}
