@@ -7,13 +7,14 @@
 //!
 //! Read `line_buf.rt` with `specs/Buffer.antt` and `specs/Block.antt`, `context.rt` and `civil.rt` with
 //! `specs/Civil.antt`, `clip.rt` with `specs/Clip.antt`, `names.rt`, `times.rt` and `flag_texts.rt` with
-//! `specs/Text.antt`, `pads.rt`, and `lines.rt` with `specs/Line.antt`.
+//! `specs/Text.antt`, `pads.rt`, and `lines.rt` with `specs/Line.antt`; `laws.rt` states that a message has one line.
 #![tactic(auto)]
 
 mod civil;
 mod clip;
 mod context;
 mod flag_texts;
+pub mod laws;
 mod line_buf;
 mod lines;
 mod names;
