@@ -1,5 +1,5 @@
 -- Writing up to an end, once and again.
-use Rattle.std.proofs.Common.{◌≡◌, ℕ, suc, ◌+◌, ◌-◌, ◌*◌, ◌/◌, ◌%◌, ◌≤◌, ◌<◌, ◌↔◌, min, List, [], ◌∷◌, ◌++◌, length, take, drop, set, Result, Ok, Err, refl, ap, sym, ◌∙◌, append_assoc, arith, inl, inr, length-append, length-take}
+use Rattle.std.proofs.Common.{◌≡◌, ℕ, suc, ◌+◌, ◌-◌, ◌/◌, ◌%◌, ◌≤◌, ◌<◌, ◌↔◌, min, List, [], ◌∷◌, ◌++◌, length, take, drop, set, Result, Ok, Err, refl, ap, sym, ◌∙◌, append_assoc, arith, inl, inr, length-take}
 use Rattle.std.specs.Prelude.{OnOk, IsErr}
 use Rattle.std.proofs.Math.Seq.{take-append-add}
 use Rattle.std.proofs.lemmas.Bool.{cases_lt}
@@ -28,8 +28,8 @@ take_again : (xs ys : List ℕ) (end : ℕ) → take end (take end xs ++ ys) ≡
 take_again xs ys end =
     elim (cases_lt end (length xs)) [
       | inl less ↦
-        take-append-le end (take end xs) ys (omega (arith, length-take end xs)) ∙ take-take end end xs (omega arith)
-        ∙ sym (take-append-le end xs ys (omega arith))
+          take-append-le end (take end xs) ys (omega (arith, length-take end xs)) ∙ take-take end end xs (omega arith)
+          ∙ sym (take-append-le end xs ys (omega arith))
       | inr within ↦ ap (λ t. take end (t ++ ys)) (take_all end xs within)
     ]
 
@@ -45,7 +45,7 @@ then_written a b c end xs ys e f = f ∙ ap (λ (x : Buffer). clipped x end ys) 
 -- one more digit in front
 pub digits_more : (text : List ℕ) (left count rest : ℕ) → 0 < left → left ≤ count → left ≤ length text
     → digits (left - 1) (rest / 10) ++ take (count - (left - 1)) (drop (left - 1) (set text (left - 1) (48 + rest % 10)))
-      ≡ digits left rest ++ take (count - left) (drop left text)
+    ≡ digits left rest ++ take (count - left) (drop left text)
 unfolding digits
 digits_more text left count rest some less room =
     let j : ℕ = left - 1 in

@@ -1,5 +1,5 @@
 -- How long the texts of items are at most, and the texts of a row of items.
-use Rattle.std.proofs.Common.{◌≡◌, ℕ, suc, ◌+◌, ◌≤◌, ◌<◌, max, cond, Bool, true, false, List, [], ◌∷◌, ◌++◌, length, take, drop, get_or, sum_by, Option, Some, None, refl, ap, sym, ◌∙◌, arith, append_assoc, append-nil, length-append}
+use Rattle.std.proofs.Common.{◌≡◌, ℕ, ◌+◌, ◌≤◌, ◌<◌, max, cond, Bool, true, false, List, [], ◌∷◌, ◌++◌, length, take, drop, get_or, sum_by, Option, Some, None, ap, sym, ◌∙◌, arith, append_assoc, append-nil, length-append}
 use Rattle.std.specs.List.{flat_map}
 use Rattle.std.proofs.lemmas.List.{take_more}
 use Rattle.std.proofs.lemmas.List.Sums.{sum_by-drop_more}
@@ -8,7 +8,6 @@ use Rattle.alog_pattern.specs.declared.items.Padding.{Padding}
 use Rattle.alog_pattern.specs.declared.items.Side.{Side}
 use Rattle.alog_pattern.specs.declared.items.Item.{Item}
 use Rattle.alog_pattern.specs.declared.items.Item.TheVariants as items
-use Rattle.alog_pattern.specs.declared.flags.Flag.{Flag}
 use Rattle.alog_pattern.specs.declared.flags.Flag.TheVariants as flags
 use Rattle.alog_pattern.specs.Flag.{greatest_len, ignores_padding}
 use Rattle.alog_pattern.specs.Length.{item_len, padded_len}

@@ -1,11 +1,11 @@
 -- A text that is written as far as its padding lets it, and then padded.
-use Rattle.std.proofs.Common.{◌≡◌, ℕ, ◌+◌, ◌-◌, ◌≤◌, ◌<◌, max, min, cond, ltb, Bool, true, false, List, ◌++◌, length, take, drop, refl, ap, sym, ◌∙◌, arith, inl, inr, length-append, length-take, append-nil}
+use Rattle.std.proofs.Common.{◌≡◌, ℕ, ◌+◌, ◌-◌, ◌≤◌, max, cond, ltb, Bool, true, false, List, ◌++◌, length, take, drop, refl, ap, sym, ◌∙◌, arith, inl, inr, length-append, length-take}
 use Rattle.std.proofs.Math.Seq.{take-append-add}
 use Rattle.std.proofs.lemmas.Bool.{cases_lt, lt-ltb, le-ltb, cond-true, cond-false}
 use Rattle.std.proofs.lemmas.List.{take_all, take_at, drop_at}
 use Rattle.alog_pattern.specs.declared.items.Padding.{Padding}
 use Rattle.alog_pattern.specs.declared.items.Side.{Side}
-use Rattle.alog_pattern.specs.Padding.{pad, spaces, spaces_before}
+use Rattle.alog_pattern.specs.Padding.{pad}
 use Rattle.alog_pattern.proofs.PaddedLength.{length-pad}
 use Rattle.alog_format.specs.Buffer.{Buffer, appended}
 use Rattle.alog_format.specs.Clip.{clipped, HasEnd, limit_of, padded_from}
@@ -45,13 +45,13 @@ pad-kept width side false text = refl
 pad-kept width side true text =
     elim (cases_lt (length text) width) [
       | inl short ↦
-        let all : take width text ≡ text = take_all width text (omega arith) in
-        let test : ltb (length text) width ≡ true = lt-ltb (length text) width short in
-        ap (pad width side false) all ∙ cond-true _ _ _ test ∙ sym (cond-true _ _ _ test)
+          let all : take width text ≡ text = take_all width text (omega arith) in
+          let test : ltb (length text) width ≡ true = lt-ltb (length text) width short in
+          ap (pad width side false) all ∙ cond-true _ _ _ test ∙ sym (cond-true _ _ _ test)
       | inr long ↦
-        let here : ltb (length (take width text)) width ≡ false = le-ltb (length (take width text)) width (omega (arith, length-take width text)) in
-        let there : ltb (length text) width ≡ false = le-ltb (length text) width long in
-        cond-false _ _ _ here ∙ sym (cond-false _ _ _ there)
+          let here : ltb (length (take width text)) width ≡ false = le-ltb (length (take width text)) width (omega (arith, length-take width text)) in
+          let there : ltb (length text) width ≡ false = le-ltb (length text) width long in
+          cond-false _ _ _ here ∙ sym (cond-false _ _ _ there)
     ]
 
 -- the text was written, behind what stood before

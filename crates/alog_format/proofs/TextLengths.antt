@@ -1,8 +1,6 @@
 -- How long the texts of flags and items are at most.
-use Rattle.std.proofs.Common.{◌≡◌, ℕ, zero, suc, ◌+◌, ◌-◌, ◌*◌, ◌/◌, ◌%◌, ◌^◌, ◌≤◌, ◌<◌, max, cond, Bool, true, false, List, [], ◌∷◌, ◌++◌, length, take, drop, map, sum_by, Option, Some, None, ℤ, pos, negsuc, refl, ap, sym, ◌∙◌, subst, arith, length-append, length-take, length-drop, FitsSigned, w64, lit≤}
-use Rattle.std.specs.Prelude.{codes, decimal, nat_lt, ◌==◌, unsigned_abs}
-use Rattle.std.specs.Fmt.{signed_decimal}
-use Rattle.std.specs.Int.{int_div_euclid}
+use Rattle.std.proofs.Common.{◌≡◌, ℕ, zero, suc, ◌+◌, ◌/◌, ◌%◌, ◌^◌, ◌≤◌, ◌<◌, cond, Bool, true, false, List, [], ◌∷◌, length, Option, Some, None, ℤ, pos, negsuc, refl, ◌∙◌, arith, length-append, length-take, length-drop, FitsSigned, w64, lit≤}
+use Rattle.std.specs.Prelude.{decimal, nat_lt, ◌==◌}
 use Rattle.std.proofs.lemmas.Fmt.{length-decimal-le}
 use Rattle.std.proofs.lemmas.Int.{ints}
 use Rattle.alog_msg.specs.declared.level.Level.{Level}

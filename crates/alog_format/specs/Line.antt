@@ -61,3 +61,8 @@ pub record IsShowable (limit : ℕ) (s : Shown) : Type 0 where
 -- the new buffer is the old one with the message's line behind it
 abbrev pub AppendsLine : Context → List Item → List ℕ → Message → Buffer → Buffer → Type 0
 AppendsLine context items name message old new = (bytes : List ℕ) × IsLine context items name message bytes × (new ≡ appended old bytes)
+
+-- two lines of the message are the same
+abbrev pub HasOneLine : Context → List Item → List ℕ → Message → Type 0
+HasOneLine context items name message =
+    (bytes others : List ℕ) → IsLine context items name message bytes → IsLine context items name message others → bytes ≡ others

@@ -2,11 +2,10 @@ ghost use Rattle.std.specs.Prelude.{◌≡◌};
 ghost use Rattle.jiff.specs.Words.{civil_nanos};
 ghost use Rattle.alog_format.specs.Civil.{fields, local_nanos, IsShownAt, IsZone};
 
+use crate::context::Zone;
 use jiff::Timestamp;
 use jiff::civil::DateTime;
 use jiff::tz::Offset;
-
-use crate::context::Zone;
 
 /// What a clock shows.
 #[derive(Clone, Copy)]

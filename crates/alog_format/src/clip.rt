@@ -3,9 +3,8 @@ ghost use Rattle.std.specs.Fmt.{signed_decimal};
 ghost use Rattle.alog_format.specs.Clip.{clipped, HasEnd};
 ghost use Rattle.alog_format.specs.Text.{digits};
 
-use itoa::Buffer;
-
 use crate::line_buf::LineBuf;
+use itoa::Buffer;
 
 /// Appends the bytes as far as the end.
 #[tactic(auto, unfolding(crate::specs::Clip::clipped, crate::specs::Clip::HasEnd))]

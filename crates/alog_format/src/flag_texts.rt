@@ -3,9 +3,6 @@ ghost use Rattle.alog_format.specs.Clip.{clipped, HasEnd};
 ghost use Rattle.alog_format.specs.Line.{shown_by};
 ghost use Rattle.alog_format.specs.Text as text;
 
-use alog_msg::{Message, Source};
-use alog_pattern::Flag;
-
 use crate::civil::Civil;
 use crate::clip::{write, write_decimal, write_digits, write_signed};
 use crate::line_buf::LineBuf;
@@ -14,6 +11,8 @@ use crate::times::{
     write_date_and_time, write_half_day_time, write_offset, write_short_date, write_short_month,
     write_short_time, write_short_weekday, write_stamp, write_time,
 };
+use alog_msg::{Message, Source};
+use alog_pattern::Flag;
 
 /// What a line shows: a message, and what its sink adds.
 #[derive(Clone, Copy)]
@@ -222,7 +221,6 @@ fn write_place_part(line: &mut LineBuf, end: usize, message: &Message)
         None => write(line, end, b""),
     }
 }
-
 
 /// Appends a file and the line of a source in brackets.
 fn write_bracketed_place(line: &mut LineBuf, end: usize, file: &[u8], source: &Source)

@@ -1,15 +1,20 @@
 //! Lines: how a message is written out by a pattern, after spdlog's custom formatting.
 //!
-//! `LineBuf` is the block of bytes that lines are made in. The model of a buffer is its bytes and its capacity
-//! (`specs/Buffer.antt`).
+//! `format` appends the line of a message to a `LineBuf`, a block of bytes of fixed capacity. The model of a buffer is
+//! a list with a capacity; the line is the joined texts of the pattern's items and a newline (`specs/Line.antt`), each
+//! flag's text by a table (`specs/Text.antt`). Every writer goes up to an end, so a text that is cut is never longer
+//! in the buffer than its width, and a buffer with room for the pattern's longest line is never too short.
 //!
-//! Read `line_buf.rt` first.
+//! Read `line_buf.rt` with `specs/Buffer.antt` and `specs/Block.antt`, `context.rt` and `civil.rt` with
+//! `specs/Civil.antt`, `clip.rt` with `specs/Clip.antt`, `names.rt`, `times.rt` and `flag_texts.rt` with
+//! `specs/Text.antt`, `pads.rt`, and `lines.rt` with `specs/Line.antt`; `laws.rt` states that a message has one line.
 #![tactic(auto)]
 
 mod civil;
 mod clip;
 mod context;
 mod flag_texts;
+pub mod laws;
 mod line_buf;
 mod lines;
 mod names;

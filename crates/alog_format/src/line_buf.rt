@@ -119,7 +119,7 @@ impl LineBuf {
     pub fn room(&self) -> usize
         ensures { result + length self.now.bytes ≡ self.now.capacity }
     {
-        self.block.len() - self.len
+        self.capacity() - self.len
     }
 }
 

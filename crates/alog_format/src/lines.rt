@@ -8,14 +8,13 @@ ghost use Rattle.alog_format.specs.Buffer.{appended};
 ghost use Rattle.alog_format.specs.Line.{shown_by, item_text, AppendsLine, IsShown, IsShowable, SourceFits};
 ghost use Rattle.alog_format.specs.Text.{flag_text, of_source};
 
-use alog_msg::Message;
-use alog_pattern::{Flag, Item, Padding, Pattern, Side};
-
 use crate::civil::civil_at;
 use crate::context::Context;
 use crate::flag_texts::{Facts, write_flag};
 use crate::line_buf::LineBuf;
 use crate::pads::write_padded;
+use alog_msg::Message;
+use alog_pattern::{Flag, Item, Padding, Pattern, Side};
 
 /// Appends the line of a message: the texts of the pattern's items in order, and a newline.
 ///

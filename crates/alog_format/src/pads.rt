@@ -5,10 +5,9 @@ ghost use Rattle.alog_format.specs.Clip.{limit_of, padded_from, surrounded};
 ghost use Rattle.alog_format.specs.Line.{shown_by};
 ghost use Rattle.alog_format.specs.Text.{flag_text};
 
-use alog_pattern::{Flag, Padding, Side};
-
 use crate::flag_texts::{Facts, write_flag};
 use crate::line_buf::LineBuf;
+use alog_pattern::{Flag, Padding, Side};
 
 /// Appends the text of a flag, padded.
 pub(crate) fn write_padded(line: &mut LineBuf, padding: Padding, flag: Flag, facts: Facts<'_>)

@@ -1,10 +1,8 @@
-use std::process::Abort;
-use std::test::Fail;
-
+use crate::{Context, LineBuf, NoRoom, Zone, format};
 use alog_msg::{Level, Message, SourceRef};
 use alog_pattern::Pattern;
-
-use crate::{Context, LineBuf, NoRoom, Zone, format};
+use std::process::Abort;
+use std::test::Fail;
 
 const LIMIT: usize = 2048;
 
@@ -51,7 +49,14 @@ fn said_in(rt: &impl AllocGlobal, file: &str, line: u32, function: &str) -> Resu
 #[test]
 fn pads_a_level(rt: HostRuntime) -> Result<(), Fail> {
     let info = said(&rt, Level::Info, 0, "")?;
-    check(&rt, b"%8l|%-8l|%=8l|%3!l", &UTC, "", &info, b"    info|info    |  info  |inf")?;
+    check(
+        &rt,
+        b"%8l|%-8l|%=8l|%3!l",
+        &UTC,
+        "",
+        &info,
+        b"    info|info    |  info  |inf",
+    )?;
     let error = said(&rt, Level::Error, 0, "")?;
     check(&rt, b"%=8l", &UTC, "", &error, b" error  ")?;
     check(&rt, b"%=5L|%-3!n|", &UTC, "abcdef", &info, b"  I  |abc|")
@@ -62,18 +67,39 @@ fn writes_unknown_flags(rt: HostRuntime) -> Result<(), Fail> {
     let x = said(&rt, Level::Info, 0, "x")?;
     check(&rt, b"%q %5q %% %", &UTC, "", &x, b"%q %q % ")?;
     check(&rt, b"%-v|", &UTC, "", &x, b"x|")?;
-    check(&rt, b"%5!q%@%s%g%#%!|%3!v|%^%$%t %P", &UTC, "", &x, b"     q|  x|5 7")?;
+    check(
+        &rt,
+        b"%5!q%@%s%g%#%!|%3!v|%^%$%t %P",
+        &UTC,
+        "",
+        &x,
+        b"     q|  x|5 7",
+    )?;
     let main = said_in(&rt, "src/main.rs", 7, "main")?;
     check(&rt, b"[%6!]", &UTC, "", &main, b"[  main]")?;
     check(&rt, b"%3!5", &UTC, "", &main, b"main5")?;
-    check(&rt, b"%@ %s %g %# %!", &UTC, "", &main, b"src/main.rs:7 main.rs src/main.rs 7 main")
+    check(
+        &rt,
+        b"%@ %s %g %# %!",
+        &UTC,
+        "",
+        &main,
+        b"src/main.rs:7 main.rs src/main.rs 7 main",
+    )
 }
 
 #[test]
 fn tells_the_time(rt: HostRuntime) -> Result<(), Fail> {
     let before = said(&rt, Level::Info, -1, "")?;
     let text = b"1969-12-31 23:59:59.999999999 -1";
-    check(&rt, b"%Y-%m-%d %T.%F %E", &UTC, "", &before, text.as_slice())?;
+    check(
+        &rt,
+        b"%Y-%m-%d %T.%F %E",
+        &UTC,
+        "",
+        &before,
+        text.as_slice(),
+    )?;
     let midnight = said(&rt, Level::Info, 300_000_000_000, "")?;
     check(&rt, b"%I %p", &UTC, "", &midnight, b"12 AM")?;
     let later = said(&rt, Level::Info, 1_706_974_546_000_000_000, "")?;
@@ -88,7 +114,14 @@ fn tells_the_time(rt: HostRuntime) -> Result<(), Fail> {
         zone: Zone::Fixed(-30),
         process: 0,
     };
-    check(&rt, b"%z %A %B %e %f %C %x %X", &west, "", &later, b"-00:30 Saturday February 000 000000 24 02/03/24 15:05:46")
+    check(
+        &rt,
+        b"%z %A %B %e %f %C %x %X",
+        &west,
+        "",
+        &later,
+        b"-00:30 Saturday February 000 000000 24 02/03/24 15:05:46",
+    )
 }
 
 #[test]
@@ -97,7 +130,14 @@ fn writes_the_default_format(rt: HostRuntime) -> Result<(), Fail> {
     let text = b"[2014-10-31 23:46:59.678] [mylogger] [info] Some message";
     check(&rt, b"%+", &UTC, "mylogger", &some, text.as_slice())?;
     let main = said_in(&rt, "src/main.rs", 7, "")?;
-    check(&rt, b"%+", &UTC, "", &main, b"[1970-01-01 00:00:00.000] [info] [main.rs:7] x")
+    check(
+        &rt,
+        b"%+",
+        &UTC,
+        "",
+        &main,
+        b"[1970-01-01 00:00:00.000] [info] [main.rs:7] x",
+    )
 }
 
 #[test]

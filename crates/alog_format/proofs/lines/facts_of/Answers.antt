@@ -1,5 +1,5 @@
-use Rattle.std.proofs.Common.{ℕ, ℤ, ap, FitsSigned, w16, w64, rules, arith, ◌∙◌}
-use Rattle.std.proofs.lemmas.Int.{to_z-of_z, ints}
+use Rattle.std.proofs.Common.{ℕ, ℤ, ap, FitsSigned, w16, w64, rules, ◌∙◌}
+use Rattle.std.proofs.lemmas.Int.{to_z-of_z}
 use Rattle.alog_format.specs.Text.{Shown}
 use Rattle.alog_format.proofs.lines.facts_of.Goals as goal
 

@@ -1,4 +1,4 @@
-use Rattle.std.proofs.Common.{◌≡◌, refl, ap}
+use Rattle.std.proofs.Common.{◌≡◌, refl}
 use Rattle.std.specs.List.{flat_map}
 use Rattle.alog_pattern.specs.declared.items.Item.{Item}
 use Rattle.std.proofs.Common.{List}

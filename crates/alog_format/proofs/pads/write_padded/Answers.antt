@@ -1,4 +1,3 @@
-use Rattle.std.proofs.Common.{◌≡◌, sym, ◌∙◌}
 use Rattle.alog_format.specs.Text.{flag_text}
 use Rattle.alog_format.specs.Line.{shown_by}
 use Rattle.alog_format.proofs.PaddedTexts.{has_end, is_kept, kept_fits, kept_behind, padded_is}

@@ -1,0 +1,10 @@
+ghost use Rattle.std.specs.Prelude.{ℕ, List};
+ghost use Rattle.alog_msg.specs.declared.message.Message.{Message};
+ghost use Rattle.alog_pattern.specs.declared.items.Item.{Item};
+ghost use Rattle.alog_format.specs.declared.context.Context.{Context};
+ghost use Rattle.alog_format.specs.Line.{HasOneLine};
+
+/// A message has one line.
+pub fn one_line()
+    ensures { (context : Context) (items : List Item) (name : List ℕ) (message : Message) → HasOneLine context items name message }
+{}
