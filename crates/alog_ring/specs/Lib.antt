@@ -1,0 +1,4 @@
+pub mod Sight
+pub mod Made
+pub mod Rule
+pub mod Plays

@@ -1,0 +1,6 @@
+//! The running ring.
+#![tactic(auto)]
+
+mod view;
+
+pub use view::View;
