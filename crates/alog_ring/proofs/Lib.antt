@@ -2,3 +2,4 @@ pub mod Lists
 pub mod Telling
 pub mod Turning
 pub mod Showing
+pub mod Looking
