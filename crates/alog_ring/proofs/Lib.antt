@@ -3,3 +3,4 @@ pub mod Telling
 pub mod Turning
 pub mod Showing
 pub mod Looking
+pub mod Stepping

@@ -11,7 +11,7 @@ use Rattle.alog_core.proofs.Histories.{own_of-append}
 use Rattle.alog_ring.specs.Sight.{Account, Known, Sight, all_parts}
 use Rattle.alog_ring.specs.Made.{AreExact}
 use Rattle.alog_ring.specs.Rule.{parts_of, IsAmong, IsRetired, IsTakenIn, HasAccounts, Told}
-use Rattle.alog_ring.proofs.Lists.{same_or_not, inside, one_value, prefix_longer, each_of, each_of_two, sum_changed}
+use Rattle.alog_ring.proofs.Lists.{same_or_not, inside, one_value, prefix_same, prefix_longer, each_of, each_of_two, sum_changed}
 
 module _ {T N : Type 0} where
   -- these entries are the actor's
@@ -120,3 +120,21 @@ module _ {T N : Type 0} where
       where
         view_is : (b : ℕ) (u : Sight T N) → get_elem? (set views a w) b ≡ some u → (P : Sight T N → Type 0) → P w → (b ≢ a → get_elem? views b ≡ some u → P u) → P u
         view_is b u e P mine others = elim (at_set views a b w u e) [ inl same ↦ subst P same.1 mine | inr other ↦ others other.0 other.1 ]
+
+  -- the pass when it has seen the history with the entries that it adds
+  abbrev pub grown : Known T N → List (Entry T N) → List (Entry T N) → Known T N
+  grown k h more = record { places = k.places; first = k.first; actor = k.actor; parts = k.parts; seen = h ++ more; own = k.own ++ more; joined = k.joined }
+
+  pub grows_now : (n f a : ℕ) (h more : List (Entry T N)) (views : List (Sight T N)) (v : Sight T N) → Told n f h views → get_elem? views a ≡ some v → 0 < v.known.parts → AreOf a more → Grows a v.known (grown v.known h more) h more
+  grows_now n f a h more views v told at live of =
+      let has : HasAccounts h views a v.known = told.accounts a v at live
+      in record {
+        places = refl;
+        first = refl;
+        parts = refl;
+        joined = refl;
+        own = refl;
+        seen = prefix_same (h ++ more);
+        own_seen = (λ i. has.own i ++ sym of.all i) ∙ sym (own_of-append a h more);
+        joined_seen = exact_longer views a v v at live h more v.known.joined of has.retired has.joined;
+      }
