@@ -4,3 +4,4 @@ pub mod Turning
 pub mod Showing
 pub mod Looking
 pub mod Stepping
+pub mod Acting
