@@ -5,3 +5,4 @@ pub mod Showing
 pub mod Looking
 pub mod Stepping
 pub mod Acting
+pub mod Steps

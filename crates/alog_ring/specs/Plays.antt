@@ -29,8 +29,8 @@ module _ {S T N : Type 0} where
   Ends note m m' e = Acts note m m' e Idle × (m'.1 ≡ m.1)
 
   -- A push reads the enqueue position,
-  abbrev pub saw_tail : N → Step S → Me S (Sight T N) → ℕ → Me S (Sight T N) → Type 0
-  saw_tail blank st m r m' = (next_seen m.0.known ≤ r) × (r ≤ last) × (r ≡ last → Ends blank m m' Spent) × (r < last → Looks m m' (SawTail r))
+  abbrev pub saw_tail : N → Me S (Sight T N) → ℕ → Me S (Sight T N) → Type 0
+  saw_tail blank m r m' = (next_seen m.0.known ≤ r) × (r ≤ last) × (r ≡ last → Ends blank m m' Spent) × (r < last → Looks m m' (SawTail r))
 
   -- reads the sequence of its ticket's place,
   abbrev pub saw_free : N → ℕ → Me S (Sight T N) → ℕ → Me S (Sight T N) → Type 0
@@ -47,8 +47,8 @@ module _ {S T N : Type 0} where
   wrote blank t m m' = Acts blank m m' (Write t) Idle × (m'.1 ≡ rest m.1)
 
   -- A pop reads the dequeue position,
-  abbrev pub saw_head : Step S → Me S (Sight T N) → ℕ → Me S (Sight T N) → Type 0
-  saw_head st m r m' = (front_seen m.0.known ≤ r) × (r ≤ last) × Looks m m' (SawHead r)
+  abbrev pub saw_head : Me S (Sight T N) → ℕ → Me S (Sight T N) → Type 0
+  saw_head m r m' = (front_seen m.0.known ≤ r) × (r ≤ last) × Looks m m' (SawHead r)
 
   -- reads the sequence of its ticket's place,
   abbrev pub saw_full : N → ℕ → Me S (Sight T N) → ℕ → Me S (Sight T N) → Type 0
