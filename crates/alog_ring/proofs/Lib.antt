@@ -6,3 +6,5 @@ pub mod Looking
 pub mod Stepping
 pub mod Acting
 pub mod Steps
+pub mod Places
+pub mod Calling

@@ -2,3 +2,5 @@ pub mod Sight
 pub mod Made
 pub mod Rule
 pub mod Plays
+pub mod Kinds
+pub mod Calls

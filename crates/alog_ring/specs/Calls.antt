@@ -1,0 +1,54 @@
+-- What the calls of a ring promise.
+use Rattle.std.specs.Prelude.{◌≡◌, ℕ, ◌+◌, ◌%◌, ◌<◌, ◌≤◌, [], ◌∷◌, Option, bit_and}
+use Rattle.std.specs.Int.{IsPowerOfTwo}
+use Rattle.atomic_table.specs.Table.{Me}
+use Rattle.alog_core.specs.Queue.{Event, Claim, Write, Grab, Take}
+use Rattle.alog_core.specs.History.{Entry}
+use Rattle.alog_ring.specs.Sight.{Known, Sight, Idle, RingId, PassView, first_known}
+use Rattle.alog_ring.specs.Made.{Made, EndsWith}
+use Rattle.alog_ring.specs.Plays.{entry, Adds}
+use Rattle.alog_ring.specs.Kinds.{no_note}
+
+-- the number of places of a ring
+abbrev pub IsSize : ℕ → Type 0
+IsSize n = IsPowerOfTwo n × (2 ≤ n) × (n ≤ 65536)
+
+-- what a mask keeps of a number is its remainder
+abbrev pub Masks : ℕ → Type 0
+Masks mask = (t : ℕ) → bit_and t mask ≡ t % (mask + 1)
+
+module _ {T : Type 0} where
+  -- the seat claimed the ticket and wrote it, with this value
+  abbrev pub Fills : Me (Option T) (Sight T no_note) → Me (Option T) (Sight T no_note) → ℕ → T → Type 0
+  Fills m m' t x = (k : Known T no_note) × Adds tt m.0.known k (Claim t x) × Adds tt k m'.0.known (Write t) × (m'.0.stage ≡ Idle) × (m'.1 ≡ m.1)
+
+  -- the seat grabbed the ticket and took this value
+  abbrev pub Empties : Me (Option T) (Sight T no_note) → Me (Option T) (Sight T no_note) → ℕ → T → Type 0
+  Empties m m' t x = (k : Known T no_note) × Adds tt m.0.known k (Grab t) × Adds tt k m'.0.known (Take t x) × (m'.0.stage ≡ Idle) × (m'.1 ≡ m.1)
+
+  -- the pass belongs to the ring
+  pub record IsPassOf (r : RingId) (p : PassView T no_note) : Type 0 where
+    pub table : p.table ≡ r.table
+    pub places : p.known.places ≡ r.places
+    pub first : p.known.first ≡ r.first
+
+  -- a ring's first pass has seen nothing and has all parts
+  pub record IsFirstPass (r : RingId) (p : PassView T no_note) : Type 0 where
+    pub table : p.table ≡ r.table
+    pub known : p.known ≡ first_known r.places r.first
+
+  -- an entry of the pass
+  abbrev pub by : Known T no_note → Event T → Entry T no_note
+  by k e = entry tt k e
+
+  -- the pass claimed and wrote the ticket, with this value
+  abbrev pub Pushed : Known T no_note → Known T no_note → ℕ → T → Type 0
+  Pushed old new t x = Made old new (by old (Claim t x) ∷ by old (Write t) ∷ []) × EndsWith new (by old (Write t))
+
+  -- the pass grabbed the ticket and took this value
+  abbrev pub Popped : Known T no_note → Known T no_note → ℕ → T → Type 0
+  Popped old new t x = Made old new (by old (Grab t) ∷ by old (Take t x) ∷ []) × EndsWith new (by old (Take t x))
+
+  -- the pass answered this and did nothing else
+  abbrev pub Answered : Known T no_note → Known T no_note → Event T → Type 0
+  Answered old new e = Adds tt old new e

@@ -1,0 +1,93 @@
+//! The table of a ring, and the steps of a push and of a pop on it.
+ghost use Rattle.std.specs.Prelude.{◌≡◌, ℕ, ◌+◌, ◌%◌, ◌<◌, [], MatchResult};
+ghost use Rattle.alog_core.specs.Queue.{last, Claim, Write, PushBusy};
+ghost use Rattle.alog_ring.specs.Sight.{Idle, SawTail, SawFree, SawHead, SawFull};
+ghost use Rattle.alog_ring.specs.Rule.{word_count};
+ghost use Rattle.alog_ring.specs.Plays.{saw_tail, saw_free, Ends};
+ghost use Rattle.alog_ring.specs.Calls.{Masks, Fills};
+
+use crate::plays::{Claims, SeeFree, SeeTail, Writes};
+use crate::view::{Law, Shape, View};
+use atomic_table::{Seat, Table};
+use std::alloc::Global;
+
+/// The word of the enqueue position: from it the next ticket is claimed.
+const TAIL: usize = 16;
+
+/// The word of the dequeue position: from it the front ticket is grabbed.
+const HEAD: usize = 32;
+
+/// The word of the first place's sequence. Each further one lies `APART` words on, on a cache line of its own.
+const SEQUENCES: usize = 48;
+
+const APART: usize = 8;
+
+/// No ticket is as large.
+pub(crate) const LAST: u64 = 1 << 62;
+
+/// A place of the board, and what it waits for: a sequence that is the ticket means that the place is free for the
+/// ticket, one more that its item is written there.
+#[derive(Drop)]
+pub(crate) struct Board<T> {
+    pub(crate) table: Table<Option<T>, View<T, ()>, Shape, Law, Global>,
+    pub(crate) mask: u64,
+    ghost sized: { (table.shared.table_id.words ≡ word_count (mask + 1)) × (table.shared.table_id.slots ≡ mask + 1) × (table.shared.key.places ≡ mask + 1) × (mask < 65536) × Masks mask },
+}
+
+impl<T> Board<T> {
+    /// The place of a ticket: the ticket modulo the number of places.
+    fn place_of(&self, ticket: u64) -> usize
+        ensures place { result ≡ ticket % (self.now.mask + 1) }
+        ensures within { result < self.now.mask + 1 }
+    {
+        (ticket & self.mask) as usize
+    }
+
+    pub(crate) fn see_tail(&self, seat: &mut Seat<Option<T>, View<T, ()>>) -> u64
+        requires table { seat.old.table_id ≡ self.now.table.shared.table_id }
+        requires stage { seat.old.me.0.stage ≡ Idle }
+        ensures table { seat.new.table_id ≡ seat.old.table_id }
+        ensures tail { saw_tail tt seat.old.me result seat.new.me }
+    {
+        self.table.shared.load::<SeeTail>(seat, TAIL)
+    }
+
+    pub(crate) fn see_free(&self, seat: &mut Seat<Option<T>, View<T, ()>>, ticket: u64) -> u64
+        requires table { seat.old.table_id ≡ self.now.table.shared.table_id }
+        requires stage { seat.old.me.0.stage ≡ SawTail ticket }
+        ensures table { seat.new.table_id ≡ seat.old.table_id }
+        ensures sequence { saw_free tt ticket seat.old.me result seat.new.me }
+    {
+        let word = self.place_of(ticket) * APART + SEQUENCES;
+        self.table.shared.load::<SeeFree>(seat, word)
+    }
+
+    /// Claims the ticket, puts the value into its place, and writes the ticket. Or gives the value back, where another
+    /// has claimed the ticket.
+    pub(crate) fn claim_and_fill(
+        &self,
+        seat: &mut Seat<Option<T>, View<T, ()>>,
+        ticket: u64,
+        value: T,
+    ) -> Result<(), T>
+        requires table { seat.old.table_id ≡ self.now.table.shared.table_id }
+        requires stage { seat.old.me.0.stage ≡ SawFree ticket }
+        requires below { ticket < last }
+        ensures table { seat.new.table_id ≡ seat.old.table_id }
+        ensures told { MatchResult result (λ _. Fills seat.old.me seat.new.me ticket value) (λ back. (back ≡ value) × Ends tt seat.old.me seat.new.me (PushBusy ticket)) }
+    {
+        let words = &self.table.shared;
+        let place = self.place_of(ticket);
+        let item = Some(value);
+        let found = words.compare_exchange_with::<Claims>(seat, TAIL, ticket, ticket + 1, &item);
+        if found != ticket {
+            return Err(item.unwrap());
+        }
+        match words.exchange(seat, place, item) {
+            None => {}
+            Some(_) => unreachable!(),
+        }
+        words.store::<Writes>(seat, place * APART + SEQUENCES, ticket + 1);
+        Ok(())
+    }
+}
