@@ -84,3 +84,10 @@ module _ {T : Type 0} (slots t new place found n : ℕ) (said : Option T) (old m
         done.0.1,
         done.1 ∙ ap rest emptying_place,
       )
+
+  -- what came out of the place
+  pub emptied_value : (got : Option T) → mid.1 ≡ (place, got) ∷ rest mid.1 → got ≡ Some (told.0 hit).0
+  emptied_value got has =
+      let both : (place, got) ∷ rest mid.1 ≡ (found % slots, Some (told.0 hit).0) ∷ old.1 = sym has ∙ (told.0 hit).2
+      in let pair : ◌≡◌ {A = ℕ × Option T} (place, got) (found % slots, Some (told.0 hit).0) = cc
+      in ap (λ (z : ℕ × Option T). z.1) pair

@@ -1,12 +1,12 @@
 //! The table of a ring, and the steps of a push and of a pop on it.
-ghost use Rattle.std.specs.Prelude.{◌≡◌, ℕ, ◌+◌, ◌%◌, ◌<◌, [], MatchResult};
-ghost use Rattle.alog_core.specs.Queue.{last, Claim, Write, PushBusy};
+ghost use Rattle.std.specs.Prelude.{◌≡◌, ℕ, ◌+◌, ◌%◌, ◌<◌, ◌≤◌, [], MatchOption, MatchResult};
+ghost use Rattle.alog_core.specs.Queue.{last, PushBusy, PopBusy};
 ghost use Rattle.alog_ring.specs.Sight.{Idle, SawTail, SawFree, SawHead, SawFull};
 ghost use Rattle.alog_ring.specs.Rule.{word_count};
-ghost use Rattle.alog_ring.specs.Plays.{saw_tail, saw_free, Ends};
-ghost use Rattle.alog_ring.specs.Calls.{Masks, Fills};
+ghost use Rattle.alog_ring.specs.Plays.{saw_tail, saw_free, saw_head, saw_full, Ends};
+ghost use Rattle.alog_ring.specs.Calls.{Masks, Fills, Empties};
 
-use crate::plays::{Claims, SeeFree, SeeTail, Writes};
+use crate::plays::{Claims, Grabs, SeeFree, SeeFull, SeeHead, SeeTail, Takes, Writes};
 use crate::view::{Law, Shape, View};
 use atomic_table::{Seat, Table};
 use std::alloc::Global;
@@ -89,5 +89,49 @@ impl<T> Board<T> {
         }
         words.store::<Writes>(seat, place * APART + SEQUENCES, ticket + 1);
         Ok(())
+    }
+
+    pub(crate) fn see_head(&self, seat: &mut Seat<Option<T>, View<T, ()>>) -> u64
+        requires table { seat.old.table_id ≡ self.now.table.shared.table_id }
+        requires stage { seat.old.me.0.stage ≡ Idle }
+        ensures table { seat.new.table_id ≡ seat.old.table_id }
+        ensures head { saw_head seat.old.me result seat.new.me }
+    {
+        self.table.shared.load::<SeeHead>(seat, HEAD)
+    }
+
+    pub(crate) fn see_full(&self, seat: &mut Seat<Option<T>, View<T, ()>>, ticket: u64) -> u64
+        requires table { seat.old.table_id ≡ self.now.table.shared.table_id }
+        requires stage { seat.old.me.0.stage ≡ SawHead ticket }
+        ensures table { seat.new.table_id ≡ seat.old.table_id }
+        ensures sequence { saw_full tt ticket seat.old.me result seat.new.me }
+    {
+        let word = self.place_of(ticket) * APART + SEQUENCES;
+        self.table.shared.load::<SeeFull>(seat, word)
+    }
+
+    /// Grabs the ticket, takes the value out of its place, and gives the place back for the ticket a lap later. Or
+    /// answers None, where another has grabbed the ticket.
+    pub(crate) fn grab_and_empty(
+        &self,
+        seat: &mut Seat<Option<T>, View<T, ()>>,
+        ticket: u64,
+    ) -> Option<T>
+        requires table { seat.old.table_id ≡ self.now.table.shared.table_id }
+        requires stage { seat.old.me.0.stage ≡ SawFull ticket }
+        requires below { ticket ≤ last }
+        ensures table { seat.new.table_id ≡ seat.old.table_id }
+        ensures told { MatchOption result (Ends tt seat.old.me seat.new.me (PopBusy ticket)) (λ x. Empties seat.old.me seat.new.me ticket x) }
+    {
+        let words = &self.table.shared;
+        let place = self.place_of(ticket);
+        let nothing: Option<T> = None;
+        let found = words.compare_exchange_with::<Grabs>(seat, HEAD, ticket, ticket + 1, &nothing);
+        if found != ticket {
+            return nothing;
+        }
+        let item = words.exchange(seat, place, nothing);
+        words.store::<Takes>(seat, place * APART + SEQUENCES, ticket + (self.mask + 1));
+        item
     }
 }
