@@ -8,3 +8,4 @@ pub mod Acting
 pub mod Steps
 pub mod Places
 pub mod Calling
+pub mod Starting

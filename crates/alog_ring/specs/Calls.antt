@@ -1,10 +1,11 @@
 -- What the calls of a ring promise.
-use Rattle.std.specs.Prelude.{◌≡◌, ℕ, ◌+◌, ◌%◌, ◌<◌, ◌≤◌, [], ◌∷◌, Option, bit_and}
+use Rattle.std.specs.Prelude.{◌≡◌, ℕ, ◌+◌, ◌%◌, ◌<◌, ◌≤◌, [], ◌∷◌, List, length, slice_index, Option, bit_and}
 use Rattle.std.specs.Int.{IsPowerOfTwo}
 use Rattle.atomic_table.specs.Table.{Me}
 use Rattle.alog_core.specs.Queue.{Event, Claim, Write, Grab, Take}
 use Rattle.alog_core.specs.History.{Entry}
 use Rattle.alog_ring.specs.Sight.{Known, Sight, Idle, RingId, PassView, first_known}
+use Rattle.alog_ring.specs.Rule.{seq_of, word_count}
 use Rattle.alog_ring.specs.Made.{Made, EndsWith}
 use Rattle.alog_ring.specs.Plays.{entry, Adds}
 use Rattle.alog_ring.specs.Kinds.{no_note}
@@ -12,6 +13,13 @@ use Rattle.alog_ring.specs.Kinds.{no_note}
 -- the number of places of a ring
 abbrev pub IsSize : ℕ → Type 0
 IsSize n = IsPowerOfTwo n × (2 ≤ n) × (n ≤ 65536)
+
+-- The words of an empty ring: both positions, and the sequence of each place, which is the least ticket of the place.
+pub record AreFirstWords (n f : ℕ) (words : List ℕ) : Type 0 where
+  pub count : length words ≡ word_count n
+  pub tail : slice_index words 16 ≡ f
+  pub head : slice_index words 32 ≡ f
+  pub sequences : (t : ℕ) → f ≤ t → t < f + n → slice_index words (seq_of n t) ≡ t
 
 -- what a mask keeps of a number is its remainder
 abbrev pub Masks : ℕ → Type 0

@@ -1,15 +1,15 @@
 //! The table of a ring, and the steps of a push and of a pop on it.
-ghost use Rattle.std.specs.Prelude.{◌≡◌, ℕ, ◌+◌, ◌%◌, ◌<◌, ◌≤◌, [], MatchOption, MatchResult};
+ghost use Rattle.std.specs.Prelude.{◌≡◌, ℕ, ◌+◌, ◌%◌, ◌<◌, ◌≤◌, [], IfOk, MatchOption, MatchResult};
 ghost use Rattle.alog_core.specs.Queue.{last, PushBusy, PopBusy};
-ghost use Rattle.alog_ring.specs.Sight.{Idle, SawTail, SawFree, SawHead, SawFull};
+ghost use Rattle.alog_ring.specs.Sight.{first_sight, Idle, SawTail, SawFree, SawHead, SawFull};
 ghost use Rattle.alog_ring.specs.Rule.{word_count};
 ghost use Rattle.alog_ring.specs.Plays.{saw_tail, saw_free, saw_head, saw_full, Ends};
-ghost use Rattle.alog_ring.specs.Calls.{Masks, Fills, Empties};
+ghost use Rattle.alog_ring.specs.Calls.{IsSize, AreFirstWords, Masks, Fills, Empties};
 
 use crate::plays::{Claims, Grabs, SeeFree, SeeFull, SeeHead, SeeTail, Takes, Writes};
 use crate::view::{Law, Shape, View};
 use atomic_table::{Seat, Table};
-use std::alloc::Global;
+use std::alloc::{AllocError, Global};
 
 /// The word of the enqueue position: from it the next ticket is claimed.
 const TAIL: usize = 16;
@@ -34,7 +34,42 @@ pub(crate) struct Board<T> {
     ghost sized: { (table.shared.table_id.words ≡ word_count (mask + 1)) × (table.shared.table_id.slots ≡ mask + 1) × (table.shared.key.places ≡ mask + 1) × (mask < 65536) × Masks mask },
 }
 
+/// The words of an empty ring.
+fn first_words(alloc: Global, places: usize, first: u64) -> Result<Vec<u64>, AllocError>
+    requires size { IsSize places }
+    requires first { first < last }
+    ensures { IfOk result (λ v. AreFirstWords places first v.items) }
+{
+    let mut words = Vec::from_elem(alloc, first, places * APART + SEQUENCES)?;
+    let row = words.as_mut_slice();
+    let lap = places as u64;
+    for ticket in first..first + lap {
+        row[(ticket % lap) as usize * APART + SEQUENCES] = ticket;
+    }
+    Ok(words)
+}
+
 impl<T> Board<T> {
+    pub(crate) fn new(
+        alloc: Global,
+        places: usize,
+        first: u64,
+    ) -> Result<(Board<T>, Seat<Option<T>, View<T, ()>>), AllocError>
+        requires size { IsSize places }
+        requires first { first < last }
+        ensures board { IfOk result (λ r. (r.0.mask + 1 ≡ places) × (r.0.table.shared.key.first ≡ first)) }
+        ensures seat { IfOk result (λ r. (r.1.table_id ≡ r.0.table.shared.table_id) × (r.1.me ≡ (first_sight places first, []))) }
+    {
+        let words = first_words(alloc, places, first)?;
+        let shape = Shape {
+            places: places as u64,
+            first,
+        };
+        let (table, seat) = Table::vacant(alloc, words.as_slice(), places, &shape)?;
+        let mask = places as u64 - 1;
+        Ok((Board { table, mask }, seat))
+    }
+
     /// The place of a ticket: the ticket modulo the number of places.
     fn place_of(&self, ticket: u64) -> usize
         ensures place { result ≡ ticket % (self.now.mask + 1) }
