@@ -1,5 +1,8 @@
 -- An empty ring keeps the rule.
-use Rattle.std.proofs.Common.{◌≡◌, ◌≢◌, ℕ, zero, suc, ◌+◌, ◌-◌, ◌*◌, ◌%◌, ◌^◌, ◌<◌, ◌≤◌, Option, None, Some, List, [], ◌∷◌, set, length, get_or, map, replicate, bit_and, refl, sym, ap, subst, ◌∙◌, inl, inr, arith, get_or-set_other, get_or-set_same, length-set, mod-lt}
+use Rattle.std.proofs.Common.{◌≡◌, ◌≢◌, ℕ, zero, suc, ◌+◌, ◌-◌, ◌*◌, ◌/◌, ◌%◌, ◌^◌, ◌<◌, ◌≤◌, Option, None, Some, List, [], ◌∷◌, set, length, get_or, map, replicate, max, bit_and, refl, sym, ap, subst, ◌∙◌, inl, inr, arith, get_or-set_other, get_or-set_same, length-set, mod-lt}
+use Rattle.std.proofs.Math.Nat.{one-le-pow, pow-le-pow_right}
+use Rattle.std.proofs.lemmas.Bool.Decides.{leb_tells}
+use Rattle.std.proofs.lemmas.Grind.{pow_more}
 use Rattle.std.proofs.lemmas.Nat.{and_mask}
 use Rattle.std.specs.Int.{IsPowerOfTwo}
 use mathlib.Core.Option as maybe
@@ -14,6 +17,20 @@ use Rattle.alog_ring.specs.Kinds.{no_note, some_value, no_value}
 use Rattle.alog_ring.specs.Calls.{IsSize, AreFirstWords, Masks}
 use Rattle.alog_ring.proofs.Lists.{same_or_not, prefix_same}
 use Rattle.alog_ring.proofs.Showing.{near_apart}
+
+-- the least power of two from a power of two on is that one
+pub next_is_itself : (n p : ℕ) → IsPowerOfTwo n → IsPowerOfTwo p → n ≤ p → p / 2 < max 1 n → p ≡ n
+next_is_itself n p power other above half =
+    let k : ℕ = power.0
+    in let j : ℕ = other.0
+    in let positive : 1 ≤ 2 ^ k = one-le-pow k 2 (omega arith)
+    in elim (leb_tells j k) [
+      inl le ↦ let small : 2 ^ j ≤ 2 ^ k = pow-le-pow_right (omega arith) le.1 in omega (arith, power.1, other.1)
+      | inr lt ↦
+        let big : 2 ^ (k + 1) ≤ 2 ^ j = pow-le-pow_right (omega arith) (omega (arith, lt.1))
+        in let twice : 2 ^ (k + 1) ≡ 2 ^ k * 2 = pow_more 2 k
+        in absurd (omega (arith, power.1, other.1))
+    ]
 
 pub masks : (n mask : ℕ) → IsPowerOfTwo n → mask ≡ n - 1 → n ≡ mask + 1 → Masks mask
 masks n mask power is up t =

@@ -4,3 +4,4 @@ pub mod Rule
 pub mod Plays
 pub mod Kinds
 pub mod Calls
+pub mod Refused

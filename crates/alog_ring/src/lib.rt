@@ -11,8 +11,12 @@
 mod board;
 mod pass;
 mod plays;
+mod pop;
+mod push;
 mod ring;
 mod view;
 
 pub use pass::Pass;
+pub use pop::PopError;
+pub use push::PushError;
 pub use ring::{NewError, Ring};

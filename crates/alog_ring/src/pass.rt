@@ -5,6 +5,9 @@ use crate::view::View;
 use atomic_table::Seat;
 use std::marker::Model;
 
+/// The parts of a ring's first pass.
+pub(crate) const ALL_PARTS: u64 = 1 << 32;
+
 /// What a thread uses a ring with. It has some of the ring's parts, and knows which history it has seen and which entries
 /// in it are its own: contracts see that, and no field. A pass belongs to the ring that it was made for.
 #[derive(Drop)]
