@@ -73,10 +73,10 @@ starts {T} n f words two low are =
       two = two;
       stands = stands_start n f;
       told = record {
-        places = λ a v e. ap (λ (x : Sight T no_note). x.known.places) (sym (one a v e).1);
-        first = λ a v e. ap (λ (x : Sight T no_note). x.known.first) (sym (one a v e).1);
+        places = λ a v e _. ap (λ (x : Sight T no_note). x.known.places) (sym (one a v e).1);
+        first = λ a v e _. ap (λ (x : Sight T no_note). x.known.first) (sym (one a v e).1);
         seen = λ a v e. let P : Sight T no_note → Type 0 = λ x. mathlib.Core.List.IsPrefix x.known.seen [] in subst P (one a v e).1 (prefix_same []);
-        accounts = λ a v e _. let P : Sight T no_note → Type 0 = λ x. HasAccounts [] (first_sight n f ∷ []) a x.known in subst P (one a v e).1 (record { own = refl; own_seen = refl; joined = tt; joined_seen = tt; retired = tt });
+        accounts = λ a v e _. let P : Sight T no_note → Type 0 = λ x. HasAccounts [] (first_sight n f ∷ []) a x.known in subst P (one a v e).1 (record { own = refl; joined = tt; retired = tt });
         without = λ a v e _. inl refl;
         unborn = λ a _. refl;
         whole = refl;

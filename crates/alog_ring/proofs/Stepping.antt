@@ -15,7 +15,7 @@ use Rattle.alog_ring.specs.Made.{AreExact, IsFaithful, Made, EndsWith, next_seen
 use Rattle.alog_ring.specs.Rule.{IsAtWork, HasAccounts, Knows, Told, Staged, Shown, Ruled}
 use Rattle.alog_ring.specs.Plays.{entry, Adds, Looks, Acts, Ends}
 use Rattle.alog_ring.proofs.Lists.{prefix_same, prefix_longer, prefix_through}
-use Rattle.alog_ring.proofs.Telling.{AreOf, Grows, grown, grows_now, told_more}
+use Rattle.alog_ring.proofs.Telling.{AreOf, Grows, grown, grows_now, faithful_now, told_more}
 use Rattle.alog_ring.proofs.Turning.{IsFree, staged_on}
 use Rattle.alog_ring.proofs.Showing.{shown_on}
 
@@ -71,11 +71,11 @@ module _ {S T N : Type 0} (kind : PlaceKind S T N) (n f : ℕ) (s : State S (Sig
   knows_now st is = let K : Stage T N → Type 0 = λ z. Knows n r.history r.queue a v.known z in subst K is (r.staged.knows a v at)
 
   -- the positions that a pass has seen are behind those of now
-  pub seen_behind : (next_seen v.known ≤ r.queue.next) × (front_seen v.known ≤ r.queue.front)
-  seen_behind =
+  pub seen_behind : 0 < v.known.parts → (next_seen v.known ≤ r.queue.next) × (front_seen v.known ≤ r.queue.front)
+  seen_behind live =
       let P : ℕ → Type 0 = λ z. ((left_by (start {T = T} z) v.known.seen).next ≤ r.queue.next) × ((left_by (start {T = T} z) v.known.seen).front ≤ r.queue.front)
       in let Q : Queue T → Type 0 = λ z. ((left_by (start f) v.known.seen).next ≤ z.next) × ((left_by (start f) v.known.seen).front ≤ z.front)
-      in subst P (sym (r.told.first a v at)) (subst Q r.stands.queue (rises_prefix f v.known.seen r.history (r.told.seen a v at)))
+      in subst P (sym (r.told.first a v at live)) (subst Q r.stands.queue (rises_prefix f v.known.seen r.history (r.told.seen a v at)))
 
   module _ (work : IsAtWork a v.known) (more : List (Entry T N)) (of : AreOf a more) (stage : Stage T N) where
     abbrev pub stepping : Sight T N
@@ -86,7 +86,7 @@ module _ {S T N : Type 0} (kind : PlaceKind S T N) (n f : ℕ) (s : State S (Sig
         let P : ℕ → Type 0 = λ z. IsLegal z v.known.first (r.history ++ more)
         in let Q : ℕ → Type 0 = λ z. IsLegal n z (r.history ++ more)
         in let R : ℕ → Type 0 = λ z. v.known.own ++ more ≡ own_of z (r.history ++ more)
-        in let grows : Grows a v.known (grown v.known r.history more) r.history more = grows_now n f a r.history more s.views v r.told at work.1 of
+        in let now : (v.known.own ++ more ≡ own_of a (r.history ++ more)) × AreExact v.known.joined (r.history ++ more) = faithful_now n f a r.history more s.views v r.told at work.1 of
         in record {
           places = refl;
           first = refl;
@@ -96,9 +96,9 @@ module _ {S T N : Type 0} (kind : PlaceKind S T N) (n f : ℕ) (s : State S (Sig
           seen = prefix_longer v.known.seen r.history more (r.told.seen a v at);
           own = refl;
           faithful = record {
-            legal = subst P (sym (r.told.places a v at)) (subst Q (sym (r.told.first a v at)) stands.legal);
-            own = subst R (sym work.0) grows.own_seen;
-            joined = grows.joined_seen;
+            legal = subst P (sym (r.told.places a v at work.1)) (subst Q (sym (r.told.first a v at work.1)) stands.legal);
+            own = subst R (sym work.0) now.0;
+            joined = now.1;
           };
         }
 
@@ -109,7 +109,7 @@ module _ {S T N : Type 0} (kind : PlaceKind S T N) (n f : ℕ) (s : State S (Sig
       queue = q;
       two = r.two;
       stands = stands;
-      told = told_more n f a r.history more s.views v stepping r.told at work.1 of (grows_now n f a r.history more s.views v r.told at work.1 of);
+      told = told_more n f a r.history more s.views v stepping r.told at work.1 of (grows_now a r.history more v);
       staged = staged;
       shown = shown;
     }

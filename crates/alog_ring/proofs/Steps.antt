@@ -53,7 +53,7 @@ module _ {S T N : Type 0} (kind : PlaceKind S T N) (n f : ℕ) (slots id : ℕ) 
       in let is : y ≡ r.queue.next = r.shown.tail
       in let work : IsAtWork id me.0.known = knows_now kind n f s r id me.0 at Idle idle
       in let free : IsFree me.0.stage = free_at me.0.stage Idle idle idle_free
-      in let seen = (seen_behind kind n f s r id me.0 at).0
+      in let seen = (seen_behind kind n f s r id me.0 at work.1).0
       in let bounded : r.queue.next ≤ last = r.shown.bounded
       in elim (same_or_not y last) [
         inl end ↦
@@ -94,7 +94,7 @@ module _ {S T N : Type 0} (kind : PlaceKind S T N) (n f : ℕ) (slots id : ℕ) 
       in let is : y ≡ r.queue.front = r.shown.head
       in let work : IsAtWork id me.0.known = knows_now kind n f s r id me.0 at Idle idle
       in let free : IsFree me.0.stage = free_at me.0.stage Idle idle idle_free
-      in let seen = (seen_behind kind n f s r id me.0 at).1
+      in let seen = (seen_behind kind n f s r id me.0 at work.1).1
       in let bounded : r.queue.next ≤ last = r.shown.bounded
       in let ordered : r.queue.front ≤ r.queue.next = (sound_now kind n f s r id me.0 at).ordered
       in let done = looks kind n f s r id me.0 at 32 work free (SawHead y) (work, omega (arith, is))
@@ -148,7 +148,7 @@ module _ {S T N : Type 0} (kind : PlaceKind S T N) (n f : ℕ) (slots id : ℕ) 
               in let y0 : S = kind.spare n r.history q.next
               in let H : ℕ → Type 0 = λ z. Ruled kind.put kind.spare n f (stepped s 16 z id me.1 w (takes (q.next % n) y0))
               in let lies : y0 ≡ kind.spare me.0.known.places (r.history ++ entry kind.blank me.0.known e ∷ []) q.next =
-                sym (kind.stays n r.history (entry kind.blank me.0.known e) q.next (λ u z is. cc)) ∙ ap (λ (z : ℕ). kind.spare z (r.history ++ entry kind.blank me.0.known e ∷ []) q.next) (sym (r.told.places id me.0 at))
+                sym (kind.stays n r.history (entry kind.blank me.0.known e) q.next (λ u z is. cc)) ∙ ap (λ (z : ℕ). kind.spare z (r.history ++ entry kind.blank me.0.known e ∷ []) q.next) (sym (r.told.places id me.0 at knows.0.1))
               in let D : ℕ → Type 0 = λ z. claimed kind.blank kind.put kind.spare (step slots 16 t new (some (kind.put x))) me z (w, (q.next % n, y0) ∷ me.1)
               in (
                 w,

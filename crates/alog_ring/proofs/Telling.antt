@@ -43,9 +43,7 @@ module _ {T N : Type 0} where
     accounts_longer : (h more : List (Entry T N)) (b : ℕ) (k : Known T N) → AreOf a more → b ≢ a → HasAccounts h views b k → HasAccounts (h ++ more) (set views a w) b k
     accounts_longer h more b k of apart has = record {
       own = has.own ∙ sym (others_keep a b h more of apart);
-      own_seen = has.own_seen;
       joined = exact_longer h more k.joined of has.retired has.joined;
-      joined_seen = has.joined_seen;
       retired = each_of (λ (c : Account T N). IsRetired views c.actor) (λ (c : Account T N). IsRetired (set views a w) c.actor) k.joined (λ (c : Account T N) r. still_retired c.actor r) has.retired;
     }
 
@@ -69,8 +67,6 @@ module _ {T N : Type 0} where
     pub joined : w.joined ≡ v.joined
     pub own : w.own ≡ v.own ++ more
     pub seen : IsPrefix w.seen (h ++ more)
-    pub own_seen : w.own ≡ own_of a w.seen
-    pub joined_seen : AreExact w.joined w.seen
 
   module _ (n f a : ℕ) (h more : List (Entry T N)) (views : List (Sight T N)) (v w : Sight T N) (told : Told n f h views) (at : get_elem? views a ≡ some v) (live : 0 < v.known.parts) (of : AreOf a more) (grows : Grows a v.known w.known h more) where
     own_accounts : HasAccounts (h ++ more) (set views a w) a w.known
@@ -80,16 +76,14 @@ module _ {T N : Type 0} where
         in let R : List (Account T N) → Type 0 = λ l. AllByRecursion (λ (c : Account T N). IsRetired (set views a w) c.actor) l
         in record {
           own = grows.own ∙ (λ i. has.own i ++ sym of.all i) ∙ sym (own_of-append a h more);
-          own_seen = grows.own_seen;
           joined = subst E (sym grows.joined) (exact_longer views a v w at live h more v.known.joined of has.retired has.joined);
-          joined_seen = grows.joined_seen;
           retired = subst R (sym grows.joined) (each_of (λ (c : Account T N). IsRetired views c.actor) (λ (c : Account T N). IsRetired (set views a w) c.actor) v.known.joined (λ (c : Account T N) r. still_retired views a v w at live c.actor r) has.retired);
         }
 
     pub told_more : Told n f (h ++ more) (set views a w)
     told_more = record {
-      places = λ b u e. view_is b u e (λ x. x.known.places ≡ n) (grows.places ∙ told.places a v at) (λ _ g. told.places b u g);
-      first = λ b u e. view_is b u e (λ x. x.known.first ≡ f) (grows.first ∙ told.first a v at) (λ _ g. told.first b u g);
+      places = λ b u e. view_is b u e (λ x. 0 < x.known.parts → x.known.places ≡ n) (λ _. grows.places ∙ told.places a v at live) (λ _ g. told.places b u g);
+      first = λ b u e. view_is b u e (λ x. 0 < x.known.parts → x.known.first ≡ f) (λ _. grows.first ∙ told.first a v at live) (λ _ g. told.first b u g);
       seen = λ b u e. view_is b u e (λ x. IsPrefix x.known.seen (h ++ more)) grows.seen (λ _ g. prefix_longer u.known.seen h more (told.seen b u g));
       accounts =
         λ b u e some_parts.
@@ -125,16 +119,19 @@ module _ {T N : Type 0} where
   abbrev pub grown : Known T N → List (Entry T N) → List (Entry T N) → Known T N
   grown k h more = record { places = k.places; first = k.first; actor = k.actor; parts = k.parts; seen = h ++ more; own = k.own ++ more; joined = k.joined }
 
-  pub grows_now : (n f a : ℕ) (h more : List (Entry T N)) (views : List (Sight T N)) (v : Sight T N) → Told n f h views → get_elem? views a ≡ some v → 0 < v.known.parts → AreOf a more → Grows a v.known (grown v.known h more) h more
-  grows_now n f a h more views v told at live of =
-      let has : HasAccounts h views a v.known = told.accounts a v at live
-      in record {
+  pub grows_now : (a : ℕ) (h more : List (Entry T N)) (v : Sight T N) → Grows a v.known (grown v.known h more) h more
+  grows_now a h more v =
+      record {
         places = refl;
         first = refl;
         parts = refl;
         joined = refl;
         own = refl;
         seen = prefix_same (h ++ more);
-        own_seen = (λ i. has.own i ++ sym of.all i) ∙ sym (own_of-append a h more);
-        joined_seen = exact_longer views a v v at live h more v.known.joined of has.retired has.joined;
       }
+
+  pub faithful_now : (n f a : ℕ) (h more : List (Entry T N)) (views : List (Sight T N)) (v : Sight T N) → Told n f h views → get_elem? views a ≡ some v → 0 < v.known.parts → AreOf a more
+      → (v.known.own ++ more ≡ own_of a (h ++ more)) × AreExact v.known.joined (h ++ more)
+  faithful_now n f a h more views v told at live of =
+      let has : HasAccounts h views a v.known = told.accounts a v at live
+      in ((λ i. has.own i ++ sym of.all i) ∙ sym (own_of-append a h more), exact_longer views a v v at live h more v.known.joined of has.retired has.joined)

@@ -37,18 +37,16 @@ module _ {T N : Type 0} where
   abbrev pub IsTakenIn : List (Sight T N) → ℕ → Type 0
   IsTakenIn views a = (j : ℕ) × (u : Sight T N) × (get_elem? views j ≡ some u) × (0 < u.known.parts) × IsAmong a u.known.joined
 
-  -- a seat with parts has its own entries, and those of the seats joined into it
+  -- a seat with parts has exactly its own entries of the history, and those of the seats joined into it
   pub record HasAccounts (h : List (Entry T N)) (views : List (Sight T N)) (a : ℕ) (k : Known T N) : Type 0 where
     pub own : k.own ≡ own_of a h
-    pub own_seen : k.own ≡ own_of a k.seen
     pub joined : AreExact k.joined h
-    pub joined_seen : AreExact k.joined k.seen
     pub retired : AllByRecursion (λ (c : Account T N). IsRetired views c.actor) k.joined
 
   -- The history against the views.
   pub record Told (n f : ℕ) (h : List (Entry T N)) (views : List (Sight T N)) : Type 0 where
-    pub places : (a : ℕ) (v : Sight T N) → get_elem? views a ≡ some v → v.known.places ≡ n
-    pub first : (a : ℕ) (v : Sight T N) → get_elem? views a ≡ some v → v.known.first ≡ f
+    pub places : (a : ℕ) (v : Sight T N) → get_elem? views a ≡ some v → 0 < v.known.parts → v.known.places ≡ n
+    pub first : (a : ℕ) (v : Sight T N) → get_elem? views a ≡ some v → 0 < v.known.parts → v.known.first ≡ f
     pub seen : (a : ℕ) (v : Sight T N) → get_elem? views a ≡ some v → IsPrefix v.known.seen h
     pub accounts : (a : ℕ) (v : Sight T N) → get_elem? views a ≡ some v → 0 < v.known.parts → HasAccounts h views a v.known
     pub without : (a : ℕ) (v : Sight T N) → get_elem? views a ≡ some v → v.known.parts ≡ 0 → (own_of a h ≡ []) ⊎ IsTakenIn views a
