@@ -9,3 +9,5 @@ pub mod Steps
 pub mod Places
 pub mod Calling
 pub mod Starting
+pub mod Splitting
+pub mod Joining

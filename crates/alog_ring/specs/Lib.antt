@@ -5,3 +5,4 @@ pub mod Plays
 pub mod Kinds
 pub mod Calls
 pub mod Refused
+pub mod Parts
