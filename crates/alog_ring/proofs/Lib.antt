@@ -11,3 +11,4 @@ pub mod Calling
 pub mod Starting
 pub mod Splitting
 pub mod Joining
+pub mod Meeting

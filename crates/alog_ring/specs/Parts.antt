@@ -1,5 +1,5 @@
 -- How passes are cut, joined and shown to each other.
-use Rattle.std.specs.Prelude.{◌≡◌, ℕ, ◌+◌, ◌-◌, ◌<◌, ◌⊎◌, List, [], ◌∷◌, ◌++◌, Some}
+use Rattle.std.specs.Prelude.{◌≡◌, ℕ, ◌+◌, ◌-◌, ◌<◌, ◌≤◌, ◌⊎◌, List, [], ◌∷◌, ◌++◌, Some}
 use Rattle.std.specs.List.{AllByRecursion}
 use mathlib.Core.List.{IsPrefix}
 use Rattle.atomic_table.specs.Table.{Me}
@@ -81,7 +81,7 @@ module _ {S T N : Type 0} where
   abbrev pub saw_both : List (Entry T N) → Me S (Sight T N) → Me S (Sight T N) → Type 0
   saw_both s m m' =
       (h : List (Entry T N)) × IsLonger m.0.known.seen s h × (m'.0 ≡ record { stage = Idle; known = having_seen m.0.known h }) × IsLegal m.0.known.places m.0.known.first h
-      × ((c : Account T N) → AllByRecursion (IsExactIn m.0.known.seen s) (c ∷ m.0.known.joined) → AreExact (c ∷ m.0.known.joined) h) × (m'.1 ≡ m.1)
+      × (AllByRecursion (IsExactIn m.0.known.seen s) (accounts_of m.0.known) → AreExact (accounts_of m.0.known) h) × (m.0.known.parts ≤ all_parts) × (m'.1 ≡ m.1)
 
   -- a look at everything
   abbrev pub saw_all : Me S (Sight T N) → Me S (Sight T N) → Type 0
