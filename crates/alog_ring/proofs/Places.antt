@@ -1,13 +1,16 @@
 -- The steps on the places of a `Ring`, at the words that the code names.
-use Rattle.std.proofs.Common.{◌≡◌, ℕ, ◌+◌, ◌%◌, ◌<◌, eqb, Option, None, Some, List, ◌∷◌, refl, sym, ap, subst, ◌∙◌}
+use Rattle.std.proofs.Common.{◌≡◌, ℕ, ◌+◌, ◌%◌, ◌<◌, eqb, Option, None, Some, List, [], ◌∷◌, refl, sym, ap, subst, ◌∙◌}
 use mathlib.Core.Option.{some}
 use prog.Atomic.{either}
 use Rattle.atomic_table.specs.Table.{State, Me, step, Allows}
 use Rattle.alog_core.specs.Queue.{last}
-use Rattle.alog_ring.specs.Sight.{Stage, Idle, SawTail, SawFree, Writing, SawHead, SawFull, Reading, Sight}
+use Rattle.alog_core.specs.History.{Entry}
+use Rattle.alog_ring.specs.Sight.{Stage, Idle, Fresh, Joined, SawTail, SawFree, Writing, SawHead, SawFull, Reading, Sight}
 use Rattle.alog_ring.specs.Rule.{seq_of, Ruled}
 use Rattle.alog_ring.specs.Kinds.{no_note, some_value, no_value}
 use Rattle.alog_ring.specs.Plays.{saw_tail, saw_free, claimed, wrote, saw_head, saw_full, grabbed, took}
+use Rattle.alog_ring.specs.Parts.{was_named, saw_both, saw_all}
+use Rattle.alog_ring.proofs.Meeting.{names_itself, sees_both, sees_all}
 use Rattle.alog_ring.proofs.Stepping.{PlaceKind}
 use Rattle.alog_ring.proofs.Steps.{sees_tail, sees_free, claims, writes, sees_head, sees_full, grabs, takes_out}
 
@@ -85,3 +88,17 @@ module _ {T : Type 0} (n f slots id : ℕ) (me : Me (Option T) (Sight T no_note)
                       in let Q : T → Type 0 = λ k. took tt u k me m
                       in subst Q item (subst P same told))
                   (takes_out (option_kind T) n f slots id me tt t x more stage has)))
+
+module _ {T : Type 0} (n f slots id : ℕ) (me : Me (Option T) (Sight T no_note)) where
+  pub name_may : 0 < me.0.known.parts → me.0.stage ≡ Fresh → me.0.known.own ≡ [] → me.0.known.joined ≡ [] → Allows (λ s. Ruled some_value no_value n f s) slots id me 16 (λ y. y) (λ y m. was_named me m)
+  name_may live fresh none alone = names_itself (option_kind T) n f slots id me live fresh none alone
+
+  pub see_both_may : (t : List (Entry T no_note)) → 0 < me.0.known.parts → me.0.stage ≡ Joined t
+      → Allows (λ s. Ruled some_value no_value n f s) slots id me 16 (λ y. y) (λ y m. (u : List (Entry T no_note)) → me.0.stage ≡ Joined u → saw_both u me m)
+  see_both_may t live stage =
+      told_as n f slots id me 16 (λ y. y) (λ y m. saw_both t me m) (λ y m. (u : List (Entry T no_note)) → me.0.stage ≡ Joined u → saw_both u me m)
+          (λ y m told u at. let both : ◌≡◌ {A = Stage T no_note} (Joined t) (Joined u) = sym stage ∙ at in let same : t ≡ u = cc in let P : List (Entry T no_note) → Type 0 = λ z. saw_both z me m in subst P same told)
+          (sees_both (option_kind T) n f slots id me live t stage)
+
+  pub see_all_may : 0 < me.0.known.parts → me.0.stage ≡ Idle → Allows (λ s. Ruled some_value no_value n f s) slots id me 16 (λ y. y) (λ y m. saw_all me m)
+  see_all_may live idle = sees_all (option_kind T) n f slots id me live idle

@@ -6,7 +6,8 @@ use Rattle.alog_core.specs.Queue.{Event, Claim, Write, Grab, Take}
 use Rattle.alog_core.specs.History.{Entry}
 use Rattle.alog_ring.specs.Sight.{Known, Sight, Idle, RingId, PassView, first_known}
 use Rattle.alog_ring.specs.Rule.{seq_of, word_count}
-use Rattle.alog_ring.specs.Made.{Made, EndsWith}
+use Rattle.alog_ring.specs.Made.{IsFaithful, Made, EndsWith}
+use Rattle.alog_ring.specs.Parts.{with_fewer, apart_from, having_seen, with_other, IsLonger}
 use Rattle.alog_ring.specs.Plays.{entry, Adds}
 use Rattle.alog_ring.specs.Kinds.{no_note}
 
@@ -60,3 +61,24 @@ module _ {T : Type 0} where
   -- the pass answered this and did nothing else
   abbrev pub Answered : Known T no_note → Known T no_note → Event T → Type 0
   Answered old new e = Adds tt old new e
+
+  -- A split: the pass keeps its other parts, and the new one has seen the same and made nothing.
+  pub record Splits (old new given : PassView T no_note) (parts : ℕ) : Type 0 where
+    pub kept : new ≡ record { table = old.table; known = with_fewer old.known parts }
+    pub actor : ℕ
+    pub new_pass : given ≡ record { table = old.table; known = apart_from old.known actor parts }
+    pub faithful : IsFaithful given.known
+
+  -- A join: the pass has the parts and the accounts of both, and has seen the longer of both histories.
+  pub record Joins (old other new : Known T no_note) : Type 0 where
+    pub seen : List (Entry T no_note)
+    pub longer : IsLonger old.seen other.seen seen
+    pub known : new ≡ having_seen (with_other old other) seen
+    pub faithful : IsFaithful new
+
+  -- A meeting: the pass has seen the longer of both histories.
+  pub record Meets (old other new : Known T no_note) : Type 0 where
+    pub seen : List (Entry T no_note)
+    pub longer : IsLonger old.seen other.seen seen
+    pub known : new ≡ having_seen old seen
+    pub faithful : IsFaithful new

@@ -4,8 +4,8 @@ use mathlib.Core.Option.{Option, some, none}
 use Rattle.atomic_table.specs.Table.{Me, Step, rest}
 use Rattle.alog_core.specs.Queue.{Event, Claim, Write, Grab, Take, Full, Empty, PushBusy, PopBusy, Spent, last}
 use Rattle.alog_core.specs.History.{Entry}
-use Rattle.alog_ring.specs.Sight.{Known, Stage, Idle, Fresh, SawTail, SawFree, Writing, SawHead, SawFull, Reading, Sight}
-use Rattle.alog_ring.specs.Made.{Made, IsFaithful, EndsWith, next_seen, front_seen}
+use Rattle.alog_ring.specs.Sight.{Known, Stage, Idle, SawTail, SawFree, Writing, SawHead, SawFull, Reading, Sight}
+use Rattle.alog_ring.specs.Made.{Made, EndsWith, next_seen, front_seen}
 
 -- an entry of the pass
 abbrev pub entry : {T N : Type 0} → N → Known T N → Event T → Entry T N
@@ -63,8 +63,3 @@ module _ {S T N : Type 0} where
   -- and stores the sequence, with the spare that it brings.
   abbrev pub took : N → ℕ → T → Me S (Sight T N) → Me S (Sight T N) → Type 0
   took note t x m m' = Acts note m m' (Take t x) Idle × (m'.1 ≡ rest m.1)
-
-  -- A pass that was split off learns its number.
-  abbrev pub was_named : Me S (Sight T N) → Me S (Sight T N) → Type 0
-  was_named m m' =
-      (m'.0 ≡ record { stage = Idle; known = record m.0.known { actor = m'.0.known.actor } }) × IsFaithful m'.0.known × (m'.1 ≡ m.1)

@@ -12,7 +12,7 @@ use atomic_table::{Seat, Table};
 use std::alloc::{AllocError, Global};
 
 /// The word of the enqueue position: from it the next ticket is claimed.
-const TAIL: usize = 16;
+pub(crate) const TAIL: usize = 16;
 
 /// The word of the dequeue position: from it the front ticket is grabbed.
 const HEAD: usize = 32;

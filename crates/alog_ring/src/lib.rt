@@ -14,6 +14,7 @@ mod plays;
 mod pop;
 mod push;
 mod ring;
+mod share;
 mod view;
 
 pub use pass::Pass;

@@ -17,8 +17,8 @@ pub struct Pass<T> {
 }
 
 impl<T> Model for Pass<T> {
-    ghost use Rattle.std.specs.Prelude.{◌≡◌, ◌<◌, []};
-    ghost use Rattle.alog_ring.specs.Sight.{PassView, Idle};
+    ghost use Rattle.std.specs.Prelude.{◌≡◌, ◌<◌, ◌≤◌, []};
+    ghost use Rattle.alog_ring.specs.Sight.{PassView, Idle, all_parts};
     ghost use Rattle.alog_ring.specs.Made.{IsFaithful};
     ghost use Rattle.alog_ring.specs.Kinds.{no_note};
 
@@ -26,7 +26,7 @@ impl<T> Model for Pass<T> {
 
     ghost view = { λ p. record { table = p.seat.table_id; known = p.seat.me.0.known } };
 
-    ghost invariant = { λ p. (p.seat.me.0.stage ≡ Idle) × (p.seat.me.1 ≡ []) × (p.parts ≡ p.seat.me.0.known.parts) × (0 < p.parts) × IsFaithful p.seat.me.0.known };
+    ghost invariant = { λ p. (p.seat.me.0.stage ≡ Idle) × (p.seat.me.1 ≡ []) × (p.parts ≡ p.seat.me.0.known.parts) × (0 < p.parts) × (p.parts ≤ all_parts) × IsFaithful p.seat.me.0.known };
 }
 
 impl<T> Pass<T> {
