@@ -12,3 +12,4 @@ pub mod Starting
 pub mod Splitting
 pub mod Joining
 pub mod Meeting
+pub mod Closing

@@ -72,7 +72,7 @@ module _ {T N : Type 0} where
           exact either
 
   -- what holds of each actor with entries holds of each entry's actor
-  all_actors : (P : ℕ → Type 0) (h : List (Entry T N)) → ((b : ℕ) → own_of b h ≢ [] → P b) → AllByRecursion (λ (x : Entry T N). P x.actor) h
+  pub all_actors : (P : ℕ → Type 0) (h : List (Entry T N)) → ((b : ℕ) → own_of b h ≢ [] → P b) → AllByRecursion (λ (x : Entry T N). P x.actor) h
   all_actors P [] each = tt
   all_actors P (x ∷ h) each =
       (
@@ -108,7 +108,7 @@ module _ {S T N : Type 0} (kind : PlaceKind S T N) (n f : ℕ) (s : State S (Sig
       })
 
   -- a beginning of the history is legal
-  legal_prefix : (p : List (Entry T N)) → IsPrefix p r.history → IsLegal v.known.places v.known.first p
+  pub legal_prefix : (p : List (Entry T N)) → IsPrefix p r.history → IsLegal v.known.places v.known.first p
   legal_prefix p is =
       let P : List (Entry T N) → Type 0 = λ h. IsLegal n f h
       in let Q : ℕ → Type 0 = λ z. IsLegal z v.known.first p

@@ -1,13 +1,16 @@
 -- What the calls of a ring promise.
-use Rattle.std.specs.Prelude.{◌≡◌, ℕ, ◌+◌, ◌%◌, ◌<◌, ◌≤◌, [], ◌∷◌, List, length, slice_index, Option, bit_and}
+use Rattle.std.specs.Prelude.{◌≡◌, ℕ, zero, suc, ◌+◌, ◌%◌, ◌<◌, ◌≤◌, [], ◌∷◌, List, map, length, slice_index, Option, Some, None, bit_and}
 use Rattle.std.specs.Int.{IsPowerOfTwo}
+use mathlib.Core.Option as maybe
+use mathlib.Core.List.{IsPrefix}
+use lib.ListN.{get_elem?}
 use Rattle.atomic_table.specs.Table.{Me}
-use Rattle.alog_core.specs.Queue.{Event, Claim, Write, Grab, Take}
-use Rattle.alog_core.specs.History.{Entry}
+use Rattle.alog_core.specs.Queue.{Cell, Event, Claim, Write, Grab, Take, start}
+use Rattle.alog_core.specs.History.{Entry, left_by}
 use Rattle.alog_ring.specs.Sight.{Known, Sight, Idle, RingId, PassView, first_known}
 use Rattle.alog_ring.specs.Rule.{seq_of, word_count}
 use Rattle.alog_ring.specs.Made.{IsFaithful, Made, EndsWith}
-use Rattle.alog_ring.specs.Parts.{with_fewer, apart_from, having_seen, with_other, IsLonger}
+use Rattle.alog_ring.specs.Parts.{with_fewer, apart_from, having_seen, with_other, IsLonger, IsWhole}
 use Rattle.alog_ring.specs.Plays.{entry, Adds}
 use Rattle.alog_ring.specs.Kinds.{no_note}
 
@@ -82,3 +85,32 @@ module _ {T : Type 0} where
     pub longer : IsLonger old.seen other.seen seen
     pub known : new ≡ having_seen old seen
     pub faithful : IsFaithful new
+
+  -- a cell as its ticket and its item
+  abbrev pub ticket_and_item : Cell T → ℕ × T
+  ticket_and_item c = (c.ticket, c.item)
+
+  -- The history is at its end: the pass is whole in it, and these are all cells, in ticket order.
+  pub record Closes (k : Known T no_note) (left : List (ℕ × T)) : Type 0 where
+    pub history : List (Entry T no_note)
+    pub seen : IsPrefix k.seen history
+    pub faithful : IsFaithful (having_seen k history)
+    pub whole : IsWhole (having_seen k history)
+    pub cells : left ≡ map ticket_and_item (left_by (start k.first) history).cells
+
+  -- cells of all tickets from this one on
+  abbrev pub AreInRow : ℕ → List (Cell T) → Type 0
+  AreInRow t [] = Unit {0}
+  AreInRow t (c ∷ cs) = (c.ticket ≡ t) × AreInRow (t + 1) cs
+
+  -- the value of the i-th cell
+  abbrev pub value_at : List (Cell T) → ℕ → Option T
+  value_at [] i = None
+  value_at (c ∷ cs) zero = Some c.item
+  value_at (c ∷ cs) (suc i) = value_at cs i
+
+  -- The cells lie in n places from that of their first ticket on, and the further places are empty.
+  pub record LieIn (places : List (Option T)) (first n : ℕ) (cells : List (Cell T)) : Type 0 where
+    pub in_row : AreInRow first cells
+    pub few : length cells ≤ n
+    pub values : (i : ℕ) → i < n → get_elem? places ((first + i) % n) ≡ maybe.some (value_at cells i)

@@ -15,7 +15,7 @@ use std::alloc::{AllocError, Global};
 pub(crate) const TAIL: usize = 16;
 
 /// The word of the dequeue position: from it the front ticket is grabbed.
-const HEAD: usize = 32;
+pub(crate) const HEAD: usize = 32;
 
 /// The word of the first place's sequence. Each further one lies `APART` words on, on a cache line of its own.
 const SEQUENCES: usize = 48;

@@ -9,6 +9,7 @@
 #![tactic(auto)]
 
 mod board;
+mod close;
 mod pass;
 mod plays;
 mod pop;
@@ -17,6 +18,7 @@ mod ring;
 mod share;
 mod view;
 
+pub use close::PassesOut;
 pub use pass::Pass;
 pub use pop::PopError;
 pub use push::PushError;
