@@ -13,3 +13,4 @@ pub mod Splitting
 pub mod Joining
 pub mod Meeting
 pub mod Closing
+pub mod Waiting

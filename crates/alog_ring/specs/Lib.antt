@@ -6,3 +6,4 @@ pub mod Kinds
 pub mod Calls
 pub mod Refused
 pub mod Parts
+pub mod Waits

@@ -17,6 +17,7 @@ mod push;
 mod ring;
 mod share;
 mod view;
+mod wait;
 
 pub use close::PassesOut;
 pub use pass::Pass;
