@@ -44,11 +44,6 @@ module _ {T : Type 0} where
     pub places : p.known.places ≡ r.places
     pub first : p.known.first ≡ r.first
 
-  -- a ring's first pass has seen nothing and has all parts
-  pub record IsFirstPass (r : RingId) (p : PassView T no_note) : Type 0 where
-    pub table : p.table ≡ r.table
-    pub known : p.known ≡ first_known r.places r.first
-
   -- an entry of the pass
   abbrev pub by : Known T no_note → Event T → Entry T no_note
   by k e = entry tt k e

@@ -16,6 +16,8 @@ mod pop;
 mod push;
 mod ring;
 mod share;
+#[cfg(test)]
+mod tests;
 mod view;
 mod wait;
 

@@ -22,7 +22,7 @@ impl<T> Ring<T> {
     /// One round of a pop, which answers the ticket and its value.
     pub fn pop_once(&self, pass: &mut Pass<T>) -> Result<(u64, T), PopError>
         requires { IsPassOf self.now pass.old }
-        ensures ring { pass.new.table ≡ pass.old.table }
+        ensures ring { IsPassOf self.now pass.new }
         ensures popped { IfOk result (λ r. Popped pass.old.known pass.new.known r.0 r.1) }
         ensures refused { IfErr result (λ e. PopRefused pass.old.known pass.new.known e) }
     {

@@ -26,7 +26,7 @@ impl<T> Ring<T> {
     /// One round of a push, which answers the ticket.
     pub fn push_once(&self, pass: &mut Pass<T>, value: T) -> Result<u64, PushError<T>>
         requires { IsPassOf self.now pass.old }
-        ensures ring { pass.new.table ≡ pass.old.table }
+        ensures ring { IsPassOf self.now pass.new }
         ensures pushed { IfOk result (λ t. Pushed pass.old.known pass.new.known t value) }
         ensures refused { IfErr result (λ e. PushRefused pass.old.known pass.new.known value e) }
     {

@@ -1,7 +1,8 @@
 //! A ring and its first pass.
 ghost use Rattle.std.specs.Prelude.{◌≡◌, ◌≤◌, ◌↔◌, IfOk, IsErrOf, IsTrue};
 ghost use Rattle.alog_core.specs.Queue.{last};
-ghost use Rattle.alog_ring.specs.Calls.{IsSize, IsFirstPass};
+ghost use Rattle.alog_ring.specs.Sight.{first_known};
+ghost use Rattle.alog_ring.specs.Calls.{IsSize, IsPassOf};
 
 use crate::board::{Board, LAST};
 use crate::pass::{ALL_PARTS, Pass};
@@ -64,7 +65,8 @@ impl<T> Ring<T> {
         ensures bad_size { IsErrOf result NewError.BadSize ↔ (IsSize places → ⊥) }
         ensures bad_first { IsErrOf result NewError.BadFirst ↔ (IsSize places × (last ≤ first)) }
         ensures shape { IfOk result (λ r. (r.0.places ≡ places) × (r.0.first ≡ first)) }
-        ensures pass { IfOk result (λ r. IsFirstPass r.0 r.1) }
+        ensures ring { IfOk result (λ r. IsPassOf r.0 r.1) }
+        ensures first { IfOk result (λ r. r.1.known ≡ first_known places first) }
     {
         if !is_size(places) {
             return Err(NewError::BadSize);

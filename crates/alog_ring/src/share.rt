@@ -81,7 +81,8 @@ impl<T> Ring<T> {
         requires ring { IsPassOf self.now pass.old }
         requires some { 0 < parts }
         requires fewer { parts < pass.old.known.parts }
-        ensures { Splits pass.old pass.new result parts }
+        ensures ring { IsPassOf self.now pass.new × IsPassOf self.now result }
+        ensures split { Splits pass.old pass.new result parts }
     {
         let given = self.board.cut::<Brand>(&mut pass.seat, parts);
         pass.parts -= parts;
@@ -92,7 +93,7 @@ impl<T> Ring<T> {
     pub fn join(&self, pass: &mut Pass<T>, other: Pass<T>)
         requires pass { IsPassOf self.now pass.old }
         requires other { IsPassOf self.now other }
-        ensures ring { pass.new.table ≡ pass.old.table }
+        ensures ring { IsPassOf self.now pass.new }
         ensures joined { Joins pass.old.known other.known pass.new.known }
     {
         let Pass { seat, parts } = other;
@@ -105,7 +106,7 @@ impl<T> Ring<T> {
         requires first { IsPassOf self.now first.old }
         requires second { IsPassOf self.now second.old }
         ensures first { first.new ≡ first.old }
-        ensures ring { second.new.table ≡ second.old.table }
+        ensures ring { IsPassOf self.now second.new }
         ensures met { Meets second.old.known first.old.known second.new.known }
     {
         self.board.show(&mut first.seat, &mut second.seat);
@@ -114,7 +115,7 @@ impl<T> Ring<T> {
     /// Whether the pass has all parts. Then no other is left, and it has seen the whole history.
     pub fn is_whole(&self, pass: &mut Pass<T>) -> bool
         requires { IsPassOf self.now pass.old }
-        ensures ring { pass.new.table ≡ pass.old.table }
+        ensures ring { IsPassOf self.now pass.new }
         ensures looks { Made pass.old.known pass.new.known [] }
         ensures parts { IsTrue result ↔ (pass.old.known.parts ≡ all_parts) }
         ensures whole { IsTrue result → IsWhole pass.new.known }

@@ -19,7 +19,7 @@ impl<T> Ring<T> {
         mut value: T,
     ) -> Result<u64, PushError<T>>
         requires { IsPassOf self.now pass.old }
-        ensures ring { pass.new.table ≡ pass.old.table }
+        ensures ring { IsPassOf self.now pass.new }
         ensures pushed { IfOk result (λ t. PushedAtLast pass.old.known pass.new.known t value) }
         ensures refused { IfErr result (λ e. PushRefusedAtLast pass.old.known pass.new.known value e) }
     {
@@ -37,7 +37,7 @@ impl<T> Ring<T> {
     /// Rounds of a pop, until one is not busy. It backs off between them.
     pub fn pop(&self, rt: &impl Wait, pass: &mut Pass<T>) -> Result<(u64, T), PopError>
         requires { IsPassOf self.now pass.old }
-        ensures ring { pass.new.table ≡ pass.old.table }
+        ensures ring { IsPassOf self.now pass.new }
         ensures popped { IfOk result (λ r. PoppedAtLast pass.old.known pass.new.known r.0 r.1) }
         ensures refused { IfErr result (λ e. PopRefusedAtLast pass.old.known pass.new.known e) }
     {
