@@ -15,8 +15,8 @@ const CAPACITY: usize = 1024;
 /// The items of a run, over all its threads.
 const ITEMS: u32 = 1 << 20;
 
-/// The runs of each queue in a case. The best counts.
-const RUNS: u32 = 9;
+/// The runs of each queue in a case, in turn.
+const RUNS: u32 = 11;
 
 /// Who pushes and pops.
 #[derive(Clone, Copy)]
@@ -90,8 +90,14 @@ where
     for _ in 0..pairs {
         let lane_in = lane.split().context("no part of a pass is left")?;
         let lane_out = lane.split().context("no part of a pass is left")?;
-        jobs.push(Job::Push { lane: lane_in, count })?;
-        jobs.push(Job::Pop { lane: lane_out, count })?;
+        jobs.push(Job::Push {
+            lane: lane_in,
+            count,
+        })?;
+        jobs.push(Job::Pop {
+            lane: lane_out,
+            count,
+        })?;
     }
     one_together(rt, pairs, jobs)
 }
@@ -109,8 +115,14 @@ where
     for _ in 0..pairs {
         let lane_in = QueueLane::new(&queue);
         let lane_out = QueueLane::new(&queue);
-        jobs.push(Job::Push { lane: lane_in, count })?;
-        jobs.push(Job::Pop { lane: lane_out, count })?;
+        jobs.push(Job::Push {
+            lane: lane_in,
+            count,
+        })?;
+        jobs.push(Job::Pop {
+            lane: lane_out,
+            count,
+        })?;
     }
     one_together(rt, pairs, jobs)
 }
@@ -120,24 +132,51 @@ fn an_item(time: Duration) -> f64 {
     time.as_secs_f64() * 1e9 / f64::from(ITEMS)
 }
 
+/// Nanoseconds an item: the best run of a queue, and the run in the middle.
+#[derive(Clone, Copy)]
+struct Figures {
+    best: f64,
+    middle: f64,
+}
+
+fn sum_up(mut times: Vec<Duration>) -> Result<Figures> {
+    times.sort_unstable();
+    let best = times.first().context("no run")?;
+    let middle = times.get(times.len() / 2).context("no run")?;
+    Ok(Figures {
+        best: an_item(*best),
+        middle: an_item(*middle),
+    })
+}
+
 fn measure_case<R>(rt: &R, case: Case) -> Result<()>
 where
     R: Threads + Wait + Clock + Print + AllocGlobal + Sync,
 {
-    let mut ours = Duration::MAX;
-    let mut theirs = Duration::MAX;
+    let mut ours = Vec::new(rt.alloc());
+    let mut theirs = Vec::new(rt.alloc());
     for _ in 0..RUNS {
-        ours = ours.min(ring_run(rt, rt.alloc(), case)?);
-        theirs = theirs.min(queue_run(rt, rt.alloc(), case)?);
+        ours.push(ring_run(rt, rt.alloc(), case)?)?;
+        theirs.push(queue_run(rt, rt.alloc(), case)?)?;
     }
-    let name = case.name();
-    let (ring, queue) = (an_item(ours), an_item(theirs));
+    let (ring, queue) = (sum_up(ours)?, sum_up(theirs)?);
+    print_line(rt, case.name(), "best", ring.best, queue.best)?;
+    print_line(rt, "", "middle", ring.middle, queue.middle)
+}
+
+fn print_line<R>(rt: &R, case: &str, run: &str, ring: f64, queue: f64) -> Result<()>
+where
+    R: Print,
+{
     let ratio = ring / queue;
-    println!(rt; "{name:<22} ring {ring:>7.1} ns   ArrayQueue {queue:>7.1} ns   ratio {ratio:.2}")?;
+    println!(rt;
+        "{case:<21}  {run:<6}  ring {ring:>6.1} ns  ArrayQueue {queue:>6.1} ns  ratio {ratio:.2}"
+    )?;
     Ok(())
 }
 
-/// Prints a line for each case: nanoseconds an item in the ring and in `ArrayQueue`, and the ratio of the two.
+/// Prints two lines for each case, of the best run and of the middle one: nanoseconds an item in the ring and in
+/// `ArrayQueue`, and the ratio of the two.
 pub fn measure<R>(rt: &R) -> Result<()>
 where
     R: Threads + Wait + Clock + Print + AllocGlobal + Sync,
