@@ -40,12 +40,12 @@ impl<'a> RingLane<'a> {
 }
 
 impl Lane for RingLane<'_> {
-    #[inline]
+    #[inline(always)]
     fn offer<R: Wait>(&mut self, rt: &R, value: u64) -> bool {
         self.ring.push(rt, &mut self.pass, value).is_ok()
     }
 
-    #[inline]
+    #[inline(always)]
     fn take<R: Wait>(&mut self, rt: &R) -> Option<u64> {
         match self.ring.pop(rt, &mut self.pass) {
             Ok((_, value)) => Some(value),
@@ -66,12 +66,12 @@ impl<'a> QueueLane<'a> {
 }
 
 impl Lane for QueueLane<'_> {
-    #[inline]
+    #[inline(always)]
     fn offer<R: Wait>(&mut self, rt: &R, value: u64) -> bool {
         self.queue.push(rt, value).is_ok()
     }
 
-    #[inline]
+    #[inline(always)]
     fn take<R: Wait>(&mut self, rt: &R) -> Option<u64> {
         self.queue.pop(rt)
     }

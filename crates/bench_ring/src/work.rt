@@ -15,6 +15,7 @@ pub enum Job<L> {
     Pop { lane: L, count: u64 },
 }
 
+#[inline(always)]
 fn push_next<L: Lane, R: Wait>(rt: &R, lane: &mut L, value: u64) {
     let backoff = Backoff::new();
     for _ in rt.forever() {
@@ -25,6 +26,7 @@ fn push_next<L: Lane, R: Wait>(rt: &R, lane: &mut L, value: u64) {
     }
 }
 
+#[inline(always)]
 fn pop_next<L: Lane, R: Wait>(rt: &R, lane: &mut L) -> u64 {
     let backoff = Backoff::new();
     for _ in rt.forever() {
