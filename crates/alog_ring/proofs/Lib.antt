@@ -1,0 +1,16 @@
+pub mod Lists
+pub mod Telling
+pub mod Turning
+pub mod Showing
+pub mod Looking
+pub mod Stepping
+pub mod Acting
+pub mod Steps
+pub mod Places
+pub mod Calling
+pub mod Starting
+pub mod Splitting
+pub mod Joining
+pub mod Meeting
+pub mod Closing
+pub mod Waiting

@@ -1,0 +1,28 @@
+use Rattle.std.proofs.Common.{◌≡◌, ℕ, ◌+◌, ◌<◌, refl, sym, ap, subst, ◌∙◌, arith}
+use Rattle.alog_ring.specs.Kinds.{some_value, no_value}
+use Rattle.alog_ring.proofs.Joining.{joins}
+use Rattle.alog_ring.proofs.Places.{see_both_may}
+use Rattle.alog_ring.proofs.board.Board.take_in.Goals as goal
+
+pub join_seat-requires : goal.join_seat-requires
+join_seat-requires g c =
+    let sized = c.args.self.now.sized
+    in (
+      c.requires.table.0,
+      c.requires.table.1,
+      c.requires.home,
+      omega (arith, sized.0),
+      joins some_value no_value c.args.self.now.table.shared.key.places c.args.self.now.table.shared.key.first c.args.seat.now.id c.args.other.id c.args.seat.now.me.0 c.args.other.me.0 c.requires.stage.0 c.requires.some.0 c.requires.stage.1 c.requires.some.1,
+    )
+
+pub load-requires : goal.load-requires
+load-requires g c =
+    let sized = c.args.self.now.sized
+    in let is = c.join_seat.ensures.2
+    in let P : ℕ → Type 0 = λ z. 0 < z
+    in (
+      c.join_seat.ensures.0 ∙ c.requires.table.0,
+      omega (arith, sized.0),
+      see_both_may c.args.self.now.table.shared.key.places c.args.self.now.table.shared.key.first c.args.self.now.table.shared.table_id.slots c.join_seat.new.seat.id c.join_seat.new.seat.me
+          c.args.other.me.0.known.seen (subst P (sym (ap (λ m. m.0.known.parts) is)) (omega (arith, c.requires.some.0))) (ap (λ m. m.0.stage) is),
+    )

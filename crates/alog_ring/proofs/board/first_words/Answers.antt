@@ -1,0 +1,20 @@
+use Rattle.std.proofs.Common.{ℕ, ◌≡◌, ◌+◌, ◌*◌, ◌%◌, ◌<◌, ◌≤◌, List, length, ◌∙◌, arith, get_or-set_other, length-set, mod-lt}
+use Rattle.alog_ring.specs.Rule.{seq_of, word_count}
+use Rattle.alog_ring.proofs.Starting.{words_more}
+use Rattle.alog_ring.proofs.board.first_words.Goals as goal
+
+pub loop-ticket-preserved : goal.loop-ticket-preserved
+loop-ticket-preserved c =
+    let n : ℕ = c.args.places
+    in let t : ℕ = c.loop-ticket.ticket
+    in let row : List ℕ = c.loop-ticket.row
+    in let inv = c.loop-ticket.invariant
+    in let two : 2 ≤ n = c.requires.size.1
+    in let low : c.args.first ≤ t = c.loop-ticket.auto.ticket
+    in let high : t < c.args.first + n = c.loop-ticket-test.true
+    in (
+      length-set row (seq_of n t) t ∙ inv.0,
+      get_or-set_other row (seq_of n t) 16 t 0 (λ e. omega arith) ∙ inv.1,
+      get_or-set_other row (seq_of n t) 32 t 0 (λ e. omega arith) ∙ inv.2,
+      words_more n c.args.first t row two low high inv.0 inv.3,
+    )

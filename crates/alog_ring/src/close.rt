@@ -1,0 +1,91 @@
+//! The end of a ring.
+ghost use Rattle.std.specs.Prelude.{◌≡◌, ◌+◌, ◌<◌, ◌≤◌, ◌^◌, ◌↔◌, [], List, map, IsOk, IfOk, IfErr, vec_capacity};
+ghost use Rattle.std.specs.Mem.Slots.{slots_items, slots_len, IsFull};
+ghost use Rattle.alog_core.specs.Queue.{Cell};
+ghost use Rattle.alog_ring.specs.Sight.{Idle, all_parts};
+ghost use Rattle.alog_ring.specs.Calls.{IsPassOf, Closes, LieIn, Masks, ticket_and_item};
+
+use crate::board::{Board, HEAD};
+use crate::pass::{ALL_PARTS, Pass};
+use crate::ring::Ring;
+use crate::view::View;
+use atomic_table::{Closed, Seat};
+use std::alloc::Global;
+use std::fmt;
+use thiserror::Error;
+
+/// The pass has not all parts. Ring and pass come back.
+#[derive(Debug, Drop, Error)]
+#[error("not all passes are here")]
+pub struct PassesOut<T> {
+    pub ring: Ring<T>,
+    pub pass: Pass<T>,
+}
+
+/// Takes the values out of the places, from that of the ticket `first` on.
+fn take_out<T>(
+    mut closed: Closed<Option<T>, Global>,
+    mut left: Vec<(u64, T)>,
+    first: u64,
+    mask: u64,
+) -> Vec<(u64, T)>
+    requires places { IsFull closed.slots × (slots_len closed.slots ≡ mask + 1) }
+    requires sizes { (mask < 65536) × (first ≤ 2 ^ 62) × Masks mask }
+    requires room { (left.items ≡ []) × (mask + 1 ≤ vec_capacity left) }
+    ensures { (cells : List (Cell T)) → LieIn (slots_items closed.slots) first (mask + 1) cells → result.items ≡ map ticket_and_item cells }
+{
+    for i in 0..mask + 1 {
+        let ticket = first + i;
+        match closed.take((ticket & mask) as usize) {
+            Some(value) => left.push_reserved((ticket, value)),
+            None => {}
+        }
+    }
+    closed.free();
+    left
+}
+
+impl<T> Board<T> {
+    fn close(self, seat: Seat<Option<T>, View<T, ()>>, left: Vec<(u64, T)>) -> Vec<(u64, T)>
+        requires table { seat.table_id ≡ self.table.shared.table_id }
+        requires stage { seat.me.0.stage ≡ Idle }
+        requires all { seat.me.0.known.parts ≡ all_parts }
+        requires room { (left.items ≡ []) × (self.mask + 1 ≤ vec_capacity left) }
+        ensures { Closes seat.me.0.known result.items }
+    {
+        let Board { table, mask } = self;
+        let closed = table.close_with(seat);
+        let first = closed.word(HEAD);
+        take_out(closed, left, first, mask)
+    }
+}
+
+impl<T> Ring<T> {
+    /// What is left in the ring, each value with its ticket, in ticket order: where the pass has all parts. It takes no
+    /// memory.
+    pub fn close(self, pass: Pass<T>) -> Result<Vec<(u64, T)>, PassesOut<T>>
+        requires { IsPassOf self pass }
+        ensures whole { IsOk result ↔ (pass.known.parts ≡ all_parts) }
+        ensures left { IfOk result (λ v. Closes pass.known v.items) }
+        ensures out { IfErr result (λ e. (e.ring ≡ self) × (e.pass ≡ pass)) }
+    {
+        if pass.parts != ALL_PARTS {
+            return Err(PassesOut { ring: self, pass });
+        }
+        let Ring { board, left } = self;
+        let Pass { seat, parts: _ } = pass;
+        Ok(board.close(seat, left))
+    }
+}
+
+impl<T> fmt::Debug for Ring<T> {
+    fn fmt<W: fmt::Write>(&self, f: &mut fmt::Formatter<W>) -> fmt::Result {
+        f.pad("Ring { .. }")
+    }
+}
+
+impl<T> fmt::Debug for Pass<T> {
+    fn fmt<W: fmt::Write>(&self, f: &mut fmt::Formatter<W>) -> fmt::Result {
+        f.pad("Pass { .. }")
+    }
+}

@@ -1,0 +1,39 @@
+//! A pass: what a thread pushes and pops with.
+ghost use Rattle.std.specs.Prelude.{◌≡◌};
+
+use crate::view::View;
+use atomic_table::Seat;
+use std::marker::Model;
+
+/// The parts of a ring's first pass.
+pub(crate) const ALL_PARTS: u64 = 1 << 32;
+
+/// What a thread uses a ring with. It has some of the ring's parts, and knows which history it has seen and which entries
+/// in it are its own: contracts see that, and no field. A pass belongs to the ring that it was made for.
+#[derive(Drop)]
+pub struct Pass<T> {
+    pub(crate) seat: Seat<Option<T>, View<T, ()>>,
+    pub(crate) parts: u64,
+}
+
+impl<T> Model for Pass<T> {
+    ghost use Rattle.std.specs.Prelude.{◌≡◌, ◌<◌, ◌≤◌, []};
+    ghost use Rattle.alog_ring.specs.Sight.{PassView, Idle, all_parts};
+    ghost use Rattle.alog_ring.specs.Made.{IsFaithful};
+    ghost use Rattle.alog_ring.specs.Kinds.{no_note};
+
+    ghost Value = { PassView T no_note };
+
+    ghost view = { λ p. record { table = p.seat.table_id; known = p.seat.me.0.known } };
+
+    ghost invariant = { λ p. (p.seat.me.0.stage ≡ Idle) × (p.seat.me.1 ≡ []) × (p.parts ≡ p.seat.me.0.known.parts) × (0 < p.parts) × (p.parts ≤ all_parts) × IsFaithful p.seat.me.0.known };
+}
+
+impl<T> Pass<T> {
+    /// How many of its ring's parts the pass has. All are 2^32.
+    pub fn parts(&self) -> u64
+        ensures { result ≡ self.now.known.parts }
+    {
+        self.parts
+    }
+}

@@ -1,0 +1,43 @@
+//! Pops.
+ghost use Rattle.std.specs.Prelude.{◌≡◌, IfOk, IfErr};
+ghost use Rattle.alog_ring.specs.Calls.{IsPassOf, Popped};
+ghost use Rattle.alog_ring.specs.Refused.{PopRefused};
+
+use crate::pass::Pass;
+use crate::ring::Ring;
+use thiserror::Error;
+
+/// Why a pop did not go through.
+#[derive(Clone, Copy, Debug, PartialEq, Eq, Error)]
+pub enum PopError {
+    /// The front ticket is not there, or claimed and not yet written. From 2^62 on none will come.
+    #[error("empty at {next}")]
+    Empty { next: u64 },
+    /// Another pop grabbed the ticket that this one read.
+    #[error("busy at {seen}")]
+    Busy { seen: u64 },
+}
+
+impl<T> Ring<T> {
+    /// One round of a pop, which answers the ticket and its value.
+    pub fn pop_once(&self, pass: &mut Pass<T>) -> Result<(u64, T), PopError>
+        requires { IsPassOf self.now pass.old }
+        ensures ring { IsPassOf self.now pass.new }
+        ensures popped { IfOk result (λ r. Popped pass.old.known pass.new.known r.0 r.1) }
+        ensures refused { IfErr result (λ e. PopRefused pass.old.known pass.new.known e) }
+    {
+        let seat = &mut pass.seat;
+        let next = self.board.see_head(seat);
+        let sequence = self.board.see_full(seat, next);
+        if sequence < next + 1 {
+            return Err(PopError::Empty { next });
+        }
+        if sequence > next + 1 {
+            return Err(PopError::Busy { seen: next });
+        }
+        match self.board.grab_and_empty(seat, next) {
+            Some(value) => Ok((next, value)),
+            None => Err(PopError::Busy { seen: next }),
+        }
+    }
+}

@@ -1,0 +1,50 @@
+//! Pushes.
+ghost use Rattle.std.specs.Prelude.{◌≡◌, IfOk, IfErr};
+ghost use Rattle.alog_ring.specs.Calls.{IsPassOf, Pushed};
+ghost use Rattle.alog_ring.specs.Refused.{PushRefused};
+
+use crate::board::LAST;
+use crate::pass::Pass;
+use crate::ring::Ring;
+use thiserror::Error;
+
+/// Why a push did not go through. The value comes back.
+#[derive(Debug, Drop, Error)]
+pub enum PushError<T> {
+    /// The place of the next ticket is not free: the ticket a lap before is not taken yet.
+    #[error("full at {next}")]
+    Full { value: T, next: u64 },
+    /// Another push claimed the ticket that this one read.
+    #[error("busy at {seen}")]
+    Busy { value: T, seen: u64 },
+    /// All tickets below 2^62 are claimed.
+    #[error("no ticket is left")]
+    Spent { value: T },
+}
+
+impl<T> Ring<T> {
+    /// One round of a push, which answers the ticket.
+    pub fn push_once(&self, pass: &mut Pass<T>, value: T) -> Result<u64, PushError<T>>
+        requires { IsPassOf self.now pass.old }
+        ensures ring { IsPassOf self.now pass.new }
+        ensures pushed { IfOk result (λ t. Pushed pass.old.known pass.new.known t value) }
+        ensures refused { IfErr result (λ e. PushRefused pass.old.known pass.new.known value e) }
+    {
+        let seat = &mut pass.seat;
+        let next = self.board.see_tail(seat);
+        if next == LAST {
+            return Err(PushError::Spent { value });
+        }
+        let sequence = self.board.see_free(seat, next);
+        if sequence < next {
+            return Err(PushError::Full { value, next });
+        }
+        if sequence > next {
+            return Err(PushError::Busy { value, seen: next });
+        }
+        match self.board.claim_and_fill(seat, next, value) {
+            Ok(()) => Ok(next),
+            Err(value) => Err(PushError::Busy { value, seen: next }),
+        }
+    }
+}

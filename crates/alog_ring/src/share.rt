@@ -1,0 +1,126 @@
+//! Passes for more threads: split, joined, and shown to each other.
+ghost use Rattle.std.specs.Prelude.{◌≡◌, ℕ, ◌<◌, ◌≤◌, ◌↔◌, [], IsTrue};
+ghost use Rattle.alog_ring.specs.Sight.{Idle, all_parts};
+ghost use Rattle.alog_ring.specs.Made.{IsFaithful, Made};
+ghost use Rattle.alog_ring.specs.Parts.{IsWhole, apart_from, kept_part, lent_note, taking_in, reading_note, saw_both, saw_all};
+ghost use Rattle.alog_ring.specs.Calls.{IsPassOf, Splits, Joins, Meets};
+
+use crate::board::{Board, TAIL};
+use crate::pass::{ALL_PARTS, Pass};
+use crate::plays::{Amount, Cut, Lend, Names, ReadNote, SeeAll, SeeBoth, TakeIn};
+use crate::ring::Ring;
+use crate::view::View;
+use atomic_table::Seat;
+use std::marker::Brand;
+
+impl<T> Board<T> {
+    /// Gives `parts` parts of the seat away, to a new pass.
+    fn cut<A: Amount>(&self, seat: &mut Seat<Option<T>, View<T, ()>>, parts: u64) -> Pass<T>
+        requires amount { parts ≡ A.parts }
+        requires table { seat.old.table_id ≡ self.now.table.shared.table_id }
+        requires stage { seat.old.me.0.stage ≡ Idle }
+        requires some { 0 < parts }
+        requires fewer { parts < seat.old.me.0.known.parts }
+        requires most { parts ≤ all_parts }
+        ensures table { (seat.new.table_id ≡ seat.old.table_id) × (result.table ≡ seat.old.table_id) }
+        ensures kept { seat.new.me ≡ (kept_part parts seat.old.me.0, seat.old.me.1) }
+        ensures given { (a : ℕ) × (result.known ≡ apart_from seat.old.me.0.known a parts) }
+        ensures faithful { IsFaithful result.known }
+    {
+        let mut given = self.table.shared.split_seat::<Cut<A>>(seat);
+        self.table.shared.load::<Names>(&mut given, TAIL);
+        Pass { seat: given, parts }
+    }
+
+    /// Takes the other's parts and accounts in.
+    fn take_in(
+        &self,
+        seat: &mut Seat<Option<T>, View<T, ()>>,
+        other: Seat<Option<T>, View<T, ()>>,
+    )
+        requires table { (seat.old.table_id ≡ self.now.table.shared.table_id) × (other.table_id ≡ self.now.table.shared.table_id) }
+        requires stage { (seat.old.me.0.stage ≡ Idle) × (other.me.0.stage ≡ Idle) }
+        requires some { (0 < seat.old.me.0.known.parts) × (0 < other.me.0.known.parts) }
+        requires home { other.me.1 ≡ [] }
+        ensures table { seat.new.table_id ≡ seat.old.table_id }
+        ensures both { saw_both other.me.0.known.seen (taking_in seat.old.me.0 other.me.0, seat.old.me.1) seat.new.me }
+    {
+        self.table.shared.join_seat::<TakeIn>(seat, other);
+        self.table.shared.load::<SeeBoth>(seat, TAIL);
+    }
+
+    /// Shows what one seat has seen to another, by a note without parts.
+    fn show(&self, from: &mut Seat<Option<T>, View<T, ()>>, to: &mut Seat<Option<T>, View<T, ()>>)
+        requires table { (from.old.table_id ≡ self.now.table.shared.table_id) × (to.old.table_id ≡ self.now.table.shared.table_id) }
+        requires stage { (from.old.me.0.stage ≡ Idle) × (to.old.me.0.stage ≡ Idle) }
+        requires some { (0 < from.old.me.0.known.parts) × (0 < to.old.me.0.known.parts) }
+        ensures table { (from.new.table_id ≡ from.old.table_id) × (to.new.table_id ≡ to.old.table_id) }
+        ensures from { from.new.me ≡ (kept_part 0 from.old.me.0, from.old.me.1) }
+        ensures to { saw_both from.old.me.0.known.seen (reading_note to.old.me.0 (lent_note from.old.me.0), to.old.me.1) to.new.me }
+    {
+        let note = self.table.shared.split_seat::<Lend>(from);
+        self.table.shared.join_seat::<ReadNote>(to, note);
+        self.table.shared.load::<SeeBoth>(to, TAIL);
+    }
+
+    /// Sees the whole history.
+    fn look(&self, seat: &mut Seat<Option<T>, View<T, ()>>)
+        requires table { seat.old.table_id ≡ self.now.table.shared.table_id }
+        requires stage { seat.old.me.0.stage ≡ Idle }
+        requires some { 0 < seat.old.me.0.known.parts }
+        ensures table { seat.new.table_id ≡ seat.old.table_id }
+        ensures all { saw_all seat.old.me seat.new.me }
+    {
+        self.table.shared.load::<SeeAll>(seat, TAIL);
+    }
+}
+
+impl<T> Ring<T> {
+    /// A new pass, with so many of this one's parts, at least one and not all.
+    pub fn split(&self, pass: &mut Pass<T>, parts: u64) -> Pass<T>
+        requires ring { IsPassOf self.now pass.old }
+        requires some { 0 < parts }
+        requires fewer { parts < pass.old.known.parts }
+        ensures ring { IsPassOf self.now pass.new × IsPassOf self.now result }
+        ensures split { Splits pass.old pass.new result parts }
+    {
+        let given = self.board.cut::<Brand>(&mut pass.seat, parts);
+        pass.parts -= parts;
+        given
+    }
+
+    /// Gives the pass the other's parts and accounts. It has seen the longer of both histories then.
+    pub fn join(&self, pass: &mut Pass<T>, other: Pass<T>)
+        requires pass { IsPassOf self.now pass.old }
+        requires other { IsPassOf self.now other }
+        ensures ring { IsPassOf self.now pass.new }
+        ensures joined { Joins pass.old.known other.known pass.new.known }
+    {
+        let Pass { seat, parts } = other;
+        self.board.take_in(&mut pass.seat, seat);
+        pass.parts += parts;
+    }
+
+    /// The second pass sees what the first has seen. Then the history of one is a beginning of the other's.
+    pub fn meet(&self, first: &mut Pass<T>, second: &mut Pass<T>)
+        requires first { IsPassOf self.now first.old }
+        requires second { IsPassOf self.now second.old }
+        ensures first { first.new ≡ first.old }
+        ensures ring { IsPassOf self.now second.new }
+        ensures met { Meets second.old.known first.old.known second.new.known }
+    {
+        self.board.show(&mut first.seat, &mut second.seat);
+    }
+
+    /// Whether the pass has all parts. Then no other is left, and it has seen the whole history.
+    pub fn is_whole(&self, pass: &mut Pass<T>) -> bool
+        requires { IsPassOf self.now pass.old }
+        ensures ring { IsPassOf self.now pass.new }
+        ensures looks { Made pass.old.known pass.new.known [] }
+        ensures parts { IsTrue result ↔ (pass.old.known.parts ≡ all_parts) }
+        ensures whole { IsTrue result → IsWhole pass.new.known }
+    {
+        self.board.look(&mut pass.seat);
+        pass.parts == ALL_PARTS
+    }
+}

@@ -1,0 +1,54 @@
+//! Pushes and pops that begin again while another thread is in the way.
+ghost use Rattle.std.specs.Prelude.{◌≡◌, IfOk, IfErr};
+ghost use Rattle.alog_ring.specs.Calls.{IsPassOf};
+ghost use Rattle.alog_ring.specs.Waits.{PushedAtLast, PushRefusedAtLast, PoppedAtLast, PopRefusedAtLast};
+
+use crate::pass::Pass;
+use crate::pop::PopError;
+use crate::push::PushError;
+use crate::ring::Ring;
+use crossbeam_utils::Backoff;
+use std::sync::Wait;
+
+impl<T> Ring<T> {
+    /// Rounds of a push, until one is not busy. It backs off between them.
+    pub fn push(
+        &self,
+        rt: &impl Wait,
+        pass: &mut Pass<T>,
+        mut value: T,
+    ) -> Result<u64, PushError<T>>
+        requires { IsPassOf self.now pass.old }
+        ensures ring { IsPassOf self.now pass.new }
+        ensures pushed { IfOk result (λ t. PushedAtLast pass.old.known pass.new.known t value) }
+        ensures refused { IfErr result (λ e. PushRefusedAtLast pass.old.known pass.new.known value e) }
+    {
+        let backoff = Backoff::new();
+        for _ in rt.forever() {
+            match self.push_once(pass, value) {
+                Err(PushError::Busy { value: back, seen: _ }) => value = back,
+                answer => return answer,
+            }
+            backoff.spin();
+        }
+        unreachable!()
+    }
+
+    /// Rounds of a pop, until one is not busy. It backs off between them.
+    pub fn pop(&self, rt: &impl Wait, pass: &mut Pass<T>) -> Result<(u64, T), PopError>
+        requires { IsPassOf self.now pass.old }
+        ensures ring { IsPassOf self.now pass.new }
+        ensures popped { IfOk result (λ r. PoppedAtLast pass.old.known pass.new.known r.0 r.1) }
+        ensures refused { IfErr result (λ e. PopRefusedAtLast pass.old.known pass.new.known e) }
+    {
+        let backoff = Backoff::new();
+        for _ in rt.forever() {
+            match self.pop_once(pass) {
+                Err(PopError::Busy { seen: _ }) => {}
+                answer => return answer,
+            }
+            backoff.spin();
+        }
+        unreachable!()
+    }
+}
