@@ -10,10 +10,19 @@ use std::thread;
 #[test]
 fn takes_sizes_and_first_tickets(rt: HostRuntime) -> Result<(), Fail> {
     for places in [0, 1, 3, 131_072] {
-        assert_eq!(rt; Ring::<u64>::new(rt.alloc(), places, 0).err(), Some(NewError::BadSize));
+        assert_eq!(rt;
+            Ring::<u64>::new(rt.alloc(), places, 0).err(),
+            Some(NewError::BadSize)
+        );
     }
-    assert_eq!(rt; Ring::<u64>::new(rt.alloc(), 3, 1 << 62).err(), Some(NewError::BadSize));
-    assert_eq!(rt; Ring::<u64>::new(rt.alloc(), 2, 1 << 62).err(), Some(NewError::BadFirst));
+    assert_eq!(rt;
+        Ring::<u64>::new(rt.alloc(), 3, 1 << 62).err(),
+        Some(NewError::BadSize)
+    );
+    assert_eq!(rt;
+        Ring::<u64>::new(rt.alloc(), 2, 1 << 62).err(),
+        Some(NewError::BadFirst)
+    );
     assert!(rt; Ring::<u64>::new(rt.alloc(), 2, (1 << 62) - 1).is_ok());
     assert!(rt; Ring::<u64>::new(rt.alloc(), 65_536, 0).is_ok());
     Ok(())
@@ -24,7 +33,12 @@ fn a_ring_of_two(rt: HostRuntime) -> Result<(), Fail> {
     let (ring, mut pass) = Ring::<u64>::new(rt.alloc(), 2, 5)?;
     assert!(rt; matches!(ring.push_once(&mut pass, 7), Ok(5)));
     assert!(rt; matches!(ring.push_once(&mut pass, 8), Ok(6)));
-    assert!(rt; matches!(ring.push_once(&mut pass, 9), Err(PushError::Full { value: 9, next: 7 })));
+    assert!(rt;
+        matches!(
+            ring.push_once(&mut pass, 9),
+            Err(PushError::Full { value: 9, next: 7 })
+        )
+    );
     assert_eq!(rt; ring.pop_once(&mut pass), Ok((5, 7)));
     let mut other = ring.split(&mut pass, 1);
     assert_eq!(rt; (pass.parts(), other.parts()), ((1 << 32) - 1, 1));
@@ -47,9 +61,17 @@ fn the_last_ticket_of_all(rt: HostRuntime) -> Result<(), Fail> {
     let last = (1 << 62) - 1;
     let (ring, mut pass) = Ring::<u64>::new(rt.alloc(), 2, last)?;
     assert!(rt; matches!(ring.push(&rt, &mut pass, 1), Ok(4_611_686_018_427_387_903)));
-    assert!(rt; matches!(ring.push(&rt, &mut pass, 2), Err(PushError::Spent { value: 2 })));
+    assert!(rt;
+        matches!(
+            ring.push(&rt, &mut pass, 2),
+            Err(PushError::Spent { value: 2 })
+        )
+    );
     assert_eq!(rt; ring.pop(&rt, &mut pass), Ok((last, 1)));
-    assert_eq!(rt; ring.pop(&rt, &mut pass), Err(PopError::Empty { next: 1 << 62 }));
+    assert_eq!(rt;
+        ring.pop(&rt, &mut pass),
+        Err(PopError::Empty { next: 1 << 62 })
+    );
     Ok(())
 }
 
@@ -109,7 +131,10 @@ fn keeps_values_that_own_memory(rt: HostRuntime) -> Result<(), Fail> {
         panic!(rt; "no pass is out")
     };
     let mut lengths = left.iter().map(|(ticket, text)| (*ticket, text.len()));
-    assert_eq!(rt; (lengths.next(), lengths.next()), (Some((1, 2)), Some((2, 3))));
+    assert_eq!(rt;
+        (lengths.next(), lengths.next()),
+        (Some((1, 2)), Some((2, 3)))
+    );
     Ok(())
 }
 
