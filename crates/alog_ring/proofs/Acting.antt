@@ -1,22 +1,19 @@
 -- The four steps that change the queue keep the rule.
-use Rattle.std.proofs.Common.{◌≡◌, ◌≢◌, ℕ, ◌+◌, ◌-◌, ◌*◌, ◌%◌, ◌<◌, ◌≤◌, ◌⊎◌, List, [], ◌∷◌, ◌++◌, set, length, get_or, Some, None, refl, sym, ap, subst, ◌∙◌, inl, inr, arith, length-set, get_or-set_other, get_or-set_same, mod-lt}
+use Rattle.std.proofs.Common.{◌≡◌, ℕ, ◌+◌, ◌-◌, ◌*◌, ◌%◌, ◌<◌, ◌≤◌, List, [], ◌∷◌, ◌++◌, set, length, get_or, Some, None, refl, sym, ap, subst, ◌∙◌, arith, length-set, get_or-set_other, get_or-set_same, mod-lt}
 use mathlib.Core.Option as maybe
 use lib.ListN.{get_elem?}
 use Rattle.atomic_table.specs.Table.{State}
 use Rattle.atomic_table.proofs.Lists.{set_else, set_here}
-use Rattle.alog_core.specs.declared.mark.Mark.{Mark}
 use Rattle.alog_core.specs.declared.mark.Mark.TheVariants.{Claimed, Written, Emptying}
-use Rattle.alog_core.specs.Queue.{Cell, Queue, Event, Claim, Write, Grab, Take, last, cell_of, marked, without, HasCell, IsRoom, IsWritten, Allows, after, IsSound}
+use Rattle.alog_core.specs.Queue.{Cell, Queue, Event, Claim, Write, Grab, Take, last, cell_of, HasCell, IsRoom, Allows, after, IsSound}
 use Rattle.alog_core.specs.History.{Entry, StandsFor}
 use Rattle.alog_core.proofs.Cells.{cell_of-append_same, cell_of-marked_same}
 use Rattle.alog_core.proofs.Rising.{cell_of-without_same}
 use Rattle.alog_core.proofs.Histories.{stands_after}
 use Rattle.alog_core.proofs.Sound.{next_is_unlisted, sound_after}
-use Rattle.alog_ring.specs.Sight.{Known, Stage, Idle, SawFree, Writing, SawFull, Reading, Sight}
-use Rattle.alog_ring.specs.Made.{Made}
-use Rattle.alog_ring.specs.Rule.{IsAtWork, Knows, Staged, seq_of, ShowsCell, Shown, Ruled}
+use Rattle.alog_ring.specs.Sight.{Stage, Idle, Writing, Reading, Sight}
+use Rattle.alog_ring.specs.Rule.{IsAtWork, Staged, seq_of, ShowsCell, Shown, Ruled}
 use Rattle.alog_ring.specs.Plays.{entry, Adds}
-use Rattle.alog_ring.proofs.Lists.{inside}
 use Rattle.alog_ring.proofs.Telling.{grown}
 use Rattle.alog_ring.proofs.Turning.{Turn, within, turn_claim, turn_write, turn_grab, turn_take, staged_turn}
 use Rattle.alog_ring.proofs.Showing.{shown_turn}
@@ -62,7 +59,7 @@ module _ {S T N : Type 0} (kind : PlaceKind S T N) (n f : ℕ) (s : State S (Sig
 
   pub claim_step : (x : T) → IsRoom n r.queue.next r.queue.cells → r.queue.next < last → ((p : ℕ) (y : T) → v.stage ≡ Writing p y → r.queue.next ≡ p) → ((p : ℕ) (y : T) → v.stage ≡ Reading p y → r.queue.next ≡ p)
       → (get_elem? s.homes (r.queue.next % n) ≡ maybe.some (maybe.some (kind.spare n r.history r.queue.next)))
-          × Acted kind.blank (Claim r.queue.next x) (Writing r.queue.next x) (set s.words 16 (r.queue.next + 1)) (set s.homes (r.queue.next % n) maybe.none)
+      × Acted kind.blank (Claim r.queue.next x) (Writing r.queue.next x) (set s.words 16 (r.queue.next + 1)) (set s.homes (r.queue.next % n) maybe.none)
   claim_step x room low not_writing not_reading =
       let q : Queue T = r.queue
       in let t : ℕ = q.next
@@ -82,14 +79,14 @@ module _ {S T N : Type 0} (kind : PlaceKind S T N) (n f : ℕ) (s : State S (Sig
         old.1,
         acted kind.blank e (Writing t x) words (set s.homes (t % n) maybe.none) may
             (staged_turn n a t q q' turn r.history (entry kind.blank v.known e ∷ []) s.views v (acting kind.blank e (Writing t x)) at r.staged (work, has) not_writing not_reading
-                (λ y b h. let same : record { ticket = t; mark = Claimed; item = x; actor = a } ≡ record { ticket = t; mark = Claimed; item = y; actor = b } = cc in (sym (ap (λ (c : Cell T). c.actor) same), ap (λ (c : Cell T). Writing t c.item) same))
-                (λ y b h. absurd (let same : record { ticket = t; mark = Claimed; item = x; actor = a } ≡ record { ticket = t; mark = Emptying; item = y; actor = b } = cc in let m : Claimed ≡ Emptying = ap (λ (c : Cell T). c.mark) same in cc)))
+            (λ y b h. let same : record { ticket = t; mark = Claimed; item = x; actor = a } ≡ record { ticket = t; mark = Claimed; item = y; actor = b } = cc in (sym (ap (λ (c : Cell T). c.actor) same), ap (λ (c : Cell T). Writing t c.item) same))
+            (λ y b h. absurd (let same : record { ticket = t; mark = Claimed; item = x; actor = a } ≡ record { ticket = t; mark = Emptying; item = y; actor = b } = cc in let m : Claimed ≡ Emptying = ap (λ (c : Cell T). c.mark) same in cc)))
             (shown_turn kind.put kind.spare n a t q q' r.history (longer kind.blank e) s.words words s.homes (set s.homes (t % n) maybe.none) (sound_next e may) turn (omega arith) r.shown
-                (length-set s.words 16 (t + 1)) (length-set s.homes (t % n) maybe.none) (get_or-set_same s.words 16 (t + 1) 0 (omega arith)) (get_or-set_other s.words 16 32 (t + 1) 0 (λ z. omega arith) ∙ r.shown.head) (omega arith)
-                (λ i _. other i) (λ i apart. set_else s.homes (t % n) i maybe.none apart)
-                (λ c is. let same : new ≡ c = cc in subst W same (other (t % n) ∙ old.0))
-                (λ none. absurd (let wrong : None ≡ Some new = sym none ∙ has in cc))
-                (λ u _. kind.stays n r.history (entry kind.blank v.known e) u (λ z y is. cc))),
+            (length-set s.words 16 (t + 1)) (length-set s.homes (t % n) maybe.none) (get_or-set_same s.words 16 (t + 1) 0 (omega arith)) (get_or-set_other s.words 16 32 (t + 1) 0 (λ z. omega arith) ∙ r.shown.head) (omega arith)
+            (λ i _. other i) (λ i apart. set_else s.homes (t % n) i maybe.none apart)
+            (λ c is. let same : new ≡ c = cc in subst W same (other (t % n) ∙ old.0))
+            (λ none. absurd (let wrong : None ≡ Some new = sym none ∙ has in cc))
+            (λ u _. kind.stays n r.history (entry kind.blank v.known e) u (λ z y is. cc))),
       )
 
   pub write_step : (t : ℕ) (x : T) → v.stage ≡ Writing t x → HasCell r.queue.cells t Claimed x a
@@ -109,20 +106,20 @@ module _ {S T N : Type 0} (kind : PlaceKind S T N) (n f : ℕ) (s : State S (Sig
       in let homes : List (maybe.Option S) = set s.homes (t % n) (maybe.some (kind.put x))
       in let W : Cell T → Type 0 = λ c. ShowsCell kind.put kind.spare t (get_or words (seq_of n t) 0) (get_elem? homes (t % n)) c.item c.mark
       in acted kind.blank e Idle words homes may
-          (staged_turn n a t q q' turn r.history (entry kind.blank v.known e ∷ []) s.views v (acting kind.blank e Idle) at r.staged work
-              (λ p y is. let same : Writing t x ≡ Writing p y = sym stage ∙ is in cc) (λ p y is. absurd (let wrong : Writing t x ≡ Reading p y = sym stage ∙ is in cc))
-              (λ y b h. absurd (let same : new ≡ record { ticket = t; mark = Claimed; item = y; actor = b } = cc in let m : Written ≡ Claimed = ap (λ (c : Cell T). c.mark) same in cc))
-              (λ y b h. absurd (let same : new ≡ record { ticket = t; mark = Emptying; item = y; actor = b } = cc in let m : Written ≡ Emptying = ap (λ (c : Cell T). c.mark) same in cc)))
-          (shown_turn kind.put kind.spare n a t q q' r.history (longer kind.blank e) s.words words s.homes homes (sound_next e may) turn below.1 r.shown
-              (length-set s.words (seq_of n t) (t + 1)) (length-set s.homes (t % n) (maybe.some (kind.put x))) (get_or-set_other s.words (seq_of n t) 16 (t + 1) 0 (λ z. omega arith) ∙ r.shown.tail) (get_or-set_other s.words (seq_of n t) 32 (t + 1) 0 (λ z. omega arith) ∙ r.shown.head) r.shown.bounded
-              (λ i apart. get_or-set_other s.words (seq_of n t) (i * 8 + 48) (t + 1) 0 (λ z. apart (omega arith))) (λ i apart. set_else s.homes (t % n) i (maybe.some (kind.put x)) apart)
-              (λ c is. let same : new ≡ c = cc in subst W same (get_or-set_same s.words (seq_of n t) (t + 1) 0 (seq_in t), set_here s.homes (t % n) (maybe.some (kind.put x)) (place_in t)))
-              (λ none. absurd (let wrong : None ≡ Some new = sym none ∙ has in cc))
-              (λ u _. kind.stays n r.history (entry kind.blank v.known e) u (λ z y is. cc)))
+      (staged_turn n a t q q' turn r.history (entry kind.blank v.known e ∷ []) s.views v (acting kind.blank e Idle) at r.staged work
+      (λ p y is. let same : Writing t x ≡ Writing p y = sym stage ∙ is in cc) (λ p y is. absurd (let wrong : Writing t x ≡ Reading p y = sym stage ∙ is in cc))
+      (λ y b h. absurd (let same : new ≡ record { ticket = t; mark = Claimed; item = y; actor = b } = cc in let m : Written ≡ Claimed = ap (λ (c : Cell T). c.mark) same in cc))
+      (λ y b h. absurd (let same : new ≡ record { ticket = t; mark = Emptying; item = y; actor = b } = cc in let m : Written ≡ Emptying = ap (λ (c : Cell T). c.mark) same in cc)))
+      (shown_turn kind.put kind.spare n a t q q' r.history (longer kind.blank e) s.words words s.homes homes (sound_next e may) turn below.1 r.shown
+      (length-set s.words (seq_of n t) (t + 1)) (length-set s.homes (t % n) (maybe.some (kind.put x))) (get_or-set_other s.words (seq_of n t) 16 (t + 1) 0 (λ z. omega arith) ∙ r.shown.tail) (get_or-set_other s.words (seq_of n t) 32 (t + 1) 0 (λ z. omega arith) ∙ r.shown.head) r.shown.bounded
+      (λ i apart. get_or-set_other s.words (seq_of n t) (i * 8 + 48) (t + 1) 0 (λ z. apart (omega arith))) (λ i apart. set_else s.homes (t % n) i (maybe.some (kind.put x)) apart)
+      (λ c is. let same : new ≡ c = cc in subst W same (get_or-set_same s.words (seq_of n t) (t + 1) 0 (seq_in t), set_here s.homes (t % n) (maybe.some (kind.put x)) (place_in t)))
+      (λ none. absurd (let wrong : None ≡ Some new = sym none ∙ has in cc))
+      (λ u _. kind.stays n r.history (entry kind.blank v.known e) u (λ z y is. cc)))
 
   pub grab_step : (x : T) (b : ℕ) → HasCell r.queue.cells r.queue.front Written x b → ((p : ℕ) (y : T) → v.stage ≡ Writing p y → r.queue.front ≡ p) → ((p : ℕ) (y : T) → v.stage ≡ Reading p y → r.queue.front ≡ p)
       → (get_elem? s.homes (r.queue.front % n) ≡ maybe.some (maybe.some (kind.put x)))
-          × Acted kind.blank (Grab r.queue.front) (Reading r.queue.front x) (set s.words 32 (r.queue.front + 1)) (set s.homes (r.queue.front % n) maybe.none)
+      × Acted kind.blank (Grab r.queue.front) (Reading r.queue.front x) (set s.words 32 (r.queue.front + 1)) (set s.homes (r.queue.front % n) maybe.none)
   grab_step x b old not_writing not_reading =
       let q : Queue T = r.queue
       in let t : ℕ = q.front
@@ -144,14 +141,14 @@ module _ {S T N : Type 0} (kind : PlaceKind S T N) (n f : ℕ) (s : State S (Sig
         before.1,
         acted kind.blank e (Reading t x) words (set s.homes (t % n) maybe.none) may
             (staged_turn n a t q q' turn r.history (entry kind.blank v.known e ∷ []) s.views v (acting kind.blank e (Reading t x)) at r.staged (work, has) not_writing not_reading
-                (λ y j h. absurd (let same : new ≡ record { ticket = t; mark = Claimed; item = y; actor = j } = cc in let m : Emptying ≡ Claimed = ap (λ (c : Cell T). c.mark) same in cc))
-                (λ y j h. let same : new ≡ record { ticket = t; mark = Emptying; item = y; actor = j } = cc in (sym (ap (λ (c : Cell T). c.actor) same), ap (λ (c : Cell T). Reading t c.item) same)))
+            (λ y j h. absurd (let same : new ≡ record { ticket = t; mark = Claimed; item = y; actor = j } = cc in let m : Emptying ≡ Claimed = ap (λ (c : Cell T). c.mark) same in cc))
+            (λ y j h. let same : new ≡ record { ticket = t; mark = Emptying; item = y; actor = j } = cc in (sym (ap (λ (c : Cell T). c.actor) same), ap (λ (c : Cell T). Reading t c.item) same)))
             (shown_turn kind.put kind.spare n a t q q' r.history (longer kind.blank e) s.words words s.homes (set s.homes (t % n) maybe.none) (sound_next e may) turn below.1 r.shown
-                (length-set s.words 32 (t + 1)) (length-set s.homes (t % n) maybe.none) (get_or-set_other s.words 32 16 (t + 1) 0 (λ z. omega arith) ∙ r.shown.tail) (get_or-set_same s.words 32 (t + 1) 0 (omega arith)) r.shown.bounded
-                (λ i _. other i) (λ i apart. set_else s.homes (t % n) i maybe.none apart)
-                (λ c is. let same : new ≡ c = cc in subst W same (other (t % n) ∙ before.0))
-                (λ none. absurd (let wrong : None ≡ Some new = sym none ∙ has in cc))
-                (λ u _. kind.stays n r.history (entry kind.blank v.known e) u (λ z y is. cc))),
+            (length-set s.words 32 (t + 1)) (length-set s.homes (t % n) maybe.none) (get_or-set_other s.words 32 16 (t + 1) 0 (λ z. omega arith) ∙ r.shown.tail) (get_or-set_same s.words 32 (t + 1) 0 (omega arith)) r.shown.bounded
+            (λ i _. other i) (λ i apart. set_else s.homes (t % n) i maybe.none apart)
+            (λ c is. let same : new ≡ c = cc in subst W same (other (t % n) ∙ before.0))
+            (λ none. absurd (let wrong : None ≡ Some new = sym none ∙ has in cc))
+            (λ u _. kind.stays n r.history (entry kind.blank v.known e) u (λ z y is. cc))),
       )
 
   pub take_step : (note : N) (t : ℕ) (x : T) → v.stage ≡ Reading t x → HasCell r.queue.cells t Emptying x a
@@ -169,13 +166,13 @@ module _ {S T N : Type 0} (kind : PlaceKind S T N) (n f : ℕ) (s : State S (Sig
       in let words : List ℕ = set s.words (seq_of n t) (t + n)
       in let homes : List (maybe.Option S) = set s.homes (t % n) (maybe.some (kind.plain note))
       in acted note e Idle words homes may
-          (staged_turn n a t q q' turn r.history (entry note v.known e ∷ []) s.views v (acting note e Idle) at r.staged work
-              (λ p y is. absurd (let wrong : Reading t x ≡ Writing p y = sym stage ∙ is in cc)) (λ p y is. let same : Reading t x ≡ Reading p y = sym stage ∙ is in cc)
-              (λ y b h. absurd (let wrong : None ≡ Some (record { ticket = t; mark = Claimed; item = y; actor = b }) = sym gone ∙ h in cc))
-              (λ y b h. absurd (let wrong : None ≡ Some (record { ticket = t; mark = Emptying; item = y; actor = b }) = sym gone ∙ h in cc)))
-          (shown_turn kind.put kind.spare n a t q q' r.history (longer note e) s.words words s.homes homes (sound_next e may) turn below.1 r.shown
-              (length-set s.words (seq_of n t) (t + n)) (length-set s.homes (t % n) (maybe.some (kind.plain note))) (get_or-set_other s.words (seq_of n t) 16 (t + n) 0 (λ z. omega arith) ∙ r.shown.tail) (get_or-set_other s.words (seq_of n t) 32 (t + n) 0 (λ z. omega arith) ∙ r.shown.head) r.shown.bounded
-              (λ i apart. get_or-set_other s.words (seq_of n t) (i * 8 + 48) (t + n) 0 (λ z. apart (omega arith))) (λ i apart. set_else s.homes (t % n) i (maybe.some (kind.plain note)) apart)
-              (λ c is. absurd (let wrong : None ≡ Some c = sym gone ∙ is in cc))
-              (λ _. (get_or-set_same s.words (seq_of n t) (t + n) 0 (seq_in t), set_here s.homes (t % n) (maybe.some (kind.plain note)) (place_in t) ∙ ap (λ (z : S). maybe.some (maybe.some z)) (sym (kind.comes n r.history (entry note v.known e) t x refl))))
-              (λ u apart. kind.stays n r.history (entry note v.known e) u (λ z y is same. let w : t ≡ z = cc in apart (sym same ∙ ap (λ (k : ℕ). k + n) (sym w)))))
+      (staged_turn n a t q q' turn r.history (entry note v.known e ∷ []) s.views v (acting note e Idle) at r.staged work
+      (λ p y is. absurd (let wrong : Reading t x ≡ Writing p y = sym stage ∙ is in cc)) (λ p y is. let same : Reading t x ≡ Reading p y = sym stage ∙ is in cc)
+      (λ y b h. absurd (let wrong : None ≡ Some (record { ticket = t; mark = Claimed; item = y; actor = b }) = sym gone ∙ h in cc))
+      (λ y b h. absurd (let wrong : None ≡ Some (record { ticket = t; mark = Emptying; item = y; actor = b }) = sym gone ∙ h in cc)))
+      (shown_turn kind.put kind.spare n a t q q' r.history (longer note e) s.words words s.homes homes (sound_next e may) turn below.1 r.shown
+      (length-set s.words (seq_of n t) (t + n)) (length-set s.homes (t % n) (maybe.some (kind.plain note))) (get_or-set_other s.words (seq_of n t) 16 (t + n) 0 (λ z. omega arith) ∙ r.shown.tail) (get_or-set_other s.words (seq_of n t) 32 (t + n) 0 (λ z. omega arith) ∙ r.shown.head) r.shown.bounded
+      (λ i apart. get_or-set_other s.words (seq_of n t) (i * 8 + 48) (t + n) 0 (λ z. apart (omega arith))) (λ i apart. set_else s.homes (t % n) i (maybe.some (kind.plain note)) apart)
+      (λ c is. absurd (let wrong : None ≡ Some c = sym gone ∙ is in cc))
+      (λ _. (get_or-set_same s.words (seq_of n t) (t + n) 0 (seq_in t), set_here s.homes (t % n) (maybe.some (kind.plain note)) (place_in t) ∙ ap (λ (z : S). maybe.some (maybe.some z)) (sym (kind.comes n r.history (entry note v.known e) t x refl))))
+      (λ u apart. kind.stays n r.history (entry note v.known e) u (λ z y is same. let w : t ≡ z = cc in apart (sym same ∙ ap (λ (k : ℕ). k + n) (sym w)))))

@@ -1,11 +1,10 @@
 -- What the calls' steps tell, put together.
-use Rattle.std.proofs.Common.{◌≡◌, ◌≢◌, ℕ, ◌+◌, ◌%◌, ◌<◌, Option, None, Some, List, [], ◌∷◌, ◌++◌, refl, sym, ap, ap₂, subst, ◌∙◌, append_assoc}
-use Rattle.std.proofs.lemmas.List.{append-nil}
+use Rattle.std.proofs.Common.{◌≡◌, ℕ, ◌%◌, Option, None, Some, List, [], ◌∷◌, ◌++◌, sym, ap, subst, ◌∙◌, append_assoc}
 use mathlib.Core.Option.{some}
-use Rattle.atomic_table.specs.Table.{Me, Step, step, rest}
-use Rattle.alog_core.specs.Queue.{Event, Claim, Write, Grab, Take}
+use Rattle.atomic_table.specs.Table.{Me, step, rest}
+use Rattle.alog_core.specs.Queue.{Event, Claim, Grab}
 use Rattle.alog_core.specs.History.{Entry}
-use Rattle.alog_ring.specs.Sight.{Known, Stage, Idle, Writing, Reading, Sight}
+use Rattle.alog_ring.specs.Sight.{Known, Writing, Reading, Sight}
 use Rattle.alog_ring.specs.Made.{Made, EndsWith}
 use Rattle.alog_ring.specs.Plays.{entry, Adds, Acts, claimed, wrote, grabbed, took}
 use Rattle.alog_ring.specs.Kinds.{no_note, some_value, no_value}

@@ -1,15 +1,14 @@
 -- What is left in the places when a ring is closed.
-use Rattle.std.proofs.Common.{◌≡◌, ◌≢◌, ℕ, zero, suc, ◌+◌, ◌-◌, ◌*◌, ◌%◌, ◌<◌, ◌≤◌, ◌⊎◌, Bool, true, false, Option, Some, None, List, [], ◌∷◌, ◌++◌, map, set, length, get_or, refl, sym, ap, subst, ◌∙◌, inl, inr, arith, add-one, length-set, get_or-set_other, get_or-set_same, mod-lt}
+use Rattle.std.proofs.Common.{◌≡◌, ◌≢◌, ℕ, zero, suc, ◌+◌, ◌-◌, ◌%◌, ◌<◌, ◌≤◌, ◌⊎◌, Bool, true, false, Option, Some, None, List, [], ◌∷◌, ◌++◌, map, set, length, get_or, refl, sym, ap, subst, ◌∙◌, inl, inr, arith, add-one, length-set, get_or-set_other, get_or-set_same, mod-lt}
 use mathlib.Core.Option as maybe
-use mathlib.Core.List.{IsPrefix}
 use lib.ListN.{get_elem?}
 use native.Mathlib.Nat.{add-mod_right}
 use Rattle.std.proofs.lemmas.Bool.Decides.{leb_tells}
-use Rattle.atomic_table.specs.Table.{State, Final, Seen}
+use Rattle.atomic_table.specs.Table.{Final, Seen}
 use Rattle.alog_core.specs.declared.mark.Mark.{Mark}
-use Rattle.alog_core.specs.declared.mark.Mark.TheVariants.{Claimed, Written, Emptying}
+use Rattle.alog_core.specs.declared.mark.Mark.TheVariants.{Written, Emptying}
 use Rattle.alog_core.specs.Queue.{Cell, Queue, last, start, cell_of, IsListed, IsRoom, IsSound, Rises}
-use Rattle.alog_core.specs.History.{Entry, left_by, own_of}
+use Rattle.alog_core.specs.History.{left_by, own_of}
 use Rattle.alog_core.proofs.Cells.{at_same, at_other}
 use Rattle.alog_core.proofs.Rising.{bounds_of_rising, listed_within, unlisted_below}
 use Rattle.alog_core.proofs.Sound.{length-sound}
@@ -83,12 +82,12 @@ module _ {T : Type 0} where
     marks_taken : (j : ℕ) → j < i + 1 → get_or (set filled ((first + i) % n) false) ((first + j) % n) false ≡ false
     marks_taken j lt =
         elim (same_or_not i j) [
-          inl e ↦
-            let place : (first + i) % n < length filled = let p : (first + i) % n < n = mod-lt (first + i) some in omega (arith, has.count)
-            in ap (λ (z : ℕ). get_or (set filled ((first + i) % n) false) ((first + z) % n) false) (sym e) ∙ get_or-set_same filled ((first + i) % n) false false place
+          | inl e ↦
+              let place : (first + i) % n < length filled = let p : (first + i) % n < n = mod-lt (first + i) some in omega (arith, has.count)
+              in ap (λ (z : ℕ). get_or (set filled ((first + i) % n) false) ((first + z) % n) false) (sym e) ∙ get_or-set_same filled ((first + i) % n) false false place
           | inr other ↦
-            let apart : (first + j) % n ≢ (first + i) % n = near_apart n (first + i) (first + j) (λ e. other (omega arith)) (omega arith) (omega arith)
-            in get_or-set_other filled ((first + i) % n) ((first + j) % n) false false apart ∙ has.taken j (omega arith)
+              let apart : (first + j) % n ≢ (first + i) % n = near_apart n (first + i) (first + j) (λ e. other (omega arith)) (omega arith) (omega arith)
+              in get_or-set_other filled ((first + i) % n) ((first + j) % n) false false apart ∙ has.taken j (omega arith)
         ]
 
     still_full : (j : ℕ) → i + 1 ≤ j → j < n → get_or (set filled ((first + i) % n) false) ((first + j) % n) false ≡ true
@@ -109,9 +108,9 @@ module _ {T : Type 0} where
       full = still_full;
       few = omega (arith, Rattle.std.proofs.lemmas.List.length-append left ((first + i, x) ∷ []), has.few);
       cells =
-        λ cs lie.
-            let P : ℕ → Type 0 = λ z. left ++ (first + i, x) ∷ [] ≡ firsts cs z
-            in subst P (sym (add-one i)) (ap (λ (l : List (ℕ × T)). l ++ (first + i, x) ∷ []) (has.cells cs lie) ∙ sym (firsts_some first cs i x lie.in_row (here_is cs (Some x) is lie)));
+          λ cs lie.
+          let P : ℕ → Type 0 = λ z. left ++ (first + i, x) ∷ [] ≡ firsts cs z
+          in subst P (sym (add-one i)) (ap (λ (l : List (ℕ × T)). l ++ (first + i, x) ∷ []) (has.cells cs lie) ∙ sym (firsts_some first cs i x lie.in_row (here_is cs (Some x) is lie)));
     }
 
     pub takes_nothing : get_elem? now ((first + i) % n) ≡ maybe.some None → HasTaken n first (i + 1) before now (set filled ((first + i) % n) false) left
@@ -122,9 +121,9 @@ module _ {T : Type 0} where
       full = still_full;
       few = omega (arith, has.few);
       cells =
-        λ cs lie.
-            let P : ℕ → Type 0 = λ z. left ≡ firsts cs z
-            in subst P (sym (add-one i)) (has.cells cs lie ∙ sym (firsts_more cs i (here_is cs None is lie)));
+          λ cs lie.
+          let P : ℕ → Type 0 = λ z. left ≡ firsts cs z
+          in subst P (sym (add-one i)) (has.cells cs lie ∙ sym (firsts_more cs i (here_is cs None is lie)));
     }
 
   pub all_taken : (n first : ℕ) (before now : List (Option T)) (filled : List Bool) (left : List (ℕ × T)) → HasTaken n first n before now filled left → (cs : List (Cell T)) → LieIn before first n cs → left ≡ map ticket_and_item cs
@@ -134,14 +133,14 @@ module _ {T : Type 0} where
   none_filled n first before now filled left some has k low =
       let small : k % n ≡ k = native.Mathlib.Nat.mod-eq_of_lt low
       in let at : (t : ℕ) → first ≤ t → t < first + n → t % n ≡ k → get_or filled k false ≡ false =
-        λ t from to place.
-            let back : first + (t - first) ≡ t = omega arith
-            in ap (λ (z : ℕ). get_or filled z false) (sym (ap (λ (z : ℕ). z % n) back ∙ place)) ∙ has.taken (t - first) (omega arith)
+      λ t from to place.
+      let back : first + (t - first) ≡ t = omega arith
+      in ap (λ (z : ℕ). get_or filled z false) (sym (ap (λ (z : ℕ). z % n) back ∙ place)) ∙ has.taken (t - first) (omega arith)
       in elim (leb_tells first k) [
-        inl le ↦ at k le.1 (omega arith) small
+        | inl le ↦ at k le.1 (omega arith) small
         | inr lt ↦
-          let on : (t : ℕ) × (first ≤ t) × (t < first + n) × (t % n ≡ k % n) × (k + n ≤ t) = lap first k first n some lt.1 (omega arith)
-          in at on.0 on.1 on.2 (on.3 ∙ small)
+            let on : (t : ℕ) × (first ≤ t) × (t < first + n) × (t % n ≡ k % n) × (k + n ≤ t) = lap first k first n some lt.1 (omega arith)
+            in at on.0 on.1 on.2 (on.3 ∙ small)
       ]
 
 -- Cells from this ticket on, without a gap, are in row.
@@ -151,20 +150,20 @@ in_row {T} first low (c ∷ cs) high rises from listed =
     let below : c.ticket + 1 ≤ high = bounds_of_rising (c.ticket + 1) cs high rises.1
     in let lowest : first ≤ c.ticket = from c.ticket c (at_same c.ticket c.ticket (Some c) (cell_of c.ticket cs) refl)
     in let same : c.ticket ≡ first =
-      elim (same_or_not c.ticket first) [
-        inl e ↦ e
-        | inr apart ↦
+    elim (same_or_not c.ticket first) [
+      | inl e ↦ e
+      | inr apart ↦
           let here : IsListed first (c ∷ cs) = listed first (omega arith) (omega arith)
           in let later : cell_of first cs ≡ Some here.0 = sym (at_other c.ticket first (Some c) (cell_of first cs) apart) ∙ here.1
           in let none : cell_of first cs ≡ None = unlisted_below first (c.ticket + 1) cs high rises.1 (omega arith)
           in absurd (let wrong : None ≡ Some here.0 = sym none ∙ later in cc)
-      ]
+    ]
     in let tail : AreInRow (c.ticket + 1) cs = in_row (c.ticket + 1) (c.ticket + 1) cs high rises.1
-        (λ t d is. (listed_within t (c.ticket + 1) cs high d rises.1 is).0)
-        (λ t above under.
-            let here : IsListed t (c ∷ cs) = listed t (omega arith) under
-            in let apart : c.ticket ≢ t = omega arith
-            in (here.0, sym (at_other c.ticket t (Some c) (cell_of t cs) apart) ∙ here.1))
+    (λ t d is. (listed_within t (c.ticket + 1) cs high d rises.1 is).0)
+    (λ t above under.
+    let here : IsListed t (c ∷ cs) = listed t (omega arith) under
+    in let apart : c.ticket ≢ t = omega arith
+    in (here.0, sym (at_other c.ticket t (Some c) (cell_of t cs) apart) ∙ here.1))
     in let P : ℕ → Type 0 = λ z. AreInRow (z + 1) cs
     in (same, subst P same tail)
 
@@ -204,7 +203,7 @@ module _ {T : Type 0} (n f id : ℕ) (v : Sight T no_note) (words : List ℕ) (p
   from_front : (t : ℕ) (c : Cell T) → cell_of t fin.1.0.queue.cells ≡ Some c → fin.1.0.queue.front ≤ t
   from_front t c is =
       elim (leb_tells fin.1.0.queue.front t) [
-        inl le ↦ le.1
+        | inl le ↦ le.1
         | inr lt ↦ let wrong : Written ≡ Emptying = sym (written t c is) ∙ (sound.emptied t c is).1 lt.1 in absurd (cc)
       ]
 
@@ -224,29 +223,29 @@ module _ {T : Type 0} (n f id : ℕ) (v : Sight T no_note) (words : List ℕ) (p
         in_row = row;
         few = length-sound n q sound;
         values =
-          λ i low.
-              let t : ℕ = q.front + i
-              in elim (on_option (cell_of t q.cells)) [
-                inr some ↦
+            λ i low.
+            let t : ℕ = q.front + i
+            in elim (on_option (cell_of t q.cells)) [
+              | inr some ↦
                   let c : Cell T = some.0
                   in let W : Mark → Type 0 = λ m. ShowsCell some_value no_value t (get_or fin.0.words (seq_of n t) 0) (get_elem? fin.0.homes (t % n)) c.item m
                   in let lies : (get_or fin.0.words (seq_of n t) 0 ≡ t + 1) × (get_elem? fin.0.homes (t % n) ≡ maybe.some (maybe.some (Some c.item))) = subst W (written t c some.1) (fin.1.0.shown.cells t c some.1)
                   in fin.4 (t % n) (Some c.item) lies.1 ∙ ap maybe.some (sym (value_listed q.front q.cells i c row some.1))
-                | inl none ↦
+              | inl none ↦
                   let past : q.next ≤ t =
-                    elim (leb_tells q.next t) [
-                      inl le ↦ le.1
-                      | inr lt ↦ let here : IsListed t q.cells = sound.listed t (omega arith) lt.1 in absurd (let wrong : None ≡ Some here.0 = sym none ∙ here.1 in cc)
-                    ]
+                  elim (leb_tells q.next t) [
+                    | inl le ↦ le.1
+                    | inr lt ↦ let here : IsListed t q.cells = sound.listed t (omega arith) lt.1 in absurd (let wrong : None ≡ Some here.0 = sym none ∙ here.1 in cc)
+                  ]
                   in let room : IsRoom n t q.cells =
-                    λ u e.
-                        elim (on_option (cell_of u q.cells)) [
-                          inl free ↦ free
-                          | inr some ↦ let high : q.front ≤ u = from_front u some.0 some.1 in absurd (omega arith)
-                        ]
+                  λ u e.
+                  elim (on_option (cell_of u q.cells)) [
+                    | inl free ↦ free
+                    | inr some ↦ let high : q.front ≤ u = from_front u some.0 some.1 in absurd (omega arith)
+                  ]
                   in let lies = fin.1.0.shown.free t past (omega arith) room
                   in fin.4 (t % n) None lies.1 ∙ ap maybe.some (sym (value_unlisted q.front q.cells i row none))
-              ];
+            ];
       }
 
   pub closes : (first : ℕ) (left : List (ℕ × T)) → get_elem? words 32 ≡ maybe.some first → ((cells : List (Cell T)) → LieIn places first n cells → left ≡ map ticket_and_item cells) → Closes v.known left
@@ -269,12 +268,12 @@ module _ {T : Type 0} (n f id : ℕ) (v : Sight T no_note) (words : List ℕ) (p
         };
         whole = record {
           actors =
-            all_actors (λ b. (b ≡ k.actor) ⊎ IsAmong b k.joined) r.history
-                (λ b some_own.
-                    elim (actors_now (option_kind T) n f 0 id (v, []) live fin.0 r fin.1.1 idle all b some_own) [
-                      inl same ↦ inl (same ∙ sym work.0)
-                      | inr among ↦ inr among
-                    ]);
+              all_actors (λ b. (b ≡ k.actor) ⊎ IsAmong b k.joined) r.history
+              (λ b some_own.
+              elim (actors_now (option_kind T) n f 0 id (v, []) live fin.0 r fin.1.1 idle all b some_own) [
+                | inl same ↦ inl (same ∙ sym work.0)
+                | inr among ↦ inr among
+              ]);
           written = subst W (sym left_is) written;
         };
         cells = are r.queue.cells (subst L (sym (first_is_front first at)) lie_in) ∙ ap (λ (q : Queue T). map ticket_and_item q.cells) (sym left_is);

@@ -1,18 +1,16 @@
 -- A seat takes in another, with its parts and accounts, or a note, which has none.
-use Rattle.std.proofs.Common.{◌≡◌, ◌≢◌, ℕ, zero, suc, ◌+◌, ◌<◌, ◌≤◌, ◌⊎◌, List, [], ◌∷◌, ◌++◌, set, length, refl, sym, ap, subst, ◌∙◌, inl, inr, arith, length-set}
+use Rattle.std.proofs.Common.{◌≡◌, ◌≢◌, ℕ, ◌+◌, ◌<◌, ◌⊎◌, List, [], ◌∷◌, ◌++◌, set, length, refl, sym, ap, subst, ◌∙◌, inl, inr, arith, length-set}
 use Rattle.std.specs.List.{AllByRecursion, sum_by}
-use mathlib.Core.Option.{some, some-injective}
+use mathlib.Core.Option.{some}
 use mathlib.Core.List.{IsPrefix}
 use lib.ListN.{get_elem?}
-use Rattle.atomic_table.specs.Table.{State, Me, Joins}
+use Rattle.atomic_table.specs.Table.{State, Joins}
 use Rattle.atomic_table.proofs.Lists.{at_set, set_else, set_here}
-use Rattle.alog_core.specs.declared.mark.Mark.TheVariants.{Claimed, Emptying}
-use Rattle.alog_core.specs.Queue.{Queue, HasCell}
+use Rattle.alog_core.specs.Queue.{Queue}
 use Rattle.alog_core.specs.History.{Entry, own_of}
-use Rattle.alog_ring.specs.Sight.{Account, Known, Stage, Idle, Lent, Joined, Gone, Writing, Reading, Sight, all_parts}
-use Rattle.alog_ring.specs.Made.{AreExact}
+use Rattle.alog_ring.specs.Sight.{Account, Stage, Idle, Lent, Writing, Reading, Sight}
 use Rattle.alog_ring.specs.Rule.{parts_of, IsAtWork, IsAmong, IsRetired, IsTakenIn, HasAccounts, Knows, Told, Staged, Ruled}
-use Rattle.alog_ring.specs.Parts.{accounts_of, with_other, taking_in, reading_note, gone, nothing_known}
+use Rattle.alog_ring.specs.Parts.{accounts_of, taking_in, reading_note, gone}
 use Rattle.alog_ring.proofs.Lists.{same_or_not, inside, one_value, each_of, each_append, sum_changed}
 use Rattle.alog_ring.proofs.Telling.{retired_apart}
 
@@ -45,12 +43,12 @@ module _ {T N : Type 0} where
     which : (P : ℕ → Sight T N → Type 0) → P a both → P o gone → ((b : ℕ) (u : Sight T N) → b ≢ a → b ≢ o → get_elem? views b ≡ some u → P b u) → (b : ℕ) (u : Sight T N) → get_elem? after_join b ≡ some u → P b u
     which P mine its others b u e =
         elim (at_set (set views a both) o b gone u e) [
-          inl same ↦ let Q : ℕ → Type 0 = λ z. P z u in let R : Sight T N → Type 0 = λ z. P o z in subst Q (sym same.0) (subst R same.1 its)
+          | inl same ↦ let Q : ℕ → Type 0 = λ z. P z u in let R : Sight T N → Type 0 = λ z. P o z in subst Q (sym same.0) (subst R same.1 its)
           | inr other ↦
-            elim (at_set views a b both u other.1) [
-              inl same ↦ let Q : ℕ → Type 0 = λ z. P z u in let R : Sight T N → Type 0 = λ z. P a z in subst Q (sym same.0) (subst R same.1 mine)
-              | inr old ↦ others b u old.0 other.0 old.1
-            ]
+              elim (at_set views a b both u other.1) [
+                | inl same ↦ let Q : ℕ → Type 0 = λ z. P z u in let R : Sight T N → Type 0 = λ z. P a z in subst Q (sym same.0) (subst R same.1 mine)
+                | inr old ↦ others b u old.0 other.0 old.1
+              ]
         ]
 
     gone_retired : IsRetired after_join o
@@ -59,7 +57,7 @@ module _ {T N : Type 0} where
     retired_still : (b : ℕ) → IsRetired views b → IsRetired after_join b
     retired_still b is =
         elim (same_or_not b o) [
-          inl same ↦ let P : ℕ → Type 0 = λ z. IsRetired after_join z in subst P (sym same) gone_retired
+          | inl same ↦ let P : ℕ → Type 0 = λ z. IsRetired after_join z in subst P (sym same) gone_retired
           | inr other ↦ (is.0, elsewhere b is.0 (retired_apart views a b v at live is) other is.1, is.2)
         ]
 
@@ -74,21 +72,21 @@ module _ {T N : Type 0} where
       taken_still : (b : ℕ) → IsTakenIn views b → IsTakenIn after_join b
       taken_still b by =
           elim (same_or_not by.0 a) [
-            inl same ↦
-              let Q : ℕ → Type 0 = λ i. get_elem? views i ≡ some by.1
-              in let one : by.1 ≡ v = one_value views a by.1 v (subst Q same by.2) at
-              in let P : Sight T N → Type 0 = λ z. IsAmong b z.known.joined
-              in (a, both, here, some_left, mine b (subst P one by.4))
+            | inl same ↦
+                let Q : ℕ → Type 0 = λ i. get_elem? views i ≡ some by.1
+                in let one : by.1 ≡ v = one_value views a by.1 v (subst Q same by.2) at
+                in let P : Sight T N → Type 0 = λ z. IsAmong b z.known.joined
+                in (a, both, here, some_left, mine b (subst P one by.4))
             | inr not_a ↦
-              elim (same_or_not by.0 o) [
-                inl same ↦
-                  let Q : ℕ → Type 0 = λ i. get_elem? views i ≡ some by.1
-                  in let one : by.1 ≡ w = one_value views o by.1 w (subst Q same by.2) at_other
-                  in let P : Sight T N → Type 0 = λ z. IsAmong b z.known.joined
-                  in let R : Sight T N → Type 0 = λ z. 0 < z.known.parts
-                  in (a, both, here, some_left, its b (subst R one by.3) (subst P one by.4))
-                | inr not_o ↦ (by.0, by.1, elsewhere by.0 by.1 not_a not_o by.2, by.3, by.4)
-              ]
+                elim (same_or_not by.0 o) [
+                  | inl same ↦
+                      let Q : ℕ → Type 0 = λ i. get_elem? views i ≡ some by.1
+                      in let one : by.1 ≡ w = one_value views o by.1 w (subst Q same by.2) at_other
+                      in let P : Sight T N → Type 0 = λ z. IsAmong b z.known.joined
+                      in let R : Sight T N → Type 0 = λ z. 0 < z.known.parts
+                      in (a, both, here, some_left, its b (subst R one by.3) (subst P one by.4))
+                  | inr not_o ↦ (by.0, by.1, elsewhere by.0 by.1 not_a not_o by.2, by.3, by.4)
+                ]
           ]
 
       -- `o` has no entries, or its account is in the joined one
@@ -98,29 +96,29 @@ module _ {T N : Type 0} where
           places = which (λ b u. 0 < u.known.parts → u.known.places ≡ n) (λ _. places ∙ told.places a v at live) (λ some. absurd (omega arith)) (λ b u _ _ g. told.places b u g);
           first = which (λ b u. 0 < u.known.parts → u.known.first ≡ f) (λ _. first ∙ told.first a v at live) (λ some. absurd (omega arith)) (λ b u _ _ g. told.first b u g);
           seen =
-            let P : List (Entry T N) → Type 0 = λ s. IsPrefix s h
-            in which (λ b u. IsPrefix u.known.seen h) (subst P (sym seen) (told.seen a v at)) (h, refl) (λ b u _ _ g. told.seen b u g);
+              let P : List (Entry T N) → Type 0 = λ s. IsPrefix s h
+              in which (λ b u. IsPrefix u.known.seen h) (subst P (sym seen) (told.seen a v at)) (h, refl) (λ b u _ _ g. told.seen b u g);
           accounts =
-            which (λ b u. 0 < u.known.parts → HasAccounts h after_join b u.known)
-                (λ _. accounts)
-                (λ some. absurd (omega arith))
-                (λ b u _ _ g some_parts.
-                    let old : HasAccounts h views b u.known = told.accounts b u g some_parts
-                    in record { own = old.own; joined = old.joined; retired = all_retired u.known.joined old.retired });
+              which (λ b u. 0 < u.known.parts → HasAccounts h after_join b u.known)
+              (λ _. accounts)
+              (λ some. absurd (omega arith))
+              (λ b u _ _ g some_parts.
+              let old : HasAccounts h views b u.known = told.accounts b u g some_parts
+              in record { own = old.own; joined = old.joined; retired = all_retired u.known.joined old.retired });
           without =
-            which (λ b u. u.known.parts ≡ 0 → (own_of b h ≡ []) ⊎ IsTakenIn after_join b)
-                (λ none. absurd (let some : 0 < both.known.parts = some_left in omega arith))
-                (λ _. other)
-                (λ b u _ _ g none. elim (told.without b u g none) [ inl empty ↦ inl empty | inr taken ↦ inr (taken_still b taken) ]);
+              which (λ b u. u.known.parts ≡ 0 → (own_of b h ≡ []) ⊎ IsTakenIn after_join b)
+              (λ none. absurd (let some : 0 < both.known.parts = some_left in omega arith))
+              (λ _. other)
+              (λ b u _ _ g none. elim (told.without b u g none) [ inl empty ↦ inl empty | inr taken ↦ inr (taken_still b taken) ]);
           unborn =
-            λ b far.
-                let len : length after_join ≡ length (set views a both) = length-set (set views a both) o gone
-                in let same : length (set views a both) ≡ length views = length-set views a both
-                in told.unborn b (omega arith);
+              λ b far.
+              let len : length after_join ≡ length (set views a both) = length-set (set views a both) o gone
+              in let same : length (set views a both) ≡ length views = length-set views a both
+              in told.unborn b (omega arith);
           whole =
-            let changed : sum_by parts_of (set views a both) + parts_of v ≡ sum_by parts_of views + parts_of both = sum_changed parts_of views a v both at
-            in let then : sum_by parts_of after_join + parts_of w ≡ sum_by parts_of (set views a both) + parts_of (gone {T = T} {N = N}) = sum_changed parts_of (set views a both) o w (gone {T = T} {N = N}) (set_else views a o both apart ∙ at_other)
-            in omega (arith, told.whole);
+              let changed : sum_by parts_of (set views a both) + parts_of v ≡ sum_by parts_of views + parts_of both = sum_changed parts_of views a v both at
+              in let then : sum_by parts_of after_join + parts_of w ≡ sum_by parts_of (set views a both) + parts_of (gone {T = T} {N = N}) = sum_changed parts_of (set views a both) o w (gone {T = T} {N = N}) (set_else views a o both apart ∙ at_other)
+              in omega (arith, told.whole);
         }
 
     -- the stages: neither of the two was at work on a cell
@@ -129,17 +127,17 @@ module _ {T N : Type 0} where
         record {
           knows = which (λ b u. Knows n h q b u.known u.stage) now tt (λ b u _ _ g. staged.knows b u g);
           writers =
-            λ p x b has.
-                let old : (u : Sight T N) × (get_elem? views b ≡ some u) × (u.stage ≡ Writing p x) = staged.writers p x b has
-                in let not_me : b ≢ a = λ e. let G : ℕ → Type 0 = λ c. get_elem? views c ≡ some old.0 in let is : old.0 ≡ v = one_value views a old.0 v (subst G e old.1) at in let wrong : ◌≡◌ {A = Stage T N} Idle (Writing p x) = sym idle ∙ (sym (ap (λ (z : Sight T N). z.stage) is) ∙ old.2) in cc
-                in let not_it : b ≢ o = λ e. let G : ℕ → Type 0 = λ c. get_elem? views c ≡ some old.0 in let is : old.0 ≡ w = one_value views o old.0 w (subst G e old.1) at_other in not_writing p x (sym (ap (λ (z : Sight T N). z.stage) is) ∙ old.2)
-                in (old.0, elsewhere b old.0 not_me not_it old.1, old.2);
+              λ p x b has.
+              let old : (u : Sight T N) × (get_elem? views b ≡ some u) × (u.stage ≡ Writing p x) = staged.writers p x b has
+              in let not_me : b ≢ a = λ e. let G : ℕ → Type 0 = λ c. get_elem? views c ≡ some old.0 in let is : old.0 ≡ v = one_value views a old.0 v (subst G e old.1) at in let wrong : ◌≡◌ {A = Stage T N} Idle (Writing p x) = sym idle ∙ (sym (ap (λ (z : Sight T N). z.stage) is) ∙ old.2) in cc
+              in let not_it : b ≢ o = λ e. let G : ℕ → Type 0 = λ c. get_elem? views c ≡ some old.0 in let is : old.0 ≡ w = one_value views o old.0 w (subst G e old.1) at_other in not_writing p x (sym (ap (λ (z : Sight T N). z.stage) is) ∙ old.2)
+              in (old.0, elsewhere b old.0 not_me not_it old.1, old.2);
           readers =
-            λ p x b has.
-                let old : (u : Sight T N) × (get_elem? views b ≡ some u) × (u.stage ≡ Reading p x) = staged.readers p x b has
-                in let not_me : b ≢ a = λ e. let G : ℕ → Type 0 = λ c. get_elem? views c ≡ some old.0 in let is : old.0 ≡ v = one_value views a old.0 v (subst G e old.1) at in let wrong : ◌≡◌ {A = Stage T N} Idle (Reading p x) = sym idle ∙ (sym (ap (λ (z : Sight T N). z.stage) is) ∙ old.2) in cc
-                in let not_it : b ≢ o = λ e. let G : ℕ → Type 0 = λ c. get_elem? views c ≡ some old.0 in let is : old.0 ≡ w = one_value views o old.0 w (subst G e old.1) at_other in not_reading p x (sym (ap (λ (z : Sight T N). z.stage) is) ∙ old.2)
-                in (old.0, elsewhere b old.0 not_me not_it old.1, old.2);
+              λ p x b has.
+              let old : (u : Sight T N) × (get_elem? views b ≡ some u) × (u.stage ≡ Reading p x) = staged.readers p x b has
+              in let not_me : b ≢ a = λ e. let G : ℕ → Type 0 = λ c. get_elem? views c ≡ some old.0 in let is : old.0 ≡ v = one_value views a old.0 v (subst G e old.1) at in let wrong : ◌≡◌ {A = Stage T N} Idle (Reading p x) = sym idle ∙ (sym (ap (λ (z : Sight T N). z.stage) is) ∙ old.2) in cc
+              in let not_it : b ≢ o = λ e. let G : ℕ → Type 0 = λ c. get_elem? views c ≡ some old.0 in let is : old.0 ≡ w = one_value views o old.0 w (subst G e old.1) at_other in not_reading p x (sym (ap (λ (z : Sight T N). z.stage) is) ∙ old.2)
+              in (old.0, elsewhere b old.0 not_me not_it old.1, old.2);
         }
 
   module _ {S : Type 0} (put : T → S) (spare : ℕ → List (Entry T N) → ℕ → S) (n f a o : ℕ) (v w : Sight T N) (idle : v.stage ≡ Idle) (live : 0 < v.known.parts) where
@@ -161,27 +159,27 @@ module _ {T N : Type 0} where
         in let E : Account T N → Type 0 = λ c. c.own ≡ own_of c.actor r.history
         in let G : Account T N → Type 0 = λ c. IsRetired (after_join n f a o v w both r.history s.views at apart at_other live r.told) c.actor
         in let retired_o : G (record { actor = w.known.actor; own = w.known.own }) =
-          let P : ℕ → Type 0 = λ z. IsRetired (after_join n f a o v w both r.history s.views at apart at_other live r.told) z
-          in subst P (sym other_work.0) (gone_retired n f a o v w both r.history s.views at apart at_other live r.told)
+        let P : ℕ → Type 0 = λ z. IsRetired (after_join n f a o v w both r.history s.views at apart at_other live r.told) z
+        in subst P (sym other_work.0) (gone_retired n f a o v w both r.history s.views at apart at_other live r.told)
         in let accounts : HasAccounts r.history (after_join n f a o v w both r.history s.views at apart at_other live r.told) a both.known = record {
           own = mine.own;
           joined = each_append E v.known.joined (accounts_of w.known) mine.joined (own, its.joined);
           retired = each_append G v.known.joined (accounts_of w.known) (all_retired n f a o v w both r.history s.views at apart at_other live r.told v.known.joined mine.retired) (retired_o, all_retired n f a o v w both r.history s.views at apart at_other live r.told w.known.joined its.retired);
         }
         in let taken : IsTakenIn (after_join n f a o v w both r.history s.views at apart at_other live r.told) o =
-          (a, both, here n f a o v w both r.history s.views at apart at_other live r.told, omega arith, among_second o v.known.joined (accounts_of w.known) (inl (sym other_work.0)))
+        (a, both, here n f a o v w both r.history s.views at apart at_other live r.told, omega arith, among_second o v.known.joined (accounts_of w.known) (inl (sym other_work.0)))
         in record {
           history = r.history;
           queue = r.queue;
           two = r.two;
           stands = r.stands;
           told =
-            told_join n f a o v w both r.history s.views at apart at_other live r.told refl (λ b. among_first b v.known.joined (accounts_of w.known)) (λ b _ is. among_second b v.known.joined (accounts_of w.known) (inr is)) refl refl refl accounts (inr taken);
+              told_join n f a o v w both r.history s.views at apart at_other live r.told refl (λ b. among_first b v.known.joined (accounts_of w.known)) (λ b _ is. among_second b v.known.joined (accounts_of w.known) (inr is)) refl refl refl accounts (inr taken);
           staged =
-            staged_join n f a o v w both r.history s.views at apart at_other live r.told r.queue r.staged idle
-                (λ p x is. let wrong : ◌≡◌ {A = Stage T N} Idle (Writing p x) = sym other_idle ∙ is in cc)
-                (λ p x is. let wrong : ◌≡◌ {A = Stage T N} Idle (Reading p x) = sym other_idle ∙ is in cc)
-                ((work.0, omega arith), r.told.seen o w at_other);
+              staged_join n f a o v w both r.history s.views at apart at_other live r.told r.queue r.staged idle
+              (λ p x is. let wrong : ◌≡◌ {A = Stage T N} Idle (Writing p x) = sym other_idle ∙ is in cc)
+              (λ p x is. let wrong : ◌≡◌ {A = Stage T N} Idle (Reading p x) = sym other_idle ∙ is in cc)
+              ((work.0, omega arith), r.told.seen o w at_other);
           shown = r.shown;
         }
 
@@ -200,19 +198,19 @@ module _ {T N : Type 0} where
         }
         in let more : both.known.parts ≡ v.known.parts + w.known.parts = omega arith
         in let still : (b : ℕ) → IsTakenIn s.views b → IsTakenIn (after_join n f a o v w both r.history s.views at apart at_other live r.told) b =
-          taken_still n f a o v w both r.history s.views at apart at_other live r.told more (λ b is. is) (λ b some _. absurd (omega arith))
+        taken_still n f a o v w both r.history s.views at apart at_other live r.told more (λ b is. is) (λ b some _. absurd (omega arith))
         in record {
           history = r.history;
           queue = r.queue;
           two = r.two;
           stands = r.stands;
           told =
-            told_join n f a o v w both r.history s.views at apart at_other live r.told more (λ b is. is) (λ b some _. absurd (omega arith)) refl refl refl accounts
-                (elim (r.told.without o w at_other none) [ inl empty ↦ inl empty | inr taken ↦ inr (still o taken) ]);
+              told_join n f a o v w both r.history s.views at apart at_other live r.told more (λ b is. is) (λ b some _. absurd (omega arith)) refl refl refl accounts
+              (elim (r.told.without o w at_other none) [ inl empty ↦ inl empty | inr taken ↦ inr (still o taken) ]);
           staged =
-            staged_join n f a o v w both r.history s.views at apart at_other live r.told r.queue r.staged idle
-                (λ p x is. let wrong : ◌≡◌ {A = Stage T N} Lent (Writing p x) = sym lent ∙ is in cc)
-                (λ p x is. let wrong : ◌≡◌ {A = Stage T N} Lent (Reading p x) = sym lent ∙ is in cc)
-                (work, r.told.seen o w at_other);
+              staged_join n f a o v w both r.history s.views at apart at_other live r.told r.queue r.staged idle
+              (λ p x is. let wrong : ◌≡◌ {A = Stage T N} Lent (Writing p x) = sym lent ∙ is in cc)
+              (λ p x is. let wrong : ◌≡◌ {A = Stage T N} Lent (Reading p x) = sym lent ∙ is in cc)
+              (work, r.told.seen o w at_other);
           shown = r.shown;
         }

@@ -25,11 +25,11 @@ on_mark Emptying = inr (inr refl)
 pub room_or_blocked : {T : Type 0} (n p : ℕ) (cs : List (Cell T)) → IsRoom n p cs ⊎ IsBlocked n p cs
 room_or_blocked {T} n p cs =
     elim (leb_tells n p) [
-      inl le ↦
-        elim (on_option (cell_of (p - n) cs)) [
-          inl none ↦ inl (λ u e. let P : ℕ → Type 0 = λ z. cell_of z cs ≡ None in let same : p - n ≡ u = omega arith in subst P same none)
-          | inr some ↦ inr (p - n, omega (arith, le.1), some)
-        ]
+      | inl le ↦
+          elim (on_option (cell_of (p - n) cs)) [
+            | inl none ↦ inl (λ u e. let P : ℕ → Type 0 = λ z. cell_of z cs ≡ None in let same : p - n ≡ u = omega arith in subst P same none)
+            | inr some ↦ inr (p - n, omega (arith, le.1), some)
+          ]
       | inr lt ↦ inl (λ u e. absurd (omega (arith, lt.1)))
     ]
 
@@ -38,10 +38,10 @@ pub lap : (d p next n : ℕ) → 1 ≤ n → p < next → next ≤ p + d → (t 
 lap zero p next n some a b = absurd (omega arith)
 lap (suc d) p next n some a b =
     elim (leb_tells next (p + n)) [
-      inl le ↦ (p + n, le.1, omega arith, add-mod_right p n, omega arith)
+      | inl le ↦ (p + n, le.1, omega arith, add-mod_right p n, omega arith)
       | inr lt ↦
-        let more : (t : ℕ) × (next ≤ t) × (t < next + n) × (t % n ≡ (p + n) % n) × (p + n + n ≤ t) = lap d (p + n) next n some lt.1 (omega arith)
-        in (more.0, more.1, more.2, more.3 ∙ add-mod_right p n, omega (arith, more.4))
+          let more : (t : ℕ) × (next ≤ t) × (t < next + n) × (t % n ≡ (p + n) % n) × (p + n + n ≤ t) = lap d (p + n) next n some lt.1 (omega arith)
+          in (more.0, more.1, more.2, more.3 ∙ add-mod_right p n, omega (arith, more.4))
     ]
 
 -- the cell that a look-up finds, written out
@@ -74,11 +74,11 @@ module _ {S T N : Type 0} (put : T → S) (spare : ℕ → List (Entry T N) → 
         in let t : ℕ = on.0
         in let same : get_or words (seq_of n t) 0 ≡ get_or words (seq_of n p) 0 = ap (λ (z : ℕ). get_or words (z * 8 + 48) 0) on.3
         in elim (room_or_blocked n t q.cells) [
-          inl room ↦ omega (arith, (shown.free t on.1 on.2 room).0, on.4)
+          | inl room ↦ omega (arith, (shown.free t on.1 on.2 room).0, on.4)
           | inr by ↦
-            let P : ℕ → Type 0 = λ z. IsListed z q.cells
-            in let apart : by.0 ≢ p = λ e. let listed : IsListed p q.cells = subst P e by.2 in let wrong : None ≡ Some listed.0 = sym none ∙ listed.1 in cc
-            in elim (word_blocked t by) [ inl e ↦ omega (arith, e, by.1, on.4) | inr e ↦ omega (arith, e, by.1, on.4) ]
+              let P : ℕ → Type 0 = λ z. IsListed z q.cells
+              in let apart : by.0 ≢ p = λ e. let listed : IsListed p q.cells = subst P e by.2 in let wrong : None ≡ Some listed.0 = sym none ∙ listed.1 in cc
+              in elim (word_blocked t by) [ inl e ↦ omega (arith, e, by.1, on.4) | inr e ↦ omega (arith, e, by.1, on.4) ]
         ]
 
     abbrev pub PushLook : ℕ → ℕ → Type 0
@@ -87,20 +87,20 @@ module _ {S T N : Type 0} (put : T → S) (spare : ℕ → List (Entry T N) → 
     pub push_look : (p : ℕ) → p ≤ q.next → PushLook p (get_or words (seq_of n p) 0)
     push_look p low =
         elim (same_or_not p q.next) [
-          inl same ↦
-            elim (room_or_blocked n p q.cells) [
-              inl room ↦ inl ((shown.free p (omega arith) (omega arith) room).0, room)
-              | inr by ↦ inr (inl (elim (word_blocked p by) [ inl e ↦ omega (arith, e) | inr e ↦ omega (arith, e) ], same, by))
-            ]
+          | inl same ↦
+              elim (room_or_blocked n p q.cells) [
+                | inl room ↦ inl ((shown.free p (omega arith) (omega arith) room).0, room)
+                | inr by ↦ inr (inl (elim (word_blocked p by) [ inl e ↦ omega (arith, e) | inr e ↦ omega (arith, e) ], same, by))
+              ]
           | inr other ↦
-            elim (on_option (cell_of p q.cells)) [
-              inl none ↦ inr (inr (passed p (omega arith) none, omega arith))
-              | inr some ↦
-                elim (word_listed p some) [
-                  inl e ↦ inl (e, λ u is. unlisted_below u (q.next - n) q.cells q.next sound.rising (omega arith))
-                  | inr e ↦ inr (inr (omega (arith, e), omega arith))
-                ]
-            ]
+              elim (on_option (cell_of p q.cells)) [
+                | inl none ↦ inr (inr (passed p (omega arith) none, omega arith))
+                | inr some ↦
+                    elim (word_listed p some) [
+                      | inl e ↦ inl (e, λ u is. unlisted_below u (q.next - n) q.cells q.next sound.rising (omega arith))
+                      | inr e ↦ inr (inr (omega (arith, e), omega arith))
+                    ]
+              ]
         ]
 
     abbrev pub PopLook : ℕ → ℕ → Type 0
@@ -109,45 +109,45 @@ module _ {S T N : Type 0} (put : T → S) (spare : ℕ → List (Entry T N) → 
     front_look : (p : ℕ) → p ≡ q.front → PopLook p (get_or words (seq_of n p) 0)
     front_look p same =
         elim (on_option (cell_of p q.cells)) [
-          inl none ↦
-            let last : p ≡ q.next =
+          | inl none ↦
+              let last : p ≡ q.next =
               elim (same_or_not p q.next) [
-                inl e ↦ e
+                | inl e ↦ e
                 | inr other ↦ let listed : IsListed p q.cells = sound.listed p (omega arith) (omega (arith, sound.ordered)) in absurd (let wrong : None ≡ Some listed.0 = sym none ∙ listed.1 in cc)
               ]
-            in elim (room_or_blocked n p q.cells) [
-              inl room ↦ inr (inl (omega (arith, (shown.free p (omega arith) (omega arith) room).0), same, inl none))
-              | inr by ↦ inr (inl (elim (word_blocked p by) [ inl e ↦ omega (arith, e) | inr e ↦ omega (arith, e) ], same, inl none))
-            ]
+              in elim (room_or_blocked n p q.cells) [
+                | inl room ↦ inr (inl (omega (arith, (shown.free p (omega arith) (omega arith) room).0), same, inl none))
+                | inr by ↦ inr (inl (elim (word_blocked p by) [ inl e ↦ omega (arith, e) | inr e ↦ omega (arith, e) ], same, inl none))
+              ]
           | inr some ↦
-            let c : Cell T = some.0
-            in let F : Mark → Type 0 = λ m. ShowsCell put spare p (get_or words (seq_of n p) 0) (get_elem? homes (p % n)) c.item m
-            in let shows : F c.mark = shown.cells p c some.1
-            in elim (on_mark c.mark) [
-              inl e ↦ let w : get_or words (seq_of n p) 0 ≡ p = subst F e shows in inr (inl (omega (arith, w), same, inr (c.item, c.actor, has_cell q.cells p c Claimed some.1 e)))
-              | inr more ↦
-                elim more [
-                  inl e ↦ let w : (get_or words (seq_of n p) 0 ≡ p + 1) × (get_elem? homes (p % n) ≡ maybe.some (maybe.some (put c.item))) = subst F e shows in inl (w.0, λ _. (c.item, c.actor, has_cell q.cells p c Written some.1 e))
-                  | inr e ↦ let low : p < q.front = (sound.emptied p c some.1).0 e in absurd (omega arith)
-                ]
-            ]
+              let c : Cell T = some.0
+              in let F : Mark → Type 0 = λ m. ShowsCell put spare p (get_or words (seq_of n p) 0) (get_elem? homes (p % n)) c.item m
+              in let shows : F c.mark = shown.cells p c some.1
+              in elim (on_mark c.mark) [
+                | inl e ↦ let w : get_or words (seq_of n p) 0 ≡ p = subst F e shows in inr (inl (omega (arith, w), same, inr (c.item, c.actor, has_cell q.cells p c Claimed some.1 e)))
+                | inr more ↦
+                    elim more [
+                      | inl e ↦ let w : (get_or words (seq_of n p) 0 ≡ p + 1) × (get_elem? homes (p % n) ≡ maybe.some (maybe.some (put c.item))) = subst F e shows in inl (w.0, λ _. (c.item, c.actor, has_cell q.cells p c Written some.1 e))
+                      | inr e ↦ let low : p < q.front = (sound.emptied p c some.1).0 e in absurd (omega arith)
+                    ]
+              ]
         ]
 
     behind_look : (p : ℕ) → p < q.front → PopLook p (get_or words (seq_of n p) 0)
     behind_look p low =
         elim (on_option (cell_of p q.cells)) [
-          inl none ↦
-            let on : p < get_or words (seq_of n p) 0 = passed p (omega (arith, sound.ordered)) none
-            in elim (same_or_not (get_or words (seq_of n p) 0) (p + 1)) [
-              inl e ↦ inl (e, λ high. absurd (omega arith))
-              | inr other ↦ inr (inr (omega arith, low))
-            ]
+          | inl none ↦
+              let on : p < get_or words (seq_of n p) 0 = passed p (omega (arith, sound.ordered)) none
+              in elim (same_or_not (get_or words (seq_of n p) 0) (p + 1)) [
+                | inl e ↦ inl (e, λ high. absurd (omega arith))
+                | inr other ↦ inr (inr (omega arith, low))
+              ]
           | inr some ↦
-            let c : Cell T = some.0
-            in let F : Mark → Type 0 = λ m. ShowsCell put spare p (get_or words (seq_of n p) 0) (get_elem? homes (p % n)) c.item m
-            in let e : c.mark ≡ Emptying = (sound.emptied p c some.1).1 low
-            in let w : get_or words (seq_of n p) 0 ≡ p + 1 = subst F e (shown.cells p c some.1)
-            in inl (w, λ high. absurd (omega arith))
+              let c : Cell T = some.0
+              in let F : Mark → Type 0 = λ m. ShowsCell put spare p (get_or words (seq_of n p) 0) (get_elem? homes (p % n)) c.item m
+              in let e : c.mark ≡ Emptying = (sound.emptied p c some.1).1 low
+              in let w : get_or words (seq_of n p) 0 ≡ p + 1 = subst F e (shown.cells p c some.1)
+              in inl (w, λ high. absurd (omega arith))
         ]
 
     pub pop_look : (p : ℕ) → p ≤ q.front → PopLook p (get_or words (seq_of n p) 0)

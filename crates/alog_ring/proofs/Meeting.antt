@@ -1,5 +1,5 @@
 -- Loads by which a pass learns: its number, what another has seen, and that no other is left.
-use Rattle.std.proofs.Common.{◌≡◌, ◌≢◌, ℕ, zero, suc, ◌+◌, ◌<◌, ◌≤◌, ◌⊎◌, ◌==◌, cond, List, [], ◌∷◌, ◌++◌, Some, set, length, get_or, refl, sym, ap, subst, ◌∙◌, inl, inr, arith}
+use Rattle.std.proofs.Common.{◌≡◌, ◌≢◌, ℕ, zero, suc, ◌+◌, ◌<◌, ◌≤◌, ◌⊎◌, cond, List, [], ◌∷◌, ◌++◌, Some, set, length, get_or, refl, sym, ap, subst, ◌∙◌, inl, inr, arith}
 use Rattle.std.proofs.lemmas.List.{append-nil, length-append}
 use Rattle.std.proofs.lemmas.Bool.Decides.{leb_tells}
 use Rattle.std.specs.List.{AllByRecursion, sum_by}
@@ -8,18 +8,17 @@ use mathlib.Core.List.{IsPrefix}
 use lib.ListN.{get_elem?}
 use lib.Seq.{set-get_or}
 use Rattle.atomic_table.specs.Table.{State, Me, keeps, Allows}
-use Rattle.alog_core.specs.declared.mark.Mark.{Mark}
 use Rattle.alog_core.specs.declared.mark.Mark.TheVariants.{Claimed, Written, Emptying}
 use Rattle.alog_core.specs.Queue.{Cell, Queue, start, cell_of}
 use Rattle.alog_core.specs.History.{Entry, IsLegal, left_by, own_of, StandsFor}
 use Rattle.alog_core.proofs.Cells.{on_test, at_same}
 use Rattle.alog_core.proofs.Histories.{own_of-append, legal_before}
 use Rattle.alog_ring.specs.Sight.{Account, Known, Stage, Idle, Fresh, Joined, Writing, Reading, Sight, all_parts}
-use Rattle.alog_ring.specs.Made.{AreExact, IsFaithful, Made}
-use Rattle.alog_ring.specs.Rule.{parts_of, IsAtWork, IsAmong, IsTakenIn, HasAccounts, Knows, Told, Staged, Ruled}
-use Rattle.alog_ring.specs.Parts.{having_seen, accounts_of, IsLonger, IsExactIn, IsWhole, nothing_known, gone, was_named, saw_both, saw_all}
-use Rattle.alog_ring.proofs.Lists.{same_or_not, inside, one_value, prefix_same, prefix_longer, each_of_two, sum_changed, sum_of_two}
-use Rattle.alog_ring.proofs.Telling.{grown, Grows, told_more}
+use Rattle.alog_ring.specs.Made.{AreExact}
+use Rattle.alog_ring.specs.Rule.{parts_of, IsAtWork, IsAmong, HasAccounts, Knows, Ruled}
+use Rattle.alog_ring.specs.Parts.{having_seen, accounts_of, IsLonger, IsExactIn, gone, was_named, saw_both, saw_all}
+use Rattle.alog_ring.proofs.Lists.{same_or_not, one_value, prefix_same, prefix_longer, each_of_two, sum_changed, sum_of_two}
+use Rattle.alog_ring.proofs.Telling.{grown, told_more}
 use Rattle.alog_ring.proofs.Turning.{IsFree, staged_on}
 use Rattle.alog_ring.proofs.Showing.{shown_on}
 use Rattle.alog_ring.proofs.Looking.{on_mark, has_cell}
@@ -44,7 +43,7 @@ module _ {T N : Type 0} where
   longer_of : (u s h : List (Entry T N)) → IsPrefix u h → IsPrefix s h → (l : List (Entry T N)) × IsLonger u s l × IsPrefix l h
   longer_of u s h p q =
       elim (leb_tells (length u) (length s)) [
-        inl le ↦ (s, record { one = inr refl; first = prefix_of_longer u s h p q le.1; second = prefix_same s }, q)
+        | inl le ↦ (s, record { one = inr refl; first = prefix_of_longer u s h p q le.1; second = prefix_same s }, q)
         | inr lt ↦ (u, record { one = inl refl; first = prefix_same u; second = prefix_of_longer s u h q p (omega (arith, lt.1)) }, p)
       ]
 
@@ -64,21 +63,20 @@ module _ {T N : Type 0} where
   exact_between : (u s p h : List (Entry T N)) → IsLonger u s p → IsPrefix p h → (l : List (Account T N)) → AreExact l h → AllByRecursion (IsExactIn u s) l → AreExact l p
   exact_between u s p h longer below l exact either =
       each_of_two (λ (c : Account T N). c.own ≡ own_of c.actor h) (IsExactIn u s) (λ (c : Account T N). c.own ≡ own_of c.actor p) l
-          (λ (c : Account T N) high low.
-              elim low [
-                inl e ↦ between c.actor u p h c.own longer.first below e high
-                | inr e ↦ between c.actor s p h c.own longer.second below e high
-              ])
-          exact either
+      (λ (c : Account T N) high low.
+      elim low [
+        | inl e ↦ between c.actor u p h c.own longer.first below e high
+        | inr e ↦ between c.actor s p h c.own longer.second below e high
+      ])
+      exact either
 
   -- what holds of each actor with entries holds of each entry's actor
   pub all_actors : (P : ℕ → Type 0) (h : List (Entry T N)) → ((b : ℕ) → own_of b h ≢ [] → P b) → AllByRecursion (λ (x : Entry T N). P x.actor) h
   all_actors P [] each = tt
-  all_actors P (x ∷ h) each =
-      (
-        each x.actor (λ none. let here : own_of x.actor (x ∷ h) ≡ x ∷ own_of x.actor h = at_same x.actor x.actor (x ∷ own_of x.actor h) (own_of x.actor h) refl in let wrong : x ∷ own_of x.actor h ≡ [] = sym here ∙ none in cc),
-        all_actors P h (λ b some_own. each b (λ none. some_own (on_test (λ t. cond t (x ∷ own_of b h) (own_of b h) ≡ [] → own_of b h ≡ []) x.actor b (λ _ wrong. cc) (λ _ e. e) none))),
-      )
+  all_actors P (x ∷ h) each = (
+    each x.actor (λ none. let here : own_of x.actor (x ∷ h) ≡ x ∷ own_of x.actor h = at_same x.actor x.actor (x ∷ own_of x.actor h) (own_of x.actor h) refl in let wrong : x ∷ own_of x.actor h ≡ [] = sym here ∙ none in cc),
+    all_actors P h (λ b some_own. each b (λ none. some_own (on_test (λ t. cond t (x ∷ own_of b h) (own_of b h) ≡ [] → own_of b h ≡ []) x.actor b (λ _ wrong. cc) (λ _ e. e) none))),
+  )
 
   view_or_none : (l : List (Sight T N)) (b : ℕ) → ((u : Sight T N) × (get_elem? l b ≡ some u)) ⊎ (length l ≤ b)
   view_or_none [] b = inr (omega arith)
@@ -101,8 +99,8 @@ module _ {S T N : Type 0} (kind : PlaceKind S T N) (n f : ℕ) (s : State S (Sig
         two = r.two;
         stands = subst Q (sym (append-nil r.history)) r.stands;
         told =
-          told_more n f a r.history [] s.views v w r.told at live (none_of a)
-              (record { places = places; first = first; parts = parts; joined = joined; own = own ∙ sym (append-nil v.known.own); seen = prefix_longer w.known.seen r.history [] seen });
+            told_more n f a r.history [] s.views v w r.told at live (none_of a)
+            (record { places = places; first = first; parts = parts; joined = joined; own = own ∙ sym (append-nil v.known.own); seen = prefix_longer w.known.seen r.history [] seen });
         staged = staged_on n a r.queue r.history [] s.views v w (sound_now kind n f s r a v at) at r.staged knows free;
         shown = shown_on kind.put kind.spare n r.queue r.history (r.history ++ []) s.words s.homes (λ t. ap (λ h. kind.spare n h t) (append-nil r.history)) r.shown;
       })
@@ -177,24 +175,24 @@ module _ {S T N : Type 0} (kind : PlaceKind S T N) (n f slots id : ℕ) (me : Me
     pub actors_now : (b : ℕ) → own_of b r.history ≢ [] → (b ≡ id) ⊎ IsAmong b me.0.known.joined
     actors_now b some_own =
         elim (same_or_not b id) [
-          inl same ↦ inl same
+          | inl same ↦ inl same
           | inr apart ↦
-            elim (view_or_none s.views b) [
-              inr far ↦ absurd (some_own (r.told.unborn b far))
-              | inl is ↦
-                elim (r.told.without b is.0 is.1 (others_have_none b is.0 apart is.1)) [
-                  inl empty ↦ absurd (some_own empty)
-                  | inr taken ↦
-                    elim (same_or_not taken.0 id) [
-                      inr other ↦ let none : taken.1.known.parts ≡ 0 = others_have_none taken.0 taken.1 other taken.2 in absurd (omega (arith, taken.3))
-                      | inl same ↦
-                        let Q : ℕ → Type 0 = λ i. get_elem? s.views i ≡ some taken.1
-                        in let one : taken.1 ≡ me.0 = one_value s.views id taken.1 me.0 (subst Q same taken.2) at
-                        in let P : Sight T N → Type 0 = λ z. IsAmong b z.known.joined
-                        in inr (subst P one taken.4)
+              elim (view_or_none s.views b) [
+                | inr far ↦ absurd (some_own (r.told.unborn b far))
+                | inl is ↦
+                    elim (r.told.without b is.0 is.1 (others_have_none b is.0 apart is.1)) [
+                      | inl empty ↦ absurd (some_own empty)
+                      | inr taken ↦
+                          elim (same_or_not taken.0 id) [
+                            | inr other ↦ let none : taken.1.known.parts ≡ 0 = others_have_none taken.0 taken.1 other taken.2 in absurd (omega (arith, taken.3))
+                            | inl same ↦
+                                let Q : ℕ → Type 0 = λ i. get_elem? s.views i ≡ some taken.1
+                                in let one : taken.1 ≡ me.0 = one_value s.views id taken.1 me.0 (subst Q same taken.2) at
+                                in let P : Sight T N → Type 0 = λ z. IsAmong b z.known.joined
+                                in inr (subst P one taken.4)
+                          ]
                     ]
-                ]
-            ]
+              ]
         ]
 
     -- a seat that is at work on a cell has parts, and this one is at work on none
@@ -203,11 +201,11 @@ module _ {S T N : Type 0} (kind : PlaceKind S T N) (n f slots id : ℕ) (me : Me
         let K : Stage T N → Type 0 = λ z. Knows n r.history r.queue b u.known z
         in let work = subst K stage (r.staged.knows b u e)
         in elim (same_or_not b id) [
-          inl same ↦
-            let Q : ℕ → Type 0 = λ i. get_elem? s.views i ≡ some u
-            in let one : u ≡ me.0 = one_value s.views id u me.0 (subst Q same e) at
-            in let wrong : ◌≡◌ {A = Stage T N} Idle (Writing p x) = sym idle ∙ sym (ap (λ (z : Sight T N). z.stage) one) ∙ stage
-            in cc
+          | inl same ↦
+              let Q : ℕ → Type 0 = λ i. get_elem? s.views i ≡ some u
+              in let one : u ≡ me.0 = one_value s.views id u me.0 (subst Q same e) at
+              in let wrong : ◌≡◌ {A = Stage T N} Idle (Writing p x) = sym idle ∙ sym (ap (λ (z : Sight T N). z.stage) one) ∙ stage
+              in cc
           | inr apart ↦ let none : u.known.parts ≡ 0 = others_have_none b u apart e in absurd (omega (arith, work.0.1))
         ]
 
@@ -216,23 +214,23 @@ module _ {S T N : Type 0} (kind : PlaceKind S T N) (n f slots id : ℕ) (me : Me
         let K : Stage T N → Type 0 = λ z. Knows n r.history r.queue b u.known z
         in let work = subst K stage (r.staged.knows b u e)
         in elim (same_or_not b id) [
-          inl same ↦
-            let Q : ℕ → Type 0 = λ i. get_elem? s.views i ≡ some u
-            in let one : u ≡ me.0 = one_value s.views id u me.0 (subst Q same e) at
-            in let wrong : ◌≡◌ {A = Stage T N} Idle (Reading p x) = sym idle ∙ sym (ap (λ (z : Sight T N). z.stage) one) ∙ stage
-            in cc
+          | inl same ↦
+              let Q : ℕ → Type 0 = λ i. get_elem? s.views i ≡ some u
+              in let one : u ≡ me.0 = one_value s.views id u me.0 (subst Q same e) at
+              in let wrong : ◌≡◌ {A = Stage T N} Idle (Reading p x) = sym idle ∙ sym (ap (λ (z : Sight T N). z.stage) one) ∙ stage
+              in cc
           | inr apart ↦ let none : u.known.parts ≡ 0 = others_have_none b u apart e in absurd (omega (arith, work.0.1))
         ]
 
     pub written_now : (t : ℕ) (c : Cell T) → cell_of t r.queue.cells ≡ Some c → c.mark ≡ Written
     written_now t c is =
         elim (on_mark c.mark) [
-          inl claimed ↦ let by = r.staged.writers t c.item c.actor (has_cell r.queue.cells t c Claimed is claimed) in absurd (nobody_writes c.actor by.0 t c.item by.1 by.2)
+          | inl claimed ↦ let by = r.staged.writers t c.item c.actor (has_cell r.queue.cells t c Claimed is claimed) in absurd (nobody_writes c.actor by.0 t c.item by.1 by.2)
           | inr more ↦
-            elim more [
-              inl written ↦ written
-              | inr emptying ↦ let by = r.staged.readers t c.item c.actor (has_cell r.queue.cells t c Emptying is emptying) in absurd (nobody_reads c.actor by.0 t c.item by.1 by.2)
-            ]
+              elim more [
+                | inl written ↦ written
+                | inr emptying ↦ let by = r.staged.readers t c.item c.actor (has_cell r.queue.cells t c Emptying is emptying) in absurd (nobody_reads c.actor by.0 t c.item by.1 by.2)
+              ]
         ]
 
   pub sees_all : me.0.stage ≡ Idle → Allows (λ (s : State S (Sight T N)). Ruled kind.put kind.spare n f s) slots id me 16 (λ y. y) (λ y m. saw_all me m)
@@ -244,7 +242,7 @@ module _ {S T N : Type 0} (kind : PlaceKind S T N) (n f slots id : ℕ) (me : Me
       in let done = looks kind n f s r id me.0 at 16 work free Idle work
       in let H : List (Entry T N) → Type 0 = λ h. AllByRecursion (λ (x : Entry T N). (x.actor ≡ k.actor) ⊎ IsAmong x.actor k.joined) h
       in let left : left_by (start k.first) (r.history ++ []) ≡ r.queue =
-        (λ i. left_by (start (r.told.first id me.0 at live i)) (append-nil r.history i)) ∙ r.stands.queue
+      (λ i. left_by (start (r.told.first id me.0 at live i)) (append-nil r.history i)) ∙ r.stands.queue
       in let W : Queue T → Type 0 = λ q. (t : ℕ) (c : Cell T) → cell_of t q.cells ≡ Some c → c.mark ≡ Written
       in (
         record { stage = Idle; known = grown k r.history [] },
@@ -257,9 +255,9 @@ module _ {S T N : Type 0} (kind : PlaceKind S T N) (n f slots id : ℕ) (me : Me
           refl,
           λ all. record {
             actors =
-              subst H (sym (append-nil r.history))
-                  (all_actors (λ b. (b ≡ k.actor) ⊎ IsAmong b k.joined) r.history
-                      (λ b some_own. elim (actors_now s r at idle all b some_own) [ inl same ↦ inl (same ∙ sym work.0) | inr among ↦ inr among ]));
+                subst H (sym (append-nil r.history))
+                (all_actors (λ b. (b ≡ k.actor) ⊎ IsAmong b k.joined) r.history
+                (λ b some_own. elim (actors_now s r at idle all b some_own) [ inl same ↦ inl (same ∙ sym work.0) | inr among ↦ inr among ]));
             written = subst W (sym left) (written_now s r at idle all);
           },
         ),

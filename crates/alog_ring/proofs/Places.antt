@@ -1,5 +1,5 @@
 -- The steps on the places of a `Ring`, at the words that the code names.
-use Rattle.std.proofs.Common.{◌≡◌, ℕ, ◌+◌, ◌%◌, ◌<◌, eqb, Option, None, Some, List, [], ◌∷◌, refl, sym, ap, subst, ◌∙◌}
+use Rattle.std.proofs.Common.{◌≡◌, ℕ, ◌+◌, ◌%◌, ◌<◌, eqb, Option, None, Some, List, [], ◌∷◌, refl, sym, subst, ◌∙◌}
 use mathlib.Core.Option.{some}
 use prog.Atomic.{either}
 use Rattle.atomic_table.specs.Table.{State, Me, step, Allows}
@@ -41,9 +41,9 @@ module _ {T : Type 0} (n f slots id : ℕ) (me : Me (Option T) (Sight T no_note)
   pub see_free_may : (i t : ℕ) → i ≡ seq_of n t → me.0.stage ≡ SawTail t → Allows Ring slots id me i (λ y. y) (λ y m. (u : ℕ) → me.0.stage ≡ SawTail u → saw_free tt u me y m)
   see_free_may i t is stage =
       at_word i t (λ y. y) (λ y m. (u : ℕ) → me.0.stage ≡ SawTail u → saw_free tt u me y m) is
-          (told_as (seq_of n t) (λ y. y) (λ y m. saw_free tt t me y m) (λ y m. (u : ℕ) → me.0.stage ≡ SawTail u → saw_free tt u me y m)
-              (λ y m told u at. let both : ◌≡◌ {A = Stage T no_note} (SawTail t) (SawTail u) = sym stage ∙ at in let same : t ≡ u = cc in let P : ℕ → Type 0 = λ z. saw_free tt z me y m in subst P same told)
-              (sees_free (option_kind T) n f slots id me t stage))
+      (told_as (seq_of n t) (λ y. y) (λ y m. saw_free tt t me y m) (λ y m. (u : ℕ) → me.0.stage ≡ SawTail u → saw_free tt u me y m)
+      (λ y m told u at. let both : ◌≡◌ {A = Stage T no_note} (SawTail t) (SawTail u) = sym stage ∙ at in let same : t ≡ u = cc in let P : ℕ → Type 0 = λ z. saw_free tt z me y m in subst P same told)
+      (sees_free (option_kind T) n f slots id me t stage))
 
   pub claim_may : (t new : ℕ) (x : T) → me.0.stage ≡ SawFree t → new ≡ t + 1 → t < last
       → Allows Ring slots id me 16 (λ y. either (eqb y t) new y) (λ y m. claimed tt some_value no_value (step slots 16 t new (some (Some x))) me y m)
@@ -54,10 +54,10 @@ module _ {T : Type 0} (n f slots id : ℕ) (me : Me (Option T) (Sight T no_note)
   write_may i t new x more is next stage has =
       let A : ℕ → Type 0 = λ k. Allows Ring slots id me i (λ _. k) (λ _ m. (u : ℕ) (z : T) → me.0.stage ≡ Writing u z → wrote tt u me m)
       in subst A (sym next)
-          (at_word i t (λ _. t + 1) (λ _ m. (u : ℕ) (z : T) → me.0.stage ≡ Writing u z → wrote tt u me m) is
-              (told_as (seq_of n t) (λ _. t + 1) (λ _ m. wrote tt t me m) (λ _ m. (u : ℕ) (z : T) → me.0.stage ≡ Writing u z → wrote tt u me m)
-                  (λ y m told u z at. let both : ◌≡◌ {A = Stage T no_note} (Writing t x) (Writing u z) = sym stage ∙ at in let same : t ≡ u = cc in let P : ℕ → Type 0 = λ k. wrote tt k me m in subst P same told)
-                  (writes (option_kind T) n f slots id me t x more stage has)))
+      (at_word i t (λ _. t + 1) (λ _ m. (u : ℕ) (z : T) → me.0.stage ≡ Writing u z → wrote tt u me m) is
+      (told_as (seq_of n t) (λ _. t + 1) (λ _ m. wrote tt t me m) (λ _ m. (u : ℕ) (z : T) → me.0.stage ≡ Writing u z → wrote tt u me m)
+      (λ y m told u z at. let both : ◌≡◌ {A = Stage T no_note} (Writing t x) (Writing u z) = sym stage ∙ at in let same : t ≡ u = cc in let P : ℕ → Type 0 = λ k. wrote tt k me m in subst P same told)
+      (writes (option_kind T) n f slots id me t x more stage has)))
 
   pub see_head_may : me.0.stage ≡ Idle → Allows Ring slots id me 32 (λ y. y) (λ y m. saw_head me y m)
   see_head_may idle = sees_head (option_kind T) n f slots id me idle
@@ -65,9 +65,9 @@ module _ {T : Type 0} (n f slots id : ℕ) (me : Me (Option T) (Sight T no_note)
   pub see_full_may : (i t : ℕ) → i ≡ seq_of n t → me.0.stage ≡ SawHead t → Allows Ring slots id me i (λ y. y) (λ y m. (u : ℕ) → me.0.stage ≡ SawHead u → saw_full tt u me y m)
   see_full_may i t is stage =
       at_word i t (λ y. y) (λ y m. (u : ℕ) → me.0.stage ≡ SawHead u → saw_full tt u me y m) is
-          (told_as (seq_of n t) (λ y. y) (λ y m. saw_full tt t me y m) (λ y m. (u : ℕ) → me.0.stage ≡ SawHead u → saw_full tt u me y m)
-              (λ y m told u at. let both : ◌≡◌ {A = Stage T no_note} (SawHead t) (SawHead u) = sym stage ∙ at in let same : t ≡ u = cc in let P : ℕ → Type 0 = λ z. saw_full tt z me y m in subst P same told)
-              (sees_full (option_kind T) n f slots id me t stage))
+      (told_as (seq_of n t) (λ y. y) (λ y m. saw_full tt t me y m) (λ y m. (u : ℕ) → me.0.stage ≡ SawHead u → saw_full tt u me y m)
+      (λ y m told u at. let both : ◌≡◌ {A = Stage T no_note} (SawHead t) (SawHead u) = sym stage ∙ at in let same : t ≡ u = cc in let P : ℕ → Type 0 = λ z. saw_full tt z me y m in subst P same told)
+      (sees_full (option_kind T) n f slots id me t stage))
 
   pub grab_may : (t new : ℕ) (said : Option T) → me.0.stage ≡ SawFull t → new ≡ t + 1
       → Allows Ring slots id me 32 (λ y. either (eqb y t) new y) (λ y m. grabbed tt some_value (step slots 32 t new (some said)) me y m)
@@ -78,16 +78,16 @@ module _ {T : Type 0} (n f slots id : ℕ) (me : Me (Option T) (Sight T no_note)
   take_may i t new x more is next stage has =
       let A : ℕ → Type 0 = λ k. Allows Ring slots id me i (λ _. k) (λ _ m. (u : ℕ) (z : T) → me.0.stage ≡ Reading u z → took tt u z me m)
       in subst A (sym next)
-          (at_word i t (λ _. t + n) (λ _ m. (u : ℕ) (z : T) → me.0.stage ≡ Reading u z → took tt u z me m) is
-              (told_as (seq_of n t) (λ _. t + n) (λ _ m. took tt t x me m) (λ _ m. (u : ℕ) (z : T) → me.0.stage ≡ Reading u z → took tt u z me m)
-                  (λ y m told u z at.
-                      let both : ◌≡◌ {A = Stage T no_note} (Reading t x) (Reading u z) = sym stage ∙ at
-                      in let same : t ≡ u = cc
-                      in let item : x ≡ z = cc
-                      in let P : ℕ → Type 0 = λ k. took tt k x me m
-                      in let Q : T → Type 0 = λ k. took tt u k me m
-                      in subst Q item (subst P same told))
-                  (takes_out (option_kind T) n f slots id me tt t x more stage has)))
+      (at_word i t (λ _. t + n) (λ _ m. (u : ℕ) (z : T) → me.0.stage ≡ Reading u z → took tt u z me m) is
+      (told_as (seq_of n t) (λ _. t + n) (λ _ m. took tt t x me m) (λ _ m. (u : ℕ) (z : T) → me.0.stage ≡ Reading u z → took tt u z me m)
+      (λ y m told u z at.
+      let both : ◌≡◌ {A = Stage T no_note} (Reading t x) (Reading u z) = sym stage ∙ at
+      in let same : t ≡ u = cc
+      in let item : x ≡ z = cc
+      in let P : ℕ → Type 0 = λ k. took tt k x me m
+      in let Q : T → Type 0 = λ k. took tt u k me m
+      in subst Q item (subst P same told))
+      (takes_out (option_kind T) n f slots id me tt t x more stage has)))
 
 module _ {T : Type 0} (n f slots id : ℕ) (me : Me (Option T) (Sight T no_note)) where
   pub name_may : 0 < me.0.known.parts → me.0.stage ≡ Fresh → me.0.known.own ≡ [] → me.0.known.joined ≡ [] → Allows (λ s. Ruled some_value no_value n f s) slots id me 16 (λ y. y) (λ y m. was_named me m)
@@ -97,8 +97,8 @@ module _ {T : Type 0} (n f slots id : ℕ) (me : Me (Option T) (Sight T no_note)
       → Allows (λ s. Ruled some_value no_value n f s) slots id me 16 (λ y. y) (λ y m. (u : List (Entry T no_note)) → me.0.stage ≡ Joined u → saw_both u me m)
   see_both_may t live stage =
       told_as n f slots id me 16 (λ y. y) (λ y m. saw_both t me m) (λ y m. (u : List (Entry T no_note)) → me.0.stage ≡ Joined u → saw_both u me m)
-          (λ y m told u at. let both : ◌≡◌ {A = Stage T no_note} (Joined t) (Joined u) = sym stage ∙ at in let same : t ≡ u = cc in let P : List (Entry T no_note) → Type 0 = λ z. saw_both z me m in subst P same told)
-          (sees_both (option_kind T) n f slots id me live t stage)
+      (λ y m told u at. let both : ◌≡◌ {A = Stage T no_note} (Joined t) (Joined u) = sym stage ∙ at in let same : t ≡ u = cc in let P : List (Entry T no_note) → Type 0 = λ z. saw_both z me m in subst P same told)
+      (sees_both (option_kind T) n f slots id me live t stage)
 
   pub see_all_may : 0 < me.0.known.parts → me.0.stage ≡ Idle → Allows (λ s. Ruled some_value no_value n f s) slots id me 16 (λ y. y) (λ y m. saw_all me m)
   see_all_may live idle = sees_all (option_kind T) n f slots id me live idle

@@ -1,13 +1,13 @@
 -- The words and the places after a turn.
-use Rattle.std.proofs.Common.{◌≡◌, ◌≢◌, ℕ, ◌+◌, ◌-◌, ◌*◌, ◌%◌, ◌<◌, ◌≤◌, ◌⊎◌, List, [], ◌∷◌, ◌++◌, set, length, get_or, Some, None, refl, sym, ap, subst, ◌∙◌, inl, inr, arith}
-use mathlib.Core.Option.{Option, some, none}
+use Rattle.std.proofs.Common.{◌≡◌, ◌≢◌, ℕ, ◌+◌, ◌-◌, ◌*◌, ◌%◌, ◌<◌, ◌≤◌, List, length, get_or, Some, None, sym, ap, subst, ◌∙◌, inl, inr, arith}
+use mathlib.Core.Option.{Option, some}
 use native.Mathlib.Nat.{add-mod_right}
 use lib.ListN.{get_elem?}
 use Rattle.atomic_table.proofs.Lists.{one_turn}
 use Rattle.std.proofs.lemmas.Bool.Decides.{leb_tells}
 use Rattle.alog_core.specs.Queue.{Cell, Queue, last, cell_of, IsRoom, IsSound}
 use Rattle.alog_core.specs.History.{Entry}
-use Rattle.alog_ring.specs.Rule.{seq_of, word_count, ShowsCell, Shown}
+use Rattle.alog_ring.specs.Rule.{seq_of, ShowsCell, Shown}
 use Rattle.alog_ring.proofs.Lists.{same_or_not}
 use Rattle.alog_ring.proofs.Turning.{Turn, within}
 
@@ -15,14 +15,14 @@ use Rattle.alog_ring.proofs.Turning.{Turn, within}
 pub near_apart : (n t u : ℕ) → t ≢ u → t < u + n → u < t + n → u % n ≢ t % n
 near_apart n t u apart a b same =
     elim (leb_tells t u) [
-      inl le ↦ apart (one_turn t u n le.1 b (sym same))
+      | inl le ↦ apart (one_turn t u n le.1 b (sym same))
       | inr lt ↦ apart (sym (one_turn u t n (omega (arith, lt.1)) a same))
     ]
 
 pub far_apart : (n t u : ℕ) → u ≢ t + n → t < u → u < t + n + n → u % n ≢ t % n
 far_apart n t u apart a b same =
     elim (leb_tells (t + n) u) [
-      inl le ↦ apart (sym (one_turn (t + n) u n le.1 b (add-mod_right t n ∙ sym same)))
+      | inl le ↦ apart (sym (one_turn (t + n) u n le.1 b (add-mod_right t n ∙ sym same)))
       | inr lt ↦ let e : t ≡ u = one_turn t u n (omega arith) (omega (arith, lt.1)) (sym same) in omega arith
     ]
 
@@ -42,37 +42,37 @@ module _ {S T N : Type 0} (put : T → S) (spare : ℕ → List (Entry T N) → 
     head = head;
     bounded = bounded;
     cells =
-      λ u c is.
-          elim (same_or_not t u) [
-            inl same ↦
+        λ u c is.
+        elim (same_or_not t u) [
+          | inl same ↦
               let P : ℕ → Type 0 = λ z. (d : Cell T) → cell_of z r.cells ≡ Some d → ShowsCell put spare z (get_or words' (seq_of n z) 0) (get_elem? homes' (z % n)) d.item d.mark
               in subst P same cell_here c is
-            | inr apart ↦
+          | inr apart ↦
               let w : (r.next - n ≤ u) × (u < r.next) = within n r u c sound is
               in let places_apart : u % n ≢ t % n = near_apart n t u apart (omega (arith, w.0)) (omega (arith, w.1, turn.near))
               in let old = shown.cells u c (sym (turn.others u apart) ∙ is)
               in let Q : ℕ → Type 0 = λ z. ShowsCell put spare u z (get_elem? homes' (u % n)) c.item c.mark
               in let R : Option (Option S) → Type 0 = λ z. ShowsCell put spare u (get_or words (seq_of n u) 0) z c.item c.mark
               in subst Q (sym (words_else (u % n) places_apart)) (subst R (sym (homes_else (u % n) places_apart)) old)
-          ];
+        ];
     free =
-      λ u from to room.
-          elim (same_or_not u (t + n)) [
-            inl same ↦
+        λ u from to room.
+        elim (same_or_not u (t + n)) [
+          | inl same ↦
               let now : (get_or words' (seq_of n t) 0 ≡ t + n) × (get_elem? homes' (t % n) ≡ some (some (spare n h' (t + n)))) = free_here (room t (sym same))
               in let place : u % n ≡ t % n = ap (λ (z : ℕ). z % n) same ∙ add-mod_right t n
               in (
                 ap (λ (z : ℕ). get_or words' (z * 8 + 48) 0) place ∙ now.0 ∙ sym same,
                 ap (λ (z : ℕ). get_elem? homes' z) place ∙ now.1 ∙ ap (λ (z : ℕ). some (some (spare n h' z))) (sym same),
               )
-            | inr other ↦
+          | inr other ↦
               let places_apart : u % n ≢ t % n = far_apart n t u other (omega arith) (omega (arith, turn.near))
               in let from_q : q.next ≤ u = elim turn.next [ inl e ↦ omega (arith, e) | inr e ↦ omega (arith, e.0) ]
               in let to_q : u < q.next + n = elim turn.next [ inl e ↦ omega (arith, e) | inr e ↦ omega (arith, e.0, e.1) ]
               in let old_room : IsRoom n u q.cells = λ v e. let apart : t ≢ v = λ z. other (sym e ∙ ap (λ (y : ℕ). y + n) (sym z)) in sym (turn.others v apart) ∙ room v e
               in let old = shown.free u from_q to_q old_room
               in (words_else (u % n) places_apart ∙ old.0, homes_else (u % n) places_apart ∙ old.1 ∙ ap (λ (z : S). some (some z)) (sym (spare_else u other)))
-          ];
+        ];
   }
 
   pub shown_on : (n : ℕ) (q : Queue T) (h h' : List (Entry T N)) (words : List ℕ) (homes : List (Option S)) → ((u : ℕ) → spare n h' u ≡ spare n h u) → Shown put spare n h q words homes → Shown put spare n h' q words homes

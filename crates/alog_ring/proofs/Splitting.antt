@@ -1,23 +1,19 @@
 -- A seat is cut in two, and the new seat has made nothing yet.
-use Rattle.std.proofs.Common.{◌≡◌, ◌≢◌, ℕ, zero, suc, ◌+◌, ◌-◌, ◌<◌, ◌≤◌, ◌⊎◌, List, [], ◌∷◌, ◌++◌, set, length, refl, sym, ap, subst, ◌∙◌, inl, inr, arith, length-set}
-use Rattle.std.proofs.lemmas.List.{append-nil, length-append}
+use Rattle.std.proofs.Common.{◌≡◌, ◌≢◌, ℕ, zero, suc, ◌+◌, ◌<◌, ◌⊎◌, List, [], ◌∷◌, ◌++◌, set, length, refl, sym, ap, subst, ◌∙◌, inl, inr, arith, length-set}
+use Rattle.std.proofs.lemmas.List.{length-append}
 use Rattle.std.specs.List.{AllByRecursion, sum_by}
 use mathlib.Core.Option.{some, some-injective, some-ne-none}
 use mathlib.Core.List.{IsPrefix}
 use lib.ListN.{get_elem?}
-use lib.Seq.{set-get_or}
-use Rattle.atomic_table.specs.Table.{State, Me, Splits}
+use Rattle.atomic_table.specs.Table.{State, Splits}
 use Rattle.atomic_table.proofs.Lists.{at_set, set_else, set_here, at_longer}
-use Rattle.alog_core.specs.declared.mark.Mark.TheVariants.{Claimed, Emptying}
 use Rattle.alog_core.specs.Queue.{HasCell}
 use Rattle.alog_core.specs.History.{Entry, own_of}
-use Rattle.alog_core.proofs.Histories.{own_of-append}
-use Rattle.alog_ring.specs.Sight.{Account, Known, Stage, Idle, Fresh, Lent, Writing, Reading, Sight, all_parts}
+use Rattle.alog_ring.specs.Sight.{Account, Stage, Idle, Fresh, Lent, Writing, Reading, Sight}
 use Rattle.alog_ring.specs.Rule.{parts_of, IsAtWork, IsRetired, IsTakenIn, HasAccounts, Knows, Told, Staged, Ruled}
 use Rattle.alog_ring.specs.Parts.{with_fewer, apart_from}
 use Rattle.alog_ring.proofs.Lists.{same_or_not, inside, one_value, each_of, sum_changed, sum_with_last}
 use Rattle.alog_ring.proofs.Telling.{retired_apart}
-use Rattle.alog_ring.proofs.Turning.{IsFree}
 
 pub at_end : {A : Type 0} (l : List A) (a b : A) (j : ℕ) → get_elem? (l ++ a ∷ []) j ≡ some b → (get_elem? l j ≡ some b) ⊎ ((j ≡ length l) × (a ≡ b))
 at_end [] a b zero e = inr (refl, some-injective a b e)
@@ -49,16 +45,16 @@ module _ {T N : Type 0} (n f a : ℕ) (v : Sight T N) (parts : ℕ) (stage : Sta
     which : (P : ℕ → Sight T N → Type 0) → P a left_seat → P (length views) new_seat → ((b : ℕ) (u : Sight T N) → b ≢ a → get_elem? views b ≡ some u → P b u) → (b : ℕ) (u : Sight T N) → get_elem? after_split b ≡ some u → P b u
     which P mine its others b u e =
         elim (at_end (set views a left_seat) new_seat u b e) [
-          inl old ↦
-            elim (at_set views a b left_seat u old) [
-              inl same ↦ let Q : ℕ → Type 0 = λ z. P z u in let R : Sight T N → Type 0 = λ z. P a z in subst Q (sym same.0) (subst R same.1 mine)
-              | inr other ↦ others b u other.0 other.1
-            ]
+          | inl old ↦
+              elim (at_set views a b left_seat u old) [
+                | inl same ↦ let Q : ℕ → Type 0 = λ z. P z u in let R : Sight T N → Type 0 = λ z. P a z in subst Q (sym same.0) (subst R same.1 mine)
+                | inr other ↦ others b u other.0 other.1
+              ]
           | inr last ↦
-            let place : length views ≡ b = sym (length-set views a left_seat) ∙ sym last.0
-            in let Q : ℕ → Type 0 = λ z. P z u
-            in let R : Sight T N → Type 0 = λ z. P (length views) z
-            in subst Q place (subst R last.1 its)
+              let place : length views ≡ b = sym (length-set views a left_seat) ∙ sym last.0
+              in let Q : ℕ → Type 0 = λ z. P z u
+              in let R : Sight T N → Type 0 = λ z. P (length views) z
+              in subst Q place (subst R last.1 its)
         ]
 
     retired_still : (b : ℕ) → IsRetired views b → IsRetired after_split b
@@ -70,11 +66,11 @@ module _ {T N : Type 0} (n f a : ℕ) (v : Sight T N) (parts : ℕ) (stage : Sta
     taken_still : (b : ℕ) → IsTakenIn views b → IsTakenIn after_split b
     taken_still b by =
         elim (same_or_not by.0 a) [
-          inl same ↦
-            let Q : ℕ → Type 0 = λ i. get_elem? views i ≡ some by.1
-            in let one : by.1 ≡ v = one_value views a by.1 v (subst Q same by.2) at
-            in let P : Sight T N → Type 0 = λ z. Rattle.alog_ring.specs.Rule.IsAmong b z.known.joined
-            in (a, left_seat, here, omega arith, subst P one by.4)
+          | inl same ↦
+              let Q : ℕ → Type 0 = λ i. get_elem? views i ≡ some by.1
+              in let one : by.1 ≡ v = one_value views a by.1 v (subst Q same by.2) at
+              in let P : Sight T N → Type 0 = λ z. Rattle.alog_ring.specs.Rule.IsAmong b z.known.joined
+              in (a, left_seat, here, omega arith, subst P one by.4)
           | inr other ↦ (by.0, by.1, elsewhere by.0 by.1 other by.2, by.3, by.4)
         ]
 
@@ -86,26 +82,26 @@ module _ {T N : Type 0} (n f a : ℕ) (v : Sight T N) (parts : ℕ) (stage : Sta
           first = which (λ b u. 0 < u.known.parts → u.known.first ≡ f) (λ _. told.first a v at live) (λ _. told.first a v at live) (λ b u _ g. told.first b u g);
           seen = which (λ b u. IsPrefix u.known.seen h) (told.seen a v at) (told.seen a v at) (λ b u _ g. told.seen b u g);
           accounts =
-            which (λ b u. 0 < u.known.parts → HasAccounts h after_split b u.known)
-                (λ _. record { own = has.own; joined = has.joined; retired = all_retired v.known.joined has.retired })
-                (λ _. record { own = sym (told.unborn (length views) (omega arith)); joined = tt; retired = tt })
-                (λ b u _ g some_parts.
-                    let old : HasAccounts h views b u.known = told.accounts b u g some_parts
-                    in record { own = old.own; joined = old.joined; retired = all_retired u.known.joined old.retired });
+              which (λ b u. 0 < u.known.parts → HasAccounts h after_split b u.known)
+              (λ _. record { own = has.own; joined = has.joined; retired = all_retired v.known.joined has.retired })
+              (λ _. record { own = sym (told.unborn (length views) (omega arith)); joined = tt; retired = tt })
+              (λ b u _ g some_parts.
+              let old : HasAccounts h views b u.known = told.accounts b u g some_parts
+              in record { own = old.own; joined = old.joined; retired = all_retired u.known.joined old.retired });
           without =
-            which (λ b u. u.known.parts ≡ 0 → (own_of b h ≡ []) ⊎ IsTakenIn after_split b)
-                (λ none. absurd (omega arith))
-                (λ _. inl (told.unborn (length views) (omega arith)))
-                (λ b u _ g none. elim (told.without b u g none) [ inl empty ↦ inl empty | inr taken ↦ inr (taken_still b taken) ]);
+              which (λ b u. u.known.parts ≡ 0 → (own_of b h ≡ []) ⊎ IsTakenIn after_split b)
+              (λ none. absurd (omega arith))
+              (λ _. inl (told.unborn (length views) (omega arith)))
+              (λ b u _ g none. elim (told.without b u g none) [ inl empty ↦ inl empty | inr taken ↦ inr (taken_still b taken) ]);
           unborn =
-            λ b far.
-                let len : length after_split ≡ length (set views a left_seat) + length (new_seat ∷ []) = length-append (set views a left_seat) (new_seat ∷ [])
-                in let same : length (set views a left_seat) ≡ length views = length-set views a left_seat
-                in told.unborn b (omega arith);
+              λ b far.
+              let len : length after_split ≡ length (set views a left_seat) + length (new_seat ∷ []) = length-append (set views a left_seat) (new_seat ∷ [])
+              in let same : length (set views a left_seat) ≡ length views = length-set views a left_seat
+              in told.unborn b (omega arith);
           whole =
-            let with_new : sum_by parts_of after_split ≡ sum_by parts_of (set views a left_seat) + parts_of new_seat = sum_with_last parts_of (set views a left_seat) new_seat
-            in let changed : sum_by parts_of (set views a left_seat) + parts_of v ≡ sum_by parts_of views + parts_of left_seat = sum_changed parts_of views a v left_seat at
-            in omega (arith, told.whole);
+              let with_new : sum_by parts_of after_split ≡ sum_by parts_of (set views a left_seat) + parts_of new_seat = sum_with_last parts_of (set views a left_seat) new_seat
+              in let changed : sum_by parts_of (set views a left_seat) + parts_of v ≡ sum_by parts_of views + parts_of left_seat = sum_changed parts_of views a v left_seat at
+              in omega (arith, told.whole);
         }
 
     pub staged_split : (q : Rattle.alog_core.specs.Queue.Queue T) → Staged n h q views → Staged n h q after_split
@@ -117,19 +113,19 @@ module _ {T N : Type 0} (n f a : ℕ) (v : Sight T N) (parts : ℕ) (stage : Sta
         in let N' : Stage T N → Type 0 = λ z. Knows n h q (length views) new_seat.known z
         in record {
           knows =
-            which (λ b u. Knows n h q b u.known u.stage) (work.0, omega arith)
-                (elim new [ inl e ↦ subst N' (sym e) tt | inr e ↦ subst N' (sym e) tt ])
-                (λ b u _ g. staged.knows b u g);
+              which (λ b u. Knows n h q b u.known u.stage) (work.0, omega arith)
+              (elim new [ inl e ↦ subst N' (sym e) tt | inr e ↦ subst N' (sym e) tt ])
+              (λ b u _ g. staged.knows b u g);
           writers =
-            λ p x b has.
-                let old : (u : Sight T N) × (get_elem? views b ≡ some u) × (u.stage ≡ Writing p x) = staged.writers p x b has
-                in let not_me : b ≢ a = λ e. let G : ℕ → Type 0 = λ c. get_elem? views c ≡ some old.0 in let is : old.0 ≡ v = one_value views a old.0 v (subst G e old.1) at in not_writing p x (sym (ap (λ (z : Sight T N). z.stage) is) ∙ old.2)
-                in (old.0, elsewhere b old.0 not_me old.1, old.2);
+              λ p x b has.
+              let old : (u : Sight T N) × (get_elem? views b ≡ some u) × (u.stage ≡ Writing p x) = staged.writers p x b has
+              in let not_me : b ≢ a = λ e. let G : ℕ → Type 0 = λ c. get_elem? views c ≡ some old.0 in let is : old.0 ≡ v = one_value views a old.0 v (subst G e old.1) at in not_writing p x (sym (ap (λ (z : Sight T N). z.stage) is) ∙ old.2)
+              in (old.0, elsewhere b old.0 not_me old.1, old.2);
           readers =
-            λ p x b has.
-                let old : (u : Sight T N) × (get_elem? views b ≡ some u) × (u.stage ≡ Reading p x) = staged.readers p x b has
-                in let not_me : b ≢ a = λ e. let G : ℕ → Type 0 = λ c. get_elem? views c ≡ some old.0 in let is : old.0 ≡ v = one_value views a old.0 v (subst G e old.1) at in not_reading p x (sym (ap (λ (z : Sight T N). z.stage) is) ∙ old.2)
-                in (old.0, elsewhere b old.0 not_me old.1, old.2);
+              λ p x b has.
+              let old : (u : Sight T N) × (get_elem? views b ≡ some u) × (u.stage ≡ Reading p x) = staged.readers p x b has
+              in let not_me : b ≢ a = λ e. let G : ℕ → Type 0 = λ c. get_elem? views c ≡ some old.0 in let is : old.0 ≡ v = one_value views a old.0 v (subst G e old.1) at in not_reading p x (sym (ap (λ (z : Sight T N). z.stage) is) ∙ old.2)
+              in (old.0, elsewhere b old.0 not_me old.1, old.2);
         }
 
   pub splits : {S : Type 0} (put : T → S) (spare : ℕ → List (Entry T N) → ℕ → S) → Splits (λ (s : State S (Sight T N)). Ruled put spare n f s) a v left_seat new_seat

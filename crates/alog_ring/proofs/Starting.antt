@@ -1,5 +1,5 @@
 -- An empty ring keeps the rule.
-use Rattle.std.proofs.Common.{◌≡◌, ◌≢◌, ℕ, zero, suc, ◌+◌, ◌-◌, ◌*◌, ◌/◌, ◌%◌, ◌^◌, ◌<◌, ◌≤◌, Option, None, Some, List, [], ◌∷◌, set, length, get_or, map, replicate, max, bit_and, refl, sym, ap, subst, ◌∙◌, inl, inr, arith, get_or-set_other, get_or-set_same, length-set, mod-lt}
+use Rattle.std.proofs.Common.{◌≡◌, ◌≢◌, ℕ, zero, suc, ◌+◌, ◌-◌, ◌*◌, ◌/◌, ◌%◌, ◌^◌, ◌<◌, ◌≤◌, None, List, [], ◌∷◌, set, length, get_or, map, replicate, max, bit_and, refl, sym, ap, subst, ◌∙◌, inl, inr, arith, get_or-set_other, get_or-set_same, mod-lt}
 use Rattle.std.proofs.Math.Nat.{one-le-pow, pow-le-pow_right}
 use Rattle.std.proofs.lemmas.Bool.Decides.{leb_tells}
 use Rattle.std.proofs.lemmas.Grind.{pow_more}
@@ -7,14 +7,13 @@ use Rattle.std.proofs.lemmas.Nat.{and_mask}
 use Rattle.std.specs.Int.{IsPowerOfTwo}
 use mathlib.Core.Option as maybe
 use lib.ListN.{get_elem?}
-use Rattle.atomic_table.specs.Table.{State, opening}
+use Rattle.atomic_table.specs.Table.{opening}
 use Rattle.alog_core.specs.Queue.{last, start}
-use Rattle.alog_core.specs.History.{own_of}
 use Rattle.alog_core.proofs.Histories.{stands_start}
-use Rattle.alog_ring.specs.Sight.{Idle, Sight, first_sight, first_known, all_parts}
+use Rattle.alog_ring.specs.Sight.{Sight, first_sight}
 use Rattle.alog_ring.specs.Rule.{seq_of, word_count, Knows, HasAccounts, Ruled}
 use Rattle.alog_ring.specs.Kinds.{no_note, some_value, no_value}
-use Rattle.alog_ring.specs.Calls.{IsSize, AreFirstWords, Masks}
+use Rattle.alog_ring.specs.Calls.{AreFirstWords, Masks}
 use Rattle.alog_ring.proofs.Lists.{same_or_not, prefix_same}
 use Rattle.alog_ring.proofs.Showing.{near_apart}
 
@@ -25,11 +24,11 @@ next_is_itself n p power other above half =
     in let j : ℕ = other.0
     in let positive : 1 ≤ 2 ^ k = one-le-pow k 2 (omega arith)
     in elim (leb_tells j k) [
-      inl le ↦ let small : 2 ^ j ≤ 2 ^ k = pow-le-pow_right (omega arith) le.1 in omega (arith, power.1, other.1)
+      | inl le ↦ let small : 2 ^ j ≤ 2 ^ k = pow-le-pow_right (omega arith) le.1 in omega (arith, power.1, other.1)
       | inr lt ↦
-        let big : 2 ^ (k + 1) ≤ 2 ^ j = pow-le-pow_right (omega arith) (omega (arith, lt.1))
-        in let twice : 2 ^ (k + 1) ≡ 2 ^ k * 2 = pow_more 2 k
-        in absurd (omega (arith, power.1, other.1))
+          let big : 2 ^ (k + 1) ≤ 2 ^ j = pow-le-pow_right (omega arith) (omega (arith, lt.1))
+          in let twice : 2 ^ (k + 1) ≡ 2 ^ k * 2 = pow_more 2 k
+          in absurd (omega (arith, power.1, other.1))
     ]
 
 pub masks : (n mask : ℕ) → IsPowerOfTwo n → mask ≡ n - 1 → n ≡ mask + 1 → Masks mask
@@ -49,10 +48,10 @@ words_more n f t row two low high wide before u from to =
     let some : 0 < n = omega arith
     in let place : t % n < n = mod-lt t some
     in elim (same_or_not t u) [
-      inl same ↦ let P : ℕ → Type 0 = λ z. get_or (set row (seq_of n t) t) (seq_of n z) 0 ≡ z in subst P same (get_or-set_same row (seq_of n t) t 0 (omega arith))
+      | inl same ↦ let P : ℕ → Type 0 = λ z. get_or (set row (seq_of n t) t) (seq_of n z) 0 ≡ z in subst P same (get_or-set_same row (seq_of n t) t 0 (omega arith))
       | inr other ↦
-        let apart : u % n ≢ t % n = near_apart n t u other (omega arith) (omega arith)
-        in get_or-set_other row (seq_of n t) (seq_of n u) t 0 (λ e. apart (omega arith)) ∙ before u from (omega arith)
+          let apart : u % n ≢ t % n = near_apart n t u other (omega arith) (omega arith)
+          in get_or-set_other row (seq_of n t) (seq_of n u) t 0 (λ e. apart (omega arith)) ∙ before u from (omega arith)
     ]
 
 same_place : {A : Type 0} (x : A) (n i : ℕ) → i < n → get_elem? (map maybe.some (replicate n x)) i ≡ maybe.some (maybe.some x)
@@ -83,9 +82,9 @@ starts {T} n f words two low are =
       };
       staged = record {
         knows =
-          λ a v e.
-              let P : Sight T no_note → Type 0 = λ x. Knows n [] (start f) a x.known x.stage
-              in subst P (one a v e).1 (sym (one a v e).0, omega arith);
+            λ a v e.
+            let P : Sight T no_note → Type 0 = λ x. Knows n [] (start f) a x.known x.stage
+            in subst P (one a v e).1 (sym (one a v e).0, omega arith);
         writers = λ t x a has. absurd (cc);
         readers = λ t x a has. absurd (cc);
       };
@@ -99,7 +98,7 @@ starts {T} n f words two low are =
         free = λ t from to _. (are.sequences t from to, same_place None n (t % n) (mod-lt t (let some : 0 < n = omega arith in some)));
       };
     }
-      where
-        only : (a : ℕ) (v : Sight T no_note) → get_elem? (first_sight {T = T} {N = no_note} n f ∷ []) a ≡ maybe.some v → (a ≡ 0) × (first_sight n f ≡ v)
-        only zero v e = (refl, maybe.some-injective (first_sight n f) v e)
-        only (suc a) v e = absurd (maybe.some-ne-none v (sym e))
+  where
+    only : (a : ℕ) (v : Sight T no_note) → get_elem? (first_sight {T = T} {N = no_note} n f ∷ []) a ≡ maybe.some v → (a ≡ 0) × (first_sight n f ≡ v)
+    only zero v e = (refl, maybe.some-injective (first_sight n f) v e)
+    only (suc a) v e = absurd (maybe.some-ne-none v (sym e))

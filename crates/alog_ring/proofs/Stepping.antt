@@ -1,21 +1,21 @@
 -- How a step of a seat keeps the rule, put together from the history, the stages, and the words and places.
-use Rattle.std.proofs.Common.{◌≡◌, ◌≢◌, ℕ, ◌+◌, ◌-◌, ◌*◌, ◌%◌, ◌<◌, ◌≤◌, ◌⊎◌, List, [], ◌∷◌, ◌++◌, set, length, get_or, Some, None, refl, sym, ap, subst, ◌∙◌, inl, inr, arith}
+use Rattle.std.proofs.Common.{◌≡◌, ◌≢◌, ℕ, ◌+◌, ◌<◌, ◌≤◌, List, [], ◌∷◌, ◌++◌, set, get_or, refl, sym, ap, subst, ◌∙◌, arith}
 use Rattle.std.proofs.lemmas.List.{append-nil}
-use mathlib.Core.Option.{Option, some, none}
+use mathlib.Core.Option.{Option, some}
 use mathlib.Core.List.{IsPrefix}
 use lib.ListN.{get_elem?}
 use lib.Seq.{set-get_or}
-use Rattle.atomic_table.specs.Table.{State, Me, Act, keeps, Valid, stepped, carried_after}
-use Rattle.alog_core.specs.Queue.{Queue, Event, Claim, Write, Grab, Take, Full, Empty, PushBusy, PopBusy, Spent, start, Allows, Refuses, after, IsSound}
+use Rattle.atomic_table.specs.Table.{State}
+use Rattle.alog_core.specs.Queue.{Queue, Event, Claim, Write, Grab, Take, Full, Empty, PushBusy, PopBusy, Spent, start, Allows, after, IsSound}
 use Rattle.alog_core.specs.History.{Entry, IsLegal, left_by, own_of, StandsFor}
 use Rattle.alog_core.proofs.Cells.{at_same, at_other}
-use Rattle.alog_core.proofs.Histories.{left_by-append, own_of-append, stands_after, stands_sound}
-use Rattle.alog_ring.specs.Sight.{Known, Stage, Idle, Sight}
-use Rattle.alog_ring.specs.Made.{AreExact, IsFaithful, Made, EndsWith, next_seen, front_seen}
-use Rattle.alog_ring.specs.Rule.{IsAtWork, HasAccounts, Knows, Told, Staged, Shown, Ruled}
-use Rattle.alog_ring.specs.Plays.{entry, Adds, Looks, Acts, Ends}
-use Rattle.alog_ring.proofs.Lists.{prefix_same, prefix_longer, prefix_through}
-use Rattle.alog_ring.proofs.Telling.{AreOf, Grows, grown, grows_now, faithful_now, told_more}
+use Rattle.alog_core.proofs.Histories.{left_by-append, stands_after, stands_sound}
+use Rattle.alog_ring.specs.Sight.{Stage, Idle, Sight}
+use Rattle.alog_ring.specs.Made.{AreExact, Made, next_seen, front_seen}
+use Rattle.alog_ring.specs.Rule.{IsAtWork, Knows, Staged, Shown, Ruled}
+use Rattle.alog_ring.specs.Plays.{entry, Adds}
+use Rattle.alog_ring.proofs.Lists.{prefix_longer}
+use Rattle.alog_ring.proofs.Telling.{AreOf, grown, grows_now, faithful_now, told_more}
 use Rattle.alog_ring.proofs.Turning.{IsFree, staged_on}
 use Rattle.alog_ring.proofs.Showing.{shown_on}
 
@@ -120,9 +120,9 @@ module _ {S T N : Type 0} (kind : PlaceKind S T N) (n f : ℕ) (s : State S (Sig
     kept_still i free stands same knows =
         let P : List ℕ → Type 0 = λ ws. Ruled kind.put kind.spare n f (record { words = ws; homes = s.homes; views = set s.views a stepping })
         in subst P (sym (set-get_or s.words i 0))
-            (kept r.queue s.words s.homes stands
-                (staged_on n a r.queue r.history more s.views v stepping sound_now at r.staged knows free)
-                (shown_on kind.put kind.spare n r.queue r.history (r.history ++ more) s.words s.homes same r.shown))
+        (kept r.queue s.words s.homes stands
+        (staged_on n a r.queue r.history more s.views v stepping sound_now at r.staged knows free)
+        (shown_on kind.put kind.spare n r.queue r.history (r.history ++ more) s.words s.homes same r.shown))
 
   -- the seat only looks
   pub looks : (i : ℕ) → IsAtWork a v.known → IsFree v.stage → (stage : Stage T N) → Knows n (r.history ++ []) r.queue a (grown v.known r.history []) stage
@@ -135,7 +135,7 @@ module _ {S T N : Type 0} (kind : PlaceKind S T N) (n f : ℕ) (s : State S (Sig
   -- the seat answers a refusal, which changes nothing
   pub refuses : (i : ℕ) → IsAtWork a v.known → IsFree v.stage → (e : Event T) → Allows n r.queue a e → after r.queue a e ≡ r.queue → ((u : ℕ) (y : T) → e ≢ Take u y)
       → Ruled kind.put kind.spare n f (record { words = set s.words i (get_or s.words i 0); homes = s.homes; views = set s.views a (record { stage = Idle; known = grown v.known r.history (entry kind.blank v.known e ∷ []) }) })
-          × Adds kind.blank v.known (grown v.known r.history (entry kind.blank v.known e ∷ [])) e
+      × Adds kind.blank v.known (grown v.known r.history (entry kind.blank v.known e ∷ [])) e
   refuses i work free e may still no_take =
       let x : Entry T N = entry kind.blank v.known e
       in let P : Queue T → Type 0 = λ q. StandsFor n f (r.history ++ x ∷ []) q

@@ -1,17 +1,14 @@
 -- Each step of a push and of a pop may be made at the table, and tells what its play says.
-use Rattle.std.proofs.Common.{◌≡◌, ◌≢◌, ℕ, ◌+◌, ◌-◌, ◌*◌, ◌%◌, ◌<◌, ◌≤◌, ◌⊎◌, eqb, List, [], ◌∷◌, ◌++◌, set, length, get_or, refl, sym, ap, subst, ◌∙◌, inl, inr, arith}
-use Rattle.std.proofs.lemmas.List.{append-nil}
-use mathlib.Core.Option.{Option, some, none}
+use Rattle.std.proofs.Common.{◌≡◌, ℕ, ◌+◌, ◌%◌, ◌<◌, ◌≤◌, eqb, List, [], ◌∷◌, ◌++◌, length, get_or, refl, sym, ap, subst, ◌∙◌, inl, inr, arith}
+use mathlib.Core.Option.{Option, some}
 use prog.Atomic.{either}
-use lib.ListN.{get_elem?}
-use Rattle.atomic_table.specs.Table.{State, Me, Act, keeps, takes, gives, Valid, stepped, carried_after, step, rest, Allows}
+use Rattle.atomic_table.specs.Table.{State, Me, Act, keeps, takes, gives, Valid, stepped, carried_after, step, Allows}
 use Rattle.atomic_table.proofs.Lists.{exchanged}
-use Rattle.alog_core.specs.declared.mark.Mark.TheVariants.{Claimed, Written, Emptying}
+use Rattle.alog_core.specs.declared.mark.Mark.TheVariants.{Claimed, Emptying}
 use Rattle.alog_core.specs.Queue.{Queue, Event, Claim, Write, Grab, Take, Full, Empty, PushBusy, PopBusy, Spent, last, HasCell, IsRoom, IsWritten}
-use Rattle.alog_core.specs.History.{Entry}
-use Rattle.alog_ring.specs.Sight.{Known, Stage, Idle, Fresh, SawTail, SawFree, Writing, SawHead, SawFull, Reading, Sight}
-use Rattle.alog_ring.specs.Rule.{IsAtWork, Knows, seq_of, Ruled}
-use Rattle.alog_ring.specs.Plays.{entry, Looks, Ends, saw_tail, saw_free, claimed, wrote, saw_head, saw_full, grabbed, took}
+use Rattle.alog_ring.specs.Sight.{Known, Stage, Idle, SawTail, SawFree, Writing, SawHead, SawFull, Reading, Sight}
+use Rattle.alog_ring.specs.Rule.{IsAtWork, seq_of, Ruled}
+use Rattle.alog_ring.specs.Plays.{entry, saw_tail, saw_free, claimed, wrote, saw_head, saw_full, grabbed, took}
 use Rattle.alog_ring.proofs.Lists.{same_or_not}
 use Rattle.alog_ring.proofs.Turning.{IsFree}
 use Rattle.alog_ring.proofs.Looking.{push_look, pop_look}
@@ -56,12 +53,12 @@ module _ {S T N : Type 0} (kind : PlaceKind S T N) (n f : ℕ) (slots id : ℕ) 
       in let seen = (seen_behind kind n f s r id me.0 at work.1).0
       in let bounded : r.queue.next ≤ last = r.shown.bounded
       in elim (same_or_not y last) [
-        inl end ↦
-          let done = refuses kind n f s r id me.0 at 16 work free Spent (sym is ∙ end) refl (λ u x e. cc)
-          in (record { stage = Idle; known = grown me.0.known r.history (entry kind.blank me.0.known Spent ∷ []) }, keeps, tt, done.0, (omega (arith, is, seen), omega (arith, is), λ _. ((done.1, refl), refl), λ low. absurd (omega arith)))
+        | inl end ↦
+            let done = refuses kind n f s r id me.0 at 16 work free Spent (sym is ∙ end) refl (λ u x e. cc)
+            in (record { stage = Idle; known = grown me.0.known r.history (entry kind.blank me.0.known Spent ∷ []) }, keeps, tt, done.0, (omega (arith, is, seen), omega (arith, is), λ _. ((done.1, refl), refl), λ low. absurd (omega arith)))
         | inr more ↦
-          let done = looks kind n f s r id me.0 at 16 work free (SawTail y) (work, omega (arith, is))
-          in (record { stage = SawTail y; known = grown me.0.known r.history [] }, keeps, tt, done.0, (omega (arith, is, seen), omega (arith, is), λ end. absurd (more end), λ _. (done.1, refl, refl)))
+            let done = looks kind n f s r id me.0 at 16 work free (SawTail y) (work, omega (arith, is))
+            in (record { stage = SawTail y; known = grown me.0.known r.history [] }, keeps, tt, done.0, (omega (arith, is, seen), omega (arith, is), λ end. absurd (more end), λ _. (done.1, refl, refl)))
       ]
 
   pub sees_free : (t : ℕ) → me.0.stage ≡ SawTail t → Allows Holds slots id me (seq_of n t) (λ y. y) (λ y m. saw_free kind.blank t me y m)
@@ -71,21 +68,21 @@ module _ {S T N : Type 0} (kind : PlaceKind S T N) (n f : ℕ) (slots id : ℕ) 
       in let knows : IsAtWork id me.0.known × (t ≤ r.queue.next) = knows_now kind n f s r id me.0 at (SawTail t) stage
       in let free : IsFree me.0.stage = free_at me.0.stage (SawTail t) stage (saw_tail_free t)
       in elim (push_look kind.put kind.spare n r.history r.queue s.words s.homes r.two (sound_now kind n f s r id me.0 at) r.shown t knows.1) [
-        inl go ↦
-          let e : y ≡ t = go.0
-          in let done = looks kind n f s r id me.0 at i knows.0 free (SawFree t) (knows.0, knows.1, go.1)
-          in (record { stage = SawFree t; known = grown me.0.known r.history [] }, keeps, tt, done.0, (λ _. (done.1, refl, refl), λ z. absurd (omega arith), λ z. absurd (omega arith)))
+        | inl go ↦
+            let e : y ≡ t = go.0
+            in let done = looks kind n f s r id me.0 at i knows.0 free (SawFree t) (knows.0, knows.1, go.1)
+            in (record { stage = SawFree t; known = grown me.0.known r.history [] }, keeps, tt, done.0, (λ _. (done.1, refl, refl), λ z. absurd (omega arith), λ z. absurd (omega arith)))
         | inr more ↦
-          elim more [
-            inl full ↦
-              let low : y < t = full.0
-              in let done = refuses kind n f s r id me.0 at i knows.0 free (Full t) (full.1, full.2) refl (λ u x e. cc)
-              in (record { stage = Idle; known = grown me.0.known r.history (entry kind.blank me.0.known (Full t) ∷ []) }, keeps, tt, done.0, (λ z. absurd (omega arith), λ _. ((done.1, refl), refl), λ z. absurd (omega arith)))
-            | inr busy ↦
-              let high : t < y = busy.0
-              in let done = refuses kind n f s r id me.0 at i knows.0 free (PushBusy t) busy.1 refl (λ u x e. cc)
-              in (record { stage = Idle; known = grown me.0.known r.history (entry kind.blank me.0.known (PushBusy t) ∷ []) }, keeps, tt, done.0, (λ z. absurd (omega arith), λ z. absurd (omega arith), λ _. ((done.1, refl), refl)))
-          ]
+            elim more [
+              | inl full ↦
+                  let low : y < t = full.0
+                  in let done = refuses kind n f s r id me.0 at i knows.0 free (Full t) (full.1, full.2) refl (λ u x e. cc)
+                  in (record { stage = Idle; known = grown me.0.known r.history (entry kind.blank me.0.known (Full t) ∷ []) }, keeps, tt, done.0, (λ z. absurd (omega arith), λ _. ((done.1, refl), refl), λ z. absurd (omega arith)))
+              | inr busy ↦
+                  let high : t < y = busy.0
+                  in let done = refuses kind n f s r id me.0 at i knows.0 free (PushBusy t) busy.1 refl (λ u x e. cc)
+                  in (record { stage = Idle; known = grown me.0.known r.history (entry kind.blank me.0.known (PushBusy t) ∷ []) }, keeps, tt, done.0, (λ z. absurd (omega arith), λ z. absurd (omega arith), λ _. ((done.1, refl), refl)))
+            ]
       ]
 
   pub sees_head : me.0.stage ≡ Idle → Allows Holds slots id me 32 (λ y. y) (λ y m. saw_head me y m)
@@ -107,21 +104,21 @@ module _ {S T N : Type 0} (kind : PlaceKind S T N) (n f : ℕ) (slots id : ℕ) 
       in let knows : IsAtWork id me.0.known × (t ≤ r.queue.front) = knows_now kind n f s r id me.0 at (SawHead t) stage
       in let free : IsFree me.0.stage = free_at me.0.stage (SawHead t) stage (saw_head_free t)
       in elim (pop_look kind.put kind.spare n r.history r.queue s.words s.homes r.two (sound_now kind n f s r id me.0 at) r.shown t knows.1) [
-        inl go ↦
-          let e : y ≡ t + 1 = go.0
-          in let done = looks kind n f s r id me.0 at i knows.0 free (SawFull t) (knows.0, knows.1, go.1)
-          in (record { stage = SawFull t; known = grown me.0.known r.history [] }, keeps, tt, done.0, (λ _. (done.1, refl, refl), λ z. absurd (omega arith), λ z. absurd (omega arith)))
+        | inl go ↦
+            let e : y ≡ t + 1 = go.0
+            in let done = looks kind n f s r id me.0 at i knows.0 free (SawFull t) (knows.0, knows.1, go.1)
+            in (record { stage = SawFull t; known = grown me.0.known r.history [] }, keeps, tt, done.0, (λ _. (done.1, refl, refl), λ z. absurd (omega arith), λ z. absurd (omega arith)))
         | inr more ↦
-          elim more [
-            inl empty ↦
-              let low : y < t + 1 = empty.0
-              in let done = refuses kind n f s r id me.0 at i knows.0 free (Empty t) (empty.1, empty.2) refl (λ u x e. cc)
-              in (record { stage = Idle; known = grown me.0.known r.history (entry kind.blank me.0.known (Empty t) ∷ []) }, keeps, tt, done.0, (λ z. absurd (omega arith), λ _. ((done.1, refl), refl), λ z. absurd (omega arith)))
-            | inr busy ↦
-              let high : t + 1 < y = busy.0
-              in let done = refuses kind n f s r id me.0 at i knows.0 free (PopBusy t) busy.1 refl (λ u x e. cc)
-              in (record { stage = Idle; known = grown me.0.known r.history (entry kind.blank me.0.known (PopBusy t) ∷ []) }, keeps, tt, done.0, (λ z. absurd (omega arith), λ z. absurd (omega arith), λ _. ((done.1, refl), refl)))
-          ]
+            elim more [
+              | inl empty ↦
+                  let low : y < t + 1 = empty.0
+                  in let done = refuses kind n f s r id me.0 at i knows.0 free (Empty t) (empty.1, empty.2) refl (λ u x e. cc)
+                  in (record { stage = Idle; known = grown me.0.known r.history (entry kind.blank me.0.known (Empty t) ∷ []) }, keeps, tt, done.0, (λ z. absurd (omega arith), λ _. ((done.1, refl), refl), λ z. absurd (omega arith)))
+              | inr busy ↦
+                  let high : t + 1 < y = busy.0
+                  in let done = refuses kind n f s r id me.0 at i knows.0 free (PopBusy t) busy.1 refl (λ u x e. cc)
+                  in (record { stage = Idle; known = grown me.0.known r.history (entry kind.blank me.0.known (PopBusy t) ∷ []) }, keeps, tt, done.0, (λ z. absurd (omega arith), λ z. absurd (omega arith), λ _. ((done.1, refl), refl)))
+            ]
       ]
 
   -- the ticket's place by the number of slots
@@ -138,31 +135,31 @@ module _ {S T N : Type 0} (kind : PlaceKind S T N) (n f : ℕ) (slots id : ℕ) 
       in let free : IsFree me.0.stage = free_at me.0.stage (SawFree t) stage (saw_free_free t)
       in let told : Me S (Sight T N) → Type 0 = λ m. claimed kind.blank kind.put kind.spare (step slots 16 t new (some (kind.put x))) me y m
       in exchanged y t new (Goes s 16 told)
-          (λ hit.
-              let same : t ≡ q.next = sym hit ∙ is
-              in let R : ℕ → Type 0 = λ z. IsRoom n z q.cells
-              in let did = claim_step kind n f s r id me.0 at knows.0 x (subst R same knows.2) (omega arith) (λ p z e. absurd (free.0 p z e)) (λ p z e. absurd (free.1 p z e))
-              in let e : Event T = Claim q.next x
-              in let k' : Known T N = grown me.0.known r.history (entry kind.blank me.0.known e ∷ [])
-              in let w : Sight T N = record { stage = Writing q.next x; known = k' }
-              in let y0 : S = kind.spare n r.history q.next
-              in let H : ℕ → Type 0 = λ z. Ruled kind.put kind.spare n f (stepped s 16 z id me.1 w (takes (q.next % n) y0))
-              in let lies : y0 ≡ kind.spare me.0.known.places (r.history ++ entry kind.blank me.0.known e ∷ []) q.next =
-                sym (kind.stays n r.history (entry kind.blank me.0.known e) q.next (λ u z is. cc)) ∙ ap (λ (z : ℕ). kind.spare z (r.history ++ entry kind.blank me.0.known e ∷ []) q.next) (sym (r.told.places id me.0 at knows.0.1))
-              in let D : ℕ → Type 0 = λ z. claimed kind.blank kind.put kind.spare (step slots 16 t new (some (kind.put x))) me z (w, (q.next % n, y0) ∷ me.1)
-              in (
-                w,
-                takes (q.next % n) y0,
-                did.0,
-                subst H (let e2 : q.next + 1 ≡ new = omega arith in e2) did.1.0,
-                subst D (sym is) (
-                  (λ _. (x, refl, (did.1.1, refl), (λ i. (same_place s r wide q.next i, lies i) ∷ me.1))),
-                  λ miss. absurd (miss (sym same)),
-                ),
-              ))
-          (λ miss.
-              let done = refuses kind n f s r id me.0 at 16 knows.0 free (PushBusy t) (let l : t < q.next = omega (arith, knows.1) in l) refl (λ u z e. cc)
-              in (record { stage = Idle; known = grown me.0.known r.history (entry kind.blank me.0.known (PushBusy t) ∷ []) }, keeps, tt, done.0, ((λ hit. absurd (miss hit)), λ _. ((done.1, refl), refl))))
+      (λ hit.
+      let same : t ≡ q.next = sym hit ∙ is
+      in let R : ℕ → Type 0 = λ z. IsRoom n z q.cells
+      in let did = claim_step kind n f s r id me.0 at knows.0 x (subst R same knows.2) (omega arith) (λ p z e. absurd (free.0 p z e)) (λ p z e. absurd (free.1 p z e))
+      in let e : Event T = Claim q.next x
+      in let k' : Known T N = grown me.0.known r.history (entry kind.blank me.0.known e ∷ [])
+      in let w : Sight T N = record { stage = Writing q.next x; known = k' }
+      in let y0 : S = kind.spare n r.history q.next
+      in let H : ℕ → Type 0 = λ z. Ruled kind.put kind.spare n f (stepped s 16 z id me.1 w (takes (q.next % n) y0))
+      in let lies : y0 ≡ kind.spare me.0.known.places (r.history ++ entry kind.blank me.0.known e ∷ []) q.next =
+      sym (kind.stays n r.history (entry kind.blank me.0.known e) q.next (λ u z is. cc)) ∙ ap (λ (z : ℕ). kind.spare z (r.history ++ entry kind.blank me.0.known e ∷ []) q.next) (sym (r.told.places id me.0 at knows.0.1))
+      in let D : ℕ → Type 0 = λ z. claimed kind.blank kind.put kind.spare (step slots 16 t new (some (kind.put x))) me z (w, (q.next % n, y0) ∷ me.1)
+      in (
+        w,
+        takes (q.next % n) y0,
+        did.0,
+        subst H (let e2 : q.next + 1 ≡ new = omega arith in e2) did.1.0,
+        subst D (sym is) (
+          (λ _. (x, refl, (did.1.1, refl), (λ i. (same_place s r wide q.next i, lies i) ∷ me.1))),
+          λ miss. absurd (miss (sym same)),
+        ),
+      ))
+      (λ miss.
+      let done = refuses kind n f s r id me.0 at 16 knows.0 free (PushBusy t) (let l : t < q.next = omega (arith, knows.1) in l) refl (λ u z e. cc)
+      in (record { stage = Idle; known = grown me.0.known r.history (entry kind.blank me.0.known (PushBusy t) ∷ []) }, keeps, tt, done.0, ((λ hit. absurd (miss hit)), λ _. ((done.1, refl), refl))))
 
   pub writes : (t : ℕ) (x : T) (more : List (ℕ × S)) → me.0.stage ≡ Writing t x → me.1 ≡ (t % n, kind.put x) ∷ more
       → Allows Holds slots id me (seq_of n t) (λ _. t + 1) (λ _ m. wrote kind.blank t me m)
@@ -183,29 +180,29 @@ module _ {S T N : Type 0} (kind : PlaceKind S T N) (n f : ℕ) (slots id : ℕ) 
       in let free : IsFree me.0.stage = free_at me.0.stage (SawFull t) stage (saw_full_free t)
       in let told : Me S (Sight T N) → Type 0 = λ m. grabbed kind.blank kind.put (step slots 32 t new said) me y m
       in exchanged y t new (Goes s 32 told)
-          (λ hit.
-              let same : t ≡ q.front = sym hit ∙ is
-              in let R : ℕ → Type 0 = λ z. IsWritten z q.cells
-              in let written : IsWritten q.front q.cells = subst R same (knows.2 (omega arith))
-              in let x : T = written.0
-              in let did = grab_step kind n f s r id me.0 at knows.0 x written.1 written.2 (λ p z e. absurd (free.0 p z e)) (λ p z e. absurd (free.1 p z e))
-              in let e : Event T = Grab q.front
-              in let w : Sight T N = record { stage = Reading q.front x; known = grown me.0.known r.history (entry kind.blank me.0.known e ∷ []) }
-              in let H : ℕ → Type 0 = λ z. Ruled kind.put kind.spare n f (stepped s 32 z id me.1 w (takes (q.front % n) (kind.put x)))
-              in let D : ℕ → Type 0 = λ z. grabbed kind.blank kind.put (step slots 32 t new said) me z (w, (q.front % n, kind.put x) ∷ me.1)
-              in (
-                w,
-                takes (q.front % n) (kind.put x),
-                did.0,
-                subst H (let e2 : q.front + 1 ≡ new = omega arith in e2) did.1.0,
-                subst D (sym is) (
-                  (λ _. (x, (did.1.1, refl), (λ i. (same_place s r wide q.front i, kind.put x) ∷ me.1))),
-                  λ miss. absurd (miss (sym same)),
-                ),
-              ))
-          (λ miss.
-              let done = refuses kind n f s r id me.0 at 32 knows.0 free (PopBusy t) (let l : t < q.front = omega (arith, knows.1) in l) refl (λ u z e. cc)
-              in (record { stage = Idle; known = grown me.0.known r.history (entry kind.blank me.0.known (PopBusy t) ∷ []) }, keeps, tt, done.0, ((λ hit. absurd (miss hit)), λ _. ((done.1, refl), refl))))
+      (λ hit.
+      let same : t ≡ q.front = sym hit ∙ is
+      in let R : ℕ → Type 0 = λ z. IsWritten z q.cells
+      in let written : IsWritten q.front q.cells = subst R same (knows.2 (omega arith))
+      in let x : T = written.0
+      in let did = grab_step kind n f s r id me.0 at knows.0 x written.1 written.2 (λ p z e. absurd (free.0 p z e)) (λ p z e. absurd (free.1 p z e))
+      in let e : Event T = Grab q.front
+      in let w : Sight T N = record { stage = Reading q.front x; known = grown me.0.known r.history (entry kind.blank me.0.known e ∷ []) }
+      in let H : ℕ → Type 0 = λ z. Ruled kind.put kind.spare n f (stepped s 32 z id me.1 w (takes (q.front % n) (kind.put x)))
+      in let D : ℕ → Type 0 = λ z. grabbed kind.blank kind.put (step slots 32 t new said) me z (w, (q.front % n, kind.put x) ∷ me.1)
+      in (
+        w,
+        takes (q.front % n) (kind.put x),
+        did.0,
+        subst H (let e2 : q.front + 1 ≡ new = omega arith in e2) did.1.0,
+        subst D (sym is) (
+          (λ _. (x, (did.1.1, refl), (λ i. (same_place s r wide q.front i, kind.put x) ∷ me.1))),
+          λ miss. absurd (miss (sym same)),
+        ),
+      ))
+      (λ miss.
+      let done = refuses kind n f s r id me.0 at 32 knows.0 free (PopBusy t) (let l : t < q.front = omega (arith, knows.1) in l) refl (λ u z e. cc)
+      in (record { stage = Idle; known = grown me.0.known r.history (entry kind.blank me.0.known (PopBusy t) ∷ []) }, keeps, tt, done.0, ((λ hit. absurd (miss hit)), λ _. ((done.1, refl), refl))))
 
   pub takes_out : (note : N) (t : ℕ) (x : T) (more : List (ℕ × S)) → me.0.stage ≡ Reading t x → me.1 ≡ (t % n, kind.plain note) ∷ more
       → Allows Holds slots id me (seq_of n t) (λ _. t + n) (λ _ m. took note t x me m)

@@ -1,5 +1,5 @@
 -- The history against the views, as a step adds entries to it and changes the view that steps.
-use Rattle.std.proofs.Common.{◌≡◌, ◌≢◌, ℕ, ◌+◌, ◌<◌, ◌≤◌, ◌⊎◌, List, [], ◌∷◌, ◌++◌, length, set, refl, sym, ap, subst, ◌∙◌, inl, inr, arith, length-set}
+use Rattle.std.proofs.Common.{◌≡◌, ◌≢◌, ℕ, ◌+◌, ◌<◌, List, [], ◌++◌, length, set, refl, sym, ap, subst, ◌∙◌, inl, inr, arith, length-set}
 use Rattle.std.specs.List.{AllByRecursion, sum_by}
 use Rattle.std.proofs.lemmas.List.{append-nil}
 use mathlib.Core.Option.{some}
@@ -8,7 +8,7 @@ use lib.ListN.{get_elem?}
 use Rattle.atomic_table.proofs.Lists.{at_set, set_else, set_here}
 use Rattle.alog_core.specs.History.{Entry, own_of}
 use Rattle.alog_core.proofs.Histories.{own_of-append}
-use Rattle.alog_ring.specs.Sight.{Account, Known, Sight, all_parts}
+use Rattle.alog_ring.specs.Sight.{Account, Known, Sight}
 use Rattle.alog_ring.specs.Made.{AreExact}
 use Rattle.alog_ring.specs.Rule.{parts_of, IsAmong, IsRetired, IsTakenIn, HasAccounts, Told}
 use Rattle.alog_ring.proofs.Lists.{same_or_not, inside, one_value, prefix_same, prefix_longer, each_of, each_of_two, sum_changed}
@@ -38,7 +38,7 @@ module _ {T N : Type 0} where
     exact_longer : (h more : List (Entry T N)) (accounts : List (Account T N)) → AreOf a more → AllByRecursion (λ (c : Account T N). IsRetired views c.actor) accounts → AreExact accounts h → AreExact accounts (h ++ more)
     exact_longer h more accounts of gone exact =
         each_of_two (λ (c : Account T N). c.own ≡ own_of c.actor h) (λ (c : Account T N). IsRetired views c.actor) (λ (c : Account T N). c.own ≡ own_of c.actor (h ++ more)) accounts
-            (λ (c : Account T N) e r. e ∙ sym (others_keep a c.actor h more of (retired_apart views a c.actor v at live r))) exact gone
+        (λ (c : Account T N) e r. e ∙ sym (others_keep a c.actor h more of (retired_apart views a c.actor v at live r))) exact gone
 
     accounts_longer : (h more : List (Entry T N)) (b : ℕ) (k : Known T N) → AreOf a more → b ≢ a → HasAccounts h views b k → HasAccounts (h ++ more) (set views a w) b k
     accounts_longer h more b k of apart has = record {
@@ -52,10 +52,10 @@ module _ {T N : Type 0} where
         let P : List (Account T N) → Type 0 = λ l. IsAmong b l
         in let here : get_elem? (set views a w) a ≡ some w = set_here views a w (inside views a v at)
         in elim (same_or_not by.0 a) [
-          inl same ↦
-            let Q : ℕ → Type 0 = λ i. get_elem? views i ≡ some by.1
-            in let one : by.1 ≡ v = one_value views a by.1 v (subst Q same by.2) at
-            in (a, w, here, omega (arith, parts), subst P (ap (λ (x : Sight T N). x.known.joined) one ∙ sym joined) by.4)
+          | inl same ↦
+              let Q : ℕ → Type 0 = λ i. get_elem? views i ≡ some by.1
+              in let one : by.1 ≡ v = one_value views a by.1 v (subst Q same by.2) at
+              in (a, w, here, omega (arith, parts), subst P (ap (λ (x : Sight T N). x.known.joined) one ∙ sym joined) by.4)
           | inr other ↦ (by.0, by.1, set_else views a by.0 w other ∙ by.2, by.3, by.4)
         ]
 
@@ -86,29 +86,29 @@ module _ {T N : Type 0} where
       first = λ b u e. view_is b u e (λ x. 0 < x.known.parts → x.known.first ≡ f) (λ _. grows.first ∙ told.first a v at live) (λ _ g. told.first b u g);
       seen = λ b u e. view_is b u e (λ x. IsPrefix x.known.seen (h ++ more)) grows.seen (λ _ g. prefix_longer u.known.seen h more (told.seen b u g));
       accounts =
-        λ b u e some_parts.
-            elim (at_set views a b w u e) [
-              inl same ↦
+          λ b u e some_parts.
+          elim (at_set views a b w u e) [
+            | inl same ↦
                 let H : Sight T N → Type 0 = λ x. HasAccounts (h ++ more) (set views a w) a x.known
                 in let G : ℕ → Type 0 = λ c. HasAccounts (h ++ more) (set views a w) c u.known
                 in subst G (sym same.0) (subst H same.1 own_accounts)
-              | inr other ↦ accounts_longer views a v w at live h more b u.known of other.0 (told.accounts b u other.1 some_parts)
-            ];
+            | inr other ↦ accounts_longer views a v w at live h more b u.known of other.0 (told.accounts b u other.1 some_parts)
+          ];
       without =
-        λ b u e none.
-            elim (at_set views a b w u e) [
-              inl same ↦ let p : w.known.parts ≡ u.known.parts = ap (λ (x : Sight T N). x.known.parts) same.1 in absurd (omega (arith, grows.parts))
-              | inr other ↦
+          λ b u e none.
+          elim (at_set views a b w u e) [
+            | inl same ↦ let p : w.known.parts ≡ u.known.parts = ap (λ (x : Sight T N). x.known.parts) same.1 in absurd (omega (arith, grows.parts))
+            | inr other ↦
                 elim (told.without b u other.1 none) [
-                  inl empty ↦ inl (others_keep a b h more of other.0 ∙ empty)
+                  | inl empty ↦ inl (others_keep a b h more of other.0 ∙ empty)
                   | inr taken ↦ inr (still_taken_in views a v w at live b grows.parts grows.joined taken)
                 ]
-            ];
+          ];
       unborn =
-        λ b far.
-            let len : length (set views a w) ≡ length views = length-set views a w
-            in let in_list : a < length views = inside views a v at
-            in others_keep a b h more of (omega arith) ∙ told.unborn b (omega arith);
+          λ b far.
+          let len : length (set views a w) ≡ length views = length-set views a w
+          in let in_list : a < length views = inside views a v at
+          in others_keep a b h more of (omega arith) ∙ told.unborn b (omega arith);
       whole = let e : sum_by parts_of (set views a w) + parts_of v ≡ sum_by parts_of views + parts_of w = sum_changed parts_of views a v w at in omega (arith, grows.parts, told.whole);
     }
       where

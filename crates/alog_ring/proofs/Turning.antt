@@ -1,18 +1,16 @@
 -- What a claim, a write, a grab and a take change of the queue: the look-up of one ticket, and the positions.
-use Rattle.std.proofs.Common.{◌≡◌, ◌≢◌, ℕ, ◌+◌, ◌-◌, ◌<◌, ◌≤◌, ◌⊎◌, List, [], ◌∷◌, ◌++◌, set, Some, None, refl, sym, ap, subst, ◌∙◌, inl, inr, arith}
+use Rattle.std.proofs.Common.{◌≡◌, ◌≢◌, ℕ, ◌+◌, ◌-◌, ◌<◌, ◌≤◌, ◌⊎◌, List, ◌++◌, set, Some, None, refl, sym, ap, subst, ◌∙◌, inl, inr, arith}
 use mathlib.Core.Option.{some}
-use mathlib.Core.List.{IsPrefix}
 use lib.ListN.{get_elem?}
 use Rattle.atomic_table.proofs.Lists.{at_set, set_else, set_here}
-use Rattle.alog_core.specs.declared.mark.Mark.{Mark}
 use Rattle.alog_core.specs.declared.mark.Mark.TheVariants.{Claimed, Written, Emptying}
-use Rattle.alog_core.specs.Queue.{Cell, Queue, Event, Claim, Write, Grab, Take, cell_of, marked, without, HasCell, IsRoom, IsWritten, IsSound, after}
+use Rattle.alog_core.specs.Queue.{Cell, Queue, Claim, Write, Grab, Take, cell_of, HasCell, IsRoom, IsWritten, IsSound, after}
 use Rattle.alog_core.specs.History.{Entry}
-use Rattle.alog_core.proofs.Cells.{cell_of-append_other, cell_of-append_same, cell_of-marked_other, cell_of-marked_same, cell_of-without_other, HasCell-marked}
-use Rattle.alog_core.proofs.Rising.{listed_within, cell_of-without_same}
+use Rattle.alog_core.proofs.Cells.{cell_of-append_other, cell_of-marked_other, cell_of-without_other}
+use Rattle.alog_core.proofs.Rising.{listed_within}
 use Rattle.alog_core.proofs.Sound.{next_is_unlisted}
 use Rattle.alog_ring.specs.Sight.{Known, Stage, Idle, Fresh, SawTail, SawFree, Writing, SawHead, SawFull, Reading, Joined, Lent, Gone, Sight}
-use Rattle.alog_ring.specs.Rule.{IsAtWork, Knows, Staged}
+use Rattle.alog_ring.specs.Rule.{Knows, Staged}
 use Rattle.alog_ring.proofs.Lists.{same_or_not, inside, one_value, prefix_longer}
 
 -- a cell's ticket lies in the last n
@@ -51,7 +49,7 @@ module _ {T : Type 0} (n a : ℕ) (q : Queue T) (sound : IsSound n q) where
     room_of_listed : (r : Queue T) → ((u : ℕ) → t ≢ u → cell_of u r.cells ≡ cell_of u q.cells) → (p : ℕ) → IsRoom n p q.cells → IsRoom n p r.cells
     room_of_listed r others p free u e =
         elim (same_or_not t u) [
-          inl same ↦ let P : ℕ → Type 0 = λ v. cell_of v q.cells ≡ Some c in let here : cell_of u q.cells ≡ Some c = subst P same is in let none : cell_of u q.cells ≡ None = free u e in cc
+          | inl same ↦ let P : ℕ → Type 0 = λ v. cell_of v q.cells ≡ Some c in let here : cell_of u q.cells ≡ Some c = subst P same is in let none : cell_of u q.cells ≡ None = free u e in cc
           | inr apart ↦ others u apart ∙ free u e
         ]
 
@@ -126,14 +124,13 @@ module _ {T N : Type 0} (n a t : ℕ) (q r : Queue T) (turn : Turn n a t q r) (h
   knows_on j k (SawFree p) other is = (is.0, elim turn.next [ inl e ↦ omega (arith, is.1) | inr e ↦ omega (arith, is.1, e.0) ], turn.room p is.1 is.2)
   knows_on j k (Writing p x) other is = (is.0, turn.others p (turn.writers p x j other is.1) ∙ is.1)
   knows_on j k (SawHead p) other is = (is.0, omega (arith, is.1, turn.front))
-  knows_on j k (SawFull p) other is =
-      (
-        is.0,
-        omega (arith, is.1, turn.front),
-        λ high.
-            let old : IsWritten p q.cells = is.2 (omega (arith, turn.front))
-            in (old.0, old.1, turn.others p (turn.written p high old) ∙ old.2),
-      )
+  knows_on j k (SawFull p) other is = (
+    is.0,
+    omega (arith, is.1, turn.front),
+    λ high.
+        let old : IsWritten p q.cells = is.2 (omega (arith, turn.front))
+        in (old.0, old.1, turn.others p (turn.written p high old) ∙ old.2),
+  )
   knows_on j k (Reading p x) other is = (is.0, turn.others p (turn.readers p x j other is.1) ∙ is.1)
   knows_on j k (Joined s) other is = (is.0, prefix_longer s h more is.1)
   knows_on j k Lent other is = tt
@@ -148,42 +145,42 @@ module _ {T N : Type 0} (n a t : ℕ) (q r : Queue T) (turn : Turn n a t q r) (h
       let here : get_elem? (set views a w) a ≡ some w = set_here views a w (inside views a v at)
       in record {
         knows =
-          λ b u e.
-              elim (at_set views a b w u e) [
-                inl same ↦
+            λ b u e.
+            elim (at_set views a b w u e) [
+              | inl same ↦
                   let K : ℕ → Type 0 = λ c. Knows n (h ++ more) r c u.known u.stage
                   in let L : Sight T N → Type 0 = λ x. Knows n (h ++ more) r a x.known x.stage
                   in subst K (sym same.0) (subst L same.1 mine)
-                | inr other ↦ knows_on b u.known u.stage other.0 (staged.knows b u other.1)
-              ];
+              | inr other ↦ knows_on b u.known u.stage other.0 (staged.knows b u other.1)
+            ];
         writers =
-          λ p x b has.
-              elim (same_or_not t p) [
-                inl same ↦
+            λ p x b has.
+            elim (same_or_not t p) [
+              | inl same ↦
                   let H : ℕ → Type 0 = λ z. HasCell r.cells z Claimed x b
                   in let S : ℕ → Type 0 = λ z. w.stage ≡ Writing z x
                   in let now : (b ≡ a) × (w.stage ≡ Writing t x) = now_write x b (subst H (sym same) has)
                   in let G : ℕ → Type 0 = λ c. get_elem? (set views a w) c ≡ some w
                   in (w, subst G (sym now.0) here, subst S same now.1)
-                | inr apart ↦
+              | inr apart ↦
                   let old : (u : Sight T N) × (get_elem? views b ≡ some u) × (u.stage ≡ Writing p x) = staged.writers p x b (sym (turn.others p apart) ∙ has)
                   in let not_me : b ≢ a = λ e. let G : ℕ → Type 0 = λ c. get_elem? views c ≡ some old.0 in let is : old.0 ≡ v = one_value views a old.0 v (subst G e old.1) at in apart (left_write p x (sym (ap (λ (z : Sight T N). z.stage) is) ∙ old.2))
                   in (old.0, set_else views a b w not_me ∙ old.1, old.2)
-              ];
+            ];
         readers =
-          λ p x b has.
-              elim (same_or_not t p) [
-                inl same ↦
+            λ p x b has.
+            elim (same_or_not t p) [
+              | inl same ↦
                   let H : ℕ → Type 0 = λ z. HasCell r.cells z Emptying x b
                   in let S : ℕ → Type 0 = λ z. w.stage ≡ Reading z x
                   in let now : (b ≡ a) × (w.stage ≡ Reading t x) = now_read x b (subst H (sym same) has)
                   in let G : ℕ → Type 0 = λ c. get_elem? (set views a w) c ≡ some w
                   in (w, subst G (sym now.0) here, subst S same now.1)
-                | inr apart ↦
+              | inr apart ↦
                   let old : (u : Sight T N) × (get_elem? views b ≡ some u) × (u.stage ≡ Reading p x) = staged.readers p x b (sym (turn.others p apart) ∙ has)
                   in let not_me : b ≢ a = λ e. let G : ℕ → Type 0 = λ c. get_elem? views c ≡ some old.0 in let is : old.0 ≡ v = one_value views a old.0 v (subst G e old.1) at in apart (left_read p x (sym (ap (λ (z : Sight T N). z.stage) is) ∙ old.2))
                   in (old.0, set_else views a b w not_me ∙ old.1, old.2)
-              ];
+            ];
       }
 
 -- the stages after a step that changes nothing, of a seat that was at work on no cell

@@ -7,7 +7,7 @@ use lib.ListN.{get_elem?}
 use Rattle.atomic_table.specs.Table.{Me}
 use Rattle.alog_core.specs.Queue.{Cell, Event, Claim, Write, Grab, Take, start}
 use Rattle.alog_core.specs.History.{Entry, left_by}
-use Rattle.alog_ring.specs.Sight.{Known, Sight, Idle, RingId, PassView, first_known}
+use Rattle.alog_ring.specs.Sight.{Known, Sight, Idle, RingId, PassView}
 use Rattle.alog_ring.specs.Rule.{seq_of, word_count}
 use Rattle.alog_ring.specs.Made.{IsFaithful, Made, EndsWith}
 use Rattle.alog_ring.specs.Parts.{with_fewer, apart_from, having_seen, with_other, IsLonger, IsWhole}

@@ -1,8 +1,8 @@
 -- What a call tells of a pass: how the history that it has seen grew, and which entries the pass made.
-use Rattle.std.specs.Prelude.{◌≡◌, ℕ, ◌<◌, ◌≤◌, List, [], ◌∷◌, ◌++◌}
+use Rattle.std.specs.Prelude.{◌≡◌, ℕ, List, [], ◌∷◌, ◌++◌}
 use Rattle.std.specs.List.{AllByRecursion}
 use mathlib.Core.List.{IsPrefix}
-use Rattle.alog_core.specs.Queue.{Event, start}
+use Rattle.alog_core.specs.Queue.{start}
 use Rattle.alog_core.specs.History.{Entry, IsLegal, left_by, own_of}
 use Rattle.alog_ring.specs.Sight.{Account, Known}
 

@@ -1,12 +1,12 @@
 -- How passes are cut, joined and shown to each other.
-use Rattle.std.specs.Prelude.{◌≡◌, ℕ, ◌+◌, ◌-◌, ◌<◌, ◌≤◌, ◌⊎◌, List, [], ◌∷◌, ◌++◌, Some}
+use Rattle.std.specs.Prelude.{◌≡◌, ℕ, ◌+◌, ◌-◌, ◌≤◌, ◌⊎◌, List, [], ◌∷◌, ◌++◌, Some}
 use Rattle.std.specs.List.{AllByRecursion}
 use mathlib.Core.List.{IsPrefix}
 use Rattle.atomic_table.specs.Table.{Me}
 use Rattle.alog_core.specs.declared.mark.Mark.TheVariants.{Written}
 use Rattle.alog_core.specs.Queue.{Cell, start, cell_of}
 use Rattle.alog_core.specs.History.{Entry, IsLegal, left_by, own_of}
-use Rattle.alog_ring.specs.Sight.{Account, Known, Stage, Idle, Fresh, Joined, Lent, Gone, Sight, all_parts}
+use Rattle.alog_ring.specs.Sight.{Account, Known, Idle, Fresh, Joined, Lent, Gone, Sight, all_parts}
 use Rattle.alog_ring.specs.Made.{AreExact, IsFaithful, Made}
 use Rattle.alog_ring.specs.Rule.{IsAmong}
 

@@ -1,6 +1,6 @@
 -- What each step tells the pass that makes it.
-use Rattle.std.specs.Prelude.{◌≡◌, ◌≢◌, ℕ, ◌+◌, ◌*◌, ◌%◌, ◌<◌, ◌≤◌, List, [], ◌∷◌, ◌++◌}
-use mathlib.Core.Option.{Option, some, none}
+use Rattle.std.specs.Prelude.{◌≡◌, ◌≢◌, ℕ, ◌+◌, ◌%◌, ◌<◌, ◌≤◌, List, [], ◌∷◌}
+use mathlib.Core.Option.{some}
 use Rattle.atomic_table.specs.Table.{Me, Step, rest}
 use Rattle.alog_core.specs.Queue.{Event, Claim, Write, Grab, Take, Full, Empty, PushBusy, PopBusy, Spent, last}
 use Rattle.alog_core.specs.History.{Entry}

@@ -1,5 +1,5 @@
 -- What a refusal of a push and of a pop says: its ticket was read in this round, and it is the pass's one entry.
-use Rattle.std.specs.Prelude.{◌≡◌, ℕ, ◌≤◌}
+use Rattle.std.specs.Prelude.{◌≡◌, ◌≤◌}
 use Rattle.alog_core.specs.Queue as queue
 use Rattle.alog_ring.specs.Sight.{Known}
 use Rattle.alog_ring.specs.Made.{next_seen, front_seen}

@@ -1,5 +1,5 @@
 -- Calls that begin again while another is in the way.
-use Rattle.std.specs.Prelude.{◌≡◌, ℕ, ◌≤◌}
+use Rattle.std.specs.Prelude.{ℕ, ◌≤◌}
 use Rattle.alog_core.specs.Queue as queue
 use Rattle.alog_ring.specs.Sight.{Known}
 use Rattle.alog_ring.specs.Made.{next_seen, front_seen}

@@ -1,11 +1,14 @@
-//! The running ring: a bounded queue for any number of threads that push and pop.
+//! The running ring: a bounded queue for any number of threads that push and pop, without a lock.
 //!
 //! Its rule is that of Dmitry Vyukov's bounded queue for many producers and many consumers (1024cores.net). Contracts
-//! see no word and no place: they speak of one history of claims, writes, grabs, takes and refusals (`alog_core`), of
-//! which each pass has seen a beginning, and of the pass's own entries in it.
+//! see no word and no place of it. They speak of the queue of `alog_core`: there is one history of claims, writes,
+//! grabs, takes and refusals for all threads. A `Pass`, with which a thread works, has seen a beginning of it, which is
+//! legal, and knows which entries in it are its own: exactly those that its calls made.
 //!
-//! Read `view.rt` (what a pass knows, and the rule), `plays.rt` (what each step tells), `board.rt` (the steps),
-//! `pass.rt`, `ring.rt` (a ring and its first pass), `push.rt`, `split.rt`.
+//! Read `ring.rt` (a ring and its first pass), `pass.rt`, `push.rt`, `pop.rt`, `wait.rt` (both until they are not busy),
+//! `share.rt` (passes split, joined and shown to each other) and `close.rt`. Below them lie `board.rt` (the words and
+//! places, and each step on them), `view.rt` (the rule that each step keeps) and `plays.rt` (what each step tells). In
+//! `specs/`, `Sight` is what a pass knows, `Made` and `Calls` are what the calls promise, and `Rule` is the rule.
 #![tactic(auto)]
 
 mod board;

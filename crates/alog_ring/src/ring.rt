@@ -78,7 +78,13 @@ impl<T> Ring<T> {
             return Err(NewError::OutOfMemory);
         };
         match Board::new(alloc, places, first) {
-            Ok((board, seat)) => Ok((Ring { board, left }, Pass { seat, parts: ALL_PARTS })),
+            Ok((board, seat)) => Ok((
+                Ring { board, left },
+                Pass {
+                    seat,
+                    parts: ALL_PARTS,
+                },
+            )),
             Err(_) => {
                 left.destroy_empty();
                 Err(NewError::OutOfMemory)

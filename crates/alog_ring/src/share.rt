@@ -33,11 +33,7 @@ impl<T> Board<T> {
     }
 
     /// Takes the other's parts and accounts in.
-    fn take_in(
-        &self,
-        seat: &mut Seat<Option<T>, View<T, ()>>,
-        other: Seat<Option<T>, View<T, ()>>,
-    )
+    fn take_in(&self, seat: &mut Seat<Option<T>, View<T, ()>>, other: Seat<Option<T>, View<T, ()>>)
         requires table { (seat.old.table_id ≡ self.now.table.shared.table_id) × (other.table_id ≡ self.now.table.shared.table_id) }
         requires stage { (seat.old.me.0.stage ≡ Idle) × (other.me.0.stage ≡ Idle) }
         requires some { (0 < seat.old.me.0.known.parts) × (0 < other.me.0.known.parts) }

@@ -1,14 +1,28 @@
+ghost use Rattle.alog_ring.specs.Calls.{IsPassOf};
+
 use super::*;
-use std::alloc::Global;
+use std::alloc::{AllocError, Global};
+use std::sync::Wait;
+use std::sync::atomic::{AtomicU64, Ordering};
 use std::test::Fail;
+use std::thread;
 
 #[test]
 fn takes_sizes_and_first_tickets(rt: HostRuntime) -> Result<(), Fail> {
     for places in [0, 1, 3, 131_072] {
-        assert_eq!(rt; Ring::<u64>::new(rt.alloc(), places, 0).err(), Some(NewError::BadSize));
+        assert_eq!(rt;
+            Ring::<u64>::new(rt.alloc(), places, 0).err(),
+            Some(NewError::BadSize)
+        );
     }
-    assert_eq!(rt; Ring::<u64>::new(rt.alloc(), 3, 1 << 62).err(), Some(NewError::BadSize));
-    assert_eq!(rt; Ring::<u64>::new(rt.alloc(), 2, 1 << 62).err(), Some(NewError::BadFirst));
+    assert_eq!(rt;
+        Ring::<u64>::new(rt.alloc(), 3, 1 << 62).err(),
+        Some(NewError::BadSize)
+    );
+    assert_eq!(rt;
+        Ring::<u64>::new(rt.alloc(), 2, 1 << 62).err(),
+        Some(NewError::BadFirst)
+    );
     assert!(rt; Ring::<u64>::new(rt.alloc(), 2, (1 << 62) - 1).is_ok());
     assert!(rt; Ring::<u64>::new(rt.alloc(), 65_536, 0).is_ok());
     Ok(())
@@ -19,7 +33,12 @@ fn a_ring_of_two(rt: HostRuntime) -> Result<(), Fail> {
     let (ring, mut pass) = Ring::<u64>::new(rt.alloc(), 2, 5)?;
     assert!(rt; matches!(ring.push_once(&mut pass, 7), Ok(5)));
     assert!(rt; matches!(ring.push_once(&mut pass, 8), Ok(6)));
-    assert!(rt; matches!(ring.push_once(&mut pass, 9), Err(PushError::Full { value: 9, next: 7 })));
+    assert!(rt;
+        matches!(
+            ring.push_once(&mut pass, 9),
+            Err(PushError::Full { value: 9, next: 7 })
+        )
+    );
     assert_eq!(rt; ring.pop_once(&mut pass), Ok((5, 7)));
     let mut other = ring.split(&mut pass, 1);
     assert_eq!(rt; (pass.parts(), other.parts()), ((1 << 32) - 1, 1));
@@ -34,5 +53,220 @@ fn a_ring_of_two(rt: HostRuntime) -> Result<(), Fail> {
         panic!(rt; "no pass is out")
     };
     assert_eq!(rt; left.as_slice(), [(6, 8)].as_slice());
+    Ok(())
+}
+
+#[test]
+fn the_last_ticket_of_all(rt: HostRuntime) -> Result<(), Fail> {
+    let last = (1 << 62) - 1;
+    let (ring, mut pass) = Ring::<u64>::new(rt.alloc(), 2, last)?;
+    assert!(rt; matches!(ring.push(&rt, &mut pass, 1), Ok(4_611_686_018_427_387_903)));
+    assert!(rt;
+        matches!(
+            ring.push(&rt, &mut pass, 2),
+            Err(PushError::Spent { value: 2 })
+        )
+    );
+    assert_eq!(rt; ring.pop(&rt, &mut pass), Ok((last, 1)));
+    assert_eq!(rt;
+        ring.pop(&rt, &mut pass),
+        Err(PopError::Empty { next: 1 << 62 })
+    );
+    Ok(())
+}
+
+// A drop writes its digit behind those of the drops before.
+struct Noted<'a>(&'a AtomicU64, u64);
+
+impl<'a> Drop for Noted<'a> {
+    fn drop(self) {
+        let Self(drops, digit) = self;
+        let before = drops.load(Ordering::SeqCst);
+        drops.store(
+            before.wrapping_mul(10).wrapping_add(digit),
+            Ordering::SeqCst,
+        );
+    }
+}
+
+#[test]
+fn drops_each_value_once(rt: HostRuntime) -> Result<(), Fail> {
+    let drops = AtomicU64::new(0);
+    let (ring, mut pass) = Ring::new(rt.alloc(), 2, 0)?;
+    assert!(rt; ring.push_once(&mut pass, Noted(&drops, 1)).is_ok());
+    assert!(rt; ring.push_once(&mut pass, Noted(&drops, 2)).is_ok());
+    drop(ring.push_once(&mut pass, Noted(&drops, 3)));
+    assert!(rt; drops.load(Ordering::SeqCst) == 3);
+    drop(ring.pop_once(&mut pass));
+    assert!(rt; drops.load(Ordering::SeqCst) == 31);
+    drop(ring);
+    assert!(rt; drops.load(Ordering::SeqCst) == 312);
+    Ok(())
+}
+
+fn push_text(
+    alloc: Global,
+    ring: &Ring<String>,
+    pass: &mut Pass<String>,
+    text: &str,
+) -> Result<bool, AllocError>
+    requires { IsPassOf ring.now pass.old }
+    ensures { IsPassOf ring.now pass.new }
+{
+    let text = String::from_str(alloc, text)?;
+    Ok(ring.push_once(pass, text).is_ok())
+}
+
+#[test]
+fn keeps_values_that_own_memory(rt: HostRuntime) -> Result<(), Fail> {
+    let (ring, mut pass) = Ring::new(rt.alloc(), 4, 0)?;
+    assert!(rt; push_text(rt.alloc(), &ring, &mut pass, "a")?);
+    assert!(rt; push_text(rt.alloc(), &ring, &mut pass, "bc")?);
+    assert!(rt; push_text(rt.alloc(), &ring, &mut pass, "def")?);
+    let Ok((ticket, text)) = ring.pop_once(&mut pass) else {
+        panic!(rt; "three are there")
+    };
+    assert_eq!(rt; (ticket, text.as_str()), (0, "a"));
+    let Ok(left) = ring.close(pass) else {
+        panic!(rt; "no pass is out")
+    };
+    let mut lengths = left.iter().map(|(ticket, text)| (*ticket, text.len()));
+    assert_eq!(rt;
+        (lengths.next(), lengths.next()),
+        (Some((1, 2)), Some((2, 3)))
+    );
+    Ok(())
+}
+
+// Pushes until the ring takes the value.
+fn push_until(rt: &impl Wait, ring: &Ring<u64>, pass: &mut Pass<u64>, value: u64) -> u64
+    requires { IsPassOf ring.now pass.old }
+    ensures { IsPassOf ring.now pass.new }
+{
+    for _ in rt.forever() {
+        match ring.push(rt, pass, value) {
+            Ok(ticket) => return ticket,
+            Err(_) => thread::yield_now(),
+        }
+    }
+    unreachable!()
+}
+
+// Pops until there is a value.
+fn pop_until(rt: &impl Wait, ring: &Ring<u64>, pass: &mut Pass<u64>) -> u64
+    requires { IsPassOf ring.now pass.old }
+    ensures { IsPassOf ring.now pass.new }
+{
+    for _ in rt.forever() {
+        match ring.pop(rt, pass) {
+            Ok((_, value)) => return value,
+            Err(_) => thread::yield_now(),
+        }
+    }
+    unreachable!()
+}
+
+// A ring, and a pass of it.
+#[derive(Drop)]
+struct Worker<'a> {
+    ring: &'a Ring<u64>,
+    pass: Pass<u64>,
+    ghost fits: { IsPassOf ring.now pass },
+}
+
+// Pushes the numbers from `from` to `to`, and answers their tickets.
+fn push_all(
+    rt: &impl Wait,
+    alloc: Global,
+    worker: Worker,
+    from: u64,
+    to: u64,
+) -> Result<Vec<u64>, AllocError> {
+    let Worker { ring, mut pass } = worker;
+    let mut tickets = Vec::new(alloc);
+    for value in from..to {
+        tickets.push(push_until(rt, ring, &mut pass, value))?;
+    }
+    Ok(tickets)
+}
+
+// Pops so many values.
+fn pop_all(
+    rt: &impl Wait,
+    alloc: Global,
+    worker: Worker,
+    count: u64,
+) -> Result<Vec<u64>, AllocError> {
+    let Worker { ring, mut pass } = worker;
+    let mut values = Vec::new(alloc);
+    for _ in 0..count {
+        values.push(pop_until(rt, ring, &mut pass))?;
+    }
+    Ok(values)
+}
+
+// Whether these are the numbers below `count`, each once.
+fn are_all_below(mut one: Vec<u64>, two: Vec<u64>, count: u64) -> Result<bool, AllocError> {
+    one.extend_from_slice(two.as_slice())?;
+    one.sort()?;
+    Ok(one.as_slice().iter().copied().eq(0..count))
+}
+
+#[test]
+fn two_threads_push(rt: HostRuntime) -> Result<(), Fail> {
+    let alloc = rt.alloc();
+    let (ring, mut pass) = Ring::<u64>::new(alloc, 1024, 0)?;
+    let ring = &ring;
+    let other = Worker {
+        ring,
+        pass: ring.split(&mut pass, 1 << 31),
+    };
+    let worker = Worker { ring, pass };
+    let (one, two) = thread::join(
+        &rt,
+        || push_all(&rt, alloc, worker, 0, 500),
+        || push_all(&rt, alloc, other, 500, 1000),
+    );
+    assert!(rt; are_all_below(one?, two?, 1000)?);
+    Ok(())
+}
+
+#[test]
+fn two_threads_push_and_two_pop(rt: HostRuntime) -> Result<(), Fail> {
+    let alloc = rt.alloc();
+    let (ring, mut pass) = Ring::<u64>::new(alloc, 8, (1 << 62) - 4000)?;
+    let ring = &ring;
+    let second = Worker {
+        ring,
+        pass: ring.split(&mut pass, 1),
+    };
+    let third = Worker {
+        ring,
+        pass: ring.split(&mut pass, 1),
+    };
+    let fourth = Worker {
+        ring,
+        pass: ring.split(&mut pass, 1),
+    };
+    let first = Worker { ring, pass };
+    let (pushes, pops) = thread::join(
+        &rt,
+        || {
+            thread::join(
+                &rt,
+                || push_all(&rt, alloc, first, 0, 1000),
+                || push_all(&rt, alloc, second, 1000, 2000),
+            )
+        },
+        || {
+            thread::join(
+                &rt,
+                || pop_all(&rt, alloc, third, 1000),
+                || pop_all(&rt, alloc, fourth, 1000),
+            )
+        },
+    );
+    assert!(rt; pushes.0.is_ok() && pushes.1.is_ok());
+    assert!(rt; are_all_below(pops.0?, pops.1?, 2000)?);
     Ok(())
 }

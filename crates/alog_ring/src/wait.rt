@@ -26,7 +26,12 @@ impl<T> Ring<T> {
         let backoff = Backoff::new();
         for _ in rt.forever() {
             match self.push_once(pass, value) {
-                Err(PushError::Busy { value: back, seen: _ }) => value = back,
+                Err(
+                    PushError::Busy {
+                        value: back,
+                        seen: _,
+                    },
+                ) => value = back,
                 answer => return answer,
             }
             backoff.spin();

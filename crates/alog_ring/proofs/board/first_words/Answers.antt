@@ -1,5 +1,5 @@
-use Rattle.std.proofs.Common.{ℕ, ◌≡◌, ◌+◌, ◌*◌, ◌%◌, ◌<◌, ◌≤◌, List, length, ◌∙◌, arith, get_or-set_other, length-set, mod-lt}
-use Rattle.alog_ring.specs.Rule.{seq_of, word_count}
+use Rattle.std.proofs.Common.{ℕ, ◌+◌, ◌<◌, ◌≤◌, List, ◌∙◌, arith, get_or-set_other, length-set}
+use Rattle.alog_ring.specs.Rule.{seq_of}
 use Rattle.alog_ring.proofs.Starting.{words_more}
 use Rattle.alog_ring.proofs.board.first_words.Goals as goal
 

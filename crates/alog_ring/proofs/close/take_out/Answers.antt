@@ -1,4 +1,4 @@
-use Rattle.std.proofs.Common.{◌≡◌, ℕ, ◌+◌, ◌-◌, ◌%◌, ◌<◌, ◌≤◌, Bool, true, false, Option, Some, None, List, [], ◌∷◌, ◌++◌, length, get_or, set, bit_and, vec_capacity, refl, sym, ap, subst, ◌∙◌, arith}
+use Rattle.std.proofs.Common.{◌≡◌, ℕ, ◌+◌, ◌%◌, ◌<◌, ◌≤◌, Bool, false, Option, Some, None, List, [], ◌∷◌, ◌++◌, set, bit_and, vec_capacity, sym, ap, subst, ◌∙◌, arith}
 use lib.ListN.{get_elem?}
 use mathlib.Core.Option as maybe
 use Rattle.std.specs.Mem.Slots.{slots_items, slots_filled, slots_len, slots_counts}
@@ -34,29 +34,29 @@ loop-i-preserved g c =
     in let some : 1 ≤ n = omega arith
     in let low : i < n = c.loop-i-test.true
     in elim c.match-take.branch [
-      in-Some w ↦
-        let x : g.row.T.Denot = w.in-Some.value
-        in let left : c.match-take.left.items ≡ c.loop-i.left.items ++ (c.args.first + i, x) ∷ [] = ap (λ v. v.items) w.left-is ∙ w.push_reserved.ensures.items
-        in let got : get_elem? now place ≡ maybe.some (Some x) = value ∙ ap maybe.some w.in-Some.is
-        in let done = takes_value n c.args.first i before now filled c.loop-i.left.items inv.0 some low x got
-        in (
-          subst (λ (z : List (Option g.row.T.Denot)). HasTaken n c.args.first (i + 1) before z (slots_filled c.take.new.self.slots) c.match-take.left.items) (sym others.0)
-              (subst (λ (z : List Bool). HasTaken n c.args.first (i + 1) before now z c.match-take.left.items) (sym filled_now)
-                  (subst (λ (z : List (ℕ × g.row.T.Denot)). HasTaken n c.args.first (i + 1) before now (set filled place false) z) (sym left) done)),
-          len,
-          subst (λ v. n ≤ vec_capacity v) (sym w.left-is) (omega (arith, inv.2, w.push_reserved.ensures.capacity)),
-        )
+      | in-Some w ↦
+          let x : g.row.T.Denot = w.in-Some.value
+          in let left : c.match-take.left.items ≡ c.loop-i.left.items ++ (c.args.first + i, x) ∷ [] = ap (λ v. v.items) w.left-is ∙ w.push_reserved.ensures.items
+          in let got : get_elem? now place ≡ maybe.some (Some x) = value ∙ ap maybe.some w.in-Some.is
+          in let done = takes_value n c.args.first i before now filled c.loop-i.left.items inv.0 some low x got
+          in (
+            subst (λ (z : List (Option g.row.T.Denot)). HasTaken n c.args.first (i + 1) before z (slots_filled c.take.new.self.slots) c.match-take.left.items) (sym others.0)
+                (subst (λ (z : List Bool). HasTaken n c.args.first (i + 1) before now z c.match-take.left.items) (sym filled_now)
+                (subst (λ (z : List (ℕ × g.row.T.Denot)). HasTaken n c.args.first (i + 1) before now (set filled place false) z) (sym left) done)),
+            len,
+            subst (λ v. n ≤ vec_capacity v) (sym w.left-is) (omega (arith, inv.2, w.push_reserved.ensures.capacity)),
+          )
       | in-None w ↦
-        let left : c.match-take.left.items ≡ c.loop-i.left.items = ap (λ v. v.items) w.left-is
-        in let got : get_elem? now place ≡ maybe.some None = value ∙ ap maybe.some w.in-None.is
-        in let done = takes_nothing n c.args.first i before now filled c.loop-i.left.items inv.0 some low got
-        in (
-          subst (λ (z : List (Option g.row.T.Denot)). HasTaken n c.args.first (i + 1) before z (slots_filled c.take.new.self.slots) c.match-take.left.items) (sym others.0)
-              (subst (λ (z : List Bool). HasTaken n c.args.first (i + 1) before now z c.match-take.left.items) (sym filled_now)
-                  (subst (λ (z : List (ℕ × g.row.T.Denot)). HasTaken n c.args.first (i + 1) before now (set filled place false) z) (sym left) done)),
-          len,
-          subst (λ v. n ≤ vec_capacity v) (sym w.left-is) inv.2,
-        )
+          let left : c.match-take.left.items ≡ c.loop-i.left.items = ap (λ v. v.items) w.left-is
+          in let got : get_elem? now place ≡ maybe.some None = value ∙ ap maybe.some w.in-None.is
+          in let done = takes_nothing n c.args.first i before now filled c.loop-i.left.items inv.0 some low got
+          in (
+            subst (λ (z : List (Option g.row.T.Denot)). HasTaken n c.args.first (i + 1) before z (slots_filled c.take.new.self.slots) c.match-take.left.items) (sym others.0)
+                (subst (λ (z : List Bool). HasTaken n c.args.first (i + 1) before now z c.match-take.left.items) (sym filled_now)
+                (subst (λ (z : List (ℕ × g.row.T.Denot)). HasTaken n c.args.first (i + 1) before now (set filled place false) z) (sym left) done)),
+            len,
+            subst (λ v. n ≤ vec_capacity v) (sym w.left-is) inv.2,
+          )
     ]
 
 pub free-requires : goal.free-requires

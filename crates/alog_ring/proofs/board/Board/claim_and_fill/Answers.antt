@@ -1,4 +1,4 @@
-use Rattle.std.proofs.Common.{ℕ, ◌≡◌, ◌<◌, ◌+◌, ◌*◌, ◌%◌, sym, ap, ◌∙◌, refl, arith}
+use Rattle.std.proofs.Common.{ℕ, ◌≡◌, ◌+◌, ◌*◌, ◌%◌, sym, ap, ◌∙◌, refl, arith}
 use Rattle.alog_ring.specs.Rule.{seq_of}
 use Rattle.alog_ring.proofs.Places.{claim_may, write_may}
 use Rattle.alog_ring.proofs.Calling.{filling_stage, filling_place, fills}
@@ -40,4 +40,4 @@ returns-clause-told g c =
     in let told = c.compare_exchange_with-found.ensures.2
     in let stage = filling_stage slots t (t + 1) c.place_of-place.result c.compare_exchange_with-found.result n c.args.value c.args.seat.now.me c.compare_exchange_with-found.new.seat.me c.exchange.new.seat.me told c.if-found-ticket.false c.exchange.ensures.3 place
     in fills slots t (t + 1) c.place_of-place.result c.compare_exchange_with-found.result n c.args.value c.args.seat.now.me c.compare_exchange_with-found.new.seat.me c.exchange.new.seat.me told c.if-found-ticket.false c.exchange.ensures.3 place
-        c.store.new.seat.me (c.store.ensures.2 t c.args.value stage)
+    c.store.new.seat.me (c.store.ensures.2 t c.args.value stage)

@@ -1,4 +1,4 @@
-use Rattle.std.proofs.Common.{◌≡◌, ℕ, ◌+◌, ◌≤◌, List, map, sym, ap, subst, ◌∙◌, arith}
+use Rattle.std.proofs.Common.{◌≡◌, ℕ, List, map, sym, subst, arith}
 use Rattle.std.specs.Mem.Slots.{slots_items}
 use Rattle.alog_core.specs.Queue.{Cell}
 use Rattle.alog_ring.specs.Calls.{LieIn, ticket_and_item}
@@ -22,4 +22,4 @@ returns g c =
     in let left : List (ℕ × g.row.T.Denot) = c.take_out.result.items
     in let A : ℕ → Type 0 = λ z. (cells : List (Cell g.row.T.Denot)) → LieIn (slots_items c.close_with-closed.result.slots) c.word-first.result z cells → left ≡ map ticket_and_item cells
     in closes key.places key.first c.args.seat.id c.args.seat.me.0 (slots_items c.close_with-closed.result.words) (slots_items c.close_with-closed.result.slots) fin c.requires.stage c.requires.all c.word-first.result left c.word-first.ensures
-        (subst A (sym sized.2) c.take_out.ensures)
+    (subst A (sym sized.2) c.take_out.ensures)

@@ -1,4 +1,4 @@
-use Rattle.std.proofs.Common.{ℕ, ◌≡◌, ◌<◌, ◌+◌, ◌*◌, ◌%◌, ◌∷◌, sym, ap, subst, ◌∙◌, refl, Option, Some, None, arith}
+use Rattle.std.proofs.Common.{ℕ, ◌≡◌, ◌+◌, ◌*◌, ◌%◌, ◌∷◌, sym, ap, subst, ◌∙◌, refl, Option, Some, None, arith}
 use Rattle.std.specs.Prelude.{MatchOption}
 use Rattle.atomic_table.specs.Table.{rest}
 use Rattle.alog_core.specs.Queue.{PopBusy}
@@ -23,7 +23,7 @@ exchange-item-requires g c =
     let sized = c.args.self.now.sized
     in let did = c.compare_exchange_with-found.ensures.2.0 c.if-found-ticket.false
     in let slot : c.place_of-place.result ≡ c.compare_exchange_with-found.result % c.args.self.now.table.shared.table_id.slots =
-      c.place_of-place.ensures.place ∙ (λ i. sym c.if-found-ticket.false i % sym sized.1 i)
+    c.place_of-place.ensures.place ∙ (λ i. sym c.if-found-ticket.false i % sym sized.1 i)
     in (c.compare_exchange_with-found.ensures.0 ∙ c.requires.table, (Some did.0, did.2 ∙ (λ i. (sym slot i, Some did.0) ∷ sym (ap rest did.2) i)))
 
 pub store-requires : goal.store-requires
@@ -57,5 +57,5 @@ returns-clause-told g c =
     in let is = emptied_value slots t (t + 1) c.place_of-place.result c.compare_exchange_with-found.result n None c.args.seat.now.me c.compare_exchange_with-found.new.seat.me c.exchange-item.new.seat.me told c.if-found-ticket.false c.exchange-item.ensures.3 place c.exchange-item.result c.exchange-item.ensures.2
     in let P : Option g.row.T.Denot → Type 0 = λ o. MatchOption o (Ends tt c.args.seat.now.me c.store.new.seat.me (PopBusy t)) (λ y. Empties c.args.seat.now.me c.store.new.seat.me t y)
     in subst P (sym is)
-        (empties slots t (t + 1) c.place_of-place.result c.compare_exchange_with-found.result n None c.args.seat.now.me c.compare_exchange_with-found.new.seat.me c.exchange-item.new.seat.me told c.if-found-ticket.false c.exchange-item.ensures.3 place
-            c.store.new.seat.me (c.store.ensures.2 t x stage))
+    (empties slots t (t + 1) c.place_of-place.result c.compare_exchange_with-found.result n None c.args.seat.now.me c.compare_exchange_with-found.new.seat.me c.exchange-item.new.seat.me told c.if-found-ticket.false c.exchange-item.ensures.3 place
+    c.store.new.seat.me (c.store.ensures.2 t x stage))

@@ -1,4 +1,4 @@
-use Rattle.std.proofs.Common.{ℕ, ◌≡◌, ◌+◌, ◌-◌, ◌<◌, ◌≤◌, List, subst, sym, ap, ◌∙◌, refl, arith}
+use Rattle.std.proofs.Common.{ℕ, ◌≡◌, ◌+◌, ◌-◌, ◌≤◌, List, subst, sym, ap, ◌∙◌, refl, arith}
 use Rattle.alog_ring.specs.Rule.{word_count}
 use Rattle.alog_ring.specs.Calls.{AreFirstWords}
 use Rattle.alog_ring.proofs.Starting.{masks, starts}

@@ -1,4 +1,4 @@
-use Rattle.std.proofs.Common.{ℕ, ◌≡◌, ◌<◌, ◌+◌, ◌*◌, ◌%◌, sym, ap, ◌∙◌, arith}
+use Rattle.std.proofs.Common.{ℕ, ◌≡◌, ◌+◌, ◌*◌, ◌%◌, sym, ap, ◌∙◌, arith}
 use Rattle.alog_ring.specs.Rule.{seq_of}
 use Rattle.alog_ring.proofs.Places.{see_free_may}
 use Rattle.alog_ring.proofs.board.Board.see_free.Goals as goal

@@ -1,4 +1,4 @@
-use Rattle.std.proofs.Common.{◌≡◌, ℕ, ◌+◌, ◌<◌, refl, sym, ap, subst, ◌∙◌, arith}
+use Rattle.std.proofs.Common.{ℕ, ◌<◌, sym, ap, subst, ◌∙◌, arith}
 use Rattle.alog_ring.specs.Kinds.{some_value, no_value}
 use Rattle.alog_ring.proofs.Joining.{joins}
 use Rattle.alog_ring.proofs.Places.{see_both_may}

@@ -1,4 +1,4 @@
-use Rattle.std.proofs.Common.{◌≡◌, refl, subst, ◌∙◌}
+use Rattle.std.proofs.Common.{refl, subst, ◌∙◌}
 use Rattle.alog_ring.specs.Refused.{PushRefused}
 use Rattle.alog_ring.specs.Waits.{BusyPushes}
 use Rattle.alog_ring.specs.declared.push.PushError.{PushError}
