@@ -10,6 +10,16 @@ use crate::ring::Ring;
 use crossbeam_utils::Backoff;
 use std::sync::Wait;
 
+/// Steps of the backoff for each busy round. With one, many threads are mostly in each other's way.
+const STEPS: u32 = 4;
+
+/// Lets the thread that is in the way get on.
+fn give_way(backoff: &Backoff) {
+    for _ in 0..STEPS {
+        backoff.spin();
+    }
+}
+
 impl<T> Ring<T> {
     /// Rounds of a push, until one is not busy. It backs off between them.
     pub fn push(
@@ -34,7 +44,7 @@ impl<T> Ring<T> {
                 ) => value = back,
                 answer => return answer,
             }
-            backoff.spin();
+            give_way(&backoff);
         }
         unreachable!()
     }
@@ -52,7 +62,7 @@ impl<T> Ring<T> {
                 Err(PopError::Busy { seen: _ }) => {}
                 answer => return answer,
             }
-            backoff.spin();
+            give_way(&backoff);
         }
         unreachable!()
     }
