@@ -12,7 +12,7 @@ use Rattle.alog_core.specs.History.{left_by, own_of}
 use Rattle.alog_core.proofs.Cells.{at_same, at_other}
 use Rattle.alog_core.proofs.Rising.{bounds_of_rising, listed_within, unlisted_below}
 use Rattle.alog_core.proofs.Sound.{length-sound}
-use Rattle.alog_ring.specs.Sight.{Known, Stage, Idle, Sight, all_parts, IsAmong, AreDistinct}
+use Rattle.alog_ring.specs.Sight.{Known, Stage, Idle, Sight, all_parts, IsAmong}
 use Rattle.alog_ring.specs.Kinds.{no_note, some_value, no_value}
 use Rattle.alog_ring.specs.Rule.{IsAtWork, HasAccounts, Knows, seq_of, ShowsCell, Ruled}
 use Rattle.alog_ring.specs.Calls.{ticket_and_item, AreInRow, value_at, LieIn, Closes}

@@ -135,7 +135,7 @@ module _ {S T N : Type 0} (kind : PlaceKind S T N) (n f slots id : ℕ) (me : Me
         (
           id,
           refl,
-          record { legal = legal_prefix kind n f s r id me.0 at live k.seen seen; own = none ∙ sym (no_more (own_of id k.seen) (omega arith)); joined = subst E (sym alone) tt; distinct = (let D : List (Account T N) → Type 0 = λ l. AreDistinct (record { actor = id; own = k.own } ∷ l) in subst D (sym alone) ((λ is. is), tt)); },
+          record { legal = legal_prefix kind n f s r id me.0 at live k.seen seen; own = none ∙ sym (no_more (own_of id k.seen) (omega arith)); joined = subst E (sym alone) tt; distinct = (let D : List (Account T N) → Type 0 = λ l. AreDistinct (record { actor = id; own = k.own } ∷ l) in subst D (sym alone) ((λ is. is), tt)) },
           refl,
         ),
       )

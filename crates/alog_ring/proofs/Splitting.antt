@@ -77,9 +77,9 @@ module _ {T N : Type 0} (n f a : ℕ) (v : Sight T N) (parts : ℕ) (stage : Sta
     came : (b : ℕ) (u : Sight T N) → get_elem? after_split b ≡ some u → (c : ℕ) → IsAmong c u.known.joined → 0 < u.known.parts → (o : Sight T N) × (get_elem? views b ≡ some o) × (0 < o.known.parts) × IsAmong c o.known.joined
     came =
         which (λ b u. (c : ℕ) → IsAmong c u.known.joined → 0 < u.known.parts → (o : Sight T N) × (get_elem? views b ≡ some o) × (0 < o.known.parts) × IsAmong c o.known.joined)
-            (λ c is _. (v, at, live, is))
-            (λ c is _. absurd is)
-            (λ b u _ g c is some_parts. (u, g, some_parts, is))
+        (λ c is _. (v, at, live, is))
+        (λ c is _. absurd is)
+        (λ b u _ g c is some_parts. (u, g, some_parts, is))
 
     pub told_split : Told n f h views → Told n f h after_split
     told_split told =
@@ -102,10 +102,10 @@ module _ {T N : Type 0} (n f a : ℕ) (v : Sight T N) (parts : ℕ) (stage : Sta
               (λ b u _ g none. elim (told.without b u g none) [ inl empty ↦ inl empty | inr taken ↦ inr (taken_still b taken) ]);
           distinct = which (λ b u. 0 < u.known.parts → AreDistinct u.known.joined) (λ _. told.distinct a v at live) (λ _. tt) (λ b u _ g. told.distinct b u g);
           once =
-            λ b u e some_u j x g some_x apart c in_u in_x.
-                let p = came b u e c in_u some_u
-                in let q = came j x g c in_x some_x
-                in told.once b p.0 p.1 p.2 j q.0 q.1 q.2 apart c p.3 q.3;
+              λ b u e some_u j x g some_x apart c in_u in_x.
+              let p = came b u e c in_u some_u
+              in let q = came j x g c in_x some_x
+              in told.once b p.0 p.1 p.2 j q.0 q.1 q.2 apart c p.3 q.3;
           unborn =
               λ b far.
               let len : length after_split ≡ length (set views a left_seat) + length (new_seat ∷ []) = length-append (set views a left_seat) (new_seat ∷ [])

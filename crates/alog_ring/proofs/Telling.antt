@@ -118,10 +118,10 @@ module _ {T N : Type 0} where
           ];
       distinct = λ b u e. view_is b u e (λ x. 0 < x.known.parts → AreDistinct x.known.joined) (λ _. let P : List (Account T N) → Type 0 = λ l. AreDistinct l in subst P (sym grows.joined) (told.distinct a v at live)) (λ _ g. told.distinct b u g);
       once =
-        λ b u e some_u j x g some_x apart c in_u in_x.
-            let p = came b u e c in_u some_u
-            in let q = came j x g c in_x some_x
-            in told.once b p.0 p.1 p.2 j q.0 q.1 q.2 apart c p.3 q.3;
+          λ b u e some_u j x g some_x apart c in_u in_x.
+          let p = came b u e c in_u some_u
+          in let q = came j x g c in_x some_x
+          in told.once b p.0 p.1 p.2 j q.0 q.1 q.2 apart c p.3 q.3;
       unborn =
           λ b far.
           let len : length (set views a w) ≡ length views = length-set views a w
@@ -133,12 +133,13 @@ module _ {T N : Type 0} where
         came : (b : ℕ) (u : Sight T N) → get_elem? (set views a w) b ≡ some u → (c : ℕ) → IsAmong c u.known.joined → 0 < u.known.parts → (o : Sight T N) × (get_elem? views b ≡ some o) × (0 < o.known.parts) × IsAmong c o.known.joined
         came b u e c is some_parts =
             elim (at_set views a b w u e) [
-              inl same ↦
-                let G : ℕ → Type 0 = λ z. get_elem? views z ≡ some v
-                in let P : List (Account T N) → Type 0 = λ l. IsAmong c l
-                in (v, subst G (sym same.0) at, live, subst P (sym (ap (λ (z : Sight T N). z.known.joined) same.1) ∙ grows.joined) is)
+              | inl same ↦
+                  let G : ℕ → Type 0 = λ z. get_elem? views z ≡ some v
+                  in let P : List (Account T N) → Type 0 = λ l. IsAmong c l
+                  in (v, subst G (sym same.0) at, live, subst P (sym (ap (λ (z : Sight T N). z.known.joined) same.1) ∙ grows.joined) is)
               | inr other ↦ (u, other.1, some_parts, is)
             ]
+
         view_is : (b : ℕ) (u : Sight T N) → get_elem? (set views a w) b ≡ some u → (P : Sight T N → Type 0) → P w → (b ≢ a → get_elem? views b ≡ some u → P u) → P u
         view_is b u e P mine others = elim (at_set views a b w u e) [ inl same ↦ subst P same.1 mine | inr other ↦ others other.0 other.1 ]
 

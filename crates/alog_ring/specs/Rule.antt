@@ -1,6 +1,6 @@
 -- What holds of a ring between any two steps: of the history, of what each pass knows, and of the words and places.
 -- It is said of any kind of place: `put` is a place with an item, `spare` one without, for a ticket after a history.
-use Rattle.std.specs.Prelude.{◌≡◌, ◌≢◌, ℕ, ◌+◌, ◌*◌, ◌%◌, ◌<◌, ◌≤◌, ◌⊎◌, List, [], ◌∷◌, length, slice_index, Some}
+use Rattle.std.specs.Prelude.{◌≡◌, ◌≢◌, ℕ, ◌+◌, ◌*◌, ◌%◌, ◌<◌, ◌≤◌, ◌⊎◌, List, [], length, slice_index, Some}
 use Rattle.std.specs.List.{AllByRecursion, sum_by}
 use mathlib.Core.Option.{Option, some}
 use mathlib.Core.List.{IsPrefix}
