@@ -12,13 +12,14 @@ use Rattle.alog_core.specs.History.{left_by, own_of}
 use Rattle.alog_core.proofs.Cells.{at_same, at_other}
 use Rattle.alog_core.proofs.Rising.{bounds_of_rising, listed_within, unlisted_below}
 use Rattle.alog_core.proofs.Sound.{length-sound}
-use Rattle.alog_ring.specs.Sight.{Known, Stage, Idle, Sight, all_parts}
+use Rattle.alog_ring.specs.Sight.{Known, Stage, Idle, Sight, all_parts, IsAmong}
 use Rattle.alog_ring.specs.Kinds.{no_note, some_value, no_value}
-use Rattle.alog_ring.specs.Rule.{IsAtWork, IsAmong, HasAccounts, Knows, seq_of, ShowsCell, Ruled}
+use Rattle.alog_ring.specs.Rule.{IsAtWork, HasAccounts, Knows, seq_of, ShowsCell, Ruled}
 use Rattle.alog_ring.specs.Calls.{ticket_and_item, AreInRow, value_at, LieIn, Closes}
 use Rattle.alog_ring.proofs.Lists.{same_or_not, found, prefix_same}
 use Rattle.alog_ring.proofs.Showing.{near_apart}
 use Rattle.alog_ring.proofs.Looking.{on_option, lap}
+use Rattle.alog_ring.proofs.Telling.{accounts_distinct}
 use Rattle.alog_ring.proofs.Stepping.{sound_now}
 use Rattle.alog_ring.proofs.Meeting.{all_actors, legal_prefix, actors_now, written_now}
 use Rattle.alog_ring.proofs.Places.{option_kind}
@@ -265,6 +266,7 @@ module _ {T : Type 0} (n f id : ℕ) (v : Sight T no_note) (words : List ℕ) (p
           legal = legal_prefix (option_kind T) n f fin.0 r id v fin.1.1 live r.history (prefix_same r.history);
           own = has.own ∙ ap (λ (z : ℕ). own_of z r.history) (sym work.0);
           joined = has.joined;
+          distinct = accounts_distinct n f id r.history fin.0.views v r.told fin.1.1 live work.0;
         };
         whole = record {
           actors =

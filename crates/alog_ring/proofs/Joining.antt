@@ -8,11 +8,11 @@ use Rattle.atomic_table.specs.Table.{State, Joins}
 use Rattle.atomic_table.proofs.Lists.{at_set, set_else, set_here}
 use Rattle.alog_core.specs.Queue.{Queue}
 use Rattle.alog_core.specs.History.{Entry, own_of}
-use Rattle.alog_ring.specs.Sight.{Account, Stage, Idle, Lent, Writing, Reading, Sight}
-use Rattle.alog_ring.specs.Rule.{parts_of, IsAtWork, IsAmong, IsRetired, IsTakenIn, HasAccounts, Knows, Told, Staged, Ruled}
-use Rattle.alog_ring.specs.Parts.{accounts_of, taking_in, reading_note, gone}
+use Rattle.alog_ring.specs.Sight.{Account, Stage, Idle, Lent, Writing, Reading, Sight, IsAmong, AreDistinct, accounts_of}
+use Rattle.alog_ring.specs.Rule.{parts_of, IsAtWork, IsRetired, IsTakenIn, HasAccounts, Knows, Told, Staged, Ruled}
+use Rattle.alog_ring.specs.Parts.{taking_in, reading_note, gone}
 use Rattle.alog_ring.proofs.Lists.{same_or_not, inside, one_value, each_of, each_append, sum_changed}
-use Rattle.alog_ring.proofs.Telling.{retired_apart}
+use Rattle.alog_ring.proofs.Telling.{retired_apart, among_retired, accounts_distinct}
 
 module _ {T N : Type 0} where
   among_first : (b : ℕ) (l m : List (Account T N)) → IsAmong b l → IsAmong b (l ++ m)
@@ -22,6 +22,17 @@ module _ {T N : Type 0} where
   among_second : (b : ℕ) (l m : List (Account T N)) → IsAmong b m → IsAmong b (l ++ m)
   among_second b [] m is = is
   among_second b (c ∷ l) m is = inr (among_second b l m is)
+
+  among_either : (b : ℕ) (l m : List (Account T N)) → IsAmong b (l ++ m) → IsAmong b l ⊎ IsAmong b m
+  among_either b [] m is = inr is
+  among_either b (c ∷ l) m is = elim is [ inl e ↦ inl (inl e) | inr more ↦ elim (among_either b l m more) [ inl first ↦ inl (inr first) | inr second ↦ inr second ] ]
+
+  distinct_append : (l m : List (Account T N)) → AreDistinct l → AreDistinct m → ((b : ℕ) → IsAmong b l → ¬ IsAmong b m) → AreDistinct (l ++ m)
+  distinct_append [] m first second apart = second
+  distinct_append (c ∷ l) m first second apart = (
+    (λ is. elim (among_either c.actor l m is) [ inl again ↦ first.0 again | inr other ↦ apart c.actor (inl refl) other ]),
+    distinct_append l m first.1 second (λ b is. apart b (inr is)),
+  )
 
   -- The seats of a join: `a` becomes `both`, with the parts of the two, and `o` has nothing any more.
   module _ (n f a o : ℕ) (v w both : Sight T N) (h : List (Entry T N)) (views : List (Sight T N)) (at : get_elem? views a ≡ some v) (apart : o ≢ a) (at_other : get_elem? views o ≡ some w) (live : 0 < v.known.parts) (told : Told n f h views) where
@@ -90,7 +101,8 @@ module _ {T N : Type 0} where
           ]
 
       -- `o` has no entries, or its account is in the joined one
-      module _ (places : both.known.places ≡ v.known.places) (first : both.known.first ≡ v.known.first) (seen : both.known.seen ≡ v.known.seen) (accounts : HasAccounts h after_join a both.known) (other : (own_of o h ≡ []) ⊎ IsTakenIn after_join o) where
+      module _ (places : both.known.places ≡ v.known.places) (first : both.known.first ≡ v.known.first) (seen : both.known.seen ≡ v.known.seen) (accounts : HasAccounts h after_join a both.known) (other : (own_of o h ≡ []) ⊎ IsTakenIn after_join o) (distinct_now : AreDistinct both.known.joined)
+          (against : (j : ℕ) (x : Sight T N) → j ≢ a → j ≢ o → get_elem? views j ≡ some x → 0 < x.known.parts → (c : ℕ) → IsAmong c both.known.joined → ¬ IsAmong c x.known.joined) where
         pub told_join : Told n f h after_join
         told_join = record {
           places = which (λ b u. 0 < u.known.parts → u.known.places ≡ n) (λ _. places ∙ told.places a v at live) (λ some. absurd (omega arith)) (λ b u _ _ g. told.places b u g);
@@ -110,6 +122,20 @@ module _ {T N : Type 0} where
               (λ none. absurd (let some : 0 < both.known.parts = some_left in omega arith))
               (λ _. other)
               (λ b u _ _ g none. elim (told.without b u g none) [ inl empty ↦ inl empty | inr taken ↦ inr (taken_still b taken) ]);
+          distinct = which (λ b u. 0 < u.known.parts → AreDistinct u.known.joined) (λ _. distinct_now) (λ _. tt) (λ b u _ _ g. told.distinct b u g);
+          once =
+              which (λ b u. 0 < u.known.parts → (j : ℕ) (x : Sight T N) → get_elem? after_join j ≡ some x → 0 < x.known.parts → j ≢ b → (c : ℕ) → IsAmong c u.known.joined → ¬ IsAmong c x.known.joined)
+              (λ _.
+              which (λ j x. 0 < x.known.parts → j ≢ a → (c : ℕ) → IsAmong c both.known.joined → ¬ IsAmong c x.known.joined)
+              (λ _ apart_now. absurd (apart_now refl))
+              (λ some_parts. absurd (omega arith))
+              (λ j x not_a not_o g some_parts _ c mine is. against j x not_a not_o g some_parts c mine is))
+              (λ some_parts. absurd (omega arith))
+              (λ b u not_a not_o e some_u.
+              which (λ j x. 0 < x.known.parts → j ≢ b → (c : ℕ) → IsAmong c u.known.joined → ¬ IsAmong c x.known.joined)
+              (λ _ _ c is mine. against b u not_a not_o e some_u c mine is)
+              (λ some_parts. absurd (omega arith))
+              (λ j x _ _ g some_parts apart_now. told.once b u e some_u j x g some_parts apart_now));
           unborn =
               λ b far.
               let len : length after_join ≡ length (set views a both) = length-set (set views a both) o gone
@@ -168,13 +194,29 @@ module _ {T N : Type 0} where
         }
         in let taken : IsTakenIn (after_join n f a o v w both r.history s.views at apart at_other live r.told) o =
         (a, both, here n f a o v w both r.history s.views at apart at_other live r.told, omega arith, among_second o v.known.joined (accounts_of w.known) (inl (sym other_work.0)))
+        in let apart_from_joined : (b : ℕ) → IsAmong b v.known.joined → b ≢ w.known.actor =
+        λ b is e. retired_apart s.views o b w at_other other_live (among_retired s.views b v.known.joined mine.retired is) (e ∙ other_work.0)
+        in let cross : (b : ℕ) → IsAmong b v.known.joined → ¬ IsAmong b (accounts_of w.known) =
+        λ b is more. elim more [ inl e ↦ apart_from_joined b is e | inr others ↦ r.told.once a v at live o w at_other other_live apart b is others ]
+        in let distinct_both : AreDistinct both.known.joined =
+        distinct_append v.known.joined (accounts_of w.known) (r.told.distinct a v at live) (accounts_distinct n f o r.history s.views w r.told at_other other_live other_work.0) cross
+        in let against_both : (j : ℕ) (x : Sight T N) → j ≢ a → j ≢ o → get_elem? s.views j ≡ some x → 0 < x.known.parts → (c : ℕ) → IsAmong c both.known.joined → ¬ IsAmong c x.known.joined =
+        λ j x not_a not_o g some_parts c is in_x.
+        elim (among_either c v.known.joined (accounts_of w.known) is) [
+          | inl first ↦ r.told.once a v at live j x g some_parts not_a c first in_x
+          | inr second ↦
+              elim second [
+                | inl e ↦ retired_apart s.views o c w at_other other_live (among_retired s.views c x.known.joined (r.told.accounts j x g some_parts).retired in_x) (e ∙ other_work.0)
+                | inr others ↦ r.told.once o w at_other other_live j x g some_parts not_o c others in_x
+              ]
+        ]
         in record {
           history = r.history;
           queue = r.queue;
           two = r.two;
           stands = r.stands;
           told =
-              told_join n f a o v w both r.history s.views at apart at_other live r.told refl (λ b. among_first b v.known.joined (accounts_of w.known)) (λ b _ is. among_second b v.known.joined (accounts_of w.known) (inr is)) refl refl refl accounts (inr taken);
+              told_join n f a o v w both r.history s.views at apart at_other live r.told refl (λ b. among_first b v.known.joined (accounts_of w.known)) (λ b _ is. among_second b v.known.joined (accounts_of w.known) (inr is)) refl refl refl accounts (inr taken) distinct_both against_both;
           staged =
               staged_join n f a o v w both r.history s.views at apart at_other live r.told r.queue r.staged idle
               (λ p x is. let wrong : ◌≡◌ {A = Stage T N} Idle (Writing p x) = sym other_idle ∙ is in cc)
@@ -206,7 +248,7 @@ module _ {T N : Type 0} where
           stands = r.stands;
           told =
               told_join n f a o v w both r.history s.views at apart at_other live r.told more (λ b is. is) (λ b some _. absurd (omega arith)) refl refl refl accounts
-              (elim (r.told.without o w at_other none) [ inl empty ↦ inl empty | inr taken ↦ inr (still o taken) ]);
+              (elim (r.told.without o w at_other none) [ inl empty ↦ inl empty | inr taken ↦ inr (still o taken) ]) (r.told.distinct a v at live) (λ j x not_a not_o g some_parts c is in_x. r.told.once a v at live j x g some_parts not_a c is in_x);
           staged =
               staged_join n f a o v w both r.history s.views at apart at_other live r.told r.queue r.staged idle
               (λ p x is. let wrong : ◌≡◌ {A = Stage T N} Lent (Writing p x) = sym lent ∙ is in cc)

@@ -13,12 +13,12 @@ use Rattle.alog_core.specs.Queue.{Cell, Queue, start, cell_of}
 use Rattle.alog_core.specs.History.{Entry, IsLegal, left_by, own_of, StandsFor}
 use Rattle.alog_core.proofs.Cells.{on_test, at_same}
 use Rattle.alog_core.proofs.Histories.{own_of-append, legal_before}
-use Rattle.alog_ring.specs.Sight.{Account, Known, Stage, Idle, Fresh, Joined, Writing, Reading, Sight, all_parts}
+use Rattle.alog_ring.specs.Sight.{Account, Known, Stage, Idle, Fresh, Joined, Writing, Reading, Sight, all_parts, IsAmong, AreDistinct, accounts_of}
 use Rattle.alog_ring.specs.Made.{AreExact}
-use Rattle.alog_ring.specs.Rule.{parts_of, IsAtWork, IsAmong, HasAccounts, Knows, Ruled}
-use Rattle.alog_ring.specs.Parts.{having_seen, accounts_of, IsLonger, IsExactIn, gone, was_named, saw_both, saw_all}
+use Rattle.alog_ring.specs.Rule.{parts_of, IsAtWork, HasAccounts, Knows, Ruled}
+use Rattle.alog_ring.specs.Parts.{having_seen, IsLonger, IsExactIn, gone, was_named, saw_both, saw_all}
 use Rattle.alog_ring.proofs.Lists.{same_or_not, one_value, prefix_same, prefix_longer, each_of_two, sum_changed, sum_of_two}
-use Rattle.alog_ring.proofs.Telling.{grown, told_more}
+use Rattle.alog_ring.proofs.Telling.{accounts_distinct, grown, told_more}
 use Rattle.alog_ring.proofs.Turning.{IsFree, staged_on}
 use Rattle.alog_ring.proofs.Showing.{shown_on}
 use Rattle.alog_ring.proofs.Looking.{on_mark, has_cell}
@@ -135,7 +135,7 @@ module _ {S T N : Type 0} (kind : PlaceKind S T N) (n f slots id : ℕ) (me : Me
         (
           id,
           refl,
-          record { legal = legal_prefix kind n f s r id me.0 at live k.seen seen; own = none ∙ sym (no_more (own_of id k.seen) (omega arith)); joined = subst E (sym alone) tt },
+          record { legal = legal_prefix kind n f s r id me.0 at live k.seen seen; own = none ∙ sym (no_more (own_of id k.seen) (omega arith)); joined = subst E (sym alone) tt; distinct = (let D : List (Account T N) → Type 0 = λ l. AreDistinct (record { actor = id; own = k.own } ∷ l) in subst D (sym alone) ((λ is. is), tt)) },
           refl,
         ),
       )
@@ -162,6 +162,7 @@ module _ {S T N : Type 0} (kind : PlaceKind S T N) (n f slots id : ℕ) (me : Me
           refl,
           legal_prefix kind n f s r id me.0 at live h found.2,
           exact_between k.seen t h r.history found.1 found.2 (accounts_of k) (own, has.joined),
+          accounts_distinct n f id r.history s.views me.0 r.told at live knows.0.0,
           (let most : k.parts ≤ sum_by parts_of s.views = has_at_most s.views id me.0 at in omega (arith, r.told.whole)),
           refl,
         ),

@@ -9,7 +9,7 @@ use Rattle.atomic_table.specs.Table.{State, Splits}
 use Rattle.atomic_table.proofs.Lists.{at_set, set_else, set_here, at_longer}
 use Rattle.alog_core.specs.Queue.{HasCell}
 use Rattle.alog_core.specs.History.{Entry, own_of}
-use Rattle.alog_ring.specs.Sight.{Account, Stage, Idle, Fresh, Lent, Writing, Reading, Sight}
+use Rattle.alog_ring.specs.Sight.{Account, Stage, Idle, Fresh, Lent, Writing, Reading, Sight, IsAmong, AreDistinct}
 use Rattle.alog_ring.specs.Rule.{parts_of, IsAtWork, IsRetired, IsTakenIn, HasAccounts, Knows, Told, Staged, Ruled}
 use Rattle.alog_ring.specs.Parts.{with_fewer, apart_from}
 use Rattle.alog_ring.proofs.Lists.{same_or_not, inside, one_value, each_of, sum_changed, sum_with_last}
@@ -69,10 +69,17 @@ module _ {T N : Type 0} (n f a : ℕ) (v : Sight T N) (parts : ℕ) (stage : Sta
           | inl same ↦
               let Q : ℕ → Type 0 = λ i. get_elem? views i ≡ some by.1
               in let one : by.1 ≡ v = one_value views a by.1 v (subst Q same by.2) at
-              in let P : Sight T N → Type 0 = λ z. Rattle.alog_ring.specs.Rule.IsAmong b z.known.joined
+              in let P : Sight T N → Type 0 = λ z. IsAmong b z.known.joined
               in (a, left_seat, here, omega arith, subst P one by.4)
           | inr other ↦ (by.0, by.1, elsewhere by.0 by.1 other by.2, by.3, by.4)
         ]
+
+    came : (b : ℕ) (u : Sight T N) → get_elem? after_split b ≡ some u → (c : ℕ) → IsAmong c u.known.joined → 0 < u.known.parts → (o : Sight T N) × (get_elem? views b ≡ some o) × (0 < o.known.parts) × IsAmong c o.known.joined
+    came =
+        which (λ b u. (c : ℕ) → IsAmong c u.known.joined → 0 < u.known.parts → (o : Sight T N) × (get_elem? views b ≡ some o) × (0 < o.known.parts) × IsAmong c o.known.joined)
+        (λ c is _. (v, at, live, is))
+        (λ c is _. absurd is)
+        (λ b u _ g c is some_parts. (u, g, some_parts, is))
 
     pub told_split : Told n f h views → Told n f h after_split
     told_split told =
@@ -93,6 +100,12 @@ module _ {T N : Type 0} (n f a : ℕ) (v : Sight T N) (parts : ℕ) (stage : Sta
               (λ none. absurd (omega arith))
               (λ _. inl (told.unborn (length views) (omega arith)))
               (λ b u _ g none. elim (told.without b u g none) [ inl empty ↦ inl empty | inr taken ↦ inr (taken_still b taken) ]);
+          distinct = which (λ b u. 0 < u.known.parts → AreDistinct u.known.joined) (λ _. told.distinct a v at live) (λ _. tt) (λ b u _ g. told.distinct b u g);
+          once =
+              λ b u e some_u j x g some_x apart c in_u in_x.
+              let p = came b u e c in_u some_u
+              in let q = came j x g c in_x some_x
+              in told.once b p.0 p.1 p.2 j q.0 q.1 q.2 apart c p.3 q.3;
           unborn =
               λ b far.
               let len : length after_split ≡ length (set views a left_seat) + length (new_seat ∷ []) = length-append (set views a left_seat) (new_seat ∷ [])

@@ -10,7 +10,7 @@ use lib.ListN.{get_elem?}
 use Rattle.atomic_table.specs.Table.{opening}
 use Rattle.alog_core.specs.Queue.{last, start}
 use Rattle.alog_core.proofs.Histories.{stands_start}
-use Rattle.alog_ring.specs.Sight.{Sight, first_sight}
+use Rattle.alog_ring.specs.Sight.{Sight, first_sight, AreDistinct}
 use Rattle.alog_ring.specs.Rule.{seq_of, word_count, Knows, HasAccounts, Ruled}
 use Rattle.alog_ring.specs.Kinds.{no_note, some_value, no_value}
 use Rattle.alog_ring.specs.Calls.{AreFirstWords, Masks}
@@ -77,6 +77,8 @@ starts {T} n f words two low are =
         seen = λ a v e. let P : Sight T no_note → Type 0 = λ x. mathlib.Core.List.IsPrefix x.known.seen [] in subst P (one a v e).1 (prefix_same []);
         accounts = λ a v e _. let P : Sight T no_note → Type 0 = λ x. HasAccounts [] (first_sight n f ∷ []) a x.known in subst P (one a v e).1 (record { own = refl; joined = tt; retired = tt });
         without = λ a v e _. inl refl;
+        distinct = λ a v e _. let P : Sight T no_note → Type 0 = λ x. AreDistinct x.known.joined in subst P (one a v e).1 tt;
+        once = λ a v e _ b w g _ apart c _ _. apart ((one b w g).0 ∙ sym (one a v e).0);
         unborn = λ a _. refl;
         whole = refl;
       };

@@ -15,7 +15,7 @@ use Rattle.alog_ring.specs.Made.{AreExact, Made, next_seen, front_seen}
 use Rattle.alog_ring.specs.Rule.{IsAtWork, Knows, Staged, Shown, Ruled}
 use Rattle.alog_ring.specs.Plays.{entry, Adds}
 use Rattle.alog_ring.proofs.Lists.{prefix_longer}
-use Rattle.alog_ring.proofs.Telling.{AreOf, grown, grows_now, faithful_now, told_more}
+use Rattle.alog_ring.proofs.Telling.{AreOf, grown, grows_now, faithful_now, told_more, accounts_distinct}
 use Rattle.alog_ring.proofs.Turning.{IsFree, staged_on}
 use Rattle.alog_ring.proofs.Showing.{shown_on}
 
@@ -99,6 +99,7 @@ module _ {S T N : Type 0} (kind : PlaceKind S T N) (n f : ℕ) (s : State S (Sig
             legal = subst P (sym (r.told.places a v at work.1)) (subst Q (sym (r.told.first a v at work.1)) stands.legal);
             own = subst R (sym work.0) now.0;
             joined = now.1;
+            distinct = accounts_distinct n f a r.history s.views v r.told at work.1 work.0;
           };
         }
 

@@ -1,5 +1,5 @@
 -- The history against the views, as a step adds entries to it and changes the view that steps.
-use Rattle.std.proofs.Common.{◌≡◌, ◌≢◌, ℕ, ◌+◌, ◌<◌, List, [], ◌++◌, length, set, refl, sym, ap, subst, ◌∙◌, inl, inr, arith, length-set}
+use Rattle.std.proofs.Common.{◌≡◌, ◌≢◌, ℕ, ◌+◌, ◌<◌, List, [], ◌++◌, length, set, refl, sym, ap, subst, ◌∙◌, inl, inr, arith, length-set, ◌∷◌}
 use Rattle.std.specs.List.{AllByRecursion, sum_by}
 use Rattle.std.proofs.lemmas.List.{append-nil}
 use mathlib.Core.Option.{some}
@@ -8,9 +8,9 @@ use lib.ListN.{get_elem?}
 use Rattle.atomic_table.proofs.Lists.{at_set, set_else, set_here}
 use Rattle.alog_core.specs.History.{Entry, own_of}
 use Rattle.alog_core.proofs.Histories.{own_of-append}
-use Rattle.alog_ring.specs.Sight.{Account, Known, Sight}
+use Rattle.alog_ring.specs.Sight.{Account, Known, Sight, IsAmong, AreDistinct, accounts_of}
 use Rattle.alog_ring.specs.Made.{AreExact}
-use Rattle.alog_ring.specs.Rule.{parts_of, IsAmong, IsRetired, IsTakenIn, HasAccounts, Told}
+use Rattle.alog_ring.specs.Rule.{parts_of, IsRetired, IsTakenIn, HasAccounts, Told}
 use Rattle.alog_ring.proofs.Lists.{same_or_not, inside, one_value, prefix_same, prefix_longer, each_of, each_of_two, sum_changed}
 
 module _ {T N : Type 0} where
@@ -29,6 +29,18 @@ module _ {T N : Type 0} where
       in let one : gone.0 ≡ v = one_value views a gone.0 v (subst P same gone.1) at
       in let e : gone.0.known.parts ≡ v.known.parts = ap (λ (x : Sight T N). x.known.parts) one
       in omega (arith, gone.2)
+
+  -- who has an account among retired seats is retired
+  pub among_retired : (views : List (Sight T N)) (b : ℕ) (l : List (Account T N)) → AllByRecursion (λ (c : Account T N). IsRetired views c.actor) l → IsAmong b l → IsRetired views b
+  among_retired views b [] all is = absurd is
+  among_retired views b (c ∷ cs) all is =
+      let P : ℕ → Type 0 = λ z. IsRetired views z
+      in elim is [ inl e ↦ subst P (sym e) all.0 | inr more ↦ among_retired views b cs all.1 more ]
+
+  -- a pass and those joined into it are each another actor
+  pub accounts_distinct : (n f a : ℕ) (h : List (Entry T N)) (views : List (Sight T N)) (v : Sight T N) → Told n f h views → get_elem? views a ≡ some v → 0 < v.known.parts → v.known.actor ≡ a → AreDistinct (accounts_of v.known)
+  accounts_distinct n f a h views v told at live named =
+      ((λ is. retired_apart views a v.known.actor v at live (among_retired views v.known.actor v.known.joined (told.accounts a v at live).retired is) named), told.distinct a v at live)
 
   module _ (views : List (Sight T N)) (a : ℕ) (v w : Sight T N) (at : get_elem? views a ≡ some v) (live : 0 < v.known.parts) where
     pub still_retired : (b : ℕ) → IsRetired views b → IsRetired (set views a w) b
@@ -104,6 +116,12 @@ module _ {T N : Type 0} where
                   | inr taken ↦ inr (still_taken_in views a v w at live b grows.parts grows.joined taken)
                 ]
           ];
+      distinct = λ b u e. view_is b u e (λ x. 0 < x.known.parts → AreDistinct x.known.joined) (λ _. let P : List (Account T N) → Type 0 = λ l. AreDistinct l in subst P (sym grows.joined) (told.distinct a v at live)) (λ _ g. told.distinct b u g);
+      once =
+          λ b u e some_u j x g some_x apart c in_u in_x.
+          let p = came b u e c in_u some_u
+          in let q = came j x g c in_x some_x
+          in told.once b p.0 p.1 p.2 j q.0 q.1 q.2 apart c p.3 q.3;
       unborn =
           λ b far.
           let len : length (set views a w) ≡ length views = length-set views a w
@@ -112,6 +130,16 @@ module _ {T N : Type 0} where
       whole = let e : sum_by parts_of (set views a w) + parts_of v ≡ sum_by parts_of views + parts_of w = sum_changed parts_of views a v w at in omega (arith, grows.parts, told.whole);
     }
       where
+        came : (b : ℕ) (u : Sight T N) → get_elem? (set views a w) b ≡ some u → (c : ℕ) → IsAmong c u.known.joined → 0 < u.known.parts → (o : Sight T N) × (get_elem? views b ≡ some o) × (0 < o.known.parts) × IsAmong c o.known.joined
+        came b u e c is some_parts =
+            elim (at_set views a b w u e) [
+              | inl same ↦
+                  let G : ℕ → Type 0 = λ z. get_elem? views z ≡ some v
+                  in let P : List (Account T N) → Type 0 = λ l. IsAmong c l
+                  in (v, subst G (sym same.0) at, live, subst P (sym (ap (λ (z : Sight T N). z.known.joined) same.1) ∙ grows.joined) is)
+              | inr other ↦ (u, other.1, some_parts, is)
+            ]
+
         view_is : (b : ℕ) (u : Sight T N) → get_elem? (set views a w) b ≡ some u → (P : Sight T N → Type 0) → P w → (b ≢ a → get_elem? views b ≡ some u → P u) → P u
         view_is b u e P mine others = elim (at_set views a b w u e) [ inl same ↦ subst P same.1 mine | inr other ↦ others other.0 other.1 ]
 

@@ -4,18 +4,19 @@ use Rattle.std.specs.List.{AllByRecursion}
 use mathlib.Core.List.{IsPrefix}
 use Rattle.alog_core.specs.Queue.{start}
 use Rattle.alog_core.specs.History.{Entry, IsLegal, left_by, own_of}
-use Rattle.alog_ring.specs.Sight.{Account, Known}
+use Rattle.alog_ring.specs.Sight.{Account, Known, accounts_of, AreDistinct}
 
 module _ {T N : Type 0} where
   -- each account has exactly its actor's entries of the history
   abbrev pub AreExact : List (Account T N) → List (Entry T N) → Type 0
   AreExact accounts h = AllByRecursion (λ (c : Account T N). c.own ≡ own_of c.actor h) accounts
 
-  -- What the pass has seen is a legal history of its ring, and the accounts in it are exact.
+  -- What the pass has seen is a legal history of its ring, and the accounts in it are exact, each of another actor.
   pub record IsFaithful (k : Known T N) : Type 0 where
     pub legal : IsLegal k.places k.first k.seen
     pub own : k.own ≡ own_of k.actor k.seen
     pub joined : AreExact k.joined k.seen
+    pub distinct : AreDistinct (accounts_of k)
 
   -- The pass has seen at least what it had seen, and made exactly these entries.
   pub record Made (old new : Known T N) (made : List (Entry T N)) : Type 0 where

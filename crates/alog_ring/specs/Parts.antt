@@ -1,14 +1,13 @@
 -- How passes are cut, joined and shown to each other.
-use Rattle.std.specs.Prelude.{◌≡◌, ℕ, ◌+◌, ◌-◌, ◌≤◌, ◌⊎◌, List, [], ◌∷◌, ◌++◌, Some}
+use Rattle.std.specs.Prelude.{◌≡◌, ℕ, ◌+◌, ◌-◌, ◌≤◌, ◌⊎◌, List, [], ◌++◌, Some}
 use Rattle.std.specs.List.{AllByRecursion}
 use mathlib.Core.List.{IsPrefix}
 use Rattle.atomic_table.specs.Table.{Me}
 use Rattle.alog_core.specs.declared.mark.Mark.TheVariants.{Written}
 use Rattle.alog_core.specs.Queue.{Cell, start, cell_of}
 use Rattle.alog_core.specs.History.{Entry, IsLegal, left_by, own_of}
-use Rattle.alog_ring.specs.Sight.{Account, Known, Idle, Fresh, Joined, Lent, Gone, Sight, all_parts}
+use Rattle.alog_ring.specs.Sight.{Account, Known, Idle, Fresh, Joined, Lent, Gone, Sight, all_parts, accounts_of, IsAmong, AreDistinct}
 use Rattle.alog_ring.specs.Made.{AreExact, IsFaithful, Made}
-use Rattle.alog_ring.specs.Rule.{IsAmong}
 
 module _ {T N : Type 0} where
   -- the pass without so many of its parts
@@ -22,10 +21,6 @@ module _ {T N : Type 0} where
   -- the pass when it has seen this
   abbrev pub having_seen : Known T N → List (Entry T N) → Known T N
   having_seen k h = record { places = k.places; first = k.first; actor = k.actor; parts = k.parts; seen = h; own = k.own; joined = k.joined }
-
-  -- the account of a pass, and those of the passes that were joined into it
-  abbrev pub accounts_of : Known T N → List (Account T N)
-  accounts_of k = record { actor = k.actor; own = k.own } ∷ k.joined
 
   -- the pass with the parts and the accounts of another
   abbrev pub with_other : Known T N → Known T N → Known T N
@@ -81,7 +76,7 @@ module _ {S T N : Type 0} where
   abbrev pub saw_both : List (Entry T N) → Me S (Sight T N) → Me S (Sight T N) → Type 0
   saw_both s m m' =
       (h : List (Entry T N)) × IsLonger m.0.known.seen s h × (m'.0 ≡ record { stage = Idle; known = having_seen m.0.known h }) × IsLegal m.0.known.places m.0.known.first h
-      × (AllByRecursion (IsExactIn m.0.known.seen s) (accounts_of m.0.known) → AreExact (accounts_of m.0.known) h) × (m.0.known.parts ≤ all_parts) × (m'.1 ≡ m.1)
+      × (AllByRecursion (IsExactIn m.0.known.seen s) (accounts_of m.0.known) → AreExact (accounts_of m.0.known) h) × AreDistinct (accounts_of m.0.known) × (m.0.known.parts ≤ all_parts) × (m'.1 ≡ m.1)
 
   -- a look at everything
   abbrev pub saw_all : Me S (Sight T N) → Me S (Sight T N) → Type 0

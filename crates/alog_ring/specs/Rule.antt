@@ -1,6 +1,6 @@
 -- What holds of a ring between any two steps: of the history, of what each pass knows, and of the words and places.
 -- It is said of any kind of place: `put` is a place with an item, `spare` one without, for a ticket after a history.
-use Rattle.std.specs.Prelude.{◌≡◌, ℕ, ◌+◌, ◌*◌, ◌%◌, ◌<◌, ◌≤◌, ◌⊎◌, List, [], ◌∷◌, length, slice_index, Some}
+use Rattle.std.specs.Prelude.{◌≡◌, ◌≢◌, ℕ, ◌+◌, ◌*◌, ◌%◌, ◌<◌, ◌≤◌, ◌⊎◌, List, [], length, slice_index, Some}
 use Rattle.std.specs.List.{AllByRecursion, sum_by}
 use mathlib.Core.Option.{Option, some}
 use mathlib.Core.List.{IsPrefix}
@@ -10,7 +10,7 @@ use Rattle.alog_core.specs.declared.mark.Mark.{Mark}
 use Rattle.alog_core.specs.declared.mark.Mark.TheVariants.{Claimed, Written, Emptying}
 use Rattle.alog_core.specs.Queue.{Cell, Queue, last, cell_of, HasCell, IsRoom, IsWritten}
 use Rattle.alog_core.specs.History.{Entry, own_of, StandsFor}
-use Rattle.alog_ring.specs.Sight.{Account, Known, Stage, Idle, Fresh, SawTail, SawFree, Writing, SawHead, SawFull, Reading, Joined, Lent, Gone, Sight, all_parts}
+use Rattle.alog_ring.specs.Sight.{Account, Known, Stage, Idle, Fresh, SawTail, SawFree, Writing, SawHead, SawFull, Reading, Joined, Lent, Gone, Sight, all_parts, IsAmong, AreDistinct}
 use Rattle.alog_ring.specs.Made.{AreExact}
 
 -- The positions and the first sequence lie on lines of their own, and the sequences 64 bytes apart.
@@ -23,11 +23,6 @@ word_count n = n * 8 + 48
 module _ {T N : Type 0} where
   abbrev pub parts_of : Sight T N → ℕ
   parts_of v = v.known.parts
-
-  -- the actor is one of these accounts'
-  abbrev pub IsAmong : ℕ → List (Account T N) → Type 0
-  IsAmong a [] = ⊥
-  IsAmong a (c ∷ cs) = (a ≡ c.actor) ⊎ IsAmong a cs
 
   -- a seat without parts
   abbrev pub IsRetired : List (Sight T N) → ℕ → Type 0
@@ -50,6 +45,8 @@ module _ {T N : Type 0} where
     pub seen : (a : ℕ) (v : Sight T N) → get_elem? views a ≡ some v → IsPrefix v.known.seen h
     pub accounts : (a : ℕ) (v : Sight T N) → get_elem? views a ≡ some v → 0 < v.known.parts → HasAccounts h views a v.known
     pub without : (a : ℕ) (v : Sight T N) → get_elem? views a ≡ some v → v.known.parts ≡ 0 → (own_of a h ≡ []) ⊎ IsTakenIn views a
+    pub distinct : (a : ℕ) (v : Sight T N) → get_elem? views a ≡ some v → 0 < v.known.parts → AreDistinct v.known.joined
+    pub once : (a : ℕ) (v : Sight T N) → get_elem? views a ≡ some v → 0 < v.known.parts → (b : ℕ) (w : Sight T N) → get_elem? views b ≡ some w → 0 < w.known.parts → b ≢ a → (c : ℕ) → IsAmong c v.known.joined → ¬ IsAmong c w.known.joined
     pub unborn : (a : ℕ) → length views ≤ a → own_of a h ≡ []
     pub whole : sum_by parts_of views ≡ all_parts
 

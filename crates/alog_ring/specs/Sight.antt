@@ -1,5 +1,5 @@
 -- What a pass knows of a ring: the history that it has seen, and its own entries in it.
-use Rattle.std.specs.Prelude.{ℕ, List, []}
+use Rattle.std.specs.Prelude.{◌≡◌, ℕ, ◌⊎◌, List, [], ◌∷◌}
 use Rattle.atomic_table.specs.Seated.{TableId}
 use Rattle.alog_core.specs.History.{Entry}
 
@@ -18,6 +18,20 @@ pub record Known (T N : Type 0) : Type 0 where
   pub seen : List (Entry T N)
   pub own : List (Entry T N)
   pub joined : List (Account T N)
+
+-- the account of a pass, and those of the passes that were joined into it
+abbrev pub accounts_of : {T N : Type 0} → Known T N → List (Account T N)
+accounts_of k = record { actor = k.actor; own = k.own } ∷ k.joined
+
+-- the actor is one of these accounts'
+abbrev pub IsAmong : {T N : Type 0} → ℕ → List (Account T N) → Type 0
+IsAmong a [] = ⊥
+IsAmong a (c ∷ cs) = (a ≡ c.actor) ⊎ IsAmong a cs
+
+-- no actor has two of these accounts
+abbrev pub AreDistinct : {T N : Type 0} → List (Account T N) → Type 0
+AreDistinct [] = Unit {0}
+AreDistinct (c ∷ cs) = ¬ IsAmong c.actor cs × AreDistinct cs
 
 -- Where a pass stands in a call, and what it brings or has read.
 pub data Stage (T N : Type 0) : Type 0 where
