@@ -1,5 +1,5 @@
 -- What an actor owes, step by step.
-use Rattle.std.proofs.Common.{◌≡◌, ℕ, List, set, refl, sym, ap, subst, ◌∙◌}
+use Rattle.std.proofs.Common.{◌≡◌, ℕ, sym, ap, subst, ◌∙◌}
 use Rattle.std.proofs.lemmas.List.{set-set}
 use Rattle.alog_core.specs.World.{stepped, told}
 use Rattle.alog_core.specs.declared.said.Said.{Said}

@@ -1,14 +1,14 @@
 -- What a replay has written where it ends.
 use Rattle.std.proofs.Common.{◌≡◌, ℕ, ◌+◌, Option, Some, None, List, [], ◌∷◌, ◌++◌, Result, Ok, Err, inl, inr, refl, sym, ap, subst, ◌∙◌, append_assoc}
-use Rattle.std.specs.Prelude.{⊤, IfSome, OnErr}
+use Rattle.std.specs.Prelude.{IfSome, OnErr}
 use Rattle.std.proofs.lemmas.List.{append-nil}
 use Rattle.std.specs.Io.KnownBytes.{Appends}
-use Rattle.alog_replay.specs.Lines.{lines_of, TakesLine, BeginsTooLong}
+use Rattle.alog_replay.specs.Lines.{lines_of, TakesLine}
 use Rattle.alog_replay.specs.Reading.{FindsLine}
 use Rattle.alog_replay.specs.Session.{Stage, files_text}
-use Rattle.alog_replay.specs.Script.{Told, Whole, RefusedAt, told_behind, text_of, Tells, ScriptTells, LineDone, LineRefused, LinePrints, WritesRefused, WritesLineFront, WritesFrontOf, WritesText, WritesFront}
+use Rattle.alog_replay.specs.Script.{Told, Whole, RefusedAt, told_behind, text_of, Tells, ScriptTells, LinePrints, WritesRefused, WritesLineFront, WritesFrontOf, WritesText, WritesFront}
 use Rattle.alog_replay.specs.declared.lines.Line.TheVariants as found
-use Rattle.alog_replay.proofs.Writing.{appends_nothing, appends_more, appends_is}
+use Rattle.alog_replay.proofs.Writing.{appends_nothing, appends_more}
 use Rattle.alog_replay.proofs.Telling.{Progress, HasTold, no_line_told, no_lines, no_lines_of, too_long_told, done_told, refused_told, text_behind}
 
 pub on_any_err : {T E P : Type 0} (r : Result T E) → P → OnErr r P

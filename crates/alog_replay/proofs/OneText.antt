@@ -3,7 +3,7 @@ use Rattle.std.proofs.Common.{◌≡◌, ℕ, ◌+◌, Option, Some, None, List,
 use Rattle.alog_replay.specs.Entry.{IsEntry}
 use Rattle.alog_replay.specs.Lines.{lines_of}
 use Rattle.alog_replay.specs.Session.{Stage, Played, Done, Refused, play}
-use Rattle.alog_replay.specs.Script.{Told, RefusedAt, told_behind, Tells, TellsLine, TellsPlayed, OneText}
+use Rattle.alog_replay.specs.Script.{Told, told_behind, Tells, TellsLine, TellsPlayed, OneText}
 use Rattle.alog_replay.specs.declared.entry.Entry.{Entry}
 use Rattle.alog_replay.specs.declared.entry.Entry.TheVariants.{Skipped, Does}
 use Rattle.alog_replay.specs.declared.entry.Entry.TheVariants as entry

@@ -1,17 +1,14 @@
 -- How far a replay has come.
-use Rattle.std.proofs.Common.{◌≡◌, ℕ, ◌+◌, ◌<◌, Option, Some, None, List, [], ◌∷◌, ◌++◌, length, inl, inr, refl, sym, ap, subst, ◌∙◌, append_assoc, arith}
+use Rattle.std.proofs.Common.{◌≡◌, ℕ, ◌+◌, Option, Some, None, List, [], ◌∷◌, ◌++◌, inl, refl, sym, ap, subst, ◌∙◌, append_assoc, arith}
 use Rattle.std.specs.Prelude.{⊤}
-use Rattle.std.proofs.lemmas.List.{append-nil}
 use Rattle.std.specs.Io.KnownBytes.{Appends}
 use Rattle.alog_replay.specs.Lines.{lines_of, TakesLine, BeginsTooLong}
 use Rattle.alog_replay.specs.Reading.{FindsLine}
-use Rattle.alog_replay.specs.Entry.{IsEntry}
-use Rattle.alog_replay.specs.Session.{Stage, Played, Done, Refused, play, files_text, IsDone, IsRefused}
-use Rattle.alog_replay.specs.Script.{Told, Whole, RefusedAt, told_behind, text_of, Tells, TellsLine, TellsPlayed, ScriptTells, LineDone, LineRefused, EntryDone, EntryRefused, LinePrints, WritesLine, WritesRefused, WritesLineFront, WritesFrontOf, WritesText, WritesFront}
+use Rattle.alog_replay.specs.Session.{Stage, Played, Done, Refused, play, files_text}
+use Rattle.alog_replay.specs.Script.{Told, Whole, RefusedAt, told_behind, text_of, Tells, TellsLine, TellsPlayed, ScriptTells, LineDone, LineRefused, EntryDone, EntryRefused, WritesLine}
 use Rattle.alog_replay.specs.declared.entry.Entry.{Entry}
 use Rattle.alog_replay.specs.declared.entry.Entry.TheVariants.{Skipped, Does}
 use Rattle.alog_replay.specs.declared.entry.Entry.TheVariants as entry
-use Rattle.alog_replay.specs.declared.lines.Line.{Line}
 use Rattle.alog_replay.specs.declared.lines.Line.TheVariants as found
 use Rattle.alog_replay.proofs.Writing.{appends_nothing, appends_more}
 

@@ -1,4 +1,4 @@
-use Rattle.std.proofs.Common.{[], List, ℕ, Err, inr, refl, sym, ap, subst, ◌∙◌, string_bytes}
+use Rattle.std.proofs.Common.{[], List, ℕ, Err, inr, sym, ap, subst, ◌∙◌, string_bytes}
 use Rattle.std.proofs.lemmas.List.{append-nil}
 use Rattle.alog_replay.specs.Script.{LineRefused}
 use Rattle.alog_replay.proofs.Endings.{on_any_err}

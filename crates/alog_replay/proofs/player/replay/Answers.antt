@@ -1,4 +1,4 @@
-use Rattle.std.proofs.Common.{◌≡◌, ◌+◌, ℕ, List, None, sym, ap, subst, ◌∙◌, arith}
+use Rattle.std.proofs.Common.{◌≡◌, ◌+◌, ℕ, List, None, sym, subst, arith}
 use Rattle.std.specs.Prelude.{IfSome}
 use Rattle.alog_replay.specs.Script.{RefusedAt, WritesText, WritesLine, WritesRefused, WritesLineFront}
 use Rattle.std.proofs.lemmas.Result.{err_from_is_err_and}

@@ -1,4 +1,4 @@
-use Rattle.std.proofs.Common.{◌≡◌, ◌+◌, ◌*◌, ◌^◌, ◌≤◌}
+use Rattle.std.proofs.Common.{◌+◌, ◌*◌, ◌^◌, ◌≤◌}
 use Rattle.alog_replay.specs.LineState.{rest_of, work_left}
 use Rattle.alog_replay.proofs.Telling.{HasTold}
 use Rattle.alog_replay.proofs.player.replay.Given as goal

@@ -1,4 +1,4 @@
-use Rattle.std.proofs.Common.{◌≡◌, ◌-◌, ◌+◌, ◌<◌, false, sym, ap, ◌∙◌, arith, string_bytes}
+use Rattle.std.proofs.Common.{◌-◌, ◌+◌, ◌<◌, sym, ap, ◌∙◌, arith, string_bytes}
 use Rattle.alog_replay.specs.Session.{run, step_text, after_step, behind}
 use Rattle.alog_replay.proofs.Stepping.{run_step, run_free, run_none, made_more, made_all, one_less, none_left}
 use Rattle.alog_replay.proofs.session.Session.run.Goals as goal
