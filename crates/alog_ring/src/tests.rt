@@ -139,21 +139,26 @@ fn keeps_values_that_own_memory(rt: HostRuntime) -> Result<(), Fail> {
 }
 
 // Pushes until the ring takes the value.
-fn push_until(rt: &impl Wait, ring: &Ring<u64>, pass: &mut Pass<u64>, value: u64) -> u64
+fn push_until<T>(rt: &impl Wait, ring: &Ring<T>, pass: &mut Pass<T>, mut value: T) -> u64
     requires { IsPassOf ring.now pass.old }
     ensures { IsPassOf ring.now pass.new }
 {
     for _ in rt.forever() {
-        match ring.push(rt, pass, value) {
+        value = match ring.push(rt, pass, value) {
             Ok(ticket) => return ticket,
-            Err(_) => thread::yield_now(),
-        }
+            Err(
+                PushError::Full { value, .. }
+                | PushError::Busy { value, .. }
+                | PushError::Spent { value },
+            ) => value,
+        };
+        thread::yield_now();
     }
     unreachable!()
 }
 
 // Pops until there is a value.
-fn pop_until(rt: &impl Wait, ring: &Ring<u64>, pass: &mut Pass<u64>) -> u64
+fn pop_until<T>(rt: &impl Wait, ring: &Ring<T>, pass: &mut Pass<T>) -> T
     requires { IsPassOf ring.now pass.old }
     ensures { IsPassOf ring.now pass.new }
 {
@@ -168,9 +173,9 @@ fn pop_until(rt: &impl Wait, ring: &Ring<u64>, pass: &mut Pass<u64>) -> u64
 
 // A ring, and a pass of it.
 #[derive(Drop)]
-struct Worker<'a> {
-    ring: &'a Ring<u64>,
-    pass: Pass<u64>,
+struct Worker<'a, T> {
+    ring: &'a Ring<T>,
+    pass: Pass<T>,
     ghost fits: { IsPassOf ring.now pass },
 }
 
@@ -178,7 +183,7 @@ struct Worker<'a> {
 fn push_all(
     rt: &impl Wait,
     alloc: Global,
-    worker: Worker,
+    worker: Worker<u64>,
     from: u64,
     to: u64,
 ) -> Result<Vec<u64>, AllocError> {
@@ -194,7 +199,7 @@ fn push_all(
 fn pop_all(
     rt: &impl Wait,
     alloc: Global,
-    worker: Worker,
+    worker: Worker<u64>,
     count: u64,
 ) -> Result<Vec<u64>, AllocError> {
     let Worker { ring, mut pass } = worker;
@@ -268,5 +273,55 @@ fn two_threads_push_and_two_pop(rt: HostRuntime) -> Result<(), Fail> {
     );
     assert!(rt; pushes.0.is_ok() && pushes.1.is_ok());
     assert!(rt; are_all_below(pops.0?, pops.1?, 2000)?);
+    Ok(())
+}
+
+// Pushes the numbers below `count`, each in a list of its own.
+fn push_lists(
+    rt: &impl Wait,
+    alloc: Global,
+    worker: Worker<Vec<u64>>,
+    count: u64,
+) -> Result<(), AllocError> {
+    let Worker { ring, mut pass } = worker;
+    for number in 0..count {
+        push_until(rt, ring, &mut pass, vec![in alloc; number; 1]?);
+    }
+    Ok(())
+}
+
+// Pops so many lists, and joins them.
+fn pop_lists(
+    rt: &impl Wait,
+    alloc: Global,
+    worker: Worker<Vec<u64>>,
+    count: u64,
+) -> Result<Vec<u64>, AllocError> {
+    let Worker { ring, mut pass } = worker;
+    let mut numbers = Vec::new(alloc);
+    for _ in 0..count {
+        let list = pop_until(rt, ring, &mut pass);
+        numbers.extend_from_slice(list.as_slice())?;
+    }
+    Ok(numbers)
+}
+
+#[test]
+fn lists_go_from_thread_to_thread(rt: HostRuntime) -> Result<(), Fail> {
+    let alloc = rt.alloc();
+    let (ring, mut pass) = Ring::<Vec<u64>>::new(alloc, 2, 0)?;
+    let ring = &ring;
+    let other = Worker {
+        ring,
+        pass: ring.split(&mut pass, 1),
+    };
+    let worker = Worker { ring, pass };
+    let (pushed, popped) = thread::join(
+        &rt,
+        || push_lists(&rt, alloc, worker, 1000),
+        || pop_lists(&rt, alloc, other, 1000),
+    );
+    assert!(rt; pushed.is_ok());
+    assert!(rt; popped?.as_slice().iter().copied().eq(0..1000));
     Ok(())
 }

@@ -6,7 +6,6 @@ use Rattle.alog_msg.specs.Message.{source_of}
 use Rattle.alog_msg.specs.declared.message.Message.{Message}
 use Rattle.alog_pattern.specs.Grammar.{IsReading}
 use Rattle.alog_pattern.specs.Length.{LineExceeds}
-use Rattle.alog_pattern.specs.declared.items.Item.{Item}
 use Rattle.alog_format.specs.Line.{IsLine}
 use Rattle.alog.specs.Line.{message_of}
 use Rattle.alog.proofs.line.line_of.Goals as goal
