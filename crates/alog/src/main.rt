@@ -1,8 +1,9 @@
 //! The program `alog`: the command line over the crates below it.
 //!
 //! `program.rt` has the one public function, `run`: the whole program over any reader and two writers, which answers
-//! the exit status. `words.rt` reads the command line, and `status.rt` says which status and which line on standard
-//! error each fault has. `main` hands `run` the arguments and the standard streams.
+//! the exit status. `words.rt` reads the command line into a request (`request.rt`), `line.rt` makes the line of
+//! `alog format`, and `status.rt` says which status and which line on standard error each fault has. `main` hands `run`
+//! the arguments and the standard streams.
 #![tactic(auto)]
 
 mod line;
