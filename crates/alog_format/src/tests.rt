@@ -11,6 +11,17 @@ const UTC: Context = Context {
     process: 7,
 };
 
+/// The offsets at both limits.
+const WEST: Context = Context {
+    zone: Zone::Fixed(-1439),
+    process: 0,
+};
+
+const EAST: Context = Context {
+    zone: Zone::Fixed(1439),
+    process: 0,
+};
+
 /// A line has this text and a newline.
 fn check(
     rt: &(impl Abort + AllocGlobal),
@@ -122,6 +133,84 @@ fn tells_the_time(rt: HostRuntime) -> Result<(), Fail> {
         &later,
         b"-00:30 Saturday February 000 000000 24 02/03/24 15:05:46",
     )
+}
+
+/// A time is shown so.
+fn shows(
+    rt: &(impl Abort + AllocGlobal),
+    time: i64,
+    context: &Context,
+    text: &[u8],
+) -> Result<(), Fail> {
+    let message = said(rt, Level::Info, time, "")?;
+    check(rt, b"%A %d %B %Y %T.%F %z %E", context, "", &message, text)
+}
+
+// The texts are those of Python's `datetime`.
+#[test]
+fn tells_the_least_and_the_greatest_time(rt: HostRuntime) -> Result<(), Fail> {
+    shows(
+        &rt,
+        i64::MIN,
+        &UTC,
+        b"Tuesday 21 September 1677 00:12:43.145224192 +00:00 -9223372037",
+    )?;
+    shows(
+        &rt,
+        i64::MIN,
+        &WEST,
+        b"Monday 20 September 1677 00:13:43.145224192 -23:59 -9223372037",
+    )?;
+    shows(
+        &rt,
+        i64::MAX,
+        &UTC,
+        b"Friday 11 April 2262 23:47:16.854775807 +00:00 9223372036",
+    )?;
+    shows(
+        &rt,
+        i64::MAX,
+        &EAST,
+        b"Saturday 12 April 2262 23:46:16.854775807 +23:59 9223372036",
+    )?;
+    let last = said(&rt, Level::Info, i64::MAX, "")?;
+    check(
+        &rt,
+        b"%a %b %m %d %C %D %x %H %I %M %S %p %R %r %T %X %e %f",
+        &UTC,
+        "",
+        &last,
+        b"Fri Apr 04 11 62 04/11/62 04/11/62 23 11 47 16 PM 23:47 11:47:16 PM 23:47:16 23:47:16 854 854775",
+    )
+}
+
+#[test]
+fn knows_leap_days(rt: HostRuntime) -> Result<(), Fail> {
+    shows(
+        &rt,
+        1_709_164_800_000_000_000,
+        &UTC,
+        b"Thursday 29 February 2024 00:00:00.000000000 +00:00 1709164800",
+    )?;
+    shows(
+        &rt,
+        951_868_799_999_999_999,
+        &UTC,
+        b"Tuesday 29 February 2000 23:59:59.999999999 +00:00 951868799",
+    )?;
+    shows(
+        &rt,
+        4_107_542_399_999_999_999,
+        &EAST,
+        b"Monday 01 March 2100 23:58:59.999999999 +23:59 4107542399",
+    )?;
+    shows(
+        &rt,
+        -1,
+        &WEST,
+        b"Wednesday 31 December 1969 00:00:59.999999999 -23:59 -1",
+    )?;
+    Ok(())
 }
 
 #[test]
