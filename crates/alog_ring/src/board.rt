@@ -41,10 +41,10 @@ fn first_words(alloc: Global, places: usize, first: u64) -> Result<Vec<u64>, All
     ensures { IfOk result (λ v. AreFirstWords places first v.items) }
 {
     let mut words = Vec::from_elem(alloc, first, places * APART + SEQUENCES)?;
-    let row = words.as_mut_slice();
+    let filled = words.as_mut_slice();
     let lap = places as u64;
     for ticket in first..first + lap {
-        row[(ticket % lap) as usize * APART + SEQUENCES] = ticket;
+        filled[(ticket % lap) as usize * APART + SEQUENCES] = ticket;
     }
     Ok(words)
 }

@@ -7,14 +7,14 @@ pub loop-ticket-preserved : goal.loop-ticket-preserved
 loop-ticket-preserved c =
     let n : ℕ = c.args.places
     in let t : ℕ = c.loop-ticket.ticket
-    in let row : List ℕ = c.loop-ticket.row
+    in let filled : List ℕ = c.loop-ticket.filled
     in let inv = c.loop-ticket.invariant
     in let two : 2 ≤ n = c.requires.size.1
     in let low : c.args.first ≤ t = c.loop-ticket.auto.ticket
     in let high : t < c.args.first + n = c.loop-ticket-test.true
     in (
-      length-set row (seq_of n t) t ∙ inv.0,
-      get_or-set_other row (seq_of n t) 16 t 0 (λ e. omega arith) ∙ inv.1,
-      get_or-set_other row (seq_of n t) 32 t 0 (λ e. omega arith) ∙ inv.2,
-      words_more n c.args.first t row two low high inv.0 inv.3,
+      length-set filled (seq_of n t) t ∙ inv.0,
+      get_or-set_other filled (seq_of n t) 16 t 0 (λ e. omega arith) ∙ inv.1,
+      get_or-set_other filled (seq_of n t) 32 t 0 (λ e. omega arith) ∙ inv.2,
+      words_more n c.args.first t filled two low high inv.0 inv.3,
     )
