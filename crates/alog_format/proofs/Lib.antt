@@ -1,7 +1,12 @@
+pub mod Blocks
+pub mod Carved
 pub mod Clips
+pub mod Crosses
 pub mod Gaps
 pub mod ItemTexts
 pub mod Moves
 pub mod OneLine
 pub mod PaddedTexts
+pub mod Shared
+pub mod Steps
 pub mod TextLengths

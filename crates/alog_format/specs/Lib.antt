@@ -1,4 +1,5 @@
 pub mod Block
+pub mod Ownership
 pub mod Buffer
 pub mod Clip
 pub mod Civil

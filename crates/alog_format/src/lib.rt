@@ -5,11 +5,13 @@
 //! flag's text by a table (`specs/Text.antt`). Every writer goes up to an end, so a text that is cut is never longer
 //! in the buffer than its width, and a buffer with room for the pattern's longest line is never too short.
 //!
-//! Read `line_buf.rt` with `specs/Buffer.antt` and `specs/Block.antt`, `context.rt` and `civil.rt` with
-//! `specs/Civil.antt`, `clip.rt` with `specs/Clip.antt`, `names.rt`, `times.rt` and `flag_texts.rt` with
-//! `specs/Text.antt`, `pads.rt`, and `lines.rt` with `specs/Line.antt`; `laws.rt` states that a message has one line.
+//! Read `line_buf.rt` with `specs/Buffer.antt`, and `block.rt`, the raw block under it, with `specs/Block.antt` and
+//! `specs/Ownership.antt`; `context.rt` and `civil.rt` with `specs/Civil.antt`, `clip.rt` with `specs/Clip.antt`,
+//! `names.rt`, `times.rt` and `flag_texts.rt` with `specs/Text.antt`, `pads.rt`, and `lines.rt` with
+//! `specs/Line.antt`; `laws.rt` states that a message has one line.
 #![tactic(auto)]
 
+mod block;
 mod civil;
 mod clip;
 mod context;

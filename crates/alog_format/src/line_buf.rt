@@ -1,6 +1,6 @@
 ghost use Rattle.std.specs.Prelude.{◌≡◌, ◌+◌, ◌≤◌, ◌↔◌, [], length, IfOk, IsErr, OnOk, OnErr, ◌==◌};
-ghost use Rattle.alog_format.specs.Block.{gapped, moved, overwritten};
 
+use crate::block::{Bytes, Deed, Start, attach, detach};
 use std::alloc::{AllocError, Global};
 use std::marker::Model;
 use thiserror::Error;
@@ -10,24 +10,40 @@ use thiserror::Error;
 #[error("the line buffer has no room")]
 pub struct NoRoom;
 
-/// A block of bytes of fixed capacity, in which one worker makes its lines. The block is taken once and never grows;
-/// bytes are written into it by `copy_in`, `move_up` and `open_gap` alone, of which the first two go through raw
-/// pointers and are proved by hand.
-#[derive(Drop)]
+/// A block of bytes of fixed capacity, in which one worker makes its lines. The block is taken once, never grows, and
+/// is reached through a raw pointer by the methods of `Bytes` alone, which are proved by hand.
 pub struct LineBuf {
-    block: Vec<u8>,
+    start: Start,
+    bytes: Bytes,
+    deed: Deed,
+    /// How many bytes it may hold, which are at most those of the block.
+    limit: usize,
     len: usize,
 }
 
 impl Model for LineBuf {
-    ghost use Rattle.std.specs.Prelude.{◌≤◌, take, vec_len};
+    ghost use Rattle.std.specs.Prelude.{◌≡◌, ◌≤◌, length, take};
     ghost use Rattle.alog_format.specs.Buffer.{Buffer};
 
     ghost Value = { Buffer };
 
-    ghost view = { λ b. record { bytes = take b.len b.block.items; capacity = vec_len b.block } };
+    ghost view = { λ b. record { bytes = take b.len b.bytes.items; capacity = b.limit } };
 
-    ghost invariant = { λ b. b.len ≤ vec_len b.block };
+    ghost invariant = { λ b. (b.len ≤ b.limit) × (b.limit ≤ length b.bytes.items)
+        × (b.start.at ≡ b.bytes.start) × (b.deed.start ≡ b.bytes.start) × (b.deed.len ≡ length b.bytes.items) };
+}
+
+impl Drop for LineBuf {
+    fn drop(self) {
+        let LineBuf {
+            start: _,
+            bytes,
+            deed,
+            limit: _,
+            len: _,
+        } = self;
+        drop(attach(bytes, deed));
+    }
 }
 
 impl LineBuf {
@@ -38,8 +54,17 @@ impl LineBuf {
         ensures empty { IfOk result (λ b. b.bytes ≡ []) }
         ensures capacity { IfOk result (λ b. b.capacity ≡ cap) }
     {
-        let block = vec![in alloc; 0; cap]?;
-        Ok(LineBuf { block, len: 0 })
+        // A block of no byte would have no place.
+        let mut block = vec![in alloc; 0; cap.max(1)]?;
+        let start = Start::of(&mut block);
+        let (bytes, deed) = detach(block);
+        Ok(LineBuf {
+            start,
+            bytes,
+            deed,
+            limit: cap,
+            len: 0,
+        })
     }
 
     /// Appends the bytes.
@@ -51,7 +76,7 @@ impl LineBuf {
         if bytes.len() > self.room() {
             return Err(NoRoom);
         }
-        copy_in(&mut self.block, self.len, bytes);
+        self.bytes.copy_in(self.start.at, self.len, bytes);
         self.len += bytes.len();
         Ok(())
     }
@@ -66,7 +91,7 @@ impl LineBuf {
         if by > self.room() {
             return Err(NoRoom);
         }
-        open_gap(&mut self.block, self.len, at, by);
+        self.bytes.open_gap(self.start.at, self.len, at, by);
         self.len += by;
         Ok(())
     }
@@ -90,7 +115,7 @@ impl LineBuf {
     pub fn as_slice(&self) -> &[u8]
         ensures { result.now ≡ self.now.bytes }
     {
-        &self.block[..self.len]
+        self.bytes.as_slice(self.start.at, self.len)
     }
 
     /// The number of bytes.
@@ -112,7 +137,7 @@ impl LineBuf {
         ensures value { result ≡ self.now.capacity }
         ensures bytes_within { length self.now.bytes ≤ result }
     {
-        self.block.len()
+        self.limit
     }
 
     /// How many more bytes the buffer takes.
@@ -121,49 +146,4 @@ impl LineBuf {
     {
         self.capacity() - self.len
     }
-}
-
-/// Copies the bytes to the places from `at` on.
-fn copy_in(block: &mut [u8], at: usize, bytes: &[u8])
-    requires { at + length bytes.now ≤ length block.old }
-    ensures { block.new ≡ overwritten block.old at bytes.now }
-{
-    let to = block.as_mut_ptr();
-    let from = bytes.as_ptr();
-    let count = bytes.len();
-    let mut i = 0;
-    while i < count {
-        unsafe {
-            let byte = *from.add(i);
-            *to.add(at + i) = byte;
-        }
-        i += 1;
-    }
-}
-
-/// Copies the `count` bytes from `from` on up to the places from `to` on. The last goes first, since the places may
-/// overlap.
-fn move_up(block: &mut [u8], from: usize, to: usize, count: usize)
-    requires { (from ≤ to) × (to + count ≤ length block.old) }
-    ensures { block.new ≡ moved block.old from to count }
-{
-    let start = block.as_mut_ptr();
-    let mut left = count;
-    while 0 < left {
-        left -= 1;
-        unsafe {
-            let byte = *start.add(from + left);
-            *start.add(to + left) = byte;
-        }
-    }
-}
-
-/// Moves the bytes from `at` to `len` up by `by`, and fills the gap with spaces.
-fn open_gap(block: &mut [u8], len: usize, at: usize, by: usize)
-    requires inside { at ≤ len }
-    requires fits { len + by ≤ length block.old }
-    ensures { block.new ≡ gapped block.old len at by }
-{
-    move_up(block, at, at + by, len - at);
-    block[at..at + by].fill(b' ');
 }

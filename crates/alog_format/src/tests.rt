@@ -248,3 +248,47 @@ fn makes_a_line_in_place(rt: HostRuntime) -> Result<(), Fail> {
     assert_eq!(rt; line.as_slice(), b"".as_slice());
     Ok(())
 }
+
+#[test]
+fn has_no_room_at_all(rt: HostRuntime) -> Result<(), Fail> {
+    let mut line = LineBuf::new(rt.alloc(), 0)?;
+    line.put(b"")?;
+    line.shift(0, 0)?;
+    assert_eq!(rt; line.put(b"a"), Err(NoRoom));
+    assert_eq!(rt; line.shift(0, 1), Err(NoRoom));
+    assert_eq!(rt; (line.capacity(), line.room(), line.len()), (0, 0, 0));
+    assert_eq!(rt; line.as_slice(), b"".as_slice());
+    Ok(())
+}
+
+/// A row of `count` bytes that differ from their neighbours.
+fn row(rt: &impl AllocGlobal, count: u32) -> Result<Vec<u8>, Fail> {
+    let mut bytes = Vec::new(rt.alloc());
+    for i in 0..count {
+        bytes.push((i % 251) as u8)?;
+    }
+    Ok(bytes)
+}
+
+#[test]
+fn moves_long_rows_over_themselves(rt: HostRuntime) -> Result<(), Fail> {
+    let bytes = row(&rt, 1_000)?;
+    for (at, by) in [
+        (0usize, 1usize),
+        (1, 7),
+        (500, 64),
+        (999, 1_000),
+        (1_000, 24),
+        (0, 1_000),
+    ] {
+        let mut line = LineBuf::new(rt.alloc(), 2_000)?;
+        line.put(&bytes)?;
+        line.shift(at, by)?;
+        assert_eq!(rt; line.len(), 1_000 + by);
+        let now = line.as_slice();
+        assert!(rt; now[..at] == bytes[..at]);
+        assert!(rt; now[at..at + by].iter().all(|byte| *byte == b' '));
+        assert!(rt; now[at + by..] == bytes[at..]);
+    }
+    Ok(())
+}

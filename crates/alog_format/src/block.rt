@@ -1,0 +1,161 @@
+//! A block of bytes behind a raw pointer: where it begins, its bytes, and the right to give it back.
+//!
+//! The block comes from a vector, which is taken apart, and goes back by putting that together again. Between, nothing
+//! reaches the bytes but `Bytes::copy_in`, `move_up`, `fill` and `as_slice`.
+ghost use Rattle.std.specs.Prelude.{◌≡◌, ℕ, ◌+◌, ◌^◌, ◌<◌, ◌≤◌, List, length, replicate, take};
+ghost use Rattle.std.specs.Vec.{with_items};
+ghost use base.Fml.{ftrue, fex, fall, fwand, fsep, feq};
+ghost use denote.RawPtr.{Ptr};
+ghost use Rattle.alog_format.specs.Block.{gapped, moved, overwritten};
+ghost use Rattle.alog_format.specs.Ownership.{Extent, extent_code, bytes_own, bytes_lent};
+
+use std::marker::{Model, Move, Owns};
+use std::slice;
+
+/// Where a block begins. It owns nothing.
+#[derive(Clone, Copy)]
+pub(crate) struct Start {
+    pub(crate) at: *mut u8,
+}
+
+/// The bytes of a block, which nothing else reaches. It takes no space.
+pub(crate) struct Bytes {
+    ghost start: { Ptr },
+    ghost items: { List ℕ },
+    ghost small: { length items < 2 ^ 63 },
+}
+
+impl Model for Bytes {
+    ghost also_owns = { λ b. bytes_own b.start b.items };
+
+    ghost also_shares = { λ b _ κ. bytes_lent b.start b.items κ };
+}
+
+/// A vector whose bytes are out: the right to give their block back.
+pub(crate) struct Deed {
+    vec: Vec<u8>,
+}
+
+impl Owns for Deed {
+    ghost Value = { Extent };
+
+    ghost coded = { extent_code };
+
+    ghost shr_at = { λ _ _ _. ftrue };
+}
+
+impl Move for Deed {
+    // with bytes in their place, it is a vector again
+    ghost own_val = { λ e vs. fex Inside (λ v. fsep (feq ℕ v.vec.len e.len) (fall (List ℕ) (λ xs. fwand (fsep (feq ℕ (length xs) e.len) (bytes_own e.start xs)) (Fields.own_val (record { vec = with_items v.vec xs }) vs)))) };
+}
+
+unsafe impl Send for Bytes {}
+
+unsafe impl Sync for Bytes {}
+
+unsafe impl Send for Deed {}
+
+unsafe impl Sync for Deed {}
+
+/// Takes a vector apart.
+pub(crate) fn detach(vec: Vec<u8>) -> (Bytes, Deed)
+    requires { 0 < vec.len }
+    ensures { (result.0.start ≡ vec.ptr) × (result.0.items ≡ vec.items)
+        × (result.1.start ≡ vec.ptr) × (result.1.len ≡ vec.len) }
+{
+    (Bytes {}, Deed { vec })
+}
+
+/// Puts it together again.
+pub(crate) fn attach(bytes: Bytes, deed: Deed) -> Vec<u8>
+    requires { (bytes.start ≡ deed.start) × (length bytes.items ≡ deed.len) }
+    ensures { result.items ≡ bytes.items }
+{
+    let Bytes {} = bytes;
+    let Deed { vec } = deed;
+    vec
+}
+
+impl Start {
+    /// Where the bytes of a vector begin.
+    pub(crate) fn of(vec: &mut Vec<u8>) -> Start
+        ensures start { result.at ≡ vec.new.ptr }
+        ensures same { vec.new ≡ vec.old }
+    {
+        Start {
+            at: vec.as_mut_ptr(),
+        }
+    }
+}
+
+impl Bytes {
+    /// Copies the bytes to the places from `at` on.
+    pub(crate) fn copy_in(&mut self, start: *mut u8, at: usize, bytes: &[u8])
+        requires start { start ≡ self.old.start }
+        requires fits { at + length bytes.now ≤ length self.old.items }
+        ensures { (self.new.start ≡ self.old.start) × (self.new.items ≡ overwritten self.old.items at bytes.now) }
+    {
+        let from = bytes.as_ptr();
+        let count = bytes.len();
+        let mut i = 0;
+        while i < count {
+            unsafe {
+                let byte = *from.add(i);
+                *start.add(at + i) = byte;
+            }
+            i += 1;
+        }
+    }
+
+    /// Copies the `count` bytes from `from` on up to the places from `to` on. The last goes first, since the places may
+    /// overlap.
+    pub(crate) fn move_up(&mut self, start: *mut u8, from: usize, to: usize, count: usize)
+        requires start { start ≡ self.old.start }
+        requires fits { (from ≤ to) × (to + count ≤ length self.old.items) }
+        ensures { (self.new.start ≡ self.old.start) × (self.new.items ≡ moved self.old.items from to count) }
+    {
+        let mut left = count;
+        while 0 < left {
+            left -= 1;
+            unsafe {
+                let byte = *start.add(from + left);
+                *start.add(to + left) = byte;
+            }
+        }
+    }
+
+    /// Writes the byte to the `count` places from `at` on.
+    pub(crate) fn fill(&mut self, start: *mut u8, at: usize, count: usize, byte: u8)
+        requires start { start ≡ self.old.start }
+        requires fits { at + count ≤ length self.old.items }
+        ensures { (self.new.start ≡ self.old.start) × (self.new.items ≡ overwritten self.old.items at (replicate count byte)) }
+    {
+        let mut i = 0;
+        while i < count {
+            unsafe {
+                *start.add(at + i) = byte;
+            }
+            i += 1;
+        }
+    }
+
+    /// Moves the bytes from `at` to `len` up by `by`, and fills the gap with spaces.
+    pub(crate) fn open_gap(&mut self, start: *mut u8, len: usize, at: usize, by: usize)
+        requires start { start ≡ self.old.start }
+        requires inside { at ≤ len }
+        requires fits { len + by ≤ length self.old.items }
+        ensures { (self.new.start ≡ self.old.start) × (self.new.items ≡ gapped self.old.items len at by) }
+    {
+        self.move_up(start, at, at + by, len - at);
+        self.fill(start, at, by, b' ');
+    }
+
+    /// The first `len` bytes.
+    pub(crate) fn as_slice(&self, start: *mut u8, len: usize) -> &[u8]
+        requires start { start ≡ self.now.start }
+        requires within { len ≤ length self.now.items }
+        ensures { result.now ≡ take len self.now.items }
+    {
+        unsafe { slice::from_raw_parts(start, len) }
+    }
+}
