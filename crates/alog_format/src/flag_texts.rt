@@ -31,7 +31,7 @@ pub(crate) struct Facts<'a> {
 }
 
 /// Appends the text of a flag.
-#[inline(always)]
+#[inline(never)]
 #[tactic(auto, unfolding(crate::specs::Text::flag_text))]
 pub(crate) fn write_flag(line: &mut LineBuf, end: usize, flag: Flag, facts: &Facts<'_>)
     requires { HasEnd line.old end }
@@ -95,6 +95,7 @@ fn write_time_flag(line: &mut LineBuf, end: usize, flag: Flag, at: &Civil)
 }
 
 /// Appends whole seconds since the epoch, rounded down.
+#[inline(never)]
 #[tactic(auto, unfolding(crate::specs::Text::epoch))]
 fn write_epoch(line: &mut LineBuf, end: usize, time: i64)
     requires { HasEnd line.old end }
@@ -154,6 +155,7 @@ pub(crate) fn write_function(line: &mut LineBuf, end: usize, message: &Message)
 }
 
 /// Appends file and line of the source.
+#[inline(never)]
 fn write_location(line: &mut LineBuf, end: usize, message: &Message)
     requires { HasEnd line.old end }
     ensures written { line.new ≡ clipped line.old end (text.of_source (λ source. text.location source.file source) message.now.source) }
@@ -178,6 +180,7 @@ fn write_place(line: &mut LineBuf, end: usize, file: &[u8], source: &Source)
 }
 
 /// Appends the default format.
+#[inline(never)]
 #[tactic(auto, using(crate::proofs::Clips::then_written), unfolding(crate::specs::Text::default_text))]
 fn write_default(line: &mut LineBuf, end: usize, facts: &Facts<'_>)
     requires { HasEnd line.old end }

@@ -118,6 +118,7 @@ pub(crate) fn write_stamp(line: &mut LineBuf, end: usize, at: &Civil)
 }
 
 /// Appends an offset from UTC in minutes, as `+02:00`.
+#[inline(never)]
 #[tactic(auto, using(crate::proofs::Clips::then_written), unfolding(crate::specs::Text::offset_text))]
 pub(crate) fn write_offset(line: &mut LineBuf, end: usize, minutes: i16)
     requires { HasEnd line.old end }
