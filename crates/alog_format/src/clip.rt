@@ -7,7 +7,7 @@ ghost use Rattle.alog_format.specs.Text.{digits};
 use crate::line_buf::LineBuf;
 use itoa::Buffer;
 
-/// Appends the bytes as far as the end.
+/// Appends the bytes as far as the end. The copy is a loop, so it is not inlined.
 #[inline(never)]
 #[tactic(auto, unfolding(crate::specs::Clip::clipped, crate::specs::Clip::HasEnd))]
 pub(crate) fn write(line: &mut LineBuf, end: usize, bytes: &[u8])
@@ -37,7 +37,7 @@ pub(crate) fn write_signed(line: &mut LineBuf, end: usize, number: i64)
     write(line, end, Buffer::new().format(number).as_bytes());
 }
 
-/// Appends the last two decimal digits of a number.
+/// Appends the last two decimal digits of a number, at once where they fit.
 #[inline(always)]
 #[tactic(auto, unfolding(crate::specs::Clip::clipped, crate::specs::Clip::HasEnd, crate::specs::Text::digits))]
 pub(crate) fn write_two_digits(line: &mut LineBuf, end: usize, number: u32)
@@ -52,7 +52,7 @@ pub(crate) fn write_two_digits(line: &mut LineBuf, end: usize, number: u32)
     }
 }
 
-/// Appends the last three decimal digits of a number.
+/// Appends the last three decimal digits of a number, at once where they fit.
 #[inline(always)]
 #[tactic(auto, unfolding(crate::specs::Clip::clipped, crate::specs::Clip::HasEnd, crate::specs::Text::digits))]
 pub(crate) fn write_three_digits(line: &mut LineBuf, end: usize, number: u32)
@@ -67,7 +67,7 @@ pub(crate) fn write_three_digits(line: &mut LineBuf, end: usize, number: u32)
     }
 }
 
-/// Appends the last four decimal digits of a number.
+/// Appends the last four decimal digits of a number, at once where they fit.
 #[inline(always)]
 #[tactic(auto, unfolding(crate::specs::Clip::clipped, crate::specs::Clip::HasEnd, crate::specs::Text::digits))]
 pub(crate) fn write_four_digits(line: &mut LineBuf, end: usize, number: u32)
@@ -94,7 +94,7 @@ fn digit(number: u32) -> u8
     b'0' + (number % 10) as u8
 }
 
-/// Appends the last `count` decimal digits of a number, at most nine.
+/// Appends the last `count` decimal digits of a number, at most nine, as far as the end.
 #[inline(never)]
 #[tactic(auto, unfolding(crate::specs::Text::digits))]
 pub(crate) fn write_digits(line: &mut LineBuf, end: usize, count: usize, number: u32)
@@ -108,7 +108,7 @@ pub(crate) fn write_digits(line: &mut LineBuf, end: usize, count: usize, number:
     let mut left = count;
     while 0 < left {
         left -= 1;
-        text[left] = b'0' + (rest % 10) as u8;
+        text[left] = digit(rest);
         rest /= 10;
     }
     write(line, end, &text[..count]);

@@ -30,7 +30,7 @@ pub(crate) struct Facts<'a> {
     pub at: Civil,
 }
 
-/// Appends the text of a flag.
+/// Appends the text of a flag. What needs a stack frame is not inlined here, so that most flags need none.
 #[inline(never)]
 #[tactic(auto, unfolding(crate::specs::Text::flag_text))]
 pub(crate) fn write_flag(line: &mut LineBuf, end: usize, flag: Flag, facts: &Facts<'_>)
