@@ -4,7 +4,10 @@ ghost use Rattle.alog_format.specs.Line.{shown_by};
 ghost use Rattle.alog_format.specs.Text as text;
 
 use crate::civil::Civil;
-use crate::clip::{write, write_decimal, write_digits, write_signed};
+use crate::clip::{
+    write, write_decimal, write_digits, write_four_digits, write_signed, write_three_digits,
+    write_two_digits,
+};
 use crate::line_buf::LineBuf;
 use crate::names::{base, half_day, half_day_hour, month_name, weekday_name};
 use crate::times::{
@@ -27,11 +30,12 @@ pub(crate) struct Facts<'a> {
     pub at: Civil,
 }
 
-/// Appends the text of a flag.
+/// Appends the text of a flag. What needs a stack frame is not inlined here, so that most flags need none.
+#[inline(never)]
 #[tactic(auto, unfolding(crate::specs::Text::flag_text))]
-pub(crate) fn write_flag(line: &mut LineBuf, end: usize, flag: Flag, facts: Facts<'_>)
+pub(crate) fn write_flag(line: &mut LineBuf, end: usize, flag: Flag, facts: &Facts<'_>)
     requires { HasEnd line.old end }
-    ensures written { line.new ≡ clipped line.old end (text.flag_text (shown_by facts.entry) flag) }
+    ensures written { line.new ≡ clipped line.old end (text.flag_text (shown_by facts.now) flag) }
     ensures ends { HasEnd line.new end }
 {
     let message = facts.message;
@@ -52,15 +56,16 @@ pub(crate) fn write_flag(line: &mut LineBuf, end: usize, flag: Flag, facts: Fact
         Flag::File => write_file(line, end, message),
         Flag::Line => write_source_line(line, end, message),
         Flag::Function => write_function(line, end, message),
-        _ => write_time_flag(line, end, flag, facts.at),
+        _ => write_time_flag(line, end, flag, &facts.at),
     }
 }
 
 /// Appends the text of a flag of the time, and nothing for another flag.
+#[inline(always)]
 #[tactic(auto, unfolding(crate::specs::Text::time_text))]
-fn write_time_flag(line: &mut LineBuf, end: usize, flag: Flag, at: Civil)
+fn write_time_flag(line: &mut LineBuf, end: usize, flag: Flag, at: &Civil)
     requires { HasEnd line.old end }
-    ensures written { line.new ≡ clipped line.old end (text.time_text at flag) }
+    ensures written { line.new ≡ clipped line.old end (text.time_text at.now flag) }
     ensures ends { HasEnd line.new end }
 {
     match flag {
@@ -69,16 +74,16 @@ fn write_time_flag(line: &mut LineBuf, end: usize, flag: Flag, at: Civil)
         Flag::ShortMonth => write_short_month(line, end, at),
         Flag::Month => write(line, end, month_name(at.month)),
         Flag::DateTime => write_date_and_time(line, end, at),
-        Flag::ShortYear => write_digits(line, end, 2, at.year),
-        Flag::Year => write_digits(line, end, 4, at.year),
+        Flag::ShortYear => write_two_digits(line, end, at.year),
+        Flag::Year => write_four_digits(line, end, at.year),
         Flag::ShortDate => write_short_date(line, end, at),
-        Flag::MonthNumber => write_digits(line, end, 2, at.month),
-        Flag::Day => write_digits(line, end, 2, at.day),
-        Flag::Hour => write_digits(line, end, 2, at.hour),
-        Flag::HalfDayHour => write_digits(line, end, 2, half_day_hour(at.hour)),
-        Flag::Minute => write_digits(line, end, 2, at.minute),
-        Flag::Second => write_digits(line, end, 2, at.second),
-        Flag::Milliseconds => write_digits(line, end, 3, at.nanosecond / 1_000_000),
+        Flag::MonthNumber => write_two_digits(line, end, at.month),
+        Flag::Day => write_two_digits(line, end, at.day),
+        Flag::Hour => write_two_digits(line, end, at.hour),
+        Flag::HalfDayHour => write_two_digits(line, end, half_day_hour(at.hour)),
+        Flag::Minute => write_two_digits(line, end, at.minute),
+        Flag::Second => write_two_digits(line, end, at.second),
+        Flag::Milliseconds => write_three_digits(line, end, at.nanosecond / 1_000_000),
         Flag::Microseconds => write_digits(line, end, 6, at.nanosecond / 1_000),
         Flag::Nanoseconds => write_digits(line, end, 9, at.nanosecond),
         Flag::HalfDay => write(line, end, half_day(at.hour)),
@@ -90,6 +95,7 @@ fn write_time_flag(line: &mut LineBuf, end: usize, flag: Flag, at: Civil)
 }
 
 /// Appends whole seconds since the epoch, rounded down.
+#[inline(never)]
 #[tactic(auto, unfolding(crate::specs::Text::epoch))]
 fn write_epoch(line: &mut LineBuf, end: usize, time: i64)
     requires { HasEnd line.old end }
@@ -149,6 +155,7 @@ pub(crate) fn write_function(line: &mut LineBuf, end: usize, message: &Message)
 }
 
 /// Appends file and line of the source.
+#[inline(never)]
 fn write_location(line: &mut LineBuf, end: usize, message: &Message)
     requires { HasEnd line.old end }
     ensures written { line.new ≡ clipped line.old end (text.of_source (λ source. text.location source.file source) message.now.source) }
@@ -173,13 +180,14 @@ fn write_place(line: &mut LineBuf, end: usize, file: &[u8], source: &Source)
 }
 
 /// Appends the default format.
+#[inline(never)]
 #[tactic(auto, using(crate::proofs::Clips::then_written), unfolding(crate::specs::Text::default_text))]
-fn write_default(line: &mut LineBuf, end: usize, facts: Facts<'_>)
+fn write_default(line: &mut LineBuf, end: usize, facts: &Facts<'_>)
     requires { HasEnd line.old end }
-    ensures written { line.new ≡ clipped line.old end (text.default_text (shown_by facts.entry)) }
+    ensures written { line.new ≡ clipped line.old end (text.default_text (shown_by facts.now)) }
     ensures ends { HasEnd line.new end }
 {
-    write_stamp_part(line, end, facts.at);
+    write_stamp_part(line, end, &facts.at);
     write_name_part(line, end, facts.name.as_bytes());
     write_bracketed(line, end, facts.message.level.name().as_bytes());
     write_place_part(line, end, facts.message);
@@ -188,9 +196,9 @@ fn write_default(line: &mut LineBuf, end: usize, facts: Facts<'_>)
 
 /// Appends date and time in brackets.
 
-fn write_stamp_part(line: &mut LineBuf, end: usize, at: Civil)
+fn write_stamp_part(line: &mut LineBuf, end: usize, at: &Civil)
     requires { HasEnd line.old end }
-    ensures written { line.new ≡ clipped line.old end (text.bracketed (text.stamp at)) }
+    ensures written { line.new ≡ clipped line.old end (text.bracketed (text.stamp at.now)) }
     ensures ends { HasEnd line.new end }
 {
     write(line, end, b"[");

@@ -33,7 +33,7 @@ pub fn format(
     ensures { AppendsLine context.now pattern.now.items name.now message.now line.old line.new }
 {
     let facts = facts_of(context, name, message);
-    write_items(line, pattern.items(), pattern.text_limit(), facts);
+    write_items(line, pattern.items(), pattern.text_limit(), &facts);
     put(line, b"\n");
 }
 
@@ -65,23 +65,23 @@ fn facts_of<'a>(context: &Context, name: &'a str, message: &'a Message) -> Facts
 }
 
 /// Appends the texts of items in order, and leaves room for a newline.
-fn write_items(line: &mut LineBuf, items: &[Item], text_limit: usize, facts: Facts<'_>)
-    requires showable { IsShowable text_limit (shown_by facts) }
+fn write_items(line: &mut LineBuf, items: &[Item], text_limit: usize, facts: &Facts<'_>)
+    requires showable { IsShowable text_limit (shown_by facts.now) }
     requires room { length line.old.bytes + sum_by (item_len text_limit) items.now < line.old.capacity }
-    ensures written { line.new ≡ appended line.old (flat_map (item_text (shown_by facts.entry)) items.now) }
+    ensures written { line.new ≡ appended line.old (flat_map (item_text (shown_by facts.now)) items.now) }
     ensures room_left { length line.new.bytes < line.new.capacity }
 {
     for item in items {
-        write_item(line, *item, facts);
+        write_item(line, item, facts);
     }
 }
 
 /// Appends the text of an item.
-fn write_item(line: &mut LineBuf, item: Item, facts: Facts<'_>)
-    requires { length line.old.bytes + length (item_text (shown_by facts) item) ≤ line.old.capacity }
-    ensures { line.new ≡ appended line.old (item_text (shown_by facts.entry) item) }
+fn write_item(line: &mut LineBuf, item: &Item, facts: &Facts<'_>)
+    requires { length line.old.bytes + length (item_text (shown_by facts.now) item.now) ≤ line.old.capacity }
+    ensures { line.new ≡ appended line.old (item_text (shown_by facts.now) item.now) }
 {
-    match item {
+    match *item {
         Item::Byte(byte) => put(line, &[byte]),
         Item::Flag(flag, Some(padding)) if !flag.ignores_padding() => {
             write_padded(line, padding, flag, facts)
@@ -97,12 +97,12 @@ fn write_item(line: &mut LineBuf, item: Item, facts: Facts<'_>)
 
 /// Appends the function of the source, padded and not cut.
 #[tactic(auto, unfolding(crate::specs::Text::flag_text))]
-fn write_function(line: &mut LineBuf, width: u8, side: Side, facts: Facts<'_>)
+fn write_function(line: &mut LineBuf, width: u8, side: Side, facts: &Facts<'_>)
     requires { length line.old.bytes
-        + length (pad width side false (of_source (λ source. source.function) facts.message.now.source))
+        + length (pad width side false (of_source (λ source. source.function) facts.now.message.now.source))
         ≤ line.old.capacity }
     ensures { line.new
-        ≡ appended line.old (pad width side false (of_source (λ source. source.function) facts.entry.message.now.source)) }
+        ≡ appended line.old (pad width side false (of_source (λ source. source.function) facts.now.message.now.source)) }
 {
     let padding = Padding {
         width,
@@ -121,9 +121,9 @@ fn put(line: &mut LineBuf, bytes: &[u8])
 }
 
 /// Appends the text of a flag for which there is room.
-fn write_whole(line: &mut LineBuf, flag: Flag, facts: Facts<'_>)
-    requires { length line.old.bytes + length (flag_text (shown_by facts) flag) ≤ line.old.capacity }
-    ensures { line.new ≡ appended line.old (flag_text (shown_by facts.entry) flag) }
+fn write_whole(line: &mut LineBuf, flag: Flag, facts: &Facts<'_>)
+    requires { length line.old.bytes + length (flag_text (shown_by facts.now) flag) ≤ line.old.capacity }
+    ensures { line.new ≡ appended line.old (flag_text (shown_by facts.now) flag) }
 {
     let end = line.capacity();
     write_flag(line, end, flag, facts);

@@ -10,12 +10,12 @@ use crate::line_buf::LineBuf;
 use alog_pattern::{Flag, Padding, Side};
 
 /// Appends the text of a flag, padded.
-pub(crate) fn write_padded(line: &mut LineBuf, padding: Padding, flag: Flag, facts: Facts<'_>)
+pub(crate) fn write_padded(line: &mut LineBuf, padding: Padding, flag: Flag, facts: &Facts<'_>)
     requires { length line.old.bytes
-        + length (padded_text padding.width padding.side padding.cut (flag_text (shown_by facts) flag))
+        + length (padded_text padding.width padding.side padding.cut (flag_text (shown_by facts.now) flag))
         ≤ line.old.capacity }
     ensures { line.new
-        ≡ appended line.old (padded_text padding.width padding.side padding.cut (flag_text (shown_by facts.entry) flag)) }
+        ≡ appended line.old (padded_text padding.width padding.side padding.cut (flag_text (shown_by facts.now) flag)) }
 {
     let start = line.len();
     let end = end_of(line, padding);

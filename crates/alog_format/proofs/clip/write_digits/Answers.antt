@@ -1,4 +1,4 @@
-use Rattle.std.proofs.Common.{◌≡◌, ◌+◌, ◌-◌, ◌%◌, length, ◌∙◌, arith, length-set}
+use Rattle.std.proofs.Common.{◌≡◌, ◌-◌, length, ◌∙◌, arith, length-set}
 use Rattle.alog_format.proofs.Clips.{digits_more}
 use Rattle.alog_format.proofs.clip.write_digits.Goals as goal
 
@@ -10,7 +10,7 @@ loop-left-preserved c =
     let less = at.invariant.less in
     let count = c.requires.count in
     record {
-      room = omega (arith, length-set at.text (at.left - 1) (48 + at.rest % 10));
+      room = omega (arith, length-set at.text (at.left - 1) c.digit.result);
       less = omega arith;
-      digits = digits_more at.text at.left c.args.count at.rest some less (omega arith) ∙ at.invariant.digits;
+      digits = rw c.digit.ensures (digits_more at.text at.left c.args.count at.rest some less (omega arith) ∙ at.invariant.digits);
     }
