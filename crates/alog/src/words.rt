@@ -15,6 +15,35 @@ use std::str::FromStr;
 /// The most minutes that an offset is from UTC, either way.
 const OFFSET_MAX: i16 = 1439;
 
+/// The options of `alog format`, in the order in which help lists them: name, name of the value, help.
+const OPTIONS: [(&str, &str, &str); 9] = [
+    (
+        "time",
+        "N",
+        "Nanoseconds since 1970, as --time=-1 where negative [0]",
+    ),
+    ("offset", "N", "Minutes east of UTC, -1439 to 1439 [0]"),
+    (
+        "name",
+        "N",
+        "The name of the logger, at most 64 bytes [none]",
+    ),
+    (
+        "level",
+        "L",
+        "trace, debug, info, warning, error, critical or off [info]",
+    ),
+    ("thread", "N", "The number of the thread [0]"),
+    ("process", "N", "The number of the process [0]"),
+    ("file", "F", "The file of the source, at most 256 bytes"),
+    ("line", "N", "The line in that file [0]"),
+    (
+        "function",
+        "F",
+        "The function of the source, at most 128 bytes",
+    ),
+];
+
 /// Why a command line asks for nothing.
 #[derive(Debug, Drop)]
 pub enum WordsFault {
@@ -81,49 +110,14 @@ fn format<'a>(alloc: Global) -> Result<Command<'a>, AllocError> {
     let text = Arg::new(alloc, "TEXT")
         .required(true)
         .help("The text of the message, at most 2048 bytes");
-    Command::new(alloc, "format")
+    let mut command = Command::new(alloc, "format")
         .about("Print the line of a message by a pattern")
         .arg(pattern)?
-        .arg(text)?
-        .arg(option(
-            alloc,
-            "time",
-            "N",
-            "Nanoseconds since 1970, as --time=-1 where negative [0]",
-        ))?
-        .arg(option(
-            alloc,
-            "offset",
-            "N",
-            "Minutes east of UTC, -1439 to 1439 [0]",
-        ))?
-        .arg(option(
-            alloc,
-            "name",
-            "N",
-            "The name of the logger, at most 64 bytes [none]",
-        ))?
-        .arg(option(
-            alloc,
-            "level",
-            "L",
-            "trace, debug, info, warning, error, critical or off [info]",
-        ))?
-        .arg(option(alloc, "thread", "N", "The number of the thread [0]"))?
-        .arg(option(alloc, "process", "N", "The number of the process [0]"))?
-        .arg(option(
-            alloc,
-            "file",
-            "F",
-            "The file of the source, at most 256 bytes",
-        ))?
-        .arg(option(alloc, "line", "N", "The line in that file [0]"))?
-        .arg(option(
-            alloc,
-            "function",
-            "F",
-            "The function of the source, at most 128 bytes",
-        ))
+        .arg(text)?;
+    for (name, value, help) in OPTIONS {
+        command = command.arg(option(alloc, name, value, help))?;
+    }
+    Ok(command)
 }
 
 fn option<'a>(alloc: Global, name: &'a str, value: &'a str, help: &'a str) -> Arg<'a> {
