@@ -34,6 +34,10 @@ IsFieldTooLong r = (length r.text.now ≤ 2048) × (HasLongField r.source ⊎ (6
 abbrev pub Fits : LineRequest → Type 0
 Fits r = (¬ IsTextTooLong r) × (¬ IsFieldTooLong r)
 
+-- a limit is passed: of the pattern, of its longest line, of the text, or of the name, file or function
+abbrev pub IsRefused : LineRequest → Type 0
+IsRefused r = IsPatternTooLong r ⊎ IsLineTooLong r ⊎ IsTextTooLong r ⊎ IsFieldTooLong r
+
 -- the line was written, and nothing else
 abbrev pub WritesLineOf : LineRequest → Option (List ℕ) → Option (List ℕ) → Type 0
 WritesLineOf r old new = (bytes : List ℕ) × IsLineOf r bytes × Appends old new bytes

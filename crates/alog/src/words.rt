@@ -1,6 +1,8 @@
 //! The command line.
-ghost use Rattle.std.specs.Prelude.{◌≡◌, map, true, Ok};
-ghost use Rattle.alog.specs.Words.{AsksReplay};
+ghost use Rattle.std.specs.Prelude.{◌≡◌, ◌↔◌, map, IsTrue, IsNone, IfSome, MatchResult, Ok, false, codes, nat_eq};
+ghost use Rattle.std.specs.List.{starts_with};
+ghost use Rattle.alog_msg.specs.Message.{fields_of};
+ghost use Rattle.alog.specs.Words.{AsksReplay, value_of, text_of};
 ghost use Rattle.alog.specs.declared.request.Request.{Request};
 
 use crate::request::{LineRequest, Request};
@@ -54,12 +56,21 @@ pub enum WordsFault {
 }
 
 impl From<Error> for WordsFault {
+    ghost use Rattle.std.specs.Prelude.{◌≡◌};
+    ghost use Rattle.alog.specs.declared.words.WordsFault.TheVariants.{Clap};
+
+    ghost from_gives = { λ error fault. fault ≡ Clap error };
+
     fn from(error: Error) -> WordsFault {
         WordsFault::Clap(error)
     }
 }
 
 impl From<AllocError> for WordsFault {
+    ghost use Rattle.alog.specs.Words.{IsOutOfMemory};
+
+    ghost from_gives = { λ _ fault. IsOutOfMemory fault };
+
     fn from(error: AllocError) -> WordsFault {
         WordsFault::Clap(Error::from(error))
     }
@@ -83,7 +94,7 @@ pub fn read<'a, S: AsStr>(alloc: Global, words: &'a [S]) -> Result<Request<'a>, 
 
 /// Whether the words are `alog replay`.
 fn is_replay<S: AsStr>(words: &[S]) -> bool
-    ensures { AsksReplay (map S.text words.now) → result ≡ true }
+    ensures { IsTrue result ↔ AsksReplay (map S.text words.now) }
 {
     match words {
         [_, word] => word.as_str() == "replay",
@@ -157,7 +168,15 @@ fn line_request<'a>(matches: &ArgMatches<'a>) -> Result<LineRequest<'a>, WordsFa
 }
 
 /// The source, where its file or its function is given.
-fn source<'a>(matches: &ArgMatches<'a>, line: u32) -> Option<SourceRef<'a>> {
+fn source<'a>(matches: &ArgMatches<'a>, line: u32) -> Option<SourceRef<'a>>
+    ensures absent { IsNone result
+        ↔ (IsNone (value_of matches.now (codes "file")) × IsNone (value_of matches.now (codes "function"))) }
+    ensures given { IfSome result (λ source. fields_of source ≡ record {
+      file = text_of matches.now (codes "file");
+      line = line;
+      function = text_of matches.now (codes "function");
+    }) }
+{
     if matches.get_str("file").is_none() && matches.get_str("function").is_none() {
         return None;
     }
@@ -169,7 +188,9 @@ fn source<'a>(matches: &ArgMatches<'a>, line: u32) -> Option<SourceRef<'a>> {
 }
 
 /// The value of an argument, or the empty text.
-fn text<'a>(matches: &ArgMatches<'a>, name: &str) -> &'a str {
+fn text<'a>(matches: &ArgMatches<'a>, name: &str) -> &'a str
+    ensures { result.now ≡ text_of matches.now name.now }
+{
     match matches.get_str(name) {
         Some(text) => text,
         None => "",
@@ -184,6 +205,10 @@ fn number<T: FromStr + Drop>(
 ) -> Result<T, WordsFault>
 where
     T::Err: Drop,
+    ensures absent { IsNone (value_of matches.now name.now) → result ≡ Ok absent }
+    ensures given { IfSome (value_of matches.now name.now) (λ text. MatchResult result
+        (λ number. T.from_str_gives text (Ok number) × (starts_with nat_eq text (codes "+") ≡ false))
+        (λ fault. fault ≡ WordsFault.Unreadable name.entry)) }
 {
     let Some(text) = matches.get_str(name) else {
         return Ok(absent);
