@@ -1,8 +1,9 @@
 //! The command line.
-ghost use Rattle.std.specs.Prelude.{◌≡◌, ◌↔◌, map, IsTrue, IsNone, IfSome, MatchResult, Ok, false, codes, nat_eq};
+ghost use Rattle.std.specs.Prelude.{◌≡◌, ◌↔◌, map, IsTrue, IsNone, IfOk, IfSome, MatchResult, Ok, false, codes, nat_eq};
 ghost use Rattle.std.specs.List.{starts_with};
 ghost use Rattle.alog_msg.specs.Message.{fields_of};
-ghost use Rattle.alog.specs.Words.{AsksReplay, value_of, text_of};
+ghost use Rattle.alog.specs.Words.{AsksReplay};
+ghost use Rattle.alog.specs.Options.{value_of, text_of, AsksFor};
 ghost use Rattle.alog.specs.declared.request.Request.{Request};
 
 use crate::request::{LineRequest, Request};
@@ -139,7 +140,9 @@ fn option<'a>(alloc: Global, name: &'a str, value: &'a str, help: &'a str) -> Ar
 }
 
 /// What `alog format` is asked for. The options are read in the order in which help lists them.
-fn line_request<'a>(matches: &ArgMatches<'a>) -> Result<LineRequest<'a>, WordsFault> {
+fn line_request<'a>(matches: &ArgMatches<'a>) -> Result<LineRequest<'a>, WordsFault>
+    ensures { IfOk result (AsksFor matches.now) }
+{
     let time = number(matches, "time", 0)?;
     let offset = number(matches, "offset", 0)?;
     if offset < -OFFSET_MAX || offset > OFFSET_MAX {
