@@ -1,5 +1,5 @@
 //! The command line.
-ghost use Rattle.std.specs.Prelude.{◌≡◌, ◌↔◌, map, IsTrue, IsNone, IfOk, IfSome, MatchResult, Ok, false, codes, nat_eq};
+ghost use Rattle.std.specs.Prelude.{◌≡◌, ◌↔◌, ◌⊎◌, map, IsTrue, IsNone, IfOk, IfSome, MatchResult, Ok, Err, Some, true, false, codes, nat_eq};
 ghost use Rattle.std.specs.List.{starts_with};
 ghost use Rattle.alog_msg.specs.Message.{fields_of};
 ghost use Rattle.alog.specs.Words.{AsksReplay};
@@ -132,7 +132,10 @@ fn format<'a>(alloc: Global) -> Result<Command<'a>, AllocError> {
     Ok(command)
 }
 
-fn option<'a>(alloc: Global, name: &'a str, value: &'a str, help: &'a str) -> Arg<'a> {
+fn option<'a>(alloc: Global, name: &'a str, value: &'a str, help: &'a str) -> Arg<'a>
+    ensures id { result.id ≡ name.entry }
+    ensures long { result.long ≡ Some name.entry }
+{
     Arg::new(alloc, name)
         .long(name)
         .value_name(value)
@@ -211,7 +214,8 @@ where
     ensures absent { IsNone (value_of matches.now name.now) → result ≡ Ok absent }
     ensures given { IfSome (value_of matches.now name.now) (λ text. MatchResult result
         (λ number. T.from_str_gives text (Ok number) × (starts_with nat_eq text (codes "+") ≡ false))
-        (λ fault. fault ≡ WordsFault.Unreadable name.entry)) }
+        (λ fault. (fault ≡ WordsFault.Unreadable name.entry) × ((starts_with nat_eq text (codes "+") ≡ true)
+            ⊎ ((error : T.Err) × T.from_str_gives text (Err error))))) }
 {
     let Some(text) = matches.get_str(name) else {
         return Ok(absent);
