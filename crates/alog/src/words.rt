@@ -215,7 +215,7 @@ where
     ensures given { IfSome (value_of matches.now name.now) (λ text. MatchResult result
         (λ number. T.from_str_gives text (Ok number) × (starts_with nat_eq text (codes "+") ≡ false))
         (λ fault. (fault ≡ WordsFault.Unreadable name.entry) × ((starts_with nat_eq text (codes "+") ≡ true)
-            ⊎ ((error : T.Err) × T.from_str_gives text (Err error))))) }
+        ⊎ ((error : T.Err) × T.from_str_gives text (Err error))))) }
 {
     let Some(text) = matches.get_str(name) else {
         return Ok(absent);

@@ -1,4 +1,4 @@
-use Rattle.std.proofs.Common.{rules, ◌≡◌, ◌∙◌, ℕ, ℤ, pos, List, Option, Some, None, refl, sym, ap, subst, Bor, of_z, to_z}
+use Rattle.std.proofs.Common.{rules, ◌≡◌, ◌∙◌, ℕ, ℤ, pos, List, Option, Some, None, refl, sym, ap, subst, Bor}
 use Rattle.std.specs.Int.{w16, w64}
 use Rattle.std.specs.Prelude.{IsNone, IfSome, MatchOption, option_map}
 use Rattle.alog_msg.specs.Level.{Names}
