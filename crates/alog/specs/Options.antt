@@ -1,5 +1,6 @@
 -- What the values of the options say.
-use Rattle.std.specs.Prelude.{◌≡◌, ℕ, ℤ, pos, List, [], Option, None, Some, codes, unwrap_or, IsNone, IfSome, MatchOption, ◌↔◌}
+use Rattle.std.specs.Prelude.{◌≡◌, ℕ, ℤ, pos, List, [], Option, None, Some, codes, unwrap_or, IsNone, IsSome, IfSome, MatchOption, ◌↔◌}
+use Rattle.std.specs.Borrow.{Bor}
 use Rattle.std.specs.Str.Parse.{digits_value, signed_digits_value, without_leading_plus}
 use Rattle.clap.specs.declared.parser.matches.ArgMatches.{ArgMatches}
 use Rattle.clap.specs.Words.{found_of, first_value}
@@ -9,6 +10,8 @@ use Rattle.alog_msg.specs.declared.source.SourceRef.{SourceRef}
 use Rattle.alog_msg.specs.declared.level.Level.TheVariants.{Info}
 use Rattle.alog_format.specs.declared.context.Zone.TheVariants.{Fixed}
 use Rattle.alog.specs.declared.request.LineRequest.{LineRequest}
+use Rattle.alog.specs.declared.words.WordsFault.{WordsFault}
+use Rattle.alog.specs.declared.words.WordsFault.TheVariants.{Unreadable}
 
 -- the value of an argument, if it is there
 abbrev pub value_of : ArgMatches → List ℕ → Option (List ℕ)
@@ -48,3 +51,7 @@ pub record AsksFor (m : ArgMatches) (r : LineRequest) : Type 0 where
   pub source : (line : ℕ) × IsNumber (value_of m (codes "line")) line × IsSource m line r.source
   pub process : IsNumber (value_of m (codes "process")) r.context.process
   pub zone : (minutes : ℤ) × (r.context.zone ≡ Fixed minutes) × IsSignedNumber (value_of m (codes "offset")) minutes
+
+-- the fault names an option whose value is there
+abbrev pub NamesGiven : ArgMatches → WordsFault → Type 0
+NamesGiven m fault = (name : Bor (List ℕ)) × (fault ≡ Unreadable name) × IsSome (value_of m name.now)

@@ -1,9 +1,10 @@
 //! The command line.
-ghost use Rattle.std.specs.Prelude.{◌≡◌, ◌↔◌, ◌⊎◌, map, IsTrue, IsNone, IfOk, IfSome, MatchResult, Ok, Err, Some, true, false, codes, nat_eq};
+ghost use Rattle.std.specs.Prelude.{◌≡◌, ◌↔◌, ◌⊎◌, map, IsTrue, IsNone, IfOk, IfErr, IfSome, MatchResult, Ok, Err, Some, true, false, codes, nat_eq};
 ghost use Rattle.std.specs.List.{starts_with};
+ghost use Rattle.clap.specs.declared.builder.texts.Texts.TheVariants.{One};
 ghost use Rattle.alog_msg.specs.Message.{fields_of};
 ghost use Rattle.alog.specs.Words.{AsksReplay};
-ghost use Rattle.alog.specs.Options.{value_of, text_of, AsksFor};
+ghost use Rattle.alog.specs.Options.{value_of, text_of, AsksFor, NamesGiven};
 ghost use Rattle.alog.specs.declared.request.Request.{Request};
 
 use crate::request::{LineRequest, Request};
@@ -135,6 +136,8 @@ fn format<'a>(alloc: Global) -> Result<Command<'a>, AllocError> {
 fn option<'a>(alloc: Global, name: &'a str, value: &'a str, help: &'a str) -> Arg<'a>
     ensures id { result.id ≡ name.entry }
     ensures long { result.long ≡ Some name.entry }
+    ensures value { result.val_names ≡ One value.entry }
+    ensures help { result.help ≡ Some help.entry }
 {
     Arg::new(alloc, name)
         .long(name)
@@ -144,7 +147,8 @@ fn option<'a>(alloc: Global, name: &'a str, value: &'a str, help: &'a str) -> Ar
 
 /// What `alog format` is asked for. The options are read in the order in which help lists them.
 fn line_request<'a>(matches: &ArgMatches<'a>) -> Result<LineRequest<'a>, WordsFault>
-    ensures { IfOk result (AsksFor matches.now) }
+    ensures asked { IfOk result (AsksFor matches.now) }
+    ensures unreadable { IfErr result (NamesGiven matches.now) }
 {
     let time = number(matches, "time", 0)?;
     let offset = number(matches, "offset", 0)?;

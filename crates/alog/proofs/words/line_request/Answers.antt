@@ -28,8 +28,8 @@ level_given value level name e names = subst (λ (v : Option (List ℕ)). MatchO
 level_absent : (value : Option (List ℕ)) (level : Level) → value ≡ None → level ≡ Info → MatchOption value (level ≡ Info) (λ name. Names name level)
 level_absent value level e info = subst (λ (v : Option (List ℕ)). MatchOption v (level ≡ Info) (λ name. Names name level)) (sym e) info
 
-pub returns : goal.returns
-returns c =
+pub returns-clause-asked : goal.returns-clause-asked
+returns-clause-asked c =
     let time_is = to_z-of_z w64 c.in_ok-time.time (search rules) in
     let offset_is = to_z-of_z w16 c.in_ok-offset.offset (search rules) in
     record {
