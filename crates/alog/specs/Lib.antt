@@ -3,3 +3,4 @@ pub mod Words
 pub mod Replays
 pub mod LineFault
 pub mod Line
+pub mod Options

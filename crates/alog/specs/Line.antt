@@ -30,6 +30,14 @@ IsTextTooLong r = 2048 < length r.text.now
 abbrev pub IsFieldTooLong : LineRequest → Type 0
 IsFieldTooLong r = (length r.text.now ≤ 2048) × (HasLongField r.source ⊎ (64 < length r.name.now))
 
+-- the text, the name, the file and the function are within their limits
+abbrev pub Fits : LineRequest → Type 0
+Fits r = (¬ IsTextTooLong r) × (¬ IsFieldTooLong r)
+
+-- a limit is passed: of the pattern, of its longest line, of the text, or of the name, file or function
+abbrev pub IsRefused : LineRequest → Type 0
+IsRefused r = IsPatternTooLong r ⊎ IsLineTooLong r ⊎ IsTextTooLong r ⊎ IsFieldTooLong r
+
 -- the line was written, and nothing else
 abbrev pub WritesLineOf : LineRequest → Option (List ℕ) → Option (List ℕ) → Type 0
 WritesLineOf r old new = (bytes : List ℕ) × IsLineOf r bytes × Appends old new bytes

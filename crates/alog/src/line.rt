@@ -1,7 +1,7 @@
 //! `alog format`: the line of a message, by a pattern.
-ghost use Rattle.std.specs.Prelude.{◌≡◌, ◌↔◌, ◌<◌, ◌≤◌, IfOk, IsErrOf, length};
+ghost use Rattle.std.specs.Prelude.{◌≡◌, ◌↔◌, ◌<◌, ◌≤◌, IfOk, OnOk, IsErrOf, length};
 ghost use Rattle.alog.specs.LineFault.{number_of, status_of};
-ghost use Rattle.alog.specs.Line.{IsLineOf, IsPatternTooLong, IsLineTooLong, IsTextTooLong, IsFieldTooLong};
+ghost use Rattle.alog.specs.Line.{message_of, Fits, IsLineOf, IsPatternTooLong, IsLineTooLong, IsTextTooLong, IsFieldTooLong};
 
 use crate::request::LineRequest;
 use alog_format::{LineBuf, format};
@@ -101,26 +101,14 @@ impl LineFault {
 /// file and function.
 pub fn line_of(alloc: Global, request: &LineRequest<'_>) -> Result<LineBuf, LineFault>
     ensures made { IfOk result (λ line. IsLineOf request.now line.bytes) }
+    ensures fits { OnOk result (Fits request.now) }
     ensures pattern { IsErrOf result LineFault.PatternTooLong ↔ IsPatternTooLong request.now }
     ensures line { IsErrOf result LineFault.LineTooLong ↔ IsLineTooLong request.now }
     ensures text { IsErrOf result LineFault.TextTooLong → IsTextTooLong request.now }
     ensures field { IsErrOf result LineFault.FieldTooLong → IsFieldTooLong request.now }
 {
     let pattern = Pattern::compile(alloc, request.pattern.as_bytes(), TEXT_LIMIT)?;
-    let time = request.time;
-    let message = Message::new(
-        alloc,
-        TEXT_LIMIT,
-        0,
-        request.level,
-        time,
-        request.thread,
-        request.text,
-        request.source,
-    )?;
-    if request.name.len() > NAME_MAX {
-        return Err(LineFault::FieldTooLong);
-    }
+    let message = message_of(alloc, request)?;
     let mut line = LineBuf::new(alloc, pattern.longest())?;
     format(
         &pattern,
@@ -130,4 +118,26 @@ pub fn line_of(alloc: Global, request: &LineRequest<'_>) -> Result<LineBuf, Line
         &mut line,
     );
     Ok(line)
+}
+
+/// The message that is asked for. The text is tested first, and a name over its limit is a field that is too long.
+fn message_of(alloc: Global, request: &LineRequest<'_>) -> Result<Message, MessageError>
+    ensures made { IfOk result (λ message. message ≡ message_of request.now) }
+    ensures text { IsErrOf result MessageError.TextTooLong ↔ IsTextTooLong request.now }
+    ensures field { IsErrOf result MessageError.FieldTooLong ↔ IsFieldTooLong request.now }
+{
+    if request.text.len() <= TEXT_LIMIT && request.name.len() > NAME_MAX {
+        return Err(MessageError::FieldTooLong);
+    }
+    let time = request.time;
+    Message::new(
+        alloc,
+        TEXT_LIMIT,
+        0,
+        request.level,
+        time,
+        request.thread,
+        request.text,
+        request.source,
+    )
 }

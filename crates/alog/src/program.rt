@@ -1,10 +1,11 @@
 //! The whole program over any reader and two writers.
-ghost use Rattle.std.specs.Prelude.{◌≡◌, ◌≤◌, ◌⊎◌, map, OnOk};
+ghost use Rattle.std.specs.Prelude.{◌≡◌, ◌≤◌, ◌⊎◌, ◌↔◌, map, OnOk};
 ghost use Rattle.std.specs.Io.KnownBytes.{Appends, Keeps};
-ghost use Rattle.alog.specs.Line.{WritesLineOf};
+ghost use Rattle.clap.specs.Words.{kind_of};
+ghost use Rattle.alog.specs.Line.{WritesLineOf, IsRefused};
 ghost use Rattle.alog.specs.Replays.{Replays};
 ghost use Rattle.alog.specs.Status.{status_of};
-ghost use Rattle.alog.specs.Words.{AsksReplay};
+ghost use Rattle.alog.specs.Words.{AsksReplay, IsAskedFor};
 
 use crate::line::line_of;
 use crate::request::{LineRequest, Request};
@@ -47,7 +48,9 @@ pub fn run<R: AllocGlobal, S: AsStr, I: Read, O: Write, E: Write>(
 
 /// Says what `clap` says: help and the version on the output, and usage on standard error.
 fn explain<O: Write, E: Write>(error: &clap::Error, output: &mut O, errors: &mut E) -> u8
-    ensures status { result ≤ 4 }
+    ensures status { (result ≤ 1) ⊎ ((3 ≤ result) × (result ≤ 4)) }
+    ensures help { ((result ≡ 0) ⊎ (result ≡ 3)) ↔ IsAskedFor (kind_of error.now) }
+    ensures memory { (result ≡ 4) ↔ (kind_of error.now ≡ ErrorKind.OutOfMemory) }
     ensures usage { result ≡ 1 → Keeps (O.contents output.old) (O.contents output.new) }
 {
     if !error.use_stderr() {
@@ -69,7 +72,9 @@ fn format_command<O: Write, E: Write>(
 ) -> u8
     ensures status { (result ≡ 0) ⊎ ((2 ≤ result) × (result ≤ 4)) }
     ensures line { result ≡ 0 → WritesLineOf request.now (O.contents output.old) (O.contents output.new) }
-    ensures refused { result ≡ 2 → Keeps (O.contents output.old) (O.contents output.new) }
+    ensures refused { result ≡ 2 → IsRefused request.now }
+    ensures due { IsRefused request.now → (result ≡ 2) ⊎ (result ≡ 4) }
+    ensures unwritten { (result ≡ 2) ⊎ (result ≡ 4) → Keeps (O.contents output.old) (O.contents output.new) }
 {
     let line = match line_of(alloc, request) {
         Ok(line) => line,

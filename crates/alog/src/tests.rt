@@ -35,43 +35,13 @@ fn refuses<R: AllocGlobal + Abort>(rt: &R, script: &str, printed: &str, error: &
 }
 
 #[test]
-fn whole_scripts(rt: HostRuntime) {
+fn memory_file(rt: HostRuntime) {
     for (script, printed) in [
         // A text through the queue into the memory file.
         (
             "ring 2 0\npush 1 a\nstep 1 4\nwork 2\nstep 2 5\n",
             "1 claim 0\n1 write 0\n2 grab 0\n2 take 0 a\n2 line 0 memory\n== memory memory 2\na\n",
         ),
-        // An empty queue.
-        ("ring 2 0\npop 2\nstep 2 2", "2 empty 0\n"),
-        // A claimed cell in front.
-        (
-            "ring 4 0\npush 1 a\nstep 1 3\npush 2 b\nrun 2\npop 3\nrun 3\ncells",
-            "1 claim 0\n2 claim 1\n2 write 1\n3 empty 0\ncells 0:claimed 1:written\n",
-        ),
-        // A cell that is being emptied keeps its place.
-        (
-            "ring 2 0\npush 1 a\nrun 1\npush 2 b\nrun 2\npop 3\nstep 3 3\npop 4\nrun 4\npush 5 c\nrun 5\ncells\nrun 3\npush 5 c\nrun 5",
-            "1 claim 0\n1 write 0\n2 claim 1\n2 write 1\n3 grab 0\n4 grab 1\n4 take 1 b\n5 full 2\ncells 0:emptying\n3 take 0 a\n5 claim 2\n5 write 2\n",
-        ),
-        // Busy at the sequence.
-        (
-            "ring 4 0\npush 1 a\nstep 1\npush 2 b\nrun 2\nstep 1",
-            "2 claim 0\n2 write 0\n1 busy 0\n",
-        ),
-        // Busy at the exchange.
-        (
-            "ring 4 0\npush 1 a\nstep 1 2\npush 2 b\nstep 2 3\nstep 1",
-            "2 claim 0\n1 busy 0\n",
-        ),
-        // The last ticket of all.
-        (
-            "ring 2 4611686018427387903\npush 1 a\nrun 1\npush 2 b\nstep 2\npop 3\nrun 3\npop 3\nrun 3",
-            "1 claim 4611686018427387903\n1 write 4611686018427387903\n2 spent\n3 grab 4611686018427387903\n3 take 4611686018427387903 a\n3 empty 4611686018427387904\n",
-        ),
-        // No line counts, or no line is there.
-        ("", ""),
-        ("\n# a comment\n\n", ""),
         // The largest queue, leading zeros, an empty text, a text of spaces, and no newline at the end.
         (
             "# first\n\nring 065536 00\npush 01 \nrun 1\nwork 2\nrun 2\npush 63  b \nrun 63\nwork 2\nrun 2",
@@ -88,80 +58,114 @@ fn whole_scripts(rt: HostRuntime) {
 }
 
 #[test]
-fn refused_lines(rt: HostRuntime) {
-    for (script, printed, error) in [
-        ("ring 3 0\n", "", "alog: refused 33 at line 1\n"),
-        ("ring 0 0", "", "alog: refused 33 at line 1\n"),
-        ("ring 1 0", "", "alog: refused 33 at line 1\n"),
-        ("ring 131072 0", "", "alog: refused 33 at line 1\n"),
+fn empty_and_full_queues(rt: HostRuntime) {
+    for (script, printed) in [
+        // An empty queue.
+        ("ring 2 0\npop 2\nstep 2 2", "2 empty 0\n"),
+        // A claimed cell in front.
         (
-            "ring 2 4611686018427387904",
-            "",
-            "alog: refused 33 at line 1\n",
+            "ring 4 0\npush 1 a\nstep 1 3\npush 2 b\nrun 2\npop 3\nrun 3\ncells",
+            "1 claim 0\n2 claim 1\n2 write 1\n3 empty 0\ncells 0:claimed 1:written\n",
         ),
+        // A cell that is being emptied keeps its place.
         (
-            "ring 2 18446744073709551616",
-            "",
-            "alog: refused 33 at line 1\n",
+            "ring 2 0\npush 1 a\nrun 1\npush 2 b\nrun 2\npop 3\nstep 3 3\npop 4\nrun 4\npush 5 c\nrun 5\ncells\nrun 3\npush 5 c\nrun 5",
+            "1 claim 0\n1 write 0\n2 claim 1\n2 write 1\n3 grab 0\n4 grab 1\n4 take 1 b\n5 full 2\ncells 0:emptying\n3 take 0 a\n5 claim 2\n5 write 2\n",
         ),
+        // The last ticket of all.
         (
-            "\n#\nring 2 0\nring 2 0",
-            "",
-            "alog: refused 33 at line 4\n",
-        ),
-        ("cells\nring 2 0", "", "alog: refused 33 at line 1\n"),
-        ("push 1 a", "", "alog: refused 33 at line 1\n"),
-        ("ring 2 0\nfold 1", "", "alog: refused 33 at line 2\n"),
-        (
-            "ring 2 0\npost 1 block a",
-            "",
-            "alog: refused 33 at line 2\n",
-        ),
-        ("ring 2 0\npop", "", "alog: refused 33 at line 2\n"),
-        ("ring 2 0\npop 64", "", "alog: refused 33 at line 2\n"),
-        ("ring 2 0\npush 64 a", "", "alog: refused 33 at line 2\n"),
-        ("ring 2 0\npop +1", "", "alog: refused 33 at line 2\n"),
-        ("ring 2 0\npop  1", "", "alog: refused 33 at line 2\n"),
-        ("ring 2 0\npop 1 ", "", "alog: refused 33 at line 2\n"),
-        ("ring 2 0\npop 1\r\n", "", "alog: refused 33 at line 2\n"),
-        ("ring 2 0\ncells \n", "", "alog: refused 33 at line 2\n"),
-        (
-            "ring 2 0\npop 1\nstep 1 0",
-            "",
-            "alog: refused 33 at line 3\n",
-        ),
-        (
-            "ring 2 0\npop 1\nstep 1 513",
-            "",
-            "alog: refused 33 at line 3\n",
-        ),
-        ("ring 2 0\nstep 1", "", "alog: refused 33 at line 2\n"),
-        ("ring 2 0\nrun 1", "", "alog: refused 33 at line 2\n"),
-        (
-            "ring 2 0\npop 1\npush 1 a",
-            "",
-            "alog: refused 33 at line 3\n",
-        ),
-        (
-            "ring 2 0\npop 1\nwork 1",
-            "",
-            "alog: refused 33 at line 3\n",
-        ),
-        // The steps that were made stand.
-        (
-            "ring 2 0\npush 1 a\nstep 1 6\npop 2\n",
-            "1 claim 0\n1 write 0\n",
-            "alog: refused 33 at line 3\n",
-        ),
-        // A worker that owes its turn is in its call still, and the file is not printed.
-        (
-            "ring 2 0\npush 1 a\nrun 1\nwork 2\nstep 2 4\nwork 2",
-            "1 claim 0\n1 write 0\n2 grab 0\n2 take 0 a\n",
-            "alog: refused 33 at line 6\n",
+            "ring 2 4611686018427387903\npush 1 a\nrun 1\npush 2 b\nstep 2\npop 3\nrun 3\npop 3\nrun 3",
+            "1 claim 4611686018427387903\n1 write 4611686018427387903\n2 spent\n3 grab 4611686018427387903\n3 take 4611686018427387903 a\n3 empty 4611686018427387904\n",
         ),
     ] {
-        refuses(&rt, script, printed, error);
+        prints(&rt, script, printed);
     }
+}
+
+#[test]
+fn busy_rounds(rt: HostRuntime) {
+    let at_the_sequence = "ring 4 0\npush 1 a\nstep 1\npush 2 b\nrun 2\nstep 1";
+    prints(&rt, at_the_sequence, "2 claim 0\n2 write 0\n1 busy 0\n");
+    let at_the_exchange = "ring 4 0\npush 1 a\nstep 1 2\npush 2 b\nstep 2 3\nstep 1";
+    prints(&rt, at_the_exchange, "2 claim 0\n1 busy 0\n");
+}
+
+#[test]
+fn scripts_without_a_command(rt: HostRuntime) {
+    prints(&rt, "", "");
+    prints(&rt, "\n# a comment\n\n", "");
+}
+
+#[test]
+fn refused_queues(rt: HostRuntime) {
+    for script in [
+        "ring 3 0\n",
+        "ring 0 0",
+        "ring 1 0",
+        "ring 131072 0",
+        "ring 2 4611686018427387904",
+        "ring 2 18446744073709551616",
+    ] {
+        refuses(&rt, script, "", "alog: refused 33 at line 1\n");
+    }
+}
+
+#[test]
+fn one_queue_and_first(rt: HostRuntime) {
+    for script in ["cells\nring 2 0", "push 1 a"] {
+        refuses(&rt, script, "", "alog: refused 33 at line 1\n");
+    }
+    let again = "\n#\nring 2 0\nring 2 0";
+    refuses(&rt, again, "", "alog: refused 33 at line 4\n");
+}
+
+#[test]
+fn misspelt_commands(rt: HostRuntime) {
+    for script in [
+        "ring 2 0\nfold 1",
+        "ring 2 0\npost 1 block a",
+        "ring 2 0\npop",
+        "ring 2 0\npop 64",
+        "ring 2 0\npush 64 a",
+        "ring 2 0\npop +1",
+        "ring 2 0\npop  1",
+        "ring 2 0\npop 1 ",
+        "ring 2 0\npop 1\r\n",
+        "ring 2 0\ncells \n",
+    ] {
+        refuses(&rt, script, "", "alog: refused 33 at line 2\n");
+    }
+    for script in ["ring 2 0\npop 1\nstep 1 0", "ring 2 0\npop 1\nstep 1 513"] {
+        refuses(&rt, script, "", "alog: refused 33 at line 3\n");
+    }
+}
+
+#[test]
+fn actors_in_a_call_or_in_none(rt: HostRuntime) {
+    for script in ["ring 2 0\nstep 1", "ring 2 0\nrun 1"] {
+        refuses(&rt, script, "", "alog: refused 33 at line 2\n");
+    }
+    for script in ["ring 2 0\npop 1\npush 1 a", "ring 2 0\npop 1\nwork 1"] {
+        refuses(&rt, script, "", "alog: refused 33 at line 3\n");
+    }
+}
+
+#[test]
+fn printed_before_a_refused_line(rt: HostRuntime) {
+    // The steps that were made stand.
+    refuses(
+        &rt,
+        "ring 2 0\npush 1 a\nstep 1 6\npop 2\n",
+        "1 claim 0\n1 write 0\n",
+        "alog: refused 33 at line 3\n",
+    );
+    // A worker that owes its turn is in its call still, and the file is not printed.
+    refuses(
+        &rt,
+        "ring 2 0\npush 1 a\nrun 1\nwork 2\nstep 2 4\nwork 2",
+        "1 claim 0\n1 write 0\n2 grab 0\n2 take 0 a\n",
+        "alog: refused 33 at line 6\n",
+    );
 }
 
 /// A text of this many letters, after a front.
@@ -295,9 +299,15 @@ fn formats<R: AllocGlobal + Abort>(rt: &R, words: &[&str], status: u8, printed: 
 }
 
 #[test]
-fn lines(rt: HostRuntime) {
+fn padded_and_cut_lines(rt: HostRuntime) {
     let words = ["alog", "format", "%=5L|%-3!n|", "x", "--name", "abcdef"];
     formats(&rt, words.as_slice(), 0, "  I  |abc|\n", "");
+    let words = ["alog", "format", "[%6!]", "x", "--function", "main"];
+    formats(&rt, words.as_slice(), 0, "[  main]\n", "");
+}
+
+#[test]
+fn times_of_lines(rt: HostRuntime) {
     let words = [
         "alog",
         "format",
@@ -306,21 +316,18 @@ fn lines(rt: HostRuntime) {
         "--time=1706974546123000000",
         "--offset=60",
     ];
-    formats(
-        &rt,
-        words.as_slice(),
-        0,
-        "[2024-02-03 16:35:46.123] [info] hello\n",
-        "",
-    );
+    let line = "[2024-02-03 16:35:46.123] [info] hello\n";
+    formats(&rt, words.as_slice(), 0, line, "");
     let words = ["alog", "format", "%Y-%m-%d %T.%F %E", "", "--time=-1"];
-    formats(
-        &rt,
-        words.as_slice(),
-        0,
-        "1969-12-31 23:59:59.999999999 -1\n",
-        "",
-    );
+    let line = "1969-12-31 23:59:59.999999999 -1\n";
+    formats(&rt, words.as_slice(), 0, line, "");
+    let words = ["alog", "format", "%+", "--", "-x"];
+    let line = "[1970-01-01 00:00:00.000] [info] -x\n";
+    formats(&rt, words.as_slice(), 0, line, "");
+}
+
+#[test]
+fn threads_levels_and_sources_of_lines(rt: HostRuntime) {
     let words = [
         "alog",
         "format",
@@ -338,16 +345,6 @@ fn lines(rt: HostRuntime) {
         "12",
     ];
     formats(&rt, words.as_slice(), 0, "7 9 E a/b.rs:12  t\n", "");
-    let words = ["alog", "format", "[%6!]", "x", "--function", "main"];
-    formats(&rt, words.as_slice(), 0, "[  main]\n", "");
-    let words = ["alog", "format", "%+", "--", "-x"];
-    formats(
-        &rt,
-        words.as_slice(),
-        0,
-        "[1970-01-01 00:00:00.000] [info] -x\n",
-        "",
-    );
 }
 
 #[test]

@@ -1,6 +1,10 @@
 //! The command line.
-ghost use Rattle.std.specs.Prelude.{◌≡◌, map, true, Ok};
+ghost use Rattle.std.specs.Prelude.{◌≡◌, ◌↔◌, ◌⊎◌, map, IsTrue, IsNone, IfOk, IfErr, IfSome, MatchResult, Ok, Err, Some, true, false, codes, nat_eq};
+ghost use Rattle.std.specs.List.{starts_with};
+ghost use Rattle.clap.specs.declared.builder.texts.Texts.TheVariants.{One};
+ghost use Rattle.alog_msg.specs.Message.{fields_of};
 ghost use Rattle.alog.specs.Words.{AsksReplay};
+ghost use Rattle.alog.specs.Options.{value_of, text_of, AsksFor, NamesGiven};
 ghost use Rattle.alog.specs.declared.request.Request.{Request};
 
 use crate::request::{LineRequest, Request};
@@ -15,6 +19,35 @@ use std::str::FromStr;
 /// The most minutes that an offset is from UTC, either way.
 const OFFSET_MAX: i16 = 1439;
 
+/// The options of `alog format`, in the order in which help lists them: name, name of the value, help.
+const OPTIONS: [(&str, &str, &str); 9] = [
+    (
+        "time",
+        "N",
+        "Nanoseconds since 1970, as --time=-1 where negative [0]",
+    ),
+    ("offset", "N", "Minutes east of UTC, -1439 to 1439 [0]"),
+    (
+        "name",
+        "N",
+        "The name of the logger, at most 64 bytes [none]",
+    ),
+    (
+        "level",
+        "L",
+        "trace, debug, info, warning, error, critical or off [info]",
+    ),
+    ("thread", "N", "The number of the thread [0]"),
+    ("process", "N", "The number of the process [0]"),
+    ("file", "F", "The file of the source, at most 256 bytes"),
+    ("line", "N", "The line in that file [0]"),
+    (
+        "function",
+        "F",
+        "The function of the source, at most 128 bytes",
+    ),
+];
+
 /// Why a command line asks for nothing.
 #[derive(Debug, Drop)]
 pub enum WordsFault {
@@ -25,12 +58,21 @@ pub enum WordsFault {
 }
 
 impl From<Error> for WordsFault {
+    ghost use Rattle.std.specs.Prelude.{◌≡◌};
+    ghost use Rattle.alog.specs.declared.words.WordsFault.TheVariants.{Clap};
+
+    ghost from_gives = { λ error fault. fault ≡ Clap error };
+
     fn from(error: Error) -> WordsFault {
         WordsFault::Clap(error)
     }
 }
 
 impl From<AllocError> for WordsFault {
+    ghost use Rattle.alog.specs.Words.{IsOutOfMemory};
+
+    ghost from_gives = { λ _ fault. IsOutOfMemory fault };
+
     fn from(error: AllocError) -> WordsFault {
         WordsFault::Clap(Error::from(error))
     }
@@ -54,7 +96,7 @@ pub fn read<'a, S: AsStr>(alloc: Global, words: &'a [S]) -> Result<Request<'a>, 
 
 /// Whether the words are `alog replay`.
 fn is_replay<S: AsStr>(words: &[S]) -> bool
-    ensures { AsksReplay (map S.text words.now) → result ≡ true }
+    ensures { IsTrue result ↔ AsksReplay (map S.text words.now) }
 {
     match words {
         [_, word] => word.as_str() == "replay",
@@ -81,52 +123,22 @@ fn format<'a>(alloc: Global) -> Result<Command<'a>, AllocError> {
     let text = Arg::new(alloc, "TEXT")
         .required(true)
         .help("The text of the message, at most 2048 bytes");
-    Command::new(alloc, "format")
+    let mut command = Command::new(alloc, "format")
         .about("Print the line of a message by a pattern")
         .arg(pattern)?
-        .arg(text)?
-        .arg(option(
-            alloc,
-            "time",
-            "N",
-            "Nanoseconds since 1970, as --time=-1 where negative [0]",
-        ))?
-        .arg(option(
-            alloc,
-            "offset",
-            "N",
-            "Minutes east of UTC, -1439 to 1439 [0]",
-        ))?
-        .arg(option(
-            alloc,
-            "name",
-            "N",
-            "The name of the logger, at most 64 bytes [none]",
-        ))?
-        .arg(option(
-            alloc,
-            "level",
-            "L",
-            "trace, debug, info, warning, error, critical or off [info]",
-        ))?
-        .arg(option(alloc, "thread", "N", "The number of the thread [0]"))?
-        .arg(option(alloc, "process", "N", "The number of the process [0]"))?
-        .arg(option(
-            alloc,
-            "file",
-            "F",
-            "The file of the source, at most 256 bytes",
-        ))?
-        .arg(option(alloc, "line", "N", "The line in that file [0]"))?
-        .arg(option(
-            alloc,
-            "function",
-            "F",
-            "The function of the source, at most 128 bytes",
-        ))
+        .arg(text)?;
+    for (name, value, help) in OPTIONS {
+        command = command.arg(option(alloc, name, value, help))?;
+    }
+    Ok(command)
 }
 
-fn option<'a>(alloc: Global, name: &'a str, value: &'a str, help: &'a str) -> Arg<'a> {
+fn option<'a>(alloc: Global, name: &'a str, value: &'a str, help: &'a str) -> Arg<'a>
+    ensures id { result.id ≡ name.entry }
+    ensures long { result.long ≡ Some name.entry }
+    ensures value { result.val_names ≡ One value.entry }
+    ensures help { result.help ≡ Some help.entry }
+{
     Arg::new(alloc, name)
         .long(name)
         .value_name(value)
@@ -134,7 +146,10 @@ fn option<'a>(alloc: Global, name: &'a str, value: &'a str, help: &'a str) -> Ar
 }
 
 /// What `alog format` is asked for. The options are read in the order in which help lists them.
-fn line_request<'a>(matches: &ArgMatches<'a>) -> Result<LineRequest<'a>, WordsFault> {
+fn line_request<'a>(matches: &ArgMatches<'a>) -> Result<LineRequest<'a>, WordsFault>
+    ensures asked { IfOk result (AsksFor matches.now) }
+    ensures unreadable { IfErr result (NamesGiven matches.now) }
+{
     let time = number(matches, "time", 0)?;
     let offset = number(matches, "offset", 0)?;
     if offset < -OFFSET_MAX || offset > OFFSET_MAX {
@@ -163,7 +178,15 @@ fn line_request<'a>(matches: &ArgMatches<'a>) -> Result<LineRequest<'a>, WordsFa
 }
 
 /// The source, where its file or its function is given.
-fn source<'a>(matches: &ArgMatches<'a>, line: u32) -> Option<SourceRef<'a>> {
+fn source<'a>(matches: &ArgMatches<'a>, line: u32) -> Option<SourceRef<'a>>
+    ensures absent { IsNone result
+        ↔ (IsNone (value_of matches.now (codes "file")) × IsNone (value_of matches.now (codes "function"))) }
+    ensures given { IfSome result (λ source. fields_of source ≡ record {
+      file = text_of matches.now (codes "file");
+      line = line;
+      function = text_of matches.now (codes "function");
+    }) }
+{
     if matches.get_str("file").is_none() && matches.get_str("function").is_none() {
         return None;
     }
@@ -175,7 +198,9 @@ fn source<'a>(matches: &ArgMatches<'a>, line: u32) -> Option<SourceRef<'a>> {
 }
 
 /// The value of an argument, or the empty text.
-fn text<'a>(matches: &ArgMatches<'a>, name: &str) -> &'a str {
+fn text<'a>(matches: &ArgMatches<'a>, name: &str) -> &'a str
+    ensures { result.now ≡ text_of matches.now name.now }
+{
     match matches.get_str(name) {
         Some(text) => text,
         None => "",
@@ -190,6 +215,11 @@ fn number<T: FromStr + Drop>(
 ) -> Result<T, WordsFault>
 where
     T::Err: Drop,
+    ensures absent { IsNone (value_of matches.now name.now) → result ≡ Ok absent }
+    ensures given { IfSome (value_of matches.now name.now) (λ text. MatchResult result
+        (λ number. T.from_str_gives text (Ok number) × (starts_with nat_eq text (codes "+") ≡ false))
+        (λ fault. (fault ≡ WordsFault.Unreadable name.entry) × ((starts_with nat_eq text (codes "+") ≡ true)
+        ⊎ ((error : T.Err) × T.from_str_gives text (Err error))))) }
 {
     let Some(text) = matches.get_str(name) else {
         return Ok(absent);

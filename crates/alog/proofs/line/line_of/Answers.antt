@@ -1,8 +1,4 @@
-use Rattle.std.proofs.Common.{◌≡◌, ◌++◌, ℕ, List, sym, ap, subst, ◌∙◌, ◌≤◌, length, rules}
-use Rattle.std.specs.Prelude.{FitsSigned}
-use Rattle.std.specs.Int.{w64}
-use Rattle.std.proofs.lemmas.Int.{to_z-of_z}
-use Rattle.alog_msg.specs.Message.{source_of}
+use Rattle.std.proofs.Common.{◌≡◌, ◌++◌, ℕ, List, sym, ap, subst, ◌∙◌, ◌≤◌, length}
 use Rattle.alog_msg.specs.declared.message.Message.{Message}
 use Rattle.alog_pattern.specs.Grammar.{IsReading}
 use Rattle.alog_pattern.specs.Length.{LineExceeds}
@@ -16,9 +12,7 @@ returns-clause-made c =
     let p = c.in_ok-pattern.pattern in
     let appends = c.format.ensures in
     let bytes_are : c.format.new.line.bytes ≡ appends.0 = ap (λ b. b.bytes) appends.2 ∙ ap (λ xs. xs ++ appends.0) c.in_ok-line.ensures.empty in
-    let fits : FitsSigned w64 r.time = search rules in
-    let made : c.in_ok-message.message ≡ message_of r = c.in_ok-message.ensures.made ∙ ap (λ t. let m : Message = record { logger = 0; level = r.level; time = t; thread = r.thread; text = r.text.now; source = source_of r.source } in m) (to_z-of_z w64 r.time fits) in
-    let line = subst (λ (m : Message). IsLine r.context p.items r.name.now m appends.0) made appends.1 in
+    let line = subst (λ (m : Message). IsLine r.context p.items r.name.now m appends.0) c.in_ok-message.ensures.made appends.1 in
     (p.items, subst (λ (bs : List ℕ). IsReading bs p.items) c.as_bytes.ensures.value c.in_ok-pattern.ensures.items, subst (λ (bs : List ℕ). IsLine r.context p.items r.name.now (message_of r) bs) (sym bytes_are) line)
 
 pub returns-clause-line : goal.returns-clause-line
