@@ -49,6 +49,11 @@ impl Move for Deed {
     ghost own_val = { λ e vs. fex Inside (λ v. fsep (feq ℕ v.vec.len e.len) (fall (List ℕ) (λ xs. fwand (fsep (feq ℕ (length xs) e.len) (bytes_own e.start xs)) (Fields.own_val (record { vec = with_items v.vec xs }) vs)))) };
 }
 
+// A pointer alone gives no access to the bytes.
+unsafe impl Send for Start {}
+
+unsafe impl Sync for Start {}
+
 unsafe impl Send for Bytes {}
 
 unsafe impl Sync for Bytes {}

@@ -7,7 +7,7 @@ use jiff::Timestamp;
 use jiff::civil::DateTime;
 use jiff::tz::Offset;
 
-/// What a clock shows.
+/// What a clock shows at a message's time.
 #[derive(Clone, Copy)]
 pub(crate) struct Civil {
     /// 1677 to 2262.

@@ -195,7 +195,6 @@ fn write_default(line: &mut LineBuf, end: usize, facts: &Facts<'_>)
 }
 
 /// Appends date and time in brackets.
-
 fn write_stamp_part(line: &mut LineBuf, end: usize, at: &Civil)
     requires { HasEnd line.old end }
     ensures written { line.new ≡ clipped line.old end (text.bracketed (text.stamp at.now)) }
@@ -242,7 +241,6 @@ fn write_bracketed_place(line: &mut LineBuf, end: usize, file: &[u8], source: &S
 }
 
 /// Appends a text in brackets, with a space behind them.
-
 fn write_bracketed(line: &mut LineBuf, end: usize, content: &[u8])
     requires { HasEnd line.old end }
     ensures written { line.new ≡ clipped line.old end (text.bracketed content.now) }

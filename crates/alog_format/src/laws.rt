@@ -4,7 +4,7 @@ ghost use Rattle.alog_pattern.specs.declared.items.Item.{Item};
 ghost use Rattle.alog_format.specs.declared.context.Context.{Context};
 ghost use Rattle.alog_format.specs.Line.{HasOneLine};
 
-/// A message has one line.
+/// Two lines of a message by one pattern are the same.
 pub fn one_line()
     ensures { (context : Context) (items : List Item) (name : List ℕ) (message : Message) → HasOneLine context items name message }
 {}

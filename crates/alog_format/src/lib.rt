@@ -8,7 +8,7 @@
 //! Read `line_buf.rt` with `specs/Buffer.antt`, and `block.rt`, the raw block under it, with `specs/Block.antt` and
 //! `specs/Ownership.antt`; `context.rt` and `civil.rt` with `specs/Civil.antt`, `clip.rt` with `specs/Clip.antt`,
 //! `names.rt`, `times.rt` and `flag_texts.rt` with `specs/Text.antt`, `pads.rt`, and `lines.rt` with
-//! `specs/Line.antt`; `laws.rt` states that a message has one line.
+//! `specs/Line.antt`; `laws.rt` states that a message has no two lines.
 #![tactic(auto)]
 
 mod block;

@@ -39,6 +39,7 @@ fn check(
     format(&pattern, context, name, message, &mut line);
     let len = line.len();
     assert!(rt; 0 < len);
+    assert_eq!(rt; line.as_slice()[len - 1], b'\n');
     line.cut(len - 1);
     assert_eq!(rt; line.as_slice(), text);
     Ok(())
@@ -113,6 +114,8 @@ fn tells_the_time(rt: HostRuntime) -> Result<(), Fail> {
     )?;
     let midnight = said(&rt, Level::Info, 300_000_000_000, "")?;
     check(&rt, b"%I %p", &UTC, "", &midnight, b"12 AM")?;
+    let noon = said(&rt, Level::Info, 43_200_000_000_000, "")?;
+    check(&rt, b"%I %p %r", &UTC, "", &noon, b"12 PM 12:00:00 PM")?;
     let later = said(&rt, Level::Info, 1_706_974_546_000_000_000, "")?;
     let text = b"Sat Feb 3 15:35:46 2024|03:35:46 PM|02/03/24|+00:00";
     check(&rt, b"%c|%r|%D|%z", &UTC, "", &later, text.as_slice())?;
@@ -261,34 +264,72 @@ fn has_no_room_at_all(rt: HostRuntime) -> Result<(), Fail> {
     Ok(())
 }
 
-/// A row of `count` bytes that differ from their neighbours.
-fn row(rt: &impl AllocGlobal, count: u32) -> Result<Vec<u8>, Fail> {
+/// Bytes that differ from their neighbours.
+fn row(rt: &impl AllocGlobal) -> Result<Vec<u8>, Fail> {
     let mut bytes = Vec::new(rt.alloc());
-    for i in 0..count {
+    for i in 0u32..1_000 {
         bytes.push((i % 251) as u8)?;
     }
     Ok(bytes)
 }
 
+/// The bytes from `at` on move up by `by`, over themselves where that is less than their number.
+fn check_shift(
+    rt: &(impl Abort + AllocGlobal),
+    bytes: &[u8],
+    at: usize,
+    by: usize,
+) -> Result<(), Fail> {
+    let mut line = LineBuf::new(rt.alloc(), 2_000)?;
+    line.put(bytes)?;
+    assert!(rt; at <= bytes.len());
+    line.shift(at, by)?;
+    let now = line.as_slice();
+    assert_eq!(rt; now.len(), bytes.len() + by);
+    assert!(rt; now[..at] == bytes[..at]);
+    assert!(rt; now[at..at + by].iter().all(|byte| *byte == b' '));
+    assert!(rt; now[at + by..] == bytes[at..]);
+    Ok(())
+}
+
 #[test]
 fn moves_long_rows_over_themselves(rt: HostRuntime) -> Result<(), Fail> {
-    let bytes = row(&rt, 1_000)?;
-    for (at, by) in [
-        (0usize, 1usize),
-        (1, 7),
-        (500, 64),
-        (999, 1_000),
-        (1_000, 24),
-        (0, 1_000),
-    ] {
-        let mut line = LineBuf::new(rt.alloc(), 2_000)?;
-        line.put(&bytes)?;
-        line.shift(at, by)?;
-        assert_eq!(rt; line.len(), 1_000 + by);
-        let now = line.as_slice();
-        assert!(rt; now[..at] == bytes[..at]);
-        assert!(rt; now[at..at + by].iter().all(|byte| *byte == b' '));
-        assert!(rt; now[at + by..] == bytes[at..]);
+    let bytes = row(&rt)?;
+    check_shift(&rt, &bytes, 0, 1)?;
+    check_shift(&rt, &bytes, 1, 7)?;
+    check_shift(&rt, &bytes, 500, 64)?;
+    check_shift(&rt, &bytes, 999, 1_000)?;
+    check_shift(&rt, &bytes, 1_000, 24)?;
+    check_shift(&rt, &bytes, 0, 1_000)
+}
+
+#[test]
+fn writes_lines_one_behind_another(rt: HostRuntime) -> Result<(), Fail> {
+    let pattern = Pattern::compile(rt.alloc(), b"%L %v", LIMIT)?;
+    let first = said(&rt, Level::Info, 0, "one")?;
+    let second = said(&rt, Level::Error, 0, "two")?;
+    let mut line = LineBuf::new(rt.alloc(), 5_000)?;
+    for message in [&first, &second] {
+        assert!(rt; message.text.len() <= pattern.text_limit());
+        assert!(rt; pattern.longest() <= line.room());
+        format(&pattern, &UTC, "", message, &mut line);
     }
+    assert_eq!(rt; line.as_slice(), b"I one\nE two\n".as_slice());
+    Ok(())
+}
+
+#[test]
+fn tells_the_error(rt: HostRuntime) -> Result<(), Fail> {
+    let text = format!(in rt.alloc(); "{NoRoom}")?;
+    assert_eq!(rt; text.as_str(), "the line buffer has no room");
+    Ok(())
+}
+
+/// What crosses threads.
+fn crosses<T: Send + Sync>(_value: &T) {}
+
+#[test]
+fn goes_to_another_thread(rt: HostRuntime) -> Result<(), Fail> {
+    crosses(&LineBuf::new(rt.alloc(), 4)?);
     Ok(())
 }

@@ -24,6 +24,7 @@ pub enum PatternError {
     /// The longest line has more than 65,536 bytes with its newline.
     #[error("a line of the pattern may have more than 65536 bytes")]
     LineTooLong,
+    /// There was no memory for the items.
     #[error("out of memory")]
     OutOfMemory,
 }

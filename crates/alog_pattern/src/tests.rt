@@ -123,5 +123,25 @@ fn keeps_to_the_limits(rt: HostRuntime) -> Result<(), Fail> {
 fn tells_the_errors(rt: HostRuntime) -> Result<(), Fail> {
     let text = format!(in rt.alloc(); "{}", PatternError::PatternTooLong)?;
     assert_eq!(rt; text.as_str(), "the pattern has more than 256 bytes");
+    let text = format!(in rt.alloc(); "{}", PatternError::LineTooLong)?;
+    assert_eq!(rt;
+        text.as_str(),
+        "a line of the pattern may have more than 65536 bytes"
+    );
+    let text = format!(in rt.alloc(); "{}", PatternError::OutOfMemory)?;
+    assert_eq!(rt; text.as_str(), "out of memory");
+    Ok(())
+}
+
+#[test]
+fn compiles_every_length(rt: HostRuntime) -> Result<(), Fail> {
+    let mut spelling = Vec::new(rt.alloc());
+    for len in 0..=256usize {
+        let pattern = Pattern::compile(rt.alloc(), spelling.as_slice(), LIMIT)?;
+        assert_eq!(rt; pattern.items().len(), len);
+        spelling.push(b'x')?;
+    }
+    let refused = Pattern::compile(rt.alloc(), spelling.as_slice(), LIMIT);
+    assert_eq!(rt; refused.err(), Some(PatternError::PatternTooLong));
     Ok(())
 }
