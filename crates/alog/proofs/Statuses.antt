@@ -4,11 +4,11 @@ use Rattle.std.specs.Prelude.{IfSome}
 use Rattle.alog.specs.Status.{status_of}
 use Rattle.alog.specs.Replays.{Replays}
 use Rattle.alog_replay.specs.Script.{RefusedAt, WritesText, WritesFront}
-use Rattle.alog_replay.specs.declared.fault.ReplayFault.{ReplayFault}
-use Rattle.alog_replay.specs.declared.fault.ReplayFault.TheVariants.{LineRefused, ReadFault, WriteFault, OutOfMemory}
+use Rattle.alog_replay.specs.declared.error.ReplayError.{ReplayError}
+use Rattle.alog_replay.specs.declared.error.ReplayError.TheVariants.{LineRefused, ReadFault, WriteFault, OutOfMemory}
 
 -- the status of refused input is that of a refused line alone
-pub refused_line : (fault : ReplayFault) (status : ℕ) → status ≡ status_of fault → status ≡ 2 → (line : ℕ) × (fault ≡ LineRefused line)
+pub refused_line : (fault : ReplayError) (status : ℕ) → status ≡ status_of fault → status ≡ 2 → (line : ℕ) × (fault ≡ LineRefused line)
 refused_line (LineRefused line) status e h = (line, refl)
 refused_line ReadFault status e h = absurd (omega arith)
 refused_line WriteFault status e h = absurd (omega arith)
@@ -19,20 +19,20 @@ pub if_some_weaker : {T : Type 0} (o : Option T) (P Q : T → Type 0) → ((x : 
 if_some_weaker None P Q f h = tt
 if_some_weaker (Some x) P Q f h = f x h
 
-not_zero : (fault : ReplayFault) → status_of fault ≡ 0 → ⊥
+not_zero : (fault : ReplayError) → status_of fault ≡ 0 → ⊥
 not_zero (LineRefused line) h = absurd (omega arith)
 not_zero ReadFault h = absurd (omega arith)
 not_zero WriteFault h = absurd (omega arith)
 not_zero OutOfMemory h = absurd (omega arith)
 
-not_one : (fault : ReplayFault) → status_of fault ≡ 1 → ⊥
+not_one : (fault : ReplayError) → status_of fault ≡ 1 → ⊥
 not_one (LineRefused line) h = absurd (omega arith)
 not_one ReadFault h = absurd (omega arith)
 not_one WriteFault h = absurd (omega arith)
 not_one OutOfMemory h = absurd (omega arith)
 
 -- what a replay that ended by a fault leaves is what its status says
-pub replays_fault : (fault : ReplayFault) (status : ℕ) (remaining old new : Option (List ℕ)) → status ≡ status_of fault
+pub replays_fault : (fault : ReplayError) (status : ℕ) (remaining old new : Option (List ℕ)) → status ≡ status_of fault
     → ((line : ℕ) → fault ≡ LineRefused line → IfSome remaining (λ script. WritesText script (RefusedAt line) old new))
     → IfSome remaining (λ script. WritesFront script old new) → Replays status remaining old new
 replays_fault fault status remaining old new e refused front =

@@ -1,6 +1,6 @@
 pub mod Status
 pub mod Words
 pub mod Replays
-pub mod LineFault
+pub mod LineError
 pub mod Line
 pub mod Options

@@ -10,8 +10,8 @@ use Rattle.alog_msg.specs.declared.source.SourceRef.{SourceRef}
 use Rattle.alog_msg.specs.declared.level.Level.TheVariants.{Info}
 use Rattle.alog_format.specs.declared.context.Zone.TheVariants.{Fixed}
 use Rattle.alog.specs.declared.request.LineRequest.{LineRequest}
-use Rattle.alog.specs.declared.words.WordsFault.{WordsFault}
-use Rattle.alog.specs.declared.words.WordsFault.TheVariants.{Unreadable}
+use Rattle.alog.specs.declared.words.WordsError.{WordsError}
+use Rattle.alog.specs.declared.words.WordsError.TheVariants.{Unreadable}
 
 -- the value of an argument, if it is there
 abbrev pub value_of : ArgMatches → List ℕ → Option (List ℕ)
@@ -53,5 +53,5 @@ pub record AsksFor (m : ArgMatches) (r : LineRequest) : Type 0 where
   pub zone : (minutes : ℤ) × (r.context.zone ≡ Fixed minutes) × IsSignedNumber (value_of m (codes "offset")) minutes
 
 -- the fault names an option whose value is there
-abbrev pub NamesGiven : ArgMatches → WordsFault → Type 0
+abbrev pub NamesGiven : ArgMatches → WordsError → Type 0
 NamesGiven m fault = (name : Bor (List ℕ)) × (fault ≡ Unreadable name) × IsSome (value_of m name.now)

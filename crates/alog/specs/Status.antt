@@ -1,15 +1,15 @@
 -- The exit status and the number of each fault.
 use Rattle.std.specs.Prelude.{ℕ}
-use Rattle.alog_replay.specs.declared.fault.ReplayFault.{ReplayFault}
-use Rattle.alog_replay.specs.declared.fault.ReplayFault.TheVariants.{LineRefused, ReadFault, WriteFault, OutOfMemory}
+use Rattle.alog_replay.specs.declared.error.ReplayError.{ReplayError}
+use Rattle.alog_replay.specs.declared.error.ReplayError.TheVariants.{LineRefused, ReadFault, WriteFault, OutOfMemory}
 
-abbrev pub status_of : ReplayFault → ℕ
+abbrev pub status_of : ReplayError → ℕ
 status_of (LineRefused line) = 2
 status_of ReadFault = 3
 status_of WriteFault = 3
 status_of OutOfMemory = 4
 
-abbrev pub number_of : ReplayFault → ℕ
+abbrev pub number_of : ReplayError → ℕ
 number_of (LineRefused line) = 33
 number_of ReadFault = 34
 number_of WriteFault = 35

@@ -1,6 +1,6 @@
 //! `alog format`: the line of a message, by a pattern.
 ghost use Rattle.std.specs.Prelude.{◌≡◌, ◌↔◌, ◌<◌, ◌≤◌, IfOk, OnOk, IsErrOf, length};
-ghost use Rattle.alog.specs.LineFault.{number_of, status_of};
+ghost use Rattle.alog.specs.LineError.{number_of, status_of};
 ghost use Rattle.alog.specs.Line.{message_of, Fits, IsLineOf, IsPatternTooLong, IsLineTooLong, IsTextTooLong, IsFieldTooLong};
 
 use crate::request::LineRequest;
@@ -18,7 +18,7 @@ const NAME_MAX: usize = 64;
 
 /// Why no line was made.
 #[derive(Clone, Copy, Debug, PartialEq, Eq, Error)]
-pub enum LineFault {
+pub enum LineError {
     #[error("the pattern has more than 256 bytes")]
     PatternTooLong,
     #[error("a line of the pattern may have more than 65,536 bytes")]
@@ -31,58 +31,58 @@ pub enum LineFault {
     OutOfMemory,
 }
 
-impl From<PatternError> for LineFault {
+impl From<PatternError> for LineError {
     ghost use Rattle.std.specs.Prelude.{◌≡◌};
-    ghost use Rattle.alog.specs.LineFault.{of_pattern};
+    ghost use Rattle.alog.specs.LineError.{of_pattern};
 
     ghost from_gives = { λ p e. e ≡ of_pattern p };
 
-    fn from(error: PatternError) -> LineFault {
+    fn from(error: PatternError) -> LineError {
         match error {
-            PatternError::PatternTooLong => LineFault::PatternTooLong,
-            PatternError::LineTooLong => LineFault::LineTooLong,
-            PatternError::OutOfMemory => LineFault::OutOfMemory,
+            PatternError::PatternTooLong => LineError::PatternTooLong,
+            PatternError::LineTooLong => LineError::LineTooLong,
+            PatternError::OutOfMemory => LineError::OutOfMemory,
         }
     }
 }
 
-impl From<MessageError> for LineFault {
+impl From<MessageError> for LineError {
     ghost use Rattle.std.specs.Prelude.{◌≡◌};
-    ghost use Rattle.alog.specs.LineFault.{of_message};
+    ghost use Rattle.alog.specs.LineError.{of_message};
 
     ghost from_gives = { λ m e. e ≡ of_message m };
 
-    fn from(error: MessageError) -> LineFault {
+    fn from(error: MessageError) -> LineError {
         match error {
-            MessageError::TextTooLong => LineFault::TextTooLong,
-            MessageError::FieldTooLong => LineFault::FieldTooLong,
-            MessageError::OutOfMemory => LineFault::OutOfMemory,
+            MessageError::TextTooLong => LineError::TextTooLong,
+            MessageError::FieldTooLong => LineError::FieldTooLong,
+            MessageError::OutOfMemory => LineError::OutOfMemory,
         }
     }
 }
 
-impl From<AllocError> for LineFault {
+impl From<AllocError> for LineError {
     ghost use Rattle.std.specs.Prelude.{◌≡◌};
-    ghost use Rattle.alog.specs.declared.line.LineFault.TheVariants.{OutOfMemory};
+    ghost use Rattle.alog.specs.declared.line.LineError.TheVariants.{OutOfMemory};
 
     ghost from_gives = { λ _ e. e ≡ OutOfMemory };
 
-    fn from(_error: AllocError) -> LineFault {
-        LineFault::OutOfMemory
+    fn from(_error: AllocError) -> LineError {
+        LineError::OutOfMemory
     }
 }
 
-impl LineFault {
+impl LineError {
     /// The number of the refusal, as `docs/FORMATS.md` has them.
     pub fn number(self) -> u8
         ensures { result ≡ number_of self }
     {
         match self {
-            LineFault::OutOfMemory => 1,
-            LineFault::TextTooLong => 2,
-            LineFault::FieldTooLong => 3,
-            LineFault::PatternTooLong => 17,
-            LineFault::LineTooLong => 18,
+            LineError::OutOfMemory => 1,
+            LineError::TextTooLong => 2,
+            LineError::FieldTooLong => 3,
+            LineError::PatternTooLong => 17,
+            LineError::LineTooLong => 18,
         }
     }
 
@@ -91,7 +91,7 @@ impl LineFault {
         ensures { result ≡ status_of self }
     {
         match self {
-            LineFault::OutOfMemory => 4,
+            LineError::OutOfMemory => 4,
             _ => 2,
         }
     }
@@ -99,13 +99,13 @@ impl LineFault {
 
 /// The line that is asked for, with its newline. The refusals come in the order of the pattern, the text, and the name,
 /// file and function.
-pub fn line_of(alloc: Global, request: &LineRequest<'_>) -> Result<LineBuf, LineFault>
+pub fn line_of(alloc: Global, request: &LineRequest<'_>) -> Result<LineBuf, LineError>
     ensures made { IfOk result (λ line. IsLineOf request.now line.bytes) }
     ensures fits { OnOk result (Fits request.now) }
-    ensures pattern { IsErrOf result LineFault.PatternTooLong ↔ IsPatternTooLong request.now }
-    ensures line { IsErrOf result LineFault.LineTooLong ↔ IsLineTooLong request.now }
-    ensures text { IsErrOf result LineFault.TextTooLong → IsTextTooLong request.now }
-    ensures field { IsErrOf result LineFault.FieldTooLong → IsFieldTooLong request.now }
+    ensures pattern { IsErrOf result LineError.PatternTooLong ↔ IsPatternTooLong request.now }
+    ensures line { IsErrOf result LineError.LineTooLong ↔ IsLineTooLong request.now }
+    ensures text { IsErrOf result LineError.TextTooLong → IsTextTooLong request.now }
+    ensures field { IsErrOf result LineError.FieldTooLong → IsFieldTooLong request.now }
 {
     let pattern = Pattern::compile(alloc, request.pattern.as_bytes(), TEXT_LIMIT)?;
     let message = message_of(alloc, request)?;

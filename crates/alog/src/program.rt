@@ -10,8 +10,8 @@ ghost use Rattle.alog.specs.Words.{AsksReplay, IsAskedFor};
 use crate::line::line_of;
 use crate::request::{LineRequest, Request};
 use crate::status::{number_of, status_of};
-use crate::words::{WordsFault, read};
-use alog_replay::{ReplayFault, replay};
+use crate::words::{WordsError, read};
+use alog_replay::{ReplayError, replay};
 use clap::error::ErrorKind;
 use std::alloc::Global;
 use std::convert::AsStr;
@@ -38,11 +38,11 @@ pub fn run<R: AllocGlobal, S: AsStr, I: Read, O: Write, E: Write>(
     match read(rt.alloc(), words) {
         Ok(Request::Replay) => replay_command(rt.alloc(), input, output, errors),
         Ok(Request::Format(request)) => format_command(rt.alloc(), &request, output, errors),
-        Err(WordsFault::Unreadable(name)) => {
+        Err(WordsError::Unreadable(name)) => {
             let _ = writeln!(errors, "alog: the value of --{name} cannot be read");
             1
         }
-        Err(WordsFault::Clap(error)) => explain(&error, output, errors),
+        Err(WordsError::Clap(error)) => explain(&error, output, errors),
     }
 }
 
@@ -57,7 +57,7 @@ fn explain<O: Write, E: Write>(error: &clap::Error, output: &mut O, errors: &mut
         return help(error, output, errors);
     }
     if error.kind() == ErrorKind::OutOfMemory {
-        return fail(ReplayFault::OutOfMemory, errors);
+        return fail(ReplayError::OutOfMemory, errors);
     }
     let _ = write!(errors, "{error}");
     1
@@ -86,7 +86,7 @@ fn format_command<O: Write, E: Write>(
     };
     match write_out(output, line.as_slice()) {
         Ok(()) => 0,
-        Err(_) => fail(ReplayFault::WriteFault, errors),
+        Err(_) => fail(ReplayError::WriteFault, errors),
     }
 }
 
@@ -115,12 +115,12 @@ fn replay_command<I: Read, O: Write, E: Write>(
 }
 
 /// Writes the line of a fault, and answers its status.
-fn fail<E: Write>(fault: ReplayFault, errors: &mut E) -> u8
+fn fail<E: Write>(fault: ReplayError, errors: &mut E) -> u8
     ensures { result ≡ status_of fault }
 {
     let number = number_of(fault);
     let _ = match fault {
-        ReplayFault::LineRefused { line } => {
+        ReplayError::LineRefused { line } => {
             writeln!(errors, "alog: refused {number} at line {line}")
         }
         _ => writeln!(errors, "alog: refused {number}"),
@@ -138,6 +138,6 @@ fn help<O: Write, E: Write>(text: &clap::Error, output: &mut O, errors: &mut E) 
     };
     match written {
         Ok(()) => 0,
-        Err(_) => fail(ReplayFault::WriteFault, errors),
+        Err(_) => fail(ReplayError::WriteFault, errors),
     }
 }

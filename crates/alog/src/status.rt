@@ -2,27 +2,27 @@
 ghost use Rattle.std.specs.Prelude.{◌≡◌};
 ghost use Rattle.alog.specs.Status.{status_of, number_of};
 
-use alog_replay::ReplayFault;
+use alog_replay::ReplayError;
 
 /// The program's exit status for a fault: 2 for refused input, 3 for a read or write fault, 4 for want of memory.
-pub fn status_of(fault: ReplayFault) -> u8
+pub fn status_of(fault: ReplayError) -> u8
     ensures { result ≡ status_of fault }
 {
     match fault {
-        ReplayFault::LineRefused { .. } => 2,
-        ReplayFault::ReadFault | ReplayFault::WriteFault => 3,
-        ReplayFault::OutOfMemory => 4,
+        ReplayError::LineRefused { .. } => 2,
+        ReplayError::ReadFault | ReplayError::WriteFault => 3,
+        ReplayError::OutOfMemory => 4,
     }
 }
 
 /// The number of the refusal, as `docs/FORMATS.md` has them.
-pub fn number_of(fault: ReplayFault) -> u8
+pub fn number_of(fault: ReplayError) -> u8
     ensures { result ≡ number_of fault }
 {
     match fault {
-        ReplayFault::OutOfMemory => 1,
-        ReplayFault::LineRefused { .. } => 33,
-        ReplayFault::ReadFault => 34,
-        ReplayFault::WriteFault => 35,
+        ReplayError::OutOfMemory => 1,
+        ReplayError::LineRefused { .. } => 33,
+        ReplayError::ReadFault => 34,
+        ReplayError::WriteFault => 35,
     }
 }

@@ -50,38 +50,38 @@ const OPTIONS: [(&str, &str, &str); 9] = [
 
 /// Why a command line asks for nothing.
 #[derive(Debug, Drop)]
-pub enum WordsFault {
+pub enum WordsError {
     /// What `clap` says: help, the version, usage, or that there is no memory.
     Clap(Error),
     /// The value of this option cannot be read, or lies outside its limits.
     Unreadable(&'static str),
 }
 
-impl From<Error> for WordsFault {
+impl From<Error> for WordsError {
     ghost use Rattle.std.specs.Prelude.{◌≡◌};
-    ghost use Rattle.alog.specs.declared.words.WordsFault.TheVariants.{Clap};
+    ghost use Rattle.alog.specs.declared.words.WordsError.TheVariants.{Clap};
 
     ghost from_gives = { λ error fault. fault ≡ Clap error };
 
-    fn from(error: Error) -> WordsFault {
-        WordsFault::Clap(error)
+    fn from(error: Error) -> WordsError {
+        WordsError::Clap(error)
     }
 }
 
-impl From<AllocError> for WordsFault {
+impl From<AllocError> for WordsError {
     ghost use Rattle.alog.specs.Words.{IsOutOfMemory};
 
     ghost from_gives = { λ _ fault. IsOutOfMemory fault };
 
-    fn from(error: AllocError) -> WordsFault {
-        WordsFault::Clap(Error::from(error))
+    fn from(error: AllocError) -> WordsError {
+        WordsError::Clap(Error::from(error))
     }
 }
 
 /// Reads the command line, the program's name first.
 ///
 /// `alog replay` alone needs no parser: it is read whatever name the program was called by.
-pub fn read<'a, S: AsStr>(alloc: Global, words: &'a [S]) -> Result<Request<'a>, WordsFault>
+pub fn read<'a, S: AsStr>(alloc: Global, words: &'a [S]) -> Result<Request<'a>, WordsError>
     ensures { AsksReplay (map S.text words.entry.now) → result ≡ Ok Request.Replay }
 {
     if is_replay(words) {
@@ -146,17 +146,17 @@ fn option<'a>(alloc: Global, name: &'a str, value: &'a str, help: &'a str) -> Ar
 }
 
 /// What `alog format` is asked for. The options are read in the order in which help lists them.
-fn line_request<'a>(matches: &ArgMatches<'a>) -> Result<LineRequest<'a>, WordsFault>
+fn line_request<'a>(matches: &ArgMatches<'a>) -> Result<LineRequest<'a>, WordsError>
     ensures asked { IfOk result (AsksFor matches.now) }
     ensures unreadable { IfErr result (NamesGiven matches.now) }
 {
     let time = number(matches, "time", 0)?;
     let offset = number(matches, "offset", 0)?;
     if offset < -OFFSET_MAX || offset > OFFSET_MAX {
-        return Err(WordsFault::Unreadable("offset"));
+        return Err(WordsError::Unreadable("offset"));
     }
     let level = match matches.get_str("level") {
-        Some(text) => Level::read(text).ok_or(WordsFault::Unreadable("level"))?,
+        Some(text) => Level::read(text).ok_or(WordsError::Unreadable("level"))?,
         None => Level::Info,
     };
     let thread = number(matches, "thread", 0)?;
@@ -212,13 +212,13 @@ fn number<T: FromStr + Drop>(
     matches: &ArgMatches<'_>,
     name: &'static str,
     absent: T,
-) -> Result<T, WordsFault>
+) -> Result<T, WordsError>
 where
     T::Err: Drop,
     ensures absent { IsNone (value_of matches.now name.now) → result ≡ Ok absent }
     ensures given { IfSome (value_of matches.now name.now) (λ text. MatchResult result
         (λ number. T.from_str_gives text (Ok number) × (starts_with nat_eq text (codes "+") ≡ false))
-        (λ fault. (fault ≡ WordsFault.Unreadable name.entry) × ((starts_with nat_eq text (codes "+") ≡ true)
+        (λ fault. (fault ≡ WordsError.Unreadable name.entry) × ((starts_with nat_eq text (codes "+") ≡ true)
         ⊎ ((error : T.Err) × T.from_str_gives text (Err error))))) }
 {
     let Some(text) = matches.get_str(name) else {
@@ -226,7 +226,7 @@ where
     };
     match text.parse::<T>() {
         Ok(number) if !text.starts_with('+') => Ok(number),
-        _ => Err(WordsFault::Unreadable(name)),
+        _ => Err(WordsError::Unreadable(name)),
     }
 }
 

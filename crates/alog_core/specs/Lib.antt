@@ -6,4 +6,4 @@ pub mod Staged
 pub mod Listed
 pub mod Table
 pub mod Inside
-pub mod Fault
+pub mod Error

@@ -8,7 +8,7 @@
 //! history.
 #![tactic(auto)]
 
-mod fault;
+mod error;
 mod laws;
 mod listed;
 mod mark;
@@ -19,7 +19,7 @@ mod table;
 mod tests;
 mod world;
 
-pub use fault::{BeginFault, Refused, StepFault, WorldFault};
+pub use error::{BeginError, Refused, StepError, WorldError};
 pub use laws::reached_states_are_sound;
 pub use mark::Mark;
 pub use round::Round;

@@ -1,5 +1,5 @@
 use crate::{
-    Answer, BeginFault, Call, CellView, Mark, Refused, Said, StepFault, World, WorldFault,
+    Answer, BeginError, Call, CellView, Mark, Refused, Said, StepError, World, WorldError,
     reached_states_are_sound,
 };
 use std::process::Abort;
@@ -26,7 +26,7 @@ fn pushes(rt: &impl Abort, world: &mut World<u64>, actor: u32, item: u64, ticket
         Said::Write(ticket),
     ];
     says(rt, world, actor, &wanted);
-    assert!(rt; world.step(actor) == Err(StepFault::NotInCall));
+    assert!(rt; world.step(actor) == Err(StepError::NotInCall));
 }
 
 /// A whole pop, which gets this ticket and this item.
@@ -39,7 +39,7 @@ fn pops(rt: &impl Abort, world: &mut World<u64>, actor: u32, ticket: u64, item: 
         Said::Take(ticket, item),
     ];
     says(rt, world, actor, &wanted);
-    assert!(rt; world.step(actor) == Err(StepFault::NotInCall));
+    assert!(rt; world.step(actor) == Err(StepError::NotInCall));
 }
 
 fn cell(ticket: u64, mark: Mark) -> CellView {
@@ -49,12 +49,12 @@ fn cell(ticket: u64, mark: Mark) -> CellView {
 #[test]
 fn sizes_and_first_tickets(rt: HostRuntime) {
     let sizes = [
-        (0, Some(WorldFault::BadSize)),
-        (1, Some(WorldFault::BadSize)),
+        (0, Some(WorldError::BadSize)),
+        (1, Some(WorldError::BadSize)),
         (2, None),
-        (3, Some(WorldFault::BadSize)),
+        (3, Some(WorldError::BadSize)),
         (65_536, None),
-        (131_072, Some(WorldFault::BadSize)),
+        (131_072, Some(WorldError::BadSize)),
     ];
     for (places, refused) in sizes {
         let made = World::<u64>::new(rt.alloc(), places, 0);
@@ -62,8 +62,8 @@ fn sizes_and_first_tickets(rt: HostRuntime) {
     }
     let firsts = [
         (2, LAST, None),
-        (2, LAST + 1, Some(WorldFault::BadFirst)),
-        (3, LAST + 1, Some(WorldFault::BadSize)),
+        (2, LAST + 1, Some(WorldError::BadFirst)),
+        (3, LAST + 1, Some(WorldError::BadSize)),
     ];
     for (places, first, refused) in firsts {
         let made = World::<u64>::new(rt.alloc(), places, first);
@@ -198,25 +198,25 @@ fn last_ticket(rt: HostRuntime) -> Result<(), Fail> {
 fn refusals(rt: HostRuntime) -> Result<(), Fail> {
     let mut world = World::new(rt.alloc(), 2, 0)?;
     let no_actor = Refused {
-        fault: BeginFault::NoActor,
+        fault: BeginError::NoActor,
         item: 10,
     };
     assert!(rt; world.begin_push(64, 10) == Err(no_actor));
-    assert!(rt; world.begin_pop(64) == Err(BeginFault::NoActor));
-    assert!(rt; world.step(64) == Err(StepFault::NoActor));
+    assert!(rt; world.begin_pop(64) == Err(BeginError::NoActor));
+    assert!(rt; world.step(64) == Err(StepError::NoActor));
     world.begin_push(63, 10)?;
     let in_call = Refused {
-        fault: BeginFault::InCall,
+        fault: BeginError::InCall,
         item: 20,
     };
     assert!(rt; world.begin_push(63, 20) == Err(in_call));
-    assert!(rt; world.begin_pop(63) == Err(BeginFault::InCall));
-    assert!(rt; world.step(62) == Err(StepFault::NotInCall));
+    assert!(rt; world.begin_pop(63) == Err(BeginError::InCall));
+    assert!(rt; world.step(62) == Err(StepError::NotInCall));
     pushes(&rt, &mut world, 62, 30, 0);
-    assert_eq!(rt; BeginFault::NoActor.number(), 6);
-    assert_eq!(rt; BeginFault::InCall.number(), 7);
-    assert_eq!(rt; StepFault::NoActor.number(), 6);
-    assert_eq!(rt; StepFault::NotInCall.number(), 8);
+    assert_eq!(rt; BeginError::NoActor.number(), 6);
+    assert_eq!(rt; BeginError::InCall.number(), 7);
+    assert_eq!(rt; StepError::NoActor.number(), 6);
+    assert_eq!(rt; StepError::NotInCall.number(), 8);
     Ok(())
 }
 

@@ -5,7 +5,7 @@ ghost use Rattle.alog_core.specs.History.{Entry, StandsFor};
 ghost use Rattle.alog_core.specs.World.{is_size, fresh, round_of, is_idle, began, next_move, stepped, told, entries_of, reply_to, after_call, replies_to, after_calls, shown};
 ghost use Rattle.alog_core.specs.declared.round.Round.TheVariants as round;
 
-use crate::fault::{BeginFault, Refused, StepFault, WorldFault};
+use crate::error::{BeginError, Refused, StepError, WorldError};
 use crate::listed::views;
 use crate::round::Round;
 use crate::said::{Answer, Call, CellView, Said};
@@ -42,16 +42,16 @@ impl<T: Drop> World<T> {
     /// An empty queue of this many places, a power of two from 2 to 65,536, whose first ticket is below 2^62.
     ///
     /// Nobody is in a call. All the memory that `begin_push`, `begin_pop` and `step` need is taken here.
-    pub fn new(alloc: Global, places: usize, first: u64) -> Result<World<T>, WorldFault>
+    pub fn new(alloc: Global, places: usize, first: u64) -> Result<World<T>, WorldError>
         ensures made { IfOk result (λ w. w ≡ fresh places first) }
-        ensures bad_size { IsErrOf result WorldFault.BadSize ↔ (is_size places ≡ false) }
-        ensures bad_first { IsErrOf result WorldFault.BadFirst ↔ ((is_size places ≡ true) × (last ≤ first)) }
+        ensures bad_size { IsErrOf result WorldError.BadSize ↔ (is_size places ≡ false) }
+        ensures bad_first { IsErrOf result WorldError.BadFirst ↔ ((is_size places ≡ true) × (last ≤ first)) }
     {
         if !(places.is_power_of_two() && places >= 2 && places <= MOST_PLACES) {
-            return Err(WorldFault::BadSize);
+            return Err(WorldError::BadSize);
         }
         if first >= LAST_TICKET {
-            return Err(WorldFault::BadFirst);
+            return Err(WorldError::BadFirst);
         }
         let mut rounds = Vec::with_capacity(alloc, ACTORS as usize)?;
         for _ in 0..ACTORS {
@@ -72,7 +72,7 @@ impl<T: Drop> World<T> {
     pub fn begin_push(&mut self, actor: u32, item: T) -> Result<(), Refused<T>>
         ensures began { OnOk result (self.new ≡ began self.old actor (round.Push item)) }
         ensures begins { IsOk result ↔ ((actor < 64) × (is_idle (round_of self.old actor) ≡ true)) }
-        ensures no_actor { IfErr result (λ r. (r.fault ≡ BeginFault.NoActor) ↔ (64 ≤ actor)) }
+        ensures no_actor { IfErr result (λ r. (r.fault ≡ BeginError.NoActor) ↔ (64 ≤ actor)) }
         ensures item { IfErr result (λ r. r.item ≡ item) }
         ensures err { OnErr result (self.new ≡ self.old) }
     {
@@ -86,10 +86,10 @@ impl<T: Drop> World<T> {
     }
 
     /// Begins a pop by an actor, 0 to 63. It takes no memory, and a refusal changes nothing.
-    pub fn begin_pop(&mut self, actor: u32) -> Result<(), BeginFault>
+    pub fn begin_pop(&mut self, actor: u32) -> Result<(), BeginError>
         ensures began { OnOk result (self.new ≡ began self.old actor round.Pop) }
         ensures begins { IsOk result ↔ ((actor < 64) × (is_idle (round_of self.old actor) ≡ true)) }
-        ensures no_actor { IsErrOf result BeginFault.NoActor ↔ (64 ≤ actor) }
+        ensures no_actor { IsErrOf result BeginError.NoActor ↔ (64 ≤ actor) }
         ensures err { OnErr result (self.new ≡ self.old) }
     {
         self.may_begin(actor)?;
@@ -106,17 +106,17 @@ impl<T: Drop> World<T> {
     }
 
     /// Whether a call of this actor may begin.
-    fn may_begin(&self, actor: u32) -> Result<(), BeginFault>
+    fn may_begin(&self, actor: u32) -> Result<(), BeginError>
         ensures begins { IsOk result ↔ ((actor < 64) × (is_idle (round_of self.now actor) ≡ true)) }
-        ensures no_actor { IsErrOf result BeginFault.NoActor ↔ (64 ≤ actor) }
-        ensures in_call { IsErrOf result BeginFault.InCall → (actor < 64) × (is_idle (round_of self.now actor) ≡ false) }
+        ensures no_actor { IsErrOf result BeginError.NoActor ↔ (64 ≤ actor) }
+        ensures in_call { IsErrOf result BeginError.InCall → (actor < 64) × (is_idle (round_of self.now actor) ≡ false) }
     {
         if actor >= ACTORS {
-            Err(BeginFault::NoActor)
+            Err(BeginError::NoActor)
         } else if self.is_idle(actor) {
             Ok(())
         } else {
-            Err(BeginFault::InCall)
+            Err(BeginError::InCall)
         }
     }
 
@@ -124,9 +124,9 @@ impl<T: Drop> World<T> {
     ///
     /// Each step is one event of the queue, which the queue allows, or none, and it is the one that the table of a
     /// round names. A refusal changes nothing.
-    pub fn step(&mut self, actor: u32) -> Result<Said<T>, StepFault>
-        ensures no_actor { IsErrOf result StepFault.NoActor ↔ (64 ≤ actor) }
-        ensures not_in_call { IsErrOf result StepFault.NotInCall ↔ ((actor < 64) × (is_idle (round_of self.old actor) ≡ true)) }
+    pub fn step(&mut self, actor: u32) -> Result<Said<T>, StepError>
+        ensures no_actor { IsErrOf result StepError.NoActor ↔ (64 ≤ actor) }
+        ensures not_in_call { IsErrOf result StepError.NotInCall ↔ ((actor < 64) × (is_idle (round_of self.old actor) ≡ true)) }
         ensures err { OnErr result (self.new ≡ self.old) }
 
         ensures said { IfOk result (λ s. s ≡ told self.old actor) }
@@ -137,9 +137,9 @@ impl<T: Drop> World<T> {
             → StandsFor self.old.places f (h ++ entries_of actor tt (next_move self.old actor).event) self.new.queue) }
     {
         match self.may_begin(actor) {
-            Err(BeginFault::NoActor) => Err(StepFault::NoActor),
-            Ok(()) => Err(StepFault::NotInCall),
-            Err(BeginFault::InCall) => Ok(self.advance(actor)),
+            Err(BeginError::NoActor) => Err(StepError::NoActor),
+            Ok(()) => Err(StepError::NotInCall),
+            Err(BeginError::InCall) => Ok(self.advance(actor)),
         }
     }
 

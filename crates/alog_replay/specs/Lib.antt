@@ -6,4 +6,4 @@ pub mod Reading
 pub mod Entry
 pub mod Session
 pub mod Script
-pub mod Fault
+pub mod Error

@@ -4,8 +4,8 @@ use Rattle.std.specs.Io.KnownBytes.{Appends}
 use Rattle.alog_replay.specs.Lines.{lines_of}
 use Rattle.alog_replay.specs.Session.{Stage, Played, Done, Refused, IsDone, IsRefused, play, files_text}
 use Rattle.alog_replay.specs.Entry.{IsEntry}
-use Rattle.alog_replay.specs.declared.fault.ReplayFault.{ReplayFault}
-use Rattle.alog_replay.specs.declared.fault.ReplayFault.TheVariants as fault
+use Rattle.alog_replay.specs.declared.error.ReplayError.{ReplayError}
+use Rattle.alog_replay.specs.declared.error.ReplayError.TheVariants as fault
 use Rattle.alog_replay.specs.declared.entry.Entry.{Entry}
 use Rattle.alog_replay.specs.declared.entry.Entry.TheVariants.{Skipped, Does}
 use Rattle.alog_replay.specs.declared.entry.Entry.TheVariants as entry
@@ -95,7 +95,7 @@ abbrev pub WritesLineFront : Option Stage → List ℕ → Option (List ℕ) →
 WritesLineFront stage line old new = Appends old new [] ⊎ ((text : List ℕ) × LinePrints stage line text × WritesFrontOf text old new)
 
 -- the fault is no refused line
-abbrev pub IsNoRefusal : ReplayFault → Type 0
+abbrev pub IsNoRefusal : ReplayError → Type 0
 IsNoRefusal (fault.LineRefused line) = ⊥
 IsNoRefusal fault.ReadFault = Unit {0}
 IsNoRefusal fault.WriteFault = Unit {0}

@@ -11,7 +11,7 @@
 pub mod command;
 pub mod duty;
 pub mod entry;
-pub mod fault;
+pub mod error;
 pub mod lines;
 pub mod parser;
 pub mod player;
@@ -22,7 +22,7 @@ mod tests;
 
 pub use command::{Command, TextRef};
 pub use entry::{Entry, entry_of, one_command};
-pub use fault::{LineFault, ReplayFault};
+pub use error::{LineError, ReplayError};
 pub use lines::{LINE_MAX, Line, LineReader, READS_MAX, ReadFault};
 pub use parser::parse;
 pub use player::{one_text, replay};

@@ -8,7 +8,7 @@ ghost use Rattle.alog_replay.specs.declared.entry.Entry.{Entry};
 
 use crate::command::Command;
 use crate::entry::{Entry, entry_of};
-use crate::fault::{LineFault, ReplayFault};
+use crate::error::{LineError, ReplayError};
 use crate::lines::{Line, LineReader};
 use crate::print::print_file;
 use crate::session::Session;
@@ -16,13 +16,13 @@ use std::alloc::{AllocError, Global};
 use std::io::{ErrorKind, Read, Write};
 
 /// Opens the queue by the first command of a script.
-fn open(alloc: Global, command: &Command<'_>) -> Result<Session, LineFault>
+fn open(alloc: Global, command: &Command<'_>) -> Result<Session, LineError>
     ensures opened { IfOk result (λ s. play None command.now ≡ Done [] s) }
-    ensures refused { IsErrOf result LineFault.Refused → play None command.now ≡ Refused [] }
+    ensures refused { IsErrOf result LineError.Refused → play None command.now ≡ Refused [] }
 {
     match command {
         Command::Ring { size, first } => Session::open(alloc, *size, *first),
-        _ => Err(LineFault::Refused),
+        _ => Err(LineError::Refused),
     }
 }
 
@@ -32,10 +32,10 @@ fn carry_out(
     session: &mut Option<Session>,
     command: Command<'_>,
     out: &mut String,
-) -> Result<(), LineFault>
+) -> Result<(), LineError>
     requires { IsInRange command }
     ensures done { OnOk result ((s : Stage) × (session.new ≡ Some s) × IsDone (play session.old command.entry) (string_bytes out.old) (string_bytes out.new) s) }
-    ensures refused { IsErrOf result LineFault.Refused → IsRefused (play session.old command.entry) (string_bytes out.old) (string_bytes out.new) }
+    ensures refused { IsErrOf result LineError.Refused → IsRefused (play session.old command.entry) (string_bytes out.old) (string_bytes out.new) }
 {
     match session {
         Some(session) => session.play(alloc, command, out),
@@ -47,9 +47,9 @@ fn carry_out(
 }
 
 /// Writes all these bytes, or a front of them.
-fn write_whole<W: Write>(writer: &mut W, bytes: &[u8]) -> Result<(), ReplayFault>
+fn write_whole<W: Write>(writer: &mut W, bytes: &[u8]) -> Result<(), ReplayError>
     ensures whole { OnOk result (Appends (W.contents writer.old) (W.contents writer.new) bytes.now) }
-    ensures front { IfErr result (λ e. (e ≡ ReplayFault.WriteFault) × ((front : List ℕ) × (back : List ℕ) × (bytes.now ≡ front ++ back) × Appends (W.contents writer.old) (W.contents writer.new) front)) }
+    ensures front { IfErr result (λ e. (e ≡ ReplayError.WriteFault) × ((front : List ℕ) × (back : List ℕ) × (bytes.now ≡ front ++ back) × Appends (W.contents writer.old) (W.contents writer.new) front)) }
 {
     let mut rest = bytes;
     for _ in 0..u64::MAX {
@@ -57,13 +57,13 @@ fn write_whole<W: Write>(writer: &mut W, bytes: &[u8]) -> Result<(), ReplayFault
             return Ok(());
         }
         match writer.write(rest) {
-            Ok(0) => return Err(ReplayFault::WriteFault),
+            Ok(0) => return Err(ReplayError::WriteFault),
             Ok(n) => rest = &rest[n..],
             Err(error) if error.kind() == ErrorKind::Interrupted => {}
-            Err(_) => return Err(ReplayFault::WriteFault),
+            Err(_) => return Err(ReplayError::WriteFault),
         }
     }
-    Err(ReplayFault::WriteFault)
+    Err(ReplayError::WriteFault)
 }
 
 /// Plays a line, and prints what it prints behind `out`.
@@ -72,15 +72,15 @@ fn play_line(
     session: &mut Option<Session>,
     line: &[u8],
     out: &mut String,
-) -> Result<(), LineFault>
+) -> Result<(), LineError>
     requires { length line.now ≤ 16384 }
     ensures done { OnOk result (LineDone session.old line.now (string_bytes out.old) (string_bytes out.new) session.new) }
-    ensures refused { IsErrOf result LineFault.Refused → LineRefused session.old line.now (string_bytes out.old) (string_bytes out.new) }
+    ensures refused { IsErrOf result LineError.Refused → LineRefused session.old line.now (string_bytes out.old) (string_bytes out.new) }
 {
     match entry_of(line) {
         Entry::Skipped => Ok(()),
         Entry::Does(command) => carry_out(alloc, session, command, out),
-        Entry::Refused => Err(LineFault::Refused),
+        Entry::Refused => Err(LineError::Refused),
     }
 }
 
@@ -102,21 +102,21 @@ fn play_and_write<W: Write>(
     number: u64,
     writer: &mut W,
     out: &mut String,
-) -> Result<(), ReplayFault>
+) -> Result<(), ReplayError>
     requires { length line.now ≤ 16384 }
     ensures done { OnOk result (WritesLine session.old line.now session.new (W.contents writer.old) (W.contents writer.new)) }
-    ensures refused { IfErr result (λ e. (k : ℕ) → e ≡ ReplayFault.LineRefused k → (k ≡ number)
+    ensures refused { IfErr result (λ e. (k : ℕ) → e ≡ ReplayError.LineRefused k → (k ≡ number)
         × WritesRefused session.old line.now (W.contents writer.old) (W.contents writer.new)) }
     ensures front { OnErr result (WritesLineFront session.old line.now (W.contents writer.old) (W.contents writer.new)) }
 {
     out.clear();
     match play_line(alloc, session, line, out) {
         Ok(()) => write_whole(writer, out.as_bytes()),
-        Err(LineFault::Refused) => {
+        Err(LineError::Refused) => {
             write_whole(writer, out.as_bytes())?;
-            Err(ReplayFault::LineRefused { line: number })
+            Err(ReplayError::LineRefused { line: number })
         }
-        Err(LineFault::OutOfMemory) => Err(ReplayFault::OutOfMemory),
+        Err(LineError::OutOfMemory) => Err(ReplayError::OutOfMemory),
     }
 }
 
@@ -125,7 +125,7 @@ fn finish<W: Write>(
     session: &Option<Session>,
     writer: &mut W,
     out: &mut String,
-) -> Result<(), ReplayFault>
+) -> Result<(), ReplayError>
     ensures done { OnOk result (Appends (W.contents writer.old) (W.contents writer.new) (files_text session.now)) }
     ensures front { IfErr result (λ e. IsNoRefusal e × WritesFrontOf (files_text session.now) (W.contents writer.old) (W.contents writer.new)) }
 {
@@ -134,7 +134,7 @@ fn finish<W: Write>(
     write_whole(writer, out.as_bytes())?;
     match writer.flush() {
         Ok(()) => Ok(()),
-        Err(_) => Err(ReplayFault::WriteFault),
+        Err(_) => Err(ReplayError::WriteFault),
     }
 }
 
@@ -147,10 +147,10 @@ pub fn replay<R: Read, W: Write>(
     alloc: Global,
     reader: &mut R,
     writer: &mut W,
-) -> Result<u64, ReplayFault>
+) -> Result<u64, ReplayError>
     ensures whole { IfOk result (λ n. IfSome (R.remaining reader.old) (λ script.
         WritesText script (λ text. Whole text n) (W.contents writer.old) (W.contents writer.new))) }
-    ensures refused { IfErr result (λ e. (line : ℕ) → e ≡ ReplayFault.LineRefused line → IfSome (R.remaining reader.old) (λ script.
+    ensures refused { IfErr result (λ e. (line : ℕ) → e ≡ ReplayError.LineRefused line → IfSome (R.remaining reader.old) (λ script.
         WritesText script (RefusedAt line) (W.contents writer.old) (W.contents writer.new))) }
     ensures front { OnErr result (IfSome (R.remaining reader.old) (λ script.
         WritesFront script (W.contents writer.old) (W.contents writer.new))) }
@@ -162,7 +162,7 @@ pub fn replay<R: Read, W: Write>(
     'lines: loop {
         match lines.next_line(reader)? {
             Line::Found => {}
-            Line::TooLong => return Err(ReplayFault::LineRefused { line: count + 1 }),
+            Line::TooLong => return Err(ReplayError::LineRefused { line: count + 1 }),
             Line::End => {
                 finish(&session, writer, &mut out)?;
                 return Ok(count);

@@ -8,7 +8,7 @@ ghost use Rattle.alog_replay.specs.Session.{opened, is_free, may_push, pushing, 
 
 use crate::command::Command;
 use crate::duty::Duty;
-use crate::fault::LineFault;
+use crate::error::LineError;
 use crate::print::{print_cells, print_said, print_turn};
 use alog_core::{ACTORS, Said, World};
 use alog_msg::{Level, Message, Text};
@@ -43,9 +43,9 @@ impl Model for Session {
 
 impl Session {
     /// An empty queue and nobody in a call.
-    pub fn open(alloc: Global, places: u64, first: u64) -> Result<Session, LineFault>
+    pub fn open(alloc: Global, places: u64, first: u64) -> Result<Session, LineError>
         ensures opened { IfOk result (λ s. s ≡ opened places first) }
-        ensures refused { IsErrOf result LineFault.Refused ↔ ((is_size places && nat_lt first last) ≡ false) }
+        ensures refused { IsErrOf result LineError.Refused ↔ ((is_size places && nat_lt first last) ≡ false) }
     {
         let world = World::new(alloc, places as usize, first)?;
         let mut duties = Vec::with_capacity(alloc, ACTORS as usize)?;
@@ -70,13 +70,13 @@ impl Session {
     }
 
     /// An actor, 0 to 63, begins a push of a text of at most 2,048 bytes.
-    pub fn push(&mut self, alloc: Global, actor: u8, text: &str) -> Result<(), LineFault>
+    pub fn push(&mut self, alloc: Global, actor: u8, text: &str) -> Result<(), LineError>
         requires { actor < 64 }
         ensures begun { OnOk result (self.new ≡ pushing self.old actor text.now) }
-        ensures refused { IsErrOf result LineFault.Refused ↔ (may_push self.old actor text.now ≡ false) }
+        ensures refused { IsErrOf result LineError.Refused ↔ (may_push self.old actor text.now ≡ false) }
     {
         if !(self.is_free(actor) && text.len() <= TEXT_LIMIT) {
-            return Err(LineFault::Refused);
+            return Err(LineError::Refused);
         }
         let thread = u64::from(actor);
         let message = Message::new(alloc, TEXT_LIMIT, 0, Level::Info, 0, thread, text, None)?;
@@ -86,14 +86,14 @@ impl Session {
     }
 
     /// An actor, 0 to 63, begins a pop, as a worker or not.
-    pub fn pop(&mut self, actor: u8, duty: Duty) -> Result<(), LineFault>
+    pub fn pop(&mut self, actor: u8, duty: Duty) -> Result<(), LineError>
         requires { actor < 64 }
         ensures begun { OnOk result (self.new ≡ popping self.old actor duty) }
         ensures refused { IsErr result ↔ (is_free self.old actor ≡ false) }
-        ensures cause { IfErr result (λ e. e ≡ LineFault.Refused) }
+        ensures cause { IfErr result (λ e. e ≡ LineError.Refused) }
     {
         if !self.is_free(actor) {
-            return Err(LineFault::Refused);
+            return Err(LineError::Refused);
         }
         self.world.begin_pop(u32::from(actor))?;
         self.owe(actor, duty);
@@ -101,15 +101,15 @@ impl Session {
     }
 
     /// An actor, 0 to 63, makes the next step of its call, which is printed.
-    pub fn step(&mut self, actor: u8, out: &mut String) -> Result<(), LineFault>
+    pub fn step(&mut self, actor: u8, out: &mut String) -> Result<(), LineError>
         requires { actor < 64 }
         ensures stepped { OnOk result (self.new ≡ after_step self.old actor) }
         ensures printed { OnOk result (string_bytes out.new ≡ string_bytes out.old ++ step_text self.old actor) }
-        ensures refused { IsErrOf result LineFault.Refused ↔ (is_free self.old actor ≡ true) }
-        ensures same { IsErrOf result LineFault.Refused → string_bytes out.new ≡ string_bytes out.old }
+        ensures refused { IsErrOf result LineError.Refused ↔ (is_free self.old actor ≡ true) }
+        ensures same { IsErrOf result LineError.Refused → string_bytes out.new ≡ string_bytes out.old }
     {
         if self.is_free(actor) {
-            return Err(LineFault::Refused);
+            return Err(LineError::Refused);
         }
         match self.take_duty(actor) {
             Duty::Free => {
@@ -130,10 +130,10 @@ impl Session {
     }
 
     /// An actor, 0 to 63, makes this many steps.
-    fn steps(&mut self, actor: u8, count: u32, out: &mut String) -> Result<(), LineFault>
+    fn steps(&mut self, actor: u8, count: u32, out: &mut String) -> Result<(), LineError>
         requires { actor < 64 }
         ensures done { OnOk result (IsDone (steps count actor self.old) (string_bytes out.old) (string_bytes out.new) self.new) }
-        ensures refused { IsErrOf result LineFault.Refused → IsRefused (steps count actor self.old) (string_bytes out.old) (string_bytes out.new) }
+        ensures refused { IsErrOf result LineError.Refused → IsRefused (steps count actor self.old) (string_bytes out.old) (string_bytes out.new) }
     {
         for _ in 0..count {
             self.step(actor, out)?;
@@ -142,10 +142,10 @@ impl Session {
     }
 
     /// An actor, 0 to 63, makes steps until its call has ended, but no more than `STEPS_MAX`.
-    fn run(&mut self, actor: u8, out: &mut String) -> Result<(), LineFault>
+    fn run(&mut self, actor: u8, out: &mut String) -> Result<(), LineError>
         requires { actor < 64 }
         ensures done { OnOk result (IsDone (run 512 actor self.old) (string_bytes out.old) (string_bytes out.new) self.new) }
-        ensures cause { IfErr result (λ e. e ≡ LineFault.OutOfMemory) }
+        ensures cause { IfErr result (λ e. e ≡ LineError.OutOfMemory) }
     {
         for _ in 0..STEPS_MAX {
             if self.is_free(actor) {
@@ -162,18 +162,18 @@ impl Session {
         alloc: Global,
         command: Command<'_>,
         out: &mut String,
-    ) -> Result<(), LineFault>
+    ) -> Result<(), LineError>
         requires { IsInRange command }
         ensures done { OnOk result (IsDone (play_open self.old command.entry) (string_bytes out.old) (string_bytes out.new) self.new) }
-        ensures refused { IsErrOf result LineFault.Refused → IsRefused (play_open self.old command.entry) (string_bytes out.old) (string_bytes out.new) }
+        ensures refused { IsErrOf result LineError.Refused → IsRefused (play_open self.old command.entry) (string_bytes out.old) (string_bytes out.new) }
     {
         match command {
-            Command::Ring { .. } => Err(LineFault::Refused),
+            Command::Ring { .. } => Err(LineError::Refused),
             Command::Push { actor, text } => self.push(alloc, actor, text.as_str()),
             Command::Pop { actor } => self.pop(actor, Duty::Free),
             Command::Work { actor } => self.pop(actor, Duty::Works),
             Command::Step { actor, count } => self.steps(actor, count, out),
-            Command::Run { actor } if self.is_free(actor) => Err(LineFault::Refused),
+            Command::Run { actor } if self.is_free(actor) => Err(LineError::Refused),
             Command::Run { actor } => self.run(actor, out),
             Command::Cells => {
                 let cells = self.world.cells(alloc)?;
@@ -207,13 +207,13 @@ impl Session {
     }
 
     /// The next step of a round.
-    fn advance(&mut self, actor: u8, out: &mut String) -> Result<Said<Message>, LineFault>
+    fn advance(&mut self, actor: u8, out: &mut String) -> Result<Said<Message>, LineError>
         requires actor { actor < 64 }
         requires in_call { is_idle (round_of self.old.world actor) ≡ false }
         ensures said { IfOk result (λ said. said ≡ told self.old.world actor) }
         ensures stepped { OnOk result (self.new ≡ with_world self.old (stepped self.old.world actor)) }
         ensures printed { OnOk result (string_bytes out.new ≡ string_bytes out.old ++ said_text actor (told self.old.world actor)) }
-        ensures cause { IfErr result (λ e. e ≡ LineFault.OutOfMemory) }
+        ensures cause { IfErr result (λ e. e ≡ LineError.OutOfMemory) }
     {
         let said = self.world.step(u32::from(actor))?;
         print_said(out, actor, &said)?;

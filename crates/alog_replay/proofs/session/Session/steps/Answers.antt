@@ -1,7 +1,7 @@
 use Rattle.std.proofs.Common.{◌≡◌, ◌-◌, ◌+◌, ◌<◌, false, Err, sym, ap, ◌∙◌, arith, string_bytes}
 use Rattle.std.proofs.lemmas.Result.{err_from_is_err_and}
 use Rattle.alog_replay.specs.Session.{steps, is_free, step_text, after_step, behind}
-use Rattle.alog_replay.specs.declared.fault.LineFault.TheVariants.{Refused}
+use Rattle.alog_replay.specs.declared.error.LineError.TheVariants.{Refused}
 use Rattle.alog_replay.proofs.Stepping.{steps_step, steps_free, steps_none, made_more, made_all, made_till_refused, false_from_refused, one_less, none_left}
 use Rattle.alog_replay.proofs.session.Session.steps.Goals as goal
 

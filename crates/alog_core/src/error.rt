@@ -1,12 +1,12 @@
 ghost use Rattle.std.specs.Prelude.{◌≡◌};
-ghost use Rattle.alog_core.specs.Fault.{begin_number, step_number};
+ghost use Rattle.alog_core.specs.Error.{begin_number, step_number};
 
 use std::alloc::AllocError;
 use thiserror::Error;
 
 /// Why `World::new` made no queue.
 #[derive(Clone, Copy, Debug, PartialEq, Eq, Drop, Error)]
-pub enum WorldFault {
+pub enum WorldError {
     /// The number of places is no power of two from 2 to 65,536.
     #[error("the number of places is no power of two from 2 to 65,536")]
     BadSize,
@@ -18,19 +18,19 @@ pub enum WorldFault {
     OutOfMemory,
 }
 
-impl From<AllocError> for WorldFault {
-    ghost use Rattle.alog_core.specs.declared.fault.WorldFault.TheVariants.{OutOfMemory};
+impl From<AllocError> for WorldError {
+    ghost use Rattle.alog_core.specs.declared.error.WorldError.TheVariants.{OutOfMemory};
 
     ghost from_gives = { λ _ e. e ≡ OutOfMemory };
 
-    fn from(_e: AllocError) -> WorldFault {
-        WorldFault::OutOfMemory
+    fn from(_e: AllocError) -> WorldError {
+        WorldError::OutOfMemory
     }
 }
 
 /// Why a push or a pop did not begin.
 #[derive(Clone, Copy, Debug, PartialEq, Eq, Drop, Error)]
-pub enum BeginFault {
+pub enum BeginError {
     /// Actors are 0 to 63.
     #[error("there is no such actor")]
     NoActor,
@@ -39,21 +39,21 @@ pub enum BeginFault {
     InCall,
 }
 
-impl BeginFault {
+impl BeginError {
     /// The number of the refusal: 6 no such actor, 7 in a call already.
     pub fn number(self) -> u32
         ensures { result ≡ begin_number self }
     {
         match self {
-            BeginFault::NoActor => 6,
-            BeginFault::InCall => 7,
+            BeginError::NoActor => 6,
+            BeginError::InCall => 7,
         }
     }
 }
 
 /// Why a step was not made.
 #[derive(Clone, Copy, Debug, PartialEq, Eq, Drop, Error)]
-pub enum StepFault {
+pub enum StepError {
     /// Actors are 0 to 63.
     #[error("there is no such actor")]
     NoActor,
@@ -62,14 +62,14 @@ pub enum StepFault {
     NotInCall,
 }
 
-impl StepFault {
+impl StepError {
     /// The number of the refusal: 6 no such actor, 8 not in a call.
     pub fn number(self) -> u32
         ensures { result ≡ step_number self }
     {
         match self {
-            StepFault::NoActor => 6,
-            StepFault::NotInCall => 8,
+            StepError::NoActor => 6,
+            StepError::NotInCall => 8,
         }
     }
 }
@@ -78,7 +78,7 @@ impl StepFault {
 #[derive(Debug, PartialEq, Eq, Drop)]
 pub struct Refused<T> {
     /// Why.
-    pub fault: BeginFault,
+    pub fault: BeginError,
     /// The item, handed back.
     pub item: T,
 }

@@ -1,17 +1,17 @@
 ghost use Rattle.std.specs.Prelude.{◌≡◌};
-ghost use Rattle.alog_replay.specs.declared.fault.LineFault.TheVariants.{Refused, OutOfMemory};
-ghost use Rattle.alog_replay.specs.declared.fault.ReplayFault.TheVariants as fault;
-ghost use Rattle.alog_replay.specs.Fault.{line_fault_of, line_fault_of_message};
+ghost use Rattle.alog_replay.specs.declared.error.LineError.TheVariants.{Refused, OutOfMemory};
+ghost use Rattle.alog_replay.specs.declared.error.ReplayError.TheVariants as fault;
+ghost use Rattle.alog_replay.specs.Error.{line_fault_of, line_fault_of_message};
 
 use crate::lines::ReadFault;
-use alog_core::{BeginFault, Refused, StepFault, WorldFault};
+use alog_core::{BeginError, Refused, StepError, WorldError};
 use alog_msg::{Message, MessageError};
 use std::alloc::AllocError;
 use thiserror::Error;
 
 /// Why a line of a script was not carried out to its end.
 #[derive(Clone, Copy, Debug, PartialEq, Eq, Error)]
-pub enum LineFault {
+pub enum LineError {
     /// It is no line that may stand there.
     #[error("the line is refused")]
     Refused,
@@ -20,63 +20,63 @@ pub enum LineFault {
     OutOfMemory,
 }
 
-impl From<AllocError> for LineFault {
+impl From<AllocError> for LineError {
     ghost from_gives = { λ _ e. e ≡ OutOfMemory };
 
-    fn from(_error: AllocError) -> LineFault {
-        LineFault::OutOfMemory
+    fn from(_error: AllocError) -> LineError {
+        LineError::OutOfMemory
     }
 }
 
-impl From<WorldFault> for LineFault {
+impl From<WorldError> for LineError {
     ghost from_gives = { λ w e. e ≡ line_fault_of w };
 
-    fn from(fault: WorldFault) -> LineFault {
+    fn from(fault: WorldError) -> LineError {
         match fault {
-            WorldFault::BadSize | WorldFault::BadFirst => LineFault::Refused,
-            WorldFault::OutOfMemory => LineFault::OutOfMemory,
+            WorldError::BadSize | WorldError::BadFirst => LineError::Refused,
+            WorldError::OutOfMemory => LineError::OutOfMemory,
         }
     }
 }
 
-impl From<MessageError> for LineFault {
+impl From<MessageError> for LineError {
     ghost from_gives = { λ m e. e ≡ line_fault_of_message m };
 
-    fn from(fault: MessageError) -> LineFault {
+    fn from(fault: MessageError) -> LineError {
         match fault {
-            MessageError::TextTooLong | MessageError::FieldTooLong => LineFault::Refused,
-            MessageError::OutOfMemory => LineFault::OutOfMemory,
+            MessageError::TextTooLong | MessageError::FieldTooLong => LineError::Refused,
+            MessageError::OutOfMemory => LineError::OutOfMemory,
         }
     }
 }
 
-impl From<Refused<Message>> for LineFault {
+impl From<Refused<Message>> for LineError {
     ghost from_gives = { λ _ e. e ≡ Refused };
 
-    fn from(_refused: Refused<Message>) -> LineFault {
-        LineFault::Refused
+    fn from(_refused: Refused<Message>) -> LineError {
+        LineError::Refused
     }
 }
 
-impl From<BeginFault> for LineFault {
+impl From<BeginError> for LineError {
     ghost from_gives = { λ _ e. e ≡ Refused };
 
-    fn from(_fault: BeginFault) -> LineFault {
-        LineFault::Refused
+    fn from(_fault: BeginError) -> LineError {
+        LineError::Refused
     }
 }
 
-impl From<StepFault> for LineFault {
+impl From<StepError> for LineError {
     ghost from_gives = { λ _ e. e ≡ Refused };
 
-    fn from(_fault: StepFault) -> LineFault {
-        LineFault::Refused
+    fn from(_fault: StepError) -> LineError {
+        LineError::Refused
     }
 }
 
 /// Why a script was not replayed to its end. What was written before stands.
 #[derive(Clone, Copy, Debug, PartialEq, Eq, Error)]
-pub enum ReplayFault {
+pub enum ReplayError {
     /// This line, counted from 1, is refused: the lines before it and the steps done on it are written.
     #[error("line {line} is refused")]
     LineRefused { line: u64 },
@@ -91,18 +91,18 @@ pub enum ReplayFault {
     OutOfMemory,
 }
 
-impl From<AllocError> for ReplayFault {
+impl From<AllocError> for ReplayError {
     ghost from_gives = { λ _ e. e ≡ fault.OutOfMemory };
 
-    fn from(_error: AllocError) -> ReplayFault {
-        ReplayFault::OutOfMemory
+    fn from(_error: AllocError) -> ReplayError {
+        ReplayError::OutOfMemory
     }
 }
 
-impl From<ReadFault> for ReplayFault {
+impl From<ReadFault> for ReplayError {
     ghost from_gives = { λ _ e. e ≡ fault.ReadFault };
 
-    fn from(_fault: ReadFault) -> ReplayFault {
-        ReplayFault::ReadFault
+    fn from(_fault: ReadFault) -> ReplayError {
+        ReplayError::ReadFault
     }
 }

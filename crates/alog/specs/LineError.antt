@@ -4,27 +4,27 @@ use Rattle.alog_msg.specs.declared.message.MessageError.{MessageError}
 use Rattle.alog_msg.specs.declared.message.MessageError.TheVariants as message
 use Rattle.alog_pattern.specs.declared.patterns.PatternError.{PatternError}
 use Rattle.alog_pattern.specs.declared.patterns.PatternError.TheVariants as pattern
-use Rattle.alog.specs.declared.line.LineFault.{LineFault}
-use Rattle.alog.specs.declared.line.LineFault.TheVariants.{PatternTooLong, LineTooLong, TextTooLong, FieldTooLong, OutOfMemory}
+use Rattle.alog.specs.declared.line.LineError.{LineError}
+use Rattle.alog.specs.declared.line.LineError.TheVariants.{PatternTooLong, LineTooLong, TextTooLong, FieldTooLong, OutOfMemory}
 
-abbrev pub of_pattern : PatternError → LineFault
+abbrev pub of_pattern : PatternError → LineError
 of_pattern pattern.PatternTooLong = PatternTooLong
 of_pattern pattern.LineTooLong = LineTooLong
 of_pattern pattern.OutOfMemory = OutOfMemory
 
-abbrev pub of_message : MessageError → LineFault
+abbrev pub of_message : MessageError → LineError
 of_message message.TextTooLong = TextTooLong
 of_message message.FieldTooLong = FieldTooLong
 of_message message.OutOfMemory = OutOfMemory
 
-abbrev pub number_of : LineFault → ℕ
+abbrev pub number_of : LineError → ℕ
 number_of OutOfMemory = 1
 number_of TextTooLong = 2
 number_of FieldTooLong = 3
 number_of PatternTooLong = 17
 number_of LineTooLong = 18
 
-abbrev pub status_of : LineFault → ℕ
+abbrev pub status_of : LineError → ℕ
 status_of OutOfMemory = 4
 status_of TextTooLong = 2
 status_of FieldTooLong = 2
