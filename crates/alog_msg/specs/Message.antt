@@ -1,6 +1,7 @@
 -- The fields of a made message, and which sources are too long for one.
 use Rattle.std.specs.Prelude.{◌<◌, ◌⊎◌, length, Option, Some, None}
 use Rattle.alog_msg.specs.Source.{SourceFields}
+use Rattle.alog_msg.specs.declared.limits.TheConstants.{FILE_MAX, FUNCTION_MAX}
 use Rattle.alog_msg.specs.declared.source.SourceRef.{SourceRef}
 
 -- what a lent source says
@@ -15,4 +16,4 @@ source_of (Some s) = Some (fields_of s)
 -- a file of more than 256 bytes, or a function of more than 128
 abbrev pub HasLongField : Option SourceRef → Type 0
 HasLongField None = ⊥
-HasLongField (Some s) = (256 < length s.file.now) ⊎ (128 < length s.function.now)
+HasLongField (Some s) = (FILE_MAX < length s.file.now) ⊎ (FUNCTION_MAX < length s.function.now)

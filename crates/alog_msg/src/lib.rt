@@ -4,18 +4,22 @@
 //! list of its bytes and its `Source` as a record of file, line and function. `Message::new` makes a message of
 //! copies, by the limits on its text, file and function, and that it has exactly the given fields is proved.
 //!
-//! Read `specs/Level.antt` (the table of levels) and `level.rt`, then `text.rt`, then `source.rt` with
+//! `limits.rt` has how long texts, fields and names may be. Read `specs/Level.antt` (the table of levels) and `level.rt`, then `text.rt`, then `source.rt` with
 //! `specs/Source.antt`, then `message.rt` with `specs/Message.antt`.
 #![tactic(auto)]
 
-pub mod level;
-pub mod message;
-pub mod source;
+mod level;
+mod limits;
+mod message;
+mod source;
 #[cfg(test)]
 mod tests;
-pub mod text;
+mod text;
 
 pub use level::Level;
+pub use limits::{
+    DEFAULT_TEXT_LIMIT, FILE_MAX, FUNCTION_MAX, LEAST_TEXT_LIMIT, LOGGER_NAME_MAX, MOST_TEXT_LIMIT,
+};
 pub use message::{Message, MessageError};
-pub use source::{FILE_MAX, FUNCTION_MAX, Source, SourceRef};
+pub use source::{Source, SourceRef};
 pub use text::Text;

@@ -2,7 +2,8 @@ ghost use Rattle.std.specs.Prelude.{◌≡◌, ◌↔◌, ◌<◌, ◌≤◌, If
 ghost use Rattle.alog_msg.specs.declared.message.MessageError.TheVariants.{OutOfMemory};
 
 use crate::level::Level;
-use crate::source::{FILE_MAX, FUNCTION_MAX, Source, SourceRef};
+use crate::limits::{FILE_MAX, FUNCTION_MAX, LEAST_TEXT_LIMIT, MOST_TEXT_LIMIT};
+use crate::source::{Source, SourceRef};
 use crate::text::Text;
 use std::alloc::{AllocError, Global};
 use thiserror::Error;
@@ -59,7 +60,7 @@ impl Message {
         text: &str,
         source: Option<SourceRef<'_>>,
     ) -> Result<Message, MessageError>
-        requires { (64 ≤ text_limit) × (text_limit ≤ 8192) }
+        requires { (LEAST_TEXT_LIMIT ≤ text_limit) × (text_limit ≤ MOST_TEXT_LIMIT) }
         ensures made { IfOk result (λ m. m ≡ record {
           logger = logger;
           level = level;

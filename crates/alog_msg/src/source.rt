@@ -1,14 +1,9 @@
 ghost use Rattle.std.specs.Prelude.{◌≡◌, ◌≤◌, IfOk, length};
 
+use crate::limits::{FILE_MAX, FUNCTION_MAX};
 use crate::text::Text;
 use std::alloc::{AllocError, Global};
 use std::marker::Model;
-
-/// The most bytes that the file of a source has.
-pub const FILE_MAX: usize = 256;
-
-/// The most bytes that the function of a source has.
-pub const FUNCTION_MAX: usize = 128;
 
 /// A source that is lent, to make a message from.
 #[derive(Clone, Copy, Debug)]
@@ -30,12 +25,13 @@ pub struct Source {
 impl Model for Source {
     ghost use Rattle.std.specs.Prelude.{◌≤◌, length};
     ghost use Rattle.alog_msg.specs.Source.{SourceFields};
+    ghost use Rattle.alog_msg.specs.declared.limits.TheConstants.{FILE_MAX, FUNCTION_MAX};
 
     ghost Value = { SourceFields };
 
     ghost view = { λ s. record { file = s.file; line = s.line; function = s.function } };
 
-    ghost invariant = { λ s. (length s.file ≤ 256) × (length s.function ≤ 128) };
+    ghost invariant = { λ s. (length s.file ≤ FILE_MAX) × (length s.function ≤ FUNCTION_MAX) };
 }
 
 impl Source {
@@ -43,8 +39,8 @@ impl Source {
 
     /// Copies a source whose fields are not too long.
     pub fn copy_of(alloc: Global, source: SourceRef<'_>) -> Result<Source, AllocError>
-        requires file_fits { length source.file.now ≤ 256 }
-        requires function_fits { length source.function.now ≤ 128 }
+        requires file_fits { length source.file.now ≤ FILE_MAX }
+        requires function_fits { length source.function.now ≤ FUNCTION_MAX }
         ensures { IfOk result (λ s. s ≡ fields_of source.entry) }
     {
         Ok(Source {
@@ -57,7 +53,7 @@ impl Source {
     /// The file as it was given.
     pub fn file(&self) -> &str
         ensures value { result.now ≡ self.now.file }
-        ensures fits { length result.now ≤ 256 }
+        ensures fits { length result.now ≤ FILE_MAX }
     {
         self.file.as_str()
     }
@@ -72,7 +68,7 @@ impl Source {
     /// The name of the function.
     pub fn function(&self) -> &str
         ensures value { result.now ≡ self.now.function }
-        ensures fits { length result.now ≤ 128 }
+        ensures fits { length result.now ≤ FUNCTION_MAX }
     {
         self.function.as_str()
     }

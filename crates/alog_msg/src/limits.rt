@@ -1,0 +1,19 @@
+//! How long texts, fields and names may be, in bytes.
+
+/// The text limit where nothing else is said.
+pub const DEFAULT_TEXT_LIMIT: usize = 2_048;
+
+/// No text limit is smaller.
+pub const LEAST_TEXT_LIMIT: usize = 64;
+
+/// No text limit is larger.
+pub const MOST_TEXT_LIMIT: usize = 8_192;
+
+/// The most bytes of a source's file.
+pub const FILE_MAX: usize = 256;
+
+/// The most bytes of a source's function.
+pub const FUNCTION_MAX: usize = 128;
+
+/// The most bytes of a logger's name.
+pub const LOGGER_NAME_MAX: usize = 64;
