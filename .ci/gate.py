@@ -1,0 +1,186 @@
+"""What `check` needs beside `rt ci`: processor seconds by crate and phase, and the wrong bodies that no gate tries.
+
+gate.py run FILE WORD..   runs a command, and writes to FILE what it and each prover below it have used
+gate.py times FILE        prints the processor seconds of the last gate by crate and phase, beside the budget
+gate.py applies           says which wrong bodies no longer apply, and which crates have more edits than the gate tries
+gate.py wrong [NAME..]    tries the wrong bodies of these crates, or of all, on a copy of the repository
+"""
+import glob
+import json
+import os
+import re
+import resource
+import shutil
+import subprocess
+import sys
+import tempfile
+import time
+
+# processor seconds: of all of alog, of a crate's proof with its tests, of its edits
+BUDGET, SHARE, EDITS_SHARE = 13_000, 600, 400
+MOST_EDITS = 12
+PHASES = ("proof", "tests", "edits")
+TICKS = os.sysconf("SC_CLK_TCK")
+
+
+def stat_of(pid):
+    """Returns a process's parent, the processor seconds that it has used itself, and when it was started."""
+    try:
+        with open(f"/proc/{pid}/stat") as it:
+            fields = it.read().rpartition(")")[2].split()
+    except OSError:
+        return None
+    return int(fields[1]), (int(fields[11]) + int(fields[12])) / TICKS, fields[19]
+
+
+def label_of(pid):
+    """Returns the crate and the phase that a prover's process works on."""
+    try:
+        with open(f"/proc/{pid}/cmdline", "rb") as it:
+            words = it.read().decode(errors="replace").split("\0")
+        room = os.readlink(f"/proc/{pid}/cwd")
+    except OSError:
+        return None
+    if os.path.basename(words[0]) != "rattle" or "--crate-name" not in words:
+        return None
+    crate = words[words.index("--crate-name") + 1]
+    if os.path.basename(room).startswith("rt-edit-"):
+        return crate, "edits"
+    return crate, "tests" if "--test" in words else "proof"
+
+
+def below(top):
+    """Returns the processes below one, by number, with what stat_of tells of each."""
+    seen = {int(it): stat_of(it) for it in os.listdir("/proc") if it.isdigit()}
+    found, new = {}, [top]
+    while new:
+        new = [pid for pid, it in seen.items() if it and it[0] in new]
+        found.update((pid, seen[pid]) for pid in new)
+    return found
+
+
+def run(file, words):
+    """Runs a command and samples what its provers use. What ends between two samples is in the sum of all alone."""
+    ran = subprocess.Popen(words, stdin=subprocess.DEVNULL)
+    labels, used = {}, {}
+    while ran.poll() is None:
+        for pid, (_, seconds, start) in below(ran.pid).items():
+            label = labels.get((pid, start)) or label_of(pid)
+            if label:
+                labels[pid, start], used[pid, start] = label, seconds
+        time.sleep(0.2)
+    spent = resource.getrusage(resource.RUSAGE_CHILDREN)
+    sums = {}
+    for process, seconds in used.items():
+        crate, phase = labels[process]
+        sums.setdefault(crate, dict.fromkeys(PHASES, 0.0))[phase] += seconds
+    with open(file, "w") as it:
+        json.dump({"crates": sums, "all": spent.ru_utime + spent.ru_stime}, it)
+    return ran.returncode
+
+
+def times(file):
+    try:
+        with open(file) as it:
+            found = json.load(it)
+    except OSError:
+        print("no gate was run here yet: ./check writes what it takes")
+        return 1
+    sums, spent = found["crates"], found["all"]
+    print(f"{'crate':16}{'proof':>8}{'tests':>8}{'edits':>8}{'sum':>8}")
+    for crate, by in sorted(sums.items(), key=lambda it: -sum(it[1].values())):
+        over = [it for it, is_over in (("proof and tests", by["proof"] + by["tests"] > SHARE), ("edits", by["edits"] > EDITS_SHARE)) if is_over]
+        row = "".join(f"{by[it]:8.0f}" for it in PHASES) + f"{sum(by.values()):8.0f}"
+        print(f"{crate:16}{row}{'   over its share: ' + ', '.join(over) if over else ''}")
+    row = "".join(f"{sum(by[it] for by in sums.values()):8.0f}" for it in PHASES)
+    print(f"{'all':16}{row}{spent:8.0f}   of {BUDGET}, with programs and tests; a crate has {SHARE} for proof and tests, {EDITS_SHARE} for edits")
+    return 0
+
+
+def edits_in(folder):
+    return sorted(glob.glob(f"{folder}/*.edit"))
+
+
+def fault_of(edit, crate):
+    """Returns why an edit cannot be applied, if it cannot: each `old:` stands once in what the pairs before it left."""
+    path, old, texts, pairs = "", None, {}, 0
+    with open(edit, encoding="utf-8") as it:
+        lines = it.read().split("\n")
+    for line in lines:
+        if line.startswith("file: "):
+            path = line[len("file: ") :].strip()
+        elif line.startswith("old: "):
+            old = line[len("old: ") :]
+        elif line.startswith("new:") and path and old:
+            if path not in texts:
+                try:
+                    with open(f"{crate}/{path}", encoding="utf-8") as it:
+                        texts[path] = it.read()
+                except OSError:
+                    return f"there is no file {path}"
+            found = texts[path].count(old)
+            if found != 1:
+                return f"an 'old:' text is in {path} {found} times, and not once"
+            texts[path] = texts[path].replace(old, re.sub(r"\A ", "", line[len("new:") :]))
+            old, pairs = None, pairs + 1
+    return None if pairs else "it has no 'old:' and 'new:' pair"
+
+
+def applies():
+    faults = []
+    for crate in sorted(glob.glob("crates/*")):
+        count = len(edits_in(f"{crate}/must-fail"))
+        if count > MOST_EDITS:
+            faults.append(f"{crate}/must-fail has {count} edits: at most {MOST_EDITS} stand there, the others in {crate}/wrong")
+        for edit in edits_in(f"{crate}/wrong"):
+            why = fault_of(edit, crate)
+            if why:
+                faults.append(f"{edit}: {why}")
+    print("".join(f"check: {it}\n" for it in faults), end="")
+    return 1 if faults else 0
+
+
+def wrong(names):
+    crates = [os.path.basename(os.path.dirname(it)) for it in sorted(glob.glob("crates/*/wrong"))]
+    unknown = [it for it in names if it not in crates]
+    if unknown:
+        print(f"check: no wrong bodies of {' '.join(unknown)}")
+        return 2
+    if applies():
+        return 1
+    refused, others = 0, []
+    with tempfile.TemporaryDirectory(prefix="alog-wrong-") as room:
+        shutil.copytree("crates", f"{room}/crates", symlinks=True)
+        for it in ("crates.txt", "HANDLES"):
+            shutil.copy(it, room)
+        for crate in names or crates:
+            must_fail = f"{room}/crates/{crate}/must-fail"
+            shutil.rmtree(must_fail, ignore_errors=True)
+            shutil.move(f"{room}/crates/{crate}/wrong", must_fail)
+            ran = subprocess.Popen(["rt", "must-fail", crate], cwd=room, stdout=subprocess.PIPE, stderr=subprocess.STDOUT, text=True, errors="replace")
+            count = len(edits_in(must_fail))
+            for line in ran.stdout:
+                print(line.replace("must-fail ", "wrong ", 1), end="", flush=True)
+                refused += ": refused, as it must be" in line
+                count -= ": refused, as it must be" in line
+            if ran.wait() or count:
+                others.append(crate)
+    print(f"{refused} wrong bodies refused" + (f"; not all of {' '.join(others)}" if others else ""))
+    return 1 if others else 0
+
+
+def main(words):
+    if words[:1] == ["run"] and len(words) > 2:
+        return run(words[1], words[2:])
+    if words[:1] == ["times"] and len(words) == 2:
+        return times(words[1])
+    if words == ["applies"]:
+        return applies()
+    if words[:1] == ["wrong"]:
+        return wrong(words[1:])
+    print(__doc__, end="", file=sys.stderr)
+    return 2
+
+
+if __name__ == "__main__":
+    sys.exit(main(sys.argv[1:]))
