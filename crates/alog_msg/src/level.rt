@@ -4,6 +4,13 @@ ghost use Rattle.alog_msg.specs.Level.{row_of, Names};
 /// How severe a message is, or how severe the messages are that a logger or a sink lets through.
 ///
 /// The seven levels of spdlog, from the least severe. `Off` lets only messages of level `Off` through.
+///
+/// ```text
+/// assert_eq!(rt; Level::Warning.name(), "warning");
+/// assert_eq!(rt; Level::read("warn"), Some(Level::Warning));
+/// assert!(rt; Level::Debug < Level::Info);
+/// ```
+/// The tests `table_of_levels` and `other_names_of_levels` run it.
 #[derive(Clone, Copy, Debug, PartialEq, Eq, PartialOrd, Ord, Hash)]
 pub enum Level {
     Trace,

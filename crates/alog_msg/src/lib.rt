@@ -4,8 +4,9 @@
 //! list of its bytes and its `Source` as a record of file, line and function. `Message::new` makes a message of
 //! copies, by the limits on its text, file and function, and that it has exactly the given fields is proved.
 //!
-//! `limits.rt` has how long texts, fields and names may be. Read `specs/Level.antt` (the table of levels) and `level.rt`, then `text.rt`, then `source.rt` with
-//! `specs/Source.antt`, then `message.rt` with `specs/Message.antt`.
+//! `limits.rt` has how long texts, fields and names may be. Read `specs/Level.antt` (the table of levels) and
+//! `level.rt`, then `text.rt`, then `source.rt` with `specs/Source.antt`, then `message.rt` with
+//! `specs/Message.antt`.
 #![tactic(auto)]
 
 mod level;

@@ -50,6 +50,13 @@ impl Message {
     /// Makes a message of copies of the text and the source. A text limit is 64 to 8,192 bytes.
     ///
     /// The refusals are tested in the order of `MessageError`.
+    ///
+    /// ```text
+    /// let source = SourceRef { file: "src/net.rt", line: 12, function: "connect" };
+    /// let message = Message::new(alloc, 64, 7, Level::Error, -5, 9, "no route", Some(source))?;
+    /// assert!(rt; message.text.as_str() == "no route");
+    /// ```
+    /// The test `message_with_its_fields` runs it.
     pub fn new(
         alloc: Global,
         text_limit: usize,

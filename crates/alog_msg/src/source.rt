@@ -5,7 +5,7 @@ use crate::text::Text;
 use std::alloc::{AllocError, Global};
 use std::marker::Model;
 
-/// A source that is lent, to make a message from.
+/// A source that is lent, to make a message from: `Message::new` shows one.
 #[derive(Clone, Copy, Debug)]
 pub struct SourceRef<'a> {
     pub file: &'a str,

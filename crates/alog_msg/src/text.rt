@@ -4,6 +4,13 @@ use std::alloc::{AllocError, Global};
 use std::marker::Model;
 
 /// The text of a message or of a field of it, in UTF-8. Contracts see it as the list of its bytes.
+///
+/// ```text
+/// let text = Text::from_string(String::from_str(alloc, "né")?);
+/// assert_eq!(rt; text.len(), 3);
+/// assert!(rt; text.as_str() == "né");
+/// ```
+/// The test `text_of_a_string` runs it.
 #[derive(Debug, Drop)]
 pub struct Text {
     string: String,

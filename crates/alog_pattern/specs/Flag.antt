@@ -1,6 +1,7 @@
 -- The flags: which byte stands for which, and how long a flag's text can be.
 use Rattle.std.specs.Prelude.{ℕ, ◌+◌, List, [], ◌∷◌, ◌++◌, Option, Some, None, Bool, true, false, ◌==◌, if◌then◌else◌}
 use Rattle.std.specs.Str.{byte}
+use Rattle.alog_msg.specs.declared.limits.TheConstants.{FILE_MAX, FUNCTION_MAX, LOGGER_NAME_MAX}
 use Rattle.alog_pattern.specs.declared.flags.Flag.{Flag}
 use Rattle.alog_pattern.specs.declared.flags.Flag.TheVariants.{Text, Thread, Process, Name, Level, ShortLevel, ShortWeekday, Weekday, ShortMonth, Month, DateTime, ShortYear, Year, ShortDate, MonthNumber, Day, Hour, HalfDayHour, Minute, Second, Milliseconds, Microseconds, Nanoseconds, HalfDay, HalfDayTime, ShortTime, Time, Offset, Epoch, Percent, Default, ColourStart, ColourEnd, Location, FileBase, File, Line, Function}
 
@@ -34,7 +35,7 @@ abbrev pub greatest_len : ℕ → Flag → ℕ
 greatest_len limit Text = limit
 greatest_len limit Thread = 20
 greatest_len limit Process = 10
-greatest_len limit Name = 64
+greatest_len limit Name = LOGGER_NAME_MAX
 greatest_len limit Level = 8
 greatest_len limit ShortLevel = 1
 greatest_len limit ShortWeekday = 3
@@ -65,10 +66,10 @@ greatest_len limit Default = limit + 374
 greatest_len limit ColourStart = 0
 greatest_len limit ColourEnd = 0
 greatest_len limit Location = 267
-greatest_len limit FileBase = 256
-greatest_len limit File = 256
+greatest_len limit FileBase = FILE_MAX
+greatest_len limit File = FILE_MAX
 greatest_len limit Line = 10
-greatest_len limit Function = 128
+greatest_len limit Function = FUNCTION_MAX
 
 -- a padding and a cut leave the text of these as it is
 abbrev pub ignores_padding : Flag → Bool

@@ -8,6 +8,7 @@ use Rattle.alog_pattern.specs.declared.items.Side.{Side}
 use Rattle.alog_pattern.specs.declared.items.Side.TheVariants.{Right, Left, Centre}
 use Rattle.alog_pattern.specs.declared.items.Padding.{Padding}
 use Rattle.alog_pattern.specs.declared.items.Item.{Item}
+use Rattle.alog_pattern.specs.declared.items.TheConstants.{WIDTH_MAX}
 use Rattle.alog_pattern.specs.declared.items.Item.TheVariants as items
 use Rattle.alog_pattern.specs.Flag.{flag_of}
 use Rattle.alog_pattern.specs.declared.flags.Flag.{Flag}
@@ -48,9 +49,9 @@ pub record IsSpelling (s : Spelling) : Type 0 where
 abbrev pub number : List ℕ → ℕ
 number digits = fold (λ n b. 10 * n + (b - byte "0")) 0 digits
 
--- the width is that number, or 64 where it is greater
+-- the width is that number, or the greatest width where it is greater
 abbrev pub width : Spelling → ℕ
-width s = min 64 (number s.digits)
+width s = min WIDTH_MAX (number s.digits)
 
 -- a spelling without digits has no padding
 abbrev pub padding_of : List ℕ → Padding → Option Padding

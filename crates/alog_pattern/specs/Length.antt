@@ -1,5 +1,6 @@
 -- The longest line that a pattern can give.
 use Rattle.std.specs.Prelude.{ℕ, ◌+◌, ◌<◌, max, List, sum_by, Option, Some, None, if◌then◌else◌}
+use Rattle.alog_msg.specs.declared.limits.TheConstants.{FUNCTION_MAX}
 use Rattle.alog_pattern.specs.declared.items.Padding.{Padding}
 use Rattle.alog_pattern.specs.declared.items.Item.{Item}
 use Rattle.alog_pattern.specs.declared.items.Item.TheVariants.{Byte, Flag, Unknown, Function}
@@ -16,7 +17,7 @@ abbrev pub item_len : ℕ → Item → ℕ
 item_len limit (Byte b) = 1
 item_len limit (Flag flag padding) = if ignores_padding flag then greatest_len limit flag else padded_len padding (greatest_len limit flag)
 item_len limit (Unknown b) = 2
-item_len limit (Function width side next) = max width 128 + 1
+item_len limit (Function width side next) = max width FUNCTION_MAX + 1
 
 -- the longest line, with its newline
 abbrev pub longest_line : ℕ → List Item → ℕ

@@ -6,6 +6,7 @@ use Rattle.std.specs.Str.{byte}
 use Rattle.alog_pattern.specs.declared.items.Side.TheVariants.{Right, Left, Centre}
 use Rattle.alog_pattern.specs.declared.items.Padding.{Padding}
 use Rattle.alog_pattern.specs.declared.items.Item.{Item}
+use Rattle.alog_pattern.specs.declared.items.TheConstants.{WIDTH_MAX}
 use Rattle.alog_pattern.specs.declared.items.Item.TheVariants as items
 use Rattle.alog_pattern.specs.declared.scan.Scan.{Scan}
 use Rattle.alog_pattern.specs.declared.scan.Scan.TheVariants.{Between, Opened, Sided, Wide, Cut}
@@ -34,7 +35,7 @@ step Opened b =
     else (Between, Some (completed None b))))
 step (Sided side) b = if is_ascii_digit b then (Wide side (b - byte "0"), None) else (Between, Some (completed None b))
 step (Wide side width) b =
-    if is_ascii_digit b then (Wide side (min 64 (10 * width + (b - byte "0"))), None)
+    if is_ascii_digit b then (Wide side (min WIDTH_MAX (10 * width + (b - byte "0"))), None)
     else (if b == byte "!" then (Cut side width, None)
     else (Between, Some (completed (Some (record { width = width; side = side; cut = false })) b)))
 step (Cut side width) b = (Between, Some (completed (Some (record { width = width; side = side; cut = true })) b))

@@ -1,3 +1,5 @@
+use alog_msg::{FILE_MAX, FUNCTION_MAX, LOGGER_NAME_MAX, MOST_TEXT_LIMIT};
+
 /// What a flag of a pattern stands for, as `%v` for the text of the message.
 #[derive(Clone, Copy, Debug, PartialEq, Eq)]
 pub enum Flag {
@@ -142,14 +144,14 @@ impl Flag {
 
     /// The greatest length of the flag's text in bytes, where the text of a message has at most `text_limit`.
     pub(crate) fn greatest_len(self, text_limit: usize) -> usize
-        requires { text_limit ≤ 8192 }
+        requires { text_limit ≤ MOST_TEXT_LIMIT }
         ensures { result ≡ greatest_len text_limit self }
     {
         match self {
             Flag::Text => text_limit,
             Flag::Thread => 20,
             Flag::Process | Flag::Line => 10,
-            Flag::Name => 64,
+            Flag::Name => LOGGER_NAME_MAX,
             Flag::Level | Flag::ShortDate | Flag::Time => 8,
             Flag::ShortLevel | Flag::Percent => 1,
             Flag::ShortWeekday | Flag::ShortMonth | Flag::Milliseconds => 3,
@@ -170,8 +172,8 @@ impl Flag {
             Flag::Default => text_limit + DEFAULT_BESIDE_TEXT,
             Flag::ColourStart | Flag::ColourEnd => 0,
             Flag::Location => 267,
-            Flag::FileBase | Flag::File => 256,
-            Flag::Function => 128,
+            Flag::FileBase | Flag::File => FILE_MAX,
+            Flag::Function => FUNCTION_MAX,
         }
     }
 

@@ -21,7 +21,7 @@ pub struct Padding {
     pub cut: bool,
 }
 
-/// One part of a line.
+/// One part of a line. The test `pads_the_function_before_an_unknown_flag` shows each.
 #[derive(Clone, Copy, Debug, PartialEq, Eq)]
 pub enum Item {
     /// A byte that stands for itself.
@@ -35,5 +35,5 @@ pub enum Item {
     Function { width: u8, side: Side, next: u8 },
 }
 
-/// The greatest width.
-pub(crate) const MAX_WIDTH: u8 = 64;
+/// The greatest width. A greater number is read as this one.
+pub const WIDTH_MAX: u8 = 64;

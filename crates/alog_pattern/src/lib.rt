@@ -11,13 +11,14 @@
 
 mod flags;
 mod items;
-pub mod laws;
+mod laws;
 mod patterns;
 mod scan;
 
 pub use flags::Flag;
-pub use items::{Item, Padding, Side};
-pub use patterns::{Pattern, PatternError};
+pub use items::{Item, Padding, Side, WIDTH_MAX};
+pub use laws::{one_reading, padded_length};
+pub use patterns::{LINE_MAX, PATTERN_MAX, Pattern, PatternError};
 
 #[cfg(test)]
 mod tests;

@@ -5,15 +5,16 @@ ghost use Rattle.alog_pattern.specs.Scan.{items_of as items_of_bytes};
 use crate::flags::Flag;
 use crate::items::{Item, Padding};
 use crate::scan::Scan;
+use alog_msg::MOST_TEXT_LIMIT;
 use std::alloc::{AllocError, AllocFailed, Global};
 use std::marker::Model;
 use thiserror::Error;
 
-/// The greatest length of a pattern in bytes.
-const MAX_PATTERN: usize = 256;
+/// The most bytes of a pattern.
+pub const PATTERN_MAX: usize = 256;
 
-/// The greatest length of a line in bytes, with its newline.
-const MAX_LINE: usize = 65_536;
+/// The most bytes of a line, with its newline.
+pub const LINE_MAX: usize = 65_536;
 
 /// Why a pattern was not compiled.
 #[derive(Clone, Copy, Debug, PartialEq, Eq, Error)]
@@ -41,6 +42,13 @@ impl From<AllocError> for PatternError {
 }
 
 /// A pattern that was read into its items.
+///
+/// ```text
+/// let pattern = Pattern::compile(alloc, b"%8l|%-8l|%=8l|%3!l", 2_048)?;
+/// assert_eq!(rt; pattern.items().len(), 7);
+/// assert_eq!(rt; pattern.longest(), 8 + 1 + 8 + 1 + 8 + 1 + 3 + 1);
+/// ```
+/// The test `pads_levels` runs it.
 #[derive(Debug, Drop)]
 pub struct Pattern {
     items: Vec<Item>,
@@ -52,12 +60,13 @@ impl Model for Pattern {
     ghost use Rattle.std.specs.Prelude.{◌≡◌, ◌≤◌};
     ghost use Rattle.alog_pattern.specs.Compiled.{Compiled, IsTextLimit};
     ghost use Rattle.alog_pattern.specs.Length.{longest_line};
+    ghost use Rattle.alog_pattern.specs.declared.patterns.TheConstants.{LINE_MAX};
 
     ghost Value = { Compiled };
 
     ghost view = { λ p. record { items = p.items.items; text_limit = p.text_limit } };
 
-    ghost invariant = { λ p. (p.longest ≡ longest_line p.text_limit p.items.items) × (p.longest ≤ 65536) × IsTextLimit p.text_limit };
+    ghost invariant = { λ p. (p.longest ≡ longest_line p.text_limit p.items.items) × (p.longest ≤ LINE_MAX) × IsTextLimit p.text_limit };
 }
 
 impl Pattern {
@@ -65,7 +74,7 @@ impl Pattern {
     ghost use Rattle.alog_pattern.specs.Grammar.{IsReading};
     ghost use Rattle.alog_pattern.specs.Length.{LineExceeds};
 
-    /// Reads a pattern, for messages whose texts have at most `text_limit` bytes. Every string of at most 256 bytes
+    /// Reads a pattern once, so that `format` writes each line by its items. It is for messages whose texts have at most `text_limit` bytes. Every string of at most 256 bytes
     /// is a pattern, if its longest line has at most 65,536 bytes with the newline.
     pub fn compile(
         alloc: Global,
@@ -75,15 +84,15 @@ impl Pattern {
         requires { IsTextLimit text_limit }
         ensures items { IfOk result (λ p. IsReading spelling.now p.items) }
         ensures text_limit { IfOk result (λ p. p.text_limit ≡ text_limit) }
-        ensures pattern_too_long { IsErrOf result PatternError.PatternTooLong ↔ (256 < length spelling.now) }
+        ensures pattern_too_long { IsErrOf result PatternError.PatternTooLong ↔ (PATTERN_MAX < length spelling.now) }
         ensures line_too_long { IsErrOf result PatternError.LineTooLong
-            ↔ ((length spelling.now ≤ 256) × LineExceeds 65536 text_limit spelling.now) }
+            ↔ ((length spelling.now ≤ PATTERN_MAX) × LineExceeds LINE_MAX text_limit spelling.now) }
     {
-        if spelling.len() > MAX_PATTERN {
+        if spelling.len() > PATTERN_MAX {
             return Err(PatternError::PatternTooLong);
         }
         let longest = longest_line(spelling, text_limit);
-        if longest > MAX_LINE {
+        if longest > LINE_MAX {
             return Err(PatternError::LineTooLong);
         }
         let items = items_of(alloc, spelling)?;
@@ -104,7 +113,7 @@ impl Pattern {
     /// The length of the longest line in bytes, with its newline: at most 65,536.
     pub fn longest(&self) -> usize
         ensures value { result ≡ longest self.now }
-        ensures within { result ≤ 65536 }
+        ensures within { result ≤ LINE_MAX }
     {
         self.longest
     }
@@ -136,8 +145,8 @@ fn items_of(alloc: Global, spelling: &[u8]) -> Result<Vec<Item>, AllocError>
 
 /// The length of the longest line of a pattern, with its newline.
 fn longest_line(spelling: &[u8], text_limit: usize) -> usize
-    requires short { length spelling.now ≤ 256 }
-    requires limit { text_limit ≤ 8192 }
+    requires short { length spelling.now ≤ PATTERN_MAX }
+    requires limit { text_limit ≤ MOST_TEXT_LIMIT }
     ensures { result ≡ longest_line_of text_limit (items_of_bytes spelling.now) }
 {
     let mut longest = 1;
@@ -154,7 +163,7 @@ fn longest_line(spelling: &[u8], text_limit: usize) -> usize
 
 /// The greatest length of an item's text.
 fn item_len(item: Item, text_limit: usize) -> usize
-    requires { text_limit ≤ 8192 }
+    requires { text_limit ≤ MOST_TEXT_LIMIT }
     ensures value { result ≡ item_len text_limit item }
     ensures within { result ≤ 8566 }
 {

@@ -1,5 +1,5 @@
 use crate::flags::Flag;
-use crate::items::{Item, MAX_WIDTH, Padding, Side};
+use crate::items::{Item, Padding, Side, WIDTH_MAX};
 
 /// Where the reading of a pattern stands.
 #[derive(Clone, Copy)]
@@ -57,14 +57,14 @@ impl Scan {
 ghost use Rattle.std.specs.Prelude.{◌≡◌, ◌≤◌, ◌+◌, ◌-◌, ◌*◌, min};
 ghost use Rattle.alog_pattern.specs.Scan.{completed as completed_item};
 
-/// A width with one more digit, at most 64.
+/// A width with one more digit, at most the greatest.
 fn wider(width: u8, digit: u8) -> u8
     requires low { 48 ≤ digit }
     requires high { digit ≤ 57 }
-    ensures { result ≡ min 64 (10 * width + (digit - 48)) }
+    ensures { result ≡ min WIDTH_MAX (10 * width + (digit - 48)) }
 {
     let width = u16::from(width) * 10 + u16::from(digit - b'0');
-    width.min(u16::from(MAX_WIDTH)) as u8
+    width.min(u16::from(WIDTH_MAX)) as u8
 }
 
 /// The item that a flag byte completes, behind a padding or none.

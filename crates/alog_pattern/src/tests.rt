@@ -24,6 +24,7 @@ fn pads_levels(rt: HostRuntime) -> Result<(), Fail> {
         bar,
         Item::Flag(Flag::Level, padding(3, Side::Right, true)),
     ];
+    assert_eq!(rt; pattern.items().len(), 7);
     assert_eq!(rt; pattern.items(), level.as_slice());
     assert_eq!(rt; pattern.longest(), 8 + 1 + 8 + 1 + 8 + 1 + 3 + 1);
     assert_eq!(rt; pattern.text_limit(), LIMIT);

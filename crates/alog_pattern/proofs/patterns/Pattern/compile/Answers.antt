@@ -4,9 +4,9 @@ use Rattle.std.proofs.lemmas.Result.{err_from_is_err_and}
 use Rattle.alog_pattern.proofs.Readings.{has_reading, line_exceeds, line_within}
 use Rattle.alog_pattern.proofs.patterns.Pattern.compile.Goals as goal
 
-pub returns-then-longest-gt-MAX_LINE-clause-line_too_long :
-    goal.returns-then-longest-gt-MAX_LINE-clause-line_too_long
-returns-then-longest-gt-MAX_LINE-clause-line_too_long c =
+pub returns-then-longest-gt-LINE_MAX-clause-line_too_long :
+    goal.returns-then-longest-gt-LINE_MAX-clause-line_too_long
+returns-then-longest-gt-LINE_MAX-clause-line_too_long c =
     (λ e. (omega arith, line_exceeds 65536 c.args.text_limit c.args.spelling.now (omega (arith, c.longest_line-longest.ensures))), λ x. refl)
 
 pub returns-in_err-items-clause-line_too_long : goal.returns-in_err-items-clause-line_too_long
