@@ -126,18 +126,22 @@ def fault_of(edit, crate):
     return None if pairs else "it has no 'old:' and 'new:' pair"
 
 
-def applies():
-    faults = []
-    for crate in sorted(glob.glob("crates/*")):
-        count = len(edits_in(f"{crate}/must-fail"))
-        if count > MOST_EDITS:
-            faults.append(f"{crate}/must-fail has {count} edits: at most {MOST_EDITS} stand there, the others in {crate}/wrong")
-        for edit in edits_in(f"{crate}/wrong"):
-            why = fault_of(edit, crate)
-            if why:
-                faults.append(f"{edit}: {why}")
-    print("".join(f"check: {it}\n" for it in faults), end="")
+def stale(crates):
+    """Returns what is said of each wrong body that no longer applies."""
+    edits = [(edit, fault_of(edit, crate)) for crate in crates for edit in edits_in(f"{crate}/wrong")]
+    return [f"{edit}: {why}" for edit, why in edits if why]
+
+
+def tell(faults):
+    print("".join(f"check: {it}\n" for it in faults), end="", flush=True)
     return 1 if faults else 0
+
+
+def applies():
+    crates = sorted(glob.glob("crates/*"))
+    counts = [(crate, len(edits_in(f"{crate}/must-fail"))) for crate in crates]
+    many = [f"{crate}/must-fail has {count} edits: at most {MOST_EDITS} stand there, the others in {crate}/wrong" for crate, count in counts if count > MOST_EDITS]
+    return tell(many + stale(crates))
 
 
 def wrong(names):
@@ -146,7 +150,7 @@ def wrong(names):
     if unknown:
         print(f"check: no wrong bodies of {' '.join(unknown)}")
         return 2
-    if applies():
+    if tell(stale(f"crates/{it}" for it in names or crates)):
         return 1
     refused, others = 0, []
     with tempfile.TemporaryDirectory(prefix="alog-wrong-") as room:
