@@ -1,0 +1,4 @@
+pub mod Lists
+pub mod Rosters
+pub mod Steps
+pub mod Turning

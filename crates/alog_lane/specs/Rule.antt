@@ -16,10 +16,6 @@ LaneSight T I S R = Sight T (Turned I S R) T
 abbrev pub index_after : {D : Type 0} → List (Entry D) → ℕ
 index_after h = length h % 2 ^ 64
 
--- what lies behind the lock
-abbrev pub cabin : {T : Type 0} → T → ℕ → Cabin T
-cabin v turns = record { value = v; turns = turns }
-
 -- whatever may be asked of the first value may be asked of this one
 abbrev pub Keeps : {T I S : Type 0} → (T → I → S → Type 0) → T → T → Type 0
 Keeps {T} {I} {S} may first v = (i : I) (s : S) → may first i s → may v i s
@@ -39,15 +35,16 @@ module _ {T I S R : Type 0} where
       pub keeps : Keeps may first v
 
     -- The lock is free: the value that the history leads to lies behind it, with the number of turns.
-    pub record IsFree (h : List (Entry (Turned I S R))) (s : State (Cabin T) (LaneSight T I S R)) : Type 0 where
+    pub record IsFree (h : List (Entry (Turned I S R))) (s : State (Cabin T I R S) (LaneSight T I S R)) : Type 0 where
       pub word : slice_index s.words 0 ≡ 0
-      pub value : T
-      pub reaches : Reaches h value
-      pub home : get_elem? s.homes 0 ≡ some (some (cabin value (index_after h)))
+      pub cabin : Cabin T I R S
+      pub home : get_elem? s.homes 0 ≡ some (some cabin)
+      pub reaches : Reaches h cabin.value
+      pub count : cabin.turns ≡ index_after h
       pub nobody : NobodyAtWork s.views
 
     -- A seat has the lock: it has seen the whole history, and knows the value that it leads to.
-    pub record IsHeld (h : List (Entry (Turned I S R))) (s : State (Cabin T) (LaneSight T I S R)) : Type 0 where
+    pub record IsHeld (h : List (Entry (Turned I S R))) (s : State (Cabin T I R S) (LaneSight T I S R)) : Type 0 where
       pub word : slice_index s.words 0 ≡ 1
       pub owner : ℕ
       pub view : LaneSight T I S R
@@ -59,7 +56,7 @@ module _ {T I S R : Type 0} where
       pub alone : AloneAtWork s.views owner
 
     -- The rule of a lane with this first value.
-    pub record Ruled (s : State (Cabin T) (LaneSight T I S R)) : Type 0 where
+    pub record Ruled (s : State (Cabin T I R S) (LaneSight T I S R)) : Type 0 where
       pub history : List (Entry (Turned I S R))
       pub agrees : Agrees first history s.views
       pub words : length s.words ≡ 1

@@ -3,7 +3,7 @@ ghost use Rattle.std.specs.Prelude.{◌≡◌, ℕ, List};
 ghost use Rattle.alog_lane.specs.Seats.{Entry};
 ghost use Rattle.alog_lane.specs.Roster.{Joined, kept_part, given_part, taking_in, gone};
 ghost use Rattle.alog_lane.specs.Turns.{Turned};
-ghost use Rattle.alog_lane.specs.Plays.{was_named, saw_both, tried, GaveBack};
+ghost use Rattle.alog_lane.specs.Plays.{was_named, saw_both, tried, gave_back};
 
 use crate::turn::Turn;
 use crate::view::{Cabin, View};
@@ -17,22 +17,11 @@ impl<T: Turn> Play<Cabin<T>, View<T>> for Tries {
     ghost then = { λ s m r n. tried T.turns T.may_turn m r n };
 }
 
-/// The turn that a seat made. Each call picks it.
-pub trait Deed<T: Turn> {
-    ghost is: { Turned T.Item T.Scratch T.Reply → Type 0 };
-}
+/// The store of the lock word, after a turn.
+pub struct GivesBack;
 
-impl<T: Turn> Deed<T> for Brand {
-    ghost is = { λ _. Unit {0} };
-}
-
-/// The lock is given back.
-pub struct GivesBack<D> {
-    deed: PhantomData<D>,
-}
-
-impl<T: Turn, D: Deed<T>> Play<Cabin<T>, View<T>> for GivesBack<D> {
-    ghost then = { λ s m r n. (t : Turned T.Item T.Scratch T.Reply) × D.is t × GaveBack t m n };
+impl<T: Turn> Play<Cabin<T>, View<T>> for GivesBack {
+    ghost then = { λ s m r n. gave_back m n };
 }
 
 /// How many parts a split gives away. Each call picks it.

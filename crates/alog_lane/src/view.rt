@@ -8,11 +8,23 @@ use atomic_table::TableRule;
 use std::marker::{Model, PhantomData};
 use std::snapshot::Snapshot;
 
+/// A turn, which clauses see whole.
+#[derive(Drop)]
+pub struct Done<T: Turn> {
+    pub tag: u64,
+    pub item: Snapshot<T::Item>,
+    pub before: Snapshot<T::Scratch>,
+    pub reply: Snapshot<T::Reply>,
+    pub after: Snapshot<T::Scratch>,
+}
+
 /// What lies behind the lock: the value, and the number of turns that it has taken, modulo 2^64.
 #[derive(Drop)]
-pub struct Cabin<T> {
+pub struct Cabin<T: Turn> {
     pub value: T,
     pub turns: u64,
+    /// The last turn, for the clauses: it has no bytes.
+    pub last: Snapshot<Option<Done<T>>>,
 }
 
 /// What a seat knows. No value of it is made.
