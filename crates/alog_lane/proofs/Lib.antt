@@ -2,3 +2,4 @@ pub mod Lists
 pub mod Rosters
 pub mod Steps
 pub mod Turning
+pub mod Sharing

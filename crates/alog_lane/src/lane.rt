@@ -17,14 +17,14 @@ use std::snapshot::Snapshot;
 use thiserror::Error;
 
 /// The lock word, and its values.
-const LOCK: usize = 0;
+pub(crate) const LOCK: usize = 0;
 
 const FREE: u64 = 0;
 
 const TAKEN: u64 = 1;
 
 /// The slot of the value.
-const CABIN: usize = 0;
+pub(crate) const CABIN: usize = 0;
 
 /// Another seat has the lock. Nothing happened.
 #[derive(Clone, Copy, Debug, PartialEq, Eq, Error)]

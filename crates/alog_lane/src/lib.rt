@@ -11,12 +11,18 @@
 //! promise; `Roster` (seats and one history, of any deeds) and `Rule` are for the proofs.
 #![tactic(auto)]
 
+mod close;
 mod lane;
 mod plays;
 mod seat;
+mod share;
+#[cfg(test)]
+mod tests;
 mod turn;
 mod view;
+mod wait;
 
+pub use close::SeatsOut;
 pub use lane::{Held, Lane};
 pub use seat::{ALL_PARTS, LaneSeat};
 pub use turn::Turn;
