@@ -9,6 +9,7 @@ use mathlib.Core.List.{IsPrefix}
 use lib.ListN.{get_elem?}
 use Rattle.atomic_table.proofs.Lists.{set_else}
 use Rattle.alog_lane.specs.Seats.{Entry, Member, own_of, IsAmong, AreDistinct, AreExact, IsLonger}
+use Rattle.alog_lane.specs.Laws.{AloneSawItsOwn}
 
 pub same_or_not : (a b : ℕ) → (a ≡ b) ⊎ (a ≢ b)
 same_or_not a b = elim (eqb_tells a b) [ inl h ↦ inl h.1 | inr h ↦ inr h.1 ]
@@ -174,3 +175,14 @@ module _ {D : Type 0} where
     exact.0 ∙ sym (own_of-append c.seat h more ∙ ap (λ (z : List (Entry D)). own_of c.seat h ++ z) (apart c.seat (inl refl)) ∙ append-nil (own_of c.seat h)),
     exact_apart l h more (λ b is. apart b (inr is)) exact.1,
   )
+
+  all_own : (a : ℕ) (h : List (Entry D)) → AllByRecursion (λ (x : Entry D). x.seat ≡ a) h → own_of a h ≡ h
+  all_own a [] all = refl
+  all_own a (x ∷ h) all = on_test (λ b. cond b (x ∷ own_of a h) (own_of a h) ≡ x ∷ h) x.seat a (λ _. ap (λ r. x ∷ r) (all_own a h all.1)) (λ d. absurd (d all.0))
+
+pub alone_saw_its_own : (D : Type 0) → AloneSawItsOwn D
+alone_saw_its_own D k faithful whole alone =
+    let J : List (Member D) → Type 0 = λ l. AllByRecursion (λ (x : Entry D). IsAmong x.seat (record { seat = k.seat; own = k.own } ∷ l)) k.seen
+    in let mine : AllByRecursion (λ (x : Entry D). x.seat ≡ k.seat) k.seen =
+    each_of (λ (x : Entry D). IsAmong x.seat (record { seat = k.seat; own = k.own } ∷ [])) (λ (x : Entry D). x.seat ≡ k.seat) k.seen (λ x is. elim is [ inl e ↦ e | inr none ↦ absurd none ]) (subst J alone whole)
+    in sym (all_own k.seat k.seen mine) ∙ sym faithful.own

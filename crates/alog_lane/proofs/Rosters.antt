@@ -5,9 +5,9 @@ use Rattle.std.specs.List.{AllByRecursion, sum_by}
 use mathlib.Core.Option.{some, some-ne-none}
 use mathlib.Core.List.{IsPrefix}
 use lib.ListN.{get_elem?}
-use Rattle.atomic_table.proofs.Lists.{at_set, set_else, set_here, at_longer, at_last}
+use Rattle.atomic_table.proofs.Lists.{at_set, set_else, set_here, at_longer}
 use Rattle.alog_lane.specs.declared.seat.TheConstants.{ALL_PARTS}
-use Rattle.alog_lane.specs.Seats.{Entry, Member, Known, own_of, members_of, IsAmong, AreDistinct, AreExact}
+use Rattle.alog_lane.specs.Seats.{Entry, Member, own_of, members_of, IsAmong, AreDistinct, AreExact}
 use Rattle.alog_lane.specs.Roster.{Stage, Idle, Fresh, Joined, Sight, members_by, members_at, parts_of, Agrees, kept_part, given_part, taking_in, gone, first_sight}
 use Rattle.alog_lane.proofs.Lists.{same_or_not, on_test, inside, one_value, at_end, prefix_longer, each_append, sum_changed, sum_with_last, sum_of_two, own_of-append, all_seats, none_after, among_first, among_second, among_either, distinct_append, exact_apart}
 

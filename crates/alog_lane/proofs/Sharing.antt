@@ -1,10 +1,10 @@
 -- Seats split off and joined: what the steps owe, at the views that they find.
-use Rattle.std.proofs.Common.{◌≡◌, ℕ, ◌<◌, ◌⊎◌, List, [], ◌∷◌, refl, sym, ap, subst, inl, inr}
+use Rattle.std.proofs.Common.{◌≡◌, ℕ, ◌⊎◌, List, refl, sym, ap, subst, inl, inr}
 use Rattle.std.specs.List.{AllByRecursion}
 use Rattle.atomic_table.specs.Table.{State, Me, Allows, carried_after}
 use Rattle.alog_lane.specs.declared.view.Cabin.{Cabin}
-use Rattle.alog_lane.specs.Seats.{Entry, Member, Known, own_of, members_of, AreExact, IsFaithful, with_other}
-use Rattle.alog_lane.specs.Roster.{Stage, Idle, Fresh, Joined, Sight, taking_in, given_part}
+use Rattle.alog_lane.specs.Seats.{Entry, Member, Known, own_of, members_of, IsFaithful, with_other}
+use Rattle.alog_lane.specs.Roster.{Stage, Joined, taking_in, given_part}
 use Rattle.alog_lane.specs.Turns.{Turned}
 use Rattle.alog_lane.specs.Rule.{LaneSight, Ruled}
 use Rattle.alog_lane.specs.Plays.{was_named, saw_both}
@@ -39,10 +39,10 @@ module _ {T I S R : Type 0} (turns : T → S → I → R → T → S → Type 0)
         go.2,
         go.3,
         λ h stage.
-        let both : ◌≡◌ {A = Stage (Turned I S R) T} (Joined w.known.seen) (Joined h) = stage
-        in let same : w.known.seen ≡ h = cc
-        in let Q : List (Entry (Turned I S R)) → Type 0 = λ z. saw_both z M (go.0, carried_after M.1 go.1)
-        in subst Q same go.4,
+            let both : ◌≡◌ {A = Stage (Turned I S R) T} (Joined w.known.seen) (Joined h) = stage
+            in let same : w.known.seen ≡ h = cc
+            in let Q : List (Entry (Turned I S R)) → Type 0 = λ z. saw_both z M (go.0, carried_after M.1 go.1)
+            in subst Q same go.4,
       ))
 
   -- a seat that was just split off

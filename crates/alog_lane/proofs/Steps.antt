@@ -9,17 +9,17 @@ use mathlib.Core.List.{IsPrefix}
 use lib.ListN.{get_elem?}
 use lib.Seq.{set-get_or}
 use prog.Atomic.{either}
-use Rattle.atomic_table.specs.Table.{State, Me, Act, keeps, takes, gives, Allows, Splits, Joins, opening, put_back, Final, Seen}
+use Rattle.atomic_table.specs.Table.{State, Me, keeps, takes, gives, Allows, Splits, Joins, opening, put_back, Final, Seen}
 use Rattle.atomic_table.proofs.Lists.{at_set, set_else, set_here, set_again, at_longer}
 use Rattle.alog_lane.specs.declared.seat.TheConstants.{ALL_PARTS}
 use Rattle.alog_lane.specs.declared.view.Cabin.{Cabin}
-use Rattle.alog_lane.specs.Seats.{Entry, Member, Known, own_of, members_of, IsAmong, AreDistinct, AreExact, Made, IsFaithful, having_seen, with_other}
-use Rattle.alog_lane.specs.Roster.{Stage, Idle, Fresh, Joined, Working, Gone, Sight, members_by, members_at, parts_of, Agrees, kept_part, given_part, taking_in, gone, first_sight}
+use Rattle.alog_lane.specs.Seats.{Entry, Member, Known, own_of, members_of, IsAmong, AreDistinct, AreExact, Made, IsFaithful, having_seen}
+use Rattle.alog_lane.specs.Roster.{Stage, Idle, Fresh, Joined, Working, Gone, members_by, members_at, parts_of, kept_part, given_part, taking_in, gone, first_sight}
 use Rattle.alog_lane.specs.Turns.{Turned, Turns, Leads}
-use Rattle.alog_lane.specs.Rule.{LaneSight, index_after, Keeps, AloneAtWork, NobodyAtWork, Reaches, IsFree, IsHeld, Ruled}
+use Rattle.alog_lane.specs.Rule.{LaneSight, index_after, Keeps, Reaches, IsFree, IsHeld, Ruled}
 use Rattle.alog_lane.specs.Calls.{Closes}
-use Rattle.alog_lane.specs.Plays.{standing, was_named, saw_both, Got, tried, GaveBack}
-use Rattle.alog_lane.proofs.Lists.{same_or_not, inside, one_value, prefix_same, prefix_longer, at_end, own_of-append, own_of_one, own_of_other, at_most, longer_of, exact_between, exact_apart, sum_of_two}
+use Rattle.alog_lane.specs.Plays.{was_named, saw_both, tried, GaveBack}
+use Rattle.alog_lane.proofs.Lists.{same_or_not, inside, one_value, prefix_same, prefix_longer, at_end, own_of-append, own_of_one, own_of_other, at_most, longer_of, exact_between, exact_apart}
 use Rattle.alog_lane.proofs.Rosters.{IsStep, IsLook, agrees_step, agrees_look, agrees_split, agrees_join, agrees_first, others_have_none, seen_whole, all_members}
 
 module _ {T I S R : Type 0} (turns : T → S → I → R → T → S → Type 0) where
@@ -188,17 +188,20 @@ module _ {T I S R : Type 0} (turns : T → S → I → R → T → S → Type 0)
                         alone = λ b u x e is. elim (at_set s.views id b w u e) [ inl same ↦ same.0 | inr other ↦ absurd (free.nobody b u x other.1 is) ];
                       });
                 },
-                ((λ _. record {
-                  first = first;
-                  key = its_key s r id me.0 at mine;
-                  cabin = c;
-                  taken = refl;
-                  stage = refl;
-                  same_key = refl;
-                  looks = looks_at_all s r id me.0 at mine;
-                  reaches = free.reaches;
-                  count = free.count;
-                }), (λ ne. absurd (ne free.word))),
+                (
+                  (λ _. record {
+                    first = first;
+                    key = its_key s r id me.0 at mine;
+                    cabin = c;
+                    taken = refl;
+                    stage = refl;
+                    same_key = refl;
+                    looks = looks_at_all s r id me.0 at mine;
+                    reaches = free.reaches;
+                    count = free.count;
+                  }),
+                  (λ ne. absurd (ne free.word)),
+                ),
               )
           | inr held ↦
               let same_word : either (eqb (slice_index s.words 0) 0) 1 (slice_index s.words 0) ≡ get_or s.words 0 0 = ap (λ (z : ℕ). either (eqb z 0) 1 z) held.word ∙ sym held.word
@@ -305,7 +308,7 @@ module _ {T I S R : Type 0} (turns : T → S → I → R → T → S → Type 0)
           keeps,
           tt,
           look_keeps s id me.0 w at (λ x is. let wrong : ◌≡◌ {A = Stage Deed T} Fresh (Working x) = sym fresh ∙ is in cc) (λ x is. let wrong : ◌≡◌ {A = Stage Deed T} Idle (Working x) = is in cc) 0 r
-          (record { key = refl; parts = refl; members = now ∙ sym its; seen = p; other = λ z is. let wrong : ◌≡◌ {A = Stage Deed T} Idle (Joined z) = is in cc }),
+              (record { key = refl; parts = refl; members = now ∙ sym its; seen = p; other = λ z is. let wrong : ◌≡◌ {A = Stage Deed T} Idle (Joined z) = is in cc }),
           (
             id,
             refl,
@@ -333,7 +336,7 @@ module _ {T I S R : Type 0} (turns : T → S → I → R → T → S → Type 0)
           keeps,
           tt,
           look_keeps s id me.0 w at (λ x is. let wrong : ◌≡◌ {A = Stage Deed T} (Joined g) (Working x) = sym stage ∙ is in cc) (λ x is. let wrong : ◌≡◌ {A = Stage Deed T} Idle (Working x) = is in cc) 0 r
-          (record { key = refl; parts = refl; members = sym mine; seen = found.2; other = λ z is. let wrong : ◌≡◌ {A = Stage Deed T} Idle (Joined z) = is in cc }),
+              (record { key = refl; parts = refl; members = sym mine; seen = found.2; other = λ z is. let wrong : ◌≡◌ {A = Stage Deed T} Idle (Joined z) = is in cc }),
           (
             h,
             found.1,

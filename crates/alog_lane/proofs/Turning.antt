@@ -1,15 +1,15 @@
 -- One turn, put together: the lock was got, the turn was taken, and the lock was given back.
-use Rattle.std.proofs.Common.{◌≡◌, ℕ, ◌+◌, ◌%◌, ◌^◌, Option, None, Some, List, [], ◌∷◌, ◌++◌, get_or, refl, sym, ap, subst, ◌∙◌}
+use Rattle.std.proofs.Common.{◌≡◌, ℕ, ◌+◌, ◌%◌, ◌^◌, Option, None, Some, List, [], ◌∷◌, ◌++◌, get_or, sym, ap, subst, ◌∙◌}
 use Rattle.std.proofs.lemmas.List.{append-nil}
 use mathlib.Core.List.{IsPrefix}
 use Rattle.atomic_table.specs.Table.{State, Me, Allows, rest, carried_after}
 use Rattle.alog_lane.specs.declared.view.Cabin.{Cabin}
 use Rattle.alog_lane.specs.declared.view.Done.{Done}
 use Rattle.alog_lane.specs.Seats.{Entry, Known, Made}
-use Rattle.alog_lane.specs.Roster.{Stage, Working}
+use Rattle.alog_lane.specs.Roster.{Working}
 use Rattle.alog_lane.specs.Turns.{Turned, Turns, Leads}
-use Rattle.alog_lane.specs.Rule.{LaneSight, Keeps, index_after, Reaches, Ruled}
-use Rattle.alog_lane.specs.Plays.{Got, Took, GaveBack, gave_back, last_is, deed_of}
+use Rattle.alog_lane.specs.Rule.{LaneSight, Keeps, index_after, Ruled}
+use Rattle.alog_lane.specs.Plays.{Got, Took, GaveBack, gave_back, last_is}
 use Rattle.alog_lane.specs.Calls.{TakesTurn}
 use Rattle.alog_lane.proofs.Lists.{prefix_longer}
 use Rattle.alog_lane.proofs.Steps.{gives_back, index_more, leads_more}
@@ -59,11 +59,11 @@ module _ {T I S R : Type 0} (turns : T → S → I → R → T → S → Type 0)
         go.2,
         go.3,
         λ c t is last.
-        let same : c ≡ took.new = ap (λ (l : List (ℕ × Slot)). (get_or l 0 (0, c)).1) (sym is ∙ took.is)
-        in let L : Slot → Type 0 = λ z. last_is z.last.value t
-        in let one : deed ≡ t = one_last took.new.last.value deed t took.last (subst L same last)
-        in let G : Turned I S R → Type 0 = λ z. GaveBack z m2 (go.0, carried_after m2.1 go.1)
-        in subst G one go.4,
+            let same : c ≡ took.new = ap (λ (l : List (ℕ × Slot)). (get_or l 0 (0, c)).1) (sym is ∙ took.is)
+            in let L : Slot → Type 0 = λ z. last_is z.last.value t
+            in let one : deed ≡ t = one_last took.new.last.value deed t took.last (subst L same last)
+            in let G : Turned I S R → Type 0 = λ z. GaveBack z m2 (go.0, carried_after m2.1 go.1)
+            in subst G one go.4,
       )
 
   -- the turn is the next of the history

@@ -4,3 +4,4 @@ pub mod Turns
 pub mod Rule
 pub mod Plays
 pub mod Calls
+pub mod Laws

@@ -1,12 +1,11 @@
 -- What each step tells the seat that makes it.
-use Rattle.std.specs.Prelude.{◌≡◌, ◌≢◌, ℕ, ◌+◌, ◌%◌, ◌^◌, ◌<◌, ◌≤◌, Option, None, Some, List, [], ◌∷◌, ◌++◌, length}
-use Rattle.std.specs.List.{AllByRecursion}
+use Rattle.std.specs.Prelude.{◌≡◌, ◌≢◌, ℕ, ◌+◌, ◌%◌, ◌^◌, ◌≤◌, Option, None, Some, List, [], ◌∷◌, ◌++◌}
 use Rattle.atomic_table.specs.Table.{Me, rest}
 use Rattle.alog_lane.specs.declared.seat.TheConstants.{ALL_PARTS}
 use Rattle.alog_lane.specs.declared.view.Cabin.{Cabin}
 use Rattle.alog_lane.specs.declared.view.Done.{Done}
 use Rattle.alog_lane.specs.Seats.{Entry, Known, Made, IsFaithful, IsLonger, having_seen}
-use Rattle.alog_lane.specs.Roster.{Stage, Idle, Joined, Working, Sight}
+use Rattle.alog_lane.specs.Roster.{Stage, Idle, Working, Sight}
 use Rattle.alog_lane.specs.Turns.{Turned, Turns}
 use Rattle.alog_lane.specs.Rule.{LaneSight, Keeps, Reaches, index_after}
 

@@ -1,6 +1,6 @@
 -- What holds of a lane between any two steps: of the history, of what each seat knows, and of the lock word and the value.
 use Rattle.std.specs.Prelude.{◌≡◌, ℕ, ◌%◌, ◌^◌, ◌⊎◌, List, length, slice_index}
-use mathlib.Core.Option.{Option, some}
+use mathlib.Core.Option.{some}
 use lib.ListN.{get_elem?}
 use Rattle.atomic_table.specs.Table.{State}
 use Rattle.alog_lane.specs.Seats.{Entry}

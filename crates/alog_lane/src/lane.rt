@@ -73,11 +73,13 @@ impl<T: Turn> Lane<T> {
                 Ok((Lane { table }, seat))
             }
             Err(Refused { mut slots }) => match slots.pop() {
-                Some(Cabin {
-                    value,
-                    turns: _,
-                    last: _,
-                }) => {
+                Some(
+                    Cabin {
+                        value,
+                        turns: _,
+                        last: _,
+                    },
+                ) => {
                     slots.destroy_empty();
                     Err(AllocFailed { value })
                 }

@@ -13,6 +13,7 @@
 
 mod close;
 mod lane;
+mod laws;
 mod plays;
 mod seat;
 mod share;
@@ -24,5 +25,6 @@ mod wait;
 
 pub use close::SeatsOut;
 pub use lane::{Held, Lane};
+pub use laws::alone_saw_its_own;
 pub use seat::{ALL_PARTS, LaneSeat};
 pub use turn::Turn;

@@ -7,7 +7,9 @@
 /// whoever makes a lane knows it once, of the first value.
 pub trait Turn {
     type Item;
+
     type Reply;
+
     type Scratch;
 
     ghost turns: { Self → Self.Scratch → Self.Item → Self.Reply → Self → Self.Scratch → Type 0 };

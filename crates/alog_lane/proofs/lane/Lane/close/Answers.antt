@@ -1,4 +1,4 @@
-use Rattle.std.proofs.Common.{◌≡◌, sym, ap, subst, ◌∙◌}
+use Rattle.std.proofs.Common.{sym, ap, subst, ◌∙◌}
 use Rattle.std.specs.Mem.Slots.{slots_items}
 use Rattle.alog_lane.specs.Seats.{Known}
 use Rattle.alog_lane.specs.Turns.{Turned}

@@ -1,4 +1,4 @@
-use Rattle.std.proofs.Common.{◌≡◌, ◌∷◌, [], List, ℕ, Option, Some, sym, ap, subst, ◌∙◌, arith}
+use Rattle.std.proofs.Common.{◌≡◌, ◌∷◌, List, ℕ, sym, ap, subst, ◌∙◌, arith}
 use Rattle.alog_lane.specs.declared.view.Cabin.{Cabin}
 use Rattle.alog_lane.specs.Seats.{Known}
 use Rattle.alog_lane.specs.Turns.{Turned}
