@@ -6,7 +6,8 @@ use mathlib.Core.Option as maybe
 use mathlib.Core.List.{IsPrefix}
 use lib.ListN.{get_elem?}
 use Rattle.alog_lane.specs.declared.seat.TheConstants.{ALL_PARTS}
-use Rattle.alog_lane.specs.Seats.{Entry, Member, Known, own_of, members_of, IsAmong, AreDistinct, AreExact, with_fewer, apart_from, with_other, first_known}
+use Rattle.alog_lane.specs.Seats.{Entry, Member, Known, own_of, members_of, IsAmong, AreDistinct, AreExact}
+use Rattle.alog_lane.specs.Seats.{with_fewer, apart_from, with_other, first_known}
 
 -- Where a seat stands.
 pub data Stage (D W : Type 0) : Type 0 where
@@ -27,6 +28,10 @@ pub record Sight (K D W : Type 0) : Type 0 where
   pub stage : Stage D W
   pub known : Known D
 
+-- the seat of this number has this view
+abbrev pub IsAt : {V : Type 0} → List V → ℕ → V → Type 0
+IsAt views a v = get_elem? views a ≡ maybe.some v
+
 module _ {D W : Type 0} where
   -- the members that a seat stands for: those that it knows, one of its own number that has made nothing, or none
   abbrev pub members_by : ℕ → Known D → Stage D W → List (Member D)
@@ -45,15 +50,16 @@ module _ {K D W : Type 0} where
 
   -- The history against the views: a member is of one seat, has exactly its own entries, and whoever made an entry is one.
   pub record Agrees (key : K) (h : List (Entry D)) (views : List (Sight K D W)) : Type 0 where
-    pub keyed : (a : ℕ) (v : Sight K D W) → get_elem? views a ≡ maybe.some v → 0 < v.known.parts → v.key ≡ Some key
-    pub seen : (a : ℕ) (v : Sight K D W) → get_elem? views a ≡ maybe.some v → IsPrefix v.known.seen h
-    pub other : (a : ℕ) (v : Sight K D W) → get_elem? views a ≡ maybe.some v → (s : List (Entry D)) → v.stage ≡ Joined s → IsPrefix s h
-    pub exact : (a : ℕ) (v : Sight K D W) → get_elem? views a ≡ maybe.some v → AreExact (members_at a v) h
-    pub distinct : (a : ℕ) (v : Sight K D W) → get_elem? views a ≡ maybe.some v → AreDistinct (members_at a v)
-    pub once : (a : ℕ) (v : Sight K D W) → get_elem? views a ≡ maybe.some v → (b : ℕ) (w : Sight K D W) → get_elem? views b ≡ maybe.some w → (c : ℕ) → IsAmong c (members_at a v) → IsAmong c (members_at b w) → b ≡ a
-    pub made : (c : ℕ) → own_of c h ≢ [] → (a : ℕ) × (v : Sight K D W) × (get_elem? views a ≡ maybe.some v) × IsAmong c (members_at a v)
-    pub numbered : (a : ℕ) (v : Sight K D W) → get_elem? views a ≡ maybe.some v → (c : ℕ) → IsAmong c (members_at a v) → c < length views
-    pub parted : (a : ℕ) (v : Sight K D W) → get_elem? views a ≡ maybe.some v → (c : ℕ) → IsAmong c (members_at a v) → 0 < v.known.parts
+    pub keyed : (a : ℕ) (v : Sight K D W) → IsAt views a v → 0 < v.known.parts → v.key ≡ Some key
+    pub seen : (a : ℕ) (v : Sight K D W) → IsAt views a v → IsPrefix v.known.seen h
+    pub other : (a : ℕ) (v : Sight K D W) → IsAt views a v → (s : List (Entry D)) → v.stage ≡ Joined s → IsPrefix s h
+    pub exact : (a : ℕ) (v : Sight K D W) → IsAt views a v → AreExact (members_at a v) h
+    pub distinct : (a : ℕ) (v : Sight K D W) → IsAt views a v → AreDistinct (members_at a v)
+    pub once : (a : ℕ) (v : Sight K D W) → IsAt views a v → (b : ℕ) (w : Sight K D W) → IsAt views b w
+        → (c : ℕ) → IsAmong c (members_at a v) → IsAmong c (members_at b w) → b ≡ a
+    pub made : (c : ℕ) → own_of c h ≢ [] → (a : ℕ) × (v : Sight K D W) × (IsAt views a v) × IsAmong c (members_at a v)
+    pub numbered : (a : ℕ) (v : Sight K D W) → IsAt views a v → (c : ℕ) → IsAmong c (members_at a v) → c < length views
+    pub parted : (a : ℕ) (v : Sight K D W) → IsAt views a v → (c : ℕ) → IsAmong c (members_at a v) → 0 < v.known.parts
     pub whole : sum_by parts_of views ≡ ALL_PARTS
 
   -- the views of a split, of a join, and of the seat that has nothing any more
