@@ -1,0 +1,5 @@
+pub mod Lists
+pub mod Rosters
+pub mod Steps
+pub mod Turning
+pub mod Sharing
