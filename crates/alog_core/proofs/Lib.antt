@@ -8,3 +8,4 @@ pub mod Steps
 pub mod Others
 pub mod Reached
 pub mod Calls
+pub mod Runs

@@ -8,6 +8,7 @@ use Rattle.std.proofs.lemmas.List.{get_or_read, length-map}
 use Rattle.alog_core.specs.Listed.{seen}
 use Rattle.alog_core.specs.Table.{queue_in, Advances, HasRoom}
 use Rattle.alog_core.specs.World.{Machine, round_of, began, next_move, stepped}
+use Rattle.alog_core.specs.declared.TheConstants.{ACTORS}
 use Rattle.alog_core.specs.declared.said.Said.{Said}
 use Rattle.alog_core.specs.declared.table.Table.{Table}
 use Rattle.alog_core.specs.declared.mark.Mark.TheVariants.{Claimed}
@@ -19,7 +20,7 @@ use Rattle.alog_core.proofs.Steps.{IsFine, fine_move}
 use Rattle.alog_core.proofs.Others.{issued_step, others_staged}
 
 -- a fact of each actor's round, where one round is replaced
-staged_set : {T : Type 0} (n : ℕ) (q : Queue T) (rounds : List (Round T)) (a : ℕ) (r : Round T) → length rounds ≡ 64 → a < 64 → IsStaged n q a r → ((b : ℕ) → a ≢ b → b < 64 → IsStaged n q b (get_or rounds b round.Idle)) → (b : ℕ) → b < 64 → IsStaged n q b (get_or (set rounds a r) b round.Idle)
+staged_set : {T : Type 0} (n : ℕ) (q : Queue T) (rounds : List (Round T)) (a : ℕ) (r : Round T) → length rounds ≡ ACTORS → a < ACTORS → IsStaged n q a r → ((b : ℕ) → a ≢ b → b < ACTORS → IsStaged n q b (get_or rounds b round.Idle)) → (b : ℕ) → b < ACTORS → IsStaged n q b (get_or (set rounds a r) b round.Idle)
 staged_set {T} n q rounds a r all lt st others b below =
     elim (eqb_tells a b) [
       | inl h ↦
@@ -33,7 +34,7 @@ staged_set {T} n q rounds a r all lt st others b below =
           subst (λ (x : Round T). IsStaged n q b x) (sym there) (others b h.1 below)
     ]
 
-pub reached_began : {T : Type 0} (m : Machine T) (a : ℕ) (r : Round T) → IsReached m → a < 64 → IsStaged m.places m.queue a r → IsReached (began m a r)
+pub reached_began : {T : Type 0} (m : Machine T) (a : ℕ) (r : Round T) → IsReached m → a < ACTORS → IsStaged m.places m.queue a r → IsReached (began m a r)
 reached_began m a r h lt st =
     record {
       small = h.small;
@@ -47,10 +48,10 @@ sound_step : {T : Type 0} (n : ℕ) (q : Queue T) (a : ℕ) (o : Option (Event T
 sound_step n q a None some s may = s
 sound_step n q a (Some e) some s may = sound_after n q a e some s (may e refl)
 
-pub fine_step : {T : Type 0} (m : Machine T) (a : ℕ) → IsReached m → a < 64 → IsFine m.places m.queue a (next_move m a)
+pub fine_step : {T : Type 0} (m : Machine T) (a : ℕ) → IsReached m → a < ACTORS → IsFine m.places m.queue a (next_move m a)
 fine_step m a h lt = fine_move m.places m.queue a (round_of m a) h.sound h.issued (h.staged a lt)
 
-pub reached_stepped : {T : Type 0} (m : Machine T) (a : ℕ) → IsReached m → a < 64 → IsReached (stepped m a)
+pub reached_stepped : {T : Type 0} (m : Machine T) (a : ℕ) → IsReached m → a < ACTORS → IsReached (stepped m a)
 reached_stepped m a h lt =
     let fine = fine_step m a h lt in
     let e = (next_move m a).event in
@@ -63,7 +64,7 @@ reached_stepped m a h lt =
     }
 
 -- a claim leaves at most as many cells as places, so there was room
-claim_room : {T : Type 0} (m : Machine T) (a p : ℕ) (x : T) → IsReached m → a < 64 → (next_move m a).event ≡ Some (Claim p x) → (length m.queue.cells < m.places) × (p < last)
+claim_room : {T : Type 0} (m : Machine T) (a p : ℕ) (x : T) → IsReached m → a < ACTORS → (next_move m a).event ≡ Some (Claim p x) → (length m.queue.cells < m.places) × (p < last)
 claim_room {T} m a p x h lt e =
     let may = (fine_step m a h lt).allowed (Claim p x) e in
     let c : Cell T = record { ticket = p; mark = Claimed; item = x; actor = a } in
@@ -79,7 +80,7 @@ kept t rounds = record { places = t.places; queue = queue_in t; rounds = rounds 
 pub taken_round : {T : Type 0} (rounds : List (Round T)) (a : ℕ) (lent r : Round T) → a < length rounds → lent ≡ get_or rounds a lent → r ≡ lent → r ≡ get_or rounds a round.Idle
 taken_round rounds a lent r lt e f = f ∙ get_or_read rounds a lent lt e round.Idle
 
-pub has_room : {T : Type 0} (t : Table T) (rounds : List (Round T)) (a : ℕ) (r : Round T) → IsReached (kept t rounds) → t.places ≤ vec_capacity t.cells → a < 64 → r ≡ get_or rounds a round.Idle → HasRoom t r
+pub has_room : {T : Type 0} (t : Table T) (rounds : List (Round T)) (a : ℕ) (r : Round T) → IsReached (kept t rounds) → t.places ≤ vec_capacity t.cells → a < ACTORS → r ≡ get_or rounds a round.Idle → HasRoom t r
 has_room {T} t rounds a r h room lt e =
     subst (λ (s : Round T). HasRoom t s) (sym e)
     (record {

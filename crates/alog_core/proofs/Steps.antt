@@ -110,7 +110,7 @@ eq_from_test a b h = on_test (λ v. v ≡ true → a ≡ b) a b (λ e _. e) (λ 
 other_from_test : (a b : ℕ) → (a == b) ≡ false → a ≢ b
 other_from_test a b h = on_test (λ v. v ≡ false → a ≢ b) a b (λ _ bad. absurd (cc)) (λ other _. other) h
 
-less_from_test : (a b : ℕ) → ltb a b ≡ true → a < b
+pub less_from_test : (a b : ℕ) → ltb a b ≡ true → a < b
 less_from_test a b h = grind (arith, nat_tests)
 
 and_first : (a b : Bool) → (a && b) ≡ true → a ≡ true

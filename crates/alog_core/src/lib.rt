@@ -26,8 +26,11 @@ pub use round::Round;
 pub use said::{Answer, Call, CellView, Said};
 pub use world::World;
 
-/// Actors are numbered from 0 to 63.
+/// So many actors, numbered from 0 to 63.
 pub const ACTORS: u32 = 64;
+
+/// A queue has at least so many places.
+pub const LEAST_PLACES: usize = 2;
 
 /// A queue has at most so many places.
 pub const MOST_PLACES: usize = 65_536;

@@ -72,8 +72,7 @@ fn load_sequence_to_push<T>(table: &Table<T>, ticket: u64, item: T) -> (Said<T>,
     if blocks(&table.cells, table.places, ticket) {
         return (Said::Full(ticket, Some(item)), Round::Idle);
     }
-    let claimed = mark_of(&table.cells, ticket) == Some(Mark::Claimed);
-    if ticket < table.next && !claimed {
+    if ticket < table.next && mark_of(&table.cells, ticket) != Some(Mark::Claimed) {
         (Said::Busy(ticket, Some(item)), Round::Idle)
     } else {
         (Said::Nothing, Round::PushFree { ticket, item })

@@ -1,8 +1,10 @@
 //! The stepped queue: what its calls answer, and in which order they refuse.
-ghost use Rattle.std.specs.Prelude.{◌≡◌, ◌<◌, ◌≤◌, ◌↔◌, ◌++◌, ℕ, Some, List, true, false, map, IfOk, OnOk, OnErr, IfErr, IsOk, IsErrOf};
+ghost use Rattle.std.specs.Prelude.{◌≡◌, ◌<◌, ◌≤◌, ◌↔◌, Some, true, false, map, IfOk, OnOk, OnErr, IfErr, IsOk, IsErrOf};
 ghost use Rattle.alog_core.specs.Queue.{Event, Allows, last};
-ghost use Rattle.alog_core.specs.History.{Entry, StandsFor};
-ghost use Rattle.alog_core.specs.World.{is_size, fresh, round_of, is_idle, began, next_move, stepped, told, entries_of, reply_to, after_call, replies_to, after_calls, shown};
+ghost use Rattle.alog_core.specs.History.{GoesOn};
+ghost use Rattle.alog_core.specs.World.{is_size, fresh, round_of, is_idle, began, next_move, stepped, told, reply_to, after_call, replies_to, after_calls, shown};
+ghost use Rattle.alog_core.specs.Run.{entries_of_step, entries_of_run, TellAll, HasItsCell, EachHasItsCell};
+ghost use Rattle.alog_core.specs.Staged.{IsReached};
 ghost use Rattle.alog_core.specs.declared.round.Round.TheVariants as round;
 
 use crate::error::{BeginError, Refused, StepError, WorldError};
@@ -66,13 +68,22 @@ impl<T: Drop> World<T> {
         Ok(World { table, rounds })
     }
 
+    /// What is true of every world, whatever was called: the facts of `IsReached`. It does nothing: its contract is the
+    /// law.
+    pub fn is_reached(&self)
+        ensures { IsReached self.now }
+    {
+        // A function knows what is true of a struct where it reads a field of it.
+        let _ = &self.table;
+    }
+
     /// Begins a push of this item by an actor, 0 to 63. It takes no memory.
     ///
     /// A refusal changes nothing and hands the item back.
     pub fn begin_push(&mut self, actor: u32, item: T) -> Result<(), Refused<T>>
         ensures began { OnOk result (self.new ≡ began self.old actor (round.Push item)) }
-        ensures begins { IsOk result ↔ ((actor < 64) × (is_idle (round_of self.old actor) ≡ true)) }
-        ensures no_actor { IfErr result (λ r. (r.fault ≡ BeginError.NoActor) ↔ (64 ≤ actor)) }
+        ensures begins { IsOk result ↔ ((actor < ACTORS) × (is_idle (round_of self.old actor) ≡ true)) }
+        ensures no_actor { IfErr result (λ r. (r.fault ≡ BeginError.NoActor) ↔ (ACTORS ≤ actor)) }
         ensures item { IfErr result (λ r. r.item ≡ item) }
         ensures err { OnErr result (self.new ≡ self.old) }
     {
@@ -88,8 +99,8 @@ impl<T: Drop> World<T> {
     /// Begins a pop by an actor, 0 to 63. It takes no memory, and a refusal changes nothing.
     pub fn begin_pop(&mut self, actor: u32) -> Result<(), BeginError>
         ensures began { OnOk result (self.new ≡ began self.old actor round.Pop) }
-        ensures begins { IsOk result ↔ ((actor < 64) × (is_idle (round_of self.old actor) ≡ true)) }
-        ensures no_actor { IsErrOf result BeginError.NoActor ↔ (64 ≤ actor) }
+        ensures begins { IsOk result ↔ ((actor < ACTORS) × (is_idle (round_of self.old actor) ≡ true)) }
+        ensures no_actor { IsErrOf result BeginError.NoActor ↔ (ACTORS ≤ actor) }
         ensures err { OnErr result (self.new ≡ self.old) }
     {
         self.may_begin(actor)?;
@@ -99,7 +110,7 @@ impl<T: Drop> World<T> {
 
     /// Whether this actor, 0 to 63, is in no call.
     pub fn is_idle(&self, actor: u32) -> bool
-        requires { actor < 64 }
+        requires { actor < ACTORS }
         ensures { result ≡ is_idle (round_of self.now actor) }
     {
         self.rounds[actor as usize].is_idle()
@@ -107,9 +118,9 @@ impl<T: Drop> World<T> {
 
     /// Whether a call of this actor may begin.
     fn may_begin(&self, actor: u32) -> Result<(), BeginError>
-        ensures begins { IsOk result ↔ ((actor < 64) × (is_idle (round_of self.now actor) ≡ true)) }
-        ensures no_actor { IsErrOf result BeginError.NoActor ↔ (64 ≤ actor) }
-        ensures in_call { IsErrOf result BeginError.InCall → (actor < 64) × (is_idle (round_of self.now actor) ≡ false) }
+        ensures begins { IsOk result ↔ ((actor < ACTORS) × (is_idle (round_of self.now actor) ≡ true)) }
+        ensures no_actor { IsErrOf result BeginError.NoActor ↔ (ACTORS ≤ actor) }
+        ensures in_call { IsErrOf result BeginError.InCall → (actor < ACTORS) × (is_idle (round_of self.now actor) ≡ false) }
     {
         if actor >= ACTORS {
             Err(BeginError::NoActor)
@@ -125,16 +136,17 @@ impl<T: Drop> World<T> {
     /// Each step is one event of the queue, which the queue allows, or none, and it is the one that the table of a
     /// round names. A refusal changes nothing.
     pub fn step(&mut self, actor: u32) -> Result<Said<T>, StepError>
-        ensures no_actor { IsErrOf result StepError.NoActor ↔ (64 ≤ actor) }
-        ensures not_in_call { IsErrOf result StepError.NotInCall ↔ ((actor < 64) × (is_idle (round_of self.old actor) ≡ true)) }
+        ensures no_actor { IsErrOf result StepError.NoActor ↔ (ACTORS ≤ actor) }
+        ensures not_in_call { IsErrOf result StepError.NotInCall ↔ ((actor < ACTORS) × (is_idle (round_of self.old actor) ≡ true)) }
         ensures err { OnErr result (self.new ≡ self.old) }
 
         ensures said { IfOk result (λ s. s ≡ told self.old actor) }
         ensures stepped { OnOk result (self.new ≡ stepped self.old actor) }
         // The queue allows the step's event, so each history that it stood for goes on with it.
         ensures allowed { OnOk result ((e : Event T) → (next_move self.old actor).event ≡ Some e → Allows self.old.places self.old.queue actor e) }
-        ensures history { OnOk result ((f : ℕ) (h : List (Entry T (Unit {0}))) → StandsFor self.old.places f h self.old.queue
-            → StandsFor self.old.places f (h ++ entries_of actor tt (next_move self.old actor).event) self.new.queue) }
+        ensures history { OnOk result (GoesOn self.old.places self.old.queue (entries_of_step self.old actor) self.new.queue) }
+        // A ticket that the actor got has its cell, and the last step of a call writes it, or takes its item out.
+        ensures cell { OnOk result (HasItsCell self.old actor) }
     {
         match self.may_begin(actor) {
             Err(BeginError::NoActor) => Err(StepError::NoActor),
@@ -145,10 +157,11 @@ impl<T: Drop> World<T> {
 
     /// Makes the next step of an actor, 0 to 63.
     fn advance(&mut self, actor: u32) -> Said<T>
-        requires { actor < 64 }
+        requires { actor < ACTORS }
         ensures said { result ≡ told self.old actor }
         ensures stepped { self.new ≡ stepped self.old actor }
         ensures allowed { (e : Event T) → (next_move self.old actor).event ≡ Some e → Allows self.old.places self.old.queue actor e }
+        ensures cell { HasItsCell self.old actor }
     {
         let place = actor as usize;
         let round = mem::replace(&mut self.rounds[place], Round::Idle);
@@ -166,7 +179,7 @@ impl<T: Drop> World<T> {
 
     /// Makes the calls one after another and answers their answers, one for each.
     ///
-    /// Out of memory changes nothing and hands the calls back.
+    /// The entries of the run are those of its steps that are events, in order. Out of memory changes nothing and hands the calls back.
     pub fn run(
         &mut self,
         alloc: Global,
@@ -174,9 +187,17 @@ impl<T: Drop> World<T> {
     ) -> Result<Vec<Answer<T>>, AllocFailed<Vec<Call<T>>>>
         ensures answers { IfOk result (λ v. v.items ≡ replies_to self.old calls.items) }
         ensures after { OnOk result (self.new ≡ after_calls self.old calls.items) }
+
+        // The whole run: each history that the queue stood for goes on with its entries, which the answers tell.
+        ensures history { OnOk result (GoesOn self.old.places self.old.queue (entries_of_run self.old calls.items) self.new.queue) }
+        ensures told { IfOk result (λ v. TellAll calls.items v.items (entries_of_run self.old calls.items)) }
+        ensures cells { OnOk result (EachHasItsCell self.old calls.items) }
+
         ensures handed_back { IfErr result (λ e. e.value ≡ calls) }
         ensures err { OnErr result (self.new ≡ self.old) }
     {
+        // What each step of the run finds follows from this.
+        self.is_reached();
         let Ok(mut answers) = Vec::with_capacity(alloc, calls.len()) else {
             return Err(AllocFailed { value: calls });
         };

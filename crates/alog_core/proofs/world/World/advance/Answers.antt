@@ -1,8 +1,10 @@
 use Rattle.std.proofs.Common.{◌≡◌, ◌<◌, Some, length, ap, sym, subst, ◌∙◌, arith}
 use Rattle.alog_core.specs.Queue.{Event, Allows}
 use Rattle.alog_core.specs.World.{Machine, next_move, stepped}
+use Rattle.alog_core.specs.Run.{HasItsCell}
 use Rattle.alog_core.specs.Staged.{IsReached}
 use Rattle.alog_core.proofs.Reached.{kept, taken_round, has_room, stepped_in, reached_stepped, fine_step}
+use Rattle.alog_core.proofs.Runs.{has_its_cell}
 use Rattle.alog_core.proofs.world.World.advance.Goals as goal
 
 pub advance-said-requires : goal.advance-said-requires
@@ -35,3 +37,8 @@ pub returns-clause-allowed : goal.returns-clause-allowed
 returns-clause-allowed g c =
     subst (λ (m : Machine g.row.T.Denot). (e : Event g.row.T.Denot) → (next_move m c.args.actor).event ≡ Some e → Allows m.places m.queue c.args.actor e) c.self.view_is
     (fine_step (kept c.self.inside.table c.self.inside.rounds.items) c.args.actor c.self.invariant.reached c.requires).allowed
+
+pub returns-clause-cell : goal.returns-clause-cell
+returns-clause-cell g c =
+    subst (λ (m : Machine g.row.T.Denot). HasItsCell m c.args.actor) c.self.view_is
+    (has_its_cell (kept c.self.inside.table c.self.inside.rounds.items) c.args.actor c.self.invariant.reached c.requires)

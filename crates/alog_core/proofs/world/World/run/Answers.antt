@@ -1,7 +1,11 @@
-use Rattle.std.proofs.Common.{◌++◌, ◌∷◌, [], length, length-append, ap, sym, ◌∙◌, arith}
+use Rattle.std.proofs.Common.{List, ◌++◌, ◌∷◌, [], length, length-append, ap, sym, subst, ◌∙◌, arith}
 use Rattle.std.specs.Vec.Iter.{into_iter_items}
-use Rattle.alog_core.specs.World.{reply_to, after_call, replies_to, after_calls}
+use Rattle.alog_core.specs.History.{GoesOn}
+use Rattle.alog_core.specs.World.{Machine, reply_to, after_call, replies_to, after_calls}
+use Rattle.alog_core.specs.Run.{entries_of_run, TellAll}
+use Rattle.alog_core.specs.declared.said.Answer.{Answer}
 use Rattle.alog_core.proofs.Calls.{given_front, after_calls_last, replies_to_last, length-replies_to, all_given}
+use Rattle.alog_core.proofs.Runs.{run_goes_on, tell_all, each_has_its_cell}
 use Rattle.alog_core.proofs.world.World.run.Goals as goal
 
 pub push_reserved-requires : goal.push_reserved-requires
@@ -30,3 +34,18 @@ pub returns-clause-after : goal.returns-clause-after
 returns-clause-after g c =
     let all = all_given c.into_iter-call-iterator.result c.loop-call.yielded c.loop-call.call-iterator c.loop-call.yielded_by c.in-None.ensures.steps.0 in
     c.loop-call.invariant.after ∙ ap (λ cs. after_calls c.args.self.now cs) (sym all ∙ c.into_iter-call-iterator.ensures.into_iter_gives.0)
+
+pub returns-clause-history : goal.returns-clause-history
+returns-clause-history g c =
+    let m = c.args.self.now in
+    subst (λ (k : Machine g.row.T.Denot). GoesOn m.places m.queue (entries_of_run m c.args.calls.items) k.queue) (sym (returns-clause-after g c))
+    (run_goes_on m c.args.calls.items c.is_reached.ensures)
+
+pub returns-clause-told : goal.returns-clause-told
+returns-clause-told g c =
+    let m = c.args.self.now in
+    subst (λ (rs : List (Answer g.row.T.Denot)). TellAll c.args.calls.items rs (entries_of_run m c.args.calls.items)) (sym (returns-clause-answers g c))
+    (tell_all m c.args.calls.items)
+
+pub returns-clause-cells : goal.returns-clause-cells
+returns-clause-cells g c = each_has_its_cell c.args.self.now c.args.calls.items c.is_reached.ensures
