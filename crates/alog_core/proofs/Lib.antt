@@ -9,3 +9,4 @@ pub mod Others
 pub mod Reached
 pub mod Calls
 pub mod Runs
+pub mod Sizes

@@ -113,11 +113,11 @@ other_from_test a b h = on_test (λ v. v ≡ false → a ≢ b) a b (λ _ bad. a
 pub less_from_test : (a b : ℕ) → ltb a b ≡ true → a < b
 less_from_test a b h = grind (arith, nat_tests)
 
-and_first : (a b : Bool) → (a && b) ≡ true → a ≡ true
+pub and_first : (a b : Bool) → (a && b) ≡ true → a ≡ true
 and_first true b h = refl
 and_first false b h = h
 
-and_second : (a b : Bool) → (a && b) ≡ true → b ≡ true
+pub and_second : (a b : Bool) → (a && b) ≡ true → b ≡ true
 and_second true b h = h
 and_second false b h = absurd (cc)
 

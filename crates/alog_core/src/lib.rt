@@ -24,7 +24,7 @@ pub use laws::reached_states_are_sound;
 pub use mark::Mark;
 pub use round::Round;
 pub use said::{Answer, Call, CellView, Said};
-pub use world::World;
+pub use world::{World, is_size};
 
 /// So many actors, numbered from 0 to 63.
 pub const ACTORS: u32 = 64;

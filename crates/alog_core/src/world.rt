@@ -12,7 +12,7 @@ use crate::listed::views;
 use crate::round::Round;
 use crate::said::{Answer, Call, CellView, Said};
 use crate::table::{Table, advance};
-use crate::{ACTORS, LAST_TICKET, MOST_PLACES};
+use crate::{ACTORS, LAST_TICKET, LEAST_PLACES, MOST_PLACES};
 use std::alloc::{AllocError, AllocFailed, Global};
 use std::marker::Model;
 use std::mem;
@@ -40,6 +40,13 @@ impl<T> Model for World<T> {
     ghost invariant = { IsKept };
 }
 
+/// Whether a queue may have so many places: a power of two from 2 to 65,536.
+pub fn is_size(places: usize) -> bool
+    ensures { result ≡ is_size places }
+{
+    places.is_power_of_two() && (LEAST_PLACES..=MOST_PLACES).contains(&places)
+}
+
 impl<T: Drop> World<T> {
     /// An empty queue of this many places, a power of two from 2 to 65,536, whose first ticket is below 2^62.
     ///
@@ -49,7 +56,7 @@ impl<T: Drop> World<T> {
         ensures bad_size { IsErrOf result WorldError.BadSize ↔ (is_size places ≡ false) }
         ensures bad_first { IsErrOf result WorldError.BadFirst ↔ ((is_size places ≡ true) × (last ≤ first)) }
     {
-        if !(places.is_power_of_two() && places >= 2 && places <= MOST_PLACES) {
+        if !is_size(places) {
             return Err(WorldError::BadSize);
         }
         if first >= LAST_TICKET {

@@ -4,11 +4,13 @@ use mathlib.Core.Option.{some}
 use Rattle.atomic_table.specs.Table.{Me, step, rest}
 use Rattle.alog_core.specs.Queue.{Event, Claim, Grab}
 use Rattle.alog_core.specs.History.{Entry}
-use Rattle.alog_ring.specs.Sight.{Known, Writing, Reading, Sight}
-use Rattle.alog_ring.specs.Made.{Made, EndsWith}
-use Rattle.alog_ring.specs.Plays.{entry, Adds, Acts, claimed, wrote, grabbed, took}
+use Rattle.alog_ring.specs.declared.words.TheConstants.{NEXT, FRONT}
+use Rattle.alog_ring.specs.Known.{Known}
 use Rattle.alog_ring.specs.Kinds.{no_note, some_value, no_value}
-use Rattle.alog_ring.specs.Calls.{Fills, Empties}
+use Rattle.alog_ring.specs.Made.{Made, EndsWith, entry, Adds}
+use Rattle.alog_ring.specs.Sight.{Writing, Reading, Sight}
+use Rattle.alog_ring.specs.Plays.{Acts, claimed, wrote, grabbed, took}
+use Rattle.alog_ring.specs.Board.{Fills, Empties}
 use Rattle.alog_ring.proofs.Lists.{prefix_through}
 
 module _ {T N : Type 0} where
@@ -31,7 +33,7 @@ module _ {T N : Type 0} where
       in subst P a.actor (made_more u v w first (entry note v e ∷ []) a b.0, b.1)
 
 -- A push: after the exchange of the position, the seat has the place; the item goes into it, and the sequence is stored.
-module _ {T : Type 0} (slots t new place found n : ℕ) (value : T) (old mid put : Me (Option T) (Sight T no_note)) (told : claimed tt some_value no_value (step slots 16 t new (some (Some value))) old found mid) (hit : found ≡ t)
+module _ {T : Type 0} (slots t new place found n : ℕ) (value : T) (old mid put : Me (Option T) (Sight T no_note)) (told : claimed tt some_value no_value (step slots NEXT t new (some (Some value))) old found mid) (hit : found ≡ t)
     (filled : put ≡ (mid.0, (place, Some value) ∷ rest mid.1)) (at : place ≡ t % n) where
   did : (x : T) × (some (Some value) ≡ some (some_value x)) × Acts tt old mid (Claim found x) (Writing found x) × (mid.1 ≡ (found % slots, None) ∷ old.1)
   did = told.0 hit
@@ -63,7 +65,7 @@ module _ {T : Type 0} (slots t new place found n : ℕ) (value : T) (old mid put
       )
 
 -- A pop: after the exchange of the position, the seat has the place; the item comes out of it, and the sequence is stored.
-module _ {T : Type 0} (slots t new place found n : ℕ) (said : Option T) (old mid out : Me (Option T) (Sight T no_note)) (told : grabbed tt some_value (step slots 32 t new (some said)) old found mid) (hit : found ≡ t)
+module _ {T : Type 0} (slots t new place found n : ℕ) (said : Option T) (old mid out : Me (Option T) (Sight T no_note)) (told : grabbed tt some_value (step slots FRONT t new (some said)) old found mid) (hit : found ≡ t)
     (emptied : out ≡ (mid.0, (place, None) ∷ rest mid.1)) (at : place ≡ t % n) where
   pub emptying_stage : out.0.stage ≡ Reading t (told.0 hit).0
   emptying_stage = ap (λ (m : Me (Option T) (Sight T no_note)). m.0.stage) emptied ∙ (told.0 hit).1.1 ∙ (λ i. Reading (hit i) (told.0 hit).0)

@@ -12,14 +12,18 @@ use Rattle.alog_core.specs.History.{left_by, own_of}
 use Rattle.alog_core.proofs.Cells.{at_same, at_other}
 use Rattle.alog_core.proofs.Rising.{bounds_of_rising, listed_within, unlisted_below}
 use Rattle.alog_core.proofs.Sound.{length-sound}
-use Rattle.alog_ring.specs.Sight.{Known, Stage, Idle, Sight, all_parts, IsAmong}
+use Rattle.alog_ring.specs.declared.words.TheConstants.{FRONT}
+use Rattle.alog_ring.specs.declared.TheConstants.{ALL_PARTS}
+use Rattle.alog_ring.specs.Known.{Known, IsAmong}
 use Rattle.alog_ring.specs.Kinds.{no_note, some_value, no_value}
-use Rattle.alog_ring.specs.Rule.{IsAtWork, HasAccounts, Knows, seq_of, ShowsCell, Ruled}
-use Rattle.alog_ring.specs.Calls.{ticket_and_item, AreInRow, value_at, LieIn, Closes}
+use Rattle.alog_ring.specs.Share.{ticket_and_item}
+use Rattle.alog_ring.specs.Sight.{Stage, Idle, Sight}
+use Rattle.alog_ring.specs.Rule.{IsAtWork, HasEntries, Knows, seq_of, ShowsCell, Ruled}
+use Rattle.alog_ring.specs.Board.{Leaves, AreInRow, value_at, LieIn}
 use Rattle.alog_ring.proofs.Lists.{same_or_not, found, prefix_same}
 use Rattle.alog_ring.proofs.Showing.{near_apart}
 use Rattle.alog_ring.proofs.Looking.{on_option, lap}
-use Rattle.alog_ring.proofs.Telling.{accounts_distinct}
+use Rattle.alog_ring.proofs.Telling.{members_distinct}
 use Rattle.alog_ring.proofs.Stepping.{sound_now}
 use Rattle.alog_ring.proofs.Meeting.{all_actors, legal_prefix, actors_now, written_now}
 use Rattle.alog_ring.proofs.Places.{option_kind}
@@ -191,7 +195,7 @@ value_unlisted {T} first (d ∷ cs) (suc i) row is =
     in value_unlisted (first + 1) cs i row.1 (subst P e (sym (at_other d.ticket (first + suc i) (Some d) (cell_of (first + suc i) cs) (let apart : d.ticket ≢ first + suc i = omega (arith, row.0) in apart)) ∙ is))
 
 -- The table of a ring at its end, where one pass has all parts.
-module _ {T : Type 0} (n f id : ℕ) (v : Sight T no_note) (words : List ℕ) (places : List (Option T)) (fin : Final (Seen (λ s. Ruled some_value no_value n f s) id v) words places) (idle : v.stage ≡ Idle) (all : v.known.parts ≡ all_parts) where
+module _ {T : Type 0} (n f id : ℕ) (v : Sight T no_note) (words : List ℕ) (places : List (Option T)) (fin : Final (Seen (λ s. Ruled some_value no_value n f s) id v) words places) (idle : v.stage ≡ Idle) (all : v.known.parts ≡ ALL_PARTS) where
   live : 0 < v.known.parts
   live = omega arith
 
@@ -208,9 +212,9 @@ module _ {T : Type 0} (n f id : ℕ) (v : Sight T no_note) (words : List ℕ) (p
         | inr lt ↦ let wrong : Written ≡ Emptying = sym (written t c is) ∙ (sound.emptied t c is).1 lt.1 in absurd (cc)
       ]
 
-  pub first_is_front : (first : ℕ) → get_elem? words 32 ≡ maybe.some first → first ≡ fin.1.0.queue.front
+  pub first_is_front : (first : ℕ) → get_elem? words FRONT ≡ maybe.some first → first ≡ fin.1.0.queue.front
   first_is_front first at =
-      sym (found words 32 first 0 at) ∙ ap (λ (l : List ℕ). get_or l 32 0) (sym fin.2) ∙ fin.1.0.shown.head
+      sym (found words FRONT first 0 at) ∙ ap (λ (l : List ℕ). get_or l FRONT 0) (sym fin.2) ∙ fin.1.0.shown.front
 
   pub front_bounded : fin.1.0.queue.front ≤ last
   front_bounded = let ordered : fin.1.0.queue.front ≤ fin.1.0.queue.next = sound.ordered in let bounded : fin.1.0.queue.next ≤ last = fin.1.0.shown.bounded in omega arith
@@ -249,26 +253,26 @@ module _ {T : Type 0} (n f id : ℕ) (v : Sight T no_note) (words : List ℕ) (p
             ];
       }
 
-  pub closes : (first : ℕ) (left : List (ℕ × T)) → get_elem? words 32 ≡ maybe.some first → ((cells : List (Cell T)) → LieIn places first n cells → left ≡ map ticket_and_item cells) → Closes v.known left
+  pub closes : (first : ℕ) (left : List (ℕ × T)) → get_elem? words FRONT ≡ maybe.some first → ((cells : List (Cell T)) → LieIn places first n cells → left ≡ map ticket_and_item cells) → Leaves v.known left
   closes first left at are =
       let k : Known T no_note = v.known
       in let r : Ruled some_value no_value n f fin.0 = fin.1.0
       in let K : Stage T no_note → Type 0 = λ z. Knows n r.history r.queue id k z
       in let work : IsAtWork id k = subst K idle (r.staged.knows id v fin.1.1)
-      in let has : HasAccounts r.history fin.0.views id k = r.told.accounts id v fin.1.1 live
+      in let has : HasEntries r.history fin.0.views id k = r.told.entries id v fin.1.1 live
       in let left_is : left_by (start k.first) r.history ≡ r.queue = ap (λ (z : ℕ). left_by (start z) r.history) (r.told.first id v fin.1.1 live) ∙ r.stands.queue
       in let L : ℕ → Type 0 = λ z. LieIn places z n r.queue.cells
       in let W : Queue T → Type 0 = λ q. (t : ℕ) (c : Cell T) → cell_of t q.cells ≡ Some c → c.mark ≡ Written
       in record {
         history = r.history;
         seen = r.told.seen id v fin.1.1;
-        faithful = record {
-          legal = legal_prefix (option_kind T) n f fin.0 r id v fin.1.1 live r.history (prefix_same r.history);
-          own = has.own ∙ ap (λ (z : ℕ). own_of z r.history) (sym work.0);
-          joined = has.joined;
-          distinct = accounts_distinct n f id r.history fin.0.views v r.told fin.1.1 live work.0;
-        };
         whole = record {
+          faithful = record {
+            legal = legal_prefix (option_kind T) n f fin.0 r id v fin.1.1 live r.history (prefix_same r.history);
+            own = has.own ∙ ap (λ (z : ℕ). own_of z r.history) (sym work.0);
+            joined = has.joined;
+            distinct = members_distinct n f id r.history fin.0.views v r.told fin.1.1 live work.0;
+          };
           actors =
               all_actors (λ b. (b ≡ k.actor) ⊎ IsAmong b k.joined) r.history
               (λ b some_own.

@@ -1,4 +1,4 @@
--- A seat takes in another, with its parts and accounts, or a note, which has none.
+-- A seat takes in another, with its parts and members, or a note, which has none.
 use Rattle.std.proofs.Common.{◌≡◌, ◌≢◌, ℕ, ◌+◌, ◌<◌, ◌⊎◌, List, [], ◌∷◌, ◌++◌, set, length, refl, sym, ap, subst, ◌∙◌, inl, inr, arith, length-set}
 use Rattle.std.specs.List.{AllByRecursion, sum_by}
 use mathlib.Core.Option.{some}
@@ -8,26 +8,27 @@ use Rattle.atomic_table.specs.Table.{State, Joins}
 use Rattle.atomic_table.proofs.Lists.{at_set, set_else, set_here}
 use Rattle.alog_core.specs.Queue.{Queue}
 use Rattle.alog_core.specs.History.{Entry, own_of}
-use Rattle.alog_ring.specs.Sight.{Account, Stage, Idle, Lent, Writing, Reading, Sight, IsAmong, AreDistinct, accounts_of}
-use Rattle.alog_ring.specs.Rule.{parts_of, IsAtWork, IsRetired, IsTakenIn, HasAccounts, Knows, Told, Staged, Ruled}
-use Rattle.alog_ring.specs.Parts.{taking_in, reading_note, gone}
+use Rattle.alog_ring.specs.Known.{Member, IsAmong, AreDistinct, members_of}
+use Rattle.alog_ring.specs.Sight.{Stage, Idle, Lent, Writing, Reading, Sight}
+use Rattle.alog_ring.specs.Seats.{taking_in, reading_note, gone}
+use Rattle.alog_ring.specs.Rule.{parts_of, IsAtWork, IsRetired, IsTakenIn, HasEntries, Knows, Told, Staged, Ruled}
 use Rattle.alog_ring.proofs.Lists.{same_or_not, inside, one_value, each_of, each_append, sum_changed}
-use Rattle.alog_ring.proofs.Telling.{retired_apart, among_retired, accounts_distinct}
+use Rattle.alog_ring.proofs.Telling.{retired_apart, among_retired, members_distinct}
 
 module _ {T N : Type 0} where
-  among_first : (b : ℕ) (l m : List (Account T N)) → IsAmong b l → IsAmong b (l ++ m)
+  among_first : (b : ℕ) (l m : List (Member T N)) → IsAmong b l → IsAmong b (l ++ m)
   among_first b [] m is = absurd is
   among_first b (c ∷ l) m is = elim is [ inl e ↦ inl e | inr more ↦ inr (among_first b l m more) ]
 
-  among_second : (b : ℕ) (l m : List (Account T N)) → IsAmong b m → IsAmong b (l ++ m)
+  among_second : (b : ℕ) (l m : List (Member T N)) → IsAmong b m → IsAmong b (l ++ m)
   among_second b [] m is = is
   among_second b (c ∷ l) m is = inr (among_second b l m is)
 
-  among_either : (b : ℕ) (l m : List (Account T N)) → IsAmong b (l ++ m) → IsAmong b l ⊎ IsAmong b m
+  among_either : (b : ℕ) (l m : List (Member T N)) → IsAmong b (l ++ m) → IsAmong b l ⊎ IsAmong b m
   among_either b [] m is = inr is
   among_either b (c ∷ l) m is = elim is [ inl e ↦ inl (inl e) | inr more ↦ elim (among_either b l m more) [ inl first ↦ inl (inr first) | inr second ↦ inr second ] ]
 
-  distinct_append : (l m : List (Account T N)) → AreDistinct l → AreDistinct m → ((b : ℕ) → IsAmong b l → ¬ IsAmong b m) → AreDistinct (l ++ m)
+  distinct_append : (l m : List (Member T N)) → AreDistinct l → AreDistinct m → ((b : ℕ) → IsAmong b l → ¬ IsAmong b m) → AreDistinct (l ++ m)
   distinct_append [] m first second apart = second
   distinct_append (c ∷ l) m first second apart = (
     (λ is. elim (among_either c.actor l m is) [ inl again ↦ first.0 again | inr other ↦ apart c.actor (inl refl) other ]),
@@ -72,8 +73,8 @@ module _ {T N : Type 0} where
           | inr other ↦ (is.0, elsewhere b is.0 (retired_apart views a b v at live is) other is.1, is.2)
         ]
 
-    all_retired : (l : List (Account T N)) → AllByRecursion (λ (c : Account T N). IsRetired views c.actor) l → AllByRecursion (λ (c : Account T N). IsRetired after_join c.actor) l
-    all_retired l = each_of (λ (c : Account T N). IsRetired views c.actor) (λ (c : Account T N). IsRetired after_join c.actor) l (λ (c : Account T N) r. retired_still c.actor r)
+    all_retired : (l : List (Member T N)) → AllByRecursion (λ (c : Member T N). IsRetired views c.actor) l → AllByRecursion (λ (c : Member T N). IsRetired after_join c.actor) l
+    all_retired l = each_of (λ (c : Member T N). IsRetired views c.actor) (λ (c : Member T N). IsRetired after_join c.actor) l (λ (c : Member T N) r. retired_still c.actor r)
 
     -- whoever was taken in by one of the two is taken in by `a` now
     module _ (parts : both.known.parts ≡ v.known.parts + w.known.parts) (mine : (b : ℕ) → IsAmong b v.known.joined → IsAmong b both.known.joined) (its : (b : ℕ) → 0 < w.known.parts → IsAmong b w.known.joined → IsAmong b both.known.joined) where
@@ -100,8 +101,8 @@ module _ {T N : Type 0} where
                 ]
           ]
 
-      -- `o` has no entries, or its account is in the joined one
-      module _ (places : both.known.places ≡ v.known.places) (first : both.known.first ≡ v.known.first) (seen : both.known.seen ≡ v.known.seen) (accounts : HasAccounts h after_join a both.known) (other : (own_of o h ≡ []) ⊎ IsTakenIn after_join o) (distinct_now : AreDistinct both.known.joined)
+      -- `o` has no entries, or it is a member of the joined one
+      module _ (places : both.known.places ≡ v.known.places) (first : both.known.first ≡ v.known.first) (seen : both.known.seen ≡ v.known.seen) (entries : HasEntries h after_join a both.known) (other : (own_of o h ≡ []) ⊎ IsTakenIn after_join o) (distinct_now : AreDistinct both.known.joined)
           (against : (j : ℕ) (x : Sight T N) → j ≢ a → j ≢ o → get_elem? views j ≡ some x → 0 < x.known.parts → (c : ℕ) → IsAmong c both.known.joined → ¬ IsAmong c x.known.joined) where
         pub told_join : Told n f h after_join
         told_join = record {
@@ -110,12 +111,12 @@ module _ {T N : Type 0} where
           seen =
               let P : List (Entry T N) → Type 0 = λ s. IsPrefix s h
               in which (λ b u. IsPrefix u.known.seen h) (subst P (sym seen) (told.seen a v at)) (h, refl) (λ b u _ _ g. told.seen b u g);
-          accounts =
-              which (λ b u. 0 < u.known.parts → HasAccounts h after_join b u.known)
-              (λ _. accounts)
+          entries =
+              which (λ b u. 0 < u.known.parts → HasEntries h after_join b u.known)
+              (λ _. entries)
               (λ some. absurd (omega arith))
               (λ b u _ _ g some_parts.
-              let old : HasAccounts h views b u.known = told.accounts b u g some_parts
+              let old : HasEntries h views b u.known = told.entries b u g some_parts
               in record { own = old.own; joined = old.joined; retired = all_retired u.known.joined old.retired });
           without =
               which (λ b u. u.known.parts ≡ 0 → (own_of b h ≡ []) ⊎ IsTakenIn after_join b)
@@ -179,34 +180,34 @@ module _ {T N : Type 0} where
         in let L : Stage T N → Type 0 = λ z. Knows n r.history r.queue o w.known z
         in let work : IsAtWork a v.known = subst K idle (r.staged.knows a v at)
         in let other_work : IsAtWork o w.known = subst L other_idle (r.staged.knows o w at_other)
-        in let mine : HasAccounts r.history s.views a v.known = r.told.accounts a v at live
-        in let its : HasAccounts r.history s.views o w.known = r.told.accounts o w at_other other_live
+        in let mine : HasEntries r.history s.views a v.known = r.told.entries a v at live
+        in let its : HasEntries r.history s.views o w.known = r.told.entries o w at_other other_live
         in let own : w.known.own ≡ own_of w.known.actor r.history = its.own ∙ ap (λ (z : ℕ). own_of z r.history) (sym other_work.0)
-        in let E : Account T N → Type 0 = λ c. c.own ≡ own_of c.actor r.history
-        in let G : Account T N → Type 0 = λ c. IsRetired (after_join n f a o v w both r.history s.views at apart at_other live r.told) c.actor
+        in let E : Member T N → Type 0 = λ c. c.own ≡ own_of c.actor r.history
+        in let G : Member T N → Type 0 = λ c. IsRetired (after_join n f a o v w both r.history s.views at apart at_other live r.told) c.actor
         in let retired_o : G (record { actor = w.known.actor; own = w.known.own }) =
         let P : ℕ → Type 0 = λ z. IsRetired (after_join n f a o v w both r.history s.views at apart at_other live r.told) z
         in subst P (sym other_work.0) (gone_retired n f a o v w both r.history s.views at apart at_other live r.told)
-        in let accounts : HasAccounts r.history (after_join n f a o v w both r.history s.views at apart at_other live r.told) a both.known = record {
+        in let entries : HasEntries r.history (after_join n f a o v w both r.history s.views at apart at_other live r.told) a both.known = record {
           own = mine.own;
-          joined = each_append E v.known.joined (accounts_of w.known) mine.joined (own, its.joined);
-          retired = each_append G v.known.joined (accounts_of w.known) (all_retired n f a o v w both r.history s.views at apart at_other live r.told v.known.joined mine.retired) (retired_o, all_retired n f a o v w both r.history s.views at apart at_other live r.told w.known.joined its.retired);
+          joined = each_append E v.known.joined (members_of w.known) mine.joined (own, its.joined);
+          retired = each_append G v.known.joined (members_of w.known) (all_retired n f a o v w both r.history s.views at apart at_other live r.told v.known.joined mine.retired) (retired_o, all_retired n f a o v w both r.history s.views at apart at_other live r.told w.known.joined its.retired);
         }
         in let taken : IsTakenIn (after_join n f a o v w both r.history s.views at apart at_other live r.told) o =
-        (a, both, here n f a o v w both r.history s.views at apart at_other live r.told, omega arith, among_second o v.known.joined (accounts_of w.known) (inl (sym other_work.0)))
+        (a, both, here n f a o v w both r.history s.views at apart at_other live r.told, omega arith, among_second o v.known.joined (members_of w.known) (inl (sym other_work.0)))
         in let apart_from_joined : (b : ℕ) → IsAmong b v.known.joined → b ≢ w.known.actor =
         λ b is e. retired_apart s.views o b w at_other other_live (among_retired s.views b v.known.joined mine.retired is) (e ∙ other_work.0)
-        in let cross : (b : ℕ) → IsAmong b v.known.joined → ¬ IsAmong b (accounts_of w.known) =
+        in let cross : (b : ℕ) → IsAmong b v.known.joined → ¬ IsAmong b (members_of w.known) =
         λ b is more. elim more [ inl e ↦ apart_from_joined b is e | inr others ↦ r.told.once a v at live o w at_other other_live apart b is others ]
         in let distinct_both : AreDistinct both.known.joined =
-        distinct_append v.known.joined (accounts_of w.known) (r.told.distinct a v at live) (accounts_distinct n f o r.history s.views w r.told at_other other_live other_work.0) cross
+        distinct_append v.known.joined (members_of w.known) (r.told.distinct a v at live) (members_distinct n f o r.history s.views w r.told at_other other_live other_work.0) cross
         in let against_both : (j : ℕ) (x : Sight T N) → j ≢ a → j ≢ o → get_elem? s.views j ≡ some x → 0 < x.known.parts → (c : ℕ) → IsAmong c both.known.joined → ¬ IsAmong c x.known.joined =
         λ j x not_a not_o g some_parts c is in_x.
-        elim (among_either c v.known.joined (accounts_of w.known) is) [
+        elim (among_either c v.known.joined (members_of w.known) is) [
           | inl first ↦ r.told.once a v at live j x g some_parts not_a c first in_x
           | inr second ↦
               elim second [
-                | inl e ↦ retired_apart s.views o c w at_other other_live (among_retired s.views c x.known.joined (r.told.accounts j x g some_parts).retired in_x) (e ∙ other_work.0)
+                | inl e ↦ retired_apart s.views o c w at_other other_live (among_retired s.views c x.known.joined (r.told.entries j x g some_parts).retired in_x) (e ∙ other_work.0)
                 | inr others ↦ r.told.once o w at_other other_live j x g some_parts not_o c others in_x
               ]
         ]
@@ -216,7 +217,7 @@ module _ {T N : Type 0} where
           two = r.two;
           stands = r.stands;
           told =
-              told_join n f a o v w both r.history s.views at apart at_other live r.told refl (λ b. among_first b v.known.joined (accounts_of w.known)) (λ b _ is. among_second b v.known.joined (accounts_of w.known) (inr is)) refl refl refl accounts (inr taken) distinct_both against_both;
+              told_join n f a o v w both r.history s.views at apart at_other live r.told refl (λ b. among_first b v.known.joined (members_of w.known)) (λ b _ is. among_second b v.known.joined (members_of w.known) (inr is)) refl refl refl entries (inr taken) distinct_both against_both;
           staged =
               staged_join n f a o v w both r.history s.views at apart at_other live r.told r.queue r.staged idle
               (λ p x is. let wrong : ◌≡◌ {A = Stage T N} Idle (Writing p x) = sym other_idle ∙ is in cc)
@@ -232,8 +233,8 @@ module _ {T N : Type 0} where
         in let at_other : get_elem? s.views o ≡ some w = unjoined both s at apart e
         in let K : Stage T N → Type 0 = λ z. Knows n r.history r.queue a v.known z
         in let work : IsAtWork a v.known = subst K idle (r.staged.knows a v at)
-        in let mine : HasAccounts r.history s.views a v.known = r.told.accounts a v at live
-        in let accounts : HasAccounts r.history (after_join n f a o v w both r.history s.views at apart at_other live r.told) a both.known = record {
+        in let mine : HasEntries r.history s.views a v.known = r.told.entries a v at live
+        in let entries : HasEntries r.history (after_join n f a o v w both r.history s.views at apart at_other live r.told) a both.known = record {
           own = mine.own;
           joined = mine.joined;
           retired = all_retired n f a o v w both r.history s.views at apart at_other live r.told v.known.joined mine.retired;
@@ -247,7 +248,7 @@ module _ {T N : Type 0} where
           two = r.two;
           stands = r.stands;
           told =
-              told_join n f a o v w both r.history s.views at apart at_other live r.told more (λ b is. is) (λ b some _. absurd (omega arith)) refl refl refl accounts
+              told_join n f a o v w both r.history s.views at apart at_other live r.told more (λ b is. is) (λ b some _. absurd (omega arith)) refl refl refl entries
               (elim (r.told.without o w at_other none) [ inl empty ↦ inl empty | inr taken ↦ inr (still o taken) ]) (r.told.distinct a v at live) (λ j x not_a not_o g some_parts c is in_x. r.told.once a v at live j x g some_parts not_a c is in_x);
           staged =
               staged_join n f a o v w both r.history s.views at apart at_other live r.told r.queue r.staged idle

@@ -10,6 +10,7 @@ use Rattle.alog_core.specs.Queue.{Cell, Queue, cell_of, HasCell, IsListed, IsBlo
 use Rattle.alog_core.specs.History.{Entry}
 use Rattle.alog_core.proofs.Cells.{ticket_of_cell}
 use Rattle.alog_core.proofs.Rising.{unlisted_below}
+use Rattle.alog_ring.specs.declared.words.TheConstants.{SEQUENCES, APART}
 use Rattle.alog_ring.specs.Rule.{seq_of, ShowsCell, Shown}
 use Rattle.alog_ring.proofs.Lists.{same_or_not}
 
@@ -64,7 +65,7 @@ module _ {S T N : Type 0} (put : T → S) (spare : ℕ → List (Entry T N) → 
     word_blocked : (p : ℕ) → IsBlocked n p q.cells → (get_or words (seq_of n p) 0 + n ≡ p) ⊎ (get_or words (seq_of n p) 0 + n ≡ p + 1)
     word_blocked p by =
         let place : by.0 % n ≡ p % n = sym (add-mod_right by.0 n) ∙ ap (λ (z : ℕ). z % n) by.1
-        in let same : get_or words (seq_of n by.0) 0 ≡ get_or words (seq_of n p) 0 = ap (λ (z : ℕ). get_or words (z * 8 + 48) 0) place
+        in let same : get_or words (seq_of n by.0) 0 ≡ get_or words (seq_of n p) 0 = ap (λ (z : ℕ). get_or words (z * APART + SEQUENCES) 0) place
         in elim (word_listed by.0 by.2) [ inl e ↦ inl (omega (arith, e, by.1)) | inr e ↦ inr (omega (arith, e, by.1)) ]
 
     -- the place has gone on from a ticket that is no longer listed
@@ -72,7 +73,7 @@ module _ {S T N : Type 0} (put : T → S) (spare : ℕ → List (Entry T N) → 
     passed p low none =
         let on : (t : ℕ) × (q.next ≤ t) × (t < q.next + n) × (t % n ≡ p % n) × (p + n ≤ t) = lap q.next p q.next n (omega arith) low (omega arith)
         in let t : ℕ = on.0
-        in let same : get_or words (seq_of n t) 0 ≡ get_or words (seq_of n p) 0 = ap (λ (z : ℕ). get_or words (z * 8 + 48) 0) on.3
+        in let same : get_or words (seq_of n t) 0 ≡ get_or words (seq_of n p) 0 = ap (λ (z : ℕ). get_or words (z * APART + SEQUENCES) 0) on.3
         in elim (room_or_blocked n t q.cells) [
           | inl room ↦ omega (arith, (shown.free t on.1 on.2 room).0, on.4)
           | inr by ↦

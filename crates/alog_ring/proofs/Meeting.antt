@@ -13,12 +13,16 @@ use Rattle.alog_core.specs.Queue.{Cell, Queue, start, cell_of}
 use Rattle.alog_core.specs.History.{Entry, IsLegal, left_by, own_of, StandsFor}
 use Rattle.alog_core.proofs.Cells.{on_test, at_same}
 use Rattle.alog_core.proofs.Histories.{own_of-append, legal_before}
-use Rattle.alog_ring.specs.Sight.{Account, Known, Stage, Idle, Fresh, Joined, Writing, Reading, Sight, all_parts, IsAmong, AreDistinct, accounts_of}
+use Rattle.alog_ring.specs.declared.words.TheConstants.{NEXT}
+use Rattle.alog_ring.specs.declared.TheConstants.{ALL_PARTS}
+use Rattle.alog_ring.specs.Known.{Member, Known, IsAmong, AreDistinct, members_of}
 use Rattle.alog_ring.specs.Made.{AreExact}
-use Rattle.alog_ring.specs.Rule.{parts_of, IsAtWork, HasAccounts, Knows, Ruled}
-use Rattle.alog_ring.specs.Parts.{having_seen, IsLonger, IsExactIn, gone, was_named, saw_both, saw_all}
+use Rattle.alog_ring.specs.Share.{having_seen, IsLonger}
+use Rattle.alog_ring.specs.Sight.{Stage, Idle, Fresh, Joined, Writing, Reading, Sight}
+use Rattle.alog_ring.specs.Seats.{IsExactIn, gone, was_named, saw_both, saw_all}
+use Rattle.alog_ring.specs.Rule.{parts_of, IsAtWork, HasEntries, Knows, Ruled}
 use Rattle.alog_ring.proofs.Lists.{same_or_not, one_value, prefix_same, prefix_longer, each_of_two, sum_changed, sum_of_two}
-use Rattle.alog_ring.proofs.Telling.{accounts_distinct, grown, told_more}
+use Rattle.alog_ring.proofs.Telling.{members_distinct, grown, told_more}
 use Rattle.alog_ring.proofs.Turning.{IsFree, staged_on}
 use Rattle.alog_ring.proofs.Showing.{shown_on}
 use Rattle.alog_ring.proofs.Looking.{on_mark, has_cell}
@@ -47,7 +51,7 @@ module _ {T N : Type 0} where
         | inr lt ↦ (u, record { one = inl refl; first = prefix_same u; second = prefix_of_longer s u h q p (omega (arith, lt.1)) }, p)
       ]
 
-  -- an account that is exact in a beginning and in the whole is exact between them
+  -- a member that is exact in a beginning and in the whole is exact between them
   between : (a : ℕ) (u p h own : List (Entry T N)) → IsPrefix u p → IsPrefix p h → own ≡ own_of a u → own ≡ own_of a h → own ≡ own_of a p
   between a u p h own first second low high =
       let P : List (Entry T N) = own_of a p
@@ -60,10 +64,10 @@ module _ {T N : Type 0} where
       in let none : Y ≡ [] = no_more Y (omega arith)
       in high ∙ whole ∙ ap (λ l. P ++ l) none ∙ append-nil P
 
-  exact_between : (u s p h : List (Entry T N)) → IsLonger u s p → IsPrefix p h → (l : List (Account T N)) → AreExact l h → AllByRecursion (IsExactIn u s) l → AreExact l p
+  exact_between : (u s p h : List (Entry T N)) → IsLonger u s p → IsPrefix p h → (l : List (Member T N)) → AreExact l h → AllByRecursion (IsExactIn u s) l → AreExact l p
   exact_between u s p h longer below l exact either =
-      each_of_two (λ (c : Account T N). c.own ≡ own_of c.actor h) (IsExactIn u s) (λ (c : Account T N). c.own ≡ own_of c.actor p) l
-      (λ (c : Account T N) high low.
+      each_of_two (λ (c : Member T N). c.own ≡ own_of c.actor h) (IsExactIn u s) (λ (c : Member T N). c.own ≡ own_of c.actor p) l
+      (λ (c : Member T N) high low.
       elim low [
         | inl e ↦ between c.actor u p h c.own longer.first below e high
         | inr e ↦ between c.actor s p h c.own longer.second below e high
@@ -114,16 +118,16 @@ module _ {S T N : Type 0} (kind : PlaceKind S T N) (n f : ℕ) (s : State S (Sig
       in subst Q (sym (r.told.places a v at live)) (subst R (sym (r.told.first a v at live)) (legal_before n f p is.0 (subst P (sym is.1) r.stands.legal)))
 
 module _ {S T N : Type 0} (kind : PlaceKind S T N) (n f slots id : ℕ) (me : Me S (Sight T N)) (live : 0 < me.0.known.parts) where
-  pub names_itself : me.0.stage ≡ Fresh → me.0.known.own ≡ [] → me.0.known.joined ≡ [] → Allows (λ (s : State S (Sight T N)). Ruled kind.put kind.spare n f s) slots id me 16 (λ y. y) (λ y m. was_named me m)
+  pub names_itself : me.0.stage ≡ Fresh → me.0.known.own ≡ [] → me.0.known.joined ≡ [] → Allows (λ (s : State S (Sight T N)). Ruled kind.put kind.spare n f s) slots id me NEXT (λ y. y) (λ y m. was_named me m)
   names_itself fresh none alone s r wide at _ =
       let k : Known T N = me.0.known
       in let k' : Known T N = record { places = k.places; first = k.first; actor = id; parts = k.parts; seen = k.seen; own = k.own; joined = k.joined }
       in let w : Sight T N = record { stage = Idle; known = k' }
       in let F : Stage T N → Type 0 = λ z. IsFree z
       in let free : IsFree me.0.stage = subst F (sym fresh) ((λ p x e. cc), (λ p x e. cc))
-      in let has : HasAccounts r.history s.views id k = r.told.accounts id me.0 at live
+      in let has : HasEntries r.history s.views id k = r.told.entries id me.0 at live
       in let seen : IsPrefix k.seen r.history = r.told.seen id me.0 at
-      in let E : List (Account T N) → Type 0 = λ l. AreExact l k.seen
+      in let E : List (Member T N) → Type 0 = λ l. AreExact l k.seen
       in let whole : own_of id r.history ≡ own_of id k.seen ++ own_of id seen.0 = sym (ap (λ l. own_of id l) seen.1) ∙ own_of-append id k.seen seen.0
       in let count : length (own_of id r.history) ≡ length (own_of id k.seen) + length (own_of id seen.0) = ap length whole ∙ length-append (own_of id k.seen) (own_of id seen.0)
       in let zero_len : length (own_of id r.history) ≡ 0 = ap length (sym has.own ∙ none)
@@ -131,16 +135,16 @@ module _ {S T N : Type 0} (kind : PlaceKind S T N) (n f slots id : ℕ) (me : Me
         w,
         keeps,
         tt,
-        seen_anew kind n f s r id me.0 at live 16 w free refl refl refl refl refl seen (refl, live),
+        seen_anew kind n f s r id me.0 at live NEXT w free refl refl refl refl refl seen (refl, live),
         (
           id,
           refl,
-          record { legal = legal_prefix kind n f s r id me.0 at live k.seen seen; own = none ∙ sym (no_more (own_of id k.seen) (omega arith)); joined = subst E (sym alone) tt; distinct = (let D : List (Account T N) → Type 0 = λ l. AreDistinct (record { actor = id; own = k.own } ∷ l) in subst D (sym alone) ((λ is. is), tt)) },
+          record { legal = legal_prefix kind n f s r id me.0 at live k.seen seen; own = none ∙ sym (no_more (own_of id k.seen) (omega arith)); joined = subst E (sym alone) tt; distinct = (let D : List (Member T N) → Type 0 = λ l. AreDistinct (record { actor = id; own = k.own } ∷ l) in subst D (sym alone) ((λ is. is), tt)) },
           refl,
         ),
       )
 
-  pub sees_both : (t : List (Entry T N)) → me.0.stage ≡ Joined t → Allows (λ (s : State S (Sight T N)). Ruled kind.put kind.spare n f s) slots id me 16 (λ y. y) (λ y m. saw_both t me m)
+  pub sees_both : (t : List (Entry T N)) → me.0.stage ≡ Joined t → Allows (λ (s : State S (Sight T N)). Ruled kind.put kind.spare n f s) slots id me NEXT (λ y. y) (λ y m. saw_both t me m)
   sees_both t stage s r wide at _ =
       let k : Known T N = me.0.known
       in let knows : IsAtWork id k × IsPrefix t r.history = knows_now kind n f s r id me.0 at (Joined t) stage
@@ -149,27 +153,27 @@ module _ {S T N : Type 0} (kind : PlaceKind S T N) (n f slots id : ℕ) (me : Me
       in let w : Sight T N = record { stage = Idle; known = having_seen k h }
       in let F : Stage T N → Type 0 = λ z. IsFree z
       in let free : IsFree me.0.stage = subst F (sym stage) ((λ p x e. cc), (λ p x e. cc))
-      in let has : HasAccounts r.history s.views id k = r.told.accounts id me.0 at live
+      in let has : HasEntries r.history s.views id k = r.told.entries id me.0 at live
       in let own : k.own ≡ own_of k.actor r.history = has.own ∙ ap (λ (z : ℕ). own_of z r.history) (sym knows.0.0)
       in (
         w,
         keeps,
         tt,
-        seen_anew kind n f s r id me.0 at live 16 w free refl refl refl refl refl found.2 knows.0,
+        seen_anew kind n f s r id me.0 at live NEXT w free refl refl refl refl refl found.2 knows.0,
         (
           h,
           found.1,
           refl,
           legal_prefix kind n f s r id me.0 at live h found.2,
-          exact_between k.seen t h r.history found.1 found.2 (accounts_of k) (own, has.joined),
-          accounts_distinct n f id r.history s.views me.0 r.told at live knows.0.0,
+          exact_between k.seen t h r.history found.1 found.2 (members_of k) (own, has.joined),
+          members_distinct n f id r.history s.views me.0 r.told at live knows.0.0,
           (let most : k.parts ≤ sum_by parts_of s.views = has_at_most s.views id me.0 at in omega (arith, r.told.whole)),
           refl,
         ),
       )
 
   -- with all parts the pass is alone
-  module _ (s : State S (Sight T N)) (r : Ruled kind.put kind.spare n f s) (at : get_elem? s.views id ≡ some me.0) (idle : me.0.stage ≡ Idle) (all : me.0.known.parts ≡ all_parts) where
+  module _ (s : State S (Sight T N)) (r : Ruled kind.put kind.spare n f s) (at : get_elem? s.views id ≡ some me.0) (idle : me.0.stage ≡ Idle) (all : me.0.known.parts ≡ ALL_PARTS) where
     others_have_none : (b : ℕ) (u : Sight T N) → b ≢ id → get_elem? s.views b ≡ some u → u.known.parts ≡ 0
     others_have_none b u apart e = let two : parts_of me.0 + parts_of u ≤ sum_by parts_of s.views = sum_of_two parts_of s.views id b me.0 u (gone {T = T} {N = N}) refl at e apart in omega (arith, r.told.whole)
 
@@ -234,13 +238,13 @@ module _ {S T N : Type 0} (kind : PlaceKind S T N) (n f slots id : ℕ) (me : Me
               ]
         ]
 
-  pub sees_all : me.0.stage ≡ Idle → Allows (λ (s : State S (Sight T N)). Ruled kind.put kind.spare n f s) slots id me 16 (λ y. y) (λ y m. saw_all me m)
+  pub sees_all : me.0.stage ≡ Idle → Allows (λ (s : State S (Sight T N)). Ruled kind.put kind.spare n f s) slots id me NEXT (λ y. y) (λ y m. saw_all me m)
   sees_all idle s r wide at _ =
       let k : Known T N = me.0.known
       in let work : IsAtWork id k = knows_now kind n f s r id me.0 at Idle idle
       in let F : Stage T N → Type 0 = λ z. IsFree z
       in let free : IsFree me.0.stage = subst F (sym idle) ((λ p x e. cc), (λ p x e. cc))
-      in let done = looks kind n f s r id me.0 at 16 work free Idle work
+      in let done = looks kind n f s r id me.0 at NEXT work free Idle work
       in let H : List (Entry T N) → Type 0 = λ h. AllByRecursion (λ (x : Entry T N). (x.actor ≡ k.actor) ⊎ IsAmong x.actor k.joined) h
       in let left : left_by (start k.first) (r.history ++ []) ≡ r.queue =
       (λ i. left_by (start (r.told.first id me.0 at live i)) (append-nil r.history i)) ∙ r.stands.queue
@@ -255,6 +259,7 @@ module _ {S T N : Type 0} (kind : PlaceKind S T N) (n f slots id : ℕ) (me : Me
           refl,
           refl,
           λ all. record {
+            faithful = done.1.faithful;
             actors =
                 subst H (sym (append-nil r.history))
                 (all_actors (λ b. (b ≡ k.actor) ⊎ IsAmong b k.joined) r.history

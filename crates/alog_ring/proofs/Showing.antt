@@ -7,6 +7,7 @@ use Rattle.atomic_table.proofs.Lists.{one_turn}
 use Rattle.std.proofs.lemmas.Bool.Decides.{leb_tells}
 use Rattle.alog_core.specs.Queue.{Cell, Queue, last, cell_of, IsRoom, IsSound}
 use Rattle.alog_core.specs.History.{Entry}
+use Rattle.alog_ring.specs.declared.words.TheConstants.{NEXT, FRONT, SEQUENCES, APART}
 use Rattle.alog_ring.specs.Rule.{seq_of, ShowsCell, Shown}
 use Rattle.alog_ring.proofs.Lists.{same_or_not}
 use Rattle.alog_ring.proofs.Turning.{Turn, within}
@@ -29,17 +30,17 @@ far_apart n t u apart a b same =
 module _ {S T N : Type 0} (put : T → S) (spare : ℕ → List (Entry T N) → ℕ → S) where
   pub shown_turn : (n a t : ℕ) (q r : Queue T) (h h' : List (Entry T N)) (words words' : List ℕ) (homes homes' : List (Option S))
       → IsSound n r → Turn n a t q r → t < r.next → Shown put spare n h q words homes
-      → length words' ≡ length words → length homes' ≡ length homes → get_or words' 16 0 ≡ r.next → get_or words' 32 0 ≡ r.front → r.next ≤ last
-      → ((i : ℕ) → i ≢ t % n → get_or words' (i * 8 + 48) 0 ≡ get_or words (i * 8 + 48) 0) → ((i : ℕ) → i ≢ t % n → get_elem? homes' i ≡ get_elem? homes i)
+      → length words' ≡ length words → length homes' ≡ length homes → get_or words' NEXT 0 ≡ r.next → get_or words' FRONT 0 ≡ r.front → r.next ≤ last
+      → ((i : ℕ) → i ≢ t % n → get_or words' (i * APART + SEQUENCES) 0 ≡ get_or words (i * APART + SEQUENCES) 0) → ((i : ℕ) → i ≢ t % n → get_elem? homes' i ≡ get_elem? homes i)
       → ((c : Cell T) → cell_of t r.cells ≡ Some c → ShowsCell put spare t (get_or words' (seq_of n t) 0) (get_elem? homes' (t % n)) c.item c.mark)
       → (cell_of t r.cells ≡ None → (get_or words' (seq_of n t) 0 ≡ t + n) × (get_elem? homes' (t % n) ≡ some (some (spare n h' (t + n)))))
       → ((u : ℕ) → u ≢ t + n → spare n h' u ≡ spare n h u)
       → Shown put spare n h' r words' homes'
-  shown_turn n a t q r h h' words words' homes homes' sound turn below shown wide places tail head bounded words_else homes_else cell_here free_here spare_else = record {
+  shown_turn n a t q r h h' words words' homes homes' sound turn below shown wide places at_next at_front bounded words_else homes_else cell_here free_here spare_else = record {
     wide = wide ∙ shown.wide;
     places = places ∙ shown.places;
-    tail = tail;
-    head = head;
+    next = at_next;
+    front = at_front;
     bounded = bounded;
     cells =
         λ u c is.
@@ -62,7 +63,7 @@ module _ {S T N : Type 0} (put : T → S) (spare : ℕ → List (Entry T N) → 
               let now : (get_or words' (seq_of n t) 0 ≡ t + n) × (get_elem? homes' (t % n) ≡ some (some (spare n h' (t + n)))) = free_here (room t (sym same))
               in let place : u % n ≡ t % n = ap (λ (z : ℕ). z % n) same ∙ add-mod_right t n
               in (
-                ap (λ (z : ℕ). get_or words' (z * 8 + 48) 0) place ∙ now.0 ∙ sym same,
+                ap (λ (z : ℕ). get_or words' (z * APART + SEQUENCES) 0) place ∙ now.0 ∙ sym same,
                 ap (λ (z : ℕ). get_elem? homes' z) place ∙ now.1 ∙ ap (λ (z : ℕ). some (some (spare n h' z))) (sym same),
               )
           | inr other ↦
@@ -79,8 +80,8 @@ module _ {S T N : Type 0} (put : T → S) (spare : ℕ → List (Entry T N) → 
   shown_on n q h h' words homes same shown = record {
     wide = shown.wide;
     places = shown.places;
-    tail = shown.tail;
-    head = shown.head;
+    next = shown.next;
+    front = shown.front;
     bounded = shown.bounded;
     cells = shown.cells;
     free = λ u from to room. let old = shown.free u from to room in (old.0, old.1 ∙ ap (λ (z : S). some (some z)) (sym (same u)));

@@ -9,9 +9,10 @@ use Rattle.atomic_table.specs.Table.{State, Splits}
 use Rattle.atomic_table.proofs.Lists.{at_set, set_else, set_here, at_longer}
 use Rattle.alog_core.specs.Queue.{HasCell}
 use Rattle.alog_core.specs.History.{Entry, own_of}
-use Rattle.alog_ring.specs.Sight.{Account, Stage, Idle, Fresh, Lent, Writing, Reading, Sight, IsAmong, AreDistinct}
-use Rattle.alog_ring.specs.Rule.{parts_of, IsAtWork, IsRetired, IsTakenIn, HasAccounts, Knows, Told, Staged, Ruled}
-use Rattle.alog_ring.specs.Parts.{with_fewer, apart_from}
+use Rattle.alog_ring.specs.Known.{Member, IsAmong, AreDistinct}
+use Rattle.alog_ring.specs.Share.{with_fewer, apart_from}
+use Rattle.alog_ring.specs.Sight.{Stage, Idle, Fresh, Lent, Writing, Reading, Sight}
+use Rattle.alog_ring.specs.Rule.{parts_of, IsAtWork, IsRetired, IsTakenIn, HasEntries, Knows, Told, Staged, Ruled}
 use Rattle.alog_ring.proofs.Lists.{same_or_not, inside, one_value, each_of, sum_changed, sum_with_last}
 use Rattle.alog_ring.proofs.Telling.{retired_apart}
 
@@ -60,8 +61,8 @@ module _ {T N : Type 0} (n f a : ℕ) (v : Sight T N) (parts : ℕ) (stage : Sta
     retired_still : (b : ℕ) → IsRetired views b → IsRetired after_split b
     retired_still b gone = (gone.0, elsewhere b gone.0 (retired_apart views a b v at live gone) gone.1, gone.2)
 
-    all_retired : (l : List (Account T N)) → AllByRecursion (λ (c : Account T N). IsRetired views c.actor) l → AllByRecursion (λ (c : Account T N). IsRetired after_split c.actor) l
-    all_retired l = each_of (λ (c : Account T N). IsRetired views c.actor) (λ (c : Account T N). IsRetired after_split c.actor) l (λ (c : Account T N) r. retired_still c.actor r)
+    all_retired : (l : List (Member T N)) → AllByRecursion (λ (c : Member T N). IsRetired views c.actor) l → AllByRecursion (λ (c : Member T N). IsRetired after_split c.actor) l
+    all_retired l = each_of (λ (c : Member T N). IsRetired views c.actor) (λ (c : Member T N). IsRetired after_split c.actor) l (λ (c : Member T N) r. retired_still c.actor r)
 
     taken_still : (b : ℕ) → IsTakenIn views b → IsTakenIn after_split b
     taken_still b by =
@@ -83,17 +84,17 @@ module _ {T N : Type 0} (n f a : ℕ) (v : Sight T N) (parts : ℕ) (stage : Sta
 
     pub told_split : Told n f h views → Told n f h after_split
     told_split told =
-        let has : HasAccounts h views a v.known = told.accounts a v at live
+        let has : HasEntries h views a v.known = told.entries a v at live
         in record {
           places = which (λ b u. 0 < u.known.parts → u.known.places ≡ n) (λ _. told.places a v at live) (λ _. told.places a v at live) (λ b u _ g. told.places b u g);
           first = which (λ b u. 0 < u.known.parts → u.known.first ≡ f) (λ _. told.first a v at live) (λ _. told.first a v at live) (λ b u _ g. told.first b u g);
           seen = which (λ b u. IsPrefix u.known.seen h) (told.seen a v at) (told.seen a v at) (λ b u _ g. told.seen b u g);
-          accounts =
-              which (λ b u. 0 < u.known.parts → HasAccounts h after_split b u.known)
+          entries =
+              which (λ b u. 0 < u.known.parts → HasEntries h after_split b u.known)
               (λ _. record { own = has.own; joined = has.joined; retired = all_retired v.known.joined has.retired })
               (λ _. record { own = sym (told.unborn (length views) (omega arith)); joined = tt; retired = tt })
               (λ b u _ g some_parts.
-              let old : HasAccounts h views b u.known = told.accounts b u g some_parts
+              let old : HasEntries h views b u.known = told.entries b u g some_parts
               in record { own = old.own; joined = old.joined; retired = all_retired u.known.joined old.retired });
           without =
               which (λ b u. u.known.parts ≡ 0 → (own_of b h ≡ []) ⊎ IsTakenIn after_split b)

@@ -10,27 +10,15 @@ use lib.ListN.{get_elem?}
 use Rattle.atomic_table.specs.Table.{opening}
 use Rattle.alog_core.specs.Queue.{last, start}
 use Rattle.alog_core.proofs.Histories.{stands_start}
-use Rattle.alog_ring.specs.Sight.{Sight, first_sight, AreDistinct}
-use Rattle.alog_ring.specs.Rule.{seq_of, word_count, Knows, HasAccounts, Ruled}
+use Rattle.alog_ring.specs.Known.{AreDistinct}
 use Rattle.alog_ring.specs.Kinds.{no_note, some_value, no_value}
-use Rattle.alog_ring.specs.Calls.{AreFirstWords, Masks}
+use Rattle.alog_ring.specs.Sight.{Sight, first_sight}
+use Rattle.alog_ring.specs.Rule.{seq_of, word_count, Knows, HasEntries, Ruled}
+use Rattle.alog_ring.specs.Board.{AreFirstWords, Masks}
 use Rattle.alog_ring.proofs.Lists.{same_or_not, prefix_same}
 use Rattle.alog_ring.proofs.Showing.{near_apart}
 
--- the least power of two from a power of two on is that one
-pub next_is_itself : (n p : ℕ) → IsPowerOfTwo n → IsPowerOfTwo p → n ≤ p → p / 2 < max 1 n → p ≡ n
-next_is_itself n p power other above half =
-    let k : ℕ = power.0
-    in let j : ℕ = other.0
-    in let positive : 1 ≤ 2 ^ k = one-le-pow k 2 (omega arith)
-    in elim (leb_tells j k) [
-      | inl le ↦ let small : 2 ^ j ≤ 2 ^ k = pow-le-pow_right (omega arith) le.1 in omega (arith, power.1, other.1)
-      | inr lt ↦
-          let big : 2 ^ (k + 1) ≤ 2 ^ j = pow-le-pow_right (omega arith) (omega (arith, lt.1))
-          in let twice : 2 ^ (k + 1) ≡ 2 ^ k * 2 = pow_more 2 k
-          in absurd (omega (arith, power.1, other.1))
-    ]
-
+-- what the mask of a power of two keeps is the remainder
 pub masks : (n mask : ℕ) → IsPowerOfTwo n → mask ≡ n - 1 → n ≡ mask + 1 → Masks mask
 masks n mask power is up t =
     let P : ℕ → ℕ → Type 0 = λ m k. bit_and t m ≡ t % k
@@ -75,7 +63,7 @@ starts {T} n f words two low are =
         places = λ a v e _. ap (λ (x : Sight T no_note). x.known.places) (sym (one a v e).1);
         first = λ a v e _. ap (λ (x : Sight T no_note). x.known.first) (sym (one a v e).1);
         seen = λ a v e. let P : Sight T no_note → Type 0 = λ x. mathlib.Core.List.IsPrefix x.known.seen [] in subst P (one a v e).1 (prefix_same []);
-        accounts = λ a v e _. let P : Sight T no_note → Type 0 = λ x. HasAccounts [] (first_sight n f ∷ []) a x.known in subst P (one a v e).1 (record { own = refl; joined = tt; retired = tt });
+        entries = λ a v e _. let P : Sight T no_note → Type 0 = λ x. HasEntries [] (first_sight n f ∷ []) a x.known in subst P (one a v e).1 (record { own = refl; joined = tt; retired = tt });
         without = λ a v e _. inl refl;
         distinct = λ a v e _. let P : Sight T no_note → Type 0 = λ x. AreDistinct x.known.joined in subst P (one a v e).1 tt;
         once = λ a v e _ b w g _ apart c _ _. apart ((one b w g).0 ∙ sym (one a v e).0);
@@ -93,8 +81,8 @@ starts {T} n f words two low are =
       shown = record {
         wide = are.count;
         places = all_places None n;
-        tail = are.tail;
-        head = are.head;
+        next = are.next;
+        front = are.front;
         bounded = omega arith;
         cells = λ t c has. absurd (cc);
         free = λ t from to _. (are.sequences t from to, same_place None n (t % n) (mod-lt t (let some : 0 < n = omega arith in some)));

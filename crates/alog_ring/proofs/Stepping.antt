@@ -10,12 +10,11 @@ use Rattle.alog_core.specs.Queue.{Queue, Event, Claim, Write, Grab, Take, Full, 
 use Rattle.alog_core.specs.History.{Entry, IsLegal, left_by, own_of, StandsFor}
 use Rattle.alog_core.proofs.Cells.{at_same, at_other}
 use Rattle.alog_core.proofs.Histories.{left_by-append, stands_after, stands_sound}
+use Rattle.alog_ring.specs.Made.{AreExact, Made, next_seen, front_seen, entry, Adds}
 use Rattle.alog_ring.specs.Sight.{Stage, Idle, Sight}
-use Rattle.alog_ring.specs.Made.{AreExact, Made, next_seen, front_seen}
 use Rattle.alog_ring.specs.Rule.{IsAtWork, Knows, Staged, Shown, Ruled}
-use Rattle.alog_ring.specs.Plays.{entry, Adds}
 use Rattle.alog_ring.proofs.Lists.{prefix_longer}
-use Rattle.alog_ring.proofs.Telling.{AreOf, grown, grows_now, faithful_now, told_more, accounts_distinct}
+use Rattle.alog_ring.proofs.Telling.{AreOf, grown, grows_now, faithful_now, told_more, members_distinct}
 use Rattle.alog_ring.proofs.Turning.{IsFree, staged_on}
 use Rattle.alog_ring.proofs.Showing.{shown_on}
 
@@ -99,7 +98,7 @@ module _ {S T N : Type 0} (kind : PlaceKind S T N) (n f : ℕ) (s : State S (Sig
             legal = subst P (sym (r.told.places a v at work.1)) (subst Q (sym (r.told.first a v at work.1)) stands.legal);
             own = subst R (sym work.0) now.0;
             joined = now.1;
-            distinct = accounts_distinct n f a r.history s.views v r.told at work.1 work.0;
+            distinct = members_distinct n f a r.history s.views v r.told at work.1 work.0;
           };
         }
 

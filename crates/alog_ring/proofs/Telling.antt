@@ -8,9 +8,10 @@ use lib.ListN.{get_elem?}
 use Rattle.atomic_table.proofs.Lists.{at_set, set_else, set_here}
 use Rattle.alog_core.specs.History.{Entry, own_of}
 use Rattle.alog_core.proofs.Histories.{own_of-append}
-use Rattle.alog_ring.specs.Sight.{Account, Known, Sight, IsAmong, AreDistinct, accounts_of}
+use Rattle.alog_ring.specs.Known.{Member, Known, IsAmong, AreDistinct, members_of}
 use Rattle.alog_ring.specs.Made.{AreExact}
-use Rattle.alog_ring.specs.Rule.{parts_of, IsRetired, IsTakenIn, HasAccounts, Told}
+use Rattle.alog_ring.specs.Sight.{Sight}
+use Rattle.alog_ring.specs.Rule.{parts_of, IsRetired, IsTakenIn, HasEntries, Told}
 use Rattle.alog_ring.proofs.Lists.{same_or_not, inside, one_value, prefix_same, prefix_longer, each_of, each_of_two, sum_changed}
 
 module _ {T N : Type 0} where
@@ -30,38 +31,38 @@ module _ {T N : Type 0} where
       in let e : gone.0.known.parts ≡ v.known.parts = ap (λ (x : Sight T N). x.known.parts) one
       in omega (arith, gone.2)
 
-  -- who has an account among retired seats is retired
-  pub among_retired : (views : List (Sight T N)) (b : ℕ) (l : List (Account T N)) → AllByRecursion (λ (c : Account T N). IsRetired views c.actor) l → IsAmong b l → IsRetired views b
+  -- who is a member among retired seats is retired
+  pub among_retired : (views : List (Sight T N)) (b : ℕ) (l : List (Member T N)) → AllByRecursion (λ (c : Member T N). IsRetired views c.actor) l → IsAmong b l → IsRetired views b
   among_retired views b [] all is = absurd is
   among_retired views b (c ∷ cs) all is =
       let P : ℕ → Type 0 = λ z. IsRetired views z
       in elim is [ inl e ↦ subst P (sym e) all.0 | inr more ↦ among_retired views b cs all.1 more ]
 
   -- a pass and those joined into it are each another actor
-  pub accounts_distinct : (n f a : ℕ) (h : List (Entry T N)) (views : List (Sight T N)) (v : Sight T N) → Told n f h views → get_elem? views a ≡ some v → 0 < v.known.parts → v.known.actor ≡ a → AreDistinct (accounts_of v.known)
-  accounts_distinct n f a h views v told at live named =
-      ((λ is. retired_apart views a v.known.actor v at live (among_retired views v.known.actor v.known.joined (told.accounts a v at live).retired is) named), told.distinct a v at live)
+  pub members_distinct : (n f a : ℕ) (h : List (Entry T N)) (views : List (Sight T N)) (v : Sight T N) → Told n f h views → get_elem? views a ≡ some v → 0 < v.known.parts → v.known.actor ≡ a → AreDistinct (members_of v.known)
+  members_distinct n f a h views v told at live named =
+      ((λ is. retired_apart views a v.known.actor v at live (among_retired views v.known.actor v.known.joined (told.entries a v at live).retired is) named), told.distinct a v at live)
 
   module _ (views : List (Sight T N)) (a : ℕ) (v w : Sight T N) (at : get_elem? views a ≡ some v) (live : 0 < v.known.parts) where
     pub still_retired : (b : ℕ) → IsRetired views b → IsRetired (set views a w) b
     still_retired b gone =
         (gone.0, set_else views a b w (retired_apart views a b v at live gone) ∙ gone.1, gone.2)
 
-    exact_longer : (h more : List (Entry T N)) (accounts : List (Account T N)) → AreOf a more → AllByRecursion (λ (c : Account T N). IsRetired views c.actor) accounts → AreExact accounts h → AreExact accounts (h ++ more)
-    exact_longer h more accounts of gone exact =
-        each_of_two (λ (c : Account T N). c.own ≡ own_of c.actor h) (λ (c : Account T N). IsRetired views c.actor) (λ (c : Account T N). c.own ≡ own_of c.actor (h ++ more)) accounts
-        (λ (c : Account T N) e r. e ∙ sym (others_keep a c.actor h more of (retired_apart views a c.actor v at live r))) exact gone
+    exact_longer : (h more : List (Entry T N)) (members : List (Member T N)) → AreOf a more → AllByRecursion (λ (c : Member T N). IsRetired views c.actor) members → AreExact members h → AreExact members (h ++ more)
+    exact_longer h more members of gone exact =
+        each_of_two (λ (c : Member T N). c.own ≡ own_of c.actor h) (λ (c : Member T N). IsRetired views c.actor) (λ (c : Member T N). c.own ≡ own_of c.actor (h ++ more)) members
+        (λ (c : Member T N) e r. e ∙ sym (others_keep a c.actor h more of (retired_apart views a c.actor v at live r))) exact gone
 
-    accounts_longer : (h more : List (Entry T N)) (b : ℕ) (k : Known T N) → AreOf a more → b ≢ a → HasAccounts h views b k → HasAccounts (h ++ more) (set views a w) b k
-    accounts_longer h more b k of apart has = record {
+    entries_longer : (h more : List (Entry T N)) (b : ℕ) (k : Known T N) → AreOf a more → b ≢ a → HasEntries h views b k → HasEntries (h ++ more) (set views a w) b k
+    entries_longer h more b k of apart has = record {
       own = has.own ∙ sym (others_keep a b h more of apart);
       joined = exact_longer h more k.joined of has.retired has.joined;
-      retired = each_of (λ (c : Account T N). IsRetired views c.actor) (λ (c : Account T N). IsRetired (set views a w) c.actor) k.joined (λ (c : Account T N) r. still_retired c.actor r) has.retired;
+      retired = each_of (λ (c : Member T N). IsRetired views c.actor) (λ (c : Member T N). IsRetired (set views a w) c.actor) k.joined (λ (c : Member T N) r. still_retired c.actor r) has.retired;
     }
 
     still_taken_in : (b : ℕ) → w.known.parts ≡ v.known.parts → w.known.joined ≡ v.known.joined → IsTakenIn views b → IsTakenIn (set views a w) b
     still_taken_in b parts joined by =
-        let P : List (Account T N) → Type 0 = λ l. IsAmong b l
+        let P : List (Member T N) → Type 0 = λ l. IsAmong b l
         in let here : get_elem? (set views a w) a ≡ some w = set_here views a w (inside views a v at)
         in elim (same_or_not by.0 a) [
           | inl same ↦
@@ -81,15 +82,15 @@ module _ {T N : Type 0} where
     pub seen : IsPrefix w.seen (h ++ more)
 
   module _ (n f a : ℕ) (h more : List (Entry T N)) (views : List (Sight T N)) (v w : Sight T N) (told : Told n f h views) (at : get_elem? views a ≡ some v) (live : 0 < v.known.parts) (of : AreOf a more) (grows : Grows a v.known w.known h more) where
-    own_accounts : HasAccounts (h ++ more) (set views a w) a w.known
-    own_accounts =
-        let has : HasAccounts h views a v.known = told.accounts a v at live
-        in let E : List (Account T N) → Type 0 = λ l. AreExact l (h ++ more)
-        in let R : List (Account T N) → Type 0 = λ l. AllByRecursion (λ (c : Account T N). IsRetired (set views a w) c.actor) l
+    own_entries : HasEntries (h ++ more) (set views a w) a w.known
+    own_entries =
+        let has : HasEntries h views a v.known = told.entries a v at live
+        in let E : List (Member T N) → Type 0 = λ l. AreExact l (h ++ more)
+        in let R : List (Member T N) → Type 0 = λ l. AllByRecursion (λ (c : Member T N). IsRetired (set views a w) c.actor) l
         in record {
           own = grows.own ∙ (λ i. has.own i ++ sym of.all i) ∙ sym (own_of-append a h more);
           joined = subst E (sym grows.joined) (exact_longer views a v w at live h more v.known.joined of has.retired has.joined);
-          retired = subst R (sym grows.joined) (each_of (λ (c : Account T N). IsRetired views c.actor) (λ (c : Account T N). IsRetired (set views a w) c.actor) v.known.joined (λ (c : Account T N) r. still_retired views a v w at live c.actor r) has.retired);
+          retired = subst R (sym grows.joined) (each_of (λ (c : Member T N). IsRetired views c.actor) (λ (c : Member T N). IsRetired (set views a w) c.actor) v.known.joined (λ (c : Member T N) r. still_retired views a v w at live c.actor r) has.retired);
         }
 
     pub told_more : Told n f (h ++ more) (set views a w)
@@ -97,14 +98,14 @@ module _ {T N : Type 0} where
       places = λ b u e. view_is b u e (λ x. 0 < x.known.parts → x.known.places ≡ n) (λ _. grows.places ∙ told.places a v at live) (λ _ g. told.places b u g);
       first = λ b u e. view_is b u e (λ x. 0 < x.known.parts → x.known.first ≡ f) (λ _. grows.first ∙ told.first a v at live) (λ _ g. told.first b u g);
       seen = λ b u e. view_is b u e (λ x. IsPrefix x.known.seen (h ++ more)) grows.seen (λ _ g. prefix_longer u.known.seen h more (told.seen b u g));
-      accounts =
+      entries =
           λ b u e some_parts.
           elim (at_set views a b w u e) [
             | inl same ↦
-                let H : Sight T N → Type 0 = λ x. HasAccounts (h ++ more) (set views a w) a x.known
-                in let G : ℕ → Type 0 = λ c. HasAccounts (h ++ more) (set views a w) c u.known
-                in subst G (sym same.0) (subst H same.1 own_accounts)
-            | inr other ↦ accounts_longer views a v w at live h more b u.known of other.0 (told.accounts b u other.1 some_parts)
+                let H : Sight T N → Type 0 = λ x. HasEntries (h ++ more) (set views a w) a x.known
+                in let G : ℕ → Type 0 = λ c. HasEntries (h ++ more) (set views a w) c u.known
+                in subst G (sym same.0) (subst H same.1 own_entries)
+            | inr other ↦ entries_longer views a v w at live h more b u.known of other.0 (told.entries b u other.1 some_parts)
           ];
       without =
           λ b u e none.
@@ -116,7 +117,7 @@ module _ {T N : Type 0} where
                   | inr taken ↦ inr (still_taken_in views a v w at live b grows.parts grows.joined taken)
                 ]
           ];
-      distinct = λ b u e. view_is b u e (λ x. 0 < x.known.parts → AreDistinct x.known.joined) (λ _. let P : List (Account T N) → Type 0 = λ l. AreDistinct l in subst P (sym grows.joined) (told.distinct a v at live)) (λ _ g. told.distinct b u g);
+      distinct = λ b u e. view_is b u e (λ x. 0 < x.known.parts → AreDistinct x.known.joined) (λ _. let P : List (Member T N) → Type 0 = λ l. AreDistinct l in subst P (sym grows.joined) (told.distinct a v at live)) (λ _ g. told.distinct b u g);
       once =
           λ b u e some_u j x g some_x apart c in_u in_x.
           let p = came b u e c in_u some_u
@@ -135,7 +136,7 @@ module _ {T N : Type 0} where
             elim (at_set views a b w u e) [
               | inl same ↦
                   let G : ℕ → Type 0 = λ z. get_elem? views z ≡ some v
-                  in let P : List (Account T N) → Type 0 = λ l. IsAmong c l
+                  in let P : List (Member T N) → Type 0 = λ l. IsAmong c l
                   in (v, subst G (sym same.0) at, live, subst P (sym (ap (λ (z : Sight T N). z.known.joined) same.1) ∙ grows.joined) is)
               | inr other ↦ (u, other.1, some_parts, is)
             ]
@@ -161,5 +162,5 @@ module _ {T N : Type 0} where
   pub faithful_now : (n f a : ℕ) (h more : List (Entry T N)) (views : List (Sight T N)) (v : Sight T N) → Told n f h views → get_elem? views a ≡ some v → 0 < v.known.parts → AreOf a more
       → (v.known.own ++ more ≡ own_of a (h ++ more)) × AreExact v.known.joined (h ++ more)
   faithful_now n f a h more views v told at live of =
-      let has : HasAccounts h views a v.known = told.accounts a v at live
+      let has : HasEntries h views a v.known = told.entries a v at live
       in ((λ i. has.own i ++ sym of.all i) ∙ sym (own_of-append a h more), exact_longer views a v v at live h more v.known.joined of has.retired has.joined)

@@ -9,7 +9,8 @@ use Rattle.alog_core.specs.History.{Entry}
 use Rattle.alog_core.proofs.Cells.{cell_of-append_other, cell_of-marked_other, cell_of-without_other}
 use Rattle.alog_core.proofs.Rising.{listed_within}
 use Rattle.alog_core.proofs.Sound.{next_is_unlisted}
-use Rattle.alog_ring.specs.Sight.{Known, Stage, Idle, Fresh, SawTail, SawFree, Writing, SawHead, SawFull, Reading, Joined, Lent, Gone, Sight}
+use Rattle.alog_ring.specs.Known.{Known}
+use Rattle.alog_ring.specs.Sight.{Stage, Idle, Fresh, SawNext, SawFree, Writing, SawFront, SawFull, Reading, Joined, Lent, Gone, Sight}
 use Rattle.alog_ring.specs.Rule.{Knows, Staged}
 use Rattle.alog_ring.proofs.Lists.{same_or_not, inside, one_value, prefix_longer}
 
@@ -120,10 +121,10 @@ module _ {T N : Type 0} (n a t : ℕ) (q r : Queue T) (turn : Turn n a t q r) (h
   knows_on : (j : ℕ) (k : Known T N) (s : Stage T N) → j ≢ a → Knows n h q j k s → Knows n (h ++ more) r j k s
   knows_on j k Idle other is = is
   knows_on j k Fresh other is = tt
-  knows_on j k (SawTail p) other is = (is.0, elim turn.next [ inl e ↦ omega (arith, is.1) | inr e ↦ omega (arith, is.1, e.0) ])
+  knows_on j k (SawNext p) other is = (is.0, elim turn.next [ inl e ↦ omega (arith, is.1) | inr e ↦ omega (arith, is.1, e.0) ])
   knows_on j k (SawFree p) other is = (is.0, elim turn.next [ inl e ↦ omega (arith, is.1) | inr e ↦ omega (arith, is.1, e.0) ], turn.room p is.1 is.2)
   knows_on j k (Writing p x) other is = (is.0, turn.others p (turn.writers p x j other is.1) ∙ is.1)
-  knows_on j k (SawHead p) other is = (is.0, omega (arith, is.1, turn.front))
+  knows_on j k (SawFront p) other is = (is.0, omega (arith, is.1, turn.front))
   knows_on j k (SawFull p) other is = (
     is.0,
     omega (arith, is.1, turn.front),

@@ -1,6 +1,6 @@
 -- A round that was busy, and the next one.
 use Rattle.std.proofs.Common.{◌≡◌, ℕ}
-use Rattle.alog_ring.specs.Sight.{Known}
+use Rattle.alog_ring.specs.Known.{Known}
 use Rattle.alog_ring.specs.Kinds.{no_note}
 use Rattle.alog_ring.specs.Refused.{PushRefused, PopRefused}
 use Rattle.alog_ring.specs.Waits.{BusyPushes, BusyPops}

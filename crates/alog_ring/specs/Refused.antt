@@ -1,9 +1,9 @@
 -- What a refusal of a push and of a pop says: its ticket was read in this round, and it is the pass's one entry.
 use Rattle.std.specs.Prelude.{◌≡◌, ◌≤◌}
 use Rattle.alog_core.specs.Queue as queue
-use Rattle.alog_ring.specs.Sight.{Known}
-use Rattle.alog_ring.specs.Made.{next_seen, front_seen}
+use Rattle.alog_ring.specs.Known.{Known}
 use Rattle.alog_ring.specs.Kinds.{no_note}
+use Rattle.alog_ring.specs.Made.{next_seen, front_seen}
 use Rattle.alog_ring.specs.Calls.{Answered}
 use Rattle.alog_ring.specs.declared.push.PushError.{PushError}
 use Rattle.alog_ring.specs.declared.push.PushError.TheVariants.{Full, Busy, Spent}

@@ -1,9 +1,9 @@
 -- Calls that begin again while another is in the way.
 use Rattle.std.specs.Prelude.{ℕ, ◌≤◌}
 use Rattle.alog_core.specs.Queue as queue
-use Rattle.alog_ring.specs.Sight.{Known}
-use Rattle.alog_ring.specs.Made.{next_seen, front_seen}
+use Rattle.alog_ring.specs.Known.{Known}
 use Rattle.alog_ring.specs.Kinds.{no_note}
+use Rattle.alog_ring.specs.Made.{next_seen, front_seen}
 use Rattle.alog_ring.specs.Calls.{Answered, Pushed, Popped}
 use Rattle.alog_ring.specs.Refused.{PushRefused, PopRefused}
 use Rattle.alog_ring.specs.declared.push.PushError.{PushError}

@@ -23,9 +23,13 @@ mod share;
 mod tests;
 mod view;
 mod wait;
+mod words;
 
 pub use close::PassesOut;
 pub use pass::Pass;
 pub use pop::PopError;
 pub use push::PushError;
 pub use ring::{NewError, Ring};
+
+/// The parts of a ring, which its first pass has. Passes share them: who has them all is alone.
+pub const ALL_PARTS: u64 = 1 << 32;

@@ -1,6 +1,7 @@
 //! Pops.
 ghost use Rattle.std.specs.Prelude.{◌≡◌, IfOk, IfErr};
-ghost use Rattle.alog_ring.specs.Calls.{IsPassOf, Popped};
+ghost use Rattle.alog_ring.specs.Known.{IsPassOf};
+ghost use Rattle.alog_ring.specs.Calls.{Popped};
 ghost use Rattle.alog_ring.specs.Refused.{PopRefused};
 
 use crate::pass::Pass;
@@ -27,7 +28,7 @@ impl<T> Ring<T> {
         ensures refused { IfErr result (λ e. PopRefused pass.old.known pass.new.known e) }
     {
         let seat = &mut pass.seat;
-        let next = self.board.see_head(seat);
+        let next = self.board.see_front(seat);
         let sequence = self.board.see_full(seat, next);
         if sequence < next + 1 {
             return Err(PopError::Empty { next });

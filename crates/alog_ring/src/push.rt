@@ -1,11 +1,12 @@
 //! Pushes.
 ghost use Rattle.std.specs.Prelude.{◌≡◌, IfOk, IfErr};
-ghost use Rattle.alog_ring.specs.Calls.{IsPassOf, Pushed};
+ghost use Rattle.alog_ring.specs.Known.{IsPassOf};
+ghost use Rattle.alog_ring.specs.Calls.{Pushed};
 ghost use Rattle.alog_ring.specs.Refused.{PushRefused};
 
-use crate::board::LAST;
 use crate::pass::Pass;
 use crate::ring::Ring;
+use alog_core::LAST_TICKET;
 use thiserror::Error;
 
 /// Why a push did not go through. The value comes back.
@@ -31,8 +32,8 @@ impl<T> Ring<T> {
         ensures refused { IfErr result (λ e. PushRefused pass.old.known pass.new.known value e) }
     {
         let seat = &mut pass.seat;
-        let next = self.board.see_tail(seat);
-        if next == LAST {
+        let next = self.board.see_next(seat);
+        if next == LAST_TICKET {
             return Err(PushError::Spent { value });
         }
         let sequence = self.board.see_free(seat, next);

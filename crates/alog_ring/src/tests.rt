@@ -1,4 +1,5 @@
-ghost use Rattle.alog_ring.specs.Calls.{IsPassOf};
+ghost use Rattle.std.specs.Prelude.{◌≡◌, [], ◌∷◌, IfSome};
+ghost use Rattle.alog_ring.specs.Known.{IsPassOf};
 
 use super::*;
 use std::alloc::{AllocError, Global};
@@ -72,6 +73,45 @@ fn the_last_ticket_of_all(rt: HostRuntime) -> Result<(), Fail> {
         ring.pop(&rt, &mut pass),
         Err(PopError::Empty { next: 1 << 62 })
     );
+    Ok(())
+}
+
+// A ring that is made and closed: nothing is left in it.
+fn made_and_closed(alloc: Global, places: usize, first: u64) -> Option<Vec<(u64, u64)>>
+    ensures { IfSome result (λ left. left.items ≡ []) }
+{
+    let Ok((ring, pass)) = Ring::<u64>::new(alloc, places, first) else {
+        return None;
+    };
+    let Ok(left) = ring.close(pass) else {
+        unreachable!()
+    };
+    Some(left)
+}
+
+// A ring into which a lone pass pushes one value: the push goes through, and exactly that value is left.
+fn one_value_left(alloc: Global, places: usize, first: u64, value: u64) -> Option<Vec<(u64, u64)>>
+    ensures { IfSome result (λ left. left.items ≡ (first, value) ∷ []) }
+{
+    let Ok((ring, mut pass)) = Ring::<u64>::new(alloc, places, first) else {
+        return None;
+    };
+    let pushed = ring.push_once(&mut pass, value);
+    let Ok(left) = ring.close(pass) else {
+        unreachable!()
+    };
+    match pushed {
+        Ok(_) => Some(left),
+        Err(_) => unreachable!(),
+    }
+}
+
+#[test]
+fn a_lone_pass_closes_what_it_made(rt: HostRuntime) -> Result<(), Fail> {
+    let left = made_and_closed(rt.alloc(), 2, 7);
+    assert!(rt; left.is_some_and(|left| left.is_empty()));
+    let left = one_value_left(rt.alloc(), 2, 7, 40);
+    assert!(rt; left.is_some_and(|left| left.as_slice() == [(7, 40)].as_slice()));
     Ok(())
 }
 

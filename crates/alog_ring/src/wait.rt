@@ -1,6 +1,6 @@
 //! Pushes and pops that begin again while another thread is in the way.
 ghost use Rattle.std.specs.Prelude.{◌≡◌, IfOk, IfErr};
-ghost use Rattle.alog_ring.specs.Calls.{IsPassOf};
+ghost use Rattle.alog_ring.specs.Known.{IsPassOf};
 ghost use Rattle.alog_ring.specs.Waits.{PushedAtLast, PushRefusedAtLast, PoppedAtLast, PopRefusedAtLast};
 
 use crate::pass::Pass;

@@ -1,7 +1,8 @@
 use Rattle.std.proofs.Common.{◌≡◌, ℕ, List, map, sym, subst, arith}
 use Rattle.std.specs.Mem.Slots.{slots_items}
 use Rattle.alog_core.specs.Queue.{Cell}
-use Rattle.alog_ring.specs.Calls.{LieIn, ticket_and_item}
+use Rattle.alog_ring.specs.Share.{ticket_and_item}
+use Rattle.alog_ring.specs.Board.{LieIn}
 use Rattle.alog_ring.proofs.Closing.{first_is_front, front_bounded, closes}
 use Rattle.alog_ring.proofs.board.Board.close.Goals as goal
 

@@ -1,6 +1,6 @@
 use Rattle.std.proofs.Common.{ℕ, ◌<◌, refl, sym, ap, subst, ◌∙◌, inl, arith}
-use Rattle.alog_ring.specs.Sight.{Fresh}
 use Rattle.alog_ring.specs.Kinds.{some_value, no_value}
+use Rattle.alog_ring.specs.Sight.{Fresh}
 use Rattle.alog_ring.proofs.Splitting.{splits}
 use Rattle.alog_ring.proofs.Places.{name_may}
 use Rattle.alog_ring.proofs.board.Board.cut.Goals as goal

@@ -1,6 +1,6 @@
 use Rattle.std.proofs.Common.{ℕ, ◌<◌, refl, sym, ap, subst, ◌∙◌, inr, arith}
-use Rattle.alog_ring.specs.Sight.{Lent}
 use Rattle.alog_ring.specs.Kinds.{some_value, no_value}
+use Rattle.alog_ring.specs.Sight.{Lent}
 use Rattle.alog_ring.proofs.Splitting.{splits}
 use Rattle.alog_ring.proofs.Joining.{reads_note}
 use Rattle.alog_ring.proofs.Places.{see_both_may}
