@@ -1,5 +1,6 @@
 -- A size is a power of two, and within its bounds.
-use Rattle.std.proofs.Common.{◌≡◌, ℕ, zero, suc, ◌+◌, ◌*◌, ◌/◌, ◌%◌, ◌^◌, ◌<◌, ◌≤◌, ◌==◌, ◌&&◌, leb, Bool, true, count_ones, ◌≢◌, arith, inl, inr}
+use Rattle.std.proofs.Common.{◌≡◌, ℕ, zero, suc, ◌+◌, ◌*◌, ◌/◌, ◌%◌, ◌^◌, ◌≤◌, ◌&&◌, leb, Bool, true, count_ones, ◌≢◌}
+use Rattle.std.proofs.Common.{arith, inl, inr}
 use Rattle.std.specs.Int.{is_power_of_two, IsPowerOfTwo}
 use Rattle.std.proofs.lemmas.Bool.Decides.{eqb_tells, nat_tests}
 use Rattle.std.proofs.lemmas.Grind.{pow_more}

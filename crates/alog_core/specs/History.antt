@@ -38,4 +38,5 @@ GoesOn {T} {N} n q made r = (f : ℕ) (h : List (Entry T N)) → StandsFor n f h
 
 -- Each queue of n places that a legal history leaves has the facts of `IsSound`, and so at most n cells.
 abbrev pub ReachedStatesAreSound : Type 0 → Type 0 → Type 0
-ReachedStatesAreSound T N = (n f : ℕ) (h : List (Entry T N)) → 1 ≤ n → IsLegal n f h → IsSound n (left_by (start f) h) × (length (left_by (start f) h).cells ≤ n)
+ReachedStatesAreSound T N = (n f : ℕ) (h : List (Entry T N)) → 1 ≤ n → IsLegal n f h → IsSound n (left_by (start f) h)
+    × (length (left_by (start f) h).cells ≤ n)

@@ -104,7 +104,8 @@ Allows n q a Spent = Refuses n q Spent
 
 -- The queue after an event: a claim appends its cell, a write and a grab mark it, a take removes it.
 abbrev pub after : {T : Type 0} → Queue T → ℕ → Event T → Queue T
-after q a (Claim t x) = record q { next = q.next + 1; cells = q.cells ++ record { ticket = t; mark = Claimed; item = x; actor = a } ∷ [] }
+after q a (Claim t x) =
+    record q { next = q.next + 1; cells = q.cells ++ record { ticket = t; mark = Claimed; item = x; actor = a } ∷ [] }
 after q a (Write t) = record q { cells = marked t Written a q.cells }
 after q a (Grab t) = record q { front = q.front + 1; cells = marked t Emptying a q.cells }
 after q a (Take t x) = record q { cells = without t q.cells }

@@ -1,10 +1,13 @@
 -- A round: the steps of one push or pop. Each step reads or writes one word, and all a step knows of the words
 -- that earlier steps read is the ticket in its round.
-use Rattle.std.specs.Prelude.{ℕ, ◌+◌, ◌==◌, ◌&&◌, ◌||◌, not, nat_lt, Bool, true, false, if◌then◌else◌, Option, None, Some, is_none, List}
+use Rattle.std.specs.Prelude.{ℕ, ◌+◌, ◌==◌, ◌&&◌, ◌||◌, not, nat_lt, Bool, true, false, if◌then◌else◌, Option, None, Some}
+use Rattle.std.specs.Prelude.{is_none, List}
 use Rattle.std.specs.List.{list_any}
-use Rattle.alog_core.specs.Queue.{Cell, Queue, Event, Claim, Write, Grab, Take, Full, Empty, PushBusy, PopBusy, Spent, last, cell_of, after}
+use Rattle.alog_core.specs.Queue.{Cell, Queue, Event, Claim, Write, Grab, Take, Full, Empty, PushBusy, PopBusy, Spent, last}
+use Rattle.alog_core.specs.Queue.{cell_of, after}
 use Rattle.alog_core.specs.declared.round.Round.{Round}
-use Rattle.alog_core.specs.declared.round.Round.TheVariants.{Idle, Push, PushRead, PushFree, PushClaimed, Pop, PopRead, PopReady, PopGrabbed}
+use Rattle.alog_core.specs.declared.round.Round.TheVariants.{Idle, Push, PushRead, PushFree, PushClaimed, Pop, PopRead, PopReady}
+use Rattle.alog_core.specs.declared.round.Round.TheVariants.{PopGrabbed}
 use Rattle.alog_core.specs.declared.mark.Mark.{Mark}
 use Rattle.alog_core.specs.declared.mark.Mark.TheVariants.{Claimed, Written, Emptying}
 

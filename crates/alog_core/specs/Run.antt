@@ -64,8 +64,10 @@ TellAll {T} (c ∷ cs) (r ∷ rs) made =
 
 -- Whoever got a ticket has its cell until the call's last step, which writes it, or takes its item out.
 pub record HasItsCell {T : Type 0} (m : Machine T) (a : ℕ) : Type 0 where
-  pub writes : (t : ℕ) → round_of m a ≡ round.PushClaimed t → (x : T) × HasCell m.queue.cells t Claimed x a × (told m a ≡ said.Write t)
-  pub takes : (t : ℕ) → round_of m a ≡ round.PopGrabbed t → (x : T) × HasCell m.queue.cells t Emptying x a × (told m a ≡ said.Take t x)
+  pub writes : (t : ℕ) → round_of m a ≡ round.PushClaimed t → (x : T) × HasCell m.queue.cells t Claimed x a
+      × (told m a ≡ said.Write t)
+  pub takes : (t : ℕ) → round_of m a ≡ round.PopGrabbed t → (x : T) × HasCell m.queue.cells t Emptying x a
+      × (told m a ≡ said.Take t x)
 
 -- so it is at each step of a run
 abbrev pub EachHasItsCell : {T : Type 0} → Machine T → List (Call T) → Type 0

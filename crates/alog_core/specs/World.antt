@@ -1,5 +1,6 @@
 -- The machine: a queue and 64 actors, each in a round of its own.
-use Rattle.std.specs.Prelude.{ℕ, ◌&&◌, nat_lt, nat_le, Bool, true, false, if◌then◌else◌, Option, None, Some, List, [], ◌∷◌, replicate, slice_index_or, slice_set}
+use Rattle.std.specs.Prelude.{ℕ, ◌&&◌, nat_lt, nat_le, Bool, true, false, if◌then◌else◌, Option, None, Some, List, [], ◌∷◌}
+use Rattle.std.specs.Prelude.{replicate, slice_index_or, slice_set}
 use Rattle.std.specs.Int.{is_power_of_two}
 use Rattle.alog_core.specs.Queue.{Cell, Queue, Event, Claim, Write, Grab, Take, Full, Empty, PushBusy, PopBusy, Spent, start}
 use Rattle.alog_core.specs.Round.{Move, move_of, after_event}
@@ -114,7 +115,8 @@ reply_to m (call.Step a) =
 
 -- the machine after a call; a refused one changes nothing
 abbrev pub after_call : {T : Type 0} → Machine T → Call T → Machine T
-after_call m (call.Push a x) = if nat_lt a ACTORS then (if is_idle (round_of m a) then began m a (round.Push x) else m) else m
+after_call m (call.Push a x) =
+    if nat_lt a ACTORS then (if is_idle (round_of m a) then began m a (round.Push x) else m) else m
 after_call m (call.Pop a) = if nat_lt a ACTORS then (if is_idle (round_of m a) then began m a round.Pop else m) else m
 after_call m (call.Step a) = if nat_lt a ACTORS then (if is_idle (round_of m a) then m else stepped m a) else m
 

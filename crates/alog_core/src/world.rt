@@ -2,7 +2,8 @@
 ghost use Rattle.std.specs.Prelude.{◌≡◌, ◌<◌, ◌≤◌, ◌↔◌, Some, true, false, map, IfOk, OnOk, OnErr, IfErr, IsOk, IsErrOf};
 ghost use Rattle.alog_core.specs.Queue.{Event, Allows, last};
 ghost use Rattle.alog_core.specs.History.{GoesOn};
-ghost use Rattle.alog_core.specs.World.{is_size, fresh, round_of, is_idle, began, next_move, stepped, told, reply_to, after_call, replies_to, after_calls, shown};
+ghost use Rattle.alog_core.specs.World.{is_size, fresh, round_of, is_idle, began, next_move, stepped, told, shown};
+ghost use Rattle.alog_core.specs.World.{reply_to, after_call, replies_to, after_calls};
 ghost use Rattle.alog_core.specs.Run.{entries_of_step, entries_of_run, TellAll, HasItsCell, EachHasItsCell};
 ghost use Rattle.alog_core.specs.Staged.{IsReached};
 ghost use Rattle.alog_core.specs.declared.round.Round.TheVariants as round;
@@ -150,7 +151,8 @@ impl<T: Drop> World<T> {
         ensures said { IfOk result (λ s. s ≡ told self.old actor) }
         ensures stepped { OnOk result (self.new ≡ stepped self.old actor) }
         // The queue allows the step's event, so each history that it stood for goes on with it.
-        ensures allowed { OnOk result ((e : Event T) → (next_move self.old actor).event ≡ Some e → Allows self.old.places self.old.queue actor e) }
+        ensures allowed { OnOk result ((e : Event T) → (next_move self.old actor).event ≡ Some e
+            → Allows self.old.places self.old.queue actor e) }
         ensures history { OnOk result (GoesOn self.old.places self.old.queue (entries_of_step self.old actor) self.new.queue) }
         // A ticket that the actor got has its cell, and the last step of a call writes it, or takes its item out.
         ensures cell { OnOk result (HasItsCell self.old actor) }

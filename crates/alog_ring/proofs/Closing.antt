@@ -1,5 +1,7 @@
 -- What is left in the places when a ring is closed.
-use Rattle.std.proofs.Common.{◌≡◌, ◌≢◌, ℕ, zero, suc, ◌+◌, ◌-◌, ◌%◌, ◌<◌, ◌≤◌, ◌⊎◌, Bool, true, false, Option, Some, None, List, [], ◌∷◌, ◌++◌, map, set, length, get_or, refl, sym, ap, subst, ◌∙◌, inl, inr, arith, add-one, length-set, get_or-set_other, get_or-set_same, mod-lt}
+use Rattle.std.proofs.Common.{◌≡◌, ◌≢◌, ℕ, zero, suc, ◌+◌, ◌-◌, ◌%◌, ◌<◌, ◌≤◌, ◌⊎◌, Bool, true, false, Option, Some, None, List}
+use Rattle.std.proofs.Common.{[], ◌∷◌, ◌++◌, map, set, length, get_or, refl, sym, ap, subst, ◌∙◌, inl, inr, arith, add-one}
+use Rattle.std.proofs.Common.{length-set, get_or-set_other, get_or-set_same, mod-lt}
 use mathlib.Core.Option as maybe
 use lib.ListN.{get_elem?}
 use native.Mathlib.Nat.{add-mod_right}
@@ -46,7 +48,8 @@ module _ {T : Type 0} where
   firsts_all (c ∷ cs) zero le = absurd (omega arith)
   firsts_all (c ∷ cs) (suc i) le = ap (λ (l : List (ℕ × T)). ticket_and_item c ∷ l) (firsts_all cs i (omega arith))
 
-  firsts_some : (f : ℕ) (cs : List (Cell T)) (i : ℕ) (x : T) → AreInRow f cs → value_at cs i ≡ Some x → firsts cs (suc i) ≡ firsts cs i ++ (f + i, x) ∷ []
+  firsts_some : (f : ℕ) (cs : List (Cell T)) (i : ℕ) (x : T) → AreInRow f cs → value_at cs i ≡ Some x
+      → firsts cs (suc i) ≡ firsts cs i ++ (f + i, x) ∷ []
   unfolding firsts
   firsts_some f [] i x row is = cc
   firsts_some f (c ∷ cs) zero x row is =
@@ -65,7 +68,8 @@ module _ {T : Type 0} where
   firsts_more (c ∷ cs) (suc i) is = ap (λ (l : List (ℕ × T)). ticket_and_item c ∷ l) (firsts_more cs i is)
 
   -- The values of the first i places were taken out.
-  pub record HasTaken (n first i : ℕ) (before now : List (Option T)) (filled : List Bool) (left : List (ℕ × T)) : Type 0 where
+  pub record HasTaken (n first i : ℕ) (before now : List (Option T)) (filled : List Bool)
+      (left : List (ℕ × T)) : Type 0 where
     pub same : now ≡ before
     pub count : length filled ≡ n
     pub taken : (j : ℕ) → j < i → get_or filled ((first + j) % n) false ≡ false
@@ -73,7 +77,9 @@ module _ {T : Type 0} where
     pub few : length left ≤ i
     pub cells : (cs : List (Cell T)) → LieIn before first n cs → left ≡ firsts cs i
 
-  pub taken_none : (n first : ℕ) (items : List (Option T)) (filled : List Bool) (left : List (ℕ × T)) → 1 ≤ n → length filled ≡ n → ((k : ℕ) → k < n → get_or filled k false ≡ true) → left ≡ [] → HasTaken n first 0 items items filled left
+  pub taken_none : (n first : ℕ) (items : List (Option T)) (filled : List Bool) (left : List (ℕ × T)) → 1 ≤ n
+      → length filled ≡ n → ((k : ℕ) → k < n → get_or filled k false ≡ true) → left ≡ []
+      → HasTaken n first 0 items items filled left
   taken_none n first items filled left some count full none = record {
     same = refl;
     count = count;
@@ -83,29 +89,36 @@ module _ {T : Type 0} where
     cells = λ cs _. none ∙ sym (firsts_none cs);
   }
 
-  module _ (n first i : ℕ) (before now : List (Option T)) (filled : List Bool) (left : List (ℕ × T)) (has : HasTaken n first i before now filled left) (some : 1 ≤ n) (low : i < n) where
+  module _ (n first i : ℕ) (before now : List (Option T)) (filled : List Bool) (left : List (ℕ × T))
+      (has : HasTaken n first i before now filled left) (some : 1 ≤ n) (low : i < n) where
     marks_taken : (j : ℕ) → j < i + 1 → get_or (set filled ((first + i) % n) false) ((first + j) % n) false ≡ false
     marks_taken j lt =
         elim (same_or_not i j) [
           | inl e ↦
-              let place : (first + i) % n < length filled = let p : (first + i) % n < n = mod-lt (first + i) some in omega (arith, has.count)
-              in ap (λ (z : ℕ). get_or (set filled ((first + i) % n) false) ((first + z) % n) false) (sym e) ∙ get_or-set_same filled ((first + i) % n) false false place
+              let place : (first + i) % n < length filled = let p : (first + i) % n < n = mod-lt (first + i) some in
+              omega (arith, has.count)
+              in ap (λ (z : ℕ). get_or (set filled ((first + i) % n) false) ((first + z) % n) false) (sym e)
+              ∙ get_or-set_same filled ((first + i) % n) false false place
           | inr other ↦
-              let apart : (first + j) % n ≢ (first + i) % n = near_apart n (first + i) (first + j) (λ e. other (omega arith)) (omega arith) (omega arith)
+              let apart : (first + j) % n ≢ (first + i) % n =
+              near_apart n (first + i) (first + j) (λ e. other (omega arith)) (omega arith) (omega arith)
               in get_or-set_other filled ((first + i) % n) ((first + j) % n) false false apart ∙ has.taken j (omega arith)
         ]
 
     still_full : (j : ℕ) → i + 1 ≤ j → j < n → get_or (set filled ((first + i) % n) false) ((first + j) % n) false ≡ true
     still_full j above below =
-        let apart : (first + j) % n ≢ (first + i) % n = near_apart n (first + i) (first + j) (λ e. omega arith) (omega arith) (omega arith)
+        let apart : (first + j) % n ≢ (first + i) % n =
+        near_apart n (first + i) (first + j) (λ e. omega arith) (omega arith) (omega arith)
         in get_or-set_other filled ((first + i) % n) ((first + j) % n) false false apart ∙ has.full j (omega arith) below
 
-    here_is : (cs : List (Cell T)) (o : Option T) → get_elem? now ((first + i) % n) ≡ maybe.some o → LieIn before first n cs → value_at cs i ≡ o
+    here_is : (cs : List (Cell T)) (o : Option T) → get_elem? now ((first + i) % n) ≡ maybe.some o
+        → LieIn before first n cs → value_at cs i ≡ o
     here_is cs o is lie =
         let P : List (Option T) → Type 0 = λ l. get_elem? l ((first + i) % n) ≡ maybe.some o
         in maybe.some-injective (value_at cs i) o (sym (lie.values i low) ∙ subst P has.same is)
 
-    pub takes_value : (x : T) → get_elem? now ((first + i) % n) ≡ maybe.some (Some x) → HasTaken n first (i + 1) before now (set filled ((first + i) % n) false) (left ++ (first + i, x) ∷ [])
+    pub takes_value : (x : T) → get_elem? now ((first + i) % n) ≡ maybe.some (Some x)
+        → HasTaken n first (i + 1) before now (set filled ((first + i) % n) false) (left ++ (first + i, x) ∷ [])
     takes_value x is = record {
       same = has.same;
       count = length-set filled ((first + i) % n) false ∙ has.count;
@@ -115,10 +128,13 @@ module _ {T : Type 0} where
       cells =
           λ cs lie.
           let P : ℕ → Type 0 = λ z. left ++ (first + i, x) ∷ [] ≡ firsts cs z
-          in subst P (sym (add-one i)) (ap (λ (l : List (ℕ × T)). l ++ (first + i, x) ∷ []) (has.cells cs lie) ∙ sym (firsts_some first cs i x lie.in_row (here_is cs (Some x) is lie)));
+          in subst P (sym (add-one i))
+          (ap (λ (l : List (ℕ × T)). l ++ (first + i, x) ∷ []) (has.cells cs lie)
+          ∙ sym (firsts_some first cs i x lie.in_row (here_is cs (Some x) is lie)));
     }
 
-    pub takes_nothing : get_elem? now ((first + i) % n) ≡ maybe.some None → HasTaken n first (i + 1) before now (set filled ((first + i) % n) false) left
+    pub takes_nothing : get_elem? now ((first + i) % n) ≡ maybe.some None
+        → HasTaken n first (i + 1) before now (set filled ((first + i) % n) false) left
     takes_nothing is = record {
       same = has.same;
       count = length-set filled ((first + i) % n) false ∙ has.count;
@@ -131,25 +147,32 @@ module _ {T : Type 0} where
           in subst P (sym (add-one i)) (has.cells cs lie ∙ sym (firsts_more cs i (here_is cs None is lie)));
     }
 
-  pub all_taken : (n first : ℕ) (before now : List (Option T)) (filled : List Bool) (left : List (ℕ × T)) → HasTaken n first n before now filled left → (cs : List (Cell T)) → LieIn before first n cs → left ≡ map ticket_and_item cs
+  pub all_taken : (n first : ℕ) (before now : List (Option T)) (filled : List Bool) (left : List (ℕ × T))
+      → HasTaken n first n before now filled left → (cs : List (Cell T)) → LieIn before first n cs
+      → left ≡ map ticket_and_item cs
   all_taken n first before now filled left has cs lie = has.cells cs lie ∙ firsts_all cs n lie.few
 
-  pub none_filled : (n first : ℕ) (before now : List (Option T)) (filled : List Bool) (left : List (ℕ × T)) → 1 ≤ n → HasTaken n first n before now filled left → (k : ℕ) → k < n → get_or filled k false ≡ false
+  pub none_filled : (n first : ℕ) (before now : List (Option T)) (filled : List Bool) (left : List (ℕ × T)) → 1 ≤ n
+      → HasTaken n first n before now filled left → (k : ℕ) → k < n → get_or filled k false ≡ false
   none_filled n first before now filled left some has k low =
       let small : k % n ≡ k = native.Mathlib.Nat.mod-eq_of_lt low
       in let at : (t : ℕ) → first ≤ t → t < first + n → t % n ≡ k → get_or filled k false ≡ false =
       λ t from to place.
       let back : first + (t - first) ≡ t = omega arith
-      in ap (λ (z : ℕ). get_or filled z false) (sym (ap (λ (z : ℕ). z % n) back ∙ place)) ∙ has.taken (t - first) (omega arith)
+      in ap (λ (z : ℕ). get_or filled z false) (sym (ap (λ (z : ℕ). z % n) back ∙ place))
+      ∙ has.taken (t - first) (omega arith)
       in elim (leb_tells first k) [
         | inl le ↦ at k le.1 (omega arith) small
         | inr lt ↦
-            let on : (t : ℕ) × (first ≤ t) × (t < first + n) × (t % n ≡ k % n) × (k + n ≤ t) = lap first k first n some lt.1 (omega arith)
+            let on : (t : ℕ) × (first ≤ t) × (t < first + n) × (t % n ≡ k % n)
+            × (k + n ≤ t) = lap first k first n some lt.1 (omega arith)
             in at on.0 on.1 on.2 (on.3 ∙ small)
       ]
 
 -- Cells from this ticket on, without a gap, are in row.
-in_row : {T : Type 0} (first low : ℕ) (cs : List (Cell T)) (high : ℕ) → Rises low cs high → ((t : ℕ) (c : Cell T) → cell_of t cs ≡ Some c → first ≤ t) → ((t : ℕ) → first ≤ t → t < high → IsListed t cs) → AreInRow first cs
+in_row : {T : Type 0} (first low : ℕ) (cs : List (Cell T)) (high : ℕ) → Rises low cs high
+    → ((t : ℕ) (c : Cell T) → cell_of t cs ≡ Some c → first ≤ t) → ((t : ℕ) → first ≤ t → t < high → IsListed t cs)
+    → AreInRow first cs
 in_row first low [] high rises from listed = tt
 in_row {T} first low (c ∷ cs) high rises from listed =
     let below : c.ticket + 1 ≤ high = bounds_of_rising (c.ticket + 1) cs high rises.1
@@ -159,7 +182,8 @@ in_row {T} first low (c ∷ cs) high rises from listed =
       | inl e ↦ e
       | inr apart ↦
           let here : IsListed first (c ∷ cs) = listed first (omega arith) (omega arith)
-          in let later : cell_of first cs ≡ Some here.0 = sym (at_other c.ticket first (Some c) (cell_of first cs) apart) ∙ here.1
+          in let later : cell_of first cs ≡ Some here.0 = sym (at_other c.ticket first (Some c) (cell_of first cs) apart)
+          ∙ here.1
           in let none : cell_of first cs ≡ None = unlisted_below first (c.ticket + 1) cs high rises.1 (omega arith)
           in absurd (let wrong : None ≡ Some here.0 = sym none ∙ later in cc)
     ]
@@ -172,30 +196,42 @@ in_row {T} first low (c ∷ cs) high rises from listed =
     in let P : ℕ → Type 0 = λ z. AreInRow (z + 1) cs
     in (same, subst P same tail)
 
-value_listed : {T : Type 0} (first : ℕ) (cs : List (Cell T)) (i : ℕ) (c : Cell T) → AreInRow first cs → cell_of (first + i) cs ≡ Some c → value_at cs i ≡ Some c.item
+value_listed : {T : Type 0} (first : ℕ) (cs : List (Cell T)) (i : ℕ) (c : Cell T) → AreInRow first cs
+    → cell_of (first + i) cs ≡ Some c → value_at cs i ≡ Some c.item
 value_listed first [] i c row is = cc
 value_listed {T} first (d ∷ cs) zero c row is =
-    let here : cell_of (first + 0) (d ∷ cs) ≡ Some d = at_same d.ticket (first + 0) (Some d) (cell_of (first + 0) cs) (omega (arith, row.0))
+    let here : cell_of (first + 0) (d ∷ cs) ≡ Some d =
+    at_same d.ticket (first + 0) (Some d) (cell_of (first + 0) cs) (omega (arith, row.0))
     in let same : d ≡ c = cc
     in ap (λ (z : Cell T). Some z.item) same
 value_listed {T} first (d ∷ cs) (suc i) c row is =
     let e : first + suc i ≡ first + 1 + i = omega arith
     in let P : ℕ → Type 0 = λ z. cell_of z cs ≡ Some c
-    in value_listed (first + 1) cs i c row.1 (subst P e (sym (at_other d.ticket (first + suc i) (Some d) (cell_of (first + suc i) cs) (let apart : d.ticket ≢ first + suc i = omega (arith, row.0) in apart)) ∙ is))
+    in value_listed (first + 1) cs i c row.1
+    (subst P e
+    (sym (at_other d.ticket (first + suc i) (Some d) (cell_of (first + suc i) cs)
+    (let apart : d.ticket ≢ first + suc i = omega (arith, row.0) in apart)) ∙ is))
 
-value_unlisted : {T : Type 0} (first : ℕ) (cs : List (Cell T)) (i : ℕ) → AreInRow first cs → cell_of (first + i) cs ≡ None → value_at cs i ≡ None
+value_unlisted : {T : Type 0} (first : ℕ) (cs : List (Cell T)) (i : ℕ) → AreInRow first cs → cell_of (first + i) cs ≡ None
+    → value_at cs i ≡ None
 value_unlisted first [] i row is = refl
 value_unlisted {T} first (d ∷ cs) zero row is =
-    let here : cell_of (first + 0) (d ∷ cs) ≡ Some d = at_same d.ticket (first + 0) (Some d) (cell_of (first + 0) cs) (omega (arith, row.0))
+    let here : cell_of (first + 0) (d ∷ cs) ≡ Some d =
+    at_same d.ticket (first + 0) (Some d) (cell_of (first + 0) cs) (omega (arith, row.0))
     in let wrong : None ≡ Some d = sym is ∙ here
     in cc
 value_unlisted {T} first (d ∷ cs) (suc i) row is =
     let e : first + suc i ≡ first + 1 + i = omega arith
     in let P : ℕ → Type 0 = λ z. cell_of z cs ≡ None
-    in value_unlisted (first + 1) cs i row.1 (subst P e (sym (at_other d.ticket (first + suc i) (Some d) (cell_of (first + suc i) cs) (let apart : d.ticket ≢ first + suc i = omega (arith, row.0) in apart)) ∙ is))
+    in value_unlisted (first + 1) cs i row.1
+    (subst P e
+    (sym (at_other d.ticket (first + suc i) (Some d) (cell_of (first + suc i) cs)
+    (let apart : d.ticket ≢ first + suc i = omega (arith, row.0) in apart)) ∙ is))
 
 -- The table of a ring at its end, where one pass has all parts.
-module _ {T : Type 0} (n f id : ℕ) (v : Sight T no_note) (words : List ℕ) (places : List (Option T)) (fin : Final (Seen (λ s. Ruled some_value no_value n f s) id v) words places) (idle : v.stage ≡ Idle) (all : v.known.parts ≡ ALL_PARTS) where
+module _ {T : Type 0} (n f id : ℕ) (v : Sight T no_note) (words : List ℕ) (places : List (Option T))
+    (fin : Final (Seen (λ s. Ruled some_value no_value n f s) id v) words places) (idle : v.stage ≡ Idle)
+    (all : v.known.parts ≡ ALL_PARTS) where
   live : 0 < v.known.parts
   live = omega arith
 
@@ -217,13 +253,15 @@ module _ {T : Type 0} (n f id : ℕ) (v : Sight T no_note) (words : List ℕ) (p
       sym (found words FRONT first 0 at) ∙ ap (λ (l : List ℕ). get_or l FRONT 0) (sym fin.2) ∙ fin.1.0.shown.front
 
   pub front_bounded : fin.1.0.queue.front ≤ last
-  front_bounded = let ordered : fin.1.0.queue.front ≤ fin.1.0.queue.next = sound.ordered in let bounded : fin.1.0.queue.next ≤ last = fin.1.0.shown.bounded in omega arith
+  front_bounded = let ordered : fin.1.0.queue.front ≤ fin.1.0.queue.next = sound.ordered in
+      let bounded : fin.1.0.queue.next ≤ last = fin.1.0.shown.bounded in omega arith
 
   lie_in : LieIn places fin.1.0.queue.front n fin.1.0.queue.cells
   lie_in =
       let q : Queue T = fin.1.0.queue
       in let ordered : q.front ≤ q.next = sound.ordered
-      in let row : AreInRow q.front q.cells = in_row q.front (q.next - n) q.cells q.next sound.rising from_front sound.listed
+      in let row : AreInRow q.front q.cells =
+      in_row q.front (q.next - n) q.cells q.next sound.rising from_front sound.listed
       in record {
         in_row = row;
         few = length-sound n q sound;
@@ -233,14 +271,20 @@ module _ {T : Type 0} (n f id : ℕ) (v : Sight T no_note) (words : List ℕ) (p
             in elim (on_option (cell_of t q.cells)) [
               | inr some ↦
                   let c : Cell T = some.0
-                  in let W : Mark → Type 0 = λ m. ShowsCell some_value no_value t (get_or fin.0.words (seq_of n t) 0) (get_elem? fin.0.homes (t % n)) c.item m
-                  in let lies : (get_or fin.0.words (seq_of n t) 0 ≡ t + 1) × (get_elem? fin.0.homes (t % n) ≡ maybe.some (maybe.some (Some c.item))) = subst W (written t c some.1) (fin.1.0.shown.cells t c some.1)
+                  in let W : Mark
+                  → Type 0 = λ m.
+                  ShowsCell some_value no_value t (get_or fin.0.words (seq_of n t) 0)
+                  (get_elem? fin.0.homes (t % n)) c.item m
+                  in let lies : (get_or fin.0.words (seq_of n t) 0 ≡ t + 1)
+                  × (get_elem? fin.0.homes (t % n) ≡ maybe.some (maybe.some (Some c.item))) =
+                  subst W (written t c some.1) (fin.1.0.shown.cells t c some.1)
                   in fin.4 (t % n) (Some c.item) lies.1 ∙ ap maybe.some (sym (value_listed q.front q.cells i c row some.1))
               | inl none ↦
                   let past : q.next ≤ t =
                   elim (leb_tells q.next t) [
                     | inl le ↦ le.1
-                    | inr lt ↦ let here : IsListed t q.cells = sound.listed t (omega arith) lt.1 in absurd (let wrong : None ≡ Some here.0 = sym none ∙ here.1 in cc)
+                    | inr lt ↦ let here : IsListed t q.cells = sound.listed t (omega arith) lt.1 in
+                        absurd (let wrong : None ≡ Some here.0 = sym none ∙ here.1 in cc)
                   ]
                   in let room : IsRoom n t q.cells =
                   λ u e.
@@ -253,14 +297,16 @@ module _ {T : Type 0} (n f id : ℕ) (v : Sight T no_note) (words : List ℕ) (p
             ];
       }
 
-  pub closes : (first : ℕ) (left : List (ℕ × T)) → get_elem? words FRONT ≡ maybe.some first → ((cells : List (Cell T)) → LieIn places first n cells → left ≡ map ticket_and_item cells) → Leaves v.known left
+  pub closes : (first : ℕ) (left : List (ℕ × T)) → get_elem? words FRONT ≡ maybe.some first
+      → ((cells : List (Cell T)) → LieIn places first n cells → left ≡ map ticket_and_item cells) → Leaves v.known left
   closes first left at are =
       let k : Known T no_note = v.known
       in let r : Ruled some_value no_value n f fin.0 = fin.1.0
       in let K : Stage T no_note → Type 0 = λ z. Knows n r.history r.queue id k z
       in let work : IsAtWork id k = subst K idle (r.staged.knows id v fin.1.1)
       in let has : HasEntries r.history fin.0.views id k = r.told.entries id v fin.1.1 live
-      in let left_is : left_by (start k.first) r.history ≡ r.queue = ap (λ (z : ℕ). left_by (start z) r.history) (r.told.first id v fin.1.1 live) ∙ r.stands.queue
+      in let left_is : left_by (start k.first) r.history ≡ r.queue =
+      ap (λ (z : ℕ). left_by (start z) r.history) (r.told.first id v fin.1.1 live) ∙ r.stands.queue
       in let L : ℕ → Type 0 = λ z. LieIn places z n r.queue.cells
       in let W : Queue T → Type 0 = λ q. (t : ℕ) (c : Cell T) → cell_of t q.cells ≡ Some c → c.mark ≡ Written
       in record {
@@ -282,5 +328,6 @@ module _ {T : Type 0} (n f id : ℕ) (v : Sight T no_note) (words : List ℕ) (p
               ]);
           written = subst W (sym left_is) written;
         };
-        cells = are r.queue.cells (subst L (sym (first_is_front first at)) lie_in) ∙ ap (λ (q : Queue T). map ticket_and_item q.cells) (sym left_is);
+        cells = are r.queue.cells (subst L (sym (first_is_front first at)) lie_in)
+            ∙ ap (λ (q : Queue T). map ticket_and_item q.cells) (sym left_is);
       }

@@ -4,8 +4,7 @@ use mathlib.Core.Option.{some}
 use Rattle.atomic_table.specs.Table.{Me, Step, rest}
 use Rattle.alog_core.specs.Queue.{Event, Claim, Write, Grab, Take, Full, Empty, PushBusy, PopBusy, Spent, last}
 use Rattle.alog_core.specs.History.{Entry}
-use Rattle.alog_ring.specs.Known.{Known}
-use Rattle.alog_ring.specs.Made.{Made, EndsWith, Adds, next_seen, front_seen}
+use Rattle.alog_ring.specs.Made.{Made, Adds, next_seen, front_seen}
 use Rattle.alog_ring.specs.Sight.{Stage, Idle, SawNext, SawFree, Writing, SawFront, SawFull, Reading, Sight}
 
 module _ {S T N : Type 0} where
@@ -23,16 +22,20 @@ module _ {S T N : Type 0} where
 
   -- A push reads the next ticket,
   abbrev pub saw_next : N → Me S (Sight T N) → ℕ → Me S (Sight T N) → Type 0
-  saw_next blank m r m' = (next_seen m.0.known ≤ r) × (r ≤ last) × (r ≡ last → Ends blank m m' Spent) × (r < last → Looks m m' (SawNext r))
+  saw_next blank m r m' = (next_seen m.0.known ≤ r) × (r ≤ last) × (r ≡ last → Ends blank m m' Spent)
+      × (r < last → Looks m m' (SawNext r))
 
   -- reads the sequence of its ticket's place,
   abbrev pub saw_free : N → ℕ → Me S (Sight T N) → ℕ → Me S (Sight T N) → Type 0
-  saw_free blank t m r m' = (r ≡ t → Looks m m' (SawFree t)) × (r < t → Ends blank m m' (Full t)) × (t < r → Ends blank m m' (PushBusy t))
+  saw_free blank t m r m' = (r ≡ t → Looks m m' (SawFree t)) × (r < t → Ends blank m m' (Full t))
+      × (t < r → Ends blank m m' (PushBusy t))
 
   -- exchanges the next ticket,
-  abbrev pub claimed : N → (T → S) → (ℕ → List (Entry T N) → ℕ → S) → Step S → Me S (Sight T N) → ℕ → Me S (Sight T N) → Type 0
+  abbrev pub claimed : N → (T → S) → (ℕ → List (Entry T N) → ℕ → S) → Step S → Me S (Sight T N) → ℕ → Me S (Sight T N)
+      → Type 0
   claimed blank put spare st m r m' =
-      (r ≡ st.first → (x : T) × (st.said ≡ some (put x)) × Acts blank m m' (Claim r x) (Writing r x) × (m'.1 ≡ (r % st.slots, spare m'.0.known.places m'.0.known.seen r) ∷ m.1))
+      (r ≡ st.first → (x : T) × (st.said ≡ some (put x)) × Acts blank m m' (Claim r x) (Writing r x)
+      × (m'.1 ≡ (r % st.slots, spare m'.0.known.places m'.0.known.seen r) ∷ m.1))
       × (r ≢ st.first → Ends blank m m' (PushBusy st.first))
 
   -- and stores the sequence.
@@ -45,7 +48,8 @@ module _ {S T N : Type 0} where
 
   -- reads the sequence of its ticket's place,
   abbrev pub saw_full : N → ℕ → Me S (Sight T N) → ℕ → Me S (Sight T N) → Type 0
-  saw_full blank t m r m' = (r ≡ t + 1 → Looks m m' (SawFull t)) × (r < t + 1 → Ends blank m m' (Empty t)) × (t + 1 < r → Ends blank m m' (PopBusy t))
+  saw_full blank t m r m' = (r ≡ t + 1 → Looks m m' (SawFull t)) × (r < t + 1 → Ends blank m m' (Empty t))
+      × (t + 1 < r → Ends blank m m' (PopBusy t))
 
   -- exchanges the front ticket,
   abbrev pub grabbed : N → (T → S) → Step S → Me S (Sight T N) → ℕ → Me S (Sight T N) → Type 0

@@ -13,7 +13,8 @@ use Rattle.alog_ring.specs.declared.pop.PopError.TheVariants as pop
 -- the value comes back
 abbrev pub PushRefused : {T : Type 0} → Known T no_note → Known T no_note → T → PushError T → Type 0
 PushRefused old new value (Full back next) = (back ≡ value) × (next_seen old ≤ next) × Answered old new (queue.Full next)
-PushRefused old new value (Busy back seen) = (back ≡ value) × (next_seen old ≤ seen) × Answered old new (queue.PushBusy seen)
+PushRefused old new value (Busy back seen) = (back ≡ value) × (next_seen old ≤ seen)
+    × Answered old new (queue.PushBusy seen)
 PushRefused old new value (Spent back) = (back ≡ value) × Answered old new queue.Spent
 
 abbrev pub PopRefused : {T : Type 0} → Known T no_note → Known T no_note → PopError → Type 0

@@ -14,7 +14,8 @@ use Rattle.alog_ring.specs.declared.words.TheConstants.{NEXT, FRONT, SEQUENCES, 
 use Rattle.alog_ring.specs.declared.TheConstants.{ALL_PARTS}
 use Rattle.alog_ring.specs.Known.{Member, Known, IsAmong, AreDistinct}
 use Rattle.alog_ring.specs.Made.{AreExact}
-use Rattle.alog_ring.specs.Sight.{Stage, Idle, Fresh, SawNext, SawFree, Writing, SawFront, SawFull, Reading, Joined, Lent, Gone, Sight}
+use Rattle.alog_ring.specs.Sight.{Stage, Idle, Fresh, SawNext, SawFree, Writing, SawFront, SawFull, Reading, Joined, Lent, Gone}
+use Rattle.alog_ring.specs.Sight.{Sight}
 
 -- where the sequence of a ticket's place lies, and how many words there are
 abbrev pub seq_of : ℕ → ℕ → ℕ
@@ -33,7 +34,8 @@ module _ {T N : Type 0} where
 
   -- the actor was joined into a pass that has parts
   abbrev pub IsTakenIn : List (Sight T N) → ℕ → Type 0
-  IsTakenIn views a = (j : ℕ) × (u : Sight T N) × (get_elem? views j ≡ some u) × (0 < u.known.parts) × IsAmong a u.known.joined
+  IsTakenIn views a = (j : ℕ) × (u : Sight T N) × (get_elem? views j ≡ some u) × (0 < u.known.parts)
+      × IsAmong a u.known.joined
 
   -- a seat with parts has exactly its own entries of the history, and those of its members
   pub record HasEntries (h : List (Entry T N)) (views : List (Sight T N)) (a : ℕ) (k : Known T N) : Type 0 where
@@ -47,9 +49,12 @@ module _ {T N : Type 0} where
     pub first : (a : ℕ) (v : Sight T N) → get_elem? views a ≡ some v → 0 < v.known.parts → v.known.first ≡ f
     pub seen : (a : ℕ) (v : Sight T N) → get_elem? views a ≡ some v → IsPrefix v.known.seen h
     pub entries : (a : ℕ) (v : Sight T N) → get_elem? views a ≡ some v → 0 < v.known.parts → HasEntries h views a v.known
-    pub without : (a : ℕ) (v : Sight T N) → get_elem? views a ≡ some v → v.known.parts ≡ 0 → (own_of a h ≡ []) ⊎ IsTakenIn views a
+    pub without : (a : ℕ) (v : Sight T N) → get_elem? views a ≡ some v → v.known.parts ≡ 0
+        → (own_of a h ≡ []) ⊎ IsTakenIn views a
     pub distinct : (a : ℕ) (v : Sight T N) → get_elem? views a ≡ some v → 0 < v.known.parts → AreDistinct v.known.joined
-    pub once : (a : ℕ) (v : Sight T N) → get_elem? views a ≡ some v → 0 < v.known.parts → (b : ℕ) (w : Sight T N) → get_elem? views b ≡ some w → 0 < w.known.parts → b ≢ a → (c : ℕ) → IsAmong c v.known.joined → ¬ IsAmong c w.known.joined
+    pub once : (a : ℕ) (v : Sight T N) → get_elem? views a ≡ some v → 0 < v.known.parts → (b : ℕ) (w : Sight T N)
+        → get_elem? views b ≡ some w → 0 < w.known.parts → b ≢ a → (c : ℕ) → IsAmong c v.known.joined
+        → ¬ IsAmong c w.known.joined
     pub unborn : (a : ℕ) → length views ≤ a → own_of a h ≡ []
     pub whole : sum_by parts_of views ≡ ALL_PARTS
 
@@ -73,8 +78,10 @@ module _ {T N : Type 0} where
   -- The queue against the stages: and whoever has a cell is at work on it.
   pub record Staged (n : ℕ) (h : List (Entry T N)) (q : Queue T) (views : List (Sight T N)) : Type 0 where
     pub knows : (a : ℕ) (v : Sight T N) → get_elem? views a ≡ some v → Knows n h q a v.known v.stage
-    pub writers : (t : ℕ) (x : T) (a : ℕ) → HasCell q.cells t Claimed x a → (v : Sight T N) × (get_elem? views a ≡ some v) × (v.stage ≡ Writing t x)
-    pub readers : (t : ℕ) (x : T) (a : ℕ) → HasCell q.cells t Emptying x a → (v : Sight T N) × (get_elem? views a ≡ some v) × (v.stage ≡ Reading t x)
+    pub writers : (t : ℕ) (x : T) (a : ℕ) → HasCell q.cells t Claimed x a → (v : Sight T N) × (get_elem? views a ≡ some v)
+        × (v.stage ≡ Writing t x)
+    pub readers : (t : ℕ) (x : T) (a : ℕ) → HasCell q.cells t Emptying x a → (v : Sight T N) × (get_elem? views a ≡ some v)
+        × (v.stage ≡ Reading t x)
 
 module _ {S T N : Type 0} (put : T → S) (spare : ℕ → List (Entry T N) → ℕ → S) where
   -- the sequence of a ticket's place, and the value that lies there, which is out while a cell is claimed or emptied
@@ -90,8 +97,10 @@ module _ {S T N : Type 0} (put : T → S) (spare : ℕ → List (Entry T N) → 
     pub next : slice_index words NEXT ≡ q.next
     pub front : slice_index words FRONT ≡ q.front
     pub bounded : q.next ≤ last
-    pub cells : (t : ℕ) (c : Cell T) → cell_of t q.cells ≡ Some c → ShowsCell t (slice_index words (seq_of n t)) (get_elem? homes (t % n)) c.item c.mark
-    pub free : (t : ℕ) → q.next ≤ t → t < q.next + n → IsRoom n t q.cells → (slice_index words (seq_of n t) ≡ t) × (get_elem? homes (t % n) ≡ some (some (spare n h t)))
+    pub cells : (t : ℕ) (c : Cell T) → cell_of t q.cells ≡ Some c
+        → ShowsCell t (slice_index words (seq_of n t)) (get_elem? homes (t % n)) c.item c.mark
+    pub free : (t : ℕ) → q.next ≤ t → t < q.next + n → IsRoom n t q.cells → (slice_index words (seq_of n t) ≡ t)
+        × (get_elem? homes (t % n) ≡ some (some (spare n h t)))
 
   -- The rule of a ring of n places with first ticket f.
   pub record Ruled (n f : ℕ) (s : State S (Sight T N)) : Type 0 where

@@ -1,7 +1,6 @@
 -- The seats of passes at the table, as they are cut, joined and shown to each other.
 use Rattle.std.specs.Prelude.{◌≡◌, ℕ, ◌≤◌, ◌⊎◌, List, []}
 use Rattle.std.specs.List.{AllByRecursion}
-use mathlib.Core.List.{IsPrefix}
 use Rattle.atomic_table.specs.Table.{Me}
 use Rattle.alog_core.specs.History.{Entry, IsLegal, own_of}
 use Rattle.alog_ring.specs.declared.TheConstants.{ALL_PARTS}

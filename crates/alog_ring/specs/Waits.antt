@@ -14,12 +14,14 @@ use Rattle.alog_ring.specs.declared.pop.PopError.TheVariants as pop
 -- rounds of a push that were busy, each at a ticket that was read in it
 pub data BusyPushes {T : Type 0} (old : Known T no_note) : Known T no_note → Type 0 where
   none : BusyPushes old old
-  more : {mid new : Known T no_note} (ticket : ℕ) → BusyPushes old mid → next_seen mid ≤ ticket → Answered mid new (queue.PushBusy ticket) → BusyPushes old new
+  more : {mid new : Known T no_note} (ticket : ℕ) → BusyPushes old mid → next_seen mid ≤ ticket
+      → Answered mid new (queue.PushBusy ticket) → BusyPushes old new
 
 -- rounds of a pop that were busy
 pub data BusyPops {T : Type 0} (old : Known T no_note) : Known T no_note → Type 0 where
   none : BusyPops old old
-  more : {mid new : Known T no_note} (ticket : ℕ) → BusyPops old mid → front_seen mid ≤ ticket → Answered mid new (queue.PopBusy ticket) → BusyPops old new
+  more : {mid new : Known T no_note} (ticket : ℕ) → BusyPops old mid → front_seen mid ≤ ticket
+      → Answered mid new (queue.PopBusy ticket) → BusyPops old new
 
 -- busy rounds, and then one that pushed
 abbrev pub PushedAtLast : {T : Type 0} → Known T no_note → Known T no_note → ℕ → T → Type 0
@@ -40,7 +42,8 @@ EndsPop (pop.Busy seen) = ⊥
 
 -- busy rounds, and then one that was refused
 abbrev pub PushRefusedAtLast : {T : Type 0} → Known T no_note → Known T no_note → T → PushError T → Type 0
-PushRefusedAtLast {T} old new value e = EndsPush e × ((mid : Known T no_note) × BusyPushes old mid × PushRefused mid new value e)
+PushRefusedAtLast {T} old new value e = EndsPush e
+    × ((mid : Known T no_note) × BusyPushes old mid × PushRefused mid new value e)
 
 abbrev pub PopRefusedAtLast : {T : Type 0} → Known T no_note → Known T no_note → PopError → Type 0
 PopRefusedAtLast {T} old new e = EndsPop e × ((mid : Known T no_note) × BusyPops old mid × PopRefused mid new e)

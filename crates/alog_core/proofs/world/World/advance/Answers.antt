@@ -11,17 +11,23 @@ pub advance-said-requires : goal.advance-said-requires
 advance-said-requires g c =
     let rounds = c.self.inside.rounds.items in
     let lt : c.args.actor < length rounds = omega (arith, c.self.invariant.reached.actors, c.requires) in
-    let is = taken_round rounds c.args.actor c.index_mut.result.now c.replace-round.result lt c.index_mut.ensures.value c.replace-round.ensures.value in
-    has_room c.self.inside.table rounds c.args.actor c.replace-round.result c.self.invariant.reached c.self.invariant.room c.requires is
+    let is = taken_round rounds c.args.actor c.index_mut.result.now c.replace-round.result lt c.index_mut.ensures.value
+    c.replace-round.ensures.value in
+    has_room c.self.inside.table rounds c.args.actor c.replace-round.result c.self.invariant.reached c.self.invariant.room
+    c.requires is
 
 pub invariant_of-self : goal.invariant_of-self
 invariant_of-self g c =
     let rounds = c.self.inside.rounds.items in
     let lt : c.args.actor < length rounds = omega (arith, c.self.invariant.reached.actors, c.requires) in
-    let is = taken_round rounds c.args.actor c.index_mut.result.now c.replace-round.result lt c.index_mut.ensures.value c.replace-round.ensures.value in
-    let after = stepped_in c.self.inside.table c.advance-said.new.table rounds c.args.actor c.replace-round.new.dest c.replace-round.result c.advance-said.result is c.advance-said.ensures in
+    let is = taken_round rounds c.args.actor c.index_mut.result.now c.replace-round.result lt c.index_mut.ensures.value
+    c.replace-round.ensures.value in
+    let after =
+    stepped_in c.self.inside.table c.advance-said.new.table rounds c.args.actor c.replace-round.new.dest
+    c.replace-round.result c.advance-said.result is c.advance-said.ensures in
     record {
-      reached = subst IsReached (sym after) (reached_stepped (kept c.self.inside.table rounds) c.args.actor c.self.invariant.reached c.requires);
+      reached = subst IsReached (sym after)
+          (reached_stepped (kept c.self.inside.table rounds) c.args.actor c.self.invariant.reached c.requires);
       room = omega (arith, c.advance-said.ensures.places, c.advance-said.ensures.room, c.self.invariant.room);
     }
 
@@ -29,14 +35,18 @@ pub returns-clause-stepped : goal.returns-clause-stepped
 returns-clause-stepped g c =
     let rounds = c.self.inside.rounds.items in
     let lt : c.args.actor < length rounds = omega (arith, c.self.invariant.reached.actors, c.requires) in
-    let is = taken_round rounds c.args.actor c.index_mut.result.now c.replace-round.result lt c.index_mut.ensures.value c.replace-round.ensures.value in
-    stepped_in c.self.inside.table c.advance-said.new.table rounds c.args.actor c.replace-round.new.dest c.replace-round.result c.advance-said.result is c.advance-said.ensures
+    let is = taken_round rounds c.args.actor c.index_mut.result.now c.replace-round.result lt c.index_mut.ensures.value
+    c.replace-round.ensures.value in
+    stepped_in c.self.inside.table c.advance-said.new.table rounds c.args.actor c.replace-round.new.dest
+    c.replace-round.result c.advance-said.result is c.advance-said.ensures
     ∙ ap (λ m. stepped m c.args.actor) c.self.view_is
 
 pub returns-clause-allowed : goal.returns-clause-allowed
 returns-clause-allowed g c =
-    subst (λ (m : Machine g.row.T.Denot). (e : Event g.row.T.Denot) → (next_move m c.args.actor).event ≡ Some e → Allows m.places m.queue c.args.actor e) c.self.view_is
-    (fine_step (kept c.self.inside.table c.self.inside.rounds.items) c.args.actor c.self.invariant.reached c.requires).allowed
+    subst (λ (m : Machine g.row.T.Denot). (e : Event g.row.T.Denot) → (next_move m c.args.actor).event ≡ Some e
+    → Allows m.places m.queue c.args.actor e) c.self.view_is
+    (fine_step (kept c.self.inside.table c.self.inside.rounds.items) c.args.actor c.self.invariant.reached
+    c.requires).allowed
 
 pub returns-clause-cell : goal.returns-clause-cell
 returns-clause-cell g c =

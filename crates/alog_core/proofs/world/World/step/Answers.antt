@@ -9,5 +9,6 @@ pub returns-in-Err-InCall-clause-history : goal.returns-in-Err-InCall-clause-his
 returns-in-Err-InCall-clause-history g c f h stands =
     let m = c.args.self.now in
     let a = c.args.actor in
-    subst (λ (k : Machine g.row.T.Denot). StandsFor m.places f (h ++ entries_of_step m a) k.queue) (sym c.advance.ensures.stepped)
+    subst (λ (k : Machine g.row.T.Denot). StandsFor m.places f (h ++ entries_of_step m a) k.queue)
+    (sym c.advance.ensures.stepped)
     (stands_step m.places f h m.queue a tt (next_move m a).event stands c.advance.ensures.allowed)

@@ -9,7 +9,9 @@ use Rattle.alog_ring.proofs.board.Board.new.Goals as goal
 pub vacant-requires : goal.vacant-requires
 vacant-requires g c =
     let P : List ℕ → Type 0 = λ w. AreFirstWords c.args.places c.args.first w
-    in starts c.args.places c.args.first c.as_slice.result.now (size_facts c.args.places c.requires.size).1 c.requires.first (subst P (sym c.as_slice.ensures.value) c.in_ok-words.ensures)
+    in starts c.args.places c.args.first c.as_slice.result.now
+    (size_facts c.args.places c.requires.size).1 c.requires.first
+    (subst P (sym c.as_slice.ensures.value) c.in_ok-words.ensures)
 
 pub invariant_of-result : goal.invariant_of-result
 invariant_of-result g c =

@@ -14,7 +14,8 @@ load-requires g c =
     in (
       c.requires.table,
       omega (arith, sized.0, c.place_of.ensures.within),
-      see_free_may n c.args.self.now.table.shared.key.first c.args.self.now.table.shared.table_id.slots c.args.seat.now.id c.args.seat.now.me (c.place_of.result * APART + SEQUENCES) t word c.requires.stage,
+      see_free_may n c.args.self.now.table.shared.key.first c.args.self.now.table.shared.table_id.slots c.args.seat.now.id
+          c.args.seat.now.me (c.place_of.result * APART + SEQUENCES) t word c.requires.stage,
     )
 
 pub returns-clause-sequence : goal.returns-clause-sequence
