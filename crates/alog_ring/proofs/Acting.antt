@@ -17,6 +17,7 @@ use Rattle.alog_ring.specs.declared.words.TheConstants.{NEXT, FRONT, SEQUENCES, 
 use Rattle.alog_ring.specs.Made.{entry, Adds}
 use Rattle.alog_ring.specs.Sight.{Stage, Idle, Writing, Reading, Sight}
 use Rattle.alog_ring.specs.Rule.{IsAtWork, Staged, seq_of, ShowsCell, Shown, Ruled}
+use Rattle.alog_ring.proofs.Lists.{not_both}
 use Rattle.alog_ring.proofs.Telling.{grown}
 use Rattle.alog_ring.proofs.Turning.{Turn, within, turn_claim, turn_write, turn_grab, turn_take, staged_turn}
 use Rattle.alog_ring.proofs.Showing.{shown_turn}
@@ -89,41 +90,51 @@ module _ {S T N : Type 0} (kind : PlaceKind S T N) (n f : ℕ) (s : State S (Sig
       in let words : List ℕ = set s.words NEXT (t + 1)
       in let other : (i : ℕ) → get_or words (i * APART + SEQUENCES) 0 ≡ get_or s.words (i * APART + SEQUENCES) 0 = λ i.
       get_or-set_other s.words NEXT (i * APART + SEQUENCES) (t + 1) 0 (λ z. omega arith)
-      in let W : Cell T
-      → Type 0 = λ c.
+      in let W : Cell T → Type 0 =
+      λ c.
       ShowsCell kind.put kind.spare t (get_or words (seq_of n t) 0)
       (get_elem? (set s.homes (t % n) maybe.none) (t % n)) c.item c.mark
       in (
         old.1,
         acted kind.blank e (Writing t x) words (set s.homes (t % n) maybe.none) may
             (staged_turn n a t q q' turn r.history (entry kind.blank v.known e ∷ []) s.views v
-            (acting kind.blank e (Writing t x)) at r.staged (work, has) not_writing not_reading
-            (λ y b h. let same : record { ticket = t; mark = Claimed; item = x; actor = a } ≡ record {
-              ticket = t;
-              mark =
-                  Claimed;
-              item = y;
-              actor = b;
-            } = cc in
-            (sym (ap (λ (c : Cell T). c.actor) same), ap (λ (c : Cell T). Writing t c.item) same))
-            (λ y b h. absurd
-            (let same : record { ticket = t; mark = Claimed; item = x; actor = a } ≡ record {
-              ticket = t;
-              mark =
-                  Emptying;
-              item = y;
-              actor = b;
-            } = cc in let m : Claimed ≡ Emptying = ap (λ (c : Cell T). c.mark) same in
-            cc)))
+            (acting kind.blank e (Writing t x)) at r.staged (work, has)
+            (record {
+              left_write = not_writing;
+              left_read = not_reading;
+              now_write = λ y b h.
+                  let same : record { ticket = t; mark = Claimed; item = x; actor = a } ≡ record {
+                    ticket = t;
+                    mark = Claimed;
+                    item = y;
+                    actor = b;
+                  } = cc in (sym (ap (λ (c : Cell T). c.actor) same), ap (λ (c : Cell T). Writing t c.item) same);
+              now_read =
+                  λ y b h. absurd
+                  (let same : record { ticket = t; mark = Claimed; item = x; actor = a } ≡ record {
+                    ticket = t;
+                    mark = Emptying;
+                    item = y;
+                    actor = b;
+                  } = cc in let m : Claimed ≡ Emptying = ap (λ (c : Cell T). c.mark) same in cc);
+            }))
             (shown_turn kind.put kind.spare n a t q q' r.history (longer kind.blank e) s.words words s.homes
             (set s.homes (t % n) maybe.none) (sound_next e may) turn (omega arith) r.shown
-            (length-set s.words NEXT (t + 1)) (length-set s.homes (t % n) maybe.none)
-            (get_or-set_same s.words NEXT (t + 1) 0 (omega arith))
-            (get_or-set_other s.words NEXT FRONT (t + 1) 0 (λ z. omega arith) ∙ r.shown.front) (omega arith)
-            (λ i _. other i) (λ i apart. set_else s.homes (t % n) i maybe.none apart)
-            (λ c is. let same : new ≡ c = cc in subst W same (other (t % n) ∙ old.0))
-            (λ none. absurd (let wrong : None ≡ Some new = sym none ∙ has in cc))
-            (λ u _. kind.stays n r.history (entry kind.blank v.known e) u (λ z y is. cc))),
+            (record {
+              wide = length-set s.words NEXT (t + 1);
+              places = length-set s.homes (t % n) maybe.none;
+              next = get_or-set_same s.words NEXT (t + 1) 0 (omega arith);
+              front = get_or-set_other s.words NEXT FRONT (t + 1) 0 (λ z. omega arith) ∙ r.shown.front;
+              bounded = omega arith;
+              words_else =
+                  λ i _. other i;
+              homes_else = λ i apart. set_else s.homes (t % n) i maybe.none apart;
+              cell_here = λ c is.
+                  let same : new ≡ c = cc in subst W same (other (t % n) ∙ old.0);
+              free_here = λ none. not_both none has;
+              spare_else =
+                  λ u _. kind.stays n r.history (entry kind.blank v.known e) u (λ z y is. cc);
+            })),
       )
 
   pub write_step : (t : ℕ) (x : T) → v.stage ≡ Writing t x → HasCell r.queue.cells t Claimed x a
@@ -141,34 +152,47 @@ module _ {S T N : Type 0} (kind : PlaceKind S T N) (n f : ℕ) (s : State S (Sig
       in let below : (q.next - n ≤ t) × (t < q.next) = within n q t was sound old
       in let words : List ℕ = set s.words (seq_of n t) (t + 1)
       in let homes : List (maybe.Option S) = set s.homes (t % n) (maybe.some (kind.put x))
-      in let W : Cell T
-      → Type 0 = λ c.
+      in let W : Cell T → Type 0 =
+      λ c.
       ShowsCell kind.put kind.spare t (get_or words (seq_of n t) 0) (get_elem? homes (t % n)) c.item c.mark
       in acted kind.blank e Idle words homes may
       (staged_turn n a t q q' turn r.history (entry kind.blank v.known e ∷ []) s.views v
       (acting kind.blank e Idle) at r.staged work
-      (λ p y is. let same : Writing t x ≡ Writing p y = sym stage ∙ is in cc)
-      (λ p y is. absurd (let wrong : Writing t x ≡ Reading p y = sym stage ∙ is in cc))
-      (λ y b h. absurd
-      (let same : new ≡ record { ticket = t; mark = Claimed; item = y; actor = b } = cc in let m : Written ≡ Claimed =
-      ap (λ (c : Cell T). c.mark) same in cc))
-      (λ y b h. absurd
-      (let same : new ≡ record { ticket = t; mark = Emptying; item = y; actor = b } = cc in
-      let m : Written ≡ Emptying = ap (λ (c : Cell T). c.mark) same in cc)))
+      (record {
+        left_write = λ p y is. let same : Writing t x ≡ Writing p y = sym stage
+            ∙ is in cc;
+        left_read = λ p y is. absurd (let wrong : Writing t x ≡ Reading p y = sym stage ∙ is in cc);
+        now_write =
+            λ y b h. absurd
+            (let same : new ≡ record { ticket = t; mark = Claimed; item = y; actor = b } = cc in let m : Written ≡ Claimed =
+            ap (λ (c : Cell T). c.mark) same in cc);
+        now_read = λ y b h.
+            absurd (let same : new ≡ record { ticket = t; mark = Emptying; item = y; actor = b } = cc in
+            let m : Written ≡ Emptying = ap (λ (c : Cell T). c.mark) same in cc);
+      }))
       (shown_turn kind.put kind.spare n a t q q' r.history (longer kind.blank e) s.words words s.homes homes
       (sound_next e may) turn below.1 r.shown
-      (length-set s.words (seq_of n t) (t + 1)) (length-set s.homes (t % n) (maybe.some (kind.put x)))
-      (get_or-set_other s.words (seq_of n t) NEXT (t + 1) 0 (λ z. omega arith) ∙ r.shown.next)
-      (get_or-set_other s.words (seq_of n t) FRONT (t + 1) 0 (λ z. omega arith) ∙ r.shown.front) r.shown.bounded
-      (λ i apart. get_or-set_other s.words (seq_of n t) (i * APART + SEQUENCES) (t + 1) 0 (λ z. apart (omega arith)))
-      (λ i apart. set_else s.homes (t % n) i (maybe.some (kind.put x)) apart)
-      (λ c is. let same : new ≡ c = cc in
-      subst W same (
-        get_or-set_same s.words (seq_of n t) (t + 1) 0 (seq_in t),
-        set_here s.homes (t % n) (maybe.some (kind.put x)) (place_in t),
-      ))
-      (λ none. absurd (let wrong : None ≡ Some new = sym none ∙ has in cc))
-      (λ u _. kind.stays n r.history (entry kind.blank v.known e) u (λ z y is. cc)))
+      (record {
+        wide = length-set s.words (seq_of n t) (t + 1);
+        places = length-set s.homes (t % n) (maybe.some (kind.put x));
+        next = get_or-set_other s.words (seq_of n t) NEXT (t + 1) 0 (λ z. omega arith)
+            ∙ r.shown.next;
+        front = get_or-set_other s.words (seq_of n t) FRONT (t + 1) 0 (λ z. omega arith)
+            ∙ r.shown.front;
+        bounded = r.shown.bounded;
+        words_else = λ i apart.
+            get_or-set_other s.words (seq_of n t) (i * APART + SEQUENCES) (t + 1) 0 (λ z. apart (omega arith));
+        homes_else =
+            λ i apart. set_else s.homes (t % n) i (maybe.some (kind.put x)) apart;
+        cell_here = λ c is. let same : new ≡ c = cc in
+            subst W same (
+              get_or-set_same s.words (seq_of n t) (t + 1) 0 (seq_in t),
+              set_here s.homes (t % n) (maybe.some (kind.put x)) (place_in t),
+            );
+        free_here = λ none. not_both none has;
+        spare_else =
+            λ u _. kind.stays n r.history (entry kind.blank v.known e) u (λ z y is. cc);
+      }))
 
   pub grab_step : (x : T) (b : ℕ) → HasCell r.queue.cells r.queue.front Written x b
       → ((p : ℕ) (y : T) → v.stage ≡ Writing p y → r.queue.front ≡ p)
@@ -189,34 +213,50 @@ module _ {S T N : Type 0} (kind : PlaceKind S T N) (n f : ℕ) (s : State S (Sig
       in let has : HasCell q'.cells t Emptying x a = cell_of-marked_same t Emptying a q.cells was old
       in let below : (q.next - n ≤ t) × (t < q.next) = within n q t was sound old
       in let before : (get_or s.words (seq_of n t) 0 ≡ t + 1)
-      × (get_elem? s.homes (t % n) ≡ maybe.some (maybe.some (kind.put x))) = r.shown.cells t was old
+      × (get_elem? s.homes (t % n) ≡ maybe.some (maybe.some (kind.put x))) =
+      r.shown.cells t was old
       in let wide : length s.words ≡ n * APART + SEQUENCES = r.shown.wide
       in let words : List ℕ = set s.words FRONT (t + 1)
       in let other : (i : ℕ) → get_or words (i * APART + SEQUENCES) 0 ≡ get_or s.words (i * APART + SEQUENCES) 0 = λ i.
       get_or-set_other s.words FRONT (i * APART + SEQUENCES) (t + 1) 0 (λ z. omega arith)
-      in let W : Cell T
-      → Type 0 = λ c.
+      in let W : Cell T → Type 0 =
+      λ c.
       ShowsCell kind.put kind.spare t (get_or words (seq_of n t) 0)
       (get_elem? (set s.homes (t % n) maybe.none) (t % n)) c.item c.mark
       in (
         before.1,
         acted kind.blank e (Reading t x) words (set s.homes (t % n) maybe.none) may
             (staged_turn n a t q q' turn r.history (entry kind.blank v.known e ∷ []) s.views v
-            (acting kind.blank e (Reading t x)) at r.staged (work, has) not_writing not_reading
-            (λ y j h. absurd
-            (let same : new ≡ record { ticket = t; mark = Claimed; item = y; actor = j } = cc in
-            let m : Emptying ≡ Claimed = ap (λ (c : Cell T). c.mark) same in cc))
-            (λ y j h. let same : new ≡ record { ticket = t; mark = Emptying; item = y; actor = j } = cc in
-            (sym (ap (λ (c : Cell T). c.actor) same), ap (λ (c : Cell T). Reading t c.item) same)))
+            (acting kind.blank e (Reading t x)) at r.staged (work, has)
+            (record {
+              left_write = not_writing;
+              left_read = not_reading;
+              now_write = λ y j h.
+                  absurd (let same : new ≡ record { ticket = t; mark = Claimed; item = y; actor = j } = cc in
+                  let m : Emptying ≡ Claimed = ap (λ (c : Cell T). c.mark) same in cc);
+              now_read = λ y j h.
+                  let same : new ≡ record { ticket = t; mark = Emptying; item = y; actor = j } = cc in
+                  (sym (ap (λ (c : Cell T). c.actor) same), ap (λ (c : Cell T). Reading t c.item) same);
+            }))
             (shown_turn kind.put kind.spare n a t q q' r.history (longer kind.blank e) s.words words s.homes
             (set s.homes (t % n) maybe.none) (sound_next e may) turn below.1 r.shown
-            (length-set s.words FRONT (t + 1)) (length-set s.homes (t % n) maybe.none)
-            (get_or-set_other s.words FRONT NEXT (t + 1) 0 (λ z. omega arith) ∙ r.shown.next)
-            (get_or-set_same s.words FRONT (t + 1) 0 (omega arith)) r.shown.bounded
-            (λ i _. other i) (λ i apart. set_else s.homes (t % n) i maybe.none apart)
-            (λ c is. let same : new ≡ c = cc in subst W same (other (t % n) ∙ before.0))
-            (λ none. absurd (let wrong : None ≡ Some new = sym none ∙ has in cc))
-            (λ u _. kind.stays n r.history (entry kind.blank v.known e) u (λ z y is. cc))),
+            (record {
+              wide = length-set s.words FRONT (t + 1);
+              places = length-set s.homes (t % n) maybe.none;
+              next =
+                  get_or-set_other s.words FRONT NEXT (t + 1) 0 (λ z. omega arith)
+                  ∙ r.shown.next;
+              front = get_or-set_same s.words FRONT (t + 1) 0 (omega arith);
+              bounded = r.shown.bounded;
+              words_else =
+                  λ i _. other i;
+              homes_else = λ i apart. set_else s.homes (t % n) i maybe.none apart;
+              cell_here = λ c is.
+                  let same : new ≡ c = cc in subst W same (other (t % n) ∙ before.0);
+              free_here = λ none. not_both none has;
+              spare_else =
+                  λ u _. kind.stays n r.history (entry kind.blank v.known e) u (λ z y is. cc);
+            })),
       )
 
   pub take_step : (note : N) (t : ℕ) (x : T) → v.stage ≡ Reading t x → HasCell r.queue.cells t Emptying x a
@@ -235,25 +275,35 @@ module _ {S T N : Type 0} (kind : PlaceKind S T N) (n f : ℕ) (s : State S (Sig
       in let homes : List (maybe.Option S) = set s.homes (t % n) (maybe.some (kind.plain note))
       in acted note e Idle words homes may
       (staged_turn n a t q q' turn r.history (entry note v.known e ∷ []) s.views v (acting note e Idle) at r.staged work
-      (λ p y is. absurd (let wrong : Reading t x ≡ Writing p y = sym stage ∙ is in cc))
-      (λ p y is. let same : Reading t x ≡ Reading p y = sym stage ∙ is in cc)
-      (λ y b h. absurd
-      (let wrong : None ≡ Some (record { ticket = t; mark = Claimed; item = y; actor = b }) = sym gone ∙ h in cc))
-      (λ y b h. absurd
-      (let wrong : None ≡ Some (record { ticket = t; mark = Emptying; item = y; actor = b }) = sym gone ∙ h in cc)))
+      (record {
+        left_write = λ p y is. absurd (let wrong : Reading t x ≡ Writing p y = sym stage ∙ is in cc);
+        left_read =
+            λ p y is. let same : Reading t x ≡ Reading p y = sym stage ∙ is in cc;
+        now_write = λ y b h. not_both gone h;
+        now_read =
+            λ y b h. not_both gone h;
+      }))
       (shown_turn kind.put kind.spare n a t q q' r.history (longer note e) s.words words s.homes homes
-      (sound_next e may) turn below.1 r.shown
-      (length-set s.words (seq_of n t) (t + n)) (length-set s.homes (t % n) (maybe.some (kind.plain note)))
-      (get_or-set_other s.words (seq_of n t) NEXT (t + n) 0 (λ z. omega arith) ∙ r.shown.next)
-      (get_or-set_other s.words (seq_of n t) FRONT (t + n) 0 (λ z. omega arith) ∙ r.shown.front) r.shown.bounded
-      (λ i apart. get_or-set_other s.words (seq_of n t) (i * APART + SEQUENCES) (t + n) 0 (λ z. apart (omega arith)))
-      (λ i apart. set_else s.homes (t % n) i (maybe.some (kind.plain note)) apart)
-      (λ c is. absurd (let wrong : None ≡ Some c = sym gone ∙ is in cc))
-      (λ _. (
-        get_or-set_same s.words (seq_of n t) (t + n) 0 (seq_in t),
-        set_here s.homes (t % n) (maybe.some (kind.plain note)) (place_in t)
-            ∙ ap (λ (z : S). maybe.some (maybe.some z)) (sym (kind.comes n r.history (entry note v.known e) t x refl)),
-      ))
-      (λ u apart.
-      kind.stays n r.history (entry note v.known e) u
-      (λ z y is same. let w : t ≡ z = cc in apart (sym same ∙ ap (λ (k : ℕ). k + n) (sym w)))))
+      (sound_next e may) turn below.1 r.shown (record {
+        wide = length-set s.words (seq_of n t) (t + n);
+        places = length-set s.homes (t % n) (maybe.some (kind.plain note));
+        next =
+            get_or-set_other s.words (seq_of n t) NEXT (t + n) 0 (λ z. omega arith)
+            ∙ r.shown.next;
+        front = get_or-set_other s.words (seq_of n t) FRONT (t + n) 0 (λ z. omega arith)
+            ∙ r.shown.front;
+        bounded = r.shown.bounded;
+        words_else = λ i apart.
+            get_or-set_other s.words (seq_of n t) (i * APART + SEQUENCES) (t + n) 0 (λ z. apart (omega arith));
+        homes_else =
+            λ i apart. set_else s.homes (t % n) i (maybe.some (kind.plain note)) apart;
+        cell_here = λ c is. not_both gone is;
+        free_here = λ _. (
+          get_or-set_same s.words (seq_of n t) (t + n) 0 (seq_in t),
+          set_here s.homes (t % n) (maybe.some (kind.plain note)) (place_in t)
+              ∙ ap (λ (z : S). maybe.some (maybe.some z)) (sym (kind.comes n r.history (entry note v.known e) t x refl)),
+        );
+        spare_else = λ u apart.
+            kind.stays n r.history (entry note v.known e) u
+            (λ z y is same. let w : t ≡ z = cc in apart (sym same ∙ ap (λ (k : ℕ). k + n) (sym w)));
+      }))

@@ -36,8 +36,8 @@ module _ {T : Type 0} where
       (whole : IsWhole k) where
     pub seen_alone : k.seen ≡ made
     seen_alone =
-        let P : List (Member T no_note)
-        → Type 0 = λ l. AllByRecursion (λ (x : Entry T no_note). (x.actor ≡ k.actor) ⊎ IsAmong x.actor l) k.seen
+        let P : List (Member T no_note) → Type 0 =
+        λ l. AllByRecursion (λ (x : Entry T no_note). (x.actor ≡ k.actor) ⊎ IsAmong x.actor l) k.seen
         in sym (all_own k.actor k.seen (subst P did.joined whole.actors)) ∙ sym whole.faithful.own ∙ did.own
 
     pub legal_alone : IsLegal n f made

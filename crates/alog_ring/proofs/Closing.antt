@@ -22,7 +22,7 @@ use Rattle.alog_ring.specs.Share.{ticket_and_item}
 use Rattle.alog_ring.specs.Sight.{Stage, Idle, Sight}
 use Rattle.alog_ring.specs.Rule.{IsAtWork, HasEntries, Knows, seq_of, ShowsCell, Ruled}
 use Rattle.alog_ring.specs.Board.{Leaves, AreInRow, value_at, LieIn}
-use Rattle.alog_ring.proofs.Lists.{same_or_not, found, prefix_same}
+use Rattle.alog_ring.proofs.Lists.{not_both, same_or_not, found, prefix_same}
 use Rattle.alog_ring.proofs.Showing.{near_apart}
 use Rattle.alog_ring.proofs.Looking.{on_option, lap}
 use Rattle.alog_ring.proofs.Telling.{members_distinct}
@@ -164,8 +164,8 @@ module _ {T : Type 0} where
       in elim (leb_tells first k) [
         | inl le ↦ at k le.1 (omega arith) small
         | inr lt ↦
-            let on : (t : ℕ) × (first ≤ t) × (t < first + n) × (t % n ≡ k % n)
-            × (k + n ≤ t) = lap first k first n some lt.1 (omega arith)
+            let on : (t : ℕ) × (first ≤ t) × (t < first + n) × (t % n ≡ k % n) × (k + n ≤ t) =
+            lap first k first n some lt.1 (omega arith)
             in at on.0 on.1 on.2 (on.3 ∙ small)
       ]
 
@@ -185,7 +185,7 @@ in_row {T} first low (c ∷ cs) high rises from listed =
           in let later : cell_of first cs ≡ Some here.0 = sym (at_other c.ticket first (Some c) (cell_of first cs) apart)
           ∙ here.1
           in let none : cell_of first cs ≡ None = unlisted_below first (c.ticket + 1) cs high rises.1 (omega arith)
-          in absurd (let wrong : None ≡ Some here.0 = sym none ∙ later in cc)
+          in not_both none later
     ]
     in let tail : AreInRow (c.ticket + 1) cs = in_row (c.ticket + 1) (c.ticket + 1) cs high rises.1
     (λ t d is. (listed_within t (c.ticket + 1) cs high d rises.1 is).0)
@@ -218,8 +218,7 @@ value_unlisted first [] i row is = refl
 value_unlisted {T} first (d ∷ cs) zero row is =
     let here : cell_of (first + 0) (d ∷ cs) ≡ Some d =
     at_same d.ticket (first + 0) (Some d) (cell_of (first + 0) cs) (omega (arith, row.0))
-    in let wrong : None ≡ Some d = sym is ∙ here
-    in cc
+    in not_both is here
 value_unlisted {T} first (d ∷ cs) (suc i) row is =
     let e : first + suc i ≡ first + 1 + i = omega arith
     in let P : ℕ → Type 0 = λ z. cell_of z cs ≡ None
@@ -271,8 +270,8 @@ module _ {T : Type 0} (n f id : ℕ) (v : Sight T no_note) (words : List ℕ) (p
             in elim (on_option (cell_of t q.cells)) [
               | inr some ↦
                   let c : Cell T = some.0
-                  in let W : Mark
-                  → Type 0 = λ m.
+                  in let W : Mark → Type 0 =
+                  λ m.
                   ShowsCell some_value no_value t (get_or fin.0.words (seq_of n t) 0)
                   (get_elem? fin.0.homes (t % n)) c.item m
                   in let lies : (get_or fin.0.words (seq_of n t) 0 ≡ t + 1)
@@ -284,7 +283,7 @@ module _ {T : Type 0} (n f id : ℕ) (v : Sight T no_note) (words : List ℕ) (p
                   elim (leb_tells q.next t) [
                     | inl le ↦ le.1
                     | inr lt ↦ let here : IsListed t q.cells = sound.listed t (omega arith) lt.1 in
-                        absurd (let wrong : None ≡ Some here.0 = sym none ∙ here.1 in cc)
+                        not_both none here.1
                   ]
                   in let room : IsRoom n t q.cells =
                   λ u e.

@@ -67,12 +67,12 @@ module _ {T N : Type 0} where
         → get_elem? after_join b ≡ some u → P b u
     which P mine its others b u e =
         elim (at_set (set views a both) o b gone u e) [
-          | inl same ↦ let Q : ℕ → Type 0 = λ z. P z u in let R : Sight T N
-              → Type 0 = λ z. P o z in subst Q (sym same.0) (subst R same.1 its)
+          | inl same ↦ let Q : ℕ → Type 0 = λ z. P z u in let R : Sight T N → Type 0 =
+              λ z. P o z in subst Q (sym same.0) (subst R same.1 its)
           | inr other ↦
               elim (at_set views a b both u other.1) [
-                | inl same ↦ let Q : ℕ → Type 0 = λ z. P z u in let R : Sight T N
-                    → Type 0 = λ z. P a z in subst Q (sym same.0) (subst R same.1 mine)
+                | inl same ↦ let Q : ℕ → Type 0 = λ z. P z u in let R : Sight T N → Type 0 =
+                    λ z. P a z in subst Q (sym same.0) (subst R same.1 mine)
                 | inr old ↦ others b u old.0 other.0 old.1
               ]
         ]
@@ -230,8 +230,8 @@ module _ {T N : Type 0} where
         in let own : w.known.own ≡ own_of w.known.actor r.history = its.own
         ∙ ap (λ (z : ℕ). own_of z r.history) (sym other_work.0)
         in let E : Member T N → Type 0 = λ c. c.own ≡ own_of c.actor r.history
-        in let G : Member T N
-        → Type 0 = λ c. IsRetired (after_join n f a o v w both r.history s.views at apart at_other live r.told) c.actor
+        in let G : Member T N → Type 0 =
+        λ c. IsRetired (after_join n f a o v w both r.history s.views at apart at_other live r.told) c.actor
         in let retired_o : G (record { actor = w.known.actor; own = w.known.own }) =
         let P : ℕ → Type 0 = λ z. IsRetired (after_join n f a o v w both r.history s.views at apart at_other live r.told) z
         in subst P (sym other_work.0) (gone_retired n f a o v w both r.history s.views at apart at_other live r.told)

@@ -1,6 +1,6 @@
 -- Lists read by `get_elem?`, prefixes, and sums over the views.
 use Rattle.std.proofs.Common.{◌≡◌, ◌≢◌, ℕ, zero, suc, ◌+◌, ◌<◌, ◌≤◌, ◌⊎◌, List, [], ◌∷◌, ◌++◌, length, get_or, set, sym, ap, ◌∙◌}
-use Rattle.std.proofs.Common.{inl, inr, append_assoc, arith}
+use Rattle.std.proofs.Common.{inl, inr, append_assoc, arith, Option, Some, None}
 use Rattle.std.specs.List.{AllByRecursion, sum_by}
 use Rattle.std.proofs.lemmas.List.{append-nil}
 use Rattle.std.proofs.lemmas.Bool.Decides.{eqb_tells}
@@ -12,6 +12,10 @@ use Rattle.atomic_table.proofs.Lists.{set_else}
 
 pub same_or_not : (a b : ℕ) → (a ≡ b) ⊎ (a ≢ b)
 same_or_not a b = elim (eqb_tells a b) [ inl h ↦ inl h.1 | inr h ↦ inr h.1 ]
+
+-- a look-up finds nothing, or something
+pub not_both : {A X : Type 0} {o : Option A} {a : A} → o ≡ None → o ≡ Some a → X
+not_both {a = a} nothing something = let wrong : None ≡ Some a = sym nothing ∙ something in absurd (cc)
 
 module _ {A : Type 0} where
   pub inside : (l : List A) (i : ℕ) (a : A) → get_elem? l i ≡ some a → i < length l

@@ -13,7 +13,7 @@ use Rattle.alog_core.proofs.Cells.{ticket_of_cell}
 use Rattle.alog_core.proofs.Rising.{unlisted_below}
 use Rattle.alog_ring.specs.declared.words.TheConstants.{SEQUENCES, APART}
 use Rattle.alog_ring.specs.Rule.{seq_of, ShowsCell, Shown}
-use Rattle.alog_ring.proofs.Lists.{same_or_not}
+use Rattle.alog_ring.proofs.Lists.{not_both, same_or_not}
 
 pub on_option : {A : Type 0} (o : Option A) → (o ≡ None) ⊎ ((a : A) × (o ≡ Some a))
 on_option None = inl refl
@@ -45,8 +45,8 @@ lap (suc d) p next n some a b =
     elim (leb_tells next (p + n)) [
       | inl le ↦ (p + n, le.1, omega arith, add-mod_right p n, omega arith)
       | inr lt ↦
-          let more : (t : ℕ) × (next ≤ t) × (t < next + n) × (t % n ≡ (p + n) % n)
-          × (p + n + n ≤ t) = lap d (p + n) next n some lt.1 (omega arith)
+          let more : (t : ℕ) × (next ≤ t) × (t < next + n) × (t % n ≡ (p + n) % n) × (p + n + n ≤ t) =
+          lap d (p + n) next n some lt.1 (omega arith)
           in (more.0, more.1, more.2, more.3 ∙ add-mod_right p n, omega (arith, more.4))
     ]
 
@@ -82,8 +82,8 @@ module _ {S T N : Type 0} (put : T → S) (spare : ℕ → List (Entry T N) → 
     -- the place has gone on from a ticket that is no longer listed
     passed : (p : ℕ) → p < q.next → cell_of p q.cells ≡ None → p < get_or words (seq_of n p) 0
     passed p low none =
-        let on : (t : ℕ) × (q.next ≤ t) × (t < q.next + n) × (t % n ≡ p % n)
-        × (p + n ≤ t) = lap q.next p q.next n (omega arith) low (omega arith)
+        let on : (t : ℕ) × (q.next ≤ t) × (t < q.next + n) × (t % n ≡ p % n) × (p + n ≤ t) =
+        lap q.next p q.next n (omega arith) low (omega arith)
         in let t : ℕ = on.0
         in let same : get_or words (seq_of n t) 0 ≡ get_or words (seq_of n p) 0 =
         ap (λ (z : ℕ). get_or words (z * APART + SEQUENCES) 0) on.3
@@ -92,7 +92,7 @@ module _ {S T N : Type 0} (put : T → S) (spare : ℕ → List (Entry T N) → 
           | inr by ↦
               let P : ℕ → Type 0 = λ z. IsListed z q.cells
               in let apart : by.0 ≢ p = λ e. let listed : IsListed p q.cells = subst P e by.2 in
-              let wrong : None ≡ Some listed.0 = sym none ∙ listed.1 in cc
+              not_both none listed.1
               in elim (word_blocked t by) [ inl e ↦ omega (arith, e, by.1, on.4) | inr e ↦ omega (arith, e, by.1, on.4) ]
         ]
 
@@ -134,7 +134,7 @@ module _ {S T N : Type 0} (put : T → S) (spare : ℕ → List (Entry T N) → 
               elim (same_or_not p q.next) [
                 | inl e ↦ e
                 | inr other ↦ let listed : IsListed p q.cells = sound.listed p (omega arith) (omega (arith, sound.ordered))
-                    in absurd (let wrong : None ≡ Some listed.0 = sym none ∙ listed.1 in cc)
+                    in not_both none listed.1
               ]
               in elim (room_or_blocked n p q.cells) [
                 | inl room ↦ inr (inl (omega (arith, (shown.free p (omega arith) (omega arith) room).0), same, inl none))
@@ -143,8 +143,8 @@ module _ {S T N : Type 0} (put : T → S) (spare : ℕ → List (Entry T N) → 
               ]
           | inr some ↦
               let c : Cell T = some.0
-              in let F : Mark
-              → Type 0 = λ m. ShowsCell put spare p (get_or words (seq_of n p) 0) (get_elem? homes (p % n)) c.item m
+              in let F : Mark → Type 0 =
+              λ m. ShowsCell put spare p (get_or words (seq_of n p) 0) (get_elem? homes (p % n)) c.item m
               in let shows : F c.mark = shown.cells p c some.1
               in elim (on_mark c.mark) [
                 | inl e ↦ let w : get_or words (seq_of n p) 0 ≡ p = subst F e shows in
@@ -170,8 +170,8 @@ module _ {S T N : Type 0} (put : T → S) (spare : ℕ → List (Entry T N) → 
               ]
           | inr some ↦
               let c : Cell T = some.0
-              in let F : Mark
-              → Type 0 = λ m. ShowsCell put spare p (get_or words (seq_of n p) 0) (get_elem? homes (p % n)) c.item m
+              in let F : Mark → Type 0 =
+              λ m. ShowsCell put spare p (get_or words (seq_of n p) 0) (get_elem? homes (p % n)) c.item m
               in let e : c.mark ≡ Emptying = (sound.emptied p c some.1).1 low
               in let w : get_or words (seq_of n p) 0 ≡ p + 1 = subst F e (shown.cells p c some.1)
               in inl (w, λ high. absurd (omega arith))

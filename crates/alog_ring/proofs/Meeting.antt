@@ -120,8 +120,8 @@ module _ {S T N : Type 0} (kind : PlaceKind S T N) (n f : ℕ) (s : State S (Sig
       → Ruled kind.put kind.spare n f
       (record { words = set s.words i (get_or s.words i 0); homes = s.homes; views = set s.views a w })
   seen_anew i w free places first parts joined own seen knows =
-      let P : List ℕ
-      → Type 0 = λ ws. Ruled kind.put kind.spare n f (record { words = ws; homes = s.homes; views = set s.views a w })
+      let P : List ℕ → Type 0 =
+      λ ws. Ruled kind.put kind.spare n f (record { words = ws; homes = s.homes; views = set s.views a w })
       in let Q : List (Entry T N) → Type 0 = λ h. StandsFor n f h r.queue
       in subst P (sym (set-get_or s.words i 0)) (record {
         history = r.history ++ [];
@@ -168,8 +168,7 @@ module _ {S T N : Type 0} (kind : PlaceKind S T N) (n f slots id : ℕ) (me : Me
         parts = k.parts;
         seen = k.seen;
         own = k.own;
-        joined =
-            k.joined;
+        joined = k.joined;
       }
       in let w : Sight T N = record { stage = Idle; known = k' }
       in let F : Stage T N → Type 0 = λ z. IsFree z
@@ -316,8 +315,8 @@ module _ {S T N : Type 0} (kind : PlaceKind S T N) (n f slots id : ℕ) (me : Me
       in let F : Stage T N → Type 0 = λ z. IsFree z
       in let free : IsFree me.0.stage = subst F (sym idle) ((λ p x e. cc), (λ p x e. cc))
       in let done = looks kind n f s r id me.0 at NEXT work free Idle work
-      in let H : List (Entry T N)
-      → Type 0 = λ h. AllByRecursion (λ (x : Entry T N). (x.actor ≡ k.actor) ⊎ IsAmong x.actor k.joined) h
+      in let H : List (Entry T N) → Type 0 =
+      λ h. AllByRecursion (λ (x : Entry T N). (x.actor ≡ k.actor) ⊎ IsAmong x.actor k.joined) h
       in let left : left_by (start k.first) (r.history ++ []) ≡ r.queue =
       (λ i. left_by (start (r.told.first id me.0 at live i)) (append-nil r.history i)) ∙ r.stands.queue
       in let W : Queue T → Type 0 = λ q. (t : ℕ) (c : Cell T) → cell_of t q.cells ≡ Some c → c.mark ≡ Written

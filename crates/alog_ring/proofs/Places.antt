@@ -120,8 +120,8 @@ module _ {T : Type 0} (n f slots id : ℕ) (me : Me (Option T) (Sight T no_note)
       told_as n f slots id me NEXT (λ y. y) (λ y m. saw_both t me m)
       (λ y m. (u : List (Entry T no_note)) → me.0.stage ≡ Joined u → saw_both u me m)
       (λ y m told u at. let both : ◌≡◌ {A = Stage T no_note} (Joined t) (Joined u) = sym stage
-      ∙ at in let same : t ≡ u = cc in let P : List (Entry T no_note)
-      → Type 0 = λ z. saw_both z me m in subst P same told)
+      ∙ at in let same : t ≡ u = cc in let P : List (Entry T no_note) → Type 0 =
+      λ z. saw_both z me m in subst P same told)
       (sees_both (option_kind T) n f slots id me live t stage)
 
   pub see_all_may : 0 < me.0.known.parts → me.0.stage ≡ Idle

@@ -53,8 +53,8 @@ module _ {T N : Type 0} (n f a : ℕ) (v : Sight T N) (parts : ℕ) (stage : Sta
         elim (at_end (set views a left_seat) new_seat u b e) [
           | inl old ↦
               elim (at_set views a b left_seat u old) [
-                | inl same ↦ let Q : ℕ → Type 0 = λ z. P z u in let R : Sight T N
-                    → Type 0 = λ z. P a z in subst Q (sym same.0) (subst R same.1 mine)
+                | inl same ↦ let Q : ℕ → Type 0 = λ z. P z u in let R : Sight T N → Type 0 =
+                    λ z. P a z in subst Q (sym same.0) (subst R same.1 mine)
                 | inr other ↦ others b u other.0 other.1
               ]
           | inr last ↦

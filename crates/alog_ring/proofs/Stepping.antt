@@ -140,8 +140,8 @@ module _ {S T N : Type 0} (kind : PlaceKind S T N) (n f : ℕ) (s : State S (Sig
         → Ruled kind.put kind.spare n f
         (record { words = set s.words i (get_or s.words i 0); homes = s.homes; views = set s.views a stepping })
     kept_still i free stands same knows =
-        let P : List ℕ
-        → Type 0 = λ ws.
+        let P : List ℕ → Type 0 =
+        λ ws.
         Ruled kind.put kind.spare n f (record { words = ws; homes = s.homes; views = set s.views a stepping })
         in subst P (sym (set-get_or s.words i 0))
         (kept r.queue s.words s.homes stands
@@ -155,8 +155,7 @@ module _ {S T N : Type 0} (kind : PlaceKind S T N) (n f : ℕ) (s : State S (Sig
       (record {
         words = set s.words i (get_or s.words i 0);
         homes = s.homes;
-        views =
-            set s.views a (record { stage = stage; known = grown v.known r.history [] });
+        views = set s.views a (record { stage = stage; known = grown v.known r.history [] });
       })
       × Made v.known (grown v.known r.history []) []
   looks i work free stage knows =

@@ -117,8 +117,7 @@ module _ {S T N : Type 0} (kind : PlaceKind S T N) (n f : ℕ) (slots id : ℕ) 
                   in (
                     record {
                       stage = Idle;
-                      known =
-                          grown me.0.known r.history (entry kind.blank me.0.known (PushBusy t) ∷ []);
+                      known = grown me.0.known r.history (entry kind.blank me.0.known (PushBusy t) ∷ []);
                     },
                     keeps,
                     tt,
@@ -204,11 +203,11 @@ module _ {S T N : Type 0} (kind : PlaceKind S T N) (n f : ℕ) (slots id : ℕ) 
       let y : ℕ = get_or s.words NEXT 0
       in let q : Queue T = r.queue
       in let is : y ≡ q.next = r.shown.next
-      in let knows : IsAtWork id me.0.known × (t ≤ q.next)
-      × IsRoom n t q.cells = knows_now kind n f s r id me.0 at (SawFree t) stage
+      in let knows : IsAtWork id me.0.known × (t ≤ q.next) × IsRoom n t q.cells =
+      knows_now kind n f s r id me.0 at (SawFree t) stage
       in let free : IsFree me.0.stage = free_at me.0.stage (SawFree t) stage (saw_free_free t)
-      in let told : Me S (Sight T N)
-      → Type 0 = λ m. claimed kind.blank kind.put kind.spare (step slots NEXT t new (some (kind.put x))) me y m
+      in let told : Me S (Sight T N) → Type 0 =
+      λ m. claimed kind.blank kind.put kind.spare (step slots NEXT t new (some (kind.put x))) me y m
       in exchanged y t new (Goes s NEXT told)
       (λ hit.
       let same : t ≡ q.next = sym hit ∙ is
@@ -225,8 +224,8 @@ module _ {S T N : Type 0} (kind : PlaceKind S T N) (n f : ℕ) (slots id : ℕ) 
       sym (kind.stays n r.history (entry kind.blank me.0.known e) q.next (λ u z is. cc))
       ∙ ap (λ (z : ℕ). kind.spare z (r.history ++ entry kind.blank me.0.known e ∷ []) q.next)
       (sym (r.told.places id me.0 at knows.0.1))
-      in let D : ℕ
-      → Type 0 = λ z.
+      in let D : ℕ → Type 0 =
+      λ z.
       claimed kind.blank kind.put kind.spare (step slots NEXT t new (some (kind.put x))) me z
       (w, (q.next % n, y0) ∷ me.1)
       in (
@@ -254,8 +253,8 @@ module _ {S T N : Type 0} (kind : PlaceKind S T N) (n f : ℕ) (slots id : ℕ) 
   pub writes : (t : ℕ) (x : T) (more : List (ℕ × S)) → me.0.stage ≡ Writing t x → me.1 ≡ (t % n, kind.put x) ∷ more
       → Allows Holds slots id me (seq_of n t) (λ _. t + 1) (λ _ m. wrote kind.blank t me m)
   writes t x more stage has s r wide at _ =
-      let knows : IsAtWork id me.0.known
-      × HasCell r.queue.cells t Claimed x id = knows_now kind n f s r id me.0 at (Writing t x) stage
+      let knows : IsAtWork id me.0.known × HasCell r.queue.cells t Claimed x id =
+      knows_now kind n f s r id me.0 at (Writing t x) stage
       in let did = write_step kind n f s r id me.0 at knows.0 t x stage knows.1
       in let w : Sight T N =
       record { stage = Idle; known = grown me.0.known r.history (entry kind.blank me.0.known (Write t) ∷ []) }
@@ -269,8 +268,8 @@ module _ {S T N : Type 0} (kind : PlaceKind S T N) (n f : ℕ) (slots id : ℕ) 
       let y : ℕ = get_or s.words FRONT 0
       in let q : Queue T = r.queue
       in let is : y ≡ q.front = r.shown.front
-      in let knows : IsAtWork id me.0.known × (t ≤ q.front)
-      × (q.front ≤ t → IsWritten t q.cells) = knows_now kind n f s r id me.0 at (SawFull t) stage
+      in let knows : IsAtWork id me.0.known × (t ≤ q.front) × (q.front ≤ t → IsWritten t q.cells) =
+      knows_now kind n f s r id me.0 at (SawFull t) stage
       in let free : IsFree me.0.stage = free_at me.0.stage (SawFull t) stage (saw_full_free t)
       in let told : Me S (Sight T N) → Type 0 = λ m. grabbed kind.blank kind.put (step slots FRONT t new said) me y m
       in exchanged y t new (Goes s FRONT told)
@@ -285,10 +284,10 @@ module _ {S T N : Type 0} (kind : PlaceKind S T N) (n f : ℕ) (slots id : ℕ) 
       in let e : Event T = Grab q.front
       in let w : Sight T N =
       record { stage = Reading q.front x; known = grown me.0.known r.history (entry kind.blank me.0.known e ∷ []) }
-      in let H : ℕ
-      → Type 0 = λ z. Ruled kind.put kind.spare n f (stepped s FRONT z id me.1 w (takes (q.front % n) (kind.put x)))
-      in let D : ℕ
-      → Type 0 = λ z.
+      in let H : ℕ → Type 0 =
+      λ z. Ruled kind.put kind.spare n f (stepped s FRONT z id me.1 w (takes (q.front % n) (kind.put x)))
+      in let D : ℕ → Type 0 =
+      λ z.
       grabbed kind.blank kind.put (step slots FRONT t new said) me z (w, (q.front % n, kind.put x) ∷ me.1)
       in (
         w,

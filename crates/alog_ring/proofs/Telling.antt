@@ -105,8 +105,8 @@ module _ {T N : Type 0} where
     own_entries =
         let has : HasEntries h views a v.known = told.entries a v at live
         in let E : List (Member T N) → Type 0 = λ l. AreExact l (h ++ more)
-        in let R : List (Member T N)
-        → Type 0 = λ l. AllByRecursion (λ (c : Member T N). IsRetired (set views a w) c.actor) l
+        in let R : List (Member T N) → Type 0 =
+        λ l. AllByRecursion (λ (c : Member T N). IsRetired (set views a w) c.actor) l
         in record {
           own = grows.own ∙ (λ i. has.own i ++ sym of.all i) ∙ sym (own_of-append a h more);
           joined = subst E (sym grows.joined)
@@ -151,8 +151,8 @@ module _ {T N : Type 0} where
           ];
       distinct = λ b u e.
           view_is b u e (λ x. 0 < x.known.parts → AreDistinct x.known.joined)
-          (λ _. let P : List (Member T N)
-          → Type 0 = λ l. AreDistinct l in subst P (sym grows.joined) (told.distinct a v at live))
+          (λ _. let P : List (Member T N) → Type 0 =
+          λ l. AreDistinct l in subst P (sym grows.joined) (told.distinct a v at live))
           (λ _ g. told.distinct b u g);
       once =
           λ b u e some_u j x g some_x apart c in_u in_x.

@@ -14,7 +14,7 @@ use Rattle.alog_ring.specs.Known.{Known}
 use Rattle.alog_ring.specs.Sight.{Stage, Idle, Fresh, SawNext, SawFree, Writing, SawFront, SawFull, Reading, Joined, Lent, Gone}
 use Rattle.alog_ring.specs.Sight.{Sight}
 use Rattle.alog_ring.specs.Rule.{Knows, Staged}
-use Rattle.alog_ring.proofs.Lists.{same_or_not, inside, one_value, prefix_longer}
+use Rattle.alog_ring.proofs.Lists.{not_both, same_or_not, inside, one_value, prefix_longer}
 
 -- a cell's ticket lies in the last n
 pub within : {T : Type 0} (n : ℕ) (q : Queue T) (t : ℕ) (c : Cell T) → IsSound n q → cell_of t q.cells ≡ Some c
@@ -43,14 +43,14 @@ module _ {T : Type 0} (n a : ℕ) (q : Queue T) (sound : IsSound n q) where
         front = omega arith;
         near = omega arith;
         room = λ p low free u e. let apart : t ≢ u = omega arith in cell_of-append_other u q.cells c apart ∙ free u e;
-        written = λ p high is. let w : (q.next - n ≤ p)
-            × (p < q.next) = within n q p (record { ticket = p; mark = Written; item = is.0; actor = is.1 }) sound is.2 in
+        written = λ p high is. let w : (q.next - n ≤ p) × (p < q.next) =
+            within n q p (record { ticket = p; mark = Written; item = is.0; actor = is.1 }) sound is.2 in
             omega (arith, w.1);
-        writers = λ p y j _ has. let w : (q.next - n ≤ p)
-            × (p < q.next) = within n q p (record { ticket = p; mark = Claimed; item = y; actor = j }) sound has in
+        writers = λ p y j _ has. let w : (q.next - n ≤ p) × (p < q.next) =
+            within n q p (record { ticket = p; mark = Claimed; item = y; actor = j }) sound has in
             omega (arith, w.1);
-        readers = λ p y j _ has. let w : (q.next - n ≤ p)
-            × (p < q.next) = within n q p (record { ticket = p; mark = Emptying; item = y; actor = j }) sound has in
+        readers = λ p y j _ has. let w : (q.next - n ≤ p) × (p < q.next) =
+            within n q p (record { ticket = p; mark = Emptying; item = y; actor = j }) sound has in
             omega (arith, w.1);
       }
 
@@ -144,14 +144,14 @@ module _ {T : Type 0} (n a : ℕ) (q : Queue T) (sound : IsSound n q) where
     front = omega arith;
     near = omega arith;
     room = λ p low free. free;
-    written = λ p high is. let w : (q.next - n ≤ p)
-        × (p < q.next) = within n q p (record { ticket = p; mark = Written; item = is.0; actor = is.1 }) sound is.2 in
+    written = λ p high is. let w : (q.next - n ≤ p) × (p < q.next) =
+        within n q p (record { ticket = p; mark = Written; item = is.0; actor = is.1 }) sound is.2 in
         omega (arith, w.1);
-    writers = λ p y j _ has. let w : (q.next - n ≤ p)
-        × (p < q.next) = within n q p (record { ticket = p; mark = Claimed; item = y; actor = j }) sound has in
+    writers = λ p y j _ has. let w : (q.next - n ≤ p) × (p < q.next) =
+        within n q p (record { ticket = p; mark = Claimed; item = y; actor = j }) sound has in
         omega (arith, w.1);
-    readers = λ p y j _ has. let w : (q.next - n ≤ p)
-        × (p < q.next) = within n q p (record { ticket = p; mark = Emptying; item = y; actor = j }) sound has in
+    readers = λ p y j _ has. let w : (q.next - n ≤ p) × (p < q.next) =
+        within n q p (record { ticket = p; mark = Emptying; item = y; actor = j }) sound has in
         omega (arith, w.1);
   }
 
@@ -178,14 +178,17 @@ module _ {T N : Type 0} (n a t : ℕ) (q r : Queue T) (turn : Turn n a t q r) (h
   knows_on j k Lent other is = tt
   knows_on j k Gone other is = tt
 
-  -- The stages after a turn. The seat that steps was at work on no other cell, and is at work on this one if anyone is.
+  -- The seat that steps was at work on no other cell, and is at work on this one if anyone is.
+  pub record WorksAlone (v w : Sight T N) : Type 0 where
+    pub left_write : (p : ℕ) (x : T) → v.stage ≡ Writing p x → t ≡ p
+    pub left_read : (p : ℕ) (x : T) → v.stage ≡ Reading p x → t ≡ p
+    pub now_write : (x : T) (b : ℕ) → HasCell r.cells t Claimed x b → (b ≡ a) × (w.stage ≡ Writing t x)
+    pub now_read : (x : T) (b : ℕ) → HasCell r.cells t Emptying x b → (b ≡ a) × (w.stage ≡ Reading t x)
+
+  -- the stages after a turn
   pub staged_turn : (views : List (Sight T N)) (v w : Sight T N) → get_elem? views a ≡ some v → Staged n h q views
-      → Knows n (h ++ more) r a w.known w.stage
-      → ((p : ℕ) (x : T) → v.stage ≡ Writing p x → t ≡ p) → ((p : ℕ) (x : T) → v.stage ≡ Reading p x → t ≡ p)
-      → ((x : T) (b : ℕ) → HasCell r.cells t Claimed x b → (b ≡ a) × (w.stage ≡ Writing t x))
-      → ((x : T) (b : ℕ) → HasCell r.cells t Emptying x b → (b ≡ a) × (w.stage ≡ Reading t x))
-      → Staged n (h ++ more) r (set views a w)
-  staged_turn views v w at staged mine left_write left_read now_write now_read =
+      → Knows n (h ++ more) r a w.known w.stage → WorksAlone v w → Staged n (h ++ more) r (set views a w)
+  staged_turn views v w at staged mine works =
       let here : get_elem? (set views a w) a ≡ some w = set_here views a w (inside views a v at)
       in record {
         knows =
@@ -203,15 +206,15 @@ module _ {T N : Type 0} (n a t : ℕ) (q r : Queue T) (turn : Turn n a t q r) (h
               | inl same ↦
                   let H : ℕ → Type 0 = λ z. HasCell r.cells z Claimed x b
                   in let S : ℕ → Type 0 = λ z. w.stage ≡ Writing z x
-                  in let now : (b ≡ a) × (w.stage ≡ Writing t x) = now_write x b (subst H (sym same) has)
+                  in let now : (b ≡ a) × (w.stage ≡ Writing t x) = works.now_write x b (subst H (sym same) has)
                   in let G : ℕ → Type 0 = λ c. get_elem? (set views a w) c ≡ some w
                   in (w, subst G (sym now.0) here, subst S same now.1)
               | inr apart ↦
-                  let old : (u : Sight T N) × (get_elem? views b ≡ some u)
-                  × (u.stage ≡ Writing p x) = staged.writers p x b (sym (turn.others p apart) ∙ has)
+                  let old : (u : Sight T N) × (get_elem? views b ≡ some u) × (u.stage ≡ Writing p x) =
+                  staged.writers p x b (sym (turn.others p apart) ∙ has)
                   in let not_me : b ≢ a = λ e. let G : ℕ → Type 0 = λ c. get_elem? views c ≡ some old.0 in
                   let is : old.0 ≡ v = one_value views a old.0 v (subst G e old.1) at in
-                  apart (left_write p x (sym (ap (λ (z : Sight T N). z.stage) is) ∙ old.2))
+                  apart (works.left_write p x (sym (ap (λ (z : Sight T N). z.stage) is) ∙ old.2))
                   in (old.0, set_else views a b w not_me ∙ old.1, old.2)
             ];
         readers =
@@ -220,15 +223,15 @@ module _ {T N : Type 0} (n a t : ℕ) (q r : Queue T) (turn : Turn n a t q r) (h
               | inl same ↦
                   let H : ℕ → Type 0 = λ z. HasCell r.cells z Emptying x b
                   in let S : ℕ → Type 0 = λ z. w.stage ≡ Reading z x
-                  in let now : (b ≡ a) × (w.stage ≡ Reading t x) = now_read x b (subst H (sym same) has)
+                  in let now : (b ≡ a) × (w.stage ≡ Reading t x) = works.now_read x b (subst H (sym same) has)
                   in let G : ℕ → Type 0 = λ c. get_elem? (set views a w) c ≡ some w
                   in (w, subst G (sym now.0) here, subst S same now.1)
               | inr apart ↦
-                  let old : (u : Sight T N) × (get_elem? views b ≡ some u)
-                  × (u.stage ≡ Reading p x) = staged.readers p x b (sym (turn.others p apart) ∙ has)
+                  let old : (u : Sight T N) × (get_elem? views b ≡ some u) × (u.stage ≡ Reading p x) =
+                  staged.readers p x b (sym (turn.others p apart) ∙ has)
                   in let not_me : b ≢ a = λ e. let G : ℕ → Type 0 = λ c. get_elem? views c ≡ some old.0 in
                   let is : old.0 ≡ v = one_value views a old.0 v (subst G e old.1) at in
-                  apart (left_read p x (sym (ap (λ (z : Sight T N). z.stage) is) ∙ old.2))
+                  apart (works.left_read p x (sym (ap (λ (z : Sight T N). z.stage) is) ∙ old.2))
                   in (old.0, set_else views a b w not_me ∙ old.1, old.2)
             ];
       }
@@ -244,10 +247,11 @@ module _ {T N : Type 0} where
   staged_on n a q h more views v w sound at staged mine free =
       let none : cell_of q.next q.cells ≡ None = next_is_unlisted n q q.next sound (omega arith)
       in staged_turn n a q.next q q (turn_none n a q sound) h more views v w at staged mine
-      (λ p x e. absurd (free.0 p x e)) (λ p x e. absurd (free.1 p x e))
-      (λ x b has.
-      absurd (let wrong : None ≡ Some (record { ticket = q.next; mark = Claimed; item = x; actor = b }) = sym none
-      ∙ has in cc))
-      (λ x b has.
-      absurd (let wrong : None ≡ Some (record { ticket = q.next; mark = Emptying; item = x; actor = b }) = sym none
-      ∙ has in cc))
+      (record {
+        left_write = λ p x e. absurd (free.0 p x e);
+        left_read = λ p x e. absurd (free.1 p x e);
+        now_write =
+            λ x b has.
+            not_both none has;
+        now_read = λ x b has. not_both none has;
+      })

@@ -19,7 +19,7 @@ use std::alloc::Global;
 use std::fmt;
 use thiserror::Error;
 
-/// The pass has not all parts. Ring and pass come back.
+/// A ring was not closed, since the pass has not all parts. Ring and pass come back.
 #[derive(Debug, Drop, Error)]
 #[error("not all passes are here")]
 pub struct PassesOut<T> {
@@ -69,7 +69,8 @@ impl<T> Ring<T> {
     /// Ends the ring, where the pass has all parts, and answers what is left in it: each value with its ticket, in ticket
     /// order. It takes no memory.
     ///
-    /// The history that the pass has seen is the whole one then, and what it leaves is what is answered.
+    /// The history that the pass has seen is the whole one then, and what it leaves is what is answered. The test
+    /// `a_lone_pass_closes_what_it_made` shows it.
     pub fn close(self, pass: Pass<T>) -> Result<Vec<(u64, T)>, PassesOut<T>>
         requires { IsPassOf self pass }
         ensures parts { IsOk result ↔ (pass.known.parts ≡ ALL_PARTS) }

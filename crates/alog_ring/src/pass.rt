@@ -5,8 +5,10 @@ use crate::view::View;
 use atomic_table::Seat;
 use std::marker::Model;
 
-/// What a thread uses a ring with. It has some of the ring's parts, and knows which history it has seen and which entries
-/// in it are its own: contracts see that, and no field. A pass belongs to the ring that it was made for.
+/// What a thread pushes and pops with: each thread has a pass of its own, which belongs to the ring it was made for.
+///
+/// It has some of the ring's parts, and knows which history it has seen and which entries in it are its own: contracts
+/// see that, and no field. The test `two_threads_share_a_ring` shows it.
 #[derive(Drop)]
 pub struct Pass<T> {
     pub(crate) seat: Seat<Option<T>, View<T, ()>>,

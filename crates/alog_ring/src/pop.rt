@@ -8,7 +8,7 @@ use crate::pass::Pass;
 use crate::ring::Ring;
 use thiserror::Error;
 
-/// Why a pop did not go through.
+/// Why a pop did not go through. It took nothing.
 #[derive(Clone, Copy, Debug, PartialEq, Eq, Error)]
 pub enum PopError {
     /// The front ticket is not there, or claimed and not yet written. From 2^62 on none will come.
@@ -20,7 +20,11 @@ pub enum PopError {
 }
 
 impl<T> Ring<T> {
-    /// One round of a pop, which answers the ticket and its value.
+    /// Takes the front value out of the ring if that goes at once, and answers it with its ticket.
+    ///
+    /// It is one round of a pop: it reads the front ticket, looks whether it is written, and grabs it. It never waits, so
+    /// it is for a caller that has something else to do where another pop was faster (`Busy`): `pop` begins again there.
+    /// The test `a_ring_of_two` shows it.
     pub fn pop_once(&self, pass: &mut Pass<T>) -> Result<(u64, T), PopError>
         requires { IsPassOf self.now pass.old }
         ensures ring { IsPassOf self.now pass.new }

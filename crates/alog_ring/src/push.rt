@@ -9,7 +9,7 @@ use crate::ring::Ring;
 use alog_core::LAST_TICKET;
 use thiserror::Error;
 
-/// Why a push did not go through. The value comes back.
+/// Why a push did not go through. The value comes back, and nothing is in the ring that was not there.
 #[derive(Debug, Drop, Error)]
 pub enum PushError<T> {
     /// The place of the next ticket is not free: the ticket a lap before is not taken yet.
@@ -24,7 +24,11 @@ pub enum PushError<T> {
 }
 
 impl<T> Ring<T> {
-    /// One round of a push, which answers the ticket.
+    /// Puts the value into the ring if that goes at once, and answers its ticket.
+    ///
+    /// It is one round of a push: it reads the next ticket, looks whether its place is free, and claims it. It never
+    /// waits, so it is for a caller that has something else to do where another push was faster (`Busy`): `push` begins
+    /// again there. The test `a_ring_of_two` shows it.
     pub fn push_once(&self, pass: &mut Pass<T>, value: T) -> Result<u64, PushError<T>>
         requires { IsPassOf self.now pass.old }
         ensures ring { IsPassOf self.now pass.new }

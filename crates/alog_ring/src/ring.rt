@@ -23,7 +23,8 @@ pub enum NewError {
     OutOfMemory,
 }
 
-/// A bounded queue for any number of threads.
+/// A bounded queue by which any number of threads hand values to each other. The tests `two_threads_share_a_ring` and
+/// `a_ring_of_two` show its use.
 #[derive(Drop)]
 pub struct Ring<T> {
     pub(crate) board: Board<T>,
@@ -47,8 +48,10 @@ impl<T> Model for Ring<T> {
 }
 
 impl<T> Ring<T> {
-    /// An empty ring of so many places, a power of two from 2 to 65,536, whose first ticket is `first`, below 2^62, and
-    /// its first pass. All memory that the ring ever takes is taken here.
+    /// Makes an empty ring and its first pass, which has all of the ring's parts.
+    ///
+    /// The ring has `places` places, a power of two from 2 to 65,536, and its first ticket is `first`, below 2^62. All
+    /// memory that the ring ever takes is taken here.
     pub fn new(alloc: Global, places: usize, first: u64) -> Result<(Ring<T>, Pass<T>), NewError>
         ensures bad_size { IsErrOf result NewError.BadSize ↔ (is_size places ≡ false) }
         ensures bad_first { IsErrOf result NewError.BadFirst ↔ ((is_size places ≡ true) × (last ≤ first)) }

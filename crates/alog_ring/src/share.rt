@@ -75,7 +75,9 @@ impl<T> Board<T> {
 }
 
 impl<T> Ring<T> {
-    /// A new pass, with so many of this one's parts, at least one and not all.
+    /// Gives one more thread a pass: it gets `parts` of this one's parts, at least one and not all.
+    ///
+    /// The new pass has seen what this one has seen, and made nothing. The test `two_threads_share_a_ring` shows it.
     pub fn split(&self, pass: &mut Pass<T>, parts: u64) -> Pass<T>
         requires ring { IsPassOf self.now pass.old }
         requires some { 0 < parts }
@@ -88,7 +90,9 @@ impl<T> Ring<T> {
         given
     }
 
-    /// Gives the pass the other's parts and members. It has seen the longer of both histories then.
+    /// Takes back the pass of a thread that has ended: its parts, its own entries, and those of its members.
+    ///
+    /// The pass has seen the longer of both histories then. The test `a_ring_of_two` shows it.
     pub fn join(&self, pass: &mut Pass<T>, other: Pass<T>)
         requires pass { IsPassOf self.now pass.old }
         requires other { IsPassOf self.now other }
@@ -100,7 +104,9 @@ impl<T> Ring<T> {
         pass.parts += parts;
     }
 
-    /// The second pass sees what the first has seen. Then the history of one is a beginning of the other's.
+    /// Tells the second pass what the first has seen, so that what one saw is a beginning of what the other saw.
+    ///
+    /// It has seen the longer of both histories then. The test `a_ring_of_two` shows it.
     pub fn meet(&self, first: &mut Pass<T>, second: &mut Pass<T>)
         requires first { IsPassOf self.now first.old }
         requires second { IsPassOf self.now second.old }
@@ -111,7 +117,9 @@ impl<T> Ring<T> {
         self.board.show(&mut first.seat, &mut second.seat);
     }
 
-    /// Whether the pass has all parts. Then no other is left, and what it had seen is the whole history.
+    /// Asks whether each other pass was joined into this one, which has all parts then.
+    ///
+    /// No other is left then, and what this one had seen is the whole history. The test `a_ring_of_two` shows it.
     pub fn is_whole(&self, pass: &mut Pass<T>) -> bool
         requires { IsPassOf self.now pass.old }
         ensures ring { IsPassOf self.now pass.new }

@@ -258,6 +258,19 @@ fn are_all_below(mut one: Vec<u64>, two: Vec<u64>, count: u64) -> Result<bool, A
 }
 
 #[test]
+fn two_threads_share_a_ring(rt: HostRuntime) -> Result<(), Fail> {
+    let (ring, mut pass) = Ring::<u64>::new(rt.alloc(), 1024, 0)?;
+    let mut other = ring.split(&mut pass, 1);
+    let (pushed, popped) = thread::join(
+        &rt,
+        || ring.push(&rt, &mut pass, 42).ok(),
+        || pop_until(&rt, &ring, &mut other),
+    );
+    assert_eq!(rt; (pushed, popped), (Some(0), 42));
+    Ok(())
+}
+
+#[test]
 fn two_threads_push(rt: HostRuntime) -> Result<(), Fail> {
     let alloc = rt.alloc();
     let (ring, mut pass) = Ring::<u64>::new(alloc, 1024, 0)?;

@@ -77,8 +77,8 @@ free-requires g c =
     let n : ℕ = c.args.mask + 1
     in let inv = c.loop-i.invariant
     in let end : c.loop-i.i ≡ n = omega arith
-    in let H : ℕ
-    → Type 0 = λ z.
+    in let H : ℕ → Type 0 =
+    λ z.
     HasTaken n c.args.first z (slots_items c.args.closed.slots) (slots_items c.loop-i.closed.slots)
     (slots_filled c.loop-i.closed.slots) c.loop-i.left.items
     in λ k low.
@@ -90,8 +90,8 @@ returns g c =
     let n : ℕ = c.args.mask + 1
     in let inv = c.loop-i.invariant
     in let end : c.loop-i.i ≡ n = omega arith
-    in let H : ℕ
-    → Type 0 = λ z.
+    in let H : ℕ → Type 0 =
+    λ z.
     HasTaken n c.args.first z (slots_items c.args.closed.slots) (slots_items c.loop-i.closed.slots)
     (slots_filled c.loop-i.closed.slots) c.loop-i.left.items
     in λ cells lie.

@@ -80,8 +80,8 @@ returns-clause-told g c =
     (t + 1) c.place_of-place.result c.compare_exchange_with-found.result n None c.args.seat.now.me
     c.compare_exchange_with-found.new.seat.me c.exchange-item.new.seat.me told c.if-found-ticket.false
     c.exchange-item.ensures.3 place c.exchange-item.result c.exchange-item.ensures.2
-    in let P : Option g.row.T.Denot
-    → Type 0 = λ o.
+    in let P : Option g.row.T.Denot → Type 0 =
+    λ o.
     MatchOption o (Ends tt c.args.seat.now.me c.store.new.seat.me (PopBusy t))
     (λ y. Empties c.args.seat.now.me c.store.new.seat.me t y)
     in subst P (sym is)
