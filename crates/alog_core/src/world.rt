@@ -18,7 +18,8 @@ use std::alloc::{AllocError, AllocFailed, Global};
 use std::marker::Model;
 use std::mem;
 
-/// A bounded queue and 64 actors, each in a round of its own, which move one atomic step at a time.
+/// A bounded queue and 64 actors, each in a round of its own, which move one atomic step at a time: it plays any schedule
+/// of pushes and pops. The tests `emptying_cell_keeps_its_place` and `busy_push` show it.
 ///
 /// Contracts see it as the machine of `specs/World.antt`: the number of places, the queue of cells in ticket order,
 /// and each actor's round. It stores no history: a step says of each history that the queue before it stands for
@@ -49,9 +50,9 @@ pub fn is_size(places: usize) -> bool
 }
 
 impl<T: Drop> World<T> {
-    /// An empty queue of this many places, a power of two from 2 to 65,536, whose first ticket is below 2^62.
+    /// Makes an empty queue of this many places, a power of two from 2 to 65,536, whose first ticket is below 2^62.
     ///
-    /// Nobody is in a call. All the memory that `begin_push`, `begin_pop` and `step` need is taken here.
+    /// Nobody is in a call then. All the memory that `begin_push`, `begin_pop` and `step` need is taken here.
     pub fn new(alloc: Global, places: usize, first: u64) -> Result<World<T>, WorldError>
         ensures made { IfOk result (λ w. w ≡ fresh places first) }
         ensures bad_size { IsErrOf result WorldError.BadSize ↔ (is_size places ≡ false) }
@@ -85,7 +86,7 @@ impl<T: Drop> World<T> {
         let _ = &self.table;
     }
 
-    /// Begins a push of this item by an actor, 0 to 63. It takes no memory.
+    /// Begins a push of this item by an actor, 0 to 63: its steps follow by `step`. It takes no memory.
     ///
     /// A refusal changes nothing and hands the item back.
     pub fn begin_push(&mut self, actor: u32, item: T) -> Result<(), Refused<T>>
@@ -104,7 +105,7 @@ impl<T: Drop> World<T> {
         }
     }
 
-    /// Begins a pop by an actor, 0 to 63. It takes no memory, and a refusal changes nothing.
+    /// Begins a pop by an actor, 0 to 63: its steps follow by `step`. It takes no memory, and a refusal changes nothing.
     pub fn begin_pop(&mut self, actor: u32) -> Result<(), BeginError>
         ensures began { OnOk result (self.new ≡ began self.old actor round.Pop) }
         ensures begins { IsOk result ↔ ((actor < ACTORS) × (is_idle (round_of self.old actor) ≡ true)) }
@@ -186,9 +187,10 @@ impl<T: Drop> World<T> {
         views(alloc, &self.table.cells)
     }
 
-    /// Makes the calls one after another and answers their answers, one for each.
+    /// Plays a whole schedule: makes the calls one after another, and answers their answers, one for each.
     ///
-    /// The entries of the run are those of its steps that are events, in order. Out of memory changes nothing and hands the calls back.
+    /// The entries of the run are those of its steps that are events, in order. Out of memory changes nothing and hands the
+    /// calls back. The test `calls_and_their_answers` shows it.
     pub fn run(
         &mut self,
         alloc: Global,
