@@ -181,6 +181,24 @@ module _ {T N : Type 0} where
               in omega (arith, told.whole);
         }
 
+    -- what the seat that took the other in has then
+    pub record TookIn : Type 0 where
+      pub parts : both.known.parts ≡ v.known.parts + w.known.parts
+      pub mine : (b : ℕ) → IsAmong b v.known.joined → IsAmong b both.known.joined
+      pub its : (b : ℕ) → 0 < w.known.parts → IsAmong b w.known.joined → IsAmong b both.known.joined
+      pub places : both.known.places ≡ v.known.places
+      pub first : both.known.first ≡ v.known.first
+      pub seen : both.known.seen ≡ v.known.seen
+      pub entries : HasEntries h after_join a both.known
+      pub other : (own_of o h ≡ []) ⊎ IsTakenIn after_join o
+      pub distinct : AreDistinct both.known.joined
+      pub against : (j : ℕ) (x : Sight T N) → j ≢ a → j ≢ o → get_elem? views j ≡ some x → 0 < x.known.parts → (c : ℕ)
+          → IsAmong c both.known.joined → ¬ IsAmong c x.known.joined
+
+    pub told_joined : TookIn → Told n f h after_join
+    told_joined t =
+        told_join t.parts t.mine t.its t.places t.first t.seen t.entries t.other t.distinct t.against
+
     -- the stages: neither of the two was at work on a cell
     pub staged_join : (q : Queue T) → Staged n h q views → v.stage ≡ Idle → ((p : ℕ) (x : T) → w.stage ≢ Writing p x)
         → ((p : ℕ) (x : T) → w.stage ≢ Reading p x) → Knows n h q a both.known both.stage → Staged n h q after_join
@@ -284,10 +302,20 @@ module _ {T N : Type 0} where
           two = r.two;
           stands = r.stands;
           told =
-              told_join n f a o v w both r.history s.views at apart at_other live r.told refl
-              (λ b. among_first b v.known.joined (members_of w.known))
-              (λ b _ is. among_second b v.known.joined (members_of w.known) (inr is)) refl refl refl entries
-              (inr taken) distinct_both against_both;
+              told_joined n f a o v w both r.history s.views at apart at_other live r.told
+              (record {
+                parts = refl;
+                mine = λ b. among_first b v.known.joined (members_of w.known);
+                its = λ b _ is.
+                    among_second b v.known.joined (members_of w.known) (inr is);
+                places = refl;
+                first = refl;
+                seen = refl;
+                entries = entries;
+                other = inr taken;
+                distinct = distinct_both;
+                against = against_both;
+              });
           staged =
               staged_join n f a o v w both r.history s.views at apart at_other live r.told r.queue r.staged idle
               (λ p x is. let wrong : ◌≡◌ {A = Stage T N} Idle (Writing p x) = sym other_idle ∙ is in cc)
@@ -323,11 +351,22 @@ module _ {T N : Type 0} where
           two = r.two;
           stands = r.stands;
           told =
-              told_join n f a o v w both r.history s.views at apart at_other live r.told more (λ b is. is)
-              (λ b some _. absurd (omega arith)) refl refl refl entries
-              (elim (r.told.without o w at_other none) [ inl empty ↦ inl empty | inr taken ↦ inr (still o taken) ])
-              (r.told.distinct a v at live)
-              (λ j x not_a not_o g some_parts c is in_x. r.told.once a v at live j x g some_parts not_a c is in_x);
+              told_joined n f a o v w both r.history s.views at apart at_other live r.told
+              (record {
+                parts = more;
+                mine = λ b is. is;
+                its = λ b some _. absurd (omega arith);
+                places = refl;
+                first =
+                    refl;
+                seen = refl;
+                entries = entries;
+                other =
+                    elim (r.told.without o w at_other none) [ inl empty ↦ inl empty | inr taken ↦ inr (still o taken) ];
+                distinct = r.told.distinct a v at live;
+                against = λ j x not_a not_o g some_parts c is in_x.
+                    r.told.once a v at live j x g some_parts not_a c is in_x;
+              });
           staged =
               staged_join n f a o v w both r.history s.views at apart at_other live r.told r.queue r.staged idle
               (λ p x is. let wrong : ◌≡◌ {A = Stage T N} Lent (Writing p x) = sym lent ∙ is in cc)

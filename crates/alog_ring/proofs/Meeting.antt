@@ -109,17 +109,24 @@ module _ {T N : Type 0} where
       let changed : sum_by parts_of (set l i (gone {T = T} {N = N})) + parts_of v ≡ sum_by parts_of l + parts_of
       (gone {T = T} {N = N}) = sum_changed parts_of l i v (gone {T = T} {N = N}) e in omega arith
 
+-- the pass may have seen more, and nothing else of it changed
+record SeesMore {T N : Type 0} (v w : Known T N) (h : List (Entry T N)) : Type 0 where
+  pub places : w.places ≡ v.places
+  pub first : w.first ≡ v.first
+  pub parts : w.parts ≡ v.parts
+  pub joined : w.joined ≡ v.joined
+  pub own : w.own ≡ v.own
+  pub seen : IsPrefix w.seen h
+
 module _ {S T N : Type 0} (kind : PlaceKind S T N) (n f : ℕ) (s : State S (Sight T N))
     (r : Ruled kind.put kind.spare n f s) (a : ℕ) (v : Sight T N) (at : get_elem? s.views a ≡ some v)
     (live : 0 < v.known.parts) where
   -- the view changes, and nothing else
-  seen_anew : (i : ℕ) (w : Sight T N) → IsFree v.stage → w.known.places ≡ v.known.places → w.known.first ≡ v.known.first
-      → w.known.parts ≡ v.known.parts → w.known.joined ≡ v.known.joined → w.known.own ≡ v.known.own
-      → IsPrefix w.known.seen r.history
+  seen_anew : (i : ℕ) (w : Sight T N) → IsFree v.stage → SeesMore v.known w.known r.history
       → Knows n (r.history ++ []) r.queue a w.known w.stage
       → Ruled kind.put kind.spare n f
       (record { words = set s.words i (get_or s.words i 0); homes = s.homes; views = set s.views a w })
-  seen_anew i w free places first parts joined own seen knows =
+  seen_anew i w free more knows =
       let P : List ℕ → Type 0 =
       λ ws. Ruled kind.put kind.spare n f (record { words = ws; homes = s.homes; views = set s.views a w })
       in let Q : List (Entry T N) → Type 0 = λ h. StandsFor n f h r.queue
@@ -131,13 +138,12 @@ module _ {S T N : Type 0} (kind : PlaceKind S T N) (n f : ℕ) (s : State S (Sig
         told =
             told_more n f a r.history [] s.views v w r.told at live (none_of a)
             (record {
-              places = places;
-              first = first;
-              parts = parts;
-              joined = joined;
-              own = own
-                  ∙ sym (append-nil v.known.own);
-              seen = prefix_longer w.known.seen r.history [] seen;
+              places = more.places;
+              first = more.first;
+              parts = more.parts;
+              joined = more.joined;
+              own = more.own ∙ sym (append-nil v.known.own);
+              seen = prefix_longer w.known.seen r.history [] more.seen;
             });
         staged = staged_on n a r.queue r.history [] s.views v w (sound_now kind n f s r a v at) at r.staged knows free;
         shown = shown_on kind.put kind.spare n r.queue r.history (r.history ++ []) s.words s.homes
@@ -185,7 +191,8 @@ module _ {S T N : Type 0} (kind : PlaceKind S T N) (n f slots id : ℕ) (me : Me
         w,
         keeps,
         tt,
-        seen_anew kind n f s r id me.0 at live NEXT w free refl refl refl refl refl seen (refl, live),
+        seen_anew kind n f s r id me.0 at live NEXT w free
+            (record { places = refl; first = refl; parts = refl; joined = refl; own = refl; seen = seen }) (refl, live),
         (
           id,
           refl,
@@ -219,7 +226,8 @@ module _ {S T N : Type 0} (kind : PlaceKind S T N) (n f slots id : ℕ) (me : Me
         w,
         keeps,
         tt,
-        seen_anew kind n f s r id me.0 at live NEXT w free refl refl refl refl refl found.2 knows.0,
+        seen_anew kind n f s r id me.0 at live NEXT w free
+            (record { places = refl; first = refl; parts = refl; joined = refl; own = refl; seen = found.2 }) knows.0,
         (
           h,
           found.1,
