@@ -3,7 +3,7 @@ use Rattle.alog_core.proofs.Moves.{takes_nothing}
 use Rattle.alog_core.proofs.table.advance.Goals as goal
 
 pub returns-in-Push : goal.returns-in-Push
-returns-in-Push g c = rw c.in-Push.is (c.load_enqueue_position.ensures c.args.actor)
+returns-in-Push g c = rw c.in-Push.is (c.load_next.ensures c.args.actor)
 
 pub returns-in-PushRead : goal.returns-in-PushRead
 returns-in-PushRead g c = rw c.in-PushRead.is (c.load_sequence_to_push.ensures c.args.actor)
