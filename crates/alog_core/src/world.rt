@@ -52,7 +52,8 @@ pub fn is_size(places: usize) -> bool
 impl<T: Drop> World<T> {
     /// Makes an empty queue of this many places, a power of two from 2 to 65,536, whose first ticket is below 2^62.
     ///
-    /// Nobody is in a call then. All the memory that `begin_push`, `begin_pop` and `step` need is taken here.
+    /// Nobody is in a call then. All the memory that `begin_push`, `begin_pop` and `step` need is taken here. The test
+    /// `sizes_and_first_tickets` shows it.
     pub fn new(alloc: Global, places: usize, first: u64) -> Result<World<T>, WorldError>
         ensures made { IfOk result (λ w. w ≡ fresh places first) }
         ensures bad_size { IsErrOf result WorldError.BadSize ↔ (is_size places ≡ false) }
@@ -88,7 +89,7 @@ impl<T: Drop> World<T> {
 
     /// Begins a push of this item by an actor, 0 to 63: its steps follow by `step`. It takes no memory.
     ///
-    /// A refusal changes nothing and hands the item back.
+    /// A refusal changes nothing and hands the item back. The tests `busy_push` and `refusals` show it.
     pub fn begin_push(&mut self, actor: u32, item: T) -> Result<(), Refused<T>>
         ensures began { OnOk result (self.new ≡ began self.old actor (round.Push item)) }
         ensures begins { IsOk result ↔ ((actor < ACTORS) × (is_idle (round_of self.old actor) ≡ true)) }
@@ -106,6 +107,7 @@ impl<T: Drop> World<T> {
     }
 
     /// Begins a pop by an actor, 0 to 63: its steps follow by `step`. It takes no memory, and a refusal changes nothing.
+    /// The test `busy_pop` shows it.
     pub fn begin_pop(&mut self, actor: u32) -> Result<(), BeginError>
         ensures began { OnOk result (self.new ≡ began self.old actor round.Pop) }
         ensures begins { IsOk result ↔ ((actor < ACTORS) × (is_idle (round_of self.old actor) ≡ true)) }
@@ -143,7 +145,7 @@ impl<T: Drop> World<T> {
     /// Makes the next atomic step of the actor's call. It takes no memory.
     ///
     /// Each step is one event of the queue, which the queue allows, or none, and it is the one that the table of a
-    /// round names. A refusal changes nothing.
+    /// round names. A refusal changes nothing. The tests `busy_push` and `emptying_cell_keeps_its_place` show it.
     pub fn step(&mut self, actor: u32) -> Result<Said<T>, StepError>
         ensures no_actor { IsErrOf result StepError.NoActor ↔ (ACTORS ≤ actor) }
         ensures not_in_call { IsErrOf result StepError.NotInCall ↔ ((actor < ACTORS) × (is_idle (round_of self.old actor) ≡ true)) }
@@ -180,7 +182,7 @@ impl<T: Drop> World<T> {
         said
     }
 
-    /// The cells in ticket order.
+    /// Shows the cells, in ticket order. The test `claimed_cell_in_front` shows it.
     pub fn cells(&self, alloc: Global) -> Result<Vec<CellView>, AllocError>
         ensures { IfOk result (λ v. v.items ≡ map shown self.now.queue.cells) }
     {

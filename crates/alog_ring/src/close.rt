@@ -19,7 +19,7 @@ use std::alloc::Global;
 use std::fmt;
 use thiserror::Error;
 
-/// A ring was not closed, since the pass has not all parts. Ring and pass come back.
+/// A ring was not closed, since the pass has not all parts. Ring and pass come back. The test `a_ring_of_two` shows it.
 #[derive(Debug, Drop, Error)]
 #[error("not all passes are here")]
 pub struct PassesOut<T> {

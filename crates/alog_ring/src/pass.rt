@@ -32,7 +32,7 @@ impl<T> Model for Pass<T> {
 }
 
 impl<T> Pass<T> {
-    /// How many of its ring's parts the pass has. All are 2^32.
+    /// Tells how many of its ring's 2^32 parts the pass has. The test `a_ring_of_two` shows it.
     pub fn parts(&self) -> u64
         ensures { result ≡ self.now.known.parts }
     {

@@ -8,7 +8,7 @@ use crate::pass::Pass;
 use crate::ring::Ring;
 use thiserror::Error;
 
-/// Why a pop did not go through. It took nothing.
+/// Why a pop did not go through. The test `the_last_ticket_of_all` shows it.
 #[derive(Clone, Copy, Debug, PartialEq, Eq, Error)]
 pub enum PopError {
     /// The front ticket is not there, or claimed and not yet written. From 2^62 on none will come.

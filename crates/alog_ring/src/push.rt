@@ -9,7 +9,7 @@ use crate::ring::Ring;
 use alog_core::LAST_TICKET;
 use thiserror::Error;
 
-/// Why a push did not go through. The value comes back, and nothing is in the ring that was not there.
+/// Why a push did not go through: the value comes back. The tests `a_ring_of_two` and `the_last_ticket_of_all` show it.
 #[derive(Debug, Drop, Error)]
 pub enum PushError<T> {
     /// The place of the next ticket is not free: the ticket a lap before is not taken yet.

@@ -12,7 +12,7 @@ use std::alloc::Global;
 use std::marker::Model;
 use thiserror::Error;
 
-/// Why no ring was made.
+/// Why no ring was made. The test `takes_sizes_and_first_tickets` shows it.
 #[derive(Clone, Copy, Debug, PartialEq, Eq, Error)]
 pub enum NewError {
     #[error("the number of places is no power of two from 2 to 65,536")]
@@ -51,7 +51,7 @@ impl<T> Ring<T> {
     /// Makes an empty ring and its first pass, which has all of the ring's parts.
     ///
     /// The ring has `places` places, a power of two from 2 to 65,536, and its first ticket is `first`, below 2^62. All
-    /// memory that the ring ever takes is taken here.
+    /// memory that the ring ever takes is taken here. The tests `takes_sizes_and_first_tickets` and `a_ring_of_two` show it.
     pub fn new(alloc: Global, places: usize, first: u64) -> Result<(Ring<T>, Pass<T>), NewError>
         ensures bad_size { IsErrOf result NewError.BadSize ↔ (is_size places ≡ false) }
         ensures bad_first { IsErrOf result NewError.BadFirst ↔ ((is_size places ≡ true) × (last ≤ first)) }
