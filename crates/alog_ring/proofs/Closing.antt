@@ -227,37 +227,42 @@ value_unlisted {T} first (d ∷ cs) (suc i) row is =
     (sym (at_other d.ticket (first + suc i) (Some d) (cell_of (first + suc i) cs)
     (let apart : d.ticket ≢ first + suc i = omega (arith, row.0) in apart)) ∙ is))
 
--- The table of a ring at its end, where one pass has all parts.
-module _ {T : Type 0} (n f id : ℕ) (v : Sight T no_note) (words : List ℕ) (places : List (Option T))
-    (fin : Final (Seen (λ s. Ruled some_value no_value n f s) id v) words places) (idle : v.stage ≡ Idle)
-    (all : v.known.parts ≡ ALL_PARTS) where
+-- The table of a ring at its end, where one pass, in no call, has all parts.
+pub record AtEnd {T : Type 0} (n f : ℕ) (v : Sight T no_note) (words : List ℕ) (places : List (Option T)) : Type 0 where
+  pub id : ℕ
+  pub fin : Final (Seen (λ s. Ruled some_value no_value n f s) id v) words places
+  pub idle : v.stage ≡ Idle
+  pub all : v.known.parts ≡ ALL_PARTS
+
+module _ {T : Type 0} {n f : ℕ} {v : Sight T no_note} {words : List ℕ} {places : List (Option T)}
+    (end : AtEnd n f v words places) where
   live : 0 < v.known.parts
   live = omega arith
 
-  sound : IsSound n fin.1.0.queue
-  sound = sound_now (option_kind T) n f fin.0 fin.1.0 id v fin.1.1
+  sound : IsSound n end.fin.1.0.queue
+  sound = sound_now (option_kind T) n f end.fin.0 end.fin.1.0 end.id v end.fin.1.1
 
-  written : (t : ℕ) (c : Cell T) → cell_of t fin.1.0.queue.cells ≡ Some c → c.mark ≡ Written
-  written t c is = written_now (option_kind T) n f 0 id (v, []) live fin.0 fin.1.0 fin.1.1 idle all t c is
+  written : (t : ℕ) (c : Cell T) → cell_of t end.fin.1.0.queue.cells ≡ Some c → c.mark ≡ Written
+  written t c is = written_now (option_kind T) n f 0 end.id (v, []) live end.fin.0 end.fin.1.0 end.fin.1.1 end.idle end.all t c is
 
-  from_front : (t : ℕ) (c : Cell T) → cell_of t fin.1.0.queue.cells ≡ Some c → fin.1.0.queue.front ≤ t
+  from_front : (t : ℕ) (c : Cell T) → cell_of t end.fin.1.0.queue.cells ≡ Some c → end.fin.1.0.queue.front ≤ t
   from_front t c is =
-      elim (leb_tells fin.1.0.queue.front t) [
+      elim (leb_tells end.fin.1.0.queue.front t) [
         | inl le ↦ le.1
         | inr lt ↦ let wrong : Written ≡ Emptying = sym (written t c is) ∙ (sound.emptied t c is).1 lt.1 in absurd (cc)
       ]
 
-  pub first_is_front : (first : ℕ) → get_elem? words FRONT ≡ maybe.some first → first ≡ fin.1.0.queue.front
+  pub first_is_front : (first : ℕ) → get_elem? words FRONT ≡ maybe.some first → first ≡ end.fin.1.0.queue.front
   first_is_front first at =
-      sym (found words FRONT first 0 at) ∙ ap (λ (l : List ℕ). get_or l FRONT 0) (sym fin.2) ∙ fin.1.0.shown.front
+      sym (found words FRONT first 0 at) ∙ ap (λ (l : List ℕ). get_or l FRONT 0) (sym end.fin.2) ∙ end.fin.1.0.shown.front
 
-  pub front_bounded : fin.1.0.queue.front ≤ last
-  front_bounded = let ordered : fin.1.0.queue.front ≤ fin.1.0.queue.next = sound.ordered in
-      let bounded : fin.1.0.queue.next ≤ last = fin.1.0.shown.bounded in omega arith
+  pub front_bounded : end.fin.1.0.queue.front ≤ last
+  front_bounded = let ordered : end.fin.1.0.queue.front ≤ end.fin.1.0.queue.next = sound.ordered in
+      let bounded : end.fin.1.0.queue.next ≤ last = end.fin.1.0.shown.bounded in omega arith
 
-  lie_in : LieIn places fin.1.0.queue.front n fin.1.0.queue.cells
+  lie_in : LieIn places end.fin.1.0.queue.front n end.fin.1.0.queue.cells
   lie_in =
-      let q : Queue T = fin.1.0.queue
+      let q : Queue T = end.fin.1.0.queue
       in let ordered : q.front ≤ q.next = sound.ordered
       in let row : AreInRow q.front q.cells =
       in_row q.front (q.next - n) q.cells q.next sound.rising from_front sound.listed
@@ -272,12 +277,12 @@ module _ {T : Type 0} (n f id : ℕ) (v : Sight T no_note) (words : List ℕ) (p
                   let c : Cell T = some.0
                   in let W : Mark → Type 0 =
                   λ m.
-                  ShowsCell some_value no_value t (get_or fin.0.words (seq_of n t) 0)
-                  (get_elem? fin.0.homes (t % n)) c.item m
-                  in let lies : (get_or fin.0.words (seq_of n t) 0 ≡ t + 1)
-                  × (get_elem? fin.0.homes (t % n) ≡ maybe.some (maybe.some (Some c.item))) =
-                  subst W (written t c some.1) (fin.1.0.shown.cells t c some.1)
-                  in fin.4 (t % n) (Some c.item) lies.1 ∙ ap maybe.some (sym (value_listed q.front q.cells i c row some.1))
+                  ShowsCell some_value no_value t (get_or end.fin.0.words (seq_of n t) 0)
+                  (get_elem? end.fin.0.homes (t % n)) c.item m
+                  in let lies : (get_or end.fin.0.words (seq_of n t) 0 ≡ t + 1)
+                  × (get_elem? end.fin.0.homes (t % n) ≡ maybe.some (maybe.some (Some c.item))) =
+                  subst W (written t c some.1) (end.fin.1.0.shown.cells t c some.1)
+                  in end.fin.4 (t % n) (Some c.item) lies.1 ∙ ap maybe.some (sym (value_listed q.front q.cells i c row some.1))
               | inl none ↦
                   let past : q.next ≤ t =
                   elim (leb_tells q.next t) [
@@ -291,8 +296,8 @@ module _ {T : Type 0} (n f id : ℕ) (v : Sight T no_note) (words : List ℕ) (p
                     | inl free ↦ free
                     | inr some ↦ let high : q.front ≤ u = from_front u some.0 some.1 in absurd (omega arith)
                   ]
-                  in let lies = fin.1.0.shown.free t past (omega arith) room
-                  in fin.4 (t % n) None lies.1 ∙ ap maybe.some (sym (value_unlisted q.front q.cells i row none))
+                  in let lies = end.fin.1.0.shown.free t past (omega arith) room
+                  in end.fin.4 (t % n) None lies.1 ∙ ap maybe.some (sym (value_unlisted q.front q.cells i row none))
             ];
       }
 
@@ -300,28 +305,28 @@ module _ {T : Type 0} (n f id : ℕ) (v : Sight T no_note) (words : List ℕ) (p
       → ((cells : List (Cell T)) → LieIn places first n cells → left ≡ map ticket_and_item cells) → Leaves v.known left
   closes first left at are =
       let k : Known T no_note = v.known
-      in let r : Ruled some_value no_value n f fin.0 = fin.1.0
-      in let K : Stage T no_note → Type 0 = λ z. Knows n r.history r.queue id k z
-      in let work : IsAtWork id k = subst K idle (r.staged.knows id v fin.1.1)
-      in let has : HasEntries r.history fin.0.views id k = r.told.entries id v fin.1.1 live
+      in let r : Ruled some_value no_value n f end.fin.0 = end.fin.1.0
+      in let K : Stage T no_note → Type 0 = λ z. Knows n r.history r.queue end.id k z
+      in let work : IsAtWork end.id k = subst K end.idle (r.staged.knows end.id v end.fin.1.1)
+      in let has : HasEntries r.history end.fin.0.views end.id k = r.told.entries end.id v end.fin.1.1 live
       in let left_is : left_by (start k.first) r.history ≡ r.queue =
-      ap (λ (z : ℕ). left_by (start z) r.history) (r.told.first id v fin.1.1 live) ∙ r.stands.queue
+      ap (λ (z : ℕ). left_by (start z) r.history) (r.told.first end.id v end.fin.1.1 live) ∙ r.stands.queue
       in let L : ℕ → Type 0 = λ z. LieIn places z n r.queue.cells
       in let W : Queue T → Type 0 = λ q. (t : ℕ) (c : Cell T) → cell_of t q.cells ≡ Some c → c.mark ≡ Written
       in record {
         history = r.history;
-        seen = r.told.seen id v fin.1.1;
+        seen = r.told.seen end.id v end.fin.1.1;
         whole = record {
           faithful = record {
-            legal = legal_prefix (option_kind T) n f fin.0 r id v fin.1.1 live r.history (prefix_same r.history);
+            legal = legal_prefix (option_kind T) n f end.fin.0 r end.id v end.fin.1.1 live r.history (prefix_same r.history);
             own = has.own ∙ ap (λ (z : ℕ). own_of z r.history) (sym work.0);
             joined = has.joined;
-            distinct = members_distinct n f id r.history fin.0.views v r.told fin.1.1 live work.0;
+            distinct = members_distinct n f end.id r.history end.fin.0.views v r.told end.fin.1.1 live work.0;
           };
           actors =
               all_actors (λ b. (b ≡ k.actor) ⊎ IsAmong b k.joined) r.history
               (λ b some_own.
-              elim (actors_now (option_kind T) n f 0 id (v, []) live fin.0 r fin.1.1 idle all b some_own) [
+              elim (actors_now (option_kind T) n f 0 end.id (v, []) live end.fin.0 r end.fin.1.1 end.idle end.all b some_own) [
                 | inl same ↦ inl (same ∙ sym work.0)
                 | inr among ↦ inr among
               ]);

@@ -4,8 +4,8 @@
 /// twice as long for an item.
 pub(crate) const APART: usize = 8;
 
-/// The word of the next ticket, which the next push claims. It lies two lines from all others, since processors fetch
-/// lines in pairs.
+/// The word of the next ticket, which the next push claims. It lies two lines from all others, since some processors
+/// fetch lines in pairs (crossbeam's `CachePadded` keeps the same distance).
 pub(crate) const NEXT: usize = 2 * APART;
 
 /// The word of the front ticket, which the next pop grabs. It lies two lines from all others, too.
