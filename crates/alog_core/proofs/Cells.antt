@@ -1,5 +1,6 @@
 -- What the look-up of a ticket sees in a changed list of cells.
-use Rattle.std.proofs.Common.{◌≡◌, ◌≢◌, ℕ, ◌==◌, Bool, true, false, cond, None, Some, List, [], ◌∷◌, ◌++◌, inl, inr, refl, sym, ap, subst, ◌∙◌}
+use Rattle.std.proofs.Common.{◌≡◌, ◌≢◌, ℕ, ◌==◌, Bool, true, false, cond, None, Some, List, [], ◌∷◌, ◌++◌, inl, inr, refl, sym}
+use Rattle.std.proofs.Common.{ap, subst, ◌∙◌}
 use Rattle.std.proofs.lemmas.Bool.Decides.{eqb_tells}
 use Rattle.alog_core.specs.Queue.{Cell, cell_of, marked, without, HasCell}
 use Rattle.alog_core.specs.declared.mark.Mark.{Mark}
@@ -33,7 +34,8 @@ ticket_of_cell {T} t (d ∷ cs) c h =
     h
 
 -- Appending: a listed ticket keeps its cell, and another is looked up in what was appended.
-pub cell_of-append_listed : {T : Type 0} (t : ℕ) (cs ds : List (Cell T)) (c : Cell T) → cell_of t cs ≡ Some c → cell_of t (cs ++ ds) ≡ Some c
+pub cell_of-append_listed : {T : Type 0} (t : ℕ) (cs ds : List (Cell T)) (c : Cell T) → cell_of t cs ≡ Some c
+    → cell_of t (cs ++ ds) ≡ Some c
 cell_of-append_listed t [] ds c h = cc
 cell_of-append_listed t (d ∷ cs) ds c h =
     on_test
@@ -44,7 +46,8 @@ cell_of-append_listed t (d ∷ cs) ds c h =
     (λ _ found. cell_of-append_listed t cs ds c found)
     h
 
-pub cell_of-append_unlisted : {T : Type 0} (t : ℕ) (cs ds : List (Cell T)) → cell_of t cs ≡ None → cell_of t (cs ++ ds) ≡ cell_of t ds
+pub cell_of-append_unlisted : {T : Type 0} (t : ℕ) (cs ds : List (Cell T)) → cell_of t cs ≡ None
+    → cell_of t (cs ++ ds) ≡ cell_of t ds
 cell_of-append_unlisted t [] ds h = refl
 cell_of-append_unlisted t (d ∷ cs) ds h =
     on_test
@@ -56,17 +59,20 @@ cell_of-append_unlisted t (d ∷ cs) ds h =
     h
 
 -- one cell appended, for another ticket and for its own
-pub cell_of-append_other : {T : Type 0} (t : ℕ) (cs : List (Cell T)) (c : Cell T) → c.ticket ≢ t → cell_of t (cs ++ c ∷ []) ≡ cell_of t cs
+pub cell_of-append_other : {T : Type 0} (t : ℕ) (cs : List (Cell T)) (c : Cell T) → c.ticket ≢ t
+    → cell_of t (cs ++ c ∷ []) ≡ cell_of t cs
 cell_of-append_other t [] c other = at_other c.ticket t (Some c) None other
 cell_of-append_other t (d ∷ cs) c other =
     ap (λ o. cond (d.ticket == t) (Some d) o) (cell_of-append_other t cs c other)
 
-pub cell_of-append_same : {T : Type 0} (t : ℕ) (cs : List (Cell T)) (c : Cell T) → c.ticket ≡ t → cell_of t cs ≡ None → cell_of t (cs ++ c ∷ []) ≡ Some c
+pub cell_of-append_same : {T : Type 0} (t : ℕ) (cs : List (Cell T)) (c : Cell T) → c.ticket ≡ t → cell_of t cs ≡ None
+    → cell_of t (cs ++ c ∷ []) ≡ Some c
 cell_of-append_same t cs c same none =
     cell_of-append_unlisted t cs (c ∷ []) none ∙ at_same c.ticket t (Some c) None same
 
 -- Marking: the ticket's cell has the mark and the actor, and the others are as they were.
-pub cell_of-marked_same : {T : Type 0} (t : ℕ) (m : Mark) (a : ℕ) (cs : List (Cell T)) (c : Cell T) → cell_of t cs ≡ Some c → cell_of t (marked t m a cs) ≡ Some (remarked c m a)
+pub cell_of-marked_same : {T : Type 0} (t : ℕ) (m : Mark) (a : ℕ) (cs : List (Cell T)) (c : Cell T) → cell_of t cs ≡ Some c
+    → cell_of t (marked t m a cs) ≡ Some (remarked c m a)
 cell_of-marked_same t m a [] c h = cc
 cell_of-marked_same {T} t m a (d ∷ cs) c h =
     on_test
@@ -83,7 +89,8 @@ cell_of-marked_same {T} t m a (d ∷ cs) c h =
     at_other d.ticket t (Some d) (cell_of t (marked t m a cs)) other ∙ cell_of-marked_same t m a cs c found)
     h
 
-pub cell_of-marked_other : {T : Type 0} (u t : ℕ) (m : Mark) (a : ℕ) (cs : List (Cell T)) → t ≢ u → cell_of u (marked t m a cs) ≡ cell_of u cs
+pub cell_of-marked_other : {T : Type 0} (u t : ℕ) (m : Mark) (a : ℕ) (cs : List (Cell T)) → t ≢ u
+    → cell_of u (marked t m a cs) ≡ cell_of u cs
 cell_of-marked_other u t m a [] other = refl
 cell_of-marked_other u t m a (d ∷ cs) other =
     on_test
@@ -96,7 +103,8 @@ cell_of-marked_other u t m a (d ∷ cs) other =
     ∙ sym (at_other d.ticket u (Some d) (cell_of u cs) apart))
     (λ _. ap (λ o. cond (d.ticket == u) (Some d) o) (cell_of-marked_other u t m a cs other))
 
-pub HasCell-marked : {T : Type 0} (cs : List (Cell T)) (t : ℕ) (m : Mark) (x : T) (a : ℕ) (after_mark : Mark) (after_actor : ℕ) → HasCell cs t m x a → HasCell (marked t after_mark after_actor cs) t after_mark x after_actor
+pub HasCell-marked : {T : Type 0} (cs : List (Cell T)) (t : ℕ) (m : Mark) (x : T) (a : ℕ) (after_mark : Mark)
+    (after_actor : ℕ) → HasCell cs t m x a → HasCell (marked t after_mark after_actor cs) t after_mark x after_actor
 HasCell-marked cs t m x a after_mark after_actor h =
     cell_of-marked_same t after_mark after_actor cs (record { ticket = t; mark = m; item = x; actor = a }) h
 

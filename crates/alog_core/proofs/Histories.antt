@@ -14,33 +14,39 @@ left_by-append q [] g = refl
 left_by-append q (x ∷ h) g = left_by-append (after q x.actor x.event) h g
 
 -- legal one after the other, taken together and apart
-pub legal-append : {T N : Type 0} (n : ℕ) (q : Queue T) (h g : List (Entry T N)) → IsLegalFrom n q h → IsLegalFrom n (left_by q h) g → IsLegalFrom n q (h ++ g)
+pub legal-append : {T N : Type 0} (n : ℕ) (q : Queue T) (h g : List (Entry T N)) → IsLegalFrom n q h
+    → IsLegalFrom n (left_by q h) g → IsLegalFrom n q (h ++ g)
 legal-append n q [] g first second = second
 legal-append n q (x ∷ h) g first second = (first.0, legal-append n (after q x.actor x.event) h g first.1 second)
 
-pub legal_first : {T N : Type 0} (n : ℕ) (q : Queue T) (h g : List (Entry T N)) → IsLegalFrom n q (h ++ g) → IsLegalFrom n q h
+pub legal_first : {T N : Type 0} (n : ℕ) (q : Queue T) (h g : List (Entry T N)) → IsLegalFrom n q (h ++ g)
+    → IsLegalFrom n q h
 legal_first n q [] g both = tt
 legal_first n q (x ∷ h) g both = (both.0, legal_first n (after q x.actor x.event) h g both.1)
 
-pub legal_second : {T N : Type 0} (n : ℕ) (q : Queue T) (h g : List (Entry T N)) → IsLegalFrom n q (h ++ g) → IsLegalFrom n (left_by q h) g
+pub legal_second : {T N : Type 0} (n : ℕ) (q : Queue T) (h g : List (Entry T N)) → IsLegalFrom n q (h ++ g)
+    → IsLegalFrom n (left_by q h) g
 legal_second n q [] g both = both
 legal_second n q (x ∷ h) g both = legal_second n (after q x.actor x.event) h g both.1
 
 -- The last entry of a legal history: it is allowed in the queue that those before it leave. These three open `IsLegal`.
-pub legal_with : {T N : Type 0} (n f : ℕ) (h : List (Entry T N)) (x : Entry T N) → IsLegal n f h → Allows n (left_by (start f) h) x.actor x.event → IsLegal n f (h ++ x ∷ [])
+pub legal_with : {T N : Type 0} (n f : ℕ) (h : List (Entry T N)) (x : Entry T N) → IsLegal n f h
+    → Allows n (left_by (start f) h) x.actor x.event → IsLegal n f (h ++ x ∷ [])
 legal_with n f h x legal may = legal-append n (start f) h (x ∷ []) legal (may, tt)
 
 pub legal_before : {T N : Type 0} (n f : ℕ) (h g : List (Entry T N)) → IsLegal n f (h ++ g) → IsLegal n f h
 legal_before n f h g legal = legal_first n (start f) h g legal
 
-pub last_is_allowed : {T N : Type 0} (n f : ℕ) (h : List (Entry T N)) (x : Entry T N) → IsLegal n f (h ++ x ∷ []) → Allows n (left_by (start f) h) x.actor x.event
+pub last_is_allowed : {T N : Type 0} (n f : ℕ) (h : List (Entry T N)) (x : Entry T N) → IsLegal n f (h ++ x ∷ [])
+    → Allows n (left_by (start f) h) x.actor x.event
 last_is_allowed n f h x legal = (legal_second n (start f) h (x ∷ []) legal).0
 
 -- a step of a queue that stands for a history
 pub stands_start : {T N : Type 0} (n f : ℕ) → StandsFor {T = T} {N = N} n f [] (start f)
 stands_start n f = record { legal = tt; queue = refl }
 
-pub stands_after : {T N : Type 0} (n f : ℕ) (h : List (Entry T N)) (q : Queue T) (x : Entry T N) → StandsFor n f h q → Allows n q x.actor x.event → StandsFor n f (h ++ x ∷ []) (after q x.actor x.event)
+pub stands_after : {T N : Type 0} (n f : ℕ) (h : List (Entry T N)) (q : Queue T) (x : Entry T N) → StandsFor n f h q
+    → Allows n q x.actor x.event → StandsFor n f (h ++ x ∷ []) (after q x.actor x.event)
 stands_after {T} {N} n f h q x stands may =
     let P : Queue T → Type 0 = λ p. Allows n p x.actor x.event
     in record {
@@ -60,13 +66,15 @@ own_of-append a (x ∷ h) g =
     (λ _. own_of-append a h g)
 
 -- each legal history from a queue with the facts leaves one with the facts
-pub sound_left : {T N : Type 0} (n : ℕ) (q : Queue T) (h : List (Entry T N)) → 1 ≤ n → IsSound n q → IsLegalFrom n q h → IsSound n (left_by q h)
+pub sound_left : {T N : Type 0} (n : ℕ) (q : Queue T) (h : List (Entry T N)) → 1 ≤ n → IsSound n q → IsLegalFrom n q h
+    → IsSound n (left_by q h)
 sound_left n q [] some s legal = s
 sound_left n q (x ∷ h) some s legal =
     sound_left n (after q x.actor x.event) h some (sound_after n q x.actor x.event some s legal.0) legal.1
 
 -- the facts of every reached state
-pub sound_by_history : {T N : Type 0} (n f : ℕ) (h : List (Entry T N)) → 1 ≤ n → IsLegal n f h → IsSound n (left_by (start f) h)
+pub sound_by_history : {T N : Type 0} (n f : ℕ) (h : List (Entry T N)) → 1 ≤ n → IsLegal n f h
+    → IsSound n (left_by (start f) h)
 sound_by_history n f h some legal = sound_left n (start f) h some (sound_start n f) legal
 
 pub stands_sound : {T N : Type 0} (n f : ℕ) (h : List (Entry T N)) (q : Queue T) → 1 ≤ n → StandsFor n f h q → IsSound n q
@@ -75,9 +83,13 @@ stands_sound {T} n f h q some stands =
 
 pub reached_states_are_sound : (T N : Type 0) → ReachedStatesAreSound T N
 reached_states_are_sound T N n f h some legal =
-    let s : IsSound n (left_by (start f) h) = sound_by_history n f h some legal in (s, length-sound n (left_by (start f) h) s)
+    let s : IsSound n (left_by (start f) h) = sound_by_history n f h some legal in
+    (s, length-sound n (left_by (start f) h) s)
 
 -- a history goes on with a step that is an event, and stays where it is none
-pub stands_step : {T N : Type 0} (n f : ℕ) (h : List (Entry T N)) (q : Queue T) (a : ℕ) (note : N) (o : Option (Event T)) → StandsFor n f h q → ((e : Event T) → o ≡ Some e → Allows n q a e) → StandsFor n f (h ++ entries_of a note o) (after_event q a o)
+pub stands_step : {T N : Type 0} (n f : ℕ) (h : List (Entry T N)) (q : Queue T) (a : ℕ) (note : N) (o : Option (Event T))
+    → StandsFor n f h q → ((e : Event T) → o ≡ Some e → Allows n q a e)
+    → StandsFor n f (h ++ entries_of a note o) (after_event q a o)
 stands_step {T} {N} n f h q a note None s may = subst (λ (g : List (Entry T N)). StandsFor n f g q) (sym (append-nil h)) s
-stands_step n f h q a note (Some e) s may = stands_after n f h q (record { actor = a; event = e; note = note }) s (may e refl)
+stands_step n f h q a note (Some e) s may =
+    stands_after n f h q (record { actor = a; event = e; note = note }) s (may e refl)

@@ -8,3 +8,5 @@ pub mod Steps
 pub mod Others
 pub mod Reached
 pub mod Calls
+pub mod Runs
+pub mod Sizes

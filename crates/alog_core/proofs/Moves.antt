@@ -11,7 +11,8 @@ use Rattle.alog_core.specs.declared.said.Said.TheVariants as said
 use Rattle.alog_core.specs.declared.round.Round.TheVariants as round
 use Rattle.alog_core.proofs.Cells.{on_test, at_same}
 
-pub claims : {T : Type 0} (n : ℕ) (q : Queue T) (p : ℕ) (x : T) → q.next ≡ p → (move_of n q (round.PushFree p x)).event ≡ Some (Claim p x)
+pub claims : {T : Type 0} (n : ℕ) (q : Queue T) (p : ℕ) (x : T) → q.next ≡ p
+    → (move_of n q (round.PushFree p x)).event ≡ Some (Claim p x)
 claims {T} n q p x e = ap (λ (m : Move T). m.event) (at_same q.next p _ _ e)
 
 -- a look-up that finds no item finds no cell
@@ -36,7 +37,11 @@ queue_is {T} q r e f g =
     ap (λ n. Q n q.front q.cells) e ∙ (ap (λ m. Q r.next m q.cells) f ∙ ap (λ cs. Q r.next r.front cs) g)
 
 -- a take that finds no cell is no event
-pub takes_nothing : {T : Type 0} (old new : Table T) (a t : ℕ) → None ≡ option_map (λ c. c.item) (cell_of t (cells_of old.cells.items)) → cells_of new.cells.items ≡ without t (cells_of old.cells.items) → vec_capacity new.cells ≡ vec_capacity old.cells → new.places ≡ old.places → new.next ≡ old.next → new.front ≡ old.front → Advances old new a (round.PopGrabbed t) (said.Nothing, round.Idle)
+pub takes_nothing : {T : Type 0} (old new : Table T) (a t : ℕ)
+    → None ≡ option_map (λ c. c.item) (cell_of t (cells_of old.cells.items))
+    → cells_of new.cells.items ≡ without t (cells_of old.cells.items) → vec_capacity new.cells ≡ vec_capacity old.cells
+    → new.places ≡ old.places → new.next ≡ old.next → new.front ≡ old.front
+    → Advances old new a (round.PopGrabbed t) (said.Nothing, round.Idle)
 takes_nothing {T} old new a t item cells room places next front =
     let q : Queue T = queue_in old in
     let none = no_item (cell_of t q.cells) item in

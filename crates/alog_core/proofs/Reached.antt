@@ -1,5 +1,7 @@
 -- What holds of every machine that calls lead to stays true.
-use Rattle.std.proofs.Common.{◌≡◌, ◌≢◌, ℕ, ◌+◌, ◌<◌, ◌≤◌, Option, None, Some, List, [], ◌∷◌, ◌++◌, length, length-append, vec_capacity, get_or, set, inl, inr, refl, sym, ap, subst, ◌∙◌, arith, length-set, get_or-set_other, get_or-set_same}
+use Rattle.std.proofs.Common.{◌≡◌, ◌≢◌, ℕ, ◌+◌, ◌<◌, ◌≤◌, Option, None, Some, List, [], ◌∷◌, ◌++◌, length, length-append}
+use Rattle.std.proofs.Common.{vec_capacity, get_or, set, inl, inr, refl, sym, ap, subst, ◌∙◌, arith, length-set, get_or-set_other}
+use Rattle.std.proofs.Common.{get_or-set_same}
 use Rattle.std.proofs.lemmas.Bool.Decides.{eqb_tells}
 use Rattle.alog_core.specs.Queue.{Cell, Queue, Event, Claim, Allows, after, IsSound, last}
 use Rattle.alog_core.specs.Round.{after_event}
@@ -8,6 +10,7 @@ use Rattle.std.proofs.lemmas.List.{get_or_read, length-map}
 use Rattle.alog_core.specs.Listed.{seen}
 use Rattle.alog_core.specs.Table.{queue_in, Advances, HasRoom}
 use Rattle.alog_core.specs.World.{Machine, round_of, began, next_move, stepped}
+use Rattle.alog_core.specs.declared.TheConstants.{ACTORS}
 use Rattle.alog_core.specs.declared.said.Said.{Said}
 use Rattle.alog_core.specs.declared.table.Table.{Table}
 use Rattle.alog_core.specs.declared.mark.Mark.TheVariants.{Claimed}
@@ -19,7 +22,9 @@ use Rattle.alog_core.proofs.Steps.{IsFine, fine_move}
 use Rattle.alog_core.proofs.Others.{issued_step, others_staged}
 
 -- a fact of each actor's round, where one round is replaced
-staged_set : {T : Type 0} (n : ℕ) (q : Queue T) (rounds : List (Round T)) (a : ℕ) (r : Round T) → length rounds ≡ 64 → a < 64 → IsStaged n q a r → ((b : ℕ) → a ≢ b → b < 64 → IsStaged n q b (get_or rounds b round.Idle)) → (b : ℕ) → b < 64 → IsStaged n q b (get_or (set rounds a r) b round.Idle)
+staged_set : {T : Type 0} (n : ℕ) (q : Queue T) (rounds : List (Round T)) (a : ℕ) (r : Round T) → length rounds ≡ ACTORS
+    → a < ACTORS → IsStaged n q a r → ((b : ℕ) → a ≢ b → b < ACTORS → IsStaged n q b (get_or rounds b round.Idle))
+    → (b : ℕ) → b < ACTORS → IsStaged n q b (get_or (set rounds a r) b round.Idle)
 staged_set {T} n q rounds a r all lt st others b below =
     elim (eqb_tells a b) [
       | inl h ↦
@@ -29,11 +34,13 @@ staged_set {T} n q rounds a r all lt st others b below =
           subst P h.1 (subst (λ (x : Round T). IsStaged n q a x) (sym here) st)
       | inr h ↦
           let other : b ≢ a = λ e. h.1 (sym e) in
-          let there : get_or (set rounds a r) b round.Idle ≡ get_or rounds b round.Idle = get_or-set_other rounds a b r round.Idle other in
+          let there : get_or (set rounds a r) b round.Idle ≡ get_or rounds b round.Idle =
+          get_or-set_other rounds a b r round.Idle other in
           subst (λ (x : Round T). IsStaged n q b x) (sym there) (others b h.1 below)
     ]
 
-pub reached_began : {T : Type 0} (m : Machine T) (a : ℕ) (r : Round T) → IsReached m → a < 64 → IsStaged m.places m.queue a r → IsReached (began m a r)
+pub reached_began : {T : Type 0} (m : Machine T) (a : ℕ) (r : Round T) → IsReached m → a < ACTORS
+    → IsStaged m.places m.queue a r → IsReached (began m a r)
 reached_began m a r h lt st =
     record {
       small = h.small;
@@ -43,14 +50,15 @@ reached_began m a r h lt st =
       staged = staged_set m.places m.queue m.rounds a r h.actors lt st (λ b _ below. h.staged b below);
     }
 
-sound_step : {T : Type 0} (n : ℕ) (q : Queue T) (a : ℕ) (o : Option (Event T)) → 1 ≤ n → IsSound n q → ((e : Event T) → o ≡ Some e → Allows n q a e) → IsSound n (after_event q a o)
+sound_step : {T : Type 0} (n : ℕ) (q : Queue T) (a : ℕ) (o : Option (Event T)) → 1 ≤ n → IsSound n q
+    → ((e : Event T) → o ≡ Some e → Allows n q a e) → IsSound n (after_event q a o)
 sound_step n q a None some s may = s
 sound_step n q a (Some e) some s may = sound_after n q a e some s (may e refl)
 
-pub fine_step : {T : Type 0} (m : Machine T) (a : ℕ) → IsReached m → a < 64 → IsFine m.places m.queue a (next_move m a)
+pub fine_step : {T : Type 0} (m : Machine T) (a : ℕ) → IsReached m → a < ACTORS → IsFine m.places m.queue a (next_move m a)
 fine_step m a h lt = fine_move m.places m.queue a (round_of m a) h.sound h.issued (h.staged a lt)
 
-pub reached_stepped : {T : Type 0} (m : Machine T) (a : ℕ) → IsReached m → a < 64 → IsReached (stepped m a)
+pub reached_stepped : {T : Type 0} (m : Machine T) (a : ℕ) → IsReached m → a < ACTORS → IsReached (stepped m a)
 reached_stepped m a h lt =
     let fine = fine_step m a h lt in
     let e = (next_move m a).event in
@@ -59,15 +67,20 @@ reached_stepped m a h lt =
       sound = sound_step m.places m.queue a e h.small h.sound fine.allowed;
       issued = issued_step m.places m.queue a e h.issued fine.allowed;
       actors = length-set m.rounds a (next_move m a).round ∙ h.actors;
-      staged = staged_set m.places (after_event m.queue a e) m.rounds a (next_move m a).round h.actors lt fine.staged (λ b other below. others_staged m.places m.queue a b e (round_of m b) h.small h.sound other fine.allowed (h.staged b below));
+      staged = staged_set m.places (after_event m.queue a e) m.rounds a (next_move m a).round h.actors lt fine.staged
+          (λ b other below.
+          others_staged m.places m.queue a b e (round_of m b) h.small h.sound other fine.allowed (h.staged b below));
     }
 
 -- a claim leaves at most as many cells as places, so there was room
-claim_room : {T : Type 0} (m : Machine T) (a p : ℕ) (x : T) → IsReached m → a < 64 → (next_move m a).event ≡ Some (Claim p x) → (length m.queue.cells < m.places) × (p < last)
+claim_room : {T : Type 0} (m : Machine T) (a p : ℕ) (x : T) → IsReached m → a < ACTORS
+    → (next_move m a).event ≡ Some (Claim p x) → (length m.queue.cells < m.places) × (p < last)
 claim_room {T} m a p x h lt e =
     let may = (fine_step m a h lt).allowed (Claim p x) e in
     let c : Cell T = record { ticket = p; mark = Claimed; item = x; actor = a } in
-    let fits : length (m.queue.cells ++ c ∷ []) ≤ m.places = length-sound m.places (after m.queue a (Claim p x)) (sound_after m.places m.queue a (Claim p x) h.small h.sound may) in
+    let fits : length (m.queue.cells ++ c ∷ []) ≤ m.places =
+    length-sound m.places (after m.queue a (Claim p x))
+    (sound_after m.places m.queue a (Claim p x) h.small h.sound may) in
     let more : length (m.queue.cells ++ c ∷ []) ≡ length m.queue.cells + 1 = length-append m.queue.cells (c ∷ []) in
     (omega arith, may.1)
 
@@ -76,10 +89,12 @@ abbrev pub kept : {T : Type 0} → Table T → List (Round T) → Machine T
 kept t rounds = record { places = t.places; queue = queue_in t; rounds = rounds }
 
 -- the round that was taken out is the actor's
-pub taken_round : {T : Type 0} (rounds : List (Round T)) (a : ℕ) (lent r : Round T) → a < length rounds → lent ≡ get_or rounds a lent → r ≡ lent → r ≡ get_or rounds a round.Idle
+pub taken_round : {T : Type 0} (rounds : List (Round T)) (a : ℕ) (lent r : Round T) → a < length rounds
+    → lent ≡ get_or rounds a lent → r ≡ lent → r ≡ get_or rounds a round.Idle
 taken_round rounds a lent r lt e f = f ∙ get_or_read rounds a lent lt e round.Idle
 
-pub has_room : {T : Type 0} (t : Table T) (rounds : List (Round T)) (a : ℕ) (r : Round T) → IsReached (kept t rounds) → t.places ≤ vec_capacity t.cells → a < 64 → r ≡ get_or rounds a round.Idle → HasRoom t r
+pub has_room : {T : Type 0} (t : Table T) (rounds : List (Round T)) (a : ℕ) (r : Round T) → IsReached (kept t rounds)
+    → t.places ≤ vec_capacity t.cells → a < ACTORS → r ≡ get_or rounds a round.Idle → HasRoom t r
 has_room {T} t rounds a r h room lt e =
     subst (λ (s : Round T). HasRoom t s) (sym e)
     (record {
@@ -96,9 +111,12 @@ machine_is {T} m k e f g =
     ap (λ n. M n m.queue m.rounds) e ∙ (ap (λ q. M k.places q m.rounds) f ∙ ap (λ rs. M k.places k.queue rs) g)
 
 -- after the table's step, with the actor's new round in place, the machine is stepped
-pub stepped_in : {T : Type 0} (t new : Table T) (rounds : List (Round T)) (a : ℕ) (spare r : Round T) (answer : Said T × Round T) → r ≡ get_or rounds a round.Idle → Advances t new a r answer → kept new (set (set rounds a spare) a answer.1) ≡ stepped (kept t rounds) a
+pub stepped_in : {T : Type 0} (t new : Table T) (rounds : List (Round T)) (a : ℕ) (spare r : Round T)
+    (answer : Said T × Round T) → r ≡ get_or rounds a round.Idle → Advances t new a r answer
+    → kept new (set (set rounds a spare) a answer.1) ≡ stepped (kept t rounds) a
 stepped_in {T} t new rounds a spare r answer e adv =
-    let made : Advances t new a (get_or rounds a round.Idle) answer = subst (λ (s : Round T). Advances t new a s answer) e adv in
+    let made : Advances t new a (get_or rounds a round.Idle) answer =
+    subst (λ (s : Round T). Advances t new a s answer) e adv in
     machine_is
     (kept new (set (set rounds a spare) a answer.1))
     (stepped (kept t rounds) a)

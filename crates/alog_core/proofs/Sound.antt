@@ -1,10 +1,14 @@
 -- The empty queue has the facts of every reached state, and each allowed event keeps them.
-use Rattle.std.proofs.Common.{◌≡◌, ◌≢◌, ℕ, ◌+◌, ◌-◌, ◌<◌, ◌≤◌, ◌↔◌, None, Some, List, [], ◌∷◌, ◌++◌, length, inl, inr, refl, sym, ap, subst, ◌∙◌, arith}
+use Rattle.std.proofs.Common.{◌≡◌, ◌≢◌, ℕ, ◌+◌, ◌-◌, ◌<◌, ◌≤◌, ◌↔◌, None, Some, List, [], ◌∷◌, ◌++◌, length, inl, inr, refl, sym}
+use Rattle.std.proofs.Common.{ap, subst, ◌∙◌, arith}
 use Rattle.std.proofs.lemmas.Bool.Decides.{eqb_tells, leb_tells}
-use Rattle.alog_core.specs.Queue.{Cell, Queue, Event, Claim, Write, Grab, Take, Full, Empty, PushBusy, PopBusy, Spent, start, cell_of, marked, without, IsListed, HasCell, IsRoom, Rises, IsSound, Allows, after}
+use Rattle.alog_core.specs.Queue.{Cell, Queue, Event, Claim, Write, Grab, Take, Full, Empty, PushBusy, PopBusy, Spent, start}
+use Rattle.alog_core.specs.Queue.{cell_of, marked, without, IsListed, HasCell, IsRoom, Rises, IsSound, Allows, after}
 use Rattle.alog_core.specs.declared.mark.Mark.TheVariants.{Claimed, Written, Emptying}
-use Rattle.alog_core.proofs.Cells.{remarked, cell_of-append_listed, cell_of-append_other, cell_of-append_same, cell_of-marked_same, cell_of-marked_other, cell_of-without_other}
-use Rattle.alog_core.proofs.Rising.{length-rising, listed_within, unlisted_above, rises_above_unlisted, rises-append, rises-marked, rises-without, cell_of-without_same}
+use Rattle.alog_core.proofs.Cells.{remarked, cell_of-append_listed, cell_of-append_other, cell_of-append_same}
+use Rattle.alog_core.proofs.Cells.{cell_of-marked_same, cell_of-marked_other, cell_of-without_other}
+use Rattle.alog_core.proofs.Rising.{length-rising, listed_within, unlisted_above, rises_above_unlisted, rises-append}
+use Rattle.alog_core.proofs.Rising.{rises-marked, rises-without, cell_of-without_same}
 
 pub sound_start : {T : Type 0} (n f : ℕ) → IsSound n (start {T = T} f)
 sound_start n f = record {
@@ -24,7 +28,8 @@ pub next_is_unlisted : {T : Type 0} (n : ℕ) (q : Queue T) (t : ℕ) → IsSoun
 next_is_unlisted n q t s w = unlisted_above t (q.next - n) q.cells q.next s.rising w
 
 -- with room for a ticket the cells are the last n tickets of the next one too
-room_rises : {T : Type 0} (n next : ℕ) (cs : List (Cell T)) → 1 ≤ n → IsRoom n next cs → Rises (next - n) cs next → Rises (next + 1 - n) cs next
+room_rises : {T : Type 0} (n next : ℕ) (cs : List (Cell T)) → 1 ≤ n → IsRoom n next cs → Rises (next - n) cs next
+    → Rises (next + 1 - n) cs next
 room_rises {T} n next cs some room r =
     let P : ℕ → Type 0 = λ low. Rises low cs next
     in elim (leb_tells n next) [
@@ -35,7 +40,8 @@ room_rises {T} n next cs some room r =
       | inr h ↦ let e : next - n ≡ next + 1 - n = omega (arith, h.1) in subst P e r
     ]
 
-pub sound_claim : {T : Type 0} (n : ℕ) (q : Queue T) (a t : ℕ) (x : T) → 1 ≤ n → IsSound n q → t ≡ q.next → IsRoom n t q.cells → IsSound n (after q a (Claim t x))
+pub sound_claim : {T : Type 0} (n : ℕ) (q : Queue T) (a t : ℕ) (x : T) → 1 ≤ n → IsSound n q → t ≡ q.next
+    → IsRoom n t q.cells → IsSound n (after q a (Claim t x))
 sound_claim {T} n q a t x some s is room =
     let c : Cell T = record { ticket = t; mark = Claimed; item = x; actor = a }
     in let none : cell_of t q.cells ≡ None = next_is_unlisted n q t s (omega arith)
@@ -43,7 +49,9 @@ sound_claim {T} n q a t x some s is room =
     in let H : ℕ → Type 0 = λ v. Rises (q.next + 1 - n) (q.cells ++ c ∷ []) (v + 1)
     in record {
       ordered = omega (arith, s.ordered);
-      rising = subst H is (rises-append (q.next + 1 - n) q.cells q.next c (room_rises n q.next q.cells some (subst R is room) s.rising) (omega arith));
+      rising = subst H is
+          (rises-append (q.next + 1 - n) q.cells q.next c (room_rises n q.next q.cells some (subst R is room) s.rising)
+          (omega arith));
       listed =
           λ u above below.
           elim (eqb_tells t u) [
@@ -56,7 +64,8 @@ sound_claim {T} n q a t x some s is room =
           λ u d found.
           elim (eqb_tells t u) [
             | inl h ↦
-                let new : cell_of u (q.cells ++ c ∷ []) ≡ Some c = cell_of-append_same u q.cells c h.1 (next_is_unlisted n q u s (omega (arith, h.1)))
+                let new : cell_of u (q.cells ++ c ∷ []) ≡ Some c =
+                cell_of-append_same u q.cells c h.1 (next_is_unlisted n q u s (omega (arith, h.1)))
                 in let same : c ≡ d = cc
                 in let mark : Claimed ≡ d.mark = ap (λ (k : Cell T). k.mark) same
                 in (λ (e : d.mark ≡ Emptying). cc, λ (w : u < q.front). absurd (omega (arith, h.1, s.ordered)))
@@ -64,7 +73,8 @@ sound_claim {T} n q a t x some s is room =
           ];
     }
 
-pub sound_write : {T : Type 0} (n : ℕ) (q : Queue T) (a t : ℕ) (x : T) (b : ℕ) → IsSound n q → HasCell q.cells t Claimed x b → IsSound n (after q a (Write t))
+pub sound_write : {T : Type 0} (n : ℕ) (q : Queue T) (a t : ℕ) (x : T) (b : ℕ) → IsSound n q
+    → HasCell q.cells t Claimed x b → IsSound n (after q a (Write t))
 sound_write {T} n q a t x b s has =
     let c : Cell T = record { ticket = t; mark = Claimed; item = x; actor = b }
     in record {
@@ -74,23 +84,30 @@ sound_write {T} n q a t x b s has =
           λ u above below.
           let old : IsListed u q.cells = s.listed u above below
           in elim (eqb_tells t u) [
-            | inl h ↦ let P : ℕ → Type 0 = λ v. IsListed v (marked t Written a q.cells) in subst P h.1 (remarked c Written a, cell_of-marked_same t Written a q.cells c has)
+            | inl h ↦ let P : ℕ → Type 0 = λ v. IsListed v (marked t Written a q.cells) in
+                subst P h.1 (remarked c Written a, cell_of-marked_same t Written a q.cells c has)
             | inr h ↦ (old.0, cell_of-marked_other u t Written a q.cells h.1 ∙ old.1)
           ];
       emptied =
           λ u d found.
           elim (eqb_tells t u) [
             | inl h ↦
-                let new : cell_of t (marked t Written a q.cells) ≡ Some (remarked c Written a) = cell_of-marked_same t Written a q.cells c has
+                let new : cell_of t (marked t Written a q.cells) ≡ Some (remarked c Written a) =
+                cell_of-marked_same t Written a q.cells c has
                 in let e : t ≡ u = h.1
                 in let same : remarked c Written a ≡ d = cc
                 in let mark : Written ≡ d.mark = ap (λ (k : Cell T). k.mark) same
-                in (λ (wrong : d.mark ≡ Emptying). cc, λ (w : u < q.front). let wrong : Claimed ≡ Emptying = (s.emptied t c has).1 (omega arith) in cc)
+                in (
+                  λ (wrong : d.mark ≡ Emptying). cc,
+                  λ (w : u < q.front). let wrong : Claimed ≡ Emptying =
+                      (s.emptied t c has).1 (omega arith) in cc,
+                )
             | inr h ↦ s.emptied u d (sym (cell_of-marked_other u t Written a q.cells h.1) ∙ found)
           ];
     }
 
-pub sound_grab : {T : Type 0} (n : ℕ) (q : Queue T) (a t : ℕ) (x : T) (b : ℕ) → IsSound n q → t ≡ q.front → HasCell q.cells t Written x b → IsSound n (after q a (Grab t))
+pub sound_grab : {T : Type 0} (n : ℕ) (q : Queue T) (a t : ℕ) (x : T) (b : ℕ) → IsSound n q → t ≡ q.front
+    → HasCell q.cells t Written x b → IsSound n (after q a (Grab t))
 sound_grab {T} n q a t x b s is has =
     let c : Cell T = record { ticket = t; mark = Written; item = x; actor = b }
     in let in_bounds : (q.next - n ≤ t) × (t < q.next) = listed_within t (q.next - n) q.cells q.next c s.rising has
@@ -106,18 +123,21 @@ sound_grab {T} n q a t x b s is has =
           λ u d found.
           elim (eqb_tells t u) [
             | inl h ↦
-                let new : cell_of t (marked t Emptying a q.cells) ≡ Some (remarked c Emptying a) = cell_of-marked_same t Emptying a q.cells c has
+                let new : cell_of t (marked t Emptying a q.cells) ≡ Some (remarked c Emptying a) =
+                cell_of-marked_same t Emptying a q.cells c has
                 in let e : t ≡ u = h.1
                 in let same : remarked c Emptying a ≡ d = cc
                 in let mark : Emptying ≡ d.mark = ap (λ (k : Cell T). k.mark) same
                 in (λ (_ : d.mark ≡ Emptying). omega arith, λ (_ : u < q.front + 1). sym mark)
             | inr h ↦
-                let old : (d.mark ≡ Emptying) ↔ (u < q.front) = s.emptied u d (sym (cell_of-marked_other u t Emptying a q.cells h.1) ∙ found)
+                let old : (d.mark ≡ Emptying) ↔ (u < q.front) =
+                s.emptied u d (sym (cell_of-marked_other u t Emptying a q.cells h.1) ∙ found)
                 in (λ (m : d.mark ≡ Emptying). omega (arith, old.0 m), λ (w : u < q.front + 1). old.1 (omega (arith, h.1)))
           ];
     }
 
-pub sound_take : {T : Type 0} (n : ℕ) (q : Queue T) (a t : ℕ) (x : T) (b : ℕ) → IsSound n q → HasCell q.cells t Emptying x b → IsSound n (after q a (Take t x))
+pub sound_take : {T : Type 0} (n : ℕ) (q : Queue T) (a t : ℕ) (x : T) (b : ℕ) → IsSound n q
+    → HasCell q.cells t Emptying x b → IsSound n (after q a (Take t x))
 sound_take {T} n q a t x b s has =
     let c : Cell T = record { ticket = t; mark = Emptying; item = x; actor = b }
     in let behind : t < q.front = (s.emptied t c has).0 refl
@@ -133,7 +153,8 @@ sound_take {T} n q a t x b s has =
           λ u d found.
           elim (eqb_tells t u) [
             | inl h ↦
-                let none : cell_of t (without t q.cells) ≡ None = cell_of-without_same t (q.next - n) q.cells q.next s.rising
+                let none : cell_of t (without t q.cells) ≡ None =
+                cell_of-without_same t (q.next - n) q.cells q.next s.rising
                 in let e : t ≡ u = h.1
                 in cc
             | inr h ↦ s.emptied u d (sym (cell_of-without_other u t q.cells h.1) ∙ found)
@@ -141,7 +162,8 @@ sound_take {T} n q a t x b s has =
     }
 
 -- each allowed event keeps the facts of reached states
-pub sound_after : {T : Type 0} (n : ℕ) (q : Queue T) (a : ℕ) (e : Event T) → 1 ≤ n → IsSound n q → Allows n q a e → IsSound n (after q a e)
+pub sound_after : {T : Type 0} (n : ℕ) (q : Queue T) (a : ℕ) (e : Event T) → 1 ≤ n → IsSound n q → Allows n q a e
+    → IsSound n (after q a e)
 sound_after n q a (Claim t x) some s may = sound_claim n q a t x some s may.0 may.2
 sound_after n q a (Write t) some s may = sound_write n q a t may.0 a s may.1
 sound_after n q a (Grab t) some s may = sound_grab n q a t may.1.0 may.1.1 s may.0 may.1.2

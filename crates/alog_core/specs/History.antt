@@ -1,5 +1,5 @@
 -- Histories of a queue: who did what, in the one order in which the steps were made.
-use Rattle.std.specs.Prelude.{◌≡◌, ℕ, ◌==◌, ◌≤◌, if◌then◌else◌, List, [], ◌∷◌, length}
+use Rattle.std.specs.Prelude.{◌≡◌, ℕ, ◌==◌, ◌≤◌, if◌then◌else◌, List, [], ◌∷◌, ◌++◌, length}
 use Rattle.alog_core.specs.Queue.{Queue, Event, Allows, after, start, IsSound}
 
 -- An event and the actor who made it. No definition reads the note.
@@ -32,6 +32,11 @@ pub record StandsFor {T N : Type 0} (n f : ℕ) (h : List (Entry T N)) (q : Queu
   pub legal : IsLegal n f h
   pub queue : left_by (start f) h ≡ q
 
+-- each history that the first queue stands for goes on, legally, with these entries to one that the second stands for
+abbrev pub GoesOn : {T N : Type 0} → ℕ → Queue T → List (Entry T N) → Queue T → Type 0
+GoesOn {T} {N} n q made r = (f : ℕ) (h : List (Entry T N)) → StandsFor n f h q → StandsFor n f (h ++ made) r
+
 -- Each queue of n places that a legal history leaves has the facts of `IsSound`, and so at most n cells.
 abbrev pub ReachedStatesAreSound : Type 0 → Type 0 → Type 0
-ReachedStatesAreSound T N = (n f : ℕ) (h : List (Entry T N)) → 1 ≤ n → IsLegal n f h → IsSound n (left_by (start f) h) × (length (left_by (start f) h).cells ≤ n)
+ReachedStatesAreSound T N = (n f : ℕ) (h : List (Entry T N)) → 1 ≤ n → IsLegal n f h → IsSound n (left_by (start f) h)
+    × (length (left_by (start f) h).cells ≤ n)

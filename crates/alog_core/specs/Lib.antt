@@ -2,6 +2,7 @@ pub mod Queue
 pub mod History
 pub mod Round
 pub mod World
+pub mod Run
 pub mod Staged
 pub mod Listed
 pub mod Table

@@ -1,6 +1,7 @@
 -- The queue as its users see it: cells in the order of their tickets, and no word, mask or place.
 -- The rule is that of Dmitry Vyukov's bounded queue for many producers and many consumers (1024cores.net).
-use Rattle.std.specs.Prelude.{◌≡◌, ℕ, ◌+◌, ◌-◌, ◌^◌, ◌<◌, ◌≤◌, ◌==◌, ◌⊎◌, ◌↔◌, if◌then◌else◌, Option, None, Some, List, [], ◌∷◌, ◌++◌}
+use Rattle.std.specs.Prelude.{◌≡◌, ℕ, ◌+◌, ◌-◌, ◌<◌, ◌≤◌, ◌==◌, ◌⊎◌, ◌↔◌, if◌then◌else◌, Option, None, Some, List, [], ◌∷◌, ◌++◌}
+use Rattle.alog_core.specs.declared.TheConstants.{LAST_TICKET}
 use Rattle.alog_core.specs.declared.mark.Mark.{Mark}
 use Rattle.alog_core.specs.declared.mark.Mark.TheVariants.{Claimed, Written, Emptying}
 
@@ -31,7 +32,7 @@ pub data Event (T : Type 0) : Type 0 where
 
 -- no ticket is as large: tickets are below it
 abbrev pub last : ℕ
-last = 2 ^ 62
+last = LAST_TICKET
 
 -- an empty queue whose first ticket is f
 abbrev pub start : {T : Type 0} → ℕ → Queue T
@@ -103,7 +104,8 @@ Allows n q a Spent = Refuses n q Spent
 
 -- The queue after an event: a claim appends its cell, a write and a grab mark it, a take removes it.
 abbrev pub after : {T : Type 0} → Queue T → ℕ → Event T → Queue T
-after q a (Claim t x) = record q { next = q.next + 1; cells = q.cells ++ record { ticket = t; mark = Claimed; item = x; actor = a } ∷ [] }
+after q a (Claim t x) =
+    record q { next = q.next + 1; cells = q.cells ++ record { ticket = t; mark = Claimed; item = x; actor = a } ∷ [] }
 after q a (Write t) = record q { cells = marked t Written a q.cells }
 after q a (Grab t) = record q { front = q.front + 1; cells = marked t Emptying a q.cells }
 after q a (Take t x) = record q { cells = without t q.cells }

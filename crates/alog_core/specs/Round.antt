@@ -1,10 +1,13 @@
 -- A round: the steps of one push or pop. Each step reads or writes one word, and all a step knows of the words
 -- that earlier steps read is the ticket in its round.
-use Rattle.std.specs.Prelude.{ℕ, ◌+◌, ◌==◌, ◌&&◌, ◌||◌, not, nat_lt, Bool, true, false, if◌then◌else◌, Option, None, Some, is_none, List}
+use Rattle.std.specs.Prelude.{ℕ, ◌+◌, ◌==◌, ◌&&◌, ◌||◌, not, nat_lt, Bool, true, false, if◌then◌else◌, Option, None, Some}
+use Rattle.std.specs.Prelude.{is_none, List}
 use Rattle.std.specs.List.{list_any}
-use Rattle.alog_core.specs.Queue.{Cell, Queue, Event, Claim, Write, Grab, Take, Full, Empty, PushBusy, PopBusy, Spent, last, cell_of, after}
+use Rattle.alog_core.specs.Queue.{Cell, Queue, Event, Claim, Write, Grab, Take, Full, Empty, PushBusy, PopBusy, Spent, last}
+use Rattle.alog_core.specs.Queue.{cell_of, after}
 use Rattle.alog_core.specs.declared.round.Round.{Round}
-use Rattle.alog_core.specs.declared.round.Round.TheVariants.{Idle, Push, PushRead, PushFree, PushClaimed, Pop, PopRead, PopReady, PopGrabbed}
+use Rattle.alog_core.specs.declared.round.Round.TheVariants.{Idle, Push, PushRead, PushFree, PushClaimed, Pop, PopRead, PopReady}
+use Rattle.alog_core.specs.declared.round.Round.TheVariants.{PopGrabbed}
 use Rattle.alog_core.specs.declared.mark.Mark.{Mark}
 use Rattle.alog_core.specs.declared.mark.Mark.TheVariants.{Claimed, Written, Emptying}
 
@@ -53,7 +56,7 @@ is_claimed (Some c) = marks_claimed c.mark
 -- The table of a round: what each of its steps reads, and what it answers by it.
 abbrev pub move_of : {T : Type 0} → ℕ → Queue T → Round T → Move T
 move_of n q Idle = goes_on Idle
--- A push: load the enqueue position; load the sequence of its place; exchange the position; store the sequence.
+-- A push: load the next ticket; load the sequence of its place; move the next ticket on; store the sequence.
 move_of n q (Push x) = if q.next == last then ends Spent else goes_on (PushRead q.next x)
 move_of n q (PushRead p x) =
     if is_blocked n p q.cells then ends (Full p)
@@ -61,7 +64,7 @@ move_of n q (PushRead p x) =
     else goes_on (PushFree p x)
 move_of n q (PushFree p x) = if q.next == p then makes (Claim p x) (PushClaimed p) else ends (PushBusy p)
 move_of n q (PushClaimed p) = ends (Write p)
--- A pop: load the dequeue position; load the sequence of its place; exchange the position; store the sequence.
+-- A pop: load the front ticket; load the sequence of its place; move the front ticket on; store the sequence.
 move_of n q Pop = goes_on (PopRead q.front)
 move_of n q (PopRead p) =
     if p == q.front && (is_none (cell_of p q.cells) || is_claimed (cell_of p q.cells)) then ends (Empty p)

@@ -2,6 +2,7 @@
 use Rattle.std.specs.Prelude.{◌≡◌, ℕ, ◌<◌, ◌≤◌, length}
 use Rattle.alog_core.specs.Queue.{Queue, IsSound, IsRoom, IsWritten, HasCell, last}
 use Rattle.alog_core.specs.World.{Machine, round_of}
+use Rattle.alog_core.specs.declared.TheConstants.{ACTORS}
 use Rattle.alog_core.specs.declared.round.Round.{Round}
 use Rattle.alog_core.specs.declared.round.Round.TheVariants as round
 use Rattle.alog_core.specs.declared.mark.Mark.TheVariants.{Claimed, Emptying}
@@ -22,5 +23,5 @@ pub record IsReached {T : Type 0} (m : Machine T) : Type 0 where
   pub small : 1 ≤ m.places
   pub sound : IsSound m.places m.queue
   pub issued : m.queue.next ≤ last
-  pub actors : length m.rounds ≡ 64
-  pub staged : (a : ℕ) → a < 64 → IsStaged m.places m.queue a (round_of m a)
+  pub actors : length m.rounds ≡ ACTORS
+  pub staged : (a : ℕ) → a < ACTORS → IsStaged m.places m.queue a (round_of m a)

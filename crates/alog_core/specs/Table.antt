@@ -22,6 +22,7 @@ pub record Advances {T : Type 0} (old new : Table T) (a : ℕ) (r : Round T) (an
 
 -- A claim finds room for its cell, and no position passes the last.
 pub record HasRoom {T : Type 0} (t : Table T) (r : Round T) : Type 0 where
-  pub cell : (p : ℕ) (x : T) → (move_of t.places (queue_in t) r).event ≡ Some (Claim p x) → vec_len t.cells < vec_capacity t.cells
+  pub cell : (p : ℕ) (x : T) → (move_of t.places (queue_in t) r).event ≡ Some (Claim p x)
+      → vec_len t.cells < vec_capacity t.cells
   pub next : (p : ℕ) (x : T) → (move_of t.places (queue_in t) r).event ≡ Some (Claim p x) → p < last
   pub front : t.front ≤ last

@@ -1,9 +1,11 @@
 -- The machine: a queue and 64 actors, each in a round of its own.
-use Rattle.std.specs.Prelude.{ℕ, ◌&&◌, nat_lt, nat_le, Bool, true, false, if◌then◌else◌, Option, None, Some, List, [], ◌∷◌, replicate, slice_index_or, slice_set}
+use Rattle.std.specs.Prelude.{ℕ, ◌&&◌, nat_lt, nat_le, Bool, true, false, if◌then◌else◌, Option, None, Some, List, [], ◌∷◌}
+use Rattle.std.specs.Prelude.{replicate, slice_index_or, slice_set}
 use Rattle.std.specs.Int.{is_power_of_two}
 use Rattle.alog_core.specs.Queue.{Cell, Queue, Event, Claim, Write, Grab, Take, Full, Empty, PushBusy, PopBusy, Spent, start}
 use Rattle.alog_core.specs.Round.{Move, move_of, after_event}
 use Rattle.alog_core.specs.History.{Entry}
+use Rattle.alog_core.specs.declared.TheConstants.{ACTORS, LEAST_PLACES, MOST_PLACES}
 use Rattle.alog_core.specs.declared.round.Round.{Round}
 use Rattle.alog_core.specs.declared.round.Round.TheVariants as round
 use Rattle.alog_core.specs.declared.said.Said.{Said}
@@ -23,11 +25,11 @@ pub record Machine (T : Type 0) : Type 0 where
 
 -- a number of places that a queue may have: a power of two from 2 to 65,536
 abbrev pub is_size : ℕ → Bool
-is_size n = is_power_of_two n && (nat_le 2 n && nat_le n 65536)
+is_size n = is_power_of_two n && (nat_le LEAST_PLACES n && nat_le n MOST_PLACES)
 
 -- an empty queue, and nobody in a call
 abbrev pub fresh : {T : Type 0} → ℕ → ℕ → Machine T
-fresh n f = record { places = n; queue = start f; rounds = replicate 64 round.Idle }
+fresh n f = record { places = n; queue = start f; rounds = replicate ACTORS round.Idle }
 
 -- the round of an actor
 abbrev pub round_of : {T : Type 0} → Machine T → ℕ → Round T
@@ -99,23 +101,24 @@ entries_of a note (Some e) = record { actor = a; event = e; note = note } ∷ []
 -- the reply to a call
 abbrev pub reply_to : {T : Type 0} → Machine T → Call T → Answer T
 reply_to m (call.Push a x) =
-    if nat_lt a 64
+    if nat_lt a ACTORS
     then (if is_idle (round_of m a) then answer.Began else answer.Refused 7 (Some x))
     else answer.Refused 6 (Some x)
 reply_to m (call.Pop a) =
-    if nat_lt a 64
+    if nat_lt a ACTORS
     then (if is_idle (round_of m a) then answer.Began else answer.Refused 7 None)
     else answer.Refused 6 None
 reply_to m (call.Step a) =
-    if nat_lt a 64
+    if nat_lt a ACTORS
     then (if is_idle (round_of m a) then answer.Refused 8 None else answer.Said (told m a))
     else answer.Refused 6 None
 
 -- the machine after a call; a refused one changes nothing
 abbrev pub after_call : {T : Type 0} → Machine T → Call T → Machine T
-after_call m (call.Push a x) = if nat_lt a 64 then (if is_idle (round_of m a) then began m a (round.Push x) else m) else m
-after_call m (call.Pop a) = if nat_lt a 64 then (if is_idle (round_of m a) then began m a round.Pop else m) else m
-after_call m (call.Step a) = if nat_lt a 64 then (if is_idle (round_of m a) then m else stepped m a) else m
+after_call m (call.Push a x) =
+    if nat_lt a ACTORS then (if is_idle (round_of m a) then began m a (round.Push x) else m) else m
+after_call m (call.Pop a) = if nat_lt a ACTORS then (if is_idle (round_of m a) then began m a round.Pop else m) else m
+after_call m (call.Step a) = if nat_lt a ACTORS then (if is_idle (round_of m a) then m else stepped m a) else m
 
 -- the replies to calls, one after another
 abbrev pub replies_to : {T : Type 0} → Machine T → List (Call T) → List (Answer T)

@@ -74,7 +74,7 @@ impl StepError {
     }
 }
 
-/// A push that did not begin, and the item that it brought.
+/// A push that did not begin, and the item that it brought. The test `refusals` shows it.
 #[derive(Debug, PartialEq, Eq, Drop)]
 pub struct Refused<T> {
     /// Why.

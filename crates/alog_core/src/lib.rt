@@ -1,9 +1,13 @@
 //! The bounded queue for many producers and many consumers, as atomic steps of up to 64 actors in any interleaving.
 //!
-//! The rule is Dmitry Vyukov's (1024cores.net, "Bounded MPMC queue"). Contracts see a `World` as a queue of cells in
-//! ticket order and the round in which each actor stands; whatever keeps them is private. Read `specs/Queue.antt` for
-//! cells, events and what each is allowed to do, `specs/History.antt` for histories, `specs/Round.antt` for the steps
-//! of a push and of a pop, and `specs/World.antt` for the machine; then `world.rt`, whose calls are that machine.
+//! Use it to play a schedule: `World::new` makes the queue, an actor begins a push or a pop, and each `step` makes one
+//! atomic step of the actor's call and answers what it was; `run` plays a list of such calls. The test
+//! `calls_and_their_answers` is an example. The rule is Dmitry Vyukov's (1024cores.net, "Bounded MPMC queue").
+//!
+//! Contracts see a `World` as a queue of cells in ticket order and the round in which each actor stands; whatever keeps
+//! them is private. Read `specs/Queue.antt` for cells, events and what each is allowed to do, `specs/History.antt` for
+//! histories, `specs/Round.antt` for the steps of a push and of a pop, `specs/World.antt` for the machine, `specs/Run.antt`
+//! for whole runs, and `specs/Staged.antt` for what is true of every world; then `world.rt`, whose calls are that machine.
 //! `table.rt` makes the steps over a plain list of cells (`listed.rt`), and `laws.rt` states what is true of every
 //! history.
 #![tactic(auto)]
@@ -24,10 +28,13 @@ pub use laws::reached_states_are_sound;
 pub use mark::Mark;
 pub use round::Round;
 pub use said::{Answer, Call, CellView, Said};
-pub use world::World;
+pub use world::{World, is_size};
 
-/// Actors are numbered from 0 to 63.
+/// So many actors, numbered from 0 to 63.
 pub const ACTORS: u32 = 64;
+
+/// A queue has at least so many places.
+pub const LEAST_PLACES: usize = 2;
 
 /// A queue has at most so many places.
 pub const MOST_PLACES: usize = 65_536;

@@ -7,21 +7,21 @@ ghost use Rattle.std.specs.Prelude.{◌≡◌};
 pub enum Round<T> {
     /// In no call.
     Idle,
-    /// A push before it loads the enqueue position.
+    /// A push before it loads the next ticket.
     Push {
         /// What it brings.
         item: T,
     },
     /// A push before it loads the sequence of its ticket's place.
     PushRead {
-        /// The enqueue position that it read.
+        /// The next ticket that it read.
         ticket: u64,
         /// What it brings.
         item: T,
     },
-    /// A push before it exchanges the enqueue position: it found the place free.
+    /// A push before it moves the next ticket on: it found the place free.
     PushFree {
-        /// The enqueue position that it read.
+        /// The next ticket that it read.
         ticket: u64,
         /// What it brings.
         item: T,
@@ -31,16 +31,16 @@ pub enum Round<T> {
         /// The ticket that it claimed.
         ticket: u64,
     },
-    /// A pop before it loads the dequeue position.
+    /// A pop before it loads the front ticket.
     Pop,
     /// A pop before it loads the sequence of its ticket's place.
     PopRead {
-        /// The dequeue position that it read.
+        /// The front ticket that it read.
         ticket: u64,
     },
-    /// A pop before it exchanges the dequeue position: it found the ticket written.
+    /// A pop before it moves the front ticket on: it found the ticket written.
     PopReady {
-        /// The dequeue position that it read.
+        /// The front ticket that it read.
         ticket: u64,
     },
     /// A pop before it stores the sequence: the cell is its own to empty.

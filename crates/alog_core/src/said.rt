@@ -1,6 +1,6 @@
 use crate::mark::Mark;
 
-/// What a step answers. A refusal of a push hands back the value that it brought.
+/// What a step answers. A refusal of a push hands back the value that it brought. The test `busy_push` shows it.
 #[derive(Debug, PartialEq, Eq, Drop)]
 pub enum Said<T> {
     /// The step was no event, and the round goes on.
@@ -23,7 +23,8 @@ pub enum Said<T> {
     Spent(Option<T>),
 }
 
-/// One call of a `World`, as data.
+/// One call of a `World`, as data: a list of them is a schedule for `World::run`. The test `calls_and_their_answers` shows
+/// it.
 #[derive(Debug, PartialEq, Eq, Drop)]
 pub enum Call<T> {
     /// `begin_push` of this actor with this item.
@@ -34,7 +35,7 @@ pub enum Call<T> {
     Step(u32),
 }
 
-/// What one call of a `World` answered.
+/// What one call of a `World` answered. The test `calls_and_their_answers` shows it.
 #[derive(Debug, PartialEq, Eq, Drop)]
 pub enum Answer<T> {
     /// The push or pop has begun.
@@ -46,7 +47,7 @@ pub enum Answer<T> {
     Refused(u32, Option<T>),
 }
 
-/// A cell as `World::cells` shows it.
+/// A cell as `World::cells` shows it. The test `claimed_cell_in_front` shows it.
 #[derive(Clone, Copy, Debug, PartialEq, Eq)]
 pub struct CellView {
     /// Its ticket.

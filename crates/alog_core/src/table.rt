@@ -26,7 +26,7 @@ pub fn advance<T>(table: &mut Table<T>, actor: u32, round: Round<T>) -> (Said<T>
 {
     match round {
         Round::Idle => (Said::Nothing, Round::Idle),
-        Round::Push { item } => load_enqueue_position(table, item),
+        Round::Push { item } => load_next(table, item),
         Round::PushRead { ticket, item } => load_sequence_to_push(table, ticket, item),
         Round::PushFree { ticket, item } => claim(table, actor, ticket, item),
         Round::PushClaimed { ticket } => {
@@ -48,8 +48,8 @@ pub fn advance<T>(table: &mut Table<T>, actor: u32, round: Round<T>) -> (Said<T>
     }
 }
 
-/// A push reads the enqueue position.
-fn load_enqueue_position<T>(table: &Table<T>, item: T) -> (Said<T>, Round<T>)
+/// A push reads the next ticket.
+fn load_next<T>(table: &Table<T>, item: T) -> (Said<T>, Round<T>)
     ensures { (a : ℕ) → Advances table.now table.now a (round.Push item) result }
 {
     if table.next == LAST_TICKET {
@@ -72,15 +72,14 @@ fn load_sequence_to_push<T>(table: &Table<T>, ticket: u64, item: T) -> (Said<T>,
     if blocks(&table.cells, table.places, ticket) {
         return (Said::Full(ticket, Some(item)), Round::Idle);
     }
-    let claimed = mark_of(&table.cells, ticket) == Some(Mark::Claimed);
-    if ticket < table.next && !claimed {
+    if ticket < table.next && mark_of(&table.cells, ticket) != Some(Mark::Claimed) {
         (Said::Busy(ticket, Some(item)), Round::Idle)
     } else {
         (Said::Nothing, Round::PushFree { ticket, item })
     }
 }
 
-/// A push exchanges the enqueue position: the ticket is its own, or another actor was faster.
+/// A push moves the next ticket on: the ticket that it read is its own, or another actor was faster.
 fn claim<T>(table: &mut Table<T>, actor: u32, ticket: u64, item: T) -> (Said<T>, Round<T>)
     requires { HasRoom table.old (round.PushFree ticket item) }
     ensures { Advances table.old table.new actor (round.PushFree ticket item) result }
@@ -113,7 +112,7 @@ fn load_sequence_to_pop<T>(table: &Table<T>, ticket: u64) -> (Said<T>, Round<T>)
     }
 }
 
-/// A pop exchanges the dequeue position: the ticket is its own, or another actor was faster.
+/// A pop moves the front ticket on: the ticket that it read is its own, or another actor was faster.
 fn grab<T>(table: &mut Table<T>, actor: u32, ticket: u64) -> (Said<T>, Round<T>)
     requires { table.old.front ≤ last }
     ensures { Advances table.old table.new actor (round.PopReady ticket) result }

@@ -1,11 +1,36 @@
+ghost use Rattle.std.specs.Prelude.{◌≡◌, ◌<◌, IfSome};
+ghost use Rattle.alog_core.specs.History.{StandsFor};
+ghost use Rattle.alog_core.specs.World.{fresh};
+ghost use Rattle.alog_core.specs.Run.{entries_of_run, TellAll};
+
 use crate::{
-    Answer, BeginError, Call, CellView, Mark, Refused, Said, StepError, World, WorldError,
-    reached_states_are_sound,
+    Answer, BeginError, Call, CellView, MOST_PLACES, Mark, Refused, Said, StepError, World,
+    WorldError, reached_states_are_sound,
 };
+use std::alloc::{AllocError, Global};
 use std::process::Abort;
 use std::test::Fail;
 
 const LAST: u64 = 4_611_686_018_427_387_903;
+
+/// A new queue and a run of calls on it: it stands for the entries of the run, and the answers tell them.
+fn run_anew(
+    alloc: Global,
+    places: usize,
+    first: u64,
+    calls: Vec<Call<u64>>,
+) -> Option<(World<u64>, Vec<Answer<u64>>)>
+    ensures stands { IfSome result (λ r. StandsFor places first (entries_of_run (fresh places first) calls.items) r.0.queue) }
+    ensures told { IfSome result (λ r. TellAll calls.items r.1.items (entries_of_run (fresh places first) calls.items)) }
+{
+    let Ok(mut world) = World::new(alloc, places, first) else {
+        return None;
+    };
+    let Ok(answers) = world.run(alloc, calls) else {
+        return None;
+    };
+    Some((world, answers))
+}
 
 /// The next steps of an actor answer this.
 fn says(rt: &impl Abort, world: &mut World<u64>, actor: u32, wanted: &[Said<u64>]) {
@@ -283,5 +308,75 @@ fn items_that_own_memory(rt: HostRuntime) -> Result<(), Fail> {
     assert!(rt; answers[1] == refused);
     let taken = Answer::Said(Said::Take(5, String::from_str(alloc, "first")?));
     assert!(rt; answers[11] == taken);
+    Ok(())
+}
+
+/// Pushes of this actor, one after another, until the queue is full.
+fn fill(
+    rt: &impl Abort,
+    alloc: Global,
+    world: &mut World<u64>,
+    actor: u32,
+) -> Result<(), AllocError> {
+    for item in 0..MOST_PLACES as u64 {
+        let calls = vec![in alloc;
+            Call::Push(actor, item),
+            Call::Step(actor),
+            Call::Step(actor),
+            Call::Step(actor),
+            Call::Step(actor),
+        ]?;
+        let Ok(answers) = world.run(alloc, calls) else {
+            return Err(AllocError);
+        };
+        assert!(rt; answers.last() == Some(&Answer::Said(Said::Write(item))));
+    }
+    Ok(())
+}
+
+#[test]
+fn the_largest_queue(rt: HostRuntime) -> Result<(), Fail> {
+    let mut world = World::new(rt.alloc(), MOST_PLACES, 0)?;
+    fill(&rt, rt.alloc(), &mut world, 63)?;
+    world.begin_push(0, 1)?;
+    says(
+        &rt,
+        &mut world,
+        0,
+        &[Said::Nothing, Said::Full(65_536, Some(1))],
+    );
+    let cells = world.cells(rt.alloc())?;
+    assert_eq!(rt; cells.len(), 65_536);
+    let written = (0..65_536).map(|ticket| cell(ticket, Mark::Written));
+    assert!(rt; cells.iter().copied().eq(written));
+    Ok(())
+}
+
+#[test]
+fn a_run_of_hundreds_of_calls(rt: HostRuntime) -> Result<(), Fail> {
+    let mut calls = Vec::new(rt.alloc());
+    for item in 0..100 {
+        calls.push(Call::Push(1, item))?;
+        calls.push(Call::Pop(2))?;
+        for _ in 0..4 {
+            calls.push(Call::Step(1))?;
+        }
+        for _ in 0..4 {
+            calls.push(Call::Step(2))?;
+        }
+    }
+    let Some((world, answers)) = run_anew(rt.alloc(), 2, 7, calls) else {
+        panic!(rt; "memory is there")
+    };
+    assert_eq!(rt; answers.len(), 1000);
+    let mut taken = answers.iter().filter_map(|answer| match answer {
+        Answer::Said(Said::Take(ticket, item)) => Some((*ticket, *item)),
+        _ => None,
+    });
+    for item in 0..100 {
+        assert_eq!(rt; taken.next(), Some((item + 7, item)));
+    }
+    assert!(rt; taken.next().is_none());
+    assert!(rt; world.cells(rt.alloc())?.is_empty());
     Ok(())
 }

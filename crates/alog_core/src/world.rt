@@ -1,8 +1,11 @@
 //! The stepped queue: what its calls answer, and in which order they refuse.
-ghost use Rattle.std.specs.Prelude.{◌≡◌, ◌<◌, ◌≤◌, ◌↔◌, ◌++◌, ℕ, Some, List, true, false, map, IfOk, OnOk, OnErr, IfErr, IsOk, IsErrOf};
+ghost use Rattle.std.specs.Prelude.{◌≡◌, ◌<◌, ◌≤◌, ◌↔◌, Some, true, false, map, IfOk, OnOk, OnErr, IfErr, IsOk, IsErrOf};
 ghost use Rattle.alog_core.specs.Queue.{Event, Allows, last};
-ghost use Rattle.alog_core.specs.History.{Entry, StandsFor};
-ghost use Rattle.alog_core.specs.World.{is_size, fresh, round_of, is_idle, began, next_move, stepped, told, entries_of, reply_to, after_call, replies_to, after_calls, shown};
+ghost use Rattle.alog_core.specs.History.{GoesOn};
+ghost use Rattle.alog_core.specs.World.{is_size, fresh, round_of, is_idle, began, next_move, stepped, told, shown};
+ghost use Rattle.alog_core.specs.World.{reply_to, after_call, replies_to, after_calls};
+ghost use Rattle.alog_core.specs.Run.{entries_of_step, entries_of_run, TellAll, HasItsCell, EachHasItsCell};
+ghost use Rattle.alog_core.specs.Staged.{IsReached};
 ghost use Rattle.alog_core.specs.declared.round.Round.TheVariants as round;
 
 use crate::error::{BeginError, Refused, StepError, WorldError};
@@ -10,12 +13,13 @@ use crate::listed::views;
 use crate::round::Round;
 use crate::said::{Answer, Call, CellView, Said};
 use crate::table::{Table, advance};
-use crate::{ACTORS, LAST_TICKET, MOST_PLACES};
+use crate::{ACTORS, LAST_TICKET, LEAST_PLACES, MOST_PLACES};
 use std::alloc::{AllocError, AllocFailed, Global};
 use std::marker::Model;
 use std::mem;
 
-/// A bounded queue and 64 actors, each in a round of its own, which move one atomic step at a time.
+/// A bounded queue and 64 actors, each in a round of its own, which move one atomic step at a time: it plays any schedule
+/// of pushes and pops. The tests `emptying_cell_keeps_its_place` and `busy_push` show it.
 ///
 /// Contracts see it as the machine of `specs/World.antt`: the number of places, the queue of cells in ticket order,
 /// and each actor's round. It stores no history: a step says of each history that the queue before it stands for
@@ -38,16 +42,24 @@ impl<T> Model for World<T> {
     ghost invariant = { IsKept };
 }
 
+/// Whether a queue may have so many places: a power of two from 2 to 65,536.
+pub fn is_size(places: usize) -> bool
+    ensures { result ≡ is_size places }
+{
+    places.is_power_of_two() && (LEAST_PLACES..=MOST_PLACES).contains(&places)
+}
+
 impl<T: Drop> World<T> {
-    /// An empty queue of this many places, a power of two from 2 to 65,536, whose first ticket is below 2^62.
+    /// Makes an empty queue of this many places, a power of two from 2 to 65,536, whose first ticket is below 2^62.
     ///
-    /// Nobody is in a call. All the memory that `begin_push`, `begin_pop` and `step` need is taken here.
+    /// Nobody is in a call then. All the memory that `begin_push`, `begin_pop` and `step` need is taken here. The test
+    /// `sizes_and_first_tickets` shows it.
     pub fn new(alloc: Global, places: usize, first: u64) -> Result<World<T>, WorldError>
         ensures made { IfOk result (λ w. w ≡ fresh places first) }
         ensures bad_size { IsErrOf result WorldError.BadSize ↔ (is_size places ≡ false) }
         ensures bad_first { IsErrOf result WorldError.BadFirst ↔ ((is_size places ≡ true) × (last ≤ first)) }
     {
-        if !(places.is_power_of_two() && places >= 2 && places <= MOST_PLACES) {
+        if !is_size(places) {
             return Err(WorldError::BadSize);
         }
         if first >= LAST_TICKET {
@@ -66,13 +78,22 @@ impl<T: Drop> World<T> {
         Ok(World { table, rounds })
     }
 
-    /// Begins a push of this item by an actor, 0 to 63. It takes no memory.
+    /// What is true of every world, whatever was called: the facts of `IsReached`. It does nothing: its contract is the
+    /// law.
+    pub fn is_reached(&self)
+        ensures { IsReached self.now }
+    {
+        // A function knows what is true of a struct where it reads a field of it.
+        let _ = &self.table;
+    }
+
+    /// Begins a push of this item by an actor, 0 to 63: its steps follow by `step`. It takes no memory.
     ///
-    /// A refusal changes nothing and hands the item back.
+    /// A refusal changes nothing and hands the item back. The tests `busy_push` and `refusals` show it.
     pub fn begin_push(&mut self, actor: u32, item: T) -> Result<(), Refused<T>>
         ensures began { OnOk result (self.new ≡ began self.old actor (round.Push item)) }
-        ensures begins { IsOk result ↔ ((actor < 64) × (is_idle (round_of self.old actor) ≡ true)) }
-        ensures no_actor { IfErr result (λ r. (r.fault ≡ BeginError.NoActor) ↔ (64 ≤ actor)) }
+        ensures begins { IsOk result ↔ ((actor < ACTORS) × (is_idle (round_of self.old actor) ≡ true)) }
+        ensures no_actor { IfErr result (λ r. (r.fault ≡ BeginError.NoActor) ↔ (ACTORS ≤ actor)) }
         ensures item { IfErr result (λ r. r.item ≡ item) }
         ensures err { OnErr result (self.new ≡ self.old) }
     {
@@ -85,11 +106,12 @@ impl<T: Drop> World<T> {
         }
     }
 
-    /// Begins a pop by an actor, 0 to 63. It takes no memory, and a refusal changes nothing.
+    /// Begins a pop by an actor, 0 to 63: its steps follow by `step`. It takes no memory, and a refusal changes nothing.
+    /// The test `busy_pop` shows it.
     pub fn begin_pop(&mut self, actor: u32) -> Result<(), BeginError>
         ensures began { OnOk result (self.new ≡ began self.old actor round.Pop) }
-        ensures begins { IsOk result ↔ ((actor < 64) × (is_idle (round_of self.old actor) ≡ true)) }
-        ensures no_actor { IsErrOf result BeginError.NoActor ↔ (64 ≤ actor) }
+        ensures begins { IsOk result ↔ ((actor < ACTORS) × (is_idle (round_of self.old actor) ≡ true)) }
+        ensures no_actor { IsErrOf result BeginError.NoActor ↔ (ACTORS ≤ actor) }
         ensures err { OnErr result (self.new ≡ self.old) }
     {
         self.may_begin(actor)?;
@@ -99,7 +121,7 @@ impl<T: Drop> World<T> {
 
     /// Whether this actor, 0 to 63, is in no call.
     pub fn is_idle(&self, actor: u32) -> bool
-        requires { actor < 64 }
+        requires { actor < ACTORS }
         ensures { result ≡ is_idle (round_of self.now actor) }
     {
         self.rounds[actor as usize].is_idle()
@@ -107,9 +129,9 @@ impl<T: Drop> World<T> {
 
     /// Whether a call of this actor may begin.
     fn may_begin(&self, actor: u32) -> Result<(), BeginError>
-        ensures begins { IsOk result ↔ ((actor < 64) × (is_idle (round_of self.now actor) ≡ true)) }
-        ensures no_actor { IsErrOf result BeginError.NoActor ↔ (64 ≤ actor) }
-        ensures in_call { IsErrOf result BeginError.InCall → (actor < 64) × (is_idle (round_of self.now actor) ≡ false) }
+        ensures begins { IsOk result ↔ ((actor < ACTORS) × (is_idle (round_of self.now actor) ≡ true)) }
+        ensures no_actor { IsErrOf result BeginError.NoActor ↔ (ACTORS ≤ actor) }
+        ensures in_call { IsErrOf result BeginError.InCall → (actor < ACTORS) × (is_idle (round_of self.now actor) ≡ false) }
     {
         if actor >= ACTORS {
             Err(BeginError::NoActor)
@@ -123,18 +145,20 @@ impl<T: Drop> World<T> {
     /// Makes the next atomic step of the actor's call. It takes no memory.
     ///
     /// Each step is one event of the queue, which the queue allows, or none, and it is the one that the table of a
-    /// round names. A refusal changes nothing.
+    /// round names. A refusal changes nothing. The tests `busy_push` and `emptying_cell_keeps_its_place` show it.
     pub fn step(&mut self, actor: u32) -> Result<Said<T>, StepError>
-        ensures no_actor { IsErrOf result StepError.NoActor ↔ (64 ≤ actor) }
-        ensures not_in_call { IsErrOf result StepError.NotInCall ↔ ((actor < 64) × (is_idle (round_of self.old actor) ≡ true)) }
+        ensures no_actor { IsErrOf result StepError.NoActor ↔ (ACTORS ≤ actor) }
+        ensures not_in_call { IsErrOf result StepError.NotInCall ↔ ((actor < ACTORS) × (is_idle (round_of self.old actor) ≡ true)) }
         ensures err { OnErr result (self.new ≡ self.old) }
 
         ensures said { IfOk result (λ s. s ≡ told self.old actor) }
         ensures stepped { OnOk result (self.new ≡ stepped self.old actor) }
         // The queue allows the step's event, so each history that it stood for goes on with it.
-        ensures allowed { OnOk result ((e : Event T) → (next_move self.old actor).event ≡ Some e → Allows self.old.places self.old.queue actor e) }
-        ensures history { OnOk result ((f : ℕ) (h : List (Entry T (Unit {0}))) → StandsFor self.old.places f h self.old.queue
-            → StandsFor self.old.places f (h ++ entries_of actor tt (next_move self.old actor).event) self.new.queue) }
+        ensures allowed { OnOk result ((e : Event T) → (next_move self.old actor).event ≡ Some e
+            → Allows self.old.places self.old.queue actor e) }
+        ensures history { OnOk result (GoesOn self.old.places self.old.queue (entries_of_step self.old actor) self.new.queue) }
+        // A ticket that the actor got has its cell, and the last step of a call writes it, or takes its item out.
+        ensures cell { OnOk result (HasItsCell self.old actor) }
     {
         match self.may_begin(actor) {
             Err(BeginError::NoActor) => Err(StepError::NoActor),
@@ -145,10 +169,11 @@ impl<T: Drop> World<T> {
 
     /// Makes the next step of an actor, 0 to 63.
     fn advance(&mut self, actor: u32) -> Said<T>
-        requires { actor < 64 }
+        requires { actor < ACTORS }
         ensures said { result ≡ told self.old actor }
         ensures stepped { self.new ≡ stepped self.old actor }
         ensures allowed { (e : Event T) → (next_move self.old actor).event ≡ Some e → Allows self.old.places self.old.queue actor e }
+        ensures cell { HasItsCell self.old actor }
     {
         let place = actor as usize;
         let round = mem::replace(&mut self.rounds[place], Round::Idle);
@@ -157,16 +182,17 @@ impl<T: Drop> World<T> {
         said
     }
 
-    /// The cells in ticket order.
+    /// Shows the cells, in ticket order. The test `claimed_cell_in_front` shows it.
     pub fn cells(&self, alloc: Global) -> Result<Vec<CellView>, AllocError>
         ensures { IfOk result (λ v. v.items ≡ map shown self.now.queue.cells) }
     {
         views(alloc, &self.table.cells)
     }
 
-    /// Makes the calls one after another and answers their answers, one for each.
+    /// Plays a whole schedule: makes the calls one after another, and answers their answers, one for each.
     ///
-    /// Out of memory changes nothing and hands the calls back.
+    /// The entries of the run are those of its steps that are events, in order. Out of memory changes nothing and hands the
+    /// calls back. The test `calls_and_their_answers` shows it.
     pub fn run(
         &mut self,
         alloc: Global,
@@ -174,9 +200,17 @@ impl<T: Drop> World<T> {
     ) -> Result<Vec<Answer<T>>, AllocFailed<Vec<Call<T>>>>
         ensures answers { IfOk result (λ v. v.items ≡ replies_to self.old calls.items) }
         ensures after { OnOk result (self.new ≡ after_calls self.old calls.items) }
+
+        // The whole run: each history that the queue stood for goes on with its entries, which the answers tell.
+        ensures history { OnOk result (GoesOn self.old.places self.old.queue (entries_of_run self.old calls.items) self.new.queue) }
+        ensures told { IfOk result (λ v. TellAll calls.items v.items (entries_of_run self.old calls.items)) }
+        ensures cells { OnOk result (EachHasItsCell self.old calls.items) }
+
         ensures handed_back { IfErr result (λ e. e.value ≡ calls) }
         ensures err { OnErr result (self.new ≡ self.old) }
     {
+        // What each step of the run finds follows from this.
+        self.is_reached();
         let Ok(mut answers) = Vec::with_capacity(alloc, calls.len()) else {
             return Err(AllocFailed { value: calls });
         };

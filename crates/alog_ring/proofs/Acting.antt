@@ -1,25 +1,31 @@
 -- The four steps that change the queue keep the rule.
-use Rattle.std.proofs.Common.{◌≡◌, ℕ, ◌+◌, ◌-◌, ◌*◌, ◌%◌, ◌<◌, ◌≤◌, List, [], ◌∷◌, ◌++◌, set, length, get_or, Some, None, refl, sym, ap, subst, ◌∙◌, arith, length-set, get_or-set_other, get_or-set_same, mod-lt}
+use Rattle.std.proofs.Common.{◌≡◌, ℕ, ◌+◌, ◌-◌, ◌*◌, ◌%◌, ◌<◌, ◌≤◌, List, [], ◌∷◌, ◌++◌, set, length, get_or, None, refl}
+use Rattle.std.proofs.Common.{sym, ap, subst, ◌∙◌, arith, length-set, get_or-set_other, get_or-set_same, mod-lt}
 use mathlib.Core.Option as maybe
 use lib.ListN.{get_elem?}
 use Rattle.atomic_table.specs.Table.{State}
 use Rattle.atomic_table.proofs.Lists.{set_else, set_here}
 use Rattle.alog_core.specs.declared.mark.Mark.TheVariants.{Claimed, Written, Emptying}
-use Rattle.alog_core.specs.Queue.{Cell, Queue, Event, Claim, Write, Grab, Take, last, cell_of, HasCell, IsRoom, Allows, after, IsSound}
+use Rattle.alog_core.specs.Queue.{Cell, Queue, Event, Claim, Write, Grab, Take, last, cell_of, HasCell, IsRoom, Allows, after}
+use Rattle.alog_core.specs.Queue.{IsSound}
 use Rattle.alog_core.specs.History.{Entry, StandsFor}
 use Rattle.alog_core.proofs.Cells.{cell_of-append_same, cell_of-marked_same}
 use Rattle.alog_core.proofs.Rising.{cell_of-without_same}
 use Rattle.alog_core.proofs.Histories.{stands_after}
 use Rattle.alog_core.proofs.Sound.{next_is_unlisted, sound_after}
+use Rattle.alog_ring.specs.declared.words.TheConstants.{NEXT, FRONT, SEQUENCES, APART}
+use Rattle.alog_ring.specs.Made.{entry, Adds}
 use Rattle.alog_ring.specs.Sight.{Stage, Idle, Writing, Reading, Sight}
 use Rattle.alog_ring.specs.Rule.{IsAtWork, Staged, seq_of, ShowsCell, Shown, Ruled}
-use Rattle.alog_ring.specs.Plays.{entry, Adds}
+use Rattle.alog_ring.proofs.Lists.{not_both}
 use Rattle.alog_ring.proofs.Telling.{grown}
 use Rattle.alog_ring.proofs.Turning.{Turn, within, turn_claim, turn_write, turn_grab, turn_take, staged_turn}
 use Rattle.alog_ring.proofs.Showing.{shown_turn}
 use Rattle.alog_ring.proofs.Stepping.{PlaceKind, one_of, sound_now, made, kept}
 
-module _ {S T N : Type 0} (kind : PlaceKind S T N) (n f : ℕ) (s : State S (Sight T N)) (r : Ruled kind.put kind.spare n f s) (a : ℕ) (v : Sight T N) (at : get_elem? s.views a ≡ maybe.some v) (work : IsAtWork a v.known) where
+module _ {S T N : Type 0} (kind : PlaceKind S T N) (n f : ℕ) (s : State S (Sight T N))
+    (r : Ruled kind.put kind.spare n f s) (a : ℕ) (v : Sight T N) (at : get_elem? s.views a ≡ maybe.some v)
+    (work : IsAtWork a v.known) where
   -- the view after an event
   abbrev pub acting : N → Event T → Stage T N → Sight T N
   acting note e stage = record { stage = stage; known = grown v.known r.history (entry note v.known e ∷ []) }
@@ -30,7 +36,8 @@ module _ {S T N : Type 0} (kind : PlaceKind S T N) (n f : ℕ) (s : State S (Sig
   -- the rule after it, and what it tells
   abbrev pub Acted : N → Event T → Stage T N → List ℕ → List (maybe.Option S) → Type 0
   Acted note e stage words homes =
-      Ruled kind.put kind.spare n f (record { words = words; homes = homes; views = set s.views a (acting note e stage) }) × Adds note v.known (acting note e stage).known e
+      Ruled kind.put kind.spare n f (record { words = words; homes = homes; views = set s.views a (acting note e stage) })
+      × Adds note v.known (acting note e stage).known e
 
   some_places : 1 ≤ n
   some_places = let two : 2 ≤ n = r.two in omega arith
@@ -38,28 +45,35 @@ module _ {S T N : Type 0} (kind : PlaceKind S T N) (n f : ℕ) (s : State S (Sig
   sound_next : (e : Event T) → Allows n r.queue a e → IsSound n (after r.queue a e)
   sound_next e may = sound_after n r.queue a e some_places (sound_now kind n f s r a v at) may
 
-  acted : (note : N) (e : Event T) (stage : Stage T N) (words : List ℕ) (homes : List (maybe.Option S)) → Allows n r.queue a e → Staged n (longer note e) (after r.queue a e) (set s.views a (acting note e stage))
+  acted : (note : N) (e : Event T) (stage : Stage T N) (words : List ℕ) (homes : List (maybe.Option S))
+      → Allows n r.queue a e → Staged n (longer note e) (after r.queue a e) (set s.views a (acting note e stage))
       → Shown kind.put kind.spare n (longer note e) (after r.queue a e) words homes → Acted note e stage words homes
   acted note e stage words homes may staged shown =
       let x : Entry T N = entry note v.known e
       in let A : ℕ → Type 0 = λ b. Allows n r.queue b e
       in let P : ℕ → Type 0 = λ b. StandsFor n f (r.history ++ x ∷ []) (after r.queue b e)
-      in let stands : StandsFor n f (r.history ++ x ∷ []) (after r.queue a e) = subst P work.0 (stands_after n f r.history r.queue x r.stands (subst A (sym work.0) may))
+      in let stands : StandsFor n f (r.history ++ x ∷ []) (after r.queue a e) =
+      subst P work.0 (stands_after n f r.history r.queue x r.stands (subst A (sym work.0) may))
       in (
-        kept kind n f s r a v at work (x ∷ []) (one_of a x work.0) stage (after r.queue a e) words homes stands staged shown,
+        kept kind n f s r a v at work (x ∷ []) (one_of a x work.0) stage
+            (after r.queue a e) words homes stands staged shown,
         (made kind n f s r a v at work (x ∷ []) (one_of a x work.0) stage (after r.queue a e) stands, (r.history, refl)),
       )
 
   -- the words beside the one that is written
   seq_in : (t : ℕ) → seq_of n t < length s.words
-  seq_in t = let low : t % n < n = mod-lt t some_places in let wide : length s.words ≡ n * 8 + 48 = r.shown.wide in omega arith
+  seq_in t = let low : t % n < n = mod-lt t some_places in let wide : length s.words ≡ n * APART + SEQUENCES =
+      r.shown.wide in omega arith
 
   place_in : (t : ℕ) → t % n < length s.homes
   place_in t = let low : t % n < n = mod-lt t some_places in let places : length s.homes ≡ n = r.shown.places in omega arith
 
-  pub claim_step : (x : T) → IsRoom n r.queue.next r.queue.cells → r.queue.next < last → ((p : ℕ) (y : T) → v.stage ≡ Writing p y → r.queue.next ≡ p) → ((p : ℕ) (y : T) → v.stage ≡ Reading p y → r.queue.next ≡ p)
+  pub claim_step : (x : T) → IsRoom n r.queue.next r.queue.cells → r.queue.next < last
+      → ((p : ℕ) (y : T) → v.stage ≡ Writing p y → r.queue.next ≡ p)
+      → ((p : ℕ) (y : T) → v.stage ≡ Reading p y → r.queue.next ≡ p)
       → (get_elem? s.homes (r.queue.next % n) ≡ maybe.some (maybe.some (kind.spare n r.history r.queue.next)))
-      × Acted kind.blank (Claim r.queue.next x) (Writing r.queue.next x) (set s.words 16 (r.queue.next + 1)) (set s.homes (r.queue.next % n) maybe.none)
+      × Acted kind.blank (Claim r.queue.next x) (Writing r.queue.next x) (set s.words NEXT (r.queue.next + 1))
+      (set s.homes (r.queue.next % n) maybe.none)
   claim_step x room low not_writing not_reading =
       let q : Queue T = r.queue
       in let t : ℕ = q.next
@@ -69,24 +83,58 @@ module _ {S T N : Type 0} (kind : PlaceKind S T N) (n f : ℕ) (s : State S (Sig
       in let turn : Turn n a t q q' = turn_claim n a q sound x some_places
       in let may : Allows n q a e = (refl, low, room)
       in let new : Cell T = record { ticket = t; mark = Claimed; item = x; actor = a }
-      in let has : HasCell q'.cells t Claimed x a = cell_of-append_same t q.cells new refl (next_is_unlisted n q t sound (omega arith))
+      in let has : HasCell q'.cells t Claimed x a =
+      cell_of-append_same t q.cells new refl (next_is_unlisted n q t sound (omega arith))
       in let old = r.shown.free t (omega arith) (omega (arith, some_places)) room
-      in let wide : length s.words ≡ n * 8 + 48 = r.shown.wide
-      in let words : List ℕ = set s.words 16 (t + 1)
-      in let other : (i : ℕ) → get_or words (i * 8 + 48) 0 ≡ get_or s.words (i * 8 + 48) 0 = λ i. get_or-set_other s.words 16 (i * 8 + 48) (t + 1) 0 (λ z. omega arith)
-      in let W : Cell T → Type 0 = λ c. ShowsCell kind.put kind.spare t (get_or words (seq_of n t) 0) (get_elem? (set s.homes (t % n) maybe.none) (t % n)) c.item c.mark
+      in let wide : length s.words ≡ n * APART + SEQUENCES = r.shown.wide
+      in let words : List ℕ = set s.words NEXT (t + 1)
+      in let other : (i : ℕ) → get_or words (i * APART + SEQUENCES) 0 ≡ get_or s.words (i * APART + SEQUENCES) 0 = λ i.
+      get_or-set_other s.words NEXT (i * APART + SEQUENCES) (t + 1) 0 (λ z. omega arith)
+      in let W : Cell T → Type 0 =
+      λ c.
+      ShowsCell kind.put kind.spare t (get_or words (seq_of n t) 0)
+      (get_elem? (set s.homes (t % n) maybe.none) (t % n)) c.item c.mark
       in (
         old.1,
         acted kind.blank e (Writing t x) words (set s.homes (t % n) maybe.none) may
-            (staged_turn n a t q q' turn r.history (entry kind.blank v.known e ∷ []) s.views v (acting kind.blank e (Writing t x)) at r.staged (work, has) not_writing not_reading
-            (λ y b h. let same : record { ticket = t; mark = Claimed; item = x; actor = a } ≡ record { ticket = t; mark = Claimed; item = y; actor = b } = cc in (sym (ap (λ (c : Cell T). c.actor) same), ap (λ (c : Cell T). Writing t c.item) same))
-            (λ y b h. absurd (let same : record { ticket = t; mark = Claimed; item = x; actor = a } ≡ record { ticket = t; mark = Emptying; item = y; actor = b } = cc in let m : Claimed ≡ Emptying = ap (λ (c : Cell T). c.mark) same in cc)))
-            (shown_turn kind.put kind.spare n a t q q' r.history (longer kind.blank e) s.words words s.homes (set s.homes (t % n) maybe.none) (sound_next e may) turn (omega arith) r.shown
-            (length-set s.words 16 (t + 1)) (length-set s.homes (t % n) maybe.none) (get_or-set_same s.words 16 (t + 1) 0 (omega arith)) (get_or-set_other s.words 16 32 (t + 1) 0 (λ z. omega arith) ∙ r.shown.head) (omega arith)
-            (λ i _. other i) (λ i apart. set_else s.homes (t % n) i maybe.none apart)
-            (λ c is. let same : new ≡ c = cc in subst W same (other (t % n) ∙ old.0))
-            (λ none. absurd (let wrong : None ≡ Some new = sym none ∙ has in cc))
-            (λ u _. kind.stays n r.history (entry kind.blank v.known e) u (λ z y is. cc))),
+            (staged_turn n a t q q' turn r.history (entry kind.blank v.known e ∷ []) s.views v
+            (acting kind.blank e (Writing t x)) at r.staged (work, has)
+            (record {
+              left_write = not_writing;
+              left_read = not_reading;
+              now_write = λ y b h.
+                  let same : record { ticket = t; mark = Claimed; item = x; actor = a } ≡ record {
+                    ticket = t;
+                    mark = Claimed;
+                    item = y;
+                    actor = b;
+                  } = cc in (sym (ap (λ (c : Cell T). c.actor) same), ap (λ (c : Cell T). Writing t c.item) same);
+              now_read =
+                  λ y b h. absurd
+                  (let same : record { ticket = t; mark = Claimed; item = x; actor = a } ≡ record {
+                    ticket = t;
+                    mark = Emptying;
+                    item = y;
+                    actor = b;
+                  } = cc in let m : Claimed ≡ Emptying = ap (λ (c : Cell T). c.mark) same in cc);
+            }))
+            (shown_turn kind.put kind.spare n a t q q' r.history (longer kind.blank e) s.words words s.homes
+            (set s.homes (t % n) maybe.none) (sound_next e may) turn (omega arith) r.shown
+            (record {
+              wide = length-set s.words NEXT (t + 1);
+              places = length-set s.homes (t % n) maybe.none;
+              next = get_or-set_same s.words NEXT (t + 1) 0 (omega arith);
+              front = get_or-set_other s.words NEXT FRONT (t + 1) 0 (λ z. omega arith) ∙ r.shown.front;
+              bounded = omega arith;
+              words_else =
+                  λ i _. other i;
+              homes_else = λ i apart. set_else s.homes (t % n) i maybe.none apart;
+              cell_here = λ c is.
+                  let same : new ≡ c = cc in subst W same (other (t % n) ∙ old.0);
+              free_here = λ none. not_both none has;
+              spare_else =
+                  λ u _. kind.stays n r.history (entry kind.blank v.known e) u (λ z y is. cc);
+            })),
       )
 
   pub write_step : (t : ℕ) (x : T) → v.stage ≡ Writing t x → HasCell r.queue.cells t Claimed x a
@@ -104,22 +152,54 @@ module _ {S T N : Type 0} (kind : PlaceKind S T N) (n f : ℕ) (s : State S (Sig
       in let below : (q.next - n ≤ t) × (t < q.next) = within n q t was sound old
       in let words : List ℕ = set s.words (seq_of n t) (t + 1)
       in let homes : List (maybe.Option S) = set s.homes (t % n) (maybe.some (kind.put x))
-      in let W : Cell T → Type 0 = λ c. ShowsCell kind.put kind.spare t (get_or words (seq_of n t) 0) (get_elem? homes (t % n)) c.item c.mark
+      in let W : Cell T → Type 0 =
+      λ c.
+      ShowsCell kind.put kind.spare t (get_or words (seq_of n t) 0) (get_elem? homes (t % n)) c.item c.mark
       in acted kind.blank e Idle words homes may
-      (staged_turn n a t q q' turn r.history (entry kind.blank v.known e ∷ []) s.views v (acting kind.blank e Idle) at r.staged work
-      (λ p y is. let same : Writing t x ≡ Writing p y = sym stage ∙ is in cc) (λ p y is. absurd (let wrong : Writing t x ≡ Reading p y = sym stage ∙ is in cc))
-      (λ y b h. absurd (let same : new ≡ record { ticket = t; mark = Claimed; item = y; actor = b } = cc in let m : Written ≡ Claimed = ap (λ (c : Cell T). c.mark) same in cc))
-      (λ y b h. absurd (let same : new ≡ record { ticket = t; mark = Emptying; item = y; actor = b } = cc in let m : Written ≡ Emptying = ap (λ (c : Cell T). c.mark) same in cc)))
-      (shown_turn kind.put kind.spare n a t q q' r.history (longer kind.blank e) s.words words s.homes homes (sound_next e may) turn below.1 r.shown
-      (length-set s.words (seq_of n t) (t + 1)) (length-set s.homes (t % n) (maybe.some (kind.put x))) (get_or-set_other s.words (seq_of n t) 16 (t + 1) 0 (λ z. omega arith) ∙ r.shown.tail) (get_or-set_other s.words (seq_of n t) 32 (t + 1) 0 (λ z. omega arith) ∙ r.shown.head) r.shown.bounded
-      (λ i apart. get_or-set_other s.words (seq_of n t) (i * 8 + 48) (t + 1) 0 (λ z. apart (omega arith))) (λ i apart. set_else s.homes (t % n) i (maybe.some (kind.put x)) apart)
-      (λ c is. let same : new ≡ c = cc in subst W same (get_or-set_same s.words (seq_of n t) (t + 1) 0 (seq_in t), set_here s.homes (t % n) (maybe.some (kind.put x)) (place_in t)))
-      (λ none. absurd (let wrong : None ≡ Some new = sym none ∙ has in cc))
-      (λ u _. kind.stays n r.history (entry kind.blank v.known e) u (λ z y is. cc)))
+      (staged_turn n a t q q' turn r.history (entry kind.blank v.known e ∷ []) s.views v
+      (acting kind.blank e Idle) at r.staged work
+      (record {
+        left_write = λ p y is. let same : Writing t x ≡ Writing p y = sym stage
+            ∙ is in cc;
+        left_read = λ p y is. absurd (let wrong : Writing t x ≡ Reading p y = sym stage ∙ is in cc);
+        now_write =
+            λ y b h. absurd
+            (let same : new ≡ record { ticket = t; mark = Claimed; item = y; actor = b } = cc in let m : Written ≡ Claimed =
+            ap (λ (c : Cell T). c.mark) same in cc);
+        now_read = λ y b h.
+            absurd (let same : new ≡ record { ticket = t; mark = Emptying; item = y; actor = b } = cc in
+            let m : Written ≡ Emptying = ap (λ (c : Cell T). c.mark) same in cc);
+      }))
+      (shown_turn kind.put kind.spare n a t q q' r.history (longer kind.blank e) s.words words s.homes homes
+      (sound_next e may) turn below.1 r.shown
+      (record {
+        wide = length-set s.words (seq_of n t) (t + 1);
+        places = length-set s.homes (t % n) (maybe.some (kind.put x));
+        next = get_or-set_other s.words (seq_of n t) NEXT (t + 1) 0 (λ z. omega arith)
+            ∙ r.shown.next;
+        front = get_or-set_other s.words (seq_of n t) FRONT (t + 1) 0 (λ z. omega arith)
+            ∙ r.shown.front;
+        bounded = r.shown.bounded;
+        words_else = λ i apart.
+            get_or-set_other s.words (seq_of n t) (i * APART + SEQUENCES) (t + 1) 0 (λ z. apart (omega arith));
+        homes_else =
+            λ i apart. set_else s.homes (t % n) i (maybe.some (kind.put x)) apart;
+        cell_here = λ c is. let same : new ≡ c = cc in
+            subst W same (
+              get_or-set_same s.words (seq_of n t) (t + 1) 0 (seq_in t),
+              set_here s.homes (t % n) (maybe.some (kind.put x)) (place_in t),
+            );
+        free_here = λ none. not_both none has;
+        spare_else =
+            λ u _. kind.stays n r.history (entry kind.blank v.known e) u (λ z y is. cc);
+      }))
 
-  pub grab_step : (x : T) (b : ℕ) → HasCell r.queue.cells r.queue.front Written x b → ((p : ℕ) (y : T) → v.stage ≡ Writing p y → r.queue.front ≡ p) → ((p : ℕ) (y : T) → v.stage ≡ Reading p y → r.queue.front ≡ p)
+  pub grab_step : (x : T) (b : ℕ) → HasCell r.queue.cells r.queue.front Written x b
+      → ((p : ℕ) (y : T) → v.stage ≡ Writing p y → r.queue.front ≡ p)
+      → ((p : ℕ) (y : T) → v.stage ≡ Reading p y → r.queue.front ≡ p)
       → (get_elem? s.homes (r.queue.front % n) ≡ maybe.some (maybe.some (kind.put x)))
-      × Acted kind.blank (Grab r.queue.front) (Reading r.queue.front x) (set s.words 32 (r.queue.front + 1)) (set s.homes (r.queue.front % n) maybe.none)
+      × Acted kind.blank (Grab r.queue.front) (Reading r.queue.front x) (set s.words FRONT (r.queue.front + 1))
+      (set s.homes (r.queue.front % n) maybe.none)
   grab_step x b old not_writing not_reading =
       let q : Queue T = r.queue
       in let t : ℕ = q.front
@@ -132,23 +212,51 @@ module _ {S T N : Type 0} (kind : PlaceKind S T N) (n f : ℕ) (s : State S (Sig
       in let new : Cell T = record { ticket = t; mark = Emptying; item = x; actor = a }
       in let has : HasCell q'.cells t Emptying x a = cell_of-marked_same t Emptying a q.cells was old
       in let below : (q.next - n ≤ t) × (t < q.next) = within n q t was sound old
-      in let before : (get_or s.words (seq_of n t) 0 ≡ t + 1) × (get_elem? s.homes (t % n) ≡ maybe.some (maybe.some (kind.put x))) = r.shown.cells t was old
-      in let wide : length s.words ≡ n * 8 + 48 = r.shown.wide
-      in let words : List ℕ = set s.words 32 (t + 1)
-      in let other : (i : ℕ) → get_or words (i * 8 + 48) 0 ≡ get_or s.words (i * 8 + 48) 0 = λ i. get_or-set_other s.words 32 (i * 8 + 48) (t + 1) 0 (λ z. omega arith)
-      in let W : Cell T → Type 0 = λ c. ShowsCell kind.put kind.spare t (get_or words (seq_of n t) 0) (get_elem? (set s.homes (t % n) maybe.none) (t % n)) c.item c.mark
+      in let before : (get_or s.words (seq_of n t) 0 ≡ t + 1)
+      × (get_elem? s.homes (t % n) ≡ maybe.some (maybe.some (kind.put x))) =
+      r.shown.cells t was old
+      in let wide : length s.words ≡ n * APART + SEQUENCES = r.shown.wide
+      in let words : List ℕ = set s.words FRONT (t + 1)
+      in let other : (i : ℕ) → get_or words (i * APART + SEQUENCES) 0 ≡ get_or s.words (i * APART + SEQUENCES) 0 = λ i.
+      get_or-set_other s.words FRONT (i * APART + SEQUENCES) (t + 1) 0 (λ z. omega arith)
+      in let W : Cell T → Type 0 =
+      λ c.
+      ShowsCell kind.put kind.spare t (get_or words (seq_of n t) 0)
+      (get_elem? (set s.homes (t % n) maybe.none) (t % n)) c.item c.mark
       in (
         before.1,
         acted kind.blank e (Reading t x) words (set s.homes (t % n) maybe.none) may
-            (staged_turn n a t q q' turn r.history (entry kind.blank v.known e ∷ []) s.views v (acting kind.blank e (Reading t x)) at r.staged (work, has) not_writing not_reading
-            (λ y j h. absurd (let same : new ≡ record { ticket = t; mark = Claimed; item = y; actor = j } = cc in let m : Emptying ≡ Claimed = ap (λ (c : Cell T). c.mark) same in cc))
-            (λ y j h. let same : new ≡ record { ticket = t; mark = Emptying; item = y; actor = j } = cc in (sym (ap (λ (c : Cell T). c.actor) same), ap (λ (c : Cell T). Reading t c.item) same)))
-            (shown_turn kind.put kind.spare n a t q q' r.history (longer kind.blank e) s.words words s.homes (set s.homes (t % n) maybe.none) (sound_next e may) turn below.1 r.shown
-            (length-set s.words 32 (t + 1)) (length-set s.homes (t % n) maybe.none) (get_or-set_other s.words 32 16 (t + 1) 0 (λ z. omega arith) ∙ r.shown.tail) (get_or-set_same s.words 32 (t + 1) 0 (omega arith)) r.shown.bounded
-            (λ i _. other i) (λ i apart. set_else s.homes (t % n) i maybe.none apart)
-            (λ c is. let same : new ≡ c = cc in subst W same (other (t % n) ∙ before.0))
-            (λ none. absurd (let wrong : None ≡ Some new = sym none ∙ has in cc))
-            (λ u _. kind.stays n r.history (entry kind.blank v.known e) u (λ z y is. cc))),
+            (staged_turn n a t q q' turn r.history (entry kind.blank v.known e ∷ []) s.views v
+            (acting kind.blank e (Reading t x)) at r.staged (work, has)
+            (record {
+              left_write = not_writing;
+              left_read = not_reading;
+              now_write = λ y j h.
+                  absurd (let same : new ≡ record { ticket = t; mark = Claimed; item = y; actor = j } = cc in
+                  let m : Emptying ≡ Claimed = ap (λ (c : Cell T). c.mark) same in cc);
+              now_read = λ y j h.
+                  let same : new ≡ record { ticket = t; mark = Emptying; item = y; actor = j } = cc in
+                  (sym (ap (λ (c : Cell T). c.actor) same), ap (λ (c : Cell T). Reading t c.item) same);
+            }))
+            (shown_turn kind.put kind.spare n a t q q' r.history (longer kind.blank e) s.words words s.homes
+            (set s.homes (t % n) maybe.none) (sound_next e may) turn below.1 r.shown
+            (record {
+              wide = length-set s.words FRONT (t + 1);
+              places = length-set s.homes (t % n) maybe.none;
+              next =
+                  get_or-set_other s.words FRONT NEXT (t + 1) 0 (λ z. omega arith)
+                  ∙ r.shown.next;
+              front = get_or-set_same s.words FRONT (t + 1) 0 (omega arith);
+              bounded = r.shown.bounded;
+              words_else =
+                  λ i _. other i;
+              homes_else = λ i apart. set_else s.homes (t % n) i maybe.none apart;
+              cell_here = λ c is.
+                  let same : new ≡ c = cc in subst W same (other (t % n) ∙ before.0);
+              free_here = λ none. not_both none has;
+              spare_else =
+                  λ u _. kind.stays n r.history (entry kind.blank v.known e) u (λ z y is. cc);
+            })),
       )
 
   pub take_step : (note : N) (t : ℕ) (x : T) → v.stage ≡ Reading t x → HasCell r.queue.cells t Emptying x a
@@ -167,12 +275,35 @@ module _ {S T N : Type 0} (kind : PlaceKind S T N) (n f : ℕ) (s : State S (Sig
       in let homes : List (maybe.Option S) = set s.homes (t % n) (maybe.some (kind.plain note))
       in acted note e Idle words homes may
       (staged_turn n a t q q' turn r.history (entry note v.known e ∷ []) s.views v (acting note e Idle) at r.staged work
-      (λ p y is. absurd (let wrong : Reading t x ≡ Writing p y = sym stage ∙ is in cc)) (λ p y is. let same : Reading t x ≡ Reading p y = sym stage ∙ is in cc)
-      (λ y b h. absurd (let wrong : None ≡ Some (record { ticket = t; mark = Claimed; item = y; actor = b }) = sym gone ∙ h in cc))
-      (λ y b h. absurd (let wrong : None ≡ Some (record { ticket = t; mark = Emptying; item = y; actor = b }) = sym gone ∙ h in cc)))
-      (shown_turn kind.put kind.spare n a t q q' r.history (longer note e) s.words words s.homes homes (sound_next e may) turn below.1 r.shown
-      (length-set s.words (seq_of n t) (t + n)) (length-set s.homes (t % n) (maybe.some (kind.plain note))) (get_or-set_other s.words (seq_of n t) 16 (t + n) 0 (λ z. omega arith) ∙ r.shown.tail) (get_or-set_other s.words (seq_of n t) 32 (t + n) 0 (λ z. omega arith) ∙ r.shown.head) r.shown.bounded
-      (λ i apart. get_or-set_other s.words (seq_of n t) (i * 8 + 48) (t + n) 0 (λ z. apart (omega arith))) (λ i apart. set_else s.homes (t % n) i (maybe.some (kind.plain note)) apart)
-      (λ c is. absurd (let wrong : None ≡ Some c = sym gone ∙ is in cc))
-      (λ _. (get_or-set_same s.words (seq_of n t) (t + n) 0 (seq_in t), set_here s.homes (t % n) (maybe.some (kind.plain note)) (place_in t) ∙ ap (λ (z : S). maybe.some (maybe.some z)) (sym (kind.comes n r.history (entry note v.known e) t x refl))))
-      (λ u apart. kind.stays n r.history (entry note v.known e) u (λ z y is same. let w : t ≡ z = cc in apart (sym same ∙ ap (λ (k : ℕ). k + n) (sym w)))))
+      (record {
+        left_write = λ p y is. absurd (let wrong : Reading t x ≡ Writing p y = sym stage ∙ is in cc);
+        left_read =
+            λ p y is. let same : Reading t x ≡ Reading p y = sym stage ∙ is in cc;
+        now_write = λ y b h. not_both gone h;
+        now_read =
+            λ y b h. not_both gone h;
+      }))
+      (shown_turn kind.put kind.spare n a t q q' r.history (longer note e) s.words words s.homes homes
+      (sound_next e may) turn below.1 r.shown (record {
+        wide = length-set s.words (seq_of n t) (t + n);
+        places = length-set s.homes (t % n) (maybe.some (kind.plain note));
+        next =
+            get_or-set_other s.words (seq_of n t) NEXT (t + n) 0 (λ z. omega arith)
+            ∙ r.shown.next;
+        front = get_or-set_other s.words (seq_of n t) FRONT (t + n) 0 (λ z. omega arith)
+            ∙ r.shown.front;
+        bounded = r.shown.bounded;
+        words_else = λ i apart.
+            get_or-set_other s.words (seq_of n t) (i * APART + SEQUENCES) (t + n) 0 (λ z. apart (omega arith));
+        homes_else =
+            λ i apart. set_else s.homes (t % n) i (maybe.some (kind.plain note)) apart;
+        cell_here = λ c is. not_both gone is;
+        free_here = λ _. (
+          get_or-set_same s.words (seq_of n t) (t + n) 0 (seq_in t),
+          set_here s.homes (t % n) (maybe.some (kind.plain note)) (place_in t)
+              ∙ ap (λ (z : S). maybe.some (maybe.some z)) (sym (kind.comes n r.history (entry note v.known e) t x refl)),
+        );
+        spare_else = λ u apart.
+            kind.stays n r.history (entry note v.known e) u
+            (λ z y is same. let w : t ≡ z = cc in apart (sym same ∙ ap (λ (k : ℕ). k + n) (sym w)));
+      }))

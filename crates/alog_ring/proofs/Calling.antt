@@ -4,16 +4,19 @@ use mathlib.Core.Option.{some}
 use Rattle.atomic_table.specs.Table.{Me, step, rest}
 use Rattle.alog_core.specs.Queue.{Event, Claim, Grab}
 use Rattle.alog_core.specs.History.{Entry}
-use Rattle.alog_ring.specs.Sight.{Known, Writing, Reading, Sight}
-use Rattle.alog_ring.specs.Made.{Made, EndsWith}
-use Rattle.alog_ring.specs.Plays.{entry, Adds, Acts, claimed, wrote, grabbed, took}
+use Rattle.alog_ring.specs.declared.words.TheConstants.{NEXT, FRONT}
+use Rattle.alog_ring.specs.Known.{Known}
 use Rattle.alog_ring.specs.Kinds.{no_note, some_value, no_value}
-use Rattle.alog_ring.specs.Calls.{Fills, Empties}
+use Rattle.alog_ring.specs.Made.{Made, EndsWith, entry, Adds}
+use Rattle.alog_ring.specs.Sight.{Writing, Reading, Sight}
+use Rattle.alog_ring.specs.Plays.{Acts, claimed, wrote, grabbed, took}
+use Rattle.alog_ring.specs.Board.{Fills, Empties}
 use Rattle.alog_ring.proofs.Lists.{prefix_through}
 
 module _ {T N : Type 0} where
   -- what was made, and then made more
-  pub made_more : (u v w : Known T N) (first second : List (Entry T N)) → Made u v first → Made v w second → Made u w (first ++ second)
+  pub made_more : (u v w : Known T N) (first second : List (Entry T N)) → Made u v first → Made v w second
+      → Made u w (first ++ second)
   made_more u v w first second a b = record {
     places = b.places ∙ a.places;
     first = b.first ∙ a.first;
@@ -25,15 +28,19 @@ module _ {T N : Type 0} where
     faithful = b.faithful;
   }
 
-  pub adds_after : (note : N) (u v w : Known T N) (first : List (Entry T N)) (e : Event T) → Made u v first → Adds note v w e → Made u w (first ++ entry note u e ∷ []) × EndsWith w (entry note u e)
+  pub adds_after : (note : N) (u v w : Known T N) (first : List (Entry T N)) (e : Event T) → Made u v first
+      → Adds note v w e → Made u w (first ++ entry note u e ∷ []) × EndsWith w (entry note u e)
   adds_after note u v w first e a b =
-      let P : ℕ → Type 0 = λ z. Made u w (first ++ record { actor = z; event = e; note = note } ∷ []) × EndsWith w (record { actor = z; event = e; note = note })
+      let P : ℕ → Type 0 = λ z. Made u w (first ++ record { actor = z; event = e; note = note } ∷ [])
+      × EndsWith w (record { actor = z; event = e; note = note })
       in subst P a.actor (made_more u v w first (entry note v e ∷ []) a b.0, b.1)
 
 -- A push: after the exchange of the position, the seat has the place; the item goes into it, and the sequence is stored.
-module _ {T : Type 0} (slots t new place found n : ℕ) (value : T) (old mid put : Me (Option T) (Sight T no_note)) (told : claimed tt some_value no_value (step slots 16 t new (some (Some value))) old found mid) (hit : found ≡ t)
+module _ {T : Type 0} (slots t new place found n : ℕ) (value : T) (old mid put : Me (Option T) (Sight T no_note))
+    (told : claimed tt some_value no_value (step slots NEXT t new (some (Some value))) old found mid) (hit : found ≡ t)
     (filled : put ≡ (mid.0, (place, Some value) ∷ rest mid.1)) (at : place ≡ t % n) where
-  did : (x : T) × (some (Some value) ≡ some (some_value x)) × Acts tt old mid (Claim found x) (Writing found x) × (mid.1 ≡ (found % slots, None) ∷ old.1)
+  did : (x : T) × (some (Some value) ≡ some (some_value x)) × Acts tt old mid (Claim found x) (Writing found x)
+      × (mid.1 ≡ (found % slots, None) ∷ old.1)
   did = told.0 hit
 
   item : did.0 ≡ value
@@ -42,10 +49,12 @@ module _ {T : Type 0} (slots t new place found n : ℕ) (value : T) (old mid put
 
   pub filling_stage : put.0.stage ≡ Writing t value
   unfolding did
-  filling_stage = ap (λ (m : Me (Option T) (Sight T no_note)). m.0.stage) filled ∙ (told.0 hit).2.1 ∙ (λ i. Writing (hit i) (item i))
+  filling_stage = ap (λ (m : Me (Option T) (Sight T no_note)). m.0.stage) filled ∙ (told.0 hit).2.1
+      ∙ (λ i. Writing (hit i) (item i))
 
   pub filling_place : put.1 ≡ (t % n, Some value) ∷ old.1
-  filling_place = ap (λ (m : Me (Option T) (Sight T no_note)). m.1) filled ∙ (λ i. (at i, Some value) ∷ ap rest (told.0 hit).3 i)
+  filling_place = ap (λ (m : Me (Option T) (Sight T no_note)). m.1) filled
+      ∙ (λ i. (at i, Some value) ∷ ap rest (told.0 hit).3 i)
 
   pub fills : (last : Me (Option T) (Sight T no_note)) → wrote tt t put last → Fills old last t value
   unfolding did
@@ -63,15 +72,19 @@ module _ {T : Type 0} (slots t new place found n : ℕ) (value : T) (old mid put
       )
 
 -- A pop: after the exchange of the position, the seat has the place; the item comes out of it, and the sequence is stored.
-module _ {T : Type 0} (slots t new place found n : ℕ) (said : Option T) (old mid out : Me (Option T) (Sight T no_note)) (told : grabbed tt some_value (step slots 32 t new (some said)) old found mid) (hit : found ≡ t)
+module _ {T : Type 0} (slots t new place found n : ℕ) (said : Option T) (old mid out : Me (Option T) (Sight T no_note))
+    (told : grabbed tt some_value (step slots FRONT t new (some said)) old found mid) (hit : found ≡ t)
     (emptied : out ≡ (mid.0, (place, None) ∷ rest mid.1)) (at : place ≡ t % n) where
   pub emptying_stage : out.0.stage ≡ Reading t (told.0 hit).0
-  emptying_stage = ap (λ (m : Me (Option T) (Sight T no_note)). m.0.stage) emptied ∙ (told.0 hit).1.1 ∙ (λ i. Reading (hit i) (told.0 hit).0)
+  emptying_stage = ap (λ (m : Me (Option T) (Sight T no_note)). m.0.stage) emptied ∙ (told.0 hit).1.1
+      ∙ (λ i. Reading (hit i) (told.0 hit).0)
 
   pub emptying_place : out.1 ≡ (t % n, None) ∷ old.1
-  emptying_place = ap (λ (m : Me (Option T) (Sight T no_note)). m.1) emptied ∙ (λ i. (at i, None) ∷ ap rest (told.0 hit).2 i)
+  emptying_place = ap (λ (m : Me (Option T) (Sight T no_note)). m.1) emptied
+      ∙ (λ i. (at i, None) ∷ ap rest (told.0 hit).2 i)
 
-  pub empties : (last : Me (Option T) (Sight T no_note)) → took tt t (told.0 hit).0 out last → Empties old last t (told.0 hit).0
+  pub empties : (last : Me (Option T) (Sight T no_note)) → took tt t (told.0 hit).0 out last
+      → Empties old last t (told.0 hit).0
   empties last done =
       let grab : Adds tt old.0.known mid.0.known (Grab found) = (told.0 hit).1.0
       in let P : ℕ → Type 0 = λ z. Adds tt old.0.known mid.0.known (Grab z)

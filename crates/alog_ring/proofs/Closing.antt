@@ -1,5 +1,7 @@
 -- What is left in the places when a ring is closed.
-use Rattle.std.proofs.Common.{◌≡◌, ◌≢◌, ℕ, zero, suc, ◌+◌, ◌-◌, ◌%◌, ◌<◌, ◌≤◌, ◌⊎◌, Bool, true, false, Option, Some, None, List, [], ◌∷◌, ◌++◌, map, set, length, get_or, refl, sym, ap, subst, ◌∙◌, inl, inr, arith, add-one, length-set, get_or-set_other, get_or-set_same, mod-lt}
+use Rattle.std.proofs.Common.{◌≡◌, ◌≢◌, ℕ, zero, suc, ◌+◌, ◌-◌, ◌%◌, ◌<◌, ◌≤◌, ◌⊎◌, Bool, true, false, Option, Some, None, List}
+use Rattle.std.proofs.Common.{[], ◌∷◌, ◌++◌, map, set, length, get_or, refl, sym, ap, subst, ◌∙◌, inl, inr, arith, add-one}
+use Rattle.std.proofs.Common.{length-set, get_or-set_other, get_or-set_same, mod-lt}
 use mathlib.Core.Option as maybe
 use lib.ListN.{get_elem?}
 use native.Mathlib.Nat.{add-mod_right}
@@ -12,14 +14,18 @@ use Rattle.alog_core.specs.History.{left_by, own_of}
 use Rattle.alog_core.proofs.Cells.{at_same, at_other}
 use Rattle.alog_core.proofs.Rising.{bounds_of_rising, listed_within, unlisted_below}
 use Rattle.alog_core.proofs.Sound.{length-sound}
-use Rattle.alog_ring.specs.Sight.{Known, Stage, Idle, Sight, all_parts, IsAmong}
+use Rattle.alog_ring.specs.declared.words.TheConstants.{FRONT}
+use Rattle.alog_ring.specs.declared.TheConstants.{ALL_PARTS}
+use Rattle.alog_ring.specs.Known.{Known, IsAmong}
 use Rattle.alog_ring.specs.Kinds.{no_note, some_value, no_value}
-use Rattle.alog_ring.specs.Rule.{IsAtWork, HasAccounts, Knows, seq_of, ShowsCell, Ruled}
-use Rattle.alog_ring.specs.Calls.{ticket_and_item, AreInRow, value_at, LieIn, Closes}
-use Rattle.alog_ring.proofs.Lists.{same_or_not, found, prefix_same}
+use Rattle.alog_ring.specs.Share.{ticket_and_item}
+use Rattle.alog_ring.specs.Sight.{Stage, Idle, Sight}
+use Rattle.alog_ring.specs.Rule.{IsAtWork, HasEntries, Knows, seq_of, ShowsCell, Ruled}
+use Rattle.alog_ring.specs.Board.{Leaves, AreInRow, value_at, LieIn}
+use Rattle.alog_ring.proofs.Lists.{not_both, same_or_not, found, prefix_same}
 use Rattle.alog_ring.proofs.Showing.{near_apart}
 use Rattle.alog_ring.proofs.Looking.{on_option, lap}
-use Rattle.alog_ring.proofs.Telling.{accounts_distinct}
+use Rattle.alog_ring.proofs.Telling.{members_distinct}
 use Rattle.alog_ring.proofs.Stepping.{sound_now}
 use Rattle.alog_ring.proofs.Meeting.{all_actors, legal_prefix, actors_now, written_now}
 use Rattle.alog_ring.proofs.Places.{option_kind}
@@ -42,7 +48,8 @@ module _ {T : Type 0} where
   firsts_all (c ∷ cs) zero le = absurd (omega arith)
   firsts_all (c ∷ cs) (suc i) le = ap (λ (l : List (ℕ × T)). ticket_and_item c ∷ l) (firsts_all cs i (omega arith))
 
-  firsts_some : (f : ℕ) (cs : List (Cell T)) (i : ℕ) (x : T) → AreInRow f cs → value_at cs i ≡ Some x → firsts cs (suc i) ≡ firsts cs i ++ (f + i, x) ∷ []
+  firsts_some : (f : ℕ) (cs : List (Cell T)) (i : ℕ) (x : T) → AreInRow f cs → value_at cs i ≡ Some x
+      → firsts cs (suc i) ≡ firsts cs i ++ (f + i, x) ∷ []
   unfolding firsts
   firsts_some f [] i x row is = cc
   firsts_some f (c ∷ cs) zero x row is =
@@ -61,7 +68,8 @@ module _ {T : Type 0} where
   firsts_more (c ∷ cs) (suc i) is = ap (λ (l : List (ℕ × T)). ticket_and_item c ∷ l) (firsts_more cs i is)
 
   -- The values of the first i places were taken out.
-  pub record HasTaken (n first i : ℕ) (before now : List (Option T)) (filled : List Bool) (left : List (ℕ × T)) : Type 0 where
+  pub record HasTaken (n first i : ℕ) (before now : List (Option T)) (filled : List Bool)
+      (left : List (ℕ × T)) : Type 0 where
     pub same : now ≡ before
     pub count : length filled ≡ n
     pub taken : (j : ℕ) → j < i → get_or filled ((first + j) % n) false ≡ false
@@ -69,7 +77,9 @@ module _ {T : Type 0} where
     pub few : length left ≤ i
     pub cells : (cs : List (Cell T)) → LieIn before first n cs → left ≡ firsts cs i
 
-  pub taken_none : (n first : ℕ) (items : List (Option T)) (filled : List Bool) (left : List (ℕ × T)) → 1 ≤ n → length filled ≡ n → ((k : ℕ) → k < n → get_or filled k false ≡ true) → left ≡ [] → HasTaken n first 0 items items filled left
+  pub taken_none : (n first : ℕ) (items : List (Option T)) (filled : List Bool) (left : List (ℕ × T)) → 1 ≤ n
+      → length filled ≡ n → ((k : ℕ) → k < n → get_or filled k false ≡ true) → left ≡ []
+      → HasTaken n first 0 items items filled left
   taken_none n first items filled left some count full none = record {
     same = refl;
     count = count;
@@ -79,29 +89,36 @@ module _ {T : Type 0} where
     cells = λ cs _. none ∙ sym (firsts_none cs);
   }
 
-  module _ (n first i : ℕ) (before now : List (Option T)) (filled : List Bool) (left : List (ℕ × T)) (has : HasTaken n first i before now filled left) (some : 1 ≤ n) (low : i < n) where
+  module _ (n first i : ℕ) (before now : List (Option T)) (filled : List Bool) (left : List (ℕ × T))
+      (has : HasTaken n first i before now filled left) (some : 1 ≤ n) (low : i < n) where
     marks_taken : (j : ℕ) → j < i + 1 → get_or (set filled ((first + i) % n) false) ((first + j) % n) false ≡ false
     marks_taken j lt =
         elim (same_or_not i j) [
           | inl e ↦
-              let place : (first + i) % n < length filled = let p : (first + i) % n < n = mod-lt (first + i) some in omega (arith, has.count)
-              in ap (λ (z : ℕ). get_or (set filled ((first + i) % n) false) ((first + z) % n) false) (sym e) ∙ get_or-set_same filled ((first + i) % n) false false place
+              let place : (first + i) % n < length filled = let p : (first + i) % n < n = mod-lt (first + i) some in
+              omega (arith, has.count)
+              in ap (λ (z : ℕ). get_or (set filled ((first + i) % n) false) ((first + z) % n) false) (sym e)
+              ∙ get_or-set_same filled ((first + i) % n) false false place
           | inr other ↦
-              let apart : (first + j) % n ≢ (first + i) % n = near_apart n (first + i) (first + j) (λ e. other (omega arith)) (omega arith) (omega arith)
+              let apart : (first + j) % n ≢ (first + i) % n =
+              near_apart n (first + i) (first + j) (λ e. other (omega arith)) (omega arith) (omega arith)
               in get_or-set_other filled ((first + i) % n) ((first + j) % n) false false apart ∙ has.taken j (omega arith)
         ]
 
     still_full : (j : ℕ) → i + 1 ≤ j → j < n → get_or (set filled ((first + i) % n) false) ((first + j) % n) false ≡ true
     still_full j above below =
-        let apart : (first + j) % n ≢ (first + i) % n = near_apart n (first + i) (first + j) (λ e. omega arith) (omega arith) (omega arith)
+        let apart : (first + j) % n ≢ (first + i) % n =
+        near_apart n (first + i) (first + j) (λ e. omega arith) (omega arith) (omega arith)
         in get_or-set_other filled ((first + i) % n) ((first + j) % n) false false apart ∙ has.full j (omega arith) below
 
-    here_is : (cs : List (Cell T)) (o : Option T) → get_elem? now ((first + i) % n) ≡ maybe.some o → LieIn before first n cs → value_at cs i ≡ o
+    here_is : (cs : List (Cell T)) (o : Option T) → get_elem? now ((first + i) % n) ≡ maybe.some o
+        → LieIn before first n cs → value_at cs i ≡ o
     here_is cs o is lie =
         let P : List (Option T) → Type 0 = λ l. get_elem? l ((first + i) % n) ≡ maybe.some o
         in maybe.some-injective (value_at cs i) o (sym (lie.values i low) ∙ subst P has.same is)
 
-    pub takes_value : (x : T) → get_elem? now ((first + i) % n) ≡ maybe.some (Some x) → HasTaken n first (i + 1) before now (set filled ((first + i) % n) false) (left ++ (first + i, x) ∷ [])
+    pub takes_value : (x : T) → get_elem? now ((first + i) % n) ≡ maybe.some (Some x)
+        → HasTaken n first (i + 1) before now (set filled ((first + i) % n) false) (left ++ (first + i, x) ∷ [])
     takes_value x is = record {
       same = has.same;
       count = length-set filled ((first + i) % n) false ∙ has.count;
@@ -111,10 +128,13 @@ module _ {T : Type 0} where
       cells =
           λ cs lie.
           let P : ℕ → Type 0 = λ z. left ++ (first + i, x) ∷ [] ≡ firsts cs z
-          in subst P (sym (add-one i)) (ap (λ (l : List (ℕ × T)). l ++ (first + i, x) ∷ []) (has.cells cs lie) ∙ sym (firsts_some first cs i x lie.in_row (here_is cs (Some x) is lie)));
+          in subst P (sym (add-one i))
+          (ap (λ (l : List (ℕ × T)). l ++ (first + i, x) ∷ []) (has.cells cs lie)
+          ∙ sym (firsts_some first cs i x lie.in_row (here_is cs (Some x) is lie)));
     }
 
-    pub takes_nothing : get_elem? now ((first + i) % n) ≡ maybe.some None → HasTaken n first (i + 1) before now (set filled ((first + i) % n) false) left
+    pub takes_nothing : get_elem? now ((first + i) % n) ≡ maybe.some None
+        → HasTaken n first (i + 1) before now (set filled ((first + i) % n) false) left
     takes_nothing is = record {
       same = has.same;
       count = length-set filled ((first + i) % n) false ∙ has.count;
@@ -127,25 +147,32 @@ module _ {T : Type 0} where
           in subst P (sym (add-one i)) (has.cells cs lie ∙ sym (firsts_more cs i (here_is cs None is lie)));
     }
 
-  pub all_taken : (n first : ℕ) (before now : List (Option T)) (filled : List Bool) (left : List (ℕ × T)) → HasTaken n first n before now filled left → (cs : List (Cell T)) → LieIn before first n cs → left ≡ map ticket_and_item cs
+  pub all_taken : (n first : ℕ) (before now : List (Option T)) (filled : List Bool) (left : List (ℕ × T))
+      → HasTaken n first n before now filled left → (cs : List (Cell T)) → LieIn before first n cs
+      → left ≡ map ticket_and_item cs
   all_taken n first before now filled left has cs lie = has.cells cs lie ∙ firsts_all cs n lie.few
 
-  pub none_filled : (n first : ℕ) (before now : List (Option T)) (filled : List Bool) (left : List (ℕ × T)) → 1 ≤ n → HasTaken n first n before now filled left → (k : ℕ) → k < n → get_or filled k false ≡ false
+  pub none_filled : (n first : ℕ) (before now : List (Option T)) (filled : List Bool) (left : List (ℕ × T)) → 1 ≤ n
+      → HasTaken n first n before now filled left → (k : ℕ) → k < n → get_or filled k false ≡ false
   none_filled n first before now filled left some has k low =
       let small : k % n ≡ k = native.Mathlib.Nat.mod-eq_of_lt low
       in let at : (t : ℕ) → first ≤ t → t < first + n → t % n ≡ k → get_or filled k false ≡ false =
       λ t from to place.
       let back : first + (t - first) ≡ t = omega arith
-      in ap (λ (z : ℕ). get_or filled z false) (sym (ap (λ (z : ℕ). z % n) back ∙ place)) ∙ has.taken (t - first) (omega arith)
+      in ap (λ (z : ℕ). get_or filled z false) (sym (ap (λ (z : ℕ). z % n) back ∙ place))
+      ∙ has.taken (t - first) (omega arith)
       in elim (leb_tells first k) [
         | inl le ↦ at k le.1 (omega arith) small
         | inr lt ↦
-            let on : (t : ℕ) × (first ≤ t) × (t < first + n) × (t % n ≡ k % n) × (k + n ≤ t) = lap first k first n some lt.1 (omega arith)
+            let on : (t : ℕ) × (first ≤ t) × (t < first + n) × (t % n ≡ k % n) × (k + n ≤ t) =
+            lap first k first n some lt.1 (omega arith)
             in at on.0 on.1 on.2 (on.3 ∙ small)
       ]
 
 -- Cells from this ticket on, without a gap, are in row.
-in_row : {T : Type 0} (first low : ℕ) (cs : List (Cell T)) (high : ℕ) → Rises low cs high → ((t : ℕ) (c : Cell T) → cell_of t cs ≡ Some c → first ≤ t) → ((t : ℕ) → first ≤ t → t < high → IsListed t cs) → AreInRow first cs
+in_row : {T : Type 0} (first low : ℕ) (cs : List (Cell T)) (high : ℕ) → Rises low cs high
+    → ((t : ℕ) (c : Cell T) → cell_of t cs ≡ Some c → first ≤ t) → ((t : ℕ) → first ≤ t → t < high → IsListed t cs)
+    → AreInRow first cs
 in_row first low [] high rises from listed = tt
 in_row {T} first low (c ∷ cs) high rises from listed =
     let below : c.ticket + 1 ≤ high = bounds_of_rising (c.ticket + 1) cs high rises.1
@@ -155,9 +182,10 @@ in_row {T} first low (c ∷ cs) high rises from listed =
       | inl e ↦ e
       | inr apart ↦
           let here : IsListed first (c ∷ cs) = listed first (omega arith) (omega arith)
-          in let later : cell_of first cs ≡ Some here.0 = sym (at_other c.ticket first (Some c) (cell_of first cs) apart) ∙ here.1
+          in let later : cell_of first cs ≡ Some here.0 = sym (at_other c.ticket first (Some c) (cell_of first cs) apart)
+          ∙ here.1
           in let none : cell_of first cs ≡ None = unlisted_below first (c.ticket + 1) cs high rises.1 (omega arith)
-          in absurd (let wrong : None ≡ Some here.0 = sym none ∙ later in cc)
+          in not_both none later
     ]
     in let tail : AreInRow (c.ticket + 1) cs = in_row (c.ticket + 1) (c.ticket + 1) cs high rises.1
     (λ t d is. (listed_within t (c.ticket + 1) cs high d rises.1 is).0)
@@ -168,58 +196,76 @@ in_row {T} first low (c ∷ cs) high rises from listed =
     in let P : ℕ → Type 0 = λ z. AreInRow (z + 1) cs
     in (same, subst P same tail)
 
-value_listed : {T : Type 0} (first : ℕ) (cs : List (Cell T)) (i : ℕ) (c : Cell T) → AreInRow first cs → cell_of (first + i) cs ≡ Some c → value_at cs i ≡ Some c.item
+value_listed : {T : Type 0} (first : ℕ) (cs : List (Cell T)) (i : ℕ) (c : Cell T) → AreInRow first cs
+    → cell_of (first + i) cs ≡ Some c → value_at cs i ≡ Some c.item
 value_listed first [] i c row is = cc
 value_listed {T} first (d ∷ cs) zero c row is =
-    let here : cell_of (first + 0) (d ∷ cs) ≡ Some d = at_same d.ticket (first + 0) (Some d) (cell_of (first + 0) cs) (omega (arith, row.0))
+    let here : cell_of (first + 0) (d ∷ cs) ≡ Some d =
+    at_same d.ticket (first + 0) (Some d) (cell_of (first + 0) cs) (omega (arith, row.0))
     in let same : d ≡ c = cc
     in ap (λ (z : Cell T). Some z.item) same
 value_listed {T} first (d ∷ cs) (suc i) c row is =
     let e : first + suc i ≡ first + 1 + i = omega arith
     in let P : ℕ → Type 0 = λ z. cell_of z cs ≡ Some c
-    in value_listed (first + 1) cs i c row.1 (subst P e (sym (at_other d.ticket (first + suc i) (Some d) (cell_of (first + suc i) cs) (let apart : d.ticket ≢ first + suc i = omega (arith, row.0) in apart)) ∙ is))
+    in value_listed (first + 1) cs i c row.1
+    (subst P e
+    (sym (at_other d.ticket (first + suc i) (Some d) (cell_of (first + suc i) cs)
+    (let apart : d.ticket ≢ first + suc i = omega (arith, row.0) in apart)) ∙ is))
 
-value_unlisted : {T : Type 0} (first : ℕ) (cs : List (Cell T)) (i : ℕ) → AreInRow first cs → cell_of (first + i) cs ≡ None → value_at cs i ≡ None
+value_unlisted : {T : Type 0} (first : ℕ) (cs : List (Cell T)) (i : ℕ) → AreInRow first cs → cell_of (first + i) cs ≡ None
+    → value_at cs i ≡ None
 value_unlisted first [] i row is = refl
 value_unlisted {T} first (d ∷ cs) zero row is =
-    let here : cell_of (first + 0) (d ∷ cs) ≡ Some d = at_same d.ticket (first + 0) (Some d) (cell_of (first + 0) cs) (omega (arith, row.0))
-    in let wrong : None ≡ Some d = sym is ∙ here
-    in cc
+    let here : cell_of (first + 0) (d ∷ cs) ≡ Some d =
+    at_same d.ticket (first + 0) (Some d) (cell_of (first + 0) cs) (omega (arith, row.0))
+    in not_both is here
 value_unlisted {T} first (d ∷ cs) (suc i) row is =
     let e : first + suc i ≡ first + 1 + i = omega arith
     in let P : ℕ → Type 0 = λ z. cell_of z cs ≡ None
-    in value_unlisted (first + 1) cs i row.1 (subst P e (sym (at_other d.ticket (first + suc i) (Some d) (cell_of (first + suc i) cs) (let apart : d.ticket ≢ first + suc i = omega (arith, row.0) in apart)) ∙ is))
+    in value_unlisted (first + 1) cs i row.1
+    (subst P e
+    (sym (at_other d.ticket (first + suc i) (Some d) (cell_of (first + suc i) cs)
+    (let apart : d.ticket ≢ first + suc i = omega (arith, row.0) in apart)) ∙ is))
 
--- The table of a ring at its end, where one pass has all parts.
-module _ {T : Type 0} (n f id : ℕ) (v : Sight T no_note) (words : List ℕ) (places : List (Option T)) (fin : Final (Seen (λ s. Ruled some_value no_value n f s) id v) words places) (idle : v.stage ≡ Idle) (all : v.known.parts ≡ all_parts) where
+-- The table of a ring at its end, where one pass, in no call, has all parts.
+pub record AtEnd {T : Type 0} (n f : ℕ) (v : Sight T no_note) (words : List ℕ) (places : List (Option T)) : Type 0 where
+  pub id : ℕ
+  pub fin : Final (Seen (λ s. Ruled some_value no_value n f s) id v) words places
+  pub idle : v.stage ≡ Idle
+  pub all : v.known.parts ≡ ALL_PARTS
+
+module _ {T : Type 0} {n f : ℕ} {v : Sight T no_note} {words : List ℕ} {places : List (Option T)}
+    (end : AtEnd n f v words places) where
   live : 0 < v.known.parts
   live = omega arith
 
-  sound : IsSound n fin.1.0.queue
-  sound = sound_now (option_kind T) n f fin.0 fin.1.0 id v fin.1.1
+  sound : IsSound n end.fin.1.0.queue
+  sound = sound_now (option_kind T) n f end.fin.0 end.fin.1.0 end.id v end.fin.1.1
 
-  written : (t : ℕ) (c : Cell T) → cell_of t fin.1.0.queue.cells ≡ Some c → c.mark ≡ Written
-  written t c is = written_now (option_kind T) n f 0 id (v, []) live fin.0 fin.1.0 fin.1.1 idle all t c is
+  written : (t : ℕ) (c : Cell T) → cell_of t end.fin.1.0.queue.cells ≡ Some c → c.mark ≡ Written
+  written t c is = written_now (option_kind T) n f 0 end.id (v, []) live end.fin.0 end.fin.1.0 end.fin.1.1 end.idle end.all t c is
 
-  from_front : (t : ℕ) (c : Cell T) → cell_of t fin.1.0.queue.cells ≡ Some c → fin.1.0.queue.front ≤ t
+  from_front : (t : ℕ) (c : Cell T) → cell_of t end.fin.1.0.queue.cells ≡ Some c → end.fin.1.0.queue.front ≤ t
   from_front t c is =
-      elim (leb_tells fin.1.0.queue.front t) [
+      elim (leb_tells end.fin.1.0.queue.front t) [
         | inl le ↦ le.1
         | inr lt ↦ let wrong : Written ≡ Emptying = sym (written t c is) ∙ (sound.emptied t c is).1 lt.1 in absurd (cc)
       ]
 
-  pub first_is_front : (first : ℕ) → get_elem? words 32 ≡ maybe.some first → first ≡ fin.1.0.queue.front
+  pub first_is_front : (first : ℕ) → get_elem? words FRONT ≡ maybe.some first → first ≡ end.fin.1.0.queue.front
   first_is_front first at =
-      sym (found words 32 first 0 at) ∙ ap (λ (l : List ℕ). get_or l 32 0) (sym fin.2) ∙ fin.1.0.shown.head
+      sym (found words FRONT first 0 at) ∙ ap (λ (l : List ℕ). get_or l FRONT 0) (sym end.fin.2) ∙ end.fin.1.0.shown.front
 
-  pub front_bounded : fin.1.0.queue.front ≤ last
-  front_bounded = let ordered : fin.1.0.queue.front ≤ fin.1.0.queue.next = sound.ordered in let bounded : fin.1.0.queue.next ≤ last = fin.1.0.shown.bounded in omega arith
+  pub front_bounded : end.fin.1.0.queue.front ≤ last
+  front_bounded = let ordered : end.fin.1.0.queue.front ≤ end.fin.1.0.queue.next = sound.ordered in
+      let bounded : end.fin.1.0.queue.next ≤ last = end.fin.1.0.shown.bounded in omega arith
 
-  lie_in : LieIn places fin.1.0.queue.front n fin.1.0.queue.cells
+  lie_in : LieIn places end.fin.1.0.queue.front n end.fin.1.0.queue.cells
   lie_in =
-      let q : Queue T = fin.1.0.queue
+      let q : Queue T = end.fin.1.0.queue
       in let ordered : q.front ≤ q.next = sound.ordered
-      in let row : AreInRow q.front q.cells = in_row q.front (q.next - n) q.cells q.next sound.rising from_front sound.listed
+      in let row : AreInRow q.front q.cells =
+      in_row q.front (q.next - n) q.cells q.next sound.rising from_front sound.listed
       in record {
         in_row = row;
         few = length-sound n q sound;
@@ -229,14 +275,20 @@ module _ {T : Type 0} (n f id : ℕ) (v : Sight T no_note) (words : List ℕ) (p
             in elim (on_option (cell_of t q.cells)) [
               | inr some ↦
                   let c : Cell T = some.0
-                  in let W : Mark → Type 0 = λ m. ShowsCell some_value no_value t (get_or fin.0.words (seq_of n t) 0) (get_elem? fin.0.homes (t % n)) c.item m
-                  in let lies : (get_or fin.0.words (seq_of n t) 0 ≡ t + 1) × (get_elem? fin.0.homes (t % n) ≡ maybe.some (maybe.some (Some c.item))) = subst W (written t c some.1) (fin.1.0.shown.cells t c some.1)
-                  in fin.4 (t % n) (Some c.item) lies.1 ∙ ap maybe.some (sym (value_listed q.front q.cells i c row some.1))
+                  in let W : Mark → Type 0 =
+                  λ m.
+                  ShowsCell some_value no_value t (get_or end.fin.0.words (seq_of n t) 0)
+                  (get_elem? end.fin.0.homes (t % n)) c.item m
+                  in let lies : (get_or end.fin.0.words (seq_of n t) 0 ≡ t + 1)
+                  × (get_elem? end.fin.0.homes (t % n) ≡ maybe.some (maybe.some (Some c.item))) =
+                  subst W (written t c some.1) (end.fin.1.0.shown.cells t c some.1)
+                  in end.fin.4 (t % n) (Some c.item) lies.1 ∙ ap maybe.some (sym (value_listed q.front q.cells i c row some.1))
               | inl none ↦
                   let past : q.next ≤ t =
                   elim (leb_tells q.next t) [
                     | inl le ↦ le.1
-                    | inr lt ↦ let here : IsListed t q.cells = sound.listed t (omega arith) lt.1 in absurd (let wrong : None ≡ Some here.0 = sym none ∙ here.1 in cc)
+                    | inr lt ↦ let here : IsListed t q.cells = sound.listed t (omega arith) lt.1 in
+                        not_both none here.1
                   ]
                   in let room : IsRoom n t q.cells =
                   λ u e.
@@ -244,39 +296,42 @@ module _ {T : Type 0} (n f id : ℕ) (v : Sight T no_note) (words : List ℕ) (p
                     | inl free ↦ free
                     | inr some ↦ let high : q.front ≤ u = from_front u some.0 some.1 in absurd (omega arith)
                   ]
-                  in let lies = fin.1.0.shown.free t past (omega arith) room
-                  in fin.4 (t % n) None lies.1 ∙ ap maybe.some (sym (value_unlisted q.front q.cells i row none))
+                  in let lies = end.fin.1.0.shown.free t past (omega arith) room
+                  in end.fin.4 (t % n) None lies.1 ∙ ap maybe.some (sym (value_unlisted q.front q.cells i row none))
             ];
       }
 
-  pub closes : (first : ℕ) (left : List (ℕ × T)) → get_elem? words 32 ≡ maybe.some first → ((cells : List (Cell T)) → LieIn places first n cells → left ≡ map ticket_and_item cells) → Closes v.known left
+  pub closes : (first : ℕ) (left : List (ℕ × T)) → get_elem? words FRONT ≡ maybe.some first
+      → ((cells : List (Cell T)) → LieIn places first n cells → left ≡ map ticket_and_item cells) → Leaves v.known left
   closes first left at are =
       let k : Known T no_note = v.known
-      in let r : Ruled some_value no_value n f fin.0 = fin.1.0
-      in let K : Stage T no_note → Type 0 = λ z. Knows n r.history r.queue id k z
-      in let work : IsAtWork id k = subst K idle (r.staged.knows id v fin.1.1)
-      in let has : HasAccounts r.history fin.0.views id k = r.told.accounts id v fin.1.1 live
-      in let left_is : left_by (start k.first) r.history ≡ r.queue = ap (λ (z : ℕ). left_by (start z) r.history) (r.told.first id v fin.1.1 live) ∙ r.stands.queue
+      in let r : Ruled some_value no_value n f end.fin.0 = end.fin.1.0
+      in let K : Stage T no_note → Type 0 = λ z. Knows n r.history r.queue end.id k z
+      in let work : IsAtWork end.id k = subst K end.idle (r.staged.knows end.id v end.fin.1.1)
+      in let has : HasEntries r.history end.fin.0.views end.id k = r.told.entries end.id v end.fin.1.1 live
+      in let left_is : left_by (start k.first) r.history ≡ r.queue =
+      ap (λ (z : ℕ). left_by (start z) r.history) (r.told.first end.id v end.fin.1.1 live) ∙ r.stands.queue
       in let L : ℕ → Type 0 = λ z. LieIn places z n r.queue.cells
       in let W : Queue T → Type 0 = λ q. (t : ℕ) (c : Cell T) → cell_of t q.cells ≡ Some c → c.mark ≡ Written
       in record {
         history = r.history;
-        seen = r.told.seen id v fin.1.1;
-        faithful = record {
-          legal = legal_prefix (option_kind T) n f fin.0 r id v fin.1.1 live r.history (prefix_same r.history);
-          own = has.own ∙ ap (λ (z : ℕ). own_of z r.history) (sym work.0);
-          joined = has.joined;
-          distinct = accounts_distinct n f id r.history fin.0.views v r.told fin.1.1 live work.0;
-        };
+        seen = r.told.seen end.id v end.fin.1.1;
         whole = record {
+          faithful = record {
+            legal = legal_prefix (option_kind T) n f end.fin.0 r end.id v end.fin.1.1 live r.history (prefix_same r.history);
+            own = has.own ∙ ap (λ (z : ℕ). own_of z r.history) (sym work.0);
+            joined = has.joined;
+            distinct = members_distinct n f end.id r.history end.fin.0.views v r.told end.fin.1.1 live work.0;
+          };
           actors =
               all_actors (λ b. (b ≡ k.actor) ⊎ IsAmong b k.joined) r.history
               (λ b some_own.
-              elim (actors_now (option_kind T) n f 0 id (v, []) live fin.0 r fin.1.1 idle all b some_own) [
+              elim (actors_now (option_kind T) n f 0 end.id (v, []) live end.fin.0 r end.fin.1.1 end.idle end.all b some_own) [
                 | inl same ↦ inl (same ∙ sym work.0)
                 | inr among ↦ inr among
               ]);
           written = subst W (sym left_is) written;
         };
-        cells = are r.queue.cells (subst L (sym (first_is_front first at)) lie_in) ∙ ap (λ (q : Queue T). map ticket_and_item q.cells) (sym left_is);
+        cells = are r.queue.cells (subst L (sym (first_is_front first at)) lie_in)
+            ∙ ap (λ (q : Queue T). map ticket_and_item q.cells) (sym left_is);
       }

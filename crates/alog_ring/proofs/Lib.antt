@@ -13,4 +13,6 @@ pub mod Splitting
 pub mod Joining
 pub mod Meeting
 pub mod Closing
+pub mod Ending
+pub mod Alone
 pub mod Waiting

@@ -1,5 +1,6 @@
 -- Lists read by `get_elem?`, prefixes, and sums over the views.
-use Rattle.std.proofs.Common.{◌≡◌, ◌≢◌, ℕ, zero, suc, ◌+◌, ◌<◌, ◌≤◌, ◌⊎◌, List, [], ◌∷◌, ◌++◌, length, get_or, set, sym, ap, ◌∙◌, inl, inr, append_assoc, arith}
+use Rattle.std.proofs.Common.{◌≡◌, ◌≢◌, ℕ, zero, suc, ◌+◌, ◌<◌, ◌≤◌, ◌⊎◌, List, [], ◌∷◌, ◌++◌, length, get_or, set, sym, ap, ◌∙◌}
+use Rattle.std.proofs.Common.{inl, inr, append_assoc, arith, Option, Some, None}
 use Rattle.std.specs.List.{AllByRecursion, sum_by}
 use Rattle.std.proofs.lemmas.List.{append-nil}
 use Rattle.std.proofs.lemmas.Bool.Decides.{eqb_tells}
@@ -11,6 +12,10 @@ use Rattle.atomic_table.proofs.Lists.{set_else}
 
 pub same_or_not : (a b : ℕ) → (a ≡ b) ⊎ (a ≢ b)
 same_or_not a b = elim (eqb_tells a b) [ inl h ↦ inl h.1 | inr h ↦ inr h.1 ]
+
+-- a look-up finds nothing, or something
+pub not_both : {A X : Type 0} {o : Option A} {a : A} → o ≡ None → o ≡ Some a → X
+not_both {a = a} nothing something = let wrong : None ≡ Some a = sym nothing ∙ something in absurd (cc)
 
 module _ {A : Type 0} where
   pub inside : (l : List A) (i : ℕ) (a : A) → get_elem? l i ≡ some a → i < length l
@@ -39,7 +44,8 @@ module _ {A : Type 0} where
   each_of P Q [] f all = tt
   each_of P Q (x ∷ xs) f all = (f x all.0, each_of P Q xs f all.1)
 
-  pub each_of_two : (P R Q : A → Type 0) (l : List A) → ((x : A) → P x → R x → Q x) → AllByRecursion P l → AllByRecursion R l → AllByRecursion Q l
+  pub each_of_two : (P R Q : A → Type 0) (l : List A) → ((x : A) → P x → R x → Q x) → AllByRecursion P l
+      → AllByRecursion R l → AllByRecursion Q l
   each_of_two P R Q [] f all more = tt
   each_of_two P R Q (x ∷ xs) f all more = (f x all.0 more.0, each_of_two P R Q xs f all.1 more.1)
 
@@ -48,16 +54,20 @@ module _ {A : Type 0} where
   each_append P (x ∷ xs) m all more = (all.0, each_append P xs m all.1 more)
 
   -- a sum where one term changes, and where two terms are parts of it
-  pub sum_changed : (f : A → ℕ) (l : List A) (i : ℕ) (a b : A) → get_elem? l i ≡ some a → sum_by f (set l i b) + f a ≡ sum_by f l + f b
+  pub sum_changed : (f : A → ℕ) (l : List A) (i : ℕ) (a b : A) → get_elem? l i ≡ some a
+      → sum_by f (set l i b) + f a ≡ sum_by f l + f b
   sum_changed f l i a b e =
       let at : get_or l i a ≡ a = found l i a a e
       in ap (λ (x : A). sum_by f (set l i b) + f x) (sym at) ∙ sum_by-set f l i b a (inside l i a e)
 
-  pub sum_of_two : (f : A → ℕ) (l : List A) (i j : ℕ) (a b nothing : A) → f nothing ≡ 0 → get_elem? l i ≡ some a → get_elem? l j ≡ some b → j ≢ i → f a + f b ≤ sum_by f l
+  pub sum_of_two : (f : A → ℕ) (l : List A) (i j : ℕ) (a b nothing : A) → f nothing ≡ 0 → get_elem? l i ≡ some a
+      → get_elem? l j ≡ some b → j ≢ i → f a + f b ≤ sum_by f l
   sum_of_two f l i j a b nothing none e g apart =
       let first : sum_by f (set l i nothing) + f a ≡ sum_by f l + f nothing = sum_changed f l i a nothing e
-      in let second : sum_by f (set (set l i nothing) j nothing) + f b ≡ sum_by f (set l i nothing) + f nothing = sum_changed f (set l i nothing) j b nothing (set_else l i j nothing apart ∙ g)
+      in let second : sum_by f (set (set l i nothing) j nothing) + f b ≡ sum_by f (set l i nothing) + f nothing =
+      sum_changed f (set l i nothing) j b nothing (set_else l i j nothing apart ∙ g)
       in omega arith
 
   pub sum_with_last : (f : A → ℕ) (l : List A) (a : A) → sum_by f (l ++ a ∷ []) ≡ sum_by f l + f a
-  sum_with_last f l a = let e : sum_by f (a ∷ []) ≡ f a = omega arith in sum_by-append f l (a ∷ []) ∙ ap (λ (n : ℕ). sum_by f l + n) e
+  sum_with_last f l a = let e : sum_by f (a ∷ []) ≡ f a = omega arith in sum_by-append f l (a ∷ [])
+      ∙ ap (λ (n : ℕ). sum_by f l + n) e

@@ -1,5 +1,6 @@
 -- What the sequence of a ticket's place tells of the queue.
-use Rattle.std.proofs.Common.{◌≡◌, ◌≢◌, ℕ, zero, suc, ◌+◌, ◌-◌, ◌*◌, ◌%◌, ◌<◌, ◌≤◌, ◌⊎◌, Option, List, get_or, Some, None, refl, sym, ap, subst, ◌∙◌, inl, inr, arith}
+use Rattle.std.proofs.Common.{◌≡◌, ◌≢◌, ℕ, zero, suc, ◌+◌, ◌-◌, ◌*◌, ◌%◌, ◌<◌, ◌≤◌, ◌⊎◌, Option, List, get_or, Some, None, refl}
+use Rattle.std.proofs.Common.{sym, ap, subst, ◌∙◌, inl, inr, arith}
 use mathlib.Core.Option as maybe
 use native.Mathlib.Nat.{add-mod_right}
 use lib.ListN.{get_elem?}
@@ -10,8 +11,9 @@ use Rattle.alog_core.specs.Queue.{Cell, Queue, cell_of, HasCell, IsListed, IsBlo
 use Rattle.alog_core.specs.History.{Entry}
 use Rattle.alog_core.proofs.Cells.{ticket_of_cell}
 use Rattle.alog_core.proofs.Rising.{unlisted_below}
+use Rattle.alog_ring.specs.declared.words.TheConstants.{SEQUENCES, APART}
 use Rattle.alog_ring.specs.Rule.{seq_of, ShowsCell, Shown}
-use Rattle.alog_ring.proofs.Lists.{same_or_not}
+use Rattle.alog_ring.proofs.Lists.{not_both, same_or_not}
 
 pub on_option : {A : Type 0} (o : Option A) → (o ≡ None) ⊎ ((a : A) × (o ≡ Some a))
 on_option None = inl refl
@@ -27,62 +29,76 @@ room_or_blocked {T} n p cs =
     elim (leb_tells n p) [
       | inl le ↦
           elim (on_option (cell_of (p - n) cs)) [
-            | inl none ↦ inl (λ u e. let P : ℕ → Type 0 = λ z. cell_of z cs ≡ None in let same : p - n ≡ u = omega arith in subst P same none)
+            | inl none ↦ inl
+                (λ u e. let P : ℕ → Type 0 = λ z. cell_of z cs ≡ None in let same : p - n ≡ u = omega arith in
+                subst P same none)
             | inr some ↦ inr (p - n, omega (arith, le.1), some)
           ]
       | inr lt ↦ inl (λ u e. absurd (omega (arith, lt.1)))
     ]
 
 -- a lap further on there is a ticket of the same place that may be the next one there
-pub lap : (d p next n : ℕ) → 1 ≤ n → p < next → next ≤ p + d → (t : ℕ) × (next ≤ t) × (t < next + n) × (t % n ≡ p % n) × (p + n ≤ t)
+pub lap : (d p next n : ℕ) → 1 ≤ n → p < next → next ≤ p + d → (t : ℕ) × (next ≤ t) × (t < next + n) × (t % n ≡ p % n)
+    × (p + n ≤ t)
 lap zero p next n some a b = absurd (omega arith)
 lap (suc d) p next n some a b =
     elim (leb_tells next (p + n)) [
       | inl le ↦ (p + n, le.1, omega arith, add-mod_right p n, omega arith)
       | inr lt ↦
-          let more : (t : ℕ) × (next ≤ t) × (t < next + n) × (t % n ≡ (p + n) % n) × (p + n + n ≤ t) = lap d (p + n) next n some lt.1 (omega arith)
+          let more : (t : ℕ) × (next ≤ t) × (t < next + n) × (t % n ≡ (p + n) % n) × (p + n + n ≤ t) =
+          lap d (p + n) next n some lt.1 (omega arith)
           in (more.0, more.1, more.2, more.3 ∙ add-mod_right p n, omega (arith, more.4))
     ]
 
 -- the cell that a look-up finds, written out
-pub has_cell : {T : Type 0} (cs : List (Cell T)) (t : ℕ) (c : Cell T) (m : Mark) → cell_of t cs ≡ Some c → c.mark ≡ m → HasCell cs t m c.item c.actor
+pub has_cell : {T : Type 0} (cs : List (Cell T)) (t : ℕ) (c : Cell T) (m : Mark) → cell_of t cs ≡ Some c → c.mark ≡ m
+    → HasCell cs t m c.item c.actor
 has_cell cs t c m is mark =
     let ticket : c.ticket ≡ t = ticket_of_cell t cs c is
     in is ∙ (λ i. Some (record { ticket = ticket i; mark = mark i; item = c.item; actor = c.actor }))
 
 module _ {S T N : Type 0} (put : T → S) (spare : ℕ → List (Entry T N) → ℕ → S) where
-  shown_word : (t word : ℕ) (home : maybe.Option (maybe.Option S)) (x : T) (m : Mark) → ShowsCell put spare t word home x m → (word ≡ t) ⊎ (word ≡ t + 1)
+  shown_word : (t word : ℕ) (home : maybe.Option (maybe.Option S)) (x : T) (m : Mark) → ShowsCell put spare t word home x m
+      → (word ≡ t) ⊎ (word ≡ t + 1)
   shown_word t word home x Claimed is = inl is
   shown_word t word home x Written is = inr is.0
   shown_word t word home x Emptying is = inr is
 
-  module _ (n : ℕ) (h : List (Entry T N)) (q : Queue T) (words : List ℕ) (homes : List (maybe.Option S)) (two : 2 ≤ n) (sound : IsSound n q) (shown : Shown put spare n h q words homes) where
+  module _ (n : ℕ) (h : List (Entry T N)) (q : Queue T) (words : List ℕ) (homes : List (maybe.Option S)) (two : 2 ≤ n)
+      (sound : IsSound n q) (shown : Shown put spare n h q words homes) where
     -- a place whose ticket is listed, and one that waits for the ticket
     word_listed : (t : ℕ) → IsListed t q.cells → (get_or words (seq_of n t) 0 ≡ t) ⊎ (get_or words (seq_of n t) 0 ≡ t + 1)
-    word_listed t is = shown_word t (get_or words (seq_of n t) 0) (get_elem? homes (t % n)) is.0.item is.0.mark (shown.cells t is.0 is.1)
+    word_listed t is =
+        shown_word t (get_or words (seq_of n t) 0) (get_elem? homes (t % n)) is.0.item is.0.mark (shown.cells t is.0 is.1)
 
-    word_blocked : (p : ℕ) → IsBlocked n p q.cells → (get_or words (seq_of n p) 0 + n ≡ p) ⊎ (get_or words (seq_of n p) 0 + n ≡ p + 1)
+    word_blocked : (p : ℕ) → IsBlocked n p q.cells
+        → (get_or words (seq_of n p) 0 + n ≡ p) ⊎ (get_or words (seq_of n p) 0 + n ≡ p + 1)
     word_blocked p by =
         let place : by.0 % n ≡ p % n = sym (add-mod_right by.0 n) ∙ ap (λ (z : ℕ). z % n) by.1
-        in let same : get_or words (seq_of n by.0) 0 ≡ get_or words (seq_of n p) 0 = ap (λ (z : ℕ). get_or words (z * 8 + 48) 0) place
+        in let same : get_or words (seq_of n by.0) 0 ≡ get_or words (seq_of n p) 0 =
+        ap (λ (z : ℕ). get_or words (z * APART + SEQUENCES) 0) place
         in elim (word_listed by.0 by.2) [ inl e ↦ inl (omega (arith, e, by.1)) | inr e ↦ inr (omega (arith, e, by.1)) ]
 
     -- the place has gone on from a ticket that is no longer listed
     passed : (p : ℕ) → p < q.next → cell_of p q.cells ≡ None → p < get_or words (seq_of n p) 0
     passed p low none =
-        let on : (t : ℕ) × (q.next ≤ t) × (t < q.next + n) × (t % n ≡ p % n) × (p + n ≤ t) = lap q.next p q.next n (omega arith) low (omega arith)
+        let on : (t : ℕ) × (q.next ≤ t) × (t < q.next + n) × (t % n ≡ p % n) × (p + n ≤ t) =
+        lap q.next p q.next n (omega arith) low (omega arith)
         in let t : ℕ = on.0
-        in let same : get_or words (seq_of n t) 0 ≡ get_or words (seq_of n p) 0 = ap (λ (z : ℕ). get_or words (z * 8 + 48) 0) on.3
+        in let same : get_or words (seq_of n t) 0 ≡ get_or words (seq_of n p) 0 =
+        ap (λ (z : ℕ). get_or words (z * APART + SEQUENCES) 0) on.3
         in elim (room_or_blocked n t q.cells) [
           | inl room ↦ omega (arith, (shown.free t on.1 on.2 room).0, on.4)
           | inr by ↦
               let P : ℕ → Type 0 = λ z. IsListed z q.cells
-              in let apart : by.0 ≢ p = λ e. let listed : IsListed p q.cells = subst P e by.2 in let wrong : None ≡ Some listed.0 = sym none ∙ listed.1 in cc
+              in let apart : by.0 ≢ p = λ e. let listed : IsListed p q.cells = subst P e by.2 in
+              not_both none listed.1
               in elim (word_blocked t by) [ inl e ↦ omega (arith, e, by.1, on.4) | inr e ↦ omega (arith, e, by.1, on.4) ]
         ]
 
     abbrev pub PushLook : ℕ → ℕ → Type 0
-    PushLook p s = ((s ≡ p) × IsRoom n p q.cells) ⊎ (((s < p) × (p ≡ q.next) × IsBlocked n p q.cells) ⊎ ((p < s) × (p < q.next)))
+    PushLook p s =
+        ((s ≡ p) × IsRoom n p q.cells) ⊎ (((s < p) × (p ≡ q.next) × IsBlocked n p q.cells) ⊎ ((p < s) × (p < q.next)))
 
     pub push_look : (p : ℕ) → p ≤ q.next → PushLook p (get_or words (seq_of n p) 0)
     push_look p low =
@@ -90,7 +106,8 @@ module _ {S T N : Type 0} (put : T → S) (spare : ℕ → List (Entry T N) → 
           | inl same ↦
               elim (room_or_blocked n p q.cells) [
                 | inl room ↦ inl ((shown.free p (omega arith) (omega arith) room).0, room)
-                | inr by ↦ inr (inl (elim (word_blocked p by) [ inl e ↦ omega (arith, e) | inr e ↦ omega (arith, e) ], same, by))
+                | inr by ↦ inr
+                    (inl (elim (word_blocked p by) [ inl e ↦ omega (arith, e) | inr e ↦ omega (arith, e) ], same, by))
               ]
           | inr other ↦
               elim (on_option (cell_of p q.cells)) [
@@ -104,7 +121,10 @@ module _ {S T N : Type 0} (put : T → S) (spare : ℕ → List (Entry T N) → 
         ]
 
     abbrev pub PopLook : ℕ → ℕ → Type 0
-    PopLook p s = ((s ≡ p + 1) × (q.front ≤ p → IsWritten p q.cells)) ⊎ (((s < p + 1) × (p ≡ q.front) × IsUnwritten p q.cells) ⊎ ((p + 1 < s) × (p < q.front)))
+    PopLook p s =
+        ((s ≡ p + 1)
+        × (q.front ≤ p → IsWritten p q.cells)) ⊎ (((s < p + 1) × (p ≡ q.front) × IsUnwritten p q.cells) ⊎ ((p + 1 < s)
+        × (p < q.front)))
 
     front_look : (p : ℕ) → p ≡ q.front → PopLook p (get_or words (seq_of n p) 0)
     front_look p same =
@@ -113,21 +133,27 @@ module _ {S T N : Type 0} (put : T → S) (spare : ℕ → List (Entry T N) → 
               let last : p ≡ q.next =
               elim (same_or_not p q.next) [
                 | inl e ↦ e
-                | inr other ↦ let listed : IsListed p q.cells = sound.listed p (omega arith) (omega (arith, sound.ordered)) in absurd (let wrong : None ≡ Some listed.0 = sym none ∙ listed.1 in cc)
+                | inr other ↦ let listed : IsListed p q.cells = sound.listed p (omega arith) (omega (arith, sound.ordered))
+                    in not_both none listed.1
               ]
               in elim (room_or_blocked n p q.cells) [
                 | inl room ↦ inr (inl (omega (arith, (shown.free p (omega arith) (omega arith) room).0), same, inl none))
-                | inr by ↦ inr (inl (elim (word_blocked p by) [ inl e ↦ omega (arith, e) | inr e ↦ omega (arith, e) ], same, inl none))
+                | inr by ↦ inr
+                    (inl (elim (word_blocked p by) [ inl e ↦ omega (arith, e) | inr e ↦ omega (arith, e) ], same, inl none))
               ]
           | inr some ↦
               let c : Cell T = some.0
-              in let F : Mark → Type 0 = λ m. ShowsCell put spare p (get_or words (seq_of n p) 0) (get_elem? homes (p % n)) c.item m
+              in let F : Mark → Type 0 =
+              λ m. ShowsCell put spare p (get_or words (seq_of n p) 0) (get_elem? homes (p % n)) c.item m
               in let shows : F c.mark = shown.cells p c some.1
               in elim (on_mark c.mark) [
-                | inl e ↦ let w : get_or words (seq_of n p) 0 ≡ p = subst F e shows in inr (inl (omega (arith, w), same, inr (c.item, c.actor, has_cell q.cells p c Claimed some.1 e)))
+                | inl e ↦ let w : get_or words (seq_of n p) 0 ≡ p = subst F e shows in
+                    inr (inl (omega (arith, w), same, inr (c.item, c.actor, has_cell q.cells p c Claimed some.1 e)))
                 | inr more ↦
                     elim more [
-                      | inl e ↦ let w : (get_or words (seq_of n p) 0 ≡ p + 1) × (get_elem? homes (p % n) ≡ maybe.some (maybe.some (put c.item))) = subst F e shows in inl (w.0, λ _. (c.item, c.actor, has_cell q.cells p c Written some.1 e))
+                      | inl e ↦ let w : (get_or words (seq_of n p) 0 ≡ p + 1)
+                          × (get_elem? homes (p % n) ≡ maybe.some (maybe.some (put c.item))) = subst F e shows in
+                          inl (w.0, λ _. (c.item, c.actor, has_cell q.cells p c Written some.1 e))
                       | inr e ↦ let low : p < q.front = (sound.emptied p c some.1).0 e in absurd (omega arith)
                     ]
               ]
@@ -144,7 +170,8 @@ module _ {S T N : Type 0} (put : T → S) (spare : ℕ → List (Entry T N) → 
               ]
           | inr some ↦
               let c : Cell T = some.0
-              in let F : Mark → Type 0 = λ m. ShowsCell put spare p (get_or words (seq_of n p) 0) (get_elem? homes (p % n)) c.item m
+              in let F : Mark → Type 0 =
+              λ m. ShowsCell put spare p (get_or words (seq_of n p) 0) (get_elem? homes (p % n)) c.item m
               in let e : c.mark ≡ Emptying = (sound.emptied p c some.1).1 low
               in let w : get_or words (seq_of n p) 0 ≡ p + 1 = subst F e (shown.cells p c some.1)
               in inl (w, λ high. absurd (omega arith))

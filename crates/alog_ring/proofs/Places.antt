@@ -5,14 +5,15 @@ use prog.Atomic.{either}
 use Rattle.atomic_table.specs.Table.{State, Me, step, Allows}
 use Rattle.alog_core.specs.Queue.{last}
 use Rattle.alog_core.specs.History.{Entry}
-use Rattle.alog_ring.specs.Sight.{Stage, Idle, Fresh, Joined, SawTail, SawFree, Writing, SawHead, SawFull, Reading, Sight}
-use Rattle.alog_ring.specs.Rule.{seq_of, Ruled}
+use Rattle.alog_ring.specs.declared.words.TheConstants.{NEXT, FRONT}
 use Rattle.alog_ring.specs.Kinds.{no_note, some_value, no_value}
-use Rattle.alog_ring.specs.Plays.{saw_tail, saw_free, claimed, wrote, saw_head, saw_full, grabbed, took}
-use Rattle.alog_ring.specs.Parts.{was_named, saw_both, saw_all}
+use Rattle.alog_ring.specs.Sight.{Stage, Idle, Fresh, Joined, SawNext, SawFree, Writing, SawFront, SawFull, Reading, Sight}
+use Rattle.alog_ring.specs.Plays.{saw_next, saw_free, claimed, wrote, saw_front, saw_full, grabbed, took}
+use Rattle.alog_ring.specs.Seats.{was_named, saw_both, saw_all}
+use Rattle.alog_ring.specs.Rule.{seq_of, Ruled}
 use Rattle.alog_ring.proofs.Meeting.{names_itself, sees_both, sees_all}
 use Rattle.alog_ring.proofs.Stepping.{PlaceKind}
-use Rattle.alog_ring.proofs.Steps.{sees_tail, sees_free, claims, writes, sees_head, sees_full, grabs, takes_out}
+use Rattle.alog_ring.proofs.Steps.{sees_next, sees_free, claims, writes, sees_front, sees_full, grabs, takes_out}
 
 abbrev pub option_kind : (T : Type 0) → PlaceKind (Option T) T no_note
 option_kind T = record {
@@ -29,57 +30,75 @@ module _ {T : Type 0} (n f slots id : ℕ) (me : Me (Option T) (Sight T no_note)
   Ring s = Ruled some_value no_value n f s
 
   -- a play may be told in weaker words
-  told_as : (i : ℕ) (g : ℕ → ℕ) (P Q : ℕ → Me (Option T) (Sight T no_note) → Type 0) → ((y : ℕ) (m : Me (Option T) (Sight T no_note)) → P y m → Q y m) → Allows Ring slots id me i g P → Allows Ring slots id me i g Q
+  told_as : (i : ℕ) (g : ℕ → ℕ) (P Q : ℕ → Me (Option T) (Sight T no_note) → Type 0)
+      → ((y : ℕ) (m : Me (Option T) (Sight T no_note)) → P y m → Q y m) → Allows Ring slots id me i g P
+      → Allows Ring slots id me i g Q
   told_as i g P Q weaker may s r wide at fits = let go = may s r wide at fits in (go.0, go.1, go.2, go.3, weaker _ _ go.4)
 
-  at_word : (i t : ℕ) (g : ℕ → ℕ) (P : ℕ → Me (Option T) (Sight T no_note) → Type 0) → i ≡ seq_of n t → Allows Ring slots id me (seq_of n t) g P → Allows Ring slots id me i g P
+  at_word : (i t : ℕ) (g : ℕ → ℕ) (P : ℕ → Me (Option T) (Sight T no_note) → Type 0) → i ≡ seq_of n t
+      → Allows Ring slots id me (seq_of n t) g P → Allows Ring slots id me i g P
   at_word i t g P is may = let A : ℕ → Type 0 = λ z. Allows Ring slots id me z g P in subst A (sym is) may
 
-  pub see_tail_may : me.0.stage ≡ Idle → Allows Ring slots id me 16 (λ y. y) (λ y m. saw_tail tt me y m)
-  see_tail_may idle = sees_tail (option_kind T) n f slots id me idle
+  pub see_next_may : me.0.stage ≡ Idle → Allows Ring slots id me NEXT (λ y. y) (λ y m. saw_next tt me y m)
+  see_next_may idle = sees_next (option_kind T) n f slots id me idle
 
-  pub see_free_may : (i t : ℕ) → i ≡ seq_of n t → me.0.stage ≡ SawTail t → Allows Ring slots id me i (λ y. y) (λ y m. (u : ℕ) → me.0.stage ≡ SawTail u → saw_free tt u me y m)
+  pub see_free_may : (i t : ℕ) → i ≡ seq_of n t → me.0.stage ≡ SawNext t
+      → Allows Ring slots id me i (λ y. y) (λ y m. (u : ℕ) → me.0.stage ≡ SawNext u → saw_free tt u me y m)
   see_free_may i t is stage =
-      at_word i t (λ y. y) (λ y m. (u : ℕ) → me.0.stage ≡ SawTail u → saw_free tt u me y m) is
-      (told_as (seq_of n t) (λ y. y) (λ y m. saw_free tt t me y m) (λ y m. (u : ℕ) → me.0.stage ≡ SawTail u → saw_free tt u me y m)
-      (λ y m told u at. let both : ◌≡◌ {A = Stage T no_note} (SawTail t) (SawTail u) = sym stage ∙ at in let same : t ≡ u = cc in let P : ℕ → Type 0 = λ z. saw_free tt z me y m in subst P same told)
+      at_word i t (λ y. y) (λ y m. (u : ℕ) → me.0.stage ≡ SawNext u → saw_free tt u me y m) is
+      (told_as (seq_of n t) (λ y. y) (λ y m. saw_free tt t me y m)
+      (λ y m. (u : ℕ) → me.0.stage ≡ SawNext u → saw_free tt u me y m)
+      (λ y m told u at. let both : ◌≡◌ {A = Stage T no_note} (SawNext t) (SawNext u) = sym stage
+      ∙ at in let same : t ≡ u = cc in let P : ℕ → Type 0 = λ z. saw_free tt z me y m in subst P same told)
       (sees_free (option_kind T) n f slots id me t stage))
 
   pub claim_may : (t new : ℕ) (x : T) → me.0.stage ≡ SawFree t → new ≡ t + 1 → t < last
-      → Allows Ring slots id me 16 (λ y. either (eqb y t) new y) (λ y m. claimed tt some_value no_value (step slots 16 t new (some (Some x))) me y m)
+      → Allows Ring slots id me NEXT (λ y. either (eqb y t) new y)
+      (λ y m. claimed tt some_value no_value (step slots NEXT t new (some (Some x))) me y m)
   claim_may t new x stage next low = claims (option_kind T) n f slots id me t new x stage next low
 
-  pub write_may : (i t new : ℕ) (x : T) (more : List (ℕ × Option T)) → i ≡ seq_of n t → new ≡ t + 1 → me.0.stage ≡ Writing t x → me.1 ≡ (t % n, Some x) ∷ more
+  pub write_may : (i t new : ℕ) (x : T) (more : List (ℕ × Option T)) → i ≡ seq_of n t → new ≡ t + 1
+      → me.0.stage ≡ Writing t x → me.1 ≡ (t % n, Some x) ∷ more
       → Allows Ring slots id me i (λ _. new) (λ _ m. (u : ℕ) (z : T) → me.0.stage ≡ Writing u z → wrote tt u me m)
   write_may i t new x more is next stage has =
-      let A : ℕ → Type 0 = λ k. Allows Ring slots id me i (λ _. k) (λ _ m. (u : ℕ) (z : T) → me.0.stage ≡ Writing u z → wrote tt u me m)
+      let A : ℕ → Type 0 = λ k.
+      Allows Ring slots id me i (λ _. k) (λ _ m. (u : ℕ) (z : T) → me.0.stage ≡ Writing u z → wrote tt u me m)
       in subst A (sym next)
       (at_word i t (λ _. t + 1) (λ _ m. (u : ℕ) (z : T) → me.0.stage ≡ Writing u z → wrote tt u me m) is
-      (told_as (seq_of n t) (λ _. t + 1) (λ _ m. wrote tt t me m) (λ _ m. (u : ℕ) (z : T) → me.0.stage ≡ Writing u z → wrote tt u me m)
-      (λ y m told u z at. let both : ◌≡◌ {A = Stage T no_note} (Writing t x) (Writing u z) = sym stage ∙ at in let same : t ≡ u = cc in let P : ℕ → Type 0 = λ k. wrote tt k me m in subst P same told)
+      (told_as (seq_of n t) (λ _. t + 1) (λ _ m. wrote tt t me m)
+      (λ _ m. (u : ℕ) (z : T) → me.0.stage ≡ Writing u z → wrote tt u me m)
+      (λ y m told u z at. let both : ◌≡◌ {A = Stage T no_note} (Writing t x) (Writing u z) = sym stage
+      ∙ at in let same : t ≡ u = cc in let P : ℕ → Type 0 = λ k. wrote tt k me m in subst P same told)
       (writes (option_kind T) n f slots id me t x more stage has)))
 
-  pub see_head_may : me.0.stage ≡ Idle → Allows Ring slots id me 32 (λ y. y) (λ y m. saw_head me y m)
-  see_head_may idle = sees_head (option_kind T) n f slots id me idle
+  pub see_front_may : me.0.stage ≡ Idle → Allows Ring slots id me FRONT (λ y. y) (λ y m. saw_front me y m)
+  see_front_may idle = sees_front (option_kind T) n f slots id me idle
 
-  pub see_full_may : (i t : ℕ) → i ≡ seq_of n t → me.0.stage ≡ SawHead t → Allows Ring slots id me i (λ y. y) (λ y m. (u : ℕ) → me.0.stage ≡ SawHead u → saw_full tt u me y m)
+  pub see_full_may : (i t : ℕ) → i ≡ seq_of n t → me.0.stage ≡ SawFront t
+      → Allows Ring slots id me i (λ y. y) (λ y m. (u : ℕ) → me.0.stage ≡ SawFront u → saw_full tt u me y m)
   see_full_may i t is stage =
-      at_word i t (λ y. y) (λ y m. (u : ℕ) → me.0.stage ≡ SawHead u → saw_full tt u me y m) is
-      (told_as (seq_of n t) (λ y. y) (λ y m. saw_full tt t me y m) (λ y m. (u : ℕ) → me.0.stage ≡ SawHead u → saw_full tt u me y m)
-      (λ y m told u at. let both : ◌≡◌ {A = Stage T no_note} (SawHead t) (SawHead u) = sym stage ∙ at in let same : t ≡ u = cc in let P : ℕ → Type 0 = λ z. saw_full tt z me y m in subst P same told)
+      at_word i t (λ y. y) (λ y m. (u : ℕ) → me.0.stage ≡ SawFront u → saw_full tt u me y m) is
+      (told_as (seq_of n t) (λ y. y) (λ y m. saw_full tt t me y m)
+      (λ y m. (u : ℕ) → me.0.stage ≡ SawFront u → saw_full tt u me y m)
+      (λ y m told u at. let both : ◌≡◌ {A = Stage T no_note} (SawFront t) (SawFront u) = sym stage
+      ∙ at in let same : t ≡ u = cc in let P : ℕ → Type 0 = λ z. saw_full tt z me y m in subst P same told)
       (sees_full (option_kind T) n f slots id me t stage))
 
   pub grab_may : (t new : ℕ) (said : Option T) → me.0.stage ≡ SawFull t → new ≡ t + 1
-      → Allows Ring slots id me 32 (λ y. either (eqb y t) new y) (λ y m. grabbed tt some_value (step slots 32 t new (some said)) me y m)
+      → Allows Ring slots id me FRONT (λ y. either (eqb y t) new y)
+      (λ y m. grabbed tt some_value (step slots FRONT t new (some said)) me y m)
   grab_may t new said stage next = grabs (option_kind T) n f slots id me t new (some said) stage next
 
-  pub take_may : (i t new : ℕ) (x : T) (more : List (ℕ × Option T)) → i ≡ seq_of n t → new ≡ t + n → me.0.stage ≡ Reading t x → me.1 ≡ (t % n, None) ∷ more
+  pub take_may : (i t new : ℕ) (x : T) (more : List (ℕ × Option T)) → i ≡ seq_of n t → new ≡ t + n
+      → me.0.stage ≡ Reading t x → me.1 ≡ (t % n, None) ∷ more
       → Allows Ring slots id me i (λ _. new) (λ _ m. (u : ℕ) (z : T) → me.0.stage ≡ Reading u z → took tt u z me m)
   take_may i t new x more is next stage has =
-      let A : ℕ → Type 0 = λ k. Allows Ring slots id me i (λ _. k) (λ _ m. (u : ℕ) (z : T) → me.0.stage ≡ Reading u z → took tt u z me m)
+      let A : ℕ → Type 0 = λ k.
+      Allows Ring slots id me i (λ _. k) (λ _ m. (u : ℕ) (z : T) → me.0.stage ≡ Reading u z → took tt u z me m)
       in subst A (sym next)
       (at_word i t (λ _. t + n) (λ _ m. (u : ℕ) (z : T) → me.0.stage ≡ Reading u z → took tt u z me m) is
-      (told_as (seq_of n t) (λ _. t + n) (λ _ m. took tt t x me m) (λ _ m. (u : ℕ) (z : T) → me.0.stage ≡ Reading u z → took tt u z me m)
+      (told_as (seq_of n t) (λ _. t + n) (λ _ m. took tt t x me m)
+      (λ _ m. (u : ℕ) (z : T) → me.0.stage ≡ Reading u z → took tt u z me m)
       (λ y m told u z at.
       let both : ◌≡◌ {A = Stage T no_note} (Reading t x) (Reading u z) = sym stage ∙ at
       in let same : t ≡ u = cc
@@ -90,15 +109,21 @@ module _ {T : Type 0} (n f slots id : ℕ) (me : Me (Option T) (Sight T no_note)
       (takes_out (option_kind T) n f slots id me tt t x more stage has)))
 
 module _ {T : Type 0} (n f slots id : ℕ) (me : Me (Option T) (Sight T no_note)) where
-  pub name_may : 0 < me.0.known.parts → me.0.stage ≡ Fresh → me.0.known.own ≡ [] → me.0.known.joined ≡ [] → Allows (λ s. Ruled some_value no_value n f s) slots id me 16 (λ y. y) (λ y m. was_named me m)
+  pub name_may : 0 < me.0.known.parts → me.0.stage ≡ Fresh → me.0.known.own ≡ [] → me.0.known.joined ≡ []
+      → Allows (λ s. Ruled some_value no_value n f s) slots id me NEXT (λ y. y) (λ y m. was_named me m)
   name_may live fresh none alone = names_itself (option_kind T) n f slots id me live fresh none alone
 
   pub see_both_may : (t : List (Entry T no_note)) → 0 < me.0.known.parts → me.0.stage ≡ Joined t
-      → Allows (λ s. Ruled some_value no_value n f s) slots id me 16 (λ y. y) (λ y m. (u : List (Entry T no_note)) → me.0.stage ≡ Joined u → saw_both u me m)
+      → Allows (λ s. Ruled some_value no_value n f s) slots id me NEXT (λ y. y)
+      (λ y m. (u : List (Entry T no_note)) → me.0.stage ≡ Joined u → saw_both u me m)
   see_both_may t live stage =
-      told_as n f slots id me 16 (λ y. y) (λ y m. saw_both t me m) (λ y m. (u : List (Entry T no_note)) → me.0.stage ≡ Joined u → saw_both u me m)
-      (λ y m told u at. let both : ◌≡◌ {A = Stage T no_note} (Joined t) (Joined u) = sym stage ∙ at in let same : t ≡ u = cc in let P : List (Entry T no_note) → Type 0 = λ z. saw_both z me m in subst P same told)
+      told_as n f slots id me NEXT (λ y. y) (λ y m. saw_both t me m)
+      (λ y m. (u : List (Entry T no_note)) → me.0.stage ≡ Joined u → saw_both u me m)
+      (λ y m told u at. let both : ◌≡◌ {A = Stage T no_note} (Joined t) (Joined u) = sym stage
+      ∙ at in let same : t ≡ u = cc in let P : List (Entry T no_note) → Type 0 =
+      λ z. saw_both z me m in subst P same told)
       (sees_both (option_kind T) n f slots id me live t stage)
 
-  pub see_all_may : 0 < me.0.known.parts → me.0.stage ≡ Idle → Allows (λ s. Ruled some_value no_value n f s) slots id me 16 (λ y. y) (λ y m. saw_all me m)
+  pub see_all_may : 0 < me.0.known.parts → me.0.stage ≡ Idle
+      → Allows (λ s. Ruled some_value no_value n f s) slots id me NEXT (λ y. y) (λ y m. saw_all me m)
   see_all_may live idle = sees_all (option_kind T) n f slots id me live idle

@@ -1,5 +1,6 @@
 -- The words and the places after a turn.
-use Rattle.std.proofs.Common.{◌≡◌, ◌≢◌, ℕ, ◌+◌, ◌-◌, ◌*◌, ◌%◌, ◌<◌, ◌≤◌, List, length, get_or, Some, None, sym, ap, subst, ◌∙◌, inl, inr, arith}
+use Rattle.std.proofs.Common.{◌≡◌, ◌≢◌, ℕ, ◌+◌, ◌-◌, ◌*◌, ◌%◌, ◌<◌, ◌≤◌, List, length, get_or, Some, None, sym, ap, subst, ◌∙◌}
+use Rattle.std.proofs.Common.{inl, inr, arith}
 use mathlib.Core.Option.{Option, some}
 use native.Mathlib.Nat.{add-mod_right}
 use lib.ListN.{get_elem?}
@@ -7,6 +8,7 @@ use Rattle.atomic_table.proofs.Lists.{one_turn}
 use Rattle.std.proofs.lemmas.Bool.Decides.{leb_tells}
 use Rattle.alog_core.specs.Queue.{Cell, Queue, last, cell_of, IsRoom, IsSound}
 use Rattle.alog_core.specs.History.{Entry}
+use Rattle.alog_ring.specs.declared.words.TheConstants.{NEXT, FRONT, SEQUENCES, APART}
 use Rattle.alog_ring.specs.Rule.{seq_of, ShowsCell, Shown}
 use Rattle.alog_ring.proofs.Lists.{same_or_not}
 use Rattle.alog_ring.proofs.Turning.{Turn, within}
@@ -27,61 +29,88 @@ far_apart n t u apart a b same =
     ]
 
 module _ {S T N : Type 0} (put : T → S) (spare : ℕ → List (Entry T N) → ℕ → S) where
-  pub shown_turn : (n a t : ℕ) (q r : Queue T) (h h' : List (Entry T N)) (words words' : List ℕ) (homes homes' : List (Option S))
+  -- what a turn of ticket t does to the words and the places
+  pub record Turned (n t : ℕ) (r : Queue T) (h h' : List (Entry T N)) (words words' : List ℕ)
+      (homes homes' : List (Option S)) : Type 0 where
+    pub wide : length words' ≡ length words
+    pub places : length homes' ≡ length homes
+    pub next : get_or words' NEXT 0 ≡ r.next
+    pub front : get_or words' FRONT 0 ≡ r.front
+    pub bounded : r.next ≤ last
+    pub words_else : (i : ℕ) → i ≢ t % n → get_or words' (i * APART + SEQUENCES) 0 ≡ get_or words (i * APART + SEQUENCES) 0
+    pub homes_else : (i : ℕ) → i ≢ t % n → get_elem? homes' i ≡ get_elem? homes i
+    pub cell_here : (c : Cell T) → cell_of t r.cells ≡ Some c
+        → ShowsCell put spare t (get_or words' (seq_of n t) 0) (get_elem? homes' (t % n)) c.item c.mark
+    pub free_here : cell_of t r.cells ≡ None
+        → (get_or words' (seq_of n t) 0 ≡ t + n) × (get_elem? homes' (t % n) ≡ some (some (spare n h' (t + n))))
+    pub spare_else : (u : ℕ) → u ≢ t + n → spare n h' u ≡ spare n h u
+
+  pub shown_turn : (n a t : ℕ) (q r : Queue T) (h h' : List (Entry T N)) (words words' : List ℕ)
+      (homes homes' : List (Option S))
       → IsSound n r → Turn n a t q r → t < r.next → Shown put spare n h q words homes
-      → length words' ≡ length words → length homes' ≡ length homes → get_or words' 16 0 ≡ r.next → get_or words' 32 0 ≡ r.front → r.next ≤ last
-      → ((i : ℕ) → i ≢ t % n → get_or words' (i * 8 + 48) 0 ≡ get_or words (i * 8 + 48) 0) → ((i : ℕ) → i ≢ t % n → get_elem? homes' i ≡ get_elem? homes i)
-      → ((c : Cell T) → cell_of t r.cells ≡ Some c → ShowsCell put spare t (get_or words' (seq_of n t) 0) (get_elem? homes' (t % n)) c.item c.mark)
-      → (cell_of t r.cells ≡ None → (get_or words' (seq_of n t) 0 ≡ t + n) × (get_elem? homes' (t % n) ≡ some (some (spare n h' (t + n)))))
-      → ((u : ℕ) → u ≢ t + n → spare n h' u ≡ spare n h u)
-      → Shown put spare n h' r words' homes'
-  shown_turn n a t q r h h' words words' homes homes' sound turn below shown wide places tail head bounded words_else homes_else cell_here free_here spare_else = record {
-    wide = wide ∙ shown.wide;
-    places = places ∙ shown.places;
-    tail = tail;
-    head = head;
-    bounded = bounded;
+      → Turned n t r h h' words words' homes homes' → Shown put spare n h' r words' homes'
+  shown_turn n a t q r h h' words words' homes homes' sound turn below shown turned = record {
+    wide = turned.wide ∙ shown.wide;
+    places = turned.places ∙ shown.places;
+    next = turned.next;
+    front = turned.front;
+    bounded = turned.bounded;
     cells =
         λ u c is.
         elim (same_or_not t u) [
           | inl same ↦
-              let P : ℕ → Type 0 = λ z. (d : Cell T) → cell_of z r.cells ≡ Some d → ShowsCell put spare z (get_or words' (seq_of n z) 0) (get_elem? homes' (z % n)) d.item d.mark
-              in subst P same cell_here c is
+              let P : ℕ → Type 0 = λ z. (d : Cell T) → cell_of z r.cells ≡ Some d
+              → ShowsCell put spare z (get_or words' (seq_of n z) 0) (get_elem? homes' (z % n)) d.item d.mark
+              in subst P same turned.cell_here c is
           | inr apart ↦
               let w : (r.next - n ≤ u) × (u < r.next) = within n r u c sound is
-              in let places_apart : u % n ≢ t % n = near_apart n t u apart (omega (arith, w.0)) (omega (arith, w.1, turn.near))
+              in let places_apart : u % n ≢ t % n =
+              near_apart n t u apart (omega (arith, w.0)) (omega (arith, w.1, turn.near))
               in let old = shown.cells u c (sym (turn.others u apart) ∙ is)
               in let Q : ℕ → Type 0 = λ z. ShowsCell put spare u z (get_elem? homes' (u % n)) c.item c.mark
-              in let R : Option (Option S) → Type 0 = λ z. ShowsCell put spare u (get_or words (seq_of n u) 0) z c.item c.mark
-              in subst Q (sym (words_else (u % n) places_apart)) (subst R (sym (homes_else (u % n) places_apart)) old)
+              in let R : Option (Option S) → Type 0 =
+              λ z. ShowsCell put spare u (get_or words (seq_of n u) 0) z c.item c.mark
+              in subst Q (sym (turned.words_else (u % n) places_apart))
+              (subst R (sym (turned.homes_else (u % n) places_apart)) old)
         ];
     free =
         λ u from to room.
         elim (same_or_not u (t + n)) [
           | inl same ↦
-              let now : (get_or words' (seq_of n t) 0 ≡ t + n) × (get_elem? homes' (t % n) ≡ some (some (spare n h' (t + n)))) = free_here (room t (sym same))
+              let now : (get_or words' (seq_of n t) 0 ≡ t + n)
+              × (get_elem? homes' (t % n) ≡ some (some (spare n h' (t + n)))) =
+              turned.free_here (room t (sym same))
               in let place : u % n ≡ t % n = ap (λ (z : ℕ). z % n) same ∙ add-mod_right t n
               in (
-                ap (λ (z : ℕ). get_or words' (z * 8 + 48) 0) place ∙ now.0 ∙ sym same,
-                ap (λ (z : ℕ). get_elem? homes' z) place ∙ now.1 ∙ ap (λ (z : ℕ). some (some (spare n h' z))) (sym same),
+                ap (λ (z : ℕ). get_or words' (z * APART + SEQUENCES) 0) place ∙ now.0 ∙ sym same,
+                ap (λ (z : ℕ). get_elem? homes' z) place ∙ now.1
+                    ∙ ap (λ (z : ℕ). some (some (spare n h' z))) (sym same),
               )
           | inr other ↦
               let places_apart : u % n ≢ t % n = far_apart n t u other (omega arith) (omega (arith, turn.near))
               in let from_q : q.next ≤ u = elim turn.next [ inl e ↦ omega (arith, e) | inr e ↦ omega (arith, e.0) ]
-              in let to_q : u < q.next + n = elim turn.next [ inl e ↦ omega (arith, e) | inr e ↦ omega (arith, e.0, e.1) ]
-              in let old_room : IsRoom n u q.cells = λ v e. let apart : t ≢ v = λ z. other (sym e ∙ ap (λ (y : ℕ). y + n) (sym z)) in sym (turn.others v apart) ∙ room v e
+              in let to_q : u < q.next + n =
+              elim turn.next [ inl e ↦ omega (arith, e) | inr e ↦ omega (arith, e.0, e.1) ]
+              in let old_room : IsRoom n u q.cells = λ v e. let apart : t ≢ v = λ z.
+              other (sym e ∙ ap (λ (y : ℕ). y + n) (sym z)) in sym (turn.others v apart) ∙ room v e
               in let old = shown.free u from_q to_q old_room
-              in (words_else (u % n) places_apart ∙ old.0, homes_else (u % n) places_apart ∙ old.1 ∙ ap (λ (z : S). some (some z)) (sym (spare_else u other)))
+              in (
+                turned.words_else (u % n) places_apart ∙ old.0,
+                turned.homes_else (u % n) places_apart ∙ old.1
+                    ∙ ap (λ (z : S). some (some z)) (sym (turned.spare_else u other)),
+              )
         ];
   }
 
-  pub shown_on : (n : ℕ) (q : Queue T) (h h' : List (Entry T N)) (words : List ℕ) (homes : List (Option S)) → ((u : ℕ) → spare n h' u ≡ spare n h u) → Shown put spare n h q words homes → Shown put spare n h' q words homes
+  pub shown_on : (n : ℕ) (q : Queue T) (h h' : List (Entry T N)) (words : List ℕ) (homes : List (Option S))
+      → ((u : ℕ) → spare n h' u ≡ spare n h u) → Shown put spare n h q words homes → Shown put spare n h' q words homes
   shown_on n q h h' words homes same shown = record {
     wide = shown.wide;
     places = shown.places;
-    tail = shown.tail;
-    head = shown.head;
+    next = shown.next;
+    front = shown.front;
     bounded = shown.bounded;
     cells = shown.cells;
-    free = λ u from to room. let old = shown.free u from to room in (old.0, old.1 ∙ ap (λ (z : S). some (some z)) (sym (same u)));
+    free = λ u from to room. let old = shown.free u from to room in
+        (old.0, old.1 ∙ ap (λ (z : S). some (some z)) (sym (same u)));
   }

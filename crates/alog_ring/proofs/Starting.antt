@@ -1,8 +1,7 @@
 -- An empty ring keeps the rule.
-use Rattle.std.proofs.Common.{◌≡◌, ◌≢◌, ℕ, zero, suc, ◌+◌, ◌-◌, ◌*◌, ◌/◌, ◌%◌, ◌^◌, ◌<◌, ◌≤◌, None, List, [], ◌∷◌, set, length, get_or, map, replicate, max, bit_and, refl, sym, ap, subst, ◌∙◌, inl, inr, arith, get_or-set_other, get_or-set_same, mod-lt}
-use Rattle.std.proofs.Math.Nat.{one-le-pow, pow-le-pow_right}
-use Rattle.std.proofs.lemmas.Bool.Decides.{leb_tells}
-use Rattle.std.proofs.lemmas.Grind.{pow_more}
+use Rattle.std.proofs.Common.{◌≡◌, ◌≢◌, ℕ, zero, suc, ◌+◌, ◌-◌, ◌%◌, ◌^◌, ◌<◌, ◌≤◌, None, List, [], ◌∷◌, set, length}
+use Rattle.std.proofs.Common.{get_or, map, replicate, bit_and, refl, sym, ap, subst, ◌∙◌, inl, inr, arith, get_or-set_other}
+use Rattle.std.proofs.Common.{get_or-set_same, mod-lt}
 use Rattle.std.proofs.lemmas.Nat.{and_mask}
 use Rattle.std.specs.Int.{IsPowerOfTwo}
 use mathlib.Core.Option as maybe
@@ -10,27 +9,15 @@ use lib.ListN.{get_elem?}
 use Rattle.atomic_table.specs.Table.{opening}
 use Rattle.alog_core.specs.Queue.{last, start}
 use Rattle.alog_core.proofs.Histories.{stands_start}
-use Rattle.alog_ring.specs.Sight.{Sight, first_sight, AreDistinct}
-use Rattle.alog_ring.specs.Rule.{seq_of, word_count, Knows, HasAccounts, Ruled}
+use Rattle.alog_ring.specs.Known.{AreDistinct}
 use Rattle.alog_ring.specs.Kinds.{no_note, some_value, no_value}
-use Rattle.alog_ring.specs.Calls.{AreFirstWords, Masks}
+use Rattle.alog_ring.specs.Sight.{Sight, first_sight}
+use Rattle.alog_ring.specs.Rule.{seq_of, word_count, Knows, HasEntries, Ruled}
+use Rattle.alog_ring.specs.Board.{AreFirstWords, Masks}
 use Rattle.alog_ring.proofs.Lists.{same_or_not, prefix_same}
 use Rattle.alog_ring.proofs.Showing.{near_apart}
 
--- the least power of two from a power of two on is that one
-pub next_is_itself : (n p : ℕ) → IsPowerOfTwo n → IsPowerOfTwo p → n ≤ p → p / 2 < max 1 n → p ≡ n
-next_is_itself n p power other above half =
-    let k : ℕ = power.0
-    in let j : ℕ = other.0
-    in let positive : 1 ≤ 2 ^ k = one-le-pow k 2 (omega arith)
-    in elim (leb_tells j k) [
-      | inl le ↦ let small : 2 ^ j ≤ 2 ^ k = pow-le-pow_right (omega arith) le.1 in omega (arith, power.1, other.1)
-      | inr lt ↦
-          let big : 2 ^ (k + 1) ≤ 2 ^ j = pow-le-pow_right (omega arith) (omega (arith, lt.1))
-          in let twice : 2 ^ (k + 1) ≡ 2 ^ k * 2 = pow_more 2 k
-          in absurd (omega (arith, power.1, other.1))
-    ]
-
+-- what the mask of a power of two keeps is the remainder
 pub masks : (n mask : ℕ) → IsPowerOfTwo n → mask ≡ n - 1 → n ≡ mask + 1 → Masks mask
 masks n mask power is up t =
     let P : ℕ → ℕ → Type 0 = λ m k. bit_and t m ≡ t % k
@@ -42,19 +29,22 @@ masks n mask power is up t =
     in subst S up (subst R (sym is) at_n)
 
 -- a sequence is written: the others stay
-pub words_more : (n f t : ℕ) (row : List ℕ) → 2 ≤ n → f ≤ t → t < f + n → length row ≡ word_count n → ((u : ℕ) → f ≤ u → u < t → get_or row (seq_of n u) 0 ≡ u)
+pub words_more : (n f t : ℕ) (row : List ℕ) → 2 ≤ n → f ≤ t → t < f + n → length row ≡ word_count n
+    → ((u : ℕ) → f ≤ u → u < t → get_or row (seq_of n u) 0 ≡ u)
     → (u : ℕ) → f ≤ u → u < t + 1 → get_or (set row (seq_of n t) t) (seq_of n u) 0 ≡ u
 words_more n f t row two low high wide before u from to =
     let some : 0 < n = omega arith
     in let place : t % n < n = mod-lt t some
     in elim (same_or_not t u) [
-      | inl same ↦ let P : ℕ → Type 0 = λ z. get_or (set row (seq_of n t) t) (seq_of n z) 0 ≡ z in subst P same (get_or-set_same row (seq_of n t) t 0 (omega arith))
+      | inl same ↦ let P : ℕ → Type 0 = λ z. get_or (set row (seq_of n t) t) (seq_of n z) 0 ≡ z in
+          subst P same (get_or-set_same row (seq_of n t) t 0 (omega arith))
       | inr other ↦
           let apart : u % n ≢ t % n = near_apart n t u other (omega arith) (omega arith)
           in get_or-set_other row (seq_of n t) (seq_of n u) t 0 (λ e. apart (omega arith)) ∙ before u from (omega arith)
     ]
 
-same_place : {A : Type 0} (x : A) (n i : ℕ) → i < n → get_elem? (map maybe.some (replicate n x)) i ≡ maybe.some (maybe.some x)
+same_place : {A : Type 0} (x : A) (n i : ℕ) → i < n
+    → get_elem? (map maybe.some (replicate n x)) i ≡ maybe.some (maybe.some x)
 same_place x zero i low = absurd (omega arith)
 same_place x (suc n) zero low = refl
 same_place x (suc n) (suc i) low = same_place x n i (omega arith)
@@ -63,9 +53,11 @@ all_places : {A : Type 0} (x : A) (n : ℕ) → length (map maybe.some (replicat
 all_places x zero = refl
 all_places x (suc n) = ap suc (all_places x n)
 
-pub starts : {T : Type 0} (n f : ℕ) (words : List ℕ) → 2 ≤ n → f < last → AreFirstWords n f words → Ruled {T = T} some_value no_value n f (opening words (replicate n None) (first_sight n f))
+pub starts : {T : Type 0} (n f : ℕ) (words : List ℕ) → 2 ≤ n → f < last → AreFirstWords n f words
+    → Ruled {T = T} some_value no_value n f (opening words (replicate n None) (first_sight n f))
 starts {T} n f words two low are =
-    let one : (a : ℕ) (v : Sight T no_note) → get_elem? (first_sight {T = T} {N = no_note} n f ∷ []) a ≡ maybe.some v → (a ≡ 0) × (first_sight n f ≡ v) = only
+    let one : (a : ℕ) (v : Sight T no_note) → get_elem? (first_sight {T = T} {N = no_note} n f ∷ []) a ≡ maybe.some v
+    → (a ≡ 0) × (first_sight n f ≡ v) = only
     in record {
       history = [];
       queue = start f;
@@ -74,10 +66,13 @@ starts {T} n f words two low are =
       told = record {
         places = λ a v e _. ap (λ (x : Sight T no_note). x.known.places) (sym (one a v e).1);
         first = λ a v e _. ap (λ (x : Sight T no_note). x.known.first) (sym (one a v e).1);
-        seen = λ a v e. let P : Sight T no_note → Type 0 = λ x. mathlib.Core.List.IsPrefix x.known.seen [] in subst P (one a v e).1 (prefix_same []);
-        accounts = λ a v e _. let P : Sight T no_note → Type 0 = λ x. HasAccounts [] (first_sight n f ∷ []) a x.known in subst P (one a v e).1 (record { own = refl; joined = tt; retired = tt });
+        seen = λ a v e. let P : Sight T no_note → Type 0 = λ x. mathlib.Core.List.IsPrefix x.known.seen [] in
+            subst P (one a v e).1 (prefix_same []);
+        entries = λ a v e _. let P : Sight T no_note → Type 0 = λ x. HasEntries [] (first_sight n f ∷ []) a x.known in
+            subst P (one a v e).1 (record { own = refl; joined = tt; retired = tt });
         without = λ a v e _. inl refl;
-        distinct = λ a v e _. let P : Sight T no_note → Type 0 = λ x. AreDistinct x.known.joined in subst P (one a v e).1 tt;
+        distinct = λ a v e _. let P : Sight T no_note → Type 0 = λ x. AreDistinct x.known.joined in
+            subst P (one a v e).1 tt;
         once = λ a v e _ b w g _ apart c _ _. apart ((one b w g).0 ∙ sym (one a v e).0);
         unborn = λ a _. refl;
         whole = refl;
@@ -93,14 +88,16 @@ starts {T} n f words two low are =
       shown = record {
         wide = are.count;
         places = all_places None n;
-        tail = are.tail;
-        head = are.head;
+        next = are.next;
+        front = are.front;
         bounded = omega arith;
         cells = λ t c has. absurd (cc);
-        free = λ t from to _. (are.sequences t from to, same_place None n (t % n) (mod-lt t (let some : 0 < n = omega arith in some)));
+        free = λ t from to _.
+            (are.sequences t from to, same_place None n (t % n) (mod-lt t (let some : 0 < n = omega arith in some)));
       };
     }
   where
-    only : (a : ℕ) (v : Sight T no_note) → get_elem? (first_sight {T = T} {N = no_note} n f ∷ []) a ≡ maybe.some v → (a ≡ 0) × (first_sight n f ≡ v)
+    only : (a : ℕ) (v : Sight T no_note) → get_elem? (first_sight {T = T} {N = no_note} n f ∷ []) a ≡ maybe.some v
+        → (a ≡ 0) × (first_sight n f ≡ v)
     only zero v e = (refl, maybe.some-injective (first_sight n f) v e)
     only (suc a) v e = absurd (maybe.some-ne-none v (sym e))

@@ -6,16 +6,16 @@ use mathlib.Core.List.{IsPrefix}
 use lib.ListN.{get_elem?}
 use lib.Seq.{set-get_or}
 use Rattle.atomic_table.specs.Table.{State}
-use Rattle.alog_core.specs.Queue.{Queue, Event, Claim, Write, Grab, Take, Full, Empty, PushBusy, PopBusy, Spent, start, Allows, after, IsSound}
+use Rattle.alog_core.specs.Queue.{Queue, Event, Claim, Write, Grab, Take, Full, Empty, PushBusy, PopBusy, Spent, start, Allows}
+use Rattle.alog_core.specs.Queue.{after, IsSound}
 use Rattle.alog_core.specs.History.{Entry, IsLegal, left_by, own_of, StandsFor}
 use Rattle.alog_core.proofs.Cells.{at_same, at_other}
 use Rattle.alog_core.proofs.Histories.{left_by-append, stands_after, stands_sound}
+use Rattle.alog_ring.specs.Made.{AreExact, Made, next_seen, front_seen, entry, Adds}
 use Rattle.alog_ring.specs.Sight.{Stage, Idle, Sight}
-use Rattle.alog_ring.specs.Made.{AreExact, Made, next_seen, front_seen}
 use Rattle.alog_ring.specs.Rule.{IsAtWork, Knows, Staged, Shown, Ruled}
-use Rattle.alog_ring.specs.Plays.{entry, Adds}
 use Rattle.alog_ring.proofs.Lists.{prefix_longer}
-use Rattle.alog_ring.proofs.Telling.{AreOf, grown, grows_now, faithful_now, told_more, accounts_distinct}
+use Rattle.alog_ring.proofs.Telling.{AreOf, grown, grows_now, faithful_now, told_more, members_distinct}
 use Rattle.alog_ring.proofs.Turning.{IsFree, staged_on}
 use Rattle.alog_ring.proofs.Showing.{shown_on}
 
@@ -26,11 +26,14 @@ pub record PlaceKind (S T N : Type 0) : Type 0 where
   pub plain : N → S
   pub blank : N
   pub spare : ℕ → List (Entry T N) → ℕ → S
-  pub stays : (n : ℕ) (h : List (Entry T N)) (x : Entry T N) (t : ℕ) → ((u : ℕ) (y : T) → x.event ≡ Take u y → u + n ≢ t) → spare n (h ++ x ∷ []) t ≡ spare n h t
-  pub comes : (n : ℕ) (h : List (Entry T N)) (x : Entry T N) (u : ℕ) (y : T) → x.event ≡ Take u y → spare n (h ++ x ∷ []) (u + n) ≡ plain x.note
+  pub stays : (n : ℕ) (h : List (Entry T N)) (x : Entry T N) (t : ℕ) → ((u : ℕ) (y : T) → x.event ≡ Take u y → u + n ≢ t)
+      → spare n (h ++ x ∷ []) t ≡ spare n h t
+  pub comes : (n : ℕ) (h : List (Entry T N)) (x : Entry T N) (u : ℕ) (y : T) → x.event ≡ Take u y
+      → spare n (h ++ x ∷ []) (u + n) ≡ plain x.note
 
 -- positions only rise
-pub rises_after : {T : Type 0} (q : Queue T) (a : ℕ) (e : Event T) → (q.next ≤ (after q a e).next) × (q.front ≤ (after q a e).front)
+pub rises_after : {T : Type 0} (q : Queue T) (a : ℕ) (e : Event T) → (q.next ≤ (after q a e).next)
+    × (q.front ≤ (after q a e).front)
 rises_after q a (Claim t x) = (omega arith, omega arith)
 rises_after q a (Write t) = (omega arith, omega arith)
 rises_after q a (Grab t) = (omega arith, omega arith)
@@ -41,17 +44,24 @@ rises_after q a (PushBusy t) = (omega arith, omega arith)
 rises_after q a (PopBusy t) = (omega arith, omega arith)
 rises_after q a Spent = (omega arith, omega arith)
 
-pub rises_left : {T N : Type 0} (q : Queue T) (h : List (Entry T N)) → (q.next ≤ (left_by q h).next) × (q.front ≤ (left_by q h).front)
+pub rises_left : {T N : Type 0} (q : Queue T) (h : List (Entry T N)) → (q.next ≤ (left_by q h).next)
+    × (q.front ≤ (left_by q h).front)
 rises_left q [] = (omega arith, omega arith)
 rises_left q (x ∷ h) =
-    let one : (q.next ≤ (after q x.actor x.event).next) × (q.front ≤ (after q x.actor x.event).front) = rises_after q x.actor x.event
-    in let rest : ((after q x.actor x.event).next ≤ (left_by (after q x.actor x.event) h).next) × ((after q x.actor x.event).front ≤ (left_by (after q x.actor x.event) h).front) = rises_left (after q x.actor x.event) h
+    let one : (q.next ≤ (after q x.actor x.event).next) × (q.front ≤ (after q x.actor x.event).front) =
+    rises_after q x.actor x.event
+    in let rest : ((after q x.actor x.event).next ≤ (left_by (after q x.actor x.event) h).next)
+    × ((after q x.actor x.event).front ≤ (left_by (after q x.actor x.event) h).front) =
+    rises_left (after q x.actor x.event) h
     in (omega (arith, one.0, rest.0), omega (arith, one.1, rest.1))
 
-pub rises_prefix : {T N : Type 0} (f : ℕ) (s h : List (Entry T N)) → IsPrefix s h → ((left_by (start {T = T} f) s).next ≤ (left_by (start {T = T} f) h).next) × ((left_by (start {T = T} f) s).front ≤ (left_by (start {T = T} f) h).front)
+pub rises_prefix : {T N : Type 0} (f : ℕ) (s h : List (Entry T N)) → IsPrefix s h
+    → ((left_by (start {T = T} f) s).next ≤ (left_by (start {T = T} f) h).next)
+    × ((left_by (start {T = T} f) s).front ≤ (left_by (start {T = T} f) h).front)
 rises_prefix {T} f s h p =
     let P : Queue T → Type 0 = λ r. ((left_by (start f) s).next ≤ r.next) × ((left_by (start f) s).front ≤ r.front)
-    in subst P (sym (left_by-append (start f) s p.0) ∙ ap (λ l. left_by (start {T = T} f) l) p.1) (rises_left (left_by (start f) s) p.0)
+    in subst P (sym (left_by-append (start f) s p.0) ∙ ap (λ l. left_by (start {T = T} f) l) p.1)
+    (rises_left (left_by (start f) s) p.0)
 
 -- one entry of an actor
 pub one_of : {T N : Type 0} (a : ℕ) (x : Entry T N) → x.actor ≡ a → AreOf a (x ∷ [])
@@ -63,19 +73,24 @@ one_of a x same = record {
 pub none_of : {T N : Type 0} (a : ℕ) → AreOf {T = T} {N = N} a []
 none_of a = record { all = refl; others = λ b apart. refl }
 
-module _ {S T N : Type 0} (kind : PlaceKind S T N) (n f : ℕ) (s : State S (Sight T N)) (r : Ruled kind.put kind.spare n f s) (a : ℕ) (v : Sight T N) (at : get_elem? s.views a ≡ some v) where
+module _ {S T N : Type 0} (kind : PlaceKind S T N) (n f : ℕ) (s : State S (Sight T N))
+    (r : Ruled kind.put kind.spare n f s) (a : ℕ) (v : Sight T N) (at : get_elem? s.views a ≡ some v) where
   pub sound_now : IsSound n r.queue
   sound_now = stands_sound n f r.history r.queue (let two : 2 ≤ n = r.two in omega arith) r.stands
 
   pub knows_now : (st : Stage T N) → v.stage ≡ st → Knows n r.history r.queue a v.known st
-  knows_now st is = let K : Stage T N → Type 0 = λ z. Knows n r.history r.queue a v.known z in subst K is (r.staged.knows a v at)
+  knows_now st is = let K : Stage T N → Type 0 = λ z. Knows n r.history r.queue a v.known z in
+      subst K is (r.staged.knows a v at)
 
   -- the positions that a pass has seen are behind those of now
   pub seen_behind : 0 < v.known.parts → (next_seen v.known ≤ r.queue.next) × (front_seen v.known ≤ r.queue.front)
   seen_behind live =
-      let P : ℕ → Type 0 = λ z. ((left_by (start {T = T} z) v.known.seen).next ≤ r.queue.next) × ((left_by (start {T = T} z) v.known.seen).front ≤ r.queue.front)
-      in let Q : Queue T → Type 0 = λ z. ((left_by (start f) v.known.seen).next ≤ z.next) × ((left_by (start f) v.known.seen).front ≤ z.front)
-      in subst P (sym (r.told.first a v at live)) (subst Q r.stands.queue (rises_prefix f v.known.seen r.history (r.told.seen a v at)))
+      let P : ℕ → Type 0 = λ z. ((left_by (start {T = T} z) v.known.seen).next ≤ r.queue.next)
+      × ((left_by (start {T = T} z) v.known.seen).front ≤ r.queue.front)
+      in let Q : Queue T → Type 0 = λ z. ((left_by (start f) v.known.seen).next ≤ z.next)
+      × ((left_by (start f) v.known.seen).front ≤ z.front)
+      in subst P (sym (r.told.first a v at live))
+      (subst Q r.stands.queue (rises_prefix f v.known.seen r.history (r.told.seen a v at)))
 
   module _ (work : IsAtWork a v.known) (more : List (Entry T N)) (of : AreOf a more) (stage : Stage T N) where
     abbrev pub stepping : Sight T N
@@ -86,7 +101,8 @@ module _ {S T N : Type 0} (kind : PlaceKind S T N) (n f : ℕ) (s : State S (Sig
         let P : ℕ → Type 0 = λ z. IsLegal z v.known.first (r.history ++ more)
         in let Q : ℕ → Type 0 = λ z. IsLegal n z (r.history ++ more)
         in let R : ℕ → Type 0 = λ z. v.known.own ++ more ≡ own_of z (r.history ++ more)
-        in let now : (v.known.own ++ more ≡ own_of a (r.history ++ more)) × AreExact v.known.joined (r.history ++ more) = faithful_now n f a r.history more s.views v r.told at work.1 of
+        in let now : (v.known.own ++ more ≡ own_of a (r.history ++ more)) × AreExact v.known.joined (r.history ++ more) =
+        faithful_now n f a r.history more s.views v r.told at work.1 of
         in record {
           places = refl;
           first = refl;
@@ -99,11 +115,13 @@ module _ {S T N : Type 0} (kind : PlaceKind S T N) (n f : ℕ) (s : State S (Sig
             legal = subst P (sym (r.told.places a v at work.1)) (subst Q (sym (r.told.first a v at work.1)) stands.legal);
             own = subst R (sym work.0) now.0;
             joined = now.1;
-            distinct = accounts_distinct n f a r.history s.views v r.told at work.1 work.0;
+            distinct = members_distinct n f a r.history s.views v r.told at work.1 work.0;
           };
         }
 
-    pub kept : (q : Queue T) (words : List ℕ) (homes : List (Option S)) → StandsFor n f (r.history ++ more) q → Staged n (r.history ++ more) q (set s.views a stepping) → Shown kind.put kind.spare n (r.history ++ more) q words homes
+    pub kept : (q : Queue T) (words : List ℕ) (homes : List (Option S)) → StandsFor n f (r.history ++ more) q
+        → Staged n (r.history ++ more) q (set s.views a stepping)
+        → Shown kind.put kind.spare n (r.history ++ more) q words homes
         → Ruled kind.put kind.spare n f (record { words = words; homes = homes; views = set s.views a stepping })
     kept q words homes stands staged shown = record {
       history = r.history ++ more;
@@ -116,34 +134,59 @@ module _ {S T N : Type 0} (kind : PlaceKind S T N) (n f : ℕ) (s : State S (Sig
     }
 
     -- a step that changes neither the queue nor a word nor a place
-    pub kept_still : (i : ℕ) → IsFree v.stage → StandsFor n f (r.history ++ more) r.queue → ((t : ℕ) → kind.spare n (r.history ++ more) t ≡ kind.spare n r.history t) → Knows n (r.history ++ more) r.queue a (grown v.known r.history more) stage
-        → Ruled kind.put kind.spare n f (record { words = set s.words i (get_or s.words i 0); homes = s.homes; views = set s.views a stepping })
+    pub kept_still : (i : ℕ) → IsFree v.stage → StandsFor n f (r.history ++ more) r.queue
+        → ((t : ℕ) → kind.spare n (r.history ++ more) t ≡ kind.spare n r.history t)
+        → Knows n (r.history ++ more) r.queue a (grown v.known r.history more) stage
+        → Ruled kind.put kind.spare n f
+        (record { words = set s.words i (get_or s.words i 0); homes = s.homes; views = set s.views a stepping })
     kept_still i free stands same knows =
-        let P : List ℕ → Type 0 = λ ws. Ruled kind.put kind.spare n f (record { words = ws; homes = s.homes; views = set s.views a stepping })
+        let P : List ℕ → Type 0 =
+        λ ws.
+        Ruled kind.put kind.spare n f (record { words = ws; homes = s.homes; views = set s.views a stepping })
         in subst P (sym (set-get_or s.words i 0))
         (kept r.queue s.words s.homes stands
         (staged_on n a r.queue r.history more s.views v stepping sound_now at r.staged knows free)
         (shown_on kind.put kind.spare n r.queue r.history (r.history ++ more) s.words s.homes same r.shown))
 
   -- the seat only looks
-  pub looks : (i : ℕ) → IsAtWork a v.known → IsFree v.stage → (stage : Stage T N) → Knows n (r.history ++ []) r.queue a (grown v.known r.history []) stage
-      → Ruled kind.put kind.spare n f (record { words = set s.words i (get_or s.words i 0); homes = s.homes; views = set s.views a (record { stage = stage; known = grown v.known r.history [] }) }) × Made v.known (grown v.known r.history []) []
+  pub looks : (i : ℕ) → IsAtWork a v.known → IsFree v.stage → (stage : Stage T N)
+      → Knows n (r.history ++ []) r.queue a (grown v.known r.history []) stage
+      → Ruled kind.put kind.spare n f
+      (record {
+        words = set s.words i (get_or s.words i 0);
+        homes = s.homes;
+        views = set s.views a (record { stage = stage; known = grown v.known r.history [] });
+      })
+      × Made v.known (grown v.known r.history []) []
   looks i work free stage knows =
       let P : List (Entry T N) → Type 0 = λ h. StandsFor n f h r.queue
       in let stands : StandsFor n f (r.history ++ []) r.queue = subst P (sym (append-nil r.history)) r.stands
-      in (kept_still work [] (none_of a) stage i free stands (λ t. ap (λ h. kind.spare n h t) (append-nil r.history)) knows, made work [] (none_of a) stage r.queue stands)
+      in (
+        kept_still work [] (none_of a) stage i free stands
+            (λ t. ap (λ h. kind.spare n h t) (append-nil r.history)) knows,
+        made work [] (none_of a) stage r.queue stands,
+      )
 
   -- the seat answers a refusal, which changes nothing
-  pub refuses : (i : ℕ) → IsAtWork a v.known → IsFree v.stage → (e : Event T) → Allows n r.queue a e → after r.queue a e ≡ r.queue → ((u : ℕ) (y : T) → e ≢ Take u y)
-      → Ruled kind.put kind.spare n f (record { words = set s.words i (get_or s.words i 0); homes = s.homes; views = set s.views a (record { stage = Idle; known = grown v.known r.history (entry kind.blank v.known e ∷ []) }) })
+  pub refuses : (i : ℕ) → IsAtWork a v.known → IsFree v.stage → (e : Event T) → Allows n r.queue a e
+      → after r.queue a e ≡ r.queue → ((u : ℕ) (y : T) → e ≢ Take u y)
+      → Ruled kind.put kind.spare n f
+      (record {
+        words = set s.words i (get_or s.words i 0);
+        homes = s.homes;
+        views =
+            set s.views a (record { stage = Idle; known = grown v.known r.history (entry kind.blank v.known e ∷ []) });
+      })
       × Adds kind.blank v.known (grown v.known r.history (entry kind.blank v.known e ∷ [])) e
   refuses i work free e may still no_take =
       let x : Entry T N = entry kind.blank v.known e
       in let P : Queue T → Type 0 = λ q. StandsFor n f (r.history ++ x ∷ []) q
       in let A : ℕ → Type 0 = λ b. Allows n r.queue b e
       in let B : ℕ → Type 0 = λ b. after r.queue b e ≡ r.queue
-      in let stands : StandsFor n f (r.history ++ x ∷ []) r.queue = subst P (subst B (sym work.0) still) (stands_after n f r.history r.queue x r.stands (subst A (sym work.0) may))
+      in let stands : StandsFor n f (r.history ++ x ∷ []) r.queue =
+      subst P (subst B (sym work.0) still) (stands_after n f r.history r.queue x r.stands (subst A (sym work.0) may))
       in (
-        kept_still work (x ∷ []) (one_of a x work.0) Idle i free stands (λ t. kind.stays n r.history x t (λ u y is. absurd (no_take u y is))) work,
+        kept_still work (x ∷ []) (one_of a x work.0) Idle i free stands
+            (λ t. kind.stays n r.history x t (λ u y is. absurd (no_take u y is))) work,
         (made work (x ∷ []) (one_of a x work.0) Idle r.queue stands, (r.history, refl)),
       )

@@ -1,9 +1,12 @@
-pub mod Sight
-pub mod Made
-pub mod Rule
-pub mod Plays
+pub mod Known
 pub mod Kinds
+pub mod Made
 pub mod Calls
 pub mod Refused
-pub mod Parts
 pub mod Waits
+pub mod Share
+pub mod Sight
+pub mod Plays
+pub mod Seats
+pub mod Rule
+pub mod Board

@@ -1,19 +1,11 @@
--- What each step tells the pass that makes it.
+-- What each step tells the seat that makes it.
 use Rattle.std.specs.Prelude.{◌≡◌, ◌≢◌, ℕ, ◌+◌, ◌%◌, ◌<◌, ◌≤◌, List, [], ◌∷◌}
 use mathlib.Core.Option.{some}
 use Rattle.atomic_table.specs.Table.{Me, Step, rest}
 use Rattle.alog_core.specs.Queue.{Event, Claim, Write, Grab, Take, Full, Empty, PushBusy, PopBusy, Spent, last}
 use Rattle.alog_core.specs.History.{Entry}
-use Rattle.alog_ring.specs.Sight.{Known, Stage, Idle, SawTail, SawFree, Writing, SawHead, SawFull, Reading, Sight}
-use Rattle.alog_ring.specs.Made.{Made, EndsWith, next_seen, front_seen}
-
--- an entry of the pass
-abbrev pub entry : {T N : Type 0} → N → Known T N → Event T → Entry T N
-entry note k e = record { actor = k.actor; event = e; note = note }
-
--- the pass made this entry, with which the history that it has seen ends
-abbrev pub Adds : {T N : Type 0} → N → Known T N → Known T N → Event T → Type 0
-Adds note k k' e = Made k k' (entry note k e ∷ []) × EndsWith k' (entry note k e)
+use Rattle.alog_ring.specs.Made.{Made, Adds, next_seen, front_seen}
+use Rattle.alog_ring.specs.Sight.{Stage, Idle, SawNext, SawFree, Writing, SawFront, SawFull, Reading, Sight}
 
 module _ {S T N : Type 0} where
   -- the pass only looked, and stands at this stage
@@ -28,33 +20,38 @@ module _ {S T N : Type 0} where
   abbrev pub Ends : N → Me S (Sight T N) → Me S (Sight T N) → Event T → Type 0
   Ends note m m' e = Acts note m m' e Idle × (m'.1 ≡ m.1)
 
-  -- A push reads the enqueue position,
-  abbrev pub saw_tail : N → Me S (Sight T N) → ℕ → Me S (Sight T N) → Type 0
-  saw_tail blank m r m' = (next_seen m.0.known ≤ r) × (r ≤ last) × (r ≡ last → Ends blank m m' Spent) × (r < last → Looks m m' (SawTail r))
+  -- A push reads the next ticket,
+  abbrev pub saw_next : N → Me S (Sight T N) → ℕ → Me S (Sight T N) → Type 0
+  saw_next blank m r m' = (next_seen m.0.known ≤ r) × (r ≤ last) × (r ≡ last → Ends blank m m' Spent)
+      × (r < last → Looks m m' (SawNext r))
 
   -- reads the sequence of its ticket's place,
   abbrev pub saw_free : N → ℕ → Me S (Sight T N) → ℕ → Me S (Sight T N) → Type 0
-  saw_free blank t m r m' = (r ≡ t → Looks m m' (SawFree t)) × (r < t → Ends blank m m' (Full t)) × (t < r → Ends blank m m' (PushBusy t))
+  saw_free blank t m r m' = (r ≡ t → Looks m m' (SawFree t)) × (r < t → Ends blank m m' (Full t))
+      × (t < r → Ends blank m m' (PushBusy t))
 
-  -- exchanges the enqueue position,
-  abbrev pub claimed : N → (T → S) → (ℕ → List (Entry T N) → ℕ → S) → Step S → Me S (Sight T N) → ℕ → Me S (Sight T N) → Type 0
+  -- exchanges the next ticket,
+  abbrev pub claimed : N → (T → S) → (ℕ → List (Entry T N) → ℕ → S) → Step S → Me S (Sight T N) → ℕ → Me S (Sight T N)
+      → Type 0
   claimed blank put spare st m r m' =
-      (r ≡ st.first → (x : T) × (st.said ≡ some (put x)) × Acts blank m m' (Claim r x) (Writing r x) × (m'.1 ≡ (r % st.slots, spare m'.0.known.places m'.0.known.seen r) ∷ m.1))
+      (r ≡ st.first → (x : T) × (st.said ≡ some (put x)) × Acts blank m m' (Claim r x) (Writing r x)
+      × (m'.1 ≡ (r % st.slots, spare m'.0.known.places m'.0.known.seen r) ∷ m.1))
       × (r ≢ st.first → Ends blank m m' (PushBusy st.first))
 
   -- and stores the sequence.
   abbrev pub wrote : N → ℕ → Me S (Sight T N) → Me S (Sight T N) → Type 0
   wrote blank t m m' = Acts blank m m' (Write t) Idle × (m'.1 ≡ rest m.1)
 
-  -- A pop reads the dequeue position,
-  abbrev pub saw_head : Me S (Sight T N) → ℕ → Me S (Sight T N) → Type 0
-  saw_head m r m' = (front_seen m.0.known ≤ r) × (r ≤ last) × Looks m m' (SawHead r)
+  -- A pop reads the front ticket,
+  abbrev pub saw_front : Me S (Sight T N) → ℕ → Me S (Sight T N) → Type 0
+  saw_front m r m' = (front_seen m.0.known ≤ r) × (r ≤ last) × Looks m m' (SawFront r)
 
   -- reads the sequence of its ticket's place,
   abbrev pub saw_full : N → ℕ → Me S (Sight T N) → ℕ → Me S (Sight T N) → Type 0
-  saw_full blank t m r m' = (r ≡ t + 1 → Looks m m' (SawFull t)) × (r < t + 1 → Ends blank m m' (Empty t)) × (t + 1 < r → Ends blank m m' (PopBusy t))
+  saw_full blank t m r m' = (r ≡ t + 1 → Looks m m' (SawFull t)) × (r < t + 1 → Ends blank m m' (Empty t))
+      × (t + 1 < r → Ends blank m m' (PopBusy t))
 
-  -- exchanges the dequeue position,
+  -- exchanges the front ticket,
   abbrev pub grabbed : N → (T → S) → Step S → Me S (Sight T N) → ℕ → Me S (Sight T N) → Type 0
   grabbed blank put st m r m' =
       (r ≡ st.first → (x : T) × Acts blank m m' (Grab r) (Reading r x) × (m'.1 ≡ (r % st.slots, put x) ∷ m.1))

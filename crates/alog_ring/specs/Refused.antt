@@ -1,9 +1,9 @@
 -- What a refusal of a push and of a pop says: its ticket was read in this round, and it is the pass's one entry.
 use Rattle.std.specs.Prelude.{◌≡◌, ◌≤◌}
 use Rattle.alog_core.specs.Queue as queue
-use Rattle.alog_ring.specs.Sight.{Known}
-use Rattle.alog_ring.specs.Made.{next_seen, front_seen}
+use Rattle.alog_ring.specs.Known.{Known}
 use Rattle.alog_ring.specs.Kinds.{no_note}
+use Rattle.alog_ring.specs.Made.{next_seen, front_seen}
 use Rattle.alog_ring.specs.Calls.{Answered}
 use Rattle.alog_ring.specs.declared.push.PushError.{PushError}
 use Rattle.alog_ring.specs.declared.push.PushError.TheVariants.{Full, Busy, Spent}
@@ -13,7 +13,8 @@ use Rattle.alog_ring.specs.declared.pop.PopError.TheVariants as pop
 -- the value comes back
 abbrev pub PushRefused : {T : Type 0} → Known T no_note → Known T no_note → T → PushError T → Type 0
 PushRefused old new value (Full back next) = (back ≡ value) × (next_seen old ≤ next) × Answered old new (queue.Full next)
-PushRefused old new value (Busy back seen) = (back ≡ value) × (next_seen old ≤ seen) × Answered old new (queue.PushBusy seen)
+PushRefused old new value (Busy back seen) = (back ≡ value) × (next_seen old ≤ seen)
+    × Answered old new (queue.PushBusy seen)
 PushRefused old new value (Spent back) = (back ≡ value) × Answered old new queue.Spent
 
 abbrev pub PopRefused : {T : Type 0} → Known T no_note → Known T no_note → PopError → Type 0

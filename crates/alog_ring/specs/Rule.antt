@@ -10,15 +10,19 @@ use Rattle.alog_core.specs.declared.mark.Mark.{Mark}
 use Rattle.alog_core.specs.declared.mark.Mark.TheVariants.{Claimed, Written, Emptying}
 use Rattle.alog_core.specs.Queue.{Cell, Queue, last, cell_of, HasCell, IsRoom, IsWritten}
 use Rattle.alog_core.specs.History.{Entry, own_of, StandsFor}
-use Rattle.alog_ring.specs.Sight.{Account, Known, Stage, Idle, Fresh, SawTail, SawFree, Writing, SawHead, SawFull, Reading, Joined, Lent, Gone, Sight, all_parts, IsAmong, AreDistinct}
+use Rattle.alog_ring.specs.declared.words.TheConstants.{NEXT, FRONT, SEQUENCES, APART}
+use Rattle.alog_ring.specs.declared.TheConstants.{ALL_PARTS}
+use Rattle.alog_ring.specs.Known.{Member, Known, IsAmong, AreDistinct}
 use Rattle.alog_ring.specs.Made.{AreExact}
+use Rattle.alog_ring.specs.Sight.{Stage, Idle, Fresh, SawNext, SawFree, Writing, SawFront, SawFull, Reading, Joined, Lent, Gone}
+use Rattle.alog_ring.specs.Sight.{Sight}
 
--- The positions and the first sequence lie on lines of their own, and the sequences 64 bytes apart.
+-- where the sequence of a ticket's place lies, and how many words there are
 abbrev pub seq_of : ℕ → ℕ → ℕ
-seq_of n t = t % n * 8 + 48
+seq_of n t = t % n * APART + SEQUENCES
 
 abbrev pub word_count : ℕ → ℕ
-word_count n = n * 8 + 48
+word_count n = n * APART + SEQUENCES
 
 module _ {T N : Type 0} where
   abbrev pub parts_of : Sight T N → ℕ
@@ -30,25 +34,29 @@ module _ {T N : Type 0} where
 
   -- the actor was joined into a pass that has parts
   abbrev pub IsTakenIn : List (Sight T N) → ℕ → Type 0
-  IsTakenIn views a = (j : ℕ) × (u : Sight T N) × (get_elem? views j ≡ some u) × (0 < u.known.parts) × IsAmong a u.known.joined
+  IsTakenIn views a = (j : ℕ) × (u : Sight T N) × (get_elem? views j ≡ some u) × (0 < u.known.parts)
+      × IsAmong a u.known.joined
 
-  -- a seat with parts has exactly its own entries of the history, and those of the seats joined into it
-  pub record HasAccounts (h : List (Entry T N)) (views : List (Sight T N)) (a : ℕ) (k : Known T N) : Type 0 where
+  -- a seat with parts has exactly its own entries of the history, and those of its members
+  pub record HasEntries (h : List (Entry T N)) (views : List (Sight T N)) (a : ℕ) (k : Known T N) : Type 0 where
     pub own : k.own ≡ own_of a h
     pub joined : AreExact k.joined h
-    pub retired : AllByRecursion (λ (c : Account T N). IsRetired views c.actor) k.joined
+    pub retired : AllByRecursion (λ (c : Member T N). IsRetired views c.actor) k.joined
 
   -- The history against the views.
   pub record Told (n f : ℕ) (h : List (Entry T N)) (views : List (Sight T N)) : Type 0 where
     pub places : (a : ℕ) (v : Sight T N) → get_elem? views a ≡ some v → 0 < v.known.parts → v.known.places ≡ n
     pub first : (a : ℕ) (v : Sight T N) → get_elem? views a ≡ some v → 0 < v.known.parts → v.known.first ≡ f
     pub seen : (a : ℕ) (v : Sight T N) → get_elem? views a ≡ some v → IsPrefix v.known.seen h
-    pub accounts : (a : ℕ) (v : Sight T N) → get_elem? views a ≡ some v → 0 < v.known.parts → HasAccounts h views a v.known
-    pub without : (a : ℕ) (v : Sight T N) → get_elem? views a ≡ some v → v.known.parts ≡ 0 → (own_of a h ≡ []) ⊎ IsTakenIn views a
+    pub entries : (a : ℕ) (v : Sight T N) → get_elem? views a ≡ some v → 0 < v.known.parts → HasEntries h views a v.known
+    pub without : (a : ℕ) (v : Sight T N) → get_elem? views a ≡ some v → v.known.parts ≡ 0
+        → (own_of a h ≡ []) ⊎ IsTakenIn views a
     pub distinct : (a : ℕ) (v : Sight T N) → get_elem? views a ≡ some v → 0 < v.known.parts → AreDistinct v.known.joined
-    pub once : (a : ℕ) (v : Sight T N) → get_elem? views a ≡ some v → 0 < v.known.parts → (b : ℕ) (w : Sight T N) → get_elem? views b ≡ some w → 0 < w.known.parts → b ≢ a → (c : ℕ) → IsAmong c v.known.joined → ¬ IsAmong c w.known.joined
+    pub once : (a : ℕ) (v : Sight T N) → get_elem? views a ≡ some v → 0 < v.known.parts → (b : ℕ) (w : Sight T N)
+        → get_elem? views b ≡ some w → 0 < w.known.parts → b ≢ a → (c : ℕ) → IsAmong c v.known.joined
+        → ¬ IsAmong c w.known.joined
     pub unborn : (a : ℕ) → length views ≤ a → own_of a h ≡ []
-    pub whole : sum_by parts_of views ≡ all_parts
+    pub whole : sum_by parts_of views ≡ ALL_PARTS
 
   abbrev pub IsAtWork : ℕ → Known T N → Type 0
   IsAtWork a k = (k.actor ≡ a) × (0 < k.parts)
@@ -57,10 +65,10 @@ module _ {T N : Type 0} where
   abbrev pub Knows : ℕ → List (Entry T N) → Queue T → ℕ → Known T N → Stage T N → Type 0
   Knows n h q a k Idle = IsAtWork a k
   Knows n h q a k Fresh = Unit {0}
-  Knows n h q a k (SawTail t) = IsAtWork a k × (t ≤ q.next)
+  Knows n h q a k (SawNext t) = IsAtWork a k × (t ≤ q.next)
   Knows n h q a k (SawFree t) = IsAtWork a k × (t ≤ q.next) × IsRoom n t q.cells
   Knows n h q a k (Writing t x) = IsAtWork a k × HasCell q.cells t Claimed x a
-  Knows n h q a k (SawHead t) = IsAtWork a k × (t ≤ q.front)
+  Knows n h q a k (SawFront t) = IsAtWork a k × (t ≤ q.front)
   Knows n h q a k (SawFull t) = IsAtWork a k × (t ≤ q.front) × (q.front ≤ t → IsWritten t q.cells)
   Knows n h q a k (Reading t x) = IsAtWork a k × HasCell q.cells t Emptying x a
   Knows n h q a k (Joined s) = IsAtWork a k × IsPrefix s h
@@ -70,8 +78,10 @@ module _ {T N : Type 0} where
   -- The queue against the stages: and whoever has a cell is at work on it.
   pub record Staged (n : ℕ) (h : List (Entry T N)) (q : Queue T) (views : List (Sight T N)) : Type 0 where
     pub knows : (a : ℕ) (v : Sight T N) → get_elem? views a ≡ some v → Knows n h q a v.known v.stage
-    pub writers : (t : ℕ) (x : T) (a : ℕ) → HasCell q.cells t Claimed x a → (v : Sight T N) × (get_elem? views a ≡ some v) × (v.stage ≡ Writing t x)
-    pub readers : (t : ℕ) (x : T) (a : ℕ) → HasCell q.cells t Emptying x a → (v : Sight T N) × (get_elem? views a ≡ some v) × (v.stage ≡ Reading t x)
+    pub writers : (t : ℕ) (x : T) (a : ℕ) → HasCell q.cells t Claimed x a → (v : Sight T N) × (get_elem? views a ≡ some v)
+        × (v.stage ≡ Writing t x)
+    pub readers : (t : ℕ) (x : T) (a : ℕ) → HasCell q.cells t Emptying x a → (v : Sight T N) × (get_elem? views a ≡ some v)
+        × (v.stage ≡ Reading t x)
 
 module _ {S T N : Type 0} (put : T → S) (spare : ℕ → List (Entry T N) → ℕ → S) where
   -- the sequence of a ticket's place, and the value that lies there, which is out while a cell is claimed or emptied
@@ -84,11 +94,13 @@ module _ {S T N : Type 0} (put : T → S) (spare : ℕ → List (Entry T N) → 
   pub record Shown (n : ℕ) (h : List (Entry T N)) (q : Queue T) (words : List ℕ) (homes : List (Option S)) : Type 0 where
     pub wide : length words ≡ word_count n
     pub places : length homes ≡ n
-    pub tail : slice_index words 16 ≡ q.next
-    pub head : slice_index words 32 ≡ q.front
+    pub next : slice_index words NEXT ≡ q.next
+    pub front : slice_index words FRONT ≡ q.front
     pub bounded : q.next ≤ last
-    pub cells : (t : ℕ) (c : Cell T) → cell_of t q.cells ≡ Some c → ShowsCell t (slice_index words (seq_of n t)) (get_elem? homes (t % n)) c.item c.mark
-    pub free : (t : ℕ) → q.next ≤ t → t < q.next + n → IsRoom n t q.cells → (slice_index words (seq_of n t) ≡ t) × (get_elem? homes (t % n) ≡ some (some (spare n h t)))
+    pub cells : (t : ℕ) (c : Cell T) → cell_of t q.cells ≡ Some c
+        → ShowsCell t (slice_index words (seq_of n t)) (get_elem? homes (t % n)) c.item c.mark
+    pub free : (t : ℕ) → q.next ≤ t → t < q.next + n → IsRoom n t q.cells → (slice_index words (seq_of n t) ≡ t)
+        × (get_elem? homes (t % n) ≡ some (some (spare n h t)))
 
   -- The rule of a ring of n places with first ticket f.
   pub record Ruled (n f : ℕ) (s : State S (Sight T N)) : Type 0 where

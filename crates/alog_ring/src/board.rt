@@ -1,29 +1,18 @@
 //! The table of a ring, and the steps of a push and of a pop on it.
-ghost use Rattle.std.specs.Prelude.{◌≡◌, ℕ, ◌+◌, ◌%◌, ◌<◌, ◌≤◌, [], IfOk, MatchOption, MatchResult};
+ghost use Rattle.std.specs.Prelude.{◌≡◌, ℕ, ◌+◌, ◌%◌, ◌<◌, ◌≤◌, [], true, IfOk, MatchOption, MatchResult};
 ghost use Rattle.alog_core.specs.Queue.{last, PushBusy, PopBusy};
-ghost use Rattle.alog_ring.specs.Sight.{first_sight, Idle, SawTail, SawFree, SawHead, SawFull};
+ghost use Rattle.alog_core.specs.World.{is_size};
+ghost use Rattle.alog_core.specs.declared.TheConstants.{MOST_PLACES};
+ghost use Rattle.alog_ring.specs.Sight.{first_sight, Idle, SawNext, SawFree, SawFront, SawFull};
+ghost use Rattle.alog_ring.specs.Plays.{saw_next, saw_free, saw_front, saw_full, Ends};
 ghost use Rattle.alog_ring.specs.Rule.{word_count};
-ghost use Rattle.alog_ring.specs.Plays.{saw_tail, saw_free, saw_head, saw_full, Ends};
-ghost use Rattle.alog_ring.specs.Calls.{IsSize, AreFirstWords, Masks, Fills, Empties};
+ghost use Rattle.alog_ring.specs.Board.{AreFirstWords, Masks, Fills, Empties};
 
-use crate::plays::{Claims, Grabs, SeeFree, SeeFull, SeeHead, SeeTail, Takes, Writes};
+use crate::plays::{Claims, Grabs, SeeFree, SeeFront, SeeFull, SeeNext, Takes, Writes};
 use crate::view::{Law, Shape, View};
+use crate::words::{APART, FRONT, NEXT, SEQUENCES};
 use atomic_table::{Seat, Table};
 use std::alloc::{AllocError, Global};
-
-/// The word of the enqueue position: from it the next ticket is claimed.
-pub(crate) const TAIL: usize = 16;
-
-/// The word of the dequeue position: from it the front ticket is grabbed.
-pub(crate) const HEAD: usize = 32;
-
-/// The word of the first place's sequence. Each further one lies `APART` words on, on a cache line of its own.
-const SEQUENCES: usize = 48;
-
-const APART: usize = 8;
-
-/// No ticket is as large.
-pub(crate) const LAST: u64 = 1 << 62;
 
 /// A place of the board, and what it waits for: a sequence that is the ticket means that the place is free for the
 /// ticket, one more that its item is written there.
@@ -31,12 +20,13 @@ pub(crate) const LAST: u64 = 1 << 62;
 pub(crate) struct Board<T> {
     pub(crate) table: Table<Option<T>, View<T, ()>, Shape, Law, Global>,
     pub(crate) mask: u64,
-    ghost sized: { (table.shared.table_id.words ≡ word_count (mask + 1)) × (table.shared.table_id.slots ≡ mask + 1) × (table.shared.key.places ≡ mask + 1) × (mask < 65536) × Masks mask },
+    ghost sized: { (table.shared.table_id.words ≡ word_count (mask + 1)) × (table.shared.table_id.slots ≡ mask + 1)
+        × (table.shared.key.places ≡ mask + 1) × (mask < MOST_PLACES) × Masks mask },
 }
 
 /// The words of an empty ring.
 fn first_words(alloc: Global, places: usize, first: u64) -> Result<Vec<u64>, AllocError>
-    requires size { IsSize places }
+    requires size { is_size places ≡ true }
     requires first { first < last }
     ensures { IfOk result (λ v. AreFirstWords places first v.items) }
 {
@@ -55,7 +45,7 @@ impl<T> Board<T> {
         places: usize,
         first: u64,
     ) -> Result<(Board<T>, Seat<Option<T>, View<T, ()>>), AllocError>
-        requires size { IsSize places }
+        requires size { is_size places ≡ true }
         requires first { first < last }
         ensures board { IfOk result (λ r. (r.0.mask + 1 ≡ places) × (r.0.table.shared.key.first ≡ first)) }
         ensures seat { IfOk result (λ r. (r.1.table_id ≡ r.0.table.shared.table_id) × (r.1.me ≡ (first_sight places first, []))) }
@@ -78,18 +68,18 @@ impl<T> Board<T> {
         (ticket & self.mask) as usize
     }
 
-    pub(crate) fn see_tail(&self, seat: &mut Seat<Option<T>, View<T, ()>>) -> u64
+    pub(crate) fn see_next(&self, seat: &mut Seat<Option<T>, View<T, ()>>) -> u64
         requires table { seat.old.table_id ≡ self.now.table.shared.table_id }
         requires stage { seat.old.me.0.stage ≡ Idle }
         ensures table { seat.new.table_id ≡ seat.old.table_id }
-        ensures tail { saw_tail tt seat.old.me result seat.new.me }
+        ensures next { saw_next tt seat.old.me result seat.new.me }
     {
-        self.table.shared.load::<SeeTail>(seat, TAIL)
+        self.table.shared.load::<SeeNext>(seat, NEXT)
     }
 
     pub(crate) fn see_free(&self, seat: &mut Seat<Option<T>, View<T, ()>>, ticket: u64) -> u64
         requires table { seat.old.table_id ≡ self.now.table.shared.table_id }
-        requires stage { seat.old.me.0.stage ≡ SawTail ticket }
+        requires stage { seat.old.me.0.stage ≡ SawNext ticket }
         ensures table { seat.new.table_id ≡ seat.old.table_id }
         ensures sequence { saw_free tt ticket seat.old.me result seat.new.me }
     {
@@ -109,12 +99,13 @@ impl<T> Board<T> {
         requires stage { seat.old.me.0.stage ≡ SawFree ticket }
         requires below { ticket < last }
         ensures table { seat.new.table_id ≡ seat.old.table_id }
-        ensures told { MatchResult result (λ _. Fills seat.old.me seat.new.me ticket value) (λ back. (back ≡ value) × Ends tt seat.old.me seat.new.me (PushBusy ticket)) }
+        ensures told { MatchResult result (λ _. Fills seat.old.me seat.new.me ticket value)
+            (λ back. (back ≡ value) × Ends tt seat.old.me seat.new.me (PushBusy ticket)) }
     {
         let words = &self.table.shared;
         let place = self.place_of(ticket);
         let item = Some(value);
-        let found = words.compare_exchange_with::<Claims>(seat, TAIL, ticket, ticket + 1, &item);
+        let found = words.compare_exchange_with::<Claims>(seat, NEXT, ticket, ticket + 1, &item);
         if found != ticket {
             return Err(item.unwrap());
         }
@@ -126,18 +117,18 @@ impl<T> Board<T> {
         Ok(())
     }
 
-    pub(crate) fn see_head(&self, seat: &mut Seat<Option<T>, View<T, ()>>) -> u64
+    pub(crate) fn see_front(&self, seat: &mut Seat<Option<T>, View<T, ()>>) -> u64
         requires table { seat.old.table_id ≡ self.now.table.shared.table_id }
         requires stage { seat.old.me.0.stage ≡ Idle }
         ensures table { seat.new.table_id ≡ seat.old.table_id }
-        ensures head { saw_head seat.old.me result seat.new.me }
+        ensures front { saw_front seat.old.me result seat.new.me }
     {
-        self.table.shared.load::<SeeHead>(seat, HEAD)
+        self.table.shared.load::<SeeFront>(seat, FRONT)
     }
 
     pub(crate) fn see_full(&self, seat: &mut Seat<Option<T>, View<T, ()>>, ticket: u64) -> u64
         requires table { seat.old.table_id ≡ self.now.table.shared.table_id }
-        requires stage { seat.old.me.0.stage ≡ SawHead ticket }
+        requires stage { seat.old.me.0.stage ≡ SawFront ticket }
         ensures table { seat.new.table_id ≡ seat.old.table_id }
         ensures sequence { saw_full tt ticket seat.old.me result seat.new.me }
     {
@@ -156,12 +147,13 @@ impl<T> Board<T> {
         requires stage { seat.old.me.0.stage ≡ SawFull ticket }
         requires below { ticket ≤ last }
         ensures table { seat.new.table_id ≡ seat.old.table_id }
-        ensures told { MatchOption result (Ends tt seat.old.me seat.new.me (PopBusy ticket)) (λ x. Empties seat.old.me seat.new.me ticket x) }
+        ensures told { MatchOption result (Ends tt seat.old.me seat.new.me (PopBusy ticket))
+            (λ x. Empties seat.old.me seat.new.me ticket x) }
     {
         let words = &self.table.shared;
         let place = self.place_of(ticket);
         let nothing: Option<T> = None;
-        let found = words.compare_exchange_with::<Grabs>(seat, HEAD, ticket, ticket + 1, &nothing);
+        let found = words.compare_exchange_with::<Grabs>(seat, FRONT, ticket, ticket + 1, &nothing);
         if found != ticket {
             return nothing;
         }

@@ -1,20 +1,25 @@
 //! The end of a ring.
-ghost use Rattle.std.specs.Prelude.{◌≡◌, ◌+◌, ◌<◌, ◌≤◌, ◌^◌, ◌↔◌, [], List, map, IsOk, IfOk, IfErr, vec_capacity};
+ghost use Rattle.std.specs.Prelude.{◌≡◌, ◌+◌, ◌<◌, ◌≤◌, ◌↔◌, [], List, map, IsOk, IfOk, IfErr, vec_capacity};
 ghost use Rattle.std.specs.Mem.Slots.{slots_items, slots_len, IsFull};
-ghost use Rattle.alog_core.specs.Queue.{Cell};
-ghost use Rattle.alog_ring.specs.Sight.{Idle, all_parts};
-ghost use Rattle.alog_ring.specs.Calls.{IsPassOf, Closes, LieIn, Masks, ticket_and_item};
+ghost use Rattle.alog_core.specs.Queue.{Cell, last};
+ghost use Rattle.alog_core.specs.declared.TheConstants.{MOST_PLACES};
+ghost use Rattle.alog_ring.specs.Known.{IsPassOf};
+ghost use Rattle.alog_ring.specs.Share.{Closes, ticket_and_item};
+ghost use Rattle.alog_ring.specs.Sight.{Idle};
+ghost use Rattle.alog_ring.specs.Board.{Leaves, LieIn, Masks};
 
-use crate::board::{Board, HEAD};
-use crate::pass::{ALL_PARTS, Pass};
+use crate::ALL_PARTS;
+use crate::board::Board;
+use crate::pass::Pass;
 use crate::ring::Ring;
 use crate::view::View;
+use crate::words::FRONT;
 use atomic_table::{Closed, Seat};
 use std::alloc::Global;
 use std::fmt;
 use thiserror::Error;
 
-/// The pass has not all parts. Ring and pass come back.
+/// A ring was not closed, since the pass has not all parts. Ring and pass come back. The test `a_ring_of_two` shows it.
 #[derive(Debug, Drop, Error)]
 #[error("not all passes are here")]
 pub struct PassesOut<T> {
@@ -30,7 +35,7 @@ fn take_out<T>(
     mask: u64,
 ) -> Vec<(u64, T)>
     requires places { IsFull closed.slots × (slots_len closed.slots ≡ mask + 1) }
-    requires sizes { (mask < 65536) × (first ≤ 2 ^ 62) × Masks mask }
+    requires sizes { (mask < MOST_PLACES) × (first ≤ last) × Masks mask }
     requires room { (left.items ≡ []) × (mask + 1 ≤ vec_capacity left) }
     ensures { (cells : List (Cell T)) → LieIn (slots_items closed.slots) first (mask + 1) cells → result.items ≡ map ticket_and_item cells }
 {
@@ -49,23 +54,26 @@ impl<T> Board<T> {
     fn close(self, seat: Seat<Option<T>, View<T, ()>>, left: Vec<(u64, T)>) -> Vec<(u64, T)>
         requires table { seat.table_id ≡ self.table.shared.table_id }
         requires stage { seat.me.0.stage ≡ Idle }
-        requires all { seat.me.0.known.parts ≡ all_parts }
+        requires all { seat.me.0.known.parts ≡ ALL_PARTS }
         requires room { (left.items ≡ []) × (self.mask + 1 ≤ vec_capacity left) }
-        ensures { Closes seat.me.0.known result.items }
+        ensures { Leaves seat.me.0.known result.items }
     {
         let Board { table, mask } = self;
         let closed = table.close_with(seat);
-        let first = closed.word(HEAD);
+        let first = closed.word(FRONT);
         take_out(closed, left, first, mask)
     }
 }
 
 impl<T> Ring<T> {
-    /// What is left in the ring, each value with its ticket, in ticket order: where the pass has all parts. It takes no
-    /// memory.
+    /// Ends the ring, where the pass has all parts, and answers what is left in it: each value with its ticket, in ticket
+    /// order. It takes no memory.
+    ///
+    /// The history that the pass has seen is the whole one then, and what it leaves is what is answered. The test
+    /// `a_lone_pass_closes_what_it_made` shows it.
     pub fn close(self, pass: Pass<T>) -> Result<Vec<(u64, T)>, PassesOut<T>>
         requires { IsPassOf self pass }
-        ensures whole { IsOk result ↔ (pass.known.parts ≡ all_parts) }
+        ensures parts { IsOk result ↔ (pass.known.parts ≡ ALL_PARTS) }
         ensures left { IfOk result (λ v. Closes pass.known v.items) }
         ensures out { IfErr result (λ e. (e.ring ≡ self) × (e.pass ≡ pass)) }
     {

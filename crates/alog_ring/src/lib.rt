@@ -1,14 +1,15 @@
-//! The running ring: a bounded queue for any number of threads that push and pop, without a lock.
+//! The running ring: a bounded queue by which any number of threads hand values to each other, without a lock.
 //!
-//! Its rule is that of Dmitry Vyukov's bounded queue for many producers and many consumers (1024cores.net). Contracts
-//! see no word and no place of it. They speak of the queue of `alog_core`: there is one history of claims, writes,
-//! grabs, takes and refusals for all threads. A `Pass`, with which a thread works, has seen a beginning of it, which is
-//! legal, and knows which entries in it are its own: exactly those that its calls made.
+//! `Ring::new` gives a ring and its first `Pass`, `split` a pass for each further thread, and a thread pushes and pops
+//! with its own. A *round* reads a position, looks at its place and exchanges the position, and is busy where another
+//! thread was faster: `push_once` and `pop_once` make one round, `push` and `pop` go on until one is not busy. The test
+//! `two_threads_share_a_ring` is a program that uses it. The rule is Dmitry Vyukov's (1024cores.net).
 //!
-//! Read `ring.rt` (a ring and its first pass), `pass.rt`, `push.rt`, `pop.rt`, `wait.rt` (both until they are not busy),
-//! `share.rt` (passes split, joined and shown to each other) and `close.rt`. Below them lie `board.rt` (the words and
-//! places, and each step on them), `view.rt` (the rule that each step keeps) and `plays.rt` (what each step tells). In
-//! `specs/`, `Sight` is what a pass knows, `Made` and `Calls` are what the calls promise, and `Rule` is the rule.
+//! Contracts see no word of it. They speak of the queue of `alog_core`: one history for all threads, of which a pass
+//! has seen a beginning, and in which it knows exactly its own entries. Read in `specs/` what is promised: `Known` (what
+//! a pass knows), `Made` and `Calls`, `Refused`, `Waits` (what a push and a pop say), `Share` (split, join, meet,
+//! is_whole, close). The other files there (`Sight`, `Plays`, `Seats`, `Rule`, `Board`) are for the proofs, as are
+//! `board.rt` (each step on the words and places), `words.rt`, `view.rt` and `plays.rt`.
 #![tactic(auto)]
 
 mod board;
@@ -23,9 +24,13 @@ mod share;
 mod tests;
 mod view;
 mod wait;
+mod words;
 
 pub use close::PassesOut;
 pub use pass::Pass;
 pub use pop::PopError;
 pub use push::PushError;
 pub use ring::{NewError, Ring};
+
+/// The parts of a ring, which its first pass has. Passes share them: who has them all is alone.
+pub const ALL_PARTS: u64 = 1 << 32;

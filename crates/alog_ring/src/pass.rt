@@ -5,11 +5,10 @@ use crate::view::View;
 use atomic_table::Seat;
 use std::marker::Model;
 
-/// The parts of a ring's first pass.
-pub(crate) const ALL_PARTS: u64 = 1 << 32;
-
-/// What a thread uses a ring with. It has some of the ring's parts, and knows which history it has seen and which entries
-/// in it are its own: contracts see that, and no field. A pass belongs to the ring that it was made for.
+/// What a thread pushes and pops with: each thread has a pass of its own, which belongs to the ring it was made for.
+///
+/// It has some of the ring's parts, and knows which history it has seen and which entries in it are its own: contracts
+/// see that, and no field. The test `two_threads_share_a_ring` shows it.
 #[derive(Drop)]
 pub struct Pass<T> {
     pub(crate) seat: Seat<Option<T>, View<T, ()>>,
@@ -18,19 +17,22 @@ pub struct Pass<T> {
 
 impl<T> Model for Pass<T> {
     ghost use Rattle.std.specs.Prelude.{◌≡◌, ◌<◌, ◌≤◌, []};
-    ghost use Rattle.alog_ring.specs.Sight.{PassView, Idle, all_parts};
-    ghost use Rattle.alog_ring.specs.Made.{IsFaithful};
+    ghost use Rattle.alog_ring.specs.declared.TheConstants.{ALL_PARTS};
+    ghost use Rattle.alog_ring.specs.Known.{PassView};
     ghost use Rattle.alog_ring.specs.Kinds.{no_note};
+    ghost use Rattle.alog_ring.specs.Made.{IsFaithful};
+    ghost use Rattle.alog_ring.specs.Sight.{Idle};
 
     ghost Value = { PassView T no_note };
 
     ghost view = { λ p. record { table = p.seat.table_id; known = p.seat.me.0.known } };
 
-    ghost invariant = { λ p. (p.seat.me.0.stage ≡ Idle) × (p.seat.me.1 ≡ []) × (p.parts ≡ p.seat.me.0.known.parts) × (0 < p.parts) × (p.parts ≤ all_parts) × IsFaithful p.seat.me.0.known };
+    ghost invariant = { λ p. (p.seat.me.0.stage ≡ Idle) × (p.seat.me.1 ≡ []) × (p.parts ≡ p.seat.me.0.known.parts)
+        × (0 < p.parts) × (p.parts ≤ ALL_PARTS) × IsFaithful p.seat.me.0.known };
 }
 
 impl<T> Pass<T> {
-    /// How many of its ring's parts the pass has. All are 2^32.
+    /// Tells how many of its ring's 2^32 parts the pass has. The test `a_ring_of_two` shows it.
     pub fn parts(&self) -> u64
         ensures { result ≡ self.now.known.parts }
     {

@@ -1,25 +1,25 @@
 //! What each step tells. These types are for the proofs alone.
 ghost use Rattle.std.specs.Prelude.{◌≡◌, ℕ, List};
 ghost use Rattle.alog_core.specs.History.{Entry};
-ghost use Rattle.alog_ring.specs.Sight.{SawTail, SawHead, Writing, Reading, Joined};
-ghost use Rattle.alog_ring.specs.Plays.{saw_tail, saw_free, claimed, wrote, saw_head, saw_full, grabbed, took};
-ghost use Rattle.alog_ring.specs.Parts.{kept_part, given_part, lent_note, taking_in, reading_note, gone, was_named, saw_both, saw_all};
 ghost use Rattle.alog_ring.specs.Kinds.{no_note, some_value, no_value};
+ghost use Rattle.alog_ring.specs.Sight.{SawNext, SawFront, Writing, Reading, Joined};
+ghost use Rattle.alog_ring.specs.Plays.{saw_next, saw_free, claimed, wrote, saw_front, saw_full, grabbed, took};
+ghost use Rattle.alog_ring.specs.Seats.{kept_part, given_part, lent_note, taking_in, reading_note, gone, was_named, saw_both, saw_all};
 
 use crate::view::View;
 use atomic_table::{Join, Play, Split};
 use std::marker::{Brand, PhantomData};
 
-pub struct SeeTail;
+pub struct SeeNext;
 
-impl<T> Play<Option<T>, View<T, ()>> for SeeTail {
-    ghost then = { λ s m r n. saw_tail tt m r n };
+impl<T> Play<Option<T>, View<T, ()>> for SeeNext {
+    ghost then = { λ s m r n. saw_next tt m r n };
 }
 
 pub struct SeeFree;
 
 impl<T> Play<Option<T>, View<T, ()>> for SeeFree {
-    ghost then = { λ s m r n. (t : ℕ) → m.0.stage ≡ SawTail t → saw_free tt t m r n };
+    ghost then = { λ s m r n. (t : ℕ) → m.0.stage ≡ SawNext t → saw_free tt t m r n };
 }
 
 pub struct Claims;
@@ -34,16 +34,16 @@ impl<T> Play<Option<T>, View<T, ()>> for Writes {
     ghost then = { λ s m r n. (t : ℕ) (x : T) → m.0.stage ≡ Writing t x → wrote tt t m n };
 }
 
-pub struct SeeHead;
+pub struct SeeFront;
 
-impl<T> Play<Option<T>, View<T, ()>> for SeeHead {
-    ghost then = { λ s m r n. saw_head m r n };
+impl<T> Play<Option<T>, View<T, ()>> for SeeFront {
+    ghost then = { λ s m r n. saw_front m r n };
 }
 
 pub struct SeeFull;
 
 impl<T> Play<Option<T>, View<T, ()>> for SeeFull {
-    ghost then = { λ s m r n. (t : ℕ) → m.0.stage ≡ SawHead t → saw_full tt t m r n };
+    ghost then = { λ s m r n. (t : ℕ) → m.0.stage ≡ SawFront t → saw_full tt t m r n };
 }
 
 pub struct Grabs;

@@ -1,13 +1,14 @@
 //! Pops.
 ghost use Rattle.std.specs.Prelude.{◌≡◌, IfOk, IfErr};
-ghost use Rattle.alog_ring.specs.Calls.{IsPassOf, Popped};
+ghost use Rattle.alog_ring.specs.Known.{IsPassOf};
+ghost use Rattle.alog_ring.specs.Calls.{Popped};
 ghost use Rattle.alog_ring.specs.Refused.{PopRefused};
 
 use crate::pass::Pass;
 use crate::ring::Ring;
 use thiserror::Error;
 
-/// Why a pop did not go through.
+/// Why a pop did not go through. The test `the_last_ticket_of_all` shows it.
 #[derive(Clone, Copy, Debug, PartialEq, Eq, Error)]
 pub enum PopError {
     /// The front ticket is not there, or claimed and not yet written. From 2^62 on none will come.
@@ -19,7 +20,11 @@ pub enum PopError {
 }
 
 impl<T> Ring<T> {
-    /// One round of a pop, which answers the ticket and its value.
+    /// Takes the front value out of the ring if that goes at once, and answers it with its ticket.
+    ///
+    /// It is one round of a pop: it reads the front ticket, looks whether it is written, and grabs it. It never waits, so
+    /// it is for a caller that has something else to do where another pop was faster (`Busy`): `pop` begins again there.
+    /// The test `a_ring_of_two` shows it.
     pub fn pop_once(&self, pass: &mut Pass<T>) -> Result<(u64, T), PopError>
         requires { IsPassOf self.now pass.old }
         ensures ring { IsPassOf self.now pass.new }
@@ -27,7 +32,7 @@ impl<T> Ring<T> {
         ensures refused { IfErr result (λ e. PopRefused pass.old.known pass.new.known e) }
     {
         let seat = &mut pass.seat;
-        let next = self.board.see_head(seat);
+        let next = self.board.see_front(seat);
         let sequence = self.board.see_full(seat, next);
         if sequence < next + 1 {
             return Err(PopError::Empty { next });

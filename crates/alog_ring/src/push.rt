@@ -1,14 +1,15 @@
 //! Pushes.
 ghost use Rattle.std.specs.Prelude.{◌≡◌, IfOk, IfErr};
-ghost use Rattle.alog_ring.specs.Calls.{IsPassOf, Pushed};
+ghost use Rattle.alog_ring.specs.Known.{IsPassOf};
+ghost use Rattle.alog_ring.specs.Calls.{Pushed};
 ghost use Rattle.alog_ring.specs.Refused.{PushRefused};
 
-use crate::board::LAST;
 use crate::pass::Pass;
 use crate::ring::Ring;
+use alog_core::LAST_TICKET;
 use thiserror::Error;
 
-/// Why a push did not go through. The value comes back.
+/// Why a push did not go through: the value comes back. The tests `a_ring_of_two` and `the_last_ticket_of_all` show it.
 #[derive(Debug, Drop, Error)]
 pub enum PushError<T> {
     /// The place of the next ticket is not free: the ticket a lap before is not taken yet.
@@ -23,7 +24,11 @@ pub enum PushError<T> {
 }
 
 impl<T> Ring<T> {
-    /// One round of a push, which answers the ticket.
+    /// Puts the value into the ring if that goes at once, and answers its ticket.
+    ///
+    /// It is one round of a push: it reads the next ticket, looks whether its place is free, and claims it. It never
+    /// waits, so it is for a caller that has something else to do where another push was faster (`Busy`): `push` begins
+    /// again there. The test `a_ring_of_two` shows it.
     pub fn push_once(&self, pass: &mut Pass<T>, value: T) -> Result<u64, PushError<T>>
         requires { IsPassOf self.now pass.old }
         ensures ring { IsPassOf self.now pass.new }
@@ -31,8 +36,8 @@ impl<T> Ring<T> {
         ensures refused { IfErr result (λ e. PushRefused pass.old.known pass.new.known value e) }
     {
         let seat = &mut pass.seat;
-        let next = self.board.see_tail(seat);
-        if next == LAST {
+        let next = self.board.see_next(seat);
+        if next == LAST_TICKET {
             return Err(PushError::Spent { value });
         }
         let sequence = self.board.see_free(seat, next);

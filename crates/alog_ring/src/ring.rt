@@ -1,24 +1,21 @@
 //! A ring and its first pass.
-ghost use Rattle.std.specs.Prelude.{◌≡◌, ◌≤◌, ◌↔◌, IfOk, IsErrOf, IsTrue};
+ghost use Rattle.std.specs.Prelude.{◌≡◌, ◌≤◌, ◌↔◌, true, false, IfOk, IsErrOf};
 ghost use Rattle.alog_core.specs.Queue.{last};
-ghost use Rattle.alog_ring.specs.Sight.{first_known};
-ghost use Rattle.alog_ring.specs.Calls.{IsSize, IsPassOf};
+ghost use Rattle.alog_core.specs.World.{is_size};
+ghost use Rattle.alog_ring.specs.Known.{first_known, IsPassOf};
 
-use crate::board::{Board, LAST};
-use crate::pass::{ALL_PARTS, Pass};
+use crate::ALL_PARTS;
+use crate::board::Board;
+use crate::pass::Pass;
+use alog_core::{LAST_TICKET, is_size};
 use std::alloc::Global;
 use std::marker::Model;
 use thiserror::Error;
 
-/// The least and the largest number of places.
-const LEAST: usize = 2;
-
-const MOST: usize = 65536;
-
-/// Why no ring was made.
+/// Why no ring was made. The test `takes_sizes_and_first_tickets` shows it.
 #[derive(Clone, Copy, Debug, PartialEq, Eq, Error)]
 pub enum NewError {
-    #[error("the number of places is no power of two from 2 to 65536")]
+    #[error("the number of places is no power of two from 2 to 65,536")]
     BadSize,
     #[error("the first ticket is not below 2^62")]
     BadFirst,
@@ -26,7 +23,8 @@ pub enum NewError {
     OutOfMemory,
 }
 
-/// A bounded queue for any number of threads.
+/// A bounded queue by which any number of threads hand values to each other. The tests `two_threads_share_a_ring` and
+/// `a_ring_of_two` show its use.
 #[derive(Drop)]
 pub struct Ring<T> {
     pub(crate) board: Board<T>,
@@ -36,34 +34,27 @@ pub struct Ring<T> {
 
 impl<T> Model for Ring<T> {
     ghost use Rattle.std.specs.Prelude.{◌≡◌, ◌+◌, ◌≤◌, [], vec_capacity};
-    ghost use Rattle.alog_ring.specs.Sight.{RingId};
+    ghost use Rattle.alog_ring.specs.Known.{RingId};
 
     ghost Value = { RingId };
 
-    ghost view = { λ r. record { table = r.board.table.shared.table_id; places = r.board.mask + 1; first = r.board.table.shared.key.first } };
+    ghost view = { λ r. record {
+      table = r.board.table.shared.table_id;
+      places = r.board.mask + 1;
+      first = r.board.table.shared.key.first;
+    } };
 
     ghost invariant = { λ r. (r.left.items ≡ []) × (r.board.mask + 1 ≤ vec_capacity r.left) };
 }
 
-/// Whether a ring may have so many places.
-fn is_size(places: usize) -> bool
-    ensures { IsTrue result ↔ IsSize places }
-{
-    if places < LEAST {
-        return false;
-    }
-    if places > MOST {
-        return false;
-    }
-    places.next_power_of_two() == places
-}
-
 impl<T> Ring<T> {
-    /// An empty ring of so many places, a power of two from 2 to 65,536, whose first ticket is `first`, below 2^62, and
-    /// its first pass. All memory that the ring ever takes is taken here.
+    /// Makes an empty ring and its first pass, which has all of the ring's parts.
+    ///
+    /// The ring has `places` places, a power of two from 2 to 65,536, and its first ticket is `first`, below 2^62. All
+    /// memory that the ring ever takes is taken here. The tests `takes_sizes_and_first_tickets` and `a_ring_of_two` show it.
     pub fn new(alloc: Global, places: usize, first: u64) -> Result<(Ring<T>, Pass<T>), NewError>
-        ensures bad_size { IsErrOf result NewError.BadSize ↔ (IsSize places → ⊥) }
-        ensures bad_first { IsErrOf result NewError.BadFirst ↔ (IsSize places × (last ≤ first)) }
+        ensures bad_size { IsErrOf result NewError.BadSize ↔ (is_size places ≡ false) }
+        ensures bad_first { IsErrOf result NewError.BadFirst ↔ ((is_size places ≡ true) × (last ≤ first)) }
         ensures shape { IfOk result (λ r. (r.0.places ≡ places) × (r.0.first ≡ first)) }
         ensures ring { IfOk result (λ r. IsPassOf r.0 r.1) }
         ensures first { IfOk result (λ r. r.1.known ≡ first_known places first) }
@@ -71,7 +62,7 @@ impl<T> Ring<T> {
         if !is_size(places) {
             return Err(NewError::BadSize);
         }
-        if first >= LAST {
+        if first >= LAST_TICKET {
             return Err(NewError::BadFirst);
         }
         let Ok(left) = Vec::with_capacity(alloc, places) else {

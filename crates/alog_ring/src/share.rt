@@ -1,15 +1,18 @@
 //! Passes for more threads: split, joined, and shown to each other.
 ghost use Rattle.std.specs.Prelude.{◌≡◌, ℕ, ◌<◌, ◌≤◌, ◌↔◌, [], IsTrue};
-ghost use Rattle.alog_ring.specs.Sight.{Idle, all_parts};
+ghost use Rattle.alog_ring.specs.Known.{IsPassOf};
 ghost use Rattle.alog_ring.specs.Made.{IsFaithful, Made};
-ghost use Rattle.alog_ring.specs.Parts.{IsWhole, apart_from, kept_part, lent_note, taking_in, reading_note, saw_both, saw_all};
-ghost use Rattle.alog_ring.specs.Calls.{IsPassOf, Splits, Joins, Meets};
+ghost use Rattle.alog_ring.specs.Share.{IsWhole, apart_from, Splits, Joins, Meets};
+ghost use Rattle.alog_ring.specs.Sight.{Idle};
+ghost use Rattle.alog_ring.specs.Seats.{kept_part, lent_note, taking_in, reading_note, saw_both, saw_all};
 
-use crate::board::{Board, TAIL};
-use crate::pass::{ALL_PARTS, Pass};
+use crate::ALL_PARTS;
+use crate::board::Board;
+use crate::pass::Pass;
 use crate::plays::{Amount, Cut, Lend, Names, ReadNote, SeeAll, SeeBoth, TakeIn};
 use crate::ring::Ring;
 use crate::view::View;
+use crate::words::NEXT;
 use atomic_table::Seat;
 use std::marker::Brand;
 
@@ -21,18 +24,18 @@ impl<T> Board<T> {
         requires stage { seat.old.me.0.stage ≡ Idle }
         requires some { 0 < parts }
         requires fewer { parts < seat.old.me.0.known.parts }
-        requires most { parts ≤ all_parts }
+        requires most { parts ≤ ALL_PARTS }
         ensures table { (seat.new.table_id ≡ seat.old.table_id) × (result.table ≡ seat.old.table_id) }
         ensures kept { seat.new.me ≡ (kept_part parts seat.old.me.0, seat.old.me.1) }
         ensures given { (a : ℕ) × (result.known ≡ apart_from seat.old.me.0.known a parts) }
         ensures faithful { IsFaithful result.known }
     {
         let mut given = self.table.shared.split_seat::<Cut<A>>(seat);
-        self.table.shared.load::<Names>(&mut given, TAIL);
+        self.table.shared.load::<Names>(&mut given, NEXT);
         Pass { seat: given, parts }
     }
 
-    /// Takes the other's parts and accounts in.
+    /// Takes the other's parts and members in.
     fn take_in(&self, seat: &mut Seat<Option<T>, View<T, ()>>, other: Seat<Option<T>, View<T, ()>>)
         requires table { (seat.old.table_id ≡ self.now.table.shared.table_id) × (other.table_id ≡ self.now.table.shared.table_id) }
         requires stage { (seat.old.me.0.stage ≡ Idle) × (other.me.0.stage ≡ Idle) }
@@ -42,7 +45,7 @@ impl<T> Board<T> {
         ensures both { saw_both other.me.0.known.seen (taking_in seat.old.me.0 other.me.0, seat.old.me.1) seat.new.me }
     {
         self.table.shared.join_seat::<TakeIn>(seat, other);
-        self.table.shared.load::<SeeBoth>(seat, TAIL);
+        self.table.shared.load::<SeeBoth>(seat, NEXT);
     }
 
     /// Shows what one seat has seen to another, by a note without parts.
@@ -56,7 +59,7 @@ impl<T> Board<T> {
     {
         let note = self.table.shared.split_seat::<Lend>(from);
         self.table.shared.join_seat::<ReadNote>(to, note);
-        self.table.shared.load::<SeeBoth>(to, TAIL);
+        self.table.shared.load::<SeeBoth>(to, NEXT);
     }
 
     /// Sees the whole history.
@@ -67,12 +70,14 @@ impl<T> Board<T> {
         ensures table { seat.new.table_id ≡ seat.old.table_id }
         ensures all { saw_all seat.old.me seat.new.me }
     {
-        self.table.shared.load::<SeeAll>(seat, TAIL);
+        self.table.shared.load::<SeeAll>(seat, NEXT);
     }
 }
 
 impl<T> Ring<T> {
-    /// A new pass, with so many of this one's parts, at least one and not all.
+    /// Gives one more thread a pass: it gets `parts` of this one's parts, at least one and not all.
+    ///
+    /// The new pass has seen what this one has seen, and made nothing. The test `two_threads_share_a_ring` shows it.
     pub fn split(&self, pass: &mut Pass<T>, parts: u64) -> Pass<T>
         requires ring { IsPassOf self.now pass.old }
         requires some { 0 < parts }
@@ -85,7 +90,9 @@ impl<T> Ring<T> {
         given
     }
 
-    /// Gives the pass the other's parts and accounts. It has seen the longer of both histories then.
+    /// Takes back the pass of a thread that has ended: its parts, its own entries, and those of its members.
+    ///
+    /// The pass has seen the longer of both histories then. The test `a_ring_of_two` shows it.
     pub fn join(&self, pass: &mut Pass<T>, other: Pass<T>)
         requires pass { IsPassOf self.now pass.old }
         requires other { IsPassOf self.now other }
@@ -97,7 +104,9 @@ impl<T> Ring<T> {
         pass.parts += parts;
     }
 
-    /// The second pass sees what the first has seen. Then the history of one is a beginning of the other's.
+    /// Tells the second pass what the first has seen, so that what one saw is a beginning of what the other saw.
+    ///
+    /// It has seen the longer of both histories then. The test `a_ring_of_two` shows it.
     pub fn meet(&self, first: &mut Pass<T>, second: &mut Pass<T>)
         requires first { IsPassOf self.now first.old }
         requires second { IsPassOf self.now second.old }
@@ -108,13 +117,16 @@ impl<T> Ring<T> {
         self.board.show(&mut first.seat, &mut second.seat);
     }
 
-    /// Whether the pass has all parts. Then no other is left, and it has seen the whole history.
+    /// Asks whether each other pass was joined into this one, which has all parts then.
+    ///
+    /// No other is left then, and what this one had seen is the whole history. The test `a_ring_of_two` shows it.
     pub fn is_whole(&self, pass: &mut Pass<T>) -> bool
         requires { IsPassOf self.now pass.old }
         ensures ring { IsPassOf self.now pass.new }
         ensures looks { Made pass.old.known pass.new.known [] }
-        ensures parts { IsTrue result ↔ (pass.old.known.parts ≡ all_parts) }
+        ensures parts { IsTrue result ↔ (pass.old.known.parts ≡ ALL_PARTS) }
         ensures whole { IsTrue result → IsWhole pass.new.known }
+        ensures same { IsTrue result → (pass.new.known ≡ pass.old.known) }
     {
         self.board.look(&mut pass.seat);
         pass.parts == ALL_PARTS

@@ -1,4 +1,5 @@
-ghost use Rattle.alog_ring.specs.Calls.{IsPassOf};
+ghost use Rattle.std.specs.Prelude.{◌≡◌, [], ◌∷◌, IfSome};
+ghost use Rattle.alog_ring.specs.Known.{IsPassOf};
 
 use super::*;
 use std::alloc::{AllocError, Global};
@@ -72,6 +73,45 @@ fn the_last_ticket_of_all(rt: HostRuntime) -> Result<(), Fail> {
         ring.pop(&rt, &mut pass),
         Err(PopError::Empty { next: 1 << 62 })
     );
+    Ok(())
+}
+
+// A ring that is made and closed: nothing is left in it.
+fn made_and_closed(alloc: Global, places: usize, first: u64) -> Option<Vec<(u64, u64)>>
+    ensures { IfSome result (λ left. left.items ≡ []) }
+{
+    let Ok((ring, pass)) = Ring::<u64>::new(alloc, places, first) else {
+        return None;
+    };
+    let Ok(left) = ring.close(pass) else {
+        unreachable!()
+    };
+    Some(left)
+}
+
+// A ring into which a lone pass pushes one value: the push goes through, and exactly that value is left.
+fn one_value_left(alloc: Global, places: usize, first: u64, value: u64) -> Option<Vec<(u64, u64)>>
+    ensures { IfSome result (λ left. left.items ≡ (first, value) ∷ []) }
+{
+    let Ok((ring, mut pass)) = Ring::<u64>::new(alloc, places, first) else {
+        return None;
+    };
+    let pushed = ring.push_once(&mut pass, value);
+    let Ok(left) = ring.close(pass) else {
+        unreachable!()
+    };
+    match pushed {
+        Ok(_) => Some(left),
+        Err(_) => unreachable!(),
+    }
+}
+
+#[test]
+fn a_lone_pass_closes_what_it_made(rt: HostRuntime) -> Result<(), Fail> {
+    let left = made_and_closed(rt.alloc(), 2, 7);
+    assert!(rt; left.is_some_and(|left| left.is_empty()));
+    let left = one_value_left(rt.alloc(), 2, 7, 40);
+    assert!(rt; left.is_some_and(|left| left.as_slice() == [(7, 40)].as_slice()));
     Ok(())
 }
 
@@ -215,6 +255,19 @@ fn are_all_below(mut one: Vec<u64>, two: Vec<u64>, count: u64) -> Result<bool, A
     one.extend_from_slice(two.as_slice())?;
     one.sort()?;
     Ok(one.as_slice().iter().copied().eq(0..count))
+}
+
+#[test]
+fn two_threads_share_a_ring(rt: HostRuntime) -> Result<(), Fail> {
+    let (ring, mut pass) = Ring::<u64>::new(rt.alloc(), 1024, 0)?;
+    let mut other = ring.split(&mut pass, 1);
+    let (pushed, popped) = thread::join(
+        &rt,
+        || ring.push(&rt, &mut pass, 42).ok(),
+        || pop_until(&rt, &ring, &mut other),
+    );
+    assert_eq!(rt; (pushed, popped), (Some(0), 42));
+    Ok(())
 }
 
 #[test]

@@ -1,7 +1,7 @@
 //! What a seat at the ring's table knows, and the rule that every step keeps.
+ghost use Rattle.alog_ring.specs.Kinds.{some_value, no_value};
 ghost use Rattle.alog_ring.specs.Sight.{first_sight};
 ghost use Rattle.alog_ring.specs.Rule.{Ruled};
-ghost use Rattle.alog_ring.specs.Kinds.{some_value, no_value};
 
 use atomic_table::TableRule;
 use std::marker::{Model, PhantomData};

@@ -1,6 +1,6 @@
 //! Pushes and pops that begin again while another thread is in the way.
 ghost use Rattle.std.specs.Prelude.{◌≡◌, IfOk, IfErr};
-ghost use Rattle.alog_ring.specs.Calls.{IsPassOf};
+ghost use Rattle.alog_ring.specs.Known.{IsPassOf};
 ghost use Rattle.alog_ring.specs.Waits.{PushedAtLast, PushRefusedAtLast, PoppedAtLast, PopRefusedAtLast};
 
 use crate::pass::Pass;
@@ -21,7 +21,12 @@ fn give_way(backoff: &Backoff) {
 }
 
 impl<T> Ring<T> {
-    /// Rounds of a push, until one is not busy. It backs off between them.
+    /// Puts the value into the ring whatever other pushes do, and answers its ticket. It is what a thread calls that has
+    /// nothing else to do.
+    ///
+    /// It makes rounds until one is not busy, and backs off between them. A full or spent ring refuses it as it refuses
+    /// `push_once`. That it returns is not promised while other pushes are always faster. The test
+    /// `two_threads_share_a_ring` shows it.
     pub fn push(
         &self,
         rt: &impl Wait,
@@ -49,7 +54,12 @@ impl<T> Ring<T> {
         unreachable!()
     }
 
-    /// Rounds of a pop, until one is not busy. It backs off between them.
+    /// Takes the front value out of the ring whatever other pops do, and answers it with its ticket. It is what a thread
+    /// calls that has nothing else to do.
+    ///
+    /// It makes rounds until one is not busy, and backs off between them. An empty ring refuses it as it refuses
+    /// `pop_once`. That it returns is not promised while other pops are always faster. The test
+    /// `two_threads_share_a_ring` shows it.
     pub fn pop(&self, rt: &impl Wait, pass: &mut Pass<T>) -> Result<(u64, T), PopError>
         requires { IsPassOf self.now pass.old }
         ensures ring { IsPassOf self.now pass.new }

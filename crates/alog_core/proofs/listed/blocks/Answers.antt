@@ -6,7 +6,9 @@ use Rattle.alog_core.proofs.listed.blocks.Goals as goal
 
 pub returns-then-places-ticket : goal.returns-then-places-ticket
 returns-then-places-ticket g c =
-    c.is_some.ensures ∙ (ap is_some c.index_of.ensures ∙ sym (blocked_at c.args.places c.args.ticket c.if-places-ticket.true c.args.cells.now))
+    c.is_some.ensures
+    ∙ (ap is_some c.index_of.ensures
+    ∙ sym (blocked_at c.args.places c.args.ticket c.if-places-ticket.true c.args.cells.now))
 
 pub returns-else-places-ticket : goal.returns-else-places-ticket
 returns-else-places-ticket g c =

@@ -1,4 +1,6 @@
 use Rattle.std.proofs.Common.{ℕ, ◌+◌, ◌<◌, ◌≤◌, List, ◌∙◌, arith, get_or-set_other, length-set}
+use Rattle.alog_core.proofs.Sizes.{size_facts}
+use Rattle.alog_ring.specs.declared.words.TheConstants.{NEXT, FRONT}
 use Rattle.alog_ring.specs.Rule.{seq_of}
 use Rattle.alog_ring.proofs.Starting.{words_more}
 use Rattle.alog_ring.proofs.board.first_words.Goals as goal
@@ -9,12 +11,12 @@ loop-ticket-preserved c =
     in let t : ℕ = c.loop-ticket.ticket
     in let filled : List ℕ = c.loop-ticket.filled
     in let inv = c.loop-ticket.invariant
-    in let two : 2 ≤ n = c.requires.size.1
+    in let two : 2 ≤ n = (size_facts c.args.places c.requires.size).1
     in let low : c.args.first ≤ t = c.loop-ticket.auto.ticket
     in let high : t < c.args.first + n = c.loop-ticket-test.true
     in (
       length-set filled (seq_of n t) t ∙ inv.0,
-      get_or-set_other filled (seq_of n t) 16 t 0 (λ e. omega arith) ∙ inv.1,
-      get_or-set_other filled (seq_of n t) 32 t 0 (λ e. omega arith) ∙ inv.2,
+      get_or-set_other filled (seq_of n t) NEXT t 0 (λ e. omega arith) ∙ inv.1,
+      get_or-set_other filled (seq_of n t) FRONT t 0 (λ e. omega arith) ∙ inv.2,
       words_more n c.args.first t filled two low high inv.0 inv.3,
     )

@@ -1,4 +1,4 @@
-use Rattle.alog_ring.specs.Calls.{IsPassOf}
+use Rattle.alog_ring.specs.Known.{IsPassOf}
 use Rattle.alog_ring.proofs.tests.push_until.Given as goal
 
 abbrev pub invariant-loop : goal.invariant-loop

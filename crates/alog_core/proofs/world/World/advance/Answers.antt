@@ -1,25 +1,33 @@
 use Rattle.std.proofs.Common.{◌≡◌, ◌<◌, Some, length, ap, sym, subst, ◌∙◌, arith}
 use Rattle.alog_core.specs.Queue.{Event, Allows}
 use Rattle.alog_core.specs.World.{Machine, next_move, stepped}
+use Rattle.alog_core.specs.Run.{HasItsCell}
 use Rattle.alog_core.specs.Staged.{IsReached}
 use Rattle.alog_core.proofs.Reached.{kept, taken_round, has_room, stepped_in, reached_stepped, fine_step}
+use Rattle.alog_core.proofs.Runs.{has_its_cell}
 use Rattle.alog_core.proofs.world.World.advance.Goals as goal
 
 pub advance-said-requires : goal.advance-said-requires
 advance-said-requires g c =
     let rounds = c.self.inside.rounds.items in
     let lt : c.args.actor < length rounds = omega (arith, c.self.invariant.reached.actors, c.requires) in
-    let is = taken_round rounds c.args.actor c.index_mut.result.now c.replace-round.result lt c.index_mut.ensures.value c.replace-round.ensures.value in
-    has_room c.self.inside.table rounds c.args.actor c.replace-round.result c.self.invariant.reached c.self.invariant.room c.requires is
+    let is = taken_round rounds c.args.actor c.index_mut.result.now c.replace-round.result lt c.index_mut.ensures.value
+    c.replace-round.ensures.value in
+    has_room c.self.inside.table rounds c.args.actor c.replace-round.result c.self.invariant.reached c.self.invariant.room
+    c.requires is
 
 pub invariant_of-self : goal.invariant_of-self
 invariant_of-self g c =
     let rounds = c.self.inside.rounds.items in
     let lt : c.args.actor < length rounds = omega (arith, c.self.invariant.reached.actors, c.requires) in
-    let is = taken_round rounds c.args.actor c.index_mut.result.now c.replace-round.result lt c.index_mut.ensures.value c.replace-round.ensures.value in
-    let after = stepped_in c.self.inside.table c.advance-said.new.table rounds c.args.actor c.replace-round.new.dest c.replace-round.result c.advance-said.result is c.advance-said.ensures in
+    let is = taken_round rounds c.args.actor c.index_mut.result.now c.replace-round.result lt c.index_mut.ensures.value
+    c.replace-round.ensures.value in
+    let after =
+    stepped_in c.self.inside.table c.advance-said.new.table rounds c.args.actor c.replace-round.new.dest
+    c.replace-round.result c.advance-said.result is c.advance-said.ensures in
     record {
-      reached = subst IsReached (sym after) (reached_stepped (kept c.self.inside.table rounds) c.args.actor c.self.invariant.reached c.requires);
+      reached = subst IsReached (sym after)
+          (reached_stepped (kept c.self.inside.table rounds) c.args.actor c.self.invariant.reached c.requires);
       room = omega (arith, c.advance-said.ensures.places, c.advance-said.ensures.room, c.self.invariant.room);
     }
 
@@ -27,11 +35,20 @@ pub returns-clause-stepped : goal.returns-clause-stepped
 returns-clause-stepped g c =
     let rounds = c.self.inside.rounds.items in
     let lt : c.args.actor < length rounds = omega (arith, c.self.invariant.reached.actors, c.requires) in
-    let is = taken_round rounds c.args.actor c.index_mut.result.now c.replace-round.result lt c.index_mut.ensures.value c.replace-round.ensures.value in
-    stepped_in c.self.inside.table c.advance-said.new.table rounds c.args.actor c.replace-round.new.dest c.replace-round.result c.advance-said.result is c.advance-said.ensures
+    let is = taken_round rounds c.args.actor c.index_mut.result.now c.replace-round.result lt c.index_mut.ensures.value
+    c.replace-round.ensures.value in
+    stepped_in c.self.inside.table c.advance-said.new.table rounds c.args.actor c.replace-round.new.dest
+    c.replace-round.result c.advance-said.result is c.advance-said.ensures
     ∙ ap (λ m. stepped m c.args.actor) c.self.view_is
 
 pub returns-clause-allowed : goal.returns-clause-allowed
 returns-clause-allowed g c =
-    subst (λ (m : Machine g.row.T.Denot). (e : Event g.row.T.Denot) → (next_move m c.args.actor).event ≡ Some e → Allows m.places m.queue c.args.actor e) c.self.view_is
-    (fine_step (kept c.self.inside.table c.self.inside.rounds.items) c.args.actor c.self.invariant.reached c.requires).allowed
+    subst (λ (m : Machine g.row.T.Denot). (e : Event g.row.T.Denot) → (next_move m c.args.actor).event ≡ Some e
+    → Allows m.places m.queue c.args.actor e) c.self.view_is
+    (fine_step (kept c.self.inside.table c.self.inside.rounds.items) c.args.actor c.self.invariant.reached
+    c.requires).allowed
+
+pub returns-clause-cell : goal.returns-clause-cell
+returns-clause-cell g c =
+    subst (λ (m : Machine g.row.T.Denot). HasItsCell m c.args.actor) c.self.view_is
+    (has_its_cell (kept c.self.inside.table c.self.inside.rounds.items) c.args.actor c.self.invariant.reached c.requires)

@@ -1,4 +1,5 @@
 use Rattle.std.proofs.Common.{ℕ, ◌≡◌, ◌+◌, ◌*◌, ◌%◌, sym, ap, ◌∙◌, refl, arith}
+use Rattle.alog_ring.specs.declared.words.TheConstants.{SEQUENCES, APART}
 use Rattle.alog_ring.specs.Rule.{seq_of}
 use Rattle.alog_ring.proofs.Places.{claim_may, write_may}
 use Rattle.alog_ring.proofs.Calling.{filling_stage, filling_place, fills}
@@ -10,7 +11,9 @@ compare_exchange_with-found-requires g c =
     in (
       c.requires.table,
       omega (arith, sized.0),
-      claim_may c.args.self.now.table.shared.key.places c.args.self.now.table.shared.key.first c.args.self.now.table.shared.table_id.slots c.args.seat.now.id c.args.seat.now.me c.args.ticket (c.args.ticket + 1) c.args.value c.requires.stage refl c.requires.below,
+      claim_may c.args.self.now.table.shared.key.places c.args.self.now.table.shared.key.first
+          c.args.self.now.table.shared.table_id.slots c.args.seat.now.id c.args.seat.now.me c.args.ticket
+          (c.args.ticket + 1) c.args.value c.requires.stage refl c.requires.below,
     )
 
 pub store-requires : goal.store-requires
@@ -20,14 +23,21 @@ store-requires g c =
     in let n : ℕ = c.args.self.now.table.shared.key.places
     in let slots : ℕ = c.args.self.now.table.shared.table_id.slots
     in let place : c.place_of-place.result ≡ t % n = c.place_of-place.ensures.place ∙ ap (λ (z : ℕ). t % z) (sym sized.2)
-    in let word : c.place_of-place.result * 8 + 48 ≡ seq_of n t = ap (λ (z : ℕ). z * 8 + 48) place
+    in let word : c.place_of-place.result * APART + SEQUENCES ≡ seq_of n t = ap (λ (z : ℕ). z * APART + SEQUENCES) place
     in let told = c.compare_exchange_with-found.ensures.2
-    in let stage = filling_stage slots t (t + 1) c.place_of-place.result c.compare_exchange_with-found.result n c.args.value c.args.seat.now.me c.compare_exchange_with-found.new.seat.me c.exchange.new.seat.me told c.if-found-ticket.false c.exchange.ensures.3 place
-    in let has = filling_place slots t (t + 1) c.place_of-place.result c.compare_exchange_with-found.result n c.args.value c.args.seat.now.me c.compare_exchange_with-found.new.seat.me c.exchange.new.seat.me told c.if-found-ticket.false c.exchange.ensures.3 place
+    in let stage =
+    filling_stage slots t (t + 1) c.place_of-place.result c.compare_exchange_with-found.result n c.args.value
+    c.args.seat.now.me c.compare_exchange_with-found.new.seat.me c.exchange.new.seat.me told c.if-found-ticket.false
+    c.exchange.ensures.3 place
+    in let has =
+    filling_place slots t (t + 1) c.place_of-place.result c.compare_exchange_with-found.result n c.args.value
+    c.args.seat.now.me c.compare_exchange_with-found.new.seat.me c.exchange.new.seat.me told c.if-found-ticket.false
+    c.exchange.ensures.3 place
     in (
       c.exchange.ensures.0 ∙ c.compare_exchange_with-found.ensures.0 ∙ c.requires.table,
       omega (arith, sized.0, c.place_of-place.ensures.within),
-      write_may n c.args.self.now.table.shared.key.first slots c.exchange.new.seat.id c.exchange.new.seat.me (c.place_of-place.result * 8 + 48) t (t + 1) c.args.value c.args.seat.now.me.1 word refl stage has,
+      write_may n c.args.self.now.table.shared.key.first slots c.exchange.new.seat.id c.exchange.new.seat.me
+          (c.place_of-place.result * APART + SEQUENCES) t (t + 1) c.args.value c.args.seat.now.me.1 word refl stage has,
     )
 
 pub returns-clause-told : goal.returns-clause-told
@@ -38,6 +48,11 @@ returns-clause-told g c =
     in let slots : ℕ = c.args.self.now.table.shared.table_id.slots
     in let place : c.place_of-place.result ≡ t % n = c.place_of-place.ensures.place ∙ ap (λ (z : ℕ). t % z) (sym sized.2)
     in let told = c.compare_exchange_with-found.ensures.2
-    in let stage = filling_stage slots t (t + 1) c.place_of-place.result c.compare_exchange_with-found.result n c.args.value c.args.seat.now.me c.compare_exchange_with-found.new.seat.me c.exchange.new.seat.me told c.if-found-ticket.false c.exchange.ensures.3 place
-    in fills slots t (t + 1) c.place_of-place.result c.compare_exchange_with-found.result n c.args.value c.args.seat.now.me c.compare_exchange_with-found.new.seat.me c.exchange.new.seat.me told c.if-found-ticket.false c.exchange.ensures.3 place
+    in let stage =
+    filling_stage slots t (t + 1) c.place_of-place.result c.compare_exchange_with-found.result n c.args.value
+    c.args.seat.now.me c.compare_exchange_with-found.new.seat.me c.exchange.new.seat.me told c.if-found-ticket.false
+    c.exchange.ensures.3 place
+    in fills slots t (t + 1) c.place_of-place.result c.compare_exchange_with-found.result n c.args.value c.args.seat.now.me
+    c.compare_exchange_with-found.new.seat.me c.exchange.new.seat.me told c.if-found-ticket.false c.exchange.ensures.3
+    place
     c.store.new.seat.me (c.store.ensures.2 t c.args.value stage)

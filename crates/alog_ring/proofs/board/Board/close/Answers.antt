@@ -1,25 +1,41 @@
 use Rattle.std.proofs.Common.{◌≡◌, ℕ, List, map, sym, subst, arith}
 use Rattle.std.specs.Mem.Slots.{slots_items}
 use Rattle.alog_core.specs.Queue.{Cell}
-use Rattle.alog_ring.specs.Calls.{LieIn, ticket_and_item}
-use Rattle.alog_ring.proofs.Closing.{first_is_front, front_bounded, closes}
+use Rattle.alog_ring.specs.Share.{ticket_and_item}
+use Rattle.alog_ring.specs.Board.{LieIn}
+use Rattle.alog_ring.proofs.Closing.{AtEnd, first_is_front, front_bounded, closes}
 use Rattle.alog_ring.proofs.board.Board.close.Goals as goal
 
 pub take_out-requires-clause-sizes : goal.take_out-requires-clause-sizes
 take_out-requires-clause-sizes g c =
     let sized = c.args.self.sized
     in let key = c.args.self.table.shared.key
-    in let fin = c.close_with-closed.ensures.values.2
-    in let is = first_is_front key.places key.first c.args.seat.id c.args.seat.me.0 (slots_items c.close_with-closed.result.words) (slots_items c.close_with-closed.result.slots) fin c.requires.stage c.requires.all c.word-first.result c.word-first.ensures
-    in let low = front_bounded key.places key.first c.args.seat.id c.args.seat.me.0 (slots_items c.close_with-closed.result.words) (slots_items c.close_with-closed.result.slots) fin c.requires.stage c.requires.all
+    in let words : List ℕ = slots_items c.close_with-closed.result.words
+    in let end : AtEnd key.places key.first c.args.seat.me.0 words (slots_items c.close_with-closed.result.slots) =
+    record {
+      id = c.args.seat.id;
+      fin = c.close_with-closed.ensures.values.2;
+      idle = c.requires.stage;
+      all = c.requires.all;
+    }
+    in let is = first_is_front end c.word-first.result c.word-first.ensures
+    in let low = front_bounded end
     in (sized.3, omega (arith, is, low), sized.4)
 
 pub returns : goal.returns
 returns g c =
     let sized = c.args.self.sized
     in let key = c.args.self.table.shared.key
-    in let fin = c.close_with-closed.ensures.values.2
+    in let words : List ℕ = slots_items c.close_with-closed.result.words
+    in let end : AtEnd key.places key.first c.args.seat.me.0 words (slots_items c.close_with-closed.result.slots) =
+    record {
+      id = c.args.seat.id;
+      fin = c.close_with-closed.ensures.values.2;
+      idle = c.requires.stage;
+      all = c.requires.all;
+    }
     in let left : List (ℕ × g.row.T.Denot) = c.take_out.result.items
-    in let A : ℕ → Type 0 = λ z. (cells : List (Cell g.row.T.Denot)) → LieIn (slots_items c.close_with-closed.result.slots) c.word-first.result z cells → left ≡ map ticket_and_item cells
-    in closes key.places key.first c.args.seat.id c.args.seat.me.0 (slots_items c.close_with-closed.result.words) (slots_items c.close_with-closed.result.slots) fin c.requires.stage c.requires.all c.word-first.result left c.word-first.ensures
-    (subst A (sym sized.2) c.take_out.ensures)
+    in let A : ℕ → Type 0 = λ z. (cells : List (Cell g.row.T.Denot))
+    → LieIn (slots_items c.close_with-closed.result.slots) c.word-first.result z cells
+    → left ≡ map ticket_and_item cells
+    in closes end c.word-first.result left c.word-first.ensures (subst A (sym sized.2) c.take_out.ensures)

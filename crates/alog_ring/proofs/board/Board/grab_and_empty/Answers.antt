@@ -2,9 +2,10 @@ use Rattle.std.proofs.Common.{ℕ, ◌≡◌, ◌+◌, ◌*◌, ◌%◌, ◌∷�
 use Rattle.std.specs.Prelude.{MatchOption}
 use Rattle.atomic_table.specs.Table.{rest}
 use Rattle.alog_core.specs.Queue.{PopBusy}
-use Rattle.alog_ring.specs.Rule.{seq_of}
+use Rattle.alog_ring.specs.declared.words.TheConstants.{SEQUENCES, APART}
 use Rattle.alog_ring.specs.Plays.{Ends}
-use Rattle.alog_ring.specs.Calls.{Empties}
+use Rattle.alog_ring.specs.Rule.{seq_of}
+use Rattle.alog_ring.specs.Board.{Empties}
 use Rattle.alog_ring.proofs.Places.{grab_may, take_may}
 use Rattle.alog_ring.proofs.Calling.{emptying_stage, emptying_place, emptied_value, empties}
 use Rattle.alog_ring.proofs.board.Board.grab_and_empty.Goals as goal
@@ -15,7 +16,9 @@ compare_exchange_with-found-requires g c =
     in (
       c.requires.table,
       omega (arith, sized.0),
-      grab_may c.args.self.now.table.shared.key.places c.args.self.now.table.shared.key.first c.args.self.now.table.shared.table_id.slots c.args.seat.now.id c.args.seat.now.me c.args.ticket (c.args.ticket + 1) None c.requires.stage refl,
+      grab_may c.args.self.now.table.shared.key.places c.args.self.now.table.shared.key.first
+          c.args.self.now.table.shared.table_id.slots c.args.seat.now.id c.args.seat.now.me c.args.ticket
+          (c.args.ticket + 1) None c.requires.stage refl,
     )
 
 pub exchange-item-requires : goal.exchange-item-requires
@@ -24,7 +27,11 @@ exchange-item-requires g c =
     in let did = c.compare_exchange_with-found.ensures.2.0 c.if-found-ticket.false
     in let slot : c.place_of-place.result ≡ c.compare_exchange_with-found.result % c.args.self.now.table.shared.table_id.slots =
     c.place_of-place.ensures.place ∙ (λ i. sym c.if-found-ticket.false i % sym sized.1 i)
-    in (c.compare_exchange_with-found.ensures.0 ∙ c.requires.table, (Some did.0, did.2 ∙ (λ i. (sym slot i, Some did.0) ∷ sym (ap rest did.2) i)))
+    in (
+      c.compare_exchange_with-found.ensures.0
+          ∙ c.requires.table,
+      (Some did.0, did.2 ∙ (λ i. (sym slot i, Some did.0) ∷ sym (ap rest did.2) i)),
+    )
 
 pub store-requires : goal.store-requires
 store-requires g c =
@@ -33,14 +40,24 @@ store-requires g c =
     in let n : ℕ = c.args.self.now.table.shared.key.places
     in let slots : ℕ = c.args.self.now.table.shared.table_id.slots
     in let place : c.place_of-place.result ≡ t % n = c.place_of-place.ensures.place ∙ ap (λ (z : ℕ). t % z) (sym sized.2)
-    in let word : c.place_of-place.result * 8 + 48 ≡ seq_of n t = ap (λ (z : ℕ). z * 8 + 48) place
+    in let word : c.place_of-place.result * APART + SEQUENCES ≡ seq_of n t = ap (λ (z : ℕ). z * APART + SEQUENCES) place
     in let told = c.compare_exchange_with-found.ensures.2
-    in let stage = emptying_stage slots t (t + 1) c.place_of-place.result c.compare_exchange_with-found.result n None c.args.seat.now.me c.compare_exchange_with-found.new.seat.me c.exchange-item.new.seat.me told c.if-found-ticket.false c.exchange-item.ensures.3 place
-    in let has = emptying_place slots t (t + 1) c.place_of-place.result c.compare_exchange_with-found.result n None c.args.seat.now.me c.compare_exchange_with-found.new.seat.me c.exchange-item.new.seat.me told c.if-found-ticket.false c.exchange-item.ensures.3 place
+    in let stage =
+    emptying_stage slots t
+    (t + 1) c.place_of-place.result c.compare_exchange_with-found.result n None c.args.seat.now.me
+    c.compare_exchange_with-found.new.seat.me c.exchange-item.new.seat.me told c.if-found-ticket.false
+    c.exchange-item.ensures.3 place
+    in let has =
+    emptying_place slots t
+    (t + 1) c.place_of-place.result c.compare_exchange_with-found.result n None c.args.seat.now.me
+    c.compare_exchange_with-found.new.seat.me c.exchange-item.new.seat.me told c.if-found-ticket.false
+    c.exchange-item.ensures.3 place
     in (
       c.exchange-item.ensures.0 ∙ c.compare_exchange_with-found.ensures.0 ∙ c.requires.table,
       omega (arith, sized.0, c.place_of-place.ensures.within),
-      take_may n c.args.self.now.table.shared.key.first slots c.exchange-item.new.seat.id c.exchange-item.new.seat.me (c.place_of-place.result * 8 + 48) t (t + (c.args.self.now.mask + 1)) (told.0 c.if-found-ticket.false).0 c.args.seat.now.me.1 word
+      take_may n c.args.self.now.table.shared.key.first slots c.exchange-item.new.seat.id c.exchange-item.new.seat.me
+          (c.place_of-place.result * APART + SEQUENCES) t (t + (c.args.self.now.mask + 1))
+          (told.0 c.if-found-ticket.false).0 c.args.seat.now.me.1 word
           (ap (λ (z : ℕ). t + z) (sym sized.2)) stage has,
     )
 
@@ -53,9 +70,22 @@ returns-clause-told g c =
     in let place : c.place_of-place.result ≡ t % n = c.place_of-place.ensures.place ∙ ap (λ (z : ℕ). t % z) (sym sized.2)
     in let told = c.compare_exchange_with-found.ensures.2
     in let x = (told.0 c.if-found-ticket.false).0
-    in let stage = emptying_stage slots t (t + 1) c.place_of-place.result c.compare_exchange_with-found.result n None c.args.seat.now.me c.compare_exchange_with-found.new.seat.me c.exchange-item.new.seat.me told c.if-found-ticket.false c.exchange-item.ensures.3 place
-    in let is = emptied_value slots t (t + 1) c.place_of-place.result c.compare_exchange_with-found.result n None c.args.seat.now.me c.compare_exchange_with-found.new.seat.me c.exchange-item.new.seat.me told c.if-found-ticket.false c.exchange-item.ensures.3 place c.exchange-item.result c.exchange-item.ensures.2
-    in let P : Option g.row.T.Denot → Type 0 = λ o. MatchOption o (Ends tt c.args.seat.now.me c.store.new.seat.me (PopBusy t)) (λ y. Empties c.args.seat.now.me c.store.new.seat.me t y)
+    in let stage =
+    emptying_stage slots t
+    (t + 1) c.place_of-place.result c.compare_exchange_with-found.result n None c.args.seat.now.me
+    c.compare_exchange_with-found.new.seat.me c.exchange-item.new.seat.me told c.if-found-ticket.false
+    c.exchange-item.ensures.3 place
+    in let is =
+    emptied_value slots t
+    (t + 1) c.place_of-place.result c.compare_exchange_with-found.result n None c.args.seat.now.me
+    c.compare_exchange_with-found.new.seat.me c.exchange-item.new.seat.me told c.if-found-ticket.false
+    c.exchange-item.ensures.3 place c.exchange-item.result c.exchange-item.ensures.2
+    in let P : Option g.row.T.Denot → Type 0 =
+    λ o.
+    MatchOption o (Ends tt c.args.seat.now.me c.store.new.seat.me (PopBusy t))
+    (λ y. Empties c.args.seat.now.me c.store.new.seat.me t y)
     in subst P (sym is)
-    (empties slots t (t + 1) c.place_of-place.result c.compare_exchange_with-found.result n None c.args.seat.now.me c.compare_exchange_with-found.new.seat.me c.exchange-item.new.seat.me told c.if-found-ticket.false c.exchange-item.ensures.3 place
+    (empties slots t (t + 1) c.place_of-place.result c.compare_exchange_with-found.result n None c.args.seat.now.me
+    c.compare_exchange_with-found.new.seat.me c.exchange-item.new.seat.me told c.if-found-ticket.false
+    c.exchange-item.ensures.3 place
     c.store.new.seat.me (c.store.ensures.2 t x stage))

@@ -5,4 +5,10 @@ use Rattle.alog_ring.proofs.board.Board.look.Goals as goal
 pub load-requires : goal.load-requires
 load-requires g c =
     let sized = c.args.self.now.sized
-    in (c.requires.table, omega (arith, sized.0), see_all_may c.args.self.now.table.shared.key.places c.args.self.now.table.shared.key.first c.args.self.now.table.shared.table_id.slots c.args.seat.now.id c.args.seat.now.me c.requires.some c.requires.stage)
+    in (
+      c.requires.table,
+      omega (arith, sized.0),
+      see_all_may c.args.self.now.table.shared.key.places c.args.self.now.table.shared.key.first
+          c.args.self.now.table.shared.table_id.slots c.args.seat.now.id c.args.seat.now.me c.requires.some
+          c.requires.stage,
+    )

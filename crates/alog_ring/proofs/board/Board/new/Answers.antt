@@ -1,19 +1,23 @@
 use Rattle.std.proofs.Common.{ℕ, ◌≡◌, ◌+◌, ◌-◌, ◌≤◌, List, subst, sym, ap, ◌∙◌, refl, arith}
+use Rattle.alog_core.specs.declared.TheConstants.{MOST_PLACES}
+use Rattle.alog_core.proofs.Sizes.{size_facts}
 use Rattle.alog_ring.specs.Rule.{word_count}
-use Rattle.alog_ring.specs.Calls.{AreFirstWords}
+use Rattle.alog_ring.specs.Board.{AreFirstWords}
 use Rattle.alog_ring.proofs.Starting.{masks, starts}
 use Rattle.alog_ring.proofs.board.Board.new.Goals as goal
 
 pub vacant-requires : goal.vacant-requires
 vacant-requires g c =
     let P : List ℕ → Type 0 = λ w. AreFirstWords c.args.places c.args.first w
-    in starts c.args.places c.args.first c.as_slice.result.now c.requires.size.1 c.requires.first (subst P (sym c.as_slice.ensures.value) c.in_ok-words.ensures)
+    in starts c.args.places c.args.first c.as_slice.result.now
+    (size_facts c.args.places c.requires.size).1 c.requires.first
+    (subst P (sym c.as_slice.ensures.value) c.in_ok-words.ensures)
 
 pub invariant_of-result : goal.invariant_of-result
 invariant_of-result g c =
     let n : ℕ = c.args.places
-    in let two : 2 ≤ n = c.requires.size.1
-    in let most : n ≤ 65536 = c.requires.size.2
+    in let two : 2 ≤ n = (size_facts c.args.places c.requires.size).1
+    in let most : n ≤ MOST_PLACES = (size_facts c.args.places c.requires.size).2
     in let up : n ≡ n - 1 + 1 = omega arith
     in let made = c.in_ok-table.ensures
     in let P : List ℕ → Type 0 = λ w. AreFirstWords c.args.places c.args.first w
@@ -24,6 +28,6 @@ invariant_of-result g c =
         made.1 ∙ up,
         ap (λ k. k.places) made.5 ∙ up,
         omega arith,
-        masks n (n - 1) c.requires.size.0 refl up,
+        masks n (n - 1) (size_facts c.args.places c.requires.size).0 refl up,
       );
     }

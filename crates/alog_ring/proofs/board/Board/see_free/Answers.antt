@@ -1,4 +1,5 @@
 use Rattle.std.proofs.Common.{ℕ, ◌≡◌, ◌+◌, ◌*◌, ◌%◌, sym, ap, ◌∙◌, arith}
+use Rattle.alog_ring.specs.declared.words.TheConstants.{SEQUENCES, APART}
 use Rattle.alog_ring.specs.Rule.{seq_of}
 use Rattle.alog_ring.proofs.Places.{see_free_may}
 use Rattle.alog_ring.proofs.board.Board.see_free.Goals as goal
@@ -9,11 +10,12 @@ load-requires g c =
     in let t : ℕ = c.args.ticket
     in let n : ℕ = c.args.self.now.table.shared.key.places
     in let place : c.place_of.result ≡ t % n = c.place_of.ensures.place ∙ ap (λ (z : ℕ). t % z) (sym sized.2)
-    in let word : c.place_of.result * 8 + 48 ≡ seq_of n t = ap (λ (z : ℕ). z * 8 + 48) place
+    in let word : c.place_of.result * APART + SEQUENCES ≡ seq_of n t = ap (λ (z : ℕ). z * APART + SEQUENCES) place
     in (
       c.requires.table,
       omega (arith, sized.0, c.place_of.ensures.within),
-      see_free_may n c.args.self.now.table.shared.key.first c.args.self.now.table.shared.table_id.slots c.args.seat.now.id c.args.seat.now.me (c.place_of.result * 8 + 48) t word c.requires.stage,
+      see_free_may n c.args.self.now.table.shared.key.first c.args.self.now.table.shared.table_id.slots c.args.seat.now.id
+          c.args.seat.now.me (c.place_of.result * APART + SEQUENCES) t word c.requires.stage,
     )
 
 pub returns-clause-sequence : goal.returns-clause-sequence

@@ -1,6 +1,6 @@
 use Rattle.std.proofs.Common.{ℕ, ◌<◌, refl, sym, ap, subst, ◌∙◌, inr, arith}
-use Rattle.alog_ring.specs.Sight.{Lent}
 use Rattle.alog_ring.specs.Kinds.{some_value, no_value}
+use Rattle.alog_ring.specs.Sight.{Lent}
 use Rattle.alog_ring.proofs.Splitting.{splits}
 use Rattle.alog_ring.proofs.Joining.{reads_note}
 use Rattle.alog_ring.proofs.Places.{see_both_may}
@@ -12,7 +12,8 @@ split_seat-note-requires g c =
     in (
       c.requires.table.0,
       omega (arith, sized.0),
-      splits c.args.self.now.table.shared.key.places c.args.self.now.table.shared.key.first c.args.from.now.id c.args.from.now.me.0 0 Lent c.requires.some.0 (inr refl) c.requires.stage.0 some_value no_value,
+      splits c.args.self.now.table.shared.key.places c.args.self.now.table.shared.key.first c.args.from.now.id
+          c.args.from.now.me.0 0 Lent c.requires.some.0 (inr refl) c.requires.stage.0 some_value no_value,
     )
 
 pub join_seat-requires : goal.join_seat-requires
@@ -24,7 +25,9 @@ join_seat-requires g c =
       c.split_seat-note.ensures.3 ∙ c.requires.table.0,
       ap (λ m. m.1) is,
       omega (arith, sized.0),
-      reads_note some_value no_value c.args.self.now.table.shared.key.places c.args.self.now.table.shared.key.first c.args.to.now.id c.split_seat-note.result.id c.args.to.now.me.0 c.split_seat-note.result.me.0 c.requires.stage.1 c.requires.some.1
+      reads_note some_value no_value c.args.self.now.table.shared.key.places c.args.self.now.table.shared.key.first
+          c.args.to.now.id c.split_seat-note.result.id c.args.to.now.me.0 c.split_seat-note.result.me.0 c.requires.stage.1
+          c.requires.some.1
           (ap (λ m. m.0.stage) is) (ap (λ m. m.0.known.parts) is),
     )
 
@@ -36,6 +39,8 @@ load-requires g c =
     in (
       c.join_seat.ensures.0 ∙ c.requires.table.1,
       omega (arith, sized.0),
-      see_both_may c.args.self.now.table.shared.key.places c.args.self.now.table.shared.key.first c.args.self.now.table.shared.table_id.slots c.join_seat.new.seat.id c.join_seat.new.seat.me
-          c.split_seat-note.result.me.0.known.seen (subst P (sym (ap (λ m. m.0.known.parts) is)) c.requires.some.1) (ap (λ m. m.0.stage) is),
+      see_both_may c.args.self.now.table.shared.key.places c.args.self.now.table.shared.key.first
+          c.args.self.now.table.shared.table_id.slots c.join_seat.new.seat.id c.join_seat.new.seat.me
+          c.split_seat-note.result.me.0.known.seen (subst P (sym (ap (λ m. m.0.known.parts) is)) c.requires.some.1)
+          (ap (λ m. m.0.stage) is),
     )

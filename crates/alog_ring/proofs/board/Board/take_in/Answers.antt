@@ -12,7 +12,9 @@ join_seat-requires g c =
       c.requires.table.1,
       c.requires.home,
       omega (arith, sized.0),
-      joins some_value no_value c.args.self.now.table.shared.key.places c.args.self.now.table.shared.key.first c.args.seat.now.id c.args.other.id c.args.seat.now.me.0 c.args.other.me.0 c.requires.stage.0 c.requires.some.0 c.requires.stage.1 c.requires.some.1,
+      joins some_value no_value c.args.self.now.table.shared.key.places c.args.self.now.table.shared.key.first
+          c.args.seat.now.id c.args.other.id c.args.seat.now.me.0 c.args.other.me.0 c.requires.stage.0 c.requires.some.0
+          c.requires.stage.1 c.requires.some.1,
     )
 
 pub load-requires : goal.load-requires
@@ -23,6 +25,8 @@ load-requires g c =
     in (
       c.join_seat.ensures.0 ∙ c.requires.table.0,
       omega (arith, sized.0),
-      see_both_may c.args.self.now.table.shared.key.places c.args.self.now.table.shared.key.first c.args.self.now.table.shared.table_id.slots c.join_seat.new.seat.id c.join_seat.new.seat.me
-          c.args.other.me.0.known.seen (subst P (sym (ap (λ m. m.0.known.parts) is)) (omega (arith, c.requires.some.0))) (ap (λ m. m.0.stage) is),
+      see_both_may c.args.self.now.table.shared.key.places c.args.self.now.table.shared.key.first
+          c.args.self.now.table.shared.table_id.slots c.join_seat.new.seat.id c.join_seat.new.seat.me
+          c.args.other.me.0.known.seen (subst P (sym (ap (λ m. m.0.known.parts) is)) (omega (arith, c.requires.some.0)))
+          (ap (λ m. m.0.stage) is),
     )

@@ -13,4 +13,7 @@ loop-preserved g c =
     let inv = c.loop.invariant
     in let P : PopError → Type 0 = λ e. PopRefused c.loop.pass.known c.pop_once.new.pass.known e
     in let refused = subst P c.in-Err-Busy.field-0-is c.in-Err-Busy.ensures.refused
-    in (c.pop_once.ensures.ring, busy_pop c.args.pass.now.known c.loop.pass.known c.pop_once.new.pass.known c.in-Err-Busy.field-0-0 inv.1 refused)
+    in (
+      c.pop_once.ensures.ring,
+      busy_pop c.args.pass.now.known c.loop.pass.known c.pop_once.new.pass.known c.in-Err-Busy.field-0-0 inv.1 refused,
+    )

@@ -1,4 +1,4 @@
-use Rattle.alog_ring.specs.Calls.{IsPassOf}
+use Rattle.alog_ring.specs.Known.{IsPassOf}
 use Rattle.alog_ring.specs.Waits.{BusyPops}
 use Rattle.alog_ring.proofs.ring.Ring.pop.Given as goal
 

@@ -11,7 +11,10 @@ loop-init g c = (c.requires, refl, BusyPushes.none)
 pub loop-preserved : goal.loop-preserved
 loop-preserved g c =
     let inv = c.loop.invariant
-    in let P : PushError g.row.T.Denot → Type 0 = λ e. PushRefused c.loop.pass.known c.push_once.new.pass.known c.loop.value e
+    in let P : PushError g.row.T.Denot → Type 0 =
+    λ e. PushRefused c.loop.pass.known c.push_once.new.pass.known c.loop.value e
     in let refused = subst P c.in-Err-Busy.field-0-is c.in-Err-Busy.ensures.refused
-    in let did = busy_push c.args.pass.now.known c.loop.pass.known c.push_once.new.pass.known c.loop.value c.in-Err-Busy.back c.in-Err-Busy.field-0-1 inv.2 refused
+    in let did =
+    busy_push c.args.pass.now.known c.loop.pass.known c.push_once.new.pass.known c.loop.value c.in-Err-Busy.back
+    c.in-Err-Busy.field-0-1 inv.2 refused
     in (c.push_once.ensures.ring, did.0 ∙ inv.1, did.1)

@@ -1,5 +1,5 @@
 use Rattle.std.proofs.Common.{◌≡◌}
-use Rattle.alog_ring.specs.Calls.{IsPassOf}
+use Rattle.alog_ring.specs.Known.{IsPassOf}
 use Rattle.alog_ring.specs.Waits.{BusyPushes}
 use Rattle.alog_ring.proofs.ring.Ring.push.Given as goal
 

@@ -1,0 +1,35 @@
+-- A size is a power of two, and within its bounds.
+use Rattle.std.proofs.Common.{◌≡◌, ℕ, zero, suc, ◌+◌, ◌*◌, ◌/◌, ◌%◌, ◌^◌, ◌≤◌, ◌&&◌, leb, Bool, true, count_ones, ◌≢◌}
+use Rattle.std.proofs.Common.{arith, inl, inr}
+use Rattle.std.specs.Int.{is_power_of_two, IsPowerOfTwo}
+use Rattle.std.proofs.lemmas.Bool.Decides.{eqb_tells, nat_tests}
+use Rattle.std.proofs.lemmas.Grind.{pow_more}
+use Rattle.std.proofs.lemmas.Nat.{ones_le_self, zero_from_ones}
+use lib.Count.{ones_step}
+use Rattle.alog_core.specs.World.{is_size}
+use Rattle.alog_core.specs.declared.TheConstants.{LEAST_PLACES, MOST_PLACES}
+use Rattle.alog_core.proofs.Steps.{and_first, and_second}
+
+one_digit : (d n : ℕ) → n ≤ d → count_ones n ≡ 1 → IsPowerOfTwo n
+one_digit zero n h e = absurd (omega (arith, ones_le_self n, e, h))
+one_digit (suc d) n h e =
+    let s = ones_step n in
+    elim (eqb_tells (n % 2) 0) [
+      | inl even ↦
+          let half : IsPowerOfTwo (n / 2) = one_digit d (n / 2) (omega arith) (omega (arith, s, e, even.1)) in
+          let twice : 2 ^ (half.0 + 1) ≡ 2 ^ half.0 * 2 = pow_more 2 half.0 in
+          (half.0 + 1, omega (arith, half.1, twice, even.1))
+      | inr odd ↦
+          let low : n % 2 ≢ 0 = odd.1 in
+          let none : n / 2 ≡ 0 = zero_from_ones (n / 2) (omega (arith, s, e)) in
+          (0, omega (arith, none))
+    ]
+
+pub size_facts : (n : ℕ) → is_size n ≡ true → IsPowerOfTwo n × (LEAST_PLACES ≤ n) × (n ≤ MOST_PLACES)
+size_facts n h =
+    let within : Bool = leb LEAST_PLACES n && leb n MOST_PLACES in
+    let power : is_power_of_two n ≡ true = and_first (is_power_of_two n) within h in
+    let bounds : within ≡ true = and_second (is_power_of_two n) within h in
+    let least : leb LEAST_PLACES n ≡ true = and_first (leb LEAST_PLACES n) (leb n MOST_PLACES) bounds in
+    let most : leb n MOST_PLACES ≡ true = and_second (leb LEAST_PLACES n) (leb n MOST_PLACES) bounds in
+    (one_digit n n (omega arith) (grind (arith, nat_tests)), grind (arith, nat_tests), grind (arith, nat_tests))
