@@ -1,5 +1,6 @@
 -- Lists read by `get_elem?`, prefixes, sums, and the own entries of a seat.
-use Rattle.std.proofs.Common.{◌≡◌, ◌≢◌, ℕ, zero, suc, ◌+◌, ◌<◌, ◌≤◌, ◌⊎◌, ◌==◌, Bool, true, false, cond, List, [], ◌∷◌, ◌++◌, length, get_or, set, refl, sym, ap, subst, ◌∙◌, inl, inr, append_assoc, arith}
+use Rattle.std.proofs.Common.{◌≡◌, ◌≢◌, ℕ, zero, suc, ◌+◌, ◌<◌, ◌≤◌, ◌⊎◌, ◌==◌, Bool, true, false, cond, List, [], ◌∷◌, ◌++◌}
+use Rattle.std.proofs.Common.{length, get_or, set, refl, sym, ap, subst, ◌∙◌, inl, inr, append_assoc, arith}
 use Rattle.std.specs.List.{AllByRecursion, sum_by}
 use Rattle.std.proofs.lemmas.List.{append-nil, length-append}
 use Rattle.std.proofs.lemmas.Bool.Decides.{eqb_tells, leb_tells}
@@ -64,7 +65,8 @@ module _ {A : Type 0} where
   each_of P Q [] f all = tt
   each_of P Q (x ∷ xs) f all = (f x all.0, each_of P Q xs f all.1)
 
-  pub each_of_two : (P R Q : A → Type 0) (l : List A) → ((x : A) → P x → R x → Q x) → AllByRecursion P l → AllByRecursion R l → AllByRecursion Q l
+  pub each_of_two : (P R Q : A → Type 0) (l : List A) → ((x : A) → P x → R x → Q x) → AllByRecursion P l → AllByRecursion R l
+      → AllByRecursion Q l
   each_of_two P R Q [] f all more = tt
   each_of_two P R Q (x ∷ xs) f all more = (f x all.0 more.0, each_of_two P R Q xs f all.1 more.1)
 
@@ -82,22 +84,26 @@ module _ {A : Type 0} where
   sum_with_last f l a = let e : sum_by f (a ∷ []) ≡ f a = omega arith in sum_by-append f l (a ∷ []) ∙ ap (λ (n : ℕ). sum_by f l + n) e
 
   -- two terms are parts of the sum
-  pub sum_of_two : (f : A → ℕ) (l : List A) (i j : ℕ) (a b nothing : A) → f nothing ≡ 0 → get_elem? l i ≡ some a → get_elem? l j ≡ some b → j ≢ i → f a + f b ≤ sum_by f l
+  pub sum_of_two : (f : A → ℕ) (l : List A) (i j : ℕ) (a b nothing : A) → f nothing ≡ 0 → get_elem? l i ≡ some a
+      → get_elem? l j ≡ some b → j ≢ i → f a + f b ≤ sum_by f l
   sum_of_two f l i j a b nothing none e g apart =
       let first : sum_by f (set l i nothing) + f a ≡ sum_by f l + f nothing = sum_changed f l i a nothing e
-      in let second : sum_by f (set (set l i nothing) j nothing) + f b ≡ sum_by f (set l i nothing) + f nothing = sum_changed f (set l i nothing) j b nothing (set_else l i j nothing apart ∙ g)
+      in let second : sum_by f (set (set l i nothing) j nothing) + f b ≡ sum_by f (set l i nothing) + f nothing = sum_changed f
+      (set l i nothing) j b nothing (set_else l i j nothing apart ∙ g)
       in omega arith
 
   -- and one term is
   pub at_most : (f : A → ℕ) (l : List A) (i : ℕ) (a nothing : A) → f nothing ≡ 0 → get_elem? l i ≡ some a → f a ≤ sum_by f l
-  at_most f l i a nothing none e = let changed : sum_by f (set l i nothing) + f a ≡ sum_by f l + f nothing = sum_changed f l i a nothing e in omega arith
+  at_most f l i a nothing none e = let changed : sum_by f (set l i nothing) + f a ≡ sum_by f l + f nothing = sum_changed f l i a
+      nothing e in omega arith
 
 module _ {D : Type 0} where
   -- own entries in two histories, one after the other
   pub own_of-append : (a : ℕ) (h g : List (Entry D)) → own_of a (h ++ g) ≡ own_of a h ++ own_of a g
   own_of-append a [] g = refl
   own_of-append a (x ∷ h) g =
-      on_test (λ b. cond b (x ∷ own_of a (h ++ g)) (own_of a (h ++ g)) ≡ cond b (x ∷ own_of a h) (own_of a h) ++ own_of a g) x.seat a (λ _. ap (λ r. x ∷ r) (own_of-append a h g)) (λ _. own_of-append a h g)
+      on_test (λ b. cond b (x ∷ own_of a (h ++ g)) (own_of a (h ++ g)) ≡ cond b (x ∷ own_of a h)
+      (own_of a h) ++ own_of a g) x.seat a (λ _. ap (λ r. x ∷ r) (own_of-append a h g)) (λ _. own_of-append a h g)
 
   -- one entry is its seat's, and no other's
   pub own_of_one : (x : Entry D) → own_of x.seat (x ∷ []) ≡ x ∷ []
@@ -110,14 +116,18 @@ module _ {D : Type 0} where
   pub all_seats : (P : ℕ → Type 0) (h : List (Entry D)) → ((b : ℕ) → own_of b h ≢ [] → P b) → AllByRecursion (λ (x : Entry D). P x.seat) h
   all_seats P [] each = tt
   all_seats P (x ∷ h) each = (
-    each x.seat (λ none. let here : own_of x.seat (x ∷ h) ≡ x ∷ own_of x.seat h = on_test (λ t. cond t (x ∷ own_of x.seat h) (own_of x.seat h) ≡ x ∷ own_of x.seat h) x.seat x.seat (λ _. refl) (λ d. absurd (d refl)) in let wrong : x ∷ own_of x.seat h ≡ [] = sym here ∙ none in cc),
-    all_seats P h (λ b some_own. each b (λ none. some_own (on_test (λ t. cond t (x ∷ own_of b h) (own_of b h) ≡ [] → own_of b h ≡ []) x.seat b (λ _ wrong. cc) (λ _ e. e) none))),
+    each x.seat (λ none. let here : own_of x.seat (x ∷ h) ≡ x ∷ own_of x.seat h = on_test
+        (λ t. cond t (x ∷ own_of x.seat h) (own_of x.seat h) ≡ x ∷ own_of x.seat h) x.seat x.seat (λ _. refl) (λ d. absurd
+        (d refl)) in let wrong : x ∷ own_of x.seat h ≡ [] = sym here ∙ none in cc),
+    all_seats P h (λ b some_own. each b (λ none. some_own (on_test (λ t. cond t (x ∷ own_of b h) (own_of b h) ≡ []
+        → own_of b h ≡ []) x.seat b (λ _ wrong. cc) (λ _ e. e) none))),
   )
 
   -- a seat has no entries in a part of a history of which it has all before that part
   pub none_after : (a : ℕ) (own seen more : List (Entry D)) → own ≡ own_of a seen → own ≡ own_of a (seen ++ more) → own_of a more ≡ []
   none_after a own seen more first both =
-      let long : length own ≡ length (own_of a seen) + length (own_of a more) = ap length (both ∙ own_of-append a seen more) ∙ length-append (own_of a seen) (own_of a more)
+      let long : length own ≡ length (own_of a seen) + length (own_of a more) = ap length (both ∙ own_of-append a seen more)
+      ∙ length-append (own_of a seen) (own_of a more)
       in let short : length own ≡ length (own_of a seen) = ap length first
       in no_more (own_of a more) (omega arith)
 
@@ -134,10 +144,16 @@ module _ {D : Type 0} where
       in let none : Y ≡ [] = no_more Y (omega arith)
       in high ∙ whole ∙ ap (λ l. P ++ l) none ∙ append-nil P
 
-  pub exact_between : (u s p h : List (Entry D)) → IsLonger u s p → IsPrefix p h → (l : List (Member D)) → AreExact l h → AllByRecursion (λ (c : Member D). (c.own ≡ own_of c.seat u) ⊎ (c.own ≡ own_of c.seat s)) l → AreExact l p
+  pub exact_between : (u s p h : List (Entry D)) → IsLonger u s p → IsPrefix p h → (l : List (Member D)) → AreExact l h
+      → AllByRecursion (λ (c : Member D). (c.own ≡ own_of c.seat u) ⊎ (c.own ≡ own_of c.seat s)) l → AreExact l p
   exact_between u s p h longer below l exact either =
-      each_of_two (λ (c : Member D). c.own ≡ own_of c.seat h) (λ (c : Member D). (c.own ≡ own_of c.seat u) ⊎ (c.own ≡ own_of c.seat s)) (λ (c : Member D). c.own ≡ own_of c.seat p) l
-      (λ (c : Member D) high low. elim low [ inl e ↦ between c.seat u p h c.own longer.first below e high | inr e ↦ between c.seat s p h c.own longer.second below e high ])
+      each_of_two (λ (c : Member D). c.own ≡ own_of c.seat h) (λ (c : Member D). (c.own ≡ own_of c.seat u)
+      ⊎ (c.own ≡ own_of c.seat s)) (λ (c : Member D). c.own ≡ own_of c.seat p) l
+      (λ (c : Member D) high low. elim low [
+        | inl e ↦ between c.seat u p h c.own longer.first below e high
+        | inr e ↦ between c.seat
+            s p h c.own longer.second below e high
+      ])
       exact either
 
   -- the longer of two beginnings
@@ -159,9 +175,14 @@ module _ {D : Type 0} where
 
   pub among_either : (b : ℕ) (l m : List (Member D)) → IsAmong b (l ++ m) → IsAmong b l ⊎ IsAmong b m
   among_either b [] m is = inr is
-  among_either b (c ∷ l) m is = elim is [ inl e ↦ inl (inl e) | inr more ↦ elim (among_either b l m more) [ inl first ↦ inl (inr first) | inr second ↦ inr second ] ]
+  among_either b (c ∷ l) m is = elim is [
+    | inl e ↦ inl (inl e)
+    | inr more ↦ elim
+        (among_either b l m more) [ inl first ↦ inl (inr first) | inr second ↦ inr second ]
+  ]
 
-  pub distinct_append : (l m : List (Member D)) → AreDistinct l → AreDistinct m → ((b : ℕ) → IsAmong b l → ¬ IsAmong b m) → AreDistinct (l ++ m)
+  pub distinct_append : (l m : List (Member D)) → AreDistinct l → AreDistinct m → ((b : ℕ) → IsAmong b l → ¬ IsAmong b m)
+      → AreDistinct (l ++ m)
   distinct_append [] m first second apart = second
   distinct_append (c ∷ l) m first second apart = (
     (λ is. elim (among_either c.seat l m is) [ inl again ↦ first.0 again | inr other ↦ apart c.seat (inl refl) other ]),
@@ -169,20 +190,30 @@ module _ {D : Type 0} where
   )
 
   -- a history in which some members are exact, and to which only they add: it stays exact where they added nothing
-  pub exact_apart : (l : List (Member D)) (h more : List (Entry D)) → ((b : ℕ) → IsAmong b l → own_of b more ≡ []) → AreExact l h → AreExact l (h ++ more)
+  pub exact_apart : (l : List (Member D)) (h more : List (Entry D)) → ((b : ℕ) → IsAmong b l → own_of b more ≡ []) → AreExact l h
+      → AreExact l (h ++ more)
   exact_apart [] h more apart exact = tt
   exact_apart (c ∷ l) h more apart exact = (
-    exact.0 ∙ sym (own_of-append c.seat h more ∙ ap (λ (z : List (Entry D)). own_of c.seat h ++ z) (apart c.seat (inl refl)) ∙ append-nil (own_of c.seat h)),
+    exact.0 ∙ sym (own_of-append c.seat h more ∙ ap (λ (z : List (Entry D)). own_of c.seat h ++ z) (apart c.seat (inl refl))
+        ∙ append-nil (own_of c.seat h)),
     exact_apart l h more (λ b is. apart b (inr is)) exact.1,
   )
 
   all_own : (a : ℕ) (h : List (Entry D)) → AllByRecursion (λ (x : Entry D). x.seat ≡ a) h → own_of a h ≡ h
   all_own a [] all = refl
-  all_own a (x ∷ h) all = on_test (λ b. cond b (x ∷ own_of a h) (own_of a h) ≡ x ∷ h) x.seat a (λ _. ap (λ r. x ∷ r) (all_own a h all.1)) (λ d. absurd (d all.0))
+  all_own a (x ∷ h) all = on_test (λ b. cond b (x ∷ own_of a h) (own_of a h) ≡ x ∷ h) x.seat a (λ _. ap (λ r. x ∷ r)
+      (all_own a h all.1)) (λ d. absurd (d all.0))
 
 pub alone_saw_its_own : (D : Type 0) → AloneSawItsOwn D
 alone_saw_its_own D k faithful whole alone =
-    let J : List (Member D) → Type 0 = λ l. AllByRecursion (λ (x : Entry D). IsAmong x.seat (record { seat = k.seat; own = k.own } ∷ l)) k.seen
+    let J : List (Member D) → Type 0 = λ l. AllByRecursion (λ (x : Entry D). IsAmong x.seat (record {
+      seat = k.seat;
+      own = k.own;
+    } ∷ l)) k.seen
     in let mine : AllByRecursion (λ (x : Entry D). x.seat ≡ k.seat) k.seen =
-    each_of (λ (x : Entry D). IsAmong x.seat (record { seat = k.seat; own = k.own } ∷ [])) (λ (x : Entry D). x.seat ≡ k.seat) k.seen (λ x is. elim is [ inl e ↦ e | inr none ↦ absurd none ]) (subst J alone whole)
+    each_of (λ (x : Entry D). IsAmong x.seat (record {
+      seat = k.seat;
+      own = k.own;
+    } ∷ [])) (λ (x : Entry D). x.seat ≡ k.seat) k.seen (λ x is. elim is [ inl e ↦ e | inr none ↦ absurd none ])
+    (subst J alone whole)
     in sym (all_own k.seat k.seen mine) ∙ sym faithful.own

@@ -1,5 +1,6 @@
 -- How a history and the views of it go on agreeing: as a seat steps, is cut in two, or takes another in.
-use Rattle.std.proofs.Common.{◌≡◌, ◌≢◌, ℕ, ◌+◌, ◌<◌, ◌≤◌, ◌⊎◌, cond, Some, List, [], ◌∷◌, ◌++◌, set, length, refl, sym, ap, subst, ◌∙◌, inl, inr, arith, length-set}
+use Rattle.std.proofs.Common.{◌≡◌, ◌≢◌, ℕ, ◌+◌, ◌<◌, ◌≤◌, ◌⊎◌, cond, Some, List, [], ◌∷◌, ◌++◌, set, length, refl, sym, ap, subst}
+use Rattle.std.proofs.Common.{◌∙◌, inl, inr, arith, length-set}
 use Rattle.std.proofs.lemmas.List.{append-nil, length-append}
 use Rattle.std.specs.List.{AllByRecursion, sum_by}
 use mathlib.Core.Option.{some, some-ne-none}
@@ -8,8 +9,11 @@ use lib.ListN.{get_elem?}
 use Rattle.atomic_table.proofs.Lists.{at_set, set_else, set_here, at_longer}
 use Rattle.alog_lane.specs.declared.seat.TheConstants.{ALL_PARTS}
 use Rattle.alog_lane.specs.Seats.{Entry, Member, own_of, members_of, IsAmong, AreDistinct, AreExact}
-use Rattle.alog_lane.specs.Roster.{Stage, Idle, Fresh, Joined, Sight, members_by, members_at, parts_of, Agrees, kept_part, given_part, taking_in, gone, first_sight}
-use Rattle.alog_lane.proofs.Lists.{same_or_not, on_test, inside, one_value, at_end, prefix_longer, each_append, sum_changed, sum_with_last, sum_of_two, own_of-append, all_seats, none_after, among_first, among_second, among_either, distinct_append, exact_apart}
+use Rattle.alog_lane.specs.Roster.{Stage, Idle, Fresh, Joined, Sight, members_by, members_at, parts_of, Agrees, kept_part}
+use Rattle.alog_lane.specs.Roster.{given_part, taking_in, gone, first_sight}
+use Rattle.alog_lane.proofs.Lists.{same_or_not, on_test, inside, one_value, at_end, prefix_longer, each_append, sum_changed}
+use Rattle.alog_lane.proofs.Lists.{sum_with_last, sum_of_two, own_of-append, all_seats, none_after, among_first, among_second}
+use Rattle.alog_lane.proofs.Lists.{among_either, distinct_append, exact_apart}
 
 empty_or_not : {A : Type 0} (l : List A) → (l ≡ []) ⊎ (l ≢ [])
 empty_or_not [] = inl refl
@@ -20,7 +24,8 @@ second_empty [] m e = e
 second_empty (x ∷ l) m e = cc
 
 module _ {D : Type 0} where
-  none_of_members : (l : List (Member D)) (seen more : List (Entry D)) → AreExact l seen → AreExact l (seen ++ more) → (c : ℕ) → IsAmong c l → own_of c more ≡ []
+  none_of_members : (l : List (Member D)) (seen more : List (Entry D)) → AreExact l seen → AreExact l (seen ++ more) → (c : ℕ)
+      → IsAmong c l → own_of c more ≡ []
   none_of_members [] seen more first both c is = absurd is
   none_of_members (m ∷ l) seen more first both c is =
       elim is [
@@ -31,7 +36,10 @@ module _ {D : Type 0} where
   -- a history of which each seat has no entries is empty
   nobody_made : (h : List (Entry D)) → ((c : ℕ) → own_of c h ≢ [] → ⊥) → h ≡ []
   nobody_made [] none = refl
-  nobody_made (x ∷ h) none = absurd (none x.seat (λ empty. let here : own_of x.seat (x ∷ h) ≡ x ∷ own_of x.seat h = on_test (λ t. cond t (x ∷ own_of x.seat h) (own_of x.seat h) ≡ x ∷ own_of x.seat h) x.seat x.seat (λ _. refl) (λ d. absurd (d refl)) in let wrong : x ∷ own_of x.seat h ≡ [] = sym here ∙ empty in cc))
+  nobody_made (x ∷ h) none = absurd (none x.seat
+      (λ empty. let here : own_of x.seat (x ∷ h) ≡ x ∷ own_of x.seat h = on_test
+      (λ t. cond t (x ∷ own_of x.seat h) (own_of x.seat h) ≡ x ∷ own_of x.seat h) x.seat x.seat (λ _. refl) (λ d. absurd (d refl))
+      in let wrong : x ∷ own_of x.seat h ≡ [] = sym here ∙ empty in cc))
 
 module _ {K D W : Type 0} where
   -- What a step of the seat a owes, which adds these entries to the history and leaves it with the view w.
@@ -46,12 +54,15 @@ module _ {K D W : Type 0} where
     pub distinct : AreDistinct (members_at a w)
     pub makers : (c : ℕ) → own_of c more ≢ [] → IsAmong c (members_at a v)
 
-  module _ (key : K) (h more : List (Entry D)) (views : List (Sight K D W)) (a : ℕ) (v w : Sight K D W) (agrees : Agrees key h views) (at : get_elem? views a ≡ some v) (step : IsStep h more a v w) where
+  module _ (key : K) (h more : List (Entry D)) (views : List
+      (Sight K D W)) (a : ℕ) (v w : Sight K D W) (agrees : Agrees key h views) (at : get_elem? views a ≡ some v)
+      (step : IsStep h more a v w) where
     here : get_elem? (set views a w) a ≡ some w
     here = set_here views a w (inside views a v at)
 
     -- each view after the step was one before it, of the same members
-    came : (b : ℕ) (u : Sight K D W) → get_elem? (set views a w) b ≡ some u → (o : Sight K D W) × (get_elem? views b ≡ some o) × (u.known.parts ≡ o.known.parts) × ((c : ℕ) → IsAmong c (members_at b u) → IsAmong c (members_at b o))
+    came : (b : ℕ) (u : Sight K D W) → get_elem? (set views a w) b ≡ some u → (o : Sight K D W) × (get_elem? views b ≡ some o)
+        × (u.known.parts ≡ o.known.parts) × ((c : ℕ) → IsAmong c (members_at b u) → IsAmong c (members_at b o))
     came b u e =
         elim (at_set views a b w u e) [
           | inl same ↦
@@ -59,22 +70,35 @@ module _ {K D W : Type 0} where
               in let P : Sight K D W → Type 0 = λ z. z.known.parts ≡ v.known.parts
               in let Q : ℕ → Sight K D W → Type 0 = λ j z. (c : ℕ) → IsAmong c (members_at j z) → IsAmong c (members_at j v)
               in let R : ℕ → Type 0 = λ j. Q j w
-              in (v, subst G (sym same.0) at, subst P same.1 step.parts, subst (λ (z : Sight K D W). Q b z) same.1 (subst R (sym same.0) step.back))
+              in (
+                v,
+                subst G (sym same.0) at,
+                subst P same.1 step.parts,
+                subst (λ (z : Sight K D W). Q b z) same.1 (subst R (sym same.0) step.back),
+              )
           | inr other ↦ (u, other.1, refl, λ c is. is)
         ]
 
-    view_is : (P : ℕ → Sight K D W → Type 0) → P a w → ((b : ℕ) (u : Sight K D W) → b ≢ a → get_elem? views b ≡ some u → P b u) → (b : ℕ) (u : Sight K D W) → get_elem? (set views a w) b ≡ some u → P b u
+    view_is : (P : ℕ → Sight K D W → Type 0) → P a w → ((b : ℕ) (u : Sight K D W) → b ≢ a → get_elem? views b ≡ some u → P b u)
+        → (b : ℕ) (u : Sight K D W) → get_elem? (set views a w) b ≡ some u → P b u
     view_is P mine others b u e =
         elim (at_set views a b w u e) [
-          | inl same ↦ let Q : ℕ → Type 0 = λ z. P z u in let R : Sight K D W → Type 0 = λ z. P a z in subst Q (sym same.0) (subst R same.1 mine)
+          | inl same ↦ let Q : ℕ → Type 0 = λ z. P z u in let R : Sight K D W → Type 0 = λ z. P a z
+              in subst Q (sym same.0) (subst R same.1 mine)
           | inr other ↦ others b u other.0 other.1
         ]
 
     -- no other seat's member added anything
-    apart_from_more : (b : ℕ) (u : Sight K D W) → b ≢ a → get_elem? views b ≡ some u → (c : ℕ) → IsAmong c (members_at b u) → own_of c more ≡ []
-    apart_from_more b u apart e c is = elim (empty_or_not (own_of c more)) [ inl none ↦ none | inr some_own ↦ absurd (apart (agrees.once a v at b u e c (step.makers c some_own) is)) ]
+    apart_from_more : (b : ℕ) (u : Sight K D W) → b ≢ a → get_elem? views b ≡ some u → (c : ℕ) → IsAmong c (members_at b u)
+        → own_of c more ≡ []
+    apart_from_more b u apart e c is = elim (empty_or_not (own_of c more)) [
+      | inl none ↦ none
+      | inr some_own ↦ absurd
+          (apart (agrees.once a v at b u e c (step.makers c some_own) is))
+    ]
 
-    carried : (c : ℕ) → ((b : ℕ) × (u : Sight K D W) × (get_elem? views b ≡ some u) × IsAmong c (members_at b u)) → (b : ℕ) × (u : Sight K D W) × (get_elem? (set views a w) b ≡ some u) × IsAmong c (members_at b u)
+    carried : (c : ℕ) → ((b : ℕ) × (u : Sight K D W) × (get_elem? views b ≡ some u) × IsAmong c (members_at b u)) → (b : ℕ)
+        × (u : Sight K D W) × (get_elem? (set views a w) b ≡ some u) × IsAmong c (members_at b u)
     carried c by =
         elim (same_or_not by.0 a) [
           | inl same ↦
@@ -88,10 +112,15 @@ module _ {K D W : Type 0} where
 
     pub agrees_step : Agrees key (h ++ more) (set views a w)
     agrees_step = record {
-      keyed = view_is (λ b u. 0 < u.known.parts → u.key ≡ Some key) (λ some_parts. step.key ∙ agrees.keyed a v at (let same : w.known.parts ≡ v.known.parts = step.parts in omega (arith, same))) (λ b u _ g. agrees.keyed b u g);
-      seen = view_is (λ b u. IsPrefix u.known.seen (h ++ more)) step.seen (λ b u _ g. prefix_longer u.known.seen h more (agrees.seen b u g));
-      other = view_is (λ b u. (s : List (Entry D)) → u.stage ≡ Joined s → IsPrefix s (h ++ more)) step.other (λ b u _ g s is. prefix_longer s h more (agrees.other b u g s is));
-      exact = view_is (λ b u. AreExact (members_at b u) (h ++ more)) step.exact (λ b u apart g. exact_apart (members_at b u) h more (apart_from_more b u apart g) (agrees.exact b u g));
+      keyed = view_is (λ b u. 0 < u.known.parts → u.key ≡ Some key) (λ some_parts. step.key
+          ∙ agrees.keyed a v at (let same : w.known.parts ≡ v.known.parts = step.parts
+          in omega (arith, same))) (λ b u _ g. agrees.keyed b u g);
+      seen = view_is (λ b u. IsPrefix u.known.seen (h ++ more)) step.seen (λ b u _ g. prefix_longer u.known.seen h more
+          (agrees.seen b u g));
+      other = view_is (λ b u. (s : List (Entry D)) → u.stage ≡ Joined s
+          → IsPrefix s (h ++ more)) step.other (λ b u _ g s is. prefix_longer s h more (agrees.other b u g s is));
+      exact = view_is (λ b u. AreExact (members_at b u) (h ++ more)) step.exact (λ b u apart g. exact_apart (members_at b u) h more
+          (apart_from_more b u apart g) (agrees.exact b u g));
       distinct = view_is (λ b u. AreDistinct (members_at b u)) step.distinct (λ b u _ g. agrees.distinct b u g);
       once =
           λ b u e c x g k in_u in_x.
@@ -102,11 +131,16 @@ module _ {K D W : Type 0} where
           λ c some_own.
           elim (empty_or_not (own_of c more)) [
             | inr added ↦ (a, w, here, step.forth c (step.makers c added))
-            | inl none ↦ carried c (agrees.made c (λ empty. some_own (own_of-append c h more ∙ ap (λ (l : List (Entry D)). l ++ own_of c more) empty ∙ none)))
+            | inl none ↦ carried c (agrees.made c (λ empty. some_own (own_of-append c h more
+                ∙ ap (λ (l : List (Entry D)). l ++ own_of c more) empty ∙ none)))
           ];
-      numbered = λ b u e c is. let p = came b u e in let len : length (set views a w) ≡ length views = length-set views a w in let low : c < length views = agrees.numbered b p.0 p.1 c (p.3 c is) in omega arith;
-      parted = λ b u e c is. let p = came b u e in let low : 0 < p.0.known.parts = agrees.parted b p.0 p.1 c (p.3 c is) in let same : u.known.parts ≡ p.0.known.parts = p.2 in omega arith;
-      whole = let e : sum_by parts_of (set views a w) + parts_of v ≡ sum_by parts_of views + parts_of w = sum_changed parts_of views a v w at in let same : w.known.parts ≡ v.known.parts = step.parts in let sum : sum_by parts_of views ≡ ALL_PARTS = agrees.whole in omega arith;
+      numbered = λ b u e c is. let p = came b u e in let len : length (set views a w) ≡ length views = length-set views a w
+          in let low : c < length views = agrees.numbered b p.0 p.1 c (p.3 c is) in omega arith;
+      parted = λ b u e c is. let p = came b u e in let low : 0 < p.0.known.parts = agrees.parted b p.0 p.1 c (p.3 c is)
+          in let same : u.known.parts ≡ p.0.known.parts = p.2 in omega arith;
+      whole = let e : sum_by parts_of (set views a w) + parts_of v ≡ sum_by parts_of views + parts_of w = sum_changed parts_of
+          views a v w at in let same : w.known.parts ≡ v.known.parts = step.parts
+          in let sum : sum_by parts_of views ≡ ALL_PARTS = agrees.whole in omega arith;
     }
 
   -- A look: a step that adds nothing and leaves the members as they are.
@@ -117,7 +151,8 @@ module _ {K D W : Type 0} where
     pub seen : IsPrefix w.known.seen h
     pub other : (s : List (Entry D)) → w.stage ≡ Joined s → IsPrefix s h
 
-  pub agrees_look : (key : K) (h : List (Entry D)) (views : List (Sight K D W)) (a : ℕ) (v w : Sight K D W) → Agrees key h views → get_elem? views a ≡ some v → IsLook h a v w → Agrees key h (set views a w)
+  pub agrees_look : (key : K) (h : List (Entry D)) (views : List (Sight K D W)) (a : ℕ) (v w : Sight K D W) → Agrees key h views
+      → get_elem? views a ≡ some v → IsLook h a v w → Agrees key h (set views a w)
   agrees_look key h views a v w agrees at look =
       let P : List (Entry D) → Type 0 = λ g. Agrees key g (set views a w)
       in let X : List (Member D) → Type 0 = λ l. AreExact l (h ++ [])
@@ -137,7 +172,9 @@ module _ {K D W : Type 0} where
       }))
 
   -- a seat is cut in two, and the new seat has made nothing yet
-  module _ (key : K) (h : List (Entry D)) (views : List (Sight K D W)) (a parts : ℕ) (v : Sight K D W) (agrees : Agrees key h views) (at : get_elem? views a ≡ some v) (idle : v.stage ≡ Idle) (fewer : parts < v.known.parts) (some_parts : 0 < parts) where
+  module _ (key : K) (h : List (Entry D)) (views : List
+      (Sight K D W)) (a parts : ℕ) (v : Sight K D W) (agrees : Agrees key h views) (at : get_elem? views a ≡ some v)
+      (idle : v.stage ≡ Idle) (fewer : parts < v.known.parts) (some_parts : 0 < parts) where
     abbrev left : Sight K D W
     left = kept_part parts v
 
@@ -156,15 +193,19 @@ module _ {K D W : Type 0} where
     elsewhere : (b : ℕ) (u : Sight K D W) → b ≢ a → get_elem? views b ≡ some u → get_elem? after_split b ≡ some u
     elsewhere b u apart e = at_longer (set views a left) (right ∷ []) b u (set_else views a b left apart ∙ e)
 
-    which : (P : ℕ → Sight K D W → Type 0) → P a left → P (length views) right → ((b : ℕ) (u : Sight K D W) → b ≢ a → get_elem? views b ≡ some u → P b u) → (b : ℕ) (u : Sight K D W) → get_elem? after_split b ≡ some u → P b u
+    which : (P : ℕ → Sight K D W → Type 0) → P a left → P (length views) right
+        → ((b : ℕ) (u : Sight K D W) → b ≢ a → get_elem? views b ≡ some u → P b u) → (b : ℕ) (u : Sight K D W)
+        → get_elem? after_split b ≡ some u → P b u
     which P mine its others b u e =
         elim (at_end (set views a left) right u b e) [
           | inl old ↦
               elim (at_set views a b left u old) [
-                | inl same ↦ let Q : ℕ → Type 0 = λ z. P z u in let R : Sight K D W → Type 0 = λ z. P a z in subst Q (sym same.0) (subst R same.1 mine)
+                | inl same ↦ let Q : ℕ → Type 0 = λ z. P z u in let R : Sight K D W → Type 0 = λ z. P a z
+                    in subst Q (sym same.0) (subst R same.1 mine)
                 | inr other ↦ others b u other.0 other.1
               ]
-          | inr last ↦ let Q : ℕ → Type 0 = λ z. P z u in let R : Sight K D W → Type 0 = λ z. P (length views) z in subst Q (sym (last.0 ∙ len)) (subst R last.1 its)
+          | inr last ↦ let Q : ℕ → Type 0 = λ z. P z u in let R : Sight K D W → Type 0 = λ z. P (length views) z
+              in subst Q (sym (last.0 ∙ len)) (subst R last.1 its)
         ]
 
     -- the members that the seat knew
@@ -175,38 +216,52 @@ module _ {K D W : Type 0} where
     was c is = let P : List (Member D) → Type 0 = λ l. IsAmong c l in subst P (sym mine) is
 
     none_made : own_of (length views) h ≡ []
-    none_made = elim (empty_or_not (own_of (length views) h)) [ inl none ↦ none | inr some_own ↦ (let by = agrees.made (length views) some_own in let low : length views < length views = agrees.numbered by.0 by.1 by.2 (length views) by.3 in absurd (omega arith)) ]
+    none_made = elim (empty_or_not (own_of (length views) h)) [
+      | inl none ↦ none
+      | inr some_own ↦
+          (let by = agrees.made (length views) some_own
+          in let low : length views < length views = agrees.numbered by.0 by.1 by.2 (length views) by.3 in absurd (omega arith))
+    ]
 
     -- a view after the split: one before it of the same members, or the new one
-    origin : (b : ℕ) (u : Sight K D W) → get_elem? after_split b ≡ some u → ((o : Sight K D W) × (get_elem? views b ≡ some o) × ((c : ℕ) → IsAmong c (members_at b u) → IsAmong c (members_at b o))) ⊎ ((b ≡ length views) × ((c : ℕ) → IsAmong c (members_at b u) → c ≡ length views))
+    origin : (b : ℕ) (u : Sight K D W) → get_elem? after_split b ≡ some u
+        → ((o : Sight K D W) × (get_elem? views b ≡ some o) × ((c : ℕ) → IsAmong c (members_at b u) → IsAmong c (members_at b o)))
+        ⊎ ((b ≡ length views) × ((c : ℕ) → IsAmong c (members_at b u) → c ≡ length views))
     origin =
-        which (λ b u. ((o : Sight K D W) × (get_elem? views b ≡ some o) × ((c : ℕ) → IsAmong c (members_at b u) → IsAmong c (members_at b o))) ⊎ ((b ≡ length views) × ((c : ℕ) → IsAmong c (members_at b u) → c ≡ length views)))
+        which (λ b u. ((o : Sight K D W) × (get_elem? views b ≡ some o)
+        × ((c : ℕ) → IsAmong c (members_at b u) → IsAmong c (members_at b o)))
+        ⊎ ((b ≡ length views) × ((c : ℕ) → IsAmong c (members_at b u) → c ≡ length views)))
         (inl (v, at, was))
         (inr (refl, λ c is. elim is [ inl e ↦ e | inr not_so ↦ absurd not_so ]))
         (λ b u _ g. inl (u, g, λ c is. is))
 
     pub agrees_split : Agrees key h after_split
     agrees_split = record {
-      keyed = which (λ b u. 0 < u.known.parts → u.key ≡ Some key) (λ _. agrees.keyed a v at (omega arith)) (λ _. agrees.keyed a v at (omega arith)) (λ b u _ g. agrees.keyed b u g);
+      keyed = which (λ b u. 0 < u.known.parts → u.key ≡ Some key) (λ _. agrees.keyed a v at
+          (omega arith)) (λ _. agrees.keyed a v at (omega arith)) (λ b u _ g. agrees.keyed b u g);
       seen = which (λ b u. IsPrefix u.known.seen h) (agrees.seen a v at) (agrees.seen a v at) (λ b u _ g. agrees.seen b u g);
       other =
           which (λ b u. (s : List (Entry D)) → u.stage ≡ Joined s → IsPrefix s h)
           (λ s is. let wrong : ◌≡◌ {A = Stage D W} Idle (Joined s) = is in cc)
           (λ s is. let wrong : ◌≡◌ {A = Stage D W} Fresh (Joined s) = is in cc)
           (λ b u _ g. agrees.other b u g);
-      exact = which (λ b u. AreExact (members_at b u) h) (let P : List (Member D) → Type 0 = λ l. AreExact l h in subst P mine (agrees.exact a v at)) (sym none_made, tt) (λ b u _ g. agrees.exact b u g);
-      distinct = which (λ b u. AreDistinct (members_at b u)) (let P : List (Member D) → Type 0 = λ l. AreDistinct l in subst P mine (agrees.distinct a v at)) ((λ is. is), tt) (λ b u _ g. agrees.distinct b u g);
+      exact = which (λ b u. AreExact (members_at b u) h) (let P : List (Member D) → Type 0 = λ l. AreExact l h
+          in subst P mine (agrees.exact a v at)) (sym none_made, tt) (λ b u _ g. agrees.exact b u g);
+      distinct = which (λ b u. AreDistinct (members_at b u)) (let P : List (Member D) → Type 0 = λ l. AreDistinct l
+          in subst P mine (agrees.distinct a v at)) ((λ is. is), tt) (λ b u _ g. agrees.distinct b u g);
       once =
           λ b u e c x g k in_u in_x.
           elim (origin b u e) [
             | inl p ↦
                 elim (origin c x g) [
                   | inl q ↦ agrees.once b p.0 p.1 c q.0 q.1 k (p.2 k in_u) (q.2 k in_x)
-                  | inr q ↦ let low : k < length views = agrees.numbered b p.0 p.1 k (p.2 k in_u) in let is : k ≡ length views = q.1 k in_x in absurd (omega arith)
+                  | inr q ↦ let low : k < length views = agrees.numbered b p.0 p.1 k (p.2 k in_u)
+                      in let is : k ≡ length views = q.1 k in_x in absurd (omega arith)
                 ]
             | inr p ↦
                 elim (origin c x g) [
-                  | inl q ↦ let low : k < length views = agrees.numbered c q.0 q.1 k (q.2 k in_x) in let is : k ≡ length views = p.1 k in_u in absurd (omega arith)
+                  | inl q ↦ let low : k < length views = agrees.numbered c q.0 q.1 k (q.2 k in_x)
+                      in let is : k ≡ length views = p.1 k in_u in absurd (omega arith)
                   | inr q ↦ q.0 ∙ sym p.0
                 ]
           ];
@@ -232,16 +287,22 @@ module _ {K D W : Type 0} where
             | inl p ↦ let low : c < length views = agrees.numbered b p.0 p.1 c (p.2 c is) in omega arith
             | inr p ↦ let last : c ≡ length views = p.1 c is in omega arith
           ];
-      parted = which (λ b u. (c : ℕ) → IsAmong c (members_at b u) → 0 < u.known.parts) (λ c is. omega arith) (λ c is. some_parts) (λ b u _ g. agrees.parted b u g);
+      parted = which (λ b u. (c : ℕ) → IsAmong c (members_at b u)
+          → 0 < u.known.parts) (λ c is. omega arith) (λ c is. some_parts) (λ b u _ g. agrees.parted b u g);
       whole =
-          let with_new : sum_by parts_of after_split ≡ sum_by parts_of (set views a left) + parts_of right = sum_with_last parts_of (set views a left) right
-          in let changed : sum_by parts_of (set views a left) + parts_of v ≡ sum_by parts_of views + parts_of left = sum_changed parts_of views a v left at
+          let with_new : sum_by parts_of after_split ≡ sum_by parts_of (set views a left) + parts_of right = sum_with_last parts_of
+          (set views a left) right
+          in let changed : sum_by parts_of (set views a left) + parts_of v ≡ sum_by parts_of views + parts_of left = sum_changed
+          parts_of views a v left at
           in let sum : sum_by parts_of views ≡ ALL_PARTS = agrees.whole
           in omega arith;
     }
 
   -- a seat takes in another, with its parts and members
-  module _ (key : K) (h : List (Entry D)) (views : List (Sight K D W)) (a o : ℕ) (v w : Sight K D W) (agrees : Agrees key h views) (at : get_elem? views a ≡ some v) (at_other : get_elem? views o ≡ some w) (apart : o ≢ a) (idle : v.stage ≡ Idle) (other_idle : w.stage ≡ Idle) (some_parts : 0 < v.known.parts) where
+  module _ (key : K) (h : List (Entry D)) (views : List
+      (Sight K D W)) (a o : ℕ) (v w : Sight K D W) (agrees : Agrees key h views) (at : get_elem? views a ≡ some v)
+      (at_other : get_elem? views o ≡ some w) (apart : o ≢ a) (idle : v.stage ≡ Idle) (other_idle : w.stage ≡ Idle)
+      (some_parts : 0 < v.known.parts) where
     abbrev both : Sight K D W
     both = taking_in v w
 
@@ -260,13 +321,17 @@ module _ {K D W : Type 0} where
     unchanged : (b : ℕ) (u : Sight K D W) → b ≢ a → b ≢ o → get_elem? views b ≡ some u → get_elem? after_join b ≡ some u
     unchanged b u not_a not_o e = set_else (set views a both) o b gone not_o ∙ set_else views a b both not_a ∙ e
 
-    cases : (P : ℕ → Sight K D W → Type 0) → P a both → P o gone → ((b : ℕ) (u : Sight K D W) → b ≢ a → b ≢ o → get_elem? views b ≡ some u → P b u) → (b : ℕ) (u : Sight K D W) → get_elem? after_join b ≡ some u → P b u
+    cases : (P : ℕ → Sight K D W → Type 0) → P a both → P o gone
+        → ((b : ℕ) (u : Sight K D W) → b ≢ a → b ≢ o → get_elem? views b ≡ some u → P b u) → (b : ℕ) (u : Sight K D W)
+        → get_elem? after_join b ≡ some u → P b u
     cases P mine its others b u e =
         elim (at_set (set views a both) o b gone u e) [
-          | inl same ↦ let Q : ℕ → Type 0 = λ z. P z u in let R : Sight K D W → Type 0 = λ z. P o z in subst Q (sym same.0) (subst R same.1 its)
+          | inl same ↦ let Q : ℕ → Type 0 = λ z. P z u in let R : Sight K D W → Type 0 = λ z. P o z
+              in subst Q (sym same.0) (subst R same.1 its)
           | inr other ↦
               elim (at_set views a b both u other.1) [
-                | inl same ↦ let Q : ℕ → Type 0 = λ z. P z u in let R : Sight K D W → Type 0 = λ z. P a z in subst Q (sym same.0) (subst R same.1 mine)
+                | inl same ↦ let Q : ℕ → Type 0 = λ z. P z u in let R : Sight K D W → Type 0 = λ z. P a z
+                    in subst Q (sym same.0) (subst R same.1 mine)
                 | inr old ↦ others b u old.0 other.0 old.1
               ]
         ]
@@ -294,15 +359,27 @@ module _ {K D W : Type 0} where
     from_second c is = among_second c (members_of v.known) (members_of w.known) is
 
     -- whose a member was before the join
-    owner : (b : ℕ) (u : Sight K D W) → get_elem? after_join b ≡ some u → (c : ℕ) → IsAmong c (members_at b u) → (j : ℕ) × (x : Sight K D W) × (get_elem? views j ≡ some x) × IsAmong c (members_at j x) × ((b ≡ j) ⊎ ((b ≡ a) × (j ≡ o)))
+    owner : (b : ℕ) (u : Sight K D W) → get_elem? after_join b ≡ some u → (c : ℕ) → IsAmong c (members_at b u) → (j : ℕ)
+        × (x : Sight K D W) × (get_elem? views j ≡ some x) × IsAmong c (members_at j x) × ((b ≡ j) ⊎ ((b ≡ a) × (j ≡ o)))
     owner =
-        cases (λ b u. (c : ℕ) → IsAmong c (members_at b u) → (j : ℕ) × (x : Sight K D W) × (get_elem? views j ≡ some x) × IsAmong c (members_at j x) × ((b ≡ j) ⊎ ((b ≡ a) × (j ≡ o))))
-        (λ c is. elim (split_members c is) [ inl first ↦ (a, v, at, in_first c first, inl refl) | inr second ↦ (o, w, at_other, in_second c second, inr (refl, refl)) ])
+        cases (λ b u. (c : ℕ) → IsAmong c (members_at b u) → (j : ℕ) × (x : Sight K D W) × (get_elem? views j ≡ some x)
+        × IsAmong c (members_at j x) × ((b ≡ j) ⊎ ((b ≡ a) × (j ≡ o))))
+        (λ c is. elim (split_members c is) [
+          | inl first ↦ (a, v, at, in_first c first, inl refl)
+          | inr second ↦ (
+            o,
+            w,
+            at_other,
+            in_second c second,
+            inr (refl, refl),
+          )
+        ])
         (λ c is. absurd is)
         (λ b u _ _ g c is. (b, u, g, is, inl refl))
 
     -- and whose it is after it
-    heir : (c j : ℕ) (x : Sight K D W) → get_elem? views j ≡ some x → IsAmong c (members_at j x) → (b : ℕ) × (u : Sight K D W) × (get_elem? after_join b ≡ some u) × IsAmong c (members_at b u)
+    heir : (c j : ℕ) (x : Sight K D W) → get_elem? views j ≡ some x → IsAmong c (members_at j x) → (b : ℕ) × (u : Sight K D W)
+        × (get_elem? after_join b ≡ some u) × IsAmong c (members_at b u)
     heir c j x g is =
         elim (same_or_not j a) [
           | inl same ↦
@@ -330,21 +407,27 @@ module _ {K D W : Type 0} where
 
     pub agrees_join : Agrees key h after_join
     agrees_join = record {
-      keyed = cases (λ b u. 0 < u.known.parts → u.key ≡ Some key) (λ _. agrees.keyed a v at some_parts) (λ none. absurd (omega arith)) (λ b u _ _ g. agrees.keyed b u g);
+      keyed = cases (λ b u. 0 < u.known.parts → u.key ≡ Some key) (λ _. agrees.keyed a v at some_parts) (λ none. absurd
+          (omega arith)) (λ b u _ _ g. agrees.keyed b u g);
       seen = cases (λ b u. IsPrefix u.known.seen h) (agrees.seen a v at) (h, refl) (λ b u _ _ g. agrees.seen b u g);
       other =
           cases (λ b u. (s : List (Entry D)) → u.stage ≡ Joined s → IsPrefix s h)
-          (λ s is. let same : ◌≡◌ {A = Stage D W} (Joined w.known.seen) (Joined s) = is in let one : w.known.seen ≡ s = cc in let P : List (Entry D) → Type 0 = λ z. IsPrefix z h in subst P one (agrees.seen o w at_other))
+          (λ s is. let same : ◌≡◌ {A = Stage D W} (Joined w.known.seen) (Joined s) = is in let one : w.known.seen ≡ s = cc
+          in let P : List (Entry D) → Type 0 = λ z. IsPrefix z h in subst P one (agrees.seen o w at_other))
           (λ s is. let wrong : ◌≡◌ {A = Stage D W} (gone {K = K} {D = D} {W = W}).stage (Joined s) = is in cc)
           (λ b u _ _ g. agrees.other b u g);
       exact =
           cases (λ b u. AreExact (members_at b u) h)
-          (let P : List (Member D) → Type 0 = λ l. AreExact l h in each_append (λ (c : Member D). c.own ≡ own_of c.seat h) (members_of v.known) (members_of w.known) (subst P first_members (agrees.exact a v at)) (subst P second_members (agrees.exact o w at_other)))
+          (let P : List (Member D) → Type 0 = λ l. AreExact l h
+          in each_append (λ (c : Member D). c.own ≡ own_of c.seat h) (members_of v.known) (members_of w.known)
+          (subst P first_members (agrees.exact a v at)) (subst P second_members (agrees.exact o w at_other)))
           tt
           (λ b u _ _ g. agrees.exact b u g);
       distinct =
           cases (λ b u. AreDistinct (members_at b u))
-          (let P : List (Member D) → Type 0 = λ l. AreDistinct l in distinct_append (members_of v.known) (members_of w.known) (subst P first_members (agrees.distinct a v at)) (subst P second_members (agrees.distinct o w at_other)) cross)
+          (let P : List (Member D) → Type 0 = λ l. AreDistinct l
+          in distinct_append (members_of v.known) (members_of w.known) (subst P first_members
+          (agrees.distinct a v at)) (subst P second_members (agrees.distinct o w at_other)) cross)
           tt
           (λ b u _ _ g. agrees.distinct b u g);
       once =
@@ -356,11 +439,21 @@ module _ {K D W : Type 0} where
             | inl p_is ↦
                 elim q.4 [
                   | inl q_is ↦ q_is ∙ same ∙ sym p_is
-                  | inr q_is ↦ absurd (let is_o : b ≡ o = p_is ∙ sym same ∙ q_is.1 in let H : ℕ → Type 0 = λ z. get_elem? after_join z ≡ some u in let gone_here : u ≡ gone = one_value after_join o u gone (subst H is_o e) (set_here (set views a both) o gone (let low : o < length views = inside views o w at_other in let l : length (set views a both) ≡ length views = one_len in omega arith)) in let M : Sight K D W → Type 0 = λ z. IsAmong k (members_at b z) in subst M gone_here in_u)
+                  | inr q_is ↦ absurd (let is_o : b ≡ o = p_is ∙ sym same ∙ q_is.1 in let H : ℕ
+                      → Type 0 = λ z. get_elem? after_join z ≡ some u
+                      in let gone_here : u ≡ gone = one_value after_join o u gone (subst H is_o e) (set_here
+                      (set views a both) o gone (let low : o < length views = inside views o w at_other
+                      in let l : length (set views a both) ≡ length views = one_len in omega arith)) in let M : Sight K D W
+                      → Type 0 = λ z. IsAmong k (members_at b z) in subst M gone_here in_u)
                 ]
             | inr p_is ↦
                 elim q.4 [
-                  | inl q_is ↦ absurd (let is_o : c ≡ o = q_is ∙ same ∙ p_is.1 in let H : ℕ → Type 0 = λ z. get_elem? after_join z ≡ some x in let gone_here : x ≡ gone = one_value after_join o x gone (subst H is_o g) (set_here (set views a both) o gone (let low : o < length views = inside views o w at_other in let l : length (set views a both) ≡ length views = one_len in omega arith)) in let M : Sight K D W → Type 0 = λ z. IsAmong k (members_at c z) in subst M gone_here in_x)
+                  | inl q_is ↦ absurd (let is_o : c ≡ o = q_is ∙ same ∙ p_is.1 in let H : ℕ
+                      → Type 0 = λ z. get_elem? after_join z ≡ some x
+                      in let gone_here : x ≡ gone = one_value after_join o x gone (subst H is_o g) (set_here
+                      (set views a both) o gone (let low : o < length views = inside views o w at_other
+                      in let l : length (set views a both) ≡ length views = one_len in omega arith)) in let M : Sight K D W
+                      → Type 0 = λ z. IsAmong k (members_at c z) in subst M gone_here in_x)
                   | inr q_is ↦ q_is.0 ∙ sym p_is.0
                 ]
           ];
@@ -372,10 +465,14 @@ module _ {K D W : Type 0} where
           in let l : length after_join ≡ length (set views a both) = all_len
           in let m : length (set views a both) ≡ length views = one_len
           in omega arith;
-      parted = cases (λ b u. (c : ℕ) → IsAmong c (members_at b u) → 0 < u.known.parts) (λ c _. omega arith) (λ c is. absurd is) (λ b u _ _ g. agrees.parted b u g);
+      parted = cases (λ b u. (c : ℕ) → IsAmong c (members_at b u)
+          → 0 < u.known.parts) (λ c _. omega arith) (λ c is. absurd is) (λ b u _ _ g. agrees.parted b u g);
       whole =
-          let changed : sum_by parts_of (set views a both) + parts_of v ≡ sum_by parts_of views + parts_of both = sum_changed parts_of views a v both at
-          in let then : sum_by parts_of after_join + parts_of w ≡ sum_by parts_of (set views a both) + parts_of (gone {K = K} {D = D} {W = W}) = sum_changed parts_of (set views a both) o w gone (set_else views a o both apart ∙ at_other)
+          let changed : sum_by parts_of (set views a both) + parts_of v ≡ sum_by parts_of views + parts_of both = sum_changed
+          parts_of views a v both at
+          in let then : sum_by parts_of after_join + parts_of w ≡ sum_by parts_of (set views a both) + parts_of
+          (gone {K = K} {D = D} {W = W}) = sum_changed parts_of (set views a both) o w gone (set_else views a o both apart
+          ∙ at_other)
           in let sum : sum_by parts_of views ≡ ALL_PARTS = agrees.whole
           in omega arith;
     }
@@ -383,25 +480,37 @@ module _ {K D W : Type 0} where
   -- the first seat's view agrees with the history without entries
   pub agrees_first : (key : K) → Agrees {K = K} {D = D} {W = W} key [] (first_sight (Some key) ∷ [])
   agrees_first key =
-      let only : (a : ℕ) (v : Sight K D W) → get_elem? (first_sight (Some key) ∷ []) a ≡ some v → (a ≡ 0) × (first_sight (Some key) ≡ v) = λ a v e. elim (at_end [] (first_sight (Some key)) v a e) [ inl none ↦ absurd (some-ne-none v (sym none)) | inr last ↦ last ]
-      in let each : (P : ℕ → Sight K D W → Type 0) → P 0 (first_sight (Some key)) → (a : ℕ) (v : Sight K D W) → get_elem? (first_sight (Some key) ∷ []) a ≡ some v → P a v = λ P first a v e. let Q : ℕ → Type 0 = λ i. P i v in let R : Sight K D W → Type 0 = λ z. P 0 z in subst Q (sym (only a v e).0) (subst R (only a v e).1 first)
+      let only : (a : ℕ) (v : Sight K D W) → get_elem? (first_sight (Some key) ∷ []) a ≡ some v → (a ≡ 0)
+      × (first_sight (Some key) ≡ v) = λ a v e. elim (at_end [] (first_sight (Some key)) v a e) [
+        | inl none ↦ absurd
+            (some-ne-none v (sym none))
+        | inr last ↦ last
+      ]
+      in let each : (P : ℕ → Sight K D W → Type 0) → P 0 (first_sight (Some key)) → (a : ℕ) (v : Sight K D W)
+      → get_elem? (first_sight (Some key) ∷ []) a ≡ some v → P a v = λ P first a v e. let Q : ℕ → Type 0 = λ i. P i v
+      in let R : Sight K D W → Type 0 = λ z. P 0 z in subst Q (sym (only a v e).0) (subst R (only a v e).1 first)
       in record {
         keyed = each (λ a v. 0 < v.known.parts → v.key ≡ Some key) (λ _. refl);
         seen = each (λ a v. IsPrefix v.known.seen []) ([], refl);
-        other = each (λ a v. (s : List (Entry D)) → v.stage ≡ Joined s → IsPrefix s []) (λ s is. let wrong : ◌≡◌ {A = Stage D W} Idle (Joined s) = is in cc);
+        other = each (λ a v. (s : List (Entry D)) → v.stage ≡ Joined s
+            → IsPrefix s []) (λ s is. let wrong : ◌≡◌ {A = Stage D W} Idle (Joined s) = is in cc);
         exact = each (λ a v. AreExact (members_at a v) []) (refl, tt);
         distinct = each (λ a v. AreDistinct (members_at a v)) ((λ is. is), tt);
         once = λ a v e b w g c _ _. (only b w g).0 ∙ sym (only a v e).0;
         made = λ c some_own. absurd (some_own refl);
-        numbered = each (λ a v. (c : ℕ) → IsAmong c (members_at a v) → c < 1) (λ c is. elim is [ inl e ↦ omega arith | inr none ↦ absurd none ]);
+        numbered = each (λ a v. (c : ℕ) → IsAmong c (members_at a v)
+            → c < 1) (λ c is. elim is [ inl e ↦ omega arith | inr none ↦ absurd none ]);
         parted = each (λ a v. (c : ℕ) → IsAmong c (members_at a v) → 0 < v.known.parts) (λ c is. omega arith);
         whole = refl;
       }
 
   -- A seat that is in no call and has all parts has seen everything, and each entry is one of its members'.
-  module _ (key : K) (h : List (Entry D)) (views : List (Sight K D W)) (a : ℕ) (v : Sight K D W) (agrees : Agrees key h views) (at : get_elem? views a ≡ some v) (all : v.known.parts ≡ ALL_PARTS) where
+  module _ (key : K) (h : List (Entry D)) (views : List
+      (Sight K D W)) (a : ℕ) (v : Sight K D W) (agrees : Agrees key h views) (at : get_elem? views a ≡ some v)
+      (all : v.known.parts ≡ ALL_PARTS) where
     pub others_have_none : (b : ℕ) (u : Sight K D W) → b ≢ a → get_elem? views b ≡ some u → u.known.parts ≡ 0
-    others_have_none b u apart e = let two : parts_of v + parts_of u ≤ sum_by parts_of views = sum_of_two parts_of views a b v u gone refl at e apart in let sum : sum_by parts_of views ≡ ALL_PARTS = agrees.whole in omega arith
+    others_have_none b u apart e = let two : parts_of v + parts_of u ≤ sum_by parts_of views = sum_of_two parts_of views a b v u
+        gone refl at e apart in let sum : sum_by parts_of views ≡ ALL_PARTS = agrees.whole in omega arith
 
     all_mine : (c : ℕ) → own_of c h ≢ [] → IsAmong c (members_at a v)
     all_mine c some_own =
@@ -413,7 +522,8 @@ module _ {K D W : Type 0} where
               in let P : Sight K D W → Type 0 = λ z. IsAmong c (members_at a z)
               in let Q : ℕ → Type 0 = λ i. IsAmong c (members_at i by.1)
               in subst P one (subst Q same by.3)
-          | inr other ↦ let none : by.1.known.parts ≡ 0 = others_have_none by.0 by.1 other by.2 in let some_parts : 0 < by.1.known.parts = agrees.parted by.0 by.1 by.2 c by.3 in absurd (omega arith)
+          | inr other ↦ let none : by.1.known.parts ≡ 0 = others_have_none by.0 by.1 other by.2
+              in let some_parts : 0 < by.1.known.parts = agrees.parted by.0 by.1 by.2 c by.3 in absurd (omega arith)
         ]
 
     pub all_members : AllByRecursion (λ (x : Entry D). IsAmong x.seat (members_at a v)) h
@@ -425,7 +535,11 @@ module _ {K D W : Type 0} where
         let p : IsPrefix v.known.seen h = agrees.seen a v at
         in let H : List (Entry D) → Type 0 = λ g. AreExact (members_at a v) g
         in let both : AreExact (members_at a v) (v.known.seen ++ p.0) = subst H (sym p.1) (agrees.exact a v at)
-        in let none : (c : ℕ) → IsAmong c (members_at a v) → own_of c p.0 ≡ [] = none_of_members (members_at a v) v.known.seen p.0 exact both
+        in let none : (c : ℕ) → IsAmong c (members_at a v)
+        → own_of c p.0 ≡ [] = none_of_members (members_at a v) v.known.seen p.0 exact both
         in let nothing : p.0 ≡ [] =
-        nobody_made p.0 (λ c some_own. some_own (none c (all_mine c (λ empty. some_own (let Q : List (Entry D) → Type 0 = λ g. own_of c g ≡ [] in let cut : own_of c v.known.seen ++ own_of c p.0 ≡ [] = sym (own_of-append c v.known.seen p.0) ∙ subst Q (sym p.1) empty in second_empty (own_of c v.known.seen) (own_of c p.0) cut)))))
+        nobody_made p.0 (λ c some_own. some_own (none c (all_mine c (λ empty. some_own (let Q : List (Entry D)
+        → Type 0 = λ g. own_of c g ≡ [] in let cut : own_of c v.known.seen ++ own_of c p.0 ≡ [] = sym
+        (own_of-append c v.known.seen p.0) ∙ subst Q (sym p.1) empty
+        in second_empty (own_of c v.known.seen) (own_of c p.0) cut)))))
         in sym (append-nil v.known.seen) ∙ ap (λ (g : List (Entry D)). v.known.seen ++ g) (sym nothing) ∙ p.1

@@ -13,11 +13,15 @@ use Rattle.alog_lane.proofs.Steps.{names, sees_both}
 
 module _ {D : Type 0} where
   -- the members of two seats are exact in what the one or the other had seen
-  old_members : (k l : Known D) → IsFaithful k → IsFaithful l → AllByRecursion (λ (c : Member D). (c.own ≡ own_of c.seat k.seen) ⊎ (c.own ≡ own_of c.seat l.seen)) (members_of (with_other k l))
+  old_members : (k l : Known D) → IsFaithful k → IsFaithful l
+      → AllByRecursion (λ (c : Member D). (c.own ≡ own_of c.seat k.seen)
+      ⊎ (c.own ≡ own_of c.seat l.seen)) (members_of (with_other k l))
   old_members k l first second =
       let E : Member D → Type 0 = λ c. (c.own ≡ own_of c.seat k.seen) ⊎ (c.own ≡ own_of c.seat l.seen)
-      in let mine : AllByRecursion E k.joined = each_of (λ (c : Member D). c.own ≡ own_of c.seat k.seen) E k.joined (λ c e. inl e) first.joined
-      in let its : AllByRecursion E (members_of l) = each_of (λ (c : Member D). c.own ≡ own_of c.seat l.seen) E (members_of l) (λ c e. inr e) (second.own, second.joined)
+      in let mine : AllByRecursion E k.joined = each_of (λ
+      (c : Member D). c.own ≡ own_of c.seat k.seen) E k.joined (λ c e. inl e) first.joined
+      in let its : AllByRecursion E (members_of l) = each_of (λ
+      (c : Member D). c.own ≡ own_of c.seat l.seen) E (members_of l) (λ c e. inr e) (second.own, second.joined)
       in (inl first.own, each_append E k.joined (members_of l) mine its)
 
 module _ {T I S R : Type 0} (turns : T → S → I → R → T → S → Type 0) (may : T → I → S → Type 0) (first : T) (slots id : ℕ) where
@@ -25,11 +29,15 @@ module _ {T I S R : Type 0} (turns : T → S → I → R → T → S → Type 0)
   View = LaneSight T I S R
 
   -- a seat that has just taken in another
-  pub see_both_may : (me : Me (Cabin T I R S) View) (v w : View) (out : List (ℕ × Cabin T I R S)) → me ≡ (taking_in v w, out) → IsFaithful v.known → IsFaithful w.known
-      → Allows (λ (s : State (Cabin T I R S) View). Ruled turns may first s) slots id me 0 (λ n. n) (λ n m. (h : List (Entry (Turned I S R))) → me.0.stage ≡ Joined h → saw_both h me m)
+  pub see_both_may : (me : Me (Cabin T I R S) View) (v w : View) (out : List (ℕ × Cabin T I R S)) → me ≡ (taking_in v w, out)
+      → IsFaithful v.known → IsFaithful w.known
+      → Allows (λ (s : State (Cabin T I R S) View). Ruled turns may first s) slots id me 0 (λ n. n) (λ n m.
+      (h : List (Entry (Turned I S R))) → me.0.stage ≡ Joined h → saw_both h me m)
   see_both_may me v w out is mine its =
       let M : Me (Cabin T I R S) View = (taking_in v w, out)
-      in let P : Me (Cabin T I R S) View → Type 0 = λ m0. Allows (λ (s : State (Cabin T I R S) View). Ruled turns may first s) slots id m0 0 (λ n. n) (λ n m. (h : List (Entry (Turned I S R))) → m0.0.stage ≡ Joined h → saw_both h m0 m)
+      in let P : Me (Cabin T I R S) View → Type 0 = λ m0. Allows (λ
+      (s : State (Cabin T I R S) View). Ruled turns may first s) slots id m0 0 (λ n. n) (λ n m. (h : List
+      (Entry (Turned I S R))) → m0.0.stage ≡ Joined h → saw_both h m0 m)
       in subst P (sym is)
       (λ s r wide at fits.
       let go = sees_both turns may first slots id M w.known.seen refl (old_members v.known w.known mine its) s r wide at fits
@@ -46,5 +54,8 @@ module _ {T I S R : Type 0} (turns : T → S → I → R → T → S → Type 0)
       ))
 
   -- a seat that was just split off
-  pub name_may : (me : Me (Cabin T I R S) View) (v : View) (parts : ℕ) (out : List (ℕ × Cabin T I R S)) → me ≡ (given_part parts v, out) → Allows (λ (s : State (Cabin T I R S) View). Ruled turns may first s) slots id me 0 (λ n. n) (λ n m. was_named me m)
-  name_may me v parts out is = names turns may first slots id me (ap (λ m. m.0.stage) is) (ap (λ m. m.0.known.own) is) (ap (λ m. m.0.known.joined) is)
+  pub name_may : (me : Me (Cabin T I R S) View) (v : View) (parts : ℕ) (out : List (ℕ × Cabin T I R S))
+      → me ≡ (given_part parts v, out) → Allows (λ (s : State (Cabin T I R S) View). Ruled turns may first s) slots id me 0
+      (λ n. n) (λ n m. was_named me m)
+  name_may me v parts out is = names turns may first slots id me (ap (λ m. m.0.stage) is) (ap (λ m. m.0.known.own) is) (ap
+      (λ m. m.0.known.joined) is)

@@ -1,5 +1,6 @@
 -- Each step of a seat keeps the rule of the lane.
-use Rattle.std.proofs.Common.{◌≡◌, ◌≢◌, ℕ, ◌+◌, ◌%◌, ◌^◌, ◌<◌, ◌≤◌, ◌⊎◌, eqb, Some, List, [], ◌∷◌, ◌++◌, set, length, get_or, refl, sym, ap, subst, ◌∙◌, inl, inr, arith, length-set}
+use Rattle.std.proofs.Common.{◌≡◌, ◌≢◌, ℕ, ◌+◌, ◌%◌, ◌^◌, ◌<◌, ◌≤◌, ◌⊎◌, eqb, Some, List, [], ◌∷◌, ◌++◌, set, length, get_or}
+use Rattle.std.proofs.Common.{refl, sym, ap, subst, ◌∙◌, inl, inr, arith, length-set}
 use Rattle.std.specs.Prelude.{slice_index}
 use Rattle.std.specs.List.{AllByRecursion, sum_by}
 use Rattle.std.proofs.lemmas.List.{append-nil, length-append}
@@ -14,17 +15,21 @@ use Rattle.atomic_table.proofs.Lists.{at_set, set_else, set_here, set_again, at_
 use Rattle.alog_lane.specs.declared.seat.TheConstants.{ALL_PARTS}
 use Rattle.alog_lane.specs.declared.view.Cabin.{Cabin}
 use Rattle.alog_lane.specs.Seats.{Entry, Member, Known, own_of, members_of, IsAmong, AreDistinct, AreExact, Made, IsFaithful, having_seen}
-use Rattle.alog_lane.specs.Roster.{Stage, Idle, Fresh, Joined, Working, Gone, members_by, members_at, parts_of, kept_part, given_part, taking_in, gone, first_sight}
+use Rattle.alog_lane.specs.Roster.{Stage, Idle, Fresh, Joined, Working, Gone, members_by, members_at, parts_of, kept_part}
+use Rattle.alog_lane.specs.Roster.{given_part, taking_in, gone, first_sight}
 use Rattle.alog_lane.specs.Turns.{Turned, Turns, Leads}
 use Rattle.alog_lane.specs.Rule.{LaneSight, index_after, Keeps, Reaches, IsFree, IsHeld, Ruled}
 use Rattle.alog_lane.specs.Calls.{Closes}
 use Rattle.alog_lane.specs.Plays.{was_named, saw_both, tried, GaveBack}
-use Rattle.alog_lane.proofs.Lists.{same_or_not, inside, one_value, prefix_same, prefix_longer, at_end, own_of-append, own_of_one, own_of_other, at_most, longer_of, exact_between, exact_apart}
-use Rattle.alog_lane.proofs.Rosters.{IsStep, IsLook, agrees_step, agrees_look, agrees_split, agrees_join, agrees_first, others_have_none, seen_whole, all_members}
+use Rattle.alog_lane.proofs.Lists.{same_or_not, inside, one_value, prefix_same, prefix_longer, at_end, own_of-append, own_of_one}
+use Rattle.alog_lane.proofs.Lists.{own_of_other, at_most, longer_of, exact_between, exact_apart}
+use Rattle.alog_lane.proofs.Rosters.{IsStep, IsLook, agrees_step, agrees_look, agrees_split, agrees_join, agrees_first}
+use Rattle.alog_lane.proofs.Rosters.{others_have_none, seen_whole, all_members}
 
 module _ {T I S R : Type 0} (turns : T → S → I → R → T → S → Type 0) where
   -- one more turn
-  pub leads_more : (v : T) (h : List (Entry (Turned I S R))) (w : T) (x : Entry (Turned I S R)) (u : T) → Leads turns v h w → Turns turns w x.deed u → Leads turns v (h ++ x ∷ []) u
+  pub leads_more : (v : T) (h : List (Entry (Turned I S R))) (w : T) (x : Entry (Turned I S R)) (u : T) → Leads turns v h w
+      → Turns turns w x.deed u → Leads turns v (h ++ x ∷ []) u
   leads_more v [] w x u same turn = let P : T → Type 0 = λ z. Turns turns z x.deed u in (u, subst P (sym same) turn, refl)
   leads_more v (y ∷ h) w x u leads turn = (leads.0, leads.1, leads_more leads.0 h w x u leads.2 turn)
 
@@ -51,7 +56,8 @@ module _ {T I S R : Type 0} (turns : T → S → I → R → T → S → Type 0)
   Deed = Turned I S R
 
   -- a lane at its start
-  pub starts : (c : Cabin T I R S) → c.value ≡ first → c.turns ≡ 0 → Ruled turns may first (opening (0 ∷ []) (c ∷ []) (first_sight (Some first)))
+  pub starts : (c : Cabin T I R S) → c.value ≡ first → c.turns ≡ 0
+      → Ruled turns may first (opening (0 ∷ []) (c ∷ []) (first_sight (Some first)))
   starts c is_first none_taken = record {
     history = [];
     agrees = agrees_first first;
@@ -77,11 +83,20 @@ module _ {T I S R : Type 0} (turns : T → S → I → R → T → S → Type 0)
   lock_stays : (h : List (Entry Deed)) (words : List ℕ) (homes : List (Option (Cabin T I R S))) (old new : List View)
       → ((b : ℕ) (u : View) (x : T) → get_elem? new b ≡ some u → u.stage ≡ Working x → get_elem? old b ≡ some u)
       → ((b : ℕ) (u : View) (x : T) → get_elem? old b ≡ some u → u.stage ≡ Working x → get_elem? new b ≡ some u)
-      → IsFree turns may first h (record { words = words; homes = homes; views = old }) ⊎ IsHeld turns may first h (record { words = words; homes = homes; views = old })
-      → IsFree turns may first h (record { words = words; homes = homes; views = new }) ⊎ IsHeld turns may first h (record { words = words; homes = homes; views = new })
+      → IsFree turns may first h (record { words = words; homes = homes; views = old })
+      ⊎ IsHeld turns may first h (record { words = words; homes = homes; views = old })
+      → IsFree turns may first h (record { words = words; homes = homes; views = new })
+      ⊎ IsHeld turns may first h (record { words = words; homes = homes; views = new })
   lock_stays h words homes old new back forth lock =
       elim lock [
-        | inl free ↦ inl (record { word = free.word; cabin = free.cabin; home = free.home; reaches = free.reaches; count = free.count; nobody = λ b u x e is. free.nobody b u x (back b u x e is) is })
+        | inl free ↦ inl (record {
+          word = free.word;
+          cabin = free.cabin;
+          home = free.home;
+          reaches = free.reaches;
+          count = free.count;
+          nobody = λ b u x e is. free.nobody b u x (back b u x e is) is;
+        })
         | inr held ↦
             inr (record {
               word = held.word;
@@ -97,19 +112,27 @@ module _ {T I S R : Type 0} (turns : T → S → I → R → T → S → Type 0)
       ]
 
   -- a seat that is not at work changes its view, and is not at work then
-  module _ (s : State (Cabin T I R S) View) (id : ℕ) (v w : View) (at : get_elem? s.views id ≡ some v) (calm : (x : T) → v.stage ≢ Working x) (calm_after : (x : T) → w.stage ≢ Working x) where
+  module _ (s : State (Cabin T I R S) View) (id : ℕ) (v w : View) (at : get_elem? s.views id ≡ some v) (calm : (x : T)
+      → v.stage ≢ Working x) (calm_after : (x : T) → w.stage ≢ Working x) where
     back_set : (b : ℕ) (u : View) (x : T) → get_elem? (set s.views id w) b ≡ some u → u.stage ≡ Working x → get_elem? s.views b ≡ some u
-    back_set b u x e is = elim (at_set s.views id b w u e) [ inl same ↦ absurd (calm_after x (ap (λ (z : View). z.stage) same.1 ∙ is)) | inr other ↦ other.1 ]
+    back_set b u x e is = elim (at_set s.views id b w u e) [
+      | inl same ↦ absurd (calm_after x (ap (λ (z : View). z.stage) same.1
+          ∙ is))
+      | inr other ↦ other.1
+    ]
 
     forth_set : (b : ℕ) (u : View) (x : T) → get_elem? s.views b ≡ some u → u.stage ≡ Working x → get_elem? (set s.views id w) b ≡ some u
     forth_set b u x e is =
         elim (same_or_not b id) [
-          | inl same ↦ absurd (let G : ℕ → Type 0 = λ i. get_elem? s.views i ≡ some u in let one : u ≡ v = one_value s.views id u v (subst G same e) at in calm x (sym (ap (λ (z : View). z.stage) one) ∙ is))
+          | inl same ↦ absurd (let G : ℕ → Type 0 = λ i. get_elem? s.views i ≡ some u
+              in let one : u ≡ v = one_value s.views id u v (subst G same e) at
+              in calm x (sym (ap (λ (z : View). z.stage) one) ∙ is))
           | inr other ↦ set_else s.views id b w other ∙ e
         ]
 
     -- a look by which the seat's view becomes another
-    look_keeps : (i : ℕ) (r : Ruled turns may first s) → IsLook r.history id v w → Ruled turns may first (record { words = set s.words i (get_or s.words i 0); homes = s.homes; views = set s.views id w })
+    look_keeps : (i : ℕ) (r : Ruled turns may first s) → IsLook r.history id v w
+        → Ruled turns may first (record { words = set s.words i (get_or s.words i 0); homes = s.homes; views = set s.views id w })
     look_keeps i r look =
         let P : List ℕ → Type 0 = λ ws. Ruled turns may first (record { words = ws; homes = s.homes; views = set s.views id w })
         in subst P (sym (set-get_or s.words i 0)) (record {
@@ -121,7 +144,8 @@ module _ {T I S R : Type 0} (turns : T → S → I → R → T → S → Type 0)
         })
 
   -- what a seat that knows its number, with parts, is told of the history
-  module _ (s : State (Cabin T I R S) View) (r : Ruled turns may first s) (id : ℕ) (v : View) (at : get_elem? s.views id ≡ some v) (mine : members_at id v ≡ members_of v.known) where
+  module _ (s : State (Cabin T I R S) View) (r : Ruled turns may first s) (id : ℕ) (v : View) (at : get_elem? s.views id ≡ some v)
+      (mine : members_at id v ≡ members_of v.known) where
     members_exact : AreExact (members_of v.known) r.history
     members_exact = let P : List (Member Deed) → Type 0 = λ l. AreExact l r.history in subst P mine (r.agrees.exact id v at)
 
@@ -129,7 +153,8 @@ module _ {T I S R : Type 0} (turns : T → S → I → R → T → S → Type 0)
     members_distinct = let P : List (Member Deed) → Type 0 = λ l. AreDistinct l in subst P mine (r.agrees.distinct id v at)
 
     pub has_parts : 0 < v.known.parts
-    has_parts = r.agrees.parted id v at v.known.seat (let P : List (Member Deed) → Type 0 = λ l. IsAmong v.known.seat l in subst P (sym mine) (inl refl))
+    has_parts = r.agrees.parted id v at v.known.seat (let P : List (Member Deed) → Type 0 = λ l. IsAmong v.known.seat l
+        in subst P (sym mine) (inl refl))
 
     its_key : v.key ≡ Some first
     its_key = r.agrees.keyed id v at has_parts
@@ -150,14 +175,16 @@ module _ {T I S R : Type 0} (turns : T → S → I → R → T → S → Type 0)
     by_stage st is = ap (λ (z : Stage Deed T). members_by id me.0.known z) is
 
     -- the exchange of the lock word
-    pub tries : me.0.stage ≡ Idle → Allows (λ (s : State (Cabin T I R S) View). Ruled turns may first s) slots id me 0 (λ n. either (eqb n 0) 1 n) (λ n m. tried turns may me n m)
+    pub tries : me.0.stage ≡ Idle → Allows (λ (s : State (Cabin T I R S) View). Ruled turns may first s) slots id me 0 (λ n. either
+        (eqb n 0) 1 n) (λ n m. tried turns may me n m)
     tries idle s r wide at _ =
         let mine : members_at id me.0 ≡ members_of me.0.known = by_stage Idle idle
         in elim r.lock [
           | inl free ↦
               let c : Cabin T I R S = free.cabin
               in let w : View = record { key = me.0.key; stage = Working free.cabin.value; known = having_seen me.0.known r.history }
-              in let word : either (eqb (slice_index s.words 0) 0) 1 (slice_index s.words 0) ≡ 1 = ap (λ (z : ℕ). either (eqb z 0) 1 z) free.word
+              in let word : either (eqb (slice_index s.words 0) 0) 1 (slice_index s.words 0) ≡ 1 = ap (λ (z : ℕ). either
+              (eqb z 0) 1 z) free.word
               in let wide_views : id < length s.views = inside s.views id me.0 at
               in (
                 w,
@@ -185,7 +212,11 @@ module _ {T I S R : Type 0} (turns : T → S → I → R → T → S → Type 0)
                         stage = refl;
                         reaches = free.reaches;
                         seen = refl;
-                        alone = λ b u x e is. elim (at_set s.views id b w u e) [ inl same ↦ same.0 | inr other ↦ absurd (free.nobody b u x other.1 is) ];
+                        alone = λ b u x e is. elim (at_set s.views id b w u e) [
+                          | inl same ↦ same.0
+                          | inr other ↦ absurd
+                              (free.nobody b u x other.1 is)
+                        ];
                       });
                 },
                 (
@@ -204,23 +235,38 @@ module _ {T I S R : Type 0} (turns : T → S → I → R → T → S → Type 0)
                 ),
               )
           | inr held ↦
-              let same_word : either (eqb (slice_index s.words 0) 0) 1 (slice_index s.words 0) ≡ get_or s.words 0 0 = ap (λ (z : ℕ). either (eqb z 0) 1 z) held.word ∙ sym held.word
+              let same_word : either (eqb (slice_index s.words 0) 0) 1 (slice_index s.words 0) ≡ get_or s.words 0 0 = ap (λ
+              (z : ℕ). either (eqb z 0) 1 z) held.word ∙ sym held.word
               in let P : List ℕ → Type 0 = λ ws. Ruled turns may first (record { words = ws; homes = s.homes; views = set s.views id me.0 })
               in let Q : List View → Type 0 = λ vs. Ruled turns may first (record { words = s.words; homes = s.homes; views = vs })
               in let still : Q s.views = record { history = r.history; agrees = r.agrees; words = r.words; homes = r.homes; lock = r.lock }
-              in let apart : held.owner ≢ id = λ same. let G : ℕ → Type 0 = λ i. get_elem? s.views i ≡ some held.view in let one : held.view ≡ me.0 = one_value s.views id held.view me.0 (subst G same held.at) at in let wrong : ◌≡◌ {A = Stage Deed T} Idle (Working held.value) = sym idle ∙ sym (ap (λ (z : View). z.stage) one) ∙ held.stage in cc
-              in let owner_parts : 0 < held.view.known.parts = has_parts s r held.owner held.view held.at (ap (λ (z : Stage Deed T). members_by held.owner held.view.known z) held.stage)
+              in let apart : held.owner ≢ id = λ same. let G : ℕ → Type 0 = λ i. get_elem? s.views i ≡ some held.view
+              in let one : held.view ≡ me.0 = one_value s.views id held.view me.0 (subst G same held.at) at
+              in let wrong : ◌≡◌ {A = Stage Deed T} Idle (Working held.value) = sym idle ∙ sym (ap (λ (z : View). z.stage) one)
+              ∙ held.stage in cc
+              in let owner_parts : 0 < held.view.known.parts = has_parts s r held.owner held.view held.at (ap
+              (λ (z : Stage Deed T). members_by held.owner held.view.known z) held.stage)
               in (
                 me.0,
                 keeps,
                 tt,
-                subst P (sym (ap (λ (z : ℕ). set s.words 0 z) same_word ∙ set-get_or s.words 0 0)) (subst Q (sym (set_again s.views id me.0 at)) still),
-                ((λ is. let wrong : 0 ≡ 1 = sym is ∙ held.word in absurd (omega arith)), (λ _. (refl, λ all. let none_there : held.view.known.parts ≡ 0 = others_have_none first r.history s.views id me.0 r.agrees at all held.owner held.view apart held.at in absurd (omega arith)))),
+                subst P (sym (ap (λ (z : ℕ). set s.words 0 z) same_word
+                    ∙ set-get_or s.words 0 0)) (subst Q (sym (set_again s.views id me.0 at)) still),
+                (
+                  (λ is. let wrong : 0 ≡ 1 = sym is ∙ held.word in absurd (omega arith)),
+                  (λ _. (
+                    refl,
+                    λ all. let none_there : held.view.known.parts ≡ 0 = others_have_none first r.history s.views id
+                        me.0 r.agrees at all held.owner held.view apart held.at in absurd (omega arith),
+                  )),
+                ),
               )
         ]
 
     -- the store of the lock word, after a turn
-    pub gives_back : (x : T) (c : Cabin T I R S) (t : Turned I S R) (more : List (ℕ × Cabin T I R S)) → me.0.stage ≡ Working x → me.1 ≡ (0, c) ∷ more → Turns turns x t c.value → Keeps may x c.value → c.turns ≡ index_after (me.0.known.seen ++ record { seat = me.0.known.seat; deed = t } ∷ [])
+    pub gives_back : (x : T) (c : Cabin T I R S) (t : Turned I S R) (more : List (ℕ × Cabin T I R S)) → me.0.stage ≡ Working x
+        → me.1 ≡ (0, c) ∷ more → Turns turns x t c.value → Keeps may x c.value
+        → c.turns ≡ index_after (me.0.known.seen ++ record { seat = me.0.known.seat; deed = t } ∷ [])
         → Allows (λ (s : State (Cabin T I R S) View). Ruled turns may first s) slots id me 0 (λ _. 0) (λ _ m. GaveBack t me m)
     gives_back x c t more stage has turn keeping number s r wide at _ =
         let mine : members_at id me.0 ≡ members_of me.0.known = by_stage (Working x) stage
@@ -232,7 +278,8 @@ module _ {T I S R : Type 0} (turns : T → S → I → R → T → S → Type 0)
               let same : id ≡ held.owner = held.alone id me.0 x at stage
               in let G : ℕ → Type 0 = λ i. get_elem? s.views i ≡ some held.view
               in let one : held.view ≡ me.0 = one_value s.views id held.view me.0 (subst G (sym same) held.at) at
-              in let both : ◌≡◌ {A = Stage Deed T} (Working held.value) (Working x) = sym held.stage ∙ ap (λ (z : View). z.stage) one ∙ stage
+              in let both : ◌≡◌ {A = Stage Deed T} (Working held.value) (Working x) = sym held.stage
+              ∙ ap (λ (z : View). z.stage) one ∙ stage
               in let is_x : held.value ≡ x = cc
               in let seen : k.seen ≡ r.history = sym (ap (λ (z : View). z.known.seen) one) ∙ held.seen
               in let X : T → Type 0 = λ z. Reaches turns may first r.history z
@@ -242,8 +289,10 @@ module _ {T I S R : Type 0} (turns : T → S → I → R → T → S → Type 0)
               in let w' : View = record { key = me.0.key; stage = Idle; known = k' }
               in let exact : AreExact (members_of k) r.history = members_exact s r id me.0 at mine
               in let distinct : AreDistinct (members_of k) = members_distinct s r id me.0 at mine
-              in let own_now : k.own ++ e ∷ [] ≡ own_of k.seat h' = sym (own_of-append k.seat r.history (e ∷ []) ∙ (λ i. sym exact.0 i ++ own_of_one e i))
-              in let joined_now : AreExact k.joined h' = exact_apart k.joined r.history (e ∷ []) (λ b is. own_of_other b e (λ again. let N : ℕ → Type 0 = λ z. IsAmong z k.joined in distinct.0 (subst N again is))) exact.1
+              in let own_now : k.own ++ e ∷ [] ≡ own_of k.seat h' = sym (own_of-append k.seat r.history (e ∷ [])
+              ∙ (λ i. sym exact.0 i ++ own_of_one e i))
+              in let joined_now : AreExact k.joined h' = exact_apart k.joined r.history (e ∷ []) (λ b is. own_of_other b e
+              (λ again. let N : ℕ → Type 0 = λ z. IsAmong z k.joined in distinct.0 (subst N again is))) exact.1
               in let faithful : IsFaithful k' = record { own = own_now; joined = joined_now; distinct = distinct }
               in let step : IsStep r.history (e ∷ []) id me.0 w' = record {
                 key = refl;
@@ -254,7 +303,12 @@ module _ {T I S R : Type 0} (turns : T → S → I → R → T → S → Type 0)
                 other = λ z is. let wrong : ◌≡◌ {A = Stage Deed T} Idle (Joined z) = is in cc;
                 exact = (own_now, joined_now);
                 distinct = distinct;
-                makers = λ b some_own. elim (same_or_not b k.seat) [ inl is ↦ (let P : List (Member Deed) → Type 0 = λ l. IsAmong b l in subst P (sym mine) (inl is)) | inr other ↦ absurd (some_own (own_of_other b e other)) ];
+                makers = λ b some_own. elim (same_or_not b k.seat) [
+                  | inl is ↦ (let P : List (Member Deed)
+                      → Type 0 = λ l. IsAmong b l in subst P (sym mine) (inl is))
+                  | inr other ↦ absurd
+                      (some_own (own_of_other b e other))
+                ];
               }
               in let home_len : 0 < length s.homes = (let l : length s.homes ≡ 1 = r.homes in omega arith)
               in let H : List (ℕ × Cabin T I R S) → Type 0 = λ l. get_elem? (put_back s.homes l) 0 ≡ some (some c)
@@ -275,13 +329,28 @@ module _ {T I S R : Type 0} (turns : T → S → I → R → T → S → Type 0)
                         word = word_set s.words 0 r.words;
                         cabin = c;
                         home = home;
-                        reaches = record { leads = leads_more turns first r.history x e c.value reached.leads turn; keeps = λ i z is. keeping i z (reached.keeps i z is) };
+                        reaches = record {
+                          leads = leads_more turns first r.history x e c.value reached.leads turn;
+                          keeps = λ i z is. keeping i z (reached.keeps i z is);
+                        };
                         count = n_is;
-                        nobody = λ b u y g is. elim (at_set s.views id b w' u g) [ inl it ↦ (let wrong : ◌≡◌ {A = Stage Deed T} Idle (Working y) = ap (λ (z : View). z.stage) it.1 ∙ is in cc) | inr other ↦ absurd (other.0 (held.alone b u y other.1 is ∙ sym same)) ];
+                        nobody = λ b u y g is. elim (at_set s.views id b w' u g) [
+                          | inl it ↦
+                              (let wrong : ◌≡◌ {A = Stage Deed T} Idle (Working y) = ap (λ (z : View). z.stage) it.1 ∙ is
+                              in cc)
+                          | inr other ↦ absurd (other.0 (held.alone b u y other.1 is ∙ sym same))
+                        ];
                       });
                 },
                 record {
-                  made = record { seat = refl; parts = refl; joined = refl; seen = prefix_longer k.seen r.history (e ∷ []) (r.agrees.seen id me.0 at); own = refl; faithful = faithful };
+                  made = record {
+                    seat = refl;
+                    parts = refl;
+                    joined = refl;
+                    seen = prefix_longer k.seen r.history (e ∷ []) (r.agrees.seen id me.0 at);
+                    own = refl;
+                    faithful = faithful;
+                  };
                   seen = ap (λ (g : List (Entry Deed)). g ++ e ∷ []) (sym seen);
                   stage = refl;
                   same_key = refl;
@@ -291,7 +360,8 @@ module _ {T I S R : Type 0} (turns : T → S → I → R → T → S → Type 0)
         ]
 
     -- a new seat learns its number
-    pub names : me.0.stage ≡ Fresh → me.0.known.own ≡ [] → me.0.known.joined ≡ [] → Allows (λ (s : State (Cabin T I R S) View). Ruled turns may first s) slots id me 0 (λ n. n) (λ n m. was_named me m)
+    pub names : me.0.stage ≡ Fresh → me.0.known.own ≡ [] → me.0.known.joined ≡ []
+        → Allows (λ (s : State (Cabin T I R S) View). Ruled turns may first s) slots id me 0 (λ n. n) (λ n m. was_named me m)
     names fresh none_own alone s r wide at _ =
         let k : Known Deed = me.0.known
         in let k' : Known Deed = record { seat = id; parts = k.parts; seen = k.seen; own = k.own; joined = k.joined }
@@ -307,8 +377,15 @@ module _ {T I S R : Type 0} (turns : T → S → I → R → T → S → Type 0)
           w,
           keeps,
           tt,
-          look_keeps s id me.0 w at (λ x is. let wrong : ◌≡◌ {A = Stage Deed T} Fresh (Working x) = sym fresh ∙ is in cc) (λ x is. let wrong : ◌≡◌ {A = Stage Deed T} Idle (Working x) = is in cc) 0 r
-              (record { key = refl; parts = refl; members = now ∙ sym its; seen = p; other = λ z is. let wrong : ◌≡◌ {A = Stage Deed T} Idle (Joined z) = is in cc }),
+          look_keeps s id me.0 w at (λ x is. let wrong : ◌≡◌ {A = Stage Deed T} Fresh (Working x) = sym fresh ∙ is
+              in cc) (λ x is. let wrong : ◌≡◌ {A = Stage Deed T} Idle (Working x) = is in cc) 0 r
+              (record {
+                key = refl;
+                parts = refl;
+                members = now ∙ sym its;
+                seen = p;
+                other = λ z is. let wrong : ◌≡◌ {A = Stage Deed T} Idle (Joined z) = is in cc;
+              }),
           (
             id,
             refl,
@@ -322,7 +399,10 @@ module _ {T I S R : Type 0} (turns : T → S → I → R → T → S → Type 0)
         )
 
     -- a seat into which another was joined sees what both had seen
-    pub sees_both : (g : List (Entry Deed)) → me.0.stage ≡ Joined g → AllByRecursion (λ (c : Member Deed). (c.own ≡ own_of c.seat me.0.known.seen) ⊎ (c.own ≡ own_of c.seat g)) (members_of me.0.known) → Allows (λ (s : State (Cabin T I R S) View). Ruled turns may first s) slots id me 0 (λ n. n) (λ n m. saw_both g me m)
+    pub sees_both : (g : List (Entry Deed)) → me.0.stage ≡ Joined g
+        → AllByRecursion (λ (c : Member Deed). (c.own ≡ own_of c.seat me.0.known.seen)
+        ⊎ (c.own ≡ own_of c.seat g)) (members_of me.0.known)
+        → Allows (λ (s : State (Cabin T I R S) View). Ruled turns may first s) slots id me 0 (λ n. n) (λ n m. saw_both g me m)
     sees_both g stage old s r wide at _ =
         let k : Known Deed = me.0.known
         in let mine : members_at id me.0 ≡ members_of k = by_stage (Joined g) stage
@@ -335,20 +415,29 @@ module _ {T I S R : Type 0} (turns : T → S → I → R → T → S → Type 0)
           w,
           keeps,
           tt,
-          look_keeps s id me.0 w at (λ x is. let wrong : ◌≡◌ {A = Stage Deed T} (Joined g) (Working x) = sym stage ∙ is in cc) (λ x is. let wrong : ◌≡◌ {A = Stage Deed T} Idle (Working x) = is in cc) 0 r
-              (record { key = refl; parts = refl; members = sym mine; seen = found.2; other = λ z is. let wrong : ◌≡◌ {A = Stage Deed T} Idle (Joined z) = is in cc }),
+          look_keeps s id me.0 w at (λ x is. let wrong : ◌≡◌ {A = Stage Deed T} (Joined g) (Working x) = sym stage ∙ is
+              in cc) (λ x is. let wrong : ◌≡◌ {A = Stage Deed T} Idle (Working x) = is in cc) 0 r
+              (record {
+                key = refl;
+                parts = refl;
+                members = sym mine;
+                seen = found.2;
+                other = λ z is. let wrong : ◌≡◌ {A = Stage Deed T} Idle (Joined z) = is in cc;
+              }),
           (
             h,
             found.1,
             refl,
-            (let most : k.parts ≤ sum_by parts_of s.views = at_most parts_of s.views id me.0 gone refl at in let sum : sum_by parts_of s.views ≡ ALL_PARTS = r.agrees.whole in omega arith),
+            (let most : k.parts ≤ sum_by parts_of s.views = at_most parts_of s.views id me.0 gone refl at
+                in let sum : sum_by parts_of s.views ≡ ALL_PARTS = r.agrees.whole in omega arith),
             record { own = exact_now.0; joined = exact_now.1; distinct = members_distinct s r id me.0 at mine },
             refl,
           ),
         )
 
   -- a seat is cut in two
-  pub splits : (id parts : ℕ) (v : View) → v.stage ≡ Idle → parts < v.known.parts → 0 < parts → Splits (λ (s : State (Cabin T I R S) View). Ruled turns may first s) id v (kept_part parts v) (given_part parts v)
+  pub splits : (id parts : ℕ) (v : View) → v.stage ≡ Idle → parts < v.known.parts → 0 < parts
+      → Splits (λ (s : State (Cabin T I R S) View). Ruled turns may first s) id v (kept_part parts v) (given_part parts v)
   splits id parts v idle fewer some_parts s r at =
       let left : View = kept_part parts v
       in let right : View = given_part parts v
@@ -370,19 +459,26 @@ module _ {T I S R : Type 0} (turns : T → S → I → R → T → S → Type 0)
             ])
             (λ b u x e is.
             elim (same_or_not b id) [
-              | inl same ↦ absurd (let G : ℕ → Type 0 = λ i. get_elem? s.views i ≡ some u in let one : u ≡ v = one_value s.views id u v (subst G same e) at in let wrong : ◌≡◌ {A = Stage Deed T} Idle (Working x) = sym idle ∙ sym (ap (λ (z : View). z.stage) one) ∙ is in cc)
+              | inl same ↦ absurd (let G : ℕ → Type 0 = λ i. get_elem? s.views i ≡ some u
+                  in let one : u ≡ v = one_value s.views id u v (subst G same e) at
+                  in let wrong : ◌≡◌ {A = Stage Deed T} Idle (Working x) = sym idle ∙ sym (ap (λ (z : View). z.stage) one) ∙ is
+                  in cc)
               | inr other ↦ at_longer (set s.views id left) (right ∷ []) b u (set_else s.views id b left other ∙ e)
             ])
             r.lock;
       }
 
   -- a seat takes another in
-  pub joins : (id o : ℕ) (v w : View) → v.stage ≡ Idle → w.stage ≡ Idle → 0 < v.known.parts → Joins (λ (s : State (Cabin T I R S) View). Ruled turns may first s) id v o w (taking_in v w) gone
+  pub joins : (id o : ℕ) (v w : View) → v.stage ≡ Idle → w.stage ≡ Idle → 0 < v.known.parts
+      → Joins (λ (s : State (Cabin T I R S) View). Ruled turns may first s) id v o w (taking_in v w) gone
   joins id o v w idle other_idle some_parts s r at apart e =
       let both : View = taking_in v w
       in let at_other : get_elem? s.views o ≡ some w = sym (set_else s.views id o both apart) ∙ e
-      in let calm : (u z : View) (b j : ℕ) (x : T) → z.stage ≡ Idle → get_elem? s.views j ≡ some z → b ≡ j → get_elem? s.views b ≡ some u → u.stage ≡ Working x → ⊥ =
-      λ u z b j x still there same found is. let G : ℕ → Type 0 = λ i. get_elem? s.views i ≡ some u in let one : u ≡ z = one_value s.views j u z (subst G same found) there in let wrong : ◌≡◌ {A = Stage Deed T} Idle (Working x) = sym still ∙ sym (ap (λ (y : View). y.stage) one) ∙ is in cc
+      in let calm : (u z : View) (b j : ℕ) (x : T) → z.stage ≡ Idle → get_elem? s.views j ≡ some z → b ≡ j
+      → get_elem? s.views b ≡ some u → u.stage ≡ Working x → ⊥ =
+      λ u z b j x still there same found is. let G : ℕ → Type 0 = λ i. get_elem? s.views i ≡ some u
+      in let one : u ≡ z = one_value s.views j u z (subst G same found) there
+      in let wrong : ◌≡◌ {A = Stage Deed T} Idle (Working x) = sym still ∙ sym (ap (λ (y : View). y.stage) one) ∙ is in cc
       in record {
         history = r.history;
         agrees = agrees_join first r.history s.views id o v w r.agrees at at_other apart idle other_idle some_parts;
@@ -395,7 +491,8 @@ module _ {T I S R : Type 0} (turns : T → S → I → R → T → S → Type 0)
               | inl same ↦ (let wrong : ◌≡◌ {A = Stage Deed T} Gone (Working x) = ap (λ (z : View). z.stage) same.1 ∙ is in cc)
               | inr other ↦
                   elim (at_set s.views id b both u other.1) [
-                    | inl same ↦ (let wrong : ◌≡◌ {A = Stage Deed T} (Joined w.known.seen) (Working x) = ap (λ (z : View). z.stage) same.1 ∙ is in cc)
+                    | inl same ↦ (let wrong : ◌≡◌ {A = Stage Deed T} (Joined w.known.seen) (Working x) = ap
+                        (λ (z : View). z.stage) same.1 ∙ is in cc)
                     | inr old ↦ old.1
                   ]
             ])
@@ -412,7 +509,9 @@ module _ {T I S R : Type 0} (turns : T → S → I → R → T → S → Type 0)
       }
 
   -- the end of a lane: the seat has all parts
-  pub closes : (id : ℕ) (v : View) (words : List ℕ) (slots : List (Cabin T I R S)) → Final (Seen (λ (s : State (Cabin T I R S) View). Ruled turns may first s) id v) words slots → v.stage ≡ Idle → v.known.parts ≡ ALL_PARTS → IsFaithful v.known
+  pub closes : (id : ℕ) (v : View) (words : List ℕ) (slots : List (Cabin T I R S))
+      → Final (Seen (λ (s : State (Cabin T I R S) View). Ruled turns may first s) id v) words slots → v.stage ≡ Idle
+      → v.known.parts ≡ ALL_PARTS → IsFaithful v.known
       → (c : Cabin T I R S) → get_elem? slots 0 ≡ some c → Closes turns first v.known c.value
   closes id v words slots final idle all faithful c slot =
       let s : State (Cabin T I R S) View = final.0
@@ -420,7 +519,8 @@ module _ {T I S R : Type 0} (turns : T → S → I → R → T → S → Type 0)
       in let at : get_elem? s.views id ≡ some v = final.1.1
       in let mine : members_at id v ≡ members_of v.known = ap (λ (z : Stage Deed T). members_by id v.known z) idle
       in let E : List (Member Deed) → Type 0 = λ l. AreExact l v.known.seen
-      in let whole : v.known.seen ≡ r.history = seen_whole first r.history s.views id v r.agrees at all (subst E (sym mine) (faithful.own, faithful.joined))
+      in let whole : v.known.seen ≡ r.history = seen_whole first r.history s.views id v r.agrees at all (subst E (sym mine)
+      (faithful.own, faithful.joined))
       in let M : List (Member Deed) → Type 0 = λ l. AllByRecursion (λ (x : Entry Deed). IsAmong x.seat l) r.history
       in let H : List (Entry Deed) → Type 0 = λ g. AllByRecursion (λ (x : Entry Deed). IsAmong x.seat (members_of v.known)) g
       in elim r.lock [
@@ -436,9 +536,14 @@ module _ {T I S R : Type 0} (turns : T → S → I → R → T → S → Type 0)
             }
         | inr held ↦
             absurd
-            (let owner_parts : 0 < held.view.known.parts = has_parts s r held.owner held.view held.at (ap (λ (z : Stage Deed T). members_by held.owner held.view.known z) held.stage)
+            (let owner_parts : 0 < held.view.known.parts = has_parts s r held.owner held.view held.at
+            (ap (λ (z : Stage Deed T). members_by held.owner held.view.known z) held.stage)
             in elim (same_or_not held.owner id) [
-              | inl same ↦ (let G : ℕ → Type 0 = λ i. get_elem? s.views i ≡ some held.view in let one : held.view ≡ v = one_value s.views id held.view v (subst G same held.at) at in let wrong : ◌≡◌ {A = Stage Deed T} Idle (Working held.value) = sym idle ∙ sym (ap (λ (z : View). z.stage) one) ∙ held.stage in cc)
-              | inr other ↦ (let none_there : held.view.known.parts ≡ 0 = others_have_none first r.history s.views id v r.agrees at all held.owner held.view other held.at in absurd (omega arith))
+              | inl same ↦ (let G : ℕ → Type 0 = λ i. get_elem? s.views i ≡ some held.view
+                  in let one : held.view ≡ v = one_value s.views id held.view v (subst G same held.at) at
+                  in let wrong : ◌≡◌ {A = Stage Deed T} Idle (Working held.value) = sym idle ∙ sym (ap (λ (z : View). z.stage) one)
+                  ∙ held.stage in cc)
+              | inr other ↦ (let none_there : held.view.known.parts ≡ 0 = others_have_none first r.history s.views id v r.agrees at
+                  all held.owner held.view other held.at in absurd (omega arith))
             ])
       ]

@@ -23,7 +23,9 @@ one_last : {T I S R : Type 0} (o : Option (Done T I R S)) (t u : Turned I S R) �
 one_last None t u first second = absurd first
 one_last (Some d) t u first second = sym first ∙ second
 
-module _ {T I S R : Type 0} (turns : T → S → I → R → T → S → Type 0) (may : T → I → S → Type 0) (deed : Turned I S R) (index : ℕ) (m0 m1 m2 : Me (Cabin T I R S) (LaneSight T I S R)) (got : Got turns may m0 m1) (took : Took turns may deed index m1 m2) where
+module _ {T I S R : Type 0} (turns : T → S → I → R → T → S → Type 0) (may : T → I → S
+    → Type 0) (deed : Turned I S R) (index : ℕ) (m0 m1 m2 : Me (Cabin T I R S) (LaneSight T I S R)) (got : Got turns may m0 m1)
+    (took : Took turns may deed index m1 m2) where
   abbrev Slot : Type 0
   Slot = Cabin T I R S
 
@@ -44,15 +46,18 @@ module _ {T I S R : Type 0} (turns : T → S → I → R → T → S → Type 0)
   turn_found = let P : Slot → Type 0 = λ c. Turns turns c.value deed took.new.value in subst P found took.turn
 
   -- the lock may be given back
-  pub may_give_back : (first : T) (slots id : ℕ) → Allows (λ (s : State Slot (LaneSight T I S R)). Ruled turns may first s) slots id m2 0 (λ _. 0) (λ _ m. gave_back m2 m)
+  pub may_give_back : (first : T) (slots id : ℕ)
+      → Allows (λ (s : State Slot (LaneSight T I S R)). Ruled turns may first s) slots id m2 0 (λ _. 0) (λ _ m. gave_back m2 m)
   may_give_back first slots id s r wide at fits =
       let stage : m2.0.stage ≡ Working got.cabin.value = ap (λ (v : LaneSight T I S R). v.stage) took.view ∙ got.stage
       in let K : Slot → Type 0 = λ c. Keeps may c.value took.new.value
       in let seen : m1.0.known.seen ≡ m2.0.known.seen = ap (λ (k : Known (Turned I S R)). k.seen) (sym same_known)
       in let its : Entry (Turned I S R) = record { seat = m2.0.known.seat; deed = deed }
       in let count : took.new.turns ≡ index_after (m2.0.known.seen ++ its ∷ []) =
-      took.count ∙ ap (λ (n : ℕ). (n + 1) % 2 ^ 64) (sym took.index_is ∙ ap (λ (c : Slot). c.turns) found ∙ got.count ∙ ap (λ (h : List (Entry (Turned I S R))). index_after h) seen) ∙ index_more m2.0.known.seen its
-      in let go = gives_back turns may first slots id m2 got.cabin.value took.new deed [] stage took.is turn_found (subst K found took.keeps) count s r wide at fits
+      took.count ∙ ap (λ (n : ℕ). (n + 1) % 2 ^ 64) (sym took.index_is ∙ ap (λ (c : Slot). c.turns) found ∙ got.count
+      ∙ ap (λ (h : List (Entry (Turned I S R))). index_after h) seen) ∙ index_more m2.0.known.seen its
+      in let go = gives_back turns may first slots id m2 got.cabin.value took.new deed [] stage took.is turn_found
+      (subst K found took.keeps) count s r wide at fits
       in (
         go.0,
         go.1,
@@ -69,15 +74,18 @@ module _ {T I S R : Type 0} (turns : T → S → I → R → T → S → Type 0)
   -- the turn is the next of the history
   pub turn_taken : (m3 : Me Slot (LaneSight T I S R)) → gave_back m2 m3 → TakesTurn turns got.first m0.0.known m3.0.known deed index
   turn_taken m3 gave =
-      let back : GaveBack deed m2 m3 = gave took.new deed (took.is ∙ ap (λ (l : List (ℕ × Slot)). (0, took.new) ∷ rest l) (sym took.is)) took.last
+      let back : GaveBack deed m2 m3 = gave took.new deed (took.is
+      ∙ ap (λ (l : List (ℕ × Slot)). (0, took.new) ∷ rest l) (sym took.is)) took.last
       in let E : ℕ → List (Entry (Turned I S R)) = λ n. record { seat = n; deed = deed } ∷ []
       in let seen : m3.0.known.seen ≡ m1.0.known.seen ++ entry ∷ [] = back.seen ∙ (λ i. (same_known i).seen ++ E (seat_is i))
-      in let own : m3.0.known.own ≡ m0.0.known.own ++ entry ∷ [] = back.made.own ∙ (λ i. (same_known i).own ++ E (seat_is i)) ∙ ap (λ (l : List (Entry (Turned I S R))). l ++ entry ∷ []) (got.looks.own ∙ append-nil m0.0.known.own)
+      in let own : m3.0.known.own ≡ m0.0.known.own ++ entry ∷ [] = back.made.own ∙ (λ i. (same_known i).own ++ E (seat_is i))
+      ∙ ap (λ (l : List (Entry (Turned I S R))). l ++ entry ∷ []) (got.looks.own ∙ append-nil m0.0.known.own)
       in let made : Made m0.0.known m3.0.known (entry ∷ []) = record {
         seat = back.made.seat ∙ seat_is;
         parts = back.made.parts ∙ ap (λ (k : Known (Turned I S R)). k.parts) same_known ∙ got.looks.parts;
         joined = back.made.joined ∙ ap (λ (k : Known (Turned I S R)). k.joined) same_known ∙ got.looks.joined;
-        seen = (let P : List (Entry (Turned I S R)) → Type 0 = λ h. IsPrefix m0.0.known.seen h in subst P (sym seen) (prefix_longer m0.0.known.seen m1.0.known.seen (entry ∷ []) got.looks.seen));
+        seen = (let P : List (Entry (Turned I S R)) → Type 0 = λ h. IsPrefix m0.0.known.seen h
+            in subst P (sym seen) (prefix_longer m0.0.known.seen m1.0.known.seen (entry ∷ []) got.looks.seen));
         own = own;
         faithful = back.made.faithful;
       }
@@ -89,5 +97,6 @@ module _ {T I S R : Type 0} (turns : T → S → I → R → T → S → Type 0)
         ends = seen;
         place = sym took.index_is ∙ ap (λ (c : Slot). c.turns) found ∙ got.count;
         value = took.new.value;
-        leads = subst L (sym seen) (leads_more turns got.first m1.0.known.seen got.cabin.value entry took.new.value got.reaches.leads turn_found);
+        leads = subst L (sym seen) (leads_more turns got.first m1.0.known.seen got.cabin.value entry took.new.value
+            got.reaches.leads turn_found);
       }

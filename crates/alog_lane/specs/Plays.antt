@@ -17,7 +17,13 @@ module _ {S K D W : Type 0} where
   -- a seat that was split off learns its number, by which it has made nothing yet
   abbrev pub was_named : Me S (Sight K D W) → Me S (Sight K D W) → Type 0
   was_named m m' =
-      (a : ℕ) × (m'.0 ≡ standing m.0 Idle (record { seat = a; parts = m.0.known.parts; seen = m.0.known.seen; own = m.0.known.own; joined = m.0.known.joined }))
+      (a : ℕ) × (m'.0 ≡ standing m.0 Idle (record {
+        seat = a;
+        parts = m.0.known.parts;
+        seen = m.0.known.seen;
+        own = m.0.known.own;
+        joined = m.0.known.joined;
+      }))
       × IsFaithful m'.0.known × (m'.1 ≡ m.1)
 
   -- a seat into which another was joined sees what both had seen

@@ -1,5 +1,6 @@
 -- Where the plain program stands, beside what it has read of a spelling, and what the next byte does there.
-use Rattle.std.proofs.Common.{◌≡◌, ◌≢◌, ℕ, ◌+◌, ◌-◌, ◌*◌, ◌≤◌, min, cond, Bool, true, false, List, [], ◌∷◌, ◌++◌, Option, Some, None, refl, sym, ap, ◌∙◌, append-nil, append_assoc, arith, inl, inr, IsTrue}
+use Rattle.std.proofs.Common.{◌≡◌, ◌≢◌, ℕ, ◌+◌, ◌-◌, ◌*◌, ◌≤◌, min, cond, Bool, true, false, List, [], ◌∷◌, ◌++◌, Option, Some}
+use Rattle.std.proofs.Common.{None, refl, sym, ap, ◌∙◌, append-nil, append_assoc, arith, inl, inr, IsTrue}
 use Rattle.std.specs.Char.{is_ascii_digit}
 use Rattle.std.specs.List.{AllByRecursion}
 use Rattle.std.proofs.lemmas.Bool.{and_parts, both_ways, cases_Bool, ne_eqb, leb-true}
@@ -12,7 +13,8 @@ use Rattle.alog_pattern.specs.declared.flags.Flag.{Flag}
 use Rattle.alog_pattern.specs.declared.scan.Scan.{Scan}
 use Rattle.alog_pattern.specs.declared.scan.Scan.TheVariants.{Between, Opened, Sided, Wide, Cut}
 use Rattle.alog_pattern.specs.Flag.{flag_of}
-use Rattle.alog_pattern.specs.Grammar.{Spelling, opening, number, Piece, Single, Spelled, IsPiece, piece_bytes, item, spelled_item, side_bytes}
+use Rattle.alog_pattern.specs.Grammar.{Spelling, opening, number, Piece, Single, Spelled, IsPiece, piece_bytes, item}
+use Rattle.alog_pattern.specs.Grammar.{spelled_item, side_bytes}
 use Rattle.alog_pattern.specs.Scan.{step, item_by, completed}
 
 abbrev pub IsDigit : ℕ → Type 0
@@ -58,18 +60,24 @@ pub digit_range : (b : ℕ) → IsDigit b → (48 ≤ b) × (b ≤ 57)
 digit_range b h = let p = and_parts _ _ h in (leb-true 48 b p.0, leb-true b 57 p.1)
 
 -- the program completes the item of the grammar
-pub plain_item : (o : Option Flag) (side : Side) (b : ℕ) → item_by o None b ≡ spelled_item o (record { side = side; digits = []; cut = false; flag = b })
+pub plain_item : (o : Option Flag) (side : Side) (b : ℕ)
+    → item_by o None b ≡ spelled_item o (record { side = side; digits = []; cut = false; flag = b })
 plain_item None side b = refl
 plain_item (Some flag) side b = refl
 
 pub padded_item : (o : Option Flag) (side : Side) (d : ℕ) (ds : List ℕ) (cut : Bool) (b : ℕ)
-    → item_by o (Some (record { width = min 64 (number (d ∷ ds)); side = side; cut = cut })) b ≡ spelled_item o (record { side = side; digits = d ∷ ds; cut = cut; flag = b })
+    → item_by o (Some (record {
+      width = min 64 (number (d ∷ ds));
+      side = side;
+      cut = cut;
+    })) b ≡ spelled_item o (record { side = side; digits = d ∷ ds; cut = cut; flag = b })
 padded_item None side d ds true b = refl
 padded_item None side d ds false b = refl
 padded_item (Some flag) side d ds cut b = refl
 
 -- an opening with digits is more than `%`
-long_opening : (side : Side) (d : ℕ) (ds : List ℕ) (cut : Bool) (b : ℕ) → opening (record { side = side; digits = d ∷ ds; cut = cut; flag = b }) ≢ 37 ∷ []
+long_opening : (side : Side) (d : ℕ) (ds : List ℕ) (cut : Bool) (b : ℕ)
+    → opening (record { side = side; digits = d ∷ ds; cut = cut; flag = b }) ≢ 37 ∷ []
 long_opening Right d ds cut b e = cc
 long_opening Left d ds cut b e = cc
 long_opening Centre d ds cut b e = cc
@@ -90,7 +98,8 @@ wider_width : (ds : List ℕ) (b : ℕ) → min 64 (10 * min 64 (number ds) + (b
 wider_width ds b = rw (fold-append (λ n x. 10 * n + (x - 48)) 0 ds (b ∷ [])) (omega arith)
 
 -- Behind the side comes the flag byte, or the first digit.
-pub after_side : (side : Side) (b : ℕ) → (side ≡ Right → (b ≢ 45) × (b ≢ 61)) → step (behind_side side) b ≡ cond (is_ascii_digit b) (Wide side (b - 48), None) (Between, Some (completed None b))
+pub after_side : (side : Side) (b : ℕ) → (side ≡ Right → (b ≢ 45) × (b ≢ 61))
+    → step (behind_side side) b ≡ cond (is_ascii_digit b) (Wide side (b - 48), None) (Between, Some (completed None b))
 after_side Right b h = let p = h refl in rw (ne_eqb b 45 p.0, ne_eqb b 61 p.1) refl
 after_side Left b h = refl
 after_side Centre b h = refl
@@ -117,16 +126,28 @@ goes_sided side flag b free = elim (cases_Bool (is_ascii_digit b)) [
   | inl digit ↦ GoesOn (flagged side (b ∷ []) false 0) (record { digits = (digit, tt); cut = λ e. absurd cc }) (push_opening side b)
       (after_side side b free ∙ rw digit (ap (λ (scan : Scan). (scan, None)) (first_digit side b digit)))
   | inr other ↦ Ends (Spelled (flagged side [] false b))
-      (record { digits = tt; cut = λ e. absurd cc; no_digit = λ e. absurd (both_ways _ other e); no_side = λ e. free (opening_alone side b e); no_cut = λ ne e. absurd (ne refl) })
+      (record {
+        digits = tt;
+        cut = λ e. absurd cc;
+        no_digit = λ e. absurd (both_ways _ other e);
+        no_side = λ e. free (opening_alone side b e);
+        no_cut = λ ne e. absurd (ne refl);
+      })
       refl
       (after_side side b free ∙ rw other (ap (λ (i : Item). (Between, Some i)) (plain_item (flag_of b) side b)))
 ]
 
 goes_opened : (flag b : ℕ) → Move (Some (flagged Right [] false flag)) b (step Opened b)
 goes_opened flag b = elim (eqb_tells b 45) [
-  | inl left ↦ GoesOn (flagged Left [] false 0) (record { digits = tt; cut = λ e. absurd cc }) (ap (λ x. 37 ∷ x ∷ []) (sym left.1)) (rw left.0 refl)
+  | inl left ↦ GoesOn (flagged Left [] false 0) (record {
+    digits = tt;
+    cut = λ e. absurd cc;
+  }) (ap (λ x. 37 ∷ x ∷ []) (sym left.1)) (rw left.0 refl)
   | inr not_left ↦ elim (eqb_tells b 61) [
-    | inl centre ↦ GoesOn (flagged Centre [] false 0) (record { digits = tt; cut = λ e. absurd cc }) (ap (λ x. 37 ∷ x ∷ []) (sym centre.1)) (rw (not_left.0, centre.0) refl)
+    | inl centre ↦ GoesOn (flagged Centre [] false 0) (record {
+      digits = tt;
+      cut = λ e. absurd cc;
+    }) (ap (λ x. 37 ∷ x ∷ []) (sym centre.1)) (rw (not_left.0, centre.0) refl)
     | inr not_centre ↦ goes_sided Right flag b (λ e. (not_left.1, not_centre.1))
   ]
 ]
@@ -135,36 +156,61 @@ goes_opened flag b = elim (eqb_tells b 45) [
 opening_push : (side : Side) (ds more : List ℕ) → 37 ∷ (side_bytes side ++ (ds ++ more)) ≡ (37 ∷ (side_bytes side ++ (ds ++ []))) ++ more
 opening_push side ds more = simp (append-nil, append_assoc)
 
-digits_push : (side : Side) (ds more : List ℕ) → 37 ∷ (side_bytes side ++ ((ds ++ more) ++ [])) ≡ (37 ∷ (side_bytes side ++ (ds ++ []))) ++ more
+digits_push : (side : Side) (ds more : List ℕ)
+    → 37 ∷ (side_bytes side ++ ((ds ++ more) ++ [])) ≡ (37 ∷ (side_bytes side ++ (ds ++ []))) ++ more
 digits_push side ds more = simp (append-nil, append_assoc)
 
-goes_wide : (side : Side) (d : ℕ) (ds : List ℕ) (flag b : ℕ) → AllByRecursion IsDigit (d ∷ ds) → Move (Some (flagged side (d ∷ ds) false flag)) b (step (behind side (d ∷ ds) false) b)
+goes_wide : (side : Side) (d : ℕ) (ds : List ℕ) (flag b : ℕ) → AllByRecursion IsDigit (d ∷ ds)
+    → Move (Some (flagged side (d ∷ ds) false flag)) b (step (behind side (d ∷ ds) false) b)
 goes_wide side d ds flag b all = elim (cases_Bool (is_ascii_digit b)) [
-  | inl digit ↦ GoesOn (flagged side (d ∷ (ds ++ b ∷ [])) false 0) (record { digits = (all.0, AllDigits-push ds b all.1 digit); cut = λ e. absurd cc }) (digits_push side (d ∷ ds) (b ∷ []))
+  | inl digit ↦ GoesOn (flagged side (d ∷ (ds ++ b ∷ [])) false 0) (record {
+    digits = (all.0, AllDigits-push ds b all.1 digit);
+    cut = λ e. absurd cc;
+  }) (digits_push side (d ∷ ds) (b ∷ []))
       (rw digit (ap (λ w. (Wide side w, None)) (wider_width (d ∷ ds) b)))
   | inr other ↦ elim (eqb_tells b 33) [
-    | inl cut ↦ GoesOn (flagged side (d ∷ ds) true 0) (record { digits = all; cut = λ e. λ n. cc }) (rw cut.1 (opening_push side (d ∷ ds) (33 ∷ []))) (rw (other, cut.0) refl)
+    | inl cut ↦ GoesOn (flagged side (d ∷ ds) true 0) (record {
+      digits = all;
+      cut = λ e. λ n. cc;
+    }) (rw cut.1 (opening_push side (d ∷ ds) (33 ∷ []))) (rw (other, cut.0) refl)
     | inr not_cut ↦ Ends (Spelled (flagged side (d ∷ ds) false b))
-        (record { digits = all; cut = λ e. absurd cc; no_digit = λ e. absurd (both_ways _ other e); no_side = λ e. absurd (long_opening side d ds false b e); no_cut = λ ne e. absurd (not_cut.1 e) })
+        (record {
+          digits = all;
+          cut = λ e. absurd cc;
+          no_digit = λ e. absurd (both_ways _ other e);
+          no_side = λ e. absurd (long_opening side d ds false b e);
+          no_cut = λ ne e. absurd (not_cut.1 e);
+        })
         refl
         (rw (other, not_cut.0) (ap (λ (i : Item). (Between, Some i)) (padded_item (flag_of b) side d ds false b)))
   ]
 ]
 
-goes_cut : (side : Side) (d : ℕ) (ds : List ℕ) (flag b : ℕ) → AllByRecursion IsDigit (d ∷ ds) → Move (Some (flagged side (d ∷ ds) true flag)) b (step (behind side (d ∷ ds) true) b)
+goes_cut : (side : Side) (d : ℕ) (ds : List ℕ) (flag b : ℕ) → AllByRecursion IsDigit (d ∷ ds)
+    → Move (Some (flagged side (d ∷ ds) true flag)) b (step (behind side (d ∷ ds) true) b)
 goes_cut side d ds flag b all =
     Ends (Spelled (flagged side (d ∷ ds) true b))
-    (record { digits = all; cut = λ e n. cc; no_digit = λ e. refl; no_side = λ e. absurd (long_opening side d ds true b e); no_cut = λ ne e. refl })
+    (record {
+      digits = all;
+      cut = λ e n. cc;
+      no_digit = λ e. refl;
+      no_side = λ e. absurd (long_opening side d ds true b e);
+      no_cut = λ ne e. refl;
+    })
     refl
     (ap (λ (i : Item). (Between, Some i)) (padded_item (flag_of b) side d ds true b))
 
 goes_between : (b : ℕ) → Move None b (step Between b)
 goes_between b = elim (eqb_tells b 37) [
-  | inl percent ↦ GoesOn (flagged Right [] false 0) (record { digits = tt; cut = λ e. absurd cc }) (ap (λ x. x ∷ []) (sym percent.1)) (rw percent.0 refl)
+  | inl percent ↦ GoesOn (flagged Right [] false 0) (record {
+    digits = tt;
+    cut = λ e. absurd cc;
+  }) (ap (λ x. x ∷ []) (sym percent.1)) (rw percent.0 refl)
   | inr other ↦ Ends (Single b) other.1 refl (rw other.0 refl)
 ]
 
-goes_by : (side : Side) (digits : List ℕ) (cut : Bool) (flag b : ℕ) → IsOpening (flagged side digits cut flag) → Move (Some (flagged side digits cut flag)) b (step (behind side digits cut) b)
+goes_by : (side : Side) (digits : List ℕ) (cut : Bool) (flag b : ℕ) → IsOpening (flagged side digits cut flag)
+    → Move (Some (flagged side digits cut flag)) b (step (behind side digits cut) b)
 goes_by side [] true flag b h = absurd (h.cut refl refl)
 goes_by Right [] false flag b h = goes_opened flag b
 goes_by Left [] false flag b h = goes_sided Left flag b (λ e. absurd cc)

@@ -1,5 +1,6 @@
 -- How long a padded text is.
-use Rattle.std.proofs.Common.{◌≡◌, ℕ, ◌-◌, ◌≤◌, ◌<◌, max, cond, ltb, Bool, true, false, List, ◌++◌, ap, ◌∙◌, length, take, refl, arith, inl, inr, length-append, length-take}
+use Rattle.std.proofs.Common.{◌≡◌, ℕ, ◌-◌, ◌≤◌, ◌<◌, max, cond, ltb, Bool, true, false, List, ◌++◌, ap, ◌∙◌, length, take, refl}
+use Rattle.std.proofs.Common.{arith, inl, inr, length-append, length-take}
 use Rattle.std.proofs.lemmas.Bool.{cases_lt, lt-ltb, le-ltb, cond-true, cond-false}
 use Rattle.std.proofs.lemmas.List.{length-replicate}
 use Rattle.alog_pattern.specs.declared.items.Side.{Side}
@@ -11,11 +12,13 @@ spaces_before-le Right n = omega arith
 spaces_before-le Left n = omega arith
 spaces_before-le Centre n = omega arith
 
-short_len : (width before : ℕ) (text : List ℕ) → before ≤ width - length text → length text < width → length (spaces before ++ text ++ spaces (width - length text - before)) ≡ width
+short_len : (width before : ℕ) (text : List ℕ) → before ≤ width - length text → length text < width
+    → length (spaces before ++ text ++ spaces (width - length text - before)) ≡ width
 short_len width before text fits short =
     simp (length-append, length-replicate) (omega arith)
 
-long_len : (width : ℕ) (cut : Bool) (text : List ℕ) → width ≤ length text → length (cond cut (take width text) text) ≡ cond cut width (max width (length text))
+long_len : (width : ℕ) (cut : Bool) (text : List ℕ) → width ≤ length text
+    → length (cond cut (take width text) text) ≡ cond cut width (max width (length text))
 long_len width true text long = omega (arith, length-take width text)
 long_len width false text long = omega arith
 

@@ -1,5 +1,6 @@
 -- Each string has exactly one reading: that of the plain program.
-use Rattle.std.proofs.Common.{◌≡◌, ◌≢◌, ◌<◌, ℕ, Bool, true, false, min, fold, eqb, ◌+◌, ◌-◌, ◌*◌, List, [], ◌∷◌, ◌++◌, map, Option, Some, None, refl, sym, ap, subst, ◌∙◌, append-nil, append_assoc, inl, inr, ◌⊎◌, arith}
+use Rattle.std.proofs.Common.{◌≡◌, ◌≢◌, ◌<◌, ℕ, Bool, true, false, min, fold, eqb, ◌+◌, ◌-◌, ◌*◌, List, [], ◌∷◌, ◌++◌, map}
+use Rattle.std.proofs.Common.{Option, Some, None, refl, sym, ap, subst, ◌∙◌, append-nil, append_assoc, inl, inr, ◌⊎◌, arith}
 use Rattle.std.specs.Char.{is_ascii_digit}
 use Rattle.std.specs.List.{flat_map, AllByRecursion}
 use Rattle.std.specs.Option.{option_to_list}
@@ -10,10 +11,12 @@ use Rattle.alog_pattern.specs.declared.items.Side.TheVariants.{Right, Left, Cent
 use Rattle.alog_pattern.specs.declared.items.Item.{Item}
 use Rattle.alog_pattern.specs.declared.scan.Scan.{Scan}
 use Rattle.alog_pattern.specs.declared.scan.Scan.TheVariants.{Between, Wide}
-use Rattle.alog_pattern.specs.Grammar.{Spelling, IsSpelling, opening, number, Piece, Single, Spelled, IsPiece, piece_bytes, item, IsUnfinished, IsReading, HasOneReading, side_bytes, cut_bytes}
+use Rattle.alog_pattern.specs.Grammar.{Spelling, IsSpelling, opening, number, Piece, Single, Spelled, IsPiece, piece_bytes, item}
+use Rattle.alog_pattern.specs.Grammar.{IsUnfinished, IsReading, HasOneReading, side_bytes, cut_bytes}
 use Rattle.alog_pattern.specs.Length.{longest_line, LineExceeds}
 use Rattle.alog_pattern.specs.Scan.{step, items_from, items_of}
-use Rattle.alog_pattern.proofs.Begun.{GoesOn, Ends, goes, read, scan_of, IsOpening, IsBegun, IsDigit, digit_range, plain_item, padded_item, first_digit, after_side, NoSide, flagged, behind_side, behind_width, behind}
+use Rattle.alog_pattern.proofs.Begun.{GoesOn, Ends, goes, read, scan_of, IsOpening, IsBegun, IsDigit, digit_range, plain_item}
+use Rattle.alog_pattern.proofs.Begun.{padded_item, first_digit, after_side, NoSide, flagged, behind_side, behind_width, behind}
 
 -- ---- there is one
 
@@ -21,7 +24,13 @@ use Rattle.alog_pattern.proofs.Begun.{GoesOn, Ends, goes, read, scan_of, IsOpeni
 unfinished_opening : (s : Spelling) → IsOpening s → IsUnfinished (opening s)
 unfinished_opening s h = record {
   whole = record s { flag = 118 };
-  is_spelling = record { digits = h.digits; cut = h.cut; no_digit = λ e. absurd cc; no_side = λ e. (λ f. absurd cc, λ f. absurd cc); no_cut = λ ne e. absurd cc };
+  is_spelling = record {
+    digits = h.digits;
+    cut = h.cut;
+    no_digit = λ e. absurd cc;
+    no_side = λ e. (λ f. absurd cc, λ f. absurd cc);
+    no_cut = λ ne e. absurd cc;
+  };
   missing = 118 ∷ [];
   begun = λ e. cc;
   proper = λ e. cc;
@@ -29,7 +38,8 @@ unfinished_opening s h = record {
 }
 
 -- a reading behind one more piece
-cons_reading : (p : Piece) (bytes : List ℕ) (items : List Item) → IsPiece p → IsReading bytes items → IsReading (piece_bytes p ++ bytes) (item p ∷ items)
+cons_reading : (p : Piece) (bytes : List ℕ) (items : List Item) → IsPiece p → IsReading bytes items
+    → IsReading (piece_bytes p ++ bytes) (item p ∷ items)
 cons_reading p bytes items h r = record {
   pieces = p ∷ r.pieces;
   rest = r.rest;
@@ -41,7 +51,14 @@ cons_reading p bytes items h r = record {
 
 ends_reading : (begun : Option Spelling) → IsBegun begun → IsReading (read begun ++ []) []
 ends_reading None h = record { pieces = []; rest = []; each = tt; unfinished = inl refl; bytes_are = refl; items_are = refl }
-ends_reading (Some s) h = record { pieces = []; rest = opening s; each = tt; unfinished = inr (unfinished_opening s h); bytes_are = append-nil (opening s); items_are = refl }
+ends_reading (Some s) h = record {
+  pieces = [];
+  rest = opening s;
+  each = tt;
+  unfinished = inr (unfinished_opening s h);
+  bytes_are = append-nil (opening s);
+  items_are = refl;
+}
 
 along : (xs ys : List ℕ) (is js : List Item) → xs ≡ ys → is ≡ js → IsReading xs is → IsReading ys js
 along xs ys is js e f r =
@@ -60,7 +77,8 @@ reads begun (b ∷ bs) h =
           (ap (λ x. x ++ bs) bytes ∙ append_assoc (read begun) (b ∷ []) bs) (ap gives (sym out)) (reads (Some next) bs begins)
       | Ends piece is bytes out ↦
           along (piece_bytes piece ++ bs) (read begun ++ b ∷ bs) (item piece ∷ items_of bs) (items_from (scan_of begun) (b ∷ bs))
-          (ap (λ x. x ++ bs) bytes ∙ append_assoc (read begun) (b ∷ []) bs) (ap gives (sym out)) (cons_reading piece bs (items_of bs) is (reads None bs tt))
+          (ap (λ x. x ++ bs) bytes ∙ append_assoc (read begun) (b ∷ []) bs) (ap gives (sym out)) (cons_reading piece bs
+          (items_of bs) is (reads None bs tt))
     ]
 
 -- the plain program gives a reading
@@ -77,7 +95,8 @@ digits_read side n (d ∷ ds) bs h =
     let gives : Scan × Option Item → List Item = λ out. option_to_list out.1 ++ items_from out.0 (ds ++ bs) in
     let e : min 64 (10 * min 64 n + (d - 48)) ≡ min 64 (10 * n + (d - 48)) = omega arith in
     let digit : is_ascii_digit d ≡ true = h.0 in
-    let out : step (Wide side (min 64 n)) d ≡ (Wide side (min 64 (10 * n + (d - 48))), None) = cond-true _ _ _ digit ∙ ap (λ w. (Wide side w, None)) e in
+    let out : step (Wide side (min 64 n)) d ≡ (Wide side (min 64 (10 * n + (d - 48))), None) = cond-true _ _ _ digit
+    ∙ ap (λ w. (Wide side w, None)) e in
     ap gives out ∙ digits_read side (10 * n + (d - 48)) ds bs h.1
 
 side_reads : (side : Side) (xs bs : List ℕ) → items_of ((37 ∷ (side_bytes side ++ xs)) ++ bs) ≡ items_from (behind_side side) (xs ++ bs)
@@ -88,13 +107,16 @@ side_reads Centre xs bs = refl
 digit_no_side : (side : Side) (d : ℕ) → IsDigit d → NoSide side d
 digit_no_side side d h e = let r = digit_range d h in (λ f. absurd (omega (arith, r.0, r.1)), λ f. absurd (omega (arith, r.0, r.1)))
 
-first_read : (side : Side) (d : ℕ) (bs : List ℕ) → IsDigit d → items_from (behind_side side) (d ∷ bs) ≡ items_from (Wide side (min 64 (10 * 0 + (d - 48)))) bs
+first_read : (side : Side) (d : ℕ) (bs : List ℕ) → IsDigit d
+    → items_from (behind_side side) (d ∷ bs) ≡ items_from (Wide side (min 64 (10 * 0 + (d - 48)))) bs
 first_read side d bs h =
     let gives : Scan × Option Item → List Item = λ out. option_to_list out.1 ++ items_from out.0 bs in
     let digit : is_ascii_digit d ≡ true = h in
-    ap gives (after_side side d (digit_no_side side d h) ∙ cond-true _ _ _ digit) ∙ ap (λ (scan : Scan). items_from scan bs) (first_digit side d h)
+    ap gives (after_side side d (digit_no_side side d h) ∙ cond-true _ _ _ digit)
+    ∙ ap (λ (scan : Scan). items_from scan bs) (first_digit side d h)
 
-cut_reads : (side : Side) (width : ℕ) (cut : Bool) (bs : List ℕ) → items_from (Wide side width) (cut_bytes cut ++ bs) ≡ items_from (behind_width side width cut) bs
+cut_reads : (side : Side) (width : ℕ) (cut : Bool) (bs : List ℕ)
+    → items_from (Wide side width) (cut_bytes cut ++ bs) ≡ items_from (behind_width side width cut) bs
 cut_reads side width true bs = refl
 cut_reads side width false bs = refl
 
@@ -121,7 +143,8 @@ flag_reads side [] false flag h =
 flag_reads side (d ∷ ds) false flag h =
     let other : is_ascii_digit flag ≡ false = false_from_ne_true _ (λ e. false≢true (h.no_digit e)) in
     let not_cut : eqb flag 33 ≡ false = ne_eqb flag 33 (λ e. false≢true (h.no_cut (λ n. cc) e)) in
-    cond-false _ _ _ other ∙ cond-false _ _ _ not_cut ∙ ap (λ (i : Item). (Between, Some i)) (padded_item (flag_of flag) side d ds false flag)
+    cond-false _ _ _ other ∙ cond-false _ _ _ not_cut
+    ∙ ap (λ (i : Item). (Between, Some i)) (padded_item (flag_of flag) side d ds false flag)
 flag_reads side (d ∷ ds) true flag h = ap (λ (i : Item). (Between, Some i)) (padded_item (flag_of flag) side d ds true flag)
 
 opening_of : (s : Spelling) → IsSpelling s → IsOpening s
@@ -138,7 +161,8 @@ piece_reads (Spelled s) bs h =
     ∙ opening_reads s.side s.digits s.cut s.flag (s.flag ∷ bs) (opening_of s h)
     ∙ ap gives (flag_reads s.side s.digits s.cut s.flag h)
 
-pieces_read : (ps : List Piece) (bs : List ℕ) → AllByRecursion IsPiece ps → items_of (flat_map piece_bytes ps ++ bs) ≡ map item ps ++ items_of bs
+pieces_read : (ps : List Piece) (bs : List ℕ) → AllByRecursion IsPiece ps
+    → items_of (flat_map piece_bytes ps ++ bs) ≡ map item ps ++ items_of bs
 pieces_read [] bs h = refl
 pieces_read (p ∷ ps) bs h =
     ap items_of (append_assoc (piece_bytes p) (flat_map piece_bytes ps) bs)
@@ -173,7 +197,8 @@ unfinished_reads bytes (inl e) = rw e refl
 unfinished_reads bytes (inr u) =
     let s = u.whole in
     let r = before_last bytes u.missing (opening s) s.flag u.proper u.prefix in
-    nothing_before Between bytes r.0 (ap items_of (r.1 ∙ sym (append-nil (opening s))) ∙ opening_reads s.side s.digits s.cut s.flag [] (opening_of s u.is_spelling))
+    nothing_before Between bytes r.0 (ap items_of (r.1 ∙ sym (append-nil (opening s)))
+    ∙ opening_reads s.side s.digits s.cut s.flag [] (opening_of s u.is_spelling))
 
 -- each reading is that of the plain program
 pub only_reading : (bytes : List ℕ) (items : List Item) → IsReading bytes items → items ≡ items_of bytes

@@ -3,7 +3,12 @@ use Rattle.std.specs.Prelude.{ℕ, ◌+◌, List, [], ◌∷◌, ◌++◌, Optio
 use Rattle.std.specs.Str.{byte}
 use Rattle.alog_msg.specs.declared.limits.TheConstants.{FILE_MAX, FUNCTION_MAX, LOGGER_NAME_MAX}
 use Rattle.alog_pattern.specs.declared.flags.Flag.{Flag}
-use Rattle.alog_pattern.specs.declared.flags.Flag.TheVariants.{Text, Thread, Process, Name, Level, ShortLevel, ShortWeekday, Weekday, ShortMonth, Month, DateTime, ShortYear, Year, ShortDate, MonthNumber, Day, Hour, HalfDayHour, Minute, Second, Milliseconds, Microseconds, Nanoseconds, HalfDay, HalfDayTime, ShortTime, Time, Offset, Epoch, Percent, Default, ColourStart, ColourEnd, Location, FileBase, File, Line, Function}
+use Rattle.alog_pattern.specs.declared.flags.Flag.TheVariants.{Text, Thread, Process, Name, Level, ShortLevel, ShortWeekday}
+use Rattle.alog_pattern.specs.declared.flags.Flag.TheVariants.{Weekday, ShortMonth, Month, DateTime, ShortYear, Year, ShortDate}
+use Rattle.alog_pattern.specs.declared.flags.Flag.TheVariants.{MonthNumber, Day, Hour, HalfDayHour, Minute, Second, Milliseconds}
+use Rattle.alog_pattern.specs.declared.flags.Flag.TheVariants.{Microseconds, Nanoseconds, HalfDay, HalfDayTime, ShortTime, Time}
+use Rattle.alog_pattern.specs.declared.flags.Flag.TheVariants.{Offset, Epoch, Percent, Default, ColourStart, ColourEnd, Location}
+use Rattle.alog_pattern.specs.declared.flags.Flag.TheVariants.{FileBase, File, Line, Function}
 
 -- the flag bytes of a message and of what is the same in each line, each with its flag
 abbrev pub message_flags : List (ℕ × Flag)

@@ -1,6 +1,7 @@
 -- The grammar of patterns: a string is a row of bytes other than `%` and of spellings of flags, and then perhaps
 -- the beginning of a spelling. A byte is a number here, and no rule asks how large it is.
-use Rattle.std.specs.Prelude.{◌≡◌, ◌≢◌, ℕ, ◌+◌, ◌-◌, ◌*◌, min, List, [], ◌∷◌, ◌++◌, map, fold, Bool, true, false, IsTrue, Option, Some, None, ◌⊎◌, if◌then◌else◌}
+use Rattle.std.specs.Prelude.{◌≡◌, ◌≢◌, ℕ, ◌+◌, ◌-◌, ◌*◌, min, List, [], ◌∷◌, ◌++◌, map, fold, Bool, true, false, IsTrue, Option}
+use Rattle.std.specs.Prelude.{Some, None, ◌⊎◌, if◌then◌else◌}
 use Rattle.std.specs.List.{flat_map, AllByRecursion}
 use Rattle.std.specs.Char.{is_ascii_digit}
 use Rattle.std.specs.Str.{byte}

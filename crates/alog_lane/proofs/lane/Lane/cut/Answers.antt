@@ -10,12 +10,15 @@ split_seat-given-requires g c =
     in (
       c.requires.table ∙ ap (λ l. l.table) (sym c.self.view_is),
       omega (arith, c.self.inside.sized.0),
-      splits g.T.Turn.turns g.T.Turn.may_turn c.self.inside.table.shared.key.value c.args.own.now.id g.A.Amount.parts c.args.own.now.me.0 c.requires.stage (subst F c.requires.amount c.requires.fewer) (subst P c.requires.amount c.requires.some),
+      splits g.T.Turn.turns g.T.Turn.may_turn c.self.inside.table.shared.key.value c.args.own.now.id g.A.Amount.parts
+          c.args.own.now.me.0 c.requires.stage (subst F c.requires.amount c.requires.fewer)
+          (subst P c.requires.amount c.requires.some),
     )
 
 pub load-requires : goal.load-requires
 load-requires g c = (
   c.split_seat-given.ensures.3 ∙ c.requires.table ∙ ap (λ l. l.table) (sym c.self.view_is),
   omega (arith, c.self.inside.sized.0),
-  name_may g.T.Turn.turns g.T.Turn.may_turn c.self.inside.table.shared.key.value c.self.inside.table.shared.table_id.slots c.split_seat-given.result.id c.split_seat-given.result.me c.args.own.now.me.0 g.A.Amount.parts _ c.split_seat-given.ensures.4,
+  name_may g.T.Turn.turns g.T.Turn.may_turn c.self.inside.table.shared.key.value c.self.inside.table.shared.table_id.slots
+      c.split_seat-given.result.id c.split_seat-given.result.me c.args.own.now.me.0 g.A.Amount.parts _ c.split_seat-given.ensures.4,
 )

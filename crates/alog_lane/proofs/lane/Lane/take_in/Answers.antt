@@ -11,12 +11,15 @@ join_seat-requires g c =
       c.requires.table.1 ∙ here,
       c.requires.home,
       omega (arith, c.self.inside.sized.0),
-      joins g.T.Turn.turns g.T.Turn.may_turn c.self.inside.table.shared.key.value c.args.own.now.id c.args.other.id c.args.own.now.me.0 c.args.other.me.0 c.requires.stage.0 c.requires.stage.1 c.requires.some,
+      joins g.T.Turn.turns g.T.Turn.may_turn c.self.inside.table.shared.key.value c.args.own.now.id c.args.other.id
+          c.args.own.now.me.0 c.args.other.me.0 c.requires.stage.0 c.requires.stage.1 c.requires.some,
     )
 
 pub load-requires : goal.load-requires
 load-requires g c = (
   c.join_seat.ensures.0 ∙ c.requires.table.0 ∙ ap (λ l. l.table) (sym c.self.view_is),
   omega (arith, c.self.inside.sized.0),
-  see_both_may g.T.Turn.turns g.T.Turn.may_turn c.self.inside.table.shared.key.value c.self.inside.table.shared.table_id.slots c.join_seat.new.seat.id c.join_seat.new.seat.me c.args.own.now.me.0 c.args.other.me.0 _ c.join_seat.ensures.2 c.requires.faithful.0 c.requires.faithful.1,
+  see_both_may g.T.Turn.turns g.T.Turn.may_turn c.self.inside.table.shared.key.value c.self.inside.table.shared.table_id.slots
+      c.join_seat.new.seat.id c.join_seat.new.seat.me c.args.own.now.me.0 c.args.other.me.0 _ c.join_seat.ensures.2
+      c.requires.faithful.0 c.requires.faithful.1,
 )

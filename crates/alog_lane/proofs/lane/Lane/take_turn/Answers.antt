@@ -7,7 +7,8 @@ use Rattle.alog_lane.specs.Plays.{last_is}
 use Rattle.alog_lane.proofs.lane.Lane.take_turn.Goals as goal
 
 pub slot_mut-cabin-requires : goal.slot_mut-cabin-requires
-slot_mut-cabin-requires g c = let o = c.requires.owner in (c.requires.table ∙ ap (λ l. l.table) (sym c.self.view_is), (o.0, o.1 ∙ ap (λ l. (0, o.0) ∷ rest l) (sym o.1)))
+slot_mut-cabin-requires g c = let o = c.requires.owner
+    in (c.requires.table ∙ ap (λ l. l.table) (sym c.self.view_is), (o.0, o.1 ∙ ap (λ l. (0, o.0) ∷ rest l) (sym o.1)))
 
 pub returns-clause-took : goal.returns-clause-took
 returns-clause-took g c =
@@ -15,7 +16,13 @@ returns-clause-took g c =
     in let old : Slot = c.slot_mut-cabin.result.now
     in let new : Slot = record { value = c.turn-reply.new.self; turns = (old.turns + 1) % 2 ^ 64; last = c.of-4.result }
     in let none_left : rest c.args.own.now.me.1 ≡ [] = ap rest c.requires.owner.1
-    in let deed : Turned g.row.T-Item.Denot g.row.T-Scratch.Denot g.row.T-Reply.Denot = record { tag = c.args.tag; item = c.args.item.now; before = c.args.scratch.now; reply = c.turn-reply.result; after = c.turn-reply.new.scratch }
+    in let deed : Turned g.row.T-Item.Denot g.row.T-Scratch.Denot g.row.T-Reply.Denot = record {
+      tag = c.args.tag;
+      item = c.args.item.now;
+      before = c.args.scratch.now;
+      reply = c.turn-reply.result;
+      after = c.turn-reply.new.scratch;
+    }
     in let L : Option (Done g.row.T.Denot g.row.T-Item.Denot g.row.T-Reply.Denot g.row.T-Scratch.Denot) → Type 0 = λ o. last_is o deed
     in record {
       view = refl;
@@ -25,7 +32,13 @@ returns-clause-took g c =
       new = new;
       is = ap (λ (l : List (ℕ × Slot)). (0, new) ∷ l) none_left;
       count = refl;
-      last = subst L (sym c.of-4.ensures) (λ i. record { tag = c.args.tag; item = c.of.ensures i; before = c.of-before.ensures i; reply = c.of-2.ensures i; after = c.of-3.ensures i });
+      last = subst L (sym c.of-4.ensures) (λ i. record {
+        tag = c.args.tag;
+        item = c.of.ensures i;
+        before = c.of-before.ensures i;
+        reply = c.of-2.ensures i;
+        after = c.of-3.ensures i;
+      });
       turn = c.turn-reply.ensures.turned;
       keeps = c.turn-reply.ensures.keeps;
     }

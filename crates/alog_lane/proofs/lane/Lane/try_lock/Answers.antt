@@ -8,5 +8,6 @@ compare_exchange-requires g c =
     in (
       c.requires.table ∙ ap (λ l. l.table) (sym c.self.view_is),
       omega (arith, sized.0),
-      tries g.T.Turn.turns g.T.Turn.may_turn c.self.inside.table.shared.key.value c.self.inside.table.shared.table_id.slots c.args.own.now.id c.args.own.now.me c.requires.stage,
+      tries g.T.Turn.turns g.T.Turn.may_turn c.self.inside.table.shared.key.value c.self.inside.table.shared.table_id.slots
+          c.args.own.now.id c.args.own.now.me c.requires.stage,
     )
