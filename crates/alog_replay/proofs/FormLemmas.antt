@@ -68,17 +68,17 @@ given_once NoArgument rest g h p q = refl
 pub is_given : (form : Form) (rest : Option (List ℕ)) (g : Given form) → SpellsForm form rest g → (h : Given form) → (Some g ≡ Some h) ↔ SpellsForm form rest h
 is_given form rest g p = one_of (SpellsForm form rest) g p (λ h q. given_once form rest g h p q)
 
-pub is_two_numbers : (rest : Option (List ℕ)) (r a b : List ℕ) (t : Option (List ℕ)) (n m : ℕ) → rest ≡ Some r → IsCut r a t → t ≡ Some b → SpellsWord64 a n → SpellsWord64 b m
+pub is_two_numbers : {rest t : Option (List ℕ)} {r b : List ℕ} (a : List ℕ) (n m : ℕ) → rest ≡ Some r → IsCut r a t → t ≡ Some b → SpellsWord64 a n → SpellsWord64 b m
     → (h : ℕ × ℕ) → (Some (n, m) ≡ Some h) ↔ SpellsForm TwoNumbers rest h
-is_two_numbers rest r a b t n m e cut u p q = is_given TwoNumbers rest (n, m) (a, b, e ∙ ap Some (cut.0 ∙ ap (λ x. a ++ tail_of x) u), p, q)
+is_two_numbers {rest} {t} {r} {b} a n m e cut u p q = is_given TwoNumbers rest (n, m) (a, b, e ∙ ap Some (cut.0 ∙ ap (λ x. a ++ tail_of x) u), p, q)
 
-pub is_text : (rest : Option (List ℕ)) (r a text : List ℕ) (t : Option (List ℕ)) (n : ℕ) → rest ≡ Some r → IsCut r a t → text ≡ unwrap_or t [] → SpellsActor a n
+pub is_text : {rest : Option (List ℕ)} {r text : List ℕ} (a : List ℕ) (t : Option (List ℕ)) (n : ℕ) → rest ≡ Some r → IsCut r a t → text ≡ unwrap_or t [] → SpellsActor a n
     → (h : ℕ × List ℕ) → (Some (n, text) ≡ Some h) ↔ SpellsForm ActorAndText rest h
-is_text rest r a text t n e cut u p = is_given ActorAndText rest (n, text) (a, t, e ∙ ap Some cut.0, p, u)
+is_text {rest} {r} {text} a t n e cut u p = is_given ActorAndText rest (n, text) (a, t, e ∙ ap Some cut.0, p, u)
 
-pub is_count : (rest : Option (List ℕ)) (r a : List ℕ) (t : Option (List ℕ)) (n m : ℕ) → rest ≡ Some r → IsCut r a t → SpellsActor a n → SpellsCount t m
+pub is_count : {rest : Option (List ℕ)} {r : List ℕ} (a : List ℕ) (t : Option (List ℕ)) (n m : ℕ) → rest ≡ Some r → IsCut r a t → SpellsActor a n → SpellsCount t m
     → (h : ℕ × ℕ) → (Some (n, m) ≡ Some h) ↔ SpellsForm ActorAndCount rest h
-is_count rest r a t n m e cut p q = is_given ActorAndCount rest (n, m) (a, t, e ∙ ap Some cut.0, p, q)
+is_count {rest} {r} a t n m e cut p q = is_given ActorAndCount rest (n, m) (a, t, e ∙ ap Some cut.0, p, q)
 
 -- whether bytes are digits
 digits_or_not : (ds : List ℕ) → AllDigits 10 ds ⊎ (AllDigits 10 ds → ⊥)

@@ -2,7 +2,7 @@
 use Rattle.std.proofs.Common.{◌≡◌, ℕ, suc, zero, ◌+◌, ◌-◌, ◌<◌, ◌≤◌, Bool, true, false, List, [], ◌++◌, append_assoc, refl, sym, ap, subst, ◌∙◌, arith}
 use Rattle.std.proofs.lemmas.List.{append-nil}
 use Rattle.alog_replay.specs.declared.limits.TheConstants.{STEPS_MAX}
-use Rattle.alog_replay.specs.Scene.{Scene, Played, Done, Refused, behind, WhereTrue, StepThen, Makes, Runs, IsDone, IsRefused, done}
+use Rattle.alog_replay.specs.Scene.{Scene, Played, Done, Refused, behind, WhereTrue, StepThen, Makes, Runs, Prints, IsDone, IsRefused, done}
 
 pub behind-behind : {S : Type 0} (x y : List ℕ) (p : Played S) → behind x (behind y p) ≡ behind (x ++ y) p
 behind-behind x y (Done z s) = ap (λ t. Done t s) (sym (append_assoc x y z))
@@ -24,12 +24,14 @@ false_or_not false h = absurd (h refl)
 
 module _ {S : Type 0} (scene : Scene S) (ended : S → Played S) where
   -- one step of those to come is made
-  pub one_made : (k actor : ℕ) (s next : S) (text : List ℕ) (q : Played S) → 0 < k → scene.is_free s actor ≡ false → scene.Steps s actor text next → Makes scene ended (k - 1) actor next q → Makes scene ended k actor s (behind text q)
+  pub one_made : (k actor : ℕ) (s : S) (p : Played S) → 0 < k → scene.is_free s actor ≡ false
+      → StepThen scene actor s (λ t q. Makes scene ended (k - 1) actor t q) p → Makes scene ended k actor s p
   unfolding Makes
-  one_made zero actor s next text q some called step rest = absurd (omega arith)
-  one_made (suc k) actor s next text q some called step rest =
+  one_made zero actor s p some called h = absurd (omega arith)
+  one_made (suc k) actor s p some called h =
       let less : suc k - 1 ≡ k = omega arith in
-      where_false (scene.is_free s actor) _ _ called (text, next, q, step, subst (λ j. Makes scene ended j actor next q) less rest, refl)
+      let rest = subst (λ j. Makes scene ended j actor h.1 h.2) less h.4 in
+      where_false (scene.is_free s actor) _ _ called (h.0, h.1, h.2, h.3, rest, h.5)
 
   -- the call has ended before
   pub ended_before : (k actor : ℕ) (s : S) → 0 < k → scene.is_free s actor ≡ true → Makes scene ended k actor s (ended s)
@@ -55,34 +57,38 @@ behind_nothing (Refused t) = refl
 pub made_nothing : {S : Type 0} (Whole : Played S → Type 0) (before : List ℕ) → HasMade Whole Whole before before
 made_nothing Whole before = record { text = []; printed = sym (append-nil before); goes_on = λ q h. subst Whole (sym (behind_nothing q)) h }
 
-pub made_more : {S : Type 0} (Whole Rest Next : Played S → Type 0) (before now then more : List ℕ) → HasMade Whole Rest before now → ((q : Played S) → Next q → Rest (behind more q)) → then ≡ now ++ more → HasMade Whole Next before then
-made_more Whole Rest Next before now then more m step p =
+pub made_more : {S : Type 0} {Whole Rest : Played S → Type 0} {before now then : List ℕ} (Next : Played S → Type 0) (more : List ℕ)
+    → HasMade Whole Rest before now → ((q : Played S) → Next q → Rest (behind more q)) → then ≡ now ++ more → HasMade Whole Next before then
+made_more {S} {Whole} {Rest} {before} Next more m step p =
     record {
       text = m.text ++ more;
       printed = p ∙ (ap (λ xs. xs ++ more) m.printed ∙ append_assoc before m.text more);
       goes_on = λ q h. subst Whole (behind-behind m.text more q) (m.goes_on (behind more q) (step q h));
     }
 
-pub made_all : {S : Type 0} (Whole Rest : Played S → Type 0) (before now : List ℕ) (s : S) → HasMade Whole Rest before now → Rest (Done [] s) → IsDone Whole before now s
-made_all Whole Rest before now s m h = (m.text, subst (λ t. Whole (Done t s)) (append-nil m.text) (m.goes_on (Done [] s) h), m.printed)
+pub made_all : {S : Type 0} {Whole Rest : Played S → Type 0} {before now : List ℕ} (s : S) → HasMade Whole Rest before now → Rest (Done [] s) → IsDone Whole before now s
+made_all {S} {Whole} s m h = (m.text, subst (λ t. Whole (Done t s)) (append-nil m.text) (m.goes_on (Done [] s) h), m.printed)
 
-pub made_till_refused : {S : Type 0} (Whole Rest : Played S → Type 0) (before now then : List ℕ) → HasMade Whole Rest before now → Rest (Refused []) → then ≡ now → IsRefused Whole before then
-made_till_refused Whole Rest before now then m h p = (m.text, subst (λ t. Whole (Refused t)) (append-nil m.text) (m.goes_on (Refused []) h), p ∙ m.printed)
+pub made_till_refused : {S : Type 0} {Whole Rest : Played S → Type 0} {before now then : List ℕ} → HasMade Whole Rest before now → Rest (Refused []) → then ≡ now
+    → IsRefused Whole before then
+made_till_refused {S} {Whole} m h p = (m.text, subst (λ t. Whole (Refused t)) (append-nil m.text) (m.goes_on (Refused []) h), p ∙ m.printed)
 
 module _ {S : Type 0} (scene : Scene S) (ended : S → Played S) where
   -- one turn of a loop makes one of the steps that are left
-  pub next_made : (Whole : Played S → Type 0) (n i actor : ℕ) (s next : S) (text before now then : List ℕ) → i < n → scene.is_free s actor ≡ false → scene.Steps s actor text next → then ≡ now ++ text
-      → HasMade Whole (Makes scene ended (n - i) actor s) before now → HasMade Whole (Makes scene ended (n - (i + 1)) actor next) before then
-  next_made Whole n i actor s next text before now then some called step p m =
+  pub next_made : {Whole : Played S → Type 0} {before now : List ℕ} (then : List ℕ) (n i actor : ℕ) (s next : S) → i < n → scene.is_free s actor ≡ false
+      → Prints now then (λ text. scene.Steps s actor text next) → HasMade Whole (Makes scene ended (n - i) actor s) before now
+      → HasMade Whole (Makes scene ended (n - (i + 1)) actor next) before then
+  next_made then n i actor s next some called step m =
       let less : n - (i + 1) ≡ n - i - 1 = omega arith in
-      made_more Whole (Makes scene ended (n - i) actor s) (Makes scene ended (n - (i + 1)) actor next) before now then text m
-      (λ q h. one_made scene ended (n - i) actor s next text q (omega (arith, some)) called step (subst (λ j. Makes scene ended j actor next q) less h)) p
+      made_more (Makes scene ended (n - (i + 1)) actor next) step.0 m
+      (λ q h. one_made scene ended (n - i) actor s (behind step.0 q) (omega (arith, some)) called
+      (step.0, next, q, step.1, subst (λ j. Makes scene ended j actor next q) less h, refl)) step.2
 
   -- the loop has made all
-  pub all_made : (Whole : Played S → Type 0) (n i actor : ℕ) (s : S) (before now : List ℕ) → n ≤ i → HasMade Whole (Makes scene ended (n - i) actor s) before now → IsDone Whole before now s
-  all_made Whole n i actor s before now none m =
-      made_all Whole (Makes scene ended (n - i) actor s) before now s m (none_to_make scene ended (n - i) actor s (omega (arith, none)))
+  pub all_made : {Whole : Played S → Type 0} {before now : List ℕ} (n i actor : ℕ) (s : S) → n ≤ i → HasMade Whole (Makes scene ended (n - i) actor s) before now → IsDone Whole before now s
+  all_made n i actor s none m = made_all s m (none_to_make scene ended (n - i) actor s (omega (arith, none)))
 
 -- an actor in a call ran
-pub ran : {S : Type 0} (scene : Scene S) (actor : ℕ) (start s : S) (before now : List ℕ) → scene.is_free start actor ≡ false → IsDone (Makes scene done STEPS_MAX actor start) before now s → IsDone (Runs scene actor start) before now s
+pub ran : {S : Type 0} (scene : Scene S) (actor : ℕ) (start s : S) (before now : List ℕ) → scene.is_free start actor ≡ false
+    → IsDone (Makes scene done STEPS_MAX actor start) before now s → IsDone (Runs scene actor start) before now s
 ran scene actor start s before now called d = (d.0, where_false (scene.is_free start actor) _ _ called d.1, d.2)

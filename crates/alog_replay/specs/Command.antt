@@ -46,11 +46,14 @@ Given NoArgument = Unit {0}
 
 -- what stands after a command's name and a space, if anything does, spells arguments of a form
 abbrev pub SpellsForm : (form : Form) → Option (List ℕ) → Given form → Type 0
-SpellsForm TwoNumbers rest g = (a : List ℕ) × (b : List ℕ) × (rest ≡ Some (a ++ 32 ∷ b)) × SpellsWord64 a g.0 × SpellsWord64 b g.1
+SpellsForm TwoNumbers rest g =
+    (a : List ℕ) × (b : List ℕ) × (rest ≡ Some (a ++ 32 ∷ b)) × SpellsWord64 a g.0 × SpellsWord64 b g.1
 SpellsForm ActorAlone None g = ⊥
 SpellsForm ActorAlone (Some digits) g = SpellsActor digits g
-SpellsForm ActorAndText rest g = (a : List ℕ) × (t : Option (List ℕ)) × (rest ≡ Some (a ++ tail_of t)) × SpellsActor a g.0 × (g.1 ≡ unwrap_or t [])
-SpellsForm ActorAndCount rest g = (a : List ℕ) × (t : Option (List ℕ)) × (rest ≡ Some (a ++ tail_of t)) × SpellsActor a g.0 × SpellsCount t g.1
+SpellsForm ActorAndText rest g =
+    (a : List ℕ) × (t : Option (List ℕ)) × (rest ≡ Some (a ++ tail_of t)) × SpellsActor a g.0 × (g.1 ≡ unwrap_or t [])
+SpellsForm ActorAndCount rest g =
+    (a : List ℕ) × (t : Option (List ℕ)) × (rest ≡ Some (a ++ tail_of t)) × SpellsActor a g.0 × SpellsCount t g.1
 SpellsForm NoArgument rest g = rest ≡ None
 
 -- a row of the table: a command's name, the form of its arguments, and the command that they make

@@ -23,4 +23,5 @@ FindsLine answer before after line = WhereKnown before after (λ script rest. Is
 abbrev pub MovesPiece : Piece → LineState → LineState → Type 0
 MovesPiece piece.Ended old new = (p : List ℕ) × (old.pending ≡ p ++ 10 ∷ new.pending) × (new.line ≡ old.line ++ p) × IsUnbroken p
 MovesPiece piece.Whole old new = (new.pending ≡ []) × (new.line ≡ old.line ++ old.pending) × IsUnbroken old.pending
-MovesPiece piece.TooLong old new = (new ≡ old) × (p : List ℕ) × (q : List ℕ) × (old.pending ≡ p ++ q) × IsUnbroken p × (LINE_MAX < length old.line + length p)
+MovesPiece piece.TooLong old new =
+    (new ≡ old) × (p : List ℕ) × (q : List ℕ) × (old.pending ≡ p ++ q) × IsUnbroken p × (LINE_MAX < length old.line + length p)

@@ -36,12 +36,14 @@ WhereTrue false P Q = Q
 
 -- an actor made a step, and then comes what the rest says of the stage after it
 abbrev pub StepThen : {S : Type 0} → Scene S → ℕ → S → (S → Played S → Type 0) → Played S → Type 0
-StepThen {S} scene actor s Rest p = (text : List ℕ) × (next : S) × (q : Played S) × scene.Steps s actor text next × Rest next q × (p ≡ behind text q)
+StepThen {S} scene actor s Rest p =
+    (text : List ℕ) × (next : S) × (q : Played S) × scene.Steps s actor text next × Rest next q × (p ≡ behind text q)
 
 -- this many steps of an actor, and this answer where its call has ended before
 unfoldable pub Makes : {S : Type 0} → Scene S → (S → Played S) → ℕ → ℕ → S → Played S → Type 0
 Makes scene ended zero actor s p = p ≡ Done [] s
-Makes scene ended (suc k) actor s p = WhereTrue (scene.is_free s actor) (p ≡ ended s) (StepThen scene actor s (λ t q. Makes scene ended k actor t q) p)
+Makes scene ended (suc k) actor s p =
+    WhereTrue (scene.is_free s actor) (p ≡ ended s) (StepThen scene actor s (λ t q. Makes scene ended k actor t q) p)
 
 abbrev pub refused : {S : Type 0} → S → Played S
 refused s = Refused []
@@ -55,7 +57,8 @@ Runs scene actor s p = WhereTrue (scene.is_free s actor) (p ≡ Refused []) (Mak
 
 -- what comes of a command; a `step` is refused where the actor's call has ended before, with what was printed
 abbrev pub Plays : {S : Type 0} → Scene S → S → Command → Played S → Type 0
-Plays {S} scene s (Acts act) p = WhereTrue (scene.may_do s act) ((text : List ℕ) × (next : S) × scene.Does s act text next × (p ≡ Done text next)) (p ≡ Refused [])
+Plays {S} scene s (Acts act) p =
+    WhereTrue (scene.may_do s act) ((text : List ℕ) × (next : S) × scene.Does s act text next × (p ≡ Done text next)) (p ≡ Refused [])
 Plays scene s (Step actor count) p = Makes scene refused count actor s p
 Plays scene s (Run actor) p = Runs scene actor s p
 
@@ -69,10 +72,14 @@ pub record IsCertain {S : Type 0} (scene : Scene S) : Type 0 where
   pub does : (s : S) (act : Act) (x y : List ℕ) (t u : S) → scene.Does s act x t → scene.Does s act y u → (x ≡ y) × (t ≡ u)
   pub steps : (s : S) (actor : ℕ) (x y : List ℕ) (t u : S) → scene.Steps s actor x t → scene.Steps s actor y u → (x ≡ y) × (t ≡ u)
 
+-- behind what stood there a text was printed of which this holds
+abbrev pub Prints : List ℕ → List ℕ → (List ℕ → Type 0) → Type 0
+Prints before after P = (text : List ℕ) × P text × (after ≡ before ++ text)
+
 -- what was printed and the stage after it are those of a command that was carried out
 abbrev pub IsDone : {S : Type 0} → (Played S → Type 0) → List ℕ → List ℕ → S → Type 0
-IsDone Plays before after s = (text : List ℕ) × Plays (Done text s) × (after ≡ before ++ text)
+IsDone Plays before after s = Prints before after (λ text. Plays (Done text s))
 
 -- what was printed is that of a command that was refused
 abbrev pub IsRefused : {S : Type 0} → (Played S → Type 0) → List ℕ → List ℕ → Type 0
-IsRefused Plays before after = (text : List ℕ) × Plays (Refused text) × (after ≡ before ++ text)
+IsRefused Plays before after = Prints before after (λ text. Plays (Refused text))

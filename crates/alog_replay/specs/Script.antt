@@ -52,7 +52,8 @@ TellsSomething {S} scene = GoesOn scene → (s : S) (script : List ℕ) → (t :
 
 -- a script tells one thing alone on a scene of which each relation does
 abbrev pub TellsOneThing : {S : Type 0} → Scene S → Type 0
-TellsOneThing {S} scene = IsCertain scene → (s : S) (script : List ℕ) (t u : Told) → ScriptTells scene s script t → ScriptTells scene s script u → t ≡ u
+TellsOneThing {S} scene =
+    IsCertain scene → (s : S) (script : List ℕ) (t u : Told) → ScriptTells scene s script t → ScriptTells scene s script u → t ≡ u
 
 -- a line was carried out: what was printed behind what stood there, and the stage after it
 abbrev pub EntryDone : {S : Type 0} → Scene S → S → Entry → List ℕ → List ℕ → S → Type 0
@@ -97,7 +98,8 @@ LinePrints {S} scene s line text = ((next : S) × LineDone scene s line [] text 
 
 -- nothing of a line was written, or a front of what it printed
 abbrev pub WritesLineFront : {S : Type 0} → Scene S → S → List ℕ → Option (List ℕ) → Option (List ℕ) → Type 0
-WritesLineFront scene s line old new = Appends old new [] ⊎ ((text : List ℕ) × LinePrints scene s line text × WritesFrontOf text old new)
+WritesLineFront scene s line old new =
+    Appends old new [] ⊎ ((text : List ℕ) × LinePrints scene s line text × WritesFrontOf text old new)
 
 -- the fault is no refused line
 abbrev pub IsNoRefusal : ReplayError → Type 0
@@ -107,9 +109,9 @@ IsNoRefusal fault.WriteFault = Unit {0}
 IsNoRefusal fault.OutOfMemory = Unit {0}
 
 -- what was written is what the script tells, which is so ended
-pub record WritesText {S : Type 0} (scene : Scene S) (s : S) (script : List ℕ) (ended : List ℕ → Told) (old new : Option (List ℕ)) : Type 0 where
+pub record WritesText {S : Type 0} (scene : Scene S) (s : S) (script : List ℕ) (end : List ℕ → Told) (old new : Option (List ℕ)) : Type 0 where
   pub text : List ℕ
-  pub tells : ScriptTells scene s script (ended text)
+  pub tells : ScriptTells scene s script (end text)
   pub writes : Appends old new text
 
 -- what was written is a front of what these bytes tell

@@ -66,7 +66,8 @@ impl Model for LineReader {
 
     ghost view = { λ r. record { line = r.line.items; pending = slice_range r.chunk.items r.start r.end; reads_left = r.reads_left } };
 
-    ghost invariant = { λ r. (r.start ≤ r.end) × (r.end ≤ vec_len r.chunk) × (vec_len r.chunk ≡ CHUNK) × (vec_len r.line ≤ LINE_MAX) × (LINE_MAX ≤ vec_capacity r.line) };
+    ghost invariant = { λ r. (r.start ≤ r.end) × (r.end ≤ vec_len r.chunk) × (vec_len r.chunk ≡ CHUNK)
+        × (vec_len r.line ≤ LINE_MAX) × (LINE_MAX ≤ vec_capacity r.line) };
 }
 
 impl LineReader {

@@ -1,7 +1,8 @@
 //! How a line is read as a command.
 ghost use Rattle.std.specs.Prelude.{◌≡◌, ◌≤◌, ◌↔◌, ℕ, List, IfSome, [], unwrap_or};
 ghost use Rattle.std.specs.Option.{option_copied};
-ghost use Rattle.alog_replay.specs.Command.{SpellsNumber, SpellsActor, SpellsCount, SpellsForm, TwoNumbers, ActorAlone, ActorAndText, ActorAndCount, NoArgument, Spells};
+ghost use Rattle.alog_replay.specs.Command.{SpellsNumber, SpellsActor, SpellsCount, SpellsForm, Spells};
+ghost use Rattle.alog_replay.specs.Command.{TwoNumbers, ActorAlone, ActorAndText, ActorAndCount, NoArgument};
 ghost use Rattle.alog_replay.specs.Cut.{IsCut};
 ghost use Rattle.alog_replay.specs.declared.command.Command.{Command};
 

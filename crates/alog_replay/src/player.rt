@@ -1,8 +1,10 @@
 //! The replay of a script, from a reader to a writer, on anything that is `Playable`.
-ghost use Rattle.std.specs.Prelude.{◌≡◌, ◌+◌, ◌++◌, ◌<◌, ◌≤◌, ℕ, List, [], Some, None, IfOk, IfErr, IfSome, OnOk, OnErr, IsErrOf, length, string_bytes};
+ghost use Rattle.std.specs.Prelude.{◌≡◌, ◌+◌, ◌++◌, ◌<◌, ◌≤◌, ℕ, List, [], Some, None, length, string_bytes};
+ghost use Rattle.std.specs.Prelude.{IfOk, IfErr, IfSome, OnOk, OnErr, IsErrOf};
 ghost use Rattle.std.specs.Io.KnownBytes.{Appends};
 ghost use Rattle.alog_replay.specs.Scene.{IsDone, IsRefused, Makes, Runs, Plays, refused};
-ghost use Rattle.alog_replay.specs.Script.{Whole, RefusedAt, LineDone, LineRefused, WritesLine, WritesRefused, WritesLineFront, WritesFrontOf, IsNoRefusal, WritesText, WritesFront, WasRead, TellsOneThing, TellsSomething};
+ghost use Rattle.alog_replay.specs.Script.{Whole, RefusedAt, LineDone, LineRefused, WritesLine, WritesRefused, WritesLineFront};
+ghost use Rattle.alog_replay.specs.Script.{WritesFrontOf, IsNoRefusal, WritesText, WritesFront, WasRead, TellsOneThing, TellsSomething};
 ghost use Rattle.alog_replay.specs.Plain.{plain, OneText};
 
 use crate::command::{Actor, Command};
@@ -22,8 +24,10 @@ fn make_steps<S: Playable>(
     count: u32,
     out: &mut String,
 ) -> Result<(), LineError>
-    ensures done { OnOk result (IsDone (Makes S.scene refused count actor stage.old) (string_bytes out.old) (string_bytes out.new) stage.new) }
-    ensures refused { IsErrOf result LineError.Refused → IsRefused (Makes S.scene refused count actor stage.old) (string_bytes out.old) (string_bytes out.new) }
+    ensures done { OnOk result (IsDone (Makes S.scene refused count actor stage.old)
+        (string_bytes out.old) (string_bytes out.new) stage.new) }
+    ensures refused { IsErrOf result LineError.Refused → IsRefused (Makes S.scene refused count actor stage.old)
+        (string_bytes out.old) (string_bytes out.new) }
 {
     for _ in 0..count {
         stage.step(actor, out)?;
@@ -33,8 +37,10 @@ fn make_steps<S: Playable>(
 
 /// An actor in a call makes steps until its call has ended, but no more than `STEPS_MAX`.
 fn run<S: Playable>(stage: &mut S, actor: Actor, out: &mut String) -> Result<(), LineError>
-    ensures done { OnOk result (IsDone (Runs S.scene actor stage.old) (string_bytes out.old) (string_bytes out.new) stage.new) }
-    ensures refused { IsErrOf result LineError.Refused → IsRefused (Runs S.scene actor stage.old) (string_bytes out.old) (string_bytes out.new) }
+    ensures done { OnOk result (IsDone (Runs S.scene actor stage.old)
+        (string_bytes out.old) (string_bytes out.new) stage.new) }
+    ensures refused { IsErrOf result LineError.Refused → IsRefused (Runs S.scene actor stage.old)
+        (string_bytes out.old) (string_bytes out.new) }
 {
     if stage.is_free(actor) {
         return Err(LineError::Refused);
@@ -55,8 +61,10 @@ fn carry_out<S: Playable>(
     command: Command<'_>,
     out: &mut String,
 ) -> Result<(), LineError>
-    ensures done { OnOk result (IsDone (Plays S.scene stage.old command.entry) (string_bytes out.old) (string_bytes out.new) stage.new) }
-    ensures refused { IsErrOf result LineError.Refused → IsRefused (Plays S.scene stage.old command.entry) (string_bytes out.old) (string_bytes out.new) }
+    ensures done { OnOk result (IsDone (Plays S.scene stage.old command.entry)
+        (string_bytes out.old) (string_bytes out.new) stage.new) }
+    ensures refused { IsErrOf result LineError.Refused → IsRefused (Plays S.scene stage.old command.entry)
+        (string_bytes out.old) (string_bytes out.new) }
 {
     match command {
         Command::Acts(act) => stage.act(alloc, act, out),
@@ -73,8 +81,10 @@ fn play_line<S: Playable>(
     out: &mut String,
 ) -> Result<(), LineError>
     requires { length line.now ≤ LINE_MAX }
-    ensures done { OnOk result (LineDone S.scene stage.old line.now (string_bytes out.old) (string_bytes out.new) stage.new) }
-    ensures refused { IsErrOf result LineError.Refused → LineRefused S.scene stage.old line.now (string_bytes out.old) (string_bytes out.new) }
+    ensures done { OnOk result (LineDone S.scene stage.old line.now
+        (string_bytes out.old) (string_bytes out.new) stage.new) }
+    ensures refused { IsErrOf result LineError.Refused → LineRefused S.scene stage.old line.now
+        (string_bytes out.old) (string_bytes out.new) }
 {
     match entry_of(line) {
         Entry::Skipped => Ok(()),
@@ -86,7 +96,8 @@ fn play_line<S: Playable>(
 /// Writes all these bytes, or a front of them.
 fn write_whole<W: Write>(writer: &mut W, bytes: &[u8]) -> Result<(), ReplayError>
     ensures whole { OnOk result (Appends (W.contents writer.old) (W.contents writer.new) bytes.now) }
-    ensures front { IfErr result (λ e. (e ≡ ReplayError.WriteFault) × WritesFrontOf bytes.now (W.contents writer.old) (W.contents writer.new)) }
+    ensures front { IfErr result (λ e. (e ≡ ReplayError.WriteFault)
+        × WritesFrontOf bytes.now (W.contents writer.old) (W.contents writer.new)) }
 {
     let mut rest = bytes;
     for _ in 0..u64::MAX {
@@ -136,7 +147,8 @@ fn finish<S: Playable, W: Write>(
     out: &mut String,
 ) -> Result<(), ReplayError>
     ensures done { OnOk result (Appends (W.contents writer.old) (W.contents writer.new) (S.scene.files stage.now)) }
-    ensures front { IfErr result (λ e. IsNoRefusal e × WritesFrontOf (S.scene.files stage.now) (W.contents writer.old) (W.contents writer.new)) }
+    ensures front { IfErr result (λ e. IsNoRefusal e
+        × WritesFrontOf (S.scene.files stage.now) (W.contents writer.old) (W.contents writer.new)) }
 {
     out.clear();
     stage.print_files(out)?;

@@ -7,7 +7,7 @@ use std::alloc::{AllocError, Global};
 /// What a script is played on. Its meaning is `scene`, a `Scene` of `specs/Scene.antt`.
 pub trait Playable {
     ghost use Rattle.std.specs.Prelude.{◌≡◌, ◌++◌, ◌↔◌, List, ℕ, true, false, OnOk, IsErrOf, string_bytes};
-    ghost use Rattle.alog_replay.specs.Scene.{Scene, GoesOn};
+    ghost use Rattle.alog_replay.specs.Scene.{Scene, GoesOn, Prints};
 
     ghost scene: { Scene Self };
 
@@ -17,13 +17,15 @@ pub trait Playable {
 
     /// Carries out an act, and prints what it prints behind `out`.
     fn act(&mut self, alloc: Global, act: Act<'_>, out: &mut String) -> Result<(), LineError>
-        ensures done { OnOk result ((text : List ℕ) × scene.Does self.old act.entry text self.new × (string_bytes out.new ≡ string_bytes out.old ++ text)) }
+        ensures done { OnOk result (Prints (string_bytes out.old) (string_bytes out.new)
+            (λ text. scene.Does self.old act.entry text self.new)) }
         ensures refused { IsErrOf result LineError.Refused ↔ (scene.may_do self.old act.entry ≡ false) }
         ensures same { IsErrOf result LineError.Refused → string_bytes out.new ≡ string_bytes out.old };
 
     /// An actor makes the next step of its call, and what it prints is printed behind `out`.
     fn step(&mut self, actor: Actor, out: &mut String) -> Result<(), LineError>
-        ensures done { OnOk result ((text : List ℕ) × scene.Steps self.old actor text self.new × (string_bytes out.new ≡ string_bytes out.old ++ text)) }
+        ensures done { OnOk result (Prints (string_bytes out.old) (string_bytes out.new)
+            (λ text. scene.Steps self.old actor text self.new)) }
         ensures refused { IsErrOf result LineError.Refused ↔ (scene.is_free self.old actor ≡ true) }
         ensures same { IsErrOf result LineError.Refused → string_bytes out.new ≡ string_bytes out.old };
 

@@ -1,10 +1,13 @@
 //! A queue under a script: the stepped queue, what its actors owe, and the memory file.
-ghost use Rattle.std.specs.Prelude.{◌≡◌, ◌↔◌, ◌++◌, true, false, nat_lt, ◌&&◌, List, ℕ, Some, IfOk, IfErr, IsErr, OnOk, IsErrOf, string_bytes};
+ghost use Rattle.std.specs.Prelude.{◌≡◌, ◌↔◌, ◌++◌, true, false, nat_lt, ◌&&◌, Some};
+ghost use Rattle.std.specs.Prelude.{IfOk, IfErr, IsErr, OnOk, IsErrOf, string_bytes};
 ghost use Rattle.alog_core.specs.Queue.{last};
 ghost use Rattle.alog_core.specs.World.{is_size, is_idle, round_of, told, stepped};
 ghost use Rattle.alog_core.specs.declared.said.Said.{Said};
 ghost use Rattle.alog_msg.specs.declared.message.Message.{Message};
-ghost use Rattle.alog_replay.specs.Session.{opened, is_free, may_push, pushing, popping, duty_of, with_duty, with_world, said_text, work_after, step_text, after_step, cells_text};
+ghost use Rattle.alog_replay.specs.Session.{opened, is_free, may_push, pushing, popping, duty_of, with_duty, with_world};
+ghost use Rattle.alog_replay.specs.Session.{said_text, work_after, step_text, after_step, cells_text};
+ghost use Rattle.alog_replay.specs.Scene.{Prints};
 ghost use Rattle.alog_replay.specs.Plain.{plain};
 
 use crate::command::{Act, Actor};
@@ -132,7 +135,8 @@ impl Session {
 
     /// Carries out an act where the queue is open.
     pub fn act(&mut self, alloc: Global, act: Act<'_>, out: &mut String) -> Result<(), LineError>
-        ensures done { OnOk result ((text : List ℕ) × plain.Does (Some self.old) act.entry text (Some self.new) × (string_bytes out.new ≡ string_bytes out.old ++ text)) }
+        ensures done { OnOk result (Prints (string_bytes out.old) (string_bytes out.new)
+            (λ text. plain.Does (Some self.old) act.entry text (Some self.new))) }
         ensures refused { IsErrOf result LineError.Refused ↔ (plain.may_do (Some self.old) act.entry ≡ false) }
         ensures same { IsErrOf result LineError.Refused → string_bytes out.new ≡ string_bytes out.old }
     {

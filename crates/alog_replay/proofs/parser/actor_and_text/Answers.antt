@@ -11,4 +11,4 @@ returns-in_err-actor c = none_of _ _ c.from_residual-in_err-actor.ensures (λ gi
     none-some _ ((c.in_err-actor.ensures given.0).1 p.0))
 
 pub returns : goal.returns
-returns c = is_text _ _ _ _ _ _ (ap option_copied c.in_ok-rest.was) c.cut.ensures c.text_or_empty-text.ensures ((c.in_ok-actor.ensures _).0 refl)
+returns c = is_text _ _ _ (ap option_copied c.in_ok-rest.was) c.cut.ensures c.text_or_empty-text.ensures ((c.in_ok-actor.ensures _).0 refl)

@@ -24,5 +24,5 @@ returns-in_err-second-2 c = none_of _ _ c.from_residual-in_err-second-2.ensures 
 
 pub returns : goal.returns
 returns c =
-    is_two_numbers _ _ _ _ _ _ _ (ap option_copied c.in_ok-rest.was) c.cut.ensures (ap option_copied c.in_ok-second.was)
+    is_two_numbers _ _ _ (ap option_copied c.in_ok-rest.was) c.cut.ensures (ap option_copied c.in_ok-second.was)
     ((c.in_ok-first.ensures.spelled _).0 refl) ((c.in_ok-second-2.ensures.spelled _).0 refl)
