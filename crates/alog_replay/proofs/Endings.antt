@@ -54,8 +54,9 @@ module _ {S : Type 0} (scene : Scene S) where
   Front from new script left = (read : List ℕ) × (script ≡ read ++ left) × WritesFront scene from.stage read from.held new
 
   -- this much of the rest was read, and tells this
-  front_at : (from to : Point S) (script rest : List ℕ) (new : Option (List ℕ)) (x left : List ℕ) (t : Told) → Progress scene from to script rest → rest ≡ x ++ left → Tells scene to.stage to.count (lines_of x) t → WritesFrontOf (text_of t) to.held new → Front from new script left
-  front_at from to script rest new x left t p e h w = (
+  front_at : {script rest : List ℕ} {new : Option (List ℕ)} (from to : Point S) (x left : List ℕ) (t : Told) → Progress scene from to script rest → rest ≡ x ++ left
+      → Tells scene to.stage to.count (lines_of x) t → WritesFrontOf (text_of t) to.held new → Front from new script left
+  front_at {script} {rest} {new} from to x left t p e h w = (
     p.read ++ x,
     p.split ∙ (ap (λ xs. p.read ++ xs) e ∙ sym (append_assoc p.read x left)),
     record {
@@ -66,11 +67,14 @@ module _ {S : Type 0} (scene : Scene S) where
   )
 
   -- all of the rest tells this
-  whole_text : (from to : Point S) (new : Option (List ℕ)) (ended : List ℕ → Told) (more script rest : List ℕ) → ((text : List ℕ) → told_behind text (ended more) ≡ ended (text ++ more)) → Tells scene to.stage to.count (lines_of rest) (ended more) → Appends to.held new more → Progress scene from to script rest → WritesText scene from.stage script ended from.held new
-  whole_text from to new ended more script rest same h a p =
+  whole_text : {script rest : List ℕ} (from to : Point S) (new : Option (List ℕ)) (ended : List ℕ → Told) (more : List ℕ)
+      → ((text : List ℕ) → told_behind text (ended more) ≡ ended (text ++ more)) → Tells scene to.stage to.count (lines_of rest) (ended more) → Appends to.held new more
+      → Progress scene from to script rest → WritesText scene from.stage script ended from.held new
+  whole_text {script} {rest} from to new ended more same h a p =
       record {
         text = p.text ++ more;
-        tells = subst (λ (xs : List ℕ). ScriptTells scene from.stage xs (ended (p.text ++ more))) (sym p.split) (subst (ScriptTells scene from.stage (p.read ++ rest)) (same p.text) (p.goes_on rest [] (ended more) (sym (append-nil rest)) h));
+        tells = subst (λ (xs : List ℕ). ScriptTells scene from.stage xs (ended (p.text ++ more))) (sym p.split)
+            (subst (ScriptTells scene from.stage (p.read ++ rest)) (same p.text) (p.goes_on rest [] (ended more) (sym (append-nil rest)) h));
         writes = appends_more from.held to.held new p.text more p.writes a;
       }
 
@@ -83,20 +87,20 @@ module _ {S : Type 0} (scene : Scene S) where
   pub end_whole : (from to : Point S) (after new : Option (List ℕ)) (line : List ℕ) → HasTold scene from to → FindsLine found.End to.rest after line → Appends to.held new (scene.files to.stage) → IfSome from.rest (λ s. WritesText scene from.stage s (λ text. Whole text to.count) from.held new)
   end_whole from to after new line h f a =
       at_line from to after (λ rest left. IsNextLine found.End rest line left) (λ s. WritesText scene from.stage s (λ text. Whole text to.count) from.held new)
-      (λ script rest left p k. whole_text from to new (λ text. Whole text to.count) (scene.files to.stage) script rest (λ text. refl)
+      (λ script rest left p k. whole_text from to new (λ text. Whole text to.count) (scene.files to.stage) (λ text. refl)
       (subst (λ (xs : List ℕ). Tells scene to.stage to.count (lines_of xs) (Whole (scene.files to.stage) to.count)) (sym k.0) (no_lines scene to.stage to.count)) a p) h f
 
   -- the next line is too long
   pub too_long_refused : (from to : Point S) (after : Option (List ℕ)) (line : List ℕ) → HasTold scene from to → FindsLine found.TooLong to.rest after line → IfSome from.rest (λ s. WritesText scene from.stage s (RefusedAt (to.count + 1)) from.held to.held)
   too_long_refused from to after line h f =
       at_line from to after (λ rest left. IsNextLine found.TooLong rest line left) (λ s. WritesText scene from.stage s (RefusedAt (to.count + 1)) from.held to.held)
-      (λ script rest left p k. whole_text from to to.held (RefusedAt (to.count + 1)) [] script rest (λ text. refl) (too_long_told scene to.stage to.count rest k.1) (appends_nothing to.held) p) h f
+      (λ script rest left p k. whole_text from to to.held (RefusedAt (to.count + 1)) [] (λ text. refl) (too_long_told scene to.stage to.count rest k.1) (appends_nothing to.held) p) h f
 
   -- the next line is refused
   pub line_refused : (from to : Point S) (after new : Option (List ℕ)) (line : List ℕ) → HasTold scene from to → FindsLine found.Found to.rest after line → WritesRefused scene to.stage line to.held new → IfSome from.rest (λ s. WritesText scene from.stage s (RefusedAt (to.count + 1)) from.held new)
   line_refused from to after new line h f w =
       at_line from to after (λ rest left. TakesLine rest line left) (λ s. WritesText scene from.stage s (RefusedAt (to.count + 1)) from.held new)
-      (λ script rest left p k. whole_text from to new (RefusedAt (to.count + 1)) w.text script rest (λ text. refl)
+      (λ script rest left p k. whole_text from to new (RefusedAt (to.count + 1)) w.text (λ text. refl)
       (subst (λ (ls : List (List ℕ)). Tells scene to.stage to.count ls (RefusedAt (to.count + 1) w.text)) (sym k.lines) (refused_told scene to.stage to.count line w.text (lines_of left) w.refused)) w.writes p) h f
 
   -- up to a place in the rest
@@ -107,7 +111,7 @@ module _ {S : Type 0} (scene : Scene S) where
   pub finish_front : (from to : Point S) (left new : Option (List ℕ)) (pending line : List ℕ) → HasTold scene from to → FindsLine found.End to.rest (prepend_known pending left) line → WritesFrontOf (scene.files to.stage) to.held new → HasFront from left new
   finish_front from to left new pending line h f w =
       at_place from to left new (λ rest xs. IsNextLine found.End rest line (pending ++ xs))
-      (λ script rest xs p k. front_at from to script rest new [] xs (Whole (scene.files to.stage) to.count) p (k.0 ∙ sym (none_after pending xs k.3)) (no_lines scene to.stage to.count) w)
+      (λ script rest xs p k. front_at from to [] xs (Whole (scene.files to.stage) to.count) p (k.0 ∙ sym (none_after pending xs k.3)) (no_lines scene to.stage to.count) w)
       h (known_pending to.rest left pending (λ rest xs. IsNextLine found.End rest line xs) f)
 
   module _ (goes : GoesOn scene) where
@@ -117,22 +121,27 @@ module _ {S : Type 0} (scene : Scene S) where
         at_place from to left to.held IsRead
         (λ script rest xs p k.
         let t = some_told scene goes (lines_of k.0) to.stage to.count in
-        front_at from to script rest to.held k.0 xs t.0 p k.1 t.1 (nothing_of (text_of t.0) to.held to.held (appends_nothing to.held))) h r
+        front_at from to k.0 xs t.0 p k.1 t.1 (nothing_of (text_of t.0) to.held to.held (appends_nothing to.held))) h r
 
     -- what was read of the rest is a line and these bytes
-    line_read : (from to : Point S) (script rest line pending xs : List ℕ) (new : Option (List ℕ)) → Progress scene from to script rest → TakesLine rest line (pending ++ xs) → (t : Told) → Tells scene to.stage to.count (line ∷ lines_of pending) t → WritesFrontOf (text_of t) to.held new → Front from new script xs
-    line_read from to script rest line pending xs new p k t h w =
+    line_read : {script rest line : List ℕ} {new : Option (List ℕ)} (from to : Point S) (pending xs : List ℕ) → Progress scene from to script rest
+        → TakesLine rest line (pending ++ xs) → (t : Told) → Tells scene to.stage to.count (line ∷ lines_of pending) t → WritesFrontOf (text_of t) to.held new
+        → Front from new script xs
+    line_read {script} {rest} from to pending xs p k t h w =
         let split : rest ≡ (k.taken ++ pending) ++ xs = k.whole ∙ sym (append_assoc k.taken pending xs) in
-        front_at from to script rest new (k.taken ++ pending) xs t p split (subst (λ (ls : List (List ℕ)). Tells scene to.stage to.count ls t) (sym (k.fronts pending xs refl)) h) w
+        front_at from to (k.taken ++ pending) xs t p split
+        (subst (λ (ls : List (List ℕ)). Tells scene to.stage to.count ls t) (sym (k.fronts pending xs refl)) h) w
 
-    printed_read : (from to : Point S) (script rest line pending xs : List ℕ) (new : Option (List ℕ)) → Progress scene from to script rest → TakesLine rest line (pending ++ xs) → WritesLineFront scene to.stage line to.held new → Front from new script xs
-    printed_read from to script rest line pending xs new p k w =
+    printed_read : {script rest line : List ℕ} (from to : Point S) (pending xs : List ℕ) (new : Option (List ℕ)) → Progress scene from to script rest
+        → TakesLine rest line (pending ++ xs) → WritesLineFront scene to.stage line to.held new → Front from new script xs
+    printed_read {script} {rest} {line} from to pending xs new p k w =
         elim w [
-          | inl a ↦ let t = some_told scene goes (line ∷ lines_of pending) to.stage to.count in line_read from to script rest line pending xs new p k t.0 t.1 (nothing_of (text_of t.0) to.held new a)
+          | inl a ↦ let t = some_told scene goes (line ∷ lines_of pending) to.stage to.count in
+              line_read from to pending xs p k t.0 t.1 (nothing_of (text_of t.0) to.held new a)
           | inr d ↦ elim d.1 [
             | inl e ↦ let t = some_told scene goes (lines_of pending) e.0 (to.count + 1) in
-                line_read from to script rest line pending xs new p k (told_behind d.0 t.0) (done_told scene to.stage e.0 to.count line d.0 (lines_of pending) t.0 e.1 t.1) (front_longer d.0 t.0 to.held new d.2)
-            | inr e ↦ line_read from to script rest line pending xs new p k (RefusedAt (to.count + 1) d.0) (refused_told scene to.stage to.count line d.0 (lines_of pending) e) d.2
+                line_read from to pending xs p k (told_behind d.0 t.0) (done_told scene to.stage e.0 to.count line d.0 (lines_of pending) t.0 e.1 t.1) (front_longer d.0 t.0 to.held new d.2)
+            | inr e ↦ line_read from to pending xs p k (RefusedAt (to.count + 1) d.0) (refused_told scene to.stage to.count line d.0 (lines_of pending) e) d.2
           ]
         ]
 
@@ -140,5 +149,5 @@ module _ {S : Type 0} (scene : Scene S) where
     pub line_front : (from to : Point S) (left new : Option (List ℕ)) (pending line : List ℕ) → HasTold scene from to → FindsLine found.Found to.rest (prepend_known pending left) line → WritesLineFront scene to.stage line to.held new → HasFront from left new
     line_front from to left new pending line h f w =
         at_place from to left new (λ rest xs. TakesLine rest line (pending ++ xs))
-        (λ script rest xs p k. printed_read from to script rest line pending xs new p k w)
+        (λ script rest xs p k. printed_read from to pending xs new p k w)
         h (known_pending to.rest left pending (λ rest xs. TakesLine rest line xs) f)

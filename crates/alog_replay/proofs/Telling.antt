@@ -35,9 +35,6 @@ pub text_behind : (x : List ℕ) (t : Told) → text_of (told_behind x t) ≡ x 
 text_behind x (Whole text n) = refl
 text_behind x (RefusedAt n text) = refl
 
-played_told : {S : Type 0} (played : Played S) (n : ℕ) (rest : S → Told → Type 0) (text : List ℕ) (s : S) (u : Told) → played ≡ Done text s → rest s u → TellsPlayed n played rest (told_behind text u)
-played_told played n rest text s u e h = subst (λ p. TellsPlayed n p rest (told_behind text u)) (sym e) (u, h, refl)
-
 pub no_lines_of : lines_of [] ≡ []
 unfolding lines_of
 no_lines_of = refl
@@ -50,7 +47,8 @@ module _ {S : Type 0} (scene : Scene S) where
     pub split : script ≡ read ++ rest
     pub text : List ℕ
     pub writes : Appends from.held to.held text
-    pub goes_on : (x y : List ℕ) (t : Told) → rest ≡ x ++ y → Tells scene to.stage to.count (lines_of x) t → ScriptTells scene from.stage (read ++ x) (told_behind text t)
+    pub goes_on : (x y : List ℕ) (t : Told) → rest ≡ x ++ y → Tells scene to.stage to.count (lines_of x) t
+        → ScriptTells scene from.stage (read ++ x) (told_behind text t)
 
   -- the same, where the reader tells its bytes
   abbrev pub HasTold : Point S → Point S → Type 0
@@ -63,10 +61,12 @@ module _ {S : Type 0} (scene : Scene S) where
     split = refl;
     text = [];
     writes = appends_nothing from.held;
-    goes_on = λ x y t e h. subst (ScriptTells scene from.stage x) (sym (behind_nothing t)) (subst (λ (n : ℕ). Tells scene from.stage n (lines_of x) t) first h);
+    goes_on = λ x y t e h. subst (ScriptTells scene from.stage x) (sym (behind_nothing t))
+        (subst (λ (n : ℕ). Tells scene from.stage n (lines_of x) t) first h);
   })
 
-  entry_told : (s next : S) (n : ℕ) (e : Entry) (text : List ℕ) (rest : S → Told → Type 0) (u : Told) → EntryDone scene s e [] text next → rest next u → TellsLine scene s n e rest (told_behind text u)
+  entry_told : (s next : S) (n : ℕ) (e : Entry) (text : List ℕ) (rest : S → Told → Type 0) (u : Told) → EntryDone scene s e [] text next → rest next u
+      → TellsLine scene s n e rest (told_behind text u)
   entry_told s next n Skipped text rest u d h =
       let same : u ≡ told_behind text u = sym (ap (λ x. told_behind x u) d.1 ∙ behind_nothing u) in
       subst (λ (t : Told). rest s t) same (subst (λ (t : S). rest t u) d.0 h)
@@ -74,14 +74,16 @@ module _ {S : Type 0} (scene : Scene S) where
       subst (λ (x : List ℕ). TellsLine scene s n (Does command) rest (told_behind x u)) (sym d.2) (Done d.0 next, d.1, (u, h, refl))
   entry_told s next n entry.Refused text rest u d h = absurd d
 
-  entry_refused : (s : S) (n : ℕ) (e : Entry) (text : List ℕ) (rest : S → Told → Type 0) → EntryRefused scene s e [] text → TellsLine scene s n e rest (RefusedAt (n + 1) text)
+  entry_refused : (s : S) (n : ℕ) (e : Entry) (text : List ℕ) (rest : S → Told → Type 0) → EntryRefused scene s e [] text
+      → TellsLine scene s n e rest (RefusedAt (n + 1) text)
   entry_refused s n Skipped text rest d = absurd d
   entry_refused s n (Does command) text rest d =
       subst (λ (x : List ℕ). TellsLine scene s n (Does command) rest (RefusedAt (n + 1) x)) (sym d.2) (Refused d.0, d.1, refl)
   entry_refused s n entry.Refused text rest d = ap (RefusedAt (n + 1)) d
 
   -- what a line and the lines after it tell, where the line was carried out
-  pub done_told : (s next : S) (n : ℕ) (line text : List ℕ) (lines : List (List ℕ)) (u : Told) → LineDone scene s line [] text next → Tells scene next (n + 1) lines u → Tells scene s n (line ∷ lines) (told_behind text u)
+  pub done_told : (s next : S) (n : ℕ) (line text : List ℕ) (lines : List (List ℕ)) (u : Told) → LineDone scene s line [] text next → Tells scene next (n + 1) lines u
+      → Tells scene s n (line ∷ lines) (told_behind text u)
   unfolding Tells
   done_told s next n line text lines u d h = (d.0, d.1, entry_told s next n d.0 text (λ t v. Tells scene t (n + 1) lines v) u d.2 h)
 
@@ -106,8 +108,9 @@ module _ {S : Type 0} (scene : Scene S) where
       (entry.Refused, inl (λ readable. absurd (omega (arith, readable.0, b.3))), refl)
 
   -- A line was read and carried out.
-  progress_line : (from mid to : Point S) (line script rest after : List ℕ) → to.count ≡ mid.count + 1 → WritesLine scene mid.stage line to.stage mid.held to.held → Progress from mid script rest → TakesLine rest line after → Progress from to script after
-  progress_line from mid to line script rest after one w p k =
+  progress_line : {line script rest after : List ℕ} (from mid to : Point S) → to.count ≡ mid.count + 1 → WritesLine scene mid.stage line to.stage mid.held to.held
+      → Progress from mid script rest → TakesLine rest line after → Progress from to script after
+  progress_line {line} {script} {rest} {after} from mid to one w p k =
       record {
         read = p.read ++ k.taken;
         split = p.split ∙ (ap (λ xs. p.read ++ xs) k.whole ∙ sym (append_assoc p.read k.taken after));
@@ -115,14 +118,17 @@ module _ {S : Type 0} (scene : Scene S) where
         writes = appends_more from.held mid.held to.held p.text w.text p.writes w.writes;
         goes_on = λ x y t e h.
             let taken : rest ≡ (k.taken ++ x) ++ y = k.whole ∙ (ap (λ xs. k.taken ++ xs) e ∙ sym (append_assoc k.taken x y)) in
-            let next = done_told mid.stage to.stage mid.count line w.text (lines_of x) t w.done (subst (λ (n : ℕ). Tells scene to.stage n (lines_of x) t) one h) in
-            let line_told : Tells scene mid.stage mid.count (lines_of (k.taken ++ x)) (told_behind w.text t) = subst (λ (ls : List (List ℕ)). Tells scene mid.stage mid.count ls (told_behind w.text t)) (sym (k.fronts x y e)) next in
+            let then = subst (λ (n : ℕ). Tells scene to.stage n (lines_of x) t) one h in
+            let next = done_told mid.stage to.stage mid.count line w.text (lines_of x) t w.done then in
+            let line_told : Tells scene mid.stage mid.count (lines_of (k.taken ++ x)) (told_behind w.text t) =
+            subst (λ (ls : List (List ℕ)). Tells scene mid.stage mid.count ls (told_behind w.text t)) (sym (k.fronts x y e)) next in
             let told = p.goes_on (k.taken ++ x) y (told_behind w.text t) taken line_told in
             subst (ScriptTells scene from.stage ((p.read ++ k.taken) ++ x)) (behind_twice p.text w.text t)
             (subst (λ (xs : List ℕ). ScriptTells scene from.stage xs (told_behind p.text (told_behind w.text t))) (sym (append_assoc p.read k.taken x)) told);
       }
 
-  pub told_line : (from mid to : Point S) (line : List ℕ) → to.count ≡ mid.count + 1 → WritesLine scene mid.stage line to.stage mid.held to.held → HasTold from mid → FindsLine found.Found mid.rest to.rest line → HasTold from to
+  pub told_line : (from mid to : Point S) (line : List ℕ) → to.count ≡ mid.count + 1 → WritesLine scene mid.stage line to.stage mid.held to.held → HasTold from mid
+      → FindsLine found.Found mid.rest to.rest line → HasTold from to
   told_line from mid to line one w h f =
-      known_then from.rest mid.rest to.rest (λ script rest. Progress from mid script rest) (λ rest after. TakesLine rest line after) (λ script after. Progress from to script after)
-      (λ script rest after p k. progress_line from mid to line script rest after one w p k) h f
+      known_then from.rest mid.rest to.rest (Progress from mid) (λ rest after. TakesLine rest line after) (Progress from to)
+      (λ script rest after p k. progress_line from mid to one w p k) h f
