@@ -17,12 +17,15 @@ pub record HasWorked (s taken moved after : Stage) (a : ℕ) (what : Said Messag
   pub owes : duty ≡ work_after what
   pub in_place : after ≡ with_duty moved a duty
 
-pub works_stepped : {s taken moved after : Stage} {a : ℕ} {what : Said Message} {duty : Duty} → HasWorked s taken moved after a what duty → after ≡ after_step s a
+pub works_stepped : {s taken moved after : Stage} {a : ℕ} {what : Said Message} {duty : Duty} → HasWorked s taken moved after a what duty
+    → after ≡ after_step s a
 works_stepped {s} {taken} {moved} {after} {a} {what} {duty} h =
     let owed : Stage → Duty = λ t. work_after (told t.world a) in
     let went : Stage → Stage = λ t. with_world t (stepped t.world a) in
     let once : with_duty (went (with_duty s a Free)) a (owed s) ≡ stage_by s a Works =
     ap (λ ds. let r : Stage = record { world = stepped s.world a; duties = ds; file = s.file } in r) (set-set s.duties a Free (owed s)) in
-    let made : with_duty (went taken) a (owed taken) ≡ stage_by s a Works = subst (λ (t : Stage). with_duty (went t) a (owed t) ≡ stage_by s a Works) (sym h.out) once in
+    let made : with_duty (went taken) a (owed taken) ≡ stage_by s a Works = subst
+    (λ (t : Stage). with_duty (went t) a (owed t) ≡ stage_by s a Works) (sym h.out) once in
     let due : duty ≡ owed taken = h.owes ∙ ap work_after h.said in
-    h.in_place ∙ (ap (λ t. with_duty t a duty) h.moved_on ∙ (ap (λ d. with_duty (went taken) a d) due ∙ (made ∙ ap (stage_by s a) h.worked)))
+    h.in_place ∙ (ap (λ t. with_duty t a duty) h.moved_on
+    ∙ (ap (λ d. with_duty (went taken) a d) due ∙ (made ∙ ap (stage_by s a) h.worked)))

@@ -1,11 +1,11 @@
 -- A line is one thing, and one alone.
-use Rattle.std.proofs.Common.{◌≡◌, ◌≤◌, ◌↔◌, ◌⊎◌, ℕ, List, [], ◌∷◌, ◌++◌, length, cond, Bool, true, false, refl, sym, ◌∙◌, ap, subst, arith, Option, None, Some, inl, inr, codes}
+use Rattle.std.proofs.Common.{◌≡◌, ◌↔◌, ◌⊎◌, ℕ, List, [], ◌∷◌, ◌++◌, length, cond, Bool, true, false, refl, sym, ◌∙◌, ap}
+use Rattle.std.proofs.Common.{subst, Option, None, Some, inl, inr}
 use mathlib.Core.Logic.{dite}
 use native.Mathlib.Decide.{ℕ_discrete, dec_le}
 use Rattle.std.specs.Prelude.{IsUtf8}
 use Rattle.std.specs.Str.{is_utf8, bytes_eq}
 use Rattle.std.proofs.lemmas.Bool.{false≢true}
-use Rattle.std.proofs.lemmas.Option.{none-some, same_Some}
 use Rattle.std.proofs.lemmas.Slice.Eq.{bytes_eq-Decides}
 use Rattle.std.proofs.lemmas.Str.{IsUtf8-from_is_utf8, is_utf8-from_IsUtf8}
 use Rattle.alog_replay.specs.declared.limits.TheConstants.{LINE_MAX}
@@ -23,7 +23,8 @@ one_of_row None rest c d h g = absurd h
 one_of_row (Some row) rest c d h g = sym h.2 ∙ (ap row.command (given_once row.form rest h.0 g.0 h.1 g.1) ∙ g.2)
 
 -- what a line spells, by the row of its first word
-pub row_of_line : (line name : List ℕ) (rest : Option (List ℕ)) (command : Command) → IsCut line name rest → Spells line command → SpellsRow (row_named rows name) rest command
+pub row_of_line : (line name : List ℕ) (rest : Option (List ℕ)) (command : Command) → IsCut line name rest → Spells line command
+    → SpellsRow (row_named rows name) rest command
 row_of_line line name rest command cut s =
     let once = cut_once s.0 name s.1 rest s.2.1 cut.1 (sym s.2.0 ∙ cut.0) in
     subst (λ r. SpellsRow (row_named rows name) r command) once.1 (subst (λ w. SpellsRow (row_named rows w) s.1 command) once.0 s.3)
@@ -32,7 +33,8 @@ pub one_command_lem : OneCommand
 one_command_lem line c d s t = one_of_row (row_named rows s.0) s.1 c d s.3 (row_of_line line s.0 s.1 d s.2 t)
 
 -- a line whose first word is a row's name spells that row's command, or none
-pub by_row : {name text : List ℕ} {row : Row} (line : List ℕ) (rest : Option (List ℕ)) (g : Given row.form) → IsCut line name rest → name ≡ text
+pub by_row : {name text : List ℕ} {row : Row} (line : List ℕ) (rest : Option (List ℕ)) (g : Given row.form) → IsCut line name rest
+    → name ≡ text
     → row_named rows text ≡ Some row → SpellsForm row.form rest g
     → (command : Command) → (Some (row.command g) ≡ Some command) ↔ Spells line command
 by_row {name} {text} {row} line rest g cut e found h =
@@ -40,18 +42,22 @@ by_row {name} {text} {row} line rest g cut e found h =
     let spelled : Spells line (row.command g) = (name, rest, cut, subst (λ r. SpellsRow r rest (row.command g)) (sym is) (g, h, refl)) in
     one_of (Spells line) (row.command g) spelled (λ d s. one_command_lem line (row.command g) d spelled s)
 
-pub by_no_row : {r : Option Command} (line name : List ℕ) (rest : Option (List ℕ)) → IsCut line name rest → r ≡ None → ((command : Command) → SpellsRow (row_named rows name) rest command → ⊥)
+pub by_no_row : {r : Option Command} (line name : List ℕ) (rest : Option (List ℕ)) → IsCut line name rest → r ≡ None
+    → ((command : Command) → SpellsRow (row_named rows name) rest command → ⊥)
     → (command : Command) → (r ≡ Some command) ↔ Spells line command
 by_no_row {r} line name rest cut e other = none_of (Spells line) r e (λ command s. other command (row_of_line line name rest command cut s))
 
-pub by_none_given : {name text : List ℕ} {row : Row} {r : Option Command} (line : List ℕ) (rest : Option (List ℕ)) → IsCut line name rest → name ≡ text
+pub by_none_given : {name text : List ℕ} {row : Row} {r : Option Command} (line : List ℕ) (rest : Option (List ℕ)) → IsCut line name rest
+    → name ≡ text
     → row_named rows text ≡ Some row → r ≡ None → ((g : Given row.form) → SpellsForm row.form rest g → ⊥)
     → (command : Command) → (r ≡ Some command) ↔ Spells line command
 by_none_given {name} {text} {row} line rest cut e found none other =
     by_no_row line name rest cut none
-    (λ command s. let h : SpellsRow (Some row) rest command = subst (λ x. SpellsRow x rest command) (ap (row_named rows) e ∙ found) s in other h.0 h.1)
+    (λ command s. let h : SpellsRow (Some row) rest command = subst (λ x. SpellsRow x rest command) (ap (row_named rows) e
+    ∙ found) s in other h.0 h.1)
 
-unnamed : (name : List ℕ) (rest : Option (List ℕ)) (command : Command) → row_named rows name ≡ None → SpellsRow (row_named rows name) rest command → ⊥
+unnamed : (name : List ℕ) (rest : Option (List ℕ)) (command : Command) → row_named rows name ≡ None
+    → SpellsRow (row_named rows name) rest command → ⊥
 unnamed name rest command e s = subst (λ r. SpellsRow r rest command) e s
 
 false_unless : (b : Bool) → (b ≡ true → ⊥) → b ≡ false
@@ -67,9 +73,11 @@ none_named : (table : List Row) (name : List ℕ) → IsNoName table name → ro
 unfolding row_named
 none_named [] name h = refl
 none_named (row ∷ more) name h =
-    ap (λ b. cond b (Some row) (row_named more name)) (false_unless (bytes_eq row.name name) (λ e. h.0 (sym ((bytes_eq-Decides row.name name).0 e)))) ∙ none_named more name h.1
+    ap (λ b. cond b (Some row) (row_named more name))
+    (false_unless (bytes_eq row.name name) (λ e. h.0 (sym ((bytes_eq-Decides row.name name).0 e)))) ∙ none_named more name h.1
 
-pub no_row : (name : List ℕ) (rest : Option (List ℕ)) → IsNoName rows name → (command : Command) → SpellsRow (row_named rows name) rest command → ⊥
+pub no_row : (name : List ℕ) (rest : Option (List ℕ)) → IsNoName rows name → (command : Command)
+    → SpellsRow (row_named rows name) rest command → ⊥
 no_row name rest h command s = unnamed name rest command (none_named rows name h) s
 
 -- no row's name is empty, or begins with '#'
@@ -81,7 +89,8 @@ no_row-hash : (w : List ℕ) → row_named rows (35 ∷ w) ≡ None
 unfolding row_named
 no_row-hash w = refl
 
-skipped_word : (name : List ℕ) (rest : Option (List ℕ)) (command : Command) → IsSkipped (name ++ tail_of rest) → SpellsRow (row_named rows name) rest command → ⊥
+skipped_word : (name : List ℕ) (rest : Option (List ℕ)) (command : Command) → IsSkipped (name ++ tail_of rest)
+    → SpellsRow (row_named rows name) rest command → ⊥
 skipped_word [] rest command h s = unnamed [] rest command no_row-nil s
 skipped_word (b ∷ w) rest command h s = unnamed (b ∷ w) rest command (ap (λ x. row_named rows (x ∷ w)) h ∙ no_row-hash w) s
 
@@ -90,13 +99,15 @@ skips_none : (line : List ℕ) (command : Command) → Spells line command → I
 skips_none line command s skipped = skipped_word s.0 s.1 command (subst IsSkipped s.2.0 skipped) s.3
 
 -- a line that spells a command, and one that spells none
-pub is_command : (line : List ℕ) (found : Command) → IsReadable line → Spells line found → (entry : Entry) → (Does found ≡ entry) ↔ IsEntry line entry
+pub is_command : (line : List ℕ) (found : Command) → IsReadable line → Spells line found → (entry : Entry)
+    → (Does found ≡ entry) ↔ IsEntry line entry
 is_command line found r s Skipped = (λ e. absurd cc, λ g. absurd (skips_none line found s g.1))
 is_command line found r s (Does command) =
     (λ e. let same : found ≡ command = cc in (r, subst (Spells line) same s), λ g. ap Does (one_command_lem line found command s g.1))
 is_command line found r s Refused = (λ e. absurd cc, λ g. absurd (elim g [ inl n ↦ n r | inr n ↦ n.1 found s ]))
 
-pub is_no_command : (line : List ℕ) → (IsSkipped line → ⊥) → ((command : Command) → Spells line command → ⊥) → (entry : Entry) → (Refused ≡ entry) ↔ IsEntry line entry
+pub is_no_command : (line : List ℕ) → (IsSkipped line → ⊥) → ((command : Command) → Spells line command → ⊥) → (entry : Entry)
+    → (Refused ≡ entry) ↔ IsEntry line entry
 is_no_command line h n Skipped = (λ e. absurd cc, λ g. absurd (h g.1))
 is_no_command line h n (Does command) = (λ e. absurd cc, λ g. absurd (n command g.1))
 is_no_command line h n Refused = (λ e. inr (h, n), λ g. refl)

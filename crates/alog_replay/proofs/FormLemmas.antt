@@ -1,15 +1,17 @@
 -- Arguments of a form: they are spelled in one way, and whether a text spells any can be told.
-use Rattle.std.proofs.Common.{◌≡◌, ◌≤◌, ◌<◌, ◌↔◌, ◌⊎◌, ℕ, List, [], ◌∷◌, ◌++◌, ◌-◌, ◌^◌, length, refl, sym, ◌∙◌, ap, subst, arith, inl, inr, Option, None, Some, unwrap_or}
+use Rattle.std.proofs.Common.{◌≡◌, ◌↔◌, ◌⊎◌, ℕ, List, [], ◌∷◌, ◌++◌, ◌-◌, ◌^◌, length, refl, sym, ◌∙◌, ap, subst, arith}
+use Rattle.std.proofs.Common.{inl, inr, Option, None, Some, unwrap_or}
 use mathlib.Core.Logic.{dite}
 use native.Mathlib.Decide.{dec_le, dec_lt}
 use Rattle.std.proofs.lemmas.Option.{none-some, same_Some}
-use Rattle.std.specs.Str.Parse.{AllDigits, IsNumeral, digits_value}
+use Rattle.std.specs.Str.Parse.{AllDigits, digits_value}
 use Rattle.std.specs.Char.{digit_value}
 use Rattle.alog_core.specs.declared.TheConstants.{ACTORS}
 use Rattle.alog_replay.specs.declared.limits.TheConstants.{STEPS_MAX}
 use Rattle.alog_replay.specs.Cut.{tail_of, IsCut}
-use Rattle.alog_replay.specs.Command.{SpellsNumber, SpellsActor, SpellsWord64, SpellsCount, Form, Given, SpellsForm, TwoNumbers, ActorAlone, ActorAndText, ActorAndCount, NoArgument}
-use Rattle.alog_replay.proofs.CutLemmas.{argument_is, cut_of, cut_once, digits_are_word, one_of}
+use Rattle.alog_replay.specs.Command.{SpellsNumber, SpellsActor, SpellsWord64, SpellsCount, Form, Given, SpellsForm, TwoNumbers}
+use Rattle.alog_replay.specs.Command.{ActorAlone, ActorAndText, ActorAndCount, NoArgument}
+use Rattle.alog_replay.proofs.CutLemmas.{argument_is, cut_of, digits_are_word, one_of}
 
 -- a fact of some value, or of none
 abbrev pub Decided : {X : Type 0} → (X → Type 0) → Type 0
@@ -24,19 +26,22 @@ same_count None n m h g = h ∙ sym g
 same_count (Some digits) n m h g = sym h.1 ∙ g.1
 
 -- what two words say of the arguments that begin with the first
-pub two_parts : (rest : Option (List ℕ)) (r a : List ℕ) (t : Option (List ℕ)) (g : ℕ × ℕ) → rest ≡ Some r → IsCut r a t → SpellsForm TwoNumbers rest g
+pub two_parts : (rest : Option (List ℕ)) (r a : List ℕ) (t : Option (List ℕ)) (g : ℕ × ℕ) → rest ≡ Some r → IsCut r a t
+    → SpellsForm TwoNumbers rest g
     → (b : List ℕ) × (t ≡ Some b) × SpellsWord64 a g.0 × SpellsWord64 b g.1
 two_parts rest r a t g e cut h =
     let once = argument_is r a h.0 t (Some h.1) cut (sym e ∙ h.2) h.3.0 in
     (h.1, sym once.1, subst (λ w. SpellsWord64 w g.0) once.0 h.3, h.4)
 
-pub text_parts : (rest : Option (List ℕ)) (r a : List ℕ) (t : Option (List ℕ)) (g : ℕ × List ℕ) → rest ≡ Some r → IsCut r a t → SpellsForm ActorAndText rest g
+pub text_parts : (rest : Option (List ℕ)) (r a : List ℕ) (t : Option (List ℕ)) (g : ℕ × List ℕ) → rest ≡ Some r → IsCut r a t
+    → SpellsForm ActorAndText rest g
     → SpellsActor a g.0 × (g.1 ≡ unwrap_or t [])
 text_parts rest r a t g e cut h =
     let once = argument_is r a h.0 t h.1 cut (sym e ∙ h.2) h.3.0 in
     (subst (λ w. SpellsActor w g.0) once.0 h.3, h.4 ∙ ap (λ x. unwrap_or x []) once.1)
 
-pub count_parts : (rest : Option (List ℕ)) (r a : List ℕ) (t : Option (List ℕ)) (g : ℕ × ℕ) → rest ≡ Some r → IsCut r a t → SpellsForm ActorAndCount rest g
+pub count_parts : (rest : Option (List ℕ)) (r a : List ℕ) (t : Option (List ℕ)) (g : ℕ × ℕ) → rest ≡ Some r → IsCut r a t
+    → SpellsForm ActorAndCount rest g
     → SpellsActor a g.0 × SpellsCount t g.1
 count_parts rest r a t g e cut h =
     let once = argument_is r a h.0 t h.1 cut (sym e ∙ h.2) h.3.0 in
@@ -65,18 +70,29 @@ given_once ActorAndCount rest g h p q =
 given_once NoArgument rest g h p q = refl
 
 -- what is given for a form is what is spelled
-pub is_given : (form : Form) (rest : Option (List ℕ)) (g : Given form) → SpellsForm form rest g → (h : Given form) → (Some g ≡ Some h) ↔ SpellsForm form rest h
+pub is_given : (form : Form) (rest : Option (List ℕ)) (g : Given form) → SpellsForm form rest g → (h : Given form)
+    → (Some g ≡ Some h) ↔ SpellsForm form rest h
 is_given form rest g p = one_of (SpellsForm form rest) g p (λ h q. given_once form rest g h p q)
 
-pub is_two_numbers : {rest t : Option (List ℕ)} {r b : List ℕ} (a : List ℕ) (n m : ℕ) → rest ≡ Some r → IsCut r a t → t ≡ Some b → SpellsWord64 a n → SpellsWord64 b m
+pub is_two_numbers : {rest t : Option (List ℕ)} {r b : List ℕ} (a : List ℕ) (n m : ℕ) → rest ≡ Some r → IsCut r a t → t ≡ Some b
+    → SpellsWord64 a n → SpellsWord64 b m
     → (h : ℕ × ℕ) → (Some (n, m) ≡ Some h) ↔ SpellsForm TwoNumbers rest h
-is_two_numbers {rest} {t} {r} {b} a n m e cut u p q = is_given TwoNumbers rest (n, m) (a, b, e ∙ ap Some (cut.0 ∙ ap (λ x. a ++ tail_of x) u), p, q)
+is_two_numbers {rest} {t} {r} {b} a n m e cut u p q = is_given TwoNumbers rest (n, m) (
+  a,
+  b,
+  e
+      ∙ ap Some (cut.0 ∙ ap (λ x. a ++ tail_of x) u),
+  p,
+  q,
+)
 
-pub is_text : {rest : Option (List ℕ)} {r text : List ℕ} (a : List ℕ) (t : Option (List ℕ)) (n : ℕ) → rest ≡ Some r → IsCut r a t → text ≡ unwrap_or t [] → SpellsActor a n
+pub is_text : {rest : Option (List ℕ)} {r text : List ℕ} (a : List ℕ) (t : Option (List ℕ)) (n : ℕ) → rest ≡ Some r → IsCut r a t
+    → text ≡ unwrap_or t [] → SpellsActor a n
     → (h : ℕ × List ℕ) → (Some (n, text) ≡ Some h) ↔ SpellsForm ActorAndText rest h
 is_text {rest} {r} {text} a t n e cut u p = is_given ActorAndText rest (n, text) (a, t, e ∙ ap Some cut.0, p, u)
 
-pub is_count : {rest : Option (List ℕ)} {r : List ℕ} (a : List ℕ) (t : Option (List ℕ)) (n m : ℕ) → rest ≡ Some r → IsCut r a t → SpellsActor a n → SpellsCount t m
+pub is_count : {rest : Option (List ℕ)} {r : List ℕ} (a : List ℕ) (t : Option (List ℕ)) (n m : ℕ) → rest ≡ Some r → IsCut r a t
+    → SpellsActor a n → SpellsCount t m
     → (h : ℕ × ℕ) → (Some (n, m) ≡ Some h) ↔ SpellsForm ActorAndCount rest h
 is_count {rest} {r} a t n m e cut p q = is_given ActorAndCount rest (n, m) (a, t, e ∙ ap Some cut.0, p, q)
 
@@ -112,7 +128,8 @@ two_or_none r a None cut = inr (λ g h. none-some _ (two_parts (Some r) r a None
 two_or_none r a (Some b) cut = elim (number_or_none 0 (2 ^ 64 - 1) a) [
   | inl n ↦ elim (number_or_none 0 (2 ^ 64 - 1) b) [
     | inl m ↦ inl ((n.0, m.0), (a, b, ap Some cut.0, n.1, m.1))
-    | inr other ↦ inr (λ g h. let p = two_parts (Some r) r a (Some b) g refl cut h in other g.1 (subst (λ w. SpellsWord64 w g.1) (sym (same_Some _ _ p.1)) p.3))
+    | inr other ↦ inr (λ g h. let p =
+        two_parts (Some r) r a (Some b) g refl cut h in other g.1 (subst (λ w. SpellsWord64 w g.1) (sym (same_Some _ _ p.1)) p.3))
   ]
   | inr other ↦ inr (λ g h. other g.0 (two_parts (Some r) r a (Some b) g refl cut h).2)
 ]

@@ -1,11 +1,11 @@
 -- Facts of bytes that a reader has left, one after the other.
-use Rattle.std.proofs.Common.{◌≡◌, List, [], ◌++◌, ℕ, Option, None, Some, refl, sym, ap, ◌∙◌, append_assoc}
+use Rattle.std.proofs.Common.{◌≡◌, List, [], ◌++◌, ℕ, Option, None, Some, refl, sym, ◌∙◌, append_assoc}
 use Rattle.std.specs.Prelude.{IfSome}
-use Rattle.std.proofs.lemmas.List.{append-nil}
 use Rattle.std.specs.Io.KnownBytes.{Consumes, prepend_known}
 use Rattle.alog_replay.specs.Known.{WhereKnown}
 
-pub known_then : (a b c : Option (List ℕ)) (P Q R : List ℕ → List ℕ → Type 0) → ((x y z : List ℕ) → P x y → Q y z → R x z) → WhereKnown a b P → WhereKnown b c Q → WhereKnown a c R
+pub known_then : (a b c : Option (List ℕ)) (P Q R : List ℕ → List ℕ → Type 0) → ((x y z : List ℕ) → P x y → Q y z → R x z)
+    → WhereKnown a b P → WhereKnown b c Q → WhereKnown a c R
 known_then None b c P Q R both p q = tt
 known_then (Some x) None c P Q R both p q = absurd p
 known_then (Some x) (Some y) None P Q R both p q = absurd q
@@ -21,7 +21,8 @@ known_same None P h = tt
 known_same (Some x) P h = h x
 
 -- what was read and is in no line yet goes before what is left
-pub known_pending : (a left : Option (List ℕ)) (pending : List ℕ) (P : List ℕ → List ℕ → Type 0) → WhereKnown a (prepend_known pending left) P → WhereKnown a left (λ x y. P x (pending ++ y))
+pub known_pending : (a left : Option (List ℕ)) (pending : List ℕ) (P : List ℕ → List ℕ → Type 0)
+    → WhereKnown a (prepend_known pending left) P → WhereKnown a left (λ x y. P x (pending ++ y))
 known_pending None left pending P h = tt
 known_pending (Some x) None pending P h = absurd h
 known_pending (Some x) (Some y) pending P h = h
@@ -35,7 +36,8 @@ consumed None b line h = tt
 consumed (Some x) None line h = absurd h
 consumed (Some x) (Some y) line h = (line, h)
 
-pub known_read : (a b : Option (List ℕ)) (P : List ℕ → List ℕ → Type 0) → ((x y : List ℕ) → P x y → IsRead x y) → WhereKnown a b P → WhereKnown a b IsRead
+pub known_read : (a b : Option (List ℕ)) (P : List ℕ → List ℕ → Type 0) → ((x y : List ℕ) → P x y → IsRead x y) → WhereKnown a b P
+    → WhereKnown a b IsRead
 known_read None b P q h = tt
 known_read (Some x) None P q h = absurd h
 known_read (Some x) (Some y) P q h = q x y h
@@ -43,7 +45,8 @@ known_read (Some x) (Some y) P q h = q x y h
 pub read_same : (a : Option (List ℕ)) → WhereKnown a a IsRead
 read_same a = known_same a IsRead (λ x. ([], refl))
 
-pub read_pending : (a left : Option (List ℕ)) (pending : List ℕ) → WhereKnown a (prepend_known pending left) IsRead → WhereKnown a left IsRead
+pub read_pending : (a left : Option (List ℕ)) (pending : List ℕ) → WhereKnown a (prepend_known pending left) IsRead
+    → WhereKnown a left IsRead
 read_pending None left pending h = tt
 read_pending (Some x) None pending h = absurd h
 read_pending (Some x) (Some y) pending h = (h.0 ++ pending, h.1 ∙ sym (append_assoc h.0 pending y))

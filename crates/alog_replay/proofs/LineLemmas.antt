@@ -1,5 +1,6 @@
 -- The first line of a script, by the bytes that it takes.
-use Rattle.std.proofs.Common.{◌≡◌, ◌≢◌, ◌≤◌, ◌<◌, ℕ, List, [], ◌∷◌, ◌++◌, length, Bool, true, false, cond, eqb, refl, sym, ◌∙◌, ap, arith, append_assoc, length-append}
+use Rattle.std.proofs.Common.{◌≡◌, ◌≢◌, ◌≤◌, ◌<◌, ℕ, List, [], ◌∷◌, ◌++◌, length, Bool, true, false, cond, eqb, refl, sym, ◌∙◌}
+use Rattle.std.proofs.Common.{ap, arith, append_assoc, length-append}
 use Rattle.std.proofs.lemmas.Bool.{eqb-true}
 use Rattle.std.proofs.lemmas.List.{append-nil}
 use Rattle.alog_replay.specs.Lines.{lines_of, begin_line, IsUnbroken, TakesLine, BeginsTooLong}
@@ -45,7 +46,8 @@ begins_first (b ∷ c ∷ w) x h more =
     (p.0, p.1, lines_of-cons b ((c ∷ w) ++ x) h.0 ∙ ap (begin_line b) p.2)
 
 -- a line that its newline ends is taken
-pub takes_ended : (script line after : List ℕ) → IsUnbroken line → script ≡ line ++ 10 ∷ after → length line ≤ 16384 → TakesLine script line after
+pub takes_ended : (script line after : List ℕ) → IsUnbroken line → script ≡ line ++ 10 ∷ after → length line ≤ 16384
+    → TakesLine script line after
 takes_ended script line after h e fits = record {
   taken = line ++ 10 ∷ [];
   whole = e ∙ sym (append_assoc line (10 ∷ []) after);

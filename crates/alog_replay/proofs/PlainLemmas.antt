@@ -13,6 +13,7 @@ plain_is_certain = record {
 }
 
 -- an act that prints nothing
-pub silently : {T E : Type 0} (r : Result T E) (text : List ℕ) (s t : Stage) → OnOk r (s ≡ t) → OnOk r ((x : List ℕ) × ((x ≡ []) × (Some s ≡ Some t)) × (text ≡ text ++ x))
+pub silently : {T E : Type 0} (r : Result T E) (text : List ℕ) (s t : Stage) → OnOk r (s ≡ t)
+    → OnOk r ((x : List ℕ) × ((x ≡ []) × (Some s ≡ Some t)) × (text ≡ text ++ x))
 silently (Ok y) text s t h = ([], (refl, ap Some h), sym (append-nil text))
 silently (Err e) text s t h = tt

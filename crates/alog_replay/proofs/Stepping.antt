@@ -1,8 +1,10 @@
 -- Several steps of an actor, one after another.
-use Rattle.std.proofs.Common.{◌≡◌, ℕ, suc, zero, ◌+◌, ◌-◌, ◌<◌, ◌≤◌, Bool, true, false, List, [], ◌++◌, append_assoc, refl, sym, ap, subst, ◌∙◌, arith}
+use Rattle.std.proofs.Common.{◌≡◌, ℕ, suc, zero, ◌+◌, ◌-◌, ◌<◌, ◌≤◌, Bool, true, false, List, [], ◌++◌, append_assoc, refl, sym}
+use Rattle.std.proofs.Common.{ap, subst, ◌∙◌, arith}
 use Rattle.std.proofs.lemmas.List.{append-nil}
 use Rattle.alog_replay.specs.declared.limits.TheConstants.{STEPS_MAX}
-use Rattle.alog_replay.specs.Scene.{Scene, Played, Done, Refused, behind, WhereTrue, StepThen, Makes, Runs, Prints, IsDone, IsRefused, done}
+use Rattle.alog_replay.specs.Scene.{Scene, Played, Done, Refused, behind, WhereTrue, StepThen, Makes, Runs, Prints, IsDone}
+use Rattle.alog_replay.specs.Scene.{IsRefused, done}
 
 pub behind-behind : {S : Type 0} (x y : List ℕ) (p : Played S) → behind x (behind y p) ≡ behind (x ++ y) p
 behind-behind x y (Done z s) = ap (λ t. Done t s) (sym (append_assoc x y z))
@@ -66,16 +68,19 @@ made_more {S} {Whole} {Rest} {before} Next more m step p =
       goes_on = λ q h. subst Whole (behind-behind m.text more q) (m.goes_on (behind more q) (step q h));
     }
 
-pub made_all : {S : Type 0} {Whole Rest : Played S → Type 0} {before now : List ℕ} (s : S) → HasMade Whole Rest before now → Rest (Done [] s) → IsDone Whole before now s
+pub made_all : {S : Type 0} {Whole Rest : Played S → Type 0} {before now : List ℕ} (s : S) → HasMade Whole Rest before now
+    → Rest (Done [] s) → IsDone Whole before now s
 made_all {S} {Whole} s m h = (m.text, subst (λ t. Whole (Done t s)) (append-nil m.text) (m.goes_on (Done [] s) h), m.printed)
 
-pub made_till_refused : {S : Type 0} {Whole Rest : Played S → Type 0} {before now then : List ℕ} → HasMade Whole Rest before now → Rest (Refused []) → then ≡ now
+pub made_till_refused : {S : Type 0} {Whole Rest : Played S → Type 0} {before now then : List ℕ} → HasMade Whole Rest before now
+    → Rest (Refused []) → then ≡ now
     → IsRefused Whole before then
 made_till_refused {S} {Whole} m h p = (m.text, subst (λ t. Whole (Refused t)) (append-nil m.text) (m.goes_on (Refused []) h), p ∙ m.printed)
 
 module _ {S : Type 0} (scene : Scene S) (ended : S → Played S) where
   -- one turn of a loop makes one of the steps that are left
-  pub next_made : {Whole : Played S → Type 0} {before now : List ℕ} (then : List ℕ) (n i actor : ℕ) (s next : S) → i < n → scene.is_free s actor ≡ false
+  pub next_made : {Whole : Played S → Type 0} {before now : List ℕ} (then : List ℕ) (n i actor : ℕ) (s next : S) → i < n
+      → scene.is_free s actor ≡ false
       → Prints now then (λ text. scene.Steps s actor text next) → HasMade Whole (Makes scene ended (n - i) actor s) before now
       → HasMade Whole (Makes scene ended (n - (i + 1)) actor next) before then
   next_made then n i actor s next some called step m =
@@ -85,7 +90,8 @@ module _ {S : Type 0} (scene : Scene S) (ended : S → Played S) where
       (step.0, next, q, step.1, subst (λ j. Makes scene ended j actor next q) less h, refl)) step.2
 
   -- the loop has made all
-  pub all_made : {Whole : Played S → Type 0} {before now : List ℕ} (n i actor : ℕ) (s : S) → n ≤ i → HasMade Whole (Makes scene ended (n - i) actor s) before now → IsDone Whole before now s
+  pub all_made : {Whole : Played S → Type 0} {before now : List ℕ} (n i actor : ℕ) (s : S) → n ≤ i
+      → HasMade Whole (Makes scene ended (n - i) actor s) before now → IsDone Whole before now s
   all_made n i actor s none m = made_all s m (none_to_make scene ended (n - i) actor s (omega (arith, none)))
 
 -- an actor in a call ran

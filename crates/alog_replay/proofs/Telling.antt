@@ -1,11 +1,12 @@
 -- How far a replay has come.
-use Rattle.std.proofs.Common.{◌≡◌, ℕ, ◌+◌, Option, Some, None, List, [], ◌∷◌, ◌++◌, inl, refl, sym, ap, subst, ◌∙◌, append_assoc, arith}
+use Rattle.std.proofs.Common.{◌≡◌, ℕ, ◌+◌, Option, List, [], ◌∷◌, ◌++◌, inl, refl, sym, ap, subst, ◌∙◌, append_assoc, arith}
 use Rattle.std.specs.Io.KnownBytes.{Appends}
 use Rattle.alog_replay.specs.Known.{WhereKnown}
 use Rattle.alog_replay.specs.Lines.{lines_of, TakesLine, BeginsTooLong}
-use Rattle.alog_replay.specs.Reading.{FindsLine, IsNextLine}
-use Rattle.alog_replay.specs.Scene.{Scene, Played, Done, Refused, Plays}
-use Rattle.alog_replay.specs.Script.{Told, Whole, RefusedAt, told_behind, text_of, Tells, TellsLine, TellsPlayed, ScriptTells, LineDone, LineRefused, EntryDone, EntryRefused, WritesLine}
+use Rattle.alog_replay.specs.Reading.{FindsLine}
+use Rattle.alog_replay.specs.Scene.{Scene, Done, Refused}
+use Rattle.alog_replay.specs.Script.{Told, Whole, RefusedAt, told_behind, text_of, Tells, TellsLine, ScriptTells}
+use Rattle.alog_replay.specs.Script.{LineDone, LineRefused, EntryDone, EntryRefused, WritesLine}
 use Rattle.alog_replay.specs.declared.entry.Entry.{Entry}
 use Rattle.alog_replay.specs.declared.entry.Entry.TheVariants.{Skipped, Does}
 use Rattle.alog_replay.specs.declared.entry.Entry.TheVariants as entry
@@ -65,7 +66,8 @@ module _ {S : Type 0} (scene : Scene S) where
         (subst (λ (n : ℕ). Tells scene from.stage n (lines_of x) t) first h);
   })
 
-  entry_told : (s next : S) (n : ℕ) (e : Entry) (text : List ℕ) (rest : S → Told → Type 0) (u : Told) → EntryDone scene s e [] text next → rest next u
+  entry_told : (s next : S) (n : ℕ) (e : Entry) (text : List ℕ) (rest : S → Told → Type 0) (u : Told) → EntryDone scene s e [] text next
+      → rest next u
       → TellsLine scene s n e rest (told_behind text u)
   entry_told s next n Skipped text rest u d h =
       let same : u ≡ told_behind text u = sym (ap (λ x. told_behind x u) d.1 ∙ behind_nothing u) in
@@ -82,13 +84,15 @@ module _ {S : Type 0} (scene : Scene S) where
   entry_refused s n entry.Refused text rest d = ap (RefusedAt (n + 1)) d
 
   -- what a line and the lines after it tell, where the line was carried out
-  pub done_told : (s next : S) (n : ℕ) (line text : List ℕ) (lines : List (List ℕ)) (u : Told) → LineDone scene s line [] text next → Tells scene next (n + 1) lines u
+  pub done_told : (s next : S) (n : ℕ) (line text : List ℕ) (lines : List (List ℕ)) (u : Told) → LineDone scene s line [] text next
+      → Tells scene next (n + 1) lines u
       → Tells scene s n (line ∷ lines) (told_behind text u)
   unfolding Tells
   done_told s next n line text lines u d h = (d.0, d.1, entry_told s next n d.0 text (λ t v. Tells scene t (n + 1) lines v) u d.2 h)
 
   -- and where it was refused
-  pub refused_told : (s : S) (n : ℕ) (line text : List ℕ) (lines : List (List ℕ)) → LineRefused scene s line [] text → Tells scene s n (line ∷ lines) (RefusedAt (n + 1) text)
+  pub refused_told : (s : S) (n : ℕ) (line text : List ℕ) (lines : List (List ℕ)) → LineRefused scene s line [] text
+      → Tells scene s n (line ∷ lines) (RefusedAt (n + 1) text)
   unfolding Tells
   refused_told s n line text lines d = (d.0, d.1, entry_refused s n d.0 text (λ t v. Tells scene t (n + 1) lines v) d.2)
 
@@ -108,7 +112,8 @@ module _ {S : Type 0} (scene : Scene S) where
       (entry.Refused, inl (λ readable. absurd (omega (arith, readable.0, b.3))), refl)
 
   -- A line was read and carried out.
-  progress_line : {line script rest after : List ℕ} (from mid to : Point S) → to.count ≡ mid.count + 1 → WritesLine scene mid.stage line to.stage mid.held to.held
+  progress_line : {line script rest after : List ℕ} (from mid to : Point S) → to.count ≡ mid.count + 1
+      → WritesLine scene mid.stage line to.stage mid.held to.held
       → Progress from mid script rest → TakesLine rest line after → Progress from to script after
   progress_line {line} {script} {rest} {after} from mid to one w p k =
       record {
@@ -124,10 +129,12 @@ module _ {S : Type 0} (scene : Scene S) where
             subst (λ (ls : List (List ℕ)). Tells scene mid.stage mid.count ls (told_behind w.text t)) (sym (k.fronts x y e)) next in
             let told = p.goes_on (k.taken ++ x) y (told_behind w.text t) taken line_told in
             subst (ScriptTells scene from.stage ((p.read ++ k.taken) ++ x)) (behind_twice p.text w.text t)
-            (subst (λ (xs : List ℕ). ScriptTells scene from.stage xs (told_behind p.text (told_behind w.text t))) (sym (append_assoc p.read k.taken x)) told);
+            (subst (λ (xs : List ℕ). ScriptTells scene from.stage xs (told_behind p.text (told_behind w.text t)))
+            (sym (append_assoc p.read k.taken x)) told);
       }
 
-  pub told_line : (from mid to : Point S) (line : List ℕ) → to.count ≡ mid.count + 1 → WritesLine scene mid.stage line to.stage mid.held to.held → HasTold from mid
+  pub told_line : (from mid to : Point S) (line : List ℕ) → to.count ≡ mid.count + 1
+      → WritesLine scene mid.stage line to.stage mid.held to.held → HasTold from mid
       → FindsLine found.Found mid.rest to.rest line → HasTold from to
   told_line from mid to line one w h f =
       known_then from.rest mid.rest to.rest (Progress from mid) (λ rest after. TakesLine rest line after) (Progress from to)

@@ -1,10 +1,9 @@
 -- A queue under a script: the stepped queue, what its actors owe, and the memory file.
-use Rattle.std.specs.Prelude.{◌≡◌, ℕ, pos, ◌&&◌, nat_le, Bool, true, false, None, List, [], ◌∷◌, ◌++◌}
+use Rattle.std.specs.Prelude.{ℕ, pos, ◌&&◌, nat_le, Bool, true, false, None, List, [], ◌∷◌, ◌++◌}
 use Rattle.std.specs.Prelude.{length, map, replicate, slice_index_or, slice_set, codes}
 use Rattle.std.specs.Fmt.{decimal}
 use Rattle.std.specs.List.{flat_map}
-use Rattle.alog_core.specs.Queue.{last}
-use Rattle.alog_core.specs.World.{Machine, is_size, is_idle, fresh, round_of, began, stepped, told, shown}
+use Rattle.alog_core.specs.World.{Machine, is_idle, fresh, round_of, began, stepped, told, shown}
 use Rattle.alog_core.specs.declared.TheConstants.{ACTORS}
 use Rattle.alog_core.specs.declared.mark.Mark.{Mark}
 use Rattle.alog_core.specs.declared.mark.Mark.TheVariants as mark

@@ -123,13 +123,8 @@ fn lines_at_their_limit(rt: HostRuntime) -> Result<(), Fail> {
     Ok(())
 }
 
-fn spells_push(line: &str, text: &str) -> bool {
-    match parse(line) {
-        Some(Command::Acts(Act::Push { actor, text: found })) => {
-            actor.number() == 1 && found.as_str() == text
-        }
-        _ => false,
-    }
+fn spells_push(line: &str, wanted: &str) -> bool {
+    matches!(&parse(line), Some(Command::Acts(Act::Push { actor, text })) if actor.number() == 1 && text.as_str() == wanted)
 }
 
 #[test]

@@ -6,7 +6,8 @@ use Rattle.alog_replay.proofs.parser.parse.Goals as goal
 
 pub returns-in_err-size-in-ring : goal.returns-in_err-size-in-ring
 unfolding row_named
-returns-in_err-size-in-ring c = by_none_given _ _ c.cut.ensures c.in-ring.is refl c.from_residual.ensures (λ g h. none-some _ ((c.in_err-size-in-ring.ensures g).1 h))
+returns-in_err-size-in-ring c =
+    by_none_given _ _ c.cut.ensures c.in-ring.is refl c.from_residual.ensures (λ g h. none-some _ ((c.in_err-size-in-ring.ensures g).1 h))
 
 pub returns-in_ok-size-in-ring : goal.returns-in_ok-size-in-ring
 unfolding row_named
@@ -14,7 +15,9 @@ returns-in_ok-size-in-ring c = by_row _ _ _ c.cut.ensures c.in-ring.is refl ((c.
 
 pub returns-in_err-actor-in-push : goal.returns-in_err-actor-in-push
 unfolding row_named
-returns-in_err-actor-in-push c = by_none_given _ _ c.cut.ensures c.in-push.is refl c.from_residual-in_err-actor-in-push.ensures (λ g h. none-some _ ((c.in_err-actor-in-push.ensures g).1 h))
+returns-in_err-actor-in-push c =
+    by_none_given _ _ c.cut.ensures c.in-push.is refl c.from_residual-in_err-actor-in-push.ensures
+    (λ g h. none-some _ ((c.in_err-actor-in-push.ensures g).1 h))
 
 pub returns-in_ok-actor-in-push : goal.returns-in_ok-actor-in-push
 unfolding row_named
@@ -22,7 +25,9 @@ returns-in_ok-actor-in-push c = by_row _ _ _ c.cut.ensures c.in-push.is refl ((c
 
 pub returns-in_err-actor-in-pop : goal.returns-in_err-actor-in-pop
 unfolding row_named
-returns-in_err-actor-in-pop c = by_none_given _ _ c.cut.ensures c.in-pop.is refl c.from_residual-in_err-actor-in-pop.ensures (λ g h. none-some _ ((c.in_err-actor-in-pop.ensures g).1 h))
+returns-in_err-actor-in-pop c =
+    by_none_given _ _ c.cut.ensures c.in-pop.is refl c.from_residual-in_err-actor-in-pop.ensures
+    (λ g h. none-some _ ((c.in_err-actor-in-pop.ensures g).1 h))
 
 pub returns-in_ok-actor-in-pop : goal.returns-in_ok-actor-in-pop
 unfolding row_named
@@ -30,7 +35,9 @@ returns-in_ok-actor-in-pop c = by_row _ _ _ c.cut.ensures c.in-pop.is refl ((c.i
 
 pub returns-in_err-actor-in-work : goal.returns-in_err-actor-in-work
 unfolding row_named
-returns-in_err-actor-in-work c = by_none_given _ _ c.cut.ensures c.in-work.is refl c.from_residual-in_err-actor-in-work.ensures (λ g h. none-some _ ((c.in_err-actor-in-work.ensures g).1 h))
+returns-in_err-actor-in-work c =
+    by_none_given _ _ c.cut.ensures c.in-work.is refl c.from_residual-in_err-actor-in-work.ensures
+    (λ g h. none-some _ ((c.in_err-actor-in-work.ensures g).1 h))
 
 pub returns-in_ok-actor-in-work : goal.returns-in_ok-actor-in-work
 unfolding row_named
@@ -38,7 +45,9 @@ returns-in_ok-actor-in-work c = by_row _ _ _ c.cut.ensures c.in-work.is refl ((c
 
 pub returns-in_err-no_argument-in-cells : goal.returns-in_err-no_argument-in-cells
 unfolding row_named
-returns-in_err-no_argument-in-cells c = by_none_given _ _ c.cut.ensures c.in-cells.is refl c.from_residual-in_err-no_argument-in-cells.ensures (λ g h. none-some _ ((c.in_err-no_argument-in-cells.ensures g).1 h))
+returns-in_err-no_argument-in-cells c =
+    by_none_given _ _ c.cut.ensures c.in-cells.is refl c.from_residual-in_err-no_argument-in-cells.ensures
+    (λ g h. none-some _ ((c.in_err-no_argument-in-cells.ensures g).1 h))
 
 pub returns-in_ok-no_argument-in-cells : goal.returns-in_ok-no_argument-in-cells
 unfolding row_named
@@ -46,7 +55,9 @@ returns-in_ok-no_argument-in-cells c = by_row _ _ _ c.cut.ensures c.in-cells.is 
 
 pub returns-in_err-actor-in-step : goal.returns-in_err-actor-in-step
 unfolding row_named
-returns-in_err-actor-in-step c = by_none_given _ _ c.cut.ensures c.in-step.is refl c.from_residual-in_err-actor-in-step.ensures (λ g h. none-some _ ((c.in_err-actor-in-step.ensures g).1 h))
+returns-in_err-actor-in-step c =
+    by_none_given _ _ c.cut.ensures c.in-step.is refl c.from_residual-in_err-actor-in-step.ensures
+    (λ g h. none-some _ ((c.in_err-actor-in-step.ensures g).1 h))
 
 pub returns-in_ok-actor-in-step : goal.returns-in_ok-actor-in-step
 unfolding row_named
@@ -54,7 +65,9 @@ returns-in_ok-actor-in-step c = by_row _ _ _ c.cut.ensures c.in-step.is refl ((c
 
 pub returns-in_err-actor-in-run : goal.returns-in_err-actor-in-run
 unfolding row_named
-returns-in_err-actor-in-run c = by_none_given _ _ c.cut.ensures c.in-run.is refl c.from_residual-in_err-actor-in-run.ensures (λ g h. none-some _ ((c.in_err-actor-in-run.ensures g).1 h))
+returns-in_err-actor-in-run c =
+    by_none_given _ _ c.cut.ensures c.in-run.is refl c.from_residual-in_err-actor-in-run.ensures
+    (λ g h. none-some _ ((c.in_err-actor-in-run.ensures g).1 h))
 
 pub returns-in_ok-actor-in-run : goal.returns-in_ok-actor-in-run
 unfolding row_named
@@ -63,4 +76,5 @@ returns-in_ok-actor-in-run c = by_row _ _ _ c.cut.ensures c.in-run.is refl ((c.i
 pub returns-in_default : goal.returns-in_default
 returns-in_default c =
     let d = c.in_default in
-    by_no_row _ _ _ c.cut.ensures refl (no_row _ _ (d.not-ring, (d.not-push, (d.not-pop, (d.not-work, (d.not-cells, (d.not-step, (d.not-run, tt))))))))
+    by_no_row _ _ _ c.cut.ensures refl
+    (no_row _ _ (d.not-ring, (d.not-push, (d.not-pop, (d.not-work, (d.not-cells, (d.not-step, (d.not-run, tt))))))))

@@ -5,4 +5,5 @@ use Rattle.alog_replay.proofs.player.make_steps.Given as goal
 
 abbrev pub invariant-loop : goal.invariant-loop
 invariant-loop g l =
-    HasMade (Makes g.S.Playable.scene refused l.count l.actor l.fn.stage) (Makes g.S.Playable.scene refused (l.count - l.counter) l.actor l.stage) (string_bytes l.fn.out) (string_bytes l.out)
+    HasMade (Makes g.S.Playable.scene refused l.count l.actor l.fn.stage)
+    (Makes g.S.Playable.scene refused (l.count - l.counter) l.actor l.stage) (string_bytes l.fn.out) (string_bytes l.out)

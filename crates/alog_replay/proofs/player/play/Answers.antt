@@ -14,7 +14,9 @@ returns-in_err-lines-clause-front g c =
     let remaining = g.R.Read.remaining in
     let contents = g.W.Write.contents in
     let from = point (remaining c.args.reader.now) c.args.stage.now 0 (contents c.args.writer.now) in
-    on_any_err c.from_residual.result (nothing_front scene g.met.S.Playable.goes_on from from (remaining c.args.reader.now) (told_start scene from refl) (read_same (remaining c.args.reader.now)))
+    on_any_err c.from_residual.result
+    (nothing_front scene g.met.S.Playable.goes_on from from (remaining c.args.reader.now) (told_start scene from refl)
+    (read_same (remaining c.args.reader.now)))
 
 pub returns-in_err-next_line-clause-front : goal.returns-in_err-next_line-clause-front
 returns-in_err-next_line-clause-front g c =
@@ -67,7 +69,8 @@ returns-in_err-finish-in-End-clause-front g c =
     let lines = c.next_line.new.self in
     let found = rw c.in-End.is at c.in_ok-next_line.ensures.found in
     on_any_err c.from_residual-in_err-finish-in-End.result
-    (finish_front scene from at left (contents c.finish.new.writer) lines.pending lines.line c.lines.invariant.told found c.in_err-finish-in-End.ensures.front.1)
+    (finish_front scene from at left (contents c.finish.new.writer) lines.pending lines.line c.lines.invariant.told found
+    c.in_err-finish-in-End.ensures.front.1)
 
 pub returns-in-End-clause-whole : goal.returns-in-End-clause-whole
 returns-in-End-clause-whole g c =
@@ -79,7 +82,8 @@ returns-in-End-clause-whole g c =
     let left = remaining c.next_line.new.reader in
     let lines = c.next_line.new.self in
     let found = rw c.in-End.is at c.in_ok-next_line.ensures.found in
-    end_whole scene from at (rest_of lines left) (contents c.finish.new.writer) lines.line c.lines.invariant.told found c.in_ok-finish-in-End.ensures.done
+    end_whole scene from at (rest_of lines left) (contents c.finish.new.writer) lines.line c.lines.invariant.told found
+    c.in_ok-finish-in-End.ensures.done
 
 pub lines-preserved : goal.lines-preserved
 lines-preserved g c =
@@ -93,7 +97,8 @@ lines-preserved g c =
     let next = point (rest_of lines left) c.play_and_write.new.stage (c.lines.count + 1) (contents c.play_and_write.new.writer) in
     let less = c.in_ok-next_line.ensures.fewer c.in-Found.is in
     let found = rw c.in-Found.is at c.in_ok-next_line.ensures.found in
-    let wrote = subst (λ (line : List ℕ). WritesLine scene at.stage line next.stage at.held next.held) c.line.ensures.value c.in_ok-play_and_write.ensures.done in
+    let wrote = subst (λ (line : List ℕ). WritesLine scene at.stage line next.stage at.held next.held) c.line.ensures.value
+    c.in_ok-play_and_write.ensures.done in
     record {
       few = omega (arith, less, c.lines.invariant.few);
       told = told_line scene from at next lines.line refl wrote c.lines.invariant.told found;
@@ -128,6 +133,7 @@ returns-in_err-play_and_write-clause-front g c =
     let lines = c.next_line.new.self in
     let held = contents c.play_and_write.new.writer in
     let found = rw c.in-Found.is at c.in_ok-next_line.ensures.found in
-    let wrote = subst (λ (line : List ℕ). WritesLineFront scene at.stage line at.held held) c.line.ensures.value c.in_err-play_and_write.ensures.front in
+    let wrote = subst (λ (line : List ℕ). WritesLineFront scene at.stage line at.held held) c.line.ensures.value
+    c.in_err-play_and_write.ensures.front in
     on_any_err c.from_residual-in_err-play_and_write.result
     (line_front scene g.met.S.Playable.goes_on from at left held lines.pending lines.line c.lines.invariant.told found wrote)

@@ -7,7 +7,8 @@ pub returns-in_ok-write_whole-in-Err-Refused-clause-front : goal.returns-in_ok-w
 returns-in_ok-write_whole-in-Err-Refused-clause-front g c =
     let scene = g.S.Playable.scene in
     let text = string_bytes c.play_line.new.out in
-    let refused = subst (λ (b : List ℕ). LineRefused scene c.args.stage.now c.args.line.now b text) c.clear.ensures.bytes (c.in-Err-Refused.ensures.refused (ap Err c.in-Err-Refused.field-0-is)) in
+    let refused = subst (λ (b : List ℕ). LineRefused scene c.args.stage.now c.args.line.now b text) c.clear.ensures.bytes
+    (c.in-Err-Refused.ensures.refused (ap Err c.in-Err-Refused.field-0-is)) in
     inr (
       text,
       inr refused,

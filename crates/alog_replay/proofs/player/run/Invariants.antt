@@ -6,4 +6,5 @@ use Rattle.alog_replay.proofs.player.run.Given as goal
 
 abbrev pub invariant-loop : goal.invariant-loop
 invariant-loop g l =
-    HasMade (Makes g.S.Playable.scene done STEPS_MAX l.actor l.fn.stage) (Makes g.S.Playable.scene done (STEPS_MAX - l.counter) l.actor l.stage) (string_bytes l.fn.out) (string_bytes l.out)
+    HasMade (Makes g.S.Playable.scene done STEPS_MAX l.actor l.fn.stage)
+    (Makes g.S.Playable.scene done (STEPS_MAX - l.counter) l.actor l.stage) (string_bytes l.fn.out) (string_bytes l.out)
