@@ -67,65 +67,60 @@ module _ {S : Type 0} (scene : Scene S) (goes : GoesOn scene) where
 pub some_script : {S : Type 0} (scene : Scene S) → TellsSomething scene
 some_script scene goes s script = some_told scene goes (lines_of script) s 0
 
+-- what these answers say, one alone does
+abbrev pub IsOne : {X : Type 0} → (X → Type 0) → Type 0
+IsOne {X} P = (p q : X) → P p → P q → p ≡ q
+
 -- One thing alone comes of each line.
 module _ {S : Type 0} (scene : Scene S) (certain : IsCertain scene) where
-  one_step_or : (ended : S → Played S) (actor : ℕ) (s : S) (Rest : S → Played S → Type 0)
-      → ((t : S) (p q : Played S) → Rest t p → Rest t q → p ≡ q)
-      → (b : Bool) (p q : Played S) → WhereTrue b (p ≡ ended s) (StepThen scene actor s Rest p)
-      → WhereTrue b (q ≡ ended s) (StepThen scene actor s Rest q) → p ≡ q
+  one_step_or : (ended : S → Played S) (actor : ℕ) (s : S) (Rest : S → Played S → Type 0) → ((t : S) → IsOne (Rest t)) → (b : Bool)
+      → IsOne (λ p. WhereTrue b (p ≡ ended s) (StepThen scene actor s Rest p))
   one_step_or ended actor s Rest one true p q h g = h ∙ sym g
   one_step_or ended actor s Rest one false p q h g =
       let step = certain.steps s actor h.0 g.0 h.1 g.1 h.3 g.3 in
       let rest = one g.1 h.2 g.2 (subst (λ (t : S). Rest t h.2) step.1 h.4) g.4 in
       h.5 ∙ (ap (λ x. behind x h.2) step.0 ∙ (ap (behind g.0) rest ∙ sym g.5))
 
-  one_made : (ended : S → Played S) (k actor : ℕ) (s : S) (p q : Played S) → Makes scene ended k actor s p → Makes scene ended k actor s q
-      → p ≡ q
+  one_made : (ended : S → Played S) (k actor : ℕ) (s : S) → IsOne (Makes scene ended k actor s)
   unfolding Makes
   one_made ended zero actor s p q h g = h ∙ sym g
   one_made ended (suc k) actor s p q h g =
-      one_step_or ended actor s (λ t r. Makes scene ended k actor t r) (λ t x y. one_made ended k actor t x y) (scene.is_free s actor) p q
-      h g
+      one_step_or ended actor s (λ t r. Makes scene ended k actor t r) (λ t. one_made ended k actor t) (scene.is_free s actor) p q h g
 
-  one_act : (s : S) (act : Act) (b : Bool) (p q : Played S)
-      → WhereTrue b ((text : List ℕ) × (next : S) × scene.Does s act text next × (p ≡ Done text next)) (p ≡ Refused [])
-      → WhereTrue b ((text : List ℕ) × (next : S) × scene.Does s act text next × (q ≡ Done text next)) (q ≡ Refused []) → p ≡ q
+  one_act : (s : S) (act : Act) (b : Bool)
+      → IsOne (λ p. WhereTrue b ((text : List ℕ) × (next : S) × scene.Does s act text next × (p ≡ Done text next)) (p ≡ Refused []))
   one_act s act true p q h g =
       let same = certain.does s act h.0 g.0 h.1 g.1 h.2 g.2 in
       h.3 ∙ (ap (λ x. Done x h.1) same.0 ∙ (ap (Done g.0) same.1 ∙ sym g.3))
   one_act s act false p q h g = h ∙ sym g
 
-  one_run : (s : S) (actor : ℕ) (b : Bool) (p q : Played S) → WhereTrue b (p ≡ Refused []) (Makes scene done STEPS_MAX actor s p)
-      → WhereTrue b (q ≡ Refused []) (Makes scene done STEPS_MAX actor s q) → p ≡ q
+  one_run : (s : S) (actor : ℕ) (b : Bool) → IsOne (λ p. WhereTrue b (p ≡ Refused []) (Makes scene done STEPS_MAX actor s p))
   one_run s actor true p q h g = h ∙ sym g
-  one_run s actor false p q h g = one_made done 512 actor s p q h g
+  one_run s actor false p q h g = one_made done STEPS_MAX actor s p q h g
 
-  one_played : (s : S) (command : Command) (p q : Played S) → Plays scene s command p → Plays scene s command q → p ≡ q
+  one_played : (s : S) (command : Command) → IsOne (Plays scene s command)
   one_played s (Acts act) p q h g = one_act s act (scene.may_do s act) p q h g
   one_played s (Step actor count) p q h g = one_made refused count actor s p q h g
   one_played s (Run actor) p q h g = one_run s actor (scene.is_free s actor) p q h g
 
-  one_rest : (n : ℕ) (p : Played S) (rest : S → Told → Type 0) → ((s : S) (t u : Told) → rest s t → rest s u → t ≡ u) → (t u : Told)
-      → TellsPlayed n p rest t → TellsPlayed n p rest u → t ≡ u
+  one_rest : (n : ℕ) (p : Played S) (rest : S → Told → Type 0) → ((s : S) → IsOne (rest s)) → IsOne (TellsPlayed n p rest)
   one_rest n (Done text s) rest one t u h g = h.2 ∙ (ap (told_behind text) (one s h.0 g.0 h.1 g.1) ∙ sym g.2)
   one_rest n (Refused text) rest one t u h g = h ∙ sym g
 
-  one_line : (s : S) (n : ℕ) (e : Entry) (rest : S → Told → Type 0) → ((s : S) (t u : Told) → rest s t → rest s u → t ≡ u) → (t u : Told)
-      → TellsLine scene s n e rest t → TellsLine scene s n e rest u → t ≡ u
+  one_line : (s : S) (n : ℕ) (e : Entry) (rest : S → Told → Type 0) → ((s : S) → IsOne (rest s)) → IsOne (TellsLine scene s n e rest)
   one_line s n Skipped rest one t u h g = one s t u h g
   one_line s n (Does command) rest one t u h g =
       let same = one_played s command h.0 g.0 h.1 g.1 in
       one_rest n g.0 rest one t u (subst (λ (p : Played S). TellsPlayed n p rest t) same h.2) g.2
   one_line s n entry.Refused rest one t u h g = h ∙ sym g
 
-  one_told : (lines : List (List ℕ)) (s : S) (n : ℕ) (t u : Told) → Tells scene s n lines t → Tells scene s n lines u → t ≡ u
+  one_told : (lines : List (List ℕ)) (s : S) (n : ℕ) → IsOne (Tells scene s n lines)
   unfolding Tells
   one_told [] s n t u h g = h ∙ sym g
   one_told (line ∷ lines) s n t u h g =
       let rest : S → Told → Type 0 = λ next v. Tells scene next (n + 1) lines v in
       let same : g.0 ≡ h.0 = same_entry line g.0 h.0 g.1 h.1 in
-      one_line s n h.0 rest (λ next v w x y. one_told lines next (n + 1) v w x y) t u h.2
-      (subst (λ (e : Entry). TellsLine scene s n e rest u) same g.2)
+      one_line s n h.0 rest (λ next. one_told lines next (n + 1)) t u h.2 (subst (λ (e : Entry). TellsLine scene s n e rest u) same g.2)
 
 pub one_script : {S : Type 0} (scene : Scene S) → TellsOneThing scene
 one_script scene certain s script t u h g = one_told scene certain (lines_of script) s 0 t u h g

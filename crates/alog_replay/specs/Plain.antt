@@ -18,12 +18,11 @@ is_free_in (Some s) actor = is_free s actor
 -- `ring` may open the queue once, and nothing else comes before it
 abbrev pub may_do : Option Stage → Act → Bool
 may_do None (Ring places first) = is_size places && nat_lt first last
-may_do None _ = false
-may_do (Some s) (Ring places first) = false
 may_do (Some s) (Push actor text) = may_push s actor text
 may_do (Some s) (Pop actor) = is_free s actor
 may_do (Some s) (Work actor) = is_free s actor
 may_do (Some s) Cells = true
+may_do s _ = false
 
 -- what an act prints that is not refused, and the stage after it
 abbrev pub after_act : Option Stage → Act → List ℕ × Option Stage

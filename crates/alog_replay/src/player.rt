@@ -194,7 +194,9 @@ pub fn play<S: Playable, R: Read, W: Write>(
 ///
 /// Where the reader tells its bytes and the writer what it holds, what is written is the text of the script as
 /// `specs/Script.antt` defines it, and nothing else. A refused line is the first one, and what was printed before it,
-/// and of it, is written. After any other fault what is written is a front of what those bytes tell that were read.
+/// and of it, is written. After any fault what is written is a front of what those bytes tell that were read.
+///
+/// The test `scripts_and_what_they_print` (`src/tests.rt`) shows calls, and `examples/` has scripts.
 pub fn replay<R: Read, W: Write>(
     alloc: Global,
     reader: &mut R,

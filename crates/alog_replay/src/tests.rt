@@ -250,6 +250,19 @@ const PRINTED: &str =
     "1 claim 0\n1 write 0\n2 grab 0\n2 take 0 a\n2 line 0 memory\n== memory memory 2\na\n";
 
 #[test]
+fn scripts_and_what_they_print(rt: HostRuntime) {
+    let mut out = Vec::new(rt.alloc());
+    assert_eq!(rt; replay(rt.alloc(), &mut SCRIPT.as_bytes(), &mut out), Ok(5));
+    assert!(rt; out.as_slice() == PRINTED.as_bytes());
+
+    let mut out = Vec::new(rt.alloc());
+    let mut script = b"ring 2 0\npush 1 a\nstep 1 6\n".as_slice();
+    let refused = Err(ReplayError::LineRefused { line: 3 });
+    assert_eq!(rt; replay(rt.alloc(), &mut script, &mut out), refused);
+    assert!(rt; out.as_slice() == b"1 claim 0\n1 write 0\n".as_slice());
+}
+
+#[test]
 fn interrupted_writes_and_a_flush_that_fails(rt: HostRuntime) {
     for flush_fails in [false, true] {
         let mut writer = Slow {
