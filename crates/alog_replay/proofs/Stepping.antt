@@ -79,11 +79,11 @@ made_till_refused {S} {Whole} m h p = (m.text, subst (λ t. Whole (Refused t)) (
 
 module _ {S : Type 0} (scene : Scene S) (ended : S → Played S) where
   -- one turn of a loop makes one of the steps that are left
-  pub next_made : {Whole : Played S → Type 0} {before now : List ℕ} (then : List ℕ) (n i actor : ℕ) (s next : S) → i < n
+  pub next_made : {Whole : Played S → Type 0} {before now then : List ℕ} (n i actor : ℕ) (s next : S) → i < n
       → scene.is_free s actor ≡ false
       → Prints now then (λ text. scene.Steps s actor text next) → HasMade Whole (Makes scene ended (n - i) actor s) before now
       → HasMade Whole (Makes scene ended (n - (i + 1)) actor next) before then
-  next_made then n i actor s next some called step m =
+  next_made n i actor s next some called step m =
       let less : n - (i + 1) ≡ n - i - 1 = omega arith in
       made_more (Makes scene ended (n - (i + 1)) actor next) step.0 m
       (λ q h. one_made scene ended (n - i) actor s (behind step.0 q) (omega (arith, some)) called

@@ -5,6 +5,9 @@ use crate::error::LineError;
 use std::alloc::{AllocError, Global};
 
 /// What a script is played on. Its meaning is `scene`, a `Scene` of `specs/Scene.antt`.
+///
+/// A refused call prints nothing. After want of memory nothing is said of the stage, nor of what was printed of the
+/// call: the script is over.
 pub trait Playable {
     ghost use Rattle.std.specs.Prelude.{◌≡◌, ◌++◌, ◌↔◌, List, ℕ, true, false, OnOk, IsErrOf, string_bytes};
     ghost use Rattle.alog_replay.specs.Scene.{Scene, GoesOn, Prints};

@@ -1,4 +1,4 @@
-use Rattle.std.proofs.Common.{◌≡◌, ◌-◌, ◌<◌, Err, ap, arith, string_bytes}
+use Rattle.std.proofs.Common.{◌≡◌, ◌-◌, ◌<◌, Err, ap, arith}
 use Rattle.std.proofs.lemmas.Result.{err_from_is_err_and}
 use Rattle.alog_replay.specs.Scene.{refused}
 use Rattle.alog_replay.specs.declared.error.LineError.TheVariants.{Refused}
@@ -11,7 +11,7 @@ loop-preserved g c =
     let a = c.args.actor in
     let step = c.in_ok-step.ensures.done in
     let called = true_or_not (scene.is_free c.loop.stage a) (λ e. let bad = c.in_ok-step.ensures.refused.1 e in absurd (cc)) in
-    next_made scene refused (string_bytes c.step.new.out) c.args.count c.loop.counter a c.loop.stage c.step.new.self c.loop-test.true
+    next_made scene refused c.args.count c.loop.counter a c.loop.stage c.step.new.self c.loop-test.true
     called step c.loop.invariant
 
 pub returns-in_err-step-clause-refused : goal.returns-in_err-step-clause-refused

@@ -7,7 +7,7 @@ use Rattle.alog_replay.proofs.player.run.Goals as goal
 pub loop-preserved : goal.loop-preserved
 loop-preserved g c =
     let called = sym c.is_free-in-loop.ensures ∙ c.if-is_free-2.false in
-    next_made g.S.Playable.scene done (string_bytes c.step.new.out) STEPS_MAX c.loop.counter c.args.actor c.loop.stage c.step.new.self
+    next_made g.S.Playable.scene done STEPS_MAX c.loop.counter c.args.actor c.loop.stage c.step.new.self
     c.loop-test.true called c.in_ok-step.ensures.done c.loop.invariant
 
 pub returns-after-loop-clause-done : goal.returns-after-loop-clause-done
