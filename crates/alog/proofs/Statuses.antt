@@ -3,7 +3,8 @@ use Rattle.std.proofs.Common.{◌≡◌, ℕ, Option, Some, None, List, inr, ref
 use Rattle.std.specs.Prelude.{IfSome}
 use Rattle.alog.specs.Status.{status_of}
 use Rattle.alog.specs.Replays.{Replays}
-use Rattle.alog_replay.specs.Script.{RefusedAt, WritesText, WritesFront}
+use Rattle.alog_replay.specs.Plain.{plain}
+use Rattle.alog_replay.specs.Script.{RefusedAt, WritesText, WritesFront, WasRead}
 use Rattle.alog_replay.specs.declared.error.ReplayError.{ReplayError}
 use Rattle.alog_replay.specs.declared.error.ReplayError.TheVariants.{LineRefused, ReadFault, WriteFault, OutOfMemory}
 
@@ -32,15 +33,15 @@ not_one WriteFault h = absurd (omega arith)
 not_one OutOfMemory h = absurd (omega arith)
 
 -- what a replay that ended by a fault leaves is what its status says
-pub replays_fault : (fault : ReplayError) (status : ℕ) (remaining old new : Option (List ℕ)) → status ≡ status_of fault
-    → ((line : ℕ) → fault ≡ LineRefused line → IfSome remaining (λ script. WritesText script (RefusedAt line) old new))
-    → IfSome remaining (λ script. WritesFront script old new) → Replays status remaining old new
-replays_fault fault status remaining old new e refused front =
+pub replays_fault : (fault : ReplayError) (status : ℕ) (remaining left old new : Option (List ℕ)) → status ≡ status_of fault
+    → ((line : ℕ) → fault ≡ LineRefused line → IfSome remaining (λ script. WritesText plain None script (RefusedAt line) old new))
+    → WasRead remaining left (λ read. WritesFront plain None read old new) → Replays status remaining left old new
+replays_fault fault status remaining left old new e refused front =
     record {
       understood = λ h. not_one fault (sym e ∙ h);
       whole = λ h. absurd (not_zero fault (sym e ∙ h));
       refused = λ h.
           let at = refused_line fault status e h in
-          if_some_weaker remaining (λ script. WritesText script (RefusedAt at.0) old new) (λ script. (line : ℕ) × WritesText script (RefusedAt line) old new) (λ script w. (at.0, w)) (refused at.0 at.1);
+          if_some_weaker remaining (λ script. WritesText plain None script (RefusedAt at.0) old new) (λ script. (line : ℕ) × WritesText plain None script (RefusedAt line) old new) (λ script w. (at.0, w)) (refused at.0 at.1);
       front = λ h. inr front;
     }

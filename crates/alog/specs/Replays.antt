@@ -1,12 +1,13 @@
 -- What `alog replay` does.
-use Rattle.std.specs.Prelude.{◌≡◌, ◌≢◌, ◌≤◌, ◌⊎◌, ℕ, List, Option, IfSome}
+use Rattle.std.specs.Prelude.{◌≡◌, ◌≢◌, ◌≤◌, ◌⊎◌, ℕ, List, Option, None, IfSome}
 use Rattle.std.specs.Io.KnownBytes.{Keeps}
-use Rattle.alog_replay.specs.Script.{Whole, RefusedAt, WritesText, WritesFront}
+use Rattle.alog_replay.specs.Plain.{plain}
+use Rattle.alog_replay.specs.Script.{Whole, RefusedAt, WritesText, WritesFront, WasRead}
 
 -- By the exit status: the script's whole text was written, or what a refused line leaves, or at another fault nothing or
--- a front. The command line is not at fault.
-pub record Replays (status : ℕ) (remaining old new : Option (List ℕ)) : Type 0 where
+-- a front of what those bytes tell that were read. The command line is not at fault.
+pub record Replays (status : ℕ) (remaining left old new : Option (List ℕ)) : Type 0 where
   pub understood : status ≢ 1
-  pub whole : status ≡ 0 → IfSome remaining (λ script. (n : ℕ) × WritesText script (λ text. Whole text n) old new)
-  pub refused : status ≡ 2 → IfSome remaining (λ script. (line : ℕ) × WritesText script (RefusedAt line) old new)
-  pub front : 3 ≤ status → Keeps old new ⊎ IfSome remaining (λ script. WritesFront script old new)
+  pub whole : status ≡ 0 → IfSome remaining (λ script. (n : ℕ) × WritesText plain None script (λ text. Whole text n) old new)
+  pub refused : status ≡ 2 → IfSome remaining (λ script. (line : ℕ) × WritesText plain None script (RefusedAt line) old new)
+  pub front : 3 ≤ status → Keeps old new ⊎ WasRead remaining left (λ read. WritesFront plain None read old new)

@@ -33,7 +33,7 @@ pub fn run<R: AllocGlobal, S: AsStr, I: Read, O: Write, E: Write>(
     ensures status { result ≤ 4 }
     ensures usage { result ≡ 1 → Keeps (O.contents output.old) (O.contents output.new) }
     ensures replays { AsksReplay (map S.text words.now)
-        → Replays result (I.remaining input.old) (O.contents output.old) (O.contents output.new) }
+        → Replays result (I.remaining input.old) (I.remaining input.new) (O.contents output.old) (O.contents output.new) }
 {
     match read(rt.alloc(), words) {
         Ok(Request::Replay) => replay_command(rt.alloc(), input, output, errors),
@@ -106,7 +106,7 @@ fn replay_command<I: Read, O: Write, E: Write>(
     errors: &mut E,
 ) -> u8
     ensures status { result ≤ 4 }
-    ensures replays { Replays result (I.remaining input.old) (O.contents output.old) (O.contents output.new) }
+    ensures replays { Replays result (I.remaining input.old) (I.remaining input.new) (O.contents output.old) (O.contents output.new) }
 {
     match replay(alloc, input, output) {
         Ok(_) => 0,

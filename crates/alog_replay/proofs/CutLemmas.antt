@@ -1,5 +1,8 @@
 -- A text is cut at a space in one way, and digits are a word.
-use Rattle.std.proofs.Common.{◌≡◌, ◌<◌, ◌↔◌, ℕ, List, [], ◌∷◌, ◌++◌, length, Bool, true, false, cond, eqb, not, eq-eqb, refl, sym, ◌∙◌, ap, arith, subst, Option, Some, None}
+use Rattle.std.proofs.Common.{◌≡◌, ◌<◌, ◌↔◌, ℕ, List, [], ◌∷◌, ◌++◌, length, Bool, true, false, cond, eqb, not, eq-eqb, refl, sym}
+use Rattle.std.proofs.Common.{◌∙◌, ap, arith, subst, Option, Some, None}
+use mathlib.Core.Logic.{dite}
+use native.Mathlib.Decide.{ℕ_discrete}
 use Rattle.std.proofs.lemmas.Bool.{false≢true, eqb-true}
 use Rattle.std.proofs.lemmas.Option.{none-some, same_Some}
 use Rattle.std.proofs.lemmas.List.{append-nil, take_all}
@@ -7,8 +10,7 @@ use Rattle.std.proofs.lemmas.List.Sums.{split_at_first, passes_at_first, take_wh
 use Rattle.std.proofs.lemmas.Str.Parse.{digit_from_value}
 use Rattle.std.specs.List.{before_first, after_first, position_or_len}
 use Rattle.std.specs.Str.Parse.{AllDigits, IsNumeral}
-use Rattle.alog_replay.specs.Command.{tail_of}
-use Rattle.alog_replay.specs.Cut.{IsWord, IsCut}
+use Rattle.alog_replay.specs.Cut.{tail_of, IsWord, IsCut}
 
 -- no value is given where none fits
 pub none_of : {X : Type 0} (P : X → Type 0) (r : Option X) → r ≡ None → ((x : X) → P x → ⊥) → (x : X) → (r ≡ Some x) ↔ P x
@@ -33,7 +35,9 @@ word_before [] = tt
 word_before (b ∷ s) = rw (take_while-cons (λ x. not (eqb x 32)) b s) (word_step b _ (eqb b 32) refl (word_before s))
 
 -- a text with a space is cut at its first
-pub cut_at_first : (s w r : List ℕ) → (w ≡ before_first (λ b. eqb b 32) s) × (r ≡ after_first (λ b. eqb b 32) s) × (position_or_len (λ b. eqb b 32) s < length s) → IsCut s w (Some r)
+pub cut_at_first : (s w r : List ℕ)
+    → (w ≡ before_first (λ b. eqb b 32) s) × (r ≡ after_first (λ b. eqb b 32) s) × (position_or_len (λ b. eqb b 32) s < length s)
+    → IsCut s w (Some r)
 cut_at_first s w r h =
     let space = eqb-true _ _ (passes_at_first (λ b. eqb b 32) s 0 h.2) in
     let whole = split_at_first (λ b. eqb b 32) s 0 h.2 in
@@ -60,5 +64,14 @@ cut_once (x ∷ w) (y ∷ v) r s p q e =
     (let front : w ≡ v = h.0 in cc, h.1)
 
 -- an argument of digits is what a cut gives
-pub argument_is : (r a ds : List ℕ) (t s : Option (List ℕ)) → IsCut r a t → Some r ≡ Some (ds ++ tail_of s) → IsNumeral 10 ds → (ds ≡ a) × (s ≡ t)
+pub argument_is : (r a ds : List ℕ) (t s : Option (List ℕ)) → IsCut r a t → Some r ≡ Some (ds ++ tail_of s) → IsNumeral 10 ds
+    → (ds ≡ a) × (s ≡ t)
 argument_is r a ds t s cut e numeral = cut_once ds a s t (digits_are_word ds numeral.1) cut.1 (sym (same_Some _ _ e) ∙ cut.0)
+
+-- each text is cut somewhere
+pub cut_of : (s : List ℕ) → (w : List ℕ) × (r : Option (List ℕ)) × IsCut s w r
+cut_of [] = ([], None, (refl, tt))
+cut_of (b ∷ s) =
+    let more = cut_of s in
+    dite (ℕ_discrete b 32) (λ e. ([], Some s, (ap (λ x. x ∷ s) e, tt)))
+    (λ n. (b ∷ more.0, more.1, (ap (λ x. b ∷ x) more.2.0, (n, more.2.1))))

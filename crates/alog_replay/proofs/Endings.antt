@@ -1,22 +1,33 @@
 -- What a replay has written where it ends.
-use Rattle.std.proofs.Common.{◌≡◌, ℕ, ◌+◌, Option, Some, None, List, [], ◌∷◌, ◌++◌, Result, Ok, Err, inl, inr, refl, sym, ap, subst, ◌∙◌, append_assoc}
-use Rattle.std.specs.Prelude.{IfSome, OnErr}
+use Rattle.std.proofs.Common.{◌≡◌, ℕ, ◌+◌, Option, List, [], ◌∷◌, ◌++◌, Result, Ok, Err, inl, inr, refl, sym, ap}
+use Rattle.std.proofs.Common.{subst, ◌∙◌, append_assoc}
+use Rattle.std.specs.Prelude.{IfSome, OnOk, OnErr}
 use Rattle.std.proofs.lemmas.List.{append-nil}
-use Rattle.std.specs.Io.KnownBytes.{Appends}
+use Rattle.std.specs.Io.KnownBytes.{Appends, prepend_known}
+use Rattle.alog_replay.specs.Known.{WhereKnown}
 use Rattle.alog_replay.specs.Lines.{lines_of, TakesLine}
-use Rattle.alog_replay.specs.Reading.{FindsLine}
-use Rattle.alog_replay.specs.Session.{Stage, files_text}
-use Rattle.alog_replay.specs.Script.{Told, Whole, RefusedAt, told_behind, text_of, Tells, ScriptTells, LinePrints, WritesRefused, WritesLineFront, WritesFrontOf, WritesText, WritesFront}
+use Rattle.alog_replay.specs.Reading.{FindsLine, IsNextLine}
+use Rattle.alog_replay.specs.Scene.{Scene, GoesOn}
+use Rattle.alog_replay.specs.Script.{Told, Whole, RefusedAt, told_behind, text_of, Tells, ScriptTells, WritesRefused}
+use Rattle.alog_replay.specs.Script.{WritesLineFront, WritesFrontOf, WritesText, WritesFront, WasRead}
 use Rattle.alog_replay.specs.declared.lines.Line.TheVariants as found
+use Rattle.alog_replay.proofs.KnownBytes.{known_then, known_first, known_pending, IsRead}
 use Rattle.alog_replay.proofs.Writing.{appends_nothing, appends_more}
-use Rattle.alog_replay.proofs.Telling.{Progress, HasTold, no_line_told, no_lines, no_lines_of, too_long_told, done_told, refused_told, text_behind}
+use Rattle.alog_replay.proofs.Going.{some_told}
+use Rattle.alog_replay.proofs.Telling.{Point, Progress, HasTold, no_lines, too_long_told, done_told, refused_told}
+use Rattle.alog_replay.proofs.Telling.{text_behind}
 
 pub on_any_err : {T E P : Type 0} (r : Result T E) → P → OnErr r P
 on_any_err (Ok x) p = tt
 on_any_err (Err e) p = p
 
+pub on_ok_too : {T E P Q : Type 0} (r : Result T E) → (P → Q) → OnOk r P → OnOk r Q
+on_ok_too (Ok x) f p = f p
+on_ok_too (Err e) f p = tt
+
 -- a front of what may follow was written behind the text so far
-front_of : (text : List ℕ) (t : Told) (old mid new : Option (List ℕ)) → Appends old mid text → WritesFrontOf (text_of t) mid new → WritesFrontOf (text_of (told_behind text t)) old new
+front_of : (text : List ℕ) (t : Told) (old mid new : Option (List ℕ)) → Appends old mid text → WritesFrontOf (text_of t) mid new
+    → WritesFrontOf (text_of (told_behind text t)) old new
 front_of text t old mid new a w =
     record {
       front = text ++ w.front;
@@ -26,92 +37,160 @@ front_of text t old mid new a w =
     }
 
 -- nothing more was written
-nothing_of : (text : List ℕ) (old : Option (List ℕ)) → WritesFrontOf text old old
-nothing_of text old = record { front = []; back = text; split = refl; writes = appends_nothing old }
-
--- up to a place in the rest
-front_at : (script rest : List ℕ) (stage : Option Stage) (n : ℕ) (old mid new : Option (List ℕ)) → Progress script rest stage n old mid → (x y : List ℕ) (t : Told) → rest ≡ x ++ y → Tells stage n (lines_of x) t → WritesFrontOf (text_of t) mid new → WritesFront script old new
-front_at script rest stage n old mid new p x y t e h w =
-    record {
-      front = p.read ++ x;
-      back = y;
-      split = p.split ∙ (ap (λ xs. p.read ++ xs) e ∙ sym (append_assoc p.read x y));
-      told = told_behind p.text t;
-      tells = p.goes_on x y t e h;
-      writes = front_of p.text t old mid new p.writes w;
-    }
-
--- at the end of what was read, with a front of the files written
-pub finish_front : (script rest : Option (List ℕ)) (stage : Option Stage) (n : ℕ) (old mid new : Option (List ℕ)) → HasTold script rest stage n old mid → WritesFrontOf (files_text stage) mid new → IfSome script (λ s. WritesFront s old new)
-finish_front None rest stage n old mid new h w = tt
-finish_front (Some script) None stage n old mid new h w = absurd h
-finish_front (Some script) (Some rest) stage n old mid new h w =
-    front_at script rest stage n old mid new h [] rest (Whole (files_text stage) n) refl (no_lines stage n) w
-
--- nothing more was written
-pub front_now : (script rest : Option (List ℕ)) (stage : Option Stage) (n : ℕ) (old now : Option (List ℕ)) → HasTold script rest stage n old now → IfSome script (λ s. WritesFront s old now)
-front_now script rest stage n old now h = finish_front script rest stage n old now now h (nothing_of (files_text stage) now)
-
--- all of the rest tells this
-whole_text : (script rest : List ℕ) (stage : Option Stage) (n : ℕ) (old mid new : Option (List ℕ)) (ended : List ℕ → Told) (more : List ℕ) → Progress script rest stage n old mid → ((text : List ℕ) → told_behind text (ended more) ≡ ended (text ++ more)) → Tells stage n (lines_of rest) (ended more) → Appends mid new more → WritesText script ended old new
-whole_text script rest stage n old mid new ended more p same h a =
-    record {
-      text = p.text ++ more;
-      tells = subst (λ (xs : List ℕ). ScriptTells xs (ended (p.text ++ more))) (sym p.split) (subst (ScriptTells (p.read ++ rest)) (same p.text) (p.goes_on rest [] (ended more) (sym (append-nil rest)) h));
-      writes = appends_more old mid new p.text more p.writes a;
-    }
-
--- the script is at its end
-pub end_whole : (script rest after : Option (List ℕ)) (line : List ℕ) (stage : Option Stage) (n : ℕ) (old mid new : Option (List ℕ)) → HasTold script rest stage n old mid → FindsLine found.End rest after line → Appends mid new (files_text stage) → IfSome script (λ s. WritesText s (λ text. Whole text n) old new)
-end_whole None rest after line stage n old mid new h f a = tt
-end_whole (Some script) None after line stage n old mid new h f a = absurd h
-end_whole (Some script) (Some rest) None line stage n old mid new h f a = absurd f
-end_whole (Some script) (Some rest) (Some after) line stage n old mid new h f a =
-    whole_text script rest stage n old mid new (λ text. Whole text n) (files_text stage) h (λ text. refl)
-    (subst (λ (xs : List ℕ). Tells stage n (lines_of xs) (Whole (files_text stage) n)) (sym f.0) (no_lines stage n)) a
-
--- the next line is too long
-pub too_long_refused : (script rest after : Option (List ℕ)) (line : List ℕ) (stage : Option Stage) (n : ℕ) (old now : Option (List ℕ)) → HasTold script rest stage n old now → FindsLine found.TooLong rest after line → IfSome script (λ s. WritesText s (RefusedAt (n + 1)) old now)
-too_long_refused None rest after line stage n old now h f = tt
-too_long_refused (Some script) None after line stage n old now h f = absurd h
-too_long_refused (Some script) (Some rest) None line stage n old now h f = absurd f
-too_long_refused (Some script) (Some rest) (Some after) line stage n old now h f =
-    whole_text script rest stage n old now now (RefusedAt (n + 1)) [] h (λ text. refl) (too_long_told stage n rest f.1) (appends_nothing now)
-
--- the next line is refused
-pub line_refused : (script rest after : Option (List ℕ)) (line : List ℕ) (stage : Option Stage) (n : ℕ) (old mid new : Option (List ℕ)) → HasTold script rest stage n old mid → FindsLine found.Found rest after line → WritesRefused stage line mid new → IfSome script (λ s. WritesText s (RefusedAt (n + 1)) old new)
-line_refused None rest after line stage n old mid new h f w = tt
-line_refused (Some script) None after line stage n old mid new h f w = absurd h
-line_refused (Some script) (Some rest) None line stage n old mid new h f w = absurd f
-line_refused (Some script) (Some rest) (Some after) line stage n old mid new h f w =
-    whole_text script rest stage n old mid new (RefusedAt (n + 1)) w.text h (λ text. refl)
-    (subst (λ (ls : List (List ℕ)). Tells stage n ls (RefusedAt (n + 1) w.text)) (sym f.lines) (refused_told stage n line w.text (lines_of after) w.refused)) w.writes
-
--- a front of what the line printed was written
-line_front_at : (script rest after line : List ℕ) (stage : Option Stage) (n : ℕ) (old mid new : Option (List ℕ)) → Progress script rest stage n old mid → TakesLine rest line after → (t : Told) → Tells stage n (line ∷ []) t → WritesFrontOf (text_of t) mid new → WritesFront script old new
-line_front_at script rest after line stage n old mid new p k t h w =
-    let alone : lines_of (k.taken ++ []) ≡ line ∷ [] = k.fronts [] after refl ∙ ap (λ ls. line ∷ ls) no_lines_of in
-    let split : rest ≡ (k.taken ++ []) ++ after = k.whole ∙ ap (λ xs. xs ++ after) (sym (append-nil k.taken)) in
-    front_at script rest stage n old mid new p (k.taken ++ []) after t split (subst (λ (ls : List (List ℕ)). Tells stage n ls t) (sym alone) h) w
+nothing_of : (text : List ℕ) (old new : Option (List ℕ)) → Appends old new [] → WritesFrontOf text old new
+nothing_of text old new a = record { front = []; back = text; split = refl; writes = a }
 
 -- more text behind leaves a front a front
-front_longer : (text more : List ℕ) (old new : Option (List ℕ)) → WritesFrontOf text old new → WritesFrontOf (text ++ more) old new
-front_longer text more old new w =
-    record { front = w.front; back = w.back ++ more; split = ap (λ xs. xs ++ more) w.split ∙ append_assoc w.front w.back more; writes = w.writes }
+front_longer : (text : List ℕ) (t : Told) (old new : Option (List ℕ)) → WritesFrontOf text old new
+    → WritesFrontOf (text_of (told_behind text t)) old new
+front_longer text t old new w =
+    record {
+      front = w.front;
+      back = w.back ++ text_of t;
+      split = text_behind text t
+          ∙ (ap (λ xs. xs ++ text_of t) w.split ∙ append_assoc w.front w.back (text_of t));
+      writes = w.writes;
+    }
 
-printed_front : (script rest after line : List ℕ) (stage : Option Stage) (n : ℕ) (old mid new : Option (List ℕ)) (text : List ℕ) → Progress script rest stage n old mid → TakesLine rest line after → LinePrints stage line text → WritesFrontOf text mid new → WritesFront script old new
-printed_front script rest after line stage n old mid new text p k prints w =
-    elim prints [
-      | inl d ↦ line_front_at script rest after line stage n old mid new p k (told_behind text (Whole (files_text d.0) (n + 1))) (done_told stage d.0 n line text [] (Whole (files_text d.0) (n + 1)) d.1 (no_line_told d.0 (n + 1))) (front_longer text (files_text d.0) mid new w)
-      | inr d ↦ line_front_at script rest after line stage n old mid new p k (RefusedAt (n + 1) text) (refused_told stage n line text [] d) w
-    ]
+none_after : (x y : List ℕ) → x ++ y ≡ [] → y ≡ []
+none_after [] y e = e
+none_after (b ∷ x) y e = absurd cc
 
-pub line_front : (script rest after : Option (List ℕ)) (line : List ℕ) (stage : Option Stage) (n : ℕ) (old mid new : Option (List ℕ)) → HasTold script rest stage n old mid → FindsLine found.Found rest after line → WritesLineFront stage line mid new → IfSome script (λ s. WritesFront s old new)
-line_front None rest after line stage n old mid new h f w = tt
-line_front (Some script) None after line stage n old mid new h f w = absurd h
-line_front (Some script) (Some rest) None line stage n old mid new h f w = absurd f
-line_front (Some script) (Some rest) (Some after) line stage n old mid new h f w =
-    elim w [
-      | inl a ↦ finish_front (Some script) (Some rest) stage n old mid new h (record { front = []; back = files_text stage; split = refl; writes = a })
-      | inr d ↦ printed_front script rest after line stage n old mid new d.0 h f d.1 d.2
-    ]
+module _ {S : Type 0} (scene : Scene S) where
+  -- what was written is a front of what these bytes tell that were read
+  abbrev pub HasFront : Point S → Option (List ℕ) → Option (List ℕ) → Type 0
+  HasFront from left new = WasRead from.rest left (λ read. WritesFront scene from.stage read from.held new)
+
+  abbrev pub Front : Point S → Option (List ℕ) → List ℕ → List ℕ → Type 0
+  Front from new script left = (read : List ℕ) × (script ≡ read ++ left) × WritesFront scene from.stage read from.held new
+
+  -- this much of the rest was read, and tells this
+  front_at : {script rest : List ℕ} {new : Option (List ℕ)} (from to : Point S) (x left : List ℕ) (t : Told)
+      → Progress scene from to script rest → rest ≡ x ++ left
+      → Tells scene to.stage to.count (lines_of x) t → WritesFrontOf (text_of t) to.held new → Front from new script left
+  front_at {script} {rest} {new} from to x left t p e h w = (
+    p.read ++ x,
+    p.split ∙ (ap (λ xs. p.read ++ xs) e ∙ sym (append_assoc p.read x left)),
+    record {
+      told = told_behind p.text t;
+      tells = p.goes_on x left t e h;
+      writes = front_of p.text t from.held to.held new p.writes w;
+    },
+  )
+
+  -- all of the rest tells this
+  whole_text : {script rest : List ℕ} (from to : Point S) (new : Option (List ℕ)) (ended : List ℕ → Told) (more : List ℕ)
+      → ((text : List ℕ) → told_behind text (ended more) ≡ ended (text ++ more))
+      → Tells scene to.stage to.count (lines_of rest) (ended more) → Appends to.held new more
+      → Progress scene from to script rest → WritesText scene from.stage script ended from.held new
+  whole_text {script} {rest} from to new ended more same h a p =
+      record {
+        text = p.text ++ more;
+        tells = subst (λ (xs : List ℕ). ScriptTells scene from.stage xs (ended (p.text ++ more))) (sym p.split)
+            (subst (ScriptTells scene from.stage (p.read ++ rest)) (same p.text)
+            (p.goes_on rest [] (ended more) (sym (append-nil rest)) h));
+        writes = appends_more from.held to.held new p.text more p.writes a;
+      }
+
+  -- what is known of the script, once the next line is
+  at_line : (from to : Point S) (after : Option (List ℕ)) (Q : List ℕ → List ℕ → Type 0) (R : List ℕ → Type 0)
+      → ((script rest left : List ℕ) → Progress scene from to script rest → Q rest left → R script) → HasTold scene from to
+      → WhereKnown to.rest after Q → IfSome from.rest R
+  at_line from to after Q R both h f =
+      known_first from.rest after R
+      (known_then from.rest to.rest after (λ script rest. Progress scene from to script rest) Q (λ script left. R script) both h f)
+
+  -- the script is at its end
+  pub end_whole : (from to : Point S) (after new : Option (List ℕ)) (line : List ℕ) → HasTold scene from to
+      → FindsLine found.End to.rest after line → Appends to.held new (scene.files to.stage)
+      → IfSome from.rest (λ s. WritesText scene from.stage s (λ text. Whole text to.count) from.held new)
+  end_whole from to after new line h f a =
+      at_line from to after (λ rest left. IsNextLine found.End rest line left)
+      (λ s. WritesText scene from.stage s (λ text. Whole text to.count) from.held new)
+      (λ script rest left p k. whole_text from to new (λ text. Whole text to.count) (scene.files to.stage) (λ text. refl)
+      (subst (λ (xs : List ℕ). Tells scene to.stage to.count (lines_of xs) (Whole (scene.files to.stage) to.count)) (sym k.0)
+      (no_lines scene to.stage to.count)) a p) h f
+
+  -- the next line is too long
+  pub too_long_refused : (from to : Point S) (after : Option (List ℕ)) (line : List ℕ) → HasTold scene from to
+      → FindsLine found.TooLong to.rest after line
+      → IfSome from.rest (λ s. WritesText scene from.stage s (RefusedAt (to.count + 1)) from.held to.held)
+  too_long_refused from to after line h f =
+      at_line from to after (λ rest left. IsNextLine found.TooLong rest line left)
+      (λ s. WritesText scene from.stage s (RefusedAt (to.count + 1)) from.held to.held)
+      (λ script rest left p k. whole_text from to to.held (RefusedAt (to.count + 1)) [] (λ text. refl)
+      (too_long_told scene to.stage to.count rest k.1) (appends_nothing to.held) p) h f
+
+  -- the next line is refused
+  pub line_refused : (from to : Point S) (after new : Option (List ℕ)) (line : List ℕ) → HasTold scene from to
+      → FindsLine found.Found to.rest after line → WritesRefused scene to.stage line to.held new
+      → IfSome from.rest (λ s. WritesText scene from.stage s (RefusedAt (to.count + 1)) from.held new)
+  line_refused from to after new line h f w =
+      at_line from to after (λ rest left. TakesLine rest line left)
+      (λ s. WritesText scene from.stage s (RefusedAt (to.count + 1)) from.held new)
+      (λ script rest left p k. whole_text from to new (RefusedAt (to.count + 1)) w.text (λ text. refl)
+      (subst (λ (ls : List (List ℕ)). Tells scene to.stage to.count ls (RefusedAt (to.count + 1) w.text)) (sym k.lines)
+      (refused_told scene to.stage to.count line w.text (lines_of left) w.refused)) w.writes p) h f
+
+  -- up to a place in the rest
+  at_place : (from to : Point S) (left new : Option (List ℕ)) (Q : List ℕ → List ℕ → Type 0)
+      → ((script rest left : List ℕ) → Progress scene from to script rest → Q rest left → Front from new script left)
+      → HasTold scene from to → WhereKnown to.rest left Q → HasFront from left new
+  at_place from to left new Q both h f =
+      known_then from.rest to.rest left (λ script rest. Progress scene from to script rest) Q (Front from new) both h f
+
+  -- the files, or a front of them, were written at the end
+  pub finish_front : (from to : Point S) (left new : Option (List ℕ)) (pending line : List ℕ) → HasTold scene from to
+      → FindsLine found.End to.rest (prepend_known pending left) line → WritesFrontOf (scene.files to.stage) to.held new
+      → HasFront from left new
+  finish_front from to left new pending line h f w =
+      at_place from to left new (λ rest xs. IsNextLine found.End rest line (pending ++ xs))
+      (λ script rest xs p k. front_at from to [] xs (Whole (scene.files to.stage) to.count) p (k.0
+      ∙ sym (none_after pending xs k.3)) (no_lines scene to.stage to.count) w)
+      h (known_pending to.rest left pending (λ rest xs. IsNextLine found.End rest line xs) f)
+
+  module _ (goes : GoesOn scene) where
+    -- nothing more was written
+    pub nothing_front : (from to : Point S) (left : Option (List ℕ)) → HasTold scene from to → WhereKnown to.rest left IsRead
+        → HasFront from left to.held
+    nothing_front from to left h r =
+        at_place from to left to.held IsRead
+        (λ script rest xs p k.
+        let t = some_told scene goes (lines_of k.0) to.stage to.count in
+        front_at from to k.0 xs t.0 p k.1 t.1 (nothing_of (text_of t.0) to.held to.held (appends_nothing to.held))) h r
+
+    -- what was read of the rest is a line and these bytes
+    line_read : {script rest line : List ℕ} {new : Option (List ℕ)} (from to : Point S) (pending xs : List ℕ)
+        → Progress scene from to script rest
+        → TakesLine rest line (pending ++ xs) → (t : Told) → Tells scene to.stage to.count (line ∷ lines_of pending) t
+        → WritesFrontOf (text_of t) to.held new
+        → Front from new script xs
+    line_read {script} {rest} from to pending xs p k t h w =
+        let split : rest ≡ (k.taken ++ pending) ++ xs = k.whole ∙ sym (append_assoc k.taken pending xs) in
+        front_at from to (k.taken ++ pending) xs t p split
+        (subst (λ (ls : List (List ℕ)). Tells scene to.stage to.count ls t) (sym (k.fronts pending xs refl)) h) w
+
+    printed_read : {script rest line : List ℕ} (from to : Point S) (pending xs : List ℕ) (new : Option (List ℕ))
+        → Progress scene from to script rest
+        → TakesLine rest line (pending ++ xs) → WritesLineFront scene to.stage line to.held new → Front from new script xs
+    printed_read {script} {rest} {line} from to pending xs new p k w =
+        elim w [
+          | inl a ↦ let t = some_told scene goes (line ∷ lines_of pending) to.stage to.count in
+              line_read from to pending xs p k t.0 t.1 (nothing_of (text_of t.0) to.held new a)
+          | inr d ↦ elim d.1 [
+            | inl e ↦ let t = some_told scene goes (lines_of pending) e.0 (to.count + 1) in
+                line_read from to pending xs p k (told_behind d.0 t.0)
+                (done_told scene to.stage e.0 to.count line d.0 (lines_of pending) t.0 e.1 t.1) (front_longer d.0 t.0 to.held new d.2)
+            | inr e ↦ line_read from to pending xs p k (RefusedAt (to.count + 1) d.0)
+                (refused_told scene to.stage to.count line d.0 (lines_of pending) e) d.2
+          ]
+        ]
+
+    -- the next line, or a front of what it printed, was written
+    pub line_front : (from to : Point S) (left new : Option (List ℕ)) (pending line : List ℕ) → HasTold scene from to
+        → FindsLine found.Found to.rest (prepend_known pending left) line → WritesLineFront scene to.stage line to.held new
+        → HasFront from left new
+    line_front from to left new pending line h f w =
+        at_place from to left new (λ rest xs. TakesLine rest line (pending ++ xs))
+        (λ script rest xs p k. printed_read from to pending xs new p k w)
+        h (known_pending to.rest left pending (λ rest xs. TakesLine rest line xs) f)

@@ -1,13 +1,14 @@
 pub mod CutLemmas
-pub mod CommandLemmas
+pub mod FormLemmas
 pub mod LineLemmas
 pub mod PieceLemmas
+pub mod KnownBytes
 pub mod KnownLemmas
 pub mod EntryLemmas
 pub mod Duties
+pub mod PlainLemmas
 pub mod Stepping
 pub mod Writing
-pub mod Ranges
+pub mod Going
 pub mod Telling
 pub mod Endings
-pub mod OneText

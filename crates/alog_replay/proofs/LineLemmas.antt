@@ -1,7 +1,9 @@
 -- The first line of a script, by the bytes that it takes.
-use Rattle.std.proofs.Common.{◌≡◌, ◌≢◌, ◌≤◌, ◌<◌, ℕ, List, [], ◌∷◌, ◌++◌, length, Bool, true, false, cond, eqb, refl, sym, ◌∙◌, ap, arith, append_assoc, length-append}
+use Rattle.std.proofs.Common.{◌≡◌, ◌≢◌, ◌≤◌, ◌<◌, ℕ, List, [], ◌∷◌, ◌++◌, length, Bool, true, false, cond, eqb, refl, sym, ◌∙◌}
+use Rattle.std.proofs.Common.{ap, arith, append_assoc, length-append}
 use Rattle.std.proofs.lemmas.Bool.{eqb-true}
 use Rattle.std.proofs.lemmas.List.{append-nil}
+use Rattle.alog_replay.specs.declared.limits.TheConstants.{LINE_MAX}
 use Rattle.alog_replay.specs.Lines.{lines_of, begin_line, IsUnbroken, TakesLine, BeginsTooLong}
 
 -- a byte that is no newline begins the first line
@@ -45,7 +47,8 @@ begins_first (b ∷ c ∷ w) x h more =
     (p.0, p.1, lines_of-cons b ((c ∷ w) ++ x) h.0 ∙ ap (begin_line b) p.2)
 
 -- a line that its newline ends is taken
-pub takes_ended : (script line after : List ℕ) → IsUnbroken line → script ≡ line ++ 10 ∷ after → length line ≤ 16384 → TakesLine script line after
+pub takes_ended : (script line after : List ℕ) → IsUnbroken line → script ≡ line ++ 10 ∷ after → length line ≤ LINE_MAX
+    → TakesLine script line after
 takes_ended script line after h e fits = record {
   taken = line ++ 10 ∷ [];
   whole = e ∙ sym (append_assoc line (10 ∷ []) after);
@@ -59,7 +62,7 @@ last_fronts line [] y h more p = ap lines_of (append-nil line) ∙ (last_line li
 last_fronts line (b ∷ x) y h more p = absurd cc
 
 -- a last line without a newline is taken
-pub takes_last : (script line : List ℕ) → IsUnbroken line → 0 < length line → script ≡ line → length line ≤ 16384 → TakesLine script line []
+pub takes_last : (script line : List ℕ) → IsUnbroken line → 0 < length line → script ≡ line → length line ≤ LINE_MAX → TakesLine script line []
 takes_last script line h more e fits = record {
   taken = line;
   whole = e ∙ sym (append-nil line);
@@ -69,7 +72,7 @@ takes_last script line h more e fits = record {
 }
 
 -- a first line of more bytes than a line may have
-pub begins_too_long : (script w x : List ℕ) → IsUnbroken w → 16384 < length w → script ≡ w ++ x → BeginsTooLong script
+pub begins_too_long : (script w x : List ℕ) → IsUnbroken w → LINE_MAX < length w → script ≡ w ++ x → BeginsTooLong script
 begins_too_long script w x h over e =
     let p = begins_first w x h (omega arith) in
     (w ++ p.0, p.1, ap lines_of e ∙ p.2, omega (arith, length-append w p.0))

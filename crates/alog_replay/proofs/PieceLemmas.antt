@@ -1,7 +1,9 @@
 -- What lies before the first newline of the pending bytes.
-use Rattle.std.proofs.Common.{◌≡◌, ◌≢◌, ◌≤◌, ◌<◌, ℕ, zero, suc, ◌+◌, ◌-◌, List, [], ◌∷◌, ◌++◌, length, get_or, take, drop, sym, ◌∙◌, ap, subst, arith}
+use Rattle.std.proofs.Common.{◌≡◌, ◌≢◌, ◌≤◌, ◌<◌, ℕ, zero, suc, ◌+◌, ◌-◌, List, [], ◌∷◌, ◌++◌, length, get_or, take, drop, sym}
+use Rattle.std.proofs.Common.{◌∙◌, ap, subst, arith}
 use Rattle.std.proofs.lemmas.List.{take-append-drop, take_all, length-take, length-take-le, drop-take, drop-drop, drop_more}
 use Rattle.std.specs.List.{slice_range}
+use Rattle.alog_replay.specs.declared.limits.TheConstants.{LINE_MAX}
 use Rattle.alog_replay.specs.Lines.{IsUnbroken}
 
 -- bytes of which none is a newline, by their places
@@ -9,11 +11,13 @@ pub unbroken_take : (bytes : List ℕ) (n : ℕ) → n ≤ length bytes → ((k 
 unbroken_take [] zero h before = tt
 unbroken_take [] (suc n) h before = absurd (omega arith)
 unbroken_take (b ∷ bytes) zero h before = tt
-unbroken_take (b ∷ bytes) (suc n) h before = (before 0 (omega arith), unbroken_take bytes n (omega arith) (λ k l. before (suc k) (omega arith)))
+unbroken_take (b ∷ bytes) (suc n) h before =
+    (before 0 (omega arith), unbroken_take bytes n (omega arith) (λ k l. before (suc k) (omega arith)))
 
 -- more bytes than a line may have
-pub too_long : (pending line : List ℕ) (n : ℕ) → n ≤ length pending → ((k : ℕ) → k < n → get_or pending k 0 ≢ 10) → length line ≤ 16384 → 16384 - length line < n
-    → (p : List ℕ) × (q : List ℕ) × (pending ≡ p ++ q) × IsUnbroken p × (16384 < length line + length p)
+pub too_long : (pending line : List ℕ) (n : ℕ) → n ≤ length pending → ((k : ℕ) → k < n → get_or pending k 0 ≢ 10) → length line ≤ LINE_MAX
+    → LINE_MAX - length line < n
+    → (p : List ℕ) × (q : List ℕ) × (pending ≡ p ++ q) × IsUnbroken p × (LINE_MAX < length line + length p)
 too_long pending line n h before fits over =
     let e = length-take-le n pending h in
     (take n pending, drop n pending, sym (take-append-drop n pending), unbroken_take pending n h before, omega (arith, e))
@@ -26,7 +30,8 @@ pub all_taken : (pending : List ℕ) (n : ℕ) → n ≡ length pending → take
 all_taken pending n e = take_all n pending (omega arith)
 
 -- those before it, it, and those after it
-pub ended : (xs : List ℕ) (start end n : ℕ) → start ≤ end → end ≤ length xs → n < length (slice_range xs start end) → get_or (slice_range xs start end) n 0 ≡ 10
+pub ended : (xs : List ℕ) (start end n : ℕ) → start ≤ end → end ≤ length xs → n < length (slice_range xs start end)
+    → get_or (slice_range xs start end) n 0 ≡ 10
     → slice_range xs start end ≡ take n (slice_range xs start end) ++ 10 ∷ slice_range xs (start + (n + 1)) end
 ended xs start end n h fits within newline =
     let s = slice_range xs start end in

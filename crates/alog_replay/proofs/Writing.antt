@@ -1,5 +1,6 @@
 -- What a writer holds after several writes.
-use Rattle.std.proofs.Common.{◌≡◌, ℕ, ◌≤◌, List, [], ◌++◌, length, take, drop, Option, Some, None, refl, sym, ap, ◌∙◌, append_assoc, arith}
+use Rattle.std.proofs.Common.{◌≡◌, ℕ, ◌≤◌, List, [], ◌++◌, length, take, drop, Option, Some, None, refl, sym, ap, ◌∙◌}
+use Rattle.std.proofs.Common.{append_assoc, arith}
 use Rattle.std.proofs.lemmas.List.{append-nil, take-append-drop}
 use Rattle.std.proofs.lemmas.Grind.{common_steps}
 use Rattle.std.specs.Io.KnownBytes.{Appends, Keeps}
@@ -34,16 +35,22 @@ pub record HasWritten (old now : Option (List ℕ)) (bytes rest : List ℕ) : Ty
 pub written_nothing : (old : Option (List ℕ)) (bytes : List ℕ) → HasWritten old old bytes bytes
 written_nothing old bytes = record { front = []; split = refl; written = appends_nothing old }
 
-pub written_more : (old now new : Option (List ℕ)) (bytes rest after : List ℕ) (n : ℕ) → HasWritten old now bytes rest → Appends now new (take n rest) → after ≡ drop n rest → HasWritten old new bytes after
-written_more old now new bytes rest after n h a e =
+pub written_more : {old now : Option (List ℕ)} {bytes rest after : List ℕ} (new : Option (List ℕ)) (n : ℕ) → HasWritten old now bytes rest
+    → Appends now new (take n rest)
+    → after ≡ drop n rest → HasWritten old new bytes after
+written_more {old} {now} {bytes} {rest} {after} new n h a e =
     record {
       front = h.front ++ take n rest;
-      split = h.split ∙ (ap (λ ws. h.front ++ ws) (sym (take-append-drop n rest)) ∙ (sym (append_assoc h.front (take n rest) (drop n rest)) ∙ ap (λ ws. (h.front ++ take n rest) ++ ws) (sym e)));
+      split = h.split
+          ∙ (ap (λ ws. h.front ++ ws) (sym (take-append-drop n rest))
+          ∙ (sym (append_assoc h.front (take n rest) (drop n rest)) ∙ ap (λ ws. (h.front ++ take n rest) ++ ws) (sym e)));
       written = appends_more old now new h.front (take n rest) h.written a;
     }
 
-pub written_kept : (old now new : Option (List ℕ)) (bytes rest after : List ℕ) → HasWritten old now bytes rest → Keeps now new → after ≡ rest → HasWritten old new bytes after
-written_kept old now new bytes rest after h k e =
+pub written_kept : {old now : Option (List ℕ)} {bytes rest after : List ℕ} (new : Option (List ℕ)) → HasWritten old now bytes rest
+    → Keeps now new → after ≡ rest
+    → HasWritten old new bytes after
+written_kept {old} {now} {bytes} {rest} {after} new h k e =
     record { front = h.front; split = h.split ∙ ap (λ ws. h.front ++ ws) (sym e); written = appends_kept old now new h.front h.written k }
 
 pub take_all : (n : ℕ) (xs : List ℕ) → length xs ≤ n → take n xs ≡ xs

@@ -1,57 +1,89 @@
--- How a line of a script spells a command: its name, and after a space its arguments. Numbers are rows of decimal
--- digits, and leading zeros count for nothing.
-use Rattle.std.specs.Prelude.{◌≡◌, ◌≤◌, ◌-◌, ◌^◌, ◌++◌, ℕ, List, [], ◌∷◌, Option, Some, None, codes, unwrap_or}
+-- How a line of a script spells a command: its first word is the name of a row of the table of commands, and what
+-- stands behind that word and a space spells the arguments of that row's form. Numbers are rows of decimal digits, and
+-- leading zeros count for nothing.
+use Rattle.std.specs.Prelude.{◌≡◌, ◌≤◌, ◌-◌, ◌^◌, ◌++◌, ℕ, List, [], ◌∷◌, Option, Some, None, codes, unwrap_or, if◌then◌else◌}
+use Rattle.std.specs.Str.{bytes_eq}
 use Rattle.std.specs.Str.Parse.{IsNumeral, digits_value}
+use Rattle.alog_core.specs.declared.TheConstants.{ACTORS}
+use Rattle.alog_replay.specs.Cut.{tail_of, IsCut}
+use Rattle.alog_replay.specs.declared.limits.TheConstants.{STEPS_MAX}
+use Rattle.alog_replay.specs.declared.command.Act.TheVariants.{Ring, Push, Pop, Work, Cells}
 use Rattle.alog_replay.specs.declared.command.Command.{Command}
-use Rattle.alog_replay.specs.declared.command.Command.TheVariants.{Ring, Push, Pop, Work, Step, Run, Cells}
-
--- what follows a word: a space and the rest, or nothing
-abbrev pub tail_of : Option (List ℕ) → List ℕ
-tail_of None = []
-tail_of (Some rest) = 32 ∷ rest
+use Rattle.alog_replay.specs.declared.command.Command.TheVariants.{Acts, Step, Run}
 
 -- decimal digits of a value from least to most
 abbrev pub SpellsNumber : ℕ → ℕ → List ℕ → ℕ → Type 0
 SpellsNumber least most digits n = IsNumeral 10 digits × (digits_value 10 digits ≡ n) × (least ≤ n) × (n ≤ most)
 
--- an actor is 0 to 63
+-- actors are numbered from 0
 abbrev pub SpellsActor : List ℕ → ℕ → Type 0
-SpellsActor digits actor = SpellsNumber 0 63 digits actor
+SpellsActor digits actor = SpellsNumber 0 (ACTORS - 1) digits actor
 
 -- a size and a ticket are of 64 bits
 abbrev pub SpellsWord64 : List ℕ → ℕ → Type 0
 SpellsWord64 digits n = SpellsNumber 0 (2 ^ 64 - 1) digits n
 
--- a number of steps is 1 to 512, and 1 where none is given
+-- a number of steps is 1 where none is given
 abbrev pub SpellsCount : Option (List ℕ) → ℕ → Type 0
 SpellsCount None count = count ≡ 1
-SpellsCount (Some digits) count = SpellsNumber 1 512 digits count
+SpellsCount (Some digits) count = SpellsNumber 1 STEPS_MAX digits count
 
--- one argument, an actor
-abbrev pub SpellsOnlyActor : Option (List ℕ) → ℕ → Type 0
-SpellsOnlyActor None actor = ⊥
-SpellsOnlyActor (Some digits) actor = SpellsActor digits actor
+-- the forms of arguments
+pub data Form : Type 0 where
+  TwoNumbers : Form
+  ActorAlone : Form
+  ActorAndText : Form
+  ActorAndCount : Form
+  NoArgument : Form
 
--- the name of a command
-abbrev pub name_of : Command → List ℕ
-name_of (Ring _ _) = codes "ring"
-name_of (Push _ _) = codes "push"
-name_of (Pop _) = codes "pop"
-name_of (Work _) = codes "work"
-name_of (Step _ _) = codes "step"
-name_of (Run _) = codes "run"
-name_of Cells = codes "cells"
+-- what arguments of a form say
+abbrev pub Given : Form → Type 0
+Given TwoNumbers = ℕ × ℕ
+Given ActorAlone = ℕ
+Given ActorAndText = ℕ × List ℕ
+Given ActorAndCount = ℕ × ℕ
+Given NoArgument = Unit {0}
 
--- what stands after the name and its space, if anything does, spells the arguments of a command
-abbrev pub SpellsArguments : Option (List ℕ) → Command → Type 0
-SpellsArguments rest (Ring size first) = (a : List ℕ) × (b : List ℕ) × (rest ≡ Some (a ++ 32 ∷ b)) × SpellsWord64 a size × SpellsWord64 b first
-SpellsArguments rest (Push actor text) = (a : List ℕ) × (t : Option (List ℕ)) × (rest ≡ Some (a ++ tail_of t)) × SpellsActor a actor × (text ≡ unwrap_or t [])
-SpellsArguments rest (Pop actor) = SpellsOnlyActor rest actor
-SpellsArguments rest (Work actor) = SpellsOnlyActor rest actor
-SpellsArguments rest (Step actor count) = (a : List ℕ) × (t : Option (List ℕ)) × (rest ≡ Some (a ++ tail_of t)) × SpellsActor a actor × SpellsCount t count
-SpellsArguments rest (Run actor) = SpellsOnlyActor rest actor
-SpellsArguments rest Cells = rest ≡ None
+-- what stands after a command's name and a space, if anything does, spells arguments of a form
+abbrev pub SpellsForm : (form : Form) → Option (List ℕ) → Given form → Type 0
+SpellsForm TwoNumbers rest g =
+    (a : List ℕ) × (b : List ℕ) × (rest ≡ Some (a ++ 32 ∷ b)) × SpellsWord64 a g.0 × SpellsWord64 b g.1
+SpellsForm ActorAlone None g = ⊥
+SpellsForm ActorAlone (Some digits) g = SpellsActor digits g
+SpellsForm ActorAndText rest g =
+    (a : List ℕ) × (t : Option (List ℕ)) × (rest ≡ Some (a ++ tail_of t)) × SpellsActor a g.0 × (g.1 ≡ unwrap_or t [])
+SpellsForm ActorAndCount rest g =
+    (a : List ℕ) × (t : Option (List ℕ)) × (rest ≡ Some (a ++ tail_of t)) × SpellsActor a g.0 × SpellsCount t g.1
+SpellsForm NoArgument rest g = rest ≡ None
+
+-- a row of the table: a command's name, the form of its arguments, and the command that they make
+pub record Row : Type 0 where
+  pub name : List ℕ
+  pub form : Form
+  pub command : Given form → Command
+
+-- the table of commands
+abbrev pub rows : List Row
+rows =
+    record { name = codes "ring"; form = TwoNumbers; command = λ g. Acts (Ring g.0 g.1) }
+    ∷ record { name = codes "push"; form = ActorAndText; command = λ g. Acts (Push g.0 g.1) }
+    ∷ record { name = codes "pop"; form = ActorAlone; command = λ actor. Acts (Pop actor) }
+    ∷ record { name = codes "work"; form = ActorAlone; command = λ actor. Acts (Work actor) }
+    ∷ record { name = codes "cells"; form = NoArgument; command = λ none. Acts Cells }
+    ∷ record { name = codes "step"; form = ActorAndCount; command = λ g. Step g.0 g.1 }
+    ∷ record { name = codes "run"; form = ActorAlone; command = λ actor. Run actor }
+    ∷ []
+
+-- the first row of a name
+unfoldable pub row_named : List Row → List ℕ → Option Row
+row_named [] name = None
+row_named (row ∷ more) name = if bytes_eq row.name name then Some row else row_named more name
+
+-- what stands behind its name spells a row's command
+abbrev pub SpellsRow : Option Row → Option (List ℕ) → Command → Type 0
+SpellsRow None rest command = ⊥
+SpellsRow (Some row) rest command = (g : Given row.form) × SpellsForm row.form rest g × (row.command g ≡ command)
 
 -- a line spells a command
 abbrev pub Spells : List ℕ → Command → Type 0
-Spells line command = (rest : Option (List ℕ)) × (line ≡ name_of command ++ tail_of rest) × SpellsArguments rest command
+Spells line command = (name : List ℕ) × (rest : Option (List ℕ)) × IsCut line name rest × SpellsRow (row_named rows name) rest command

@@ -1,7 +1,11 @@
 -- Where a text is cut: at its first space.
-use Rattle.std.specs.Prelude.{◌≡◌, ◌≢◌, ◌++◌, ℕ, List, Option}
+use Rattle.std.specs.Prelude.{◌≡◌, ◌≢◌, ◌++◌, ℕ, List, [], ◌∷◌, Option, Some, None}
 use Rattle.std.specs.List.{AllByRecursion}
-use Rattle.alog_replay.specs.Command.{tail_of}
+
+-- what follows a word: a space and the rest, or nothing
+abbrev pub tail_of : Option (List ℕ) → List ℕ
+tail_of None = []
+tail_of (Some rest) = 32 ∷ rest
 
 -- a word has no space
 abbrev pub IsWord : List ℕ → Type 0

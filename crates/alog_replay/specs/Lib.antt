@@ -1,9 +1,12 @@
-pub mod Command
+pub mod Known
 pub mod Cut
+pub mod Command
 pub mod Lines
 pub mod LineState
 pub mod Reading
 pub mod Entry
-pub mod Session
+pub mod Scene
 pub mod Script
+pub mod Session
+pub mod Plain
 pub mod Error

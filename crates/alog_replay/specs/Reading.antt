@@ -1,7 +1,9 @@
 -- What the next line of a script is.
-use Rattle.std.specs.Prelude.{◌≡◌, ◌++◌, ◌∷◌, ◌<◌, ◌+◌, ℕ, List, [], Option, Some, None, length, ⊤}
+use Rattle.std.specs.Prelude.{◌≡◌, ◌++◌, ◌∷◌, ◌<◌, ◌+◌, ℕ, List, [], Option, length}
+use Rattle.alog_replay.specs.Known.{WhereKnown}
 use Rattle.alog_replay.specs.Lines.{lines_of, TakesLine, BeginsTooLong, IsUnbroken}
 use Rattle.alog_replay.specs.LineState.{LineState}
+use Rattle.alog_replay.specs.declared.limits.TheConstants.{LINE_MAX}
 use Rattle.alog_replay.specs.declared.lines.Line.{Line}
 use Rattle.alog_replay.specs.declared.lines.Line.TheVariants as next
 use Rattle.alog_replay.specs.declared.lines.Piece.{Piece}
@@ -15,12 +17,11 @@ IsNextLine next.End script line after = (script ≡ []) × (lines_of script ≡ 
 
 -- the same where the bytes of the script are known
 abbrev pub FindsLine : Line → Option (List ℕ) → Option (List ℕ) → List ℕ → Type 0
-FindsLine answer None after line = ⊤
-FindsLine answer (Some script) None line = ⊥
-FindsLine answer (Some script) (Some after) line = IsNextLine answer script line after
+FindsLine answer before after line = WhereKnown before after (λ script rest. IsNextLine answer script line rest)
 
 -- a piece of the pending bytes was moved behind the line
 abbrev pub MovesPiece : Piece → LineState → LineState → Type 0
 MovesPiece piece.Ended old new = (p : List ℕ) × (old.pending ≡ p ++ 10 ∷ new.pending) × (new.line ≡ old.line ++ p) × IsUnbroken p
 MovesPiece piece.Whole old new = (new.pending ≡ []) × (new.line ≡ old.line ++ old.pending) × IsUnbroken old.pending
-MovesPiece piece.TooLong old new = (new ≡ old) × (p : List ℕ) × (q : List ℕ) × (old.pending ≡ p ++ q) × IsUnbroken p × (16384 < length old.line + length p)
+MovesPiece piece.TooLong old new =
+    (new ≡ old) × (p : List ℕ) × (q : List ℕ) × (old.pending ≡ p ++ q) × IsUnbroken p × (LINE_MAX < length old.line + length p)

@@ -1,19 +1,19 @@
 -- A queue under a script: the stepped queue, what its actors owe, and the memory file.
-use Rattle.std.specs.Prelude.{◌≡◌, ◌<◌, ℕ, zero, suc, pos, ◌&&◌, nat_lt, nat_le, Bool, true, false, if◌then◌else◌, Option, None, Some, List, [], ◌∷◌, ◌++◌, length, map, replicate, slice_index_or, slice_set, codes}
+use Rattle.std.specs.Prelude.{ℕ, pos, ◌&&◌, nat_le, Bool, true, false, None, List, [], ◌∷◌, ◌++◌}
+use Rattle.std.specs.Prelude.{length, map, replicate, slice_index_or, slice_set, codes}
 use Rattle.std.specs.Fmt.{decimal}
 use Rattle.std.specs.List.{flat_map}
-use Rattle.alog_core.specs.Queue.{last}
-use Rattle.alog_core.specs.World.{Machine, is_size, is_idle, fresh, round_of, began, stepped, told, shown}
+use Rattle.alog_core.specs.World.{Machine, is_idle, fresh, round_of, began, stepped, told, shown}
+use Rattle.alog_core.specs.declared.TheConstants.{ACTORS}
 use Rattle.alog_core.specs.declared.mark.Mark.{Mark}
 use Rattle.alog_core.specs.declared.mark.Mark.TheVariants as mark
 use Rattle.alog_core.specs.declared.round.Round.TheVariants as round
 use Rattle.alog_core.specs.declared.said.Said.{Said}
 use Rattle.alog_core.specs.declared.said.Said.TheVariants as said
 use Rattle.alog_core.specs.declared.said.CellView.{CellView}
+use Rattle.alog_msg.specs.declared.limits.TheConstants.{DEFAULT_TEXT_LIMIT}
 use Rattle.alog_msg.specs.declared.level.Level.TheVariants.{Info}
 use Rattle.alog_msg.specs.declared.message.Message.{Message}
-use Rattle.alog_replay.specs.declared.command.Command.{Command}
-use Rattle.alog_replay.specs.declared.command.Command.TheVariants as command
 use Rattle.alog_replay.specs.declared.duty.Duty.{Duty}
 use Rattle.alog_replay.specs.declared.duty.Duty.TheVariants.{Free, Works, Owes}
 
@@ -26,7 +26,7 @@ pub record Stage : Type 0 where
 
 -- an empty queue, nobody in a call, and no file
 abbrev pub opened : ℕ → ℕ → Stage
-opened places first = record { world = fresh places first; duties = replicate 64 Free; file = [] }
+opened places first = record { world = fresh places first; duties = replicate ACTORS Free; file = [] }
 
 abbrev pub duty_of : Stage → ℕ → Duty
 duty_of s a = slice_index_or s.duties a Free
@@ -107,44 +107,6 @@ step_text s a = printed_by s a (duty_of s a)
 abbrev pub after_step : Stage → ℕ → Stage
 after_step s a = stage_by s a (duty_of s a)
 
--- A command was carried out, with what it printed and the stage after it; or it was refused, with what had been printed.
-pub data Played : Type 0 where
-  Done : (text : List ℕ) (stage : Stage) → Played
-  Refused : (text : List ℕ) → Played
-
--- the same after these bytes
-abbrev pub behind : List ℕ → Played → Played
-behind text (Done more s) = Done (text ++ more) s
-behind text (Refused more) = Refused (text ++ more)
-
--- a number of steps of an actor
-unfoldable pub steps : ℕ → ℕ → Stage → Played
-steps zero a s = Done [] s
-steps (suc k) a s = if is_free s a then Refused [] else behind (step_text s a) (steps k a (after_step s a))
-
--- steps of an actor until its call has ended, but no more than this number
-unfoldable pub run : ℕ → ℕ → Stage → Played
-run zero a s = Done [] s
-run (suc k) a s = if is_free s a then Done [] s else behind (step_text s a) (run k a (after_step s a))
-
--- what was printed and the stage after it are those of a command that was carried out
-abbrev pub IsDone : Played → List ℕ → List ℕ → Stage → Type 0
-IsDone played before after s = (text : List ℕ) × (played ≡ Done text s) × (after ≡ before ++ text)
-
--- what was printed is that of a command that was refused
-abbrev pub IsRefused : Played → List ℕ → List ℕ → Type 0
-IsRefused played before after = (text : List ℕ) × (played ≡ Refused text) × (after ≡ before ++ text)
-
--- the command's actor is 0 to 63
-abbrev pub IsInRange : Command → Type 0
-IsInRange (command.Ring places first) = Unit {0}
-IsInRange (command.Push a text) = a < 64
-IsInRange (command.Pop a) = a < 64
-IsInRange (command.Work a) = a < 64
-IsInRange (command.Step a count) = a < 64
-IsInRange (command.Run a) = a < 64
-IsInRange command.Cells = Unit {0}
-
 -- the stage with an actor's call begun
 abbrev pub pushing : Stage → ℕ → List ℕ → Stage
 pushing s a text = with_duty (with_world s (began s.world a (round.Push (message_of a text)))) a Free
@@ -154,7 +116,7 @@ popping s a duty = with_duty (with_world s (began s.world a round.Pop)) a duty
 
 -- an actor in no call may push this text
 abbrev pub may_push : Stage → ℕ → List ℕ → Bool
-may_push s a text = is_free s a && nat_le (length text) 2048
+may_push s a text = is_free s a && nat_le (length text) DEFAULT_TEXT_LIMIT
 
 abbrev pub mark_name : Mark → List ℕ
 mark_name mark.Claimed = codes "claimed"
@@ -171,36 +133,7 @@ cells_line cells = codes "cells" ++ (flat_map cell_text cells ++ 10 ∷ [])
 abbrev pub cells_text : Stage → List ℕ
 cells_text s = cells_line (map shown s.world.queue.cells)
 
--- what a command does where the queue is open
-abbrev pub play_open : Stage → Command → Played
-play_open s (command.Ring places first) = Refused []
-play_open s (command.Push a text) =
-    if may_push s a text then Done [] (pushing s a text) else Refused []
-play_open s (command.Pop a) = if is_free s a then Done [] (popping s a Free) else Refused []
-play_open s (command.Work a) = if is_free s a then Done [] (popping s a Works) else Refused []
-play_open s (command.Step a count) = steps count a s
-play_open s (command.Run a) = if is_free s a then Refused [] else run 512 a s
-play_open s command.Cells = Done (cells_text s) s
-
--- before the queue is open, only `ring` is a command
-abbrev pub play_first : Command → Played
-play_first (command.Ring places first) = if is_size places && nat_lt first last then Done [] (opened places first) else Refused []
-play_first (command.Push a text) = Refused []
-play_first (command.Pop a) = Refused []
-play_first (command.Work a) = Refused []
-play_first (command.Step a count) = Refused []
-play_first (command.Run a) = Refused []
-play_first command.Cells = Refused []
-
-abbrev pub play : Option Stage → Command → Played
-play None c = play_first c
-play (Some s) c = play_open s c
-
 -- the memory file as it is printed at the end: nothing where no turn wrote to it
 abbrev pub file_text : List ℕ → List ℕ
 file_text [] = []
 file_text (b ∷ bytes) = codes "== memory memory " ++ (decimal (length (b ∷ bytes)) ++ (10 ∷ b ∷ bytes))
-
-abbrev pub files_text : Option Stage → List ℕ
-files_text None = []
-files_text (Some s) = file_text s.file

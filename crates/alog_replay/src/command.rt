@@ -1,5 +1,6 @@
-ghost use Rattle.std.specs.Prelude.{◌≡◌};
+ghost use Rattle.std.specs.Prelude.{◌≡◌, ◌<◌};
 
+use alog_core::ACTORS;
 use std::marker::Model;
 
 /// A text that is lent. Contracts see it as the list of its bytes.
@@ -30,21 +31,63 @@ impl<'a> TextRef<'a> {
     }
 }
 
+/// An actor. Contracts see it as its number, which is below `ACTORS`.
+#[derive(Clone, Copy, Debug)]
+pub struct Actor {
+    number: u8,
+}
+
+impl Model for Actor {
+    ghost use Rattle.std.specs.Prelude.{ℕ, ◌<◌};
+    ghost use Rattle.alog_core.specs.declared.TheConstants.{ACTORS};
+
+    ghost Value = { ℕ };
+
+    ghost view = { λ a. a.number };
+
+    ghost inverse = { λ n. record { number = n } };
+
+    ghost invariant = { λ a. a.number < ACTORS };
+}
+
+impl Actor {
+    pub fn new(number: u8) -> Actor
+        requires { number < ACTORS }
+        ensures { result ≡ number }
+    {
+        Actor { number }
+    }
+
+    pub fn number(self) -> u8
+        ensures value { result ≡ self }
+        ensures bound { result < ACTORS }
+    {
+        self.number
+    }
+}
+
 /// What a line of a script asks for.
 #[derive(Debug, Drop)]
 pub enum Command<'a> {
+    /// It is done at once, or begins a call.
+    Acts(Act<'a>),
+    /// An actor makes 1 to `STEPS_MAX` steps of its call.
+    Step { actor: Actor, count: u32 },
+    /// An actor makes steps until its call has ended.
+    Run { actor: Actor },
+}
+
+/// What is done at once, and what begins a call.
+#[derive(Debug, Drop)]
+pub enum Act<'a> {
     /// The queue is to have this many places and this first ticket.
     Ring { size: u64, first: u64 },
     /// An actor begins a push of a text.
-    Push { actor: u8, text: TextRef<'a> },
+    Push { actor: Actor, text: TextRef<'a> },
     /// An actor begins a pop.
-    Pop { actor: u8 },
+    Pop { actor: Actor },
     /// An actor begins a pop, whose text then goes to the sinks.
-    Work { actor: u8 },
-    /// An actor makes 1 to 512 steps of its call.
-    Step { actor: u8, count: u32 },
-    /// An actor makes steps until its call has ended.
-    Run { actor: u8 },
+    Work { actor: Actor },
     /// The cells are printed.
     Cells,
 }

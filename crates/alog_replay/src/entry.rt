@@ -1,8 +1,9 @@
 ghost use Rattle.std.specs.Prelude.{◌≡◌, ◌≤◌, ◌↔◌, IsTrue, length};
-ghost use Rattle.alog_replay.specs.Entry.{IsEntry, IsSkipped, OneCommand};
+ghost use Rattle.alog_replay.specs.Entry.{IsEntry, IsSkipped, OneCommand, OneEntry};
 ghost use Rattle.alog_replay.specs.declared.entry.Entry.{Entry};
 
 use crate::command::Command;
+use crate::limits::LINE_MAX;
 use crate::parser::parse;
 use std::str;
 
@@ -18,7 +19,7 @@ pub enum Entry<'a> {
 
 /// What a line of at most `LINE_MAX` bytes is, without its newline.
 pub fn entry_of(line: &[u8]) -> Entry<'_>
-    requires { length line.now ≤ 16384 }
+    requires { length line.now ≤ LINE_MAX }
     ensures { (entry : Entry) → (result ≡ entry) ↔ IsEntry line.now entry }
 {
     let Ok(text) = str::from_utf8(line) else {
@@ -42,4 +43,9 @@ fn is_skipped(line: &str) -> bool
 /// No line spells two commands.
 pub fn one_command()
     ensures { OneCommand }
+{}
+
+/// A line is one thing, and one alone: skipped, a command or refused.
+pub fn one_entry()
+    ensures { OneEntry }
 {}

@@ -1,29 +1,31 @@
 //! Scripts that drive a queue step by step, and what they print.
 //!
 //! `replay` goes from a reader to a writer. Its definition is `specs/Script.antt`: a script tells its whole text, or its
-//! first refused line. Below it a script is lines (`lines.rt`, `specs/Lines.antt`), a line is skipped, refused or a
-//! command (`entry.rt`, `parser.rt`, `specs/Command.antt`), and a command is carried out over a `Session`
-//! (`session.rt`, `specs/Session.antt`): the stepped queue, what its actors owe, and the memory file.
+//! first refused line, on a scene. A `Scene` (`specs/Scene.antt`) says who is free, what an act or a step prints and
+//! which stage follows; the scene of a script without a configuration is `specs/Plain.antt`, over the queue of
+//! `specs/Session.antt`. Above it a script is lines (`specs/Lines.antt`), and a line is skipped, refused or spells a
+//! command (`specs/Entry.antt`, `specs/Command.antt`).
 //!
-//! Read the specs in that order, then `player.rt` from its end. `print.rt` has the texts of steps, cells and files.
+//! Read the specs in that order, then `scene.rt` (the trait of what a script is played on), `player.rt` (which plays on
+//! any such thing, and has `replay` at its end); `plain.rt` and `session.rt` are the queue, `lines.rt` the reader, `parser.rt` and
+//! `entry.rt` the lines, and `print.rt` has the texts of steps, cells and files.
 #![tactic(auto)]
 
-pub mod command;
-pub mod duty;
-pub mod entry;
-pub mod error;
-pub mod lines;
-pub mod parser;
-pub mod player;
-pub mod print;
-pub mod session;
+mod command;
+mod duty;
+mod entry;
+mod error;
+mod limits;
+mod lines;
+mod parser;
+mod plain;
+mod player;
+mod print;
+mod scene;
+mod session;
 #[cfg(test)]
 mod tests;
 
-pub use command::{Command, TextRef};
-pub use entry::{Entry, entry_of, one_command};
-pub use error::{LineError, ReplayError};
-pub use lines::{LINE_MAX, Line, LineReader, READS_MAX, ReadFault};
-pub use parser::parse;
-pub use player::{one_text, replay};
-pub use session::Session;
+pub use entry::{one_command, one_entry};
+pub use error::ReplayError;
+pub use player::{one_text, replay, tells_one_thing, tells_something};

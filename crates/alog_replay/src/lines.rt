@@ -1,21 +1,13 @@
-ghost use Rattle.std.specs.Prelude.{◌≡◌, ◌≢◌, ◌≤◌, ◌<◌, ◌^◌, ℕ, [], IfOk, OnOk, OnErr, length, slice_index, ◌==◌, if◌then◌else◌};
+ghost use Rattle.std.specs.Prelude.{◌≡◌, ◌≢◌, ◌≤◌, ◌<◌, ◌-◌, ℕ, [], IfOk, OnOk, OnErr, length, slice_index, ◌==◌, if◌then◌else◌};
 ghost use Rattle.std.specs.Io.KnownBytes.{Consumes, IsAtEnd};
 ghost use Rattle.alog_replay.specs.LineState.{rest_of, work_left};
 ghost use Rattle.alog_replay.specs.Lines.{IsUnbroken};
 
+use crate::limits::{CHUNK, LINE_MAX, READS_MAX};
 use std::alloc::{AllocError, Global};
 use std::io::{ErrorKind, Read};
 use std::marker::Model;
 use thiserror::Error;
-
-/// The most bytes that a line of a script has, its newline not counted.
-pub const LINE_MAX: usize = 16_384;
-
-// The bytes that one read asks for.
-const CHUNK: usize = 8192;
-
-/// How often a reader is read at most.
-pub const READS_MAX: u64 = 1 << 32;
 
 /// The reader failed, or was not at its end after `READS_MAX` reads.
 #[derive(Clone, Copy, Debug, PartialEq, Eq, Error)]
@@ -68,12 +60,14 @@ pub struct LineReader {
 impl Model for LineReader {
     ghost use Rattle.std.specs.Prelude.{◌≡◌, ◌≤◌, slice_range, vec_len, vec_capacity};
     ghost use Rattle.alog_replay.specs.LineState.{LineState};
+    ghost use Rattle.alog_replay.specs.declared.limits.TheConstants.{CHUNK, LINE_MAX};
 
     ghost Value = { LineState };
 
     ghost view = { λ r. record { line = r.line.items; pending = slice_range r.chunk.items r.start r.end; reads_left = r.reads_left } };
 
-    ghost invariant = { λ r. (r.start ≤ r.end) × (r.end ≤ vec_len r.chunk) × (vec_len r.chunk ≡ 8192) × (vec_len r.line ≤ 16384) × (16384 ≤ vec_capacity r.line) };
+    ghost invariant = { λ r. (r.start ≤ r.end) × (r.end ≤ vec_len r.chunk) × (vec_len r.chunk ≡ CHUNK)
+        × (vec_len r.line ≤ LINE_MAX) × (LINE_MAX ≤ vec_capacity r.line) };
 }
 
 impl LineReader {
@@ -81,7 +75,7 @@ impl LineReader {
 
     /// A reader at the start of a script.
     pub fn new(alloc: Global) -> Result<LineReader, AllocError>
-        ensures { IfOk result (λ r. r ≡ record { line = []; pending = []; reads_left = 2 ^ 32 }) }
+        ensures { IfOk result (λ r. r ≡ record { line = []; pending = []; reads_left = READS_MAX }) }
     {
         Ok(LineReader {
             line: Vec::with_capacity(alloc, LINE_MAX)?,
@@ -95,7 +89,7 @@ impl LineReader {
     /// The line that was found last, without its newline.
     pub fn line(&self) -> &[u8]
         ensures value { result.now ≡ self.now.line }
-        ensures fits { length result.now ≤ 16384 }
+        ensures fits { length result.now ≤ LINE_MAX }
     {
         self.line.as_slice()
     }
@@ -146,7 +140,7 @@ impl LineReader {
     fn take_piece(&mut self) -> Piece
         ensures piece { MovesPiece result self.old self.new }
         ensures reads { self.new.reads_left ≡ self.old.reads_left }
-        ensures fits { length self.new.line ≤ 16384 }
+        ensures fits { length self.new.line ≤ LINE_MAX }
     {
         let pending = &self.chunk[self.start..self.end];
         let len = unbroken_len(pending);
@@ -163,12 +157,13 @@ impl LineReader {
         }
     }
 
-    // Reads once, where no byte is pending.
+    // Reads once, where no byte is pending. That costs one of the reads that are left; where none is left, it is a fault.
     fn fill<R: Read>(&mut self, reader: &mut R) -> Result<Fill, ReadFault>
         requires { self.old.pending ≡ [] }
         ensures line { self.new.line ≡ self.old.line }
-        ensures fewer { OnOk result (self.new.reads_left < self.old.reads_left) }
-        ensures bound { length self.new.pending ≤ 8192 }
+        ensures cost { self.new.reads_left ≡ self.old.reads_left - 1 }
+        ensures left { OnOk result (0 < self.old.reads_left) }
+        ensures bound { length self.new.pending ≤ CHUNK }
         ensures rest { Consumes (rest_of self.old (R.remaining reader.old)) (rest_of self.new (R.remaining reader.new)) [] }
         ensures end { IfOk result (λ fill. fill ≡ Fill.End → IsAtEnd (rest_of self.new (R.remaining reader.new))) }
     {

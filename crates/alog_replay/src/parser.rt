@@ -1,14 +1,18 @@
-ghost use Rattle.std.specs.Prelude.{◌≡◌, ◌≤◌, ◌↔◌, ℕ, IfSome, [], codes, unwrap_or};
+//! How a line is read as a command.
+ghost use Rattle.std.specs.Prelude.{◌≡◌, ◌≤◌, ◌↔◌, ℕ, List, IfSome, [], unwrap_or};
 ghost use Rattle.std.specs.Option.{option_copied};
-ghost use Rattle.alog_replay.specs.Command.{SpellsNumber, SpellsActor, SpellsOnlyActor, SpellsCount, SpellsArguments, Spells, name_of};
+ghost use Rattle.alog_replay.specs.Command.{SpellsNumber, SpellsActor, SpellsCount, SpellsForm, Spells};
+ghost use Rattle.alog_replay.specs.Command.{TwoNumbers, ActorAlone, ActorAndText, ActorAndCount, NoArgument};
 ghost use Rattle.alog_replay.specs.Cut.{IsCut};
 ghost use Rattle.alog_replay.specs.declared.command.Command.{Command};
 
-use crate::command::{Command, TextRef};
+use crate::command::{Act, Actor, Command, TextRef};
+use crate::limits::STEPS_MAX;
+use alog_core::ACTORS;
 
-const ACTOR_MAX: u64 = 63;
+const ACTOR_MAX: u64 = ACTORS as u64 - 1;
 
-const COUNT_MAX: u64 = 512;
+const COUNT_MAX: u64 = STEPS_MAX as u64;
 
 /// The command that a line spells, without its newline.
 pub fn parse(line: &str) -> Option<Command<'_>>
@@ -16,13 +20,34 @@ pub fn parse(line: &str) -> Option<Command<'_>>
 {
     let (name, rest) = cut(line);
     match name {
-        "ring" => ring(rest),
-        "push" => push(rest),
-        "pop" => pop(rest),
-        "work" => work(rest),
-        "step" => step(rest),
-        "run" => run(rest),
-        "cells" => cells(rest),
+        "ring" => {
+            let (size, first) = two_numbers(rest)?;
+            Some(Command::Acts(Act::Ring { size, first }))
+        }
+        "push" => {
+            let (actor, text) = actor_and_text(rest)?;
+            Some(Command::Acts(Act::Push { actor, text }))
+        }
+        "pop" => {
+            let actor = actor_alone(rest)?;
+            Some(Command::Acts(Act::Pop { actor }))
+        }
+        "work" => {
+            let actor = actor_alone(rest)?;
+            Some(Command::Acts(Act::Work { actor }))
+        }
+        "cells" => {
+            no_argument(rest)?;
+            Some(Command::Acts(Act::Cells))
+        }
+        "step" => {
+            let (actor, count) = actor_and_count(rest)?;
+            Some(Command::Step { actor, count })
+        }
+        "run" => {
+            let actor = actor_alone(rest)?;
+            Some(Command::Run { actor })
+        }
         _ => None,
     }
 }
@@ -50,20 +75,11 @@ fn number(word: &str, least: u64, most: u64) -> Option<u64>
     }
 }
 
-fn actor(word: &str) -> Option<u8>
+fn actor(word: &str) -> Option<Actor>
     ensures { (n : ℕ) → (result ≡ Some n) ↔ SpellsActor word.now n }
 {
     let n = number(word, 0, ACTOR_MAX)?;
-    Some(n as u8)
-}
-
-fn only_actor(rest: Option<&str>) -> Option<u8>
-    ensures { (n : ℕ) → (result ≡ Some n) ↔ SpellsOnlyActor (option_copied rest.entry) n }
-{
-    match rest {
-        Some(word) => actor(word),
-        None => None,
-    }
+    Some(Actor::new(n as u8))
 }
 
 fn count(word: Option<&str>) -> Option<u32>
@@ -78,24 +94,31 @@ fn count(word: Option<&str>) -> Option<u32>
     }
 }
 
-fn ring(rest: Option<&str>) -> Option<Command<'_>>
-    ensures { (command : Command) → (result ≡ Some command)
-        ↔ ((name_of command ≡ codes "ring") × SpellsArguments (option_copied rest.entry) command) }
+fn two_numbers(rest: Option<&str>) -> Option<(u64, u64)>
+    ensures { (given : ℕ × ℕ) → (result ≡ Some given) ↔ SpellsForm TwoNumbers (option_copied rest.entry) given }
 {
-    let (size, first) = cut(rest?);
-    let size = number(size, 0, u64::MAX)?;
-    let first = number(first?, 0, u64::MAX)?;
-    Some(Command::Ring { size, first })
+    let (first, second) = cut(rest?);
+    let first = number(first, 0, u64::MAX)?;
+    let second = number(second?, 0, u64::MAX)?;
+    Some((first, second))
 }
 
-fn push(rest: Option<&str>) -> Option<Command<'_>>
-    ensures { (command : Command) → (result ≡ Some command)
-        ↔ ((name_of command ≡ codes "push") × SpellsArguments (option_copied rest.entry) command) }
+fn actor_alone(rest: Option<&str>) -> Option<Actor>
+    ensures { (given : ℕ) → (result ≡ Some given) ↔ SpellsForm ActorAlone (option_copied rest.entry) given }
+{
+    match rest {
+        Some(word) => actor(word),
+        None => None,
+    }
+}
+
+fn actor_and_text(rest: Option<&str>) -> Option<(Actor, TextRef<'_>)>
+    ensures { (given : ℕ × List ℕ) → (result ≡ Some given) ↔ SpellsForm ActorAndText (option_copied rest.entry) given }
 {
     let (word, text) = cut(rest?);
     let actor = actor(word)?;
     let text = text_or_empty(text);
-    Some(Command::Push { actor, text })
+    Some((actor, text))
 }
 
 fn text_or_empty(rest: Option<&str>) -> TextRef<'_>
@@ -107,46 +130,20 @@ fn text_or_empty(rest: Option<&str>) -> TextRef<'_>
     }
 }
 
-fn pop(rest: Option<&str>) -> Option<Command<'_>>
-    ensures { (command : Command) → (result ≡ Some command)
-        ↔ ((name_of command ≡ codes "pop") × SpellsArguments (option_copied rest.entry) command) }
-{
-    let actor = only_actor(rest)?;
-    Some(Command::Pop { actor })
-}
-
-fn work(rest: Option<&str>) -> Option<Command<'_>>
-    ensures { (command : Command) → (result ≡ Some command)
-        ↔ ((name_of command ≡ codes "work") × SpellsArguments (option_copied rest.entry) command) }
-{
-    let actor = only_actor(rest)?;
-    Some(Command::Work { actor })
-}
-
-fn step(rest: Option<&str>) -> Option<Command<'_>>
-    ensures { (command : Command) → (result ≡ Some command)
-        ↔ ((name_of command ≡ codes "step") × SpellsArguments (option_copied rest.entry) command) }
+fn actor_and_count(rest: Option<&str>) -> Option<(Actor, u32)>
+    ensures { (given : ℕ × ℕ) → (result ≡ Some given) ↔ SpellsForm ActorAndCount (option_copied rest.entry) given }
 {
     let (word, rest) = cut(rest?);
     let actor = actor(word)?;
     let count = count(rest)?;
-    Some(Command::Step { actor, count })
+    Some((actor, count))
 }
 
-fn run(rest: Option<&str>) -> Option<Command<'_>>
-    ensures { (command : Command) → (result ≡ Some command)
-        ↔ ((name_of command ≡ codes "run") × SpellsArguments (option_copied rest.entry) command) }
-{
-    let actor = only_actor(rest)?;
-    Some(Command::Run { actor })
-}
-
-fn cells(rest: Option<&str>) -> Option<Command<'_>>
-    ensures { (command : Command) → (result ≡ Some command)
-        ↔ ((name_of command ≡ codes "cells") × SpellsArguments (option_copied rest.entry) command) }
+fn no_argument(rest: Option<&str>) -> Option<()>
+    ensures { (given : Unit {0}) → (result ≡ Some given) ↔ SpellsForm NoArgument (option_copied rest.entry) given }
 {
     match rest {
         Some(_) => None,
-        None => Some(Command::Cells),
+        None => Some(()),
     }
 }

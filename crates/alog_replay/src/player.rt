@@ -1,55 +1,103 @@
-//! The replay of a script, from a reader to a writer.
-ghost use Rattle.std.specs.Prelude.{◌≡◌, ◌+◌, ◌++◌, ◌<◌, ◌≤◌, ℕ, List, [], Some, None, IfOk, IfErr, IfSome, OnOk, OnErr, IsErrOf, length, string_bytes};
+//! The replay of a script, from a reader to a writer, on anything that is `Playable`.
+ghost use Rattle.std.specs.Prelude.{◌≡◌, ◌+◌, ◌++◌, ◌<◌, ◌≤◌, ℕ, List, [], Some, None, length, string_bytes};
+ghost use Rattle.std.specs.Prelude.{IfOk, IfErr, IfSome, OnOk, OnErr, IsErrOf};
 ghost use Rattle.std.specs.Io.KnownBytes.{Appends};
-ghost use Rattle.alog_replay.specs.Entry.{IsEntry};
-ghost use Rattle.alog_replay.specs.Session.{Stage, IsDone, IsRefused, IsInRange, Done, Refused, play, files_text};
-ghost use Rattle.alog_replay.specs.Script.{Whole, RefusedAt, LineDone, LineRefused, WritesLine, WritesRefused, WritesLineFront, WritesFrontOf, IsNoRefusal, WritesText, WritesFront, OneText};
-ghost use Rattle.alog_replay.specs.declared.entry.Entry.{Entry};
+ghost use Rattle.alog_replay.specs.Scene.{IsDone, IsRefused, Makes, Runs, Plays, refused};
+ghost use Rattle.alog_replay.specs.Script.{Whole, RefusedAt, LineDone, LineRefused, WritesLine, WritesRefused, WritesLineFront};
+ghost use Rattle.alog_replay.specs.Script.{WritesFrontOf, IsNoRefusal, WritesText, WritesFront, WasRead, TellsOneThing, TellsSomething};
+ghost use Rattle.alog_replay.specs.Plain.{plain, OneText};
 
-use crate::command::Command;
+use crate::command::{Actor, Command};
 use crate::entry::{Entry, entry_of};
 use crate::error::{LineError, ReplayError};
+use crate::limits::{LINE_MAX, STEPS_MAX};
 use crate::lines::{Line, LineReader};
-use crate::print::print_file;
+use crate::scene::Playable;
 use crate::session::Session;
-use std::alloc::{AllocError, Global};
+use std::alloc::Global;
 use std::io::{ErrorKind, Read, Write};
 
-/// Opens the queue by the first command of a script.
-fn open(alloc: Global, command: &Command<'_>) -> Result<Session, LineError>
-    ensures opened { IfOk result (λ s. play None command.now ≡ Done [] s) }
-    ensures refused { IsErrOf result LineError.Refused → play None command.now ≡ Refused [] }
+/// An actor makes this many steps.
+fn make_steps<S: Playable>(
+    stage: &mut S,
+    actor: Actor,
+    count: u32,
+    out: &mut String,
+) -> Result<(), LineError>
+    ensures done { OnOk result (IsDone (Makes S.scene refused count actor stage.old)
+        (string_bytes out.old) (string_bytes out.new) stage.new) }
+    ensures refused { IsErrOf result LineError.Refused → IsRefused (Makes S.scene refused count actor stage.old)
+        (string_bytes out.old) (string_bytes out.new) }
 {
-    match command {
-        Command::Ring { size, first } => Session::open(alloc, *size, *first),
-        _ => Err(LineError::Refused),
+    for _ in 0..count {
+        stage.step(actor, out)?;
     }
+    Ok(())
+}
+
+/// An actor in a call makes steps until its call has ended, but no more than `STEPS_MAX`.
+fn run<S: Playable>(stage: &mut S, actor: Actor, out: &mut String) -> Result<(), LineError>
+    ensures done { OnOk result (IsDone (Runs S.scene actor stage.old)
+        (string_bytes out.old) (string_bytes out.new) stage.new) }
+    ensures refused { IsErrOf result LineError.Refused → IsRefused (Runs S.scene actor stage.old)
+        (string_bytes out.old) (string_bytes out.new) }
+{
+    if stage.is_free(actor) {
+        return Err(LineError::Refused);
+    }
+    for _ in 0..STEPS_MAX {
+        if stage.is_free(actor) {
+            break;
+        }
+        stage.step(actor, out)?;
+    }
+    Ok(())
 }
 
 /// Carries out a command, and prints what it prints behind `out`.
-fn carry_out(
+fn carry_out<S: Playable>(
     alloc: Global,
-    session: &mut Option<Session>,
+    stage: &mut S,
     command: Command<'_>,
     out: &mut String,
 ) -> Result<(), LineError>
-    requires { IsInRange command }
-    ensures done { OnOk result ((s : Stage) × (session.new ≡ Some s) × IsDone (play session.old command.entry) (string_bytes out.old) (string_bytes out.new) s) }
-    ensures refused { IsErrOf result LineError.Refused → IsRefused (play session.old command.entry) (string_bytes out.old) (string_bytes out.new) }
+    ensures done { OnOk result (IsDone (Plays S.scene stage.old command.entry)
+        (string_bytes out.old) (string_bytes out.new) stage.new) }
+    ensures refused { IsErrOf result LineError.Refused → IsRefused (Plays S.scene stage.old command.entry)
+        (string_bytes out.old) (string_bytes out.new) }
 {
-    match session {
-        Some(session) => session.play(alloc, command, out),
-        None => {
-            *session = Some(open(alloc, &command)?);
-            Ok(())
-        }
+    match command {
+        Command::Acts(act) => stage.act(alloc, act, out),
+        Command::Step { actor, count } => make_steps(stage, actor, count, out),
+        Command::Run { actor } => run(stage, actor, out),
+    }
+}
+
+/// Plays a line, and prints what it prints behind `out`.
+fn play_line<S: Playable>(
+    alloc: Global,
+    stage: &mut S,
+    line: &[u8],
+    out: &mut String,
+) -> Result<(), LineError>
+    requires { length line.now ≤ LINE_MAX }
+    ensures done { OnOk result (LineDone S.scene stage.old line.now
+        (string_bytes out.old) (string_bytes out.new) stage.new) }
+    ensures refused { IsErrOf result LineError.Refused → LineRefused S.scene stage.old line.now
+        (string_bytes out.old) (string_bytes out.new) }
+{
+    match entry_of(line) {
+        Entry::Skipped => Ok(()),
+        Entry::Does(command) => carry_out(alloc, stage, command, out),
+        Entry::Refused => Err(LineError::Refused),
     }
 }
 
 /// Writes all these bytes, or a front of them.
 fn write_whole<W: Write>(writer: &mut W, bytes: &[u8]) -> Result<(), ReplayError>
     ensures whole { OnOk result (Appends (W.contents writer.old) (W.contents writer.new) bytes.now) }
-    ensures front { IfErr result (λ e. (e ≡ ReplayError.WriteFault) × ((front : List ℕ) × (back : List ℕ) × (bytes.now ≡ front ++ back) × Appends (W.contents writer.old) (W.contents writer.new) front)) }
+    ensures front { IfErr result (λ e. (e ≡ ReplayError.WriteFault)
+        × WritesFrontOf bytes.now (W.contents writer.old) (W.contents writer.new)) }
 {
     let mut rest = bytes;
     for _ in 0..u64::MAX {
@@ -66,51 +114,23 @@ fn write_whole<W: Write>(writer: &mut W, bytes: &[u8]) -> Result<(), ReplayError
     Err(ReplayError::WriteFault)
 }
 
-/// Plays a line, and prints what it prints behind `out`.
-fn play_line(
-    alloc: Global,
-    session: &mut Option<Session>,
-    line: &[u8],
-    out: &mut String,
-) -> Result<(), LineError>
-    requires { length line.now ≤ 16384 }
-    ensures done { OnOk result (LineDone session.old line.now (string_bytes out.old) (string_bytes out.new) session.new) }
-    ensures refused { IsErrOf result LineError.Refused → LineRefused session.old line.now (string_bytes out.old) (string_bytes out.new) }
-{
-    match entry_of(line) {
-        Entry::Skipped => Ok(()),
-        Entry::Does(command) => carry_out(alloc, session, command, out),
-        Entry::Refused => Err(LineError::Refused),
-    }
-}
-
-/// Prints the files at the end of a script.
-fn print_files(session: &Option<Session>, out: &mut String) -> Result<(), AllocError>
-    ensures { OnOk result (string_bytes out.new ≡ string_bytes out.old ++ files_text session.now) }
-{
-    match session {
-        Some(session) => print_file(out, session.file()),
-        None => Ok(()),
-    }
-}
-
 /// Plays a line, which is the one of this number, and writes what it prints.
-fn play_and_write<W: Write>(
+fn play_and_write<S: Playable, W: Write>(
     alloc: Global,
-    session: &mut Option<Session>,
+    stage: &mut S,
     line: &[u8],
     number: u64,
     writer: &mut W,
     out: &mut String,
 ) -> Result<(), ReplayError>
-    requires { length line.now ≤ 16384 }
-    ensures done { OnOk result (WritesLine session.old line.now session.new (W.contents writer.old) (W.contents writer.new)) }
+    requires { length line.now ≤ LINE_MAX }
+    ensures done { OnOk result (WritesLine S.scene stage.old line.now stage.new (W.contents writer.old) (W.contents writer.new)) }
     ensures refused { IfErr result (λ e. (k : ℕ) → e ≡ ReplayError.LineRefused k → (k ≡ number)
-        × WritesRefused session.old line.now (W.contents writer.old) (W.contents writer.new)) }
-    ensures front { OnErr result (WritesLineFront session.old line.now (W.contents writer.old) (W.contents writer.new)) }
+        × WritesRefused S.scene stage.old line.now (W.contents writer.old) (W.contents writer.new)) }
+    ensures front { OnErr result (WritesLineFront S.scene stage.old line.now (W.contents writer.old) (W.contents writer.new)) }
 {
     out.clear();
-    match play_line(alloc, session, line, out) {
+    match play_line(alloc, stage, line, out) {
         Ok(()) => write_whole(writer, out.as_bytes()),
         Err(LineError::Refused) => {
             write_whole(writer, out.as_bytes())?;
@@ -121,16 +141,17 @@ fn play_and_write<W: Write>(
 }
 
 /// Writes the files at the end of a script.
-fn finish<W: Write>(
-    session: &Option<Session>,
+fn finish<S: Playable, W: Write>(
+    stage: &S,
     writer: &mut W,
     out: &mut String,
 ) -> Result<(), ReplayError>
-    ensures done { OnOk result (Appends (W.contents writer.old) (W.contents writer.new) (files_text session.now)) }
-    ensures front { IfErr result (λ e. IsNoRefusal e × WritesFrontOf (files_text session.now) (W.contents writer.old) (W.contents writer.new)) }
+    ensures done { OnOk result (Appends (W.contents writer.old) (W.contents writer.new) (S.scene.files stage.now)) }
+    ensures front { IfErr result (λ e. IsNoRefusal e
+        × WritesFrontOf (S.scene.files stage.now) (W.contents writer.old) (W.contents writer.new)) }
 {
     out.clear();
-    print_files(session, out)?;
+    stage.print_files(out)?;
     write_whole(writer, out.as_bytes())?;
     match writer.flush() {
         Ok(()) => Ok(()),
@@ -138,25 +159,21 @@ fn finish<W: Write>(
     }
 }
 
-/// Replays the script that a reader gives, and writes what it prints. It answers the number of the script's lines.
-///
-/// Where the reader tells its bytes and the writer what it holds, what is written is the text of the script as
-/// `specs/Script.antt` defines it, and nothing else. A refused line is the first one, and what was printed before it,
-/// and of it, is written. After any other fault what is written is a front of what a front of the script tells.
-pub fn replay<R: Read, W: Write>(
+/// Plays the script that a reader gives, and writes what it prints. It answers the number of the script's lines.
+pub fn play<S: Playable, R: Read, W: Write>(
     alloc: Global,
+    stage: &mut S,
     reader: &mut R,
     writer: &mut W,
 ) -> Result<u64, ReplayError>
     ensures whole { IfOk result (λ n. IfSome (R.remaining reader.old) (λ script.
-        WritesText script (λ text. Whole text n) (W.contents writer.old) (W.contents writer.new))) }
+        WritesText S.scene stage.old script (λ text. Whole text n) (W.contents writer.old) (W.contents writer.new))) }
     ensures refused { IfErr result (λ e. (line : ℕ) → e ≡ ReplayError.LineRefused line → IfSome (R.remaining reader.old) (λ script.
-        WritesText script (RefusedAt line) (W.contents writer.old) (W.contents writer.new))) }
-    ensures front { OnErr result (IfSome (R.remaining reader.old) (λ script.
-        WritesFront script (W.contents writer.old) (W.contents writer.new))) }
+        WritesText S.scene stage.old script (RefusedAt line) (W.contents writer.old) (W.contents writer.new))) }
+    ensures front { OnErr result (WasRead (R.remaining reader.old) (R.remaining reader.new) (λ read.
+        WritesFront S.scene stage.old read (W.contents writer.old) (W.contents writer.new))) }
 {
     let mut lines = LineReader::new(alloc)?;
-    let mut session = None;
     let mut out = String::new(alloc);
     let mut count = 0u64;
     'lines: loop {
@@ -164,17 +181,51 @@ pub fn replay<R: Read, W: Write>(
             Line::Found => {}
             Line::TooLong => return Err(ReplayError::LineRefused { line: count + 1 }),
             Line::End => {
-                finish(&session, writer, &mut out)?;
+                finish(stage, writer, &mut out)?;
                 return Ok(count);
             }
         }
         count += 1;
-        play_and_write(alloc, &mut session, lines.line(), count, writer, &mut out)?;
+        play_and_write(alloc, stage, lines.line(), count, writer, &mut out)?;
     }
 }
 
-/// What a script tells is determined: its whole text, or its first refused line with what was printed before. It does
-/// nothing: its contract is the law.
+/// Replays the script that a reader gives, and writes what it prints. It answers the number of the script's lines.
+///
+/// Where the reader tells its bytes and the writer what it holds, what is written is the text of the script as
+/// `specs/Script.antt` defines it, and nothing else. A refused line is the first one, and what was printed before it,
+/// and of it, is written. After any fault what is written is a front of what those bytes tell that were read.
+///
+/// The test `scripts_and_what_they_print` (`src/tests.rt`) shows calls, and `examples/` has scripts.
+pub fn replay<R: Read, W: Write>(
+    alloc: Global,
+    reader: &mut R,
+    writer: &mut W,
+) -> Result<u64, ReplayError>
+    ensures whole { IfOk result (λ n. IfSome (R.remaining reader.old) (λ script.
+        WritesText plain None script (λ text. Whole text n) (W.contents writer.old) (W.contents writer.new))) }
+    ensures refused { IfErr result (λ e. (line : ℕ) → e ≡ ReplayError.LineRefused line → IfSome (R.remaining reader.old) (λ script.
+        WritesText plain None script (RefusedAt line) (W.contents writer.old) (W.contents writer.new))) }
+    ensures front { OnErr result (WasRead (R.remaining reader.old) (R.remaining reader.new) (λ read.
+        WritesFront plain None read (W.contents writer.old) (W.contents writer.new))) }
+{
+    let mut session: Option<Session> = None;
+    play(alloc, &mut session, reader, writer)
+}
+
+/// Each script tells something on a scene where something comes of each act and of each step. It does nothing: its
+/// contract is the law.
+pub fn tells_something<S: Playable>()
+    ensures { TellsSomething S.scene }
+{}
+
+/// A script tells one thing alone, its whole text or its first refused line with what was printed before, on a scene
+/// where one thing alone comes of each act and of each step.
+pub fn tells_one_thing<S: Playable>()
+    ensures { TellsOneThing S.scene }
+{}
+
+/// A script without a configuration tells one thing, and one alone.
 pub fn one_text()
     ensures { OneText }
 {}

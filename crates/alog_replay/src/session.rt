@@ -1,26 +1,24 @@
 //! A queue under a script: the stepped queue, what its actors owe, and the memory file.
-ghost use Rattle.std.specs.Prelude.{◌≡◌, ◌<◌, ◌↔◌, ◌++◌, true, false, nat_lt, ◌&&◌, IfOk, IfErr, IsErr, OnOk, IsErrOf, string_bytes};
+ghost use Rattle.std.specs.Prelude.{◌≡◌, ◌↔◌, ◌++◌, true, false, nat_lt, ◌&&◌, Some};
+ghost use Rattle.std.specs.Prelude.{IfOk, IfErr, IsErr, OnOk, IsErrOf, string_bytes};
 ghost use Rattle.alog_core.specs.Queue.{last};
 ghost use Rattle.alog_core.specs.World.{is_size, is_idle, round_of, told, stepped};
 ghost use Rattle.alog_core.specs.declared.said.Said.{Said};
 ghost use Rattle.alog_msg.specs.declared.message.Message.{Message};
-ghost use Rattle.alog_replay.specs.Session.{opened, is_free, may_push, pushing, popping, duty_of, with_duty, with_world, said_text, work_after, step_text, after_step, steps, run, play_open, IsDone, IsRefused, IsInRange};
+ghost use Rattle.alog_replay.specs.Session.{opened, is_free, may_push, pushing, popping, duty_of, with_duty, with_world};
+ghost use Rattle.alog_replay.specs.Session.{said_text, work_after, step_text, after_step, cells_text};
+ghost use Rattle.alog_replay.specs.Scene.{Prints};
+ghost use Rattle.alog_replay.specs.Plain.{plain};
 
-use crate::command::Command;
+use crate::command::{Act, Actor};
 use crate::duty::Duty;
 use crate::error::LineError;
 use crate::print::{print_cells, print_said, print_turn};
 use alog_core::{ACTORS, Said, World};
-use alog_msg::{Level, Message, Text};
-use std::alloc::Global;
+use alog_msg::{DEFAULT_TEXT_LIMIT, Level, Message, Text};
+use std::alloc::{AllocError, Global};
 use std::marker::Model;
 use std::mem;
-
-/// The most bytes that a pushed text has.
-pub const TEXT_LIMIT: usize = 2048;
-
-/// The most steps that one `run` makes.
-const STEPS_MAX: u32 = 512;
 
 /// Contracts see it as the `Stage` of `specs/Session.antt`.
 #[derive(Drop)]
@@ -32,13 +30,14 @@ pub struct Session {
 
 impl Model for Session {
     ghost use Rattle.std.specs.Prelude.{◌≡◌, length, string_bytes};
+    ghost use Rattle.alog_core.specs.declared.TheConstants.{ACTORS};
     ghost use Rattle.alog_replay.specs.Session.{Stage};
 
     ghost Value = { Stage };
 
     ghost view = { λ s. record { world = s.world; duties = s.duties.items; file = string_bytes s.file } };
 
-    ghost invariant = { λ s. length s.duties.items ≡ 64 };
+    ghost invariant = { λ s. length s.duties.items ≡ ACTORS };
 }
 
 impl Session {
@@ -60,34 +59,40 @@ impl Session {
         })
     }
 
-    /// Whether an actor, 0 to 63, is in no call.
-    pub fn is_free(&self, actor: u8) -> bool
-        requires { actor < 64 }
+    /// Whether an actor is in no call.
+    pub fn is_free(&self, actor: Actor) -> bool
         ensures { result ≡ is_free self.now actor }
     {
-        let owes = matches!(self.duties[actor as usize], Duty::Owes { .. });
-        self.world.is_idle(u32::from(actor)) && !owes
+        let owes = matches!(self.duties[usize::from(actor.number())], Duty::Owes { .. });
+        self.world.is_idle(u32::from(actor.number())) && !owes
     }
 
-    /// An actor, 0 to 63, begins a push of a text of at most 2,048 bytes.
-    pub fn push(&mut self, alloc: Global, actor: u8, text: &str) -> Result<(), LineError>
-        requires { actor < 64 }
+    /// An actor begins a push of a text of at most `DEFAULT_TEXT_LIMIT` bytes.
+    pub fn push(&mut self, alloc: Global, actor: Actor, text: &str) -> Result<(), LineError>
         ensures begun { OnOk result (self.new ≡ pushing self.old actor text.now) }
         ensures refused { IsErrOf result LineError.Refused ↔ (may_push self.old actor text.now ≡ false) }
     {
-        if !(self.is_free(actor) && text.len() <= TEXT_LIMIT) {
+        if !(self.is_free(actor) && text.len() <= DEFAULT_TEXT_LIMIT) {
             return Err(LineError::Refused);
         }
-        let thread = u64::from(actor);
-        let message = Message::new(alloc, TEXT_LIMIT, 0, Level::Info, 0, thread, text, None)?;
-        self.world.begin_push(u32::from(actor), message)?;
+        let thread = u64::from(actor.number());
+        let message = Message::new(
+            alloc,
+            DEFAULT_TEXT_LIMIT,
+            0,
+            Level::Info,
+            0,
+            thread,
+            text,
+            None,
+        )?;
+        self.world.begin_push(u32::from(actor.number()), message)?;
         self.owe(actor, Duty::Free);
         Ok(())
     }
 
-    /// An actor, 0 to 63, begins a pop, as a worker or not.
-    pub fn pop(&mut self, actor: u8, duty: Duty) -> Result<(), LineError>
-        requires { actor < 64 }
+    /// An actor begins a pop, as a worker or not.
+    pub fn pop(&mut self, actor: Actor, duty: Duty) -> Result<(), LineError>
         ensures begun { OnOk result (self.new ≡ popping self.old actor duty) }
         ensures refused { IsErr result ↔ (is_free self.old actor ≡ false) }
         ensures cause { IfErr result (λ e. e ≡ LineError.Refused) }
@@ -95,14 +100,13 @@ impl Session {
         if !self.is_free(actor) {
             return Err(LineError::Refused);
         }
-        self.world.begin_pop(u32::from(actor))?;
+        self.world.begin_pop(u32::from(actor.number()))?;
         self.owe(actor, duty);
         Ok(())
     }
 
-    /// An actor, 0 to 63, makes the next step of its call, which is printed.
-    pub fn step(&mut self, actor: u8, out: &mut String) -> Result<(), LineError>
-        requires { actor < 64 }
+    /// An actor makes the next step of its call, which is printed.
+    pub fn step(&mut self, actor: Actor, out: &mut String) -> Result<(), LineError>
         ensures stepped { OnOk result (self.new ≡ after_step self.old actor) }
         ensures printed { OnOk result (string_bytes out.new ≡ string_bytes out.old ++ step_text self.old actor) }
         ensures refused { IsErrOf result LineError.Refused ↔ (is_free self.old actor ≡ true) }
@@ -124,62 +128,33 @@ impl Session {
             Duty::Owes { ticket, text } => {
                 self.file.push_str(text.as_str())?;
                 self.file.push_str("\n")?;
-                Ok(print_turn(out, actor, ticket)?)
+                Ok(print_turn(out, actor.number(), ticket)?)
             }
         }
     }
 
-    /// An actor, 0 to 63, makes this many steps.
-    fn steps(&mut self, actor: u8, count: u32, out: &mut String) -> Result<(), LineError>
-        requires { actor < 64 }
-        ensures done { OnOk result (IsDone (steps count actor self.old) (string_bytes out.old) (string_bytes out.new) self.new) }
-        ensures refused { IsErrOf result LineError.Refused → IsRefused (steps count actor self.old) (string_bytes out.old) (string_bytes out.new) }
+    /// Carries out an act where the queue is open.
+    pub fn act(&mut self, alloc: Global, act: Act<'_>, out: &mut String) -> Result<(), LineError>
+        ensures done { OnOk result (Prints (string_bytes out.old) (string_bytes out.new)
+            (λ text. plain.Does (Some self.old) act.entry text (Some self.new))) }
+        ensures refused { IsErrOf result LineError.Refused ↔ (plain.may_do (Some self.old) act.entry ≡ false) }
+        ensures same { IsErrOf result LineError.Refused → string_bytes out.new ≡ string_bytes out.old }
     {
-        for _ in 0..count {
-            self.step(actor, out)?;
+        match act {
+            Act::Ring { .. } => Err(LineError::Refused),
+            Act::Push { actor, text } => self.push(alloc, actor, text.as_str()),
+            Act::Pop { actor } => self.pop(actor, Duty::Free),
+            Act::Work { actor } => self.pop(actor, Duty::Works),
+            Act::Cells => Ok(self.print_cells(alloc, out)?),
         }
-        Ok(())
     }
 
-    /// An actor, 0 to 63, makes steps until its call has ended, but no more than `STEPS_MAX`.
-    fn run(&mut self, actor: u8, out: &mut String) -> Result<(), LineError>
-        requires { actor < 64 }
-        ensures done { OnOk result (IsDone (run 512 actor self.old) (string_bytes out.old) (string_bytes out.new) self.new) }
-        ensures cause { IfErr result (λ e. e ≡ LineError.OutOfMemory) }
+    /// Prints the cells.
+    fn print_cells(&self, alloc: Global, out: &mut String) -> Result<(), AllocError>
+        ensures { OnOk result (string_bytes out.new ≡ string_bytes out.old ++ cells_text self.now) }
     {
-        for _ in 0..STEPS_MAX {
-            if self.is_free(actor) {
-                return Ok(());
-            }
-            self.step(actor, out)?;
-        }
-        Ok(())
-    }
-
-    /// Carries out a command where the queue is open, and prints what it prints behind `out`.
-    pub fn play(
-        &mut self,
-        alloc: Global,
-        command: Command<'_>,
-        out: &mut String,
-    ) -> Result<(), LineError>
-        requires { IsInRange command }
-        ensures done { OnOk result (IsDone (play_open self.old command.entry) (string_bytes out.old) (string_bytes out.new) self.new) }
-        ensures refused { IsErrOf result LineError.Refused → IsRefused (play_open self.old command.entry) (string_bytes out.old) (string_bytes out.new) }
-    {
-        match command {
-            Command::Ring { .. } => Err(LineError::Refused),
-            Command::Push { actor, text } => self.push(alloc, actor, text.as_str()),
-            Command::Pop { actor } => self.pop(actor, Duty::Free),
-            Command::Work { actor } => self.pop(actor, Duty::Works),
-            Command::Step { actor, count } => self.steps(actor, count, out),
-            Command::Run { actor } if self.is_free(actor) => Err(LineError::Refused),
-            Command::Run { actor } => self.run(actor, out),
-            Command::Cells => {
-                let cells = self.world.cells(alloc)?;
-                Ok(print_cells(out, &cells)?)
-            }
-        }
+        let cells = self.world.cells(alloc)?;
+        print_cells(out, &cells)
     }
 
     /// The bytes of the memory file.
@@ -190,33 +165,30 @@ impl Session {
     }
 
     /// What the actor owes, which it then owes no more.
-    fn take_duty(&mut self, actor: u8) -> Duty
-        requires { actor < 64 }
+    fn take_duty(&mut self, actor: Actor) -> Duty
         ensures duty { result ≡ duty_of self.old actor }
         ensures after { self.new ≡ with_duty self.old actor Duty.Free }
     {
-        mem::replace(&mut self.duties[actor as usize], Duty::Free)
+        mem::replace(&mut self.duties[usize::from(actor.number())], Duty::Free)
     }
 
     /// The actor owes this from now on.
-    fn owe(&mut self, actor: u8, duty: Duty)
-        requires { actor < 64 }
+    fn owe(&mut self, actor: Actor, duty: Duty)
         ensures { self.new ≡ with_duty self.old actor duty }
     {
-        self.duties[actor as usize] = duty;
+        self.duties[usize::from(actor.number())] = duty;
     }
 
     /// The next step of a round.
-    fn advance(&mut self, actor: u8, out: &mut String) -> Result<Said<Message>, LineError>
-        requires actor { actor < 64 }
+    fn advance(&mut self, actor: Actor, out: &mut String) -> Result<Said<Message>, LineError>
         requires in_call { is_idle (round_of self.old.world actor) ≡ false }
         ensures said { IfOk result (λ said. said ≡ told self.old.world actor) }
         ensures stepped { OnOk result (self.new ≡ with_world self.old (stepped self.old.world actor)) }
         ensures printed { OnOk result (string_bytes out.new ≡ string_bytes out.old ++ said_text actor (told self.old.world actor)) }
         ensures cause { IfErr result (λ e. e ≡ LineError.OutOfMemory) }
     {
-        let said = self.world.step(u32::from(actor))?;
-        print_said(out, actor, &said)?;
+        let said = self.world.step(u32::from(actor.number()))?;
+        print_said(out, actor.number(), &said)?;
         Ok(said)
     }
 }

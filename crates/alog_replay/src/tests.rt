@@ -1,7 +1,15 @@
-use crate::{Command, Entry, LINE_MAX, Line, LineReader, ReadFault, entry_of, one_command, parse};
+use crate::command::{Act, Actor, Command};
+use crate::entry::{Entry, entry_of};
+use crate::error::LineError;
+use crate::limits::LINE_MAX;
+use crate::lines::{Line, LineReader, ReadFault};
+use crate::parser::parse;
+use crate::player::play;
+use crate::scene::Playable;
+use crate::{ReplayError, one_command, one_entry, one_text, replay};
 use std::alloc::{AllocError, Global};
 use std::io;
-use std::io::{Error, ErrorKind, Read};
+use std::io::{Error, ErrorKind, Read, Write};
 use std::process::Abort;
 use std::test::Fail;
 
@@ -115,16 +123,8 @@ fn lines_at_their_limit(rt: HostRuntime) -> Result<(), Fail> {
     Ok(())
 }
 
-fn spells_push(line: &str, text: &str) -> bool {
-    match parse(line) {
-        Some(
-            Command::Push {
-                actor: 1,
-                text: found,
-            },
-        ) => found.as_str() == text,
-        _ => false,
-    }
+fn spells_push(line: &str, wanted: &str) -> bool {
+    matches!(&parse(line), Some(Command::Acts(Act::Push { actor, text })) if actor.number() == 1 && text.as_str() == wanted)
 }
 
 #[test]
@@ -138,38 +138,31 @@ fn texts_of_a_push(rt: HostRuntime) {
     assert!(rt; !spells_push("push  1", ""));
 }
 
+fn spells_ring(line: &str, places: u64, ticket: u64) -> bool {
+    matches!(&parse(line), Some(Command::Acts(Act::Ring { size, first })) if *size == places && *first == ticket)
+}
+
+fn spells_steps(line: &str, steps: u32) -> bool {
+    matches!(&parse(line), Some(Command::Step { actor, count }) if actor.number() == 1 && *count == steps)
+}
+
 #[test]
 fn commands(rt: HostRuntime) {
+    assert!(rt; spells_ring("ring 4 5", 4, 5));
+    assert!(rt; spells_ring("ring 18446744073709551615 00", u64::MAX, 0));
     assert!(rt;
-        matches!(
-            &parse("ring 4 5"),
-            Some(Command::Ring { size: 4, first: 5 })
-        )
+        matches!(&parse("pop 63"), Some(Command::Acts(Act::Pop { actor })) if actor.number() == 63)
     );
     assert!(rt;
-        matches!(
-            &parse("ring 18446744073709551615 00"),
-            Some(Command::Ring {
-                size: u64::MAX,
-                first: 0
-            })
-        )
+        matches!(&parse("work 0"), Some(Command::Acts(Act::Work { actor })) if actor.number() == 0)
     );
-    assert!(rt; matches!(&parse("pop 63"), Some(Command::Pop { actor: 63 })));
-    assert!(rt; matches!(&parse("work 0"), Some(Command::Work { actor: 0 })));
-    assert!(rt; matches!(&parse("step 1"), Some(Command::Step { actor: 1, count: 1 })));
-    assert!(rt;
-        matches!(
-            &parse("step 1 512"),
-            Some(Command::Step {
-                actor: 1,
-                count: 512
-            })
-        )
-    );
-    assert!(rt; matches!(&parse("run 7"), Some(Command::Run { actor: 7 })));
-    assert!(rt; matches!(&parse("cells"), Some(Command::Cells)));
+    assert!(rt; matches!(&parse("run 7"), Some(Command::Run { actor }) if actor.number() == 7));
+    assert!(rt; matches!(&parse("cells"), Some(Command::Acts(Act::Cells))));
+    assert!(rt; spells_steps("step 1", 1));
+    assert!(rt; spells_steps("step 1 512", 512));
     one_command();
+    one_entry();
+    one_text();
 }
 
 fn is_refused(line: &str) -> bool {
@@ -215,5 +208,138 @@ fn entries(rt: HostRuntime) {
     assert!(rt; matches!(&entry_of(b"\r"), Entry::Refused));
     assert!(rt; matches!(&entry_of(b"#\xff"), Entry::Refused));
     assert!(rt; matches!(&entry_of(b"push 1 \xff"), Entry::Refused));
-    assert!(rt; matches!(&entry_of(b"cells"), Entry::Does(Command::Cells)));
+    assert!(rt; matches!(&entry_of(b"cells"), Entry::Does(Command::Acts(Act::Cells))));
+}
+
+// A writer that is interrupted before each byte, and whose flush may fail.
+#[derive(Drop)]
+struct Slow {
+    taken: Vec<u8>,
+    interrupted: bool,
+    flush_fails: bool,
+}
+
+impl Write for Slow {
+    fn write(&mut self, buf: &[u8]) -> io::Result<usize> {
+        self.interrupted = !self.interrupted;
+        if self.interrupted {
+            return Err(Error::from(ErrorKind::Interrupted));
+        }
+        match buf {
+            [first, ..] => {
+                self.taken.push(*first)?;
+                Ok(1)
+            }
+            [] => Ok(0),
+        }
+    }
+
+    fn flush(&mut self) -> io::Result<()> {
+        if self.flush_fails {
+            return Err(Error::from(ErrorKind::BrokenPipe));
+        }
+        Ok(())
+    }
+}
+
+const SCRIPT: &str = "ring 2 0\npush 1 a\nrun 1\nwork 2\nrun 2\n";
+
+const STEPS: &str = "1 claim 0\n1 write 0\n2 grab 0\n2 take 0 a\n2 line 0 memory\n";
+
+const PRINTED: &str =
+    "1 claim 0\n1 write 0\n2 grab 0\n2 take 0 a\n2 line 0 memory\n== memory memory 2\na\n";
+
+#[test]
+fn scripts_and_what_they_print(rt: HostRuntime) {
+    let mut out = Vec::new(rt.alloc());
+    assert_eq!(rt; replay(rt.alloc(), &mut SCRIPT.as_bytes(), &mut out), Ok(5));
+    assert!(rt; out.as_slice() == PRINTED.as_bytes());
+
+    let mut out = Vec::new(rt.alloc());
+    let mut script = b"ring 2 0\npush 1 a\nstep 1 6\n".as_slice();
+    let refused = Err(ReplayError::LineRefused { line: 3 });
+    assert_eq!(rt; replay(rt.alloc(), &mut script, &mut out), refused);
+    assert!(rt; out.as_slice() == b"1 claim 0\n1 write 0\n".as_slice());
+}
+
+#[test]
+fn interrupted_writes_and_a_flush_that_fails(rt: HostRuntime) {
+    for flush_fails in [false, true] {
+        let mut writer = Slow {
+            taken: Vec::new(rt.alloc()),
+            interrupted: false,
+            flush_fails,
+        };
+        let found = replay(rt.alloc(), &mut SCRIPT.as_bytes(), &mut writer);
+        let wanted = if flush_fails {
+            Err(ReplayError::WriteFault)
+        } else {
+            Ok(5)
+        };
+        assert_eq!(rt; found, wanted);
+        assert!(rt; writer.taken.as_slice() == PRINTED.as_bytes());
+    }
+}
+
+#[test]
+fn no_files_at_a_read_fault(rt: HostRuntime) {
+    let mut out = Vec::new(rt.alloc());
+    let found = replay(rt.alloc(), &mut Fails(SCRIPT.as_bytes()), &mut out);
+    assert_eq!(rt; found, Err(ReplayError::ReadFault));
+    assert!(rt; out.as_slice() == STEPS.as_bytes());
+}
+
+// A scene without memory: none for its files, and for its acts only where this is said.
+#[derive(Drop)]
+struct Poor {
+    acts: bool,
+}
+
+impl Playable for Poor {
+    ghost use Rattle.std.specs.Prelude.{◌≡◌, [], true, refl};
+
+    ghost scene = { record {
+      is_free = λ s actor. true;
+      may_do = λ s act. true;
+      Does = λ s act text next. (text ≡ []) × (next ≡ s);
+      Steps = λ s actor text next. (text ≡ []) × (next ≡ s);
+      files = λ s. [];
+    } };
+
+    fn is_free(&self, _actor: Actor) -> bool {
+        true
+    }
+
+    fn act(&mut self, _alloc: Global, _act: Act<'_>, _out: &mut String) -> Result<(), LineError> {
+        if self.acts {
+            Ok(())
+        } else {
+            Err(LineError::OutOfMemory)
+        }
+    }
+
+    fn step(&mut self, _actor: Actor, _out: &mut String) -> Result<(), LineError> {
+        Err(LineError::Refused)
+    }
+
+    fn print_files(&self, _out: &mut String) -> Result<(), AllocError> {
+        Err(AllocError)
+    }
+
+    ghost goes_on = { record { does = λ s act h. ([], s, (refl, refl)); steps = λ s actor h. ([], s, (refl, refl)) } };
+}
+
+#[test]
+fn want_of_memory(rt: HostRuntime) {
+    for acts in [false, true] {
+        let mut out = Vec::new(rt.alloc());
+        let found = play(
+            rt.alloc(),
+            &mut Poor { acts },
+            &mut b"cells\n".as_slice(),
+            &mut out,
+        );
+        assert_eq!(rt; found, Err(ReplayError::OutOfMemory));
+        assert!(rt; out.is_empty());
+    }
 }

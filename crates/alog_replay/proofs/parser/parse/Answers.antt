@@ -1,31 +1,80 @@
 use Rattle.std.proofs.Common.{refl}
-use Rattle.alog_replay.proofs.CutLemmas.{none_of}
-use Rattle.alog_replay.proofs.CommandLemmas.{by_name, line_spells, unnamed}
+use Rattle.std.proofs.lemmas.Option.{none-some}
+use Rattle.alog_replay.specs.Command.{row_named}
+use Rattle.alog_replay.proofs.EntryLemmas.{by_row, by_no_row, by_none_given, no_row}
 use Rattle.alog_replay.proofs.parser.parse.Goals as goal
 
-pub returns-in-ring : goal.returns-in-ring
-returns-in-ring c = by_name _ _ _ _ _ c.cut.ensures c.in-ring.is c.ring.ensures
+pub returns-in_err-size-in-ring : goal.returns-in_err-size-in-ring
+unfolding row_named
+returns-in_err-size-in-ring c =
+    by_none_given _ _ c.cut.ensures c.in-ring.is refl c.from_residual.ensures (λ g h. none-some _ ((c.in_err-size-in-ring.ensures g).1 h))
 
-pub returns-in-push : goal.returns-in-push
-returns-in-push c = by_name _ _ _ _ _ c.cut.ensures c.in-push.is c.push.ensures
+pub returns-in_ok-size-in-ring : goal.returns-in_ok-size-in-ring
+unfolding row_named
+returns-in_ok-size-in-ring c = by_row _ _ _ c.cut.ensures c.in-ring.is refl ((c.in_ok-size-in-ring.ensures _).0 refl)
 
-pub returns-in-pop : goal.returns-in-pop
-returns-in-pop c = by_name _ _ _ _ _ c.cut.ensures c.in-pop.is c.pop.ensures
+pub returns-in_err-actor-in-push : goal.returns-in_err-actor-in-push
+unfolding row_named
+returns-in_err-actor-in-push c =
+    by_none_given _ _ c.cut.ensures c.in-push.is refl c.from_residual-in_err-actor-in-push.ensures
+    (λ g h. none-some _ ((c.in_err-actor-in-push.ensures g).1 h))
 
-pub returns-in-work : goal.returns-in-work
-returns-in-work c = by_name _ _ _ _ _ c.cut.ensures c.in-work.is c.work.ensures
+pub returns-in_ok-actor-in-push : goal.returns-in_ok-actor-in-push
+unfolding row_named
+returns-in_ok-actor-in-push c = by_row _ _ _ c.cut.ensures c.in-push.is refl ((c.in_ok-actor-in-push.ensures _).0 refl)
 
-pub returns-in-step : goal.returns-in-step
-returns-in-step c = by_name _ _ _ _ _ c.cut.ensures c.in-step.is c.step.ensures
+pub returns-in_err-actor-in-pop : goal.returns-in_err-actor-in-pop
+unfolding row_named
+returns-in_err-actor-in-pop c =
+    by_none_given _ _ c.cut.ensures c.in-pop.is refl c.from_residual-in_err-actor-in-pop.ensures
+    (λ g h. none-some _ ((c.in_err-actor-in-pop.ensures g).1 h))
 
-pub returns-in-run : goal.returns-in-run
-returns-in-run c = by_name _ _ _ _ _ c.cut.ensures c.in-run.is c.run.ensures
+pub returns-in_ok-actor-in-pop : goal.returns-in_ok-actor-in-pop
+unfolding row_named
+returns-in_ok-actor-in-pop c = by_row _ _ _ c.cut.ensures c.in-pop.is refl ((c.in_ok-actor-in-pop.ensures _).0 refl)
 
-pub returns-in-cells : goal.returns-in-cells
-returns-in-cells c = by_name _ _ _ _ _ c.cut.ensures c.in-cells.is c.cells.ensures
+pub returns-in_err-actor-in-work : goal.returns-in_err-actor-in-work
+unfolding row_named
+returns-in_err-actor-in-work c =
+    by_none_given _ _ c.cut.ensures c.in-work.is refl c.from_residual-in_err-actor-in-work.ensures
+    (λ g h. none-some _ ((c.in_err-actor-in-work.ensures g).1 h))
+
+pub returns-in_ok-actor-in-work : goal.returns-in_ok-actor-in-work
+unfolding row_named
+returns-in_ok-actor-in-work c = by_row _ _ _ c.cut.ensures c.in-work.is refl ((c.in_ok-actor-in-work.ensures _).0 refl)
+
+pub returns-in_err-no_argument-in-cells : goal.returns-in_err-no_argument-in-cells
+unfolding row_named
+returns-in_err-no_argument-in-cells c =
+    by_none_given _ _ c.cut.ensures c.in-cells.is refl c.from_residual-in_err-no_argument-in-cells.ensures
+    (λ g h. none-some _ ((c.in_err-no_argument-in-cells.ensures g).1 h))
+
+pub returns-in_ok-no_argument-in-cells : goal.returns-in_ok-no_argument-in-cells
+unfolding row_named
+returns-in_ok-no_argument-in-cells c = by_row _ _ _ c.cut.ensures c.in-cells.is refl ((c.in_ok-no_argument-in-cells.ensures _).0 refl)
+
+pub returns-in_err-actor-in-step : goal.returns-in_err-actor-in-step
+unfolding row_named
+returns-in_err-actor-in-step c =
+    by_none_given _ _ c.cut.ensures c.in-step.is refl c.from_residual-in_err-actor-in-step.ensures
+    (λ g h. none-some _ ((c.in_err-actor-in-step.ensures g).1 h))
+
+pub returns-in_ok-actor-in-step : goal.returns-in_ok-actor-in-step
+unfolding row_named
+returns-in_ok-actor-in-step c = by_row _ _ _ c.cut.ensures c.in-step.is refl ((c.in_ok-actor-in-step.ensures _).0 refl)
+
+pub returns-in_err-actor-in-run : goal.returns-in_err-actor-in-run
+unfolding row_named
+returns-in_err-actor-in-run c =
+    by_none_given _ _ c.cut.ensures c.in-run.is refl c.from_residual-in_err-actor-in-run.ensures
+    (λ g h. none-some _ ((c.in_err-actor-in-run.ensures g).1 h))
+
+pub returns-in_ok-actor-in-run : goal.returns-in_ok-actor-in-run
+unfolding row_named
+returns-in_ok-actor-in-run c = by_row _ _ _ c.cut.ensures c.in-run.is refl ((c.in_ok-actor-in-run.ensures _).0 refl)
 
 pub returns-in_default : goal.returns-in_default
-returns-in_default c = none_of _ _ refl (λ command s.
-    let h = (line_spells _ _ _ command c.cut.ensures).1 s in
+returns-in_default c =
     let d = c.in_default in
-    unnamed _ d.not-ring d.not-push d.not-pop d.not-work d.not-step d.not-run d.not-cells command h.0)
+    by_no_row _ _ _ c.cut.ensures refl
+    (no_row _ _ (d.not-ring, (d.not-push, (d.not-pop, (d.not-work, (d.not-cells, (d.not-step, (d.not-run, tt))))))))

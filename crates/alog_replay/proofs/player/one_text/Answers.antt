@@ -1,5 +1,10 @@
-use Rattle.alog_replay.proofs.OneText.{one_text_lem}
+use Rattle.std.proofs.Common.{None}
+use Rattle.alog_replay.specs.Plain.{plain, plain_goes_on}
+use Rattle.alog_replay.proofs.PlainLemmas.{plain_is_certain}
+use Rattle.alog_replay.proofs.Going.{some_script, one_script}
 use Rattle.alog_replay.proofs.player.one_text.Goals as goal
 
 pub returns : goal.returns
-returns c = one_text_lem
+returns c script =
+    let t = some_script plain plain_goes_on None script in
+    (t.0, t.1, λ u h. one_script plain plain_is_certain None script t.0 u t.1 h)

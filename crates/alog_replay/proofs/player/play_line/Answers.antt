@@ -1,6 +1,8 @@
 use Rattle.alog_replay.specs.declared.entry.Entry.TheVariants.{Does}
-use Rattle.alog_replay.proofs.Ranges.{in_range}
+use Rattle.alog_replay.proofs.Endings.{on_ok_too}
 use Rattle.alog_replay.proofs.player.play_line.Goals as goal
 
-pub carry_out-requires : goal.carry_out-requires
-carry_out-requires c = in_range c.args.line.now c.in-Does.command ((c.entry_of.ensures (Does c.in-Does.command)).0 c.in-Does.is).1
+pub returns-in-Does-clause-done : goal.returns-in-Does-clause-done
+returns-in-Does-clause-done g c =
+    on_ok_too c.carry_out.result (λ d. (Does c.in-Does.command, (c.entry_of.ensures (Does c.in-Does.command)).0 c.in-Does.is, d))
+    c.carry_out.ensures.done

@@ -7,11 +7,13 @@ use Rattle.alog_replay.proofs.lines.LineReader.next_line.Goals as goal
 
 pub returns-in-Ended-clause-found : goal.returns-in-Ended-clause-found
 returns-in-Ended-clause-found g c =
-    finds_ended _ (g.R.Read.remaining c.loop-self.reader) c.loop-self.self c.take_piece.new.self c.loop-self.invariant.0 c.loop-self.invariant.1 c.in-Ended.ensures.piece c.in-Ended.ensures.fits
+    finds_ended _ (g.R.Read.remaining c.loop-self.reader) c.loop-self.self c.take_piece.new.self c.loop-self.invariant.0
+    c.loop-self.invariant.1 c.in-Ended.ensures.piece c.in-Ended.ensures.fits
 
 pub returns-in-TooLong-clause-found : goal.returns-in-TooLong-clause-found
 returns-in-TooLong-clause-found g c =
-    finds_too_long _ (g.R.Read.remaining c.loop-self.reader) c.loop-self.self c.take_piece.new.self c.loop-self.invariant.0 c.loop-self.invariant.1 c.in-TooLong.ensures.piece
+    finds_too_long _ (g.R.Read.remaining c.loop-self.reader) c.loop-self.self c.take_piece.new.self c.loop-self.invariant.0
+    c.loop-self.invariant.1 c.in-TooLong.ensures.piece
 
 pub returns-in-End-clause-found : goal.returns-in-End-clause-found
 returns-in-End-clause-found g c =

@@ -1,6 +1,7 @@
 use Rattle.std.proofs.Common.{◌≡◌, replicate, vec_capacity}
+use Rattle.alog_core.specs.declared.TheConstants.{ACTORS}
 use Rattle.alog_replay.specs.declared.duty.Duty.TheVariants.{Free}
 use Rattle.alog_replay.proofs.session.Session.open.Given as goal
 
 abbrev pub invariant-loop : goal.invariant-loop
-invariant-loop l = record { items : l.duties.items ≡ replicate l.counter Free; room : vec_capacity l.duties ≡ 64 }
+invariant-loop l = record { items : l.duties.items ≡ replicate l.counter Free; room : vec_capacity l.duties ≡ ACTORS }
