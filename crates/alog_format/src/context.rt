@@ -1,9 +1,12 @@
 ghost use Rattle.alog_format.specs.Civil.{IsZone};
 
+/// The most minutes that a fixed offset is from UTC, either way: one less than a day.
+pub const OFFSET_MAX: i16 = 1_439;
+
 /// Where a clock stands that lines show the time of.
 #[derive(Clone, Copy, Debug, PartialEq, Eq)]
 pub enum Zone {
-    /// A fixed offset in minutes east of UTC.
+    /// A fixed offset in minutes east of UTC, at most `OFFSET_MAX` either way.
     Fixed(i16),
 }
 

@@ -23,7 +23,7 @@ mod names;
 mod pads;
 mod times;
 
-pub use context::{Context, Zone};
+pub use context::{Context, OFFSET_MAX, Zone};
 pub use line_buf::{LineBuf, NoRoom};
 pub use lines::format;
 

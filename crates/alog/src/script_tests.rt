@@ -1,4 +1,4 @@
-//! The worked scripts and the bad forms, on the whole program.
+//! The worked scripts and the bad forms, on the whole program and on `replay`.
 use crate::run;
 use alog_replay::replay;
 use std::alloc::{AllocError, Global};
@@ -169,7 +169,7 @@ fn printed_before_a_refused_line(rt: HostRuntime) {
 }
 
 /// A text of this many letters, after a front.
-fn long(alloc: Global, front: &str, letters: usize) -> Result<String, AllocError> {
+pub(crate) fn long(alloc: Global, front: &str, letters: usize) -> Result<String, AllocError> {
     let mut text = String::from_str(alloc, front)?;
     for _ in 0..letters {
         text.push('x')?;
@@ -218,10 +218,10 @@ impl Read for Trickle<'_> {
 
 /// Takes this many bytes, one at a time, and then fails or takes none.
 #[derive(Drop)]
-struct Narrow {
-    taken: Vec<u8>,
-    room: usize,
-    fails: bool,
+pub(crate) struct Narrow {
+    pub taken: Vec<u8>,
+    pub room: usize,
+    pub fails: bool,
 }
 
 impl Write for Narrow {
@@ -285,147 +285,4 @@ fn each_write_failing(rt: HostRuntime) {
         trickles(&rt, false, room, true, 3, "alog: refused 35\n");
         trickles(&rt, false, room, false, 3, "alog: refused 35\n");
     }
-}
-
-/// Runs `alog format` on these words, and checks its status, what it prints, and its line on standard error.
-fn formats<R: AllocGlobal + Abort>(rt: &R, words: &[&str], status: u8, printed: &str, error: &str) {
-    let mut input = b"".as_slice();
-    let mut output = Vec::new(rt.alloc());
-    let mut errors = Vec::new(rt.alloc());
-    let found = run(rt, words, &mut input, &mut output, &mut errors);
-    assert_eq!(rt; found, status);
-    assert!(rt; output.as_slice() == printed.as_bytes());
-    assert!(rt; errors.as_slice() == error.as_bytes() || error == "..");
-}
-
-#[test]
-fn padded_and_cut_lines(rt: HostRuntime) {
-    let words = ["alog", "format", "%=5L|%-3!n|", "x", "--name", "abcdef"];
-    formats(&rt, words.as_slice(), 0, "  I  |abc|\n", "");
-    let words = ["alog", "format", "[%6!]", "x", "--function", "main"];
-    formats(&rt, words.as_slice(), 0, "[  main]\n", "");
-}
-
-#[test]
-fn times_of_lines(rt: HostRuntime) {
-    let words = [
-        "alog",
-        "format",
-        "[%Y-%m-%d %T.%e] [%l] %v",
-        "hello",
-        "--time=1706974546123000000",
-        "--offset=60",
-    ];
-    let line = "[2024-02-03 16:35:46.123] [info] hello\n";
-    formats(&rt, words.as_slice(), 0, line, "");
-    let words = ["alog", "format", "%Y-%m-%d %T.%F %E", "", "--time=-1"];
-    let line = "1969-12-31 23:59:59.999999999 -1\n";
-    formats(&rt, words.as_slice(), 0, line, "");
-    let words = ["alog", "format", "%+", "--", "-x"];
-    let line = "[1970-01-01 00:00:00.000] [info] -x\n";
-    formats(&rt, words.as_slice(), 0, line, "");
-}
-
-#[test]
-fn threads_levels_and_sources_of_lines(rt: HostRuntime) {
-    let words = [
-        "alog",
-        "format",
-        "%t %P %L %@ %! %v",
-        "t",
-        "--level",
-        "err",
-        "--thread",
-        "7",
-        "--process",
-        "9",
-        "--file",
-        "a/b.rs",
-        "--line",
-        "12",
-    ];
-    formats(&rt, words.as_slice(), 0, "7 9 E a/b.rs:12  t\n", "");
-}
-
-#[test]
-fn refused_words(rt: HostRuntime) {
-    for words in [
-        ["alog", "format", "%v", "x", "--time=1x"],
-        ["alog", "format", "%v", "x", "--time=9223372036854775808"],
-        ["alog", "format", "%v", "x", "--time=+1"],
-        ["alog", "format", "%v", "x", "--offset=1440"],
-        ["alog", "format", "%v", "x", "--offset=-1440"],
-        ["alog", "format", "%v", "x", "--level=Info"],
-        ["alog", "format", "%v", "x", "--thread=-1"],
-        ["alog", "format", "%v", "x", "--process=4294967296"],
-        ["alog", "format", "%v", "x", "--line=x"],
-        ["alog", "format", "%v", "x", "--previous=0"],
-        ["alog", "format", "%v", "x", "y"],
-    ] {
-        formats(&rt, words.as_slice(), 1, "", "..");
-    }
-    formats(&rt, ["alog", "format", "%v"].as_slice(), 1, "", "..");
-}
-
-#[test]
-fn refused_lines_of_format(rt: HostRuntime) -> Result<(), Fail> {
-    let alloc = rt.alloc();
-    let pattern = long(alloc, "", 257)?;
-    let text = long(alloc, "", 2_049)?;
-    let name = long(alloc, "", 65)?;
-    let (long_pattern, long_text) = (pattern.as_str(), text.as_str());
-    let long_name = name.as_str();
-    let wide = "%v%v%v%v%v%v%v%v%v%v%v%v%v%v%v%v%v%v%v%v%v%v%v%v%v%v%v%v%v%v%v%v";
-    for (pattern, text, name, error) in [
-        (long_pattern, long_text, long_name, "alog: refused 17\n"),
-        (wide, long_text, long_name, "alog: refused 18\n"),
-        ("%v", long_text, long_name, "alog: refused 2\n"),
-        ("%v", "x", long_name, "alog: refused 3\n"),
-    ] {
-        let words = ["alog", "format", pattern, text, "--name", name];
-        formats(&rt, words.as_slice(), 2, "", error);
-    }
-    let file = long(alloc, "", 257)?;
-    let words = ["alog", "format", "%v", "x", "--file", file.as_str()];
-    formats(&rt, words.as_slice(), 2, "", "alog: refused 3\n");
-    let function = long(alloc, "", 129)?;
-    let words = ["alog", "format", "%v", "x", "--function", function.as_str()];
-    formats(&rt, words.as_slice(), 2, "", "alog: refused 3\n");
-    Ok(())
-}
-
-/// Runs the program on these words, with nothing to read, and checks the status and which stream has text.
-fn says<R: AllocGlobal + Abort>(
-    rt: &R,
-    words: &[&str],
-    status: u8,
-    on_output: bool,
-    on_errors: bool,
-) {
-    let mut input = b"".as_slice();
-    let mut output = Vec::new(rt.alloc());
-    let mut errors = Vec::new(rt.alloc());
-    let found = run(rt, words, &mut input, &mut output, &mut errors);
-    assert_eq!(rt; found, status);
-    assert_eq!(rt; !output.is_empty(), on_output);
-    assert_eq!(rt; !errors.is_empty(), on_errors);
-}
-
-#[test]
-fn command_lines(rt: HostRuntime) {
-    says(&rt, ["alog", "replay"].as_slice(), 0, false, false);
-    says(&rt, ["alog", "--help"].as_slice(), 0, true, false);
-    says(&rt, ["alog", "replay", "--help"].as_slice(), 0, true, false);
-    says(&rt, ["alog", "--version"].as_slice(), 0, true, false);
-    says(&rt, ["alog"].as_slice(), 1, false, true);
-    says(&rt, ["alog", "play"].as_slice(), 1, false, true);
-    says(&rt, ["alog", "replay", "file"].as_slice(), 1, false, true);
-    says(
-        &rt,
-        ["alog", "replay", "--config", "c.toml"].as_slice(),
-        1,
-        false,
-        true,
-    );
-    says(&rt, ["alog", "load", "c.toml"].as_slice(), 1, false, true);
 }
