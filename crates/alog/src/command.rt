@@ -1,6 +1,7 @@
 //! The commands, arguments and options of the program, and what help says of them.
 ghost use Rattle.std.specs.Prelude.{◌≡◌, IfOk, Some, false};
 ghost use Rattle.clap.specs.Words.{app_of, rule_of};
+ghost use Rattle.clap.specs.declared.builder.texts.Texts.TheVariants.{One};
 ghost use Rattle.alog.specs.CommandLine.{alog_app, argument_of, option_of};
 
 use clap::{Arg, Command};
@@ -48,6 +49,7 @@ fn argument<'a>(alloc: Global, name: &'a str, help: &'a str) -> Arg<'a>
 fn option<'a>(alloc: Global, name: &'a str, value: &'a str, help: &'a str) -> Arg<'a>
     ensures rule { rule_of result ≡ option_of name.entry.now }
     ensures global { result.global ≡ false }
+    ensures value { result.val_names ≡ One value.entry }
     ensures help { result.help ≡ Some help.entry }
 {
     Arg::new(alloc, name)

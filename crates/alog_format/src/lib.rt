@@ -16,7 +16,7 @@ mod civil;
 mod clip;
 mod context;
 mod flag_texts;
-pub mod laws;
+mod laws;
 mod line_buf;
 mod lines;
 mod names;
@@ -24,7 +24,8 @@ mod pads;
 mod times;
 
 pub use context::{Context, OFFSET_MAX, Zone};
-pub use line_buf::{LineBuf, NoRoom};
+pub use laws::one_line;
+pub use line_buf::{LineBuf, NoRoomError};
 pub use lines::format;
 
 #[cfg(test)]
