@@ -1,7 +1,9 @@
 -- What `clap` makes of the program's words.
-use Rattle.std.proofs.Common.{◌≡◌, ◌∙◌, ap, ap₂, refl, sym, subst, codes, true, ℕ, List, [], ◌∷◌, Option, Some, None, Result, Ok, Err, inl, inr, IfErr, arith}
+use Rattle.std.proofs.Common.{◌≡◌, ◌∙◌, ap, ap₂, refl, sym, subst, codes, true, ℕ, List, [], ◌∷◌, Option, Some, None, Result, Ok, Err, inl}
+use Rattle.std.proofs.Common.{inr, IfErr, arith}
 use Rattle.std.specs.Prelude.{IsErrAnd, option_map, unwrap_or, slice_index}
-use Rattle.clap.specs.Words.{App, Row, Text, fault_of, found_of, is_simple, is_simple_and_free, rows_of, subcommand_of, subcommand_rows_of, HasMatchesOf, HasKind, kind_of}
+use Rattle.clap.specs.Words.{App, Row, Text, fault_of, found_of, is_simple, is_simple_and_free, rows_of, subcommand_of, subcommand_rows_of}
+use Rattle.clap.specs.Words.{HasMatchesOf, HasKind, kind_of}
 use Rattle.clap.specs.Matches.{subcommand_name_of}
 use Rattle.clap.specs.declared.error.Error.{Error}
 use Rattle.clap.specs.declared.error.kind.ErrorKind.{ErrorKind}
@@ -34,7 +36,8 @@ pub error_is : {T E : Type 0} (r : Result T E) (e : E) (P : E → Type 0) → Is
 error_is (Ok t) e P is p = tt
 error_is (Err x) e P is p = subst P (sym is) p
 
-pair_is : (o : Option (Text × List Row)) (name : Text) (rows : List Row) → option_map (λ p. p.0) o ≡ Some name → option_map (λ p. p.1) o ≡ Some rows → o ≡ Some (name, rows)
+pair_is : (o : Option (Text × List Row)) (name : Text) (rows : List Row) → option_map (λ p. p.0) o ≡ Some name
+    → option_map (λ p. p.1) o ≡ Some rows → o ≡ Some (name, rows)
 pair_is None name rows a b = cc
 pair_is (Some p) name rows a b =
     let first : p.0 ≡ name = cc in let second : p.1 ≡ rows = cc in ap₂ (λ (n : Text) (r : List Row). Some (n, r)) first second
@@ -56,7 +59,8 @@ module _ (app : App) (e : app ≡ alog_app) (words : List Text) where
   pub no_fault : (is_simple_and_free app ≡ true → fault_of app words ≡ []) → fault_of alog_app words ≡ []
   no_fault kinds = sym (ap (λ (a : App). fault_of a words) e) ∙ kinds (ap is_simple_and_free e ∙ alog_is_free)
 
-  pub has_kind : (error : Error) → (is_simple_and_free app ≡ true → HasKind (fault_of app words) error) → HasKind (fault_of alog_app words) error
+  pub has_kind : (error : Error) → (is_simple_and_free app ≡ true → HasKind (fault_of app words) error)
+      → HasKind (fault_of alog_app words) error
   has_kind error kinds = subst (λ (a : App). HasKind (fault_of a words) error) e (kinds (ap is_simple_and_free e ∙ alog_is_free))
 
   entered_is : (m : ArgMatches) → HasMatchesOf app words m → subcommand_rows_of m ≡ subcommand_of alog_app words
@@ -66,7 +70,8 @@ module _ (app : App) (e : app ≡ alog_app) (words : List Text) where
       → option_map (λ p. p.1) (subcommand_rows_of m) ≡ Some rows → NamesFormat words rows
   names_format m rows has name is = sym (entered_is m has) ∙ pair_is (subcommand_rows_of m) (codes "format") rows (sym (named m) ∙ name) is
 
-  pub names_no_format : (m : ArgMatches) (rows : List Row) → HasMatchesOf app words m → (subcommand_name_of m ≡ Some (codes "format") → ⊥) → NamesFormat words rows → ⊥
+  pub names_no_format : (m : ArgMatches) (rows : List Row) → HasMatchesOf app words m → (subcommand_name_of m ≡ Some (codes "format")
+      → ⊥) → NamesFormat words rows → ⊥
   names_no_format m rows has other is = other (named m ∙ ap (option_map (λ (p : Text × List Row). p.0)) (entered_is m has ∙ is))
 
 replay_has_no_fault : (words : List Text) → AsksReplay words → fault_of alog_app words ≡ []
@@ -82,7 +87,8 @@ replay_no_format words rows asks format =
     let names : codes "replay" ≡ codes "format" = ap (λ (o : Option (Text × List Row)). unwrap_or (option_map (λ p. p.0) o) []) (sym entered ∙ format) in
     apart (slice_index (codes "replay") 0) (slice_index (codes "format") 0) refl refl (ap (λ (t : Text). slice_index t 0) names)
 
-pub replay_lacks_memory : (words : List Text) (error : Error) → AsksReplay words → HasKind (fault_of alog_app words) error → kind_of error ≡ OutOfMemory
+pub replay_lacks_memory : (words : List Text) (error : Error) → AsksReplay words → HasKind (fault_of alog_app words) error
+    → kind_of error ≡ OutOfMemory
 replay_lacks_memory words error asks has =
     elim (subst (λ (kinds : List ErrorKind). HasKind kinds error) (replay_has_no_fault words asks) has) [ inl memory ↦ memory | inr among ↦ absurd among ]
 

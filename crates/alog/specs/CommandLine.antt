@@ -1,6 +1,7 @@
 -- What command lines the program takes, in the words of `clap`, which defines what it makes of them.
 use Rattle.std.specs.Prelude.{◌≡◌, List, [], ◌∷◌, Some, codes, true}
-use Rattle.clap.specs.Words.{App, Row, Rule, Text, first_of, new_app, new_rule, with_rule, with_subcommand, subcommand_of, fault_of, HasKind}
+use Rattle.clap.specs.Words.{App, Row, Rule, Text, first_of, new_app, new_rule, with_rule, with_subcommand, subcommand_of, fault_of}
+use Rattle.clap.specs.Words.{HasKind}
 use Rattle.alog.specs.Options.{Values, AsksFor, IsFirstRefused}
 use Rattle.alog.specs.declared.request.Request.{Request}
 use Rattle.alog.specs.declared.request.Request.TheVariants.{Replay, Format}

@@ -3,7 +3,8 @@ ghost use Rattle.std.specs.Prelude.{◌≡◌, ◌↔◌, IsNone, IfOk, IfErr, I
 ghost use Rattle.std.specs.Str.Parse.{digits_value, signed_digits_value};
 ghost use Rattle.alog_msg.specs.Level.{Names};
 ghost use Rattle.alog_msg.specs.Message.{fields_of};
-ghost use Rattle.alog.specs.Options.{value_of, text_of, name_of, allowed_of, Allows, IsAllowed, IsNumber, IsSignedNumber, IsLevel, AsksFor, Refuses, IsFirstRefused};
+ghost use Rattle.alog.specs.Options.{value_of, text_of, name_of, allowed_of, Allows, IsAllowed, IsNumber, IsSignedNumber, IsLevel, AsksFor};
+ghost use Rattle.alog.specs.Options.{Refuses, IsFirstRefused};
 ghost use Rattle.alog.specs.declared.options.Allowed.TheVariants.{Signed, Unsigned, LevelName};
 
 use crate::request::LineRequest;

@@ -7,7 +7,10 @@ use Rattle.alog.proofs.command.alog.Goals as goal
 
 pub returns : goal.returns
 returns c =
-    let replay : app_of c.long_about-replay.result ≡ new_app (codes "replay") = rw (c.long_about-replay.ensures, c.about.ensures) c.new.ensures.app in
+    let replay : app_of c.long_about-replay.result ≡ new_app (codes "replay") = rw (
+      c.long_about-replay.ensures,
+      c.about.ensures,
+    ) c.new.ensures.app in
     let a0 : app_of c.long_about.result ≡ new_app (codes "format") = rw (c.long_about.ensures, c.about-2.ensures) c.new-2.ensures.app in
     let a1 = argument_added _ _ _ _ _ c.in_ok-arg.ensures c.argument.ensures.global a0 c.argument.ensures.rule in
     let a2 = argument_added _ _ _ _ _ c.in_ok-arg-2.ensures c.argument-2.ensures.global a1 c.argument-2.ensures.rule in
@@ -21,8 +24,13 @@ returns c =
     let a10 = argument_added _ _ _ _ _ c.in_ok-arg-10.ensures c.option-8.ensures.global a9 c.option-8.ensures.rule in
     let format = argument_added _ _ _ _ _ c.in_ok-format.ensures c.option-9.ensures.global a10 c.option-9.ensures.rule in
     let top : app_of c.subcommand_required.result ≡ top_app =
-    rw (c.subcommand_required.ensures, c.about-3.ensures, c.version.ensures) (ap (λ (app : App). record app { top = record app.top { has_version = true; subcommand_required = true } }) c.new-3.ensures.app) in
-    let with_replay = c.in_ok-subcommand.ensures.shape (rw (c.long_about-replay.ensures, c.about.ensures) c.new.ensures.local) ∙ ap₂ with_subcommand top (ap (λ (a : App). a.top) replay) in
+    rw (
+      c.subcommand_required.ensures,
+      c.about-3.ensures,
+      c.version.ensures,
+    ) (ap (λ (app : App). record app { top = record app.top { has_version = true; subcommand_required = true } }) c.new-3.ensures.app) in
+    let with_replay = c.in_ok-subcommand.ensures.shape (rw (c.long_about-replay.ensures, c.about.ensures) c.new.ensures.local)
+    ∙ ap₂ with_subcommand top (ap (λ (a : App). a.top) replay) in
     IfOk-weaker c.subcommand-2.result _ _ (λ command adds. adds.shape (rw (
       c.in_ok-format.ensures.globals,
       c.option-9.ensures.global,

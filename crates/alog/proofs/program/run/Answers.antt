@@ -9,7 +9,8 @@ pub returns-in-Ok-Format-clause-replays : goal.returns-in-Ok-Format-clause-repla
 returns-in-Ok-Format-clause-replays g c =
     λ asks.
     let words : List Text = map g.S.AsStr.text c.args.words.now in
-    let asked = subst (Asks words) c.in-Ok-Format.field-0-is c.in-Ok-Format.ensures.asked in absurd (replay_no_format words asked.0 asks asked.1.1)
+    let asked = subst (Asks words) c.in-Ok-Format.field-0-is c.in-Ok-Format.ensures.asked in
+    absurd (replay_no_format words asked.0 asks asked.1.1)
 
 pub returns-in-Ok-Format-clause-formats : goal.returns-in-Ok-Format-clause-formats
 returns-in-Ok-Format-clause-formats g c =
@@ -30,7 +31,8 @@ pub returns-in-Err-Value-clause-replays : goal.returns-in-Err-Value-clause-repla
 returns-in-Err-Value-clause-replays g c =
     λ asks.
     let words : List Text = map g.S.AsStr.text c.args.words.now in
-    let refused = subst (IsRefusedBy words) c.in-Err-Value.field-0-is c.in-Err-Value.ensures.refused in absurd (replay_no_format words refused.0 asks refused.1.1)
+    let refused = subst (IsRefusedBy words) c.in-Err-Value.field-0-is c.in-Err-Value.ensures.refused in
+    absurd (replay_no_format words refused.0 asks refused.1.1)
 
 pub returns-in-Err-Clap-clause-replays : goal.returns-in-Err-Clap-clause-replays
 returns-in-Err-Clap-clause-replays g c =
