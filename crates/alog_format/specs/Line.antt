@@ -33,7 +33,13 @@ line_text s items = flat_map (item_text s) items ++ 10 ∷ []
 
 -- what a line of the message shows where a clock shows `at`
 abbrev pub shown : Context → List ℕ → Message → Civil → Shown
-shown context name message at = record { message = message; name = name; process = context.process; offset = offset_minutes context.zone; at = at }
+shown context name message at = record {
+  message = message;
+  name = name;
+  process = context.process;
+  offset = offset_minutes context.zone;
+  at = at;
+}
 
 -- a line of the message shows this
 abbrev pub IsShown : Context → List ℕ → Message → Shown → Type 0

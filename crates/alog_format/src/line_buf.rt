@@ -1,17 +1,19 @@
 ghost use Rattle.std.specs.Prelude.{◌≡◌, ◌+◌, ◌≤◌, ◌↔◌, [], length, IfOk, IsErr, OnOk, OnErr, ◌==◌};
 
-use crate::block::{Bytes, Deed, Start, attach, detach};
+use crate::block::{Bytes, Deed, Start, part, reunite};
 use std::alloc::{AllocError, Global};
 use std::marker::Model;
 use thiserror::Error;
 
-/// The buffer has no room for the bytes.
+/// The buffer has no room for the bytes. The test `has_no_room_at_all` shows when.
 #[derive(Clone, Copy, Debug, PartialEq, Eq, Error)]
 #[error("the line buffer has no room")]
 pub struct NoRoomError;
 
 /// A block of bytes of fixed capacity, in which one worker makes its lines. The block is taken once, never grows, and
 /// is reached through a raw pointer by the methods of `Bytes` alone, which are proved by hand.
+///
+/// The test `makes_a_line_in_place` shows each call.
 pub struct LineBuf {
     start: Start,
     bytes: Bytes,
@@ -42,7 +44,7 @@ impl Drop for LineBuf {
             limit: _,
             len: _,
         } = self;
-        drop(attach(bytes, deed));
+        drop(reunite(bytes, deed));
     }
 }
 
@@ -57,7 +59,7 @@ impl LineBuf {
         // A block of no byte would have no place.
         let mut block = vec![in alloc; 0; cap.max(1)]?;
         let start = Start::of(&mut block);
-        let (bytes, deed) = detach(block);
+        let (bytes, deed) = part(block);
         Ok(LineBuf {
             start,
             bytes,

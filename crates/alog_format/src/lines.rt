@@ -19,7 +19,7 @@ use alog_pattern::{Flag, Item, Padding, Pattern, Side};
 /// Appends the line of a message: the texts of the pattern's items in order, and a newline.
 ///
 /// The buffer has room for the pattern's longest line, the text keeps to the pattern's limit, and the name of the
-/// logger has at most 64 bytes.
+/// logger has at most 64 bytes. The tests `writes_the_default_format` and `writes_lines_one_behind_another` show calls.
 pub fn format(
     pattern: &Pattern,
     context: &Context,
