@@ -2,17 +2,20 @@
 use std::alloc::{AllocError, Global};
 use std::env::{Env, FillError};
 use std::str;
+use thiserror::Error;
 
 /// The most bytes of a word: what Linux passes to a program.
 const WORD_MAX: usize = 131_072;
 
 /// Why the words cannot be had.
-#[derive(Clone, Copy, Debug, PartialEq, Eq)]
+#[derive(Clone, Copy, Debug, PartialEq, Eq, Error)]
 pub(crate) enum ArgumentsError {
-    /// The argument of this number, counted from 1, is no text in UTF-8.
+    /// Arguments are counted from 1.
+    #[error("argument {0} is no text in UTF-8")]
     NotText(usize),
-    /// The argument of this number has more than 131,072 bytes.
+    #[error("argument {0} has more than 131072 bytes")]
     TooLong(usize),
+    #[error("out of memory")]
     OutOfMemory,
 }
 

@@ -58,10 +58,9 @@ fn option<'a>(alloc: Global, name: &'a str, value: &'a str, help: &'a str) -> Ar
         .help(help)
 }
 
-const TIME_HELP: &str = "Nanoseconds since 1970 UTC, with = where it is negative, as --time=-1 [0]";
+const TIME_HELP: &str = "Nanoseconds since 1970 UTC; where negative, as --time=N [0]";
 
-const OFFSET_HELP: &str =
-    "Minutes east of UTC, -1439 to 1439, with = where it is negative, as --offset=-60 [0]";
+const OFFSET_HELP: &str = "Minutes east of UTC, -1439 to 1439; where negative, as --offset=N [0]";
 
 const LEVEL_HELP: &str = "trace, debug, info, warning, error, critical or off [info]";
 

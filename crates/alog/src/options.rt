@@ -13,6 +13,7 @@ use alog_msg::{Level, SourceRef};
 use clap::ArgMatches;
 use std::fmt;
 use std::fmt::{Display, Formatter, Write};
+use thiserror::Error;
 
 /// An option of `alog format` whose value is read. They are read in this order.
 #[derive(Clone, Copy, Debug, PartialEq, Eq)]
@@ -37,7 +38,8 @@ pub enum Allowed {
 }
 
 /// An option is refused: its value cannot be read, or lies outside its limits.
-#[derive(Clone, Copy, Debug)]
+#[derive(Clone, Copy, Debug, Error)]
+#[error("--{name}={value:?} is refused: allowed is {allowed}", name = .option.name())]
 pub struct ValueError<'a> {
     pub option: FormatOption,
     pub value: &'a str,
@@ -104,14 +106,6 @@ impl Display for Allowed {
                 "trace, debug, info, warning, error, critical or off",
             ),
         }
-    }
-}
-
-impl Display for ValueError<'_> {
-    fn fmt<W: Write>(&self, f: &mut Formatter<W>) -> fmt::Result {
-        let name = self.option.name();
-        let (value, allowed) = (self.value, self.allowed);
-        write!(f, "--{name}={value:?} is refused: allowed is {allowed}")
     }
 }
 

@@ -57,15 +57,10 @@ pub(crate) fn refuse_arguments<E: Write>(error: ArgumentsError, errors: &mut E) 
     ensures status { (result ≡ 1) ⊎ (result ≡ 4) }
     ensures memory { (result ≡ 4) ↔ (error ≡ ArgumentsError.OutOfMemory) }
 {
-    let _ = match error {
-        ArgumentsError::OutOfMemory => return fail(ReplayError::OutOfMemory, errors),
-        ArgumentsError::NotText(number) => {
-            writeln!(errors, "alog: argument {number} is no text in UTF-8")
-        }
-        ArgumentsError::TooLong(number) => {
-            writeln!(errors, "alog: argument {number} has more than 131072 bytes")
-        }
-    };
+    if error == ArgumentsError::OutOfMemory {
+        return fail(ReplayError::OutOfMemory, errors);
+    }
+    let _ = writeln!(errors, "alog: {error}");
     1
 }
 
