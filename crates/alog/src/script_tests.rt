@@ -45,12 +45,14 @@ fn memory_file(rt: HostRuntime) {
         // The largest queue, leading zeros, an empty text, a text of spaces, and no newline at the end.
         (
             "# first\n\nring 065536 00\npush 01 \nrun 1\nwork 2\nrun 2\npush 63  b \nrun 63\nwork 2\nrun 2",
-            "1 claim 0\n1 write 0\n2 grab 0\n2 take 0 \n2 line 0 memory\n63 claim 1\n63 write 1\n2 grab 1\n2 take 1  b \n2 line 1 memory\n== memory memory 5\n\n b \n",
+            "1 claim 0\n1 write 0\n2 grab 0\n2 take 0 \n2 line 0 memory\n63 claim 1\n63 write 1\n2 grab 1\n\
+             2 take 1  b \n2 line 1 memory\n== memory memory 5\n\n b \n",
         ),
         // Two workers: the turns are in the order in which they are made.
         (
             "ring 4 0\npush 1 a\nrun 1\npush 1 b\nrun 1\nwork 3\nstep 3 4\nwork 4\nrun 4\nrun 3\ncells",
-            "1 claim 0\n1 write 0\n1 claim 1\n1 write 1\n3 grab 0\n3 take 0 a\n4 grab 1\n4 take 1 b\n4 line 1 memory\n3 line 0 memory\ncells\n== memory memory 4\nb\na\n",
+            "1 claim 0\n1 write 0\n1 claim 1\n1 write 1\n3 grab 0\n3 take 0 a\n4 grab 1\n4 take 1 b\n\
+             4 line 1 memory\n3 line 0 memory\ncells\n== memory memory 4\nb\na\n",
         ),
     ] {
         prints(&rt, script, printed);
@@ -70,12 +72,14 @@ fn empty_and_full_queues(rt: HostRuntime) {
         // A cell that is being emptied keeps its place.
         (
             "ring 2 0\npush 1 a\nrun 1\npush 2 b\nrun 2\npop 3\nstep 3 3\npop 4\nrun 4\npush 5 c\nrun 5\ncells\nrun 3\npush 5 c\nrun 5",
-            "1 claim 0\n1 write 0\n2 claim 1\n2 write 1\n3 grab 0\n4 grab 1\n4 take 1 b\n5 full 2\ncells 0:emptying\n3 take 0 a\n5 claim 2\n5 write 2\n",
+            "1 claim 0\n1 write 0\n2 claim 1\n2 write 1\n3 grab 0\n4 grab 1\n4 take 1 b\n5 full 2\n\
+             cells 0:emptying\n3 take 0 a\n5 claim 2\n5 write 2\n",
         ),
         // The last ticket of all.
         (
             "ring 2 4611686018427387903\npush 1 a\nrun 1\npush 2 b\nstep 2\npop 3\nrun 3\npop 3\nrun 3",
-            "1 claim 4611686018427387903\n1 write 4611686018427387903\n2 spent\n3 grab 4611686018427387903\n3 take 4611686018427387903 a\n3 empty 4611686018427387904\n",
+            "1 claim 4611686018427387903\n1 write 4611686018427387903\n2 spent\n3 grab 4611686018427387903\n\
+             3 take 4611686018427387903 a\n3 empty 4611686018427387904\n",
         ),
     ] {
         prints(&rt, script, printed);
