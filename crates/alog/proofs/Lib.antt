@@ -1,1 +1,3 @@
 pub mod Statuses
+pub mod Commands
+pub mod CommandLines

@@ -4,3 +4,5 @@ pub mod Replays
 pub mod LineError
 pub mod Line
 pub mod Options
+pub mod CommandLine
+pub mod Formats

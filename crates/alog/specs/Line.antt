@@ -2,6 +2,7 @@
 use Rattle.std.specs.Prelude.{ℕ, ◌<◌, ◌≤◌, ◌⊎◌, List, Option, length}
 use Rattle.std.specs.Io.KnownBytes.{Appends}
 use Rattle.alog_msg.specs.Message.{source_of, HasLongField}
+use Rattle.alog_msg.specs.declared.limits.TheConstants.{DEFAULT_TEXT_LIMIT, LOGGER_NAME_MAX}
 use Rattle.alog_msg.specs.declared.message.Message.{Message}
 use Rattle.alog_pattern.specs.Grammar.{IsReading}
 use Rattle.alog_pattern.specs.Length.{LineExceeds}
@@ -22,13 +23,14 @@ abbrev pub IsPatternTooLong : LineRequest → Type 0
 IsPatternTooLong r = 256 < length r.pattern.now
 
 abbrev pub IsLineTooLong : LineRequest → Type 0
-IsLineTooLong r = (length r.pattern.now ≤ 256) × LineExceeds 65536 2048 r.pattern.now
+IsLineTooLong r = (length r.pattern.now ≤ 256) × LineExceeds 65536 DEFAULT_TEXT_LIMIT r.pattern.now
 
 abbrev pub IsTextTooLong : LineRequest → Type 0
-IsTextTooLong r = 2048 < length r.text.now
+IsTextTooLong r = DEFAULT_TEXT_LIMIT < length r.text.now
 
 abbrev pub IsFieldTooLong : LineRequest → Type 0
-IsFieldTooLong r = (length r.text.now ≤ 2048) × (HasLongField r.source ⊎ (64 < length r.name.now))
+IsFieldTooLong r =
+    (length r.text.now ≤ DEFAULT_TEXT_LIMIT) × (HasLongField r.source ⊎ (LOGGER_NAME_MAX < length r.name.now))
 
 -- the text, the name, the file and the function are within their limits
 abbrev pub Fits : LineRequest → Type 0

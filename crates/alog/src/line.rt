@@ -5,16 +5,10 @@ ghost use Rattle.alog.specs.Line.{message_of, Fits, IsLineOf, IsPatternTooLong, 
 
 use crate::request::LineRequest;
 use alog_format::{LineBuf, format};
-use alog_msg::{Message, MessageError};
+use alog_msg::{DEFAULT_TEXT_LIMIT, LOGGER_NAME_MAX, Message, MessageError};
 use alog_pattern::{Pattern, PatternError};
 use std::alloc::{AllocError, Global};
 use thiserror::Error;
-
-/// The most bytes that the text has.
-const TEXT_LIMIT: usize = 2048;
-
-/// The most bytes that the name has.
-const NAME_MAX: usize = 64;
 
 /// Why no line was made.
 #[derive(Clone, Copy, Debug, PartialEq, Eq, Error)]
@@ -107,7 +101,7 @@ pub fn line_of(alloc: Global, request: &LineRequest<'_>) -> Result<LineBuf, Line
     ensures text { IsErrOf result LineError.TextTooLong → IsTextTooLong request.now }
     ensures field { IsErrOf result LineError.FieldTooLong → IsFieldTooLong request.now }
 {
-    let pattern = Pattern::compile(alloc, request.pattern.as_bytes(), TEXT_LIMIT)?;
+    let pattern = Pattern::compile(alloc, request.pattern.as_bytes(), DEFAULT_TEXT_LIMIT)?;
     let message = message_of(alloc, request)?;
     let mut line = LineBuf::new(alloc, pattern.longest())?;
     format(
@@ -126,13 +120,13 @@ fn message_of(alloc: Global, request: &LineRequest<'_>) -> Result<Message, Messa
     ensures text { IsErrOf result MessageError.TextTooLong ↔ IsTextTooLong request.now }
     ensures field { IsErrOf result MessageError.FieldTooLong ↔ IsFieldTooLong request.now }
 {
-    if request.text.len() <= TEXT_LIMIT && request.name.len() > NAME_MAX {
+    if request.text.len() <= DEFAULT_TEXT_LIMIT && request.name.len() > LOGGER_NAME_MAX {
         return Err(MessageError::FieldTooLong);
     }
     let time = request.time;
     Message::new(
         alloc,
-        TEXT_LIMIT,
+        DEFAULT_TEXT_LIMIT,
         0,
         request.level,
         time,

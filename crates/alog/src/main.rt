@@ -1,31 +1,40 @@
 //! The program `alog`: the command line over the crates below it.
 //!
 //! `program.rt` has the one public function, `run`: the whole program over any reader and two writers, which answers
-//! the exit status. `words.rt` reads the command line into a request (`request.rt`), `line.rt` makes the line of
-//! `alog format`, and `status.rt` says which status and which line on standard error each fault has. `main` hands `run`
-//! the arguments and the standard streams.
+//! the exit status. `words.rt` reads the command line into a request (`request.rt`): `command.rt` has the commands and
+//! their help for `clap`, and `options.rt` reads the values that it found. `line.rt` makes the line of `alog format`,
+//! and `status.rt` says which status and which line on standard error each fault has. `main` collects the words
+//! (`arguments.rt`), and hands `run` these and the standard streams.
 #![tactic(auto)]
 
+mod arguments;
+mod command;
 mod line;
+mod options;
 mod program;
 mod request;
+#[cfg(test)]
+mod script_tests;
 mod status;
 #[cfg(test)]
-mod tests;
+mod word_tests;
 mod words;
 
+use arguments::collect_words;
+use program::refuse_arguments;
 pub use program::run;
 use std::process::ExitCode;
-use std::{env, io};
 
-fn main(rt: HostRuntime) -> io::Result<ExitCode> {
-    let words: Vec<String> = env::args(&rt)?.collect(rt.alloc())?;
-    let status = run(
-        &rt,
-        words.as_slice(),
-        &mut rt.stdin(),
-        &mut rt.stdout(),
-        &mut rt.stderr(),
-    );
-    Ok(ExitCode::from(status))
+fn main(rt: HostRuntime) -> ExitCode {
+    let status = match collect_words(rt.alloc(), &rt) {
+        Ok(words) => run(
+            &rt,
+            words.as_slice(),
+            &mut rt.stdin(),
+            &mut rt.stdout(),
+            &mut rt.stderr(),
+        ),
+        Err(error) => refuse_arguments(error, &mut rt.stderr()),
+    };
+    ExitCode::from(status)
 }

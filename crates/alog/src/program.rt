@@ -1,12 +1,15 @@
 //! The whole program over any reader and two writers.
-ghost use Rattle.std.specs.Prelude.{◌≡◌, ◌≤◌, ◌⊎◌, ◌↔◌, map, OnOk};
+ghost use Rattle.std.specs.Prelude.{◌≡◌, ◌≤◌, ◌⊎◌, ◌↔◌, List, map, OnOk};
 ghost use Rattle.std.specs.Io.KnownBytes.{Appends, Keeps};
-ghost use Rattle.clap.specs.Words.{kind_of};
+ghost use Rattle.clap.specs.Words.{Row, kind_of};
+ghost use Rattle.alog.specs.CommandLine.{AsksFormat, values_in};
+ghost use Rattle.alog.specs.Formats.{Formats};
 ghost use Rattle.alog.specs.Line.{WritesLineOf, IsRefused};
 ghost use Rattle.alog.specs.Replays.{Replays};
 ghost use Rattle.alog.specs.Status.{status_of};
 ghost use Rattle.alog.specs.Words.{AsksReplay, IsAskedFor};
 
+use crate::arguments::ArgumentsError;
 use crate::line::line_of;
 use crate::request::{LineRequest, Request};
 use crate::status::{number_of, status_of};
@@ -22,7 +25,8 @@ use std::io::{Read, Write};
 /// done, 1 for a wrong command line, 2 for refused input, 3 for a read or write fault, 4 for want of memory.
 ///
 /// A fault prints its line on `errors`. Help goes to `output`, and a wrong command line writes nothing there.
-/// `alog replay` replays the script of `input`, as `alog_replay::replay` does.
+/// `alog replay` replays the script of `input`, as `alog_replay::replay` does; `alog format` writes the line that its
+/// arguments ask for.
 pub fn run<R: AllocGlobal, S: AsStr, I: Read, O: Write, E: Write>(
     rt: &R,
     words: &[S],
@@ -34,16 +38,30 @@ pub fn run<R: AllocGlobal, S: AsStr, I: Read, O: Write, E: Write>(
     ensures usage { result ≡ 1 → Keeps (O.contents output.old) (O.contents output.new) }
     ensures replays { AsksReplay (map S.text words.now)
         → Replays result (I.remaining input.old) (I.remaining input.new) (O.contents output.old) (O.contents output.new) }
+    ensures formats { (rows : List Row) → AsksFormat (map S.text words.now) rows
+        → Formats (values_in rows) result (O.contents output.old) (O.contents output.new) }
 {
     match read(rt.alloc(), words) {
         Ok(Request::Replay) => replay_command(rt.alloc(), input, output, errors),
         Ok(Request::Format(request)) => format_command(rt.alloc(), &request, output, errors),
-        Err(WordsError::Unreadable(name)) => {
-            let _ = writeln!(errors, "alog: the value of --{name} cannot be read");
+        Err(WordsError::Value(fault)) => {
+            let _ = writeln!(errors, "alog: {fault}");
             1
         }
         Err(WordsError::Clap(error)) => explain(&error, output, errors),
     }
+}
+
+/// Says why there are no words to run the program on, and answers the status: 1, or 4 for want of memory.
+pub(crate) fn refuse_arguments<E: Write>(error: ArgumentsError, errors: &mut E) -> u8
+    ensures status { (result ≡ 1) ⊎ (result ≡ 4) }
+    ensures memory { (result ≡ 4) ↔ (error ≡ ArgumentsError.OutOfMemory) }
+{
+    if error == ArgumentsError::OutOfMemory {
+        return fail(ReplayError::OutOfMemory, errors);
+    }
+    let _ = writeln!(errors, "alog: {error}");
+    1
 }
 
 /// Says what `clap` says: help and the version on the output, and usage on standard error.
@@ -51,7 +69,7 @@ fn explain<O: Write, E: Write>(error: &clap::Error, output: &mut O, errors: &mut
     ensures status { (result ≤ 1) ⊎ ((3 ≤ result) × (result ≤ 4)) }
     ensures help { ((result ≡ 0) ⊎ (result ≡ 3)) ↔ IsAskedFor (kind_of error.now) }
     ensures memory { (result ≡ 4) ↔ (kind_of error.now ≡ ErrorKind.OutOfMemory) }
-    ensures usage { result ≡ 1 → Keeps (O.contents output.old) (O.contents output.new) }
+    ensures unwritten { (result ≡ 1) ⊎ (result ≡ 4) → Keeps (O.contents output.old) (O.contents output.new) }
 {
     if !error.use_stderr() {
         return help(error, output, errors);

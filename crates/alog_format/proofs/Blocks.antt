@@ -11,7 +11,8 @@ use base.Fml.{Fml, Lft, GName, Share, fsep, feq, fat, flft, fobs, fauth, fbor, f
 use mir.Syntax.{ty_int}
 use mir.Val.{Val, vint}
 use types.Logic.{Logic}
-use types.Kit.{Goal, Soaks, Step, step, Seq, Item, ‵, ⋆, ◌⊛◌, ◌$◌, ◌∵◌, !, qed, by, move, drop, use1, split, rewrite, fsplit, fjoin, feq_i, done}
+use types.Kit.{Goal, Soaks, Step, step, Seq, Item, ‵, ⋆, ◌⊛◌, ◌$◌, ◌∵◌, !, qed, by, move, drop, use1, split, rewrite, fsplit, fjoin, feq_i}
+use types.Kit.{done}
 use types.SemTy.{Body}
 use denote.Array.{Array}
 use denote.ArrayMemory.{Array-apart, Array-whole}
@@ -35,11 +36,13 @@ module _ {M : Type 1} {𝓤 : Ura M} {𝓛 : Logic 𝓤} {K : Type 0} {Γ : List
       → Seq K 𝓛 (‵ (row u8 full_share d.items b o) ∷ ‵ ((Fields []).own_val tt us) ∷ ‵ (cell_at full_share B.mir us rb ro) ∷ ‵ (fobor κ q (Body (mem B) rb ro γ)) ∷ ‵ (fobs γ (B.coded.code d)) ∷ ‵ (fauth γ (B.coded.code d)) ∷ Γ) G)
       → Seq K 𝓛 (‵ (fobs γ (B.coded.code d)) ∷ ‵ (fbor κ (Body (mem B) rb ro γ)) ∷ ‵ (flft κ q) ∷ Γ) G
   opens_at t z d rb ro k =
-      opens t z B {h = d} rb ro (λ us. move t (1 ∷ []) $ fsplit t $ move t (1 ∷ []) $ in_a_block t d.start (λ p. bytes_own p d.items) (id⊢ 𝓤 (never 𝓤)) (λ b o e.
+      opens t z B {h = d} rb ro (λ us. move t (1 ∷ []) $ fsplit t $ move t (1 ∷ []) $
+      in_a_block t d.start (λ p. bytes_own p d.items) (id⊢ 𝓤 (never 𝓤)) (λ b o e.
       use1 𝓛 (‵ (fsep (feq ℕ (length d.items) (length d.items)) (row u8 full_share d.items b o))) (Array-apart 𝓛 u8 full_share tt (length d.items) d.items b o) $
       fsplit t $ drop t $ k b o e us))
 
-  pub closes_at : K → Soaks G → {κ : Lft} {q : Share} {u v : Gv} {γ : GName} (d : B.Denot) (b o rb ro : ℕ) (us : List Val) → d.start ≡ block_ptr b o
+  pub closes_at : K → Soaks G → {κ : Lft} {q : Share} {u v : Gv} {γ : GName} (d : B.Denot) (b o rb ro : ℕ) (us : List Val)
+      → d.start ≡ block_ptr b o
       → Step K 𝓛 (‵ (fobs γ (B.coded.code d)) ∷ ‵ (fbor κ (Body (mem B) rb ro γ)) ∷ ‵ (flft κ q) ∷ Γ) G
       (‵ (row u8 full_share d.items b o) ∷ ‵ ((Fields []).own_val tt us) ∷ ‵ (cell_at full_share B.mir us rb ro) ∷ ‵ (fobor κ q (Body (mem B) rb ro γ)) ∷ ‵ (fobs γ u) ∷ ‵ (fauth γ v) ∷ Γ) G
   closes_at t z d b o rb ro us e = step (λ s.
@@ -52,14 +55,16 @@ module _ {M : Type 1} {𝓤 : Ura M} (𝓛 : Logic 𝓤) (q : Share) (b o : ℕ)
   abbrev pub rest : List ℕ → ℕ → Fml
   rest xs i = others (shares u8) q xs i b o
 
-  pub byte_out : (xs : List ℕ) (i : ℕ) → i < length xs → ent 𝓤 (⋆ 𝓛 (‵ (row u8 q xs b o) ∷ [])) (⋆ 𝓛 (‵ (fat q (ty_int w8) b (i + o) (vint w8 (get_or xs i 0))) ∷ ‵ (rest xs i) ∷ []))
+  pub byte_out : (xs : List ℕ) (i : ℕ) → i < length xs
+      → ent 𝓤 (⋆ 𝓛 (‵ (row u8 q xs b o) ∷ [])) (⋆ 𝓛 (‵ (fat q (ty_int w8) b (i + o) (vint w8 (get_or xs i 0))) ∷ ‵ (rest xs i) ∷ []))
   byte_out xs i inside =
       qed 𝓛 (‵ (row u8 q xs b o) ∷ []) ∵
       use1 𝓛 (‵ (part_at u8 q (get_or xs i 0) b (nth 1 o i)) ⊛ ‵ (rest xs i)) (takes (shares u8) q 𝓛 xs i 0 b o inside) $ split ! $
       rewrite ! 0 (λ (k : ℕ). ‵ (part_at u8 q (get_or xs i 0) b k)) (place_byte o i) refl $
       use1 𝓛 (‵ (fat q (ty_int w8) b (i + o) (vint w8 (get_or xs i 0)))) (uint_out 𝓛 q w8 (get_or xs i 0) b (i + o)) $ done !
 
-  pub byte_back : (xs : List ℕ) (i : ℕ) → i < length xs → ent 𝓤 (⋆ 𝓛 (‵ (fat q (ty_int w8) b (i + o) (vint w8 (get_or xs i 0))) ∷ ‵ (rest xs i) ∷ [])) (⋆ 𝓛 (‵ (row u8 q xs b o) ∷ []))
+  pub byte_back : (xs : List ℕ) (i : ℕ) → i < length xs
+      → ent 𝓤 (⋆ 𝓛 (‵ (fat q (ty_int w8) b (i + o) (vint w8 (get_or xs i 0))) ∷ ‵ (rest xs i) ∷ [])) (⋆ 𝓛 (‵ (row u8 q xs b o) ∷ []))
   byte_back xs i inside =
       qed 𝓛 (‵ (fat q (ty_int w8) b (i + o) (vint w8 (get_or xs i 0))) ∷ ‵ (rest xs i) ∷ []) ∵
       use1 𝓛 (‵ (part_at u8 q (get_or xs i 0) b (i + o))) (uint_in 𝓛 q w8 (get_or xs i 0) b (i + o)) $
@@ -68,7 +73,8 @@ module _ {M : Type 1} {𝓤 : Ura M} (𝓛 : Logic 𝓤) (q : Share) (b o : ℕ)
   -- another byte in its place
 
 module _ {M : Type 1} {𝓤 : Ura M} (𝓛 : Logic 𝓤) (b o : ℕ) where
-  pub byte_in : (xs : List ℕ) (i x : ℕ) → i < length xs → ent 𝓤 (⋆ 𝓛 (‵ (fat full_share (ty_int w8) b (i + o) (vint w8 x)) ∷ ‵ (rest 𝓛 full_share b o xs i) ∷ [])) (⋆ 𝓛 (‵ (row u8 full_share (set xs i x) b o) ∷ []))
+  pub byte_in : (xs : List ℕ) (i x : ℕ) → i < length xs
+      → ent 𝓤 (⋆ 𝓛 (‵ (fat full_share (ty_int w8) b (i + o) (vint w8 x)) ∷ ‵ (rest 𝓛 full_share b o xs i) ∷ [])) (⋆ 𝓛 (‵ (row u8 full_share (set xs i x) b o) ∷ []))
   byte_in xs i x inside =
       qed 𝓛 (‵ (fat full_share (ty_int w8) b (i + o) (vint w8 x)) ∷ ‵ (rest 𝓛 full_share b o xs i) ∷ []) ∵
       use1 𝓛 (‵ (part_at u8 full_share x b (i + o))) (uint_in 𝓛 full_share w8 x b (i + o)) $

@@ -1,5 +1,6 @@
 -- Writing up to an end, once and again.
-use Rattle.std.proofs.Common.{◌≡◌, ℕ, suc, ◌+◌, ◌-◌, ◌/◌, ◌%◌, ◌≤◌, ◌<◌, ◌↔◌, min, List, [], ◌∷◌, ◌++◌, length, take, drop, set, Result, Ok, Err, refl, ap, sym, ◌∙◌, append_assoc, arith, inl, inr, length-take}
+use Rattle.std.proofs.Common.{◌≡◌, ℕ, suc, ◌+◌, ◌-◌, ◌/◌, ◌%◌, ◌≤◌, ◌<◌, ◌↔◌, min, List, [], ◌∷◌, ◌++◌, length, take, drop, set, Result, Ok}
+use Rattle.std.proofs.Common.{Err, refl, ap, sym, ◌∙◌, append_assoc, arith, inl, inr, length-take}
 use Rattle.std.specs.Prelude.{OnOk, IsErr}
 use Rattle.std.proofs.Math.Seq.{take-append-add}
 use Rattle.std.proofs.lemmas.Bool.{cases_lt}

@@ -1,20 +1,19 @@
 -- What the parts of a block own and show names no thread.
-use Rattle.std.proofs.Common.{ℕ, List, length}
-use base.Fml.{ftrue}
+use Rattle.std.proofs.Common.{ℕ, List, [], Bool, true, false, length}
+use mir.Val.{Val}
+use base.Fml.{Fml, ftrue, fsep}
 use base.Fraction.{full_share}
 use base.Shift.{Keyless}
 use denote.Array.{Array}
 use denote.Builtin.{u8}
 use denote.RawPtr.{Ptr, block_ptr, null_ptr, block_of, count_of, in_block}
-use denote.Param.Send.{IsSend, IsSync, Common, part_keyless, array_send, array_sync, sendable, struct_send, struct_sync, owning_send}
-use denote.Struct.Declared as declared
+use denote.Param.Send.{IsSend, IsSync, Common, part_keyless, array_send, array_sync, sendable, struct_sync, owning_send}
 use denote.Struct.Owning.{shape, to}
-use Rattle.std.specs.Vec.{with_items}
+use Rattle.std.specs.Vec.Ownership.{owns_if, has_block}
 use Rattle.std.proofs.Crossing.{Vec-send}
-use Rattle.alog_format.specs.Ownership.{bytes_own, bytes_lent}
+use Rattle.alog_format.specs.Ownership.{V, bytes_own, bytes_lent, room_own, rest_own}
 use Rattle.alog_format.specs.contracts.block.Bytes as Bytes
 use Rattle.alog_format.specs.contracts.block.Deed as Deed
-use Rattle.alog_format.specs.contracts.block.Deed.TheInside as Inside
 
 byte-send : IsSend u8
 byte-send = search sendable
@@ -37,11 +36,27 @@ pub bytes-send : IsSend Bytes.the_row
 bytes-send = owning_send Bytes.the_type tt (λ d. own-keyless d.start d.items) (λ k x w. tt)
 
 pub bytes-sync : IsSync Bytes.the_row
-bytes-sync = record { shared = λ d b o κ. ((struct_sync (shape Bytes.the_type) tt).shared (to Bytes.the_type d) b o κ, lent-common d.start d.items κ) }
+bytes-sync = record {
+  shared = λ d b o κ. (
+    (struct_sync (shape Bytes.the_type) tt).shared (to Bytes.the_type d) b o κ,
+    lent-common d.start d.items κ,
+  );
+}
+
+-- what a vector owns names no thread, so neither does a part of it
+without_first : (p : Ptr) (y : Bool) (A B : Fml) → Keyless (in_block p (owns_if y (fsep A B))) → Keyless (in_block p (owns_if y B))
+without_first (block_ptr b o) true A B h = h.1
+without_first (block_ptr b o) false A B h = tt
+without_first null_ptr y A B h = h
+
+rest-keyless : (v : V.Denot) (vs : List Val) → Keyless (rest_own v vs)
+rest-keyless v vs =
+    let whole : (ws : List Val) → Keyless (V.own_val v ws) = λ ws. (Vec-send u8 byte-send).owned v ws in
+    ((λ vss. (tt, ((whole vss.0).0, tt))), (tt, without_first v.ptr (has_block v.cap) _ (room_own v) (whole []).1.1))
 
 pub deed-send : IsSend Deed.the_row
 deed-send = record {
-  owned = λ e vs. ((λ _. tt), λ v. (tt, λ xs. ((tt, own-keyless e.start xs), (struct_send (declared.shape Inside.the_type) (Vec-send u8 byte-send, tt)).owned (with_items v.vec xs, tt) vs)));
+  owned = λ e vs. ((λ _. tt), λ v. (tt, (tt, rest-keyless v.vec vs)));
   leaving = λ k x w. tt;
 }
 

@@ -1,5 +1,6 @@
 -- How long the texts of items are at most, and the texts of a row of items.
-use Rattle.std.proofs.Common.{◌≡◌, ℕ, ◌+◌, ◌≤◌, ◌<◌, max, cond, Bool, true, false, List, [], ◌∷◌, ◌++◌, length, take, drop, get_or, sum_by, Option, Some, None, ap, sym, ◌∙◌, arith, append_assoc, append-nil, length-append}
+use Rattle.std.proofs.Common.{◌≡◌, ℕ, ◌+◌, ◌≤◌, ◌<◌, max, cond, Bool, true, false, List, [], ◌∷◌, ◌++◌, length, take, drop, get_or, sum_by}
+use Rattle.std.proofs.Common.{Option, Some, None, ap, sym, ◌∙◌, arith, append_assoc, append-nil, length-append}
 use Rattle.std.specs.List.{flat_map}
 use Rattle.std.proofs.lemmas.List.{take_more}
 use Rattle.std.proofs.lemmas.List.Sums.{sum_by-drop_more}
@@ -18,15 +19,18 @@ use Rattle.alog_format.specs.Line.{IsShowable, item_text}
 use Rattle.alog_format.specs.Text.{Shown, flag_text, of_source}
 use Rattle.alog_format.proofs.TextLengths.{flag_len}
 
-pad_len : (width : ℕ) (side : Side) (cut : Bool) (text : List ℕ) (len : ℕ) → length text ≤ len → length (pad width side cut text) ≤ cond cut width (max width len)
+pad_len : (width : ℕ) (side : Side) (cut : Bool) (text : List ℕ) (len : ℕ) → length text ≤ len
+    → length (pad width side cut text) ≤ cond cut width (max width len)
 pad_len width side true text len h = omega (arith, length-pad width side true text)
 pad_len width side false text len h = omega (arith, length-pad width side false text)
 
-padded_text_len : (padding : Option Padding) (text : List ℕ) (len : ℕ) → length text ≤ len → length (padded padding text) ≤ padded_len padding len
+padded_text_len : (padding : Option Padding) (text : List ℕ) (len : ℕ) → length text ≤ len
+    → length (padded padding text) ≤ padded_len padding len
 padded_text_len None text len h = h
 padded_text_len (Some p) text len h = pad_len p.width p.side p.cut text len h
 
-chosen_len : (ignores : Bool) (padding : Option Padding) (text : List ℕ) (len : ℕ) → length text ≤ len → length (cond ignores text (padded padding text)) ≤ cond ignores len (padded_len padding len)
+chosen_len : (ignores : Bool) (padding : Option Padding) (text : List ℕ) (len : ℕ) → length text ≤ len
+    → length (cond ignores text (padded padding text)) ≤ cond ignores len (padded_len padding len)
 chosen_len true padding text len h = h
 chosen_len false padding text len h = padded_text_len padding text len h
 
@@ -53,9 +57,12 @@ module _ (limit : ℕ) (s : Shown) (h : IsShowable limit s) (is : List Item) (i 
   item_fits len cap room = omega (arith, left, item_text_len limit s h here)
 
   -- and for what is left after it
-  pub rest_fits : (old new : Buffer) → new ≡ appended old (item_text s here) → length old.bytes + sum_by (item_len limit) (drop i is) < old.capacity → length new.bytes + sum_by (item_len limit) (drop (i + 1) is) < new.capacity
+  pub rest_fits : (old new : Buffer) → new ≡ appended old (item_text s here)
+      → length old.bytes + sum_by (item_len limit) (drop i is) < old.capacity
+      → length new.bytes + sum_by (item_len limit) (drop (i + 1) is) < new.capacity
   rest_fits old new e room =
-      let bytes : length new.bytes ≡ length old.bytes + length (item_text s here) = ap (λ (b : Buffer). length b.bytes) e ∙ length-append old.bytes (item_text s here) in
+      let bytes : length new.bytes ≡ length old.bytes + length (item_text s here) = ap (λ (b : Buffer). length b.bytes) e
+      ∙ length-append old.bytes (item_text s here) in
       let capacity : new.capacity ≡ old.capacity = ap (λ (b : Buffer). b.capacity) e in
       omega (arith, left, item_text_len limit s h here)
 
@@ -63,15 +70,18 @@ module _ (limit : ℕ) (s : Shown) (h : IsShowable limit s) (is : List Item) (i 
   texts_more : flat_map (item_text s) (take (i + 1) is) ≡ flat_map (item_text s) (take i is) ++ item_text s here
   texts_more =
       ap (flat_map (item_text s)) (take_more is i d inside)
-      ∙ flat_map-append (item_text s) (take i is) (here ∷ []) ∙ ap (λ l. flat_map (item_text s) (take i is) ++ l) (append-nil (item_text s here))
+      ∙ flat_map-append (item_text s) (take i is) (here ∷ [])
+      ∙ ap (λ l. flat_map (item_text s) (take i is) ++ l) (append-nil (item_text s here))
 
-  pub texts_written : (old mid new : Buffer) → mid ≡ appended old (flat_map (item_text s) (take i is)) → new ≡ appended mid (item_text s here) → new ≡ appended old (flat_map (item_text s) (take (i + 1) is))
+  pub texts_written : (old mid new : Buffer) → mid ≡ appended old (flat_map (item_text s) (take i is))
+      → new ≡ appended mid (item_text s here) → new ≡ appended old (flat_map (item_text s) (take (i + 1) is))
   texts_written old mid new e f =
       f ∙ ap (λ (b : Buffer). appended b (item_text s here)) e
       ∙ ap (λ (l : List ℕ). record old { bytes = l }) (append_assoc old.bytes (flat_map (item_text s) (take i is)) (item_text s here))
       ∙ ap (appended old) (sym texts_more)
 
 -- the texts and then a newline
-pub line_written : (old mid new : Buffer) (texts : List ℕ) → mid ≡ appended old texts → new ≡ appended mid (10 ∷ []) → new ≡ appended old (texts ++ 10 ∷ [])
+pub line_written : (old mid new : Buffer) (texts : List ℕ) → mid ≡ appended old texts → new ≡ appended mid (10 ∷ [])
+    → new ≡ appended old (texts ++ 10 ∷ [])
 line_written old mid new texts e f =
     f ∙ ap (λ (b : Buffer). appended b (10 ∷ [])) e ∙ ap (λ (l : List ℕ). record old { bytes = l }) (append_assoc old.bytes texts (10 ∷ []))

@@ -1,5 +1,5 @@
 pub mod Blocks
-pub mod Carved
+pub mod Parted
 pub mod Clips
 pub mod Crosses
 pub mod Gaps

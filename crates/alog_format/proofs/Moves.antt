@@ -1,5 +1,6 @@
 -- Bytes that move up within a block, the last one first.
-use Rattle.std.proofs.Common.{◌≡◌, ℕ, suc, ◌+◌, ◌≤◌, List, [], ◌∷◌, ◌++◌, length, get_or, set, take, drop, ap, sym, ◌∙◌, append_assoc, arith, length-append, length-take, length-drop}
+use Rattle.std.proofs.Common.{◌≡◌, ℕ, suc, ◌+◌, ◌≤◌, List, [], ◌∷◌, ◌++◌, length, get_or, set, take, drop, ap, sym, ◌∙◌, append_assoc}
+use Rattle.std.proofs.Common.{arith, length-append, length-take, length-drop}
 use Rattle.std.proofs.Math.Seq.{take-suc, drop-cons, set-append_seam}
 use Rattle.std.proofs.Math.ListN.{get_or-append, drop_of_length-le, take-append-drop}
 use Rattle.std.proofs.lemmas.List.{get_or-take, drop-take}
@@ -12,7 +13,10 @@ module _ (xs : List ℕ) (from to count : ℕ) where
 
   pub upper_begins : xs ≡ upper count
   upper_begins =
-      let none : drop (from + count) (take (from + count) xs) ≡ [] = drop_of_length-le (take (from + count) xs) (omega (arith, length-take (from + count) xs)) in
+      let none : drop (from + count) (take (from + count) xs) ≡ [] = drop_of_length-le (take (from + count) xs) (omega (
+        arith,
+        length-take (from + count) xs,
+      )) in
       sym (ap (λ l. take (to + count) xs ++ (l ++ drop (to + count) xs)) none ∙ take-append-drop (to + count) xs)
 
   pub upper_ends : upper 0 ≡ moved xs from to count

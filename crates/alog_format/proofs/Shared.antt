@@ -13,7 +13,8 @@ use types.Kit.{‵, ◌$◌, ◌∵◌, !, qed, keep, fsplit, done}
 use Rattle.alog_format.specs.Ownership.{bytes_lent}
 
 module _ {M : Type 1} {𝓤 : Ura M} (𝓛 : Logic 𝓤) (b : ℕ) (κ : Lft) where
-  pub first_shared : (n : ℕ) (xs : List ℕ) (o : ℕ) → ent 𝓤 (sem 𝓛 (elements_shared u8 xs b o κ)) (sem 𝓛 (elements_shared u8 (take n xs) b o κ))
+  pub first_shared : (n : ℕ) (xs : List ℕ) (o : ℕ)
+      → ent 𝓤 (sem 𝓛 (elements_shared u8 xs b o κ)) (sem 𝓛 (elements_shared u8 (take n xs) b o κ))
   first_shared zero xs o = top 𝓤 _
   first_shared (suc n) [] o = top 𝓤 _
   first_shared (suc n) (x ∷ xs) o = mono_r 𝓤 (sem 𝓛 (shared_of u8 x b o κ)) (first_shared n xs (o + 1))

@@ -1,5 +1,6 @@
 -- How long the texts of flags and items are at most.
-use Rattle.std.proofs.Common.{◌≡◌, ℕ, zero, suc, ◌+◌, ◌/◌, ◌%◌, ◌^◌, ◌≤◌, ◌<◌, cond, Bool, true, false, List, [], ◌∷◌, length, Option, Some, None, ℤ, pos, negsuc, refl, ◌∙◌, arith, length-append, length-take, length-drop, FitsSigned, w64, lit≤}
+use Rattle.std.proofs.Common.{◌≡◌, ℕ, zero, suc, ◌+◌, ◌/◌, ◌%◌, ◌^◌, ◌≤◌, ◌<◌, cond, Bool, true, false, List, [], ◌∷◌, length, Option, Some}
+use Rattle.std.proofs.Common.{None, ℤ, pos, negsuc, refl, ◌∙◌, arith, length-append, length-take, length-drop, FitsSigned, w64, lit≤}
 use Rattle.std.specs.Prelude.{decimal, nat_lt, ◌==◌}
 use Rattle.std.proofs.lemmas.Fmt.{length-decimal-le}
 use Rattle.std.proofs.lemmas.Int.{ints}
@@ -12,7 +13,9 @@ use Rattle.alog_pattern.specs.declared.flags.Flag.TheVariants as flags
 use Rattle.alog_pattern.specs.Flag.{greatest_len}
 use Rattle.alog_format.specs.declared.civil.Civil.{Civil}
 use Rattle.alog_format.specs.Line.{IsShowable, SourceFits}
-use Rattle.alog_format.specs.Text.{Shown, digits, weekday_name, month_name, short_weekday, short_month, half_day_hour, half_day, short_time, time, short_date, half_day_time, date_and_time, offset_sign, offset_text, epoch, base, location, of_source, bracketed, stamp, name_part, place_part, default_text, time_text, flag_text}
+use Rattle.alog_format.specs.Text.{Shown, digits, weekday_name, month_name, short_weekday, short_month, half_day_hour, half_day, short_time}
+use Rattle.alog_format.specs.Text.{time, short_date, half_day_time, date_and_time, offset_sign, offset_text, epoch, base, location}
+use Rattle.alog_format.specs.Text.{of_source, bracketed, stamp, name_part, place_part, default_text, time_text, flag_text}
 
 abbrev Within : ℕ → List ℕ → Type 0
 Within n text = length text ≤ n
@@ -122,7 +125,15 @@ name_part_len (b ∷ bs) h = omega (arith, length-bracketed (b ∷ bs))
 place_part_len : (source : Option SourceFields) → SourceFits source → Within 270 (place_part source)
 place_part_len None h = omega arith
 place_part_len (Some source) h =
-    omega (arith, length-bracketed (location (base source.file) source), location_len (base source.file) source (omega (arith, base_len source.file, h.0)) h.1)
+    omega (
+      arith,
+      length-bracketed (location (base source.file) source),
+      location_len (base source.file) source (omega (
+        arith,
+        base_len source.file,
+        h.0,
+      )) h.1,
+    )
 
 level_len : (level : Level) → Within 8 (row_of level).name
 level_len levels.Trace = lit≤ tt
@@ -179,7 +190,9 @@ time_len limit s h flags.ShortTime = omega (arith, length-short_time s.at)
 time_len limit s h flags.Time = omega (arith, length-time s.at)
 time_len limit s h flag = omega arith
 
-source_len : (limit : ℕ) (flag : Flag) (text : SourceFields → List ℕ) (source : Option SourceFields) → SourceFits source → ((s : SourceFields) → SourceFits (Some s) → length (text s) ≤ greatest_len limit flag) → length (of_source text source) ≤ greatest_len limit flag
+source_len : (limit : ℕ) (flag : Flag) (text : SourceFields → List ℕ) (source : Option SourceFields) → SourceFits source
+    → ((s : SourceFields) → SourceFits (Some s) → length (text s) ≤ greatest_len limit flag)
+    → length (of_source text source) ≤ greatest_len limit flag
 source_len limit flag text None h each = omega arith
 source_len limit flag text (Some source) h each = each source h
 
@@ -199,8 +212,13 @@ flag_len limit s h flags.Default = default_len limit s h
 flag_len limit s h flags.ColourStart = lit≤ tt
 flag_len limit s h flags.ColourEnd = lit≤ tt
 flag_len limit s h flags.Location = source_len limit flags.Location _ s.message.source h.source (λ x fits. location_len x.file x fits.0 fits.1)
-flag_len limit s h flags.FileBase = source_len limit flags.FileBase _ s.message.source h.source (λ x fits. omega (arith, base_len x.file, fits.0))
+flag_len limit s h flags.FileBase = source_len limit flags.FileBase _ s.message.source h.source (λ x fits. omega (
+  arith,
+  base_len x.file,
+  fits.0,
+))
 flag_len limit s h flags.File = source_len limit flags.File _ s.message.source h.source (λ x fits. fits.0)
-flag_len limit s h flags.Line = source_len limit flags.Line _ s.message.source h.source (λ x fits. let line = fits.1 in length-decimal-le 10 x.line (omega arith) (omega arith) (omega arith))
+flag_len limit s h flags.Line = source_len limit flags.Line _ s.message.source h.source (λ x fits. let line = fits.1 in
+    length-decimal-le 10 x.line (omega arith) (omega arith) (omega arith))
 flag_len limit s h flags.Function = source_len limit flags.Function _ s.message.source h.source (λ x fits. fits.2)
 flag_len limit s h flag = time_len limit s h flag

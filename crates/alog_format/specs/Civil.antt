@@ -3,6 +3,7 @@ use Rattle.std.specs.Prelude.{◌≡◌, ℤ, pos, neg_ℤ, unsigned_abs, ◌+�
 use Rattle.jiff_core.specs.declared.civil.datetime.DateTime.{DateTime}
 use Rattle.jiff.specs.Words.{weekday_of, civil_nanos, nanos_of_seconds}
 use Rattle.alog_format.specs.declared.civil.Civil.{Civil}
+use Rattle.alog_format.specs.declared.context.TheConstants.{OFFSET_MAX}
 use Rattle.alog_format.specs.declared.context.Zone.{Zone}
 use Rattle.alog_format.specs.declared.context.Zone.TheVariants.{Fixed}
 
@@ -12,7 +13,7 @@ offset_minutes (Fixed minutes) = minutes
 
 -- less than a day, either way
 abbrev pub IsZone : Zone → Type 0
-IsZone zone = (neg_ℤ (pos 1439) ≤ℤ offset_minutes zone) × (offset_minutes zone ≤ℤ pos 1439)
+IsZone zone = (neg_ℤ OFFSET_MAX ≤ℤ offset_minutes zone) × (offset_minutes zone ≤ℤ OFFSET_MAX)
 
 -- the fields of a date and a time of day; the years that a message can have are 1677 to 2262
 abbrev pub fields : DateTime → Civil

@@ -20,7 +20,8 @@ limit_of b p = if p.cut then length b.bytes + p.width else b.capacity
 -- the bytes from `start` on with spaces round them
 abbrev pub surrounded : Buffer → ℕ → ℕ → Side → Buffer
 surrounded b start missing side =
-    record b { bytes = take start b.bytes ++ (spaces (spaces_before side missing) ++ drop start b.bytes ++ spaces (missing - spaces_before side missing)) }
+    let before = spaces_before side missing in
+    record b { bytes = take start b.bytes ++ (spaces before ++ drop start b.bytes ++ spaces (missing - before)) }
 
 -- the bytes from `start` on padded
 abbrev pub padded_from : Buffer → ℕ → ℕ → Side → Buffer

@@ -6,6 +6,7 @@ use Rattle.alog_format.specs.Buffer.{Buffer, appended}
 use Rattle.std.specs.List.{flat_map}
 use Rattle.std.specs.Str.{byte}
 use Rattle.alog_format.specs.declared.civil.Civil.{Civil}
+use Rattle.alog_msg.specs.declared.limits.TheConstants.{FILE_MAX, FUNCTION_MAX, LOGGER_NAME_MAX}
 use Rattle.alog_msg.specs.declared.message.Message.{Message}
 use Rattle.alog_pattern.specs.declared.items.Item.{Item}
 use Rattle.alog_pattern.specs.declared.items.Item.TheVariants as items
@@ -32,7 +33,13 @@ line_text s items = flat_map (item_text s) items ++ 10 ∷ []
 
 -- what a line of the message shows where a clock shows `at`
 abbrev pub shown : Context → List ℕ → Message → Civil → Shown
-shown context name message at = record { message = message; name = name; process = context.process; offset = offset_minutes context.zone; at = at }
+shown context name message at = record {
+  message = message;
+  name = name;
+  process = context.process;
+  offset = offset_minutes context.zone;
+  at = at;
+}
 
 -- a line of the message shows this
 abbrev pub IsShown : Context → List ℕ → Message → Shown → Type 0
@@ -46,12 +53,12 @@ IsLine context items name message bytes =
 -- the fields of a source keep to their limits
 abbrev pub SourceFits : Option SourceFields → Type 0
 SourceFits None = Unit {0}
-SourceFits (Some source) = (length source.file ≤ 256) × (source.line < 2 ^ 32) × (length source.function ≤ 128)
+SourceFits (Some source) = (length source.file ≤ FILE_MAX) × (source.line < 2 ^ 32) × (length source.function ≤ FUNCTION_MAX)
 
 -- what keeps each flag's text within its greatest length, where texts of messages have at most limit bytes
 pub record IsShowable (limit : ℕ) (s : Shown) : Type 0 where
   pub text : length s.message.text ≤ limit
-  pub name : length s.name ≤ 64
+  pub name : length s.name ≤ LOGGER_NAME_MAX
   pub thread : s.message.thread < 2 ^ 64
   pub process : s.process < 2 ^ 32
   pub time : FitsSigned w64 s.message.time

@@ -1,5 +1,6 @@
 -- The texts of the flags.
-use Rattle.std.specs.Prelude.{ℕ, zero, suc, ◌+◌, ◌/◌, ◌%◌, List, [], ◌∷◌, ◌++◌, take, Option, Some, None, ℤ, pos, negsuc, unsigned_abs, codes, decimal, nat_lt, ◌==◌, if◌then◌else◌}
+use Rattle.std.specs.Prelude.{ℕ, zero, suc, ◌+◌, ◌/◌, ◌%◌, List, [], ◌∷◌, ◌++◌, take, Option, Some, None, ℤ, pos, negsuc, unsigned_abs}
+use Rattle.std.specs.Prelude.{codes, decimal, nat_lt, ◌==◌, if◌then◌else◌}
 use Rattle.std.specs.Fmt.{signed_decimal}
 use Rattle.std.specs.Int.{int_div_euclid}
 use Rattle.std.specs.List.{after_last}

@@ -1,13 +1,12 @@
 //! A block of bytes behind a raw pointer: where it begins, its bytes, and the right to give it back.
 //!
-//! The block comes from a vector, which is taken apart, and goes back by putting that together again. Between, nothing
+//! The block is a vector's, which is parted into its bytes and the rest of it, and reunited to be freed. Between, nothing
 //! reaches the bytes but `Bytes::copy_in`, `move_up`, `fill` and `as_slice`.
 ghost use Rattle.std.specs.Prelude.{◌≡◌, ℕ, ◌+◌, ◌^◌, ◌<◌, ◌≤◌, List, length, replicate, take};
-ghost use Rattle.std.specs.Vec.{with_items};
-ghost use base.Fml.{ftrue, fex, fall, fwand, fsep, feq};
+ghost use base.Fml.{ftrue, fex, fsep, feq};
 ghost use denote.RawPtr.{Ptr};
 ghost use Rattle.alog_format.specs.Block.{gapped, moved, overwritten};
-ghost use Rattle.alog_format.specs.Ownership.{Extent, extent_code, bytes_own, bytes_lent};
+ghost use Rattle.alog_format.specs.Ownership.{Span, span_code, bytes_own, bytes_lent, rest_own};
 
 use std::marker::{Model, Move, Owns};
 use std::slice;
@@ -31,22 +30,22 @@ impl Model for Bytes {
     ghost also_shares = { λ b _ κ. bytes_lent b.start b.items κ };
 }
 
-/// A vector whose bytes are out: the right to give their block back.
+/// A vector but for its bytes: it owns the room behind them, and the right to free the block.
 pub(crate) struct Deed {
     vec: Vec<u8>,
 }
 
 impl Owns for Deed {
-    ghost Value = { Extent };
+    ghost Value = { Span };
 
-    ghost coded = { extent_code };
+    ghost coded = { span_code };
 
     ghost shr_at = { λ _ _ _. ftrue };
 }
 
 impl Move for Deed {
-    // with bytes in their place, it is a vector again
-    ghost own_val = { λ e vs. fex Inside (λ v. fsep (feq ℕ v.vec.len e.len) (fall (List ℕ) (λ xs. fwand (fsep (feq ℕ (length xs) e.len) (bytes_own e.start xs)) (Fields.own_val (record { vec = with_items v.vec xs }) vs)))) };
+    ghost own_val = { λ e vs. fex Inside (λ v.
+        fsep (feq ℕ v.vec.len e.len) (fsep (feq Ptr v.vec.ptr e.start) (rest_own v.vec vs))) };
 }
 
 // A pointer alone gives no access to the bytes.
@@ -62,8 +61,8 @@ unsafe impl Send for Deed {}
 
 unsafe impl Sync for Deed {}
 
-/// Takes a vector apart.
-pub(crate) fn detach(vec: Vec<u8>) -> (Bytes, Deed)
+/// Parts a vector into its bytes and the rest of it.
+pub(crate) fn part(vec: Vec<u8>) -> (Bytes, Deed)
     requires { 0 < vec.len }
     ensures { (result.0.start ≡ vec.ptr) × (result.0.items ≡ vec.items)
         × (result.1.start ≡ vec.ptr) × (result.1.len ≡ vec.len) }
@@ -71,8 +70,8 @@ pub(crate) fn detach(vec: Vec<u8>) -> (Bytes, Deed)
     (Bytes {}, Deed { vec })
 }
 
-/// Puts it together again.
-pub(crate) fn attach(bytes: Bytes, deed: Deed) -> Vec<u8>
+/// Puts the bytes back into the rest of their vector.
+pub(crate) fn reunite(bytes: Bytes, deed: Deed) -> Vec<u8>
     requires { (bytes.start ≡ deed.start) × (length bytes.items ≡ deed.len) }
     ensures { result.items ≡ bytes.items }
 {

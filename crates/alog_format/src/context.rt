@@ -1,9 +1,12 @@
 ghost use Rattle.alog_format.specs.Civil.{IsZone};
 
-/// Where a clock stands that lines show the time of.
+/// The most minutes that a fixed offset is from UTC, either way: one less than a day.
+pub const OFFSET_MAX: i16 = 1_439;
+
+/// Where a clock stands that lines show the time of. The test `tells_the_time` shows three zones.
 #[derive(Clone, Copy, Debug, PartialEq, Eq)]
 pub enum Zone {
-    /// A fixed offset in minutes east of UTC.
+    /// A fixed offset in minutes east of UTC, at most `OFFSET_MAX` either way.
     Fixed(i16),
 }
 
@@ -21,7 +24,7 @@ impl Zone {
     }
 }
 
-/// What the lines of a sink show beside their messages.
+/// What the lines of a sink show beside their messages, as the constants `UTC`, `WEST` and `EAST` of the tests.
 #[derive(Clone, Copy, Debug)]
 pub struct Context {
     /// Less than a day from UTC: a fixed offset is -1,439 to 1,439 minutes.

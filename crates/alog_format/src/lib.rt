@@ -16,15 +16,16 @@ mod civil;
 mod clip;
 mod context;
 mod flag_texts;
-pub mod laws;
+mod laws;
 mod line_buf;
 mod lines;
 mod names;
 mod pads;
 mod times;
 
-pub use context::{Context, Zone};
-pub use line_buf::{LineBuf, NoRoom};
+pub use context::{Context, OFFSET_MAX, Zone};
+pub use laws::one_line;
+pub use line_buf::{LineBuf, NoRoomError};
 pub use lines::format;
 
 #[cfg(test)]

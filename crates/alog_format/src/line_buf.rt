@@ -1,17 +1,19 @@
 ghost use Rattle.std.specs.Prelude.{◌≡◌, ◌+◌, ◌≤◌, ◌↔◌, [], length, IfOk, IsErr, OnOk, OnErr, ◌==◌};
 
-use crate::block::{Bytes, Deed, Start, attach, detach};
+use crate::block::{Bytes, Deed, Start, part, reunite};
 use std::alloc::{AllocError, Global};
 use std::marker::Model;
 use thiserror::Error;
 
-/// The buffer has no room for the bytes.
+/// The buffer has no room for the bytes. The test `has_no_room_at_all` shows when.
 #[derive(Clone, Copy, Debug, PartialEq, Eq, Error)]
 #[error("the line buffer has no room")]
-pub struct NoRoom;
+pub struct NoRoomError;
 
 /// A block of bytes of fixed capacity, in which one worker makes its lines. The block is taken once, never grows, and
 /// is reached through a raw pointer by the methods of `Bytes` alone, which are proved by hand.
+///
+/// The test `makes_a_line_in_place` shows each call.
 pub struct LineBuf {
     start: Start,
     bytes: Bytes,
@@ -42,7 +44,7 @@ impl Drop for LineBuf {
             limit: _,
             len: _,
         } = self;
-        drop(attach(bytes, deed));
+        drop(reunite(bytes, deed));
     }
 }
 
@@ -57,7 +59,7 @@ impl LineBuf {
         // A block of no byte would have no place.
         let mut block = vec![in alloc; 0; cap.max(1)]?;
         let start = Start::of(&mut block);
-        let (bytes, deed) = detach(block);
+        let (bytes, deed) = part(block);
         Ok(LineBuf {
             start,
             bytes,
@@ -68,13 +70,13 @@ impl LineBuf {
     }
 
     /// Appends the bytes.
-    pub fn put(&mut self, bytes: &[u8]) -> Result<(), NoRoom>
+    pub fn put(&mut self, bytes: &[u8]) -> Result<(), NoRoomError>
         ensures ok { OnOk result (self.new ≡ appended self.old bytes.now) }
         ensures no_room { IsErr result ↔ LacksRoom self.old (length bytes.now) }
         ensures err { OnErr result (self.new ≡ self.old) }
     {
         if bytes.len() > self.room() {
-            return Err(NoRoom);
+            return Err(NoRoomError);
         }
         self.bytes.copy_in(self.start.at, self.len, bytes);
         self.len += bytes.len();
@@ -82,14 +84,14 @@ impl LineBuf {
     }
 
     /// Moves the bytes from `at` on up by `by`, and fills the gap with spaces.
-    pub fn shift(&mut self, at: usize, by: usize) -> Result<(), NoRoom>
+    pub fn shift(&mut self, at: usize, by: usize) -> Result<(), NoRoomError>
         requires { at ≤ length self.old.bytes }
         ensures ok { OnOk result (self.new ≡ shifted self.old at by) }
         ensures no_room { IsErr result ↔ LacksRoom self.old by }
         ensures err { OnErr result (self.new ≡ self.old) }
     {
         if by > self.room() {
-            return Err(NoRoom);
+            return Err(NoRoomError);
         }
         self.bytes.open_gap(self.start.at, self.len, at, by);
         self.len += by;
@@ -122,7 +124,7 @@ impl LineBuf {
     pub fn len(&self) -> usize
         ensures { result ≡ length self.now.bytes }
     {
-        self.as_slice().len()
+        self.len
     }
 
     /// Whether there are no bytes.

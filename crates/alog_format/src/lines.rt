@@ -13,13 +13,13 @@ use crate::context::Context;
 use crate::flag_texts::{Facts, write_flag};
 use crate::line_buf::LineBuf;
 use crate::pads::write_padded;
-use alog_msg::Message;
+use alog_msg::{LOGGER_NAME_MAX, Message};
 use alog_pattern::{Flag, Item, Padding, Pattern, Side};
 
 /// Appends the line of a message: the texts of the pattern's items in order, and a newline.
 ///
 /// The buffer has room for the pattern's longest line, the text keeps to the pattern's limit, and the name of the
-/// logger has at most 64 bytes.
+/// logger has at most 64 bytes. The tests `writes_the_default_format` and `writes_lines_one_behind_another` show calls.
 pub fn format(
     pattern: &Pattern,
     context: &Context,
@@ -28,7 +28,7 @@ pub fn format(
     line: &mut LineBuf,
 )
     requires text { length message.now.text ≤ pattern.now.text_limit }
-    requires name { length name.now ≤ 64 }
+    requires name { length name.now ≤ LOGGER_NAME_MAX }
     requires room { length line.old.bytes + longest pattern.now ≤ line.old.capacity }
     ensures { AppendsLine context.now pattern.now.items name.now message.now line.old line.new }
 {
@@ -46,11 +46,9 @@ fn facts_of<'a>(context: &Context, name: &'a str, message: &'a Message) -> Facts
     ensures time { FitsSigned w64 message.now.time }
 {
     let process = context.process();
-    // The source's own limits, which its methods tell.
+    // What is read here only tells the prover its range: the fields of a source, and the thread.
     if let Some(source) = &message.source {
-        let _file = source.file();
-        let _line = source.line();
-        let _function = source.function();
+        let (_file, _line, _function) = (source.file(), source.line(), source.function());
     }
     let _thread = message.thread;
     let offset = context.zone.offset_minutes();

@@ -1,4 +1,4 @@
-use crate::{Context, LineBuf, NoRoom, Zone, format};
+use crate::{Context, LineBuf, NoRoomError, Zone, format};
 use alog_msg::{Level, Message, SourceRef};
 use alog_pattern::Pattern;
 use std::process::Abort;
@@ -237,13 +237,13 @@ fn makes_a_line_in_place(rt: HostRuntime) -> Result<(), Fail> {
     let mut line = LineBuf::new(rt.alloc(), 4)?;
     assert!(rt; line.is_empty());
     line.put(b"abc")?;
-    assert_eq!(rt; line.put(b"de"), Err(NoRoom));
+    assert_eq!(rt; line.put(b"de"), Err(NoRoomError));
     assert_eq!(rt; line.as_slice(), b"abc".as_slice());
     line.shift(1, 1)?;
     assert_eq!(rt; line.as_slice(), b"a bc".as_slice());
     assert_eq!(rt; line.room(), 0);
     assert_eq!(rt; line.capacity(), 4);
-    assert_eq!(rt; line.shift(0, 1), Err(NoRoom));
+    assert_eq!(rt; line.shift(0, 1), Err(NoRoomError));
     line.cut(2);
     assert_eq!(rt; line.as_slice(), b"a ".as_slice());
     assert_eq!(rt; line.len(), 2);
@@ -257,8 +257,8 @@ fn has_no_room_at_all(rt: HostRuntime) -> Result<(), Fail> {
     let mut line = LineBuf::new(rt.alloc(), 0)?;
     line.put(b"")?;
     line.shift(0, 0)?;
-    assert_eq!(rt; line.put(b"a"), Err(NoRoom));
-    assert_eq!(rt; line.shift(0, 1), Err(NoRoom));
+    assert_eq!(rt; line.put(b"a"), Err(NoRoomError));
+    assert_eq!(rt; line.shift(0, 1), Err(NoRoomError));
     assert_eq!(rt; (line.capacity(), line.room(), line.len()), (0, 0, 0));
     assert_eq!(rt; line.as_slice(), b"".as_slice());
     Ok(())
@@ -320,7 +320,7 @@ fn writes_lines_one_behind_another(rt: HostRuntime) -> Result<(), Fail> {
 
 #[test]
 fn tells_the_error(rt: HostRuntime) -> Result<(), Fail> {
-    let text = format!(in rt.alloc(); "{NoRoom}")?;
+    let text = format!(in rt.alloc(); "{NoRoomError}")?;
     assert_eq!(rt; text.as_str(), "the line buffer has no room");
     Ok(())
 }

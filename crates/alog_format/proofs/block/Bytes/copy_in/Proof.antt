@@ -1,5 +1,6 @@
 -- `copy_in` meets its contract: a walk of its MIR by hand. The first i bytes are copied.
-use Rattle.std.proofs.Common.{◌≡◌, ℕ, zero, suc, ◌+◌, ◌-◌, ◌^◌, ◌<◌, ◌≤◌, List, [], ◌∷◌, length, get_or, set, sym, refl, ap, subst, ◌∙◌, arith, w8, w64, MutBor, Bor, lit<}
+use Rattle.std.proofs.Common.{◌≡◌, ℕ, zero, suc, ◌+◌, ◌-◌, ◌^◌, ◌<◌, ◌≤◌, List, [], ◌∷◌, length, get_or, set, sym, refl, ap, subst, ◌∙◌}
+use Rattle.std.proofs.Common.{arith, w8, w64, MutBor, Bor, lit<}
 use mathlib.Core.WellFounded.InvImage
 use lib.WfN.{lt-wf_rel}
 use lib.Dec.{ltb→lt, nltb→le}
@@ -16,10 +17,13 @@ use types.Logic.{Logic}
 use types.SemTy.{Body as Borrowed}
 use contract.Monad.{Fun, fact}
 use contract.Running.{tables, tables_of}
-use types.Kit.{Item, Sq, any_q, runs, ‵, raw, ◌⊛◌, ⋆, at_ret, ◌$◌, ◌∵◌, !, qed, by, move, keep, use1, use2, drop as drops, split, split3, join, fsplit, fsplit3, fjoin, fjoin3, feq_i, rewrite, suffices, frame, done}
+use types.Kit.{Item, Sq, any_q, runs, ‵, raw, ◌⊛◌, ⋆, at_ret, ◌$◌, ◌∵◌, !, qed, by, move, keep, use1, use2, drop as drops, split, split3}
+use types.Kit.{join, fsplit, fsplit3, fjoin, fjoin3, feq_i, rewrite, suffices, frame, done}
 use types.Part.{whole, sub}
-use types.Run.{look, store, stop, fld, load, addr, hop, from as place_from, lit, unit_lit, of_opd, bin, assigns_last, first, blocks, skips, jumps, branches, exec, returns, enter, well_typed, loops, again, Below}
-use types.ByLocal.{alloc_all, pass_all, free_all, look_at, get, look_in_at, get_in, through, sets, sets_last, env, holding, forget_but, take_at, give_at}
+use types.Run.{look, store, stop, fld, load, addr, hop, from as place_from, lit, unit_lit, of_opd, bin, assigns_last, first, blocks, skips}
+use types.Run.{jumps, branches, exec, returns, enter, well_typed, loops, again, Below}
+use types.ByLocal.{alloc_all, pass_all, free_all, look_at, get, look_in_at, get_in, through, sets, sets_last, env, holding, forget_but}
+use types.ByLocal.{take_at, give_at}
 use denote.Exit.{yes}
 use denote.RattleType.{owns}
 use denote.Memory.{cell_at, mem}
@@ -47,7 +51,16 @@ use Rattle.alog_format.proofs.block.Bytes.copy_in.Code as code
 
 -- what the function still has of each parameter when it returns: the bytes that it writes, and nothing of the others
 abbrev stayed : Stays (spec.ended).signature.params (spec.ended).kept
-stayed = (stay_ref (0 ∷ []) tt (plain (λ _. B)), (stay_dropped (plain (λ _. RawPtr)) yes, (stay_dropped (plain (λ _. usize)) yes, (stay_dropped (SliceRefOf (1 ∷ []) tt (plain (λ _. u8)) (λ _. tt)) yes, tt))))
+stayed = (
+  stay_ref (0 ∷ []) tt (plain (λ _. B)),
+  (
+    stay_dropped (plain (λ _. RawPtr)) yes,
+    (
+      stay_dropped (plain (λ _. usize)) yes,
+      (stay_dropped (SliceRefOf (1 ∷ []) tt (plain (λ _. u8)) (λ _. tt)) yes, tt),
+    ),
+  ),
+)
 
 module _ {M : Type 1} {𝓤 : Ura M} (𝓛 : Logic 𝓤) (at_mem : Memory → SProp 𝓤) (run : Routine → Fun 𝓤) where
   open 𝓛 use {H}
@@ -84,8 +97,10 @@ module _ {M : Type 1} {𝓤 : Ura M} (𝓛 : Logic 𝓤) (at_mem : Memory → SP
         → ent 𝓤 (⋆ 𝓛 (‵ (fobs γ (B.coded.code new)) ∷ ‵ (fbor κ (Borrowed (mem B) rb ro γ)) ∷ ‵ (flft κ q) ∷ ‵ (flft κ' q') ∷ [])) (Post vunit)
     exits new place is =
         qed 𝓛 (‵ (fobs γ (B.coded.code new)) ∷ ‵ (fbor κ (Borrowed (mem B) rb ro γ)) ∷ ‵ (flft κ q) ∷ ‵ (flft κ' q') ∷ []) ∵
-        suffices ! _ (ends_at 𝓛 spec.ended stayed clauses bound vunit tt (new, (tt, (tt, (tt, tt)))) (tt, (tt, (tt, (tt, tt))))) $ says ! (place, is) $
-        nothing ! $ move ! (4 ∷ 0 ∷ []) $ join ! $ move ! (3 ∷ 0 ∷ []) $ join ! $ frame ! $ feq_i ! (List Val) (vptr rb ro ∷ []) (vptr rb ro ∷ []) refl $ fjoin3 ! $
+        suffices ! _ (ends_at 𝓛 spec.ended stayed clauses bound vunit tt (new, (tt, (tt, (tt, tt)))) (tt, (tt, (tt, (tt, tt))))) $
+        says ! (place, is) $
+        nothing ! $ move ! (4 ∷ 0 ∷ []) $ join ! $ move ! (3 ∷ 0 ∷ []) $ join ! $ frame ! $
+        feq_i ! (List Val) (vptr rb ro ∷ []) (vptr rb ro ∷ []) refl $ fjoin3 ! $
         nothing ! $ nothing ! $ fjoin ! $ nothing ! $ fjoin ! $ nothing ! $ fjoin ! $ move ! (1 ∷ 0 ∷ []) $ fjoin ! $
         feq_i ! (List Val) (vunit ∷ []) (vunit ∷ []) refl $ move ! (1 ∷ 0 ∷ []) $ done !
 
@@ -97,7 +112,8 @@ module _ {M : Type 1} {𝓤 : Ura M} (𝓛 : Logic 𝓤) (at_mem : Memory → SP
     Nearer t u = length ys - t.0 < length ys - u.0
 
     -- the bytes lie at the offset o of the block b, the owner's machine value is us, and r is the share of the source
-    module _ (𝓣 : Tables 𝓤 H) (fits : start + length ys ≤ length d.items) (r : Share) (l : ℕ → ℕ) (b o : ℕ) (e : d.start ≡ block_ptr b o) (us : List Val) where
+    module _ (𝓣 : Tables 𝓤 H) (fits : start + length ys ≤ length d.items) (r : Share) (l : ℕ
+        → ℕ) (b o : ℕ) (e : d.start ≡ block_ptr b o) (us : List Val) where
       abbrev C : Calls 𝓤 H
       C = 𝓣.C
 
@@ -111,7 +127,10 @@ module _ {M : Type 1} {𝓤 : Ura M} (𝓛 : Logic 𝓤) (at_mem : Memory → SP
       Now t =
           ‵ (row u8 full_share (copied t.0) b o) ∷ ‵ (row u8 r ys sb so) ∷ ‵ ((Fields []).own_val tt us) ∷ ‵ (cell_at full_share B.mir us rb ro) ∷ ‵ (fobor κ q (Borrowed (mem B) rb ro γ)) ∷ ‵ (fobs γ (B.coded.code d)) ∷ ‵ (fauth γ (B.coded.code d))
           ∷ Shut 𝓛 κ' q' (row u8 r ys sb so)
-          ∷ holding 𝓛 En ((1, vptr rb ro) ∷ (2, vptr b o) ∷ (3, vint w64 start) ∷ (4, slice_val (sb, so) (length ys)) ∷ (5, vptr sb so) ∷ (6, vint w64 (length ys)) ∷ (7, vint w64 t.0) ∷ [])
+          ∷ holding 𝓛 En ((1, vptr rb ro) ∷ (2, vptr b o) ∷ (3, vint w64 start) ∷ (4, slice_val (sb, so) (length ys)) ∷ (
+            5,
+            vptr sb so,
+          ) ∷ (6, vint w64 (length ys)) ∷ (7, vint w64 t.0) ∷ [])
 
       abbrev Turned : Done → Out → SProp 𝓤
       Turned t = after_turn 𝓤 H (Below 𝓛 Nearer Now t) (after_block 𝓤 H (after_seq 𝓤 H (Wp 𝓤 H C Λ En code.Mir.t-5 (at_return 𝓤 H En Post)) (at_return 𝓤 H En Post)))
@@ -160,10 +179,20 @@ module _ {M : Type 1} {𝓤 : Ura M} (𝓛 : Logic 𝓤) (at_mem : Memory → SP
         let Fits = start + length ys ≤ length d.items in
         qed 𝓛 (((‵ (flft κ q) ⊛ ‵ (flft κ' q') ⊛ ‵ ftrue) ⊛ ‵ (owns (MutRef (named 0) κ B ∷ RawPtr ∷ usize ∷ ShrSlice (named 1) κ' u8 ∷ []) (self, (p, (start, (source, tt)))) words)) ∷ (raw (fact 𝓤 (p ≡ d.start)) ⊛ raw (fact 𝓤 Fits)) ∷ []) ∵
         move ! (1 ∷ []) $ split ! $ heard ! (p ≡ d.start) (λ place. heard ! Fits (λ asked.
-        split ! $ split3 ! $ move ! (3 ∷ []) $ fsplit ! $ fsplit3 ! $ move ! (3 ∷ []) $ fsplit ! $ move ! (1 ∷ []) $ fsplit ! $ move ! (1 ∷ []) $ fsplit ! $ fsplit ! $
+        split ! $ split3 ! $ move ! (3 ∷ []) $ fsplit ! $ fsplit3 ! $ move ! (3 ∷ []) $ fsplit ! $ move ! (1 ∷ []) $ fsplit ! $
+        move ! (1 ∷ []) $ fsplit ! $ fsplit ! $
         keep ! (1 ∷ 9 ∷ 6 ∷ 7 ∷ 8 ∷ []) $
         enter ! 𝓣.C 𝓣.Λ code.function (vptr rb ro ∷ ptr_val p ∷ vint w64 start ∷ slice_val (sb, so) (length ys) ∷ []) _ $
-        alloc_all ! (λ l. pass_all ! refl ((tt, tt), (((rawptr_Lawful 𝓛).typed p (rawptr_vals p) refl).0, ((tt, record { fits = fs }), ((tt, (tt, (record { fits = room.0 }, tt))), tt)))) $
+        alloc_all ! (λ l. pass_all ! refl (
+          (tt, tt),
+          (
+            ((rawptr_Lawful 𝓛).typed p (rawptr_vals p) refl).0,
+            (
+              (tt, record { fits = fs }),
+              ((tt, (tt, (record { fits = room.0 }, tt))), tt),
+            ),
+          ),
+        ) $
         looks_slice ! tt u8 (uint_Copied 𝓛 w8) ys sb so (λ r. move ! (2 ∷ []) $ drops ! $ move ! (2 ∷ 3 ∷ 4 ∷ []) $
         opens_at ! tt d rb ro (λ b o e us. move ! (0 ∷ 6 ∷ []) $
         -- [the bytes; a share of the source; the owner's open borrow, in five entries; the way back of the share]
@@ -181,8 +210,22 @@ pub copy_in_spec : {M : Type 1} → statement M
 unfolding tables_of
 copy_in_spec 𝓤 𝓛 𝓜 𝓡 wired =
     let mem' = 𝓜.mem in let run = 𝓡.returns in
-    proved 𝓛 spec.ended stayed (clauses 𝓛 mem' run) 𝓜 𝓡
-    (Goes-ref 𝓛 2 0 tt (plain (λ _. B)), (Goes-dropped 𝓛 2 (plain (λ _. RawPtr)) yes (λ κs x w. refl), (Goes-dropped 𝓛 2 (plain (λ _. usize)) yes (λ κs x w. refl), (Goes-dropped 𝓛 2 (SliceRefOf (1 ∷ []) tt (plain (λ _. u8)) (λ _. tt)) yes (λ κs x w. refl), tt))))
+    proved 𝓛 spec.ended stayed (clauses 𝓛 mem' run) 𝓜 𝓡 (
+      Goes-ref 𝓛 2 0 tt (plain (λ _. B)),
+      (
+        Goes-dropped 𝓛 2 (plain (λ _. RawPtr)) yes (λ κs x w. refl),
+        (
+          Goes-dropped 𝓛 2 (plain (λ _. usize)) yes (λ κs x w. refl),
+          (Goes-dropped 𝓛 2 (SliceRefOf (1 ∷ []) tt (plain (λ _. u8)) (λ _. tt)) yes (λ κs x w. refl), tt),
+        ),
+      ),
+    )
     spec.Key.name code.function (code.unfolded 𝓤 𝓛.H 𝓜 𝓡 wired)
-    (λ κs. (mut_vals, (rawptr_vals, (uint_vals w64, (shr_slice_vals, tt))))) (λ κs. (mut_Tells (named 0) κs.0 B, (rawptr_Tells, (uint_Tells w64, (shr_slice_Tells (named 1) κs.1.0 u8, tt)))))
+    (λ κs. (mut_vals, (rawptr_vals, (uint_vals w64, (shr_slice_vals, tt))))) (λ κs. (
+      mut_Tells (named 0) κs.0 B,
+      (
+        rawptr_Tells,
+        (uint_Tells w64, (shr_slice_Tells (named 1) κs.1.0 u8, tt)),
+      ),
+    ))
     (λ κs qs bounds a g are. walk 𝓛 mem' run κs.0 κs.1.0 qs.0 qs.1.0 a.0.ref_ptr.0 a.0.ref_ptr.1 a.1.1.1.0.ref_ptr.0 a.1.1.1.0.ref_ptr.1 a.0.ghost_name a.0.now a.1.0 a.1.1.0 a.1.1.1.0.now (tables_of 𝓤 𝓛.H 𝓜 (tables 𝓤 𝓛.H 𝓜 𝓡 𝓡.env)) are.1.1.0.1 are.1.1.1.0.0.1)

@@ -1,4 +1,4 @@
-//! The worked scripts and the bad forms, on the whole program.
+//! The worked scripts and the bad forms, on the whole program and on `replay`.
 use crate::run;
 use alog_replay::replay;
 use std::alloc::{AllocError, Global};
@@ -45,12 +45,14 @@ fn memory_file(rt: HostRuntime) {
         // The largest queue, leading zeros, an empty text, a text of spaces, and no newline at the end.
         (
             "# first\n\nring 065536 00\npush 01 \nrun 1\nwork 2\nrun 2\npush 63  b \nrun 63\nwork 2\nrun 2",
-            "1 claim 0\n1 write 0\n2 grab 0\n2 take 0 \n2 line 0 memory\n63 claim 1\n63 write 1\n2 grab 1\n2 take 1  b \n2 line 1 memory\n== memory memory 5\n\n b \n",
+            "1 claim 0\n1 write 0\n2 grab 0\n2 take 0 \n2 line 0 memory\n63 claim 1\n63 write 1\n2 grab 1\n\
+             2 take 1  b \n2 line 1 memory\n== memory memory 5\n\n b \n",
         ),
         // Two workers: the turns are in the order in which they are made.
         (
             "ring 4 0\npush 1 a\nrun 1\npush 1 b\nrun 1\nwork 3\nstep 3 4\nwork 4\nrun 4\nrun 3\ncells",
-            "1 claim 0\n1 write 0\n1 claim 1\n1 write 1\n3 grab 0\n3 take 0 a\n4 grab 1\n4 take 1 b\n4 line 1 memory\n3 line 0 memory\ncells\n== memory memory 4\nb\na\n",
+            "1 claim 0\n1 write 0\n1 claim 1\n1 write 1\n3 grab 0\n3 take 0 a\n4 grab 1\n4 take 1 b\n\
+             4 line 1 memory\n3 line 0 memory\ncells\n== memory memory 4\nb\na\n",
         ),
     ] {
         prints(&rt, script, printed);
@@ -70,12 +72,14 @@ fn empty_and_full_queues(rt: HostRuntime) {
         // A cell that is being emptied keeps its place.
         (
             "ring 2 0\npush 1 a\nrun 1\npush 2 b\nrun 2\npop 3\nstep 3 3\npop 4\nrun 4\npush 5 c\nrun 5\ncells\nrun 3\npush 5 c\nrun 5",
-            "1 claim 0\n1 write 0\n2 claim 1\n2 write 1\n3 grab 0\n4 grab 1\n4 take 1 b\n5 full 2\ncells 0:emptying\n3 take 0 a\n5 claim 2\n5 write 2\n",
+            "1 claim 0\n1 write 0\n2 claim 1\n2 write 1\n3 grab 0\n4 grab 1\n4 take 1 b\n5 full 2\n\
+             cells 0:emptying\n3 take 0 a\n5 claim 2\n5 write 2\n",
         ),
         // The last ticket of all.
         (
             "ring 2 4611686018427387903\npush 1 a\nrun 1\npush 2 b\nstep 2\npop 3\nrun 3\npop 3\nrun 3",
-            "1 claim 4611686018427387903\n1 write 4611686018427387903\n2 spent\n3 grab 4611686018427387903\n3 take 4611686018427387903 a\n3 empty 4611686018427387904\n",
+            "1 claim 4611686018427387903\n1 write 4611686018427387903\n2 spent\n3 grab 4611686018427387903\n\
+             3 take 4611686018427387903 a\n3 empty 4611686018427387904\n",
         ),
     ] {
         prints(&rt, script, printed);
@@ -169,7 +173,7 @@ fn printed_before_a_refused_line(rt: HostRuntime) {
 }
 
 /// A text of this many letters, after a front.
-fn long(alloc: Global, front: &str, letters: usize) -> Result<String, AllocError> {
+pub(crate) fn long(alloc: Global, front: &str, letters: usize) -> Result<String, AllocError> {
     let mut text = String::from_str(alloc, front)?;
     for _ in 0..letters {
         text.push('x')?;
@@ -218,10 +222,10 @@ impl Read for Trickle<'_> {
 
 /// Takes this many bytes, one at a time, and then fails or takes none.
 #[derive(Drop)]
-struct Narrow {
-    taken: Vec<u8>,
-    room: usize,
-    fails: bool,
+pub(crate) struct Narrow {
+    pub taken: Vec<u8>,
+    pub room: usize,
+    pub fails: bool,
 }
 
 impl Write for Narrow {
@@ -285,147 +289,4 @@ fn each_write_failing(rt: HostRuntime) {
         trickles(&rt, false, room, true, 3, "alog: refused 35\n");
         trickles(&rt, false, room, false, 3, "alog: refused 35\n");
     }
-}
-
-/// Runs `alog format` on these words, and checks its status, what it prints, and its line on standard error.
-fn formats<R: AllocGlobal + Abort>(rt: &R, words: &[&str], status: u8, printed: &str, error: &str) {
-    let mut input = b"".as_slice();
-    let mut output = Vec::new(rt.alloc());
-    let mut errors = Vec::new(rt.alloc());
-    let found = run(rt, words, &mut input, &mut output, &mut errors);
-    assert_eq!(rt; found, status);
-    assert!(rt; output.as_slice() == printed.as_bytes());
-    assert!(rt; errors.as_slice() == error.as_bytes() || error == "..");
-}
-
-#[test]
-fn padded_and_cut_lines(rt: HostRuntime) {
-    let words = ["alog", "format", "%=5L|%-3!n|", "x", "--name", "abcdef"];
-    formats(&rt, words.as_slice(), 0, "  I  |abc|\n", "");
-    let words = ["alog", "format", "[%6!]", "x", "--function", "main"];
-    formats(&rt, words.as_slice(), 0, "[  main]\n", "");
-}
-
-#[test]
-fn times_of_lines(rt: HostRuntime) {
-    let words = [
-        "alog",
-        "format",
-        "[%Y-%m-%d %T.%e] [%l] %v",
-        "hello",
-        "--time=1706974546123000000",
-        "--offset=60",
-    ];
-    let line = "[2024-02-03 16:35:46.123] [info] hello\n";
-    formats(&rt, words.as_slice(), 0, line, "");
-    let words = ["alog", "format", "%Y-%m-%d %T.%F %E", "", "--time=-1"];
-    let line = "1969-12-31 23:59:59.999999999 -1\n";
-    formats(&rt, words.as_slice(), 0, line, "");
-    let words = ["alog", "format", "%+", "--", "-x"];
-    let line = "[1970-01-01 00:00:00.000] [info] -x\n";
-    formats(&rt, words.as_slice(), 0, line, "");
-}
-
-#[test]
-fn threads_levels_and_sources_of_lines(rt: HostRuntime) {
-    let words = [
-        "alog",
-        "format",
-        "%t %P %L %@ %! %v",
-        "t",
-        "--level",
-        "err",
-        "--thread",
-        "7",
-        "--process",
-        "9",
-        "--file",
-        "a/b.rs",
-        "--line",
-        "12",
-    ];
-    formats(&rt, words.as_slice(), 0, "7 9 E a/b.rs:12  t\n", "");
-}
-
-#[test]
-fn refused_words(rt: HostRuntime) {
-    for words in [
-        ["alog", "format", "%v", "x", "--time=1x"],
-        ["alog", "format", "%v", "x", "--time=9223372036854775808"],
-        ["alog", "format", "%v", "x", "--time=+1"],
-        ["alog", "format", "%v", "x", "--offset=1440"],
-        ["alog", "format", "%v", "x", "--offset=-1440"],
-        ["alog", "format", "%v", "x", "--level=Info"],
-        ["alog", "format", "%v", "x", "--thread=-1"],
-        ["alog", "format", "%v", "x", "--process=4294967296"],
-        ["alog", "format", "%v", "x", "--line=x"],
-        ["alog", "format", "%v", "x", "--previous=0"],
-        ["alog", "format", "%v", "x", "y"],
-    ] {
-        formats(&rt, words.as_slice(), 1, "", "..");
-    }
-    formats(&rt, ["alog", "format", "%v"].as_slice(), 1, "", "..");
-}
-
-#[test]
-fn refused_lines_of_format(rt: HostRuntime) -> Result<(), Fail> {
-    let alloc = rt.alloc();
-    let pattern = long(alloc, "", 257)?;
-    let text = long(alloc, "", 2_049)?;
-    let name = long(alloc, "", 65)?;
-    let (long_pattern, long_text) = (pattern.as_str(), text.as_str());
-    let long_name = name.as_str();
-    let wide = "%v%v%v%v%v%v%v%v%v%v%v%v%v%v%v%v%v%v%v%v%v%v%v%v%v%v%v%v%v%v%v%v";
-    for (pattern, text, name, error) in [
-        (long_pattern, long_text, long_name, "alog: refused 17\n"),
-        (wide, long_text, long_name, "alog: refused 18\n"),
-        ("%v", long_text, long_name, "alog: refused 2\n"),
-        ("%v", "x", long_name, "alog: refused 3\n"),
-    ] {
-        let words = ["alog", "format", pattern, text, "--name", name];
-        formats(&rt, words.as_slice(), 2, "", error);
-    }
-    let file = long(alloc, "", 257)?;
-    let words = ["alog", "format", "%v", "x", "--file", file.as_str()];
-    formats(&rt, words.as_slice(), 2, "", "alog: refused 3\n");
-    let function = long(alloc, "", 129)?;
-    let words = ["alog", "format", "%v", "x", "--function", function.as_str()];
-    formats(&rt, words.as_slice(), 2, "", "alog: refused 3\n");
-    Ok(())
-}
-
-/// Runs the program on these words, with nothing to read, and checks the status and which stream has text.
-fn says<R: AllocGlobal + Abort>(
-    rt: &R,
-    words: &[&str],
-    status: u8,
-    on_output: bool,
-    on_errors: bool,
-) {
-    let mut input = b"".as_slice();
-    let mut output = Vec::new(rt.alloc());
-    let mut errors = Vec::new(rt.alloc());
-    let found = run(rt, words, &mut input, &mut output, &mut errors);
-    assert_eq!(rt; found, status);
-    assert_eq!(rt; !output.is_empty(), on_output);
-    assert_eq!(rt; !errors.is_empty(), on_errors);
-}
-
-#[test]
-fn command_lines(rt: HostRuntime) {
-    says(&rt, ["alog", "replay"].as_slice(), 0, false, false);
-    says(&rt, ["alog", "--help"].as_slice(), 0, true, false);
-    says(&rt, ["alog", "replay", "--help"].as_slice(), 0, true, false);
-    says(&rt, ["alog", "--version"].as_slice(), 0, true, false);
-    says(&rt, ["alog"].as_slice(), 1, false, true);
-    says(&rt, ["alog", "play"].as_slice(), 1, false, true);
-    says(&rt, ["alog", "replay", "file"].as_slice(), 1, false, true);
-    says(
-        &rt,
-        ["alog", "replay", "--config", "c.toml"].as_slice(),
-        1,
-        false,
-        true,
-    );
-    says(&rt, ["alog", "load", "c.toml"].as_slice(), 1, false, true);
 }

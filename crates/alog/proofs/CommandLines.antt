@@ -1,0 +1,96 @@
+-- What `clap` makes of the program's words.
+use Rattle.std.proofs.Common.{◌≡◌, ◌∙◌, ap, ap₂, refl, sym, subst, codes, true, ℕ, List, [], ◌∷◌, Option, Some, None, Result, Ok, Err, inl}
+use Rattle.std.proofs.Common.{inr, IfErr, arith}
+use Rattle.std.specs.Prelude.{IsErrAnd, option_map, unwrap_or, slice_index}
+use Rattle.clap.specs.Words.{App, Row, Text, fault_of, found_of, is_simple, is_simple_and_free, rows_of, subcommand_of, subcommand_rows_of}
+use Rattle.clap.specs.Words.{HasMatchesOf, HasKind, kind_of}
+use Rattle.clap.specs.Matches.{subcommand_name_of}
+use Rattle.clap.specs.declared.error.Error.{Error}
+use Rattle.clap.specs.declared.error.kind.ErrorKind.{ErrorKind}
+use Rattle.clap.specs.declared.error.kind.ErrorKind.TheVariants.{OutOfMemory}
+use Rattle.clap.specs.declared.parser.matches.ArgMatches.{ArgMatches}
+use Rattle.clap.proofs.OnLiterals.{clap_on_literals}
+use Rattle.clap.proofs.WalkLemmas.{first_value-rows}
+use Rattle.alog.specs.CommandLine.{alog_app, values_in, NamesFormat}
+use Rattle.alog.specs.Options.{value_of}
+use Rattle.alog.specs.Words.{AsksReplay}
+
+pub alog_is_simple : is_simple alog_app ≡ true
+unfolding clap_on_literals
+alog_is_simple = refl
+
+pub alog_is_free : is_simple_and_free alog_app ≡ true
+unfolding clap_on_literals
+alog_is_free = refl
+
+-- `alog replay` has no fault, and names no `format`
+pub replay_fault : (name : Text) → fault_of alog_app (name ∷ codes "replay" ∷ []) ≡ []
+unfolding clap_on_literals
+replay_fault name = refl
+
+pub replay_is_entered : (name : Text) → subcommand_of alog_app (name ∷ codes "replay" ∷ []) ≡ Some (codes "replay", [])
+unfolding clap_on_literals
+replay_is_entered name = refl
+
+pub error_is : {T E : Type 0} (r : Result T E) (e : E) (P : E → Type 0) → IsErrAnd r (λ x. x ≡ e) → P e → IfErr r P
+error_is (Ok t) e P is p = tt
+error_is (Err x) e P is p = subst P (sym is) p
+
+pair_is : (o : Option (Text × List Row)) (name : Text) (rows : List Row) → option_map (λ p. p.0) o ≡ Some name
+    → option_map (λ p. p.1) o ≡ Some rows → o ≡ Some (name, rows)
+pair_is None name rows a b = cc
+pair_is (Some p) name rows a b =
+    let first : p.0 ≡ name = cc in let second : p.1 ≡ rows = cc in ap₂ (λ (n : Text) (r : List Row). Some (n, r)) first second
+
+again : {A B C : Type 0} (f : B → C) (g : A → B) (o : Option A) → option_map (λ a. f (g a)) o ≡ option_map f (option_map g o)
+again f g None = refl
+again f g (Some a) = refl
+
+-- the name of the subcommand, by the rows
+pub named : (m : ArgMatches) → subcommand_name_of m ≡ option_map (λ p. p.0) (subcommand_rows_of m)
+named m = again (λ (p : Text × List Row). p.0) _ _
+
+-- the values of a parse are those of its rows
+pub values_are : (m : ArgMatches) → value_of m ≡ values_in (rows_of (found_of m))
+values_are m = λ i name. first_value-rows (found_of m) name i
+
+-- where the command is the program's, its facts are those of the definition
+module _ (app : App) (e : app ≡ alog_app) (words : List Text) where
+  pub no_fault : (is_simple_and_free app ≡ true → fault_of app words ≡ []) → fault_of alog_app words ≡ []
+  no_fault kinds = sym (ap (λ (a : App). fault_of a words) e) ∙ kinds (ap is_simple_and_free e ∙ alog_is_free)
+
+  pub has_kind : (error : Error) → (is_simple_and_free app ≡ true → HasKind (fault_of app words) error)
+      → HasKind (fault_of alog_app words) error
+  has_kind error kinds = subst (λ (a : App). HasKind (fault_of a words) error) e (kinds (ap is_simple_and_free e ∙ alog_is_free))
+
+  entered_is : (m : ArgMatches) → HasMatchesOf app words m → subcommand_rows_of m ≡ subcommand_of alog_app words
+  entered_is m has = (has (ap is_simple e ∙ alog_is_simple)).1 ∙ ap (λ (a : App). subcommand_of a words) e
+
+  pub names_format : (m : ArgMatches) (rows : List Row) → HasMatchesOf app words m → subcommand_name_of m ≡ Some (codes "format")
+      → option_map (λ p. p.1) (subcommand_rows_of m) ≡ Some rows → NamesFormat words rows
+  names_format m rows has name is = sym (entered_is m has) ∙ pair_is (subcommand_rows_of m) (codes "format") rows (sym (named m) ∙ name) is
+
+  pub names_no_format : (m : ArgMatches) (rows : List Row) → HasMatchesOf app words m → (subcommand_name_of m ≡ Some (codes "format")
+      → ⊥) → NamesFormat words rows → ⊥
+  names_no_format m rows has other is = other (named m ∙ ap (option_map (λ (p : Text × List Row). p.0)) (entered_is m has ∙ is))
+
+replay_has_no_fault : (words : List Text) → AsksReplay words → fault_of alog_app words ≡ []
+replay_has_no_fault words asks = subst (λ (w : List Text). fault_of alog_app w ≡ []) (sym asks.1) (replay_fault asks.0)
+
+apart : (a b : ℕ) → a ≡ 114 → b ≡ 102 → a ≡ b → ⊥
+apart a b r f same = omega arith
+
+-- the words `alog replay` name no `format`, and are refused for want of memory alone
+pub replay_no_format : (words : List Text) (rows : List Row) → AsksReplay words → NamesFormat words rows → ⊥
+replay_no_format words rows asks format =
+    let entered = subst (λ (w : List Text). subcommand_of alog_app w ≡ Some (codes "replay", [])) (sym asks.1) (replay_is_entered asks.0) in
+    let names : codes "replay" ≡ codes "format" = ap (λ (o : Option (Text × List Row)). unwrap_or (option_map (λ p. p.0) o) []) (sym entered ∙ format) in
+    apart (slice_index (codes "replay") 0) (slice_index (codes "format") 0) refl refl (ap (λ (t : Text). slice_index t 0) names)
+
+pub replay_lacks_memory : (words : List Text) (error : Error) → AsksReplay words → HasKind (fault_of alog_app words) error
+    → kind_of error ≡ OutOfMemory
+replay_lacks_memory words error asks has =
+    elim (subst (λ (kinds : List ErrorKind). HasKind kinds error) (replay_has_no_fault words asks) has) [ inl memory ↦ memory | inr among ↦ absurd among ]
+
+pub one_format : (words : List Text) (rows others : List Row) → NamesFormat words rows → NamesFormat words others → rows ≡ others
+one_format words rows others one other = ap (λ (o : Option (Text × List Row)). unwrap_or (option_map (λ p. p.1) o) []) (sym one ∙ other)

@@ -1,0 +1,48 @@
+use Rattle.std.proofs.Common.{◌≡◌, List, map, inl, inr, arith, subst}
+use Rattle.clap.specs.Words.{Row, Text}
+use Rattle.alog.specs.CommandLine.{values_in, Asks, IsRefusedBy}
+use Rattle.alog.specs.Formats.{Formats}
+use Rattle.alog.proofs.CommandLines.{one_format, replay_lacks_memory, replay_no_format}
+use Rattle.alog.proofs.program.run.Goals as goal
+
+pub returns-in-Ok-Format-clause-replays : goal.returns-in-Ok-Format-clause-replays
+returns-in-Ok-Format-clause-replays g c =
+    λ asks.
+    let words : List Text = map g.S.AsStr.text c.args.words.now in
+    let asked = subst (Asks words) c.in-Ok-Format.field-0-is c.in-Ok-Format.ensures.asked in
+    absurd (replay_no_format words asked.0 asks asked.1.1)
+
+pub returns-in-Ok-Format-clause-formats : goal.returns-in-Ok-Format-clause-formats
+returns-in-Ok-Format-clause-formats g c =
+    λ rows asks.
+    let words : List Text = map g.S.AsStr.text c.args.words.now in
+    let asked = subst (Asks words) c.in-Ok-Format.field-0-is c.in-Ok-Format.ensures.asked in
+    let status = c.format_command.result in
+    let r = c.in-Ok-Format.request in
+    let old = g.O.Write.contents c.args.output.now in
+    let new = g.O.Write.contents c.format_command.new.output in
+    subst (λ (rs : List Row). Formats (values_in rs) status old new) (one_format words asked.0 rows asked.1.1 asks.1) (record {
+      done = λ zero. (r, asked.2, c.format_command.ensures.line zero);
+      usage = λ one. absurd (elim c.format_command.ensures.status [ inl is ↦ omega arith | inr is ↦ let low = is.0 in omega arith ]);
+      refused = λ two. (r, asked.2, c.format_command.ensures.refused two, c.format_command.ensures.unwritten (inl two));
+    })
+
+pub returns-in-Err-Value-clause-replays : goal.returns-in-Err-Value-clause-replays
+returns-in-Err-Value-clause-replays g c =
+    λ asks.
+    let words : List Text = map g.S.AsStr.text c.args.words.now in
+    let refused = subst (IsRefusedBy words) c.in-Err-Value.field-0-is c.in-Err-Value.ensures.refused in
+    absurd (replay_no_format words refused.0 asks refused.1.1)
+
+pub returns-in-Err-Clap-clause-replays : goal.returns-in-Err-Clap-clause-replays
+returns-in-Err-Clap-clause-replays g c =
+    λ asks.
+    let words : List Text = map g.S.AsStr.text c.args.words.now in
+    let memory = replay_lacks_memory words c.in-Err-Clap.error asks (subst (IsRefusedBy words) c.in-Err-Clap.field-0-is c.in-Err-Clap.ensures.refused) in
+    let four : c.explain.result ≡ 4 = c.explain.ensures.memory.1 memory in
+    record {
+      understood = λ one. absurd (omega arith);
+      whole = λ zero. absurd (omega arith);
+      refused = λ two. absurd (omega arith);
+      front = λ _. inl (c.explain.ensures.unwritten (inr four));
+    }

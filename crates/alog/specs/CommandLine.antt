@@ -1,0 +1,56 @@
+-- What command lines the program takes, in the words of `clap`, which defines what it makes of them.
+use Rattle.std.specs.Prelude.{◌≡◌, List, [], ◌∷◌, Some, codes, true}
+use Rattle.clap.specs.Words.{App, Row, Rule, Text, first_of, new_app, new_rule, with_rule, with_subcommand, subcommand_of, fault_of}
+use Rattle.clap.specs.Words.{HasKind}
+use Rattle.alog.specs.Options.{Values, AsksFor, IsFirstRefused}
+use Rattle.alog.specs.declared.request.Request.{Request}
+use Rattle.alog.specs.declared.request.Request.TheVariants.{Replay, Format}
+use Rattle.alog.specs.declared.words.WordsError.{WordsError}
+use Rattle.alog.specs.declared.words.WordsError.TheVariants.{Clap, Value}
+
+-- an argument that is needed, and an option with a value
+abbrev pub argument_of : Text → Rule
+argument_of name = record (new_rule name) { required = true }
+
+abbrev pub option_of : Text → Rule
+option_of name = record (new_rule name) { long = Some name; value_names = 1 }
+
+abbrev pub with_rules : App → List Rule → App
+with_rules app [] = app
+with_rules app (r ∷ rs) = with_rules (with_rule app r) rs
+
+-- `alog format`
+abbrev pub format_app : App
+format_app = with_rules (new_app (codes "format"))
+    (argument_of (codes "PATTERN") ∷ argument_of (codes "TEXT") ∷ option_of (codes "time") ∷ option_of (codes "offset")
+    ∷ option_of (codes "name") ∷ option_of (codes "level") ∷ option_of (codes "thread") ∷ option_of (codes "process")
+    ∷ option_of (codes "file") ∷ option_of (codes "line") ∷ option_of (codes "function") ∷ [])
+
+-- the program: a version, `replay` without arguments, and `format`
+abbrev pub top_app : App
+top_app = let app = new_app (codes "alog") in record app { top = record app.top { has_version = true; subcommand_required = true } }
+
+abbrev pub alog_app : App
+alog_app = with_subcommand (with_subcommand top_app (new_app (codes "replay")).top) format_app.top
+
+-- the words name `format`, and these are its arguments
+abbrev pub NamesFormat : List Text → List Row → Type 0
+NamesFormat words rows = subcommand_of alog_app words ≡ Some (codes "format", rows)
+
+-- they do so without a fault
+abbrev pub AsksFormat : List Text → List Row → Type 0
+AsksFormat words rows = (fault_of alog_app words ≡ []) × NamesFormat words rows
+
+-- the value of each argument that is given
+abbrev pub values_in : List Row → Values
+values_in rows name = first_of name rows
+
+-- the words have no fault, and ask for this
+abbrev pub Asks : List Text → Request → Type 0
+Asks words Replay = (fault_of alog_app words ≡ []) × ((rows : List Row) → ¬ NamesFormat words rows)
+Asks words (Format r) = (rows : List Row) × AsksFormat words rows × AsksFor (values_in rows) r
+
+-- there was no memory, or the words have this fault: one of `clap`, or a value that is refused
+abbrev pub IsRefusedBy : List Text → WordsError → Type 0
+IsRefusedBy words (Clap error) = HasKind (fault_of alog_app words) error
+IsRefusedBy words (Value fault) = (rows : List Row) × AsksFormat words rows × IsFirstRefused (values_in rows) fault

@@ -1,0 +1,113 @@
+//! The commands, arguments and options of the program, and what help says of them.
+ghost use Rattle.std.specs.Prelude.{◌≡◌, IfOk, Some, false};
+ghost use Rattle.clap.specs.Words.{app_of, rule_of};
+ghost use Rattle.clap.specs.declared.builder.texts.Texts.TheVariants.{One};
+ghost use Rattle.alog.specs.CommandLine.{alog_app, argument_of, option_of};
+
+use clap::{Arg, Command};
+use std::alloc::{AllocError, Global};
+
+/// The program's command line. Help lists the options of `alog format` in the order in which they are added.
+pub(crate) fn alog<'a>(alloc: Global) -> Result<Command<'a>, AllocError>
+    ensures { IfOk result (λ command. app_of command ≡ alog_app) }
+{
+    let replay = Command::new(alloc, "replay")
+        .about("Replay a schedule script from standard input")
+        .long_about(REPLAY_HELP);
+    let format = Command::new(alloc, "format")
+        .about("Print the line of a message by a pattern")
+        .long_about(FORMAT_HELP)
+        .arg(argument(alloc, "PATTERN", "The pattern of the line"))?
+        .arg(argument(alloc, "TEXT", "The text of the message"))?
+        .arg(option(alloc, "time", "N", TIME_HELP))?
+        .arg(option(alloc, "offset", "N", OFFSET_HELP))?
+        .arg(option(alloc, "name", "N", "The name of the logger [none]"))?
+        .arg(option(alloc, "level", "L", LEVEL_HELP))?
+        .arg(option(alloc, "thread", "N", "The number of the thread [0]"))?
+        .arg(option(alloc, "process", "N", "The number of the process [0]"))?
+        .arg(option(alloc, "file", "F", "The file of the source"))?
+        .arg(option(alloc, "line", "N", LINE_HELP))?
+        .arg(option(alloc, "function", "F", "The function of the source"))?;
+    Command::new(alloc, "alog")
+        .version("0.1.0")
+        .about("The back end of an asynchronous logger, step by step")
+        .subcommand_required(true)
+        .subcommand(replay)?
+        .subcommand(format)
+}
+
+/// An argument that is needed.
+fn argument<'a>(alloc: Global, name: &'a str, help: &'a str) -> Arg<'a>
+    ensures rule { rule_of result ≡ argument_of name.entry.now }
+    ensures global { result.global ≡ false }
+    ensures help { result.help ≡ Some help.entry }
+{
+    Arg::new(alloc, name).required(true).help(help)
+}
+
+/// An option with a value.
+fn option<'a>(alloc: Global, name: &'a str, value: &'a str, help: &'a str) -> Arg<'a>
+    ensures rule { rule_of result ≡ option_of name.entry.now }
+    ensures global { result.global ≡ false }
+    ensures value { result.val_names ≡ One value.entry }
+    ensures help { result.help ≡ Some help.entry }
+{
+    Arg::new(alloc, name)
+        .long(name)
+        .value_name(value)
+        .help(help)
+}
+
+const TIME_HELP: &str = "Nanoseconds since 1970 UTC; where negative, as --time=N [0]";
+
+const OFFSET_HELP: &str = "Minutes east of UTC, -1439 to 1439; where negative, as --offset=N [0]";
+
+const LEVEL_HELP: &str = "trace, debug, info, warning, error, critical or off [info]";
+
+const LINE_HELP: &str = "The line of the source, which --line alone does not make [0]";
+
+const REPLAY_HELP: &str =
+    "Replay a schedule script from standard input, and print what each step does.
+
+A script is text, a command a line; empty lines and lines that begin with # are passed over.
+
+  ring N FIRST   first: a queue of N places, a power of two from 2 to 65536, and its first ticket
+  push A TEXT    actor A, 0 to 63, begins a push of the text
+  pop A          actor A begins a pop
+  work A         the same, and what it takes goes to the memory file, by one step more
+  step A [K]     K atomic steps of actor A, 1 to 512
+  run A          steps of actor A until its call has ended, at most 512
+  cells          prints the cells of the queue in ticket order
+
+At the end the memory file is printed. A line that may not stand where it stands is refused with its
+number, after what was printed before it.
+
+Exit status: 0 done, 1 a wrong command line, 2 a refused line, 3 a read or write fault, 4 no memory.
+A fault prints `alog: refused N` on standard error: 1 no memory, 33 a refused line (with ` at line K`
+behind it), 34 a read fault, 35 a write fault.";
+
+const FORMAT_HELP: &str =
+    "Print the line of a message by a pattern, after spdlog's custom formatting.
+
+PATTERN has at most 256 bytes, TEXT 2048, --name 64, --file 256 and --function 128. Negative numbers
+are written with `=`: --time=N, --offset=N. A source is made by --file or --function; --line alone
+makes none.
+
+Flags of a pattern:
+
+  %v text           %t thread         %P process        %n name of the logger
+  %l level          %L its letter     %% a percent sign %+ the default format
+  %a %A weekday     %b %B month       %d %m day, month  %C %Y year, two or four digits
+  %D %x MM/DD/YY    %H %I hour        %M minute         %S second
+  %e milliseconds   %f microseconds   %F nanoseconds    %p AM or PM
+  %r 03:35:46 PM    %R HH:MM          %T %X HH:MM:SS    %c Sat Feb 3 15:35:46 2024
+  %z offset +02:00  %E epoch seconds  %@ file:line      %s %g file, its last part or whole
+  %# line           %! function       %^ %$ nothing
+
+Between % and the flag may stand a side (- left, = centre, else right), a width of at most 64, and
+behind the width a ! that cuts what is longer: %8l, %-8l, %=8l, %3!l.
+
+Exit status: 0 done, 1 a wrong command line, 2 refused input, 3 a write fault, 4 no memory. A fault
+prints `alog: refused N` on standard error: 1 no memory, 2 a text that is too long, 3 a name, file or
+function that is, 17 a pattern that is, 18 a pattern whose line may have more than 65536 bytes,
+35 a write fault.";
