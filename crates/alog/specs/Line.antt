@@ -4,6 +4,7 @@ use Rattle.std.specs.Io.KnownBytes.{Appends}
 use Rattle.alog_msg.specs.Message.{source_of, HasLongField}
 use Rattle.alog_msg.specs.declared.limits.TheConstants.{DEFAULT_TEXT_LIMIT, LOGGER_NAME_MAX}
 use Rattle.alog_msg.specs.declared.message.Message.{Message}
+use Rattle.alog_pattern.specs.declared.patterns.TheConstants.{LINE_MAX, PATTERN_MAX}
 use Rattle.alog_pattern.specs.Grammar.{IsReading}
 use Rattle.alog_pattern.specs.Length.{LineExceeds}
 use Rattle.alog_pattern.specs.declared.items.Item.{Item}
@@ -20,10 +21,10 @@ abbrev pub IsLineOf : LineRequest → List ℕ → Type 0
 IsLineOf r bytes = (items : List Item) × IsReading r.pattern.now items × IsLine r.context items r.name.now (message_of r) bytes
 
 abbrev pub IsPatternTooLong : LineRequest → Type 0
-IsPatternTooLong r = 256 < length r.pattern.now
+IsPatternTooLong r = PATTERN_MAX < length r.pattern.now
 
 abbrev pub IsLineTooLong : LineRequest → Type 0
-IsLineTooLong r = (length r.pattern.now ≤ 256) × LineExceeds 65536 DEFAULT_TEXT_LIMIT r.pattern.now
+IsLineTooLong r = (length r.pattern.now ≤ PATTERN_MAX) × LineExceeds LINE_MAX DEFAULT_TEXT_LIMIT r.pattern.now
 
 abbrev pub IsTextTooLong : LineRequest → Type 0
 IsTextTooLong r = DEFAULT_TEXT_LIMIT < length r.text.now
