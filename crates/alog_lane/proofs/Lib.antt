@@ -3,3 +3,4 @@ pub mod Rosters
 pub mod Steps
 pub mod Turning
 pub mod Sharing
+pub mod Crosses

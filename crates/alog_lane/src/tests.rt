@@ -1,9 +1,12 @@
+ghost use Rattle.alog_lane.specs.Calls.{IsSeatOf};
 ghost use Rattle.std.specs.Prelude.{◌≡◌, ◌+◌, ◌%◌, ◌^◌, IfOk, Some};
 
 use super::*;
 use std::alloc::{AllocError, Global};
-use std::sync::atomic::{AtomicU64, Ordering};
+use std::sync::atomic::{AtomicBool, AtomicU64, Ordering};
+use std::sync::{Arc, Wait};
 use std::test::Fail;
+use std::thread;
 
 // A number to which each turn adds its item. It replies with the sum.
 #[derive(Debug, PartialEq, Eq, Drop)]
@@ -120,5 +123,151 @@ fn drops_its_value_once(rt: HostRuntime) -> Result<(), Fail> {
     let (lane, seat) = Lane::new(rt.alloc(), Noted(&drops))?;
     drop(lane.close(seat));
     assert!(rt; drops.load(Ordering::SeqCst) == 2);
+    Ok(())
+}
+
+const LOOKS: u32 = 1_000_000;
+
+// Adds 1, as soon as the lock is free at one of so many looks, and answers the index of the turn.
+fn add_one(lane: &Lane<Sum>, seat: &mut LaneSeat<Sum>) -> Option<u64>
+    requires { IsSeatOf lane.now seat.old }
+    ensures { IsSeatOf lane.now seat.new }
+{
+    for _ in 0..LOOKS {
+        match lane.turn_once(seat, 0, &1, &mut ()) {
+            Ok((index, _sum)) => return Some(index),
+            Err(Held) => thread::yield_now(),
+        }
+    }
+    None
+}
+
+// Adds 1 so many times: whether the indexes of the turns rose, and their sum.
+fn add_ones(lane: &Lane<Sum>, mut seat: LaneSeat<Sum>, count: u64) -> (bool, u64)
+    requires { IsSeatOf lane.now seat }
+{
+    let mut rose = true;
+    let mut last = None;
+    let mut sum = 0u64;
+    for _ in 0..count {
+        let index = add_one(lane, &mut seat);
+        rose = rose && index > last;
+        last = index;
+        sum = sum.wrapping_add(index.unwrap_or(0));
+    }
+    (rose, sum)
+}
+
+#[test]
+fn two_threads_take_turns(rt: HostRuntime) -> Result<(), Fail> {
+    let (lane, mut seat) = Lane::new(rt.alloc(), Sum(0))?;
+    let lane = &lane;
+    let first = lane.split(&mut seat, 1);
+    let second = lane.split(&mut seat, 1);
+    let (one, two) = thread::join(
+        &rt,
+        ||
+            requires { IsSeatOf lane.now first }
+        { add_ones(lane, first, 20_000) },
+        ||
+            requires { IsSeatOf lane.now second }
+        { add_ones(lane, second, 20_000) },
+    );
+    assert!(rt; one.0 && two.0);
+    assert_eq!(rt; one.1.wrapping_add(two.1), 20_000 * 39_999);
+    assert_eq!(rt;
+        lane.turn_once(&mut seat, 0, &0, &mut ()),
+        Ok((40_000, 40_000))
+    );
+    Ok(())
+}
+
+// Whether a turn has begun, and whether another thread has met it.
+#[derive(Drop)]
+struct Flags {
+    begun: AtomicBool,
+    met: AtomicBool,
+}
+
+// A value whose turn lasts until another thread has met it, or for so many looks at most.
+#[derive(Drop)]
+struct Slow(Arc<Flags>);
+
+// Whether the flag was up, at one of so many looks.
+fn is_raised(flag: &AtomicBool) -> bool {
+    for _ in 0..LOOKS {
+        if flag.load(Ordering::SeqCst) {
+            return true;
+        }
+        thread::yield_now();
+    }
+    false
+}
+
+impl Turn for Slow {
+    type Item = ();
+
+    type Reply = bool;
+
+    type Scratch = ();
+
+    ghost turns = { λ v before i r w after. Unit {0} };
+
+    ghost may_turn = { λ v i s. Unit {0} };
+
+    fn turn(&mut self, _item: &(), _scratch: &mut ()) -> bool {
+        self.0.begun.store(true, Ordering::SeqCst);
+        is_raised(&self.0.met)
+    }
+}
+
+// Tries while a turn is under way, and then waits for one: whether it saw the turn begin, and both answers.
+fn visit(
+    rt: &impl Wait,
+    lane: &Lane<Slow>,
+    mut seat: LaneSeat<Slow>,
+    flags: &Flags,
+) -> (bool, Result<(u64, bool), Held>, (u64, bool))
+    requires { IsSeatOf lane.now seat }
+{
+    let has_begun = is_raised(&flags.begun);
+    let was_held = lane.turn_once(&mut seat, 0, &(), &mut ());
+    flags.met.store(true, Ordering::SeqCst);
+    (
+        has_begun,
+        was_held,
+        lane.turn(rt, &mut seat, 0, &(), &mut ()),
+    )
+}
+
+// Takes one turn, if the lock is free.
+fn enter(lane: &Lane<Slow>, mut seat: LaneSeat<Slow>) -> Result<(u64, bool), Held>
+    requires { IsSeatOf lane.now seat }
+{
+    lane.turn_once(&mut seat, 0, &(), &mut ())
+}
+
+#[test]
+fn a_held_lock_is_told(rt: HostRuntime) -> Result<(), Fail> {
+    let flags = Flags {
+        begun: AtomicBool::new(false),
+        met: AtomicBool::new(false),
+    };
+    let flags = Arc::new(rt.alloc(), flags)?;
+    let (lane, mut seat) = Lane::new(rt.alloc(), Slow(Arc::try_clone(&flags)?))?;
+    let lane = &lane;
+    let flags = &*flags;
+    let second = lane.split(&mut seat, 1);
+    let (was_met, visit) = thread::join(
+        &rt,
+        ||
+            requires { IsSeatOf lane.now seat }
+        { enter(lane, seat) },
+        ||
+            requires { IsSeatOf lane.now second }
+        { visit(&rt, lane, second, flags) },
+    );
+    assert_eq!(rt; was_met, Ok((0, true)));
+    assert_eq!(rt; visit, (true, Err(Held), (1, true)));
     Ok(())
 }
