@@ -1,6 +1,10 @@
 pub mod Lists
 pub mod Rosters
+pub mod Dividing
+pub mod Joining
 pub mod Steps
+pub mod Parting
+pub mod Closing
 pub mod Turning
 pub mod Sharing
 pub mod Crosses

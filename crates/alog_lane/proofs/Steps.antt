@@ -10,21 +10,20 @@ use mathlib.Core.List.{IsPrefix}
 use lib.ListN.{get_elem?}
 use lib.Seq.{set-get_or}
 use prog.Atomic.{either}
-use Rattle.atomic_table.specs.Table.{State, Me, keeps, takes, gives, Allows, Splits, Joins, opening, put_back, Final, Seen}
-use Rattle.atomic_table.proofs.Lists.{at_set, set_else, set_here, set_again, at_longer}
+use Rattle.atomic_table.specs.Table.{State, Me, keeps, takes, gives, Allows, opening, put_back}
+use Rattle.atomic_table.proofs.Lists.{at_set, set_else, set_here, set_again}
 use Rattle.alog_lane.specs.declared.seat.TheConstants.{ALL_PARTS}
 use Rattle.alog_lane.specs.declared.view.Cabin.{Cabin}
 use Rattle.alog_lane.specs.Seats.{Entry, Member, Known, own_of, members_of, IsAmong, AreDistinct, AreExact, Made, IsFaithful, having_seen}
-use Rattle.alog_lane.specs.Roster.{Stage, Idle, Fresh, Joined, Working, Gone, members_by, members_at, parts_of, kept_part}
-use Rattle.alog_lane.specs.Roster.{given_part, taking_in, gone, first_sight}
+use Rattle.alog_lane.specs.Roster.{Stage, Idle, Fresh, Joined, Working, members_by, members_at, parts_of}
+use Rattle.alog_lane.specs.Roster.{gone, first_sight}
 use Rattle.alog_lane.specs.Turns.{Turned, Turns, Leads}
 use Rattle.alog_lane.specs.Rule.{LaneSight, index_after, Keeps, Reaches, IsFree, IsHeld, Ruled}
-use Rattle.alog_lane.specs.Calls.{Closes}
 use Rattle.alog_lane.specs.Plays.{was_named, saw_both, tried, GaveBack}
 use Rattle.alog_lane.proofs.Lists.{same_or_not, inside, one_value, prefix_same, prefix_longer, at_end, own_of-append, own_of_one}
 use Rattle.alog_lane.proofs.Lists.{own_of_other, at_most, longer_of, exact_between, exact_apart}
-use Rattle.alog_lane.proofs.Rosters.{IsStep, IsLook, agrees_step, agrees_look, agrees_split, agrees_join, agrees_first}
-use Rattle.alog_lane.proofs.Rosters.{others_have_none, seen_whole, all_members}
+use Rattle.alog_lane.proofs.Rosters.{IsStep, IsLook, agrees_step, agrees_look, agrees_first}
+use Rattle.alog_lane.proofs.Rosters.{others_have_none}
 
 module _ {T I S R : Type 0} (turns : T → S → I → R → T → S → Type 0) where
   -- one more turn
@@ -80,7 +79,7 @@ module _ {T I S R : Type 0} (turns : T → S → I → R → T → S → Type 0)
   }
 
   -- The lock stays as it is where a seat at work stays so, and none other comes to work.
-  lock_stays : (h : List (Entry Deed)) (words : List ℕ) (homes : List (Option (Cabin T I R S))) (old new : List View)
+  pub lock_stays : (h : List (Entry Deed)) (words : List ℕ) (homes : List (Option (Cabin T I R S))) (old new : List View)
       → ((b : ℕ) (u : View) (x : T) → get_elem? new b ≡ some u → u.stage ≡ Working x → get_elem? old b ≡ some u)
       → ((b : ℕ) (u : View) (x : T) → get_elem? old b ≡ some u → u.stage ≡ Working x → get_elem? new b ≡ some u)
       → IsFree turns may first h (record { words = words; homes = homes; views = old })
@@ -434,116 +433,3 @@ module _ {T I S R : Type 0} (turns : T → S → I → R → T → S → Type 0)
             refl,
           ),
         )
-
-  -- a seat is cut in two
-  pub splits : (id parts : ℕ) (v : View) → v.stage ≡ Idle → parts < v.known.parts → 0 < parts
-      → Splits (λ (s : State (Cabin T I R S) View). Ruled turns may first s) id v (kept_part parts v) (given_part parts v)
-  splits id parts v idle fewer some_parts s r at =
-      let left : View = kept_part parts v
-      in let right : View = given_part parts v
-      in record {
-        history = r.history;
-        agrees = agrees_split first r.history s.views id parts v r.agrees at idle fewer some_parts;
-        words = r.words;
-        homes = r.homes;
-        lock =
-            lock_stays r.history s.words s.homes s.views (set s.views id left ++ right ∷ [])
-            (λ b u x e is.
-            elim (at_end (set s.views id left) right u b e) [
-              | inl old ↦
-                  elim (at_set s.views id b left u old) [
-                    | inl same ↦ (let wrong : ◌≡◌ {A = Stage Deed T} Idle (Working x) = ap (λ (z : View). z.stage) same.1 ∙ is in cc)
-                    | inr other ↦ other.1
-                  ]
-              | inr last ↦ (let wrong : ◌≡◌ {A = Stage Deed T} Fresh (Working x) = ap (λ (z : View). z.stage) last.1 ∙ is in cc)
-            ])
-            (λ b u x e is.
-            elim (same_or_not b id) [
-              | inl same ↦ absurd (let G : ℕ → Type 0 = λ i. get_elem? s.views i ≡ some u
-                  in let one : u ≡ v = one_value s.views id u v (subst G same e) at
-                  in let wrong : ◌≡◌ {A = Stage Deed T} Idle (Working x) = sym idle ∙ sym (ap (λ (z : View). z.stage) one) ∙ is
-                  in cc)
-              | inr other ↦ at_longer (set s.views id left) (right ∷ []) b u (set_else s.views id b left other ∙ e)
-            ])
-            r.lock;
-      }
-
-  -- a seat takes another in
-  pub joins : (id o : ℕ) (v w : View) → v.stage ≡ Idle → w.stage ≡ Idle → 0 < v.known.parts
-      → Joins (λ (s : State (Cabin T I R S) View). Ruled turns may first s) id v o w (taking_in v w) gone
-  joins id o v w idle other_idle some_parts s r at apart e =
-      let both : View = taking_in v w
-      in let at_other : get_elem? s.views o ≡ some w = sym (set_else s.views id o both apart) ∙ e
-      in let calm : (u z : View) (b j : ℕ) (x : T) → z.stage ≡ Idle → get_elem? s.views j ≡ some z → b ≡ j
-      → get_elem? s.views b ≡ some u → u.stage ≡ Working x → ⊥ =
-      λ u z b j x still there same found is. let G : ℕ → Type 0 = λ i. get_elem? s.views i ≡ some u
-      in let one : u ≡ z = one_value s.views j u z (subst G same found) there
-      in let wrong : ◌≡◌ {A = Stage Deed T} Idle (Working x) = sym still ∙ sym (ap (λ (y : View). y.stage) one) ∙ is in cc
-      in record {
-        history = r.history;
-        agrees = agrees_join first r.history s.views id o v w r.agrees at at_other apart idle other_idle some_parts;
-        words = r.words;
-        homes = r.homes;
-        lock =
-            lock_stays r.history s.words s.homes s.views (set (set s.views id both) o gone)
-            (λ b u x g is.
-            elim (at_set (set s.views id both) o b gone u g) [
-              | inl same ↦ (let wrong : ◌≡◌ {A = Stage Deed T} Gone (Working x) = ap (λ (z : View). z.stage) same.1 ∙ is in cc)
-              | inr other ↦
-                  elim (at_set s.views id b both u other.1) [
-                    | inl same ↦ (let wrong : ◌≡◌ {A = Stage Deed T} (Joined w.known.seen) (Working x) = ap
-                        (λ (z : View). z.stage) same.1 ∙ is in cc)
-                    | inr old ↦ old.1
-                  ]
-            ])
-            (λ b u x g is.
-            elim (same_or_not b id) [
-              | inl same ↦ absurd (calm u v b id x idle at same g is)
-              | inr not_id ↦
-                  elim (same_or_not b o) [
-                    | inl same ↦ absurd (calm u w b o x other_idle at_other same g is)
-                    | inr not_o ↦ set_else (set s.views id both) o b gone not_o ∙ set_else s.views id b both not_id ∙ g
-                  ]
-            ])
-            r.lock;
-      }
-
-  -- the end of a lane: the seat has all parts
-  pub closes : (id : ℕ) (v : View) (words : List ℕ) (slots : List (Cabin T I R S))
-      → Final (Seen (λ (s : State (Cabin T I R S) View). Ruled turns may first s) id v) words slots → v.stage ≡ Idle
-      → v.known.parts ≡ ALL_PARTS → IsFaithful v.known
-      → (c : Cabin T I R S) → get_elem? slots 0 ≡ some c → Closes turns first v.known c.value
-  closes id v words slots final idle all faithful c slot =
-      let s : State (Cabin T I R S) View = final.0
-      in let r : Ruled turns may first s = final.1.0
-      in let at : get_elem? s.views id ≡ some v = final.1.1
-      in let mine : members_at id v ≡ members_of v.known = ap (λ (z : Stage Deed T). members_by id v.known z) idle
-      in let E : List (Member Deed) → Type 0 = λ l. AreExact l v.known.seen
-      in let whole : v.known.seen ≡ r.history = seen_whole first r.history s.views id v r.agrees at all (subst E (sym mine)
-      (faithful.own, faithful.joined))
-      in let M : List (Member Deed) → Type 0 = λ l. AllByRecursion (λ (x : Entry Deed). IsAmong x.seat l) r.history
-      in let H : List (Entry Deed) → Type 0 = λ g. AllByRecursion (λ (x : Entry Deed). IsAmong x.seat (members_of v.known)) g
-      in elim r.lock [
-        | inl free ↦
-            let is : c ≡ free.cabin = one_value slots 0 c free.cabin slot (final.4 0 free.cabin free.home)
-            in let value : free.cabin.value ≡ c.value = sym (ap (λ (z : Cabin T I R S). z.value) is)
-            in let L : List (Entry Deed) → Type 0 = λ g. Leads turns first g c.value
-            in let V : T → Type 0 = λ z. Leads turns first r.history z
-            in record {
-              faithful = faithful;
-              whole = subst H (sym whole) (subst M mine (all_members first r.history s.views id v r.agrees at all));
-              leads = subst L (sym whole) (subst V value free.reaches.leads);
-            }
-        | inr held ↦
-            absurd
-            (let owner_parts : 0 < held.view.known.parts = has_parts s r held.owner held.view held.at
-            (ap (λ (z : Stage Deed T). members_by held.owner held.view.known z) held.stage)
-            in elim (same_or_not held.owner id) [
-              | inl same ↦ (let G : ℕ → Type 0 = λ i. get_elem? s.views i ≡ some held.view
-                  in let one : held.view ≡ v = one_value s.views id held.view v (subst G same held.at) at
-                  in let wrong : ◌≡◌ {A = Stage Deed T} Idle (Working held.value) = sym idle ∙ sym (ap (λ (z : View). z.stage) one)
-                  ∙ held.stage in cc)
-              | inr other ↦ (let none_there : held.view.known.parts ≡ 0 = others_have_none first r.history s.views id v r.agrees at
-                  all held.owner held.view other held.at in absurd (omega arith))
-            ])
-      ]

@@ -3,7 +3,7 @@ use Rattle.std.specs.Mem.Slots.{slots_items}
 use Rattle.alog_lane.specs.Seats.{Known}
 use Rattle.alog_lane.specs.Turns.{Turned}
 use Rattle.alog_lane.specs.Calls.{Closes}
-use Rattle.alog_lane.proofs.Steps.{closes}
+use Rattle.alog_lane.proofs.Closing.{closes}
 use Rattle.alog_lane.proofs.lane.Lane.close.Goals as goal
 
 pub returns-clause-value : goal.returns-clause-value

@@ -1,5 +1,5 @@
 use Rattle.std.proofs.Common.{ℕ, ◌<◌, sym, ap, subst, ◌∙◌, arith}
-use Rattle.alog_lane.proofs.Steps.{splits}
+use Rattle.alog_lane.proofs.Parting.{splits}
 use Rattle.alog_lane.proofs.Sharing.{name_may}
 use Rattle.alog_lane.proofs.lane.Lane.cut.Goals as goal
 

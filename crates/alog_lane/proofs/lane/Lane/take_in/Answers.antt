@@ -1,5 +1,5 @@
 use Rattle.std.proofs.Common.{sym, ap, ◌∙◌, arith}
-use Rattle.alog_lane.proofs.Steps.{joins}
+use Rattle.alog_lane.proofs.Parting.{joins}
 use Rattle.alog_lane.proofs.Sharing.{see_both_may}
 use Rattle.alog_lane.proofs.lane.Lane.take_in.Goals as goal
 
