@@ -42,6 +42,7 @@ replays_fault fault status remaining left old new e refused front =
       whole = λ h. absurd (not_zero fault (sym e ∙ h));
       refused = λ h.
           let at = refused_line fault status e h in
-          if_some_weaker remaining (λ script. WritesText plain None script (RefusedAt at.0) old new) (λ script. (line : ℕ) × WritesText plain None script (RefusedAt line) old new) (λ script w. (at.0, w)) (refused at.0 at.1);
+          if_some_weaker remaining (λ script. WritesText plain None script (RefusedAt at.0) old new) (λ script. (line : ℕ)
+              × WritesText plain None script (RefusedAt line) old new) (λ script w. (at.0, w)) (refused at.0 at.1);
       front = λ h. inr front;
     }

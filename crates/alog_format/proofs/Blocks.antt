@@ -33,18 +33,21 @@ B = C.the_row
 module _ {M : Type 1} {𝓤 : Ura M} {𝓛 : Logic 𝓤} {K : Type 0} {Γ : List (Item 𝓤)} {G : Goal 𝓤 𝓛.H} where
   pub opens_at : K → Soaks G → {κ : Lft} {q : Share} {γ : GName} (d : B.Denot) (rb ro : ℕ)
       → ((b o : ℕ) → d.start ≡ block_ptr b o → (us : List Val)
-      → Seq K 𝓛 (‵ (row u8 full_share d.items b o) ∷ ‵ ((Fields []).own_val tt us) ∷ ‵ (cell_at full_share B.mir us rb ro) ∷ ‵ (fobor κ q (Body (mem B) rb ro γ)) ∷ ‵ (fobs γ (B.coded.code d)) ∷ ‵ (fauth γ (B.coded.code d)) ∷ Γ) G)
+      → Seq K 𝓛 (‵ (row u8 full_share d.items b o) ∷ ‵ ((Fields []).own_val tt us) ∷ ‵ (cell_at full_share B.mir us rb ro) ∷ ‵
+      (fobor κ q (Body (mem B) rb ro γ)) ∷ ‵ (fobs γ (B.coded.code d)) ∷ ‵ (fauth γ (B.coded.code d)) ∷ Γ) G)
       → Seq K 𝓛 (‵ (fobs γ (B.coded.code d)) ∷ ‵ (fbor κ (Body (mem B) rb ro γ)) ∷ ‵ (flft κ q) ∷ Γ) G
   opens_at t z d rb ro k =
       opens t z B {h = d} rb ro (λ us. move t (1 ∷ []) $ fsplit t $ move t (1 ∷ []) $
       in_a_block t d.start (λ p. bytes_own p d.items) (id⊢ 𝓤 (never 𝓤)) (λ b o e.
-      use1 𝓛 (‵ (fsep (feq ℕ (length d.items) (length d.items)) (row u8 full_share d.items b o))) (Array-apart 𝓛 u8 full_share tt (length d.items) d.items b o) $
+      use1 𝓛 (‵ (fsep (feq ℕ (length d.items) (length d.items)) (row u8 full_share d.items b o))) (Array-apart 𝓛 u8 full_share tt
+      (length d.items) d.items b o) $
       fsplit t $ drop t $ k b o e us))
 
   pub closes_at : K → Soaks G → {κ : Lft} {q : Share} {u v : Gv} {γ : GName} (d : B.Denot) (b o rb ro : ℕ) (us : List Val)
       → d.start ≡ block_ptr b o
       → Step K 𝓛 (‵ (fobs γ (B.coded.code d)) ∷ ‵ (fbor κ (Body (mem B) rb ro γ)) ∷ ‵ (flft κ q) ∷ Γ) G
-      (‵ (row u8 full_share d.items b o) ∷ ‵ ((Fields []).own_val tt us) ∷ ‵ (cell_at full_share B.mir us rb ro) ∷ ‵ (fobor κ q (Body (mem B) rb ro γ)) ∷ ‵ (fobs γ u) ∷ ‵ (fauth γ v) ∷ Γ) G
+      (‵ (row u8 full_share d.items b o) ∷ ‵ ((Fields []).own_val tt us) ∷ ‵ (cell_at full_share B.mir us rb ro) ∷ ‵
+      (fobor κ q (Body (mem B) rb ro γ)) ∷ ‵ (fobs γ u) ∷ ‵ (fauth γ v) ∷ Γ) G
   closes_at t z d b o rb ro us e = step (λ s.
       feq_i t ℕ (length d.items) (length d.items) refl $ fjoin t $
       use1 𝓛 (‵ (part_at (Array u8 (length d.items)) full_share d.items b o)) (Array-whole 𝓛 u8 full_share (length d.items) d.items b o) $
@@ -74,7 +77,8 @@ module _ {M : Type 1} {𝓤 : Ura M} (𝓛 : Logic 𝓤) (q : Share) (b o : ℕ)
 
 module _ {M : Type 1} {𝓤 : Ura M} (𝓛 : Logic 𝓤) (b o : ℕ) where
   pub byte_in : (xs : List ℕ) (i x : ℕ) → i < length xs
-      → ent 𝓤 (⋆ 𝓛 (‵ (fat full_share (ty_int w8) b (i + o) (vint w8 x)) ∷ ‵ (rest 𝓛 full_share b o xs i) ∷ [])) (⋆ 𝓛 (‵ (row u8 full_share (set xs i x) b o) ∷ []))
+      → ent 𝓤 (⋆ 𝓛 (‵ (fat full_share (ty_int w8) b (i + o) (vint w8 x)) ∷ ‵ (rest 𝓛 full_share b o xs i) ∷ [])) (⋆ 𝓛
+      (‵ (row u8 full_share (set xs i x) b o) ∷ []))
   byte_in xs i x inside =
       qed 𝓛 (‵ (fat full_share (ty_int w8) b (i + o) (vint w8 x)) ∷ ‵ (rest 𝓛 full_share b o xs i) ∷ []) ∵
       use1 𝓛 (‵ (part_at u8 full_share x b (i + o))) (uint_in 𝓛 full_share w8 x b (i + o)) $

@@ -38,7 +38,8 @@ chosen_len false padding text len h = padded_text_len padding text len h
 pub item_text_len : (limit : ℕ) (s : Shown) → IsShowable limit s → (item : Item) → length (item_text s item) ≤ item_len limit item
 unfolding flag_text
 item_text_len limit s h (items.Byte b) = omega arith
-item_text_len limit s h (items.Flag flag padding) = chosen_len (ignores_padding flag) padding (flag_text s flag) (greatest_len limit flag) (flag_len limit s h flag)
+item_text_len limit s h (items.Flag flag padding) = chosen_len (ignores_padding flag) padding (flag_text s flag)
+    (greatest_len limit flag) (flag_len limit s h flag)
 item_text_len limit s h (items.Unknown b) = omega arith
 item_text_len limit s h (items.Function width side next) =
     let text : List ℕ = of_source (λ source. source.function) s.message.source in

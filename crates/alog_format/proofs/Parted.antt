@@ -36,7 +36,10 @@ module _ {M : Type 1} {𝓤 : Ura M} (𝓛 : Logic 𝓤) (v : V.Denot) where
   Whole p xs = block_with_items (ghosts.dealloc_token v.alloc) u8 p v.len v.cap xs
 
   pub parted : (u : Val) → 0 < v.len
-      → ent 𝓤 (sem 𝓛 (V.own_val v (u ∷ []))) (sep 𝓤 (sem 𝓛 (bytes_own v.ptr v.items)) (sem 𝓛 (Deed.the_own (record { start = v.ptr; len = v.len }) (as_struct (V ∷ []) (u ∷ [], tt)))))
+      → ent 𝓤 (sem 𝓛 (V.own_val v (u ∷ []))) (sep 𝓤 (sem 𝓛 (bytes_own v.ptr v.items)) (sem 𝓛 (Deed.the_own (record {
+        start = v.ptr;
+        len = v.len;
+      }) (as_struct (V ∷ []) (u ∷ [], tt)))))
   parted u some =
       let live : has_block v.cap ≡ true = not_from_false _ (ne_eqb v.cap 0 (λ e. omega (arith, v.ok.1))) in
       qed 𝓛 (‵ (V.own_val v (u ∷ [])) ∷ []) ∵ fsplit ! $ move ! (1 ∷ []) $ fsplit ! $ move ! (1 ∷ []) $
@@ -58,7 +61,8 @@ module _ {M : Type 1} {𝓤 : Ura M} (𝓛 : Logic 𝓤) (v : V.Denot) where
 
   -- the bytes go back into the block, where there is one
   put_back : (y : Bool) (xs : List ℕ)
-      → ent 𝓤 (⋆ 𝓛 (‵ (lies_at (Array u8 v.len) full_share v.ptr xs) ∷ ‵ (owns_if y (room_own v)) ∷ [])) (⋆ 𝓛 (‵ (owns_if y (Whole v.ptr xs)) ∷ []))
+      → ent 𝓤 (⋆ 𝓛 (‵ (lies_at (Array u8 v.len) full_share v.ptr xs) ∷ ‵ (owns_if y (room_own v)) ∷ [])) (⋆ 𝓛
+      (‵ (owns_if y (Whole v.ptr xs)) ∷ []))
   put_back true xs =
       qed 𝓛 (‵ (lies_at (Array u8 v.len) full_share v.ptr xs) ∷ ‵ (room_own v) ∷ []) ∵ fjoin ! $ done !
   put_back false xs =

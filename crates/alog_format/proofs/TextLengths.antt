@@ -211,7 +211,8 @@ flag_len limit s h flags.Percent = lit≤ tt
 flag_len limit s h flags.Default = default_len limit s h
 flag_len limit s h flags.ColourStart = lit≤ tt
 flag_len limit s h flags.ColourEnd = lit≤ tt
-flag_len limit s h flags.Location = source_len limit flags.Location _ s.message.source h.source (λ x fits. location_len x.file x fits.0 fits.1)
+flag_len limit s h flags.Location = source_len limit flags.Location _ s.message.source h.source
+    (λ x fits. location_len x.file x fits.0 fits.1)
 flag_len limit s h flags.FileBase = source_len limit flags.FileBase _ s.message.source h.source (λ x fits. omega (
   arith,
   base_len x.file,

@@ -28,7 +28,8 @@ impl<T: Turn> Model for LaneSeat<T> {
 
     ghost view = { λ p. record { table = p.seat.table_id; first = p.seat.me.0.key; known = p.seat.me.0.known } };
 
-    ghost invariant = { λ p. (p.seat.me.0.stage ≡ Idle) × (p.seat.me.1 ≡ []) × (p.parts ≡ p.seat.me.0.known.parts) × (0 < p.parts) × (p.parts ≤ ALL_PARTS) × IsFaithful p.seat.me.0.known };
+    ghost invariant = { λ p. (p.seat.me.0.stage ≡ Idle) × (p.seat.me.1 ≡ []) × (p.parts ≡ p.seat.me.0.known.parts)
+        × (0 < p.parts) × (p.parts ≤ ALL_PARTS) × IsFaithful p.seat.me.0.known };
 }
 
 impl<T: Turn> LaneSeat<T> {

@@ -74,8 +74,8 @@ impl Pattern {
     ghost use Rattle.alog_pattern.specs.Grammar.{IsReading};
     ghost use Rattle.alog_pattern.specs.Length.{LineExceeds};
 
-    /// Reads a pattern once, so that `format` writes each line by its items. It is for messages whose texts have at most `text_limit` bytes. Every string of at most 256 bytes
-    /// is a pattern, if its longest line has at most 65,536 bytes with the newline.
+    /// Reads a pattern once, so that `format` writes each line by its items. It is for messages whose texts have at most
+    /// `text_limit` bytes. Every string of at most 256 bytes is a pattern, if its longest line has at most 65,536 bytes with the newline.
     pub fn compile(
         alloc: Global,
         spelling: &[u8],

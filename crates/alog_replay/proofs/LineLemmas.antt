@@ -62,7 +62,8 @@ last_fronts line [] y h more p = ap lines_of (append-nil line) ∙ (last_line li
 last_fronts line (b ∷ x) y h more p = absurd cc
 
 -- a last line without a newline is taken
-pub takes_last : (script line : List ℕ) → IsUnbroken line → 0 < length line → script ≡ line → length line ≤ LINE_MAX → TakesLine script line []
+pub takes_last : (script line : List ℕ) → IsUnbroken line → 0 < length line → script ≡ line → length line ≤ LINE_MAX
+    → TakesLine script line []
 takes_last script line h more e fits = record {
   taken = line;
   whole = e ∙ sym (append-nil line);

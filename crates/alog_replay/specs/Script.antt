@@ -109,7 +109,8 @@ IsNoRefusal fault.WriteFault = Unit {0}
 IsNoRefusal fault.OutOfMemory = Unit {0}
 
 -- what was written is what the script tells, which is so ended
-pub record WritesText {S : Type 0} (scene : Scene S) (s : S) (bytes : List ℕ) (end : List ℕ → Told) (old new : Option (List ℕ)) : Type 0 where
+pub record WritesText {S : Type 0} (scene : Scene S) (s : S) (bytes : List ℕ) (end : List ℕ
+    → Told) (old new : Option (List ℕ)) : Type 0 where
   pub text : List ℕ
   pub tells : ScriptTells scene s bytes (end text)
   pub writes : Appends old new text

@@ -22,11 +22,13 @@ returns-in_err-line_request-in-Some-clause-refused g c =
     let m = c.in-Some.format.now in
     let rows : List Row = rows_of (found_of m) in
     let fault = c.in_err-line_request-in-Some.field-0.0 in
-    error_is c.from_residual-in_err-line_request-in-Some.result (Value fault) (IsRefusedBy words) c.from_residual-in_err-line_request-in-Some.ensures.1 (
+    error_is c.from_residual-in_err-line_request-in-Some.result (Value fault) (IsRefusedBy words)
+        c.from_residual-in_err-line_request-in-Some.ensures.1 (
       rows,
       (
         no_fault app is words c.in_ok-matches.ensures.kinds,
-        names_format app is words c.in_ok-matches.matches rows c.in_ok-matches.ensures.matches (c.in-Some.ensures.found.0 refl) c.in-Some.ensures.rows,
+        names_format app is words c.in_ok-matches.matches rows c.in_ok-matches.ensures.matches (c.in-Some.ensures.found.0 refl)
+            c.in-Some.ensures.rows,
       ),
       subst (λ (v : Values). IsFirstRefused v fault) (values_are m) c.in_err-line_request-in-Some.ensures.refused,
     )
@@ -41,7 +43,8 @@ returns-in-Some-clause-asked g c =
       rows,
       (
         no_fault app is words c.in_ok-matches.ensures.kinds,
-        names_format app is words c.in_ok-matches.matches rows c.in_ok-matches.ensures.matches (c.in-Some.ensures.found.0 refl) c.in-Some.ensures.rows,
+        names_format app is words c.in_ok-matches.matches rows c.in_ok-matches.ensures.matches (c.in-Some.ensures.found.0 refl)
+            c.in-Some.ensures.rows,
       ),
       subst (λ (v : Values). AsksFor v c.in_ok-line_request-in-Some.field-0) (values_are m) c.in_ok-line_request-in-Some.ensures.asked,
     )

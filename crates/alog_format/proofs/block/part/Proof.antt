@@ -57,7 +57,8 @@ part_spec 𝓤 𝓛 𝓜 𝓡 wired =
     sets ! (agg ! (no_more !)) refl (tt, tt) $
     sets ! (of_opd ! (get ! refl)) refl good $
     sets ! (agg ! (and_then ! (get ! refl) (no_more !))) refl inner $
-    sets ! (agg ! (and_then ! (get ! refl) (and_then ! (get ! refl) (no_more !)))) refl (as_fields (layout Bytes.the_row ∷ layout Deed.the_row ∷ []) (none ∷ shell ∷ []) ((tt, tt), (inner, tt))) $
+    sets ! (agg ! (and_then ! (get ! refl) (and_then ! (get ! refl) (no_more !)))) refl (as_fields
+    (layout Bytes.the_row ∷ layout Deed.the_row ∷ []) (none ∷ shell ∷ []) ((tt, tt), (inner, tt))) $
     returns ! (look_at ! 0 refl) $ free_all ! refl $
     suffices ! _ (ends_at 𝓛 f.ended stayed c y made (bytes, deed) (tt, tt) (tt, tt)) $ says ! (refl, refl, refl, refl) $
     nothing ! $ nothing ! $ fjoin ! $ move ! (2 ∷ 0 ∷ 1 ∷ []) $ done !))))

@@ -7,8 +7,20 @@ pub returns-clause-shown : goal.returns-clause-shown
 returns-clause-shown c =
     let time : FitsSigned w64 c.args.message.now.time = search rules in
     let offset : FitsSigned w16 c.offset_minutes-offset.result = search rules in
-    let make : ℤ → Shown = λ o. record { message = c.args.message.now; name = c.args.name.now; process = c.args.context.now.process; offset = o; at = c.civil_at-at.result } in
-    let with_process : ℕ → Shown = λ p. record { message = c.args.message.now; name = c.args.name.now; process = p; offset = c.offset_minutes-offset.result; at = c.civil_at-at.result } in (
+    let make : ℤ → Shown = λ o. record {
+      message = c.args.message.now;
+      name = c.args.name.now;
+      process = c.args.context.now.process;
+      offset = o;
+      at = c.civil_at-at.result;
+    } in
+    let with_process : ℕ → Shown = λ p. record {
+      message = c.args.message.now;
+      name = c.args.name.now;
+      process = p;
+      offset = c.offset_minutes-offset.result;
+      at = c.civil_at-at.result;
+    } in (
       c.civil_at-at.result,
       simp to_z-of_z at c.civil_at-at.ensures,
       simp to_z-of_z (ap with_process c.process-process.ensures

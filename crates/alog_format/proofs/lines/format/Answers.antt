@@ -11,7 +11,8 @@ pub returns : goal.returns
 returns c =
     let s = shown_by c.facts_of-facts.result in
     let items : List Item = c.args.pattern.now.items in
-    let written : c.write_items.new.line ≡ appended c.args.line.now (flat_map (item_text s) items) = rw (← c.items.ensures) c.write_items.ensures.written in (
+    let written : c.write_items.new.line ≡ appended c.args.line.now (flat_map
+    (item_text s) items) = rw (← c.items.ensures) c.write_items.ensures.written in (
       line_text s items,
       (s, c.facts_of-facts.ensures.shown, refl),
       line_written c.args.line.now c.write_items.new.line c.put.new.line (flat_map (item_text s) items) written c.put.ensures,

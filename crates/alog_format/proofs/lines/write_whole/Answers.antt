@@ -8,4 +8,6 @@ write_flag-requires c = whole_end c.args.line.now c.capacity-end.result c.capaci
 
 pub returns : goal.returns
 returns c =
-    whole_is c.args.line.now c.write_flag.new.line (flag_text (shown_by c.args.facts.now) c.args.flag) c.capacity-end.result c.requires c.capacity-end.ensures.value c.write_flag.ensures.written
+    whole_is c.args.line.now c.write_flag.new.line (flag_text
+    (shown_by c.args.facts.now) c.args.flag) c.capacity-end.result c.requires c.capacity-end.ensures.value
+    c.write_flag.ensures.written

@@ -13,7 +13,8 @@ returns c =
     let file = c.args.file.now in
     let within : start ≤ length file = c.loop-start.invariant.inside in
     let passed : (k : ℕ) → start ≤ k → k < length file
-    → not (eqb (get_or file k 0) 47) ≡ true = λ k low high. ap not (ne_eqb (get_or file k 0) 47 (c.loop-start.invariant.passed k low high)) in
+    → not (eqb (get_or file k 0) 47) ≡ true = λ k low high. ap not (ne_eqb (get_or file k 0) 47
+    (c.loop-start.invariant.passed k low high)) in
     let stops : 0 < start → not (eqb (get_or file (start - 1) 0) 47) ≡ false = λ some.
     elim c.loop-start-test.branch [
       | then-loop-start-test+else-file-start-ne47 w ↦ ap not (eq-eqb (get_or file (start - 1) 0) 47 w.if-file-start-ne47.false)

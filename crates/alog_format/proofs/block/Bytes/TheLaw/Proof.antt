@@ -20,4 +20,5 @@ shares =
     of_Lends C.struct C.the_codes C.the_heap C.the_lent
     (λ d p. lent_at_shr_laws (Array u8 (length d.items)) (Array-row_laws u8 (uint_row_laws w8) (length d.items)) d.start d.items)
     tt
-    (λ M 𝓤 𝓛 d p. Lends-lies 𝓛 (Array u8 (length d.items)) C.the_row.lives d.start d.items (Shares-Array 𝓛 u8 tt (length d.items) C.the_row.lives (byte_laws.shares 𝓛) d.items))
+    (λ M 𝓤 𝓛 d p. Lends-lies 𝓛 (Array u8 (length d.items)) C.the_row.lives d.start d.items
+    (Shares-Array 𝓛 u8 tt (length d.items) C.the_row.lives (byte_laws.shares 𝓛) d.items))

@@ -48,7 +48,8 @@ as_slice_spec 𝓤 𝓛 𝓜 𝓡 wired =
     (λ y are.
     let κ : Lft = y.0.0.0 in let vss = y.0.4 in let Post = W.post y in
     let r = y.0.3.0.ref_ptr in let d = y.0.3.0.now in let p = y.0.3.1.0 in let n = y.0.3.1.1.0 in let ys = take n d.items in
-    qed 𝓛 ((raw (alive 𝓛 f.signature y.0.0 y.0.1) ⊛ ‵ (owns (types_at f.signature.params y.0.0) y.0.3 vss)) ∷ (raw (fact 𝓤 (p ≡ d.start)) ⊛ raw (fact 𝓤 (n ≤ length d.items))) ∷ []) ∵
+    qed 𝓛 ((raw (alive 𝓛 f.signature y.0.0 y.0.1) ⊛ ‵ (owns (types_at f.signature.params y.0.0) y.0.3 vss)) ∷
+    (raw (fact 𝓤 (p ≡ d.start)) ⊛ raw (fact 𝓤 (n ≤ length d.items))) ∷ []) ∵
     move ! (1 ∷ []) $ split ! $ heard ! (p ≡ d.start) (λ same. heard ! (n ≤ length d.items) (λ within. split ! $ move ! (1 ∷ []) $
     let long : length ys ≡ n = length-take-le n d.items within in
     fsplit ! $ fsplit ! $ feq_l ! (λ is₀. unhide ! $ fsplit ! $ drop ! $
@@ -59,7 +60,8 @@ as_slice_spec 𝓤 𝓛 𝓜 𝓡 wired =
     regoal ! (λ (us : List Val). prop (WpFn 𝓤 𝓛.H 𝓣.C 𝓣.Λ code.function (us ++ (vss.1.0 ++ (vss.1.1.0 ++ []))) Post)) is₀ refl $
     regoal ! (λ (us : List Val). prop (WpFn 𝓤 𝓛.H 𝓣.C 𝓣.Λ code.function ((vptr r.0 r.1 ∷ []) ++ (us ++ (vss.1.1.0 ++ []))) Post)) (is₁
     ∙ ap (λ (z : Ptr). ptr_val z ∷ []) (same ∙ e)) refl $
-    regoal ! (λ (us : List Val). prop (WpFn 𝓤 𝓛.H 𝓣.C 𝓣.Λ code.function ((vptr r.0 r.1 ∷ []) ++ ((vptr b o ∷ []) ++ (us ++ []))) Post)) is₂ refl $
+    regoal ! (λ (us : List Val). prop (WpFn 𝓤 𝓛.H 𝓣.C 𝓣.Λ code.function
+    ((vptr r.0 r.1 ∷ []) ++ ((vptr b o ∷ []) ++ (us ++ []))) Post)) is₂ refl $
     enter ! _ _ _ _ _ $ alloc_all ! (λ l. pass_all ! refl ((tt, tt), ((tt, tt), ((tt, record { fits = fits }), tt))) $
     first ! $ blocks ! $
     sets_last ! (agg ! (and_then ! (get ! refl) (and_then ! (get ! refl) (no_more !)))) refl (tt, (tt, (record { fits = fits }, tt))) $

@@ -94,7 +94,8 @@ module _ {M : Type 1} {𝓤 : Ura M} (𝓛 : Logic 𝓤) (at_mem : Memory → SP
 
     -- the end: the `ensures`, the two tokens and the owner at what the loop made
     exits : (new : B.Denot) → new.start ≡ d.start → new.items ≡ overwritten d.items start ys
-        → ent 𝓤 (⋆ 𝓛 (‵ (fobs γ (B.coded.code new)) ∷ ‵ (fbor κ (Borrowed (mem B) rb ro γ)) ∷ ‵ (flft κ q) ∷ ‵ (flft κ' q') ∷ [])) (Post vunit)
+        → ent 𝓤 (⋆ 𝓛 (‵ (fobs γ (B.coded.code new)) ∷ ‵ (fbor κ (Borrowed (mem B) rb ro γ)) ∷ ‵ (flft κ q) ∷ ‵
+        (flft κ' q') ∷ [])) (Post vunit)
     exits new place is =
         qed 𝓛 (‵ (fobs γ (B.coded.code new)) ∷ ‵ (fbor κ (Borrowed (mem B) rb ro γ)) ∷ ‵ (flft κ q) ∷ ‵ (flft κ' q') ∷ []) ∵
         suffices ! _ (ends_at 𝓛 spec.ended stayed clauses bound vunit tt (new, (tt, (tt, (tt, tt)))) (tt, (tt, (tt, (tt, tt))))) $
@@ -125,7 +126,9 @@ module _ {M : Type 1} {𝓤 : Ura M} (𝓛 : Logic 𝓤) (at_mem : Memory → SP
 
       abbrev Now : Done → List (Item 𝓤)
       Now t =
-          ‵ (row u8 full_share (copied t.0) b o) ∷ ‵ (row u8 r ys sb so) ∷ ‵ ((Fields []).own_val tt us) ∷ ‵ (cell_at full_share B.mir us rb ro) ∷ ‵ (fobor κ q (Borrowed (mem B) rb ro γ)) ∷ ‵ (fobs γ (B.coded.code d)) ∷ ‵ (fauth γ (B.coded.code d))
+          ‵ (row u8 full_share (copied t.0) b o) ∷ ‵ (row u8 r ys sb so) ∷ ‵ ((Fields []).own_val tt us) ∷ ‵
+          (cell_at full_share B.mir us rb ro) ∷ ‵ (fobor κ q (Borrowed (mem B) rb ro γ)) ∷ ‵ (fobs γ
+          (B.coded.code d)) ∷ ‵ (fauth γ (B.coded.code d))
           ∷ Shut 𝓛 κ' q' (row u8 r ys sb so)
           ∷ holding 𝓛 En ((1, vptr rb ro) ∷ (2, vptr b o) ∷ (3, vint w64 start) ∷ (4, slice_val (sb, so) (length ys)) ∷ (
             5,
@@ -133,7 +136,8 @@ module _ {M : Type 1} {𝓤 : Ura M} (𝓛 : Logic 𝓤) (at_mem : Memory → SP
           ) ∷ (6, vint w64 (length ys)) ∷ (7, vint w64 t.0) ∷ [])
 
       abbrev Turned : Done → Out → SProp 𝓤
-      Turned t = after_turn 𝓤 H (Below 𝓛 Nearer Now t) (after_block 𝓤 H (after_seq 𝓤 H (Wp 𝓤 H C Λ En code.Mir.t-5 (at_return 𝓤 H En Post)) (at_return 𝓤 H En Post)))
+      Turned t = after_turn 𝓤 H (Below 𝓛 Nearer Now t) (after_block 𝓤 H
+          (after_seq 𝓤 H (Wp 𝓤 H C Λ En code.Mir.t-5 (at_return 𝓤 H En Post)) (at_return 𝓤 H En Post)))
 
       turns : (t : Done) → Sq 𝓛 (Now t) (runs C Λ En code.Mir.turn-1 (any_q (Turned t)))
       unfolding after_turn
@@ -148,13 +152,16 @@ module _ {M : Type 1} {𝓤 : Ura M} (𝓛 : Logic 𝓤) (at_mem : Memory → SP
           skips ! $ exec ! C Λ En (after 2 code.Mir.turn-1) (any_q (Turned t)) $ first ! $ blocks ! $
           -- let byte = *from.add(i);
           sets ! (bin ! (get ! refl) (get ! refl) tt) refl (tt, tt) $
-          move ! (1 ∷ []) $ use1 𝓛 (‵ (fat r (ty_int w8) sb (i + so) (vint w8 x)) ⊛ ‵ (rest 𝓛 r sb so ys i)) (byte_out 𝓛 r sb so ys i inside) $ split ! $ well_typed ! (λ good.
+          move ! (1 ∷ []) $ use1 𝓛 (‵ (fat r (ty_int w8) sb (i + so) (vint w8 x)) ⊛ ‵
+          (rest 𝓛 r sb so ys i)) (byte_out 𝓛 r sb so ys i inside) $ split ! $ well_typed ! (λ good.
           sets ! (of_opd ! (load ! (through ! refl (stop !)) (look ! 0 refl))) refl good $
           use2 𝓛 (‵ (row u8 r ys sb so)) (byte_back 𝓛 r sb so ys i inside) $
           -- *start.add(at + i) = byte;
           sets ! (bin ! (get ! refl) (get ! refl) (record { fits = ft })) refl (tt, record { fits = ft }) $
           sets ! (bin ! (get ! refl) (get ! refl) tt) refl (tt, tt) $
-          move ! (1 ∷ []) $ use1 𝓛 (‵ (fat full_share (ty_int w8) b (start + i + o) (vint w8 (get_or (copied i) (start + i) 0))) ⊛ ‵ (rest 𝓛 full_share b o (copied i) (start + i))) (byte_out 𝓛 full_share b o (copied i) (start + i) there) $ split ! $
+          move ! (1 ∷ []) $ use1 𝓛 (‵ (fat full_share (ty_int w8) b (start + i + o)
+          (vint w8 (get_or (copied i) (start + i) 0))) ⊛ ‵ (rest 𝓛 full_share b o (copied i) (start + i)))
+          (byte_out 𝓛 full_share b o (copied i) (start + i) there) $ split ! $
           assigns_last ! (of_opd ! (get ! refl)) (through ! refl (stop !)) (store ! 0 refl good) $
           exec ! C Λ En (after 3 code.Mir.turn-1) (any_q (Turned t)) $
           -- i += 1;
@@ -174,10 +181,15 @@ module _ {M : Type 1} {𝓤 : Ura M} (𝓛 : Logic 𝓤) (at_mem : Memory → SP
           by ! (exits new refl (ap copied all ∙ paste_all d.items start ys (length ys) refl)))
 
     walk : (𝓣 : Tables 𝓤 H) → start < 2 ^ 64 → Room u8 (length ys)
-        → ent 𝓤 ((walk_of 𝓛 spec.ended stayed clauses).pre bound) (WpFn 𝓤 H 𝓣.C 𝓣.Λ code.function (vptr rb ro ∷ ptr_val p ∷ vint w64 start ∷ slice_val (sb, so) (length ys) ∷ []) Post)
+        → ent 𝓤 ((walk_of 𝓛 spec.ended stayed clauses).pre bound) (WpFn 𝓤 H 𝓣.C 𝓣.Λ code.function
+        (vptr rb ro ∷ ptr_val p ∷ vint w64 start ∷ slice_val (sb, so) (length ys) ∷ []) Post)
     walk 𝓣 fs room =
         let Fits = start + length ys ≤ length d.items in
-        qed 𝓛 (((‵ (flft κ q) ⊛ ‵ (flft κ' q') ⊛ ‵ ftrue) ⊛ ‵ (owns (MutRef (named 0) κ B ∷ RawPtr ∷ usize ∷ ShrSlice (named 1) κ' u8 ∷ []) (self, (p, (start, (source, tt)))) words)) ∷ (raw (fact 𝓤 (p ≡ d.start)) ⊛ raw (fact 𝓤 Fits)) ∷ []) ∵
+        qed 𝓛 (((‵ (flft κ q) ⊛ ‵ (flft κ' q') ⊛ ‵ ftrue) ⊛ ‵
+        (owns (MutRef (named 0) κ B ∷ RawPtr ∷ usize ∷ ShrSlice (named 1) κ' u8 ∷ []) (
+          self,
+          (p, (start, (source, tt))),
+        ) words)) ∷ (raw (fact 𝓤 (p ≡ d.start)) ⊛ raw (fact 𝓤 Fits)) ∷ []) ∵
         move ! (1 ∷ []) $ split ! $ heard ! (p ≡ d.start) (λ place. heard ! Fits (λ asked.
         split ! $ split3 ! $ move ! (3 ∷ []) $ fsplit ! $ fsplit3 ! $ move ! (3 ∷ []) $ fsplit ! $ move ! (1 ∷ []) $ fsplit ! $
         move ! (1 ∷ []) $ fsplit ! $ fsplit ! $
@@ -204,7 +216,11 @@ module _ {M : Type 1} {𝓤 : Ura M} (𝓛 : Logic 𝓤) (at_mem : Memory → SP
         -- let mut i = 0;
         sets ! (of_opd ! (lit ! tt)) refl (tt, record { fits = lit< tt }) $
         rewrite ! 0 (λ (zs : List ℕ). ‵ (row u8 full_share zs b o)) (paste-zero d.items start ys) refl $
-        first ! $ blocks ! $ loops ! 𝓣 Nearer (InvImage.wf (λ (t : Done). length ys - t.0) lt-wf_rel.wf) (Now 𝓣 asked r l b o e us) (turns 𝓣 asked r l b o e us) (0, omega arith))))))
+        first ! $ blocks ! $ loops ! 𝓣 Nearer (InvImage.wf
+        (λ (t : Done). length ys - t.0) lt-wf_rel.wf) (Now 𝓣 asked r l b o e us) (turns 𝓣 asked r l b o e us) (
+          0,
+          omega arith,
+        ))))))
 
 pub copy_in_spec : {M : Type 1} → statement M
 unfolding tables_of
@@ -228,4 +244,6 @@ copy_in_spec 𝓤 𝓛 𝓜 𝓡 wired =
         (uint_Tells w64, (shr_slice_Tells (named 1) κs.1.0 u8, tt)),
       ),
     ))
-    (λ κs qs bounds a g are. walk 𝓛 mem' run κs.0 κs.1.0 qs.0 qs.1.0 a.0.ref_ptr.0 a.0.ref_ptr.1 a.1.1.1.0.ref_ptr.0 a.1.1.1.0.ref_ptr.1 a.0.ghost_name a.0.now a.1.0 a.1.1.0 a.1.1.1.0.now (tables_of 𝓤 𝓛.H 𝓜 (tables 𝓤 𝓛.H 𝓜 𝓡 𝓡.env)) are.1.1.0.1 are.1.1.1.0.0.1)
+    (λ κs qs bounds a g are. walk 𝓛 mem' run κs.0 κs.1.0 qs.0 qs.1.0 a.0.ref_ptr.0 a.0.ref_ptr.1 a.1.1.1.0.ref_ptr.0
+    a.1.1.1.0.ref_ptr.1 a.0.ghost_name a.0.now a.1.0 a.1.1.0 a.1.1.1.0.now (tables_of 𝓤 𝓛.H 𝓜
+    (tables 𝓤 𝓛.H 𝓜 𝓡 𝓡.env)) are.1.1.0.1 are.1.1.1.0.0.1)

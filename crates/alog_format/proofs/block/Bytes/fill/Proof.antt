@@ -134,14 +134,16 @@ module _ {M : Type 1} {𝓤 : Ura M} (𝓛 : Logic 𝓤) (at_mem : Memory → SP
 
       abbrev Now : Done → List (Item 𝓤)
       Now t =
-          ‵ (row u8 full_share (written t.0) b o) ∷ ‵ ((Fields []).own_val tt us) ∷ ‵ (cell_at full_share B.mir us rb ro) ∷ ‵ (fobor κ q (Borrowed (mem B) rb ro γ)) ∷ ‵ (fobs γ (B.coded.code d)) ∷ ‵ (fauth γ (B.coded.code d))
+          ‵ (row u8 full_share (written t.0) b o) ∷ ‵ ((Fields []).own_val tt us) ∷ ‵ (cell_at full_share B.mir us rb ro) ∷ ‵
+          (fobor κ q (Borrowed (mem B) rb ro γ)) ∷ ‵ (fobs γ (B.coded.code d)) ∷ ‵ (fauth γ (B.coded.code d))
           ∷ holding 𝓛 En ((1, vptr rb ro) ∷ (2, vptr b o) ∷ (3, vint w64 start) ∷ (4, vint w64 count) ∷ (5, vint w8 byte) ∷ (
             6,
             vint w64 t.0,
           ) ∷ [])
 
       abbrev Turned : Done → Out → SProp 𝓤
-      Turned t = after_turn 𝓤 H (Below 𝓛 Nearer Now t) (after_block 𝓤 H (after_seq 𝓤 H (Wp 𝓤 H C Λ En code.Mir.t-3 (at_return 𝓤 H En Post)) (at_return 𝓤 H En Post)))
+      Turned t = after_turn 𝓤 H (Below 𝓛 Nearer Now t) (after_block 𝓤 H
+          (after_seq 𝓤 H (Wp 𝓤 H C Λ En code.Mir.t-3 (at_return 𝓤 H En Post)) (at_return 𝓤 H En Post)))
 
       turns : (t : Done) → Sq 𝓛 (Now t) (runs C Λ En code.Mir.turn-1 (any_q (Turned t)))
       unfolding after_turn
@@ -160,7 +162,8 @@ module _ {M : Type 1} {𝓤 : Ura M} (𝓛 : Logic 𝓤) (at_mem : Memory → SP
           -- *start.add(at + i) = byte;
           sets ! (bin ! (get ! refl) (get ! refl) (record { fits = ft })) refl (tt, record { fits = ft }) $
           sets ! (bin ! (get ! refl) (get ! refl) tt) refl (tt, tt) $
-          use1 𝓛 (‵ (fat full_share (ty_int w8) b (start + i + o) (vint w8 (get_or (written i) (start + i) 0))) ⊛ ‵ (rest 𝓛 full_share b o (written i) (start + i))) (byte_out 𝓛 full_share b o (written i) (start + i) there) $ split ! $
+          use1 𝓛 (‵ (fat full_share (ty_int w8) b (start + i + o) (vint w8 (get_or (written i) (start + i) 0))) ⊛ ‵
+          (rest 𝓛 full_share b o (written i) (start + i))) (byte_out 𝓛 full_share b o (written i) (start + i) there) $ split ! $
           assigns_last ! (of_opd ! (get ! refl)) (through ! refl (stop !)) (store ! 0 refl (tt, record { fits = fb })) $
           exec ! C Λ En (after 3 code.Mir.turn-1) (any_q (Turned t)) $
           -- i += 1;
@@ -178,7 +181,8 @@ module _ {M : Type 1} {𝓤 : Ura M} (𝓛 : Logic 𝓤) (at_mem : Memory → SP
           by ! (exits new refl (ap written end ∙ paste_all d.items start bytes (length bytes) refl)))
 
     walk : (𝓣 : Tables 𝓤 H) → start < 2 ^ 64 → count < 2 ^ 64 → byte < 2 ^ 8
-        → ent 𝓤 ((walk_of 𝓛 spec.ended stayed clauses).pre bound) (WpFn 𝓤 H 𝓣.C 𝓣.Λ code.function (vptr rb ro ∷ ptr_val p ∷ vint w64 start ∷ vint w64 count ∷ vint w8 byte ∷ []) Post)
+        → ent 𝓤 ((walk_of 𝓛 spec.ended stayed clauses).pre bound) (WpFn 𝓤 H 𝓣.C 𝓣.Λ code.function
+        (vptr rb ro ∷ ptr_val p ∷ vint w64 start ∷ vint w64 count ∷ vint w8 byte ∷ []) Post)
     walk 𝓣 fs fc fb =
         let Fits = start + count ≤ length d.items in
         qed 𝓛 (((‵ (flft κ q) ⊛ ‵ ftrue) ⊛ ‵ (owns (MutRef (named 0) κ B ∷ RawPtr ∷ usize ∷ usize ∷ u8 ∷ []) (
@@ -212,7 +216,8 @@ module _ {M : Type 1} {𝓤 : Ura M} (𝓛 : Logic 𝓤) (at_mem : Memory → SP
         -- let mut i = 0;
         sets ! (of_opd ! (lit ! tt)) refl (tt, record { fits = lit< tt }) $
         rewrite ! 0 (λ (zs : List ℕ). ‵ (row u8 full_share zs b o)) (paste-zero d.items start bytes) refl $
-        first ! $ blocks ! $ loops ! 𝓣 Nearer (InvImage.wf (λ (t : Done). count - t.0) lt-wf_rel.wf) (Now 𝓣 asked fb l b o e us) (turns 𝓣 asked fb l b o e us) (0, omega arith)))))
+        first ! $ blocks ! $ loops ! 𝓣 Nearer (InvImage.wf
+        (λ (t : Done). count - t.0) lt-wf_rel.wf) (Now 𝓣 asked fb l b o e us) (turns 𝓣 asked fb l b o e us) (0, omega arith)))))
 
 pub fill_spec : {M : Type 1} → statement M
 unfolding tables_of
@@ -236,4 +241,5 @@ fill_spec 𝓤 𝓛 𝓜 𝓡 wired =
       mut_Tells (named 0) κs.0 B,
       (rawptr_Tells, (uint_Tells w64, (uint_Tells w64, (uint_Tells w8, tt)))),
     ))
-    (λ κs qs bounds a g are. walk 𝓛 mem' run κs.0 qs.0 a.0.ref_ptr.0 a.0.ref_ptr.1 a.0.ghost_name a.0.now a.1.0 a.1.1.0 a.1.1.1.0 a.1.1.1.1.0 (tables_of 𝓤 𝓛.H 𝓜 (tables 𝓤 𝓛.H 𝓜 𝓡 𝓡.env)) are.1.1.0.1 are.1.1.1.0.1 are.1.1.1.1.0.1)
+    (λ κs qs bounds a g are. walk 𝓛 mem' run κs.0 qs.0 a.0.ref_ptr.0 a.0.ref_ptr.1 a.0.ghost_name a.0.now a.1.0 a.1.1.0 a.1.1.1.0
+    a.1.1.1.1.0 (tables_of 𝓤 𝓛.H 𝓜 (tables 𝓤 𝓛.H 𝓜 𝓡 𝓡.env)) are.1.1.0.1 are.1.1.1.0.1 are.1.1.1.1.0.1)

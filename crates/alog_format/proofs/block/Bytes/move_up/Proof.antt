@@ -129,14 +129,16 @@ module _ {M : Type 1} {𝓤 : Ura M} (𝓛 : Logic 𝓤) (at_mem : Memory → SP
 
       abbrev Now : Left → List (Item 𝓤)
       Now t =
-          ‵ (row u8 full_share (at t.0) b o) ∷ ‵ ((Fields []).own_val tt us) ∷ ‵ (cell_at full_share B.mir us rb ro) ∷ ‵ (fobor κ q (Borrowed (mem B) rb ro γ)) ∷ ‵ (fobs γ (B.coded.code d)) ∷ ‵ (fauth γ (B.coded.code d))
+          ‵ (row u8 full_share (at t.0) b o) ∷ ‵ ((Fields []).own_val tt us) ∷ ‵ (cell_at full_share B.mir us rb ro) ∷ ‵ (fobor κ q
+          (Borrowed (mem B) rb ro γ)) ∷ ‵ (fobs γ (B.coded.code d)) ∷ ‵ (fauth γ (B.coded.code d))
           ∷ holding 𝓛 En ((1, vptr rb ro) ∷ (2, vptr b o) ∷ (3, vint w64 from) ∷ (4, vint w64 to) ∷ (5, vint w64 count) ∷ (
             6,
             vint w64 t.0,
           ) ∷ [])
 
       abbrev Turned : Left → Out → SProp 𝓤
-      Turned t = after_turn 𝓤 H (Below 𝓛 Nearer Now t) (after_block 𝓤 H (after_seq 𝓤 H (Wp 𝓤 H C Λ En code.Mir.t-3 (at_return 𝓤 H En Post)) (at_return 𝓤 H En Post)))
+      Turned t = after_turn 𝓤 H (Below 𝓛 Nearer Now t) (after_block 𝓤 H
+          (after_seq 𝓤 H (Wp 𝓤 H C Λ En code.Mir.t-3 (at_return 𝓤 H En Post)) (at_return 𝓤 H En Post)))
 
       turns : (t : Left) → Sq 𝓛 (Now t) (runs C Λ En code.Mir.turn-1 (any_q (Turned t)))
       unfolding after_turn
@@ -156,13 +158,16 @@ module _ {M : Type 1} {𝓤 : Ura M} (𝓛 : Logic 𝓤) (at_mem : Memory → SP
           -- let byte = *start.add(from + left);
           sets ! (bin ! (get ! refl) (get ! refl) (record { fits = ff })) refl (tt, record { fits = ff }) $
           sets ! (bin ! (get ! refl) (get ! refl) tt) refl (tt, tt) $
-          use1 𝓛 (‵ (fat full_share (ty_int w8) b (from + j + o) (vint w8 x)) ⊛ ‵ (rest 𝓛 full_share b o (at (suc j)) (from + j))) (byte_out 𝓛 full_share b o (at (suc j)) (from + j) here) $ split ! $ well_typed ! (λ good.
+          use1 𝓛 (‵ (fat full_share (ty_int w8) b (from + j + o) (vint w8 x)) ⊛ ‵
+          (rest 𝓛 full_share b o (at (suc j)) (from + j))) (byte_out 𝓛 full_share b o (at
+          (suc j)) (from + j) here) $ split ! $ well_typed ! (λ good.
           sets ! (of_opd ! (load ! (through ! refl (stop !)) (look ! 0 refl))) refl good $
           use2 𝓛 (‵ (row u8 full_share (at (suc j)) b o)) (byte_back 𝓛 full_share b o (at (suc j)) (from + j) here) $
           -- *start.add(to + left) = byte;
           sets ! (bin ! (get ! refl) (get ! refl) (record { fits = ft })) refl (tt, record { fits = ft }) $
           sets ! (bin ! (get ! refl) (get ! refl) tt) refl (tt, tt) $
-          use1 𝓛 (‵ (fat full_share (ty_int w8) b (to + j + o) (vint w8 (get_or (at (suc j)) (to + j) 0))) ⊛ ‵ (rest 𝓛 full_share b o (at (suc j)) (to + j))) (byte_out 𝓛 full_share b o (at (suc j)) (to + j) there) $ split ! $
+          use1 𝓛 (‵ (fat full_share (ty_int w8) b (to + j + o) (vint w8 (get_or (at (suc j)) (to + j) 0))) ⊛ ‵
+          (rest 𝓛 full_share b o (at (suc j)) (to + j))) (byte_out 𝓛 full_share b o (at (suc j)) (to + j) there) $ split ! $
           assigns_last ! (of_opd ! (get ! refl)) (through ! refl (stop !)) (store ! 0 refl good) $
           use2 𝓛 (‵ (row u8 full_share (set (at (suc j)) (to + j) x) b o)) (byte_in 𝓛 b o (at (suc j)) (to + j) x there) $
           rewrite ! 0 (λ (zs : List ℕ). ‵ (row u8 full_share zs b o)) (upper_step d.items from to count j low up fits) refl $
@@ -175,7 +180,8 @@ module _ {M : Type 1} {𝓤 : Ura M} (𝓛 : Logic 𝓤) (at_mem : Memory → SP
           by ! (exits new refl (ap at none ∙ upper_ends d.items from to count)))
 
     walk : (𝓣 : Tables 𝓤 H) → from < 2 ^ 64 → to < 2 ^ 64 → count < 2 ^ 64
-        → ent 𝓤 ((walk_of 𝓛 spec.ended stayed clauses).pre bound) (WpFn 𝓤 H 𝓣.C 𝓣.Λ code.function (vptr rb ro ∷ ptr_val p ∷ vint w64 from ∷ vint w64 to ∷ vint w64 count ∷ []) Post)
+        → ent 𝓤 ((walk_of 𝓛 spec.ended stayed clauses).pre bound) (WpFn 𝓤 H 𝓣.C 𝓣.Λ code.function
+        (vptr rb ro ∷ ptr_val p ∷ vint w64 from ∷ vint w64 to ∷ vint w64 count ∷ []) Post)
     walk 𝓣 ff ft fc =
         let Fits = (from ≤ to) × (to + count ≤ length d.items) in
         qed 𝓛 (((‵ (flft κ q) ⊛ ‵ ftrue) ⊛ ‵ (owns (MutRef (named 0) κ B ∷ RawPtr ∷ usize ∷ usize ∷ usize ∷ []) (
@@ -209,7 +215,11 @@ module _ {M : Type 1} {𝓤 : Ura M} (𝓛 : Logic 𝓤) (at_mem : Memory → SP
         -- let mut left = count;
         sets ! (of_opd ! (get ! refl)) refl (tt, record { fits = fc }) $
         rewrite ! 0 (λ (zs : List ℕ). ‵ (row u8 full_share zs b o)) (upper_begins d.items from to count) refl $
-        first ! $ blocks ! $ loops ! 𝓣 Nearer (InvImage.wf (λ (t : Left). t.0) lt-wf_rel.wf) (Now 𝓣 asked.0 asked.1 l b o e us) (turns 𝓣 asked.0 asked.1 l b o e us) (count, omega arith)))))
+        first ! $ blocks ! $ loops ! 𝓣 Nearer (InvImage.wf
+        (λ (t : Left). t.0) lt-wf_rel.wf) (Now 𝓣 asked.0 asked.1 l b o e us) (turns 𝓣 asked.0 asked.1 l b o e us) (
+          count,
+          omega arith,
+        )))))
 
 pub move_up_spec : {M : Type 1} → statement M
 unfolding tables_of
@@ -233,4 +243,5 @@ move_up_spec 𝓤 𝓛 𝓜 𝓡 wired =
       mut_Tells (named 0) κs.0 B,
       (rawptr_Tells, (uint_Tells w64, (uint_Tells w64, (uint_Tells w64, tt)))),
     ))
-    (λ κs qs bounds a g are. walk 𝓛 mem' run κs.0 qs.0 a.0.ref_ptr.0 a.0.ref_ptr.1 a.0.ghost_name a.0.now a.1.0 a.1.1.0 a.1.1.1.0 a.1.1.1.1.0 (tables_of 𝓤 𝓛.H 𝓜 (tables 𝓤 𝓛.H 𝓜 𝓡 𝓡.env)) are.1.1.0.1 are.1.1.1.0.1 are.1.1.1.1.0.1)
+    (λ κs qs bounds a g are. walk 𝓛 mem' run κs.0 qs.0 a.0.ref_ptr.0 a.0.ref_ptr.1 a.0.ghost_name a.0.now a.1.0 a.1.1.0 a.1.1.1.0
+    a.1.1.1.1.0 (tables_of 𝓤 𝓛.H 𝓜 (tables 𝓤 𝓛.H 𝓜 𝓡 𝓡.env)) are.1.1.0.1 are.1.1.1.0.1 are.1.1.1.1.0.1)
