@@ -2,6 +2,7 @@ pub mod Cells
 pub mod Rising
 pub mod Sound
 pub mod Histories
+pub mod Accounts
 pub mod Places
 pub mod Moves
 pub mod Steps

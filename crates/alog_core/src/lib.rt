@@ -24,7 +24,7 @@ mod tests;
 mod world;
 
 pub use error::{BeginError, Refused, StepError, WorldError};
-pub use laws::reached_states_are_sound;
+pub use laws::{accounts_balance, reached_states_are_sound};
 pub use mark::Mark;
 pub use round::Round;
 pub use said::{Answer, Call, CellView, Said};

@@ -5,7 +5,7 @@ ghost use Rattle.alog_core.specs.Run.{entries_of_run, TellAll};
 
 use crate::{
     Answer, BeginError, Call, CellView, MOST_PLACES, Mark, Refused, Said, StepError, World,
-    WorldError, reached_states_are_sound,
+    WorldError, accounts_balance, reached_states_are_sound,
 };
 use std::alloc::{AllocError, Global};
 use std::process::Abort;
@@ -103,7 +103,6 @@ fn empty_queue(rt: HostRuntime) -> Result<(), Fail> {
     says(&rt, &mut world, 2, &[Said::Nothing, Said::Empty(0)]);
     assert!(rt; world.is_idle(2));
     assert!(rt; world.cells(rt.alloc())?.is_empty());
-    reached_states_are_sound::<u64, u64>();
     Ok(())
 }
 
@@ -379,4 +378,10 @@ fn a_run_of_hundreds_of_calls(rt: HostRuntime) -> Result<(), Fail> {
     assert!(rt; taken.next().is_none());
     assert!(rt; world.cells(rt.alloc())?.is_empty());
     Ok(())
+}
+
+#[test]
+fn laws() {
+    reached_states_are_sound::<u64, u64>();
+    accounts_balance::<u64, u64>();
 }

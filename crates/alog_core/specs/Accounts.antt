@@ -1,0 +1,58 @@
+-- The accounts of a queue: what the claims of a history put in, what its takes took out, and what is listed still.
+use Rattle.std.specs.Prelude.{◌≡◌, ℕ, ◌+◌, List, [], ◌∷◌, ◌++◌, map}
+use Rattle.alog_core.specs.Queue.{Cell, Event, Claim, Take, start}
+use Rattle.alog_core.specs.History.{Entry, left_by, IsLegal}
+
+-- the ticket and the item that an event puts in, if it is a claim
+abbrev pub put_by : {T : Type 0} → Event T → List (ℕ × T)
+put_by (Claim t x) = (t, x) ∷ []
+put_by e = []
+
+-- the ticket and the item that an event takes out, if it is a take
+abbrev pub got_by : {T : Type 0} → Event T → List (ℕ × T)
+got_by (Take t x) = (t, x) ∷ []
+got_by e = []
+
+-- the tickets and items of a history's claims, in order
+abbrev pub claims : {T N : Type 0} → List (Entry T N) → List (ℕ × T)
+claims [] = []
+claims (x ∷ h) = put_by x.event ++ claims h
+
+-- the tickets and items of its takes, in order
+abbrev pub takes : {T N : Type 0} → List (Entry T N) → List (ℕ × T)
+takes [] = []
+takes (x ∷ h) = got_by x.event ++ takes h
+
+-- the tickets and items of cells
+abbrev pub held : {T : Type 0} → List (Cell T) → List (ℕ × T)
+held cs = map (λ c. (c.ticket, c.item)) cs
+
+-- the tickets that were issued, in order: those of the claims
+abbrev pub issued : {T N : Type 0} → List (Entry T N) → List ℕ
+issued h = map (λ p. p.0) (claims h)
+
+-- the tickets that were handed out, in order: those of the takes
+abbrev pub handed_out : {T N : Type 0} → List (Entry T N) → List ℕ
+handed_out h = map (λ p. p.0) (takes h)
+
+-- what tickets and items weigh together, each by its weight
+abbrev pub weigh : {T : Type 0} → (ℕ → T → ℕ) → List (ℕ × T) → ℕ
+weigh w [] = 0
+weigh w (p ∷ ps) = w p.0 p.1 + weigh w ps
+
+-- what all claims weigh
+abbrev pub claimed : {T N : Type 0} → (ℕ → T → ℕ) → List (Entry T N) → ℕ
+claimed w h = weigh w (claims h)
+
+-- what all takes weigh
+abbrev pub taken : {T N : Type 0} → (ℕ → T → ℕ) → List (Entry T N) → ℕ
+taken w h = weigh w (takes h)
+
+-- what the cells weigh
+abbrev pub listed : {T : Type 0} → (ℕ → T → ℕ) → List (Cell T) → ℕ
+listed w cs = weigh w (held cs)
+
+-- By whatever weight: what was claimed was taken, or is listed in the cells that the history leaves.
+abbrev pub AccountsBalance : Type 0 → Type 0 → Type 0
+AccountsBalance T N = (n f : ℕ) (h : List (Entry T N)) (w : ℕ → T → ℕ) → IsLegal n f h
+    → claimed w h ≡ taken w h + listed w (left_by (start f) h).cells
