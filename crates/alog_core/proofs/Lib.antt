@@ -3,6 +3,7 @@ pub mod Rising
 pub mod Sound
 pub mod Histories
 pub mod Accounts
+pub mod Tickets
 pub mod Places
 pub mod Moves
 pub mod Steps

@@ -1,6 +1,7 @@
 -- The accounts of a queue: what the claims of a history put in, what its takes took out, and what is listed still.
-use Rattle.std.specs.Prelude.{◌≡◌, ℕ, ◌+◌, List, [], ◌∷◌, ◌++◌, map}
-use Rattle.alog_core.specs.Queue.{Cell, Event, Claim, Take, start}
+use Rattle.std.specs.Prelude.{◌≡◌, ◌≢◌, ◌⊎◌, ◌↔◌, ℕ, ◌+◌, ◌-◌, ◌≤◌, List, [], ◌∷◌, ◌++◌, map}
+use Rattle.std.specs.List.{AllPairs, Contains, range_with_len}
+use Rattle.alog_core.specs.Queue.{Cell, Event, Claim, Take, IsListed, start}
 use Rattle.alog_core.specs.History.{Entry, left_by, IsLegal}
 
 -- the ticket and the item that an event puts in, if it is a claim
@@ -56,3 +57,18 @@ listed w cs = weigh w (held cs)
 abbrev pub AccountsBalance : Type 0 → Type 0 → Type 0
 AccountsBalance T N = (n f : ℕ) (h : List (Entry T N)) (w : ℕ → T → ℕ) → IsLegal n f h
     → claimed w h ≡ taken w h + listed w (left_by (start f) h).cells
+
+-- The tickets issued are those from the first on, up to the next one, each once.
+abbrev pub TicketsAreIssuedInOrder : Type 0 → Type 0 → Type 0
+TicketsAreIssuedInOrder T N = (n f : ℕ) (h : List (Entry T N)) → IsLegal n f h → (f ≤ (left_by (start f) h).next)
+    × (issued h ≡ range_with_len f ((left_by (start f) h).next - f))
+
+-- No ticket is handed out twice.
+abbrev pub NoTicketIsHandedOutTwice : Type 0 → Type 0 → Type 0
+NoTicketIsHandedOutTwice T N = (n f : ℕ) (h : List (Entry T N)) → IsLegal n f h → AllPairs (λ t u. t ≢ u) (handed_out h)
+
+-- An issued ticket was handed out or is listed, never both; and no other ticket was handed out or is listed.
+abbrev pub TicketsAreHandedOutOrListed : Type 0 → Type 0 → Type 0
+TicketsAreHandedOutOrListed T N = (n f : ℕ) (h : List (Entry T N)) (t : ℕ) → IsLegal n f h
+    → (Contains (issued h) t ↔ (Contains (handed_out h) t ⊎ IsListed t (left_by (start f) h).cells))
+    × (Contains (handed_out h) t → ¬ IsListed t (left_by (start f) h).cells)

@@ -1,6 +1,7 @@
 //! What is true of every history, and of every state of the queue that legal events lead to.
 ghost use Rattle.alog_core.specs.History.{ReachedStatesAreSound};
-ghost use Rattle.alog_core.specs.Accounts.{AccountsBalance};
+ghost use Rattle.alog_core.specs.Accounts.{AccountsBalance, TicketsAreIssuedInOrder, NoTicketIsHandedOutTwice};
+ghost use Rattle.alog_core.specs.Accounts.{TicketsAreHandedOutOrListed};
 
 /// The facts of every state that a legal history leaves, for items `T` and notes `N`: each ticket from the front to
 /// the next is there, a cell is being emptied exactly if its ticket is before the front, cells stand in ticket order,
@@ -14,4 +15,22 @@ pub fn reached_states_are_sound<T, N>()
 /// one kind of item it counts those. It does nothing: its contract is the law.
 pub fn accounts_balance<T, N>()
     ensures { AccountsBalance T N }
+{}
+
+/// The tickets that a legal history issues, which are those of its claims, are in order all those from the first on, each
+/// once, up to the next ticket that it leaves. It does nothing: its contract is the law.
+pub fn tickets_are_issued_in_order<T, N>()
+    ensures { TicketsAreIssuedInOrder T N }
+{}
+
+/// In a legal history no ticket is handed out twice: its takes are of tickets that all differ. It does nothing: its contract
+/// is the law.
+pub fn no_ticket_is_handed_out_twice<T, N>()
+    ensures { NoTicketIsHandedOutTwice T N }
+{}
+
+/// A ticket that a legal history issued was handed out, or it is listed in the cells that the history leaves, and never
+/// both; and only such a ticket was handed out or is listed. It does nothing: its contract is the law.
+pub fn tickets_are_handed_out_or_listed<T, N>()
+    ensures { TicketsAreHandedOutOrListed T N }
 {}

@@ -24,7 +24,10 @@ mod tests;
 mod world;
 
 pub use error::{BeginError, Refused, StepError, WorldError};
-pub use laws::{accounts_balance, reached_states_are_sound};
+pub use laws::{
+    accounts_balance, no_ticket_is_handed_out_twice, reached_states_are_sound,
+    tickets_are_handed_out_or_listed, tickets_are_issued_in_order,
+};
 pub use mark::Mark;
 pub use round::Round;
 pub use said::{Answer, Call, CellView, Said};

@@ -5,7 +5,8 @@ ghost use Rattle.alog_core.specs.Run.{entries_of_run, TellAll};
 
 use crate::{
     Answer, BeginError, Call, CellView, MOST_PLACES, Mark, Refused, Said, StepError, World,
-    WorldError, accounts_balance, reached_states_are_sound,
+    WorldError, accounts_balance, no_ticket_is_handed_out_twice, reached_states_are_sound,
+    tickets_are_handed_out_or_listed, tickets_are_issued_in_order,
 };
 use std::alloc::{AllocError, Global};
 use std::process::Abort;
@@ -384,4 +385,7 @@ fn a_run_of_hundreds_of_calls(rt: HostRuntime) -> Result<(), Fail> {
 fn laws() {
     reached_states_are_sound::<u64, u64>();
     accounts_balance::<u64, u64>();
+    tickets_are_issued_in_order::<u64, u64>();
+    no_ticket_is_handed_out_twice::<u64, u64>();
+    tickets_are_handed_out_or_listed::<u64, u64>();
 }
