@@ -18,7 +18,7 @@ listed-append : {T : Type 0} (w : ℕ → T → ℕ) (cs : List (Cell T)) (c : C
 listed-append w [] c = refl
 listed-append w (d ∷ cs) c = omega (arith, listed-append w cs c)
 
-held-marked : {T : Type 0} (t : ℕ) (m : Mark) (a : ℕ) (cs : List (Cell T)) → held (marked t m a cs) ≡ held cs
+pub held-marked : {T : Type 0} (t : ℕ) (m : Mark) (a : ℕ) (cs : List (Cell T)) → held (marked t m a cs) ≡ held cs
 held-marked t m a [] = refl
 held-marked t m a (d ∷ cs) =
     on_test

@@ -4,6 +4,7 @@ pub mod Sound
 pub mod Histories
 pub mod Accounts
 pub mod Tickets
+pub mod Items
 pub mod Places
 pub mod Moves
 pub mod Steps

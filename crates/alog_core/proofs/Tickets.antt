@@ -49,12 +49,12 @@ tickets_are_issued_in_order T N n f h legal =
     (omega (arith, i.next), i.tickets ∙ ap (λ m. range_with_len f m) many)
 
 -- how many times a ticket stands in a list
-abbrev times : ℕ → List ℕ → ℕ
+abbrev pub times : ℕ → List ℕ → ℕ
 times t [] = 0
 times t (u ∷ us) = cond (u == t) 1 0 + times t us
 
 -- a ticket that stands in a list stands there at least once, and the other way round
-times_contained : (t : ℕ) (us : List ℕ) → Contains us t → 1 ≤ times t us
+pub times_contained : (t : ℕ) (us : List ℕ) → Contains us t → 1 ≤ times t us
 times_contained t [] c = absurd (omega (arith, c.1))
 times_contained t (u ∷ us) (zero, l, e) =
     on_test (λ b. 1 ≤ cond b 1 0 + times t us) u t (λ _. omega arith) (λ other. absurd (other e))
@@ -131,6 +131,12 @@ counted_listed {T} t (c ∷ cs) h =
     (λ _ some. counted_listed t cs (omega (arith, some)))
     h
 
+pub issued_once : {T N : Type 0} (n f : ℕ) (h : List (Entry T N)) (t : ℕ) → IsLegal n f h → times t (issued h) ≤ 1
+issued_once {T} {N} n f h t legal =
+    let row = (tickets_are_issued_in_order T N n f h legal).1 in
+    let all : times t (issued h) ≡ times t (range_with_len f ((left_by (start f) h).next - f)) = ap (λ us. times t us) row in
+    omega (arith, all, times_in_row t f ((left_by (start f) h).next - f))
+
 -- each ticket, counted: it was issued at most once, and as often as it was handed out and is listed
 record Counts {T N : Type 0} (q : Queue T) (h : List (Entry T N)) (t : ℕ) : Type 0 where
   pub once : times t (issued h) ≤ 1
@@ -138,10 +144,8 @@ record Counts {T N : Type 0} (q : Queue T) (h : List (Entry T N)) (t : ℕ) : Ty
 
 counts : {T N : Type 0} (n f : ℕ) (h : List (Entry T N)) (t : ℕ) → IsLegal n f h → Counts (left_by (start f) h) h t
 counts {T} {N} n f h t legal =
-    let row = (tickets_are_issued_in_order T N n f h legal).1 in
-    let all : times t (issued h) ≡ times t (range_with_len f ((left_by (start f) h).next - f)) = ap (λ us. times t us) row in
     record {
-      once = omega (arith, all, times_in_row t f ((left_by (start f) h).next - f));
+      once = issued_once n f h t legal;
       balance =
           omega
           (arith, weigh_one t (claims h), weigh_one t (takes h), accounts_balance T N n f h (one t) legal);

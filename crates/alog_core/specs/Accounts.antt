@@ -72,3 +72,14 @@ abbrev pub TicketsAreHandedOutOrListed : Type 0 → Type 0 → Type 0
 TicketsAreHandedOutOrListed T N = (n f : ℕ) (h : List (Entry T N)) (t : ℕ) → IsLegal n f h
     → (Contains (issued h) t ↔ (Contains (handed_out h) t ⊎ IsListed t (left_by (start f) h).cells))
     × (Contains (handed_out h) t → ¬ IsListed t (left_by (start f) h).cells)
+
+-- What is handed out or listed under a ticket is what was claimed under it, and no other item was.
+abbrev pub TicketsKeepTheirItems : Type 0 → Type 0 → Type 0
+TicketsKeepTheirItems T N = (n f : ℕ) (h : List (Entry T N)) (t : ℕ) (x : T) → IsLegal n f h
+    → Contains (takes h) (t, x) ⊎ Contains (held (left_by (start f) h).cells) (t, x)
+    → Contains (claims h) (t, x) × ((y : T) → Contains (claims h) (t, y) → y ≡ x)
+
+-- A take comes after the claim of its ticket and item.
+abbrev pub TakesFollowTheirClaims : Type 0 → Type 0 → Type 0
+TakesFollowTheirClaims T N = (n f : ℕ) (before later : List (Entry T N)) (e : Entry T N) (t : ℕ) (x : T)
+    → IsLegal n f (before ++ e ∷ later) → e.event ≡ Take t x → Contains (claims before) (t, x)

@@ -1,7 +1,7 @@
 //! What is true of every history, and of every state of the queue that legal events lead to.
 ghost use Rattle.alog_core.specs.History.{ReachedStatesAreSound};
 ghost use Rattle.alog_core.specs.Accounts.{AccountsBalance, TicketsAreIssuedInOrder, NoTicketIsHandedOutTwice};
-ghost use Rattle.alog_core.specs.Accounts.{TicketsAreHandedOutOrListed};
+ghost use Rattle.alog_core.specs.Accounts.{TicketsAreHandedOutOrListed, TicketsKeepTheirItems, TakesFollowTheirClaims};
 
 /// The facts of every state that a legal history leaves, for items `T` and notes `N`: each ticket from the front to
 /// the next is there, a cell is being emptied exactly if its ticket is before the front, cells stand in ticket order,
@@ -33,4 +33,16 @@ pub fn no_ticket_is_handed_out_twice<T, N>()
 /// both; and only such a ticket was handed out or is listed. It does nothing: its contract is the law.
 pub fn tickets_are_handed_out_or_listed<T, N>()
     ensures { TicketsAreHandedOutOrListed T N }
+{}
+
+/// Each ticket of a legal history keeps its item: what is handed out or listed under it is what was claimed under it, and
+/// no other item was claimed under it. It does nothing: its contract is the law.
+pub fn tickets_keep_their_items<T, N>()
+    ensures { TicketsKeepTheirItems T N }
+{}
+
+/// In a legal history a take comes after the claim of its ticket, and hands out the item of that claim. It does nothing:
+/// its contract is the law.
+pub fn takes_follow_their_claims<T, N>()
+    ensures { TakesFollowTheirClaims T N }
 {}

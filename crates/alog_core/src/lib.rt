@@ -26,7 +26,8 @@ mod world;
 pub use error::{BeginError, Refused, StepError, WorldError};
 pub use laws::{
     accounts_balance, no_ticket_is_handed_out_twice, reached_states_are_sound,
-    tickets_are_handed_out_or_listed, tickets_are_issued_in_order,
+    takes_follow_their_claims, tickets_are_handed_out_or_listed, tickets_are_issued_in_order,
+    tickets_keep_their_items,
 };
 pub use mark::Mark;
 pub use round::Round;
