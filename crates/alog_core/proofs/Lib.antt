@@ -5,6 +5,7 @@ pub mod Histories
 pub mod Accounts
 pub mod Tickets
 pub mod Items
+pub mod Grabs
 pub mod Places
 pub mod Moves
 pub mod Steps

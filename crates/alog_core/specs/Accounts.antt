@@ -1,8 +1,8 @@
 -- The accounts of a queue: what the claims of a history put in, what its takes took out, and what is listed still.
-use Rattle.std.specs.Prelude.{◌≡◌, ◌≢◌, ◌⊎◌, ◌↔◌, ℕ, ◌+◌, ◌-◌, ◌≤◌, List, [], ◌∷◌, ◌++◌, map}
+use Rattle.std.specs.Prelude.{◌≡◌, ◌≢◌, ◌⊎◌, ◌↔◌, ℕ, ◌+◌, ◌-◌, ◌<◌, ◌≤◌, List, [], ◌∷◌, ◌++◌, map}
 use Rattle.std.specs.List.{AllPairs, Contains, range_with_len}
-use Rattle.alog_core.specs.Queue.{Cell, Event, Claim, Take, IsListed, start}
-use Rattle.alog_core.specs.History.{Entry, left_by, IsLegal}
+use Rattle.alog_core.specs.Queue.{Cell, Event, Claim, Grab, Take, IsListed, start}
+use Rattle.alog_core.specs.History.{Entry, left_by, own_of, IsLegal}
 
 -- the ticket and the item that an event puts in, if it is a claim
 abbrev pub put_by : {T : Type 0} → Event T → List (ℕ × T)
@@ -13,6 +13,11 @@ put_by e = []
 abbrev pub got_by : {T : Type 0} → Event T → List (ℕ × T)
 got_by (Take t x) = (t, x) ∷ []
 got_by e = []
+
+-- the ticket that an event grabs, if it is a grab
+abbrev pub grabbed_by : {T : Type 0} → Event T → List ℕ
+grabbed_by (Grab t) = t ∷ []
+grabbed_by e = []
 
 -- the tickets and items of a history's claims, in order
 abbrev pub claims : {T N : Type 0} → List (Entry T N) → List (ℕ × T)
@@ -35,6 +40,11 @@ issued h = map (λ p. p.0) (claims h)
 -- the tickets that were handed out, in order: those of the takes
 abbrev pub handed_out : {T N : Type 0} → List (Entry T N) → List ℕ
 handed_out h = map (λ p. p.0) (takes h)
+
+-- the tickets that a history grabs, in order
+abbrev pub grabbed : {T N : Type 0} → List (Entry T N) → List ℕ
+grabbed [] = []
+grabbed (x ∷ h) = grabbed_by x.event ++ grabbed h
 
 -- what tickets and items weigh together, each by its weight
 abbrev pub weigh : {T : Type 0} → (ℕ → T → ℕ) → List (ℕ × T) → ℕ
@@ -83,3 +93,15 @@ TicketsKeepTheirItems T N = (n f : ℕ) (h : List (Entry T N)) (t : ℕ) (x : T)
 abbrev pub TakesFollowTheirClaims : Type 0 → Type 0 → Type 0
 TakesFollowTheirClaims T N = (n f : ℕ) (before later : List (Entry T N)) (e : Entry T N) (t : ℕ) (x : T)
     → IsLegal n f (before ++ e ∷ later) → e.event ≡ Take t x → Contains (claims before) (t, x)
+
+-- The tickets grabbed are those from the first on, up to the front, each once.
+abbrev pub TicketsAreGrabbedInOrder : Type 0 → Type 0 → Type 0
+TicketsAreGrabbedInOrder T N = (n f : ℕ) (h : List (Entry T N)) → IsLegal n f h → (f ≤ (left_by (start f) h).front)
+    × (grabbed h ≡ range_with_len f ((left_by (start f) h).front - f))
+
+-- An actor grabs rising tickets, and takes rising ones where it takes in the order in which it grabs. (A legal history alone
+-- lets it grab twice and take the later ticket first.)
+abbrev pub AnActorsTicketsRise : Type 0 → Type 0 → Type 0
+AnActorsTicketsRise T N = (n f : ℕ) (h : List (Entry T N)) (a : ℕ) → IsLegal n f h
+    → AllPairs (λ t u. t < u) (grabbed (own_of a h))
+    × ((yet : List ℕ) → grabbed (own_of a h) ≡ handed_out (own_of a h) ++ yet → AllPairs (λ t u. t < u) (handed_out (own_of a h)))

@@ -2,6 +2,7 @@
 ghost use Rattle.alog_core.specs.History.{ReachedStatesAreSound};
 ghost use Rattle.alog_core.specs.Accounts.{AccountsBalance, TicketsAreIssuedInOrder, NoTicketIsHandedOutTwice};
 ghost use Rattle.alog_core.specs.Accounts.{TicketsAreHandedOutOrListed, TicketsKeepTheirItems, TakesFollowTheirClaims};
+ghost use Rattle.alog_core.specs.Accounts.{TicketsAreGrabbedInOrder, AnActorsTicketsRise};
 
 /// The facts of every state that a legal history leaves, for items `T` and notes `N`: each ticket from the front to
 /// the next is there, a cell is being emptied exactly if its ticket is before the front, cells stand in ticket order,
@@ -45,4 +46,16 @@ pub fn tickets_keep_their_items<T, N>()
 /// its contract is the law.
 pub fn takes_follow_their_claims<T, N>()
     ensures { TakesFollowTheirClaims T N }
+{}
+
+/// The tickets that a legal history grabs are in order all those from the first on, each once, up to the front that it
+/// leaves. It does nothing: its contract is the law.
+pub fn tickets_are_grabbed_in_order<T, N>()
+    ensures { TicketsAreGrabbedInOrder T N }
+{}
+
+/// In a legal history each actor grabs rising tickets. Where an actor takes in the order in which it grabs, as one does
+/// that ends each pop before it begins the next, the tickets that it takes rise too. It does nothing: its contract is the law.
+pub fn an_actors_tickets_rise<T, N>()
+    ensures { AnActorsTicketsRise T N }
 {}

@@ -7,9 +7,9 @@ ghost use Rattle.alog_core.specs.Run.{entries_of_run, TellAll};
 
 use crate::{
     Answer, BeginError, Call, CellView, MOST_PLACES, Mark, Refused, Said, StepError, World,
-    WorldError, accounts_balance, no_ticket_is_handed_out_twice, reached_states_are_sound,
-    takes_follow_their_claims, tickets_are_handed_out_or_listed, tickets_are_issued_in_order,
-    tickets_keep_their_items,
+    WorldError, accounts_balance, an_actors_tickets_rise, no_ticket_is_handed_out_twice,
+    reached_states_are_sound, takes_follow_their_claims, tickets_are_grabbed_in_order,
+    tickets_are_handed_out_or_listed, tickets_are_issued_in_order, tickets_keep_their_items,
 };
 use std::alloc::{AllocError, Global};
 use std::process::Abort;
@@ -43,7 +43,8 @@ fn run_counted(
     first: u64,
     calls: Vec<Call<u64>>,
 ) -> Option<World<u64>>
-    ensures in_order { IfSome result (λ w. issued (entries_of_run (fresh places first) calls.items) ≡ range_with_len first (w.queue.next - first)) }
+    ensures in_order { IfSome result (λ w. issued (entries_of_run (fresh places first) calls.items)
+        ≡ range_with_len first (w.queue.next - first)) }
     ensures once { IfSome result (λ w. AllPairs (λ t u. t ≢ u) (handed_out (entries_of_run (fresh places first) calls.items))) }
 {
     let (world, _) = run_anew(alloc, places, first, calls)?;
@@ -409,6 +410,8 @@ fn laws() {
     tickets_are_handed_out_or_listed::<u64, u64>();
     tickets_keep_their_items::<u64, u64>();
     takes_follow_their_claims::<u64, u64>();
+    tickets_are_grabbed_in_order::<u64, u64>();
+    an_actors_tickets_rise::<u64, u64>();
 }
 
 #[test]
