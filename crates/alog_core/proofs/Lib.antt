@@ -2,6 +2,10 @@ pub mod Cells
 pub mod Rising
 pub mod Sound
 pub mod Histories
+pub mod Accounts
+pub mod Tickets
+pub mod Items
+pub mod Grabs
 pub mod Places
 pub mod Moves
 pub mod Steps

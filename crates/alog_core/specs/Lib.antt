@@ -1,5 +1,6 @@
 pub mod Queue
 pub mod History
+pub mod Accounts
 pub mod Round
 pub mod World
 pub mod Run

@@ -6,8 +6,9 @@
 //!
 //! Contracts see a `World` as a queue of cells in ticket order and the round in which each actor stands; whatever keeps
 //! them is private. Read `specs/Queue.antt` for cells, events and what each is allowed to do, `specs/History.antt` for
-//! histories, `specs/Round.antt` for the steps of a push and of a pop, `specs/World.antt` for the machine, `specs/Run.antt`
-//! for whole runs, and `specs/Staged.antt` for what is true of every world; then `world.rt`, whose calls are that machine.
+//! histories, `specs/Accounts.antt` for what they issue and hand out, `specs/Round.antt` for the steps of a push and of a
+//! pop, `specs/World.antt` for the machine, `specs/Run.antt` for whole runs, and `specs/Staged.antt` for what is true of
+//! every world; then `world.rt`, whose calls are that machine.
 //! `table.rt` makes the steps over a plain list of cells (`listed.rt`), and `laws.rt` states what is true of every
 //! history.
 #![tactic(auto)]
@@ -24,7 +25,11 @@ mod tests;
 mod world;
 
 pub use error::{BeginError, Refused, StepError, WorldError};
-pub use laws::reached_states_are_sound;
+pub use laws::{
+    accounts_balance, an_actors_tickets_rise, no_ticket_is_handed_out_twice,
+    reached_states_are_sound, takes_follow_their_claims, tickets_are_grabbed_in_order,
+    tickets_are_handed_out_or_listed, tickets_are_issued_in_order, tickets_keep_their_items,
+};
 pub use mark::Mark;
 pub use round::Round;
 pub use said::{Answer, Call, CellView, Said};

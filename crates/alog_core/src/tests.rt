@@ -1,11 +1,15 @@
-ghost use Rattle.std.specs.Prelude.{◌≡◌, ◌<◌, IfSome};
+ghost use Rattle.std.specs.Prelude.{◌≡◌, ◌≢◌, ◌<◌, ◌-◌, IfSome};
+ghost use Rattle.std.specs.List.{AllPairs, range_with_len};
 ghost use Rattle.alog_core.specs.History.{StandsFor};
+ghost use Rattle.alog_core.specs.Accounts.{issued, handed_out};
 ghost use Rattle.alog_core.specs.World.{fresh};
 ghost use Rattle.alog_core.specs.Run.{entries_of_run, TellAll};
 
 use crate::{
     Answer, BeginError, Call, CellView, MOST_PLACES, Mark, Refused, Said, StepError, World,
-    WorldError, reached_states_are_sound,
+    WorldError, accounts_balance, an_actors_tickets_rise, no_ticket_is_handed_out_twice,
+    reached_states_are_sound, takes_follow_their_claims, tickets_are_grabbed_in_order,
+    tickets_are_handed_out_or_listed, tickets_are_issued_in_order, tickets_keep_their_items,
 };
 use std::alloc::{AllocError, Global};
 use std::process::Abort;
@@ -30,6 +34,23 @@ fn run_anew(
         return None;
     };
     Some((world, answers))
+}
+
+/// A run of calls on a new queue: the tickets issued are those from the first on, and none is handed out twice.
+fn run_counted(
+    alloc: Global,
+    places: usize,
+    first: u64,
+    calls: Vec<Call<u64>>,
+) -> Option<World<u64>>
+    ensures in_order { IfSome result (λ w. issued (entries_of_run (fresh places first) calls.items)
+        ≡ range_with_len first (w.queue.next - first)) }
+    ensures once { IfSome result (λ w. AllPairs (λ t u. t ≢ u) (handed_out (entries_of_run (fresh places first) calls.items))) }
+{
+    let (world, _) = run_anew(alloc, places, first, calls)?;
+    tickets_are_issued_in_order::<u64, ()>();
+    no_ticket_is_handed_out_twice::<u64, ()>();
+    Some(world)
 }
 
 /// The next steps of an actor answer this.
@@ -103,7 +124,6 @@ fn empty_queue(rt: HostRuntime) -> Result<(), Fail> {
     says(&rt, &mut world, 2, &[Said::Nothing, Said::Empty(0)]);
     assert!(rt; world.is_idle(2));
     assert!(rt; world.cells(rt.alloc())?.is_empty());
-    reached_states_are_sound::<u64, u64>();
     Ok(())
 }
 
@@ -378,5 +398,36 @@ fn a_run_of_hundreds_of_calls(rt: HostRuntime) -> Result<(), Fail> {
     }
     assert!(rt; taken.next().is_none());
     assert!(rt; world.cells(rt.alloc())?.is_empty());
+    Ok(())
+}
+
+#[test]
+fn laws() {
+    reached_states_are_sound::<u64, u64>();
+    accounts_balance::<u64, u64>();
+    tickets_are_issued_in_order::<u64, u64>();
+    no_ticket_is_handed_out_twice::<u64, u64>();
+    tickets_are_handed_out_or_listed::<u64, u64>();
+    tickets_keep_their_items::<u64, u64>();
+    takes_follow_their_claims::<u64, u64>();
+    tickets_are_grabbed_in_order::<u64, u64>();
+    an_actors_tickets_rise::<u64, u64>();
+}
+
+#[test]
+fn tickets_of_a_run(rt: HostRuntime) -> Result<(), Fail> {
+    let calls = vec![in rt.alloc();
+        Call::Push(1, 10),
+        Call::Step(1),
+        Call::Step(1),
+        Call::Step(1),
+    ]?;
+    let Some(world) = run_counted(rt.alloc(), 2, 7, calls) else {
+        panic!(rt; "memory is there")
+    };
+    assert_eq!(rt;
+        world.cells(rt.alloc())?.as_slice(),
+        [cell(7, Mark::Claimed)].as_slice()
+    );
     Ok(())
 }

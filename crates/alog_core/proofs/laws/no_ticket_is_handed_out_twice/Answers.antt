@@ -1,0 +1,5 @@
+use Rattle.alog_core.proofs.Tickets.{no_ticket_is_handed_out_twice}
+use Rattle.alog_core.proofs.laws.no_ticket_is_handed_out_twice.Goals as goal
+
+pub returns : goal.returns
+returns g c = no_ticket_is_handed_out_twice g.row.T.Denot g.row.N.Denot
