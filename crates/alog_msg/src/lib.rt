@@ -1,4 +1,4 @@
-//! What a logger logs: levels, texts, sources and messages.
+//! What a logger logs: levels, texts, sources, messages, and the items that its queue carries.
 //!
 //! A `Level` is one of spdlog's seven. A `Message` is plain data with public fields; contracts see its `Text` as the
 //! list of its bytes and its `Source` as a record of file, line and function. `Message::new` makes a message of
@@ -6,9 +6,10 @@
 //!
 //! `limits.rt` has how long texts, fields and names may be. Read `specs/Level.antt` (the table of levels) and
 //! `level.rt`, then `text.rt`, then `source.rt` with `specs/Source.antt`, then `message.rt` with
-//! `specs/Message.antt`.
+//! `specs/Message.antt`, and `item.rt`.
 #![tactic(auto)]
 
+mod item;
 mod level;
 mod limits;
 mod message;
@@ -17,6 +18,7 @@ mod source;
 mod tests;
 mod text;
 
+pub use item::Item;
 pub use level::Level;
 pub use limits::{
     DEFAULT_TEXT_LIMIT, FILE_MAX, FUNCTION_MAX, LEAST_TEXT_LIMIT, LOGGER_NAME_MAX, MOST_TEXT_LIMIT,

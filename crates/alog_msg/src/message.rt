@@ -101,4 +101,24 @@ impl Message {
             source,
         })
     }
+
+    /// Copies the message: for a backtrace, which keeps what is posted besides.
+    ///
+    /// The test `copy_of_a_message` shows it.
+    pub fn copy(&self, alloc: Global) -> Result<Message, AllocError>
+        ensures { IfOk result (λ m. m ≡ self.now) }
+    {
+        let source = match &self.source {
+            Some(source) => Some(Source::copy_of(alloc, source.lend())?),
+            None => None,
+        };
+        Ok(Message {
+            logger: self.logger,
+            level: self.level,
+            time: self.time,
+            thread: self.thread,
+            text: Text::copy_of(alloc, self.text.as_str())?,
+            source,
+        })
+    }
 }

@@ -50,6 +50,19 @@ impl Source {
         })
     }
 
+    /// Lends what it says, for a copy.
+    pub fn lend(&self) -> SourceRef<'_>
+        ensures says { fields_of result ≡ self.now }
+        ensures file_fits { length result.file.now ≤ FILE_MAX }
+        ensures function_fits { length result.function.now ≤ FUNCTION_MAX }
+    {
+        SourceRef {
+            file: self.file(),
+            line: self.line(),
+            function: self.function(),
+        }
+    }
+
     /// The file as it was given.
     pub fn file(&self) -> &str
         ensures value { result.now ≡ self.now.file }

@@ -1,4 +1,4 @@
-use crate::{Level, Message, MessageError, SourceRef, Text};
+use crate::{Item, Level, Message, MessageError, SourceRef, Text};
 use std::alloc::{AllocError, Global};
 use std::process::Abort;
 use std::test::Fail;
@@ -153,5 +153,43 @@ fn text_is_refused_before_the_source(rt: HostRuntime) -> Result<(), Fail> {
     };
     let refused = made(rt.alloc(), text.as_str(), Some(source));
     assert!(rt; is_refused(refused, MessageError::TextTooLong));
+    Ok(())
+}
+
+#[test]
+fn copy_of_a_message(rt: HostRuntime) -> Result<(), Fail> {
+    let text = letters(rt.alloc(), 64)?;
+    let source = SourceRef {
+        file: "src/net.rt",
+        line: 12,
+        function: "connect",
+    };
+    let message = made(rt.alloc(), text.as_str(), Some(source))?;
+    let copy = message.copy(rt.alloc())?;
+    assert!(rt; copy.text.as_str() == text.as_str());
+    assert_eq!(rt;
+        (copy.logger, copy.level, copy.time, copy.thread),
+        (7, Level::Error, -5, 9)
+    );
+    let Some(source) = &copy.source else {
+        panic!(rt; "the message has a source")
+    };
+    assert!(rt; source.file() == "src/net.rt" && source.function() == "connect");
+    assert_eq!(rt; source.line(), 12);
+    assert!(rt;
+        made(rt.alloc(), "", None)?
+            .copy(rt.alloc())?
+            .source
+            .is_none()
+    );
+    Ok(())
+}
+
+#[test]
+fn items_of_a_queue(rt: HostRuntime) -> Result<(), Fail> {
+    let item = Item::Text(made(rt.alloc(), "no route", None)?);
+    assert!(rt; matches!(&item, Item::Text(message) if message.text.as_str() == "no route"));
+    assert!(rt; matches!(Item::Flush(3), Item::Flush(3)));
+    assert!(rt; matches!(Item::Stop, Item::Stop));
     Ok(())
 }
