@@ -141,7 +141,8 @@ impl<T: Turn> Lane<T> {
         requires owner { (c : Cabin T T.Item T.Reply T.Scratch) × (own.old.me.1 ≡ (0, c) ∷ []) × T.may_turn c.value item.now scratch.old }
         ensures table { own.new.table_id ≡ own.old.table_id }
         ensures took { Took T.turns T.may_turn
-            (record { tag = tag; item = item.now; before = scratch.old; reply = result.1; after = scratch.new }) result.0 own.old.me own.new.me }
+            (record { tag = tag; item = item.now; before = scratch.old; reply = result.1; after = scratch.new })
+            result.0 own.old.me own.new.me }
     {
         let before = Snapshot::of(&*scratch);
         let cabin = own.slot_mut(&self.table.shared, CABIN);
