@@ -4,7 +4,7 @@ ghost use Rattle.alog_core.specs.Error.{begin_number, step_number};
 use std::alloc::AllocError;
 use thiserror::Error;
 
-/// Why `World::new` made no queue.
+/// Why `World::new` made no queue. The test `sizes_and_first_tickets` shows it.
 #[derive(Clone, Copy, Debug, PartialEq, Eq, Drop, Error)]
 pub enum WorldError {
     /// The number of places is no power of two from 2 to 65,536.
@@ -28,7 +28,7 @@ impl From<AllocError> for WorldError {
     }
 }
 
-/// Why a push or a pop did not begin.
+/// Why a push or a pop did not begin. The test `refusals` shows it.
 #[derive(Clone, Copy, Debug, PartialEq, Eq, Drop, Error)]
 pub enum BeginError {
     /// Actors are 0 to 63.
@@ -51,7 +51,7 @@ impl BeginError {
     }
 }
 
-/// Why a step was not made.
+/// Why a step was not made. The test `refusals` shows it.
 #[derive(Clone, Copy, Debug, PartialEq, Eq, Drop, Error)]
 pub enum StepError {
     /// Actors are 0 to 63.

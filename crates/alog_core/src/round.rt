@@ -2,7 +2,8 @@ ghost use Rattle.std.specs.Prelude.{◌≡◌};
 
 /// Where an actor stands: in no call, or before one of the four steps of a push or of a pop.
 ///
-/// A ticket here is a position that an earlier step of the round read.
+/// A ticket here is a position that an earlier step of the round read. The tests `busy_push` and
+/// `busy_pop` step through the rounds of a push and of a pop.
 #[derive(Debug, Drop)]
 pub enum Round<T> {
     /// In no call.

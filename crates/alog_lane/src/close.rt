@@ -9,7 +9,7 @@ use crate::view::Cabin;
 use std::fmt;
 use thiserror::Error;
 
-/// The seat has not all parts. Lane and seat come back.
+/// The seat has not all parts. Lane and seat come back. The test `a_lane_over_a_sum` shows it.
 #[derive(Drop, Error)]
 #[error("not all seats are here")]
 pub struct SeatsOut<T: Turn> {
@@ -20,7 +20,8 @@ pub struct SeatsOut<T: Turn> {
 impl<T: Turn> Lane<T> {
     /// The value that all turns have led to, where the seat has all parts: then no seat is left. It takes no memory.
     ///
-    /// The seat has seen the whole history, and each turn in it is its own or one of a seat that was joined into it.
+    /// The seat has seen the whole history, and each turn in it is its own or one of a seat that was joined into it. The
+    /// test `a_lane_over_a_sum` shows it.
     pub fn close(self, seat: LaneSeat<T>) -> Result<T, SeatsOut<T>>
         requires { IsSeatOf self seat }
         ensures whole { IsOk result ↔ (seat.known.parts ≡ ALL_PARTS) }

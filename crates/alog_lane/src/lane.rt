@@ -26,12 +26,12 @@ const TAKEN: u64 = 1;
 /// The slot of the value.
 pub(crate) const CABIN: usize = 0;
 
-/// Another seat has the lock. Nothing happened.
+/// Another seat has the lock. Nothing happened. The test `a_held_lock_is_told` shows it.
 #[derive(Clone, Copy, Debug, PartialEq, Eq, Error)]
 #[error("another seat has the lock")]
 pub struct Held;
 
-/// A value behind a lock, for any number of threads.
+/// A value behind a lock, for any number of threads. The tests `a_lane_over_a_sum` and `two_threads_take_turns` show it.
 #[derive(Drop)]
 pub struct Lane<T: Turn> {
     pub(crate) table: Table<Cabin<T>, View<T>, Snapshot<T>, Law, Global>,

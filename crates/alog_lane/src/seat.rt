@@ -10,7 +10,8 @@ use std::marker::Model;
 pub const ALL_PARTS: u64 = 1 << 32;
 
 /// What a thread uses a lane with. It has some of the lane's parts, and knows which history it has seen and which turns
-/// in it are its own: contracts see that, and no field. A seat belongs to the lane that it was made for.
+/// in it are its own: contracts see that, and no field. A seat belongs to the lane that it was made for. The test
+/// `a_lane_over_a_sum` shows it.
 #[derive(Drop)]
 pub struct LaneSeat<T: Turn> {
     pub(crate) seat: Seat<Cabin<T>, View<T>>,

@@ -17,7 +17,7 @@ use std::marker::Brand;
 impl<T: Turn> Lane<T> {
     /// A new seat for another thread, with so many of this one's parts: at least one, and not all.
     ///
-    /// It has seen what this one has seen, and made nothing.
+    /// It has seen what this one has seen, and made nothing. The test `two_threads_take_turns` shows it.
     pub fn split(&self, seat: &mut LaneSeat<T>, parts: u64) -> LaneSeat<T>
         requires seat { IsSeatOf self.now seat.old }
         requires some { 0 < parts }
@@ -30,7 +30,7 @@ impl<T: Turn> Lane<T> {
         given
     }
 
-    /// Gives the seat the other's parts, and what the other had seen and made.
+    /// Gives the seat the other's parts, and what the other had seen and made. The test `a_lane_over_a_sum` shows it.
     pub fn join(&self, seat: &mut LaneSeat<T>, other: LaneSeat<T>)
         requires seat { IsSeatOf self.now seat.old }
         requires other { IsSeatOf self.now other }

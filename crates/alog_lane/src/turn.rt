@@ -4,7 +4,7 @@
 ///
 /// `turns` is the relation that each turn meets, over value and scratch before, item, reply, value and scratch after.
 /// `may_turn` is what a turn asks of the value, the item and the scratch. No turn changes what it asks of the value, so
-/// whoever makes a lane knows it once, of the first value.
+/// whoever makes a lane knows it once, of the first value. `Sum` of the test `a_lane_over_a_sum` is one.
 pub trait Turn {
     type Item;
 

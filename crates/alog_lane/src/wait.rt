@@ -10,7 +10,7 @@ use std::sync::Wait;
 impl<T: Turn> Lane<T> {
     /// A turn at the value, as soon as the lock is got: tries of `turn_once`, between which it backs off.
     ///
-    /// It answers the turn's index and its reply.
+    /// It answers the turn's index and its reply. The test `a_held_lock_is_told` shows it.
     pub fn turn(
         &self,
         rt: &impl Wait,

@@ -8,7 +8,7 @@ use crate::text::Text;
 use std::alloc::{AllocError, Global};
 use thiserror::Error;
 
-/// Why no message was made.
+/// Why no message was made. The tests `text_at_its_limit` and `source_at_its_limits` show it.
 #[derive(Clone, Copy, Debug, PartialEq, Eq, Error)]
 pub enum MessageError {
     /// The text has more bytes than the text limit.
@@ -31,6 +31,8 @@ impl From<AllocError> for MessageError {
 }
 
 /// One message: what was said, to which logger, how severe it is, when, and by which thread.
+///
+/// The test `message_with_its_fields` shows one.
 #[derive(Debug, Drop)]
 pub struct Message {
     /// The number of the logger.

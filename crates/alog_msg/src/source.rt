@@ -5,7 +5,7 @@ use crate::text::Text;
 use std::alloc::{AllocError, Global};
 use std::marker::Model;
 
-/// A source that is lent, to make a message from: `Message::new` shows one.
+/// A source that is lent, to make a message from. The test `message_with_its_fields` shows one.
 #[derive(Clone, Copy, Debug)]
 pub struct SourceRef<'a> {
     pub file: &'a str,
@@ -14,7 +14,7 @@ pub struct SourceRef<'a> {
 }
 
 /// The place in a program that a message comes from: a file of at most 256 bytes, a line, and a function of at
-/// most 128 bytes. File and function may be empty.
+/// most 128 bytes. File and function may be empty. The test `source_at_its_limits` shows it.
 #[derive(Debug, Drop)]
 pub struct Source {
     file: Text,

@@ -1,6 +1,7 @@
 use alog_msg::{FILE_MAX, FUNCTION_MAX, LOGGER_NAME_MAX, MOST_TEXT_LIMIT};
 
-/// What a flag of a pattern stands for, as `%v` for the text of the message.
+/// What a flag of a pattern stands for, as `%v` for the text of the message. The test `skips_a_side_without_a_width` shows
+/// some.
 #[derive(Clone, Copy, Debug, PartialEq, Eq)]
 pub enum Flag {
     /// `%v`: the text of the message.

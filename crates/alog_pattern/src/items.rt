@@ -1,6 +1,6 @@
 use crate::flags::Flag;
 
-/// Where a padded text stands.
+/// Where a padded text stands. The test `skips_a_side_without_a_width` shows it.
 #[derive(Clone, Copy, Debug, PartialEq, Eq)]
 pub enum Side {
     /// At the right, behind the spaces.
@@ -11,7 +11,7 @@ pub enum Side {
     Centre,
 }
 
-/// The width that a text is padded to with spaces, in bytes.
+/// The width that a text is padded to with spaces, in bytes. The test `skips_a_side_without_a_width` shows it.
 #[derive(Clone, Copy, Debug, PartialEq, Eq)]
 pub struct Padding {
     /// 0 to 64.

@@ -16,7 +16,7 @@ pub const PATTERN_MAX: usize = 256;
 /// The most bytes of a line, with its newline.
 pub const LINE_MAX: usize = 65_536;
 
-/// Why a pattern was not compiled.
+/// Why a pattern was not compiled. The test `keeps_to_the_limits` shows it.
 #[derive(Clone, Copy, Debug, PartialEq, Eq, Error)]
 pub enum PatternError {
     /// The pattern has more than 256 bytes.
