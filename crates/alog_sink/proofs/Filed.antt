@@ -1,5 +1,6 @@
 -- What a map in memory keeps after one name was written, and what a rename comes to.
-use Rattle.std.proofs.Common.{◌≡◌, ℕ, Bool, true, false, cond, Option, None, Some, List, [], ◌++◌, String, BTreeMap, Vec, Result, Ok, Err, refl, sym, ap, ◌∙◌, subst, is_ok, is_some, OnOk, OnErr, IsSome}
+use Rattle.std.proofs.Common.{◌≡◌, ℕ, Bool, true, false, cond, Option, None, Some, List, [], ◌++◌, String, BTreeMap, Vec}
+use Rattle.std.proofs.Common.{Result, Ok, Err, refl, sym, ap, ◌∙◌, subst, is_ok, is_some, OnOk, OnErr, IsSome}
 use Rattle.std.specs.BTreeMap.{get_by_text}
 use Rattle.std.specs.Map.{update}
 use Rattle.std.specs.Option.{option_map, unwrap_or}
@@ -16,7 +17,8 @@ module _ {Y Z : Type 0} (name : List ℕ) (old new : BTreeMap (String Y) (Vec �
   -- the files follow the map
   pub files_follow : (w : Option (Vec ℕ Z)) → ((n : List ℕ) → get_by_text new n ≡ update bytes_eq (get_by_text old) name w n)
       → AreSame (update bytes_eq (files_in old) name (option_map (λ v. v.items) w)) (files_in new)
-  files_follow w sets n = ap (option_map (λ v. v.items)) (sets n) ∙ mapped (λ (v : Vec ℕ Z). v.items) (bytes_eq name n) w (get_by_text old n)
+  files_follow w sets n =
+      ap (option_map (λ v. v.items)) (sets n) ∙ mapped (λ (v : Vec ℕ Z). v.items) (bytes_eq name n) w (get_by_text old n)
 
 -- the same bytes under the same name change nothing
 pub unchanged : (files : Files) (name bytes : List ℕ) → files name ≡ Some bytes → AreSame (with_file name bytes files) files
@@ -28,11 +30,13 @@ unchanged files name bytes there n = at (bytes_eq name n) refl
 
 -- the bytes that a file has now are those of its growth, or the old ones where that was refused
 module _ {E : Type 0} (old new : Files) (name bytes was now : List ℕ) where
-  pub extended : (r : Result (Unit {0}) E) → old name ≡ Some was → now ≡ cond (is_ok r) (was ++ bytes) was → AreSame (with_file name now old) new
+  pub extended : (r : Result (Unit {0}) E) → old name ≡ Some was → now ≡ cond (is_ok r) (was ++ bytes) was
+      → AreSame (with_file name now old) new
       → OnOk r (AreSame (appended name bytes old) new) × OnErr r (AreSame old new)
   extended (Ok _) there grown same =
       (λ n. same n ∙ ap (λ o. cond (bytes_eq name n) (Some o) (old n)) (grown ∙ ap (λ o. unwrap_or o [] ++ bytes) (sym there)), tt)
-  extended (Err _) there grown same = (tt, λ n. same n ∙ (ap (λ o. cond (bytes_eq name n) (Some o) (old n)) grown ∙ sym (unchanged old name was there n)))
+  extended (Err _) there grown same =
+      (tt, λ n. same n ∙ (ap (λ o. cond (bytes_eq name n) (Some o) (old n)) grown ∙ sym (unchanged old name was there n)))
 
 -- an absent file has no bytes before those appended
 pub made : {E : Type 0} (old new : Files) (name bytes : List ℕ) (r : Result (Unit {0}) E) → old name ≡ None

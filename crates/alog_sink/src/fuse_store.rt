@@ -6,8 +6,8 @@ use crate::store::{Store, StoreError};
 
 /// A store that passes its calls on to another, but for one, which it fails.
 ///
-/// All calls count: append, rename, remove, size and flush. Where the one to fail is an append, its first `part` bytes are
-/// passed on, or all where it has fewer.
+/// All calls count: append, rename, remove, size and flush. Where the one to fail is an append, its first `part` bytes
+/// are passed on, or all where it has fewer.
 #[derive(Debug, Drop)]
 pub struct FuseStore<S> {
     pub store: S,

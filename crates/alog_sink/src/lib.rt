@@ -4,8 +4,8 @@
 //! `FuseStore` passes calls on to another store and fails one of them, for tests of what a fault leaves.
 //!
 //! Read `specs/Files.antt` for files and what each call does to them, `specs/Calls.antt` for what a call leaves by its
-//! answer, then `store.rt`, the trait. `specs/Memory.antt` says which files a map in memory keeps, and `specs/Fuse.antt`
-//! how a fuse burns; `mem_store.rt` and `fuse_store.rt` are the two stores.
+//! answer, then `store.rt`, the trait. `specs/Memory.antt` says which files a map in memory keeps, and
+//! `specs/Fuse.antt` how a fuse burns; `mem_store.rt` and `fuse_store.rt` are the two stores.
 //!
 //! The test `each_call_on_files_in_memory` in `tests.rt` is an example.
 #![tactic(auto)]

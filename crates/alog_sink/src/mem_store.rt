@@ -36,7 +36,8 @@ impl MemStore {
 
     /// The store with this file, in place of what had its name.
     pub fn with(self, name: &str, bytes: &[u8]) -> Result<MemStore, AllocError>
-        ensures files { IfOk result (λ s. AreSame (with_file name.now bytes.now (⟦<MemStore as Store>⟧.files self)) (⟦<MemStore as Store>⟧.files s)) }
+        ensures files { IfOk result (λ s.
+            AreSame (with_file name.now bytes.now (⟦<MemStore as Store>⟧.files self)) (⟦<MemStore as Store>⟧.files s)) }
         ensures failures { IfOk result (λ s. ⟦<MemStore as Store>⟧.failures s ≡ ⟦<MemStore as Store>⟧.failures self) }
     {
         let mut store = self;

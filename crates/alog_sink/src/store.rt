@@ -9,8 +9,8 @@ pub struct StoreError;
 
 /// A folder of files by name. A name is the bytes of its text.
 ///
-/// Its meaning is `files`, what each name has; `tells`, whether anything is claimed of the files at all; and `failures`,
-/// how many calls have failed. The law of each call: what it leaves where it answers, what where it fails, and that a
+/// Its meaning is `files`, what each name has; `tells`, whether anything is claimed of the files at all; and
+/// `failures`, how many calls have failed. The law of each call: what it leaves where it answers, what where it fails, and that a
 /// failed call, and no other, is counted.
 pub trait Store {
     ghost use Rattle.std.specs.Prelude.{◌≡◌, ℕ, Bool, true, IfOk, OnOk, OnErr, length};
@@ -26,13 +26,16 @@ pub trait Store {
 
     /// Appends to a file, which is made where it is absent. A failure may leave some of the first bytes appended.
     fn append(&mut self, name: &str, bytes: &[u8]) -> Result<(), StoreError>
-        ensures done { tells ≡ true → OnOk result (AreSame (appended name.now bytes.now (files self.old)) (files self.new)) }
-        ensures failed { tells ≡ true → OnErr result (LeavesFront name.now bytes.now (files self.old) (files self.new)) }
+        ensures done { tells ≡ true
+            → OnOk result (AreSame (appended name.now bytes.now (files self.old)) (files self.new)) }
+        ensures failed { tells ≡ true
+            → OnErr result (LeavesFront name.now bytes.now (files self.old) (files self.new)) }
         ensures counted { Counts (failures self.old) (failures self.new) result };
 
     /// Gives a file another name, and replaces what had it. Nothing happens where there is no such file.
     fn rename(&mut self, from: &str, to: &str) -> Result<(), StoreError>
-        ensures done { tells ≡ true → OnOk result (AreSame (renamed from.now to.now (files self.old)) (files self.new)) }
+        ensures done { tells ≡ true
+            → OnOk result (AreSame (renamed from.now to.now (files self.old)) (files self.new)) }
         ensures failed { tells ≡ true → OnErr result (AreSame (files self.old) (files self.new)) }
         ensures counted { Counts (failures self.old) (failures self.new) result };
 

@@ -27,4 +27,5 @@ pub returns-in-None-clause-done : goal.returns-in-None-clause-done
 returns-in-None-clause-done c =
     let same : c.get_mut.follows.lender-at-none ≡ c.args.map.now = search rules in
     made (files_in c.args.map.now) (files_in c.put.new.map) c.args.name.now c.args.bytes.now c.put.result (search rules)
-    (subst (λ m. OnOk c.put.result (AreSame (with_file c.args.name.now c.args.bytes.now (files_in m)) (files_in c.put.new.map))) same c.put.ensures.done)
+    (subst (λ m. OnOk c.put.result (AreSame (with_file c.args.name.now c.args.bytes.now (files_in m)) (files_in c.put.new.map)))
+    same c.put.ensures.done)

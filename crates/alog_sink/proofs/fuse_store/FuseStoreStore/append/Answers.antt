@@ -9,7 +9,8 @@ returns-then-is_err-clause-failed g c = λ tells.
     sym (take-append-drop c.min-part.result c.args.bytes.now) in
     let bad : is_err c.append.result ≡ true = search rules in
     front_of_front c.args.name.now c.args.bytes.now (take c.min-part.result c.args.bytes.now) (drop c.min-part.result c.args.bytes.now)
-    (g.S.Store.files c.args.self.now.store) (g.S.Store.files c.append.new.self) parts (from_err c.append.result bad (c.append.ensures.failed tells))
+    (g.S.Store.files c.args.self.now.store) (g.S.Store.files c.append.new.self) parts
+    (from_err c.append.result bad (c.append.ensures.failed tells))
 
 pub returns-else-is_err-clause-failed : goal.returns-else-is_err-clause-failed
 returns-else-is_err-clause-failed g c = λ tells.
@@ -17,4 +18,5 @@ returns-else-is_err-clause-failed g c = λ tells.
     sym (take-append-drop c.min-part.result c.args.bytes.now) in
     let good : is_err c.append.result ≡ false = search rules in
     front_left c.args.name.now c.args.bytes.now (take c.min-part.result c.args.bytes.now) (drop c.min-part.result c.args.bytes.now)
-    (g.S.Store.files c.args.self.now.store) (g.S.Store.files c.append.new.self) parts (from_ok c.append.result good (c.append.ensures.done tells))
+    (g.S.Store.files c.args.self.now.store) (g.S.Store.files c.append.new.self) parts
+    (from_ok c.append.result good (c.append.ensures.done tells))
