@@ -1,0 +1,2 @@
+mod Filed
+mod Fronts

@@ -1,0 +1,4 @@
+pub mod Files
+pub mod Calls
+pub mod Memory
+pub mod Fuse

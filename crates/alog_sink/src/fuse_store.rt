@@ -1,0 +1,127 @@
+//! A store that fails once.
+ghost use Rattle.std.specs.Prelude.{◌≡◌, ◌↔◌, IsTrue};
+ghost use Rattle.alog_sink.specs.Fuse.{burnt};
+
+use crate::store::{Store, StoreError};
+
+/// A store that passes its calls on to another, but for one, which it fails.
+///
+/// All calls count: append, rename, remove, size and flush. Where the one to fail is an append, its first `part` bytes
+/// are passed on, or all where it has fewer.
+#[derive(Debug, Drop)]
+pub struct FuseStore<S> {
+    pub store: S,
+    pub fuse: Fuse,
+    pub part: usize,
+}
+
+/// How far a fuse has burnt.
+#[derive(Clone, Copy, Debug, PartialEq, Eq, Drop)]
+pub enum Fuse {
+    /// So many calls pass before the one that it fails.
+    Left(u64),
+    /// It failed its call.
+    Burnt,
+    /// Its call was an append that failed in the store below.
+    Spared,
+}
+
+impl<S: Store> FuseStore<S> {
+    /// The store `store`, whose call number `k`, from 0, fails.
+    pub fn new(store: S, k: u64, part: usize) -> FuseStore<S>
+        ensures { result ≡ record { store = store; fuse = Fuse.Left k; part = part } }
+    {
+        FuseStore {
+            store,
+            fuse: Fuse::Left(k),
+            part,
+        }
+    }
+
+    /// The store that calls are passed on to.
+    pub fn store(&self) -> &S
+        ensures { result.now ≡ self.now.store }
+    {
+        &self.store
+    }
+
+    /// Gives that store back.
+    pub fn into_store(self) -> S
+        ensures { result ≡ self.store }
+    {
+        let FuseStore {
+            store,
+            fuse: _,
+            part: _,
+        } = self;
+        store
+    }
+}
+
+// One call: whether it is the one to fail.
+fn burns(fuse: &mut Fuse) -> bool
+    ensures burns { IsTrue result ↔ (fuse.old ≡ Fuse.Left 0) }
+    ensures burnt { fuse.new ≡ burnt fuse.old }
+{
+    match *fuse {
+        Fuse::Left(0) => {
+            *fuse = Fuse::Burnt;
+            true
+        }
+        Fuse::Left(calls) => {
+            *fuse = Fuse::Left(calls - 1);
+            false
+        }
+        Fuse::Burnt | Fuse::Spared => false,
+    }
+}
+
+impl<S: Store> Store for FuseStore<S> {
+    ghost use Rattle.std.specs.Prelude.{◌+◌};
+    ghost use Rattle.alog_sink.specs.Fuse.{own_failures};
+
+    ghost files = { λ s. S.files s.store };
+
+    ghost tells = { S.tells };
+
+    ghost failures = { λ s. S.failures s.store + own_failures s.fuse };
+
+    fn append(&mut self, name: &str, bytes: &[u8]) -> Result<(), StoreError> {
+        if burns(&mut self.fuse) {
+            let part = self.part.min(bytes.len());
+            if self.store.append(name, &bytes[..part]).is_err() {
+                self.fuse = Fuse::Spared;
+            }
+            return Err(StoreError);
+        }
+        self.store.append(name, bytes)
+    }
+
+    fn rename(&mut self, from: &str, to: &str) -> Result<(), StoreError> {
+        if burns(&mut self.fuse) {
+            return Err(StoreError);
+        }
+        self.store.rename(from, to)
+    }
+
+    fn remove(&mut self, name: &str) -> Result<(), StoreError> {
+        if burns(&mut self.fuse) {
+            return Err(StoreError);
+        }
+        self.store.remove(name)
+    }
+
+    fn size(&mut self, name: &str) -> Result<Option<u64>, StoreError> {
+        if burns(&mut self.fuse) {
+            return Err(StoreError);
+        }
+        self.store.size(name)
+    }
+
+    fn flush(&mut self, name: &str) -> Result<(), StoreError> {
+        if burns(&mut self.fuse) {
+            return Err(StoreError);
+        }
+        self.store.flush(name)
+    }
+}

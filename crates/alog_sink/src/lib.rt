@@ -1,0 +1,24 @@
+//! The stores that sinks write to. The sinks themselves do not stand yet.
+//!
+//! A `Store` is a folder of files by name; its law is on the calls of the trait. `MemStore` keeps its files in memory;
+//! `FuseStore` passes calls on to another store and fails one of them, for tests of what a fault leaves.
+//!
+//! Read `specs/Files.antt` for files and what each call does to them, `specs/Calls.antt` for what a call leaves by its
+//! answer, then `store.rt`, the trait. `specs/Memory.antt` says which files a map in memory keeps, and
+//! `specs/Fuse.antt` how a fuse burns; `mem_store.rt` and `fuse_store.rt` are the two stores.
+//!
+//! The test `each_call_on_files_in_memory` in `tests.rt` is an example.
+#![tactic(auto)]
+
+mod fuse_store;
+mod mem_store;
+mod store;
+#[cfg(test)]
+mod tests;
+
+pub use fuse_store::{Fuse, FuseStore};
+pub use mem_store::MemStore;
+pub use store::{Store, StoreError};
+
+/// A store counts so many failures, and may stop counting then.
+pub const MOST_FAILURES: u64 = u64::MAX;
