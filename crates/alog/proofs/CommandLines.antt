@@ -85,14 +85,14 @@ pub replay_no_format : (words : List Text) (rows : List Row) → AsksReplay word
 replay_no_format words rows asks format =
     let entered = subst (λ (w : List Text). subcommand_of alog_app w ≡ Some (codes "replay", [])) (sym asks.1) (replay_is_entered asks.0) in
     let names : codes "replay" ≡ codes "format" = ap (λ (o : Option (Text
-        × List Row)). unwrap_or (option_map (λ p. p.0) o) []) (sym entered ∙ format) in
+    × List Row)). unwrap_or (option_map (λ p. p.0) o) []) (sym entered ∙ format) in
     apart (slice_index (codes "replay") 0) (slice_index (codes "format") 0) refl refl (ap (λ (t : Text). slice_index t 0) names)
 
 pub replay_lacks_memory : (words : List Text) (error : Error) → AsksReplay words → HasKind (fault_of alog_app words) error
     → kind_of error ≡ OutOfMemory
 replay_lacks_memory words error asks has =
     elim (subst (λ (kinds : List ErrorKind). HasKind kinds error)
-        (replay_has_no_fault words asks) has) [ inl memory ↦ memory | inr among ↦ absurd among ]
+    (replay_has_no_fault words asks) has) [ inl memory ↦ memory | inr among ↦ absurd among ]
 
 pub one_format : (words : List Text) (rows others : List Row) → NamesFormat words rows → NamesFormat words others → rows ≡ others
 one_format words rows others one other = ap (λ (o : Option (Text × List Row)). unwrap_or (option_map (λ p. p.1) o) []) (sym one ∙ other)

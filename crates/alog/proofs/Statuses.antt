@@ -43,6 +43,6 @@ replays_fault fault status remaining left old new e refused front =
       refused = λ h.
           let at = refused_line fault status e h in
           if_some_weaker remaining (λ script. WritesText plain None script (RefusedAt at.0) old new) (λ script. (line : ℕ)
-              × WritesText plain None script (RefusedAt line) old new) (λ script w. (at.0, w)) (refused at.0 at.1);
+          × WritesText plain None script (RefusedAt line) old new) (λ script w. (at.0, w)) (refused at.0 at.1);
       front = λ h. inr front;
     }

@@ -39,7 +39,7 @@ returns-in-Err-Clap-clause-replays g c =
     λ asks.
     let words : List Text = map g.S.AsStr.text c.args.words.now in
     let memory = replay_lacks_memory words c.in-Err-Clap.error asks (subst
-        (IsRefusedBy words) c.in-Err-Clap.field-0-is c.in-Err-Clap.ensures.refused) in
+    (IsRefusedBy words) c.in-Err-Clap.field-0-is c.in-Err-Clap.ensures.refused) in
     let four : c.explain.result ≡ 4 = c.explain.ensures.memory.1 memory in
     record {
       understood = λ one. absurd (omega arith);

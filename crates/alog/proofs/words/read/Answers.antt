@@ -23,7 +23,7 @@ returns-in_err-line_request-in-Some-clause-refused g c =
     let rows : List Row = rows_of (found_of m) in
     let fault = c.in_err-line_request-in-Some.field-0.0 in
     error_is c.from_residual-in_err-line_request-in-Some.result (Value fault) (IsRefusedBy words)
-        c.from_residual-in_err-line_request-in-Some.ensures.1 (
+    c.from_residual-in_err-line_request-in-Some.ensures.1 (
       rows,
       (
         no_fault app is words c.in_ok-matches.ensures.kinds,
