@@ -1,5 +1,6 @@
 -- A fuse: how many calls it lets pass before the one that it fails.
-use Rattle.std.specs.Prelude.{ℕ, zero, suc}
+use Rattle.std.specs.Prelude.{◌≡◌, ◌≢◌, ℕ, zero, suc, Result, IsErr}
+use Rattle.alog_sink.specs.Calls.{Counts}
 use Rattle.alog_sink.specs.declared.fuse_store.Fuse.{Fuse}
 use Rattle.alog_sink.specs.declared.fuse_store.Fuse.TheVariants.{Left, Burnt, Spared}
 
@@ -15,3 +16,10 @@ abbrev pub own_failures : Fuse → ℕ
 own_failures (Left _) = 0
 own_failures Burnt = 1
 own_failures Spared = 0
+
+-- A call that the fuse fails does not reach the store below, whose failures stay; any other is that store's own call.
+pub record Passes {A E : Type 0} (old new : Fuse) (below after : ℕ) (answer : Result A E) : Type 0 where
+  pub fuse : new ≡ burnt old
+  pub fails : old ≡ Left 0 → IsErr answer
+  pub stays : old ≡ Left 0 → after ≡ below
+  pub passes : old ≢ Left 0 → Counts below after answer

@@ -77,8 +77,11 @@ fn burns(fuse: &mut Fuse) -> bool
 }
 
 impl<S: Store> Store for FuseStore<S> {
-    ghost use Rattle.std.specs.Prelude.{◌+◌};
-    ghost use Rattle.alog_sink.specs.Fuse.{own_failures};
+    ghost use Rattle.std.specs.Prelude.{◌≡◌, ◌≢◌, ◌+◌, true, length, take, IfOk, IsErr, OnOk, OnErr};
+    ghost use Rattle.std.specs.Option.{option_map};
+    ghost use Rattle.alog_sink.specs.Files.{AreSame, appended, renamed, removed};
+    ghost use Rattle.alog_sink.specs.Calls.{Counts, LeavesFront};
+    ghost use Rattle.alog_sink.specs.Fuse.{own_failures, Passes};
 
     ghost files = { λ s. S.files s.store };
 
@@ -86,7 +89,16 @@ impl<S: Store> Store for FuseStore<S> {
 
     ghost failures = { λ s. S.failures s.store + own_failures s.fuse };
 
-    fn append(&mut self, name: &str, bytes: &[u8]) -> Result<(), StoreError> {
+    fn append(&mut self, name: &str, bytes: &[u8]) -> Result<(), StoreError>
+        ensures done { S.tells ≡ true → OnOk result (AreSame (appended name.now bytes.now (S.files self.old.store)) (S.files self.new.store)) }
+        ensures failed { S.tells ≡ true → OnErr result (LeavesFront name.now bytes.now (S.files self.old.store) (S.files self.new.store)) }
+        ensures counted { Counts (S.failures self.old.store + own_failures self.old.fuse)
+            (S.failures self.new.store + own_failures self.new.fuse) result }
+        ensures fails { (self.old.fuse ≡ Fuse.Left 0) → IsErr result }
+        ensures part { S.tells ≡ true → (self.old.fuse ≡ Fuse.Left 0) → (self.new.fuse ≡ Fuse.Burnt)
+            → AreSame (appended name.now (take self.old.part bytes.now) (S.files self.old.store)) (S.files self.new.store) }
+        ensures passes { (self.old.fuse ≢ Fuse.Left 0) → Passes self.old.fuse self.new.fuse (S.failures self.old.store) (S.failures self.new.store) result }
+    {
         if burns(&mut self.fuse) {
             let part = self.part.min(bytes.len());
             if self.store.append(name, &bytes[..part]).is_err() {
@@ -97,28 +109,51 @@ impl<S: Store> Store for FuseStore<S> {
         self.store.append(name, bytes)
     }
 
-    fn rename(&mut self, from: &str, to: &str) -> Result<(), StoreError> {
+    fn rename(&mut self, from: &str, to: &str) -> Result<(), StoreError>
+        ensures done { S.tells ≡ true → OnOk result (AreSame (renamed from.now to.now (S.files self.old.store)) (S.files self.new.store)) }
+        ensures failed { S.tells ≡ true → OnErr result (AreSame (S.files self.old.store) (S.files self.new.store)) }
+        ensures counted { Counts (S.failures self.old.store + own_failures self.old.fuse)
+            (S.failures self.new.store + own_failures self.new.fuse) result }
+        ensures passes { Passes self.old.fuse self.new.fuse (S.failures self.old.store) (S.failures self.new.store) result }
+    {
         if burns(&mut self.fuse) {
             return Err(StoreError);
         }
         self.store.rename(from, to)
     }
 
-    fn remove(&mut self, name: &str) -> Result<(), StoreError> {
+    fn remove(&mut self, name: &str) -> Result<(), StoreError>
+        ensures done { S.tells ≡ true → OnOk result (AreSame (removed name.now (S.files self.old.store)) (S.files self.new.store)) }
+        ensures failed { S.tells ≡ true → OnErr result (AreSame (S.files self.old.store) (S.files self.new.store)) }
+        ensures counted { Counts (S.failures self.old.store + own_failures self.old.fuse)
+            (S.failures self.new.store + own_failures self.new.fuse) result }
+        ensures passes { Passes self.old.fuse self.new.fuse (S.failures self.old.store) (S.failures self.new.store) result }
+    {
         if burns(&mut self.fuse) {
             return Err(StoreError);
         }
         self.store.remove(name)
     }
 
-    fn size(&mut self, name: &str) -> Result<Option<u64>, StoreError> {
+    fn size(&mut self, name: &str) -> Result<Option<u64>, StoreError>
+        ensures size { S.tells ≡ true → IfOk result (λ size. size ≡ option_map length (S.files self.old.store name.now)) }
+        ensures same { S.tells ≡ true → AreSame (S.files self.old.store) (S.files self.new.store) }
+        ensures counted { Counts (S.failures self.old.store + own_failures self.old.fuse)
+            (S.failures self.new.store + own_failures self.new.fuse) result }
+        ensures passes { Passes self.old.fuse self.new.fuse (S.failures self.old.store) (S.failures self.new.store) result }
+    {
         if burns(&mut self.fuse) {
             return Err(StoreError);
         }
         self.store.size(name)
     }
 
-    fn flush(&mut self, name: &str) -> Result<(), StoreError> {
+    fn flush(&mut self, name: &str) -> Result<(), StoreError>
+        ensures same { S.tells ≡ true → AreSame (S.files self.old.store) (S.files self.new.store) }
+        ensures counted { Counts (S.failures self.old.store + own_failures self.old.fuse)
+            (S.failures self.new.store + own_failures self.new.fuse) result }
+        ensures passes { Passes self.old.fuse self.new.fuse (S.failures self.old.store) (S.failures self.new.store) result }
+    {
         if burns(&mut self.fuse) {
             return Err(StoreError);
         }
