@@ -90,14 +90,16 @@ impl<S: Store> Store for FuseStore<S> {
     ghost failures = { λ s. S.failures s.store + own_failures s.fuse };
 
     fn append(&mut self, name: &str, bytes: &[u8]) -> Result<(), StoreError>
-        ensures done { S.tells ≡ true → OnOk result (AreSame (appended name.now bytes.now (S.files self.old.store)) (S.files self.new.store)) }
+        ensures done { S.tells ≡ true
+            → OnOk result (AreSame (appended name.now bytes.now (S.files self.old.store)) (S.files self.new.store)) }
         ensures failed { S.tells ≡ true → OnErr result (LeavesFront name.now bytes.now (S.files self.old.store) (S.files self.new.store)) }
         ensures counted { Counts (S.failures self.old.store + own_failures self.old.fuse)
             (S.failures self.new.store + own_failures self.new.fuse) result }
         ensures fails { (self.old.fuse ≡ Fuse.Left 0) → IsErr result }
         ensures part { S.tells ≡ true → (self.old.fuse ≡ Fuse.Left 0) → (self.new.fuse ≡ Fuse.Burnt)
             → AreSame (appended name.now (take self.old.part bytes.now) (S.files self.old.store)) (S.files self.new.store) }
-        ensures passes { (self.old.fuse ≢ Fuse.Left 0) → Passes self.old.fuse self.new.fuse (S.failures self.old.store) (S.failures self.new.store) result }
+        ensures passes { (self.old.fuse ≢ Fuse.Left 0)
+            → Passes self.old.fuse self.new.fuse (S.failures self.old.store) (S.failures self.new.store) result }
     {
         if burns(&mut self.fuse) {
             let part = self.part.min(bytes.len());
