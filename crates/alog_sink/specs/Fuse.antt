@@ -17,7 +17,7 @@ own_failures (Left _) = 0
 own_failures Burnt = 1
 own_failures Spared = 0
 
--- A call that the fuse fails does not reach the store below, whose failures stay; any other is that store's own call.
+-- A call that the fuse fails leaves the failures of the store below; of the others, those that fail are counted there.
 pub record Passes {A E : Type 0} (old new : Fuse) (below after : ℕ) (answer : Result A E) : Type 0 where
   pub fuse : new ≡ burnt old
   pub fails : old ≡ Left 0 → IsErr answer
