@@ -1,4 +1,5 @@
 pub mod Files
 pub mod Calls
+pub mod Deeds
 pub mod Memory
 pub mod Fuse
