@@ -3,3 +3,4 @@ pub mod Calls
 pub mod Deeds
 pub mod Memory
 pub mod Fuse
+pub mod Lines

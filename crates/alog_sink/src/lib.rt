@@ -10,12 +10,14 @@
 //! The test `each_call_on_files_in_memory` in `tests.rt` is an example.
 #![tactic(auto)]
 
+mod face;
 mod fuse_store;
 mod mem_store;
 mod store;
 #[cfg(test)]
 mod tests;
 
+pub use face::{Face, NameError, Names};
 pub use fuse_store::{Fuse, FuseStore};
 pub use mem_store::MemStore;
 pub use store::{Store, StoreError};

@@ -1,0 +1,52 @@
+-- The lines of a sink: those of the messages that it was given, in order, with a level at least its own.
+use Rattle.std.specs.Prelude.{◌≡◌, ℕ, ℤ, ◌≤◌, Bool, nat_le, if◌then◌else◌, List, [], ◌∷◌, length, slice_index_or}
+use Rattle.alog_msg.specs.Level.{row_of}
+use Rattle.alog_msg.specs.declared.level.Level.{Level}
+use Rattle.alog_msg.specs.declared.message.Message.{Message}
+use Rattle.alog_pattern.specs.Compiled.{longest}
+use Rattle.alog_format.specs.Line.{IsLine}
+use Rattle.alog_sink.specs.declared.face.Face.{Face}
+
+-- a sink of this level takes messages of that one
+abbrev pub admits : Level → Level → Bool
+admits own level = nat_le (row_of own).number (row_of level).number
+
+-- those messages that a sink of this level takes, in order
+abbrev pub admitted : Level → List Message → List Message
+admitted own [] = []
+admitted own (m ∷ ms) = if admits own m.level then m ∷ admitted own ms else admitted own ms
+
+-- the name of a logger by its number, the empty one past the last
+abbrev pub name_of : List (List ℕ) → ℕ → List ℕ
+name_of names number = slice_index_or names number []
+
+-- the bytes are the message's line
+abbrev pub IsLineOf : Face → Message → List ℕ → Type 0
+IsLineOf face m bytes = IsLine face.context face.pattern.items (name_of face.names m.logger) m bytes
+
+-- what writing a line asks: a text within the pattern's limit, and room for the longest line
+abbrev pub MayWrite : Face → Message → ℕ → Type 0
+MayWrite face m capacity = (length m.text ≤ face.pattern.text_limit) × (longest face.pattern ≤ capacity)
+
+-- a line, and the time of its message
+pub record Written : Type 0 where
+  pub time : ℤ
+  pub line : List ℕ
+
+abbrev pub IsWrittenOf : Face → Message → Written → Type 0
+IsWrittenOf face m w = IsLineOf face m w.line × (w.time ≡ m.time)
+
+-- these are the lines of these messages, in order
+abbrev pub AreWrittenOf : Face → List Message → List Written → Type 0
+AreWrittenOf face [] [] = Unit {0}
+AreWrittenOf face (m ∷ ms) (w ∷ ws) = IsWrittenOf face m w × AreWrittenOf face ms ws
+AreWrittenOf face _ _ = ⊥
+
+-- the lines of a sink that was given these messages
+abbrev pub AreLines : Face → List Message → List Written → Type 0
+AreLines face messages ws = AreWrittenOf face (admitted face.level messages) ws
+
+-- the lines without the times of their messages
+abbrev pub lines_of : List Written → List (List ℕ)
+lines_of [] = []
+lines_of (w ∷ ws) = w.line ∷ lines_of ws
