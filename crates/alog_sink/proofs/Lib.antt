@@ -1,2 +1,4 @@
 mod Filed
 mod Fronts
+pub mod Journals
+pub mod Turns

@@ -4,3 +4,6 @@ pub mod Deeds
 pub mod Memory
 pub mod Fuse
 pub mod Lines
+pub mod Journal
+pub mod Kept
+pub mod Turn

@@ -12,13 +12,17 @@
 
 mod face;
 mod fuse_store;
+mod journal;
+mod leaf;
 mod mem_store;
 mod store;
+mod target;
 #[cfg(test)]
 mod tests;
 
 pub use face::{Face, NameError, Names};
 pub use fuse_store::{Fuse, FuseStore};
+pub use leaf::{Leaf, SinkError, Taken};
 pub use mem_store::MemStore;
 pub use store::{Store, StoreError};
 

@@ -1,0 +1,173 @@
+-- What a sink stands for after one message more, and the turns of a sink case by case.
+use Rattle.std.proofs.Common.{◌≡◌, ◌⊎◌, ℕ, ◌+◌, ◌<◌, Bool, true, false, cond, List, [], ◌∷◌, ◌++◌, Result, Ok, Err, OnOk, OnErr}
+use Rattle.std.proofs.Common.{refl, sym, ap, subst, ◌∙◌, inl, inr}
+use Rattle.std.proofs.lemmas.List.{append-nil}
+use Rattle.alog_msg.specs.declared.level.Level.{Level}
+use Rattle.alog_msg.specs.declared.message.Message.{Message}
+use Rattle.alog_sink.specs.Calls.{Counts}
+use Rattle.alog_sink.specs.Deeds.{Does}
+use Rattle.alog_sink.specs.Files.{Files, AreSame}
+use Rattle.alog_sink.specs.Kept.{IsKept, IsSameTarget, deeds_of}
+use Rattle.alog_sink.specs.Lines.{Written, IsWrittenOf, IsLineOf, AreWrittenOf, AreLines, admits, admitted}
+use Rattle.alog_sink.specs.Turn.{Answer, LeafView, StandsFor, Takes, Flushes}
+use Rattle.alog_sink.specs.declared.face.Face.{Face}
+use Rattle.alog_sink.specs.declared.target.Target.{Target}
+use Rattle.alog_sink.specs.declared.target.Target.TheVariants.{Memory, None}
+use Rattle.alog_sink.specs.declared.store.StoreError.{StoreError}
+use Rattle.alog_sink.specs.declared.leaf.SinkError.{SinkError}
+use Rattle.alog_sink.specs.declared.leaf.SinkError.TheVariants as errors
+use Rattle.alog_sink.specs.declared.leaf.Taken.{Taken}
+use Rattle.alog_sink.specs.declared.leaf.Taken.TheVariants.{Below, Written as Wrote}
+
+-- a message more, which is taken or not
+admitted_more : (own : Level) (ms : List Message) (m : Message) (b : Bool) → admits own m.level ≡ b
+    → admitted own (ms ++ m ∷ []) ≡ admitted own ms ++ cond b (m ∷ []) []
+admitted_more own [] m b e = ap (λ c. cond c (m ∷ []) []) e
+admitted_more own (l ∷ ms) m b e = at (admits own l.level) (admitted_more own ms m b e)
+  where
+    at : (c : Bool) → admitted own (ms ++ m ∷ []) ≡ admitted own ms ++ cond b (m ∷ []) []
+        → cond c (l ∷ admitted own (ms ++ m ∷ [])) (admitted own (ms ++ m ∷ []))
+        ≡ cond c (l ∷ admitted own ms) (admitted own ms) ++ cond b (m ∷ []) []
+    at true more = ap (λ x. l ∷ x) more
+    at false more = more
+
+written_more : (face : Face) (ms : List Message) (ws : List Written) (m : Message) (w : Written) → AreWrittenOf face ms ws
+    → IsWrittenOf face m w → AreWrittenOf face (ms ++ m ∷ []) (ws ++ w ∷ [])
+written_more face [] [] m w are is = (is, tt)
+written_more face [] (v ∷ ws) m w are is = absurd are
+written_more face (l ∷ ms) [] m w are is = absurd are
+written_more face (l ∷ ms) (v ∷ ws) m w are is = (are.0, written_more face ms ws m w are.1 is)
+
+same_target : (t : Target) → IsSameTarget t t
+same_target (Memory j) = refl
+same_target (None j) = refl
+
+-- a line written, or a fault met now, is neither below the level nor an earlier fault
+wrote_something : (answer : Answer) → answer ≡ Ok Wrote → (answer ≡ Ok Below) ⊎ (answer ≡ Err errors.Broken) → ⊥
+wrote_something answer is (inl e) = cc
+wrote_something answer is (inr e) = cc
+
+failed_now : (answer : Answer) → answer ≡ Err errors.Store → (answer ≡ Ok Below) ⊎ (answer ≡ Err errors.Broken) → ⊥
+failed_now answer is (inl e) = cc
+failed_now answer is (inr e) = cc
+
+module _ {S : Type 0} (tells : Bool) (files : S → Files) (failures : S → ℕ) where
+  module _ (old : LeafView S) (m : Message) where
+    pub takes_below : admits old.face.level m.level ≡ false → Takes tells files failures old m (Ok Below) old
+    takes_below e = record {
+      below = (λ _. e, λ _. refl);
+      broken = (λ x. absurd (cc), λ x. absurd (let h = x.0 in cc));
+      nothing = λ _. refl;
+      face = refl;
+      target = same_target old.target;
+      wrote = λ x. absurd (cc);
+      failed = λ x. absurd (cc);
+      rose = λ x. absurd (cc);
+      stayed = refl;
+      stands = λ t o ms s. record {
+        whole = s.whole;
+        written = s.written;
+        lines = subst (λ a. AreWrittenOf old.face a s.written)
+            (sym (admitted_more old.face.level ms m false e ∙ append-nil (admitted old.face.level ms))) s.lines;
+        kept = s.kept;
+      };
+      breaks = λ t x. absurd (cc);
+    }
+
+    pub takes_broken : admits old.face.level m.level ≡ true → old.broken ≡ true
+        → Takes tells files failures old m (Err errors.Broken) old
+    takes_broken e broken = record {
+      below = (λ x. absurd (cc), λ x. absurd (cc));
+      broken = (λ _. (e, broken), λ _. refl);
+      nothing = λ _. refl;
+      face = refl;
+      target = same_target old.target;
+      wrote = λ x. absurd (cc);
+      failed = λ x. absurd (cc);
+      rose = λ x. absurd (cc);
+      stayed = tt;
+      stands = λ t o ms s. tt;
+      breaks = λ t x. absurd (cc);
+    }
+
+  module _ (old : LeafView S) (next : Target) (after : S) (m : Message) (w : Written) (whole : old.broken ≡ false)
+      (e : admits old.face.level m.level ≡ true) (is : IsWrittenOf old.face m w) (same : IsSameTarget old.target next) where
+    abbrev now : Bool → LeafView S
+    now b = record { face = old.face; target = next; store = after; broken = b }
+
+    pub takes_wrote : {E : Type 0} (u : Unit {0}) → Counts {A = Unit {0}} {E = E} (failures old.store) (failures after) (Ok u)
+        → (tells ≡ true → (o : Files) (ws : List Written) → IsKept old.target o ws (files old.store)
+        → IsKept next o (ws ++ w ∷ []) (files after))
+        → Takes tells files failures old m (Ok Wrote) (now old.broken)
+    takes_wrote u counts kept = record {
+      below = (λ x. absurd (cc), λ x. absurd (cc));
+      broken = (λ x. absurd (cc), λ x. absurd (let h = x.1 in cc));
+      nothing = λ x. absurd (wrote_something (Ok Wrote) refl x);
+      face = refl;
+      target = same;
+      wrote = λ _. whole;
+      failed = λ x. absurd (cc);
+      rose = λ x. absurd (cc);
+      stayed = counts.done;
+      stands = λ t o ms s. record {
+        whole = whole;
+        written = s.written ++ w ∷ [];
+        lines = subst (λ a. AreWrittenOf old.face a (s.written ++ w ∷ [])) (sym (admitted_more old.face.level ms m true e))
+            (written_more old.face (admitted old.face.level ms) s.written m w s.lines is);
+        kept = kept t o s.written s.kept;
+      };
+      breaks = λ t x. absurd (cc);
+    }
+
+    pub takes_fault : {A E : Type 0} (x : E) → Counts {A = A} {E = E} (failures old.store) (failures after) (Err x)
+        → (tells ≡ true → Does {A = A} {E = E} (deeds_of old.target w) (files old.store) (files after) (Err x))
+        → Takes tells files failures old m (Err errors.Store) (now true)
+    takes_fault x counts does = record {
+      below = (λ x. absurd (cc), λ x. absurd (cc));
+      broken = (λ x. absurd (cc), λ x. absurd (let h = x.1 in cc));
+      nothing = λ x. absurd (failed_now (Err errors.Store) refl x);
+      face = refl;
+      target = same;
+      wrote = λ x. absurd (cc);
+      failed = λ _. refl;
+      rose = λ _. counts.failed;
+      stayed = tt;
+      stands = λ t o ms s. tt;
+      breaks = λ t _. (w, is, (does t).failed);
+    }
+
+-- The same of a sink that was opened: v is its view, and old the sink as it was given.
+module _ {S : Type 0} (tells : Bool) (files : S → Files) (failures : S → ℕ) (old v : LeafView S) (is_view : v ≡ old) (next : Target)
+    (after : S) (m : Message) (line text : List ℕ) (whole : old.broken ≡ false) (e : admits old.face.level m.level ≡ true)
+    (same_line : line ≡ text) (is : IsLineOf v.face m text) (same : IsSameTarget v.target next) where
+  abbrev its : Written
+  its = record { time = m.time; line = line }
+
+  its_line : IsWrittenOf v.face m its
+  its_line = (subst (λ bytes. IsLineOf v.face m bytes) (sym same_line) is, refl)
+
+  v_whole : v.broken ≡ false
+  v_whole = subst (λ (o : LeafView S). o.broken ≡ false) (sym is_view) whole
+
+  v_takes : admits v.face.level m.level ≡ true
+  v_takes = subst (λ (o : LeafView S). admits o.face.level m.level ≡ true) (sym is_view) e
+
+  pub given_wrote : {E : Type 0} (u : Unit {0}) (answer : Result (Unit {0}) E) → answer ≡ Ok u
+      → Counts (failures v.store) (failures after) answer
+      → (tells ≡ true → (o : Files) (ws : List Written) → IsKept v.target o ws (files v.store)
+      → OnOk answer (IsKept next o (ws ++ its ∷ []) (files after)))
+      → Takes tells files failures old m (Ok Wrote) (record { face = v.face; target = next; store = after; broken = v.broken })
+  given_wrote {E} u answer is_ok counts kept =
+      let P : LeafView S → Type 0 = λ o. Takes tells files failures o m (Ok Wrote) (record { face = v.face; target = next; store = after; broken = v.broken })
+      in subst P is_view (takes_wrote tells files failures v next after m its v_whole v_takes its_line same u
+      (subst (λ r. Counts (failures v.store) (failures after) r) is_ok counts)
+      (λ t o ws k. subst (λ r. OnOk r (IsKept next o (ws ++ its ∷ []) (files after))) is_ok (kept t o ws k)))
+
+  pub given_fault : {A E : Type 0} (x : E) (answer : Result A E) → answer ≡ Err x → Counts (failures v.store) (failures after) answer
+      → (tells ≡ true → Does (deeds_of v.target its) (files v.store) (files after) answer)
+      → Takes tells files failures old m (Err errors.Store) (record { face = v.face; target = next; store = after; broken = true })
+  given_fault x answer is_err counts does =
+      let P : LeafView S → Type 0 = λ o. Takes tells files failures o m (Err errors.Store) (record { face = v.face; target = next; store = after; broken = true })
+      in subst P is_view (takes_fault tells files failures v next after m its v_whole v_takes its_line same x
+      (subst (λ r. Counts (failures v.store) (failures after) r) is_err counts)
+      (λ t. subst (λ r. Does (deeds_of v.target its) (files v.store) (files after) r) is_err (does t)))

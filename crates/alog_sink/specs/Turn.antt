@@ -1,0 +1,63 @@
+-- The turns of sinks: a step relation between a sink, what it is given, its answer, and the sink after.
+use Rattle.std.specs.Prelude.{◌≡◌, ◌↔◌, ◌⊎◌, ℕ, ◌+◌, ◌<◌, ◌≤◌, Bool, true, false, List, [], ◌∷◌, ◌++◌, Result, Ok, Err, IsOk, OnOk, OnErr}
+use Rattle.alog_msg.specs.declared.message.Message.{Message}
+use Rattle.alog_sink.specs.Calls.{Counts}
+use Rattle.alog_sink.specs.Deeds.{BreaksOff}
+use Rattle.alog_sink.specs.Files.{Files, AreSame}
+use Rattle.alog_sink.specs.Kept.{IsKept, IsSameTarget, deeds_of}
+use Rattle.alog_sink.specs.Lines.{Written, IsWrittenOf, AreLines, admits}
+use Rattle.alog_sink.specs.declared.TheConstants.{MOST_FAILURES}
+use Rattle.alog_sink.specs.declared.face.Face.{Face}
+use Rattle.alog_sink.specs.declared.target.Target.{Target}
+use Rattle.alog_sink.specs.declared.leaf.SinkError.{SinkError}
+use Rattle.alog_sink.specs.declared.leaf.SinkError.TheVariants as errors
+use Rattle.alog_sink.specs.declared.leaf.Taken.{Taken}
+use Rattle.alog_sink.specs.declared.leaf.Taken.TheVariants.{Below, Written as Wrote}
+
+-- What callers see of a sink of one store.
+pub record LeafView (S : Type 0) : Type 0 where
+  pub face : Face
+  pub target : Target
+  pub store : S
+  pub broken : Bool
+
+-- the answer to a text, and to a flush
+abbrev pub Answer : Type 0
+Answer = Result Taken SinkError
+
+module _ {S : Type 0} (tells : Bool) (files : S → Files) (failures : S → ℕ) where
+  -- A sink stands for the files at its start and the messages that it was given: it is not broken, and its files are
+  -- what its kind makes of the messages' lines.
+  pub record StandsFor (leaf : LeafView S) (opening : Files) (messages : List Message) : Type 0 where
+    pub whole : leaf.broken ≡ false
+    pub written : List Written
+    pub lines : AreLines leaf.face messages written
+    pub kept : IsKept leaf.target opening written (files leaf.store)
+
+  -- A sink is given a message.
+  pub record Takes (old : LeafView S) (m : Message) (answer : Answer) (new : LeafView S) : Type 0 where
+    pub below : (answer ≡ Ok Below) ↔ (admits old.face.level m.level ≡ false)
+    pub broken : (answer ≡ Err errors.Broken) ↔ ((admits old.face.level m.level ≡ true) × (old.broken ≡ true))
+    pub nothing : ((answer ≡ Ok Below) ⊎ (answer ≡ Err errors.Broken)) → new ≡ old
+    pub face : new.face ≡ old.face
+    pub target : IsSameTarget old.target new.target
+    pub wrote : answer ≡ Ok Wrote → new.broken ≡ false
+    pub failed : answer ≡ Err errors.Store → new.broken ≡ true
+    pub rose : answer ≡ Err errors.Store → failures old.store < MOST_FAILURES → failures new.store ≡ failures old.store + 1
+    pub stayed : OnOk answer (failures new.store ≡ failures old.store)
+    pub stands : tells ≡ true → (opening : Files) (ms : List Message) → StandsFor old opening ms
+        → OnOk answer (StandsFor new opening (ms ++ m ∷ []))
+    pub breaks : tells ≡ true → answer ≡ Err errors.Store
+        → (w : Written) × IsWrittenOf old.face m w × BreaksOff (deeds_of old.target w) (files old.store) (files new.store)
+
+  -- A sink is flushed.
+  pub record Flushes (old : LeafView S) (answer : Result Unit SinkError) (new : LeafView S) : Type 0 where
+    pub broken : (answer ≡ Err errors.Broken) ↔ (old.broken ≡ true)
+    pub nothing : answer ≡ Err errors.Broken → new ≡ old
+    pub face : new.face ≡ old.face
+    pub target : new.target ≡ old.target
+    pub done : OnOk answer (new.broken ≡ false)
+    pub failed : answer ≡ Err errors.Store → new.broken ≡ true
+    pub rose : answer ≡ Err errors.Store → failures old.store < MOST_FAILURES → failures new.store ≡ failures old.store + 1
+    pub stayed : OnOk answer (failures new.store ≡ failures old.store)
+    pub same : tells ≡ true → AreSame (files old.store) (files new.store)

@@ -1,0 +1,109 @@
+//! A sink of one store.
+ghost use Rattle.std.specs.Prelude.{◌≡◌, true, false};
+ghost use Rattle.alog_sink.specs.Lines.{MayWrite, admits};
+ghost use Rattle.alog_sink.specs.Turn.{Takes, Flushes};
+
+use crate::face::Face;
+use crate::store::{Store, StoreError};
+use crate::target::Target;
+use alog_format::LineBuf;
+use alog_msg::Message;
+use std::marker::Model;
+use thiserror::Error;
+
+/// What a sink did with a message.
+#[derive(Clone, Copy, Debug, PartialEq, Eq, Drop)]
+pub enum Taken {
+    /// Its level is below the sink's. Nothing happened.
+    Below,
+    /// Its line was written.
+    Written,
+}
+
+/// Why a line was not written, or a sink not flushed. The test `a_store_that_fails_at_its_second_call` shows both.
+#[derive(Clone, Copy, Debug, PartialEq, Eq, Drop, Error)]
+pub enum SinkError {
+    /// The store failed in this call. The sink is broken from then on.
+    #[error("the sink's store failed")]
+    Store,
+    /// The store failed in an earlier call. Nothing happened.
+    #[error("the sink is broken, since its store failed")]
+    Broken,
+}
+
+/// A sink of one store, with a face and files.
+///
+/// Contracts see its face, its target, its store, and whether it is broken.
+#[derive(Debug, Drop)]
+pub struct Leaf<S> {
+    face: Face,
+    target: Target,
+    store: S,
+    broken: bool,
+}
+
+impl<S> Model for Leaf<S> {
+    ghost use Rattle.alog_sink.specs.Turn.{LeafView};
+
+    ghost Value = { LeafView S };
+
+    ghost view = { λ l. record { face = l.face; target = l.target; store = l.store; broken = l.broken } };
+}
+
+impl<S: Store> Leaf<S> {
+    /// Gives a message to the sink: the buffer is cleared, and holds its line where one was written.
+    pub(crate) fn take(
+        &mut self,
+        message: &Message,
+        line: &mut LineBuf,
+    ) -> Result<Taken, SinkError>
+        requires { MayWrite self.old.face message.now line.old.capacity }
+        ensures takes { Takes S.tells S.files S.failures self.old message.now result self.new }
+        ensures capacity { line.new.capacity ≡ line.old.capacity }
+    {
+        if !self.face.admits(message.level) {
+            return Ok(Taken::Below);
+        }
+        if self.broken {
+            return Err(SinkError::Broken);
+        }
+        self.write(message, line)
+    }
+
+    /// Writes a message that the sink takes, where it is not broken.
+    fn write(&mut self, message: &Message, line: &mut LineBuf) -> Result<Taken, SinkError>
+        requires fits { MayWrite self.old.face message.now line.old.capacity }
+        requires admits { admits self.old.face.level message.now.level ≡ true }
+        requires whole { self.old.broken ≡ false }
+        ensures takes { Takes S.tells S.files S.failures self.old message.now result self.new }
+        ensures capacity { line.new.capacity ≡ line.old.capacity }
+    {
+        self.face.write(message, line);
+        match self
+            .target
+            .put(&mut self.store, message, line.as_slice())
+        {
+            Ok(()) => Ok(Taken::Written),
+            Err(StoreError) => {
+                self.broken = true;
+                Err(SinkError::Store)
+            }
+        }
+    }
+
+    /// Flushes the sink's file.
+    pub(crate) fn flush(&mut self) -> Result<(), SinkError>
+        ensures { Flushes S.tells S.files S.failures self.old result self.new }
+    {
+        if self.broken {
+            return Err(SinkError::Broken);
+        }
+        match self.target.flush(&mut self.store) {
+            Ok(()) => Ok(()),
+            Err(StoreError) => {
+                self.broken = true;
+                Err(SinkError::Store)
+            }
+        }
+    }
+}
