@@ -1,2 +1,3 @@
 mod Filed
+mod NamesCut
 mod Fronts

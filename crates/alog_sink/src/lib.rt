@@ -12,6 +12,7 @@
 
 mod fuse_store;
 mod mem_store;
+mod names;
 mod store;
 #[cfg(test)]
 mod tests;
