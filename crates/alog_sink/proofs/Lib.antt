@@ -1,4 +1,5 @@
 mod Filed
+mod NamesCut
 mod Fronts
 pub mod Journals
 pub mod Turns

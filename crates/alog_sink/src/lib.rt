@@ -15,6 +15,7 @@ mod fuse_store;
 mod journal;
 mod leaf;
 mod mem_store;
+mod names;
 mod store;
 mod target;
 #[cfg(test)]
