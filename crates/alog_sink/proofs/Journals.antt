@@ -5,7 +5,7 @@ use Rattle.std.specs.Option.{unwrap_or}
 use Rattle.std.specs.Str.{bytes_eq}
 use Rattle.std.specs.Cmp.Lexicographic.{bytes_decides}
 use Rattle.alog_sink.specs.Calls.{LeavesFront}
-use Rattle.alog_sink.specs.Deeds.{Append, Does, BreaksOff}
+use Rattle.alog_sink.specs.Deeds.{Append, Does}
 use Rattle.alog_sink.specs.Files.{Files, AreSame, appended, bytes_of, with_file}
 use Rattle.alog_sink.specs.Journal.{journal, joined}
 use Rattle.alog_sink.specs.Lines.{Written, lines_of}

@@ -3,3 +3,4 @@ mod NamesCut
 mod Fronts
 pub mod Journals
 pub mod Turns
+pub mod Fans

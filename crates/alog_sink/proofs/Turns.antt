@@ -1,22 +1,19 @@
 -- What a sink stands for after one message more, and the turns of a sink case by case.
-use Rattle.std.proofs.Common.{◌≡◌, ◌⊎◌, ℕ, ◌+◌, ◌<◌, Bool, true, false, cond, List, [], ◌∷◌, ◌++◌, Result, Ok, Err, OnOk, OnErr}
+use Rattle.std.proofs.Common.{◌≡◌, ◌⊎◌, ℕ, Bool, true, false, cond, List, [], ◌∷◌, ◌++◌, Result, Ok, Err, OnOk}
 use Rattle.std.proofs.Common.{refl, sym, ap, subst, ◌∙◌, inl, inr}
 use Rattle.std.proofs.lemmas.List.{append-nil}
 use Rattle.alog_msg.specs.declared.level.Level.{Level}
 use Rattle.alog_msg.specs.declared.message.Message.{Message}
 use Rattle.alog_sink.specs.Calls.{Counts}
 use Rattle.alog_sink.specs.Deeds.{Does}
-use Rattle.alog_sink.specs.Files.{Files, AreSame}
+use Rattle.alog_sink.specs.Files.{Files}
 use Rattle.alog_sink.specs.Kept.{IsKept, IsSameTarget, deeds_of}
-use Rattle.alog_sink.specs.Lines.{Written, IsWrittenOf, IsLineOf, AreWrittenOf, AreLines, admits, admitted}
-use Rattle.alog_sink.specs.Turn.{Answer, LeafView, StandsFor, Takes, Flushes}
+use Rattle.alog_sink.specs.Lines.{Written, IsWrittenOf, IsLineOf, AreWrittenOf, admits, admitted}
+use Rattle.alog_sink.specs.Turn.{Answer, LeafView, Takes}
 use Rattle.alog_sink.specs.declared.face.Face.{Face}
 use Rattle.alog_sink.specs.declared.target.Target.{Target}
 use Rattle.alog_sink.specs.declared.target.Target.TheVariants.{Memory, None}
-use Rattle.alog_sink.specs.declared.store.StoreError.{StoreError}
-use Rattle.alog_sink.specs.declared.leaf.SinkError.{SinkError}
 use Rattle.alog_sink.specs.declared.leaf.SinkError.TheVariants as errors
-use Rattle.alog_sink.specs.declared.leaf.Taken.{Taken}
 use Rattle.alog_sink.specs.declared.leaf.Taken.TheVariants.{Below, Written as Wrote}
 
 -- a message more, which is taken or not

@@ -1,5 +1,5 @@
 -- What each kind of target makes of the lines that it was given.
-use Rattle.std.specs.Prelude.{◌≡◌, ℕ, List, [], ◌∷◌}
+use Rattle.std.specs.Prelude.{◌≡◌, List, [], ◌∷◌}
 use Rattle.alog_sink.specs.Deeds.{Deed, Append}
 use Rattle.alog_sink.specs.Files.{Files, AreSame}
 use Rattle.alog_sink.specs.Journal.{journal}

@@ -8,3 +8,4 @@ pub mod Lines
 pub mod Journal
 pub mod Kept
 pub mod Turn
+pub mod Sinks

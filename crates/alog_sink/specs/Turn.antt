@@ -1,11 +1,11 @@
 -- The turns of sinks: a step relation between a sink, what it is given, its answer, and the sink after.
-use Rattle.std.specs.Prelude.{◌≡◌, ◌↔◌, ◌⊎◌, ℕ, ◌+◌, ◌<◌, ◌≤◌, Bool, true, false, List, [], ◌∷◌, ◌++◌, Result, Ok, Err, IsOk, OnOk, OnErr}
+use Rattle.std.specs.Prelude.{◌≡◌, ◌↔◌, ◌⊎◌, ℕ, ◌+◌, ◌<◌, Bool, true, false, List, [], ◌∷◌, ◌++◌, Result, Ok, Err, OnOk}
+use Rattle.alog_msg.specs.declared.level.Level.{Level}
 use Rattle.alog_msg.specs.declared.message.Message.{Message}
-use Rattle.alog_sink.specs.Calls.{Counts}
 use Rattle.alog_sink.specs.Deeds.{BreaksOff}
 use Rattle.alog_sink.specs.Files.{Files, AreSame}
 use Rattle.alog_sink.specs.Kept.{IsKept, IsSameTarget, deeds_of}
-use Rattle.alog_sink.specs.Lines.{Written, IsWrittenOf, AreLines, admits}
+use Rattle.alog_sink.specs.Lines.{Written, IsWrittenOf, AreLines, MayWrite, admits}
 use Rattle.alog_sink.specs.declared.TheConstants.{MOST_FAILURES}
 use Rattle.alog_sink.specs.declared.face.Face.{Face}
 use Rattle.alog_sink.specs.declared.target.Target.{Target}
@@ -61,3 +61,54 @@ module _ {S : Type 0} (tells : Bool) (files : S → Files) (failures : S → ℕ
     pub rose : answer ≡ Err errors.Store → failures old.store < MOST_FAILURES → failures new.store ≡ failures old.store + 1
     pub stayed : OnOk answer (failures new.store ≡ failures old.store)
     pub same : tells ≡ true → AreSame (files old.store) (files new.store)
+
+-- What callers see of a fan.
+pub record FanView (S : Type 0) : Type 0 where
+  pub level : Level
+  pub members : List (LeafView S)
+
+-- the first fault in member order, or this where there is none
+abbrev pub first_fault : {A : Type 0} → A → List (Result A SinkError) → Result A SinkError
+first_fault done [] = Ok done
+first_fault done (Err e ∷ answers) = Err e
+first_fault done (Ok a ∷ answers) = first_fault done answers
+
+-- each of the old values comes, with its answer, to the new one in its place
+abbrev pub EachDoes : {L A : Type 0} → (L → A → L → Type 0) → List L → List A → List L → Type 0
+EachDoes Does [] [] [] = Unit {0}
+EachDoes Does (o ∷ olds) (a ∷ answers) (n ∷ news) = Does o a n × EachDoes Does olds answers news
+EachDoes Does _ _ _ = ⊥
+
+-- an answer so far, or else the fault met now
+abbrev pub or_fault : {A : Type 0} → Result A SinkError → Result A SinkError → Result A SinkError
+or_fault (Err e) given = Err e
+or_fault (Ok a) (Err e) = Err e
+or_fault (Ok a) (Ok b) = Ok a
+
+-- each member may be given the message
+abbrev pub MayGive : {S : Type 0} → List (LeafView S) → Message → ℕ → Type 0
+MayGive [] m capacity = Unit {0}
+MayGive (l ∷ ls) m capacity = MayWrite l.face m capacity × MayGive ls m capacity
+
+module _ {S : Type 0} (tells : Bool) (files : S → Files) (failures : S → ℕ) where
+  -- each member is given the message, whatever the others answer
+  abbrev pub AllTake : List (LeafView S) → Message → List Answer → List (LeafView S) → Type 0
+  AllTake olds m answers news = EachDoes (λ o a n. Takes tells files failures o m a n) olds answers news
+
+  -- each member is flushed, whatever the others answer
+  abbrev pub AllFlush : List (LeafView S) → List (Result Unit SinkError) → List (LeafView S) → Type 0
+  AllFlush olds answers news = EachDoes (Flushes tells files failures) olds answers news
+
+  -- A fan is given a message: its members are, where the message passes the fan's own level.
+  pub record FanTakes (old : FanView S) (m : Message) (answer : Answer) (new : FanView S) : Type 0 where
+    pub level : new.level ≡ old.level
+    pub below : admits old.level m.level ≡ false → (answer ≡ Ok Below) × (new ≡ old)
+    pub given : admits old.level m.level ≡ true
+        → (answers : List Answer) × AllTake old.members m answers new.members × (answer ≡ first_fault Wrote answers)
+
+  -- A fan is flushed: each of its members is.
+  pub record FanFlushes (old : FanView S) (answer : Result Unit SinkError) (new : FanView S) : Type 0 where
+    pub level : new.level ≡ old.level
+    pub answers : List (Result Unit SinkError)
+    pub given : AllFlush old.members answers new.members
+    pub first : answer ≡ first_fault tt answers

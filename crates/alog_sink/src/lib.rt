@@ -11,20 +11,24 @@
 #![tactic(auto)]
 
 mod face;
+mod fan;
 mod fuse_store;
 mod journal;
 mod leaf;
 mod mem_store;
 mod names;
+mod sink;
 mod store;
 mod target;
 #[cfg(test)]
 mod tests;
 
 pub use face::{Face, NameError, Names};
+pub use fan::Fan;
 pub use fuse_store::{Fuse, FuseStore};
 pub use leaf::{Leaf, SinkError, Taken};
 pub use mem_store::MemStore;
+pub use sink::Sink;
 pub use store::{Store, StoreError};
 
 /// A store counts so many failures, and may stop counting then.

@@ -1,0 +1,45 @@
+//! Sinks: what a worker gives messages to.
+ghost use Rattle.std.specs.Prelude.{◌≡◌};
+ghost use Rattle.alog_sink.specs.Sinks.{MayTake, SinkFlushes, SinkTakes};
+
+use crate::fan::Fan;
+use crate::leaf::{Leaf, SinkError, Taken};
+use crate::store::Store;
+use alog_format::LineBuf;
+use alog_msg::Message;
+
+/// A sink: one that writes lines to files of a store, or a fan of such.
+#[derive(Debug, Drop)]
+pub enum Sink<S> {
+    Leaf(Leaf<S>),
+    Fan(Fan<S>),
+}
+
+impl<S: Store> Sink<S> {
+    /// Gives a message to the sink.
+    ///
+    /// A message of a level below the sink's answers `Below`, and nothing else happens, even in a broken sink. Otherwise
+    /// the buffer is cleared and has the line, which goes to the sink's files. A fan gives the message to each member in
+    /// order, whatever the others answer, and answers the first fault.
+    pub fn take(&mut self, message: &Message, line: &mut LineBuf) -> Result<Taken, SinkError>
+        requires { MayTake self.old message.now line.old.capacity }
+        ensures takes { SinkTakes S.tells S.files S.failures self.old message.now result self.new }
+        ensures capacity { line.new.capacity ≡ line.old.capacity }
+    {
+        match self {
+            Sink::Leaf(leaf) => leaf.take(message, line),
+            Sink::Fan(fan) => fan.take(message, line),
+        }
+    }
+
+    /// Flushes the file that lines go to now, by one call of the store; a daily sink without one makes none. A fan
+    /// flushes each member in order, whatever the others answer, and answers the first fault.
+    pub fn flush(&mut self) -> Result<(), SinkError>
+        ensures { SinkFlushes S.tells S.files S.failures self.old result self.new }
+    {
+        match self {
+            Sink::Leaf(leaf) => leaf.flush(),
+            Sink::Fan(fan) => fan.flush(),
+        }
+    }
+}
