@@ -4,3 +4,4 @@ mod Fronts
 pub mod Journals
 pub mod Turns
 pub mod Fans
+pub mod Opens

@@ -9,3 +9,4 @@ pub mod Journal
 pub mod Kept
 pub mod Turn
 pub mod Sinks
+pub mod Opened

@@ -25,7 +25,7 @@ pub record LeafView (S : Type 0) : Type 0 where
 abbrev pub Answer : Type 0
 Answer = Result Taken SinkError
 
-module _ {S : Type 0} (tells : Bool) (files : S → Files) (failures : S → ℕ) where
+module _ {S : Type 0} (files : S → Files) where
   -- A sink stands for the files at its start and the messages that it was given: it is not broken, and its files are
   -- what its kind makes of the messages' lines.
   pub record StandsFor (leaf : LeafView S) (opening : Files) (messages : List Message) : Type 0 where
@@ -34,6 +34,7 @@ module _ {S : Type 0} (tells : Bool) (files : S → Files) (failures : S → ℕ
     pub lines : AreLines leaf.face messages written
     pub kept : IsKept leaf.target opening written (files leaf.store)
 
+module _ {S : Type 0} (tells : Bool) (files : S → Files) (failures : S → ℕ) where
   -- A sink is given a message.
   pub record Takes (old : LeafView S) (m : Message) (answer : Answer) (new : LeafView S) : Type 0 where
     pub below : (answer ≡ Ok Below) ↔ (admits old.face.level m.level ≡ false)
@@ -45,8 +46,8 @@ module _ {S : Type 0} (tells : Bool) (files : S → Files) (failures : S → ℕ
     pub failed : answer ≡ Err errors.Store → new.broken ≡ true
     pub rose : answer ≡ Err errors.Store → failures old.store < MOST_FAILURES → failures new.store ≡ failures old.store + 1
     pub stayed : OnOk answer (failures new.store ≡ failures old.store)
-    pub stands : tells ≡ true → (opening : Files) (ms : List Message) → StandsFor old opening ms
-        → OnOk answer (StandsFor new opening (ms ++ m ∷ []))
+    pub stands : tells ≡ true → (opening : Files) (ms : List Message) → StandsFor files old opening ms
+        → OnOk answer (StandsFor files new opening (ms ++ m ∷ []))
     pub breaks : tells ≡ true → answer ≡ Err errors.Store
         → (w : Written) × IsWrittenOf old.face m w × BreaksOff (deeds_of old.target w) (files old.store) (files new.store)
 

@@ -51,6 +51,25 @@ impl<S> Model for Leaf<S> {
 }
 
 impl<S: Store> Leaf<S> {
+    /// A sink that was given nothing.
+    pub(crate) fn open(face: Face, target: Target, store: S) -> Leaf<S>
+        ensures { result ≡ record { face = face; target = target; store = store; broken = false } }
+    {
+        Leaf {
+            face,
+            target,
+            store,
+            broken: false,
+        }
+    }
+
+    /// The store, with what the sink wrote.
+    pub fn store(&self) -> &S
+        ensures { result.now ≡ self.now.store }
+    {
+        &self.store
+    }
+
     /// Gives a message to the sink: the buffer is cleared, and holds its line where one was written.
     pub(crate) fn take(
         &mut self,

@@ -17,6 +17,7 @@ mod journal;
 mod leaf;
 mod mem_store;
 mod names;
+mod open;
 mod sink;
 mod store;
 mod target;
@@ -28,8 +29,12 @@ pub use fan::Fan;
 pub use fuse_store::{Fuse, FuseStore};
 pub use leaf::{Leaf, SinkError, Taken};
 pub use mem_store::MemStore;
+pub use open::{NoFan, OpenError, Unopened};
 pub use sink::Sink;
 pub use store::{Store, StoreError};
 
 /// A store counts so many failures, and may stop counting then.
 pub const MOST_FAILURES: u64 = u64::MAX;
+
+/// The most members of a fan.
+pub const FAN_MAX: usize = 16;

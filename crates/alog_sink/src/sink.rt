@@ -1,5 +1,7 @@
 //! Sinks: what a worker gives messages to.
-ghost use Rattle.std.specs.Prelude.{◌≡◌};
+ghost use Rattle.std.specs.Prelude.{◌≡◌, ◌↔◌, IsTrue};
+ghost use Rattle.std.specs.Option.{option_map};
+ghost use Rattle.alog_sink.specs.Opened.{IsFan, members_of, store_of};
 ghost use Rattle.alog_sink.specs.Sinks.{MayTake, SinkFlushes, SinkTakes};
 
 use crate::fan::Fan;
@@ -40,6 +42,33 @@ impl<S: Store> Sink<S> {
         match self {
             Sink::Leaf(leaf) => leaf.flush(),
             Sink::Fan(fan) => fan.flush(),
+        }
+    }
+
+    /// Whether the sink is a fan.
+    pub fn is_fan(&self) -> bool
+        ensures { IsTrue result ↔ IsFan self.now }
+    {
+        matches!(self, Sink::Fan(_))
+    }
+
+    /// The store of a sink that is no fan.
+    pub fn store(&self) -> Option<&S>
+        ensures { option_map (λ s. s.now) result ≡ store_of self.now }
+    {
+        match self {
+            Sink::Leaf(leaf) => Some(leaf.store()),
+            Sink::Fan(_) => None,
+        }
+    }
+
+    /// The members of a fan, and none of another sink.
+    pub fn members(&self) -> &[Leaf<S>]
+        ensures { result.now ≡ members_of self.now }
+    {
+        match self {
+            Sink::Leaf(_) => &[],
+            Sink::Fan(fan) => fan.members(),
         }
     }
 }

@@ -1,0 +1,148 @@
+//! How sinks are opened.
+ghost use Rattle.std.specs.Prelude.{◌≡◌, ◌↔◌, ◌⊎◌, Some, IfOk, IfErr, IsErrAnd, IsTrue, [], ◌≤◌, length, vec_capacity, vec_len, ◌<◌, ◌++◌, ◌∷◌};
+ghost use Rattle.alog_sink.specs.Names.{IsFileName};
+ghost use Rattle.alog_sink.specs.Opened.{AreNoMembers, Opened, leaves_of, store_of};
+
+use crate::FAN_MAX;
+use crate::face::Face;
+use crate::fan::Fan;
+use crate::journal::Journal;
+use crate::leaf::Leaf;
+use crate::names::is_file_name;
+use crate::sink::Sink;
+use crate::store::Store;
+use crate::target::Target;
+use alog_msg::{Level, Text};
+use std::alloc::Global;
+use thiserror::Error;
+
+/// Why a sink was not opened, in the order in which this is tested. The test `refused_sinks` shows each.
+#[derive(Clone, Copy, Debug, PartialEq, Eq, Drop, Error)]
+pub enum OpenError {
+    /// A limit is not within its bounds.
+    #[error("a limit of the sink is out of its bounds")]
+    BadLimit,
+    /// The name is empty, has more than 64 bytes, a `/` or a zero byte, or is `.` or `..`.
+    #[error("no file can have this name")]
+    BadName,
+    #[error("out of memory")]
+    OutOfMemory,
+    /// The store failed.
+    #[error("the store failed")]
+    Store,
+}
+
+/// A sink that was not opened: why, and what was handed in.
+#[derive(Debug, Drop)]
+pub struct Unopened<S> {
+    pub error: OpenError,
+    pub face: Face,
+    pub store: S,
+}
+
+/// A fan that was not made: why, and what was handed in.
+#[derive(Debug, Drop)]
+pub struct NoFan<S> {
+    /// `BadLimit` or `OutOfMemory`.
+    pub error: OpenError,
+    pub members: Vec<Sink<S>>,
+}
+
+impl<S: Store + Drop> Sink<S> {
+    /// A sink that appends its lines to one file.
+    ///
+    /// The refusals are `BadName`, and then `OutOfMemory`.
+    pub fn memory(
+        alloc: Global,
+        face: Face,
+        store: S,
+        file: &str,
+    ) -> Result<Sink<S>, Unopened<S>>
+        ensures opened { IfOk result (λ s. Opened S.tells S.files face
+            (λ t. t ≡ Target.Memory (record { file = file.now })) (S.files store) s) }
+        ensures store { IfOk result (λ s. store_of s ≡ Some store) }
+        ensures bad_name { IsErrAnd result (λ e. e.error ≡ OpenError.BadName) ↔ (¬ IsFileName file.now) }
+        ensures refusals { IfErr result (λ e. (e.error ≡ OpenError.BadName) ⊎ (e.error ≡ OpenError.OutOfMemory)) }
+        ensures back { IfErr result (λ e. (e.face ≡ face) × (e.store ≡ store)) }
+    {
+        if !is_file_name(file) {
+            return Err(Unopened {
+                error: OpenError::BadName,
+                face,
+                store,
+            });
+        }
+        match Text::copy_of(alloc, file) {
+            Ok(file) => Ok(Sink::Leaf(Leaf::open(
+                face,
+                Target::Memory(Journal { file }),
+                store,
+            ))),
+            Err(_) => Err(Unopened {
+                error: OpenError::OutOfMemory,
+                face,
+                store,
+            }),
+        }
+    }
+
+    /// A fan: sinks behind a level. It has 1 to 16 members, and no member is a fan.
+    ///
+    /// The refusals are `BadLimit`, and then `OutOfMemory`.
+    pub fn fan(
+        alloc: Global,
+        level: Level,
+        members: Vec<Sink<S>>,
+    ) -> Result<Sink<S>, NoFan<S>>
+        ensures made { IfOk result (λ s. s ≡ Sink.Fan (record { level = level; members = leaves_of members.items })) }
+        ensures bad_limit { IsErrAnd result (λ e. e.error ≡ OpenError.BadLimit) ↔ AreNoMembers members.items }
+        ensures refusals { IfErr result (λ e. (e.error ≡ OpenError.BadLimit) ⊎ (e.error ≡ OpenError.OutOfMemory)) }
+        ensures back { IfErr result (λ e. e.members ≡ members) }
+    {
+        if are_no_members(members.as_slice()) {
+            return Err(NoFan {
+                error: OpenError::BadLimit,
+                members,
+            });
+        }
+        let Ok(leaves) = Vec::with_capacity(alloc, members.len()) else {
+            return Err(NoFan {
+                error: OpenError::OutOfMemory,
+                members,
+            });
+        };
+        Ok(Sink::Fan(Fan::of(level, into_leaves(members, leaves))))
+    }
+}
+
+/// Whether no fan can have these members.
+fn are_no_members<S: Store>(sinks: &[Sink<S>]) -> bool
+    ensures { IsTrue result ↔ AreNoMembers sinks.now }
+{
+    sinks.is_empty() || sinks.len() > FAN_MAX || sinks.iter().any(|sink| sink.is_fan())
+}
+
+/// Brings those sinks that are no fans into a list with room for all.
+fn into_leaves<S: Store + Drop>(sinks: Vec<Sink<S>>, room: Vec<Leaf<S>>) -> Vec<Leaf<S>>
+    requires empty { room.items ≡ [] }
+    requires room { length sinks.items ≤ vec_capacity room }
+    ensures { result.items ≡ leaves_of sinks.items }
+{
+    let mut leaves = room;
+    for sink in sinks {
+        keep_leaf(&mut leaves, sink);
+    }
+    leaves
+}
+
+/// Appends a sink that is no fan.
+fn keep_leaf<S: Store + Drop>(leaves: &mut Vec<Leaf<S>>, sink: Sink<S>)
+    requires { vec_len leaves.old < vec_capacity leaves.old }
+    ensures items { leaves.new.items ≡ leaves.old.items ++ leaves_of (sink ∷ []) }
+    ensures capacity { vec_capacity leaves.new ≡ vec_capacity leaves.old }
+{
+    match sink {
+        Sink::Leaf(leaf) => leaves.push_reserved(leaf),
+        Sink::Fan(_) => {}
+    }
+}
