@@ -5,3 +5,4 @@ pub mod Journals
 pub mod Turns
 pub mod Fans
 pub mod Opens
+pub mod Keeps

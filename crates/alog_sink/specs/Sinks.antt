@@ -1,10 +1,15 @@
 -- The turns of sinks of both kinds.
-use Rattle.std.specs.Prelude.{ℕ, Bool, Result}
+use Rattle.std.specs.Prelude.{◌≡◌, ℕ, Bool, Result, Ok, Err}
+use Rattle.alog_format.specs.Buffer.{Buffer}
+use Rattle.alog_msg.specs.declared.item.Item.{Item}
+use Rattle.alog_msg.specs.declared.item.Item.TheVariants.{Text, Flush, Stop}
 use Rattle.alog_msg.specs.declared.message.Message.{Message}
 use Rattle.alog_sink.specs.Files.{Files}
 use Rattle.alog_sink.specs.Lines.{MayWrite}
 use Rattle.alog_sink.specs.Turn.{Answer, Takes, Flushes, FanTakes, FanFlushes, MayGive}
 use Rattle.alog_sink.specs.declared.leaf.SinkError.{SinkError}
+use Rattle.alog_sink.specs.declared.turn.Served.{Served}
+use Rattle.alog_sink.specs.declared.turn.Served.TheVariants.{Flushed, Taken as Took}
 use Rattle.alog_sink.specs.declared.sink.Sink.{Sink}
 use Rattle.alog_sink.specs.declared.sink.Sink.TheVariants.{Leaf, Fan}
 
@@ -25,3 +30,27 @@ module _ {S : Type 0} (tells : Bool) (files : S → Files) (failures : S → ℕ
   SinkFlushes (Leaf o) answer (Leaf n) = Flushes tells files failures o answer n
   SinkFlushes (Fan o) answer (Fan n) = FanFlushes tells files failures o answer n
   SinkFlushes _ answer _ = ⊥
+
+-- what a turn answers to a text, and to a flush
+abbrev pub as_taken : Answer → Result Served SinkError
+as_taken (Ok taken) = Ok (Took taken)
+as_taken (Err e) = Err e
+
+abbrev pub as_flushed : Result Unit SinkError → Result Served SinkError
+as_flushed (Ok u) = Ok Flushed
+as_flushed (Err e) = Err e
+
+-- a sink may have a turn at this item with this buffer
+abbrev pub MayTurn : {S : Type 0} → Sink S → Item → Buffer → Type 0
+MayTurn sink (Text m) line = MayTake sink m line.capacity
+MayTurn sink (Flush logger) line = Unit {0}
+MayTurn sink Stop line = ⊥
+
+module _ {S : Type 0} (tells : Bool) (files : S → Files) (failures : S → ℕ) where
+  -- A turn: a text is taken, a flush flushes. The buffer's capacity stays.
+  abbrev pub Turns : Sink S → Buffer → Item → Result Served SinkError → Sink S → Buffer → Type 0
+  Turns old line (Text m) reply new after = (answer : Answer) × SinkTakes tells files failures old m answer new
+      × (reply ≡ as_taken answer) × (after.capacity ≡ line.capacity)
+  Turns old line (Flush logger) reply new after = (answer : Result Unit SinkError) × SinkFlushes tells files failures old answer new
+      × (reply ≡ as_flushed answer) × (after ≡ line)
+  Turns old line Stop reply new after = ⊥

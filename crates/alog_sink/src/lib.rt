@@ -23,6 +23,7 @@ mod store;
 mod target;
 #[cfg(test)]
 mod tests;
+mod turn;
 
 pub use face::{Face, NameError, Names};
 pub use fan::Fan;
@@ -32,6 +33,7 @@ pub use mem_store::MemStore;
 pub use open::{NoFan, OpenError, Unopened};
 pub use sink::Sink;
 pub use store::{Store, StoreError};
+pub use turn::Served;
 
 /// A store counts so many failures, and may stop counting then.
 pub const MOST_FAILURES: u64 = u64::MAX;
