@@ -1,3 +1,4 @@
 mod Filed
 mod NamesCut
+mod RotatedRuns
 mod Fronts

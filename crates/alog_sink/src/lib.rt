@@ -11,6 +11,7 @@
 #![tactic(auto)]
 
 mod fuse_store;
+pub mod laws;
 mod mem_store;
 mod names;
 mod store;
