@@ -1,4 +1,7 @@
 mod Filed
 mod NamesCut
 mod RotatedRuns
+mod RotatedFiles
+mod RotatedPlaces
+mod Rotated
 mod Fronts
