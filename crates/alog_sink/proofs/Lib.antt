@@ -4,4 +4,5 @@ mod RotatedRuns
 mod RotatedFiles
 mod RotatedPlaces
 mod Rotated
+mod RotatedOn
 mod Fronts

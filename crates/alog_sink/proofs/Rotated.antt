@@ -17,7 +17,7 @@ use Rattle.alog_sink.proofs.RotatedRuns.{by_last, all_right, last_run, concat-ap
 use Rattle.alog_sink.proofs.RotatedPlaces.{base_first, moved_on, moved_on_last, same_above, kept_is, kept_last, opened}
 
 -- the pieces of one line more
-pieces_more : (base : List ℕ) (lines : List (List ℕ)) (line : List ℕ) → pieces base (lines ++ line ∷ []) ≡ pieces base lines ++ filter has_bytes (line ∷ [])
+pub pieces_more : (base : List ℕ) (lines : List (List ℕ)) (line : List ℕ) → pieces base (lines ++ line ∷ []) ≡ pieces base lines ++ filter has_bytes (line ∷ [])
 pieces_more base lines line = filter-append has_bytes (base ∷ lines) (line ∷ [])
 
 -- the base has bytes if it is a piece
@@ -26,7 +26,7 @@ no_base [] lines e = refl
 no_base (b ∷ base) lines e = absurd (cc)
 
 -- the last run has bytes
-last_bytes : (max : ℕ) (base : List ℕ) (lines : List (List ℕ)) (front : List Run) (last : Run)
+pub last_bytes : (max : ℕ) (base : List ℕ) (lines : List (List ℕ)) (front : List Run) (last : Run)
     → IsCut max (pieces base lines) (front ++ last ∷ []) → 0 < size_of last
 last_bytes max base lines front last cut = of_first last (last_run max front last cut.each).some all
   where
@@ -58,6 +58,12 @@ module _ (limits : Limits) (opening : Files) (lines : List (List ℕ)) (files : 
       → (name : List ℕ) → ((i : ℕ) → i ≤ limits.max_files → numbered limits.file i ≢ name) → takes after name ≡ opening name
   others_stay after stay name differs = appended_there limits.file line after name (differs 0 (omega arith)) ∙ stay name differs
 
+  -- without a piece the base is empty
+  pub no_bytes : IsCut limits.max_size (pieces (bytes_of opening limits.file) lines) []
+      → ((i : ℕ) → i ≤ limits.max_files → files (numbered limits.file i) ≡ opening (numbered limits.file i)) → bytes_of files limits.file ≡ []
+  no_bytes cut numbers =
+      ap (λ o. unwrap_or o []) (numbers 0 (omega arith)) ∙ no_base (bytes_of opening limits.file) lines (sym cut.joined)
+
   -- the first piece
   pub first_line : IsCut limits.max_size (pieces (bytes_of opening limits.file) lines) []
       → ((i : ℕ) → i ≤ limits.max_files → files (numbered limits.file i) ≡ opening (numbered limits.file i))
@@ -71,11 +77,9 @@ module _ (limits : Limits) (opening : Files) (lines : List (List ℕ)) (files : 
     others = others_stay files others;
   }
     where
-      empty : bytes_of files limits.file ≡ []
-      empty = ap (λ o. unwrap_or o []) (numbers 0 (omega arith)) ∙ no_base (bytes_of opening limits.file) lines (sym cut.joined)
       by_number : (i : ℕ) → i ≤ limits.max_files → takes files (numbered limits.file i) ≡ kept limits opening ((line ∷ []) ∷ []) i
       by_number zero less =
-          appended_here limits.file line files ∙ (ap (λ o. Some (o ++ line)) empty
+          appended_here limits.file line files ∙ (ap (λ o. Some (o ++ line)) (no_bytes cut numbers)
           ∙ (ap (λ o. Some o) (sym (append-nil line))
           ∙ sym (kept_last limits opening [] (line ∷ []) 0 ∙ base_first (concat (line ∷ [])) (places limits opening []) limits.max_files)))
       by_number (suc i) less =
