@@ -5,4 +5,5 @@ mod RotatedFiles
 mod RotatedPlaces
 mod Rotated
 mod RotatedOn
+mod RotatedDoes
 mod Fronts

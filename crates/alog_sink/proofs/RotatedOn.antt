@@ -1,17 +1,19 @@
 -- The rotation and the files go on to stand for one line more.
-use Rattle.std.proofs.Common.{◌≡◌, ℕ, ◌+◌, ◌<◌, ◌≤◌, ◌^◌, Bool, true, false, cond, ltb, ◌&&◌, None, Some, List, [], ◌∷◌, ◌++◌}
+use Rattle.std.proofs.Common.{◌≡◌, ℕ, zero, suc, Option, ◌+◌, ◌<◌, ◌≤◌, ◌^◌, Bool, true, false, cond, ltb, ◌&&◌, None, Some, List, [], ◌∷◌, ◌++◌}
 use Rattle.std.proofs.Common.{length, refl, sym, ap, ◌∙◌, subst, inl, inr, append-nil, length-append, arith}
 use Rattle.std.proofs.lemmas.Bool.{cases_lt}
 use Rattle.std.proofs.lemmas.Bool.Decides.{nat_tests}
+use Rattle.std.proofs.lemmas.List.Elements.{All-nil}
 use Rattle.std.specs.Option.{unwrap_or}
 use Rattle.std.specs.List.{concat}
 use Rattle.alog_sink.specs.Files.{Files, AreSame, bytes_of, appended}
 use Rattle.alog_sink.specs.Deeds.{Append, all_done}
-use Rattle.alog_sink.specs.Rotation.{Run, size_of, pieces, IsCut, IsRotated, kept}
+use Rattle.alog_sink.specs.Rotation.{Limits, Run, size_of, pieces, IsRun, IsCut, IsRotated, kept, places}
 use Rattle.alog_sink.specs.Names.{numbered}
 use Rattle.alog_sink.specs.RotationDeeds.{Rotating, StandsFor, gives_up, is_full_for, makes_room, deeds_of, with_line}
 use Rattle.alog_sink.proofs.RotatedFiles.{given_up, appended_here, all_done-append}
-use Rattle.alog_sink.proofs.RotatedRuns.{by_last}
+use Rattle.alog_sink.proofs.RotatedRuns.{by_last, cut_first}
+use Rattle.alog_sink.proofs.RotatedPlaces.{base_first, kept_last, opened}
 use Rattle.alog_sink.proofs.Rotated.{pieces_more, last_bytes, no_bytes, first_line, line_more, line_new, base_is}
 
 not_full_empty : (size max bytes : ℕ) → size ≡ 0 → (ltb 0 size && ltb max (size + bytes)) ≡ false
@@ -114,3 +116,36 @@ stands_for_more r small opening lines files [] stands = record {
   counted = stands.counted;
 }
 stands_for_more r small opening lines files (b ∷ bytes) stands = by_runs r small opening lines files stands b bytes
+
+-- the opening files stand for no line
+opens_at : (limits : Limits) (opening : Files) (o : Option (List ℕ)) → opening limits.file ≡ o → IsRotated limits opening [] opening
+opens_at limits opening None e = record {
+  runs = [];
+  cut = subst (λ x. IsCut limits.max_size (pieces (unwrap_or x []) []) []) (sym e) (record { joined = refl; each = All-nil (IsRun limits.max_size); full = tt });
+  numbers = λ i at. refl;
+  others = λ name differs. refl;
+}
+opens_at limits opening (Some []) e = record {
+  runs = [];
+  cut = subst (λ x. IsCut limits.max_size (pieces (unwrap_or x []) []) []) (sym e) (record { joined = refl; each = All-nil (IsRun limits.max_size); full = tt });
+  numbers = λ i at. refl;
+  others = λ name differs. refl;
+}
+opens_at limits opening (Some (b ∷ bytes)) e = record {
+  runs = ((b ∷ bytes) ∷ []) ∷ [];
+  cut = subst (λ x. IsCut limits.max_size (pieces (unwrap_or x []) []) (((b ∷ bytes) ∷ []) ∷ [])) (sym e)
+      (cut_first limits.max_size [] (b ∷ bytes) (record { joined = refl; each = All-nil (IsRun limits.max_size); full = tt }));
+  numbers = by_number;
+  others = λ name differs. refl;
+}
+  where
+    by_number : (i : ℕ) → i ≤ limits.max_files → opening (numbered limits.file i) ≡ kept limits opening (((b ∷ bytes) ∷ []) ∷ []) i
+    by_number zero at =
+        e ∙ (ap (λ x. Some x) (sym (append-nil (b ∷ bytes)))
+        ∙ sym (kept_last limits opening [] ((b ∷ bytes) ∷ []) 0 ∙ base_first (concat ((b ∷ bytes) ∷ [])) (places limits opening []) limits.max_files))
+    by_number (suc i) at =
+        sym (kept_last limits opening [] ((b ∷ bytes) ∷ []) (suc i)
+        ∙ opened (λ n. opening (numbered limits.file n)) (concat ((b ∷ bytes) ∷ [])) limits.max_files i at)
+
+pub opens : (r : Rotating) (opening : Files) → r.size ≡ length (bytes_of opening r.limits.file) → StandsFor r opening [] opening
+opens r opening size = record { rotated = opens_at r.limits opening (opening r.limits.file) refl; counted = size }

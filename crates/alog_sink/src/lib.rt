@@ -14,6 +14,7 @@ mod fuse_store;
 pub mod laws;
 mod mem_store;
 mod names;
+mod rotation;
 mod store;
 #[cfg(test)]
 mod tests;
