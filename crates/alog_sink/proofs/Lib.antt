@@ -6,4 +6,5 @@ mod RotatedPlaces
 mod Rotated
 mod RotatedOn
 mod RotatedDoes
+mod RotatedPut
 mod Fronts

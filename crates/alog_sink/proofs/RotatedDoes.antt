@@ -6,7 +6,7 @@ use Rattle.alog_sink.specs.Calls.{Counts}
 use Rattle.alog_sink.specs.Deeds.{Deed, Append, Rename, Remove, done, all_done, Fails, BreaksOff, Does}
 use Rattle.alog_sink.specs.Files.{Files, AreSame, appended, removed, renamed}
 use Rattle.alog_sink.specs.Names.{numbered}
-use Rattle.alog_sink.specs.RotationDeeds.{AreNumbered, base_name, renames, gives_up}
+use Rattle.alog_sink.specs.RotationDeeds.{AreNumbersOf, renames, gives_up}
 use Rattle.alog_sink.proofs.RotatedFiles.{done_alike, all_done-append}
 
 pub same_then : (files others last : Files) → AreSame files others → AreSame others last → AreSame files last
@@ -76,9 +76,9 @@ pub counts_ok : {A E : Type 0} (x : A) (old new : ℕ) → new ≡ old → Count
 counts_ok x old new same = record { done = same; failed = tt }
 
 -- each name of a list of names is the number of its place
-pub name_at : {Z : Type 0} (names : List (String Z)) → AreNumbered (map string_bytes names) → (k : ℕ) (s : String Z) → k < length names
-    → s ≡ get_or names k s → string_bytes s ≡ numbered (base_name (map string_bytes names)) k
-name_at names are k s less e =
+pub name_at : {Z : Type 0} (file : List ℕ) (names : List (String Z)) → AreNumbersOf file (map string_bytes names) → (k : ℕ) (s : String Z)
+    → k < length names → s ≡ get_or names k s → string_bytes s ≡ numbered file k
+name_at file names are k s less e =
     ap string_bytes e ∙ (sym (get_or-map string_bytes names k s [] less) ∙ are k (omega (arith, length-map names string_bytes)))
 
 pub gives_up_is : (file : List ℕ) (n : ℕ) → 1 ≤ n → gives_up file n ≡ renames file n

@@ -4,5 +4,6 @@ pub mod Deeds
 pub mod Names
 pub mod Rotation
 pub mod RotationDeeds
+pub mod RotationOpen
 pub mod Memory
 pub mod Fuse

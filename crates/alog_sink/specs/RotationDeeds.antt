@@ -50,6 +50,6 @@ pub record StandsFor (r : Rotating) (opening : Files) (lines : List (List ℕ)) 
 abbrev pub base_name : List (List ℕ) → List ℕ
 base_name names = get_or names 0 []
 
--- names from number 0 on
-abbrev pub AreNumbered : List (List ℕ) → Type 0
-AreNumbered names = (i : ℕ) → i < length names → get_or names i [] ≡ numbered (base_name names) i
+-- names that are, from number 0 on, those of a file
+abbrev pub AreNumbersOf : List ℕ → List (List ℕ) → Type 0
+AreNumbersOf file names = (i : ℕ) → i < length names → get_or names i [] ≡ numbered file i

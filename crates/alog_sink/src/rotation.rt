@@ -4,13 +4,21 @@ ghost use Rattle.alog_sink.specs.Calls.{Counts};
 ghost use Rattle.alog_sink.specs.Deeds.{Does};
 ghost use Rattle.alog_sink.specs.Files.{Files, AreSame};
 ghost use Rattle.alog_sink.specs.Names.{IsFileName, numbered};
-ghost use Rattle.alog_sink.specs.RotationDeeds.{AreNumbered, base_name, deeds_of, gives_up, makes_room, size_left, with_line, StandsFor};
+ghost use Rattle.alog_sink.specs.RotationDeeds.{AreNumbersOf, base_name, deeds_of, gives_up, makes_room, size_left, with_line};
+ghost use Rattle.alog_sink.specs.RotationDeeds.{StandsFor};
+ghost use Rattle.alog_sink.specs.RotationOpen.{CountsOpening};
 
 use crate::names::numbered;
 use crate::store::{Store, StoreError};
 use std::alloc::{AllocError, Global};
 use std::marker::Model;
 use thiserror::Error;
+
+/// The greatest size, in bytes, that a base may be kept within.
+pub(crate) const SIZE_MAX: u64 = 1 << 40;
+
+/// The greatest number of further files.
+pub(crate) const FILES_MAX: usize = 1_000;
 
 /// A file, the base, with up to `max_files` further files, `base.1` and on, that have what the base had before.
 ///
@@ -23,8 +31,9 @@ pub(crate) struct Rotation {
 }
 
 impl Model for Rotation {
-    ghost use Rattle.std.specs.Prelude.{◌≤◌, ◌-◌, ◌^◌, length, map, string_bytes};
-    ghost use Rattle.alog_sink.specs.RotationDeeds.{AreNumbered, base_name, Rotating};
+    ghost use Rattle.std.specs.Prelude.{◌≤◌, ◌+◌, ◌-◌, length, map, string_bytes};
+    ghost use Rattle.alog_sink.specs.RotationDeeds.{AreNumbersOf, base_name, Rotating};
+    ghost use Rattle.alog_sink.specs.declared.rotation.TheConstants.{SIZE_MAX, FILES_MAX};
 
     ghost Value = { Rotating };
 
@@ -37,7 +46,8 @@ impl Model for Rotation {
         size = r.size;
     } };
 
-    ghost invariant = { λ r. (1 ≤ length r.names.items) × AreNumbered (map string_bytes r.names.items) × (r.max_size ≤ 2 ^ 40) };
+    ghost invariant = { λ r. (1 ≤ length r.names.items) × (length r.names.items ≤ FILES_MAX + 1)
+        × AreNumbersOf (base_name (map string_bytes r.names.items)) (map string_bytes r.names.items) × (r.max_size ≤ SIZE_MAX) };
 }
 
 /// Why a rotation could not be opened.
@@ -62,6 +72,35 @@ impl From<StoreError> for OpenError {
 }
 
 impl Rotation {
+    /// The rotation of `file` in a store, whose files stay.
+    ///
+    /// `max_size` is 1 to 2^40 bytes and `max_files` at most 1,000. All names are made before the store is asked for the
+    /// base's size.
+    pub(crate) fn open<S: Store>(
+        alloc: Global,
+        store: &mut S,
+        file: &str,
+        max_size: u64,
+        max_files: usize,
+    ) -> Result<Rotation, OpenError>
+        requires name { IsFileName file.now }
+        requires some { 1 ≤ max_size }
+        requires size { max_size ≤ SIZE_MAX }
+        requires files { max_files ≤ FILES_MAX }
+        ensures limits { IfOk result (λ r. r.limits ≡ record { file = file.now; max_size = max_size; max_files = max_files }) }
+        ensures stands { S.tells ≡ true → IfOk result (λ r. StandsFor r (S.files store.old) [] (S.files store.new)) }
+        ensures same { S.tells ≡ true → AreSame (S.files store.old) (S.files store.new) }
+        ensures counted { CountsOpening (S.failures store.old) (S.failures store.new) result }
+    {
+        let names = names_of(alloc, file, max_files)?;
+        let size = store.size(file)?.unwrap_or(0);
+        Ok(Rotation {
+            names,
+            size,
+            max_size,
+        })
+    }
+
     /// The base's name.
     pub(crate) fn file(&self) -> &str
         ensures { result.now ≡ self.now.limits.file }
@@ -75,7 +114,7 @@ impl Rotation {
             → Does (makes_room self.now length) (S.files store.old) (S.files store.new) result }
         ensures counted { Counts (S.failures store.old) (S.failures store.new) result }
         ensures left { IfOk result (λ left. left ≡ size_left self.now length) }
-        ensures fits { IfOk result (λ left. (length < 2 ^ 63) → left + length < 2 ^ 64) }
+        ensures fits { IfOk result (λ left. left + length < 2 ^ 64) }
     {
         if self.size == 0 || self.size.saturating_add(length) <= self.max_size {
             return Ok(self.size);
@@ -110,10 +149,23 @@ impl Rotation {
     }
 }
 
+// The names of the numbers from 0 to `max_files`.
+fn names_of(alloc: Global, file: &str, max_files: usize) -> Result<Vec<String>, AllocError>
+    requires { max_files ≤ FILES_MAX }
+    ensures count { IfOk result (λ names. length names.items ≡ max_files + 1) }
+    ensures numbered { IfOk result (λ names. AreNumbersOf file.now (map string_bytes names.items)) }
+{
+    let mut names = Vec::new(alloc);
+    for i in 0..max_files + 1 {
+        names.push(numbered(alloc, file, i)?)?;
+    }
+    Ok(names)
+}
+
 // Renames each file, from the last but one down, to the next name, or removes the only one.
 fn give_up<S: Store>(names: &[String], store: &mut S) -> Result<(), StoreError>
     requires some { 1 ≤ length names.now }
-    requires numbered { AreNumbered (map string_bytes names.now) }
+    requires numbered { AreNumbersOf (base_name (map string_bytes names.now)) (map string_bytes names.now) }
     ensures deeds { S.tells ≡ true
         → Does (gives_up (base_name (map string_bytes names.now)) (length names.now - 1)) (S.files store.old) (S.files store.new) result }
     ensures counted { Counts (S.failures store.old) (S.failures store.new) result }
