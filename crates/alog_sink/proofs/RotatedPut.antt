@@ -1,6 +1,7 @@
 -- The deeds of a line, by the calls that were made.
 use Rattle.std.proofs.Common.{◌≡◌, ◌≢◌, ℕ, ◌+◌, ◌<◌, ◌≤◌, ◌^◌, cond, ltb, ◌&&◌, true, List, [], ◌∷◌, ◌++◌, refl, sym, ap, ◌∙◌, subst, inl, inr, ◌⊎◌}
-use Rattle.std.proofs.Common.{String, string_bytes, length, map, get_or, length-append, arith}
+use Rattle.std.specs.Option.{option_map, unwrap_or}
+use Rattle.std.proofs.Common.{Option, None, Some, String, string_bytes, length, map, get_or, length-append, arith}
 use Rattle.std.proofs.lemmas.Bool.{cases_lt}
 use Rattle.std.proofs.lemmas.Bool.Decides.{nat_tests}
 use Rattle.std.proofs.lemmas.List.{get_or_append_left, get_or_push, length-map, map_push}
@@ -68,3 +69,7 @@ pub with_line_is : (r : Rotating) (line : List ℕ) (left : ℕ) → length line
     → with_line r line ≡ record { limits = r.limits; size = left + length line }
 with_line_is r [] left some e = absurd (some refl)
 with_line_is r (b ∷ line) left some e = ap (λ n. record r { size = n + length (b ∷ line) }) (sym e)
+
+pub size_told : (file : Option (List ℕ)) → unwrap_or (option_map length file) 0 ≡ length (unwrap_or file [])
+size_told None = refl
+size_told (Some bytes) = refl

@@ -60,12 +60,22 @@ pub(crate) enum OpenError {
 }
 
 impl From<AllocError> for OpenError {
+    ghost use Rattle.std.specs.Prelude.{◌≡◌};
+    ghost use Rattle.alog_sink.specs.declared.rotation.OpenError.TheVariants.{OutOfMemory};
+
+    ghost from_gives = { λ _ e. e ≡ OutOfMemory };
+
     fn from(_: AllocError) -> OpenError {
         OpenError::OutOfMemory
     }
 }
 
 impl From<StoreError> for OpenError {
+    ghost use Rattle.std.specs.Prelude.{◌≡◌};
+    ghost use Rattle.alog_sink.specs.declared.rotation.OpenError.TheVariants.{Store as Failed};
+
+    ghost from_gives = { λ _ e. e ≡ Failed };
+
     fn from(_: StoreError) -> OpenError {
         OpenError::Store
     }
