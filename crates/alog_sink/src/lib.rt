@@ -15,6 +15,8 @@ pub mod laws;
 mod mem_store;
 mod names;
 mod rotation;
+#[cfg(test)]
+mod rotation_tests;
 mod store;
 #[cfg(test)]
 mod tests;

@@ -1,6 +1,4 @@
 use Rattle.alog_sink.proofs.RotatedRuns.{pieces_have_one_cut}
-use Rattle.alog_sink.proofs.RotatedOn.{opens}
-use Rattle.alog_sink.proofs.RotatedDoes.{one_failed}
 use Rattle.alog_sink.proofs.laws.pieces_have_one_cut.Goals as goal
 
 pub returns : goal.returns
