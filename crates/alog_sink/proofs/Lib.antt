@@ -1,5 +1,12 @@
 mod Filed
 mod NamesCut
+mod RotatedRuns
+mod RotatedFiles
+mod RotatedPlaces
+mod Rotated
+mod RotatedOn
+mod RotatedDoes
+mod RotatedPut
 mod Fronts
 pub mod Journals
 pub mod Turns

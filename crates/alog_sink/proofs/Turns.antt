@@ -12,7 +12,7 @@ use Rattle.alog_sink.specs.Lines.{Written, IsWrittenOf, IsLineOf, AreWrittenOf, 
 use Rattle.alog_sink.specs.Turn.{Answer, LeafView, Takes}
 use Rattle.alog_sink.specs.declared.face.Face.{Face}
 use Rattle.alog_sink.specs.declared.target.Target.{Target}
-use Rattle.alog_sink.specs.declared.target.Target.TheVariants.{Memory, None}
+use Rattle.alog_sink.specs.declared.target.Target.TheVariants.{Memory, Rotating}
 use Rattle.alog_sink.specs.declared.leaf.SinkError.TheVariants as errors
 use Rattle.alog_sink.specs.declared.leaf.Taken.TheVariants.{Below, Written as Wrote}
 
@@ -37,7 +37,7 @@ written_more face (l ∷ ms) (v ∷ ws) m w are is = (are.0, written_more face m
 
 same_target : (t : Target) → IsSameTarget t t
 same_target (Memory j) = refl
-same_target (None j) = refl
+same_target (Rotating j) = refl
 
 -- a line written, or a fault met now, is neither below the level nor an earlier fault
 wrote_something : (answer : Answer) → answer ≡ Ok Wrote → (answer ≡ Ok Below) ⊎ (answer ≡ Err errors.Broken) → ⊥

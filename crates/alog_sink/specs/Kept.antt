@@ -4,21 +4,22 @@ use Rattle.alog_sink.specs.Deeds.{Deed, Append}
 use Rattle.alog_sink.specs.Files.{Files, AreSame}
 use Rattle.alog_sink.specs.Journal.{journal}
 use Rattle.alog_sink.specs.Lines.{Written, lines_of}
+use Rattle.alog_sink.specs.RotationDeeds.{StandsFor, deeds_of as rotation_deeds}
 use Rattle.alog_sink.specs.declared.target.Target.{Target}
-use Rattle.alog_sink.specs.declared.target.Target.TheVariants.{Memory, None}
+use Rattle.alog_sink.specs.declared.target.Target.TheVariants.{Memory, Rotating}
 
 -- these are the files after these lines, where those were the files at the start
 abbrev pub IsKept : Target → Files → List Written → Files → Type 0
 IsKept (Memory j) opening ws files = AreSame (journal j.file opening (lines_of ws)) files
-IsKept (None j) opening ws files = AreSame (journal j.file opening (lines_of ws)) files
+IsKept (Rotating r) opening ws files = StandsFor r opening (lines_of ws) files
 
 -- what a line does to the files
 abbrev pub deeds_of : Target → Written → List Deed
 deeds_of (Memory j) w = Append j.file w.line ∷ []
-deeds_of (None j) w = Append j.file w.line ∷ []
+deeds_of (Rotating r) w = rotation_deeds r w.line
 
 -- the same files at the same limits, however far they have come
 abbrev pub IsSameTarget : Target → Target → Type 0
 IsSameTarget (Memory j) (Memory k) = k ≡ j
-IsSameTarget (None j) (None k) = k ≡ j
+IsSameTarget (Rotating r) (Rotating s) = s.limits ≡ r.limits
 IsSameTarget _ _ = ⊥

@@ -2,6 +2,9 @@ pub mod Files
 pub mod Calls
 pub mod Deeds
 pub mod Names
+pub mod Rotation
+pub mod RotationDeeds
+pub mod RotationOpen
 pub mod Memory
 pub mod Fuse
 pub mod Lines

@@ -1,5 +1,5 @@
 -- Names of files: which may be given, and the names with a number that are made of one.
-use Rattle.std.specs.Prelude.{◌≢◌, ℕ, zero, suc, ◌+◌, ◌-◌, ◌≤◌, nat_lt, ◌==◌, ◌&&◌, if◌then◌else◌}
+use Rattle.std.specs.Prelude.{◌≡◌, ◌≢◌, ℕ, zero, suc, ◌+◌, ◌-◌, ◌^◌, ◌<◌, ◌≤◌, nat_lt, ◌==◌, ◌&&◌, if◌then◌else◌}
 use Rattle.std.specs.Prelude.{List, [], ◌∷◌, ◌++◌, length, take, codes, decimal}
 use Rattle.std.specs.List.{after_last, Contains}
 use Rattle.std.specs.Str.{byte}
@@ -30,3 +30,7 @@ stem name = take (length name - length (extension name)) name
 abbrev pub numbered : List ℕ → ℕ → List ℕ
 numbered name zero = name
 numbered name (suc i) = stem name ++ codes "." ++ decimal (suc i) ++ extension name
+
+-- A file has another name for each number. (Numbers below 2^64: beyond, the library says nothing of decimal digits.)
+abbrev pub NumberedNamesDiffer : Type 0
+NumberedNamesDiffer = (name : List ℕ) (i j : ℕ) → i < 2 ^ 64 → j < 2 ^ 64 → numbered name i ≡ numbered name j → i ≡ j

@@ -41,11 +41,7 @@ impl<S: Store> Fan<S> {
     }
 
     /// Gives a message to each member, where it passes the fan's level.
-    pub(crate) fn take(
-        &mut self,
-        message: &Message,
-        line: &mut LineBuf,
-    ) -> Result<Taken, SinkError>
+    pub(crate) fn take(&mut self, message: &Message, line: &mut LineBuf) -> Result<Taken, SinkError>
         requires { MayGive self.old.members message.now line.old.capacity }
         ensures takes { FanTakes S.tells S.files S.failures self.old message.now result self.new }
         ensures capacity { line.new.capacity ≡ line.old.capacity }
@@ -97,7 +93,10 @@ fn flush_each<S: Store>(members: &mut [Leaf<S>]) -> Result<(), SinkError>
 }
 
 /// The answer so far, or else the fault met now.
-fn or_fault<T: Copy>(answer: Result<T, SinkError>, given: Result<T, SinkError>) -> Result<T, SinkError>
+fn or_fault<T: Copy>(
+    answer: Result<T, SinkError>,
+    given: Result<T, SinkError>,
+) -> Result<T, SinkError>
     ensures { result ≡ or_fault answer given }
 {
     match given {

@@ -71,11 +71,7 @@ impl<S: Store> Leaf<S> {
     }
 
     /// Gives a message to the sink: the buffer is cleared, and holds its line where one was written.
-    pub(crate) fn take(
-        &mut self,
-        message: &Message,
-        line: &mut LineBuf,
-    ) -> Result<Taken, SinkError>
+    pub(crate) fn take(&mut self, message: &Message, line: &mut LineBuf) -> Result<Taken, SinkError>
         requires { MayWrite self.old.face message.now line.old.capacity }
         ensures takes { Takes S.tells S.files S.failures self.old message.now result self.new }
         ensures capacity { line.new.capacity ≡ line.old.capacity }
@@ -98,10 +94,7 @@ impl<S: Store> Leaf<S> {
         ensures capacity { line.new.capacity ≡ line.old.capacity }
     {
         self.face.write(message, line);
-        match self
-            .target
-            .put(&mut self.store, message, line.as_slice())
-        {
+        match self.target.put(&mut self.store, message, line.as_slice()) {
             Ok(()) => Ok(Taken::Written),
             Err(StoreError) => {
                 self.broken = true;

@@ -52,12 +52,7 @@ impl<S: Store + Drop> Sink<S> {
     /// A sink that appends its lines to one file.
     ///
     /// The refusals are `BadName`, and then `OutOfMemory`.
-    pub fn memory(
-        alloc: Global,
-        face: Face,
-        store: S,
-        file: &str,
-    ) -> Result<Sink<S>, Unopened<S>>
+    pub fn memory(alloc: Global, face: Face, store: S, file: &str) -> Result<Sink<S>, Unopened<S>>
         ensures opened { IfOk result (λ s. Opened S.tells S.files face
             (λ t. t ≡ Target.Memory (record { file = file.now })) (S.files store) s) }
         ensures store { IfOk result (λ s. store_of s ≡ Some store) }
@@ -73,11 +68,7 @@ impl<S: Store + Drop> Sink<S> {
             });
         }
         match Text::copy_of(alloc, file) {
-            Ok(file) => Ok(Sink::Leaf(Leaf::open(
-                face,
-                Target::Memory(Journal { file }),
-                store,
-            ))),
+            Ok(file) => Ok(Sink::Leaf(Leaf::open(face, Target::Memory(Journal { file }), store))),
             Err(_) => Err(Unopened {
                 error: OpenError::OutOfMemory,
                 face,
@@ -89,11 +80,7 @@ impl<S: Store + Drop> Sink<S> {
     /// A fan: sinks behind a level. It has 1 to 16 members, and no member is a fan.
     ///
     /// The refusals are `BadLimit`, and then `OutOfMemory`.
-    pub fn fan(
-        alloc: Global,
-        level: Level,
-        members: Vec<Sink<S>>,
-    ) -> Result<Sink<S>, NoFan<S>>
+    pub fn fan(alloc: Global, level: Level, members: Vec<Sink<S>>) -> Result<Sink<S>, NoFan<S>>
         ensures made { IfOk result (λ s. s ≡ Sink.Fan (record { level = level; members = leaves_of members.items })) }
         ensures bad_limit { IsErrAnd result (λ e. e.error ≡ OpenError.BadLimit) ↔ AreNoMembers members.items }
         ensures refusals { IfErr result (λ e. (e.error ≡ OpenError.BadLimit) ⊎ (e.error ≡ OpenError.OutOfMemory)) }

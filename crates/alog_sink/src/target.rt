@@ -7,15 +7,17 @@ ghost use Rattle.alog_sink.specs.Kept.{IsKept, IsSameTarget, deeds_of};
 ghost use Rattle.alog_sink.specs.Lines.{Written};
 
 use crate::journal::Journal;
+use crate::rotation::Rotation;
 use crate::store::{Store, StoreError};
 use alog_msg::Message;
 
 /// The files of a sink, by its kind.
 #[derive(Debug, Drop)]
-pub enum Target {
+pub(crate) enum Target {
     /// One file.
     Memory(Journal),
-    None(Journal),
+    /// A base, and further files that have what it had before.
+    Rotating(Rotation),
 }
 
 impl Target {
@@ -36,7 +38,7 @@ impl Target {
     {
         match self {
             Target::Memory(journal) => journal.put(store, line),
-            Target::None(journal) => journal.put(store, line),
+            Target::Rotating(rotation) => rotation.put(store, line),
         }
     }
 
@@ -47,7 +49,7 @@ impl Target {
     {
         match self {
             Target::Memory(journal) => store.flush(journal.file.as_str()),
-            Target::None(journal) => store.flush(journal.file.as_str()),
+            Target::Rotating(rotation) => store.flush(rotation.file()),
         }
     }
 }

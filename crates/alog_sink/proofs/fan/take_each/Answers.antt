@@ -11,8 +11,8 @@ take-given-requires g c =
     let d = c.index-members-i.result in
     let m = c.args.message.now in
     let same : get_or c.loop-i.members i d ≡ get_or c.args.members.now i d = not_yet
-        (λ o a n. Takes g.S.Store.tells g.S.Store.files g.S.Store.failures o m a n) Written c.args.members.now c.loop-i.members i
-        c.loop-i.answer d (omega arith) (omega arith) c.loop-i.invariant.0 in
+    (λ o a n. Takes g.S.Store.tells g.S.Store.files g.S.Store.failures o m a n) Written c.args.members.now c.loop-i.members i
+    c.loop-i.answer d (omega arith) (omega arith) c.loop-i.invariant.0 in
     subst (λ (l : LeafView g.row.S.Denot). MayWrite l.face m c.loop-i.line.capacity) (sym same)
     (subst (λ n. MayWrite (get_or c.args.members.now i d).face m n) (sym c.loop-i.invariant.1)
     (may_at c.args.members.now m c.args.line.now.capacity i d (omega arith) c.requires))
@@ -26,7 +26,9 @@ loop-i-preserved g c =
     let Does : View → Answer → View → Type 0 = λ o a n. Takes g.S.Store.tells g.S.Store.files g.S.Store.failures o m a n in
     let old = c.args.members.now in
     let new = c.take-given.new.self in
-    let here : Does d c.take-given.result new = subst (λ o. Does o c.take-given.result new) (sym c.index-members-i.is) c.take-given.ensures.takes in
-    (subst (λ a. SoFar Does Written (i + 1) old (set c.loop-i.members i new) a) (sym c.or_fault-answer.ensures)
-    (one_more Does Written old c.loop-i.members i c.loop-i.answer c.take-given.result d new (omega arith) (omega arith)
-    c.index-members-i.is c.loop-i.invariant.0 here), c.take-given.ensures.capacity ∙ c.loop-i.invariant.1)
+    let here : Does d c.take-given.result new = subst (λ o. Does o c.take-given.result new) (sym c.index-members-i.is) c.take-given.ensures.takes in (
+      subst (λ a. SoFar Does Written (i + 1) old (set c.loop-i.members i new) a) (sym c.or_fault-answer.ensures)
+          (one_more Does Written old c.loop-i.members i c.loop-i.answer c.take-given.result d new (omega arith) (omega arith)
+          c.index-members-i.is c.loop-i.invariant.0 here),
+      c.take-given.ensures.capacity ∙ c.loop-i.invariant.1,
+    )

@@ -18,7 +18,9 @@ keep_leaf-requires g c =
     omega (arith, more, first, so_far, within, room, same, c.loop-sink.leaves.ok.0)
 
 pub loop-sink-preserved : goal.loop-sink-preserved
-loop-sink-preserved g c =
-    (c.keep_leaf.ensures.items
-        ∙ (ap (λ ls. ls ++ leaves_of (c.in-Some.sink ∷ [])) c.loop-sink.invariant.0
-        ∙ sym (leaves_more c.loop-sink.yielded c.in-Some.sink)), c.keep_leaf.ensures.capacity ∙ c.loop-sink.invariant.1)
+loop-sink-preserved g c = (
+  c.keep_leaf.ensures.items
+      ∙ (ap (λ ls. ls ++ leaves_of (c.in-Some.sink ∷ [])) c.loop-sink.invariant.0
+      ∙ sym (leaves_more c.loop-sink.yielded c.in-Some.sink)),
+  c.keep_leaf.ensures.capacity ∙ c.loop-sink.invariant.1,
+)

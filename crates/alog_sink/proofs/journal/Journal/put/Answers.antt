@@ -10,5 +10,5 @@ returns-clause-kept g c tells opening lines =
     let new = g.S.Store.files c.append.new.self in
     let line = c.args.line.now in
     let P : List ℕ → Type 0 = λ f. AreSame (journal f opening lines) old
-        → OnOk c.append.result (AreSame (journal f opening (lines ++ line ∷ [])) new) in
+    → OnOk c.append.result (AreSame (journal f opening (lines ++ line ∷ [])) new) in
     subst P c.as_str.ensures (journal_kept c.as_str.result.now line opening old new lines c.append.result (c.append.ensures.done tells))

@@ -1,0 +1,188 @@
+use crate::names::{is_file_name, numbered};
+use crate::rotation::{FILES_MAX, OpenError, Rotation, SIZE_MAX};
+use crate::{FuseStore, MemStore, Store, StoreError};
+use std::alloc::{AllocError, Global};
+use std::process::Abort;
+use std::test::Fail;
+
+fn opened<S: Store>(
+    rt: &(impl Abort + AllocGlobal),
+    store: &mut S,
+    file: &str,
+    max_size: u64,
+    max_files: usize,
+) -> Result<Rotation, OpenError> {
+    assert!(rt; is_file_name(file));
+    assert!(rt; 1 <= max_size && max_size <= SIZE_MAX && max_files <= FILES_MAX);
+    Rotation::open(rt.alloc(), store, file, max_size, max_files)
+}
+
+fn has(rt: &impl Abort, store: &MemStore, name: &str, bytes: &[u8]) {
+    match store.files().get(name) {
+        Some(file) => assert!(rt; file.as_slice() == bytes, "{name}"),
+        None => assert!(rt; false, "{name} is absent"),
+    }
+}
+
+// The files after these lines, within 10 bytes.
+fn rotated(
+    rt: &(impl Abort + AllocGlobal),
+    store: MemStore,
+    max_files: usize,
+    lines: &[&[u8]],
+) -> Result<MemStore, Fail> {
+    let mut store = store;
+    let mut rotation = opened(rt, &mut store, "log.txt", 10, max_files)?;
+    for line in lines {
+        rotation.put(&mut store, line)?;
+    }
+    assert!(rt; rotation.file() == "log.txt");
+    Ok(store)
+}
+
+#[test]
+fn names_with_numbers(rt: HostRuntime) -> Result<(), Fail> {
+    for (name, first) in [
+        ("log", "log.1"),
+        ("log.txt", "log.1.txt"),
+        (".hidden", ".hidden.1"),
+        ("a.", "a..1"),
+        ("a.b.c", "a.b.1.c"),
+        (".", "..1"),
+    ] {
+        assert!(rt; numbered(rt.alloc(), name, 0)?.as_str() == name, "{name}");
+        assert!(rt; numbered(rt.alloc(), name, 1)?.as_str() == first, "{name}");
+    }
+    assert!(rt; numbered(rt.alloc(), "log.txt", 1_000)?.as_str() == "log.1000.txt");
+    Ok(())
+}
+
+#[test]
+fn names_of_files(rt: HostRuntime) {
+    for name in ["log.txt", ".hidden", "a..b", "...", "-"] {
+        assert!(rt; is_file_name(name), "{name}");
+    }
+    for name in ["", ".", "..", "a/b", "/", "a\0"] {
+        assert!(rt; !is_file_name(name), "{name}");
+    }
+    let longest = "0123456789abcdef0123456789abcdef0123456789abcdef0123456789abcdef";
+    assert!(rt; is_file_name(longest));
+    assert!(rt; !is_file_name("0123456789abcdef0123456789abcdef0123456789abcdef0123456789abcdef!"));
+}
+
+#[test]
+fn the_last_runs_are_kept(rt: HostRuntime) -> Result<(), Fail> {
+    let lines: [&[u8]; 4] = [b"aaaaa\n", b"bbbbb\n", b"ccccc\n", b"ddddd\n"];
+    let store = rotated(&rt, MemStore::new(rt.alloc()), 2, &lines)?;
+    assert_eq!(rt; store.files().len(), 3);
+    has(&rt, &store, "log.txt", b"ddddd\n");
+    has(&rt, &store, "log.1.txt", b"ccccc\n");
+    has(&rt, &store, "log.2.txt", b"bbbbb\n");
+    Ok(())
+}
+
+#[test]
+fn a_base_of_just_the_size(rt: HostRuntime) -> Result<(), Fail> {
+    let store = rotated(&rt, MemStore::new(rt.alloc()), 2, &[b"aaa\n", b"bbbbb\n"])?;
+    assert_eq!(rt; store.files().len(), 1);
+    has(&rt, &store, "log.txt", b"aaa\nbbbbb\n");
+    Ok(())
+}
+
+#[test]
+fn a_long_line_in_an_empty_base(rt: HostRuntime) -> Result<(), Fail> {
+    let line = b"0123456789012345678\n";
+    let store = rotated(
+        &rt,
+        MemStore::new(rt.alloc()).with("log.txt", b"")?,
+        2,
+        &[line, b""],
+    )?;
+    assert_eq!(rt; store.files().len(), 1);
+    has(&rt, &store, "log.txt", line);
+    Ok(())
+}
+
+#[test]
+fn the_opening_base_is_a_run(rt: HostRuntime) -> Result<(), Fail> {
+    let store = MemStore::new(rt.alloc()).with("log.txt", b"012345678")?;
+    let store = rotated(&rt, store, 2, &[b"aaaaa\n"])?;
+    assert_eq!(rt; store.files().len(), 2);
+    has(&rt, &store, "log.txt", b"aaaaa\n");
+    has(&rt, &store, "log.1.txt", b"012345678");
+    Ok(())
+}
+
+#[test]
+fn no_further_file(rt: HostRuntime) -> Result<(), Fail> {
+    let store = rotated(&rt, MemStore::new(rt.alloc()), 0, &[b"aaaaa\n", b"bbbbb\n"])?;
+    assert_eq!(rt; store.files().len(), 1);
+    has(&rt, &store, "log.txt", b"bbbbb\n");
+    Ok(())
+}
+
+#[test]
+fn absent_files_among_the_numbers(rt: HostRuntime) -> Result<(), Fail> {
+    let store = MemStore::new(rt.alloc())
+        .with("log.txt", b"base")?
+        .with("log.2.txt", b"two")?
+        .with("log.4.txt", b"four")?;
+    let store = rotated(&rt, store, 4, &[b"aaaaaaa\n"])?;
+    assert_eq!(rt; store.files().len(), 4);
+    has(&rt, &store, "log.1.txt", b"base");
+    has(&rt, &store, "log.3.txt", b"two");
+    has(&rt, &store, "log.4.txt", b"four");
+    let store = rotated(&rt, store, 4, &[b"bbbbb\n"])?;
+    assert_eq!(rt; store.files().len(), 4);
+    has(&rt, &store, "log.txt", b"bbbbb\n");
+    has(&rt, &store, "log.1.txt", b"aaaaaaa\n");
+    has(&rt, &store, "log.2.txt", b"base");
+    has(&rt, &store, "log.4.txt", b"two");
+    Ok(())
+}
+
+// Opens and puts two lines, of which the second rotates, where the call `k` fails and passes two bytes of an append.
+fn fused(rt: &(impl Abort + AllocGlobal), k: u64) -> Result<(bool, MemStore), Fail> {
+    let mut store = FuseStore::new(MemStore::new(rt.alloc()), k, 2);
+    let mut failed = true;
+    match opened(rt, &mut store, "log", 10, 1) {
+        Ok(mut rotation) => {
+            failed = rotation.put(&mut store, b"aaaaa\n").is_err()
+                || rotation.put(&mut store, b"bbbbb\n").is_err();
+        }
+        Err(error) => assert_eq!(rt; error, OpenError::Store),
+    }
+    Ok((failed, store.into_store()))
+}
+
+#[test]
+fn each_call_failing(rt: HostRuntime) -> Result<(), Fail> {
+    let (failed, store) = fused(&rt, 0)?;
+    assert!(rt; failed && store.files().len() == 0);
+    let (failed, store) = fused(&rt, 1)?;
+    assert!(rt; failed && store.files().len() == 1);
+    has(&rt, &store, "log", b"aa");
+    let (failed, store) = fused(&rt, 2)?;
+    assert!(rt; failed && store.files().len() == 1);
+    has(&rt, &store, "log", b"aaaaa\n");
+    let (failed, store) = fused(&rt, 3)?;
+    assert!(rt; failed && store.files().len() == 2);
+    has(&rt, &store, "log", b"bb");
+    has(&rt, &store, "log.1", b"aaaaa\n");
+    let (failed, store) = fused(&rt, 4)?;
+    assert!(rt; !failed && store.files().len() == 2);
+    has(&rt, &store, "log", b"bbbbb\n");
+    Ok(())
+}
+
+#[test]
+fn a_line_after_a_failed_append(rt: HostRuntime) -> Result<(), Fail> {
+    let mut store = FuseStore::new(MemStore::new(rt.alloc()), 2, 0);
+    let mut rotation = opened(&rt, &mut store, "log", 10, 1)?;
+    rotation.put(&mut store, b"aaa\n")?;
+    assert_eq!(rt; rotation.put(&mut store, b"bbb\n"), Err(StoreError));
+    rotation.put(&mut store, b"ccccc\n")?;
+    assert_eq!(rt; store.store().files().len(), 1);
+    has(&rt, store.store(), "log", b"aaa\nccccc\n");
+    Ok(())
+}
