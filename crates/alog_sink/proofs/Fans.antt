@@ -1,10 +1,8 @@
 -- The members of a fan, one after another: those before the next one have had their turn, those from it on have not.
-use Rattle.std.proofs.Common.{◌≡◌, ℕ, zero, suc, ◌+◌, ◌<◌, List, [], ◌∷◌, ◌++◌, length, get_or, set, take, drop, Result, Ok, Err, refl, sym, ap, subst, ◌∙◌, add-one, arith}
+use Rattle.std.proofs.Common.{◌≡◌, ℕ, ◌+◌, ◌<◌, List, [], ◌∷◌, ◌++◌, length, get_or, set, take, drop, Result, Ok, Err, refl, sym, ap, subst, ◌∙◌, add-one, arith}
 use Rattle.std.proofs.lemmas.List.{take_more_set, drop_more, drop-set-lt}
 use Rattle.std.proofs.Math.Seq.{take-suc}
-use Rattle.alog_msg.specs.declared.message.Message.{Message}
-use Rattle.alog_sink.specs.Lines.{MayWrite}
-use Rattle.alog_sink.specs.Turn.{LeafView, EachDoes, MayGive, first_fault, or_fault}
+use Rattle.alog_sink.specs.Turn.{EachDoes, first_fault, or_fault}
 use Rattle.alog_sink.specs.declared.leaf.SinkError.{SinkError}
 
 -- one answer more
@@ -62,9 +60,3 @@ module _ {L A : Type 0} (Does : L → Result A SinkError → L → Type 0) (done
       in let both : get_or new i d ∷ drop (i + 1) new ≡ get_or old i d ∷ drop (i + 1) old =
       sym (drop_more new i d lt) ∙ so.rest ∙ drop_more old i d lt'
       in cc
-
-pub may_at : {S : Type 0} (ls : List (LeafView S)) (m : Message) (capacity i : ℕ) (d : LeafView S) → i < length ls
-    → MayGive ls m capacity → MayWrite (get_or ls i d).face m capacity
-may_at [] m capacity i d lt may = absurd (omega (lt, arith))
-may_at (l ∷ ls) m capacity zero d lt may = may.0
-may_at (l ∷ ls) m capacity (suc i) d lt may = may_at ls m capacity i d (omega arith) may.1

@@ -1,5 +1,6 @@
 -- A turn changes nothing of what a turn asks: each sink keeps its face.
 use Rattle.std.proofs.Common.{◌≡◌, ℕ, Bool, true, false, List, [], ◌∷◌, Result, refl, sym, subst}
+use Rattle.std.proofs.lemmas.List.Elements.{All-cons, All-head, All-tail}
 use Rattle.alog_format.specs.Buffer.{Buffer}
 use Rattle.alog_msg.specs.declared.item.Item.{Item}
 use Rattle.alog_msg.specs.declared.item.Item.TheVariants.{Text, Flush, Stop}
@@ -21,9 +22,11 @@ module _ {S : Type 0} where
       → ((o : LeafView S) (a : A) (n : LeafView S) → Does o a n → n.face ≡ o.face) → (olds : List (LeafView S)) (answers : List A)
       (news : List (LeafView S)) (m : Message) (capacity : ℕ) → EachDoes Does olds answers news → MayGive olds m capacity
       → MayGive news m capacity
-  each_keeps Does faces [] [] [] m capacity all may = tt
+  each_keeps Does faces [] [] [] m capacity all may = may
   each_keeps Does faces (o ∷ olds) (a ∷ answers) (n ∷ news) m capacity all may =
-      (one_keeps o n m capacity (faces o a n all.0) may.0, each_keeps Does faces olds answers news m capacity all.1 may.1)
+      let May : LeafView S → Type 0 = λ l. MayWrite l.face m capacity
+      in All-cons May n news (one_keeps o n m capacity (faces o a n all.0) (All-head May o olds may))
+      (each_keeps Does faces olds answers news m capacity all.1 (All-tail May o olds may))
   each_keeps Does faces [] (a ∷ answers) news m capacity all may = absurd all
   each_keeps Does faces [] [] (n ∷ news) m capacity all may = absurd all
   each_keeps Does faces (o ∷ olds) [] news m capacity all may = absurd all

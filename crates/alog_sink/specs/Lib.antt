@@ -13,3 +13,4 @@ pub mod Kept
 pub mod Turn
 pub mod Sinks
 pub mod Opened
+pub mod Refused

@@ -1,5 +1,6 @@
 -- The turns of sinks: a step relation between a sink, what it is given, its answer, and the sink after.
 use Rattle.std.specs.Prelude.{◌≡◌, ◌↔◌, ◌⊎◌, ℕ, ◌+◌, ◌<◌, Bool, true, false, List, [], ◌∷◌, ◌++◌, Result, Ok, Err, OnOk}
+use Rattle.std.specs.List.{All}
 use Rattle.alog_msg.specs.declared.level.Level.{Level}
 use Rattle.alog_msg.specs.declared.message.Message.{Message}
 use Rattle.alog_sink.specs.Deeds.{BreaksOff}
@@ -88,8 +89,7 @@ or_fault (Ok a) (Ok b) = Ok a
 
 -- each member may be given the message
 abbrev pub MayGive : {S : Type 0} → List (LeafView S) → Message → ℕ → Type 0
-MayGive [] m capacity = Unit {0}
-MayGive (l ∷ ls) m capacity = MayWrite l.face m capacity × MayGive ls m capacity
+MayGive members m capacity = All (λ l. MayWrite l.face m capacity) members
 
 module _ {S : Type 0} (tells : Bool) (files : S → Files) (failures : S → ℕ) where
   -- each member is given the message, whatever the others answer

@@ -112,6 +112,13 @@ impl Face {
         level.number() >= self.level.number()
     }
 
+    /// Whether a message's line may be written into the buffer.
+    pub(crate) fn may_write(&self, message: &Message, line: &LineBuf) -> bool
+        ensures { IsTrue result ↔ MayWrite self.now message.now line.now.capacity }
+    {
+        message.text.len() <= self.pattern.text_limit() && self.pattern.longest() <= line.capacity()
+    }
+
     /// Writes a message's line into the buffer, in place of what was there.
     pub(crate) fn write(&self, message: &Message, line: &mut LineBuf)
         requires { MayWrite self.now message.now line.old.capacity }

@@ -1,5 +1,5 @@
 //! Several sinks behind one level.
-ghost use Rattle.std.specs.Prelude.{◌≡◌, List, Result};
+ghost use Rattle.std.specs.Prelude.{◌≡◌, ◌↔◌, IsTrue, List, Result};
 ghost use Rattle.alog_sink.specs.Turn.{Answer, AllFlush, AllTake, FanFlushes, FanTakes, MayGive, first_fault, or_fault};
 
 use crate::leaf::{Leaf, SinkError, Taken};
@@ -40,6 +40,13 @@ impl<S: Store> Fan<S> {
         self.members.as_slice()
     }
 
+    /// Whether each member may be given the message with this buffer.
+    pub(crate) fn may_take(&self, message: &Message, line: &LineBuf) -> bool
+        ensures { IsTrue result ↔ MayGive self.now.members message.now line.now.capacity }
+    {
+        may_give(self.members.as_slice(), message, line)
+    }
+
     /// Gives a message to each member, where it passes the fan's level.
     pub(crate) fn take(&mut self, message: &Message, line: &mut LineBuf) -> Result<Taken, SinkError>
         requires { MayGive self.old.members message.now line.old.capacity }
@@ -58,6 +65,18 @@ impl<S: Store> Fan<S> {
     {
         flush_each(self.members.as_mut_slice())
     }
+}
+
+/// Whether each member may be given the message with this buffer.
+fn may_give<S: Store>(members: &[Leaf<S>], message: &Message, line: &LineBuf) -> bool
+    ensures { IsTrue result ↔ MayGive members.now message.now line.now.capacity }
+{
+    for member in members {
+        if !member.may_take(message, line) {
+            return false;
+        }
+    }
+    true
 }
 
 /// Gives a message to each member, whatever the others answer, and answers the first fault.

@@ -1,5 +1,5 @@
 //! A sink of one store.
-ghost use Rattle.std.specs.Prelude.{◌≡◌, true, false};
+ghost use Rattle.std.specs.Prelude.{◌≡◌, ◌↔◌, IsTrue, true, false};
 ghost use Rattle.alog_sink.specs.Lines.{MayWrite, admits};
 ghost use Rattle.alog_sink.specs.Turn.{Takes, Flushes};
 
@@ -68,6 +68,13 @@ impl<S: Store> Leaf<S> {
         ensures { result.now ≡ self.now.store }
     {
         &self.store
+    }
+
+    /// Whether the sink may be given the message with this buffer.
+    pub(crate) fn may_take(&self, message: &Message, line: &LineBuf) -> bool
+        ensures { IsTrue result ↔ MayWrite self.now.face message.now line.now.capacity }
+    {
+        self.face.may_write(message, line)
     }
 
     /// Gives a message to the sink: the buffer is cleared, and holds its line where one was written.

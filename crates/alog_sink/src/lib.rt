@@ -23,6 +23,8 @@ mod rotation;
 #[cfg(test)]
 mod rotation_tests;
 mod sink;
+#[cfg(test)]
+mod sink_tests;
 mod store;
 mod target;
 #[cfg(test)]

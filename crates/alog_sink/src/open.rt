@@ -1,6 +1,8 @@
 //! How sinks are opened.
-ghost use Rattle.std.specs.Prelude.{◌≡◌, ◌↔◌, ◌⊎◌, Some, IfOk, IfErr, IsErrAnd, IsTrue, [], ◌≤◌, length, vec_capacity, vec_len, ◌<◌, ◌++◌, ◌∷◌};
+ghost use Rattle.std.specs.Prelude.{◌≡◌, ◌↔◌, ◌⊎◌, Some, true, IfOk, IfErr, IfSome, IsErrAnd, IsTrue, [], ◌≤◌, length, vec_capacity, vec_len, ◌<◌, ◌++◌, ◌∷◌};
 ghost use Rattle.alog_sink.specs.Names.{IsFileName};
+ghost use Rattle.alog_sink.specs.Files.{AreSame};
+ghost use Rattle.alog_sink.specs.Refused.{AreBadLimits, FailsAs, IsRotating};
 ghost use Rattle.alog_sink.specs.Opened.{AreNoMembers, Opened, leaves_of, store_of};
 
 use crate::FAN_MAX;
@@ -9,6 +11,7 @@ use crate::fan::Fan;
 use crate::journal::Journal;
 use crate::leaf::Leaf;
 use crate::names::is_file_name;
+use crate::rotation::{self, FILES_MAX, Rotation, SIZE_MAX};
 use crate::sink::Sink;
 use crate::store::Store;
 use crate::target::Target;
@@ -30,6 +33,20 @@ pub enum OpenError {
     /// The store failed.
     #[error("the store failed")]
     Store,
+}
+
+impl From<rotation::OpenError> for OpenError {
+    ghost use Rattle.std.specs.Prelude.{◌≡◌};
+    ghost use Rattle.alog_sink.specs.Refused.{as_open_error};
+
+    ghost from_gives = { λ e r. r ≡ as_open_error e };
+
+    fn from(error: rotation::OpenError) -> OpenError {
+        match error {
+            rotation::OpenError::OutOfMemory => OpenError::OutOfMemory,
+            rotation::OpenError::Store => OpenError::Store,
+        }
+    }
 }
 
 /// A sink that was not opened: why, and what was handed in.
@@ -71,6 +88,58 @@ impl<S: Store + Drop> Sink<S> {
             Ok(file) => Ok(Sink::Leaf(Leaf::open(face, Target::Memory(Journal { file }), store))),
             Err(_) => Err(Unopened {
                 error: OpenError::OutOfMemory,
+                face,
+                store,
+            }),
+        }
+    }
+
+    /// A sink that appends its lines to a base, as long as that has at most `max_size` bytes with them, and keeps what the
+    /// base had before in up to `max_files` further files: `log.1.txt` and on of `log.txt`.
+    ///
+    /// `max_size` is 1 to 2^40 bytes and `max_files` 0 to 1,000. The refusals are `BadLimit`, `BadName`, `OutOfMemory`, and
+    /// `Store` where the store fails to tell the base's size. The rule is spdlog's, of its rotating file sink.
+    pub fn rotating(
+        alloc: Global,
+        face: Face,
+        store: S,
+        file: &str,
+        max_size: u64,
+        max_files: usize,
+    ) -> Result<Sink<S>, Unopened<S>>
+        ensures opened { IfOk result (λ s. Opened S.tells S.files face
+            (IsRotating (record { file = file.now; max_size = max_size; max_files = max_files })) (S.files store) s) }
+        ensures bad_limit { IsErrAnd result (λ e. e.error ≡ OpenError.BadLimit) ↔ AreBadLimits max_size max_files }
+        ensures bad_name { IsErrAnd result (λ e. e.error ≡ OpenError.BadName)
+            ↔ ((¬ AreBadLimits max_size max_files) × (¬ IsFileName file.now)) }
+        ensures counted { IfErr result (λ e. FailsAs (S.failures store) (S.failures e.store) e.error) }
+        ensures quiet { IfOk result (λ s. IfSome (store_of s) (λ t. S.failures t ≡ S.failures store)) }
+        ensures face { IfErr result (λ e. e.face ≡ face) }
+        ensures files { S.tells ≡ true → IfErr result (λ e. AreSame (S.files store) (S.files e.store)) }
+    {
+        if max_size == 0 || max_size > SIZE_MAX || max_files > FILES_MAX {
+            return Err(Unopened {
+                error: OpenError::BadLimit,
+                face,
+                store,
+            });
+        }
+        if !is_file_name(file) {
+            return Err(Unopened {
+                error: OpenError::BadName,
+                face,
+                store,
+            });
+        }
+        let mut store = store;
+        match Rotation::open(alloc, &mut store, file, max_size, max_files) {
+            Ok(rotation) => Ok(Sink::Leaf(Leaf::open(
+                face,
+                Target::Rotating(rotation),
+                store,
+            ))),
+            Err(error) => Err(Unopened {
+                error: error.into(),
                 face,
                 store,
             }),

@@ -18,6 +18,17 @@ pub enum Sink<S> {
 }
 
 impl<S: Store> Sink<S> {
+    /// Whether the sink may be given the message with this buffer: its text keeps to the limit of each pattern, and the
+    /// buffer has room for each pattern's longest line when it is empty.
+    pub fn may_take(&self, message: &Message, line: &LineBuf) -> bool
+        ensures { IsTrue result ↔ MayTake self.now message.now line.now.capacity }
+    {
+        match self {
+            Sink::Leaf(leaf) => leaf.may_take(message, line),
+            Sink::Fan(fan) => fan.may_take(message, line),
+        }
+    }
+
     /// Gives a message to the sink.
     ///
     /// A message of a level below the sink's answers `Below`, and nothing else happens, even in a broken sink. Otherwise

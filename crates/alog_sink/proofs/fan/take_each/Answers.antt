@@ -1,8 +1,9 @@
 use Rattle.std.proofs.Common.{◌≡◌, ◌+◌, ◌∙◌, get_or, set, sym, subst, arith}
+use Rattle.std.proofs.lemmas.List.Elements.{All-get_or}
 use Rattle.alog_sink.specs.Lines.{MayWrite}
 use Rattle.alog_sink.specs.Turn.{Answer, LeafView, Takes}
 use Rattle.alog_sink.specs.declared.leaf.Taken.TheVariants.{Written}
-use Rattle.alog_sink.proofs.Fans.{SoFar, may_at, not_yet, one_more}
+use Rattle.alog_sink.proofs.Fans.{SoFar, not_yet, one_more}
 use Rattle.alog_sink.proofs.fan.take_each.Goals as goal
 
 pub take-given-requires : goal.take-given-requires
@@ -15,7 +16,7 @@ take-given-requires g c =
     c.loop-i.answer d (omega arith) (omega arith) c.loop-i.invariant.0 in
     subst (λ (l : LeafView g.row.S.Denot). MayWrite l.face m c.loop-i.line.capacity) (sym same)
     (subst (λ n. MayWrite (get_or c.args.members.now i d).face m n) (sym c.loop-i.invariant.1)
-    (may_at c.args.members.now m c.args.line.now.capacity i d (omega arith) c.requires))
+    (All-get_or (λ (l : LeafView g.row.S.Denot). MayWrite l.face m c.args.line.now.capacity) c.args.members.now i d (omega arith) c.requires))
 
 pub loop-i-preserved : goal.loop-i-preserved
 loop-i-preserved g c =

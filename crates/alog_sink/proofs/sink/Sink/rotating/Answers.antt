@@ -1,0 +1,11 @@
+use Rattle.alog_sink.specs.Rotation.{Limits}
+use Rattle.alog_sink.specs.Refused.{IsRotating}
+use Rattle.alog_sink.specs.declared.target.Target.TheVariants.{Rotating}
+use Rattle.alog_sink.proofs.Opens.{opened}
+use Rattle.alog_sink.proofs.sink.Sink.rotating.Goals as goal
+
+pub returns-in-Ok-clause-opened : goal.returns-in-Ok-clause-opened
+returns-in-Ok-clause-opened g c =
+    let limits : Limits = record { file = c.args.file.now; max_size = c.args.max_size; max_files = c.args.max_files } in
+    opened g.S.Store.tells g.S.Store.files c.args.face (IsRotating limits) (g.S.Store.files c.args.store)
+    (Rotating c.in-Ok.rotation) c.open.new.store c.open-in-Ok.result c.open-in-Ok.ensures c.in-Ok.ensures.limits c.in-Ok.ensures.stands
