@@ -21,6 +21,8 @@ mod names;
 mod open;
 mod rotation;
 #[cfg(test)]
+mod rotation_plain_tests;
+#[cfg(test)]
 mod rotation_tests;
 mod sink;
 #[cfg(test)]
