@@ -1,7 +1,8 @@
 -- What a clock of a zone shows at a time.
 use Rattle.std.specs.Prelude.{◌≡◌, ℤ, pos, neg_ℤ, unsigned_abs, ◌+ℤ◌, ◌*ℤ◌, ◌≤ℤ◌}
 use Rattle.jiff_core.specs.declared.civil.datetime.DateTime.{DateTime}
-use Rattle.jiff.specs.Words.{weekday_of, civil_nanos, nanos_of_seconds}
+use Rattle.std.specs.Int.{int_div_euclid, int_rem_euclid}
+use Rattle.jiff.specs.Words.{weekday_of, civil_nanos, epoch_day, nanos_of_seconds}
 use Rattle.alog_format.specs.declared.civil.Civil.{Civil}
 use Rattle.alog_format.specs.declared.context.TheConstants.{OFFSET_MAX}
 use Rattle.alog_format.specs.declared.context.Zone.{Zone}
@@ -35,3 +36,18 @@ local_nanos zone time = time +ℤ nanos_of_seconds (offset_minutes zone *ℤ pos
 -- a clock of the zone shows this at the time
 abbrev pub IsShownAt : Zone → ℤ → Civil → Type 0
 IsShownAt zone time civil = (at : DateTime) × (civil_nanos at ≡ local_nanos zone time) × (civil ≡ fields at)
+
+-- whole seconds from 1970-01-01 00:00:00 on a clock of the zone
+abbrev pub clock_seconds : Zone → ℤ → ℤ
+clock_seconds zone time = int_div_euclid time (pos 1_000_000_000) +ℤ offset_minutes zone *ℤ pos 60
+
+-- the day that a clock of the zone shows at a time, counted from 1970-01-01, and how many whole seconds of it have gone by
+abbrev pub day_at : Zone → ℤ → ℤ
+day_at zone time = int_div_euclid (local_nanos zone time) (pos 86_400_000_000_000)
+
+abbrev pub second_at : Zone → ℤ → ℤ
+second_at zone time = int_div_euclid (int_rem_euclid (local_nanos zone time) (pos 86_400_000_000_000)) (pos 1_000_000_000)
+
+-- that day is the one of the date that the clock shows
+abbrev pub DaysAreOfDates : Type 0
+DaysAreOfDates = (zone : Zone) (time : ℤ) (at : DateTime) → civil_nanos at ≡ local_nanos zone time → day_at zone time ≡ epoch_day at.date

@@ -1,6 +1,7 @@
-ghost use Rattle.std.specs.Prelude.{◌≡◌};
+ghost use Rattle.std.specs.Prelude.{◌≡◌, pos};
+ghost use Rattle.std.specs.Int.{int_div_euclid, int_rem_euclid};
 ghost use Rattle.jiff.specs.Words.{civil_nanos};
-ghost use Rattle.alog_format.specs.Civil.{fields, local_nanos, IsShownAt, IsZone};
+ghost use Rattle.alog_format.specs.Civil.{clock_seconds, day_at, fields, local_nanos, second_at, IsShownAt, IsZone};
 
 use crate::context::Zone;
 use jiff::Timestamp;
@@ -9,7 +10,7 @@ use jiff::tz::Offset;
 
 /// What a clock shows at a message's time.
 #[derive(Clone, Copy)]
-pub(crate) struct Civil {
+pub struct Civil {
     /// 1677 to 2262.
     pub year: u32,
     /// 1 to 12.
@@ -28,8 +29,53 @@ pub(crate) struct Civil {
     pub nanosecond: u32,
 }
 
+/// A day and a second of it, as a clock shows them.
+#[derive(Clone, Copy, Debug, PartialEq, Eq)]
+pub struct ClockTime {
+    /// The day, counted from 1970-01-01.
+    pub day: i64,
+    /// Whole seconds of that day, 0 to 86,399.
+    pub second: i64,
+}
+
+/// The day and the second of it that a clock of the zone shows at a time in nanoseconds since the epoch. It costs a few
+/// divisions; `civil_at` costs the whole date. The test `days_and_seconds` shows it.
+pub fn clock_time(zone: Zone, time: i64) -> ClockTime
+    requires { IsZone zone }
+    ensures day { result.day ≡ day_at zone time }
+    ensures second { result.second ≡ second_at zone time }
+{
+    let seconds = clock_seconds(zone, time);
+    ClockTime {
+        day: day_of(seconds),
+        second: second_of(seconds),
+    }
+}
+
+/// Whole seconds from 1970-01-01 00:00:00 on a clock of the zone.
+fn clock_seconds(zone: Zone, time: i64) -> i64
+    requires { IsZone zone }
+    ensures { result ≡ clock_seconds zone time }
+{
+    time.div_euclid(1_000_000_000) + i64::from(zone.offset_minutes()) * 60
+}
+
+/// The day of a second, counted from 1970-01-01.
+fn day_of(seconds: i64) -> i64
+    ensures { result ≡ int_div_euclid seconds (pos 86_400) }
+{
+    seconds.div_euclid(86_400)
+}
+
+/// The second of its day.
+fn second_of(seconds: i64) -> i64
+    ensures { result ≡ int_rem_euclid seconds (pos 86_400) }
+{
+    seconds.rem_euclid(86_400)
+}
+
 /// What a clock of the zone shows at a time in nanoseconds since the epoch.
-pub(crate) fn civil_at(zone: Zone, time: i64) -> Civil
+pub fn civil_at(zone: Zone, time: i64) -> Civil
     requires { IsZone zone }
     ensures { IsShownAt zone time result }
 {

@@ -23,8 +23,9 @@ mod names;
 mod pads;
 mod times;
 
+pub use civil::{Civil, ClockTime, civil_at, clock_time};
 pub use context::{Context, OFFSET_MAX, Zone};
-pub use laws::one_line;
+pub use laws::{days_are_of_dates, one_line};
 pub use line_buf::{LineBuf, NoRoomError};
 pub use lines::format;
 

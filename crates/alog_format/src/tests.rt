@@ -1,4 +1,4 @@
-use crate::{Context, LineBuf, NoRoomError, Zone, format};
+use crate::{Context, LineBuf, NoRoomError, Zone, clock_time, format};
 use alog_msg::{Level, Message, SourceRef};
 use alog_pattern::Pattern;
 use std::process::Abort;
@@ -332,4 +332,23 @@ fn crosses<T: Send + Sync>(_value: &T) {}
 fn goes_to_another_thread(rt: HostRuntime) -> Result<(), Fail> {
     crosses(&LineBuf::new(rt.alloc(), 4)?);
     Ok(())
+}
+
+#[test]
+fn days_and_seconds(rt: HostRuntime) {
+    for (offset, time, day, second) in [
+        (0, 0, 0, 0),
+        (0, -1, -1, 86_399),
+        (0, 86_399_999_999_999, 0, 86_399),
+        (0, 86_400_000_000_000, 1, 0),
+        (1_439, 60_000_000_000, 1, 0),
+        (-1_439, 86_340_000_000_000, 0, 0),
+        (-1_439, 86_339_999_999_999, -1, 86_399),
+        (60, 1_709_247_600_000_000_000, 19_783, 0),
+        (1_439, i64::MAX, 106_752, 85_576),
+        (-1_439, i64::MIN, -106_753, 823),
+    ] {
+        let shown = clock_time(Zone::Fixed(offset), time);
+        assert_eq!(rt; (shown.day, shown.second), (day, second), "{time}");
+    }
 }
