@@ -133,11 +133,7 @@ impl<S: Store + Drop> Sink<S> {
         }
         let mut store = store;
         match Rotation::open(alloc, &mut store, file, max_size, max_files) {
-            Ok(rotation) => Ok(Sink::Leaf(Leaf::open(
-                face,
-                Target::Rotating(rotation),
-                store,
-            ))),
+            Ok(rotation) => Ok(Sink::Leaf(Leaf::open(face, Target::Rotating(rotation), store))),
             Err(error) => Err(Unopened {
                 error: error.into(),
                 face,

@@ -24,9 +24,7 @@ fn face(alloc: Global, level: Level, pattern: &[u8]) -> Result<Face, Fail> {
 }
 
 fn message(alloc: Global, level: Level, text: &str) -> Result<Message, Fail> {
-    Ok(Message::new(
-        alloc, TEXT_LIMIT, 0, level, 0, 1, text, None,
-    )?)
+    Ok(Message::new(alloc, TEXT_LIMIT, 0, level, 0, 1, text, None)?)
 }
 
 // Gives texts of level info to a sink, and tells what it answered to the last.
@@ -58,12 +56,7 @@ fn give_at<S: Store>(
 }
 
 fn memory<S: Store + Drop>(alloc: Global, store: S, pattern: &[u8]) -> Result<Sink<S>, Fail> {
-    opened(Sink::memory(
-        alloc,
-        face(alloc, Level::Info, pattern)?,
-        store,
-        "log",
-    ))
+    opened(Sink::memory(alloc, face(alloc, Level::Info, pattern)?, store, "log"))
 }
 
 // What was opened, or the refusal as an error of the test.
@@ -103,11 +96,25 @@ fn names_by_number(rt: HostRuntime) -> Result<(), Fail> {
 fn a_memory_sink(rt: HostRuntime) -> Result<(), Fail> {
     let store = MemStore::new(rt.alloc()).with("log", b"old\n")?;
     let mut sink = memory(rt.alloc(), store, b"%n %L %v")?;
-    assert_eq!(rt; give(rt.alloc(), &mut sink, &["one", ""])?, Ok(Taken::Written));
-    assert_eq!(rt; give_at(rt.alloc(), &mut sink, Level::Debug, "no")?, Ok(Taken::Below));
-    assert_eq!(rt; give_at(rt.alloc(), &mut sink, Level::Off, "off")?, Ok(Taken::Written));
+    assert_eq!(rt;
+        give(rt.alloc(), &mut sink, &["one", ""])?,
+        Ok(Taken::Written)
+    );
+    assert_eq!(rt;
+        give_at(rt.alloc(), &mut sink, Level::Debug, "no")?,
+        Ok(Taken::Below)
+    );
+    assert_eq!(rt;
+        give_at(rt.alloc(), &mut sink, Level::Off, "off")?,
+        Ok(Taken::Written)
+    );
     assert_eq!(rt; sink.flush(), Ok(()));
-    has(&rt, sink.store(), "log", b"old\nnet I one\nnet I \nnet O off\n");
+    has(
+        &rt,
+        sink.store(),
+        "log",
+        b"old\nnet I one\nnet I \nnet O off\n",
+    );
     assert!(rt; sink.members().is_empty() && !sink.is_fan());
     Ok(())
 }
@@ -116,7 +123,10 @@ fn a_memory_sink(rt: HostRuntime) -> Result<(), Fail> {
 fn a_sink_without_a_line_has_no_file(rt: HostRuntime) -> Result<(), Fail> {
     let mut sink = memory(rt.alloc(), MemStore::new(rt.alloc()), b"%v")?;
     assert_eq!(rt; sink.flush(), Ok(()));
-    assert_eq!(rt; give_at(rt.alloc(), &mut sink, Level::Trace, "no")?, Ok(Taken::Below));
+    assert_eq!(rt;
+        give_at(rt.alloc(), &mut sink, Level::Trace, "no")?,
+        Ok(Taken::Below)
+    );
     match sink.store() {
         Some(store) => assert!(rt; store.files().is_empty()),
         None => assert!(rt; false, "no store"),
@@ -143,8 +153,14 @@ fn a_rotating_sink(rt: HostRuntime) -> Result<(), Fail> {
 fn a_fan_gives_to_each(rt: HostRuntime) -> Result<(), Fail> {
     let alloc = rt.alloc();
     let mut fan = fan_of_two(alloc, MemStore::new(alloc), MemStore::new(alloc))?;
-    assert_eq!(rt; give_at(alloc, &mut fan, Level::Info, "a")?, Ok(Taken::Written));
-    assert_eq!(rt; give_at(alloc, &mut fan, Level::Error, "b")?, Ok(Taken::Written));
+    assert_eq!(rt;
+        give_at(alloc, &mut fan, Level::Info, "a")?,
+        Ok(Taken::Written)
+    );
+    assert_eq!(rt;
+        give_at(alloc, &mut fan, Level::Error, "b")?,
+        Ok(Taken::Written)
+    );
     assert_eq!(rt; fan.flush(), Ok(()));
     assert!(rt; fan.store().is_none() && fan.is_fan());
     let members = fan.members();
@@ -175,8 +191,16 @@ fn a_store_that_fails_at_its_second_call(rt: HostRuntime) -> Result<(), Fail> {
     assert_eq!(rt; give(alloc, &mut sink, &["two"])?, Err(SinkError::Store));
     assert_eq!(rt; give(alloc, &mut sink, &["six"])?, Err(SinkError::Broken));
     assert_eq!(rt; sink.flush(), Err(SinkError::Broken));
-    assert_eq!(rt; give_at(alloc, &mut sink, Level::Debug, "no")?, Ok(Taken::Below));
-    has(&rt, sink.store().map(|fuse| fuse.store()), "log", b"one\ntwo");
+    assert_eq!(rt;
+        give_at(alloc, &mut sink, Level::Debug, "no")?,
+        Ok(Taken::Below)
+    );
+    has(
+        &rt,
+        sink.store().map(|fuse| fuse.store()),
+        "log",
+        b"one\ntwo",
+    );
     Ok(())
 }
 
@@ -197,9 +221,18 @@ fn a_fan_with_a_fault(rt: HostRuntime) -> Result<(), Fail> {
         let first = FuseStore::new(MemStore::new(alloc), one, 0);
         let second = FuseStore::new(MemStore::new(alloc), two, 0);
         let mut fan = fan_of_two(alloc, first, second)?;
-        assert_eq!(rt; give_at(alloc, &mut fan, Level::Error, "a")?, Ok(Taken::Written));
-        assert_eq!(rt; give_at(alloc, &mut fan, Level::Error, "b")?, Err(SinkError::Store));
-        assert_eq!(rt; give_at(alloc, &mut fan, Level::Error, "c")?, Err(SinkError::Broken));
+        assert_eq!(rt;
+            give_at(alloc, &mut fan, Level::Error, "a")?,
+            Ok(Taken::Written)
+        );
+        assert_eq!(rt;
+            give_at(alloc, &mut fan, Level::Error, "b")?,
+            Err(SinkError::Store)
+        );
+        assert_eq!(rt;
+            give_at(alloc, &mut fan, Level::Error, "c")?,
+            Err(SinkError::Broken)
+        );
         assert_eq!(rt; fan.flush(), Err(SinkError::Broken));
         let members = fan.members();
         let all: &[u8] = b"a\nb\nc\n";
@@ -215,7 +248,12 @@ fn a_fan_with_a_fault(rt: HostRuntime) -> Result<(), Fail> {
 fn refused_sinks(rt: HostRuntime) -> Result<(), Fail> {
     let alloc = rt.alloc();
     for name in ["", ".", "..", "a/b", "a\0"] {
-        let sink = Sink::memory(alloc, face(alloc, Level::Info, b"%v")?, MemStore::new(alloc), name);
+        let sink = Sink::memory(
+            alloc,
+            face(alloc, Level::Info, b"%v")?,
+            MemStore::new(alloc),
+            name,
+        );
         assert!(rt; error_of(sink) == Some(OpenError::BadName), "{name}");
     }
     for (size, files, name, error) in [
