@@ -1,5 +1,5 @@
 //! A lane and its first seat, and one try at its lock.
-ghost use Rattle.std.specs.Prelude.{◌≡◌, ◌≢◌, ◌∷◌, ◌++◌, [], ℕ, IfOk, IfErr, OnErr, IsErr};
+ghost use Rattle.std.specs.Prelude.{◌≡◌, ◌≢◌, ◌+◌, ◌%◌, ◌^◌, ◌∷◌, ◌++◌, [], ℕ, IfOk, IfErr, OnErr, IsErr};
 ghost use Rattle.alog_lane.specs.Seats.{first_known};
 ghost use Rattle.alog_lane.specs.Roster.{Idle};
 ghost use Rattle.alog_lane.specs.declared.view.Cabin.{Cabin};
@@ -148,7 +148,7 @@ impl<T: Turn> Lane<T> {
         let cabin = own.slot_mut(&self.table.shared, CABIN);
         let index = cabin.turns;
         let reply = cabin.value.turn(item, scratch);
-        cabin.turns = index.wrapping_add(1);
+        cabin.turns = index_after(index);
         let done = Done {
             tag,
             item: Snapshot::of(item),
@@ -159,4 +159,11 @@ impl<T: Turn> Lane<T> {
         cabin.last = Snapshot::of(&Some(done));
         (index, reply)
     }
+}
+
+/// The index of the turn after this one.
+pub(crate) fn index_after(index: u64) -> u64
+    ensures { result ≡ (index + 1) % 2 ^ 64 }
+{
+    index.wrapping_add(1)
 }

@@ -2,6 +2,7 @@ ghost use Rattle.alog_lane.specs.Calls.{IsSeatOf};
 ghost use Rattle.std.specs.Prelude.{◌≡◌, ◌+◌, ◌%◌, ◌^◌, IfOk, Some};
 
 use super::*;
+use crate::lane::index_after;
 use std::alloc::{AllocError, Global};
 use std::sync::atomic::{AtomicBool, AtomicU64, Ordering};
 use std::sync::{Arc, Wait};
@@ -48,6 +49,13 @@ fn a_lane_over_a_sum(rt: HostRuntime) -> Result<(), Fail> {
     };
     assert_eq!(rt; sum, Sum(15));
     Ok(())
+}
+
+#[test]
+fn indexes_begin_again(rt: HostRuntime) {
+    assert_eq!(rt; index_after(0), 1);
+    assert_eq!(rt; index_after(u64::MAX - 1), u64::MAX);
+    assert_eq!(rt; index_after(u64::MAX), 0);
 }
 
 #[test]
@@ -175,6 +183,71 @@ fn two_threads_take_turns(rt: HostRuntime) -> Result<(), Fail> {
     );
     assert!(rt; one.0 && two.0);
     assert_eq!(rt; one.1.wrapping_add(two.1), 20_000 * 39_999);
+    assert_eq!(rt;
+        lane.turn_once(&mut seat, 0, &0, &mut ()),
+        Ok((40_000, 40_000))
+    );
+    Ok(())
+}
+
+// Adds 1 so many times, and marks the index of each turn.
+fn mark_ones(lane: &Lane<Sum>, mut seat: LaneSeat<Sum>, marks: &[AtomicU64], count: u64)
+    requires { IsSeatOf lane.now seat }
+{
+    for _ in 0..count {
+        if let Some(index) = add_one(lane, &mut seat)
+            && let Some(mark) = marks.get(index as usize)
+        {
+            mark.fetch_add(1, Ordering::SeqCst);
+        }
+    }
+}
+
+#[test]
+fn four_threads_take_turns(rt: HostRuntime) -> Result<(), Fail> {
+    let (lane, mut seat) = Lane::new(rt.alloc(), Sum(0))?;
+    let mut marks = Vec::with_capacity(rt.alloc(), 40_000)?;
+    for _ in 0..40_000 {
+        marks.push(AtomicU64::new(0))?;
+    }
+    let marks = marks.as_slice();
+    let lane = &lane;
+    let one = lane.split(&mut seat, 1);
+    let two = lane.split(&mut seat, 1);
+    let three = lane.split(&mut seat, 1);
+    let four = lane.split(&mut seat, 1);
+    thread::join(
+        &rt,
+        ||
+            requires { IsSeatOf lane.now one }
+        { mark_ones(lane, one, marks, 10_000) },
+        ||
+            requires { IsSeatOf lane.now two × IsSeatOf lane.now three × IsSeatOf lane.now four }
+        {
+            thread::join(
+                &rt,
+                ||
+                    requires { IsSeatOf lane.now two }
+                { mark_ones(lane, two, marks, 10_000) },
+                ||
+                    requires { IsSeatOf lane.now three × IsSeatOf lane.now four }
+                {
+                    thread::join(
+                        &rt,
+                        ||
+                            requires { IsSeatOf lane.now three }
+                        { mark_ones(lane, three, marks, 10_000) },
+                        ||
+                            requires { IsSeatOf lane.now four }
+                        { mark_ones(lane, four, marks, 10_000) },
+                    )
+                },
+            )
+        },
+    );
+    for mark in marks {
+        assert_eq!(rt; mark.load(Ordering::SeqCst), 1);
+    }
     assert_eq!(rt;
         lane.turn_once(&mut seat, 0, &0, &mut ()),
         Ok((40_000, 40_000))
