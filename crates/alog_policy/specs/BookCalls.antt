@@ -3,6 +3,7 @@ use Rattle.std.specs.Prelude.{◌≡◌, ℕ, ◌%◌, ◌^◌, List, [], ◌∷
 use Rattle.std.specs.List.{sum_by}
 use mathlib.Core.List.{IsPrefix}
 use Rattle.atomic_table.specs.Seated.{TableId}
+use Rattle.alog_lane.specs.declared.seat.TheConstants.{ALL_PARTS}
 use Rattle.alog_lane.specs.Seats.{Entry, Member, Known, Made, members_of, IsWhole, IsFaithful}
 use Rattle.alog_policy.specs.declared.counts.Counts.{Counts}
 use Rattle.alog_policy.specs.BookAdds.{Add, items_in, posts_in, overrun_after, discarded_after}
@@ -32,7 +33,7 @@ pub record Adds (old new : Known Add) (a : Add) : Type 0 where
   pub ends : new.seen ≡ before ++ by old a ∷ []
 
 -- The seat looked twice: the first history that it saw has all that it had seen, and gives the overrun number; the second
--- is at least as long, and gives the discarded number.
+-- is at least as long, and gives the discarded number. A seat with all parts had seen both.
 pub record AreCounted (old new : Known Add) (c : Counts) : Type 0 where
   pub looks : Made old new []
   pub first : List (Entry Add)
@@ -40,6 +41,7 @@ pub record AreCounted (old new : Known Add) (c : Counts) : Type 0 where
   pub second : IsPrefix first new.seen
   pub overrun : c.overrun ≡ overrun_after first
   pub discarded : c.discarded ≡ discarded_after new.seen
+  pub alone : old.parts ≡ ALL_PARTS → (first ≡ old.seen) × (new.seen ≡ old.seen)
 
 -- The end of a book: the seat has seen everything, and the numbers are the sums of what its members added.
 pub record Closes (k : Known Add) (c : Counts) : Type 0 where

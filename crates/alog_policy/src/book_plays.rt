@@ -4,24 +4,24 @@ ghost use Rattle.alog_lane.specs.Seats.{Entry};
 ghost use Rattle.alog_lane.specs.Roster.{Joined, kept_part, given_part, taking_in, gone};
 ghost use Rattle.alog_lane.specs.Plays.{was_named, saw_both};
 ghost use Rattle.alog_policy.specs.BookAdds.{Add};
-ghost use Rattle.alog_policy.specs.BookPlays.{add_at, added, looked};
+ghost use Rattle.alog_policy.specs.BookPlays.{add_at, Added, Looked};
 
 use crate::book_view::View;
 use atomic_table::{Join, Play, Split};
 use std::marker::{Brand, PhantomData};
 
 /// An add to a number.
-pub struct Adds;
+pub struct Adding;
 
-impl Play<(), View> for Adds {
-    ghost then = { λ s m r n. added (add_at s.word s.first) m n };
+impl Play<(), View> for Adding {
+    ghost then = { λ s m r n. Added (add_at s.word s.first) m n };
 }
 
 /// A look at a number.
-pub struct Looks;
+pub struct Looking;
 
-impl Play<(), View> for Looks {
-    ghost then = { λ s m r n. looked s.word m r n };
+impl Play<(), View> for Looking {
+    ghost then = { λ s m r n. Looked s.word m r n };
 }
 
 /// How many parts a split gives away. Each call picks it.

@@ -2,10 +2,11 @@
 ghost use Rattle.std.specs.Prelude.{◌≡◌, IfOk};
 ghost use Rattle.alog_lane.specs.Seats.{first_known};
 ghost use Rattle.alog_lane.specs.Roster.{Idle};
+ghost use Rattle.alog_policy.specs.declared.loss_book.TheConstants.{WORDS};
 ghost use Rattle.alog_policy.specs.BookAdds.{Overran, Discarded};
 ghost use Rattle.alog_policy.specs.BookCalls.{IsSeatOf, Adds, AreCounted};
 
-use crate::book_plays;
+use crate::book_plays::{Adding, Looking};
 use crate::book_seat::BookSeat;
 use crate::book_view::{Law, View};
 use crate::counts::Counts;
@@ -81,11 +82,11 @@ impl LossBook {
         let overrun = self
             .table
             .shared
-            .load::<book_plays::Looks>(&mut seat.seat, OVERRUN);
+            .load::<Looking>(&mut seat.seat, OVERRUN);
         let discarded = self
             .table
             .shared
-            .load::<book_plays::Looks>(&mut seat.seat, DISCARDED);
+            .load::<Looking>(&mut seat.seat, DISCARDED);
         Counts { overrun, discarded }
     }
 
@@ -96,7 +97,7 @@ impl LossBook {
     {
         self.table
             .shared
-            .fetch_add::<book_plays::Adds>(&mut seat.seat, OVERRUN, items);
+            .fetch_add::<Adding>(&mut seat.seat, OVERRUN, items);
     }
 
     pub(crate) fn add_discarded(&self, seat: &mut BookSeat, posts: u64)
@@ -106,6 +107,6 @@ impl LossBook {
     {
         self.table
             .shared
-            .fetch_add::<book_plays::Adds>(&mut seat.seat, DISCARDED, posts);
+            .fetch_add::<Adding>(&mut seat.seat, DISCARDED, posts);
     }
 }
