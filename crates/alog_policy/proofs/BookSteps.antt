@@ -45,7 +45,7 @@ tells_items items h x words deed tells =
     in let here : items_of x.deed ≡ items = ap items_of deed
     in let there : posts_of x.deed ≡ 0 = ap posts_of deed
     in let posts : posts_in (h ++ x ∷ []) ≡ posts_in h = let more : posts_in (h ++ x ∷ []) ≡ posts_in h + posts_of x.deed = posts_more h x
-        in omega (arith, more, there)
+    in omega (arith, more, there)
     in record {
       count = length-set words OVERRUN n ∙ tells.count;
       overrun =
@@ -64,7 +64,7 @@ tells_posts posts h x words deed tells =
     in let here : posts_of x.deed ≡ posts = ap posts_of deed
     in let there : items_of x.deed ≡ 0 = ap items_of deed
     in let items : items_in (h ++ x ∷ []) ≡ items_in h = let more : items_in (h ++ x ∷ []) ≡ items_in h + items_of x.deed = items_more h x
-        in omega (arith, more, there)
+    in omega (arith, more, there)
     in record {
       count = length-set words DISCARDED n ∙ tells.count;
       overrun = get_or-set_other words DISCARDED OVERRUN n 0 (λ e. absurd (omega arith)) ∙ tells.overrun

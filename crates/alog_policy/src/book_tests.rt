@@ -7,17 +7,21 @@ use std::alloc::{AllocError, Global};
 use std::test::Fail;
 use std::thread;
 
+fn losses(overrun: u64, discarded: u64) -> Counts {
+    Counts { overrun, discarded }
+}
+
 #[test]
 fn counts_losses(rt: HostRuntime) -> Result<(), Fail> {
     let (book, mut seat) = LossBook::new(rt.alloc())?;
     assert_eq!(rt; seat.parts(), ALL_PARTS);
-    assert_eq!(rt; book.counts(&mut seat), Counts { overrun: 0, discarded: 0 });
+    assert_eq!(rt; book.counts(&mut seat), losses(0, 0));
     book.overran(&mut seat);
-    assert_eq!(rt; book.counts(&mut seat), Counts { overrun: 1, discarded: 0 });
+    assert_eq!(rt; book.counts(&mut seat), losses(1, 0));
     book.discarded(&mut seat);
     book.discarded(&mut seat);
-    assert_eq!(rt; book.counts(&mut seat), Counts { overrun: 1, discarded: 2 });
-    assert_eq!(rt; book.close(seat).ok(), Some(Counts { overrun: 1, discarded: 2 }));
+    assert_eq!(rt; book.counts(&mut seat), losses(1, 2));
+    assert_eq!(rt; book.close(seat).ok(), Some(losses(1, 2)));
     Ok(())
 }
 
@@ -28,7 +32,7 @@ fn seats_split_and_join(rt: HostRuntime) -> Result<(), Fail> {
     assert_eq!(rt; (seat.parts(), other.parts()), (ALL_PARTS - 1, 1));
     book.overran(&mut seat);
     book.discarded(&mut other);
-    assert_eq!(rt; book.counts(&mut other), Counts { overrun: 1, discarded: 1 });
+    assert_eq!(rt; book.counts(&mut other), losses(1, 1));
     let Err(out) = book.close(seat) else {
         panic!(rt; "a seat is out")
     };
@@ -37,7 +41,7 @@ fn seats_split_and_join(rt: HostRuntime) -> Result<(), Fail> {
     let SeatsOut { book, mut seat } = out;
     book.join(&mut seat, other);
     assert_eq!(rt; seat.parts(), ALL_PARTS);
-    assert_eq!(rt; book.close(seat).ok(), Some(Counts { overrun: 1, discarded: 1 }));
+    assert_eq!(rt; book.close(seat).ok(), Some(losses(1, 1)));
     Ok(())
 }
 
@@ -47,13 +51,13 @@ fn counts_go_on_from_zero_past_the_last_number(rt: HostRuntime) -> Result<(), Fa
     book.add_overrun(&mut seat, u64::MAX);
     book.add_discarded(&mut seat, u64::MAX - 1);
     book.discarded(&mut seat);
-    assert_eq!(rt; book.counts(&mut seat), Counts { overrun: u64::MAX, discarded: u64::MAX });
+    assert_eq!(rt; book.counts(&mut seat), losses(u64::MAX, u64::MAX));
     book.overran(&mut seat);
-    assert_eq!(rt; book.counts(&mut seat), Counts { overrun: 0, discarded: u64::MAX });
+    assert_eq!(rt; book.counts(&mut seat), losses(0, u64::MAX));
     book.discarded(&mut seat);
     book.overran(&mut seat);
-    assert_eq!(rt; book.counts(&mut seat), Counts { overrun: 1, discarded: 0 });
-    assert_eq!(rt; book.close(seat).ok(), Some(Counts { overrun: 1, discarded: 0 }));
+    assert_eq!(rt; book.counts(&mut seat), losses(1, 0));
+    assert_eq!(rt; book.close(seat).ok(), Some(losses(1, 0)));
     Ok(())
 }
 
@@ -89,10 +93,7 @@ fn two_threads_add(rt: HostRuntime) -> Result<(), Fail> {
     );
     shared.join(&mut seat, first);
     shared.join(&mut seat, second);
-    let sums = Counts {
-        overrun: 20_000,
-        discarded: 40_000,
-    };
+    let sums = losses(20_000, 40_000);
     assert_eq!(rt; shared.counts(&mut seat), sums);
     assert_eq!(rt; book.close(seat).ok(), Some(sums));
     Ok(())
@@ -108,9 +109,6 @@ fn closed_at_once(alloc: Global) -> Result<Option<Counts>, AllocError>
 
 #[test]
 fn a_new_book_has_no_losses(rt: HostRuntime) -> Result<(), Fail> {
-    assert_eq!(rt;
-        closed_at_once(rt.alloc())?,
-        Some(Counts { overrun: 0, discarded: 0 })
-    );
+    assert_eq!(rt; closed_at_once(rt.alloc())?, Some(losses(0, 0)));
     Ok(())
 }

@@ -79,14 +79,8 @@ impl LossBook {
         ensures seat { IsSeatOf self.now seat.new }
         ensures counted { AreCounted seat.old.known seat.new.known result }
     {
-        let overrun = self
-            .table
-            .shared
-            .load::<Looking>(&mut seat.seat, OVERRUN);
-        let discarded = self
-            .table
-            .shared
-            .load::<Looking>(&mut seat.seat, DISCARDED);
+        let overrun = self.table.shared.load::<Looking>(&mut seat.seat, OVERRUN);
+        let discarded = self.table.shared.load::<Looking>(&mut seat.seat, DISCARDED);
         Counts { overrun, discarded }
     }
 
