@@ -1,6 +1,6 @@
 -- What a seat learns at a step, from a history and views that agree: of any deeds, and of any work.
 use Rattle.std.proofs.Common.{◌≡◌, ℕ, ◌<◌, ◌≤◌, ◌⊎◌, Some, List, [], ◌∷◌, ◌++◌}
-use Rattle.std.proofs.Common.{refl, sym, ap, subst, ◌∙◌, inl, inr, arith}
+use Rattle.std.proofs.Common.{refl, sym, ap, subst, ◌∙◌, inl, inr, append_assoc, arith}
 use Rattle.std.specs.List.{AllByRecursion, sum_by}
 use Rattle.std.proofs.lemmas.List.{append-nil}
 use mathlib.Core.Option.{some}
@@ -18,6 +18,20 @@ use Rattle.alog_lane.proofs.Rosters.{IsStep, IsLook}
 first_empty : {A : Type 0} (l m : List A) → l ++ m ≡ [] → l ≡ []
 first_empty [] m e = refl
 first_empty (x ∷ l) m e = cc
+
+-- entries that a seat made one after another
+pub made_then : {D : Type 0} (a b c : Known D) (first second : List (Entry D)) → Made a b first → Made b c second
+    → Made a c (first ++ second)
+made_then {D} a b c first second one two =
+    let P : List (Entry D) → Type 0 = λ h. IsPrefix a.seen h
+    in record {
+      seat = two.seat ∙ one.seat;
+      parts = two.parts ∙ one.parts;
+      joined = two.joined ∙ one.joined;
+      seen = subst P two.seen.1 (prefix_longer a.seen b.seen two.seen.0 one.seen);
+      own = two.own ∙ ap (λ (l : List (Entry D)). l ++ second) one.own ∙ append_assoc a.own first second;
+      faithful = two.faithful;
+    }
 
 -- the members of a seat whose stage is known
 pub by_stage : {K D W : Type 0} (id : ℕ) (v : Sight K D W) (st : Stage D W) → v.stage ≡ st → members_at id v ≡ members_by id v.known st
