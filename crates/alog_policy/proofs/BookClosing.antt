@@ -10,13 +10,14 @@ use Rattle.alog_lane.specs.declared.seat.TheConstants.{ALL_PARTS}
 use Rattle.alog_lane.specs.Seats.{Entry, Member, members_of, IsAmong, AreExact, IsFaithful, IsWhole}
 use Rattle.alog_lane.specs.Roster.{Idle, members_at}
 use Rattle.alog_lane.proofs.Lists.{found}
-use Rattle.alog_lane.proofs.Rosters.{seen_whole, all_members}
+use Rattle.alog_lane.proofs.Rosters.{all_members}
 use Rattle.alog_lane.proofs.Knowing.{by_stage}
 use Rattle.alog_policy.specs.declared.counts.Counts.{Counts}
 use Rattle.alog_policy.specs.declared.loss_book.TheConstants.{OVERRUN, DISCARDED}
 use Rattle.alog_policy.specs.BookAdds.{Add, items_of, posts_of, overrun_after, discarded_after}
 use Rattle.alog_policy.specs.BookCalls.{Closes}
 use Rattle.alog_policy.specs.BookRule.{BookSight, Ruled}
+use Rattle.alog_policy.proofs.BookSteps.{saw_all}
 use Rattle.alog_policy.proofs.BookSums.{sum_of_all}
 
 -- the seat has all parts
@@ -28,9 +29,8 @@ closes id v words slots final idle all faithful c items posts =
     in let r : Ruled s = final.1.0
     in let at : get_elem? s.views id ≡ some v = final.1.1
     in let mine : members_at id v ≡ members_of v.known = by_stage id v Idle idle
-    in let E : List (Member Add) → Type 0 = λ l. AreExact l v.known.seen
     in let exact : AreExact (members_of v.known) v.known.seen = (faithful.own, faithful.joined)
-    in let seen : v.known.seen ≡ r.history = seen_whole tt r.history s.views id v r.agrees at all (subst E (sym mine) exact)
+    in let seen : v.known.seen ≡ r.history = saw_all s r id v at idle all faithful
     in let M : List (Member Add) → Type 0 = λ l. AllByRecursion (λ (x : Entry Add). IsAmong x.seat l) r.history
     in let H : List (Entry Add) → Type 0 = λ g. AllByRecursion (λ (x : Entry Add). IsAmong x.seat (members_of v.known)) g
     in let whole : IsWhole v.known = subst H (sym seen) (subst M mine (all_members tt r.history s.views id v r.agrees at all))

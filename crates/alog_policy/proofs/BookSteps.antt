@@ -1,5 +1,5 @@
 -- Each step of a seat keeps the rule of the book.
-use Rattle.std.proofs.Common.{◌≡◌, ◌≢◌, ℕ, ◌+◌, ◌%◌, ◌^◌, ◌<◌, ◌⊎◌, Some, List, [], ◌∷◌, ◌++◌, set, length, get_or}
+use Rattle.std.proofs.Common.{◌≡◌, ℕ, ◌+◌, ◌%◌, ◌^◌, ◌<◌, ◌⊎◌, Some, List, [], ◌∷◌, ◌++◌, set, get_or}
 use Rattle.std.proofs.Common.{refl, sym, ap, subst, ◌∙◌, arith, length-set}
 use Rattle.std.specs.Prelude.{slice_index}
 use Rattle.std.specs.List.{AllByRecursion}
@@ -8,7 +8,7 @@ use Rattle.std.proofs.lemmas.List.{get_or-set_same, get_or-set_other}
 use mathlib.Core.Option.{some}
 use lib.ListN.{get_elem?}
 use lib.Seq.{set-get_or}
-use Rattle.atomic_table.specs.Table.{State, Me, keeps, Allows, Splits, Joins, opening, carried_after}
+use Rattle.atomic_table.specs.Table.{State, Me, keeps, Allows, Splits, Joins, opening}
 use Rattle.atomic_table.proofs.Lists.{set_else}
 use Rattle.alog_lane.specs.declared.seat.TheConstants.{ALL_PARTS}
 use Rattle.alog_lane.specs.Seats.{Entry, Member, own_of, members_of, IsFaithful, AreExact, having_seen}
@@ -88,6 +88,14 @@ look_keeps s id v w at i r look =
     in subst P (sym (set-get_or s.words i 0))
     (record { history = r.history; agrees = agrees_look tt r.history s.views id v w r.agrees at look; words = r.words })
 
+-- a seat with all parts has seen the whole history
+pub saw_all : (s : State (Unit {0}) BookSight) (r : Ruled s) (id : ℕ) (v : BookSight) → get_elem? s.views id ≡ some v
+    → v.stage ≡ Idle → v.known.parts ≡ ALL_PARTS → IsFaithful v.known → v.known.seen ≡ r.history
+saw_all s r id v at idle all faithful =
+    let E : List (Member Add) → Type 0 = λ l. AreExact l v.known.seen
+    in seen_whole tt r.history s.views id v r.agrees at all
+    (subst E (sym (by_stage id v Idle idle)) (faithful.own, faithful.joined))
+
 module _ (slots id : ℕ) (me : Me (Unit {0}) BookSight) where
   -- an add of so much to a word
   pub adds : (a : Add) (i much : ℕ)
@@ -108,11 +116,12 @@ module _ (slots id : ℕ) (me : Me (Unit {0}) BookSight) where
           words = tells r.history x s.words refl r.words;
         },
         record {
-          adds = record {
+          adds = λ faithful. record {
             made = its_made tt r.history s.views id me.0 r.agrees at mine a;
             before = r.history;
             longer = r.agrees.seen id me.0 at;
             ends = refl;
+            alone = λ all. sym (saw_all s r id me.0 at idle all faithful);
           };
           stage = refl;
           slots = refl;
@@ -125,7 +134,6 @@ module _ (slots id : ℕ) (me : Me (Unit {0}) BookSight) where
   looks i reads idle s r wide at _ =
       let mine : members_at id me.0 ≡ members_of me.0.known = by_stage id me.0 Idle idle
       in let w : BookSight = standing me.0 Idle (having_seen me.0.known r.history)
-      in let E : List (Member Add) → Type 0 = λ l. AreExact l me.0.known.seen
       in (
         w,
         keeps,
@@ -136,8 +144,7 @@ module _ (slots id : ℕ) (me : Me (Unit {0}) BookSight) where
           stage = refl;
           slots = refl;
           number = reads r.history s.words r.words;
-          alone = λ all faithful. sym (seen_whole tt r.history s.views id me.0 r.agrees at all
-              (subst E (sym mine) (faithful.own, faithful.joined)));
+          alone = λ all faithful. sym (saw_all s r id me.0 at idle all faithful);
         },
       )
 

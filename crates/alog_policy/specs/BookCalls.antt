@@ -1,5 +1,5 @@
 -- What the calls of a loss book promise.
-use Rattle.std.specs.Prelude.{◌≡◌, ℕ, ◌%◌, ◌^◌, List, [], ◌∷◌, ◌++◌}
+use Rattle.std.specs.Prelude.{◌≡◌, ◌%◌, ◌^◌, List, [], ◌∷◌, ◌++◌}
 use Rattle.std.specs.List.{sum_by}
 use mathlib.Core.List.{IsPrefix}
 use Rattle.atomic_table.specs.Seated.{TableId}
@@ -25,12 +25,13 @@ pub record IsSeatOf (book : BookId) (seat : SeatView) : Type 0 where
 abbrev pub by : Known Add → Add → Entry Add
 by k a = record { seat = k.seat; deed = a }
 
--- The seat made this one add, with which the history that it has seen ends.
+-- The seat made this one add, with which the history that it has seen ends. A seat with all parts had seen all before it.
 pub record Adds (old new : Known Add) (a : Add) : Type 0 where
   pub made : Made old new (by old a ∷ [])
   pub before : List (Entry Add)
   pub longer : IsPrefix old.seen before
   pub ends : new.seen ≡ before ++ by old a ∷ []
+  pub alone : old.parts ≡ ALL_PARTS → before ≡ old.seen
 
 -- The seat looked twice: the first history that it saw has all that it had seen, and gives the overrun number; the second
 -- is at least as long, and gives the discarded number. A seat with all parts had seen both.

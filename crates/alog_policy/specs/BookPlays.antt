@@ -19,7 +19,7 @@ number_at word h = if word == OVERRUN then overrun_after h else discarded_after 
 
 -- The seat made this add, and is in no call.
 pub record Added (a : Add) (m m' : Me (Unit {0}) BookSight) : Type 0 where
-  pub adds : Adds m.0.known m'.0.known a
+  pub adds : IsFaithful m.0.known → Adds m.0.known m'.0.known a
   pub stage : m'.0.stage ≡ Idle
   pub slots : m'.1 ≡ m.1
 

@@ -1,11 +1,11 @@
-ghost use Rattle.std.specs.Prelude.{◌≡◌, IfOk};
+ghost use Rattle.std.specs.Prelude.{◌≡◌, ◌+◌, ◌*◌, ◌^◌, ◌<◌, IfOk};
+ghost use Rattle.alog_policy.specs.BookAdds.{items_in, posts_in};
 ghost use Rattle.alog_policy.specs.BookCalls.{IsSeatOf};
 
 use super::*;
-use alog_lane::ALL_PARTS;
 use std::alloc::{AllocError, Global};
 use std::test::Fail;
-use std::thread;
+use std::thread::{self, Threads};
 
 fn losses(overrun: u64, discarded: u64) -> Counts {
     Counts { overrun, discarded }
@@ -64,7 +64,10 @@ fn counts_go_on_from_zero_past_the_last_number(rt: HostRuntime) -> Result<(), Fa
 // Counts so many overrun items and twice as many discarded posts.
 fn add_losses(book: &LossBook, mut seat: BookSeat, items: u64) -> BookSeat
     requires { IsSeatOf book.now seat }
-    ensures { IsSeatOf book.now result }
+    ensures seat { IsSeatOf book.now result }
+    ensures kept { (result.known.parts ≡ seat.known.parts) × (result.known.joined ≡ seat.known.joined) }
+    ensures overrun { items_in result.known.own ≡ items_in seat.known.own + items }
+    ensures discarded { posts_in result.known.own ≡ posts_in seat.known.own + 2 * items }
 {
     for _ in 0..items {
         book.overran(&mut seat);
@@ -74,28 +77,60 @@ fn add_losses(book: &LossBook, mut seat: BookSeat, items: u64) -> BookSeat
     seat
 }
 
+// What a book counts in the end where each of two threads adds so many losses is known from its contracts alone.
+fn added_by_two(rt: &impl Threads, alloc: Global, items: u64) -> Result<Option<Counts>, AllocError>
+    requires { items < 2 ^ 32 }
+    ensures { IfOk result (λ c. c ≡ Some (record { overrun = 2 * items; discarded = 4 * items })) }
+{
+    let (book, mut seat) = LossBook::new(alloc)?;
+    let shared = &book;
+    let one = shared.split(&mut seat, 1);
+    let two = shared.split(&mut seat, 1);
+    let (one, two) = thread::join(
+        rt,
+        || -> BookSeat
+            requires { IsSeatOf shared.now one }
+            ensures seat { IsSeatOf shared.entry.now result }
+            ensures kept { (result.known.parts ≡ one.known.parts) × (result.known.joined ≡ one.known.joined) }
+            ensures overrun { items_in result.known.own ≡ items_in one.known.own + items }
+            ensures discarded { posts_in result.known.own ≡ posts_in one.known.own + 2 * items }
+        { add_losses(shared, one, items) },
+        || -> BookSeat
+            requires { IsSeatOf shared.now two }
+            ensures seat { IsSeatOf shared.entry.now result }
+            ensures kept { (result.known.parts ≡ two.known.parts) × (result.known.joined ≡ two.known.joined) }
+            ensures overrun { items_in result.known.own ≡ items_in two.known.own + items }
+            ensures discarded { posts_in result.known.own ≡ posts_in two.known.own + 2 * items }
+        { add_losses(shared, two, items) },
+    );
+    shared.join(&mut seat, one);
+    shared.join(&mut seat, two);
+    Ok(book.close(seat).ok())
+}
+
 #[test]
 fn two_threads_add(rt: HostRuntime) -> Result<(), Fail> {
-    let (book, mut seat) = LossBook::new(rt.alloc())?;
-    let shared = &book;
-    let first = shared.split(&mut seat, 1);
-    let second = shared.split(&mut seat, 1);
-    let (first, second) = thread::join(
-        &rt,
-        || -> BookSeat
-            requires { IsSeatOf shared.now first }
-            ensures { IsSeatOf shared.entry.now result }
-        { add_losses(shared, first, 10_000) },
-        || -> BookSeat
-            requires { IsSeatOf shared.now second }
-            ensures { IsSeatOf shared.entry.now result }
-        { add_losses(shared, second, 10_000) },
+    assert_eq!(rt;
+        added_by_two(&rt, rt.alloc(), 10_000)?,
+        Some(losses(20_000, 40_000))
     );
-    shared.join(&mut seat, first);
-    shared.join(&mut seat, second);
-    let sums = losses(20_000, 40_000);
-    assert_eq!(rt; shared.counts(&mut seat), sums);
-    assert_eq!(rt; book.close(seat).ok(), Some(sums));
+    Ok(())
+}
+
+// Where one seat has all parts, what its book counts is known from the contracts alone.
+fn counted_alone(alloc: Global) -> Result<Counts, AllocError>
+    ensures { IfOk result (λ c. c ≡ record { overrun = 1; discarded = 2 }) }
+{
+    let (book, mut seat) = LossBook::new(alloc)?;
+    book.overran(&mut seat);
+    book.discarded(&mut seat);
+    book.discarded(&mut seat);
+    Ok(book.counts(&mut seat))
+}
+
+#[test]
+fn a_lone_seat_counts_its_own(rt: HostRuntime) -> Result<(), Fail> {
+    assert_eq!(rt; counted_alone(rt.alloc())?, losses(1, 2));
     Ok(())
 }
 

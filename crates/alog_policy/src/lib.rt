@@ -21,6 +21,7 @@ mod book_view;
 mod counts;
 mod loss_book;
 
+pub use alog_lane::ALL_PARTS;
 pub use book_close::SeatsOut;
 pub use book_seat::BookSeat;
 pub use counts::Counts;
