@@ -38,14 +38,14 @@ posts_more : (h : List (Entry Add)) (x : Entry Add) → posts_in (h ++ x ∷ [])
 posts_more h x = sum_with_last (λ (y : Entry Add). posts_of y.deed) h x
 
 -- the words after an add to the one or the other
-pub tells_items : (items : ℕ) (h : List (Entry Add)) (x : Entry Add) (words : List ℕ) → x.deed ≡ Overran items → Tells h words
+tells_items : (items : ℕ) (h : List (Entry Add)) (x : Entry Add) (words : List ℕ) → x.deed ≡ Overran items → Tells h words
     → Tells (h ++ x ∷ []) (set words OVERRUN ((slice_index words OVERRUN + items) % 2 ^ 64))
 tells_items items h x words deed tells =
     let n : ℕ = (slice_index words OVERRUN + items) % 2 ^ 64
     in let here : items_of x.deed ≡ items = ap items_of deed
     in let there : posts_of x.deed ≡ 0 = ap posts_of deed
-    in let posts : posts_in (h ++ x ∷ []) ≡ posts_in h = let more : posts_in (h ++ x ∷ []) ≡ posts_in h + posts_of x.deed = posts_more h x
-    in omega (arith, more, there)
+    in let more : posts_in (h ++ x ∷ []) ≡ posts_in h + posts_of x.deed = posts_more h x
+    in let posts : posts_in (h ++ x ∷ []) ≡ posts_in h = omega (arith, more, there)
     in record {
       count = length-set words OVERRUN n ∙ tells.count;
       overrun =
@@ -57,14 +57,14 @@ tells_items items h x words deed tells =
           ∙ ap (λ (m : ℕ). m % 2 ^ 64) (sym posts);
     }
 
-pub tells_posts : (posts : ℕ) (h : List (Entry Add)) (x : Entry Add) (words : List ℕ) → x.deed ≡ Discarded posts → Tells h words
+tells_posts : (posts : ℕ) (h : List (Entry Add)) (x : Entry Add) (words : List ℕ) → x.deed ≡ Discarded posts → Tells h words
     → Tells (h ++ x ∷ []) (set words DISCARDED ((slice_index words DISCARDED + posts) % 2 ^ 64))
 tells_posts posts h x words deed tells =
     let n : ℕ = (slice_index words DISCARDED + posts) % 2 ^ 64
     in let here : posts_of x.deed ≡ posts = ap posts_of deed
     in let there : items_of x.deed ≡ 0 = ap items_of deed
-    in let items : items_in (h ++ x ∷ []) ≡ items_in h = let more : items_in (h ++ x ∷ []) ≡ items_in h + items_of x.deed = items_more h x
-    in omega (arith, more, there)
+    in let more : items_in (h ++ x ∷ []) ≡ items_in h + items_of x.deed = items_more h x
+    in let items : items_in (h ++ x ∷ []) ≡ items_in h = omega (arith, more, there)
     in record {
       count = length-set words DISCARDED n ∙ tells.count;
       overrun = get_or-set_other words DISCARDED OVERRUN n 0 (λ e. absurd (omega arith)) ∙ tells.overrun
@@ -98,7 +98,7 @@ saw_all s r id v at idle all faithful =
 
 module _ (slots id : ℕ) (me : Me (Unit {0}) BookSight) where
   -- an add of so much to a word
-  pub adds : (a : Add) (i much : ℕ)
+  adds : (a : Add) (i much : ℕ)
       → ((h : List (Entry Add)) (x : Entry Add) (words : List ℕ) → x.deed ≡ a → Tells h words
       → Tells (h ++ x ∷ []) (set words i ((slice_index words i + much) % 2 ^ 64)))
       → me.0.stage ≡ Idle → Allows Ruled slots id me i (λ n. (n + much) % 2 ^ 64) (λ n m. Added a me m)
@@ -112,7 +112,8 @@ module _ (slots id : ℕ) (me : Me (Unit {0}) BookSight) where
         tt,
         record {
           history = r.history ++ x ∷ [];
-          agrees = agrees_step tt r.history (x ∷ []) s.views id me.0 w r.agrees at (its_step tt r.history s.views id me.0 r.agrees at mine a);
+          agrees = agrees_step tt r.history (x ∷ []) s.views id me.0 w r.agrees at
+              (its_step tt r.history s.views id me.0 r.agrees at mine a);
           words = tells r.history x s.words refl r.words;
         },
         record {
@@ -127,6 +128,14 @@ module _ (slots id : ℕ) (me : Me (Unit {0}) BookSight) where
           slots = refl;
         },
       )
+
+  pub adds_items : (items : ℕ) → me.0.stage ≡ Idle
+      → Allows Ruled slots id me OVERRUN (λ n. (n + items) % 2 ^ 64) (λ n m. Added (Overran items) me m)
+  adds_items items = adds (Overran items) OVERRUN items (tells_items items)
+
+  pub adds_posts : (posts : ℕ) → me.0.stage ≡ Idle
+      → Allows Ruled slots id me DISCARDED (λ n. (n + posts) % 2 ^ 64) (λ n m. Added (Discarded posts) me m)
+  adds_posts posts = adds (Discarded posts) DISCARDED posts (tells_posts posts)
 
   -- a look at a word
   pub looks : (i : ℕ) → ((h : List (Entry Add)) (words : List ℕ) → Tells h words → slice_index words i ≡ number_at i h)

@@ -28,7 +28,10 @@ module _ {D : Type 0} (f : Entry D → ℕ) where
 
   none : (members : List (Member D)) → sum_of members [] ≡ 0
   none [] = refl
-  none (m ∷ members) = let others : sum_of members [] ≡ 0 = none members in let one : sum_of (m ∷ members) [] ≡ 0 + sum_of members [] = more m members [] in omega (arith, one, others)
+  none (m ∷ members) =
+      let one : sum_of (m ∷ members) [] ≡ 0 + sum_of members [] = more m members []
+      in let others : sum_of members [] ≡ 0 = none members
+      in omega (arith, one, others)
 
   -- one more entry is one seat's, and no other's
   here : (a : ℕ) (x : Entry D) (h : List (Entry D)) → x.seat ≡ a → sum_by f (own_of a (x ∷ h)) ≡ f x + sum_by f (own_of a h)

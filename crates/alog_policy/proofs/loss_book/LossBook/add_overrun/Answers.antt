@@ -1,7 +1,5 @@
 use Rattle.std.proofs.Common.{sym, ap, ◌∙◌, arith}
-use Rattle.alog_policy.specs.declared.loss_book.TheConstants.{OVERRUN}
-use Rattle.alog_policy.specs.BookAdds.{Overran}
-use Rattle.alog_policy.proofs.BookSteps.{adds, tells_items}
+use Rattle.alog_policy.proofs.BookSteps.{adds_items}
 use Rattle.alog_policy.proofs.loss_book.LossBook.add_overrun.Goals as goal
 
 pub fetch_add-requires : goal.fetch_add-requires
@@ -10,6 +8,5 @@ fetch_add-requires c =
     in (
       ap (λ s. s.table) c.seat.view_is ∙ c.requires.table ∙ ap (λ b. b.table) (sym c.self.view_is),
       omega (arith, c.self.inside.sized.0),
-      adds c.self.inside.table.shared.table_id.slots seat.id seat.me (Overran c.args.items) OVERRUN c.args.items (tells_items c.args.items)
-          c.seat.invariant.0,
+      adds_items c.self.inside.table.shared.table_id.slots seat.id seat.me c.args.items c.seat.invariant.0,
     )
