@@ -14,7 +14,7 @@ use Rattle.alog_lane.specs.Rule.{LaneSight, Ruled}
 use Rattle.alog_lane.specs.Calls.{Closes}
 use Rattle.alog_lane.proofs.Lists.{same_or_not, one_value}
 use Rattle.alog_lane.proofs.Rosters.{others_have_none, seen_whole, all_members}
-use Rattle.alog_lane.proofs.Steps.{has_parts}
+use Rattle.alog_lane.proofs.Knowing.{has_parts}
 
 module _ {T I S R : Type 0} (turns : T → S → I → R → T → S → Type 0) (may : T → I → S → Type 0) (first : T) where
   abbrev View : Type 0
@@ -51,7 +51,7 @@ module _ {T I S R : Type 0} (turns : T → S → I → R → T → S → Type 0)
             }
         | inr held ↦
             absurd
-            (let owner_parts : 0 < held.view.known.parts = has_parts turns may first s r held.owner held.view held.at
+            (let owner_parts : 0 < held.view.known.parts = has_parts first r.history s.views held.owner held.view r.agrees held.at
             (ap (λ (z : Stage Deed T). members_by held.owner held.view.known z) held.stage)
             in elim (same_or_not held.owner id) [
               | inl same ↦ (let G : ℕ → Type 0 = λ i. get_elem? s.views i ≡ some held.view

@@ -1,5 +1,6 @@
 pub mod Lists
 pub mod Rosters
+pub mod Knowing
 pub mod Dividing
 pub mod Joining
 pub mod Steps

@@ -25,7 +25,7 @@ module _ {A : Type 0} where
   inside (x ∷ xs) zero a e = omega arith
   inside (x ∷ xs) (suc i) a e = let tail : i < length xs = inside xs i a e in omega arith
 
-  found : (l : List A) (i : ℕ) (a d : A) → get_elem? l i ≡ some a → get_or l i d ≡ a
+  pub found : (l : List A) (i : ℕ) (a d : A) → get_elem? l i ≡ some a → get_or l i d ≡ a
   found [] i a d e = absurd (some-ne-none a (sym e))
   found (x ∷ xs) zero a d e = some-injective x a e
   found (x ∷ xs) (suc i) a d e = found xs i a d e

@@ -1,28 +1,14 @@
 -- Seats split off and joined: what the steps owe, at the views that they find.
-use Rattle.std.proofs.Common.{◌≡◌, ℕ, ◌⊎◌, List, refl, sym, ap, subst, inl, inr}
-use Rattle.std.specs.List.{AllByRecursion}
+use Rattle.std.proofs.Common.{◌≡◌, ℕ, List, refl, sym, ap, subst}
 use Rattle.atomic_table.specs.Table.{State, Me, Allows, carried_after}
 use Rattle.alog_lane.specs.declared.view.Cabin.{Cabin}
-use Rattle.alog_lane.specs.Seats.{Entry, Member, Known, own_of, members_of, IsFaithful, with_other}
+use Rattle.alog_lane.specs.Seats.{Entry, IsFaithful}
 use Rattle.alog_lane.specs.Roster.{Stage, Joined, taking_in, given_part}
 use Rattle.alog_lane.specs.Turns.{Turned}
 use Rattle.alog_lane.specs.Rule.{LaneSight, Ruled}
 use Rattle.alog_lane.specs.Plays.{was_named, saw_both}
-use Rattle.alog_lane.proofs.Lists.{each_of, each_append}
+use Rattle.alog_lane.proofs.Knowing.{old_members}
 use Rattle.alog_lane.proofs.Steps.{names, sees_both}
-
-module _ {D : Type 0} where
-  -- the members of two seats are exact in what the one or the other had seen
-  old_members : (k l : Known D) → IsFaithful k → IsFaithful l
-      → AllByRecursion (λ (c : Member D). (c.own ≡ own_of c.seat k.seen)
-      ⊎ (c.own ≡ own_of c.seat l.seen)) (members_of (with_other k l))
-  old_members k l first second =
-      let E : Member D → Type 0 = λ c. (c.own ≡ own_of c.seat k.seen) ⊎ (c.own ≡ own_of c.seat l.seen)
-      in let mine : AllByRecursion E k.joined = each_of (λ
-      (c : Member D). c.own ≡ own_of c.seat k.seen) E k.joined (λ c e. inl e) first.joined
-      in let its : AllByRecursion E (members_of l) = each_of (λ
-      (c : Member D). c.own ≡ own_of c.seat l.seen) E (members_of l) (λ c e. inr e) (second.own, second.joined)
-      in (inl first.own, each_append E k.joined (members_of l) mine its)
 
 module _ {T I S R : Type 0} (turns : T → S → I → R → T → S → Type 0) (may : T → I → S → Type 0) (first : T) (slots id : ℕ) where
   abbrev View : Type 0

@@ -1,29 +1,28 @@
 -- Each step of a seat keeps the rule of the lane.
-use Rattle.std.proofs.Common.{◌≡◌, ◌≢◌, ℕ, ◌+◌, ◌%◌, ◌^◌, ◌<◌, ◌≤◌, ◌⊎◌, eqb, Some, List, [], ◌∷◌, ◌++◌, set, length, get_or}
+use Rattle.std.proofs.Common.{◌≡◌, ◌≢◌, ℕ, ◌+◌, ◌%◌, ◌^◌, ◌<◌, ◌⊎◌, eqb, Some, List, [], ◌∷◌, ◌++◌, set, length, get_or}
 use Rattle.std.proofs.Common.{refl, sym, ap, subst, ◌∙◌, inl, inr, arith, length-set}
 use Rattle.std.specs.Prelude.{slice_index}
-use Rattle.std.specs.List.{AllByRecursion, sum_by}
-use Rattle.std.proofs.lemmas.List.{append-nil, length-append}
+use Rattle.std.specs.List.{AllByRecursion}
+use Rattle.std.proofs.lemmas.List.{length-append}
 use Rattle.std.proofs.Math.Nat.{add-mod}
 use mathlib.Core.Option.{Option, none, some, some-ne-none}
-use mathlib.Core.List.{IsPrefix}
 use lib.ListN.{get_elem?}
 use lib.Seq.{set-get_or}
 use prog.Atomic.{either}
 use Rattle.atomic_table.specs.Table.{State, Me, keeps, takes, gives, Allows, opening, put_back}
 use Rattle.atomic_table.proofs.Lists.{at_set, set_else, set_here, set_again}
-use Rattle.alog_lane.specs.declared.seat.TheConstants.{ALL_PARTS}
 use Rattle.alog_lane.specs.declared.view.Cabin.{Cabin}
-use Rattle.alog_lane.specs.Seats.{Entry, Member, Known, own_of, members_of, IsAmong, AreDistinct, AreExact, Made, IsFaithful, having_seen}
-use Rattle.alog_lane.specs.Roster.{Stage, Idle, Fresh, Joined, Working, members_by, members_at, parts_of}
-use Rattle.alog_lane.specs.Roster.{gone, first_sight}
+use Rattle.alog_lane.specs.Seats.{Entry, Member, Known, own_of, members_of, having_seen}
+use Rattle.alog_lane.specs.Roster.{Stage, Idle, Fresh, Joined, Working, members_by, members_at}
+use Rattle.alog_lane.specs.Roster.{first_sight}
 use Rattle.alog_lane.specs.Turns.{Turned, Turns, Leads}
 use Rattle.alog_lane.specs.Rule.{LaneSight, index_after, Keeps, Reaches, IsFree, IsHeld, Ruled}
-use Rattle.alog_lane.specs.Plays.{was_named, saw_both, tried, GaveBack}
-use Rattle.alog_lane.proofs.Lists.{same_or_not, inside, one_value, prefix_same, prefix_longer, at_end, own_of-append, own_of_one}
-use Rattle.alog_lane.proofs.Lists.{own_of_other, at_most, longer_of, exact_between, exact_apart}
-use Rattle.alog_lane.proofs.Rosters.{IsStep, IsLook, agrees_step, agrees_look, agrees_first}
+use Rattle.alog_lane.specs.Plays.{standing, was_named, saw_both, tried, GaveBack}
+use Rattle.alog_lane.proofs.Lists.{same_or_not, inside, one_value, prefix_same, at_end}
+use Rattle.alog_lane.proofs.Rosters.{IsLook, agrees_step, agrees_look, agrees_first}
 use Rattle.alog_lane.proofs.Rosters.{others_have_none}
+use Rattle.alog_lane.proofs.Knowing.{by_stage, has_parts, its_key, looks_at_all, with_entry, its_step, its_made, named, look_of_named}
+use Rattle.alog_lane.proofs.Knowing.{named_is_told, seeing_both, look_of_both, both_is_told}
 
 module _ {T I S R : Type 0} (turns : T → S → I → R → T → S → Type 0) where
   -- one more turn
@@ -31,10 +30,6 @@ module _ {T I S R : Type 0} (turns : T → S → I → R → T → S → Type 0)
       → Turns turns w x.deed u → Leads turns v (h ++ x ∷ []) u
   leads_more v [] w x u same turn = let P : T → Type 0 = λ z. Turns turns z x.deed u in (u, subst P (sym same) turn, refl)
   leads_more v (y ∷ h) w x u leads turn = (leads.0, leads.1, leads_more leads.0 h w x u leads.2 turn)
-
-first_empty : {A : Type 0} (l m : List A) → l ++ m ≡ [] → l ≡ []
-first_empty [] m e = refl
-first_empty (x ∷ l) m e = cc
 
 -- the lock word is the one word
 word_set : (l : List ℕ) (x : ℕ) → length l ≡ 1 → slice_index (set l 0 x) 0 ≡ x
@@ -142,42 +137,12 @@ module _ {T I S R : Type 0} (turns : T → S → I → R → T → S → Type 0)
           lock = lock_stays r.history s.words s.homes s.views (set s.views id w) back_set forth_set r.lock;
         })
 
-  -- what a seat that knows its number, with parts, is told of the history
-  module _ (s : State (Cabin T I R S) View) (r : Ruled turns may first s) (id : ℕ) (v : View) (at : get_elem? s.views id ≡ some v)
-      (mine : members_at id v ≡ members_of v.known) where
-    members_exact : AreExact (members_of v.known) r.history
-    members_exact = let P : List (Member Deed) → Type 0 = λ l. AreExact l r.history in subst P mine (r.agrees.exact id v at)
-
-    members_distinct : AreDistinct (members_of v.known)
-    members_distinct = let P : List (Member Deed) → Type 0 = λ l. AreDistinct l in subst P mine (r.agrees.distinct id v at)
-
-    pub has_parts : 0 < v.known.parts
-    has_parts = r.agrees.parted id v at v.known.seat (let P : List (Member Deed) → Type 0 = λ l. IsAmong v.known.seat l
-        in subst P (sym mine) (inl refl))
-
-    its_key : v.key ≡ Some first
-    its_key = r.agrees.keyed id v at has_parts
-
-    -- it looks at the whole history
-    looks_at_all : Made v.known (having_seen v.known r.history) []
-    looks_at_all = record {
-      seat = refl;
-      parts = refl;
-      joined = refl;
-      seen = r.agrees.seen id v at;
-      own = sym (append-nil v.known.own);
-      faithful = record { own = members_exact.0; joined = members_exact.1; distinct = members_distinct };
-    }
-
   module _ (slots id : ℕ) (me : Me (Cabin T I R S) View) where
-    by_stage : (st : Stage Deed T) → me.0.stage ≡ st → members_at id me.0 ≡ members_by id me.0.known st
-    by_stage st is = ap (λ (z : Stage Deed T). members_by id me.0.known z) is
-
     -- the exchange of the lock word
     pub tries : me.0.stage ≡ Idle → Allows (λ (s : State (Cabin T I R S) View). Ruled turns may first s) slots id me 0 (λ n. either
         (eqb n 0) 1 n) (λ n m. tried turns may me n m)
     tries idle s r wide at _ =
-        let mine : members_at id me.0 ≡ members_of me.0.known = by_stage Idle idle
+        let mine : members_at id me.0 ≡ members_of me.0.known = by_stage id me.0 Idle idle
         in elim r.lock [
           | inl free ↦
               let c : Cabin T I R S = free.cabin
@@ -221,12 +186,12 @@ module _ {T I S R : Type 0} (turns : T → S → I → R → T → S → Type 0)
                 (
                   (λ _. record {
                     first = first;
-                    key = its_key s r id me.0 at mine;
+                    key = its_key first r.history s.views id me.0 r.agrees at mine;
                     cabin = c;
                     taken = refl;
                     stage = refl;
                     same_key = refl;
-                    looks = looks_at_all s r id me.0 at mine;
+                    looks = looks_at_all first r.history s.views id me.0 r.agrees at mine;
                     reaches = free.reaches;
                     count = free.count;
                   }),
@@ -243,7 +208,7 @@ module _ {T I S R : Type 0} (turns : T → S → I → R → T → S → Type 0)
               in let one : held.view ≡ me.0 = one_value s.views id held.view me.0 (subst G same held.at) at
               in let wrong : ◌≡◌ {A = Stage Deed T} Idle (Working held.value) = sym idle ∙ sym (ap (λ (z : View). z.stage) one)
               ∙ held.stage in cc
-              in let owner_parts : 0 < held.view.known.parts = has_parts s r held.owner held.view held.at (ap
+              in let owner_parts : 0 < held.view.known.parts = has_parts first r.history s.views held.owner held.view r.agrees held.at (ap
               (λ (z : Stage Deed T). members_by held.owner held.view.known z) held.stage)
               in (
                 me.0,
@@ -268,7 +233,7 @@ module _ {T I S R : Type 0} (turns : T → S → I → R → T → S → Type 0)
         → c.turns ≡ index_after (me.0.known.seen ++ record { seat = me.0.known.seat; deed = t } ∷ [])
         → Allows (λ (s : State (Cabin T I R S) View). Ruled turns may first s) slots id me 0 (λ _. 0) (λ _ m. GaveBack t me m)
     gives_back x c t more stage has turn keeping number s r wide at _ =
-        let mine : members_at id me.0 ≡ members_of me.0.known = by_stage (Working x) stage
+        let mine : members_at id me.0 ≡ members_of me.0.known = by_stage id me.0 (Working x) stage
         in let k : Known Deed = me.0.known
         in let e : Entry Deed = record { seat = k.seat; deed = t }
         in elim r.lock [
@@ -284,31 +249,7 @@ module _ {T I S R : Type 0} (turns : T → S → I → R → T → S → Type 0)
               in let X : T → Type 0 = λ z. Reaches turns may first r.history z
               in let reached : X x = subst X is_x held.reaches
               in let h' : List (Entry Deed) = r.history ++ e ∷ []
-              in let k' : Known Deed = record { seat = k.seat; parts = k.parts; seen = h'; own = k.own ++ e ∷ []; joined = k.joined }
-              in let w' : View = record { key = me.0.key; stage = Idle; known = k' }
-              in let exact : AreExact (members_of k) r.history = members_exact s r id me.0 at mine
-              in let distinct : AreDistinct (members_of k) = members_distinct s r id me.0 at mine
-              in let own_now : k.own ++ e ∷ [] ≡ own_of k.seat h' = sym (own_of-append k.seat r.history (e ∷ [])
-              ∙ (λ i. sym exact.0 i ++ own_of_one e i))
-              in let joined_now : AreExact k.joined h' = exact_apart k.joined r.history (e ∷ []) (λ b is. own_of_other b e
-              (λ again. let N : ℕ → Type 0 = λ z. IsAmong z k.joined in distinct.0 (subst N again is))) exact.1
-              in let faithful : IsFaithful k' = record { own = own_now; joined = joined_now; distinct = distinct }
-              in let step : IsStep r.history (e ∷ []) id me.0 w' = record {
-                key = refl;
-                parts = refl;
-                back = λ c is. let P : List (Member Deed) → Type 0 = λ l. IsAmong c l in subst P (sym mine) is;
-                forth = λ c is. let P : List (Member Deed) → Type 0 = λ l. IsAmong c l in subst P mine is;
-                seen = prefix_same h';
-                other = λ z is. let wrong : ◌≡◌ {A = Stage Deed T} Idle (Joined z) = is in cc;
-                exact = (own_now, joined_now);
-                distinct = distinct;
-                makers = λ b some_own. elim (same_or_not b k.seat) [
-                  | inl is ↦ (let P : List (Member Deed)
-                      → Type 0 = λ l. IsAmong b l in subst P (sym mine) (inl is))
-                  | inr other ↦ absurd
-                      (some_own (own_of_other b e other))
-                ];
-              }
+              in let w' : View = standing me.0 Idle (with_entry first r.history s.views id me.0 r.agrees at mine t)
               in let home_len : 0 < length s.homes = (let l : length s.homes ≡ 1 = r.homes in omega arith)
               in let H : List (ℕ × Cabin T I R S) → Type 0 = λ l. get_elem? (put_back s.homes l) 0 ≡ some (some c)
               in let n_is : c.turns ≡ index_after h' = number ∙ ap (λ (g : List (Entry Deed)). index_after (g ++ e ∷ [])) seen
@@ -320,7 +261,8 @@ module _ {T I S R : Type 0} (turns : T → S → I → R → T → S → Type 0)
                 tt,
                 record {
                   history = h';
-                  agrees = agrees_step first r.history (e ∷ []) s.views id me.0 w' r.agrees at step;
+                  agrees = agrees_step first r.history (e ∷ []) s.views id me.0 w' r.agrees at
+                      (its_step first r.history s.views id me.0 r.agrees at mine t);
                   words = length-set s.words 0 0 ∙ r.words;
                   homes = subst L (sym has) (length-set s.homes 0 (some c) ∙ r.homes);
                   lock =
@@ -342,14 +284,7 @@ module _ {T I S R : Type 0} (turns : T → S → I → R → T → S → Type 0)
                       });
                 },
                 record {
-                  made = record {
-                    seat = refl;
-                    parts = refl;
-                    joined = refl;
-                    seen = prefix_longer k.seen r.history (e ∷ []) (r.agrees.seen id me.0 at);
-                    own = refl;
-                    faithful = faithful;
-                  };
+                  made = its_made first r.history s.views id me.0 r.agrees at mine t;
                   seen = ap (λ (g : List (Entry Deed)). g ++ e ∷ []) (sym seen);
                   stage = refl;
                   same_key = refl;
@@ -361,75 +296,29 @@ module _ {T I S R : Type 0} (turns : T → S → I → R → T → S → Type 0)
     -- a new seat learns its number
     pub names : me.0.stage ≡ Fresh → me.0.known.own ≡ [] → me.0.known.joined ≡ []
         → Allows (λ (s : State (Cabin T I R S) View). Ruled turns may first s) slots id me 0 (λ n. n) (λ n m. was_named me m)
-    names fresh none_own alone s r wide at _ =
-        let k : Known Deed = me.0.known
-        in let k' : Known Deed = record { seat = id; parts = k.parts; seen = k.seen; own = k.own; joined = k.joined }
-        in let w : View = record { key = me.0.key; stage = Idle; known = k' }
-        in let its : members_at id me.0 ≡ record { seat = id; own = [] } ∷ [] = by_stage Fresh fresh
-        in let now : members_of k' ≡ record { seat = id; own = [] } ∷ [] = λ i. record { seat = id; own = none_own i } ∷ alone i
-        in let E : List (Member Deed) → Type 0 = λ l. AreExact l r.history
-        in let exact : E (record { seat = id; own = [] } ∷ []) = subst E its (r.agrees.exact id me.0 at)
-        in let p : IsPrefix k.seen r.history = r.agrees.seen id me.0 at
-        in let F : List (Entry Deed) → Type 0 = λ g. [] ≡ own_of id g
-        in let cut : [] ≡ own_of id k.seen ++ own_of id p.0 = subst F (sym p.1) exact.0 ∙ own_of-append id k.seen p.0
-        in (
-          w,
-          keeps,
-          tt,
-          look_keeps s id me.0 w at (λ x is. let wrong : ◌≡◌ {A = Stage Deed T} Fresh (Working x) = sym fresh ∙ is
-              in cc) (λ x is. let wrong : ◌≡◌ {A = Stage Deed T} Idle (Working x) = is in cc) 0 r
-              (record {
-                key = refl;
-                parts = refl;
-                members = now ∙ sym its;
-                seen = p;
-                other = λ z is. let wrong : ◌≡◌ {A = Stage Deed T} Idle (Joined z) = is in cc;
-              }),
-          (
-            id,
-            refl,
-            record {
-              own = none_own ∙ sym (first_empty (own_of id k.seen) (own_of id p.0) (sym cut));
-              joined = (let J : List (Member Deed) → Type 0 = λ l. AreExact l k.seen in subst J (sym alone) tt);
-              distinct = (let J : List (Member Deed) → Type 0 = λ l. AreDistinct l in subst J (sym now) ((λ is. is), tt));
-            },
-            refl,
-          ),
-        )
+    names fresh none_own alone s r wide at _ = (
+      named first r.history s.views id me.0 r.agrees at fresh none_own alone,
+      keeps,
+      tt,
+      look_keeps s id me.0 (named first r.history s.views id me.0 r.agrees at fresh none_own alone) at
+          (λ x is. let wrong : ◌≡◌ {A = Stage Deed T} Fresh (Working x) = sym fresh ∙ is in cc)
+          (λ x is. let wrong : ◌≡◌ {A = Stage Deed T} Idle (Working x) = is in cc)
+          0 r (look_of_named first r.history s.views id me.0 r.agrees at fresh none_own alone),
+      named_is_told first r.history s.views id me.0 r.agrees at fresh none_own alone me.1,
+    )
 
     -- a seat into which another was joined sees what both had seen
     pub sees_both : (g : List (Entry Deed)) → me.0.stage ≡ Joined g
         → AllByRecursion (λ (c : Member Deed). (c.own ≡ own_of c.seat me.0.known.seen)
         ⊎ (c.own ≡ own_of c.seat g)) (members_of me.0.known)
         → Allows (λ (s : State (Cabin T I R S) View). Ruled turns may first s) slots id me 0 (λ n. n) (λ n m. saw_both g me m)
-    sees_both g stage old s r wide at _ =
-        let k : Known Deed = me.0.known
-        in let mine : members_at id me.0 ≡ members_of k = by_stage (Joined g) stage
-        in let found = longer_of k.seen g r.history (r.agrees.seen id me.0 at) (r.agrees.other id me.0 at g stage)
-        in let h : List (Entry Deed) = found.0
-        in let w : View = record { key = me.0.key; stage = Idle; known = having_seen k h }
-        in let exact : AreExact (members_of k) r.history = members_exact s r id me.0 at mine
-        in let exact_now : AreExact (members_of k) h = exact_between k.seen g h r.history found.1 found.2 (members_of k) exact old
-        in (
-          w,
-          keeps,
-          tt,
-          look_keeps s id me.0 w at (λ x is. let wrong : ◌≡◌ {A = Stage Deed T} (Joined g) (Working x) = sym stage ∙ is
-              in cc) (λ x is. let wrong : ◌≡◌ {A = Stage Deed T} Idle (Working x) = is in cc) 0 r
-              (record {
-                key = refl;
-                parts = refl;
-                members = sym mine;
-                seen = found.2;
-                other = λ z is. let wrong : ◌≡◌ {A = Stage Deed T} Idle (Joined z) = is in cc;
-              }),
-          (
-            h,
-            found.1,
-            refl,
-            (let most : k.parts ≤ sum_by parts_of s.views = at_most parts_of s.views id me.0 gone refl at
-                in let sum : sum_by parts_of s.views ≡ ALL_PARTS = r.agrees.whole in omega arith),
-            record { own = exact_now.0; joined = exact_now.1; distinct = members_distinct s r id me.0 at mine },
-            refl,
-          ),
-        )
+    sees_both g stage old s r wide at _ = (
+      seeing_both first r.history s.views id me.0 r.agrees at g stage old,
+      keeps,
+      tt,
+      look_keeps s id me.0 (seeing_both first r.history s.views id me.0 r.agrees at g stage old) at
+          (λ x is. let wrong : ◌≡◌ {A = Stage Deed T} (Joined g) (Working x) = sym stage ∙ is in cc)
+          (λ x is. let wrong : ◌≡◌ {A = Stage Deed T} Idle (Working x) = is in cc)
+          0 r (look_of_both first r.history s.views id me.0 r.agrees at g stage old),
+      both_is_told first r.history s.views id me.0 r.agrees at g stage old me.1,
+    )

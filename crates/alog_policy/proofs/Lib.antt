@@ -1,0 +1,4 @@
+pub mod BookSteps
+pub mod BookCounting
+pub mod BookSums
+pub mod BookClosing

@@ -1,0 +1,4 @@
+pub mod BookAdds
+pub mod BookCalls
+pub mod BookRule
+pub mod BookPlays
