@@ -1,4 +1,4 @@
-use Rattle.std.proofs.Common.{◌≡◌, ℕ, ◌+◌, ◌%◌, ◌^◌, Option, List, ◌∷◌, [], refl, sym, ap, subst, ◌∙◌}
+use Rattle.std.proofs.Common.{◌≡◌, ℕ, Option, List, ◌∷◌, [], refl, sym, ap, subst, ◌∙◌}
 use Rattle.atomic_table.specs.Table.{rest}
 use Rattle.alog_lane.specs.declared.view.Cabin.{Cabin}
 use Rattle.alog_lane.specs.declared.view.Done.{Done}
@@ -14,7 +14,7 @@ pub returns-clause-took : goal.returns-clause-took
 returns-clause-took g c =
     let Slot : Type 0 = Cabin g.row.T.Denot g.row.T-Item.Denot g.row.T-Reply.Denot g.row.T-Scratch.Denot
     in let old : Slot = c.slot_mut-cabin.result.now
-    in let new : Slot = record { value = c.turn-reply.new.self; turns = (old.turns + 1) % 2 ^ 64; last = c.of-4.result }
+    in let new : Slot = record { value = c.turn-reply.new.self; turns = c.index_after-cabin.result; last = c.of-4.result }
     in let none_left : rest c.args.own.now.me.1 ≡ [] = ap rest c.requires.owner.1
     in let deed : Turned g.row.T-Item.Denot g.row.T-Scratch.Denot g.row.T-Reply.Denot = record {
       tag = c.args.tag;
@@ -31,7 +31,7 @@ returns-clause-took g c =
       index_is = refl;
       new = new;
       is = ap (λ (l : List (ℕ × Slot)). (0, new) ∷ l) none_left;
-      count = refl;
+      count = c.index_after-cabin.ensures;
       last = subst L (sym c.of-4.ensures) (λ i. record {
         tag = c.args.tag;
         item = c.of.ensures i;

@@ -1,0 +1,20 @@
+//! Measures sinks of `alog_sink` over files in memory, beside the bare formatter.
+//!
+//! With the word `measure` it prints the nanoseconds that a message takes; with no word it prints nothing. Read
+//! `work.rt` (the messages, and the loop that is timed) and `measure.rt` (the runs, and what is printed).
+//! `bench/sink.cpp` does the same by spdlog. Proved is that it is safe; no time is promised.
+#![tactic(auto)]
+
+mod measure;
+mod work;
+
+use anyhow::Result;
+use std::env;
+
+fn main(rt: HostRuntime) -> Result<()> {
+    let words: Vec<String> = env::args(&rt)?.collect(rt.alloc())?;
+    match words.as_slice() {
+        [_, word] if word.as_str() == "measure" => measure::measure(&rt),
+        _ => Ok(()),
+    }
+}
