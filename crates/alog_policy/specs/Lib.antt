@@ -1,0 +1,2 @@
+pub mod Post
+pub mod Progress

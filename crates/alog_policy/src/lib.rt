@@ -1,0 +1,13 @@
+//! Posts: a value is brought into the bounded queue under a policy for the case that the queue is full.
+#![tactic(auto)]
+
+mod counts;
+mod policy;
+mod progress;
+
+pub use counts::Counts;
+pub use policy::{Outcome, Policy, Why};
+pub use progress::{Lost, Progress, Side};
+
+/// A post that does not block ends after so many rounds that went on.
+pub const MOST_ROUNDS: u64 = 64;
