@@ -1,1 +1,5 @@
 pub mod Posts
+pub mod Keeping
+pub mod Working
+pub mod Leading
+pub mod Way

@@ -1,25 +1,23 @@
 -- How the events of a post go on, from round to round and to its end.
-use Rattle.std.proofs.Common.{◌≡◌, ◌≢◌, ℕ, suc, ◌+◌, ◌<◌, ◌==◌, cond, Bool, true, false, Result, Ok, Err, List, [], ◌∷◌, ◌++◌, length}
+use Rattle.std.proofs.Common.{◌≡◌, ℕ, ◌+◌, ◌<◌, cond, Ok, Err, List, [], ◌∷◌, ◌++◌, length}
 use Rattle.std.proofs.Common.{refl, sym, ap, subst, ◌∙◌, arith, zero-add, add_assoc, append_assoc, append-nil, length-append}
 use Rattle.std.specs.List.{AllByRecursion}
-use Rattle.alog_core.specs.Queue.{Event, Claim, Write, Grab, Take, Full, Empty, PushBusy, PopBusy, Spent}
+use Rattle.alog_core.specs.Queue.{Event, Full}
 use Rattle.alog_core.proofs.Cells.{on_test}
 use Rattle.alog_ring.proofs.Lists.{each_append}
-use Rattle.alog_policy.specs.Post.{Round, PushBeaten, Overran, PopBeaten, Waited, events_of_round, IsRoundUnder, End, Wrote}
-use Rattle.alog_policy.specs.Post.{OutOfTickets, NoRoom, NothingToTake, OutOfRounds, events_of_end, IsEndUnder, outcome_of}
-use Rattle.alog_policy.specs.Post.{counted, events_of_rounds, take_in, takes_in, IsPost, Part, Pushing, Claimed, Popping}
-use Rattle.alog_policy.specs.Post.{Grabbed, events_of_part, IsPartUnder, IsUnderWay}
-use Rattle.alog_policy.specs.Progress.{begun, lost, pushing, popping, with_take, counting, again_under, again, full_under}
-use Rattle.alog_policy.specs.Progress.{after_full, after_take, IsFresh, IsSoFar, Agrees}
+use Rattle.alog_policy.specs.Post.{Round, Waited, events_of_round, IsRoundUnder, End}
+use Rattle.alog_policy.specs.Post.{NoRoom, OutOfRounds, events_of_end, IsEndUnder, outcome_of}
+use Rattle.alog_policy.specs.Post.{counted, events_of_rounds, take_in, takes_in, IsPost, Part, Pushing, Popping}
+use Rattle.alog_policy.specs.Post.{events_of_part, IsPartUnder, IsUnderWay}
+use Rattle.alog_policy.specs.Progress.{begun, lost, pushing, again_under, again, full_under}
+use Rattle.alog_policy.specs.Progress.{after_full, after_take, IsSoFar, Agrees}
 use Rattle.alog_policy.specs.declared.TheConstants.{MOST_ROUNDS}
 use Rattle.alog_policy.specs.declared.policy.Policy.{Policy}
 use Rattle.alog_policy.specs.declared.policy.Policy.TheVariants.{Block, OverrunOldest, DiscardNew}
 use Rattle.alog_policy.specs.declared.policy.Why.TheVariants as why
-use Rattle.alog_policy.specs.declared.policy.Outcome.{Outcome}
-use Rattle.alog_policy.specs.declared.policy.Outcome.TheVariants.{Posted, Discarded}
+use Rattle.alog_policy.specs.declared.policy.Outcome.TheVariants.{Discarded}
 use Rattle.alog_policy.specs.declared.progress.Side.{Side}
 use Rattle.alog_policy.specs.declared.progress.Progress.{Progress}
-use Rattle.alog_policy.specs.declared.progress.Lost.{Lost}
 
 events_of_rounds-last : {T : Type 0} (rs : List (Round T)) (r : Round T)
     → events_of_rounds (rs ++ r ∷ []) ≡ events_of_rounds rs ++ events_of_round r

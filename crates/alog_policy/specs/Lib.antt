@@ -1,2 +1,3 @@
 pub mod Post
 pub mod Progress
+pub mod Outlet

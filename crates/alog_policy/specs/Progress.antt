@@ -1,5 +1,5 @@
 -- What follows in a post after a push or a pop of it.
-use Rattle.std.specs.Prelude.{◌≡◌, ℕ, ◌+◌, ◌==◌, if◌then◌else◌, List, Result, Ok, Err}
+use Rattle.std.specs.Prelude.{◌≡◌, ℕ, ◌+◌, ◌-◌, ◌*◌, ◌<◌, ◌≤◌, ◌==◌, if◌then◌else◌, List, Result, Ok, Err}
 use Rattle.alog_core.specs.Queue.{Event}
 use Rattle.alog_policy.specs.Post.{IsPost, IsUnderWay, Part, Pushing, Popping}
 use Rattle.alog_policy.specs.declared.TheConstants.{MOST_ROUNDS}
@@ -12,6 +12,12 @@ use Rattle.alog_policy.specs.declared.progress.Side.{Side}
 use Rattle.alog_policy.specs.declared.progress.Side.TheVariants.{Push, Pop}
 use Rattle.alog_policy.specs.declared.progress.Progress.{Progress}
 use Rattle.alog_policy.specs.declared.progress.Lost.{Lost}
+
+-- What is true of each post under way: it pops only where its policy is to overrun the oldest, at most once a round.
+pub record IsKept (g : Progress) : Type 0 where
+  pub within : g.rounds < MOST_ROUNDS
+  pub few : g.overran ≤ g.rounds
+  pub pops : g.side ≡ Pop → g.policy ≡ OverrunOldest
 
 -- where a post does not wait, block is read as discard new
 abbrev pub without_waiting : Policy → Policy
@@ -63,6 +69,14 @@ after_full g = full_under g.policy g
 -- after a pop that took the oldest item out
 abbrev pub after_take : Progress → Result Progress Lost
 after_take g = again (with_take g)
+
+-- at most so many pushes and pops are left to a post that does not block
+abbrev pub half : Side → ℕ
+half Push = 1
+half Pop = 0
+
+abbrev pub work : Progress → ℕ
+work g = 2 * (MOST_ROUNDS - g.rounds) + half g.side
 
 -- the part of its round that a post begins with a push or with a pop
 abbrev pub IsFresh : Side → Part → Type 0

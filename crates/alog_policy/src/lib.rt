@@ -2,11 +2,15 @@
 #![tactic(auto)]
 
 mod counts;
+mod outlet;
 mod policy;
+mod posting;
 mod progress;
 
 pub use counts::Counts;
+pub use outlet::Outlet;
 pub use policy::{Outcome, Policy, Why};
+pub use posting::post_now;
 pub use progress::{Lost, Progress, Side};
 
 /// A post that does not block ends after so many rounds that went on.

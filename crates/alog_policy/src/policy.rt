@@ -1,4 +1,6 @@
 //! What a post does where the queue is full, and how it ends.
+ghost use Rattle.std.specs.Prelude.{◌≡◌};
+ghost use Rattle.alog_policy.specs.Progress.{without_waiting};
 
 /// What a post does where the queue is full.
 #[derive(Clone, Copy, Debug, PartialEq, Eq)]
@@ -9,6 +11,18 @@ pub enum Policy {
     OverrunOldest,
     /// It gives up.
     DiscardNew,
+}
+
+impl Policy {
+    /// The policy of a post that never waits.
+    pub(crate) fn without_waiting(self) -> Policy
+        ensures { result ≡ without_waiting self }
+    {
+        match self {
+            Policy::Block | Policy::DiscardNew => Policy::DiscardNew,
+            Policy::OverrunOldest => Policy::OverrunOldest,
+        }
+    }
 }
 
 /// Why a post ended without a ticket.
