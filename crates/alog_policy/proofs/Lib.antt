@@ -3,3 +3,7 @@ pub mod Keeping
 pub mod Working
 pub mod Leading
 pub mod Way
+pub mod StepKinds
+pub mod Desks
+pub mod Turns
+pub mod DeskSteps

@@ -2,14 +2,19 @@
 #![tactic(auto)]
 
 mod counts;
+mod desk;
+mod following;
 mod outlet;
 mod policy;
+mod post;
 mod posting;
 mod progress;
 
 pub use counts::Counts;
+pub use desk::Desk;
 pub use outlet::Outlet;
 pub use policy::{Outcome, Policy, Why};
+pub use post::{Post, Stepped};
 pub use posting::post_now;
 pub use progress::{Lost, Progress, Side};
 
