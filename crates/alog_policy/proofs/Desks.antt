@@ -127,13 +127,13 @@ module _ {T : Type 0} (p : Post T) (r : Round T) (m : Move T) where
   -- the post has its value again, wherever the step ends the round
   pub has_value : Kind T r m → FitsRound p r → HasValue p (saying r m)
   has_value (IsIdle e) f = absurd (subst (λ (s : Round T). FitsRound p s) e f)
-  has_value (Pushes x h e n) f = subst (HasValue p) (sym (push_says x r m None h e)) tt
+  has_value (Pushes x h e n less) f = subst (HasValue p) (sym (push_says x r m None h e)) tt
   has_value (Claims x t h e n) f = subst (HasValue p) (sym (push_says x r m (Some (Claim t x)) h e)) tt
   has_value (FindsFull x t h e n) f = subst (HasValue p) (sym (push_says x r m (Some (Full t)) h e)) (x, refl)
   has_value (PushIsBusy x t h e n) f = subst (HasValue p) (sym (push_says x r m (Some (PushBusy t)) h e)) (x, refl)
   has_value (IsSpent x h e n) f = subst (HasValue p) (sym (push_says x r m (Some Spent) h e)) (x, refl)
   has_value (Writes t h e n) f = subst (HasValue p) (sym (says r m (Some (Write t)) e)) tt
-  has_value (Pops h e n) f = subst (HasValue p) (sym (pop_says r m None h e)) tt
+  has_value (Pops h e n less) f = subst (HasValue p) (sym (pop_says r m None h e)) tt
   has_value (Grabs t h e n) f = subst (HasValue p) (sym (pop_says r m (Some (Grab t)) h e)) tt
   has_value (FindsEmpty t h e n) f =
       subst (HasValue p) (sym (pop_says r m (Some (Empty t)) h e)) (hand_there p (pop_side p r h f))
@@ -152,14 +152,14 @@ module _ {T : Type 0} (p : Post T) (r : Round T) (m : Move T) where
   pub led_is_idle : Kind T r m → FitsRound p r → (next : Result Progress Lost)
       → follows p.progress (saying r m) ≡ Leads next → m.round ≡ round.Idle
   led_is_idle (IsIdle e) f next leads = absurd (subst (λ (s : Round T). FitsRound p s) e f)
-  led_is_idle (Pushes x h e n) f next leads = absurd (no_lead said.Nothing next (push_says x r m None h e) refl leads)
+  led_is_idle (Pushes x h e n less) f next leads = absurd (no_lead said.Nothing next (push_says x r m None h e) refl leads)
   led_is_idle (Claims x t h e n) f next leads =
       absurd (no_lead (said.Claim t) next (push_says x r m (Some (Claim t x)) h e) refl leads)
   led_is_idle (FindsFull x t h e n) f next leads = n
   led_is_idle (PushIsBusy x t h e n) f next leads = n
   led_is_idle (IsSpent x h e n) f next leads = n
   led_is_idle (Writes t h e n) f next leads = n
-  led_is_idle (Pops h e n) f next leads = absurd (no_lead said.Nothing next (pop_says r m None h e) refl leads)
+  led_is_idle (Pops h e n less) f next leads = absurd (no_lead said.Nothing next (pop_says r m None h e) refl leads)
   led_is_idle (Grabs t h e n) f next leads =
       absurd (no_lead (said.Grab t) next (pop_says r m (Some (Grab t)) h e) refl leads)
   led_is_idle (FindsEmpty t h e n) f next leads = n

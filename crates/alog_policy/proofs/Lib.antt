@@ -7,3 +7,4 @@ pub mod StepKinds
 pub mod Desks
 pub mod Turns
 pub mod DeskSteps
+pub mod Making

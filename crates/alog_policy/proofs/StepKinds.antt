@@ -1,5 +1,5 @@
 -- What kind of step each step of a round is.
-use Rattle.std.proofs.Common.{◌≡◌, ℕ, cond, Bool, true, false, Option, None, Some, refl, sym, ap, subst}
+use Rattle.std.proofs.Common.{◌≡◌, ◌<◌, ℕ, cond, Bool, true, false, Option, None, Some, refl, sym, ap, subst, arith}
 use Rattle.std.specs.Prelude.{◌==◌, ◌&&◌, ◌||◌, not, nat_lt, is_none}
 use Rattle.alog_core.specs.Queue.{Cell, Queue, Claim, Write, Grab, Take, Full, Empty, PushBusy, PopBusy, Spent, last, cell_of}
 use Rattle.alog_core.specs.Round.{Move, move_of, goes_on, makes, ends, taking, is_blocked, is_claimed}
@@ -31,16 +31,28 @@ PopSeeks (round.PopRead p) = Unit {0}
 PopSeeks (round.PopReady p) = Unit {0}
 PopSeeks (round.PopGrabbed p) = ⊥
 
+-- how many steps are left to a round, at most
+abbrev pub steps_left : {T : Type 0} → Round T → ℕ
+steps_left round.Idle = 0
+steps_left (round.Push y) = 4
+steps_left (round.PushRead p y) = 3
+steps_left (round.PushFree p y) = 2
+steps_left (round.PushClaimed p) = 1
+steps_left round.Pop = 4
+steps_left (round.PopRead p) = 3
+steps_left (round.PopReady p) = 2
+steps_left (round.PopGrabbed p) = 1
+
 -- a step of a round, by its event and where it leaves the actor
 pub data Kind (T : Type 0) (r : Round T) (m : Move T) : Type 0 where
   IsIdle : r ≡ round.Idle → Kind T r m
-  Pushes : (x : T) → PushHas x r → m.event ≡ None → PushHas x m.round → Kind T r m
+  Pushes : (x : T) → PushHas x r → m.event ≡ None → PushHas x m.round → steps_left m.round < steps_left r → Kind T r m
   Claims : (x : T) (t : ℕ) → PushHas x r → m.event ≡ Some (Claim t x) → m.round ≡ round.PushClaimed t → Kind T r m
   FindsFull : (x : T) (t : ℕ) → PushHas x r → m.event ≡ Some (Full t) → m.round ≡ round.Idle → Kind T r m
   PushIsBusy : (x : T) (t : ℕ) → PushHas x r → m.event ≡ Some (PushBusy t) → m.round ≡ round.Idle → Kind T r m
   IsSpent : (x : T) → PushHas x r → m.event ≡ Some Spent → m.round ≡ round.Idle → Kind T r m
   Writes : (t : ℕ) → r ≡ round.PushClaimed t → m.event ≡ Some (Write t) → m.round ≡ round.Idle → Kind T r m
-  Pops : PopSeeks r → m.event ≡ None → PopSeeks m.round → Kind T r m
+  Pops : PopSeeks r → m.event ≡ None → PopSeeks m.round → steps_left m.round < steps_left r → Kind T r m
   Grabs : (t : ℕ) → PopSeeks r → m.event ≡ Some (Grab t) → m.round ≡ round.PopGrabbed t → Kind T r m
   FindsEmpty : (t : ℕ) → PopSeeks r → m.event ≡ Some (Empty t) → m.round ≡ round.Idle → Kind T r m
   PopIsBusy : (t : ℕ) → PopSeeks r → m.event ≡ Some (PopBusy t) → m.round ≡ round.Idle → Kind T r m
@@ -54,7 +66,7 @@ either P false x y p q = q
 kind_push : {T : Type 0} (n : ℕ) (q : Queue T) (x : T) → Kind T (round.Push x) (move_of n q (round.Push x))
 kind_push {T} n q x =
     either (Kind T (round.Push x)) (q.next == last) (ends Spent) (goes_on (round.PushRead q.next x))
-    (IsSpent x refl refl refl) (Pushes x refl refl refl)
+    (IsSpent x refl refl refl) (Pushes x refl refl refl (omega arith))
 
 kind_push_read : {T : Type 0} (n : ℕ) (q : Queue T) (p : ℕ) (x : T)
     → Kind T (round.PushRead p x) (move_of n q (round.PushRead p x))
@@ -63,7 +75,7 @@ kind_push_read {T} n q p x =
     either (Kind T (round.PushRead p x)) (is_blocked n p q.cells) (ends (Full p))
     (cond late (ends (PushBusy p)) (goes_on (round.PushFree p x))) (FindsFull x p refl refl refl)
     (either (Kind T (round.PushRead p x)) late (ends (PushBusy p)) (goes_on (round.PushFree p x))
-    (PushIsBusy x p refl refl refl) (Pushes x refl refl refl))
+    (PushIsBusy x p refl refl refl) (Pushes x refl refl refl (omega arith)))
 
 kind_push_free : {T : Type 0} (n : ℕ) (q : Queue T) (p : ℕ) (x : T)
     → Kind T (round.PushFree p x) (move_of n q (round.PushFree p x))
@@ -78,7 +90,7 @@ kind_pop_read {T} n q p =
     either (Kind T (round.PopRead p)) unwritten (ends (Empty p))
     (cond late (ends (PopBusy p)) (goes_on (round.PopReady p))) (FindsEmpty p tt refl refl)
     (either (Kind T (round.PopRead p)) late (ends (PopBusy p)) (goes_on (round.PopReady p)) (PopIsBusy p tt refl refl)
-    (Pops tt refl tt))
+    (Pops tt refl tt (omega arith)))
 
 kind_pop_ready : {T : Type 0} (n : ℕ) (q : Queue T) (p : ℕ) → Kind T (round.PopReady p) (move_of n q (round.PopReady p))
 kind_pop_ready {T} n q p =
@@ -98,7 +110,7 @@ kind_of n q (round.Push x) has = kind_push n q x
 kind_of n q (round.PushRead p x) has = kind_push_read n q p x
 kind_of n q (round.PushFree p x) has = kind_push_free n q p x
 kind_of n q (round.PushClaimed p) has = Writes p refl refl refl
-kind_of n q round.Pop has = Pops tt refl tt
+kind_of n q round.Pop has = Pops tt refl tt (omega arith)
 kind_of n q (round.PopRead p) has = kind_pop_read n q p
 kind_of n q (round.PopReady p) has = kind_pop_ready n q p
 kind_of n q (round.PopGrabbed p) has = let c = has p refl in kind_taking p (cell_of p q.cells) c.0 c.1

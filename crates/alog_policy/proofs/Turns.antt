@@ -49,7 +49,7 @@ module _ {T : Type 0} (w : Machine T) (a : ℕ) (p : Post T) (c : Counts) (r : R
 
   pub turn_fits : Kind T r m → FitsRound p r → FitsAfter (saying r m)
   turn_fits (IsIdle e) f = absurd (subst (λ (s : Round T). FitsRound p s) e f)
-  turn_fits (Pushes x h e n) f =
+  turn_fits (Pushes x h e n less) f =
       subst FitsAfter (sym (push_says x r m None h e)) (stays_fit (fits_push p x m.round n (push_side p x r h f)))
   turn_fits (Claims x t h e n) f =
       subst FitsAfter (sym (push_says x r m (Some (Claim t x)) h e))
@@ -62,7 +62,7 @@ module _ {T : Type 0} (w : Machine T) (a : ℕ) (p : Post T) (c : Counts) (r : R
       (turn_led_fits w a p c x (again p.progress) lt (kept_again p.progress kept))
   turn_fits (IsSpent x h e n) f = subst FitsAfter (sym (push_says x r m (Some Spent) h e)) tt
   turn_fits (Writes t h e n) f = subst FitsAfter (sym (says r m (Some (Write t)) e)) tt
-  turn_fits (Pops h e n) f =
+  turn_fits (Pops h e n less) f =
       subst FitsAfter (sym (pop_says r m None h e)) (stays_fit (fits_pop p m.round n (pop_side p r h f)))
   turn_fits (Grabs t h e n) f =
       subst FitsAfter (sym (pop_says r m (Some (Grab t)) h e))
@@ -279,7 +279,7 @@ module _ {T : Type 0} (w : Machine T) (a : ℕ) (p : Post T) (c : Counts) (x : T
     -- whatever kind of step it was
     pub turn_comes : Kind T r m → After (saying r m) m.event
     turn_comes (IsIdle e) = absurd (subst (λ (u : Round T). IsAt x p.hand p.progress.side u b) e at)
-    turn_comes (Pushes y h e n) = told_after said.Nothing None (push_says y r m None h e) e (pushes y h n)
+    turn_comes (Pushes y h e n less) = told_after said.Nothing None (push_says y r m None h e) e (pushes y h n)
     turn_comes (Claims y t h e n) =
         told_after (said.Claim t) (Some (Claim t y)) (push_says y r m (Some (Claim t y)) h e) e (claims y t h n)
     turn_comes (FindsFull y t h e n) =
@@ -289,7 +289,7 @@ module _ {T : Type 0} (w : Machine T) (a : ℕ) (p : Post T) (c : Counts) (x : T
     turn_comes (IsSpent y h e n) =
         told_after (said.Spent (Some y)) (Some Spent) (push_says y r m (Some Spent) h e) e (is_spent y h)
     turn_comes (Writes t h e n) = told_after (said.Write t) (Some (Write t)) (says r m (Some (Write t)) e) e (writes t h)
-    turn_comes (Pops h e n) = told_after said.Nothing None (pop_says r m None h e) e (pops h n)
+    turn_comes (Pops h e n less) = told_after said.Nothing None (pop_says r m None h e) e (pops h n)
     turn_comes (Grabs t h e n) =
         told_after (said.Grab t) (Some (Grab t)) (pop_says r m (Some (Grab t)) h e) e (grabs t h n)
     turn_comes (FindsEmpty t h e n) =

@@ -4,3 +4,4 @@ pub mod Outlet
 pub mod Desk
 pub mod DeskInside
 pub mod Following
+pub mod Rounds

@@ -9,6 +9,7 @@ mod policy;
 mod post;
 mod posting;
 mod progress;
+mod rounds;
 
 pub use counts::Counts;
 pub use desk::Desk;
