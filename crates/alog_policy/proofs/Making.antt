@@ -1,6 +1,6 @@
 -- One round whose steps an actor makes all at once.
 use Rattle.std.proofs.Common.{◌≡◌, ℕ, ◌<◌, ◌≤◌, Option, None, Some, Result, Ok, Err, List, [], ◌∷◌, ◌++◌, length}
-use Rattle.std.proofs.Common.{refl, sym, ap, subst, ◌∙◌, arith, set, set-set, get_or-set_same, append_assoc, append-nil, true}
+use Rattle.std.proofs.Common.{refl, sym, ap, subst, ◌∙◌, arith, set, set-set, get_or-set_same, append-nil, true}
 use Rattle.std.proofs.Common.{length-set}
 use Rattle.std.specs.Prelude.{IfOk, IfErr}
 use Rattle.std.proofs.lemmas.List.{set-get_or}
@@ -20,15 +20,10 @@ use Rattle.alog_ring.specs.declared.pop.PopError.{PopError}
 use Rattle.alog_ring.specs.declared.pop.PopError.TheVariants as pop
 use Rattle.alog_policy.specs.Desk.{event_of}
 use Rattle.alog_policy.specs.Rounds.{entries_by, Makes, PushRoundRefused, PopRoundRefused, IsOfPush, IsOfPop, push_answer, pop_answer}
+use Rattle.alog_policy.specs.Together.{entries_by-append, goes_further}
 use Rattle.alog_policy.proofs.StepKinds.{PushHas, PopSeeks, Kind, IsIdle, Pushes, Claims, FindsFull, PushIsBusy, IsSpent, Writes}
 use Rattle.alog_policy.proofs.StepKinds.{Pops, Grabs, FindsEmpty, PopIsBusy, Takes, kind_of, steps_left}
 use Rattle.alog_policy.proofs.Desks.{saying, push_says, pop_says, says, round_set}
-
-pub entries_by-append : {T : Type 0} (a : ℕ) (es fs : List (Event T))
-    → entries_by a (es ++ fs) ≡ entries_by a es ++ entries_by a fs
-entries_by-append a [] fs = refl
-entries_by-append {T} a (e ∷ es) fs =
-    ap (λ (h : List (Entry T (Unit {0}))). record { actor = a; event = e; note = tt } ∷ h) (entries_by-append a es fs)
 
 entries_by-event : {T : Type 0} (a : ℕ) (o : Option (Event T)) → entries_by a (event_of o) ≡ entries_of a tt o
 entries_by-event a None = refl
@@ -38,13 +33,6 @@ entries_by-event a (Some e) = refl
 pub goes_nowhere : {T : Type 0} (n : ℕ) (q : Queue T) → GoesOn {N = Unit {0}} n q [] q
 goes_nowhere {T} n q f h stands =
     subst (λ (g : List (Entry T (Unit {0}))). StandsFor n f g q) (sym (append-nil h)) stands
-
--- one after another
-pub goes_further : {T : Type 0} (n : ℕ) (q r s : Queue T) (g h : List (Entry T (Unit {0}))) → GoesOn n q g r
-    → GoesOn n r h s → GoesOn n q (g ++ h) s
-goes_further {T} n q r s g h first then f old stands =
-    subst (λ (k : List (Entry T (Unit {0}))). StandsFor n f k s) (append_assoc old g h)
-    (then f (old ++ g) (first f old stands))
 
 -- The actor has made these events so far, and only its own round has changed.
 pub record MadeSoFar {T : Type 0} (a : ℕ) (old : Machine T) (es : List (Event T)) (now : Machine T) : Type 0 where

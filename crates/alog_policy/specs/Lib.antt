@@ -5,3 +5,6 @@ pub mod Desk
 pub mod DeskInside
 pub mod Following
 pub mod Rounds
+pub mod DeskOutlet
+pub mod Together
+pub mod Lending

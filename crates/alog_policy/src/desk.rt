@@ -1,18 +1,22 @@
 //! The stepped queue with posts: what its calls answer, and which losses they count.
-ghost use Rattle.std.specs.Prelude.{◌≡◌, ◌<◌, ◌≤◌, ◌↔◌, [], Some, None, true, false, map, IfOk, OnOk, OnErr, IfErr, IsOk, IsErrOf};
-ghost use Rattle.alog_core.specs.Queue.{last};
+ghost use Rattle.std.specs.Prelude.{◌≡◌, ℕ, ◌∷◌, ◌<◌, ◌≤◌, ◌↔◌, [], Some, None, true, false, map, IfOk, OnOk, OnErr, IfErr, IsOk, IsErrOf};
+ghost use Rattle.alog_core.specs.Queue.{last, Claim, Write};
 ghost use Rattle.alog_core.specs.History.{GoesOn};
 ghost use Rattle.alog_core.specs.World.{is_size, round_of, is_idle, shown};
 ghost use Rattle.alog_core.specs.Run.{entries_of_step};
 ghost use Rattle.alog_core.specs.declared.round.Round.TheVariants as round;
 ghost use Rattle.alog_policy.specs.Desk.{fresh_desk, call_began, post_began, desk_told, desk_stepped, IsPosting, PostGoesOn};
+ghost use Rattle.alog_policy.specs.DeskOutlet.{IsFree, DeskDid};
+ghost use Rattle.alog_policy.specs.Outlet.{PushRefused, Overran, PopRefused};
 
 use crate::counts::Counts;
 use crate::following::go_on;
 use crate::policy::Policy;
 use crate::post::{Post, Stepped};
 use crate::progress::Progress;
+use crate::rounds::{pop_round, push_round};
 use alog_core::{ACTORS, BeginError, CellView, Refused, StepError, World, WorldError};
+use alog_ring::{PopError, PushError};
 use std::alloc::{AllocError, Global};
 use std::marker::Model;
 
@@ -150,5 +154,46 @@ impl<T: Drop> Desk<T> {
         ensures { IfOk result (λ v. v.items ≡ map shown self.now.world.queue.cells) }
     {
         self.world.cells(alloc)
+    }
+
+    /// Whether a call of this actor may begin.
+    pub(crate) fn may_begin(&self, actor: u32) -> Result<(), BeginError>
+        ensures begins { IsOk result ↔ IsFree self.now actor }
+        ensures no_actor { IsErrOf result BeginError.NoActor ↔ (ACTORS ≤ actor) }
+    {
+        if actor >= ACTORS {
+            Err(BeginError::NoActor)
+        } else if self.world.is_idle(actor) {
+            Ok(())
+        } else {
+            Err(BeginError::InCall)
+        }
+    }
+
+    /// Makes one round of a push at once, by an actor that is in no call.
+    pub(crate) fn push_now(&mut self, actor: u32, value: T) -> Result<u64, PushError<T>>
+        requires { IsFree self.old actor }
+        ensures pushed { IfOk result (λ t. DeskDid actor self.old (Claim t value ∷ Write t ∷ []) 0 0 self.new) }
+        ensures refused { IfErr result (λ e. PushRefused (DeskDid actor) (λ d. IsFree d actor) self.old value e self.new) }
+    {
+        push_round(&mut self.world, actor, value)
+    }
+
+    /// Makes one round of a pop at once, by an actor that is in no call: it drops the oldest item, and counts it.
+    pub(crate) fn overrun_now(&mut self, actor: u32) -> Result<u64, PopError>
+        requires { IsFree self.old actor }
+        ensures overran { IfOk result (λ t. Overran (DeskDid actor) (λ d. IsFree d actor) self.old t self.new) }
+        ensures refused { IfErr result (λ e. PopRefused (DeskDid actor) (λ d. IsFree d actor) self.old e self.new) }
+    {
+        let (ticket, _) = pop_round(&mut self.world, actor)?;
+        self.counts.overrun = self.counts.overrun.wrapping_add(1);
+        Ok(ticket)
+    }
+
+    /// Counts a discarded post.
+    pub(crate) fn count_discarded(&mut self)
+        ensures { (a : ℕ) → DeskDid a self.old [] 0 1 self.new }
+    {
+        self.counts.discarded = self.counts.discarded.wrapping_add(1);
     }
 }

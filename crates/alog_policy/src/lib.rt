@@ -3,6 +3,7 @@
 
 mod counts;
 mod desk;
+mod desk_outlet;
 mod following;
 mod outlet;
 mod policy;
@@ -13,6 +14,7 @@ mod rounds;
 
 pub use counts::Counts;
 pub use desk::Desk;
+pub use desk_outlet::DeskOutlet;
 pub use outlet::Outlet;
 pub use policy::{Outcome, Policy, Why};
 pub use post::{Post, Stepped};
