@@ -57,7 +57,8 @@ impl<T: Drop> Desk<T> {
     /// Lends the desk to an actor, 0 to 63, that is in no call, for posts that are made at once. A refusal changes nothing.
     pub fn outlet(&mut self, actor: u32) -> Result<DeskOutlet<'_, T>, BeginError>
         ensures* lends { sem 𝓛 (LendsDesk T.row self.entry result) }
-        ensures desk { IfOk result (λ o. (o.desk.now ≡ self.old) × (o.actor ≡ actor)) }
+        ensures desk { IfOk result (λ o. (o.desk.now ≡ self.old) × (o.actor ≡ actor)
+            × (o.desk.ghost_name ≡ self.entry.ghost_name)) }
         ensures free { IsOk result ↔ IsFree self.old actor }
         ensures no_actor { IsErrOf result BeginError.NoActor ↔ (ACTORS ≤ actor) }
     {

@@ -11,6 +11,8 @@ mod post;
 mod posting;
 mod progress;
 mod rounds;
+#[cfg(test)]
+mod tests;
 
 pub use counts::Counts;
 pub use desk::Desk;
