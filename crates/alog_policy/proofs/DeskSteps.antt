@@ -54,7 +54,7 @@ desk_is {T} d w ps c e f g =
     ∙ (ap (λ (qs : List (Option (Post T))). D w qs d.counts) f ∙ ap (λ (k : Counts). D w ps k) g)
 
 -- a turn leaves the queue and its places as the step left them
-turn_queue : {T : Type 0} (w : Machine T) (a : ℕ) (p : Post T) (c : Counts) (v : Option T) (f : Follows)
+pub turn_queue : {T : Type 0} (w : Machine T) (a : ℕ) (p : Post T) (c : Counts) (v : Option T) (f : Follows)
     → (turn_to w a p c v f).world.queue ≡ w.queue
 turn_queue w a p c v Stays = refl
 turn_queue w a p c v (Ends t) = refl
@@ -111,7 +111,7 @@ module _ {T : Type 0} (d : DeskView T) (a : ℕ) (p : Post T) (kept : IsKeptDesk
             ap is_idle (here ∙ led_is_idle p (round_of d.world a) (next_move d.world a) kind fits.1 next leads);
       }
 
-  rounds_after : turn.world.rounds ≡ set d.world.rounds a (round_of turn.world a)
+  pub rounds_after : turn.world.rounds ≡ set d.world.rounds a (round_of turn.world a)
   rounds_after =
       turn_rounds left d.world.rounds (next_move d.world a).round a p (with_said d.counts (told d.world a))
       (value_in p.hand (told d.world a)) (follows p.progress (told d.world a)) in_rounds refl
@@ -181,13 +181,14 @@ post_begins {T} d e a p x kept lt world posts =
     let in_posts : a < length d.posts = omega (arith, lt, kept.posts) in
     let there : post_of e a ≡ Some post =
     ap (λ (ps : List (Option (Post T))). get_or ps a None) posts ∙ get_or-set_same d.posts a (Some post) None in_posts in
-    let here : round_of e.world a ≡ round.Push x = round_set e.world d.world.rounds a (round.Push x) in_rounds rounds in
-    (kept_set d e a (round.Push x) (Some post) kept lt (kept_begun p, (refl, refl)) rounds posts,
-    record {
-      post = post;
-      there = there;
-      under = refl;
-      part = Pushing;
-      at = subst (λ (u : Round T). IsAt x None post.progress.side u Pushing) (sym here) (refl, refl, refl, refl);
-      so_far = begun_agrees p x;
-    })
+    let here : round_of e.world a ≡ round.Push x = round_set e.world d.world.rounds a (round.Push x) in_rounds rounds in (
+      kept_set d e a (round.Push x) (Some post) kept lt (kept_begun p, (refl, refl)) rounds posts,
+      record {
+        post = post;
+        there = there;
+        under = refl;
+        part = Pushing;
+        at = subst (λ (u : Round T). IsAt x None post.progress.side u Pushing) (sym here) (refl, refl, refl, refl);
+        so_far = begun_agrees p x;
+      },
+    )

@@ -8,3 +8,5 @@ pub mod Desks
 pub mod Turns
 pub mod DeskSteps
 pub mod Making
+pub mod Cutting
+pub mod Running

@@ -348,9 +348,10 @@ next_step {T} {A} in_round ends a old now new answer of lt far step e goes =
     round_set new now.rounds a (next_move now a).round in_now (ap (λ (m : Machine T). m.rounds) e) in
     record {
       goes = λ none.
-          let on = step.goes none in
-          (record { events = es; made = made; stage = subst (λ (r : Round T). in_round r es) (sym here) on.0 },
-          subst (λ (r : Round T). steps_left r < steps_left (round_of now a)) (sym here) on.1);
+          let on = step.goes none in (
+            record { events = es; made = made; stage = subst (λ (r : Round T). in_round r es) (sym here) on.0 },
+            subst (λ (r : Round T). steps_left r < steps_left (round_of now a)) (sym here) on.1,
+          );
       stops = λ b some before.
           let stop = step.stops b some in
           (es, stop.1, made_round a old lt es new made (here ∙ stop.0) before);

@@ -126,16 +126,28 @@ again_agrees_under {T} {V} OverrunOldest x v s k o part es made r way under whol
     let le = way.within in
     on_test (λ b. Agrees OverrunOldest x v (es ++ made) (cond b (Err (lost g why.Busy)) (Ok (pushing g (k + 1))))) (k + 1)
     MOST_ROUNDS (λ e. out_of_rounds OverrunOldest x k o part es made way v r under whole (sym count ∙ e))
-    (λ other. (refl, (Pushing, refl,
-    under_way_again OverrunOldest x k o part es made way r (k + 1) under whole count (omega (arith, le, other)))))
+    (λ other. (
+      refl,
+      (
+        Pushing,
+        refl,
+        under_way_again OverrunOldest x k o part es made way r (k + 1) under whole count (omega (arith, le, other)),
+      ),
+    ))
 again_agrees_under {T} {V} DiscardNew x v s k o part es made r way under whole =
     let g : Progress = record { policy = DiscardNew; side = s; rounds = k; overran = o + takes_in made } in
     let count : k + 1 ≡ counted DiscardNew (length way.rounds + 1) = ap (λ n. n + 1) way.count in
     let le = way.within in
     on_test (λ b. Agrees DiscardNew x v (es ++ made) (cond b (Err (lost g why.Busy)) (Ok (pushing g (k + 1))))) (k + 1)
     MOST_ROUNDS (λ e. out_of_rounds DiscardNew x k o part es made way v r under whole (sym count ∙ e))
-    (λ other. (refl, (Pushing, refl,
-    under_way_again DiscardNew x k o part es made way r (k + 1) under whole count (omega (arith, le, other)))))
+    (λ other. (
+      refl,
+      (
+        Pushing,
+        refl,
+        under_way_again DiscardNew x k o part es made way r (k + 1) under whole count (omega (arith, le, other)),
+      ),
+    ))
 
 add_none : (n m : ℕ) → m ≡ 0 → n + m ≡ n
 add_none n m e = omega (arith, e)
@@ -180,11 +192,29 @@ full_agrees g x v es f way = full_agrees_under g.policy g.policy g.side x v g.ro
 -- before the first round
 pub begun_agrees : {T : Type 0} (p : Policy) (x : T) → IsSoFar (begun p) x Pushing []
 begun_agrees Block x = record {
-  rounds = []; go_on = tt; count = refl; within = omega arith; of_part = tt; events_are = refl; overran_is = refl;
+  rounds = [];
+  go_on = tt;
+  count = refl;
+  within = omega arith;
+  of_part = tt;
+  events_are = refl;
+  overran_is = refl;
 }
 begun_agrees OverrunOldest x = record {
-  rounds = []; go_on = tt; count = refl; within = omega arith; of_part = tt; events_are = refl; overran_is = refl;
+  rounds = [];
+  go_on = tt;
+  count = refl;
+  within = omega arith;
+  of_part = tt;
+  events_are = refl;
+  overran_is = refl;
 }
 begun_agrees DiscardNew x = record {
-  rounds = []; go_on = tt; count = refl; within = omega arith; of_part = tt; events_are = refl; overran_is = refl;
+  rounds = [];
+  go_on = tt;
+  count = refl;
+  within = omega arith;
+  of_part = tt;
+  events_are = refl;
+  overran_is = refl;
 }

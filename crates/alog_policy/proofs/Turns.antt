@@ -228,15 +228,19 @@ module _ {T : Type 0} (w : Machine T) (a : ℕ) (p : Post T) (c : Counts) (x : T
     is_spent : (y : T) → PushHas y r → After (said.Spent (Some y)) (Some Spent)
     is_spent y h =
         let k = at_push x y p.hand p.progress.side r b h at in
-        subst (λ (z : T). After (said.Spent (Some z)) (Some Spent)) (sym k.2)
-        (end_agrees p.progress.policy x p.progress.rounds p.progress.overran Pushing es (Spent ∷ []) (way_at Pushing k.3) x
-        OutOfTickets kept.within refl refl, refl)
+        subst (λ (z : T). After (said.Spent (Some z)) (Some Spent)) (sym k.2) (
+          end_agrees p.progress.policy x p.progress.rounds p.progress.overran Pushing es (Spent ∷ []) (way_at Pushing k.3) x
+              OutOfTickets kept.within refl refl,
+          refl,
+        )
 
     writes : (t : ℕ) → r ≡ round.PushClaimed t → After (said.Write t) (Some (Write t))
     writes t h =
-        let k = subst (λ (u : Round T). IsAt x p.hand p.progress.side u b) h at in
-        (end_agrees p.progress.policy x p.progress.rounds p.progress.overran (Claimed t) es (Write t ∷ []) (way_at (Claimed t) k.2)
-        x (Wrote t) kept.within refl refl, refl)
+        let k = subst (λ (u : Round T). IsAt x p.hand p.progress.side u b) h at in (
+          end_agrees p.progress.policy x p.progress.rounds p.progress.overran (Claimed t) es (Write t ∷ []) (way_at (Claimed t) k.2)
+              x (Wrote t) kept.within refl refl,
+          refl,
+        )
 
     pops : PopSeeks r → PopSeeks m.round → After said.Nothing None
     pops h n =

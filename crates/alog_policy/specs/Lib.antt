@@ -8,3 +8,4 @@ pub mod Rounds
 pub mod DeskOutlet
 pub mod Together
 pub mod Lending
+pub mod Runs

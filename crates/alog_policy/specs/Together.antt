@@ -25,7 +25,7 @@ more-add : (n k m : ℕ) → more n (k + m) ≡ more (more n k) m
 more-add n k zero = ap (more n) (add-zero k)
 more-add n k (suc m) = ap (more n) (add-suc k m) ∙ ap one_more (more-add n k m)
 
-with_losses-add : (c : Counts) (k l m n : ℕ) → with_losses (with_losses c k l) m n ≡ with_losses c (k + m) (l + n)
+pub with_losses-add : (c : Counts) (k l m n : ℕ) → with_losses (with_losses c k l) m n ≡ with_losses c (k + m) (l + n)
 with_losses-add c k l m n =
     let C : ℕ → ℕ → Counts = λ o d. record { overrun = o; discarded = d } in
     ap (λ o. C o (more (more c.discarded l) n)) (sym (more-add c.overrun k m))

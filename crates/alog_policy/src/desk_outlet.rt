@@ -48,9 +48,12 @@ impl<T: Drop> Outlet for DeskOutlet<'_, T> {
         self.desk.count_discarded();
     }
 
-    ghost together = { λ a b c es fs k l m n first then. (then.0 ∙ first.0, then.1 ∙ first.1,
-        did_together a.actor a.desk.now b.desk.now c.desk.now es fs k l m n first.2
-        (subst (λ x. DeskDid x b.desk.now fs m n c.desk.now) first.0 then.2)) };
+    ghost together = { λ a b c es fs k l m n first then. (
+      then.0 ∙ first.0,
+      then.1 ∙ first.1,
+      did_together a.actor a.desk.now b.desk.now c.desk.now es fs k l m n first.2
+          (subst (λ x. DeskDid x b.desk.now fs m n c.desk.now) first.0 then.2),
+    ) };
 }
 
 impl<T: Drop> Desk<T> {

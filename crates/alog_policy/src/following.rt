@@ -15,9 +15,14 @@ use alog_core::{ACTORS, Said, World};
 #[derive(Drop)]
 pub(crate) enum Reading<T> {
     /// Its round goes on.
-    Stays { post: Post<T> },
+    Stays {
+        post: Post<T>,
+    },
     /// Its value has this ticket.
-    Ends { ticket: u64, overran: u64 },
+    Ends {
+        ticket: u64,
+        overran: u64,
+    },
     /// Its value is back: the post goes on so, or is lost so.
     Leads {
         value: T,

@@ -1,10 +1,21 @@
 //! Posts: a value is brought into the bounded queue under a policy for the case that the queue is full.
+//!
+//! `post_now` makes a post that never waits, on any `Outlet`, and answers its `Outcome`. A `Desk` is the stepped queue of
+//! `alog_core` whose actors also make posts, one atomic step at a time, and which counts what they lose; `Desk::outlet`
+//! lends it to one actor for posts that are made at once. The tests `overruns_the_oldest` and `posts_at_once` are examples.
+//!
+//! What a post is, is told by its actor's events alone: rounds that go on, and then one end. Read `specs/Post.antt` for that
+//! definition, `specs/Progress.antt` for the same as a machine, `specs/Outlet.antt` for what an outlet promises,
+//! `specs/Desk.antt` for the desk, and `specs/Runs.antt` for what is true of whole runs; then `policy.rt`, `progress.rt`,
+//! `outlet.rt` and `posting.rt` (`post_now`), `desk.rt` with `following.rt` (what follows in a post after a step of it),
+//! and `desk_outlet.rt` with `rounds.rt` (rounds whose steps are made at once).
 #![tactic(auto)]
 
 mod counts;
 mod desk;
 mod desk_outlet;
 mod following;
+mod laws;
 mod outlet;
 mod policy;
 mod post;
@@ -17,6 +28,7 @@ mod tests;
 pub use counts::Counts;
 pub use desk::Desk;
 pub use desk_outlet::DeskOutlet;
+pub use laws::runs_are_cut;
 pub use outlet::Outlet;
 pub use policy::{Outcome, Policy, Why};
 pub use post::{Post, Stepped};

@@ -58,7 +58,10 @@ fn overruns_the_oldest(rt: HostRuntime) -> Result<(), Fail> {
         event(&rt, &mut desk, 3),
         Stepped {
             said: Said::Write(2),
-            outcome: Some(Outcome::Posted { ticket: 2, overran: 1 }),
+            outcome: Some(Outcome::Posted {
+                ticket: 2,
+                overran: 1
+            }),
         }
     );
     assert_eq!(rt; desk.step(3), Err(StepError::NotInCall));
@@ -143,7 +146,10 @@ fn blocks_until_there_is_room(rt: HostRuntime) -> Result<(), Fail> {
         event(&rt, &mut desk, 3),
         Stepped {
             said: Said::Write(2),
-            outcome: Some(Outcome::Posted { ticket: 2, overran: 0 }),
+            outcome: Some(Outcome::Posted {
+                ticket: 2,
+                overran: 0
+            }),
         }
     );
     assert_eq!(rt; desk.counts(), counts(0, 0));
@@ -201,16 +207,28 @@ fn no_ticket_is_left(rt: HostRuntime) -> Result<(), Fail> {
 
 #[test]
 fn refusals(rt: HostRuntime) -> Result<(), Fail> {
-    assert_eq!(rt; Desk::<char>::new(rt.alloc(), 3, 0).err(), Some(WorldError::BadSize));
-    assert_eq!(rt; Desk::<char>::new(rt.alloc(), 2, LAST_TICKET).err(), Some(WorldError::BadFirst));
+    assert_eq!(rt;
+        Desk::<char>::new(rt.alloc(), 3, 0).err(),
+        Some(WorldError::BadSize)
+    );
+    assert_eq!(rt;
+        Desk::<char>::new(rt.alloc(), 2, LAST_TICKET).err(),
+        Some(WorldError::BadFirst)
+    );
     let mut desk = Desk::new(rt.alloc(), 2, 0)?;
-    let refused = desk.begin_post(64, Policy::Block, 'a').err().ok_or("no actor 64")?;
+    let refused = desk
+        .begin_post(64, Policy::Block, 'a')
+        .err()
+        .ok_or("no actor 64")?;
     assert_eq!(rt; (refused.fault, refused.item), (BeginError::NoActor, 'a'));
     assert_eq!(rt; desk.begin_pop(64), Err(BeginError::NoActor));
     assert_eq!(rt; desk.step(64), Err(StepError::NoActor));
     assert_eq!(rt; desk.step(3), Err(StepError::NotInCall));
     assert!(rt; desk.begin_post(3, Policy::Block, 'a').is_ok());
-    let refused = desk.begin_post(3, Policy::Block, 'b').err().ok_or("in a call")?;
+    let refused = desk
+        .begin_post(3, Policy::Block, 'b')
+        .err()
+        .ok_or("in a call")?;
     assert_eq!(rt; (refused.fault, refused.item), (BeginError::InCall, 'b'));
     let refused = desk.begin_push(3, 'b').err().ok_or("in a call")?;
     assert_eq!(rt; (refused.fault, refused.item), (BeginError::InCall, 'b'));
@@ -265,9 +283,18 @@ fn posts_at_once(rt: HostRuntime) -> Result<(), Fail> {
     let posted = |ticket, overran| Outcome::Posted { ticket, overran };
     assert_eq!(rt; now(&rt, &mut desk, Policy::Block, 'a'), posted(0, 0));
     assert_eq!(rt; now(&rt, &mut desk, Policy::DiscardNew, 'b'), posted(1, 0));
-    assert_eq!(rt; now(&rt, &mut desk, Policy::Block, 'c'), discarded('c', Why::Full));
-    assert_eq!(rt; now(&rt, &mut desk, Policy::DiscardNew, 'c'), discarded('c', Why::Full));
-    assert_eq!(rt; now(&rt, &mut desk, Policy::OverrunOldest, 'c'), posted(2, 1));
+    assert_eq!(rt;
+        now(&rt, &mut desk, Policy::Block, 'c'),
+        discarded('c', Why::Full)
+    );
+    assert_eq!(rt;
+        now(&rt, &mut desk, Policy::DiscardNew, 'c'),
+        discarded('c', Why::Full)
+    );
+    assert_eq!(rt;
+        now(&rt, &mut desk, Policy::OverrunOldest, 'c'),
+        posted(2, 1)
+    );
     assert_eq!(rt; desk.counts(), counts(1, 2));
     pop(&rt, &mut desk, 4, 'b', 1);
     pop(&rt, &mut desk, 4, 'c', 2);
@@ -278,8 +305,14 @@ fn posts_at_once(rt: HostRuntime) -> Result<(), Fail> {
 fn posts_at_once_behind_a_claim(rt: HostRuntime) -> Result<(), Fail> {
     let mut desk = Desk::new(rt.alloc(), 2, 0)?;
     stalled(&rt, &mut desk);
-    assert_eq!(rt; now(&rt, &mut desk, Policy::OverrunOldest, 'c'), discarded('c', Why::Stalled));
-    assert_eq!(rt; now(&rt, &mut desk, Policy::DiscardNew, 'c'), discarded('c', Why::Full));
+    assert_eq!(rt;
+        now(&rt, &mut desk, Policy::OverrunOldest, 'c'),
+        discarded('c', Why::Stalled)
+    );
+    assert_eq!(rt;
+        now(&rt, &mut desk, Policy::DiscardNew, 'c'),
+        discarded('c', Why::Full)
+    );
     assert_eq!(rt; desk.counts(), counts(0, 2));
     Ok(())
 }
@@ -293,7 +326,10 @@ fn posts_at_once_without_a_ticket(rt: HostRuntime) -> Result<(), Fail> {
     };
     assert_eq!(rt; now(&rt, &mut desk, Policy::Block, 'a'), posted);
     for policy in [Policy::Block, Policy::OverrunOldest, Policy::DiscardNew] {
-        assert_eq!(rt; now(&rt, &mut desk, policy, 'b'), discarded('b', Why::Spent));
+        assert_eq!(rt;
+            now(&rt, &mut desk, policy, 'b'),
+            discarded('b', Why::Spent)
+        );
     }
     assert_eq!(rt; desk.counts(), counts(0, 3));
     Ok(())

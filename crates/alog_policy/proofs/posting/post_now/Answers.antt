@@ -38,7 +38,7 @@ loop-progress-smaller g c =
           leads_told o.did o.is_fit o.shows v v before now w.make_room-next.new.outlet c.match-progress.outlet
           w.make_room-next.result c.match-progress.next refl w.outlet-is w.next-is (w.make_room-next.ensures (o.shows v) v)
     ]
-    in 
+    in
     let led = subst (λ (r : Result Progress Lost). Leads o.did o.is_fit (o.shows v) v before now c.match-progress.outlet r)
     c.in-Ok-next.is next in
     let policy = c.loop-progress.invariant.posting.policy in
@@ -60,7 +60,7 @@ loop-progress-preserved g c =
           leads_told o.did o.is_fit o.shows v v before now w.make_room-next.new.outlet c.match-progress.outlet
           w.make_room-next.result c.match-progress.next refl w.outlet-is w.next-is (w.make_room-next.ensures (o.shows v) v)
     ]
-    in 
+    in
     let led = subst (λ (r : Result Progress Lost). Leads o.did o.is_fit (o.shows v) v before now c.match-progress.outlet r)
     c.in-Ok-next.is next in
     let same : c.match-progress.value ≡ v =
@@ -90,7 +90,7 @@ returns-in-Err-next-clause-post g c =
           leads_told o.did o.is_fit o.shows v v before now w.make_room-next.new.outlet c.match-progress.outlet
           w.make_room-next.result c.match-progress.next refl w.outlet-is w.next-is (w.make_room-next.ensures (o.shows v) v)
     ]
-    in 
+    in
     let led = subst (λ (r : Result Progress Lost). Leads o.did o.is_fit (o.shows v) v before now c.match-progress.outlet r)
     c.in-Err-next.is next in
     let same : c.match-progress.value ≡ v =
@@ -122,7 +122,7 @@ returns-in-Err-next-clause-fit g c =
           leads_told o.did o.is_fit o.shows v v before now w.make_room-next.new.outlet c.match-progress.outlet
           w.make_room-next.result c.match-progress.next refl w.outlet-is w.next-is (w.make_room-next.ensures (o.shows v) v)
     ]
-    in 
+    in
     c.count_discarded.ensures.fit next.ready
 
 pub loop-progress-init : goal.loop-progress-init
