@@ -55,8 +55,8 @@ overran_takes : {T V : Type 0} (p : Policy) (x : T) (v : V) (es : List (Event T)
 overran_takes {T} {V} p x v es o post =
     sym (ap (λ (r : Outcome V). overran_in r) post.outcome_is ∙ overran_in-outcome v (takes_in es) post.end)
 
-done_more : {S T : Type 0} (did : Doing S T) (one : AreTogether did) (a b c : S) (es fs : List (Event T)) → DidSoFar did a es b → did b fs (takes_in fs) 0 c
-    → did a (es ++ fs) (takes_in (es ++ fs)) 0 c
+done_more : {S T : Type 0} (did : Doing S T) (one : AreTogether did) (a b c : S) (es fs : List (Event T))
+    → DidSoFar did a es b → did b fs (takes_in fs) 0 c → did a (es ++ fs) (takes_in (es ++ fs)) 0 c
 done_more {S} {T} did one a b c es fs (inl h) then =
     subst (λ (gs : List (Event T)). did a (gs ++ fs) (takes_in (gs ++ fs)) 0 c) (sym h.0)
     (subst (λ (s : S). did s fs (takes_in fs) 0 c) (sym h.1) then)

@@ -2,7 +2,8 @@
 use Rattle.std.proofs.Common.{◌≡◌, ◌≢◌, ◌+◌, ◌-◌, ◌*◌, ◌<◌, cond, Result, Ok, Err, refl, ap, arith}
 use Rattle.std.specs.Prelude.{IfOk}
 use Rattle.alog_core.proofs.Cells.{on_test}
-use Rattle.alog_policy.specs.Progress.{lost, pushing, counting, again_under, again, full_under, after_full, after_take, half, work, with_take}
+use Rattle.alog_policy.specs.Progress.{lost, pushing, counting, again_under, again, full_under, after_full, after_take}
+use Rattle.alog_policy.specs.Progress.{half, work, with_take}
 use Rattle.alog_policy.specs.declared.TheConstants.{MOST_ROUNDS}
 use Rattle.alog_policy.specs.declared.policy.Policy.{Policy}
 use Rattle.alog_policy.specs.declared.policy.Policy.TheVariants.{Block, OverrunOldest, DiscardNew}

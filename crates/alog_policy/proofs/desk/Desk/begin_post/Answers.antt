@@ -12,7 +12,12 @@ invariant_of-self-2 g c =
     let d : DeskView g.row.T.Denot = desk_in c.self.inside in
     let post : Post g.row.T.Denot = record { progress = c.new.result; hand = None } in
     let e : DeskView g.row.T.Denot =
-    record { world = c.begin_push.new.self; posts = set c.self.inside.posts.items c.args.actor (Some post); counts = c.self.inside.counts } in
+    record {
+      world = c.begin_push.new.self;
+      posts = set c.self.inside.posts.items c.args.actor (Some post);
+      counts = c.self.inside.counts;
+    }
+    in
     let same : Some post ≡ Some (record { progress = begun c.args.policy; hand = None }) =
     ap (λ (h : Progress). Some (let q : Post g.row.T.Denot = record { progress = h; hand = None } in q)) c.new.ensures in
     let both = post_begins d e c.args.actor c.args.policy c.args.value c.self.invariant
@@ -25,7 +30,12 @@ returns-clause-post g c =
     let d : DeskView g.row.T.Denot = desk_in c.self.inside in
     let post : Post g.row.T.Denot = record { progress = c.new.result; hand = None } in
     let e : DeskView g.row.T.Denot =
-    record { world = c.begin_push.new.self; posts = set c.self.inside.posts.items c.args.actor (Some post); counts = c.self.inside.counts } in
+    record {
+      world = c.begin_push.new.self;
+      posts = set c.self.inside.posts.items c.args.actor (Some post);
+      counts = c.self.inside.counts;
+    }
+    in
     let same : Some post ≡ Some (record { progress = begun c.args.policy; hand = None }) =
     ap (λ (h : Progress). Some (let q : Post g.row.T.Denot = record { progress = h; hand = None } in q)) c.new.ensures in
     let both = post_begins d e c.args.actor c.args.policy c.args.value c.self.invariant
