@@ -10,3 +10,4 @@ pub mod DeskSteps
 pub mod Making
 pub mod Cutting
 pub mod Running
+pub mod Losses

@@ -1,33 +1,29 @@
 -- A whole run of a desk, step by step.
-use Rattle.std.proofs.Common.{◌≡◌, ◌≢◌, ℕ, ◌+◌, ◌<◌, ◌==◌, cond, true, false, Option, None, Some, Result, Ok, Err}
+use Rattle.std.proofs.Common.{◌≡◌, ◌≢◌, ℕ, ◌+◌, ◌<◌, ◌==◌, cond, true, false, Option, None, Some, Ok, Err}
 use Rattle.std.proofs.Common.{List, [], ◌∷◌, ◌++◌, length, refl, sym, ap, subst, ◌∙◌, arith, get_or, set, get_or-set_other}
 use Rattle.std.proofs.Common.{get_or-set_same, length-set}
-use Rattle.std.proofs.Common.{append_assoc, append-nil, add-zero, zero-add}
+use Rattle.std.proofs.Common.{append_assoc, append-nil}
 use Rattle.std.proofs.lemmas.List.{set-get_or, get_or-replicate, length-replicate}
-use Rattle.alog_core.specs.Queue.{Queue, Event, Claim, Write, Grab, Take, Full, Empty, PushBusy, PopBusy, Spent, start, last}
+use Rattle.alog_core.specs.Queue.{Queue, Event, start, last}
 use Rattle.alog_core.specs.History.{Entry, StandsFor}
 use Rattle.alog_core.specs.Run.{HasItsCell}
 use Rattle.alog_core.specs.Staged.{IsStaged, IsReached}
-use Rattle.alog_core.specs.World.{Machine, fresh, is_size, round_of, is_idle, next_move, stepped, told, said_of, brought}
+use Rattle.alog_core.specs.World.{Machine, fresh, is_size, round_of, is_idle, next_move, stepped, told}
 use Rattle.alog_core.specs.World.{entries_of}
 use Rattle.alog_core.specs.declared.TheConstants.{ACTORS}
 use Rattle.alog_core.specs.declared.round.Round.{Round}
 use Rattle.alog_core.specs.declared.round.Round.TheVariants as round
-use Rattle.alog_core.specs.declared.said.Said.{Said}
-use Rattle.alog_core.specs.declared.said.Said.TheVariants as said
 use Rattle.alog_core.proofs.Cells.{on_test}
 use Rattle.alog_core.proofs.Histories.{stands_start, stands_step}
 use Rattle.alog_core.proofs.Reached.{reached_began, reached_stepped, fine_step}
 use Rattle.alog_core.proofs.Runs.{has_its_cell}
 use Rattle.alog_core.proofs.Sizes.{size_facts}
 use Rattle.alog_core.proofs.Sound.{sound_start}
-use Rattle.alog_policy.specs.Post.{takes_in}
 use Rattle.alog_policy.specs.Progress.{begun}
 use Rattle.alog_policy.specs.Desk.{DeskView, fresh_desk, post_of, call_began, post_began, Follows, Stays, Ends, Leads, follows}
-use Rattle.alog_policy.specs.Desk.{value_in, with_said, with_discard, turn_to, turn_of, answer_of, after_step, event_of, call_of}
+use Rattle.alog_policy.specs.Desk.{value_in, with_said, turn_to, turn_of, answer_of, after_step, event_of, call_of}
 use Rattle.alog_policy.specs.DeskInside.{Fits, FitsRound, IsKeptDesk}
 use Rattle.alog_policy.specs.DeskOutlet.{with_losses}
-use Rattle.alog_policy.specs.Following.{IsThere, HasValue}
 use Rattle.alog_policy.specs.Runs.{StepMade, overruns_in, Plays, starts, pushes, pops, posts, steps_on, entries_made}
 use Rattle.alog_policy.specs.Runs.{events_made, outcome_in, outcomes_made, overruns_made, discards_of, discards_made, no_call}
 use Rattle.alog_policy.specs.Runs.{IsBegun, IsUnderWayIn, IsCut, IsRun, RunsAreCut}
@@ -38,51 +34,13 @@ use Rattle.alog_policy.specs.declared.policy.Outcome.{Outcome}
 use Rattle.alog_policy.specs.declared.post.Post.{Post}
 use Rattle.alog_policy.specs.declared.progress.Side.{Side}
 use Rattle.alog_policy.specs.declared.progress.Side.TheVariants as side
-use Rattle.alog_policy.specs.declared.progress.Progress.{Progress}
-use Rattle.alog_policy.specs.declared.progress.Lost.{Lost}
 use Rattle.alog_policy.proofs.StepKinds.{Kind}
+use Rattle.alog_policy.proofs.Losses.{turn_counts}
 use Rattle.alog_policy.proofs.Desks.{kept_set, has_value, round_set}
 use Rattle.alog_policy.proofs.Turns.{turn_comes}
 use Rattle.alog_policy.proofs.DeskSteps.{post_begins, kept_fresh, kept_after, rounds_after, turn_queue}
 use Rattle.alog_policy.proofs.Making.{idle_is, kind_here}
 use Rattle.alog_policy.proofs.Cutting.{plain_cut, post_cut, begins_cut, post_begins_cut, ended_leaves}
-
--- the counts of a turn are the losses of its step
-said_takes : {T : Type 0} (c : Counts) (x : Option T) (o : Option (Event T))
-    → with_said c (said_of x o) ≡ with_losses c (takes_in (event_of o)) 0
-said_takes c x None = refl
-said_takes c x (Some (Claim t y)) = refl
-said_takes c x (Some (Write t)) = refl
-said_takes c x (Some (Grab t)) = refl
-said_takes c x (Some (Take t y)) = refl
-said_takes c x (Some (Full t)) = refl
-said_takes c x (Some (Empty t)) = refl
-said_takes c x (Some (PushBusy t)) = refl
-said_takes c x (Some (PopBusy t)) = refl
-said_takes c x (Some Spent) = refl
-
-turn_discards : {T : Type 0} (w : Machine T) (a : ℕ) (p : Post T) (c : Counts) (v : Option T) (f : Follows)
-    → ((next : Result Progress Lost) → f ≡ Leads next → IsThere v)
-    → (turn_to w a p c v f).counts ≡ with_losses c 0 (discards_of (turn_to w a p c v f).outcome)
-turn_discards w a p c v Stays there = refl
-turn_discards w a p c v (Ends t) there = refl
-turn_discards w a p c v (Leads (Ok g)) there = refl
-turn_discards {T} w a p c v (Leads (Err l)) there =
-    let x = there (Err l) refl in
-    subst (λ (u : Option T). with_discard c ≡ with_losses c 0 (discards_of (turn_to w a p c u (Leads (Err l))).outcome))
-    (sym x.1) refl
-
-value_there : {T : Type 0} (p : Post T) (s : Said T) (next : Result Progress Lost) → HasValue p s
-    → follows p.progress s ≡ Leads next → IsThere (value_in p.hand s)
-value_there p said.Nothing next h e = absurd (cc)
-value_there p (said.Claim t) next h e = absurd (cc)
-value_there p (said.Write t) next h e = absurd (cc)
-value_there p (said.Full t x) next h e = h
-value_there p (said.Grab t) next h e = absurd (cc)
-value_there p (said.Take t y) next h e = h.0
-value_there p (said.Empty t) next h e = h
-value_there p (said.Busy t x) next h e = h
-value_there p (said.Spent x) next h e = h
 
 -- lists of steps taken from the back
 module _ {T : Type 0} (s : StepMade T) where
@@ -428,17 +386,7 @@ module _ {T : Type 0} (n f : ℕ) (steps : List (StepMade T)) (e : DeskView T) (
               (ap (λ (rs : List (Round T)). get_or rs b round.Idle) rounds
               ∙ get_or-set_other e.world.rounds a b (round_of t.world a) round.Idle other)
               (after.run.actors b below));
-          counts =
-              let said = said_takes e.counts (brought r) m.event in
-              let ended =
-              turn_discards w a p d v (follows p.progress s) (λ next leads. value_there p s next value leads) in
-              let both =
-              ended
-              ∙ (ap (λ c. with_losses c 0 (discards_of t.outcome)) said
-              ∙ (with_losses-add e.counts (takes_in (event_of m.event)) 0 0 (discards_of t.outcome)
-              ∙ (ap (λ k. with_losses e.counts k (0 + discards_of t.outcome)) (add-zero (takes_in (event_of m.event)))
-              ∙ ap (λ k. with_losses e.counts (takes_in (event_of m.event)) k) (zero-add (discards_of t.outcome))))) in
-              more_losses e.counts steps (made_by (Some p)) t.counts after.run.counts both;
+          counts = more_losses e.counts steps (made_by (Some p)) t.counts after.run.counts (turn_counts w a p e.counts r m value);
         };
       }
 

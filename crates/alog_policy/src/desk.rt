@@ -2,11 +2,13 @@
 ghost use Rattle.std.specs.Prelude.{◌≡◌, ℕ, ◌∷◌, ◌<◌, ◌≤◌, ◌↔◌, [], Some, None, true, false, map, IfOk, OnOk, OnErr, IfErr, IsOk, IsErrOf};
 ghost use Rattle.alog_core.specs.Queue.{last, Claim, Write};
 ghost use Rattle.alog_core.specs.History.{GoesOn};
-ghost use Rattle.alog_core.specs.World.{is_size, round_of, is_idle, shown};
+ghost use Rattle.alog_core.specs.World.{is_size, round_of, is_idle, next_move, shown};
 ghost use Rattle.alog_core.specs.Run.{entries_of_step};
 ghost use Rattle.alog_core.specs.declared.round.Round.TheVariants as round;
 ghost use Rattle.alog_policy.specs.Desk.{fresh_desk, call_began, post_began, desk_told, desk_stepped, IsPosting, PostGoesOn};
-ghost use Rattle.alog_policy.specs.DeskOutlet.{IsFree, DeskDid};
+ghost use Rattle.alog_policy.specs.Desk.{post_of};
+ghost use Rattle.alog_policy.specs.DeskOutlet.{IsFree, DeskDid, with_losses};
+ghost use Rattle.alog_policy.specs.Runs.{overruns_in, discards_of};
 ghost use Rattle.alog_policy.specs.Outlet.{PushRefused, Overran, PopRefused};
 
 use crate::counts::Counts;
@@ -127,6 +129,9 @@ impl<T: Drop> Desk<T> {
         // The actor's events in its post so far are the beginning of one by the definition, and at its end a whole one, with
         // the outcome of the definition.
         ensures post { IfOk result (λ s. PostGoesOn self.old actor s.outcome self.new) }
+        // An overrun is counted at the take of a post, a discarded post at its end.
+        ensures counts { IfOk result (λ s. self.new.counts ≡ with_losses self.old.counts
+            (overruns_in (post_of self.old actor) (next_move self.old.world actor).event) (discards_of s.outcome)) }
     {
         let said = self.world.step(actor)?;
         match self.posts[actor as usize].take() {
