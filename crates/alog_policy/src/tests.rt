@@ -1,9 +1,11 @@
-ghost use Rattle.std.specs.Prelude.{◌≡◌, IfSome, IfNone};
+ghost use Rattle.std.specs.Prelude.{◌≡◌, ℕ, List, IfSome, IfNone};
+ghost use Rattle.alog_policy.specs.Runs.{StepMade, IsRun};
 ghost use Rattle.alog_policy.specs.DeskOutlet.{IsFree, DeskDid};
 ghost use Rattle.alog_policy.specs.Outlet.{PostsNow};
 
 use super::*;
 use alog_core::{BeginError, CellView, LAST_TICKET, Mark, Said, StepError, WorldError};
+use std::alloc::Global;
 use std::process::Abort;
 use std::test::Fail;
 
@@ -261,6 +263,28 @@ fn a_caller_knows_the_desk(rt: HostRuntime) -> Result<(), Fail> {
     assert_eq!(rt; at_once(&mut desk, 0, Policy::Block, 7), Some(posted));
     assert_eq!(rt; at_once(&mut desk, 64, Policy::Block, 7), None);
     Ok(())
+}
+
+// What a caller knows of a run: a post begins on a new desk and makes a step.
+fn first_step(alloc: Global, value: u64) -> Option<Desk<u64>>
+    ensures { IfSome result (λ d. (steps : List (StepMade ℕ)) × IsRun 2 5 steps d) }
+{
+    let Ok(mut desk) = Desk::new(alloc, 2, 5) else {
+        return None;
+    };
+    let Ok(()) = desk.begin_post(1, Policy::Block, value) else {
+        return None;
+    };
+    let Ok(_) = desk.step(1) else {
+        return None;
+    };
+    runs_are_cut::<u64>();
+    Some(desk)
+}
+
+#[test]
+fn a_caller_knows_a_run(rt: HostRuntime) {
+    assert!(rt; first_step(rt.alloc(), 7).is_some());
 }
 
 // A post that is made at once, by actor 3.
