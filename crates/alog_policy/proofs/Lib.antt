@@ -1,3 +1,16 @@
+pub mod Posts
+pub mod Keeping
+pub mod Working
+pub mod Leading
+pub mod Way
+pub mod StepKinds
+pub mod Desks
+pub mod Turns
+pub mod DeskSteps
+pub mod Making
+pub mod Cutting
+pub mod Running
+pub mod Losses
 pub mod BookSteps
 pub mod BookCounting
 pub mod BookSums

@@ -1,3 +1,14 @@
+pub mod Post
+pub mod Progress
+pub mod Outlet
+pub mod Desk
+pub mod DeskInside
+pub mod Following
+pub mod Rounds
+pub mod DeskOutlet
+pub mod Together
+pub mod Lending
+pub mod Runs
 pub mod BookAdds
 pub mod BookCalls
 pub mod BookRule

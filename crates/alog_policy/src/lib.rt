@@ -1,14 +1,20 @@
-//! What is lost by overflow, counted by threads.
+//! Posts: a value is brought into the bounded queue under a policy for the case that the queue is full.
 //!
-//! Losses are items that were overrun and posts that were discarded. A `LossBook` counts them for any number of threads,
-//! by two numbers modulo 2^64. Contracts see neither number: they speak of one history of adds, each with its seat. A
-//! `BookSeat`, with which a thread adds and counts, has seen a beginning of that history and knows which adds in it are
-//! its own. What `counts` and `close` answer are sums of such histories.
+//! `post_now` makes a post that never waits, on any `Outlet`, and answers its `Outcome`. A `Desk` is the stepped queue of
+//! `alog_core` whose actors also make posts, one atomic step at a time, and which counts what they lose; `Desk::outlet`
+//! lends it to one actor for posts that are made at once. A `LossBook` counts losses for any number of threads. The tests
+//! `overruns_the_oldest` and `posts_at_once` are examples.
 //!
-//! Read `counts.rt`, `loss_book.rt` (a book, adds and counts), `book_seat.rt`, `book_share.rt` (seats split and joined)
-//! and `book_close.rt`; below them `book_view.rt` and `book_plays.rt` (the rule that each step keeps, and what it
-//! tells). In `specs/`, `BookAdds` has the adds and their sums, `BookCalls` what the calls promise; what a seat knows is
-//! `Seats` of `alog_lane`. `BookRule` and `BookPlays` are for the proofs.
+//! What a post is, is told by its actor's events alone: rounds that go on, and then one end. Read `specs/Post.antt` for that
+//! definition, `specs/Progress.antt` for the same as a machine, `specs/Outlet.antt` for what an outlet promises,
+//! `specs/Desk.antt` for the desk, and `specs/Runs.antt` for what is true of whole runs; then `policy.rt`, `progress.rt`,
+//! `outlet.rt` and `posting.rt` (`post_now`), `desk.rt` with `following.rt` (what follows in a post after a step of it),
+//! and `desk_outlet.rt` with `rounds.rt` (rounds whose steps are made at once).
+//!
+//! Of the loss book contracts see one history of adds, each with its seat; what `counts` and `close` answer are sums of
+//! such histories. Read `specs/BookAdds.antt` and `specs/BookCalls.antt`, then `loss_book.rt` (a book, adds and counts),
+//! `book_seat.rt`, `book_share.rt` (seats split and joined) and `book_close.rt`; below them `book_view.rt` and
+//! `book_plays.rt` (the rule that each step keeps, and what it tells), with `BookRule` and `BookPlays`.
 #![tactic(auto)]
 
 mod book_close;
@@ -19,10 +25,33 @@ mod book_share;
 mod book_tests;
 mod book_view;
 mod counts;
+mod desk;
+mod desk_outlet;
+mod following;
+mod laws;
 mod loss_book;
+mod outlet;
+mod policy;
+mod post;
+mod posting;
+mod progress;
+mod rounds;
+#[cfg(test)]
+mod tests;
 
 pub use alog_lane::ALL_PARTS;
 pub use book_close::SeatsOut;
 pub use book_seat::BookSeat;
 pub use counts::Counts;
+pub use desk::Desk;
+pub use desk_outlet::DeskOutlet;
+pub use laws::runs_are_cut;
 pub use loss_book::LossBook;
+pub use outlet::Outlet;
+pub use policy::{Outcome, Policy, Why};
+pub use post::{Post, Stepped};
+pub use posting::post_now;
+pub use progress::{Lost, Progress, Side};
+
+/// A post that does not block ends after so many rounds that went on.
+pub const MOST_ROUNDS: u64 = 64;

@@ -1,0 +1,141 @@
+-- A post that never waits, from its first call to its end.
+use Rattle.std.proofs.Common.{◌≡◌, ◌≢◌, ℕ, ◌+◌, ◌⊎◌, inl, inr, Result, Ok, Err, List, [], ◌∷◌, ◌++◌, refl, sym, ap, subst, ◌∙◌}
+use Rattle.std.proofs.Common.{add-zero, append-nil}
+use Rattle.alog_core.specs.Queue.{Event, Claim, Write}
+use Rattle.alog_policy.specs.Post.{IsPost, Part, Pushing, takes_in, End, Wrote, OutOfTickets, NoRoom, NothingToTake, OutOfRounds}
+use Rattle.alog_policy.specs.Post.{outcome_of, overran_in}
+use Rattle.alog_policy.specs.Progress.{IsKept, IsFresh, IsSoFar, without_waiting, begun}
+use Rattle.alog_policy.specs.Outlet.{Doing, PostsNow, Leads}
+use Rattle.alog_policy.specs.declared.policy.Policy.{Policy}
+use Rattle.alog_policy.specs.declared.policy.Policy.TheVariants.{Block, OverrunOldest, DiscardNew}
+use Rattle.alog_policy.specs.declared.policy.Outcome.{Outcome}
+use Rattle.alog_policy.specs.declared.policy.Outcome.TheVariants.{Posted, Discarded}
+use Rattle.alog_policy.specs.declared.progress.Side.TheVariants.{Push}
+use Rattle.alog_policy.specs.declared.progress.Progress.{Progress}
+use Rattle.alog_policy.specs.declared.progress.Lost.{Lost}
+use Rattle.alog_policy.proofs.Posts.{end_agrees, begun_agrees, takes_in-append}
+use Rattle.alog_policy.proofs.Keeping.{kept_begun}
+use Rattle.alog_policy.proofs.Leading.{fresh_push}
+
+pub never_block : (p : Policy) → without_waiting p ≢ Block
+never_block Block h = absurd (cc)
+never_block OverrunOldest h = absurd (cc)
+never_block DiscardNew h = absurd (cc)
+
+-- the outlet did this, or nothing yet
+abbrev pub DidSoFar : {S T : Type 0} → Doing S T → S → List (Event T) → S → Type 0
+DidSoFar did a es b = ((es ≡ []) × (a ≡ b)) ⊎ did a es (takes_in es) 0 b
+
+-- what was done first and what was done then are one
+abbrev pub AreTogether : {S T : Type 0} → Doing S T → Type 0
+AreTogether {S} {T} did =
+    (a b c : S) (es fs : List (Event T)) (k l m n : ℕ) → did a es k l b → did b fs m n c → did a (es ++ fs) (k + m) (l + n) c
+
+-- The post under way: it brings v, of which a cell shows x.
+pub record IsPosting {S T V : Type 0} (did : Doing S T) (fit : S → Type 0) (p : Policy) (x : T) (v : V) (first : S)
+    (g : Progress) (now : S) : Type 0 where
+  pub ready : fit now
+  pub kept : IsKept g
+  pub policy : g.policy ≡ without_waiting p
+  pub part : Part
+  pub events : List (Event T)
+  pub fresh : IsFresh g.side part
+  pub way : IsSoFar g x part events
+  pub done : DidSoFar did first events now
+
+overran_in-outcome : {V : Type 0} (v : V) (k : ℕ) (e : End) → overran_in (outcome_of v k e) ≡ k
+overran_in-outcome v k (Wrote t) = refl
+overran_in-outcome v k OutOfTickets = refl
+overran_in-outcome v k (NoRoom f) = refl
+overran_in-outcome v k (NothingToTake f t) = refl
+overran_in-outcome v k OutOfRounds = refl
+
+overran_takes : {T V : Type 0} (p : Policy) (x : T) (v : V) (es : List (Event T)) (o : Outcome V) → IsPost p x v es o
+    → takes_in es ≡ overran_in o
+overran_takes {T} {V} p x v es o post =
+    sym (ap (λ (r : Outcome V). overran_in r) post.outcome_is ∙ overran_in-outcome v (takes_in es) post.end)
+
+done_more : {S T : Type 0} (did : Doing S T) (one : AreTogether did) (a b c : S) (es fs : List (Event T))
+    → DidSoFar did a es b → did b fs (takes_in fs) 0 c → did a (es ++ fs) (takes_in (es ++ fs)) 0 c
+done_more {S} {T} did one a b c es fs (inl h) then =
+    subst (λ (gs : List (Event T)). did a (gs ++ fs) (takes_in (gs ++ fs)) 0 c) (sym h.0)
+    (subst (λ (s : S). did s fs (takes_in fs) 0 c) (sym h.1) then)
+done_more {S} {T} did one a b c es fs (inr h) then =
+    subst (λ n. did a (es ++ fs) n 0 c) (sym (takes_in-append es fs))
+    (one a b c es fs (takes_in es) 0 (takes_in fs) 0 h then)
+
+module _ {S T V : Type 0} (did : Doing S T) (fit : S → Type 0) (one : AreTogether did) where
+  pub posting_begins : (p : Policy) (x : T) (v : V) (first : S) (g : Progress) → g ≡ begun (without_waiting p) → fit first
+      → IsPosting did fit p x v first g first
+  posting_begins p x v first g e ready =
+      subst (λ (h : Progress). IsPosting did fit p x v first h first) (sym e)
+      (record {
+        ready = ready;
+        kept = kept_begun (without_waiting p);
+        policy = refl;
+        part = Pushing;
+        events = [];
+        fresh = refl;
+        way = begun_agrees (without_waiting p) x;
+        done = inl (refl, refl);
+      })
+
+  module _ (p : Policy) (x : T) (v : V) (first now new : S) (g : Progress) (posting : IsPosting did fit p x v first g now) where
+    pub posting_goes_on : (h : Progress) → Leads did fit x v g now new (Ok h) → IsPosting did fit p x v first h new
+    posting_goes_on h leads =
+        let agrees = leads.agrees posting.part posting.events posting.fresh posting.way in
+        record {
+          ready = leads.ready;
+          kept = leads.kept;
+          policy = agrees.0 ∙ posting.policy;
+          part = agrees.1.0;
+          events = posting.events ++ leads.made;
+          fresh = agrees.1.1;
+          way = agrees.1.2;
+          done = inr (done_more did one first now new posting.events leads.made posting.done leads.done);
+        }
+
+    pub posting_is_lost : (l : Lost) (final : S) → Leads did fit x v g now new (Err l) → did new [] 0 1 final
+        → PostsNow did fit p x v first final (Discarded v l.why l.overran)
+    posting_is_lost l final leads counted =
+        let events = posting.events ++ leads.made in
+        let agrees = leads.agrees posting.part posting.events posting.fresh posting.way in
+        let post : IsPost (without_waiting p) x v events (Discarded v l.why l.overran) =
+        subst (λ (q : Policy). IsPost q x v events (Discarded v l.why l.overran)) posting.policy agrees in
+        let all : did first (events ++ []) (takes_in events + 0) 1 final =
+        one first new final events [] (takes_in events) 0 0 1
+        (done_more did one first now new posting.events leads.made posting.done leads.done) counted in
+        record {
+          events = events;
+          post = post;
+          done = subst (λ (es : List (Event T)). did first es l.overran 1 final) (append-nil events)
+              (subst (λ n. did first (events ++ []) n 1 final)
+              (add-zero (takes_in events) ∙ overran_takes (without_waiting p) x v events (Discarded v l.why l.overran) post) all);
+        }
+
+    pub posting_wrote : (t : ℕ) → g.side ≡ Push → did now (Claim t x ∷ Write t ∷ []) 0 0 new
+        → PostsNow did fit p x v first new (Posted t g.overran)
+    posting_wrote t side wrote =
+        let made : List (Event T) = Claim t x ∷ Write t ∷ [] in
+        let events = posting.events ++ made in
+        let way = subst (λ (b : Part). IsSoFar g x b posting.events) (fresh_push g.side posting.part side posting.fresh)
+        posting.way in
+        let post : IsPost (without_waiting p) x v events (Posted t g.overran) =
+        subst (λ (q : Policy). IsPost q x v events (Posted t g.overran)) posting.policy
+        (end_agrees g.policy x g.rounds g.overran Pushing posting.events made way v (Wrote t) posting.kept.within refl refl) in
+        record {
+          events = events;
+          post = post;
+          done = subst (λ n. did first events n 0 new)
+              (overran_takes (without_waiting p) x v events (Posted t g.overran) post)
+              (done_more did one first now new posting.events made posting.done wrote);
+        }
+
+-- the same lead, told of the post's own value
+pub leads_told : {S T V : Type 0} (did : Doing S T) (fit : S → Type 0) (shows : V → T) (u v : V) (g : Progress)
+    (old new told : S) (next told_next : Result Progress Lost) → u ≡ v → told ≡ new → told_next ≡ next
+    → Leads did fit (shows u) u g old new next → Leads did fit (shows v) v g old told told_next
+leads_told {S} {T} {V} did fit shows u v g old new told next told_next e f h leads =
+    subst (λ (w : V). Leads did fit (shows w) w g old told told_next) e
+    (subst (λ (s : S). Leads did fit (shows u) u g old s told_next) (sym f)
+    (subst (λ (r : Result Progress Lost). Leads did fit (shows u) u g old new r) (sym h) leads))

@@ -1,0 +1,53 @@
+-- What an actor of a desk did first, and what it did then.
+use Rattle.std.proofs.Common.{◌≡◌, ℕ, zero, suc, ◌+◌, List, [], ◌∷◌, ◌++◌, refl, sym, ap, subst, ◌∙◌, add-zero, add-suc, append_assoc}
+use Rattle.alog_core.specs.Queue.{Queue, Event}
+use Rattle.alog_core.specs.History.{Entry, StandsFor, GoesOn}
+use Rattle.alog_core.specs.World.{Machine}
+use Rattle.alog_policy.specs.Desk.{DeskView, one_more}
+use Rattle.alog_policy.specs.DeskOutlet.{more, with_losses, DeskDid}
+use Rattle.alog_policy.specs.Rounds.{entries_by, Makes}
+use Rattle.alog_policy.specs.declared.counts.Counts.{Counts}
+
+pub entries_by-append : {T : Type 0} (a : ℕ) (es fs : List (Event T))
+    → entries_by a (es ++ fs) ≡ entries_by a es ++ entries_by a fs
+entries_by-append a [] fs = refl
+entries_by-append {T} a (e ∷ es) fs =
+    ap (λ (h : List (Entry T (Unit {0}))). record { actor = a; event = e; note = tt } ∷ h) (entries_by-append a es fs)
+
+-- one after another
+pub goes_further : {T : Type 0} (n : ℕ) (q r s : Queue T) (g h : List (Entry T (Unit {0}))) → GoesOn n q g r
+    → GoesOn n r h s → GoesOn n q (g ++ h) s
+goes_further {T} n q r s g h first then f old stands =
+    subst (λ (k : List (Entry T (Unit {0}))). StandsFor n f k s) (append_assoc old g h)
+    (then f (old ++ g) (first f old stands))
+
+more-add : (n k m : ℕ) → more n (k + m) ≡ more (more n k) m
+more-add n k zero = ap (more n) (add-zero k)
+more-add n k (suc m) = ap (more n) (add-suc k m) ∙ ap one_more (more-add n k m)
+
+pub with_losses-add : (c : Counts) (k l m n : ℕ) → with_losses (with_losses c k l) m n ≡ with_losses c (k + m) (l + n)
+with_losses-add c k l m n =
+    let C : ℕ → ℕ → Counts = λ o d. record { overrun = o; discarded = d } in
+    ap (λ o. C o (more (more c.discarded l) n)) (sym (more-add c.overrun k m))
+    ∙ ap (λ d. C (more c.overrun (k + m)) d) (sym (more-add c.discarded l n))
+
+makes_together : {T : Type 0} (a : ℕ) (u v w : Machine T) (es fs : List (Event T)) → Makes a u es v → Makes a v fs w
+    → Makes a u (es ++ fs) w
+makes_together {T} a u v w es fs first then =
+    let more : GoesOn u.places v.queue (entries_by a fs) w.queue =
+    subst (λ n. GoesOn n v.queue (entries_by a fs) w.queue) first.places then.history in
+    record {
+      places = then.places ∙ first.places;
+      rounds = then.rounds ∙ first.rounds;
+      history = subst (λ (h : List (Entry T (Unit {0}))). GoesOn u.places u.queue h w.queue) (sym (entries_by-append a es fs))
+          (goes_further u.places u.queue v.queue w.queue (entries_by a es) (entries_by a fs) first.history more);
+    }
+
+pub did_together : {T : Type 0} (a : ℕ) (u v w : DeskView T) (es fs : List (Event T)) (k l m n : ℕ) → DeskDid a u es k l v
+    → DeskDid a v fs m n w → DeskDid a u (es ++ fs) (k + m) (l + n) w
+did_together a u v w es fs k l m n first then =
+    record {
+      makes = makes_together a u.world v.world w.world es fs first.makes then.makes;
+      posts = then.posts ∙ first.posts;
+      counts = then.counts ∙ (ap (λ c. with_losses c m n) first.counts ∙ with_losses-add u.counts k l m n);
+    }

@@ -1,0 +1,49 @@
+//! Where a post goes.
+use alog_ring::{PopError, PushError};
+
+/// Where posts go: an actor's own access to a queue, with a count of what is lost. What a post carries is the outlet's
+/// own matter, as is how it is posted; `post_now` is written once, for any outlet.
+///
+/// `did` is what the outlet tells of itself: between two states, its actor made exactly these events in the history of
+/// its queue, in this order, and exactly so many overrun items and so many discarded posts were counted. `shows` is what
+/// a cell of the queue shows of a value. `is_fit` is what a push or a pop asks of the outlet.
+pub trait Outlet {
+    ghost use Rattle.std.specs.Prelude.{◌≡◌, ◌+◌, ℕ, List, [], ◌∷◌, ◌++◌, IfOk, IfErr};
+    ghost use Rattle.alog_core.specs.Queue.{Event, Claim, Write};
+    ghost use Rattle.alog_policy.specs.Outlet.{PushRefused, Overran, PopRefused};
+
+    /// What a post brings.
+    type Value;
+
+    /// What a cell of the queue shows of it.
+    type Item;
+
+    ghost shows: { Self.Value → Self.Item };
+
+    ghost is_fit: { Self → Type 0 };
+
+    ghost did: { Self → List (Event Self.Item) → ℕ → ℕ → Self → Type 0 };
+
+    /// Makes one round of a push: puts the value into the queue if that goes at once, and answers its ticket. A refusal
+    /// is one event, and hands the value back. It never waits and takes no memory.
+    fn push_once(&mut self, value: Self::Value) -> Result<u64, PushError<Self::Value>>
+        requires { is_fit self.old }
+        ensures pushed { IfOk result (λ t. did self.old (Claim t (shows value) ∷ Write t ∷ []) 0 0 self.new) }
+        ensures refused { IfErr result (λ e. PushRefused did is_fit self.old value e self.new) };
+
+    /// Makes one round of a pop: takes the oldest item out if that goes at once, drops it and counts it as overrun, and
+    /// answers its ticket. A refusal is one event, and nothing is counted. It never waits and takes no memory.
+    fn overrun_once(&mut self) -> Result<u64, PopError>
+        requires { is_fit self.old }
+        ensures overran { IfOk result (λ t. Overran did is_fit self.old t self.new) }
+        ensures refused { IfErr result (λ e. PopRefused did is_fit self.old e self.new) };
+
+    /// Counts one discarded post.
+    fn count_discarded(&mut self)
+        ensures counted { did self.old [] 0 1 self.new }
+        ensures fit { is_fit self.old → is_fit self.new };
+
+    // What was done first and what was done then are one.
+    ghost together: { (a b c : Self) (es fs : List (Event Self.Item)) (k l m n : ℕ) → did a es k l b → did b fs m n c
+        → did a (es ++ fs) (k + m) (l + n) c };
+}

@@ -1,0 +1,60 @@
+//! What a post does where the queue is full, and how it ends.
+ghost use Rattle.std.specs.Prelude.{◌≡◌};
+ghost use Rattle.alog_policy.specs.Progress.{without_waiting};
+
+/// What a post does where the queue is full.
+#[derive(Clone, Copy, Debug, PartialEq, Eq)]
+pub enum Policy {
+    /// It begins again until there is room.
+    Block,
+    /// It takes the oldest item out, which is lost, and begins again.
+    OverrunOldest,
+    /// It gives up.
+    DiscardNew,
+}
+
+impl Policy {
+    /// The policy of a post that never waits.
+    pub(crate) fn without_waiting(self) -> Policy
+        ensures { result ≡ without_waiting self }
+    {
+        match self {
+            Policy::Block | Policy::DiscardNew => Policy::DiscardNew,
+            Policy::OverrunOldest => Policy::OverrunOldest,
+        }
+    }
+}
+
+/// Why a post ended without a ticket.
+#[derive(Clone, Copy, Debug, PartialEq, Eq)]
+pub enum Why {
+    /// The queue is full, and the policy is to discard the new.
+    Full,
+    /// The queue is full, and its oldest item is not written yet, so that there is nothing to take out.
+    Stalled,
+    /// Others were faster for 64 rounds.
+    Busy,
+    /// No ticket is left, and none will come.
+    Spent,
+}
+
+/// How a post ended.
+#[derive(Debug, PartialEq, Eq, Drop)]
+pub enum Outcome<T> {
+    /// The value is in the queue.
+    Posted {
+        /// Its ticket.
+        ticket: u64,
+        /// How many items the post took out to make room.
+        overran: u64,
+    },
+    /// The value is not in the queue.
+    Discarded {
+        /// The value, handed back.
+        value: T,
+        /// Why.
+        why: Why,
+        /// How many items the post took out to make room.
+        overran: u64,
+    },
+}
