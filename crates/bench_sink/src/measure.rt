@@ -4,7 +4,7 @@ use alog_format::LineBuf;
 use anyhow::{Context, Result};
 use std::alloc::Global;
 use std::rt::Clock;
-use std::time::Instant;
+use std::time::{Duration, Instant};
 
 /// The runs of each target.
 const RUNS: u32 = 7;
@@ -41,8 +41,8 @@ impl Case {
     }
 }
 
-/// Nanoseconds a message of one run, on a target of its own.
-fn run_one<R>(rt: &R, case: Case) -> Result<f64>
+/// The time of one run, on a target of its own.
+fn run_one<R>(rt: &R, case: Case) -> Result<Duration>
 where
     R: Clock + AllocGlobal,
 {
@@ -51,7 +51,12 @@ where
     let mut line = LineBuf::new(rt.alloc(), LINE)?;
     let start = Instant::now(rt)?;
     give_all(&mut target, &mut message, &mut line)?;
-    Ok(start.elapsed(rt)?.as_secs_f64() * 1e9 / f64::from(COUNT))
+    Ok(start.elapsed(rt)?)
+}
+
+/// Nanoseconds a message.
+fn nanos(time: Duration) -> f64 {
+    time.as_secs_f64() * 1e9 / f64::from(COUNT)
 }
 
 /// Prints a line for each target: nanoseconds a message in the best run and the middle one. The targets take turns.
@@ -64,10 +69,10 @@ where
         for _ in 0..RUNS {
             times.push(run_one(rt, case)?)?;
         }
-        times.sort_unstable_by(|a, b| a.total_cmp(b));
+        times.sort_unstable();
         let name = case.name();
-        let best = *times.first().context("no run")?;
-        let middle = *times.get(times.len() / 2).context("no run")?;
+        let best = nanos(*times.first().context("no run")?);
+        let middle = nanos(*times.get(times.len() / 2).context("no run")?);
         println!(rt; "alog   {name}  best {best:>6.1} ns  middle {middle:>6.1} ns")?;
     }
     Ok(())
