@@ -84,8 +84,13 @@ length_parts name =
 
 longer : (name : List ℕ) (i : ℕ) → length name < length (numbered name (suc i))
 longer name i =
-    omega (arith, length_parts name, length-append (stem name ++ codes "." ++ decimal (suc i)) (extension name),
-    length-append (stem name ++ codes ".") (decimal (suc i)), length-append (stem name) (codes "."))
+    omega (
+      arith,
+      length_parts name,
+      length-append (stem name ++ codes "." ++ decimal (suc i)) (extension name),
+      length-append (stem name ++ codes ".") (decimal (suc i)),
+      length-append (stem name) (codes "."),
+    )
 
 -- A name with a number is longer than the name, and with another number it is another name.
 pub numbered_differ : (name : List ℕ) (i j : ℕ) → i < 2 ^ 64 → j < 2 ^ 64 → numbered name i ≡ numbered name j → i ≡ j

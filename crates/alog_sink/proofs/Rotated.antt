@@ -36,6 +36,7 @@ last_bytes max base lines front last cut = of_first last (last_run max front las
         (subst (All (λ piece. has_bytes piece ≡ true))
         (sym cut.joined ∙ (flat_map-append (λ (run : Run). run) front (last ∷ []) ∙ ap (λ xs. flat_map (λ (run : Run). run) front ++ xs) (append-nil last)))
         (filter_passes has_bytes (base ∷ lines)))
+
     of_first : (run : Run) → 1 ≤ length run → All (λ piece. has_bytes piece ≡ true) run → 0 < size_of run
     of_first [] some h = absurd (omega arith)
     of_first ([] ∷ run) some h = absurd (let e = All-head (λ piece. has_bytes piece ≡ true) [] run h in cc)
@@ -129,9 +130,11 @@ module _ (limits : Limits) (opening : Files) (lines : List (List ℕ)) (files : 
       where
         up : GivenUp limits.file limits.max_files files (all_done (gives_up limits.file limits.max_files) files)
         up = given_up limits.file limits.max_files small files
+
         old : (i : ℕ) → i ≤ limits.max_files
             → files (numbered limits.file i) ≡ of_number limits.max_files (places limits opening (front ++ last ∷ [])) i
         old i at = numbers i at ∙ kept_is limits opening front last i
+
         by_number : (i : ℕ) → i ≤ limits.max_files
             → takes (all_done (gives_up limits.file limits.max_files) files) (numbered limits.file i) ≡ kept limits opening ((front ++ last ∷ []) ++ (line ∷ []) ∷ []) i
         by_number zero at =
@@ -142,10 +145,10 @@ module _ (limits : Limits) (opening : Files) (lines : List (List ℕ)) (files : 
         by_number (suc i) at =
             appended_there limits.file line (all_done (gives_up limits.file limits.max_files) files) (numbered limits.file (suc i)) (apart_from_base i at)
             ∙ (elim (cases_lt (suc i) limits.max_files) [
-                inl l ↦ up.under i l ∙ (old i (omega arith) ∙ sym (moved_on (concat (line ∷ [])) (places limits opening (front ++ last ∷ [])) limits.max_files i l))
+              | inl l ↦ up.under i l ∙ (old i (omega arith) ∙ sym (moved_on (concat (line ∷ [])) (places limits opening (front ++ last ∷ [])) limits.max_files i l))
               | inr l ↦ let e : suc i ≡ limits.max_files = omega arith in
                   up.top i e ∙ (ap (λ o. over o (files (numbered limits.file (suc i)))) (old i (omega arith))
                   ∙ (ap (λ o. over (of_number limits.max_files (places limits opening (front ++ last ∷ [])) i) o) (old (suc i) at)
                   ∙ sym (moved_on_last (concat (line ∷ [])) (places limits opening (front ++ last ∷ [])) limits.max_files i e)))
-              ]
+            ]
             ∙ sym (kept_last limits opening (front ++ last ∷ []) (line ∷ []) (suc i)))

@@ -131,7 +131,7 @@ module _ (file : List ℕ) (n : ℕ) (small : n + 1 < 2 ^ 64) (files : Files) wh
         later.rest (numbered file (suc n)) (λ i less. apart file i (suc n) (omega arith) (omega arith) (omega arith))
         ∙ renamed_to (numbered file n) (numbered file (suc n)) files (next file n small files);
     under = λ i less. elim (cases_lt i n) [
-        inl l ↦ later.under i l ∙ below_once file n small files i l
+      | inl l ↦ later.under i l ∙ below_once file n small files i l
       | inr l ↦ let e : i ≡ n = omega arith in subst (λ j. after (numbered file j) ≡ below file files j) (sym e) (later.top ∙ topmost_once file n small files)
     ];
     rest = λ name differs.

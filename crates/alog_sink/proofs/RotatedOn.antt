@@ -54,8 +54,12 @@ module _ (r : Rotating) (small : r.limits.max_files < 2 ^ 64) (opening : Files) 
   stays is = record {
     rotated = is;
     counted =
-        omega (arith, stands.counted, ap (λ o. length (unwrap_or o [])) (appended_here r.limits.file line files),
-        length-append (bytes_of files r.limits.file) line);
+        omega (
+          arith,
+          stands.counted,
+          ap (λ o. length (unwrap_or o [])) (appended_here r.limits.file line files),
+          length-append (bytes_of files r.limits.file) line,
+        );
   }
 
   goes : IsRotated r.limits opening (lines ++ line ∷ []) (appended r.limits.file line (all_done (gives_up r.limits.file r.limits.max_files) files))
@@ -65,9 +69,12 @@ module _ (r : Rotating) (small : r.limits.max_files < 2 ^ 64) (opening : Files) 
       subst (λ f. StandsFor (record r { size = 0 + length line }) opening (lines ++ line ∷ []) f) (sym same)
       (record {
         rotated = is;
-        counted = omega (arith, ap (λ o. length (unwrap_or o []))
-            (appended_here r.limits.file line (all_done (gives_up r.limits.file r.limits.max_files) files)
-            ∙ ap (λ o. Some (unwrap_or o [] ++ line)) (given_up r.limits.file r.limits.max_files small files).base));
+        counted = omega (
+          arith,
+          ap (λ o. length (unwrap_or o []))
+              (appended_here r.limits.file line (all_done (gives_up r.limits.file r.limits.max_files) files)
+              ∙ ap (λ o. Some (unwrap_or o [] ++ line)) (given_up r.limits.file r.limits.max_files small files).base),
+        );
       })
 
   cut_at : (runs : List Run) → stands.rotated.runs ≡ runs → IsCut r.limits.max_size (pieces (bytes_of opening r.limits.file) lines) runs
@@ -84,7 +91,7 @@ module _ (r : Rotating) (small : r.limits.max_files < 2 ^ 64) (opening : Files) 
 
   by_runs : Goal (is_full_for r (length line))
   by_runs = elim (by_last stands.rotated.runs) [
-      inl e ↦
+    | inl e ↦
         let empty : r.size ≡ 0 = stands.counted ∙ ap length (no_bytes r.limits opening lines files b bytes small (cut_at [] e) (numbers_at [] e)) in
         subst Goal (sym (not_full_empty r.size r.limits.max_size (length line) empty))
         (stays (first_line r.limits opening lines files b bytes small (cut_at [] e) (numbers_at [] e) stands.rotated.others))
@@ -92,15 +99,15 @@ module _ (r : Rotating) (small : r.limits.max_files < 2 ^ 64) (opening : Files) 
         let cut = cut_at (w.0 ++ w.1 ∷ []) w.2 in
         let size = size_is w.0 w.1 w.2 in
         elim (cases_lt r.limits.max_size (size_of w.1 + length line)) [
-          inl more ↦
-            let some = last_bytes r.limits.max_size (bytes_of opening r.limits.file) lines w.0 w.1 cut in
-            subst Goal (sym (full r.size r.limits.max_size (length line) (omega arith) (omega arith)))
-            (goes (line_new r.limits opening lines files b bytes small w.0 w.1 cut (numbers_at _ w.2) stands.rotated.others more))
-        | inr less ↦
-            subst Goal (sym (not_full r.size r.limits.max_size (length line) (omega arith)))
-            (stays (line_more r.limits opening lines files b bytes small w.0 w.1 cut (numbers_at _ w.2) stands.rotated.others less))
+          | inl more ↦
+              let some = last_bytes r.limits.max_size (bytes_of opening r.limits.file) lines w.0 w.1 cut in
+              subst Goal (sym (full r.size r.limits.max_size (length line) (omega arith) (omega arith)))
+              (goes (line_new r.limits opening lines files b bytes small w.0 w.1 cut (numbers_at _ w.2) stands.rotated.others more))
+          | inr less ↦
+              subst Goal (sym (not_full r.size r.limits.max_size (length line) (omega arith)))
+              (stays (line_more r.limits opening lines files b bytes small w.0 w.1 cut (numbers_at _ w.2) stands.rotated.others less))
         ]
-    ]
+  ]
 
 -- the deeds of a line lead from the files of some lines to those of one line more
 pub stands_for_more : (r : Rotating) → r.limits.max_files < 2 ^ 64 → (opening : Files) (lines : List (List ℕ)) (files : Files) (line : List ℕ)

@@ -87,8 +87,8 @@ pub opened : (o : ℕ → Option (List ℕ)) (bytes : List ℕ) (max i : ℕ) �
     → of_number max (Some bytes ∷ map o (range_with_len 1 max)) (suc i) ≡ o (suc i)
 opened o bytes zero i less = absurd (omega arith)
 opened o bytes (suc n) i less = elim (cases_lt i n) [
-    inl l ↦ at_place (suc n) (Some bytes ∷ map o (range_with_len 1 (suc n))) (suc i) (omega arith)
-        ∙ get_or-map-range_with_len o 1 (suc n) i (suc i) None less (omega arith)
+  | inl l ↦ at_place (suc n) (Some bytes ∷ map o (range_with_len 1 (suc n))) (suc i) (omega arith)
+      ∙ get_or-map-range_with_len o 1 (suc n) i (suc i) None less (omega arith)
   | inr l ↦ let e : i ≡ n = omega arith in
       subst (λ k. of_number (suc n) (Some bytes ∷ map o (range_with_len 1 (suc n))) (suc k) ≡ o (suc k)) (sym e) (opened_last o bytes n)
-  ]
+]

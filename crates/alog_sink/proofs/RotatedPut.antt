@@ -21,12 +21,12 @@ numbers_push file names name n count are e =
   where
     each : AreNumbersOf file (map string_bytes names ++ string_bytes name ∷ [])
     each i less = elim (cases_lt i (length (map string_bytes names))) [
-        inl l ↦ get_or_append_left (map string_bytes names) (string_bytes name ∷ []) [] i l ∙ are i l
+      | inl l ↦ get_or_append_left (map string_bytes names) (string_bytes name ∷ []) [] i l ∙ are i l
       | inr l ↦
           let last : length (map string_bytes names) ≡ i = omega (arith, length-append (map string_bytes names) (string_bytes name ∷ [])) in
           get_or_push (map string_bytes names) (string_bytes name) [] i last
           ∙ (e ∙ ap (numbered file) (omega (arith, length-map names string_bytes)))
-      ]
+    ]
 
 pub full_room : (r : Rotating) (bytes : ℕ) → r.size ≢ 0 → r.limits.max_size < r.size + bytes
     → makes_room r bytes ≡ gives_up r.limits.file r.limits.max_files

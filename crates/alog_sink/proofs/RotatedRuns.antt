@@ -30,9 +30,9 @@ all_right P xs ys h k d less =
 pub by_last : {X : Type 0} (xs : List X) → (xs ≡ []) ⊎ ((front : List X) × (last : X) × (xs ≡ front ++ last ∷ []))
 by_last [] = inl refl
 by_last (x ∷ xs) = elim (by_last xs) [
-        inl e ↦ inr ([], x, ap (λ r. x ∷ r) e)
-      | inr w ↦ inr (x ∷ w.0, w.1, ap (λ r. x ∷ r) w.2)
-    ]
+  | inl e ↦ inr ([], x, ap (λ r. x ∷ r) e)
+  | inr w ↦ inr (x ∷ w.0, w.1, ap (λ r. x ∷ r) w.2)
+]
 
 module _ (max : ℕ) where
   same_next : (run next : Run) (xs ys : List Run) → IsFull max run (next ∷ xs) → IsFull max run (next ∷ ys)
@@ -114,11 +114,11 @@ fronts (x ∷ xs) (y ∷ ys) us vs e =
     let heads : x ≡ y = cc in
     let tails : xs ++ us ≡ ys ++ vs = cc in
     elim (fronts xs ys us vs tails) [
-        inl w ↦ inl (cc, w.1)
+      | inl w ↦ inl (cc, w.1)
       | inr v ↦ elim v [
-            inl w ↦ inr (inl (w.0, w.1, cc, w.3))
-          | inr w ↦ inr (inr (w.0, w.1, cc, w.3))
-        ]
+        | inl w ↦ inr (inl (w.0, w.1, cc, w.3))
+        | inr w ↦ inr (inr (w.0, w.1, cc, w.3))
+      ]
     ]
 
 module _ (max : ℕ) where
@@ -147,25 +147,29 @@ module _ (max : ℕ) where
       let rest = All-tail (IsRun max) run runs each in
       let rest' = All-tail (IsRun max) other others each' in
       elim (fronts run other (flat runs) (flat others) e) [
-          inl w ↦ let same = same_runs runs others rest full.1 rest' full'.1 w.1 in
-              ap (λ r. r ∷ others) w.0 ∙ ap (λ rs. run ∷ rs) same
+        | inl w ↦ let same = same_runs runs others rest full.1 rest' full'.1 w.1 in
+            ap (λ r. r ∷ others) w.0 ∙ ap (λ rs. run ∷ rs) same
         | inr v ↦ elim v [
-              inl w ↦ absurd (too_long run other runs w.0 w.1 (flat others) is.some rest full.0 is' w.2 w.3)
-            | inr w ↦ absurd (too_long other run others w.0 w.1 (flat runs) is'.some rest' full'.0 is w.2 w.3)
-          ]
+          | inl w ↦ absurd (too_long run other runs w.0 w.1 (flat others) is.some rest full.0 is' w.2 w.3)
+          | inr w ↦ absurd (too_long other run others w.0 w.1 (flat runs) is'.some rest' full'.0 is w.2 w.3)
+        ]
       ]
 
   cut_more : (pieces : List (List ℕ)) (piece : List ℕ) → (runs : List Run) → IsCut max pieces runs
       → (more : List Run) × IsCut max (pieces ++ piece ∷ []) more
   cut_more pieces piece runs cut =
       elim (by_last runs) [
-          inl e ↦ ((piece ∷ []) ∷ [], cut_first max pieces piece (subst (IsCut max pieces) e cut))
+        | inl e ↦ ((piece ∷ []) ∷ [], cut_first max pieces piece (subst (IsCut max pieces) e cut))
         | inr w ↦ elim (cases_lt max (size_of w.1 + length piece)) [
-              inl more ↦ ((w.0 ++ w.1 ∷ []) ++ (piece ∷ []) ∷ [],
-                  cut_new max pieces piece w.0 w.1 (subst (IsCut max pieces) w.2 cut) more)
-            | inr less ↦ (w.0 ++ (w.1 ++ piece ∷ []) ∷ [],
-                  cut_grown max pieces piece w.0 w.1 (subst (IsCut max pieces) w.2 cut) less)
-          ]
+          | inl more ↦ (
+            (w.0 ++ w.1 ∷ []) ++ (piece ∷ []) ∷ [],
+            cut_new max pieces piece w.0 w.1 (subst (IsCut max pieces) w.2 cut) more,
+          )
+          | inr less ↦ (
+            w.0 ++ (w.1 ++ piece ∷ []) ∷ [],
+            cut_grown max pieces piece w.0 w.1 (subst (IsCut max pieces) w.2 cut) less,
+          )
+        ]
       ]
 
   cut_all : (done rest : List (List ℕ)) (runs : List Run) → IsCut max done runs → (more : List Run) × IsCut max (done ++ rest) more

@@ -16,6 +16,8 @@ mod mem_store;
 mod names;
 mod rotation;
 #[cfg(test)]
+mod rotation_plain_tests;
+#[cfg(test)]
 mod rotation_tests;
 mod store;
 #[cfg(test)]

@@ -38,12 +38,12 @@ impl Model for Rotation {
     ghost Value = { Rotating };
 
     ghost view = { λ r. record {
-        limits = record {
-            file = base_name (map string_bytes r.names.items);
-            max_size = r.max_size;
-            max_files = length r.names.items - 1;
-        };
-        size = r.size;
+      limits = record {
+        file = base_name (map string_bytes r.names.items);
+        max_size = r.max_size;
+        max_files = length r.names.items - 1;
+      };
+      size = r.size;
     } };
 
     ghost invariant = { λ r. (1 ≤ length r.names.items) × (length r.names.items ≤ FILES_MAX + 1)

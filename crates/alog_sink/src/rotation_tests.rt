@@ -92,7 +92,12 @@ fn a_base_of_just_the_size(rt: HostRuntime) -> Result<(), Fail> {
 #[test]
 fn a_long_line_in_an_empty_base(rt: HostRuntime) -> Result<(), Fail> {
     let line = b"0123456789012345678\n";
-    let store = rotated(&rt, MemStore::new(rt.alloc()).with("log.txt", b"")?, 2, &[line, b""])?;
+    let store = rotated(
+        &rt,
+        MemStore::new(rt.alloc()).with("log.txt", b"")?,
+        2,
+        &[line, b""],
+    )?;
     assert_eq!(rt; store.files().len(), 1);
     has(&rt, &store, "log.txt", line);
     Ok(())

@@ -4,7 +4,7 @@ use Rattle.alog_sink.proofs.NamesCut.{extension_from, no_extension, no_extension
 use Rattle.alog_sink.proofs.names.extension_at.Goals as goal
 
 pub returns-in-Some-clause-before : goal.returns-in-Some-clause-before
-returns-in-Some-clause-before c = 
+returns-in-Some-clause-before c =
     let found = rfind_char 46 c.args.name.now (Some c.in-Some.at) c.in-Some.ensures.cases (lit< tt) in
     (parts c.args.name.now c.in-Some.at (omega arith)
     (extension_from c.args.name.now c.in-Some.at found.0 found.1 found.2 (omega arith) (omega arith))).0

@@ -23,13 +23,13 @@ pub loop-i-preserved : goal.loop-i-preserved
 loop-i-preserved g c = record {
   done = λ tells.
       renamed_one (gives_up (base_name (map string_bytes c.args.names.now)) (length c.args.names.now - 1))
-          (base_name (map string_bytes c.args.names.now)) c.loop-i.i (omega arith)
-          c.as_str-in-loop-i.result.now c.as_str-in-loop-i-2.result.now
-          (c.as_str-in-loop-i.ensures.value ∙ name_at (base_name (map string_bytes c.args.names.now)) c.args.names.now c.requires.numbered (c.loop-i.i - 1 - 1) c.index-names-i.result (omega arith) c.index-names-i.is)
-          (c.as_str-in-loop-i-2.ensures.value
-          ∙ name_at (base_name (map string_bytes c.args.names.now)) c.args.names.now c.requires.numbered (c.loop-i.i - 1) c.index-names-i-in-loop-i.result (omega arith) c.index-names-i-in-loop-i.is)
-          (g.S.Store.files c.args.store.now) (g.S.Store.files c.loop-i.store) (g.S.Store.files c.rename.new.self) (c.loop-i.invariant.done tells)
-          (c.in_ok-rename.ensures.done tells);
+      (base_name (map string_bytes c.args.names.now)) c.loop-i.i (omega arith)
+      c.as_str-in-loop-i.result.now c.as_str-in-loop-i-2.result.now
+      (c.as_str-in-loop-i.ensures.value ∙ name_at (base_name (map string_bytes c.args.names.now)) c.args.names.now c.requires.numbered (c.loop-i.i - 1 - 1) c.index-names-i.result (omega arith) c.index-names-i.is)
+      (c.as_str-in-loop-i-2.ensures.value
+      ∙ name_at (base_name (map string_bytes c.args.names.now)) c.args.names.now c.requires.numbered (c.loop-i.i - 1) c.index-names-i-in-loop-i.result (omega arith) c.index-names-i-in-loop-i.is)
+      (g.S.Store.files c.args.store.now) (g.S.Store.files c.loop-i.store) (g.S.Store.files c.rename.new.self) (c.loop-i.invariant.done tells)
+      (c.in_ok-rename.ensures.done tells);
   counted = c.in_ok-rename.ensures.counted.done ∙ c.loop-i.invariant.counted;
   within = omega (arith, c.loop-i.invariant.within);
 }
@@ -39,13 +39,13 @@ returns-in_err-rename-clause-deeds g c = λ tells.
     let p = err_from_is_err_and c.from_residual.result c.from_residual.ensures.1 in
     let all = gives_up (base_name (map string_bytes c.args.names.now)) (length c.args.names.now - 1) in
     does_err all (g.S.Store.files c.args.store.now) (g.S.Store.files c.rename.new.self) c.from_residual.result p.0 p.1
-        (renamed_none all (base_name (map string_bytes c.args.names.now)) c.loop-i.i (omega arith)
-          c.as_str-in-loop-i.result.now c.as_str-in-loop-i-2.result.now
-          (c.as_str-in-loop-i.ensures.value ∙ name_at (base_name (map string_bytes c.args.names.now)) c.args.names.now c.requires.numbered (c.loop-i.i - 1 - 1) c.index-names-i.result (omega arith) c.index-names-i.is)
-          (c.as_str-in-loop-i-2.ensures.value
-          ∙ name_at (base_name (map string_bytes c.args.names.now)) c.args.names.now c.requires.numbered (c.loop-i.i - 1) c.index-names-i-in-loop-i.result (omega arith) c.index-names-i-in-loop-i.is)
-          (g.S.Store.files c.args.store.now) (g.S.Store.files c.loop-i.store) (g.S.Store.files c.rename.new.self) (c.loop-i.invariant.done tells)
-          (c.in_err-rename.ensures.failed tells))
+    (renamed_none all (base_name (map string_bytes c.args.names.now)) c.loop-i.i (omega arith)
+    c.as_str-in-loop-i.result.now c.as_str-in-loop-i-2.result.now
+    (c.as_str-in-loop-i.ensures.value ∙ name_at (base_name (map string_bytes c.args.names.now)) c.args.names.now c.requires.numbered (c.loop-i.i - 1 - 1) c.index-names-i.result (omega arith) c.index-names-i.is)
+    (c.as_str-in-loop-i-2.ensures.value
+    ∙ name_at (base_name (map string_bytes c.args.names.now)) c.args.names.now c.requires.numbered (c.loop-i.i - 1) c.index-names-i-in-loop-i.result (omega arith) c.index-names-i-in-loop-i.is)
+    (g.S.Store.files c.args.store.now) (g.S.Store.files c.loop-i.store) (g.S.Store.files c.rename.new.self) (c.loop-i.invariant.done tells)
+    (c.in_err-rename.ensures.failed tells))
 
 pub returns-in_err-rename-clause-counted : goal.returns-in_err-rename-clause-counted
 returns-in_err-rename-clause-counted g c =

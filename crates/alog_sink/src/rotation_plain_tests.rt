@@ -1,0 +1,188 @@
+//! The definition of a rotation as a plain program, beside what a rotation does, on all small lists of pieces.
+use crate::MemStore;
+use crate::names::is_file_name;
+use crate::rotation::{FILES_MAX, Rotation, SIZE_MAX};
+use std::alloc::{AllocError, Global};
+use std::process::Abort;
+use std::test::Fail;
+
+const NAMES: [&str; 5] = ["log", "log.1", "log.2", "log.3", "log.4"];
+
+// Whether pieces of these sizes are rightly cut: `cuts` has a bit for each piece but the first, 1 where it opens a run.
+fn is_cut(sizes: &[usize], cuts: usize, max_size: usize) -> bool {
+    let mut cuts = cuts;
+    let mut run: Option<usize> = None;
+    for size in sizes {
+        let Some(bytes) = run else {
+            run = Some(*size);
+            continue;
+        };
+        let sum = bytes.saturating_add(*size);
+        let opens = cuts % 2 == 1;
+        if opens == (sum <= max_size) {
+            return false;
+        }
+        run = Some(if opens { *size } else { sum });
+        cuts /= 2;
+    }
+    true
+}
+
+// The only cut of pieces of these sizes that is right, of all cuts.
+fn the_cut(rt: &impl Abort, sizes: &[usize], max_size: usize) -> usize {
+    let mut all = 1usize;
+    for _ in 1..sizes.len() {
+        all = all.saturating_mul(2);
+    }
+    let mut right = None;
+    for cuts in 0..all {
+        if is_cut(sizes, cuts, max_size) {
+            assert!(rt; right.is_none(), "two cuts");
+            right = Some(cuts);
+        }
+    }
+    right.expect(rt, "no cut")
+}
+
+// The bytes of the runs of pieces that are not empty.
+fn runs_of(
+    rt: &(impl Abort + AllocGlobal),
+    pieces: &[Vec<u8>],
+    max_size: usize,
+) -> Result<Vec<Vec<u8>>, AllocError> {
+    let mut sizes = Vec::new(rt.alloc());
+    for piece in pieces {
+        sizes.push(piece.len())?;
+    }
+    let mut cuts = the_cut(rt, sizes.as_slice(), max_size);
+    let mut runs: Vec<Vec<u8>> = Vec::new(rt.alloc());
+    for piece in pieces {
+        match runs.last_mut() {
+            None => runs.push(piece.clone()?)?,
+            Some(run) => {
+                if cuts % 2 == 0 {
+                    run.extend_from_slice(piece.as_slice())?;
+                } else {
+                    runs.push(piece.clone()?)?;
+                }
+                cuts /= 2;
+            }
+        }
+    }
+    Ok(runs)
+}
+
+// A rotation's opening files: a base, and numbers by the bits of `numbers`, which have their names as bytes.
+fn opening(alloc: Global, base: Option<&Vec<u8>>, numbers: usize) -> Result<MemStore, AllocError> {
+    let mut store = MemStore::new(alloc);
+    if let Some(bytes) = base {
+        store = store.with("log", bytes.as_slice())?;
+    }
+    let mut numbers = numbers;
+    for name in &NAMES[1..] {
+        if numbers % 2 == 1 {
+            store = store.with(name, name.as_bytes())?;
+        }
+        numbers /= 2;
+    }
+    Ok(store)
+}
+
+// The files by place.
+fn places_of<'a>(
+    alloc: Global,
+    runs: &'a [Vec<u8>],
+    opening: &'a MemStore,
+    max_files: usize,
+) -> Result<Vec<Option<&'a [u8]>>, AllocError> {
+    let mut places = Vec::new(alloc);
+    for run in runs.iter().rev() {
+        places.push(Some(run.as_slice()))?;
+    }
+    for name in NAMES.iter().skip(1).take(max_files) {
+        places.push(opening.files().get(*name).map(|file| file.as_slice()))?;
+    }
+    Ok(places)
+}
+
+// What a number has, by the places.
+fn of_number<'a>(places: &[Option<&'a [u8]>], max_files: usize, i: usize) -> Option<&'a [u8]> {
+    if i < max_files {
+        return places.get(i).copied().flatten();
+    }
+    for place in places.iter().skip(max_files) {
+        if let Some(bytes) = place {
+            return Some(*bytes);
+        }
+    }
+    None
+}
+
+// Rotates these pieces, of which the first is the opening base, and looks at each file.
+fn looks_right(
+    rt: &(impl Abort + AllocGlobal),
+    pieces: &[Vec<u8>],
+    runs: &[Vec<u8>],
+    max_size: u64,
+    max_files: usize,
+) -> Result<(), Fail> {
+    assert!(rt; is_file_name("log"));
+    assert!(rt; 1 <= max_size && max_size <= SIZE_MAX && max_files <= FILES_MAX);
+    let numbers = max_size as usize - 1;
+    let opened = opening(rt.alloc(), pieces.first(), numbers)?;
+    let mut store = opening(rt.alloc(), pieces.first(), numbers)?;
+    let mut rotation = Rotation::open(rt.alloc(), &mut store, "log", max_size, max_files)?;
+    for line in pieces.iter().skip(1) {
+        rotation.put(&mut store, line.as_slice())?;
+    }
+    let places = places_of(rt.alloc(), runs, &opened, max_files)?;
+    for (i, name) in NAMES.iter().enumerate() {
+        let is = store.files().get(*name).map(|file| file.as_slice());
+        let was = opened.files().get(*name).map(|file| file.as_slice());
+        let right = if runs.is_empty() || i > max_files {
+            was
+        } else {
+            of_number(places.as_slice(), max_files, i)
+        };
+        assert!(rt;
+            is == right,
+            "{name} of {pieces:?} within {max_size}, {max_files}"
+        );
+    }
+    Ok(())
+}
+
+// Pieces of the sizes that are the digits of `code` by 5.
+fn pieces_of(alloc: Global, count: usize, code: usize) -> Result<Vec<Vec<u8>>, AllocError> {
+    let mut pieces = Vec::new(alloc);
+    let mut code = code;
+    for letter in b"abcdef".iter().take(count) {
+        pieces.push(vec![in alloc; *letter; code % 5]?)?;
+        code /= 5;
+    }
+    Ok(pieces)
+}
+
+#[test]
+fn all_small_lists_of_pieces(rt: HostRuntime) -> Result<(), Fail> {
+    let mut lists = 1;
+    for count in 0..7 {
+        for code in 0..lists {
+            let pieces = pieces_of(rt.alloc(), count, code)?;
+            let mut some = Vec::new(rt.alloc());
+            for piece in &pieces {
+                if !piece.is_empty() {
+                    some.push(piece.clone()?)?;
+                }
+            }
+            for max_size in 1..9 {
+                let runs = runs_of(&rt, some.as_slice(), max_size as usize)?;
+                for max_files in 0..4 {
+                    looks_right(&rt, pieces.as_slice(), runs.as_slice(), max_size, max_files)?;
+                }
+            }
+        }
+        lists *= 5;
+    }
+    Ok(())
+}
