@@ -163,26 +163,30 @@ fn pieces_of(alloc: Global, count: usize, code: usize) -> Result<Vec<Vec<u8>>, A
     Ok(pieces)
 }
 
+// Rotates these pieces within each limit.
+fn each_limit(rt: &(impl Abort + AllocGlobal), pieces: &[Vec<u8>]) -> Result<(), Fail> {
+    let mut some = Vec::new(rt.alloc());
+    for piece in pieces {
+        if !piece.is_empty() {
+            some.push(piece.clone()?)?;
+        }
+    }
+    for max_size in 1..9 {
+        let runs = runs_of(rt, some.as_slice(), max_size as usize)?;
+        for max_files in 0..4 {
+            looks_right(rt, pieces, runs.as_slice(), max_size, max_files)?;
+        }
+    }
+    Ok(())
+}
+
 #[test]
 fn all_small_lists_of_pieces(rt: HostRuntime) -> Result<(), Fail> {
-    let mut lists = 1;
-    for count in 0..7 {
-        for code in 0..lists {
+    for (count, lists) in [1, 5, 25, 125, 625, 3_125, 15_625].iter().enumerate() {
+        for code in 0..*lists {
             let pieces = pieces_of(rt.alloc(), count, code)?;
-            let mut some = Vec::new(rt.alloc());
-            for piece in &pieces {
-                if !piece.is_empty() {
-                    some.push(piece.clone()?)?;
-                }
-            }
-            for max_size in 1..9 {
-                let runs = runs_of(&rt, some.as_slice(), max_size as usize)?;
-                for max_files in 0..4 {
-                    looks_right(&rt, pieces.as_slice(), runs.as_slice(), max_size, max_files)?;
-                }
-            }
+            each_limit(&rt, pieces.as_slice())?;
         }
-        lists *= 5;
     }
     Ok(())
 }
