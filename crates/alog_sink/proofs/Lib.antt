@@ -1,5 +1,6 @@
 mod Filed
 mod NamesCut
+mod NamesDated
 mod RotatedRuns
 mod RotatedFiles
 mod RotatedPlaces

@@ -1,19 +1,18 @@
 -- The deeds of a line lead from the files of some lines to those of one line more.
-use Rattle.std.proofs.Common.{◌≡◌, ◌≢◌, ℕ, zero, suc, ◌+◌, ◌<◌, ◌≤◌, ◌^◌, Bool, true, false, cond, ltb, ◌&&◌, Option, None, Some, List, [], ◌∷◌, ◌++◌}
-use Rattle.std.proofs.Common.{length, refl, sym, ap, ◌∙◌, subst, inl, inr, ◌⊎◌, append-nil, append_assoc, length-append, arith}
+use Rattle.std.proofs.Common.{◌≡◌, ◌≢◌, ℕ, zero, suc, ◌+◌, ◌<◌, ◌≤◌, ◌^◌, true, Some, List, [], ◌∷◌, ◌++◌}
+use Rattle.std.proofs.Common.{length, refl, sym, ap, ◌∙◌, subst, inl, inr, append-nil, arith}
 use Rattle.std.proofs.lemmas.Bool.{cases_lt}
-use Rattle.std.proofs.lemmas.Bool.Decides.{nat_tests}
 use Rattle.std.proofs.lemmas.List.Elements.{filter-append, filter_passes, All-head}
 use Rattle.std.proofs.lemmas.List.Concat.{flat_map-append}
 use Rattle.std.specs.List.{All, concat, filter, flat_map}
 use Rattle.std.specs.Option.{unwrap_or}
-use Rattle.alog_sink.specs.Files.{Files, AreSame, bytes_of, appended}
+use Rattle.alog_sink.specs.Files.{Files, bytes_of, appended}
 use Rattle.alog_sink.specs.Deeds.{all_done}
 use Rattle.alog_sink.specs.Names.{numbered}
 use Rattle.alog_sink.specs.Rotation.{Limits, Run, has_bytes, pieces, size_of, IsCut, kept, IsRotated, places, of_number}
-use Rattle.alog_sink.specs.RotationDeeds.{Rotating, StandsFor, gives_up, is_full_for, deeds_of, with_line}
-use Rattle.alog_sink.proofs.RotatedFiles.{over, apart, GivenUp, given_up, appended_here, appended_there, all_done-append}
-use Rattle.alog_sink.proofs.RotatedRuns.{by_last, all_right, last_run, concat-append, cut_first, cut_new, cut_grown}
+use Rattle.alog_sink.specs.RotationDeeds.{gives_up}
+use Rattle.alog_sink.proofs.RotatedFiles.{over, apart, GivenUp, given_up, appended_here, appended_there}
+use Rattle.alog_sink.proofs.RotatedRuns.{all_right, last_run, concat-append, cut_first, cut_new, cut_grown}
 use Rattle.alog_sink.proofs.RotatedPlaces.{base_first, moved_on, moved_on_last, same_above, kept_is, kept_last, opened}
 
 -- the pieces of one line more

@@ -1,11 +1,11 @@
 -- What the deeds of a rotation leave under each name.
 use Rattle.std.proofs.Common.{◌≡◌, ◌≢◌, ℕ, zero, suc, ◌+◌, ◌<◌, ◌≤◌, ◌^◌, Bool, true, false, cond, Option, None, Some, List, [], ◌∷◌, ◌++◌}
-use Rattle.std.proofs.Common.{refl, sym, ap, ◌∙◌, subst, ◌⊎◌, inl, inr, Decides, arith}
+use Rattle.std.proofs.Common.{refl, sym, ap, ◌∙◌, subst, inl, inr, Decides, arith}
 use Rattle.std.proofs.lemmas.Bool.{cases_lt}
 use Rattle.std.specs.Cmp.Lexicographic.{bytes_decides}
 use Rattle.std.specs.Option.{unwrap_or}
 use Rattle.std.specs.Str.{bytes_eq}
-use Rattle.alog_sink.specs.Files.{Files, AreSame, bytes_of, appended, moved, removed, renamed, with_file}
+use Rattle.alog_sink.specs.Files.{Files, AreSame, bytes_of, appended, moved, removed, renamed}
 use Rattle.alog_sink.specs.Deeds.{Deed, Append, Rename, Remove, done, all_done}
 use Rattle.alog_sink.specs.Names.{numbered}
 use Rattle.alog_sink.specs.RotationDeeds.{renames, gives_up}

@@ -10,7 +10,7 @@ use Rattle.alog_sink.specs.Files.{Files, AreSame, bytes_of, appended}
 use Rattle.alog_sink.specs.Deeds.{Append, all_done}
 use Rattle.alog_sink.specs.Rotation.{Limits, Run, size_of, pieces, IsRun, IsCut, IsRotated, kept, places}
 use Rattle.alog_sink.specs.Names.{numbered}
-use Rattle.alog_sink.specs.RotationDeeds.{Rotating, StandsFor, gives_up, is_full_for, makes_room, deeds_of, with_line}
+use Rattle.alog_sink.specs.RotationDeeds.{Rotating, StandsFor, gives_up, is_full_for, deeds_of, with_line}
 use Rattle.alog_sink.proofs.RotatedFiles.{given_up, appended_here, all_done-append}
 use Rattle.alog_sink.proofs.RotatedRuns.{by_last, cut_first}
 use Rattle.alog_sink.proofs.RotatedPlaces.{base_first, kept_last, opened}

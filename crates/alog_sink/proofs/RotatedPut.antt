@@ -1,17 +1,16 @@
 -- The deeds of a line, by the calls that were made.
-use Rattle.std.proofs.Common.{◌≡◌, ◌≢◌, ℕ, ◌+◌, ◌<◌, ◌≤◌, ◌^◌, cond, ltb, ◌&&◌, true, List, [], ◌∷◌, ◌++◌, refl, sym, ap, ◌∙◌, subst, inl, inr, ◌⊎◌}
+use Rattle.std.proofs.Common.{◌≡◌, ◌≢◌, ℕ, ◌+◌, ◌<◌, ◌^◌, cond, ltb, ◌&&◌, true, List, [], ◌∷◌, ◌++◌, refl, sym, ap, ◌∙◌, subst, inl, inr}
 use Rattle.std.specs.Option.{option_map, unwrap_or}
-use Rattle.std.proofs.Common.{Option, None, Some, String, string_bytes, length, map, get_or, length-append, arith}
+use Rattle.std.proofs.Common.{Option, None, Some, String, string_bytes, length, map, length-append, arith}
 use Rattle.std.proofs.lemmas.Bool.{cases_lt}
 use Rattle.std.proofs.lemmas.Bool.Decides.{nat_tests}
 use Rattle.std.proofs.lemmas.List.{get_or_append_left, get_or_push, length-map, map_push}
 use Rattle.alog_sink.specs.Calls.{LeavesFront}
-use Rattle.alog_sink.specs.Deeds.{Deed, Append, all_done, BreaksOff}
+use Rattle.alog_sink.specs.Deeds.{Append, all_done, BreaksOff}
 use Rattle.alog_sink.specs.Files.{Files, AreSame, appended}
 use Rattle.alog_sink.specs.Names.{numbered}
-use Rattle.alog_sink.specs.RotationDeeds.{Rotating, AreNumbersOf, StandsFor, gives_up, is_full_for, makes_room, deeds_of, size_left, with_line}
-use Rattle.alog_sink.proofs.RotatedDoes.{HasDone, nothing_done, one_done, one_failed, breaks_off_before, all_are_done, same_then}
-use Rattle.alog_sink.proofs.RotatedFiles.{done_alike, all_alike}
+use Rattle.alog_sink.specs.RotationDeeds.{Rotating, AreNumbersOf, StandsFor, gives_up, makes_room, deeds_of, size_left, with_line}
+use Rattle.alog_sink.proofs.RotatedDoes.{HasDone, one_done, one_failed, breaks_off_before, all_are_done}
 use Rattle.alog_sink.proofs.RotatedOn.{stands_alike, stands_for_more}
 
 pub numbers_push : {Z : Type 0} (file : List ℕ) (names : List (String Z)) (name : String Z) (n : ℕ) → length names ≡ n

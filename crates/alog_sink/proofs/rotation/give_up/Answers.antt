@@ -1,4 +1,4 @@
-use Rattle.std.proofs.Common.{◌≡◌, ◌-◌, length, map, string_bytes, refl, sym, ◌∙◌, arith}
+use Rattle.std.proofs.Common.{◌-◌, length, map, string_bytes, refl, ◌∙◌, arith}
 use Rattle.std.proofs.lemmas.Result.{err_from_is_err_and}
 use Rattle.alog_sink.specs.RotationDeeds.{base_name, gives_up}
 use Rattle.alog_sink.proofs.RotatedDoes.{does_ok, does_err, counts_ok, counts_err, name_at, removed_only, renames_begin, renamed_one, renamed_none, renamed_all}

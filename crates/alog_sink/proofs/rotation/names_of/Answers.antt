@@ -1,4 +1,4 @@
-use Rattle.std.proofs.Common.{◌∙◌, ap, length, arith}
+use Rattle.std.proofs.Common.{ap, length, arith}
 use Rattle.std.proofs.lemmas.List.{length_push}
 use Rattle.alog_sink.proofs.RotatedPut.{numbers_push}
 use Rattle.alog_sink.proofs.rotation.names_of.Goals as goal

@@ -1,4 +1,4 @@
-use Rattle.std.proofs.Common.{◌≡◌, sym, subst, Ok, arith}
+use Rattle.std.proofs.Common.{sym, subst, Ok, arith}
 use Rattle.alog_sink.specs.contracts.rotation.Rotation.{the_view}
 use Rattle.alog_sink.specs.Deeds.{all_done, Does}
 use Rattle.alog_sink.specs.Files.{AreSame}

@@ -1,4 +1,4 @@
-use Rattle.std.proofs.Common.{[], sym, ap, ◌∙◌, length, map, string_bytes, arith}
+use Rattle.std.proofs.Common.{[], sym, ap, ◌∙◌, length, string_bytes, arith}
 use Rattle.std.proofs.lemmas.List.{length-map}
 use Rattle.std.specs.Option.{unwrap_or}
 use Rattle.alog_sink.specs.Files.{bytes_of}

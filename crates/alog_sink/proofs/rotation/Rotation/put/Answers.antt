@@ -1,9 +1,9 @@
-use Rattle.std.proofs.Common.{rules, ◌≡◌, ◌≢◌, ◌+◌, ◌<◌, ◌^◌, List, [], ◌∷◌, ◌++◌, ℕ, length, sym, subst, ap, ◌∙◌, arith}
+use Rattle.std.proofs.Common.{rules, ◌≡◌, ◌≢◌, ◌+◌, ◌<◌, ◌^◌, [], ◌∷◌, ◌++◌, length, sym, subst, ap, ◌∙◌, arith}
 use Rattle.std.proofs.lemmas.Result.{err_from_is_err_and}
 use Rattle.alog_sink.specs.contracts.rotation.Rotation.{the_view}
 use Rattle.alog_sink.specs.RotationDeeds.{Rotating, StandsFor, deeds_of, with_line}
 use Rattle.alog_sink.proofs.RotatedDoes.{does_ok, does_err}
-use Rattle.alog_sink.proofs.RotatedPut.{room_breaks, line_breaks, line_does, line_stands, with_line_is}
+use Rattle.alog_sink.proofs.RotatedPut.{room_breaks, line_does, line_stands, with_line_is}
 use Rattle.alog_sink.proofs.rotation.Rotation.put.Goals as goal
 
 pub returns-in_err-left-clause-deeds : goal.returns-in_err-left-clause-deeds
