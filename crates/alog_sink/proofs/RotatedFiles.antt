@@ -132,11 +132,13 @@ module _ (file : List ℕ) (n : ℕ) (small : n + 1 < 2 ^ 64) (files : Files) wh
         ∙ renamed_to (numbered file n) (numbered file (suc n)) files (next file n small files);
     under = λ i less. elim (cases_lt i n) [
       | inl l ↦ later.under i l ∙ below_once file n small files i l
-      | inr l ↦ let e : i ≡ n = omega arith in subst (λ j. after (numbered file j) ≡ below file files j) (sym e) (later.top ∙ topmost_once file n small files)
+      | inr l ↦ let e : i ≡ n = omega arith in subst (λ j. after (numbered file j) ≡ below file files j) (sym e)
+          (later.top ∙ topmost_once file n small files)
     ];
     rest = λ name differs.
         later.rest name (λ i less. differs i (omega arith))
-        ∙ renamed_there (numbered file n) (numbered file (suc n)) files (next file n small files) name (differs n (omega arith)) (differs (suc n) (omega arith));
+        ∙ renamed_there (numbered file n) (numbered file (suc n)) files (next file n small files) name (differs n (omega arith))
+        (differs (suc n) (omega arith));
   }
 
 pub shifted : (file : List ℕ) (n : ℕ) → n < 2 ^ 64 → (files : Files) → Shifted file n files (all_done (renames file n) files)
@@ -166,6 +168,7 @@ given_up file (suc n) small files =
       under = λ i less. all.under (suc i) less;
       top = λ i e.
           let same : i ≡ n = omega arith in
-          subst (λ j. all_done (gives_up file (suc n)) files (numbered file (suc j)) ≡ over (files (numbered file j)) (files (numbered file (suc j)))) (sym same) all.top;
+          subst (λ j. all_done (gives_up file (suc n)) files (numbered file (suc j))
+          ≡ over (files (numbered file j)) (files (numbered file (suc j)))) (sym same) all.top;
       rest = all.rest;
     }

@@ -13,7 +13,13 @@ returns-clause-name c = elim c.match-from_utf8.branch [
       let long : length w.in-Ok.text.now ≡ 11 = ap length text ∙ eleven in
       let a = pushed c.push_str.result (string_bytes c.clear.new.self) c.split_at.result.0.now (string_bytes c.push_str.new.self)
       (string_len c.clear.new.self) (string_capacity c.clear.new.self) (string_len c.push_str.new.self)
-      c.push_str.ensures.succeeds (omega (arith, c.clear.ensures.len, c.clear.ensures.capacity, c.split_at.ensures.front_len, c.split_at.ensures.back_len))
+      c.push_str.ensures.succeeds (omega (
+        arith,
+        c.clear.ensures.len,
+        c.clear.ensures.capacity,
+        c.split_at.ensures.front_len,
+        c.split_at.ensures.back_len,
+      ))
       c.push_str.ensures.bytes c.push_str.ensures.len in
       let b = pushed w.push_str-in-Ok.result (string_bytes c.push_str.new.self) w.in-Ok.text.now (string_bytes w.push_str-in-Ok.new.self)
       (string_len c.push_str.new.self) (string_capacity c.push_str.new.self) (string_len w.push_str-in-Ok.new.self)
