@@ -8,4 +8,5 @@ mod Rotated
 mod RotatedOn
 mod RotatedDoes
 mod RotatedPut
+mod DailyFiles
 mod Fronts

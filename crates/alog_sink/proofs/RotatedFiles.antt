@@ -24,10 +24,10 @@ is_false : (b : Bool) {P : Type 0} → Decides b P → ¬ P → b ≡ false
 is_false true d differs = absurd (differs (d.0 refl))
 is_false false d differs = refl
 
-at_same : (name : List ℕ) (x y : Option (List ℕ)) → cond (bytes_eq name name) x y ≡ x
+pub at_same : (name : List ℕ) (x y : Option (List ℕ)) → cond (bytes_eq name name) x y ≡ x
 at_same name x y = ap (λ b. cond b x y) ((bytes_decides name name).1 refl)
 
-at_other : (name other : List ℕ) (x y : Option (List ℕ)) → name ≢ other → cond (bytes_eq name other) x y ≡ y
+pub at_other : (name other : List ℕ) (x y : Option (List ℕ)) → name ≢ other → cond (bytes_eq name other) x y ≡ y
 at_other name other x y differs = ap (λ b. cond b x y) (is_false (bytes_eq name other) (bytes_decides name other) differs)
 
 -- the same files, the same deeds

@@ -5,5 +5,7 @@ pub mod Names
 pub mod Rotation
 pub mod RotationDeeds
 pub mod RotationOpen
+pub mod Daily
+pub mod DailyDeeds
 pub mod Memory
 pub mod Fuse

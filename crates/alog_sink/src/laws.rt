@@ -1,4 +1,5 @@
 //! What is true of the definitions.
+ghost use Rattle.alog_sink.specs.DailyDeeds.{DaysGoOn};
 ghost use Rattle.alog_sink.specs.Names.{DatedNamesDiffer, NumberedNamesDiffer};
 ghost use Rattle.alog_sink.specs.Rotation.{PiecesHaveOneCut};
 
@@ -15,4 +16,10 @@ pub fn dated_names_differ()
 /// The pieces of a file that is rotated are cut into runs in exactly one way. It does nothing: its contract is the law.
 pub fn pieces_have_one_cut()
     ensures { PiecesHaveOneCut }
+{}
+
+/// The deeds of an entry lead from the files by days of some entries to those of one entry more, where a name that was opened
+/// before comes again only directly. It does nothing: its contract is the law.
+pub fn days_go_on()
+    ensures { DaysGoOn }
 {}
