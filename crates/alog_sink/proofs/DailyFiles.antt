@@ -1,5 +1,5 @@
 -- The deeds of an entry lead from the files of some entries to those of one entry more.
-use Rattle.std.proofs.Common.{◌≡◌, ◌≢◌, ℕ, zero, suc, ◌+◌, ◌-◌, ◌<◌, ◌≤◌, Bool, true, false, cond, ltb, Option, None, Some}
+use Rattle.std.proofs.Common.{◌≡◌, ◌≢◌, ℕ, zero, suc, ◌+◌, ◌-◌, ◌<◌, ◌≤◌, Bool, true, false, cond, ltb, None, Some}
 use Rattle.std.proofs.Common.{List, [], ◌∷◌, ◌++◌, length, get_or, drop, fold, refl, sym, ap, ◌∙◌, subst, inl, inr, ◌⊎◌, Decides}
 use Rattle.std.proofs.Common.{append-nil, append_assoc, length-append, arith}
 use Rattle.std.specs.Cmp.Lexicographic.{bytes_decides}
@@ -8,15 +8,16 @@ use Rattle.std.specs.Option.{unwrap_or}
 use Rattle.std.specs.Str.{bytes_eq}
 use Rattle.std.proofs.lemmas.Bool.{cases_lt}
 use Rattle.std.proofs.lemmas.Bool.Decides.{nat_tests}
-use Rattle.std.proofs.lemmas.List.{get_or-drop, get_or_push, get_or_default, drop_more, drop-append-le, drop_all, length-drop}
-use Rattle.std.proofs.lemmas.List.Elements.{Contains-get_or, Contains-push, Contains-push_cases, Contains-append_left, Contains-append_right, Contains-append_cases}
+use Rattle.std.proofs.lemmas.List.{get_or-drop, get_or_push, get_or_default, drop_more, drop-append-le, length-drop}
+use Rattle.std.proofs.lemmas.List.Elements.{Contains-get_or, Contains-push, Contains-push_cases, Contains-append_left}
+use Rattle.std.proofs.lemmas.List.Elements.{Contains-append_right, Contains-append_cases}
 use Rattle.std.proofs.lemmas.List.Sums.{fold-append}
 use Rattle.std.proofs.lemmas.List.Quantifiers.{all_pairs_push}
-use Rattle.alog_sink.specs.Files.{Files, AreSame, bytes_of, appended, removed}
+use Rattle.alog_sink.specs.Files.{Files, bytes_of, appended, removed}
 use Rattle.alog_sink.specs.Deeds.{Append, Remove, all_done}
 use Rattle.alog_sink.specs.Daily.{Entry, Segment, AreSegments, none, begun, gone_on, opens, lines_of, last_name, is_last, with_name}
 use Rattle.alog_sink.specs.Daily.{opened_names, kept_names, IsDaily}
-use Rattle.alog_sink.specs.DailyDeeds.{makes_way, opening_deeds, day_deeds, names_after, DaysGoOn}
+use Rattle.alog_sink.specs.DailyDeeds.{makes_way, opening_deeds, DaysGoOn}
 use Rattle.alog_sink.proofs.RotatedFiles.{all_done-append, appended_here, appended_there, at_same, at_other}
 use Rattle.alog_sink.proofs.RotatedRuns.{by_last, concat-append}
 
@@ -76,8 +77,10 @@ last_with_name names name = by (is_last name names) refl
 
 no_segments : (entries : List Entry) (segments : List Segment) → AreSegments entries segments → segments ≡ [] → entries ≡ []
 no_segments _ _ none e = refl
-no_segments _ _ (begun entries segments entry cut at) e = absurd (let l = ap length e in omega (arith, length-append segments (record { name = entry.name; lines = entry.line ∷ [] } ∷ [])))
-no_segments _ _ (gone_on entries segments last entry cut at) e = absurd (let l = ap length e in omega (arith, length-append segments (record last { lines = last.lines ++ entry.line ∷ [] } ∷ [])))
+no_segments _ _ (begun entries segments entry cut at) e = absurd
+    (let l = ap length e in omega (arith, length-append segments (record { name = entry.name; lines = entry.line ∷ [] } ∷ [])))
+no_segments _ _ (gone_on entries segments last entry cut at) e = absurd
+    (let l = ap length e in omega (arith, length-append segments (record last { lines = last.lines ++ entry.line ∷ [] } ∷ [])))
 
 -- names, and those that are kept
 kept_in : (max : ℕ) (names : List (List ℕ)) (name : List ℕ) → Contains (kept_names max names) name → Contains names name
@@ -117,18 +120,22 @@ with_name_keeps names name other h = by (is_last name names)
 abbrev all_opened : List (List ℕ) → List Segment → List (List ℕ)
 all_opened names segments = fold (λ ns s. with_name ns s.name) names segments
 
-opened_keeps : (names : List (List ℕ)) (segments : List Segment) (name : List ℕ) → Contains names name → Contains (all_opened names segments) name
+opened_keeps : (names : List (List ℕ)) (segments : List Segment) (name : List ℕ) → Contains names name
+    → Contains (all_opened names segments) name
 opened_keeps names [] name h = h
 opened_keeps names (s ∷ segments) name h = opened_keeps (with_name names s.name) segments name (with_name_keeps names s.name name h)
 
-no_lines : (names : List (List ℕ)) (segments : List Segment) (name : List ℕ) → ¬ Contains (all_opened names segments) name → lines_of name segments ≡ []
+no_lines : (names : List (List ℕ)) (segments : List Segment) (name : List ℕ) → ¬ Contains (all_opened names segments) name
+    → lines_of name segments ≡ []
 no_lines names [] name missing = refl
 no_lines names (s ∷ segments) name missing =
     ap (λ b. cond b s.lines [] ++ lines_of name segments) (test_other s.name name
-    (λ e. missing (opened_keeps (with_name names s.name) segments name (subst (Contains (with_name names s.name)) e (with_name_has names s.name)))))
+    (λ e. missing (opened_keeps (with_name names s.name) segments name
+    (subst (Contains (with_name names s.name)) e (with_name_has names s.name)))))
     ∙ no_lines (with_name names s.name) segments name missing
 
-module _ (max : ℕ) (names : List (List ℕ)) (opening : Files) (entries : List Entry) (files : Files) (is : IsDaily max names opening entries files)
+module _ (max : ℕ) (names : List (List ℕ)) (opening : Files) (entries : List Entry) (files : Files)
+    (is : IsDaily max names opening entries files)
     (line : List ℕ) where
   -- a line more for a name that is kept
   line_more : (more : List Entry) (segments : List Segment) (name : List ℕ) → AreSegments more segments → opened_names segments ≡ names
@@ -145,7 +152,8 @@ module _ (max : ℕ) (names : List (List ℕ)) (opening : Files) (entries : List
       | inr differs ↦ appended_there name line files other differs ∙ (is.kept other h
           ∙ ap (λ ls. Some (bytes_of opening other ++ concat ls)) (sym (there other differs)))
     ];
-    gone = λ other h not. appended_there name line files other (λ e. not (subst (Contains (kept_names max names)) e in_kept)) ∙ is.gone other h not;
+    gone = λ other h not. appended_there name line files other (λ e. not (subst (Contains (kept_names max names)) e in_kept))
+        ∙ is.gone other h not;
     others = λ other not.
         appended_there name line files other (λ e. not (subst (Contains names) e (kept_in max names name in_kept))) ∙ is.others other not;
   }
@@ -162,15 +170,18 @@ module _ (max : ℕ) (names : List (List ℕ)) (opening : Files) (entries : List
           ∙ ap (λ xs. Some (bytes_of opening name ++ xs)) joined))
 
 -- the last of some names is kept
-kept_last : (max : ℕ) (names : List (List ℕ)) (name : List ℕ) → Contains names name → last_name names ≡ name → Contains (kept_names max names) name
+kept_last : (max : ℕ) (names : List (List ℕ)) (name : List ℕ) → Contains names name → last_name names ≡ name
+    → Contains (kept_names max names) name
 kept_last max names name has last = elim (by_last names) [
   | inl empty ↦ absurd (let less = has.1 in omega (arith, ap length empty))
   | inr w ↦
       let e : w.1 ≡ name = sym (last_pushed w.0 w.1) ∙ (ap last_name (sym w.2) ∙ last) in
-      subst (λ ns. Contains (kept_names max ns) name) (sym w.2) (subst (Contains (kept_names max (w.0 ++ w.1 ∷ []))) e (last_kept max w.0 w.1))
+      subst (λ ns. Contains (kept_names max ns) name) (sym w.2)
+      (subst (Contains (kept_names max (w.0 ++ w.1 ∷ []))) e (last_kept max w.0 w.1))
 ]
 
-module _ (max : ℕ) (names : List (List ℕ)) (opening : Files) (entries : List Entry) (files : Files) (is : IsDaily max names opening entries files)
+module _ (max : ℕ) (names : List (List ℕ)) (opening : Files) (entries : List Entry) (files : Files)
+    (is : IsDaily max names opening entries files)
     (entry : Entry) where
   abbrev new_segment : Segment
   new_segment = record { name = entry.name; lines = entry.line ∷ [] }
@@ -260,10 +271,12 @@ module _ (n : ℕ) (names : List (List ℕ)) (name : List ℕ) (files : Files) (
       distinct place (place + 1 + h.0) other (omega arith) (omega (arith, length-drop (place + 1) names))
       (get_or_default names place other [] (omega arith) ∙ (e ∙ (sym h.2 ∙ get_or-drop (place + 1) names h.0 other)))
 
-  kept_still : (other : List ℕ) → Contains (kept_names (suc n) (names ++ name ∷ [])) other → name ≢ other → Contains (drop (place + 1) names) other
+  kept_still : (other : List ℕ) → Contains (kept_names (suc n) (names ++ name ∷ [])) other → name ≢ other
+      → Contains (drop (place + 1) names) other
   kept_still other h differs = not_new (drop (place + 1) names) name other (subst (λ ns. Contains ns other) kept_is h) differs
 
-  was_kept : (other : List ℕ) → Contains (kept_names (suc n) names) other → out ≢ other → Contains (kept_names (suc n) (names ++ name ∷ [])) other
+  was_kept : (other : List ℕ) → Contains (kept_names (suc n) names) other → out ≢ other
+      → Contains (kept_names (suc n) (names ++ name ∷ [])) other
   was_kept other h differs =
       elim (Contains-append_cases (out ∷ []) (drop (place + 1) names) other (subst (λ ns. Contains ns other) kept_was h)) [
         | inl alone ↦ elim (Contains-push_cases [] out other alone) [
@@ -308,7 +321,8 @@ way_made (suc n) names name files distinct = elim (cases_lt n (length names)) [
     not_below : (a b : ℕ) → b ≤ a → ltb a b ≡ false
     not_below a b more = grind (arith, nat_tests)
 
-module _ (max : ℕ) (names : List (List ℕ)) (opening : Files) (entries : List Entry) (files : Files) (is : IsDaily max names opening entries files)
+module _ (max : ℕ) (names : List (List ℕ)) (opening : Files) (entries : List Entry) (files : Files)
+    (is : IsDaily max names opening entries files)
     (entry : Entry) (early : opens entries entry ≡ true) (first : ¬ Contains names entry.name) where
   abbrev given_way : Files
   given_way = all_done (makes_way max names) files

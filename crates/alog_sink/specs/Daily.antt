@@ -1,5 +1,5 @@
 -- Files by days: which lines open a period, the segments that they begin, and which file each segment is in.
-use Rattle.std.specs.Prelude.{◌≡◌, ◌≢◌, ℕ, zero, suc, ◌-◌, ℤ, Bool, true, false, if◌then◌else◌, Option, None, Some}
+use Rattle.std.specs.Prelude.{◌≡◌, ◌≢◌, ℕ, zero, suc, ◌-◌, ℤ, Bool, true, false, if◌then◌else◌, None, Some}
 use Rattle.std.specs.Prelude.{List, [], ◌∷◌, ◌++◌, length, drop, fold, get_or}
 use Rattle.std.specs.Int.Signed.{lt_z}
 use Rattle.std.specs.List.{concat, list_all, AllPairs, Contains}

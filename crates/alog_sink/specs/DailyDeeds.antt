@@ -1,5 +1,5 @@
 -- What a daily file does to files for an entry, and that this leads on to one entry more.
-use Rattle.std.specs.Prelude.{◌≡◌, ℕ, zero, suc, ◌-◌, nat_lt, Bool, true, if◌then◌else◌, List, [], ◌∷◌, ◌++◌, length, get_or}
+use Rattle.std.specs.Prelude.{◌≡◌, ℕ, zero, suc, ◌-◌, nat_lt, true, if◌then◌else◌, List, [], ◌∷◌, ◌++◌, length, get_or}
 use Rattle.std.specs.List.{Contains}
 use Rattle.alog_sink.specs.Daily.{Entry, opens, last_name, is_last, with_name, IsDaily}
 use Rattle.alog_sink.specs.Deeds.{Deed, Append, Remove, all_done}
