@@ -7,11 +7,16 @@
 //! answer, then `store.rt`, the trait. `specs/Memory.antt` says which files a map in memory keeps, and
 //! `specs/Fuse.antt` how a fuse burns; `mem_store.rt` and `fuse_store.rt` are the two stores.
 //!
+//! A file that is rotated: `specs/Rotation.antt` cuts what was written into runs and says which file has which run,
+//! `specs/RotationDeeds.antt` what a line does to files; `rotation.rt` does it. `names.rt` makes the names of files
+//! (`specs/Names.antt`). `specs/Daily.antt` and `specs/DailyDeeds.antt` say the same of files by days; `laws.rt` states
+//! what is true of these definitions.
+//!
 //! The test `each_call_on_files_in_memory` in `tests.rt` is an example.
 #![tactic(auto)]
 
 mod fuse_store;
-pub mod laws;
+mod laws;
 mod mem_store;
 mod names;
 mod rotation;
@@ -24,6 +29,7 @@ mod store;
 mod tests;
 
 pub use fuse_store::{Fuse, FuseStore};
+pub use laws::{dated_names_differ, days_go_on, numbered_names_differ, pieces_have_one_cut};
 pub use mem_store::MemStore;
 pub use store::{Store, StoreError};
 

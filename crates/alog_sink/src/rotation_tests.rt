@@ -1,6 +1,9 @@
 use crate::names::{Date, is_file_name, numbered, write_dated};
 use crate::rotation::{FILES_MAX, OpenError, Rotation, SIZE_MAX};
-use crate::{FuseStore, MemStore, Store, StoreError};
+use crate::{
+    FuseStore, MemStore, Store, StoreError, dated_names_differ, days_go_on, numbered_names_differ,
+    pieces_have_one_cut,
+};
 use std::alloc::{AllocError, Global};
 use std::process::Abort;
 use std::test::Fail;
@@ -200,4 +203,12 @@ fn a_line_after_a_failed_append(rt: HostRuntime) -> Result<(), Fail> {
     assert_eq!(rt; store.store().files().len(), 1);
     has(&rt, store.store(), "log", b"aaa\nccccc\n");
     Ok(())
+}
+
+#[test]
+fn laws() {
+    dated_names_differ();
+    days_go_on();
+    numbered_names_differ();
+    pieces_have_one_cut();
 }
