@@ -190,37 +190,19 @@ fn two_threads_take_turns(rt: HostRuntime) -> Result<(), Fail> {
     Ok(())
 }
 
-// Adds 1 so many times, and marks the index of each turn.
-fn mark_ones(lane: &Lane<Sum>, mut seat: LaneSeat<Sum>, marks: &[AtomicU64], count: u64)
-    requires { IsSeatOf lane.now seat }
-{
-    for _ in 0..count {
-        if let Some(index) = add_one(lane, &mut seat)
-            && let Some(mark) = marks.get(index as usize)
-        {
-            mark.fetch_add(1, Ordering::SeqCst);
-        }
-    }
-}
-
 #[test]
 fn four_threads_take_turns(rt: HostRuntime) -> Result<(), Fail> {
     let (lane, mut seat) = Lane::new(rt.alloc(), Sum(0))?;
-    let mut marks = Vec::with_capacity(rt.alloc(), 40_000)?;
-    for _ in 0..40_000 {
-        marks.push(AtomicU64::new(0))?;
-    }
-    let marks = marks.as_slice();
     let lane = &lane;
     let one = lane.split(&mut seat, 1);
     let two = lane.split(&mut seat, 1);
     let three = lane.split(&mut seat, 1);
     let four = lane.split(&mut seat, 1);
-    thread::join(
+    let (one, (two, (three, four))) = thread::join(
         &rt,
         ||
             requires { IsSeatOf lane.now one }
-        { mark_ones(lane, one, marks, 10_000) },
+        { add_ones(lane, one, 10_000) },
         ||
             requires { IsSeatOf lane.now two × IsSeatOf lane.now three × IsSeatOf lane.now four }
         {
@@ -228,7 +210,7 @@ fn four_threads_take_turns(rt: HostRuntime) -> Result<(), Fail> {
                 &rt,
                 ||
                     requires { IsSeatOf lane.now two }
-                { mark_ones(lane, two, marks, 10_000) },
+                { add_ones(lane, two, 10_000) },
                 ||
                     requires { IsSeatOf lane.now three × IsSeatOf lane.now four }
                 {
@@ -236,18 +218,21 @@ fn four_threads_take_turns(rt: HostRuntime) -> Result<(), Fail> {
                         &rt,
                         ||
                             requires { IsSeatOf lane.now three }
-                        { mark_ones(lane, three, marks, 10_000) },
+                        { add_ones(lane, three, 10_000) },
                         ||
                             requires { IsSeatOf lane.now four }
-                        { mark_ones(lane, four, marks, 10_000) },
+                        { add_ones(lane, four, 10_000) },
                     )
                 },
             )
         },
     );
-    for mark in marks {
-        assert_eq!(rt; mark.load(Ordering::SeqCst), 1);
+    let mut sum = 0u64;
+    for (rose, part) in [one, two, three, four] {
+        assert!(rt; rose);
+        sum = sum.wrapping_add(part);
     }
+    assert_eq!(rt; sum, 20_000 * 39_999);
     assert_eq!(rt;
         lane.turn_once(&mut seat, 0, &0, &mut ()),
         Ok((40_000, 40_000))

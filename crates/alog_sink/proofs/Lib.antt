@@ -1,5 +1,6 @@
 mod Filed
 mod NamesCut
+mod NamesDated
 mod RotatedRuns
 mod RotatedFiles
 mod RotatedPlaces
@@ -7,6 +8,7 @@ mod Rotated
 mod RotatedOn
 mod RotatedDoes
 mod RotatedPut
+mod DailyFiles
 mod Fronts
 pub mod Journals
 pub mod Turns

@@ -1,6 +1,7 @@
 -- Where the extension of a name begins.
 use Rattle.std.proofs.Common.{◌≡◌, ◌≢◌, ℕ, ◌+◌, ◌-◌, ◌<◌, ◌≤◌, not, cond, eqb, ltb, ◌&&◌, List, [], ◌∷◌, ◌++◌}
-use Rattle.std.proofs.Common.{zero, suc, ◌^◌, decimal, codes, append_assoc, length, get_or, take, drop, refl, sym, ap, ◌∙◌, ◌⊎◌, inl, inr, arith, length-append}
+use Rattle.std.proofs.Common.{zero, suc, ◌^◌, decimal, codes, append_assoc, length, get_or, take, drop, refl, sym, ap, ◌∙◌, ◌⊎◌, inl, inr}
+use Rattle.std.proofs.Common.{arith, length-append}
 use Rattle.std.proofs.lemmas.List.{drop_more, drop_all, length-drop, length-take-le, append_cancel_left, append_cancel_right}
 use Rattle.std.proofs.lemmas.List.Sums.{suffix_len_is}
 use Rattle.std.proofs.lemmas.Bool.{ne_eqb}
@@ -43,12 +44,14 @@ module _ (name : List ℕ) (k : ℕ) (inside : k < length name) (dot : get_or na
       (λ i more less. ap not (ne_eqb (get_or name i 0) 46 (last i (omega arith) less)))
       (λ _. ap (λ b. not (eqb b 46)) (ap (λ i. get_or name i 0) (omega arith) ∙ dot)))
 
-  tested : extension name ≡ cond (ltb 0 (length (drop (k + 1) name)) && ltb (length (drop (k + 1) name) + 1) (length name)) (46 ∷ drop (k + 1) name) []
+  tested : extension name ≡ cond (ltb 0 (length (drop (k + 1) name)) && ltb (length (drop (k + 1) name) + 1) (length name))
+      (46 ∷ drop (k + 1) name) []
   tested = extension_by name (drop (k + 1) name) after
 
   pub extension_from : 0 < k → k + 1 < length name → extension name ≡ drop k name
   extension_from some less =
-      tested ∙ inner (length (drop (k + 1) name)) (length name) _ (omega (arith, length-drop (k + 1) name)) (omega (arith, length-drop (k + 1) name))
+      tested ∙ inner (length (drop (k + 1) name)) (length name) _ (omega (arith, length-drop (k + 1) name))
+      (omega (arith, length-drop (k + 1) name))
       ∙ (ap (λ b. b ∷ drop (k + 1) name) (sym dot) ∙ sym (drop_more name k 0 inside))
 
   pub no_extension_at : (k ≡ 0) ⊎ (length name ≤ k + 1) → extension name ≡ []
@@ -58,7 +61,8 @@ module _ (name : List ℕ) (k : ℕ) (inside : k < length name) (dot : get_or na
       tested ∙ outer (length (drop (k + 1) name)) (length name) _ (inl (omega (arith, length-drop (k + 1) name)))
 
 -- the two parts of a name, cut where its extension begins
-pub parts : (name : List ℕ) (k : ℕ) → k ≤ length name → extension name ≡ drop k name → (take k name ≡ stem name) × (drop k name ≡ extension name)
+pub parts : (name : List ℕ) (k : ℕ) → k ≤ length name → extension name ≡ drop k name
+    → (take k name ≡ stem name) × (drop k name ≡ extension name)
 parts name k within e =
     (ap (λ n. take n name) (sym (ap (λ xs. length name - length xs) e ∙ omega (arith, length-drop k name))), sym e)
 

@@ -16,7 +16,8 @@ use Rattle.alog_sink.proofs.RotatedRuns.{all_right, last_run, concat-append, cut
 use Rattle.alog_sink.proofs.RotatedPlaces.{base_first, moved_on, moved_on_last, same_above, kept_is, kept_last, opened}
 
 -- the pieces of one line more
-pub pieces_more : (base : List ℕ) (lines : List (List ℕ)) (line : List ℕ) → pieces base (lines ++ line ∷ []) ≡ pieces base lines ++ filter has_bytes (line ∷ [])
+pub pieces_more : (base : List ℕ) (lines : List (List ℕ)) (line : List ℕ) → pieces base (lines ++ line ∷ [])
+    ≡ pieces base lines ++ filter has_bytes (line ∷ [])
 pieces_more base lines line = filter-append has_bytes (base ∷ lines) (line ∷ [])
 
 -- the base has bytes if it is a piece
@@ -33,7 +34,8 @@ last_bytes max base lines front last cut = of_first last (last_run max front las
     all =
         all_right (λ piece. has_bytes piece ≡ true) (flat_map (λ (run : Run). run) front) last
         (subst (All (λ piece. has_bytes piece ≡ true))
-        (sym cut.joined ∙ (flat_map-append (λ (run : Run). run) front (last ∷ []) ∙ ap (λ xs. flat_map (λ (run : Run). run) front ++ xs) (append-nil last)))
+        (sym cut.joined ∙ (flat_map-append (λ (run : Run). run) front (last ∷ [])
+        ∙ ap (λ xs. flat_map (λ (run : Run). run) front ++ xs) (append-nil last)))
         (filter_passes has_bytes (base ∷ lines)))
 
     of_first : (run : Run) → 1 ≤ length run → All (λ piece. has_bytes piece ≡ true) run → 0 < size_of run
@@ -60,7 +62,8 @@ module _ (limits : Limits) (opening : Files) (lines : List (List ℕ)) (files : 
 
   -- without a piece the base is empty
   pub no_bytes : IsCut limits.max_size (pieces (bytes_of opening limits.file) lines) []
-      → ((i : ℕ) → i ≤ limits.max_files → files (numbered limits.file i) ≡ opening (numbered limits.file i)) → bytes_of files limits.file ≡ []
+      → ((i : ℕ) → i ≤ limits.max_files → files (numbered limits.file i) ≡ opening (numbered limits.file i))
+      → bytes_of files limits.file ≡ []
   no_bytes cut numbers =
       ap (λ o. unwrap_or o []) (numbers 0 (omega arith)) ∙ no_base (bytes_of opening limits.file) lines (sym cut.joined)
 
@@ -92,19 +95,22 @@ module _ (limits : Limits) (opening : Files) (lines : List (List ℕ)) (files : 
       (numbers : (i : ℕ) → i ≤ limits.max_files → files (numbered limits.file i) ≡ kept limits opening (front ++ last ∷ []) i)
       (others : (name : List ℕ) → ((i : ℕ) → i ≤ limits.max_files → numbered limits.file i ≢ name) → files name ≡ opening name) where
     pub base_is : files limits.file ≡ Some (concat last)
-    base_is = numbers 0 (omega arith) ∙ (kept_last limits opening front last 0 ∙ base_first (concat last) (places limits opening front) limits.max_files)
+    base_is = numbers 0 (omega arith) ∙ (kept_last limits opening front last 0
+        ∙ base_first (concat last) (places limits opening front) limits.max_files)
 
     -- the line goes on with the last run
     pub line_more : size_of last + length line ≤ limits.max_size → IsRotated limits opening (lines ++ line ∷ []) (takes files)
     line_more less = record {
       runs = front ++ (last ++ line ∷ []) ∷ [];
-      cut = subst (λ ps. IsCut limits.max_size ps (front ++ (last ++ line ∷ []) ∷ [])) (sym (pieces_more (bytes_of opening limits.file) lines line))
+      cut = subst (λ ps. IsCut limits.max_size ps (front ++ (last ++ line ∷ []) ∷ []))
+          (sym (pieces_more (bytes_of opening limits.file) lines line))
           (cut_grown limits.max_size (pieces (bytes_of opening limits.file) lines) line front last cut less);
       numbers = by_number;
       others = others_stay files others;
     }
       where
-        by_number : (i : ℕ) → i ≤ limits.max_files → takes files (numbered limits.file i) ≡ kept limits opening (front ++ (last ++ line ∷ []) ∷ []) i
+        by_number : (i : ℕ) → i ≤ limits.max_files → takes files (numbered limits.file i)
+            ≡ kept limits opening (front ++ (last ++ line ∷ []) ∷ []) i
         by_number zero at =
             appended_here limits.file line files ∙ (ap (λ o. Some (unwrap_or o [] ++ line)) base_is
             ∙ (ap (λ o. Some o) (sym (concat-append last (line ∷ []) ∙ ap (λ x. concat last ++ x) (append-nil line)))
@@ -121,10 +127,12 @@ module _ (limits : Limits) (opening : Files) (lines : List (List ℕ)) (files : 
         → IsRotated limits opening (lines ++ line ∷ []) (takes (all_done (gives_up limits.file limits.max_files) files))
     line_new more = record {
       runs = (front ++ last ∷ []) ++ (line ∷ []) ∷ [];
-      cut = subst (λ ps. IsCut limits.max_size ps ((front ++ last ∷ []) ++ (line ∷ []) ∷ [])) (sym (pieces_more (bytes_of opening limits.file) lines line))
+      cut = subst (λ ps. IsCut limits.max_size ps ((front ++ last ∷ []) ++ (line ∷ []) ∷ []))
+          (sym (pieces_more (bytes_of opening limits.file) lines line))
           (cut_new limits.max_size (pieces (bytes_of opening limits.file) lines) line front last cut more);
       numbers = by_number;
-      others = others_stay (all_done (gives_up limits.file limits.max_files) files) (λ name differs. up.rest name differs ∙ others name differs);
+      others = others_stay (all_done (gives_up limits.file limits.max_files) files)
+          (λ name differs. up.rest name differs ∙ others name differs);
     }
       where
         up : GivenUp limits.file limits.max_files files (all_done (gives_up limits.file limits.max_files) files)
@@ -135,16 +143,19 @@ module _ (limits : Limits) (opening : Files) (lines : List (List ℕ)) (files : 
         old i at = numbers i at ∙ kept_is limits opening front last i
 
         by_number : (i : ℕ) → i ≤ limits.max_files
-            → takes (all_done (gives_up limits.file limits.max_files) files) (numbered limits.file i) ≡ kept limits opening ((front ++ last ∷ []) ++ (line ∷ []) ∷ []) i
+            → takes (all_done (gives_up limits.file limits.max_files) files) (numbered limits.file i)
+            ≡ kept limits opening ((front ++ last ∷ []) ++ (line ∷ []) ∷ []) i
         by_number zero at =
             appended_here limits.file line (all_done (gives_up limits.file limits.max_files) files)
             ∙ (ap (λ o. Some (unwrap_or o [] ++ line)) up.base ∙ (ap (λ o. Some o) (sym (append-nil line))
             ∙ sym (kept_last limits opening (front ++ last ∷ []) (line ∷ []) 0
             ∙ base_first (concat (line ∷ [])) (places limits opening (front ++ last ∷ [])) limits.max_files)))
         by_number (suc i) at =
-            appended_there limits.file line (all_done (gives_up limits.file limits.max_files) files) (numbered limits.file (suc i)) (apart_from_base i at)
+            appended_there limits.file line (all_done (gives_up limits.file limits.max_files) files) (numbered limits.file (suc i))
+            (apart_from_base i at)
             ∙ (elim (cases_lt (suc i) limits.max_files) [
-              | inl l ↦ up.under i l ∙ (old i (omega arith) ∙ sym (moved_on (concat (line ∷ [])) (places limits opening (front ++ last ∷ [])) limits.max_files i l))
+              | inl l ↦ up.under i l ∙ (old i (omega arith)
+                  ∙ sym (moved_on (concat (line ∷ [])) (places limits opening (front ++ last ∷ [])) limits.max_files i l))
               | inr l ↦ let e : suc i ≡ limits.max_files = omega arith in
                   up.top i e ∙ (ap (λ o. over o (files (numbered limits.file (suc i)))) (old i (omega arith))
                   ∙ (ap (λ o. over (of_number limits.max_files (places limits opening (front ++ last ∷ [])) i) o) (old (suc i) at)

@@ -15,7 +15,13 @@ same_then files others last same more n = more n ∙ same n
 pub fails_alike : (deed : Deed) (files others new : Files) → AreSame files others → Fails deed others new → Fails deed files new
 fails_alike (Append name bytes) files others new same (inl stays) = inl (same_then files others new same stays)
 fails_alike (Append name bytes) files others new same (inr w) =
-    inr (w.0, w.1, w.2, same_then (appended name w.0 files) (appended name w.0 others) new (done_alike (Append name w.0) files others same) w.3)
+    inr (
+      w.0,
+      w.1,
+      w.2,
+      same_then (appended name w.0 files) (appended name w.0 others) new
+          (done_alike (Append name w.0) files others same) w.3,
+    )
 fails_alike (Rename from to) files others new same stays = same_then files others new same stays
 fails_alike (Remove name) files others new same stays = same_then files others new same stays
 
@@ -70,7 +76,8 @@ module _ {A E : Type 0} (deeds : List Deed) (old new : Files) where
 pub counts_err : {A B E : Type 0} (r : Result A E) (e : E) → r ≡ Err e → (e' : E) (old mid new : ℕ) → mid ≡ old
     → Counts {A = B} {E = E} mid new (Err e') → Counts old new r
 counts_err {A} {B} {E} r e is e' old mid new same counts =
-    subst (λ x. Counts old new x) (sym is) (subst (λ m. Counts {A = A} {E = E} m new (Err e)) same (record { done = tt; failed = counts.failed }))
+    subst (λ x. Counts old new x) (sym is) (subst (λ m. Counts {A = A} {E = E} m new (Err e)) same
+    (record { done = tt; failed = counts.failed }))
 
 pub counts_ok : {A E : Type 0} (x : A) (old new : ℕ) → new ≡ old → Counts {A = A} {E = E} old new (Ok x)
 counts_ok x old new same = record { done = same; failed = tt }

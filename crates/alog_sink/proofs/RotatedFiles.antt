@@ -24,10 +24,10 @@ is_false : (b : Bool) {P : Type 0} → Decides b P → ¬ P → b ≡ false
 is_false true d differs = absurd (differs (d.0 refl))
 is_false false d differs = refl
 
-at_same : (name : List ℕ) (x y : Option (List ℕ)) → cond (bytes_eq name name) x y ≡ x
+pub at_same : (name : List ℕ) (x y : Option (List ℕ)) → cond (bytes_eq name name) x y ≡ x
 at_same name x y = ap (λ b. cond b x y) ((bytes_decides name name).1 refl)
 
-at_other : (name other : List ℕ) (x y : Option (List ℕ)) → name ≢ other → cond (bytes_eq name other) x y ≡ y
+pub at_other : (name other : List ℕ) (x y : Option (List ℕ)) → name ≢ other → cond (bytes_eq name other) x y ≡ y
 at_other name other x y differs = ap (λ b. cond b x y) (is_false (bytes_eq name other) (bytes_decides name other) differs)
 
 -- the same files, the same deeds
@@ -132,11 +132,13 @@ module _ (file : List ℕ) (n : ℕ) (small : n + 1 < 2 ^ 64) (files : Files) wh
         ∙ renamed_to (numbered file n) (numbered file (suc n)) files (next file n small files);
     under = λ i less. elim (cases_lt i n) [
       | inl l ↦ later.under i l ∙ below_once file n small files i l
-      | inr l ↦ let e : i ≡ n = omega arith in subst (λ j. after (numbered file j) ≡ below file files j) (sym e) (later.top ∙ topmost_once file n small files)
+      | inr l ↦ let e : i ≡ n = omega arith in subst (λ j. after (numbered file j) ≡ below file files j) (sym e)
+          (later.top ∙ topmost_once file n small files)
     ];
     rest = λ name differs.
         later.rest name (λ i less. differs i (omega arith))
-        ∙ renamed_there (numbered file n) (numbered file (suc n)) files (next file n small files) name (differs n (omega arith)) (differs (suc n) (omega arith));
+        ∙ renamed_there (numbered file n) (numbered file (suc n)) files (next file n small files) name (differs n (omega arith))
+        (differs (suc n) (omega arith));
   }
 
 pub shifted : (file : List ℕ) (n : ℕ) → n < 2 ^ 64 → (files : Files) → Shifted file n files (all_done (renames file n) files)
@@ -166,6 +168,7 @@ given_up file (suc n) small files =
       under = λ i less. all.under (suc i) less;
       top = λ i e.
           let same : i ≡ n = omega arith in
-          subst (λ j. all_done (gives_up file (suc n)) files (numbered file (suc j)) ≡ over (files (numbered file j)) (files (numbered file (suc j)))) (sym same) all.top;
+          subst (λ j. all_done (gives_up file (suc n)) files (numbered file (suc j))
+          ≡ over (files (numbered file j)) (files (numbered file (suc j)))) (sym same) all.top;
       rest = all.rest;
     }

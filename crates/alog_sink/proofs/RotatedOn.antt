@@ -1,5 +1,6 @@
 -- The rotation and the files go on to stand for one line more.
-use Rattle.std.proofs.Common.{◌≡◌, ℕ, zero, suc, Option, ◌+◌, ◌<◌, ◌≤◌, ◌^◌, Bool, true, false, cond, ltb, ◌&&◌, None, Some, List, [], ◌∷◌, ◌++◌}
+use Rattle.std.proofs.Common.{◌≡◌, ℕ, zero, suc, Option, ◌+◌, ◌<◌, ◌≤◌, ◌^◌, Bool, true, false, cond, ltb, ◌&&◌, None, Some, List, []}
+use Rattle.std.proofs.Common.{◌∷◌, ◌++◌}
 use Rattle.std.proofs.Common.{length, refl, sym, ap, ◌∙◌, subst, inl, inr, append-nil, length-append, arith}
 use Rattle.std.proofs.lemmas.Bool.{cases_lt}
 use Rattle.std.proofs.lemmas.Bool.Decides.{nat_tests}
@@ -62,7 +63,8 @@ module _ (r : Rotating) (small : r.limits.max_files < 2 ^ 64) (opening : Files) 
         );
   }
 
-  goes : IsRotated r.limits opening (lines ++ line ∷ []) (appended r.limits.file line (all_done (gives_up r.limits.file r.limits.max_files) files))
+  goes : IsRotated r.limits opening (lines ++ line ∷ [])
+      (appended r.limits.file line (all_done (gives_up r.limits.file r.limits.max_files) files))
       → Goal true
   goes is =
       let same = all_done-append (gives_up r.limits.file r.limits.max_files) (Append r.limits.file line ∷ []) files in
@@ -92,7 +94,8 @@ module _ (r : Rotating) (small : r.limits.max_files < 2 ^ 64) (opening : Files) 
   by_runs : Goal (is_full_for r (length line))
   by_runs = elim (by_last stands.rotated.runs) [
     | inl e ↦
-        let empty : r.size ≡ 0 = stands.counted ∙ ap length (no_bytes r.limits opening lines files b bytes small (cut_at [] e) (numbers_at [] e)) in
+        let empty : r.size ≡ 0 = stands.counted ∙ ap length
+        (no_bytes r.limits opening lines files b bytes small (cut_at [] e) (numbers_at [] e)) in
         subst Goal (sym (not_full_empty r.size r.limits.max_size (length line) empty))
         (stays (first_line r.limits opening lines files b bytes small (cut_at [] e) (numbers_at [] e) stands.rotated.others))
     | inr w ↦
@@ -110,13 +113,15 @@ module _ (r : Rotating) (small : r.limits.max_files < 2 ^ 64) (opening : Files) 
   ]
 
 -- the deeds of a line lead from the files of some lines to those of one line more
-pub stands_for_more : (r : Rotating) → r.limits.max_files < 2 ^ 64 → (opening : Files) (lines : List (List ℕ)) (files : Files) (line : List ℕ)
+pub stands_for_more : (r : Rotating) → r.limits.max_files < 2 ^ 64
+    → (opening : Files) (lines : List (List ℕ)) (files : Files) (line : List ℕ)
     → StandsFor r opening lines files → StandsFor (with_line r line) opening (lines ++ line ∷ []) (all_done (deeds_of r line) files)
 stands_for_more r small opening lines files [] stands = record {
   rotated = record {
     runs = stands.rotated.runs;
     cut = subst (λ ps. IsCut r.limits.max_size ps stands.rotated.runs)
-        (sym (pieces_more (bytes_of opening r.limits.file) lines [] ∙ append-nil (pieces (bytes_of opening r.limits.file) lines))) stands.rotated.cut;
+        (sym (pieces_more (bytes_of opening r.limits.file) lines [] ∙ append-nil (pieces (bytes_of opening r.limits.file) lines)))
+        stands.rotated.cut;
     numbers = stands.rotated.numbers;
     others = stands.rotated.others;
   };
@@ -128,13 +133,15 @@ stands_for_more r small opening lines files (b ∷ bytes) stands = by_runs r sma
 opens_at : (limits : Limits) (opening : Files) (o : Option (List ℕ)) → opening limits.file ≡ o → IsRotated limits opening [] opening
 opens_at limits opening None e = record {
   runs = [];
-  cut = subst (λ x. IsCut limits.max_size (pieces (unwrap_or x []) []) []) (sym e) (record { joined = refl; each = All-nil (IsRun limits.max_size); full = tt });
+  cut = subst (λ x. IsCut limits.max_size (pieces (unwrap_or x []) []) []) (sym e)
+      (record { joined = refl; each = All-nil (IsRun limits.max_size); full = tt });
   numbers = λ i at. refl;
   others = λ name differs. refl;
 }
 opens_at limits opening (Some []) e = record {
   runs = [];
-  cut = subst (λ x. IsCut limits.max_size (pieces (unwrap_or x []) []) []) (sym e) (record { joined = refl; each = All-nil (IsRun limits.max_size); full = tt });
+  cut = subst (λ x. IsCut limits.max_size (pieces (unwrap_or x []) []) []) (sym e)
+      (record { joined = refl; each = All-nil (IsRun limits.max_size); full = tt });
   numbers = λ i at. refl;
   others = λ name differs. refl;
 }
@@ -149,7 +156,8 @@ opens_at limits opening (Some (b ∷ bytes)) e = record {
     by_number : (i : ℕ) → i ≤ limits.max_files → opening (numbered limits.file i) ≡ kept limits opening (((b ∷ bytes) ∷ []) ∷ []) i
     by_number zero at =
         e ∙ (ap (λ x. Some x) (sym (append-nil (b ∷ bytes)))
-        ∙ sym (kept_last limits opening [] ((b ∷ bytes) ∷ []) 0 ∙ base_first (concat ((b ∷ bytes) ∷ [])) (places limits opening []) limits.max_files))
+        ∙ sym (kept_last limits opening [] ((b ∷ bytes) ∷ []) 0
+        ∙ base_first (concat ((b ∷ bytes) ∷ [])) (places limits opening []) limits.max_files))
     by_number (suc i) at =
         sym (kept_last limits opening [] ((b ∷ bytes) ∷ []) (suc i)
         ∙ opened (λ n. opening (numbered limits.file n)) (concat ((b ∷ bytes) ∷ [])) limits.max_files i at)

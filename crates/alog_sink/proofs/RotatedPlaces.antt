@@ -41,7 +41,8 @@ module _ (bytes : List ℕ) (files : Places) where
   pub moved_on : (max i : ℕ) → suc i < max → of_number max (Some bytes ∷ files) (suc i) ≡ of_number max files i
   moved_on max i less = at_place max (Some bytes ∷ files) (suc i) less ∙ sym (at_place max files i (omega arith))
 
-  moved_on_top : (n : ℕ) → of_number (suc n) (Some bytes ∷ files) (suc n) ≡ over (of_number (suc n) files n) (of_number (suc n) files (suc n))
+  moved_on_top : (n : ℕ) → of_number (suc n) (Some bytes ∷ files) (suc n)
+      ≡ over (of_number (suc n) files n) (of_number (suc n) files (suc n))
   moved_on_top n =
       at_most (suc n) (Some bytes ∷ files) ∙ (first_dropped n files
       ∙ (ap (λ o. over o (first_there (drop (suc n) files))) (sym (at_place (suc n) files n (omega arith)))
@@ -78,7 +79,8 @@ opened_last : (o : ℕ → Option (List ℕ)) (bytes : List ℕ) (n : ℕ)
 opened_last o bytes n =
     let opening = map o (range_with_len 1 (suc n)) in
     at_most (suc n) (Some bytes ∷ opening) ∙ (first_dropped n opening
-    ∙ (ap (λ file. over file (first_there (drop (suc n) opening))) (get_or-map-range_with_len o 1 (suc n) n (suc n) None (omega arith) (omega arith))
+    ∙ (ap (λ file. over file (first_there (drop (suc n) opening)))
+    (get_or-map-range_with_len o 1 (suc n) n (suc n) None (omega arith) (omega arith))
     ∙ (ap (λ files. over (o (suc n)) (first_there files)) (drop_all (suc n) opening (omega (arith, length-map-range_with_len o 1 (suc n))))
     ∙ over_none (o (suc n)))))
 

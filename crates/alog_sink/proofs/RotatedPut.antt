@@ -14,7 +14,8 @@ use Rattle.alog_sink.proofs.RotatedDoes.{HasDone, one_done, one_failed, breaks_o
 use Rattle.alog_sink.proofs.RotatedOn.{stands_alike, stands_for_more}
 
 pub numbers_push : {Z : Type 0} (file : List ℕ) (names : List (String Z)) (name : String Z) (n : ℕ) → length names ≡ n
-    → AreNumbersOf file (map string_bytes names) → string_bytes name ≡ numbered file n → AreNumbersOf file (map string_bytes (names ++ name ∷ []))
+    → AreNumbersOf file (map string_bytes names) → string_bytes name ≡ numbered file n
+    → AreNumbersOf file (map string_bytes (names ++ name ∷ []))
 numbers_push file names name n count are e =
     subst (AreNumbersOf file) (sym (map_push string_bytes names name)) each
   where
@@ -29,12 +30,14 @@ numbers_push file names name n count are e =
 
 pub full_room : (r : Rotating) (bytes : ℕ) → r.size ≢ 0 → r.limits.max_size < r.size + bytes
     → makes_room r bytes ≡ gives_up r.limits.file r.limits.max_files
-full_room r bytes some more = ap (λ f. cond f (gives_up r.limits.file r.limits.max_files) []) (full r.size r.limits.max_size bytes some more)
+full_room r bytes some more = ap (λ f. cond f (gives_up r.limits.file r.limits.max_files) [])
+    (full r.size r.limits.max_size bytes some more)
   where
     full : (size max bytes : ℕ) → size ≢ 0 → max < size + bytes → (ltb 0 size && ltb max (size + bytes)) ≡ true
     full size max bytes some more = grind (arith, nat_tests)
 
-deeds_are : (r : Rotating) (line : List ℕ) → length line ≢ 0 → deeds_of r line ≡ makes_room r (length line) ++ Append r.limits.file line ∷ []
+deeds_are : (r : Rotating) (line : List ℕ) → length line ≢ 0 → deeds_of r line
+    ≡ makes_room r (length line) ++ Append r.limits.file line ∷ []
 deeds_are r [] some = absurd (some refl)
 deeds_are r (b ∷ line) some = refl
 
@@ -44,7 +47,8 @@ module _ (r : Rotating) (line : List ℕ) (some : length line ≢ 0) (old : File
       subst (λ deeds. BreaksOff deeds old new) (sym (deeds_are r line some))
       (breaks_off_before (makes_room r (length line)) (Append r.limits.file line ∷ []) old new broken)
 
-  module _ (name : List ℕ) (named : name ≡ r.limits.file) (mid new : Files) (room : AreSame (all_done (makes_room r (length line)) old) mid) where
+  module _ (name : List ℕ) (named : name ≡ r.limits.file) (mid new : Files)
+      (room : AreSame (all_done (makes_room r (length line)) old) mid) where
     at : HasDone (deeds_of r line) (Append name line ∷ []) old mid
     at = record {
       before = makes_room r (length line);

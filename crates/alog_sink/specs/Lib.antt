@@ -5,6 +5,8 @@ pub mod Names
 pub mod Rotation
 pub mod RotationDeeds
 pub mod RotationOpen
+pub mod Daily
+pub mod DailyDeeds
 pub mod Memory
 pub mod Fuse
 pub mod Lines

@@ -1,8 +1,9 @@
--- Names of files: which may be given, and the names with a number that are made of one.
-use Rattle.std.specs.Prelude.{◌≡◌, ◌≢◌, ℕ, zero, suc, ◌+◌, ◌-◌, ◌^◌, ◌<◌, ◌≤◌, nat_lt, ◌==◌, ◌&&◌, if◌then◌else◌}
+-- Names of files: which may be given, and the names with a number or a date that are made of one.
+use Rattle.std.specs.Prelude.{◌≡◌, ◌≢◌, ℕ, zero, suc, ◌+◌, ◌-◌, ◌/◌, ◌%◌, ◌^◌, ◌<◌, ◌≤◌, nat_lt, ◌==◌, ◌&&◌, if◌then◌else◌}
 use Rattle.std.specs.Prelude.{List, [], ◌∷◌, ◌++◌, length, take, codes, decimal}
 use Rattle.std.specs.List.{after_last, Contains}
 use Rattle.std.specs.Str.{byte}
+use Rattle.alog_sink.specs.declared.names.Date.{Date}
 
 -- A name of 1 to 64 bytes, without a slash or a zero byte, and neither of the two that mean folders.
 pub record IsFileName (name : List ℕ) : Type 0 where
@@ -31,6 +32,29 @@ abbrev pub numbered : List ℕ → ℕ → List ℕ
 numbered name zero = name
 numbered name (suc i) = stem name ++ codes "." ++ decimal (suc i) ++ extension name
 
+-- the last k decimal digits of n
+abbrev pub digits : ℕ → ℕ → List ℕ
+digits zero n = []
+digits (suc k) n = digits k (n / 10) ++ (byte "0" + n % 10) ∷ []
+
+-- a date as it stands in a name: `_2024-02-29`
+abbrev pub date_text : Date → List ℕ
+date_text date = codes "_" ++ digits 4 date.year ++ codes "-" ++ digits 2 date.month ++ codes "-" ++ digits 2 date.day
+
+-- The name with a date, which stands before the extension: `log_2024-02-29.txt`.
+abbrev pub dated : List ℕ → Date → List ℕ
+dated name date = stem name ++ date_text date ++ extension name
+
 -- A file has another name for each number. (Numbers below 2^64: beyond, the library says nothing of decimal digits.)
 abbrev pub NumberedNamesDiffer : Type 0
 NumberedNamesDiffer = (name : List ℕ) (i j : ℕ) → i < 2 ^ 64 → j < 2 ^ 64 → numbered name i ≡ numbered name j → i ≡ j
+
+-- a date whose parts fit into the digits of a name
+pub record IsDate (date : Date) : Type 0 where
+  pub year : date.year < 10000
+  pub month : date.month < 100
+  pub day : date.day < 100
+
+-- A file has another name for each date.
+abbrev pub DatedNamesDiffer : Type 0
+DatedNamesDiffer = (name : List ℕ) (a b : Date) → IsDate a → IsDate b → dated name a ≡ dated name b → a ≡ b

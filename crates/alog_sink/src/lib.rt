@@ -1,13 +1,17 @@
-//! The stores that sinks write to. The sinks themselves do not stand yet.
+//! Sinks, which hold formatted lines, and the stores that they write to. The rules are those of spdlog's sinks.
 //!
 //! A `Store` is a folder of files by name; its law is on the calls of the trait. `MemStore` keeps its files in memory;
-//! `FuseStore` passes calls on to another store and fails one of them, for tests of what a fault leaves.
+//! `FuseStore` passes calls on to another store and fails one of them. A `Sink` is given messages: one that writes to
+//! files of a store (`Leaf`), or a fan of such (`Fan`). It stores no list of messages; a relation says which opening
+//! files and which messages it stands for, and each turn leads from one such pair to the next.
 //!
-//! Read `specs/Files.antt` for files and what each call does to them, `specs/Calls.antt` for what a call leaves by its
-//! answer, then `store.rt`, the trait. `specs/Memory.antt` says which files a map in memory keeps, and
-//! `specs/Fuse.antt` how a fuse burns; `mem_store.rt` and `fuse_store.rt` are the two stores.
+//! Read `specs/Files.antt`, `specs/Calls.antt` and `store.rt` (stores), `mem_store.rt` and `fuse_store.rt`; then
+//! `specs/Lines.antt` and `face.rt` (lines), `specs/Kept.antt` and `target.rt` (where they go: `journal.rt`, and
+//! `rotation.rt` with `specs/Rotation.antt`), `specs/Turn.antt`, `leaf.rt` and `fan.rt`, `specs/Sinks.antt` and `sink.rt`,
+//! `open.rt` (constructors), `turn.rt` (a sink under a lock). `names.rt` makes names of files. `specs/Daily.antt` and
+//! `specs/DailyDeeds.antt` define files by days, which no sink keeps yet; `laws.rt` states what is true of definitions.
 //!
-//! The test `each_call_on_files_in_memory` in `tests.rt` is an example.
+//! The tests `a_memory_sink` and `a_rotating_sink` in `sink_tests.rt` are examples.
 #![tactic(auto)]
 
 mod face;
@@ -36,7 +40,7 @@ mod turn;
 pub use face::{Face, NameError, Names};
 pub use fan::Fan;
 pub use fuse_store::{Fuse, FuseStore};
-pub use laws::{numbered_names_differ, pieces_have_one_cut};
+pub use laws::{dated_names_differ, days_go_on, numbered_names_differ, pieces_have_one_cut};
 pub use leaf::{Leaf, SinkError, Taken};
 pub use mem_store::MemStore;
 pub use open::{NoFan, OpenError, Unopened};

@@ -1,5 +1,6 @@
 //! A file that is rotated.
-ghost use Rattle.std.specs.Prelude.{◌≡◌, ◌+◌, ◌-◌, ◌<◌, ◌≤◌, ◌^◌, ℕ, true, List, [], ◌∷◌, ◌++◌, IfOk, OnOk, OnErr, length, map, string_bytes};
+ghost use Rattle.std.specs.Prelude.{◌≡◌, ◌+◌, ◌-◌, ◌<◌, ◌≤◌, ◌^◌, ℕ, true, List, [], ◌∷◌, ◌++◌};
+ghost use Rattle.std.specs.Prelude.{IfOk, OnOk, OnErr, length, map, string_bytes};
 ghost use Rattle.alog_sink.specs.Calls.{Counts};
 ghost use Rattle.alog_sink.specs.Deeds.{Does};
 ghost use Rattle.alog_sink.specs.Files.{Files, AreSame};

@@ -1,6 +1,9 @@
-use crate::names::{is_file_name, numbered};
+use crate::names::{Date, is_file_name, numbered, write_dated};
 use crate::rotation::{FILES_MAX, OpenError, Rotation, SIZE_MAX};
-use crate::{FuseStore, MemStore, Store, StoreError};
+use crate::{
+    FuseStore, MemStore, Store, StoreError, dated_names_differ, days_go_on, numbered_names_differ,
+    pieces_have_one_cut,
+};
 use std::alloc::{AllocError, Global};
 use std::process::Abort;
 use std::test::Fail;
@@ -54,6 +57,21 @@ fn names_with_numbers(rt: HostRuntime) -> Result<(), Fail> {
         assert!(rt; numbered(rt.alloc(), name, 1)?.as_str() == first, "{name}");
     }
     assert!(rt; numbered(rt.alloc(), "log.txt", 1_000)?.as_str() == "log.1000.txt");
+    Ok(())
+}
+
+#[test]
+fn names_with_dates(rt: HostRuntime) -> Result<(), Fail> {
+    let date = Date {
+        year: 2024,
+        month: 2,
+        day: 29,
+    };
+    let mut name = String::with_capacity(rt.alloc(), 20)?;
+    write_dated(&mut name, "day.log", date);
+    assert!(rt; name.as_str() == "day_2024-02-29.log");
+    write_dated(&mut name, ".hidden", Date { year: 987, ..date });
+    assert!(rt; name.as_str() == ".hidden_0987-02-29");
     Ok(())
 }
 
@@ -185,4 +203,12 @@ fn a_line_after_a_failed_append(rt: HostRuntime) -> Result<(), Fail> {
     assert_eq!(rt; store.store().files().len(), 1);
     has(&rt, store.store(), "log", b"aaa\nccccc\n");
     Ok(())
+}
+
+#[test]
+fn laws() {
+    dated_names_differ();
+    days_go_on();
+    numbered_names_differ();
+    pieces_have_one_cut();
 }

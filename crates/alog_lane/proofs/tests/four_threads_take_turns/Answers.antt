@@ -14,4 +14,4 @@ its_lane : IsSync (Lane.the_row Sum.the_row u64 u64 unit ghosts)
 its_lane = lane_sync Sum.the_row u64 u64 unit ghosts (search sendable)
 
 pub join-requires-send-F : goal.join-requires-send-F
-join-requires-send-F g c κs = search (sendable, its_seat, its_lane) depth 9
+join-requires-send-F g c κs = search (sendable, its_seat, its_lane) depth 7

@@ -1,13 +1,15 @@
 use Rattle.std.proofs.Common.{◌-◌, length, map, string_bytes, refl, ◌∙◌, arith}
 use Rattle.std.proofs.lemmas.Result.{err_from_is_err_and}
 use Rattle.alog_sink.specs.RotationDeeds.{base_name, gives_up}
-use Rattle.alog_sink.proofs.RotatedDoes.{does_ok, does_err, counts_ok, counts_err, name_at, removed_only, renames_begin, renamed_one, renamed_none, renamed_all}
+use Rattle.alog_sink.proofs.RotatedDoes.{does_ok, does_err, counts_ok, counts_err, name_at, removed_only, renames_begin, renamed_one}
+use Rattle.alog_sink.proofs.RotatedDoes.{renamed_none, renamed_all}
 use Rattle.alog_sink.proofs.rotation.give_up.Goals as goal
 
 pub returns-then-names-eq1-clause-deeds : goal.returns-then-names-eq1-clause-deeds
 returns-then-names-eq1-clause-deeds g c = λ tells.
     removed_only (base_name (map string_bytes c.args.names.now)) c.as_str.result.now (length c.args.names.now - 1) (omega arith)
-    (c.as_str.ensures.value ∙ (name_at (base_name (map string_bytes c.args.names.now)) c.args.names.now c.requires.numbered 0 c.index-names-0.result (omega arith) c.index-names-0.is))
+    (c.as_str.ensures.value ∙ (name_at (base_name (map string_bytes c.args.names.now)) c.args.names.now c.requires.numbered 0
+    c.index-names-0.result (omega arith) c.index-names-0.is))
     (g.S.Store.files c.args.store.now) (g.S.Store.files c.remove.new.self) c.remove.result
     (c.remove.ensures.done tells) (c.remove.ensures.failed tells)
 
@@ -25,10 +27,13 @@ loop-i-preserved g c = record {
       renamed_one (gives_up (base_name (map string_bytes c.args.names.now)) (length c.args.names.now - 1))
       (base_name (map string_bytes c.args.names.now)) c.loop-i.i (omega arith)
       c.as_str-in-loop-i.result.now c.as_str-in-loop-i-2.result.now
-      (c.as_str-in-loop-i.ensures.value ∙ name_at (base_name (map string_bytes c.args.names.now)) c.args.names.now c.requires.numbered (c.loop-i.i - 1 - 1) c.index-names-i.result (omega arith) c.index-names-i.is)
+      (c.as_str-in-loop-i.ensures.value ∙ name_at (base_name (map string_bytes c.args.names.now)) c.args.names.now c.requires.numbered
+      (c.loop-i.i - 1 - 1) c.index-names-i.result (omega arith) c.index-names-i.is)
       (c.as_str-in-loop-i-2.ensures.value
-      ∙ name_at (base_name (map string_bytes c.args.names.now)) c.args.names.now c.requires.numbered (c.loop-i.i - 1) c.index-names-i-in-loop-i.result (omega arith) c.index-names-i-in-loop-i.is)
-      (g.S.Store.files c.args.store.now) (g.S.Store.files c.loop-i.store) (g.S.Store.files c.rename.new.self) (c.loop-i.invariant.done tells)
+      ∙ name_at (base_name (map string_bytes c.args.names.now)) c.args.names.now c.requires.numbered
+      (c.loop-i.i - 1) c.index-names-i-in-loop-i.result (omega arith) c.index-names-i-in-loop-i.is)
+      (g.S.Store.files c.args.store.now) (g.S.Store.files c.loop-i.store) (g.S.Store.files c.rename.new.self)
+      (c.loop-i.invariant.done tells)
       (c.in_ok-rename.ensures.done tells);
   counted = c.in_ok-rename.ensures.counted.done ∙ c.loop-i.invariant.counted;
   within = omega (arith, c.loop-i.invariant.within);
@@ -41,9 +46,11 @@ returns-in_err-rename-clause-deeds g c = λ tells.
     does_err all (g.S.Store.files c.args.store.now) (g.S.Store.files c.rename.new.self) c.from_residual.result p.0 p.1
     (renamed_none all (base_name (map string_bytes c.args.names.now)) c.loop-i.i (omega arith)
     c.as_str-in-loop-i.result.now c.as_str-in-loop-i-2.result.now
-    (c.as_str-in-loop-i.ensures.value ∙ name_at (base_name (map string_bytes c.args.names.now)) c.args.names.now c.requires.numbered (c.loop-i.i - 1 - 1) c.index-names-i.result (omega arith) c.index-names-i.is)
+    (c.as_str-in-loop-i.ensures.value ∙ name_at (base_name (map string_bytes c.args.names.now)) c.args.names.now c.requires.numbered
+    (c.loop-i.i - 1 - 1) c.index-names-i.result (omega arith) c.index-names-i.is)
     (c.as_str-in-loop-i-2.ensures.value
-    ∙ name_at (base_name (map string_bytes c.args.names.now)) c.args.names.now c.requires.numbered (c.loop-i.i - 1) c.index-names-i-in-loop-i.result (omega arith) c.index-names-i-in-loop-i.is)
+    ∙ name_at (base_name (map string_bytes c.args.names.now)) c.args.names.now c.requires.numbered
+    (c.loop-i.i - 1) c.index-names-i-in-loop-i.result (omega arith) c.index-names-i-in-loop-i.is)
     (g.S.Store.files c.args.store.now) (g.S.Store.files c.loop-i.store) (g.S.Store.files c.rename.new.self) (c.loop-i.invariant.done tells)
     (c.in_err-rename.ensures.failed tells))
 
@@ -61,4 +68,5 @@ returns-clause-deeds g c = λ tells.
     (g.S.Store.files c.args.store.now) (g.S.Store.files c.loop-i.store) (c.loop-i.invariant.done tells))
 
 pub returns-clause-counted : goal.returns-clause-counted
-returns-clause-counted g c = counts_ok tt (g.S.Store.failures c.args.store.now) (g.S.Store.failures c.loop-i.store) c.loop-i.invariant.counted
+returns-clause-counted g c = counts_ok tt (g.S.Store.failures c.args.store.now)
+    (g.S.Store.failures c.loop-i.store) c.loop-i.invariant.counted

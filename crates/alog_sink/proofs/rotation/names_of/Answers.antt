@@ -10,5 +10,6 @@ loop-i-preserved c =
     record {
       count = omega (arith, ap length c.in_ok-push.ensures.items, length_push names name, c.loop-i.invariant.count);
       numbered = rw c.in_ok-push.ensures.items
-          (numbers_push c.args.file.now names name c.loop-i.i c.loop-i.invariant.count c.loop-i.invariant.numbered c.in_ok-numbered.ensures);
+          (numbers_push c.args.file.now names name c.loop-i.i c.loop-i.invariant.count c.loop-i.invariant.numbered
+          c.in_ok-numbered.ensures);
     }

@@ -18,9 +18,15 @@ returns-in_err-left-clause-deeds g c = λ tells.
 pub returns-clause-stands : goal.returns-clause-stands
 returns-clause-stands g c = λ tells opening lines stands.
     let some : length c.args.line.now ≢ 0 = search rules in
-    let small : c.args.self.now.limits.max_files < 2 ^ 64 = subst (λ (r : Rotating). r.limits.max_files < 2 ^ 64) c.self.view_is (omega arith) in
+    let small : c.args.self.now.limits.max_files < 2 ^ 64 = subst (λ (r : Rotating). r.limits.max_files < 2 ^ 64) c.self.view_is
+    (omega arith) in
     let view : with_line c.args.self.now c.args.line.now
-    ≡ the_view (record { names = c.self.inside.names; size = c.in_ok-left.left + length c.args.line.now; max_size = c.self.inside.max_size }) =
+    ≡ the_view (record {
+      names = c.self.inside.names;
+      size = c.in_ok-left.left + length c.args.line.now;
+      max_size =
+          c.self.inside.max_size;
+    }) =
     with_line_is c.args.self.now c.args.line.now c.in_ok-left.left some c.in_ok-left.ensures.left
     ∙ ap (λ (r : Rotating). record { limits = r.limits; size = c.in_ok-left.left + length c.args.line.now }) (sym c.self.view_is) in
     subst (λ r. StandsFor r opening (lines ++ c.args.line.now ∷ []) (g.S.Store.files c.append.new.self)) view
