@@ -26,7 +26,7 @@ use std::marker::Model;
 /// do, under its policy, and what it loses is counted.
 ///
 /// Contracts see it as the desk of `specs/Desk.antt`: the machine of the queue, the post of each actor that is in one, and
-/// the counts. It stores no history.
+/// the counts. It stores no history: `runs_are_cut` says what is true of a whole run. The test `overruns_the_oldest` shows it.
 #[derive(Drop)]
 pub struct Desk<T> {
     world: World<T>,
@@ -94,7 +94,7 @@ impl<T: Drop> Desk<T> {
     }
 
     /// Begins a post of this value by an actor, 0 to 63, under the policy: its steps follow by `step`. It takes no memory. A
-    /// refusal changes nothing and hands the value back.
+    /// refusal changes nothing and hands the value back. The tests `overruns_the_oldest` and `refusals` show it.
     pub fn begin_post(&mut self, actor: u32, policy: Policy, value: T) -> Result<(), Refused<T>>
         ensures began { OnOk result (self.new ≡ post_began self.old actor policy value) }
         ensures post { OnOk result (IsPosting self.new actor policy value []) }
@@ -114,7 +114,8 @@ impl<T: Drop> Desk<T> {
     /// Makes the next atomic step of the actor's push, pop or post. It takes no memory.
     ///
     /// Each step is one event of the queue, which the queue allows, or none. Where a round of a post goes on to the next,
-    /// there is no step of its own. A post under `Block` goes on without bound. A refusal changes nothing.
+    /// there is no step of its own. A post under `Block` goes on without bound. A refusal changes nothing. The tests
+    /// `overruns_the_oldest` and `blocks_until_there_is_room` show it.
     pub fn step(&mut self, actor: u32) -> Result<Stepped<T>, StepError>
         ensures no_actor { IsErrOf result StepError.NoActor ↔ (ACTORS ≤ actor) }
         ensures not_in_call { IsErrOf result StepError.NotInCall
@@ -147,7 +148,8 @@ impl<T: Drop> Desk<T> {
         }
     }
 
-    /// Tells the losses: the items that posts overran, and the posts that ended discarded.
+    /// Tells the losses: the items that posts overran, and the posts that ended discarded. The test `overruns_the_oldest` shows
+    /// it.
     pub fn counts(&self) -> Counts
         ensures { result ≡ self.now.counts }
     {

@@ -58,6 +58,7 @@ impl<T: Drop> Outlet for DeskOutlet<'_, T> {
 
 impl<T: Drop> Desk<T> {
     /// Lends the desk to an actor, 0 to 63, that is in no call, for posts that are made at once. A refusal changes nothing.
+    /// The tests `posts_at_once` and `a_caller_knows_the_desk` show it.
     pub fn outlet(&mut self, actor: u32) -> Result<DeskOutlet<'_, T>, BeginError>
         ensures* lends { sem 𝓛 (LendsDesk T.row self.entry result) }
         ensures desk { IfOk result (λ o. (o.desk.now ≡ self.old) × (o.actor ≡ actor)

@@ -2,7 +2,7 @@
 use alog_ring::{PopError, PushError};
 
 /// Where posts go: an actor's own access to a queue, with a count of what is lost. What a post carries is the outlet's
-/// own matter, as is how it is posted; `post_now` is written once, for any outlet.
+/// own matter, as is how it is posted; `post_now` is written once, for any outlet. `DeskOutlet` is one.
 ///
 /// `did` is what the outlet tells of itself: between two states, its actor made exactly these events in the history of
 /// its queue, in this order, and exactly so many overrun items and so many discarded posts were counted. `shows` is what

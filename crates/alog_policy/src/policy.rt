@@ -2,7 +2,8 @@
 ghost use Rattle.std.specs.Prelude.{◌≡◌};
 ghost use Rattle.alog_policy.specs.Progress.{without_waiting};
 
-/// What a post does where the queue is full.
+/// What a post does where the queue is full. The tests `overruns_the_oldest`, `discards_the_new` and
+/// `blocks_until_there_is_room` show it.
 #[derive(Clone, Copy, Debug, PartialEq, Eq)]
 pub enum Policy {
     /// It begins again until there is room.
@@ -25,7 +26,7 @@ impl Policy {
     }
 }
 
-/// Why a post ended without a ticket.
+/// Why a post ended without a ticket. The tests `stalls_behind_a_claim` and `gives_up_after_64_busy_rounds` show it.
 #[derive(Clone, Copy, Debug, PartialEq, Eq)]
 pub enum Why {
     /// The queue is full, and the policy is to discard the new.
@@ -38,7 +39,7 @@ pub enum Why {
     Spent,
 }
 
-/// How a post ended.
+/// How a post ended. The test `posts_at_once` shows it.
 #[derive(Debug, PartialEq, Eq, Drop)]
 pub enum Outcome<T> {
     /// The value is in the queue.

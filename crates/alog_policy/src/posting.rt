@@ -15,7 +15,7 @@ use alog_ring::{PopError, PushError};
 ///
 /// It makes at most 64 rounds. A round is a push and, under `OverrunOldest` where that found the queue full, a pop of the
 /// oldest item, which is dropped. A discarded value is handed back. Losses are counted by the outlet: each item at its
-/// take, a discarded post at its end.
+/// take, a discarded post at its end. The test `posts_at_once` shows it.
 pub fn post_now<O: Outlet>(outlet: &mut O, policy: Policy, value: O::Value) -> Outcome<O::Value>
     requires { O.is_fit outlet.old }
     ensures post { PostsNow O.did O.is_fit policy (O.shows value) value outlet.old outlet.new result }
