@@ -1,5 +1,5 @@
 -- Which fault has which status.
-use Rattle.std.proofs.Common.{◌≡◌, ℕ, Option, Some, None, List, inr, refl, ◌∙◌, sym, arith}
+use Rattle.std.proofs.Common.{◌≡◌, ℕ, true, Option, Some, None, List, inr, refl, ◌∙◌, sym, arith}
 use Rattle.std.specs.Prelude.{IfSome}
 use Rattle.alog.specs.Status.{status_of}
 use Rattle.alog.specs.Replays.{Replays}
@@ -34,15 +34,15 @@ not_one OutOfMemory h = absurd (omega arith)
 
 -- what a replay that ended by a fault leaves is what its status says
 pub replays_fault : (fault : ReplayError) (status : ℕ) (remaining left old new : Option (List ℕ)) → status ≡ status_of fault
-    → ((line : ℕ) → fault ≡ LineRefused line → IfSome remaining (λ script. WritesText plain None script (RefusedAt line) old new))
-    → WasRead remaining left (λ read. WritesFront plain None read old new) → Replays status remaining left old new
+    → ((line : ℕ) → fault ≡ LineRefused line → IfSome remaining (λ script. WritesText (plain true) None script (RefusedAt line) old new))
+    → WasRead remaining left (λ read. WritesFront (plain true) None read old new) → Replays status remaining left old new
 replays_fault fault status remaining left old new e refused front =
     record {
       understood = λ h. not_one fault (sym e ∙ h);
       whole = λ h. absurd (not_zero fault (sym e ∙ h));
       refused = λ h.
           let at = refused_line fault status e h in
-          if_some_weaker remaining (λ script. WritesText plain None script (RefusedAt at.0) old new) (λ script. (line : ℕ)
-          × WritesText plain None script (RefusedAt line) old new) (λ script w. (at.0, w)) (refused at.0 at.1);
+          if_some_weaker remaining (λ script. WritesText (plain true) None script (RefusedAt at.0) old new) (λ script. (line : ℕ)
+          × WritesText (plain true) None script (RefusedAt line) old new) (λ script w. (at.0, w)) (refused at.0 at.1);
       front = λ h. inr front;
     }

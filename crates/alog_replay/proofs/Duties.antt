@@ -1,31 +1,63 @@
 -- What an actor owes, step by step.
-use Rattle.std.proofs.Common.{◌≡◌, ℕ, sym, ap, subst, ◌∙◌}
+use Rattle.std.proofs.Common.{◌≡◌, ℕ, true, Bool, List, ◌++◌, sym, ap, subst, ◌∙◌, refl}
 use Rattle.std.proofs.lemmas.List.{set-set}
 use Rattle.alog_core.specs.World.{stepped, told}
 use Rattle.alog_core.specs.declared.said.Said.{Said}
 use Rattle.alog_msg.specs.declared.message.Message.{Message}
-use Rattle.alog_replay.specs.Session.{Stage, duty_of, with_duty, with_world, work_after, stage_by, after_step}
+use Rattle.alog_replay.specs.Memory.{MemoryFile, Turns}
+use Rattle.alog_replay.specs.Scene.{Prints}
+use Rattle.alog_replay.specs.Session.{Stage, duty_of, with_duty, with_world, with_memory, work_after, said_text, turn_text}
+use Rattle.alog_replay.specs.Session.{StepsBy, Steps}
 use Rattle.alog_replay.specs.declared.duty.Duty.{Duty}
-use Rattle.alog_replay.specs.declared.duty.Duty.TheVariants.{Free, Works}
+use Rattle.alog_replay.specs.declared.duty.Duty.TheVariants.{Free, Works, Owes}
 
--- a worker's duty was taken out, its pop made a step, and what it owed then was put in place
-pub record HasWorked (s taken moved after : Stage) (a : ℕ) (what : Said Message) (duty : Duty) : Type 0 where
-  pub worked : Works ≡ duty_of s a
+-- a duty was taken out, and a round made a step
+pub record HasMoved (s taken moved : Stage) (a : ℕ) (duty : Duty) (old new : List ℕ) : Type 0 where
+  pub owed : duty ≡ duty_of s a
   pub out : taken ≡ with_duty s a Free
   pub moved_on : moved ≡ with_world taken (stepped taken.world a)
-  pub said : what ≡ told taken.world a
-  pub owes : duty ≡ work_after what
-  pub in_place : after ≡ with_duty moved a duty
+  pub printed : new ≡ old ++ said_text a (told taken.world a)
 
-pub works_stepped : {s taken moved after : Stage} {a : ℕ} {what : Said Message} {duty : Duty} → HasWorked s taken moved after a what duty
-    → after ≡ after_step s a
-works_stepped {s} {taken} {moved} {after} {a} {what} {duty} h =
-    let owed : Stage → Duty = λ t. work_after (told t.world a) in
-    let went : Stage → Stage = λ t. with_world t (stepped t.world a) in
-    let once : with_duty (went (with_duty s a Free)) a (owed s) ≡ stage_by s a Works =
-    ap (λ ds. let r : Stage = record { world = stepped s.world a; duties = ds; file = s.file } in r) (set-set s.duties a Free (owed s)) in
-    let made : with_duty (went taken) a (owed taken) ≡ stage_by s a Works = subst
-    (λ (t : Stage). with_duty (went t) a (owed t) ≡ stage_by s a Works) (sym h.out) once in
-    let due : duty ≡ owed taken = h.owes ∙ ap work_after h.said in
-    h.in_place ∙ (ap (λ t. with_duty t a duty) h.moved_on
-    ∙ (ap (λ d. with_duty (went taken) a d) due ∙ (made ∙ ap (stage_by s a) h.worked)))
+moved_by : (s taken moved : Stage) (a : ℕ) → taken ≡ with_duty s a Free → moved ≡ with_world taken (stepped taken.world a)
+    → moved ≡ with_duty (with_world s (stepped s.world a)) a Free
+moved_by s taken moved a out on =
+    on ∙ subst (λ (t : Stage). with_world t (stepped t.world a) ≡ with_duty (with_world s (stepped s.world a)) a Free) (sym out) refl
+
+printed_by : (s taken : Stage) (a : ℕ) (old new : List ℕ) → taken ≡ with_duty s a Free
+    → new ≡ old ++ said_text a (told taken.world a) → new ≡ old ++ said_text a (told s.world a)
+printed_by s taken a old new out p = subst (λ (t : Stage). new ≡ old ++ said_text a (told t.world a)) out p
+
+-- a round that owes nothing
+pub free_stepped : {s taken moved : Stage} {a : ℕ} {old new : List ℕ} → HasMoved s taken moved a Free old new
+    → Prints old new (λ text. Steps true s a text moved)
+free_stepped {s} {taken} {moved} {a} {old} {new} h =
+    let text = said_text a (told s.world a) in
+    let next = moved_by s taken moved a h.out h.moved_on in
+    (text, subst (λ d. StepsBy true s a d text moved) h.owed (refl, next), printed_by s taken a old new h.out h.printed)
+
+-- the pop of a worker, which then owes what it took
+pub works_stepped : {s taken moved after : Stage} {a : ℕ} {what : Said Message} {duty : Duty} {old new : List ℕ}
+    → HasMoved s taken moved a Works old new → what ≡ told taken.world a → duty ≡ work_after what → after ≡ with_duty moved a duty
+    → Prints old new (λ text. Steps true s a text after)
+works_stepped {s} {taken} {moved} {after} {a} {what} {duty} {old} {new} h said owes in_place =
+    let text = said_text a (told s.world a) in
+    let now = work_after (told s.world a) in
+    let due : duty ≡ now = owes ∙ (ap work_after said ∙ ap (λ (t : Stage). work_after (told t.world a)) h.out) in
+    let went : Stage = with_world s (stepped s.world a) in
+    let twice : with_duty (with_duty went a Free) a now ≡ with_duty went a now =
+    ap (λ ds. let r : Stage = record { world = stepped s.world a; duties = ds; memory = s.memory } in r) (set-set s.duties a Free now) in
+    let next : after ≡ with_duty went a now =
+    in_place ∙ (ap (λ (t : Stage). with_duty t a duty) (moved_by s taken moved a h.out h.moved_on)
+    ∙ (ap (λ d. with_duty (with_duty went a Free) a d) due ∙ twice)) in
+    (text, subst (λ d. StepsBy true s a d text after) h.owed (refl, next), printed_by s taken a old new h.out h.printed)
+
+-- a turn of the memory file
+pub turn_stepped : (s taken v after : Stage) (a t : ℕ) (m : Message) (written : Bool) (memory : MemoryFile) (old new : List ℕ)
+    → Owes t m ≡ duty_of s a → taken ≡ with_duty s a Free → v ≡ taken → Turns true v.memory m.text written memory
+    → after ≡ with_memory v memory → new ≡ old ++ turn_text a t written → Prints old new (λ text. Steps true s a text after)
+turn_stepped s taken v after a t m written memory old new owed out is turns next printed =
+    let text = turn_text a t written in
+    let whole = is ∙ out in
+    let here = subst (λ (u : Stage). Turns true u.memory m.text written memory) whole turns in
+    let then : after ≡ with_duty (with_memory s memory) a Free = next ∙ ap (λ (u : Stage). with_memory u memory) whole in
+    (text, subst (λ d. StepsBy true s a d text after) owed (written, memory, here, refl, then), printed)

@@ -8,6 +8,8 @@ pub mod EntryLemmas
 pub mod Duties
 pub mod PlainLemmas
 pub mod Stepping
+pub mod Turning
+pub mod Opening
 pub mod Writing
 pub mod Going
 pub mod Telling

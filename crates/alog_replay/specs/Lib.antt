@@ -7,6 +7,8 @@ pub mod Reading
 pub mod Entry
 pub mod Scene
 pub mod Script
+pub mod Memory
+pub mod MemorySink
 pub mod Session
 pub mod Plain
 pub mod Error

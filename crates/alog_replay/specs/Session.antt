@@ -1,5 +1,5 @@
 -- A queue under a script: the stepped queue, what its actors owe, and the memory file.
-use Rattle.std.specs.Prelude.{ℕ, pos, ◌&&◌, nat_le, Bool, true, false, None, List, [], ◌∷◌, ◌++◌}
+use Rattle.std.specs.Prelude.{◌≡◌, ℕ, pos, ◌&&◌, nat_le, Bool, true, false, Option, Some, None, List, [], ◌∷◌, ◌++◌}
 use Rattle.std.specs.Prelude.{length, map, replicate, slice_index_or, slice_set, codes}
 use Rattle.std.specs.Fmt.{decimal}
 use Rattle.std.specs.List.{flat_map}
@@ -14,6 +14,7 @@ use Rattle.alog_core.specs.declared.said.CellView.{CellView}
 use Rattle.alog_msg.specs.declared.limits.TheConstants.{DEFAULT_TEXT_LIMIT}
 use Rattle.alog_msg.specs.declared.level.Level.TheVariants.{Info}
 use Rattle.alog_msg.specs.declared.message.Message.{Message}
+use Rattle.alog_replay.specs.Memory.{MemoryFile, no_file, Turns}
 use Rattle.alog_replay.specs.declared.duty.Duty.{Duty}
 use Rattle.alog_replay.specs.declared.duty.Duty.TheVariants.{Free, Works, Owes}
 
@@ -21,12 +22,12 @@ pub record Stage : Type 0 where
   pub world : Machine Message
   -- what each actor owes beside its round
   pub duties : List Duty
-  -- the bytes of the memory file
-  pub file : List ℕ
+  -- the memory file
+  pub memory : MemoryFile
 
 -- an empty queue, nobody in a call, and no file
 abbrev pub opened : ℕ → ℕ → Stage
-opened places first = record { world = fresh places first; duties = replicate ACTORS Free; file = [] }
+opened places first = record { world = fresh places first; duties = replicate ACTORS Free; memory = no_file }
 
 abbrev pub duty_of : Stage → ℕ → Duty
 duty_of s a = slice_index_or s.duties a Free
@@ -34,7 +35,7 @@ duty_of s a = slice_index_or s.duties a Free
 abbrev pub owes_nothing : Duty → Bool
 owes_nothing Free = true
 owes_nothing Works = true
-owes_nothing (Owes t text) = false
+owes_nothing (Owes t m) = false
 
 -- the actor is in no call
 abbrev pub is_free : Stage → ℕ → Bool
@@ -64,9 +65,14 @@ said_text a (said.Empty t) = ticket_line a (codes "empty") t
 said_text a (said.Busy t m) = ticket_line a (codes "busy") t
 said_text a (said.Spent m) = line_of a (codes "spent")
 
+-- how a turn that wrote is named, and one that failed
+abbrev pub turn_name : Bool → List ℕ
+turn_name true = codes "line"
+turn_name false = codes "fault"
+
 -- what is printed of a turn of the memory file
-abbrev pub turn_text : ℕ → ℕ → List ℕ
-turn_text a t = line_of a (codes "line" ++ (32 ∷ decimal t ++ 32 ∷ codes "memory"))
+abbrev pub turn_text : ℕ → ℕ → Bool → List ℕ
+turn_text a t written = line_of a (turn_name written ++ (32 ∷ decimal t ++ 32 ∷ codes "memory"))
 
 -- what a worker owes after a step of its pop: a turn for what it took, and nothing where the pop has ended without
 abbrev pub work_after : Said Message → Duty
@@ -75,37 +81,36 @@ work_after (said.Claim t) = Free
 work_after (said.Write t) = Free
 work_after (said.Full t m) = Free
 work_after (said.Grab t) = Works
-work_after (said.Take t m) = Owes t m.text
+work_after (said.Take t m) = Owes t m
 work_after (said.Empty t) = Free
 work_after (said.Busy t m) = Free
 work_after (said.Spent m) = Free
 
 -- the stage where only the world has moved, or only what an actor owes, or only the file
 abbrev pub with_world : Stage → Machine Message → Stage
-with_world s world = record { world = world; duties = s.duties; file = s.file }
+with_world s world = record { world = world; duties = s.duties; memory = s.memory }
 
 abbrev pub with_duty : Stage → ℕ → Duty → Stage
-with_duty s a duty = record { world = s.world; duties = slice_set s.duties a duty; file = s.file }
+with_duty s a duty = record { world = s.world; duties = slice_set s.duties a duty; memory = s.memory }
 
-abbrev pub with_line : Stage → List ℕ → Stage
-with_line s text = record { world = s.world; duties = s.duties; file = s.file ++ (text ++ 10 ∷ []) }
+abbrev pub with_memory : Stage → MemoryFile → Stage
+with_memory s memory = record { world = s.world; duties = s.duties; memory = memory }
 
--- one step of an actor in a call: the turn that it owes, or else the next step of its round
-abbrev pub printed_by : Stage → ℕ → Duty → List ℕ
-printed_by s a Free = said_text a (told s.world a)
-printed_by s a Works = said_text a (told s.world a)
-printed_by s a (Owes t text) = turn_text a t
+-- the next step of an actor's round, after which it owes this
+abbrev pub RoundSteps : Stage → ℕ → Duty → List ℕ → Stage → Type 0
+RoundSteps s a duty text next =
+    (text ≡ said_text a (told s.world a)) × (next ≡ with_duty (with_world s (stepped s.world a)) a duty)
 
-abbrev pub stage_by : Stage → ℕ → Duty → Stage
-stage_by s a Free = with_duty (with_world s (stepped s.world a)) a Free
-stage_by s a Works = with_duty (with_world s (stepped s.world a)) a (work_after (told s.world a))
-stage_by s a (Owes t text) = with_duty (with_line s text) a Free
+-- one step of an actor in a call, where the store may fail or not: the turn that it owes, or else the next step of its round
+abbrev pub StepsBy : Bool → Stage → ℕ → Duty → List ℕ → Stage → Type 0
+StepsBy may_fail s a Free text next = RoundSteps s a Free text next
+StepsBy may_fail s a Works text next = RoundSteps s a (work_after (told s.world a)) text next
+StepsBy may_fail s a (Owes t m) text next =
+    (written : Bool) × (memory : MemoryFile) × Turns may_fail s.memory m.text written memory
+    × (text ≡ turn_text a t written) × (next ≡ with_duty (with_memory s memory) a Free)
 
-abbrev pub step_text : Stage → ℕ → List ℕ
-step_text s a = printed_by s a (duty_of s a)
-
-abbrev pub after_step : Stage → ℕ → Stage
-after_step s a = stage_by s a (duty_of s a)
+abbrev pub Steps : Bool → Stage → ℕ → List ℕ → Stage → Type 0
+Steps may_fail s a text next = StepsBy may_fail s a (duty_of s a) text next
 
 -- the stage with an actor's call begun
 abbrev pub pushing : Stage → ℕ → List ℕ → Stage
@@ -133,7 +138,7 @@ cells_line cells = codes "cells" ++ (flat_map cell_text cells ++ 10 ∷ [])
 abbrev pub cells_text : Stage → List ℕ
 cells_text s = cells_line (map shown s.world.queue.cells)
 
--- the memory file as it is printed at the end: nothing where no turn wrote to it
-abbrev pub file_text : List ℕ → List ℕ
-file_text [] = []
-file_text (b ∷ bytes) = codes "== memory memory " ++ (decimal (length (b ∷ bytes)) ++ (10 ∷ b ∷ bytes))
+-- the memory file as it is printed at the end: nothing where it was not made
+abbrev pub file_text : Option (List ℕ) → List ℕ
+file_text None = []
+file_text (Some bytes) = codes "== memory memory " ++ (decimal (length bytes) ++ (10 ∷ bytes))

@@ -1,4 +1,4 @@
-use alog_msg::Text;
+use crate::pushed::Pushed;
 
 /// What an actor still does beside the steps of its round.
 #[derive(Debug, Drop)]
@@ -7,6 +7,6 @@ pub enum Duty {
     Free,
     /// It is a worker: what its pop takes goes to the memory file.
     Works,
-    /// It took this text with this ticket, and its next step is the turn of the memory file.
-    Owes { ticket: u64, text: Text },
+    /// It took this message with this ticket, and its next step is the turn of the memory file.
+    Owes { ticket: u64, pushed: Pushed },
 }

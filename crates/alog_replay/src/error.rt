@@ -4,8 +4,9 @@ ghost use Rattle.alog_replay.specs.declared.error.ReplayError.TheVariants as fau
 ghost use Rattle.alog_replay.specs.Error.{line_fault_of, line_fault_of_message};
 
 use crate::lines::ReadFault;
+use crate::pushed::Pushed;
 use alog_core::{BeginError, Refused, StepError, WorldError};
-use alog_msg::{Message, MessageError};
+use alog_msg::MessageError;
 use std::alloc::AllocError;
 use thiserror::Error;
 
@@ -50,10 +51,10 @@ impl From<MessageError> for LineError {
     }
 }
 
-impl From<Refused<Message>> for LineError {
+impl From<Refused<Pushed>> for LineError {
     ghost from_gives = { λ _ e. e ≡ Refused };
 
-    fn from(_refused: Refused<Message>) -> LineError {
+    fn from(_refused: Refused<Pushed>) -> LineError {
         LineError::Refused
     }
 }

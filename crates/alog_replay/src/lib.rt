@@ -3,12 +3,13 @@
 //! `replay` goes from a reader to a writer. Its definition is `specs/Script.antt`: a script tells its whole text, or its
 //! first refused line, on a scene. A `Scene` (`specs/Scene.antt`) says who is free, what an act or a step prints and
 //! which stage follows; the scene of a script without a configuration is `specs/Plain.antt`, over the queue of
-//! `specs/Session.antt`. Above it a script is lines (`specs/Lines.antt`), and a line is skipped, refused or spells a
-//! command (`specs/Entry.antt`, `specs/Command.antt`).
+//! `specs/Session.antt` and the memory file of `specs/Memory.antt`. Above it a script is lines (`specs/Lines.antt`), and a
+//! line is skipped, refused or spells a command (`specs/Entry.antt`, `specs/Command.antt`).
 //!
 //! Read the specs in that order, then `scene.rt` (the trait of what a script is played on), `player.rt` (which plays on
-//! any such thing, and has `replay` at its end); `plain.rt` and `session.rt` are the queue, `lines.rt` the reader, `parser.rt` and
-//! `entry.rt` the lines, and `print.rt` has the texts of steps, cells and files.
+//! any such thing, and has `replay` at its end); `plain.rt` and `session.rt` are the queue, `memory.rt` its sink, of which
+//! `specs/MemorySink.antt` says what it is, `lines.rt` the reader, `parser.rt` and `entry.rt` the lines, and `print.rt` has
+//! the texts of steps, cells and files.
 #![tactic(auto)]
 
 mod command;
@@ -17,10 +18,12 @@ mod entry;
 mod error;
 mod limits;
 mod lines;
+mod memory;
 mod parser;
 mod plain;
 mod player;
 mod print;
+mod pushed;
 mod scene;
 mod session;
 #[cfg(test)]

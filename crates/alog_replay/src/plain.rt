@@ -1,18 +1,22 @@
 //! The scene of a script without a configuration: no queue before the line `ring`, and then a session.
-ghost use Rattle.std.specs.Prelude.{◌≡◌, ◌↔◌, false, None, Some, [], IfOk, IsErrOf};
+ghost use Rattle.std.specs.Prelude.{◌≡◌, ◌↔◌, true, false, None, Some, [], IfOk, IsErrOf};
 ghost use Rattle.alog_replay.specs.Plain.{plain};
+ghost use Rattle.alog_sink.specs.Files.{AreSame, no_files};
 
 use crate::command::{Act, Actor};
 use crate::error::LineError;
+use crate::memory::NAME;
 use crate::print::print_file;
 use crate::scene::Playable;
 use crate::session::Session;
+use alog_sink::{MemStore, Store};
 use std::alloc::{AllocError, Global};
 
-impl Playable for Option<Session> {
+impl Playable for Option<Session<MemStore>> {
+    ghost use Rattle.std.specs.Prelude.{true};
     ghost use Rattle.alog_replay.specs.Plain.{plain, plain_goes_on};
 
-    ghost scene = { plain };
+    ghost scene = { plain true };
 
     fn is_free(&self, actor: Actor) -> bool {
         match self {
@@ -25,7 +29,7 @@ impl Playable for Option<Session> {
         match self {
             Some(session) => session.act(alloc, act, out),
             None => {
-                *self = Some(opened_by(alloc, &act)?);
+                *self = Some(opened_by(alloc, &act, MemStore::new(alloc))?);
                 Ok(())
             }
         }
@@ -38,23 +42,29 @@ impl Playable for Option<Session> {
         }
     }
 
-    fn print_files(&self, out: &mut String) -> Result<(), AllocError> {
+    fn print_files(&self, alloc: Global, out: &mut Vec<u8>) -> Result<(), AllocError> {
         match self {
-            Some(session) => print_file(out, session.file()),
+            Some(session) => print_file(alloc, out, session.store().files().get(NAME)),
             None => Ok(()),
         }
     }
 
-    ghost goes_on = { plain_goes_on };
+    ghost goes_on = { plain_goes_on true };
 }
 
-// The session that the line `ring` opens. Nothing else opens one.
-fn opened_by(alloc: Global, act: &Act<'_>) -> Result<Session, LineError>
-    ensures opened { IfOk result (λ s. plain.Does None act.now [] (Some s)) }
-    ensures refused { IsErrOf result LineError.Refused ↔ (plain.may_do None act.now ≡ false) }
+/// The session that the line `ring` opens over a store without files. Nothing else opens one.
+pub fn opened_by<S: Store + Drop>(
+    alloc: Global,
+    act: &Act<'_>,
+    store: S,
+) -> Result<Session<S>, LineError>
+    requires tells { S.tells ≡ true }
+    requires empty { AreSame no_files (S.files store) }
+    ensures opened { IfOk result (λ s. (plain true).Does None act.now [] (Some s)) }
+    ensures refused { IsErrOf result LineError.Refused ↔ ((plain true).may_do None act.now ≡ false) }
 {
     match act {
-        Act::Ring { size, first } => Session::open(alloc, *size, *first),
+        Act::Ring { size, first } => Session::open(alloc, store, *size, *first),
         _ => Err(LineError::Refused),
     }
 }

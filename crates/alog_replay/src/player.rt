@@ -1,5 +1,5 @@
 //! The replay of a script, from a reader to a writer, on anything that is `Playable`.
-ghost use Rattle.std.specs.Prelude.{◌≡◌, ◌+◌, ◌++◌, ◌<◌, ◌≤◌, ℕ, List, [], Some, None, length, string_bytes};
+ghost use Rattle.std.specs.Prelude.{◌≡◌, ◌+◌, ◌++◌, ◌<◌, ◌≤◌, ℕ, true, List, [], Some, None, length, string_bytes};
 ghost use Rattle.std.specs.Prelude.{IfOk, IfErr, IfSome, OnOk, OnErr, IsErrOf};
 ghost use Rattle.std.specs.Io.KnownBytes.{Appends};
 ghost use Rattle.alog_replay.specs.Scene.{IsDone, IsRefused, Makes, Runs, Plays, refused};
@@ -14,6 +14,7 @@ use crate::limits::{LINE_MAX, STEPS_MAX};
 use crate::lines::{Line, LineReader};
 use crate::scene::Playable;
 use crate::session::Session;
+use alog_sink::MemStore;
 use std::alloc::Global;
 use std::io::{ErrorKind, Read, Write};
 
@@ -142,17 +143,17 @@ fn play_and_write<S: Playable, W: Write>(
 
 /// Writes the files at the end of a script.
 fn finish<S: Playable, W: Write>(
+    alloc: Global,
     stage: &S,
     writer: &mut W,
-    out: &mut String,
 ) -> Result<(), ReplayError>
     ensures done { OnOk result (Appends (W.contents writer.old) (W.contents writer.new) (S.scene.files stage.now)) }
     ensures front { IfErr result (λ e. IsNoRefusal e
         × WritesFrontOf (S.scene.files stage.now) (W.contents writer.old) (W.contents writer.new)) }
 {
-    out.clear();
-    stage.print_files(out)?;
-    write_whole(writer, out.as_bytes())?;
+    let mut files = Vec::new(alloc);
+    stage.print_files(alloc, &mut files)?;
+    write_whole(writer, files.as_slice())?;
     match writer.flush() {
         Ok(()) => Ok(()),
         Err(_) => Err(ReplayError::WriteFault),
@@ -181,7 +182,7 @@ pub fn play<S: Playable, R: Read, W: Write>(
             Line::Found => {}
             Line::TooLong => return Err(ReplayError::LineRefused { line: count + 1 }),
             Line::End => {
-                finish(stage, writer, &mut out)?;
+                finish(alloc, stage, writer)?;
                 return Ok(count);
             }
         }
@@ -193,7 +194,8 @@ pub fn play<S: Playable, R: Read, W: Write>(
 /// Replays the script that a reader gives, and writes what it prints. It answers the number of the script's lines.
 ///
 /// Where the reader tells its bytes and the writer what it holds, what is written is the text of the script as
-/// `specs/Script.antt` defines it, and nothing else. A refused line is the first one, and what was printed before it,
+/// `specs/Script.antt` defines it, and nothing else. A store that has no memory for a line is no fault of the replay: the
+/// turn prints `fault`, and so does each later one. A refused line is the first one, and what was printed before it,
 /// and of it, is written. After any fault what is written is a front of what those bytes tell that were read.
 ///
 /// The test `scripts_and_what_they_print` (`src/tests.rt`) shows calls, and `examples/` has scripts.
@@ -203,13 +205,13 @@ pub fn replay<R: Read, W: Write>(
     writer: &mut W,
 ) -> Result<u64, ReplayError>
     ensures whole { IfOk result (λ n. IfSome (R.remaining reader.old) (λ script.
-        WritesText plain None script (λ text. Whole text n) (W.contents writer.old) (W.contents writer.new))) }
+        WritesText (plain true) None script (λ text. Whole text n) (W.contents writer.old) (W.contents writer.new))) }
     ensures refused { IfErr result (λ e. (line : ℕ) → e ≡ ReplayError.LineRefused line → IfSome (R.remaining reader.old) (λ script.
-        WritesText plain None script (RefusedAt line) (W.contents writer.old) (W.contents writer.new))) }
+        WritesText (plain true) None script (RefusedAt line) (W.contents writer.old) (W.contents writer.new))) }
     ensures front { OnErr result (WasRead (R.remaining reader.old) (R.remaining reader.new) (λ read.
-        WritesFront plain None read (W.contents writer.old) (W.contents writer.new))) }
+        WritesFront (plain true) None read (W.contents writer.old) (W.contents writer.new))) }
 {
-    let mut session: Option<Session> = None;
+    let mut session: Option<Session<MemStore>> = None;
     play(alloc, &mut session, reader, writer)
 }
 
@@ -225,7 +227,7 @@ pub fn tells_one_thing<S: Playable>()
     ensures { TellsOneThing S.scene }
 {}
 
-/// A script without a configuration tells one thing, and one alone.
+/// A script without a configuration whose store never fails tells one thing, and one alone.
 pub fn one_text()
     ensures { OneText }
 {}

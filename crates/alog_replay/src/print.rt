@@ -1,13 +1,14 @@
 //! What is printed of steps, turns, cells and the memory file.
 ghost use Rattle.std.specs.Prelude.{◌≡◌, ◌++◌, ◌∷◌, OnOk, string_bytes};
+ghost use Rattle.std.specs.Option.{option_map};
 ghost use Rattle.alog_replay.specs.Session.{said_text, turn_text, mark_name, file_text, cells_line};
 
+use crate::pushed::Pushed;
 use alog_core::{CellView, Mark, Said};
-use alog_msg::Message;
-use std::alloc::AllocError;
+use std::alloc::{AllocError, Global};
 
 /// Prints the line of a step, or nothing for a step that is no event.
-pub fn print_said(out: &mut String, actor: u8, said: &Said<Message>) -> Result<(), AllocError>
+pub fn print_said(out: &mut String, actor: u8, said: &Said<Pushed>) -> Result<(), AllocError>
     ensures { OnOk result (string_bytes out.new ≡ string_bytes out.old ++ said_text actor said.now) }
 {
     match said {
@@ -16,8 +17,8 @@ pub fn print_said(out: &mut String, actor: u8, said: &Said<Message>) -> Result<(
         Said::Write(ticket) => writeln!(out, "{actor} write {ticket}"),
         Said::Full(ticket, _) => writeln!(out, "{actor} full {ticket}"),
         Said::Grab(ticket) => writeln!(out, "{actor} grab {ticket}"),
-        Said::Take(ticket, message) => {
-            let text = message.text.as_str();
+        Said::Take(ticket, pushed) => {
+            let text = pushed.text();
             writeln!(out, "{actor} take {ticket} {text}")
         }
         Said::Empty(ticket) => writeln!(out, "{actor} empty {ticket}"),
@@ -26,11 +27,15 @@ pub fn print_said(out: &mut String, actor: u8, said: &Said<Message>) -> Result<(
     }
 }
 
-/// Prints the line of a turn of the memory file.
-pub fn print_turn(out: &mut String, actor: u8, ticket: u64) -> Result<(), AllocError>
-    ensures { OnOk result (string_bytes out.new ≡ string_bytes out.old ++ turn_text actor ticket) }
+/// Prints the line of a turn of the memory file, which wrote or failed.
+pub fn print_turn(out: &mut String, actor: u8, ticket: u64, written: bool) -> Result<(), AllocError>
+    ensures { OnOk result (string_bytes out.new ≡ string_bytes out.old ++ turn_text actor ticket written) }
 {
-    writeln!(out, "{actor} line {ticket} memory")
+    if written {
+        writeln!(out, "{actor} line {ticket} memory")
+    } else {
+        writeln!(out, "{actor} fault {ticket} memory")
+    }
 }
 
 /// Prints the line of the cells.
@@ -57,13 +62,20 @@ fn mark_name(mark: Mark) -> &'static str
     }
 }
 
-/// Prints the memory file with its name and length, or nothing where no turn wrote to it.
-pub fn print_file(out: &mut String, file: &str) -> Result<(), AllocError>
-    ensures { OnOk result (string_bytes out.new ≡ string_bytes out.old ++ file_text file.now) }
+/// Prints the memory file with its name and length, or nothing where it was not made.
+pub fn print_file(
+    alloc: Global,
+    out: &mut Vec<u8>,
+    file: Option<&Vec<u8>>,
+) -> Result<(), AllocError>
+    ensures { OnOk result (out.new.items ≡ out.old.items ++ file_text (option_map (λ b. b.now.items) file.entry)) }
 {
-    if file.is_empty() {
+    let Some(file) = file else {
         return Ok(());
-    }
-    let length = file.len();
-    write!(out, "== memory memory {length}\n{file}")
+    };
+    let bytes = file.as_slice();
+    let length = bytes.len();
+    let head = format!(in alloc; "== memory memory {length}\n")?;
+    out.extend_from_slice(head.as_bytes())?;
+    out.extend_from_slice(bytes)
 }

@@ -33,8 +33,8 @@ pub trait Playable {
         ensures same { IsErrOf result LineError.Refused → string_bytes out.new ≡ string_bytes out.old };
 
     /// Prints the files as they are at the end of a script.
-    fn print_files(&self, out: &mut String) -> Result<(), AllocError>
-        ensures { OnOk result (string_bytes out.new ≡ string_bytes out.old ++ scene.files self.now) };
+    fn print_files(&self, alloc: Global, out: &mut Vec<u8>) -> Result<(), AllocError>
+        ensures { OnOk result (out.new.items ≡ out.old.items ++ scene.files self.now) };
 
     // Something comes of each act that is not refused, and of each step of an actor in a call.
     ghost goes_on: { GoesOn scene };

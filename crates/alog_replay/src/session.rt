@@ -1,48 +1,53 @@
-//! A queue under a script: the stepped queue, what its actors owe, and the memory file.
+//! A queue under a script: the stepped queue, what its actors owe, and the sink of its memory file.
 ghost use Rattle.std.specs.Prelude.{◌≡◌, ◌↔◌, ◌++◌, true, false, nat_lt, ◌&&◌, Some};
 ghost use Rattle.std.specs.Prelude.{IfOk, IfErr, IsErr, OnOk, IsErrOf, string_bytes};
 ghost use Rattle.alog_core.specs.Queue.{last};
 ghost use Rattle.alog_core.specs.World.{is_size, is_idle, round_of, told, stepped};
 ghost use Rattle.alog_core.specs.declared.said.Said.{Said};
-ghost use Rattle.alog_msg.specs.declared.message.Message.{Message};
+ghost use Rattle.alog_sink.specs.Files.{AreSame, no_files};
+ghost use Rattle.alog_replay.specs.Memory.{memory_name};
 ghost use Rattle.alog_replay.specs.Session.{opened, is_free, may_push, pushing, popping, duty_of, with_duty, with_world};
-ghost use Rattle.alog_replay.specs.Session.{said_text, work_after, step_text, after_step, cells_text};
+ghost use Rattle.alog_replay.specs.Session.{said_text, work_after, Steps, cells_text};
 ghost use Rattle.alog_replay.specs.Scene.{Prints};
 ghost use Rattle.alog_replay.specs.Plain.{plain};
 
 use crate::command::{Act, Actor};
 use crate::duty::Duty;
 use crate::error::LineError;
+use crate::memory::MemorySink;
 use crate::print::{print_cells, print_said, print_turn};
+use crate::pushed::Pushed;
 use alog_core::{ACTORS, Said, World};
-use alog_msg::{DEFAULT_TEXT_LIMIT, Level, Message, Text};
+use alog_sink::Store;
 use std::alloc::{AllocError, Global};
 use std::marker::Model;
 use std::mem;
 
 /// Contracts see it as the `Stage` of `specs/Session.antt`.
 #[derive(Drop)]
-pub struct Session {
-    world: World<Message>,
+pub struct Session<S: Store> {
+    world: World<Pushed>,
     duties: Vec<Duty>,
-    file: String,
+    memory: MemorySink<S>,
 }
 
-impl Model for Session {
-    ghost use Rattle.std.specs.Prelude.{◌≡◌, length, string_bytes};
+impl<S: Store> Model for Session<S> {
+    ghost use Rattle.std.specs.Prelude.{◌≡◌, length};
     ghost use Rattle.alog_core.specs.declared.TheConstants.{ACTORS};
     ghost use Rattle.alog_replay.specs.Session.{Stage};
 
     ghost Value = { Stage };
 
-    ghost view = { λ s. record { world = s.world; duties = s.duties.items; file = string_bytes s.file } };
+    ghost view = { λ s. record { world = s.world; duties = s.duties.items; memory = s.memory } };
 
     ghost invariant = { λ s. length s.duties.items ≡ ACTORS };
 }
 
-impl Session {
-    /// An empty queue and nobody in a call.
-    pub fn open(alloc: Global, places: u64, first: u64) -> Result<Session, LineError>
+impl<S: Store + Drop> Session<S> {
+    /// An empty queue, nobody in a call, and a store without files, which tells what its files have.
+    pub fn open(alloc: Global, store: S, places: u64, first: u64) -> Result<Session<S>, LineError>
+        requires tells { S.tells ≡ true }
+        requires empty { AreSame no_files (S.files store) }
         ensures opened { IfOk result (λ s. s ≡ opened places first) }
         ensures refused { IsErrOf result LineError.Refused ↔ ((is_size places && nat_lt first last) ≡ false) }
     {
@@ -51,11 +56,11 @@ impl Session {
         for _ in 0..ACTORS {
             duties.push_reserved(Duty::Free);
         }
-        let file = String::new(alloc);
+        let memory = MemorySink::open(alloc, store)?;
         Ok(Session {
             world,
             duties,
-            file,
+            memory,
         })
     }
 
@@ -72,21 +77,11 @@ impl Session {
         ensures begun { OnOk result (self.new ≡ pushing self.old actor text.now) }
         ensures refused { IsErrOf result LineError.Refused ↔ (may_push self.old actor text.now ≡ false) }
     {
-        if !(self.is_free(actor) && text.len() <= DEFAULT_TEXT_LIMIT) {
+        if !self.is_free(actor) {
             return Err(LineError::Refused);
         }
-        let thread = u64::from(actor.number());
-        let message = Message::new(
-            alloc,
-            DEFAULT_TEXT_LIMIT,
-            0,
-            Level::Info,
-            0,
-            thread,
-            text,
-            None,
-        )?;
-        self.world.begin_push(u32::from(actor.number()), message)?;
+        let pushed = Pushed::new(alloc, actor, text)?;
+        self.world.begin_push(u32::from(actor.number()), pushed)?;
         self.owe(actor, Duty::Free);
         Ok(())
     }
@@ -107,8 +102,8 @@ impl Session {
 
     /// An actor makes the next step of its call, which is printed.
     pub fn step(&mut self, actor: Actor, out: &mut String) -> Result<(), LineError>
-        ensures stepped { OnOk result (self.new ≡ after_step self.old actor) }
-        ensures printed { OnOk result (string_bytes out.new ≡ string_bytes out.old ++ step_text self.old actor) }
+        ensures stepped { OnOk result (Prints (string_bytes out.old) (string_bytes out.new)
+            (λ text. Steps true self.old actor text self.new)) }
         ensures refused { IsErrOf result LineError.Refused ↔ (is_free self.old actor ≡ true) }
         ensures same { IsErrOf result LineError.Refused → string_bytes out.new ≡ string_bytes out.old }
     {
@@ -125,10 +120,9 @@ impl Session {
                 self.owe(actor, owed(said));
                 Ok(())
             }
-            Duty::Owes { ticket, text } => {
-                self.file.push_str(text.as_str())?;
-                self.file.push_str("\n")?;
-                Ok(print_turn(out, actor.number(), ticket)?)
+            Duty::Owes { ticket, pushed } => {
+                let written = self.memory.take(&pushed);
+                Ok(print_turn(out, actor.number(), ticket, written)?)
             }
         }
     }
@@ -136,8 +130,8 @@ impl Session {
     /// Carries out an act where the queue is open.
     pub fn act(&mut self, alloc: Global, act: Act<'_>, out: &mut String) -> Result<(), LineError>
         ensures done { OnOk result (Prints (string_bytes out.old) (string_bytes out.new)
-            (λ text. plain.Does (Some self.old) act.entry text (Some self.new))) }
-        ensures refused { IsErrOf result LineError.Refused ↔ (plain.may_do (Some self.old) act.entry ≡ false) }
+            (λ text. (plain true).Does (Some self.old) act.entry text (Some self.new))) }
+        ensures refused { IsErrOf result LineError.Refused ↔ ((plain true).may_do (Some self.old) act.entry ≡ false) }
         ensures same { IsErrOf result LineError.Refused → string_bytes out.new ≡ string_bytes out.old }
     {
         match act {
@@ -157,11 +151,11 @@ impl Session {
         print_cells(out, &cells)
     }
 
-    /// The bytes of the memory file.
-    pub fn file(&self) -> &str
-        ensures { result.now ≡ self.now.file }
+    /// The store, which has the memory file.
+    pub fn store(&self) -> &S
+        ensures { S.files result.now memory_name ≡ self.now.memory.bytes }
     {
-        self.file.as_str()
+        self.memory.store()
     }
 
     /// What the actor owes, which it then owes no more.
@@ -180,7 +174,7 @@ impl Session {
     }
 
     /// The next step of a round.
-    fn advance(&mut self, actor: Actor, out: &mut String) -> Result<Said<Message>, LineError>
+    fn advance(&mut self, actor: Actor, out: &mut String) -> Result<Said<Pushed>, LineError>
         requires in_call { is_idle (round_of self.old.world actor) ≡ false }
         ensures said { IfOk result (λ said. said ≡ told self.old.world actor) }
         ensures stepped { OnOk result (self.new ≡ with_world self.old (stepped self.old.world actor)) }
@@ -194,14 +188,11 @@ impl Session {
 }
 
 /// What a worker owes after a step of its pop.
-fn owed(said: Said<Message>) -> Duty
+fn owed(said: Said<Pushed>) -> Duty
     ensures { result ≡ work_after said }
 {
     match said {
-        Said::Take(ticket, message) => Duty::Owes {
-            ticket,
-            text: message.text,
-        },
+        Said::Take(ticket, pushed) => Duty::Owes { ticket, pushed },
         Said::Nothing | Said::Grab(_) => Duty::Works,
         _ => Duty::Free,
     }

@@ -4,9 +4,13 @@ use crate::error::LineError;
 use crate::limits::LINE_MAX;
 use crate::lines::{Line, LineReader, ReadFault};
 use crate::parser::parse;
+use crate::plain::opened_by;
 use crate::player::play;
+use crate::print::print_file;
 use crate::scene::Playable;
+use crate::session::Session;
 use crate::{ReplayError, one_command, one_entry, one_text, replay};
+use alog_sink::{FuseStore, MemStore};
 use std::alloc::{AllocError, Global};
 use std::io;
 use std::io::{Error, ErrorKind, Read, Write};
@@ -322,7 +326,7 @@ impl Playable for Poor {
         Err(LineError::Refused)
     }
 
-    fn print_files(&self, _out: &mut String) -> Result<(), AllocError> {
+    fn print_files(&self, _alloc: Global, _out: &mut Vec<u8>) -> Result<(), AllocError> {
         Err(AllocError)
     }
 
@@ -342,4 +346,89 @@ fn want_of_memory(rt: HostRuntime) {
         assert_eq!(rt; found, Err(ReplayError::OutOfMemory));
         assert!(rt; out.is_empty());
     }
+}
+
+// A queue over a store that fails one of its calls.
+impl Playable for Option<Session<FuseStore<MemStore>>> {
+    ghost use Rattle.std.specs.Prelude.{true};
+    ghost use Rattle.alog_replay.specs.Plain.{plain, plain_goes_on};
+
+    ghost scene = { plain true };
+
+    fn is_free(&self, actor: Actor) -> bool {
+        match self {
+            Some(session) => session.is_free(actor),
+            None => true,
+        }
+    }
+
+    fn act(&mut self, alloc: Global, act: Act<'_>, out: &mut String) -> Result<(), LineError> {
+        match self {
+            Some(session) => session.act(alloc, act, out),
+            None => {
+                let store = FuseStore::new(MemStore::new(alloc), 0, 0);
+                *self = Some(opened_by(alloc, &act, store)?);
+                Ok(())
+            }
+        }
+    }
+
+    fn step(&mut self, actor: Actor, out: &mut String) -> Result<(), LineError> {
+        match self {
+            Some(session) => session.step(actor, out),
+            None => Err(LineError::Refused),
+        }
+    }
+
+    fn print_files(&self, alloc: Global, out: &mut Vec<u8>) -> Result<(), AllocError> {
+        match self {
+            Some(session) => print_file(alloc, out, session.store().store().files().get("memory")),
+            None => Ok(()),
+        }
+    }
+
+    ghost goes_on = { plain_goes_on true };
+}
+
+const TURNS: &str =
+    "push 1 one\nrun 1\npush 1 n\u{e9}\nrun 1\nwork 2\nrun 2\nwork 2\nrun 2\nwork 2\nrun 2\ncells\n";
+
+// What the script prints where the store fails at this append, of which it passes on some bytes.
+fn printed_at(
+    rt: &impl Abort,
+    alloc: Global,
+    call: u64,
+    part: usize,
+    wanted: &[u8],
+) -> Result<(), Fail> {
+    let store = FuseStore::new(MemStore::new(alloc), call, part);
+    let mut session = Some(Session::open(alloc, store, 2, 0)?);
+    let mut out = Vec::new(alloc);
+    let found = play(alloc, &mut session, &mut TURNS.as_bytes(), &mut out);
+    assert_eq!(rt; found, Ok(11));
+    assert!(rt; out.as_slice() == wanted);
+    Ok(())
+}
+
+const PUSHED: &str = "1 claim 0\n1 write 0\n1 claim 1\n1 write 1\n";
+
+#[test]
+fn a_store_that_fails(rt: HostRuntime) -> Result<(), Fail> {
+    let mut wanted = Vec::from_slice(rt.alloc(), PUSHED.as_bytes())?;
+    wanted.extend_from_slice(b"2 grab 0\n2 take 0 one\n2 line 0 memory\n")?;
+    wanted.extend_from_slice(b"2 grab 1\n2 take 1 n\xc3\xa9\n2 fault 1 memory\n")?;
+    wanted.extend_from_slice(b"2 empty 2\ncells\n== memory memory 6\none\nn\xc3")?;
+    printed_at(&rt, rt.alloc(), 1, 2, wanted.as_slice())?;
+
+    let mut wanted = Vec::from_slice(rt.alloc(), PUSHED.as_bytes())?;
+    wanted.extend_from_slice(b"2 grab 0\n2 take 0 one\n2 fault 0 memory\n")?;
+    wanted.extend_from_slice(b"2 grab 1\n2 take 1 n\xc3\xa9\n2 fault 1 memory\n")?;
+    wanted.extend_from_slice(b"2 empty 2\ncells\n== memory memory 0\n")?;
+    printed_at(&rt, rt.alloc(), 0, 0, wanted.as_slice())?;
+
+    let mut wanted = Vec::from_slice(rt.alloc(), PUSHED.as_bytes())?;
+    wanted.extend_from_slice(b"2 grab 0\n2 take 0 one\n2 line 0 memory\n")?;
+    wanted.extend_from_slice(b"2 grab 1\n2 take 1 n\xc3\xa9\n2 line 1 memory\n")?;
+    wanted.extend_from_slice(b"2 empty 2\ncells\n== memory memory 8\none\nn\xc3\xa9\n")?;
+    printed_at(&rt, rt.alloc(), 2, 0, wanted.as_slice())
 }

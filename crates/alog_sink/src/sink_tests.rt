@@ -235,6 +235,7 @@ fn a_fan_with_a_fault(rt: HostRuntime) -> Result<(), Fail> {
         );
         assert_eq!(rt; fan.flush(), Err(SinkError::Broken));
         let members = fan.members();
+        assert_eq!(rt; members.len(), 2);
         let all: &[u8] = b"a\nb\nc\n";
         let cut: &[u8] = b"a\n";
         let wants = |call: u64| if call == 1 { cut } else { all };

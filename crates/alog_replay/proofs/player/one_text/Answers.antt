@@ -1,4 +1,4 @@
-use Rattle.std.proofs.Common.{None}
+use Rattle.std.proofs.Common.{None, false}
 use Rattle.alog_replay.specs.Plain.{plain, plain_goes_on}
 use Rattle.alog_replay.proofs.PlainLemmas.{plain_is_certain}
 use Rattle.alog_replay.proofs.Going.{some_script, one_script}
@@ -6,5 +6,5 @@ use Rattle.alog_replay.proofs.player.one_text.Goals as goal
 
 pub returns : goal.returns
 returns c script =
-    let t = some_script plain plain_goes_on None script in
-    (t.0, t.1, λ u h. one_script plain plain_is_certain None script t.0 u t.1 h)
+    let t = some_script (plain false) (plain_goes_on false) None script in
+    (t.0, t.1, λ u h. one_script (plain false) plain_is_certain None script t.0 u t.1 h)

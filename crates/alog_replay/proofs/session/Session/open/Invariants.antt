@@ -4,4 +4,4 @@ use Rattle.alog_replay.specs.declared.duty.Duty.TheVariants.{Free}
 use Rattle.alog_replay.proofs.session.Session.open.Given as goal
 
 abbrev pub invariant-loop : goal.invariant-loop
-invariant-loop l = record { items : l.duties.items ≡ replicate l.counter Free; room : vec_capacity l.duties ≡ ACTORS }
+invariant-loop g l = record { items : l.duties.items ≡ replicate l.counter Free; room : vec_capacity l.duties ≡ ACTORS }
