@@ -60,7 +60,14 @@ pub fn memory(alloc: Global) -> Result<Target> {
 
 /// A sink that keeps files of a mebibyte, and three that were full.
 pub fn rotating(alloc: Global) -> Result<Target> {
-    match Sink::rotating(alloc, face(alloc)?, MemStore::new(alloc), "log.txt", 1 << 20, 3) {
+    match Sink::rotating(
+        alloc,
+        face(alloc)?,
+        MemStore::new(alloc),
+        "log.txt",
+        1 << 20,
+        3,
+    ) {
         Ok(sink) => Ok(Target::Sink(sink)),
         Err(refused) => Err(refused.error.into()),
     }
@@ -83,9 +90,7 @@ pub fn fan(alloc: Global) -> Result<Target> {
 /// A message of some 64 bytes, whose time is set as it is written.
 pub fn message(alloc: Global) -> Result<Message> {
     let text = "request 123 of client 12 served by worker 3 in 861 microseconds";
-    Ok(Message::new(
-        alloc, TEXT_LIMIT, 0, Level::Info, 0, 1, text, None,
-    )?)
+    Ok(Message::new(alloc, TEXT_LIMIT, 0, Level::Info, 0, 1, text, None)?)
 }
 
 /// Gives one message to what it goes to.
@@ -94,7 +99,10 @@ fn give(target: &mut Target, message: &Message, line: &mut LineBuf) -> Result<()
     match target {
         Target::Bare(pattern) => {
             line.clear();
-            ensure!(message.text.len() <= pattern.text_limit(), "a text is too long");
+            ensure!(
+                message.text.len() <= pattern.text_limit(),
+                "a text is too long"
+            );
             ensure!(pattern.longest() <= line.room(), "a line has no room");
             format(pattern, &UTC, NAME, message, line);
         }
