@@ -15,3 +15,4 @@ pub mod BookSteps
 pub mod BookCounting
 pub mod BookSums
 pub mod BookClosing
+pub mod Ports

@@ -1,11 +1,11 @@
--- A post that never waits, from its first call to its end.
+-- A post that is made at once, from its first call to its end.
 use Rattle.std.proofs.Common.{◌≡◌, ◌≢◌, ℕ, ◌+◌, ◌⊎◌, inl, inr, Result, Ok, Err, List, [], ◌∷◌, ◌++◌, refl, sym, ap, subst, ◌∙◌}
 use Rattle.std.proofs.Common.{add-zero, append-nil}
 use Rattle.alog_core.specs.Queue.{Event, Claim, Write}
 use Rattle.alog_policy.specs.Post.{IsPost, Part, Pushing, takes_in, End, Wrote, OutOfTickets, NoRoom, NothingToTake, OutOfRounds}
 use Rattle.alog_policy.specs.Post.{outcome_of, overran_in}
 use Rattle.alog_policy.specs.Progress.{IsKept, IsFresh, IsSoFar, without_waiting, begun}
-use Rattle.alog_policy.specs.Outlet.{Doing, PostsNow, Leads}
+use Rattle.alog_policy.specs.Outlet.{Doing, Posts, Leads}
 use Rattle.alog_policy.specs.declared.policy.Policy.{Policy}
 use Rattle.alog_policy.specs.declared.policy.Policy.TheVariants.{Block, OverrunOldest, DiscardNew}
 use Rattle.alog_policy.specs.declared.policy.Outcome.{Outcome}
@@ -36,7 +36,7 @@ pub record IsPosting {S T V : Type 0} (did : Doing S T) (fit : S → Type 0) (p 
     (g : Progress) (now : S) : Type 0 where
   pub ready : fit now
   pub kept : IsKept g
-  pub policy : g.policy ≡ without_waiting p
+  pub policy : g.policy ≡ p
   pub part : Part
   pub events : List (Event T)
   pub fresh : IsFresh g.side part
@@ -65,18 +65,18 @@ done_more {S} {T} did one a b c es fs (inr h) then =
     (one a b c es fs (takes_in es) 0 (takes_in fs) 0 h then)
 
 module _ {S T V : Type 0} (did : Doing S T) (fit : S → Type 0) (one : AreTogether did) where
-  pub posting_begins : (p : Policy) (x : T) (v : V) (first : S) (g : Progress) → g ≡ begun (without_waiting p) → fit first
+  pub posting_begins : (p : Policy) (x : T) (v : V) (first : S) (g : Progress) → g ≡ begun p → fit first
       → IsPosting did fit p x v first g first
   posting_begins p x v first g e ready =
       subst (λ (h : Progress). IsPosting did fit p x v first h first) (sym e)
       (record {
         ready = ready;
-        kept = kept_begun (without_waiting p);
+        kept = kept_begun p;
         policy = refl;
         part = Pushing;
         events = [];
         fresh = refl;
-        way = begun_agrees (without_waiting p) x;
+        way = begun_agrees p x;
         done = inl (refl, refl);
       })
 
@@ -96,11 +96,11 @@ module _ {S T V : Type 0} (did : Doing S T) (fit : S → Type 0) (one : AreToget
         }
 
     pub posting_is_lost : (l : Lost) (final : S) → Leads did fit x v g now new (Err l) → did new [] 0 1 final
-        → PostsNow did fit p x v first final (Discarded v l.why l.overran)
+        → Posts did fit p x v first final (Discarded v l.why l.overran)
     posting_is_lost l final leads counted =
         let events = posting.events ++ leads.made in
         let agrees = leads.agrees posting.part posting.events posting.fresh posting.way in
-        let post : IsPost (without_waiting p) x v events (Discarded v l.why l.overran) =
+        let post : IsPost p x v events (Discarded v l.why l.overran) =
         subst (λ (q : Policy). IsPost q x v events (Discarded v l.why l.overran)) posting.policy agrees in
         let all : did first (events ++ []) (takes_in events + 0) 1 final =
         one first new final events [] (takes_in events) 0 0 1
@@ -110,24 +110,24 @@ module _ {S T V : Type 0} (did : Doing S T) (fit : S → Type 0) (one : AreToget
           post = post;
           done = subst (λ (es : List (Event T)). did first es l.overran 1 final) (append-nil events)
               (subst (λ n. did first (events ++ []) n 1 final)
-              (add-zero (takes_in events) ∙ overran_takes (without_waiting p) x v events (Discarded v l.why l.overran) post) all);
+              (add-zero (takes_in events) ∙ overran_takes p x v events (Discarded v l.why l.overran) post) all);
         }
 
     pub posting_wrote : (t : ℕ) → g.side ≡ Push → did now (Claim t x ∷ Write t ∷ []) 0 0 new
-        → PostsNow did fit p x v first new (Posted t g.overran)
+        → Posts did fit p x v first new (Posted t g.overran)
     posting_wrote t side wrote =
         let made : List (Event T) = Claim t x ∷ Write t ∷ [] in
         let events = posting.events ++ made in
         let way = subst (λ (b : Part). IsSoFar g x b posting.events) (fresh_push g.side posting.part side posting.fresh)
         posting.way in
-        let post : IsPost (without_waiting p) x v events (Posted t g.overran) =
+        let post : IsPost p x v events (Posted t g.overran) =
         subst (λ (q : Policy). IsPost q x v events (Posted t g.overran)) posting.policy
         (end_agrees g.policy x g.rounds g.overran Pushing posting.events made way v (Wrote t) posting.kept.within refl refl) in
         record {
           events = events;
           post = post;
           done = subst (λ n. did first events n 0 new)
-              (overran_takes (without_waiting p) x v events (Posted t g.overran) post)
+              (overran_takes p x v events (Posted t g.overran) post)
               (done_more did one first now new posting.events made posting.done wrote);
         }
 

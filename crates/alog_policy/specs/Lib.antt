@@ -13,3 +13,5 @@ pub mod BookAdds
 pub mod BookCalls
 pub mod BookRule
 pub mod BookPlays
+pub mod Port
+pub mod PortTogether

@@ -11,6 +11,7 @@ use Rattle.alog_policy.specs.Post.{IsPost, Part, takes_in, overran_in, discards_
 use Rattle.alog_policy.specs.Progress.{IsFresh, IsSoFar, IsKept, Agrees, without_waiting, work}
 use Rattle.alog_policy.specs.declared.policy.Policy.{Policy}
 use Rattle.alog_policy.specs.declared.policy.Policy.TheVariants.{Block}
+use Rattle.alog_policy.specs.declared.policy.Why.TheVariants as why
 use Rattle.alog_policy.specs.declared.policy.Outcome.{Outcome}
 use Rattle.alog_policy.specs.declared.policy.Outcome.TheVariants.{Posted, Discarded}
 use Rattle.alog_policy.specs.declared.progress.Progress.{Progress}
@@ -39,18 +40,27 @@ module _ {S T : Type 0} (did : Doing S T) (fit : S → Type 0) where
   PopRefused old (pop.Empty next) new = Refused old (queue.Empty next) new
   PopRefused old (pop.Busy seen) new = Refused old (queue.PopBusy seen) new
 
--- A post that never waits: the outlet's events were one post by the definition, which brought v, of which a cell shows x, and
--- the outlet counted its losses. An outlet whose post was discarded is fit for another.
-pub record PostsNow {S T V : Type 0} (did : Doing S T) (fit : S → Type 0) (p : Policy) (x : T) (v : V) (old new : S)
+-- A post: the outlet's events were one post under this policy by the definition, which brought v, of which a cell shows x, and
+-- the outlet counted its losses.
+pub record Posts {S T V : Type 0} (did : Doing S T) (fit : S → Type 0) (p : Policy) (x : T) (v : V) (old new : S)
     (outcome : Outcome V) : Type 0 where
   pub events : List (Event T)
-  pub post : IsPost (without_waiting p) x v events outcome
+  pub post : IsPost p x v events outcome
   pub done : did old events (overran_in outcome) (discards_in outcome) new
+
+-- a post that never waits
+abbrev pub PostsNow : {S T V : Type 0} → Doing S T → (S → Type 0) → Policy → T → V → S → S → Outcome V → Type 0
+PostsNow did fit p x v old new outcome = Posts did fit (without_waiting p) x v old new outcome
 
 -- the fact, where the post was discarded
 abbrev pub IfDiscarded : {V : Type 0} → Outcome V → Type 0 → Type 0
 IfDiscarded (Posted t k) P = Unit {0}
 IfDiscarded (Discarded v w k) P = P
+
+-- how a post ends that waits for room
+abbrev pub IsPostedOrSpent : {V : Type 0} → Outcome V → Type 0
+IsPostedOrSpent (Posted t k) = Unit {0}
+IsPostedOrSpent (Discarded v w k) = w ≡ why.Spent
 
 -- A push or a pop of a post that did not end it in the queue: the outlet made events by which whatever the post was so far goes
 -- on so, or is lost so.

@@ -2,14 +2,16 @@
 //!
 //! `post_now` makes a post that never waits, on any `Outlet`, and answers its `Outcome`. A `Desk` is the stepped queue of
 //! `alog_core` whose actors also make posts, one atomic step at a time, and which counts what they lose; `Desk::outlet`
-//! lends it to one actor for posts that are made at once. A `LossBook` counts losses for any number of threads. The tests
-//! `overruns_the_oldest` and `posts_at_once` are examples.
+//! lends it to one actor for posts that are made at once. A `LossBook` counts losses for any number of threads, and a
+//! `Port` posts on a running ring; `post_wait` waits there under `Block`. The tests `overruns_the_oldest`, `posts_at_once`
+//! and `a_lone_port_posts` are examples.
 //!
 //! What a post is, is told by its actor's events alone: rounds that go on, and then one end. Read `specs/Post.antt` for that
 //! definition, `specs/Progress.antt` for the same as a machine, `specs/Outlet.antt` for what an outlet promises,
 //! `specs/Desk.antt` for the desk, and `specs/Runs.antt` for what is true of whole runs; then `policy.rt`, `progress.rt`,
 //! `outlet.rt` and `posting.rt` (`post_now`), `desk.rt` with `following.rt` (what follows in a post after a step of it),
-//! and `desk_outlet.rt` with `rounds.rt` (rounds whose steps are made at once).
+//! and `desk_outlet.rt` with `rounds.rt` (rounds whose steps are made at once); `port.rt` with `specs/Port.antt`, and
+//! `waiting.rt` (`post_wait`).
 //!
 //! Of the loss book contracts see one history of adds, each with its seat; what `counts` and `close` answer are sums of
 //! such histories. Read `specs/BookAdds.antt` and `specs/BookCalls.antt`, then `loss_book.rt` (a book, adds and counts),
@@ -32,12 +34,16 @@ mod laws;
 mod loss_book;
 mod outlet;
 mod policy;
+mod port;
+#[cfg(test)]
+mod port_tests;
 mod post;
 mod posting;
 mod progress;
 mod rounds;
 #[cfg(test)]
 mod tests;
+mod waiting;
 
 pub use alog_lane::ALL_PARTS;
 pub use book_close::SeatsOut;
@@ -49,9 +55,11 @@ pub use laws::runs_are_cut;
 pub use loss_book::LossBook;
 pub use outlet::Outlet;
 pub use policy::{Outcome, Policy, Why};
+pub use port::Port;
 pub use post::{Post, Stepped};
 pub use posting::post_now;
 pub use progress::{Lost, Progress, Side};
+pub use waiting::post_wait;
 
 /// A post that does not block ends after so many rounds that went on.
 pub const MOST_ROUNDS: u64 = 64;

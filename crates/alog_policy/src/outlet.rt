@@ -40,8 +40,9 @@ pub trait Outlet {
 
     /// Counts one discarded post.
     fn count_discarded(&mut self)
+        requires { is_fit self.old }
         ensures counted { did self.old [] 0 1 self.new }
-        ensures fit { is_fit self.old → is_fit self.new };
+        ensures fit { is_fit self.new };
 
     // What was done first and what was done then are one.
     ghost together: { (a b c : Self) (es fs : List (Event Self.Item)) (k l m n : ℕ) → did a es k l b → did b fs m n c

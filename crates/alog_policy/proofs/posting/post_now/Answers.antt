@@ -2,7 +2,7 @@ use Rattle.std.proofs.Common.{◌≡◌, ◌≢◌, Result, refl, sym, ap, subst
 use Rattle.alog_core.specs.Queue.{Claim, Write}
 use Rattle.std.proofs.Common.{[], ◌∷◌}
 use Rattle.alog_policy.specs.Outlet.{Leads, PostsNow}
-use Rattle.alog_policy.specs.Progress.{begun}
+use Rattle.alog_policy.specs.Progress.{begun, without_waiting}
 use Rattle.alog_policy.specs.declared.policy.Policy.{Policy}
 use Rattle.alog_policy.specs.declared.policy.Policy.TheVariants.{Block}
 use Rattle.alog_policy.specs.declared.policy.Outcome.TheVariants.{Discarded}
@@ -18,7 +18,7 @@ returns-in-Ok-clause-post g c =
     let v = c.args.value in
     let P : g.row.O-Value.Denot → Type 0 =
     λ w. o.did c.loop-progress.outlet (Claim c.in-Ok.ticket (o.shows w) ∷ Write c.in-Ok.ticket ∷ []) 0 0 c.push.new.outlet in
-    posting_wrote o.did o.is_fit g.met.O.Outlet.together c.args.policy (o.shows v) v c.args.outlet.now c.loop-progress.outlet
+    posting_wrote o.did o.is_fit g.met.O.Outlet.together (without_waiting c.args.policy) (o.shows v) v c.args.outlet.now c.loop-progress.outlet
     c.push.new.outlet c.loop-progress.progress c.loop-progress.invariant.posting c.in-Ok.ticket c.in-Push.is
     (subst P c.loop-progress.invariant.value c.in-Ok.ensures.pushed)
 
@@ -70,7 +70,7 @@ loop-progress-preserved g c =
     ] in
     record {
       value = same;
-      posting = posting_goes_on o.did o.is_fit g.met.O.Outlet.together c.args.policy (o.shows v) v c.args.outlet.now now
+      posting = posting_goes_on o.did o.is_fit g.met.O.Outlet.together (without_waiting c.args.policy) (o.shows v) v c.args.outlet.now now
           c.match-progress.outlet before c.loop-progress.invariant.posting c.in-Ok-next.further led;
     }
 
@@ -102,12 +102,12 @@ returns-in-Err-next-clause-post g c =
     subst
     (λ (w : g.row.O-Value.Denot). PostsNow o.did o.is_fit c.args.policy (o.shows v) v c.args.outlet.now
     c.count_discarded.new.self (Discarded w l.why l.overran)) (sym same)
-    (posting_is_lost o.did o.is_fit g.met.O.Outlet.together c.args.policy (o.shows v) v c.args.outlet.now now
+    (posting_is_lost o.did o.is_fit g.met.O.Outlet.together (without_waiting c.args.policy) (o.shows v) v c.args.outlet.now now
     c.match-progress.outlet before c.loop-progress.invariant.posting l c.count_discarded.new.self led
     c.count_discarded.ensures.counted)
 
-pub returns-in-Err-next-clause-fit : goal.returns-in-Err-next-clause-fit
-returns-in-Err-next-clause-fit g c =
+pub count_discarded-requires : goal.count_discarded-requires
+count_discarded-requires g c =
     let o = g.O.Outlet in
     let v = c.args.value in
     let now = c.loop-progress.outlet in
@@ -123,13 +123,13 @@ returns-in-Err-next-clause-fit g c =
           w.make_room-next.result c.match-progress.next refl w.outlet-is w.next-is (w.make_room-next.ensures (o.shows v) v)
     ]
     in
-    c.count_discarded.ensures.fit next.ready
+    next.ready
 
 pub loop-progress-init : goal.loop-progress-init
 loop-progress-init g c =
     let o = g.O.Outlet in
     record {
       value = refl;
-      posting = posting_begins o.did o.is_fit g.met.O.Outlet.together c.args.policy (o.shows c.args.value) c.args.value
+      posting = posting_begins o.did o.is_fit g.met.O.Outlet.together (without_waiting c.args.policy) (o.shows c.args.value) c.args.value
           c.args.outlet.now c.new-progress.result (c.new-progress.ensures ∙ ap begun c.without_waiting.ensures) c.requires;
     }

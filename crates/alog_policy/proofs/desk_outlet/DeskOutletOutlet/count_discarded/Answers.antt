@@ -8,7 +8,8 @@ pub returns-clause-counted : goal.returns-clause-counted
 returns-clause-counted g c = (refl, refl, c.count_discarded.ensures c.args.self.now.actor)
 
 pub returns-clause-fit : goal.returns-clause-fit
-returns-clause-fit g c free =
+returns-clause-fit g c =
+    let free = c.requires in
     let a = c.args.self.now.actor in
     let same = (c.count_discarded.ensures a).makes.rounds in
     (free.0, ap (λ (rs : List (Round g.row.T.Denot)). is_idle (get_or rs a round.Idle)) same ∙ free.1)

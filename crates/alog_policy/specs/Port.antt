@@ -1,0 +1,52 @@
+-- A port: a pass of a ring and a seat of a loss book, by which posts are made on a running ring. What it did, and what a post
+-- on it leaves.
+use Rattle.std.specs.Prelude.{◌≡◌, ◌⊎◌, ℕ, List, []}
+use Rattle.std.specs.List.{AllByRecursion}
+use Rattle.alog_core.specs.Queue.{Event}
+use Rattle.alog_ring.specs.Known.{IsPassOf, PassView}
+use Rattle.alog_ring.specs.Kinds.{no_note}
+use Rattle.alog_ring.specs.Made.{Made}
+use Rattle.alog_lane.specs.Seats as lane
+use Rattle.alog_policy.specs.BookAdds.{Add, Overran, Discarded, items_in, posts_in}
+use Rattle.alog_policy.specs.BookCalls.{IsSeatOf, SeatView}
+use Rattle.alog_policy.specs.Outlet.{Posts}
+use Rattle.alog_policy.specs.Rounds.{entries_by}
+use Rattle.alog_policy.specs.declared.policy.Policy.{Policy}
+use Rattle.alog_policy.specs.declared.policy.Outcome.{Outcome}
+use Rattle.alog_policy.specs.declared.port.Port.{Port}
+
+-- The pass made exactly these events, in this order.
+pub record PassMade {T : Type 0} (old : PassView T no_note) (es : List (Event T)) (new : PassView T no_note) : Type 0 where
+  pub table : new.table ≡ old.table
+  pub made : Made old.known new.known (entries_by old.known.actor es)
+
+-- an add of one item, or of one post
+abbrev pub IsOneLoss : lane.Entry Add → Type 0
+IsOneLoss x = (x.deed ≡ Overran 1) ⊎ (x.deed ≡ Discarded 1)
+
+-- The seat counted exactly so many overrun items and so many discarded posts, each by an add of its own.
+pub record SeatCounted (old : SeatView) (items posts : ℕ) (new : SeatView) : Type 0 where
+  pub table : new.table ≡ old.table
+  pub adds : List (lane.Entry Add)
+  pub made : lane.Made old.known new.known adds
+  pub ones : AllByRecursion IsOneLoss adds
+  pub item_sum : items_in adds ≡ items
+  pub post_sum : posts_in adds ≡ posts
+
+-- the pass belongs to the ring, and the seat to the book
+abbrev pub IsFit : {T : Type 0} → Port T → Type 0
+IsFit p = IsPassOf p.ring.now p.pass.now × IsSeatOf p.book.now p.seat.now
+
+-- The port made exactly these events, counted so many overrun items and so many discarded posts, and lends the same four parts.
+-- A pass without events, and a seat without losses, is as it was.
+pub record PortDid {T : Type 0} (old : Port T) (es : List (Event T)) (items posts : ℕ) (new : Port T) : Type 0 where
+  pub ring : new.ring ≡ old.ring
+  pub book : new.book ≡ old.book
+  pub pass_lent : new.pass.ghost_name ≡ old.pass.ghost_name
+  pub seat_lent : new.seat.ghost_name ≡ old.seat.ghost_name
+  pub pass : ((es ≡ []) × (new.pass.now ≡ old.pass.now)) ⊎ PassMade old.pass.now es new.pass.now
+  pub seat : ((items ≡ 0) × (posts ≡ 0) × (new.seat.now ≡ old.seat.now)) ⊎ SeatCounted old.seat.now items posts new.seat.now
+
+-- A post on a port: the pass's events were one post under this policy by the definition, and the seat's adds its losses.
+abbrev pub PostsOn : {T : Type 0} → Policy → T → Port T → Port T → Outcome T → Type 0
+PostsOn p x old new outcome = Posts PortDid IsFit p x x old new outcome

@@ -1,0 +1,54 @@
+//! A port: posts on a running ring, with a loss book.
+use crate::book_seat::BookSeat;
+use crate::loss_book::LossBook;
+use crate::outlet::Outlet;
+use alog_ring::{Pass, PopError, PushError, Ring};
+
+/// What a thread posts with on a running ring: it lends the ring, a pass of it, a loss book and a seat of that. Contracts
+/// ask that the pass belongs to the ring and the seat to the book. The test `a_lone_port_posts` shows it.
+#[derive(Drop)]
+pub struct Port<'a, T> {
+    /// The ring that posts go to.
+    pub ring: &'a Ring<T>,
+    /// The pass that pushes, and pops what is overrun.
+    pub pass: &'a mut Pass<T>,
+    /// The book in which losses are counted.
+    pub book: &'a LossBook,
+    /// The seat that counts them.
+    pub seat: &'a mut BookSeat,
+}
+
+impl<T: Drop> Outlet for Port<'_, T> {
+    ghost use Rattle.alog_policy.specs.Port.{IsFit, PortDid};
+    ghost use Rattle.alog_policy.specs.PortTogether.{port_together};
+
+    type Value = T;
+
+    type Item = T;
+
+    ghost shows = { λ x. x };
+
+    ghost is_fit = { IsFit };
+
+    ghost did = { PortDid };
+
+    fn push_once(&mut self, value: T) -> Result<u64, PushError<T>> {
+        self.ring.push_once(self.pass, value)
+    }
+
+    fn overrun_once(&mut self) -> Result<u64, PopError> {
+        match self.ring.pop_once(self.pass) {
+            Ok((ticket, _)) => {
+                self.book.overran(self.seat);
+                Ok(ticket)
+            }
+            Err(error) => Err(error),
+        }
+    }
+
+    fn count_discarded(&mut self) {
+        self.book.discarded(self.seat);
+    }
+
+    ghost together = { port_together };
+}

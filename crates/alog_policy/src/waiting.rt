@@ -1,0 +1,91 @@
+//! A post that may wait.
+ghost use Rattle.std.specs.Prelude.{◌≡◌};
+ghost use Rattle.alog_policy.specs.Outlet.{Posts, IfDiscarded, IsPostedOrSpent};
+ghost use Rattle.alog_policy.specs.Port.{IsFit, PostsOn};
+ghost use Rattle.alog_policy.specs.declared.policy.Policy.TheVariants as under;
+
+use crate::outlet::Outlet;
+use crate::policy::{Outcome, Policy, Why};
+use crate::port::Port;
+use crate::posting::post_now;
+use alog_ring::PushError;
+use crossbeam_utils::Backoff;
+use std::sync::Wait;
+
+/// Steps of the backoff where another push was faster.
+const BUSY_STEPS: u32 = 4;
+
+/// Brings the value into the ring under the policy, and answers how that went. Under `Block` it waits until there is room,
+/// so that it is discarded only where no ticket is left; under the other policies it is `post_now`. It takes no memory.
+///
+/// That it returns under `Block` is not promised while nobody pops, or while other pushes are always faster. A discarded
+/// value is handed back, and losses are counted as by `post_now`. The test `a_lone_port_posts` shows it.
+pub fn post_wait<T: Drop>(
+    rt: &impl Wait,
+    port: &mut Port<'_, T>,
+    policy: Policy,
+    value: T,
+) -> Outcome<T>
+    requires { IsFit port.old }
+    ensures post { PostsOn policy value port.old port.new result }
+    ensures fit { IfDiscarded result (IsFit port.new) }
+    ensures blocks { policy ≡ under.Block → IsPostedOrSpent result }
+{
+    match policy {
+        Policy::Block => post_blocking(rt, port, value),
+        Policy::OverrunOldest | Policy::DiscardNew => post_now(port, policy, value),
+    }
+}
+
+/// Makes the rounds of a post that blocks, until one ends it.
+fn post_blocking<O: Outlet>(
+    rt: &impl Wait,
+    outlet: &mut O,
+    mut value: O::Value,
+) -> Outcome<O::Value>
+    requires { O.is_fit outlet.old }
+    ensures post { Posts O.did O.is_fit under.Block (O.shows value) value outlet.old outlet.new result }
+    ensures fit { IfDiscarded result (O.is_fit outlet.new) }
+    ensures blocks { IsPostedOrSpent result }
+{
+    let backoff = Backoff::new();
+    for _ in rt.forever() {
+        match outlet.push_once(value) {
+            Ok(ticket) => return Outcome::Posted { ticket, overran: 0 },
+            Err(
+                PushError::Full {
+                    value: back,
+                    next: _,
+                },
+            ) => {
+                value = back;
+                backoff.snooze();
+            }
+            Err(
+                PushError::Busy {
+                    value: back,
+                    seen: _,
+                },
+            ) => {
+                value = back;
+                give_way(&backoff);
+            }
+            Err(PushError::Spent { value: back }) => {
+                outlet.count_discarded();
+                return Outcome::Discarded {
+                    value: back,
+                    why: Why::Spent,
+                    overran: 0,
+                };
+            }
+        }
+    }
+    unreachable!()
+}
+
+/// Lets the thread that is in the way get on.
+fn give_way(backoff: &Backoff) {
+    for _ in 0..BUSY_STEPS {
+        backoff.spin();
+    }
+}
