@@ -1,11 +1,11 @@
 -- The turns of sinks of both kinds.
-use Rattle.std.specs.Prelude.{◌≡◌, ℕ, Bool, Result, Ok, Err}
+use Rattle.std.specs.Prelude.{◌≡◌, ◌⊎◌, ℕ, Bool, true, false, Result, Ok, Err}
 use Rattle.alog_format.specs.Buffer.{Buffer}
 use Rattle.alog_msg.specs.declared.item.Item.{Item}
 use Rattle.alog_msg.specs.declared.item.Item.TheVariants.{Text, Flush, Stop}
 use Rattle.alog_msg.specs.declared.message.Message.{Message}
 use Rattle.alog_sink.specs.Files.{Files}
-use Rattle.alog_sink.specs.Lines.{MayWrite}
+use Rattle.alog_sink.specs.Lines.{MayWrite, admits}
 use Rattle.alog_sink.specs.Turn.{Answer, Takes, Flushes, FanTakes, FanFlushes, MayGive}
 use Rattle.alog_sink.specs.declared.leaf.SinkError.{SinkError}
 use Rattle.alog_sink.specs.declared.turn.Served.{Served}
@@ -17,6 +17,11 @@ use Rattle.alog_sink.specs.declared.sink.Sink.TheVariants.{Leaf, Fan}
 abbrev pub MayTake : {S : Type 0} → Sink S → Message → ℕ → Type 0
 MayTake (Leaf l) m capacity = MayWrite l.face m capacity
 MayTake (Fan f) m capacity = MayGive f.members m capacity
+
+-- a sink writes no line of the message: it does not pass the level, or a sink that is no fan is broken
+abbrev pub IsIdle : {S : Type 0} → Sink S → Message → Type 0
+IsIdle (Leaf l) m = (admits l.face.level m.level ≡ false) ⊎ (l.broken ≡ true)
+IsIdle (Fan f) m = admits f.level m.level ≡ false
 
 module _ {S : Type 0} (tells : Bool) (files : S → Files) (failures : S → ℕ) where
   -- A sink is given a message.
@@ -47,10 +52,10 @@ MayTurn sink (Flush logger) line = Unit {0}
 MayTurn sink Stop line = ⊥
 
 module _ {S : Type 0} (tells : Bool) (files : S → Files) (failures : S → ℕ) where
-  -- A turn: a text is taken, a flush flushes. The buffer's capacity stays.
+  -- A turn: a text is taken, a flush flushes. The buffer's capacity stays, and where no line is written the buffer is as it was.
   abbrev pub Turns : Sink S → Buffer → Item → Result Served SinkError → Sink S → Buffer → Type 0
   Turns old line (Text m) reply new after = (answer : Answer) × SinkTakes tells files failures old m answer new
-      × (reply ≡ as_taken answer) × (after.capacity ≡ line.capacity)
+      × (reply ≡ as_taken answer) × (after.capacity ≡ line.capacity) × (IsIdle old m → after ≡ line)
   Turns old line (Flush logger) reply new after = (answer : Result Unit SinkError) × SinkFlushes tells files failures old answer new
       × (reply ≡ as_flushed answer) × (after ≡ line)
   Turns old line Stop reply new after = ⊥

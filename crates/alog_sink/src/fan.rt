@@ -1,5 +1,5 @@
 //! Several sinks behind one level.
-ghost use Rattle.std.specs.Prelude.{◌≡◌, ◌↔◌, IsTrue, List, Result};
+ghost use Rattle.std.specs.Prelude.{◌≡◌, ◌↔◌, IsTrue, List, Result, false};
 ghost use Rattle.alog_sink.specs.Turn.{Answer, AllFlush, AllTake, FanFlushes, FanTakes, MayGive, first_fault, or_fault};
 
 use crate::leaf::{Leaf, SinkError, Taken};
@@ -52,6 +52,7 @@ impl<S: Store> Fan<S> {
         requires { MayGive self.old.members message.now line.old.capacity }
         ensures takes { FanTakes S.tells S.files S.failures self.old message.now result self.new }
         ensures capacity { line.new.capacity ≡ line.old.capacity }
+        ensures untouched { (admits self.old.level message.now.level ≡ false) → line.new ≡ line.old }
     {
         if message.level.number() < self.level.number() {
             return Ok(Taken::Below);

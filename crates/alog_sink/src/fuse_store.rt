@@ -10,8 +10,11 @@ use crate::store::{Store, StoreError};
 /// are passed on, or all where it has fewer.
 #[derive(Debug, Drop)]
 pub struct FuseStore<S> {
+    /// Where calls are passed on to.
     pub store: S,
+    /// How far the fuse has burnt.
     pub fuse: Fuse,
+    /// How many bytes of a failing append are passed on, at most.
     pub part: usize,
 }
 
@@ -77,11 +80,12 @@ fn burns(fuse: &mut Fuse) -> bool
 }
 
 impl<S: Store> Store for FuseStore<S> {
-    ghost use Rattle.std.specs.Prelude.{◌≡◌, ◌≢◌, ◌+◌, true, length, take, IfOk, IsErr, OnOk, OnErr};
+    ghost use Rattle.std.specs.Prelude.{◌≡◌, ◌≢◌, ◌+◌, ◌<◌, ◌⊎◌, true, length, take, IfOk, IsErr, OnOk, OnErr};
     ghost use Rattle.std.specs.Option.{option_map};
     ghost use Rattle.alog_sink.specs.Files.{AreSame, appended, renamed, removed};
     ghost use Rattle.alog_sink.specs.Calls.{Counts, LeavesFront};
     ghost use Rattle.alog_sink.specs.Fuse.{own_failures, Passes};
+    ghost use Rattle.alog_sink.specs.declared.TheConstants.{MOST_FAILURES};
 
     ghost files = { λ s. S.files s.store };
 
@@ -96,10 +100,14 @@ impl<S: Store> Store for FuseStore<S> {
         ensures counted { Counts (S.failures self.old.store + own_failures self.old.fuse)
             (S.failures self.new.store + own_failures self.new.fuse) result }
         ensures fails { (self.old.fuse ≡ Fuse.Left 0) → IsErr result }
+        ensures ends { (self.old.fuse ≡ Fuse.Left 0) → ((self.new.fuse ≡ Fuse.Burnt) ⊎ (self.new.fuse ≡ Fuse.Spared)) }
+        ensures spared { (self.old.fuse ≡ Fuse.Left 0) → (self.new.fuse ≡ Fuse.Spared)
+            → (S.failures self.old.store < MOST_FAILURES) → S.failures self.new.store ≡ S.failures self.old.store + 1 }
         ensures part { S.tells ≡ true → (self.old.fuse ≡ Fuse.Left 0) → (self.new.fuse ≡ Fuse.Burnt)
             → AreSame (appended name.now (take self.old.part bytes.now) (S.files self.old.store)) (S.files self.new.store) }
         ensures passes { (self.old.fuse ≢ Fuse.Left 0)
             → Passes self.old.fuse self.new.fuse (S.failures self.old.store) (S.failures self.new.store) result }
+        ensures limit { self.new.part ≡ self.old.part }
     {
         if burns(&mut self.fuse) {
             let part = self.part.min(bytes.len());
@@ -117,6 +125,7 @@ impl<S: Store> Store for FuseStore<S> {
         ensures counted { Counts (S.failures self.old.store + own_failures self.old.fuse)
             (S.failures self.new.store + own_failures self.new.fuse) result }
         ensures passes { Passes self.old.fuse self.new.fuse (S.failures self.old.store) (S.failures self.new.store) result }
+        ensures limit { self.new.part ≡ self.old.part }
     {
         if burns(&mut self.fuse) {
             return Err(StoreError);
@@ -130,6 +139,7 @@ impl<S: Store> Store for FuseStore<S> {
         ensures counted { Counts (S.failures self.old.store + own_failures self.old.fuse)
             (S.failures self.new.store + own_failures self.new.fuse) result }
         ensures passes { Passes self.old.fuse self.new.fuse (S.failures self.old.store) (S.failures self.new.store) result }
+        ensures limit { self.new.part ≡ self.old.part }
     {
         if burns(&mut self.fuse) {
             return Err(StoreError);
@@ -143,6 +153,7 @@ impl<S: Store> Store for FuseStore<S> {
         ensures counted { Counts (S.failures self.old.store + own_failures self.old.fuse)
             (S.failures self.new.store + own_failures self.new.fuse) result }
         ensures passes { Passes self.old.fuse self.new.fuse (S.failures self.old.store) (S.failures self.new.store) result }
+        ensures limit { self.new.part ≡ self.old.part }
     {
         if burns(&mut self.fuse) {
             return Err(StoreError);
@@ -155,6 +166,7 @@ impl<S: Store> Store for FuseStore<S> {
         ensures counted { Counts (S.failures self.old.store + own_failures self.old.fuse)
             (S.failures self.new.store + own_failures self.new.fuse) result }
         ensures passes { Passes self.old.fuse self.new.fuse (S.failures self.old.store) (S.failures self.new.store) result }
+        ensures limit { self.new.part ≡ self.old.part }
     {
         if burns(&mut self.fuse) {
             return Err(StoreError);

@@ -1,5 +1,5 @@
 //! A sink of one store.
-ghost use Rattle.std.specs.Prelude.{◌≡◌, ◌↔◌, IsTrue, true, false};
+ghost use Rattle.std.specs.Prelude.{◌≡◌, ◌↔◌, ◌⊎◌, IsTrue, true, false};
 ghost use Rattle.alog_sink.specs.Lines.{MayWrite, admits};
 ghost use Rattle.alog_sink.specs.Turn.{Takes, Flushes};
 
@@ -82,6 +82,7 @@ impl<S: Store> Leaf<S> {
         requires { MayWrite self.old.face message.now line.old.capacity }
         ensures takes { Takes S.tells S.files S.failures self.old message.now result self.new }
         ensures capacity { line.new.capacity ≡ line.old.capacity }
+        ensures untouched { ((admits self.old.face.level message.now.level ≡ false) ⊎ (self.old.broken ≡ true)) → line.new ≡ line.old }
     {
         if !self.face.admits(message.level) {
             return Ok(Taken::Below);

@@ -1,11 +1,11 @@
 //! Files in memory.
-ghost use Rattle.std.specs.Prelude.{◌≡◌, IfOk, OnOk, OnErr, IsSome, is_ok};
+ghost use Rattle.std.specs.Prelude.{◌≡◌, IfErr, IfOk, OnOk, OnErr, IsSome, is_ok};
 ghost use Rattle.alog_sink.specs.Calls.{Counts};
 ghost use Rattle.alog_sink.specs.Files.{AreSame, appended, no_files, renamed, with_file};
 ghost use Rattle.alog_sink.specs.Memory.{files_in, HasOthers};
 
 use crate::store::{Store, StoreError};
-use std::alloc::{AllocError, Global};
+use std::alloc::{AllocError, AllocFailed, Global};
 use std::collections::BTreeMap;
 
 /// Files in memory, in order of their names. An append costs the bytes appended.
@@ -34,15 +34,19 @@ impl MemStore {
         }
     }
 
-    /// The store with this file, in place of what had its name.
-    pub fn with(self, name: &str, bytes: &[u8]) -> Result<MemStore, AllocError>
+    /// The store with this file, in place of what had its name. Want of memory hands the store back as it was.
+    pub fn with(self, name: &str, bytes: &[u8]) -> Result<MemStore, AllocFailed<MemStore>>
         ensures files { IfOk result (λ s.
             AreSame (with_file name.now bytes.now (⟦<MemStore as Store>⟧.files self)) (⟦<MemStore as Store>⟧.files s)) }
         ensures failures { IfOk result (λ s. ⟦<MemStore as Store>⟧.failures s ≡ ⟦<MemStore as Store>⟧.failures self) }
+        ensures back { IfErr result (λ e. AreSame (⟦<MemStore as Store>⟧.files self) (⟦<MemStore as Store>⟧.files e.value)) }
+        ensures uncounted { IfErr result (λ e. ⟦<MemStore as Store>⟧.failures e.value ≡ ⟦<MemStore as Store>⟧.failures self) }
     {
         let mut store = self;
-        put(&mut store.map, store.alloc, name, bytes)?;
-        Ok(store)
+        match put(&mut store.map, store.alloc, name, bytes) {
+            Ok(()) => Ok(store),
+            Err(_) => Err(AllocFailed { value: store }),
+        }
     }
 
     /// The files by name, in order of their names.

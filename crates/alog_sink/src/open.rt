@@ -1,5 +1,5 @@
 //! How sinks are opened.
-ghost use Rattle.std.specs.Prelude.{◌≡◌, ◌↔◌, ◌⊎◌, Some, true, IfOk, IfErr, IfSome, IsErrAnd, IsTrue, [], ◌≤◌, length, vec_capacity, vec_len, ◌<◌, ◌++◌, ◌∷◌};
+ghost use Rattle.std.specs.Prelude.{◌≡◌, ◌≢◌, ◌↔◌, ◌⊎◌, Some, true, IfOk, IfErr, IfSome, IsErrAnd, IsTrue, [], ◌≤◌, length, vec_capacity, vec_len, ◌<◌, ◌++◌, ◌∷◌};
 ghost use Rattle.alog_sink.specs.Names.{IsFileName};
 ghost use Rattle.alog_sink.specs.Files.{AreSame};
 ghost use Rattle.alog_sink.specs.Refused.{AreBadLimits, FailsAs, IsRotating};
@@ -28,6 +28,7 @@ pub enum OpenError {
     /// The name is empty, has more than 64 bytes, a `/` or a zero byte, or is `.` or `..`.
     #[error("no file can have this name")]
     BadName,
+    /// A growth was refused.
     #[error("out of memory")]
     OutOfMemory,
     /// The store failed.
@@ -52,8 +53,11 @@ impl From<rotation::OpenError> for OpenError {
 /// A sink that was not opened: why, and what was handed in.
 #[derive(Debug, Drop)]
 pub struct Unopened<S> {
+    /// Why.
     pub error: OpenError,
+    /// The face that was handed in.
     pub face: Face,
+    /// The store that was handed in; where the error is `Store`, after its failed call.
     pub store: S,
 }
 
@@ -62,6 +66,7 @@ pub struct Unopened<S> {
 pub struct NoFan<S> {
     /// `BadLimit` or `OutOfMemory`.
     pub error: OpenError,
+    /// The members that were handed in.
     pub members: Vec<Sink<S>>,
 }
 
@@ -115,6 +120,7 @@ impl<S: Store + Drop> Sink<S> {
         ensures counted { IfErr result (λ e. FailsAs (S.failures store) (S.failures e.store) e.error) }
         ensures quiet { IfOk result (λ s. IfSome (store_of s) (λ t. S.failures t ≡ S.failures store)) }
         ensures face { IfErr result (λ e. e.face ≡ face) }
+        ensures back { IfErr result (λ e. (e.error ≢ OpenError.Store) → (e.store ≡ store)) }
         ensures files { S.tells ≡ true → IfErr result (λ e. AreSame (S.files store) (S.files e.store)) }
     {
         if max_size == 0 || max_size > SIZE_MAX || max_files > FILES_MAX {

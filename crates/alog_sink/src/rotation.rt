@@ -1,6 +1,6 @@
 //! A file that is rotated.
 ghost use Rattle.std.specs.Prelude.{◌≡◌, ◌+◌, ◌-◌, ◌<◌, ◌≤◌, ◌^◌, ℕ, true, List, [], ◌∷◌, ◌++◌};
-ghost use Rattle.std.specs.Prelude.{IfOk, OnOk, OnErr, length, map, string_bytes};
+ghost use Rattle.std.specs.Prelude.{IfErr, IfOk, OnOk, OnErr, length, map, string_bytes};
 ghost use Rattle.alog_sink.specs.Calls.{Counts};
 ghost use Rattle.alog_sink.specs.Deeds.{Does};
 ghost use Rattle.alog_sink.specs.Files.{Files, AreSame};
@@ -102,6 +102,7 @@ impl Rotation {
         ensures stands { S.tells ≡ true → IfOk result (λ r. StandsFor r (S.files store.old) [] (S.files store.new)) }
         ensures same { S.tells ≡ true → AreSame (S.files store.old) (S.files store.new) }
         ensures counted { CountsOpening (S.failures store.old) (S.failures store.new) result }
+        ensures unasked { IfErr result (λ e. (e ≡ OpenError.OutOfMemory) → (store.new ≡ store.old)) }
     {
         let names = names_of(alloc, file, max_files)?;
         let size = store.size(file)?.unwrap_or(0);

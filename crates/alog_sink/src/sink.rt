@@ -2,7 +2,7 @@
 ghost use Rattle.std.specs.Prelude.{◌≡◌, ◌↔◌, IsTrue};
 ghost use Rattle.std.specs.Option.{option_map};
 ghost use Rattle.alog_sink.specs.Opened.{IsFan, members_of, store_of};
-ghost use Rattle.alog_sink.specs.Sinks.{MayTake, SinkFlushes, SinkTakes};
+ghost use Rattle.alog_sink.specs.Sinks.{IsIdle, MayTake, SinkFlushes, SinkTakes};
 
 use crate::fan::Fan;
 use crate::leaf::{Leaf, SinkError, Taken};
@@ -13,7 +13,9 @@ use alog_msg::Message;
 /// A sink: one that writes lines to files of a store, or a fan of such.
 #[derive(Debug, Drop)]
 pub enum Sink<S> {
+    /// A sink over a store of its own.
     Leaf(Leaf<S>),
+    /// Sinks behind one level.
     Fan(Fan<S>),
 }
 
@@ -38,6 +40,7 @@ impl<S: Store> Sink<S> {
         requires { MayTake self.old message.now line.old.capacity }
         ensures takes { SinkTakes S.tells S.files S.failures self.old message.now result self.new }
         ensures capacity { line.new.capacity ≡ line.old.capacity }
+        ensures untouched { IsIdle self.old message.now → line.new ≡ line.old }
     {
         match self {
             Sink::Leaf(leaf) => leaf.take(message, line),
