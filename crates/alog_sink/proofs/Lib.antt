@@ -15,3 +15,4 @@ pub mod Turns
 pub mod Fans
 pub mod Opens
 pub mod Keeps
+pub mod Crosses

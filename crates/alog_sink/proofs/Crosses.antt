@@ -1,0 +1,75 @@
+-- A sink may go to another thread where its store may.
+use denote.RattleType.{RattleType}
+use denote.Param.Send.{IsSend, sendable, view_send, struct_send, recorded_send}
+use denote.Struct.Declared.{shape}
+use Rattle.std.proofs.Crossing.{crosses, Vec-send}
+use Rattle.std.proofs.MapsCrossing.{String-send}
+use Rattle.alog_msg.specs.contracts.text.Text as Text
+use Rattle.alog_msg.specs.contracts.text.Text.TheInside as TextInside
+use Rattle.alog_pattern.specs.contracts.items.Item as Item
+use Rattle.alog_pattern.specs.contracts.items.Padding as Padding
+use Rattle.alog_pattern.specs.contracts.patterns.Pattern as Pattern
+use Rattle.alog_pattern.specs.contracts.patterns.Pattern.TheInside as PatternInside
+use Rattle.alog_sink.specs.contracts.face.Face as Face
+use Rattle.alog_sink.specs.contracts.face.Names as Names
+use Rattle.alog_sink.specs.contracts.face.Names.TheInside as NamesInside
+use Rattle.alog_sink.specs.contracts.fan.Fan as Fan
+use Rattle.alog_sink.specs.contracts.fan.Fan.TheInside as FanInside
+use Rattle.alog_sink.specs.contracts.leaf.Leaf as Leaf
+use Rattle.alog_sink.specs.contracts.leaf.Leaf.TheInside as LeafInside
+use Rattle.alog_sink.specs.contracts.rotation.Rotation as Rotation
+use Rattle.alog_sink.specs.contracts.rotation.Rotation.TheInside as RotationInside
+use Rattle.alog_sink.specs.contracts.sink.Sink as Sink
+use Rattle.alog_sink.specs.contracts.target.Target as Target
+
+text_inside_send : IsSend TextInside.the_row
+text_inside_send = search (sendable, crosses, Vec-send) depth 20
+
+text_send : IsSend Text.the_row
+text_send = view_send _ _ _ _ _ text_inside_send
+
+padding_send : IsSend Padding.the_row
+padding_send = search sendable depth 20
+
+item_send : IsSend Item.the_row
+item_send = search (sendable, crosses, padding_send) depth 60 fits 50000
+
+pattern_inside_send : IsSend PatternInside.the_row
+pattern_inside_send = search (sendable, Vec-send, item_send) depth 9
+
+pattern_send : IsSend Pattern.the_row
+pattern_send = view_send _ _ _ _ _ pattern_inside_send
+
+names_inside_send : IsSend NamesInside.the_row
+names_inside_send = search (sendable, crosses, Vec-send, text_send) depth 20
+
+names_send : IsSend Names.the_row
+names_send = view_send _ _ _ _ _ names_inside_send
+
+face_send : IsSend (Face.the_field).row
+face_send = search (sendable, crosses, pattern_send, names_send) depth 20
+
+rotation_inside_send : IsSend RotationInside.the_row
+rotation_inside_send = search (sendable, crosses, Vec-send, String-send) depth 20
+
+rotation_send : IsSend Rotation.the_row
+rotation_send = view_send _ _ _ _ _ rotation_inside_send
+
+target_send : IsSend (Target.the_field).row
+target_send = search (sendable, crosses, text_send, rotation_send) depth 20
+
+leaf_inside_send : (S : RattleType) → IsSend S → IsSend (LeafInside.the_row S)
+leaf_inside_send S s = recorded_send (LeafInside.the_field S).row _ _ (LeafInside.the_type S).to_one (struct_send
+    (shape (LeafInside.the_type S)) (face_send, (target_send, (s, (search sendable, tt)))))
+
+leaf_send : (S : RattleType) → IsSend S → IsSend (Leaf.the_row S)
+leaf_send S s = view_send _ _ _ _ _ (leaf_inside_send S s)
+
+fan_inside_send : (S : RattleType) → IsSend S → IsSend (FanInside.the_row S)
+fan_inside_send S s = search (sendable, Vec-send, leaf_send) depth 20
+
+fan_send : (S : RattleType) → IsSend S → IsSend (Fan.the_row S)
+fan_send S s = view_send _ _ _ _ _ (fan_inside_send S s)
+
+pub sink_send : (S : RattleType) → IsSend S → IsSend (Sink.the_row S)
+sink_send S s = search (sendable, leaf_send, fan_send) depth 20
