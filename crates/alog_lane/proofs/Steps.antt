@@ -15,6 +15,7 @@ use Rattle.alog_lane.specs.declared.view.Cabin.{Cabin}
 use Rattle.alog_lane.specs.Seats.{Entry, Member, Known, own_of, members_of, having_seen}
 use Rattle.alog_lane.specs.Roster.{Stage, Idle, Fresh, Joined, Working, members_by, members_at}
 use Rattle.alog_lane.specs.Roster.{first_sight}
+use Rattle.alog_lane.specs.Calls.{TakesTurn}
 use Rattle.alog_lane.specs.Turns.{Turned, Turns, Leads}
 use Rattle.alog_lane.specs.Rule.{LaneSight, index_after, Keeps, Reaches, IsFree, IsHeld, Ruled}
 use Rattle.alog_lane.specs.Plays.{standing, was_named, saw_both, tried, GaveBack}
@@ -30,6 +31,22 @@ module _ {T I S R : Type 0} (turns : T → S → I → R → T → S → Type 0)
       → Turns turns w x.deed u → Leads turns v (h ++ x ∷ []) u
   leads_more v [] w x u same turn = let P : T → Type 0 = λ z. Turns turns z x.deed u in (u, subst P (sym same) turn, refl)
   leads_more v (y ∷ h) w x u leads turn = (leads.0, leads.1, leads_more leads.0 h w x u leads.2 turn)
+
+  -- the last turn, from the value that those before it led to
+  pub leads_last : (v : T) (h : List (Entry (Turned I S R))) (x : Entry (Turned I S R)) (u : T) → Leads turns v (h ++ x ∷ []) u
+      → (w : T) × Leads turns v h w × Turns turns w x.deed u
+  leads_last v [] x u leads = let P : T → Type 0 = λ z. Turns turns v x.deed z in (v, refl, subst P leads.2 leads.1)
+  leads_last v (y ∷ h) x u leads =
+      let last = leads_last leads.0 h x u leads.2
+      in (last.0, (leads.0, leads.1, last.1), last.2)
+
+  -- what a seat took is a turn of some value
+  pub its_turn : (first : T) (old new : Known (Turned I S R)) (deed : Turned I S R) (index : ℕ) → TakesTurn turns first old new deed index
+      → (v : T) × (w : T) × Turns turns v deed w
+  its_turn first old new deed index took =
+      let last = leads_last first took.before (record { seat = old.seat; deed = deed }) took.value
+      (subst (λ h. Leads turns first h took.value) took.ends took.leads)
+      in (last.0, took.value, last.2)
 
 -- the lock word is the one word
 word_set : (l : List ℕ) (x : ℕ) → length l ≡ 1 → slice_index (set l 0 x) 0 ≡ x

@@ -1,15 +1,20 @@
--- A turn changes nothing of what a turn asks: each sink keeps its face.
+-- A turn changes nothing of what a turn asks: each sink keeps its face, and the buffer its capacity.
 use Rattle.std.proofs.Common.{◌≡◌, ℕ, Bool, true, false, List, [], ◌∷◌, Result, refl, sym, subst}
 use Rattle.std.proofs.lemmas.List.Elements.{All-cons, All-head, All-tail}
 use Rattle.alog_format.specs.Buffer.{Buffer}
+use Rattle.alog_lane.specs.Calls.{TakesTurn}
+use Rattle.alog_lane.specs.Seats.{Known}
+use Rattle.alog_lane.specs.Turns.{Turned}
+use Rattle.alog_lane.proofs.Steps.{its_turn}
 use Rattle.alog_msg.specs.declared.item.Item.{Item}
 use Rattle.alog_msg.specs.declared.item.Item.TheVariants.{Text, Flush, Stop}
 use Rattle.alog_msg.specs.declared.message.Message.{Message}
 use Rattle.alog_sink.specs.Files.{Files}
 use Rattle.alog_sink.specs.Lines.{MayWrite, admits}
-use Rattle.alog_sink.specs.Sinks.{MayTake, MayTurn, SinkTakes, SinkFlushes}
+use Rattle.alog_sink.specs.Sinks.{MayTake, MayTurn, SinkTakes, SinkFlushes, Turns}
 use Rattle.alog_sink.specs.Turn.{Answer, LeafView, FanView, EachDoes, MayGive, Takes, Flushes, FanTakes}
 use Rattle.alog_sink.specs.declared.leaf.SinkError.{SinkError}
+use Rattle.alog_sink.specs.declared.turn.Served.{Served}
 use Rattle.alog_sink.specs.declared.sink.Sink.{Sink}
 use Rattle.alog_sink.specs.declared.sink.Sink.TheVariants.{Leaf, Fan}
 
@@ -71,3 +76,18 @@ module _ {S : Type 0} where
     pub flush_may : (old new : Sink S) (answer : Result Unit SinkError) → SinkFlushes tells files failures old answer new → (i : Item)
         (b : Buffer) → MayTurn old i b → MayTurn new i b
     flush_may old new answer does = kept old new (λ m capacity may. flush_keeps old new answer m capacity does may)
+
+    -- the same turn may be had again, with the buffer as the turn left it
+    pub may_again : (v w first : Sink S) (line after : Buffer) (i : Item) (r : Result Served SinkError) → Turns tells files failures v line i r w after
+        → MayTurn first i line → MayTurn first i after
+    may_again v w first line after (Text m) r turn may = subst (λ n. MayTake first m n) (sym turn.3) may
+    may_again v w first line after (Flush logger) r turn may = tt
+    may_again v w first line after Stop r turn may = may
+
+    -- the same after a turn under a lock
+    pub took_again : (first : Sink S) (old new : Known (Turned Item Buffer (Result Served SinkError)))
+        (deed : Turned Item Buffer (Result Served SinkError)) (index : ℕ) → TakesTurn (Turns tells files failures) first old new deed index
+        → MayTurn first deed.item deed.before → MayTurn first deed.item deed.after
+    took_again first old new deed index took may =
+        let turn = its_turn (Turns tells files failures) first old new deed index took
+        in may_again turn.0 turn.1 first deed.before deed.after deed.item deed.reply turn.2 may

@@ -16,3 +16,4 @@ pub mod Fans
 pub mod Opens
 pub mod Keeps
 pub mod Crosses
+pub mod LaneRuns

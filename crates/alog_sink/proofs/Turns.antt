@@ -6,15 +6,16 @@ use Rattle.alog_msg.specs.declared.level.Level.{Level}
 use Rattle.alog_msg.specs.declared.message.Message.{Message}
 use Rattle.alog_sink.specs.Calls.{Counts}
 use Rattle.alog_sink.specs.Deeds.{Does}
-use Rattle.alog_sink.specs.Files.{Files}
+use Rattle.alog_sink.specs.Files.{Files, AreSame}
 use Rattle.alog_sink.specs.Kept.{IsKept, IsSameTarget, deeds_of}
-use Rattle.alog_sink.specs.Lines.{Written, IsWrittenOf, IsLineOf, AreWrittenOf, admits, admitted}
-use Rattle.alog_sink.specs.Turn.{Answer, LeafView, Takes}
+use Rattle.alog_sink.specs.Lines.{Written, IsWrittenOf, IsLineOf, AreWrittenOf, admits, admitted, lines_of}
+use Rattle.alog_sink.specs.Turn.{Answer, LeafView, StandsFor, Takes}
 use Rattle.alog_sink.specs.declared.face.Face.{Face}
 use Rattle.alog_sink.specs.declared.target.Target.{Target}
 use Rattle.alog_sink.specs.declared.target.Target.TheVariants.{Memory, Rotating}
 use Rattle.alog_sink.specs.declared.leaf.SinkError.TheVariants as errors
 use Rattle.alog_sink.specs.declared.leaf.Taken.TheVariants.{Below, Written as Wrote}
+use Rattle.alog_sink.proofs.RotatedOn.{stands_alike}
 
 -- a message more, which is taken or not
 admitted_more : (own : Level) (ms : List Message) (m : Message) (b : Bool) → admits own m.level ≡ b
@@ -47,6 +48,23 @@ wrote_something answer is (inr e) = cc
 failed_now : (answer : Answer) → answer ≡ Err errors.Store → (answer ≡ Ok Below) ⊎ (answer ≡ Err errors.Broken) → ⊥
 failed_now answer is (inl e) = cc
 failed_now answer is (inr e) = cc
+
+-- what is kept depends on the files by name alone
+pub kept_alike : (t : Target) (opening : Files) (ws : List Written) (old new : Files) → AreSame old new → IsKept t opening ws old
+    → IsKept t opening ws new
+kept_alike (Memory j) opening ws old new same kept = λ n. same n ∙ kept n
+kept_alike (Rotating r) opening ws old new same kept = stands_alike r opening (lines_of ws) old new same kept
+
+-- a sink stands for the same over the same files
+pub stands_on : {S : Type 0} (files : S → Files) (old : LeafView S) (after : S) (opening : Files) (ms : List Message)
+    → AreSame (files old.store) (files after) → StandsFor files old opening ms
+    → StandsFor files (record { face = old.face; target = old.target; store = after; broken = old.broken }) opening ms
+stands_on files old after opening ms same s = record {
+  whole = s.whole;
+  written = s.written;
+  lines = s.lines;
+  kept = kept_alike old.target opening s.written (files old.store) (files after) same s.kept;
+}
 
 module _ {S : Type 0} (tells : Bool) (files : S → Files) (failures : S → ℕ) where
   module _ (old : LeafView S) (m : Message) where

@@ -16,3 +16,4 @@ pub mod Turn
 pub mod Sinks
 pub mod Opened
 pub mod Refused
+pub mod LaneRuns

@@ -63,6 +63,8 @@ module _ {S : Type 0} (tells : Bool) (files : S → Files) (failures : S → ℕ
     pub rose : answer ≡ Err errors.Store → failures old.store < MOST_FAILURES → failures new.store ≡ failures old.store + 1
     pub stayed : OnOk answer (failures new.store ≡ failures old.store)
     pub same : tells ≡ true → AreSame (files old.store) (files new.store)
+    pub stands : tells ≡ true → (opening : Files) (ms : List Message) → StandsFor files old opening ms
+        → OnOk answer (StandsFor files new opening ms)
 
 -- What callers see of a fan.
 pub record FanView (S : Type 0) : Type 0 where

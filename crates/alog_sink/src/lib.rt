@@ -40,7 +40,10 @@ mod turn;
 pub use face::{Face, NameError, Names};
 pub use fan::Fan;
 pub use fuse_store::{Fuse, FuseStore};
-pub use laws::{dated_names_differ, days_go_on, numbered_names_differ, pieces_have_one_cut};
+pub use laws::{
+    dated_names_differ, days_go_on, lanes_write_their_texts, numbered_names_differ,
+    pieces_have_one_cut,
+};
 pub use leaf::{Leaf, SinkError, Taken};
 pub use mem_store::MemStore;
 pub use open::{NoFan, OpenError, Unopened};

@@ -1,4 +1,5 @@
 //! A sink under a lock, to which two threads give lines.
+ghost use Rattle.std.specs.Prelude.{◌≡◌};
 ghost use Rattle.alog_lane.specs.Calls.{IsSeatOf};
 ghost use Rattle.alog_sink.specs.Sinks.{MayTurn};
 
@@ -6,7 +7,7 @@ use alog_format::{Context, LineBuf, Zone};
 use alog_lane::{Held, Lane, LaneSeat};
 use alog_msg::{Item, Level, Message};
 use alog_pattern::Pattern;
-use alog_sink::{Face, MemStore, Names, OpenError, Served, Sink, Store, StoreError, Taken};
+use alog_sink::{Face, MemStore, Names, Served, Sink, SinkError, Store, StoreError, Taken};
 use std::alloc::Global;
 use std::process::Abort;
 use std::test::Fail;
@@ -99,13 +100,21 @@ impl Writer {
     {
         for _ in 0..LOOKS {
             match lane.turn_once(&mut self.seat, 0, &self.text, &mut self.line) {
-                Ok((index, Ok(Served::Taken(Taken::Written)))) => {
-                    drop(self.indexes.push(index));
+                Ok((index, reply)) => {
+                    self.note(index, reply);
                     return;
                 }
-                Ok(_) => return,
                 Err(Held) => thread::yield_now(),
             }
+        }
+    }
+
+    /// Notes the index of a turn that wrote a line.
+    fn note(&mut self, index: u64, reply: Result<Served, SinkError>)
+        ensures { (self.new.seat ≡ self.old.seat) × (self.new.text ≡ self.old.text) × (self.new.line ≡ self.old.line) }
+    {
+        if reply == Ok(Served::Taken(Taken::Written)) {
+            drop(self.indexes.push(index));
         }
     }
 
@@ -171,7 +180,7 @@ fn two_threads_write_lines(rt: HostRuntime) -> Result<(), Fail> {
         assert_eq!(rt; writer.len() as u64, TURNS);
         for index in &writer {
             let line = bytes
-                .get(2 * *index as usize..)
+                .get((*index as usize).saturating_mul(2)..)
                 .and_then(|rest| rest.get(..2));
             assert!(rt; line == Some(&[letter, b'\n']), "{index}");
         }

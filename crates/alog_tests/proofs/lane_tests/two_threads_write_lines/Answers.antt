@@ -1,0 +1,48 @@
+use denote.RattleType.{RattleType}
+use denote.Param.Send.{IsSend, IsSync, sendable, recorded_send, struct_send}
+use denote.Struct.Declared.{shape}
+use Rattle.std.proofs.Crossing.{Vec-send}
+use Rattle.std.specs.contracts.result.Result as Result
+use Rattle.alog_format.specs.contracts.line_buf.LineBuf as LineBuf
+use Rattle.alog_lane.proofs.Crosses.{seat_send, lane_sync}
+use Rattle.alog_lane.specs.contracts.lane.Lane as Lane
+use Rattle.alog_lane.specs.contracts.seat.LaneSeat as LaneSeat
+use Rattle.alog_msg.specs.contracts.item.Item as Item
+use Rattle.alog_sink.proofs.Crosses.{sink_send, store_send, queued_send, line_send}
+use Rattle.alog_sink.specs.contracts.leaf.SinkError as SinkError
+use Rattle.alog_sink.specs.contracts.sink.Sink as Sink
+use Rattle.alog_sink.specs.contracts.turn.Served as Served
+use Rattle.alog_sink.specs.contracts.turn.SinkTurn.TheImpl as Turn
+use Rattle.alog_tests.specs.contracts.lane_tests.Writer as Writer
+use Rattle.alog_tests.specs.contracts.lane_tests.Yielding as Yielding
+use Rattle.alog_tests.specs.contracts.lane_tests.YieldingStore.TheImpl as Store
+use Rattle.alog_tests.proofs.lane_tests.two_threads_write_lines.Goals as goal
+
+own_store : IsSend Yielding.the_row
+own_store = search (sendable, store_send) depth 9
+
+its_sink : IsSend (Sink.the_row Yielding.the_row)
+its_sink = sink_send Yielding.the_row own_store
+
+abbrev Answer : RattleType
+Answer = Result.the_row Served.the_row SinkError.the_row
+
+its_seat : IsSend (LaneSeat.the_row (Sink.the_row Yielding.the_row) Item.the_row Answer LineBuf.the_row
+    (Turn.ghosts Yielding.the_row Store.ghosts Turn.no_dict))
+its_seat = seat_send (Sink.the_row Yielding.the_row) Item.the_row Answer LineBuf.the_row
+    (Turn.ghosts Yielding.the_row Store.ghosts Turn.no_dict) its_sink
+
+its_lane : IsSync (Lane.the_row (Sink.the_row Yielding.the_row) Item.the_row Answer LineBuf.the_row
+    (Turn.ghosts Yielding.the_row Store.ghosts Turn.no_dict))
+its_lane = lane_sync (Sink.the_row Yielding.the_row) Item.the_row Answer LineBuf.the_row
+    (Turn.ghosts Yielding.the_row Store.ghosts Turn.no_dict) its_sink
+
+its_writer : IsSend Writer.the_row
+its_writer = recorded_send (Writer.the_field).row _ _ (Writer.the_type).to_one (struct_send (shape Writer.the_type)
+    (its_seat, (queued_send, (line_send, (search (sendable, Vec-send), tt)))))
+
+pub join-one-requires-send-F : goal.join-one-requires-send-F
+join-one-requires-send-F g c κs = search (sendable, its_writer, its_lane) depth 9
+
+pub join-one-requires-send-A : goal.join-one-requires-send-A
+join-one-requires-send-A g c κs = search (sendable, its_writer) depth 7
