@@ -11,7 +11,7 @@
 //! `open.rt` (constructors), `turn.rt` (a sink under a lock). `names.rt` makes names of files. `specs/Daily.antt` and
 //! `specs/DailyDeeds.antt` define files by days, which no sink keeps yet; `laws.rt` states what is true of definitions.
 //!
-//! The tests `a_memory_sink` and `a_rotating_sink` in `sink_tests.rt` are examples.
+//! The tests `a_memory_sink` and `a_rotating_sink` of `alog_tests` are examples; the tests here try what is private.
 #![tactic(auto)]
 
 mod face;
@@ -29,8 +29,6 @@ mod rotation_plain_tests;
 #[cfg(test)]
 mod rotation_tests;
 mod sink;
-#[cfg(test)]
-mod sink_tests;
 mod store;
 mod target;
 #[cfg(test)]

@@ -19,7 +19,7 @@ use alog_msg::{Level, Text};
 use std::alloc::Global;
 use thiserror::Error;
 
-/// Why a sink was not opened, in the order in which this is tested. The test `refused_sinks` shows each.
+/// Why a sink was not opened, in the order in which this is tested. The test `refused_sinks` of `alog_tests` shows each.
 #[derive(Clone, Copy, Debug, PartialEq, Eq, Drop, Error)]
 pub enum OpenError {
     /// A limit is not within its bounds.

@@ -3,17 +3,14 @@ ghost use Rattle.std.specs.Prelude.{◌≡◌};
 ghost use Rattle.alog_lane.specs.Calls.{IsSeatOf};
 ghost use Rattle.alog_sink.specs.Sinks.{MayTurn};
 
-use alog_format::{Context, LineBuf, Zone};
+use crate::sinks::{has, memory, message};
+use alog_format::LineBuf;
 use alog_lane::{Held, Lane, LaneSeat};
-use alog_msg::{Item, Level, Message};
-use alog_pattern::Pattern;
-use alog_sink::{Face, MemStore, Names, Served, Sink, SinkError, Store, StoreError, Taken};
-use std::alloc::Global;
+use alog_msg::{Item, Level};
+use alog_sink::{MemStore, OpenError, Served, Sink, SinkError, Store, StoreError, Taken};
 use std::process::Abort;
 use std::test::Fail;
 use std::thread;
-
-const TEXT_LIMIT: usize = 64;
 
 /// The turns of each thread.
 const TURNS: u64 = 2_000;
@@ -58,27 +55,6 @@ impl Store for Yielding {
         thread::yield_now();
         self.0.flush(name)
     }
-}
-
-fn sink(alloc: Global) -> Result<Sink<Yielding>, Fail> {
-    let face = Face {
-        level: Level::Trace,
-        pattern: Pattern::compile(alloc, b"%v", TEXT_LIMIT)?,
-        context: Context {
-            zone: Zone::Fixed(0),
-            process: 1,
-        },
-        names: Names::new(alloc),
-    };
-    match Sink::memory(alloc, face, Yielding(MemStore::new(alloc)), "log") {
-        Ok(sink) => Ok(sink),
-        Err(unopened) => Err(unopened.error.into()),
-    }
-}
-
-fn message(alloc: Global, text: &str) -> Result<Message, Fail> {
-    let message = Message::new(alloc, TEXT_LIMIT, 0, Level::Info, 0, 1, text, None)?;
-    Ok(message)
 }
 
 /// What a thread works with: its seat, the text that it gives, a buffer, and the indexes of its turns, in order.
@@ -135,8 +111,11 @@ impl Writer {
 #[test]
 fn two_threads_write_lines(rt: HostRuntime) -> Result<(), Fail> {
     let alloc = rt.alloc();
-    let sink = sink(alloc)?;
-    let (one, two) = (message(alloc, "a")?, message(alloc, "b")?);
+    let sink = memory(alloc, Yielding(MemStore::new(alloc)), b"%v")?;
+    let (one, two) = (
+        message(alloc, Level::Info, "a")?,
+        message(alloc, Level::Info, "b")?,
+    );
     let (first, second) = (LineBuf::new(alloc, 128)?, LineBuf::new(alloc, 128)?);
     assert!(rt; sink.may_take(&one, &first) && sink.may_take(&two, &second));
     let Ok((lane, mut seat)) = Lane::new(alloc, sink) else {
@@ -184,6 +163,28 @@ fn two_threads_write_lines(rt: HostRuntime) -> Result<(), Fail> {
                 .and_then(|rest| rest.get(..2));
             assert!(rt; line == Some(&[letter, b'\n']), "{index}");
         }
+    }
+    Ok(())
+}
+
+#[test]
+fn a_lane_over_a_sink(rt: HostRuntime) -> Result<(), Fail> {
+    let alloc = rt.alloc();
+    let sink = memory(alloc, MemStore::new(alloc), b"%v")?;
+    let mut line = LineBuf::new(alloc, 1_024)?;
+    let text = message(alloc, Level::Info, "a")?;
+    assert!(rt; sink.may_take(&text, &line));
+    let (lane, mut seat) = match Lane::new(alloc, sink) {
+        Ok(made) => made,
+        Err(_) => return Err(OpenError::OutOfMemory.into()),
+    };
+    let taken = lane.turn_once(&mut seat, 5, &Item::Text(text), &mut line);
+    assert_eq!(rt; taken, Ok((0, Ok(Served::Taken(Taken::Written)))));
+    let flushed = lane.turn_once(&mut seat, 6, &Item::Flush(0), &mut line);
+    assert_eq!(rt; flushed, Ok((1, Ok(Served::Flushed))));
+    match lane.close(seat) {
+        Ok(sink) => has(&rt, sink.store(), "log", b"a\n"),
+        Err(_) => assert!(rt; false, "a seat is out"),
     }
     Ok(())
 }

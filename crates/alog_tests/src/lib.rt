@@ -1,8 +1,15 @@
 //! Tests over the public surface of several crates.
 //!
-//! They are here, and not in the crates that they try, since a crate with tests is proved twice. `lane_tests.rt` has sinks under
-//! locks that threads share; `sink_tests.rt` the sinks themselves.
+//! They are here, and not in the crates that they try, since a crate with tests is proved twice. Read `sinks.rt` (what they
+//! share), `sink_tests.rt` (sinks of each kind), `fault_tests.rt` (sinks whose store fails) and `lane_tests.rt` (sinks under a
+//! lock, to which threads give lines).
 #![tactic(auto)]
 
 #[cfg(test)]
+mod fault_tests;
+#[cfg(test)]
 mod lane_tests;
+#[cfg(test)]
+mod sink_tests;
+#[cfg(test)]
+mod sinks;

@@ -1,0 +1,89 @@
+//! What the tests of sinks share: faces, messages, and sinks over one store or two.
+use alog_format::{Context, LineBuf, Zone};
+use alog_msg::{Level, Message};
+use alog_pattern::Pattern;
+use alog_sink::{Face, MemStore, Names, Sink, SinkError, Store, Taken, Unopened};
+use std::alloc::Global;
+use std::process::Abort;
+use std::test::Fail;
+
+pub const TEXT_LIMIT: usize = 64;
+
+pub fn face(alloc: Global, level: Level, pattern: &[u8]) -> Result<Face, Fail> {
+    let mut names = Names::new(alloc);
+    names.push(alloc, "net")?;
+    Ok(Face {
+        level,
+        pattern: Pattern::compile(alloc, pattern, TEXT_LIMIT)?,
+        context: Context {
+            zone: Zone::Fixed(0),
+            process: 7,
+        },
+        names,
+    })
+}
+
+pub fn message(alloc: Global, level: Level, text: &str) -> Result<Message, Fail> {
+    Ok(Message::new(alloc, TEXT_LIMIT, 0, level, 0, 1, text, None)?)
+}
+
+// Gives texts of level info to a sink, and tells what it answered to the last.
+pub fn give<S: Store>(
+    alloc: Global,
+    sink: &mut Sink<S>,
+    texts: &[&str],
+) -> Result<Result<Taken, SinkError>, Fail> {
+    let mut answer = Ok(Taken::Below);
+    for text in texts {
+        answer = give_at(alloc, sink, Level::Info, text)?;
+    }
+    Ok(answer)
+}
+
+// Gives one text of this level.
+pub fn give_at<S: Store>(
+    alloc: Global,
+    sink: &mut Sink<S>,
+    level: Level,
+    text: &str,
+) -> Result<Result<Taken, SinkError>, Fail> {
+    let message = message(alloc, level, text)?;
+    let mut line = LineBuf::new(alloc, 1_024)?;
+    if !sink.may_take(&message, &line) {
+        return Err(SinkError::Broken.into());
+    }
+    Ok(sink.take(&message, &mut line))
+}
+
+pub fn memory<S: Store + Drop>(alloc: Global, store: S, pattern: &[u8]) -> Result<Sink<S>, Fail> {
+    opened(Sink::memory(alloc, face(alloc, Level::Info, pattern)?, store, "log"))
+}
+
+// What was opened, or the refusal as an error of the test.
+pub fn opened<S: Drop>(sink: Result<Sink<S>, Unopened<S>>) -> Result<Sink<S>, Fail> {
+    match sink {
+        Ok(sink) => Ok(sink),
+        Err(unopened) => Err(unopened.error.into()),
+    }
+}
+
+pub fn has(rt: &impl Abort, store: Option<&MemStore>, name: &str, bytes: &[u8]) {
+    let found = store.and_then(|store| store.files().get(name));
+    match found {
+        Some(file) => assert!(rt; file.as_slice() == bytes, "{name}"),
+        None => assert!(rt; false, "{name} is absent"),
+    }
+}
+
+// A fan of one sink for level info, and one for level error.
+pub fn fan_of_two<S: Store + Drop>(alloc: Global, one: S, two: S) -> Result<Sink<S>, Fail> {
+    let first = memory(alloc, one, b"%v")?;
+    let second = opened(Sink::memory(alloc, face(alloc, Level::Error, b"%v")?, two, "log"))?;
+    let mut members = Vec::new(alloc);
+    members.push(first)?;
+    members.push(second)?;
+    match Sink::fan(alloc, Level::Trace, members) {
+        Ok(fan) => Ok(fan),
+        Err(refused) => Err(refused.error.into()),
+    }
+}
