@@ -14,6 +14,9 @@
 //! The tests `a_memory_sink` and `a_rotating_sink` in `sink_tests.rt` are examples.
 #![tactic(auto)]
 
+#[cfg(test)]
+mod daily_tests;
+mod diary;
 mod face;
 mod fan;
 mod fuse_store;
