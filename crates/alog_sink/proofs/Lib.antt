@@ -9,6 +9,9 @@ mod RotatedOn
 mod RotatedDoes
 mod RotatedPut
 mod DailyFiles
+mod DiaryDays
+mod DiaryKnown
+mod DiaryPut
 mod Fronts
 pub mod Journals
 pub mod Turns

@@ -7,8 +7,8 @@ use Rattle.circular_buffer.specs.Buffer.{keep_last}
 use Rattle.jiff_core.specs.declared.civil.datetime.DateTime.{DateTime}
 use Rattle.jiff.specs.Words.{epoch_day}
 use Rattle.jiff_core.specs.Time.{time_seconds}
-use Rattle.alog_sink.specs.Daily.{Entry, opens, last_name, with_name, IsDaily}
-use Rattle.alog_sink.specs.DailyDeeds.{opening_deeds}
+use Rattle.alog_sink.specs.Daily.{Entry, opens, is_last, last_name, with_name, IsDaily}
+use Rattle.alog_sink.specs.DailyDeeds.{makes_way}
 use Rattle.alog_sink.specs.Deeds.{Deed, Append}
 use Rattle.alog_sink.specs.Files.{Files}
 use Rattle.alog_sink.specs.Lines.{Written}
@@ -54,12 +54,6 @@ abbrev pub names_known : ℕ → ℕ
 names_known zero = 1
 names_known (suc n) = suc n
 
--- what an entry does to the files
-abbrev pub deeds_of : Days → Entry → List Deed
-deeds_of d entry =
-    if is_later d.latest entry.period then opening_deeds d.limits.max_files d.names entry
-    else Append (last_name d.names) entry.line ∷ []
-
 -- the names known after one more was opened, and all that is known after an entry
 abbrev pub with_opened : ℕ → List (List ℕ) → List ℕ → List (List ℕ)
 with_opened max_files names name = keep_last (names_known max_files) (with_name names name)
@@ -69,6 +63,17 @@ with_entry d entry =
     if is_later d.latest entry.period
     then record { limits = d.limits; latest = Some entry.period; names = with_opened d.limits.max_files d.names entry.name }
     else d
+
+-- What an entry does to the files: where it opens another name than the last, the one that is pushed out is removed; and its
+-- line is appended to the last name.
+abbrev pub makes_way_for : Days → List ℕ → List Deed
+makes_way_for d name = if is_last name d.names then [] else makes_way d.limits.max_files d.names
+
+abbrev pub deeds_before : Days → Entry → List Deed
+deeds_before d entry = if is_later d.latest entry.period then makes_way_for d entry.name else []
+
+abbrev pub deeds_of : Days → Entry → List Deed
+deeds_of d entry = deeds_before d entry ++ Append (last_name (with_entry d entry).names) entry.line ∷ []
 
 -- These days and files stand for the opening files and the lines, whose years are not before year 0: the files are those of the
 -- lines' entries, a period is later than all of theirs where it is later than the greatest, and the names are the last opened ones.

@@ -1,6 +1,6 @@
 //! Files by days.
-ghost use Rattle.std.specs.Prelude.{◌≡◌, ◌+◌, ◌≤◌, ◌≤ℤ◌, pos, true, List, [], ◌∷◌, ◌++◌};
-ghost use Rattle.std.specs.Prelude.{IfOk, IsOk, OnOk, length, if◌then◌else◌};
+ghost use Rattle.std.specs.Prelude.{◌≡◌, ◌≤◌, true, List, None, [], ◌∷◌, ◌++◌};
+ghost use Rattle.std.specs.Prelude.{IfOk, IsOk, OnOk, length};
 ghost use Rattle.jiff_core.specs.declared.civil.datetime.DateTime.{DateTime};
 ghost use Rattle.jiff.specs.Words.{civil_nanos};
 ghost use Rattle.alog_format.specs.Civil.{IsZone, local_nanos};
@@ -8,7 +8,8 @@ ghost use Rattle.alog_sink.specs.Calls.{Counts};
 ghost use Rattle.alog_sink.specs.Daily.{is_last};
 ghost use Rattle.alog_sink.specs.DailyDeeds.{makes_way};
 ghost use Rattle.alog_sink.specs.Deeds.{Does};
-ghost use Rattle.alog_sink.specs.Diary.{StandsFor, change_at, date_of, deeds_of, entry_of, is_later, period_of, with_opened};
+ghost use Rattle.alog_sink.specs.Diary.{StandsFor, change_at, date_of, deeds_before, deeds_of, entry_of, is_later, makes_way_for};
+ghost use Rattle.alog_sink.specs.Diary.{period_of, with_entry, with_opened};
 ghost use Rattle.alog_sink.specs.Files.{AreSame, Files};
 ghost use Rattle.alog_sink.specs.Lines.{IsShownTo, Written};
 ghost use Rattle.alog_sink.specs.Names.{IsDate, dated};
@@ -121,11 +122,7 @@ impl Diary {
         ensures same { self.new.limits ≡ self.old.limits }
         ensures counted { Counts (S.failures store.old) (S.failures store.new) result }
     {
-        let period = period_at(zone, self.change, message.time);
-        if self.is_later(period) {
-            self.open_date(store, date_at(zone, message.time))?;
-            self.latest = Some(period);
-        }
+        self.begin(store, zone, message)?;
         store.append(self.name.as_str(), line)
     }
 
@@ -151,11 +148,35 @@ impl Diary {
         }
     }
 
+    // Opens the file of a message whose period is later than all before.
+    fn begin<S: Store>(
+        &mut self,
+        store: &mut S,
+        zone: Zone,
+        message: &Message,
+    ) -> Result<(), StoreError>
+        requires { IsZone zone }
+        ensures does { S.tells ≡ true → (w : Written) → IsShownTo zone message.now w.at
+            → Does (deeds_before self.old (entry_of self.old.limits w)) (S.files store.old) (S.files store.new) result }
+        ensures begun { (w : Written) → IsShownTo zone message.now w.at
+            → OnOk result (self.new ≡ with_entry self.old (entry_of self.old.limits w)) }
+        ensures same { self.new.limits ≡ self.old.limits }
+        ensures counted { Counts (S.failures store.old) (S.failures store.new) result }
+    {
+        let period = period_at(zone, self.change, message.time);
+        if !self.is_later(period) {
+            return Ok(());
+        }
+        self.open_date(store, date_at(zone, message.time))?;
+        self.latest = Some(period);
+        Ok(())
+    }
+
     // Opens the file of a date, unless it is the last one.
     fn open_date<S: Store>(&mut self, store: &mut S, date: Date) -> Result<(), StoreError>
         requires { IsDate date }
-        ensures does { S.tells ≡ true → Does (if is_last (dated self.old.limits.file date) self.old.names then []
-            else makes_way self.old.limits.max_files self.old.names) (S.files store.old) (S.files store.new) result }
+        ensures does { S.tells ≡ true → Does (makes_way_for self.old (dated self.old.limits.file date))
+            (S.files store.old) (S.files store.new) result }
         ensures opened { OnOk result (self.new ≡ record {
           limits = self.old.limits;
           latest = self.old.latest;
@@ -164,13 +185,26 @@ impl Diary {
         ensures same { self.new.limits ≡ self.old.limits }
         ensures counted { Counts (S.failures store.old) (S.failures store.new) result }
     {
-        if self.dates.back() == Some(&date) {
+        if self.is_last(date) {
             return Ok(());
         }
         self.make_way(store)?;
         self.dates.push_back(date);
         write_dated(&mut self.name, self.file.as_str(), date);
         Ok(())
+    }
+
+    // Whether a date is that of the last opened file.
+    fn is_last(&self, date: Date) -> bool
+        requires { IsDate date }
+        ensures last { result ≡ is_last (dated self.now.limits.file date) self.now.names }
+        ensures again { result ≡ true
+            → self.now.names ≡ with_opened self.now.limits.max_files self.now.names (dated self.now.limits.file date) }
+    {
+        match self.dates.back() {
+            Some(last) => *last == date,
+            None => false,
+        }
     }
 
     // Removes the file that is not one of the last `max_files` opened once another is opened, if there is one.
