@@ -12,6 +12,9 @@ mod DailyFiles
 mod DiaryDays
 mod DiaryKnown
 mod DiaryPut
+mod DiaryNames
+mod DiaryOn
+mod DiaryLine
 mod Fronts
 pub mod Journals
 pub mod Turns

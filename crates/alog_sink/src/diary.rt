@@ -1,5 +1,5 @@
 //! Files by days.
-ghost use Rattle.std.specs.Prelude.{◌≡◌, ◌≤◌, true, List, None, [], ◌∷◌, ◌++◌};
+ghost use Rattle.std.specs.Prelude.{◌≡◌, ◌≤◌, ◌≤ℤ◌, pos, true, List, None, [], ◌∷◌, ◌++◌};
 ghost use Rattle.std.specs.Prelude.{IfOk, IsOk, OnOk, length};
 ghost use Rattle.jiff_core.specs.declared.civil.datetime.DateTime.{DateTime};
 ghost use Rattle.jiff.specs.Words.{civil_nanos};
@@ -158,16 +158,17 @@ impl Diary {
         requires { IsZone zone }
         ensures does { S.tells ≡ true → (w : Written) → IsShownTo zone message.now w.at
             → Does (deeds_before self.old (entry_of self.old.limits w)) (S.files store.old) (S.files store.new) result }
+        ensures year { (w : Written) → IsShownTo zone message.now w.at → pos 0 ≤ℤ w.at.date.year }
         ensures begun { (w : Written) → IsShownTo zone message.now w.at
             → OnOk result (self.new ≡ with_entry self.old (entry_of self.old.limits w)) }
         ensures same { self.new.limits ≡ self.old.limits }
         ensures counted { Counts (S.failures store.old) (S.failures store.new) result }
     {
-        let period = period_at(zone, self.change, message.time);
+        let period = period_of(zone, self.change, message);
         if !self.is_later(period) {
             return Ok(());
         }
-        self.open_date(store, date_at(zone, message.time))?;
+        self.open_date(store, date_of(zone, message))?;
         self.latest = Some(period);
         Ok(())
     }
@@ -225,12 +226,13 @@ impl Diary {
     }
 }
 
-// The period of a time in nanoseconds since the epoch.
-fn period_at(zone: Zone, change: u32, time: i64) -> i64
+// The period of a message, whose year is not before year 0.
+fn period_of(zone: Zone, change: u32, message: &Message) -> i64
     requires { IsZone zone }
-    ensures { (at : DateTime) → civil_nanos at ≡ local_nanos zone time → result ≡ period_of change at }
+    ensures period { (at : DateTime) → IsShownTo zone message.now at → result ≡ period_of change at }
+    ensures year { (at : DateTime) → IsShownTo zone message.now at → pos 0 ≤ℤ at.date.year }
 {
-    let clock = clock_time(zone, time);
+    let clock = clock_time(zone, message.time);
     if clock.second < i64::from(change) {
         clock.day - 1
     } else {
@@ -238,13 +240,13 @@ fn period_at(zone: Zone, change: u32, time: i64) -> i64
     }
 }
 
-// The date of a time in nanoseconds since the epoch.
-fn date_at(zone: Zone, time: i64) -> Date
+// The date of a message.
+fn date_of(zone: Zone, message: &Message) -> Date
     requires { IsZone zone }
-    ensures date { (at : DateTime) → civil_nanos at ≡ local_nanos zone time → result ≡ date_of at }
+    ensures date { (at : DateTime) → IsShownTo zone message.now at → result ≡ date_of at }
     ensures fits { IsDate result }
 {
-    let civil = civil_at(zone, time);
+    let civil = civil_at(zone, message.time);
     Date {
         year: civil.year,
         month: civil.month,
