@@ -1,13 +1,14 @@
 -- What a diary stands for after one line more.
-use Rattle.std.proofs.Common.{◌≡◌, ℕ, Bool, true, false, cond, ◌&&◌, Option, None, Some, List, [], ◌∷◌, ◌++◌, map, refl, sym, ap, ◌∙◌, subst}
+use Rattle.std.proofs.Common.{◌≡◌, ◌≢◌, ℕ, zero, suc, ◌-◌, Bool, true, false, cond, ◌&&◌, Option, None, Some, List, [], ◌∷◌, ◌++◌, map, refl, sym, ap, ◌∙◌, subst}
 use Rattle.std.proofs.Common.{arith, ℤ, pos, ◌≤ℤ◌}
 use Rattle.std.specs.Int.Signed.{lt_z}
-use Rattle.std.specs.List.{All, Contains}
+use Rattle.std.proofs.Math.Seq.{drop-nil}
+use Rattle.std.specs.List.{All, AllPairs, Contains}
 use Rattle.std.proofs.lemmas.Int.{ints}
 use Rattle.std.proofs.lemmas.List.{map_push}
-use Rattle.std.proofs.lemmas.List.Elements.{All-map, All-push, All-weaker}
+use Rattle.std.proofs.lemmas.List.Elements.{All-nil, All-map, All-push, All-weaker}
 use Rattle.circular_buffer.specs.Buffer.{keep_last}
-use Rattle.alog_sink.specs.Daily.{Entry, opens, is_last, last_name, opened_names, with_name, IsDaily}
+use Rattle.alog_sink.specs.Daily.{Entry, none, kept_names, opens, is_last, last_name, opened_names, with_name, IsDaily}
 use Rattle.alog_sink.specs.DailyDeeds.{day_deeds, makes_way, names_after}
 use Rattle.alog_sink.specs.Deeds.{Deed, Append, all_done}
 use Rattle.alog_sink.specs.Diary.{DayLimits, Days, StandsFor, deeds_of, entries_of, entry_of, is_later, makes_way_for, names_known, with_entry, with_opened}
@@ -144,3 +145,31 @@ days_alike d opening ws files others same s = record {
   known = s.known;
   years = s.years;
 }
+
+-- a diary that was given nothing
+pub begins : (limits : DayLimits) (files : Files) → StandsFor (record { limits = limits; latest = None; names = [] }) files [] files
+begins limits files = record {
+  opened = [];
+  daily = record {
+    segments = [];
+    cut = none;
+    opened = refl;
+    distinct = all_differ;
+    kept = λ name h. absurd (nowhere limits.max_files name h);
+    gone = λ name h not. absurd (no_place name h);
+    others = λ name not. refl;
+  };
+  later = λ entry. refl;
+  known = sym (drop-nil (0 - names_known limits.max_files));
+  years = All-nil (λ (w : Written). pos 0 ≤ℤ w.at.date.year);
+}
+  where
+    no_place : (name : List ℕ) → Contains [] name → ⊥
+    no_place name h = let less = h.1 in omega arith
+
+    nowhere : (max : ℕ) (name : List ℕ) → Contains (kept_names max []) name → ⊥
+    nowhere zero name h = no_place name h
+    nowhere (suc n) name h = no_place name (subst (λ ns. Contains ns name) (drop-nil (0 - suc n)) h)
+
+    all_differ : AllPairs {X = List ℕ} ◌≢◌ []
+    all_differ = λ i j d lt within. absurd (omega arith)

@@ -15,6 +15,7 @@ mod DiaryPut
 mod DiaryNames
 mod DiaryOn
 mod DiaryLine
+mod Targets
 mod Fronts
 pub mod Journals
 pub mod Turns
