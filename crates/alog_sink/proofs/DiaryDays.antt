@@ -100,9 +100,9 @@ pub year_from_0 : (zone : Zone) (time : ℤ) (at : DateTime) → IsZone zone →
     → pos 0 ≤ℤ at.date.year
 year_from_0 zone time at near fits shown = by_lt_z at.date.year (pos 0)
     (λ before. absurd (
-      let less = day_count-lt_year at.date.year at.date.month at.date.day (pos 0) 1 1 (civil at.date) (omega arith) before in
-      let day = day_near zone time at near fits shown in
-      omega (arith, signed_arith, year_0, days_from_civil-day_count at.date.year at.date.month at.date.day)))
+    let less = day_count-lt_year at.date.year at.date.month at.date.day (pos 0) 1 1 (civil at.date) (omega arith) before in
+    let day = day_near zone time at near fits shown in
+    omega (arith, signed_arith, year_0, days_from_civil-day_count at.date.year at.date.month at.date.day)))
     (λ since. since)
 
 -- The same as a program has it: signed numbers of 64 bits.

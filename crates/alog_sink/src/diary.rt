@@ -25,6 +25,7 @@ use std::marker::Model;
 
 /// The last hour of a day, and the last minute of an hour.
 pub(crate) const HOUR_MAX: u32 = 23;
+
 pub(crate) const MINUTE_MAX: u32 = 59;
 
 /// Files of one name with dates, of which the last one goes on until a period later than all before begins.

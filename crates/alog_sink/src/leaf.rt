@@ -102,7 +102,10 @@ impl<S: Store> Leaf<S> {
     {
         self.face.write(message, line);
         let zone = self.face.context.zone;
-        match self.target.put(&mut self.store, zone, message, line.as_slice()) {
+        match self
+            .target
+            .put(&mut self.store, zone, message, line.as_slice())
+        {
             Ok(()) => Ok(Taken::Written),
             Err(StoreError) => {
                 self.broken = true;

@@ -15,6 +15,8 @@
 #![tactic(auto)]
 
 #[cfg(test)]
+mod daily_plain_tests;
+#[cfg(test)]
 mod daily_tests;
 mod diary;
 mod face;

@@ -42,7 +42,7 @@ invariant_of-self g c =
     let capacity : c.push_back.new.self.capacity ≡ names_known i.max_files =
     ap (λ (b : Buffer Date). b.capacity) c.push_back.ensures.items ∙ c.self.invariant.3 in (
       c.write_dated.ensures.name ∙ (ap (λ f. dated f c.args.date) c.as_str.ensures
-      ∙ (sym (more_last i.file i.max_files i.dates.items c.args.date) ∙ ap (λ ds. last_name (map (dated i.file) ds)) (sym items))),
+          ∙ (sym (more_last i.file i.max_files i.dates.items c.args.date) ∙ ap (λ ds. last_name (map (dated i.file) ds)) (sym items))),
       omega (arith, c.self.invariant.1, c.write_dated.ensures.room),
       c.self.invariant.2,
       capacity,
