@@ -5,7 +5,7 @@ use Rattle.alog_msg.specs.declared.level.Level.{Level}
 use Rattle.alog_msg.specs.declared.message.Message.{Message}
 use Rattle.alog_sink.specs.Deeds.{BreaksOff}
 use Rattle.alog_sink.specs.Files.{Files, AreSame}
-use Rattle.alog_sink.specs.Kept.{IsKept, IsSameTarget, deeds_of}
+use Rattle.alog_sink.specs.Kept.{HasNoFile, IsKept, IsSameTarget, deeds_of}
 use Rattle.alog_sink.specs.Lines.{Written, IsWrittenOf, AreLines, MayWrite, admits}
 use Rattle.alog_sink.specs.declared.TheConstants.{MOST_FAILURES}
 use Rattle.alog_sink.specs.declared.face.Face.{Face}
@@ -63,6 +63,7 @@ module _ {S : Type 0} (tells : Bool) (files : S → Files) (failures : S → ℕ
     pub rose : answer ≡ Err errors.Store → failures old.store < MOST_FAILURES → failures new.store ≡ failures old.store + 1
     pub stayed : OnOk answer (failures new.store ≡ failures old.store)
     pub same : tells ≡ true → AreSame (files old.store) (files new.store)
+    pub quiet : HasNoFile old.target → old.broken ≡ false → (answer ≡ Ok tt) × (new ≡ old)
 
 -- What callers see of a fan.
 pub record FanView (S : Type 0) : Type 0 where
