@@ -26,11 +26,20 @@ module _ (d : Days) (w : Written) (period : ℤ) (date : Date) (later : is_later
   abbrev begun : ℤ → Date → Days
   begun p x = record { limits = d.limits; latest = Some p; names = with_opened d.limits.max_files d.names (dated d.limits.file x) }
 
-  pub begins_with : begun period date ≡ with_entry d (entry_of d.limits w)
+  begins_with : begun period date ≡ with_entry d (entry_of d.limits w)
   begins_with =
       ap (λ p. begun p date) is_period
       ∙ (ap (begun (period_of d.limits.change w.at)) is_date
       ∙ sym (ap (λ b. cond b (begun (period_of d.limits.change w.at) (date_of w.at)) d) its_later))
+
+  -- as a program has it: the names were opened, and then the period is set
+  pub begins_as : (next mid : Days) (p : ℤ) → next ≡ mid → mid ≡ record {
+    limits = d.limits;
+    latest = d.latest;
+    names = with_opened d.limits.max_files d.names (dated d.limits.file date);
+  } → p ≡ period → record { limits = next.limits; latest = Some p; names = next.names } ≡ with_entry d (entry_of d.limits w)
+  begins_as next mid p is opened same =
+      ap (λ (x : Days). record { limits = x.limits; latest = Some p; names = x.names }) (is ∙ opened) ∙ (ap (λ q. begun q date) same ∙ begins_with)
 
 -- its line
 pub line_breaks : (d : Days) (entry : Entry) (old new : Files) → BreaksOff (deeds_before d entry) old new

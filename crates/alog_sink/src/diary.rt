@@ -23,9 +23,10 @@ use circular_buffer::HeapCircularBuffer;
 use std::alloc::{AllocError, Global};
 use std::marker::Model;
 
-/// The last hour of a day, and the last minute of an hour.
+/// The last hour of a day.
 pub(crate) const HOUR_MAX: u32 = 23;
 
+/// The last minute of an hour.
 pub(crate) const MINUTE_MAX: u32 = 59;
 
 /// Files of one name with dates, of which the last one goes on until a period later than all before begins.
@@ -38,8 +39,9 @@ pub(crate) struct Diary {
     // The second of the day at which a period begins.
     change: u32,
     max_files: usize,
+    // The greatest period of a message.
     latest: Option<i64>,
-    // The dates of the last opened files.
+    // The dates of the last opened files, as many as are kept and at least one.
     dates: HeapCircularBuffer<Date>,
     // The name of the file that lines go to, empty where there is none.
     name: String,

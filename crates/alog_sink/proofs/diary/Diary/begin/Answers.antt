@@ -1,11 +1,10 @@
-use Rattle.std.proofs.Common.{◌≡◌, ◌∙◌, true, Some, ap, sym, subst, rules, to_z, of_z, ℤ}
+use Rattle.std.proofs.Common.{◌≡◌, ◌∙◌, true, ap, rules, to_z, of_z}
 use Rattle.std.specs.Int.{w64}
 use Rattle.std.proofs.lemmas.Result.{err_from_is_err_and}
 use Rattle.std.proofs.lemmas.Int.{to_z-of_z}
-use Rattle.alog_sink.specs.Diary.{Days, deeds_before, entry_of, is_later, period_of, with_opened}
-use Rattle.alog_sink.specs.Names.{dated}
+use Rattle.alog_sink.specs.Diary.{Days, deeds_before, entry_of, is_later, period_of}
 use Rattle.alog_sink.specs.contracts.diary.Diary.{the_view}
-use Rattle.alog_sink.proofs.DiaryLine.{begins_does, begins_with}
+use Rattle.alog_sink.proofs.DiaryLine.{begins_as, begins_does}
 use Rattle.alog_sink.proofs.RotatedDoes.{does_err}
 use Rattle.alog_sink.proofs.diary.Diary.begin.Goals as goal
 
@@ -40,11 +39,5 @@ returns-clause-begun g c = λ w shown.
     c.period_of-period.ensures.period w.at shown ∙ ap (λ (x : Days). period_of x.limits.change w.at) c.self.view_is in
     let back : to_z w64 (of_z w64 c.period_of-period.result) ≡ c.period_of-period.result =
     to_z-of_z w64 c.period_of-period.result (search rules) in
-    let with : ℤ → Days → Days = λ p (x : Days). record { limits = x.limits; latest = Some p; names = x.names } in
-    ap (with (to_z w64 (of_z w64 c.period_of-period.result))) (c.self-2.view_is ∙ c.in_ok-open_date.ensures.opened)
-    ∙ (ap (λ p. record {
-      limits = d.limits;
-      latest = Some p;
-      names = with_opened d.limits.max_files d.names (dated d.limits.file c.date_of.result);
-    }) back
-    ∙ begins_with d w c.period_of-period.result c.date_of.result later period (c.date_of.ensures.date w.at shown))
+    begins_as d w c.period_of-period.result c.date_of.result later period (c.date_of.ensures.date w.at shown) (the_view i)
+    c.open_date.new.self (to_z w64 (of_z w64 c.period_of-period.result)) c.self-2.view_is c.in_ok-open_date.ensures.opened back
