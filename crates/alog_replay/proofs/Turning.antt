@@ -25,7 +25,7 @@ use Rattle.alog_sink.specs.declared.leaf.Taken.TheVariants.{Below, Written as Wr
 use Rattle.alog_sink.specs.declared.sink.Sink.{Sink}
 use Rattle.alog_sink.specs.declared.sink.Sink.TheVariants.{Leaf, Fan}
 use Rattle.alog_sink.specs.declared.target.Target.{Target}
-use Rattle.alog_sink.specs.declared.target.Target.TheVariants.{Memory, Rotating}
+use Rattle.alog_sink.specs.declared.target.Target.TheVariants.{Memory, Rotating, Daily}
 use Rattle.alog_replay.specs.Memory.{memory_name, line, Turns, HasFront, with_bytes}
 use Rattle.alog_replay.specs.MemorySink.{file_of, IsMemoryLeaf, IsMemorySink}
 use Rattle.alog_replay.proofs.Stepping.{where_true, where_false, true_or_not}
@@ -64,6 +64,7 @@ one_written face m (w ∷ v ∷ ws) are = absurd are.1
 same_memory : {name : List ℕ} (t : Target) → IsSameTarget (Memory (record { file = name })) t → t ≡ Memory (record { file = name })
 same_memory (Memory k) e = ap Memory e
 same_memory (Rotating r) e = absurd e
+same_memory (Daily d) e = absurd e
 
 -- one append broke off
 one_append : (name bytes : List ℕ) (old new : Files) (before : List Deed) (failed : Deed) (after : List Deed)

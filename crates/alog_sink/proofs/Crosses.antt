@@ -2,8 +2,13 @@
 use denote.RattleType.{RattleType}
 use denote.Param.Send.{IsSend, sendable, view_send, struct_send, recorded_send}
 use denote.Struct.Declared.{shape}
-use Rattle.std.proofs.Crossing.{crosses, Vec-send}
+use Rattle.std.proofs.Crossing.{crosses, frees, Vec-send, send as heap_send}
 use Rattle.std.proofs.MapsCrossing.{String-send, BTreeMap-send}
+use Rattle.std.specs.contracts.alloc.Global as Global
+use Rattle.std.specs.contracts.impls.GlobalAllocator.TheImpl.{ghosts as alloc_ghosts}
+use Rattle.circular_buffer.proofs.Crosses.{Cells-send, Deed-send}
+use Rattle.circular_buffer.specs.contracts.heap.HeapCircularBuffer as Dates
+use Rattle.circular_buffer.specs.contracts.heap.HeapCircularBuffer.TheInside as DatesInside
 use Rattle.alog_format.proofs.Crosses.{bytes-send, deed-send}
 use Rattle.alog_format.specs.contracts.line_buf.LineBuf as LineBuf
 use Rattle.alog_format.specs.contracts.line_buf.LineBuf.TheInside as LineInside
@@ -17,6 +22,8 @@ use Rattle.alog_pattern.specs.contracts.items.Item as Item
 use Rattle.alog_pattern.specs.contracts.items.Padding as Padding
 use Rattle.alog_pattern.specs.contracts.patterns.Pattern as Pattern
 use Rattle.alog_pattern.specs.contracts.patterns.Pattern.TheInside as PatternInside
+use Rattle.alog_sink.specs.contracts.diary.Diary as Diary
+use Rattle.alog_sink.specs.contracts.diary.Diary.TheInside as DiaryInside
 use Rattle.alog_sink.specs.contracts.face.Face as Face
 use Rattle.alog_sink.specs.contracts.face.Names as Names
 use Rattle.alog_sink.specs.contracts.face.Names.TheInside as NamesInside
@@ -25,6 +32,7 @@ use Rattle.alog_sink.specs.contracts.fan.Fan.TheInside as FanInside
 use Rattle.alog_sink.specs.contracts.leaf.Leaf as Leaf
 use Rattle.alog_sink.specs.contracts.leaf.Leaf.TheInside as LeafInside
 use Rattle.alog_sink.specs.contracts.mem_store.MemStore as MemStore
+use Rattle.alog_sink.specs.contracts.names.Date as Date
 use Rattle.alog_sink.specs.contracts.rotation.Rotation as Rotation
 use Rattle.alog_sink.specs.contracts.rotation.Rotation.TheInside as RotationInside
 use Rattle.alog_sink.specs.contracts.sink.Sink as Sink
@@ -84,8 +92,20 @@ rotation_inside_send = search (sendable, crosses, Vec-send, String-send) depth 2
 rotation_send : IsSend Rotation.the_row
 rotation_send = view_send _ _ _ _ _ rotation_inside_send
 
+dates_inside_send : IsSend (DatesInside.the_row Date.the_row Global.the_row alloc_ghosts)
+dates_inside_send = search (sendable, crosses, heap_send, frees, Cells-send, Deed-send) depth 30
+
+dates_send : IsSend (Dates.the_row Date.the_row Global.the_row alloc_ghosts)
+dates_send = view_send _ _ _ _ _ dates_inside_send
+
+diary_inside_send : IsSend DiaryInside.the_row
+diary_inside_send = search (sendable, crosses, String-send, text_send, dates_send) depth 20
+
+diary_send : IsSend Diary.the_row
+diary_send = view_send _ _ _ _ _ diary_inside_send
+
 target_send : IsSend (Target.the_field).row
-target_send = search (sendable, crosses, text_send, rotation_send) depth 20
+target_send = search (sendable, crosses, text_send, rotation_send, diary_send) depth 20
 
 leaf_inside_send : (S : RattleType) → IsSend S → IsSend (LeafInside.the_row S)
 leaf_inside_send S s = recorded_send (LeafInside.the_field S).row _ _ (LeafInside.the_type S).to_one (struct_send

@@ -29,10 +29,10 @@ same_or_not a b = by (bytes_eq a b) (bytes_decides a b)
     by true d = inl (d.0 refl)
     by false d = inr (λ e. absurd (let f = d.1 e in cc))
 
-test_same : (a : List ℕ) → bytes_eq a a ≡ true
+pub test_same : (a : List ℕ) → bytes_eq a a ≡ true
 test_same a = (bytes_decides a a).1 refl
 
-test_other : (a b : List ℕ) → a ≢ b → bytes_eq a b ≡ false
+pub test_other : (a b : List ℕ) → a ≢ b → bytes_eq a b ≡ false
 test_other a b differs = by (bytes_eq a b) (bytes_decides a b)
   where
     by : (r : Bool) → Decides r (a ≡ b) → r ≡ false
@@ -58,17 +58,17 @@ lines_there name xs s differs =
     lines_last name xs s ∙ (ap (λ b. lines_of name xs ++ cond b s.lines []) (test_other s.name name differs)
     ∙ append-nil (lines_of name xs))
 
-opened_more : (xs : List Segment) (s : Segment) → opened_names (xs ++ s ∷ []) ≡ with_name (opened_names xs) s.name
+pub opened_more : (xs : List Segment) (s : Segment) → opened_names (xs ++ s ∷ []) ≡ with_name (opened_names xs) s.name
 opened_more xs s = fold-append (λ names (x : Segment). with_name names x.name) [] xs (s ∷ [])
 
-last_pushed : (front : List (List ℕ)) (name : List ℕ) → last_name (front ++ name ∷ []) ≡ name
+pub last_pushed : (front : List (List ℕ)) (name : List ℕ) → last_name (front ++ name ∷ []) ≡ name
 last_pushed front name = get_or_push front name [] (length (front ++ name ∷ []) - 1) (omega (arith, length-append front (name ∷ [])))
 
-is_last_name : (name : List ℕ) (names : List (List ℕ)) → is_last name names ≡ true → last_name names ≡ name
+pub is_last_name : (name : List ℕ) (names : List (List ℕ)) → is_last name names ≡ true → last_name names ≡ name
 is_last_name name [] e = absurd (cc)
 is_last_name name (n ∷ names) e = (bytes_decides (last_name (n ∷ names)) name).0 e
 
-last_with_name : (names : List (List ℕ)) (name : List ℕ) → last_name (with_name names name) ≡ name
+pub last_with_name : (names : List (List ℕ)) (name : List ℕ) → last_name (with_name names name) ≡ name
 last_with_name names name = by (is_last name names) refl
   where
     by : (b : Bool) → is_last name names ≡ b → last_name (cond b names (names ++ name ∷ [])) ≡ name

@@ -9,6 +9,13 @@ mod RotatedOn
 mod RotatedDoes
 mod RotatedPut
 mod DailyFiles
+mod DiaryDays
+mod DiaryKnown
+mod DiaryPut
+mod DiaryNames
+mod DiaryOn
+mod DiaryLine
+mod Targets
 mod Fronts
 pub mod Journals
 pub mod Turns

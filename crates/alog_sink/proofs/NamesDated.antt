@@ -21,7 +21,7 @@ two_digits a b small small' e =
     let e0 : 48 + a % 10 ≡ 48 + b % 10 = cc in
     omega arith
 
-same_dates : (a b : Date) → a.year ≡ b.year → a.month ≡ b.month → a.day ≡ b.day → a ≡ b
+pub same_dates : (a b : Date) → a.year ≡ b.year → a.month ≡ b.month → a.day ≡ b.day → a ≡ b
 same_dates a b y m d =
     ap (λ n. record a { year = n }) y ∙ (ap (λ n. record a { year = b.year; month = n }) m ∙ ap (λ n. record b { day = n }) d)
 

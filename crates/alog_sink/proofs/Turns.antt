@@ -8,13 +8,14 @@ use Rattle.alog_sink.specs.Calls.{Counts}
 use Rattle.alog_sink.specs.Deeds.{Does}
 use Rattle.alog_sink.specs.Files.{Files, AreSame}
 use Rattle.alog_sink.specs.Kept.{IsKept, IsSameTarget, deeds_of}
-use Rattle.alog_sink.specs.Lines.{Written, IsWrittenOf, IsLineOf, AreWrittenOf, admits, admitted, lines_of}
+use Rattle.alog_sink.specs.Lines.{Written, IsShownTo, IsWrittenOf, IsLineOf, AreWrittenOf, admits, admitted, lines_of}
 use Rattle.alog_sink.specs.Turn.{Answer, LeafView, StandsFor, Takes}
 use Rattle.alog_sink.specs.declared.face.Face.{Face}
 use Rattle.alog_sink.specs.declared.target.Target.{Target}
-use Rattle.alog_sink.specs.declared.target.Target.TheVariants.{Memory, Rotating}
+use Rattle.alog_sink.specs.declared.target.Target.TheVariants.{Memory, Rotating, Daily}
 use Rattle.alog_sink.specs.declared.leaf.SinkError.TheVariants as errors
 use Rattle.alog_sink.specs.declared.leaf.Taken.TheVariants.{Below, Written as Wrote}
+use Rattle.alog_sink.proofs.DiaryOn.{days_alike}
 use Rattle.alog_sink.proofs.RotatedOn.{stands_alike}
 
 -- a message more, which is taken or not
@@ -39,6 +40,7 @@ written_more face (l ∷ ms) (v ∷ ws) m w are is = (are.0, written_more face m
 same_target : (t : Target) → IsSameTarget t t
 same_target (Memory j) = refl
 same_target (Rotating j) = refl
+same_target (Daily j) = refl
 
 -- a line written, or a fault met now, is neither below the level nor an earlier fault
 wrote_something : (answer : Answer) → answer ≡ Ok Wrote → (answer ≡ Ok Below) ⊎ (answer ≡ Err errors.Broken) → ⊥
@@ -54,6 +56,7 @@ pub kept_alike : (t : Target) (opening : Files) (ws : List Written) (old new : F
     → IsKept t opening ws new
 kept_alike (Memory j) opening ws old new same kept = λ n. same n ∙ kept n
 kept_alike (Rotating r) opening ws old new same kept = stands_alike r opening (lines_of ws) old new same kept
+kept_alike (Daily d) opening ws old new same kept = days_alike d opening ws old new same kept
 
 -- a sink stands for the same over the same files
 pub stands_on : {S : Type 0} (files : S → Files) (old : LeafView S) (after : S) (opening : Files) (ms : List Message)
@@ -156,10 +159,10 @@ module _ {S : Type 0} (tells : Bool) (files : S → Files) (failures : S → ℕ
     (after : S) (m : Message) (line text : List ℕ) (whole : old.broken ≡ false) (e : admits old.face.level m.level ≡ true)
     (same_line : line ≡ text) (is : IsLineOf v.face m text) (same : IsSameTarget v.target next) where
   abbrev its : Written
-  its = record { time = m.time; line = line }
+  its = record { at = is.1.1.0; line = line }
 
   its_line : IsWrittenOf v.face m its
-  its_line = (subst (λ bytes. IsLineOf v.face m bytes) (sym same_line) is, refl)
+  its_line = (subst (λ bytes. IsLineOf v.face m bytes) (sym same_line) is, is.1.1.1)
 
   v_whole : v.broken ≡ false
   v_whole = subst (λ (o : LeafView S). o.broken ≡ false) (sym is_view) whole
@@ -169,20 +172,21 @@ module _ {S : Type 0} (tells : Bool) (files : S → Files) (failures : S → ℕ
 
   pub given_wrote : {E : Type 0} (u : Unit {0}) (answer : Result (Unit {0}) E) → answer ≡ Ok u
       → Counts (failures v.store) (failures after) answer
-      → (tells ≡ true → (o : Files) (ws : List Written) → IsKept v.target o ws (files v.store)
-      → OnOk answer (IsKept next o (ws ++ its ∷ []) (files after)))
+      → (tells ≡ true → (o : Files) (ws : List Written) (w : Written) → IsShownTo v.face.context.zone m w.at → w.line ≡ line
+      → IsKept v.target o ws (files v.store) → OnOk answer (IsKept next o (ws ++ w ∷ []) (files after)))
       → Takes tells files failures old m (Ok Wrote) (record { face = v.face; target = next; store = after; broken = v.broken })
   given_wrote {E} u answer is_ok counts kept =
       let P : LeafView S → Type 0 = λ o. Takes tells files failures o m (Ok Wrote) (record { face = v.face; target = next; store = after; broken = v.broken })
       in subst P is_view (takes_wrote tells files failures v next after m its v_whole v_takes its_line same u
       (subst (λ r. Counts (failures v.store) (failures after) r) is_ok counts)
-      (λ t o ws k. subst (λ r. OnOk r (IsKept next o (ws ++ its ∷ []) (files after))) is_ok (kept t o ws k)))
+      (λ t o ws k. subst (λ r. OnOk r (IsKept next o (ws ++ its ∷ []) (files after))) is_ok (kept t o ws its its_line.1 refl k)))
 
   pub given_fault : {A E : Type 0} (x : E) (answer : Result A E) → answer ≡ Err x → Counts (failures v.store) (failures after) answer
-      → (tells ≡ true → Does (deeds_of v.target its) (files v.store) (files after) answer)
+      → (tells ≡ true → (w : Written) → IsShownTo v.face.context.zone m w.at → w.line ≡ line
+      → Does (deeds_of v.target w) (files v.store) (files after) answer)
       → Takes tells files failures old m (Err errors.Store) (record { face = v.face; target = next; store = after; broken = true })
   given_fault x answer is_err counts does =
       let P : LeafView S → Type 0 = λ o. Takes tells files failures o m (Err errors.Store) (record { face = v.face; target = next; store = after; broken = true })
       in subst P is_view (takes_fault tells files failures v next after m its v_whole v_takes its_line same x
       (subst (λ r. Counts (failures v.store) (failures after) r) is_err counts)
-      (λ t. subst (λ r. Does (deeds_of v.target its) (files v.store) (files after) r) is_err (does t)))
+      (λ t. subst (λ r. Does (deeds_of v.target its) (files v.store) (files after) r) is_err (does t its its_line.1 refl)))

@@ -11,6 +11,7 @@ pub mod Memory
 pub mod Fuse
 pub mod Lines
 pub mod Journal
+pub mod Diary
 pub mod Kept
 pub mod Turn
 pub mod Sinks

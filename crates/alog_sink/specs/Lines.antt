@@ -1,10 +1,14 @@
 -- The lines of a sink: those of the messages that it was given, in order, with a level at least its own.
-use Rattle.std.specs.Prelude.{◌≡◌, ℕ, ℤ, ◌≤◌, Bool, nat_le, if◌then◌else◌, List, [], ◌∷◌, length, slice_index_or}
+use Rattle.std.specs.Prelude.{◌≡◌, ℕ, ◌≤◌, Bool, nat_le, if◌then◌else◌, List, [], ◌∷◌, length, slice_index_or}
 use Rattle.alog_msg.specs.Level.{row_of}
 use Rattle.alog_msg.specs.declared.level.Level.{Level}
 use Rattle.alog_msg.specs.declared.message.Message.{Message}
 use Rattle.alog_pattern.specs.Compiled.{longest}
+use Rattle.jiff_core.specs.declared.civil.datetime.DateTime.{DateTime}
+use Rattle.jiff.specs.Words.{civil_nanos}
+use Rattle.alog_format.specs.Civil.{local_nanos}
 use Rattle.alog_format.specs.Line.{IsLine}
+use Rattle.alog_format.specs.declared.context.Zone.{Zone}
 use Rattle.alog_sink.specs.declared.face.Face.{Face}
 
 -- a sink of this level takes messages of that one
@@ -28,13 +32,17 @@ IsLineOf face m bytes = IsLine face.context face.pattern.items (name_of face.nam
 abbrev pub MayWrite : Face → Message → ℕ → Type 0
 MayWrite face m capacity = (length m.text ≤ face.pattern.text_limit) × (longest face.pattern ≤ capacity)
 
--- a line, and the time of its message
+-- a line, and the date and time of day that a clock showed at its message's time
 pub record Written : Type 0 where
-  pub time : ℤ
+  pub at : DateTime
   pub line : List ℕ
 
+-- a clock of the zone shows this at the message's time
+abbrev pub IsShownTo : Zone → Message → DateTime → Type 0
+IsShownTo zone m at = civil_nanos at ≡ local_nanos zone m.time
+
 abbrev pub IsWrittenOf : Face → Message → Written → Type 0
-IsWrittenOf face m w = IsLineOf face m w.line × (w.time ≡ m.time)
+IsWrittenOf face m w = IsLineOf face m w.line × IsShownTo face.context.zone m w.at
 
 -- these are the lines of these messages, in order
 abbrev pub AreWrittenOf : Face → List Message → List Written → Type 0
@@ -46,7 +54,7 @@ AreWrittenOf face _ _ = ⊥
 abbrev pub AreLines : Face → List Message → List Written → Type 0
 AreLines face messages ws = AreWrittenOf face (admitted face.level messages) ws
 
--- the lines without the times of their messages
+-- the lines alone
 abbrev pub lines_of : List Written → List (List ℕ)
 lines_of [] = []
 lines_of (w ∷ ws) = w.line ∷ lines_of ws

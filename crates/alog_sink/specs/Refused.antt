@@ -1,14 +1,16 @@
 -- Which limits of a rotation are refused, and what a refused constructor leaves of the count of failures.
-use Rattle.std.specs.Prelude.{◌≡◌, ℕ, ◌+◌, ◌<◌, ◌⊎◌}
+use Rattle.std.specs.Prelude.{◌≡◌, ℕ, ◌+◌, ◌<◌, ◌⊎◌, None, []}
+use Rattle.alog_sink.specs.Diary.{DayLimits}
 use Rattle.alog_sink.specs.Rotation.{Limits}
 use Rattle.alog_sink.specs.declared.TheConstants.{MOST_FAILURES}
+use Rattle.alog_sink.specs.declared.diary.TheConstants.{HOUR_MAX, MINUTE_MAX}
 use Rattle.alog_sink.specs.declared.open.OpenError.{OpenError}
 use Rattle.alog_sink.specs.declared.open.OpenError.TheVariants.{BadLimit, BadName, OutOfMemory, Store}
 use Rattle.alog_sink.specs.declared.rotation.OpenError.{OpenError as RotationError}
 use Rattle.alog_sink.specs.declared.rotation.OpenError.TheVariants as rotation
 use Rattle.alog_sink.specs.declared.rotation.TheConstants.{SIZE_MAX, FILES_MAX}
 use Rattle.alog_sink.specs.declared.target.Target.{Target}
-use Rattle.alog_sink.specs.declared.target.Target.TheVariants.{Memory, Rotating}
+use Rattle.alog_sink.specs.declared.target.Target.TheVariants.{Memory, Rotating, Daily}
 
 -- no size at all, or a limit past the greatest
 abbrev pub AreBadLimits : ℕ → ℕ → Type 0
@@ -25,6 +27,17 @@ FailsAs old new OutOfMemory = new ≡ old
 abbrev pub IsRotating : Limits → Target → Type 0
 IsRotating limits (Memory j) = ⊥
 IsRotating limits (Rotating r) = r.limits ≡ limits
+IsRotating limits (Daily d) = ⊥
+
+-- no hour or minute of a day, or too many files
+abbrev pub AreBadDays : ℕ → ℕ → ℕ → Type 0
+AreBadDays hour minute max_files = (HOUR_MAX < hour) ⊎ (MINUTE_MAX < minute) ⊎ (FILES_MAX < max_files)
+
+-- files by days within these limits, of which none was opened
+abbrev pub IsNewDiary : DayLimits → Target → Type 0
+IsNewDiary limits (Memory j) = ⊥
+IsNewDiary limits (Rotating r) = ⊥
+IsNewDiary limits (Daily d) = d ≡ record { limits = limits; latest = None; names = [] }
 
 abbrev pub as_open_error : RotationError → OpenError
 as_open_error rotation.OutOfMemory = OutOfMemory

@@ -5,7 +5,7 @@ use Rattle.alog_msg.specs.declared.level.Level.{Level}
 use Rattle.alog_msg.specs.declared.message.Message.{Message}
 use Rattle.alog_sink.specs.Deeds.{BreaksOff}
 use Rattle.alog_sink.specs.Files.{Files, AreSame}
-use Rattle.alog_sink.specs.Kept.{IsKept, IsSameTarget, deeds_of}
+use Rattle.alog_sink.specs.Kept.{HasNoFile, IsKept, IsSameTarget, deeds_of}
 use Rattle.alog_sink.specs.Lines.{Written, IsWrittenOf, AreLines, MayWrite, admits}
 use Rattle.alog_sink.specs.declared.TheConstants.{MOST_FAILURES}
 use Rattle.alog_sink.specs.declared.face.Face.{Face}
@@ -65,6 +65,7 @@ module _ {S : Type 0} (tells : Bool) (files : S → Files) (failures : S → ℕ
     pub same : tells ≡ true → AreSame (files old.store) (files new.store)
     pub stands : tells ≡ true → (opening : Files) (ms : List Message) → StandsFor files old opening ms
         → OnOk answer (StandsFor files new opening ms)
+    pub quiet : HasNoFile old.target → old.broken ≡ false → (answer ≡ Ok tt) × (new ≡ old)
 
 -- What callers see of a fan.
 pub record FanView (S : Type 0) : Type 0 where

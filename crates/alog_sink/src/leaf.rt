@@ -102,7 +102,11 @@ impl<S: Store> Leaf<S> {
         ensures capacity { line.new.capacity ≡ line.old.capacity }
     {
         self.face.write(message, line);
-        match self.target.put(&mut self.store, message, line.as_slice()) {
+        let zone = self.face.context.zone;
+        match self
+            .target
+            .put(&mut self.store, zone, message, line.as_slice())
+        {
             Ok(()) => Ok(Taken::Written),
             Err(StoreError) => {
                 self.broken = true;

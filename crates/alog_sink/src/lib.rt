@@ -6,14 +6,19 @@
 //! files and which messages it stands for, and each turn leads from one such pair to the next.
 //!
 //! Read `specs/Files.antt`, `specs/Calls.antt` and `store.rt` (stores), `mem_store.rt` and `fuse_store.rt`; then
-//! `specs/Lines.antt` and `face.rt` (lines), `specs/Kept.antt` and `target.rt` (where they go: `journal.rt`, and
-//! `rotation.rt` with `specs/Rotation.antt`), `specs/Turn.antt`, `leaf.rt` and `fan.rt`, `specs/Sinks.antt` and `sink.rt`,
-//! `open.rt` (constructors), `turn.rt` (a sink under a lock). `names.rt` makes names of files. `specs/Daily.antt` and
-//! `specs/DailyDeeds.antt` define files by days, which no sink keeps yet; `laws.rt` states what is true of definitions.
+//! `specs/Lines.antt` and `face.rt` (lines), `specs/Kept.antt` and `target.rt` (where they go: `journal.rt`,
+//! `rotation.rt` with `specs/Rotation.antt`, and `diary.rt` with `specs/Daily.antt` and `specs/Diary.antt`),
+//! `specs/Turn.antt`, `leaf.rt` and `fan.rt`, `specs/Sinks.antt` and `sink.rt`, `open.rt` (constructors), `turn.rt` (a
+//! sink under a lock). `names.rt` makes names of files; `laws.rt` states what is true of definitions.
 //!
-//! The tests `a_memory_sink` and `a_rotating_sink` of `alog_tests` are examples; the tests here try what is private.
+//! The tests `a_memory_sink`, `a_rotating_sink` and `a_daily_sink` of `alog_tests` are examples; the tests here try what is private.
 #![tactic(auto)]
 
+#[cfg(test)]
+mod daily_plain_tests;
+#[cfg(test)]
+mod daily_tests;
+mod diary;
 mod face;
 mod fan;
 mod fuse_store;

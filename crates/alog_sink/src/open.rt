@@ -2,10 +2,12 @@
 ghost use Rattle.std.specs.Prelude.{◌≡◌, ◌≢◌, ◌↔◌, ◌⊎◌, Some, true, IfOk, IfErr, IfSome, IsErrAnd, IsTrue, [], ◌≤◌, length, vec_capacity, vec_len, ◌<◌, ◌++◌, ◌∷◌};
 ghost use Rattle.alog_sink.specs.Names.{IsFileName};
 ghost use Rattle.alog_sink.specs.Files.{AreSame};
-ghost use Rattle.alog_sink.specs.Refused.{AreBadLimits, FailsAs, IsRotating};
+ghost use Rattle.alog_sink.specs.Refused.{AreBadDays, AreBadLimits, FailsAs, IsNewDiary, IsRotating};
+ghost use Rattle.alog_sink.specs.Diary.{change_at};
 ghost use Rattle.alog_sink.specs.Opened.{AreNoMembers, Opened, leaves_of, store_of};
 
 use crate::FAN_MAX;
+use crate::diary::{Diary, HOUR_MAX, MINUTE_MAX};
 use crate::face::Face;
 use crate::fan::Fan;
 use crate::journal::Journal;
@@ -142,6 +144,55 @@ impl<S: Store + Drop> Sink<S> {
             Ok(rotation) => Ok(Sink::Leaf(Leaf::open(face, Target::Rotating(rotation), store))),
             Err(error) => Err(Unopened {
                 error: error.into(),
+                face,
+                store,
+            }),
+        }
+    }
+
+    /// A sink that appends its lines to files with dates: `log_2024-02-29.txt` of `log.txt`.
+    ///
+    /// A message's period is its day in the face's zone, or the day before where it is earlier in the day than `hour` (0 to
+    /// 23) and `minute` (0 to 59). The first message, and each of a period later than all before, opens the file of its own
+    /// date; the lines of others go to the last opened file. With `max_files` 0 all files stay; else, of the files that the
+    /// sink opened, the last `max_files`, at most 1,000. The refusals are `BadLimit`, `BadName` and `OutOfMemory`.
+    pub fn daily(
+        alloc: Global,
+        face: Face,
+        store: S,
+        file: &str,
+        hour: u32,
+        minute: u32,
+        max_files: usize,
+    ) -> Result<Sink<S>, Unopened<S>>
+        ensures opened { IfOk result (λ s. Opened S.tells S.files face
+            (IsNewDiary (record { file = file.now; change = change_at hour minute; max_files = max_files })) (S.files store) s) }
+        ensures store { IfOk result (λ s. store_of s ≡ Some store) }
+        ensures bad_limit { IsErrAnd result (λ e. e.error ≡ OpenError.BadLimit) ↔ AreBadDays hour minute max_files }
+        ensures bad_name { IsErrAnd result (λ e. e.error ≡ OpenError.BadName)
+            ↔ ((¬ AreBadDays hour minute max_files) × (¬ IsFileName file.now)) }
+        ensures refusals { IfErr result (λ e.
+            (e.error ≡ OpenError.BadLimit) ⊎ (e.error ≡ OpenError.BadName) ⊎ (e.error ≡ OpenError.OutOfMemory)) }
+        ensures back { IfErr result (λ e. (e.face ≡ face) × (e.store ≡ store)) }
+    {
+        if hour > HOUR_MAX || minute > MINUTE_MAX || max_files > FILES_MAX {
+            return Err(Unopened {
+                error: OpenError::BadLimit,
+                face,
+                store,
+            });
+        }
+        if !is_file_name(file) {
+            return Err(Unopened {
+                error: OpenError::BadName,
+                face,
+                store,
+            });
+        }
+        match Diary::open(alloc, file, hour, minute, max_files) {
+            Ok(diary) => Ok(Sink::Leaf(Leaf::open(face, Target::Daily(diary), store))),
+            Err(_) => Err(Unopened {
+                error: OpenError::OutOfMemory,
                 face,
                 store,
             }),
