@@ -244,7 +244,7 @@ fn refusals(rt: HostRuntime) -> Result<(), Fail> {
 // counts have its losses, and nobody else did anything.
 fn at_once(desk: &mut Desk<u64>, actor: u32, policy: Policy, value: u64) -> Option<Outcome<u64>>
     ensures posted { IfSome result (λ o.
-        PostsNow (DeskDid actor) (λ d. IsFree d actor) policy value value desk.old desk.new o) }
+        PostsNow (DeskDid actor) policy value value desk.old desk.new o) }
     ensures refused { IfNone result (desk.new ≡ desk.old) }
 {
     match desk.outlet(actor) {
