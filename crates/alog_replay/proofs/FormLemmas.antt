@@ -64,10 +64,12 @@ one_spaceless b w true e rest h = absurd (false≢true h)
 one_spaceless b w false e rest h = ((λ same. false≢true (sym e ∙ eq-eqb b 32 same)), rest h)
 
 spaceless : (w : List ℕ) → no_space w ≡ true → IsWord w
+unfolding no_space
 spaceless [] h = tt
 spaceless (b ∷ w) h = one_spaceless b w (eqb b 32) refl (spaceless w) h
 
 policy_is_word : (p : Policy) → IsWord (policy_name p)
+unfolding no_space
 policy_is_word Block = spaceless (policy_name Block) refl
 policy_is_word OverrunOldest = spaceless (policy_name OverrunOldest) refl
 policy_is_word DiscardNew = spaceless (policy_name DiscardNew) refl
@@ -79,6 +81,7 @@ policy_of w =
     (cond (bytes_eq w (policy_name OverrunOldest)) (Some OverrunOldest) (Some DiscardNew))
 
 policy_of_name : (p : Policy) → policy_of (policy_name p) ≡ Some p
+unfolding policy_of
 policy_of_name Block = refl
 policy_of_name OverrunOldest = refl
 policy_of_name DiscardNew = refl
@@ -101,7 +104,7 @@ pub post_more : (rest : Option (List ℕ)) (r a : List ℕ) (t : Option (List �
     → SpellsForm ActorPolicyAndText rest g → SpellsActor a g.0 × ((s : List ℕ) × (t ≡ Some s))
 post_more rest r a t g e cut h =
     let once = argument_is r a h.0 t (Some (policy_name g.1 ++ tail_of h.1)) cut (sym e ∙ h.2) h.3.0 in
-    (subst (λ x. SpellsActor x g.0) once.0 h.3, policy_name g.1 ++ tail_of h.1, sym once.1)
+    (subst (λ x. SpellsActor x g.0) once.0 h.3, (policy_name g.1 ++ tail_of h.1, sym once.1))
 
 pair_is : {X Y : Type 0} (g h : X × Y) → g.0 ≡ h.0 → g.1 ≡ h.1 → g ≡ h
 pair_is g h p q = λ i. (p i, q i)
@@ -235,7 +238,7 @@ policy_or_none w = elim (name_or_not w (policy_name Block) _ refl) [
 ]
 
 post_or_none : (r a : List ℕ) (t : Option (List ℕ)) → IsCut r a t → Decided (SpellsForm ActorPolicyAndText (Some r))
-post_or_none r a None cut = inr (λ g h. none-some _ (post_more (Some r) r a None g refl cut h).2)
+post_or_none r a None cut = inr (λ g h. none-some _ (post_more (Some r) r a None g refl cut h).1.1)
 post_or_none r a (Some s) cut = let c = cut_of s in elim (number_or_none 0 (ACTORS - 1) a) [
   | inl n ↦ elim (policy_or_none c.0) [
     | inl p ↦ inl ((n.0, p.0, unwrap_or c.1 []), (a, c.1, ap Some (cut.0 ∙ ap (λ x. a ++ 32 ∷ x) (c.2.0

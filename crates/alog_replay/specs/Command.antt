@@ -63,7 +63,7 @@ SpellsForm ActorAlone (Some digits) g = SpellsActor digits g
 SpellsForm ActorAndText rest g =
     (a : List ℕ) × (t : Option (List ℕ)) × (rest ≡ Some (a ++ tail_of t)) × SpellsActor a g.0 × (g.1 ≡ unwrap_or t [])
 SpellsForm ActorPolicyAndText rest g =
-    (a : List ℕ) × (t : Option (List ℕ)) × (rest ≡ Some (a ++ 32 ∷ policy_name g.1 ++ tail_of t)) × SpellsActor a g.0
+    (a : List ℕ) × (t : Option (List ℕ)) × (rest ≡ Some (a ++ 32 ∷ (policy_name g.1 ++ tail_of t))) × SpellsActor a g.0
     × (g.2 ≡ unwrap_or t [])
 SpellsForm ActorAndCount rest g =
     (a : List ℕ) × (t : Option (List ℕ)) × (rest ≡ Some (a ++ tail_of t)) × SpellsActor a g.0 × SpellsCount t g.1

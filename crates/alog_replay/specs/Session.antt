@@ -80,10 +80,14 @@ why_name why.Stalled = codes "stalled"
 why_name why.Busy = codes "busy"
 why_name why.Spent = codes "spent"
 
+-- the end of the line of a post: how many items it overran
+abbrev pub overran_text : ℕ → List ℕ
+overran_text k = codes " overran " ++ (decimal k ++ 10 ∷ [])
+
 -- what is printed of how a post ended
 abbrev pub outcome_text : ℕ → Outcome Message → List ℕ
-outcome_text a (Posted t k) = line_of a (codes "posted" ++ (32 ∷ decimal t ++ (codes " overran" ++ 32 ∷ decimal k)))
-outcome_text a (Discarded m w k) = line_of a (codes "discarded" ++ (32 ∷ why_name w ++ (codes " overran" ++ 32 ∷ decimal k)))
+outcome_text a (Posted t k) = decimal a ++ (codes " posted " ++ (decimal t ++ overran_text k))
+outcome_text a (Discarded m w k) = decimal a ++ (codes " discarded " ++ (why_name w ++ overran_text k))
 
 -- what is printed of a step with which a post ended, or none did
 abbrev pub ended_text : ℕ → Option (Outcome Message) → List ℕ

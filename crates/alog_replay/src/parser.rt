@@ -174,7 +174,7 @@ fn actor_and_count(rest: Option<&str>) -> Option<(Actor, u32)>
 // A command without an argument.
 fn alone<'a>(rest: Option<&str>, act: Act<'a>) -> Option<Command<'a>>
     ensures { (command : Command) → (result ≡ Some command)
-        ↔ ((given : Given NoArgument) × SpellsForm NoArgument (option_copied rest.entry) given × (Acts act ≡ command)) }
+        ↔ ((given : Given NoArgument) × SpellsForm NoArgument (option_copied rest.entry) given × (Acts act.entry ≡ command)) }
 {
     match rest {
         Some(_) => None,

@@ -13,7 +13,7 @@ returns-in_err-actor c = none_of _ _ c.from_residual-in_err-actor.ensures (λ gi
 pub returns-in_err-more : goal.returns-in_err-more
 returns-in_err-more c = none_of _ _ c.from_residual-in_err-more.ensures (λ given h.
     let p = post_more _ _ _ _ given (ap option_copied c.in_ok-rest.was) c.cut.ensures h in
-    none-some _ (sym (ap option_copied c.in_err-more.was) ∙ p.2))
+    none-some _ (sym (ap option_copied c.in_err-more.was) ∙ p.1.1))
 
 pub returns-in_err-policy : goal.returns-in_err-policy
 returns-in_err-policy c = none_of _ _ c.from_residual-in_err-policy.ensures (λ given h.
