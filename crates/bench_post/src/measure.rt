@@ -1,5 +1,5 @@
 //! The runs, and what is printed.
-use crate::poster::{Books, Lane, PortPoster, Poster};
+use crate::poster::{Lane, PortPoster, Poster};
 use crate::work::{Job, alone, together};
 use alog_policy::{LossBook, Policy};
 use alog_ring::Ring;
@@ -98,17 +98,13 @@ fn post_run<R>(rt: &R, alloc: Global, threads: u32, policy: Policy) -> Result<Du
 where
     R: Threads + Wait + Clock + Sync,
 {
-    let (ring, pass) = Ring::<u64>::new(alloc, PLACES, 0)?;
-    let mut lane = Lane::new(&ring, pass);
+    let (ring, mut pass) = Ring::<u64>::new(alloc, PLACES, 0)?;
+    let lane = Lane::new(&ring, ring.split(&mut pass, 1));
     let (book, seat) = LossBook::new(alloc)?;
-    let mut books = Books::new(&book, seat);
+    let mut first = PortPoster::new(&ring, pass, &book, seat, policy);
     let mut posters = Vec::new(alloc);
     for _ in 0..threads {
-        posters.push(PortPoster {
-            lane: lane.split().context("no part of a pass is left")?,
-            books: books.split().context("no part of a seat is left")?,
-            policy,
-        })?;
+        posters.push(first.split().context("no part of a pass is left")?)?;
     }
     timed(rt, alloc, posters, lane, threads)
 }

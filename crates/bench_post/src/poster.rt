@@ -53,51 +53,86 @@ impl Poster for Lane<'_> {
     }
 }
 
-/// A loss book, with a seat of its own.
-#[derive(Drop)]
-pub struct Books<'a> {
-    book: &'a LossBook,
-    seat: BookSeat,
-    ghost belongs: { IsSeatOf book.now seat },
-}
-
-impl<'a> Books<'a> {
-    pub fn new(book: &'a LossBook, seat: BookSeat) -> Books<'a>
-        requires { IsSeatOf book.now seat }
-    {
-        Books { book, seat }
-    }
-
-    /// The same for one more thread. None if the seat has no part to give.
-    pub fn split(&mut self) -> Option<Books<'a>> {
-        if self.seat.parts() < 2 {
-            return None;
-        }
-        let seat = self.book.split(&mut self.seat, 1);
-        Some(Books::new(self.book, seat))
-    }
-}
-
-/// A lane and a book make a port, on which posts are made under this policy.
+/// The ring and a loss book, with a pass and a seat of its own, by which posts are made under this policy.
 #[derive(Drop)]
 pub struct PortPoster<'a> {
-    pub lane: Lane<'a>,
-    pub books: Books<'a>,
-    pub policy: Policy,
+    ring: &'a Ring<u64>,
+    pass: Pass<u64>,
+    book: &'a LossBook,
+    seat: BookSeat,
+    policy: Policy,
+    ghost belongs: { IsPassOf ring.now pass × IsSeatOf book.now seat },
+}
+
+impl<'a> PortPoster<'a> {
+    pub fn new(
+        ring: &'a Ring<u64>,
+        pass: Pass<u64>,
+        book: &'a LossBook,
+        seat: BookSeat,
+        policy: Policy,
+    ) -> PortPoster<'a>
+        requires { IsPassOf ring.now pass × IsSeatOf book.now seat }
+    {
+        PortPoster {
+            ring,
+            pass,
+            book,
+            seat,
+            policy,
+        }
+    }
+
+    /// The same for one more thread. None if pass or seat has no part to give.
+    pub fn split(&mut self) -> Option<PortPoster<'a>> {
+        if self.pass.parts() < 2 || self.seat.parts() < 2 {
+            return None;
+        }
+        let pass = self.ring.split(&mut self.pass, 1);
+        let seat = self.book.split(&mut self.seat, 1);
+        Some(PortPoster::new(
+            self.ring,
+            pass,
+            self.book,
+            seat,
+            self.policy,
+        ))
+    }
+}
+
+/// One post on a port of these.
+#[inline(always)]
+fn post_on(
+    ring: &Ring<u64>,
+    pass: &mut Pass<u64>,
+    book: &LossBook,
+    seat: &mut BookSeat,
+    policy: Policy,
+    value: u64,
+) -> Outcome<u64>
+    requires { IsPassOf ring.now pass.old × IsSeatOf book.now seat.old }
+    ensures { IsPassOf ring.now pass.new × IsSeatOf book.now seat.new }
+{
+    let mut port = Port {
+        ring,
+        pass,
+        book,
+        seat,
+    };
+    post_now(&mut port, policy, value)
 }
 
 impl Poster for PortPoster<'_> {
     #[inline(always)]
     fn post(&mut self, value: u64) -> bool {
-        let mut port = Port {
-            ring: self.lane.ring,
-            pass: &mut self.lane.pass,
-            book: self.books.book,
-            seat: &mut self.books.seat,
-        };
-        matches!(
-            post_now(&mut port, self.policy, value),
-            Outcome::Posted { .. }
-        )
+        let outcome = post_on(
+            self.ring,
+            &mut self.pass,
+            self.book,
+            &mut self.seat,
+            self.policy,
+            value,
+        );
+        matches!(outcome, Outcome::Posted { .. })
     }
 }
