@@ -1,7 +1,8 @@
-ghost use Rattle.std.specs.Prelude.{◌≡◌, ℕ, List, IfSome, IfNone};
-ghost use Rattle.alog_policy.specs.Runs.{StepMade, IsRun};
+ghost use Rattle.std.specs.Prelude.{◌≡◌, ℕ, List, [], ◌∷◌, IfSome, IfNone};
+ghost use Rattle.alog_policy.specs.Runs.{StepMade, IsRun, called, ToPost};
 ghost use Rattle.alog_policy.specs.DeskOutlet.{IsFree, DeskDid};
 ghost use Rattle.alog_policy.specs.Outlet.{PostsNow};
+ghost use Rattle.alog_policy.specs.declared.policy.Policy.TheVariants as under;
 
 use super::*;
 use alog_core::{BeginError, CellView, LAST_TICKET, Mark, Said, StepError, WorldError};
@@ -267,7 +268,8 @@ fn a_caller_knows_the_desk(rt: HostRuntime) -> Result<(), Fail> {
 
 // What a caller knows of a run: a post begins on a new desk and makes a step.
 fn first_step(alloc: Global, value: u64) -> Option<Desk<u64>>
-    ensures { IfSome result (λ d. (steps : List (StepMade ℕ)) × IsRun 2 5 steps d) }
+    ensures { IfSome result (λ d. (steps : List (StepMade ℕ))
+        × IsRun 2 5 (called 1 (ToPost under.Block value) ∷ []) steps d) }
 {
     let Ok(mut desk) = Desk::new(alloc, 2, 5) else {
         return None;
