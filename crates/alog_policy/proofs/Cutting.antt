@@ -212,9 +212,13 @@ post_cut {T} q x cs es fs os ended current whole rest o r None order call cut ca
       rest = rest ++ fs;
       cut = cut_more es whole rest fs cut;
       calls = subst (λ (ps : List (Outcome T)). AreWhole ended whole ps) (sym (append-nil os)) calls;
-      begun = subst (λ (p : Option (Post T)). IsUnderWayIn p r current (rest ++ fs)) (sym came.there)
-          (x, came.part, came.at, came.so_far,
-          call ∙ ap (λ (p : Policy). let c : Call T = ToPost p x in c ∷ []) (sym came.under));
+      begun = subst (λ (p : Option (Post T)). IsUnderWayIn p r current (rest ++ fs)) (sym came.there) (
+        x,
+        came.part,
+        came.at,
+        came.so_far,
+        call ∙ ap (λ (p : Policy). let c : Call T = ToPost p x in c ∷ []) (sym came.under),
+      );
     }
 post_cut {T} q x cs es fs os ended current whole rest o r (Some out) order call cut calls came idle =
     let here : r ≡ round.Idle = idle (λ bad. cc) in

@@ -216,3 +216,26 @@ fn two_threads_overrun_each_other(rt: HostRuntime) -> Result<(), Fail> {
     assert_eq!(rt; tally.posted, gone.wrapping_add(left.len() as u64));
     Ok(())
 }
+
+#[test]
+fn a_port_waits_for_room(rt: HostRuntime) -> Result<(), Fail> {
+    let (ring, mut pass) = Ring::<u64>::new(rt.alloc(), 2, 0)?;
+    let (book, mut seat) = LossBook::new(rt.alloc())?;
+    let mut other = ring.split(&mut pass, 1);
+    post(&ring, &mut pass, &book, &mut seat, Policy::DiscardNew, 7);
+    post(&ring, &mut pass, &book, &mut seat, Policy::DiscardNew, 8);
+    let mut port = Port {
+        ring: &ring,
+        pass: &mut pass,
+        book: &book,
+        seat: &mut seat,
+    };
+    let (outcome, popped) = thread::join(
+        &rt,
+        || post_wait(&rt, &mut port, Policy::Block, 9),
+        || ring.pop_once(&mut other),
+    );
+    assert_eq!(rt; outcome, posted(2, 0));
+    assert_eq!(rt; popped, Ok((0, 7)));
+    Ok(())
+}
