@@ -1,10 +1,9 @@
 -- One push or one pop of a port, and one loss that its seat counts.
-use Rattle.std.proofs.Common.{◌≡◌, ◌⊎◌, ℕ, Result, Ok, Err, List, [], ◌∷◌, refl, sym, ap, subst, ◌∙◌, inl, inr}
+use Rattle.std.proofs.Common.{◌≡◌, ℕ, Result, Ok, Err, List, [], ◌∷◌, refl, sym, subst, ◌∙◌, inl, inr}
 use Rattle.std.specs.Prelude.{IfOk, IfErr, OnOk}
 use Rattle.alog_core.specs.Queue.{Event, Claim, Write, Grab, Take}
 use Rattle.alog_core.specs.Queue as queue
-use Rattle.alog_ring.specs.Known.{PassView, RingId, IsPassOf}
-use Rattle.alog_ring.specs.Kinds.{no_note}
+use Rattle.alog_ring.specs.Known.{IsPassOf}
 use Rattle.alog_ring.specs.Made.{Made}
 use Rattle.alog_ring.specs.Calls.{Pushed, Popped}
 use Rattle.alog_ring.specs.Refused as ring

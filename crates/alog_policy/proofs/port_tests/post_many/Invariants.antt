@@ -1,4 +1,3 @@
-use Rattle.std.proofs.Common.{◌≡◌}
 use Rattle.alog_ring.specs.Known.{IsPassOf}
 use Rattle.alog_policy.specs.BookCalls.{IsSeatOf}
 use Rattle.alog_policy.proofs.port_tests.post_many.Given as goal
