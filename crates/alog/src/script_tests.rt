@@ -94,6 +94,114 @@ fn busy_rounds(rt: HostRuntime) {
     prints(&rt, at_the_exchange, "2 claim 0\n1 busy 0\n");
 }
 
+const FULL: &str = "ring 2 0\npush 1 a\nrun 1\npush 2 b\nrun 2\n";
+
+const FILLED: &str = "1 claim 0\n1 write 0\n2 claim 1\n2 write 1\n";
+
+const STALLED: &str = "ring 2 0\npush 1 a\nstep 1 3\npush 2 b\nrun 2\n";
+
+const WRITTEN: &str = "1 claim 0\n2 claim 1\n2 write 1\n";
+
+fn posts<R: AllocGlobal + Abort>(rt: &R, front: &str, script: &str, before: &str, printed: &str) -> Result<(), Fail> {
+    let mut whole = String::from_str(rt.alloc(), front)?;
+    whole.push_str(script)?;
+    let mut text = String::from_str(rt.alloc(), before)?;
+    text.push_str(printed)?;
+    prints(rt, whole.as_str(), text.as_str());
+    Ok(())
+}
+
+#[test]
+fn a_post_overruns_the_oldest(rt: HostRuntime) -> Result<(), Fail> {
+    posts(
+        &rt,
+        FULL,
+        "post 3 overrun_oldest c\nstep 3 5\ncounts\nstep 3\ncounts\nrun 3\ncounts\nwork 4\nrun 4\nwork 4\nrun 4",
+        FILLED,
+        "3 full 2\n3 grab 0\noverrun 0 discarded 0\n3 take 0 a\noverrun 1 discarded 0\n3 claim 2\n3 write 2\n\
+         3 posted 2 overran 1\noverrun 1 discarded 0\n4 grab 1\n4 take 1 b\n4 line 1 memory\n4 grab 2\n4 take 2 c\n\
+         4 line 2 memory\n== memory memory 4\nb\nc\n",
+    )
+}
+
+#[test]
+fn a_post_is_stalled(rt: HostRuntime) -> Result<(), Fail> {
+    posts(
+        &rt,
+        STALLED,
+        "post 3 overrun_oldest c\nrun 3\ncounts",
+        WRITTEN,
+        "3 full 2\n3 empty 0\n3 discarded stalled overran 0\noverrun 0 discarded 1\n",
+    )
+}
+
+#[test]
+fn a_post_discards_the_new(rt: HostRuntime) -> Result<(), Fail> {
+    posts(
+        &rt,
+        STALLED,
+        "post 3 discard_new c\nrun 3\ncells\npost 3 discard_new c\nrun 3\ncounts",
+        WRITTEN,
+        "3 full 2\n3 discarded full overran 0\ncells 0:claimed 1:written\n3 full 2\n3 discarded full overran 0\n\
+         overrun 0 discarded 2\n",
+    )
+}
+
+#[test]
+fn a_post_finds_no_ticket(rt: HostRuntime) {
+    prints(
+        &rt,
+        "ring 2 4611686018427387903\npost 1 block a\nrun 1\npost 1 block b\nrun 1\npost 2 overrun_oldest c\nrun 2\ncounts",
+        "1 claim 4611686018427387903\n1 write 4611686018427387903\n1 posted 4611686018427387903 overran 0\n1 spent\n\
+         1 discarded spent overran 0\n2 spent\n2 discarded spent overran 0\noverrun 0 discarded 2\n",
+    );
+}
+
+/// A text, so many times.
+fn times(text: &mut String, part: &str, count: usize) -> Result<(), AllocError> {
+    for _ in 0..count {
+        text.push_str(part)?;
+    }
+    Ok(())
+}
+
+#[test]
+fn a_post_blocks_until_there_is_room(rt: HostRuntime) -> Result<(), Fail> {
+    let mut printed = String::new(rt.alloc());
+    times(&mut printed, "3 full 2\n", 256)?;
+    printed.push_str(
+        "4 grab 0\n4 take 0 a\n3 claim 2\n3 write 2\n3 posted 2 overran 0\noverrun 0 discarded 0\n",
+    )?;
+    posts(
+        &rt,
+        FULL,
+        "post 3 block c\nrun 3\npop 4\nrun 4\nrun 3\ncounts",
+        FILLED,
+        printed.as_str(),
+    )
+}
+
+#[test]
+fn a_post_gives_up_after_64_busy_rounds(rt: HostRuntime) -> Result<(), Fail> {
+    let mut script = String::from_str(rt.alloc(), "ring 4 0\npost 3 discard_new c\n")?;
+    times(
+        &mut script,
+        "step 3\npush 1 a\nrun 1\npop 2\nrun 2\nstep 3\n",
+        64,
+    )?;
+    script.push_str("counts")?;
+    let mut printed = String::new(rt.alloc());
+    for i in 0..64 {
+        write!(
+            &mut printed,
+            "1 claim {i}\n1 write {i}\n2 grab {i}\n2 take {i} a\n3 busy {i}\n"
+        )?;
+    }
+    printed.push_str("3 discarded busy overran 0\noverrun 0 discarded 1\n")?;
+    prints(&rt, script.as_str(), printed.as_str());
+    Ok(())
+}
+
 #[test]
 fn scripts_without_a_command(rt: HostRuntime) {
     prints(&rt, "", "");
@@ -116,7 +224,7 @@ fn refused_queues(rt: HostRuntime) {
 
 #[test]
 fn one_queue_and_first(rt: HostRuntime) {
-    for script in ["cells\nring 2 0", "push 1 a"] {
+    for script in ["cells\nring 2 0", "push 1 a", "post 1 block a", "counts"] {
         refuses(&rt, script, "", "alog: refused 33 at line 1\n");
     }
     let again = "\n#\nring 2 0\nring 2 0";
@@ -127,7 +235,10 @@ fn one_queue_and_first(rt: HostRuntime) {
 fn misspelt_commands(rt: HostRuntime) {
     for script in [
         "ring 2 0\nfold 1",
-        "ring 2 0\npost 1 block a",
+        "ring 2 0\npost 1 a",
+        "ring 2 0\npost 1 drop a",
+        "ring 2 0\npost 64 block a",
+        "ring 2 0\ncounts 1",
         "ring 2 0\npop",
         "ring 2 0\npop 64",
         "ring 2 0\npush 64 a",
@@ -149,7 +260,12 @@ fn actors_in_a_call_or_in_none(rt: HostRuntime) {
     for script in ["ring 2 0\nstep 1", "ring 2 0\nrun 1"] {
         refuses(&rt, script, "", "alog: refused 33 at line 2\n");
     }
-    for script in ["ring 2 0\npop 1\npush 1 a", "ring 2 0\npop 1\nwork 1"] {
+    for script in [
+        "ring 2 0\npop 1\npush 1 a",
+        "ring 2 0\npop 1\nwork 1",
+        "ring 2 0\npop 1\npost 1 block a",
+        "ring 2 0\npost 1 block a\npop 1",
+    ] {
         refuses(&rt, script, "", "alog: refused 33 at line 3\n");
     }
 }

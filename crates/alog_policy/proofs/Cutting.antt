@@ -12,7 +12,8 @@ use Rattle.alog_policy.specs.Post.{Part}
 use Rattle.alog_policy.specs.Progress.{IsSoFar}
 use Rattle.alog_policy.specs.Desk.{Follows, Stays, Ends, Leads, follows, value_in, with_said, turn_to, turn_of, event_of, IsAt}
 use Rattle.alog_policy.specs.DeskInside.{FitsRound}
-use Rattle.alog_policy.specs.Runs.{IsPush, IsPop, wrote, found_full, was_spent, took, found_empty, AreWhole, and_push}
+use Rattle.alog_policy.specs.Runs.{Call, ToPush, ToPop, ToPost, IsPush, IsPop, wrote, found_full, was_spent, took}
+use Rattle.alog_policy.specs.Runs.{found_empty, AreWhole, and_push}
 use Rattle.alog_policy.specs.Runs.{and_pop, and_post, IsBegun, IsUnderWayIn, IsCut, outcome_in}
 use Rattle.alog_policy.specs.Runs as runs
 use Rattle.alog_policy.specs.declared.counts.Counts.{Counts}
@@ -24,101 +25,113 @@ use Rattle.alog_policy.proofs.StepKinds.{Pops, Grabs, FindsEmpty, PopIsBusy, Tak
 use Rattle.alog_policy.proofs.Desks.{saying, push_says, pop_says}
 use Rattle.alog_policy.proofs.Turns.{CameTo}
 
-begun_push : {T : Type 0} (y : T) (r : Round T) (es : List (Event T)) → PushHas y r → IsBegun r es → es ≡ []
-begun_push y round.Idle es h b = absurd h
-begun_push y (round.Push z) es h b = b
-begun_push y (round.PushRead t z) es h b = b
-begun_push y (round.PushFree t z) es h b = b
-begun_push y (round.PushClaimed t) es h b = absurd h
-begun_push y round.Pop es h b = absurd h
-begun_push y (round.PopRead t) es h b = absurd h
-begun_push y (round.PopReady t) es h b = absurd h
-begun_push y (round.PopGrabbed t) es h b = absurd h
+one_push : {T : Type 0} (y z : T) (cs : List (Call T)) → y ≡ z → cs ≡ ToPush y ∷ [] → cs ≡ ToPush z ∷ []
+one_push {T} y z cs e is = is ∙ ap (λ (w : T). let c : Call T = ToPush w in c ∷ []) e
 
-push_begun : {T : Type 0} (y : T) (r : Round T) (es : List (Event T)) → PushHas y r → es ≡ [] → IsBegun r es
-push_begun y round.Idle es h b = absurd h
-push_begun y (round.Push z) es h b = b
-push_begun y (round.PushRead t z) es h b = b
-push_begun y (round.PushFree t z) es h b = b
-push_begun y (round.PushClaimed t) es h b = absurd h
-push_begun y round.Pop es h b = absurd h
-push_begun y (round.PopRead t) es h b = absurd h
-push_begun y (round.PopReady t) es h b = absurd h
-push_begun y (round.PopGrabbed t) es h b = absurd h
+begun_push : {T : Type 0} (y : T) (r : Round T) (cs : List (Call T)) (es : List (Event T)) → PushHas y r → IsBegun r cs es
+    → (cs ≡ ToPush y ∷ []) × (es ≡ [])
+begun_push y round.Idle cs es h b = absurd h
+begun_push y (round.Push z) cs es h b = (one_push z y cs h b.0, b.1)
+begun_push y (round.PushRead t z) cs es h b = (one_push z y cs h b.0, b.1)
+begun_push y (round.PushFree t z) cs es h b = (one_push z y cs h b.0, b.1)
+begun_push y (round.PushClaimed t) cs es h b = absurd h
+begun_push y round.Pop cs es h b = absurd h
+begun_push y (round.PopRead t) cs es h b = absurd h
+begun_push y (round.PopReady t) cs es h b = absurd h
+begun_push y (round.PopGrabbed t) cs es h b = absurd h
 
-begun_pop : {T : Type 0} (r : Round T) (es : List (Event T)) → PopSeeks r → IsBegun r es → es ≡ []
-begun_pop round.Idle es h b = absurd h
-begun_pop (round.Push z) es h b = absurd h
-begun_pop (round.PushRead t z) es h b = absurd h
-begun_pop (round.PushFree t z) es h b = absurd h
-begun_pop (round.PushClaimed t) es h b = absurd h
-begun_pop round.Pop es h b = b
-begun_pop (round.PopRead t) es h b = b
-begun_pop (round.PopReady t) es h b = b
-begun_pop (round.PopGrabbed t) es h b = absurd h
+push_begun : {T : Type 0} (y : T) (r : Round T) (cs : List (Call T)) (es : List (Event T)) → PushHas y r
+    → (cs ≡ ToPush y ∷ []) × (es ≡ []) → IsBegun r cs es
+push_begun y round.Idle cs es h b = absurd h
+push_begun y (round.Push z) cs es h b = (one_push y z cs (sym h) b.0, b.1)
+push_begun y (round.PushRead t z) cs es h b = (one_push y z cs (sym h) b.0, b.1)
+push_begun y (round.PushFree t z) cs es h b = (one_push y z cs (sym h) b.0, b.1)
+push_begun y (round.PushClaimed t) cs es h b = absurd h
+push_begun y round.Pop cs es h b = absurd h
+push_begun y (round.PopRead t) cs es h b = absurd h
+push_begun y (round.PopReady t) cs es h b = absurd h
+push_begun y (round.PopGrabbed t) cs es h b = absurd h
 
-pop_begun : {T : Type 0} (r : Round T) (es : List (Event T)) → PopSeeks r → es ≡ [] → IsBegun r es
-pop_begun round.Idle es h b = absurd h
-pop_begun (round.Push z) es h b = absurd h
-pop_begun (round.PushRead t z) es h b = absurd h
-pop_begun (round.PushFree t z) es h b = absurd h
-pop_begun (round.PushClaimed t) es h b = absurd h
-pop_begun round.Pop es h b = b
-pop_begun (round.PopRead t) es h b = b
-pop_begun (round.PopReady t) es h b = b
-pop_begun (round.PopGrabbed t) es h b = absurd h
+begun_pop : {T : Type 0} (r : Round T) (cs : List (Call T)) (es : List (Event T)) → PopSeeks r → IsBegun r cs es
+    → (cs ≡ ToPop ∷ []) × (es ≡ [])
+begun_pop round.Idle cs es h b = absurd h
+begun_pop (round.Push z) cs es h b = absurd h
+begun_pop (round.PushRead t z) cs es h b = absurd h
+begun_pop (round.PushFree t z) cs es h b = absurd h
+begun_pop (round.PushClaimed t) cs es h b = absurd h
+begun_pop round.Pop cs es h b = b
+begun_pop (round.PopRead t) cs es h b = b
+begun_pop (round.PopReady t) cs es h b = b
+begun_pop (round.PopGrabbed t) cs es h b = absurd h
+
+pop_begun : {T : Type 0} (r : Round T) (cs : List (Call T)) (es : List (Event T)) → PopSeeks r
+    → (cs ≡ ToPop ∷ []) × (es ≡ []) → IsBegun r cs es
+pop_begun round.Idle cs es h b = absurd h
+pop_begun (round.Push z) cs es h b = absurd h
+pop_begun (round.PushRead t z) cs es h b = absurd h
+pop_begun (round.PushFree t z) cs es h b = absurd h
+pop_begun (round.PushClaimed t) cs es h b = absurd h
+pop_begun round.Pop cs es h b = b
+pop_begun (round.PopRead t) cs es h b = b
+pop_begun (round.PopReady t) cs es h b = b
+pop_begun (round.PopGrabbed t) cs es h b = absurd h
 
 -- a push or a pop after a step: it goes on, or it is whole
-data PlainStep {T : Type 0} (s : Round T) (made : List (Event T)) : Type 0 where
-  GoesOn : IsBegun s made → PlainStep s made
-  IsWholePush : (x : T) → s ≡ round.Idle → IsPush x made → PlainStep s made
-  IsWholePop : s ≡ round.Idle → IsPop made → PlainStep s made
+data PlainStep {T : Type 0} (s : Round T) (cs : List (Call T)) (made : List (Event T)) : Type 0 where
+  GoesOn : IsBegun s cs made → PlainStep s cs made
+  IsWholePush : (x : T) → s ≡ round.Idle → cs ≡ ToPush x ∷ [] → IsPush x made → PlainStep s cs made
+  IsWholePop : s ≡ round.Idle → cs ≡ ToPop ∷ [] → IsPop made → PlainStep s cs made
 
 after_nothing : {T : Type 0} (es fs : List (Event T)) → es ≡ [] → es ++ fs ≡ fs
 after_nothing {T} es fs e = ap (λ (gs : List (Event T)). gs ++ fs) e
 
-module _ {T : Type 0} (r : Round T) (m : Move T) (es : List (Event T)) (busy : r ≢ round.Idle) where
-  at_event : (o : Option (Event T)) → m.event ≡ o → PlainStep m.round (es ++ event_of o)
-      → PlainStep m.round (es ++ event_of m.event)
-  at_event o e h = subst (λ (u : Option (Event T)). PlainStep m.round (es ++ event_of u)) (sym e) h
+module _ {T : Type 0} (r : Round T) (m : Move T) (cs : List (Call T)) (es : List (Event T)) (busy : r ≢ round.Idle) where
+  at_event : (o : Option (Event T)) → m.event ≡ o → PlainStep m.round cs (es ++ event_of o)
+      → PlainStep m.round cs (es ++ event_of m.event)
+  at_event o e h = subst (λ (u : Option (Event T)). PlainStep m.round cs (es ++ event_of u)) (sym e) h
 
-  plain_step : Kind T r m → IsBegun r es → PlainStep m.round (es ++ event_of m.event)
+  plain_step : Kind T r m → IsBegun r cs es → PlainStep m.round cs (es ++ event_of m.event)
   plain_step (IsIdle e) b = absurd (busy e)
   plain_step (Pushes y h e n less) b =
-      at_event None e (GoesOn (push_begun y m.round (es ++ []) n (after_nothing es [] (begun_push y r es h b))))
+      let k = begun_push y r cs es h b in
+      at_event None e (GoesOn (push_begun y m.round cs (es ++ []) n (k.0, after_nothing es [] k.1)))
   plain_step (Claims y t h e n) b =
+      let k = begun_push y r cs es h b in
       at_event (Some (Claim t y)) e
-      (GoesOn (subst (λ (s : Round T). IsBegun s (es ++ Claim t y ∷ [])) (sym n)
-      (y, after_nothing es (Claim t y ∷ []) (begun_push y r es h b))))
+      (GoesOn (subst (λ (s : Round T). IsBegun s cs (es ++ Claim t y ∷ [])) (sym n)
+      (y, k.0, after_nothing es (Claim t y ∷ []) k.1)))
   plain_step (FindsFull y t h e n) b =
-      at_event (Some (Full t)) e
-      (IsWholePush y n (found_full t (after_nothing es (Full t ∷ []) (begun_push y r es h b))))
+      let k = begun_push y r cs es h b in
+      at_event (Some (Full t)) e (IsWholePush y n k.0 (found_full t (after_nothing es (Full t ∷ []) k.1)))
   plain_step (PushIsBusy y t h e n) b =
+      let k = begun_push y r cs es h b in
       at_event (Some (PushBusy t)) e
-      (IsWholePush y n (runs.IsPush.was_busy t (after_nothing es (PushBusy t ∷ []) (begun_push y r es h b))))
+      (IsWholePush y n k.0 (runs.IsPush.was_busy t (after_nothing es (PushBusy t ∷ []) k.1)))
   plain_step (IsSpent y h e n) b =
-      at_event (Some Spent) e
-      (IsWholePush y n (was_spent (after_nothing es (Spent ∷ []) (begun_push y r es h b))))
+      let k = begun_push y r cs es h b in
+      at_event (Some Spent) e (IsWholePush y n k.0 (was_spent (after_nothing es (Spent ∷ []) k.1)))
   plain_step (Writes t h e n) b =
-      let k = subst (λ (s : Round T). IsBegun s es) h b in
+      let k = subst (λ (s : Round T). IsBegun s cs es) h b in
       at_event (Some (Write t)) e
-      (IsWholePush k.0 n (wrote t (ap (λ (gs : List (Event T)). gs ++ Write t ∷ []) k.1)))
+      (IsWholePush k.0 n k.1 (wrote t (ap (λ (gs : List (Event T)). gs ++ Write t ∷ []) k.2)))
   plain_step (Pops h e n less) b =
-      at_event None e (GoesOn (pop_begun m.round (es ++ []) n (after_nothing es [] (begun_pop r es h b))))
+      let k = begun_pop r cs es h b in
+      at_event None e (GoesOn (pop_begun m.round cs (es ++ []) n (k.0, after_nothing es [] k.1)))
   plain_step (Grabs t h e n) b =
+      let k = begun_pop r cs es h b in
       at_event (Some (Grab t)) e
-      (GoesOn (subst (λ (s : Round T). IsBegun s (es ++ Grab t ∷ [])) (sym n)
-      (after_nothing es (Grab t ∷ []) (begun_pop r es h b))))
+      (GoesOn (subst (λ (s : Round T). IsBegun s cs (es ++ Grab t ∷ [])) (sym n)
+      (k.0, after_nothing es (Grab t ∷ []) k.1)))
   plain_step (FindsEmpty t h e n) b =
-      at_event (Some (Empty t)) e
-      (IsWholePop n (found_empty t (after_nothing es (Empty t ∷ []) (begun_pop r es h b))))
+      let k = begun_pop r cs es h b in
+      at_event (Some (Empty t)) e (IsWholePop n k.0 (found_empty t (after_nothing es (Empty t ∷ []) k.1)))
   plain_step (PopIsBusy t h e n) b =
-      at_event (Some (PopBusy t)) e
-      (IsWholePop n (runs.IsPop.was_busy t (after_nothing es (PopBusy t ∷ []) (begun_pop r es h b))))
+      let k = begun_pop r cs es h b in
+      at_event (Some (PopBusy t)) e (IsWholePop n k.0 (runs.IsPop.was_busy t (after_nothing es (PopBusy t ∷ []) k.1)))
   plain_step (Takes t y h e n) b =
-      let k = subst (λ (s : Round T). IsBegun s es) h b in
+      let k = subst (λ (s : Round T). IsBegun s cs es) h b in
       at_event (Some (Take t y)) e
-      (IsWholePop n (took t y (ap (λ (gs : List (Event T)). gs ++ Take t y ∷ []) k)))
+      (IsWholePop n k.0 (took t y (ap (λ (gs : List (Event T)). gs ++ Take t y ∷ []) k.1)))
 
 -- the cut of more events
 cut_more : {T : Type 0} (es whole rest fs : List (Event T)) → es ≡ whole ++ rest → es ++ fs ≡ whole ++ (rest ++ fs)
@@ -128,86 +141,129 @@ cut_whole : {T : Type 0} (es whole rest fs : List (Event T)) → es ≡ whole ++
     → es ++ fs ≡ (whole ++ (rest ++ fs)) ++ []
 cut_whole es whole rest fs e = cut_more es whole rest fs e ∙ sym (append-nil (whole ++ (rest ++ fs)))
 
+-- the one call that was current has ended
+all_ended : {T : Type 0} (cs ended current : List (Call T)) (c : Call T) → cs ≡ ended ++ current → current ≡ c ∷ []
+    → cs ≡ (ended ++ c ∷ []) ++ []
+all_ended {T} cs ended current c order is =
+    order ∙ (ap (λ (ds : List (Call T)). ended ++ ds) is ∙ sym (append-nil (ended ++ c ∷ [])))
+
+-- where none was current, one more is
+one_open : {T : Type 0} (cs ended current : List (Call T)) (c : Call T) → cs ≡ ended ++ current → current ≡ []
+    → cs ++ c ∷ [] ≡ ended ++ c ∷ []
+one_open {T} cs ended current c order none =
+    ap (λ (ds : List (Call T)). ds ++ c ∷ [])
+    (order ∙ (ap (λ (ds : List (Call T)). ended ++ ds) none ∙ append-nil ended))
+
+idle_begun : {T : Type 0} (s : Round T) → s ≡ round.Idle → IsBegun s [] []
+idle_begun {T} s idle = subst (λ (r : Round T). IsBegun r [] []) (sym idle) (refl, refl)
+
 -- a push or a pop makes a step
-pub plain_cut : {T : Type 0} (r : Round T) (m : Move T) (es : List (Event T)) (os : List (Outcome T)) → r ≢ round.Idle
-    → Kind T r m → IsCut None r es os → IsCut None m.round (es ++ event_of m.event) os
-plain_cut {T} r m es os busy kind c =
+pub plain_cut : {T : Type 0} (r : Round T) (m : Move T) (cs : List (Call T)) (es : List (Event T)) (os : List (Outcome T))
+    → r ≢ round.Idle → Kind T r m → IsCut None r cs es os → IsCut None m.round cs (es ++ event_of m.event) os
+plain_cut {T} r m cs es os busy kind c =
     let fs = event_of m.event in
-    elim (plain_step r m c.rest busy kind c.begun) [
+    elim (plain_step r m c.current c.rest busy kind c.begun) [
       | GoesOn b ↦
           record {
+            ended = c.ended;
+            current = c.current;
+            order = c.order;
             whole = c.whole;
             rest = c.rest ++ fs;
             cut = cut_more es c.whole c.rest fs c.cut;
             calls = c.calls;
             begun = b;
           }
-      | IsWholePush x idle is ↦
+      | IsWholePush x idle call is ↦
           record {
+            ended = c.ended ++ ToPush x ∷ [];
+            current = [];
+            order = all_ended cs c.ended c.current (ToPush x) c.order call;
             whole = c.whole ++ (c.rest ++ fs);
             rest = [];
             cut = cut_whole es c.whole c.rest fs c.cut;
             calls = and_push x (c.rest ++ fs) c.calls is;
-            begun = subst (λ (s : Round T). IsBegun s []) (sym idle) refl;
+            begun = idle_begun m.round idle;
           }
-      | IsWholePop idle is ↦
+      | IsWholePop idle call is ↦
           record {
+            ended = c.ended ++ ToPop ∷ [];
+            current = [];
+            order = all_ended cs c.ended c.current ToPop c.order call;
             whole = c.whole ++ (c.rest ++ fs);
             rest = [];
             cut = cut_whole es c.whole c.rest fs c.cut;
             calls = and_pop (c.rest ++ fs) c.calls is;
-            begun = subst (λ (s : Round T). IsBegun s []) (sym idle) refl;
+            begun = idle_begun m.round idle;
           }
     ]
 
 -- a post goes on, or is whole
-pub post_cut : {T : Type 0} (q : Policy) (x : T) (es fs : List (Event T)) (os : List (Outcome T)) (whole rest : List (Event T))
-    (o : Option (Post T)) (r : Round T) (out : Option (Outcome T)) → es ≡ whole ++ rest → AreWhole whole os
-    → CameTo q x (rest ++ fs) o r out → (out ≢ None → r ≡ round.Idle) → IsCut o r (es ++ fs) (os ++ outcome_in out)
-post_cut {T} q x es fs os whole rest o r None cut calls came idle =
+pub post_cut : {T : Type 0} (q : Policy) (x : T) (cs : List (Call T)) (es fs : List (Event T)) (os : List (Outcome T))
+    (ended current : List (Call T)) (whole rest : List (Event T)) (o : Option (Post T)) (r : Round T) (out : Option (Outcome T))
+    → cs ≡ ended ++ current → current ≡ ToPost q x ∷ [] → es ≡ whole ++ rest → AreWhole ended whole os
+    → CameTo q x (rest ++ fs) o r out → (out ≢ None → r ≡ round.Idle) → IsCut o r cs (es ++ fs) (os ++ outcome_in out)
+post_cut {T} q x cs es fs os ended current whole rest o r None order call cut calls came idle =
     record {
+      ended = ended;
+      current = current;
+      order = order;
       whole = whole;
       rest = rest ++ fs;
       cut = cut_more es whole rest fs cut;
-      calls = subst (λ (ps : List (Outcome T)). AreWhole whole ps) (sym (append-nil os)) calls;
-      begun = subst (λ (p : Option (Post T)). IsUnderWayIn p r (rest ++ fs)) (sym came.there)
-          (x, came.part, came.at, came.so_far);
+      calls = subst (λ (ps : List (Outcome T)). AreWhole ended whole ps) (sym (append-nil os)) calls;
+      begun = subst (λ (p : Option (Post T)). IsUnderWayIn p r current (rest ++ fs)) (sym came.there) (
+        x,
+        came.part,
+        came.at,
+        came.so_far,
+        call ∙ ap (λ (p : Policy). let c : Call T = ToPost p x in c ∷ []) (sym came.under),
+      );
     }
-post_cut {T} q x es fs os whole rest o r (Some out) cut calls came idle =
+post_cut {T} q x cs es fs os ended current whole rest o r (Some out) order call cut calls came idle =
     let here : r ≡ round.Idle = idle (λ bad. cc) in
     record {
+      ended = ended ++ ToPost q x ∷ [];
+      current = [];
+      order = all_ended cs ended current (ToPost q x) order call;
       whole = whole ++ (rest ++ fs);
       rest = [];
       cut = cut_whole es whole rest fs cut;
       calls = and_post q x (rest ++ fs) out calls came.0;
-      begun = subst (λ (p : Option (Post T)). IsUnderWayIn p r []) (sym came.1)
-          (subst (λ (s : Round T). IsBegun s []) (sym here) refl);
+      begun = subst (λ (p : Option (Post T)). IsUnderWayIn p r [] []) (sym came.1) (idle_begun r here);
     }
 
 -- a call begins, where there was none
-pub begins_cut : {T : Type 0} (o : Option (Post T)) (r : Round T) (es : List (Event T)) (os : List (Outcome T)) → o ≡ None
-    → IsCut o round.Idle es os → IsBegun r [] → IsCut None r es os
-begins_cut {T} o r es os no_post c begun =
-    let rest : c.rest ≡ [] = subst (λ (p : Option (Post T)). IsUnderWayIn p round.Idle c.rest) no_post c.begun in
+pub begins_cut : {T : Type 0} (o : Option (Post T)) (r : Round T) (c : Call T) (cs : List (Call T)) (es : List (Event T))
+    (os : List (Outcome T)) → o ≡ None → IsCut o round.Idle cs es os → IsBegun r (c ∷ []) [] → IsCut None r (cs ++ c ∷ []) es os
+begins_cut {T} o r c cs es os no_post was begun =
+    let none = subst (λ (p : Option (Post T)). IsUnderWayIn p round.Idle was.current was.rest) no_post was.begun in
     record {
-      whole = c.whole;
+      ended = was.ended;
+      current = c ∷ [];
+      order = one_open cs was.ended was.current c was.order none.0;
+      whole = was.whole;
       rest = [];
-      cut = c.cut ∙ ap (λ (gs : List (Event T)). c.whole ++ gs) rest;
-      calls = c.calls;
+      cut = was.cut ∙ ap (λ (gs : List (Event T)). was.whole ++ gs) none.1;
+      calls = was.calls;
       begun = begun;
     }
 
-pub post_begins_cut : {T : Type 0} (o : Option (Post T)) (p : Post T) (x : T) (b : Part) (r : Round T) (es : List (Event T))
-    (os : List (Outcome T)) → o ≡ None → IsCut o round.Idle es os → IsAt x p.hand p.progress.side r b
-    → IsSoFar p.progress x b [] → IsCut (Some p) r es os
-post_begins_cut {T} o p x b r es os no_post c at so_far =
-    let rest : c.rest ≡ [] = subst (λ (q : Option (Post T)). IsUnderWayIn q round.Idle c.rest) no_post c.begun in
+pub post_begins_cut : {T : Type 0} (o : Option (Post T)) (p : Post T) (q : Policy) (x : T) (b : Part) (r : Round T)
+    (cs : List (Call T)) (es : List (Event T)) (os : List (Outcome T)) → o ≡ None → IsCut o round.Idle cs es os
+    → p.progress.policy ≡ q → IsAt x p.hand p.progress.side r b → IsSoFar p.progress x b []
+    → IsCut (Some p) r (cs ++ ToPost q x ∷ []) es os
+post_begins_cut {T} o p q x b r cs es os no_post was under at so_far =
+    let none = subst (λ (k : Option (Post T)). IsUnderWayIn k round.Idle was.current was.rest) no_post was.begun in
     record {
-      whole = c.whole;
+      ended = was.ended;
+      current = ToPost q x ∷ [];
+      order = one_open cs was.ended was.current (ToPost q x) was.order none.0;
+      whole = was.whole;
       rest = [];
-      cut = c.cut ∙ ap (λ (gs : List (Event T)). c.whole ++ gs) rest;
-      calls = c.calls;
-      begun = (x, b, at, so_far);
+      cut = was.cut ∙ ap (λ (gs : List (Event T)). was.whole ++ gs) none.1;
+      calls = was.calls;
+      begun = (x, b, at, so_far, ap (λ (k : Policy). let c : Call T = ToPost k x in c ∷ []) (sym under));
     }
 
 module _ {T : Type 0} (w : Machine T) (a : ℕ) (p : Post T) (c : Counts) (r : Round T) (m : Move T) where

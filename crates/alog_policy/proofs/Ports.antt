@@ -1,10 +1,9 @@
 -- One push or one pop of a port, and one loss that its seat counts.
-use Rattle.std.proofs.Common.{◌≡◌, ◌⊎◌, ℕ, Result, Ok, Err, List, [], ◌∷◌, refl, sym, ap, subst, ◌∙◌, inl, inr}
-use Rattle.std.specs.Prelude.{IfOk, IfErr}
+use Rattle.std.proofs.Common.{◌≡◌, ℕ, Result, Ok, Err, List, [], ◌∷◌, refl, sym, subst, ◌∙◌, inl, inr}
+use Rattle.std.specs.Prelude.{IfOk, IfErr, OnOk}
 use Rattle.alog_core.specs.Queue.{Event, Claim, Write, Grab, Take}
 use Rattle.alog_core.specs.Queue as queue
-use Rattle.alog_ring.specs.Known.{PassView, RingId, IsPassOf}
-use Rattle.alog_ring.specs.Kinds.{no_note}
+use Rattle.alog_ring.specs.Known.{IsPassOf}
 use Rattle.alog_ring.specs.Made.{Made}
 use Rattle.alog_ring.specs.Calls.{Pushed, Popped}
 use Rattle.alog_ring.specs.Refused as ring
@@ -66,6 +65,11 @@ module _ {T : Type 0} (a b : Port T) (fit : IsFit a) where
 
     seat_fits : IsSeatOf b.book.now b.seat.now
     seat_fits = subst (λ r. IsSeatOf r.now b.seat.now) (sym did.book) seat_here
+
+  -- after a push that went at once
+  pub push_fits : (v : T) (r : Result ℕ (PushError T)) → IfOk r (λ t. PortDid a (Claim t v ∷ Write t ∷ []) 0 0 b) → OnOk r (IsFit b)
+  push_fits v (Ok t) did = fit_still (Claim t v ∷ Write t ∷ []) 0 0 did
+  push_fits v (Err e) did = tt
 
   -- its pass alone did something
   module _ (ring_is : b.ring ≡ a.ring) (book_is : b.book ≡ a.book) (pass_is : b.pass.ghost_name ≡ a.pass.ghost_name)

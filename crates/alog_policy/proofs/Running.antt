@@ -24,6 +24,7 @@ use Rattle.alog_policy.specs.Desk.{DeskView, fresh_desk, post_of, call_began, po
 use Rattle.alog_policy.specs.Desk.{value_in, with_said, turn_to, turn_of, answer_of, after_step, event_of, call_of}
 use Rattle.alog_policy.specs.DeskInside.{Fits, FitsRound, IsKeptDesk}
 use Rattle.alog_policy.specs.DeskOutlet.{with_losses}
+use Rattle.alog_policy.specs.Runs.{Call, ToPush, ToPop, ToPost, CallMade, called, calls_made}
 use Rattle.alog_policy.specs.Runs.{StepMade, overruns_in, Plays, starts, pushes, pops, posts, steps_on, entries_made}
 use Rattle.alog_policy.specs.Runs.{events_made, outcome_in, outcomes_made, overruns_made, discards_of, discards_made, no_call}
 use Rattle.alog_policy.specs.Runs.{IsBegun, IsUnderWayIn, IsCut, IsRun, RunsAreCut}
@@ -75,28 +76,58 @@ module _ {T : Type 0} (s : StepMade T) where
   discards_made-last [] = omega arith
   discards_made-last (r ∷ ss) = let more = discards_made-last ss in omega (arith, more)
 
+calls_made-last : {T : Type 0} (c : CallMade T) (b : ℕ) (cs : List (CallMade T))
+    → calls_made b (cs ++ c ∷ []) ≡ calls_made b cs ++ cond (c.actor == b) (c.call ∷ []) []
+calls_made-last c b [] = append-nil (cond (c.actor == b) (c.call ∷ []) [])
+calls_made-last {T} c b (d ∷ cs) =
+    ap (λ (h : List (Call T)). cond (d.actor == b) (d.call ∷ []) [] ++ h) (calls_made-last c b cs)
+    ∙ sym (append_assoc (cond (d.actor == b) (d.call ∷ []) []) (calls_made b cs) (cond (c.actor == b) (c.call ∷ []) []))
+
+-- an actor that did nothing, and the one that did
+not_mine : {T : Type 0} (a b : ℕ) (xs : List T) → b ≢ a → cond (a == b) xs [] ≡ []
+not_mine {T} a b xs other =
+    on_test (λ t. cond t xs [] ≡ []) a b (λ e. absurd (other (sym e))) (λ _. refl)
+
+mine_is : {T : Type 0} (a b : ℕ) (xs : List T) → b ≡ a → cond (a == b) xs [] ≡ xs
+mine_is {T} a b xs same = on_test (λ t. cond t xs [] ≡ xs) a b (λ _. refl) (λ other. absurd (other (sym same)))
+
+-- one more call of an actor, and what it is for another
+my_call : {T : Type 0} (a b : ℕ) (c : Call T) (cs : List (CallMade T)) → b ≡ a
+    → calls_made b (cs ++ called a c ∷ []) ≡ calls_made b cs ++ c ∷ []
+my_call {T} a b c cs same =
+    calls_made-last (called a c) b cs
+    ∙ ap (λ (ds : List (Call T)). calls_made b cs ++ ds) (mine_is a b (c ∷ []) same)
+
+others_call : {T : Type 0} (a b : ℕ) (c : Call T) (cs : List (CallMade T)) → b ≢ a
+    → calls_made b (cs ++ called a c ∷ []) ≡ calls_made b cs
+others_call {T} a b c cs other =
+    calls_made-last (called a c) b cs
+    ∙ (ap (λ (ds : List (Call T)). calls_made b cs ++ ds) (not_mine a b (c ∷ []) other) ∙ append-nil (calls_made b cs))
+
 fits_idle : {T : Type 0} (o : Option (Post T)) (r : Round T) → r ≡ round.Idle → Fits o r → o ≡ None
 fits_idle None r e f = refl
 fits_idle {T} (Some p) r e f = absurd (subst (λ (s : Round T). FitsRound p s) e f.1)
 
 -- What is known after a run.
-record After {T : Type 0} (n f : ℕ) (steps : List (StepMade T)) (e : DeskView T) : Type 0 where
+record After {T : Type 0} (n f : ℕ) (calls : List (CallMade T)) (steps : List (StepMade T)) (e : DeskView T) : Type 0 where
   pub reached : IsReached e.world
   pub kept : IsKeptDesk e
   pub places : e.world.places ≡ n
-  pub run : IsRun n f steps e
+  pub run : IsRun n f calls steps e
 
-abbrev CutOf : {T : Type 0} → DeskView T → List (StepMade T) → ℕ → Type 0
-CutOf e steps b = IsCut (post_of e b) (round_of e.world b) (events_made b steps) (outcomes_made b steps)
+abbrev CutOf : {T : Type 0} → DeskView T → List (CallMade T) → List (StepMade T) → ℕ → Type 0
+CutOf e calls steps b =
+    IsCut (post_of e b) (round_of e.world b) (calls_made b calls) (events_made b steps) (outcomes_made b steps)
 
 -- an actor whose post and round are as they were
-same_cut : {T : Type 0} (o p : Option (Post T)) (r s : Round T) (es fs : List (Event T)) (os us : List (Outcome T)) → p ≡ o
-    → s ≡ r → fs ≡ es → us ≡ os → IsCut o r es os → IsCut p s fs us
-same_cut {T} o p r s es fs os us e f g h c =
-    subst (λ (q : Option (Post T)). IsCut q s fs us) (sym e)
-    (subst (λ (t : Round T). IsCut o t fs us) (sym f)
-    (subst (λ (gs : List (Event T)). IsCut o r gs us) (sym g)
-    (subst (λ (vs : List (Outcome T)). IsCut o r es vs) (sym h) c)))
+same_cut : {T : Type 0} (o p : Option (Post T)) (r s : Round T) (cs ds : List (Call T)) (es fs : List (Event T))
+    (os us : List (Outcome T)) → p ≡ o → s ≡ r → ds ≡ cs → fs ≡ es → us ≡ os → IsCut o r cs es os → IsCut p s ds fs us
+same_cut {T} o p r s cs ds es fs os us e f d g h c =
+    subst (λ (q : Option (Post T)). IsCut q s ds fs us) (sym e)
+    (subst (λ (t : Round T). IsCut o t ds fs us) (sym f)
+    (subst (λ (ks : List (Call T)). IsCut o r ks fs us) (sym d)
+    (subst (λ (gs : List (Event T)). IsCut o r cs gs us) (sym g)
+    (subst (λ (vs : List (Outcome T)). IsCut o r cs es vs) (sym h) c))))
 
 reached_fresh : {T : Type 0} (n f : ℕ) → is_size n ≡ true → f < last → IsReached (fresh {T = T} n f)
 reached_fresh {T} n f size below =
@@ -110,7 +141,7 @@ reached_fresh {T} n f size below =
           subst (λ (r : Round T). IsStaged n (start f) a r) (sym (get_or-replicate ACTORS a round.Idle round.Idle lt)) tt;
     }
 
-after_start : {T : Type 0} (n f : ℕ) → is_size n ≡ true → f < last → After {T = T} n f [] (fresh_desk n f)
+after_start : {T : Type 0} (n f : ℕ) → is_size n ≡ true → f < last → After {T = T} n f [] [] (fresh_desk n f)
 after_start {T} n f size below =
     record {
       reached = reached_fresh n f size below;
@@ -119,23 +150,44 @@ after_start {T} n f size below =
       run = record {
         history = stands_start n f;
         actors = λ a lt.
-            same_cut None (post_of (fresh_desk n f) a) round.Idle (round_of (fresh n f) a) [] [] [] []
-            (get_or-replicate ACTORS a None None lt) (get_or-replicate ACTORS a round.Idle round.Idle lt) refl refl
-            (record { whole = []; rest = []; cut = refl; calls = no_call; begun = refl });
+            same_cut None (post_of (fresh_desk n f) a) round.Idle (round_of (fresh n f) a) [] [] [] [] [] []
+            (get_or-replicate ACTORS a None None lt) (get_or-replicate ACTORS a round.Idle round.Idle lt) refl refl refl
+            (record {
+              ended = [];
+              current = [];
+              order = refl;
+              whole = [];
+              rest = [];
+              cut = refl;
+              calls = no_call;
+              begun = (refl, refl);
+            });
         counts = refl;
       };
     }
 
-module _ {T : Type 0} (n f : ℕ) (steps : List (StepMade T)) (e : DeskView T) (after : After n f steps e) (a : ℕ)
-    (lt : a < ACTORS) where
+module _ {T : Type 0} (n f : ℕ) (calls : List (CallMade T)) (steps : List (StepMade T)) (e : DeskView T)
+    (after : After n f calls steps e) (a : ℕ) (lt : a < ACTORS) where
   same_posts : e.posts ≡ set e.posts a (post_of e a)
   same_posts = sym (set-get_or e.posts a None)
 
+  -- the cut of an actor, of which this is known
+  abbrev cut_with : Option (Post T) → Round T → List (Call T) → ℕ → Type 0
+  cut_with o r cs b = IsCut o r cs (events_made b steps) (outcomes_made b steps)
+
+  -- what was told of an actor that is in no call
+  idle_cut : (b : ℕ) → b < ACTORS → b ≡ a → round_of e.world a ≡ round.Idle
+      → cut_with (post_of e b) round.Idle (calls_made b calls) b
+  idle_cut b below same before =
+      subst (λ (s : Round T). cut_with (post_of e b) s (calls_made b calls) b) (ap (λ k. round_of e.world k) same ∙ before)
+      (after.run.actors b below)
+
   -- a push or a pop begins
-  after_call : (r : Round T) → is_idle (round_of e.world a) ≡ true → IsStaged e.world.places e.world.queue a r → IsBegun r []
-      → After n f steps (call_began e a r)
-  after_call r idle staged begun =
+  after_call : (r : Round T) (c : Call T) → is_idle (round_of e.world a) ≡ true → IsStaged e.world.places e.world.queue a r
+      → IsBegun r (c ∷ []) [] → After n f (calls ++ called a c ∷ []) steps (call_began e a r)
+  after_call r c idle staged begun =
       let new : DeskView T = call_began e a r in
+      let more : List (CallMade T) = calls ++ called a c ∷ [] in
       let before : round_of e.world a ≡ round.Idle = idle_is (round_of e.world a) idle in
       let no_post : post_of e a ≡ None = fits_idle (post_of e a) (round_of e.world a) before (after.kept.fit a lt) in
       let in_rounds : a < length e.world.rounds = omega (arith, lt, after.kept.actors) in
@@ -147,29 +199,31 @@ module _ {T : Type 0} (n f : ℕ) (steps : List (StepMade T)) (e : DeskView T) (
         run = record {
           history = after.run.history;
           actors = λ b below.
-              on_test (λ _. CutOf new steps b) b a
+              on_test (λ _. CutOf new more steps b) b a
               (λ same.
-              let mine : CutOf e steps b = after.run.actors b below in
-              let mine_idle : IsCut (post_of e b) round.Idle (events_made b steps) (outcomes_made b steps) =
-              subst (λ (s : Round T). IsCut (post_of e b) s (events_made b steps) (outcomes_made b steps))
-              (ap (λ k. round_of e.world k) same ∙ before) mine in
               let none : post_of e b ≡ None = ap (λ k. post_of e k) same ∙ no_post in
-              same_cut None (post_of e b) r (round_of new.world b) (events_made b steps) (events_made b steps)
-              (outcomes_made b steps) (outcomes_made b steps) none
-              (ap (λ k. round_of new.world k) same ∙ round_set new.world e.world.rounds a r in_rounds refl) refl refl
-              (begins_cut (post_of e b) r (events_made b steps) (outcomes_made b steps) none mine_idle begun))
+              same_cut None (post_of e b) r (round_of new.world b) (calls_made b calls ++ c ∷ []) (calls_made b more)
+              (events_made b steps) (events_made b steps) (outcomes_made b steps) (outcomes_made b steps) none
+              (ap (λ k. round_of new.world k) same ∙ round_set new.world e.world.rounds a r in_rounds refl)
+              (my_call a b c calls same) refl refl
+              (begins_cut (post_of e b) r c (calls_made b calls) (events_made b steps) (outcomes_made b steps) none
+              (idle_cut b below same before) begun))
               (λ other.
-              same_cut (post_of e b) (post_of e b) (round_of e.world b) (round_of new.world b) (events_made b steps)
-              (events_made b steps) (outcomes_made b steps) (outcomes_made b steps) refl
-              (get_or-set_other e.world.rounds a b r round.Idle other) refl refl (after.run.actors b below));
+              same_cut (post_of e b) (post_of e b) (round_of e.world b) (round_of new.world b) (calls_made b calls)
+              (calls_made b more) (events_made b steps) (events_made b steps) (outcomes_made b steps) (outcomes_made b steps)
+              refl (get_or-set_other e.world.rounds a b r round.Idle other) (others_call a b c calls other) refl refl
+              (after.run.actors b below));
           counts = after.run.counts;
         };
       }
 
   -- a post begins
-  after_post : (p : Policy) (x : T) → is_idle (round_of e.world a) ≡ true → After n f steps (post_began e a p x)
+  after_post : (p : Policy) (x : T) → is_idle (round_of e.world a) ≡ true
+      → After n f (calls ++ called a (ToPost p x) ∷ []) steps (post_began e a p x)
   after_post p x idle =
       let new : DeskView T = post_began e a p x in
+      let c : Call T = ToPost p x in
+      let more : List (CallMade T) = calls ++ called a c ∷ [] in
       let before : round_of e.world a ≡ round.Idle = idle_is (round_of e.world a) idle in
       let no_post : post_of e a ≡ None = fits_idle (post_of e a) (round_of e.world a) before (after.kept.fit a lt) in
       let both = post_begins e new a p x after.kept lt refl refl in
@@ -181,22 +235,21 @@ module _ {T : Type 0} (n f : ℕ) (steps : List (StepMade T)) (e : DeskView T) (
         run = record {
           history = after.run.history;
           actors = λ b below.
-              on_test (λ _. CutOf new steps b) b a
+              on_test (λ _. CutOf new more steps b) b a
               (λ same.
-              let mine : CutOf e steps b = after.run.actors b below in
-              let mine_idle : IsCut (post_of e b) round.Idle (events_made b steps) (outcomes_made b steps) =
-              subst (λ (s : Round T). IsCut (post_of e b) s (events_made b steps) (outcomes_made b steps))
-              (ap (λ k. round_of e.world k) same ∙ before) mine in
-              same_cut (Some posting.post) (post_of new b) (round_of new.world a) (round_of new.world b) (events_made b steps)
-              (events_made b steps) (outcomes_made b steps) (outcomes_made b steps)
-              (ap (λ k. post_of new k) same ∙ posting.there) (ap (λ k. round_of new.world k) same) refl refl
-              (post_begins_cut (post_of e b) posting.post x posting.part (round_of new.world a) (events_made b steps)
-              (outcomes_made b steps) (ap (λ k. post_of e k) same ∙ no_post) mine_idle posting.at posting.so_far))
+              same_cut (Some posting.post) (post_of new b) (round_of new.world a) (round_of new.world b)
+              (calls_made b calls ++ c ∷ []) (calls_made b more) (events_made b steps) (events_made b steps)
+              (outcomes_made b steps) (outcomes_made b steps) (ap (λ k. post_of new k) same ∙ posting.there)
+              (ap (λ k. round_of new.world k) same) (my_call a b c calls same) refl refl
+              (post_begins_cut (post_of e b) posting.post p x posting.part (round_of new.world a) (calls_made b calls)
+              (events_made b steps) (outcomes_made b steps) (ap (λ k. post_of e k) same ∙ no_post)
+              (idle_cut b below same before) posting.under posting.at posting.so_far))
               (λ other.
-              same_cut (post_of e b) (post_of new b) (round_of e.world b) (round_of new.world b) (events_made b steps)
-              (events_made b steps) (outcomes_made b steps) (outcomes_made b steps)
+              same_cut (post_of e b) (post_of new b) (round_of e.world b) (round_of new.world b) (calls_made b calls)
+              (calls_made b more) (events_made b steps) (events_made b steps) (outcomes_made b steps) (outcomes_made b steps)
               (get_or-set_other e.posts a b (Some (record { progress = begun p; hand = None })) None other)
-              (get_or-set_other e.world.rounds a b (round.Push x) round.Idle other) refl refl (after.run.actors b below));
+              (get_or-set_other e.world.rounds a b (round.Push x) round.Idle other) (others_call a b c calls other) refl refl
+              (after.run.actors b below));
           counts = after.run.counts;
         };
       }
@@ -235,16 +288,8 @@ more_losses {T} c ss s k e g =
     ∙ (ap (λ m. with_losses zero_counts m (discards_made ss + discards_of s.outcome)) (sym (overruns_made-last s ss))
     ∙ ap (λ m. with_losses zero_counts (overruns_made (ss ++ s ∷ [])) m) (sym (discards_made-last s ss)))))
 
--- an actor that did not step
-not_mine : {T : Type 0} (a b : ℕ) (xs : List T) → b ≢ a → cond (a == b) xs [] ≡ []
-not_mine {T} a b xs other =
-    on_test (λ t. cond t xs [] ≡ []) a b (λ e. absurd (other (sym e))) (λ _. refl)
-
-mine_is : {T : Type 0} (a b : ℕ) (xs : List T) → b ≡ a → cond (a == b) xs [] ≡ xs
-mine_is {T} a b xs same = on_test (λ t. cond t xs [] ≡ xs) a b (λ _. refl) (λ other. absurd (other (sym same)))
-
-module _ {T : Type 0} (n f : ℕ) (steps : List (StepMade T)) (e : DeskView T) (after : After n f steps e) (a : ℕ)
-    (lt : a < ACTORS) (busy : round_of e.world a ≢ round.Idle) where
+module _ {T : Type 0} (n f : ℕ) (calls : List (CallMade T)) (steps : List (StepMade T)) (e : DeskView T)
+    (after : After n f calls steps e) (a : ℕ) (lt : a < ACTORS) (busy : round_of e.world a ≢ round.Idle) where
   -- the step, where the actor's post is this
   abbrev made_by : Option (Post T) → StepMade T
   made_by o =
@@ -280,10 +325,11 @@ module _ {T : Type 0} (n f : ℕ) (steps : List (StepMade T)) (e : DeskView T) (
 
   -- the events and outcomes of an actor with one more step
   others_cut : (new : DeskView T) (s : StepMade T) (b : ℕ) → s.actor ≡ a → b ≢ a → post_of new b ≡ post_of e b
-      → round_of new.world b ≡ round_of e.world b → CutOf e steps b → CutOf new (steps ++ s ∷ []) b
+      → round_of new.world b ≡ round_of e.world b → CutOf e calls steps b → CutOf new calls (steps ++ s ∷ []) b
   others_cut new s b actor other post here c =
-      same_cut (post_of e b) (post_of new b) (round_of e.world b) (round_of new.world b) (events_made b steps)
-      (events_made b (steps ++ s ∷ [])) (outcomes_made b steps) (outcomes_made b (steps ++ s ∷ [])) post here
+      same_cut (post_of e b) (post_of new b) (round_of e.world b) (round_of new.world b) (calls_made b calls)
+      (calls_made b calls) (events_made b steps) (events_made b (steps ++ s ∷ [])) (outcomes_made b steps)
+      (outcomes_made b (steps ++ s ∷ [])) post here refl
       (events_made-last s b steps
       ∙ (ap (λ (xs : List (Event T)). events_made b steps ++ xs)
       (ap (λ k. cond (k == b) (event_of s.event) []) actor ∙ not_mine a b (event_of s.event) other)
@@ -296,13 +342,14 @@ module _ {T : Type 0} (n f : ℕ) (steps : List (StepMade T)) (e : DeskView T) (
 
   my_cut : (new : DeskView T) (s : StepMade T) (b : ℕ) (o : Option (Post T)) (r : Round T) → s.actor ≡ a → b ≡ a
       → post_of new a ≡ o → round_of new.world a ≡ r
-      → IsCut o r (events_made a steps ++ event_of s.event) (outcomes_made a steps ++ outcome_in s.outcome)
-      → CutOf new (steps ++ s ∷ []) b
+      → IsCut o r (calls_made a calls) (events_made a steps ++ event_of s.event) (outcomes_made a steps ++ outcome_in s.outcome)
+      → CutOf new calls (steps ++ s ∷ []) b
   my_cut new s b o r actor same post here c =
-      subst (λ k. CutOf new (steps ++ s ∷ []) k) (sym same)
-      (same_cut o (post_of new a) r (round_of new.world a) (events_made a steps ++ event_of s.event)
+      subst (λ k. CutOf new calls (steps ++ s ∷ []) k) (sym same)
+      (same_cut o (post_of new a) r (round_of new.world a) (calls_made a calls) (calls_made a calls)
+      (events_made a steps ++ event_of s.event)
       (events_made a (steps ++ s ∷ [])) (outcomes_made a steps ++ outcome_in s.outcome) (outcomes_made a (steps ++ s ∷ []))
-      post here
+      post here refl
       (events_made-last s a steps
       ∙ ap (λ (xs : List (Event T)). events_made a steps ++ xs)
       (ap (λ k. cond (k == a) (event_of s.event) []) actor ∙ mine_is a a (event_of s.event) refl))
@@ -312,7 +359,7 @@ module _ {T : Type 0} (n f : ℕ) (steps : List (StepMade T)) (e : DeskView T) (
       c)
 
   -- a step of a push or of a pop
-  after_plain : post_of e a ≡ None → After n f (steps ++ made_by None ∷ []) (after_step e a None)
+  after_plain : post_of e a ≡ None → After n f calls (steps ++ made_by None ∷ []) (after_step e a None)
   after_plain no_post =
       let new : DeskView T = after_step e a None in
       let r : Round T = (next_move e.world a).round in
@@ -325,17 +372,19 @@ module _ {T : Type 0} (n f : ℕ) (steps : List (StepMade T)) (e : DeskView T) (
         run = record {
           history = stood (made_by None) refl refl;
           actors = λ b below.
-              on_test (λ _. CutOf new (steps ++ made_by None ∷ []) b) b a
+              on_test (λ _. CutOf new calls (steps ++ made_by None ∷ []) b) b a
               (λ same.
-              let mine : IsCut None (round_of e.world a) (events_made a steps) (outcomes_made a steps) =
-              subst (λ (o : Option (Post T)). IsCut o (round_of e.world a) (events_made a steps) (outcomes_made a steps))
+              let mine : IsCut None (round_of e.world a) (calls_made a calls) (events_made a steps) (outcomes_made a steps) =
+              subst
+              (λ (o : Option (Post T)). IsCut o (round_of e.world a) (calls_made a calls) (events_made a steps) (outcomes_made a steps))
               no_post (after.run.actors a lt) in
               my_cut new (made_by None) b None r refl same no_post (round_set new.world e.world.rounds a r in_rounds refl)
               (subst
-              (λ (os : List (Outcome T)). IsCut None r (events_made a steps ++ event_of (next_move e.world a).event) os)
+              (λ (os : List (Outcome T)).
+              IsCut None r (calls_made a calls) (events_made a steps ++ event_of (next_move e.world a).event) os)
               (sym (append-nil (outcomes_made a steps)))
-              (plain_cut (round_of e.world a) (next_move e.world a) (events_made a steps) (outcomes_made a steps) busy kind
-              mine)))
+              (plain_cut (round_of e.world a) (next_move e.world a) (calls_made a calls) (events_made a steps)
+              (outcomes_made a steps) busy kind mine)))
               (λ other.
               others_cut new (made_by None) b refl other refl (get_or-set_other e.world.rounds a b r round.Idle other)
               (after.run.actors b below));
@@ -344,7 +393,8 @@ module _ {T : Type 0} (n f : ℕ) (steps : List (StepMade T)) (e : DeskView T) (
       }
 
   -- a step of a post
-  after_posting : (p : Post T) → post_of e a ≡ Some p → After n f (steps ++ made_by (Some p) ∷ []) (after_step e a (Some p))
+  after_posting : (p : Post T) → post_of e a ≡ Some p → After n f calls (steps ++ made_by (Some p) ∷ [])
+      (after_step e a (Some p))
   after_posting p there =
       let new : DeskView T = after_step e a (Some p) in
       let r : Round T = round_of e.world a in
@@ -370,16 +420,17 @@ module _ {T : Type 0} (n f : ℕ) (steps : List (StepMade T)) (e : DeskView T) (
           history = subst (λ (q : Queue T). StandsFor n f (entries_made (steps ++ made_by (Some p) ∷ [])) q)
               (sym (turn_queue w a p d v (follows p.progress s))) (stood (made_by (Some p)) refl refl);
           actors = λ b below.
-              on_test (λ _. CutOf new (steps ++ made_by (Some p) ∷ []) b) b a
+              on_test (λ _. CutOf new calls (steps ++ made_by (Some p) ∷ []) b) b a
               (λ same.
               let mine = after.run.actors a lt in
-              let begun = subst (λ (o : Option (Post T)). IsUnderWayIn o r mine.rest) there mine.begun in
+              let begun = subst (λ (o : Option (Post T)). IsUnderWayIn o r mine.current mine.rest) there mine.begun in
               let came =
               turn_comes w a p e.counts begun.0 mine.rest in_left r m begun.1 here fits.0 begun.2 begun.3 kind in
               my_cut new (made_by (Some p)) b t.post (round_of t.world a) refl same
               (get_or-set_same e.posts a t.post None in_posts) refl
-              (post_cut p.progress.policy begun.0 (events_made a steps) (event_of m.event) (outcomes_made a steps) mine.whole
-              mine.rest t.post (round_of t.world a) t.outcome mine.cut mine.calls came
+              (post_cut p.progress.policy begun.0 (calls_made a calls) (events_made a steps) (event_of m.event)
+              (outcomes_made a steps) mine.ended mine.current mine.whole mine.rest t.post (round_of t.world a) t.outcome mine.order
+              begun.4 mine.cut mine.calls came
               (ended_leaves w a p e.counts r m kind fits.1 here)))
               (λ other.
               others_cut new (made_by (Some p)) b refl other (get_or-set_other e.posts a b t.post None other)
@@ -390,24 +441,24 @@ module _ {T : Type 0} (n f : ℕ) (steps : List (StepMade T)) (e : DeskView T) (
         };
       }
 
-  after_any : (o : Option (Post T)) → post_of e a ≡ o → After n f (steps ++ made_by o ∷ []) (after_step e a o)
+  after_any : (o : Option (Post T)) → post_of e a ≡ o → After n f calls (steps ++ made_by o ∷ []) (after_step e a o)
   after_any None there = after_plain there
   after_any (Some p) there = after_posting p there
 
 not_idle : {T : Type 0} (r : Round T) → is_idle r ≡ false → r ≢ round.Idle
 not_idle {T} r e h = let bad : true ≡ false = sym (ap (λ (s : Round T). is_idle s) h) ∙ e in cc
 
-after_run : {T : Type 0} (n f : ℕ) (steps : List (StepMade T)) (e : DeskView T) → is_size n ≡ true → f < last
-    → Plays (fresh_desk n f) steps e → After n f steps e
-after_run n f steps e size below starts = after_start n f size below
-after_run n f steps e size below (pushes {steps = ss} {e = d} a x plays lt idle) =
-    after_call n f ss d (after_run n f ss d size below plays) a lt (round.Push x) idle tt refl
-after_run n f steps e size below (pops {steps = ss} {e = d} a plays lt idle) =
-    after_call n f ss d (after_run n f ss d size below plays) a lt round.Pop idle tt refl
-after_run n f steps e size below (posts {steps = ss} {e = d} a p x plays lt idle) =
-    after_post n f ss d (after_run n f ss d size below plays) a lt p x idle
-after_run n f steps e size below (steps_on {steps = ss} {e = d} a plays lt busy) =
-    after_any n f ss d (after_run n f ss d size below plays) a lt (not_idle (round_of d.world a) busy) (post_of d a) refl
+after_run : {T : Type 0} (n f : ℕ) (calls : List (CallMade T)) (steps : List (StepMade T)) (e : DeskView T) → is_size n ≡ true
+    → f < last → Plays (fresh_desk n f) calls steps e → After n f calls steps e
+after_run n f calls steps e size below starts = after_start n f size below
+after_run n f calls steps e size below (pushes {calls = cs} {steps = ss} {e = d} a x plays lt idle) =
+    after_call n f cs ss d (after_run n f cs ss d size below plays) a lt (round.Push x) (ToPush x) idle tt (refl, refl)
+after_run n f calls steps e size below (pops {calls = cs} {steps = ss} {e = d} a plays lt idle) =
+    after_call n f cs ss d (after_run n f cs ss d size below plays) a lt round.Pop ToPop idle tt (refl, refl)
+after_run n f calls steps e size below (posts {calls = cs} {steps = ss} {e = d} a p x plays lt idle) =
+    after_post n f cs ss d (after_run n f cs ss d size below plays) a lt p x idle
+after_run n f calls steps e size below (steps_on {calls = cs} {steps = ss} {e = d} a plays lt busy) =
+    after_any n f cs ss d (after_run n f cs ss d size below plays) a lt (not_idle (round_of d.world a) busy) (post_of d a) refl
 
 pub runs_are_cut : (T : Type 0) → RunsAreCut T
-runs_are_cut T n f steps e size below plays = (after_run n f steps e size below plays).run
+runs_are_cut T n f calls steps e size below plays = (after_run n f calls steps e size below plays).run

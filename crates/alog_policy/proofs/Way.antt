@@ -96,7 +96,7 @@ module _ {S T V : Type 0} (did : Doing S T) (fit : S → Type 0) (one : AreToget
         }
 
     pub posting_is_lost : (l : Lost) (final : S) → Leads did fit x v g now new (Err l) → did new [] 0 1 final
-        → Posts did fit p x v first final (Discarded v l.why l.overran)
+        → Posts did p x v first final (Discarded v l.why l.overran)
     posting_is_lost l final leads counted =
         let events = posting.events ++ leads.made in
         let agrees = leads.agrees posting.part posting.events posting.fresh posting.way in
@@ -114,7 +114,7 @@ module _ {S T V : Type 0} (did : Doing S T) (fit : S → Type 0) (one : AreToget
         }
 
     pub posting_wrote : (t : ℕ) → g.side ≡ Push → did now (Claim t x ∷ Write t ∷ []) 0 0 new
-        → Posts did fit p x v first new (Posted t g.overran)
+        → Posts did p x v first new (Posted t g.overran)
     posting_wrote t side wrote =
         let made : List (Event T) = Claim t x ∷ Write t ∷ [] in
         let events = posting.events ++ made in

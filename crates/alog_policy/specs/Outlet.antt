@@ -42,20 +42,15 @@ module _ {S T : Type 0} (did : Doing S T) (fit : S → Type 0) where
 
 -- A post: the outlet's events were one post under this policy by the definition, which brought v, of which a cell shows x, and
 -- the outlet counted its losses.
-pub record Posts {S T V : Type 0} (did : Doing S T) (fit : S → Type 0) (p : Policy) (x : T) (v : V) (old new : S)
+pub record Posts {S T V : Type 0} (did : Doing S T) (p : Policy) (x : T) (v : V) (old new : S)
     (outcome : Outcome V) : Type 0 where
   pub events : List (Event T)
   pub post : IsPost p x v events outcome
   pub done : did old events (overran_in outcome) (discards_in outcome) new
 
 -- a post that never waits
-abbrev pub PostsNow : {S T V : Type 0} → Doing S T → (S → Type 0) → Policy → T → V → S → S → Outcome V → Type 0
-PostsNow did fit p x v old new outcome = Posts did fit (without_waiting p) x v old new outcome
-
--- the fact, where the post was discarded
-abbrev pub IfDiscarded : {V : Type 0} → Outcome V → Type 0 → Type 0
-IfDiscarded (Posted t k) P = Unit {0}
-IfDiscarded (Discarded v w k) P = P
+abbrev pub PostsNow : {S T V : Type 0} → Doing S T → Policy → T → V → S → S → Outcome V → Type 0
+PostsNow did p x v old new outcome = Posts did (without_waiting p) x v old new outcome
 
 -- how a post ends that waits for room
 abbrev pub IsPostedOrSpent : {V : Type 0} → Outcome V → Type 0

@@ -49,4 +49,4 @@ pub record PortDid {T : Type 0} (old : Port T) (es : List (Event T)) (items post
 
 -- A post on a port: the pass's events were one post under this policy by the definition, and the seat's adds its losses.
 abbrev pub PostsOn : {T : Type 0} → Policy → T → Port T → Port T → Outcome T → Type 0
-PostsOn p x old new outcome = Posts PortDid IsFit p x x old new outcome
+PostsOn p x old new outcome = Posts PortDid p x x old new outcome

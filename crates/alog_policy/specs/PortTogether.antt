@@ -1,19 +1,18 @@
 -- What a port did first, and what it did then.
-use Rattle.std.proofs.Common.{append-nil, arith, ◌⊎◌, ◌≡◌, ℕ, ◌+◌, List, [], ◌∷◌, ◌++◌, refl, sym, ap, subst, ◌∙◌, inl, inr}
-use Rattle.std.specs.List.{AllByRecursion, sum_by}
+use Rattle.std.proofs.Common.{append-nil, arith, ◌⊎◌, ◌≡◌, ℕ, ◌+◌, List, [], ◌++◌, sym, ap, subst, ◌∙◌, inl, inr}
 use Rattle.std.proofs.lemmas.List.Sums.{sum_by-append}
 use Rattle.alog_core.specs.Queue.{Event}
 use Rattle.alog_core.specs.History.{Entry}
-use Rattle.alog_ring.specs.Known.{Known, PassView, RingId, IsPassOf}
+use Rattle.alog_ring.specs.Known.{PassView}
 use Rattle.alog_ring.specs.Kinds.{no_note}
 use Rattle.alog_ring.specs.Made.{Made}
 use Rattle.alog_ring.proofs.Calling.{made_more}
 use Rattle.alog_lane.specs.Seats as lane
 use Rattle.alog_lane.proofs.Knowing.{made_then}
 use Rattle.alog_lane.proofs.Lists.{each_append}
-use Rattle.alog_policy.specs.BookAdds.{Add, items_of, posts_of, items_in, posts_in}
-use Rattle.alog_policy.specs.BookCalls.{BookId, IsSeatOf, SeatView}
-use Rattle.alog_policy.specs.Port.{PassMade, IsOneLoss, SeatCounted, IsFit, PortDid}
+use Rattle.alog_policy.specs.BookAdds.{Add, items_of, posts_of}
+use Rattle.alog_policy.specs.BookCalls.{SeatView}
+use Rattle.alog_policy.specs.Port.{PassMade, IsOneLoss, SeatCounted, PortDid}
 use Rattle.alog_policy.specs.Rounds.{entries_by}
 use Rattle.alog_policy.specs.Together.{entries_by-append}
 use Rattle.alog_policy.specs.declared.port.Port.{Port}

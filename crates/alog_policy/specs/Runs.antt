@@ -14,6 +14,20 @@ use Rattle.alog_policy.specs.declared.policy.Policy.{Policy}
 use Rattle.alog_policy.specs.declared.policy.Outcome.{Outcome}
 use Rattle.alog_policy.specs.declared.post.Post.{Post}
 
+-- A call that an actor begins.
+pub data Call (T : Type 0) : Type 0 where
+  ToPush : (item : T) → Call T
+  ToPop : Call T
+  ToPost : (policy : Policy) (value : T) → Call T
+
+-- a call that was begun, and by whom
+pub record CallMade (T : Type 0) : Type 0 where
+  pub actor : ℕ
+  pub call : Call T
+
+abbrev pub called : {T : Type 0} → ℕ → Call T → CallMade T
+called a c = record { actor = a; call = c }
+
 -- What one step was: its actor, its event if it was one, whether the actor was in a post, and how that ended if it did.
 pub record StepMade (T : Type 0) : Type 0 where
   pub actor : ℕ
@@ -36,22 +50,30 @@ step_of d a =
       outcome = (desk_told d a).outcome;
     }
 
--- Calls that were not refused lead from one desk to another, with these steps. (A refused call changes nothing.)
-pub data Plays {T : Type 0} (d : DeskView T) : List (StepMade T) → DeskView T → Type 0 where
-  starts : Plays d [] d
-  pushes : {steps : List (StepMade T)} {e : DeskView T} (a : ℕ) (x : T) → Plays d steps e → a < ACTORS
-      → is_idle (round_of e.world a) ≡ true → Plays d steps (call_began e a (round.Push x))
-  pops : {steps : List (StepMade T)} {e : DeskView T} (a : ℕ) → Plays d steps e → a < ACTORS
-      → is_idle (round_of e.world a) ≡ true → Plays d steps (call_began e a round.Pop)
-  posts : {steps : List (StepMade T)} {e : DeskView T} (a : ℕ) (p : Policy) (x : T) → Plays d steps e → a < ACTORS
-      → is_idle (round_of e.world a) ≡ true → Plays d steps (post_began e a p x)
-  steps_on : {steps : List (StepMade T)} {e : DeskView T} (a : ℕ) → Plays d steps e → a < ACTORS
-      → is_idle (round_of e.world a) ≡ false → Plays d (steps ++ step_of e a ∷ []) (desk_stepped e a)
+-- Calls that were not refused lead from one desk to another: these were begun, and these steps made. (A refused call changes
+-- nothing.)
+pub data Plays {T : Type 0} (d : DeskView T) : List (CallMade T) → List (StepMade T) → DeskView T → Type 0 where
+  starts : Plays d [] [] d
+  pushes : {calls : List (CallMade T)} {steps : List (StepMade T)} {e : DeskView T} (a : ℕ) (x : T) → Plays d calls steps e
+      → a < ACTORS → is_idle (round_of e.world a) ≡ true
+      → Plays d (calls ++ called a (ToPush x) ∷ []) steps (call_began e a (round.Push x))
+  pops : {calls : List (CallMade T)} {steps : List (StepMade T)} {e : DeskView T} (a : ℕ) → Plays d calls steps e → a < ACTORS
+      → is_idle (round_of e.world a) ≡ true → Plays d (calls ++ called a ToPop ∷ []) steps (call_began e a round.Pop)
+  posts : {calls : List (CallMade T)} {steps : List (StepMade T)} {e : DeskView T} (a : ℕ) (p : Policy) (x : T)
+      → Plays d calls steps e → a < ACTORS → is_idle (round_of e.world a) ≡ true
+      → Plays d (calls ++ called a (ToPost p x) ∷ []) steps (post_began e a p x)
+  steps_on : {calls : List (CallMade T)} {steps : List (StepMade T)} {e : DeskView T} (a : ℕ) → Plays d calls steps e
+      → a < ACTORS → is_idle (round_of e.world a) ≡ false → Plays d calls (steps ++ step_of e a ∷ []) (desk_stepped e a)
 
 -- the entries of the steps, in the order in which they were made
 abbrev pub entries_made : {T : Type 0} → List (StepMade T) → List (Entry T (Unit {0}))
 entries_made [] = []
 entries_made (s ∷ ss) = entries_of s.actor tt s.event ++ entries_made ss
+
+-- an actor's own calls, in the order in which they were begun
+abbrev pub calls_made : {T : Type 0} → ℕ → List (CallMade T) → List (Call T)
+calls_made a [] = []
+calls_made a (c ∷ cs) = (if c.actor == a then c.call ∷ [] else []) ++ calls_made a cs
 
 -- an actor's own events, and the outcomes of its posts
 abbrev pub events_made : {T : Type 0} → ℕ → List (StepMade T) → List (Event T)
@@ -91,51 +113,57 @@ pub data IsPop {T : Type 0} (made : List (Event T)) : Type 0 where
   found_empty : (t : ℕ) → made ≡ Empty t ∷ [] → IsPop made
   was_busy : (t : ℕ) → made ≡ PopBusy t ∷ [] → IsPop made
 
--- these events are whole pushes, pops and posts, one after another, and these the outcomes of the posts
-pub data AreWhole {T : Type 0} : List (Event T) → List (Outcome T) → Type 0 where
-  no_call : AreWhole [] []
-  and_push : {es : List (Event T)} {os : List (Outcome T)} (x : T) (made : List (Event T)) → AreWhole es os → IsPush x made
-      → AreWhole (es ++ made) os
-  and_pop : {es : List (Event T)} {os : List (Outcome T)} (made : List (Event T)) → AreWhole es os → IsPop made
-      → AreWhole (es ++ made) os
-  and_post : {es : List (Event T)} {os : List (Outcome T)} (p : Policy) (x : T) (made : List (Event T)) (o : Outcome T)
-      → AreWhole es os → IsPost p x x made o → AreWhole (es ++ made) (os ++ o ∷ [])
+-- These calls were made whole, one after another: these are their events, each push and each post of the item, and under the
+-- policy, that it was begun with, and these the outcomes of the posts.
+pub data AreWhole {T : Type 0} : List (Call T) → List (Event T) → List (Outcome T) → Type 0 where
+  no_call : AreWhole [] [] []
+  and_push : {cs : List (Call T)} {es : List (Event T)} {os : List (Outcome T)} (x : T) (made : List (Event T))
+      → AreWhole cs es os → IsPush x made → AreWhole (cs ++ ToPush x ∷ []) (es ++ made) os
+  and_pop : {cs : List (Call T)} {es : List (Event T)} {os : List (Outcome T)} (made : List (Event T)) → AreWhole cs es os
+      → IsPop made → AreWhole (cs ++ ToPop ∷ []) (es ++ made) os
+  and_post : {cs : List (Call T)} {es : List (Event T)} {os : List (Outcome T)} (p : Policy) (x : T) (made : List (Event T))
+      (o : Outcome T) → AreWhole cs es os → IsPost p x x made o → AreWhole (cs ++ ToPost p x ∷ []) (es ++ made) (os ++ o ∷ [])
 
--- these events are the beginning of the push or pop that an actor is in
-abbrev pub IsBegun : {T : Type 0} → Round T → List (Event T) → Type 0
-IsBegun round.Idle es = es ≡ []
-IsBegun (round.Push y) es = es ≡ []
-IsBegun (round.PushRead t y) es = es ≡ []
-IsBegun (round.PushFree t y) es = es ≡ []
-IsBegun {T} (round.PushClaimed t) es = (x : T) × (es ≡ Claim t x ∷ [])
-IsBegun round.Pop es = es ≡ []
-IsBegun (round.PopRead t) es = es ≡ []
-IsBegun (round.PopReady t) es = es ≡ []
-IsBegun (round.PopGrabbed t) es = es ≡ Grab t ∷ []
+-- the one push or pop that an actor is in, if it is in one, and its events so far
+abbrev pub IsBegun : {T : Type 0} → Round T → List (Call T) → List (Event T) → Type 0
+IsBegun round.Idle cs es = (cs ≡ []) × (es ≡ [])
+IsBegun (round.Push y) cs es = (cs ≡ ToPush y ∷ []) × (es ≡ [])
+IsBegun (round.PushRead t y) cs es = (cs ≡ ToPush y ∷ []) × (es ≡ [])
+IsBegun (round.PushFree t y) cs es = (cs ≡ ToPush y ∷ []) × (es ≡ [])
+IsBegun {T} (round.PushClaimed t) cs es = (x : T) × (cs ≡ ToPush x ∷ []) × (es ≡ Claim t x ∷ [])
+IsBegun round.Pop cs es = (cs ≡ ToPop ∷ []) × (es ≡ [])
+IsBegun (round.PopRead t) cs es = (cs ≡ ToPop ∷ []) × (es ≡ [])
+IsBegun (round.PopReady t) cs es = (cs ≡ ToPop ∷ []) × (es ≡ [])
+IsBegun (round.PopGrabbed t) cs es = (cs ≡ ToPop ∷ []) × (es ≡ Grab t ∷ [])
 
--- these events are the beginning of what the actor is in: a post, a push, a pop, or nothing
-abbrev pub IsUnderWayIn : {T : Type 0} → Option (Post T) → Round T → List (Event T) → Type 0
-IsUnderWayIn None r es = IsBegun r es
-IsUnderWayIn {T} (Some p) r es =
+-- the one call that the actor is in, a post, a push or a pop, if it is in one, and its events so far
+abbrev pub IsUnderWayIn : {T : Type 0} → Option (Post T) → Round T → List (Call T) → List (Event T) → Type 0
+IsUnderWayIn None r cs es = IsBegun r cs es
+IsUnderWayIn {T} (Some p) r cs es =
     (x : T) × (b : Part) × IsAt x p.hand p.progress.side r b × IsSoFar p.progress x b es
+    × (cs ≡ ToPost p.progress.policy x ∷ [])
 
--- An actor's own events are cut into whole calls and the beginning of the one that it is in.
-pub record IsCut {T : Type 0} (post : Option (Post T)) (r : Round T) (es : List (Event T)) (os : List (Outcome T)) : Type 0 where
+-- An actor's own calls and events are cut into the whole ones and the one that it is in.
+pub record IsCut {T : Type 0} (post : Option (Post T)) (r : Round T) (cs : List (Call T)) (es : List (Event T))
+    (os : List (Outcome T)) : Type 0 where
+  pub ended : List (Call T)
+  pub current : List (Call T)
+  pub order : cs ≡ ended ++ current
   pub whole : List (Event T)
   pub rest : List (Event T)
   pub cut : es ≡ whole ++ rest
-  pub calls : AreWhole whole os
-  pub begun : IsUnderWayIn post r rest
+  pub calls : AreWhole ended whole os
+  pub begun : IsUnderWayIn post r current rest
 
--- What a run from a new desk is: its entries are a legal history that its queue stands for; each actor's own events are cut
--- into whole pushes, pops and posts by the definition, with the outcomes that it was told, and the beginning of one; and the
--- counts are the losses, modulo 2^64.
-pub record IsRun {T : Type 0} (n f : ℕ) (steps : List (StepMade T)) (e : DeskView T) : Type 0 where
+-- What a run from a new desk is: its entries are a legal history that its queue stands for; each actor's own calls and events
+-- are cut into whole pushes, pops and posts by the definition, with the items, policies and outcomes of its calls, and the one
+-- that it is in; and the counts are the losses, modulo 2^64.
+pub record IsRun {T : Type 0} (n f : ℕ) (calls : List (CallMade T)) (steps : List (StepMade T)) (e : DeskView T) : Type 0 where
   pub history : StandsFor n f (entries_made steps) e.world.queue
   pub actors : (a : ℕ) → a < ACTORS
-      → IsCut (post_of e a) (round_of e.world a) (events_made a steps) (outcomes_made a steps)
+      → IsCut (post_of e a) (round_of e.world a) (calls_made a calls) (events_made a steps) (outcomes_made a steps)
   pub counts : e.counts ≡ with_losses (record { overrun = 0; discarded = 0 }) (overruns_made steps) (discards_made steps)
 
 abbrev pub RunsAreCut : Type 0 → Type 0
-RunsAreCut T = (n f : ℕ) (steps : List (StepMade T)) (e : DeskView T) → is_size n ≡ true → f < last
-    → Plays (fresh_desk n f) steps e → IsRun n f steps e
+RunsAreCut T = (n f : ℕ) (calls : List (CallMade T)) (steps : List (StepMade T)) (e : DeskView T) → is_size n ≡ true → f < last
+    → Plays (fresh_desk n f) calls steps e → IsRun n f calls steps e

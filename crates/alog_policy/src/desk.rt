@@ -4,6 +4,7 @@ ghost use Rattle.alog_core.specs.Queue.{last, Claim, Write};
 ghost use Rattle.alog_core.specs.History.{GoesOn};
 ghost use Rattle.alog_core.specs.World.{is_size, round_of, is_idle, next_move, shown};
 ghost use Rattle.alog_core.specs.Run.{entries_of_step};
+ghost use Rattle.alog_core.specs.Staged.{IsReached};
 ghost use Rattle.alog_core.specs.declared.round.Round.TheVariants as round;
 ghost use Rattle.alog_policy.specs.Desk.{fresh_desk, call_began, post_began, desk_told, desk_stepped, IsPosting, PostGoesOn};
 ghost use Rattle.alog_policy.specs.Desk.{post_of};
@@ -161,6 +162,22 @@ impl<T: Drop> Desk<T> {
         ensures { IfOk result (λ v. v.items ≡ map shown self.now.world.queue.cells) }
     {
         self.world.cells(alloc)
+    }
+
+    /// What is true of every desk, whatever was called: the facts of `IsReached` of its queue and of its actors' rounds. It does
+    /// nothing: its contract is the law.
+    pub fn is_reached(&self)
+        ensures { IsReached self.now.world }
+    {
+        self.world.is_reached();
+    }
+
+    /// Whether this actor, 0 to 63, is in no call.
+    pub fn is_idle(&self, actor: u32) -> bool
+        requires { actor < ACTORS }
+        ensures { result ≡ is_idle (round_of self.now.world actor) }
+    {
+        self.world.is_idle(actor)
     }
 
     /// Whether a call of this actor may begin.

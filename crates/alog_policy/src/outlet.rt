@@ -8,7 +8,7 @@ use alog_ring::{PopError, PushError};
 /// its queue, in this order, and exactly so many overrun items and so many discarded posts were counted. `shows` is what
 /// a cell of the queue shows of a value. `is_fit` is what a push or a pop asks of the outlet.
 pub trait Outlet {
-    ghost use Rattle.std.specs.Prelude.{◌≡◌, ◌+◌, ℕ, List, [], ◌∷◌, ◌++◌, IfOk, IfErr};
+    ghost use Rattle.std.specs.Prelude.{◌≡◌, ◌+◌, ℕ, List, [], ◌∷◌, ◌++◌, IfOk, IfErr, OnOk};
     ghost use Rattle.alog_core.specs.Queue.{Event, Claim, Write};
     ghost use Rattle.alog_policy.specs.Outlet.{PushRefused, Overran, PopRefused};
 
@@ -29,7 +29,8 @@ pub trait Outlet {
     fn push_once(&mut self, value: Self::Value) -> Result<u64, PushError<Self::Value>>
         requires { is_fit self.old }
         ensures pushed { IfOk result (λ t. did self.old (Claim t (shows value) ∷ Write t ∷ []) 0 0 self.new) }
-        ensures refused { IfErr result (λ e. PushRefused did is_fit self.old value e self.new) };
+        ensures refused { IfErr result (λ e. PushRefused did is_fit self.old value e self.new) }
+        ensures fit { OnOk result (is_fit self.new) };
 
     /// Makes one round of a pop: takes the oldest item out if that goes at once, drops it and counts it as overrun, and
     /// answers its ticket. A refusal is one event, and nothing is counted. It never waits and takes no memory.

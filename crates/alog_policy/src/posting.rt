@@ -1,7 +1,7 @@
 //! A post that never waits.
-ghost use Rattle.std.specs.Prelude.{◌≡◌, [], ◌∷◌, IfOk, IfErr};
+ghost use Rattle.std.specs.Prelude.{◌≡◌, [], ◌∷◌, IfOk, IfErr, OnOk};
 ghost use Rattle.alog_core.specs.Queue.{Claim, Write};
-ghost use Rattle.alog_policy.specs.Outlet.{PostsNow, IfDiscarded, Leads};
+ghost use Rattle.alog_policy.specs.Outlet.{PostsNow, Leads};
 ghost use Rattle.alog_policy.specs.Progress.{IsKept};
 ghost use Rattle.alog_policy.specs.declared.progress.Side.TheVariants as side;
 
@@ -18,8 +18,8 @@ use alog_ring::{PopError, PushError};
 /// take, a discarded post at its end. The test `posts_at_once` shows it.
 pub fn post_now<O: Outlet>(outlet: &mut O, policy: Policy, value: O::Value) -> Outcome<O::Value>
     requires { O.is_fit outlet.old }
-    ensures post { PostsNow O.did O.is_fit policy (O.shows value) value outlet.old outlet.new result }
-    ensures fit { IfDiscarded result (O.is_fit outlet.new) }
+    ensures post { PostsNow O.did policy (O.shows value) value outlet.old outlet.new result }
+    ensures fit { O.is_fit outlet.new }
 {
     let mut progress = Progress::new(policy.without_waiting());
     let mut value = value;
@@ -69,6 +69,7 @@ fn push<O: Outlet>(
     requires side { progress.side ≡ side.Push }
     requires kept { IsKept progress }
     ensures pushed { IfOk result (λ t. O.did outlet.old (Claim t (O.shows value) ∷ Write t ∷ []) 0 0 outlet.new) }
+    ensures fit { OnOk result (O.is_fit outlet.new) }
     ensures value { IfErr result (λ r. r.value ≡ value) }
     ensures refused { IfErr result (λ r. Leads O.did O.is_fit (O.shows value) value progress outlet.old outlet.new r.next) }
 {

@@ -1,7 +1,8 @@
-ghost use Rattle.std.specs.Prelude.{◌≡◌, ℕ, List, IfSome, IfNone};
-ghost use Rattle.alog_policy.specs.Runs.{StepMade, IsRun};
+ghost use Rattle.std.specs.Prelude.{◌≡◌, ℕ, List, [], ◌∷◌, IfSome, IfNone};
+ghost use Rattle.alog_policy.specs.Runs.{StepMade, IsRun, called, ToPost};
 ghost use Rattle.alog_policy.specs.DeskOutlet.{IsFree, DeskDid};
 ghost use Rattle.alog_policy.specs.Outlet.{PostsNow};
+ghost use Rattle.alog_policy.specs.declared.policy.Policy.TheVariants as under;
 
 use super::*;
 use alog_core::{BeginError, CellView, LAST_TICKET, Mark, Said, StepError, WorldError};
@@ -244,7 +245,7 @@ fn refusals(rt: HostRuntime) -> Result<(), Fail> {
 // counts have its losses, and nobody else did anything.
 fn at_once(desk: &mut Desk<u64>, actor: u32, policy: Policy, value: u64) -> Option<Outcome<u64>>
     ensures posted { IfSome result (λ o.
-        PostsNow (DeskDid actor) (λ d. IsFree d actor) policy value value desk.old desk.new o) }
+        PostsNow (DeskDid actor) policy value value desk.old desk.new o) }
     ensures refused { IfNone result (desk.new ≡ desk.old) }
 {
     match desk.outlet(actor) {
@@ -267,7 +268,8 @@ fn a_caller_knows_the_desk(rt: HostRuntime) -> Result<(), Fail> {
 
 // What a caller knows of a run: a post begins on a new desk and makes a step.
 fn first_step(alloc: Global, value: u64) -> Option<Desk<u64>>
-    ensures { IfSome result (λ d. (steps : List (StepMade ℕ)) × IsRun 2 5 steps d) }
+    ensures { IfSome result (λ d. (steps : List (StepMade ℕ))
+        × IsRun 2 5 (called 1 (ToPost under.Block value) ∷ []) steps d) }
 {
     let Ok(mut desk) = Desk::new(alloc, 2, 5) else {
         return None;

@@ -1,6 +1,6 @@
 //! A post that may wait.
 ghost use Rattle.std.specs.Prelude.{◌≡◌};
-ghost use Rattle.alog_policy.specs.Outlet.{Posts, IfDiscarded, IsPostedOrSpent};
+ghost use Rattle.alog_policy.specs.Outlet.{Posts, IsPostedOrSpent};
 ghost use Rattle.alog_policy.specs.Port.{IsFit, PostsOn};
 ghost use Rattle.alog_policy.specs.declared.policy.Policy.TheVariants as under;
 
@@ -28,7 +28,7 @@ pub fn post_wait<T: Drop>(
 ) -> Outcome<T>
     requires { IsFit port.old }
     ensures post { PostsOn policy value port.old port.new result }
-    ensures fit { IfDiscarded result (IsFit port.new) }
+    ensures fit { IsFit port.new }
     ensures blocks { policy ≡ under.Block → IsPostedOrSpent result }
 {
     match policy {
@@ -44,8 +44,8 @@ fn post_blocking<O: Outlet>(
     mut value: O::Value,
 ) -> Outcome<O::Value>
     requires { O.is_fit outlet.old }
-    ensures post { Posts O.did O.is_fit under.Block (O.shows value) value outlet.old outlet.new result }
-    ensures fit { IfDiscarded result (O.is_fit outlet.new) }
+    ensures post { Posts O.did under.Block (O.shows value) value outlet.old outlet.new result }
+    ensures fit { O.is_fit outlet.new }
     ensures blocks { IsPostedOrSpent result }
 {
     let backoff = Backoff::new();

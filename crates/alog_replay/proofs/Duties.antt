@@ -1,12 +1,12 @@
 -- What an actor owes, step by step.
 use Rattle.std.proofs.Common.{◌≡◌, ℕ, true, Bool, List, ◌++◌, sym, ap, subst, ◌∙◌, refl}
 use Rattle.std.proofs.lemmas.List.{set-set}
-use Rattle.alog_core.specs.World.{stepped, told}
 use Rattle.alog_core.specs.declared.said.Said.{Said}
 use Rattle.alog_msg.specs.declared.message.Message.{Message}
+use Rattle.alog_policy.specs.Desk.{desk_told, desk_stepped}
 use Rattle.alog_replay.specs.Memory.{MemoryFile, Turns}
 use Rattle.alog_replay.specs.Scene.{Prints}
-use Rattle.alog_replay.specs.Session.{Stage, duty_of, with_duty, with_world, with_memory, work_after, said_text, turn_text}
+use Rattle.alog_replay.specs.Session.{Stage, duty_of, with_duty, with_desk, with_memory, work_after, stepped_text, turn_text}
 use Rattle.alog_replay.specs.Session.{StepsBy, Steps}
 use Rattle.alog_replay.specs.declared.duty.Duty.{Duty}
 use Rattle.alog_replay.specs.declared.duty.Duty.TheVariants.{Free, Works, Owes}
@@ -15,37 +15,37 @@ use Rattle.alog_replay.specs.declared.duty.Duty.TheVariants.{Free, Works, Owes}
 pub record HasMoved (s taken moved : Stage) (a : ℕ) (duty : Duty) (old new : List ℕ) : Type 0 where
   pub owed : duty ≡ duty_of s a
   pub out : taken ≡ with_duty s a Free
-  pub moved_on : moved ≡ with_world taken (stepped taken.world a)
-  pub printed : new ≡ old ++ said_text a (told taken.world a)
+  pub moved_on : moved ≡ with_desk taken (desk_stepped taken.desk a)
+  pub printed : new ≡ old ++ stepped_text a (desk_told taken.desk a)
 
-moved_by : (s taken moved : Stage) (a : ℕ) → taken ≡ with_duty s a Free → moved ≡ with_world taken (stepped taken.world a)
-    → moved ≡ with_duty (with_world s (stepped s.world a)) a Free
+moved_by : (s taken moved : Stage) (a : ℕ) → taken ≡ with_duty s a Free → moved ≡ with_desk taken (desk_stepped taken.desk a)
+    → moved ≡ with_duty (with_desk s (desk_stepped s.desk a)) a Free
 moved_by s taken moved a out on =
-    on ∙ subst (λ (t : Stage). with_world t (stepped t.world a) ≡ with_duty (with_world s (stepped s.world a)) a Free) (sym out) refl
+    on ∙ subst (λ (t : Stage). with_desk t (desk_stepped t.desk a) ≡ with_duty (with_desk s (desk_stepped s.desk a)) a Free) (sym out) refl
 
 printed_by : (s taken : Stage) (a : ℕ) (old new : List ℕ) → taken ≡ with_duty s a Free
-    → new ≡ old ++ said_text a (told taken.world a) → new ≡ old ++ said_text a (told s.world a)
-printed_by s taken a old new out p = subst (λ (t : Stage). new ≡ old ++ said_text a (told t.world a)) out p
+    → new ≡ old ++ stepped_text a (desk_told taken.desk a) → new ≡ old ++ stepped_text a (desk_told s.desk a)
+printed_by s taken a old new out p = subst (λ (t : Stage). new ≡ old ++ stepped_text a (desk_told t.desk a)) out p
 
 -- a round that owes nothing
 pub free_stepped : {s taken moved : Stage} {a : ℕ} {old new : List ℕ} → HasMoved s taken moved a Free old new
     → Prints old new (λ text. Steps true s a text moved)
 free_stepped {s} {taken} {moved} {a} {old} {new} h =
-    let text = said_text a (told s.world a) in
+    let text = stepped_text a (desk_told s.desk a) in
     let next = moved_by s taken moved a h.out h.moved_on in
     (text, subst (λ d. StepsBy true s a d text moved) h.owed (refl, next), printed_by s taken a old new h.out h.printed)
 
 -- the pop of a worker, which then owes what it took
 pub works_stepped : {s taken moved after : Stage} {a : ℕ} {what : Said Message} {duty : Duty} {old new : List ℕ}
-    → HasMoved s taken moved a Works old new → what ≡ told taken.world a → duty ≡ work_after what → after ≡ with_duty moved a duty
+    → HasMoved s taken moved a Works old new → what ≡ (desk_told taken.desk a).said → duty ≡ work_after what → after ≡ with_duty moved a duty
     → Prints old new (λ text. Steps true s a text after)
 works_stepped {s} {taken} {moved} {after} {a} {what} {duty} {old} {new} h said owes in_place =
-    let text = said_text a (told s.world a) in
-    let now = work_after (told s.world a) in
-    let due : duty ≡ now = owes ∙ (ap work_after said ∙ ap (λ (t : Stage). work_after (told t.world a)) h.out) in
-    let went : Stage = with_world s (stepped s.world a) in
+    let text = stepped_text a (desk_told s.desk a) in
+    let now = work_after (desk_told s.desk a).said in
+    let due : duty ≡ now = owes ∙ (ap work_after said ∙ ap (λ (t : Stage). work_after (desk_told t.desk a).said) h.out) in
+    let went : Stage = with_desk s (desk_stepped s.desk a) in
     let twice : with_duty (with_duty went a Free) a now ≡ with_duty went a now =
-    ap (λ ds. let r : Stage = record { world = stepped s.world a; duties = ds; memory = s.memory } in r) (set-set s.duties a Free now) in
+    ap (λ ds. let r : Stage = record { desk = desk_stepped s.desk a; duties = ds; memory = s.memory } in r) (set-set s.duties a Free now) in
     let next : after ≡ with_duty went a now =
     in_place ∙ (ap (λ (t : Stage). with_duty t a duty) (moved_by s taken moved a h.out h.moved_on)
     ∙ (ap (λ d. with_duty (with_duty went a Free) a d) due ∙ twice)) in

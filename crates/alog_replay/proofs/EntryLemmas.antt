@@ -56,6 +56,17 @@ by_none_given {name} {text} {row} line rest cut e found none other =
     (λ command s. let h : SpellsRow (Some row) rest command = subst (λ x. SpellsRow x rest command) (ap (row_named rows) e
     ∙ found) s in other h.0 h.1)
 
+-- a line whose first word is a row's name spells what that row's arguments spell
+pub by_found : {name text : List ℕ} {row : Row} {r : Option Command} (line : List ℕ) (rest : Option (List ℕ)) → IsCut line name rest
+    → name ≡ text → row_named rows text ≡ Some row → ((command : Command) → (r ≡ Some command) ↔ SpellsRow (Some row) rest command)
+    → (command : Command) → (r ≡ Some command) ↔ Spells line command
+by_found {name} {text} {row} {r} line rest cut e found is command =
+    let here : row_named rows name ≡ Some row = ap (row_named rows) e ∙ found in
+    (
+      (λ h. (name, rest, cut, subst (λ x. SpellsRow x rest command) (sym here) ((is command).0 h))),
+      (λ s. (is command).1 (subst (λ x. SpellsRow x rest command) here (row_of_line line name rest command cut s))),
+    )
+
 unnamed : (name : List ℕ) (rest : Option (List ℕ)) (command : Command) → row_named rows name ≡ None
     → SpellsRow (row_named rows name) rest command → ⊥
 unnamed name rest command e s = subst (λ r. SpellsRow r rest command) e s

@@ -15,7 +15,7 @@ use Rattle.alog_sink.specs.Opened.{Opened}
 use Rattle.alog_sink.specs.declared.face.Face.{Face}
 use Rattle.alog_sink.specs.declared.sink.Sink.{Sink}
 use Rattle.alog_sink.specs.declared.target.Target.TheVariants.{Memory}
-use Rattle.alog_core.specs.World.{Machine, fresh}
+use Rattle.alog_policy.specs.Desk.{DeskView, fresh_desk}
 use Rattle.alog_core.specs.declared.TheConstants.{ACTORS}
 use Rattle.alog_msg.specs.declared.message.Message.{Message}
 use Rattle.alog_replay.specs.Memory.{MemoryFile, memory_name, no_file}
@@ -47,13 +47,13 @@ opened_sink {S} tells files face opening sink capacity tells_all o level reading
       room = subst (λ (f : Face). longest f.pattern ≡ capacity) (sym same) room;
     })
 
-abbrev pub stage_of : Machine Message → List Duty → MemoryFile → Stage
-stage_of world duties memory = record { world = world; duties = duties; memory = memory }
+abbrev pub stage_of : DeskView Message → List Duty → MemoryFile → Stage
+stage_of desk duties memory = record { desk = desk; duties = duties; memory = memory }
 
-pub opened_stage : (world : Machine Message) (duties : List Duty) (memory : MemoryFile) (n places first : ℕ)
-    → world ≡ fresh places first → duties ≡ replicate n Free → n ≡ ACTORS → memory ≡ no_file
-    → stage_of world duties memory ≡ opened places first
-opened_stage world duties memory n places first w d e m =
+pub opened_stage : (desk : DeskView Message) (duties : List Duty) (memory : MemoryFile) (n places first : ℕ)
+    → desk ≡ fresh_desk places first → duties ≡ replicate n Free → n ≡ ACTORS → memory ≡ no_file
+    → stage_of desk duties memory ≡ opened places first
+opened_stage desk duties memory n places first w d e m =
     ap (λ x. stage_of x duties memory) w
-    ∙ (ap (λ x. stage_of (fresh places first) x memory) (d ∙ ap (λ (k : ℕ). replicate k Free) e)
-    ∙ ap (λ x. stage_of (fresh places first) (replicate ACTORS Free) x) m)
+    ∙ (ap (λ x. stage_of (fresh_desk places first) x memory) (d ∙ ap (λ (k : ℕ). replicate k Free) e)
+    ∙ ap (λ x. stage_of (fresh_desk places first) (replicate ACTORS Free) x) m)

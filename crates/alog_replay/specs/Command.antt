@@ -5,9 +5,11 @@ use Rattle.std.specs.Prelude.{◌≡◌, ◌≤◌, ◌-◌, ◌^◌, ◌++◌, 
 use Rattle.std.specs.Str.{bytes_eq}
 use Rattle.std.specs.Str.Parse.{IsNumeral, digits_value}
 use Rattle.alog_core.specs.declared.TheConstants.{ACTORS}
+use Rattle.alog_policy.specs.declared.policy.Policy.{Policy}
+use Rattle.alog_policy.specs.declared.policy.Policy.TheVariants.{Block, OverrunOldest, DiscardNew}
 use Rattle.alog_replay.specs.Cut.{tail_of, IsCut}
 use Rattle.alog_replay.specs.declared.limits.TheConstants.{STEPS_MAX}
-use Rattle.alog_replay.specs.declared.command.Act.TheVariants.{Ring, Push, Pop, Work, Cells}
+use Rattle.alog_replay.specs.declared.command.Act.TheVariants.{Ring, Push, Pop, Work, Post, Cells, Counts}
 use Rattle.alog_replay.specs.declared.command.Command.{Command}
 use Rattle.alog_replay.specs.declared.command.Command.TheVariants.{Acts, Step, Run}
 
@@ -28,11 +30,18 @@ abbrev pub SpellsCount : Option (List ℕ) → ℕ → Type 0
 SpellsCount None count = count ≡ 1
 SpellsCount (Some digits) count = SpellsNumber 1 STEPS_MAX digits count
 
+-- the names of the policies
+abbrev pub policy_name : Policy → List ℕ
+policy_name Block = codes "block"
+policy_name OverrunOldest = codes "overrun_oldest"
+policy_name DiscardNew = codes "discard_new"
+
 -- the forms of arguments
 pub data Form : Type 0 where
   TwoNumbers : Form
   ActorAlone : Form
   ActorAndText : Form
+  ActorPolicyAndText : Form
   ActorAndCount : Form
   NoArgument : Form
 
@@ -41,6 +50,7 @@ abbrev pub Given : Form → Type 0
 Given TwoNumbers = ℕ × ℕ
 Given ActorAlone = ℕ
 Given ActorAndText = ℕ × List ℕ
+Given ActorPolicyAndText = ℕ × Policy × List ℕ
 Given ActorAndCount = ℕ × ℕ
 Given NoArgument = Unit {0}
 
@@ -52,6 +62,9 @@ SpellsForm ActorAlone None g = ⊥
 SpellsForm ActorAlone (Some digits) g = SpellsActor digits g
 SpellsForm ActorAndText rest g =
     (a : List ℕ) × (t : Option (List ℕ)) × (rest ≡ Some (a ++ tail_of t)) × SpellsActor a g.0 × (g.1 ≡ unwrap_or t [])
+SpellsForm ActorPolicyAndText rest g =
+    (a : List ℕ) × (t : Option (List ℕ)) × (rest ≡ Some (a ++ 32 ∷ (policy_name g.1 ++ tail_of t))) × SpellsActor a g.0
+    × (g.2 ≡ unwrap_or t [])
 SpellsForm ActorAndCount rest g =
     (a : List ℕ) × (t : Option (List ℕ)) × (rest ≡ Some (a ++ tail_of t)) × SpellsActor a g.0 × SpellsCount t g.1
 SpellsForm NoArgument rest g = rest ≡ None
@@ -69,7 +82,9 @@ rows =
     ∷ record { name = codes "push"; form = ActorAndText; command = λ g. Acts (Push g.0 g.1) }
     ∷ record { name = codes "pop"; form = ActorAlone; command = λ actor. Acts (Pop actor) }
     ∷ record { name = codes "work"; form = ActorAlone; command = λ actor. Acts (Work actor) }
+    ∷ record { name = codes "post"; form = ActorPolicyAndText; command = λ g. Acts (Post g.0 g.1 g.2) }
     ∷ record { name = codes "cells"; form = NoArgument; command = λ none. Acts Cells }
+    ∷ record { name = codes "counts"; form = NoArgument; command = λ none. Acts Counts }
     ∷ record { name = codes "step"; form = ActorAndCount; command = λ g. Step g.0 g.1 }
     ∷ record { name = codes "run"; form = ActorAlone; command = λ actor. Run actor }
     ∷ []

@@ -1,15 +1,16 @@
--- The scene of a script without a configuration: no queue before the line `ring`, and then the stepped queue with its
+-- The scene of a script without a configuration: no queue before the line `ring`, and then the stepped queue with its posts and its
 -- memory file, whose store may fail or not.
 use Rattle.std.specs.Prelude.{◌≡◌, refl, ◌&&◌, ℕ, nat_lt, Bool, true, false, Option, None, Some, List, []}
 use Rattle.alog_core.specs.Queue.{last}
-use Rattle.alog_core.specs.World.{is_size, stepped, told}
+use Rattle.alog_core.specs.World.{is_size}
+use Rattle.alog_policy.specs.Desk.{desk_told, desk_stepped}
 use Rattle.alog_replay.specs.Scene.{Scene, GoesOn}
 use Rattle.alog_replay.specs.Script.{Told, ScriptTells}
 use Rattle.alog_replay.specs.Memory.{MemoryFile, Turns, with_bytes, line}
-use Rattle.alog_replay.specs.Session.{Stage, opened, is_free, may_push, pushing, popping, Steps, StepsBy, cells_text, file_text}
-use Rattle.alog_replay.specs.Session.{duty_of, said_text, turn_text, with_duty, with_world, with_memory, work_after}
+use Rattle.alog_replay.specs.Session.{Stage, opened, is_free, may_push, pushing, popping, posting, Steps, StepsBy, cells_text, counts_text}
+use Rattle.alog_replay.specs.Session.{duty_of, stepped_text, turn_text, file_text, with_duty, with_desk, with_memory, work_after}
 use Rattle.alog_replay.specs.declared.command.Act.{Act}
-use Rattle.alog_replay.specs.declared.command.Act.TheVariants.{Ring, Push, Pop, Work, Cells}
+use Rattle.alog_replay.specs.declared.command.Act.TheVariants.{Ring, Push, Pop, Work, Post, Cells, Counts}
 use Rattle.alog_replay.specs.declared.duty.Duty.{Duty}
 use Rattle.alog_replay.specs.declared.duty.Duty.TheVariants.{Free, Works, Owes}
 
@@ -24,7 +25,9 @@ may_do None (Ring places first) = is_size places && nat_lt first last
 may_do (Some s) (Push actor text) = may_push s actor text
 may_do (Some s) (Pop actor) = is_free s actor
 may_do (Some s) (Work actor) = is_free s actor
+may_do (Some s) (Post actor policy text) = may_push s actor text
 may_do (Some s) Cells = true
+may_do (Some s) Counts = true
 may_do s _ = false
 
 -- what an act prints that is not refused, and the stage after it
@@ -33,7 +36,9 @@ after_act None (Ring places first) = ([], Some (opened places first))
 after_act (Some s) (Push actor text) = ([], Some (pushing s actor text))
 after_act (Some s) (Pop actor) = ([], Some (popping s actor Free))
 after_act (Some s) (Work actor) = ([], Some (popping s actor Works))
+after_act (Some s) (Post actor policy text) = ([], Some (posting s actor policy text))
 after_act (Some s) Cells = (cells_text s, Some s)
+after_act (Some s) Counts = (counts_text s.desk.counts, Some s)
 after_act s _ = ([], s)
 
 -- what a step of an actor in a call prints, and the stage after it
@@ -69,9 +74,10 @@ some_turn true false bytes text = (true, record { bytes = with_bytes bytes (line
 some_turn true true bytes text = (false, record { bytes = bytes; broken = true }, (refl, refl, refl))
 
 some_step : (may_fail : Bool) (s : Stage) (a : ℕ) (duty : Duty) → (text : List ℕ) × (next : Stage) × StepsBy may_fail s a duty text next
-some_step may_fail s a Free = (said_text a (told s.world a), with_duty (with_world s (stepped s.world a)) a Free, (refl, refl))
+some_step may_fail s a Free =
+    (stepped_text a (desk_told s.desk a), with_duty (with_desk s (desk_stepped s.desk a)) a Free, (refl, refl))
 some_step may_fail s a Works =
-    (said_text a (told s.world a), with_duty (with_world s (stepped s.world a)) a (work_after (told s.world a)), (refl, refl))
+    (stepped_text a (desk_told s.desk a), with_duty (with_desk s (desk_stepped s.desk a)) a (work_after (desk_told s.desk a).said), (refl, refl))
 some_step may_fail s a (Owes t m) =
     let turn = some_turn may_fail s.memory.broken s.memory.bytes m.text in
     (turn_text a t turn.0, with_duty (with_memory s turn.1) a Free, (turn.0, turn.1, turn.2, refl, refl))

@@ -1,9 +1,9 @@
--- A queue under a script: the stepped queue, what its actors owe, and the memory file.
+-- A queue under a script: the stepped queue with posts, what its actors owe, and the memory file.
 use Rattle.std.specs.Prelude.{◌≡◌, ℕ, pos, ◌&&◌, nat_le, Bool, true, false, Option, Some, None, List, [], ◌∷◌, ◌++◌}
 use Rattle.std.specs.Prelude.{length, map, replicate, slice_index_or, slice_set, codes}
 use Rattle.std.specs.Fmt.{decimal}
 use Rattle.std.specs.List.{flat_map}
-use Rattle.alog_core.specs.World.{Machine, is_idle, fresh, round_of, began, stepped, told, shown}
+use Rattle.alog_core.specs.World.{is_idle, round_of, shown}
 use Rattle.alog_core.specs.declared.TheConstants.{ACTORS}
 use Rattle.alog_core.specs.declared.mark.Mark.{Mark}
 use Rattle.alog_core.specs.declared.mark.Mark.TheVariants as mark
@@ -11,6 +11,14 @@ use Rattle.alog_core.specs.declared.round.Round.TheVariants as round
 use Rattle.alog_core.specs.declared.said.Said.{Said}
 use Rattle.alog_core.specs.declared.said.Said.TheVariants as said
 use Rattle.alog_core.specs.declared.said.CellView.{CellView}
+use Rattle.alog_policy.specs.Desk.{DeskView, fresh_desk, call_began, post_began, desk_told, desk_stepped}
+use Rattle.alog_policy.specs.declared.counts.Counts.{Counts}
+use Rattle.alog_policy.specs.declared.policy.Policy.{Policy}
+use Rattle.alog_policy.specs.declared.policy.Why.{Why}
+use Rattle.alog_policy.specs.declared.policy.Why.TheVariants as why
+use Rattle.alog_policy.specs.declared.policy.Outcome.{Outcome}
+use Rattle.alog_policy.specs.declared.policy.Outcome.TheVariants.{Posted, Discarded}
+use Rattle.alog_policy.specs.declared.post.Stepped.{Stepped}
 use Rattle.alog_msg.specs.declared.limits.TheConstants.{DEFAULT_TEXT_LIMIT}
 use Rattle.alog_msg.specs.declared.level.Level.TheVariants.{Info}
 use Rattle.alog_msg.specs.declared.message.Message.{Message}
@@ -19,15 +27,15 @@ use Rattle.alog_replay.specs.declared.duty.Duty.{Duty}
 use Rattle.alog_replay.specs.declared.duty.Duty.TheVariants.{Free, Works, Owes}
 
 pub record Stage : Type 0 where
-  pub world : Machine Message
+  pub desk : DeskView Message
   -- what each actor owes beside its round
   pub duties : List Duty
   -- the memory file
   pub memory : MemoryFile
 
--- an empty queue, nobody in a call, and no file
+-- an empty queue, nobody in a call, no loss, and no file
 abbrev pub opened : ℕ → ℕ → Stage
-opened places first = record { world = fresh places first; duties = replicate ACTORS Free; memory = no_file }
+opened places first = record { desk = fresh_desk places first; duties = replicate ACTORS Free; memory = no_file }
 
 abbrev pub duty_of : Stage → ℕ → Duty
 duty_of s a = slice_index_or s.duties a Free
@@ -39,7 +47,7 @@ owes_nothing (Owes t m) = false
 
 -- the actor is in no call
 abbrev pub is_free : Stage → ℕ → Bool
-is_free s a = is_idle (round_of s.world a) && owes_nothing (duty_of s a)
+is_free s a = is_idle (round_of s.desk.world a) && owes_nothing (duty_of s a)
 
 -- a pushed text as a message
 abbrev pub message_of : ℕ → List ℕ → Message
@@ -53,7 +61,7 @@ line_of a words = decimal a ++ (32 ∷ words ++ 10 ∷ [])
 abbrev pub ticket_line : ℕ → List ℕ → ℕ → List ℕ
 ticket_line a event t = line_of a (event ++ 32 ∷ decimal t)
 
--- what is printed of a step
+-- what is printed of what a step was
 abbrev pub said_text : ℕ → Said Message → List ℕ
 said_text a said.Nothing = []
 said_text a (said.Claim t) = ticket_line a (codes "claim") t
@@ -64,6 +72,31 @@ said_text a (said.Take t m) = line_of a (codes "take" ++ (32 ∷ decimal t ++ 32
 said_text a (said.Empty t) = ticket_line a (codes "empty") t
 said_text a (said.Busy t m) = ticket_line a (codes "busy") t
 said_text a (said.Spent m) = line_of a (codes "spent")
+
+-- why a post was discarded
+abbrev pub why_name : Why → List ℕ
+why_name why.Full = codes "full"
+why_name why.Stalled = codes "stalled"
+why_name why.Busy = codes "busy"
+why_name why.Spent = codes "spent"
+
+-- the end of the line of a post: how many items it overran
+abbrev pub overran_text : ℕ → List ℕ
+overran_text k = codes " overran " ++ (decimal k ++ 10 ∷ [])
+
+-- what is printed of how a post ended
+abbrev pub outcome_text : ℕ → Outcome Message → List ℕ
+outcome_text a (Posted t k) = decimal a ++ (codes " posted " ++ (decimal t ++ overran_text k))
+outcome_text a (Discarded m w k) = decimal a ++ (codes " discarded " ++ (why_name w ++ overran_text k))
+
+-- what is printed of a step with which a post ended, or none did
+abbrev pub ended_text : ℕ → Option (Outcome Message) → List ℕ
+ended_text a None = []
+ended_text a (Some o) = outcome_text a o
+
+-- what is printed of a step: what it was, and then how the actor's post ended, if it did
+abbrev pub stepped_text : ℕ → Stepped Message → List ℕ
+stepped_text a s = said_text a s.said ++ ended_text a s.outcome
 
 -- how a turn that wrote is named, and one that failed
 abbrev pub turn_name : Bool → List ℕ
@@ -86,25 +119,26 @@ work_after (said.Empty t) = Free
 work_after (said.Busy t m) = Free
 work_after (said.Spent m) = Free
 
--- the stage where only the world has moved, or only what an actor owes, or only the file
-abbrev pub with_world : Stage → Machine Message → Stage
-with_world s world = record { world = world; duties = s.duties; memory = s.memory }
+-- the stage where only the queue has moved, or only what an actor owes, or only the file
+abbrev pub with_desk : Stage → DeskView Message → Stage
+with_desk s desk = record { desk = desk; duties = s.duties; memory = s.memory }
 
 abbrev pub with_duty : Stage → ℕ → Duty → Stage
-with_duty s a duty = record { world = s.world; duties = slice_set s.duties a duty; memory = s.memory }
+with_duty s a duty = record { desk = s.desk; duties = slice_set s.duties a duty; memory = s.memory }
 
 abbrev pub with_memory : Stage → MemoryFile → Stage
-with_memory s memory = record { world = s.world; duties = s.duties; memory = memory }
+with_memory s memory = record { desk = s.desk; duties = s.duties; memory = memory }
 
--- the next step of an actor's round, after which it owes this
+-- the next step of an actor's push, pop or post, after which it owes this
 abbrev pub RoundSteps : Stage → ℕ → Duty → List ℕ → Stage → Type 0
 RoundSteps s a duty text next =
-    (text ≡ said_text a (told s.world a)) × (next ≡ with_duty (with_world s (stepped s.world a)) a duty)
+    (text ≡ stepped_text a (desk_told s.desk a)) × (next ≡ with_duty (with_desk s (desk_stepped s.desk a)) a duty)
 
--- one step of an actor in a call, where the store may fail or not: the turn that it owes, or else the next step of its round
+-- one step of an actor in a call, where the store may fail or not: the turn that it owes, or else the next step of its
+-- push, pop or post
 abbrev pub StepsBy : Bool → Stage → ℕ → Duty → List ℕ → Stage → Type 0
 StepsBy may_fail s a Free text next = RoundSteps s a Free text next
-StepsBy may_fail s a Works text next = RoundSteps s a (work_after (told s.world a)) text next
+StepsBy may_fail s a Works text next = RoundSteps s a (work_after (desk_told s.desk a).said) text next
 StepsBy may_fail s a (Owes t m) text next =
     (written : Bool) × (memory : MemoryFile) × Turns may_fail s.memory m.text written memory
     × (text ≡ turn_text a t written) × (next ≡ with_duty (with_memory s memory) a Free)
@@ -114,12 +148,15 @@ Steps may_fail s a text next = StepsBy may_fail s a (duty_of s a) text next
 
 -- the stage with an actor's call begun
 abbrev pub pushing : Stage → ℕ → List ℕ → Stage
-pushing s a text = with_duty (with_world s (began s.world a (round.Push (message_of a text)))) a Free
+pushing s a text = with_duty (with_desk s (call_began s.desk a (round.Push (message_of a text)))) a Free
 
 abbrev pub popping : Stage → ℕ → Duty → Stage
-popping s a duty = with_duty (with_world s (began s.world a round.Pop)) a duty
+popping s a duty = with_duty (with_desk s (call_began s.desk a round.Pop)) a duty
 
--- an actor in no call may push this text
+abbrev pub posting : Stage → ℕ → Policy → List ℕ → Stage
+posting s a p text = with_duty (with_desk s (post_began s.desk a p (message_of a text))) a Free
+
+-- an actor in no call may push this text, or post it
 abbrev pub may_push : Stage → ℕ → List ℕ → Bool
 may_push s a text = is_free s a && nat_le (length text) DEFAULT_TEXT_LIMIT
 
@@ -136,7 +173,11 @@ abbrev pub cells_line : List CellView → List ℕ
 cells_line cells = codes "cells" ++ (flat_map cell_text cells ++ 10 ∷ [])
 
 abbrev pub cells_text : Stage → List ℕ
-cells_text s = cells_line (map shown s.world.queue.cells)
+cells_text s = cells_line (map shown s.desk.world.queue.cells)
+
+-- the losses as they are printed
+abbrev pub counts_text : Counts → List ℕ
+counts_text c = codes "overrun " ++ (decimal c.overrun ++ (codes " discarded " ++ (decimal c.discarded ++ 10 ∷ [])))
 
 -- the memory file as it is printed at the end: nothing where it was not made
 abbrev pub file_text : Option (List ℕ) → List ℕ

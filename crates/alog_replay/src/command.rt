@@ -1,6 +1,7 @@
 ghost use Rattle.std.specs.Prelude.{◌≡◌, ◌<◌};
 
 use alog_core::ACTORS;
+use alog_policy::Policy;
 use std::marker::Model;
 
 /// A text that is lent. Contracts see it as the list of its bytes.
@@ -88,6 +89,14 @@ pub enum Act<'a> {
     Pop { actor: Actor },
     /// An actor begins a pop, whose text then goes to the sinks.
     Work { actor: Actor },
+    /// An actor begins a post of a text under a policy.
+    Post {
+        actor: Actor,
+        policy: Policy,
+        text: TextRef<'a>,
+    },
     /// The cells are printed.
     Cells,
+    /// The losses are printed.
+    Counts,
 }

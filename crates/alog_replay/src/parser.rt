@@ -1,14 +1,17 @@
 //! How a line is read as a command.
 ghost use Rattle.std.specs.Prelude.{◌≡◌, ◌≤◌, ◌↔◌, ℕ, List, IfSome, [], unwrap_or};
 ghost use Rattle.std.specs.Option.{option_copied};
-ghost use Rattle.alog_replay.specs.Command.{SpellsNumber, SpellsActor, SpellsCount, SpellsForm, Spells};
-ghost use Rattle.alog_replay.specs.Command.{TwoNumbers, ActorAlone, ActorAndText, ActorAndCount, NoArgument};
+ghost use Rattle.alog_replay.specs.Command.{SpellsNumber, SpellsActor, SpellsCount, SpellsForm, Spells, policy_name};
+ghost use Rattle.alog_replay.specs.Command.{Given, TwoNumbers, ActorAlone, ActorAndText, ActorPolicyAndText, ActorAndCount, NoArgument};
 ghost use Rattle.alog_replay.specs.Cut.{IsCut};
 ghost use Rattle.alog_replay.specs.declared.command.Command.{Command};
+ghost use Rattle.alog_replay.specs.declared.command.Command.TheVariants.{Acts};
+ghost use Rattle.alog_policy.specs.declared.policy.Policy.{Policy};
 
 use crate::command::{Act, Actor, Command, TextRef};
 use crate::limits::STEPS_MAX;
 use alog_core::ACTORS;
+use alog_policy::Policy;
 
 const ACTOR_MAX: u64 = ACTORS as u64 - 1;
 
@@ -36,10 +39,16 @@ pub fn parse(line: &str) -> Option<Command<'_>>
             let actor = actor_alone(rest)?;
             Some(Command::Acts(Act::Work { actor }))
         }
-        "cells" => {
-            no_argument(rest)?;
-            Some(Command::Acts(Act::Cells))
+        "post" => {
+            let (actor, policy, text) = actor_policy_and_text(rest)?;
+            Some(Command::Acts(Act::Post {
+                actor,
+                policy,
+                text,
+            }))
         }
+        "cells" => alone(rest, Act::Cells),
+        "counts" => alone(rest, Act::Counts),
         "step" => {
             let (actor, count) = actor_and_count(rest)?;
             Some(Command::Step { actor, count })
@@ -121,6 +130,29 @@ fn actor_and_text(rest: Option<&str>) -> Option<(Actor, TextRef<'_>)>
     Some((actor, text))
 }
 
+fn policy(word: &str) -> Option<Policy>
+    ensures { (policy : Policy) → (result ≡ Some policy) ↔ (word.now ≡ policy_name policy) }
+{
+    match word {
+        "block" => Some(Policy::Block),
+        "overrun_oldest" => Some(Policy::OverrunOldest),
+        "discard_new" => Some(Policy::DiscardNew),
+        _ => None,
+    }
+}
+
+fn actor_policy_and_text(rest: Option<&str>) -> Option<(Actor, Policy, TextRef<'_>)>
+    ensures { (given : ℕ × Policy × List ℕ) → (result ≡ Some given)
+        ↔ SpellsForm ActorPolicyAndText (option_copied rest.entry) given }
+{
+    let (first, more) = cut(rest?);
+    let actor = actor(first)?;
+    let (second, text) = cut(more?);
+    let policy = policy(second)?;
+    let text = text_or_empty(text);
+    Some((actor, policy, text))
+}
+
 fn text_or_empty(rest: Option<&str>) -> TextRef<'_>
     ensures { result ≡ unwrap_or (option_copied rest.entry) [] }
 {
@@ -139,11 +171,13 @@ fn actor_and_count(rest: Option<&str>) -> Option<(Actor, u32)>
     Some((actor, count))
 }
 
-fn no_argument(rest: Option<&str>) -> Option<()>
-    ensures { (given : Unit {0}) → (result ≡ Some given) ↔ SpellsForm NoArgument (option_copied rest.entry) given }
+// A command without an argument.
+fn alone<'a>(rest: Option<&str>, act: Act<'a>) -> Option<Command<'a>>
+    ensures { (command : Command) → (result ≡ Some command)
+        ↔ ((given : Given NoArgument) × SpellsForm NoArgument (option_copied rest.entry) given × (Acts act.entry ≡ command)) }
 {
     match rest {
         Some(_) => None,
-        None => Some(()),
+        None => Some(Command::Acts(act)),
     }
 }

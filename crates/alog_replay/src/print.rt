@@ -1,14 +1,62 @@
-//! What is printed of steps, turns, cells and the memory file.
+//! What is printed of steps, ends of posts, turns, cells, losses and the memory file.
 ghost use Rattle.std.specs.Prelude.{◌≡◌, ◌++◌, ◌∷◌, OnOk, string_bytes};
 ghost use Rattle.std.specs.Option.{option_map};
-ghost use Rattle.alog_replay.specs.Session.{said_text, turn_text, mark_name, file_text, cells_line};
+ghost use Rattle.alog_replay.specs.Session.{said_text, stepped_text, outcome_text, why_name};
+ghost use Rattle.alog_replay.specs.Session.{turn_text, mark_name, file_text, cells_line, counts_text};
 
 use crate::pushed::Pushed;
 use alog_core::{CellView, Mark, Said};
+use alog_policy::{Counts, Outcome, Stepped, Why};
 use std::alloc::{AllocError, Global};
 
+/// Prints the line of a step, if it was an event, and then the line of how the actor's post ended, if it did.
+pub fn print_stepped(
+    out: &mut String,
+    actor: u8,
+    stepped: &Stepped<Pushed>,
+) -> Result<(), AllocError>
+    ensures { OnOk result (string_bytes out.new ≡ string_bytes out.old ++ stepped_text actor stepped.now) }
+{
+    print_said(out, actor, &stepped.said)?;
+    match &stepped.outcome {
+        Some(outcome) => print_outcome(out, actor, outcome),
+        None => Ok(()),
+    }
+}
+
+/// Prints the line of how a post ended.
+fn print_outcome(
+    out: &mut String,
+    actor: u8,
+    outcome: &Outcome<Pushed>,
+) -> Result<(), AllocError>
+    ensures { OnOk result (string_bytes out.new ≡ string_bytes out.old ++ outcome_text actor outcome.now) }
+{
+    match outcome {
+        Outcome::Posted { ticket, overran } => {
+            writeln!(out, "{actor} posted {ticket} overran {overran}")
+        }
+        Outcome::Discarded { why, overran, .. } => {
+            let why = why_name(*why);
+            writeln!(out, "{actor} discarded {why} overran {overran}")
+        }
+    }
+}
+
+/// The name of why a post was discarded.
+fn why_name(why: Why) -> &'static str
+    ensures { result.now ≡ why_name why }
+{
+    match why {
+        Why::Full => "full",
+        Why::Stalled => "stalled",
+        Why::Busy => "busy",
+        Why::Spent => "spent",
+    }
+}
+
 /// Prints the line of a step, or nothing for a step that is no event.
-pub fn print_said(out: &mut String, actor: u8, said: &Said<Pushed>) -> Result<(), AllocError>
+fn print_said(out: &mut String, actor: u8, said: &Said<Pushed>) -> Result<(), AllocError>
     ensures { OnOk result (string_bytes out.new ≡ string_bytes out.old ++ said_text actor said.now) }
 {
     match said {
@@ -60,6 +108,14 @@ fn mark_name(mark: Mark) -> &'static str
         Mark::Written => "written",
         Mark::Emptying => "emptying",
     }
+}
+
+/// Prints the line of the losses.
+pub fn print_counts(out: &mut String, counts: Counts) -> Result<(), AllocError>
+    ensures { OnOk result (string_bytes out.new ≡ string_bytes out.old ++ counts_text counts) }
+{
+    let Counts { overrun, discarded } = counts;
+    writeln!(out, "overrun {overrun} discarded {discarded}")
 }
 
 /// Prints the memory file with its name and length, or nothing where it was not made.

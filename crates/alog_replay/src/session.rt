@@ -1,13 +1,14 @@
-//! A queue under a script: the stepped queue, what its actors owe, and the sink of its memory file.
+//! A queue under a script: the stepped queue with posts, what its actors owe, and the sink of its memory file.
 ghost use Rattle.std.specs.Prelude.{◌≡◌, ◌↔◌, ◌++◌, true, false, nat_lt, ◌&&◌, Some};
 ghost use Rattle.std.specs.Prelude.{IfOk, IfErr, IsErr, OnOk, IsErrOf, string_bytes};
 ghost use Rattle.alog_core.specs.Queue.{last};
-ghost use Rattle.alog_core.specs.World.{is_size, is_idle, round_of, told, stepped};
+ghost use Rattle.alog_core.specs.World.{is_size, is_idle, round_of};
 ghost use Rattle.alog_core.specs.declared.said.Said.{Said};
+ghost use Rattle.alog_policy.specs.Desk.{desk_told, desk_stepped};
 ghost use Rattle.alog_sink.specs.Files.{AreSame, no_files};
 ghost use Rattle.alog_replay.specs.Memory.{memory_name};
-ghost use Rattle.alog_replay.specs.Session.{opened, is_free, may_push, pushing, popping, duty_of, with_duty, with_world};
-ghost use Rattle.alog_replay.specs.Session.{said_text, work_after, Steps, cells_text};
+ghost use Rattle.alog_replay.specs.Session.{opened, is_free, may_push, pushing, popping, posting, duty_of, with_duty};
+ghost use Rattle.alog_replay.specs.Session.{with_desk, stepped_text, work_after, Steps, cells_text};
 ghost use Rattle.alog_replay.specs.Scene.{Prints};
 ghost use Rattle.alog_replay.specs.Plain.{plain};
 
@@ -15,9 +16,10 @@ use crate::command::{Act, Actor};
 use crate::duty::Duty;
 use crate::error::LineError;
 use crate::memory::MemorySink;
-use crate::print::{print_cells, print_said, print_turn};
+use crate::print::{print_cells, print_counts, print_stepped, print_turn};
 use crate::pushed::Pushed;
-use alog_core::{ACTORS, Said, World};
+use alog_core::{ACTORS, Said};
+use alog_policy::{Desk, Policy};
 use alog_sink::Store;
 use std::alloc::{AllocError, Global};
 use std::marker::Model;
@@ -26,7 +28,7 @@ use std::mem;
 /// Contracts see it as the `Stage` of `specs/Session.antt`.
 #[derive(Drop)]
 pub struct Session<S: Store> {
-    world: World<Pushed>,
+    desk: Desk<Pushed>,
     duties: Vec<Duty>,
     memory: MemorySink<S>,
 }
@@ -38,27 +40,27 @@ impl<S: Store> Model for Session<S> {
 
     ghost Value = { Stage };
 
-    ghost view = { λ s. record { world = s.world; duties = s.duties.items; memory = s.memory } };
+    ghost view = { λ s. record { desk = s.desk; duties = s.duties.items; memory = s.memory } };
 
     ghost invariant = { λ s. length s.duties.items ≡ ACTORS };
 }
 
 impl<S: Store + Drop> Session<S> {
-    /// An empty queue, nobody in a call, and a store without files, which tells what its files have.
+    /// An empty queue, nobody in a call, no loss, and a store without files, which tells what its files have.
     pub fn open(alloc: Global, store: S, places: u64, first: u64) -> Result<Session<S>, LineError>
         requires tells { S.tells ≡ true }
         requires empty { AreSame no_files (S.files store) }
         ensures opened { IfOk result (λ s. s ≡ opened places first) }
         ensures refused { IsErrOf result LineError.Refused ↔ ((is_size places && nat_lt first last) ≡ false) }
     {
-        let world = World::new(alloc, places as usize, first)?;
+        let desk = Desk::new(alloc, places as usize, first)?;
         let mut duties = Vec::with_capacity(alloc, ACTORS as usize)?;
         for _ in 0..ACTORS {
             duties.push_reserved(Duty::Free);
         }
         let memory = MemorySink::open(alloc, store)?;
         Ok(Session {
-            world,
+            desk,
             duties,
             memory,
         })
@@ -69,7 +71,7 @@ impl<S: Store + Drop> Session<S> {
         ensures { result ≡ is_free self.now actor }
     {
         let owes = matches!(self.duties[usize::from(actor.number())], Duty::Owes { .. });
-        self.world.is_idle(u32::from(actor.number())) && !owes
+        self.desk.is_idle(u32::from(actor.number())) && !owes
     }
 
     /// An actor begins a push of a text of at most `DEFAULT_TEXT_LIMIT` bytes.
@@ -81,7 +83,27 @@ impl<S: Store + Drop> Session<S> {
             return Err(LineError::Refused);
         }
         let pushed = Pushed::new(alloc, actor, text)?;
-        self.world.begin_push(u32::from(actor.number()), pushed)?;
+        self.desk.begin_push(u32::from(actor.number()), pushed)?;
+        self.owe(actor, Duty::Free);
+        Ok(())
+    }
+
+    /// An actor begins a post, under a policy, of a text of at most `DEFAULT_TEXT_LIMIT` bytes.
+    pub fn post(
+        &mut self,
+        alloc: Global,
+        actor: Actor,
+        policy: Policy,
+        text: &str,
+    ) -> Result<(), LineError>
+        ensures begun { OnOk result (self.new ≡ posting self.old actor policy text.now) }
+        ensures refused { IsErrOf result LineError.Refused ↔ (may_push self.old actor text.now ≡ false) }
+    {
+        if !self.is_free(actor) {
+            return Err(LineError::Refused);
+        }
+        let pushed = Pushed::new(alloc, actor, text)?;
+        self.desk.begin_post(u32::from(actor.number()), policy, pushed)?;
         self.owe(actor, Duty::Free);
         Ok(())
     }
@@ -95,7 +117,7 @@ impl<S: Store + Drop> Session<S> {
         if !self.is_free(actor) {
             return Err(LineError::Refused);
         }
-        self.world.begin_pop(u32::from(actor.number()))?;
+        self.desk.begin_pop(u32::from(actor.number()))?;
         self.owe(actor, duty);
         Ok(())
     }
@@ -139,7 +161,13 @@ impl<S: Store + Drop> Session<S> {
             Act::Push { actor, text } => self.push(alloc, actor, text.as_str()),
             Act::Pop { actor } => self.pop(actor, Duty::Free),
             Act::Work { actor } => self.pop(actor, Duty::Works),
+            Act::Post {
+                actor,
+                policy,
+                text,
+            } => self.post(alloc, actor, policy, text.as_str()),
             Act::Cells => Ok(self.print_cells(alloc, out)?),
+            Act::Counts => Ok(print_counts(out, self.desk.counts())?),
         }
     }
 
@@ -147,7 +175,7 @@ impl<S: Store + Drop> Session<S> {
     fn print_cells(&self, alloc: Global, out: &mut String) -> Result<(), AllocError>
         ensures { OnOk result (string_bytes out.new ≡ string_bytes out.old ++ cells_text self.now) }
     {
-        let cells = self.world.cells(alloc)?;
+        let cells = self.desk.cells(alloc)?;
         print_cells(out, &cells)
     }
 
@@ -173,17 +201,18 @@ impl<S: Store + Drop> Session<S> {
         self.duties[usize::from(actor.number())] = duty;
     }
 
-    /// The next step of a round.
+    /// The next step of a push, a pop or a post.
     fn advance(&mut self, actor: Actor, out: &mut String) -> Result<Said<Pushed>, LineError>
-        requires in_call { is_idle (round_of self.old.world actor) ≡ false }
-        ensures said { IfOk result (λ said. said ≡ told self.old.world actor) }
-        ensures stepped { OnOk result (self.new ≡ with_world self.old (stepped self.old.world actor)) }
-        ensures printed { OnOk result (string_bytes out.new ≡ string_bytes out.old ++ said_text actor (told self.old.world actor)) }
+        requires in_call { is_idle (round_of self.old.desk.world actor) ≡ false }
+        ensures said { IfOk result (λ said. said ≡ (desk_told self.old.desk actor).said) }
+        ensures stepped { OnOk result (self.new ≡ with_desk self.old (desk_stepped self.old.desk actor)) }
+        ensures printed { OnOk result (string_bytes out.new
+            ≡ string_bytes out.old ++ stepped_text actor (desk_told self.old.desk actor)) }
         ensures cause { IfErr result (λ e. e ≡ LineError.OutOfMemory) }
     {
-        let said = self.world.step(u32::from(actor.number()))?;
-        print_said(out, actor.number(), &said)?;
-        Ok(said)
+        let stepped = self.desk.step(u32::from(actor.number()))?;
+        print_stepped(out, actor.number(), &stepped)?;
+        Ok(stepped.said)
     }
 }
 

@@ -10,6 +10,7 @@ use crate::print::print_file;
 use crate::scene::Playable;
 use crate::session::Session;
 use crate::{ReplayError, one_command, one_entry, one_text, replay};
+use alog_policy::Policy;
 use alog_sink::{FuseStore, MemStore};
 use std::alloc::{AllocError, Global};
 use std::io;
@@ -187,7 +188,31 @@ fn words_of_other_forms(rt: HostRuntime) {
     assert!(rt; is_refused("pop 1\r"));
     assert!(rt; is_refused(" pop 1"));
     assert!(rt; is_refused("cells "));
-    assert!(rt; is_refused("post 1 block a"));
+    assert!(rt; is_refused("counts 1"));
+}
+
+fn spells_post(line: &str, wanted: Policy, text_wanted: &str) -> bool {
+    matches!(&parse(line), Some(Command::Acts(Act::Post { actor, policy, text }))
+        if actor.number() == 1 && *policy == wanted && text.as_str() == text_wanted)
+}
+
+#[test]
+fn posts_and_counts(rt: HostRuntime) {
+    assert!(rt; spells_post("post 1 block a b", Policy::Block, "a b"));
+    assert!(rt; spells_post("post 01 overrun_oldest  a", Policy::OverrunOldest, " a"));
+    assert!(rt; spells_post("post 1 discard_new ", Policy::DiscardNew, ""));
+    assert!(rt; spells_post("post 1 block", Policy::Block, ""));
+    assert!(rt; matches!(&parse("counts"), Some(Command::Acts(Act::Counts))));
+    assert!(rt; is_refused("post"));
+    assert!(rt; is_refused("post 1"));
+    assert!(rt; is_refused("post 1 "));
+    assert!(rt; is_refused("post 1  block a"));
+    assert!(rt; is_refused("post 1 a"));
+    assert!(rt; is_refused("post 1 Block a"));
+    assert!(rt; is_refused("post 1 blocks a"));
+    assert!(rt; is_refused("post 1 block\t"));
+    assert!(rt; is_refused("post 64 block a"));
+    assert!(rt; is_refused("post block 1 a"));
 }
 
 #[test]

@@ -100,7 +100,7 @@ returns-in-Err-next-clause-post g c =
     ] in
     let l = c.in-Err-next.field-0 in
     subst
-    (λ (w : g.row.O-Value.Denot). PostsNow o.did o.is_fit c.args.policy (o.shows v) v c.args.outlet.now
+    (λ (w : g.row.O-Value.Denot). PostsNow o.did c.args.policy (o.shows v) v c.args.outlet.now
     c.count_discarded.new.self (Discarded w l.why l.overran)) (sym same)
     (posting_is_lost o.did o.is_fit g.met.O.Outlet.together (without_waiting c.args.policy) (o.shows v) v c.args.outlet.now now
     c.match-progress.outlet before c.loop-progress.invariant.posting l c.count_discarded.new.self led

@@ -1,7 +1,7 @@
 -- A post on an outlet, told of the desk that was lent.
 use Rattle.std.proofs.Common.{◌≡◌, ℕ, sym, subst, ◌∙◌}
 use Rattle.alog_policy.specs.Desk.{DeskView}
-use Rattle.alog_policy.specs.DeskOutlet.{IsFree, DeskDid}
+use Rattle.alog_policy.specs.DeskOutlet.{DeskDid}
 use Rattle.alog_policy.specs.Outlet.{PostsNow}
 use Rattle.alog_policy.specs.Post.{overran_in, discards_in}
 use Rattle.alog_policy.specs.declared.desk_outlet.DeskOutlet.{DeskOutlet}
@@ -13,8 +13,8 @@ outlet_posts : (a v : ℕ) (p : Policy) (out : Outcome ℕ) (o q : DeskOutlet �
     → PostsNow
     (λ (u : DeskOutlet ℕ) es k l w.
     (w.actor ≡ u.actor) × (w.desk.ghost_name ≡ u.desk.ghost_name) × DeskDid u.actor u.desk.now es k l w.desk.now)
-    (λ (u : DeskOutlet ℕ). IsFree u.desk.now u.actor) p v v o q out
-    → o.desk.now ≡ d → o.actor ≡ a → q.desk.now ≡ e → PostsNow (DeskDid a) (λ f. IsFree f a) p v v d e out
+    p v v o q out
+    → o.desk.now ≡ d → o.actor ≡ a → q.desk.now ≡ e → PostsNow (DeskDid a) p v v d e out
 outlet_posts a v p out o q d e posts same actor last =
     let es = posts.events in
     let k = overran_in out in

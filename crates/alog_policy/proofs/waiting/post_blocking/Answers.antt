@@ -71,7 +71,7 @@ returns-in-Err-Spent-clause-post g c =
     let now = c.loop.invariant.posting in
     let l = lost (begun Block) Spent in
     subst
-    (λ (w : g.row.O-Value.Denot). Posts o.did o.is_fit Block (o.shows v) v c.args.outlet.now c.count_discarded.new.self
+    (λ (w : g.row.O-Value.Denot). Posts o.did Block (o.shows v) v c.args.outlet.now c.count_discarded.new.self
     (Discarded w Spent 0)) (sym (refused.0 ∙ c.loop.invariant.value))
     (posting_is_lost o.did o.is_fit g.met.O.Outlet.together Block (o.shows v) v c.args.outlet.now c.loop.outlet
     c.push_once.new.self (begun Block) now l c.count_discarded.new.self

@@ -1,7 +1,7 @@
 use Rattle.std.proofs.Common.{refl}
 use Rattle.std.proofs.lemmas.Option.{none-some}
 use Rattle.alog_replay.specs.Command.{row_named}
-use Rattle.alog_replay.proofs.EntryLemmas.{by_row, by_no_row, by_none_given, no_row}
+use Rattle.alog_replay.proofs.EntryLemmas.{by_row, by_found, by_no_row, by_none_given, no_row}
 use Rattle.alog_replay.proofs.parser.parse.Goals as goal
 
 pub returns-in_err-size-in-ring : goal.returns-in_err-size-in-ring
@@ -43,15 +43,23 @@ pub returns-in_ok-actor-in-work : goal.returns-in_ok-actor-in-work
 unfolding row_named
 returns-in_ok-actor-in-work c = by_row _ _ _ c.cut.ensures c.in-work.is refl ((c.in_ok-actor-in-work.ensures _).0 refl)
 
-pub returns-in_err-no_argument-in-cells : goal.returns-in_err-no_argument-in-cells
+pub returns-in_err-actor-in-post : goal.returns-in_err-actor-in-post
 unfolding row_named
-returns-in_err-no_argument-in-cells c =
-    by_none_given _ _ c.cut.ensures c.in-cells.is refl c.from_residual-in_err-no_argument-in-cells.ensures
-    (λ g h. none-some _ ((c.in_err-no_argument-in-cells.ensures g).1 h))
+returns-in_err-actor-in-post c =
+    by_none_given _ _ c.cut.ensures c.in-post.is refl c.from_residual-in_err-actor-in-post.ensures
+    (λ g h. none-some _ ((c.in_err-actor-in-post.ensures g).1 h))
 
-pub returns-in_ok-no_argument-in-cells : goal.returns-in_ok-no_argument-in-cells
+pub returns-in_ok-actor-in-post : goal.returns-in_ok-actor-in-post
 unfolding row_named
-returns-in_ok-no_argument-in-cells c = by_row _ _ _ c.cut.ensures c.in-cells.is refl ((c.in_ok-no_argument-in-cells.ensures _).0 refl)
+returns-in_ok-actor-in-post c = by_row _ _ _ c.cut.ensures c.in-post.is refl ((c.in_ok-actor-in-post.ensures _).0 refl)
+
+pub returns-in-cells : goal.returns-in-cells
+unfolding row_named
+returns-in-cells c = by_found _ _ c.cut.ensures c.in-cells.is refl c.alone.ensures
+
+pub returns-in-counts : goal.returns-in-counts
+unfolding row_named
+returns-in-counts c = by_found _ _ c.cut.ensures c.in-counts.is refl c.alone-in-counts.ensures
 
 pub returns-in_err-actor-in-step : goal.returns-in_err-actor-in-step
 unfolding row_named
@@ -77,4 +85,4 @@ pub returns-in_default : goal.returns-in_default
 returns-in_default c =
     let d = c.in_default in
     by_no_row _ _ _ c.cut.ensures refl
-    (no_row _ _ (d.not-ring, (d.not-push, (d.not-pop, (d.not-work, (d.not-cells, (d.not-step, (d.not-run, tt))))))))
+    (no_row _ _ (d.not-ring, (d.not-push, (d.not-pop, (d.not-work, (d.not-post, (d.not-cells, (d.not-counts, (d.not-step, (d.not-run, tt))))))))))

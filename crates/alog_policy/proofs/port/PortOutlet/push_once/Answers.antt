@@ -1,5 +1,5 @@
 use Rattle.std.proofs.Common.{refl}
-use Rattle.alog_policy.proofs.Ports.{push_done, push_refused}
+use Rattle.alog_policy.proofs.Ports.{push_done, push_refused, push_fits}
 use Rattle.alog_policy.proofs.port.PortOutlet.push_once.Goals as goal
 
 pub returns-clause-pushed : goal.returns-clause-pushed
@@ -11,3 +11,6 @@ pub returns-clause-refused : goal.returns-clause-refused
 returns-clause-refused g c =
     push_refused c.args.self.now _ c.requires refl refl refl refl c.push_once.ensures.ring refl c.args.value c.push_once.result
     c.push_once.ensures.refused
+
+pub returns-clause-fit : goal.returns-clause-fit
+returns-clause-fit g c = push_fits c.args.self.now _ c.requires c.args.value c.push_once.result (returns-clause-pushed g c)

@@ -18,7 +18,7 @@ returns-in_ok-said-in-Works-clause-stepped g c =
 pub returns-in_ok-print_turn-in-Owes-clause-stepped : goal.returns-in_ok-print_turn-in-Owes-clause-stepped
 returns-in_ok-print_turn-in-Owes-clause-stepped g c =
     let i = c.self.inside in
-    let v : Stage = record { world = i.world; duties = i.duties.items; memory = i.memory } in
+    let v : Stage = record { desk = i.desk; duties = i.duties.items; memory = i.memory } in
     let next : c.match-pushed-2.self ≡ with_memory v c.take-written.new.self =
     elim c.match-pushed-2.branch [ in-Some-2 w ↦ w.self-is | in-None-2 w ↦ w.self-is ] in
     let printed = subst (λ (k : ℕ). string_bytes c.print_turn.new.out
