@@ -102,7 +102,13 @@ const STALLED: &str = "ring 2 0\npush 1 a\nstep 1 3\npush 2 b\nrun 2\n";
 
 const WRITTEN: &str = "1 claim 0\n2 claim 1\n2 write 1\n";
 
-fn posts<R: AllocGlobal + Abort>(rt: &R, front: &str, script: &str, before: &str, printed: &str) -> Result<(), Fail> {
+fn posts<R: AllocGlobal + Abort>(
+    rt: &R,
+    front: &str,
+    script: &str,
+    before: &str,
+    printed: &str,
+) -> Result<(), Fail> {
     let mut whole = String::from_str(rt.alloc(), front)?;
     whole.push_str(script)?;
     let mut text = String::from_str(rt.alloc(), before)?;

@@ -61,8 +61,7 @@ pub by_found : {name text : List ℕ} {row : Row} {r : Option Command} (line : L
     → name ≡ text → row_named rows text ≡ Some row → ((command : Command) → (r ≡ Some command) ↔ SpellsRow (Some row) rest command)
     → (command : Command) → (r ≡ Some command) ↔ Spells line command
 by_found {name} {text} {row} {r} line rest cut e found is command =
-    let here : row_named rows name ≡ Some row = ap (row_named rows) e ∙ found in
-    (
+    let here : row_named rows name ≡ Some row = ap (row_named rows) e ∙ found in (
       (λ h. (name, rest, cut, subst (λ x. SpellsRow x rest command) (sym here) ((is command).0 h))),
       (λ s. (is command).1 (subst (λ x. SpellsRow x rest command) here (row_of_line line name rest command cut s))),
     )

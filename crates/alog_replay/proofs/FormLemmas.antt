@@ -237,12 +237,17 @@ policy_or_none w = elim (name_or_not w (policy_name Block) _ refl) [
   ]
 ]
 
+is_spelled : (r a s w : List ℕ) (u : Option (List ℕ)) (n : ℕ) (p : Policy) → IsCut r a (Some s) → IsCut s w u → SpellsActor a n
+    → w ≡ policy_name p → SpellsForm ActorPolicyAndText (Some r) (n, p, unwrap_or u [])
+is_spelled r a s w u n p cut more is name =
+    let second : s ≡ policy_name p ++ tail_of u = more.0 ∙ ap (λ v. v ++ tail_of u) name in
+    (a, u, ap Some (cut.0 ∙ ap (λ x. a ++ 32 ∷ x) second), is, refl)
+
 post_or_none : (r a : List ℕ) (t : Option (List ℕ)) → IsCut r a t → Decided (SpellsForm ActorPolicyAndText (Some r))
 post_or_none r a None cut = inr (λ g h. none-some _ (post_more (Some r) r a None g refl cut h).1.1)
 post_or_none r a (Some s) cut = let c = cut_of s in elim (number_or_none 0 (ACTORS - 1) a) [
   | inl n ↦ elim (policy_or_none c.0) [
-    | inl p ↦ inl ((n.0, p.0, unwrap_or c.1 []), (a, c.1, ap Some (cut.0 ∙ ap (λ x. a ++ 32 ∷ x) (c.2.0
-        ∙ ap (λ v. v ++ tail_of c.1) p.1)), n.1, refl))
+    | inl p ↦ inl ((n.0, p.0, unwrap_or c.1 []), is_spelled r a s c.0 c.1 n.0 p.0 cut c.2 n.1 p.1)
     | inr other ↦ inr (λ g h. other g.1 (post_parts (Some r) r a s c.0 (Some s) c.1 g refl cut refl c.2 h).1)
   ]
   | inr other ↦ inr (λ g h. other g.0 (post_more (Some r) r a (Some s) g refl cut h).0)

@@ -82,13 +82,23 @@ pub enum Command<'a> {
 #[derive(Debug, Drop)]
 pub enum Act<'a> {
     /// The queue is to have this many places and this first ticket.
-    Ring { size: u64, first: u64 },
+    Ring {
+        size: u64,
+        first: u64,
+    },
     /// An actor begins a push of a text.
-    Push { actor: Actor, text: TextRef<'a> },
+    Push {
+        actor: Actor,
+        text: TextRef<'a>,
+    },
     /// An actor begins a pop.
-    Pop { actor: Actor },
+    Pop {
+        actor: Actor,
+    },
     /// An actor begins a pop, whose text then goes to the sinks.
-    Work { actor: Actor },
+    Work {
+        actor: Actor,
+    },
     /// An actor begins a post of a text under a policy.
     Post {
         actor: Actor,

@@ -25,11 +25,7 @@ pub fn print_stepped(
 }
 
 /// Prints the line of how a post ended.
-fn print_outcome(
-    out: &mut String,
-    actor: u8,
-    outcome: &Outcome<Pushed>,
-) -> Result<(), AllocError>
+fn print_outcome(out: &mut String, actor: u8, outcome: &Outcome<Pushed>) -> Result<(), AllocError>
     ensures { OnOk result (string_bytes out.new ≡ string_bytes out.old ++ outcome_text actor outcome.now) }
 {
     match outcome {

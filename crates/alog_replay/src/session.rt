@@ -103,7 +103,8 @@ impl<S: Store + Drop> Session<S> {
             return Err(LineError::Refused);
         }
         let pushed = Pushed::new(alloc, actor, text)?;
-        self.desk.begin_post(u32::from(actor.number()), policy, pushed)?;
+        self.desk
+            .begin_post(u32::from(actor.number()), policy, pushed)?;
         self.owe(actor, Duty::Free);
         Ok(())
     }

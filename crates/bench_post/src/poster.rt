@@ -90,13 +90,7 @@ impl<'a> PortPoster<'a> {
         }
         let pass = self.ring.split(&mut self.pass, 1);
         let seat = self.book.split(&mut self.seat, 1);
-        Some(PortPoster::new(
-            self.ring,
-            pass,
-            self.book,
-            seat,
-            self.policy,
-        ))
+        Some(PortPoster::new(self.ring, pass, self.book, seat, self.policy))
     }
 }
 
