@@ -1,5 +1,5 @@
 -- The names of a diary's dates, and the calls that bring a line to its file.
-use Rattle.std.proofs.Common.{◌≡◌, ◌≢◌, ℕ, zero, suc, ◌+◌, ◌-◌, ◌<◌, ◌≤◌, Bool, true, false, cond, ltb, eqb, ◌&&◌, Option, None, Some, Result, Ok, Err}
+use Rattle.std.proofs.Common.{◌≡◌, ◌≢◌, ℕ, zero, suc, ◌-◌, ◌≤◌, Bool, true, false, cond, ltb, eqb, ◌&&◌, None, Some, Result, Ok}
 use Rattle.std.proofs.Common.{List, [], ◌∷◌, ◌++◌, length, get_or, slice_get, drop, map, refl, sym, ap, ◌∙◌, subst, inl, inr, OnOk, OnErr, arith}
 use Rattle.std.specs.List.{All}
 use Rattle.std.specs.Str.{bytes_eq}
@@ -10,7 +10,7 @@ use Rattle.std.proofs.lemmas.List.Elements.{All-drop, All-push, All-pop}
 use Rattle.circular_buffer.specs.Buffer.{keep_last, last_item}
 use Rattle.alog_sink.specs.Daily.{is_last, last_name}
 use Rattle.alog_sink.specs.DailyDeeds.{makes_way}
-use Rattle.alog_sink.specs.Deeds.{Deed, Remove, Does}
+use Rattle.alog_sink.specs.Deeds.{Remove, Does}
 use Rattle.alog_sink.specs.Diary.{Days, makes_way_for, names_known, with_opened}
 use Rattle.alog_sink.specs.Files.{Files, AreSame, removed}
 use Rattle.alog_sink.specs.Names.{IsDate, dated}
