@@ -4,7 +4,6 @@ use Rattle.std.proofs.Common.{ℤ, pos, negsuc, neg_ℤ, ◌+ℤ◌, ◌-ℤ◌,
 use Rattle.std.specs.Int.{int_div_euclid, int_rem_euclid, w64}
 use Rattle.std.specs.Int.Signed.{lt_z}
 use Rattle.std.proofs.lemmas.Int.{by_lt_z}
-use Rattle.jiff_core.specs.declared.civil.date.Date.{Date as CivilDate}
 use Rattle.jiff_core.specs.declared.civil.datetime.DateTime.{DateTime}
 use Rattle.jiff_core.specs.Calendar.{day_count, IsYear}
 use Rattle.jiff_core.specs.Time.{time_nanos, time_seconds}
@@ -21,9 +20,6 @@ use Rattle.alog_sink.specs.Names.{IsDate}
 use Rattle.alog_sink.specs.declared.names.Date.{Date}
 
 -- dates of one day are the same
-pub same_date : (a b : CivilDate) → epoch_day a ≡ epoch_day b → (a.year ≡ b.year) × (a.month ≡ b.month) × (a.day ≡ b.day)
-same_date = epoch_day_injective
-
 pub one_date : (a b : DateTime) → epoch_day a.date ≡ epoch_day b.date → date_of a ≡ date_of b
 one_date a b e = let d = epoch_day_injective a.date b.date e in rw (d.0, d.1, d.2) refl
 
