@@ -1,30 +1,25 @@
 -- The day, the period and the date of what a clock shows at a time.
-use Rattle.std.proofs.Common.{◌≡◌, ℕ, zero, suc, ◌+◌, ◌*◌, ◌<◌, ◌≤◌, nat_lt, cond, true, false, refl, sym, ap, ◌∙◌, subst, arith, FitsSigned, Bool, to_z, of_z, ◌^◌}
-use Rattle.std.proofs.Common.{ℤ, pos, negsuc, neg_ℤ, ◌+ℤ◌, ◌-ℤ◌, ◌*ℤ◌, ◌<ℤ◌, ◌≤ℤ◌, unsigned_abs}
+use Rattle.std.proofs.Common.{◌≡◌, ℕ, ◌+◌, ◌*◌, ◌<◌, nat_lt, cond, true, false, refl, sym, ap, ◌∙◌, arith, FitsSigned, Bool, to_z, of_z, ◌^◌}
+use Rattle.std.proofs.Common.{ℤ, pos, negsuc, neg_ℤ, ◌+ℤ◌, ◌-ℤ◌, ◌≤ℤ◌, unsigned_abs}
 use Rattle.std.specs.Int.{int_div_euclid, int_rem_euclid, w64}
 use Rattle.std.specs.Int.Signed.{lt_z}
-use Rattle.std.proofs.lemmas.Bool.Decides.{nat_tests}
 use Rattle.std.proofs.lemmas.Int.{by_lt_z}
-use Rattle.jiff_core.specs.declared.civil.date.Date.{Date as CivilDate}
 use Rattle.jiff_core.specs.declared.civil.datetime.DateTime.{DateTime}
 use Rattle.jiff_core.specs.Calendar.{day_count, IsYear}
 use Rattle.jiff_core.specs.Time.{time_nanos, time_seconds}
 use Rattle.jiff_core.proofs.CalendarLemmas.{day_count-lt_year, days_in_month_bounds, days_from_civil-day_count}
 use Rattle.jiff_core.proofs.DateLemmas.{epoch_day_injective, epoch_day_same, civil}
-use Rattle.jiff_core.proofs.DateTimeLemmas.{civil_nanos_injective, civil_nanos-parts, epoch_day-civil_nanos, time_nanos_bound, time_nanos_injective}
+use Rattle.jiff_core.proofs.DateTimeLemmas.{civil_nanos_injective, civil_nanos-parts, epoch_day-civil_nanos, time_nanos_bound}
 use Rattle.jiff_core.proofs.MarchLemmas.{day_count-early}
 use Rattle.jiff_core.proofs.SignedLemmas.{signed_arith, back_small}
 use Rattle.jiff.specs.Words.{civil_nanos, epoch_day}
-use Rattle.alog_format.specs.Civil.{IsZone, day_at, second_at, local_nanos, offset_minutes}
+use Rattle.alog_format.specs.Civil.{IsZone, day_at, second_at, local_nanos}
 use Rattle.alog_format.specs.declared.context.Zone.{Zone}
 use Rattle.alog_sink.specs.Diary.{date_of, period_of}
 use Rattle.alog_sink.specs.Names.{IsDate}
 use Rattle.alog_sink.specs.declared.names.Date.{Date}
 
 -- dates of one day are the same
-pub same_date : (a b : CivilDate) → epoch_day a ≡ epoch_day b → (a.year ≡ b.year) × (a.month ≡ b.month) × (a.day ≡ b.day)
-same_date = epoch_day_injective
-
 pub one_date : (a b : DateTime) → epoch_day a.date ≡ epoch_day b.date → date_of a ≡ date_of b
 one_date a b e = let d = epoch_day_injective a.date b.date e in rw (d.0, d.1, d.2) refl
 

@@ -1,20 +1,16 @@
 -- What is known of all opened names by the last of them.
-use Rattle.std.proofs.Common.{◌≡◌, ◌≢◌, ℕ, zero, suc, ◌+◌, ◌-◌, ◌<◌, ◌≤◌, Bool, true, false, cond, ltb, ◌&&◌, Option, None, Some}
-use Rattle.std.proofs.Common.{List, [], ◌∷◌, ◌++◌, length, get_or, drop, take, map, refl, sym, ap, ◌∙◌, subst, inl, inr, ◌⊎◌, Decides}
-use Rattle.std.proofs.Common.{append-nil, append_assoc, length-append, arith, ℤ, pos, ◌-ℤ◌, ◌+ℤ◌, ◌<ℤ◌, ◌≤ℤ◌}
+use Rattle.std.proofs.Common.{◌≡◌, ℕ, zero, suc, ◌+◌, ◌-◌, ◌<◌, ◌≤◌, Bool, true, false, cond, ltb}
+use Rattle.std.proofs.Common.{List, [], ◌∷◌, ◌++◌, length, get_or, drop, refl, sym, ap, ◌∙◌, inl, inr}
+use Rattle.std.proofs.Common.{append-nil, length-append, arith}
 use Rattle.std.proofs.Math.Seq.{drop-nil}
-use Rattle.std.specs.Int.Signed.{lt_z}
-use Rattle.std.specs.List.{All, Contains, list_all}
 use Rattle.std.specs.Str.{bytes_eq}
-use Rattle.std.specs.Cmp.Lexicographic.{bytes_decides}
 use Rattle.std.proofs.lemmas.Bool.{cases_lt}
 use Rattle.std.proofs.lemmas.Bool.Decides.{nat_tests}
-use Rattle.std.proofs.lemmas.List.{get_or-drop, drop-append-le, length-drop, drop_all}
-use Rattle.std.proofs.lemmas.List.{take-append-drop}
+use Rattle.std.proofs.lemmas.List.{get_or-drop, drop-append-le, length-drop}
 use Rattle.circular_buffer.specs.Buffer.{keep_last}
 use Rattle.alog_sink.specs.Daily.{last_name, is_last, with_name}
 use Rattle.alog_sink.specs.DailyDeeds.{makes_way}
-use Rattle.alog_sink.specs.Deeds.{Deed, Remove}
+use Rattle.alog_sink.specs.Deeds.{Remove}
 use Rattle.alog_sink.specs.Diary.{names_known, with_opened}
 use Rattle.alog_sink.proofs.DailyFiles.{last_pushed}
 use Rattle.alog_sink.proofs.RotatedRuns.{by_last}

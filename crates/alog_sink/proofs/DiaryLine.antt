@@ -1,8 +1,8 @@
 -- A line that is brought to its file, by the calls that are made.
-use Rattle.std.proofs.Common.{◌≡◌, ℕ, Bool, true, cond, Some, Result, Ok, Err, List, [], ◌∷◌, ◌++◌, refl, sym, ap, ◌∙◌, subst, OnOk, OnErr, ℤ, pos, ◌≤ℤ◌}
+use Rattle.std.proofs.Common.{◌≡◌, ℕ, true, cond, Some, Result, Ok, Err, List, [], ◌∷◌, ◌++◌, refl, sym, ap, ◌∙◌, subst, OnOk, OnErr, ℤ, pos, ◌≤ℤ◌}
 use Rattle.alog_sink.specs.Calls.{LeavesFront}
 use Rattle.alog_sink.specs.Daily.{Entry, last_name}
-use Rattle.alog_sink.specs.Deeds.{Deed, Append, BreaksOff, Does, all_done}
+use Rattle.alog_sink.specs.Deeds.{Append, BreaksOff, Does, all_done}
 use Rattle.alog_sink.specs.Diary.{Days, StandsFor, date_of, deeds_before, deeds_of, entry_of, is_later, makes_way_for, period_of, with_entry, with_opened}
 use Rattle.alog_sink.specs.Files.{Files, AreSame, appended}
 use Rattle.alog_sink.specs.Lines.{Written}

@@ -1,5 +1,5 @@
 -- What a diary stands for after one line more.
-use Rattle.std.proofs.Common.{◌≡◌, ◌≢◌, ℕ, zero, suc, ◌-◌, Bool, true, false, cond, ◌&&◌, Option, None, Some, List, [], ◌∷◌, ◌++◌, map, refl, sym, ap, ◌∙◌, subst}
+use Rattle.std.proofs.Common.{◌≡◌, ◌≢◌, ℕ, zero, suc, ◌-◌, Bool, true, false, cond, ◌&&◌, Option, None, Some, List, [], ◌∷◌, ◌++◌, refl, sym, ap, ◌∙◌, subst}
 use Rattle.std.proofs.Common.{arith, ℤ, pos, ◌≤ℤ◌}
 use Rattle.std.specs.Int.Signed.{lt_z}
 use Rattle.std.proofs.Math.Seq.{drop-nil}
@@ -8,7 +8,7 @@ use Rattle.std.proofs.lemmas.Int.{ints}
 use Rattle.std.proofs.lemmas.List.{map_push}
 use Rattle.std.proofs.lemmas.List.Elements.{All-nil, All-map, All-push, All-weaker}
 use Rattle.circular_buffer.specs.Buffer.{keep_last}
-use Rattle.alog_sink.specs.Daily.{Entry, none, kept_names, opens, is_last, last_name, opened_names, with_name, IsDaily}
+use Rattle.alog_sink.specs.Daily.{Entry, none, kept_names, opens, is_last, last_name, with_name, IsDaily}
 use Rattle.alog_sink.specs.DailyDeeds.{day_deeds, makes_way, names_after}
 use Rattle.alog_sink.specs.Deeds.{Deed, Append, all_done}
 use Rattle.alog_sink.specs.Diary.{DayLimits, Days, StandsFor, deeds_of, entries_of, entry_of, is_later, makes_way_for, names_known, with_entry, with_opened}

@@ -1,5 +1,5 @@
 -- The names of a diary's dates, and the calls that bring a line to its file.
-use Rattle.std.proofs.Common.{◌≡◌, ◌≢◌, ℕ, zero, suc, ◌+◌, ◌-◌, ◌<◌, ◌≤◌, Bool, true, false, cond, ltb, eqb, ◌&&◌, Option, None, Some, Result, Ok, Err}
+use Rattle.std.proofs.Common.{◌≡◌, ◌≢◌, ℕ, zero, suc, ◌-◌, ◌≤◌, Bool, true, false, cond, eqb, ◌&&◌, None, Some, Result, Ok}
 use Rattle.std.proofs.Common.{List, [], ◌∷◌, ◌++◌, length, get_or, slice_get, drop, map, refl, sym, ap, ◌∙◌, subst, inl, inr, OnOk, OnErr, arith}
 use Rattle.std.specs.List.{All}
 use Rattle.std.specs.Str.{bytes_eq}
@@ -10,7 +10,7 @@ use Rattle.std.proofs.lemmas.List.Elements.{All-drop, All-push, All-pop}
 use Rattle.circular_buffer.specs.Buffer.{keep_last, last_item}
 use Rattle.alog_sink.specs.Daily.{is_last, last_name}
 use Rattle.alog_sink.specs.DailyDeeds.{makes_way}
-use Rattle.alog_sink.specs.Deeds.{Deed, Remove, Does}
+use Rattle.alog_sink.specs.Deeds.{Remove, Does}
 use Rattle.alog_sink.specs.Diary.{Days, makes_way_for, names_known, with_opened}
 use Rattle.alog_sink.specs.Files.{Files, AreSame, removed}
 use Rattle.alog_sink.specs.Names.{IsDate, dated}
@@ -128,17 +128,6 @@ way_does file zero dates oldest name some full first is old new r done failed = 
 way_does file (suc n) dates oldest name some full first is old new r done failed =
     subst (λ deeds. Does deeds old new r) (sym (first_of file n dates oldest full first ∙ ap (λ m. Remove m ∷ []) (sym is)))
     (removed_only name name 0 refl refl old new r done failed)
-
--- nothing makes way where there is room
-pub room_left : (file : List ℕ) (max : ℕ) (dates : List Date) → length dates ≤ names_known max → length dates ≢ names_known max
-    → makes_way max (map (dated file) dates) ≡ []
-room_left file zero dates few some = refl
-room_left file (suc n) dates few some =
-    ap (λ b. cond b (Remove (get_or (map (dated file) dates) (length (map (dated file) dates) - suc n) []) ∷ []) [])
-    (not_less n (length (map (dated file) dates)) (omega (arith, length-map dates (dated file))))
-  where
-    not_less : (a b : ℕ) → b ≤ a → ltb a b ≡ false
-    not_less a b h = grind (arith, nat_tests)
 
 pub test_is : (a b : ℕ) → eqb a b ≡ true → a ≡ b
 test_is a b h = grind (arith, nat_tests)

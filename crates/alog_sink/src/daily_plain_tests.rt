@@ -20,6 +20,14 @@ struct Moment {
     hour: u8,
 }
 
+impl Moment {
+    fn hours(self) -> i64 {
+        i64::from(self.day)
+            .saturating_mul(24)
+            .saturating_add(i64::from(self.hour))
+    }
+}
+
 const MOMENTS: [Moment; 5] = [
     Moment { day: 0, hour: 5 },
     Moment { day: 1, hour: 5 },
@@ -111,7 +119,7 @@ fn kept(
     };
     let mut line = LineBuf::new(alloc, 256)?;
     for (moment, text) in moments.iter().zip(["a", "b", "c", "d"]) {
-        let time = START + (i64::from(moment.day) * 24 + i64::from(moment.hour)) * HOUR;
+        let time = START.saturating_add(moment.hours().saturating_mul(HOUR));
         let message = Message::new(alloc, 64, 0, Level::Info, time, 1, text, None)?;
         if !sink.may_take(&message, &line) || sink.take(&message, &mut line).is_err() {
             return Ok(None);

@@ -175,7 +175,7 @@ fn a_change_at_the_last_minute(rt: HostRuntime) -> Result<(), Fail> {
             (DAY + change, "e"),
         ] {
             assert_eq!(rt;
-                give(alloc, &mut sink, start + at, text)?,
+                give(alloc, &mut sink, start.saturating_add(at), text)?,
                 Ok(Taken::Written)
             );
         }
@@ -344,4 +344,30 @@ fn flushes_of_the_current_file(rt: HostRuntime) -> Result<(), Fail> {
 // The flushes of that file, and the other calls.
 fn calls(sink: &Sink<Flushes>) -> Option<(u64, u64)> {
     sink.store().map(|store| (store.flushed, store.others))
+}
+
+// Whichever allocation fails, the sink is refused for want of memory, or its store fails once and it is broken then.
+#[test]
+fn want_of_memory(rt: HostRuntime) -> Result<(), Fail> {
+    let alloc = rt.alloc();
+    let face = face(alloc, 0)?;
+    let mut sink = match Sink::daily(alloc, face, MemStore::new(alloc), "day.log", 0, 0, 1) {
+        Ok(sink) => sink,
+        Err(refused) => {
+            assert_eq!(rt; refused.error, OpenError::OutOfMemory);
+            return Ok(());
+        }
+    };
+    let mut broken = false;
+    for time in [START, START + DAY, START + DAY] {
+        let answer = give(alloc, &mut sink, time, "a")?;
+        let right = match answer {
+            Ok(Taken::Written) | Err(SinkError::Store) => !broken,
+            Err(SinkError::Broken) => broken,
+            Ok(Taken::Below) => false,
+        };
+        assert!(rt; right, "{answer:?}");
+        broken = answer.is_err();
+    }
+    Ok(())
 }

@@ -2,8 +2,7 @@
 ghost use Rattle.std.specs.Prelude.{◌≡◌, ◌≤◌, ◌≤ℤ◌, pos, true, List, None, [], ◌∷◌, ◌++◌};
 ghost use Rattle.std.specs.Prelude.{IfOk, IsOk, OnOk, length};
 ghost use Rattle.jiff_core.specs.declared.civil.datetime.DateTime.{DateTime};
-ghost use Rattle.jiff.specs.Words.{civil_nanos};
-ghost use Rattle.alog_format.specs.Civil.{IsZone, local_nanos};
+ghost use Rattle.alog_format.specs.Civil.{IsZone};
 ghost use Rattle.alog_sink.specs.Calls.{Counts};
 ghost use Rattle.alog_sink.specs.Daily.{is_last};
 ghost use Rattle.alog_sink.specs.DailyDeeds.{makes_way};

@@ -4,7 +4,7 @@ use Rattle.std.proofs.lemmas.Int.{to_z-of_z}
 use Rattle.alog_format.specs.Civil.{local_nanos}
 use Rattle.alog_format.specs.declared.civil.Civil.{Civil}
 use Rattle.alog_sink.specs.declared.names.Date.{Date}
-use Rattle.alog_sink.proofs.DiaryDays.{is_date, shown_date}
+use Rattle.alog_sink.proofs.DiaryDays.{shown_date}
 use Rattle.alog_sink.proofs.diary.date_of.Goals as goal
 
 abbrev date_in : Civil → Date

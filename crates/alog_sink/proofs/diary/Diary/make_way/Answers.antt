@@ -1,6 +1,5 @@
-use Rattle.std.proofs.Common.{◌≡◌, ◌≢◌, ◌∙◌, ◌-◌, Some, true, ap, sym, subst, rules, arith, length}
+use Rattle.std.proofs.Common.{◌≡◌, ◌∙◌, Some, true, ap, sym, subst, rules, length}
 use Rattle.std.specs.Prelude.{option_copied}
-use Rattle.std.proofs.lemmas.Bool.Decides.{nat_tests}
 use Rattle.alog_sink.specs.DailyDeeds.{makes_way}
 use Rattle.alog_sink.specs.Deeds.{Does}
 use Rattle.alog_sink.specs.Diary.{Days, names_known}

@@ -1,16 +1,13 @@
-use Rattle.std.proofs.Common.{◌≡◌, ◌≤◌, ◌∙◌, Bool, true, false, Ok, [], ◌∷◌, ◌++◌, length, map, ap, sym, refl, subst, rules, arith}
-use Rattle.std.proofs.lemmas.List.{length-map}
+use Rattle.std.proofs.Common.{◌≡◌, ◌∙◌, false, [], ◌∷◌, ◌++◌, length, map, ap, sym, subst, arith}
 use Rattle.std.proofs.lemmas.Result.{err_from_is_err_and}
 use Rattle.std.specs.List.{All}
-use Rattle.std.specs.String.{string_capacity}
 use Rattle.circular_buffer.specs.Buffer.{Buffer, keep_last}
 use Rattle.alog_sink.specs.Daily.{is_last, last_name}
-use Rattle.alog_sink.specs.Deeds.{Does}
 use Rattle.alog_sink.specs.Diary.{Days, names_known, makes_way_for, with_opened}
 use Rattle.alog_sink.specs.Names.{IsDate, dated}
 use Rattle.alog_sink.specs.declared.names.Date.{Date}
 use Rattle.alog_sink.specs.contracts.diary.Diary.{the_view}
-use Rattle.alog_sink.proofs.DiaryPut.{again, more_opened, more_last, more_few, more_dates, way_of_last, way_of_other}
+use Rattle.alog_sink.proofs.DiaryPut.{more_opened, more_last, more_few, more_dates, way_of_last, way_of_other}
 use Rattle.alog_sink.proofs.RotatedDoes.{does_err}
 use Rattle.alog_sink.proofs.diary.Diary.open_date.Goals as goal
 

@@ -1,9 +1,7 @@
-use Rattle.std.proofs.Common.{◌≡◌, ◌∙◌, ap, sym, subst, rules}
+use Rattle.std.proofs.Common.{◌≡◌, ◌∙◌, ap}
 use Rattle.std.proofs.lemmas.Result.{err_from_is_err_and}
 use Rattle.alog_sink.specs.Daily.{last_name}
-use Rattle.alog_sink.specs.Deeds.{Append, Does}
-use Rattle.alog_sink.specs.Diary.{Days, deeds_before, deeds_of, entry_of, with_entry}
-use Rattle.alog_sink.specs.Lines.{IsShownTo, Written}
+use Rattle.alog_sink.specs.Diary.{Days, deeds_of, entry_of, with_entry}
 use Rattle.alog_sink.proofs.DiaryLine.{line_breaks, line_does, line_stands}
 use Rattle.alog_sink.proofs.RotatedDoes.{does_err}
 use Rattle.alog_sink.proofs.diary.Diary.put.Goals as goal
