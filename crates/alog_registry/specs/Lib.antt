@@ -1,0 +1,4 @@
+pub mod Listed
+pub mod Backtrace
+pub mod Turn
+pub mod Work

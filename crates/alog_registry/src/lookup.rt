@@ -1,0 +1,20 @@
+//! A logger's number by its name.
+ghost use Rattle.std.specs.Prelude.{◌≡◌, ◌↔◌, ◌≤◌, length, Some};
+ghost use Rattle.alog_registry.specs.Listed.{name_at, AreApart};
+
+use crate::MOST_LOGGERS;
+use crate::logger::Logger;
+
+/// The number of the logger of this name, or `None` where there is no such logger.
+pub(crate) fn number_of(loggers: &[Logger], name: &str) -> Option<u32>
+    requires few { length loggers.now ≤ MOST_LOGGERS }
+    requires apart { AreApart loggers.now }
+    ensures { (n : ℕ) → (result ≡ Some n) ↔ (name_at loggers.now n ≡ Some name.now) }
+{
+    for i in 0..loggers.len() {
+        if loggers[i].name.as_str() == name {
+            return Some(i as u32);
+        }
+    }
+    None
+}
