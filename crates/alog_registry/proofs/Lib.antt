@@ -1,2 +1,2 @@
 pub mod Listing
-pub mod Kept
+pub mod Keeping

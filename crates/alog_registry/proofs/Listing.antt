@@ -1,11 +1,14 @@
 -- Loggers by number and by name: one logger more, and a name that is looked for.
-use Rattle.std.proofs.Common.{◌≡◌, ◌≢◌, ◌↔◌, ◌⊎◌, ℕ, ◌<◌, ◌≤◌, zero, suc, List, [], ◌∷◌, ◌++◌, length, Option, Some, None, slice_get, refl, sym, ap, subst, ◌∙◌, inl, inr, arith}
-use Rattle.std.proofs.Common.{length-append}
+use Rattle.std.proofs.Common.{◌≡◌, ◌≢◌, ◌↔◌, ◌⊎◌, ℕ, ◌<◌, zero, suc, List, [], ◌∷◌, ◌++◌, length, Option, Some, None, refl, sym, ap, subst, ◌∙◌, inl, inr, arith}
+use Rattle.std.proofs.Common.{length-append, get_or, ◌+◌}
+use Rattle.std.proofs.lemmas.Bool.{cases_lt}
+use Rattle.std.proofs.lemmas.Option.{slice_get_read}
+use Rattle.std.specs.Bool.{IsTrue}
+use Rattle.std.specs.Option.{option_map, is_some}
 use Rattle.alog_msg.specs.declared.level.Level.{Level}
 use Rattle.alog_registry.specs.declared.TheConstants.{MOST_LOGGERS}
 use Rattle.alog_registry.specs.declared.logger.Logger.{Logger}
-use Rattle.alog_registry.specs.declared.logger.Spec.{Spec}
-use Rattle.alog_registry.specs.Listed.{name_at, IsTaken, AreApart, IsShared, IsListing}
+use Rattle.alog_registry.specs.Listed.{name_at, IsTaken, AreApart, IsListing}
 
 -- a number that has a name is one of the list
 pub named_within : (ls : List Logger) (n : ℕ) (name : List ℕ) → name_at ls n ≡ Some name → n < length ls
@@ -68,3 +71,28 @@ missing ls name none n = (
   λ s. absurd (cc s),
   λ h. absurd (none n (named_within ls n name h) h),
 )
+
+-- the name of a logger that was read
+pub name_read : (ls : List Logger) (i : ℕ) (x : Logger) → i < length ls → x ≡ get_or ls i x → name_at ls i ≡ Some x.name
+name_read ls i x within is =
+    ap (λ (o : Option Logger). option_map (λ (l : Logger). l.name) o) (slice_get_read ls (length ls) i x refl within is)
+
+-- a name that stands at no number so far, and not at this one
+pub none_further : (ls : List Logger) (name : List ℕ) (i : ℕ) (x : Logger) → ((k : ℕ) → k < i → name_at ls k ≢ Some name)
+    → name_at ls i ≡ Some x.name → x.name ≢ name → (k : ℕ) → k < i + 1 → name_at ls k ≢ Some name
+none_further ls name i x none at other k below e =
+    elim (cases_lt k i) [
+      | inr h ↦
+          let same : k ≡ i = omega arith in
+          let f : name_at ls i ≡ Some name = subst (λ n. name_at ls n ≡ Some name) same e in
+          let g : Some x.name ≡ Some name = sym at ∙ f in
+          let n : x.name ≡ name = cc g in
+          other n
+      | inl h ↦ none k h e
+    ]
+
+-- a name is taken exactly where its number was found
+pub taken_if_found : (ls : List Logger) (name : List ℕ) (o : Option ℕ) → ((n : ℕ) → (o ≡ Some n) ↔ (name_at ls n ≡ Some name))
+    → IsTrue (is_some o) ↔ IsTaken ls name
+taken_if_found ls name None each = (λ t. absurd (cc t), λ (n, e). absurd (cc ((each n).1 e)))
+taken_if_found ls name (Some k) each = (λ t. (k, (each k).0 refl), λ e. refl)

@@ -1,8 +1,9 @@
 -- Loggers by number and by name: a list of names and specs, and a list of levels.
-use Rattle.std.specs.Prelude.{◌≡◌, ◌≤◌, ℕ, List, [], ◌∷◌, ◌++◌, length, Option, Some, slice_get, slice_set, Result, Ok, Err}
+use Rattle.std.specs.Prelude.{◌≡◌, ◌<◌, ◌≤◌, ℕ, List, [], ◌∷◌, ◌++◌, length, Option, Some, slice_get, slice_set, Result, Ok, Err}
 use Rattle.std.specs.Option.{option_map}
+use Rattle.alog_msg.specs.declared.limits.TheConstants.{LOGGER_NAME_MAX}
 use Rattle.alog_msg.specs.declared.level.Level.{Level}
-use Rattle.alog_registry.specs.declared.TheConstants.{MOST_LOGGERS}
+use Rattle.alog_registry.specs.declared.TheConstants.{MOST_LOGGERS, MOST_KEPT}
 use Rattle.alog_registry.specs.declared.logger.Logger.{Logger}
 use Rattle.alog_registry.specs.declared.logger.Spec.{Spec}
 use Rattle.alog_registry.specs.declared.error.AddError.{AddError}
@@ -22,6 +23,13 @@ IsTaken loggers name = (n : ℕ) × (name_at loggers n ≡ Some name)
 -- no two loggers have one name
 abbrev pub AreApart : List Logger → Type 0
 AreApart loggers = (m n : ℕ) (name : List ℕ) → name_at loggers m ≡ Some name → name_at loggers n ≡ Some name → m ≡ n
+
+-- a logger of this name, with a backtrace of so many, may be added
+pub record MayBeAdded (loggers : List Logger) (name : List ℕ) (backtrace : ℕ) : Type 0 where
+  pub short : length name ≤ LOGGER_NAME_MAX
+  pub free : ¬ IsTaken loggers name
+  pub room : length loggers < MOST_LOGGERS
+  pub few : backtrace ≤ MOST_KEPT
 
 -- What callers see of a registry: its loggers and their levels, by number.
 pub record RegistryView : Type 0 where

@@ -1,5 +1,5 @@
 //! A backtrace: the last messages that were kept.
-ghost use Rattle.std.specs.Prelude.{◌≡◌, ◌↔◌, ◌<◌, ◌≤◌, [], ◌∷◌, ◌++◌, List, length, IfOk, IsErrOf};
+ghost use Rattle.std.specs.Prelude.{◌≡◌, ◌==◌, ◌↔◌, ◌<◌, ◌≤◌, [], ◌∷◌, ◌++◌, List, length, IfOk, IsErrOf};
 ghost use Rattle.alog_registry.specs.Backtrace.{room_for, kept_with, Keeps};
 ghost use Rattle.alog_msg.specs.declared.message.Message.{Message};
 

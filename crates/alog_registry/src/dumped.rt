@@ -1,5 +1,5 @@
 //! What a dump of a backtrace took: messages, oldest first.
-ghost use Rattle.std.specs.Prelude.{◌≡◌, [], length, slice_get, drop, IfOk};
+ghost use Rattle.std.specs.Prelude.{◌≡◌, ◌==◌, length, slice_get, drop, IfOk};
 ghost use Rattle.alog_registry.specs.Backtrace.{room_for};
 
 use alog_msg::Message;

@@ -14,6 +14,8 @@
 mod backtrace;
 mod dumped;
 mod error;
+mod given;
+mod keep;
 mod level_word;
 mod logger;
 mod loggers;
@@ -27,6 +29,8 @@ mod work;
 pub use backtrace::{Backtrace, BacktraceError};
 pub use dumped::Dumped;
 pub use error::{AddError, RefusedSpec};
+pub use given::MessageRef;
+pub use keep::{Keep, LaneKeeper};
 pub use logger::{Logger, Spec};
 pub use loggers::Loggers;
 pub use registry::Registry;

@@ -1,6 +1,6 @@
 //! A logger's number by its name.
-ghost use Rattle.std.specs.Prelude.{◌≡◌, ◌↔◌, ◌≤◌, length, Some};
-ghost use Rattle.alog_registry.specs.Listed.{name_at, AreApart};
+ghost use Rattle.std.specs.Prelude.{◌≡◌, ◌↔◌, ◌≤◌, ℕ, length, Some, IsTrue};
+ghost use Rattle.alog_registry.specs.Listed.{name_at, IsTaken, AreApart};
 
 use crate::MOST_LOGGERS;
 use crate::logger::Logger;
@@ -17,4 +17,13 @@ pub(crate) fn number_of(loggers: &[Logger], name: &str) -> Option<u32>
         }
     }
     None
+}
+
+/// Whether a logger has this name.
+pub(crate) fn is_taken(loggers: &[Logger], name: &str) -> bool
+    requires few { length loggers.now ≤ MOST_LOGGERS }
+    requires apart { AreApart loggers.now }
+    ensures { IsTrue result ↔ IsTaken loggers.now name.now }
+{
+    number_of(loggers, name).is_some()
 }

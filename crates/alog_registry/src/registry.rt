@@ -1,12 +1,12 @@
 //! A registry: loggers and levels that one owner changes.
-ghost use Rattle.std.specs.Prelude.{◌≡◌, ◌↔◌, ◌<◌, ◌≤◌, ◌∷◌, ◌++◌, [], ℕ, length, slice_get, slice_set, Some, None, IsTrue, OnOk, OnErr, IfOk, IfErr, IsOk, vec_len, vec_capacity};
-ghost use Rattle.alog_registry.specs.Listed.{no_loggers, name_at, IsTaken, IsRefused, added, with_level};
+ghost use Rattle.std.specs.Prelude.{◌≡◌, ◌≢◌, ◌↔◌, ◌<◌, ◌≤◌, ◌∷◌, ◌++◌, [], ℕ, length, slice_get, slice_set, Some, None, IsTrue, OnOk, OnErr, IfOk, IfErr, IsOk, vec_len, vec_capacity};
+ghost use Rattle.alog_registry.specs.Listed.{no_loggers, name_at, IsTaken, AreApart, MayBeAdded, IsRefused, added, with_level};
 
 use crate::error::{AddError, RefusedSpec};
 use crate::level_word::LevelWord;
 use crate::logger::{Logger, Spec};
 use crate::loggers::Loggers;
-use crate::lookup::number_of;
+use crate::lookup::{is_taken, number_of};
 use crate::{MOST_KEPT, MOST_LOGGERS};
 use alog_msg::{LOGGER_NAME_MAX, Level, Text};
 use std::alloc::{AllocError, AllocFailed, Global};
@@ -58,6 +58,7 @@ impl Registry {
         ensures bad_limit { IsRefused result AddError.BadLimit
             ↔ ((length name.now ≤ LOGGER_NAME_MAX) × (¬ IsTaken self.old.loggers name.now) × (length self.old.loggers < MOST_LOGGERS)
             × (MOST_KEPT < spec.backtrace)) }
+        ensures out_of_memory { IsRefused result AddError.OutOfMemory → MayBeAdded self.old.loggers name.now spec.backtrace }
         ensures back { IfErr result (λ r. r.spec ≡ spec) }
         ensures err { OnErr result (self.new ≡ self.old) }
     {
@@ -120,10 +121,23 @@ impl Registry {
 }
 
 /// Why no logger of this name and backtrace is added, if that is so.
-fn fault_of(loggers: &[Logger], name: &str, backtrace: usize) -> Option<AddError> {
+fn fault_of(loggers: &[Logger], name: &str, backtrace: usize) -> Option<AddError>
+    requires few { length loggers.now ≤ MOST_LOGGERS }
+    requires apart { AreApart loggers.now }
+    ensures field_too_long { (result ≡ Some AddError.FieldTooLong) ↔ (LOGGER_NAME_MAX < length name.now) }
+    ensures name_taken { (result ≡ Some AddError.NameTaken)
+        ↔ ((length name.now ≤ LOGGER_NAME_MAX) × IsTaken loggers.now name.now) }
+    ensures too_many { (result ≡ Some AddError.TooMany)
+        ↔ ((length name.now ≤ LOGGER_NAME_MAX) × (¬ IsTaken loggers.now name.now) × (MOST_LOGGERS ≤ length loggers.now)) }
+    ensures bad_limit { (result ≡ Some AddError.BadLimit)
+        ↔ ((length name.now ≤ LOGGER_NAME_MAX) × (¬ IsTaken loggers.now name.now) × (length loggers.now < MOST_LOGGERS)
+        × (MOST_KEPT < backtrace)) }
+    ensures memory { result ≢ Some AddError.OutOfMemory }
+    ensures none { result ≡ None → MayBeAdded loggers.now name.now backtrace }
+{
     if name.len() > LOGGER_NAME_MAX {
         Some(AddError::FieldTooLong)
-    } else if number_of(loggers, name).is_some() {
+    } else if is_taken(loggers, name) {
         Some(AddError::NameTaken)
     } else if loggers.len() >= MOST_LOGGERS {
         Some(AddError::TooMany)

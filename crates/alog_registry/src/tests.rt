@@ -201,11 +201,12 @@ fn turns_of_a_backtrace(rt: HostRuntime) -> Result<(), Fail> {
     };
     let mut scratch = BacktraceScratch {
         message: Some(debug(alloc, "m1")?),
-        list: Some(Dumped::new(alloc, 1)?),
+        list: None,
     };
     let kept = lane.turn_once(&mut seat, 0, &BacktraceItem::Keep, &mut scratch);
     assert!(rt; matches!(kept, Ok((0, BacktraceReply::Kept))));
-    assert!(rt; scratch.message.is_none() && scratch.list.is_some());
+    assert!(rt; scratch.message.is_none());
+    scratch.list = Some(Dumped::new(alloc, 1)?);
     match lane.turn_once(&mut seat, 0, &BacktraceItem::Dump, &mut scratch) {
         Ok((1, BacktraceReply::Dumped(mut list))) => assert!(rt; is_text(list.take_oldest(), "m1")),
         _ => panic!(rt; "the lock is free"),

@@ -1,6 +1,6 @@
 //! A backtrace under a lock: what a turn at it does.
-ghost use Rattle.std.specs.Prelude.{◌≡◌};
-ghost use Rattle.alog_registry.specs.Turn.{Turns, MayTurn};
+ghost use Rattle.std.specs.Prelude.{◌≡◌, Some, None};
+ghost use Rattle.alog_registry.specs.Turn.{Turns, MayTurn, scratch_of};
 
 use crate::backtrace::Backtrace;
 use crate::dumped::Dumped;
@@ -32,6 +32,22 @@ pub struct BacktraceScratch {
     pub message: Option<Message>,
     /// The empty list, of the backtrace's room, that a dump fills and replies with.
     pub list: Option<Dumped>,
+}
+
+impl BacktraceScratch {
+    /// Brings the message of the next keep.
+    pub(crate) fn bring(&mut self, message: Message)
+        ensures { self.new ≡ scratch_of (Some message) self.old.list }
+    {
+        self.message = Some(message);
+    }
+
+    /// Drops the message that was brought.
+    pub(crate) fn clear(&mut self)
+        ensures { self.new ≡ scratch_of None self.old.list }
+    {
+        self.message = None;
+    }
 }
 
 /// A turn keeps a message, or dumps.

@@ -1,6 +1,6 @@
 //! What a worker does with an item that it took: turns on the sinks of the item's logger.
 ghost use Rattle.std.specs.Prelude.{◌≡◌, slice_get};
-ghost use Rattle.alog_registry.specs.Work.{is_flush_due, turns_of};
+ghost use Rattle.alog_registry.specs.Work.{is_flush_due, turns_of, turns_on};
 
 use crate::logger::Spec;
 use alog_msg::{Item, Level};
