@@ -5,3 +5,4 @@ pub mod Work
 pub mod Given
 pub mod Keep
 pub mod LaneKeeper
+pub mod Carry

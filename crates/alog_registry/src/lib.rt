@@ -12,6 +12,7 @@
 #![tactic(auto)]
 
 mod backtrace;
+mod carry;
 mod dumped;
 mod error;
 mod given;
@@ -27,6 +28,7 @@ mod turn;
 mod work;
 
 pub use backtrace::{Backtrace, BacktraceError};
+pub use carry::Carry;
 pub use dumped::Dumped;
 pub use error::{AddError, RefusedSpec};
 pub use given::MessageRef;
