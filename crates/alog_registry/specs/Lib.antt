@@ -6,3 +6,5 @@ pub mod Given
 pub mod Keep
 pub mod LaneKeeper
 pub mod Carry
+pub mod Logging
+pub mod Dumping

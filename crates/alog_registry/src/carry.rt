@@ -15,12 +15,11 @@ use std::alloc::Global;
 pub trait Carry {
     ghost use Rattle.std.specs.Prelude.{◌≡◌, ◌↔◌, ◌≤◌, ◌<◌, ◌+◌, ℕ, List, [], ◌++◌, length, IfOk, OnOk, OnErr, IsErrOf};
     ghost use Rattle.alog_core.specs.Queue.{Event};
-    ghost use Rattle.alog_msg.specs.Message.{HasLongField};
     ghost use Rattle.alog_msg.specs.declared.limits.TheConstants.{LEAST_TEXT_LIMIT, MOST_TEXT_LIMIT};
     ghost use Rattle.alog_msg.specs.declared.item.Item.{Item};
     ghost use Rattle.alog_msg.specs.declared.item.Item.TheVariants.{Text, Flush};
     ghost use Rattle.alog_registry.specs.Carry.{PostsItemNow};
-    ghost use Rattle.alog_registry.specs.Given.{message_of};
+    ghost use Rattle.alog_registry.specs.Given.{message_of, IsWithin, IsTooLongField};
 
     /// What a post brings.
     type Value;
@@ -46,8 +45,10 @@ pub trait Carry {
         ensures made { IfOk result (λ v. shows v ≡ Text (message_of given.entry)) }
         ensures fit { OnOk result (is_fit self.new × did self.old [] 0 0 self.new) }
         ensures text_too_long { IsErrOf result MessageError.TextTooLong ↔ (text_limit < length given.entry.text.now) }
-        ensures field_too_long { IsErrOf result MessageError.FieldTooLong ↔
-            ((length given.entry.text.now ≤ text_limit) × HasLongField given.entry.source) }
+        ensures field_too_long { IsErrOf result MessageError.FieldTooLong
+            ↔ IsTooLongField text_limit given.entry.text.now given.entry.source }
+        ensures out_of_memory { IsErrOf result MessageError.OutOfMemory
+            → IsWithin text_limit given.entry.text.now given.entry.source }
         ensures err { OnErr result (self.new ≡ self.old) };
 
     /// Makes the value of a text that is this message.

@@ -1,8 +1,7 @@
 //! What a logger is given to make a message of.
 ghost use Rattle.std.specs.Prelude.{◌≡◌, ◌↔◌, ◌≤◌, ◌<◌, length, IfOk, IsErrOf};
-ghost use Rattle.alog_msg.specs.Message.{HasLongField};
 ghost use Rattle.alog_msg.specs.declared.limits.TheConstants.{LEAST_TEXT_LIMIT, MOST_TEXT_LIMIT};
-ghost use Rattle.alog_registry.specs.Given.{message_of};
+ghost use Rattle.alog_registry.specs.Given.{message_of, IsWithin, IsTooLongField};
 
 use alog_msg::{Level, Message, MessageError, SourceRef};
 use std::alloc::Global;
@@ -31,7 +30,8 @@ pub(crate) fn message(
     ensures made { IfOk result (λ m. m ≡ message_of given.entry) }
     ensures text_too_long { IsErrOf result MessageError.TextTooLong ↔ (text_limit < length given.entry.text.now) }
     ensures field_too_long { IsErrOf result MessageError.FieldTooLong ↔
-        ((length given.entry.text.now ≤ text_limit) × HasLongField given.entry.source) }
+        IsTooLongField text_limit given.entry.text.now given.entry.source }
+    ensures out_of_memory { IsErrOf result MessageError.OutOfMemory → IsWithin text_limit given.entry.text.now given.entry.source }
 {
     Message::new(
         alloc,

@@ -14,12 +14,16 @@
 mod backtrace;
 mod carry;
 mod dumped;
+mod dumping;
 mod error;
 mod given;
 mod keep;
 mod level_word;
+#[cfg(test)]
+mod log_tests;
 mod logger;
 mod loggers;
+mod logging;
 mod lookup;
 mod registry;
 #[cfg(test)]
@@ -35,6 +39,7 @@ pub use given::MessageRef;
 pub use keep::{Keep, LaneKeeper};
 pub use logger::{Logger, Spec};
 pub use loggers::Loggers;
+pub use logging::LogReply;
 pub use registry::Registry;
 pub use turn::{BacktraceItem, BacktraceReply, BacktraceScratch};
 pub use work::{SinkDeed, SinkTurn};
