@@ -26,7 +26,6 @@ pub not_none : (b : Bool) (n : ℕ) → b ≡ (n == 0) → b ≡ false → n ≢
 not_none b n e f z = let all : (n == 0) ≡ true = eq-eqb n 0 z in cc
 
 module _ {S : Type 0} (did : Doing S Item) (fit : S → Type 0) (p : Policy) where
-
   -- one message more
   pub posts_more : (ms : List Message) (a b c : S) (os : Outcomes) (m : Message) (o : Outcome (Unit {0})) → PostsEach did fit p ms a os b
       → PostsItemNow did fit p (Text m) b c o → PostsEach did fit p (ms ++ m ∷ []) a (os ++ o ∷ []) c

@@ -33,13 +33,13 @@ pub apart_more : (ls : List Logger) (x : Logger) → AreApart ls → ¬ IsTaken 
 apart_more ls x apart free m n name p q =
     elim (named_more ls x m name p) [
       | inl h ↦ elim (named_more ls x n name q) [
-          | inl k ↦ apart m n name h k
-          | inr k ↦ absurd (free (m, h ∙ ap (λ (t : List ℕ). Some t) (sym k.1)))
-        ]
+        | inl k ↦ apart m n name h k
+        | inr k ↦ absurd (free (m, h ∙ ap (λ (t : List ℕ). Some t) (sym k.1)))
+      ]
       | inr h ↦ elim (named_more ls x n name q) [
-          | inl k ↦ absurd (free (n, k ∙ ap (λ (t : List ℕ). Some t) (sym h.1)))
-          | inr k ↦ h.0 ∙ sym k.0
-        ]
+        | inl k ↦ absurd (free (n, k ∙ ap (λ (t : List ℕ). Some t) (sym h.1)))
+        | inr k ↦ h.0 ∙ sym k.0
+      ]
     ]
 
 pub listing_of_none : (levels : List Level) → levels ≡ [] → IsListing [] levels

@@ -48,6 +48,7 @@ impl Keep for Backtrace {
 
 /// A backtrace that threads share: it lends the backtrace's lane, a seat of it and the scratch. Contracts ask that the seat
 /// belongs to the lane. A message is not kept where another seat has the lock. The test `a_held_keeper_passes` shows it.
+#[derive(Drop)]
 pub struct LaneKeeper<'a> {
     /// The backtrace under its lock.
     pub lane: &'a Lane<Backtrace>,

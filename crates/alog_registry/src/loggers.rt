@@ -52,9 +52,7 @@ impl Loggers {
         ensures value { option_copied result ≡ spec_at self.now number }
         ensures known { IsSome result ↔ (number < length self.now) }
     {
-        self.loggers
-            .get(number as usize)
-            .map(|logger| &logger.spec)
+        self.loggers.get(number as usize).map(|logger| &logger.spec)
     }
 
     /// The level of the logger of this number as it is now, or `None` where there is no such logger.

@@ -12,7 +12,7 @@ pub(crate) fn number_of(loggers: &[Logger], name: &str) -> Option<u32>
     ensures { (n : ℕ) → (result ≡ Some n) ↔ (name_at loggers.now n ≡ Some name.now) }
 {
     for i in 0..loggers.len() {
-        if loggers[i].name.as_str() == name {
+        if has_name(&loggers[i], name) {
             return Some(i as u32);
         }
     }
@@ -26,4 +26,11 @@ pub(crate) fn is_taken(loggers: &[Logger], name: &str) -> bool
     ensures { IsTrue result ↔ IsTaken loggers.now name.now }
 {
     number_of(loggers, name).is_some()
+}
+
+/// Whether the logger has this name.
+fn has_name(logger: &Logger, name: &str) -> bool
+    ensures { IsTrue result ↔ (logger.now.name ≡ name.now) }
+{
+    logger.name.as_str() == name
 }

@@ -74,7 +74,10 @@ fn refusals_in_order(rt: HostRuntime) -> Result<(), Fail> {
         Some(AddError::BadLimit)
     );
     assert_eq!(rt; registry.find("db"), None);
-    assert_eq!(rt; refusal(alloc, &mut registry, longest.as_str(), 4_096)?, None);
+    assert_eq!(rt;
+        refusal(alloc, &mut registry, longest.as_str(), 4_096)?,
+        None
+    );
     assert_eq!(rt; registry.find(longest.as_str()), Some(1));
     Ok(())
 }
@@ -115,14 +118,23 @@ fn levels_are_set(rt: HostRuntime) -> Result<(), Fail> {
     assert_eq!(rt; registry.level(1), Some(Level::Info));
     assert!(rt; registry.set_level(1, Level::Debug));
     assert!(rt; !registry.set_level(9, Level::Debug));
-    assert_eq!(rt; (registry.level(0), registry.level(1)), (Some(Level::Info), Some(Level::Debug)));
+    assert_eq!(rt;
+        (registry.level(0), registry.level(1)),
+        (Some(Level::Info), Some(Level::Debug))
+    );
     assert_eq!(rt; registry.level(2), None);
     let loggers = frozen(&rt, alloc, registry);
     assert_eq!(rt; (loggers.find("db"), loggers.find("b")), (Some(1), None));
-    assert_eq!(rt; (loggers.level(0), loggers.level(1)), (Some(Level::Info), Some(Level::Debug)));
+    assert_eq!(rt;
+        (loggers.level(0), loggers.level(1)),
+        (Some(Level::Info), Some(Level::Debug))
+    );
     assert!(rt; loggers.set_level(0, Level::Off));
     assert!(rt; !loggers.set_level(9, Level::Debug));
-    assert_eq!(rt; (loggers.level(0), loggers.level(1)), (Some(Level::Off), Some(Level::Debug)));
+    assert_eq!(rt;
+        (loggers.level(0), loggers.level(1)),
+        (Some(Level::Off), Some(Level::Debug))
+    );
     assert_eq!(rt; (loggers.level(2), loggers.spec(2).is_none()), (None, true));
     let Some(first) = loggers.spec(0) else {
         panic!(rt; "there is a logger 0")
@@ -137,9 +149,15 @@ fn each_level_is_read_back(rt: HostRuntime) -> Result<(), Fail> {
     let mut registry = Registry::new(alloc);
     assert!(rt; registry.add("net", spec(alloc, 0)?).is_ok());
     let loggers = frozen(&rt, alloc, registry);
-    for name in ["trace", "debug", "info", "warning", "error", "critical", "off"] {
+    for name in [
+        "trace", "debug", "info", "warning", "error", "critical", "off",
+    ] {
         let level = Level::read(name).expect(&rt, "a level's name");
-        let (set, read) = thread::join(&rt, || loggers.set_level(0, level), || loggers.level(0).is_some());
+        let (set, read) = thread::join(
+            &rt,
+            || loggers.set_level(0, level),
+            || loggers.level(0).is_some(),
+        );
         assert!(rt; set && read);
         assert_eq!(rt; loggers.level(0), Some(level));
     }
@@ -184,7 +202,10 @@ fn dumps_the_last_two(rt: HostRuntime) -> Result<(), Fail> {
 #[test]
 fn limits_of_a_backtrace(rt: HostRuntime) -> Result<(), Fail> {
     let alloc = rt.alloc();
-    assert_eq!(rt; Backtrace::new(alloc, 4_097).err(), Some(BacktraceError::BadLimit));
+    assert_eq!(rt;
+        Backtrace::new(alloc, 4_097).err(),
+        Some(BacktraceError::BadLimit)
+    );
     assert_eq!(rt; Backtrace::new(alloc, 4_096)?.most(), 4_096);
     let mut none = Backtrace::new(alloc, 0)?;
     none.keep(debug(alloc, "m1")?);
@@ -243,7 +264,10 @@ fn turns_of_a_work(rt: HostRuntime) -> Result<(), Fail> {
         assert_eq!(rt; spec.turn_of_work(7, &text, 1), turn(1, SinkDeed::Take));
         assert_eq!(rt; spec.turn_of_work(7, &text, 2), None);
     }
-    assert_eq!(rt; spec.turn_of_work(7, &Item::Flush(0), 1), turn(1, SinkDeed::Flush));
+    assert_eq!(rt;
+        spec.turn_of_work(7, &Item::Flush(0), 1),
+        turn(1, SinkDeed::Flush)
+    );
     assert_eq!(rt; spec.turn_of_work(7, &Item::Flush(0), 2), None);
     assert_eq!(rt; spec.turn_of_work(7, &Item::Stop, 0), None);
     Ok(())

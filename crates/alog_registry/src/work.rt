@@ -56,8 +56,10 @@ impl Spec {
     fn turn_on(&self, tag: u64, deed: SinkDeed, place: usize) -> Option<SinkTurn>
         ensures { result ≡ slice_get (turns_on self.now.sinks.items tag deed) place }
     {
-        self.sinks
-            .get(place)
-            .map(|sink| SinkTurn { sink: *sink, tag, deed })
+        self.sinks.get(place).map(|sink| SinkTurn {
+            sink: *sink,
+            tag,
+            deed,
+        })
     }
 }

@@ -1,5 +1,4 @@
 use Rattle.alog_msg.specs.declared.item.Item.{Item}
-use Rattle.alog_msg.specs.declared.item.Item.TheVariants.{Text}
 use Rattle.alog_registry.specs.Carry.{PostsItemNow}
 use Rattle.std.proofs.Common.{subst}
 use Rattle.alog_registry.proofs.Posting.{made_and_posted}
@@ -11,5 +10,5 @@ returns-clause-post g c =
     let old = c.args.outlet.now in
     let new = c.post_now.new.self in
     let q = made_and_posted o.did o.is_fit g.met.O.Carry.together c.args.policy (o.shows c.message-value.result) old c.message-value.new.self
-        new c.post_now.result c.message-value.ensures.fit.1 c.post_now.ensures.post in
+    new c.post_now.result c.message-value.ensures.fit.1 c.post_now.ensures.post in
     subst (λ (x : Item). PostsItemNow o.did o.is_fit c.args.policy x old new c.post_now.result) c.message-value.ensures.made q

@@ -1,4 +1,4 @@
-use Rattle.std.proofs.Common.{◌≡◌, ◌∙◌}
+use Rattle.std.proofs.Common.{◌∙◌}
 use Rattle.std.proofs.lemmas.Option.{same_Some}
 use Rattle.alog_msg.specs.declared.item.Item.TheVariants.{Flush}
 use Rattle.alog_registry.proofs.Posting.{posted_by}

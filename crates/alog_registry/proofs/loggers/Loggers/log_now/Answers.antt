@@ -17,8 +17,7 @@ returns-in-Admitted-clause-logs g c = λ s e.
     let m = message_with a.number a.level a.time a.thread a.text.now a.source in
     let same : own ≡ s = same_Some _ _ (c.in-Some-Some.ensures.value ∙ e) in
     let made = simp (to_z-of_z, c.ranges.time) at c.in_ok-level.ensures.prepared in
-    let p = subst (λ z. IsPrepared o.did o.is_fit o.shows own m a.outlet.now z c.prepare.new.outlet) c.in-Admitted.is made in
-    (
+    let p = subst (λ z. IsPrepared o.did o.is_fit o.shows own m a.outlet.now z c.prepare.new.outlet) c.in-Admitted.is made in (
       posted_by o.did o.is_fit g.met.O.Carry.together own s (o.shows c.in-Admitted.value) (Text m) a.outlet.now c.prepare.new.outlet
           c.post_now-outcome.new.self c.post_now-outcome.result same p.0 p.3 c.post_now-outcome.ensures.post,
       subst (λ z. KeepsCopy k.keeps k.passes z c.keep_copy-in-Admitted.result a.keeper.now c.keep_copy-in-Admitted.new.keeper)
