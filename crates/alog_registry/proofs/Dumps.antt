@@ -6,7 +6,7 @@ use Rattle.alog_msg.specs.declared.message.Message.{Message}
 use Rattle.alog_policy.specs.Outlet.{Doing}
 use Rattle.alog_policy.specs.declared.policy.Policy.{Policy}
 use Rattle.alog_policy.specs.declared.policy.Outcome.{Outcome}
-use Rattle.alog_registry.specs.Carry.{PostsItemNow}
+use Rattle.alog_registry.specs.Carry.{PostsItem}
 use Rattle.alog_registry.specs.Dumping.{marker, posted_of, PostsEach}
 
 abbrev pub Outcomes : Type 0
@@ -28,8 +28,8 @@ not_none b n e f z = let all : (n == 0) ≡ true = eq-eqb n 0 z in cc
 module _ {S : Type 0} (did : Doing S Item) (fit : S → Type 0) (p : Policy) where
   -- one message more
   pub posts_more : (ms : List Message) (a b c : S) (os : Outcomes) (m : Message) (o : Outcome (Unit {0})) → PostsEach did fit p ms a os b
-      → PostsItemNow did fit p (Text m) b c o → PostsEach did fit p (ms ++ m ∷ []) a (os ++ o ∷ []) c
-  posts_more [] a b c [] m o e q = (c, subst (λ z. PostsItemNow did fit p (Text m) z c o) e q, refl)
+      → PostsItem did fit p (Text m) b c o → PostsEach did fit p (ms ++ m ∷ []) a (os ++ o ∷ []) c
+  posts_more [] a b c [] m o e q = (c, subst (λ z. PostsItem did fit p (Text m) z c o) e q, refl)
   posts_more [] a b c (o' ∷ os) m o h q = absurd h
   posts_more (m' ∷ ms) a b c [] m o h q = absurd h
   posts_more (m' ∷ ms) a b c (o' ∷ os) m o h q = (h.0, h.1, posts_more ms h.0 b c os m o h.2 q)
@@ -38,9 +38,9 @@ module _ {S : Type 0} (did : Doing S Item) (fit : S → Type 0) (p : Policy) whe
   pub dump_posts : (n : ℕ) (t : ℤ) (th : ℕ) (ms list : List Message) (start end : Message) (a b c d : S) (o o' : Outcome (Unit {0}))
       (first os all : Outcomes) → length ms ≢ 0 → start ≡ marker n t th (codes "=== backtrace start ===")
       → end ≡ marker n t th (codes "=== backtrace end ===") → list ≡ ms → first ≡ o ∷ [] → all ≡ os ++ o' ∷ []
-      → PostsItemNow did fit p (Text start) a b o
+      → PostsItem did fit p (Text start) a b o
       → ((s : S) (before : List Message) → PostsEach did fit p before s first b → PostsEach did fit p (before ++ list) s os c)
-      → PostsItemNow did fit p (Text end) c d o' → PostsEach did fit p (posted_of n t th ms) a all d
+      → PostsItem did fit p (Text end) c d o' → PostsEach did fit p (posted_of n t th ms) a all d
   dump_posts n t th [] list start end a b c d o o' first os all some starts ends lists firsts alls q between r = absurd (some refl)
   dump_posts n t th (m ∷ ms) list start end a b c d o o' first os all some starts ends lists firsts alls q between r =
       let one : PostsEach did fit p (start ∷ []) a first b =

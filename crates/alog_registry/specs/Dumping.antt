@@ -7,7 +7,7 @@ use Rattle.alog_msg.specs.declared.message.Message.{Message}
 use Rattle.alog_policy.specs.Outlet.{Doing}
 use Rattle.alog_policy.specs.declared.policy.Policy.{Policy}
 use Rattle.alog_policy.specs.declared.policy.Outcome.{Outcome}
-use Rattle.alog_registry.specs.Carry.{PostsItemNow}
+use Rattle.alog_registry.specs.Carry.{PostsItem}
 
 -- a marker of a dump: level info, no source
 abbrev pub marker : ℕ → ℤ → ℕ → List ℕ → Message
@@ -23,5 +23,5 @@ module _ {S : Type 0} (did : Doing S Item) (fit : S → Type 0) (p : Policy) whe
   -- Each of these messages is posted, one after another, with one outcome each.
   abbrev pub PostsEach : List Message → S → List (Outcome (Unit {0})) → S → Type 0
   PostsEach [] old [] new = new ≡ old
-  PostsEach (m ∷ ms) old (o ∷ os) new = (mid : S) × PostsItemNow did fit p (Text m) old mid o × PostsEach ms mid os new
+  PostsEach (m ∷ ms) old (o ∷ os) new = (mid : S) × PostsItem did fit p (Text m) old mid o × PostsEach ms mid os new
   PostsEach _ _ _ _ = ⊥

@@ -7,7 +7,8 @@ use Rattle.alog_msg.specs.declared.item.Item.TheVariants.{Text}
 use Rattle.alog_msg.specs.declared.level.Level.{Level}
 use Rattle.alog_msg.specs.declared.message.Message.{Message}
 use Rattle.alog_policy.specs.Outlet.{Doing}
-use Rattle.alog_registry.specs.Carry.{PostsItemNow}
+use Rattle.alog_policy.specs.declared.policy.Policy.{Policy}
+use Rattle.alog_registry.specs.Carry.{PostsItem}
 use Rattle.alog_registry.specs.Keep.{KeptOr}
 use Rattle.alog_registry.specs.declared.logger.Spec.{Spec}
 use Rattle.alog_registry.specs.declared.logging.LogReply.{LogReply}
@@ -31,11 +32,11 @@ module _ {K : Type 0} (keeps : K → Message → K → Type 0) (passes : K → K
 
 module _ {S K : Type 0} (did : Doing S Item) (fit : S → Type 0) (keeps : K → Message → K → Type 0) (passes : K → K → Type 0) where
   -- A message is filtered only where it is below the level that is told, and then nothing is posted. Otherwise the text that is
-  -- exactly this message is posted under the logger's policy. Either way it is kept as the answer says.
-  abbrev pub Logs : Spec → Message → S → K → LogReply → S → K → Type 0
-  Logs spec m s k (reply.Filtered level kept) t l = IsBelow m.level level × (t ≡ s) × KeepsCopy keeps passes (copy_of spec m) kept k l
-  Logs spec m s k (reply.Logged outcome kept) t l =
-      PostsItemNow did fit spec.policy (Text m) s t outcome × KeepsCopy keeps passes (copy_of spec m) kept k l
+  -- exactly this message is posted under this policy. Either way it is kept as the answer says.
+  abbrev pub Logs : Policy → Spec → Message → S → K → LogReply → S → K → Type 0
+  Logs p spec m s k (reply.Filtered level kept) t l = IsBelow m.level level × (t ≡ s) × KeepsCopy keeps passes (copy_of spec m) kept k l
+  Logs p spec m s k (reply.Logged outcome kept) t l =
+      PostsItem did fit p (Text m) s t outcome × KeepsCopy keeps passes (copy_of spec m) kept k l
 
 -- the text was not looked at: the message was filtered, and there is no backtrace
 abbrev pub IsUnread : Spec → LogReply → Type 0

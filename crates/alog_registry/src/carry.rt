@@ -161,7 +161,7 @@ impl Carry for Port<'_, Item> {
 }
 
 /// The outcome, whose item is dropped.
-fn dropped(outcome: Outcome<Item>) -> Outcome<()>
+pub(crate) fn dropped(outcome: Outcome<Item>) -> Outcome<()>
     ensures { result ≡ without_value outcome }
 {
     match outcome {

@@ -3,6 +3,7 @@ ghost use Rattle.std.specs.Prelude.{◌≡◌, ◌+◌, ◌<◌, ◌++◌, List,
 ghost use Rattle.alog_registry.specs.Backtrace.{room_for};
 ghost use Rattle.alog_msg.specs.declared.item.Item.TheVariants as item;
 ghost use Rattle.alog_msg.specs.declared.message.Message.{Message};
+ghost use Rattle.alog_policy.specs.Progress.{without_waiting};
 ghost use Rattle.alog_registry.specs.Carry.{PostsItemNow};
 ghost use Rattle.alog_registry.specs.Dumping.{marker, PostsEach, posted_of};
 ghost use Rattle.alog_registry.specs.Listed.{spec_at};
@@ -17,10 +18,10 @@ use alog_policy::{Outcome, Policy};
 use std::alloc::{AllocError, Global};
 
 /// The text of the message before those of a dump.
-const START: &str = "=== backtrace start ===";
+pub(crate) const START: &str = "=== backtrace start ===";
 
 /// The text of the message behind those of a dump.
-const END: &str = "=== backtrace end ===";
+pub(crate) const END: &str = "=== backtrace end ===";
 
 impl Loggers {
     /// Empties the backtrace and posts what it kept under the policy of the logger of this number, which is one that was added:
@@ -40,7 +41,7 @@ impl Loggers {
     ) -> Result<Vec<Outcome<()>>, AllocError>
         requires known { number < length self.now }
         requires ready { O.is_ready outlet.old }
-        ensures posted { (s : Spec) → spec_at self.now number ≡ Some s → IfOk result (λ v. PostsEach O.did O.is_fit s.policy
+        ensures posted { (s : Spec) → spec_at self.now number ≡ Some s → IfOk result (λ v. PostsEach O.did O.is_fit (without_waiting s.policy)
             (posted_of number time thread backtrace.old.messages) outlet.old v.items outlet.new) }
         ensures emptied { OnOk result (backtrace.new ≡ room_for backtrace.old.most) }
         ensures err { OnErr result ((outlet.new ≡ outlet.old) × (backtrace.new ≡ backtrace.old)) }
@@ -65,7 +66,7 @@ impl Loggers {
 }
 
 /// A marker of a dump.
-fn marker(
+pub(crate) fn marker(
     alloc: Global,
     number: u32,
     time: i64,
@@ -103,8 +104,8 @@ fn post_all<O: Carry>(
 )
     requires ready { O.is_ready outlet.old }
     requires room { vec_len outcomes.old + length list.old.messages < vec_capacity outcomes.old }
-    ensures posted { (s : O) (before : List Message) → PostsEach O.did O.is_fit policy before s outcomes.old.items outlet.old
-        → PostsEach O.did O.is_fit policy (before ++ list.old.messages) s outcomes.new.items outlet.new }
+    ensures posted { (s : O) (before : List Message) → PostsEach O.did O.is_fit (without_waiting policy) before s outcomes.old.items outlet.old
+        → PostsEach O.did O.is_fit (without_waiting policy) (before ++ list.old.messages) s outcomes.new.items outlet.new }
     ensures count { vec_len outcomes.new ≡ vec_len outcomes.old + length list.old.messages }
     ensures room { vec_capacity outcomes.new ≡ vec_capacity outcomes.old }
     ensures ready { O.is_ready outlet.new }

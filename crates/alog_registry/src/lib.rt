@@ -29,6 +29,7 @@ mod registry;
 #[cfg(test)]
 mod tests;
 mod turn;
+mod waiting;
 mod work;
 
 pub use backtrace::{Backtrace, BacktraceError};

@@ -2,6 +2,7 @@
 ghost use Rattle.std.specs.Prelude.{◌≡◌, ◌⊎◌, ◌≤◌, ◌<◌, length, Some, OnErr, IfOk, IsErrOf};
 ghost use Rattle.alog_msg.specs.declared.limits.TheConstants.{LEAST_TEXT_LIMIT, MOST_TEXT_LIMIT};
 ghost use Rattle.alog_msg.specs.declared.item.Item.TheVariants.{Flush};
+ghost use Rattle.alog_policy.specs.Progress.{without_waiting};
 ghost use Rattle.alog_registry.specs.Carry.{PostsItemNow};
 ghost use Rattle.alog_registry.specs.Given.{message_of, message_with, IsWithin, IsTooLongField};
 ghost use Rattle.alog_registry.specs.Listed.{spec_at};
@@ -37,7 +38,7 @@ pub enum LogReply {
 }
 
 /// What is made of a message before anything is done.
-enum Prepared<V> {
+pub(crate) enum Prepared<V> {
     /// It is below this level; the copy is to be kept.
     Filtered { level: Level, copy: Option<Message> },
     /// The value is to be posted; the copy is to be kept.
@@ -68,7 +69,7 @@ impl Loggers {
         requires limit { (LEAST_TEXT_LIMIT ≤ text_limit) × (text_limit ≤ MOST_TEXT_LIMIT) }
         requires outlet { O.is_ready outlet.old }
         requires keeper { K.is_ready keeper.old }
-        ensures logs { (s : Spec) → spec_at self.now number ≡ Some s → IfOk result (λ r. Logs O.did O.is_fit K.keeps K.passes s
+        ensures logs { (s : Spec) → spec_at self.now number ≡ Some s → IfOk result (λ r. Logs O.did O.is_fit K.keeps K.passes (without_waiting s.policy) s
             (message_with number level time thread text.now source.entry) outlet.old keeper.old r outlet.new keeper.new) }
         ensures within { (s : Spec) → spec_at self.now number ≡ Some s → IfOk result (λ r. IsUnread s r ⊎ IsWithin text_limit text.now source.entry) }
         ensures text_too_long { IsErrOf result MessageError.TextTooLong → text_limit < length text.now }
@@ -121,7 +122,7 @@ impl Loggers {
 }
 
 /// Makes all that a message needs before anything is done with it. Where this fails, nothing was done.
-fn prepare<O: Carry>(
+pub(crate) fn prepare<O: Carry>(
     alloc: Global,
     outlet: &mut O,
     text_limit: usize,

@@ -1,4 +1,5 @@
 use Rattle.std.proofs.Common.{◌≡◌, ◌+◌, [], ◌∷◌, ◌++◌, length, drop, arith, sym, ap, subst, ◌∙◌, append_assoc}
+use Rattle.alog_policy.specs.Progress.{without_waiting}
 use Rattle.alog_registry.specs.Dumping.{PostsEach}
 use Rattle.alog_registry.proofs.Dumps.{first_and_rest, taken_from, posts_more}
 use Rattle.alog_registry.proofs.dumping.post_all.Goals as goal
@@ -16,13 +17,13 @@ loop-message-preserved g c =
       posted = λ before s h.
           let now = c.loop-message.invariant.posted before s h in
           let gone = now.0 in
-          let all = posts_more o.did o.is_fit c.args.policy (before ++ gone) s c.loop-message.outlet c.post.new.outlet
+          let all = posts_more o.did o.is_fit (without_waiting c.args.policy) (before ++ gone) s c.loop-message.outlet c.post.new.outlet
           c.loop-message.outcomes.items m c.post.result now.2 c.post.ensures.post in (
             gone ++ m ∷ [],
             taken_from c.args.list.now.messages gone left c.take_oldest.new.self.messages m now.1 c.in-Some.ensures.oldest rest,
-            subst (λ ms. PostsEach o.did o.is_fit c.args.policy ms s c.push_reserved.new.self.items c.post.new.outlet)
+            subst (λ ms. PostsEach o.did o.is_fit (without_waiting c.args.policy) ms s c.push_reserved.new.self.items c.post.new.outlet)
                 (append_assoc before gone (m ∷ []))
-                (subst (λ os. PostsEach o.did o.is_fit c.args.policy ((before ++ gone) ++ m ∷ []) s os c.post.new.outlet)
+                (subst (λ os. PostsEach o.did o.is_fit (without_waiting c.args.policy) ((before ++ gone) ++ m ∷ []) s os c.post.new.outlet)
                 (sym c.push_reserved.ensures.items) all),
           );
       count = omega arith;

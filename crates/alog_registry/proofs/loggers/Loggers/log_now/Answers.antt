@@ -5,6 +5,7 @@ use Rattle.alog_msg.specs.declared.item.Item.TheVariants.{Text}
 use Rattle.alog_registry.specs.Given.{message_with}
 use Rattle.alog_registry.specs.Logging.{copy_of, KeepsCopy, IsPrepared}
 use Rattle.alog_registry.specs.declared.logger.Spec.{Spec}
+use Rattle.alog_policy.specs.Progress.{without_waiting}
 use Rattle.alog_registry.proofs.Posting.{posted_by}
 use Rattle.alog_registry.proofs.loggers.Loggers.log_now.Goals as goal
 
@@ -18,7 +19,7 @@ returns-in-Admitted-clause-logs g c = λ s e.
     let same : own ≡ s = same_Some _ _ (c.in-Some-Some.ensures.value ∙ e) in
     let made = simp (to_z-of_z, c.ranges.time) at c.in_ok-level.ensures.prepared in
     let p = subst (λ z. IsPrepared o.did o.is_fit o.shows own m a.outlet.now z c.prepare.new.outlet) c.in-Admitted.is made in (
-      posted_by o.did o.is_fit g.met.O.Carry.together own s (o.shows c.in-Admitted.value) (Text m) a.outlet.now c.prepare.new.outlet
+      posted_by o.did o.is_fit g.met.O.Carry.together without_waiting own s (o.shows c.in-Admitted.value) (Text m) a.outlet.now c.prepare.new.outlet
           c.post_now-outcome.new.self c.post_now-outcome.result same p.0 p.3 c.post_now-outcome.ensures.post,
       subst (λ z. KeepsCopy k.keeps k.passes z c.keep_copy-in-Admitted.result a.keeper.now c.keep_copy-in-Admitted.new.keeper)
           (p.1 ∙ ap (λ (z : Spec). copy_of z m) same) c.keep_copy-in-Admitted.ensures.kept,
