@@ -3,10 +3,12 @@ use Rattle.std.specs.Prelude.{◌≡◌, ℕ, None, Some}
 use Rattle.alog_lane.specs.Calls.{IsSeatOf, TakesTurn}
 use Rattle.alog_lane.specs.Turns.{Turned}
 use Rattle.alog_msg.specs.declared.message.Message.{Message}
+use Rattle.alog_registry.specs.Backtrace.{Room, room_for}
 use Rattle.alog_registry.specs.Turn.{Turns}
 use Rattle.alog_registry.specs.declared.turn.BacktraceItem.{BacktraceItem}
-use Rattle.alog_registry.specs.declared.turn.BacktraceItem.TheVariants.{Keep}
+use Rattle.alog_registry.specs.declared.turn.BacktraceItem.TheVariants.{Keep, Dump}
 use Rattle.alog_registry.specs.declared.turn.BacktraceReply.{BacktraceReply}
+use Rattle.alog_registry.specs.declared.turn.BacktraceReply.TheVariants.{Dumped}
 use Rattle.alog_registry.specs.declared.turn.BacktraceScratch.{BacktraceScratch}
 use Rattle.alog_registry.specs.declared.keep.LaneKeeper.{LaneKeeper}
 
@@ -36,3 +38,16 @@ pub record Passes (old new : LaneKeeper) : Type 0 where
   pub seat : new.seat.now ≡ old.seat.now
   pub message : new.scratch.now.message ≡ None
   pub list : new.scratch.now.list ≡ old.scratch.now.list
+
+-- an empty list with the backtrace's room lies in the scratch
+abbrev pub HasList : LaneKeeper → Type 0
+HasList k = k.scratch.now.list ≡ Some (room_for k.lane.now.first.most)
+
+-- The keeper emptied the backtrace, of which this was kept: by a turn of its seat, which is the next of the lane's history.
+pub record DumpsByTurn (old : LaneKeeper) (dumped : Room) (new : LaneKeeper) : Type 0 where
+  pub lends : LendsSame old new
+  pub deed : Turned BacktraceItem BacktraceScratch BacktraceReply
+  pub item : deed.item ≡ Dump
+  pub reply : deed.reply ≡ Dumped dumped
+  pub index : ℕ
+  pub turn : TakesTurn Turns old.lane.now.first old.seat.now.known new.seat.now.known deed index

@@ -1,5 +1,5 @@
 //! What a dump of a backtrace took: messages, oldest first.
-ghost use Rattle.std.specs.Prelude.{◌≡◌, ◌==◌, length, slice_get, drop, IfOk};
+ghost use Rattle.std.specs.Prelude.{◌≡◌, ◌==◌, ◌^◌, ◌<◌, ◌≤◌, length, slice_get, drop, IfOk};
 ghost use Rattle.alog_registry.specs.Backtrace.{room_for};
 
 use alog_msg::Message;
@@ -34,9 +34,18 @@ impl Dumped {
 
     /// How many messages are left.
     pub fn len(&self) -> usize
-        ensures { result ≡ length self.now.messages }
+        ensures len { result ≡ length self.now.messages }
+        ensures within { result ≤ self.now.most }
     {
         self.messages.len()
+    }
+
+    /// The most messages that there is room for.
+    pub fn most(&self) -> usize
+        ensures most { result ≡ self.now.most }
+        ensures within { result < 2 ^ 63 }
+    {
+        self.messages.capacity()
     }
 
     /// Whether none is left.

@@ -1,7 +1,8 @@
 use super::*;
 use alog_lane::Lane;
 use alog_msg::{Item, Level, Message, MessageError, SourceRef};
-use alog_policy::{Desk, Outcome, Policy, Stepped, Why};
+use alog_policy::{Desk, LossBook, Outcome, Policy, Port, Stepped, Why};
+use alog_ring::{PopError, Ring};
 use std::alloc::Global;
 use std::process::Abort;
 use std::test::Fail;
@@ -443,5 +444,104 @@ fn keepers_tell_what_they_kept(rt: HostRuntime) -> Result<(), Fail> {
         Ok(backtrace) => assert_eq!(rt; backtrace.len(), 2),
         Err(_) => panic!(rt; "no seat is out"),
     }
+    Ok(())
+}
+
+fn is_text(popped: Result<(u64, Item), PopError>, ticket: u64, text: &str) -> bool {
+    match popped {
+        Ok((found, Item::Text(message))) => found == ticket && message.text.as_str() == text,
+        Ok(_) | Err(_) => false,
+    }
+}
+
+#[test]
+fn logs_with_waiting(rt: HostRuntime) -> Result<(), Fail> {
+    let alloc = rt.alloc();
+    let loggers = one(&rt, alloc, Policy::Block, 2)?;
+    let (ring, mut pass) = Ring::<Item>::new(alloc, 8, 0)?;
+    let (book, mut losses) = LossBook::new(alloc)?;
+    let (lane, mut seat) = match Lane::new(alloc, Backtrace::new(alloc, 2)?) {
+        Ok(made) => made,
+        Err(_) => panic!(rt; "there is memory"),
+    };
+    let mut scratch = BacktraceScratch {
+        message: None,
+        list: Some(Dumped::new(alloc, 2)?),
+    };
+    let mut port = Port {
+        ring: &ring,
+        pass: &mut pass,
+        book: &book,
+        seat: &mut losses,
+    };
+    let mut keeper = LaneKeeper {
+        lane: &lane,
+        seat: &mut seat,
+        scratch: &mut scratch,
+    };
+    let outcomes = loggers.dump_shared(&rt, alloc, &mut port, &mut keeper, 0, 5, 7)?;
+    assert!(rt; outcomes.is_empty());
+    let answer = loggers.log(
+        &rt,
+        alloc,
+        &mut port,
+        &mut keeper,
+        TEXT_LIMIT,
+        0,
+        Level::Info,
+        0,
+        1,
+        "m1",
+        None,
+    )?;
+    assert_eq!(rt;
+        answer,
+        LogReply::Logged {
+            outcome: posted(0),
+            kept: true
+        }
+    );
+    for text in ["m2", "m3"] {
+        let answer = loggers.log(
+            &rt,
+            alloc,
+            &mut port,
+            &mut keeper,
+            TEXT_LIMIT,
+            0,
+            Level::Debug,
+            0,
+            1,
+            text,
+            None,
+        )?;
+        assert_eq!(rt;
+            answer,
+            LogReply::Filtered {
+                level: Level::Info,
+                kept: true
+            }
+        );
+    }
+    let outcomes = loggers.dump_shared(&rt, alloc, &mut port, &mut keeper, 0, 5, 7)?;
+    assert_eq!(rt;
+        outcomes.as_slice(),
+        [posted(1), posted(2), posted(3), posted(4)].as_slice()
+    );
+    assert_eq!(rt; loggers.flush(&mut port, 0), posted(5));
+    drop(port);
+    drop(keeper);
+    let texts = [
+        "m1",
+        "=== backtrace start ===",
+        "m2",
+        "m3",
+        "=== backtrace end ===",
+    ];
+    for ticket in 0..5 {
+        assert!(rt; is_text(ring.pop_once(&mut pass), ticket as u64, texts[ticket]));
+    }
+    assert!(rt; matches!(ring.pop_once(&mut pass), Ok((5, Item::Flush(0)))));
+    assert!(rt; scratch.list.is_some());
     Ok(())
 }

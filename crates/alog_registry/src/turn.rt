@@ -1,5 +1,5 @@
 //! A backtrace under a lock: what a turn at it does.
-ghost use Rattle.std.specs.Prelude.{◌≡◌, Some, None};
+ghost use Rattle.std.specs.Prelude.{◌≡◌, ◌<◌, ◌^◌, Some, None, IsSome, IfSome};
 ghost use Rattle.alog_registry.specs.Turn.{Turns, MayTurn, scratch_of};
 
 use crate::backtrace::Backtrace;
@@ -40,6 +40,25 @@ impl BacktraceScratch {
         ensures { self.new ≡ scratch_of (Some message) self.old.list }
     {
         self.message = Some(message);
+    }
+
+    /// Takes an empty list back, for the next dump.
+    pub(crate) fn take_back(&mut self, list: Dumped)
+        ensures { self.new ≡ scratch_of self.old.message (Some list) }
+    {
+        self.list = Some(list);
+    }
+
+    /// The room of the list.
+    pub(crate) fn room(&self) -> usize
+        requires { IsSome self.now.list }
+        ensures most { IfSome self.now.list (λ l. result ≡ l.most) }
+        ensures within { result < 2 ^ 63 }
+    {
+        match &self.list {
+            Some(list) => list.most(),
+            None => unreachable!(),
+        }
     }
 
     /// Drops the message that was brought.

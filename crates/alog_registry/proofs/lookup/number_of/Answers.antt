@@ -14,9 +14,9 @@ loop-i-preserved c =
     let x = c.index-loggers-i.result in
     let at = name_read c.args.loggers.now c.loop-i.i x (omega arith) c.index-loggers-i.is in
     let other : x.name ≢ c.args.name.now = λ e.
-        let yes = c.has_name.ensures.1 e in
-        let stays = c.if-has_name.false in
-        cc in
+    let yes = c.has_name.ensures.1 e in
+    let stays = c.if-has_name.false in
+    cc in
     none_further c.args.loggers.now c.args.name.now c.loop-i.i x c.loop-i.invariant at other
 
 pub returns : goal.returns

@@ -11,7 +11,7 @@ returns-clause-kept g c =
     let old = c.args.self.now in
     let r = c.turn.result in
     let P : BacktraceScratch → Type 0 = λ s.
-        TakesTurn Turns old.lane.now.first old.seat.now.known c.turn.new.seat.known
-        (record { tag = 0; item = Keep; before = s; reply = r.1; after = c.turn.new.scratch }) r.0 in
+    TakesTurn Turns old.lane.now.first old.seat.now.known c.turn.new.seat.known
+    (record { tag = 0; item = Keep; before = s; reply = r.1; after = c.turn.new.scratch }) r.0 in
     kept_by_turn old _ c.args.message r (record { lane = refl; seat = refl; scratch = refl })
     (subst P c.bring.ensures c.turn.ensures.turn)
