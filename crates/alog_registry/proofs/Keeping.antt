@@ -1,5 +1,5 @@
 -- A message that a turn of a lane kept.
-use Rattle.std.proofs.Common.{◌≡◌, ℕ, true, Some, None, List, [], ◌∷◌, ◌++◌, Result, Ok, Err, refl, sym, ap, subst, ◌∙◌}
+use Rattle.std.proofs.Common.{◌≡◌, ℕ, true, Some, List, [], ◌∷◌, ◌++◌, Result, Ok, Err, refl, sym, ap, subst, ◌∙◌}
 use Rattle.std.specs.Result.{IfOk, is_ok}
 use Rattle.alog_lane.specs.Seats.{Entry, Known}
 use Rattle.alog_lane.specs.Turns.{Turned, Leads}

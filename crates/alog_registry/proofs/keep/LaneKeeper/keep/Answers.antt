@@ -1,4 +1,4 @@
-use Rattle.std.proofs.Common.{refl, subst}
+use Rattle.std.proofs.Common.{refl, subst, ◌∙◌}
 use Rattle.alog_lane.specs.Calls.{TakesTurn}
 use Rattle.alog_registry.specs.Turn.{Turns}
 use Rattle.alog_registry.specs.declared.turn.BacktraceItem.TheVariants.{Keep}
@@ -15,3 +15,6 @@ returns-clause-kept g c =
     (record { tag = 0; item = Keep; before = s; reply = r.1; after = c.turn.new.scratch }) r.0 in
     kept_by_turn old _ c.args.message r (record { lane = refl; seat = refl; scratch = refl })
     (subst P c.bring.ensures c.turn.ensures.turn)
+
+pub returns-clause-list : goal.returns-clause-list
+returns-clause-list g c = λ h. (returns-clause-kept g c).list ∙ h
