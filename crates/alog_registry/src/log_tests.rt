@@ -1,12 +1,15 @@
 ghost use Rattle.std.specs.Prelude.{◌<◌, length, IfOk};
+ghost use Rattle.alog_policy.specs.Port.{IsFit};
+ghost use Rattle.alog_registry.specs.LaneKeeper.{IsSeated, HasList};
 
 use super::*;
 use alog_lane::Lane;
 use alog_msg::{Item, Level, Message, MessageError, SourceRef};
 use alog_policy::{Desk, LossBook, Outcome, Policy, Port, Stepped, Why};
-use alog_ring::{PopError, Ring};
+use alog_ring::Ring;
 use std::alloc::Global;
 use std::process::Abort;
+use std::sync::Wait;
 use std::test::Fail;
 
 const TEXT_LIMIT: usize = 64;
@@ -89,6 +92,66 @@ fn is_next(
     }
 }
 
+// Three messages are filtered and kept.
+fn keep_three<O: Carry, K: Keep>(
+    rt: &impl Abort,
+    loggers: &Loggers,
+    alloc: Global,
+    outlet: &mut O,
+    keeper: &mut K,
+) -> Result<(), Fail>
+    requires known { 0 < length loggers.now }
+    requires outlet { O.is_ready outlet.old }
+    requires keeper { K.is_ready keeper.old }
+    ensures ready { O.is_ready outlet.new × K.is_ready keeper.new }
+{
+    let kept = LogReply::Filtered {
+        level: Level::Info,
+        kept: true,
+    };
+    assert_eq!(rt;
+        say(loggers, alloc, outlet, keeper, Level::Debug, "m1")?,
+        kept
+    );
+    assert_eq!(rt;
+        say(loggers, alloc, outlet, keeper, Level::Debug, "m2")?,
+        kept
+    );
+    assert_eq!(rt;
+        say(loggers, alloc, outlet, keeper, Level::Debug, "m3")?,
+        kept
+    );
+    Ok(())
+}
+
+// The last two are dumped, and then nothing is.
+fn dump_twice<O: Carry>(
+    rt: &impl Abort,
+    loggers: &Loggers,
+    alloc: Global,
+    outlet: &mut O,
+    backtrace: &mut Backtrace,
+) -> Result<(), Fail>
+    requires known { 0 < length loggers.now }
+    requires outlet { O.is_ready outlet.old }
+    ensures ready { O.is_ready outlet.new }
+{
+    let outcomes = loggers.dump_backtrace(alloc, outlet, backtrace, 0, 5, 7)?;
+    let all = [posted(0), posted(1), posted(2), posted(3)];
+    assert_eq!(rt; outcomes.as_slice(), all.as_slice());
+    let none = loggers.dump_backtrace(alloc, outlet, backtrace, 0, 5, 7)?;
+    assert!(rt; none.is_empty());
+    Ok(())
+}
+
+// What a dump of the last two posted is taken.
+fn take_dumped(rt: &impl Abort, desk: &mut Desk<Item>) {
+    assert!(rt; is_next(rt, desk, Level::Info, 5, 7, "=== backtrace start ==="));
+    assert!(rt; is_next(rt, desk, Level::Debug, 0, 1, "m2"));
+    assert!(rt; is_next(rt, desk, Level::Debug, 0, 1, "m3"));
+    assert!(rt; is_next(rt, desk, Level::Info, 5, 7, "=== backtrace end ==="));
+}
+
 #[test]
 fn flushes_and_dumps_at_once(rt: HostRuntime) -> Result<(), Fail> {
     let alloc = rt.alloc();
@@ -96,59 +159,11 @@ fn flushes_and_dumps_at_once(rt: HostRuntime) -> Result<(), Fail> {
     let mut desk = Desk::<Item>::new(alloc, 8, 0)?;
     let mut backtrace = Backtrace::new(alloc, 2)?;
     let mut outlet = desk.outlet(1)?;
-    let kept = LogReply::Filtered {
-        level: Level::Info,
-        kept: true,
-    };
-    assert_eq!(rt;
-        say(
-            &loggers,
-            alloc,
-            &mut outlet,
-            &mut backtrace,
-            Level::Debug,
-            "m1"
-        )?,
-        kept
-    );
-    assert_eq!(rt;
-        say(
-            &loggers,
-            alloc,
-            &mut outlet,
-            &mut backtrace,
-            Level::Debug,
-            "m2"
-        )?,
-        kept
-    );
-    assert_eq!(rt;
-        say(
-            &loggers,
-            alloc,
-            &mut outlet,
-            &mut backtrace,
-            Level::Debug,
-            "m3"
-        )?,
-        kept
-    );
-    let outcomes = loggers.dump_backtrace(alloc, &mut outlet, &mut backtrace, 0, 5, 7)?;
-    assert_eq!(rt;
-        outcomes.as_slice(),
-        [posted(0), posted(1), posted(2), posted(3)].as_slice()
-    );
-    assert!(rt;
-        loggers
-            .dump_backtrace(alloc, &mut outlet, &mut backtrace, 0, 5, 7)?
-            .is_empty()
-    );
+    keep_three(&rt, &loggers, alloc, &mut outlet, &mut backtrace)?;
+    dump_twice(&rt, &loggers, alloc, &mut outlet, &mut backtrace)?;
     assert_eq!(rt; loggers.flush(&mut outlet, 0), posted(4));
     drop(outlet);
-    assert!(rt; is_next(&rt, &mut desk, Level::Info, 5, 7, "=== backtrace start ==="));
-    assert!(rt; is_next(&rt, &mut desk, Level::Debug, 0, 1, "m2"));
-    assert!(rt; is_next(&rt, &mut desk, Level::Debug, 0, 1, "m3"));
-    assert!(rt; is_next(&rt, &mut desk, Level::Info, 5, 7, "=== backtrace end ==="));
+    take_dumped(&rt, &mut desk);
     assert!(rt; matches!(popped(&rt, &mut desk), Item::Flush(0)));
     Ok(())
 }
@@ -480,11 +495,63 @@ fn keepers_tell_what_they_kept(rt: HostRuntime) -> Result<(), Fail> {
     Ok(())
 }
 
-fn is_text(popped: Result<(u64, Item), PopError>, ticket: u64, text: &str) -> bool {
-    match popped {
-        Ok((found, Item::Text(message))) => found == ticket && message.text.as_str() == text,
-        Ok(_) | Err(_) => false,
-    }
+// Logs a message with waiting, and answers whether that became of it.
+fn said<R: Wait>(
+    rt: &R,
+    loggers: &Loggers,
+    alloc: Global,
+    port: &mut Port<'_, Item>,
+    keeper: &mut LaneKeeper<'_>,
+    level: Level,
+    text: &str,
+) -> Result<LogReply, Fail>
+    requires known { 0 < length loggers.now }
+    requires fit { IsFit port.old }
+    requires seated { IsSeated keeper.old × HasList keeper.old }
+    ensures fit { IsFit port.new }
+    ensures seated { IsSeated keeper.new × HasList keeper.new }
+{
+    Ok(loggers.log(
+        rt, alloc, port, keeper, TEXT_LIMIT, 0, level, 0, 1, text, None,
+    )?)
+}
+
+// One message is logged, two are kept, and the last two of the three are dumped.
+fn log_and_dump<R: Wait + Abort>(
+    rt: &R,
+    loggers: &Loggers,
+    alloc: Global,
+    port: &mut Port<'_, Item>,
+    keeper: &mut LaneKeeper<'_>,
+) -> Result<(), Fail>
+    requires known { 0 < length loggers.now }
+    requires fit { IsFit port.old }
+    requires seated { IsSeated keeper.old × HasList keeper.old }
+{
+    let logged = LogReply::Logged {
+        outcome: posted(0),
+        kept: true,
+    };
+    let kept = LogReply::Filtered {
+        level: Level::Info,
+        kept: true,
+    };
+    assert_eq!(rt;
+        said(rt, loggers, alloc, port, keeper, Level::Info, "m1")?,
+        logged
+    );
+    assert_eq!(rt;
+        said(rt, loggers, alloc, port, keeper, Level::Debug, "m2")?,
+        kept
+    );
+    assert_eq!(rt;
+        said(rt, loggers, alloc, port, keeper, Level::Debug, "m3")?,
+        kept
+    );
+    let outcomes = loggers.dump_shared(rt, alloc, port, keeper, 0, 5, 7)?;
+    let all = [posted(1), posted(2), posted(3), posted(4)];
+    assert_eq!(rt; outcomes.as_slice(), all.as_slice());
+    Ok(())
 }
 
 #[test]
@@ -512,74 +579,11 @@ fn logs_with_waiting(rt: HostRuntime) -> Result<(), Fail> {
         seat: &mut seat,
         scratch: &mut scratch,
     };
-    let outcomes = loggers.dump_shared(&rt, alloc, &mut port, &mut keeper, 0, 5, 7)?;
-    assert!(rt; outcomes.is_empty());
-    let answer = loggers.log(
-        &rt,
-        alloc,
-        &mut port,
-        &mut keeper,
-        TEXT_LIMIT,
-        0,
-        Level::Info,
-        0,
-        1,
-        "m1",
-        None,
-    )?;
-    assert_eq!(rt;
-        answer,
-        LogReply::Logged {
-            outcome: posted(0),
-            kept: true
-        }
-    );
-    let kept = LogReply::Filtered {
-        level: Level::Info,
-        kept: true,
-    };
-    let answer = loggers.log(
-        &rt,
-        alloc,
-        &mut port,
-        &mut keeper,
-        TEXT_LIMIT,
-        0,
-        Level::Debug,
-        0,
-        1,
-        "m2",
-        None,
-    )?;
-    assert_eq!(rt; answer, kept);
-    let answer = loggers.log(
-        &rt,
-        alloc,
-        &mut port,
-        &mut keeper,
-        TEXT_LIMIT,
-        0,
-        Level::Debug,
-        0,
-        1,
-        "m3",
-        None,
-    )?;
-    assert_eq!(rt; answer, kept);
-    let outcomes = loggers.dump_shared(&rt, alloc, &mut port, &mut keeper, 0, 5, 7)?;
-    assert_eq!(rt;
-        outcomes.as_slice(),
-        [posted(1), posted(2), posted(3), posted(4)].as_slice()
-    );
-    assert_eq!(rt; loggers.flush(&mut port, 0), posted(5));
+    let none = loggers.dump_shared(&rt, alloc, &mut port, &mut keeper, 0, 5, 7)?;
+    assert!(rt; none.is_empty());
+    log_and_dump(&rt, &loggers, alloc, &mut port, &mut keeper)?;
     drop(port);
     drop(keeper);
-    assert!(rt; is_text(ring.pop_once(&mut pass), 0, "m1"));
-    assert!(rt; is_text(ring.pop_once(&mut pass), 1, "=== backtrace start ==="));
-    assert!(rt; is_text(ring.pop_once(&mut pass), 2, "m2"));
-    assert!(rt; is_text(ring.pop_once(&mut pass), 3, "m3"));
-    assert!(rt; is_text(ring.pop_once(&mut pass), 4, "=== backtrace end ==="));
-    assert!(rt; matches!(ring.pop_once(&mut pass), Ok((5, Item::Flush(0)))));
     assert!(rt; scratch.list.is_some());
     Ok(())
 }
