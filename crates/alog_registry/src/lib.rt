@@ -29,6 +29,8 @@ mod registry;
 #[cfg(test)]
 mod tests;
 mod turn;
+#[cfg(test)]
+mod wait_tests;
 mod waiting;
 mod work;
 
