@@ -24,7 +24,8 @@ module _ {S : Type 0} (did : Doing S Item) (fit : S → Type 0)
   }
 
   -- the same, under the policy of the spec that was found, as it is read, and of the item that the value shows
-  pub posted_by : (read : Policy → Policy) (found spec : Spec) (shown x : Item) (a b c : S) (o : Outcome (Unit {0})) → found ≡ spec → shown ≡ x → did a [] 0 0 b
+  pub posted_by : (read : Policy → Policy) (found spec : Spec) (shown x : Item) (a b c : S) (o : Outcome (Unit {0}))
+      → found ≡ spec → shown ≡ x → did a [] 0 0 b
       → PostsItem did fit (read found.policy) shown b c o → PostsItem did fit (read spec.policy) x a c o
   posted_by read found spec shown x a b c o same shows idle q =
       let P : Policy → Item → Type 0 = λ p y. PostsItem did fit p y a c o in
