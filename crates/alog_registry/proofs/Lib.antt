@@ -1,0 +1,4 @@
+pub mod Listing
+pub mod Keeping
+pub mod Posting
+pub mod Dumps

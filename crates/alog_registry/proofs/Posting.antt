@@ -1,0 +1,32 @@
+-- A post whose value was made before.
+use Rattle.std.proofs.Common.{◌≡◌, ℕ, ◌+◌, List, [], ◌++◌, subst, zero-add}
+use Rattle.alog_core.specs.Queue.{Event}
+use Rattle.alog_msg.specs.declared.item.Item.{Item}
+use Rattle.alog_policy.specs.Outlet.{Doing}
+use Rattle.alog_policy.specs.Post.{overran_in, discards_in}
+use Rattle.alog_policy.specs.declared.policy.Policy.{Policy}
+use Rattle.alog_policy.specs.declared.policy.Outcome.{Outcome}
+use Rattle.alog_registry.specs.Carry.{PostsItem}
+use Rattle.alog_registry.specs.declared.logger.Spec.{Spec}
+
+module _ {S : Type 0} (did : Doing S Item)
+    (together : (a b c : S) (es fs : List (Event Item)) (k l m n : ℕ) → did a es k l b → did b fs m n c
+    → did a (es ++ fs) (k + m) (l + n) c) where
+  -- the value was made without an event, and then posted
+  pub made_and_posted : (p : Policy) (x : Item) (a b c : S) (o : Outcome (Unit {0})) → did a [] 0 0 b
+      → PostsItem did p x b c o → PostsItem did p x a c o
+  made_and_posted p x a b c o idle q = record {
+    events = q.events;
+    post = q.post;
+    done = subst (λ n. did a q.events n (discards_in o) c) (zero-add (overran_in o))
+        (subst (λ n. did a q.events (0 + overran_in o) n c) (zero-add (discards_in o))
+        (together a b c [] q.events 0 0 (overran_in o) (discards_in o) idle q.done));
+  }
+
+  -- the same, under the policy of the spec that was found, as it is read, and of the item that the value shows
+  pub posted_by : (read : Policy → Policy) (found spec : Spec) (shown x : Item) (a b c : S) (o : Outcome (Unit {0}))
+      → found ≡ spec → shown ≡ x → did a [] 0 0 b
+      → PostsItem did (read found.policy) shown b c o → PostsItem did (read spec.policy) x a c o
+  posted_by read found spec shown x a b c o same shows idle q =
+      let P : Policy → Item → Type 0 = λ p y. PostsItem did p y a c o in
+      subst (λ s. P (read s.policy) x) same (subst (P (read found.policy)) shows (made_and_posted (read found.policy) shown a b c o idle q))

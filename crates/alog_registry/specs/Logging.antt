@@ -1,0 +1,54 @@
+-- What a logger does with a message.
+use Rattle.std.specs.Prelude.{◌≡◌, ◌<◌, ◌==◌, Bool, false, if◌then◌else◌, [], Option, None, Some}
+use Rattle.alog_msg.specs.Level.{row_of}
+use Rattle.alog_msg.specs.declared.item.Item.{Item}
+use Rattle.alog_msg.specs.declared.item.Item.TheVariants.{Text}
+use Rattle.alog_msg.specs.declared.level.Level.{Level}
+use Rattle.alog_msg.specs.declared.message.Message.{Message}
+use Rattle.alog_policy.specs.Outlet.{Doing}
+use Rattle.alog_policy.specs.declared.policy.Policy.{Policy}
+use Rattle.alog_registry.specs.Carry.{PostsItem}
+use Rattle.alog_registry.specs.Keep.{KeptOr}
+use Rattle.alog_registry.specs.declared.logger.Spec.{Spec}
+use Rattle.alog_registry.specs.declared.logging.LogReply.{LogReply}
+use Rattle.alog_registry.specs.declared.logging.LogReply.TheVariants as reply
+use Rattle.alog_registry.specs.declared.logging.Prepared.{Prepared}
+use Rattle.alog_registry.specs.declared.logging.Prepared.TheVariants as made
+
+-- a message of this level is filtered by a logger of that one
+abbrev pub IsBelow : Level → Level → Type 0
+IsBelow level own = (row_of level).number < (row_of own).number
+
+-- what is kept of a message: all of it where its logger has a backtrace
+abbrev pub copy_of : Spec → Message → Option Message
+copy_of spec m = if spec.backtrace == 0 then None else Some m
+
+module _ {K : Type 0} (keeps : K → Message → K → Type 0) (passes : K → K → Type 0) where
+  -- where there is nothing to keep, the keeper is as it was; elsewhere it answers whether it kept it
+  abbrev pub KeepsCopy : Option Message → Bool → K → K → Type 0
+  KeepsCopy None kept old new = (kept ≡ false) × (new ≡ old)
+  KeepsCopy (Some m) kept old new = KeptOr keeps passes kept old m new
+
+module _ {S K : Type 0} (did : Doing S Item) (keeps : K → Message → K → Type 0) (passes : K → K → Type 0) where
+  -- A message is filtered only where it is below the level that is told, and then nothing is posted. Otherwise the text that is
+  -- exactly this message is posted under this policy. Either way it is kept as the answer says.
+  abbrev pub Logs : Policy → Spec → Message → S → K → LogReply → S → K → Type 0
+  Logs p spec m s k (reply.Filtered level kept) t l = IsBelow m.level level × (t ≡ s) × KeepsCopy keeps passes (copy_of spec m) kept k l
+  Logs p spec m s k (reply.Logged outcome kept) t l =
+      PostsItem did p (Text m) s t outcome × KeepsCopy keeps passes (copy_of spec m) kept k l
+
+-- the text was not looked at: the message was filtered, and there is no backtrace
+abbrev pub IsUnread : Spec → LogReply → Type 0
+IsUnread spec (reply.Filtered level kept) = spec.backtrace ≡ 0
+IsUnread spec (reply.Logged outcome kept) = ⊥
+
+module _ {S V : Type 0} (did : Doing S Item) (fit : S → Type 0) (shows : V → Item) where
+  -- What was made before anything is done: the copy that is to be kept and, unless it is filtered, the value of the text.
+  abbrev pub IsPrepared : Spec → Message → S → Prepared V → S → Type 0
+  IsPrepared spec m old (made.Filtered level copy) new = IsBelow m.level level × (copy ≡ copy_of spec m) × (new ≡ old)
+  IsPrepared spec m old (made.Admitted value copy) new =
+      (shows value ≡ Text m) × (copy ≡ copy_of spec m) × fit new × did old [] 0 0 new
+
+abbrev pub IsUnmade : {V : Type 0} → Spec → Prepared V → Type 0
+IsUnmade spec (made.Filtered level copy) = spec.backtrace ≡ 0
+IsUnmade spec (made.Admitted value copy) = ⊥

@@ -1,0 +1,179 @@
+//! Outlets that carry items: how a post's value is made, apart from how it is posted.
+ghost use Rattle.std.specs.Prelude.{◌≡◌};
+ghost use Rattle.alog_registry.specs.Carry.{without_value};
+
+use crate::given::{MessageRef, message};
+use alog_msg::{Item, Message, MessageError};
+use alog_policy::{DeskOutlet, Outcome, Policy, Port, post_now};
+use std::alloc::Global;
+
+/// An outlet whose cells show items. A post is made in two steps: its value is made, and then it is posted.
+///
+/// `did` tells of two states of the outlet which events its actor made between them, and how many losses were counted; `shows`
+/// is the item that a cell of the queue shows of a value. `is_ready` is what the making of a value asks of the outlet, `is_fit`
+/// what a post asks. Nothing here waits, and only `text` may take memory.
+pub trait Carry {
+    ghost use Rattle.std.specs.Prelude.{◌≡◌, ◌↔◌, ◌≤◌, ◌<◌, ◌+◌, ℕ, List, [], ◌++◌, length, IfOk, OnOk, OnErr, IsErrOf};
+    ghost use Rattle.alog_core.specs.Queue.{Event};
+    ghost use Rattle.alog_msg.specs.declared.limits.TheConstants.{LEAST_TEXT_LIMIT, MOST_TEXT_LIMIT};
+    ghost use Rattle.alog_msg.specs.declared.item.Item.{Item};
+    ghost use Rattle.alog_msg.specs.declared.item.Item.TheVariants.{Text, Flush};
+    ghost use Rattle.alog_registry.specs.Carry.{PostsItemNow};
+    ghost use Rattle.alog_registry.specs.Given.{message_of, IsWithin, IsTooLongField};
+
+    /// What a post brings.
+    type Value;
+
+    ghost shows: { Self.Value → Item };
+
+    ghost is_ready: { Self → Type 0 };
+
+    ghost is_fit: { Self → Type 0 };
+
+    ghost did: { Self → List (Event Item) → ℕ → ℕ → Self → Type 0 };
+
+    /// Makes the value of a text of these fields. A text limit is 64 to 8,192 bytes. A refusal, which is one of
+    /// `Message::new`, leaves the outlet as it was.
+    fn text(
+        &mut self,
+        alloc: Global,
+        text_limit: usize,
+        given: MessageRef<'_>,
+    ) -> Result<Self::Value, MessageError>
+        requires ready { is_ready self.old }
+        requires limit { (LEAST_TEXT_LIMIT ≤ text_limit) × (text_limit ≤ MOST_TEXT_LIMIT) }
+        ensures made { IfOk result (λ v. shows v ≡ Text (message_of given.entry)) }
+        ensures fit { OnOk result (is_fit self.new × did self.old [] 0 0 self.new) }
+        ensures text_too_long { IsErrOf result MessageError.TextTooLong ↔ (text_limit < length given.entry.text.now) }
+        ensures field_too_long { IsErrOf result MessageError.FieldTooLong
+            ↔ IsTooLongField text_limit given.entry.text.now given.entry.source }
+        ensures out_of_memory { IsErrOf result MessageError.OutOfMemory
+            → IsWithin text_limit given.entry.text.now given.entry.source }
+        ensures err { OnErr result (self.new ≡ self.old) };
+
+    /// Makes the value of a text that is this message.
+    fn message(&mut self, message: Message) -> Self::Value
+        requires { is_ready self.old }
+        ensures made { shows result ≡ Text message }
+        ensures fit { is_fit self.new × did self.old [] 0 0 self.new };
+
+    /// Makes the value of a flush of the logger of this number.
+    fn flush(&mut self, number: u32) -> Self::Value
+        requires { is_ready self.old }
+        ensures made { shows result ≡ Flush number }
+        ensures fit { is_fit self.new × did self.old [] 0 0 self.new };
+
+    /// Posts the value, as `alog_policy::post_now` does. Nothing is handed back of a discarded one.
+    fn post_now(&mut self, policy: Policy, value: Self::Value) -> Outcome<()>
+        requires { is_fit self.old }
+        ensures post { PostsItemNow did policy (shows value) self.old self.new result }
+        ensures ready { is_ready self.new };
+
+    // What was done first and what was done then are one.
+    ghost together: { (a b c : Self) (es fs : List (Event Item)) (k l m n : ℕ) → did a es k l b → did b fs m n c
+        → did a (es ++ fs) (k + m) (l + n) c };
+}
+
+/// An actor of a desk of items.
+impl Carry for DeskOutlet<'_, Item> {
+    ghost use Rattle.std.specs.Prelude.{◌≡◌};
+    ghost use Rattle.alog_policy.specs.DeskOutlet.{IsFree, DeskDid};
+    ghost use Rattle.alog_policy.specs.Together.{did_together};
+    ghost use Rattle.std.proofs.Common.{subst, ◌∙◌};
+
+    type Value = Item;
+
+    ghost shows = { λ x. x };
+
+    ghost is_ready = { λ o. IsFree o.desk.now o.actor };
+
+    ghost is_fit = { λ o. IsFree o.desk.now o.actor };
+
+    ghost did = { λ o es k l p. (p.actor ≡ o.actor) × (p.desk.ghost_name ≡ o.desk.ghost_name)
+        × DeskDid o.actor o.desk.now es k l p.desk.now };
+
+    fn text(
+        &mut self,
+        alloc: Global,
+        text_limit: usize,
+        given: MessageRef<'_>,
+    ) -> Result<Item, MessageError> {
+        Ok(Item::Text(message(alloc, text_limit, given)?))
+    }
+
+    fn message(&mut self, message: Message) -> Item {
+        Item::Text(message)
+    }
+
+    fn flush(&mut self, number: u32) -> Item {
+        Item::Flush(number)
+    }
+
+    fn post_now(&mut self, policy: Policy, value: Item) -> Outcome<()> {
+        dropped(post_now(self, policy, value))
+    }
+
+    ghost together = { λ a b c es fs k l m n first then. (
+      then.0 ∙ first.0,
+      then.1 ∙ first.1,
+      did_together a.actor a.desk.now b.desk.now c.desk.now es fs k l m n first.2
+          (subst (λ x. DeskDid x b.desk.now fs m n c.desk.now) first.0 then.2),
+    ) };
+}
+
+/// A port of a running ring of items.
+impl Carry for Port<'_, Item> {
+    ghost use Rattle.alog_policy.specs.Port.{IsFit, PortDid};
+    ghost use Rattle.alog_policy.specs.PortTogether.{port_together};
+
+    type Value = Item;
+
+    ghost shows = { λ x. x };
+
+    ghost is_ready = { IsFit };
+
+    ghost is_fit = { IsFit };
+
+    ghost did = { PortDid };
+
+    fn text(
+        &mut self,
+        alloc: Global,
+        text_limit: usize,
+        given: MessageRef<'_>,
+    ) -> Result<Item, MessageError> {
+        Ok(Item::Text(message(alloc, text_limit, given)?))
+    }
+
+    fn message(&mut self, message: Message) -> Item {
+        Item::Text(message)
+    }
+
+    fn flush(&mut self, number: u32) -> Item {
+        Item::Flush(number)
+    }
+
+    fn post_now(&mut self, policy: Policy, value: Item) -> Outcome<()> {
+        dropped(post_now(self, policy, value))
+    }
+
+    ghost together = { port_together };
+}
+
+/// The outcome, whose item is dropped.
+pub(crate) fn dropped(outcome: Outcome<Item>) -> Outcome<()>
+    ensures { result ≡ without_value outcome }
+{
+    match outcome {
+        Outcome::Posted { ticket, overran } => Outcome::Posted { ticket, overran },
+        Outcome::Discarded {
+            value: _,
+            why,
+            overran,
+        } => Outcome::Discarded {
+            value: (),
+            why,
+            overran,
+        },
+    }
+}

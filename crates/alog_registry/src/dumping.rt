@@ -1,0 +1,116 @@
+//! Posting what a backtrace kept.
+ghost use Rattle.std.specs.Prelude.{◌≡◌, ◌+◌, ◌<◌, ◌++◌, List, length, Some, OnErr, OnOk, IfOk, vec_len, vec_capacity};
+ghost use Rattle.alog_registry.specs.Backtrace.{room_for};
+ghost use Rattle.alog_msg.specs.declared.item.Item.TheVariants as item;
+ghost use Rattle.alog_msg.specs.declared.message.Message.{Message};
+ghost use Rattle.alog_policy.specs.Progress.{without_waiting};
+ghost use Rattle.alog_registry.specs.Carry.{PostsItemNow};
+ghost use Rattle.alog_registry.specs.Dumping.{marker, PostsEach, posted_of};
+ghost use Rattle.alog_registry.specs.Listed.{spec_at};
+ghost use Rattle.alog_registry.specs.declared.logger.Spec.{Spec};
+
+use crate::backtrace::Backtrace;
+use crate::carry::Carry;
+use crate::dumped::Dumped;
+use crate::loggers::Loggers;
+use alog_msg::{Level, Message, Text};
+use alog_policy::{Outcome, Policy};
+use std::alloc::{AllocError, Global};
+
+/// The text of the message before those of a dump.
+pub(crate) const START: &str = "=== backtrace start ===";
+
+/// The text of the message behind those of a dump.
+pub(crate) const END: &str = "=== backtrace end ===";
+
+impl Loggers {
+    /// Empties the backtrace and posts what it kept under the policy of the logger of this number, which is one that was added:
+    /// a marker, the messages oldest first, and a marker. The markers have level info, this time and this thread, and no
+    /// source. It answers one outcome for each post; a discarded post does not end the dump. It never waits.
+    ///
+    /// Where nothing was kept, nothing is posted and no memory is taken. Otherwise all that is needed is made before the backtrace
+    /// is emptied; where there is no memory, everything is as it was. The test `flushes_and_dumps_at_once` shows it.
+    pub fn dump_backtrace<O: Carry>(
+        &self,
+        alloc: Global,
+        outlet: &mut O,
+        backtrace: &mut Backtrace,
+        number: u32,
+        time: i64,
+        thread: u64,
+    ) -> Result<Vec<Outcome<()>>, AllocError>
+        requires known { number < length self.now }
+        requires ready { O.is_ready outlet.old }
+        ensures posted { (s : Spec) → spec_at self.now number ≡ Some s → IfOk result (λ v. PostsEach O.did (without_waiting s.policy)
+            (posted_of number time thread backtrace.old.messages) outlet.old v.items outlet.new) }
+        ensures emptied { OnOk result (backtrace.new ≡ room_for backtrace.old.most) }
+        ensures err { OnErr result ((outlet.new ≡ outlet.old) × (backtrace.new ≡ backtrace.old)) }
+        ensures ready { O.is_ready outlet.new }
+    {
+        let Some(spec) = self.spec(number) else {
+            unreachable!()
+        };
+        if backtrace.is_empty() {
+            return Ok(Vec::new(alloc));
+        }
+        let room = Dumped::new(alloc, backtrace.most())?;
+        let mut outcomes = Vec::with_capacity(alloc, backtrace.len() + 2)?;
+        let start = marker(alloc, number, time, thread, START)?;
+        let end = marker(alloc, number, time, thread, END)?;
+        let mut list = backtrace.dump(room);
+        outcomes.push_reserved(post(outlet, spec.policy, start));
+        post_all(outlet, spec.policy, &mut list, &mut outcomes);
+        outcomes.push_reserved(post(outlet, spec.policy, end));
+        Ok(outcomes)
+    }
+}
+
+/// A marker of a dump.
+pub(crate) fn marker(
+    alloc: Global,
+    number: u32,
+    time: i64,
+    thread: u64,
+    text: &str,
+) -> Result<Message, AllocError>
+    ensures { IfOk result (λ m. m ≡ marker number time thread text.now) }
+{
+    Ok(Message {
+        logger: number,
+        level: Level::Info,
+        time,
+        thread,
+        text: Text::copy_of(alloc, text)?,
+        source: None,
+    })
+}
+
+/// Posts a message.
+fn post<O: Carry>(outlet: &mut O, policy: Policy, message: Message) -> Outcome<()>
+    requires { O.is_ready outlet.old }
+    ensures post { PostsItemNow O.did policy (item.Text message) outlet.old outlet.new result }
+    ensures ready { O.is_ready outlet.new }
+{
+    let value = outlet.message(message);
+    outlet.post_now(policy, value)
+}
+
+/// Posts all messages of the list, oldest first, for whose outcomes there is room.
+fn post_all<O: Carry>(
+    outlet: &mut O,
+    policy: Policy,
+    list: &mut Dumped,
+    outcomes: &mut Vec<Outcome<()>>,
+)
+    requires ready { O.is_ready outlet.old }
+    requires room { vec_len outcomes.old + length list.old.messages < vec_capacity outcomes.old }
+    ensures posted { (s : O) (before : List Message) → PostsEach O.did (without_waiting policy) before s outcomes.old.items outlet.old
+        → PostsEach O.did (without_waiting policy) (before ++ list.old.messages) s outcomes.new.items outlet.new }
+    ensures count { vec_len outcomes.new ≡ vec_len outcomes.old + length list.old.messages }
+    ensures room { vec_capacity outcomes.new ≡ vec_capacity outcomes.old }
+    ensures ready { O.is_ready outlet.new }
+{
+    while let Some(message) = list.take_oldest() {
+        outcomes.push_reserved(post(outlet, policy, message));
+    }
+}

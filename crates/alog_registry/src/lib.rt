@@ -1,0 +1,54 @@
+//! Loggers by name: their levels and policies, and what a logger keeps for a backtrace.
+//!
+//! A `Registry` is a list of loggers, each with a name and a `Spec`, and of their levels. `freeze` makes `Loggers` of it,
+//! which threads share: the list stays as it is, and each level is one word that anybody may set.
+//!
+//! A `Backtrace` keeps the last messages that it is given, until they are dumped; under the lock of a lane it takes turns.
+//! Which turns on sinks a worker makes for an item that it took is told by the `Spec` of the item's logger.
+//!
+//! Read `logger.rt` (a logger and its `Spec`), `registry.rt` and `loggers.rt` with `specs/Listed.antt` (numbers and names);
+//! `backtrace.rt` and `dumped.rt` with `specs/Backtrace.antt`, `turn.rt` with `specs/Turn.antt`; `work.rt` with
+//! `specs/Work.antt`. Below them are `lookup.rt` (a number by a name) and `level_word.rt`.
+#![tactic(auto)]
+
+mod backtrace;
+mod carry;
+mod dumped;
+mod dumping;
+mod error;
+mod given;
+mod keep;
+mod level_word;
+#[cfg(test)]
+mod log_tests;
+mod logger;
+mod loggers;
+mod logging;
+mod lookup;
+mod registry;
+#[cfg(test)]
+mod tests;
+mod turn;
+#[cfg(test)]
+mod wait_tests;
+mod waiting;
+mod work;
+
+pub use backtrace::{Backtrace, BacktraceError};
+pub use carry::Carry;
+pub use dumped::Dumped;
+pub use error::{AddError, RefusedSpec};
+pub use given::MessageRef;
+pub use keep::{Keep, LaneKeeper};
+pub use logger::{Logger, Spec};
+pub use loggers::Loggers;
+pub use logging::LogReply;
+pub use registry::Registry;
+pub use turn::{BacktraceItem, BacktraceReply, BacktraceScratch};
+pub use work::{SinkDeed, SinkTurn};
+
+/// There are no more loggers than this.
+pub const MOST_LOGGERS: usize = 256;
+
+/// No backtrace keeps more messages than this.
+pub const MOST_KEPT: usize = 4_096;

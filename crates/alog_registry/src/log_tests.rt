@@ -1,0 +1,497 @@
+ghost use Rattle.std.specs.Prelude.{◌<◌, length, IfOk};
+
+use super::*;
+use alog_lane::Lane;
+use alog_msg::{Item, Level, Message, MessageError, SourceRef};
+use alog_policy::{Desk, Outcome, Policy, Stepped, Why};
+use std::alloc::Global;
+use std::process::Abort;
+use std::test::Fail;
+
+pub(crate) const TEXT_LIMIT: usize = 64;
+
+// One logger `net`, as level info.
+pub(crate) fn one(
+    rt: &impl Abort,
+    alloc: Global,
+    policy: Policy,
+    backtrace: usize,
+) -> Result<Loggers, Fail>
+    ensures { IfOk result (λ l. 0 < length l) }
+{
+    let mut registry = Registry::new(alloc);
+    let spec = Spec {
+        level: Level::Info,
+        policy,
+        flush_on: Level::Off,
+        backtrace,
+        sinks: Vec::from_slice(alloc, &[0])?,
+    };
+    assert_eq!(rt; registry.add("net", spec).ok(), Some(0));
+    match registry.freeze(alloc) {
+        Ok(loggers) => {
+            assert!(rt; loggers.spec(0).is_some());
+            Ok(loggers)
+        }
+        Err(_) => panic!(rt; "there is memory"),
+    }
+}
+
+pub(crate) fn posted(ticket: u64) -> Outcome<()> {
+    Outcome::Posted { ticket, overran: 0 }
+}
+
+// What the next pop of a whole desk takes.
+fn popped(rt: &impl Abort, desk: &mut Desk<Item>) -> Item {
+    assert!(rt; desk.begin_pop(9).is_ok());
+    for _ in 0..4 {
+        let Ok(Stepped { said, outcome: _ }) = desk.step(9) else {
+            panic!(rt; "the actor is in a call")
+        };
+        if let alog_core::Said::Take(_, item) = said {
+            return item;
+        }
+    }
+    panic!(rt; "there is an item")
+}
+
+// Logs a message at this level, at time 0 by thread 1.
+fn say<O: Carry, K: Keep>(
+    loggers: &Loggers,
+    alloc: Global,
+    outlet: &mut O,
+    keeper: &mut K,
+    level: Level,
+    text: &str,
+) -> Result<LogReply, Fail>
+    requires known { 0 < length loggers.now }
+    requires outlet { O.is_ready outlet.old }
+    requires keeper { K.is_ready keeper.old }
+    ensures ready { O.is_ready outlet.new × K.is_ready keeper.new }
+{
+    Ok(loggers.log_now(
+        alloc, outlet, keeper, TEXT_LIMIT, 0, level, 0, 1, text, None,
+    )?)
+}
+
+// The text of a message that a pop takes, which has this level, time and thread.
+fn is_next(
+    rt: &impl Abort,
+    desk: &mut Desk<Item>,
+    level: Level,
+    time: i64,
+    thread: u64,
+    text: &str,
+) -> bool {
+    match popped(rt, desk) {
+        Item::Text(message) => {
+            message.text.as_str() == text
+                && (message.logger, message.level, message.time, message.thread)
+                    == (0, level, time, thread)
+        }
+        Item::Flush(_) | Item::Stop => false,
+    }
+}
+
+// Three messages are filtered and kept.
+fn keep_three<O: Carry, K: Keep>(
+    rt: &impl Abort,
+    loggers: &Loggers,
+    alloc: Global,
+    outlet: &mut O,
+    keeper: &mut K,
+) -> Result<(), Fail>
+    requires known { 0 < length loggers.now }
+    requires outlet { O.is_ready outlet.old }
+    requires keeper { K.is_ready keeper.old }
+    ensures ready { O.is_ready outlet.new × K.is_ready keeper.new }
+{
+    let kept = LogReply::Filtered {
+        level: Level::Info,
+        kept: true,
+    };
+    assert_eq!(rt;
+        say(loggers, alloc, outlet, keeper, Level::Debug, "m1")?,
+        kept
+    );
+    assert_eq!(rt;
+        say(loggers, alloc, outlet, keeper, Level::Debug, "m2")?,
+        kept
+    );
+    assert_eq!(rt;
+        say(loggers, alloc, outlet, keeper, Level::Debug, "m3")?,
+        kept
+    );
+    Ok(())
+}
+
+// The last two are dumped, and then nothing is.
+fn dump_twice<O: Carry>(
+    rt: &impl Abort,
+    loggers: &Loggers,
+    alloc: Global,
+    outlet: &mut O,
+    backtrace: &mut Backtrace,
+) -> Result<(), Fail>
+    requires known { 0 < length loggers.now }
+    requires outlet { O.is_ready outlet.old }
+    ensures ready { O.is_ready outlet.new }
+{
+    let outcomes = loggers.dump_backtrace(alloc, outlet, backtrace, 0, 5, 7)?;
+    let all = [posted(0), posted(1), posted(2), posted(3)];
+    assert_eq!(rt; outcomes.as_slice(), all.as_slice());
+    let none = loggers.dump_backtrace(alloc, outlet, backtrace, 0, 5, 7)?;
+    assert!(rt; none.is_empty());
+    Ok(())
+}
+
+// What a dump of the last two posted is taken.
+fn take_dumped(rt: &impl Abort, desk: &mut Desk<Item>) {
+    assert!(rt; is_next(rt, desk, Level::Info, 5, 7, "=== backtrace start ==="));
+    assert!(rt; is_next(rt, desk, Level::Debug, 0, 1, "m2"));
+    assert!(rt; is_next(rt, desk, Level::Debug, 0, 1, "m3"));
+    assert!(rt; is_next(rt, desk, Level::Info, 5, 7, "=== backtrace end ==="));
+}
+
+#[test]
+fn flushes_and_dumps_at_once(rt: HostRuntime) -> Result<(), Fail> {
+    let alloc = rt.alloc();
+    let loggers = one(&rt, alloc, Policy::Block, 2)?;
+    let mut desk = Desk::<Item>::new(alloc, 8, 0)?;
+    let mut backtrace = Backtrace::new(alloc, 2)?;
+    let mut outlet = desk.outlet(1)?;
+    keep_three(&rt, &loggers, alloc, &mut outlet, &mut backtrace)?;
+    dump_twice(&rt, &loggers, alloc, &mut outlet, &mut backtrace)?;
+    assert_eq!(rt; loggers.flush(&mut outlet, 0), posted(4));
+    drop(outlet);
+    take_dumped(&rt, &mut desk);
+    assert!(rt; matches!(popped(&rt, &mut desk), Item::Flush(0)));
+    Ok(())
+}
+
+#[test]
+fn logs_at_once(rt: HostRuntime) -> Result<(), Fail> {
+    let alloc = rt.alloc();
+    let loggers = one(&rt, alloc, Policy::Block, 0)?;
+    let mut desk = Desk::<Item>::new(alloc, 8, 0)?;
+    let mut none = Backtrace::new(alloc, 0)?;
+    let mut outlet = desk.outlet(1)?;
+    let source = Some(SourceRef {
+        file: "src/net.rt",
+        line: 12,
+        function: "connect",
+    });
+    let hello = loggers.log_now(
+        alloc,
+        &mut outlet,
+        &mut none,
+        TEXT_LIMIT,
+        0,
+        Level::Info,
+        -5,
+        3,
+        "hello",
+        source,
+    )?;
+    assert_eq!(rt;
+        hello,
+        LogReply::Logged {
+            outcome: posted(0),
+            kept: false
+        }
+    );
+    let quiet = loggers.log_now(
+        alloc,
+        &mut outlet,
+        &mut none,
+        TEXT_LIMIT,
+        0,
+        Level::Debug,
+        0,
+        3,
+        "quiet",
+        None,
+    )?;
+    assert_eq!(rt;
+        quiet,
+        LogReply::Filtered {
+            level: Level::Info,
+            kept: false
+        }
+    );
+    assert!(rt; loggers.set_level(0, Level::Off));
+    let off = loggers.log_now(
+        alloc,
+        &mut outlet,
+        &mut none,
+        TEXT_LIMIT,
+        0,
+        Level::Off,
+        1,
+        3,
+        "off",
+        None,
+    )?;
+    assert_eq!(rt;
+        off,
+        LogReply::Logged {
+            outcome: posted(1),
+            kept: false
+        }
+    );
+    drop(outlet);
+    match popped(&rt, &mut desk) {
+        Item::Text(message) => {
+            assert!(rt;
+                message.text.as_str() == "hello" && message.time == -5 && message.thread == 3
+            );
+            assert!(rt; matches!(&message.source, Some(source) if source.function() == "connect"));
+        }
+        Item::Flush(_) | Item::Stop => panic!(rt; "a text"),
+    }
+    assert!(rt; is_next(&rt, &mut desk, Level::Off, 1, 3, "off"));
+    Ok(())
+}
+
+fn letters(alloc: Global, count: usize) -> Result<String, Fail> {
+    let mut text = String::new(alloc);
+    for _ in 0..count {
+        text.push('a')?;
+    }
+    Ok(text)
+}
+
+#[test]
+fn refused_messages(rt: HostRuntime) -> Result<(), Fail> {
+    let alloc = rt.alloc();
+    let (long, file) = (letters(alloc, 65)?, letters(alloc, 257)?);
+    let source = Some(SourceRef {
+        file: file.as_str(),
+        line: 1,
+        function: "",
+    });
+    let loggers = one(&rt, alloc, Policy::Block, 1)?;
+    let bare = one(&rt, alloc, Policy::Block, 0)?;
+    let mut desk = Desk::<Item>::new(alloc, 2, 0)?;
+    let mut kept = Backtrace::new(alloc, 1)?;
+    let mut outlet = desk.outlet(1)?;
+    let text = loggers.log_now(
+        alloc,
+        &mut outlet,
+        &mut kept,
+        TEXT_LIMIT,
+        0,
+        Level::Debug,
+        0,
+        1,
+        long.as_str(),
+        source,
+    );
+    assert_eq!(rt; text, Err(MessageError::TextTooLong));
+    let field = loggers.log_now(
+        alloc,
+        &mut outlet,
+        &mut kept,
+        TEXT_LIMIT,
+        0,
+        Level::Info,
+        0,
+        1,
+        "",
+        source,
+    );
+    assert_eq!(rt; field, Err(MessageError::FieldTooLong));
+    assert!(rt; kept.is_empty());
+    let unread = bare.log_now(
+        alloc,
+        &mut outlet,
+        &mut kept,
+        TEXT_LIMIT,
+        0,
+        Level::Debug,
+        0,
+        1,
+        long.as_str(),
+        source,
+    );
+    assert_eq!(rt;
+        unread,
+        Ok(LogReply::Filtered {
+            level: Level::Info,
+            kept: false
+        })
+    );
+    let text = bare.log_now(
+        alloc,
+        &mut outlet,
+        &mut kept,
+        TEXT_LIMIT,
+        0,
+        Level::Info,
+        0,
+        1,
+        long.as_str(),
+        source,
+    );
+    assert_eq!(rt; text, Err(MessageError::TextTooLong));
+    Ok(())
+}
+
+// How a log under this policy goes where the queue is full, and how many items are then kept.
+fn when_full(rt: &impl Abort, alloc: Global, policy: Policy) -> Result<(Outcome<()>, usize), Fail> {
+    let loggers = one(rt, alloc, policy, 4)?;
+    let mut desk = Desk::<Item>::new(alloc, 2, 0)?;
+    let mut kept = Backtrace::new(alloc, 4)?;
+    let mut outlet = desk.outlet(1)?;
+    assert_eq!(rt;
+        (loggers.flush(&mut outlet, 0), loggers.flush(&mut outlet, 0)),
+        (posted(0), posted(1))
+    );
+    match loggers.log_now(
+        alloc,
+        &mut outlet,
+        &mut kept,
+        TEXT_LIMIT,
+        0,
+        Level::Error,
+        0,
+        1,
+        "bad",
+        None,
+    )? {
+        LogReply::Logged {
+            outcome,
+            kept: true,
+        } => Ok((outcome, kept.len())),
+        LogReply::Logged { .. } | LogReply::Filtered { .. } => panic!(rt; "it is logged and kept"),
+    }
+}
+
+#[test]
+fn policies_of_a_full_queue(rt: HostRuntime) -> Result<(), Fail> {
+    let full = Outcome::Discarded {
+        value: (),
+        why: Why::Full,
+        overran: 0,
+    };
+    assert_eq!(rt; when_full(&rt, rt.alloc(), Policy::DiscardNew)?, (full, 1));
+    let full = Outcome::Discarded {
+        value: (),
+        why: Why::Full,
+        overran: 0,
+    };
+    assert_eq!(rt; when_full(&rt, rt.alloc(), Policy::Block)?, (full, 1));
+    let overran = Outcome::Posted {
+        ticket: 2,
+        overran: 1,
+    };
+    assert_eq!(rt;
+        when_full(&rt, rt.alloc(), Policy::OverrunOldest)?,
+        (overran, 1)
+    );
+    Ok(())
+}
+
+// A keeper that keeps nothing.
+#[derive(Drop)]
+struct Forgetful;
+
+impl Keep for Forgetful {
+    ghost use Rattle.std.specs.Prelude.{◌≡◌};
+
+    ghost is_ready = { λ k. Unit {0} };
+
+    ghost keeps = { λ k m l. ⊥ };
+
+    ghost passes = { λ k l. l ≡ k };
+
+    fn keep_now(&mut self, _message: Message) -> bool {
+        false
+    }
+}
+
+fn log_kept<K: Keep>(
+    rt: &impl Abort,
+    alloc: Global,
+    keeper: &mut K,
+) -> Result<(LogReply, LogReply), Fail>
+    requires { K.is_ready keeper.old }
+{
+    let loggers = one(rt, alloc, Policy::Block, 2)?;
+    let mut desk = Desk::<Item>::new(alloc, 4, 0)?;
+    let mut outlet = desk.outlet(1)?;
+    let logged = loggers.log_now(
+        alloc,
+        &mut outlet,
+        keeper,
+        TEXT_LIMIT,
+        0,
+        Level::Info,
+        0,
+        1,
+        "a",
+        None,
+    )?;
+    let filtered = loggers.log_now(
+        alloc,
+        &mut outlet,
+        keeper,
+        TEXT_LIMIT,
+        0,
+        Level::Debug,
+        0,
+        1,
+        "b",
+        None,
+    )?;
+    Ok((logged, filtered))
+}
+
+#[test]
+fn keepers_tell_what_they_kept(rt: HostRuntime) -> Result<(), Fail> {
+    let alloc = rt.alloc();
+    let (logged, filtered) = log_kept(&rt, alloc, &mut Forgetful)?;
+    assert_eq!(rt;
+        logged,
+        LogReply::Logged {
+            outcome: posted(0),
+            kept: false
+        }
+    );
+    assert_eq!(rt;
+        filtered,
+        LogReply::Filtered {
+            level: Level::Info,
+            kept: false
+        }
+    );
+    let (lane, mut seat) = match Lane::new(alloc, Backtrace::new(alloc, 2)?) {
+        Ok(made) => made,
+        Err(_) => panic!(rt; "there is memory"),
+    };
+    let mut scratch = BacktraceScratch {
+        message: None,
+        list: None,
+    };
+    let mut keeper = LaneKeeper {
+        lane: &lane,
+        seat: &mut seat,
+        scratch: &mut scratch,
+    };
+    let (logged, filtered) = log_kept(&rt, alloc, &mut keeper)?;
+    assert_eq!(rt;
+        logged,
+        LogReply::Logged {
+            outcome: posted(0),
+            kept: true
+        }
+    );
+    assert_eq!(rt;
+        filtered,
+        LogReply::Filtered {
+            level: Level::Info,
+            kept: true
+        }
+    );
+    Ok(())
+}

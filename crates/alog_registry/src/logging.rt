@@ -1,0 +1,180 @@
+//! What a logger does with a message: it is filtered, or posted, and kept for a backtrace.
+ghost use Rattle.std.specs.Prelude.{◌≡◌, ◌⊎◌, ◌≤◌, ◌<◌, length, Some, OnErr, IfOk, IsErrOf};
+ghost use Rattle.alog_msg.specs.declared.limits.TheConstants.{LEAST_TEXT_LIMIT, MOST_TEXT_LIMIT};
+ghost use Rattle.alog_msg.specs.declared.item.Item.TheVariants.{Flush};
+ghost use Rattle.alog_policy.specs.Progress.{without_waiting};
+ghost use Rattle.alog_registry.specs.Carry.{PostsItemNow};
+ghost use Rattle.alog_registry.specs.Given.{message_of, message_with, IsWithin, IsTooLongField};
+ghost use Rattle.alog_registry.specs.Listed.{spec_at};
+ghost use Rattle.alog_registry.specs.declared.logger.Spec.{Spec};
+ghost use Rattle.alog_registry.specs.Logging.{copy_of, KeepsCopy, Logs, IsPrepared, IsUnread, IsUnmade};
+
+use crate::carry::Carry;
+use crate::given::{MessageRef, message};
+use crate::keep::Keep;
+use crate::logger::Spec;
+use crate::loggers::Loggers;
+use alog_msg::{Level, Message, MessageError, SourceRef};
+use alog_policy::Outcome;
+use std::alloc::Global;
+
+/// What became of a message that a logger was given. The test `logs_at_once` shows both.
+#[derive(Debug, PartialEq, Eq, Drop)]
+pub enum LogReply {
+    /// It is below the logger's level, and was not posted.
+    Filtered {
+        /// The level of the logger that was read.
+        level: Level,
+        /// Whether it was kept for a backtrace.
+        kept: bool,
+    },
+    /// It was posted, or discarded by its post.
+    Logged {
+        /// How the post ended.
+        outcome: Outcome<()>,
+        /// Whether it was kept for a backtrace.
+        kept: bool,
+    },
+}
+
+/// What is made of a message before anything is done.
+pub(crate) enum Prepared<V> {
+    /// It is below this level; the copy is to be kept.
+    Filtered { level: Level, copy: Option<Message> },
+    /// The value is to be posted; the copy is to be kept.
+    Admitted { value: V, copy: Option<Message> },
+}
+
+impl Loggers {
+    /// Logs a message with these fields to the logger of this number, which is one that was added: if it is at least of the
+    /// logger's level it is posted under the logger's policy, and if the logger has a backtrace it is kept. It never waits.
+    ///
+    /// The level is read first. What is below it, where there is no backtrace, takes no memory, and its text is not looked at.
+    /// Otherwise all that is needed is made before anything is done, and a refusal, which is one of `Message::new`, leaves
+    /// everything as it was. A text limit is 64 to 8,192 bytes. The test `logs_at_once` shows it.
+    pub fn log_now<O: Carry, K: Keep>(
+        &self,
+        alloc: Global,
+        outlet: &mut O,
+        keeper: &mut K,
+        text_limit: usize,
+        number: u32,
+        level: Level,
+        time: i64,
+        thread: u64,
+        text: &str,
+        source: Option<SourceRef<'_>>,
+    ) -> Result<LogReply, MessageError>
+        requires known { number < length self.now }
+        requires limit { (LEAST_TEXT_LIMIT ≤ text_limit) × (text_limit ≤ MOST_TEXT_LIMIT) }
+        requires outlet { O.is_ready outlet.old }
+        requires keeper { K.is_ready keeper.old }
+        ensures logs { (s : Spec) → spec_at self.now number ≡ Some s → IfOk result (λ r. Logs O.did K.keeps K.passes (without_waiting s.policy) s
+            (message_with number level time thread text.now source.entry) outlet.old keeper.old r outlet.new keeper.new) }
+        ensures within { (s : Spec) → spec_at self.now number ≡ Some s → IfOk result (λ r. IsUnread s r ⊎ IsWithin text_limit text.now source.entry) }
+        ensures text_too_long { IsErrOf result MessageError.TextTooLong → text_limit < length text.now }
+        ensures field_too_long { IsErrOf result MessageError.FieldTooLong → IsTooLongField text_limit text.now source.entry }
+        ensures out_of_memory { IsErrOf result MessageError.OutOfMemory → IsWithin text_limit text.now source.entry }
+        ensures err { OnErr result ((outlet.new ≡ outlet.old) × (keeper.new ≡ keeper.old)) }
+        ensures ready { O.is_ready outlet.new × K.is_ready keeper.new }
+    {
+        let given = MessageRef {
+            logger: number,
+            level,
+            time,
+            thread,
+            text,
+            source,
+        };
+        let (Some(spec), Some(own)) = (self.spec(number), self.level(number)) else {
+            unreachable!()
+        };
+        match prepare(alloc, outlet, text_limit, spec, own, given)? {
+            Prepared::Filtered { level, copy } => Ok(LogReply::Filtered {
+                level,
+                kept: keep_copy(keeper, copy),
+            }),
+            Prepared::Admitted { value, copy } => {
+                let outcome = outlet.post_now(spec.policy, value);
+                Ok(LogReply::Logged {
+                    outcome,
+                    kept: keep_copy(keeper, copy),
+                })
+            }
+        }
+    }
+
+    /// Posts a flush of the logger of this number, which is one that was added, under the logger's policy. It takes no memory and
+    /// never waits. The test `flushes_and_dumps_at_once` shows it.
+    pub fn flush<O: Carry>(&self, outlet: &mut O, number: u32) -> Outcome<()>
+        requires known { number < length self.now }
+        requires ready { O.is_ready outlet.old }
+        ensures post { (s : Spec) → spec_at self.now number ≡ Some s
+            → PostsItemNow O.did s.policy (Flush number) outlet.old outlet.new result }
+        ensures ready { O.is_ready outlet.new }
+    {
+        let Some(spec) = self.spec(number) else {
+            unreachable!()
+        };
+        let value = outlet.flush(number);
+        outlet.post_now(spec.policy, value)
+    }
+}
+
+/// Makes all that a message needs before anything is done with it. Where this fails, nothing was done.
+pub(crate) fn prepare<O: Carry>(
+    alloc: Global,
+    outlet: &mut O,
+    text_limit: usize,
+    spec: &Spec,
+    own: Level,
+    given: MessageRef<'_>,
+) -> Result<Prepared<O::Value>, MessageError>
+    requires limit { (LEAST_TEXT_LIMIT ≤ text_limit) × (text_limit ≤ MOST_TEXT_LIMIT) }
+    requires ready { O.is_ready outlet.old }
+    ensures prepared { IfOk result (λ p. IsPrepared O.did O.is_fit O.shows spec.now (message_of given.entry) outlet.old p outlet.new) }
+    ensures within { IfOk result (λ p. IsUnmade spec.now p ⊎ IsWithin text_limit given.entry.text.now given.entry.source) }
+    ensures text_too_long { IsErrOf result MessageError.TextTooLong → text_limit < length given.entry.text.now }
+    ensures field_too_long { IsErrOf result MessageError.FieldTooLong → IsTooLongField text_limit given.entry.text.now given.entry.source }
+    ensures out_of_memory { IsErrOf result MessageError.OutOfMemory → IsWithin text_limit given.entry.text.now given.entry.source }
+    ensures err { OnErr result (outlet.new ≡ outlet.old) }
+{
+    let copy = copy_for(alloc, text_limit, spec, given)?;
+    if given.level.number() < own.number() {
+        return Ok(Prepared::Filtered { level: own, copy });
+    }
+    let value = outlet.text(alloc, text_limit, given)?;
+    Ok(Prepared::Admitted { value, copy })
+}
+
+/// Makes what is to be kept of a message, if its logger has a backtrace.
+fn copy_for(
+    alloc: Global,
+    text_limit: usize,
+    spec: &Spec,
+    given: MessageRef<'_>,
+) -> Result<Option<Message>, MessageError>
+    requires { (LEAST_TEXT_LIMIT ≤ text_limit) × (text_limit ≤ MOST_TEXT_LIMIT) }
+    ensures made { IfOk result (λ c. c ≡ copy_of spec.now (message_of given.entry)) }
+    ensures within { IfOk result (λ c. (spec.now.backtrace ≡ 0) ⊎ IsWithin text_limit given.entry.text.now given.entry.source) }
+    ensures text_too_long { IsErrOf result MessageError.TextTooLong → text_limit < length given.entry.text.now }
+    ensures field_too_long { IsErrOf result MessageError.FieldTooLong → IsTooLongField text_limit given.entry.text.now given.entry.source }
+    ensures out_of_memory { IsErrOf result MessageError.OutOfMemory → IsWithin text_limit given.entry.text.now given.entry.source }
+{
+    if spec.backtrace == 0 {
+        return Ok(None);
+    }
+    Ok(Some(message(alloc, text_limit, given)?))
+}
+
+/// Keeps the copy, if there is one, and answers whether it was kept.
+fn keep_copy<K: Keep>(keeper: &mut K, copy: Option<Message>) -> bool
+    requires { K.is_ready keeper.old }
+    ensures kept { KeepsCopy K.keeps K.passes copy result keeper.old keeper.new }
+    ensures ready { K.is_ready keeper.new }
+{
+    match copy {
+        Some(message) => keeper.keep_now(message),
+        None => false,
+    }
+}

@@ -1,0 +1,107 @@
+ghost use Rattle.std.specs.Prelude.{◌<◌, length};
+ghost use Rattle.alog_policy.specs.Port.{IsFit};
+ghost use Rattle.alog_registry.specs.LaneKeeper.{IsSeated, HasList};
+
+use super::*;
+use crate::log_tests::{TEXT_LIMIT, one, posted};
+use alog_lane::Lane;
+use alog_msg::{Item, Level};
+use alog_policy::{LossBook, Policy, Port};
+use alog_ring::Ring;
+use std::alloc::Global;
+use std::process::Abort;
+use std::sync::Wait;
+use std::test::Fail;
+
+// Logs a message with waiting, and answers whether that became of it.
+fn said<R: Wait>(
+    rt: &R,
+    loggers: &Loggers,
+    alloc: Global,
+    port: &mut Port<'_, Item>,
+    keeper: &mut LaneKeeper<'_>,
+    level: Level,
+    text: &str,
+) -> Result<LogReply, Fail>
+    requires known { 0 < length loggers.now }
+    requires fit { IsFit port.old }
+    requires seated { IsSeated keeper.old × HasList keeper.old }
+    ensures fit { IsFit port.new }
+    ensures seated { IsSeated keeper.new × HasList keeper.new }
+{
+    Ok(loggers.log(
+        rt, alloc, port, keeper, TEXT_LIMIT, 0, level, 0, 1, text, None,
+    )?)
+}
+
+// One message is logged, two are kept, and the last two of the three are dumped.
+fn log_and_dump<R: Wait + Abort>(
+    rt: &R,
+    loggers: &Loggers,
+    alloc: Global,
+    port: &mut Port<'_, Item>,
+    keeper: &mut LaneKeeper<'_>,
+) -> Result<(), Fail>
+    requires known { 0 < length loggers.now }
+    requires fit { IsFit port.old }
+    requires seated { IsSeated keeper.old × HasList keeper.old }
+{
+    let logged = LogReply::Logged {
+        outcome: posted(0),
+        kept: true,
+    };
+    let kept = LogReply::Filtered {
+        level: Level::Info,
+        kept: true,
+    };
+    assert_eq!(rt;
+        said(rt, loggers, alloc, port, keeper, Level::Info, "m1")?,
+        logged
+    );
+    assert_eq!(rt;
+        said(rt, loggers, alloc, port, keeper, Level::Debug, "m2")?,
+        kept
+    );
+    assert_eq!(rt;
+        said(rt, loggers, alloc, port, keeper, Level::Debug, "m3")?,
+        kept
+    );
+    let outcomes = loggers.dump_shared(rt, alloc, port, keeper, 0, 5, 7)?;
+    let all = [posted(1), posted(2), posted(3), posted(4)];
+    assert_eq!(rt; outcomes.as_slice(), all.as_slice());
+    Ok(())
+}
+
+#[test]
+fn logs_with_waiting(rt: HostRuntime) -> Result<(), Fail> {
+    let alloc = rt.alloc();
+    let loggers = one(&rt, alloc, Policy::Block, 2)?;
+    let (ring, mut pass) = Ring::<Item>::new(alloc, 8, 0)?;
+    let (book, mut losses) = LossBook::new(alloc)?;
+    let (lane, mut seat) = match Lane::new(alloc, Backtrace::new(alloc, 2)?) {
+        Ok(made) => made,
+        Err(_) => panic!(rt; "there is memory"),
+    };
+    let mut scratch = BacktraceScratch {
+        message: None,
+        list: Some(Dumped::new(alloc, 2)?),
+    };
+    let mut port = Port {
+        ring: &ring,
+        pass: &mut pass,
+        book: &book,
+        seat: &mut losses,
+    };
+    let mut keeper = LaneKeeper {
+        lane: &lane,
+        seat: &mut seat,
+        scratch: &mut scratch,
+    };
+    let none = loggers.dump_shared(&rt, alloc, &mut port, &mut keeper, 0, 5, 7)?;
+    assert!(rt; none.is_empty());
+    log_and_dump(&rt, &loggers, alloc, &mut port, &mut keeper)?;
+    drop(port);
+    drop(keeper);
+    assert!(rt; scratch.list.is_some());
+    Ok(())
+}
