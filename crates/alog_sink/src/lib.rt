@@ -14,10 +14,6 @@
 //! The tests `a_memory_sink`, `a_rotating_sink` and `a_daily_sink` of `alog_tests` are examples; the tests here try what is private.
 #![tactic(auto)]
 
-#[cfg(test)]
-mod daily_plain_tests;
-#[cfg(test)]
-mod daily_tests;
 mod diary;
 mod face;
 mod fan;

@@ -1,8 +1,8 @@
 //! The definition of files by days as a plain program, beside what a daily sink does, on all short lists of times.
-use crate::*;
 use alog_format::{Context, LineBuf, Zone};
 use alog_msg::{Level, Message};
 use alog_pattern::Pattern;
+use alog_sink::{Face, MemStore, Names, Sink};
 use std::alloc::{AllocError, Global};
 use std::process::Abort;
 use std::test::Fail;

@@ -1,7 +1,10 @@
-use crate::*;
+//! Daily sinks: which file each line goes to, which files are kept, and stores that fail.
 use alog_format::{Context, LineBuf, OFFSET_MAX, Zone};
 use alog_msg::{Level, Message};
 use alog_pattern::Pattern;
+use alog_sink::{
+    Face, FuseStore, MemStore, Names, OpenError, Sink, SinkError, Store, StoreError, Taken,
+};
 use std::alloc::Global;
 use std::process::Abort;
 use std::test::Fail;
