@@ -27,7 +27,7 @@ IsReadSince k (PushBusy t) = next_seen k ≤ t
 IsReadSince k (PopBusy t) = front_seen k ≤ t
 IsReadSince k Spent = Unit {0}
 
--- The pass made exactly these events, in this order, and read the ticket of each refusal in its round.
+-- The pass made exactly these events, in this order, and each refusal is of a ticket that it read since.
 pub record PassMade {T : Type 0} (old : PassView T no_note) (es : List (Event T)) (new : PassView T no_note) : Type 0 where
   pub table : new.table ≡ old.table
   pub made : Made old.known new.known (entries_by old.known.actor es)
