@@ -3,7 +3,7 @@ use Rattle.std.proofs.Common.{◌≡◌, ℕ, cond, Bool, Option, None, Some, re
 use Rattle.std.specs.Prelude.{◌==◌, ◌&&◌, ◌||◌, not, nat_lt, is_none}
 use Rattle.std.specs.List.{AllByRecursion}
 use Rattle.std.proofs.lemmas.Bool.{le-ltb}
-use Rattle.alog_core.specs.Queue.{Cell, Queue, Event, Claim, Full, Empty, PushBusy, PopBusy, Spent, Grab, last, cell_of}
+use Rattle.alog_core.specs.Queue.{Cell, Queue, Claim, Full, Empty, PushBusy, PopBusy, Spent, Grab, last, cell_of}
 use Rattle.alog_core.specs.Round.{Move, move_of, goes_on, makes, ends, taking, is_blocked, is_claimed, after_event}
 use Rattle.alog_core.specs.declared.round.Round.{Round}
 use Rattle.alog_core.specs.declared.round.Round.TheVariants as round
