@@ -25,6 +25,8 @@ mod logger;
 mod loggers;
 mod logging;
 mod lookup;
+#[cfg(test)]
+mod port_tests;
 mod registry;
 #[cfg(test)]
 mod tests;

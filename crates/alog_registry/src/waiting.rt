@@ -9,7 +9,7 @@ ghost use Rattle.alog_registry.specs.Backtrace.{Room, room_for};
 ghost use Rattle.alog_registry.specs.Dumping.{PostsEach, posted_of, marker};
 ghost use Rattle.alog_registry.specs.Carry.{PostsItem};
 ghost use Rattle.alog_registry.specs.Given.{message_with, IsWithin, IsTooLongField};
-ghost use Rattle.alog_registry.specs.LaneKeeper.{IsSeated, HasList, KeepsByTurn, DumpsByTurn, Passes};
+ghost use Rattle.alog_registry.specs.LaneKeeper.{IsSeated, HasList, KeepsByTurn, DumpsByTurn, NeverPasses};
 ghost use Rattle.alog_registry.specs.Listed.{spec_at};
 ghost use Rattle.alog_registry.specs.Logging.{KeepsCopy, Logs, IsUnread};
 ghost use Rattle.alog_registry.specs.declared.logger.Spec.{Spec};
@@ -49,7 +49,7 @@ impl Loggers {
         requires limit { (LEAST_TEXT_LIMIT ≤ text_limit) × (text_limit ≤ MOST_TEXT_LIMIT) }
         requires port { IsFit port.old }
         requires keeper { IsSeated keeper.old }
-        ensures logs { (s : Spec) → spec_at self.now number ≡ Some s → IfOk result (λ r. Logs PortDid KeepsByTurn Passes s.policy s
+        ensures logs { (s : Spec) → spec_at self.now number ≡ Some s → IfOk result (λ r. Logs PortDid KeepsByTurn NeverPasses s.policy s
             (message_with number level time thread text.now source.entry) port.old keeper.old r port.new keeper.new) }
         ensures within { (s : Spec) → spec_at self.now number ≡ Some s → IfOk result (λ r. IsUnread s r ⊎ IsWithin text_limit text.now source.entry) }
         ensures text_too_long { IsErrOf result MessageError.TextTooLong → text_limit < length text.now }
@@ -192,7 +192,7 @@ fn post_waiting(
 /// Keeps the copy, if there is one, as soon as the lock is got, and answers whether there is one.
 fn keep_waiting(rt: &impl Wait, keeper: &mut LaneKeeper<'_>, copy: Option<Message>) -> bool
     requires { IsSeated keeper.old }
-    ensures kept { KeepsCopy KeepsByTurn Passes copy result keeper.old keeper.new }
+    ensures kept { KeepsCopy KeepsByTurn NeverPasses copy result keeper.old keeper.new }
     ensures ready { IsSeated keeper.new }
     ensures list { HasList keeper.old → HasList keeper.new }
 {

@@ -8,7 +8,7 @@ use Rattle.alog_registry.specs.Logging.{copy_of, KeepsCopy, IsPrepared}
 use Rattle.alog_registry.specs.declared.logger.Spec.{Spec}
 use Rattle.alog_policy.specs.Port.{IsFit, PortDid}
 use Rattle.alog_policy.specs.PortTogether.{port_together}
-use Rattle.alog_registry.specs.LaneKeeper.{KeepsByTurn, Passes}
+use Rattle.alog_registry.specs.LaneKeeper.{KeepsByTurn, NeverPasses}
 use Rattle.alog_registry.proofs.Posting.{posted_by}
 use Rattle.alog_registry.proofs.loggers.Loggers.log.Goals as goal
 
@@ -22,6 +22,6 @@ returns-in-Admitted-clause-logs g c = λ s e.
     let p = subst (λ z. IsPrepared PortDid IsFit (λ (x : Item). x) own m a.port.now z c.prepare.new.outlet) c.in-Admitted.is made in (
       posted_by PortDid port_together (λ p. p) own s c.in-Admitted.value (Text m) a.port.now c.prepare.new.outlet
           c.post_waiting-outcome.new.port c.post_waiting-outcome.result same p.0 p.3 c.post_waiting-outcome.ensures.post,
-      subst (λ z. KeepsCopy KeepsByTurn Passes z c.keep_waiting-in-Admitted.result a.keeper.now c.keep_waiting-in-Admitted.new.keeper)
+      subst (λ z. KeepsCopy KeepsByTurn NeverPasses z c.keep_waiting-in-Admitted.result a.keeper.now c.keep_waiting-in-Admitted.new.keeper)
           (p.1 ∙ ap (λ (z : Spec). copy_of z m) same) c.keep_waiting-in-Admitted.ensures.kept,
     )
