@@ -69,9 +69,11 @@ impl Loggers {
         requires limit { (LEAST_TEXT_LIMIT ≤ text_limit) × (text_limit ≤ MOST_TEXT_LIMIT) }
         requires outlet { O.is_ready outlet.old }
         requires keeper { K.is_ready keeper.old }
-        ensures logs { (s : Spec) → spec_at self.now number ≡ Some s → IfOk result (λ r. Logs O.did K.keeps K.passes (without_waiting s.policy) s
+        ensures logs { (s : Spec) → spec_at self.now number ≡ Some s
+            → IfOk result (λ r. Logs O.did K.keeps K.passes (without_waiting s.policy) s
             (message_with number level time thread text.now source.entry) outlet.old keeper.old r outlet.new keeper.new) }
-        ensures within { (s : Spec) → spec_at self.now number ≡ Some s → IfOk result (λ r. IsUnread s r ⊎ IsWithin text_limit text.now source.entry) }
+        ensures within { (s : Spec) → spec_at self.now number ≡ Some s
+            → IfOk result (λ r. IsUnread s r ⊎ IsWithin text_limit text.now source.entry) }
         ensures text_too_long { IsErrOf result MessageError.TextTooLong → text_limit < length text.now }
         ensures field_too_long { IsErrOf result MessageError.FieldTooLong → IsTooLongField text_limit text.now source.entry }
         ensures out_of_memory { IsErrOf result MessageError.OutOfMemory → IsWithin text_limit text.now source.entry }

@@ -1,5 +1,6 @@
 //! Logs and dumps that wait, on a running ring and a backtrace under a lock.
-ghost use Rattle.std.specs.Prelude.{◌≡◌, ◌⊎◌, ◌+◌, ◌≤◌, ◌<◌, ◌++◌, ◌∷◌, [], ℕ, ℤ, List, codes, length, vec_len, vec_capacity, Some, OnErr, IfOk, IsErrOf};
+ghost use Rattle.std.specs.Prelude.{◌≡◌, ◌⊎◌, ◌+◌, ◌≤◌, ◌<◌, ◌++◌, [], ℕ, ℤ, List, codes, length};
+ghost use Rattle.std.specs.Prelude.{vec_len, vec_capacity, Some, OnErr, IfOk, IsErrOf};
 ghost use Rattle.alog_msg.specs.declared.limits.TheConstants.{LEAST_TEXT_LIMIT, MOST_TEXT_LIMIT};
 ghost use Rattle.alog_policy.specs.Port.{IsFit, PortDid};
 ghost use Rattle.alog_msg.specs.declared.item.Item.{Item};
@@ -49,9 +50,11 @@ impl Loggers {
         requires limit { (LEAST_TEXT_LIMIT ≤ text_limit) × (text_limit ≤ MOST_TEXT_LIMIT) }
         requires port { IsFit port.old }
         requires keeper { IsSeated keeper.old }
-        ensures logs { (s : Spec) → spec_at self.now number ≡ Some s → IfOk result (λ r. Logs PortDid KeepsByTurn NeverPasses s.policy s
+        ensures logs { (s : Spec) → spec_at self.now number ≡ Some s
+            → IfOk result (λ r. Logs PortDid KeepsByTurn NeverPasses s.policy s
             (message_with number level time thread text.now source.entry) port.old keeper.old r port.new keeper.new) }
-        ensures within { (s : Spec) → spec_at self.now number ≡ Some s → IfOk result (λ r. IsUnread s r ⊎ IsWithin text_limit text.now source.entry) }
+        ensures within { (s : Spec) → spec_at self.now number ≡ Some s
+            → IfOk result (λ r. IsUnread s r ⊎ IsWithin text_limit text.now source.entry) }
         ensures text_too_long { IsErrOf result MessageError.TextTooLong → text_limit < length text.now }
         ensures field_too_long { IsErrOf result MessageError.FieldTooLong → IsTooLongField text_limit text.now source.entry }
         ensures out_of_memory { IsErrOf result MessageError.OutOfMemory → IsWithin text_limit text.now source.entry }

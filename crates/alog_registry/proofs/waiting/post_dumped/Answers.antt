@@ -10,6 +10,6 @@ returns-clause-posted g c = λ n t th starts ends.
     let some = not_none c.is_empty.result (length ms) c.is_empty.ensures c.if-is_empty.false in
     let first = c.push_reserved.ensures.items ∙ ap (λ (os : Outcomes). os ++ c.post_waiting.result ∷ []) c.requires.none in
     dump_posts PortDid a.policy n t th ms ms a.start a.end a.port.now c.post_waiting.new.port c.post_all_waiting.new.port
-    c.post_waiting-2.new.port c.post_waiting.result c.post_waiting-2.result c.push_reserved.new.self.items c.post_all_waiting.new.outcomes.items
-    c.push_reserved-2.new.self.items some starts ends refl first c.push_reserved-2.ensures.items c.post_waiting.ensures.post
+    c.post_waiting-2.new.port c.post_waiting.result c.post_waiting-2.result c.push_reserved.new.self.items
+    c.post_all_waiting.new.outcomes.items c.push_reserved-2.new.self.items some starts ends refl first c.push_reserved-2.ensures.items c.post_waiting.ensures.post
     c.post_all_waiting.ensures.posted c.post_waiting-2.ensures.post
