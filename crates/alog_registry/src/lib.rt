@@ -40,7 +40,7 @@ mod waiting;
 mod work;
 
 pub use backtrace::{Backtrace, BacktraceError};
-pub use carry::Carry;
+pub use carry::{Carry, CarryWaiting};
 pub use dumped::Dumped;
 pub use error::{AddError, RefusedSpec};
 pub use given::MessageRef;
