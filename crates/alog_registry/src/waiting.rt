@@ -121,7 +121,15 @@ impl Loggers {
         let mut list = keeper.dump(rt);
         // It has no more messages than its room, so there is room for the outcomes.
         let _dumped = list.len();
-        post_dumped(rt, outlet, spec.policy, start, end, &mut list, &mut outcomes);
+        post_dumped(
+            rt,
+            outlet,
+            spec.policy,
+            start,
+            end,
+            &mut list,
+            &mut outcomes,
+        );
         keeper.scratch.take_back(list);
         Ok(outcomes)
     }
