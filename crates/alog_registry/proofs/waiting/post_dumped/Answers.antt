@@ -10,5 +10,5 @@ returns-clause-posted g c = λ n t th starts ends.
     let first = c.push_reserved.ensures.items ∙ ap (λ (os : Outcomes). os ++ c.post_waiting.result ∷ []) c.requires.none in
     dump_posts g.O.Carry.did a.policy n t th ms ms a.start a.end a.outlet.now c.post_waiting.new.outlet c.post_all_waiting.new.outlet
     c.post_waiting-2.new.outlet c.post_waiting.result c.post_waiting-2.result c.push_reserved.new.self.items
-    c.post_all_waiting.new.outcomes.items c.push_reserved-2.new.self.items some starts ends refl first c.push_reserved-2.ensures.items c.post_waiting.ensures.post
-    c.post_all_waiting.ensures.posted c.post_waiting-2.ensures.post
+    c.post_all_waiting.new.outcomes.items c.push_reserved-2.new.self.items some starts ends refl first
+    c.push_reserved-2.ensures.items c.post_waiting.ensures.post c.post_all_waiting.ensures.posted c.post_waiting-2.ensures.post
