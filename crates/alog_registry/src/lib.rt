@@ -28,6 +28,8 @@ mod lookup;
 mod registry;
 #[cfg(test)]
 mod tests;
+#[cfg(test)]
+mod thread_tests;
 mod turn;
 #[cfg(test)]
 mod wait_tests;
