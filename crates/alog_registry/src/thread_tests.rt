@@ -1,12 +1,11 @@
 //! A backtrace under a lock, with which two threads keep messages.
-ghost use Rattle.std.specs.Prelude.{◌≡◌};
 ghost use Rattle.alog_lane.specs.Calls.{IsSeatOf};
 
 use super::*;
 use crate::log_tests::TEXT_LIMIT;
 use alog_lane::{Lane, LaneSeat};
 use alog_msg::{Level, Message};
-use std::alloc::Global;
+use std::alloc::{AllocError, Global};
 use std::test::Fail;
 use std::{mem, thread};
 
@@ -103,7 +102,7 @@ fn are_in_order(list: &mut Dumped) -> bool {
 fn two_threads_keep(rt: HostRuntime) -> Result<(), Fail> {
     let alloc = rt.alloc();
     let Ok((lane, mut seat)) = Lane::new(alloc, Backtrace::new(alloc, ROOM)?) else {
-        panic!(rt; "no memory")
+        return Err(AllocError.into());
     };
     let mut scratch = BacktraceScratch {
         message: None,
