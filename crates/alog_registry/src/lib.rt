@@ -33,6 +33,8 @@ mod port_tests;
 mod registry;
 #[cfg(test)]
 mod tests;
+#[cfg(test)]
+mod thread_tests;
 mod turn;
 #[cfg(test)]
 mod wait_tests;
