@@ -4,6 +4,7 @@ pub mod Working
 pub mod Leading
 pub mod Way
 pub mod StepKinds
+pub mod Alone
 pub mod Desks
 pub mod Turns
 pub mod DeskSteps

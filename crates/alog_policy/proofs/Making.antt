@@ -3,10 +3,11 @@ use Rattle.std.proofs.Common.{◌≡◌, ℕ, ◌<◌, ◌≤◌, Option, None, 
 use Rattle.std.proofs.Common.{refl, sym, ap, subst, ◌∙◌, arith, set, set-set, get_or-set_same, append-nil, true}
 use Rattle.std.proofs.Common.{length-set}
 use Rattle.std.specs.Prelude.{IfOk, IfErr}
+use Rattle.std.specs.List.{AllByRecursion}
 use Rattle.std.proofs.lemmas.List.{set-get_or}
 use Rattle.alog_core.specs.Queue.{Queue, Event, Claim, Write, Grab, Take, Full, Empty, PushBusy, PopBusy, Spent}
 use Rattle.alog_core.specs.History.{Entry, StandsFor, GoesOn}
-use Rattle.alog_core.specs.Round.{Move}
+use Rattle.alog_core.specs.Round.{Move, after_event}
 use Rattle.alog_core.specs.Run.{HasItsCell, entries_of_step}
 use Rattle.alog_core.specs.World.{Machine, round_of, is_idle, began, next_move, stepped, told, entries_of}
 use Rattle.alog_core.specs.declared.mark.Mark.TheVariants.{Emptying}
@@ -18,9 +19,12 @@ use Rattle.alog_ring.specs.declared.push.PushError.{PushError}
 use Rattle.alog_ring.specs.declared.push.PushError.TheVariants as push
 use Rattle.alog_ring.specs.declared.pop.PopError.{PopError}
 use Rattle.alog_ring.specs.declared.pop.PopError.TheVariants as pop
+use Rattle.alog_lane.proofs.Lists.{each_append}
 use Rattle.alog_policy.specs.Desk.{event_of}
+use Rattle.alog_policy.specs.DeskOutlet.{IsUnbeaten}
 use Rattle.alog_policy.specs.Rounds.{entries_by, Makes, PushRoundRefused, PopRoundRefused, IsOfPush, IsOfPop, push_answer, pop_answer}
 use Rattle.alog_policy.specs.Together.{entries_by-append, goes_further}
+use Rattle.alog_policy.proofs.Alone.{IsCurrent, stays_current}
 use Rattle.alog_policy.proofs.StepKinds.{PushHas, PopSeeks, Kind, IsIdle, Pushes, Claims, FindsFull, PushIsBusy, IsSpent, Writes}
 use Rattle.alog_policy.proofs.StepKinds.{Pops, Grabs, FindsEmpty, PopIsBusy, Takes, kind_of, steps_left}
 use Rattle.alog_policy.proofs.Desks.{saying, push_says, pop_says, says, round_set}
@@ -317,6 +321,8 @@ module _ {T : Type 0} (r : Round T) (m : Move T) (es : List (Event T)) where
 pub record RoundSoFar {T : Type 0} (in_round : Round T → List (Event T) → Type 0) (a : ℕ) (old now : Machine T) : Type 0 where
   pub events : List (Event T)
   pub made : MadeSoFar a old events now
+  pub unbeaten : AllByRecursion IsUnbeaten events
+  pub current : IsCurrent now.queue (round_of now a)
   pub stage : in_round (round_of now a) events
 
 -- whoever grabbed a ticket has its cell, so the step is of some kind
@@ -330,7 +336,7 @@ pub record NextStep {T A : Type 0} (in_round : Round T → List (Event T) → Ty
     (a : ℕ) (old now new : Machine T) (answer : Option A) : Type 0 where
   pub goes : answer ≡ None → RoundSoFar in_round a old new × (steps_left (round_of new a) < steps_left (round_of now a))
   pub stops : (b : A) → answer ≡ Some b → round_of old a ≡ round.Idle
-      → (es : List (Event T)) × ends b es × Makes a old es new
+      → (es : List (Event T)) × ends b es × Makes a old es new × AllByRecursion IsUnbeaten es
 
 next_step : {T A : Type 0} (in_round : Round T → List (Event T) → Type 0) (ends : A → List (Event T) → Type 0) (a : ℕ)
     (old now new : Machine T) (answer : Option A) (of : Type 0) → a < length old.rounds
@@ -346,15 +352,27 @@ next_step {T} {A} in_round ends a old now new answer of lt far step e goes =
     let in_now : a < length now.rounds = omega (arith, lt, old_rounds) in
     let here : round_of new a ≡ (next_move now a).round =
     round_set new now.rounds a (next_move now a).round in_now (ap (λ (m : Machine T). m.rounds) e) in
+    let move = (next_move now a).event in
+    let stays = stays_current now.places now.queue a (round_of now a) far.current in
+    let unbeaten = each_append IsUnbeaten far.events (event_of move) far.unbeaten stays.0 in
+    let current : IsCurrent new.queue (round_of new a) =
+    subst (λ (q : Queue T). IsCurrent q (round_of new a)) (sym (ap (λ (m : Machine T). m.queue) e))
+    (subst (λ (r : Round T). IsCurrent (after_event now.queue a move) r) (sym here) stays.1) in
     record {
       goes = λ none.
           let on = step.goes none in (
-            record { events = es; made = made; stage = subst (λ (r : Round T). in_round r es) (sym here) on.0 },
+            record {
+              events = es;
+              made = made;
+              unbeaten = unbeaten;
+              current = current;
+              stage = subst (λ (r : Round T). in_round r es) (sym here) on.0;
+            },
             subst (λ (r : Round T). steps_left r < steps_left (round_of now a)) (sym here) on.1,
           );
       stops = λ b some before.
           let stop = step.stops b some in
-          (es, stop.1, made_round a old lt es new made (here ∙ stop.0) before);
+          (es, stop.1, made_round a old lt es new made (here ∙ stop.0) before, unbeaten);
     }
 
 module _ {T : Type 0} (a : ℕ) (old now new : Machine T) (lt : a < length old.rounds) (cell : HasItsCell now a)
@@ -391,21 +409,22 @@ made_as : {T : Type 0} (a : ℕ) (old new : Machine T) (es fs : List (Event T)) 
 made_as {T} a old new es fs e made = subst (λ (gs : List (Event T)). Makes a old gs new) e made
 
 pub push_result : {T : Type 0} (a : ℕ) (old new : Machine T) (x : T) (b : Result ℕ (PushError T)) (es : List (Event T))
-    → PushEnds x b es → Makes a old es new
+    → PushEnds x b es → Makes a old es new → AllByRecursion IsUnbeaten es
     → IfOk b (λ t. Makes a old (Claim t x ∷ Write t ∷ []) new) × IfErr b (λ e. PushRoundRefused a old x e new)
-push_result a old new x (Ok t) es e made = (made_as a old new es (Claim t x ∷ Write t ∷ []) e made, tt)
-push_result a old new x (Err (push.Full back next)) es e made =
+push_result a old new x (Ok t) es e made un = (made_as a old new es (Claim t x ∷ Write t ∷ []) e made, tt)
+push_result a old new x (Err (push.Full back next)) es e made un =
     (tt, (e.0, made_as a old new es (Full next ∷ []) e.1 made))
-push_result a old new x (Err (push.Busy back seen)) es e made =
-    (tt, (e.0, made_as a old new es (PushBusy seen ∷ []) e.1 made))
-push_result a old new x (Err (push.Spent back)) es e made = (tt, (e.0, made_as a old new es (Spent ∷ []) e.1 made))
+push_result {T} a old new x (Err (push.Busy back seen)) es e made un =
+    (tt, (subst (λ (gs : List (Event T)). AllByRecursion IsUnbeaten gs) e.1 un).0)
+push_result a old new x (Err (push.Spent back)) es e made un = (tt, (e.0, made_as a old new es (Spent ∷ []) e.1 made))
 
 pub pop_result : {T : Type 0} (a : ℕ) (old new : Machine T) (b : Result (ℕ × T) PopError) (es : List (Event T))
-    → PopEnds b es → Makes a old es new
+    → PopEnds b es → Makes a old es new → AllByRecursion IsUnbeaten es
     → IfOk b (λ r. Makes a old (Grab r.0 ∷ Take r.0 r.1 ∷ []) new) × IfErr b (λ e. PopRoundRefused a old e new)
-pop_result a old new (Ok r) es e made = (made_as a old new es (Grab r.0 ∷ Take r.0 r.1 ∷ []) e made, tt)
-pop_result a old new (Err (pop.Empty next)) es e made = (tt, made_as a old new es (Empty next ∷ []) e made)
-pop_result a old new (Err (pop.Busy seen)) es e made = (tt, made_as a old new es (PopBusy seen ∷ []) e made)
+pop_result a old new (Ok r) es e made un = (made_as a old new es (Grab r.0 ∷ Take r.0 r.1 ∷ []) e made, tt)
+pop_result a old new (Err (pop.Empty next)) es e made un = (tt, made_as a old new es (Empty next ∷ []) e made)
+pop_result {T} a old new (Err (pop.Busy seen)) es e made un =
+    (tt, (subst (λ (gs : List (Event T)). AllByRecursion IsUnbeaten gs) e un).0)
 
 -- a round that begins
 pub round_begins_push : {T : Type 0} (old : Machine T) (a : ℕ) → a < length old.rounds → (x : T) (new : Machine T)
@@ -416,6 +435,8 @@ round_begins_push {T} old a lt x new e =
     record {
       events = [];
       made = made_nothing a old lt new (round.Push x) e;
+      unbeaten = tt;
+      current = subst (λ (r : Round T). IsCurrent new.queue r) (sym here) tt;
       stage = subst (λ (r : Round T). InPush x r []) (sym here) (refl, refl);
     }
 
@@ -426,5 +447,7 @@ round_begins_pop {T} old a lt new e =
     record {
       events = [];
       made = made_nothing a old lt new round.Pop e;
+      unbeaten = tt;
+      current = subst (λ (r : Round T). IsCurrent new.queue r) (sym here) tt;
       stage = subst (λ (r : Round T). InPop r []) (sym here) refl;
     }

@@ -59,7 +59,7 @@ pub data Kind (T : Type 0) (r : Round T) (m : Move T) : Type 0 where
   Takes : (t : ℕ) (y : T) → r ≡ round.PopGrabbed t → m.event ≡ Some (Take t y) → m.round ≡ round.Idle → Kind T r m
 
 -- whichever way a test comes out
-either : {X : Type 0} (P : X → Type 0) (b : Bool) (x y : X) → P x → P y → P (cond b x y)
+pub either : {X : Type 0} (P : X → Type 0) (b : Bool) (x y : X) → P x → P y → P (cond b x y)
 either P true x y p q = p
 either P false x y p q = q
 

@@ -1,11 +1,11 @@
 -- A port: a pass of a ring and a seat of a loss book, by which posts are made on a running ring. What it did, and what a post
 -- on it leaves.
-use Rattle.std.specs.Prelude.{◌≡◌, ◌⊎◌, ℕ, List, []}
+use Rattle.std.specs.Prelude.{◌≡◌, ◌≤◌, ◌⊎◌, ℕ, List, []}
 use Rattle.std.specs.List.{AllByRecursion}
-use Rattle.alog_core.specs.Queue.{Event}
-use Rattle.alog_ring.specs.Known.{IsPassOf, PassView}
+use Rattle.alog_core.specs.Queue.{Event, Claim, Write, Grab, Take, Full, Empty, PushBusy, PopBusy, Spent}
+use Rattle.alog_ring.specs.Known.{Known, IsPassOf, PassView}
 use Rattle.alog_ring.specs.Kinds.{no_note}
-use Rattle.alog_ring.specs.Made.{Made}
+use Rattle.alog_ring.specs.Made.{Made, next_seen, front_seen}
 use Rattle.alog_lane.specs.Seats as lane
 use Rattle.alog_policy.specs.BookAdds.{Add, Overran, Discarded, items_in, posts_in}
 use Rattle.alog_policy.specs.BookCalls.{IsSeatOf, SeatView}
@@ -15,10 +15,23 @@ use Rattle.alog_policy.specs.declared.policy.Policy.{Policy}
 use Rattle.alog_policy.specs.declared.policy.Outcome.{Outcome}
 use Rattle.alog_policy.specs.declared.port.Port.{Port}
 
--- The pass made exactly these events, in this order.
+-- a refusal tells of a ticket that was read since the pass knew this
+abbrev pub IsReadSince : {T : Type 0} → Known T no_note → Event T → Type 0
+IsReadSince k (Claim t x) = Unit {0}
+IsReadSince k (Write t) = Unit {0}
+IsReadSince k (Grab t) = Unit {0}
+IsReadSince k (Take t x) = Unit {0}
+IsReadSince k (Full t) = next_seen k ≤ t
+IsReadSince k (Empty t) = front_seen k ≤ t
+IsReadSince k (PushBusy t) = next_seen k ≤ t
+IsReadSince k (PopBusy t) = front_seen k ≤ t
+IsReadSince k Spent = Unit {0}
+
+-- The pass made exactly these events, in this order, and each refusal is of a ticket that it read since.
 pub record PassMade {T : Type 0} (old : PassView T no_note) (es : List (Event T)) (new : PassView T no_note) : Type 0 where
   pub table : new.table ≡ old.table
   pub made : Made old.known new.known (entries_by old.known.actor es)
+  pub read : AllByRecursion (IsReadSince old.known) es
 
 -- an add of one item, or of one post
 abbrev pub IsOneLoss : lane.Entry Add → Type 0

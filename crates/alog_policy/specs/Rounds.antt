@@ -21,16 +21,16 @@ pub record Makes {T : Type 0} (a : ℕ) (old : Machine T) (es : List (Event T)) 
   pub rounds : new.rounds ≡ old.rounds
   pub history : GoesOn old.places old.queue (entries_by a es) new.queue
 
--- a round of a push that was refused
+-- A round of a push that was refused. Nobody else steps in it, so it never finds its ticket gone.
 abbrev pub PushRoundRefused : {T : Type 0} → ℕ → Machine T → T → PushError T → Machine T → Type 0
 PushRoundRefused a old x (push.Full back next) new = (back ≡ x) × Makes a old (queue.Full next ∷ []) new
-PushRoundRefused a old x (push.Busy back seen) new = (back ≡ x) × Makes a old (queue.PushBusy seen ∷ []) new
+PushRoundRefused a old x (push.Busy back seen) new = ⊥
 PushRoundRefused a old x (push.Spent back) new = (back ≡ x) × Makes a old (queue.Spent ∷ []) new
 
 -- a round of a pop that was refused
 abbrev pub PopRoundRefused : {T : Type 0} → ℕ → Machine T → PopError → Machine T → Type 0
 PopRoundRefused a old (pop.Empty next) new = Makes a old (queue.Empty next ∷ []) new
-PopRoundRefused a old (pop.Busy seen) new = Makes a old (queue.PopBusy seen ∷ []) new
+PopRoundRefused a old (pop.Busy seen) new = ⊥
 
 -- what a step of a push may say, and of a pop
 abbrev pub IsOfPush : {T : Type 0} → Said T → Type 0

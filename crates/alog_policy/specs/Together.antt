@@ -3,8 +3,9 @@ use Rattle.std.proofs.Common.{◌≡◌, ℕ, zero, suc, ◌+◌, List, [], ◌�
 use Rattle.alog_core.specs.Queue.{Queue, Event}
 use Rattle.alog_core.specs.History.{Entry, StandsFor, GoesOn}
 use Rattle.alog_core.specs.World.{Machine}
+use Rattle.alog_lane.proofs.Lists.{each_append}
 use Rattle.alog_policy.specs.Desk.{DeskView, one_more}
-use Rattle.alog_policy.specs.DeskOutlet.{more, with_losses, DeskDid}
+use Rattle.alog_policy.specs.DeskOutlet.{more, with_losses, IsUnbeaten, DeskDid}
 use Rattle.alog_policy.specs.Rounds.{entries_by, Makes}
 use Rattle.alog_policy.specs.declared.counts.Counts.{Counts}
 
@@ -48,6 +49,7 @@ pub did_together : {T : Type 0} (a : ℕ) (u v w : DeskView T) (es fs : List (Ev
 did_together a u v w es fs k l m n first then =
     record {
       makes = makes_together a u.world v.world w.world es fs first.makes then.makes;
+      unbeaten = each_append IsUnbeaten es fs first.unbeaten then.unbeaten;
       posts = then.posts ∙ first.posts;
       counts = then.counts ∙ (ap (λ c. with_losses c m n) first.counts ∙ with_losses-add u.counts k l m n);
     }

@@ -33,6 +33,8 @@ mod following;
 mod laws;
 mod loss_book;
 mod outlet;
+#[cfg(test)]
+mod outlet_tests;
 mod policy;
 mod port;
 #[cfg(test)]

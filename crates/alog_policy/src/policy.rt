@@ -31,9 +31,10 @@ impl Policy {
 pub enum Why {
     /// The queue is full, and the policy is to discard the new.
     Full,
-    /// The queue is full, and its oldest item is not written yet, so that there is nothing to take out.
+    /// The queue was full, and then there was nothing to take out: its oldest item was not written yet, or others had
+    /// emptied it since.
     Stalled,
-    /// Others were faster for 64 rounds.
+    /// 64 rounds went on: in each one others were faster, or an item was overrun.
     Busy,
     /// No ticket is left, and none will come.
     Spent,

@@ -74,23 +74,23 @@ fn overruns_the_oldest(rt: HostRuntime) -> Result<(), Fail> {
     Ok(())
 }
 
-// A queue of two whose actor 1 stalls after its claim of ticket 0, and in which ticket 1 is written.
+// A queue of two whose actor 1 stalls after its claim of the first ticket, 5, and in which ticket 6 is written.
 fn stalled(rt: &impl Abort, desk: &mut Desk<char>) {
     assert!(rt; desk.begin_push(1, 'a').is_ok());
-    assert_eq!(rt; said(rt, desk, 1), Said::Claim(0));
-    push(rt, desk, 2, 'b', 1);
+    assert_eq!(rt; said(rt, desk, 1), Said::Claim(5));
+    push(rt, desk, 2, 'b', 6);
 }
 
 #[test]
 fn stalls_behind_a_claim(rt: HostRuntime) -> Result<(), Fail> {
-    let mut desk = Desk::new(rt.alloc(), 2, 0)?;
+    let mut desk = Desk::new(rt.alloc(), 2, 5)?;
     stalled(&rt, &mut desk);
     assert!(rt; desk.begin_post(3, Policy::OverrunOldest, 'c').is_ok());
-    assert_eq!(rt; said(&rt, &mut desk, 3), Said::Full(2, None));
+    assert_eq!(rt; said(&rt, &mut desk, 3), Said::Full(7, None));
     assert_eq!(rt;
         event(&rt, &mut desk, 3),
         Stepped {
-            said: Said::Empty(0),
+            said: Said::Empty(5),
             outcome: Some(Outcome::Discarded {
                 value: 'c',
                 why: Why::Stalled,
@@ -104,13 +104,13 @@ fn stalls_behind_a_claim(rt: HostRuntime) -> Result<(), Fail> {
 
 #[test]
 fn discards_the_new(rt: HostRuntime) -> Result<(), Fail> {
-    let mut desk = Desk::new(rt.alloc(), 2, 0)?;
+    let mut desk = Desk::new(rt.alloc(), 2, 5)?;
     stalled(&rt, &mut desk);
     assert!(rt; desk.begin_post(3, Policy::DiscardNew, 'c').is_ok());
     assert_eq!(rt;
         event(&rt, &mut desk, 3),
         Stepped {
-            said: Said::Full(2, None),
+            said: Said::Full(7, None),
             outcome: Some(Outcome::Discarded {
                 value: 'c',
                 why: Why::Full,
@@ -122,11 +122,11 @@ fn discards_the_new(rt: HostRuntime) -> Result<(), Fail> {
     let cells = desk.cells(rt.alloc())?;
     let shown = [
         CellView {
-            ticket: 0,
+            ticket: 5,
             mark: Mark::Claimed,
         },
         CellView {
-            ticket: 1,
+            ticket: 6,
             mark: Mark::Written,
         },
     ];
@@ -329,7 +329,7 @@ fn posts_at_once(rt: HostRuntime) -> Result<(), Fail> {
 
 #[test]
 fn posts_at_once_behind_a_claim(rt: HostRuntime) -> Result<(), Fail> {
-    let mut desk = Desk::new(rt.alloc(), 2, 0)?;
+    let mut desk = Desk::new(rt.alloc(), 2, 5)?;
     stalled(&rt, &mut desk);
     assert_eq!(rt;
         now(&rt, &mut desk, Policy::OverrunOldest, 'c'),

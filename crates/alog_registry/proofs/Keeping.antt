@@ -59,11 +59,35 @@ kept_by_turn old new m a lends turn =
     record {
       lends = lends;
       deed = keep_of m old a new;
+      tag = refl;
       item = refl;
-      message = refl;
+      before = refl;
+      after = refl;
       index = a.0;
       turn = turn;
       list = ap (λ (s : BacktraceScratch). s.list) last.2.after_is;
+    }
+
+-- the turn of a dump
+abbrev pub dump_of : LaneKeeper → ℕ × BacktraceReply → LaneKeeper → Deed
+dump_of old a new = record { tag = 0; item = Dump; before = old.scratch.now; reply = a.1; after = new.scratch.now }
+
+pub dumped_by_turn : (old new : LaneKeeper) (d : Room) (a : ℕ × BacktraceReply) → LendsSame old new → a.1 ≡ Dumped d
+    → TakesTurn Turns old.lane.now.first old.seat.now.known new.seat.now.known (dump_of old a new) a.0 → DumpsByTurn old d new
+dumped_by_turn old new d a lends replied turn =
+    let x : Entry Deed = record { seat = old.seat.now.known.seat; deed = dump_of old a new } in
+    let leads = subst (λ h. Leads Turns old.lane.now.first h turn.value) turn.ends turn.leads in
+    let last = last_turn old.lane.now.first turn.before x turn.value leads in
+    record {
+      lends = lends;
+      deed = dump_of old a new;
+      tag = refl;
+      item = refl;
+      before = refl;
+      reply = replied;
+      message = ap (λ (s : BacktraceScratch). s.message) last.2.after_is;
+      index = a.0;
+      turn = turn;
     }
 
 -- what a turn replied that was to dump
@@ -75,19 +99,3 @@ dump_replied first old new before after a turn =
     let leads = subst (λ h. Leads Turns first h turn.value) turn.ends turn.leads in
     let last = last_turn first turn.before x turn.value leads in
     (last.0, last.2.reply_is, most_stays first turn.before last.0 last.1)
-
--- a keeper that dumped has dumped also when its scratch was written to
-pub dumps_still : (old mid new : LaneKeeper) (d : Room) → DumpsByTurn old d mid → LendsSame mid new → new.seat.now ≡ mid.seat.now
-    → DumpsByTurn old d new
-dumps_still old mid new d dumps lends seat = record {
-  lends = record {
-    lane = lends.lane ∙ dumps.lends.lane;
-    seat = lends.seat ∙ dumps.lends.seat;
-    scratch = lends.scratch ∙ dumps.lends.scratch;
-  };
-  deed = dumps.deed;
-  item = dumps.item;
-  reply = dumps.reply;
-  index = dumps.index;
-  turn = subst (λ s. TakesTurn Turns old.lane.now.first old.seat.now.known s.known dumps.deed dumps.index) (sym seat) dumps.turn;
-}

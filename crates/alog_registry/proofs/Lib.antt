@@ -2,3 +2,4 @@ pub mod Listing
 pub mod Keeping
 pub mod Posting
 pub mod Dumps
+pub mod Crosses

@@ -49,6 +49,11 @@ module _ {S V : Type 0} (did : Doing S Item) (fit : S → Type 0) (shows : V →
   IsPrepared spec m old (made.Admitted value copy) new =
       (shows value ≡ Text m) × (copy ≡ copy_of spec m) × fit new × did old [] 0 0 new
 
+-- The level that was read decides: what is below it is filtered, and that level is told; all else is not.
+abbrev pub IsDecided : {V : Type 0} → Level → Level → Prepared V → Type 0
+IsDecided own level (made.Filtered told copy) = (told ≡ own) × IsBelow level own
+IsDecided own level (made.Admitted value copy) = ¬ IsBelow level own
+
 abbrev pub IsUnmade : {V : Type 0} → Spec → Prepared V → Type 0
 IsUnmade spec (made.Filtered level copy) = spec.backtrace ≡ 0
 IsUnmade spec (made.Admitted value copy) = ⊥

@@ -30,8 +30,3 @@ abbrev pub turns_of : Spec → ℕ → Item → List SinkTurn
 turns_of spec ticket (item.Text m) = turns_of_text spec ticket m
 turns_of spec ticket (item.Flush n) = turns_on spec.sinks.items ticket Flush
 turns_of spec ticket item.Stop = []
-
--- what a turn of a work gives its sink: the message that was taken, or a flush of that logger
-abbrev pub given_of : ℕ → Item → SinkDeed → Item
-given_of logger taken Take = taken
-given_of logger taken Flush = item.Flush logger

@@ -4,8 +4,9 @@ ghost use Rattle.alog_registry.specs.Carry.{without_value};
 
 use crate::given::{MessageRef, message};
 use alog_msg::{Item, Message, MessageError};
-use alog_policy::{DeskOutlet, Outcome, Policy, Port, post_now};
+use alog_policy::{DeskOutlet, Outcome, Policy, Port, post_now, post_wait};
 use std::alloc::Global;
+use std::sync::Wait;
 
 /// An outlet whose cells show items. A post is made in two steps: its value is made, and then it is posted.
 ///
@@ -72,6 +73,18 @@ pub trait Carry {
     // What was done first and what was done then are one.
     ghost together: { (a b c : Self) (es fs : List (Event Item)) (k l m n : ℕ) → did a es k l b → did b fs m n c
         → did a (es ++ fs) (k + m) (l + n) c };
+}
+
+/// An outlet that carries items, and on which a post may wait for room.
+pub trait CarryWaiting: Carry {
+    ghost use Rattle.alog_registry.specs.Carry.{PostsItem};
+
+    /// Posts the value, as `alog_policy::post_wait` does: under `Block` it waits until there is room. Nothing is handed back of a
+    /// discarded one. That it returns is not promised.
+    fn post_waiting(&mut self, rt: &impl Wait, policy: Policy, value: Self::Value) -> Outcome<()>
+        requires { Self.is_fit self.old }
+        ensures post { PostsItem Self.did policy (Self.shows value) self.old self.new result }
+        ensures ready { Self.is_ready self.new };
 }
 
 /// An actor of a desk of items.
@@ -160,8 +173,14 @@ impl Carry for Port<'_, Item> {
     ghost together = { port_together };
 }
 
+impl CarryWaiting for Port<'_, Item> {
+    fn post_waiting(&mut self, rt: &impl Wait, policy: Policy, value: Item) -> Outcome<()> {
+        dropped(post_wait(rt, self, policy, value))
+    }
+}
+
 /// The outcome, whose item is dropped.
-pub(crate) fn dropped(outcome: Outcome<Item>) -> Outcome<()>
+fn dropped(outcome: Outcome<Item>) -> Outcome<()>
     ensures { result ≡ without_value outcome }
 {
     match outcome {

@@ -1,5 +1,5 @@
 //! Posting what a backtrace kept.
-ghost use Rattle.std.specs.Prelude.{◌≡◌, ◌+◌, ◌<◌, ◌++◌, List, length, Some, OnErr, OnOk, IfOk, vec_len, vec_capacity};
+ghost use Rattle.std.specs.Prelude.{◌≡◌, ◌+◌, ◌<◌, ◌++◌, List, [], length, Some, OnErr, OnOk, IfOk, IsOk, vec_len, vec_capacity};
 ghost use Rattle.alog_registry.specs.Backtrace.{room_for};
 ghost use Rattle.alog_msg.specs.declared.item.Item.TheVariants as item;
 ghost use Rattle.alog_msg.specs.declared.message.Message.{Message};
@@ -45,6 +45,7 @@ impl Loggers {
             (posted_of number time thread backtrace.old.messages) outlet.old v.items outlet.new) }
         ensures emptied { OnOk result (backtrace.new ≡ room_for backtrace.old.most) }
         ensures err { OnErr result ((outlet.new ≡ outlet.old) × (backtrace.new ≡ backtrace.old)) }
+        ensures none { backtrace.old.messages ≡ [] → IsOk result }
         ensures ready { O.is_ready outlet.new }
     {
         let Some(spec) = self.spec(number) else {

@@ -47,7 +47,8 @@ impl Keep for Backtrace {
 }
 
 /// A backtrace that threads share: it lends the backtrace's lane, a seat of it and the scratch. Contracts ask that the seat
-/// belongs to the lane. A message is not kept where another seat has the lock. The test `a_held_keeper_passes` shows it.
+/// belongs to the lane. A message is not kept where another seat has the lock. The test `two_threads_keep` shows one in each
+/// of two threads.
 #[derive(Drop)]
 pub struct LaneKeeper<'a> {
     /// The backtrace under its lock.

@@ -8,7 +8,10 @@
 //!
 //! Read `logger.rt` (a logger and its `Spec`), `registry.rt` and `loggers.rt` with `specs/Listed.antt` (numbers and names);
 //! `backtrace.rt` and `dumped.rt` with `specs/Backtrace.antt`, `turn.rt` with `specs/Turn.antt`; `work.rt` with
-//! `specs/Work.antt`. Below them are `lookup.rt` (a number by a name) and `level_word.rt`.
+//! `specs/Work.antt`. Then what is done with a message: `given.rt` with `specs/Given.antt`, `carry.rt` with `specs/Carry.antt` (how
+//! a post's value is made), `keep.rt` with `specs/Keep.antt` and `LaneKeeper.antt` (who keeps messages), `logging.rt` with
+//! `specs/Logging.antt`, `dumping.rt` with `specs/Dumping.antt`, and `waiting.rt`, which does both with waiting. Below them are
+//! `lookup.rt` (a number by a name) and `level_word.rt`.
 #![tactic(auto)]
 
 mod backtrace;
@@ -25,9 +28,13 @@ mod logger;
 mod loggers;
 mod logging;
 mod lookup;
+#[cfg(test)]
+mod port_tests;
 mod registry;
 #[cfg(test)]
 mod tests;
+#[cfg(test)]
+mod thread_tests;
 mod turn;
 #[cfg(test)]
 mod wait_tests;
@@ -35,7 +42,7 @@ mod waiting;
 mod work;
 
 pub use backtrace::{Backtrace, BacktraceError};
-pub use carry::Carry;
+pub use carry::{Carry, CarryWaiting};
 pub use dumped::Dumped;
 pub use error::{AddError, RefusedSpec};
 pub use given::MessageRef;

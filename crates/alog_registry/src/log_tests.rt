@@ -94,7 +94,7 @@ fn is_next(
 }
 
 // Three messages are filtered and kept.
-fn keep_three<O: Carry, K: Keep>(
+pub(crate) fn keep_three<O: Carry, K: Keep>(
     rt: &impl Abort,
     loggers: &Loggers,
     alloc: Global,
@@ -126,7 +126,7 @@ fn keep_three<O: Carry, K: Keep>(
 }
 
 // The last two are dumped, and then nothing is.
-fn dump_twice<O: Carry>(
+pub(crate) fn dump_twice<O: Carry>(
     rt: &impl Abort,
     loggers: &Loggers,
     alloc: Global,
@@ -337,34 +337,33 @@ fn refused_messages(rt: HostRuntime) -> Result<(), Fail> {
     Ok(())
 }
 
-// How a log under this policy goes where the queue is full, and how many items are then kept.
-fn when_full(rt: &impl Abort, alloc: Global, policy: Policy) -> Result<(Outcome<()>, usize), Fail> {
-    let loggers = one(rt, alloc, policy, 4)?;
-    let mut desk = Desk::<Item>::new(alloc, 2, 0)?;
+// How a log goes where the queue has two places and is full, and how many items are then kept.
+pub(crate) fn log_to_a_full<O: Carry>(
+    rt: &impl Abort,
+    loggers: &Loggers,
+    alloc: Global,
+    outlet: &mut O,
+) -> Result<(Outcome<()>, usize), Fail>
+    requires known { 0 < length loggers.now }
+    requires outlet { O.is_ready outlet.old }
+{
     let mut kept = Backtrace::new(alloc, 4)?;
-    let mut outlet = desk.outlet(1)?;
-    assert_eq!(rt;
-        (loggers.flush(&mut outlet, 0), loggers.flush(&mut outlet, 0)),
-        (posted(0), posted(1))
-    );
-    match loggers.log_now(
-        alloc,
-        &mut outlet,
-        &mut kept,
-        TEXT_LIMIT,
-        0,
-        Level::Error,
-        0,
-        1,
-        "bad",
-        None,
-    )? {
+    let flushes = (loggers.flush(outlet, 0), loggers.flush(outlet, 0));
+    assert_eq!(rt; flushes, (posted(0), posted(1)));
+    match say(loggers, alloc, outlet, &mut kept, Level::Error, "bad")? {
         LogReply::Logged {
             outcome,
             kept: true,
         } => Ok((outcome, kept.len())),
         LogReply::Logged { .. } | LogReply::Filtered { .. } => panic!(rt; "it is logged and kept"),
     }
+}
+
+fn when_full(rt: &impl Abort, alloc: Global, policy: Policy) -> Result<(Outcome<()>, usize), Fail> {
+    let loggers = one(rt, alloc, policy, 4)?;
+    let mut desk = Desk::<Item>::new(alloc, 2, 0)?;
+    let mut outlet = desk.outlet(1)?;
+    log_to_a_full(rt, &loggers, alloc, &mut outlet)
 }
 
 #[test]

@@ -1,5 +1,5 @@
 //! What a logger does with a message: it is filtered, or posted, and kept for a backtrace.
-ghost use Rattle.std.specs.Prelude.{◌≡◌, ◌⊎◌, ◌≤◌, ◌<◌, length, Some, OnErr, IfOk, IsErrOf};
+ghost use Rattle.std.specs.Prelude.{◌≡◌, ◌⊎◌, ◌≤◌, ◌<◌, length, Some, OnErr, IfOk, IsOk, IsErrOf};
 ghost use Rattle.alog_msg.specs.declared.limits.TheConstants.{LEAST_TEXT_LIMIT, MOST_TEXT_LIMIT};
 ghost use Rattle.alog_msg.specs.declared.item.Item.TheVariants.{Flush};
 ghost use Rattle.alog_policy.specs.Progress.{without_waiting};
@@ -7,7 +7,7 @@ ghost use Rattle.alog_registry.specs.Carry.{PostsItemNow};
 ghost use Rattle.alog_registry.specs.Given.{message_of, message_with, IsWithin, IsTooLongField};
 ghost use Rattle.alog_registry.specs.Listed.{spec_at};
 ghost use Rattle.alog_registry.specs.declared.logger.Spec.{Spec};
-ghost use Rattle.alog_registry.specs.Logging.{copy_of, KeepsCopy, Logs, IsPrepared, IsUnread, IsUnmade};
+ghost use Rattle.alog_registry.specs.Logging.{copy_of, KeepsCopy, Logs, IsPrepared, IsUnread, IsUnmade, IsDecided, IsBelow};
 
 use crate::carry::Carry;
 use crate::given::{MessageRef, message};
@@ -69,9 +69,11 @@ impl Loggers {
         requires limit { (LEAST_TEXT_LIMIT ≤ text_limit) × (text_limit ≤ MOST_TEXT_LIMIT) }
         requires outlet { O.is_ready outlet.old }
         requires keeper { K.is_ready keeper.old }
-        ensures logs { (s : Spec) → spec_at self.now number ≡ Some s → IfOk result (λ r. Logs O.did K.keeps K.passes (without_waiting s.policy) s
+        ensures logs { (s : Spec) → spec_at self.now number ≡ Some s
+            → IfOk result (λ r. Logs O.did K.keeps K.passes (without_waiting s.policy) s
             (message_with number level time thread text.now source.entry) outlet.old keeper.old r outlet.new keeper.new) }
-        ensures within { (s : Spec) → spec_at self.now number ≡ Some s → IfOk result (λ r. IsUnread s r ⊎ IsWithin text_limit text.now source.entry) }
+        ensures within { (s : Spec) → spec_at self.now number ≡ Some s
+            → IfOk result (λ r. IsUnread s r ⊎ IsWithin text_limit text.now source.entry) }
         ensures text_too_long { IsErrOf result MessageError.TextTooLong → text_limit < length text.now }
         ensures field_too_long { IsErrOf result MessageError.FieldTooLong → IsTooLongField text_limit text.now source.entry }
         ensures out_of_memory { IsErrOf result MessageError.OutOfMemory → IsWithin text_limit text.now source.entry }
@@ -138,6 +140,8 @@ pub(crate) fn prepare<O: Carry>(
     ensures field_too_long { IsErrOf result MessageError.FieldTooLong → IsTooLongField text_limit given.entry.text.now given.entry.source }
     ensures out_of_memory { IsErrOf result MessageError.OutOfMemory → IsWithin text_limit given.entry.text.now given.entry.source }
     ensures err { OnErr result (outlet.new ≡ outlet.old) }
+    ensures decided { IfOk result (λ p. IsDecided own given.entry.level p) }
+    ensures unread { spec.now.backtrace ≡ 0 → IsBelow given.entry.level own → IsOk result }
 {
     let copy = copy_for(alloc, text_limit, spec, given)?;
     if given.level.number() < own.number() {
@@ -160,6 +164,7 @@ fn copy_for(
     ensures text_too_long { IsErrOf result MessageError.TextTooLong → text_limit < length given.entry.text.now }
     ensures field_too_long { IsErrOf result MessageError.FieldTooLong → IsTooLongField text_limit given.entry.text.now given.entry.source }
     ensures out_of_memory { IsErrOf result MessageError.OutOfMemory → IsWithin text_limit given.entry.text.now given.entry.source }
+    ensures bare { spec.now.backtrace ≡ 0 → IsOk result }
 {
     if spec.backtrace == 0 {
         return Ok(None);

@@ -1,5 +1,6 @@
 //! A registry: loggers and levels that one owner changes.
-ghost use Rattle.std.specs.Prelude.{◌≡◌, ◌≢◌, ◌↔◌, ◌<◌, ◌≤◌, ◌∷◌, ◌++◌, [], ℕ, length, slice_get, slice_set, Some, None, IsTrue, OnOk, OnErr, IfOk, IfErr, IsOk, vec_len, vec_capacity};
+ghost use Rattle.std.specs.Prelude.{◌≡◌, ◌≢◌, ◌↔◌, ◌<◌, ◌≤◌, ◌∷◌, ◌++◌, [], ℕ, length, slice_get, slice_set};
+ghost use Rattle.std.specs.Prelude.{Some, None, IsTrue, OnOk, OnErr, IfOk, IfErr, IsOk, vec_len, vec_capacity};
 ghost use Rattle.alog_registry.specs.Listed.{no_loggers, name_at, IsTaken, AreApart, MayBeAdded, IsRefused, added, with_level};
 
 use crate::error::{AddError, RefusedSpec};

@@ -1,20 +1,19 @@
-//! Logs and dumps that wait, on a running ring and a backtrace under a lock.
-ghost use Rattle.std.specs.Prelude.{◌≡◌, ◌⊎◌, ◌+◌, ◌≤◌, ◌<◌, ◌++◌, ◌∷◌, [], ℕ, ℤ, List, codes, length, vec_len, vec_capacity, Some, OnErr, IfOk, IsErrOf};
+//! Logs and dumps that wait, for room and for the lock of a backtrace.
+ghost use Rattle.std.specs.Prelude.{◌≡◌, ◌⊎◌, ◌+◌, ◌≤◌, ◌<◌, ◌++◌, [], ℕ, ℤ, List, codes, length};
+ghost use Rattle.std.specs.Prelude.{vec_len, vec_capacity, Some, OnErr, IfOk, IsErrOf};
 ghost use Rattle.alog_msg.specs.declared.limits.TheConstants.{LEAST_TEXT_LIMIT, MOST_TEXT_LIMIT};
-ghost use Rattle.alog_policy.specs.Port.{IsFit, PortDid};
-ghost use Rattle.alog_msg.specs.declared.item.Item.{Item};
+ghost use Rattle.alog_msg.specs.declared.item.Item.TheVariants.{Text};
 ghost use Rattle.alog_msg.specs.declared.message.Message.{Message};
-ghost use Rattle.alog_policy.specs.declared.port.Port.{Port};
 ghost use Rattle.alog_registry.specs.Backtrace.{Room, room_for};
 ghost use Rattle.alog_registry.specs.Dumping.{PostsEach, posted_of, marker};
 ghost use Rattle.alog_registry.specs.Carry.{PostsItem};
 ghost use Rattle.alog_registry.specs.Given.{message_with, IsWithin, IsTooLongField};
-ghost use Rattle.alog_registry.specs.LaneKeeper.{IsSeated, HasList, KeepsByTurn, DumpsByTurn, Passes};
+ghost use Rattle.alog_registry.specs.LaneKeeper.{IsSeated, HasList, KeepsByTurn, DumpsByTurn, NeverPasses};
 ghost use Rattle.alog_registry.specs.Listed.{spec_at};
 ghost use Rattle.alog_registry.specs.Logging.{KeepsCopy, Logs, IsUnread};
 ghost use Rattle.alog_registry.specs.declared.logger.Spec.{Spec};
 
-use crate::carry::dropped;
+use crate::carry::CarryWaiting;
 use crate::dumped::Dumped;
 use crate::dumping::{END, START, marker};
 use crate::given::MessageRef;
@@ -22,20 +21,20 @@ use crate::keep::LaneKeeper;
 use crate::loggers::Loggers;
 use crate::logging::{LogReply, Prepared, prepare};
 use crate::turn::{BacktraceItem, BacktraceReply};
-use alog_msg::{Item, Level, Message, MessageError, SourceRef};
-use alog_policy::{Outcome, Policy, Port, post_wait};
+use alog_msg::{Level, Message, MessageError, SourceRef};
+use alog_policy::{Outcome, Policy};
 use std::alloc::{AllocError, Global};
 use std::sync::Wait;
 
 impl Loggers {
-    /// Logs a message as `log_now` does, but waits: under `Block` until there is room in the ring, and for the lock of the
+    /// Logs a message as `log_now` does, but waits: under `Block` until there is room, and for the lock of the
     /// backtrace, so that it is always kept where there is one. That it returns is not promised. The test `logs_with_waiting`
     /// shows it.
-    pub fn log(
+    pub fn log<O: CarryWaiting>(
         &self,
         rt: &impl Wait,
         alloc: Global,
-        port: &mut Port<'_, Item>,
+        outlet: &mut O,
         keeper: &mut LaneKeeper<'_>,
         text_limit: usize,
         number: u32,
@@ -47,16 +46,18 @@ impl Loggers {
     ) -> Result<LogReply, MessageError>
         requires known { number < length self.now }
         requires limit { (LEAST_TEXT_LIMIT ≤ text_limit) × (text_limit ≤ MOST_TEXT_LIMIT) }
-        requires port { IsFit port.old }
+        requires outlet { O.is_ready outlet.old }
         requires keeper { IsSeated keeper.old }
-        ensures logs { (s : Spec) → spec_at self.now number ≡ Some s → IfOk result (λ r. Logs PortDid KeepsByTurn Passes s.policy s
-            (message_with number level time thread text.now source.entry) port.old keeper.old r port.new keeper.new) }
-        ensures within { (s : Spec) → spec_at self.now number ≡ Some s → IfOk result (λ r. IsUnread s r ⊎ IsWithin text_limit text.now source.entry) }
+        ensures logs { (s : Spec) → spec_at self.now number ≡ Some s
+            → IfOk result (λ r. Logs O.did KeepsByTurn NeverPasses s.policy s
+            (message_with number level time thread text.now source.entry) outlet.old keeper.old r outlet.new keeper.new) }
+        ensures within { (s : Spec) → spec_at self.now number ≡ Some s
+            → IfOk result (λ r. IsUnread s r ⊎ IsWithin text_limit text.now source.entry) }
         ensures text_too_long { IsErrOf result MessageError.TextTooLong → text_limit < length text.now }
         ensures field_too_long { IsErrOf result MessageError.FieldTooLong → IsTooLongField text_limit text.now source.entry }
         ensures out_of_memory { IsErrOf result MessageError.OutOfMemory → IsWithin text_limit text.now source.entry }
-        ensures err { OnErr result ((port.new ≡ port.old) × (keeper.new ≡ keeper.old)) }
-        ensures ready { IsFit port.new × IsSeated keeper.new }
+        ensures err { OnErr result ((outlet.new ≡ outlet.old) × (keeper.new ≡ keeper.old)) }
+        ensures ready { O.is_ready outlet.new × IsSeated keeper.new }
         ensures list { HasList keeper.old → HasList keeper.new }
     {
         let given = MessageRef {
@@ -70,13 +71,13 @@ impl Loggers {
         let (Some(spec), Some(own)) = (self.spec(number), self.level(number)) else {
             unreachable!()
         };
-        match prepare(alloc, port, text_limit, spec, own, given)? {
+        match prepare(alloc, outlet, text_limit, spec, own, given)? {
             Prepared::Filtered { level, copy } => Ok(LogReply::Filtered {
                 level,
                 kept: keep_waiting(rt, keeper, copy),
             }),
             Prepared::Admitted { value, copy } => {
-                let outcome = post_waiting(rt, port, spec.policy, value);
+                let outcome = outlet.post_waiting(rt, spec.policy, value);
                 Ok(LogReply::Logged {
                     outcome,
                     kept: keep_waiting(rt, keeper, copy),
@@ -88,28 +89,28 @@ impl Loggers {
 
 impl Loggers {
     /// Dumps a shared backtrace as `dump_backtrace` does one of one's own, but waits: for its lock, and under `Block` until
-    /// there is room in the ring. The scratch lends an empty list of the backtrace's room, and has one again afterwards.
+    /// there is room. The scratch lends an empty list of the backtrace's room, and has one again afterwards.
     ///
     /// What is needed is made before the backtrace is emptied, also where nothing is kept, and where there is no memory,
     /// everything is as it was. That it returns is not promised. The test `logs_with_waiting` shows it.
-    pub fn dump_shared(
+    pub fn dump_shared<O: CarryWaiting>(
         &self,
         rt: &impl Wait,
         alloc: Global,
-        port: &mut Port<'_, Item>,
+        outlet: &mut O,
         keeper: &mut LaneKeeper<'_>,
         number: u32,
         time: i64,
         thread: u64,
     ) -> Result<Vec<Outcome<()>>, AllocError>
         requires known { number < length self.now }
-        requires port { IsFit port.old }
+        requires outlet { O.is_ready outlet.old }
         requires seated { IsSeated keeper.old }
         requires list { HasList keeper.old }
         ensures dumped { (s : Spec) → spec_at self.now number ≡ Some s → IfOk result (λ v. (d : Room) × DumpsByTurn keeper.old d keeper.new
-            × PostsEach PortDid s.policy (posted_of number time thread d.messages) port.old v.items port.new) }
-        ensures err { OnErr result ((port.new ≡ port.old) × (keeper.new ≡ keeper.old)) }
-        ensures ready { IsFit port.new × IsSeated keeper.new × HasList keeper.new }
+            × PostsEach O.did s.policy (posted_of number time thread d.messages) outlet.old v.items outlet.new) }
+        ensures err { OnErr result ((outlet.new ≡ outlet.old) × (keeper.new ≡ keeper.old)) }
+        ensures ready { O.is_ready outlet.new × IsSeated keeper.new × HasList keeper.new }
     {
         let Some(spec) = self.spec(number) else {
             unreachable!()
@@ -120,79 +121,88 @@ impl Loggers {
         let mut list = keeper.dump(rt);
         // It has no more messages than its room, so there is room for the outcomes.
         let _dumped = list.len();
-        post_dumped(rt, port, spec.policy, start, end, &mut list, &mut outcomes);
+        post_dumped(
+            rt,
+            outlet,
+            spec.policy,
+            start,
+            end,
+            &mut list,
+            &mut outcomes,
+        );
         keeper.scratch.take_back(list);
         Ok(outcomes)
     }
 }
 
 /// Posts what was dumped between the two markers, or nothing where nothing was.
-fn post_dumped(
+fn post_dumped<O: CarryWaiting>(
     rt: &impl Wait,
-    port: &mut Port<'_, Item>,
+    outlet: &mut O,
     policy: Policy,
     start: Message,
     end: Message,
     list: &mut Dumped,
     outcomes: &mut Vec<Outcome<()>>,
 )
-    requires fit { IsFit port.old }
+    requires ready { O.is_ready outlet.old }
     requires none { outcomes.old.items ≡ [] }
     requires room { length list.old.messages + 2 ≤ vec_capacity outcomes.old }
     ensures posted { (n : ℕ) (t : ℤ) (th : ℕ) → start ≡ marker n t th (codes "=== backtrace start ===")
         → end ≡ marker n t th (codes "=== backtrace end ===")
-        → PostsEach PortDid policy (posted_of n t th list.old.messages) port.old outcomes.new.items port.new }
+        → PostsEach O.did policy (posted_of n t th list.old.messages) outlet.old outcomes.new.items outlet.new }
     ensures list { list.new ≡ room_for list.old.most }
-    ensures fit { IsFit port.new }
+    ensures ready { O.is_ready outlet.new }
 {
     if list.is_empty() {
         return;
     }
-    outcomes.push_reserved(post_waiting(rt, port, policy, Item::Text(start)));
-    post_all_waiting(rt, port, policy, list, outcomes);
-    outcomes.push_reserved(post_waiting(rt, port, policy, Item::Text(end)));
+    outcomes.push_reserved(post_waiting(rt, outlet, policy, start));
+    post_all_waiting(rt, outlet, policy, list, outcomes);
+    outcomes.push_reserved(post_waiting(rt, outlet, policy, end));
 }
 
 /// Posts all messages of the list, oldest first, for whose outcomes there is room.
-fn post_all_waiting(
+fn post_all_waiting<O: CarryWaiting>(
     rt: &impl Wait,
-    port: &mut Port<'_, Item>,
+    outlet: &mut O,
     policy: Policy,
     list: &mut Dumped,
     outcomes: &mut Vec<Outcome<()>>,
 )
-    requires fit { IsFit port.old }
+    requires ready { O.is_ready outlet.old }
     requires room { vec_len outcomes.old + length list.old.messages < vec_capacity outcomes.old }
-    ensures posted { (s : Port Item) (before : List Message) → PostsEach PortDid policy before s outcomes.old.items port.old
-        → PostsEach PortDid policy (before ++ list.old.messages) s outcomes.new.items port.new }
+    ensures posted { (s : O) (before : List Message) → PostsEach O.did policy before s outcomes.old.items outlet.old
+        → PostsEach O.did policy (before ++ list.old.messages) s outcomes.new.items outlet.new }
     ensures list { list.new ≡ room_for list.old.most }
     ensures count { vec_len outcomes.new ≡ vec_len outcomes.old + length list.old.messages }
     ensures room { vec_capacity outcomes.new ≡ vec_capacity outcomes.old }
-    ensures fit { IsFit port.new }
+    ensures ready { O.is_ready outlet.new }
 {
     while let Some(message) = list.take_oldest() {
-        outcomes.push_reserved(post_waiting(rt, port, policy, Item::Text(message)));
+        outcomes.push_reserved(post_waiting(rt, outlet, policy, message));
     }
 }
 
-/// Posts the item as `post_wait` does. Nothing is handed back of a discarded one.
-fn post_waiting(
+/// Posts a message.
+fn post_waiting<O: CarryWaiting>(
     rt: &impl Wait,
-    port: &mut Port<'_, Item>,
+    outlet: &mut O,
     policy: Policy,
-    value: Item,
+    message: Message,
 ) -> Outcome<()>
-    requires { IsFit port.old }
-    ensures post { PostsItem PortDid policy value port.old port.new result }
-    ensures ready { IsFit port.new }
+    requires { O.is_ready outlet.old }
+    ensures post { PostsItem O.did policy (Text message) outlet.old outlet.new result }
+    ensures ready { O.is_ready outlet.new }
 {
-    dropped(post_wait(rt, port, policy, value))
+    let value = outlet.message(message);
+    outlet.post_waiting(rt, policy, value)
 }
 
 /// Keeps the copy, if there is one, as soon as the lock is got, and answers whether there is one.
 fn keep_waiting(rt: &impl Wait, keeper: &mut LaneKeeper<'_>, copy: Option<Message>) -> bool
     requires { IsSeated keeper.old }
-    ensures kept { KeepsCopy KeepsByTurn Passes copy result keeper.old keeper.new }
+    ensures kept { KeepsCopy KeepsByTurn NeverPasses copy result keeper.old keeper.new }
     ensures ready { IsSeated keeper.new }
     ensures list { HasList keeper.old → HasList keeper.new }
 {

@@ -1,5 +1,5 @@
 //! The runs, and what is printed.
-use crate::work::{COUNT, Target, fan, give_all, memory, message, pattern, rotating};
+use crate::work::{COUNT, Target, daily, fan, give_all, memory, message, pattern, rotating};
 use alog_format::LineBuf;
 use anyhow::{Context, Result};
 use std::alloc::Global;
@@ -18,6 +18,7 @@ enum Case {
     Bare,
     Memory,
     Rotating,
+    Daily,
     Fan,
 }
 
@@ -27,6 +28,7 @@ impl Case {
             Case::Bare => "bare    ",
             Case::Memory => "memory  ",
             Case::Rotating => "rotating",
+            Case::Daily => "daily   ",
             Case::Fan => "fan     ",
         }
     }
@@ -36,6 +38,7 @@ impl Case {
             Case::Bare => Ok(Target::Bare(pattern(alloc)?)),
             Case::Memory => memory(alloc),
             Case::Rotating => rotating(alloc),
+            Case::Daily => daily(alloc),
             Case::Fan => fan(alloc),
         }
     }
@@ -64,7 +67,13 @@ pub fn measure<R>(rt: &R) -> Result<()>
 where
     R: Clock + Print + AllocGlobal,
 {
-    for case in [Case::Bare, Case::Memory, Case::Rotating, Case::Fan] {
+    for case in [
+        Case::Bare,
+        Case::Memory,
+        Case::Rotating,
+        Case::Daily,
+        Case::Fan,
+    ] {
         let mut times = Vec::new(rt.alloc());
         for _ in 0..RUNS {
             times.push(run_one(rt, case)?)?;

@@ -73,7 +73,23 @@ pub fn rotating(alloc: Global) -> Result<Target> {
     }
 }
 
-/// A fan of both.
+/// A sink that keeps the files of three days.
+pub fn daily(alloc: Global) -> Result<Target> {
+    match Sink::daily(
+        alloc,
+        face(alloc)?,
+        MemStore::new(alloc),
+        "log.txt",
+        0,
+        0,
+        3,
+    ) {
+        Ok(sink) => Ok(Target::Sink(sink)),
+        Err(refused) => Err(refused.error.into()),
+    }
+}
+
+/// A fan of one that writes one file and one that rotates.
 pub fn fan(alloc: Global) -> Result<Target> {
     let mut members = Vec::new(alloc);
     for target in [memory(alloc)?, rotating(alloc)?] {

@@ -6,7 +6,8 @@ use Rattle.alog_registry.proofs.dumping.post_all.Given as goal
 
 abbrev pub invariant-loop-message : goal.invariant-loop-message
 invariant-loop-message g l = record {
-  posted : (before : List Message) (s : g.row.O.Denot) → PostsEach g.O.Carry.did (without_waiting l.fn.policy) before s l.fn.outcomes.items l.fn.outlet
+  posted : (before : List Message) (s : g.row.O.Denot)
+      → PostsEach g.O.Carry.did (without_waiting l.fn.policy) before s l.fn.outcomes.items l.fn.outlet
       → (gone : List Message) × (l.fn.list.messages ≡ gone ++ l.list.messages)
       × PostsEach g.O.Carry.did (without_waiting l.fn.policy) (before ++ gone) s l.outcomes.items l.outlet;
   count : vec_len l.outcomes + length l.list.messages ≡ vec_len l.fn.outcomes + length l.fn.list.messages;

@@ -1,11 +1,11 @@
 use Rattle.std.proofs.Common.{◌≡◌, ◌+◌, [], ◌∷◌, ◌++◌, length, drop, arith, sym, ap, subst, ◌∙◌, append_assoc}
-use Rattle.alog_policy.specs.Port.{IsFit, PortDid}
 use Rattle.alog_registry.specs.Dumping.{PostsEach}
 use Rattle.alog_registry.proofs.Dumps.{first_and_rest, taken_from, posts_more}
 use Rattle.alog_registry.proofs.waiting.post_all_waiting.Goals as goal
 
 pub loop-message-preserved : goal.loop-message-preserved
 loop-message-preserved g c =
+    let o = g.O.Carry in
     let left = c.loop-message.list.messages in
     let m = c.in-Some.message in
     let rest : c.take_oldest.new.self.messages ≡ drop 1 left = ap (λ l. l.messages) c.take_oldest.ensures.rest in
@@ -16,17 +16,17 @@ loop-message-preserved g c =
       posted = λ before s h.
           let now = c.loop-message.invariant.posted before s h in
           let gone = now.0 in
-          let all = posts_more PortDid c.args.policy (before ++ gone) s c.loop-message.port c.post_waiting.new.port
+          let all = posts_more o.did c.args.policy (before ++ gone) s c.loop-message.outlet c.post_waiting.new.outlet
           c.loop-message.outcomes.items m c.post_waiting.result now.2 c.post_waiting.ensures.post in (
             gone ++ m ∷ [],
             taken_from c.args.list.now.messages gone left c.take_oldest.new.self.messages m now.1 c.in-Some.ensures.oldest rest,
-            subst (λ ms. PostsEach PortDid c.args.policy ms s c.push_reserved.new.self.items c.post_waiting.new.port)
+            subst (λ ms. PostsEach o.did c.args.policy ms s c.push_reserved.new.self.items c.post_waiting.new.outlet)
                 (append_assoc before gone (m ∷ []))
-                (subst (λ os. PostsEach PortDid c.args.policy ((before ++ gone) ++ m ∷ []) s os c.post_waiting.new.port)
+                (subst (λ os. PostsEach o.did c.args.policy ((before ++ gone) ++ m ∷ []) s os c.post_waiting.new.outlet)
                 (sym c.push_reserved.ensures.items) all),
           );
       count = omega arith;
       room = c.push_reserved.ensures.capacity ∙ c.loop-message.invariant.room;
       most = ap (λ l. l.most) c.take_oldest.ensures.rest ∙ c.loop-message.invariant.most;
-      fit = c.post_waiting.ensures.ready;
+      ready = c.post_waiting.ensures.ready;
     }

@@ -1,5 +1,4 @@
 use Rattle.std.proofs.Common.{[], ◌∷◌, ◌++◌, length, refl, ap, ◌∙◌}
-use Rattle.alog_policy.specs.Port.{IsFit, PortDid}
 use Rattle.alog_registry.proofs.Dumps.{Outcomes, not_none, dump_posts}
 use Rattle.alog_registry.proofs.waiting.post_dumped.Goals as goal
 
@@ -9,7 +8,7 @@ returns-clause-posted g c = λ n t th starts ends.
     let ms = a.list.now.messages in
     let some = not_none c.is_empty.result (length ms) c.is_empty.ensures c.if-is_empty.false in
     let first = c.push_reserved.ensures.items ∙ ap (λ (os : Outcomes). os ++ c.post_waiting.result ∷ []) c.requires.none in
-    dump_posts PortDid a.policy n t th ms ms a.start a.end a.port.now c.post_waiting.new.port c.post_all_waiting.new.port
-    c.post_waiting-2.new.port c.post_waiting.result c.post_waiting-2.result c.push_reserved.new.self.items c.post_all_waiting.new.outcomes.items
-    c.push_reserved-2.new.self.items some starts ends refl first c.push_reserved-2.ensures.items c.post_waiting.ensures.post
-    c.post_all_waiting.ensures.posted c.post_waiting-2.ensures.post
+    dump_posts g.O.Carry.did a.policy n t th ms ms a.start a.end a.outlet.now c.post_waiting.new.outlet c.post_all_waiting.new.outlet
+    c.post_waiting-2.new.outlet c.post_waiting.result c.post_waiting-2.result c.push_reserved.new.self.items
+    c.post_all_waiting.new.outcomes.items c.push_reserved-2.new.self.items some starts ends refl first
+    c.push_reserved-2.ensures.items c.post_waiting.ensures.post c.post_all_waiting.ensures.posted c.post_waiting-2.ensures.post

@@ -19,10 +19,10 @@ returns-clause-posted g c = λ s e.
     let end = simp (to_z-of_z, c.ranges.time) at c.in_ok-end.ensures in
     let list = ap (λ r. r.messages) c.dump-list.ensures.dumped in
     let first = c.push_reserved.ensures.items ∙ ap (λ (os : Outcomes). os ++ c.post.result ∷ []) c.in_ok-outcomes.ensures.items in
-    let each = dump_posts o.did (without_waiting own.policy) a.number a.time a.thread ms c.dump-list.result.messages c.in_ok-start.start c.in_ok-end.end
-    a.outlet.now c.post.new.outlet c.post_all.new.outlet c.post-2.new.outlet c.post.result c.post-2.result c.push_reserved.new.self.items
-    c.post_all.new.outcomes.items c.push_reserved-2.new.self.items some start end list first c.push_reserved-2.ensures.items
-    c.post.ensures.post c.post_all.ensures.posted c.post-2.ensures.post in
+    let each = dump_posts o.did (without_waiting own.policy) a.number a.time a.thread ms c.dump-list.result.messages
+    c.in_ok-start.start c.in_ok-end.end a.outlet.now c.post.new.outlet c.post_all.new.outlet c.post-2.new.outlet
+    c.post.result c.post-2.result c.push_reserved.new.self.items c.post_all.new.outcomes.items c.push_reserved-2.new.self.items
+    some start end list first c.push_reserved-2.ensures.items c.post.ensures.post c.post_all.ensures.posted c.post-2.ensures.post in
     let P : Spec → Type 0 = λ z. PostsEach o.did (without_waiting z.policy) (posted_of a.number a.time a.thread ms) a.outlet.now
     c.push_reserved-2.new.self.items c.post-2.new.outlet in
     subst P same each

@@ -1,0 +1,146 @@
+//! A backtrace under a lock, with which two threads keep messages.
+ghost use Rattle.alog_lane.specs.Calls.{IsSeatOf};
+
+use super::*;
+use crate::log_tests::TEXT_LIMIT;
+use alog_lane::{Lane, LaneSeat};
+use alog_msg::{Level, Message};
+use std::alloc::{AllocError, Global};
+use std::test::Fail;
+use std::{mem, thread};
+
+/// The messages of each thread.
+const MESSAGES: usize = 2_000;
+
+/// The most messages that are kept.
+const ROOM: usize = 64;
+
+/// What a thread works with: its seat and its messages, and how many of them it kept.
+#[derive(Drop)]
+struct Keeping {
+    seat: LaneSeat<Backtrace>,
+    messages: Vec<Message>,
+    kept: usize,
+}
+
+impl Keeping {
+    /// Keeps each of its messages, where the lock is free.
+    fn keep_all(self, lane: &Lane<Backtrace>) -> Keeping
+        requires { IsSeatOf lane.now self.seat }
+        ensures { IsSeatOf lane.now result.seat }
+    {
+        let mut own = self;
+        let mut scratch = BacktraceScratch {
+            message: None,
+            list: None,
+        };
+        while let Some(message) = own.messages.pop() {
+            if keep_one(lane, &mut own.seat, &mut scratch, message) {
+                own.kept = own.kept.saturating_add(1);
+            }
+        }
+        own
+    }
+}
+
+/// Keeps the message, where the lock is free, and answers whether it did.
+fn keep_one(
+    lane: &Lane<Backtrace>,
+    seat: &mut LaneSeat<Backtrace>,
+    scratch: &mut BacktraceScratch,
+    message: Message,
+) -> bool
+    requires { IsSeatOf lane.now seat.old }
+    ensures { IsSeatOf lane.now seat.new }
+{
+    let mut keeper = LaneKeeper {
+        lane,
+        seat,
+        scratch,
+    };
+    keeper.keep_now(message)
+}
+
+/// The messages of this thread: the first to keep has time 0, and stands last.
+fn messages_of(alloc: Global, thread: u64) -> Result<Vec<Message>, Fail> {
+    let mut messages = Vec::with_capacity(alloc, MESSAGES)?;
+    for place in 0..MESSAGES {
+        let time = (MESSAGES - 1 - place) as i64;
+        messages.push(Message::new(
+            alloc,
+            TEXT_LIMIT,
+            0,
+            Level::Info,
+            time,
+            thread,
+            "text",
+            None,
+        )?)?;
+    }
+    Ok(messages)
+}
+
+/// Whether there are at most 64 messages, and those of each thread stand in the order in which it kept them.
+fn are_in_order(list: &mut Dumped) -> bool {
+    let (mut one, mut two) = (-1, -1);
+    for _ in 0..ROOM {
+        let Some(message) = list.take_oldest() else {
+            return true;
+        };
+        let last = match message.thread {
+            1 => mem::replace(&mut one, message.time),
+            _ => mem::replace(&mut two, message.time),
+        };
+        if message.time <= last {
+            return false;
+        }
+    }
+    list.is_empty()
+}
+
+#[test]
+fn two_threads_keep(rt: HostRuntime) -> Result<(), Fail> {
+    let alloc = rt.alloc();
+    let Ok((lane, mut seat)) = Lane::new(alloc, Backtrace::new(alloc, ROOM)?) else {
+        return Err(AllocError.into());
+    };
+    let mut scratch = BacktraceScratch {
+        message: None,
+        list: Some(Dumped::new(alloc, ROOM)?),
+    };
+    let (first, second) = (messages_of(alloc, 1)?, messages_of(alloc, 2)?);
+    let one = Keeping {
+        seat: lane.split(&mut seat, 1),
+        messages: first,
+        kept: 0,
+    };
+    let two = Keeping {
+        seat: lane.split(&mut seat, 1),
+        messages: second,
+        kept: 0,
+    };
+    let shared = &lane;
+    let (one, two) = thread::join(
+        &rt,
+        || -> Keeping
+            requires { IsSeatOf shared.now one.seat }
+            ensures { IsSeatOf shared.entry.now result.seat }
+        { one.keep_all(shared) },
+        || -> Keeping
+            requires { IsSeatOf shared.now two.seat }
+            ensures { IsSeatOf shared.entry.now result.seat }
+        { two.keep_all(shared) },
+    );
+    let kept = one.kept.saturating_add(two.kept);
+    lane.join(&mut seat, one.seat);
+    lane.join(&mut seat, two.seat);
+    match lane.turn_once(&mut seat, 0, &BacktraceItem::Dump, &mut scratch) {
+        Ok((index, BacktraceReply::Dumped(mut list))) => {
+            assert_eq!(rt; index, kept as u64);
+            assert_eq!(rt; list.len(), kept.min(ROOM));
+            assert!(rt; are_in_order(&mut list));
+        }
+        Ok((_, BacktraceReply::Kept)) | Err(_) => panic!(rt; "it is dumped"),
+    }
+    Ok(())
+}
