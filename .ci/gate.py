@@ -2,7 +2,8 @@
 
 gate.py run FILE WORD..   runs a command, and writes to FILE what it and each prover below it have used
 gate.py times FILE        prints the processor seconds of the last gate by crate and phase, beside the budget
-gate.py applies           says which wrong bodies no longer apply, and which crates have more edits than the gate tries
+gate.py applies           says which wrong bodies no longer apply, which crates have more edits than the gate tries, and
+                          which of their examples differ from those of examples/
 gate.py wrong [NAME..]    tries the wrong bodies of these crates, or of all, on a copy of the repository
 """
 import glob
@@ -132,6 +133,16 @@ def stale(crates):
     return [f"{edit}: {why}" for edit, why in edits if why]
 
 
+def strayed():
+    """Returns what is said of each example in a crate's data/ that is not the one of examples/."""
+    copies = sorted(glob.glob("crates/*/data/*"))
+    return [f"{it} is not what examples/ has" for it in copies if not is_copy(it, f"examples/{os.path.basename(it)}")]
+
+
+def is_copy(one, other):
+    return os.path.isfile(other) and open(one, "rb").read() == open(other, "rb").read()
+
+
 def tell(faults):
     print("".join(f"check: {it}\n" for it in faults), end="", flush=True)
     return 1 if faults else 0
@@ -141,7 +152,7 @@ def applies():
     crates = sorted(glob.glob("crates/*"))
     counts = [(crate, len(edits_in(f"{crate}/must-fail"))) for crate in crates]
     many = [f"{crate}/must-fail has {count} edits: at most {MOST_EDITS} stand there, the others in {crate}/wrong" for crate, count in counts if count > MOST_EDITS]
-    return tell(many + stale(crates))
+    return tell(many + stale(crates) + strayed())
 
 
 def wrong(names):

@@ -1,5 +1,5 @@
 -- What `clap` makes of the program's words.
-use Rattle.std.proofs.Common.{◌≡◌, ◌∙◌, ap, ap₂, refl, sym, subst, codes, true, ℕ, List, [], ◌∷◌, Option, Some, None, Result, Ok, Err, inl}
+use Rattle.std.proofs.Common.{◌≡◌, ◌≢◌, ◌∙◌, ap, ap₂, refl, sym, subst, codes, true, ℕ, List, [], ◌∷◌, Option, Some, None, Result, Ok, Err, inl}
 use Rattle.std.proofs.Common.{inr, IfErr, arith}
 use Rattle.std.specs.Prelude.{IsErrAnd, option_map, unwrap_or, slice_index}
 use Rattle.clap.specs.Words.{App, Row, Text, fault_of, found_of, is_simple, is_simple_and_free, rows_of, subcommand_of, subcommand_rows_of}
@@ -11,7 +11,7 @@ use Rattle.clap.specs.declared.error.kind.ErrorKind.TheVariants.{OutOfMemory}
 use Rattle.clap.specs.declared.parser.matches.ArgMatches.{ArgMatches}
 use Rattle.clap.proofs.OnLiterals.{clap_on_literals}
 use Rattle.clap.proofs.WalkLemmas.{first_value-rows}
-use Rattle.alog.specs.CommandLine.{alog_app, values_in, NamesFormat}
+use Rattle.alog.specs.CommandLine.{alog_app, values_in, Names}
 use Rattle.alog.specs.Options.{value_of}
 use Rattle.alog.specs.Words.{AsksReplay}
 
@@ -66,33 +66,62 @@ module _ (app : App) (e : app ≡ alog_app) (words : List Text) where
   entered_is : (m : ArgMatches) → HasMatchesOf app words m → subcommand_rows_of m ≡ subcommand_of alog_app words
   entered_is m has = (has (ap is_simple e ∙ alog_is_simple)).1 ∙ ap (λ (a : App). subcommand_of a words) e
 
-  pub names_format : (m : ArgMatches) (rows : List Row) → HasMatchesOf app words m → subcommand_name_of m ≡ Some (codes "format")
-      → option_map (λ p. p.1) (subcommand_rows_of m) ≡ Some rows → NamesFormat words rows
-  names_format m rows has name is = sym (entered_is m has) ∙ pair_is (subcommand_rows_of m) (codes "format") rows (sym (named m) ∙ name) is
+  pub names_command : (command : Text) (m : ArgMatches) (rows : List Row) → HasMatchesOf app words m
+      → subcommand_name_of m ≡ Some command → option_map (λ p. p.1) (subcommand_rows_of m) ≡ Some rows → Names command words rows
+  names_command command m rows has name is =
+      sym (entered_is m has) ∙ pair_is (subcommand_rows_of m) command rows (sym (named m) ∙ name) is
 
-  pub names_no_format : (m : ArgMatches) (rows : List Row) → HasMatchesOf app words m → (subcommand_name_of m ≡ Some (codes "format")
-      → ⊥) → NamesFormat words rows → ⊥
-  names_no_format m rows has other is = other (named m ∙ ap (option_map (λ (p : Text × List Row). p.0)) (entered_is m has ∙ is))
+  pub names_no_command : (command : Text) (m : ArgMatches) (rows : List Row) → HasMatchesOf app words m
+      → (subcommand_name_of m ≡ Some command → ⊥) → Names command words rows → ⊥
+  names_no_command command m rows has other is =
+      other (named m ∙ ap (option_map (λ (p : Text × List Row). p.0)) (entered_is m has ∙ is))
 
 replay_has_no_fault : (words : List Text) → AsksReplay words → fault_of alog_app words ≡ []
 replay_has_no_fault words asks = subst (λ (w : List Text). fault_of alog_app w ≡ []) (sym asks.1) (replay_fault asks.0)
 
-apart : (a b : ℕ) → a ≡ 114 → b ≡ 102 → a ≡ b → ⊥
-apart a b r f same = omega arith
+apart : (a b d : ℕ) → a ≡ b → (b ≡ d → ⊥) → a ≡ d → ⊥
+apart a b d is other same = other (sym is ∙ same)
 
--- the words `alog replay` name no `format`, and are refused for want of memory alone
-pub replay_no_format : (words : List Text) (rows : List Row) → AsksReplay words → NamesFormat words rows → ⊥
-replay_no_format words rows asks format =
+-- a command whose name has another first letter is not named by `alog replay`
+replay_names_no : (command : Text) → slice_index command 0 ≢ 114 → (words : List Text) (rows : List Row) → AsksReplay words
+    → Names command words rows → ⊥
+replay_names_no command other words rows asks is =
     let entered = subst (λ (w : List Text). subcommand_of alog_app w ≡ Some (codes "replay", [])) (sym asks.1) (replay_is_entered asks.0) in
-    let names : codes "replay" ≡ codes "format" = ap (λ (o : Option (Text
-    × List Row)). unwrap_or (option_map (λ p. p.0) o) []) (sym entered ∙ format) in
-    apart (slice_index (codes "replay") 0) (slice_index (codes "format") 0) refl refl (ap (λ (t : Text). slice_index t 0) names)
+    let names : codes "replay" ≡ command = ap (λ (o : Option (Text
+    × List Row)). unwrap_or (option_map (λ p. p.0) o) []) (sym entered ∙ is) in
+    other (sym (ap (λ (t : Text). slice_index t 0) names))
+
+-- the words `alog replay` name no `format` and no `check`, and are refused for want of memory alone
+pub replay_no_format : (words : List Text) (rows : List Row) → AsksReplay words → Names (codes "format") words rows → ⊥
+replay_no_format = replay_names_no (codes "format") (λ same. apart (slice_index (codes "format") 0) 102 114 refl (λ e. omega arith) same)
+
+pub replay_no_check : (words : List Text) (rows : List Row) → AsksReplay words → Names (codes "check") words rows → ⊥
+replay_no_check = replay_names_no (codes "check") (λ same. apart (slice_index (codes "check") 0) 99 114 refl (λ e. omega arith) same)
+
+-- words that name one command name no other
+pub one_command : (words : List Text) (command other : Text) (rows others : List Row) → slice_index command 0 ≢ slice_index other 0
+    → Names command words rows → Names other words others → ⊥
+one_command words command other rows others apart one two =
+    let names : command ≡ other = ap (λ (o : Option (Text × List Row)). unwrap_or (option_map (λ p. p.0) o) []) (sym one ∙ two) in
+    apart (ap (λ (t : Text). slice_index t 0) names)
+
+pub format_is_no_check : (words : List Text) (rows others : List Row) → Names (codes "format") words rows
+    → Names (codes "check") words others → ⊥
+format_is_no_check words rows others =
+    one_command words (codes "format") (codes "check") rows others (λ same. apart
+    (slice_index (codes "format") 0) 102 99 refl (λ e. omega arith) (same ∙ refl))
+
+-- words without a fault are refused for want of memory alone
+pub lacks_memory : (words : List Text) (error : Error) → fault_of alog_app words ≡ [] → HasKind (fault_of alog_app words) error
+    → kind_of error ≡ OutOfMemory
+lacks_memory words error none has =
+    elim (subst (λ (kinds : List ErrorKind). HasKind kinds error) none has) [ inl memory ↦ memory | inr among ↦ absurd among ]
 
 pub replay_lacks_memory : (words : List Text) (error : Error) → AsksReplay words → HasKind (fault_of alog_app words) error
     → kind_of error ≡ OutOfMemory
-replay_lacks_memory words error asks has =
-    elim (subst (λ (kinds : List ErrorKind). HasKind kinds error)
-    (replay_has_no_fault words asks) has) [ inl memory ↦ memory | inr among ↦ absurd among ]
+replay_lacks_memory words error asks = lacks_memory words error (replay_has_no_fault words asks)
 
-pub one_format : (words : List Text) (rows others : List Row) → NamesFormat words rows → NamesFormat words others → rows ≡ others
-one_format words rows others one other = ap (λ (o : Option (Text × List Row)). unwrap_or (option_map (λ p. p.1) o) []) (sym one ∙ other)
+pub one_row : (command : Text) (words : List Text) (rows others : List Row) → Names command words rows → Names command words others
+    → rows ≡ others
+one_row command words rows others one other =
+    ap (λ (o : Option (Text × List Row)). unwrap_or (option_map (λ p. p.1) o) []) (sym one ∙ other)

@@ -2,9 +2,9 @@
 use Rattle.std.specs.Prelude.{◌≡◌, List, [], ◌∷◌, Some, codes, true}
 use Rattle.clap.specs.Words.{App, Row, Rule, Text, first_of, new_app, new_rule, with_rule, with_subcommand, subcommand_of, fault_of}
 use Rattle.clap.specs.Words.{HasKind}
-use Rattle.alog.specs.Options.{Values, AsksFor, IsFirstRefused}
+use Rattle.alog.specs.Options.{Values, AsksFor, IsFirstRefused, text_of}
 use Rattle.alog.specs.declared.request.Request.{Request}
-use Rattle.alog.specs.declared.request.Request.TheVariants.{Replay, Format}
+use Rattle.alog.specs.declared.request.Request.TheVariants.{Replay, Format, Check}
 use Rattle.alog.specs.declared.words.WordsError.{WordsError}
 use Rattle.alog.specs.declared.words.WordsError.TheVariants.{Clap, Value}
 
@@ -26,20 +26,30 @@ format_app = with_rules (new_app (codes "format"))
     ∷ option_of (codes "name") ∷ option_of (codes "level") ∷ option_of (codes "thread") ∷ option_of (codes "process")
     ∷ option_of (codes "file") ∷ option_of (codes "line") ∷ option_of (codes "function") ∷ [])
 
--- the program: a version, `replay` without arguments, and `format`
+-- `alog check`
+abbrev pub check_app : App
+check_app = with_rules (new_app (codes "check")) (argument_of (codes "FILE") ∷ [])
+
+-- the program: a version, `replay` without arguments, `format`, and `check`
 abbrev pub top_app : App
 top_app = let app = new_app (codes "alog") in record app { top = record app.top { has_version = true; subcommand_required = true } }
 
 abbrev pub alog_app : App
-alog_app = with_subcommand (with_subcommand top_app (new_app (codes "replay")).top) format_app.top
+alog_app = with_subcommand (with_subcommand (with_subcommand top_app (new_app (codes "replay")).top) format_app.top) check_app.top
 
--- the words name `format`, and these are its arguments
-abbrev pub NamesFormat : List Text → List Row → Type 0
-NamesFormat words rows = subcommand_of alog_app words ≡ Some (codes "format", rows)
+-- the words name this command, and these are its arguments
+abbrev pub Names : Text → List Text → List Row → Type 0
+Names command words rows = subcommand_of alog_app words ≡ Some (command, rows)
 
 -- they do so without a fault
+abbrev pub AsksCommand : Text → List Text → List Row → Type 0
+AsksCommand command words rows = (fault_of alog_app words ≡ []) × Names command words rows
+
 abbrev pub AsksFormat : List Text → List Row → Type 0
-AsksFormat words rows = (fault_of alog_app words ≡ []) × NamesFormat words rows
+AsksFormat words rows = AsksCommand (codes "format") words rows
+
+abbrev pub AsksCheck : List Text → List Row → Type 0
+AsksCheck words rows = AsksCommand (codes "check") words rows
 
 -- the value of each argument that is given
 abbrev pub values_in : List Row → Values
@@ -47,8 +57,11 @@ values_in rows name = first_of name rows
 
 -- the words have no fault, and ask for this
 abbrev pub Asks : List Text → Request → Type 0
-Asks words Replay = (fault_of alog_app words ≡ []) × ((rows : List Row) → ¬ NamesFormat words rows)
+Asks words Replay =
+    (fault_of alog_app words ≡ []) × ((rows : List Row) → ¬ Names (codes "format") words rows)
+    × ((rows : List Row) → ¬ Names (codes "check") words rows)
 Asks words (Format r) = (rows : List Row) × AsksFormat words rows × AsksFor (values_in rows) r
+Asks words (Check file) = (rows : List Row) × AsksCheck words rows × (file.now ≡ text_of (values_in rows) (codes "FILE"))
 
 -- there was no memory, or the words have this fault: one of `clap`, or a value that is refused
 abbrev pub IsRefusedBy : List Text → WordsError → Type 0

@@ -6,3 +6,4 @@ pub mod Line
 pub mod Options
 pub mod CommandLine
 pub mod Formats
+pub mod Checks

@@ -28,12 +28,17 @@ pub(crate) fn alog<'a>(alloc: Global) -> Result<Command<'a>, AllocError>
         .arg(option(alloc, "file", "F", "The file of the source"))?
         .arg(option(alloc, "line", "N", LINE_HELP))?
         .arg(option(alloc, "function", "F", "The function of the source"))?;
+    let check = Command::new(alloc, "check")
+        .about("Say whether a file has a configuration, or what is wrong with it")
+        .long_about(CHECK_HELP)
+        .arg(argument(alloc, "FILE", "The configuration, in TOML"))?;
     Command::new(alloc, "alog")
         .version("0.1.0")
         .about("The back end of an asynchronous logger, step by step")
         .subcommand_required(true)
         .subcommand(replay)?
-        .subcommand(format)
+        .subcommand(format)?
+        .subcommand(check)
 }
 
 /// An argument that is needed.
@@ -111,3 +116,23 @@ Exit status: 0 done, 1 a wrong command line, 2 refused input, 3 a write fault, 4
 prints `alog: refused N` on standard error: 1 no memory, 2 a text that is too long, 3 a name, file or
 function that is, 17 a pattern that is, 18 a pattern whose line may have more than 65536 bytes,
 35 a write fault.";
+
+const CHECK_HELP: &str = "Say whether a file has a configuration: `ok`, or what is wrong with it.
+
+A configuration is a document in TOML. Its tables, keys, values and defaults:
+
+  top        queue (a power of two from 2 to 65536) [8192], workers (1 to 64) [1], text (64 to 8192) [2048],
+             offset (minutes, -1439 to 1439) [0], process (0 to 4294967295) [0]
+  [[sink]]   name, kind (memory, rotating, daily, fan), level [trace]
+    no fan   pattern [%+], file [for memory the name of the sink]
+    rotating max_size (1 to 1099511627776), max_files (0 to 1000)
+    daily    hour [0], minute [0], max_files (0 to 1000) [0]
+    fan      of (1 to 16 names of earlier sinks)
+  [[logger]] name, level [info], policy (block, overrun_oldest, discard_new) [block], sinks (1 to 16 names),
+             flush_on (a level) [off], backtrace (0 to 4096) [0]
+
+Exit status: 0 ok, 1 a wrong command line, 2 a refused configuration, 3 a file that cannot be read or a
+write fault, 4 no memory. A fault prints `alog: refused N` on standard error: 1 no memory, 24 a name that
+is taken, 28 no TOML, 29 an unknown key, 30 a bad value, 31 a missing key, 32 an unknown sink, 35 a write
+fault; behind 24 and 29 to 32 stands ` in top`, ` in sink I` or ` in logger I`, with I from 0, and a second
+line says what is wrong.";

@@ -8,6 +8,9 @@
 #![tactic(auto)]
 
 mod arguments;
+mod check;
+#[cfg(test)]
+mod check_tests;
 mod command;
 mod line;
 mod options;

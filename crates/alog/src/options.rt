@@ -243,7 +243,7 @@ fn source<'a>(matches: &ArgMatches<'a>, line: u32) -> Option<SourceRef<'a>>
 }
 
 /// The value of an argument, or the empty text.
-fn text<'a>(matches: &ArgMatches<'a>, name: &str) -> &'a str
+pub(crate) fn text<'a>(matches: &ArgMatches<'a>, name: &str) -> &'a str
     ensures { result.now ≡ text_of (value_of matches.now) name.now }
 {
     match matches.get_str(name) {

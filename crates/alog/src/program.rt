@@ -2,7 +2,8 @@
 ghost use Rattle.std.specs.Prelude.{◌≡◌, ◌≤◌, ◌⊎◌, ◌↔◌, List, map, OnOk};
 ghost use Rattle.std.specs.Io.KnownBytes.{Appends, Keeps};
 ghost use Rattle.clap.specs.Words.{Row, kind_of};
-ghost use Rattle.alog.specs.CommandLine.{AsksFormat, values_in};
+ghost use Rattle.alog.specs.Checks.{ChecksFile};
+ghost use Rattle.alog.specs.CommandLine.{AsksCheck, AsksFormat, values_in};
 ghost use Rattle.alog.specs.Formats.{Formats};
 ghost use Rattle.alog.specs.Line.{WritesLineOf, IsRefused};
 ghost use Rattle.alog.specs.Replays.{Replays};
@@ -10,6 +11,7 @@ ghost use Rattle.alog.specs.Status.{status_of};
 ghost use Rattle.alog.specs.Words.{AsksReplay, IsAskedFor};
 
 use crate::arguments::ArgumentsError;
+use crate::check::check_command;
 use crate::line::line_of;
 use crate::request::{LineRequest, Request};
 use crate::status::{number_of, status_of};
@@ -20,6 +22,7 @@ use std::alloc::Global;
 use std::convert::AsStr;
 use std::io;
 use std::io::{Read, Write};
+use std::rt::Files;
 
 /// Runs the program on these words, of which the first is its own name, and answers its exit status: 0 where all was
 /// done, 1 for a wrong command line, 2 for refused input, 3 for a read or write fault, 4 for want of memory.
@@ -27,7 +30,7 @@ use std::io::{Read, Write};
 /// A fault prints its line on `errors`. Help goes to `output`, and a wrong command line writes nothing there.
 /// `alog replay` replays the script of `input`, as `alog_replay::replay` does; `alog format` writes the line that its
 /// arguments ask for.
-pub fn run<R: AllocGlobal, S: AsStr, I: Read, O: Write, E: Write>(
+pub fn run<R: AllocGlobal + Files, S: AsStr, I: Read, O: Write, E: Write>(
     rt: &R,
     words: &[S],
     input: &mut I,
@@ -40,10 +43,13 @@ pub fn run<R: AllocGlobal, S: AsStr, I: Read, O: Write, E: Write>(
         → Replays result (I.remaining input.old) (I.remaining input.new) (O.contents output.old) (O.contents output.new) }
     ensures formats { (rows : List Row) → AsksFormat (map S.text words.now) rows
         → Formats (values_in rows) result (O.contents output.old) (O.contents output.new) }
+    ensures checks { (rows : List Row) → AsksCheck (map S.text words.now) rows
+        → ChecksFile result (O.contents output.old) (O.contents output.new) }
 {
     match read(rt.alloc(), words) {
         Ok(Request::Replay) => replay_command(rt.alloc(), input, output, errors),
         Ok(Request::Format(request)) => format_command(rt.alloc(), &request, output, errors),
+        Ok(Request::Check(file)) => check_command(rt, file, output, errors),
         Err(WordsError::Value(fault)) => {
             let _ = writeln!(errors, "alog: {fault}");
             1
@@ -109,7 +115,7 @@ fn format_command<O: Write, E: Write>(
 }
 
 /// Writes all these bytes, and flushes.
-fn write_out<O: Write>(output: &mut O, bytes: &[u8]) -> io::Result<()>
+pub(crate) fn write_out<O: Write>(output: &mut O, bytes: &[u8]) -> io::Result<()>
     ensures { OnOk result (Appends (O.contents output.old) (O.contents output.new) bytes.now) }
 {
     output.write_all(bytes)?;
@@ -133,7 +139,7 @@ fn replay_command<I: Read, O: Write, E: Write>(
 }
 
 /// Writes the line of a fault, and answers its status.
-fn fail<E: Write>(fault: ReplayError, errors: &mut E) -> u8
+pub(crate) fn fail<E: Write>(fault: ReplayError, errors: &mut E) -> u8
     ensures { result ≡ status_of fault }
 {
     let number = number_of(fault);

@@ -25,4 +25,6 @@ pub enum Request<'a> {
     Replay,
     /// `alog format`: a line.
     Format(LineRequest<'a>),
+    /// `alog check`: whether the file of this path has a configuration.
+    Check(&'a str),
 }

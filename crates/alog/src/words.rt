@@ -3,7 +3,7 @@ ghost use Rattle.std.specs.Prelude.{map, IfErr, IfOk};
 ghost use Rattle.alog.specs.CommandLine.{Asks, IsRefusedBy};
 
 use crate::command::alog;
-use crate::options::{ValueError, line_request};
+use crate::options::{ValueError, line_request, text};
 use crate::request::Request;
 use clap::Error;
 use std::alloc::{AllocError, Global};
@@ -56,8 +56,11 @@ pub fn read<'a, S: AsStr>(alloc: Global, words: &'a [S]) -> Result<Request<'a>, 
     ensures refused { IfErr result (IsRefusedBy (map S.text words.entry.now)) }
 {
     let matches = alog(alloc)?.try_get_matches_from(words)?;
-    match matches.subcommand_matches("format") {
-        Some(format) => Ok(Request::Format(line_request(format)?)),
+    if let Some(format) = matches.subcommand_matches("format") {
+        return Ok(Request::Format(line_request(format)?));
+    }
+    match matches.subcommand_matches("check") {
+        Some(check) => Ok(Request::Check(text(check, "FILE"))),
         None => Ok(Request::Replay),
     }
 }

@@ -6,7 +6,12 @@ pub mod Accounts
 pub mod Tickets
 pub mod Items
 pub mod Grabs
-pub mod Places
+pub mod Laps
+pub mod Reading
+pub mod Turns
+pub mod Looks
+pub mod Advancing
+pub mod Starting
 pub mod Moves
 pub mod Steps
 pub mod Others

@@ -1,23 +1,21 @@
 -- What holds of every machine that calls lead to stays true.
-use Rattle.std.proofs.Common.{◌≡◌, ◌≢◌, ℕ, ◌+◌, ◌<◌, ◌≤◌, Option, None, Some, List, [], ◌∷◌, ◌++◌, length, length-append}
-use Rattle.std.proofs.Common.{vec_capacity, get_or, set, inl, inr, refl, sym, ap, subst, ◌∙◌, arith, length-set, get_or-set_other}
+use Rattle.std.proofs.Common.{◌≡◌, ◌≢◌, ℕ, ◌+◌, ◌<◌, ◌≤◌, Option, None, Some, List, length}
+use Rattle.std.proofs.Common.{get_or, set, inl, inr, refl, sym, ap, subst, ◌∙◌, arith, length-set, get_or-set_other, true}
 use Rattle.std.proofs.Common.{get_or-set_same}
 use Rattle.std.proofs.lemmas.Bool.Decides.{eqb_tells}
-use Rattle.alog_core.specs.Queue.{Cell, Queue, Event, Claim, Allows, after, IsSound, last}
+use Rattle.alog_core.specs.Queue.{Queue, Event, Allows, IsSound}
 use Rattle.alog_core.specs.Round.{after_event}
 use Rattle.std.proofs.Common.{set-set}
-use Rattle.std.proofs.lemmas.List.{get_or_read, length-map}
-use Rattle.alog_core.specs.Listed.{seen}
-use Rattle.alog_core.specs.Table.{queue_in, Advances, HasRoom}
-use Rattle.alog_core.specs.World.{Machine, round_of, began, next_move, stepped}
+use Rattle.std.proofs.lemmas.List.{get_or_read}
+use Rattle.alog_core.specs.Table.{places_of, queue_in, Shows, IsTable, Advances}
+use Rattle.alog_core.specs.World.{is_size, Machine, round_of, began, next_move, stepped}
 use Rattle.alog_core.specs.declared.TheConstants.{ACTORS}
 use Rattle.alog_core.specs.declared.said.Said.{Said}
 use Rattle.alog_core.specs.declared.table.Table.{Table}
-use Rattle.alog_core.specs.declared.mark.Mark.TheVariants.{Claimed}
 use Rattle.alog_core.specs.Staged.{IsStaged, IsReached}
 use Rattle.alog_core.specs.declared.round.Round.{Round}
 use Rattle.alog_core.specs.declared.round.Round.TheVariants as round
-use Rattle.alog_core.proofs.Sound.{sound_after, length-sound}
+use Rattle.alog_core.proofs.Sound.{sound_after}
 use Rattle.alog_core.proofs.Steps.{IsFine, fine_move}
 use Rattle.alog_core.proofs.Others.{issued_step, others_staged}
 
@@ -72,38 +70,24 @@ reached_stepped m a h lt =
           others_staged m.places m.queue a b e (round_of m b) h.small h.sound other fine.allowed (h.staged b below));
     }
 
--- a claim leaves at most as many cells as places, so there was room
-claim_room : {T : Type 0} (m : Machine T) (a p : ℕ) (x : T) → IsReached m → a < ACTORS
-    → (next_move m a).event ≡ Some (Claim p x) → (length m.queue.cells < m.places) × (p < last)
-claim_room {T} m a p x h lt e =
-    let may = (fine_step m a h lt).allowed (Claim p x) e in
-    let c : Cell T = record { ticket = p; mark = Claimed; item = x; actor = a } in
-    let fits : length (m.queue.cells ++ c ∷ []) ≤ m.places =
-    length-sound m.places (after m.queue a (Claim p x))
-    (sound_after m.places m.queue a (Claim p x) h.small h.sound may) in
-    let more : length (m.queue.cells ++ c ∷ []) ≡ length m.queue.cells + 1 = length-append m.queue.cells (c ∷ []) in
-    (omega arith, may.1)
-
 -- the machine that a table and rounds keep
 abbrev pub kept : {T : Type 0} → Table T → List (Round T) → Machine T
-kept t rounds = record { places = t.places; queue = queue_in t; rounds = rounds }
+kept t rounds = record { places = places_of t; queue = queue_in t; rounds = rounds }
 
 -- the round that was taken out is the actor's
 pub taken_round : {T : Type 0} (rounds : List (Round T)) (a : ℕ) (lent r : Round T) → a < length rounds
     → lent ≡ get_or rounds a lent → r ≡ lent → r ≡ get_or rounds a round.Idle
 taken_round rounds a lent r lt e f = f ∙ get_or_read rounds a lent lt e round.Idle
 
-pub has_room : {T : Type 0} (t : Table T) (rounds : List (Round T)) (a : ℕ) (r : Round T) → IsReached (kept t rounds)
-    → t.places ≤ vec_capacity t.cells → a < ACTORS → r ≡ get_or rounds a round.Idle → HasRoom t r
-has_room {T} t rounds a r h room lt e =
-    subst (λ (s : Round T). HasRoom t s) (sym e)
-    (record {
-      cell = λ p x is.
-          let fits = claim_room (kept t rounds) a p x h lt is in
-          omega (arith, fits.0, room, t.cells.ok.0, length-map t.cells.items seen);
-      next = λ p x is. (claim_room (kept t rounds) a p x h lt is).1;
-      front = omega (arith, h.sound.ordered, h.issued);
-    })
+-- the table of a world holds what each step asks of it, and a round what its step asks
+pub table_of : {T : Type 0} (t : Table T) (rounds : List (Round T)) → is_size (places_of t) ≡ true → IsReached (kept t rounds)
+    → Shows t → IsTable t
+table_of t rounds size h shows = record { size = size; sound = h.sound; issued = h.issued; shows = shows }
+
+pub staged_in : {T : Type 0} (t : Table T) (rounds : List (Round T)) (a : ℕ) (r : Round T) → IsReached (kept t rounds)
+    → a < ACTORS → r ≡ get_or rounds a round.Idle → IsStaged (places_of t) (queue_in t) a r
+staged_in {T} t rounds a r h lt e =
+    subst (λ (s : Round T). IsStaged (places_of t) (queue_in t) a s) (sym e) (h.staged a lt)
 
 machine_is : {T : Type 0} (m k : Machine T) → m.places ≡ k.places → m.queue ≡ k.queue → m.rounds ≡ k.rounds → m ≡ k
 machine_is {T} m k e f g =
@@ -120,6 +104,6 @@ stepped_in {T} t new rounds a spare r answer e adv =
     machine_is
     (kept new (set (set rounds a spare) a answer.1))
     (stepped (kept t rounds) a)
-    made.places
+    (ap (λ k. k + 1) made.mask)
     made.queue
     (set-set rounds a spare answer.1 ∙ ap (λ (s : Round T). set rounds a s) made.round)

@@ -1,10 +1,10 @@
 -- A size is a power of two, and within its bounds.
 use Rattle.std.proofs.Common.{◌≡◌, ℕ, zero, suc, ◌+◌, ◌*◌, ◌/◌, ◌%◌, ◌^◌, ◌≤◌, ◌&&◌, leb, Bool, true, count_ones, ◌≢◌}
-use Rattle.std.proofs.Common.{arith, inl, inr}
+use Rattle.std.proofs.Common.{◌-◌, bit_and, ap, sym, ◌∙◌, arith, inl, inr}
 use Rattle.std.specs.Int.{is_power_of_two, IsPowerOfTwo}
 use Rattle.std.proofs.lemmas.Bool.Decides.{eqb_tells, nat_tests}
 use Rattle.std.proofs.lemmas.Grind.{pow_more}
-use Rattle.std.proofs.lemmas.Nat.{ones_le_self, zero_from_ones}
+use Rattle.std.proofs.lemmas.Nat.{and_mask, ones_le_self, zero_from_ones}
 use lib.Count.{ones_step}
 use Rattle.alog_core.specs.World.{is_size}
 use Rattle.alog_core.specs.declared.TheConstants.{LEAST_PLACES, MOST_PLACES}
@@ -33,3 +33,11 @@ size_facts n h =
     let least : leb LEAST_PLACES n ≡ true = and_first (leb LEAST_PLACES n) (leb n MOST_PLACES) bounds in
     let most : leb n MOST_PLACES ≡ true = and_second (leb LEAST_PLACES n) (leb n MOST_PLACES) bounds in
     (one_digit n n (omega arith) (grind (arith, nat_tests)), grind (arith, nat_tests), grind (arith, nat_tests))
+
+-- what the mask of a size keeps of a number is the remainder
+pub mask_is : (mask t : ℕ) → is_size (mask + 1) ≡ true → bit_and t mask ≡ t % (mask + 1)
+mask_is mask t h =
+    let power : IsPowerOfTwo (mask + 1) = (size_facts (mask + 1) h).0
+    in let up : mask + 1 ≡ 2 ^ power.0 = power.1
+    in let is : mask ≡ 2 ^ power.0 - 1 = omega (arith, up)
+    in ap (λ (m : ℕ). bit_and t m) is ∙ and_mask t power.0 ∙ ap (λ (k : ℕ). t % k) (sym up)

@@ -51,7 +51,7 @@ listed_first {T} c cs =
     (λ other. absurd (other refl))
 
 -- the ticket that blocks, from the test
-blocked_from_test : {T : Type 0} (n t : ℕ) (cs : List (Cell T)) → is_blocked n t cs ≡ true → IsBlocked n t cs
+pub blocked_from_test : {T : Type 0} (n t : ℕ) (cs : List (Cell T)) → is_blocked n t cs ≡ true → IsBlocked n t cs
 blocked_from_test n t [] h = absurd (cc)
 blocked_from_test {T} n t (c ∷ cs) h =
     on_test
@@ -62,7 +62,7 @@ blocked_from_test {T} n t (c ∷ cs) h =
     (λ _ found. let later = blocked_from_test n t cs found in (later.0, later.1, listed_more later.0 c cs later.2))
     h
 
-room_from_test : {T : Type 0} (n t : ℕ) (cs : List (Cell T)) → is_blocked n t cs ≡ false → IsRoom n t cs
+pub room_from_test : {T : Type 0} (n t : ℕ) (cs : List (Cell T)) → is_blocked n t cs ≡ false → IsRoom n t cs
 room_from_test n t [] h = λ u e. refl
 room_from_test {T} n t (c ∷ cs) h =
     on_test
@@ -94,7 +94,7 @@ cell_is {T} cs t c h =
     same
 
 -- a cell that is there, by its mark
-data Found (T : Type 0) (cs : List (Cell T)) (t : ℕ) : Type 0 where
+pub data Found (T : Type 0) (cs : List (Cell T)) (t : ℕ) : Type 0 where
   Absent : cell_of t cs ≡ None → Found T cs t
   IsClaimed : (x : T) (a : ℕ) → HasCell cs t Claimed x a → Found T cs t
   IsThere : (x : T) (a : ℕ) → HasCell cs t Written x a → Found T cs t
@@ -105,7 +105,7 @@ by_mark cs t Claimed x a h = IsClaimed x a h
 by_mark cs t Written x a h = IsThere x a h
 by_mark cs t Emptying x a h = IsEmptying x a h
 
-found : {T : Type 0} (cs : List (Cell T)) (t : ℕ) → Found T cs t
+pub found : {T : Type 0} (cs : List (Cell T)) (t : ℕ) → Found T cs t
 found {T} cs t =
     let by : (o : Option (Cell T)) → cell_of t cs ≡ o → Found T cs t =
     λ o. elim o as (λ v. cell_of t cs ≡ v → Found T cs t) [

@@ -5,7 +5,7 @@ pub mod Round
 pub mod World
 pub mod Run
 pub mod Staged
-pub mod Listed
+pub mod Words
 pub mod Table
 pub mod Inside
 pub mod Error

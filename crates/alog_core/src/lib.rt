@@ -9,14 +9,14 @@
 //! histories, `specs/Accounts.antt` for what they issue and hand out, `specs/Round.antt` for the steps of a push and of a
 //! pop, `specs/World.antt` for the machine, `specs/Run.antt` for whole runs, and `specs/Staged.antt` for what is true of
 //! every world; then `world.rt`, whose calls are that machine.
-//! `table.rt` makes the steps over a plain list of cells (`listed.rt`), and `laws.rt` states what is true of every
-//! history.
+//! `play.rt` makes the steps over words and places (`table.rt`; how they stand for the queue is in `specs/Words.antt`),
+//! and `laws.rt` states what is true of every history.
 #![tactic(auto)]
 
 mod error;
 mod laws;
-mod listed;
 mod mark;
+mod play;
 mod round;
 mod said;
 mod table;

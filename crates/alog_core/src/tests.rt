@@ -5,6 +5,9 @@ ghost use Rattle.alog_core.specs.Accounts.{issued, handed_out};
 ghost use Rattle.alog_core.specs.World.{fresh};
 ghost use Rattle.alog_core.specs.Run.{entries_of_run, TellAll};
 
+mod plain;
+mod words;
+
 use crate::{
     Answer, BeginError, Call, CellView, MOST_PLACES, Mark, Refused, Said, StepError, World,
     WorldError, accounts_balance, an_actors_tickets_rise, no_ticket_is_handed_out_twice,

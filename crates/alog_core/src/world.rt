@@ -4,15 +4,16 @@ ghost use Rattle.alog_core.specs.Queue.{Event, Allows, last};
 ghost use Rattle.alog_core.specs.History.{GoesOn};
 ghost use Rattle.alog_core.specs.World.{is_size, fresh, round_of, is_idle, began, next_move, stepped, told, shown};
 ghost use Rattle.alog_core.specs.World.{reply_to, after_call, replies_to, after_calls};
+ghost use Rattle.alog_core.specs.Words.{AreWords};
 ghost use Rattle.alog_core.specs.Run.{entries_of_step, entries_of_run, TellAll, HasItsCell, EachHasItsCell};
 ghost use Rattle.alog_core.specs.Staged.{IsReached};
 ghost use Rattle.alog_core.specs.declared.round.Round.TheVariants as round;
 
 use crate::error::{BeginError, Refused, StepError, WorldError};
-use crate::listed::views;
+use crate::play::advance;
 use crate::round::Round;
 use crate::said::{Answer, Call, CellView, Said};
-use crate::table::{Table, advance};
+use crate::table::{Table, empty, views, words};
 use crate::{ACTORS, LAST_TICKET, LEAST_PLACES, MOST_PLACES};
 use std::alloc::{AllocError, AllocFailed, Global};
 use std::marker::Model;
@@ -69,12 +70,7 @@ impl<T: Drop> World<T> {
         for _ in 0..ACTORS {
             rounds.push_reserved(Round::Idle);
         }
-        let table = Table {
-            places: places as u64,
-            next: first,
-            front: first,
-            cells: Vec::with_capacity(alloc, places)?,
-        };
+        let table = empty(alloc, places, first)?;
         Ok(World { table, rounds })
     }
 
@@ -186,7 +182,17 @@ impl<T: Drop> World<T> {
     pub fn cells(&self, alloc: Global) -> Result<Vec<CellView>, AllocError>
         ensures { IfOk result (λ v. v.items ≡ map shown self.now.queue.cells) }
     {
-        views(alloc, &self.table.cells)
+        views(alloc, &self.table)
+    }
+
+    /// Shows the words, as they lie in memory: the next ticket, the front ticket, and the sequence of each place in turn.
+    ///
+    /// The sequence of a place is the ticket that has it, until it is written, and then one more; that of a place without
+    /// a ticket is the one that it waits for. The test `words_of_a_queue` shows it.
+    pub fn words(&self, alloc: Global) -> Result<Vec<u64>, AllocError>
+        ensures { IfOk result (λ v. AreWords self.now.places self.now.queue v.items) }
+    {
+        words(alloc, &self.table)
     }
 
     /// Plays a whole schedule: makes the calls one after another, and answers their answers, one for each.

@@ -12,7 +12,7 @@ use prog.Atomic.{either}
 use Rattle.atomic_table.specs.Table.{State, Me, keeps, takes, gives, Allows, opening, put_back}
 use Rattle.atomic_table.proofs.Lists.{at_set, set_else, set_here, set_again}
 use Rattle.alog_lane.specs.declared.view.Cabin.{Cabin}
-use Rattle.alog_lane.specs.Seats.{Entry, Member, Known, own_of, members_of, having_seen}
+use Rattle.alog_lane.specs.Seats.{Entry, Member, Known, own_of, members_of, having_seen, AreExact}
 use Rattle.alog_lane.specs.Roster.{Stage, Idle, Fresh, Joined, Working, members_by, members_at}
 use Rattle.alog_lane.specs.Roster.{first_sight}
 use Rattle.alog_lane.specs.Calls.{TakesTurn}
@@ -21,7 +21,7 @@ use Rattle.alog_lane.specs.Rule.{LaneSight, index_after, Keeps, Reaches, IsFree,
 use Rattle.alog_lane.specs.Plays.{standing, was_named, saw_both, tried, GaveBack}
 use Rattle.alog_lane.proofs.Lists.{same_or_not, inside, one_value, prefix_same, at_end}
 use Rattle.alog_lane.proofs.Rosters.{IsLook, agrees_step, agrees_look, agrees_first}
-use Rattle.alog_lane.proofs.Rosters.{others_have_none}
+use Rattle.alog_lane.proofs.Rosters.{others_have_none, seen_whole}
 use Rattle.alog_lane.proofs.Knowing.{by_stage, has_parts, its_key, looks_at_all, with_entry, its_step, its_made, named, look_of_named}
 use Rattle.alog_lane.proofs.Knowing.{named_is_told, seeing_both, look_of_both, both_is_told}
 
@@ -211,6 +211,8 @@ module _ {T I S R : Type 0} (turns : T → S → I → R → T → S → Type 0)
                     looks = looks_at_all first r.history s.views id me.0 r.agrees at mine;
                     reaches = free.reaches;
                     count = free.count;
+                    alone = λ all faithful. let E : List (Member Deed) → Type 0 = λ l. AreExact l me.0.known.seen
+                        in sym (seen_whole first r.history s.views id me.0 r.agrees at all (subst E (sym mine) (faithful.own, faithful.joined)));
                   }),
                   (λ ne. absurd (ne free.word)),
                 ),

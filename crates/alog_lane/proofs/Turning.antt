@@ -5,7 +5,7 @@ use mathlib.Core.List.{IsPrefix}
 use Rattle.atomic_table.specs.Table.{State, Me, Allows, rest, carried_after}
 use Rattle.alog_lane.specs.declared.view.Cabin.{Cabin}
 use Rattle.alog_lane.specs.declared.view.Done.{Done}
-use Rattle.alog_lane.specs.Seats.{Entry, Known, Made}
+use Rattle.alog_lane.specs.Seats.{Entry, Known, Made, IsFaithful}
 use Rattle.alog_lane.specs.Roster.{Working}
 use Rattle.alog_lane.specs.Turns.{Turned, Turns, Leads}
 use Rattle.alog_lane.specs.Rule.{LaneSight, Keeps, index_after, Ruled}
@@ -72,8 +72,9 @@ module _ {T I S R : Type 0} (turns : T → S → I → R → T → S → Type 0)
       )
 
   -- the turn is the next of the history
-  pub turn_taken : (m3 : Me Slot (LaneSight T I S R)) → gave_back m2 m3 → TakesTurn turns got.first m0.0.known m3.0.known deed index
-  turn_taken m3 gave =
+  pub turn_taken : (m3 : Me Slot (LaneSight T I S R)) → IsFaithful m0.0.known → gave_back m2 m3
+      → TakesTurn turns got.first m0.0.known m3.0.known deed index
+  turn_taken m3 faithful gave =
       let back : GaveBack deed m2 m3 = gave took.new deed (took.is
       ∙ ap (λ (l : List (ℕ × Slot)). (0, took.new) ∷ rest l) (sym took.is)) took.last
       in let E : ℕ → List (Entry (Turned I S R)) = λ n. record { seat = n; deed = deed } ∷ []
@@ -94,6 +95,7 @@ module _ {T I S R : Type 0} (turns : T → S → I → R → T → S → Type 0)
         made = made;
         before = m1.0.known.seen;
         longer = got.looks.seen;
+        alone = λ all. got.alone all faithful;
         ends = seen;
         place = sym took.index_is ∙ ap (λ (c : Slot). c.turns) found ∙ got.count;
         value = took.new.value;

@@ -2,6 +2,7 @@
 use Rattle.std.specs.Prelude.{◌≡◌, ℕ, Option, Some, List, [], ◌∷◌, ◌++◌}
 use mathlib.Core.List.{IsPrefix}
 use Rattle.atomic_table.specs.Seated.{TableId}
+use Rattle.alog_lane.specs.declared.seat.TheConstants.{ALL_PARTS}
 use Rattle.alog_lane.specs.Seats.{Entry, Known, Made, IsWhole, IsFaithful}
 use Rattle.alog_lane.specs.Turns.{Turned, Leads}
 use Rattle.alog_lane.specs.Rule.{index_after}
@@ -25,11 +26,12 @@ module _ {T I S R : Type 0} where
 
   module _ (turns : T → S → I → R → T → S → Type 0) (first : T) where
     -- The seat took this turn, which is the one of this index: the history that it has seen ends with it, and leads from
-    -- the first value to the value that the turn left.
+    -- the first value to the value that the turn left. A seat that has all parts had seen all that was before.
     pub record TakesTurn (old new : Known (Turned I S R)) (deed : Turned I S R) (index : ℕ) : Type 0 where
       pub made : Made old new (record { seat = old.seat; deed = deed } ∷ [])
       pub before : List (Entry (Turned I S R))
       pub longer : IsPrefix old.seen before
+      pub alone : old.parts ≡ ALL_PARTS → before ≡ old.seen
       pub ends : new.seen ≡ before ++ record { seat = old.seat; deed = deed } ∷ []
       pub place : index ≡ index_after before
       pub value : T

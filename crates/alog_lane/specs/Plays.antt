@@ -44,6 +44,7 @@ module _ {T I S R : Type 0} (turns : T → S → I → R → T → S → Type 0)
     pub looks : Made m.0.known m'.0.known []
     pub reaches : Reaches turns may first m'.0.known.seen cabin.value
     pub count : cabin.turns ≡ index_after m'.0.known.seen
+    pub alone : m.0.known.parts ≡ ALL_PARTS → IsFaithful m.0.known → m'.0.known.seen ≡ m.0.known.seen
 
   -- the exchange of the lock word: the lock was free, or nothing happened, and the seat is not the only one
   abbrev pub tried : Me (Cabin T I R S) (LaneSight T I S R) → ℕ → Me (Cabin T I R S) (LaneSight T I S R) → Type 0

@@ -12,5 +12,6 @@ pub mod Turning
 pub mod Opening
 pub mod Writing
 pub mod Going
+pub mod Holding
 pub mod Telling
 pub mod Endings

@@ -60,10 +60,11 @@ plain may_fail = record {
   files = files_of;
 }
 
--- where its store never fails a script without a configuration tells one thing, and one alone
+-- where its store never fails a script without a configuration tells one thing, and one alone, which is among what it may
+-- tell where its store may fail
 abbrev pub OneText : Type 0
 OneText =
-    (script : List ℕ) → (t : Told) × ScriptTells (plain false) None script t
+    (script : List ℕ) → (t : Told) × ScriptTells (plain false) None script t × ScriptTells (plain true) None script t
     × ((u : Told) → ScriptTells (plain false) None script u → t ≡ u)
 
 -- a turn comes of each text

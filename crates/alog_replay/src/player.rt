@@ -227,7 +227,8 @@ pub fn tells_one_thing<S: Playable>()
     ensures { TellsOneThing S.scene }
 {}
 
-/// A script without a configuration whose store never fails tells one thing, and one alone.
+/// A script without a configuration whose store never fails tells one thing, and one alone. It is among what the script
+/// may tell over a store that may fail, of which `replay` speaks.
 pub fn one_text()
     ensures { OneText }
 {}

@@ -1,12 +1,13 @@
 //! Sinks, which hold formatted lines, and the stores that they write to. The rules are those of spdlog's sinks.
 //!
-//! A `Store` is a folder of files by name; its law is on the calls of the trait. `MemStore` keeps its files in memory;
-//! `FuseStore` passes calls on to another store and fails one of them. A `Sink` is given messages: one that writes to
-//! files of a store (`Leaf`), or a fan of such (`Fan`). It stores no list of messages; a relation says which opening
-//! files and which messages it stands for, and each turn leads from one such pair to the next.
+//! A `Store` is a folder of files by name; its law is on the calls of the trait. `MemStore` keeps its files in memory,
+//! `FolderStore` in a folder of the file system; `FuseStore` passes calls on to another store and fails one of them. A
+//! `Sink` is given messages: one that writes to files of a store (`Leaf`), or a fan of such (`Fan`). It stores no list of
+//! messages; a relation says which opening files and which messages it stands for, and each turn leads from one such
+//! pair to the next.
 //!
-//! Read `specs/Files.antt`, `specs/Calls.antt` and `store.rt` (stores), `mem_store.rt` and `fuse_store.rt`; then
-//! `specs/Lines.antt` and `face.rt` (lines), `specs/Kept.antt` and `target.rt` (where they go: `journal.rt`,
+//! Read `specs/Files.antt`, `specs/Calls.antt` and `store.rt` (stores), `mem_store.rt`, `folder_store.rt` and
+//! `fuse_store.rt`; then `specs/Lines.antt` and `face.rt` (lines), `specs/Kept.antt` and `target.rt` (where they go: `journal.rt`,
 //! `rotation.rt` with `specs/Rotation.antt`, and `diary.rt` with `specs/Daily.antt` and `specs/Diary.antt`),
 //! `specs/Turn.antt`, `leaf.rt` and `fan.rt`, `specs/Sinks.antt` and `sink.rt`, `open.rt` (constructors), `turn.rt` (a
 //! sink under a lock). `names.rt` makes names of files; `laws.rt` states what is true of definitions.
@@ -14,9 +15,14 @@
 //! The tests `a_memory_sink`, `a_rotating_sink` and `a_daily_sink` of `alog_tests` are examples; the tests here try what is private.
 #![tactic(auto)]
 
+#[cfg(test)]
+mod day_tests;
 mod diary;
 mod face;
 mod fan;
+mod folder_store;
+#[cfg(test)]
+mod folder_tests;
 mod fuse_store;
 mod journal;
 mod laws;
@@ -38,6 +44,7 @@ mod turn;
 
 pub use face::{Face, NameError, Names};
 pub use fan::Fan;
+pub use folder_store::FolderStore;
 pub use fuse_store::{Fuse, FuseStore};
 pub use laws::{
     dated_names_differ, days_go_on, lanes_write_their_texts, numbered_names_differ,
@@ -45,6 +52,7 @@ pub use laws::{
 };
 pub use leaf::{Leaf, SinkError, Taken};
 pub use mem_store::MemStore;
+pub use names::is_file_name;
 pub use open::{NoFan, OpenError, Unopened};
 pub use sink::Sink;
 pub use store::{Store, StoreError};

@@ -1,10 +1,9 @@
 //! Files in memory.
-ghost use Rattle.std.specs.Prelude.{◌≡◌, IfErr, IfOk, OnOk, OnErr, IsSome, is_ok};
-ghost use Rattle.alog_sink.specs.Calls.{Counts};
+ghost use Rattle.std.specs.Prelude.{◌≡◌, IfErr, IfOk, OnOk, OnErr, IsSome};
 ghost use Rattle.alog_sink.specs.Files.{AreSame, appended, no_files, renamed, with_file};
 ghost use Rattle.alog_sink.specs.Memory.{files_in, HasOthers};
 
-use crate::store::{Store, StoreError};
+use crate::store::{Store, StoreError, counted};
 use std::alloc::{AllocError, AllocFailed, Global};
 use std::collections::BTreeMap;
 
@@ -168,19 +167,5 @@ impl Store for MemStore {
 
     fn flush(&mut self, _name: &str) -> Result<(), StoreError> {
         Ok(())
-    }
-}
-
-// The store's answer to what memory answered, which it counts.
-fn counted(answer: Result<(), AllocError>, failures: &mut u64) -> Result<(), StoreError>
-    ensures same { is_ok result ≡ is_ok answer }
-    ensures counted { Counts failures.old failures.new result }
-{
-    match answer {
-        Ok(()) => Ok(()),
-        Err(_) => {
-            *failures = failures.saturating_add(1);
-            Err(StoreError)
-        }
     }
 }

@@ -20,7 +20,7 @@ pub(crate) struct Date {
 pub(crate) const DATE_BYTES: usize = 11;
 
 /// Whether a file may have this name: 1 to 64 bytes, without `/` or a zero byte, and not `.` or `..`.
-pub(crate) fn is_file_name(name: &str) -> bool
+pub fn is_file_name(name: &str) -> bool
     ensures { IsTrue result ↔ IsFileName name.now }
 {
     let bytes = name.as_bytes();

@@ -19,6 +19,7 @@ use crate::store::Store;
 use crate::target::Target;
 use alog_msg::{Level, Text};
 use std::alloc::Global;
+use std::fmt::Debug;
 use thiserror::Error;
 
 /// Why a sink was not opened, in the order in which this is tested. The test `refused_sinks` of `alog_tests` shows each.
@@ -53,7 +54,9 @@ impl From<rotation::OpenError> for OpenError {
 }
 
 /// A sink that was not opened: why, and what was handed in.
-#[derive(Debug, Drop)]
+#[derive(Debug, Drop, Error)]
+#[error_bound(S: Debug)]
+#[error("the sink was not opened: {error}")]
 pub struct Unopened<S> {
     /// Why.
     pub error: OpenError,
@@ -64,7 +67,9 @@ pub struct Unopened<S> {
 }
 
 /// A fan that was not made: why, and what was handed in.
-#[derive(Debug, Drop)]
+#[derive(Debug, Drop, Error)]
+#[error_bound(S: Debug)]
+#[error("the fan was not made: {error}")]
 pub struct NoFan<S> {
     /// `BadLimit` or `OutOfMemory`.
     pub error: OpenError,

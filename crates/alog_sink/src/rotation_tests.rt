@@ -1,5 +1,6 @@
 use crate::names::{Date, is_file_name, numbered, write_dated};
 use crate::rotation::{FILES_MAX, OpenError, Rotation, SIZE_MAX};
+use crate::tests::has;
 use crate::{
     FuseStore, MemStore, Store, StoreError, dated_names_differ, days_go_on, numbered_names_differ,
     pieces_have_one_cut,
@@ -18,13 +19,6 @@ fn opened<S: Store>(
     assert!(rt; is_file_name(file));
     assert!(rt; 1 <= max_size && max_size <= SIZE_MAX && max_files <= FILES_MAX);
     Rotation::open(rt.alloc(), store, file, max_size, max_files)
-}
-
-fn has(rt: &impl Abort, store: &MemStore, name: &str, bytes: &[u8]) {
-    match store.files().get(name) {
-        Some(file) => assert!(rt; file.as_slice() == bytes, "{name}"),
-        None => assert!(rt; false, "{name} is absent"),
-    }
 }
 
 // The files after these lines, within 10 bytes.

@@ -1,4 +1,6 @@
 //! What a sink writes to.
+ghost use Rattle.std.specs.Prelude.{◌≡◌, IfOk, Ok, is_ok};
+ghost use Rattle.alog_sink.specs.Calls.{Counts};
 
 use thiserror::Error;
 
@@ -55,4 +57,19 @@ pub trait Store {
     fn flush(&mut self, name: &str) -> Result<(), StoreError>
         ensures same { tells ≡ true → AreSame (files self.old) (files self.new) }
         ensures counted { Counts (failures self.old) (failures self.new) result };
+}
+
+/// A store's answer to what it was answered itself. A failure is counted.
+pub(crate) fn counted<T, E: Drop>(answer: Result<T, E>, failures: &mut u64) -> Result<T, StoreError>
+    ensures same { is_ok result ≡ is_ok answer }
+    ensures value { IfOk result (λ x. answer ≡ Ok x) }
+    ensures counted { Counts failures.old failures.new result }
+{
+    match answer {
+        Ok(value) => Ok(value),
+        Err(_) => {
+            *failures = failures.saturating_add(1);
+            Err(StoreError)
+        }
+    }
 }

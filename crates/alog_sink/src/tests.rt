@@ -1,17 +1,48 @@
-use crate::{Fuse, FuseStore, MemStore, Store, StoreError};
+use crate::{Face, Fuse, FuseStore, MemStore, Names, Sink, SinkError, Store, StoreError, Taken};
+use alog_format::{Context, LineBuf, OFFSET_MAX, Zone};
+use alog_msg::{Level, Message};
+use alog_pattern::Pattern;
 use std::alloc::Global;
 use std::process::Abort;
 use std::test::Fail;
 
-fn has(rt: &impl Abort, store: &MemStore, name: &str, bytes: &[u8]) {
+/// A face of the text alone, in a zone of so many minutes.
+pub(crate) fn face(alloc: Global, offset: i16) -> Result<Face, Fail> {
+    Ok(Face {
+        level: Level::Info,
+        pattern: Pattern::compile(alloc, b"%v", 64)?,
+        context: Context {
+            zone: Zone::Fixed(offset.clamp(-OFFSET_MAX, OFFSET_MAX)),
+            process: 7,
+        },
+        names: Names::new(alloc),
+    })
+}
+
+/// Gives a text of a time to a sink.
+pub(crate) fn give<S: Store>(
+    alloc: Global,
+    sink: &mut Sink<S>,
+    time: i64,
+    text: &str,
+) -> Result<Result<Taken, SinkError>, Fail> {
+    let message = Message::new(alloc, 64, 0, Level::Info, time, 1, text, None)?;
+    let mut line = LineBuf::new(alloc, 1_024)?;
+    if !sink.may_take(&message, &line) {
+        return Err(SinkError::Broken.into());
+    }
+    Ok(sink.take(&message, &mut line))
+}
+
+pub(crate) fn has(rt: &impl Abort, store: &MemStore, name: &str, bytes: &[u8]) {
     match store.files().get(name) {
         Some(file) => assert!(rt; file.as_slice() == bytes, "{name}"),
         None => assert!(rt; false, "{name} is absent"),
     }
 }
 
-// Each call once, on a store with the file `a` of three bytes, and no other.
-fn each_call<S: Store>(rt: &impl Abort, store: &mut S) -> Result<(), StoreError> {
+/// Each call once, on a store with the file `a` of three bytes, and no other.
+pub(crate) fn each_call<S: Store>(rt: &impl Abort, store: &mut S) -> Result<(), StoreError> {
     assert_eq!(rt; store.size("a")?, Some(3));
     assert_eq!(rt; store.size("b")?, None);
     store.append("a", b"de")?;

@@ -1,7 +1,8 @@
 //! Sinks whose store fails: what they answer then and from then on, and what their files have.
 use crate::sinks::{face, fan_of_two, give, give_at, has, memory, opened};
+use crate::stores::Noting;
 use alog_msg::Level;
-use alog_sink::{FuseStore, MemStore, OpenError, Sink, SinkError, Store, StoreError, Taken};
+use alog_sink::{FuseStore, MemStore, OpenError, Sink, SinkError, Taken};
 use std::alloc::Global;
 use std::process::Abort;
 use std::test::Fail;
@@ -148,45 +149,6 @@ fn a_rotating_sink_that_cannot_be_opened(rt: HostRuntime) -> Result<(), Fail> {
         }
     }
     Ok(())
-}
-
-// Files in memory, and the names that were flushed.
-#[derive(Debug, Drop)]
-struct Noting {
-    files: MemStore,
-    flushed: String,
-}
-
-impl Store for Noting {
-    ghost use Rattle.std.specs.Prelude.{true};
-
-    ghost files = { λ s. ⟦<MemStore as Store>⟧.files s.files };
-
-    ghost tells = { true };
-
-    ghost failures = { λ s. ⟦<MemStore as Store>⟧.failures s.files };
-
-    fn append(&mut self, name: &str, bytes: &[u8]) -> Result<(), StoreError> {
-        self.files.append(name, bytes)
-    }
-
-    fn rename(&mut self, from: &str, to: &str) -> Result<(), StoreError> {
-        self.files.rename(from, to)
-    }
-
-    fn remove(&mut self, name: &str) -> Result<(), StoreError> {
-        self.files.remove(name)
-    }
-
-    fn size(&mut self, name: &str) -> Result<Option<u64>, StoreError> {
-        self.files.size(name)
-    }
-
-    fn flush(&mut self, name: &str) -> Result<(), StoreError> {
-        drop(self.flushed.push_str(name));
-        drop(self.flushed.push_str(" "));
-        self.files.flush(name)
-    }
 }
 
 fn notes(alloc: Global) -> Noting {

@@ -4,10 +4,11 @@ ghost use Rattle.alog_lane.specs.Calls.{IsSeatOf};
 ghost use Rattle.alog_sink.specs.Sinks.{MayTurn};
 
 use crate::sinks::{has, memory, message};
+use crate::stores::Yielding;
 use alog_format::LineBuf;
-use alog_lane::{Held, Lane, LaneSeat};
+use alog_lane::{Held, Lane, LaneSeat, alone_saw_its_own};
 use alog_msg::{Item, Level};
-use alog_sink::{MemStore, OpenError, Served, Sink, SinkError, Store, StoreError, Taken};
+use alog_sink::{MemStore, OpenError, Served, Sink, SinkError, Taken, lanes_write_their_texts};
 use std::process::Abort;
 use std::test::Fail;
 use std::thread;
@@ -17,45 +18,6 @@ const TURNS: u64 = 2_000;
 
 /// How often a thread looks for the lock before it gives a turn up.
 const LOOKS: u32 = 1_000_000;
-
-/// Files in memory, where each call lets other threads go on first.
-#[derive(Debug, Drop)]
-struct Yielding(MemStore);
-
-impl Store for Yielding {
-    ghost use Rattle.std.specs.Prelude.{true};
-
-    ghost files = { λ s. ⟦<MemStore as Store>⟧.files s.0 };
-
-    ghost tells = { true };
-
-    ghost failures = { λ s. ⟦<MemStore as Store>⟧.failures s.0 };
-
-    fn append(&mut self, name: &str, bytes: &[u8]) -> Result<(), StoreError> {
-        thread::yield_now();
-        self.0.append(name, bytes)
-    }
-
-    fn rename(&mut self, from: &str, to: &str) -> Result<(), StoreError> {
-        thread::yield_now();
-        self.0.rename(from, to)
-    }
-
-    fn remove(&mut self, name: &str) -> Result<(), StoreError> {
-        thread::yield_now();
-        self.0.remove(name)
-    }
-
-    fn size(&mut self, name: &str) -> Result<Option<u64>, StoreError> {
-        thread::yield_now();
-        self.0.size(name)
-    }
-
-    fn flush(&mut self, name: &str) -> Result<(), StoreError> {
-        thread::yield_now();
-        self.0.flush(name)
-    }
-}
 
 /// What a thread works with: its seat, the text that it gives, a buffer, and the indexes of its turns, in order.
 #[derive(Drop)]
@@ -187,4 +149,10 @@ fn a_lane_over_a_sink(rt: HostRuntime) -> Result<(), Fail> {
         Err(_) => assert!(rt; false, "a seat is out"),
     }
     Ok(())
+}
+
+#[test]
+fn laws_of_lanes(_rt: HostRuntime) {
+    lanes_write_their_texts::<MemStore>();
+    alone_saw_its_own::<u64>();
 }

@@ -1,15 +1,11 @@
-//! Tests over the public surface of several crates.
+//! Tests over the public surface of several crates, and the stores that they hand to sinks.
 //!
-//! They are here, and not in the crates that they try, since a crate with tests is proved twice. Read `sinks.rt` (what they
-//! share), `sink_tests.rt` (sinks of each kind), `daily_tests.rt` and `daily_plain_tests.rt` (daily ones, and beside their
-//! definition as a plain program), `fault_tests.rt` (sinks whose store fails) and `lane_tests.rt` (sinks under a lock, to
-//! which threads give lines).
+//! They are here, and not in the crates that they try, since a crate with tests is proved twice. Read `stores.rt` (a store
+//! that yields, and one that notes what is flushed), `sinks.rt` (what the tests share), `sink_tests.rt` (sinks of each
+//! kind), `fault_tests.rt` (sinks whose store fails) and `lane_tests.rt` (sinks under a lock, to which threads give lines).
+//! Daily sinks have a crate of tests of their own, `alog_daily_tests`.
 #![tactic(auto)]
 
-#[cfg(test)]
-mod daily_plain_tests;
-#[cfg(test)]
-mod daily_tests;
 #[cfg(test)]
 mod fault_tests;
 #[cfg(test)]
@@ -18,3 +14,6 @@ mod lane_tests;
 mod sink_tests;
 #[cfg(test)]
 mod sinks;
+mod stores;
+
+pub use stores::{Noting, Yielding};

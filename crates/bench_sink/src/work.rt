@@ -2,9 +2,10 @@
 use alog_format::{Context, LineBuf, Zone, format};
 use alog_msg::{Level, Message};
 use alog_pattern::Pattern;
-use alog_sink::{Face, MemStore, Names, Sink};
+use alog_sink::{Face, FolderStore, MemStore, Names, Sink, Store};
 use anyhow::{Result, ensure};
 use std::alloc::Global;
+use std::rt::Files;
 
 /// The messages of a run.
 pub const COUNT: u32 = 1_000_000;
@@ -27,12 +28,37 @@ const START: i64 = 1_700_000_000_000_000_000;
 /// Nanoseconds between two messages.
 const STEP: i64 = 1_000;
 
+/// The file of each sink, and the names of all files that a run makes.
+const FILE: &str = "log.txt";
+
+const FILES: [&str; 5] = [
+    "log.txt",
+    "log.1.txt",
+    "log.2.txt",
+    "log.3.txt",
+    "log_2023-11-14.txt",
+];
+
 /// What a message is given to.
 #[derive(Drop)]
-pub enum Target {
+pub enum Target<R: Files> {
     /// The formatter alone.
     Bare(Pattern),
-    Sink(Sink<MemStore>),
+    /// A sink over files in memory.
+    Memory(Sink<MemStore>),
+    /// A sink over files of a folder.
+    Folder(Sink<FolderStore<R>>),
+}
+
+/// A kind of sink.
+#[derive(Clone, Copy)]
+pub enum Kind {
+    /// One file.
+    Memory,
+    /// A file of a mebibyte, and three that were full.
+    Rotating,
+    /// The files of three days.
+    Daily,
 }
 
 pub fn pattern(alloc: Global) -> Result<Pattern> {
@@ -50,55 +76,45 @@ fn face(alloc: Global) -> Result<Face> {
     })
 }
 
-/// A sink that writes one file.
-pub fn memory(alloc: Global) -> Result<Target> {
-    match Sink::memory(alloc, face(alloc)?, MemStore::new(alloc), "log.txt") {
-        Ok(sink) => Ok(Target::Sink(sink)),
+fn sink<S: Store + Drop>(alloc: Global, kind: Kind, store: S) -> Result<Sink<S>> {
+    let face = face(alloc)?;
+    let sink = match kind {
+        Kind::Memory => Sink::memory(alloc, face, store, FILE),
+        Kind::Rotating => Sink::rotating(alloc, face, store, FILE, 1 << 20, 3),
+        Kind::Daily => Sink::daily(alloc, face, store, FILE, 0, 0, 3),
+    };
+    match sink {
+        Ok(sink) => Ok(sink),
         Err(refused) => Err(refused.error.into()),
     }
 }
 
-/// A sink that keeps files of a mebibyte, and three that were full.
-pub fn rotating(alloc: Global) -> Result<Target> {
-    match Sink::rotating(
-        alloc,
-        face(alloc)?,
-        MemStore::new(alloc),
-        "log.txt",
-        1 << 20,
-        3,
-    ) {
-        Ok(sink) => Ok(Target::Sink(sink)),
-        Err(refused) => Err(refused.error.into()),
-    }
+/// A sink over files in memory.
+pub fn in_memory(alloc: Global, kind: Kind) -> Result<Sink<MemStore>> {
+    sink(alloc, kind, MemStore::new(alloc))
 }
 
-/// A sink that keeps the files of three days.
-pub fn daily(alloc: Global) -> Result<Target> {
-    match Sink::daily(
-        alloc,
-        face(alloc)?,
-        MemStore::new(alloc),
-        "log.txt",
-        0,
-        0,
-        3,
-    ) {
-        Ok(sink) => Ok(Target::Sink(sink)),
-        Err(refused) => Err(refused.error.into()),
+/// A sink over a folder, from which the files of earlier runs are removed.
+pub fn in_folder<R: Files + Drop>(
+    alloc: Global,
+    kind: Kind,
+    files: R,
+    path: &str,
+) -> Result<Sink<FolderStore<R>>> {
+    let mut store = FolderStore::new(alloc, files, path)?;
+    for name in FILES {
+        store.remove(name)?;
     }
+    sink(alloc, kind, store)
 }
 
 /// A fan of one that writes one file and one that rotates.
-pub fn fan(alloc: Global) -> Result<Target> {
+pub fn fan(alloc: Global) -> Result<Sink<MemStore>> {
     let mut members = Vec::new(alloc);
-    for target in [memory(alloc)?, rotating(alloc)?] {
-        if let Target::Sink(sink) = target {
-            members.push(sink)?;
-        }
-    }
+    members.push(in_memory(alloc, Kind::Memory)?)?;
+    members.push(in_memory(alloc, Kind::Rotating)?)?;
     match Sink::fan(alloc, Level::Trace, members) {
-        Ok(sink) => Ok(Target::Sink(sink)),
+        Ok(sink) => Ok(sink),
         Err(refused) => Err(refused.error.into()),
     }
 }
@@ -109,9 +125,17 @@ pub fn message(alloc: Global) -> Result<Message> {
     Ok(Message::new(alloc, TEXT_LIMIT, 0, Level::Info, 0, 1, text, None)?)
 }
 
+/// Gives one message to a sink.
+#[inline(always)]
+fn take<S: Store>(sink: &mut Sink<S>, message: &Message, line: &mut LineBuf) -> Result<()> {
+    ensure!(sink.may_take(message, line), "a line has no room");
+    sink.take(message, line)?;
+    Ok(())
+}
+
 /// Gives one message to what it goes to.
 #[inline(always)]
-fn give(target: &mut Target, message: &Message, line: &mut LineBuf) -> Result<()> {
+fn give<R: Files>(target: &mut Target<R>, message: &Message, line: &mut LineBuf) -> Result<()> {
     match target {
         Target::Bare(pattern) => {
             line.clear();
@@ -121,22 +145,33 @@ fn give(target: &mut Target, message: &Message, line: &mut LineBuf) -> Result<()
             );
             ensure!(pattern.longest() <= line.room(), "a line has no room");
             format(pattern, &UTC, NAME, message, line);
+            Ok(())
         }
-        Target::Sink(sink) => {
-            ensure!(sink.may_take(message, line), "a line has no room");
-            sink.take(message, line)?;
-        }
+        Target::Memory(sink) => take(sink, message, line),
+        Target::Folder(sink) => take(sink, message, line),
     }
-    Ok(())
 }
 
-/// Gives the message so often, with times that are a microsecond apart. This is what is timed.
-pub fn give_all(target: &mut Target, message: &mut Message, line: &mut LineBuf) -> Result<()> {
+/// Flushes what has a file.
+fn flush<R: Files>(target: &mut Target<R>) -> Result<()> {
+    match target {
+        Target::Bare(_) => Ok(()),
+        Target::Memory(sink) => Ok(sink.flush()?),
+        Target::Folder(sink) => Ok(sink.flush()?),
+    }
+}
+
+/// Gives the message so often, with times that are a microsecond apart, and flushes. This is what is timed.
+pub fn give_all<R: Files>(
+    target: &mut Target<R>,
+    message: &mut Message,
+    line: &mut LineBuf,
+) -> Result<()> {
     let mut time = START;
     for _ in 0..COUNT {
         message.time = time;
         time = time.wrapping_add(STEP);
         give(target, message, line)?;
     }
-    Ok(())
+    flush(target)
 }

@@ -23,15 +23,17 @@ returns c =
     let a9 = argument_added _ _ _ _ _ c.in_ok-arg-9.ensures c.option-7.ensures.global a8 c.option-7.ensures.rule in
     let a10 = argument_added _ _ _ _ _ c.in_ok-arg-10.ensures c.option-8.ensures.global a9 c.option-8.ensures.rule in
     let format = argument_added _ _ _ _ _ c.in_ok-format.ensures c.option-9.ensures.global a10 c.option-9.ensures.rule in
+    let k0 : app_of c.long_about-2.result ≡ new_app (codes "check") = rw (c.long_about-2.ensures, c.about-3.ensures) c.new-3.ensures.app in
+    let check = argument_added _ _ _ _ _ c.in_ok-check.ensures c.argument-3.ensures.global k0 c.argument-3.ensures.rule in
     let top : app_of c.subcommand_required.result ≡ top_app =
     rw (
       c.subcommand_required.ensures,
-      c.about-3.ensures,
+      c.about-4.ensures,
       c.version.ensures,
-    ) (ap (λ (app : App). record app { top = record app.top { has_version = true; subcommand_required = true } }) c.new-3.ensures.app) in
+    ) (ap (λ (app : App). record app { top = record app.top { has_version = true; subcommand_required = true } }) c.new-4.ensures.app) in
     let with_replay = c.in_ok-subcommand.ensures.shape (rw (c.long_about-replay.ensures, c.about.ensures) c.new.ensures.local)
     ∙ ap₂ with_subcommand top (ap (λ (a : App). a.top) replay) in
-    IfOk-weaker c.subcommand-2.result _ _ (λ command adds. adds.shape (rw (
+    let with_format = c.in_ok-subcommand-2.ensures.shape (rw (
       c.in_ok-format.ensures.globals,
       c.option-9.ensures.global,
       c.in_ok-arg-10.ensures.globals,
@@ -57,4 +59,11 @@ returns c =
       c.long_about.ensures,
       c.about-2.ensures,
       c.new-2.ensures.local,
-    ) refl) ∙ ap₂ with_subcommand with_replay (ap (λ (a : App). a.top) format)) c.subcommand-2.ensures
+    ) refl) ∙ ap₂ with_subcommand with_replay (ap (λ (a : App). a.top) format) in
+    IfOk-weaker c.subcommand-3.result _ _ (λ command adds. adds.shape (rw (
+      c.in_ok-check.ensures.globals,
+      c.argument-3.ensures.global,
+      c.long_about-2.ensures,
+      c.about-3.ensures,
+      c.new-3.ensures.local,
+    ) refl) ∙ ap₂ with_subcommand with_format (ap (λ (a : App). a.top) check)) c.subcommand-3.ensures

@@ -1,8 +1,8 @@
-use Rattle.std.proofs.Common.{◌≡◌, List, map, inl, inr, arith, subst}
+use Rattle.std.proofs.Common.{◌≡◌, List, codes, map, inl, inr, arith, subst}
 use Rattle.clap.specs.Words.{Row, Text}
 use Rattle.alog.specs.CommandLine.{values_in, Asks, IsRefusedBy}
 use Rattle.alog.specs.Formats.{Formats}
-use Rattle.alog.proofs.CommandLines.{one_format, replay_lacks_memory, replay_no_format}
+use Rattle.alog.proofs.CommandLines.{one_row, replay_lacks_memory, replay_no_format, replay_no_check, format_is_no_check, lacks_memory}
 use Rattle.alog.proofs.program.run.Goals as goal
 
 pub returns-in-Ok-Format-clause-replays : goal.returns-in-Ok-Format-clause-replays
@@ -21,7 +21,7 @@ returns-in-Ok-Format-clause-formats g c =
     let r = c.in-Ok-Format.request in
     let old = g.O.Write.contents c.args.output.now in
     let new = g.O.Write.contents c.format_command.new.output in
-    subst (λ (rs : List Row). Formats (values_in rs) status old new) (one_format words asked.0 rows asked.1.1 asks.1) (record {
+    subst (λ (rs : List Row). Formats (values_in rs) status old new) (one_row (codes "format") words asked.0 rows asked.1.1 asks.1) (record {
       done = λ zero. (r, asked.2, c.format_command.ensures.line zero);
       usage = λ one. absurd (elim c.format_command.ensures.status [ inl is ↦ omega arith | inr is ↦ let low = is.0 in omega arith ]);
       refused = λ two. (r, asked.2, c.format_command.ensures.refused two, c.format_command.ensures.unwritten (inl two));
@@ -47,3 +47,46 @@ returns-in-Err-Clap-clause-replays g c =
       refused = λ two. absurd (omega arith);
       front = λ _. inl (c.explain.ensures.unwritten (inr four));
     }
+
+pub returns-in-Ok-Replay-clause-checks : goal.returns-in-Ok-Replay-clause-checks
+returns-in-Ok-Replay-clause-checks g c =
+    λ rows asks.
+    let words : List Text = map g.S.AsStr.text c.args.words.now in
+    let asked = subst (Asks words) c.in-Ok-Replay.field-0-is c.in-Ok-Replay.ensures.asked in
+    absurd (asked.2 rows asks.1)
+
+pub returns-in-Ok-Format-clause-checks : goal.returns-in-Ok-Format-clause-checks
+returns-in-Ok-Format-clause-checks g c =
+    λ rows asks.
+    let words : List Text = map g.S.AsStr.text c.args.words.now in
+    let asked = subst (Asks words) c.in-Ok-Format.field-0-is c.in-Ok-Format.ensures.asked in
+    absurd (format_is_no_check words asked.0 rows asked.1.1 asks.1)
+
+pub returns-in-Ok-Check-clause-replays : goal.returns-in-Ok-Check-clause-replays
+returns-in-Ok-Check-clause-replays g c =
+    λ asks.
+    let words : List Text = map g.S.AsStr.text c.args.words.now in
+    let asked = subst (Asks words) c.in-Ok-Check.field-0-is c.in-Ok-Check.ensures.asked in
+    absurd (replay_no_check words asked.0 asks asked.1.1)
+
+pub returns-in-Ok-Check-clause-formats : goal.returns-in-Ok-Check-clause-formats
+returns-in-Ok-Check-clause-formats g c =
+    λ rows asks.
+    let words : List Text = map g.S.AsStr.text c.args.words.now in
+    let asked = subst (Asks words) c.in-Ok-Check.field-0-is c.in-Ok-Check.ensures.asked in
+    absurd (format_is_no_check words rows asked.0 asks.1 asked.1.1)
+
+pub returns-in-Err-Value-clause-checks : goal.returns-in-Err-Value-clause-checks
+returns-in-Err-Value-clause-checks g c =
+    λ rows asks.
+    let words : List Text = map g.S.AsStr.text c.args.words.now in
+    let refused = subst (IsRefusedBy words) c.in-Err-Value.field-0-is c.in-Err-Value.ensures.refused in
+    absurd (format_is_no_check words refused.0 rows refused.1.1 asks.1)
+
+pub returns-in-Err-Clap-clause-checks : goal.returns-in-Err-Clap-clause-checks
+returns-in-Err-Clap-clause-checks g c =
+    λ rows asks.
+    let words : List Text = map g.S.AsStr.text c.args.words.now in
+    let memory = lacks_memory words c.in-Err-Clap.error asks.0 (subst (IsRefusedBy words) c.in-Err-Clap.field-0-is c.in-Err-Clap.ensures.refused) in
+    let four : c.explain.result ≡ 4 = c.explain.ensures.memory.1 memory in
+    inr (inr four, c.explain.ensures.unwritten (inr four))

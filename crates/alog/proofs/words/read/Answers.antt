@@ -1,9 +1,9 @@
-use Rattle.std.proofs.Common.{map, ◌≡◌, refl, subst, List, true, false}
+use Rattle.std.proofs.Common.{codes, map, ◌≡◌, ◌∙◌, ap, refl, subst, List, true, false}
 use Rattle.clap.specs.Words.{Text, Row, app_of, found_of, rows_of}
 use Rattle.alog.specs.CommandLine.{IsRefusedBy}
-use Rattle.alog.specs.Options.{Values, AsksFor, IsFirstRefused}
+use Rattle.alog.specs.Options.{Values, AsksFor, IsFirstRefused, text_of}
 use Rattle.alog.specs.declared.words.WordsError.TheVariants.{Clap, Value}
-use Rattle.alog.proofs.CommandLines.{error_is, has_kind, names_format, names_no_format, no_fault, values_are}
+use Rattle.alog.proofs.CommandLines.{error_is, has_kind, names_command, names_no_command, no_fault, values_are}
 use Rattle.alog.proofs.words.read.Goals as goal
 
 pub returns-in_err-matches-clause-refused : goal.returns-in_err-matches-clause-refused
@@ -13,24 +13,22 @@ returns-in_err-matches-clause-refused g c =
     error_is c.from_residual-in_err-matches.result (Clap error) (IsRefusedBy words) c.from_residual-in_err-matches.ensures.1
     (has_kind (app_of c.in_ok-alog.field-0) c.in_ok-alog.ensures words error c.in_err-matches.ensures.kinds)
 
-pub returns-in_err-line_request-in-Some-clause-refused :
-    goal.returns-in_err-line_request-in-Some-clause-refused
-returns-in_err-line_request-in-Some-clause-refused g c =
+pub returns-in_err-line_request-clause-refused : goal.returns-in_err-line_request-clause-refused
+returns-in_err-line_request-clause-refused g c =
     let words : List Text = map g.S.AsStr.text c.args.words.now in
     let app = app_of c.in_ok-alog.field-0 in
     let is = c.in_ok-alog.ensures in
     let m = c.in-Some.format.now in
     let rows : List Row = rows_of (found_of m) in
-    let fault = c.in_err-line_request-in-Some.field-0.0 in
-    error_is c.from_residual-in_err-line_request-in-Some.result (Value fault) (IsRefusedBy words)
-    c.from_residual-in_err-line_request-in-Some.ensures.1 (
+    let fault = c.in_err-line_request.field-0.0 in
+    error_is c.from_residual-in_err-line_request.result (Value fault) (IsRefusedBy words) c.from_residual-in_err-line_request.ensures.1 (
       rows,
       (
         no_fault app is words c.in_ok-matches.ensures.kinds,
-        names_format app is words c.in_ok-matches.matches rows c.in_ok-matches.ensures.matches (c.in-Some.ensures.found.0 refl)
-            c.in-Some.ensures.rows,
+        names_command app is words (codes "format") c.in_ok-matches.matches rows c.in_ok-matches.ensures.matches
+            (c.in-Some.ensures.found.0 refl) c.in-Some.ensures.rows,
       ),
-      subst (λ (v : Values). IsFirstRefused v fault) (values_are m) c.in_err-line_request-in-Some.ensures.refused,
+      subst (λ (v : Values). IsFirstRefused v fault) (values_are m) c.in_err-line_request.ensures.refused,
     )
 
 pub returns-in-Some-clause-asked : goal.returns-in-Some-clause-asked
@@ -43,10 +41,26 @@ returns-in-Some-clause-asked g c =
       rows,
       (
         no_fault app is words c.in_ok-matches.ensures.kinds,
-        names_format app is words c.in_ok-matches.matches rows c.in_ok-matches.ensures.matches (c.in-Some.ensures.found.0 refl)
-            c.in-Some.ensures.rows,
+        names_command app is words (codes "format") c.in_ok-matches.matches rows c.in_ok-matches.ensures.matches
+            (c.in-Some.ensures.found.0 refl) c.in-Some.ensures.rows,
       ),
-      subst (λ (v : Values). AsksFor v c.in_ok-line_request-in-Some.field-0) (values_are m) c.in_ok-line_request-in-Some.ensures.asked,
+      subst (λ (v : Values). AsksFor v c.in_ok-line_request.field-0) (values_are m) c.in_ok-line_request.ensures.asked,
+    )
+
+pub returns-in-Some-subcommand_matches-clause-asked : goal.returns-in-Some-subcommand_matches-clause-asked
+returns-in-Some-subcommand_matches-clause-asked g c =
+    let words : List Text = map g.S.AsStr.text c.args.words.now in
+    let app = app_of c.in_ok-alog.field-0 in
+    let is = c.in_ok-alog.ensures in
+    let m = c.in-Some-subcommand_matches.check.now in
+    let rows : List Row = rows_of (found_of m) in (
+      rows,
+      (
+        no_fault app is words c.in_ok-matches.ensures.kinds,
+        names_command app is words (codes "check") c.in_ok-matches.matches rows c.in_ok-matches.ensures.matches
+            (c.in-Some-subcommand_matches.ensures.found.0 refl) c.in-Some-subcommand_matches.ensures.rows,
+      ),
+      c.text.ensures ∙ ap (λ (v : Values). text_of v (codes "FILE")) (values_are m),
     )
 
 pub returns-clause-asked : goal.returns-clause-asked
@@ -55,6 +69,8 @@ returns-clause-asked g c =
     let app = app_of c.in_ok-alog.field-0 in
     let is = c.in_ok-alog.ensures in (
       no_fault app is words c.in_ok-matches.ensures.kinds,
-      λ rows named. names_no_format app is words c.in_ok-matches.matches rows c.in_ok-matches.ensures.matches
+      λ rows named. names_no_command app is words (codes "format") c.in_ok-matches.matches rows c.in_ok-matches.ensures.matches
+          (λ name. let bad : false ≡ true = c.in_default.ensures.found.1 name in cc) named,
+      λ rows named. names_no_command app is words (codes "check") c.in_ok-matches.matches rows c.in_ok-matches.ensures.matches
           (λ name. let bad : false ≡ true = c.in-None.ensures.found.1 name in cc) named,
     )

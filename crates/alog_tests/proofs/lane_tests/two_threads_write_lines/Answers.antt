@@ -14,8 +14,8 @@ use Rattle.alog_sink.specs.contracts.sink.Sink as Sink
 use Rattle.alog_sink.specs.contracts.turn.Served as Served
 use Rattle.alog_sink.specs.contracts.turn.SinkTurn.TheImpl as Turn
 use Rattle.alog_tests.specs.contracts.lane_tests.Writer as Writer
-use Rattle.alog_tests.specs.contracts.lane_tests.Yielding as Yielding
-use Rattle.alog_tests.specs.contracts.lane_tests.YieldingStore.TheImpl as Store
+use Rattle.alog_tests.specs.contracts.stores.Yielding as Yielding
+use Rattle.alog_tests.specs.contracts.stores.YieldingStore.TheImpl as Store
 use Rattle.alog_tests.proofs.lane_tests.two_threads_write_lines.Goals as goal
 
 own_store : IsSend Yielding.the_row

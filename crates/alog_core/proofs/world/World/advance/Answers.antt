@@ -1,20 +1,24 @@
-use Rattle.std.proofs.Common.{◌≡◌, ◌<◌, Some, length, ap, sym, subst, ◌∙◌, arith}
+use Rattle.std.proofs.Common.{◌≡◌, ◌+◌, ◌<◌, Some, length, ap, sym, subst, ◌∙◌, arith}
 use Rattle.alog_core.specs.Queue.{Event, Allows}
-use Rattle.alog_core.specs.World.{Machine, next_move, stepped}
+use Rattle.alog_core.specs.World.{is_size, Machine, next_move, stepped}
 use Rattle.alog_core.specs.Run.{HasItsCell}
 use Rattle.alog_core.specs.Staged.{IsReached}
-use Rattle.alog_core.proofs.Reached.{kept, taken_round, has_room, stepped_in, reached_stepped, fine_step}
+use Rattle.alog_core.proofs.Reached.{kept, taken_round, table_of, staged_in, stepped_in, reached_stepped, fine_step}
 use Rattle.alog_core.proofs.Runs.{has_its_cell}
 use Rattle.alog_core.proofs.world.World.advance.Goals as goal
 
-pub advance-said-requires : goal.advance-said-requires
-advance-said-requires g c =
+pub advance-said-requires-clause-table : goal.advance-said-requires-clause-table
+advance-said-requires-clause-table g c =
+    table_of c.self.inside.table c.self.inside.rounds.items c.self.invariant.size c.self.invariant.reached
+    c.self.invariant.shows
+
+pub advance-said-requires-clause-staged : goal.advance-said-requires-clause-staged
+advance-said-requires-clause-staged g c =
     let rounds = c.self.inside.rounds.items in
     let lt : c.args.actor < length rounds = omega (arith, c.self.invariant.reached.actors, c.requires) in
     let is = taken_round rounds c.args.actor c.index_mut.result.now c.replace-round.result lt c.index_mut.ensures.value
     c.replace-round.ensures.value in
-    has_room c.self.inside.table rounds c.args.actor c.replace-round.result c.self.invariant.reached c.self.invariant.room
-    c.requires is
+    staged_in c.self.inside.table rounds c.args.actor c.replace-round.result c.self.invariant.reached c.requires is
 
 pub invariant_of-self : goal.invariant_of-self
 invariant_of-self g c =
@@ -26,9 +30,10 @@ invariant_of-self g c =
     stepped_in c.self.inside.table c.advance-said.new.table rounds c.args.actor c.replace-round.new.dest
     c.replace-round.result c.advance-said.result is c.advance-said.ensures in
     record {
+      size = ap (λ k. is_size (k + 1)) c.advance-said.ensures.mask ∙ c.self.invariant.size;
       reached = subst IsReached (sym after)
           (reached_stepped (kept c.self.inside.table rounds) c.args.actor c.self.invariant.reached c.requires);
-      room = omega (arith, c.advance-said.ensures.places, c.advance-said.ensures.room, c.self.invariant.room);
+      shows = c.advance-said.ensures.shows;
     }
 
 pub returns-clause-stepped : goal.returns-clause-stepped

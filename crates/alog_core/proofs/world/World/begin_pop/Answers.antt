@@ -6,7 +6,8 @@ use Rattle.alog_core.proofs.world.World.begin_pop.Goals as goal
 pub invariant_of-self : goal.invariant_of-self
 invariant_of-self g c =
     record {
+      size = c.self.invariant.size;
       reached = reached_began (kept c.self.inside.table c.self.inside.rounds.items) c.args.actor
           (round.Pop) c.self.invariant.reached (c.in_ok-may_begin.ensures.begins.0 refl).0 tt;
-      room = c.self.invariant.room;
+      shows = c.self.invariant.shows;
     }

@@ -55,4 +55,4 @@ returns-clause-turn g c =
     in subst K (ap (λ s. s.known) c.seat.view_is)
     (subst F same (turn_taken g.T.Turn.turns g.T.Turn.may_turn deed c.take_turn-answer.result.0 c.seat.inside.seat.me
     c.try_lock.new.own.me c.take_turn-answer.new.own.me got c.take_turn-answer.ensures.took c.store.new.seat.me
-    c.store.ensures.2))
+    c.seat.invariant.5 c.store.ensures.2))

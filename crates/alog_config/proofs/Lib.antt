@@ -1,0 +1,4 @@
+pub mod Spelling
+pub mod Firsts
+pub mod Arrays
+pub mod Runs

@@ -1,0 +1,7 @@
+pub mod Values
+pub mod Keys
+pub mod Fields
+pub mod Sinks
+pub mod Rules
+pub mod Numbers
+pub mod Meaning

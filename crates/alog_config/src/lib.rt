@@ -1,0 +1,44 @@
+//! Configurations: a TOML document that says how a logger is set up.
+//!
+//! `read` gives the `Config` that a document says, or its first fault: the top is looked at first, then the sinks in
+//! their order, then the loggers; within one table the rules in the order of `RULES`. `leaves` tells how many stores the
+//! sinks of a configuration need.
+//!
+//! Read `config.rt` with `names.rt` (what a configuration is), `fault.rt` (what is refused); `specs/Values.antt` with
+//! `field.rt`, `values.rt` and `lists.rt` (what one key may hold); `specs/Keys.antt` with `keys.rt`, and
+//! `specs/Fields.antt` with `top.rt`, `sink_fields.rt` and `logger_fields.rt` (the keys of one table); `specs/Sinks.antt`
+//! with `sinks.rt` (sinks by their names); `specs/Rules.antt` with `broken.rt` (which rules a table breaks);
+//! `specs/Meaning.antt` with `reading.rt` (what a document says, and which fault is first).
+#![tactic(auto)]
+
+mod broken;
+mod config;
+mod fault;
+mod field;
+#[cfg(test)]
+mod key_tests;
+mod keys;
+mod lists;
+mod logger_fields;
+#[cfg(test)]
+mod many_tests;
+mod names;
+mod reading;
+mod sink_fields;
+mod sinks;
+#[cfg(test)]
+mod tests;
+mod top;
+mod values;
+
+pub use config::{Config, LoggerConfig, SinkConfig, SinkKind, Upkeep};
+pub use fault::{ConfigFault, Place, RULES, Rule};
+pub use names::NameList;
+pub use reading::read;
+pub use sinks::leaves;
+
+/// There are no more sinks than this, and no more loggers.
+pub const MOST_TABLES: usize = 256;
+
+/// A fan has no more members than this, and a logger no more sinks.
+pub const MOST_NAMES: usize = 16;

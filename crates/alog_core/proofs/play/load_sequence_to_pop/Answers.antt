@@ -1,0 +1,19 @@
+use Rattle.std.proofs.Common.{arith}
+use Rattle.alog_core.proofs.Advancing.{finds_unwritten, finds_written, finds_gone}
+use Rattle.alog_core.proofs.play.load_sequence_to_pop.Goals as goal
+
+pub returns-then-sequence-ticket : goal.returns-then-sequence-ticket
+returns-then-sequence-ticket g c a =
+    finds_unwritten c.args.table.now c.requires.table a c.args.ticket c.place_of.result c.index-sequence.result.now
+    c.place_of.ensures c.index-sequence.ensures c.requires.read c.if-sequence-ticket.true
+
+pub returns-then-sequence-ticket-2 : goal.returns-then-sequence-ticket-2
+returns-then-sequence-ticket-2 g c a =
+    finds_written c.args.table.now c.requires.table a c.args.ticket c.place_of.result c.index-sequence.result.now
+    c.place_of.ensures c.index-sequence.ensures c.requires.read c.if-sequence-ticket-2.true
+
+pub returns-else-sequence-ticket-2 : goal.returns-else-sequence-ticket-2
+returns-else-sequence-ticket-2 g c a =
+    finds_gone c.args.table.now c.requires.table a c.args.ticket c.place_of.result c.index-sequence.result.now
+    c.place_of.ensures c.index-sequence.ensures c.requires.read
+    (omega (arith, c.if-sequence-ticket.false, c.if-sequence-ticket-2.false))

@@ -1,0 +1,201 @@
+//! Files of a folder.
+ghost use Rattle.std.specs.Prelude.{◌≡◌, ◌<◌, IfOk, length};
+
+use crate::store::{Store, StoreError, counted};
+use std::alloc::{AllocError, Global};
+use std::fmt::{self, Debug, Formatter};
+use std::fs::{self, OpenOptions};
+use std::io::{self, BufWriter, ErrorKind, Write};
+use std::path::{Path, PathBuf};
+use std::rt::Files;
+
+/// How many bytes the buffer of a file holds before they are written.
+const BUFFER: usize = 64 * 1024;
+
+/// The files of one folder of a file system.
+///
+/// A file is opened by the first append to it, which makes it where it is absent, and stays open, with a buffer of 64 KiB,
+/// until it is renamed or removed. Its buffer is written when it is full, before a rename to or from its name, a removal
+/// and a size, at a flush, and when the store is dropped, which tells no failure. A call fails where the system refuses
+/// what it asks, a write of the buffer among it, where memory is wanting, and where a name leads out of the folder. What
+/// could not be written stays in the buffer, and the next call on that file tries it again.
+///
+/// The system may change files as it likes, so this store does not tell what it holds. `rename` is POSIX's: what had the
+/// name before is replaced in one step.
+#[derive(Drop)]
+pub struct FolderStore<R: Files> {
+    folder: Folder<R>,
+    failures: u64,
+}
+
+impl<R: Files + Drop> FolderStore<R> {
+    /// A store over the folder with this path, which needs not be there yet. It asks the system for nothing.
+    pub fn new(alloc: Global, files: R, path: &str) -> Result<FolderStore<R>, AllocError>
+        ensures { IfOk result (λ s. ⟦<FolderStore<R> as Store>⟧.failures s ≡ 0) }
+    {
+        let path = PathBuf::from_str(alloc, path)?;
+        let open = Vec::new(alloc);
+        Ok(FolderStore {
+            folder: Folder {
+                alloc,
+                files,
+                path,
+                open,
+            },
+            failures: 0,
+        })
+    }
+}
+
+impl<R: Files> Debug for FolderStore<R> {
+    fn fmt<W: fmt::Write>(&self, f: &mut Formatter<W>) -> fmt::Result {
+        f.debug_struct("FolderStore")
+            .field("path", &self.folder.path)
+            .finish_non_exhaustive()
+    }
+}
+
+/// An open file.
+#[derive(Drop)]
+struct Kept<F: Write + Drop> {
+    name: String,
+    writer: BufWriter<F>,
+}
+
+/// A folder and its open files, each of which has a name of its own.
+#[derive(Drop)]
+struct Folder<R: Files> {
+    alloc: Global,
+    files: R,
+    path: PathBuf,
+    /// In the order in which they were opened.
+    open: Vec<Kept<R::File>>,
+}
+
+impl<R: Files> Folder<R> {
+    /// The path of a file in the folder.
+    fn path_of(&self, name: &str) -> io::Result<PathBuf> {
+        if name.is_empty() || name == "." || name == ".." || name.contains('/') {
+            return Err(ErrorKind::InvalidInput.into());
+        }
+        Ok(self.path.join(self.alloc, name)?)
+    }
+
+    /// The place of a file among the open ones. It is opened where it is not there.
+    fn place_of(&mut self, name: &str) -> io::Result<usize>
+        ensures { IfOk result (λ at. at < length self.new.open.items) }
+    {
+        match self
+            .open
+            .iter()
+            .rposition(|kept| kept.name.as_str() == name)
+        {
+            Some(at) => Ok(at),
+            None => self.open_file(name),
+        }
+    }
+
+    /// Opens a file behind the open ones, and tells its place.
+    fn open_file(&mut self, name: &str) -> io::Result<usize>
+        ensures { IfOk result (λ at. at < length self.new.open.items) }
+    {
+        let path = self.path_of(name)?;
+        let name = String::from_str(self.alloc, name)?;
+        self.open.reserve(1)?;
+        let file = OpenOptions::new()
+            .append(true)
+            .create(true)
+            .open(&self.files, path)?;
+        let writer = BufWriter::with_capacity(self.alloc, BUFFER, file)?;
+        let at = self.open.len();
+        self.open.push(Kept { name, writer })?;
+        Ok(at)
+    }
+
+    fn append(&mut self, name: &str, bytes: &[u8]) -> io::Result<()> {
+        let at = self.place_of(name)?;
+        self.open[at].writer.write_all(bytes)
+    }
+
+    /// Writes the buffer of a file, where it is open.
+    fn write_out(&mut self, name: &str) -> io::Result<()> {
+        match self.open.iter_mut().find(|kept| kept.name.as_str() == name) {
+            Some(kept) => kept.writer.flush(),
+            None => Ok(()),
+        }
+    }
+
+    /// Closes a file, where it is open.
+    fn close(&mut self, name: &str) {
+        self.open.retain(|kept| kept.name.as_str() != name);
+    }
+
+    fn rename(&mut self, from: &str, to: &str) -> io::Result<()> {
+        self.write_out(from)?;
+        self.write_out(to)?;
+        let (old, new) = (self.path_of(from)?, self.path_of(to)?);
+        if is_done(fs::rename(&self.files, old, new))? {
+            self.close(from);
+            self.close(to);
+        }
+        Ok(())
+    }
+
+    fn remove(&mut self, name: &str) -> io::Result<()> {
+        self.write_out(name)?;
+        let path = self.path_of(name)?;
+        if is_done(fs::remove_file(&self.files, path))? {
+            self.close(name);
+        }
+        Ok(())
+    }
+
+    fn size(&mut self, name: &str) -> io::Result<Option<u64>> {
+        self.write_out(name)?;
+        match fs::metadata(&self.files, self.path_of(name)?) {
+            Ok(metadata) => Ok(Some(metadata.len())),
+            Err(e) if e.kind() == ErrorKind::NotFound => Ok(None),
+            Err(e) => Err(e),
+        }
+    }
+}
+
+// Whether a call found its file; that it did not is no failure.
+fn is_done(answer: io::Result<()>) -> io::Result<bool> {
+    match answer {
+        Ok(()) => Ok(true),
+        Err(e) if e.kind() == ErrorKind::NotFound => Ok(false),
+        Err(e) => Err(e),
+    }
+}
+
+impl<R: Files> Store for FolderStore<R> {
+    ghost use Rattle.std.specs.Prelude.{false};
+    ghost use Rattle.alog_sink.specs.Files.{no_files};
+
+    ghost files = { λ _. no_files };
+
+    ghost tells = { false };
+
+    ghost failures = { λ s. s.failures };
+
+    fn append(&mut self, name: &str, bytes: &[u8]) -> Result<(), StoreError> {
+        counted(self.folder.append(name, bytes), &mut self.failures)
+    }
+
+    fn rename(&mut self, from: &str, to: &str) -> Result<(), StoreError> {
+        counted(self.folder.rename(from, to), &mut self.failures)
+    }
+
+    fn remove(&mut self, name: &str) -> Result<(), StoreError> {
+        counted(self.folder.remove(name), &mut self.failures)
+    }
+
+    fn size(&mut self, name: &str) -> Result<Option<u64>, StoreError> {
+        counted(self.folder.size(name), &mut self.failures)
+    }
+
+    fn flush(&mut self, name: &str) -> Result<(), StoreError> {
+        counted(self.folder.write_out(name), &mut self.failures)
+    }
+}
