@@ -3,7 +3,7 @@
 gate.py run FILE WORD..   runs a command, and writes to FILE what it and each prover below it have used
 gate.py times FILE        prints the processor seconds of the last gate by crate and phase, beside the budget
 gate.py applies           says which wrong bodies no longer apply, which crates have more edits than the gate tries, and
-                          which of their examples differ from those of examples/
+                          which configurations of examples/ the tests of alog do not have
 gate.py wrong [NAME..]    tries the wrong bodies of these crates, or of all, on a copy of the repository
 """
 import glob
@@ -133,14 +133,17 @@ def stale(crates):
     return [f"{edit}: {why}" for edit, why in edits if why]
 
 
-def strayed():
-    """Returns what is said of each example in a crate's data/ that is not the one of examples/."""
-    copies = sorted(glob.glob("crates/*/data/*"))
-    return [f"{it} is not what examples/ has" for it in copies if not is_copy(it, f"examples/{os.path.basename(it)}")]
+def untested():
+    """Returns what is said of each configuration of examples/ that the tests of alog do not have byte for byte."""
+    with open("crates/alog/src/examples.rt", encoding="utf-8") as it:
+        tests = it.read()
+    documents = sorted(glob.glob("examples/*.toml"))
+    return [f"{it} is not in the tests of alog" for it in documents if f'r#"{text_of(it)}"#;' not in tests]
 
 
-def is_copy(one, other):
-    return os.path.isfile(other) and open(one, "rb").read() == open(other, "rb").read()
+def text_of(file):
+    with open(file, encoding="utf-8") as it:
+        return it.read()
 
 
 def tell(faults):
@@ -152,7 +155,7 @@ def applies():
     crates = sorted(glob.glob("crates/*"))
     counts = [(crate, len(edits_in(f"{crate}/must-fail"))) for crate in crates]
     many = [f"{crate}/must-fail has {count} edits: at most {MOST_EDITS} stand there, the others in {crate}/wrong" for crate, count in counts if count > MOST_EDITS]
-    return tell(many + stale(crates) + strayed())
+    return tell(many + stale(crates) + untested())
 
 
 def wrong(names):

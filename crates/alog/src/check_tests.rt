@@ -1,4 +1,5 @@
 //! `alog check` on the whole program: files that have a configuration, that have none, and that cannot be read.
+use crate::examples::{DAILY_ERRORS, FAN, ONE_FILE};
 use crate::run;
 use crate::script_tests::Narrow;
 use std::io::Write;
@@ -56,17 +57,11 @@ fn of_document<R: AllocGlobal + Files + Abort>(
     Ok(fs::remove_file(rt, file)?)
 }
 
-// The folder `data` has the configurations of `examples`. The gate runs the tests in a copy of it, and `rt test` beside it.
 #[test]
 fn examples_are_configurations(rt: HostRuntime) -> Result<(), Fail> {
-    let folder = if fs::exists(&rt, "data")? {
-        "data/"
-    } else {
-        ""
-    };
-    for name in ["one_file", "daily_errors", "fan"] {
-        let file = format!(in rt.alloc(); "{folder}{name}.toml")?;
-        says(&rt, file.as_str(), 0, "ok\n", "");
+    let path = scratch(&rt, "examples")?;
+    for document in [ONE_FILE, DAILY_ERRORS, FAN] {
+        of_document(&rt, path.as_str(), document, "")?;
     }
     Ok(())
 }

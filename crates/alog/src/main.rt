@@ -12,6 +12,8 @@ mod check;
 #[cfg(test)]
 mod check_tests;
 mod command;
+#[cfg(test)]
+mod examples;
 mod line;
 mod options;
 mod program;
