@@ -47,12 +47,12 @@ pub record SeatCounted (old : SeatView) (items posts : ℕ) (new : SeatView) : T
   pub post_sum : posts_in adds ≡ posts
 
 -- the pass belongs to the ring, and the seat to the book
-abbrev pub IsFit : {T : Type 0} → Port T → Type 0
+abbrev pub IsFit : {T L : Type 0} → Port T L → Type 0
 IsFit p = IsPassOf p.ring.now p.pass.now × IsSeatOf p.book.now p.seat.now
 
 -- The port made exactly these events, counted so many overrun items and so many discarded posts, and lends the same four parts.
 -- A pass without events, and a seat without losses, is as it was.
-pub record PortDid {T : Type 0} (old : Port T) (es : List (Event T)) (items posts : ℕ) (new : Port T) : Type 0 where
+pub record PortDid {T L : Type 0} (old : Port T L) (es : List (Event T)) (items posts : ℕ) (new : Port T L) : Type 0 where
   pub ring : new.ring ≡ old.ring
   pub book : new.book ≡ old.book
   pub pass_lent : new.pass.ghost_name ≡ old.pass.ghost_name
@@ -61,5 +61,5 @@ pub record PortDid {T : Type 0} (old : Port T) (es : List (Event T)) (items post
   pub seat : ((items ≡ 0) × (posts ≡ 0) × (new.seat.now ≡ old.seat.now)) ⊎ SeatCounted old.seat.now items posts new.seat.now
 
 -- A post on a port: the pass's events were one post under this policy by the definition, and the seat's adds its losses.
-abbrev pub PostsOn : {T : Type 0} → Policy → T → Port T → Port T → Outcome T → Type 0
+abbrev pub PostsOn : {T L : Type 0} → Policy → T → Port T L → Port T L → Outcome T → Type 0
 PostsOn p x old new outcome = Posts PortDid p x x old new outcome

@@ -97,7 +97,7 @@ seat_after a b c k l m n (inr f) (inl t) =
     (subst (λ z. SeatCounted a k z c) posts (subst (λ (s : SeatView). SeatCounted a k l s) (sym t.2) f)))
 seat_after a b c k l m n (inr f) (inr t) = inr (seat_together a b c k l m n f t)
 
-pub port_together : {T : Type 0} (a b c : Port T) (es fs : List (Event T)) (k l m n : ℕ) → PortDid a es k l b
+pub port_together : {T L : Type 0} (a b c : Port T L) (es fs : List (Event T)) (k l m n : ℕ) → PortDid a es k l b
     → PortDid b fs m n c → PortDid a (es ++ fs) (k + m) (l + n) c
 port_together a b c es fs k l m n first then =
     record {

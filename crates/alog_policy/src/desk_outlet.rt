@@ -33,6 +33,8 @@ impl<T: Drop> Outlet for DeskOutlet<'_, T> {
 
     ghost is_fit = { λ o. IsFree o.desk.now o.actor };
 
+    ghost admits = { λ o v. Unit {0} };
+
     ghost did = { λ o es k l p. (p.actor ≡ o.actor) × (p.desk.ghost_name ≡ o.desk.ghost_name)
         × DeskDid o.actor o.desk.now es k l p.desk.now };
 
@@ -54,6 +56,8 @@ impl<T: Drop> Outlet for DeskOutlet<'_, T> {
       did_together a.actor a.desk.now b.desk.now c.desk.now es fs k l m n first.2
           (subst (λ x. DeskDid x b.desk.now fs m n c.desk.now) first.0 then.2),
     ) };
+
+    ghost still = { λ a b v es k l done is. tt };
 }
 
 impl<T: Drop> Desk<T> {

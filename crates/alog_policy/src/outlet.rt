@@ -6,7 +6,8 @@ use alog_ring::{PopError, PushError};
 ///
 /// `did` is what the outlet tells of itself: between two states, its actor made exactly these events in the history of
 /// its queue, in this order, and exactly so many overrun items and so many discarded posts were counted. `shows` is what
-/// a cell of the queue shows of a value. `is_fit` is what a push or a pop asks of the outlet.
+/// a cell of the queue shows of a value. `is_fit` is what a push or a pop asks of the outlet, and `admits` what a push asks of
+/// its value.
 pub trait Outlet {
     ghost use Rattle.std.specs.Prelude.{◌≡◌, ◌+◌, ℕ, List, [], ◌∷◌, ◌++◌, IfOk, IfErr, OnOk};
     ghost use Rattle.alog_core.specs.Queue.{Event, Claim, Write};
@@ -22,12 +23,15 @@ pub trait Outlet {
 
     ghost is_fit: { Self → Type 0 };
 
+    ghost admits: { Self → Self.Value → Type 0 };
+
     ghost did: { Self → List (Event Self.Item) → ℕ → ℕ → Self → Type 0 };
 
     /// Makes one round of a push: puts the value into the queue if that goes at once, and answers its ticket. A refusal
     /// is one event, and hands the value back. It never waits and takes no memory.
     fn push_once(&mut self, value: Self::Value) -> Result<u64, PushError<Self::Value>>
-        requires { is_fit self.old }
+        requires fit { is_fit self.old }
+        requires admitted { admits self.old value }
         ensures pushed { IfOk result (λ t. did self.old (Claim t (shows value) ∷ Write t ∷ []) 0 0 self.new) }
         ensures refused { IfErr result (λ e. PushRefused did is_fit self.old value e self.new) }
         ensures fit { OnOk result (is_fit self.new) };
@@ -48,4 +52,8 @@ pub trait Outlet {
     // What was done first and what was done then are one.
     ghost together: { (a b c : Self) (es fs : List (Event Self.Item)) (k l m n : ℕ) → did a es k l b → did b fs m n c
         → did a (es ++ fs) (k + m) (l + n) c };
+
+    // What is admitted stays so.
+    ghost still: { (a b : Self) (v : Self.Value) (es : List (Event Self.Item)) (k l : ℕ) → did a es k l b → admits a v
+        → admits b v };
 }

@@ -19,6 +19,8 @@ impl Outlet for Outrun {
 
     ghost is_fit = { λ o. Unit {0} };
 
+    ghost admits = { λ o v. Unit {0} };
+
     ghost did = { λ o es k l p. Unit {0} };
 
     fn push_once(&mut self, value: u64) -> Result<u64, PushError<u64>> {
@@ -40,6 +42,8 @@ impl Outlet for Outrun {
     }
 
     ghost together = { λ a b c es fs k l m n first then. tt };
+
+    ghost still = { λ a b v es k l done is. tt };
 }
 
 // What a post of 7 ends with, and how many pushes, pops and discarded posts the outlet then counted.

@@ -2,14 +2,14 @@
 use crate::book_seat::BookSeat;
 use crate::loss_book::LossBook;
 use crate::outlet::Outlet;
-use alog_ring::{Pass, PopError, PushError, Ring};
+use alog_ring::{Limit, NoLimit, Pass, PopError, PushError, Ring};
 
 /// What a thread posts with on a running ring: it lends the ring, a pass of it, a loss book and a seat of that. Contracts
 /// ask that the pass belongs to the ring and the seat to the book. The test `a_lone_port_posts` shows it.
 #[derive(Drop)]
-pub struct Port<'a, T> {
+pub struct Port<'a, T, L: Limit<T> = NoLimit> {
     /// The ring that posts go to.
-    pub ring: &'a Ring<T>,
+    pub ring: &'a Ring<T, L>,
     /// The pass that pushes, and pops what is overrun.
     pub pass: &'a mut Pass<T>,
     /// The book in which losses are counted.
@@ -18,9 +18,11 @@ pub struct Port<'a, T> {
     pub seat: &'a mut BookSeat,
 }
 
-impl<T: Drop> Outlet for Port<'_, T> {
+impl<T: Drop, L: Limit<T>> Outlet for Port<'_, T, L> {
     ghost use Rattle.alog_policy.specs.Port.{IsFit, PortDid};
     ghost use Rattle.alog_policy.specs.PortTogether.{port_together};
+    ghost use Rattle.alog_ring.specs.Known.{RingId};
+    ghost use Rattle.std.proofs.Common.{subst, sym, ap};
 
     type Value = T;
 
@@ -29,6 +31,8 @@ impl<T: Drop> Outlet for Port<'_, T> {
     ghost shows = { λ x. x };
 
     ghost is_fit = { IsFit };
+
+    ghost admits = { λ p x. L.admits p.ring.now.limit x };
 
     ghost did = { PortDid };
 
@@ -51,4 +55,6 @@ impl<T: Drop> Outlet for Port<'_, T> {
     }
 
     ghost together = { port_together };
+
+    ghost still = { λ a b x es k l done is. subst (λ r. L.admits r.now.limit x) (sym done.ring) is };
 }

@@ -17,7 +17,8 @@ use alog_ring::{PopError, PushError};
 /// oldest item, which is dropped. A discarded value is handed back. Losses are counted by the outlet: each item at its
 /// take, a discarded post at its end. The test `posts_at_once` shows it.
 pub fn post_now<O: Outlet>(outlet: &mut O, policy: Policy, value: O::Value) -> Outcome<O::Value>
-    requires { O.is_fit outlet.old }
+    requires fit { O.is_fit outlet.old }
+    requires admitted { O.admits outlet.old value }
     ensures post { PostsNow O.did policy (O.shows value) value outlet.old outlet.new result }
     ensures fit { O.is_fit outlet.new }
 {
@@ -66,6 +67,7 @@ fn push<O: Outlet>(
     value: O::Value,
 ) -> Result<u64, Refused<O::Value>>
     requires fit { O.is_fit outlet.old }
+    requires admitted { O.admits outlet.old value }
     requires side { progress.side ≡ side.Push }
     requires kept { IsKept progress }
     ensures pushed { IfOk result (λ t. O.did outlet.old (Claim t (O.shows value) ∷ Write t ∷ []) 0 0 outlet.new) }

@@ -8,7 +8,7 @@ use crate::outlet::Outlet;
 use crate::policy::{Outcome, Policy, Why};
 use crate::port::Port;
 use crate::posting::post_now;
-use alog_ring::PushError;
+use alog_ring::{Limit, PushError};
 use crossbeam_utils::Backoff;
 use std::sync::Wait;
 
@@ -20,13 +20,14 @@ const BUSY_STEPS: u32 = 4;
 ///
 /// That it returns under `Block` is not promised while nobody pops, or while other pushes are always faster. A discarded
 /// value is handed back, and losses are counted as by `post_now`. The test `a_lone_port_posts` shows it.
-pub fn post_wait<T: Drop>(
+pub fn post_wait<T: Drop, L: Limit<T>>(
     rt: &impl Wait,
-    port: &mut Port<'_, T>,
+    port: &mut Port<'_, T, L>,
     policy: Policy,
     value: T,
 ) -> Outcome<T>
-    requires { IsFit port.old }
+    requires fit { IsFit port.old }
+    requires limit { L.admits port.old.ring.now.limit value }
     ensures post { PostsOn policy value port.old port.new result }
     ensures fit { IsFit port.new }
     ensures blocks { policy ≡ under.Block → IsPostedOrSpent result }
@@ -43,7 +44,8 @@ fn post_blocking<O: Outlet>(
     outlet: &mut O,
     mut value: O::Value,
 ) -> Outcome<O::Value>
-    requires { O.is_fit outlet.old }
+    requires fit { O.is_fit outlet.old }
+    requires admitted { O.admits outlet.old value }
     ensures post { Posts O.did under.Block (O.shows value) value outlet.old outlet.new result }
     ensures fit { O.is_fit outlet.new }
     ensures blocks { IsPostedOrSpent result }

@@ -5,6 +5,7 @@ use Rattle.std.proofs.Common.{length-set, get_or-set_other, get_or-set_same, mod
 use mathlib.Core.Option as maybe
 use lib.ListN.{get_elem?}
 use native.Mathlib.Nat.{add-mod_right}
+use Rattle.std.specs.List.{AllByRecursion}
 use Rattle.std.proofs.lemmas.Bool.Decides.{leb_tells}
 use Rattle.atomic_table.specs.Table.{Final, Seen}
 use Rattle.alog_core.specs.declared.mark.Mark.{Mark}
@@ -21,6 +22,7 @@ use Rattle.alog_ring.specs.Kinds.{no_note, some_value, no_value}
 use Rattle.alog_ring.specs.Share.{ticket_and_item}
 use Rattle.alog_ring.specs.Sight.{Stage, Idle, Sight}
 use Rattle.alog_ring.specs.Rule.{IsAtWork, HasEntries, Knows, seq_of, ShowsCell, Ruled}
+use Rattle.alog_ring.specs.Limit.{AreAtHome}
 use Rattle.alog_ring.specs.Board.{Leaves, AreInRow, value_at, LieIn}
 use Rattle.alog_ring.proofs.Lists.{not_both, same_or_not, found, prefix_same}
 use Rattle.alog_ring.proofs.Showing.{near_apart}
@@ -227,6 +229,32 @@ value_unlisted {T} first (d ∷ cs) (suc i) row is =
     (sym (at_other d.ticket (first + suc i) (Some d) (cell_of (first + suc i) cs)
     (let apart : d.ticket ≢ first + suc i = omega (arith, row.0) in apart)) ∙ is))
 
+row_above : {T : Type 0} (first : ℕ) (cs : List (Cell T)) (t : ℕ) (d : Cell T) → AreInRow first cs → cell_of t cs ≡ Some d
+    → first ≤ t
+row_above first [] t d row is = absurd (cc)
+row_above first (c ∷ cs) t d row is =
+    elim (same_or_not c.ticket t) [
+      | inl same ↦ omega (arith, row.0, same)
+      | inr other ↦
+          let later : cell_of t cs ≡ Some d = sym (at_other c.ticket t (Some c) (cell_of t cs) other) ∙ is
+          in let low : first + 1 ≤ t = row_above (first + 1) cs t d row.1 later in omega arith
+    ]
+
+-- what holds of each cell's item holds of all that are given
+all_items : {T : Type 0} (P : T → Type 0) (first : ℕ) (cs : List (Cell T)) → AreInRow first cs
+    → ((t : ℕ) (c : Cell T) → cell_of t cs ≡ Some c → P c.item)
+    → AllByRecursion (λ (p : ℕ × T). P p.1) (map ticket_and_item cs)
+all_items P first [] row each = tt
+all_items P first (c ∷ cs) row each = (
+  each c.ticket c (at_same c.ticket c.ticket (Some c) (cell_of c.ticket cs) refl),
+  all_items P (first + 1) cs row.1
+      (λ t d is.
+      elim (same_or_not c.ticket t) [
+        | inl same ↦ absurd (let low : first + 1 ≤ t = row_above (first + 1) cs t d row.1 is in omega (arith, row.0, same))
+        | inr other ↦ each t d (at_other c.ticket t (Some c) (cell_of t cs) other ∙ is)
+      ]),
+)
+
 -- The table of a ring at its end, where one pass, in no call, has all parts.
 pub record AtEnd {T : Type 0} (n f : ℕ) (v : Sight T no_note) (words : List ℕ) (places : List (Option T)) : Type 0 where
   pub id : ℕ
@@ -335,3 +363,22 @@ module _ {T : Type 0} {n f : ℕ} {v : Sight T no_note} {words : List ℕ} {plac
         cells = are r.queue.cells (subst L (sym (first_is_front first at)) lie_in)
             ∙ ap (λ (q : Queue T). map ticket_and_item q.cells) (sym left_is);
       }
+
+  pub all_admitted : (admits : T → Type 0) → AreAtHome admits end.fin.0.homes → (first : ℕ) (left : List (ℕ × T))
+      → get_elem? words FRONT ≡ maybe.some first
+      → ((cells : List (Cell T)) → LieIn places first n cells → left ≡ map ticket_and_item cells)
+      → AllByRecursion (λ (p : ℕ × T). admits p.1) left
+  all_admitted admits home first left at are =
+      let q : Queue T = end.fin.1.0.queue
+      in let L : ℕ → Type 0 = λ z. LieIn places z n q.cells
+      in let A : List (ℕ × T) → Type 0 = λ l. AllByRecursion (λ (p : ℕ × T). admits p.1) l
+      in subst A (sym (are q.cells (subst L (sym (first_is_front first at)) lie_in)))
+      (all_items admits q.front q.cells lie_in.in_row
+      (λ t c is.
+      let W : Mark → Type 0 =
+      λ m.
+      ShowsCell some_value no_value t (get_or end.fin.0.words (seq_of n t) 0) (get_elem? end.fin.0.homes (t % n)) c.item m
+      in let lies : (get_or end.fin.0.words (seq_of n t) 0 ≡ t + 1)
+      × (get_elem? end.fin.0.homes (t % n) ≡ maybe.some (maybe.some (Some c.item))) =
+      subst W (written t c is) (end.fin.1.0.shown.cells t c is)
+      in home (t % n) (Some c.item) lies.1))

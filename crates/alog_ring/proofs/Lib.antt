@@ -6,6 +6,7 @@ pub mod Looking
 pub mod Stepping
 pub mod Acting
 pub mod Steps
+pub mod Limits
 pub mod Places
 pub mod Calling
 pub mod Starting

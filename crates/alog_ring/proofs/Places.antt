@@ -2,7 +2,7 @@
 use Rattle.std.proofs.Common.{◌≡◌, ℕ, ◌+◌, ◌%◌, ◌<◌, eqb, Option, None, Some, List, [], ◌∷◌, refl, sym, subst, ◌∙◌}
 use mathlib.Core.Option.{some}
 use prog.Atomic.{either}
-use Rattle.atomic_table.specs.Table.{State, Me, step, Allows}
+use Rattle.atomic_table.specs.Table.{State, Me, step, carried_after, Allows}
 use Rattle.alog_core.specs.Queue.{last}
 use Rattle.alog_core.specs.History.{Entry}
 use Rattle.alog_ring.specs.declared.words.TheConstants.{NEXT, FRONT}
@@ -11,6 +11,8 @@ use Rattle.alog_ring.specs.Sight.{Stage, Idle, Fresh, Joined, SawNext, SawFree, 
 use Rattle.alog_ring.specs.Plays.{saw_next, saw_free, claimed, wrote, saw_front, saw_full, grabbed, took}
 use Rattle.alog_ring.specs.Seats.{was_named, saw_both, saw_all}
 use Rattle.alog_ring.specs.Rule.{seq_of, Ruled}
+use Rattle.alog_ring.specs.Limit.{AreHeld, Keeps}
+use Rattle.alog_ring.proofs.Limits.{allowed_in, weaker}
 use Rattle.alog_ring.proofs.Meeting.{names_itself, sees_both, sees_all}
 use Rattle.alog_ring.proofs.Stepping.{PlaceKind}
 use Rattle.alog_ring.proofs.Steps.{sees_next, sees_free, claims, writes, sees_front, sees_full, grabs, takes_out}
@@ -25,9 +27,17 @@ option_kind T = record {
   comes = λ n h x u y _. refl;
 }
 
-module _ {T : Type 0} (n f slots id : ℕ) (me : Me (Option T) (Sight T no_note)) where
+module _ {T : Type 0} (admits : T → Type 0) (n f slots id : ℕ) (me : Me (Option T) (Sight T no_note))
+    (in_hand : AreHeld admits me.1) where
   abbrev pub Ring : State (Option T) (Sight T no_note) → Type 0
-  Ring s = Ruled some_value no_value n f s
+  Ring s = Keeps admits n f s
+
+  -- a step of a ring whose values keep to no limit
+  kept_in : (i : ℕ) (g : ℕ → ℕ) (P : ℕ → Me (Option T) (Sight T no_note) → Type 0)
+      → Allows (λ s. Ruled some_value no_value n f s) slots id me i g P → Allows Ring slots id me i g P
+  kept_in i g P may s r wide at fits =
+      let go = allowed_in admits n f slots id me i g P in_hand may s r wide at fits
+      in (go.0, go.1, go.2, go.3, go.4.0)
 
   -- a play may be told in weaker words
   told_as : (i : ℕ) (g : ℕ → ℕ) (P Q : ℕ → Me (Option T) (Sight T no_note) → Type 0)
@@ -40,7 +50,8 @@ module _ {T : Type 0} (n f slots id : ℕ) (me : Me (Option T) (Sight T no_note)
   at_word i t g P is may = let A : ℕ → Type 0 = λ z. Allows Ring slots id me z g P in subst A (sym is) may
 
   pub see_next_may : me.0.stage ≡ Idle → Allows Ring slots id me NEXT (λ y. y) (λ y m. saw_next tt me y m)
-  see_next_may idle = sees_next (option_kind T) n f slots id me idle
+  see_next_may idle =
+      kept_in NEXT (λ y. y) (λ y m. saw_next tt me y m) (sees_next (option_kind T) n f slots id me idle)
 
   pub see_free_may : (i t : ℕ) → i ≡ seq_of n t → me.0.stage ≡ SawNext t
       → Allows Ring slots id me i (λ y. y) (λ y m. (u : ℕ) → me.0.stage ≡ SawNext u → saw_free tt u me y m)
@@ -50,12 +61,15 @@ module _ {T : Type 0} (n f slots id : ℕ) (me : Me (Option T) (Sight T no_note)
       (λ y m. (u : ℕ) → me.0.stage ≡ SawNext u → saw_free tt u me y m)
       (λ y m told u at. let both : ◌≡◌ {A = Stage T no_note} (SawNext t) (SawNext u) = sym stage
       ∙ at in let same : t ≡ u = cc in let P : ℕ → Type 0 = λ z. saw_free tt z me y m in subst P same told)
-      (sees_free (option_kind T) n f slots id me t stage))
+      (kept_in (seq_of n t) (λ y. y) (λ y m. saw_free tt t me y m) (sees_free (option_kind T) n f slots id me t stage)))
 
   pub claim_may : (t new : ℕ) (x : T) → me.0.stage ≡ SawFree t → new ≡ t + 1 → t < last
       → Allows Ring slots id me NEXT (λ y. either (eqb y t) new y)
       (λ y m. claimed tt some_value no_value (step slots NEXT t new (some (Some x))) me y m)
-  claim_may t new x stage next low = claims (option_kind T) n f slots id me t new x stage next low
+  claim_may t new x stage next low =
+      kept_in NEXT (λ y. either (eqb y t) new y)
+      (λ y m. claimed tt some_value no_value (step slots NEXT t new (some (Some x))) me y m)
+      (claims (option_kind T) n f slots id me t new x stage next low)
 
   pub write_may : (i t new : ℕ) (x : T) (more : List (ℕ × Option T)) → i ≡ seq_of n t → new ≡ t + 1
       → me.0.stage ≡ Writing t x → me.1 ≡ (t % n, Some x) ∷ more
@@ -69,10 +83,11 @@ module _ {T : Type 0} (n f slots id : ℕ) (me : Me (Option T) (Sight T no_note)
       (λ _ m. (u : ℕ) (z : T) → me.0.stage ≡ Writing u z → wrote tt u me m)
       (λ y m told u z at. let both : ◌≡◌ {A = Stage T no_note} (Writing t x) (Writing u z) = sym stage
       ∙ at in let same : t ≡ u = cc in let P : ℕ → Type 0 = λ k. wrote tt k me m in subst P same told)
-      (writes (option_kind T) n f slots id me t x more stage has)))
+      (kept_in (seq_of n t) (λ _. t + 1) (λ _ m. wrote tt t me m) (writes (option_kind T) n f slots id me t x more stage has))))
 
   pub see_front_may : me.0.stage ≡ Idle → Allows Ring slots id me FRONT (λ y. y) (λ y m. saw_front me y m)
-  see_front_may idle = sees_front (option_kind T) n f slots id me idle
+  see_front_may idle =
+      kept_in FRONT (λ y. y) (λ y m. saw_front me y m) (sees_front (option_kind T) n f slots id me idle)
 
   pub see_full_may : (i t : ℕ) → i ≡ seq_of n t → me.0.stage ≡ SawFront t
       → Allows Ring slots id me i (λ y. y) (λ y m. (u : ℕ) → me.0.stage ≡ SawFront u → saw_full tt u me y m)
@@ -82,12 +97,19 @@ module _ {T : Type 0} (n f slots id : ℕ) (me : Me (Option T) (Sight T no_note)
       (λ y m. (u : ℕ) → me.0.stage ≡ SawFront u → saw_full tt u me y m)
       (λ y m told u at. let both : ◌≡◌ {A = Stage T no_note} (SawFront t) (SawFront u) = sym stage
       ∙ at in let same : t ≡ u = cc in let P : ℕ → Type 0 = λ z. saw_full tt z me y m in subst P same told)
-      (sees_full (option_kind T) n f slots id me t stage))
+      (kept_in (seq_of n t) (λ y. y) (λ y m. saw_full tt t me y m) (sees_full (option_kind T) n f slots id me t stage)))
 
-  pub grab_may : (t new : ℕ) (said : Option T) → me.0.stage ≡ SawFull t → new ≡ t + 1
+  -- what is grabbed is admitted, and so by a weaker limit
+  pub grab_may : (t new : ℕ) (said : Option T) (more : T → Type 0) → ((x : T) → admits x → more x)
+      → me.0.stage ≡ SawFull t → new ≡ t + 1
       → Allows Ring slots id me FRONT (λ y. either (eqb y t) new y)
-      (λ y m. grabbed tt some_value (step slots FRONT t new (some said)) me y m)
-  grab_may t new said stage next = grabs (option_kind T) n f slots id me t new (some said) stage next
+      (λ y m. grabbed tt some_value (step slots FRONT t new (some said)) me y m × AreHeld more m.1)
+  grab_may t new said more is stage next s r wide at fits =
+      let go =
+      allowed_in admits n f slots id me FRONT (λ y. either (eqb y t) new y)
+      (λ y m. grabbed tt some_value (step slots FRONT t new (some said)) me y m) in_hand
+      (grabs (option_kind T) n f slots id me t new (some said) stage next) s r wide at fits
+      in (go.0, go.1, go.2, go.3, (go.4.0, weaker admits more is (carried_after me.1 go.1) go.4.1))
 
   pub take_may : (i t new : ℕ) (x : T) (more : List (ℕ × Option T)) → i ≡ seq_of n t → new ≡ t + n
       → me.0.stage ≡ Reading t x → me.1 ≡ (t % n, None) ∷ more
@@ -106,24 +128,30 @@ module _ {T : Type 0} (n f slots id : ℕ) (me : Me (Option T) (Sight T no_note)
       in let P : ℕ → Type 0 = λ k. took tt k x me m
       in let Q : T → Type 0 = λ k. took tt u k me m
       in subst Q item (subst P same told))
-      (takes_out (option_kind T) n f slots id me tt t x more stage has)))
+      (kept_in (seq_of n t) (λ _. t + n) (λ _ m. took tt t x me m) (takes_out (option_kind T) n f slots id me tt t x more stage has))))
 
-module _ {T : Type 0} (n f slots id : ℕ) (me : Me (Option T) (Sight T no_note)) where
+module _ {T : Type 0} (admits : T → Type 0) (n f slots id : ℕ) (me : Me (Option T) (Sight T no_note))
+    (in_hand : AreHeld admits me.1) where
   pub name_may : 0 < me.0.known.parts → me.0.stage ≡ Fresh → me.0.known.own ≡ [] → me.0.known.joined ≡ []
-      → Allows (λ s. Ruled some_value no_value n f s) slots id me NEXT (λ y. y) (λ y m. was_named me m)
-  name_may live fresh none alone = names_itself (option_kind T) n f slots id me live fresh none alone
+      → Allows (Keeps admits n f) slots id me NEXT (λ y. y) (λ y m. was_named me m)
+  name_may live fresh none alone =
+      kept_in admits n f slots id me in_hand NEXT (λ y. y) (λ y m. was_named me m)
+      (names_itself (option_kind T) n f slots id me live fresh none alone)
 
   pub see_both_may : (t : List (Entry T no_note)) → 0 < me.0.known.parts → me.0.stage ≡ Joined t
-      → Allows (λ s. Ruled some_value no_value n f s) slots id me NEXT (λ y. y)
+      → Allows (Keeps admits n f) slots id me NEXT (λ y. y)
       (λ y m. (u : List (Entry T no_note)) → me.0.stage ≡ Joined u → saw_both u me m)
   see_both_may t live stage =
-      told_as n f slots id me NEXT (λ y. y) (λ y m. saw_both t me m)
+      told_as admits n f slots id me in_hand NEXT (λ y. y) (λ y m. saw_both t me m)
       (λ y m. (u : List (Entry T no_note)) → me.0.stage ≡ Joined u → saw_both u me m)
       (λ y m told u at. let both : ◌≡◌ {A = Stage T no_note} (Joined t) (Joined u) = sym stage
       ∙ at in let same : t ≡ u = cc in let P : List (Entry T no_note) → Type 0 =
       λ z. saw_both z me m in subst P same told)
-      (sees_both (option_kind T) n f slots id me live t stage)
+      (kept_in admits n f slots id me in_hand NEXT (λ y. y) (λ y m. saw_both t me m)
+      (sees_both (option_kind T) n f slots id me live t stage))
 
   pub see_all_may : 0 < me.0.known.parts → me.0.stage ≡ Idle
-      → Allows (λ s. Ruled some_value no_value n f s) slots id me NEXT (λ y. y) (λ y m. saw_all me m)
-  see_all_may live idle = sees_all (option_kind T) n f slots id me live idle
+      → Allows (Keeps admits n f) slots id me NEXT (λ y. y) (λ y m. saw_all me m)
+  see_all_may live idle =
+      kept_in admits n f slots id me in_hand NEXT (λ y. y) (λ y m. saw_all me m)
+      (sees_all (option_kind T) n f slots id me live idle)

@@ -34,11 +34,12 @@ abbrev pub AreDistinct : {T N : Type 0} → List (Member T N) → Type 0
 AreDistinct [] = Unit {0}
 AreDistinct (c ∷ cs) = ¬ IsAmong c.actor cs × AreDistinct cs
 
--- Which ring it is: its table, its number of places, and its first ticket.
-pub record RingId : Type 0 where
+-- Which ring it is: its table, its number of places, its first ticket, and what its values keep to.
+pub record RingId (L : Type 0) : Type 0 where
   pub table : TableId
   pub places : ℕ
   pub first : ℕ
+  pub limit : L
 
 -- what clauses see of a pass
 pub record PassView (T N : Type 0) : Type 0 where
@@ -46,7 +47,7 @@ pub record PassView (T N : Type 0) : Type 0 where
   pub known : Known T N
 
 -- the pass belongs to the ring
-pub record IsPassOf {T N : Type 0} (r : RingId) (p : PassView T N) : Type 0 where
+pub record IsPassOf {T N L : Type 0} (r : RingId L) (p : PassView T N) : Type 0 where
   pub table : p.table ≡ r.table
   pub places : p.known.places ≡ r.places
   pub first : p.known.first ≡ r.first

@@ -9,4 +9,5 @@ pub mod Sight
 pub mod Plays
 pub mod Seats
 pub mod Rule
+pub mod Limit
 pub mod Board

@@ -8,7 +8,8 @@ ghost use Rattle.alog_ring.specs.Plays.{saw_next, saw_free, saw_front, saw_full,
 ghost use Rattle.alog_ring.specs.Rule.{word_count};
 ghost use Rattle.alog_ring.specs.Board.{AreFirstWords, Masks, Fills, Empties};
 
-use crate::plays::{Claims, Grabs, SeeFree, SeeFront, SeeFull, SeeNext, Takes, Writes};
+use crate::limit::Limit;
+use crate::plays::{Admits, Claims, Grabs, SeeFree, SeeFront, SeeFull, SeeNext, Takes, Writes};
 use crate::view::{Law, Shape, View};
 use crate::words::{APART, FRONT, NEXT, SEQUENCES};
 use atomic_table::{Seat, Table};
@@ -17,8 +18,8 @@ use std::alloc::{AllocError, Global};
 /// A place of the board, and what it waits for: a sequence that is the ticket means that the place is free for the
 /// ticket, one more that its item is written there.
 #[derive(Drop)]
-pub(crate) struct Board<T> {
-    pub(crate) table: Table<Option<T>, View<T, ()>, Shape, Law, Global>,
+pub(crate) struct Board<T, L: Limit<T>> {
+    pub(crate) table: Table<Option<T>, View<T, ()>, Shape<L>, Law, Global>,
     pub(crate) mask: u64,
     ghost sized: { (table.shared.table_id.words ≡ word_count (mask + 1)) × (table.shared.table_id.slots ≡ mask + 1)
         × (table.shared.key.places ≡ mask + 1) × (mask < MOST_PLACES) × Masks mask },
@@ -39,21 +40,26 @@ fn first_words(alloc: Global, places: usize, first: u64) -> Result<Vec<u64>, All
     Ok(words)
 }
 
-impl<T> Board<T> {
+impl<T, L: Limit<T>> Board<T, L> {
     pub(crate) fn new(
         alloc: Global,
         places: usize,
         first: u64,
-    ) -> Result<(Board<T>, Seat<Option<T>, View<T, ()>>), AllocError>
+        limit: L,
+    ) -> Result<(Board<T, L>, Seat<Option<T>, View<T, ()>>), AllocError>
+    where
+        L: Drop,
         requires size { is_size places ≡ true }
         requires first { first < last }
-        ensures board { IfOk result (λ r. (r.0.mask + 1 ≡ places) × (r.0.table.shared.key.first ≡ first)) }
+        ensures board { IfOk result (λ r. (r.0.mask + 1 ≡ places) × (r.0.table.shared.key.first ≡ first)
+            × (r.0.table.shared.key.limit ≡ limit)) }
         ensures seat { IfOk result (λ r. (r.1.table_id ≡ r.0.table.shared.table_id) × (r.1.me ≡ (first_sight places first, []))) }
     {
         let words = first_words(alloc, places, first)?;
         let shape = Shape {
             places: places as u64,
             first,
+            limit,
         };
         let (table, seat) = Table::vacant(alloc, words.as_slice(), places, &shape)?;
         let mask = places as u64 - 1;
@@ -71,6 +77,7 @@ impl<T> Board<T> {
     pub(crate) fn see_next(&self, seat: &mut Seat<Option<T>, View<T, ()>>) -> u64
         requires table { seat.old.table_id ≡ self.now.table.shared.table_id }
         requires stage { seat.old.me.0.stage ≡ Idle }
+        requires home { seat.old.me.1 ≡ [] }
         ensures table { seat.new.table_id ≡ seat.old.table_id }
         ensures next { saw_next tt seat.old.me result seat.new.me }
     {
@@ -80,6 +87,7 @@ impl<T> Board<T> {
     pub(crate) fn see_free(&self, seat: &mut Seat<Option<T>, View<T, ()>>, ticket: u64) -> u64
         requires table { seat.old.table_id ≡ self.now.table.shared.table_id }
         requires stage { seat.old.me.0.stage ≡ SawNext ticket }
+        requires home { seat.old.me.1 ≡ [] }
         ensures table { seat.new.table_id ≡ seat.old.table_id }
         ensures sequence { saw_free tt ticket seat.old.me result seat.new.me }
     {
@@ -97,7 +105,9 @@ impl<T> Board<T> {
     ) -> Result<(), T>
         requires table { seat.old.table_id ≡ self.now.table.shared.table_id }
         requires stage { seat.old.me.0.stage ≡ SawFree ticket }
+        requires home { seat.old.me.1 ≡ [] }
         requires below { ticket < last }
+        requires admitted { L.admits self.now.table.shared.key.limit value }
         ensures table { seat.new.table_id ≡ seat.old.table_id }
         ensures told { MatchResult result (λ _. Fills seat.old.me seat.new.me ticket value)
             (λ back. (back ≡ value) × Ends tt seat.old.me seat.new.me (PushBusy ticket)) }
@@ -120,6 +130,7 @@ impl<T> Board<T> {
     pub(crate) fn see_front(&self, seat: &mut Seat<Option<T>, View<T, ()>>) -> u64
         requires table { seat.old.table_id ≡ self.now.table.shared.table_id }
         requires stage { seat.old.me.0.stage ≡ Idle }
+        requires home { seat.old.me.1 ≡ [] }
         ensures table { seat.new.table_id ≡ seat.old.table_id }
         ensures front { saw_front seat.old.me result seat.new.me }
     {
@@ -129,6 +140,7 @@ impl<T> Board<T> {
     pub(crate) fn see_full(&self, seat: &mut Seat<Option<T>, View<T, ()>>, ticket: u64) -> u64
         requires table { seat.old.table_id ≡ self.now.table.shared.table_id }
         requires stage { seat.old.me.0.stage ≡ SawFront ticket }
+        requires home { seat.old.me.1 ≡ [] }
         ensures table { seat.new.table_id ≡ seat.old.table_id }
         ensures sequence { saw_full tt ticket seat.old.me result seat.new.me }
     {
@@ -138,22 +150,30 @@ impl<T> Board<T> {
 
     /// Grabs the ticket, takes the value out of its place, and gives the place back for the ticket a lap later. Or
     /// answers None, where another has grabbed the ticket.
-    pub(crate) fn grab_and_empty(
+    pub(crate) fn grab_and_empty<A: Admits<T>>(
         &self,
         seat: &mut Seat<Option<T>, View<T, ()>>,
         ticket: u64,
     ) -> Option<T>
         requires table { seat.old.table_id ≡ self.now.table.shared.table_id }
         requires stage { seat.old.me.0.stage ≡ SawFull ticket }
+        requires home { seat.old.me.1 ≡ [] }
         requires below { ticket ≤ last }
+        requires admitted { (x : T) → L.admits self.now.table.shared.key.limit x → A.admits x }
         ensures table { seat.new.table_id ≡ seat.old.table_id }
         ensures told { MatchOption result (Ends tt seat.old.me seat.new.me (PopBusy ticket))
-            (λ x. Empties seat.old.me seat.new.me ticket x) }
+            (λ x. Empties seat.old.me seat.new.me ticket x × A.admits x) }
     {
         let words = &self.table.shared;
         let place = self.place_of(ticket);
         let nothing: Option<T> = None;
-        let found = words.compare_exchange_with::<Grabs>(seat, FRONT, ticket, ticket + 1, &nothing);
+        let found = words.compare_exchange_with::<Grabs<A>>(
+            seat,
+            FRONT,
+            ticket,
+            ticket + 1,
+            &nothing,
+        );
         if found != ticket {
             return nothing;
         }

@@ -1,5 +1,6 @@
 //! The end of a ring.
 ghost use Rattle.std.specs.Prelude.{◌≡◌, ◌+◌, ◌<◌, ◌≤◌, ◌↔◌, [], List, map, IsOk, IfOk, IfErr, vec_capacity};
+ghost use Rattle.std.specs.List.{AllByRecursion};
 ghost use Rattle.std.specs.Mem.Slots.{slots_items, slots_len, IsFull};
 ghost use Rattle.alog_core.specs.Queue.{Cell, last};
 ghost use Rattle.alog_core.specs.declared.TheConstants.{MOST_PLACES};
@@ -10,6 +11,7 @@ ghost use Rattle.alog_ring.specs.Board.{Leaves, LieIn, Masks};
 
 use crate::ALL_PARTS;
 use crate::board::Board;
+use crate::limit::{Limit, NoLimit};
 use crate::pass::Pass;
 use crate::ring::Ring;
 use crate::view::View;
@@ -22,8 +24,8 @@ use thiserror::Error;
 /// A ring was not closed, since the pass has not all parts. Ring and pass come back. The test `a_ring_of_two` shows it.
 #[derive(Debug, Drop, Error)]
 #[error("not all passes are here")]
-pub struct PassesOut<T> {
-    pub ring: Ring<T>,
+pub struct PassesOut<T, L: Limit<T> = NoLimit> {
+    pub ring: Ring<T, L>,
     pub pass: Pass<T>,
 }
 
@@ -50,13 +52,14 @@ fn take_out<T>(
     left
 }
 
-impl<T> Board<T> {
+impl<T, L: Limit<T>> Board<T, L> {
     fn close(self, seat: Seat<Option<T>, View<T, ()>>, left: Vec<(u64, T)>) -> Vec<(u64, T)>
         requires table { seat.table_id ≡ self.table.shared.table_id }
         requires stage { seat.me.0.stage ≡ Idle }
         requires all { seat.me.0.known.parts ≡ ALL_PARTS }
         requires room { (left.items ≡ []) × (self.mask + 1 ≤ vec_capacity left) }
-        ensures { Leaves seat.me.0.known result.items }
+        ensures left { Leaves seat.me.0.known result.items }
+        ensures limit { AllByRecursion (λ p. L.admits self.table.shared.key.limit p.1) result.items }
     {
         let Board { table, mask } = self;
         let closed = table.close_with(seat);
@@ -65,16 +68,17 @@ impl<T> Board<T> {
     }
 }
 
-impl<T> Ring<T> {
+impl<T, L: Limit<T>> Ring<T, L> {
     /// Ends the ring, where the pass has all parts, and answers what is left in it: each value with its ticket, in ticket
     /// order. It takes no memory.
     ///
     /// The history that the pass has seen is the whole one then, and what it leaves is what is answered. The test
     /// `a_lone_pass_closes_what_it_made` shows it.
-    pub fn close(self, pass: Pass<T>) -> Result<Vec<(u64, T)>, PassesOut<T>>
+    pub fn close(self, pass: Pass<T>) -> Result<Vec<(u64, T)>, PassesOut<T, L>>
         requires { IsPassOf self pass }
         ensures parts { IsOk result ↔ (pass.known.parts ≡ ALL_PARTS) }
         ensures left { IfOk result (λ v. Closes pass.known v.items) }
+        ensures limit { IfOk result (λ v. AllByRecursion (λ p. L.admits self.limit p.1) v.items) }
         ensures out { IfErr result (λ e. (e.ring ≡ self) × (e.pass ≡ pass)) }
     {
         if pass.parts != ALL_PARTS {
@@ -86,7 +90,7 @@ impl<T> Ring<T> {
     }
 }
 
-impl<T> fmt::Debug for Ring<T> {
+impl<T, L: Limit<T>> fmt::Debug for Ring<T, L> {
     fn fmt<W: fmt::Write>(&self, f: &mut fmt::Formatter<W>) -> fmt::Result {
         f.pad("Ring { .. }")
     }

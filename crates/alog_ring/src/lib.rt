@@ -14,6 +14,7 @@
 
 mod board;
 mod close;
+mod limit;
 mod pass;
 mod plays;
 mod pop;
@@ -27,6 +28,7 @@ mod wait;
 mod words;
 
 pub use close::PassesOut;
+pub use limit::{Limit, NoLimit};
 pub use pass::Pass;
 pub use pop::PopError;
 pub use push::PushError;

@@ -1,5 +1,6 @@
 //! What each step tells. These types are for the proofs alone.
 ghost use Rattle.std.specs.Prelude.{◌≡◌, ℕ, List};
+ghost use Rattle.alog_ring.specs.Limit.{AreHeld};
 ghost use Rattle.alog_core.specs.History.{Entry};
 ghost use Rattle.alog_ring.specs.Kinds.{no_note, some_value, no_value};
 ghost use Rattle.alog_ring.specs.Sight.{SawNext, SawFront, Writing, Reading, Joined};
@@ -46,10 +47,21 @@ impl<T> Play<Option<T>, View<T, ()>> for SeeFull {
     ghost then = { λ s m r n. (t : ℕ) → m.0.stage ≡ SawFront t → saw_full tt t m r n };
 }
 
-pub struct Grabs;
+/// What the values of the ring keep to. Each call picks it.
+pub trait Admits<T> {
+    ghost admits: { T → Type 0 };
+}
 
-impl<T> Play<Option<T>, View<T, ()>> for Grabs {
-    ghost then = { grabbed tt some_value };
+impl<T> Admits<T> for Brand {
+    ghost admits = { λ x. Unit {0} };
+}
+
+pub struct Grabs<A> {
+    admitted: PhantomData<A>,
+}
+
+impl<T, A: Admits<T>> Play<Option<T>, View<T, ()>> for Grabs<A> {
+    ghost then = { λ s m r n. grabbed tt some_value s m r n × AreHeld A.admits n.1 };
 }
 
 pub struct Takes;

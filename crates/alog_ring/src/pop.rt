@@ -4,8 +4,10 @@ ghost use Rattle.alog_ring.specs.Known.{IsPassOf};
 ghost use Rattle.alog_ring.specs.Calls.{Popped};
 ghost use Rattle.alog_ring.specs.Refused.{PopRefused};
 
+use crate::limit::Limit;
 use crate::pass::Pass;
 use crate::ring::Ring;
+use std::marker::Brand;
 use thiserror::Error;
 
 /// Why a pop did not go through. The test `the_last_ticket_of_all` shows it.
@@ -19,7 +21,7 @@ pub enum PopError {
     Busy { seen: u64 },
 }
 
-impl<T> Ring<T> {
+impl<T, L: Limit<T>> Ring<T, L> {
     /// Takes the front value out of the ring if that goes at once, and answers it with its ticket.
     ///
     /// It is one round of a pop: it reads the front ticket, looks whether it is written, and grabs it. It never waits, so
@@ -29,6 +31,7 @@ impl<T> Ring<T> {
         requires { IsPassOf self.now pass.old }
         ensures ring { IsPassOf self.now pass.new }
         ensures popped { IfOk result (λ r. Popped pass.old.known pass.new.known r.0 r.1) }
+        ensures limit { IfOk result (λ r. L.admits self.now.limit r.1) }
         ensures refused { IfErr result (λ e. PopRefused pass.old.known pass.new.known e) }
     {
         let seat = &mut pass.seat;
@@ -40,7 +43,7 @@ impl<T> Ring<T> {
         if sequence > next + 1 {
             return Err(PopError::Busy { seen: next });
         }
-        match self.board.grab_and_empty(seat, next) {
+        match self.board.grab_and_empty::<Brand>(seat, next) {
             Some(value) => Ok((next, value)),
             None => Err(PopError::Busy { seen: next }),
         }

@@ -4,6 +4,7 @@ ghost use Rattle.alog_ring.specs.Known.{IsPassOf};
 ghost use Rattle.alog_ring.specs.Calls.{Pushed};
 ghost use Rattle.alog_ring.specs.Refused.{PushRefused};
 
+use crate::limit::Limit;
 use crate::pass::Pass;
 use crate::ring::Ring;
 use alog_core::LAST_TICKET;
@@ -23,14 +24,15 @@ pub enum PushError<T> {
     Spent { value: T },
 }
 
-impl<T> Ring<T> {
+impl<T, L: Limit<T>> Ring<T, L> {
     /// Puts the value into the ring if that goes at once, and answers its ticket.
     ///
     /// It is one round of a push: it reads the next ticket, looks whether its place is free, and claims it. It never
     /// waits, so it is for a caller that has something else to do where another push was faster (`Busy`): `push` begins
     /// again there. The test `a_ring_of_two` shows it.
     pub fn push_once(&self, pass: &mut Pass<T>, value: T) -> Result<u64, PushError<T>>
-        requires { IsPassOf self.now pass.old }
+        requires ring { IsPassOf self.now pass.old }
+        requires limit { L.admits self.now.limit value }
         ensures ring { IsPassOf self.now pass.new }
         ensures pushed { IfOk result (λ t. Pushed pass.old.known pass.new.known t value) }
         ensures refused { IfErr result (λ e. PushRefused pass.old.known pass.new.known value e) }

@@ -6,6 +6,7 @@ ghost use Rattle.alog_ring.specs.Known.{first_known, IsPassOf};
 
 use crate::ALL_PARTS;
 use crate::board::Board;
+use crate::limit::{Limit, NoLimit};
 use crate::pass::Pass;
 use alog_core::{LAST_TICKET, is_size};
 use std::alloc::Global;
@@ -25,23 +26,26 @@ pub enum NewError {
 
 /// A bounded queue by which any number of threads hand values to each other. The tests `two_threads_share_a_ring` and
 /// `a_ring_of_two` show its use.
+///
+/// Its values may keep to a limit, which is fixed when it is made.
 #[derive(Drop)]
-pub struct Ring<T> {
-    pub(crate) board: Board<T>,
+pub struct Ring<T, L: Limit<T> = NoLimit> {
+    pub(crate) board: Board<T, L>,
     // Room for what `close` answers.
     pub(crate) left: Vec<(u64, T)>,
 }
 
-impl<T> Model for Ring<T> {
+impl<T, L: Limit<T>> Model for Ring<T, L> {
     ghost use Rattle.std.specs.Prelude.{◌≡◌, ◌+◌, ◌≤◌, [], vec_capacity};
     ghost use Rattle.alog_ring.specs.Known.{RingId};
 
-    ghost Value = { RingId };
+    ghost Value = { RingId L };
 
     ghost view = { λ r. record {
       table = r.board.table.shared.table_id;
       places = r.board.mask + 1;
       first = r.board.table.shared.key.first;
+      limit = r.board.table.shared.key.limit;
     } };
 
     ghost invariant = { λ r. (r.left.items ≡ []) × (r.board.mask + 1 ≤ vec_capacity r.left) };
@@ -59,6 +63,24 @@ impl<T> Ring<T> {
         ensures ring { IfOk result (λ r. IsPassOf r.0 r.1) }
         ensures first { IfOk result (λ r. r.1.known ≡ first_known places first) }
     {
+        Ring::limited(alloc, places, first, NoLimit)
+    }
+}
+
+impl<T, L: Limit<T> + Drop> Ring<T, L> {
+    /// Makes a ring as `new` does, whose values keep to this limit. The test `a_ring_of_small_numbers` shows it.
+    pub fn limited(
+        alloc: Global,
+        places: usize,
+        first: u64,
+        limit: L,
+    ) -> Result<(Ring<T, L>, Pass<T>), NewError>
+        ensures bad_size { IsErrOf result NewError.BadSize ↔ (is_size places ≡ false) }
+        ensures bad_first { IsErrOf result NewError.BadFirst ↔ ((is_size places ≡ true) × (last ≤ first)) }
+        ensures shape { IfOk result (λ r. (r.0.places ≡ places) × (r.0.first ≡ first) × (r.0.limit ≡ limit)) }
+        ensures ring { IfOk result (λ r. IsPassOf r.0 r.1) }
+        ensures first { IfOk result (λ r. r.1.known ≡ first_known places first) }
+    {
         if !is_size(places) {
             return Err(NewError::BadSize);
         }
@@ -68,7 +90,7 @@ impl<T> Ring<T> {
         let Ok(left) = Vec::with_capacity(alloc, places) else {
             return Err(NewError::OutOfMemory);
         };
-        match Board::new(alloc, places, first) {
+        match Board::new(alloc, places, first, limit) {
             Ok((board, seat)) => Ok((
                 Ring { board, left },
                 Pass {

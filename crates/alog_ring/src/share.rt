@@ -8,6 +8,7 @@ ghost use Rattle.alog_ring.specs.Seats.{kept_part, lent_note, taking_in, reading
 
 use crate::ALL_PARTS;
 use crate::board::Board;
+use crate::limit::Limit;
 use crate::pass::Pass;
 use crate::plays::{Amount, Cut, Lend, Names, ReadNote, SeeAll, SeeBoth, TakeIn};
 use crate::ring::Ring;
@@ -16,7 +17,7 @@ use crate::words::NEXT;
 use atomic_table::Seat;
 use std::marker::Brand;
 
-impl<T> Board<T> {
+impl<T, L: Limit<T>> Board<T, L> {
     /// Gives `parts` parts of the seat away, to a new pass.
     fn cut<A: Amount>(&self, seat: &mut Seat<Option<T>, View<T, ()>>, parts: u64) -> Pass<T>
         requires amount { parts ≡ A.parts }
@@ -40,7 +41,7 @@ impl<T> Board<T> {
         requires table { (seat.old.table_id ≡ self.now.table.shared.table_id) × (other.table_id ≡ self.now.table.shared.table_id) }
         requires stage { (seat.old.me.0.stage ≡ Idle) × (other.me.0.stage ≡ Idle) }
         requires some { (0 < seat.old.me.0.known.parts) × (0 < other.me.0.known.parts) }
-        requires home { other.me.1 ≡ [] }
+        requires home { (seat.old.me.1 ≡ []) × (other.me.1 ≡ []) }
         ensures table { seat.new.table_id ≡ seat.old.table_id }
         ensures both { saw_both other.me.0.known.seen (taking_in seat.old.me.0 other.me.0, seat.old.me.1) seat.new.me }
     {
@@ -53,6 +54,7 @@ impl<T> Board<T> {
         requires table { (from.old.table_id ≡ self.now.table.shared.table_id) × (to.old.table_id ≡ self.now.table.shared.table_id) }
         requires stage { (from.old.me.0.stage ≡ Idle) × (to.old.me.0.stage ≡ Idle) }
         requires some { (0 < from.old.me.0.known.parts) × (0 < to.old.me.0.known.parts) }
+        requires home { to.old.me.1 ≡ [] }
         ensures table { (from.new.table_id ≡ from.old.table_id) × (to.new.table_id ≡ to.old.table_id) }
         ensures from { from.new.me ≡ (kept_part 0 from.old.me.0, from.old.me.1) }
         ensures to { saw_both from.old.me.0.known.seen (reading_note to.old.me.0 (lent_note from.old.me.0), to.old.me.1) to.new.me }
@@ -67,6 +69,7 @@ impl<T> Board<T> {
         requires table { seat.old.table_id ≡ self.now.table.shared.table_id }
         requires stage { seat.old.me.0.stage ≡ Idle }
         requires some { 0 < seat.old.me.0.known.parts }
+        requires home { seat.old.me.1 ≡ [] }
         ensures table { seat.new.table_id ≡ seat.old.table_id }
         ensures all { saw_all seat.old.me seat.new.me }
     {
@@ -74,7 +77,7 @@ impl<T> Board<T> {
     }
 }
 
-impl<T> Ring<T> {
+impl<T, L: Limit<T>> Ring<T, L> {
     /// Gives one more thread a pass: it gets `parts` of this one's parts, at least one and not all.
     ///
     /// The new pass has seen what this one has seen, and made nothing. The test `two_threads_share_a_ring` shows it.

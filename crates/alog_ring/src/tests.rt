@@ -1,4 +1,4 @@
-ghost use Rattle.std.specs.Prelude.{◌≡◌, [], ◌∷◌, IfSome};
+ghost use Rattle.std.specs.Prelude.{◌≡◌, ◌<◌, [], ◌∷◌, IfSome};
 ghost use Rattle.alog_ring.specs.Known.{IsPassOf};
 
 use super::*;
@@ -376,5 +376,39 @@ fn lists_go_from_thread_to_thread(rt: HostRuntime) -> Result<(), Fail> {
     );
     assert!(rt; pushed.is_ok());
     assert!(rt; popped?.as_slice().iter().copied().eq(0..1000));
+    Ok(())
+}
+
+// Numbers of one digit.
+#[derive(Clone, Copy, Drop)]
+struct Small;
+
+impl Limit<u64> for Small {
+    ghost use Rattle.std.specs.Prelude.{◌<◌};
+
+    ghost admits = { λ limit x. x < 10 };
+}
+
+// What is brought keeps to the limit, and so does what comes out.
+fn through(ring: &Ring<u64, Small>, pass: &mut Pass<u64>, value: u64) -> Option<u64>
+    requires ring { IsPassOf ring.now pass.old }
+    requires small { value < 10 }
+    ensures ring { IsPassOf ring.now pass.new }
+    ensures small { IfSome result (λ x. x < 10) }
+{
+    let _ = ring.push_once(pass, value);
+    ring.pop_once(pass).ok().map(|(_, out)| out)
+}
+
+#[test]
+fn a_ring_of_small_numbers(rt: HostRuntime) -> Result<(), Fail> {
+    let (ring, mut pass) = Ring::limited(rt.alloc(), 2, 0, Small)?;
+    assert_eq!(rt; through(&ring, &mut pass, 9), Some(9));
+    assert!(rt; ring.push_once(&mut pass, 3).is_ok());
+    let left = match ring.close(pass) {
+        Ok(left) => left,
+        Err(_) => panic!(rt; "no pass is out"),
+    };
+    assert_eq!(rt; left.as_slice(), [(1, 3)].as_slice());
     Ok(())
 }

@@ -3,6 +3,7 @@ ghost use Rattle.std.specs.Prelude.{◌≡◌, IfOk, IfErr};
 ghost use Rattle.alog_ring.specs.Known.{IsPassOf};
 ghost use Rattle.alog_ring.specs.Waits.{PushedAtLast, PushRefusedAtLast, PoppedAtLast, PopRefusedAtLast};
 
+use crate::limit::Limit;
 use crate::pass::Pass;
 use crate::pop::PopError;
 use crate::push::PushError;
@@ -20,7 +21,7 @@ fn give_way(backoff: &Backoff) {
     }
 }
 
-impl<T> Ring<T> {
+impl<T, L: Limit<T>> Ring<T, L> {
     /// Puts the value into the ring whatever other pushes do, and answers its ticket. It is what a thread calls that has
     /// nothing else to do.
     ///
@@ -33,7 +34,8 @@ impl<T> Ring<T> {
         pass: &mut Pass<T>,
         mut value: T,
     ) -> Result<u64, PushError<T>>
-        requires { IsPassOf self.now pass.old }
+        requires ring { IsPassOf self.now pass.old }
+        requires limit { L.admits self.now.limit value }
         ensures ring { IsPassOf self.now pass.new }
         ensures pushed { IfOk result (λ t. PushedAtLast pass.old.known pass.new.known t value) }
         ensures refused { IfErr result (λ e. PushRefusedAtLast pass.old.known pass.new.known value e) }
@@ -64,6 +66,7 @@ impl<T> Ring<T> {
         requires { IsPassOf self.now pass.old }
         ensures ring { IsPassOf self.now pass.new }
         ensures popped { IfOk result (λ r. PoppedAtLast pass.old.known pass.new.known r.0 r.1) }
+        ensures limit { IfOk result (λ r. L.admits self.now.limit r.1) }
         ensures refused { IfErr result (λ e. PopRefusedAtLast pass.old.known pass.new.known e) }
     {
         let backoff = Backoff::new();

@@ -131,5 +131,5 @@ loop-progress-init g c =
     record {
       value = refl;
       posting = posting_begins o.did o.is_fit g.met.O.Outlet.together (without_waiting c.args.policy) (o.shows c.args.value) c.args.value
-          c.args.outlet.now c.new-progress.result (c.new-progress.ensures ∙ ap begun c.without_waiting.ensures) c.requires;
+          c.args.outlet.now c.new-progress.result (c.new-progress.ensures ∙ ap begun c.without_waiting.ensures) c.requires.fit;
     }

@@ -16,7 +16,7 @@ loop-init g c =
     record {
       value = refl;
       posting = posting_begins o.did o.is_fit g.met.O.Outlet.together Block (o.shows c.args.value) c.args.value
-          c.args.outlet.now (begun Block) refl c.requires;
+          c.args.outlet.now (begun Block) refl c.requires.fit;
     }
 
 pub returns-in-Ok-clause-post : goal.returns-in-Ok-clause-post

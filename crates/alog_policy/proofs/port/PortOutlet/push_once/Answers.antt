@@ -4,13 +4,13 @@ use Rattle.alog_policy.proofs.port.PortOutlet.push_once.Goals as goal
 
 pub returns-clause-pushed : goal.returns-clause-pushed
 returns-clause-pushed g c =
-    push_done c.args.self.now _ c.requires refl refl refl refl c.push_once.ensures.ring refl c.args.value c.push_once.result
+    push_done c.args.self.now _ c.requires.fit refl refl refl refl c.push_once.ensures.ring refl c.args.value c.push_once.result
     c.push_once.ensures.pushed
 
 pub returns-clause-refused : goal.returns-clause-refused
 returns-clause-refused g c =
-    push_refused c.args.self.now _ c.requires refl refl refl refl c.push_once.ensures.ring refl c.args.value c.push_once.result
+    push_refused c.args.self.now _ c.requires.fit refl refl refl refl c.push_once.ensures.ring refl c.args.value c.push_once.result
     c.push_once.ensures.refused
 
 pub returns-clause-fit : goal.returns-clause-fit
-returns-clause-fit g c = push_fits c.args.self.now _ c.requires c.args.value c.push_once.result (returns-clause-pushed g c)
+returns-clause-fit g c = push_fits c.args.self.now _ c.requires.fit c.args.value c.push_once.result (returns-clause-pushed g c)

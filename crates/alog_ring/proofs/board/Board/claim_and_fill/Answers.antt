@@ -1,6 +1,7 @@
-use Rattle.std.proofs.Common.{ℕ, ◌≡◌, ◌+◌, ◌*◌, ◌%◌, sym, ap, ◌∙◌, refl, arith}
+use Rattle.std.proofs.Common.{ℕ, ◌≡◌, ◌+◌, ◌*◌, ◌%◌, ◌∷◌, Some, sym, ap, ◌∙◌, refl, arith}
 use Rattle.alog_ring.specs.declared.words.TheConstants.{SEQUENCES, APART}
 use Rattle.alog_ring.specs.Rule.{seq_of}
+use Rattle.alog_ring.proofs.Limits.{none_held, one_held}
 use Rattle.alog_ring.proofs.Places.{claim_may, write_may}
 use Rattle.alog_ring.proofs.Calling.{filling_stage, filling_place, fills}
 use Rattle.alog_ring.proofs.board.Board.claim_and_fill.Goals as goal
@@ -11,8 +12,9 @@ compare_exchange_with-found-requires g c =
     in (
       c.requires.table,
       omega (arith, sized.0),
-      claim_may c.args.self.now.table.shared.key.places c.args.self.now.table.shared.key.first
-          c.args.self.now.table.shared.table_id.slots c.args.seat.now.id c.args.seat.now.me c.args.ticket
+      claim_may (g.L.Limit.admits c.args.self.now.table.shared.key.limit) c.args.self.now.table.shared.key.places c.args.self.now.table.shared.key.first
+          c.args.self.now.table.shared.table_id.slots c.args.seat.now.id c.args.seat.now.me
+          (none_held (g.L.Limit.admits c.args.self.now.table.shared.key.limit) c.args.seat.now.me.1 c.requires.home) c.args.ticket
           (c.args.ticket + 1) c.args.value c.requires.stage refl c.requires.below,
     )
 
@@ -36,7 +38,8 @@ store-requires g c =
     in (
       c.exchange.ensures.0 ∙ c.compare_exchange_with-found.ensures.0 ∙ c.requires.table,
       omega (arith, sized.0, c.place_of-place.ensures.within),
-      write_may n c.args.self.now.table.shared.key.first slots c.exchange.new.seat.id c.exchange.new.seat.me
+      write_may (g.L.Limit.admits c.args.self.now.table.shared.key.limit) n c.args.self.now.table.shared.key.first slots c.exchange.new.seat.id c.exchange.new.seat.me
+          (one_held (g.L.Limit.admits c.args.self.now.table.shared.key.limit) c.exchange.new.seat.me.1 (t % n) (Some c.args.value) (has ∙ (λ i. (t % n, Some c.args.value) ∷ c.requires.home i)) c.requires.admitted)
           (c.place_of-place.result * APART + SEQUENCES) t (t + 1) c.args.value c.args.seat.now.me.1 word refl stage has,
     )
 

@@ -1,7 +1,9 @@
 use Rattle.std.proofs.Common.{ℕ, ◌<◌, refl, sym, ap, subst, ◌∙◌, inl, arith}
 use Rattle.alog_ring.specs.Kinds.{some_value, no_value}
 use Rattle.alog_ring.specs.Sight.{Fresh}
+use Rattle.alog_ring.specs.Seats.{kept_part, given_part}
 use Rattle.alog_ring.proofs.Splitting.{splits}
+use Rattle.alog_ring.proofs.Limits.{none_held, splits_in}
 use Rattle.alog_ring.proofs.Places.{name_may}
 use Rattle.alog_ring.proofs.board.Board.cut.Goals as goal
 
@@ -12,9 +14,12 @@ split_seat-given-requires g c =
     in (
       c.requires.table,
       omega (arith, sized.0),
-      splits c.args.self.now.table.shared.key.places c.args.self.now.table.shared.key.first c.args.seat.now.id
+      splits_in (g.L.Limit.admits c.args.self.now.table.shared.key.limit) c.args.self.now.table.shared.key.places c.args.self.now.table.shared.key.first c.args.seat.now.id
+          c.args.seat.now.me.0 (kept_part g.A.Amount.parts c.args.seat.now.me.0)
+          (given_part g.A.Amount.parts c.args.seat.now.me.0)
+          (splits c.args.self.now.table.shared.key.places c.args.self.now.table.shared.key.first c.args.seat.now.id
           c.args.seat.now.me.0 g.A.Amount.parts Fresh (subst F c.requires.amount c.requires.fewer)
-          (inl refl) c.requires.stage some_value no_value,
+          (inl refl) c.requires.stage some_value no_value),
     )
 
 pub load-requires : goal.load-requires
@@ -25,8 +30,9 @@ load-requires g c =
     in (
       c.split_seat-given.ensures.3 ∙ c.requires.table,
       omega (arith, sized.0),
-      name_may c.args.self.now.table.shared.key.places c.args.self.now.table.shared.key.first
+      name_may (g.L.Limit.admits c.args.self.now.table.shared.key.limit) c.args.self.now.table.shared.key.places c.args.self.now.table.shared.key.first
           c.args.self.now.table.shared.table_id.slots c.split_seat-given.result.id c.split_seat-given.result.me
+          (none_held (g.L.Limit.admits c.args.self.now.table.shared.key.limit) c.split_seat-given.result.me.1 (ap (λ m. m.1) is))
           (subst P (sym (ap (λ m. m.0.known.parts) is)) (subst P c.requires.amount c.requires.some))
           (ap (λ m. m.0.stage) is) (ap (λ m. m.0.known.own) is) (ap (λ m. m.0.known.joined) is),
     )

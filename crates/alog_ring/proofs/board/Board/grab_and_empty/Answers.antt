@@ -6,6 +6,8 @@ use Rattle.alog_ring.specs.declared.words.TheConstants.{SEQUENCES, APART}
 use Rattle.alog_ring.specs.Plays.{Ends}
 use Rattle.alog_ring.specs.Rule.{seq_of}
 use Rattle.alog_ring.specs.Board.{Empties}
+use Rattle.alog_ring.specs.Limit.{IsAdmitted}
+use Rattle.alog_ring.proofs.Limits.{none_held, one_held, held_first}
 use Rattle.alog_ring.proofs.Places.{grab_may, take_may}
 use Rattle.alog_ring.proofs.Calling.{emptying_stage, emptying_place, emptied_value, empties}
 use Rattle.alog_ring.proofs.board.Board.grab_and_empty.Goals as goal
@@ -16,15 +18,16 @@ compare_exchange_with-found-requires g c =
     in (
       c.requires.table,
       omega (arith, sized.0),
-      grab_may c.args.self.now.table.shared.key.places c.args.self.now.table.shared.key.first
-          c.args.self.now.table.shared.table_id.slots c.args.seat.now.id c.args.seat.now.me c.args.ticket
-          (c.args.ticket + 1) None c.requires.stage refl,
+      grab_may (g.L.Limit.admits c.args.self.now.table.shared.key.limit) c.args.self.now.table.shared.key.places c.args.self.now.table.shared.key.first
+          c.args.self.now.table.shared.table_id.slots c.args.seat.now.id c.args.seat.now.me
+          (none_held (g.L.Limit.admits c.args.self.now.table.shared.key.limit) c.args.seat.now.me.1 c.requires.home) c.args.ticket
+          (c.args.ticket + 1) None g.A.Admits.admits c.requires.admitted c.requires.stage refl,
     )
 
 pub exchange-item-requires : goal.exchange-item-requires
 exchange-item-requires g c =
     let sized = c.args.self.now.sized
-    in let did = c.compare_exchange_with-found.ensures.2.0 c.if-found-ticket.false
+    in let did = c.compare_exchange_with-found.ensures.2.0.0 c.if-found-ticket.false
     in let slot : c.place_of-place.result ≡ c.compare_exchange_with-found.result % c.args.self.now.table.shared.table_id.slots =
     c.place_of-place.ensures.place ∙ (λ i. sym c.if-found-ticket.false i % sym sized.1 i)
     in (
@@ -41,7 +44,7 @@ store-requires g c =
     in let slots : ℕ = c.args.self.now.table.shared.table_id.slots
     in let place : c.place_of-place.result ≡ t % n = c.place_of-place.ensures.place ∙ ap (λ (z : ℕ). t % z) (sym sized.2)
     in let word : c.place_of-place.result * APART + SEQUENCES ≡ seq_of n t = ap (λ (z : ℕ). z * APART + SEQUENCES) place
-    in let told = c.compare_exchange_with-found.ensures.2
+    in let told = c.compare_exchange_with-found.ensures.2.0
     in let stage =
     emptying_stage slots t
     (t + 1) c.place_of-place.result c.compare_exchange_with-found.result n None c.args.seat.now.me
@@ -55,7 +58,8 @@ store-requires g c =
     in (
       c.exchange-item.ensures.0 ∙ c.compare_exchange_with-found.ensures.0 ∙ c.requires.table,
       omega (arith, sized.0, c.place_of-place.ensures.within),
-      take_may n c.args.self.now.table.shared.key.first slots c.exchange-item.new.seat.id c.exchange-item.new.seat.me
+      take_may (g.L.Limit.admits c.args.self.now.table.shared.key.limit) n c.args.self.now.table.shared.key.first slots c.exchange-item.new.seat.id c.exchange-item.new.seat.me
+          (one_held (g.L.Limit.admits c.args.self.now.table.shared.key.limit) c.exchange-item.new.seat.me.1 (t % n) None (has ∙ (λ i. (t % n, None) ∷ c.requires.home i)) tt)
           (c.place_of-place.result * APART + SEQUENCES) t (t + (c.args.self.now.mask + 1))
           (told.0 c.if-found-ticket.false).0 c.args.seat.now.me.1 word
           (ap (λ (z : ℕ). t + z) (sym sized.2)) stage has,
@@ -68,7 +72,7 @@ returns-clause-told g c =
     in let n : ℕ = c.args.self.now.table.shared.key.places
     in let slots : ℕ = c.args.self.now.table.shared.table_id.slots
     in let place : c.place_of-place.result ≡ t % n = c.place_of-place.ensures.place ∙ ap (λ (z : ℕ). t % z) (sym sized.2)
-    in let told = c.compare_exchange_with-found.ensures.2
+    in let told = c.compare_exchange_with-found.ensures.2.0
     in let x = (told.0 c.if-found-ticket.false).0
     in let stage =
     emptying_stage slots t
@@ -80,12 +84,19 @@ returns-clause-told g c =
     (t + 1) c.place_of-place.result c.compare_exchange_with-found.result n None c.args.seat.now.me
     c.compare_exchange_with-found.new.seat.me c.exchange-item.new.seat.me told c.if-found-ticket.false
     c.exchange-item.ensures.3 place c.exchange-item.result c.exchange-item.ensures.2
+    in let admitted : IsAdmitted g.A.Admits.admits c.exchange-item.result =
+    held_first g.A.Admits.admits c.compare_exchange_with-found.new.seat.me.1 c.place_of-place.result c.exchange-item.result
+    c.exchange-item.ensures.2 c.compare_exchange_with-found.ensures.2.1
     in let P : Option g.row.T.Denot → Type 0 =
     λ o.
-    MatchOption o (Ends tt c.args.seat.now.me c.store.new.seat.me (PopBusy t))
-    (λ y. Empties c.args.seat.now.me c.store.new.seat.me t y)
+    IsAdmitted g.A.Admits.admits o → MatchOption o (Ends tt c.args.seat.now.me c.store.new.seat.me (PopBusy t))
+    (λ y. Empties c.args.seat.now.me c.store.new.seat.me t y × g.A.Admits.admits y)
     in subst P (sym is)
-    (empties slots t (t + 1) c.place_of-place.result c.compare_exchange_with-found.result n None c.args.seat.now.me
-    c.compare_exchange_with-found.new.seat.me c.exchange-item.new.seat.me told c.if-found-ticket.false
-    c.exchange-item.ensures.3 place
-    c.store.new.seat.me (c.store.ensures.2 t x stage))
+    (λ ok. (
+      empties slots t (t + 1) c.place_of-place.result c.compare_exchange_with-found.result n None c.args.seat.now.me
+          c.compare_exchange_with-found.new.seat.me c.exchange-item.new.seat.me told c.if-found-ticket.false
+          c.exchange-item.ensures.3 place
+          c.store.new.seat.me (c.store.ensures.2 t x stage),
+      ok,
+    ))
+    admitted

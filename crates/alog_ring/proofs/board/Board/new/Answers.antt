@@ -3,15 +3,19 @@ use Rattle.alog_core.specs.declared.TheConstants.{MOST_PLACES}
 use Rattle.alog_core.proofs.Sizes.{size_facts}
 use Rattle.alog_ring.specs.Rule.{word_count}
 use Rattle.alog_ring.specs.Board.{AreFirstWords}
+use Rattle.alog_ring.proofs.Limits.{none_at_home}
 use Rattle.alog_ring.proofs.Starting.{masks, starts}
 use Rattle.alog_ring.proofs.board.Board.new.Goals as goal
 
 pub vacant-requires : goal.vacant-requires
 vacant-requires g c =
     let P : List ℕ → Type 0 = λ w. AreFirstWords c.args.places c.args.first w
-    in starts c.args.places c.args.first c.as_slice.result.now
-    (size_facts c.args.places c.requires.size).1 c.requires.first
-    (subst P (sym c.as_slice.ensures.value) c.in_ok-words.ensures)
+    in record {
+      ruled = starts c.args.places c.args.first c.as_slice.result.now
+          (size_facts c.args.places c.requires.size).1 c.requires.first
+          (subst P (sym c.as_slice.ensures.value) c.in_ok-words.ensures);
+      values = none_at_home (g.L.Limit.admits c.args.limit) c.args.places;
+    }
 
 pub invariant_of-result : goal.invariant_of-result
 invariant_of-result g c =

@@ -1,6 +1,7 @@
 use Rattle.std.proofs.Common.{ℕ, ◌≡◌, ◌+◌, ◌*◌, ◌%◌, sym, ap, ◌∙◌, arith}
 use Rattle.alog_ring.specs.declared.words.TheConstants.{SEQUENCES, APART}
 use Rattle.alog_ring.specs.Rule.{seq_of}
+use Rattle.alog_ring.proofs.Limits.{none_held}
 use Rattle.alog_ring.proofs.Places.{see_full_may}
 use Rattle.alog_ring.proofs.board.Board.see_full.Goals as goal
 
@@ -14,8 +15,9 @@ load-requires g c =
     in (
       c.requires.table,
       omega (arith, sized.0, c.place_of.ensures.within),
-      see_full_may n c.args.self.now.table.shared.key.first c.args.self.now.table.shared.table_id.slots c.args.seat.now.id
-          c.args.seat.now.me (c.place_of.result * APART + SEQUENCES) t word c.requires.stage,
+      see_full_may (g.L.Limit.admits c.args.self.now.table.shared.key.limit) n c.args.self.now.table.shared.key.first c.args.self.now.table.shared.table_id.slots c.args.seat.now.id
+          c.args.seat.now.me
+          (none_held (g.L.Limit.admits c.args.self.now.table.shared.key.limit) c.args.seat.now.me.1 c.requires.home) (c.place_of.result * APART + SEQUENCES) t word c.requires.stage,
     )
 
 pub returns-clause-sequence : goal.returns-clause-sequence

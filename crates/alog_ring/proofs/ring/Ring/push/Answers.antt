@@ -6,7 +6,7 @@ use Rattle.alog_ring.proofs.Waiting.{busy_push}
 use Rattle.alog_ring.proofs.ring.Ring.push.Goals as goal
 
 pub loop-init : goal.loop-init
-loop-init g c = (c.requires, refl, BusyPushes.none)
+loop-init g c = (c.requires.ring, refl, BusyPushes.none)
 
 pub loop-preserved : goal.loop-preserved
 loop-preserved g c =
