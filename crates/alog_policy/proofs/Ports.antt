@@ -41,7 +41,7 @@ counted_discarded b s t old new adds = record {
   post_sum = refl;
 }
 
-module _ {T : Type 0} (a b : Port T) (fit : IsFit a) where
+module _ {T L : Type 0} (a b : Port T L) (fit : IsFit a) where
   -- what belonged belongs still
   pub fit_still : (es : List (Event T)) (k l : ℕ) → PortDid a es k l b → IsFit b
   fit_still es k l did = (pass_fits, seat_fits) where

@@ -29,16 +29,17 @@ pub last_turn : (v : Room) (h : List (Entry Deed)) (x : Entry Deed) (w : Room) �
 last_turn v [] x w l = (v, refl, subst (λ z. Turns v x.deed.before x.deed.item x.deed.reply z x.deed.after) l.2 l.1)
 last_turn v (y ∷ h) x w l = let r = last_turn l.0 h x w l.2 in (r.0, (l.0, l.1, r.1), r.2)
 
--- no turn changes how many messages are kept at most
+-- no turn changes how many messages are kept at most, and how long their texts are
 most_in : (v : Room) (s : BacktraceScratch) (i : BacktraceItem) (r : BacktraceReply) (w : Room) (t : BacktraceScratch) → Turns v s i r w t
-    → w.most ≡ v.most
-most_in v s Keep r w t h = ap (λ (z : Room). z.most) h.kept
-most_in v s Dump r w t h = ap (λ (z : Room). z.most) h.emptied
+    → (w.most ≡ v.most) × (w.limit ≡ v.limit)
+most_in v s Keep r w t h = (ap (λ (z : Room). z.most) h.kept, ap (λ (z : Room). z.limit) h.kept)
+most_in v s Dump r w t h = (ap (λ (z : Room). z.most) h.emptied, ap (λ (z : Room). z.limit) h.emptied)
 
-pub most_stays : (v : Room) (h : List (Entry Deed)) (w : Room) → Leads Turns v h w → w.most ≡ v.most
-most_stays v [] w l = ap (λ (z : Room). z.most) (sym l)
+pub most_stays : (v : Room) (h : List (Entry Deed)) (w : Room) → Leads Turns v h w → (w.most ≡ v.most) × (w.limit ≡ v.limit)
+most_stays v [] w l = (ap (λ (z : Room). z.most) (sym l), ap (λ (z : Room). z.limit) (sym l))
 most_stays v (x ∷ h) w l =
-    most_stays l.0 h w l.2 ∙ most_in v x.deed.before x.deed.item x.deed.reply l.0 x.deed.after l.1
+    let later = most_stays l.0 h w l.2 in
+    let one = most_in v x.deed.before x.deed.item x.deed.reply l.0 x.deed.after l.1 in (later.0 ∙ one.0, later.1 ∙ one.1)
 
 -- the turn of a keep that brought this message
 abbrev pub keep_of : Message → LaneKeeper → ℕ × BacktraceReply → LaneKeeper → Deed
@@ -93,9 +94,9 @@ dumped_by_turn old new d a lends replied turn =
 -- what a turn replied that was to dump
 pub dump_replied : (first : Room) (old new : Known Deed) (before after : BacktraceScratch) (a : ℕ × BacktraceReply)
     → TakesTurn Turns first old new (record { tag = 0; item = Dump; before = before; reply = a.1; after = after }) a.0
-    → (u : Room) × (a.1 ≡ Dumped u) × (u.most ≡ first.most)
+    → (u : Room) × (a.1 ≡ Dumped u) × (u.most ≡ first.most) × (u.limit ≡ first.limit)
 dump_replied first old new before after a turn =
     let x : Entry Deed = record { seat = old.seat; deed = record { tag = 0; item = Dump; before = before; reply = a.1; after = after } } in
     let leads = subst (λ h. Leads Turns first h turn.value) turn.ends turn.leads in
     let last = last_turn first turn.before x turn.value leads in
-    (last.0, last.2.reply_is, most_stays first turn.before last.0 last.1)
+    let stays = most_stays first turn.before last.0 last.1 in (last.0, last.2.reply_is, stays.0, stays.1)

@@ -50,7 +50,7 @@ NeverPasses old new = ⊥
 
 -- an empty list with the backtrace's room lies in the scratch
 abbrev pub HasList : LaneKeeper → Type 0
-HasList k = k.scratch.now.list ≡ Some (room_for k.lane.now.first.most)
+HasList k = k.scratch.now.list ≡ Some (room_for k.lane.now.first.most k.lane.now.first.limit)
 
 -- The keeper emptied the backtrace, of which this was kept: by a turn of its seat, of tag 0, which is the next of the lane's
 -- history. It began with the scratch as it was, whose message stays.

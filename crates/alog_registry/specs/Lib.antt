@@ -1,3 +1,4 @@
+pub mod Limit
 pub mod Listed
 pub mod Backtrace
 pub mod Turn

@@ -1,5 +1,5 @@
 -- What a logger does with a message.
-use Rattle.std.specs.Prelude.{◌≡◌, ◌<◌, ◌==◌, Bool, false, if◌then◌else◌, [], Option, None, Some}
+use Rattle.std.specs.Prelude.{ℕ, ◌≡◌, ◌<◌, ◌==◌, Bool, false, if◌then◌else◌, [], Option, None, Some}
 use Rattle.alog_msg.specs.Level.{row_of}
 use Rattle.alog_msg.specs.declared.item.Item.{Item}
 use Rattle.alog_msg.specs.declared.item.Item.TheVariants.{Text}
@@ -9,6 +9,7 @@ use Rattle.alog_policy.specs.Outlet.{Doing}
 use Rattle.alog_policy.specs.declared.policy.Policy.{Policy}
 use Rattle.alog_registry.specs.Carry.{PostsItem}
 use Rattle.alog_registry.specs.Keep.{KeptOr}
+use Rattle.alog_registry.specs.Limit.{IsNoLonger}
 use Rattle.alog_registry.specs.declared.logger.Spec.{Spec}
 use Rattle.alog_registry.specs.declared.logging.LogReply.{LogReply}
 use Rattle.alog_registry.specs.declared.logging.LogReply.TheVariants as reply
@@ -42,12 +43,12 @@ abbrev pub IsUnread : Spec → LogReply → Type 0
 IsUnread spec (reply.Filtered level kept) = spec.backtrace ≡ 0
 IsUnread spec (reply.Logged outcome kept) = ⊥
 
-module _ {S V : Type 0} (did : Doing S Item) (fit : S → Type 0) (shows : V → Item) where
+module _ {S V : Type 0} (did : Doing S Item) (fit : S → V → Type 0) (shows : V → Item) where
   -- What was made before anything is done: the copy that is to be kept and, unless it is filtered, the value of the text.
   abbrev pub IsPrepared : Spec → Message → S → Prepared V → S → Type 0
   IsPrepared spec m old (made.Filtered level copy) new = IsBelow m.level level × (copy ≡ copy_of spec m) × (new ≡ old)
   IsPrepared spec m old (made.Admitted value copy) new =
-      (shows value ≡ Text m) × (copy ≡ copy_of spec m) × fit new × did old [] 0 0 new
+      (shows value ≡ Text m) × (copy ≡ copy_of spec m) × fit new value × did old [] 0 0 new
 
 -- The level that was read decides: what is below it is filtered, and that level is told; all else is not.
 abbrev pub IsDecided : {V : Type 0} → Level → Level → Prepared V → Type 0
@@ -57,3 +58,8 @@ IsDecided own level (made.Admitted value copy) = ¬ IsBelow level own
 abbrev pub IsUnmade : {V : Type 0} → Spec → Prepared V → Type 0
 IsUnmade spec (made.Filtered level copy) = spec.backtrace ≡ 0
 IsUnmade spec (made.Admitted value copy) = ⊥
+
+-- what is to be kept keeps to the limit
+abbrev pub IsShortCopy : {V : Type 0} → ℕ → Prepared V → Type 0
+IsShortCopy limit (made.Filtered level copy) = IsNoLonger limit copy
+IsShortCopy limit (made.Admitted value copy) = IsNoLonger limit copy

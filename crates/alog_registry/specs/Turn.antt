@@ -1,8 +1,9 @@
 -- The turns of a backtrace under a lock: a step relation between the backtrace, the scratch, what the turn is to do, what it
 -- answers, and both after it.
-use Rattle.std.specs.Prelude.{◌≡◌, Option, None, Some, IsSome}
+use Rattle.std.specs.Prelude.{◌≡◌, Option, None, Some}
 use Rattle.alog_msg.specs.declared.message.Message.{Message}
 use Rattle.alog_registry.specs.Backtrace.{Room, room_for, kept_with}
+use Rattle.alog_registry.specs.Limit.{HasShort}
 use Rattle.alog_registry.specs.declared.turn.BacktraceItem.{BacktraceItem}
 use Rattle.alog_registry.specs.declared.turn.BacktraceItem.TheVariants.{Keep, Dump}
 use Rattle.alog_registry.specs.declared.turn.BacktraceReply.{BacktraceReply}
@@ -23,7 +24,7 @@ pub record KeepsOne (old : Room) (before : BacktraceScratch) (reply : BacktraceR
 
 -- A dump replies with what was kept, and leaves the backtrace empty and the scratch without its list.
 pub record DumpsAll (old : Room) (before : BacktraceScratch) (reply : BacktraceReply) (new : Room) (after : BacktraceScratch) : Type 0 where
-  pub emptied : new ≡ room_for old.most
+  pub emptied : new ≡ room_for old.most old.limit
   pub after_is : after ≡ scratch_of before.message None
   pub reply_is : reply ≡ Dumped old
 
@@ -33,5 +34,5 @@ Turns v s Dump r w t = DumpsAll v s r w t
 
 -- what a turn asks of the backtrace, the item and the scratch
 abbrev pub MayTurn : Room → BacktraceItem → BacktraceScratch → Type 0
-MayTurn v Keep s = IsSome s.message
-MayTurn v Dump s = s.list ≡ Some (room_for v.most)
+MayTurn v Keep s = HasShort v.limit s.message
+MayTurn v Dump s = s.list ≡ Some (room_for v.most v.limit)

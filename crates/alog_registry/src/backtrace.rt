@@ -1,11 +1,13 @@
 //! A backtrace: the last messages that were kept.
 ghost use Rattle.std.specs.Prelude.{◌≡◌, ◌==◌, ◌↔◌, ◌<◌, ◌≤◌, [], ◌∷◌, ◌++◌, List, length, IfOk, IsErrOf};
 ghost use Rattle.alog_registry.specs.Backtrace.{room_for, kept_with, Keeps};
+ghost use Rattle.alog_msg.specs.declared.limits.TheConstants.{LEAST_TEXT_LIMIT, MOST_TEXT_LIMIT};
 ghost use Rattle.alog_msg.specs.declared.message.Message.{Message};
+ghost use Rattle.alog_registry.specs.Limit.{IsShort};
 
 use crate::MOST_KEPT;
 use crate::dumped::Dumped;
-use alog_msg::Message;
+use alog_msg::{MOST_TEXT_LIMIT, Message};
 use circular_buffer::HeapCircularBuffer;
 use std::alloc::{AllocError, Global};
 use std::marker::Model;
@@ -39,25 +41,42 @@ impl From<AllocError> for BacktraceError {
 #[derive(Drop)]
 pub struct Backtrace {
     messages: HeapCircularBuffer<Message>,
+    // The most bytes of a text.
+    text_limit: usize,
 }
 
 impl Model for Backtrace {
     ghost use Rattle.std.specs.Prelude.{◌≤◌, length};
     ghost use Rattle.alog_registry.specs.declared.TheConstants.{MOST_KEPT};
-    ghost use Rattle.alog_registry.specs.Backtrace.{Room};
+    ghost use Rattle.alog_msg.specs.declared.limits.TheConstants.{LEAST_TEXT_LIMIT, MOST_TEXT_LIMIT};
+    ghost use Rattle.alog_registry.specs.Backtrace.{Room, AreShort};
 
     ghost Value = { Room };
 
-    ghost view = { λ b. record { messages = b.messages.items; most = b.messages.capacity } };
+    ghost view = { λ b. record { messages = b.messages.items; most = b.messages.capacity; limit = b.text_limit } };
 
-    ghost invariant = { λ b. b.messages.capacity ≤ MOST_KEPT };
+    ghost invariant = { λ b. (b.messages.capacity ≤ MOST_KEPT) × AreShort b.text_limit b.messages.items
+        × (LEAST_TEXT_LIMIT ≤ b.text_limit) × (b.text_limit ≤ MOST_TEXT_LIMIT) };
 }
 
 impl Backtrace {
-    /// A backtrace that keeps the last so many messages, 0 to 4,096. All memory that it takes is taken here. The test
-    /// `limits_of_a_backtrace` shows it.
+    /// A backtrace that keeps the last so many messages, 0 to 4,096, with texts of at most 8,192 bytes. All memory that it
+    /// takes is taken here. The test `limits_of_a_backtrace` shows it.
     pub fn new(alloc: Global, most: usize) -> Result<Backtrace, BacktraceError>
-        ensures made { IfOk result (λ b. b ≡ room_for most) }
+        ensures made { IfOk result (λ b. b ≡ room_for most MOST_TEXT_LIMIT) }
+        ensures bad_limit { IsErrOf result BacktraceError.BadLimit ↔ (MOST_KEPT < most) }
+    {
+        Backtrace::limited(alloc, most, MOST_TEXT_LIMIT)
+    }
+
+    /// The same, with another text limit, 64 to 8,192 bytes.
+    pub fn limited(
+        alloc: Global,
+        most: usize,
+        text_limit: usize,
+    ) -> Result<Backtrace, BacktraceError>
+        requires { (LEAST_TEXT_LIMIT ≤ text_limit) × (text_limit ≤ MOST_TEXT_LIMIT) }
+        ensures made { IfOk result (λ b. b ≡ room_for most text_limit) }
         ensures bad_limit { IsErrOf result BacktraceError.BadLimit ↔ (MOST_KEPT < most) }
     {
         if most > MOST_KEPT {
@@ -65,6 +84,7 @@ impl Backtrace {
         }
         Ok(Backtrace {
             messages: HeapCircularBuffer::with_capacity(alloc, most)?,
+            text_limit,
         })
     }
 
@@ -72,6 +92,7 @@ impl Backtrace {
     ///
     /// `since` says it of all messages that were kept since the start or the last dump.
     pub fn keep(&mut self, message: Message)
+        requires { IsShort self.old.limit message }
         ensures kept { self.new ≡ kept_with self.old message }
         ensures since { (ms : List Message) → Keeps self.old ms → Keeps self.new (ms ++ message ∷ []) }
     {
@@ -93,6 +114,14 @@ impl Backtrace {
         self.messages.is_empty()
     }
 
+    /// The most bytes of a text that it keeps.
+    pub fn text_limit(&self) -> usize
+        ensures limit { result ≡ self.now.limit }
+        ensures within { (LEAST_TEXT_LIMIT ≤ result) × (result ≤ MOST_TEXT_LIMIT) }
+    {
+        self.text_limit
+    }
+
     /// The most messages that it keeps.
     pub fn most(&self) -> usize
         ensures most { result ≡ self.now.most }
@@ -104,14 +133,18 @@ impl Backtrace {
     /// Gives what was kept, oldest first, and keeps nothing then. It takes no memory: the room that the empty list brings
     /// takes the place of the one that it gives.
     pub fn dump(&mut self, list: Dumped) -> Dumped
-        requires { list ≡ room_for self.old.most }
+        requires { list ≡ room_for self.old.most self.old.limit }
         ensures dumped { result ≡ self.old }
-        ensures emptied { self.new ≡ room_for self.old.most }
+        ensures emptied { self.new ≡ room_for self.old.most self.old.limit }
         ensures since { Keeps self.new [] }
     {
-        let Dumped { messages } = list;
+        let Dumped {
+            messages,
+            text_limit,
+        } = list;
         Dumped {
             messages: mem::replace(&mut self.messages, messages),
+            text_limit,
         }
     }
 }

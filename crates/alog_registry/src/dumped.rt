@@ -1,6 +1,7 @@
 //! What a dump of a backtrace took: messages, oldest first.
 ghost use Rattle.std.specs.Prelude.{◌≡◌, ◌==◌, ◌^◌, ◌<◌, ◌≤◌, length, slice_get, drop, IfOk};
 ghost use Rattle.alog_registry.specs.Backtrace.{room_for};
+ghost use Rattle.alog_registry.specs.Limit.{IsNoLonger};
 
 use alog_msg::Message;
 use circular_buffer::HeapCircularBuffer;
@@ -12,23 +13,29 @@ use std::marker::Model;
 #[derive(Drop)]
 pub struct Dumped {
     pub(crate) messages: HeapCircularBuffer<Message>,
+    // The most bytes of a text.
+    pub(crate) text_limit: usize,
 }
 
 impl Model for Dumped {
-    ghost use Rattle.alog_registry.specs.Backtrace.{Room};
+    ghost use Rattle.alog_registry.specs.Backtrace.{Room, AreShort};
 
     ghost Value = { Room };
 
-    ghost view = { λ d. record { messages = d.messages.items; most = d.messages.capacity } };
+    ghost view = { λ d. record { messages = d.messages.items; most = d.messages.capacity; limit = d.text_limit } };
+
+    ghost invariant = { λ d. AreShort d.text_limit d.messages.items };
 }
 
 impl Dumped {
-    /// An empty list with room for so many messages. All memory that it takes is taken here.
-    pub fn new(alloc: Global, most: usize) -> Result<Dumped, AllocError>
-        ensures { IfOk result (λ d. d ≡ room_for most) }
+    /// An empty list with room for so many messages, with texts of at most so many bytes. All memory that it takes is taken
+    /// here.
+    pub fn new(alloc: Global, most: usize, text_limit: usize) -> Result<Dumped, AllocError>
+        ensures { IfOk result (λ d. d ≡ room_for most text_limit) }
     {
         Ok(Dumped {
             messages: HeapCircularBuffer::with_capacity(alloc, most)?,
+            text_limit,
         })
     }
 
@@ -58,7 +65,8 @@ impl Dumped {
     /// Takes the oldest message that is left.
     pub fn take_oldest(&mut self) -> Option<Message>
         ensures oldest { result ≡ slice_get self.old.messages 0 }
-        ensures rest { self.new ≡ record { messages = drop 1 self.old.messages; most = self.old.most } }
+        ensures short { IsNoLonger self.old.limit result }
+        ensures rest { self.new ≡ record { messages = drop 1 self.old.messages; most = self.old.most; limit = self.old.limit } }
     {
         self.messages.pop_front()
     }

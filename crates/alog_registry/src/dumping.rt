@@ -6,6 +6,7 @@ ghost use Rattle.alog_msg.specs.declared.message.Message.{Message};
 ghost use Rattle.alog_policy.specs.Progress.{without_waiting};
 ghost use Rattle.alog_registry.specs.Carry.{PostsItemNow};
 ghost use Rattle.alog_registry.specs.Dumping.{marker, PostsEach, posted_of};
+ghost use Rattle.alog_registry.specs.Limit.{AdmitsShort};
 ghost use Rattle.alog_registry.specs.Listed.{spec_at};
 ghost use Rattle.alog_registry.specs.declared.logger.Spec.{Spec};
 
@@ -40,10 +41,10 @@ impl Loggers {
         thread: u64,
     ) -> Result<Vec<Outcome<()>>, AllocError>
         requires known { number < length self.now }
-        requires ready { O.is_ready outlet.old }
+        requires ready { O.is_ready outlet.old × AdmitsShort O.admits backtrace.old.limit outlet.old }
         ensures posted { (s : Spec) → spec_at self.now number ≡ Some s → IfOk result (λ v. PostsEach O.did (without_waiting s.policy)
             (posted_of number time thread backtrace.old.messages) outlet.old v.items outlet.new) }
-        ensures emptied { OnOk result (backtrace.new ≡ room_for backtrace.old.most) }
+        ensures emptied { OnOk result (backtrace.new ≡ room_for backtrace.old.most backtrace.old.limit) }
         ensures err { OnErr result ((outlet.new ≡ outlet.old) × (backtrace.new ≡ backtrace.old)) }
         ensures none { backtrace.old.messages ≡ [] → IsOk result }
         ensures ready { O.is_ready outlet.new }
@@ -54,7 +55,7 @@ impl Loggers {
         if backtrace.is_empty() {
             return Ok(Vec::new(alloc));
         }
-        let room = Dumped::new(alloc, backtrace.most())?;
+        let room = Dumped::new(alloc, backtrace.most(), backtrace.text_limit())?;
         let mut outcomes = Vec::with_capacity(alloc, backtrace.len() + 2)?;
         let start = marker(alloc, number, time, thread, START)?;
         let end = marker(alloc, number, time, thread, END)?;
@@ -88,9 +89,10 @@ pub(crate) fn marker(
 
 /// Posts a message.
 fn post<O: Carry>(outlet: &mut O, policy: Policy, message: Message) -> Outcome<()>
-    requires { O.is_ready outlet.old }
+    requires ready { O.is_ready outlet.old × O.admits outlet.old message }
     ensures post { PostsItemNow O.did policy (item.Text message) outlet.old outlet.new result }
     ensures ready { O.is_ready outlet.new }
+    ensures admitted { (m : Message) → O.admits outlet.old m → O.admits outlet.new m }
 {
     let value = outlet.message(message);
     outlet.post_now(policy, value)
@@ -103,13 +105,14 @@ fn post_all<O: Carry>(
     list: &mut Dumped,
     outcomes: &mut Vec<Outcome<()>>,
 )
-    requires ready { O.is_ready outlet.old }
+    requires ready { O.is_ready outlet.old × AdmitsShort O.admits list.old.limit outlet.old }
     requires room { vec_len outcomes.old + length list.old.messages < vec_capacity outcomes.old }
     ensures posted { (s : O) (before : List Message) → PostsEach O.did (without_waiting policy) before s outcomes.old.items outlet.old
         → PostsEach O.did (without_waiting policy) (before ++ list.old.messages) s outcomes.new.items outlet.new }
     ensures count { vec_len outcomes.new ≡ vec_len outcomes.old + length list.old.messages }
     ensures room { vec_capacity outcomes.new ≡ vec_capacity outcomes.old }
     ensures ready { O.is_ready outlet.new }
+    ensures admitted { (m : Message) → O.admits outlet.old m → O.admits outlet.new m }
 {
     while let Some(message) = list.take_oldest() {
         outcomes.push_reserved(post(outlet, policy, message));

@@ -9,13 +9,15 @@ use alog_msg::Message;
 /// A keeper of messages that never waits.
 ///
 /// `keeps` is what the keeper does where it keeps a message, `passes` what it does where it does not. `is_ready` is what a
-/// keep asks of it.
+/// keep asks of it, and `admits` what it asks of the message.
 pub trait Keep {
     ghost use Rattle.std.specs.Prelude.{true, false};
     ghost use Rattle.alog_registry.specs.Keep.{KeptOr};
     ghost use Rattle.alog_msg.specs.declared.message.Message.{Message};
 
     ghost is_ready: { Self → Type 0 };
+
+    ghost admits: { Self → Message → Type 0 };
 
     ghost keeps: { Self → Message → Self → Type 0 };
 
@@ -24,7 +26,8 @@ pub trait Keep {
     /// Keeps the message, and answers whether it did: where it did not, the message is dropped. It takes no memory and never
     /// waits.
     fn keep_now(&mut self, message: Message) -> bool
-        requires { is_ready self.old }
+        requires ready { is_ready self.old }
+        requires admitted { admits self.old message }
         ensures kept { KeptOr keeps passes result self.old message self.new }
         ensures ready { is_ready self.new };
 }
@@ -33,8 +36,11 @@ pub trait Keep {
 impl Keep for Backtrace {
     ghost use Rattle.std.specs.Prelude.{◌≡◌};
     ghost use Rattle.alog_registry.specs.Backtrace.{kept_with};
+    ghost use Rattle.alog_registry.specs.Limit.{IsShort};
 
     ghost is_ready = { λ b. Unit {0} };
+
+    ghost admits = { λ b m. IsShort b.limit m };
 
     ghost keeps = { λ b m c. c ≡ kept_with b m };
 
@@ -61,8 +67,11 @@ pub struct LaneKeeper<'a> {
 
 impl Keep for LaneKeeper<'_> {
     ghost use Rattle.alog_registry.specs.LaneKeeper.{IsSeated, KeepsByTurn, Passes};
+    ghost use Rattle.alog_registry.specs.Limit.{IsShort};
 
     ghost is_ready = { IsSeated };
+
+    ghost admits = { λ k m. IsShort k.lane.now.first.limit m };
 
     ghost keeps = { KeepsByTurn };
 

@@ -22,6 +22,7 @@ mod error;
 mod given;
 mod keep;
 mod level_word;
+mod limit;
 #[cfg(test)]
 mod log_tests;
 mod logger;
@@ -47,6 +48,7 @@ pub use dumped::Dumped;
 pub use error::{AddError, RefusedSpec};
 pub use given::MessageRef;
 pub use keep::{Keep, LaneKeeper};
+pub use limit::TextLimit;
 pub use logger::{Logger, Spec};
 pub use loggers::Loggers;
 pub use logging::LogReply;

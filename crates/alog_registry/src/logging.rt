@@ -7,7 +7,10 @@ ghost use Rattle.alog_registry.specs.Carry.{PostsItemNow};
 ghost use Rattle.alog_registry.specs.Given.{message_of, message_with, IsWithin, IsTooLongField};
 ghost use Rattle.alog_registry.specs.Listed.{spec_at};
 ghost use Rattle.alog_registry.specs.declared.logger.Spec.{Spec};
+ghost use Rattle.alog_msg.specs.declared.message.Message.{Message};
+ghost use Rattle.alog_registry.specs.Limit.{AdmitsShort, IsNoLonger};
 ghost use Rattle.alog_registry.specs.Logging.{copy_of, KeepsCopy, Logs, IsPrepared, IsUnread, IsUnmade, IsDecided, IsBelow};
+ghost use Rattle.alog_registry.specs.Logging.{IsShortCopy};
 
 use crate::carry::Carry;
 use crate::given::{MessageRef, message};
@@ -67,8 +70,8 @@ impl Loggers {
     ) -> Result<LogReply, MessageError>
         requires known { number < length self.now }
         requires limit { (LEAST_TEXT_LIMIT ≤ text_limit) × (text_limit ≤ MOST_TEXT_LIMIT) }
-        requires outlet { O.is_ready outlet.old }
-        requires keeper { K.is_ready keeper.old }
+        requires outlet { O.is_ready outlet.old × AdmitsShort O.admits text_limit outlet.old }
+        requires keeper { K.is_ready keeper.old × AdmitsShort K.admits text_limit keeper.old }
         ensures logs { (s : Spec) → spec_at self.now number ≡ Some s
             → IfOk result (λ r. Logs O.did K.keeps K.passes (without_waiting s.policy) s
             (message_with number level time thread text.now source.entry) outlet.old keeper.old r outlet.new keeper.new) }
@@ -133,13 +136,14 @@ pub(crate) fn prepare<O: Carry>(
     given: MessageRef<'_>,
 ) -> Result<Prepared<O::Value>, MessageError>
     requires limit { (LEAST_TEXT_LIMIT ≤ text_limit) × (text_limit ≤ MOST_TEXT_LIMIT) }
-    requires ready { O.is_ready outlet.old }
+    requires ready { O.is_ready outlet.old × AdmitsShort O.admits text_limit outlet.old }
     ensures prepared { IfOk result (λ p. IsPrepared O.did O.is_fit O.shows spec.now (message_of given.entry) outlet.old p outlet.new) }
     ensures within { IfOk result (λ p. IsUnmade spec.now p ⊎ IsWithin text_limit given.entry.text.now given.entry.source) }
     ensures text_too_long { IsErrOf result MessageError.TextTooLong → text_limit < length given.entry.text.now }
     ensures field_too_long { IsErrOf result MessageError.FieldTooLong → IsTooLongField text_limit given.entry.text.now given.entry.source }
     ensures out_of_memory { IsErrOf result MessageError.OutOfMemory → IsWithin text_limit given.entry.text.now given.entry.source }
     ensures err { OnErr result (outlet.new ≡ outlet.old) }
+    ensures short { IfOk result (λ p. IsShortCopy text_limit p) }
     ensures decided { IfOk result (λ p. IsDecided own given.entry.level p) }
     ensures unread { spec.now.backtrace ≡ 0 → IsBelow given.entry.level own → IsOk result }
 {
@@ -159,6 +163,7 @@ fn copy_for(
     given: MessageRef<'_>,
 ) -> Result<Option<Message>, MessageError>
     requires { (LEAST_TEXT_LIMIT ≤ text_limit) × (text_limit ≤ MOST_TEXT_LIMIT) }
+    ensures short { IfOk result (λ c. IsNoLonger text_limit c) }
     ensures made { IfOk result (λ c. c ≡ copy_of spec.now (message_of given.entry)) }
     ensures within { IfOk result (λ c. (spec.now.backtrace ≡ 0) ⊎ IsWithin text_limit given.entry.text.now given.entry.source) }
     ensures text_too_long { IsErrOf result MessageError.TextTooLong → text_limit < length given.entry.text.now }
@@ -174,7 +179,8 @@ fn copy_for(
 
 /// Keeps the copy, if there is one, and answers whether it was kept.
 fn keep_copy<K: Keep>(keeper: &mut K, copy: Option<Message>) -> bool
-    requires { K.is_ready keeper.old }
+    requires ready { K.is_ready keeper.old }
+    requires admitted { (m : Message) → copy ≡ Some m → K.admits keeper.old m }
     ensures kept { KeepsCopy K.keeps K.passes copy result keeper.old keeper.new }
     ensures ready { K.is_ready keeper.new }
 {

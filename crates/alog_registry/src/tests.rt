@@ -187,7 +187,7 @@ fn dumps_the_last_two(rt: HostRuntime) -> Result<(), Fail> {
         backtrace.keep(debug(alloc, text)?);
     }
     assert_eq!(rt; (backtrace.len(), backtrace.most()), (2, 2));
-    let mut dumped = backtrace.dump(Dumped::new(alloc, 2)?);
+    let mut dumped = backtrace.dump(Dumped::new(alloc, 2, MOST_TEXT_LIMIT)?);
     assert!(rt; backtrace.is_empty() && dumped.len() == 2);
     assert!(rt; is_text(dumped.take_oldest(), "m2"));
     assert!(rt; is_text(dumped.take_oldest(), "m3"));
@@ -227,7 +227,7 @@ fn turns_of_a_backtrace(rt: HostRuntime) -> Result<(), Fail> {
     let kept = lane.turn_once(&mut seat, 0, &BacktraceItem::Keep, &mut scratch);
     assert!(rt; matches!(kept, Ok((0, BacktraceReply::Kept))));
     assert!(rt; scratch.message.is_none());
-    scratch.list = Some(Dumped::new(alloc, 1)?);
+    scratch.list = Some(Dumped::new(alloc, 1, MOST_TEXT_LIMIT)?);
     match lane.turn_once(&mut seat, 0, &BacktraceItem::Dump, &mut scratch) {
         Ok((1, BacktraceReply::Dumped(mut list))) => assert!(rt; is_text(list.take_oldest(), "m1")),
         _ => panic!(rt; "the lock is free"),

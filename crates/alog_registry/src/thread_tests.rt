@@ -106,7 +106,7 @@ fn two_threads_keep(rt: HostRuntime) -> Result<(), Fail> {
     };
     let mut scratch = BacktraceScratch {
         message: None,
-        list: Some(Dumped::new(alloc, ROOM)?),
+        list: Some(Dumped::new(alloc, ROOM, MOST_TEXT_LIMIT)?),
     };
     let (first, second) = (messages_of(alloc, 1)?, messages_of(alloc, 2)?);
     let one = Keeping {

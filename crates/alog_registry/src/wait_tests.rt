@@ -84,7 +84,7 @@ fn logs_with_waiting(rt: HostRuntime) -> Result<(), Fail> {
     };
     let mut scratch = BacktraceScratch {
         message: None,
-        list: Some(Dumped::new(alloc, 2)?),
+        list: Some(Dumped::new(alloc, 2, MOST_TEXT_LIMIT)?),
     };
     let mut port = Port {
         ring: &ring,

@@ -9,6 +9,7 @@ ghost use Rattle.alog_registry.specs.Dumping.{PostsEach, posted_of, marker};
 ghost use Rattle.alog_registry.specs.Carry.{PostsItem};
 ghost use Rattle.alog_registry.specs.Given.{message_with, IsWithin, IsTooLongField};
 ghost use Rattle.alog_registry.specs.LaneKeeper.{IsSeated, HasList, KeepsByTurn, DumpsByTurn, NeverPasses};
+ghost use Rattle.alog_registry.specs.Limit.{AdmitsShort, IsNoLonger, IsShort};
 ghost use Rattle.alog_registry.specs.Listed.{spec_at};
 ghost use Rattle.alog_registry.specs.Logging.{KeepsCopy, Logs, IsUnread};
 ghost use Rattle.alog_registry.specs.declared.logger.Spec.{Spec};
@@ -46,8 +47,8 @@ impl Loggers {
     ) -> Result<LogReply, MessageError>
         requires known { number < length self.now }
         requires limit { (LEAST_TEXT_LIMIT ≤ text_limit) × (text_limit ≤ MOST_TEXT_LIMIT) }
-        requires outlet { O.is_ready outlet.old }
-        requires keeper { IsSeated keeper.old }
+        requires outlet { O.is_ready outlet.old × AdmitsShort O.admits text_limit outlet.old }
+        requires keeper { IsSeated keeper.old × (text_limit ≤ keeper.old.lane.now.first.limit) }
         ensures logs { (s : Spec) → spec_at self.now number ≡ Some s
             → IfOk result (λ r. Logs O.did KeepsByTurn NeverPasses s.policy s
             (message_with number level time thread text.now source.entry) outlet.old keeper.old r outlet.new keeper.new) }
@@ -107,6 +108,8 @@ impl Loggers {
         requires outlet { O.is_ready outlet.old }
         requires seated { IsSeated keeper.old }
         requires list { HasList keeper.old }
+        requires limit { (LEAST_TEXT_LIMIT ≤ keeper.old.lane.now.first.limit)
+            × AdmitsShort O.admits keeper.old.lane.now.first.limit outlet.old }
         ensures dumped { (s : Spec) → spec_at self.now number ≡ Some s → IfOk result (λ v. (d : Room) × DumpsByTurn keeper.old d keeper.new
             × PostsEach O.did s.policy (posted_of number time thread d.messages) outlet.old v.items outlet.new) }
         ensures err { OnErr result ((outlet.new ≡ outlet.old) × (keeper.new ≡ keeper.old)) }
@@ -145,13 +148,14 @@ fn post_dumped<O: CarryWaiting>(
     list: &mut Dumped,
     outcomes: &mut Vec<Outcome<()>>,
 )
-    requires ready { O.is_ready outlet.old }
+    requires ready { O.is_ready outlet.old × AdmitsShort O.admits list.old.limit outlet.old }
+    requires markers { O.admits outlet.old start × O.admits outlet.old end }
     requires none { outcomes.old.items ≡ [] }
     requires room { length list.old.messages + 2 ≤ vec_capacity outcomes.old }
     ensures posted { (n : ℕ) (t : ℤ) (th : ℕ) → start ≡ marker n t th (codes "=== backtrace start ===")
         → end ≡ marker n t th (codes "=== backtrace end ===")
         → PostsEach O.did policy (posted_of n t th list.old.messages) outlet.old outcomes.new.items outlet.new }
-    ensures list { list.new ≡ room_for list.old.most }
+    ensures list { list.new ≡ room_for list.old.most list.old.limit }
     ensures ready { O.is_ready outlet.new }
 {
     if list.is_empty() {
@@ -170,14 +174,15 @@ fn post_all_waiting<O: CarryWaiting>(
     list: &mut Dumped,
     outcomes: &mut Vec<Outcome<()>>,
 )
-    requires ready { O.is_ready outlet.old }
+    requires ready { O.is_ready outlet.old × AdmitsShort O.admits list.old.limit outlet.old }
     requires room { vec_len outcomes.old + length list.old.messages < vec_capacity outcomes.old }
     ensures posted { (s : O) (before : List Message) → PostsEach O.did policy before s outcomes.old.items outlet.old
         → PostsEach O.did policy (before ++ list.old.messages) s outcomes.new.items outlet.new }
-    ensures list { list.new ≡ room_for list.old.most }
+    ensures list { list.new ≡ room_for list.old.most list.old.limit }
     ensures count { vec_len outcomes.new ≡ vec_len outcomes.old + length list.old.messages }
     ensures room { vec_capacity outcomes.new ≡ vec_capacity outcomes.old }
     ensures ready { O.is_ready outlet.new }
+    ensures admitted { (m : Message) → O.admits outlet.old m → O.admits outlet.new m }
 {
     while let Some(message) = list.take_oldest() {
         outcomes.push_reserved(post_waiting(rt, outlet, policy, message));
@@ -191,9 +196,10 @@ fn post_waiting<O: CarryWaiting>(
     policy: Policy,
     message: Message,
 ) -> Outcome<()>
-    requires { O.is_ready outlet.old }
+    requires ready { O.is_ready outlet.old × O.admits outlet.old message }
     ensures post { PostsItem O.did policy (Text message) outlet.old outlet.new result }
     ensures ready { O.is_ready outlet.new }
+    ensures admitted { (m : Message) → O.admits outlet.old m → O.admits outlet.new m }
 {
     let value = outlet.message(message);
     outlet.post_waiting(rt, policy, value)
@@ -201,7 +207,8 @@ fn post_waiting<O: CarryWaiting>(
 
 /// Keeps the copy, if there is one, as soon as the lock is got, and answers whether there is one.
 fn keep_waiting(rt: &impl Wait, keeper: &mut LaneKeeper<'_>, copy: Option<Message>) -> bool
-    requires { IsSeated keeper.old }
+    requires seated { IsSeated keeper.old }
+    requires short { IsNoLonger keeper.old.lane.now.first.limit copy }
     ensures kept { KeepsCopy KeepsByTurn NeverPasses copy result keeper.old keeper.new }
     ensures ready { IsSeated keeper.new }
     ensures list { HasList keeper.old → HasList keeper.new }
@@ -218,7 +225,8 @@ fn keep_waiting(rt: &impl Wait, keeper: &mut LaneKeeper<'_>, copy: Option<Messag
 impl LaneKeeper<'_> {
     /// Keeps the message as soon as the lock is got.
     pub fn keep(&mut self, rt: &impl Wait, message: Message)
-        requires { IsSeated self.old }
+        requires seated { IsSeated self.old }
+        requires short { IsShort self.old.lane.now.first.limit message }
         ensures kept { KeepsByTurn self.old message self.new }
         ensures ready { IsSeated self.new }
         ensures list { HasList self.old → HasList self.new }
@@ -236,7 +244,7 @@ impl LaneKeeper<'_> {
         requires seated { IsSeated self.old }
         requires list { HasList self.old }
         ensures dumped { DumpsByTurn self.old result self.new }
-        ensures most { result.most ≡ self.old.lane.now.first.most }
+        ensures most { (result.most ≡ self.old.lane.now.first.most) × (result.limit ≡ self.old.lane.now.first.limit) }
         ensures seated { IsSeated self.new }
     {
         let (_, reply) = self

@@ -1,6 +1,7 @@
 use Rattle.std.proofs.Common.{◌≡◌, ◌+◌, [], ◌∷◌, ◌++◌, length, drop, arith, sym, ap, subst, ◌∙◌, append_assoc}
 use Rattle.alog_policy.specs.Progress.{without_waiting}
 use Rattle.alog_registry.specs.Dumping.{PostsEach}
+use Rattle.alog_registry.specs.Limit.{IsShort}
 use Rattle.alog_registry.proofs.Dumps.{first_and_rest, taken_from, posts_more}
 use Rattle.alog_registry.proofs.dumping.post_all.Goals as goal
 
@@ -29,4 +30,16 @@ loop-message-preserved g c =
       count = omega arith;
       room = c.push_reserved.ensures.capacity ∙ c.loop-message.invariant.room;
       ready = c.post.ensures.ready;
+      limit = ap (λ l. l.limit) c.take_oldest.ensures.rest ∙ c.loop-message.invariant.limit;
+      admitted = λ x h. c.post.ensures.admitted x (c.loop-message.invariant.admitted x h);
     }
+
+pub post-requires : goal.post-requires
+post-requires g c = record {
+  ready = (
+    c.loop-message.invariant.ready,
+    c.loop-message.invariant.admitted c.in-Some.message
+        (c.requires.ready.1 c.in-Some.message
+        (subst (λ n. IsShort n c.in-Some.message) c.loop-message.invariant.limit c.in-Some.ensures.short)),
+  );
+}

@@ -13,6 +13,8 @@ invariant-loop-message g l = record {
   count : vec_len l.outcomes + length l.list.messages ≡ vec_len l.fn.outcomes + length l.fn.list.messages;
   room : vec_capacity l.outcomes ≡ vec_capacity l.fn.outcomes;
   ready : g.O.Carry.is_ready l.outlet;
+  limit : l.list.limit ≡ l.fn.list.limit;
+  admitted : (m : Message) → g.O.Carry.admits l.fn.outlet m → g.O.Carry.admits l.outlet m;
 }
 
 abbrev pub decreases-loop-message : goal.decreases-loop-message

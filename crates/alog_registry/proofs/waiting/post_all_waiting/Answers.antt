@@ -1,5 +1,6 @@
 use Rattle.std.proofs.Common.{◌≡◌, ◌+◌, [], ◌∷◌, ◌++◌, length, drop, arith, sym, ap, subst, ◌∙◌, append_assoc}
 use Rattle.alog_registry.specs.Dumping.{PostsEach}
+use Rattle.alog_registry.specs.Limit.{IsShort}
 use Rattle.alog_registry.proofs.Dumps.{first_and_rest, taken_from, posts_more}
 use Rattle.alog_registry.proofs.waiting.post_all_waiting.Goals as goal
 
@@ -29,4 +30,16 @@ loop-message-preserved g c =
       room = c.push_reserved.ensures.capacity ∙ c.loop-message.invariant.room;
       most = ap (λ l. l.most) c.take_oldest.ensures.rest ∙ c.loop-message.invariant.most;
       ready = c.post_waiting.ensures.ready;
+      limit = ap (λ l. l.limit) c.take_oldest.ensures.rest ∙ c.loop-message.invariant.limit;
+      admitted = λ x h. c.post_waiting.ensures.admitted x (c.loop-message.invariant.admitted x h);
     }
+
+pub post_waiting-requires : goal.post_waiting-requires
+post_waiting-requires g c = record {
+  ready = (
+    c.loop-message.invariant.ready,
+    c.loop-message.invariant.admitted c.in-Some.message
+        (c.requires.ready.1 c.in-Some.message
+        (subst (λ n. IsShort n c.in-Some.message) c.loop-message.invariant.limit c.in-Some.ensures.short)),
+  );
+}

@@ -12,6 +12,8 @@ invariant-loop-message g l = record {
   room : vec_capacity l.outcomes ≡ vec_capacity l.fn.outcomes;
   most : l.list.most ≡ l.fn.list.most;
   ready : g.O.Carry.is_ready l.outlet;
+  limit : l.list.limit ≡ l.fn.list.limit;
+  admitted : (m : Message) → g.O.Carry.admits l.fn.outlet m → g.O.Carry.admits l.outlet m;
 }
 
 abbrev pub decreases-loop-message : goal.decreases-loop-message

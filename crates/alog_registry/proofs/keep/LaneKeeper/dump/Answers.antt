@@ -21,7 +21,7 @@ returns-clause-most g c =
     let is = c.in-Dumped.is in
     let dumped = d.1 in
     let same : c.in-Dumped.list ≡ d.0 = cc in
-    ap (λ (r : Room). r.most) same ∙ d.2
+    (ap (λ (r : Room). r.most) same ∙ d.2, ap (λ (r : Room). r.limit) same ∙ d.3)
 
 pub returns-clause-dumped : goal.returns-clause-dumped
 returns-clause-dumped g c =
