@@ -48,6 +48,7 @@ impl Loggers {
         ensures err { OnErr result ((outlet.new ≡ outlet.old) × (backtrace.new ≡ backtrace.old)) }
         ensures none { backtrace.old.messages ≡ [] → IsOk result }
         ensures ready { O.is_ready outlet.new }
+        ensures outlet { (m : Message) → O.admits outlet.old m → O.admits outlet.new m }
     {
         let Some(spec) = self.spec(number) else {
             unreachable!()

@@ -29,7 +29,8 @@ pub trait Keep {
         requires ready { is_ready self.old }
         requires admitted { admits self.old message }
         ensures kept { KeptOr keeps passes result self.old message self.new }
-        ensures ready { is_ready self.new };
+        ensures ready { is_ready self.new }
+        ensures still { (m : Message) → admits self.old m → admits self.new m };
 }
 
 /// A backtrace of one's own keeps every message.

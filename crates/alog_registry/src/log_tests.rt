@@ -1,4 +1,6 @@
 ghost use Rattle.std.specs.Prelude.{◌<◌, length, IfOk};
+ghost use Rattle.alog_registry.specs.Limit.{AdmitsShort};
+ghost use Rattle.alog_registry.specs.declared.log_tests.TheConstants.{TEXT_LIMIT};
 
 use super::*;
 use alog_lane::Lane;
@@ -65,9 +67,10 @@ fn say<O: Carry, K: Keep>(
     text: &str,
 ) -> Result<LogReply, Fail>
     requires known { 0 < length loggers.now }
-    requires outlet { O.is_ready outlet.old }
-    requires keeper { K.is_ready keeper.old }
-    ensures ready { O.is_ready outlet.new × K.is_ready keeper.new }
+    requires outlet { O.is_ready outlet.old × AdmitsShort O.admits TEXT_LIMIT outlet.old }
+    requires keeper { K.is_ready keeper.old × AdmitsShort K.admits TEXT_LIMIT keeper.old }
+    ensures outlet { O.is_ready outlet.new × AdmitsShort O.admits TEXT_LIMIT outlet.new }
+    ensures keeper { K.is_ready keeper.new × AdmitsShort K.admits TEXT_LIMIT keeper.new }
 {
     Ok(loggers.log_now(
         alloc, outlet, keeper, TEXT_LIMIT, 0, level, 0, 1, text, None,
@@ -102,9 +105,10 @@ pub(crate) fn keep_three<O: Carry, K: Keep>(
     keeper: &mut K,
 ) -> Result<(), Fail>
     requires known { 0 < length loggers.now }
-    requires outlet { O.is_ready outlet.old }
-    requires keeper { K.is_ready keeper.old }
-    ensures ready { O.is_ready outlet.new × K.is_ready keeper.new }
+    requires outlet { O.is_ready outlet.old × AdmitsShort O.admits TEXT_LIMIT outlet.old }
+    requires keeper { K.is_ready keeper.old × AdmitsShort K.admits TEXT_LIMIT keeper.old }
+    ensures outlet { O.is_ready outlet.new × AdmitsShort O.admits TEXT_LIMIT outlet.new }
+    ensures keeper { K.is_ready keeper.new × AdmitsShort K.admits TEXT_LIMIT keeper.new }
 {
     let kept = LogReply::Filtered {
         level: Level::Info,
@@ -134,7 +138,7 @@ pub(crate) fn dump_twice<O: Carry>(
     backtrace: &mut Backtrace,
 ) -> Result<(), Fail>
     requires known { 0 < length loggers.now }
-    requires outlet { O.is_ready outlet.old }
+    requires outlet { O.is_ready outlet.old × AdmitsShort O.admits backtrace.old.limit outlet.old }
     ensures ready { O.is_ready outlet.new }
 {
     let outcomes = loggers.dump_backtrace(alloc, outlet, backtrace, 0, 5, 7)?;
@@ -345,7 +349,7 @@ pub(crate) fn log_to_a_full<O: Carry>(
     outlet: &mut O,
 ) -> Result<(Outcome<()>, usize), Fail>
     requires known { 0 < length loggers.now }
-    requires outlet { O.is_ready outlet.old }
+    requires outlet { O.is_ready outlet.old × AdmitsShort O.admits TEXT_LIMIT outlet.old }
 {
     let mut kept = Backtrace::new(alloc, 4)?;
     let flushes = (loggers.flush(outlet, 0), loggers.flush(outlet, 0));
@@ -400,6 +404,8 @@ impl Keep for Forgetful {
 
     ghost is_ready = { λ k. Unit {0} };
 
+    ghost admits = { λ k m. Unit {0} };
+
     ghost keeps = { λ k m l. ⊥ };
 
     ghost passes = { λ k l. l ≡ k };
@@ -414,7 +420,7 @@ fn log_kept<K: Keep>(
     alloc: Global,
     keeper: &mut K,
 ) -> Result<(LogReply, LogReply), Fail>
-    requires { K.is_ready keeper.old }
+    requires { K.is_ready keeper.old × AdmitsShort K.admits TEXT_LIMIT keeper.old }
 {
     let loggers = one(rt, alloc, Policy::Block, 2)?;
     let mut desk = Desk::<Item>::new(alloc, 4, 0)?;

@@ -82,6 +82,8 @@ impl Loggers {
         ensures out_of_memory { IsErrOf result MessageError.OutOfMemory → IsWithin text_limit text.now source.entry }
         ensures err { OnErr result ((outlet.new ≡ outlet.old) × (keeper.new ≡ keeper.old)) }
         ensures ready { O.is_ready outlet.new × K.is_ready keeper.new }
+        ensures outlet { (m : Message) → O.admits outlet.old m → O.admits outlet.new m }
+        ensures keeper { (m : Message) → K.admits keeper.old m → K.admits keeper.new m }
     {
         let given = MessageRef {
             logger: number,
@@ -117,6 +119,7 @@ impl Loggers {
         ensures post { (s : Spec) → spec_at self.now number ≡ Some s
             → PostsItemNow O.did s.policy (Flush number) outlet.old outlet.new result }
         ensures ready { O.is_ready outlet.new }
+        ensures outlet { (m : Message) → O.admits outlet.old m → O.admits outlet.new m }
     {
         let Some(spec) = self.spec(number) else {
             unreachable!()
@@ -143,6 +146,7 @@ pub(crate) fn prepare<O: Carry>(
     ensures field_too_long { IsErrOf result MessageError.FieldTooLong → IsTooLongField text_limit given.entry.text.now given.entry.source }
     ensures out_of_memory { IsErrOf result MessageError.OutOfMemory → IsWithin text_limit given.entry.text.now given.entry.source }
     ensures err { OnErr result (outlet.new ≡ outlet.old) }
+    ensures outlet { (m : Message) → O.admits outlet.old m → O.admits outlet.new m }
     ensures short { IfOk result (λ p. IsShortCopy text_limit p) }
     ensures decided { IfOk result (λ p. IsDecided own given.entry.level p) }
     ensures unread { spec.now.backtrace ≡ 0 → IsBelow given.entry.level own → IsOk result }
@@ -183,6 +187,7 @@ fn keep_copy<K: Keep>(keeper: &mut K, copy: Option<Message>) -> bool
     requires admitted { (m : Message) → copy ≡ Some m → K.admits keeper.old m }
     ensures kept { KeepsCopy K.keeps K.passes copy result keeper.old keeper.new }
     ensures ready { K.is_ready keeper.new }
+    ensures still { (m : Message) → K.admits keeper.old m → K.admits keeper.new m }
 {
     match copy {
         Some(message) => keeper.keep_now(message),

@@ -1,10 +1,11 @@
-ghost use Rattle.std.specs.Prelude.{◌<◌, length, IfOk};
+ghost use Rattle.std.specs.Prelude.{◌≡◌, ◌<◌, length, IfOk, IfSome};
+ghost use Rattle.alog_registry.specs.Limit.{IsShort};
 ghost use Rattle.alog_policy.specs.Port.{IsFit};
 ghost use Rattle.alog_ring.specs.Known.{IsPassOf};
 
 use super::*;
 use crate::log_tests::{TEXT_LIMIT, dump_twice, keep_three, log_to_a_full, one, posted};
-use alog_msg::{Item, Level};
+use alog_msg::{Item, Level, Message};
 use alog_policy::{LossBook, Outcome, Policy, Port, Why};
 use alog_ring::{Pass, Ring};
 use std::alloc::Global;
@@ -190,5 +191,55 @@ fn policies_of_a_full_ring(rt: HostRuntime) -> Result<(), Fail> {
         overran: 1,
     };
     assert_eq!(rt; (outcome, kept), (overran, 1));
+    Ok(())
+}
+
+// The next text of a ring, which is as short as the ring says.
+fn next_text(ring: &Ring<Item, TextLimit>, pass: &mut Pass<Item>) -> Option<Message>
+    requires { IsPassOf ring.now pass.old }
+    ensures { IfSome result (λ m. IsShort ring.now.limit.most m) }
+{
+    match ring.pop_once(pass) {
+        Ok((_, Item::Text(message))) => Some(message),
+        Ok((_, Item::Flush(_) | Item::Stop)) | Err(_) => None,
+    }
+}
+
+#[test]
+fn a_ring_of_short_texts(rt: HostRuntime) -> Result<(), Fail> {
+    let alloc = rt.alloc();
+    let loggers = one(&rt, alloc, Policy::Block, 1)?;
+    let limit = TextLimit { most: TEXT_LIMIT };
+    let (ring, mut pass) = Ring::limited(alloc, 4, 0, limit)?;
+    let (book, mut losses) = LossBook::new(alloc)?;
+    let mut other = ring.split(&mut pass, 1);
+    let mut backtrace = Backtrace::limited(alloc, 1, TEXT_LIMIT)?;
+    let mut port = Port {
+        ring: &ring,
+        pass: &mut pass,
+        book: &book,
+        seat: &mut losses,
+    };
+    let reply = loggers.log_now(
+        alloc,
+        &mut port,
+        &mut backtrace,
+        TEXT_LIMIT,
+        0,
+        Level::Info,
+        0,
+        1,
+        "m1",
+        None,
+    )?;
+    assert_eq!(rt;
+        reply,
+        LogReply::Logged {
+            outcome: posted(0),
+            kept: true
+        }
+    );
+    let message = next_text(&ring, &mut other).expect(&rt, "a text");
+    assert_eq!(rt; message.text.as_str(), "m1");
     Ok(())
 }

@@ -1,6 +1,9 @@
+ghost use Rattle.std.specs.Prelude.{IfOk};
+ghost use Rattle.alog_registry.specs.Limit.{IsShort};
+
 use super::*;
 use alog_lane::Lane;
-use alog_msg::{Item, Level, Message};
+use alog_msg::{Item, Level, MOST_TEXT_LIMIT, Message};
 use alog_policy::Policy;
 use std::alloc::{AllocError, Global};
 use std::process::Abort;
@@ -164,11 +167,15 @@ fn each_level_is_read_back(rt: HostRuntime) -> Result<(), Fail> {
     Ok(())
 }
 
-fn message(alloc: Global, level: Level, text: &str) -> Result<Message, Fail> {
+fn message(alloc: Global, level: Level, text: &str) -> Result<Message, Fail>
+    ensures { IfOk result (λ m. IsShort 64 m) }
+{
     Ok(Message::new(alloc, 64, 0, level, 5, 1, text, None)?)
 }
 
-fn debug(alloc: Global, text: &str) -> Result<Message, Fail> {
+fn debug(alloc: Global, text: &str) -> Result<Message, Fail>
+    ensures { IfOk result (λ m. IsShort 64 m) }
+{
     message(alloc, Level::Debug, text)
 }
 

@@ -1,10 +1,13 @@
 //! A backtrace under a lock, with which two threads keep messages.
+ghost use Rattle.std.specs.Prelude.{◌≤◌, ◌↔◌, IsTrue};
 ghost use Rattle.alog_lane.specs.Calls.{IsSeatOf};
+ghost use Rattle.alog_registry.specs.Limit.{IsShort};
+ghost use Rattle.alog_registry.specs.declared.log_tests.TheConstants.{TEXT_LIMIT};
 
 use super::*;
 use crate::log_tests::TEXT_LIMIT;
 use alog_lane::{Lane, LaneSeat};
-use alog_msg::{Level, Message};
+use alog_msg::{Level, MOST_TEXT_LIMIT, Message};
 use std::alloc::{AllocError, Global};
 use std::test::Fail;
 use std::{mem, thread};
@@ -26,7 +29,7 @@ struct Keeping {
 impl Keeping {
     /// Keeps each of its messages, where the lock is free.
     fn keep_all(self, lane: &Lane<Backtrace>) -> Keeping
-        requires { IsSeatOf lane.now self.seat }
+        requires { IsSeatOf lane.now self.seat × (TEXT_LIMIT ≤ lane.now.first.limit) }
         ensures { IsSeatOf lane.now result.seat }
     {
         let mut own = self;
@@ -35,12 +38,19 @@ impl Keeping {
             list: None,
         };
         while let Some(message) = own.messages.pop() {
-            if keep_one(lane, &mut own.seat, &mut scratch, message) {
+            if is_short(&message) && keep_one(lane, &mut own.seat, &mut scratch, message) {
                 own.kept = own.kept.saturating_add(1);
             }
         }
         own
     }
+}
+
+/// Whether a text has at most 64 bytes, as all here have.
+fn is_short(message: &Message) -> bool
+    ensures { IsTrue result ↔ IsShort TEXT_LIMIT message.now }
+{
+    message.text.as_str().len() <= TEXT_LIMIT
 }
 
 /// Keeps the message, where the lock is free, and answers whether it did.
@@ -50,7 +60,8 @@ fn keep_one(
     scratch: &mut BacktraceScratch,
     message: Message,
 ) -> bool
-    requires { IsSeatOf lane.now seat.old }
+    requires seat { IsSeatOf lane.now seat.old }
+    requires short { IsShort lane.now.first.limit message }
     ensures { IsSeatOf lane.now seat.new }
 {
     let mut keeper = LaneKeeper {
@@ -123,11 +134,11 @@ fn two_threads_keep(rt: HostRuntime) -> Result<(), Fail> {
     let (one, two) = thread::join(
         &rt,
         || -> Keeping
-            requires { IsSeatOf shared.now one.seat }
+            requires { IsSeatOf shared.now one.seat × (TEXT_LIMIT ≤ shared.now.first.limit) }
             ensures { IsSeatOf shared.entry.now result.seat }
         { one.keep_all(shared) },
         || -> Keeping
-            requires { IsSeatOf shared.now two.seat }
+            requires { IsSeatOf shared.now two.seat × (TEXT_LIMIT ≤ shared.now.first.limit) }
             ensures { IsSeatOf shared.entry.now result.seat }
         { two.keep_all(shared) },
     );

@@ -1,11 +1,12 @@
-ghost use Rattle.std.specs.Prelude.{◌<◌, length};
+ghost use Rattle.std.specs.Prelude.{◌≡◌, ◌≤◌, ◌<◌, length};
+ghost use Rattle.alog_msg.specs.declared.limits.TheConstants.{LEAST_TEXT_LIMIT};
 ghost use Rattle.alog_policy.specs.Port.{IsFit};
 ghost use Rattle.alog_registry.specs.LaneKeeper.{IsSeated, HasList};
 
 use super::*;
 use crate::log_tests::{TEXT_LIMIT, one, posted};
 use alog_lane::Lane;
-use alog_msg::{Item, Level};
+use alog_msg::{Item, Level, MOST_TEXT_LIMIT};
 use alog_policy::{LossBook, Policy, Port};
 use alog_ring::Ring;
 use std::alloc::Global;
@@ -26,8 +27,9 @@ fn said<R: Wait>(
     requires known { 0 < length loggers.now }
     requires fit { IsFit port.old }
     requires seated { IsSeated keeper.old × HasList keeper.old }
+    requires limit { LEAST_TEXT_LIMIT ≤ keeper.old.lane.now.first.limit }
     ensures fit { IsFit port.new }
-    ensures seated { IsSeated keeper.new × HasList keeper.new }
+    ensures seated { IsSeated keeper.new × HasList keeper.new × (keeper.new.lane ≡ keeper.old.lane) }
 {
     Ok(loggers.log(
         rt, alloc, port, keeper, TEXT_LIMIT, 0, level, 0, 1, text, None,
@@ -45,6 +47,7 @@ fn log_and_dump<R: Wait + Abort>(
     requires known { 0 < length loggers.now }
     requires fit { IsFit port.old }
     requires seated { IsSeated keeper.old × HasList keeper.old }
+    requires limit { LEAST_TEXT_LIMIT ≤ keeper.old.lane.now.first.limit }
 {
     let logged = LogReply::Logged {
         outcome: posted(0),

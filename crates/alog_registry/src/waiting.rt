@@ -60,6 +60,8 @@ impl Loggers {
         ensures err { OnErr result ((outlet.new ≡ outlet.old) × (keeper.new ≡ keeper.old)) }
         ensures ready { O.is_ready outlet.new × IsSeated keeper.new }
         ensures list { HasList keeper.old → HasList keeper.new }
+        ensures outlet { (m : Message) → O.admits outlet.old m → O.admits outlet.new m }
+        ensures lane { keeper.new.lane ≡ keeper.old.lane }
     {
         let given = MessageRef {
             logger: number,
@@ -114,6 +116,8 @@ impl Loggers {
             × PostsEach O.did s.policy (posted_of number time thread d.messages) outlet.old v.items outlet.new) }
         ensures err { OnErr result ((outlet.new ≡ outlet.old) × (keeper.new ≡ keeper.old)) }
         ensures ready { O.is_ready outlet.new × IsSeated keeper.new × HasList keeper.new }
+        ensures outlet { (m : Message) → O.admits outlet.old m → O.admits outlet.new m }
+        ensures lane { keeper.new.lane ≡ keeper.old.lane }
     {
         let Some(spec) = self.spec(number) else {
             unreachable!()
@@ -157,6 +161,7 @@ fn post_dumped<O: CarryWaiting>(
         → PostsEach O.did policy (posted_of n t th list.old.messages) outlet.old outcomes.new.items outlet.new }
     ensures list { list.new ≡ room_for list.old.most list.old.limit }
     ensures ready { O.is_ready outlet.new }
+    ensures outlet { (m : Message) → O.admits outlet.old m → O.admits outlet.new m }
 {
     if list.is_empty() {
         return;
@@ -212,6 +217,7 @@ fn keep_waiting(rt: &impl Wait, keeper: &mut LaneKeeper<'_>, copy: Option<Messag
     ensures kept { KeepsCopy KeepsByTurn NeverPasses copy result keeper.old keeper.new }
     ensures ready { IsSeated keeper.new }
     ensures list { HasList keeper.old → HasList keeper.new }
+    ensures lane { keeper.new.lane ≡ keeper.old.lane }
 {
     match copy {
         Some(message) => {
