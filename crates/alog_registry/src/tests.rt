@@ -190,9 +190,9 @@ fn is_text(message: Option<Message>, text: &str) -> bool {
 fn dumps_the_last_two(rt: HostRuntime) -> Result<(), Fail> {
     let alloc = rt.alloc();
     let mut backtrace = Backtrace::new(alloc, 2)?;
-    for text in ["m1", "m2", "m3"] {
-        backtrace.keep(debug(alloc, text)?);
-    }
+    backtrace.keep(debug(alloc, "m1")?);
+    backtrace.keep(debug(alloc, "m2")?);
+    backtrace.keep(debug(alloc, "m3")?);
     assert_eq!(rt; (backtrace.len(), backtrace.most()), (2, 2));
     let mut dumped = backtrace.dump(Dumped::new(alloc, 2, MOST_TEXT_LIMIT)?);
     assert!(rt; backtrace.is_empty() && dumped.len() == 2);
