@@ -434,3 +434,39 @@ fn tickets_of_a_run(rt: HostRuntime) -> Result<(), Fail> {
     );
     Ok(())
 }
+
+// Where memory is wanting once, one of these calls has no answer, and the next finds the queue as it was.
+#[test]
+fn want_of_memory(rt: HostRuntime) -> Result<(), Fail> {
+    let alloc = rt.alloc();
+    let mut wanting = false;
+    let mut world = match World::new(alloc, 4, 5) {
+        Ok(world) => world,
+        Err(error) => {
+            assert_eq!(rt; error, WorldError::OutOfMemory);
+            wanting = true;
+            World::new(alloc, 4, 5)?
+        }
+    };
+    pushes(&rt, &mut world, 1, 10, 5);
+    for cells in [world.cells(alloc), world.cells(alloc)] {
+        match cells {
+            Ok(cells) => assert!(rt; cells.as_slice() == [cell(5, Mark::Written)].as_slice()),
+            Err(AllocError) => {
+                assert!(rt; !wanting, "twice");
+                wanting = true;
+            }
+        }
+    }
+    for words in [world.words(alloc), world.words(alloc)] {
+        match words {
+            Ok(words) => assert!(rt; words.as_slice() == [6, 5, 8, 6, 6, 7].as_slice()),
+            Err(AllocError) => {
+                assert!(rt; !wanting, "twice");
+                wanting = true;
+            }
+        }
+    }
+    pops(&rt, &mut world, 2, 5, 10);
+    Ok(())
+}

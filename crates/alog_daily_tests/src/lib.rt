@@ -1,8 +1,8 @@
 //! Tests of daily sinks over the public surface of `alog_sink`.
 //!
-//! They are here, and not in `alog_sink`, since a crate with tests is proved twice. Read `daily_tests.rt` (which file each
-//! line goes to, which files are kept, stores that fail), then `period.rt` and `daily_plain_tests.rt` (the definition as a
-//! plain program, beside what a daily sink does).
+//! They are here, and not in `alog_sink`, since a crate with tests is proved twice. Read `sinks.rt` (what the tests share)
+//! and `daily_tests.rt` (which file each line goes to, which files are kept, stores that fail), then `period.rt` and
+//! `daily_plain_tests.rt` (the definition as a plain program, beside what a daily sink does).
 #![tactic(auto)]
 
 #[cfg(test)]
@@ -10,5 +10,7 @@ mod daily_plain_tests;
 #[cfg(test)]
 mod daily_tests;
 mod period;
+#[cfg(test)]
+mod sinks;
 
 pub use period::{Moment, period_of};

@@ -12,17 +12,14 @@
 //! `specs/Turn.antt`, `leaf.rt` and `fan.rt`, `specs/Sinks.antt` and `sink.rt`, `open.rt` (constructors), `turn.rt` (a
 //! sink under a lock). `names.rt` makes names of files; `laws.rt` states what is true of definitions.
 //!
-//! The tests `a_memory_sink`, `a_rotating_sink` and `a_daily_sink` of `alog_tests` are examples; the tests here try what is private.
+//! The tests `a_memory_sink` and `a_rotating_sink` of `alog_tests`, and `a_daily_sink` of `alog_daily_tests`, are examples.
+//! The tests here try what is private; those of stores are in `alog_store_tests`.
 #![tactic(auto)]
 
-#[cfg(test)]
-mod day_tests;
 mod diary;
 mod face;
 mod fan;
 mod folder_store;
-#[cfg(test)]
-mod folder_tests;
 mod fuse_store;
 mod journal;
 mod laws;
@@ -38,8 +35,6 @@ mod rotation_tests;
 mod sink;
 mod store;
 mod target;
-#[cfg(test)]
-mod tests;
 mod turn;
 
 pub use face::{Face, NameError, Names};

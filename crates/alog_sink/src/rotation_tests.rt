@@ -1,6 +1,5 @@
 use crate::names::{Date, is_file_name, numbered, write_dated};
 use crate::rotation::{FILES_MAX, OpenError, Rotation, SIZE_MAX};
-use crate::tests::has;
 use crate::{
     FuseStore, MemStore, Store, StoreError, dated_names_differ, days_go_on, numbered_names_differ,
     pieces_have_one_cut,
@@ -8,6 +7,13 @@ use crate::{
 use std::alloc::{AllocError, Global};
 use std::process::Abort;
 use std::test::Fail;
+
+fn has(rt: &impl Abort, store: &MemStore, name: &str, bytes: &[u8]) {
+    match store.files().get(name) {
+        Some(file) => assert!(rt; file.as_slice() == bytes, "{name}"),
+        None => assert!(rt; false, "{name} is absent"),
+    }
+}
 
 fn opened<S: Store>(
     rt: &(impl Abort + AllocGlobal),
@@ -37,6 +43,17 @@ fn rotated(
     Ok(store)
 }
 
+fn is_numbered(
+    rt: &(impl Abort + AllocGlobal),
+    name: &str,
+    number: usize,
+    wanted: &str,
+) -> Result<(), Fail> {
+    let found = numbered(rt.alloc(), name, number)?;
+    assert!(rt; found.as_str() == wanted, "{name}");
+    Ok(())
+}
+
 #[test]
 fn names_with_numbers(rt: HostRuntime) -> Result<(), Fail> {
     for (name, first) in [
@@ -47,11 +64,10 @@ fn names_with_numbers(rt: HostRuntime) -> Result<(), Fail> {
         ("a.b.c", "a.b.1.c"),
         (".", "..1"),
     ] {
-        assert!(rt; numbered(rt.alloc(), name, 0)?.as_str() == name, "{name}");
-        assert!(rt; numbered(rt.alloc(), name, 1)?.as_str() == first, "{name}");
+        is_numbered(&rt, name, 0, name)?;
+        is_numbered(&rt, name, 1, first)?;
     }
-    assert!(rt; numbered(rt.alloc(), "log.txt", 1_000)?.as_str() == "log.1000.txt");
-    Ok(())
+    is_numbered(&rt, "log.txt", 1_000, "log.1000.txt")
 }
 
 #[test]
@@ -167,23 +183,29 @@ fn fused(rt: &(impl Abort + AllocGlobal), k: u64) -> Result<(bool, MemStore), Fa
     Ok((failed, store.into_store()))
 }
 
+// Where the call `k` fails, or none, there are so many files, and the base has these bytes.
+fn leaves(
+    rt: &(impl Abort + AllocGlobal),
+    k: u64,
+    fails: bool,
+    files: usize,
+    base: &[u8],
+) -> Result<MemStore, Fail> {
+    let (failed, store) = fused(rt, k)?;
+    assert!(rt; failed == fails && store.files().len() == files, "{k}");
+    has(rt, &store, "log", base);
+    Ok(store)
+}
+
 #[test]
 fn each_call_failing(rt: HostRuntime) -> Result<(), Fail> {
     let (failed, store) = fused(&rt, 0)?;
     assert!(rt; failed && store.files().len() == 0);
-    let (failed, store) = fused(&rt, 1)?;
-    assert!(rt; failed && store.files().len() == 1);
-    has(&rt, &store, "log", b"aa");
-    let (failed, store) = fused(&rt, 2)?;
-    assert!(rt; failed && store.files().len() == 1);
-    has(&rt, &store, "log", b"aaaaa\n");
-    let (failed, store) = fused(&rt, 3)?;
-    assert!(rt; failed && store.files().len() == 2);
-    has(&rt, &store, "log", b"bb");
+    leaves(&rt, 1, true, 1, b"aa")?;
+    leaves(&rt, 2, true, 1, b"aaaaa\n")?;
+    let store = leaves(&rt, 3, true, 2, b"bb")?;
     has(&rt, &store, "log.1", b"aaaaa\n");
-    let (failed, store) = fused(&rt, 4)?;
-    assert!(rt; !failed && store.files().len() == 2);
-    has(&rt, &store, "log", b"bbbbb\n");
+    leaves(&rt, 4, false, 2, b"bbbbb\n")?;
     Ok(())
 }
 

@@ -1,5 +1,5 @@
 //! Sinks whose store fails: what they answer then and from then on, and what their files have.
-use crate::sinks::{face, fan_of_two, give, give_at, has, memory, opened};
+use crate::sinks::{face, fan_of_two, flushes, gives, gives_at, has, memory, opened};
 use crate::stores::Noting;
 use alog_msg::Level;
 use alog_sink::{FuseStore, MemStore, OpenError, Sink, SinkError, Taken};
@@ -7,120 +7,85 @@ use std::alloc::Global;
 use std::process::Abort;
 use std::test::Fail;
 
+type Fused = FuseStore<MemStore>;
+
+// A store that fails the call after so many, of an append when it has so many bytes.
+fn fuse(alloc: Global, calls: u64, part: usize) -> Fused {
+    FuseStore::new(MemStore::new(alloc), calls, part)
+}
+
+// The files of the sink's store, or none of a fan.
+fn files(sink: &Sink<Fused>) -> Option<&MemStore> {
+    sink.store().map(|fuse| fuse.store())
+}
+
 #[test]
 fn a_store_that_fails_at_its_second_call(rt: HostRuntime) -> Result<(), Fail> {
-    let alloc = rt.alloc();
-    let mut sink = memory(alloc, FuseStore::new(MemStore::new(alloc), 1, 3), b"%v")?;
-    assert_eq!(rt; give(alloc, &mut sink, &["one"])?, Ok(Taken::Written));
-    assert_eq!(rt; give(alloc, &mut sink, &["two"])?, Err(SinkError::Store));
-    assert_eq!(rt; give(alloc, &mut sink, &["six"])?, Err(SinkError::Broken));
-    assert_eq!(rt; sink.flush(), Err(SinkError::Broken));
-    assert_eq!(rt;
-        give_at(alloc, &mut sink, Level::Debug, "no")?,
-        Ok(Taken::Below)
-    );
-    has(
-        &rt,
-        sink.store().map(|fuse| fuse.store()),
-        "log",
-        b"one\ntwo",
-    );
+    let mut sink = memory(rt.alloc(), fuse(rt.alloc(), 1, 3), b"%v")?;
+    gives(&rt, &mut sink, "one", Ok(Taken::Written));
+    gives(&rt, &mut sink, "two", Err(SinkError::Store));
+    gives(&rt, &mut sink, "six", Err(SinkError::Broken));
+    flushes(&rt, &mut sink, Err(SinkError::Broken));
+    gives_at(&rt, &mut sink, Level::Debug, "no", Ok(Taken::Below));
+    has(&rt, files(&sink), "log", b"one\ntwo");
     Ok(())
 }
 
 #[test]
 fn a_flush_that_fails(rt: HostRuntime) -> Result<(), Fail> {
-    let alloc = rt.alloc();
-    let mut sink = memory(alloc, FuseStore::new(MemStore::new(alloc), 1, 0), b"%v")?;
-    assert_eq!(rt; give(alloc, &mut sink, &["one"])?, Ok(Taken::Written));
-    assert_eq!(rt; sink.flush(), Err(SinkError::Store));
-    assert_eq!(rt; give(alloc, &mut sink, &["two"])?, Err(SinkError::Broken));
+    let mut sink = memory(rt.alloc(), fuse(rt.alloc(), 1, 0), b"%v")?;
+    gives(&rt, &mut sink, "one", Ok(Taken::Written));
+    flushes(&rt, &mut sink, Err(SinkError::Store));
+    gives(&rt, &mut sink, "two", Err(SinkError::Broken));
+    Ok(())
+}
+
+// What a member's file has where the store failed after so many calls.
+fn member_has(rt: &impl Abort, fan: &Sink<Fused>, member: usize, calls: u64) {
+    let bytes: &[u8] = if calls == 1 { b"a\n" } else { b"a\nb\nc\n" };
+    match fan.members().get(member) {
+        Some(leaf) => has(rt, Some(leaf.store().store()), "log", bytes),
+        None => assert!(rt; false, "no member {member}"),
+    }
+}
+
+// A fan of two members whose stores fail after so many calls, one of them after the first.
+fn fan_with_fault(rt: &(impl Abort + AllocGlobal), one: u64, two: u64) -> Result<(), Fail> {
+    let (first, second) = (fuse(rt.alloc(), one, 0), fuse(rt.alloc(), two, 0));
+    let mut fan = fan_of_two(rt.alloc(), first, second)?;
+    gives_at(rt, &mut fan, Level::Error, "a", Ok(Taken::Written));
+    gives_at(rt, &mut fan, Level::Error, "b", Err(SinkError::Store));
+    gives_at(rt, &mut fan, Level::Error, "c", Err(SinkError::Broken));
+    flushes(rt, &mut fan, Err(SinkError::Broken));
+    assert_eq!(rt; fan.members().len(), 2);
+    member_has(rt, &fan, 0, one);
+    member_has(rt, &fan, 1, two);
     Ok(())
 }
 
 #[test]
 fn a_fan_with_a_fault(rt: HostRuntime) -> Result<(), Fail> {
-    let alloc = rt.alloc();
-    for (one, two) in [(1, 9), (9, 1), (1, 1)] {
-        let first = FuseStore::new(MemStore::new(alloc), one, 0);
-        let second = FuseStore::new(MemStore::new(alloc), two, 0);
-        let mut fan = fan_of_two(alloc, first, second)?;
-        assert_eq!(rt;
-            give_at(alloc, &mut fan, Level::Error, "a")?,
-            Ok(Taken::Written)
-        );
-        assert_eq!(rt;
-            give_at(alloc, &mut fan, Level::Error, "b")?,
-            Err(SinkError::Store)
-        );
-        assert_eq!(rt;
-            give_at(alloc, &mut fan, Level::Error, "c")?,
-            Err(SinkError::Broken)
-        );
-        assert_eq!(rt; fan.flush(), Err(SinkError::Broken));
-        let members = fan.members();
-        assert_eq!(rt; members.len(), 2);
-        let all: &[u8] = b"a\nb\nc\n";
-        let cut: &[u8] = b"a\n";
-        let wants = |call: u64| if call == 1 { cut } else { all };
-        has(&rt, Some(members[0].store().store()), "log", wants(one));
-        has(&rt, Some(members[1].store().store()), "log", wants(two));
-    }
+    fan_with_fault(&rt, 1, 9)?;
+    fan_with_fault(&rt, 9, 1)?;
+    fan_with_fault(&rt, 1, 1)
+}
+
+// The text `two` is cut off after so many bytes.
+fn part_of_an_append(rt: &(impl Abort + AllocGlobal), part: usize) -> Result<(), Fail> {
+    let mut sink = memory(rt.alloc(), fuse(rt.alloc(), 1, part), b"%v")?;
+    gives(rt, &mut sink, "one", Ok(Taken::Written));
+    gives(rt, &mut sink, "two", Err(SinkError::Store));
+    gives(rt, &mut sink, "six", Err(SinkError::Broken));
+    let all = b"one\ntwo\n".as_slice();
+    let left = all.len().min(part.saturating_add(4));
+    has(rt, files(&sink), "log", &all[..left]);
     Ok(())
 }
 
-// The text `two` is cut off after each number of bytes.
 #[test]
 fn each_part_of_an_append(rt: HostRuntime) -> Result<(), Fail> {
-    let alloc = rt.alloc();
-    let all = b"one\ntwo\n";
     for part in 0..6 {
-        let mut sink = memory(alloc, FuseStore::new(MemStore::new(alloc), 1, part), b"%v")?;
-        assert_eq!(rt; give(alloc, &mut sink, &["one"])?, Ok(Taken::Written));
-        assert_eq!(rt; give(alloc, &mut sink, &["two"])?, Err(SinkError::Store));
-        assert_eq!(rt; give(alloc, &mut sink, &["six"])?, Err(SinkError::Broken));
-        let left = all.len().min(4 + part);
-        has(
-            &rt,
-            sink.store().map(|fuse| fuse.store()),
-            "log",
-            &all[..left],
-        );
-    }
-    Ok(())
-}
-
-#[test]
-fn a_rotating_sink_whose_store_fails(rt: HostRuntime) -> Result<(), Fail> {
-    let alloc = rt.alloc();
-    let ends: [(u64, usize, &[u8], Option<&[u8]>); 6] = [
-        (1, 0, b"aa", None),
-        (2, 1, b"aaaaa\n", None),
-        (3, 1, b"bb", Some(b"aaaaa\n")),
-        (4, 2, b"bbbbb\n", Some(b"aaaaa\n")),
-        (5, 2, b"cc", Some(b"bbbbb\n")),
-        (9, 3, b"ccccc\n", Some(b"bbbbb\n")),
-    ];
-    for (k, written, base, first) in ends {
-        let store = FuseStore::new(MemStore::new(alloc), k, 2);
-        let face = face(alloc, Level::Info, b"%v")?;
-        let mut sink = opened(Sink::rotating(alloc, face, store, "log", 10, 1))?;
-        for (i, text) in ["aaaaa", "bbbbb", "ccccc"].iter().enumerate() {
-            let answer = give(alloc, &mut sink, &[text])?;
-            assert!(rt;
-                answer == after(i, written),
-                "text {i} where call {k} fails"
-            );
-        }
-        assert_eq!(rt; sink.flush().is_err(), written < 3);
-        assert_eq!(rt;
-            give_at(alloc, &mut sink, Level::Debug, "no")?,
-            Ok(Taken::Below)
-        );
-        let files = sink.store().map(|fuse| fuse.store());
-        has(&rt, files, "log", base);
-        let second = files.and_then(|files| files.files().get("log.1"));
-        assert!(rt; second.map(|file| file.as_slice()) == first, "{k}");
+        part_of_an_append(&rt, part)?;
     }
     Ok(())
 }
@@ -134,6 +99,52 @@ fn after(i: usize, written: usize) -> Result<Taken, SinkError> {
     } else {
         Err(SinkError::Broken)
     }
+}
+
+// Gives three texts and a flush to a rotating sink whose store fails after so many calls: it can write so many texts.
+fn three_texts(
+    rt: &(impl Abort + AllocGlobal),
+    calls: u64,
+    written: usize,
+) -> Result<Sink<Fused>, Fail> {
+    let face = face(rt.alloc(), Level::Info, b"%v")?;
+    let store = fuse(rt.alloc(), calls, 2);
+    let mut sink = opened(Sink::rotating(rt.alloc(), face, store, "log", 10, 1))?;
+    gives(rt, &mut sink, "aaaaa", after(0, written));
+    gives(rt, &mut sink, "bbbbb", after(1, written));
+    gives(rt, &mut sink, "ccccc", after(2, written));
+    let flushed = if written < 3 {
+        Err(SinkError::Broken)
+    } else {
+        Ok(())
+    };
+    flushes(rt, &mut sink, flushed);
+    gives_at(rt, &mut sink, Level::Debug, "no", Ok(Taken::Below));
+    Ok(sink)
+}
+
+// The base has these bytes, and there is no other file.
+fn has_base(rt: &impl Abort, sink: &Sink<Fused>, base: &[u8]) {
+    has(rt, files(sink), "log", base);
+    let count = files(sink).map(|files| files.files().len());
+    assert_eq!(rt; count, Some(1));
+}
+
+// The base and the file before it have these bytes.
+fn has_both(rt: &impl Abort, sink: &Sink<Fused>, base: &[u8], first: &[u8]) {
+    has(rt, files(sink), "log", base);
+    has(rt, files(sink), "log.1", first);
+}
+
+#[test]
+fn a_rotating_sink_whose_store_fails(rt: HostRuntime) -> Result<(), Fail> {
+    has_base(&rt, &three_texts(&rt, 1, 0)?, b"aa");
+    has_base(&rt, &three_texts(&rt, 2, 1)?, b"aaaaa\n");
+    has_both(&rt, &three_texts(&rt, 3, 1)?, b"bb", b"aaaaa\n");
+    has_both(&rt, &three_texts(&rt, 4, 2)?, b"bbbbb\n", b"aaaaa\n");
+    has_both(&rt, &three_texts(&rt, 5, 2)?, b"cc", b"bbbbb\n");
+    has_both(&rt, &three_texts(&rt, 9, 3)?, b"ccccc\n", b"bbbbb\n");
+    Ok(())
 }
 
 #[test]
@@ -158,32 +169,42 @@ fn notes(alloc: Global) -> Noting {
     }
 }
 
-// Whether just these names were flushed.
-fn flushed(store: Option<&Noting>, names: &str) -> bool {
-    store.map(|store| store.flushed.as_str()) == Some(names)
+// Just these names were flushed.
+fn flushed(rt: &impl Abort, store: Option<&Noting>, names: &str) {
+    let noted = store.map(|store| store.flushed.as_str());
+    assert!(rt; noted == Some(names), "{noted:?} and not {names}");
 }
 
 #[test]
 fn a_flush_names_the_file(rt: HostRuntime) -> Result<(), Fail> {
-    let alloc = rt.alloc();
-    let mut sink = memory(alloc, notes(alloc), b"%v")?;
-    assert_eq!(rt; sink.flush(), Ok(()));
-    assert_eq!(rt; give(alloc, &mut sink, &["a"])?, Ok(Taken::Written));
-    assert_eq!(rt; sink.flush(), Ok(()));
-    assert!(rt; flushed(sink.store(), "log log "));
-    let face = face(alloc, Level::Info, b"%v")?;
-    let mut sink = opened(Sink::rotating(alloc, face, notes(alloc), "log.txt", 10, 2))?;
-    assert_eq!(rt;
-        give(alloc, &mut sink, &["aaaaa", "bbbbb"])?,
-        Ok(Taken::Written)
-    );
-    assert!(rt; flushed(sink.store(), ""));
-    assert_eq!(rt; sink.flush(), Ok(()));
-    assert!(rt; flushed(sink.store(), "log.txt "));
-    let mut fan = fan_of_two(alloc, notes(alloc), notes(alloc))?;
-    assert_eq!(rt; fan.flush(), Ok(()));
+    let mut sink = memory(rt.alloc(), notes(rt.alloc()), b"%v")?;
+    flushes(&rt, &mut sink, Ok(()));
+    gives(&rt, &mut sink, "a", Ok(Taken::Written));
+    flushes(&rt, &mut sink, Ok(()));
+    flushed(&rt, sink.store(), "log log ");
+    Ok(())
+}
+
+#[test]
+fn a_flush_names_the_base(rt: HostRuntime) -> Result<(), Fail> {
+    let face = face(rt.alloc(), Level::Info, b"%v")?;
+    let store = notes(rt.alloc());
+    let mut sink = opened(Sink::rotating(rt.alloc(), face, store, "log.txt", 10, 2))?;
+    gives(&rt, &mut sink, "aaaaa", Ok(Taken::Written));
+    gives(&rt, &mut sink, "bbbbb", Ok(Taken::Written));
+    flushed(&rt, sink.store(), "");
+    flushes(&rt, &mut sink, Ok(()));
+    flushed(&rt, sink.store(), "log.txt ");
+    Ok(())
+}
+
+#[test]
+fn a_flush_of_each_member(rt: HostRuntime) -> Result<(), Fail> {
+    let (one, two) = (notes(rt.alloc()), notes(rt.alloc()));
+    let mut fan = fan_of_two(rt.alloc(), one, two)?;
+    flushes(&rt, &mut fan, Ok(()));
     for member in fan.members() {
-        assert!(rt; flushed(Some(member.store()), "log "));
+        flushed(&rt, Some(member.store()), "log ");
     }
     Ok(())
 }

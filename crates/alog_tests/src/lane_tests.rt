@@ -8,10 +8,10 @@ use crate::stores::Yielding;
 use alog_format::LineBuf;
 use alog_lane::{Held, Lane, LaneSeat, alone_saw_its_own};
 use alog_msg::{Item, Level};
-use alog_sink::{MemStore, OpenError, Served, Sink, SinkError, Taken, lanes_write_their_texts};
+use alog_sink::{MemStore, Served, Sink, SinkError, Taken, lanes_write_their_texts};
 use std::process::Abort;
 use std::test::Fail;
-use std::thread;
+use std::thread::{self, Threads};
 
 /// The turns of each thread.
 const TURNS: u64 = 2_000;
@@ -70,15 +70,59 @@ impl Writer {
     }
 }
 
+// Both write at once.
+fn write_both(
+    rt: &impl Threads,
+    lane: &Lane<Sink<Yielding>>,
+    one: Writer,
+    two: Writer,
+) -> (Writer, Writer)
+    requires seats { IsSeatOf lane.now one.seat × IsSeatOf lane.now two.seat }
+    requires turns { MayTurn lane.now.first one.text one.line × MayTurn lane.now.first two.text two.line }
+    ensures { IsSeatOf lane.now result.0.seat × IsSeatOf lane.now result.1.seat }
+{
+    thread::join(
+        rt,
+        || -> Writer
+            requires { IsSeatOf lane.now one.seat × MayTurn lane.now.first one.text one.line }
+            ensures { IsSeatOf lane.entry.now result.seat }
+        { one.write_all(lane) },
+        || -> Writer
+            requires { IsSeatOf lane.now two.seat × MayTurn lane.now.first two.text two.line }
+            ensures { IsSeatOf lane.entry.now result.seat }
+        { two.write_all(lane) },
+    )
+}
+
+// The lines at these indexes, of two bytes each, have this letter.
+fn has_letter(rt: &impl Abort, bytes: &[u8], indexes: &[u64], letter: u8) {
+    assert_eq!(rt; indexes.len() as u64, TURNS);
+    for index in indexes {
+        let line = bytes
+            .get((*index as usize).saturating_mul(2)..)
+            .and_then(|rest| rest.get(..2));
+        assert!(rt; line == Some(&[letter, b'\n']), "{index}");
+    }
+}
+
+// The file has the lines of both, each at the index of its turn.
+fn has_lines(rt: &impl Abort, sink: &Sink<Yielding>, one: &[u64], two: &[u64]) {
+    let file = sink.store().and_then(|store| store.0.files().get("log"));
+    let Some(bytes) = file else {
+        panic!(rt; "no file")
+    };
+    assert_eq!(rt; bytes.len() as u64, 4 * TURNS);
+    has_letter(rt, bytes, one, b'a');
+    has_letter(rt, bytes, two, b'b');
+}
+
 #[test]
 fn two_threads_write_lines(rt: HostRuntime) -> Result<(), Fail> {
     let alloc = rt.alloc();
-    let sink = memory(alloc, Yielding(MemStore::new(alloc)), b"%v")?;
-    let (one, two) = (
-        message(alloc, Level::Info, "a")?,
-        message(alloc, Level::Info, "b")?,
-    );
+    let one = message(alloc, Level::Info, "a")?;
+    let two = message(alloc, Level::Info, "b")?;
     let (first, second) = (LineBuf::new(alloc, 128)?, LineBuf::new(alloc, 128)?);
+    let sink = memory(alloc, Yielding(MemStore::new(alloc)), b"%v")?;
     assert!(rt; sink.may_take(&one, &first) && sink.may_take(&two, &second));
     let Ok((lane, mut seat)) = Lane::new(alloc, sink) else {
         panic!(rt; "no memory")
@@ -95,59 +139,50 @@ fn two_threads_write_lines(rt: HostRuntime) -> Result<(), Fail> {
         line: second,
         indexes: Vec::new(alloc),
     };
-    let shared = &lane;
-    let (one, two) = thread::join(
-        &rt,
-        || -> Writer
-            requires { IsSeatOf shared.now one.seat × MayTurn shared.now.first one.text one.line }
-            ensures { IsSeatOf shared.entry.now result.seat }
-        { one.write_all(shared) },
-        || -> Writer
-            requires { IsSeatOf shared.now two.seat × MayTurn shared.now.first two.text two.line }
-            ensures { IsSeatOf shared.entry.now result.seat }
-        { two.write_all(shared) },
-    );
+    let (one, two) = write_both(&rt, &lane, one, two);
     lane.join(&mut seat, one.seat);
     lane.join(&mut seat, two.seat);
     let Ok(sink) = lane.close(seat) else {
         panic!(rt; "a seat is out")
     };
-    let file = sink.store().and_then(|store| store.0.files().get("log"));
-    let Some(bytes) = file else {
-        panic!(rt; "no file")
-    };
-    assert_eq!(rt; bytes.len() as u64, 4 * TURNS);
-    for (writer, letter) in [(one.indexes, b'a'), (two.indexes, b'b')] {
-        assert_eq!(rt; writer.len() as u64, TURNS);
-        for index in &writer {
-            let line = bytes
-                .get((*index as usize).saturating_mul(2)..)
-                .and_then(|rest| rest.get(..2));
-            assert!(rt; line == Some(&[letter, b'\n']), "{index}");
-        }
-    }
+    has_lines(&rt, &sink, &one.indexes, &two.indexes);
     Ok(())
+}
+
+// A text is written by a turn, and flushed by the next.
+fn writes_and_flushes(
+    rt: &impl Abort,
+    lane: &Lane<Sink<MemStore>>,
+    seat: &mut LaneSeat<Sink<MemStore>>,
+    text: Item,
+    line: LineBuf,
+)
+    requires seat { IsSeatOf lane.now seat.old }
+    requires turn { MayTurn lane.now.first text line }
+    ensures { IsSeatOf lane.now seat.new }
+{
+    let mut line = line;
+    let taken = lane.turn_once(seat, 5, &text, &mut line);
+    assert!(rt; taken == Ok((0, Ok(Served::Taken(Taken::Written)))));
+    let flushed = lane.turn_once(seat, 6, &Item::Flush(0), &mut line);
+    assert!(rt; flushed == Ok((1, Ok(Served::Flushed))));
 }
 
 #[test]
 fn a_lane_over_a_sink(rt: HostRuntime) -> Result<(), Fail> {
     let alloc = rt.alloc();
-    let sink = memory(alloc, MemStore::new(alloc), b"%v")?;
-    let mut line = LineBuf::new(alloc, 1_024)?;
+    let line = LineBuf::new(alloc, 1_024)?;
     let text = message(alloc, Level::Info, "a")?;
+    let sink = memory(alloc, MemStore::new(alloc), b"%v")?;
     assert!(rt; sink.may_take(&text, &line));
-    let (lane, mut seat) = match Lane::new(alloc, sink) {
-        Ok(made) => made,
-        Err(_) => return Err(OpenError::OutOfMemory.into()),
+    let Ok((lane, mut seat)) = Lane::new(alloc, sink) else {
+        panic!(rt; "no memory")
     };
-    let taken = lane.turn_once(&mut seat, 5, &Item::Text(text), &mut line);
-    assert_eq!(rt; taken, Ok((0, Ok(Served::Taken(Taken::Written)))));
-    let flushed = lane.turn_once(&mut seat, 6, &Item::Flush(0), &mut line);
-    assert_eq!(rt; flushed, Ok((1, Ok(Served::Flushed))));
-    match lane.close(seat) {
-        Ok(sink) => has(&rt, sink.store(), "log", b"a\n"),
-        Err(_) => assert!(rt; false, "a seat is out"),
-    }
+    writes_and_flushes(&rt, &lane, &mut seat, Item::Text(text), line);
+    let Ok(sink) = lane.close(seat) else {
+        panic!(rt; "a seat is out")
+    };
+    has(&rt, sink.store(), "log", b"a\n");
     Ok(())
 }
 

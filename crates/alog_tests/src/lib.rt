@@ -3,7 +3,7 @@
 //! They are here, and not in the crates that they try, since a crate with tests is proved twice. Read `stores.rt` (a store
 //! that yields, and one that notes what is flushed), `sinks.rt` (what the tests share), `sink_tests.rt` (sinks of each
 //! kind), `fault_tests.rt` (sinks whose store fails) and `lane_tests.rt` (sinks under a lock, to which threads give lines).
-//! Daily sinks have a crate of tests of their own, `alog_daily_tests`.
+//! Daily sinks have a crate of tests of their own, `alog_daily_tests`, and so have stores, `alog_store_tests`.
 #![tactic(auto)]
 
 #[cfg(test)]

@@ -1,4 +1,6 @@
-//! What the tests of sinks share: faces, messages, and sinks over one store or two.
+//! What the tests of sinks share: faces, messages, sinks over one store or two, and calls of them with the answer wanted.
+//!
+//! A call of these in a test is one step of its proof, which no branch follows: so a test of many calls stays cheap.
 use alog_format::{Context, LineBuf, Zone};
 use alog_msg::{Level, Message};
 use alog_pattern::Pattern;
@@ -27,32 +29,49 @@ pub fn message(alloc: Global, level: Level, text: &str) -> Result<Message, Fail>
     Ok(Message::new(alloc, TEXT_LIMIT, 0, level, 0, 1, text, None)?)
 }
 
-// Gives texts of level info to a sink, and tells what it answered to the last.
-pub fn give<S: Store>(
-    alloc: Global,
-    sink: &mut Sink<S>,
-    texts: &[&str],
-) -> Result<Result<Taken, SinkError>, Fail> {
-    let mut answer = Ok(Taken::Below);
-    for text in texts {
-        answer = give_at(alloc, sink, Level::Info, text)?;
-    }
-    Ok(answer)
-}
-
-// Gives one text of this level.
-pub fn give_at<S: Store>(
-    alloc: Global,
+// Gives one text of this level to a sink. The test ends here where there is no memory, or the sink may not be given it.
+fn answer_to<S: Store>(
+    rt: &(impl Abort + AllocGlobal),
     sink: &mut Sink<S>,
     level: Level,
     text: &str,
-) -> Result<Result<Taken, SinkError>, Fail> {
-    let message = message(alloc, level, text)?;
-    let mut line = LineBuf::new(alloc, 1_024)?;
-    if !sink.may_take(&message, &line) {
-        return Err(SinkError::Broken.into());
-    }
-    Ok(sink.take(&message, &mut line))
+) -> Result<Taken, SinkError> {
+    let Ok(message) = Message::new(rt.alloc(), TEXT_LIMIT, 0, level, 0, 1, text, None) else {
+        panic!(rt; "no message of {text}")
+    };
+    let Ok(mut line) = LineBuf::new(rt.alloc(), 1_024) else {
+        panic!(rt; "no buffer")
+    };
+    assert!(rt; sink.may_take(&message, &line), "{text}");
+    sink.take(&message, &mut line)
+}
+
+// Gives one text of this level to a sink, which answers this.
+pub fn gives_at<S: Store>(
+    rt: &(impl Abort + AllocGlobal),
+    sink: &mut Sink<S>,
+    level: Level,
+    text: &str,
+    wanted: Result<Taken, SinkError>,
+) {
+    let answer = answer_to(rt, sink, level, text);
+    assert!(rt; answer == wanted, "{text}: {answer:?}");
+}
+
+// Gives one text of level info to a sink, which answers this.
+pub fn gives<S: Store>(
+    rt: &(impl Abort + AllocGlobal),
+    sink: &mut Sink<S>,
+    text: &str,
+    wanted: Result<Taken, SinkError>,
+) {
+    gives_at(rt, sink, Level::Info, text, wanted);
+}
+
+// Flushes a sink, which answers this.
+pub fn flushes<S: Store>(rt: &impl Abort, sink: &mut Sink<S>, wanted: Result<(), SinkError>) {
+    let answer = sink.flush();
+    assert!(rt; answer == wanted, "{answer:?}");
 }
 
 pub fn memory<S: Store + Drop>(alloc: Global, store: S, pattern: &[u8]) -> Result<Sink<S>, Fail> {

@@ -1,5 +1,5 @@
 use denote.RattleType.{RattleType}
-use denote.Param.Send.{IsSend, IsSync, sendable, recorded_send, struct_send}
+use denote.Param.Send.{IsSend, IsSync, sendable, recorded_send, struct_send, param_send}
 use denote.Struct.Declared.{shape}
 use Rattle.std.proofs.Crossing.{Vec-send}
 use Rattle.std.specs.contracts.result.Result as Result
@@ -16,7 +16,8 @@ use Rattle.alog_sink.specs.contracts.turn.SinkTurn.TheImpl as Turn
 use Rattle.alog_tests.specs.contracts.lane_tests.Writer as Writer
 use Rattle.alog_tests.specs.contracts.stores.Yielding as Yielding
 use Rattle.alog_tests.specs.contracts.stores.YieldingStore.TheImpl as Store
-use Rattle.alog_tests.proofs.lane_tests.two_threads_write_lines.Goals as goal
+use Rattle.alog_tests.proofs.lane_tests.write_both.Lts.{arg-0-1}
+use Rattle.alog_tests.proofs.lane_tests.write_both.Goals as goal
 
 own_store : IsSend Yielding.the_row
 own_store = search (sendable, store_send) depth 9
@@ -41,8 +42,8 @@ its_writer : IsSend Writer.the_row
 its_writer = recorded_send (Writer.the_field).row _ _ (Writer.the_type).to_one (struct_send (shape Writer.the_type)
     (its_seat, (queued_send, (line_send, (search (sendable, Vec-send), tt)))))
 
-pub join-one-requires-send-F : goal.join-one-requires-send-F
-join-one-requires-send-F g c κs = search (sendable, its_writer, its_lane) depth 9
+pub join-requires-send-F : goal.join-requires-send-F
+join-requires-send-F g c κs l = param_send 1 (arg-0-1 g.row.rt g.rt.laws g.rt.Threads-dict κs) (search (sendable, its_writer, its_lane) depth 8)
 
-pub join-one-requires-send-A : goal.join-one-requires-send-A
-join-one-requires-send-A g c κs = search (sendable, its_writer) depth 7
+pub join-requires-send-A : goal.join-requires-send-A
+join-requires-send-A g c κs = search (sendable, its_writer) depth 7

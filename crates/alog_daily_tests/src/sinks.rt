@@ -1,0 +1,125 @@
+//! What the tests of daily sinks share: sinks by a plan, and calls of them with the answer wanted.
+//!
+//! A call of these in a test is one step of its proof, which no branch follows: so a test of many calls stays cheap.
+use alog_format::{Context, LineBuf, OFFSET_MAX, Zone};
+use alog_msg::{Level, Message};
+use alog_pattern::Pattern;
+use alog_sink::{Face, FuseStore, MemStore, Names, Sink, SinkError, Store, Taken};
+use std::alloc::Global;
+use std::process::Abort;
+use std::test::Fail;
+
+// Minutes, hours and days in nanoseconds, and the begin of 2024-02-28 in UTC.
+pub const MINUTE: i64 = 60_000_000_000;
+
+pub const HOUR: i64 = 60 * MINUTE;
+
+pub const DAY: i64 = 24 * HOUR;
+
+pub const START: i64 = 1_709_078_400_000_000_000;
+
+// Files by days, of the name `day.log`.
+#[derive(Clone, Copy)]
+pub struct Plan {
+    pub offset: i16,
+    pub hour: u32,
+    pub minute: u32,
+    pub max_files: usize,
+}
+
+pub const PLAIN: Plan = Plan {
+    offset: 0,
+    hour: 0,
+    minute: 0,
+    max_files: 0,
+};
+
+pub fn face(alloc: Global, offset: i16) -> Result<Face, Fail> {
+    Ok(Face {
+        level: Level::Info,
+        pattern: Pattern::compile(alloc, b"%v", 64)?,
+        context: Context {
+            zone: Zone::Fixed(offset.clamp(-OFFSET_MAX, OFFSET_MAX)),
+            process: 7,
+        },
+        names: Names::new(alloc),
+    })
+}
+
+// The sink, or the refusal as an error of the test.
+pub fn opened<S: Store + Drop>(alloc: Global, store: S, plan: Plan) -> Result<Sink<S>, Fail> {
+    let face = face(alloc, plan.offset)?;
+    let Plan {
+        hour,
+        minute,
+        max_files,
+        ..
+    } = plan;
+    match Sink::daily(alloc, face, store, "day.log", hour, minute, max_files) {
+        Ok(sink) => Ok(sink),
+        Err(unopened) => Err(unopened.error.into()),
+    }
+}
+
+// What a sink answers to a text of a time. The test ends here where there is no memory, or the sink may not be given it.
+pub fn answer_to<S: Store>(
+    rt: &(impl Abort + AllocGlobal),
+    sink: &mut Sink<S>,
+    time: i64,
+    text: &str,
+) -> Result<Taken, SinkError> {
+    let Ok(message) = Message::new(rt.alloc(), 64, 0, Level::Info, time, 1, text, None) else {
+        panic!(rt; "no message of {text}")
+    };
+    let Ok(mut line) = LineBuf::new(rt.alloc(), 1_024) else {
+        panic!(rt; "no buffer")
+    };
+    assert!(rt; sink.may_take(&message, &line), "{text}");
+    sink.take(&message, &mut line)
+}
+
+// Gives a text of a time to a sink, which answers this.
+pub fn gives<S: Store>(
+    rt: &(impl Abort + AllocGlobal),
+    sink: &mut Sink<S>,
+    time: i64,
+    text: &str,
+    wanted: Result<Taken, SinkError>,
+) {
+    let answer = answer_to(rt, sink, time, text);
+    assert!(rt; answer == wanted, "{text}: {answer:?}");
+}
+
+// Gives a text of a time to a sink, which writes it.
+pub fn writes<S: Store>(
+    rt: &(impl Abort + AllocGlobal),
+    sink: &mut Sink<S>,
+    time: i64,
+    text: &str,
+) {
+    gives(rt, sink, time, text, Ok(Taken::Written));
+}
+
+// Flushes a sink, which answers this.
+pub fn flushes<S: Store>(rt: &impl Abort, sink: &mut Sink<S>, wanted: Result<(), SinkError>) {
+    let answer = sink.flush();
+    assert!(rt; answer == wanted, "{answer:?}");
+}
+
+// The store has exactly these files.
+pub fn has_only(rt: &impl Abort, store: Option<&MemStore>, files: &[(&str, &str)]) {
+    let Some(store) = store else {
+        assert!(rt; false, "no store");
+        return;
+    };
+    assert_eq!(rt; store.files().len(), files.len());
+    for (name, text) in files {
+        let found = store.files().get(*name).map(|file| file.as_slice());
+        assert!(rt; found == Some(text.as_bytes()), "{name}");
+    }
+}
+
+// The files of the sink's store behind its fuse, or none of a fan.
+pub fn files(sink: &Sink<FuseStore<MemStore>>) -> Option<&MemStore> {
+    sink.store().map(|fuse| fuse.store())
+}

@@ -1,0 +1,22 @@
+//! Tests of stores over the public surface of `alog_sink`: of files in memory, behind a fuse and in a folder, and of sinks
+//! over a folder.
+//!
+//! They are here, and not in `alog_sink`, since a crate with tests is proved twice. Read `calls.rt` (calls of any store
+//! with the answer wanted, and each call once), `memory_tests.rt` (files in memory, and behind a fuse), `folder.rt` (what
+//! the system has), `folder_tests.rt` (files of a folder), then `hours.rt` and `folder_sink_tests.rt` (sinks over a folder,
+//! beside those over memory).
+#![tactic(auto)]
+
+#[cfg(test)]
+mod calls;
+#[cfg(test)]
+mod folder;
+#[cfg(test)]
+mod folder_sink_tests;
+#[cfg(test)]
+mod folder_tests;
+mod hours;
+#[cfg(test)]
+mod memory_tests;
+
+pub use hours::hour_of_line;
