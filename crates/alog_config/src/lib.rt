@@ -12,6 +12,9 @@
 #![tactic(auto)]
 
 mod broken;
+#[cfg(test)]
+mod build_tests;
+mod building;
 mod config;
 mod fault;
 mod field;
@@ -23,6 +26,8 @@ mod logger_fields;
 #[cfg(test)]
 mod many_tests;
 mod names;
+mod opening;
+mod parts;
 mod reading;
 mod sink_fields;
 mod sinks;
@@ -31,6 +36,7 @@ mod tests;
 mod top;
 mod values;
 
+pub use building::{BuildError, build};
 pub use config::{Config, LoggerConfig, SinkConfig, SinkKind, Upkeep};
 pub use fault::{ConfigFault, Place, RULES, Rule};
 pub use names::NameList;
