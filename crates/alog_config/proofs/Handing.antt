@@ -1,11 +1,10 @@
 -- Stores that are handed out, and what is made of all parts.
-use Rattle.std.proofs.Common.{◌≡◌, ◌+◌, ◌-◌, ◌<◌, ◌≤◌, ℕ, zero, suc, Bool, true, false, cond, inr, List, [], ◌∷◌, ◌++◌, length, take, drop, map, slice_get}
-use Rattle.std.proofs.Common.{Some, count_by, refl, sym, ap, subst, ◌∙◌, arith, length-drop}
+use Rattle.std.proofs.Common.{◌≡◌, ◌+◌, ◌<◌, ℕ, zero, suc, Bool, true, false, cond, inr, List, [], ◌∷◌, ◌++◌, length, take, drop, map, slice_get}
+use Rattle.std.proofs.Common.{Result, Ok, Err, IfOk, Some, count_by, refl, sym, ap, subst, ◌∙◌, arith, length-drop}
 use Rattle.std.proofs.Math.Seq.{take-length}
 use Rattle.std.proofs.lemmas.List.Sums.{sum_by-append}
 use Rattle.std.specs.List.{Any}
 use Rattle.alog_config.specs.declared.config.Config.{Config}
-use Rattle.alog_config.specs.declared.config.LoggerConfig.{LoggerConfig}
 use Rattle.alog_config.specs.declared.config.SinkConfig.{SinkConfig}
 use Rattle.alog_config.specs.declared.config.SinkKind.{SinkKind}
 use Rattle.alog_config.specs.declared.config.SinkKind.TheVariants as kinds
@@ -13,7 +12,7 @@ use Rattle.alog_config.specs.declared.parts.Part.{Part}
 use Rattle.alog_config.specs.Built.{ArePicked, Built, EachIs, IsLoggerOf}
 use Rattle.alog_config.specs.Parts.{AreBuilt, Makes, MayLog, MayMake}
 use Rattle.alog_config.specs.Sinks.{AnyMember, AnyUnknown, IsMember, is_leaf, is_lines}
-use Rattle.alog_config.specs.Sound.{AreSoundLoggers, AreSoundSinks, IsSound, IsSoundKind}
+use Rattle.alog_config.specs.Sound.{AreSoundSinks, IsSound, IsSoundKind}
 use Rattle.alog_config.proofs.Parting.{all_known, config_of, length_mapped, logger_sound_at, name_of, next_fan, next_leaf, no_built_fan, sound_at}
 use Rattle.alog_config.proofs.Picking.{Has, any_has, has_any, picked_short, split_at, take_one_more}
 use Rattle.alog_format.specs.declared.context.Zone.TheVariants.{Fixed}
@@ -69,6 +68,11 @@ pub any_dropped : {A : Type 0} (P : A → Type 0) (k : ℕ) (xs ys : List A) →
 any_dropped {A} P k xs ys e h =
     has_any P xs (has_dropped P k xs (subst (λ (zs : List A). Has P zs) e (any_has P ys h)))
 
+-- what is known of a value in two ways
+pub if_ok_both : {T E : Type 0} (r : Result T E) (P Q R : T → Type 0) → ((t : T) → P t → Q t → R t) → IfOk r P → IfOk r Q → IfOk r R
+if_ok_both (Ok t) P Q R f p q = f t p q
+if_ok_both (Err e) P Q R f p q = tt
+
 module _ {S : Type 0} (tells : Bool) (files : S → Files) (failures : S → ℕ) where
   -- the loggers may be made
   pub may_log : (c : Config) (stores : List S) (left : List (Part S)) → IsSound c.text (Fixed c.offset) c.sinks.items c.loggers.items
@@ -88,8 +92,8 @@ module _ {S : Type 0} (tells : Bool) (files : S → Files) (failures : S → ℕ
               short = s.short;
               free = s.free;
               known = all_known tells files failures c stores (length all) left l.sinks b
-              (subst (λ (xs : List SinkConfig). ¬ AnyUnknown xs l.sinks) (sym whole) s.known)
-              (subst (λ (xs : List SinkConfig). ¬ AnyMember xs l.sinks) (sym whole) s.apart);
+                  (subst (λ (xs : List SinkConfig). ¬ AnyUnknown xs l.sinks) (sym whole) s.known)
+                  (subst (λ (xs : List SinkConfig). ¬ AnyMember xs l.sinks) (sym whole) s.apart);
               few = s.few;
             };
       }
@@ -135,35 +139,35 @@ module _ {S : Type 0} (tells : Bool) (files : S → Files) (failures : S → ℕ
       may_make_kind c stores here i left s s.kind b at refl (sound_at c.text c.sinks.items i s sound at).kind long e
 
   -- the next sink was made
-  next_kind : (c : Config) (stores here rest : List S) (i : ℕ) (left after : List (Part S)) (s : SinkConfig) (p : Part S) (k : SinkKind)
-      → AreSoundSinks c.text [] c.sinks.items → AreBuilt tells files failures c stores i left → slice_get c.sinks.items i ≡ Some s
-      → config_of p ≡ s → s.kind ≡ k → here ≡ drop (count_by is_leaf (take i c.sinks.items)) stores
-      → Makes tells files failures c s.level k here left p.sink rest after
-      → AreBuilt tells files failures c stores (i + 1) (after ++ p ∷ [])
-      × (rest ≡ drop (count_by is_leaf (take (i + 1) c.sinks.items)) stores)
-  next_kind c stores here rest i left after s p (kinds.Lines file pattern upkeep) sound b at same kind e made =
-      let before = count_by is_leaf (take i c.sinks.items) in
-      let next = next_store stores before made.0 rest (sym e ∙ made.1) in
+  pub next_left : (c : Config) (stores here rest : List S) (i : ℕ) (left after : List (Part S)) (s : SinkConfig) (sink : Sink S) (k : SinkKind)
+      → slice_get c.sinks.items i ≡ Some s → s.kind ≡ k → here ≡ drop (count_by is_leaf (take i c.sinks.items)) stores
+      → Makes tells files failures c s.level k here left sink rest after
+      → rest ≡ drop (count_by is_leaf (take (i + 1) c.sinks.items)) stores
+  next_left c stores here rest i left after s sink (kinds.Lines file pattern upkeep) at kind e made =
+      let next = next_store stores (count_by is_leaf (take i c.sinks.items)) made.0 rest (sym e ∙ made.1) in
       let count = count_more c.sinks.items i s true at (ap is_lines kind) in
-      (
-        subst (λ (ps : List (Part S)). AreBuilt tells files failures c stores (i + 1) (ps ++ p ∷ [])) (sym made.2)
-        (next_leaf tells files failures c stores i left s p file pattern upkeep made.0 sound b at same kind next.0 made.3),
-        sym next.1 ∙ ap (λ n. drop n stores) (sym count),
-      )
-  next_kind c stores here rest i left after s p (kinds.Fan of) sound b at same kind e made =
+      sym next.1 ∙ ap (λ n. drop n stores) (sym count)
+  next_left c stores here rest i left after s sink (kinds.Fan of) at kind e made =
       let before = count_by is_leaf (take i c.sinks.items) in
       let count = count_more c.sinks.items i s false at (ap is_lines kind) in
       let none : before + 0 ≡ before = omega arith in
-      (
-        next_fan tells files failures c stores i left after s p of sound b at same kind made.1,
-        made.0 ∙ (e ∙ ap (λ n. drop n stores) (sym (count ∙ none))),
-      )
+      made.0 ∙ (e ∙ ap (λ n. drop n stores) (sym (count ∙ none)))
+
+  next_kind : (c : Config) (stores here rest : List S) (i : ℕ) (left after : List (Part S)) (s : SinkConfig) (p : Part S) (k : SinkKind)
+      → AreSoundSinks c.text [] c.sinks.items → AreBuilt tells files failures c stores i left → slice_get c.sinks.items i ≡ Some s
+      → config_of p ≡ s → s.kind ≡ k → here ≡ drop (count_by is_leaf (take i c.sinks.items)) stores
+      → Makes tells files failures c s.level k here left p.sink rest after → AreBuilt tells files failures c stores (i + 1) (after ++ p ∷ [])
+  next_kind c stores here rest i left after s p (kinds.Lines file pattern upkeep) sound b at same kind e made =
+      let next = next_store stores (count_by is_leaf (take i c.sinks.items)) made.0 rest (sym e ∙ made.1) in
+      subst (λ (ps : List (Part S)). AreBuilt tells files failures c stores (i + 1) (ps ++ p ∷ [])) (sym made.2)
+      (next_leaf tells files failures c stores i left s p file pattern upkeep made.0 sound b at same kind next.0 made.3)
+  next_kind c stores here rest i left after s p (kinds.Fan of) sound b at same kind e made =
+      next_fan tells files failures c stores i left after s p of sound b at same kind made.1
 
   pub next_made : (c : Config) (stores here rest : List S) (i : ℕ) (left after : List (Part S)) (s : SinkConfig) (p : Part S)
       → AreSoundSinks c.text [] c.sinks.items → AreBuilt tells files failures c stores i left → slice_get c.sinks.items i ≡ Some s
       → config_of p ≡ s → here ≡ drop (count_by is_leaf (take i c.sinks.items)) stores
       → Makes tells files failures c s.level s.kind here left p.sink rest after
       → AreBuilt tells files failures c stores (i + 1) (after ++ p ∷ [])
-      × (rest ≡ drop (count_by is_leaf (take (i + 1) c.sinks.items)) stores)
   next_made c stores here rest i left after s p sound b at same e made =
       next_kind c stores here rest i left after s p s.kind sound b at same refl e made

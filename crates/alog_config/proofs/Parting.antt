@@ -1,8 +1,7 @@
 -- Parts of a configuration: what is built one sink after the other.
-use Rattle.std.proofs.Common.{◌≡◌, ◌⊎◌, ◌↔◌, ◌+◌, ◌<◌, ◌≤◌, ℕ, zero, suc, Bool, true, false, List, [], ◌∷◌, ◌++◌, length, take, drop, map, slice_get}
-use Rattle.std.proofs.Common.{Some, count_by, inl, inr, refl, sym, ap, subst, ◌∙◌, arith, append_assoc, append-nil}
-use Rattle.std.proofs.lemmas.List.Sums.{sum_by-append}
-use Rattle.std.specs.List.{Any, AllPairs, remove}
+use Rattle.std.proofs.Common.{◌≡◌, ◌⊎◌, ◌↔◌, ◌+◌, ℕ, zero, suc, Bool, List, [], ◌∷◌, ◌++◌, length, take, map, slice_get}
+use Rattle.std.proofs.Common.{Some, count_by, inl, inr, refl, sym, ap, subst, ◌∙◌, append_assoc, append-nil}
+use Rattle.std.specs.List.{remove}
 use Rattle.alog_config.specs.declared.config.Config.{Config}
 use Rattle.alog_config.specs.declared.config.LoggerConfig.{LoggerConfig}
 use Rattle.alog_config.specs.declared.config.SinkConfig.{SinkConfig}
@@ -11,17 +10,16 @@ use Rattle.alog_config.specs.declared.config.SinkKind.TheVariants as kinds
 use Rattle.alog_config.specs.declared.config.Upkeep.{Upkeep}
 use Rattle.alog_config.specs.declared.parts.Part.{Part}
 use Rattle.alog_config.specs.Built.{ArePicked, EachIs, IsBuiltAs, IsLeafOf, IsNamed, IsPart}
-use Rattle.alog_config.specs.Parts.{AnyBuiltFan, AreAllKnown, AreBuilt, IsPartName, MakesFan, MayAdd, TakesOut}
+use Rattle.alog_config.specs.Parts.{AnyBuiltFan, AreAllKnown, AreBuilt, IsPartName, MakesFan, TakesOut}
 use Rattle.alog_config.specs.Sinks.{AnyFan, AnyMember, AnyUnknown, HandsTo, HasMember, IsFan, IsFanKind, IsMember, IsSinkName, is_leaf}
 use Rattle.alog_config.specs.Sound.{AreSoundLoggers, AreSoundSinks, IsSoundKind, IsSoundLogger, IsSoundSink}
-use Rattle.alog_config.proofs.Picking.{Apart, Has, any_has, apart_of_map, at_more, each_is_if, has_any, has_at, has_got, has_if, has_left}
+use Rattle.alog_config.proofs.Picking.{Apart, Has, any_has, apart_of_map, at_more, each_is_if, has_any, has_if, has_left}
 use Rattle.alog_config.proofs.Picking.{has_mapped, has_of_map, has_parts, has_right, picked_has, picked_iff, picked_in, picked_more, picked_without}
 use Rattle.alog_config.proofs.Picking.{split_at, take_one_more}
 use Rattle.alog_msg.specs.declared.level.Level.{Level}
 use Rattle.alog_sink.specs.Files.{Files}
 use Rattle.alog_sink.specs.Opened.{IsFan as IsBuiltFan}
 use Rattle.alog_sink.specs.declared.sink.Sink.{Sink}
-use Rattle.alog_sink.specs.declared.sink.Sink.TheVariants as built
 
 abbrev pub config_of : {S : Type 0} → Part S → SinkConfig
 config_of p = p.config.now
@@ -123,7 +121,7 @@ pub member_more : (before : List SinkConfig) (s : SinkConfig) (name : List ℕ)
 member_more before s name = (
   λ m. elim (has_parts (HasMember name) before (s ∷ []) (any_has (HasMember name) (before ++ s ∷ []) m)) [
     | inl l ↦ inl (has_any (HasMember name) before l)
-    | inr r ↦ elim r [ | inl own ↦ inr own | inr none ↦ absurd none ]
+    | inr r ↦ elim r [ inl own ↦ inr own | inr none ↦ absurd none ]
   ],
   λ m. has_any (HasMember name) (before ++ s ∷ []) (elim m [
     | inl l ↦ has_left (HasMember name) before (s ∷ []) (any_has (HasMember name) before l)
@@ -147,7 +145,7 @@ picked_taken {S} P all parts (n ∷ ns) (m ∷ ms) left apart h t =
     let rest = picked_taken P' all (remove parts t.0) ns ms left apart one t.5 in
     picked_iff (λ a. P' a × (¬ Has (λ x. x ≡ name_of a) ns)) (λ a. P a × (¬ Has (λ x. x ≡ name_of a) (n ∷ ns))) all left
     (λ a. (
-      λ q. (q.0.0, λ has. elim has [ | inl e ↦ q.0.1 (sym (t.3 ∙ e)) | inr r ↦ q.1 r ]),
+      λ q. (q.0.0, λ has. elim has [ inl e ↦ q.0.1 (sym (t.3 ∙ e)) | inr r ↦ q.1 r ]),
       λ q. ((q.0, λ e. q.1 (inl (sym t.3 ∙ sym e))), λ r. q.1 (inr r)),
     ))
     rest
@@ -161,8 +159,7 @@ taken_are P all parts (n ∷ ns) [] left apart h t = absurd t
 taken_are {S} P all parts (n ∷ ns) (m ∷ ms) left apart h t =
     let Q : Part S → Type 0 = λ a. (name_of a ≡ n) × (a.sink ≡ m) in
     let there = picked_in P Q all parts t.0 t.1 h t.2 (t.3, t.4) in
-    let one = picked_without P name_of all parts t.0 t.1 apart h t.2 in
-    (
+    let one = picked_without P name_of all parts t.0 t.1 apart h t.2 in (
       has_any Q all there.0,
       taken_are (λ a. P a × (¬ (name_of a ≡ name_of t.1))) all (remove parts t.0) ns ms left apart one t.5,
     )
@@ -191,7 +188,7 @@ picked_back : {A : Type 0} (P Q : A → Type 0) (all picked : List A) → ArePic
 picked_back {A} P Q [] picked h has = subst (λ (xs : List A). Has Q xs) h has
 picked_back {A} P Q (a ∷ all) picked (inl h) has =
     let there : Q a ⊎ Has Q h.0 = subst (λ (xs : List A). Has Q xs) h.2 has in
-    elim there [ | inl q ↦ inl q | inr r ↦ inr (picked_back P Q all h.0 h.3 r) ]
+    elim there [ inl q ↦ inl q | inr r ↦ inr (picked_back P Q all h.0 h.3 r) ]
 picked_back P Q (a ∷ all) picked (inr h) has = inr (picked_back P Q all picked h.1 has)
 
 has_each : {A : Type 0} (Q R : A → Type 0) (xs : List A) → ((n : ℕ) (x : A) → slice_get xs n ≡ Some x → Q x → R x) → Has Q xs → Has R xs
@@ -244,12 +241,12 @@ module _ {S : Type 0} (tells : Bool) (files : S → Files) (failures : S → ℕ
         each = λ n q e. elim (at_more parts p q n e) [
           | inl l ↦ built_more c stores parts p n q.config.now.level q.config.now.kind q.sink (b.each n q l)
           | inr r ↦
-            let place : i ≡ n = sym (r.0 ∙ long) in
-            let there = subst (λ m. IsPart tells files failures c stores (parts ++ p ∷ []) m p) place own in
-            subst (λ (x : Part S). IsPart tells files failures c stores (parts ++ p ∷ []) n x) r.1 there
+              let place : i ≡ n = sym (r.0 ∙ long) in
+              let there = subst (λ m. IsPart tells files failures c stores (parts ++ p ∷ []) m p) place own in
+              subst (λ (x : Part S). IsPart tells files failures c stores (parts ++ p ∷ []) n x) r.1 there
         ];
         picked = subst (λ (xs : List SinkConfig). ArePicked (λ (a : Part S). ¬ IsMember xs (name_of a)) (parts ++ p ∷ []) (rest ++ p ∷ []))
-        (sym more) whole;
+            (sym more) whole;
       }
 
   -- nothing is built yet
@@ -272,7 +269,7 @@ module _ {S : Type 0} (tells : Bool) (files : S → Files) (failures : S → ℕ
       let picked = picked_iff (λ (a : Part S). ¬ IsMember before (name_of a)) (λ (a : Part S). ¬ IsMember (before ++ s ∷ []) (name_of a))
       b.parts left
       (λ a. (
-        λ never m. elim ((member_more before s (name_of a)).0 m) [ | inl l ↦ never l | inr r ↦ none (name_of a) r ],
+        λ never m. elim ((member_more before s (name_of a)).0 m) [ inl l ↦ never l | inr r ↦ none (name_of a) r ],
         λ never m. never ((member_more before s (name_of a)).1 (inl m)),
       ))
       b.picked in
@@ -295,7 +292,7 @@ module _ {S : Type 0} (tells : Bool) (files : S → Files) (failures : S → ℕ
       let picked = picked_iff (λ (a : Part S). P a × (¬ Has (λ n. n ≡ name_of a) of)) (λ (a : Part S). ¬ IsMember (before ++ s ∷ []) (name_of a))
       b.parts rest
       (λ a. (
-        λ q m. elim ((member_more before s (name_of a)).0 m) [ | inl l ↦ q.0 l | inr r ↦ q.1 (handed (name_of a) r) ],
+        λ q m. elim ((member_more before s (name_of a)).0 m) [ inl l ↦ q.0 l | inr r ↦ q.1 (handed (name_of a) r) ],
         λ never. (λ m. never ((member_more before s (name_of a)).1 (inl m)), λ m. never ((member_more before s (name_of a)).1 (inr (hands (name_of a) m)))),
       ))
       (picked_taken P b.parts left of makes.0 rest apart b.picked makes.1) in
@@ -310,11 +307,11 @@ module _ {S : Type 0} (tells : Bool) (files : S → Files) (failures : S → ℕ
       let name = x.1 in
       let free : ¬ IsMember before name = λ m. apart (x.0, x.1, x.2, x.3, m) in
       let named : IsSinkName before name → IsPartName left name = λ h.
-          let there = subst (λ (xs : List SinkConfig). Has (λ (s : SinkConfig). s.name ≡ name) xs) (sym b.of) (any_has (λ (s : SinkConfig). s.name ≡ name) before h) in
-          let part = has_of_map config_of (λ (s : SinkConfig). s.name ≡ name) b.parts there in
-          has_any (λ (p : Part S). name_of p ≡ name) left
-          (picked_has (λ (a : Part S). ¬ IsMember before (name_of a)) (λ (p : Part S). name_of p ≡ name) b.parts left
-          (λ a e. subst (λ n. ¬ IsMember before n) (sym e) free) b.picked part)
+      let there = subst (λ (xs : List SinkConfig). Has (λ (s : SinkConfig). s.name ≡ name) xs) (sym b.of) (any_has (λ (s : SinkConfig). s.name ≡ name) before h) in
+      let part = has_of_map config_of (λ (s : SinkConfig). s.name ≡ name) b.parts there in
+      has_any (λ (p : Part S). name_of p ≡ name) left
+      (picked_has (λ (a : Part S). ¬ IsMember before (name_of a)) (λ (p : Part S). name_of p ≡ name) b.parts left
+      (λ a e. subst (λ n. ¬ IsMember before n) (sym e) free) b.picked part)
       in
       known (x.0, x.1, x.2, x.3, λ h. x.4 (named h))
 

@@ -1,7 +1,7 @@
 -- Lists of items that are such, and items that are taken out of them.
-use Rattle.std.proofs.Common.{◌≡◌, ◌⊎◌, ◌↔◌, ◌+◌, ◌<◌, ◌≤◌, ℕ, zero, suc, List, [], ◌∷◌, ◌++◌, length, get_or, take, drop, map, slice_get, Some}
+use Rattle.std.proofs.Common.{◌≡◌, ◌⊎◌, ◌↔◌, ◌+◌, ◌<◌, ◌≤◌, ℕ, zero, suc, List, [], ◌∷◌, ◌++◌, length, get_or, take, map, slice_get, Some}
 use Rattle.std.proofs.Common.{inl, inr, refl, sym, ap, subst, ◌∙◌, arith}
-use Rattle.std.specs.List.{Any, AllPairs, remove}
+use Rattle.std.specs.List.{Any, remove}
 use Rattle.alog_config.specs.Built.{ArePicked, EachIs}
 
 -- an item of the list is such, by recursion
@@ -44,7 +44,7 @@ has_right P (x ∷ xs) ys h = inr (has_right P xs ys h)
 pub has_parts : {A : Type 0} (P : A → Type 0) (xs ys : List A) → Has P (xs ++ ys) → Has P xs ⊎ Has P ys
 has_parts P [] ys h = inr h
 has_parts P (x ∷ xs) ys (inl p) = inl (inl p)
-has_parts P (x ∷ xs) ys (inr h) = elim (has_parts P xs ys h) [ | inl l ↦ inl (inr l) | inr r ↦ inr r ]
+has_parts P (x ∷ xs) ys (inr h) = elim (has_parts P xs ys h) [ inl l ↦ inl (inr l) | inr r ↦ inr r ]
 
 pub has_mapped : {A B : Type 0} (f : A → B) (P : B → Type 0) (xs : List A) → Has (λ x. P (f x)) xs → Has P (map f xs)
 has_mapped f P [] h = h
@@ -170,7 +170,7 @@ pub at_more : {A : Type 0} (xs : List A) (x y : A) (n : ℕ) → slice_get (xs +
 at_more [] x y zero e = let same : x ≡ y = cc in inr (refl, same)
 at_more [] x y (suc n) e = absurd (cc e)
 at_more (z ∷ xs) x y zero e = inl e
-at_more (z ∷ xs) x y (suc n) e = elim (at_more xs x y n e) [ | inl l ↦ inl l | inr r ↦ inr (ap suc r.0, r.1) ]
+at_more (z ∷ xs) x y (suc n) e = elim (at_more xs x y n e) [ inl l ↦ inl l | inr r ↦ inr (ap suc r.0, r.1) ]
 
 -- a list around one of its places
 pub split_at : {A : Type 0} (xs : List A) (i : ℕ) (x : A) → slice_get xs i ≡ Some x → (back : List A) × (xs ≡ take i xs ++ x ∷ back)

@@ -1,7 +1,6 @@
 -- What keeps the rules is sound.
-use Rattle.std.proofs.Common.{◌≡◌, ◌⊎◌, ◌≤◌, ◌<◌, ◌^◌, ℕ, suc, List, [], ◌∷◌, ◌++◌, length, codes, Option, Some, None, inl, inr}
+use Rattle.std.proofs.Common.{◌≡◌, ◌≤◌, ◌<◌, ◌^◌, ℕ, suc, ℤ, pos, rules, List, [], ◌∷◌, ◌++◌, length, codes, Option, Some, None, inl, inr}
 use Rattle.std.proofs.Common.{refl, sym, ap, subst, ◌∙◌, arith}
-use Rattle.std.specs.List.{Any}
 use Rattle.std.proofs.lemmas.Bool.{cases_lt}
 use Rattle.alog_config.specs.declared.config.LoggerConfig.{LoggerConfig}
 use Rattle.alog_config.specs.declared.config.SinkConfig.{SinkConfig}
@@ -13,16 +12,18 @@ use Rattle.alog_config.specs.declared.fault.Rule.{Rule}
 use Rattle.alog_config.specs.declared.fault.Rule.TheVariants.{BadValue, Missing, NameTaken, NoSuchSink, UnknownKey}
 use Rattle.alog_config.specs.declared.field.Field.{Field}
 use Rattle.alog_config.specs.declared.field.Field.TheVariants.{Absent, Bad, Given}
-use Rattle.alog_config.specs.declared.logger_fields.LoggerFields.{LoggerFields}
 use Rattle.alog_config.specs.declared.sink_fields.SinkFields.{SinkFields}
-use Rattle.alog_config.specs.Fields.{AreLoggerFields, AreSinkFields, file_of}
-use Rattle.alog_config.specs.Meaning.{AreLoggers, AreSinks, IsLogger, IsSink, SaysKind, SaysLogger, SaysSink, SaysUpkeep}
+use Rattle.alog_config.specs.Fields.{AreSinkFields, AreTopFields}
+use Rattle.alog_config.specs.declared.top.TopFields.{TopFields}
+use Rattle.alog_format.specs.Civil.{IsZone}
+use Rattle.alog_format.specs.declared.context.Zone.TheVariants.{Fixed}
+use Rattle.alog_msg.specs.declared.limits.TheConstants.{DEFAULT_TEXT_LIMIT, LEAST_TEXT_LIMIT, MOST_TEXT_LIMIT}
+use Rattle.alog_config.specs.Meaning.{AreLoggers, AreSinks, IsLogger, IsSink, SaysKind, SaysUpkeep, limit_of}
 use Rattle.alog_config.specs.Rules.{AreBadMembers, AreLentSinks, AreNoSinks, IsBadFile, IsFirst, IsTakenLoggerName, IsTakenName}
 use Rattle.alog_config.specs.Rules.{LoggerBreaks, SinkBreaks, order}
-use Rattle.alog_config.specs.Sinks.{AnyFan, AnyMember, AnyUnknown, IsFile, IsSinkName}
-use Rattle.alog_config.specs.Sound.{AreSoundLoggers, AreSoundSinks, IsSoundKind, IsSoundLogger, IsSoundSink, IsSoundUpkeep}
-use Rattle.alog_config.specs.Values.{AreNames, IsField, IsName, IsNameList, IsNumber, IsPattern, IsPatternText, Spelled, given_or}
-use Rattle.alog_msg.specs.declared.limits.TheConstants.{LOGGER_NAME_MAX}
+use Rattle.alog_config.specs.Sound.{AreSoundLoggers, AreSoundSinks, IsSound, IsSoundKind, IsSoundLogger, IsSoundSink, IsSoundUpkeep}
+use Rattle.alog_config.specs.Values.{IsField, IsMinutes, IsName, IsNameList, IsNumber, IsPattern, IsPatternText, IsTableArray}
+use Rattle.alog_config.specs.Values.{LentTables, Spelled, given_or, tables_in}
 use Rattle.alog_pattern.specs.Compiled.{IsTextLimit}
 use Rattle.alog_pattern.specs.Flag.{flag_of}
 use Rattle.alog_pattern.specs.Length.{longest_line}
@@ -131,8 +132,7 @@ upkeep_sound limit t f (upkeeps.Daily hour minute max_files) are says = (
 kind_sound : (limit : ℕ) (earlier : List SinkConfig) (t : Members) (f : SinkFields) (k : SinkKind) → IsTextLimit limit
     → AreSinkFields limit t f → AllKept (SinkBreaks earlier f) → SaysKind f k → IsSoundKind limit earlier k
 kind_sound limit earlier t f (sinks.Lines file pattern upkeep) limited are kept says =
-    let bad : ¬ IsBadFile earlier (Some file) = λ h. kept.bad (inr (inl (subst (IsBadFile earlier) (sym says.0) h))) in
-    (
+    let bad : ¬ IsBadFile earlier (Some file) = λ h. kept.bad (inr (inl (subst (IsBadFile earlier) (sym says.0) h))) in (
       file_name_held file (λ never. bad (inl never)),
       λ h. bad (inr h),
       subst (λ p. IsPattern limit p) (sym says.1) (pattern_sound limit _ f.pattern limited are.pattern),
@@ -140,8 +140,7 @@ kind_sound limit earlier t f (sinks.Lines file pattern upkeep) limited are kept 
     )
 kind_sound limit earlier t f (sinks.Fan of) limited are kept says =
     let r = given_reads IsNameList _ f.of of are.of says.1 in
-    let bad : ¬ AreBadMembers earlier (Given of) = λ h. kept.bad (inr (inr (subst (AreBadMembers earlier) (sym says.1) h))) in
-    (
+    let bad : ¬ AreBadMembers earlier (Given of) = λ h. kept.bad (inr (inr (subst (AreBadMembers earlier) (sym says.1) h))) in (
       r.1.1,
       λ h. kept.no_sink (subst (AreNoSinks earlier) (sym says.1) h),
       λ h. bad (inl h),
@@ -199,3 +198,39 @@ loggers_sound sinks earlier (t ∷ ts) [] h = absurd h
 loggers_sound sinks earlier (t ∷ ts) (l ∷ ls) h =
     let rest = loggers_sound sinks (earlier ++ l ∷ []) ts ls h.1 in
     ((logger_sound sinks earlier t l h.0, rest.0), ap suc rest.1)
+
+-- what is said for all
+text_sound : (o : Option Data) (field : Field ℕ) → IsField (IsNumber LEAST_TEXT_LIMIT MOST_TEXT_LIMIT) o field
+    → IsTextLimit (given_or DEFAULT_TEXT_LIMIT field)
+text_sound o (Given n) h = number_sound LEAST_TEXT_LIMIT MOST_TEXT_LIMIT o (Given n) n h refl
+text_sound o Absent h = (omega arith, omega arith)
+text_sound o Bad h = (omega arith, omega arith)
+
+zero_near : IsZone (Fixed (pos 0))
+zero_near = search rules
+
+minutes_sound : (o : Option Data) (field : Field ℤ) → IsField IsMinutes o field → IsZone (Fixed (given_or (pos 0) field))
+minutes_sound o (Given n) h = let r = given_reads IsMinutes o (Given n) n h refl in (r.1.1, r.1.2)
+minutes_sound o Absent h = zero_near
+minutes_sound o Bad h = zero_near
+
+-- what is read keeps the rules
+pub top_sound : (t : Members) (f : TopFields) (v w : LentTables) (limit : ℕ) (offset : ℤ) (ss : List SinkConfig) (ls : List LoggerConfig)
+    → AreTopFields t f → f.sinks ≡ Given v → f.loggers ≡ Given w → limit ≡ limit_of f → offset ≡ given_or (pos 0) f.offset
+    → AreSinks limit [] (tables_in v) ss → AreLoggers ss [] (tables_in w) ls → IsSound limit (Fixed offset) ss ls
+top_sound t f v w limit offset ss ls are has_sinks has_loggers limited minutes sinks_are loggers_are =
+    let in_limit = subst IsTextLimit (sym limited) (text_sound _ f.text are.text) in
+    let sinks_keep = sinks_sound limit [] (tables_in v) ss in_limit sinks_are in
+    let loggers_keep = loggers_sound ss [] (tables_in w) ls loggers_are in
+    let few_sinks = (given_reads IsTableArray _ f.sinks v are.sinks has_sinks).1.1 in
+    let few_loggers = (given_reads IsTableArray _ f.loggers w are.loggers has_loggers).1.1 in
+    let many = sinks_keep.1 in
+    let more = loggers_keep.1 in
+    record {
+      limited = in_limit;
+      near = subst (λ z. IsZone (Fixed z)) (sym minutes) (minutes_sound _ f.offset are.offset);
+      few_sinks = omega (arith, many, few_sinks);
+      few_loggers = omega (arith, more, few_loggers);
+      each_sink = sinks_keep.0;
+      each_logger = loggers_keep.0;
+    }

@@ -1,5 +1,5 @@
 -- Sinks that are taken out of parts one after the other.
-use Rattle.std.proofs.Common.{◌≡◌, ◌+◌, ◌<◌, ◌≤◌, ℕ, zero, suc, List, [], ◌∷◌, ◌++◌, length, get_or, take, drop, slice_get, option_map, Some, None}
+use Rattle.std.proofs.Common.{◌≡◌, ◌<◌, ℕ, zero, suc, List, [], ◌∷◌, ◌++◌, length, get_or, take, slice_get, option_map, Some}
 use Rattle.std.proofs.Common.{inl, inr, refl, sym, ap, subst, ◌∙◌, arith}
 use Rattle.std.proofs.lemmas.Option.{slice_get_read}
 use Rattle.std.specs.List.{Any, AllPairs, remove}
@@ -72,8 +72,8 @@ pub still_there : {S : Type 0} (parts : List (Part S)) (names : List (List ℕ))
     → TakesOut parts (take i names) sinks left → IsPartName parts name → IsPartName left name
 still_there {S} parts names i name sinks left apart within here t has =
     let other : ¬ Has (λ n. n ≡ name) (take i names) = λ x.
-        let r = in_front names i name x in
-        apart r.0 i name r.1 within (r.3 ∙ sym here) in
+    let r = in_front names i name x in
+    apart r.0 i name r.1 within (r.3 ∙ sym here) in
     has_any (λ (q : Part S). name_of q ≡ name) left
     (has_left_over parts (take i names) sinks left name other t (any_has (λ (q : Part S). name_of q ≡ name) parts has))
 

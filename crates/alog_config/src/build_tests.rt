@@ -157,7 +157,7 @@ fn give<S: Store>(
     logger: u32,
     text: &str,
 ) -> Result<Result<Taken, SinkError>, Fail> {
-    let message = Message::new(alloc, 2_048, 1_000_000_000, level, logger, 1, text, None)?;
+    let message = Message::new(alloc, 2_048, logger, level, 1_000_000_000, 1, text, None)?;
     let mut line = LineBuf::new(alloc, 4_096)?;
     if !sink.may_take(&message, &line) {
         return Err(Fail::new("the sink may take it"));
@@ -197,7 +197,10 @@ fn one_file(rt: HostRuntime) -> Result<(), Fail> {
     let Some(sink) = sinks.get_mut(0) else {
         panic!(rt; "there is a sink")
     };
-    assert_eq!(rt; give(alloc, sink, Level::Info, 0, "hello")?, Ok(Taken::Written));
+    assert_eq!(rt;
+        give(alloc, sink, Level::Info, 0, "hello")?,
+        Ok(Taken::Written)
+    );
     let Some(store) = sink.store() else {
         panic!(rt; "it is no fan")
     };
@@ -254,14 +257,20 @@ fn daily_errors(rt: HostRuntime) -> Result<(), Fail> {
 fn a_fan_of_both(rt: HostRuntime) -> Result<(), Fail> {
     let alloc = rt.alloc();
     let (loggers, mut sinks) = built(alloc, FAN)?;
-    assert_eq!(rt; (loggers.find("net"), loggers.find("db")), (Some(0), Some(1)));
+    assert_eq!(rt;
+        (loggers.find("net"), loggers.find("db")),
+        (Some(0), Some(1))
+    );
     logs_to(&rt, &loggers, 0, &[0]);
     logs_to(&rt, &loggers, 1, &[0]);
     let (Some(net), Some(db)) = (loggers.spec(0), loggers.spec(1)) else {
         panic!(rt; "there are two loggers")
     };
     assert_eq!(rt; (net.level, db.level), (Level::Info, Level::Warning));
-    assert_eq!(rt; (net.policy, db.policy), (Policy::OverrunOldest, Policy::Block));
+    assert_eq!(rt;
+        (net.policy, db.policy),
+        (Policy::OverrunOldest, Policy::Block)
+    );
     assert_eq!(rt; (net.flush_on, db.flush_on), (Level::Critical, Level::Off));
     assert_eq!(rt; (net.backtrace, db.backtrace), (32, 0));
     assert_eq!(rt; sinks.len(), 1);
@@ -269,7 +278,10 @@ fn a_fan_of_both(rt: HostRuntime) -> Result<(), Fail> {
         panic!(rt; "there is a fan")
     };
     assert_eq!(rt; give(alloc, sink, Level::Info, 1, "a")?, Ok(Taken::Written));
-    assert_eq!(rt; give(alloc, sink, Level::Error, 0, "b")?, Ok(Taken::Written));
+    assert_eq!(rt;
+        give(alloc, sink, Level::Error, 0, "b")?,
+        Ok(Taken::Written)
+    );
     let [all, errors] = sink.members() else {
         panic!(rt; "it has two members")
     };

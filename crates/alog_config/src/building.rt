@@ -69,11 +69,11 @@ fn parts_of<'c, S: Store + Drop>(
     let mut stores = VecDeque::from_vec(stores);
     let mut parts = Vec::new(alloc);
     for said in &config.sinks {
-        let sink = made(alloc, config, said, &mut stores, &mut parts)?;
-        let part = Part {
-            config: said,
-            sink,
+        let sink = match made(alloc, config, said, &mut stores, &mut parts) {
+            Ok(sink) => sink,
+            Err(error) => return Err(error),
         };
+        let part = Part { config: said, sink };
         if parts.push(part).is_err() {
             return Err(BuildError::OutOfMemory);
         }

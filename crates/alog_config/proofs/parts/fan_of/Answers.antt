@@ -1,4 +1,4 @@
-use Rattle.std.proofs.Common.{◌≡◌, inl, inr, sym, ◌∙◌, arith}
+use Rattle.std.proofs.Common.{inl, inr, sym, ◌∙◌, arith}
 use Rattle.alog_sink.specs.Opened.{AreNoMembers}
 use Rattle.alog_config.proofs.Taking.{taken_no_fan, takes_long}
 use Rattle.alog_config.proofs.parts.fan_of.Goals as goal
@@ -21,6 +21,6 @@ unreachable-requires g c =
       | inl limit ↦ bad (c.in-Err.ensures.bad_limit.0 limit)
       | inr others ↦ elim c.in-Err.ensures.refusals [
         | inl limit ↦ bad (c.in-Err.ensures.bad_limit.0 limit)
-        | inr memory ↦ elim others [ | inl name ↦ absurd (let e = sym memory ∙ name in cc e) | inr store ↦ absurd (let e = sym memory ∙ store in cc e) ]
+        | inr memory ↦ elim others [ inl name ↦ absurd (let e = sym memory ∙ name in cc e) | inr store ↦ absurd (let e = sym memory ∙ store in cc e) ]
       ]
     ]

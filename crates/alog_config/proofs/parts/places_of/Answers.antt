@@ -1,18 +1,20 @@
-use Rattle.std.proofs.Common.{◌≡◌, ◌++◌, ◌∷◌, [], ℕ, List, length, take, slice_get, Some, None, refl, sym, ap, subst, ◌∙◌, arith}
+use Rattle.std.proofs.Common.{length, take, refl, sym, subst, arith}
 use Rattle.std.proofs.lemmas.Option.{slice_get_read}
-use Rattle.std.proofs.Math.Seq.{take-length}
-use Rattle.alog_config.specs.Built.{EachIs, IsPlace}
+use Rattle.alog_config.specs.Built.{IsPlace}
 use Rattle.alog_config.specs.Parts.{IsPartName}
-use Rattle.alog_config.specs.declared.parts.Part.{Part}
 use Rattle.alog_config.proofs.Picking.{each_is_more, take_one_more}
 use Rattle.alog_config.proofs.parts.places_of.Goals as goal
 
 pub unreachable-requires : goal.unreachable-requires
 unreachable-requires g c =
     let none = c.in_default.ensures.none refl in
-    c.requires.known
-    (c.loop-name.name-index, c.name-item.result, c.loop-name-test.true, sym c.name-item.is,
-    λ has. none (subst (IsPartName c.args.parts.now) (sym c.as_str.ensures) has))
+    c.requires.known (
+      c.loop-name.name-index,
+      c.name-item.result,
+      c.loop-name-test.true,
+      sym c.name-item.is,
+      λ has. none (subst (IsPartName c.args.parts.now) (sym c.as_str.ensures) has),
+    )
 
 pub loop-name-preserved : goal.loop-name-preserved
 loop-name-preserved g c =
@@ -29,6 +31,5 @@ loop-name-preserved g c =
       count = omega (arith, old, len);
       room = omega (arith, capacity, room);
       each = rw (take_one_more names i name here, c.push_reserved.ensures.items)
-      (each_is_more (IsPlace c.args.parts.now) (take i names) c.loop-name.places.items name c.in-Some.place c.loop-name.invariant.each place);
+          (each_is_more (IsPlace c.args.parts.now) (take i names) c.loop-name.places.items name c.in-Some.place c.loop-name.invariant.each place);
     }
-

@@ -1,9 +1,9 @@
-use Rattle.std.proofs.Common.{◌≡◌, ◌<◌, List, length, take, refl, sym, subst, arith}
+use Rattle.std.proofs.Common.{◌<◌, List, length, take, refl, sym, subst, arith}
 use Rattle.std.proofs.lemmas.Option.{slice_get_read}
 use Rattle.alog_config.specs.Built.{IsPlace}
-use Rattle.alog_config.specs.Parts.{IsPartName, TakesOut}
+use Rattle.alog_config.specs.Parts.{IsPartName}
 use Rattle.alog_config.specs.declared.parts.Part.{Part}
-use Rattle.alog_config.proofs.Picking.{any_has, has_any, take_one_more}
+use Rattle.alog_config.proofs.Picking.{take_one_more}
 use Rattle.alog_config.proofs.Taking.{still_there, takes_more}
 use Rattle.alog_config.proofs.parts.taken.Goals as goal
 
@@ -15,12 +15,16 @@ unreachable-requires g c =
     let none = c.in_default.ensures.none refl in
     let left = c.loop-name.parts.items in
     let gone : ¬ IsPartName left name = λ has.
-        none (subst (IsPartName c.as_slice.result.now) (sym c.as_str.ensures)
-        (subst (λ (ps : List (Part g.row.S.Denot)). IsPartName ps name) (sym c.as_slice.ensures.value) has)) in
-    c.requires.known
-    (i, name, c.loop-name-test.true, sym c.name-item.is,
-    λ has. gone (still_there c.args.parts.now.items names i name c.loop-name.sinks.items left c.requires.apart c.loop-name-test.true
-    (sym c.name-item.is) c.loop-name.invariant.taken has))
+    none (subst (IsPartName c.as_slice.result.now) (sym c.as_str.ensures)
+    (subst (λ (ps : List (Part g.row.S.Denot)). IsPartName ps name) (sym c.as_slice.ensures.value) has)) in
+    c.requires.known (
+      i,
+      name,
+      c.loop-name-test.true,
+      sym c.name-item.is,
+      λ has. gone (still_there c.args.parts.now.items names i name c.loop-name.sinks.items left c.requires.apart c.loop-name-test.true
+          (sym c.name-item.is) c.loop-name.invariant.taken has),
+    )
 
 pub loop-name-preserved : goal.loop-name-preserved
 loop-name-preserved g c =
@@ -42,6 +46,6 @@ loop-name-preserved g c =
       count = omega (arith, old, len);
       room = omega (arith, capacity, room);
       taken = rw (take_one_more names i name here, c.push_reserved.ensures.items, c.remove-sink.ensures.items)
-      (takes_more c.args.parts.now.items (take i names) c.loop-name.sinks.items left name k p c.loop-name.invariant.taken within
-      c.remove-sink.ensures.value place);
+          (takes_more c.args.parts.now.items (take i names) c.loop-name.sinks.items left name k p c.loop-name.invariant.taken within
+          c.remove-sink.ensures.value place);
     }
