@@ -2,3 +2,8 @@ pub mod Spelling
 pub mod Firsts
 pub mod Arrays
 pub mod Runs
+pub mod Sounding
+pub mod Picking
+pub mod Parting
+pub mod Handing
+pub mod Taking

@@ -5,3 +5,7 @@ pub mod Sinks
 pub mod Rules
 pub mod Numbers
 pub mod Meaning
+pub mod Sound
+pub mod Soundness
+pub mod Built
+pub mod Parts

@@ -1,9 +1,13 @@
 //! What a configuration says.
+ghost use Rattle.alog_config.specs.Soundness.{IsSound-prop};
+ghost use Rattle.alog_config.specs.Sound.{IsSound};
+ghost use Rattle.alog_format.specs.declared.context.Zone.TheVariants.{Fixed};
+
 use crate::names::NameList;
 use alog_msg::{Level, Text};
 use alog_policy::Policy;
 
-/// A configuration: how a logger is set up. `read` gives one that keeps every rule.
+/// A configuration that keeps every rule: how a logger is set up.
 ///
 /// The test `defaults` shows one.
 #[derive(Debug, Drop)]
@@ -22,6 +26,7 @@ pub struct Config {
     pub sinks: Vec<SinkConfig>,
     /// The loggers by number, 1 to 256.
     pub loggers: Vec<LoggerConfig>,
+    ghost sound: { IsSound text (Fixed offset) sinks.items loggers.items } by { IsSound-prop text (Fixed offset) sinks.items loggers.items },
 }
 
 /// One sink of a configuration.

@@ -2,16 +2,20 @@
 //!
 //! `read` gives the `Config` that a document says, or its first fault: the top is looked at first, then the sinks in
 //! their order, then the loggers; within one table the rules in the order of `RULES`. `leaves` tells how many stores the
-//! sinks of a configuration need.
+//! sinks of a configuration need, and `build` makes its loggers and sinks over them.
 //!
 //! Read `config.rt` with `names.rt` (what a configuration is), `fault.rt` (what is refused); `specs/Values.antt` with
 //! `field.rt`, `values.rt` and `lists.rt` (what one key may hold); `specs/Keys.antt` with `keys.rt`, and
 //! `specs/Fields.antt` with `top.rt`, `sink_fields.rt` and `logger_fields.rt` (the keys of one table); `specs/Sinks.antt`
 //! with `sinks.rt` (sinks by their names); `specs/Rules.antt` with `broken.rt` (which rules a table breaks);
-//! `specs/Meaning.antt` with `reading.rt` (what a document says, and which fault is first).
+//! `specs/Meaning.antt` with `reading.rt` (what a document says, and which fault is first); `specs/Sound.antt` (what is true of
+//! each configuration); `specs/Built.antt` with `building.rt`, `opening.rt` and `parts.rt` (what is built of one).
 #![tactic(auto)]
 
 mod broken;
+#[cfg(test)]
+mod build_tests;
+mod building;
 mod config;
 mod fault;
 mod field;
@@ -23,6 +27,8 @@ mod logger_fields;
 #[cfg(test)]
 mod many_tests;
 mod names;
+mod opening;
+mod parts;
 mod reading;
 mod sink_fields;
 mod sinks;
@@ -31,6 +37,7 @@ mod tests;
 mod top;
 mod values;
 
+pub use building::{BuildError, build};
 pub use config::{Config, LoggerConfig, SinkConfig, SinkKind, Upkeep};
 pub use fault::{ConfigFault, Place, RULES, Rule};
 pub use names::NameList;

@@ -1,6 +1,10 @@
-use Rattle.std.proofs.Common.{List, [], Bor, String, BTreeMap, Global, map, subst, ℕ}
+use Rattle.std.proofs.Common.{List, [], Bor, String, BTreeMap, Global, map, subst, sym, w16, FitsSigned, rules, ℕ}
+use Rattle.std.proofs.lemmas.Int.{to_z-of_z}
 use Rattle.alog_config.proofs.Runs.{logger_fault, sink_fault, top_had}
-use Rattle.alog_config.specs.Meaning.{AreSinks, IsLoggersFault, IsSinksFault}
+use Rattle.alog_config.proofs.Sounding.{top_sound}
+use Rattle.alog_config.specs.Sound.{IsSound}
+use Rattle.alog_format.specs.declared.context.Zone.TheVariants.{Fixed}
+use Rattle.alog_config.specs.Meaning.{AreLoggers, AreSinks, IsLoggersFault, IsSinksFault}
 use Rattle.alog_config.specs.Values.{tables_in}
 use Rattle.alog_config.specs.declared.config.SinkConfig.{SinkConfig}
 use Rattle.toml.specs.View.{table_view}
@@ -39,3 +43,23 @@ returns-in-Err-read_loggers c =
     c.as_slice-2.ensures.value c.in-Err-read_loggers.ensures.refused in
     let known = subst (λ (ss : List SinkConfig). IsLoggersFault ss (tables_in w) fault) c.as_slice-3.ensures.value told in
     logger_fault t f v w sinks fault top are known
+
+pub invariant_of-result : goal.invariant_of-result
+invariant_of-result c =
+    let holds = λ (b : Bor (BTreeMap (String Global) Value)). table_view b.now in
+    let f = c.in-Ok.top in
+    let v = c.in-Given-Given.sinks in
+    let w = c.in-Given-Given.loggers in
+    let t = table_view c.args.table.now in
+    let sinks = c.in-Ok-read_sinks.sinks.items in
+    let loggers = c.in-Ok-read_loggers.loggers.items in
+    let said = subst (λ (bs : List (Bor (BTreeMap (String Global) Value))). AreSinks c.or-text.result [] (map holds bs) sinks)
+    c.as_slice.ensures.value c.in-Ok-read_sinks.ensures.says in
+    let told = subst (λ (bs : List (Bor (BTreeMap (String Global) Value))). AreLoggers c.as_slice-3.result.now [] (map holds bs) loggers)
+    c.as_slice-2.ensures.value c.in-Ok-read_loggers.ensures.says in
+    let known = subst (λ (ss : List SinkConfig). AreLoggers ss [] (tables_in w) loggers) c.as_slice-3.ensures.value told in
+    let fits : FitsSigned w16 c.or-3.result = search rules in
+    let back = to_z-of_z w16 c.or-3.result fits in
+    let sound = top_sound t f v w c.or-text.result c.or-3.result sinks loggers c.in-Ok.ensures c.in-Given-Given.is-0 c.in-Given-Given.is-1
+    c.or-text.ensures c.or-3.ensures said known in
+    record { sound = subst (λ z. IsSound c.or-text.result (Fixed z) sinks loggers) (sym back) sound }

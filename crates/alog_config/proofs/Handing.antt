@@ -1,0 +1,173 @@
+-- Stores that are handed out, and what is made of all parts.
+use Rattle.std.proofs.Common.{◌≡◌, ◌+◌, ◌<◌, ℕ, zero, suc, Bool, true, false, cond, inr, List, [], ◌∷◌, ◌++◌, length, take, drop, map, slice_get}
+use Rattle.std.proofs.Common.{Result, Ok, Err, IfOk, Some, count_by, refl, sym, ap, subst, ◌∙◌, arith, length-drop}
+use Rattle.std.proofs.Math.Seq.{take-length}
+use Rattle.std.proofs.lemmas.List.Sums.{sum_by-append}
+use Rattle.std.specs.List.{Any}
+use Rattle.alog_config.specs.declared.config.Config.{Config}
+use Rattle.alog_config.specs.declared.config.SinkConfig.{SinkConfig}
+use Rattle.alog_config.specs.declared.config.SinkKind.{SinkKind}
+use Rattle.alog_config.specs.declared.config.SinkKind.TheVariants as kinds
+use Rattle.alog_config.specs.declared.parts.Part.{Part}
+use Rattle.alog_config.specs.Built.{ArePicked, Built, EachIs, IsLoggerOf}
+use Rattle.alog_config.specs.Parts.{AreBuilt, Makes, MayLog, MayMake}
+use Rattle.alog_config.specs.Sinks.{AnyMember, AnyUnknown, IsMember, is_leaf, is_lines}
+use Rattle.alog_config.specs.Sound.{AreSoundSinks, IsSound, IsSoundKind}
+use Rattle.alog_config.proofs.Parting.{all_known, config_of, length_mapped, logger_sound_at, name_of, next_fan, next_leaf, no_built_fan, sound_at}
+use Rattle.alog_config.proofs.Picking.{Has, any_has, has_any, picked_short, split_at, take_one_more}
+use Rattle.alog_format.specs.declared.context.Zone.TheVariants.{Fixed}
+use Rattle.alog_registry.specs.declared.logger.Logger.{Logger}
+use Rattle.alog_sink.specs.Files.{Files}
+use Rattle.alog_sink.specs.declared.sink.Sink.{Sink}
+
+-- how many stores the sinks up to one need
+count_one : (s : SinkConfig) (b : Bool) → is_leaf s ≡ b → count_by is_leaf (s ∷ []) ≡ cond b 1 0
+count_one s b e = ap (λ x. 0 + cond x 1 0) e ∙ omega arith
+
+pub count_more : (xs : List SinkConfig) (i : ℕ) (s : SinkConfig) (b : Bool) → slice_get xs i ≡ Some s → is_leaf s ≡ b
+    → count_by is_leaf (take (i + 1) xs) ≡ count_by is_leaf (take i xs) + cond b 1 0
+count_more xs i s b e leaf =
+    ap (λ (ys : List SinkConfig). count_by is_leaf ys) (take_one_more xs i s e)
+    ∙ (sum_by-append (λ (x : SinkConfig). cond (is_leaf x) 1 0) (take i xs) (s ∷ [])
+    ∙ ap (λ n. count_by is_leaf (take i xs) + n) (count_one s b leaf))
+
+pub count_before : (xs : List SinkConfig) (i : ℕ) (s : SinkConfig) → slice_get xs i ≡ Some s → is_leaf s ≡ true
+    → count_by is_leaf (take i xs) < count_by is_leaf xs
+count_before xs i s e leaf =
+    let r = split_at xs i s e in
+    let f : SinkConfig → ℕ = λ x. cond (is_leaf x) 1 0 in
+    let whole = ap (λ (ys : List SinkConfig). count_by is_leaf ys) r.1 ∙ sum_by-append f (take i xs) (s ∷ r.0) in
+    let back = sum_by-append f (s ∷ []) r.0 in
+    let one = count_one s true leaf in
+    omega (arith, whole, back, one)
+
+-- the next store of a list
+pub next_store : {S : Type 0} (stores : List S) (k : ℕ) (store : S) (rest : List S) → drop k stores ≡ store ∷ rest
+    → (slice_get stores k ≡ Some store) × (drop (k + 1) stores ≡ rest)
+next_store [] zero store rest e = absurd (cc e)
+next_store [] (suc k) store rest e = absurd (cc e)
+next_store (s ∷ ss) zero store rest e =
+    let same : s ≡ store = cc in let tail : ss ≡ rest = cc in (ap (λ x. Some x) same, tail)
+next_store {S} (s ∷ ss) (suc k) store rest e =
+    let r = next_store ss k store rest e in
+    let next : suc k + 1 ≡ suc (k + 1) = omega arith in
+    (r.0, ap (λ n. drop n (s ∷ ss)) next ∙ r.1)
+
+pub some_store : {S : Type 0} (stores left : List S) (k : ℕ) → left ≡ drop k stores → k < length stores → left ≡ drop 1 left → ⊥
+some_store {S} stores left k e within same =
+    let all = ap (λ (xs : List S). length xs) e ∙ length-drop k stores in
+    let none = ap (λ (xs : List S). length xs) same ∙ length-drop 1 left in
+    omega (arith, all, none, within)
+
+has_dropped : {A : Type 0} (P : A → Type 0) (k : ℕ) (xs : List A) → Has P (drop k xs) → Has P xs
+has_dropped P zero xs h = h
+has_dropped P (suc k) [] h = h
+has_dropped P (suc k) (x ∷ xs) h = inr (has_dropped P k xs h)
+
+pub any_dropped : {A : Type 0} (P : A → Type 0) (k : ℕ) (xs ys : List A) → ys ≡ drop k xs → Any P ys → Any P xs
+any_dropped {A} P k xs ys e h =
+    has_any P xs (has_dropped P k xs (subst (λ (zs : List A). Has P zs) e (any_has P ys h)))
+
+-- what is known of a value in two ways
+pub if_ok_both : {T E : Type 0} (r : Result T E) (P Q R : T → Type 0) → ((t : T) → P t → Q t → R t) → IfOk r P → IfOk r Q → IfOk r R
+if_ok_both (Ok t) P Q R f p q = f t p q
+if_ok_both (Err e) P Q R f p q = tt
+
+module _ {S : Type 0} (tells : Bool) (files : S → Files) (failures : S → ℕ) where
+  -- the loggers may be made
+  pub may_log : (c : Config) (stores : List S) (left : List (Part S)) → IsSound c.text (Fixed c.offset) c.sinks.items c.loggers.items
+      → AreBuilt tells files failures c stores (length c.sinks.items) left → MayLog left c.loggers.items
+  may_log c stores left sound b =
+      let all = c.sinks.items in
+      let whole : take (length all) all ≡ all = take-length all in
+      let short = picked_short (λ (a : Part S). ¬ IsMember (take (length all) all) (name_of a)) b.parts left b.picked in
+      let mapped = length_mapped config_of b.parts in
+      let parts = ap (λ (xs : List SinkConfig). length xs) (b.of ∙ whole) in
+      record {
+        few_parts = let few = sound.few_sinks in omega (arith, short, mapped, parts, few);
+        few = sound.few_loggers;
+        each = λ i l e.
+            let s = logger_sound_at all [] c.loggers.items i l sound.each_logger e in
+            record {
+              short = s.short;
+              free = s.free;
+              known = all_known tells files failures c stores (length all) left l.sinks b
+                  (subst (λ (xs : List SinkConfig). ¬ AnyUnknown xs l.sinks) (sym whole) s.known)
+                  (subst (λ (xs : List SinkConfig). ¬ AnyMember xs l.sinks) (sym whole) s.apart);
+              few = s.few;
+            };
+      }
+
+  -- what is built of all
+  pub all_built : (c : Config) (stores : List S) (left : List (Part S)) (loggers : List Logger) (sinks : List (Sink S))
+      → AreBuilt tells files failures c stores (length c.sinks.items) left → sinks ≡ map (λ (p : Part S). p.sink) left
+      → EachIs (IsLoggerOf left) c.loggers.items loggers → Built tells files failures c stores loggers sinks
+  all_built c stores left loggers sinks b same each =
+      let all = c.sinks.items in
+      let whole : take (length all) all ≡ all = take-length all in
+      record {
+        parts = b.parts;
+        of = b.of ∙ whole;
+        each = b.each;
+        tops = left;
+        picked = subst (λ (xs : List SinkConfig). ArePicked (λ (a : Part S). ¬ IsMember xs (name_of a)) b.parts left) whole b.picked;
+        sinks = same;
+        loggers = each;
+      }
+
+  -- the next sink may be made
+  may_make_kind : (c : Config) (stores here : List S) (i : ℕ) (left : List (Part S)) (s : SinkConfig) (k : SinkKind)
+      → AreBuilt tells files failures c stores i left → slice_get c.sinks.items i ≡ Some s → s.kind ≡ k
+      → IsSoundKind c.text (take i c.sinks.items) k → length stores ≡ count_by is_leaf c.sinks.items
+      → here ≡ drop (count_by is_leaf (take i c.sinks.items)) stores → MayMake c.text k here left
+  may_make_kind c stores here i left s (kinds.Lines file pattern upkeep) b at kind sound long e =
+      let leaf : is_leaf s ≡ true = ap is_lines kind in
+      let more = count_before c.sinks.items i s at leaf in
+      let rest = ap (λ (xs : List S). length xs) e ∙ length-drop (count_by is_leaf (take i c.sinks.items)) stores in
+      (sound.0, sound.2, sound.3, omega (arith, more, rest, long))
+  may_make_kind c stores here i left s (kinds.Fan of) b at kind sound long e = (
+    all_known tells files failures c stores i left of b sound.1 sound.3,
+    sound.0,
+    no_built_fan tells files failures c stores i left of b sound.2,
+  )
+
+  pub may_make : (c : Config) (stores here : List S) (i : ℕ) (left : List (Part S)) (s : SinkConfig)
+      → AreSoundSinks c.text [] c.sinks.items → AreBuilt tells files failures c stores i left → slice_get c.sinks.items i ≡ Some s
+      → length stores ≡ count_by is_leaf c.sinks.items → here ≡ drop (count_by is_leaf (take i c.sinks.items)) stores
+      → MayMake c.text s.kind here left
+  may_make c stores here i left s sound b at long e =
+      may_make_kind c stores here i left s s.kind b at refl (sound_at c.text c.sinks.items i s sound at).kind long e
+
+  -- the next sink was made
+  pub next_left : (c : Config) (stores here rest : List S) (i : ℕ) (left after : List (Part S)) (s : SinkConfig) (sink : Sink S) (k : SinkKind)
+      → slice_get c.sinks.items i ≡ Some s → s.kind ≡ k → here ≡ drop (count_by is_leaf (take i c.sinks.items)) stores
+      → Makes tells files failures c s.level k here left sink rest after
+      → rest ≡ drop (count_by is_leaf (take (i + 1) c.sinks.items)) stores
+  next_left c stores here rest i left after s sink (kinds.Lines file pattern upkeep) at kind e made =
+      let next = next_store stores (count_by is_leaf (take i c.sinks.items)) made.0 rest (sym e ∙ made.1) in
+      let count = count_more c.sinks.items i s true at (ap is_lines kind) in
+      sym next.1 ∙ ap (λ n. drop n stores) (sym count)
+  next_left c stores here rest i left after s sink (kinds.Fan of) at kind e made =
+      let before = count_by is_leaf (take i c.sinks.items) in
+      let count = count_more c.sinks.items i s false at (ap is_lines kind) in
+      let none : before + 0 ≡ before = omega arith in
+      made.0 ∙ (e ∙ ap (λ n. drop n stores) (sym (count ∙ none)))
+
+  next_kind : (c : Config) (stores here rest : List S) (i : ℕ) (left after : List (Part S)) (s : SinkConfig) (p : Part S) (k : SinkKind)
+      → AreSoundSinks c.text [] c.sinks.items → AreBuilt tells files failures c stores i left → slice_get c.sinks.items i ≡ Some s
+      → config_of p ≡ s → s.kind ≡ k → here ≡ drop (count_by is_leaf (take i c.sinks.items)) stores
+      → Makes tells files failures c s.level k here left p.sink rest after → AreBuilt tells files failures c stores (i + 1) (after ++ p ∷ [])
+  next_kind c stores here rest i left after s p (kinds.Lines file pattern upkeep) sound b at same kind e made =
+      let next = next_store stores (count_by is_leaf (take i c.sinks.items)) made.0 rest (sym e ∙ made.1) in
+      subst (λ (ps : List (Part S)). AreBuilt tells files failures c stores (i + 1) (ps ++ p ∷ [])) (sym made.2)
+      (next_leaf tells files failures c stores i left s p file pattern upkeep made.0 sound b at same kind next.0 made.3)
+  next_kind c stores here rest i left after s p (kinds.Fan of) sound b at same kind e made =
+      next_fan tells files failures c stores i left after s p of sound b at same kind made.1
+
+  pub next_made : (c : Config) (stores here rest : List S) (i : ℕ) (left after : List (Part S)) (s : SinkConfig) (p : Part S)
+      → AreSoundSinks c.text [] c.sinks.items → AreBuilt tells files failures c stores i left → slice_get c.sinks.items i ≡ Some s
+      → config_of p ≡ s → here ≡ drop (count_by is_leaf (take i c.sinks.items)) stores
+      → Makes tells files failures c s.level s.kind here left p.sink rest after
+      → AreBuilt tells files failures c stores (i + 1) (after ++ p ∷ [])
+  next_made c stores here rest i left after s p sound b at same e made =
+      next_kind c stores here rest i left after s p s.kind sound b at same refl e made

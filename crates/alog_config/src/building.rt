@@ -1,0 +1,146 @@
+//! Building what a configuration names.
+ghost use Rattle.std.specs.Prelude.{◌≡◌, IfOk, IsErrOf, count_by, length};
+ghost use Rattle.std.specs.List.{Any};
+ghost use Rattle.alog_config.specs.Built.{Built, EachIs, HasFailed, IsLoggerOf};
+ghost use Rattle.alog_config.specs.Parts.{AreBuilt, Makes, MayLog, MayMake};
+ghost use Rattle.alog_config.specs.Sinks.{is_leaf};
+
+use crate::config::{Config, LoggerConfig, SinkConfig, SinkKind};
+use crate::opening::{face_of, opened};
+use crate::parts::{Part, fan_of, places_of, sinks_of};
+use alog_registry::{AddError, Loggers, Registry, Spec};
+use alog_sink::{Sink, Store};
+use std::alloc::{AllocError, Global};
+use std::collections::VecDeque;
+use thiserror::Error;
+
+/// Why nothing was built. The tests `memory_runs_out` and `a_store_that_fails` show both.
+#[derive(Clone, Copy, Debug, PartialEq, Eq, Drop, Error)]
+pub enum BuildError {
+    /// A growth was refused.
+    #[error("out of memory")]
+    OutOfMemory,
+    /// A store failed.
+    #[error("a store failed")]
+    Store,
+}
+
+impl From<AllocError> for BuildError {
+    ghost use Rattle.std.specs.Prelude.{◌≡◌};
+    ghost use Rattle.alog_config.specs.declared.building.BuildError.TheVariants.{OutOfMemory};
+
+    ghost from_gives = { λ _ e. e ≡ OutOfMemory };
+
+    fn from(_error: AllocError) -> BuildError {
+        BuildError::OutOfMemory
+    }
+}
+
+/// Builds the loggers and the sinks that a configuration names, over stores in the order of the sinks that need one.
+///
+/// The sinks are those that are no fan's member, in their order; a member is in its fan. A logger's sinks are told by their
+/// places among them. There are as many stores as `leaves` tells. After a refusal the stores are dropped. The test
+/// `one_file` shows it.
+pub fn build<S: Store + Drop>(
+    alloc: Global,
+    config: &Config,
+    stores: Vec<S>,
+) -> Result<(Loggers, Vec<Sink<S>>), BuildError>
+    requires { length stores.items ≡ count_by is_leaf config.now.sinks.items }
+    ensures built { IfOk result (λ b. Built S.tells S.files S.failures config.now stores.items b.0 b.1.items) }
+    ensures failed { IsErrOf result BuildError.Store → Any (HasFailed S.failures) stores.items }
+{
+    let parts = parts_of(alloc, config, stores)?;
+    let loggers = loggers_of(alloc, &config.loggers, parts.as_slice())?;
+    let sinks = sinks_of(alloc, parts)?;
+    Ok((loggers, sinks))
+}
+
+/// Builds each sink, and puts the members of fans into them. What is left are the sinks that are no fan's member.
+fn parts_of<'c, S: Store + Drop>(
+    alloc: Global,
+    config: &'c Config,
+    stores: Vec<S>,
+) -> Result<Vec<Part<'c, S>>, BuildError>
+    requires { length stores.items ≡ count_by is_leaf config.now.sinks.items }
+    ensures built { IfOk result (λ v. AreBuilt S.tells S.files S.failures config.now stores.items (length config.now.sinks.items) v.items) }
+    ensures failed { IsErrOf result BuildError.Store → Any (HasFailed S.failures) stores.items }
+{
+    let mut stores = VecDeque::from_vec(stores);
+    let mut parts = Vec::new(alloc);
+    for said in &config.sinks {
+        let sink = match made(alloc, config, said, &mut stores, &mut parts) {
+            Ok(sink) => sink,
+            Err(error) => return Err(error),
+        };
+        let part = Part { config: said, sink };
+        if parts.push(part).is_err() {
+            return Err(BuildError::OutOfMemory);
+        }
+    }
+    Ok(parts)
+}
+
+/// Makes the next sink, of the next store or of the parts that it names.
+fn made<S: Store + Drop>(
+    alloc: Global,
+    config: &Config,
+    sink: &SinkConfig,
+    stores: &mut VecDeque<S>,
+    parts: &mut Vec<Part<'_, S>>,
+) -> Result<Sink<S>, BuildError>
+    requires { MayMake config.now.text sink.now.kind stores.old.items parts.old.items }
+    ensures made { IfOk result (λ s. Makes S.tells S.files S.failures config.now sink.now.level sink.now.kind stores.old.items parts.old.items
+        s stores.new.items parts.new.items) }
+    ensures failed { IsErrOf result BuildError.Store → Any (HasFailed S.failures) stores.old.items }
+{
+    match &sink.kind {
+        SinkKind::Lines {
+            file,
+            pattern,
+            upkeep,
+        } => {
+            let Some(store) = stores.pop_front() else {
+                unreachable!();
+            };
+            let face = face_of(alloc, config, sink.level, pattern.as_str())?;
+            opened(alloc, face, file.as_str(), *upkeep, store)
+        }
+        SinkKind::Fan { of } => Ok(fan_of(alloc, sink.level, parts, of.as_slice())?),
+    }
+}
+
+/// Makes the loggers, whose sinks are among these.
+fn loggers_of<S: Store>(
+    alloc: Global,
+    loggers: &[LoggerConfig],
+    parts: &[Part<'_, S>],
+) -> Result<Loggers, AllocError>
+    requires { MayLog parts.now loggers.now }
+    ensures { IfOk result (EachIs (IsLoggerOf parts.now) loggers.now) }
+{
+    let mut registry = Registry::new(alloc);
+    for logger in loggers {
+        let spec = Spec {
+            level: logger.level,
+            policy: logger.policy,
+            flush_on: logger.flush_on,
+            backtrace: logger.backtrace,
+            sinks: places_of(alloc, parts, logger.sinks.as_slice())?,
+        };
+        match registry.add(logger.name.as_str(), spec) {
+            Ok(_) => {}
+            Err(refused) => match refused.fault {
+                AddError::OutOfMemory => return Err(AllocError),
+                AddError::FieldTooLong
+                | AddError::NameTaken
+                | AddError::TooMany
+                | AddError::BadLimit => unreachable!(),
+            },
+        }
+    }
+    match registry.freeze(alloc) {
+        Ok(loggers) => Ok(loggers),
+        Err(_) => Err(AllocError),
+    }
+}

@@ -1,0 +1,105 @@
+//! Opening the sinks that have a store of their own.
+ghost use Rattle.std.specs.Prelude.{◌≡◌, ◌↔◌, ◌⊎◌, IfOk, IsErrOf, map};
+ghost use Rattle.alog_config.specs.Built.{HasFailed, IsFaceOf, IsOver, IsTargetOf};
+ghost use Rattle.alog_config.specs.Sound.{IsSoundUpkeep};
+ghost use Rattle.alog_config.specs.Values.{IsPattern};
+ghost use Rattle.alog_sink.specs.Names.{IsFileName};
+ghost use Rattle.alog_sink.specs.Opened.{Opened, store_of};
+
+use crate::building::BuildError;
+use crate::config::{Config, Upkeep};
+use alog_format::{Context, Zone};
+use alog_msg::Level;
+use alog_pattern::{Pattern, PatternError};
+use alog_sink::{Face, NameError, Names, OpenError, Sink, Store, Unopened};
+use std::alloc::{AllocError, Global};
+
+/// The names of the loggers, by number.
+fn logger_names(alloc: Global, config: &Config) -> Result<Names, AllocError>
+    ensures { IfOk result (λ n. n ≡ map (λ l. l.name) config.now.loggers.items) }
+{
+    let mut names = Names::new(alloc);
+    for logger in &config.loggers {
+        match names.push(alloc, logger.name.as_str()) {
+            Ok(()) => {}
+            Err(NameError::OutOfMemory) => return Err(AllocError),
+            Err(NameError::NameTooLong) => unreachable!(),
+        }
+    }
+    Ok(names)
+}
+
+/// The face of a sink of this level and pattern.
+pub(crate) fn face_of(
+    alloc: Global,
+    config: &Config,
+    level: Level,
+    pattern: &str,
+) -> Result<Face, AllocError>
+    requires { IsPattern config.now.text pattern.now }
+    ensures { IfOk result (IsFaceOf config.now level pattern.now) }
+{
+    let pattern = match Pattern::compile(alloc, pattern.as_bytes(), config.text) {
+        Ok(pattern) => pattern,
+        Err(PatternError::OutOfMemory) => return Err(AllocError),
+        Err(PatternError::PatternTooLong | PatternError::LineTooLong) => unreachable!(),
+    };
+    Ok(Face {
+        level,
+        pattern,
+        context: Context {
+            zone: Zone::Fixed(config.offset),
+            process: config.process,
+        },
+        names: logger_names(alloc, config)?,
+    })
+}
+
+/// Opens a sink of this face, file and upkeep over a store.
+pub(crate) fn opened<S: Store + Drop>(
+    alloc: Global,
+    face: Face,
+    file: &str,
+    upkeep: Upkeep,
+    store: S,
+) -> Result<Sink<S>, BuildError>
+    requires name { IsFileName file.now }
+    requires upkeep { IsSoundUpkeep upkeep }
+    ensures opened { IfOk result (Opened S.tells S.files face (IsTargetOf file.now upkeep) (S.files store)) }
+    ensures over { IfOk result (λ s. IsOver S.tells S.files S.failures upkeep store (store_of s)) }
+    ensures failed { IsErrOf result BuildError.Store → HasFailed S.failures store }
+{
+    match upkeep {
+        Upkeep::Never => match Sink::memory(alloc, face, store, file) {
+            Ok(sink) => Ok(sink),
+            Err(unopened) => Err(why(unopened)),
+        },
+        Upkeep::BySize {
+            max_size,
+            max_files,
+        } => match Sink::rotating(alloc, face, store, file, max_size, max_files) {
+            Ok(sink) => Ok(sink),
+            Err(unopened) => Err(why(unopened)),
+        },
+        Upkeep::Daily {
+            hour,
+            minute,
+            max_files,
+        } => match Sink::daily(alloc, face, store, file, hour, minute, max_files) {
+            Ok(sink) => Ok(sink),
+            Err(unopened) => Err(why(unopened)),
+        },
+    }
+}
+
+/// Why a sink of a sound configuration was not opened.
+fn why<S: Store + Drop>(unopened: Unopened<S>) -> BuildError
+    requires { (unopened.error ≡ OpenError.OutOfMemory) ⊎ (unopened.error ≡ OpenError.Store) }
+    ensures { (result ≡ BuildError.Store) ↔ (unopened.error ≡ OpenError.Store) }
+{
+    match unopened.error {
+        OpenError::OutOfMemory => BuildError::OutOfMemory,
+        OpenError::Store => BuildError::Store,
+        OpenError::BadLimit | OpenError::BadName => unreachable!(),
+    }
+}
