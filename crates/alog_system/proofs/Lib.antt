@@ -1,0 +1,4 @@
+pub mod Desks
+pub mod Rooms
+pub mod Suits
+pub mod Parts

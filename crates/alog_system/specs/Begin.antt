@@ -12,6 +12,8 @@ use Rattle.alog_system.specs.System.{SystemView, is_free, with_desk, with_duty}
 use Rattle.alog_system.specs.declared.deed.Deed.{Deed}
 use Rattle.alog_system.specs.declared.deed.Deed.TheVariants as deed
 use Rattle.alog_system.specs.declared.duty.Duty.{Duty}
+use Rattle.alog_system.specs.declared.error.BeginError.{BeginError}
+use Rattle.alog_system.specs.declared.error.BeginError.TheVariants as errors
 use Rattle.alog_system.specs.declared.duty.Duty.TheVariants.{Free, Keeps, Dumps, Works}
 
 -- the deed's logger is one of these
@@ -29,17 +31,23 @@ message_by a time n level text = record { logger = n; level = level; time = time
 abbrev pub is_below : Level → Level → Bool
 is_below level own = nat_lt (row_of level).number (row_of own).number
 
--- the level that filters the deed, if one does
+-- the level that filters a message, if one does, and the deed, if it logs
+abbrev pub filtering : Level → Level → Option Level
+filtering level own = if is_below level own then Some own else None
+
 abbrev pub filtered_by : RosterView → Deed → Option Level
-filtered_by r (deed.Log time n level text) = if is_below level (level_at r n) then Some (level_at r n) else None
+filtered_by r (deed.Log time n level text) = filtering level (level_at r n)
 filtered_by r (deed.Flush n) = None
 filtered_by r (deed.Dump time n) = None
 filtered_by r deed.Work = None
 
--- the text of a deed is too long: that of a log, unless it is filtered and not kept, so that nobody looks at it
+-- nobody looks at the text of a log that is filtered and not kept
+abbrev pub is_unread : RosterView → ℕ → Level → Bool
+is_unread r n level = is_below level (level_at r n) && (backtrace_at r n == 0)
+
+-- the text of a deed is too long
 abbrev pub IsTooLong : RosterView → ℕ → Deed → Type 0
-IsTooLong r limit (deed.Log time n level text) =
-    (limit < length text.now) × ((is_below level (level_at r n) && (backtrace_at r n == 0)) ≡ false)
+IsTooLong r limit (deed.Log time n level text) = (limit < length text.now) × (is_unread r n level ≡ false)
 IsTooLong r limit (deed.Flush n) = ⊥
 IsTooLong r limit (deed.Dump time n) = ⊥
 IsTooLong r limit deed.Work = ⊥
@@ -67,3 +75,10 @@ begun v a deed.Work = with_duty (with_desk v (call_began v.desk a round.Pop)) a 
 -- an actor in no call may begin the deed
 abbrev pub MayBegin : {S : Type 0} → SystemView S → ℕ → Deed → Type 0
 MayBegin v a d = (a < ACTORS) × (is_free v a ≡ true) × ¬ IsTooLong v.roster v.outputs.text_limit d
+
+-- why what a deed needs was not made
+abbrev pub IsOfMaking : BeginError → Type 0
+IsOfMaking errors.NoActor = ⊥
+IsOfMaking errors.InCall = ⊥
+IsOfMaking errors.TextTooLong = Unit {0}
+IsOfMaking errors.OutOfMemory = Unit {0}

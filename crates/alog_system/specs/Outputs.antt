@@ -6,11 +6,12 @@ use Rattle.alog_msg.specs.declared.item.Item.TheVariants as item
 use Rattle.alog_msg.specs.declared.message.Message.{Message}
 use Rattle.alog_msg.specs.declared.limits.TheConstants.{LEAST_TEXT_LIMIT, MOST_TEXT_LIMIT}
 use Rattle.alog_pattern.specs.Compiled.{longest}
+use Rattle.alog_pattern.specs.declared.patterns.TheConstants.{LINE_MAX}
 use Rattle.alog_registry.specs.declared.work.SinkDeed.{SinkDeed}
 use Rattle.alog_registry.specs.declared.work.SinkDeed.TheVariants as deed
 use Rattle.alog_registry.specs.declared.work.SinkTurn.{SinkTurn}
 use Rattle.alog_sink.specs.Files.{Files}
-use Rattle.alog_sink.specs.Sinks.{SinkTakes, SinkFlushes}
+use Rattle.alog_sink.specs.Sinks.{MayTake, SinkTakes, SinkFlushes}
 use Rattle.alog_sink.specs.Turn.{Answer, LeafView}
 use Rattle.alog_sink.specs.declared.face.Face.{Face}
 use Rattle.alog_sink.specs.declared.leaf.SinkError.{SinkError}
@@ -39,11 +40,21 @@ pub record AllSuit {S : Type 0} (limit capacity : ℕ) (all : List (Sink S)) : T
   pub most : limit ≤ MOST_TEXT_LIMIT
   pub each : All (λ s. SinkSuits limit capacity s) all
 
+-- each suits a buffer that holds the longest line of any pattern
+abbrev pub AreSuited : {S : Type 0} → ℕ → List (Sink S) → Type 0
+AreSuited limit all = AllSuit limit LINE_MAX all
+
 -- the text of an item keeps to the limit
 abbrev pub IsShort : ℕ → Item → Type 0
 IsShort limit (item.Text m) = length m.text ≤ limit
 IsShort limit (item.Flush n) = Unit {0}
 IsShort limit item.Stop = Unit {0}
+
+-- a sink may have a turn at an item with a buffer of this capacity
+abbrev pub MayMake : {S : Type 0} → Sink S → Item → ℕ → Type 0
+MayMake s (item.Text m) capacity = MayTake s m capacity
+MayMake s (item.Flush n) capacity = Unit {0}
+MayMake s item.Stop capacity = Unit {0}
 
 -- how a turn on a sink is told: by its ticket, the sink's number, and the sink's answer
 abbrev pub told_of_text : SinkTurn → Answer → Turn

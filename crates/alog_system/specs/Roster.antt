@@ -1,5 +1,5 @@
 -- Loggers with their levels, and what each keeps.
-use Rattle.std.specs.Prelude.{◌≡◌, ℕ, Option, Some, None, List, [], map, length, slice_get, slice_index_or, slice_set}
+use Rattle.std.specs.Prelude.{◌≡◌, ℕ, Option, Some, None, List, [], map, length, slice_get, slice_index_or, slice_set, unwrap_or}
 use Rattle.alog_msg.specs.declared.item.Item.{Item}
 use Rattle.alog_msg.specs.declared.item.Item.TheVariants as item
 use Rattle.alog_msg.specs.declared.level.Level.{Level}
@@ -59,7 +59,7 @@ abbrev pub backtrace_of : Logger → ℕ
 backtrace_of l = l.spec.backtrace
 
 pub record IsRoster (loggers : List Logger) (levels : List Level) (kept : List Room) : Type 0 where
-  pub levels : length levels ≡ length loggers
+  pub each : length levels ≡ length loggers
   pub rooms : map most_of kept ≡ map backtrace_of loggers
 
 -- the policy of a logger, and how many messages it keeps at most
@@ -79,7 +79,7 @@ backtrace_at r n = backtrace_in (spec_at r.loggers n)
 
 -- the level of a logger as it is now
 abbrev pub level_at : RosterView → ℕ → Level
-level_at r n = slice_index_or r.levels n Off
+level_at r n = unwrap_or (slice_get r.levels n) Off
 
 -- the number of an item's logger
 abbrev pub logger_of : Item → ℕ

@@ -79,12 +79,20 @@ follows v a (Serves t i done) s = v
 abbrev pub after_round : {S : Type 0} → SystemView S → ℕ → SystemView S
 after_round v a = follows (with_desk v (desk_stepped v.desk a)) a (duty_of v a) (desk_told v.desk a)
 
+abbrev pub RoundSteps : {S : Type 0} → SystemView S → ℕ → Stepped → SystemView S → Type 0
+RoundSteps v a told new = (told ≡ told_in_round (duty_of v a) (desk_told v.desk a)) × (new ≡ after_round v a)
+
 -- what the dump of a logger posts
 abbrev pub dumped_by : {S : Type 0} → SystemView S → DumpView → List Message
 dumped_by v d = posted_of d.logger d.time d.thread (kept_at v.roster d.logger).messages
 
 module _ {S : Type 0} (tells : Bool) (files : S → Files) (failures : S → ℕ) where
-  -- The next turn of a work is made on its sink, and tagged with the ticket.
+  -- a turn of a work is made on its sink
+  abbrev pub TurnsOn : SystemView S → SinkTurn → Item → Turn → SystemView S → Type 0
+  TurnsOn v turn i told new =
+      (outputs : OutputsView S) × Turns tells files failures v.outputs turn i told outputs × (new ≡ with_outputs v outputs)
+
+  -- The next turn of a work is made, and tagged with the ticket.
   pub record ServesOn (v : SystemView S) (a t : ℕ) (i : Item) (done : ℕ) (told : Turn) (new : SystemView S) : Type 0 where
     pub turn : SinkTurn
     pub next : slice_get (turns_for v.roster t i) done ≡ Some turn
@@ -103,9 +111,6 @@ module _ {S : Type 0} (tells : Bool) (files : S → Files) (failures : S → ℕ
   TurnSteps v a (Posts p ms) told new = ⊥
   TurnSteps v a Works told new = ⊥
   TurnSteps v a (Serves t i done) told new = ServesOn v a t i done told new
-
-  abbrev pub RoundSteps : SystemView S → ℕ → Stepped → SystemView S → Type 0
-  RoundSteps v a told new = (told ≡ told_in_round (duty_of v a) (desk_told v.desk a)) × (new ≡ after_round v a)
 
   abbrev pub TurnTold : SystemView S → ℕ → Stepped → SystemView S → Type 0
   TurnTold v a told new = (turn : Turn) × (told ≡ Turned turn) × TurnSteps v a (duty_of v a) turn new

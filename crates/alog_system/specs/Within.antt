@@ -4,6 +4,8 @@ use Rattle.std.specs.List.{All}
 use Rattle.alog_core.specs.Queue.{Cell}
 use Rattle.alog_core.specs.World.{Machine, round_of, brought}
 use Rattle.alog_core.specs.declared.TheConstants.{ACTORS}
+use Rattle.alog_core.specs.declared.said.Said.{Said}
+use Rattle.alog_core.specs.declared.said.Said.TheVariants as said
 use Rattle.alog_msg.specs.declared.item.Item.{Item}
 use Rattle.alog_msg.specs.declared.item.Item.TheVariants as item
 use Rattle.alog_msg.specs.declared.message.Message.{Message}
@@ -36,6 +38,18 @@ pub record MachineHas {T : Type 0} (P : T → Type 0) (m : Machine T) : Type 0 w
 pub record DeskHas {T : Type 0} (P : T → Type 0) (d : DeskView T) : Type 0 where
   pub world : MachineHas P d.world
   pub posts : All (λ p. HandHasOnly P p) d.posts
+
+-- and of the value that a step tells
+abbrev pub SaidHasOnly : {T : Type 0} → (T → Type 0) → Said T → Type 0
+SaidHasOnly P said.Nothing = Unit {0}
+SaidHasOnly P (said.Claim t) = Unit {0}
+SaidHasOnly P (said.Write t) = Unit {0}
+SaidHasOnly P (said.Full t x) = HasOnly P x
+SaidHasOnly P (said.Grab t) = Unit {0}
+SaidHasOnly P (said.Take t x) = P x
+SaidHasOnly P (said.Empty t) = Unit {0}
+SaidHasOnly P (said.Busy t x) = HasOnly P x
+SaidHasOnly P (said.Spent x) = HasOnly P x
 
 -- a message's text keeps to the limit
 abbrev pub IsShortText : ℕ → Message → Type 0

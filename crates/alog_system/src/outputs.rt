@@ -1,6 +1,7 @@
 //! The sinks of a system, and the buffer that lines are made in.
 ghost use Rattle.std.specs.Prelude.{◌≡◌, ◌<◌, ◌≤◌, IfOk, length};
-ghost use Rattle.alog_system.specs.Outputs.{AllSuit, IsShort, Turns, TextTurn, FlushTurn};
+ghost use Rattle.alog_msg.specs.declared.limits.TheConstants.{LEAST_TEXT_LIMIT, MOST_TEXT_LIMIT};
+ghost use Rattle.alog_system.specs.Outputs.{AreSuited, IsShort, MayMake, Turns, DoesTurn, TextTurn, FlushTurn};
 ghost use Rattle.alog_sink.specs.Sinks.{MayTake};
 
 use crate::stepped::Turn;
@@ -37,7 +38,7 @@ impl<S: Store + Drop> Outputs<S> {
         text_limit: usize,
         sinks: Vec<Sink<S>>,
     ) -> Result<Outputs<S>, AllocError>
-        requires { AllSuit text_limit LINE_MAX sinks.items }
+        requires { AreSuited text_limit sinks.items }
         ensures { IfOk result (λ o. o ≡ record { sinks = sinks.items; text_limit = text_limit }) }
     {
         let line = LineBuf::new(alloc, LINE_MAX)?;
@@ -50,7 +51,8 @@ impl<S: Store + Drop> Outputs<S> {
 
     /// The most bytes of a text.
     pub fn text_limit(&self) -> usize
-        ensures { result ≡ self.now.text_limit }
+        ensures limit { result ≡ self.now.text_limit }
+        ensures within { (LEAST_TEXT_LIMIT ≤ result) × (result ≤ MOST_TEXT_LIMIT) }
     {
         self.text_limit
     }
@@ -68,14 +70,27 @@ impl<S: Store + Drop> Outputs<S> {
         requires short { IsShort self.old.text_limit item.now }
         ensures { Turns S.tells S.files S.failures self.old turn item.now result self.new }
     {
-        let sink = &mut self.sinks[turn.sink as usize];
-        match turn.deed {
-            SinkDeed::Take => match item {
-                Item::Text(message) => take(sink, turn, message, &mut self.line),
-                Item::Flush(_) | Item::Stop => flush(sink, turn),
-            },
-            SinkDeed::Flush => flush(sink, turn),
-        }
+        make(
+            &mut self.sinks[turn.sink as usize],
+            turn,
+            item,
+            &mut self.line,
+        )
+    }
+}
+
+/// A sink makes a turn.
+fn make<S: Store>(sink: &mut Sink<S>, turn: SinkTurn, item: &Item, line: &mut LineBuf) -> Turn
+    requires { MayMake sink.old item.now line.old.capacity }
+    ensures turn { DoesTurn S.tells S.files S.failures turn turn.deed item.now sink.old result sink.new }
+    ensures capacity { line.new.capacity ≡ line.old.capacity }
+{
+    match turn.deed {
+        SinkDeed::Take => match item {
+            Item::Text(message) => take(sink, turn, message, line),
+            Item::Flush(_) | Item::Stop => flush(sink, turn),
+        },
+        SinkDeed::Flush => flush(sink, turn),
     }
 }
 

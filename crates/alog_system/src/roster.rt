@@ -1,8 +1,7 @@
 //! Loggers with their levels, and what each keeps.
-ghost use Rattle.std.specs.Prelude.{◌≡◌, ◌↔◌, ◌<◌, ◌≤◌, ℕ, IfOk, IsTrue, length, map, slice_get, Some, vec_capacity};
+ghost use Rattle.std.specs.Prelude.{◌≡◌, ◌↔◌, ◌<◌, ◌≤◌, ◌+◌, ◌^◌, ℕ, IfOk, IsTrue, IsSome, length, map, slice_get, Some};
 ghost use Rattle.std.specs.Option.{option_copied};
 ghost use Rattle.std.specs.List.{All};
-ghost use Rattle.alog_registry.specs.Backtrace.{Room, room_for};
 ghost use Rattle.alog_registry.specs.Dumping.{posted_of};
 ghost use Rattle.alog_registry.specs.Listed.{spec_at, name_at};
 ghost use Rattle.alog_registry.specs.declared.TheConstants.{MOST_KEPT};
@@ -108,7 +107,8 @@ impl Roster {
 
     /// The turn of this place in the work on an item that was taken under this ticket.
     pub fn turn(&self, ticket: u64, item: &Item, place: usize) -> Option<SinkTurn>
-        ensures { result ≡ slice_get (turns_for self.now ticket item.now) place }
+        ensures turn { result ≡ slice_get (turns_for self.now ticket item.now) place }
+        ensures few { IsSome result → place + 1 < 2 ^ 64 }
     {
         let number = match item {
             Item::Text(message) => message.logger,
@@ -116,7 +116,10 @@ impl Roster {
             Item::Stop => 0,
         };
         match self.spec(number) {
-            Some(spec) => spec.turn_of_work(ticket, item, place),
+            Some(spec) => {
+                let _few = spec.sinks.as_slice().len();
+                spec.turn_of_work(ticket, item, place)
+            }
             None => None,
         }
     }
@@ -139,8 +142,9 @@ impl Roster {
     pub fn keep(&mut self, message: Message)
         ensures { self.new ≡ keeping self.old message }
     {
-        if let Some(backtrace) = self.kept.get_mut(message.logger as usize) {
-            backtrace.keep(message);
+        let number = message.logger as usize;
+        if number < self.kept.len() {
+            self.kept[number].keep(message);
         }
     }
 
@@ -157,7 +161,7 @@ impl Roster {
     /// A dump takes what its logger kept.
     pub fn dump(&mut self, dump: Dump) -> Rest
         requires known { dump.logger < length self.old.loggers }
-        requires room { (kept_at self.old dump.logger).most ≡ dump.most }
+        requires room { dump.most ≡ backtrace_at self.old dump.logger }
         ensures posts { result ≡ posted_of dump.logger dump.time dump.thread (kept_at self.old dump.logger).messages }
         ensures emptied { self.new ≡ emptied self.old dump.logger }
     {

@@ -1,15 +1,14 @@
 //! The system: what its calls answer.
-ghost use Rattle.std.specs.Prelude.{◌≡◌, ◌↔◌, ◌<◌, IfOk, IsErrOf, IsTrue, false, Some, length, map, slice_get};
+ghost use Rattle.std.specs.Prelude.{◌≡◌, ◌↔◌, ◌<◌, ℕ, IfOk, IsErrOf, IsTrue, false, Some, length, map, slice_get};
 ghost use Rattle.std.specs.List.{All};
 ghost use Rattle.std.specs.Option.{option_copied};
 ghost use Rattle.alog_core.specs.World.{is_size, shown};
 ghost use Rattle.alog_core.specs.declared.TheConstants.{ACTORS};
-ghost use Rattle.alog_pattern.specs.declared.TheConstants.{LINE_MAX};
 ghost use Rattle.alog_registry.specs.Listed.{name_at};
-ghost use Rattle.alog_system.specs.Outputs.{AllSuit};
+ghost use Rattle.alog_system.specs.Outputs.{AreSuited};
 ghost use Rattle.alog_system.specs.Roster.{with_level};
 ghost use Rattle.alog_system.specs.System.{fresh_system, is_free, item_of, duty_of, owes, with_duty, with_roster};
-ghost use Rattle.alog_system.specs.Within.{LoggerFits};
+ghost use Rattle.alog_system.specs.Within.{DutyFits, LoggerFits};
 ghost use Rattle.alog_system.specs.declared.duty.Duty.TheVariants as duty;
 
 mod begin;
@@ -63,7 +62,7 @@ impl<S: Store + Drop> System<S> {
         sinks: Vec<Sink<S>>,
     ) -> Result<System<S>, SystemError>
         requires loggers { All (LoggerFits (length sinks.items)) loggers }
-        requires sinks { AllSuit text_limit LINE_MAX sinks.items }
+        requires sinks { AreSuited text_limit sinks.items }
         ensures made { IfOk result (λ s. s ≡ fresh_system places text_limit loggers sinks.items) }
         ensures bad_size { IsErrOf result SystemError.BadSize ↔ (is_size places ≡ false) }
     {
@@ -157,6 +156,7 @@ impl<S: Store + Drop> System<S> {
     fn take_duty(&mut self, actor: u32) -> Duty
         requires { actor < ACTORS }
         ensures duty { result ≡ duty_of self.old actor }
+        ensures fits { DutyFits self.old.roster self.old.outputs.text_limit result }
         ensures after { self.new ≡ with_duty self.old actor duty.Free }
     {
         mem::replace(&mut self.duties[actor as usize], Duty::Free)

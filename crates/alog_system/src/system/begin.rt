@@ -1,13 +1,13 @@
 //! How a deed begins.
-ghost use Rattle.std.specs.Prelude.{◌≡◌, ◌↔◌, ◌≤◌, ◌<◌, ◌==◌, if◌then◌else◌, IfOk, OnOk, OnErr, IsErrOf, IsOk, true, false, length};
+ghost use Rattle.std.specs.Prelude.{◌≡◌, ◌↔◌, ◌≤◌, ◌<◌, ◌==◌, IfOk, OnOk, OnErr, IfErr, IsErrOf, None, true, false, length};
 ghost use Rattle.alog_core.specs.World.{is_idle, round_of};
 ghost use Rattle.alog_core.specs.declared.TheConstants.{ACTORS};
 ghost use Rattle.alog_core.specs.declared.round.Round.TheVariants as round;
 ghost use Rattle.alog_policy.specs.Desk.{call_began, post_began};
 ghost use Rattle.alog_registry.specs.Given.{message_of};
-ghost use Rattle.alog_system.specs.Begin.{IsKnown, IsTooLong, MayBegin, begun, filtered_by, filtering, logging, kept_after, IsUnread};
+ghost use Rattle.alog_system.specs.Begin.{IsKnown, IsTooLong, IsOfMaking, MayBegin, begun, filtered_by, filtering, logging, kept_after, is_unread};
 ghost use Rattle.alog_system.specs.Outputs.{IsShort};
-ghost use Rattle.alog_system.specs.Roster.{backtrace_at};
+ghost use Rattle.alog_system.specs.Roster.{backtrace_at, level_at};
 ghost use Rattle.alog_system.specs.System.{is_free, with_desk, with_duty};
 ghost use Rattle.alog_system.specs.Within.{DutyFits};
 ghost use Rattle.alog_system.specs.declared.duty.Duty.TheVariants as duty;
@@ -37,7 +37,7 @@ impl<S: Store + Drop> System<S> {
         actor: u32,
         deed: Deed<'_>,
     ) -> Result<Option<Level>, BeginError>
-        requires { IsKnown self.old.roster deed.entry }
+        requires { IsKnown self.old.roster deed }
         ensures filtered { IfOk result (λ level. level ≡ filtered_by self.old.roster deed.entry) }
         ensures begun { OnOk result (self.new ≡ begun self.old actor deed.entry) }
         ensures no_actor { IsErrOf result BeginError.NoActor ↔ (ACTORS ≤ actor) }
@@ -94,21 +94,45 @@ impl<S: Store + Drop> System<S> {
         alloc: Global,
         actor: u32,
         given: MessageRef<'_>,
-    ) -> Result<Option<Level>, BeginError> {
+    ) -> Result<Option<Level>, BeginError>
+        requires actor { actor < ACTORS }
+        requires idle { is_idle (round_of self.old.desk.world actor) ≡ true }
+        requires source { given.source ≡ None }
+        ensures filtered { IfOk result (λ level. level ≡ filtering given.entry.level (level_at self.old.roster given.entry.logger)) }
+        ensures begun { OnOk result (self.new ≡ logging self.old actor (message_of given.entry)) }
+        ensures text_too_long { IsErrOf result BeginError.TextTooLong ↔ ((self.old.outputs.text_limit < length given.entry.text.now)
+            × (is_unread self.old.roster given.entry.logger given.entry.level ≡ false)) }
+        ensures cause { IfErr result (λ e. IsOfMaking e) }
+        ensures err { OnErr result (self.new ≡ self.old) }
+    {
         let own = self.roster.own_level(given.logger);
-        let duty = self.duty_after(alloc, given)?;
+        let duty = match self.duty_after(alloc, given) {
+            Ok(duty) => duty,
+            Err(fault) => return Err(fault),
+        };
         if given.level.number() < own.number() {
             self.owe(actor, duty);
             return Ok(Some(own));
         }
-        let message = self.message(alloc, given)?;
+        let message = match self.message(alloc, given) {
+            Ok(message) => message,
+            Err(fault) => return Err(fault),
+        };
         let policy = self.roster.policy(given.logger);
         self.post(actor, policy, Item::Text(message), duty);
         Ok(None)
     }
 
     /// Makes what an actor does after the post of a message: it keeps a copy, where the logger has a backtrace.
-    fn duty_after(&self, alloc: Global, given: MessageRef<'_>) -> Result<Duty, BeginError> {
+    fn duty_after(&self, alloc: Global, given: MessageRef<'_>) -> Result<Duty, BeginError>
+        requires source { given.source ≡ None }
+        ensures made { IfOk result (λ d. d ≡ kept_after self.now.roster (message_of given.entry)) }
+        ensures fits { IfOk result (λ d. DutyFits self.now.roster self.now.outputs.text_limit d) }
+        ensures keeps { OnErr result ((backtrace_at self.now.roster given.entry.logger == 0) ≡ false) }
+        ensures text_too_long { IsErrOf result BeginError.TextTooLong ↔ ((self.now.outputs.text_limit < length given.entry.text.now)
+            × ((backtrace_at self.now.roster given.entry.logger == 0) ≡ false)) }
+        ensures cause { IfErr result (λ e. IsOfMaking e) }
+    {
         if self.roster.backtrace(given.logger) == 0 {
             return Ok(Duty::Free);
         }
@@ -116,7 +140,13 @@ impl<S: Store + Drop> System<S> {
     }
 
     /// Makes a message without a source.
-    fn message(&self, alloc: Global, given: MessageRef<'_>) -> Result<Message, BeginError> {
+    fn message(&self, alloc: Global, given: MessageRef<'_>) -> Result<Message, BeginError>
+        requires source { given.source ≡ None }
+        ensures made { IfOk result (λ m. m ≡ message_of given.entry) }
+        ensures fits { OnOk result (length given.entry.text.now ≤ self.now.outputs.text_limit) }
+        ensures text_too_long { IsErrOf result BeginError.TextTooLong ↔ (self.now.outputs.text_limit < length given.entry.text.now) }
+        ensures cause { IfErr result (λ e. IsOfMaking e) }
+    {
         Ok(Message::new(
             alloc,
             self.outputs.text_limit(),
@@ -130,7 +160,13 @@ impl<S: Store + Drop> System<S> {
     }
 
     /// Begins a post of an actor that is in no round, who then does this beside.
-    pub(super) fn post(&mut self, actor: u32, policy: Policy, item: Item, duty: Duty) {
+    pub(super) fn post(&mut self, actor: u32, policy: Policy, item: Item, duty: Duty)
+        requires actor { actor < ACTORS }
+        requires idle { is_idle (round_of self.old.desk.world actor) ≡ true }
+        requires short { IsShort self.old.outputs.text_limit item }
+        requires fits { DutyFits self.old.roster self.old.outputs.text_limit duty }
+        ensures { self.new ≡ with_duty (with_desk self.old (post_began self.old.desk actor policy item)) actor duty }
+    {
         let Ok(()) = self.desk.begin_post(actor, policy, item) else {
             unreachable!()
         };
@@ -138,7 +174,11 @@ impl<S: Store + Drop> System<S> {
     }
 
     /// Begins a worker's pop.
-    fn pop(&mut self, actor: u32) {
+    fn pop(&mut self, actor: u32)
+        requires actor { actor < ACTORS }
+        requires idle { is_idle (round_of self.old.desk.world actor) ≡ true }
+        ensures { self.new ≡ with_duty (with_desk self.old (call_began self.old.desk actor round.Pop)) actor duty.Works }
+    {
         let Ok(()) = self.desk.begin_pop(actor) else {
             unreachable!()
         };
@@ -146,7 +186,11 @@ impl<S: Store + Drop> System<S> {
     }
 
     /// The actor does this from now on.
-    pub(super) fn owe(&mut self, actor: u32, duty: Duty) {
+    pub(super) fn owe(&mut self, actor: u32, duty: Duty)
+        requires actor { actor < ACTORS }
+        requires fits { DutyFits self.old.roster self.old.outputs.text_limit duty }
+        ensures { self.new ≡ with_duty self.old actor duty }
+    {
         self.duties[actor as usize] = duty;
     }
 }
