@@ -220,7 +220,7 @@ module _ {T : Type 0} (P : T → Type 0) where
   }
 
 -- nothing is not something
-nothing : {X : Type 0} → IsSome {T = X} None → ⊥
+nothing : false ≡ true → ⊥
 nothing h = cc
 
 module _ {T : Type 0} where

@@ -2,3 +2,4 @@ pub mod Desks
 pub mod Rooms
 pub mod Suits
 pub mod Parts
+pub mod Steps

@@ -1,17 +1,23 @@
 -- What is true of every system stays true where one of its parts has moved.
 use Rattle.std.proofs.Common.{◌≡◌, ◌↔◌, ◌<◌, ◌≤◌, ℕ, Bool, true, false, List, [], ◌∷◌, ◌++◌, length, refl, sym, ap, subst, ◌∙◌, set, get_or, length-set, zero, suc, arith}
-use Rattle.std.specs.Prelude.{◌&&◌, ℤ, codes}
+use Rattle.std.specs.Prelude.{◌&&◌, ℤ, codes, replicate}
 use Rattle.std.specs.List.{All}
-use Rattle.std.proofs.lemmas.List.Elements.{All-nil, All-cons, All-head, All-tail, All-append, All-set}
+use Rattle.std.proofs.lemmas.List.Elements.{All-nil, All-cons, All-head, All-tail, All-append, All-set, All-map, All-weaker, All-replicate}
+use Rattle.std.proofs.lemmas.List.{length-replicate}
+use Rattle.alog_core.specs.declared.TheConstants.{ACTORS}
 use Rattle.alog_msg.specs.declared.item.Item.{Item}
 use Rattle.alog_msg.specs.declared.message.Message.{Message}
-use Rattle.alog_policy.specs.Desk.{DeskView}
+use Rattle.alog_policy.specs.Desk.{DeskView, fresh_desk}
 use Rattle.alog_registry.specs.Backtrace.{Room, room_for}
 use Rattle.alog_registry.specs.Dumping.{marker, posted_of}
-use Rattle.alog_system.specs.Outputs.{IsShort}
-use Rattle.alog_system.specs.Roster.{RosterView}
-use Rattle.alog_system.specs.System.{SystemView, duty_of, with_desk, with_duty}
-use Rattle.alog_system.specs.Within.{DeskHas, DutyFits, IsShortText, IsWithin}
+use Rattle.alog_registry.specs.declared.TheConstants.{MOST_KEPT}
+use Rattle.alog_registry.specs.declared.logger.Logger.{Logger}
+use Rattle.alog_sink.specs.declared.sink.Sink.{Sink}
+use Rattle.alog_system.specs.Outputs.{OutputsView, IsShort}
+use Rattle.alog_system.specs.Roster.{RosterView, room_of, backtrace_of, fresh_roster}
+use Rattle.alog_system.specs.System.{SystemView, duty_of, fresh_system, with_desk, with_duty}
+use Rattle.alog_system.specs.Within.{DeskHas, DutyFits, IsShortText, IsWithin, LoggerFits}
+use Rattle.alog_system.proofs.Desks.{fresh_has}
 use Rattle.alog_system.specs.declared.duty.Duty.{Duty}
 use Rattle.alog_system.specs.declared.duty.Duty.TheVariants.{Free}
 
@@ -64,3 +70,28 @@ long_kept below none n i = (λ e. ((i.0 e).0, and_false below none n), λ h. i.1
 
 pub long_posted : {E L : Type 0} (below none : Bool) → below ≡ false → E ↔ L → E ↔ (L × ((below && none) ≡ false))
 long_posted {E} {L} below none n i = (λ e. (i.0 e, subst (λ b. (b && none) ≡ false) (sym n) refl), λ h. i.1 h.0)
+
+-- a new system
+pub fresh_within : {S : Type 0} (places limit : ℕ) (loggers : List Logger) (sinks : List (Sink S)) → All (LoggerFits (length sinks)) loggers
+    → IsWithin (fresh_system places limit loggers sinks)
+fresh_within places limit loggers sinks all = record {
+  duties = length-replicate ACTORS Free;
+  loggers = all;
+  desk = fresh_has (IsShort limit) places 0;
+  kept = All-map (λ (room : Room). All (IsShortText limit) room.messages) room_of loggers
+      (All-weaker (LoggerFits (length sinks)) (λ l. All (IsShortText limit) (room_of l).messages) (λ l h. All-nil (IsShortText limit)) loggers all);
+  fit = All-replicate (DutyFits (fresh_roster loggers) limit) ACTORS Free tt;
+}
+
+pub few_kept : (count : ℕ) (loggers : List Logger) → All (LoggerFits count) loggers → All (λ l. backtrace_of l ≤ MOST_KEPT) loggers
+few_kept count loggers all = All-weaker (LoggerFits count) (λ l. backtrace_of l ≤ MOST_KEPT) (λ l h. h.backtrace) loggers all
+
+pub made_fresh : {S : Type 0} (v : SystemView S) (places limit n : ℕ) (loggers : List Logger) (sinks : List (Sink S)) → v.desk ≡ fresh_desk places 0
+    → v.duties ≡ replicate n Free → n ≡ ACTORS → v.roster ≡ fresh_roster loggers → v.outputs ≡ record { sinks = sinks; text_limit = limit }
+    → v ≡ fresh_system places limit loggers sinks
+made_fresh {S} v places limit n loggers sinks desk duties all roster outputs =
+    ap (λ (d : DeskView Item). let r : SystemView S = record { desk = d; duties = v.duties; roster = v.roster; outputs = v.outputs } in r) desk
+    ∙ (ap (λ (ds : List Duty). let r : SystemView S = record { desk = fresh_desk places 0; duties = ds; roster = v.roster; outputs = v.outputs } in r)
+        (duties ∙ ap (λ k. replicate k Free) all)
+    ∙ (ap (λ (r : RosterView). let s : SystemView S = record { desk = fresh_desk places 0; duties = replicate ACTORS Free; roster = r; outputs = v.outputs } in s) roster
+    ∙ ap (λ (o : OutputsView S). let r : SystemView S = record { desk = fresh_desk places 0; duties = replicate ACTORS Free; roster = fresh_roster loggers; outputs = o } in r) outputs))

@@ -1,9 +1,8 @@
 ghost use Rattle.std.specs.Prelude.{◌≡◌};
-ghost use Rattle.alog_system.specs.Error.{begin_fault_of, system_fault_of, room_fault_of};
+ghost use Rattle.alog_system.specs.Error.{begin_fault_of, system_fault_of};
 
 use alog_core::WorldError;
 use alog_msg::MessageError;
-use alog_registry::BacktraceError;
 use std::alloc::AllocError;
 use thiserror::Error;
 
@@ -73,16 +72,6 @@ impl From<WorldError> for SystemError {
         match error {
             WorldError::BadSize | WorldError::BadFirst => SystemError::BadSize,
             WorldError::OutOfMemory => SystemError::OutOfMemory,
-        }
-    }
-}
-
-impl From<BacktraceError> for SystemError {
-    ghost from_gives = { λ b e. e ≡ room_fault_of b };
-
-    fn from(error: BacktraceError) -> SystemError {
-        match error {
-            BacktraceError::BadLimit | BacktraceError::OutOfMemory => SystemError::OutOfMemory,
         }
     }
 }

@@ -8,11 +8,10 @@ ghost use Rattle.alog_registry.specs.declared.TheConstants.{MOST_KEPT};
 ghost use Rattle.alog_system.specs.Roster.{fresh_roster, keeping, emptied, with_level, kept_at, backtrace_of, level_at, policy_at, backtrace_at, turns_for};
 
 use crate::dump::{Dump, Rest};
-use crate::error::SystemError;
 use alog_msg::{Item, Level, Message};
 use alog_policy::Policy;
 use alog_registry::{Backtrace, Loggers, SinkTurn, Spec};
-use std::alloc::Global;
+use std::alloc::{AllocError, Global};
 use std::marker::Model;
 
 /// Loggers, the level of each as it is now, and the backtrace of each. Contracts see the `RosterView` of `specs/Roster.antt`.
@@ -35,7 +34,7 @@ impl Model for Roster {
 
 impl Roster {
     /// Each logger with the level of its spec, and nothing kept.
-    pub fn new(alloc: Global, loggers: Loggers) -> Result<Roster, SystemError>
+    pub fn new(alloc: Global, loggers: Loggers) -> Result<Roster, AllocError>
         requires { All (λ l. backtrace_of l ≤ MOST_KEPT) loggers }
         ensures made { IfOk result (λ r. r ≡ fresh_roster loggers) }
     {
@@ -46,7 +45,10 @@ impl Roster {
                 unreachable!()
             };
             levels.push_reserved(spec.level);
-            kept.push_reserved(Backtrace::new(alloc, spec.backtrace)?);
+            let Ok(backtrace) = Backtrace::new(alloc, spec.backtrace) else {
+                return Err(AllocError);
+            };
+            kept.push_reserved(backtrace);
         }
         Ok(Roster {
             loggers,

@@ -15,8 +15,8 @@ loop-number-preserved c =
     let e = sym c.in-Some.ensures.value in
     record {
       levels = c.push_reserved.ensures.items ∙ (ap (λ xs. xs ++ s.level ∷ []) so.levels ∙ sym (more_made (λ (s : Spec). s.level) ls n s e));
-      kept = c.push_reserved-in-loop-number.ensures.items ∙ (ap (λ xs. xs ++ c.in_ok-new.field-0 ∷ []) so.kept
-          ∙ (ap (λ (b : Room). map room_of (take n ls) ++ b ∷ []) c.in_ok-new.ensures.made
+      kept = c.push_reserved-in-loop-number.ensures.items ∙ (ap (λ xs. xs ++ c.in-Ok.backtrace ∷ []) so.kept
+          ∙ (ap (λ (b : Room). map room_of (take n ls) ++ b ∷ []) c.in-Ok.ensures.made
           ∙ sym (more_made (λ (s : Spec). room_for s.backtrace) ls n s e)));
       level_room = c.push_reserved.ensures.capacity ∙ so.level_room;
       kept_room = c.push_reserved-in-loop-number.ensures.capacity ∙ so.kept_room;
