@@ -297,8 +297,9 @@ module _ {T : Type 0} where
       let there : round_of (stepped w a) a ≡ (next_move w a).round = get_or-set_same w.rounds a (next_move w a).round round.Idle lt in
       let over : (next_move w a).round ≡ round.Idle =
       elim (move_ends w.places w.queue (round_of w a)) [
-        inl stays ↦ absurd (stays_on (stepped w a) a p d.counts (brought (round_of w a)) (next_move w a).event stays k)
-      | inr idle ↦ idle ] in
+        | inl stays ↦ absurd (stays_on (stepped w a) a p d.counts (brought (round_of w a)) (next_move w a).event stays k)
+        | inr idle ↦ idle
+      ] in
       ap (λ (m : Machine T). is_idle (round_of m a)) same ∙ ap is_idle (there ∙ over)
 
   -- an actor whose post ends is in no round then

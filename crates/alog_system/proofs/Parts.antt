@@ -92,6 +92,6 @@ pub made_fresh : {S : Type 0} (v : SystemView S) (places limit n : ℕ) (loggers
 made_fresh {S} v places limit n loggers sinks desk duties all roster outputs =
     ap (λ (d : DeskView Item). let r : SystemView S = record { desk = d; duties = v.duties; roster = v.roster; outputs = v.outputs } in r) desk
     ∙ (ap (λ (ds : List Duty). let r : SystemView S = record { desk = fresh_desk places 0; duties = ds; roster = v.roster; outputs = v.outputs } in r)
-        (duties ∙ ap (λ k. replicate k Free) all)
+    (duties ∙ ap (λ k. replicate k Free) all)
     ∙ (ap (λ (r : RosterView). let s : SystemView S = record { desk = fresh_desk places 0; duties = replicate ACTORS Free; roster = r; outputs = v.outputs } in s) roster
     ∙ ap (λ (o : OutputsView S). let r : SystemView S = record { desk = fresh_desk places 0; duties = replicate ACTORS Free; roster = fresh_roster loggers; outputs = o } in r) outputs))

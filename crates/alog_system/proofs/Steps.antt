@@ -107,9 +107,11 @@ module _ {S : Type 0} where
       → Moved v mid taken a s (Posts p ms) → is_some s.outcome ≡ true → new ≡ posting taken a p ms → RoundSteps v a (Round s) new
   next_round {v} {mid} {taken} {new} {a} {s} {p} {ms} m e n =
       let moved = with_desk v (desk_stepped v.desk a) in
-      round_by v mid taken a s (Posts p ms) (Round s) new m
-      (refl, n ∙ (ap (λ (w : SystemView S). posting w a p ms) (freed v mid taken a s (Posts p ms) m)
-      ∙ (posting_over moved a Free p ms ∙ sym (ended_posts moved a p ms s.outcome e))))
+      round_by v mid taken a s (Posts p ms) (Round s) new m (
+        refl,
+        n ∙ (ap (λ (w : SystemView S). posting w a p ms) (freed v mid taken a s (Posts p ms) m)
+            ∙ (posting_over moved a Free p ms ∙ sym (ended_posts moved a p ms s.outcome e))),
+      )
 
   pub going_round : {v mid taken new : SystemView S} {a : ℕ} {s : DeskStepped Item} {p : Policy} {ms : List Message}
       → Moved v mid taken a s (Posts p ms) → is_some s.outcome ≡ false → new ≡ with_duty taken a (Posts p ms) → RoundSteps v a (Round s) new

@@ -13,9 +13,14 @@ pub enum Deed<'a> {
         text: &'a str,
     },
     /// A flush of the logger's sinks is posted.
-    Flush { logger: u32 },
+    Flush {
+        logger: u32,
+    },
     /// What the logger's backtrace kept is posted, between two markers of this time.
-    Dump { time: i64, logger: u32 },
+    Dump {
+        time: i64,
+        logger: u32,
+    },
     /// An item is popped, and the turns on sinks that it asks for are made.
     Work,
 }

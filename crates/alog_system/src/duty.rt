@@ -12,7 +12,10 @@ pub enum Duty {
     /// It takes what a logger kept.
     Dumps(Dump),
     /// It posts the message of its round, and then these.
-    Posts { policy: Policy, rest: Rest },
+    Posts {
+        policy: Policy,
+        rest: Rest,
+    },
     /// It is a worker, and pops.
     Works,
     /// It took this item under this ticket, and has made so many of its turns.

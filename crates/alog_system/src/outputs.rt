@@ -95,12 +95,7 @@ fn make<S: Store>(sink: &mut Sink<S>, turn: SinkTurn, item: &Item, line: &mut Li
 }
 
 /// A sink takes a text.
-fn take<S: Store>(
-    sink: &mut Sink<S>,
-    turn: SinkTurn,
-    message: &Message,
-    line: &mut LineBuf,
-) -> Turn
+fn take<S: Store>(sink: &mut Sink<S>, turn: SinkTurn, message: &Message, line: &mut LineBuf) -> Turn
     requires { MayTake sink.old message.now line.old.capacity }
     ensures turn { TextTurn S.tells S.files S.failures turn message.now sink.old result sink.new }
     ensures capacity { line.new.capacity ≡ line.old.capacity }

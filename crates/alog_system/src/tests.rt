@@ -45,12 +45,7 @@ fn memory(alloc: Global) -> Result<Sink<MemStore>, Fail>
 }
 
 // One logger `net`, of level info, with one sink.
-fn one(
-    alloc: Global,
-    policy: Policy,
-    flush_on: Level,
-    backtrace: usize,
-) -> Result<Loggers, Fail>
+fn one(alloc: Global, policy: Policy, flush_on: Level, backtrace: usize) -> Result<Loggers, Fail>
     requires { backtrace ≤ 4096 }
     ensures { IfOk result (λ l. All (LoggerFits 1) l) }
 {
@@ -95,7 +90,8 @@ fn begin(
 ) -> Result<Option<Level>, BeginError> {
     assert!(rt; system.level(0).is_some());
     let mine = match deed {
-        Deed::Log { logger, .. } | Deed::Flush { logger } | Deed::Dump { logger, .. } => logger == 0,
+        Deed::Log { logger, .. } | Deed::Flush { logger } | Deed::Dump { logger, .. } => logger
+            == 0,
         Deed::Work => true,
     };
     assert!(rt; mine);
@@ -200,7 +196,10 @@ fn a_log_and_a_work(rt: HostRuntime) -> Result<(), Fail> {
     let alloc = rt.alloc();
     let mut system = small(alloc, 8, Level::Error, 0)?;
     let mut out = String::new(alloc);
-    assert_eq!(rt; begin(&rt, alloc, &mut system, 1, log(Level::Error, "x")), Ok(None));
+    assert_eq!(rt;
+        begin(&rt, alloc, &mut system, 1, log(Level::Error, "x")),
+        Ok(None)
+    );
     run(&mut system, &mut out, 1, ALL)?;
     assert_eq!(rt; begin(&rt, alloc, &mut system, 2, Deed::Work), Ok(None));
     run(&mut system, &mut out, 2, ALL)?;
@@ -217,7 +216,10 @@ fn a_flush(rt: HostRuntime) -> Result<(), Fail> {
     let alloc = rt.alloc();
     let mut system = small(alloc, 8, Level::Off, 0)?;
     let mut out = String::new(alloc);
-    assert_eq!(rt; begin(&rt, alloc, &mut system, 1, Deed::Flush { logger: 0 }), Ok(None));
+    assert_eq!(rt;
+        begin(&rt, alloc, &mut system, 1, Deed::Flush { logger: 0 }),
+        Ok(None)
+    );
     run(&mut system, &mut out, 1, ALL)?;
     assert_eq!(rt; begin(&rt, alloc, &mut system, 2, Deed::Work), Ok(None));
     run(&mut system, &mut out, 2, ALL)?;
@@ -235,7 +237,10 @@ fn two_workers_whose_lines_cross(rt: HostRuntime) -> Result<(), Fail> {
     let mut system = small(alloc, 8, Level::Off, 0)?;
     let mut out = String::new(alloc);
     for (actor, text) in [(1, "a"), (2, "b")] {
-        assert_eq!(rt; begin(&rt, alloc, &mut system, actor, log(Level::Info, text)), Ok(None));
+        assert_eq!(rt;
+            begin(&rt, alloc, &mut system, actor, log(Level::Info, text)),
+            Ok(None)
+        );
         run(&mut system, &mut out, actor, ALL)?;
     }
     out.clear();
@@ -257,13 +262,19 @@ fn a_level_that_is_set(rt: HostRuntime) -> Result<(), Fail> {
     let alloc = rt.alloc();
     let mut system = small(alloc, 8, Level::Off, 0)?;
     let mut out = String::new(alloc);
-    assert_eq!(rt; begin(&rt, alloc, &mut system, 1, log(Level::Info, "begun")), Ok(None));
+    assert_eq!(rt;
+        begin(&rt, alloc, &mut system, 1, log(Level::Info, "begun")),
+        Ok(None)
+    );
     assert!(rt; system.set_level(0, Level::Off));
     run(&mut system, &mut out, 1, ALL)?;
     assert!(rt; system.set_level(0, Level::Debug));
     assert!(rt; !system.set_level(1, Level::Debug));
     assert_eq!(rt; system.level(0), Some(Level::Debug));
-    assert_eq!(rt; begin(&rt, alloc, &mut system, 2, log(Level::Debug, "quiet")), Ok(None));
+    assert_eq!(rt;
+        begin(&rt, alloc, &mut system, 2, log(Level::Debug, "quiet")),
+        Ok(None)
+    );
     run(&mut system, &mut out, 2, ALL)?;
     assert_eq!(rt;
         out.as_str(),
@@ -277,7 +288,10 @@ fn hello_and_quiet(rt: HostRuntime) -> Result<(), Fail> {
     let alloc = rt.alloc();
     let mut system = small(alloc, 8, Level::Off, 0)?;
     let mut out = String::new(alloc);
-    assert_eq!(rt; begin(&rt, alloc, &mut system, 1, log(Level::Info, "hello")), Ok(None));
+    assert_eq!(rt;
+        begin(&rt, alloc, &mut system, 1, log(Level::Info, "hello")),
+        Ok(None)
+    );
     run(&mut system, &mut out, 1, ALL)?;
     let quiet = begin(&rt, alloc, &mut system, 2, log(Level::Debug, "quiet"));
     assert_eq!(rt; quiet, Ok(Some(Level::Info)));
@@ -312,7 +326,10 @@ fn dumps_the_last_two(rt: HostRuntime) -> Result<(), Fail> {
     let mut wanted = String::new(alloc);
     write!(&mut wanted, " 1 dumped 2;")?;
     for k in 0..4 {
-        write!(&mut wanted, " 1 claim {k}; 1 write {k}; 1 posted {k} overran 0;")?;
+        write!(
+            &mut wanted,
+            " 1 claim {k}; 1 write {k}; 1 posted {k} overran 0;"
+        )?;
     }
     write!(&mut wanted, " 1 dumped 0;")?;
     assert_eq!(rt; out.as_str(), wanted.as_str());
@@ -333,11 +350,26 @@ fn a_log_that_is_posted_and_kept(rt: HostRuntime) -> Result<(), Fail> {
     let alloc = rt.alloc();
     let mut system = small(alloc, 8, Level::Off, 1)?;
     let mut out = String::new(alloc);
-    assert_eq!(rt; begin(&rt, alloc, &mut system, 1, log(Level::Info, "m")), Ok(None));
+    assert_eq!(rt;
+        begin(&rt, alloc, &mut system, 1, log(Level::Info, "m")),
+        Ok(None)
+    );
     run(&mut system, &mut out, 1, 4)?;
-    assert_eq!(rt; begin(&rt, alloc, &mut system, 2, Deed::Dump { time: 0, logger: 0 }), Ok(None));
+    assert_eq!(rt;
+        begin(
+            &rt,
+            alloc,
+            &mut system,
+            2,
+            Deed::Dump { time: 0, logger: 0 }
+        ),
+        Ok(None)
+    );
     run(&mut system, &mut out, 2, ALL)?;
-    assert_eq!(rt; begin(&rt, alloc, &mut system, 1, Deed::Work), Err(BeginError::InCall));
+    assert_eq!(rt;
+        begin(&rt, alloc, &mut system, 1, Deed::Work),
+        Err(BeginError::InCall)
+    );
     run(&mut system, &mut out, 1, ALL)?;
     assert_eq!(rt;
         out.as_str(),
@@ -352,11 +384,17 @@ fn blocks_until_there_is_room(rt: HostRuntime) -> Result<(), Fail> {
     let mut system = small(alloc, 2, Level::Off, 0)?;
     let mut out = String::new(alloc);
     for text in ["a", "b"] {
-        assert_eq!(rt; begin(&rt, alloc, &mut system, 1, log(Level::Info, text)), Ok(None));
+        assert_eq!(rt;
+            begin(&rt, alloc, &mut system, 1, log(Level::Info, text)),
+            Ok(None)
+        );
         run(&mut system, &mut out, 1, ALL)?;
     }
     out.clear();
-    assert_eq!(rt; begin(&rt, alloc, &mut system, 1, log(Level::Info, "c")), Ok(None));
+    assert_eq!(rt;
+        begin(&rt, alloc, &mut system, 1, log(Level::Info, "c")),
+        Ok(None)
+    );
     run(&mut system, &mut out, 1, 130)?;
     assert_eq!(rt; out.len(), 65 * " 1 full 2;".len());
     out.clear();
@@ -383,11 +421,20 @@ fn refusals_in_order(rt: HostRuntime) -> Result<(), Fail> {
     }
     let text = long.as_str();
     let info = log(Level::Info, text);
-    assert_eq!(rt; begin(&rt, alloc, &mut system, 64, info), Err(BeginError::NoActor));
+    assert_eq!(rt;
+        begin(&rt, alloc, &mut system, 64, info),
+        Err(BeginError::NoActor)
+    );
     assert!(rt; matches!(system.step(64), Err(StepError::NoActor)));
     assert_eq!(rt; begin(&rt, alloc, &mut system, 1, Deed::Work), Ok(None));
-    assert_eq!(rt; begin(&rt, alloc, &mut system, 1, info), Err(BeginError::InCall));
-    assert_eq!(rt; begin(&rt, alloc, &mut system, 2, info), Err(BeginError::TextTooLong));
+    assert_eq!(rt;
+        begin(&rt, alloc, &mut system, 1, info),
+        Err(BeginError::InCall)
+    );
+    assert_eq!(rt;
+        begin(&rt, alloc, &mut system, 2, info),
+        Err(BeginError::TextTooLong)
+    );
     assert!(rt; matches!(system.step(2), Err(StepError::NotInCall)));
     let unread = begin(&rt, alloc, &mut system, 2, log(Level::Debug, text));
     assert_eq!(rt; unread, Ok(Some(Level::Info)));

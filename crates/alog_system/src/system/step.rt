@@ -197,10 +197,7 @@ fn work_on(stepped: alog_policy::Stepped<Item>) -> (Stepped, Duty)
     match said {
         Said::Take(ticket, item) => {
             let done = 0;
-            (
-                Stepped::Took(ticket),
-                Duty::Serves { ticket, item, done },
-            )
+            (Stepped::Took(ticket), Duty::Serves { ticket, item, done })
         }
         Said::Nothing => (going(Said::Nothing, outcome), Duty::Works),
         Said::Grab(ticket) => (going(Said::Grab(ticket), outcome), Duty::Works),

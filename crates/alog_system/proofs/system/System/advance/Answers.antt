@@ -17,15 +17,16 @@ returns-in-Works g c =
 pub returns-after-is_some : goal.returns-after-is_some
 returns-after-is_some g c =
     let moved : Moved c.args.self.now c.step_desk-stepped.new.self c.take_duty.new.self c.args.actor c.step_desk-stepped.result
-        (Posts c.in-Posts.policy c.in-Posts.rest) = record {
+    (Posts c.in-Posts.policy c.in-Posts.rest) = record {
       told = c.step_desk-stepped.ensures.told;
       moved = c.step_desk-stepped.ensures.stepped;
       was = c.in-Posts.ensures.duty;
       free = c.take_duty.ensures.after;
     } in
     elim c.if-is_some.branch [
-      then-is_some w ↦ next_round moved (sym c.is_some.ensures ∙ w.if-is_some.true) (w.self-is ∙ w.post_next.ensures)
-    | else-is_some w ↦ going_round moved (sym c.is_some.ensures ∙ w.if-is_some.false) (w.self-is ∙ w.owe-else-is_some.ensures) ]
+      | then-is_some w ↦ next_round moved (sym c.is_some.ensures ∙ w.if-is_some.true) (w.self-is ∙ w.post_next.ensures)
+      | else-is_some w ↦ going_round moved (sym c.is_some.ensures ∙ w.if-is_some.false) (w.self-is ∙ w.owe-else-is_some.ensures)
+    ]
 
 pub returns-in_default : goal.returns-in_default
 returns-in_default g c =
