@@ -1,8 +1,9 @@
 //! Loggers that threads share.
-ghost use Rattle.std.specs.Prelude.{◌≡◌, ◌↔◌, ◌<◌, ◌≤◌, ℕ, length, Some, IsTrue, IsSome, vec_len};
+ghost use Rattle.std.specs.Prelude.{◌≡◌, ◌==◌, ◌↔◌, ◌<◌, ◌≤◌, ℕ, length, Some, IsTrue, IsSome, vec_len};
 ghost use Rattle.std.specs.Option.{option_copied};
 ghost use Rattle.alog_registry.specs.Listed.{name_at, spec_at};
 
+use crate::MOST_LOGGERS;
 use crate::level_word::LevelWord;
 use crate::logger::{Logger, Spec};
 use crate::lookup::number_of;
@@ -38,6 +39,21 @@ impl Loggers {
         ensures { result ≡ loggers.items }
     {
         Loggers { loggers, levels }
+    }
+
+    /// How many loggers there are.
+    pub fn len(&self) -> usize
+        ensures len { result ≡ length self.now }
+        ensures few { result ≤ MOST_LOGGERS }
+    {
+        self.loggers.len()
+    }
+
+    /// Whether there is no logger.
+    pub fn is_empty(&self) -> bool
+        ensures { result ≡ (length self.now == 0) }
+    {
+        self.loggers.is_empty()
     }
 
     /// The number of the logger of this name, or `None` where there is no such logger. The test `levels_are_set` shows it.

@@ -1,0 +1,5 @@
+pub mod Desks
+pub mod Rooms
+pub mod Suits
+pub mod Parts
+pub mod Steps

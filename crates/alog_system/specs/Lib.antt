@@ -1,0 +1,9 @@
+pub mod Error
+pub mod Dump
+pub mod Roster
+pub mod Outputs
+pub mod System
+pub mod Within
+pub mod Inside
+pub mod Begin
+pub mod Step

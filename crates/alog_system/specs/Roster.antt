@@ -1,0 +1,96 @@
+-- Loggers with their levels, and what each keeps.
+use Rattle.std.specs.Prelude.{◌≡◌, ℕ, Option, Some, None, List, [], map, length, slice_get, slice_index_or, slice_set, unwrap_or}
+use Rattle.alog_msg.specs.declared.item.Item.{Item}
+use Rattle.alog_msg.specs.declared.item.Item.TheVariants as item
+use Rattle.alog_msg.specs.declared.level.Level.{Level}
+use Rattle.alog_msg.specs.declared.level.Level.TheVariants.{Off}
+use Rattle.alog_msg.specs.declared.message.Message.{Message}
+use Rattle.alog_registry.specs.Backtrace.{Room, room_for, kept_with}
+use Rattle.alog_policy.specs.declared.policy.Policy.{Policy}
+use Rattle.alog_policy.specs.declared.policy.Policy.TheVariants.{Block}
+use Rattle.alog_registry.specs.Listed.{spec_at}
+use Rattle.alog_registry.specs.Work.{turns_of}
+use Rattle.alog_registry.specs.declared.logger.Logger.{Logger}
+use Rattle.alog_registry.specs.declared.logger.Spec.{Spec}
+use Rattle.alog_registry.specs.declared.work.SinkTurn.{SinkTurn}
+
+-- What callers see of them, by number: the loggers, their levels as they are now, and what each keeps.
+pub record RosterView : Type 0 where
+  pub loggers : List Logger
+  pub levels : List Level
+  pub kept : List Room
+
+-- the level that a logger has at first, and the room for what it keeps
+abbrev pub first_level : Logger → Level
+first_level l = l.spec.level
+
+abbrev pub room_of : Logger → Room
+room_of l = room_for l.spec.backtrace
+
+-- each logger with its first level, and nothing kept
+abbrev pub fresh_roster : List Logger → RosterView
+fresh_roster loggers = record { loggers = loggers; levels = map first_level loggers; kept = map room_of loggers }
+
+-- what the logger of this number keeps
+abbrev pub kept_at : RosterView → ℕ → Room
+kept_at r n = slice_index_or r.kept n (room_for 0)
+
+-- the roster where this is kept by the logger of this number
+abbrev pub with_room : RosterView → ℕ → Room → RosterView
+with_room r n room = record { loggers = r.loggers; levels = r.levels; kept = slice_set r.kept n room }
+
+-- a message is kept by its logger
+abbrev pub keeping : RosterView → Message → RosterView
+keeping r m = with_room r m.logger (kept_with (kept_at r m.logger) m)
+
+-- what a logger kept is taken
+abbrev pub emptied : RosterView → ℕ → RosterView
+emptied r n = with_room r n (room_for (kept_at r n).most)
+
+-- a logger has this level from now on
+abbrev pub with_level : RosterView → ℕ → Level → RosterView
+with_level r n level = record { loggers = r.loggers; levels = slice_set r.levels n level; kept = r.kept }
+
+-- each logger has a level, and room for as many messages as its spec says
+abbrev pub most_of : Room → ℕ
+most_of room = room.most
+
+abbrev pub backtrace_of : Logger → ℕ
+backtrace_of l = l.spec.backtrace
+
+pub record IsRoster (loggers : List Logger) (levels : List Level) (kept : List Room) : Type 0 where
+  pub each : length levels ≡ length loggers
+  pub rooms : map most_of kept ≡ map backtrace_of loggers
+
+-- the policy of a logger, and how many messages it keeps at most
+abbrev pub policy_in : Option Spec → Policy
+policy_in None = Block
+policy_in (Some spec) = spec.policy
+
+abbrev pub policy_at : RosterView → ℕ → Policy
+policy_at r n = policy_in (spec_at r.loggers n)
+
+abbrev pub backtrace_in : Option Spec → ℕ
+backtrace_in None = 0
+backtrace_in (Some spec) = spec.backtrace
+
+abbrev pub backtrace_at : RosterView → ℕ → ℕ
+backtrace_at r n = backtrace_in (spec_at r.loggers n)
+
+-- the level of a logger as it is now
+abbrev pub level_at : RosterView → ℕ → Level
+level_at r n = unwrap_or (slice_get r.levels n) Off
+
+-- the number of an item's logger
+abbrev pub logger_of : Item → ℕ
+logger_of (item.Text m) = m.logger
+logger_of (item.Flush n) = n
+logger_of item.Stop = 0
+
+abbrev pub turns_by : Option Spec → ℕ → Item → List SinkTurn
+turns_by None ticket i = []
+turns_by (Some spec) ticket i = turns_of spec ticket i
+
+-- the turns of the work on an item that was taken under this ticket
+abbrev pub turns_for : RosterView → ℕ → Item → List SinkTurn
+turns_for r ticket i = turns_by (spec_at r.loggers (logger_of i)) ticket i
