@@ -8,13 +8,13 @@ use Rattle.alog_core.specs.declared.TheConstants.{ACTORS}
 use Rattle.alog_msg.specs.declared.item.Item.{Item}
 use Rattle.alog_msg.specs.declared.message.Message.{Message}
 use Rattle.alog_policy.specs.Desk.{DeskView, fresh_desk}
-use Rattle.alog_registry.specs.Backtrace.{Room, room_for}
+use Rattle.alog_registry.specs.Backtrace.{Room}
 use Rattle.alog_registry.specs.Dumping.{marker, posted_of}
 use Rattle.alog_registry.specs.declared.TheConstants.{MOST_KEPT}
 use Rattle.alog_registry.specs.declared.logger.Logger.{Logger}
 use Rattle.alog_sink.specs.declared.sink.Sink.{Sink}
 use Rattle.alog_system.specs.Outputs.{OutputsView, IsShort}
-use Rattle.alog_system.specs.Roster.{RosterView, room_of, backtrace_of, fresh_roster}
+use Rattle.alog_system.specs.Roster.{RosterView, room_of, backtrace_of, fresh_roster, room}
 use Rattle.alog_system.specs.System.{SystemView, duty_of, fresh_system, with_desk, with_duty}
 use Rattle.alog_system.specs.Within.{DeskHas, DutyFits, IsShortText, IsWithin, LoggerFits}
 use Rattle.alog_system.proofs.Desks.{fresh_has}
@@ -57,8 +57,8 @@ posted_short limit n time thread (m ∷ ms) least all =
     (All-cons P end [] (omega (arith, least)) (All-nil P))
 
 pub kept_short : (limit : ℕ) (kept : List Room) (n : ℕ) → All (λ (room : Room). All (IsShortText limit) room.messages) kept
-    → All (IsShortText limit) (get_or kept n (room_for 0)).messages
-kept_short limit kept n all = at_or (λ (room : Room). All (IsShortText limit) room.messages) kept n (room_for 0) (All-nil (IsShortText limit)) all
+    → All (IsShortText limit) (get_or kept n (room 0)).messages
+kept_short limit kept n all = at_or (λ (room : Room). All (IsShortText limit) room.messages) kept n (room 0) (All-nil (IsShortText limit)) all
 
 and_false : (a b : Bool) → b ≡ false → (a && b) ≡ false
 and_false true b e = e

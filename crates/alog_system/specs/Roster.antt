@@ -4,6 +4,7 @@ use Rattle.alog_msg.specs.declared.item.Item.{Item}
 use Rattle.alog_msg.specs.declared.item.Item.TheVariants as item
 use Rattle.alog_msg.specs.declared.level.Level.{Level}
 use Rattle.alog_msg.specs.declared.level.Level.TheVariants.{Off}
+use Rattle.alog_msg.specs.declared.limits.TheConstants.{MOST_TEXT_LIMIT}
 use Rattle.alog_msg.specs.declared.message.Message.{Message}
 use Rattle.alog_registry.specs.Backtrace.{Room, room_for, kept_with}
 use Rattle.alog_policy.specs.declared.policy.Policy.{Policy}
@@ -24,8 +25,15 @@ pub record RosterView : Type 0 where
 abbrev pub first_level : Logger → Level
 first_level l = l.spec.level
 
+abbrev pub room : ℕ → Room
+room most = room_for most MOST_TEXT_LIMIT
+
 abbrev pub room_of : Logger → Room
-room_of l = room_for l.spec.backtrace
+room_of l = room l.spec.backtrace
+
+-- the room without its messages
+abbrev pub empty_of : Room → Room
+empty_of r = room_for r.most r.limit
 
 -- each logger with its first level, and nothing kept
 abbrev pub fresh_roster : List Logger → RosterView
@@ -33,11 +41,11 @@ fresh_roster loggers = record { loggers = loggers; levels = map first_level logg
 
 -- what the logger of this number keeps
 abbrev pub kept_at : RosterView → ℕ → Room
-kept_at r n = slice_index_or r.kept n (room_for 0)
+kept_at r n = slice_index_or r.kept n (room 0)
 
 -- the roster where this is kept by the logger of this number
 abbrev pub with_room : RosterView → ℕ → Room → RosterView
-with_room r n room = record { loggers = r.loggers; levels = r.levels; kept = slice_set r.kept n room }
+with_room r n found = record { loggers = r.loggers; levels = r.levels; kept = slice_set r.kept n found }
 
 -- a message is kept by its logger
 abbrev pub keeping : RosterView → Message → RosterView
@@ -45,22 +53,19 @@ keeping r m = with_room r m.logger (kept_with (kept_at r m.logger) m)
 
 -- what a logger kept is taken
 abbrev pub emptied : RosterView → ℕ → RosterView
-emptied r n = with_room r n (room_for (kept_at r n).most)
+emptied r n = with_room r n (empty_of (kept_at r n))
 
 -- a logger has this level from now on
 abbrev pub with_level : RosterView → ℕ → Level → RosterView
 with_level r n level = record { loggers = r.loggers; levels = slice_set r.levels n level; kept = r.kept }
 
 -- each logger has a level, and room for as many messages as its spec says
-abbrev pub most_of : Room → ℕ
-most_of room = room.most
-
 abbrev pub backtrace_of : Logger → ℕ
 backtrace_of l = l.spec.backtrace
 
 pub record IsRoster (loggers : List Logger) (levels : List Level) (kept : List Room) : Type 0 where
   pub each : length levels ≡ length loggers
-  pub rooms : map most_of kept ≡ map backtrace_of loggers
+  pub rooms : map empty_of kept ≡ map room_of loggers
 
 -- the policy of a logger, and how many messages it keeps at most
 abbrev pub policy_in : Option Spec → Policy

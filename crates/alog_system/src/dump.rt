@@ -1,10 +1,10 @@
 //! A dump: what is made before it begins, and what is left to post of it.
 ghost use Rattle.std.specs.Prelude.{◌≡◌, IfOk, slice_get, drop};
-ghost use Rattle.alog_registry.specs.Backtrace.{room_for};
 ghost use Rattle.alog_registry.specs.Dumping.{marker, posted_of};
 ghost use Rattle.alog_system.specs.Dump.{start_text, end_text};
+ghost use Rattle.alog_system.specs.Roster.{room, empty_of};
 
-use alog_msg::{Level, Message, Text};
+use alog_msg::{Level, MOST_TEXT_LIMIT, Message, Text};
 use alog_registry::{Backtrace, Dumped};
 use std::alloc::{AllocError, Global};
 use std::marker::Model;
@@ -52,7 +52,7 @@ impl Dump {
             logger,
             time,
             thread,
-            room: Dumped::new(alloc, most)?,
+            room: Dumped::new(alloc, most, MOST_TEXT_LIMIT)?,
             start: marker(alloc, logger, time, thread, START)?,
             end: marker(alloc, logger, time, thread, END)?,
         })
@@ -67,9 +67,9 @@ impl Dump {
 
     /// Empties the backtrace, and gives what is to be posted.
     pub fn take(self, backtrace: &mut Backtrace) -> Rest
-        requires { backtrace.old.most ≡ self.most }
+        requires { empty_of backtrace.old ≡ room self.most }
         ensures posts { result ≡ posted_of self.logger self.time self.thread backtrace.old.messages }
-        ensures emptied { backtrace.new ≡ room_for self.most }
+        ensures emptied { backtrace.new ≡ room self.most }
     {
         let list = backtrace.dump(self.room);
         if list.is_empty() {

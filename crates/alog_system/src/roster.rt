@@ -2,6 +2,7 @@
 ghost use Rattle.std.specs.Prelude.{◌≡◌, ◌↔◌, ◌<◌, ◌≤◌, ◌+◌, ◌^◌, ℕ, IfOk, IsTrue, IsSome, length, map, slice_get, Some};
 ghost use Rattle.std.specs.Option.{option_copied};
 ghost use Rattle.std.specs.List.{All};
+ghost use Rattle.alog_msg.specs.declared.limits.TheConstants.{MOST_TEXT_LIMIT};
 ghost use Rattle.alog_registry.specs.Dumping.{posted_of};
 ghost use Rattle.alog_registry.specs.Listed.{spec_at, name_at};
 ghost use Rattle.alog_registry.specs.declared.TheConstants.{MOST_KEPT};
@@ -142,6 +143,7 @@ impl Roster {
 
     /// The backtrace of the message's logger keeps it.
     pub fn keep(&mut self, message: Message)
+        requires { length message.text ≤ MOST_TEXT_LIMIT }
         ensures { self.new ≡ keeping self.old message }
     {
         let number = message.logger as usize;

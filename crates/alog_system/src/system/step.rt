@@ -70,6 +70,7 @@ impl<S: Store + Drop> System<S> {
         requires { IsShortText self.old.outputs.text_limit message }
         ensures { self.new ≡ with_roster self.old (keeping self.old.roster message) }
     {
+        let _limit = self.outputs.text_limit();
         self.roster.keep(message);
     }
 

@@ -1,8 +1,8 @@
 use Rattle.std.proofs.Common.{◌≡◌, ◌++◌, ◌∷◌, [], sym, ap, ◌∙◌, map, take, arith}
 use Rattle.std.proofs.lemmas.List.{take_all}
-use Rattle.alog_registry.specs.Backtrace.{Room, room_for}
+use Rattle.alog_registry.specs.Backtrace.{Room}
 use Rattle.alog_registry.specs.declared.logger.Spec.{Spec}
-use Rattle.alog_system.specs.Roster.{room_of}
+use Rattle.alog_system.specs.Roster.{room, room_of}
 use Rattle.alog_system.proofs.Rooms.{more_made, fresh_whole}
 use Rattle.alog_system.proofs.roster.Roster.new.Goals as goal
 
@@ -17,7 +17,7 @@ loop-number-preserved c =
       levels = c.push_reserved.ensures.items ∙ (ap (λ xs. xs ++ s.level ∷ []) so.levels ∙ sym (more_made (λ (s : Spec). s.level) ls n s e));
       kept = c.push_reserved-in-loop-number.ensures.items ∙ (ap (λ xs. xs ++ c.in-Ok.backtrace ∷ []) so.kept
           ∙ (ap (λ (b : Room). map room_of (take n ls) ++ b ∷ []) c.in-Ok.ensures.made
-          ∙ sym (more_made (λ (s : Spec). room_for s.backtrace) ls n s e)));
+          ∙ sym (more_made (λ (s : Spec). room s.backtrace) ls n s e)));
       level_room = c.push_reserved.ensures.capacity ∙ so.level_room;
       kept_room = c.push_reserved-in-loop-number.ensures.capacity ∙ so.kept_room;
       many = so.many;
