@@ -143,10 +143,22 @@ fn stores(alloc: Global, config: &Config) -> Result<Vec<MemStore>, Fail> {
     Ok(stores)
 }
 
+// What is built over these stores, which have to be as many as the sinks need.
+fn built_over<S: Store + Drop>(
+    alloc: Global,
+    config: &Config,
+    stores: Vec<S>,
+) -> Result<Result<(Loggers, Vec<Sink<S>>), BuildError>, Fail> {
+    if stores.len() != leaves(config) {
+        return Err(Fail::new("there are as many stores as leaves"));
+    }
+    Ok(build(alloc, config, stores))
+}
+
 fn built(alloc: Global, document: &str) -> Result<(Loggers, Vec<Sink<MemStore>>), Fail> {
     let config = config_of(alloc, document)?;
     let stores = stores(alloc, &config)?;
-    Ok(build(alloc, &config, stores)?)
+    Ok(built_over(alloc, &config, stores)??)
 }
 
 // Gives a text of this level, posted by the logger of this number at one second past 1970, to a sink.
@@ -165,17 +177,21 @@ fn give<S: Store>(
     Ok(sink.take(&message, &mut line))
 }
 
-// A store has the number, and beside it this file alone; or no other, where the name is empty.
+// A store has this digit as its number, and beside it this file alone.
 fn has(rt: &impl Abort, store: &MemStore, number: u8, file: &str, bytes: &str) {
     let files = store.files();
     let own = files.get("number").map(|bytes| bytes.as_slice());
-    assert!(rt; own == Some(&[b'0' + number]), "{number}");
+    assert!(rt; own == Some(&[number]), "{number}");
     let named = files.get(file).map(|bytes| bytes.as_slice());
-    if file.is_empty() {
-        assert_eq!(rt; files.len(), 1);
-    } else {
-        assert_eq!(rt; files.len(), 2);
-        assert!(rt; named == Some(bytes.as_bytes()), "{file}");
+    assert_eq!(rt; files.len(), 2);
+    assert!(rt; named == Some(bytes.as_bytes()), "{file}");
+}
+
+// The store of the sink at this place, which is no fan.
+fn store_at<S: Store>(sinks: &[Sink<S>], i: usize) -> Option<&S> {
+    match sinks.get(i) {
+        Some(sink) => sink.store(),
+        None => None,
     }
 }
 
@@ -207,7 +223,7 @@ fn one_file(rt: HostRuntime) -> Result<(), Fail> {
     has(
         &rt,
         store,
-        0,
+        b'0',
         "app.log",
         "[1970-01-01 00:00:01.000] [app] [info] hello\n",
     );
@@ -232,21 +248,20 @@ fn daily_errors(rt: HostRuntime) -> Result<(), Fail> {
             assert_eq!(rt; give(alloc, sink, level, 0, "x")?, Ok(*answer));
         }
     }
-    let stores = [sinks[0].store(), sinks[1].store()];
-    let [Some(all), Some(errors)] = stores else {
+    let (Some(all), Some(errors)) = (store_at(&sinks, 0), store_at(&sinks, 1)) else {
         panic!(rt; "they are no fans")
     };
     has(
         &rt,
         all,
-        0,
+        b'0',
         "all.log",
         "[1970-01-01 01:00:01.000] [app] [info] x\n[1970-01-01 01:00:01.000] [app] [error] x\n",
     );
     has(
         &rt,
         errors,
-        1,
+        b'1',
         "errors_1970-01-01.log",
         "[1970-01-01 01:00:01.000] [app] x\n",
     );
@@ -288,11 +303,11 @@ fn a_fan_of_both(rt: HostRuntime) -> Result<(), Fail> {
     has(
         &rt,
         all.store(),
-        0,
+        b'0',
         "all.log",
         "[1970-01-01 00:00:01.000] [db] [info] a\n[1970-01-01 00:00:01.000] [net] [error] b\n",
     );
-    has(&rt, errors.store(), 1, "errors_1970-01-01.log", "b\n");
+    has(&rt, errors.store(), b'1', "errors_1970-01-01.log", "b\n");
     Ok(())
 }
 
@@ -310,16 +325,19 @@ fn a_fan_between_sinks(rt: HostRuntime) -> Result<(), Fail> {
             assert_eq!(rt; answer == Ok(Taken::Below), below);
         }
     }
-    let (Some(b), Some(d)) = (sinks[0].store(), sinks[2].store()) else {
+    let (Some(b), Some(d)) = (store_at(&sinks, 0), store_at(&sinks, 2)) else {
         panic!(rt; "they are no fans")
     };
-    has(&rt, b, 1, "b", "9 y t\n9 y t\n9 y t\n");
-    has(&rt, d, 3, "d", "d\nd\nd\n");
-    let [c, a] = sinks[1].members() else {
+    has(&rt, b, b'1', "b", "9 y t\n9 y t\n9 y t\n");
+    has(&rt, d, b'3', "d", "d\nd\nd\n");
+    let Some(fan) = sinks.get(1) else {
+        panic!(rt; "there is a fan")
+    };
+    let [c, a] = fan.members() else {
         panic!(rt; "it has two members")
     };
-    has(&rt, c.store(), 2, "c", "E\n");
-    has(&rt, a.store(), 0, "a.log", "t\nt\n");
+    has(&rt, c.store(), b'2', "c", "E\n");
+    has(&rt, a.store(), b'0', "a.log", "t\nt\n");
     Ok(())
 }
 
@@ -329,7 +347,7 @@ fn with_fuse(alloc: Global, k: u64) -> Result<Result<usize, BuildError>, Fail> {
     let mut stores = Vec::new(alloc);
     stores.push(FuseStore::new(MemStore::new(alloc), k, 0))?;
     stores.push(FuseStore::new(MemStore::new(alloc), 9, 0))?;
-    Ok(build(alloc, &config, stores).map(|(_, sinks)| sinks.len()))
+    Ok(built_over(alloc, &config, stores)?.map(|(_, sinks)| sinks.len()))
 }
 
 #[test]

@@ -14,7 +14,7 @@ use std::alloc::{AllocError, Global};
 use std::collections::VecDeque;
 use thiserror::Error;
 
-/// Why nothing was built. The tests `memory_runs_out` and `a_store_that_fails` show both.
+/// Why nothing was built. The test `a_store_that_fails` shows one.
 #[derive(Clone, Copy, Debug, PartialEq, Eq, Drop, Error)]
 pub enum BuildError {
     /// A growth was refused.
