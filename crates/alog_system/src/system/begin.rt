@@ -10,6 +10,7 @@ ghost use Rattle.alog_system.specs.Outputs.{IsShort};
 ghost use Rattle.alog_system.specs.Roster.{backtrace_at, level_at};
 ghost use Rattle.alog_system.specs.System.{is_free, with_desk, with_duty};
 ghost use Rattle.alog_system.specs.Within.{DutyFits};
+ghost use Rattle.alog_system.specs.declared.deed.Deed.TheVariants as deed;
 ghost use Rattle.alog_system.specs.declared.duty.Duty.TheVariants as duty;
 
 use super::System;
@@ -75,17 +76,33 @@ impl<S: Store + Drop> System<S> {
                 self.post(actor, policy, Item::Flush(logger), Duty::Free);
                 Ok(None)
             }
-            Deed::Dump { time, logger } => {
-                let most = self.roster.backtrace(logger);
-                let dump = Dump::new(alloc, logger, time, u64::from(actor), most)?;
-                self.owe(actor, Duty::Dumps(dump));
-                Ok(None)
-            }
+            Deed::Dump { time, logger } => self.begin_dump(alloc, actor, time, logger),
             Deed::Work => {
                 self.pop(actor);
                 Ok(None)
             }
         }
+    }
+
+    /// Begins a dump, whose markers and room are made here.
+    fn begin_dump(
+        &mut self,
+        alloc: Global,
+        actor: u32,
+        time: i64,
+        logger: u32,
+    ) -> Result<Option<Level>, BeginError>
+        requires actor { actor < ACTORS }
+        requires known { logger < length self.old.roster.loggers }
+        ensures filtered { IfOk result (λ level. level ≡ None) }
+        ensures begun { OnOk result (self.new ≡ begun self.old actor (deed.Dump time logger)) }
+        ensures cause { IfErr result (λ e. e ≡ BeginError.OutOfMemory) }
+        ensures err { OnErr result (self.new ≡ self.old) }
+    {
+        let most = self.roster.backtrace(logger);
+        let dump = Dump::new(alloc, logger, time, u64::from(actor), most)?;
+        self.owe(actor, Duty::Dumps(dump));
+        Ok(None)
     }
 
     /// Begins a log of a message without a source.
