@@ -74,7 +74,8 @@ impl Roster {
 
     /// The level of the logger of this number.
     pub fn level(&self, number: u32) -> Option<Level>
-        ensures { result ≡ slice_get self.now.levels number }
+        ensures level { result ≡ slice_get self.now.levels number }
+        ensures known { IsSome result ↔ (number < length self.now.loggers) }
     {
         self.levels.get(number as usize).copied()
     }

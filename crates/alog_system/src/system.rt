@@ -1,5 +1,5 @@
 //! The system: what its calls answer.
-ghost use Rattle.std.specs.Prelude.{◌≡◌, ◌↔◌, ◌<◌, ℕ, IfOk, IsErrOf, IsTrue, false, Some, length, map, slice_get};
+ghost use Rattle.std.specs.Prelude.{◌≡◌, ◌↔◌, ◌<◌, ℕ, IfOk, IsErrOf, IsSome, IsTrue, false, Some, length, map, slice_get};
 ghost use Rattle.std.specs.List.{All};
 ghost use Rattle.std.specs.Option.{option_copied};
 ghost use Rattle.alog_core.specs.World.{is_size, shown};
@@ -127,7 +127,8 @@ impl<S: Store + Drop> System<S> {
 
     /// The level of the logger of this number as it is now, or `None` where there is no such logger.
     pub fn level(&self, number: u32) -> Option<Level>
-        ensures { result ≡ slice_get self.now.roster.levels number }
+        ensures level { result ≡ slice_get self.now.roster.levels number }
+        ensures known { IsSome result ↔ (number < length self.now.roster.loggers) }
     {
         self.roster.level(number)
     }

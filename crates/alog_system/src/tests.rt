@@ -1,4 +1,5 @@
-ghost use Rattle.std.specs.Prelude.{◌≤◌, IfOk};
+ghost use Rattle.std.specs.Prelude.{◌≤◌, IfOk, IsTrue};
+ghost use Rattle.alog_system.specs.Begin.{IsKnown};
 ghost use Rattle.std.specs.List.{All};
 ghost use Rattle.alog_system.specs.Outputs.{Suits, SinkSuits};
 ghost use Rattle.alog_system.specs.Within.{LoggerFits};
@@ -80,7 +81,19 @@ fn small(
     Ok(System::of(alloc, places, TEXT_LIMIT, loggers, sinks)?)
 }
 
-// Begins a deed of the one logger, and tells the level that filtered it.
+// Whether there is the deed's logger.
+fn is_known(system: &System<MemStore>, deed: Deed<'_>) -> bool
+    ensures { IsTrue result → IsKnown system.now.roster deed.entry }
+{
+    match deed {
+        Deed::Log { logger, .. } => system.level(logger).is_some(),
+        Deed::Flush { logger } => system.level(logger).is_some(),
+        Deed::Dump { logger, .. } => system.level(logger).is_some(),
+        Deed::Work => true,
+    }
+}
+
+// Begins a deed of a logger that there is, and tells the level that filtered it.
 fn begin(
     rt: &impl Abort,
     alloc: Global,
@@ -88,13 +101,7 @@ fn begin(
     actor: u32,
     deed: Deed<'_>,
 ) -> Result<Option<Level>, BeginError> {
-    assert!(rt; system.level(0).is_some());
-    let mine = match deed {
-        Deed::Log { logger, .. } | Deed::Flush { logger } | Deed::Dump { logger, .. } => logger
-            == 0,
-        Deed::Work => true,
-    };
-    assert!(rt; mine);
+    assert!(rt; is_known(system, deed));
     system.begin(alloc, actor, deed)
 }
 
