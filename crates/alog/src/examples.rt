@@ -1,6 +1,7 @@
 //! The configurations of `examples/`, byte for byte: `./check` compares them.
 
-pub const ONE_FILE: &str = r#"# One file. At 10 MiB it makes way for another, and the last three stay beside it.
+pub const ONE_FILE: &str =
+    r#"# One file. At 10 MiB it makes way for another, and the last three stay beside it.
 
 [[sink]]
 name = "file"
@@ -14,7 +15,8 @@ name = "app"
 sinks = ["file"]
 "#;
 
-pub const DAILY_ERRORS: &str = r#"# Everything in one file, and beside it errors by days, of which the last seven stay.
+pub const DAILY_ERRORS: &str =
+    r#"# Everything in one file, and beside it errors by days, of which the last seven stay.
 
 offset = 60
 
@@ -39,7 +41,8 @@ sinks = ["all", "errors"]
 flush_on = "error"
 "#;
 
-pub const FAN: &str = r#"# A fan of a file of everything and of errors by days, for two loggers. `net` drops its oldest messages where the queue is
+pub const FAN: &str =
+    r#"# A fan of a file of everything and of errors by days, for two loggers. `net` drops its oldest messages where the queue is
 # full, and keeps the last 32 of all levels for a backtrace.
 
 workers = 2
