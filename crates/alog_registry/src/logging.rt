@@ -54,7 +54,8 @@ impl Loggers {
     ///
     /// The level is read first. What is below it, where there is no backtrace, takes no memory, and its text is not looked at.
     /// Otherwise all that is needed is made before anything is done, and a refusal, which is one of `Message::new`, leaves
-    /// everything as it was. A text limit is 64 to 8,192 bytes. The test `logs_at_once` shows it.
+    /// everything as it was. A text limit is 64 to 8,192 bytes; by condition outlet and keeper take texts of the limit. The
+    /// tests `logs_at_once` and `a_ring_of_short_texts` show it.
     pub fn log_now<O: Carry, K: Keep>(
         &self,
         alloc: Global,
