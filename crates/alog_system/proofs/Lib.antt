@@ -3,3 +3,11 @@ pub mod Rooms
 pub mod Suits
 pub mod Parts
 pub mod Steps
+mod RunAnswers
+mod RunCases
+mod RunKept
+mod RunQueue
+mod RunSame
+mod RunSinks
+mod RunWorks
+mod Runs

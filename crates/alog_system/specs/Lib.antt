@@ -7,3 +7,4 @@ pub mod Within
 pub mod Inside
 pub mod Begin
 pub mod Step
+pub mod Runs

@@ -14,6 +14,7 @@ mod deed;
 mod dump;
 mod duty;
 mod error;
+mod laws;
 mod outputs;
 mod roster;
 mod stepped;
@@ -23,5 +24,6 @@ mod tests;
 
 pub use deed::Deed;
 pub use error::{BeginError, SystemError};
+pub use laws::runs_of_a_system;
 pub use stepped::{Stepped, Turn};
 pub use system::System;

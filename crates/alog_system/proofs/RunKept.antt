@@ -1,0 +1,132 @@
+-- What the loggers of a system keep after a run.
+use Rattle.std.proofs.Common.{◌≡◌, ◌≢◌, ◌⊎◌, ℕ, zero, suc, ◌+◌, ◌-◌, ◌<◌, ◌≤◌, ◌==◌, Bool, true, false, cond, List, [], ◌∷◌, ◌++◌, length, map, drop, get_or, set, refl, sym, ap, subst, ◌∙◌, arith, inl, inr}
+use Rattle.std.proofs.Common.{append_assoc, append-nil, get_or-set_same, get_or-set_other}
+use Rattle.std.proofs.lemmas.List.{length-append, length-drop, set-get_or}
+use Rattle.alog_core.proofs.Cells.{on_test}
+use Rattle.alog_msg.specs.declared.message.Message.{Message}
+use Rattle.alog_registry.specs.Backtrace.{Room, Keeps, last_of, kept_with, room_for}
+use Rattle.alog_registry.specs.declared.logger.Logger.{Logger}
+use Rattle.alog_sink.specs.Files.{Files}
+use Rattle.alog_sink.specs.declared.sink.Sink.{Sink}
+use Rattle.alog_system.specs.Roster.{RosterView, kept_at, keeping, emptied, policy_at, room, room_of, empty_of, with_room}
+use Rattle.alog_system.specs.Runs.{Did, Made, Leads, starts, begins, steps, sets, made_by, did_by, kept_by, kept_since}
+use Rattle.alog_system.specs.Step.{dumped_by}
+use Rattle.alog_system.specs.System.{SystemView, fresh_system, with_roster}
+use Rattle.alog_system.specs.declared.stepped.Stepped.{Stepped}
+use Rattle.alog_system.proofs.RunCases.{Case, queued, kept, dumped, served, case_of}
+use Rattle.alog_system.proofs.RunSame.{after_round_same, begun_same, posting_same}
+
+since_last : (n : ℕ) (before : List Message) (m : Made) (ms : List Made) → kept_since n before (ms ++ m ∷ []) ≡ kept_by n (kept_since n before ms) m.did
+since_last n before m [] = refl
+since_last n before m (x ∷ ms) = since_last n (kept_by n before x.did) m ms
+
+drop_nothing : {X : Type 0} (n : ℕ) → drop {A = X} n [] ≡ []
+drop_nothing zero = refl
+drop_nothing (suc n) = refl
+
+-- the last of the last
+drop_more : {X : Type 0} (a b : ℕ) (xs : List X) → drop b (drop a xs) ≡ drop (a + b) xs
+drop_more zero b xs = (let same : b ≡ 0 + b = omega arith in ap (λ k. drop k xs) same)
+drop_more (suc a) b [] = drop_nothing b ∙ sym (drop_nothing (suc a + b))
+drop_more (suc a) b (x ∷ xs) = (let same : suc (a + b) ≡ suc a + b = omega arith in drop_more a b xs ∙ ap (λ k. drop k (x ∷ xs)) same)
+
+drop_front : {X : Type 0} (a : ℕ) (xs ys : List X) → a ≤ length xs → drop a (xs ++ ys) ≡ drop a xs ++ ys
+drop_front zero xs ys le = refl
+drop_front (suc a) [] ys le = absurd (omega (arith, le))
+drop_front (suc a) (x ∷ xs) ys le = drop_front a xs ys (omega (arith, le))
+
+last_again : (most : ℕ) (xs : List Message) (m : Message) → last_of most (last_of most xs ++ m ∷ []) ≡ last_of most (xs ++ m ∷ [])
+last_again most xs m =
+    let k = length xs - most in
+    let le : k ≤ length xs = omega arith in
+    let short = length-drop k xs in
+    let more = length-append (drop k xs) (m ∷ []) in
+    let all = length-append xs (m ∷ []) in
+    let moved : drop k xs ++ m ∷ [] ≡ drop k (xs ++ m ∷ []) = sym (drop_front k xs (m ∷ []) le) in
+    let steps : k + (length (drop k xs ++ m ∷ []) - most) ≡ length (xs ++ m ∷ []) - most = omega (arith, short, more, all) in
+    ap (λ (ys : List Message). drop (length (drop k xs ++ m ∷ []) - most) ys) moved
+    ∙ (drop_more k (length (drop k xs ++ m ∷ []) - most) (xs ++ m ∷ []) ∙ ap (λ j. drop j (xs ++ m ∷ [])) steps)
+
+keeps_more : (r : Room) (xs : List Message) (m : Message) → Keeps r xs → Keeps (kept_with r m) (xs ++ m ∷ [])
+keeps_more r xs m h = ap (λ (ys : List Message). last_of r.most (ys ++ m ∷ [])) h ∙ last_again r.most xs m
+
+nothing_last : (k : ℕ) → last_of k [] ≡ []
+nothing_last k = drop_nothing (0 - k)
+
+-- a place past the end keeps nothing, and so it is there at each time
+drop_past : {X : Type 0} (xs : List X) → drop (length xs) xs ≡ []
+drop_past [] = refl
+drop_past (x ∷ xs) = drop_past xs
+
+get_past : {X : Type 0} (xs : List X) (k : ℕ) (d y : X) → length xs ≤ k → get_or (set xs k y) k d ≡ d
+get_past [] k d y le = refl
+get_past (x ∷ xs) zero d y le = absurd (omega (arith, le))
+get_past (x ∷ xs) (suc k) d y le = get_past xs k d y (omega (arith, le))
+
+get_none : {X : Type 0} (xs : List X) (k : ℕ) (d : X) → length xs ≤ k → get_or xs k d ≡ d
+get_none [] k d le = refl
+get_none (x ∷ xs) zero d le = absurd (omega (arith, le))
+get_none (x ∷ xs) (suc k) d le = get_none xs k d (omega (arith, le))
+
+keeps_none : (xs : List Message) → Keeps (room 0) xs
+keeps_none xs = (let n : length xs - 0 ≡ length xs = omega arith in sym (ap (λ k. drop k xs) n ∙ drop_past xs))
+
+-- the room of a logger, where it is there or not
+room_set : (r : RosterView) (n : ℕ) (found : Room) (xs : List Message) → Keeps found xs → Keeps (kept_at (with_room r n found) n) xs
+room_set r n found xs h =
+    elim (less_or n (length r.kept)) [
+      | inl lt ↦ subst (λ (x : Room). Keeps x xs) (sym (get_or-set_same r.kept n found (room 0) lt)) h
+      | inr le ↦ subst (λ (x : Room). Keeps x xs) (sym (get_past r.kept n (room 0) found le)) (keeps_none xs)
+    ]
+  where
+    less_or : (a b : ℕ) → (a < b) ⊎ (b ≤ a)
+    less_or a zero = inr (omega arith)
+    less_or zero (suc b) = inl (omega arith)
+    less_or (suc a) (suc b) = elim (less_or a b) [ | inl lt ↦ inl (omega (arith, lt)) | inr le ↦ inr (omega (arith, le)) ]
+
+room_other : (r : RosterView) (k n : ℕ) (found : Room) → n ≢ k → kept_at (with_room r k found) n ≡ kept_at r n
+room_other r k n found other = get_or-set_other r.kept k n found (room 0) other
+
+module _ {S : Type 0} (tells : Bool) (files : S → Files) (failures : S → ℕ) where
+  keeps_case : (n : ℕ) (xs : List Message) (w u : SystemView S) (a : ℕ) (said : Stepped) (did : Did) → Case tells files failures w a said u did
+      → Keeps (kept_at w.roster n) xs → Keeps (kept_at u.roster n) (kept_by n xs did)
+  keeps_case n xs w u a said did (queued busy same after) h =
+      subst (λ (r : RosterView). Keeps (kept_at r n) xs) (sym (ap (λ (v : SystemView S). v.roster) after ∙ (after_round_same w a).roster)) h
+  keeps_case n xs w u a said did (kept m was same after) h =
+      subst (λ (v : SystemView S). Keeps (kept_at v.roster n) (cond (m.logger == n) (xs ++ m ∷ []) xs)) (sym after)
+      (on_test (λ b. Keeps (kept_at (keeping w.roster m) n) (cond b (xs ++ m ∷ []) xs)) m.logger n
+      (λ mine.
+      subst (λ k. Keeps (kept_at (keeping w.roster m) k) (xs ++ m ∷ [])) mine
+      (room_set w.roster m.logger (kept_with (kept_at w.roster m.logger) m) (xs ++ m ∷ [])
+      (keeps_more (kept_at w.roster m.logger) xs m (subst (λ k. Keeps (kept_at w.roster k) xs) (sym mine) h))))
+      (λ other.
+      subst (λ (r : Room). Keeps r xs) (sym (room_other w.roster m.logger n (kept_with (kept_at w.roster m.logger) m) (λ e. other (sym e)))) h))
+  keeps_case n xs w u a said did (dumped d idle was same after) h =
+      let after_is : u.roster ≡ emptied w.roster d.logger =
+      ap (λ (v : SystemView S). v.roster) after
+      ∙ (posting_same (with_roster w (emptied w.roster d.logger)) a (policy_at w.roster d.logger) (dumped_by w d)).roster in
+      subst (λ (r : RosterView). Keeps (kept_at r n) (cond (d.logger == n) [] xs)) (sym after_is)
+      (on_test (λ b. Keeps (kept_at (emptied w.roster d.logger) n) (cond b [] xs)) d.logger n
+      (λ mine.
+      subst (λ k. Keeps (kept_at (emptied w.roster d.logger) k) []) mine
+      (room_set w.roster d.logger (empty_of (kept_at w.roster d.logger)) [] (sym (nothing_last (kept_at w.roster d.logger).most))))
+      (λ other.
+      subst (λ (r : Room). Keeps r xs) (sym (room_other w.roster d.logger n (empty_of (kept_at w.roster d.logger)) (λ e. other (sym e)))) h))
+  keeps_case n xs w u a said did (served t i done turn outputs x was next makes same after) h =
+      subst (λ (v : SystemView S). Keeps (kept_at v.roster n) xs) (sym after) h
+
+  fresh_keeps : (loggers : List Logger) (n : ℕ) → Keeps (get_or (map room_of loggers) n (room 0)) []
+  fresh_keeps [] n = refl
+  fresh_keeps (l ∷ ls) zero = sym (nothing_last l.spec.backtrace)
+  fresh_keeps (l ∷ ls) (suc n) = fresh_keeps ls n
+
+  -- each logger keeps the last of what it was given to keep since it was last emptied
+  pub keeps_since : (k limit : ℕ) (loggers : List Logger) (first : List (Sink S)) (made : List Made) (v : SystemView S)
+      → Leads tells files failures (fresh_system k limit loggers first) made v → (n : ℕ) → Keeps (kept_at v.roster n) (kept_since n [] made)
+  keeps_since k limit loggers first made v starts n = fresh_keeps loggers n
+  keeps_since k limit loggers first made v (begins {made = ms} {w = w} a d leads may) n =
+      subst (λ (r : RosterView). Keeps (kept_at r n) (kept_since n [] ms)) (sym (begun_same w a d).roster) (keeps_since k limit loggers first ms w leads n)
+  keeps_since k limit loggers first made v (steps {made = ms} {w = w} {u = u} a said leads lt h) n =
+      subst (λ (xs : List Message). Keeps (kept_at u.roster n) xs) (sym (since_last n [] (made_by w a said) ms))
+      (keeps_case n (kept_since n [] ms) w u a said (did_by w a) (case_of tells files failures w a said u h) (keeps_since k limit loggers first ms w leads n))
+  keeps_since k limit loggers first made v (sets {made = ms} {w = w} j level leads) n = keeps_since k limit loggers first ms w leads n
