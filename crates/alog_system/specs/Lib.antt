@@ -8,3 +8,4 @@ pub mod Inside
 pub mod Begin
 pub mod Step
 pub mod Runs
+pub mod Named

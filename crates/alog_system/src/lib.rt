@@ -7,7 +7,9 @@
 //!
 //! Read `deed.rt` and `specs/Begin.antt` (what is begun by a deed), `stepped.rt` and `specs/Step.antt` (what a step does), both over
 //! `specs/System.antt` (what callers see of a system, and what an actor does beside its round) and `specs/Roster.antt` (loggers).
-//! Then `system.rt` with `system/begin.rt` and `system/step.rt`; below them `duty.rt`, `dump.rt`, `roster.rt` and `outputs.rt`.
+//! What is true after a whole run is `specs/Runs.antt`, with the law in `laws.rt`.
+//!
+//! Then `system.rt` with `system/new.rt`, `begin.rt` and `step.rt`; below them `duty.rt`, `dump.rt`, `roster.rt` and `outputs.rt`.
 #![tactic(auto)]
 
 mod deed;

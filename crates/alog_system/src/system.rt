@@ -12,6 +12,7 @@ ghost use Rattle.alog_system.specs.Within.{DutyFits, LoggerFits};
 ghost use Rattle.alog_system.specs.declared.duty.Duty.TheVariants as duty;
 
 mod begin;
+mod new;
 mod step;
 
 use crate::duty::Duty;
