@@ -7,3 +7,4 @@ pub mod Picking
 pub mod Parting
 pub mod Handing
 pub mod Taking
+pub mod Fitting

@@ -9,3 +9,4 @@ pub mod Sound
 pub mod Soundness
 pub mod Built
 pub mod Parts
+pub mod Fits

@@ -1,9 +1,11 @@
 //! Building what a configuration names.
 ghost use Rattle.std.specs.Prelude.{◌≡◌, IfOk, IsErrOf, count_by, length};
-ghost use Rattle.std.specs.List.{Any};
+ghost use Rattle.std.specs.List.{All, Any};
 ghost use Rattle.alog_config.specs.Built.{Built, EachIs, HasFailed, IsLoggerOf};
+ghost use Rattle.alog_config.specs.Fits.{LoggerFits, SinkSuits};
 ghost use Rattle.alog_config.specs.Parts.{AreBuilt, Makes, MayLog, MayMake};
 ghost use Rattle.alog_config.specs.Sinks.{is_leaf};
+ghost use Rattle.alog_pattern.specs.declared.patterns.TheConstants.{LINE_MAX};
 
 use crate::config::{Config, LoggerConfig, SinkConfig, SinkKind};
 use crate::opening::{face_of, opened};
@@ -48,6 +50,9 @@ pub fn build<S: Store + Drop>(
 ) -> Result<(Loggers, Vec<Sink<S>>), BuildError>
     requires { length stores.items ≡ count_by is_leaf config.now.sinks.items }
     ensures built { IfOk result (λ b. Built S.tells S.files S.failures config.now stores.items b.0 b.1.items) }
+    // Each logger's sinks are there, and each sink takes the texts of the configuration, in lines that a buffer of `LINE_MAX` holds.
+    ensures fits { IfOk result (λ b. All (LoggerFits (length b.1.items)) b.0) }
+    ensures suits { IfOk result (λ b. All (λ s. SinkSuits config.now.text LINE_MAX s) b.1.items) }
     ensures failed { IsErrOf result BuildError.Store → Any (HasFailed S.failures) stores.items }
 {
     let parts = parts_of(alloc, config, stores)?;

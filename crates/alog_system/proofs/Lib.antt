@@ -11,4 +11,4 @@ mod RunSame
 mod RunSinks
 mod RunWorks
 mod Runs
-mod Named
+mod History

@@ -1,6 +1,7 @@
 -- The sinks of a system, and a worker's turn on one.
 use Rattle.std.specs.Prelude.{◌≡◌, ℕ, ◌≤◌, ◌<◌, Bool, List, length, slice_get, slice_set, Some, Result, Ok, Err}
 use Rattle.std.specs.List.{All}
+pub use Rattle.alog_config.specs.Fits.{Suits, SinkSuits}
 use Rattle.alog_msg.specs.declared.item.Item.{Item}
 use Rattle.alog_msg.specs.declared.item.Item.TheVariants as item
 use Rattle.alog_msg.specs.declared.message.Message.{Message}
@@ -26,15 +27,7 @@ pub record OutputsView (S : Type 0) : Type 0 where
   pub sinks : List (Sink S)
   pub text_limit : ℕ
 
--- a face writes each text of at most so many bytes into a buffer of this capacity
-abbrev pub Suits : ℕ → ℕ → Face → Type 0
-Suits limit capacity face = (limit ≤ face.pattern.text_limit) × (longest face.pattern ≤ capacity)
-
-abbrev pub SinkSuits : {S : Type 0} → ℕ → ℕ → Sink S → Type 0
-SinkSuits limit capacity (sinks.Leaf l) = Suits limit capacity l.face
-SinkSuits limit capacity (sinks.Fan f) = All (λ l. Suits limit capacity l.face) f.members
-
--- each of these sinks does
+-- each of these sinks suits texts of at most so many bytes, and a buffer of this capacity
 pub record AllSuit {S : Type 0} (limit capacity : ℕ) (all : List (Sink S)) : Type 0 where
   pub least : LEAST_TEXT_LIMIT ≤ limit
   pub most : limit ≤ MOST_TEXT_LIMIT

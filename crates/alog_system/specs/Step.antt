@@ -1,5 +1,7 @@
 -- One step of an actor in a call: a step of its round where it is in one, and else a turn of what it does beside.
-use Rattle.std.specs.Prelude.{◌≡◌, ℕ, ◌+◌, Bool, true, false, Option, Some, None, List, [], ◌∷◌, length, slice_get, MatchBool}
+use Rattle.std.specs.Prelude.{◌≡◌, ℕ, ◌+◌, Bool, true, false, Option, Some, None, List, [], ◌∷◌, length, slice_get, MatchBool, if◌then◌else◌}
+use Rattle.alog_core.specs.History.{Entry}
+use Rattle.alog_core.specs.Run.{entries_of_step}
 use Rattle.alog_core.specs.World.{is_idle, round_of}
 use Rattle.alog_core.specs.declared.said.Said.{Said}
 use Rattle.alog_core.specs.declared.said.Said.TheVariants as said
@@ -81,6 +83,10 @@ after_round v a = follows (with_desk v (desk_stepped v.desk a)) a (duty_of v a) 
 
 abbrev pub RoundSteps : {S : Type 0} → SystemView S → ℕ → Stepped → SystemView S → Type 0
 RoundSteps v a told new = (told ≡ told_in_round (duty_of v a) (desk_told v.desk a)) × (new ≡ after_round v a)
+
+-- the entries that a step of an actor adds to the history of the queue: that of its step of the queue, or none
+abbrev pub entries_by : {S : Type 0} → SystemView S → ℕ → List (Entry Item (Unit {0}))
+entries_by v a = if is_idle (round_of v.desk.world a) then [] else entries_of_step v.desk.world a
 
 -- what the dump of a logger posts
 abbrev pub dumped_by : {S : Type 0} → SystemView S → DumpView → List Message

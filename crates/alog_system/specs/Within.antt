@@ -1,6 +1,7 @@
 -- What is true of every system: texts keep to the limit wherever they are, and each logger's sinks are there.
 use Rattle.std.specs.Prelude.{◌≡◌, ℕ, ◌<◌, ◌≤◌, Option, Some, None, IfSome, List, length, slice_get}
 use Rattle.std.specs.List.{All}
+pub use Rattle.alog_config.specs.Fits.{LoggerFits}
 use Rattle.alog_core.specs.Queue.{Cell}
 use Rattle.alog_core.specs.World.{Machine, round_of, brought}
 use Rattle.alog_core.specs.declared.TheConstants.{ACTORS}
@@ -63,11 +64,6 @@ DutyFits r limit (Dumps d) = (d.logger < length r.loggers) × (d.most ≡ backtr
 DutyFits r limit (Posts p ms) = All (IsShortText limit) ms
 DutyFits r limit Works = Unit {0}
 DutyFits r limit (Serves t i done) = IsShort limit i
-
--- the sinks of a logger are among so many, and its backtrace is no longer than one may be
-pub record LoggerFits (count : ℕ) (l : Logger) : Type 0 where
-  pub sinks : All (λ s. s < count) l.spec.sinks.items
-  pub backtrace : l.spec.backtrace ≤ MOST_KEPT
 
 pub record IsWithin {S : Type 0} (v : SystemView S) : Type 0 where
   pub duties : length v.duties ≡ ACTORS

@@ -5,6 +5,7 @@ ghost use Rattle.alog_system.specs.Outputs.{Suits, SinkSuits};
 ghost use Rattle.alog_system.specs.Within.{LoggerFits};
 
 use super::*;
+use alog_config::read;
 use alog_core::{Said, StepError};
 use alog_format::{Context, Zone};
 use alog_msg::{Item, Level};
@@ -462,5 +463,34 @@ fn refused_systems(rt: HostRuntime) -> Result<(), Fail> {
             Err(error) => assert_eq!(rt; error, SystemError::BadSize),
         }
     }
+    Ok(())
+}
+
+const ONE: &str = "queue = 8
+[[sink]]
+name = \"out\"
+kind = \"memory\"
+pattern = \"%n %L %v\"
+[[logger]]
+name = \"net\"
+sinks = [\"out\"]
+";
+
+#[test]
+fn of_a_configuration(rt: HostRuntime) -> Result<(), Fail> {
+    let alloc = rt.alloc();
+    let mut config = read(alloc, ONE.as_bytes())?;
+    let mut system = System::new(alloc, &config)?;
+    let mut out = String::new(alloc);
+    assert_eq!(rt; system.find("net"), Some(0));
+    let hello = begin(&rt, alloc, &mut system, 1, log(Level::Info, "hello"));
+    assert_eq!(rt; hello, Ok(None));
+    run(&mut system, &mut out, 1, ALL)?;
+    assert_eq!(rt; begin(&rt, alloc, &mut system, 2, Deed::Work), Ok(None));
+    run(&mut system, &mut out, 2, ALL)?;
+    file_is(&rt, &system, b"net I hello\n");
+    config.queue = 3;
+    let refused = System::new(alloc, &config);
+    assert!(rt; matches!(refused, Err(SystemError::BadSize)));
     Ok(())
 }

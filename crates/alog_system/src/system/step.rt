@@ -1,12 +1,13 @@
 //! What a step does.
-ghost use Rattle.std.specs.Prelude.{◌≡◌, ◌↔◌, ◌≤◌, ◌<◌, IfOk, OnErr, IsErrOf, IsSome, true, false, length};
+ghost use Rattle.std.specs.Prelude.{◌≡◌, ◌↔◌, ◌≤◌, ◌<◌, IfOk, OnOk, OnErr, IsErrOf, IsSome, true, false, length};
 ghost use Rattle.std.specs.List.{All};
+ghost use Rattle.alog_core.specs.History.{GoesOn};
 ghost use Rattle.alog_core.specs.World.{is_idle, round_of};
 ghost use Rattle.alog_core.specs.declared.TheConstants.{ACTORS};
 ghost use Rattle.alog_policy.specs.Desk.{desk_told, desk_stepped};
 ghost use Rattle.alog_system.specs.Outputs.{IsShort};
 ghost use Rattle.alog_system.specs.Roster.{keeping, emptied, kept_at, policy_at, turns_for};
-ghost use Rattle.alog_system.specs.Step.{SystemSteps, TurnSteps, ServesOn, TurnsOn, RoundSteps, dumped_by, posting, told_of_work, work_after};
+ghost use Rattle.alog_system.specs.Step.{SystemSteps, entries_by, TurnSteps, ServesOn, TurnsOn, RoundSteps, dumped_by, posting, told_of_work, work_after};
 ghost use Rattle.alog_system.specs.System.{is_free, duty_of, owes, with_desk, with_duty, with_roster};
 ghost use Rattle.alog_system.specs.Within.{DutyFits, IsShortText, SaidHasOnly};
 ghost use Rattle.alog_system.specs.declared.duty.Duty.TheVariants as duty;
@@ -34,6 +35,9 @@ impl<S: Store + Drop> System<S> {
         ensures not_in_call { IsErrOf result StepError.NotInCall ↔ ((actor < ACTORS) × (is_free self.old actor ≡ true)) }
         ensures err { OnErr result (self.new ≡ self.old) }
         ensures steps { IfOk result (λ told. SystemSteps S.tells S.files S.failures self.old actor told self.new) }
+        // Each history that the queue stood for goes on with the step's event, if it was a step of the queue.
+        ensures history { OnOk result (GoesOn self.old.desk.world.places self.old.desk.world.queue (entries_by self.old actor)
+            self.new.desk.world.queue) }
     {
         if actor >= ACTORS {
             return Err(StepError::NoActor);
@@ -41,6 +45,7 @@ impl<S: Store + Drop> System<S> {
         if self.is_free(actor) {
             return Err(StepError::NotInCall);
         }
+        self.desk.is_reached();
         if self.desk.is_idle(actor) {
             return Ok(Stepped::Turned(self.turn(actor)));
         }

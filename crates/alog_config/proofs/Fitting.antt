@@ -1,4 +1,4 @@
--- What is built of a configuration fits together as a system.
+-- What is built of a configuration fits together.
 use Rattle.std.proofs.Common.{◌≡◌, ◌<◌, ◌≤◌, ◌⊎◌, inl, inr, ℕ, zero, suc, ◌++◌, Bool, Option, None, Some, List, [], ◌∷◌, length, map, refl, sym, ap, subst, ◌∙◌, arith}
 use Rattle.std.specs.Prelude.{slice_get, IfSome}
 use Rattle.std.specs.List.{All, AllByRecursion, Any}
@@ -7,6 +7,7 @@ use Rattle.std.proofs.lemmas.List.{length-map}
 use Rattle.std.proofs.lemmas.List.Elements.{All-from_recursion}
 use Rattle.std.proofs.lemmas.Option.{slice_get-map, slice_get_read, slice_get_within}
 use Rattle.alog_config.specs.Built.{Built, EachIs, ArePicked, IsBuiltAs, IsFaceOf, IsLeafOf, IsLoggerOf, IsNamed, IsPart, IsPlace}
+use Rattle.alog_config.specs.Fits.{LoggerFits, SinkSuits, Suits}
 use Rattle.alog_config.specs.Sound.{IsSound, IsSoundKind, IsSoundSink, IsSoundLogger, AreSoundSinks, AreSoundLoggers}
 use Rattle.alog_config.specs.Values.{IsPattern}
 use Rattle.alog_config.specs.declared.config.Config.{Config}
@@ -28,8 +29,6 @@ use Rattle.alog_sink.specs.Turn.{LeafView}
 use Rattle.alog_sink.specs.declared.face.Face.{Face}
 use Rattle.alog_sink.specs.declared.sink.Sink.{Sink}
 use Rattle.alog_sink.specs.declared.sink.Sink.TheVariants.{Leaf, Fan}
-use Rattle.alog_system.specs.Outputs.{AreSuited, SinkSuits, Suits}
-use Rattle.alog_system.specs.Within.{LoggerFits}
 
 -- the pattern of a sink's lines keeps the rules
 abbrev KindFits : ℕ → SinkKind → Type 0
@@ -151,23 +150,19 @@ module _ {S : Type 0} (tops : List (Part S)) where
 module _ {S : Type 0} (tells : Bool) (files : S → Files) (failures : S → ℕ) (c : Config) (zone : Zone) (stores : List S) (loggers : List Logger)
     (sinks : List (Sink S)) (sound : IsSound c.text zone c.sinks.items c.loggers.items) (b : Built tells files failures c stores loggers sinks) where
   -- each logger's sinks are there
-  pub named_fit : All (LoggerFits (length sinks)) loggers
-  named_fit =
-      let many : length sinks ≡ length b.tops = ap length b.sinks ∙ length-map (λ (p : Part S). p.sink) b.tops in
+  pub each_fits : All (LoggerFits (length sinks)) loggers
+  each_fits =
+      let many : length sinks ≡ length b.tops = ap length b.sinks ∙ length-map b.tops (λ (p : Part S). p.sink) in
       subst (λ n. All (LoggerFits n) loggers) (sym many)
       (All-from_recursion (LoggerFits (length b.tops)) loggers
       (loggers_fit b.tops c.sinks.items [] c.loggers.items loggers sound.each_logger b.loggers))
 
   -- and each sink suits the texts
-  pub named_suit : AreSuited c.text sinks
-  named_suit =
-      let IsOk' : Sink S → Type 0 = λ s. SinkSuits c.text LINE_MAX s in
-      record {
-        least = sound.limited.0;
-        most = sound.limited.1;
-        each = subst (λ (all : List (Sink S)). All IsOk' all) (sym b.sinks)
-            (All-from_recursion IsOk' (map (λ (p : Part S). p.sink) b.tops)
-            (mapped_too IsOk' (λ (p : Part S). p.sink) b.tops
-            (picked_too (λ (p : Part S). IsOk' p.sink) _ b.parts b.tops b.picked
-            (parts_suit tells files failures c stores b.parts sound.each_sink b.of b.each))));
-      }
+  pub each_suits : All (λ (s : Sink S). SinkSuits c.text LINE_MAX s) sinks
+  each_suits =
+      let IsSuch : Sink S → Type 0 = λ s. SinkSuits c.text LINE_MAX s in
+      subst (λ (all : List (Sink S)). All IsSuch all) (sym b.sinks)
+      (All-from_recursion IsSuch (map (λ (p : Part S). p.sink) b.tops)
+      (mapped_too IsSuch (λ (p : Part S). p.sink) b.tops
+      (picked_too (λ (p : Part S). IsSuch p.sink) _ b.parts b.tops b.picked
+      (parts_suit tells files failures c stores b.parts sound.each_sink b.of b.each))))
