@@ -7,3 +7,5 @@ pub mod Picking
 pub mod Parting
 pub mod Handing
 pub mod Taking
+pub mod Told
+pub mod Others

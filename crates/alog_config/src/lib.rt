@@ -32,6 +32,8 @@ mod lists;
 mod logger_fields;
 #[cfg(test)]
 mod many_tests;
+#[cfg(test)]
+mod memory_tests;
 mod names;
 mod opening;
 mod parts;
