@@ -167,7 +167,8 @@ fn other_faults_in_words(rt: HostRuntime) -> Result<(), Fail> {
         let document = joined(alloc, &[SINK, LOGGER])?;
         let fault = ConfigFault::Broken { rule, place };
         let text = explain(alloc, document.as_bytes(), fault)?;
-        assert_eq!(rt; text.as_str() == fault.to_string(alloc)?.as_str(), true, "{text}");
+        let want = fault.to_string(alloc)?;
+        assert!(rt; text.as_str() == want.as_str(), "{text}");
     }
     let text = explain(alloc, b"", ConfigFault::NotToml)?;
     assert!(rt; text.as_str() == "the document is not TOML");

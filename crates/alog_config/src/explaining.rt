@@ -25,11 +25,7 @@ const MOST_SHOWN: usize = 64;
 /// Of a value at most 64 bytes are shown, those before its first newline, and `..` stands for the rest. Where the document
 /// is no TOML, the line is told at which it is none, and why. A fault that is not the document's is told by its rule alone.
 /// The test `refusals_in_words` shows each.
-pub fn explain(
-    alloc: Global,
-    document: &[u8],
-    fault: ConfigFault,
-) -> Result<String, AllocError> {
+pub fn explain(alloc: Global, document: &[u8], fault: ConfigFault) -> Result<String, AllocError> {
     match toml::table_from_slice(alloc, document) {
         Ok(table) => match fault {
             ConfigFault::Broken { rule, place } => broken(alloc, &table, place, rule),
@@ -52,12 +48,7 @@ fn not_toml(alloc: Global, document: &[u8], error: &Error) -> Result<String, All
 }
 
 /// How the table of a place breaks a rule.
-fn broken(
-    alloc: Global,
-    document: &Table,
-    place: Place,
-    rule: Rule,
-) -> Result<String, AllocError> {
+fn broken(alloc: Global, document: &Table, place: Place, rule: Rule) -> Result<String, AllocError> {
     let top = top_fields(alloc, document)?;
     match place {
         Place::Top => {
@@ -105,7 +96,12 @@ fn broken_logger(
 ) -> Result<String, AllocError>
     requires { IsTextLimit (limit_of top) }
 {
-    let TopFields { text, sinks, loggers, .. } = top;
+    let TopFields {
+        text,
+        sinks,
+        loggers,
+        ..
+    } = top;
     let limit = text.or(DEFAULT_TEXT_LIMIT as u32) as usize;
     let (Field::Given(sinks), Field::Given(loggers)) = (sinks, loggers) else {
         return rule.to_string(alloc);

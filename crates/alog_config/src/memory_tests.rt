@@ -16,11 +16,7 @@ fn read_again(alloc: Global, document: &str) -> Result<Config, ConfigFault> {
 }
 
 // What is said of a document's fault, and said again where memory was wanting.
-fn said_again(
-    alloc: Global,
-    document: &str,
-    fault: ConfigFault,
-) -> Result<String, AllocError> {
+fn said_again(alloc: Global, document: &str, fault: ConfigFault) -> Result<String, AllocError> {
     match explain(alloc, document.as_bytes(), fault) {
         Ok(text) => Ok(text),
         Err(_) => explain(alloc, document.as_bytes(), fault),
@@ -64,13 +60,17 @@ fn want_of_memory(rt: HostRuntime) -> Result<(), Fail> {
 #[test]
 fn want_of_memory_for_a_refusal(rt: HostRuntime) -> Result<(), Fail> {
     let alloc = rt.alloc();
-    let document = "[[sink]]\nname = \"out\"\nkind = \"memory\"\n[[logger]]\nname = \"net\"\nsinks = [\"out\", \"x\"]\n";
+    let document =
+        "[[sink]]\nname = \"out\"\nkind = \"memory\"\n[[logger]]\nname = \"net\"\nsinks = [\"out\", \"x\"]\n";
     let fault = ConfigFault::Broken {
         rule: Rule::NoSuchSink,
         place: Place::Logger(0),
     };
     assert_eq!(rt; read_again(alloc, document).err(), Some(fault));
     let text = said_again(alloc, document, fault)?;
-    assert!(rt; text.as_str().starts_with("sinks = [\"out\", \"x\"]: no sink has this name; "));
+    assert!(rt;
+        text.as_str()
+            .starts_with("sinks = [\"out\", \"x\"]: no sink has this name; ")
+    );
     Ok(())
 }
