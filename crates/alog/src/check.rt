@@ -3,7 +3,7 @@ ghost use Rattle.std.specs.Prelude.{◌≡◌, ◌⊎◌};
 ghost use Rattle.alog.specs.Checks.{Checks, ChecksFile};
 
 use crate::program::{fail, write_out};
-use alog_config::{ConfigFault, Place, read};
+use alog_config::{ConfigFault, Place, explain, read};
 use alog_replay::ReplayError;
 use std::alloc::Global;
 use std::fs;
@@ -40,12 +40,12 @@ fn check<O: Write, E: Write>(alloc: Global, document: &[u8], output: &mut O, err
             Ok(()) => 0,
             Err(_) => fail(ReplayError::WriteFault, errors),
         },
-        Err(fault) => refuse(fault, errors),
+        Err(fault) => refuse(alloc, document, fault, errors),
     }
 }
 
-/// Writes the line of a refused configuration, and below it what is wrong, and answers its status.
-fn refuse<E: Write>(fault: ConfigFault, errors: &mut E) -> u8
+/// Writes the line of a refused configuration, and below it what is wrong with it, and answers its status.
+fn refuse<E: Write>(alloc: Global, document: &[u8], fault: ConfigFault, errors: &mut E) -> u8
     ensures { ((fault ≡ ConfigFault.OutOfMemory) × (result ≡ 4)) ⊎ (result ≡ 2) }
 {
     let number = fault.number();
@@ -62,8 +62,17 @@ fn refuse<E: Write>(fault: ConfigFault, errors: &mut E) -> u8
     match fault {
         ConfigFault::OutOfMemory => 4,
         ConfigFault::NotToml | ConfigFault::Broken { .. } => {
-            let _ = writeln!(errors, "alog: {fault}");
+            say_why(alloc, document, fault, errors);
             2
         }
     }
+}
+
+/// Writes the line that says what a person has to mend. Where there is no memory for it, what is refused is said alone,
+/// which needs none.
+fn say_why<E: Write>(alloc: Global, document: &[u8], fault: ConfigFault, errors: &mut E) {
+    let _ = match explain(alloc, document, fault) {
+        Ok(text) => writeln!(errors, "alog: {text}"),
+        Err(_) => writeln!(errors, "alog: {fault}"),
+    };
 }

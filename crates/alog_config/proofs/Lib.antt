@@ -8,3 +8,5 @@ pub mod Parting
 pub mod Handing
 pub mod Taking
 pub mod Fitting
+pub mod Told
+pub mod Others

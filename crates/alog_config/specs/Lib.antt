@@ -3,6 +3,7 @@ pub mod Keys
 pub mod Fields
 pub mod Sinks
 pub mod Rules
+pub mod Culprits
 pub mod Numbers
 pub mod Meaning
 pub mod Sound

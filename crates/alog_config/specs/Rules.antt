@@ -22,8 +22,8 @@ use Rattle.alog_sink.specs.Names.{IsFileName}
 abbrev pub order : List Rule
 order = UnknownKey ∷ BadValue ∷ Missing ∷ NameTaken ∷ NoSuchSink ∷ []
 
--- The first rule of a list that is broken, or none where each is kept.
-abbrev pub IsFirst : List Rule → (Rule → Type 0) → Option Rule → Type 0
+-- The first rule of a list that is broken, or none where each is kept; or the first of any other list of which something holds.
+abbrev pub IsFirst : {A : Type 0} → List A → (A → Type 0) → Option A → Type 0
 IsFirst [] broken found = found ≡ None
 IsFirst (rule ∷ rules) broken found = (broken rule × (found ≡ Some rule)) ⊎ ((¬ broken rule) × IsFirst rules broken found)
 

@@ -83,7 +83,7 @@ sinks = [\"both\"]
 ";
 
 // A fan between two sinks of their own: it has the first sink and the third, in the other order.
-const BETWEEN: &str = "
+pub(crate) const BETWEEN: &str = "
 process = 9
 
 [[sink]]
@@ -132,11 +132,11 @@ fn config_of(alloc: Global, document: &str) -> Result<Config, Fail> {
 }
 
 // Stores for each sink that needs one. Each has a file `number`, which tells its place.
-fn stores(alloc: Global, config: &Config) -> Result<Vec<MemStore>, Fail> {
+pub(crate) fn stores(alloc: Global, config: &Config) -> Result<Vec<MemStore>, AllocError> {
     let mut stores = Vec::new(alloc);
     for i in 0..leaves(config) {
         let Ok(store) = MemStore::new(alloc).with("number", &[b'0' + (i % 10) as u8]) else {
-            return Err(AllocError.into());
+            return Err(AllocError);
         };
         stores.push(store)?;
     }
@@ -144,7 +144,7 @@ fn stores(alloc: Global, config: &Config) -> Result<Vec<MemStore>, Fail> {
 }
 
 // What is built over these stores, which have to be as many as the sinks need.
-fn built_over<S: Store + Drop>(
+pub(crate) fn built_over<S: Store + Drop>(
     alloc: Global,
     config: &Config,
     stores: Vec<S>,

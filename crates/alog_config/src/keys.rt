@@ -1,5 +1,6 @@
 //! Which keys a table may have.
-ghost use Rattle.std.specs.Prelude.{◌↔◌, IsTrue};
+ghost use Rattle.std.specs.Prelude.{◌↔◌, IsTrue, option_map};
+ghost use Rattle.alog_config.specs.Culprits.{IsOtherKey};
 ghost use Rattle.alog_config.specs.Keys.{HasOtherKey, IsOneOf, keys_of, logger_keys, sink_keys, top_keys};
 ghost use Rattle.toml.specs.View.{table_view};
 
@@ -85,14 +86,21 @@ fn is_key(owner: Owner, key: &str) -> bool
     }
 }
 
+/// The first key of a table that is not one of its owner's.
+pub(crate) fn other_key(table: &Table, owner: Owner) -> Option<&str>
+    ensures { IsOtherKey owner (table_view table.now) (option_map (λ k. k.now) result) }
+{
+    for (key, _value) in table.iter() {
+        if !is_key(owner, key.as_str()) {
+            return Some(key.as_str());
+        }
+    }
+    None
+}
+
 /// Whether a table has a key that is not one of its owner's.
 pub(crate) fn has_other_key(table: &Table, owner: Owner) -> bool
     ensures { IsTrue result ↔ HasOtherKey owner (table_view table.now) }
 {
-    for (key, _value) in table.iter() {
-        if !is_key(owner, key.as_str()) {
-            return true;
-        }
-    }
-    false
+    other_key(table, owner).is_some()
 }

@@ -2,14 +2,16 @@
 //!
 //! `read` gives the `Config` that a document says, or its first fault: the top is looked at first, then the sinks in
 //! their order, then the loggers; within one table the rules in the order of `RULES`. `leaves` tells how many stores the
-//! sinks of a configuration need, and `build` makes its loggers and sinks over them.
+//! sinks of a configuration need, and `build` makes its loggers and sinks over them. `explain` says in words what a person has
+//! to mend in a document that `read` refuses.
 //!
 //! Read `config.rt` with `names.rt` (what a configuration is), `fault.rt` (what is refused); `specs/Values.antt` with
 //! `field.rt`, `values.rt` and `lists.rt` (what one key may hold); `specs/Keys.antt` with `keys.rt`, and
 //! `specs/Fields.antt` with `top.rt`, `sink_fields.rt` and `logger_fields.rt` (the keys of one table); `specs/Sinks.antt`
 //! with `sinks.rt` (sinks by their names); `specs/Rules.antt` with `broken.rt` (which rules a table breaks);
 //! `specs/Meaning.antt` with `reading.rt` (what a document says, and which fault is first); `specs/Sound.antt` (what is true of
-//! each configuration); `specs/Built.antt` with `building.rt`, `opening.rt` and `parts.rt` (what is built of one).
+//! each configuration); `specs/Built.antt` with `building.rt`, `opening.rt` and `parts.rt` (what is built of one);
+//! `specs/Culprits.antt` with `culprit.rt`, `words.rt` and `explaining.rt` (which key breaks a rule, and how that is told).
 #![tactic(auto)]
 
 mod broken;
@@ -17,6 +19,10 @@ mod broken;
 mod build_tests;
 mod building;
 mod config;
+mod culprit;
+#[cfg(test)]
+mod explain_tests;
+mod explaining;
 mod fault;
 mod field;
 #[cfg(test)]
@@ -26,6 +32,8 @@ mod lists;
 mod logger_fields;
 #[cfg(test)]
 mod many_tests;
+#[cfg(test)]
+mod memory_tests;
 mod names;
 mod opening;
 mod parts;
@@ -36,9 +44,11 @@ mod sinks;
 mod tests;
 mod top;
 mod values;
+mod words;
 
 pub use building::{BuildError, build};
 pub use config::{Config, LoggerConfig, SinkConfig, SinkKind, Upkeep};
+pub use explaining::explain;
 pub use fault::{ConfigFault, Place, RULES, Rule};
 pub use names::NameList;
 pub use reading::read;

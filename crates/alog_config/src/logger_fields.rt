@@ -63,7 +63,7 @@ impl LoggerFields {
     }
 
     /// Whether one of its sinks is a member of a fan.
-    fn has_lent_sink(&self, sinks: &[SinkConfig]) -> bool
+    pub(crate) fn has_lent_sink(&self, sinks: &[SinkConfig]) -> bool
         ensures { IsTrue result ↔ HasLentSink sinks.now self.now }
     {
         match &self.sinks {

@@ -101,7 +101,7 @@ fn read_top(alloc: Global, table: &Table) -> Result<Config, ConfigFault>
 }
 
 /// Reads the sinks, each behind those before it.
-fn read_sinks(
+pub(crate) fn read_sinks(
     alloc: Global,
     tables: &[&Table],
     limit: usize,

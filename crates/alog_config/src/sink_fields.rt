@@ -70,7 +70,7 @@ pub(crate) fn sink_fields(
 }
 
 /// The kind, if it is told.
-fn told(kind: &Field<Kind>) -> Option<Kind>
+pub(crate) fn told(kind: &Field<Kind>) -> Option<Kind>
     ensures { result ≡ given kind.now }
 {
     match kind {
@@ -92,7 +92,7 @@ impl SinkFields {
     }
 
     /// Whether the file's name can be none, or is that of an earlier sink's file.
-    fn has_bad_file(&self, earlier: &[SinkConfig]) -> bool
+    pub(crate) fn has_bad_file(&self, earlier: &[SinkConfig]) -> bool
         ensures { IsTrue result ↔ HasBadFile earlier.now self.now }
     {
         match self.file_name() {
@@ -102,7 +102,7 @@ impl SinkFields {
     }
 
     /// Whether one of the members that are named is a fan, or a member of an earlier fan.
-    fn has_bad_member(&self, earlier: &[SinkConfig]) -> bool
+    pub(crate) fn has_bad_member(&self, earlier: &[SinkConfig]) -> bool
         ensures { IsTrue result ↔ HasBadMember earlier.now self.now }
     {
         match &self.of {

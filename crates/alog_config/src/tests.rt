@@ -14,7 +14,7 @@ pub(crate) const SINK: &str =
 
 pub(crate) const LOGGER: &str = "[[logger]]\nname = \"net\"\nsinks = [\"out\"]\n";
 
-fn joined(alloc: Global, parts: &[&str]) -> Result<String, AllocError> {
+pub(crate) fn joined(alloc: Global, parts: &[&str]) -> Result<String, AllocError> {
     let mut text = String::new(alloc);
     for part in parts {
         text.push_str(part)?;

@@ -52,7 +52,7 @@ pub(crate) fn top_fields<'t>(alloc: Global, table: &'t Table) -> Result<TopField
 }
 
 /// Whether no table is given.
-fn lacks_tables(tables: &Field<Vec<&Table>>) -> bool
+pub(crate) fn lacks_tables(tables: &Field<Vec<&Table>>) -> bool
     ensures { IsTrue result ↔ LacksTables tables.now }
 {
     match tables {

@@ -24,3 +24,4 @@ pub mod Opens
 pub mod Keeps
 pub mod Crosses
 pub mod LaneRuns
+pub mod FolderCrosses
