@@ -1,7 +1,7 @@
 //! Files in memory.
 ghost use Rattle.std.specs.Prelude.{◌≡◌, IfErr, IfOk, OnOk, OnErr, IsSome};
 ghost use Rattle.alog_sink.specs.Files.{AreSame, appended, no_files, renamed, with_file};
-ghost use Rattle.alog_sink.specs.Memory.{files_in, HasOthers};
+ghost use Rattle.alog_sink.specs.Memory.{entries_of, files_in, listing, HasOthers};
 
 use crate::store::{Store, StoreError, counted};
 use std::alloc::{AllocError, AllocFailed, Global};
@@ -52,6 +52,7 @@ impl MemStore {
     pub fn files(&self) -> &BTreeMap<String, Vec<u8>>
         ensures files { AreSame (files_in result.now) (⟦<MemStore as Store>⟧.files self.now) }
         ensures ordered { IsOrdered string_cmp result.now }
+        ensures listed { entries_of result.now ≡ listing self.now }
     {
         let _ = self.map.len();
         &self.map
