@@ -224,8 +224,22 @@ fn spells_log(line: &str, wanted: i64, level_wanted: Level, text_wanted: &str) -
 #[test]
 fn logs(rt: HostRuntime) {
     assert!(rt; spells_log("log 1 0 net info a b", 0, Level::Info, "a b"));
-    assert!(rt; spells_log("log 01 -9223372036854775808 net warn  a", i64::MIN, Level::Warning, " a"));
-    assert!(rt; spells_log("log 1 9223372036854775807 net err ", i64::MAX, Level::Error, ""));
+    assert!(rt;
+        spells_log(
+            "log 01 -9223372036854775808 net warn  a",
+            i64::MIN,
+            Level::Warning,
+            " a"
+        )
+    );
+    assert!(rt;
+        spells_log(
+            "log 1 9223372036854775807 net err ",
+            i64::MAX,
+            Level::Error,
+            ""
+        )
+    );
     assert!(rt; spells_log("log 1 -0 net off", 0, Level::Off, ""));
     assert!(rt; is_refused("log"));
     assert!(rt; is_refused("log 1 0 net"));
@@ -244,7 +258,9 @@ fn flushes_dumps_and_levels(rt: HostRuntime) {
     assert!(rt;
         matches!(&parse("flush 1 net"), Some(Command::Acts(Act::Flush { logger, .. })) if logger.as_str() == "net")
     );
-    assert!(rt; matches!(&parse("dump 1 -5 net"), Some(Command::Acts(Act::Dump { time, .. })) if *time == -5));
+    assert!(rt;
+        matches!(&parse("dump 1 -5 net"), Some(Command::Acts(Act::Dump { time, .. })) if *time == -5)
+    );
     assert!(rt;
         matches!(&parse("level net debug"), Some(Command::Acts(Act::Level { level, .. })) if *level == Level::Debug)
     );
@@ -455,7 +471,11 @@ impl Playable for Option<Session<FuseStore<MemStore>>> {
 
     fn print_files(&self, alloc: Global, out: &mut Vec<u8>) -> Result<(), AllocError> {
         match self {
-            Some(session) => print_memory_file(alloc, out, session.store().store().files().get("memory")),
+            Some(session) => print_memory_file(
+                alloc,
+                out,
+                session.store().store().files().get("memory"),
+            ),
             None => Ok(()),
         }
     }
