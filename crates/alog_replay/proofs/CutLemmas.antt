@@ -6,10 +6,11 @@ use native.Mathlib.Decide.{ℕ_discrete}
 use Rattle.std.proofs.lemmas.Bool.{false≢true, eqb-true}
 use Rattle.std.proofs.lemmas.Option.{none-some, same_Some}
 use Rattle.std.proofs.lemmas.List.{append-nil, take_all}
+use Rattle.std.specs.Prelude.{◌==◌}
 use Rattle.std.proofs.lemmas.List.Sums.{split_at_first, passes_at_first, take_while-cons}
 use Rattle.std.proofs.lemmas.Str.Parse.{digit_from_value}
 use Rattle.std.specs.List.{before_first, after_first, position_or_len}
-use Rattle.std.specs.Str.Parse.{AllDigits, IsNumeral}
+use Rattle.std.specs.Str.Parse.{AllDigits}
 use Rattle.alog_replay.specs.Cut.{tail_of, IsWord, IsCut}
 
 -- no value is given where none fits
@@ -63,10 +64,25 @@ cut_once (x ∷ w) (y ∷ v) r s p q e =
     let same : x ≡ y = cc in
     (let front : w ≡ v = h.0 in cc, h.1)
 
--- an argument of digits is what a cut gives
-pub argument_is : (r a ds : List ℕ) (t s : Option (List ℕ)) → IsCut r a t → Some r ≡ Some (ds ++ tail_of s) → IsNumeral 10 ds
-    → (ds ≡ a) × (s ≡ t)
-argument_is r a ds t s cut e numeral = cut_once ds a s t (digits_are_word ds numeral.1) cut.1 (sym (same_Some _ _ e) ∙ cut.0)
+-- a text with a minus is cut at its first
+abbrev pub is_minus : ℕ → Bool
+is_minus b = eqb b 45
+
+pub minus_cut : (s w r : List ℕ) → (w ≡ before_first is_minus s) × (r ≡ after_first is_minus s) × (position_or_len is_minus s < length s)
+    → s ≡ w ++ 45 ∷ r
+minus_cut s w r h =
+    let minus = eqb-true _ _ (passes_at_first is_minus s 0 h.2) in
+    let whole = split_at_first is_minus s 0 h.2 in
+    rw (h.0, h.1) (rw minus at whole)
+
+-- nothing stands before a minus at its front
+pub nothing_before : (s d : List ℕ) → s ≡ 45 ∷ d → before_first is_minus s ≡ []
+nothing_before s d e = ap (before_first is_minus) e
+
+-- a text without a minus does not begin with one
+pub not_before : (s d : List ℕ) → position_or_len is_minus s ≡ length s → s ≡ 45 ∷ d → ⊥
+not_before s d h e =
+    let none : 0 ≡ length (45 ∷ d) = subst (λ x. position_or_len is_minus x ≡ length x) e h in omega (arith, none)
 
 -- each text is cut somewhere
 pub cut_of : (s : List ℕ) → (w : List ℕ) × (r : Option (List ℕ)) × IsCut s w r
@@ -75,3 +91,11 @@ cut_of (b ∷ s) =
     let more = cut_of s in
     dite (ℕ_discrete b 32) (λ e. ([], Some s, (ap (λ x. x ∷ s) e, tt)))
     (λ n. (b ∷ more.0, more.1, (ap (λ x. b ∷ x) more.2.0, (n, more.2.1))))
+
+-- whether nothing stands before
+pub filled : (xs : List ℕ) (b : Bool) → b ≡ (length xs == 0) → b ≡ false → xs ≡ [] → ⊥
+filled xs b e fails n = false≢true (sym fails ∙ (e ∙ ap (λ (l : List ℕ). length l == 0) n))
+
+pub emptied : (xs : List ℕ) (b : Bool) → b ≡ (length xs == 0) → b ≡ true → xs ≡ []
+emptied [] b e is = refl
+emptied (x ∷ xs) b e is = let none : length (x ∷ xs) ≡ 0 = eqb-true _ _ (sym e ∙ is) in absurd (omega (arith, none))

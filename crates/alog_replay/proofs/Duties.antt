@@ -6,8 +6,9 @@ use Rattle.alog_msg.specs.declared.message.Message.{Message}
 use Rattle.alog_policy.specs.Desk.{desk_told, desk_stepped}
 use Rattle.alog_replay.specs.Memory.{MemoryFile, Turns}
 use Rattle.alog_replay.specs.Scene.{Prints}
-use Rattle.alog_replay.specs.Session.{Stage, duty_of, with_duty, with_desk, with_memory, work_after, stepped_text, turn_text}
+use Rattle.alog_replay.specs.Session.{Stage, duty_of, with_duty, with_desk, with_memory, work_after, shown_message, memory_turn_text}
 use Rattle.alog_replay.specs.Session.{StepsBy, Steps}
+use Rattle.alog_replay.specs.Texts.{stepped_text}
 use Rattle.alog_replay.specs.declared.duty.Duty.{Duty}
 use Rattle.alog_replay.specs.declared.duty.Duty.TheVariants.{Free, Works, Owes}
 
@@ -16,7 +17,7 @@ pub record HasMoved (s taken moved : Stage) (a : ℕ) (duty : Duty) (old new : L
   pub owed : duty ≡ duty_of s a
   pub out : taken ≡ with_duty s a Free
   pub moved_on : moved ≡ with_desk taken (desk_stepped taken.desk a)
-  pub printed : new ≡ old ++ stepped_text a (desk_told taken.desk a)
+  pub printed : new ≡ old ++ stepped_text shown_message a (desk_told taken.desk a)
 
 moved_by : (s taken moved : Stage) (a : ℕ) → taken ≡ with_duty s a Free → moved ≡ with_desk taken (desk_stepped taken.desk a)
     → moved ≡ with_duty (with_desk s (desk_stepped s.desk a)) a Free
@@ -24,14 +25,14 @@ moved_by s taken moved a out on =
     on ∙ subst (λ (t : Stage). with_desk t (desk_stepped t.desk a) ≡ with_duty (with_desk s (desk_stepped s.desk a)) a Free) (sym out) refl
 
 printed_by : (s taken : Stage) (a : ℕ) (old new : List ℕ) → taken ≡ with_duty s a Free
-    → new ≡ old ++ stepped_text a (desk_told taken.desk a) → new ≡ old ++ stepped_text a (desk_told s.desk a)
-printed_by s taken a old new out p = subst (λ (t : Stage). new ≡ old ++ stepped_text a (desk_told t.desk a)) out p
+    → new ≡ old ++ stepped_text shown_message a (desk_told taken.desk a) → new ≡ old ++ stepped_text shown_message a (desk_told s.desk a)
+printed_by s taken a old new out p = subst (λ (t : Stage). new ≡ old ++ stepped_text shown_message a (desk_told t.desk a)) out p
 
 -- a round that owes nothing
 pub free_stepped : {s taken moved : Stage} {a : ℕ} {old new : List ℕ} → HasMoved s taken moved a Free old new
     → Prints old new (λ text. Steps true s a text moved)
 free_stepped {s} {taken} {moved} {a} {old} {new} h =
-    let text = stepped_text a (desk_told s.desk a) in
+    let text = stepped_text shown_message a (desk_told s.desk a) in
     let next = moved_by s taken moved a h.out h.moved_on in
     (text, subst (λ d. StepsBy true s a d text moved) h.owed (refl, next), printed_by s taken a old new h.out h.printed)
 
@@ -40,7 +41,7 @@ pub works_stepped : {s taken moved after : Stage} {a : ℕ} {what : Said Message
     → HasMoved s taken moved a Works old new → what ≡ (desk_told taken.desk a).said → duty ≡ work_after what → after ≡ with_duty moved a duty
     → Prints old new (λ text. Steps true s a text after)
 works_stepped {s} {taken} {moved} {after} {a} {what} {duty} {old} {new} h said owes in_place =
-    let text = stepped_text a (desk_told s.desk a) in
+    let text = stepped_text shown_message a (desk_told s.desk a) in
     let now = work_after (desk_told s.desk a).said in
     let due : duty ≡ now = owes ∙ (ap work_after said ∙ ap (λ (t : Stage). work_after (desk_told t.desk a).said) h.out) in
     let went : Stage = with_desk s (desk_stepped s.desk a) in
@@ -54,9 +55,9 @@ works_stepped {s} {taken} {moved} {after} {a} {what} {duty} {old} {new} h said o
 -- a turn of the memory file
 pub turn_stepped : (s taken v after : Stage) (a t : ℕ) (m : Message) (written : Bool) (memory : MemoryFile) (old new : List ℕ)
     → Owes t m ≡ duty_of s a → taken ≡ with_duty s a Free → v ≡ taken → Turns true v.memory m.text written memory
-    → after ≡ with_memory v memory → new ≡ old ++ turn_text a t written → Prints old new (λ text. Steps true s a text after)
+    → after ≡ with_memory v memory → new ≡ old ++ memory_turn_text a t written → Prints old new (λ text. Steps true s a text after)
 turn_stepped s taken v after a t m written memory old new owed out is turns next printed =
-    let text = turn_text a t written in
+    let text = memory_turn_text a t written in
     let whole = is ∙ out in
     let here = subst (λ (u : Stage). Turns true u.memory m.text written memory) whole turns in
     let then : after ≡ with_duty (with_memory s memory) a Free = next ∙ ap (λ (u : Stage). with_memory u memory) whole in

@@ -1,23 +1,29 @@
 -- Arguments of a form: they are spelled in one way, and whether a text spells any can be told.
-use Rattle.std.proofs.Common.{◌≡◌, ◌↔◌, ◌⊎◌, ℕ, List, [], ◌∷◌, ◌++◌, ◌-◌, ◌^◌, length, refl, sym, ◌∙◌, ap, subst, arith}
+use Rattle.std.proofs.Common.{◌≡◌, ◌↔◌, ◌⊎◌, ℕ, ℤ, pos, neg_ℤ, List, [], ◌∷◌, ◌++◌, ◌-◌, ◌^◌, length, refl, sym, ◌∙◌, ap, subst, arith}
 use Rattle.std.proofs.Common.{Bool, true, false, cond, eqb, eq-eqb}
 use Rattle.std.proofs.Common.{inl, inr, Option, None, Some, unwrap_or}
 use mathlib.Core.Logic.{dite}
-use native.Mathlib.Decide.{dec_le, dec_lt}
+use native.Mathlib.Decide.{dec_le, dec_lt, ℕ_discrete}
 use Rattle.std.proofs.lemmas.Bool.{false≢true}
+use Rattle.std.proofs.lemmas.List.{append-nil}
 use Rattle.std.proofs.lemmas.Option.{none-some, same_Some}
 use Rattle.std.proofs.lemmas.Slice.Eq.{bytes_eq-Decides}
+use Rattle.std.proofs.lemmas.Str.Parse.{digit_from_value}
+use Rattle.std.specs.Prelude.{codes}
 use Rattle.std.specs.Str.{bytes_eq}
 use Rattle.std.specs.Str.Parse.{AllDigits, digits_value}
 use Rattle.std.specs.Char.{digit_value}
 use Rattle.alog_core.specs.declared.TheConstants.{ACTORS}
+use Rattle.alog_msg.specs.Level.{Names, row_of}
+use Rattle.alog_msg.specs.declared.level.Level.{Level}
+use Rattle.alog_msg.specs.declared.level.Level.TheVariants.{Trace, Debug, Info, Warning, Error, Critical, Off}
 use Rattle.alog_policy.specs.declared.policy.Policy.{Policy}
 use Rattle.alog_policy.specs.declared.policy.Policy.TheVariants.{Block, OverrunOldest, DiscardNew}
 use Rattle.alog_replay.specs.declared.limits.TheConstants.{STEPS_MAX}
 use Rattle.alog_replay.specs.Cut.{tail_of, IsWord, IsCut}
-use Rattle.alog_replay.specs.Command.{SpellsNumber, SpellsActor, SpellsWord64, SpellsCount, Form, Given, SpellsForm, TwoNumbers, policy_name}
-use Rattle.alog_replay.specs.Command.{ActorAlone, ActorAndText, ActorPolicyAndText, ActorAndCount, NoArgument}
-use Rattle.alog_replay.proofs.CutLemmas.{argument_is, cut_of, cut_once, digits_are_word, one_of}
+use Rattle.alog_replay.specs.Command.{SpellsNumber, SpellsCount, SpellsTime, Word, Value, SpellsWord, Form, Given, SpellsForm, policy_name}
+use Rattle.alog_replay.specs.Command.{Number, AnActor, Time, APolicy, ALevel, AName, NoArgument, AText, ACount, Only, Then}
+use Rattle.alog_replay.proofs.CutLemmas.{cut_of, cut_once, digits_are_word, none_of, one_of}
 
 -- a fact of some value, or of none
 abbrev pub Decided : {X : Type 0} → (X → Type 0) → Type 0
@@ -31,29 +37,19 @@ same_count : (t : Option (List ℕ)) (n m : ℕ) → SpellsCount t n → SpellsC
 same_count None n m h g = h ∙ sym g
 same_count (Some digits) n m h g = sym h.1 ∙ g.1
 
--- what two words say of the arguments that begin with the first
-pub two_parts : (rest : Option (List ℕ)) (r a : List ℕ) (t : Option (List ℕ)) (g : ℕ × ℕ) → rest ≡ Some r → IsCut r a t
-    → SpellsForm TwoNumbers rest g
-    → (b : List ℕ) × (t ≡ Some b) × SpellsWord64 a g.0 × SpellsWord64 b g.1
-two_parts rest r a t g e cut h =
-    let once = argument_is r a h.0 t (Some h.1) cut (sym e ∙ h.2) h.3.0 in
-    (h.1, sym once.1, subst (λ w. SpellsWord64 w g.0) once.0 h.3, h.4)
+-- a minus is no digit
+no_minus : (w digits : List ℕ) → AllDigits 10 w → w ≡ 45 ∷ digits → ⊥
+no_minus w digits h e = let range = digit_from_value 45 (subst (AllDigits 10) e h).0 in omega (arith, range.0)
 
-pub text_parts : (rest : Option (List ℕ)) (r a : List ℕ) (t : Option (List ℕ)) (g : ℕ × List ℕ) → rest ≡ Some r → IsCut r a t
-    → SpellsForm ActorAndText rest g
-    → SpellsActor a g.0 × (g.1 ≡ unwrap_or t [])
-text_parts rest r a t g e cut h =
-    let once = argument_is r a h.0 t h.1 cut (sym e ∙ h.2) h.3.0 in
-    (subst (λ w. SpellsActor w g.0) once.0 h.3, h.4 ∙ ap (λ x. unwrap_or x []) once.1)
+same_time : (w : List ℕ) (t u : ℤ) → SpellsTime w t → SpellsTime w u → t ≡ u
+same_time w t u (inl h) (inl g) = h.2 ∙ (ap pos (sym h.1.1 ∙ g.1.1) ∙ sym g.2)
+same_time w t u (inl h) (inr g) = absurd (no_minus w g.0 h.1.0.1 g.2)
+same_time w t u (inr h) (inl g) = absurd (no_minus w h.0 g.1.0.1 h.2)
+same_time w t u (inr h) (inr g) =
+    let digits : h.0 ≡ g.0 = let e : 45 ∷ h.0 ≡ 45 ∷ g.0 = sym h.2 ∙ g.2 in cc in
+    h.4 ∙ (ap (λ n. neg_ℤ (pos n)) (sym h.3.1 ∙ (ap (digits_value 10) digits ∙ g.3.1)) ∙ sym g.4)
 
-pub count_parts : (rest : Option (List ℕ)) (r a : List ℕ) (t : Option (List ℕ)) (g : ℕ × ℕ) → rest ≡ Some r → IsCut r a t
-    → SpellsForm ActorAndCount rest g
-    → SpellsActor a g.0 × SpellsCount t g.1
-count_parts rest r a t g e cut h =
-    let once = argument_is r a h.0 t h.1 cut (sym e ∙ h.2) h.3.0 in
-    (subst (λ w. SpellsActor w g.0) once.0 h.3, subst (λ x. SpellsCount x g.1) once.1 h.4)
-
--- a name of a policy has no space
+-- a name of a policy or of a level has no space
 no_space : List ℕ → Bool
 no_space [] = true
 no_space (b ∷ w) = cond (eqb b 32) false (no_space w)
@@ -89,89 +85,123 @@ policy_of_name DiscardNew = refl
 pub same_policy : (p q : Policy) → policy_name p ≡ policy_name q → p ≡ q
 same_policy p q e = same_Some p q (sym (policy_of_name p) ∙ (ap policy_of e ∙ policy_of_name q))
 
--- what three words say of the arguments that begin with the first two
-pub post_parts : (rest : Option (List ℕ)) (r a s w : List ℕ) (t u : Option (List ℕ)) (g : ℕ × Policy × List ℕ) → rest ≡ Some r
-    → IsCut r a t → t ≡ Some s → IsCut s w u → SpellsForm ActorPolicyAndText rest g
-    → SpellsActor a g.0 × (w ≡ policy_name g.1) × (g.2 ≡ unwrap_or u [])
-post_parts rest r a s w t u g e cut more cut_more h =
-    let once = argument_is r a h.0 t (Some (policy_name g.1 ++ tail_of h.1)) cut (sym e ∙ h.2) h.3.0 in
-    let second : s ≡ policy_name g.1 ++ tail_of h.1 = same_Some _ _ (sym more ∙ sym once.1) in
-    let name = cut_once w (policy_name g.1) u h.1 cut_more.1 (policy_is_word g.1) (sym cut_more.0 ∙ second) in
-    (subst (λ x. SpellsActor x g.0) once.0 h.3, name.0, h.4 ∙ ap (λ x. unwrap_or x []) (sym name.1))
+level_is_word : (level : Level) → IsWord (row_of level).name
+unfolding no_space
+level_is_word Trace = spaceless (row_of Trace).name refl
+level_is_word Debug = spaceless (row_of Debug).name refl
+level_is_word Info = spaceless (row_of Info).name refl
+level_is_word Warning = spaceless (row_of Warning).name refl
+level_is_word Error = spaceless (row_of Error).name refl
+level_is_word Critical = spaceless (row_of Critical).name refl
+level_is_word Off = spaceless (row_of Off).name refl
 
--- a policy stands behind the actor
-pub post_more : (rest : Option (List ℕ)) (r a : List ℕ) (t : Option (List ℕ)) (g : ℕ × Policy × List ℕ) → rest ≡ Some r → IsCut r a t
-    → SpellsForm ActorPolicyAndText rest g → SpellsActor a g.0 × ((s : List ℕ) × (t ≡ Some s))
-post_more rest r a t g e cut h =
-    let once = argument_is r a h.0 t (Some (policy_name g.1 ++ tail_of h.1)) cut (sym e ∙ h.2) h.3.0 in
-    (subst (λ x. SpellsActor x g.0) once.0 h.3, (policy_name g.1 ++ tail_of h.1, sym once.1))
+other_is_word : (w : List ℕ) (level : Level) → Names w level → IsWord w
+unfolding no_space
+other_is_word w level (inl e) = subst IsWord (sym e) (level_is_word level)
+other_is_word w Warning (inr e) = subst IsWord (sym e) (spaceless (codes "warn") refl)
+other_is_word w Error (inr e) = subst IsWord (sym e) (spaceless (codes "err") refl)
+other_is_word w Trace (inr e) = absurd e
+other_is_word w Debug (inr e) = absurd e
+other_is_word w Info (inr e) = absurd e
+other_is_word w Critical (inr e) = absurd e
+other_is_word w Off (inr e) = absurd e
+
+-- the level of a name
+level_of : List ℕ → Option Level
+level_of w =
+    cond (bytes_eq w (codes "trace")) (Some Trace)
+    (cond (bytes_eq w (codes "debug")) (Some Debug)
+    (cond (bytes_eq w (codes "info")) (Some Info)
+    (cond (bytes_eq w (codes "warning")) (Some Warning)
+    (cond (bytes_eq w (codes "warn")) (Some Warning)
+    (cond (bytes_eq w (codes "error")) (Some Error)
+    (cond (bytes_eq w (codes "err")) (Some Error)
+    (cond (bytes_eq w (codes "critical")) (Some Critical) (Some Off))))))))
+
+level_of_name : (level : Level) → level_of (row_of level).name ≡ Some level
+unfolding level_of
+level_of_name Trace = refl
+level_of_name Debug = refl
+level_of_name Info = refl
+level_of_name Warning = refl
+level_of_name Error = refl
+level_of_name Critical = refl
+level_of_name Off = refl
+
+level_of_named : (w : List ℕ) (level : Level) → Names w level → level_of w ≡ Some level
+unfolding level_of
+level_of_named w level (inl e) = ap level_of e ∙ level_of_name level
+level_of_named w Warning (inr e) = ap level_of e
+level_of_named w Error (inr e) = ap level_of e
+level_of_named w Trace (inr e) = absurd e
+level_of_named w Debug (inr e) = absurd e
+level_of_named w Info (inr e) = absurd e
+level_of_named w Critical (inr e) = absurd e
+level_of_named w Off (inr e) = absurd e
+
+-- a word has no space
+is_word : (word : Word) (w : List ℕ) (v : Value word) → SpellsWord word w v → IsWord w
+is_word Number w n h = digits_are_word w h.0.1
+is_word AnActor w n h = digits_are_word w h.0.1
+is_word Time w t (inl h) = digits_are_word w h.1.0.1
+is_word Time w t (inr h) = subst IsWord (sym h.2) ((λ e. absurd (omega (arith, e))), digits_are_word h.0 h.3.0.1)
+is_word APolicy w p h = subst IsWord (sym h) (policy_is_word p)
+is_word ALevel w level h = other_is_word w level h
+is_word AName w name h = h.1
+
+-- and says one thing
+word_once : (word : Word) (w : List ℕ) (u v : Value word) → SpellsWord word w u → SpellsWord word w v → u ≡ v
+word_once Number w u v h g = sym h.1 ∙ g.1
+word_once AnActor w u v h g = sym h.1 ∙ g.1
+word_once Time w u v h g = same_time w u v h g
+word_once APolicy w u v h g = same_policy u v (sym h ∙ g)
+word_once ALevel w u v h g = same_Some u v (sym (level_of_named w u h) ∙ level_of_named w v g)
+word_once AName w u v h g = sym h.0 ∙ g.0
+
+-- what is spelled of arguments that begin with a word
+pub parts : {rest : Option (List ℕ)} {r : List ℕ} (word : Word) (form : Form) (w : List ℕ) (t : Option (List ℕ)) (g : Given (Then word form))
+    → rest ≡ Some r → IsCut r w t → SpellsForm (Then word form) rest g → SpellsWord word w g.0 × SpellsForm form t g.1
+parts {rest} {r} word form w t g e cut h =
+    let whole : r ≡ h.0 ++ tail_of h.1 = same_Some _ _ (sym e ∙ h.2) in
+    let once = cut_once h.0 w h.1 t (is_word word h.0 g.0 h.3) cut.1 (sym whole ∙ cut.0) in
+    (subst (λ x. SpellsWord word x g.0) once.0 h.3, subst (λ x. SpellsForm form x g.1) once.1 h.4)
 
 pair_is : {X Y : Type 0} (g h : X × Y) → g.0 ≡ h.0 → g.1 ≡ h.1 → g ≡ h
 pair_is g h p q = λ i. (p i, q i)
 
-triple_is : {X Y Z : Type 0} (g h : X × Y × Z) → g.0 ≡ h.0 → g.1 ≡ h.1 → g.2 ≡ h.2 → g ≡ h
-triple_is g h p q r = λ i. (p i, q i, r i)
-
 -- a text spells one thing of a form
 pub given_once : (form : Form) (rest : Option (List ℕ)) (g h : Given form) → SpellsForm form rest g → SpellsForm form rest h → g ≡ h
-given_once TwoNumbers rest g h p q =
-    let cut : IsCut (q.0 ++ 32 ∷ q.1) q.0 (Some q.1) = (refl, digits_are_word q.0 q.3.0.1) in
-    let parts = two_parts rest (q.0 ++ 32 ∷ q.1) q.0 (Some q.1) g q.2 cut p in
-    let second : SpellsWord64 q.1 g.1 = subst (λ w. SpellsWord64 w g.1) (sym (same_Some _ _ parts.1)) parts.3 in
-    pair_is g h (sym parts.2.1 ∙ q.3.1) (sym second.1 ∙ q.4.1)
-given_once ActorAlone None g h p q = absurd p
-given_once ActorAlone (Some digits) g h p q = sym p.1 ∙ q.1
-given_once ActorAndText rest g h p q =
-    let cut : IsCut (q.0 ++ tail_of q.1) q.0 q.1 = (refl, digits_are_word q.0 q.3.0.1) in
-    let parts = text_parts rest (q.0 ++ tail_of q.1) q.0 q.1 g q.2 cut p in
-    pair_is g h (sym parts.0.1 ∙ q.3.1) (parts.1 ∙ sym q.4)
-given_once ActorPolicyAndText rest g h p q =
-    let s = policy_name h.1 ++ tail_of q.1 in
-    let cut : IsCut (q.0 ++ 32 ∷ s) q.0 (Some s) = (refl, digits_are_word q.0 q.3.0.1) in
-    let cut_more : IsCut s (policy_name h.1) q.1 = (refl, policy_is_word h.1) in
-    let parts = post_parts rest (q.0 ++ 32 ∷ s) q.0 s (policy_name h.1) (Some s) q.1 g q.2 cut refl cut_more p in
-    triple_is g h (sym parts.0.1 ∙ q.3.1) (same_policy g.1 h.1 (sym parts.1)) (parts.2 ∙ sym q.4)
-given_once ActorAndCount rest g h p q =
-    let cut : IsCut (q.0 ++ tail_of q.1) q.0 q.1 = (refl, digits_are_word q.0 q.3.0.1) in
-    let parts = count_parts rest (q.0 ++ tail_of q.1) q.0 q.1 g q.2 cut p in
-    pair_is g h (sym parts.0.1 ∙ q.3.1) (same_count q.1 g.1 h.1 parts.1 q.4)
 given_once NoArgument rest g h p q = refl
+given_once AText rest g h p q = p ∙ sym q
+given_once ACount rest g h p q = same_count rest g h p q
+given_once (Only word) None g h p q = absurd p
+given_once (Only word) (Some w) g h p q = word_once word w g h p q
+given_once (Then word form) rest g h p q =
+    let cut : IsCut (q.0 ++ tail_of q.1) q.0 q.1 = (refl, is_word word q.0 h.0 q.3) in
+    let both = parts word form q.0 q.1 g q.2 cut p in
+    pair_is g h (word_once word q.0 g.0 h.0 both.0 q.3) (given_once form q.1 g.1 h.1 both.1 q.4)
 
 -- what is given for a form is what is spelled
-pub is_given : (form : Form) (rest : Option (List ℕ)) (g : Given form) → SpellsForm form rest g → (h : Given form)
+is_given : (form : Form) (rest : Option (List ℕ)) (g : Given form) → SpellsForm form rest g → (h : Given form)
     → (Some g ≡ Some h) ↔ SpellsForm form rest h
 is_given form rest g p = one_of (SpellsForm form rest) g p (λ h q. given_once form rest g h p q)
 
-pub is_two_numbers : {rest t : Option (List ℕ)} {r b : List ℕ} (a : List ℕ) (n m : ℕ) → rest ≡ Some r → IsCut r a t → t ≡ Some b
-    → SpellsWord64 a n → SpellsWord64 b m
-    → (h : ℕ × ℕ) → (Some (n, m) ≡ Some h) ↔ SpellsForm TwoNumbers rest h
-is_two_numbers {rest} {t} {r} {b} a n m e cut u p q = is_given TwoNumbers rest (n, m) (
-  a,
-  b,
-  e
-      ∙ ap Some (cut.0 ∙ ap (λ x. a ++ tail_of x) u),
-  p,
-  q,
-)
+pub spelled : {rest : Option (List ℕ)} {r : List ℕ} (word : Word) (form : Form) (w : List ℕ) (t : Option (List ℕ)) (v : Value word)
+    (more : Given form) → rest ≡ Some r → IsCut r w t → SpellsWord word w v → SpellsForm form t more → SpellsForm (Then word form) rest (v, more)
+spelled {rest} {r} word form w t v more e cut p q = (w, t, e ∙ ap Some cut.0, p, q)
 
-pub is_text : {rest : Option (List ℕ)} {r text : List ℕ} (a : List ℕ) (t : Option (List ℕ)) (n : ℕ) → rest ≡ Some r → IsCut r a t
-    → text ≡ unwrap_or t [] → SpellsActor a n
-    → (h : ℕ × List ℕ) → (Some (n, text) ≡ Some h) ↔ SpellsForm ActorAndText rest h
-is_text {rest} {r} {text} a t n e cut u p = is_given ActorAndText rest (n, text) (a, t, e ∙ ap Some cut.0, p, u)
+pub is_then : {rest : Option (List ℕ)} {r : List ℕ} (word : Word) (form : Form) (w : List ℕ) (t : Option (List ℕ)) (v : Value word)
+    (more : Given form) → rest ≡ Some r → IsCut r w t → SpellsWord word w v → SpellsForm form t more → (h : Given (Then word form))
+    → (Some (v, more) ≡ Some h) ↔ SpellsForm (Then word form) rest h
+is_then {rest} {r} word form w t v more e cut p q =
+    is_given (Then word form) rest (v, more) (spelled word form w t v more e cut p q)
 
-pub is_post : {rest t : Option (List ℕ)} {r s w text : List ℕ} (a : List ℕ) (u : Option (List ℕ)) (n : ℕ) (k : Policy)
-    → rest ≡ Some r → IsCut r a t → t ≡ Some s → IsCut s w u → text ≡ unwrap_or u [] → SpellsActor a n → w ≡ policy_name k
-    → (h : ℕ × Policy × List ℕ) → (Some (n, k, text) ≡ Some h) ↔ SpellsForm ActorPolicyAndText rest h
-is_post {rest} {t} {r} {s} {w} {text} a u n k e cut more cut_more is p name =
-    let second : s ≡ policy_name k ++ tail_of u = cut_more.0 ∙ ap (λ v. v ++ tail_of u) name in
-    let whole : r ≡ a ++ 32 ∷ (policy_name k ++ tail_of u) =
-    cut.0 ∙ (ap (λ x. a ++ tail_of x) more ∙ ap (λ x. a ++ 32 ∷ x) second) in
-    is_given ActorPolicyAndText rest (n, k, text) (a, u, e ∙ ap Some whole, p, is)
-
-pub is_count : {rest : Option (List ℕ)} {r : List ℕ} (a : List ℕ) (t : Option (List ℕ)) (n m : ℕ) → rest ≡ Some r → IsCut r a t
-    → SpellsActor a n → SpellsCount t m
-    → (h : ℕ × ℕ) → (Some (n, m) ≡ Some h) ↔ SpellsForm ActorAndCount rest h
-is_count {rest} {r} a t n m e cut p q = is_given ActorAndCount rest (n, m) (a, t, e ∙ ap Some cut.0, p, q)
+-- what is made of what is given
+pub is_made : {X : Type 0} (form : Form) (make : Given form → X) (rest : Option (List ℕ)) (g : Given form) → SpellsForm form rest g
+    → (x : X) → (Some (make g) ≡ Some x) ↔ ((h : Given form) × SpellsForm form rest h × (make h ≡ x))
+is_made form make rest g p =
+    one_of (λ x. (h : Given form) × SpellsForm form rest h × (make h ≡ x)) (make g) (g, p, refl)
+    (λ y s. ap make (given_once form rest g s.0 p s.1) ∙ s.2)
 
 -- whether bytes are digits
 digits_or_not : (ds : List ℕ) → AllDigits 10 ds ⊎ (AllDigits 10 ds → ⊥)
@@ -199,24 +229,6 @@ count_or_none : (t : Option (List ℕ)) → Decided (SpellsCount t)
 count_or_none None = inl (1, refl)
 count_or_none (Some digits) = number_or_none 1 STEPS_MAX digits
 
--- whether a cut text spells arguments of a form
-two_or_none : (r a : List ℕ) (t : Option (List ℕ)) → IsCut r a t → Decided (SpellsForm TwoNumbers (Some r))
-two_or_none r a None cut = inr (λ g h. none-some _ (two_parts (Some r) r a None g refl cut h).1)
-two_or_none r a (Some b) cut = elim (number_or_none 0 (2 ^ 64 - 1) a) [
-  | inl n ↦ elim (number_or_none 0 (2 ^ 64 - 1) b) [
-    | inl m ↦ inl ((n.0, m.0), (a, b, ap Some cut.0, n.1, m.1))
-    | inr other ↦ inr (λ g h. let p =
-        two_parts (Some r) r a (Some b) g refl cut h in other g.1 (subst (λ w. SpellsWord64 w g.1) (sym (same_Some _ _ p.1)) p.3))
-  ]
-  | inr other ↦ inr (λ g h. other g.0 (two_parts (Some r) r a (Some b) g refl cut h).2)
-]
-
-text_or_none : (r a : List ℕ) (t : Option (List ℕ)) → IsCut r a t → Decided (SpellsForm ActorAndText (Some r))
-text_or_none r a t cut = elim (number_or_none 0 (ACTORS - 1) a) [
-  | inl n ↦ inl ((n.0, unwrap_or t []), (a, t, ap Some cut.0, n.1, refl))
-  | inr other ↦ inr (λ g h. other g.0 (text_parts (Some r) r a t g refl cut h).0)
-]
-
 -- whether a word is the name of a policy
 name_or_not : (w v : List ℕ) (b : Bool) → bytes_eq w v ≡ b → (w ≡ v) ⊎ (w ≡ v → ⊥)
 name_or_not w v true e = inl ((bytes_eq-Decides w v).0 e)
@@ -237,41 +249,137 @@ policy_or_none w = elim (name_or_not w (policy_name Block) _ refl) [
   ]
 ]
 
-is_spelled : (r a s w : List ℕ) (u : Option (List ℕ)) (n : ℕ) (p : Policy) → IsCut r a (Some s) → IsCut s w u → SpellsActor a n
-    → w ≡ policy_name p → SpellsForm ActorPolicyAndText (Some r) (n, p, unwrap_or u [])
-is_spelled r a s w u n p cut more is name =
-    let second : s ≡ policy_name p ++ tail_of u = more.0 ∙ ap (λ v. v ++ tail_of u) name in
-    (a, u, ap Some (cut.0 ∙ ap (λ x. a ++ 32 ∷ x) second), is, refl)
+-- a word is this name, or another
+named_or : (w v : List ℕ) (level : Level) → (w ≡ v → Names w level) → ((w ≡ v → ⊥) → Decided (Names w)) → Decided (Names w)
+named_or w v level is other = elim (name_or_not w v (bytes_eq w v) refl) [ inl e ↦ inl (level, is e) | inr n ↦ other n ]
 
-post_or_none : (r a : List ℕ) (t : Option (List ℕ)) → IsCut r a t → Decided (SpellsForm ActorPolicyAndText (Some r))
-post_or_none r a None cut = inr (λ g h. none-some _ (post_more (Some r) r a None g refl cut h).1.1)
-post_or_none r a (Some s) cut = let c = cut_of s in elim (number_or_none 0 (ACTORS - 1) a) [
-  | inl n ↦ elim (policy_or_none c.0) [
-    | inl p ↦ inl ((n.0, p.0, unwrap_or c.1 []), is_spelled r a s c.0 c.1 n.0 p.0 cut c.2 n.1 p.1)
-    | inr other ↦ inr (λ g h. other g.1 (post_parts (Some r) r a s c.0 (Some s) c.1 g refl cut refl c.2 h).1)
+no_level : (w : List ℕ) → ((level : Level) → w ≡ (row_of level).name → ⊥) → (w ≡ codes "warn" → ⊥) → (w ≡ codes "err" → ⊥)
+    → (level : Level) → Names w level → ⊥
+no_level w other n e level (inl h) = other level h
+no_level w other n e Warning (inr h) = n h
+no_level w other n e Error (inr h) = e h
+no_level w other n e Trace (inr h) = h
+no_level w other n e Debug (inr h) = h
+no_level w other n e Info (inr h) = h
+no_level w other n e Critical (inr h) = h
+no_level w other n e Off (inr h) = h
+
+no_row : {w : List ℕ} → (w ≡ codes "trace" → ⊥) → (w ≡ codes "debug" → ⊥) → (w ≡ codes "info" → ⊥) → (w ≡ codes "warning" → ⊥)
+    → (w ≡ codes "error" → ⊥) → (w ≡ codes "critical" → ⊥) → (w ≡ codes "off" → ⊥) → (level : Level) → w ≡ (row_of level).name → ⊥
+no_row t d i w e c o Trace h = t h
+no_row t d i w e c o Debug h = d h
+no_row t d i w e c o Info h = i h
+no_row t d i w e c o Warning h = w h
+no_row t d i w e c o Error h = e h
+no_row t d i w e c o Critical h = c h
+no_row t d i w e c o Off h = o h
+
+level_or_none : (w : List ℕ) → Decided (Names w)
+level_or_none w =
+    named_or w (codes "trace") Trace (λ e. inl e) (λ t.
+    named_or w (codes "debug") Debug (λ e. inl e) (λ d.
+    named_or w (codes "info") Info (λ e. inl e) (λ i.
+    named_or w (codes "warning") Warning (λ e. inl e) (λ g.
+    named_or w (codes "warn") Warning (λ e. inr e) (λ n.
+    named_or w (codes "error") Error (λ e. inl e) (λ e.
+    named_or w (codes "err") Error (λ e. inr e) (λ r.
+    named_or w (codes "critical") Critical (λ e. inl e) (λ c.
+    named_or w (codes "off") Off (λ e. inl e) (λ o. inr (no_level w (no_row t d i g e c o) n r))))))))))
+
+-- whether a word is a time
+no_time : (w : List ℕ) → ((n : ℕ) → SpellsNumber 0 (2 ^ 63 - 1) w n → ⊥)
+    → ((digits : List ℕ) (n : ℕ) → w ≡ 45 ∷ digits → SpellsNumber 0 (2 ^ 63) digits n → ⊥) → (t : ℤ) → SpellsTime w t → ⊥
+no_time w one other t (inl h) = one h.0 h.1
+no_time w one other t (inr h) = other h.0 h.1 h.2 h.3
+
+-- the digits behind a minus
+pub behind_minus : (w d e : List ℕ) (n : ℕ) → w ≡ 45 ∷ d → w ≡ 45 ∷ e → SpellsNumber 0 (2 ^ 63) e n → SpellsNumber 0 (2 ^ 63) d n
+behind_minus w d e n one other h =
+    let same : e ≡ d = let both : 45 ∷ e ≡ 45 ∷ d = sym other ∙ one in cc in subst (λ x. SpellsNumber 0 (2 ^ 63) x n) same h
+
+minus_or_none : (w : List ℕ) → Decided (λ (d : List ℕ). w ≡ 45 ∷ d)
+minus_or_none [] = inr (λ d e. absurd cc)
+minus_or_none (b ∷ w) =
+    dite (ℕ_discrete b 45) (λ e. inl (w, ap (λ x. x ∷ w) e)) (λ n. inr (λ d e. n (let h : b ≡ 45 = cc in h)))
+
+negative_or_none : (w : List ℕ) → ((n : ℕ) → SpellsNumber 0 (2 ^ 63 - 1) w n → ⊥) → Decided (SpellsTime w)
+negative_or_none w positive = elim (minus_or_none w) [
+  | inl d ↦ elim (number_or_none 0 (2 ^ 63) d.0) [
+    | inl n ↦ inl (neg_ℤ (pos n.0), inr (d.0, n.0, d.1, n.1, refl))
+    | inr other ↦ inr (no_time w positive (λ digits n e h. other n (behind_minus w d.0 digits n d.1 e h)))
   ]
-  | inr other ↦ inr (λ g h. other g.0 (post_more (Some r) r a (Some s) g refl cut h).0)
+  | inr none ↦ inr (no_time w positive (λ digits n e h. none digits e))
 ]
 
-steps_or_none : (r a : List ℕ) (t : Option (List ℕ)) → IsCut r a t → Decided (SpellsForm ActorAndCount (Some r))
-steps_or_none r a t cut = elim (number_or_none 0 (ACTORS - 1) a) [
-  | inl n ↦ elim (count_or_none t) [
-    | inl k ↦ inl ((n.0, k.0), (a, t, ap Some cut.0, n.1, k.1))
-    | inr other ↦ inr (λ g h. other g.1 (count_parts (Some r) r a t g refl cut h).1)
-  ]
-  | inr other ↦ inr (λ g h. other g.0 (count_parts (Some r) r a t g refl cut h).0)
+time_or_none : (w : List ℕ) → Decided (SpellsTime w)
+time_or_none w = elim (number_or_none 0 (2 ^ 63 - 1) w) [
+  | inl n ↦ inl (pos n.0, inl (n.0, n.1, refl))
+  | inr other ↦ negative_or_none w other
 ]
 
+-- whether a text without a space spells a word
+word_or_none : (word : Word) (w : List ℕ) → IsWord w → Decided (SpellsWord word w)
+word_or_none Number w h = number_or_none 0 (2 ^ 64 - 1) w
+word_or_none AnActor w h = number_or_none 0 (ACTORS - 1) w
+word_or_none Time w h = time_or_none w
+word_or_none APolicy w h = policy_or_none w
+word_or_none ALevel w h = level_or_none w
+word_or_none AName w h = inl (w, (refl, h))
+
+-- a text has a space, or none
+only_or_none : (word : Word) (r w : List ℕ) (t : Option (List ℕ)) → IsCut r w t → Decided (SpellsWord word r)
+only_or_none word r w None cut =
+    let whole : r ≡ w = cut.0 ∙ append-nil w in
+    subst (λ x. Decided (SpellsWord word x)) (sym whole) (word_or_none word w cut.1)
+only_or_none word r w (Some more) cut = inr (λ v h.
+    none-some more (cut_once r w None (Some more) (is_word word r v h) cut.1 (append-nil r ∙ cut.0)).1)
+
+then_or_none : (word : Word) (form : Form) (r w : List ℕ) (t : Option (List ℕ)) → IsCut r w t → Decided (SpellsWord word w)
+    → Decided (SpellsForm form t) → Decided (SpellsForm (Then word form) (Some r))
+then_or_none word form r w t cut (inl v) (inl more) = inl ((v.0, more.0), (w, t, ap Some cut.0, v.1, more.1))
+then_or_none word form r w t cut (inr none) more = inr (λ g h. none g.0 (parts word form w t g refl cut h).0)
+then_or_none word form r w t cut (inl v) (inr none) = inr (λ g h. none g.1 (parts word form w t g refl cut h).1)
+
+-- whether a text spells arguments of a form
 pub given_or_none : (form : Form) (rest : Option (List ℕ)) → Decided (SpellsForm form rest)
-given_or_none TwoNumbers None = inr (λ g h. none-some _ h.2)
-given_or_none TwoNumbers (Some r) = let c = cut_of r in two_or_none r c.0 c.1 c.2
-given_or_none ActorAlone None = inr (λ g h. h)
-given_or_none ActorAlone (Some digits) = number_or_none 0 (ACTORS - 1) digits
-given_or_none ActorAndText None = inr (λ g h. none-some _ h.2)
-given_or_none ActorAndText (Some r) = let c = cut_of r in text_or_none r c.0 c.1 c.2
-given_or_none ActorPolicyAndText None = inr (λ g h. none-some _ h.2)
-given_or_none ActorPolicyAndText (Some r) = let c = cut_of r in post_or_none r c.0 c.1 c.2
-given_or_none ActorAndCount None = inr (λ g h. none-some _ h.2)
-given_or_none ActorAndCount (Some r) = let c = cut_of r in steps_or_none r c.0 c.1 c.2
 given_or_none NoArgument None = inl (tt, refl)
 given_or_none NoArgument (Some r) = inr (λ g h. none-some _ (sym h))
+given_or_none AText rest = inl (unwrap_or rest [], refl)
+given_or_none ACount rest = count_or_none rest
+given_or_none (Only word) None = inr (λ g h. h)
+given_or_none (Only word) (Some r) = let c = cut_of r in only_or_none word r c.0 c.1 c.2
+given_or_none (Then word form) None = inr (λ g h. none-some _ h.2)
+given_or_none (Then word form) (Some r) =
+    let c = cut_of r in then_or_none word form r c.0 c.1 c.2 (word_or_none word c.0 c.2.1) (given_or_none form c.1)
+
+-- a number, with a minus before it or without, is a time
+pub is_natural : {w : List ℕ} (n : ℕ) → SpellsNumber 0 (2 ^ 63 - 1) w n → (t : ℤ) → (Some (pos n) ≡ Some t) ↔ SpellsTime w t
+is_natural {w} n p = one_of (SpellsTime w) (pos n) (inl (n, p, refl)) (λ u h. same_time w (pos n) u (inl (n, p, refl)) h)
+
+pub is_negative : {w d : List ℕ} (n : ℕ) → w ≡ 45 ∷ d → SpellsNumber 0 (2 ^ 63) d n → (t : ℤ)
+    → (Some (neg_ℤ (pos n)) ≡ Some t) ↔ SpellsTime w t
+is_negative {w} {d} n e p =
+    let spelled : SpellsTime w (neg_ℤ (pos n)) = inr (d, n, e, p, refl) in
+    one_of (SpellsTime w) (neg_ℤ (pos n)) spelled (λ u h. same_time w (neg_ℤ (pos n)) u spelled h)
+
+pub is_no_time : {r : Option ℤ} (w : List ℕ) → r ≡ None → ((n : ℕ) → SpellsNumber 0 (2 ^ 63 - 1) w n → ⊥)
+    → ((d : List ℕ) (n : ℕ) → w ≡ 45 ∷ d → SpellsNumber 0 (2 ^ 63) d n → ⊥) → (t : ℤ) → (r ≡ Some t) ↔ SpellsTime w t
+is_no_time {r} w e one other = none_of (SpellsTime w) r e (no_time w one other)
+
+-- a minus within is in no number
+pub within : (before after : List ℕ) → AllDigits 10 (before ++ 45 ∷ after) → ⊥
+within [] after h = no_minus (45 ∷ after) after h refl
+within (b ∷ before) after h = within before after h.1
+
+pub is_negative_not : {r : Option ℤ} (w d : List ℕ) → w ≡ 45 ∷ d → r ≡ None → ((n : ℕ) → SpellsNumber 0 (2 ^ 63) d n → ⊥)
+    → (t : ℤ) → (r ≡ Some t) ↔ SpellsTime w t
+is_negative_not w d e none other =
+    is_no_time w none (λ n p. no_minus w d p.0.1 e) (λ x n is p. other n (behind_minus w d x n e is p))
+
+-- a text with a space is no name
+pub is_no_name : {rest : Option (List ℕ)} {r : List ℕ} (w : List ℕ) (t : Option (List ℕ)) (s : List ℕ) → rest ≡ Some r → IsCut r w t
+    → t ≡ Some s → (name : List ℕ) → (None ≡ Some name) ↔ SpellsForm (Only AName) rest name
+is_no_name {rest} {r} w t s e cut more =
+    none_of (SpellsForm (Only AName) rest) None refl (λ name h.
+    let word : SpellsWord AName r name = subst (λ x. SpellsForm (Only AName) x name) e h in
+    none-some s ((cut_once r w None t word.1 cut.1 (append-nil r ∙ cut.0)).1 ∙ more))

@@ -9,7 +9,7 @@ use Rattle.alog_replay.specs.Plain.{plain, may_do, is_free_in, after_act, StepsI
 use Rattle.alog_replay.specs.declared.duty.Duty.{Duty}
 use Rattle.alog_replay.specs.declared.duty.Duty.TheVariants.{Free, Works, Owes}
 use Rattle.alog_replay.specs.declared.command.Act.{Act}
-use Rattle.alog_replay.specs.declared.command.Act.TheVariants.{Ring, Push, Pop, Work, Post, Cells, Counts}
+use Rattle.alog_replay.specs.declared.command.Act.TheVariants.{Ring, Push, Pop, Work, Post, Log, Flush, Dump, Level, Cells, Counts}
 use Rattle.alog_replay.specs.declared.command.Command.{Command}
 use Rattle.alog_replay.specs.declared.command.Command.TheVariants.{Acts, Step, Run}
 use Rattle.alog_replay.specs.declared.entry.Entry.{Entry}
@@ -76,6 +76,10 @@ act_holds None (Push a text) h = tt
 act_holds None (Pop a) h = tt
 act_holds None (Work a) h = tt
 act_holds None (Post a policy text) h = tt
+act_holds None (Log a time name level text) h = tt
+act_holds None (Flush a name) h = tt
+act_holds None (Dump a time name) h = tt
+act_holds None (Level name level) h = tt
 act_holds None Cells h = tt
 act_holds None Counts h = tt
 act_holds (Some s) (Ring places first) h = h
@@ -83,6 +87,10 @@ act_holds (Some s) (Push a text) h = h
 act_holds (Some s) (Pop a) h = h
 act_holds (Some s) (Work a) h = h
 act_holds (Some s) (Post a policy text) h = h
+act_holds (Some s) (Log a time name level text) h = h
+act_holds (Some s) (Flush a name) h = h
+act_holds (Some s) (Dump a time name) h = h
+act_holds (Some s) (Level name level) h = h
 act_holds (Some s) Cells h = h
 act_holds (Some s) Counts h = h
 

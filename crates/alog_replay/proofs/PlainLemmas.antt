@@ -5,7 +5,7 @@ use Rattle.std.specs.Prelude.{OnOk}
 use Rattle.std.proofs.lemmas.List.{append-nil}
 use Rattle.alog_replay.specs.Memory.{MemoryFile, Turns}
 use Rattle.alog_replay.specs.Scene.{IsCertain, Prints}
-use Rattle.alog_replay.specs.Session.{Stage, StepsBy, Steps, duty_of, turn_text, with_duty, with_memory}
+use Rattle.alog_replay.specs.Session.{Stage, StepsBy, Steps, duty_of, memory_turn_text, with_duty, with_memory}
 use Rattle.alog_replay.specs.Plain.{plain, StepsIn}
 use Rattle.alog_replay.specs.declared.duty.Duty.{Duty}
 use Rattle.alog_replay.specs.declared.duty.Duty.TheVariants.{Free, Works, Owes}
@@ -22,7 +22,7 @@ one_step s a Free x y t u h g = (h.0 ∙ sym g.0, h.1 ∙ sym g.1)
 one_step s a Works x y t u h g = (h.0 ∙ sym g.0, h.1 ∙ sym g.1)
 one_step s a (Owes n m) x y t u h g =
     let same = one_turn s.memory m.text h.0 g.0 h.1 g.1 h.2 g.2 in
-    (h.3 ∙ (ap (turn_text a n) same.0 ∙ sym g.3), h.4 ∙ (ap (λ f. with_duty (with_memory s f) a Free) same.1 ∙ sym g.4))
+    (h.3 ∙ (ap (memory_turn_text a n) same.0 ∙ sym g.3), h.4 ∙ (ap (λ f. with_duty (with_memory s f) a Free) same.1 ∙ sym g.4))
 
 one_step_in : (s : Option Stage) (a : ℕ) (x y : List ℕ) (t u : Option Stage) → StepsIn false s a x t → StepsIn false s a y u
     → (x ≡ y) × (t ≡ u)

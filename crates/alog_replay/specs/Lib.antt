@@ -9,6 +9,7 @@ pub mod Scene
 pub mod Script
 pub mod Memory
 pub mod MemorySink
+pub mod Texts
 pub mod Session
 pub mod Plain
 pub mod Error

@@ -7,8 +7,9 @@ use Rattle.alog_policy.specs.Desk.{desk_told, desk_stepped}
 use Rattle.alog_replay.specs.Scene.{Scene, GoesOn}
 use Rattle.alog_replay.specs.Script.{Told, ScriptTells}
 use Rattle.alog_replay.specs.Memory.{MemoryFile, Turns, with_bytes, line}
-use Rattle.alog_replay.specs.Session.{Stage, opened, is_free, may_push, pushing, popping, posting, Steps, StepsBy, cells_text, counts_text}
-use Rattle.alog_replay.specs.Session.{duty_of, stepped_text, turn_text, file_text, with_duty, with_desk, with_memory, work_after}
+use Rattle.alog_replay.specs.Session.{Stage, opened, is_free, may_push, pushing, popping, posting, Steps, StepsBy, cells_text}
+use Rattle.alog_replay.specs.Session.{duty_of, shown_message, memory_turn_text, memory_file_text, with_duty, with_desk, with_memory, work_after}
+use Rattle.alog_replay.specs.Texts.{stepped_text, counts_text}
 use Rattle.alog_replay.specs.declared.command.Act.{Act}
 use Rattle.alog_replay.specs.declared.command.Act.TheVariants.{Ring, Push, Pop, Work, Post, Cells, Counts}
 use Rattle.alog_replay.specs.declared.duty.Duty.{Duty}
@@ -48,7 +49,7 @@ StepsIn may_fail (Some s) actor text next = (after : Stage) × Steps may_fail s 
 
 abbrev pub files_of : Option Stage → List ℕ
 files_of None = []
-files_of (Some s) = file_text s.memory.bytes
+files_of (Some s) = memory_file_text s.memory.bytes
 
 -- the scene, over a store that may fail or never does
 abbrev pub plain : Bool → Scene (Option Stage)
@@ -76,12 +77,12 @@ some_turn true true bytes text = (false, record { bytes = bytes; broken = true }
 
 some_step : (may_fail : Bool) (s : Stage) (a : ℕ) (duty : Duty) → (text : List ℕ) × (next : Stage) × StepsBy may_fail s a duty text next
 some_step may_fail s a Free =
-    (stepped_text a (desk_told s.desk a), with_duty (with_desk s (desk_stepped s.desk a)) a Free, (refl, refl))
+    (stepped_text shown_message a (desk_told s.desk a), with_duty (with_desk s (desk_stepped s.desk a)) a Free, (refl, refl))
 some_step may_fail s a Works =
-    (stepped_text a (desk_told s.desk a), with_duty (with_desk s (desk_stepped s.desk a)) a (work_after (desk_told s.desk a).said), (refl, refl))
+    (stepped_text shown_message a (desk_told s.desk a), with_duty (with_desk s (desk_stepped s.desk a)) a (work_after (desk_told s.desk a).said), (refl, refl))
 some_step may_fail s a (Owes t m) =
     let turn = some_turn may_fail s.memory.broken s.memory.bytes m.text in
-    (turn_text a t turn.0, with_duty (with_memory s turn.1) a Free, (turn.0, turn.1, turn.2, refl, refl))
+    (memory_turn_text a t turn.0, with_duty (with_memory s turn.1) a Free, (turn.0, turn.1, turn.2, refl, refl))
 
 some_step_in : (may_fail : Bool) (s : Option Stage) (a : ℕ) → (text : List ℕ) × (next : Option Stage) × StepsIn may_fail s a text next
 some_step_in may_fail None a = ([], None, (refl, refl))

@@ -1,28 +1,18 @@
 -- A queue under a script: the stepped queue with posts, what its actors owe, and the memory file.
 use Rattle.std.specs.Prelude.{◌≡◌, ℕ, pos, ◌&&◌, nat_le, Bool, true, false, Option, Some, None, List, [], ◌∷◌, ◌++◌}
 use Rattle.std.specs.Prelude.{length, map, replicate, slice_index_or, slice_set, codes}
-use Rattle.std.specs.Fmt.{decimal}
-use Rattle.std.specs.List.{flat_map}
 use Rattle.alog_core.specs.World.{is_idle, round_of, shown}
 use Rattle.alog_core.specs.declared.TheConstants.{ACTORS}
-use Rattle.alog_core.specs.declared.mark.Mark.{Mark}
-use Rattle.alog_core.specs.declared.mark.Mark.TheVariants as mark
 use Rattle.alog_core.specs.declared.round.Round.TheVariants as round
 use Rattle.alog_core.specs.declared.said.Said.{Said}
 use Rattle.alog_core.specs.declared.said.Said.TheVariants as said
-use Rattle.alog_core.specs.declared.said.CellView.{CellView}
 use Rattle.alog_policy.specs.Desk.{DeskView, fresh_desk, call_began, post_began, desk_told, desk_stepped}
-use Rattle.alog_policy.specs.declared.counts.Counts.{Counts}
 use Rattle.alog_policy.specs.declared.policy.Policy.{Policy}
-use Rattle.alog_policy.specs.declared.policy.Why.{Why}
-use Rattle.alog_policy.specs.declared.policy.Why.TheVariants as why
-use Rattle.alog_policy.specs.declared.policy.Outcome.{Outcome}
-use Rattle.alog_policy.specs.declared.policy.Outcome.TheVariants.{Posted, Discarded}
-use Rattle.alog_policy.specs.declared.post.Stepped.{Stepped}
 use Rattle.alog_msg.specs.declared.limits.TheConstants.{DEFAULT_TEXT_LIMIT}
 use Rattle.alog_msg.specs.declared.level.Level.TheVariants.{Info}
 use Rattle.alog_msg.specs.declared.message.Message.{Message}
-use Rattle.alog_replay.specs.Memory.{MemoryFile, no_file, Turns}
+use Rattle.alog_replay.specs.Memory.{MemoryFile, memory_name, no_file, Turns}
+use Rattle.alog_replay.specs.Texts.{stepped_text, turn_text, cells_line, file_text}
 use Rattle.alog_replay.specs.declared.duty.Duty.{Duty}
 use Rattle.alog_replay.specs.declared.duty.Duty.TheVariants.{Free, Works, Owes}
 
@@ -53,50 +43,9 @@ is_free s a = is_idle (round_of s.desk.world a) && owes_nothing (duty_of s a)
 abbrev pub message_of : ℕ → List ℕ → Message
 message_of a text = record { logger = 0; level = Info; time = pos 0; thread = a; text = text; source = None }
 
--- a line of an actor: its number, the words, and the end of the line
-abbrev pub line_of : ℕ → List ℕ → List ℕ
-line_of a words = decimal a ++ (32 ∷ words ++ 10 ∷ [])
-
--- the line of an event, which names a ticket
-abbrev pub ticket_line : ℕ → List ℕ → ℕ → List ℕ
-ticket_line a event t = line_of a (event ++ 32 ∷ decimal t)
-
--- what is printed of what a step was
-abbrev pub said_text : ℕ → Said Message → List ℕ
-said_text a said.Nothing = []
-said_text a (said.Claim t) = ticket_line a (codes "claim") t
-said_text a (said.Write t) = ticket_line a (codes "write") t
-said_text a (said.Full t m) = ticket_line a (codes "full") t
-said_text a (said.Grab t) = ticket_line a (codes "grab") t
-said_text a (said.Take t m) = line_of a (codes "take" ++ (32 ∷ decimal t ++ 32 ∷ m.text))
-said_text a (said.Empty t) = ticket_line a (codes "empty") t
-said_text a (said.Busy t m) = ticket_line a (codes "busy") t
-said_text a (said.Spent m) = line_of a (codes "spent")
-
--- why a post was discarded
-abbrev pub why_name : Why → List ℕ
-why_name why.Full = codes "full"
-why_name why.Stalled = codes "stalled"
-why_name why.Busy = codes "busy"
-why_name why.Spent = codes "spent"
-
--- the end of the line of a post: how many items it overran
-abbrev pub overran_text : ℕ → List ℕ
-overran_text k = codes " overran " ++ (decimal k ++ 10 ∷ [])
-
--- what is printed of how a post ended
-abbrev pub outcome_text : ℕ → Outcome Message → List ℕ
-outcome_text a (Posted t k) = decimal a ++ (codes " posted " ++ (decimal t ++ overran_text k))
-outcome_text a (Discarded m w k) = decimal a ++ (codes " discarded " ++ (why_name w ++ overran_text k))
-
--- what is printed of a step with which a post ended, or none did
-abbrev pub ended_text : ℕ → Option (Outcome Message) → List ℕ
-ended_text a None = []
-ended_text a (Some o) = outcome_text a o
-
--- what is printed of a step: what it was, and then how the actor's post ended, if it did
-abbrev pub stepped_text : ℕ → Stepped Message → List ℕ
-stepped_text a s = said_text a s.said ++ ended_text a s.outcome
+-- a message as a take shows it
+abbrev pub shown_message : Message → List ℕ
+shown_message m = m.text
 
 -- how a turn that wrote is named, and one that failed
 abbrev pub turn_name : Bool → List ℕ
@@ -104,8 +53,8 @@ turn_name true = codes "line"
 turn_name false = codes "fault"
 
 -- what is printed of a turn of the memory file
-abbrev pub turn_text : ℕ → ℕ → Bool → List ℕ
-turn_text a t written = line_of a (turn_name written ++ (32 ∷ decimal t ++ 32 ∷ codes "memory"))
+abbrev pub memory_turn_text : ℕ → ℕ → Bool → List ℕ
+memory_turn_text a t written = turn_text a (turn_name written) t memory_name
 
 -- what a worker owes after a step of its pop: a turn for what it took, and nothing where the pop has ended without
 abbrev pub work_after : Said Message → Duty
@@ -132,7 +81,7 @@ with_memory s memory = record { desk = s.desk; duties = s.duties; memory = memor
 -- the next step of an actor's push, pop or post, after which it owes this
 abbrev pub RoundSteps : Stage → ℕ → Duty → List ℕ → Stage → Type 0
 RoundSteps s a duty text next =
-    (text ≡ stepped_text a (desk_told s.desk a)) × (next ≡ with_duty (with_desk s (desk_stepped s.desk a)) a duty)
+    (text ≡ stepped_text shown_message a (desk_told s.desk a)) × (next ≡ with_duty (with_desk s (desk_stepped s.desk a)) a duty)
 
 -- one step of an actor in a call, where the store may fail or not: the turn that it owes, or else the next step of its
 -- push, pop or post
@@ -141,7 +90,7 @@ StepsBy may_fail s a Free text next = RoundSteps s a Free text next
 StepsBy may_fail s a Works text next = RoundSteps s a (work_after (desk_told s.desk a).said) text next
 StepsBy may_fail s a (Owes t m) text next =
     (written : Bool) × (memory : MemoryFile) × Turns may_fail s.memory m.text written memory
-    × (text ≡ turn_text a t written) × (next ≡ with_duty (with_memory s memory) a Free)
+    × (text ≡ memory_turn_text a t written) × (next ≡ with_duty (with_memory s memory) a Free)
 
 abbrev pub Steps : Bool → Stage → ℕ → List ℕ → Stage → Type 0
 Steps may_fail s a text next = StepsBy may_fail s a (duty_of s a) text next
@@ -160,26 +109,10 @@ posting s a p text = with_duty (with_desk s (post_began s.desk a p (message_of a
 abbrev pub may_push : Stage → ℕ → List ℕ → Bool
 may_push s a text = is_free s a && nat_le (length text) DEFAULT_TEXT_LIMIT
 
-abbrev pub mark_name : Mark → List ℕ
-mark_name mark.Claimed = codes "claimed"
-mark_name mark.Written = codes "written"
-mark_name mark.Emptying = codes "emptying"
-
--- a cell as it is printed
-abbrev pub cell_text : CellView → List ℕ
-cell_text c = 32 ∷ decimal c.ticket ++ (58 ∷ mark_name c.mark)
-
-abbrev pub cells_line : List CellView → List ℕ
-cells_line cells = codes "cells" ++ (flat_map cell_text cells ++ 10 ∷ [])
-
 abbrev pub cells_text : Stage → List ℕ
 cells_text s = cells_line (map shown s.desk.world.queue.cells)
 
--- the losses as they are printed
-abbrev pub counts_text : Counts → List ℕ
-counts_text c = codes "overrun " ++ (decimal c.overrun ++ (codes " discarded " ++ (decimal c.discarded ++ 10 ∷ [])))
-
 -- the memory file as it is printed at the end: nothing where it was not made
-abbrev pub file_text : Option (List ℕ) → List ℕ
-file_text None = []
-file_text (Some bytes) = codes "== memory memory " ++ (decimal (length bytes) ++ (10 ∷ bytes))
+abbrev pub memory_file_text : Option (List ℕ) → List ℕ
+memory_file_text None = []
+memory_file_text (Some bytes) = file_text memory_name memory_name bytes

@@ -1,6 +1,7 @@
 ghost use Rattle.std.specs.Prelude.{◌≡◌, ◌<◌};
 
 use alog_core::ACTORS;
+use alog_msg::Level;
 use alog_policy::Policy;
 use std::marker::Model;
 
@@ -104,6 +105,30 @@ pub enum Act<'a> {
         actor: Actor,
         policy: Policy,
         text: TextRef<'a>,
+    },
+    /// An actor begins a log of a message to the logger of this name, whose time is in nanoseconds since the epoch.
+    Log {
+        actor: Actor,
+        time: i64,
+        logger: TextRef<'a>,
+        level: Level,
+        text: TextRef<'a>,
+    },
+    /// An actor begins a post that flushes the sinks of the logger of this name.
+    Flush {
+        actor: Actor,
+        logger: TextRef<'a>,
+    },
+    /// An actor begins a dump of what the logger of this name kept.
+    Dump {
+        actor: Actor,
+        time: i64,
+        logger: TextRef<'a>,
+    },
+    /// The logger of this name has this level from now on.
+    Level {
+        logger: TextRef<'a>,
+        level: Level,
     },
     /// The cells are printed.
     Cells,

@@ -1,21 +1,25 @@
 //! How a line is read as a command.
-ghost use Rattle.std.specs.Prelude.{◌≡◌, ◌≤◌, ◌↔◌, ℕ, List, IfSome, [], unwrap_or};
+ghost use Rattle.std.specs.Prelude.{◌≡◌, ◌≤◌, ◌↔◌, ℕ, ℤ, List, IfSome, [], unwrap_or};
 ghost use Rattle.std.specs.Option.{option_copied};
-ghost use Rattle.alog_replay.specs.Command.{SpellsNumber, SpellsActor, SpellsCount, SpellsForm, Spells, policy_name};
-ghost use Rattle.alog_replay.specs.Command.{Given, TwoNumbers, ActorAlone, ActorAndText, ActorPolicyAndText, ActorAndCount, NoArgument};
+ghost use Rattle.alog_replay.specs.Command.{SpellsNumber, SpellsActor, SpellsTime, SpellsCount, SpellsForm, Spells, policy_name};
+ghost use Rattle.alog_replay.specs.Command.{Given, Number, AnActor, Time, APolicy, ALevel, AName, NoArgument, AText, ACount, Only, Then, log_form};
 ghost use Rattle.alog_replay.specs.Cut.{IsCut};
 ghost use Rattle.alog_replay.specs.declared.command.Command.{Command};
 ghost use Rattle.alog_replay.specs.declared.command.Command.TheVariants.{Acts};
+ghost use Rattle.alog_replay.specs.declared.command.Act.TheVariants as act;
 ghost use Rattle.alog_policy.specs.declared.policy.Policy.{Policy};
 
 use crate::command::{Act, Actor, Command, TextRef};
 use crate::limits::STEPS_MAX;
 use alog_core::ACTORS;
+use alog_msg::Level;
 use alog_policy::Policy;
 
 const ACTOR_MAX: u64 = ACTORS as u64 - 1;
 
 const COUNT_MAX: u64 = STEPS_MAX as u64;
+
+const TIME_MAX: u64 = i64::MAX as u64;
 
 /// The command that a line spells, without its newline.
 pub fn parse(line: &str) -> Option<Command<'_>>
@@ -40,13 +44,17 @@ pub fn parse(line: &str) -> Option<Command<'_>>
             Some(Command::Acts(Act::Work { actor }))
         }
         "post" => {
-            let (actor, policy, text) = actor_policy_and_text(rest)?;
+            let (actor, (policy, text)) = actor_policy_and_text(rest)?;
             Some(Command::Acts(Act::Post {
                 actor,
                 policy,
                 text,
             }))
         }
+        "log" => log(rest),
+        "flush" => flush(rest),
+        "dump" => dump(rest),
+        "level" => level(rest),
         "cells" => alone(rest, Act::Cells),
         "counts" => alone(rest, Act::Counts),
         "step" => {
@@ -103,17 +111,40 @@ fn count(word: Option<&str>) -> Option<u32>
     }
 }
 
+fn time(word: &str) -> Option<i64>
+    ensures { (t : ℤ) → (result ≡ Some t) ↔ SpellsTime word.now t }
+{
+    let Some((before, digits)) = word.split_once('-') else {
+        let n = number(word, 0, TIME_MAX)?;
+        return Some(n as i64);
+    };
+    if !before.is_empty() {
+        return None;
+    }
+    let n = number(digits, 0, TIME_MAX + 1)?;
+    Some((-i128::from(n)) as i64)
+}
+
+fn number_alone(rest: Option<&str>) -> Option<u64>
+    ensures { (given : ℕ) → (result ≡ Some given) ↔ SpellsForm (Only Number) (option_copied rest.entry) given }
+{
+    match rest {
+        Some(word) => number(word, 0, u64::MAX),
+        None => None,
+    }
+}
+
 fn two_numbers(rest: Option<&str>) -> Option<(u64, u64)>
-    ensures { (given : ℕ × ℕ) → (result ≡ Some given) ↔ SpellsForm TwoNumbers (option_copied rest.entry) given }
+    ensures { (given : ℕ × ℕ) → (result ≡ Some given) ↔ SpellsForm (Then Number (Only Number)) (option_copied rest.entry) given }
 {
     let (first, second) = cut(rest?);
     let first = number(first, 0, u64::MAX)?;
-    let second = number(second?, 0, u64::MAX)?;
+    let second = number_alone(second)?;
     Some((first, second))
 }
 
 fn actor_alone(rest: Option<&str>) -> Option<Actor>
-    ensures { (given : ℕ) → (result ≡ Some given) ↔ SpellsForm ActorAlone (option_copied rest.entry) given }
+    ensures { (given : ℕ) → (result ≡ Some given) ↔ SpellsForm (Only AnActor) (option_copied rest.entry) given }
 {
     match rest {
         Some(word) => actor(word),
@@ -122,7 +153,8 @@ fn actor_alone(rest: Option<&str>) -> Option<Actor>
 }
 
 fn actor_and_text(rest: Option<&str>) -> Option<(Actor, TextRef<'_>)>
-    ensures { (given : ℕ × List ℕ) → (result ≡ Some given) ↔ SpellsForm ActorAndText (option_copied rest.entry) given }
+    ensures { (given : Given (Then AnActor AText)) → (result ≡ Some given)
+        ↔ SpellsForm (Then AnActor AText) (option_copied rest.entry) given }
 {
     let (word, text) = cut(rest?);
     let actor = actor(word)?;
@@ -141,16 +173,24 @@ fn policy(word: &str) -> Option<Policy>
     }
 }
 
-fn actor_policy_and_text(rest: Option<&str>) -> Option<(Actor, Policy, TextRef<'_>)>
-    ensures { (given : ℕ × Policy × List ℕ) → (result ≡ Some given)
-        ↔ SpellsForm ActorPolicyAndText (option_copied rest.entry) given }
+fn policy_and_text(rest: Option<&str>) -> Option<(Policy, TextRef<'_>)>
+    ensures { (given : Given (Then APolicy AText)) → (result ≡ Some given)
+        ↔ SpellsForm (Then APolicy AText) (option_copied rest.entry) given }
 {
-    let (first, more) = cut(rest?);
-    let actor = actor(first)?;
-    let (second, text) = cut(more?);
-    let policy = policy(second)?;
+    let (word, text) = cut(rest?);
+    let policy = policy(word)?;
     let text = text_or_empty(text);
-    Some((actor, policy, text))
+    Some((policy, text))
+}
+
+fn actor_policy_and_text(rest: Option<&str>) -> Option<(Actor, (Policy, TextRef<'_>))>
+    ensures { (given : Given (Then AnActor (Then APolicy AText))) → (result ≡ Some given)
+        ↔ SpellsForm (Then AnActor (Then APolicy AText)) (option_copied rest.entry) given }
+{
+    let (word, more) = cut(rest?);
+    let actor = actor(word)?;
+    let more = policy_and_text(more)?;
+    Some((actor, more))
 }
 
 fn text_or_empty(rest: Option<&str>) -> TextRef<'_>
@@ -163,12 +203,124 @@ fn text_or_empty(rest: Option<&str>) -> TextRef<'_>
 }
 
 fn actor_and_count(rest: Option<&str>) -> Option<(Actor, u32)>
-    ensures { (given : ℕ × ℕ) → (result ≡ Some given) ↔ SpellsForm ActorAndCount (option_copied rest.entry) given }
+    ensures { (given : Given (Then AnActor ACount)) → (result ≡ Some given)
+        ↔ SpellsForm (Then AnActor ACount) (option_copied rest.entry) given }
 {
     let (word, rest) = cut(rest?);
     let actor = actor(word)?;
     let count = count(rest)?;
     Some((actor, count))
+}
+
+fn name_alone(rest: Option<&str>) -> Option<TextRef<'_>>
+    ensures { (given : List ℕ) → (result ≡ Some given) ↔ SpellsForm (Only AName) (option_copied rest.entry) given }
+{
+    let (word, more) = cut(rest?);
+    match more {
+        Some(_) => None,
+        None => Some(TextRef::new(word)),
+    }
+}
+
+fn level_alone(rest: Option<&str>) -> Option<Level>
+    ensures { (given : Given (Only ALevel)) → (result ≡ Some given) ↔ SpellsForm (Only ALevel) (option_copied rest.entry) given }
+{
+    match rest {
+        Some(word) => Level::read(word),
+        None => None,
+    }
+}
+
+fn level_and_text(rest: Option<&str>) -> Option<(Level, TextRef<'_>)>
+    ensures { (given : Given (Then ALevel AText)) → (result ≡ Some given)
+        ↔ SpellsForm (Then ALevel AText) (option_copied rest.entry) given }
+{
+    let (word, text) = cut(rest?);
+    let level = Level::read(word)?;
+    let text = text_or_empty(text);
+    Some((level, text))
+}
+
+fn name_level_and_text(rest: Option<&str>) -> Option<(TextRef<'_>, (Level, TextRef<'_>))>
+    ensures { (given : Given (Then AName (Then ALevel AText))) → (result ≡ Some given)
+        ↔ SpellsForm (Then AName (Then ALevel AText)) (option_copied rest.entry) given }
+{
+    let (word, more) = cut(rest?);
+    let more = level_and_text(more)?;
+    Some((TextRef::new(word), more))
+}
+
+fn time_name_level_and_text(
+    rest: Option<&str>,
+) -> Option<(i64, (TextRef<'_>, (Level, TextRef<'_>)))>
+    ensures { (given : Given (Then Time (Then AName (Then ALevel AText)))) → (result ≡ Some given)
+        ↔ SpellsForm (Then Time (Then AName (Then ALevel AText))) (option_copied rest.entry) given }
+{
+    let (word, more) = cut(rest?);
+    let time = time(word)?;
+    let more = name_level_and_text(more)?;
+    Some((time, more))
+}
+
+fn time_and_name(rest: Option<&str>) -> Option<(i64, TextRef<'_>)>
+    ensures { (given : Given (Then Time (Only AName))) → (result ≡ Some given)
+        ↔ SpellsForm (Then Time (Only AName)) (option_copied rest.entry) given }
+{
+    let (word, more) = cut(rest?);
+    let time = time(word)?;
+    let name = name_alone(more)?;
+    Some((time, name))
+}
+
+fn log(rest: Option<&str>) -> Option<Command<'_>>
+    ensures { (command : Command) → (result ≡ Some command) ↔ ((g : Given log_form) × SpellsForm log_form (option_copied rest.entry) g
+        × (Acts (act.Log g.0 g.1.0 g.1.1.0 g.1.1.1.0 g.1.1.1.1) ≡ command)) }
+{
+    let (word, more) = cut(rest?);
+    let actor = actor(word)?;
+    let (time, (logger, (level, text))) = time_name_level_and_text(more)?;
+    Some(Command::Acts(Act::Log {
+        actor,
+        time,
+        logger,
+        level,
+        text,
+    }))
+}
+
+fn flush(rest: Option<&str>) -> Option<Command<'_>>
+    ensures { (command : Command) → (result ≡ Some command) ↔ ((g : Given (Then AnActor (Only AName)))
+        × SpellsForm (Then AnActor (Only AName)) (option_copied rest.entry) g × (Acts (act.Flush g.0 g.1) ≡ command)) }
+{
+    let (word, more) = cut(rest?);
+    let actor = actor(word)?;
+    let logger = name_alone(more)?;
+    Some(Command::Acts(Act::Flush { actor, logger }))
+}
+
+fn dump(rest: Option<&str>) -> Option<Command<'_>>
+    ensures { (command : Command) → (result ≡ Some command) ↔ ((g : Given (Then AnActor (Then Time (Only AName))))
+        × SpellsForm (Then AnActor (Then Time (Only AName))) (option_copied rest.entry) g
+        × (Acts (act.Dump g.0 g.1.0 g.1.1) ≡ command)) }
+{
+    let (word, more) = cut(rest?);
+    let actor = actor(word)?;
+    let (time, logger) = time_and_name(more)?;
+    Some(Command::Acts(Act::Dump {
+        actor,
+        time,
+        logger,
+    }))
+}
+
+fn level(rest: Option<&str>) -> Option<Command<'_>>
+    ensures { (command : Command) → (result ≡ Some command) ↔ ((g : Given (Then AName (Only ALevel)))
+        × SpellsForm (Then AName (Only ALevel)) (option_copied rest.entry) g × (Acts (act.Level g.0 g.1) ≡ command)) }
+{
+    let (word, more) = cut(rest?);
+    let level = level_alone(more)?;
+    let logger = TextRef::new(word);
+    Some(Command::Acts(Act::Level { logger, level }))
 }
 
 // A command without an argument.

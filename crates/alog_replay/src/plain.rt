@@ -6,7 +6,7 @@ ghost use Rattle.alog_sink.specs.Files.{AreSame, no_files};
 use crate::command::{Act, Actor};
 use crate::error::LineError;
 use crate::memory::NAME;
-use crate::print::print_file;
+use crate::print::print_memory_file;
 use crate::scene::Playable;
 use crate::session::Session;
 use alog_sink::{MemStore, Store};
@@ -44,7 +44,7 @@ impl Playable for Option<Session<MemStore>> {
 
     fn print_files(&self, alloc: Global, out: &mut Vec<u8>) -> Result<(), AllocError> {
         match self {
-            Some(session) => print_file(alloc, out, session.store().files().get(NAME)),
+            Some(session) => print_memory_file(alloc, out, session.store().files().get(NAME)),
             None => Ok(()),
         }
     }

@@ -3,8 +3,9 @@ ghost use Rattle.alog_replay.specs.Session.{message_of};
 
 use crate::command::Actor;
 use crate::error::LineError;
+use crate::print::Shows;
 use alog_msg::{DEFAULT_TEXT_LIMIT, Level, Message};
-use std::alloc::Global;
+use std::alloc::{AllocError, Global};
 use std::marker::Model;
 
 /// A message that an actor pushed, whose text keeps to `DEFAULT_TEXT_LIMIT`. Contracts see it as that message.
@@ -45,16 +46,20 @@ impl Pushed {
         Ok(Pushed { message })
     }
 
-    pub fn text(&self) -> &str
-        ensures { result.now ≡ self.now.text }
-    {
-        self.message.text.as_str()
-    }
-
     pub fn message(&self) -> &Message
         ensures message { result.now ≡ self.now }
         ensures fits { length self.now.text ≤ DEFAULT_TEXT_LIMIT }
     {
         &self.message
+    }
+}
+
+impl Shows for Pushed {
+    ghost use Rattle.alog_replay.specs.Session.{shown_message};
+
+    ghost shown = { shown_message };
+
+    fn show(&self, out: &mut String) -> Result<(), AllocError> {
+        out.push_str(self.message.text.as_str())
     }
 }

@@ -8,7 +8,8 @@ ghost use Rattle.alog_policy.specs.Desk.{desk_told, desk_stepped};
 ghost use Rattle.alog_sink.specs.Files.{AreSame, no_files};
 ghost use Rattle.alog_replay.specs.Memory.{memory_name};
 ghost use Rattle.alog_replay.specs.Session.{opened, is_free, may_push, pushing, popping, posting, duty_of, with_duty};
-ghost use Rattle.alog_replay.specs.Session.{with_desk, stepped_text, work_after, Steps, cells_text};
+ghost use Rattle.alog_replay.specs.Session.{with_desk, shown_message, work_after, Steps, cells_text};
+ghost use Rattle.alog_replay.specs.Texts.{stepped_text};
 ghost use Rattle.alog_replay.specs.Scene.{Prints};
 ghost use Rattle.alog_replay.specs.Plain.{plain};
 
@@ -16,7 +17,7 @@ use crate::command::{Act, Actor};
 use crate::duty::Duty;
 use crate::error::LineError;
 use crate::memory::MemorySink;
-use crate::print::{print_cells, print_counts, print_stepped, print_turn};
+use crate::print::{print_cells, print_counts, print_memory_turn, print_stepped};
 use crate::pushed::Pushed;
 use alog_core::{ACTORS, Said};
 use alog_policy::{Desk, Policy};
@@ -145,7 +146,7 @@ impl<S: Store + Drop> Session<S> {
             }
             Duty::Owes { ticket, pushed } => {
                 let written = self.memory.take(&pushed);
-                Ok(print_turn(out, actor.number(), ticket, written)?)
+                Ok(print_memory_turn(out, actor.number(), ticket, written)?)
             }
         }
     }
@@ -158,7 +159,11 @@ impl<S: Store + Drop> Session<S> {
         ensures same { IsErrOf result LineError.Refused → string_bytes out.new ≡ string_bytes out.old }
     {
         match act {
-            Act::Ring { .. } => Err(LineError::Refused),
+            Act::Ring { .. }
+            | Act::Log { .. }
+            | Act::Flush { .. }
+            | Act::Dump { .. }
+            | Act::Level { .. } => Err(LineError::Refused),
             Act::Push { actor, text } => self.push(alloc, actor, text.as_str()),
             Act::Pop { actor } => self.pop(actor, Duty::Free),
             Act::Work { actor } => self.pop(actor, Duty::Works),
@@ -208,7 +213,7 @@ impl<S: Store + Drop> Session<S> {
         ensures said { IfOk result (λ said. said ≡ (desk_told self.old.desk actor).said) }
         ensures stepped { OnOk result (self.new ≡ with_desk self.old (desk_stepped self.old.desk actor)) }
         ensures printed { OnOk result (string_bytes out.new
-            ≡ string_bytes out.old ++ stepped_text actor (desk_told self.old.desk actor)) }
+            ≡ string_bytes out.old ++ stepped_text shown_message actor (desk_told self.old.desk actor)) }
         ensures cause { IfErr result (λ e. e ≡ LineError.OutOfMemory) }
     {
         let stepped = self.desk.step(u32::from(actor.number()))?;

@@ -6,10 +6,11 @@ use crate::lines::{Line, LineReader, ReadFault};
 use crate::parser::parse;
 use crate::plain::opened_by;
 use crate::player::play;
-use crate::print::print_file;
+use crate::print::print_memory_file;
 use crate::scene::Playable;
 use crate::session::Session;
 use crate::{ReplayError, one_command, one_entry, one_text, replay};
+use alog_msg::Level;
 use alog_policy::Policy;
 use alog_sink::{FuseStore, MemStore};
 use std::alloc::{AllocError, Global};
@@ -215,6 +216,64 @@ fn posts_and_counts(rt: HostRuntime) {
     assert!(rt; is_refused("post block 1 a"));
 }
 
+fn spells_log(line: &str, wanted: i64, level_wanted: Level, text_wanted: &str) -> bool {
+    matches!(&parse(line), Some(Command::Acts(Act::Log { actor, time, logger, level, text }))
+        if actor.number() == 1 && *time == wanted && logger.as_str() == "net" && *level == level_wanted && text.as_str() == text_wanted)
+}
+
+#[test]
+fn logs(rt: HostRuntime) {
+    assert!(rt; spells_log("log 1 0 net info a b", 0, Level::Info, "a b"));
+    assert!(rt;
+        spells_log(
+            "log 01 -9223372036854775808 net warn  a",
+            i64::MIN,
+            Level::Warning,
+            " a"
+        )
+    );
+    assert!(rt;
+        spells_log(
+            "log 1 9223372036854775807 net err ",
+            i64::MAX,
+            Level::Error,
+            ""
+        )
+    );
+    assert!(rt; spells_log("log 1 -0 net off", 0, Level::Off, ""));
+    assert!(rt; is_refused("log"));
+    assert!(rt; is_refused("log 1 0 net"));
+    assert!(rt; is_refused("log 1 0 net Info a"));
+    assert!(rt; is_refused("log 64 0 net info a"));
+    assert!(rt; is_refused("log 1 +1 net info a"));
+    assert!(rt; is_refused("log 1 - net info a"));
+    assert!(rt; is_refused("log 1 --1 net info a"));
+    assert!(rt; is_refused("log 1 1-1 net info a"));
+    assert!(rt; is_refused("log 1 9223372036854775808 net info a"));
+    assert!(rt; is_refused("log 1 -9223372036854775809 net info a"));
+}
+
+#[test]
+fn flushes_dumps_and_levels(rt: HostRuntime) {
+    assert!(rt;
+        matches!(&parse("flush 1 net"), Some(Command::Acts(Act::Flush { logger, .. })) if logger.as_str() == "net")
+    );
+    assert!(rt;
+        matches!(&parse("dump 1 -5 net"), Some(Command::Acts(Act::Dump { time, .. })) if *time == -5)
+    );
+    assert!(rt;
+        matches!(&parse("level net debug"), Some(Command::Acts(Act::Level { level, .. })) if *level == Level::Debug)
+    );
+    assert!(rt; is_refused("flush 1"));
+    assert!(rt; is_refused("flush 1 net "));
+    assert!(rt; is_refused("flush net 1"));
+    assert!(rt; is_refused("dump 1 net"));
+    assert!(rt; is_refused("dump 1 0 net x"));
+    assert!(rt; is_refused("level net"));
+    assert!(rt; is_refused("level net debug "));
+    assert!(rt; is_refused("level net none"));
+}
+
 #[test]
 fn numbers_of_other_forms(rt: HostRuntime) {
     assert!(rt; is_refused("pop 64"));
@@ -283,6 +342,11 @@ fn scripts_and_what_they_print(rt: HostRuntime) {
     let mut out = Vec::new(rt.alloc());
     assert_eq!(rt; replay(rt.alloc(), &mut SCRIPT.as_bytes(), &mut out), Ok(5));
     assert!(rt; out.as_slice() == PRINTED.as_bytes());
+
+    let mut out = Vec::new(rt.alloc());
+    let mut script = b"ring 2 0\nlog 1 0 net info a\n".as_slice();
+    let refused = Err(ReplayError::LineRefused { line: 2 });
+    assert_eq!(rt; replay(rt.alloc(), &mut script, &mut out), refused);
 
     let mut out = Vec::new(rt.alloc());
     let mut script = b"ring 2 0\npush 1 a\nstep 1 6\n".as_slice();
@@ -407,7 +471,11 @@ impl Playable for Option<Session<FuseStore<MemStore>>> {
 
     fn print_files(&self, alloc: Global, out: &mut Vec<u8>) -> Result<(), AllocError> {
         match self {
-            Some(session) => print_file(alloc, out, session.store().store().files().get("memory")),
+            Some(session) => print_memory_file(
+                alloc,
+                out,
+                session.store().store().files().get("memory"),
+            ),
             None => Ok(()),
         }
     }

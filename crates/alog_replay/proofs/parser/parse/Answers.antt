@@ -53,6 +53,22 @@ pub returns-in_ok-actor-in-post : goal.returns-in_ok-actor-in-post
 unfolding row_named
 returns-in_ok-actor-in-post c = by_row _ _ _ c.cut.ensures c.in-post.is refl ((c.in_ok-actor-in-post.ensures _).0 refl)
 
+pub returns-in-log : goal.returns-in-log
+unfolding row_named
+returns-in-log c = by_found _ _ c.cut.ensures c.in-log.is refl c.log.ensures
+
+pub returns-in-flush : goal.returns-in-flush
+unfolding row_named
+returns-in-flush c = by_found _ _ c.cut.ensures c.in-flush.is refl c.flush.ensures
+
+pub returns-in-dump : goal.returns-in-dump
+unfolding row_named
+returns-in-dump c = by_found _ _ c.cut.ensures c.in-dump.is refl c.dump.ensures
+
+pub returns-in-level : goal.returns-in-level
+unfolding row_named
+returns-in-level c = by_found _ _ c.cut.ensures c.in-level.is refl c.level.ensures
+
 pub returns-in-cells : goal.returns-in-cells
 unfolding row_named
 returns-in-cells c = by_found _ _ c.cut.ensures c.in-cells.is refl c.alone.ensures
@@ -85,4 +101,4 @@ pub returns-in_default : goal.returns-in_default
 returns-in_default c =
     let d = c.in_default in
     by_no_row _ _ _ c.cut.ensures refl
-    (no_row _ _ (d.not-ring, (d.not-push, (d.not-pop, (d.not-work, (d.not-post, (d.not-cells, (d.not-counts, (d.not-step, (d.not-run, tt))))))))))
+    (no_row _ _ (d.not-ring, (d.not-push, (d.not-pop, (d.not-work, (d.not-post, (d.not-log, (d.not-flush, (d.not-dump, (d.not-level, (d.not-cells, (d.not-counts, (d.not-step, (d.not-run, tt))))))))))))))

@@ -1,7 +1,7 @@
 use Rattle.std.proofs.Common.{◌≡◌, ◌++◌, take, string_bytes}
 use Rattle.std.specs.Prelude.{codes}
 use Rattle.std.specs.List.{flat_map}
-use Rattle.alog_replay.specs.Session.{cell_text}
+use Rattle.alog_replay.specs.Texts.{cell_text}
 use Rattle.alog_replay.proofs.print.print_cells.Given as goal
 
 abbrev pub invariant-loop-cell : goal.invariant-loop-cell
