@@ -129,21 +129,23 @@ some_there f (Some x) y e = (x, refl)
 module _ {S : Type 0} (tops : List (Part S)) where
   places_within : (names : List (List ℕ)) (places : List ℕ) → EachIs (IsPlace tops) names places → AllByRecursion (λ s. s < length tops) places
   places_within [] [] h = tt
-  places_within (name ∷ names) (n ∷ places) h =
-      (let p = some_there (λ (q : Part S). q.config.now.name) (slice_get tops n) name h.0 in slice_get_within tops n p.0 p.1,
-      places_within names places h.1)
+  places_within (name ∷ names) (n ∷ places) h = (
+    let p = some_there (λ (q : Part S). q.config.now.name) (slice_get tops n) name h.0 in slice_get_within tops n p.0 p.1,
+    places_within names places h.1,
+  )
   places_within [] (n ∷ places) h = absurd h
   places_within (name ∷ names) [] h = absurd h
 
   loggers_fit : (sinks : List SinkConfig) (earlier ls : List LoggerConfig) (made : List Logger) → AreSoundLoggers sinks earlier ls
       → EachIs (IsLoggerOf tops) ls made → AllByRecursion (LoggerFits (length tops)) made
   loggers_fit sinks earlier [] [] sound h = tt
-  loggers_fit sinks earlier (l ∷ ls) (m ∷ made) sound h =
-      (record {
-        sinks = All-from_recursion (λ s. s < length tops) m.spec.sinks.items (places_within l.sinks m.spec.sinks.items h.0.sinks);
-        backtrace = (let few = sound.0.few in let same = h.0.backtrace in omega (arith, few, same));
-      },
-      loggers_fit sinks (earlier ++ l ∷ []) ls made sound.1 h.1)
+  loggers_fit sinks earlier (l ∷ ls) (m ∷ made) sound h = (
+    record {
+      sinks = All-from_recursion (λ s. s < length tops) m.spec.sinks.items (places_within l.sinks m.spec.sinks.items h.0.sinks);
+      backtrace = (let few = sound.0.few in let same = h.0.backtrace in omega (arith, few, same));
+    },
+    loggers_fit sinks (earlier ++ l ∷ []) ls made sound.1 h.1,
+  )
   loggers_fit sinks earlier [] (m ∷ made) sound h = absurd h
   loggers_fit sinks earlier (l ∷ ls) [] sound h = absurd h
 

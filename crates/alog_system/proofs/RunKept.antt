@@ -82,7 +82,7 @@ room_set r n found xs h =
     less_or : (a b : ℕ) → (a < b) ⊎ (b ≤ a)
     less_or a zero = inr (omega arith)
     less_or zero (suc b) = inl (omega arith)
-    less_or (suc a) (suc b) = elim (less_or a b) [ | inl lt ↦ inl (omega (arith, lt)) | inr le ↦ inr (omega (arith, le)) ]
+    less_or (suc a) (suc b) = elim (less_or a b) [ inl lt ↦ inl (omega (arith, lt)) | inr le ↦ inr (omega (arith, le)) ]
 
 room_other : (r : RosterView) (k n : ℕ) (found : Room) → n ≢ k → kept_at (with_room r k found) n ≡ kept_at r n
 room_other r k n found other = get_or-set_other r.kept k n found (room 0) other

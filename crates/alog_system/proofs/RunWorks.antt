@@ -291,7 +291,7 @@ module _ {S : Type 0} (tells : Bool) (files : S → Files) (failures : S → ℕ
   case_mine w u a said did (queued busy same after) =
       let h = mine_follows a (with_desk w (desk_stepped w.desk a)) (duty_of w a) (desk_told w.desk a) in
       subst (λ (v : SystemView S). IsMine a v w) (sym after) (record { many = h.many; others = h.others })
-  case_mine w u a said did (kept m was same after) = 
+  case_mine w u a said did (kept m was same after) =
       let h = mine_set a w Free in
       subst (λ (v : SystemView S). IsMine a v w) (sym after) (record { many = h.many; others = h.others })
   case_mine w u a said did (dumped d idle was same after) =
@@ -321,18 +321,18 @@ module _ {S : Type 0} (tells : Bool) (files : S → Files) (failures : S → ℕ
       let v = with_desk w (desk_stepped w.desk a) in
       elim (is_works (duty_of w a)) [
         | inl works ↦
-          let m : Made = record { actor = a; did = InQueue step; told = told_of_work s s.said } in
-          let none = subst (λ (d : Duty). IsBalanced loggers a ms (left_of loggers d)) works h in
-          let asked = work_asked loggers s.said s step (λ t i e. taken_is w.desk a t i e) in
-          let all = balanced_asked loggers a m ms (left_of loggers (work_after s.said)) refl asked refl none in
-          let moved : left_of loggers (work_after s.said) ≡ left_of loggers (duty_of (with_duty v a (work_after s.said)) a) =
-          ap (left_of loggers) (sym (set_duty v a (work_after s.said) lt)) in
-          subst (λ (d : Duty). IsBalanced loggers a (ms ++ record { actor = a; did = InQueue step; told = told_in_round d s } ∷ []) (left_of loggers (duty_of (follows v a d s) a)))
-          (sym works) (subst (λ (left : List SinkTurn). IsBalanced loggers a (ms ++ m ∷ []) left) moved all)
+            let m : Made = record { actor = a; did = InQueue step; told = told_of_work s s.said } in
+            let none = subst (λ (d : Duty). IsBalanced loggers a ms (left_of loggers d)) works h in
+            let asked = work_asked loggers s.said s step (λ t i e. taken_is w.desk a t i e) in
+            let all = balanced_asked loggers a m ms (left_of loggers (work_after s.said)) refl asked refl none in
+            let moved : left_of loggers (work_after s.said) ≡ left_of loggers (duty_of (with_duty v a (work_after s.said)) a) =
+            ap (left_of loggers) (sym (set_duty v a (work_after s.said) lt)) in
+            subst (λ (d : Duty). IsBalanced loggers a (ms ++ record { actor = a; did = InQueue step; told = told_in_round d s } ∷ []) (left_of loggers (duty_of (follows v a d s) a)))
+            (sym works) (subst (λ (left : List SinkTurn). IsBalanced loggers a (ms ++ m ∷ []) left) moved all)
         | inr other ↦
-          let m : Made = record { actor = a; did = InQueue step; told = told_in_round (duty_of w a) s } in
-          subst (λ (left : List SinkTurn). IsBalanced loggers a (ms ++ m ∷ []) left) (sym (round_left loggers v a (duty_of w a) s lt refl other))
-          (balanced_else loggers a m ms (left_of loggers (duty_of w a)) refl (round_told loggers (duty_of w a) s step other) refl h)
+            let m : Made = record { actor = a; did = InQueue step; told = told_in_round (duty_of w a) s } in
+            subst (λ (left : List SinkTurn). IsBalanced loggers a (ms ++ m ∷ []) left) (sym (round_left loggers v a (duty_of w a) s lt refl other))
+            (balanced_else loggers a m ms (left_of loggers (duty_of w a)) refl (round_told loggers (duty_of w a) s step other) refl h)
       ]
 
   mine_case : (ms : List Made) (w u : SystemView S) (a : ℕ) (said : Stepped) (did : Did) → a < length w.duties → w.roster.loggers ≡ loggers
