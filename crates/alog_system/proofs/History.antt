@@ -16,16 +16,11 @@ use Rattle.alog_policy.specs.declared.policy.Outcome.{Outcome}
 use Rattle.alog_policy.specs.declared.post.Post.{Post}
 use Rattle.alog_policy.specs.declared.post.Stepped.{Stepped as DeskStepped}
 use Rattle.alog_policy.proofs.DeskSteps.{turn_queue}
-use Rattle.alog_sink.specs.Files.{Files}
-use Rattle.alog_system.specs.Roster.{emptied, policy_at}
-use Rattle.std.specs.Prelude.{MatchBool}
-use Rattle.alog_system.specs.Runs.{Did, did_by}
-use Rattle.alog_system.specs.Step.{SystemSteps, TurnTold, RoundSteps, after_round, dumped_by, entries_by, follows, posting, posting_on}
-use Rattle.alog_system.specs.System.{SystemView, duty_of, with_desk, with_roster}
+use Rattle.alog_system.specs.Step.{RoundSteps, after_round, entries_by, follows, posting, posting_on}
+use Rattle.alog_system.specs.System.{SystemView, duty_of, with_desk}
 use Rattle.alog_system.specs.declared.duty.Duty.{Duty}
 use Rattle.alog_system.specs.declared.duty.Duty.TheVariants.{Free, Keeps, Dumps, Posts, Works, Serves}
 use Rattle.alog_system.specs.declared.stepped.Stepped.{Stepped}
-use Rattle.alog_system.proofs.RunCases.{Case, queued, kept, dumped, served, case_of}
 
 -- a step of a desk leaves the queue that its machine's step leaves
 desk_queue : {T : Type 0} (d : DeskView T) (a : ℕ) (o : Option (Post T)) → (after_step d a o).world.queue ≡ (stepped d.world a).queue
@@ -55,46 +50,13 @@ module _ {S : Type 0} where
   round_queue v a =
       follows_queue (with_desk v (desk_stepped v.desk a)) a (duty_of v a) (desk_told v.desk a) ∙ desk_queue v.desk a (post_of v.desk a)
 
-  -- a history goes on with nothing to where it was, and with the event of a step
-  no_entry : (n : ℕ) (q r : Queue Item) → r ≡ q → GoesOn {N = Unit {0}} n q [] r
-  no_entry n q r e f h stood =
-      subst (λ (x : Queue Item). StandsFor n f (h ++ []) x) (sym e) (subst (λ (es : List (Entry Item (Unit {0}))). StandsFor n f es q) (sym (append-nil h)) stood)
-
-  one_entry : (v : SystemView S) (a : ℕ) (u : SystemView S) → IsReached v.desk.world → a < ACTORS → u ≡ after_round v a
-      → GoesOn v.desk.world.places v.desk.world.queue (entries_of_step v.desk.world a) u.desk.world.queue
-  one_entry v a u reached lt after f h stood =
-      subst (λ (q : Queue Item). StandsFor v.desk.world.places f (h ++ entries_of_step v.desk.world a) q)
-      (sym (ap (λ (w : SystemView S). w.desk.world.queue) after ∙ round_queue v a))
-      (stands_step v.desk.world.places f h v.desk.world.queue a tt (next_move v.desk.world a).event stood (fine_step v.desk.world a reached lt).allowed)
-
-  module _ (tells : Bool) (files : S → Files) (failures : S → ℕ) where
-    -- a turn leaves the queue as it was
-    turned_queue : (v : SystemView S) (a : ℕ) (said : Stepped) (u : SystemView S) (did : Did) → Case tells files failures v a said u did
-        → is_idle (round_of v.desk.world a) ≡ true → u.desk.world.queue ≡ v.desk.world.queue
-    turned_queue v a said u did (queued busy same after) idle = absurd (let bad : false ≡ true = sym busy ∙ idle in cc)
-    turned_queue v a said u did (kept m was same after) idle = ap (λ (w : SystemView S). w.desk.world.queue) after
-    turned_queue v a said u did (dumped d here was same after) idle =
-        ap (λ (w : SystemView S). w.desk.world.queue) after
-        ∙ posting_queue (with_roster v (emptied v.roster d.logger)) a (policy_at v.roster d.logger) (dumped_by v d)
-    turned_queue v a said u did (served t i done turn outputs x was next makes same after) idle = ap (λ (w : SystemView S). w.desk.world.queue) after
-
-    round_after : (v : SystemView S) (a : ℕ) (said : Stepped) (u : SystemView S) (did : Did) → Case tells files failures v a said u did
-        → is_idle (round_of v.desk.world a) ≡ false → SystemSteps tells files failures v a said u → u ≡ after_round v a
-    round_after v a said u did c busy h = at (is_idle (round_of v.desk.world a)) busy h
-      where
-        at : (b : Bool) → b ≡ false → MatchBool b (TurnTold tells files failures v a said u) (RoundSteps v a said u) → u ≡ after_round v a
-        at true e h = absurd (let bad : true ≡ false = e in cc)
-        at false e h = h.1
-
-    -- each history that the queue stood for goes on with the step
-    pub goes_on : (v : SystemView S) (a : ℕ) (said : Stepped) (u : SystemView S) → IsReached v.desk.world → a < ACTORS
-        → SystemSteps tells files failures v a said u → GoesOn v.desk.world.places v.desk.world.queue (entries_by v a) u.desk.world.queue
-    goes_on v a said u reached lt h = at (is_idle (round_of v.desk.world a)) refl
-      where
-        c : Case tells files failures v a said u (did_by v a)
-        c = case_of tells files failures v a said u h
-
-        at : (b : Bool) → is_idle (round_of v.desk.world a) ≡ b
-            → GoesOn v.desk.world.places v.desk.world.queue (cond b [] (entries_of_step v.desk.world a)) u.desk.world.queue
-        at true idle = no_entry v.desk.world.places v.desk.world.queue u.desk.world.queue (turned_queue v a said u (did_by v a) c idle)
-        at false busy = one_entry v a u reached lt (round_after v a said u (did_by v a) c busy h)
+  -- each history that the queue stood for goes on with the step of a round
+  pub round_goes_on : (v : SystemView S) (a : ℕ) (said : Stepped) (u : SystemView S) → IsReached v.desk.world → a < ACTORS
+      → is_idle (round_of v.desk.world a) ≡ false → RoundSteps v a said u
+      → GoesOn v.desk.world.places v.desk.world.queue (entries_by v a) u.desk.world.queue
+  round_goes_on v a said u reached lt busy h =
+      subst (λ b. GoesOn v.desk.world.places v.desk.world.queue (cond b [] (entries_of_step v.desk.world a)) u.desk.world.queue) (sym busy)
+      (λ f before stood.
+      subst (λ (q : Queue Item). StandsFor v.desk.world.places f (before ++ entries_of_step v.desk.world a) q)
+      (sym (ap (λ (w : SystemView S). w.desk.world.queue) h.1 ∙ round_queue v a))
+      (stands_step v.desk.world.places f before v.desk.world.queue a tt (next_move v.desk.world a).event stood (fine_step v.desk.world a reached lt).allowed))
