@@ -7,10 +7,10 @@ use std::sync::atomic::AtomicBool;
 
 /// What all threads of a pool share. No lock is round it.
 #[derive(Drop)]
-pub(crate) struct Shared {
-    pub(crate) ring: Ring<Item, TextLimit>,
-    pub(crate) book: LossBook,
-    pub(crate) loggers: Loggers,
+pub struct Shared {
+    pub ring: Ring<Item, TextLimit>,
+    pub book: LossBook,
+    pub loggers: Loggers,
     /// Set where the pool could not be started: workers that are there end.
-    pub(crate) leaves: AtomicBool,
+    pub leaves: AtomicBool,
 }
