@@ -1,5 +1,5 @@
 -- What a worker did.
-use Rattle.std.specs.Prelude.{◌≡◌, ◌⊎◌, ℕ, ◌%◌, ◌^◌, ◌≤◌, false, List, [], ◌∷◌, take, length, vec_capacity}
+use Rattle.std.specs.Prelude.{◌≡◌, ◌⊎◌, ℕ, ◌%◌, ◌^◌, ◌≤◌, false, List, [], ◌∷◌, ◌++◌, take, length, vec_capacity}
 use Rattle.std.specs.Arc.{arc_value}
 use Rattle.std.specs.List.{AllByRecursion}
 use Rattle.alog_core.specs.History.{Entry}
@@ -8,6 +8,7 @@ use Rattle.alog_msg.specs.declared.item.Item.{Item}
 use Rattle.alog_pattern.specs.declared.patterns.TheConstants.{LINE_MAX}
 use Rattle.alog_pool.specs.Accounts.{of_work, of_stops, work_tickets, Moved, SawEnd}
 use Rattle.alog_pool.specs.Berth.{Place, places_of}
+use Rattle.alog_pool.specs.Deeds.{HaveMade, all_dues}
 use Rattle.alog_pool.specs.declared.hand.Hand.{Hand}
 use Rattle.alog_pool.specs.declared.hand.Next.{Next}
 use Rattle.alog_pool.specs.declared.hand.Next.TheVariants.{Item as Took, End, Leave}
@@ -54,9 +55,17 @@ pub record IsAtWork {S : Type 0} (start now : Hand S) : Type 0 where
   pub limits : AreLimited (arc_value start.shared).ring.limit.most (places_of start.berths.items)
   pub left : now.left ≡ false
 
+-- What a worker made, since it began with the first of these hands: it took these items, and at each of its places its seat made
+-- exactly the turns that were due for them on that sink, in their order.
+pub record HasTurned {S : Type 0} (start now : Hand S) : Type 0 where
+  pub gots : List (ℕ × Item)
+  pub took : takes now.pass.known.own ≡ takes start.pass.known.own ++ gots
+  pub turns : HaveMade 0 start.berths.items now.berths.items (all_dues (arc_value start.shared).loggers gots)
+
 -- What became of a worker's hand.
 pub record HasWorked {S : Type 0} (start end : Hand S) : Type 0 where
   pub ring : IsPassOf (arc_value start.shared).ring end.pass
   pub work : IsWorkOf start.most end.pass.known end.tickets.items end.handled
   pub ended : end.left ≡ false → HasEnded end.pass.known.own
+  pub turns : HasTurned start end
   pub places : places_of end.berths.items ≡ places_of start.berths.items

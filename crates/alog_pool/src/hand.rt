@@ -4,7 +4,9 @@ ghost use Rattle.alog_core.specs.Queue.{last};
 ghost use Rattle.alog_msg.specs.declared.item.Item.TheVariants.{Stop};
 ghost use Rattle.alog_pattern.specs.declared.patterns.TheConstants.{LINE_MAX};
 ghost use Rattle.alog_pool.specs.Berth.{AreServable, places_of};
+ghost use Rattle.alog_pool.specs.Deeds.{Due, HaveMade, dues_by, dues_of};
 ghost use Rattle.alog_pool.specs.Working.{Finds, HasWorked, IsAtWork};
+ghost use Rattle.alog_registry.specs.Listed.{spec_at};
 ghost use Rattle.alog_ring.specs.Known.{IsPassOf};
 ghost use Rattle.alog_ring.specs.Made.{IsFaithful};
 ghost use Rattle.alog_ring.specs.declared.pop.PopError.TheVariants.{Empty};
@@ -121,6 +123,7 @@ fn handle<S: Store, R: Wait, G: Gate>(
 )
     requires servable { AreServable item.now (places_of berths.old.items) }
     requires line { line.old.capacity ≡ LINE_MAX }
+    ensures turns { HaveMade 0 berths.old.items berths.new.items (dues_of loggers.now ticket item.now) }
     ensures places { places_of berths.new.items ≡ places_of berths.old.items }
     ensures line { line.new.capacity ≡ LINE_MAX }
 {
@@ -147,12 +150,14 @@ fn make_turns<S: Store>(
 )
     requires servable { AreServable item.now (places_of berths.old.items) }
     requires line { line.old.capacity ≡ LINE_MAX }
+    ensures turns { HaveMade 0 berths.old.items berths.new.items (dues_by (spec_at loggers.now logger) logger ticket item.now) }
     ensures places { places_of berths.new.items ≡ places_of berths.old.items }
     ensures line { line.new.capacity ≡ LINE_MAX }
 {
     let Some(spec) = loggers.spec(logger) else {
         return;
     };
+    let _few = spec.sinks.as_slice().len();
     for place in 0..usize::MAX {
         let Some(turn) = spec.turn_of_work(ticket, item, place) else {
             return;
@@ -162,7 +167,7 @@ fn make_turns<S: Store>(
             SinkDeed::Take => item,
             SinkDeed::Flush => &flush,
         };
-        serve_at(rt, berths, turn.sink as usize, ticket, given, line);
+        serve_at(rt, berths, turn.sink as usize, turn.tag, given, line);
     }
 }
 
@@ -171,17 +176,19 @@ fn serve_at<S: Store>(
     rt: &impl Wait,
     berths: &mut Vec<Berth<S>>,
     number: usize,
-    ticket: u64,
+    tag: u64,
     item: &Item,
     line: &mut LineBuf,
 )
     requires servable { AreServable item.now (places_of berths.old.items) }
     requires line { line.old.capacity ≡ LINE_MAX }
+    ensures turn { let due : Due = record { sink = number; tag = tag; item = item.now } in
+        HaveMade 0 berths.old.items berths.new.items (due ∷ []) }
     ensures places { places_of berths.new.items ≡ places_of berths.old.items }
     ensures line { line.new.capacity ≡ LINE_MAX }
 {
     if number < berths.len() {
-        berths[number].serve(rt, ticket, item, line);
+        berths[number].serve(rt, tag, item, line);
     }
 }
 
