@@ -1,5 +1,5 @@
 -- Turns that were made, over several calls.
-use Rattle.std.proofs.Common.{◌≡◌, ◌≢◌, ℕ, zero, suc, ◌+◌, ◌%◌, ◌^◌, ◌<◌, ◌≤◌, ◌==◌, cond, Some, None, Option, List, [], ◌∷◌, ◌++◌, map, take, set, length, refl, sym, ap, subst, ◌∙◌, arith, append_assoc, append-nil}
+use Rattle.std.proofs.Common.{◌≡◌, ◌≢◌, ℕ, zero, suc, ◌+◌, ◌%◌, ◌^◌, ◌<◌, ◌≤◌, cond, Some, None, Option, List, [], ◌∷◌, ◌++◌, map, take, set, length, refl, sym, ap, subst, ◌∙◌, arith, append_assoc, append-nil}
 use Rattle.std.specs.Option.{option_map}
 use Rattle.std.specs.Prelude.{slice_index_or, slice_get}
 use Rattle.std.proofs.lemmas.List.{map-append}
@@ -14,7 +14,7 @@ use Rattle.alog_msg.specs.declared.item.Item.{Item}
 use Rattle.alog_msg.specs.declared.item.Item.TheVariants.{Stop}
 use Rattle.alog_pool.specs.Accounts.{Moved}
 use Rattle.alog_pool.specs.Berth.{Answer, BerthView, Serves, fault_in}
-use Rattle.alog_pool.specs.Deeds.{Due, due_by, dues_by, dues_of, all_dues, dues_on, told, faults_in, IsCounted, HasMade, HaveMade}
+use Rattle.alog_pool.specs.Deeds.{Due, due_by, dues_by, dues_of, all_dues, dues_on, faults_in, HasMade, HaveMade}
 use Rattle.alog_pool.proofs.Worked.{moved_gots}
 use Rattle.alog_registry.specs.Work.{turns_of}
 use Rattle.alog_registry.specs.declared.logger.Logger.{Logger}
@@ -35,8 +35,8 @@ dues_on-append : (s : ℕ) (ds es : List Due) → dues_on s (ds ++ es) ≡ dues_
 dues_on-append s [] es = refl
 dues_on-append s (d ∷ ds) es =
     on_test (λ b. cond b ((d.tag, d.item) ∷ dues_on s (ds ++ es)) (dues_on s (ds ++ es))
-        ≡ cond b ((d.tag, d.item) ∷ dues_on s ds) (dues_on s ds) ++ dues_on s es) d.sink s
-        (λ _. ap (λ (r : List (ℕ × Item)). (d.tag, d.item) ∷ r) (dues_on-append s ds es)) (λ _. dues_on-append s ds es)
+    ≡ cond b ((d.tag, d.item) ∷ dues_on s ds) (dues_on s ds) ++ dues_on s es) d.sink s
+    (λ _. ap (λ (r : List (ℕ × Item)). (d.tag, d.item) ∷ r) (dues_on-append s ds es)) (λ _. dues_on-append s ds es)
 
 all_dues-append : (loggers : List Logger) (ps qs : List (ℕ × Item)) → all_dues loggers (ps ++ qs)
     ≡ all_dues loggers ps ++ all_dues loggers qs
@@ -99,7 +99,7 @@ module _ {S : Type 0} where
       let own : new.seat.known.own ≡ old.seat.known.own ++ entry ∷ [] = s.turn.made.own in
       let more : faults_in new.seat.known.own ≡ faults_in old.seat.known.own + fault_in s.deed.reply =
       ap (λ (l : List Deed). faults_in l) own ∙ faults_in-append old.seat.known.own (entry ∷ [])
-          ∙ (let e : fault_in s.deed.reply + 0 ≡ fault_in s.deed.reply = omega arith in ap (λ n. faults_in old.seat.known.own + n) e) in
+      ∙ (let e : fault_in s.deed.reply + 0 ≡ fault_in s.deed.reply = omega arith in ap (λ n. faults_in old.seat.known.own + n) e) in
       record {
         number = s.turn.made.seat;
         entries = entry ∷ [];

@@ -1,5 +1,5 @@
 -- What a pass put in and took out, over several calls.
-use Rattle.std.proofs.Common.{◌≡◌, ℕ, ◌≤◌, List, [], ◌∷◌, ◌++◌, map, refl, sym, ap, subst, ◌∙◌, append_assoc, append-nil, inl, inr}
+use Rattle.std.proofs.Common.{◌≡◌, ℕ, List, [], ◌∷◌, ◌++◌, map, refl, sym, ap, subst, ◌∙◌, append_assoc, append-nil, inl, inr}
 use Rattle.alog_core.specs.Queue.{Event, PushBusy, PopBusy, Grab, Take, Claim, Write, Empty, last}
 use Rattle.alog_core.specs.History.{Entry}
 use Rattle.alog_core.specs.Accounts.{put_by, got_by, grabbed_by, claims, takes, grabbed}
@@ -8,7 +8,7 @@ use Rattle.alog_pool.specs.Accounts.{Moved, SawEnd}
 use Rattle.alog_ring.specs.Calls.{by, Answered, Popped, Pushed}
 use Rattle.alog_ring.specs.Known.{Known}
 use Rattle.alog_ring.specs.Kinds.{no_note}
-use Rattle.alog_ring.specs.Made.{Made, IsFaithful}
+use Rattle.alog_ring.specs.Made.{IsFaithful}
 use Rattle.alog_ring.specs.Waits.{BusyPops, BusyPushes, PoppedAtLast, PopRefusedAtLast}
 use Rattle.alog_ring.specs.declared.pop.PopError.{PopError}
 use Rattle.alog_ring.specs.declared.pop.PopError.TheVariants as pop

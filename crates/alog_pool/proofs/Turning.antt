@@ -1,6 +1,6 @@
 -- A turn at a place, and places while turns are made.
 use Rattle.std.proofs.Common.{◌≡◌, ℕ, zero, suc, ◌<◌, Bool, List, [], ◌∷◌, length, ap, arith}
-use Rattle.std.specs.Prelude.{slice_index_or, Result}
+use Rattle.std.specs.Prelude.{slice_index_or}
 use Rattle.alog_format.specs.Buffer.{Buffer}
 use Rattle.alog_lane.specs.Calls.{TakesTurn}
 use Rattle.alog_lane.specs.Seats.{Known}

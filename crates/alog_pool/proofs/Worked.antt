@@ -1,14 +1,13 @@
 -- What a worker's account is after a move.
-use Rattle.std.proofs.Common.{◌≡◌, ◌≢◌, ℕ, zero, suc, ◌+◌, ◌%◌, ◌^◌, ◌≤◌, cond, List, [], ◌∷◌, ◌++◌, map, take, length, refl, sym, ap, subst, ◌∙◌, arith, append-nil}
+use Rattle.std.proofs.Common.{◌≡◌, ◌≢◌, ℕ, zero, suc, ◌+◌, ◌%◌, ◌^◌, ◌≤◌, List, [], ◌∷◌, ◌++◌, map, take, length, refl, sym, ap, subst, ◌∙◌, arith, append-nil}
 use Rattle.std.proofs.lemmas.List.{length-take}
 use Rattle.std.proofs.Math.Nat.{mod-add-mod}
 use Rattle.alog_core.specs.History.{Entry}
-use Rattle.alog_core.specs.Accounts.{claims, takes, grabbed, handed_out, weigh, taken}
+use Rattle.alog_core.specs.Accounts.{claims, takes, grabbed, weigh, taken}
 use Rattle.alog_core.proofs.Accounts.{weigh-append}
 use Rattle.alog_msg.specs.declared.item.Item.{Item}
 use Rattle.alog_msg.specs.declared.item.Item.TheVariants.{Text, Flush, Stop}
-use Rattle.alog_msg.specs.declared.message.Message.{Message}
-use Rattle.alog_pool.specs.Accounts.{work, of_work, of_stops, work_tickets, Moved}
+use Rattle.alog_pool.specs.Accounts.{of_work, of_stops, work_tickets, Moved}
 use Rattle.alog_pool.specs.Berth.{Place, AreServable}
 use Rattle.alog_pool.specs.Working.{AreLimited, IsWorkOf}
 use Rattle.alog_pool.proofs.Moves.{claims-append, takes-append, grabbed-append, tickets-append}

@@ -1,8 +1,8 @@
 -- What a pass put into the queue and took out of it, and how that is counted.
 use Rattle.std.specs.Prelude.{◌≡◌, ◌⊎◌, ℕ, ◌==◌, if◌then◌else◌, List, [], ◌∷◌, map}
-use Rattle.alog_core.specs.Queue.{Event, Empty, last}
+use Rattle.alog_core.specs.Queue.{Empty, last}
 use Rattle.alog_core.specs.History.{Entry}
-use Rattle.alog_core.specs.Accounts.{claims, takes, grabbed, weigh}
+use Rattle.alog_core.specs.Accounts.{claims, takes, grabbed}
 use Rattle.alog_msg.specs.declared.item.Item.{Item}
 use Rattle.alog_msg.specs.declared.item.Item.TheVariants.{Text, Flush, Stop}
 use Rattle.alog_ring.specs.Known.{Known}

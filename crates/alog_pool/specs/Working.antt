@@ -1,5 +1,5 @@
 -- What a worker did.
-use Rattle.std.specs.Prelude.{◌≡◌, ◌⊎◌, ℕ, ◌%◌, ◌^◌, ◌≤◌, false, List, [], ◌∷◌, ◌++◌, take, length, vec_capacity}
+use Rattle.std.specs.Prelude.{◌≡◌, ◌⊎◌, ℕ, ◌%◌, ◌^◌, ◌≤◌, false, List, [], ◌∷◌, ◌++◌, take, vec_capacity}
 use Rattle.std.specs.Arc.{arc_value}
 use Rattle.std.specs.List.{AllByRecursion}
 use Rattle.alog_core.specs.History.{Entry}

@@ -157,7 +157,6 @@ fn make_turns<S: Store>(
     let Some(spec) = loggers.spec(logger) else {
         return;
     };
-    let _few = spec.sinks.as_slice().len();
     for place in 0..usize::MAX {
         let Some(turn) = spec.turn_of_work(ticket, item, place) else {
             return;

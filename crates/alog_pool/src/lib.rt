@@ -3,9 +3,10 @@
 //! A `Hand` is what one worker works with: a pass of the ring, a place at each sink under its lock, a line buffer. `Hand::work`
 //! handles items until the first stop, or until no ticket is left, and says in terms of the pass's own entries what was taken
 //! (`specs/Working.antt`, over `specs/Accounts.antt`): nothing was put in, the recorded tickets are the first ones of its texts
-//! and flushes, their number is counted, and it ended at its first stop or at the end of tickets. Which turns were made is not
-//! said yet; `Berth` says it of each turn (`specs/Berth.antt`). The pool itself, which starts workers and makes producers, is
-//! not here yet.
+//! and flushes, their number is counted, and it ended at its first stop or at the end of tickets. At each place the seat's own
+//! turns are those that the definition of the work gives for the items that were taken, in their order and by their tags, and
+//! the place's faults count those of them that were answered by one (`specs/Deeds.antt`); `Berth` says of one turn what it is
+//! (`specs/Berth.antt`). The pool itself, which starts workers and makes producers, is not here yet.
 //!
 //! Read `gate.rt`, `setup.rt`, `report.rt`, `error.rt`; then `hand.rt`, `berth.rt`, `rest.rt` (how a worker waits), `shared.rt`.
 #![tactic(auto)]

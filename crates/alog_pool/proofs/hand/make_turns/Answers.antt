@@ -1,7 +1,7 @@
-use Rattle.std.proofs.Common.{◌≡◌, ◌++◌, ◌∷◌, [], List, take, refl, sym, subst, ap, ◌∙◌, Bor}
+use Rattle.std.proofs.Common.{◌≡◌, ◌∷◌, [], List, refl, sym, subst, ap, ◌∙◌, Bor}
 use Rattle.alog_msg.specs.declared.item.Item.{Item}
-use Rattle.alog_pool.specs.Berth.{AreServable, Place, places_of}
-use Rattle.alog_pool.specs.Deeds.{Due, HaveMade, due_by, dues_by, given_by}
+use Rattle.alog_pool.specs.Berth.{AreServable, places_of}
+use Rattle.alog_pool.specs.Deeds.{Due, HaveMade, dues_by, given_by}
 use Rattle.alog_pool.proofs.Deeds.{have_none, have_then, dues_next, dues_whole}
 use Rattle.alog_pool.proofs.Turning.{flush_servable}
 use Rattle.alog_registry.specs.declared.logger.Spec.{Spec}
@@ -45,7 +45,7 @@ loop-place-preserved g c =
           ∙ sym (ap (λ (d : SinkDeed). given_by c.args.logger c.args.item.now d) w.in-Flush.is)
     ] in
     let next = subst (λ (x : Item). HaveMade 0 c.loop-place.berths.items c.serve_at.new.berths.items
-        (record { sink = turn.sink; tag = turn.tag; item = x } ∷ [])) given c.serve_at.ensures.turn in
+    (record { sink = turn.sink; tag = turn.tag; item = x } ∷ [])) given c.serve_at.ensures.turn in
     record {
       places = c.serve_at.ensures.places ∙ c.loop-place.invariant.places;
       line = c.serve_at.ensures.line;

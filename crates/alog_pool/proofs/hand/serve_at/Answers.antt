@@ -1,6 +1,5 @@
-use Rattle.std.proofs.Common.{◌≡◌, ◌<◌, ◌≤◌, ◌∷◌, [], ℕ, length, arith, sym, subst, ap, ◌∙◌}
+use Rattle.std.proofs.Common.{◌∷◌, [], arith, sym, subst, ap, ◌∙◌}
 use Rattle.std.proofs.Math.Seq.{map-set_same}
-use Rattle.alog_msg.specs.declared.item.Item.{Item}
 use Rattle.alog_pool.specs.Berth.{BerthView, IsServable, place_of}
 use Rattle.alog_pool.specs.Deeds.{HasMade}
 use Rattle.alog_pool.proofs.Deeds.{made_one, have_one, have_past}
@@ -15,9 +14,9 @@ serve-requires-clause-item g c =
 pub returns-then-number-len-clause-turn : goal.returns-then-number-len-clause-turn
 returns-then-number-len-clause-turn g c =
     have_one c.args.berths.now.items c.args.number c.args.tag c.args.item.now c.serve.new.self c.index_mut.result.now
-        (omega (arith, c.if-number-len.true))
-        (subst (λ (b : BerthView g.row.S.Denot). HasMade b c.serve.new.self ((c.args.tag, c.args.item.now) ∷ [])) c.index_mut.ensures.value
-        (made_one g.S.Store.tells g.S.Store.files g.S.Store.failures _ _ _ _ c.serve.ensures.serves))
+    (omega (arith, c.if-number-len.true))
+    (subst (λ (b : BerthView g.row.S.Denot). HasMade b c.serve.new.self ((c.args.tag, c.args.item.now) ∷ [])) c.index_mut.ensures.value
+    (made_one g.S.Store.tells g.S.Store.files g.S.Store.failures _ _ _ _ c.serve.ensures.serves))
 
 pub returns-else-number-len-clause-turn : goal.returns-else-number-len-clause-turn
 returns-else-number-len-clause-turn g c =

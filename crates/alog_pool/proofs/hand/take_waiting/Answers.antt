@@ -1,5 +1,4 @@
-use Rattle.std.proofs.Common.{◌≡◌, refl}
-use Rattle.alog_ring.specs.declared.pop.PopError.{PopError}
+use Rattle.std.proofs.Common.{refl}
 use Rattle.alog_pool.proofs.Moves.{moved_more, not_moved, popped_last, refused_moved, refused_last}
 use Rattle.alog_pool.proofs.hand.take_waiting.Goals as goal
 
