@@ -1,0 +1,5 @@
+pub mod Moves
+pub mod Turning
+pub mod Deeds
+pub mod Worked
+pub mod Sums

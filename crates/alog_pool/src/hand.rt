@@ -1,0 +1,239 @@
+//! A worker.
+ghost use Rattle.std.specs.Prelude.{◌≡◌, ◌↔◌, ◌≤◌, ◌∷◌, ◌++◌, [], IsTrue, take, length, vec_capacity};
+ghost use Rattle.alog_core.specs.Queue.{last};
+ghost use Rattle.alog_msg.specs.declared.item.Item.TheVariants.{Stop};
+ghost use Rattle.alog_pattern.specs.declared.patterns.TheConstants.{LINE_MAX};
+ghost use Rattle.alog_pool.specs.Berth.{AreServable, places_of};
+ghost use Rattle.alog_pool.specs.Deeds.{Due, HaveMade, dues_by, dues_of};
+ghost use Rattle.alog_pool.specs.Working.{Finds, HasWorked, IsAtWork};
+ghost use Rattle.alog_registry.specs.Listed.{spec_at};
+ghost use Rattle.alog_ring.specs.Known.{IsPassOf};
+ghost use Rattle.alog_ring.specs.Made.{IsFaithful};
+ghost use Rattle.alog_ring.specs.declared.pop.PopError.TheVariants.{Empty};
+
+use crate::berth::Berth;
+use crate::gate::Gate;
+use crate::rest::Rest;
+use crate::shared::Shared;
+use alog_core::LAST_TICKET;
+use alog_format::LineBuf;
+use alog_msg::Item;
+use alog_registry::{Loggers, SinkDeed};
+use alog_ring::{Pass, PopError};
+use alog_sink::Store;
+use std::sync::atomic::Ordering;
+use std::sync::{Arc, Wait};
+use std::time::Clock;
+
+/// What a worker works with, and what it did.
+#[derive(Drop)]
+pub struct Hand<S: Store> {
+    pub shared: Arc<Shared>,
+    pub pass: Pass<Item>,
+    pub berths: Vec<Berth<S>>,
+    pub line: LineBuf,
+    pub number: u32,
+    /// Of how many workers.
+    pub workers: u32,
+    /// The tickets of its first texts and flushes, for which there is room.
+    pub tickets: Vec<u64>,
+    pub most: usize,
+    /// Its texts and flushes, modulo 2^64.
+    pub handled: u64,
+    /// It was told to leave before it took anything.
+    pub left: bool,
+}
+
+/// What a worker finds to do.
+pub(crate) enum Next {
+    /// It took this item under this ticket.
+    Item(u64, Item),
+    /// No ticket is left, and none will come.
+    End,
+    /// The pool could not be started.
+    Leave,
+}
+
+impl<S: Store> Hand<S> {
+    /// Handles items until the first stop, or until no ticket is left.
+    pub fn work<R: Wait + Clock, G: Gate>(self, rt: &R, gate: &G) -> Hand<S>
+        requires { IsAtWork self self }
+        ensures { HasWorked self result }
+    {
+        let mut hand = self;
+        for _ in rt.forever() {
+            match take_waiting(rt, &hand.shared, &mut hand.pass, hand.workers) {
+                Next::Item(ticket, item) => {
+                    if is_stop(&item) {
+                        return hand;
+                    }
+                    hand.handled = hand.handled.wrapping_add(1);
+                    note(&mut hand.tickets, hand.most, ticket);
+                    let Hand {
+                        shared,
+                        berths,
+                        line,
+                        number,
+                        ..
+                    } = &mut hand;
+                    handle(
+                        rt,
+                        gate,
+                        *number,
+                        &shared.loggers,
+                        berths,
+                        line,
+                        ticket,
+                        &item,
+                    );
+                }
+                Next::End => return hand,
+                Next::Leave => {
+                    hand.left = true;
+                    return hand;
+                }
+            }
+        }
+        unreachable!()
+    }
+}
+
+/// Notes the ticket, if fewer than so many are noted.
+fn note(tickets: &mut Vec<u64>, most: usize, ticket: u64)
+    requires room { most ≤ vec_capacity tickets.old }
+    requires few { length tickets.old.items ≤ most }
+    ensures noted { tickets.new.items ≡ take most (tickets.old.items ++ ticket ∷ []) }
+    ensures room { vec_capacity tickets.new ≡ vec_capacity tickets.old }
+{
+    if tickets.len() < most {
+        tickets.push_reserved(ticket);
+    }
+}
+
+/// Makes the turns of an item, and calls the gate before and after those of a text.
+fn handle<S: Store, R: Wait, G: Gate>(
+    rt: &R,
+    gate: &G,
+    number: u32,
+    loggers: &Loggers,
+    berths: &mut Vec<Berth<S>>,
+    line: &mut LineBuf,
+    ticket: u64,
+    item: &Item,
+)
+    requires servable { AreServable item.now (places_of berths.old.items) }
+    requires line { line.old.capacity ≡ LINE_MAX }
+    ensures turns { HaveMade 0 berths.old.items berths.new.items (dues_of loggers.now ticket item.now) }
+    ensures places { places_of berths.new.items ≡ places_of berths.old.items }
+    ensures line { line.new.capacity ≡ LINE_MAX }
+{
+    match item {
+        Item::Text(message) => {
+            gate.before(number, ticket);
+            make_turns(rt, loggers, message.logger, berths, line, ticket, item);
+            gate.after(number, ticket);
+        }
+        Item::Flush(logger) => make_turns(rt, loggers, *logger, berths, line, ticket, item),
+        Item::Stop => {}
+    }
+}
+
+/// Makes the turns of an item of this logger, one after another.
+fn make_turns<S: Store>(
+    rt: &impl Wait,
+    loggers: &Loggers,
+    logger: u32,
+    berths: &mut Vec<Berth<S>>,
+    line: &mut LineBuf,
+    ticket: u64,
+    item: &Item,
+)
+    requires servable { AreServable item.now (places_of berths.old.items) }
+    requires line { line.old.capacity ≡ LINE_MAX }
+    ensures turns { HaveMade 0 berths.old.items berths.new.items (dues_by (spec_at loggers.now logger) logger ticket item.now) }
+    ensures places { places_of berths.new.items ≡ places_of berths.old.items }
+    ensures line { line.new.capacity ≡ LINE_MAX }
+{
+    let Some(spec) = loggers.spec(logger) else {
+        return;
+    };
+    for place in 0..usize::MAX {
+        let Some(turn) = spec.turn_of_work(ticket, item, place) else {
+            return;
+        };
+        let flush = Item::Flush(logger);
+        let given = match turn.deed {
+            SinkDeed::Take => item,
+            SinkDeed::Flush => &flush,
+        };
+        serve_at(rt, berths, turn.sink as usize, turn.tag, given, line);
+    }
+}
+
+/// Makes a turn at the place of this number, if there is one.
+fn serve_at<S: Store>(
+    rt: &impl Wait,
+    berths: &mut Vec<Berth<S>>,
+    number: usize,
+    tag: u64,
+    item: &Item,
+    line: &mut LineBuf,
+)
+    requires servable { AreServable item.now (places_of berths.old.items) }
+    requires line { line.old.capacity ≡ LINE_MAX }
+    ensures turn { let due : Due = record { sink = number; tag = tag; item = item.now } in
+        HaveMade 0 berths.old.items berths.new.items (due ∷ []) }
+    ensures places { places_of berths.new.items ≡ places_of berths.old.items }
+    ensures line { line.new.capacity ≡ LINE_MAX }
+{
+    if number < berths.len() {
+        berths[number].serve(rt, tag, item, line);
+    }
+}
+
+/// Takes the next item, as soon as there is one.
+fn take_waiting<R: Wait + Clock>(
+    rt: &R,
+    shared: &Shared,
+    pass: &mut Pass<Item>,
+    workers: u32,
+) -> Next
+    requires ring { IsPassOf shared.now.ring pass.old }
+    requires faithful { IsFaithful pass.old.known }
+    ensures ring { IsPassOf shared.now.ring pass.new }
+    ensures finds { Finds shared.now.ring.limit.most pass.old.known pass.new.known result }
+{
+    let mut rest = Rest::new(workers);
+    for _ in rt.forever() {
+        match shared.ring.pop(rt, pass) {
+            Ok((ticket, item)) => return Next::Item(ticket, item),
+            Err(error) => {
+                if is_end(error) {
+                    return Next::End;
+                }
+            }
+        }
+        if shared.leaves.load(Ordering::SeqCst) {
+            return Next::Leave;
+        }
+        rest.wait(rt);
+    }
+    unreachable!()
+}
+
+/// Whether a pop found that no ticket is left.
+fn is_end(error: PopError) -> bool
+    ensures { IsTrue result ↔ (error ≡ Empty last) }
+{
+    match error {
+        PopError::Empty { next } => next == LAST_TICKET,
+        PopError::Busy { seen: _ } => false,
+    }
+}
+
+/// Whether the item makes its worker end.
+pub(crate) fn is_stop(item: &Item) -> bool
+    ensures { IsTrue result ↔ (item.now ≡ Stop) }
+{
+    matches!(item, Item::Stop)
+}
