@@ -13,6 +13,7 @@
 #![tactic(auto)]
 
 mod command;
+mod configured;
 mod duty;
 mod entry;
 mod error;
@@ -20,12 +21,14 @@ mod limits;
 mod lines;
 mod memory;
 mod parser;
+mod places;
 mod plain;
 mod player;
 mod print;
 mod pushed;
 mod scene;
 mod session;
+mod told;
 #[cfg(test)]
 mod tests;
 

@@ -1,0 +1,245 @@
+//! The scene of a script with a configuration: a stepped system, the names of its sinks, and where its leaves are.
+ghost use Rattle.std.specs.Prelude.{◌≡◌, ◌↔◌, ◌⊎◌, ◌++◌, ◌<◌, false, IfOk, IfSome, OnOk, IsErrOf, length, string_bytes};
+ghost use Rattle.std.specs.Option.{option_copied};
+ghost use Rattle.alog_system.specs.Begin.{begun, filtered_by, IsKnown, IsTooLong};
+ghost use Rattle.alog_system.specs.System.{is_free};
+ghost use Rattle.alog_replay.specs.Configured.{Stage, with_system, number_in, may_do, after_act, store_at, listed_text, stored_text};
+ghost use Rattle.alog_replay.specs.Scene.{Prints};
+ghost use Rattle.alog_replay.specs.declared.command.Act.TheVariants as act;
+ghost use Rattle.alog_sink.specs.Memory.{listing};
+
+use crate::command::{Act, Actor, TextRef};
+use crate::error::LineError;
+use crate::places::Place;
+use crate::print::{print_cells, print_counts, print_file};
+use crate::scene::Playable;
+use crate::told::{print_filtered, print_told};
+use alog_msg::Level;
+use alog_sink::{MemStore, Store};
+use alog_system::{Deed, System};
+use std::alloc::{AllocError, Global};
+use std::marker::Model;
+
+/// Contracts see it as the `Stage` of `specs/Configured.antt`.
+#[derive(Drop)]
+pub struct Configured<'c> {
+    system: System<MemStore>,
+    names: Vec<TextRef<'c>>,
+    places: Vec<Place<'c>>,
+}
+
+impl<'c> Model for Configured<'c> {
+    ghost use Rattle.alog_replay.specs.Configured.{Stage};
+    ghost use Rattle.alog_sink.specs.declared.mem_store.MemStore.{MemStore};
+
+    ghost Value = { Stage MemStore };
+
+    ghost view = { λ c. record { system = c.system; names = c.names.items; places = c.places.items } };
+}
+
+impl<'c> Configured<'c> {
+    /// This system, whose sinks have these names, and whose leaves are there.
+    pub(crate) fn of(
+        system: System<MemStore>,
+        names: Vec<TextRef<'c>>,
+        places: Vec<Place<'c>>,
+    ) -> Configured<'c>
+        ensures { result ≡ record { system = system; names = names.items; places = places.items } }
+    {
+        Configured {
+            system,
+            names,
+            places,
+        }
+    }
+
+    /// The number of the logger of this name.
+    fn number(&self, name: &str) -> Option<u32>
+        ensures number { result ≡ number_in self.now name.now }
+        ensures known { IfSome result (λ n. n < length self.now.system.roster.loggers) }
+    {
+        self.system.find(name)
+    }
+
+    /// Begins a deed of an actor, whose logger is one of the system's: the level that filters it, if one does.
+    fn begin(
+        &mut self,
+        alloc: Global,
+        actor: Actor,
+        deed: Deed<'_>,
+    ) -> Result<Option<Level>, LineError>
+        requires { IsKnown self.old.system.roster deed }
+        ensures filtered { IfOk result (λ level. level ≡ filtered_by self.old.system.roster deed.entry) }
+        ensures begun { OnOk result (self.new ≡ with_system self.old (begun self.old.system actor deed.entry)) }
+        ensures refused { IsErrOf result LineError.Refused ↔ ((is_free self.old.system actor ≡ false)
+            ⊎ IsTooLong self.old.system.roster self.old.system.outputs.text_limit deed.entry) }
+    {
+        Ok(self.system.begin(alloc, u32::from(actor.number()), deed)?)
+    }
+
+    /// An actor begins a log, and the level that filters it is printed.
+    fn log(
+        &mut self,
+        alloc: Global,
+        actor: Actor,
+        given: (i64, TextRef<'_>, Level, TextRef<'_>),
+        out: &mut String,
+    ) -> Result<(), LineError>
+        ensures done { OnOk result (Prints (string_bytes out.old) (string_bytes out.new) (λ text.
+            (text ≡ (after_act self.old (act.Log actor given.0 given.1 given.2 given.3)).0)
+            × (self.new ≡ (after_act self.old (act.Log actor given.0 given.1 given.2 given.3)).1))) }
+        ensures refused { IsErrOf result LineError.Refused ↔ (may_do self.old (act.Log actor given.0 given.1 given.2 given.3) ≡ false) }
+        ensures same { IsErrOf result LineError.Refused → string_bytes out.new ≡ string_bytes out.old }
+    {
+        let (time, logger, level, text) = given;
+        let Some(number) = self.number(logger.as_str()) else {
+            return Err(LineError::Refused);
+        };
+        let deed = Deed::Log {
+            time,
+            logger: number,
+            level,
+            text: text.as_str(),
+        };
+        let filtered = self.begin(alloc, actor, deed)?;
+        Ok(print_filtered(out, actor.number(), filtered)?)
+    }
+
+    /// An actor begins a worker's pop.
+    fn work(&mut self, alloc: Global, actor: Actor) -> Result<(), LineError>
+        ensures begun { OnOk result (self.new ≡ (after_act self.old (act.Work actor)).1) }
+        ensures refused { IsErrOf result LineError.Refused ↔ (may_do self.old (act.Work actor) ≡ false) }
+    {
+        self.begin(alloc, actor, Deed::Work)?;
+        Ok(())
+    }
+
+    /// An actor begins a post that flushes the sinks of the logger of this name.
+    fn flush(&mut self, alloc: Global, actor: Actor, logger: &str) -> Result<(), LineError>
+        ensures begun { OnOk result (self.new ≡ (after_act self.old (act.Flush actor logger.now)).1) }
+        ensures refused { IsErrOf result LineError.Refused ↔ (may_do self.old (act.Flush actor logger.now) ≡ false) }
+    {
+        let Some(logger) = self.number(logger) else {
+            return Err(LineError::Refused);
+        };
+        self.begin(alloc, actor, Deed::Flush { logger })?;
+        Ok(())
+    }
+
+    /// An actor begins a dump of what the logger of this name kept.
+    fn dump(
+        &mut self,
+        alloc: Global,
+        actor: Actor,
+        time: i64,
+        logger: &str,
+    ) -> Result<(), LineError>
+        ensures begun { OnOk result (self.new ≡ (after_act self.old (act.Dump actor time logger.now)).1) }
+        ensures refused { IsErrOf result LineError.Refused ↔ (may_do self.old (act.Dump actor time logger.now) ≡ false) }
+    {
+        let Some(logger) = self.number(logger) else {
+            return Err(LineError::Refused);
+        };
+        self.begin(alloc, actor, Deed::Dump { time, logger })?;
+        Ok(())
+    }
+
+    /// The logger of this name has this level from now on.
+    fn set_level(&mut self, logger: &str, level: Level) -> Result<(), LineError>
+        ensures set { OnOk result (self.new ≡ (after_act self.old (act.Level logger.now level)).1) }
+        ensures refused { IsErrOf result LineError.Refused ↔ (may_do self.old (act.Level logger.now level) ≡ false) }
+    {
+        let Some(logger) = self.number(logger) else {
+            return Err(LineError::Refused);
+        };
+        self.system.set_level(logger, level);
+        Ok(())
+    }
+
+    /// The store of a leaf.
+    fn store_at(&self, place: &Place<'_>) -> Option<&MemStore>
+        ensures { option_copied result ≡ store_at self.now.system place.now }
+    {
+        let sink = self.system.sinks().get(place.sink)?;
+        match place.member {
+            Some(member) => match sink.members().get(member) {
+                Some(leaf) => Some(leaf.store()),
+                None => None,
+            },
+            None => sink.store(),
+        }
+    }
+}
+
+/// Prints the files of a sink, in the order of their names.
+fn print_listed(
+    alloc: Global,
+    out: &mut Vec<u8>,
+    sink: &str,
+    store: &MemStore,
+) -> Result<(), AllocError>
+    ensures { OnOk result (out.new.items ≡ out.old.items ++ listed_text sink.now (listing store.now)) }
+{
+    for (file, bytes) in store.files() {
+        print_file(alloc, out, sink, file.as_str(), bytes.as_slice())?;
+    }
+    Ok(())
+}
+
+impl Playable for Configured<'_> {
+    ghost use Rattle.alog_replay.specs.Configured.{configured};
+    ghost use Rattle.alog_replay.specs.Goes.{configured_goes_on};
+    ghost use Rattle.alog_sink.specs.Memory.{listing};
+
+    ghost scene = { configured ⟦<MemStore as Store>⟧.tells ⟦<MemStore as Store>⟧.files ⟦<MemStore as Store>⟧.failures listing };
+
+    fn is_free(&self, actor: Actor) -> bool {
+        self.system.is_free(u32::from(actor.number()))
+    }
+
+    fn act(&mut self, alloc: Global, act: Act<'_>, out: &mut String) -> Result<(), LineError> {
+        match act {
+            Act::Ring { .. } | Act::Push { .. } | Act::Pop { .. } | Act::Post { .. } => {
+                Err(LineError::Refused)
+            }
+            Act::Work { actor } => self.work(alloc, actor),
+            Act::Log {
+                actor,
+                time,
+                logger,
+                level,
+                text,
+            } => self.log(alloc, actor, (time, logger, level, text), out),
+            Act::Flush { actor, logger } => self.flush(alloc, actor, logger.as_str()),
+            Act::Dump {
+                actor,
+                time,
+                logger,
+            } => self.dump(alloc, actor, time, logger.as_str()),
+            Act::Level { logger, level } => self.set_level(logger.as_str(), level),
+            Act::Cells => {
+                let cells = self.system.cells(alloc)?;
+                Ok(print_cells(out, &cells)?)
+            }
+            Act::Counts => Ok(print_counts(out, self.system.counts())?),
+        }
+    }
+
+    fn step(&mut self, actor: Actor, out: &mut String) -> Result<(), LineError> {
+        let number = actor.number();
+        let told = self.system.step(u32::from(number))?;
+        let held = self.system.taken(u32::from(number));
+        Ok(print_told(out, number, &self.names, held, &told)?)
+    }
+
+    fn print_files(&self, alloc: Global, out: &mut Vec<u8>) -> Result<(), AllocError> {
+        for place in &self.places {
+            if let Some(store) = self.store_at(place) {
+                print_listed(alloc, out, place.name.as_str(), store)?;
+            }
+        }
+        Ok(())
+    }
+
+    ghost goes_on = { configured_goes_on ⟦<MemStore as Store>⟧.tells ⟦<MemStore as Store>⟧.files ⟦<MemStore as Store>⟧.failures listing };
+}
