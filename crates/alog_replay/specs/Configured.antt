@@ -149,8 +149,11 @@ abbrev pub stored_text : {S : Type 0} → (S → List (List ℕ × List ℕ)) �
 stored_text listing sink None = []
 stored_text listing sink (Some store) = listed_text sink (listing store)
 
-abbrev pub files_text : {S : Type 0} → (S → List (List ℕ × List ℕ)) → Stage S → List ℕ
-files_text listing s = flat_map (λ (p : Place). stored_text listing p.name (store_at s.system p)) s.places
+abbrev pub place_text : {S : Type 0} → (S → List (List ℕ × List ℕ)) → SystemView S → Place → List ℕ
+place_text listing v p = stored_text listing p.name (store_at v p)
+
+abbrev pub places_text : {S : Type 0} → (S → List (List ℕ × List ℕ)) → SystemView S → List Place → List ℕ
+places_text listing v places = flat_map (place_text listing v) places
 
 module _ {S : Type 0} (tells : Bool) (files : S → Files) (failures : S → ℕ) where
   -- the system makes a step, which is printed
@@ -176,5 +179,5 @@ module _ {S : Type 0} (tells : Bool) (files : S → Files) (failures : S → ℕ
     may_do = may_do;
     Does = λ s act text next. (text ≡ (after_act s act).0) × (next ≡ (after_act s act).1);
     Steps = StepsIn;
-    files = files_text listing;
+    files = λ s. places_text listing s.system s.places;
   }

@@ -1,10 +1,13 @@
 //! The scene of a script with a configuration: a stepped system, the names of its sinks, and where its leaves are.
-ghost use Rattle.std.specs.Prelude.{◌≡◌, ◌↔◌, ◌⊎◌, ◌++◌, ◌<◌, false, IfOk, IfSome, OnOk, IsErrOf, length, string_bytes};
+ghost use Rattle.std.specs.Prelude.{◌≡◌, ◌↔◌, ◌⊎◌, ◌++◌, ◌<◌, Some, true, false, IfOk, IfSome, OnOk, IsErrOf, length, map, string_bytes};
+ghost use Rattle.alog_core.specs.World.{shown};
 ghost use Rattle.std.specs.Option.{option_copied};
 ghost use Rattle.alog_system.specs.Begin.{begun, filtered_by, IsKnown, IsTooLong};
-ghost use Rattle.alog_system.specs.System.{is_free};
-ghost use Rattle.alog_replay.specs.Configured.{Stage, with_system, number_in, may_do, after_act, store_at, listed_text, stored_text};
+ghost use Rattle.alog_system.specs.Step.{SystemSteps};
+ghost use Rattle.alog_system.specs.System.{duty_of, is_free, item_of};
+ghost use Rattle.alog_replay.specs.Configured.{Stage, with_system, number_in, may_do, after_act, store_at, store_in, listed_text, stored_text, places_text};
 ghost use Rattle.alog_replay.specs.Scene.{Prints};
+ghost use Rattle.alog_replay.specs.Texts.{cells_line, counts_text};
 ghost use Rattle.alog_replay.specs.declared.command.Act.TheVariants as act;
 ghost use Rattle.alog_sink.specs.Memory.{listing};
 
@@ -14,36 +17,35 @@ use crate::places::Place;
 use crate::print::{print_cells, print_counts, print_file};
 use crate::scene::Playable;
 use crate::told::{print_filtered, print_told};
-use alog_msg::Level;
-use alog_sink::{MemStore, Store};
-use alog_system::{Deed, System};
+use alog_msg::{Item, Level};
+use alog_sink::{MemStore, Sink, Store};
+use alog_system::{Deed, Stepped, System};
 use std::alloc::{AllocError, Global};
 use std::marker::Model;
 
 /// Contracts see it as the `Stage` of `specs/Configured.antt`.
 #[derive(Drop)]
-pub struct Configured<'c> {
-    system: System<MemStore>,
+pub struct Configured<'c, S> {
+    system: System<S>,
     names: Vec<TextRef<'c>>,
     places: Vec<Place<'c>>,
 }
 
-impl<'c> Model for Configured<'c> {
+impl<'c, S> Model for Configured<'c, S> {
     ghost use Rattle.alog_replay.specs.Configured.{Stage};
-    ghost use Rattle.alog_sink.specs.declared.mem_store.MemStore.{MemStore};
 
-    ghost Value = { Stage MemStore };
+    ghost Value = { Stage S };
 
     ghost view = { λ c. record { system = c.system; names = c.names.items; places = c.places.items } };
 }
 
-impl<'c> Configured<'c> {
+impl<'c> Configured<'c, MemStore> {
     /// This system, whose sinks have these names, and whose leaves are there.
-    pub(crate) fn of(
+    pub fn of(
         system: System<MemStore>,
         names: Vec<TextRef<'c>>,
         places: Vec<Place<'c>>,
-    ) -> Configured<'c>
+    ) -> Configured<'c, MemStore>
         ensures { result ≡ record { system = system; names = names.items; places = places.items } }
     {
         Configured {
@@ -156,19 +158,56 @@ impl<'c> Configured<'c> {
         Ok(())
     }
 
-    /// The store of a leaf.
-    fn store_at(&self, place: &Place<'_>) -> Option<&MemStore>
-        ensures { option_copied result ≡ store_at self.now.system place.now }
+    /// Prints the cells.
+    fn print_cells(&self, alloc: Global, out: &mut String) -> Result<(), AllocError>
+        ensures { OnOk result (string_bytes out.new
+            ≡ string_bytes out.old ++ cells_line (map shown self.now.system.desk.world.queue.cells)) }
     {
-        let sink = self.system.sinks().get(place.sink)?;
-        match place.member {
-            Some(member) => match sink.members().get(member) {
-                Some(leaf) => Some(leaf.store()),
-                None => None,
-            },
-            None => sink.store(),
-        }
+        let cells = self.system.cells(alloc)?;
+        print_cells(out, &cells)
     }
+
+    /// Prints the losses.
+    fn print_counts(&self, out: &mut String) -> Result<(), AllocError>
+        ensures { OnOk result (string_bytes out.new ≡ string_bytes out.old ++ counts_text self.now.system.desk.counts) }
+    {
+        print_counts(out, self.system.counts())
+    }
+}
+
+/// An actor makes the next step of its call.
+fn step_of(system: &mut System<MemStore>, actor: Actor) -> Result<Stepped, LineError>
+    ensures steps { IfOk result (λ told. SystemSteps ⟦<MemStore as Store>⟧.tells ⟦<MemStore as Store>⟧.files
+        ⟦<MemStore as Store>⟧.failures system.old actor told system.new) }
+    ensures refused { IsErrOf result LineError.Refused ↔ (is_free system.old actor ≡ true) }
+{
+    Ok(system.step(u32::from(actor.number()))?)
+}
+
+/// The item that an actor took last.
+fn held_by(system: &System<MemStore>, actor: Actor) -> Option<&Item>
+    ensures { option_copied result ≡ item_of (duty_of system.now actor) }
+{
+    system.taken(u32::from(actor.number()))
+}
+
+/// The store of a leaf.
+fn store_at<'s>(system: &'s System<MemStore>, place: &Place<'_>) -> Option<&'s MemStore>
+    ensures { option_copied result ≡ store_at system.now place.now }
+{
+    let sink = system.sinks().get(place.sink)?;
+    match place.member {
+        Some(member) => store_of_member(sink, member),
+        None => sink.store(),
+    }
+}
+
+/// The store of a member of a fan.
+fn store_of_member(sink: &Sink<MemStore>, member: usize) -> Option<&MemStore>
+    ensures { option_copied result ≡ store_in (Some member) sink.now }
+{
+    let leaf = sink.members().get(member)?;
+    Some(leaf.store())
 }
 
 /// Prints the files of a sink, in the order of their names.
@@ -186,7 +225,37 @@ fn print_listed(
     Ok(())
 }
 
-impl Playable for Configured<'_> {
+/// Prints the files of a sink, if there is one.
+fn print_stored(
+    alloc: Global,
+    out: &mut Vec<u8>,
+    sink: &str,
+    store: Option<&MemStore>,
+) -> Result<(), AllocError>
+    ensures { OnOk result (out.new.items ≡ out.old.items ++ stored_text listing sink.now (option_copied store.entry)) }
+{
+    match store {
+        Some(store) => print_listed(alloc, out, sink, store),
+        None => Ok(()),
+    }
+}
+
+/// Prints the files of these leaves, one leaf after another.
+fn print_places(
+    alloc: Global,
+    out: &mut Vec<u8>,
+    system: &System<MemStore>,
+    places: &[Place<'_>],
+) -> Result<(), AllocError>
+    ensures { OnOk result (out.new.items ≡ out.old.items ++ places_text listing system.now places.now) }
+{
+    for place in places {
+        print_stored(alloc, out, place.name.as_str(), store_at(system, place))?;
+    }
+    Ok(())
+}
+
+impl Playable for Configured<'_, MemStore> {
     ghost use Rattle.alog_replay.specs.Configured.{configured};
     ghost use Rattle.alog_replay.specs.Goes.{configured_goes_on};
     ghost use Rattle.alog_sink.specs.Memory.{listing};
@@ -217,28 +286,19 @@ impl Playable for Configured<'_> {
                 logger,
             } => self.dump(alloc, actor, time, logger.as_str()),
             Act::Level { logger, level } => self.set_level(logger.as_str(), level),
-            Act::Cells => {
-                let cells = self.system.cells(alloc)?;
-                Ok(print_cells(out, &cells)?)
-            }
-            Act::Counts => Ok(print_counts(out, self.system.counts())?),
+            Act::Cells => Ok(self.print_cells(alloc, out)?),
+            Act::Counts => Ok(self.print_counts(out)?),
         }
     }
 
     fn step(&mut self, actor: Actor, out: &mut String) -> Result<(), LineError> {
-        let number = actor.number();
-        let told = self.system.step(u32::from(number))?;
-        let held = self.system.taken(u32::from(number));
-        Ok(print_told(out, number, &self.names, held, &told)?)
+        let told = step_of(&mut self.system, actor)?;
+        let held = held_by(&self.system, actor);
+        Ok(print_told(out, actor.number(), &self.names, held, &told)?)
     }
 
     fn print_files(&self, alloc: Global, out: &mut Vec<u8>) -> Result<(), AllocError> {
-        for place in &self.places {
-            if let Some(store) = self.store_at(place) {
-                print_listed(alloc, out, place.name.as_str(), store)?;
-            }
-        }
-        Ok(())
+        print_places(alloc, out, &self.system, &self.places)
     }
 
     ghost goes_on = { configured_goes_on ⟦<MemStore as Store>⟧.tells ⟦<MemStore as Store>⟧.files ⟦<MemStore as Store>⟧.failures listing };

@@ -14,6 +14,8 @@
 
 mod command;
 mod configured;
+#[cfg(test)]
+mod configured_tests;
 mod duty;
 mod entry;
 mod error;
@@ -32,6 +34,9 @@ mod told;
 #[cfg(test)]
 mod tests;
 
+pub use command::TextRef;
+pub use configured::Configured;
 pub use entry::{one_command, one_entry};
 pub use error::ReplayError;
-pub use player::{one_text, replay, tells_one_thing, tells_something};
+pub use places::Place;
+pub use player::{one_text, play, replay, tells_one_thing, tells_something};

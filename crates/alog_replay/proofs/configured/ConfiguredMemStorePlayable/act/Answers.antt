@@ -1,0 +1,18 @@
+use Rattle.std.proofs.Common.{string_bytes}
+use Rattle.alog_replay.proofs.Acting.{quietly}
+use Rattle.alog_replay.proofs.configured.ConfiguredMemStorePlayable.act.Goals as goal
+
+pub returns-in-Work-clause-done : goal.returns-in-Work-clause-done
+returns-in-Work-clause-done c = rw c.in-Work.is (quietly _ (string_bytes c.args.out.now) _ _ c.work.ensures.begun)
+
+pub returns-in-Flush-clause-done : goal.returns-in-Flush-clause-done
+returns-in-Flush-clause-done c =
+    rw c.in-Flush.is (quietly _ (string_bytes c.args.out.now) _ _ (rw c.as_str.ensures at c.flush.ensures.begun))
+
+pub returns-in-Dump-clause-done : goal.returns-in-Dump-clause-done
+returns-in-Dump-clause-done c =
+    rw c.in-Dump.is (quietly _ (string_bytes c.args.out.now) _ _ (rw c.as_str.ensures at c.dump.ensures.begun))
+
+pub returns-in-Level-clause-done : goal.returns-in-Level-clause-done
+returns-in-Level-clause-done c =
+    rw c.in-Level.is (quietly _ (string_bytes c.args.out.now) _ _ (rw c.as_str.ensures at c.set_level.ensures.set))
