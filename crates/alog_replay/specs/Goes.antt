@@ -102,21 +102,21 @@ module _ {S : Type 0} (tells : Bool) (files : S → Files) (failures : S → ℕ
   }
 
   -- a leaf that is to write no line
-  idle_by : (l : LeafView S) (m : Message) (b c : Bool) → admits l.face.level m.level ≡ b → l.broken ≡ c → (b && not c) ≡ false
+  quiet_by : (l : LeafView S) (m : Message) (b c : Bool) → admits l.face.level m.level ≡ b → l.broken ≡ c → (b && not c) ≡ false
       → (answer : Answer) × Takes tells files failures l m answer l
-  idle_by l m false c p q e = (Ok Below, below l m p)
-  idle_by l m true true p q e = (Err errors.Broken, broken l m p q)
-  idle_by l m true false p q e = absurd (false≢true (sym e))
+  quiet_by l m false c p q e = (Ok Below, below l m p)
+  quiet_by l m true true p q e = (Err errors.Broken, broken l m p q)
+  quiet_by l m true false p q e = absurd (false≢true (sym e))
 
-  idle : (l : LeafView S) (m : Message) → writes m l ≡ false → (answer : Answer) × Takes tells files failures l m answer l
-  idle l m e = idle_by l m (admits l.face.level m.level) l.broken refl refl e
+  quiet : (l : LeafView S) (m : Message) → writes m l ≡ false → (answer : Answer) × Takes tells files failures l m answer l
+  quiet l m e = quiet_by l m (admits l.face.level m.level) l.broken refl refl e
 
   first_idle : (m : Message) (l : LeafView S) (leaves : List (LeafView S)) (b : Bool) → writes m l ≡ b
       → (if b then true else any_writes m leaves) ≡ false
       → (any_writes m leaves ≡ false → (answers : List Answer) × AllTake tells files failures leaves m answers leaves)
       → (answers : List Answer) × AllTake tells files failures (l ∷ leaves) m answers (l ∷ leaves)
   first_idle m l leaves true w e rest = absurd (false≢true (sym e))
-  first_idle m l leaves false w e rest = let first = idle l m w in let more = rest e in (first.0 ∷ more.0, (first.1, more.1))
+  first_idle m l leaves false w e rest = let first = quiet l m w in let more = rest e in (first.0 ∷ more.0, (first.1, more.1))
 
   all_idle : (m : Message) (leaves : List (LeafView S)) → any_writes m leaves ≡ false
       → (answers : List Answer) × AllTake tells files failures leaves m answers leaves
@@ -134,7 +134,7 @@ module _ {S : Type 0} (tells : Bool) (files : S → Files) (failures : S → ℕ
       let after : Sink S = Leaf (broken_leaf l) in
       let none : Option (Sink S) = None in
       inr (after, ap (λ (w : Bool). if w then Some after else none) e)
-  leaf_takes l m false e = let given = idle l m e in inl (given.0, Leaf l, given.1)
+  leaf_takes l m false e = let given = quiet l m e in inl (given.0, Leaf l, given.1)
 
   fan_takes : (f : FanView S) (m : Message) (b c : Bool) → admits f.level m.level ≡ b → any_writes m f.members ≡ c → TakesOrRefuses (Fan f) m
   fan_takes f m false c p q =
@@ -238,7 +238,7 @@ module _ {S : Type 0} (tells : Bool) (files : S → Files) (failures : S → ℕ
         inl (record { told = Turned t; steps = whole; printed = refl; rest = refl }),
       )
 
-  with_sink : SystemView S → ℕ → ℕ → Item → ℕ → SinkTurn → Sink S → SystemView S
+  abbrev with_sink : SystemView S → ℕ → ℕ → Item → ℕ → SinkTurn → Sink S → SystemView S
   with_sink v a ticket i done t after =
       with_duty (with_outputs v (record { sinks = slice_set v.outputs.sinks t.sink after; text_limit = v.outputs.text_limit })) a
       (Serves ticket i (done + 1))

@@ -1,11 +1,12 @@
 //! The scene of a script with a configuration: a stepped system, the names of its sinks, and where its leaves are.
-ghost use Rattle.std.specs.Prelude.{◌≡◌, ◌↔◌, ◌⊎◌, ◌++◌, ◌<◌, Some, true, false, IfOk, IfSome, OnOk, IsErrOf, length, map, string_bytes};
+ghost use Rattle.std.specs.Prelude.{◌≡◌, ◌↔◌, ◌⊎◌, ◌++◌, ◌<◌, ◌&&◌, Some, true, false, IfOk, IfSome, OnOk, IsErrOf, length, map, string_bytes};
 ghost use Rattle.alog_core.specs.World.{shown};
 ghost use Rattle.std.specs.Option.{option_copied};
-ghost use Rattle.alog_system.specs.Begin.{begun, filtered_by, IsKnown, IsTooLong};
+ghost use Rattle.alog_system.specs.Begin.{begun, filtered_by, filtering, logging, message_by, IsKnown, IsTooLong};
+ghost use Rattle.alog_system.specs.Roster.{level_at};
 ghost use Rattle.alog_system.specs.Step.{SystemSteps};
 ghost use Rattle.alog_system.specs.System.{duty_of, is_free, item_of};
-ghost use Rattle.alog_replay.specs.Configured.{Stage, with_system, number_in, may_do, after_act, store_at, store_in, listed_text, stored_text, places_text};
+ghost use Rattle.alog_replay.specs.Configured.{Stage, with_system, number_in, is_fit, may_do, after_act, store_at, store_in, listed_text, stored_text, places_text};
 ghost use Rattle.alog_replay.specs.Scene.{Prints};
 ghost use Rattle.alog_replay.specs.Texts.{cells_line, counts_text};
 ghost use Rattle.alog_replay.specs.declared.command.Act.TheVariants as act;
@@ -46,7 +47,7 @@ impl<'c> Configured<'c, MemStore> {
         names: Vec<TextRef<'c>>,
         places: Vec<Place<'c>>,
     ) -> Configured<'c, MemStore>
-        ensures { result ≡ record { system = system; names = names.items; places = places.items } }
+        ensures { result ≡ record { system = system; names = names.entry.items; places = places.entry.items } }
     {
         Configured {
             system,
@@ -79,31 +80,53 @@ impl<'c> Configured<'c, MemStore> {
         Ok(self.system.begin(alloc, u32::from(actor.number()), deed)?)
     }
 
+    /// Begins a log of an actor by the logger of this number: the level that filters it, if one does.
+    fn begin_log(
+        &mut self,
+        alloc: Global,
+        actor: Actor,
+        time: i64,
+        logger: u32,
+        level: Level,
+        text: &str,
+    ) -> Result<Option<Level>, LineError>
+        requires { logger < length self.old.system.roster.loggers }
+        ensures filtered { IfOk result (λ own. own ≡ filtering level (level_at self.old.system.roster logger)) }
+        ensures begun { OnOk result (self.new
+            ≡ with_system self.old (logging self.old.system actor (message_by actor time logger level text.now))) }
+        ensures refused { IsErrOf result LineError.Refused
+            ↔ ((is_free self.old.system actor && is_fit self.old.system level text.now logger) ≡ false) }
+    {
+        let deed = Deed::Log {
+            time,
+            logger,
+            level,
+            text,
+        };
+        self.begin(alloc, actor, deed)
+    }
+
     /// An actor begins a log, and the level that filters it is printed.
     fn log(
         &mut self,
         alloc: Global,
         actor: Actor,
-        given: (i64, TextRef<'_>, Level, TextRef<'_>),
+        time: i64,
+        logger: &str,
+        level: Level,
+        text: &str,
         out: &mut String,
     ) -> Result<(), LineError>
-        ensures done { OnOk result (Prints (string_bytes out.old) (string_bytes out.new) (λ text.
-            (text ≡ (after_act self.old (act.Log actor given.0 given.1 given.2 given.3)).0)
-            × (self.new ≡ (after_act self.old (act.Log actor given.0 given.1 given.2 given.3)).1))) }
-        ensures refused { IsErrOf result LineError.Refused ↔ (may_do self.old (act.Log actor given.0 given.1 given.2 given.3) ≡ false) }
+        ensures printed { OnOk result (string_bytes out.new
+            ≡ string_bytes out.old ++ (after_act self.old (act.Log actor time logger.now level text.now)).0) }
+        ensures begun { OnOk result (self.new ≡ (after_act self.old (act.Log actor time logger.now level text.now)).1) }
+        ensures refused { IsErrOf result LineError.Refused ↔ (may_do self.old (act.Log actor time logger.now level text.now) ≡ false) }
         ensures same { IsErrOf result LineError.Refused → string_bytes out.new ≡ string_bytes out.old }
     {
-        let (time, logger, level, text) = given;
-        let Some(number) = self.number(logger.as_str()) else {
+        let Some(logger) = self.number(logger) else {
             return Err(LineError::Refused);
         };
-        let deed = Deed::Log {
-            time,
-            logger: number,
-            level,
-            text: text.as_str(),
-        };
-        let filtered = self.begin(alloc, actor, deed)?;
+        let filtered = self.begin_log(alloc, actor, time, logger, level, text)?;
         Ok(print_filtered(out, actor.number(), filtered)?)
     }
 
@@ -278,7 +301,11 @@ impl Playable for Configured<'_, MemStore> {
                 logger,
                 level,
                 text,
-            } => self.log(alloc, actor, (time, logger, level, text), out),
+            } => {
+                let logger = logger.as_str();
+                let text = text.as_str();
+                self.log(alloc, actor, time, logger, level, text, out)
+            }
             Act::Flush { actor, logger } => self.flush(alloc, actor, logger.as_str()),
             Act::Dump {
                 actor,

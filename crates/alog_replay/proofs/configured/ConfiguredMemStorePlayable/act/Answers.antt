@@ -1,9 +1,16 @@
 use Rattle.std.proofs.Common.{string_bytes}
-use Rattle.alog_replay.proofs.Acting.{quietly}
+use Rattle.alog_replay.proofs.Acting.{logged, quietly}
 use Rattle.alog_replay.proofs.configured.ConfiguredMemStorePlayable.act.Goals as goal
 
 pub returns-in-Work-clause-done : goal.returns-in-Work-clause-done
 returns-in-Work-clause-done c = rw c.in-Work.is (quietly _ (string_bytes c.args.out.now) _ _ c.work.ensures.begun)
+
+pub returns-in-Log-clause-done : goal.returns-in-Log-clause-done
+returns-in-Log-clause-done c =
+    rw c.in-Log.is
+    (logged c.log.result (string_bytes c.args.out.now) (string_bytes c.log.new.out) c.args.self.now c.log.new.self c.in-Log.actor c.in-Log.time
+    c.in-Log.level c.as_str-logger.result.now c.in-Log.logger c.as_str-text.result.now c.in-Log.text c.as_str-logger.ensures
+    c.as_str-text.ensures c.log.ensures.printed c.log.ensures.begun)
 
 pub returns-in-Flush-clause-done : goal.returns-in-Flush-clause-done
 returns-in-Flush-clause-done c =
@@ -11,8 +18,8 @@ returns-in-Flush-clause-done c =
 
 pub returns-in-Dump-clause-done : goal.returns-in-Dump-clause-done
 returns-in-Dump-clause-done c =
-    rw c.in-Dump.is (quietly _ (string_bytes c.args.out.now) _ _ (rw c.as_str.ensures at c.dump.ensures.begun))
+    rw c.in-Dump.is (quietly _ (string_bytes c.args.out.now) _ _ (rw c.as_str-in-Dump.ensures at c.dump.ensures.begun))
 
 pub returns-in-Level-clause-done : goal.returns-in-Level-clause-done
 returns-in-Level-clause-done c =
-    rw c.in-Level.is (quietly _ (string_bytes c.args.out.now) _ _ (rw c.as_str.ensures at c.set_level.ensures.set))
+    rw c.in-Level.is (quietly _ (string_bytes c.args.out.now) _ _ (rw c.as_str-in-Level.ensures at c.set_level.ensures.set))
