@@ -13,10 +13,5 @@ refused_log true false limit len = (
   (λ e. inr (leb-false len limit e, refl)),
 )
 
--- the same of a call whose text is no matter
-pub refused_call : (free : Bool) → ((free ≡ false) ⊎ ⊥) ↔ ((free && true) ≡ false)
-refused_call false = ((λ h. refl), (λ e. inl refl))
-refused_call true = ((λ h. elim h [ inl p ↦ p | inr q ↦ absurd q ]), (λ e. inl e))
-
 pub iff_then : {P Q R : Type 0} → P ↔ Q → Q ↔ R → P ↔ R
 iff_then f g = ((λ p. g.0 (f.0 p)), (λ r. f.1 (g.1 r)))

@@ -24,7 +24,9 @@ use alog_system::{Deed, Stepped, System};
 use std::alloc::{AllocError, Global};
 use std::marker::Model;
 
-/// Contracts see it as the `Stage` of `specs/Configured.antt`.
+/// What a script with a configuration is played on: a stepped system, the names of its sinks, and where its leaves are.
+///
+/// Contracts see it as the `Stage` of `specs/Configured.antt`. The test `a_flush_that_is_due` (`src/configured_tests.rt`) shows it.
 #[derive(Drop)]
 pub struct Configured<'c, S> {
     system: System<S>,
@@ -41,7 +43,8 @@ impl<'c, S> Model for Configured<'c, S> {
 }
 
 impl<'c> Configured<'c, MemStore> {
-    /// This system, whose sinks have these names, and whose leaves are there.
+    /// This system, whose sinks have these names by their numbers, and the files of whose leaves at these places are printed at the end,
+    /// in this order. A turn of a sink past the last name is printed with the empty name.
     pub fn of(
         system: System<MemStore>,
         names: Vec<TextRef<'c>>,
