@@ -1,5 +1,5 @@
 -- Whether a log may begin.
-use Rattle.std.proofs.Common.{◌≡◌, ◌<◌, ℕ, Bool, true, false, inl, inr, refl, sym, ◌∙◌}
+use Rattle.std.proofs.Common.{◌≡◌, ◌<◌, ℕ, Bool, true, false, inl, inr, refl, sym}
 use Rattle.std.specs.Prelude.{◌↔◌, ◌⊎◌, ◌&&◌, ◌||◌, nat_le}
 use Rattle.std.proofs.lemmas.Bool.{false≢true, leb-false, lt-leb}
 

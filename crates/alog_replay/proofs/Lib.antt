@@ -9,7 +9,6 @@ pub mod Duties
 pub mod PlainLemmas
 pub mod Numbers
 pub mod Fitting
-pub mod Listing
 pub mod Acting
 pub mod Stepping
 pub mod Turning

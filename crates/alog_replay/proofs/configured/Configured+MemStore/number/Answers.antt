@@ -1,4 +1,4 @@
-use Rattle.std.proofs.Common.{◌<◌, ℕ, length, ap, subst, ◌∙◌}
+use Rattle.std.proofs.Common.{◌<◌, length, ap, subst, ◌∙◌}
 use Rattle.std.specs.Prelude.{IfSome}
 use Rattle.alog_sink.specs.declared.mem_store.MemStore.{MemStore}
 use Rattle.alog_replay.specs.Configured.{Stage, number_in}
