@@ -7,6 +7,9 @@ pub mod KnownLemmas
 pub mod EntryLemmas
 pub mod Duties
 pub mod PlainLemmas
+pub mod Numbers
+pub mod Fitting
+pub mod Acting
 pub mod Stepping
 pub mod Turning
 pub mod Opening

@@ -12,4 +12,7 @@ pub mod MemorySink
 pub mod Texts
 pub mod Session
 pub mod Plain
+pub mod Refusing
+pub mod Configured
+pub mod Goes
 pub mod Error

@@ -20,12 +20,14 @@ impl<'a> Model for TextRef<'a> {
 }
 
 impl<'a> TextRef<'a> {
+    /// This text.
     pub fn new(text: &'a str) -> TextRef<'a>
         ensures { result ≡ text.now }
     {
         TextRef { text }
     }
 
+    /// The text.
     pub fn as_str(&self) -> &'a str
         ensures { result.now ≡ self.now }
     {

@@ -1,7 +1,7 @@
 ghost use Rattle.std.specs.Prelude.{◌≡◌};
 ghost use Rattle.alog_replay.specs.declared.error.LineError.TheVariants.{Refused, OutOfMemory};
 ghost use Rattle.alog_replay.specs.declared.error.ReplayError.TheVariants as fault;
-ghost use Rattle.alog_replay.specs.Error.{line_fault_of, line_fault_of_message};
+ghost use Rattle.alog_replay.specs.Error.{line_fault_of, line_fault_of_begin, line_fault_of_message};
 
 use crate::lines::ReadFault;
 use crate::pushed::Pushed;
@@ -64,6 +64,19 @@ impl From<BeginError> for LineError {
 
     fn from(_fault: BeginError) -> LineError {
         LineError::Refused
+    }
+}
+
+impl From<alog_system::BeginError> for LineError {
+    ghost from_gives = { λ b e. e ≡ line_fault_of_begin b };
+
+    fn from(fault: alog_system::BeginError) -> LineError {
+        match fault {
+            alog_system::BeginError::NoActor
+            | alog_system::BeginError::InCall
+            | alog_system::BeginError::TextTooLong => LineError::Refused,
+            alog_system::BeginError::OutOfMemory => LineError::OutOfMemory,
+        }
     }
 }
 

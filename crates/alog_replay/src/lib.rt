@@ -6,6 +6,11 @@
 //! `specs/Session.antt` and the memory file of `specs/Memory.antt`. Above it a script is lines (`specs/Lines.antt`), and a
 //! line is skipped, refused or spells a command (`specs/Entry.antt`, `specs/Command.antt`).
 //!
+//! `play` goes so on any scene. That of a script with a configuration is `specs/Configured.antt`, over the stepped system of
+//! `alog_system`: `Configured` (`configured.rt`) is made of a system, of names for its sinks, and of the places of its leaves
+//! (`places.rt`), and `told.rt` has the texts of its steps. `specs/Refusing.antt` and `specs/Goes.antt` say why each step of it
+//! comes to something.
+//!
 //! Read the specs in that order, then `scene.rt` (the trait of what a script is played on), `player.rt` (which plays on
 //! any such thing, and has `replay` at its end); `plain.rt` and `session.rt` are the queue, `memory.rt` its sink, of which
 //! `specs/MemorySink.antt` says what it is, `lines.rt` the reader, `parser.rt` and `entry.rt` the lines, and `print.rt` has
@@ -13,6 +18,9 @@
 #![tactic(auto)]
 
 mod command;
+mod configured;
+#[cfg(test)]
+mod configured_tests;
 mod duty;
 mod entry;
 mod error;
@@ -20,6 +28,7 @@ mod limits;
 mod lines;
 mod memory;
 mod parser;
+mod places;
 mod plain;
 mod player;
 mod print;
@@ -28,7 +37,11 @@ mod scene;
 mod session;
 #[cfg(test)]
 mod tests;
+mod told;
 
+pub use command::TextRef;
+pub use configured::Configured;
 pub use entry::{one_command, one_entry};
 pub use error::ReplayError;
-pub use player::{one_text, replay, tells_one_thing, tells_something};
+pub use places::Place;
+pub use player::{one_text, play, replay, tells_one_thing, tells_something};
