@@ -1,1 +1,3 @@
--- The definitions of this crate.
+pub mod Accounts
+pub mod Berth
+pub mod Working

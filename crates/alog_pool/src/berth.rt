@@ -1,12 +1,14 @@
 //! A worker's place at a sink.
-ghost use Rattle.std.specs.Prelude.{◌≡◌};
-ghost use Rattle.std.specs.Arc.{arc_value};
+ghost use Rattle.std.specs.Prelude.{◌≡◌, ◌+◌, ◌%◌, ◌^◌};
+ghost use Rattle.alog_lane.specs.Seats.{IsJoined};
+ghost use Rattle.alog_pattern.specs.declared.patterns.TheConstants.{LINE_MAX};
+ghost use Rattle.alog_pool.specs.Berth.{IsServable, Serves, fault_in};
 
 use alog_format::LineBuf;
 use alog_lane::{Lane, LaneSeat};
 use alog_msg::Item;
-use alog_registry::{SinkDeed, SinkTurn};
-use alog_sink::{Sink, Store};
+use alog_sink::{Served, Sink, SinkError, Store};
+use std::marker::Model;
 use std::sync::{Arc, Wait};
 
 /// A sink under its lock, a seat of that, and how many of the seat's turns were answered by a fault, modulo 2^64.
@@ -15,36 +17,59 @@ pub(crate) struct Berth<S: Store> {
     pub(crate) lane: Arc<Lane<Sink<S>>>,
     pub(crate) seat: LaneSeat<Sink<S>>,
     pub(crate) faults: u64,
+    /// The most bytes of a text.
+    pub(crate) text_limit: usize,
+}
+
+impl<S: Store> Model for Berth<S> {
+    ghost use Rattle.std.specs.Prelude.{◌≡◌};
+    ghost use Rattle.std.specs.Arc.{arc_value};
+    ghost use Rattle.alog_lane.specs.Calls.{IsSeatOf};
+    ghost use Rattle.alog_pool.specs.Berth.{BerthView, Suits};
+
+    ghost Value = { BerthView S };
+
+    ghost view = { λ b. record { lane = arc_value b.lane; seat = b.seat; faults = b.faults; limit = b.text_limit } };
+
+    ghost invariant = { λ b. IsSeatOf (arc_value b.lane) b.seat × Suits b.text_limit (arc_value b.lane).first };
 }
 
 impl<S: Store> Berth<S> {
-    /// Makes a turn on the sink, as soon as its lock is got.
-    pub(crate) fn serve(
-        &mut self,
-        rt: &impl Wait,
-        turn: SinkTurn,
-        item: &Item,
-        flush: &Item,
-        line: &mut LineBuf,
-    ) {
-        let given = match turn.deed {
-            SinkDeed::Take => item,
-            SinkDeed::Flush => flush,
-        };
-        let (_, reply) = self.lane.turn(rt, &mut self.seat, turn.tag, given, line);
-        if reply.is_err() {
-            self.faults = self.faults.wrapping_add(1);
-        }
+    /// Makes a turn on the sink at this item, as soon as the lock is got.
+    pub(crate) fn serve(&mut self, rt: &impl Wait, tag: u64, item: &Item, line: &mut LineBuf)
+        requires item { IsServable self.old.limit item.now }
+        requires line { line.old.capacity ≡ LINE_MAX }
+        ensures serves { Serves S.tells S.files S.failures self.old tag item.now self.new }
+        ensures line { line.new.capacity ≡ LINE_MAX }
+    {
+        let (_, reply) = self.lane.turn(rt, &mut self.seat, tag, item, line);
+        self.faults = self.faults.wrapping_add(fault_in(&reply));
+    }
+}
+
+/// One for a fault.
+fn fault_in(reply: &Result<Served, SinkError>) -> u64
+    ensures { result ≡ fault_in reply.now }
+{
+    match reply {
+        Ok(_) => 0,
+        Err(_) => 1,
     }
 }
 
 impl<S: Store + Drop> Berth<S> {
     /// Takes a worker's seat of the same sink back, with its faults.
-    pub(crate) fn take_back(&mut self, place: Berth<S>) {
+    pub(crate) fn take_back(&mut self, place: Berth<S>)
+        requires { place.lane ≡ self.old.lane }
+        ensures same { (self.new.lane ≡ self.old.lane) × (self.new.limit ≡ self.old.limit) }
+        ensures joined { IsJoined self.old.seat.known place.seat.known self.new.seat.known }
+        ensures faults { self.new.faults ≡ (self.old.faults + place.faults) % 2 ^ 64 }
+    {
         let Berth {
             lane: _,
             seat,
             faults,
+            text_limit: _,
         } = place;
         self.lane.join(&mut self.seat, seat);
         self.faults = self.faults.wrapping_add(faults);

@@ -1,4 +1,13 @@
 //! A worker.
+ghost use Rattle.std.specs.Prelude.{◌≡◌, ◌↔◌, ◌≤◌, ◌∷◌, ◌++◌, [], IsTrue, take, vec_len, vec_capacity};
+ghost use Rattle.alog_core.specs.Queue.{last};
+ghost use Rattle.alog_msg.specs.declared.item.Item.TheVariants.{Stop};
+ghost use Rattle.alog_pattern.specs.declared.patterns.TheConstants.{LINE_MAX};
+ghost use Rattle.alog_pool.specs.Berth.{AreServable, places_of};
+ghost use Rattle.alog_pool.specs.Working.{Finds, HasWorked, IsAtWork};
+ghost use Rattle.alog_ring.specs.Known.{IsPassOf};
+ghost use Rattle.alog_ring.specs.Made.{IsFaithful};
+ghost use Rattle.alog_ring.specs.declared.pop.PopError.TheVariants.{Empty};
 use crate::berth::Berth;
 use crate::gate::Gate;
 use crate::rest::Rest;
@@ -6,7 +15,7 @@ use crate::shared::Shared;
 use alog_core::LAST_TICKET;
 use alog_format::LineBuf;
 use alog_msg::Item;
-use alog_registry::Spec;
+use alog_registry::{Loggers, SinkDeed};
 use alog_ring::{Pass, PopError};
 use alog_sink::Store;
 use std::sync::atomic::Ordering;
@@ -44,7 +53,10 @@ pub(crate) enum Next {
 
 impl<S: Store> Hand<S> {
     /// Handles items until the first stop, or until no ticket is left.
-    pub(crate) fn work<R: Wait + Clock, G: Gate>(self, rt: &R, gate: &G) -> Hand<S> {
+    pub(crate) fn work<R: Wait + Clock, G: Gate>(self, rt: &R, gate: &G) -> Hand<S>
+        requires { IsAtWork self self }
+        ensures { HasWorked self result }
+    {
         let mut hand = self;
         for _ in rt.forever() {
             match take_waiting(rt, &hand.shared, &mut hand.pass, hand.workers) {
@@ -52,8 +64,16 @@ impl<S: Store> Hand<S> {
                     if is_stop(&item) {
                         return hand;
                     }
-                    hand.note(ticket);
-                    hand.handle(rt, gate, ticket, &item);
+                    hand.handled = hand.handled.wrapping_add(1);
+                    note(&mut hand.tickets, hand.most, ticket);
+                    let Hand {
+                        shared,
+                        berths,
+                        line,
+                        number,
+                        ..
+                    } = &mut hand;
+                    handle(rt, gate, *number, &shared.loggers, berths, line, ticket, &item);
                 }
                 Next::End => return hand,
                 Next::Leave => {
@@ -64,60 +84,94 @@ impl<S: Store> Hand<S> {
         }
         unreachable!()
     }
+}
 
-    /// Notes that the item of this ticket is handled.
-    fn note(&mut self, ticket: u64) {
-        self.handled = self.handled.wrapping_add(1);
-        if self.tickets.len() < self.most {
-            self.tickets.push_reserved(ticket);
-        }
+/// Notes the ticket, if fewer than so many are noted.
+fn note(tickets: &mut Vec<u64>, most: usize, ticket: u64)
+    requires room { most ≤ vec_capacity tickets.old }
+    requires few { vec_len tickets.old ≤ most }
+    ensures noted { tickets.new.items ≡ take most (tickets.old.items ++ ticket ∷ []) }
+    ensures room { vec_capacity tickets.new ≡ vec_capacity tickets.old }
+{
+    if tickets.len() < most {
+        tickets.push_reserved(ticket);
     }
+}
 
-    /// Makes the turns of an item, and calls the gate before and after those of a text.
-    fn handle<R: Wait, G: Gate>(&mut self, rt: &R, gate: &G, ticket: u64, item: &Item) {
-        match item {
-            Item::Text(message) => {
-                gate.before(self.number, ticket);
-                self.make_turns(rt, message.logger, ticket, item);
-                gate.after(self.number, ticket);
-            }
-            Item::Flush(logger) => self.make_turns(rt, *logger, ticket, item),
-            Item::Stop => {}
+/// Makes the turns of an item, and calls the gate before and after those of a text.
+fn handle<S: Store, R: Wait, G: Gate>(
+    rt: &R,
+    gate: &G,
+    number: u32,
+    loggers: &Loggers,
+    berths: &mut Vec<Berth<S>>,
+    line: &mut LineBuf,
+    ticket: u64,
+    item: &Item,
+)
+    requires servable { AreServable item.now (places_of berths.old.items) }
+    requires line { line.old.capacity ≡ LINE_MAX }
+    ensures places { places_of berths.new.items ≡ places_of berths.old.items }
+    ensures line { line.new.capacity ≡ LINE_MAX }
+{
+    match item {
+        Item::Text(message) => {
+            gate.before(number, ticket);
+            make_turns(rt, loggers, message.logger, berths, line, ticket, item);
+            gate.after(number, ticket);
         }
-    }
-
-    /// Makes the turns of an item of this logger.
-    fn make_turns(&mut self, rt: &impl Wait, logger: u32, ticket: u64, item: &Item) {
-        let Hand {
-            shared,
-            berths,
-            line,
-            ..
-        } = self;
-        if let Some(spec) = shared.loggers.spec(logger) {
-            serve_all(rt, spec, logger, berths.as_mut_slice(), line, ticket, item);
-        }
+        Item::Flush(logger) => make_turns(rt, loggers, *logger, berths, line, ticket, item),
+        Item::Stop => {}
     }
 }
 
 /// Makes the turns of an item of this logger, one after another.
-fn serve_all<S: Store>(
+fn make_turns<S: Store>(
     rt: &impl Wait,
-    spec: &Spec,
+    loggers: &Loggers,
     logger: u32,
-    berths: &mut [Berth<S>],
+    berths: &mut Vec<Berth<S>>,
     line: &mut LineBuf,
     ticket: u64,
     item: &Item,
-) {
-    let flush = Item::Flush(logger);
+)
+    requires servable { AreServable item.now (places_of berths.old.items) }
+    requires line { line.old.capacity ≡ LINE_MAX }
+    ensures places { places_of berths.new.items ≡ places_of berths.old.items }
+    ensures line { line.new.capacity ≡ LINE_MAX }
+{
+    let Some(spec) = loggers.spec(logger) else {
+        return;
+    };
     for place in 0..usize::MAX {
         let Some(turn) = spec.turn_of_work(ticket, item, place) else {
             return;
         };
-        if let Some(berth) = berths.get_mut(turn.sink as usize) {
-            berth.serve(rt, turn, item, &flush, line);
-        }
+        let flush = Item::Flush(logger);
+        let given = match turn.deed {
+            SinkDeed::Take => item,
+            SinkDeed::Flush => &flush,
+        };
+        serve_at(rt, berths, turn.sink as usize, ticket, given, line);
+    }
+}
+
+/// Makes a turn at the place of this number, if there is one.
+fn serve_at<S: Store>(
+    rt: &impl Wait,
+    berths: &mut Vec<Berth<S>>,
+    number: usize,
+    ticket: u64,
+    item: &Item,
+    line: &mut LineBuf,
+)
+    requires servable { AreServable item.now (places_of berths.old.items) }
+    requires line { line.old.capacity ≡ LINE_MAX }
+    ensures places { places_of berths.new.items ≡ places_of berths.old.items }
+    ensures line { line.new.capacity ≡ LINE_MAX }
+{
+    if number < berths.len() {
+        berths[number].serve(rt, ticket, item, line);
     }
 }
 
@@ -127,7 +181,12 @@ fn take_waiting<R: Wait + Clock>(
     shared: &Shared,
     pass: &mut Pass<Item>,
     workers: u32,
-) -> Next {
+) -> Next
+    requires ring { IsPassOf shared.now.ring pass.old }
+    requires faithful { IsFaithful pass.old.known }
+    ensures ring { IsPassOf shared.now.ring pass.new }
+    ensures finds { Finds shared.now.ring.limit.most pass.old.known pass.new.known result }
+{
     let mut rest = Rest::new(workers);
     for _ in rt.forever() {
         match shared.ring.pop(rt, pass) {
@@ -147,7 +206,9 @@ fn take_waiting<R: Wait + Clock>(
 }
 
 /// Whether a pop found that no ticket is left.
-fn is_end(error: PopError) -> bool {
+fn is_end(error: PopError) -> bool
+    ensures { IsTrue result ↔ (error ≡ Empty last) }
+{
     match error {
         PopError::Empty { next } => next == LAST_TICKET,
         PopError::Busy { seen: _ } => false,
@@ -155,6 +216,8 @@ fn is_end(error: PopError) -> bool {
 }
 
 /// Whether the item makes its worker end.
-pub(crate) fn is_stop(item: &Item) -> bool {
+pub(crate) fn is_stop(item: &Item) -> bool
+    ensures { IsTrue result ↔ (item.now ≡ Stop) }
+{
     matches!(item, Item::Stop)
 }

@@ -115,7 +115,7 @@ impl<S: Store + Drop + Send + 'static> Pool<S> {
             faults: Vec::with_capacity(alloc, sinks.len())?,
             sinks: Vec::with_capacity(alloc, sinks.len())?,
         };
-        let berths = berths_of(alloc, sinks)?;
+        let berths = berths_of(alloc, sinks, text_limit)?;
         let Ok(shared) = Arc::new(
             alloc,
             Shared {
@@ -192,6 +192,7 @@ impl<S: Store + Drop + Send + 'static> Pool<S> {
                 lane,
                 seat,
                 faults: 0,
+                text_limit: self.text_limit,
             });
         }
         let pass = self.shared.ring.split(&mut self.pass, 1);
@@ -244,6 +245,7 @@ impl<S: Store> Pool<S> {
 fn berths_of<S: Store + Drop>(
     alloc: Global,
     sinks: Vec<Sink<S>>,
+    text_limit: usize,
 ) -> Result<Vec<Berth<S>>, AllocError> {
     let mut berths = Vec::with_capacity(alloc, sinks.len())?;
     for sink in sinks {
@@ -257,6 +259,7 @@ fn berths_of<S: Store + Drop>(
             lane,
             seat,
             faults: 0,
+            text_limit,
         });
     }
     Ok(berths)

@@ -197,7 +197,12 @@ fn alone<T>(rt: &impl Wait, mut shared: Arc<T>) -> T {
 /// Closes the locks of all sinks.
 fn close_sinks<S: Store + Drop>(rt: &impl Wait, berths: Vec<Berth<S>>, room: &mut Room<S>) {
     for berth in berths {
-        let Berth { lane, seat, faults } = berth;
+        let Berth {
+            lane,
+            seat,
+            faults,
+            text_limit: _,
+        } = berth;
         let Ok(sink) = alone(rt, lane).close(seat) else {
             unreachable!()
         };

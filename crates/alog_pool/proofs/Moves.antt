@@ -1,0 +1,140 @@
+-- What a pass put in and took out, over several calls.
+use Rattle.std.proofs.Common.{◌≡◌, ℕ, ◌≤◌, List, [], ◌∷◌, ◌++◌, map, refl, sym, ap, subst, ◌∙◌, append_assoc, append-nil, inl, inr}
+use Rattle.alog_core.specs.Queue.{Event, PushBusy, PopBusy, Grab, Take, Claim, Write, Empty, last}
+use Rattle.alog_core.specs.History.{Entry}
+use Rattle.alog_core.specs.Accounts.{put_by, got_by, grabbed_by, claims, takes, grabbed}
+use Rattle.alog_msg.specs.declared.item.Item.{Item}
+use Rattle.alog_pool.specs.Accounts.{Moved, SawEnd}
+use Rattle.alog_ring.specs.Calls.{by, Answered, Popped, Pushed}
+use Rattle.alog_ring.specs.Known.{Known}
+use Rattle.alog_ring.specs.Kinds.{no_note}
+use Rattle.alog_ring.specs.Made.{Made, IsFaithful}
+use Rattle.alog_ring.specs.Waits.{BusyPops, BusyPushes, PoppedAtLast, PopRefusedAtLast}
+use Rattle.alog_ring.specs.declared.pop.PopError.{PopError}
+use Rattle.alog_ring.specs.declared.pop.PopError.TheVariants as pop
+use Rattle.alog_ring.proofs.Calling.{made_more}
+use Rattle.alog_ring.proofs.Lists.{prefix_same}
+
+module _ {T N : Type 0} where
+  pub claims-append : (h g : List (Entry T N)) → claims (h ++ g) ≡ claims h ++ claims g
+  claims-append [] g = refl
+  claims-append (x ∷ h) g = ap (λ (l : List (ℕ × T)). put_by x.event ++ l) (claims-append h g)
+      ∙ sym (append_assoc (put_by x.event) (claims h) (claims g))
+
+  pub takes-append : (h g : List (Entry T N)) → takes (h ++ g) ≡ takes h ++ takes g
+  takes-append [] g = refl
+  takes-append (x ∷ h) g = ap (λ (l : List (ℕ × T)). got_by x.event ++ l) (takes-append h g)
+      ∙ sym (append_assoc (got_by x.event) (takes h) (takes g))
+
+  pub grabbed-append : (h g : List (Entry T N)) → grabbed (h ++ g) ≡ grabbed h ++ grabbed g
+  grabbed-append [] g = refl
+  grabbed-append (x ∷ h) g = ap (λ (l : List ℕ). grabbed_by x.event ++ l) (grabbed-append h g)
+      ∙ sym (append_assoc (grabbed_by x.event) (grabbed h) (grabbed g))
+
+pub tickets-append : {T : Type 0} (ps qs : List (ℕ × T)) → map (λ (p : ℕ × T). p.0) (ps ++ qs)
+    ≡ map (λ (p : ℕ × T). p.0) ps ++ map (λ (p : ℕ × T). p.0) qs
+tickets-append [] qs = refl
+tickets-append {T} (p ∷ ps) qs = ap (λ (l : List ℕ). p.0 ∷ l) (tickets-append ps qs)
+
+pub moved_more : (u v w : Known Item no_note) (p q g h : List (ℕ × Item)) → Moved u v p g → Moved v w q h
+    → Moved u w (p ++ q) (g ++ h)
+moved_more u v w p q g h a b = record {
+  entries = a.entries ++ b.entries;
+  made = made_more u v w a.entries b.entries a.made b.made;
+  puts_are = claims-append a.entries b.entries ∙ (λ i. a.puts_are i ++ b.puts_are i);
+  gots_are = takes-append a.entries b.entries ∙ (λ i. a.gots_are i ++ b.gots_are i);
+  grabs_are = grabbed-append a.entries b.entries ∙ (λ i. a.grabs_are i ++ b.grabs_are i) ∙ sym (tickets-append g h);
+}
+
+pub not_moved : (k : Known Item no_note) → IsFaithful k → Moved k k [] []
+not_moved k faithful = record {
+  entries = [];
+  made = record {
+    places = refl;
+    first = refl;
+    actor = refl;
+    parts = refl;
+    joined = refl;
+    seen = prefix_same k.seen;
+    own = sym (append-nil k.own);
+    faithful = faithful;
+  };
+  puts_are = refl;
+  gots_are = refl;
+  grabs_are = refl;
+}
+
+-- busy rounds before a call
+pub busy_pops : (old mid new : Known Item no_note) (g : List (ℕ × Item)) → BusyPops old mid → Moved mid new [] g
+    → Moved old new [] g
+busy_pops old u new g BusyPops.none then = then
+busy_pops old u new g (BusyPops.more {mid} t before since answered) then =
+    let one : Moved mid u [] [] = record {
+      entries = by mid (PopBusy t) ∷ [];
+      made = answered.0;
+      puts_are = refl;
+      gots_are = refl;
+      grabs_are = refl;
+    } in busy_pops old mid new g before (moved_more mid u new [] [] [] g one then)
+
+pub busy_pushes : (old mid new : Known Item no_note) (p : List (ℕ × Item)) → BusyPushes old mid → Moved mid new p []
+    → Moved old new p []
+busy_pushes old u new p BusyPushes.none then = then
+busy_pushes old u new p (BusyPushes.more {mid} t before since answered) then =
+    let one : Moved mid u [] [] = record {
+      entries = by mid (PushBusy t) ∷ [];
+      made = answered.0;
+      puts_are = refl;
+      gots_are = refl;
+      grabs_are = refl;
+    } in busy_pushes old mid new p before (moved_more mid u new [] p [] [] one then)
+
+pub popped_moved : (old new : Known Item no_note) (t : ℕ) (x : Item) → Popped old new t x → Moved old new [] ((t, x) ∷ [])
+popped_moved old new t x popped = record {
+  entries = by old (Grab t) ∷ by old (Take t x) ∷ [];
+  made = popped.0;
+  puts_are = refl;
+  gots_are = refl;
+  grabs_are = refl;
+}
+
+pub pushed_moved : (old new : Known Item no_note) (t : ℕ) (x : Item) → Pushed old new t x → Moved old new ((t, x) ∷ []) []
+pushed_moved old new t x pushed = record {
+  entries = by old (Claim t x) ∷ by old (Write t) ∷ [];
+  made = pushed.0;
+  puts_are = refl;
+  gots_are = refl;
+  grabs_are = refl;
+}
+
+-- an answer that moves nothing
+pub answer_moved : (old new : Known Item no_note) (e : Event Item) → put_by e ≡ [] → got_by e ≡ [] → grabbed_by e ≡ []
+    → Answered old new e → Moved old new [] []
+answer_moved old new e puts gots grabs answered = record {
+  entries = by old e ∷ [];
+  made = answered.0;
+  puts_are = ap (λ (l : List (ℕ × Item)). l ++ []) puts;
+  gots_are = ap (λ (l : List (ℕ × Item)). l ++ []) gots;
+  grabs_are = ap (λ (l : List ℕ). l ++ []) grabs;
+}
+
+-- an answer at the end of a list of entries
+pub saw_last : (h : List (Entry Item no_note)) (x : Entry Item no_note) → x.event ≡ Empty last → SawEnd (h ++ x ∷ [])
+saw_last [] x is = inl is
+saw_last (y ∷ h) x is = inr (saw_last h x is)
+
+-- a pop that was refused moves nothing
+pub refused_moved : (old new : Known Item no_note) (e : PopError) → PopRefusedAtLast old new e → Moved old new [] []
+refused_moved old new (pop.Empty n) refused =
+    busy_pops old refused.1.0 new [] refused.1.1 (answer_moved refused.1.0 new (Empty n) refl refl refl refused.1.2.1)
+refused_moved old new (pop.Busy s) refused = absurd refused.0
+
+pub refused_last : (old new : Known Item no_note) (e : PopError) → e ≡ pop.Empty last → PopRefusedAtLast old new e → SawEnd new.own
+refused_last old new e is refused =
+    let end : PopRefusedAtLast old new (pop.Empty last) = subst (λ (z : PopError). PopRefusedAtLast old new z) is refused in
+    let mid : Known Item no_note = end.1.0 in
+    subst SawEnd (sym end.1.2.1.0.own) (saw_last mid.own (by mid (Empty last)) refl)
+
+-- what a pop took
+pub popped_last : (old new : Known Item no_note) (t : ℕ) (x : Item) → PoppedAtLast old new t x → Moved old new [] ((t, x) ∷ [])
+popped_last old new t x popped = busy_pops old popped.0 new ((t, x) ∷ []) popped.1 (popped_moved popped.0 new t x popped.2)

@@ -1,0 +1,85 @@
+use Rattle.std.proofs.Common.{◌≡◌, ◌≤◌, ◌+◌, ◌%◌, ◌^◌, true, false, ◌∷◌, ◌++◌, [], take, vec_len, vec_capacity, ℕ, List, sym, subst, ap, ◌∙◌, inl, inr, refl}
+use Rattle.alog_pool.specs.Berth.{AreServable}
+use Rattle.alog_pool.specs.declared.shared.Shared.{Shared}
+use Rattle.alog_pool.proofs.Worked.{took_nothing, took_work, took_stop, few_tickets, all_servable}
+use Rattle.alog_pool.specs.Working.{IsWorkOf}
+use Rattle.alog_registry.specs.Limit.{KeepsTo}
+use Rattle.alog_ring.specs.Known.{IsPassOf}
+use Rattle.alog_pool.proofs.hand.Hand.work.Goals as goal
+
+pub loop-init : goal.loop-init
+loop-init g c = c.requires
+
+pub take_waiting-requires-clause-ring : goal.take_waiting-requires-clause-ring
+take_waiting-requires-clause-ring g c =
+    subst (λ (s : Shared). IsPassOf s.ring c.loop.hand.pass) (sym (c.deref.ensures ∙ c.loop.invariant.shared)) c.loop.invariant.ring
+
+pub take_waiting-requires-clause-faithful : goal.take_waiting-requires-clause-faithful
+take_waiting-requires-clause-faithful g c = c.loop.invariant.work.faithful
+
+pub returns-then-is_stop : goal.returns-then-is_stop
+returns-then-is_stop g c =
+    let inv = c.loop.invariant in
+    let w = took_stop _ _ _ _ _ _ _ inv.work inv.stops c.in-Item.ensures.finds.0 (c.if-is_stop.ensures.0 refl) in
+    record {
+      ring = subst (λ (s : Shared). IsPassOf s.ring c.take_waiting.new.pass) (c.deref.ensures ∙ inv.shared) c.take_waiting.ensures.ring;
+      work = w.0;
+      ended = λ here. inl w.1;
+      places = inv.places;
+    }
+
+pub note-requires-clause-room : goal.note-requires-clause-room
+note-requires-clause-room g c =
+    subst (λ n. n ≤ vec_capacity c.loop.hand.tickets) (sym c.loop.invariant.most) c.loop.invariant.room
+
+pub note-requires-clause-few : goal.note-requires-clause-few
+note-requires-clause-few g c =
+    subst (λ n. vec_len c.loop.hand.tickets ≤ n) (sym c.loop.invariant.most) (few_tickets _ _ _ _ c.loop.invariant.work)
+
+pub handle-requires-clause-servable : goal.handle-requires-clause-servable
+handle-requires-clause-servable g c =
+    let inv = c.loop.invariant in
+    let keeps = subst (λ (s : Shared). KeepsTo s.ring.limit.most c.in-Item.item) (c.deref.ensures ∙ inv.shared) c.in-Item.ensures.finds.1 in
+    subst (λ (ps : _). AreServable c.in-Item.item ps) (sym inv.places)
+    (all_servable _ c.in-Item.item _ inv.limits keeps (λ is. let e : false ≡ true = c.if-is_stop.ensures.1 is in cc))
+
+pub returns-in-End : goal.returns-in-End
+returns-in-End g c =
+    let inv = c.loop.invariant in
+    let w = took_nothing _ _ _ _ _ inv.work inv.stops c.in-End.ensures.finds.0 in
+    record {
+      ring = subst (λ (s : Shared). IsPassOf s.ring c.take_waiting.new.pass) (c.deref.ensures ∙ inv.shared) c.take_waiting.ensures.ring;
+      work = w.0;
+      ended = λ here. inr (w.1, c.in-End.ensures.finds.1);
+      places = inv.places;
+    }
+
+pub returns-in-Leave : goal.returns-in-Leave
+returns-in-Leave g c =
+    let inv = c.loop.invariant in
+    let w = took_nothing _ _ _ _ _ inv.work inv.stops c.in-Leave.ensures.finds in
+    record {
+      ring = subst (λ (s : Shared). IsPassOf s.ring c.take_waiting.new.pass) (c.deref.ensures ∙ inv.shared) c.take_waiting.ensures.ring;
+      work = w.0;
+      ended = λ here. absurd (cc);
+      places = inv.places;
+    }
+
+pub loop-preserved-else-is_stop : goal.loop-preserved-else-is_stop
+loop-preserved-else-is_stop g c =
+    let inv = c.loop.invariant in
+    let w = took_work _ _ _ _ _ _ _ inv.work inv.stops c.in-Item.ensures.finds.0
+        (λ is. let e : false ≡ true = c.if-is_stop.ensures.1 is in cc) in
+    record {
+      shared = inv.shared;
+      ring = subst (λ (s : Shared). IsPassOf s.ring c.take_waiting.new.pass) (c.deref.ensures ∙ inv.shared) c.take_waiting.ensures.ring;
+      work = subst (λ (ts : List ℕ). IsWorkOf c.args.self.most c.take_waiting.new.pass.known ts ((c.loop.hand.handled + 1) % 2 ^ 64))
+          (sym (c.note.ensures.noted ∙ ap (λ n. take n (c.loop.hand.tickets.items ++ c.in-Item.ticket ∷ [])) inv.most)) w.0;
+      stops = w.1;
+      most = inv.most;
+      room = subst (λ n. c.args.self.most ≤ n) (sym c.note.ensures.room) inv.room;
+      line = c.handle.ensures.line;
+      places = c.handle.ensures.places ∙ inv.places;
+      limits = inv.limits;
+      left = inv.left;
+    }

@@ -1,0 +1,16 @@
+use Rattle.std.proofs.Common.{◌≡◌, ◌<◌, arith, sym, subst, ap, ◌∙◌}
+use Rattle.std.proofs.Math.Seq.{map-set_same}
+use Rattle.alog_pool.specs.Berth.{BerthView, IsServable, place_of}
+use Rattle.alog_pool.proofs.Turning.{servable_at, place_same}
+use Rattle.alog_pool.proofs.hand.serve_at.Goals as goal
+
+pub serve-requires-clause-item : goal.serve-requires-clause-item
+serve-requires-clause-item g c =
+    subst (λ (b : BerthView g.row.S.Denot). IsServable b.limit c.args.item.now) (sym c.index_mut.ensures.value)
+    (servable_at c.args.item.now c.args.berths.now.items c.args.number c.index_mut.result.now (omega (arith, c.if-number-len.true)) c.requires.servable)
+
+pub returns-then-number-len-clause-places : goal.returns-then-number-len-clause-places
+returns-then-number-len-clause-places g c =
+    map-set_same place_of c.args.berths.now.items c.args.number c.serve.new.self c.index_mut.result.now
+    (place_same g.S.Store.tells g.S.Store.files g.S.Store.failures _ _ _ _ c.serve.ensures.serves
+    ∙ ap (λ (b : BerthView g.row.S.Denot). place_of b) c.index_mut.ensures.value)

@@ -1,0 +1,27 @@
+use Rattle.std.proofs.Common.{◌≡◌, refl}
+use Rattle.alog_ring.specs.declared.pop.PopError.{PopError}
+use Rattle.alog_pool.proofs.Moves.{moved_more, not_moved, popped_last, refused_moved, refused_last}
+use Rattle.alog_pool.proofs.hand.take_waiting.Goals as goal
+
+pub loop-init : goal.loop-init
+loop-init g c = (c.requires.ring, not_moved _ c.requires.faithful)
+
+pub returns-in-Ok-clause-finds : goal.returns-in-Ok-clause-finds
+returns-in-Ok-clause-finds g c =
+    (moved_more _ _ _ _ _ _ _ c.loop.invariant.1 (popped_last _ _ _ _ c.in-Ok.ensures.popped), c.in-Ok.ensures.limit)
+
+pub returns-then-is_end-clause-finds : goal.returns-then-is_end-clause-finds
+returns-then-is_end-clause-finds g c =
+    let refused = c.in-Err.ensures.refused in (
+      moved_more _ _ _ _ _ _ _ c.loop.invariant.1 (refused_moved _ _ _ refused),
+      refused_last _ _ _ (c.if-is_end.ensures.0 refl) refused,
+    )
+
+pub returns-then-load-clause-finds : goal.returns-then-load-clause-finds
+returns-then-load-clause-finds g c = moved_more _ _ _ _ _ _ _ c.loop.invariant.1 (refused_moved _ _ _ c.in-Err.ensures.refused)
+
+pub loop-preserved : goal.loop-preserved
+loop-preserved g c = (
+  c.pop.ensures.ring,
+  moved_more _ _ _ _ _ _ _ c.loop.invariant.1 (refused_moved _ _ _ c.in-Err.ensures.refused),
+)

@@ -1,0 +1,62 @@
+-- What a worker did.
+use Rattle.std.specs.Prelude.{◌≡◌, ◌⊎◌, ℕ, ◌%◌, ◌^◌, ◌≤◌, false, List, [], ◌∷◌, take, length, vec_capacity}
+use Rattle.std.specs.Arc.{arc_value}
+use Rattle.std.specs.List.{AllByRecursion}
+use Rattle.alog_core.specs.History.{Entry}
+use Rattle.alog_core.specs.Accounts.{claims, takes, grabbed, handed_out, taken}
+use Rattle.alog_msg.specs.declared.item.Item.{Item}
+use Rattle.alog_pattern.specs.declared.patterns.TheConstants.{LINE_MAX}
+use Rattle.alog_pool.specs.Accounts.{of_work, of_stops, work_tickets, Moved, SawEnd}
+use Rattle.alog_pool.specs.Berth.{Place, places_of}
+use Rattle.alog_pool.specs.declared.hand.Hand.{Hand}
+use Rattle.alog_pool.specs.declared.hand.Next.{Next}
+use Rattle.alog_pool.specs.declared.hand.Next.TheVariants.{Item as Took, End, Leave}
+use Rattle.alog_registry.specs.Limit.{KeepsTo}
+use Rattle.alog_ring.specs.Known.{Known, IsPassOf}
+use Rattle.alog_ring.specs.Kinds.{no_note}
+use Rattle.alog_ring.specs.Made.{IsFaithful}
+
+-- what a worker that looks for an item finds
+abbrev pub Finds : ℕ → Known Item no_note → Known Item no_note → Next → Type 0
+Finds limit old new (Took t x) = Moved old new [] ((t, x) ∷ []) × KeepsTo limit x
+Finds limit old new End = Moved old new [] [] × SawEnd new.own
+Finds limit old new Leave = Moved old new [] []
+
+-- A worker's account: it has one part and put nothing in. It recorded the tickets of its first texts and flushes, at most so many,
+-- and counted its texts and flushes modulo 2^64.
+pub record IsWorkOf (most : ℕ) (k : Known Item no_note) (tickets : List ℕ) (handled : ℕ) : Type 0 where
+  pub faithful : IsFaithful k
+  pub parts : k.parts ≡ 1
+  pub joined : k.joined ≡ []
+  pub puts : claims k.own ≡ []
+  pub grabs : grabbed k.own ≡ handed_out k.own
+  pub tickets_are : tickets ≡ take most (work_tickets (takes k.own))
+  pub handled_is : handled ≡ taken of_work k.own % 2 ^ 64
+
+-- The worker ended at its first stop, or where no ticket was left.
+abbrev pub HasEnded : List (Entry Item no_note) → Type 0
+HasEnded own = (taken of_stops own ≡ 1) ⊎ ((taken of_stops own ≡ 0) × SawEnd own)
+
+-- each place has this text limit
+abbrev pub AreLimited : {S : Type 0} → ℕ → List (Place S) → Type 0
+AreLimited {S} limit places = AllByRecursion (λ (p : Place S). p.limit ≡ limit) places
+
+-- A worker at work, which began with the first of these hands: it has taken no stop yet.
+pub record IsAtWork {S : Type 0} (start now : Hand S) : Type 0 where
+  pub shared : arc_value now.shared ≡ arc_value start.shared
+  pub ring : IsPassOf (arc_value start.shared).ring now.pass
+  pub work : IsWorkOf start.most now.pass.known now.tickets.items now.handled
+  pub stops : taken of_stops now.pass.known.own ≡ 0
+  pub most : now.most ≡ start.most
+  pub room : start.most ≤ vec_capacity now.tickets
+  pub line : now.line.capacity ≡ LINE_MAX
+  pub places : places_of now.berths.items ≡ places_of start.berths.items
+  pub limits : AreLimited (arc_value start.shared).ring.limit.most (places_of start.berths.items)
+  pub left : now.left ≡ false
+
+-- What became of a worker's hand.
+pub record HasWorked {S : Type 0} (start end : Hand S) : Type 0 where
+  pub ring : IsPassOf (arc_value start.shared).ring end.pass
+  pub work : IsWorkOf start.most end.pass.known end.tickets.items end.handled
+  pub ended : end.left ≡ false → HasEnded end.pass.known.own
+  pub places : places_of end.berths.items ≡ places_of start.berths.items
