@@ -1,3 +1,4 @@
 pub mod Moves
 pub mod Turning
 pub mod Worked
+pub mod Sums

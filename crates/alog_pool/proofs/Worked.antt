@@ -96,7 +96,7 @@ pub took_work : (most : ℕ) (k l : Known Item no_note) (t : ℕ) (x : Item) (ts
     → IsWorkOf most l (take most (ts ++ t ∷ [])) ((hs + 1) % 2 ^ 64) × (taken of_stops l.own ≡ 0)
 took_work most k l t x ts hs w none m other =
     let one : weigh of_work (takes k.own ++ (t, x) ∷ []) ≡ weigh of_work (takes k.own) + 1 =
-        weigh-append of_work (takes k.own) ((t, x) ∷ []) ∙ ap (λ n. weigh of_work (takes k.own) + n) (one_work t x other) in (
+    weigh-append of_work (takes k.own) ((t, x) ∷ []) ∙ ap (λ n. weigh of_work (takes k.own) + n) (one_work t x other) in (
       work_after most k l ((t, x) ∷ []) (take most (ts ++ t ∷ [])) ((hs + 1) % 2 ^ 64) ts hs w m
           (ap (λ (q : List ℕ). take most (q ++ t ∷ [])) w.tickets_are ∙ take_take most (work_tickets (takes k.own)) (t ∷ [])
           ∙ ap (λ (q : List ℕ). take most (work_tickets (takes k.own) ++ q)) (sym (one_ticket t x other))
@@ -111,9 +111,9 @@ pub took_stop : (most : ℕ) (k l : Known Item no_note) (t : ℕ) (x : Item) (ts
 took_stop most k l t x ts hs w none moved is =
     let m : Moved k l [] ((t, Stop) ∷ []) = subst (λ (z : Item). Moved k l [] ((t, z) ∷ [])) is moved in
     let more : work_tickets (takes k.own ++ (t, Stop) ∷ []) ≡ work_tickets (takes k.own) =
-        work_tickets-append (takes k.own) ((t, Stop) ∷ []) ∙ append-nil (work_tickets (takes k.own)) in
+    work_tickets-append (takes k.own) ((t, Stop) ∷ []) ∙ append-nil (work_tickets (takes k.own)) in
     let same : weigh of_work (takes k.own ++ (t, Stop) ∷ []) ≡ weigh of_work (takes k.own) =
-        (let a = weigh-append of_work (takes k.own) ((t, Stop) ∷ []) in omega (arith, a)) in (
+    (let a = weigh-append of_work (takes k.own) ((t, Stop) ∷ []) in omega (arith, a)) in (
       work_after most k l ((t, Stop) ∷ []) ts hs ts hs w m
           (w.tickets_are ∙ ap (λ (q : List ℕ). take most q) (sym more))
           (w.handled_is ∙ ap (λ n. n % 2 ^ 64) (sym same)),

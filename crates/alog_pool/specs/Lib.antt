@@ -1,3 +1,4 @@
 pub mod Accounts
 pub mod Berth
 pub mod Working
+pub mod Whole

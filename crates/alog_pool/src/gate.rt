@@ -1,6 +1,7 @@
 //! What is called round each text that a worker handles.
 
-/// What a pool's workers call before and after each text that they handle, with their own number and the text's ticket.
+/// What a pool's workers call before and after each text that they handle, with their own number and the text's ticket. The
+/// test `a_held_ticket` shows one that holds a worker.
 pub trait Gate {
     /// Called before the first turn of the text.
     fn before(&self, worker: u32, ticket: u64);

@@ -8,6 +8,7 @@ ghost use Rattle.alog_pool.specs.Working.{Finds, HasWorked, IsAtWork};
 ghost use Rattle.alog_ring.specs.Known.{IsPassOf};
 ghost use Rattle.alog_ring.specs.Made.{IsFaithful};
 ghost use Rattle.alog_ring.specs.declared.pop.PopError.TheVariants.{Empty};
+
 use crate::berth::Berth;
 use crate::gate::Gate;
 use crate::rest::Rest;
@@ -73,7 +74,16 @@ impl<S: Store> Hand<S> {
                         number,
                         ..
                     } = &mut hand;
-                    handle(rt, gate, *number, &shared.loggers, berths, line, ticket, &item);
+                    handle(
+                        rt,
+                        gate,
+                        *number,
+                        &shared.loggers,
+                        berths,
+                        line,
+                        ticket,
+                        &item,
+                    );
                 }
                 Next::End => return hand,
                 Next::Leave => {

@@ -18,7 +18,7 @@ pub struct Totals {
     pub handled: u64,
 }
 
-/// What a pool did until it was shut down.
+/// What a pool did until it was shut down. The test `a_pool_of_two` shows one.
 #[derive(Drop)]
 pub struct Report<S: Store> {
     pub totals: Totals,

@@ -3,7 +3,7 @@ use alog_registry::Loggers;
 use alog_sink::{Sink, Store};
 
 /// What a pool is started with. By condition its text limit is 64 to 8,192 bytes and at most that of each pattern of its sinks.
-///
+/// The test `a_pool_of_two` shows one.
 #[derive(Drop)]
 pub struct Setup<S: Store> {
     /// The places of the queue, a power of two from 2 to 65,536.

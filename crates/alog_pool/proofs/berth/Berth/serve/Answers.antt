@@ -12,12 +12,12 @@ returns-clause-serves g c =
     let i = c.self.inside in
     let T = Turns g.S.Store.tells g.S.Store.files g.S.Store.failures in
     let new : BerthView g.row.S.Denot =
-        record {
-          lane = arc_value i.lane;
-          seat = c.turn-reply.new.seat;
-          faults = (i.faults + c.fault_in.result) % 2 ^ 64;
-          limit = i.text_limit;
-        } in
+    record {
+      lane = arc_value i.lane;
+      seat = c.turn-reply.new.seat;
+      faults = (i.faults + c.fault_in.result) % 2 ^ 64;
+      limit = i.text_limit;
+    } in
     subst (λ (v : BerthView g.row.S.Denot). Serves g.S.Store.tells g.S.Store.files g.S.Store.failures v c.args.tag c.args.item.now new) c.self.view_is
     (record {
       lane = refl;

@@ -69,7 +69,7 @@ pub loop-preserved-else-is_stop : goal.loop-preserved-else-is_stop
 loop-preserved-else-is_stop g c =
     let inv = c.loop.invariant in
     let w = took_work _ _ _ _ _ _ _ inv.work inv.stops c.in-Item.ensures.finds.0
-        (λ is. let e : false ≡ true = c.if-is_stop.ensures.1 is in cc) in
+    (λ is. let e : false ≡ true = c.if-is_stop.ensures.1 is in cc) in
     record {
       shared = inv.shared;
       ring = subst (λ (s : Shared). IsPassOf s.ring c.take_waiting.new.pass) (c.deref.ensures ∙ inv.shared) c.take_waiting.ensures.ring;
@@ -88,7 +88,7 @@ pub loop-preserved-else-is_stop-2 : goal.loop-preserved-else-is_stop-2
 loop-preserved-else-is_stop-2 g c =
     let inv = c.loop.invariant in
     let w = took_work _ _ _ _ _ _ _ inv.work inv.stops c.in-Item.ensures.finds.0
-        (λ is. let e : false ≡ true = c.if-is_stop.ensures.1 is in cc) in
+    (λ is. let e : false ≡ true = c.if-is_stop.ensures.1 is in cc) in
     record {
       shared = inv.shared;
       ring = subst (λ (s : Shared). IsPassOf s.ring c.take_waiting.new.pass) (c.deref.ensures ∙ inv.shared) c.take_waiting.ensures.ring;
@@ -107,7 +107,7 @@ pub loop-preserved : goal.loop-preserved
 loop-preserved g c =
     let inv = c.loop.invariant in
     let w = took_work _ _ _ _ _ _ _ inv.work inv.stops c.in-Item.ensures.finds.0
-        (λ is. let e : false ≡ true = c.if-is_stop.ensures.1 is in cc) in
+    (λ is. let e : false ≡ true = c.if-is_stop.ensures.1 is in cc) in
     record {
       shared = inv.shared;
       ring = subst (λ (s : Shared). IsPassOf s.ring c.take_waiting.new.pass) (c.deref.ensures ∙ inv.shared) c.take_waiting.ensures.ring;

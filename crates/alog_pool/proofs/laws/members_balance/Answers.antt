@@ -1,0 +1,5 @@
+use Rattle.alog_pool.proofs.Sums.{members_balance}
+use Rattle.alog_pool.proofs.laws.members_balance.Goals as goal
+
+pub returns : goal.returns
+returns g c = members_balance g.row.T.Denot g.row.N.Denot

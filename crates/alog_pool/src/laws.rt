@@ -1,0 +1,9 @@
+//! What is true of all passes of a ring together.
+ghost use Rattle.alog_pool.specs.Whole.{MembersBalance};
+
+/// Where a pass has seen everything: by whatever weight of tickets and items, what its members put in, they took out, or it is
+/// left in the queue. With the weight that counts texts and flushes it tells that what was posted was handled, overrun or left.
+/// It does nothing: its contract is the law.
+pub fn members_balance<T, N>()
+    ensures { MembersBalance T N }
+{}
