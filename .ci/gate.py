@@ -3,8 +3,9 @@
 gate.py run FILE WORD..   runs a command, and writes to FILE what it and each prover below it have used
 gate.py times FILE        prints the processor seconds of the last gate by crate and phase, beside the budget
 gate.py applies           says which wrong bodies no longer apply, which crates have more edits than the gate tries, and
-                          which configurations of examples/ the tests of alog do not have
-gate.py wrong [NAME..]    tries the wrong bodies of these crates, or of all, on a copy of the repository
+                          which files of examples/ the tests of alog do not have
+gate.py wrong [NAME..]    tries the wrong bodies of these crates, or of all, on a copy of the repository: many at once, each in a
+                          function of its own (rounds.py), and alone what was not refused so
 """
 import glob
 import json
@@ -16,6 +17,9 @@ import subprocess
 import sys
 import tempfile
 import time
+
+sys.dont_write_bytecode = True
+import rounds
 
 # processor seconds: of all of alog, of a crate's proof with its tests, of its edits
 BUDGET, SHARE, EDITS_SHARE = 13_000, 600, 400
@@ -134,11 +138,11 @@ def stale(crates):
 
 
 def untested():
-    """Returns what is said of each configuration of examples/ that the tests of alog do not have byte for byte."""
+    """Returns what is said of each file of examples/ that the tests of alog do not have byte for byte."""
     with open("crates/alog/src/examples.rt", encoding="utf-8") as it:
         tests = it.read()
-    documents = sorted(glob.glob("examples/*.toml"))
-    return [f"{it} is not in the tests of alog" for it in documents if f'r#"{text_of(it)}"#;' not in tests]
+    files = sorted(glob.glob("examples/*"))
+    return [f"{it} is not in the tests of alog" for it in files if f'r#"{text_of(it)}"#;' not in tests]
 
 
 def text_of(file):
@@ -158,6 +162,22 @@ def applies():
     return tell(many + stale(crates) + untested())
 
 
+def one_by_one(crate, room, edits):
+    """Tries edits of a crate each alone, as the gate does with those of must-fail, and returns how many are refused."""
+    must_fail = f"{room}/crates/{crate}/must-fail"
+    shutil.rmtree(must_fail, ignore_errors=True)
+    os.mkdir(must_fail)
+    for edit in edits:
+        shutil.copy(edit, must_fail)
+    ran = subprocess.Popen(["rt", "must-fail", crate], cwd=room, stdout=subprocess.PIPE, stderr=subprocess.STDOUT, text=True, errors="replace")
+    refused = 0
+    for line in ran.stdout:
+        print(line.replace("must-fail ", "wrong ", 1), end="", flush=True)
+        refused += ": refused, as it must be" in line
+    ran.wait()
+    return refused
+
+
 def wrong(names):
     crates = [os.path.basename(os.path.dirname(it)) for it in sorted(glob.glob("crates/*/wrong"))]
     unknown = [it for it in names if it not in crates]
@@ -172,16 +192,15 @@ def wrong(names):
         for it in ("crates.txt", "HANDLES"):
             shutil.copy(it, room)
         for crate in names or crates:
-            must_fail = f"{room}/crates/{crate}/must-fail"
-            shutil.rmtree(must_fail, ignore_errors=True)
-            shutil.move(f"{room}/crates/{crate}/wrong", must_fail)
-            ran = subprocess.Popen(["rt", "must-fail", crate], cwd=room, stdout=subprocess.PIPE, stderr=subprocess.STDOUT, text=True, errors="replace")
-            count = len(edits_in(must_fail))
-            for line in ran.stdout:
-                print(line.replace("must-fail ", "wrong ", 1), end="", flush=True)
-                refused += ": refused, as it must be" in line
-                count -= ": refused, as it must be" in line
-            if ran.wait() or count:
+            home, count = f"{room}/crates/{crate}", 0
+            edits = edits_in(f"{home}/wrong")
+            together = rounds.refused_of(crate, home, edits)
+            alone = [it for it in edits if it not in together]
+            refused += len(together)
+            if alone:
+                count = one_by_one(crate, room, alone)
+                refused += count
+            if count != len(alone):
                 others.append(crate)
     print(f"{refused} wrong bodies refused" + (f"; not all of {' '.join(others)}" if others else ""))
     return 1 if others else 0

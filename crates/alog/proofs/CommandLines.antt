@@ -1,7 +1,7 @@
 -- What `clap` makes of the program's words.
-use Rattle.std.proofs.Common.{◌≡◌, ◌≢◌, ◌∙◌, ap, ap₂, refl, sym, subst, codes, true, ℕ, List, [], ◌∷◌, Option, Some, None, Result, Ok, Err, inl}
+use Rattle.std.proofs.Common.{◌≡◌, ◌≢◌, ◌∙◌, ap, ap₂, refl, sym, subst, codes, true, false, ℕ, List, [], ◌∷◌, Option, Some, None, Result, Ok, Err, inl}
 use Rattle.std.proofs.Common.{inr, IfErr, arith}
-use Rattle.std.specs.Prelude.{IsErrAnd, option_map, unwrap_or, slice_index}
+use Rattle.std.specs.Prelude.{IsErrAnd, IsNone, IsSome, option_map, unwrap_or, slice_index}
 use Rattle.clap.specs.Words.{App, Row, Text, fault_of, found_of, is_simple, is_simple_and_free, rows_of, subcommand_of, subcommand_rows_of}
 use Rattle.clap.specs.Words.{HasMatchesOf, HasKind, kind_of}
 use Rattle.clap.specs.Matches.{subcommand_name_of}
@@ -11,7 +11,7 @@ use Rattle.clap.specs.declared.error.kind.ErrorKind.TheVariants.{OutOfMemory}
 use Rattle.clap.specs.declared.parser.matches.ArgMatches.{ArgMatches}
 use Rattle.clap.proofs.OnLiterals.{clap_on_literals}
 use Rattle.clap.proofs.WalkLemmas.{first_value-rows}
-use Rattle.alog.specs.CommandLine.{alog_app, values_in, Names}
+use Rattle.alog.specs.CommandLine.{alog_app, config_in, values_in, Names}
 use Rattle.alog.specs.Options.{value_of}
 use Rattle.alog.specs.Words.{AsksReplay}
 
@@ -111,6 +111,18 @@ format_is_no_check words rows others =
     one_command words (codes "format") (codes "check") rows others (λ same. apart
     (slice_index (codes "format") 0) 102 99 refl (λ e. omega arith) (same ∙ refl))
 
+pub format_is_no_replay : (words : List Text) (rows others : List Row) → Names (codes "format") words rows
+    → Names (codes "replay") words others → ⊥
+format_is_no_replay words rows others =
+    one_command words (codes "format") (codes "replay") rows others (λ same. apart
+    (slice_index (codes "format") 0) 102 114 refl (λ e. omega arith) (same ∙ refl))
+
+pub check_is_no_replay : (words : List Text) (rows others : List Row) → Names (codes "check") words rows
+    → Names (codes "replay") words others → ⊥
+check_is_no_replay words rows others =
+    one_command words (codes "check") (codes "replay") rows others (λ same. apart
+    (slice_index (codes "check") 0) 99 114 refl (λ e. omega arith) (same ∙ refl))
+
 -- words without a fault are refused for want of memory alone
 pub lacks_memory : (words : List Text) (error : Error) → fault_of alog_app words ≡ [] → HasKind (fault_of alog_app words) error
     → kind_of error ≡ OutOfMemory
@@ -125,3 +137,15 @@ pub one_row : (command : Text) (words : List Text) (rows others : List Row) → 
     → rows ≡ others
 one_row command words rows others one other =
     ap (λ (o : Option (Text × List Row)). unwrap_or (option_map (λ p. p.1) o) []) (sym one ∙ other)
+
+-- the words `alog replay` have no configuration
+pub replay_no_config : (words : List Text) (rows : List Row) (file : Text) → AsksReplay words → Names (codes "replay") words rows
+    → config_in rows ≡ Some file → ⊥
+replay_no_config words rows file asks names is =
+    let entered = subst (λ (w : List Text). subcommand_of alog_app w ≡ Some (codes "replay", [])) (sym asks.1) (replay_is_entered asks.0) in
+    let bad : config_in [] ≡ Some file = subst (λ (rs : List Row). config_in rs ≡ Some file) (one_row
+    (codes "replay") words rows [] names entered) is in cc
+
+-- what is there is not absent
+pub not_both : {T : Type 0} (o : Option T) → IsNone o → IsSome o → ⊥
+not_both o none some = let bad : true ≡ false = sym some ∙ none in cc

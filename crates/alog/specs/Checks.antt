@@ -1,9 +1,9 @@
 -- What `alog check` does.
-use Rattle.std.specs.Prelude.{◌≡◌, ◌⊎◌, ℕ, List, [], ◌∷◌, ◌++◌, Option, Ok, Err, codes}
+use Rattle.std.specs.Prelude.{◌≡◌, ◌⊎◌, ℕ, List, [], ◌∷◌, ◌++◌, Option, Ok, codes}
 use Rattle.std.specs.Io.KnownBytes.{Appends, Keeps}
 use Rattle.alog_config.specs.Meaning.{Reads}
 use Rattle.alog_config.specs.declared.config.Config.{Config}
-use Rattle.alog_config.specs.declared.fault.ConfigFault.{ConfigFault}
+use Rattle.alog.specs.Documents.{IsNoConfiguration}
 
 abbrev pub SaysOk : Option (List ℕ) → Option (List ℕ) → Type 0
 SaysOk old new = Appends old new (codes "ok" ++ 10 ∷ [])
@@ -12,7 +12,7 @@ SaysOk old new = Appends old new (codes "ok" ++ 10 ∷ [])
 -- there was no memory, or a write failed.
 pub record Checks (document : List ℕ) (status : ℕ) (old new : Option (List ℕ)) : Type 0 where
   pub ok : status ≡ 0 → ((c : Config) × Reads document (Ok c)) × SaysOk old new
-  pub refused : status ≡ 2 → ((fault : ConfigFault) × Reads document (Err fault)) × Keeps old new
+  pub refused : status ≡ 2 → IsNoConfiguration document × Keeps old new
   pub unwritten : status ≡ 4 → Keeps old new
   pub others : (status ≡ 0) ⊎ (status ≡ 2) ⊎ (status ≡ 3) ⊎ (status ≡ 4)
 

@@ -1,10 +1,10 @@
 -- What command lines the program takes, in the words of `clap`, which defines what it makes of them.
-use Rattle.std.specs.Prelude.{◌≡◌, List, [], ◌∷◌, Some, codes, true}
+use Rattle.std.specs.Prelude.{◌≡◌, List, [], ◌∷◌, Option, Some, IsNone, IsSome, codes, true}
 use Rattle.clap.specs.Words.{App, Row, Rule, Text, first_of, new_app, new_rule, with_rule, with_subcommand, subcommand_of, fault_of}
 use Rattle.clap.specs.Words.{HasKind}
 use Rattle.alog.specs.Options.{Values, AsksFor, IsFirstRefused, text_of}
 use Rattle.alog.specs.declared.request.Request.{Request}
-use Rattle.alog.specs.declared.request.Request.TheVariants.{Replay, Format, Check}
+use Rattle.alog.specs.declared.request.Request.TheVariants.{Replay, ReplayConfig, Format, Check}
 use Rattle.alog.specs.declared.words.WordsError.{WordsError}
 use Rattle.alog.specs.declared.words.WordsError.TheVariants.{Clap, Value}
 
@@ -19,6 +19,10 @@ abbrev pub with_rules : App → List Rule → App
 with_rules app [] = app
 with_rules app (r ∷ rs) = with_rules (with_rule app r) rs
 
+-- `alog replay`
+abbrev pub replay_app : App
+replay_app = with_rules (new_app (codes "replay")) (option_of (codes "config") ∷ [])
+
 -- `alog format`
 abbrev pub format_app : App
 format_app = with_rules (new_app (codes "format"))
@@ -30,12 +34,12 @@ format_app = with_rules (new_app (codes "format"))
 abbrev pub check_app : App
 check_app = with_rules (new_app (codes "check")) (argument_of (codes "FILE") ∷ [])
 
--- the program: a version, `replay` without arguments, `format`, and `check`
+-- the program: a version, `replay`, `format`, and `check`
 abbrev pub top_app : App
 top_app = let app = new_app (codes "alog") in record app { top = record app.top { has_version = true; subcommand_required = true } }
 
 abbrev pub alog_app : App
-alog_app = with_subcommand (with_subcommand (with_subcommand top_app (new_app (codes "replay")).top) format_app.top) check_app.top
+alog_app = with_subcommand (with_subcommand (with_subcommand top_app replay_app.top) format_app.top) check_app.top
 
 -- the words name this command, and these are its arguments
 abbrev pub Names : Text → List Text → List Row → Type 0
@@ -55,11 +59,22 @@ AsksCheck words rows = AsksCommand (codes "check") words rows
 abbrev pub values_in : List Row → Values
 values_in rows name = first_of name rows
 
+-- the file that `--config` names, if it is given
+abbrev pub config_in : List Row → Option Text
+config_in rows = values_in rows (codes "config")
+
+-- `alog replay --config`
+abbrev pub AsksReplayConfig : List Text → List Row → Type 0
+AsksReplayConfig words rows = AsksCommand (codes "replay") words rows × IsSome (config_in rows)
+
 -- the words have no fault, and ask for this
 abbrev pub Asks : List Text → Request → Type 0
 Asks words Replay =
     (fault_of alog_app words ≡ []) × ((rows : List Row) → ¬ Names (codes "format") words rows)
     × ((rows : List Row) → ¬ Names (codes "check") words rows)
+    × ((rows : List Row) → Names (codes "replay") words rows → IsNone (config_in rows))
+Asks words (ReplayConfig file) =
+    (rows : List Row) × AsksCommand (codes "replay") words rows × (config_in rows ≡ Some file.now)
 Asks words (Format r) = (rows : List Row) × AsksFormat words rows × AsksFor (values_in rows) r
 Asks words (Check file) = (rows : List Row) × AsksCheck words rows × (file.now ≡ text_of (values_in rows) (codes "FILE"))
 

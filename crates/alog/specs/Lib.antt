@@ -1,5 +1,6 @@
 pub mod Status
 pub mod Words
+pub mod Documents
 pub mod Replays
 pub mod LineError
 pub mod Line

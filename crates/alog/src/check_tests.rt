@@ -1,5 +1,5 @@
 //! `alog check` on the whole program: files that have a configuration, that have none, and that cannot be read.
-use crate::examples::{DAILY_ERRORS, FAN, ONE_FILE};
+use crate::examples::{DAILY_ERRORS, FAN, ONE_FILE, ROTATING};
 use crate::run;
 use crate::script_tests::Narrow;
 use std::io::Write;
@@ -10,14 +10,14 @@ use std::test::Fail;
 use std::{env, fs, process};
 
 // The smallest configuration.
-const SMALL: &str =
+pub(crate) const SMALL: &str =
     "queue = 8\n\n[[sink]]\nname = \"out\"\nkind = \"memory\"\npattern = \"%n %L %v\"\n\n\
                      [[logger]]\nname = \"net\"\nsinks = [\"out\"]\n";
 
 // A file for one test, which is not there yet.
-fn scratch(rt: &HostRuntime, name: &str) -> Result<PathBuf, Fail> {
+pub(crate) fn scratch(rt: &HostRuntime, name: &str) -> Result<PathBuf, Fail> {
     let process = process::id(rt.process());
-    let own = format!(in rt.alloc(); "alog_check_{process}_{name}.toml")?;
+    let own = format!(in rt.alloc(); "alog_{process}_{name}.toml")?;
     Ok(env::temp_dir(rt)?.join(rt.alloc(), own.as_str())?)
 }
 
@@ -62,18 +62,21 @@ fn of_document<R: AllocGlobal + Files + Abort>(
 #[test]
 fn examples_are_configurations(rt: HostRuntime) -> Result<(), Fail> {
     let path = scratch(&rt, "examples")?;
-    for document in [ONE_FILE, DAILY_ERRORS, FAN] {
+    for document in [ONE_FILE, DAILY_ERRORS, FAN, ROTATING] {
         of_document(&rt, path.as_str(), document, "")?;
     }
     Ok(())
 }
 
+// A sink and a logger that are refused by nothing.
+const SINK: &str = "[[sink]]\nname = \"out\"\nkind = \"memory\"\n";
+
+const LOGGER: &str = "[[logger]]\nname = \"net\"\nsinks = [\"out\"]\n";
+
 #[test]
-fn checked_documents(rt: HostRuntime) -> Result<(), Fail> {
+fn faults_of_the_whole_and_of_its_top(rt: HostRuntime) -> Result<(), Fail> {
     let alloc = rt.alloc();
-    let logger = "[[logger]]\nname = \"net\"\nsinks = [\"out\"]\n";
-    let sink = "[[sink]]\nname = \"out\"\nkind = \"memory\"\n";
-    let path = scratch(&rt, "documents")?;
+    let path = scratch(&rt, "tops")?;
     let file = path.as_str();
     of_document(&rt, file, SMALL, "")?;
     for (document, error) in [
@@ -86,38 +89,49 @@ fn checked_documents(rt: HostRuntime) -> Result<(), Fail> {
             "alog: refused 28\nalog: the document is not TOML: line 1: invalid string\n",
         ),
         (
-            format!(in alloc; "queue = 3\n{sink}{logger}")?,
+            format!(in alloc; "queue = 3\n{SINK}{LOGGER}")?,
             "alog: refused 30 in top\n\
              alog: queue = 3: a value that its key can not have; it may have a power of two, 2 to 65536\n",
         ),
         (
-            format!(in alloc; "colour = 1\nqueue = 3\n{sink}{logger}")?,
+            format!(in alloc; "colour = 1\nqueue = 3\n{SINK}{LOGGER}")?,
             "alog: refused 29 in top\nalog: \"colour\" = 1: a key that is not known here; \
              known are queue, workers, text, offset, process, sink and logger\n",
         ),
+    ] {
+        of_document(&rt, file, document.as_str(), error)?;
+    }
+    Ok(())
+}
+
+#[test]
+fn faults_of_sinks_and_loggers(rt: HostRuntime) -> Result<(), Fail> {
+    let alloc = rt.alloc();
+    let path = scratch(&rt, "tables")?;
+    for (document, error) in [
         (
-            format!(in alloc; "{sink}{logger}{logger}")?,
+            format!(in alloc; "{SINK}{LOGGER}{LOGGER}")?,
             "alog: refused 24 in logger 1\nalog: name = \"net\": the name is taken; \
              it may have 1 to 64 bytes, and not the name of an earlier table of the same array\n",
         ),
         (
-            format!(in alloc; "{sink}[[logger]]\nname = \"n\"\nsinks = [\"x\"]\n")?,
+            format!(in alloc; "{SINK}[[logger]]\nname = \"n\"\nsinks = [\"x\"]\n")?,
             "alog: refused 32 in logger 0\nalog: sinks = [\"x\"]: no sink has this name; \
              it may have 1 to 16 names of sinks, none twice, none a member of a fan\n",
         ),
         (
-            format!(in alloc; "[[sink]]\nname = \"out\"\nkind = \"console\"\n{logger}")?,
+            format!(in alloc; "[[sink]]\nname = \"out\"\nkind = \"console\"\n{LOGGER}")?,
             "alog: refused 30 in sink 0\nalog: kind = \"console\": a value that its key can not have; \
              it may have memory, rotating, daily or fan\n",
         ),
         (
-            format!(in alloc; "{sink}{sink}{logger}")?,
+            format!(in alloc; "{SINK}{SINK}{LOGGER}")?,
             "alog: refused 30 in sink 1\nalog: file: a value that its key can not have; \
              it may have 1 to 64 bytes, not . or .., without a slash or a zero byte, and not the file of an earlier sink; \
              where a memory sink has none, its name stands for it\n",
         ),
     ] {
-        of_document(&rt, file, document.as_str(), error)?;
+        of_document(&rt, path.as_str(), document.as_str(), error)?;
     }
     Ok(())
 }

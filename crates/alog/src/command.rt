@@ -13,7 +13,8 @@ pub(crate) fn alog<'a>(alloc: Global) -> Result<Command<'a>, AllocError>
 {
     let replay = Command::new(alloc, "replay")
         .about("Replay a schedule script from standard input")
-        .long_about(REPLAY_HELP);
+        .long_about(REPLAY_HELP)
+        .arg(option(alloc, "config", "FILE", CONFIG_HELP))?;
     let format = Command::new(alloc, "format")
         .about("Print the line of a message by a pattern")
         .long_about(FORMAT_HELP)
@@ -71,25 +72,45 @@ const LEVEL_HELP: &str = "trace, debug, info, warning, error, critical or off [i
 
 const LINE_HELP: &str = "The line of the source, which --line alone does not make [0]";
 
+const CONFIG_HELP: &str =
+    "The configuration, in TOML, whose loggers and sinks the script drives [none]";
+
 const REPLAY_HELP: &str =
     "Replay a schedule script from standard input, and print what each step does.
 
-A script is text, a command a line; empty lines and lines that begin with # are passed over.
+A script is text, a command a line; empty lines and lines that begin with # are passed over. A is
+an actor, 0 to 63; TEXT is the rest of the line. In each script may stand:
 
-  ring N FIRST   first: a queue of N places, a power of two from 2 to 65536, and its first ticket
-  push A TEXT    actor A, 0 to 63, begins a push of the text
-  pop A          actor A begins a pop
-  work A         the same, and what it takes goes to the memory file, by one step more
-  step A [K]     K atomic steps of actor A, 1 to 512
-  run A          steps of actor A until its call has ended, at most 512
-  cells          prints the cells of the queue in ticket order
+  work A                        begins a pop; what it takes goes to the sinks, a turn a step
+  step A [K]                    K atomic steps, 1 to 512
+  run A                         steps until the actor's call has ended, at most 512
+  cells                         prints the cells of the queue in ticket order
+  counts                        prints the losses: items that were overrun, and discarded
 
-At the end the memory file is printed. A line that may not stand where it stands is refused with its
-number, after what was printed before it.
+Without --config there is one sink, the memory file, and besides these stand:
 
-Exit status: 0 done, 1 a wrong command line, 2 a refused line, 3 a read or write fault, 4 no memory.
-A fault prints `alog: refused N` on standard error: 1 no memory, 33 a refused line (with ` at line K`
-behind it), 34 a read fault, 35 a write fault.";
+  ring N FIRST                  first: a queue of N places, a power of two from 2 to 65536, and its
+                                first ticket
+  push A TEXT                   begins a push of the text
+  pop A                         begins a pop
+  post A POLICY TEXT            begins a post by block, overrun_oldest or discard_new
+
+With --config the queue, the loggers and the sinks are those of the configuration in FILE, of which
+`alog check --help` has the keys; all files are kept in memory. In place of these four stand:
+
+  log A TIME LOGGER LEVEL TEXT  begins a log, at nanoseconds since 1970 UTC
+  flush A LOGGER                begins a flush of the logger's sinks
+  dump A TIME LOGGER            begins a dump of the logger's backtrace
+  level LOGGER LEVEL            sets the logger's level at once
+
+At the end the files of the sinks are printed. A line that may not stand where it stands is refused
+with its number, after what was printed before it.
+
+Exit status: 0 done, 1 a wrong command line, 2 a refused line or configuration, 3 a file that
+cannot be read, a read fault or a write fault, 4 no memory. A fault prints `alog: refused N` on
+standard error: 1 no memory, 33 a refused line (with ` at line K` behind it), 34 a read fault, 35 a
+write fault. Of a file that is no configuration it says what `alog check` says, and the script is
+not read.";
 
 const FORMAT_HELP: &str =
     "Print the line of a message by a pattern, after spdlog's custom formatting.

@@ -13,10 +13,18 @@ mod check;
 mod check_tests;
 mod command;
 #[cfg(test)]
+mod config_fault_tests;
+#[cfg(test)]
+mod config_tests;
+mod configuration;
+#[cfg(test)]
+mod example_tests;
+#[cfg(test)]
 mod examples;
 mod line;
 mod options;
 mod program;
+mod replay_config;
 mod request;
 #[cfg(test)]
 mod script_tests;

@@ -3,20 +3,22 @@ ghost use Rattle.std.specs.Prelude.{◌≡◌, ◌≤◌, ◌⊎◌, ◌↔◌, 
 ghost use Rattle.std.specs.Io.KnownBytes.{Appends, Keeps};
 ghost use Rattle.clap.specs.Words.{Row, kind_of};
 ghost use Rattle.alog.specs.Checks.{ChecksFile};
-ghost use Rattle.alog.specs.CommandLine.{AsksCheck, AsksFormat, values_in};
+ghost use Rattle.alog.specs.CommandLine.{AsksCheck, AsksFormat, AsksReplayConfig, values_in};
 ghost use Rattle.alog.specs.Formats.{Formats};
 ghost use Rattle.alog.specs.Line.{WritesLineOf, IsRefused};
-ghost use Rattle.alog.specs.Replays.{Replays};
+ghost use Rattle.alog.specs.Replays.{Replays, ReplaysFile};
 ghost use Rattle.alog.specs.Status.{status_of};
 ghost use Rattle.alog.specs.Words.{AsksReplay, IsAskedFor};
 
 use crate::arguments::ArgumentsError;
 use crate::check::check_command;
 use crate::line::line_of;
+use crate::replay_config::replay_config_command;
 use crate::request::{LineRequest, Request};
 use crate::status::{number_of, status_of};
 use crate::words::{WordsError, read};
 use alog_replay::{ReplayError, replay};
+use alog_sink::{MemStore, Store};
 use clap::error::ErrorKind;
 use std::alloc::Global;
 use std::convert::AsStr;
@@ -28,8 +30,9 @@ use std::rt::Files;
 /// done, 1 for a wrong command line, 2 for refused input, 3 for a read or write fault, 4 for want of memory.
 ///
 /// A fault prints its line on `errors`. Help goes to `output`, and a wrong command line writes nothing there.
-/// `alog replay` replays the script of `input`, as `alog_replay::replay` does; `alog format` writes the line that its
-/// arguments ask for.
+/// `alog replay` replays the script of `input`, as `alog_replay::replay` does, or with `--config` on the configuration of
+/// a file, as `replay_config` does; where that file has none, nothing is read of the script and nothing is written on
+/// `output`. `alog format` writes the line that its arguments ask for.
 pub fn run<R: AllocGlobal + Files, S: AsStr, I: Read, O: Write, E: Write>(
     rt: &R,
     words: &[S],
@@ -41,6 +44,9 @@ pub fn run<R: AllocGlobal + Files, S: AsStr, I: Read, O: Write, E: Write>(
     ensures usage { result ≡ 1 → Keeps (O.contents output.old) (O.contents output.new) }
     ensures replays { AsksReplay (map S.text words.now)
         → Replays result (I.remaining input.old) (I.remaining input.new) (O.contents output.old) (O.contents output.new) }
+    ensures configured { (rows : List Row) → AsksReplayConfig (map S.text words.now) rows
+        → ReplaysFile ⟦<MemStore as Store>⟧.tells ⟦<MemStore as Store>⟧.files ⟦<MemStore as Store>⟧.failures result
+        (I.remaining input.old) (I.remaining input.new) (O.contents output.old) (O.contents output.new) }
     ensures formats { (rows : List Row) → AsksFormat (map S.text words.now) rows
         → Formats (values_in rows) result (O.contents output.old) (O.contents output.new) }
     ensures checks { (rows : List Row) → AsksCheck (map S.text words.now) rows
@@ -48,6 +54,7 @@ pub fn run<R: AllocGlobal + Files, S: AsStr, I: Read, O: Write, E: Write>(
 {
     match read(rt.alloc(), words) {
         Ok(Request::Replay) => replay_command(rt.alloc(), input, output, errors),
+        Ok(Request::ReplayConfig(file)) => replay_config_command(rt, file, input, output, errors),
         Ok(Request::Format(request)) => format_command(rt.alloc(), &request, output, errors),
         Ok(Request::Check(file)) => check_command(rt, file, output, errors),
         Err(WordsError::Value(fault)) => {

@@ -21,8 +21,10 @@ pub struct LineRequest<'a> {
 /// What the command line asks for.
 #[derive(Clone, Copy, Debug)]
 pub enum Request<'a> {
-    /// `alog replay`: the script on standard input.
+    /// `alog replay`: the script on standard input, without a configuration.
     Replay,
+    /// `alog replay --config`: the same on the configuration of the file of this path.
+    ReplayConfig(&'a str),
     /// `alog format`: a line.
     Format(LineRequest<'a>),
     /// `alog check`: whether the file of this path has a configuration.

@@ -33,11 +33,16 @@ fn expect<R: AllocGlobal + Files + Abort>(
     assert!(rt; output.as_slice() == printed.as_bytes());
 }
 
-fn prints<R: AllocGlobal + Files + Abort>(rt: &R, script: &str, printed: &str) {
+pub(crate) fn prints<R: AllocGlobal + Files + Abort>(rt: &R, script: &str, printed: &str) {
     expect(rt, script.as_bytes(), 0, printed, "");
 }
 
-fn refuses<R: AllocGlobal + Files + Abort>(rt: &R, script: &str, printed: &str, error: &str) {
+pub(crate) fn refuses<R: AllocGlobal + Files + Abort>(
+    rt: &R,
+    script: &str,
+    printed: &str,
+    error: &str,
+) {
     expect(rt, script.as_bytes(), 2, printed, error);
 }
 
@@ -330,9 +335,9 @@ fn long_lines(rt: HostRuntime) -> Result<(), Fail> {
 
 /// Gives its bytes one at a time, and then fails or ends.
 #[derive(Drop)]
-struct Trickle<'a> {
-    bytes: &'a [u8],
-    fails: bool,
+pub(crate) struct Trickle<'a> {
+    pub bytes: &'a [u8],
+    pub fails: bool,
 }
 
 impl Read for Trickle<'_> {

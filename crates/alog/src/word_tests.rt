@@ -42,6 +42,23 @@ fn lines(rt: HostRuntime) {
             "[2024-02-03 16:35:46.123] [info] hello\n",
         ),
         (
+            ["%# %s|", "", "--file=a/b", "--line=4294967295"],
+            "4294967295 b|\n",
+        ),
+        (
+            ["%+", "--level=err", "--", "-x"],
+            "[1970-01-01 00:00:00.000] [error] -x\n",
+        ),
+    ] {
+        let words = ["alog", "format", pattern, text, first, second];
+        prints(&rt, words.as_slice(), 0, line, "");
+    }
+}
+
+#[test]
+fn lines_of_least_and_greatest_values(rt: HostRuntime) {
+    for ([pattern, text, first, second], line) in [
+        (
             ["%Y-%m-%d %T.%F %E", "", "--time=-1", "--offset=0"],
             "1969-12-31 23:59:59.999999999 -1\n",
         ),
@@ -58,16 +75,8 @@ fn lines(rt: HostRuntime) {
             "4294967295 |\n",
         ),
         (
-            ["%# %s|", "", "--file=a/b", "--line=4294967295"],
-            "4294967295 b|\n",
-        ),
-        (
             ["%t %l", "", "--thread=18446744073709551615", "--level=off"],
             "18446744073709551615 off\n",
-        ),
-        (
-            ["%+", "--level=err", "--", "-x"],
-            "[1970-01-01 00:00:00.000] [error] -x\n",
         ),
     ] {
         let words = ["alog", "format", pattern, text, first, second];

@@ -59,6 +59,11 @@ pub fn read<'a, S: AsStr>(alloc: Global, words: &'a [S]) -> Result<Request<'a>, 
     if let Some(format) = matches.subcommand_matches("format") {
         return Ok(Request::Format(line_request(format)?));
     }
+    if let Some(replay) = matches.subcommand_matches("replay") {
+        if let Some(file) = replay.get_str("config") {
+            return Ok(Request::ReplayConfig(file));
+        }
+    }
     match matches.subcommand_matches("check") {
         Some(check) => Ok(Request::Check(text(check, "FILE"))),
         None => Ok(Request::Replay),

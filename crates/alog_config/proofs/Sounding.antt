@@ -1,7 +1,9 @@
 -- What keeps the rules is sound.
-use Rattle.std.proofs.Common.{◌≡◌, ◌≤◌, ◌<◌, ◌^◌, ℕ, suc, ℤ, pos, rules, List, [], ◌∷◌, ◌++◌, length, codes, Option, Some, None, inl, inr}
+use Rattle.std.proofs.Common.{◌≡◌, ◌≤◌, ◌<◌, ◌^◌, ℕ, suc, ℤ, pos, true, rules, List, [], ◌∷◌, ◌++◌, length, codes, Option, Some, None, inl, inr}
 use Rattle.std.proofs.Common.{refl, sym, ap, subst, ◌∙◌, arith}
-use Rattle.std.proofs.lemmas.Bool.{cases_lt}
+use Rattle.std.proofs.lemmas.Bool.{and_from, cases_lt, le-leb}
+use lib.Count.{ones}
+use Rattle.alog_core.specs.World.{is_size}
 use Rattle.alog_config.specs.declared.config.LoggerConfig.{LoggerConfig}
 use Rattle.alog_config.specs.declared.config.SinkConfig.{SinkConfig}
 use Rattle.alog_config.specs.declared.config.SinkKind.{SinkKind}
@@ -21,8 +23,9 @@ use Rattle.alog_msg.specs.declared.limits.TheConstants.{DEFAULT_TEXT_LIMIT, LEAS
 use Rattle.alog_config.specs.Meaning.{AreLoggers, AreSinks, IsLogger, IsSink, SaysKind, SaysUpkeep, limit_of}
 use Rattle.alog_config.specs.Rules.{AreBadMembers, AreLentSinks, AreNoSinks, IsBadFile, IsFirst, IsTakenLoggerName, IsTakenName}
 use Rattle.alog_config.specs.Rules.{LoggerBreaks, SinkBreaks, order}
-use Rattle.alog_config.specs.Sound.{AreSoundLoggers, AreSoundSinks, IsSound, IsSoundKind, IsSoundLogger, IsSoundSink, IsSoundUpkeep}
-use Rattle.alog_config.specs.Values.{IsField, IsMinutes, IsName, IsNameList, IsNumber, IsPattern, IsPatternText, IsTableArray}
+use Rattle.alog_config.specs.Sound.{AreSoundLoggers, AreSoundSinks, IsSound, IsSoundKind, IsSoundLogger, IsSoundSink, IsSoundTop}
+use Rattle.alog_config.specs.Sound.{IsSoundUpkeep}
+use Rattle.alog_config.specs.Values.{IsField, IsMinutes, IsName, IsNameList, IsNumber, IsPattern, IsPatternText, IsQueue, IsTableArray}
 use Rattle.alog_config.specs.Values.{LentTables, Spelled, given_or, tables_in}
 use Rattle.alog_pattern.specs.Compiled.{IsTextLimit}
 use Rattle.alog_pattern.specs.Flag.{flag_of}
@@ -213,6 +216,33 @@ minutes_sound : (o : Option Data) (field : Field ℤ) → IsField IsMinutes o fi
 minutes_sound o (Given n) h = let r = given_reads IsMinutes o (Given n) n h refl in (r.1.1, r.1.2)
 minutes_sound o Absent h = zero_near
 minutes_sound o Bad h = zero_near
+
+default_size : is_size 8192 ≡ true
+unfolding ones
+default_size = refl
+
+queue_sound : (o : Option Data) (field : Field ℕ) → IsField IsQueue o field → is_size (given_or 8192 field) ≡ true
+queue_sound o (Given n) h =
+    let r = (given_reads IsQueue o (Given n) n h refl).1 in
+    and_from _ _ r.1 (and_from _ _ (le-leb 2 n r.0.1) (le-leb n 65536 r.0.2))
+queue_sound o Absent h = default_size
+queue_sound o Bad h = default_size
+
+workers_sound : (o : Option Data) (field : Field ℕ) → IsField (IsNumber 1 64) o field
+    → (1 ≤ given_or 1 field) × (given_or 1 field ≤ 64)
+workers_sound o (Given n) h = number_sound 1 64 o (Given n) n h refl
+workers_sound o Absent h = (omega arith, omega arith)
+workers_sound o Bad h = (omega arith, omega arith)
+
+pub top_kept : (t : Members) (f : TopFields) (queue workers : ℕ) → AreTopFields t f → queue ≡ given_or 8192 f.queue
+    → workers ≡ given_or 1 f.workers → IsSoundTop queue workers
+top_kept t f queue workers are places threads =
+    let many = workers_sound _ f.workers are.workers in
+    record {
+      size = rw places (queue_sound _ f.queue are.queue);
+      some = rw threads many.0;
+      few = rw threads many.1;
+    }
 
 -- what is read keeps the rules
 pub top_sound : (t : Members) (f : TopFields) (v w : LentTables) (limit : ℕ) (offset : ℤ) (ss : List SinkConfig) (ls : List LoggerConfig)

@@ -1,5 +1,5 @@
 -- What is true of each configuration: it keeps the rules.
-use Rattle.std.specs.Prelude.{◌≡◌, ◌≤◌, ◌^◌, ℕ, List, [], ◌∷◌, ◌++◌, length}
+use Rattle.std.specs.Prelude.{◌≡◌, ◌≤◌, ◌^◌, ℕ, true, List, [], ◌∷◌, ◌++◌, length}
 use Rattle.std.specs.List.{Any}
 use Rattle.alog_config.specs.declared.TheConstants.{MOST_TABLES}
 use Rattle.alog_config.specs.declared.config.LoggerConfig.{LoggerConfig}
@@ -10,6 +10,7 @@ use Rattle.alog_config.specs.declared.config.Upkeep.{Upkeep}
 use Rattle.alog_config.specs.declared.config.Upkeep.TheVariants as upkeeps
 use Rattle.alog_config.specs.Sinks.{AnyFan, AnyMember, AnyUnknown, IsFile, IsSinkName}
 use Rattle.alog_config.specs.Values.{AreNames, IsPattern}
+use Rattle.alog_core.specs.World.{is_size}
 use Rattle.alog_format.specs.Civil.{IsZone}
 use Rattle.alog_format.specs.declared.context.Zone.{Zone}
 use Rattle.alog_msg.specs.declared.limits.TheConstants.{LOGGER_NAME_MAX}
@@ -54,6 +55,12 @@ AreSoundSinks limit earlier (s ∷ ss) = IsSoundSink limit earlier s × AreSound
 abbrev pub AreSoundLoggers : List SinkConfig → List LoggerConfig → List LoggerConfig → Type 0
 AreSoundLoggers sinks earlier [] = Unit {0}
 AreSoundLoggers sinks earlier (l ∷ ls) = IsSoundLogger sinks earlier l × AreSoundLoggers sinks (earlier ++ l ∷ []) ls
+
+-- The queue has a size that a queue may have, and there are 1 to 64 workers.
+pub record IsSoundTop (queue workers : ℕ) : Type 0 where
+  pub size : is_size queue ≡ true
+  pub some : 1 ≤ workers
+  pub few : workers ≤ 64
 
 -- A configuration of this text limit, clock, sinks and loggers keeps the rules.
 pub record IsSound (limit : ℕ) (zone : Zone) (sinks : List SinkConfig) (loggers : List LoggerConfig) : Type 0 where

@@ -7,7 +7,7 @@ use Rattle.alog_config.specs.declared.config.SinkKind.{SinkKind}
 use Rattle.alog_config.specs.declared.config.SinkKind.TheVariants as sinks
 use Rattle.alog_config.specs.declared.config.Upkeep.{Upkeep}
 use Rattle.alog_config.specs.declared.config.Upkeep.TheVariants as upkeeps
-use Rattle.alog_config.specs.Sound.{AreSoundLoggers, AreSoundSinks, IsSound, IsSoundKind, IsSoundLogger, IsSoundSink, IsSoundUpkeep}
+use Rattle.alog_config.specs.Sound.{AreSoundLoggers, AreSoundSinks, IsSound, IsSoundKind, IsSoundLogger, IsSoundSink, IsSoundTop, IsSoundUpkeep}
 use Rattle.alog_format.specs.declared.context.Zone.{Zone}
 
 upkeep_prop : (u : Upkeep) → IsProp (IsSoundUpkeep u)
@@ -35,3 +35,6 @@ loggers_prop ss earlier (l ∷ ls) = let rest = loggers_prop ss (earlier ++ l �
 
 pub IsSound-prop : (limit : ℕ) (zone : Zone) (ss : List SinkConfig) (ls : List LoggerConfig) → IsProp (IsSound limit zone ss ls)
 IsSound-prop limit zone ss ls = hlevel (sinks_prop, loggers_prop, props)
+
+pub IsSoundTop-prop : (queue workers : ℕ) → IsProp (IsSoundTop queue workers)
+IsSoundTop-prop queue workers = hlevel props

@@ -1,6 +1,6 @@
 //! What a configuration says.
-ghost use Rattle.alog_config.specs.Soundness.{IsSound-prop};
-ghost use Rattle.alog_config.specs.Sound.{IsSound};
+ghost use Rattle.alog_config.specs.Soundness.{IsSound-prop, IsSoundTop-prop};
+ghost use Rattle.alog_config.specs.Sound.{IsSound, IsSoundTop};
 ghost use Rattle.alog_format.specs.declared.context.Zone.TheVariants.{Fixed};
 
 use crate::names::NameList;
@@ -26,6 +26,7 @@ pub struct Config {
     pub sinks: Vec<SinkConfig>,
     /// The loggers by number, 1 to 256.
     pub loggers: Vec<LoggerConfig>,
+    ghost top: { IsSoundTop queue workers } by { IsSoundTop-prop queue workers },
     ghost sound: { IsSound text (Fixed offset) sinks.items loggers.items } by { IsSound-prop text (Fixed offset) sinks.items loggers.items },
 }
 

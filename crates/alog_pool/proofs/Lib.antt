@@ -3,3 +3,5 @@ pub mod Turning
 pub mod Deeds
 pub mod Worked
 pub mod Sums
+pub mod Leaving
+pub mod Producing

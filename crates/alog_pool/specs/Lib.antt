@@ -1,5 +1,9 @@
 pub mod Accounts
 pub mod Berth
 pub mod Deeds
+pub mod Keeping
+pub mod Lending
+pub mod Producer
 pub mod Working
 pub mod Whole
+pub mod Ending

@@ -38,6 +38,13 @@ pub record IsWorkOf (most : ℕ) (k : Known Item no_note) (tickets : List ℕ) (
 abbrev pub HasEnded : List (Entry Item no_note) → Type 0
 HasEnded own = (taken of_stops own ≡ 1) ⊎ ((taken of_stops own ≡ 0) × SawEnd own)
 
+-- the pass of a worker that begins: it has one part, and made nothing
+pub record IsFresh (k : Known Item no_note) : Type 0 where
+  pub faithful : IsFaithful k
+  pub parts : k.parts ≡ 1
+  pub joined : k.joined ≡ []
+  pub own : k.own ≡ []
+
 -- each place has this text limit
 abbrev pub AreLimited : {S : Type 0} → ℕ → List (Place S) → Type 0
 AreLimited {S} limit places = AllByRecursion (λ (p : Place S). p.limit ≡ limit) places

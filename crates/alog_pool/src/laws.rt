@@ -1,4 +1,5 @@
 //! What is true of all passes of a ring together.
+ghost use Rattle.alog_pool.specs.Ending.{NoWorkIsLeft};
 ghost use Rattle.alog_pool.specs.Whole.{MembersBalance};
 
 /// Where a pass has seen everything: by whatever weight of tickets and items, what its members put in, they took out, or it is
@@ -6,4 +7,11 @@ ghost use Rattle.alog_pool.specs.Whole.{MembersBalance};
 /// It does nothing: its contract is the law.
 pub fn members_balance<T, N>()
     ensures { MembersBalance T N }
+{}
+
+/// Where a pass has seen everything, and a worker has ended: no text and no flush is left in the queue, so what was posted was handled
+/// or overrun. The pool posts its stops after all producers have come back, which is what this rests on.
+/// It does nothing: its contract is the law.
+pub fn no_work_is_left()
+    ensures { NoWorkIsLeft }
 {}

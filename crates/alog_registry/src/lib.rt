@@ -31,6 +31,8 @@ mod logging;
 mod lookup;
 #[cfg(test)]
 mod port_tests;
+#[cfg(test)]
+mod refusal_tests;
 mod registry;
 #[cfg(test)]
 mod tests;

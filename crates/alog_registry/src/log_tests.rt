@@ -77,6 +77,68 @@ fn say<O: Carry, K: Keep>(
     )?)
 }
 
+// What is logged.
+#[derive(Clone, Copy, Drop)]
+pub(crate) struct Words<'a> {
+    pub level: Level,
+    pub time: i64,
+    pub thread: u64,
+    pub text: &'a str,
+    pub source: Option<SourceRef<'a>>,
+}
+
+// A text of this level, at time 0 by thread 1.
+pub(crate) fn at_level(level: Level, text: &str) -> Words<'_> {
+    Words {
+        level,
+        time: 0,
+        thread: 1,
+        text,
+        source: None,
+    }
+}
+
+// A message was posted under this ticket, and kept or not.
+pub(crate) fn logged(ticket: u64, kept: bool) -> Result<LogReply, MessageError> {
+    let outcome = posted(ticket);
+    Ok(LogReply::Logged { outcome, kept })
+}
+
+// A message was below level info, and kept or not.
+pub(crate) fn filtered(kept: bool) -> Result<LogReply, MessageError> {
+    let level = Level::Info;
+    Ok(LogReply::Filtered { level, kept })
+}
+
+// Logs by the first logger, which says that this came of it.
+pub(crate) fn tells<O: Carry, K: Keep>(
+    rt: &impl Abort,
+    loggers: &Loggers,
+    alloc: Global,
+    outlet: &mut O,
+    keeper: &mut K,
+    words: Words<'_>,
+    wanted: Result<LogReply, MessageError>,
+)
+    requires known { 0 < length loggers.now }
+    requires outlet { O.is_ready outlet.old × AdmitsShort O.admits TEXT_LIMIT outlet.old }
+    requires keeper { K.is_ready keeper.old × AdmitsShort K.admits TEXT_LIMIT keeper.old }
+    ensures outlet { O.is_ready outlet.new × AdmitsShort O.admits TEXT_LIMIT outlet.new }
+    ensures keeper { K.is_ready keeper.new × AdmitsShort K.admits TEXT_LIMIT keeper.new }
+{
+    let Words {
+        level,
+        time,
+        thread,
+        text,
+        source,
+    } = words;
+    let found = loggers.log_now(
+        alloc, outlet, keeper, TEXT_LIMIT, 0, level, time, thread, text, source,
+    );
+    assert_eq!(rt; found, wanted);
+}
+
 // The text of a message that a pop takes, which has this level, time and thread.
 fn is_next(
     rt: &impl Abort,
@@ -103,30 +165,41 @@ pub(crate) fn keep_three<O: Carry, K: Keep>(
     alloc: Global,
     outlet: &mut O,
     keeper: &mut K,
-) -> Result<(), Fail>
+)
     requires known { 0 < length loggers.now }
     requires outlet { O.is_ready outlet.old × AdmitsShort O.admits TEXT_LIMIT outlet.old }
     requires keeper { K.is_ready keeper.old × AdmitsShort K.admits TEXT_LIMIT keeper.old }
     ensures outlet { O.is_ready outlet.new × AdmitsShort O.admits TEXT_LIMIT outlet.new }
     ensures keeper { K.is_ready keeper.new × AdmitsShort K.admits TEXT_LIMIT keeper.new }
 {
-    let kept = LogReply::Filtered {
-        level: Level::Info,
-        kept: true,
-    };
-    assert_eq!(rt;
-        say(loggers, alloc, outlet, keeper, Level::Debug, "m1")?,
-        kept
+    let below = Level::Debug;
+    tells(
+        rt,
+        loggers,
+        alloc,
+        outlet,
+        keeper,
+        at_level(below, "m1"),
+        filtered(true),
     );
-    assert_eq!(rt;
-        say(loggers, alloc, outlet, keeper, Level::Debug, "m2")?,
-        kept
+    tells(
+        rt,
+        loggers,
+        alloc,
+        outlet,
+        keeper,
+        at_level(below, "m2"),
+        filtered(true),
     );
-    assert_eq!(rt;
-        say(loggers, alloc, outlet, keeper, Level::Debug, "m3")?,
-        kept
+    tells(
+        rt,
+        loggers,
+        alloc,
+        outlet,
+        keeper,
+        at_level(below, "m3"),
+        filtered(true),
     );
-    Ok(())
 }
 
 // The last two are dumped, and then nothing is.
@@ -164,13 +237,56 @@ fn flushes_and_dumps_at_once(rt: HostRuntime) -> Result<(), Fail> {
     let mut desk = Desk::<Item>::new(alloc, 8, 0)?;
     let mut backtrace = Backtrace::new(alloc, 2)?;
     let mut outlet = desk.outlet(1)?;
-    keep_three(&rt, &loggers, alloc, &mut outlet, &mut backtrace)?;
+    keep_three(&rt, &loggers, alloc, &mut outlet, &mut backtrace);
     dump_twice(&rt, &loggers, alloc, &mut outlet, &mut backtrace)?;
     assert_eq!(rt; loggers.flush(&mut outlet, 0), posted(4));
     drop(outlet);
     take_dumped(&rt, &mut desk);
     assert!(rt; matches!(popped(&rt, &mut desk), Item::Flush(0)));
     Ok(())
+}
+
+// One message is posted, one is below the level, and one is posted at level off.
+fn log_hello_quiet_and_off<O: Carry, K: Keep>(
+    rt: &impl Abort,
+    loggers: &Loggers,
+    alloc: Global,
+    outlet: &mut O,
+    none: &mut K,
+)
+    requires known { 0 < length loggers.now }
+    requires outlet { O.is_ready outlet.old × AdmitsShort O.admits TEXT_LIMIT outlet.old }
+    requires keeper { K.is_ready none.old × AdmitsShort K.admits TEXT_LIMIT none.old }
+{
+    let hello = Words {
+        level: Level::Info,
+        time: -5,
+        thread: 3,
+        text: "hello",
+        source: Some(SourceRef {
+            file: "src/net.rt",
+            line: 12,
+            function: "connect",
+        }),
+    };
+    tells(rt, loggers, alloc, outlet, none, hello, logged(0, false));
+    let quiet = at_level(Level::Debug, "quiet");
+    tells(rt, loggers, alloc, outlet, none, quiet, filtered(false));
+    assert!(rt; loggers.set_level(0, Level::Off));
+    let off = at_level(Level::Off, "off");
+    tells(rt, loggers, alloc, outlet, none, off, logged(1, false));
+}
+
+// Whether an item is the first of the three.
+fn is_hello(item: &Item) -> bool {
+    match item {
+        Item::Text(message) => {
+            let source = matches!(&message.source, Some(source) if source.function() == "connect");
+            let text = message.text.as_str() == "hello";
+            text && message.time == -5 && message.thread == 3 && source
+        }
+        Item::Flush(_) | Item::Stop => false,
+    }
 }
 
 #[test]
@@ -180,164 +296,10 @@ fn logs_at_once(rt: HostRuntime) -> Result<(), Fail> {
     let mut desk = Desk::<Item>::new(alloc, 8, 0)?;
     let mut none = Backtrace::new(alloc, 0)?;
     let mut outlet = desk.outlet(1)?;
-    let source = Some(SourceRef {
-        file: "src/net.rt",
-        line: 12,
-        function: "connect",
-    });
-    let hello = loggers.log_now(
-        alloc,
-        &mut outlet,
-        &mut none,
-        TEXT_LIMIT,
-        0,
-        Level::Info,
-        -5,
-        3,
-        "hello",
-        source,
-    )?;
-    assert_eq!(rt;
-        hello,
-        LogReply::Logged {
-            outcome: posted(0),
-            kept: false
-        }
-    );
-    let quiet = loggers.log_now(
-        alloc,
-        &mut outlet,
-        &mut none,
-        TEXT_LIMIT,
-        0,
-        Level::Debug,
-        0,
-        3,
-        "quiet",
-        None,
-    )?;
-    assert_eq!(rt;
-        quiet,
-        LogReply::Filtered {
-            level: Level::Info,
-            kept: false
-        }
-    );
-    assert!(rt; loggers.set_level(0, Level::Off));
-    let off = loggers.log_now(
-        alloc,
-        &mut outlet,
-        &mut none,
-        TEXT_LIMIT,
-        0,
-        Level::Off,
-        1,
-        3,
-        "off",
-        None,
-    )?;
-    assert_eq!(rt;
-        off,
-        LogReply::Logged {
-            outcome: posted(1),
-            kept: false
-        }
-    );
+    log_hello_quiet_and_off(&rt, &loggers, alloc, &mut outlet, &mut none);
     drop(outlet);
-    match popped(&rt, &mut desk) {
-        Item::Text(message) => {
-            assert!(rt;
-                message.text.as_str() == "hello" && message.time == -5 && message.thread == 3
-            );
-            assert!(rt; matches!(&message.source, Some(source) if source.function() == "connect"));
-        }
-        Item::Flush(_) | Item::Stop => panic!(rt; "a text"),
-    }
-    assert!(rt; is_next(&rt, &mut desk, Level::Off, 1, 3, "off"));
-    Ok(())
-}
-
-fn letters(alloc: Global, count: usize) -> Result<String, Fail> {
-    let mut text = String::new(alloc);
-    for _ in 0..count {
-        text.push('a')?;
-    }
-    Ok(text)
-}
-
-#[test]
-fn refused_messages(rt: HostRuntime) -> Result<(), Fail> {
-    let alloc = rt.alloc();
-    let (long, file) = (letters(alloc, 65)?, letters(alloc, 257)?);
-    let source = Some(SourceRef {
-        file: file.as_str(),
-        line: 1,
-        function: "",
-    });
-    let loggers = one(&rt, alloc, Policy::Block, 1)?;
-    let bare = one(&rt, alloc, Policy::Block, 0)?;
-    let mut desk = Desk::<Item>::new(alloc, 2, 0)?;
-    let mut kept = Backtrace::new(alloc, 1)?;
-    let mut outlet = desk.outlet(1)?;
-    let text = loggers.log_now(
-        alloc,
-        &mut outlet,
-        &mut kept,
-        TEXT_LIMIT,
-        0,
-        Level::Debug,
-        0,
-        1,
-        long.as_str(),
-        source,
-    );
-    assert_eq!(rt; text, Err(MessageError::TextTooLong));
-    let field = loggers.log_now(
-        alloc,
-        &mut outlet,
-        &mut kept,
-        TEXT_LIMIT,
-        0,
-        Level::Info,
-        0,
-        1,
-        "",
-        source,
-    );
-    assert_eq!(rt; field, Err(MessageError::FieldTooLong));
-    assert!(rt; kept.is_empty());
-    let unread = bare.log_now(
-        alloc,
-        &mut outlet,
-        &mut kept,
-        TEXT_LIMIT,
-        0,
-        Level::Debug,
-        0,
-        1,
-        long.as_str(),
-        source,
-    );
-    assert_eq!(rt;
-        unread,
-        Ok(LogReply::Filtered {
-            level: Level::Info,
-            kept: false
-        })
-    );
-    let text = bare.log_now(
-        alloc,
-        &mut outlet,
-        &mut kept,
-        TEXT_LIMIT,
-        0,
-        Level::Info,
-        0,
-        1,
-        long.as_str(),
-        source,
-    );
-    assert_eq!(rt; text, Err(MessageError::TextTooLong));
+    assert!(rt; is_hello(&popped(&rt, &mut desk)));
+    assert!(rt; is_next(&rt, &mut desk, Level::Off, 0, 1, "off"));
     Ok(())
 }
 
@@ -415,61 +377,28 @@ impl Keep for Forgetful {
     }
 }
 
-fn log_kept<K: Keep>(
+// A message that is posted and one below the level are both kept, or neither is.
+fn tells_whether_kept<K: Keep>(
     rt: &impl Abort,
     alloc: Global,
     keeper: &mut K,
-) -> Result<(LogReply, LogReply), Fail>
+    kept: bool,
+) -> Result<(), Fail>
     requires { K.is_ready keeper.old × AdmitsShort K.admits TEXT_LIMIT keeper.old }
 {
     let loggers = one(rt, alloc, Policy::Block, 2)?;
     let mut desk = Desk::<Item>::new(alloc, 4, 0)?;
     let mut outlet = desk.outlet(1)?;
-    let logged = loggers.log_now(
-        alloc,
-        &mut outlet,
-        keeper,
-        TEXT_LIMIT,
-        0,
-        Level::Info,
-        0,
-        1,
-        "a",
-        None,
-    )?;
-    let filtered = loggers.log_now(
-        alloc,
-        &mut outlet,
-        keeper,
-        TEXT_LIMIT,
-        0,
-        Level::Debug,
-        0,
-        1,
-        "b",
-        None,
-    )?;
-    Ok((logged, filtered))
+    let (a, b) = (at_level(Level::Info, "a"), at_level(Level::Debug, "b"));
+    tells(rt, &loggers, alloc, &mut outlet, keeper, a, logged(0, kept));
+    tells(rt, &loggers, alloc, &mut outlet, keeper, b, filtered(kept));
+    Ok(())
 }
 
 #[test]
 fn keepers_tell_what_they_kept(rt: HostRuntime) -> Result<(), Fail> {
     let alloc = rt.alloc();
-    let (logged, filtered) = log_kept(&rt, alloc, &mut Forgetful)?;
-    assert_eq!(rt;
-        logged,
-        LogReply::Logged {
-            outcome: posted(0),
-            kept: false
-        }
-    );
-    assert_eq!(rt;
-        filtered,
-        LogReply::Filtered {
-            level: Level::Info,
-            kept: false
-        }
-    );
+    tells_whether_kept(&rt, alloc, &mut Forgetful, false)?;
     let (lane, mut seat) = match Lane::new(alloc, Backtrace::new(alloc, 2)?) {
         Ok(made) => made,
         Err(_) => panic!(rt; "there is memory"),
@@ -483,20 +412,5 @@ fn keepers_tell_what_they_kept(rt: HostRuntime) -> Result<(), Fail> {
         seat: &mut seat,
         scratch: &mut scratch,
     };
-    let (logged, filtered) = log_kept(&rt, alloc, &mut keeper)?;
-    assert_eq!(rt;
-        logged,
-        LogReply::Logged {
-            outcome: posted(0),
-            kept: true
-        }
-    );
-    assert_eq!(rt;
-        filtered,
-        LogReply::Filtered {
-            level: Level::Info,
-            kept: true
-        }
-    );
-    Ok(())
+    tells_whether_kept(&rt, alloc, &mut keeper, true)
 }

@@ -144,7 +144,7 @@ fn a_port_logs_dumps_and_flushes(rt: HostRuntime) -> Result<(), Fail> {
         book: &book,
         seat: &mut losses,
     };
-    keep_three(&rt, &loggers, alloc, &mut port, &mut backtrace)?;
+    keep_three(&rt, &loggers, alloc, &mut port, &mut backtrace);
     dump_twice(&rt, &loggers, alloc, &mut port, &mut backtrace)?;
     assert_eq!(rt; loggers.flush(&mut port, 0), posted(4));
     assert!(rt; is_next(&ring, &mut other, "=== backtrace start ==="));

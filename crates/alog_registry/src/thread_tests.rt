@@ -1,5 +1,5 @@
-//! A backtrace under a lock, with which two threads keep messages.
-ghost use Rattle.std.specs.Prelude.{◌≤◌, ◌↔◌, IsTrue};
+//! A backtrace under a lock, with which two threads keep messages, and one meets the lock while the other has it.
+ghost use Rattle.std.specs.Prelude.{◌≡◌, ◌≤◌, ◌↔◌, IfSome, IsTrue};
 ghost use Rattle.alog_lane.specs.Calls.{IsSeatOf};
 ghost use Rattle.alog_registry.specs.Limit.{IsShort};
 ghost use Rattle.alog_registry.specs.declared.log_tests.TheConstants.{TEXT_LIMIT};
@@ -9,8 +9,10 @@ use crate::log_tests::TEXT_LIMIT;
 use alog_lane::{Lane, LaneSeat};
 use alog_msg::{Level, MOST_TEXT_LIMIT, Message};
 use std::alloc::{AllocError, Global};
+use std::mem;
+use std::sync::atomic::{AtomicBool, Ordering};
 use std::test::Fail;
-use std::{mem, thread};
+use std::thread::{self, Threads};
 
 /// The messages of each thread.
 const MESSAGES: usize = 2_000;
@@ -43,6 +45,75 @@ impl Keeping {
             }
         }
         own
+    }
+}
+
+/// What a thread works with that keeps messages until the lock was met while another thread had it: its seat, how many messages
+/// it kept, and whether it met the lock so.
+#[derive(Drop)]
+struct Meeting {
+    alloc: Global,
+    seat: LaneSeat<Backtrace>,
+    kept: u64,
+    met: bool,
+}
+
+impl Meeting {
+    fn new(alloc: Global, seat: LaneSeat<Backtrace>) -> Meeting
+        ensures { result.seat ≡ seat }
+    {
+        Meeting {
+            alloc,
+            seat,
+            kept: 0,
+            met: false,
+        }
+    }
+
+    /// Keeps messages until one is not kept, here or in the other thread.
+    fn keep_until_held(self, lane: &Lane<Backtrace>, is_met: &AtomicBool) -> Meeting
+        requires { IsSeatOf lane.now self.seat × (TEXT_LIMIT ≤ lane.now.first.limit) }
+        ensures { IsSeatOf lane.now result.seat }
+    {
+        let mut own = self;
+        let mut scratch = BacktraceScratch {
+            message: None,
+            list: None,
+        };
+        for time in 0..i64::MAX {
+            if is_met.load(Ordering::SeqCst) {
+                break;
+            }
+            let Some(message) = short_message(own.alloc, time, 1) else {
+                break;
+            };
+            if keep_one(lane, &mut own.seat, &mut scratch, message) {
+                own.kept = own.kept.saturating_add(1);
+            } else {
+                own.met = true;
+                is_met.store(true, Ordering::SeqCst);
+            }
+        }
+        own
+    }
+}
+
+/// A message of a thread at this time.
+fn short_message(alloc: Global, time: i64, thread: u64) -> Option<Message>
+    ensures { IfSome result (IsShort TEXT_LIMIT) }
+{
+    match Message::new(
+        alloc,
+        TEXT_LIMIT,
+        0,
+        Level::Info,
+        time,
+        thread,
+        "text",
+        None,
+    ) {
+        Ok(message) if is_short(&message) => Some(message),
+        _ => None,
     }
 }
 
@@ -151,6 +222,55 @@ fn two_threads_keep(rt: HostRuntime) -> Result<(), Fail> {
             assert_eq!(rt; list.len(), kept.min(ROOM));
             assert!(rt; are_in_order(&mut list));
         }
+        Ok((_, BacktraceReply::Kept)) | Err(_) => panic!(rt; "it is dumped"),
+    }
+    Ok(())
+}
+
+/// How many messages two threads kept until one of them met the lock while the other had it.
+fn kept_until_held(
+    rt: &impl Threads,
+    lane: &Lane<Backtrace>,
+    one: Meeting,
+    two: Meeting,
+) -> (Meeting, Meeting)
+    requires { IsSeatOf lane.now one.seat × IsSeatOf lane.now two.seat × (TEXT_LIMIT ≤ lane.now.first.limit) }
+    ensures { IsSeatOf lane.now result.0.seat × IsSeatOf lane.now result.1.seat }
+{
+    let is_met = &AtomicBool::new(false);
+    thread::join(
+        rt,
+        || -> Meeting
+            requires { IsSeatOf lane.now one.seat × (TEXT_LIMIT ≤ lane.now.first.limit) }
+            ensures { IsSeatOf lane.entry.now result.seat }
+        { one.keep_until_held(lane, is_met) },
+        || -> Meeting
+            requires { IsSeatOf lane.now two.seat × (TEXT_LIMIT ≤ lane.now.first.limit) }
+            ensures { IsSeatOf lane.entry.now result.seat }
+        { two.keep_until_held(lane, is_met) },
+    )
+}
+
+#[test]
+fn a_lock_that_is_held(rt: HostRuntime) -> Result<(), Fail> {
+    let alloc = rt.alloc();
+    let Ok((lane, mut seat)) = Lane::new(alloc, Backtrace::new(alloc, ROOM)?) else {
+        return Err(AllocError.into());
+    };
+    let mut scratch = BacktraceScratch {
+        message: None,
+        list: Some(Dumped::new(alloc, ROOM, MOST_TEXT_LIMIT)?),
+    };
+    let one = Meeting::new(alloc, lane.split(&mut seat, 1));
+    let two = Meeting::new(alloc, lane.split(&mut seat, 1));
+    let (one, two) = kept_until_held(&rt, &lane, one, two);
+    assert!(rt; one.met || two.met);
+    let kept = one.kept.saturating_add(two.kept);
+    lane.join(&mut seat, one.seat);
+    lane.join(&mut seat, two.seat);
+    // What was not kept made no turn.
+    match lane.turn_once(&mut seat, 0, &BacktraceItem::Dump, &mut scratch) {
+        Ok((index, BacktraceReply::Dumped(_))) => assert_eq!(rt; index, kept),
         Ok((_, BacktraceReply::Kept)) | Err(_) => panic!(rt; "it is dumped"),
     }
     Ok(())

@@ -18,3 +18,5 @@ pub mod Going
 pub mod Holding
 pub mod Telling
 pub mod Endings
+pub mod Placing
+pub mod Staging

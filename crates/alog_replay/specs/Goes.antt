@@ -16,7 +16,7 @@ use Rattle.alog_sink.specs.Files.{Files}
 use Rattle.alog_sink.specs.Kept.{IsSameTarget}
 use Rattle.alog_sink.specs.Lines.{AreWrittenOf, admits, admitted}
 use Rattle.alog_sink.specs.Sinks.{SinkFlushes, SinkTakes}
-use Rattle.alog_sink.specs.Turn.{AllFlush, AllTake, Answer, FanView, Flushes, LeafView, StandsFor, Takes, first_fault}
+use Rattle.alog_sink.specs.Turn.{AllFlush, AllTake, Answer, FanView, Flushes, LeafView, Takes, first_fault}
 use Rattle.alog_sink.specs.declared.leaf.SinkError.{SinkError}
 use Rattle.alog_sink.specs.declared.leaf.SinkError.TheVariants as errors
 use Rattle.alog_sink.specs.declared.leaf.Taken.TheVariants.{Below, Written as Wrote}
@@ -24,14 +24,13 @@ use Rattle.alog_sink.specs.declared.sink.Sink.{Sink}
 use Rattle.alog_sink.specs.declared.sink.Sink.TheVariants.{Leaf, Fan}
 use Rattle.alog_sink.specs.declared.target.Target.{Target}
 use Rattle.alog_sink.specs.declared.target.Target.TheVariants.{Memory, Rotating, Daily}
-use Rattle.alog_system.specs.Outputs.{DoesTurn, OutputsView, told_of_flush, told_of_text}
+use Rattle.alog_system.specs.Outputs.{DoesTurn, told_of_flush, told_of_text}
 use Rattle.alog_system.specs.Roster.{turns_for}
-use Rattle.alog_system.specs.Step.{RoundSteps, ServesOn, SystemSteps, TurnSteps, TurnTold, after_round, dumped_by, posting, told_in_round}
+use Rattle.alog_system.specs.Step.{RoundSteps, SystemSteps, TurnSteps, TurnTold, after_round, dumped_by, posting, told_in_round}
 use Rattle.alog_system.specs.Roster.{emptied, keeping, kept_at, policy_at}
-use Rattle.alog_system.specs.System.{SystemView, duty_of, is_free, item_of, owes, with_duty, with_outputs, with_roster}
+use Rattle.alog_system.specs.System.{SystemView, duty_of, item_of, owes, with_duty, with_outputs, with_roster}
 use Rattle.alog_system.specs.declared.duty.Duty.{Duty}
 use Rattle.alog_system.specs.declared.duty.Duty.TheVariants.{Free, Keeps, Dumps, Posts, Works, Serves}
-use Rattle.alog_system.specs.declared.stepped.Stepped.{Stepped}
 use Rattle.alog_system.specs.declared.stepped.Stepped.TheVariants.{Turned}
 use Rattle.alog_system.specs.declared.stepped.Turn.{Turn}
 use Rattle.alog_system.specs.declared.stepped.Turn.TheVariants.{Kept, Dumped, Fault}

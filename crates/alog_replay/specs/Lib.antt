@@ -14,5 +14,6 @@ pub mod Session
 pub mod Plain
 pub mod Refusing
 pub mod Configured
+pub mod OfConfig
 pub mod Goes
 pub mod Error

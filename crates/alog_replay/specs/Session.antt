@@ -1,5 +1,5 @@
 -- A queue under a script: the stepped queue with posts, what its actors owe, and the memory file.
-use Rattle.std.specs.Prelude.{◌≡◌, ℕ, pos, ◌&&◌, nat_le, Bool, true, false, Option, Some, None, List, [], ◌∷◌, ◌++◌}
+use Rattle.std.specs.Prelude.{◌≡◌, ℕ, pos, ◌&&◌, nat_le, Bool, true, false, Option, Some, None, List, []}
 use Rattle.std.specs.Prelude.{length, map, replicate, slice_index_or, slice_set, codes}
 use Rattle.alog_core.specs.World.{is_idle, round_of, shown}
 use Rattle.alog_core.specs.declared.TheConstants.{ACTORS}

@@ -1,7 +1,6 @@
 //! Scripts with a configuration, and what they print.
-use crate::{Configured, Place, ReplayError, TextRef, play};
+use crate::{ReplayError, replay_config};
 use alog_config::read;
-use alog_system::System;
 use std::alloc::Global;
 use std::process::Abort;
 use std::test::Fail;
@@ -30,25 +29,15 @@ backtrace = 2
 
 type Printed = (Result<u64, ReplayError>, Vec<u8>);
 
-// What a script prints on the system of a configuration whose one sink is `out`.
+// What a script prints on the system of a configuration.
 fn played(alloc: Global, document: &str, script: &str) -> Result<Printed, Fail> {
     let config = read(alloc, document.as_bytes())?;
-    let system = System::new(alloc, &config)?;
-    let mut names = Vec::new(alloc);
-    names.push(TextRef::new("out"))?;
-    let mut places = Vec::new(alloc);
-    places.push(Place {
-        name: TextRef::new("out"),
-        sink: 0,
-        member: None,
-    })?;
-    let mut stage = Configured::of(system, names, places);
     let mut out = Vec::new(alloc);
-    let found = play(alloc, &mut stage, &mut script.as_bytes(), &mut out);
+    let found = replay_config(alloc, &config, &mut script.as_bytes(), &mut out);
     Ok((found, out))
 }
 
-fn prints(
+pub(crate) fn prints(
     rt: &impl Abort,
     alloc: Global,
     document: &str,
@@ -61,7 +50,7 @@ fn prints(
     Ok(())
 }
 
-fn refuses(
+pub(crate) fn refuses(
     rt: &impl Abort,
     alloc: Global,
     document: &str,

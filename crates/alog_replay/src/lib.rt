@@ -9,7 +9,8 @@
 //! `play` goes so on any scene. That of a script with a configuration is `specs/Configured.antt`, over the stepped system of
 //! `alog_system`: `Configured` (`configured.rt`) is made of a system, of names for its sinks, and of the places of its leaves
 //! (`places.rt`), and `told.rt` has the texts of its steps. `specs/Refusing.antt` and `specs/Goes.antt` say why each step of it
-//! comes to something.
+//! comes to something. `specs/OfConfig.antt` says which stage is that of a configuration, and `replay_config` (`of_config.rt`, over
+//! `leaves.rt`) plays on it.
 //!
 //! Read the specs in that order, then `scene.rt` (the trait of what a script is played on), `player.rt` (which plays on
 //! any such thing, and has `replay` at its end); `plain.rt` and `session.rt` are the queue, `memory.rt` its sink, of which
@@ -18,16 +19,24 @@
 #![tactic(auto)]
 
 mod command;
+#[cfg(test)]
+mod config_fault_tests;
 mod configured;
 #[cfg(test)]
 mod configured_tests;
 mod duty;
 mod entry;
 mod error;
+mod leaves;
 mod limits;
 mod lines;
 mod memory;
+mod of_config;
 mod parser;
+#[cfg(test)]
+mod parser_tests;
+#[cfg(test)]
+mod placed_tests;
 mod places;
 mod plain;
 mod player;
@@ -43,5 +52,6 @@ pub use command::TextRef;
 pub use configured::Configured;
 pub use entry::{one_command, one_entry};
 pub use error::ReplayError;
+pub use of_config::replay_config;
 pub use places::Place;
 pub use player::{one_text, play, replay, tells_one_thing, tells_something};

@@ -43,14 +43,7 @@ pub fn parse(line: &str) -> Option<Command<'_>>
             let actor = actor_alone(rest)?;
             Some(Command::Acts(Act::Work { actor }))
         }
-        "post" => {
-            let (actor, (policy, text)) = actor_policy_and_text(rest)?;
-            Some(Command::Acts(Act::Post {
-                actor,
-                policy,
-                text,
-            }))
-        }
+        "post" => post(rest),
         "log" => log(rest),
         "flush" => flush(rest),
         "dump" => dump(rest),
@@ -183,16 +176,6 @@ fn policy_and_text(rest: Option<&str>) -> Option<(Policy, TextRef<'_>)>
     Some((policy, text))
 }
 
-fn actor_policy_and_text(rest: Option<&str>) -> Option<(Actor, (Policy, TextRef<'_>))>
-    ensures { (given : Given (Then AnActor (Then APolicy AText))) → (result ≡ Some given)
-        ↔ SpellsForm (Then AnActor (Then APolicy AText)) (option_copied rest.entry) given }
-{
-    let (word, more) = cut(rest?);
-    let actor = actor(word)?;
-    let more = policy_and_text(more)?;
-    Some((actor, more))
-}
-
 fn text_or_empty(rest: Option<&str>) -> TextRef<'_>
     ensures { result ≡ unwrap_or (option_copied rest.entry) [] }
 {
@@ -270,6 +253,20 @@ fn time_and_name(rest: Option<&str>) -> Option<(i64, TextRef<'_>)>
     let time = time(word)?;
     let name = name_alone(more)?;
     Some((time, name))
+}
+
+fn post(rest: Option<&str>) -> Option<Command<'_>>
+    ensures { (command : Command) → (result ≡ Some command) ↔ ((g : Given (Then AnActor (Then APolicy AText)))
+        × SpellsForm (Then AnActor (Then APolicy AText)) (option_copied rest.entry) g × (Acts (act.Post g.0 g.1.0 g.1.1) ≡ command)) }
+{
+    let (word, more) = cut(rest?);
+    let actor = actor(word)?;
+    let (policy, text) = policy_and_text(more)?;
+    Some(Command::Acts(Act::Post {
+        actor,
+        policy,
+        text,
+    }))
 }
 
 fn log(rest: Option<&str>) -> Option<Command<'_>>

@@ -94,18 +94,6 @@ fn is_known(system: &System<MemStore>, deed: Deed<'_>) -> bool
     }
 }
 
-// Begins a deed of a logger that there is, and tells the level that filtered it.
-fn begin(
-    rt: &impl Abort,
-    alloc: Global,
-    system: &mut System<MemStore>,
-    actor: u32,
-    deed: Deed<'_>,
-) -> Result<Option<Level>, BeginError> {
-    assert!(rt; is_known(system, deed));
-    system.begin(alloc, actor, deed)
-}
-
 fn log(level: Level, text: &str) -> Deed<'_> {
     Deed::Log {
         time: 0,
@@ -170,184 +158,195 @@ fn told_turn(out: &mut String, actor: u32, turn: Turn) -> Result<(), AllocError>
     }
 }
 
-// Makes so many steps of an actor, or all that its call has.
-fn run(
-    system: &mut System<MemStore>,
-    out: &mut String,
-    actor: u32,
-    count: u32,
-) -> Result<(), AllocError> {
-    for _ in 0..count {
-        match system.step(actor) {
-            Ok(stepped) => told(system, out, actor, stepped)?,
-            Err(_) => return Ok(()),
-        }
-    }
-    Ok(())
-}
-
 const ALL: u32 = 512;
 
-fn file_is(rt: &impl Abort, system: &System<MemStore>, bytes: &[u8]) {
-    assert_eq!(rt; system.sinks().len(), 1);
-    match system.sinks()[0].store() {
-        Some(store) => match store.files().get("out") {
-            Some(file) => assert!(rt; file.as_slice() == bytes),
-            None => assert!(rt; bytes.is_empty()),
-        },
-        None => assert!(rt; false, "a fan"),
+// A system, and what its steps told.
+#[derive(Drop)]
+struct Trial {
+    system: System<MemStore>,
+    out: String,
+}
+
+impl Trial {
+    // The system of a configuration.
+    fn of_a_configuration(alloc: Global, document: &[u8]) -> Result<Trial, Fail> {
+        let config = read(alloc, document)?;
+        Ok(Trial {
+            system: System::new(alloc, &config)?,
+            out: String::new(alloc),
+        })
+    }
+
+    // A system of so many places, with one logger and one sink.
+    fn new(alloc: Global, places: usize, flush_on: Level, backtrace: usize) -> Result<Trial, Fail>
+        requires { backtrace ≤ 4096 }
+    {
+        Ok(Trial {
+            system: small(alloc, places, flush_on, backtrace)?,
+            out: String::new(alloc),
+        })
+    }
+
+    // Begins a deed of a logger that there is, which answers so.
+    fn begins(
+        &mut self,
+        rt: &impl Abort,
+        alloc: Global,
+        actor: u32,
+        deed: Deed<'_>,
+        wanted: Result<Option<Level>, BeginError>,
+    ) {
+        assert!(rt; is_known(&self.system, deed));
+        assert_eq!(rt; self.system.begin(alloc, actor, deed), wanted);
+    }
+
+    // Makes so many steps of an actor, or all that its call has.
+    fn runs(&mut self, rt: &impl Abort, actor: u32, count: u32) {
+        for _ in 0..count {
+            match self.system.step(actor) {
+                Ok(stepped) => {
+                    let told = told(&self.system, &mut self.out, actor, stepped);
+                    assert!(rt; told.is_ok());
+                }
+                Err(_) => return,
+            }
+        }
+    }
+
+    // Begins a deed that nothing filters, and makes all its steps.
+    fn does(&mut self, rt: &impl Abort, alloc: Global, actor: u32, deed: Deed<'_>) {
+        self.begins(rt, alloc, actor, deed, Ok(None));
+        self.runs(rt, actor, ALL);
+    }
+
+    // The steps since the last look told this.
+    fn told(&mut self, rt: &impl Abort, wanted: &str) {
+        assert_eq!(rt; self.out.as_str(), wanted);
+        self.out.clear();
+    }
+
+    // An actor's step is refused so.
+    fn refuses_a_step(&mut self, rt: &impl Abort, actor: u32, wanted: StepError) {
+        match self.system.step(actor) {
+            Ok(_) => panic!(rt; "the step is refused"),
+            Err(error) => assert_eq!(rt; error, wanted),
+        }
+    }
+
+    // The file of its sink has these bytes; without any there is no file.
+    fn file_is(&self, rt: &impl Abort, bytes: &[u8]) {
+        assert_eq!(rt; self.system.sinks().len(), 1);
+        match self.system.sinks()[0].store() {
+            Some(store) => match store.files().get("out") {
+                Some(file) => assert!(rt; file.as_slice() == bytes),
+                None => assert!(rt; bytes.is_empty()),
+            },
+            None => panic!(rt; "a fan"),
+        }
     }
 }
 
 #[test]
 fn a_log_and_a_work(rt: HostRuntime) -> Result<(), Fail> {
     let alloc = rt.alloc();
-    let mut system = small(alloc, 8, Level::Error, 0)?;
-    let mut out = String::new(alloc);
-    assert_eq!(rt;
-        begin(&rt, alloc, &mut system, 1, log(Level::Error, "x")),
-        Ok(None)
-    );
-    run(&mut system, &mut out, 1, ALL)?;
-    assert_eq!(rt; begin(&rt, alloc, &mut system, 2, Deed::Work), Ok(None));
-    run(&mut system, &mut out, 2, ALL)?;
-    assert_eq!(rt;
-        out.as_str(),
-        " 1 claim 0; 1 write 0; 1 posted 0 overran 0; 2 grab 0; 2 take 0 x; 2 line 0 0; 2 flush 0 0;"
-    );
-    file_is(&rt, &system, b"net E x\n");
+    let mut it = Trial::new(alloc, 8, Level::Error, 0)?;
+    it.does(&rt, alloc, 1, log(Level::Error, "x"));
+    it.told(&rt, " 1 claim 0; 1 write 0; 1 posted 0 overran 0;");
+    it.does(&rt, alloc, 2, Deed::Work);
+    it.told(&rt, " 2 grab 0; 2 take 0 x; 2 line 0 0; 2 flush 0 0;");
+    it.file_is(&rt, b"net E x\n");
     Ok(())
 }
 
 #[test]
 fn a_flush(rt: HostRuntime) -> Result<(), Fail> {
     let alloc = rt.alloc();
-    let mut system = small(alloc, 8, Level::Off, 0)?;
-    let mut out = String::new(alloc);
-    assert_eq!(rt;
-        begin(&rt, alloc, &mut system, 1, Deed::Flush { logger: 0 }),
-        Ok(None)
-    );
-    run(&mut system, &mut out, 1, ALL)?;
-    assert_eq!(rt; begin(&rt, alloc, &mut system, 2, Deed::Work), Ok(None));
-    run(&mut system, &mut out, 2, ALL)?;
-    assert_eq!(rt;
-        out.as_str(),
-        " 1 claim 0; 1 write 0; 1 posted 0 overran 0; 2 grab 0; 2 take 0 flush 0; 2 flush 0 0;"
-    );
-    file_is(&rt, &system, b"");
+    let mut it = Trial::new(alloc, 8, Level::Off, 0)?;
+    it.does(&rt, alloc, 1, Deed::Flush { logger: 0 });
+    it.told(&rt, " 1 claim 0; 1 write 0; 1 posted 0 overran 0;");
+    it.does(&rt, alloc, 2, Deed::Work);
+    it.told(&rt, " 2 grab 0; 2 take 0 flush 0; 2 flush 0 0;");
+    it.file_is(&rt, b"");
     Ok(())
 }
 
 #[test]
 fn two_workers_whose_lines_cross(rt: HostRuntime) -> Result<(), Fail> {
     let alloc = rt.alloc();
-    let mut system = small(alloc, 8, Level::Off, 0)?;
-    let mut out = String::new(alloc);
-    for (actor, text) in [(1, "a"), (2, "b")] {
-        assert_eq!(rt;
-            begin(&rt, alloc, &mut system, actor, log(Level::Info, text)),
-            Ok(None)
-        );
-        run(&mut system, &mut out, actor, ALL)?;
-    }
-    out.clear();
-    assert_eq!(rt; begin(&rt, alloc, &mut system, 3, Deed::Work), Ok(None));
-    run(&mut system, &mut out, 3, 4)?;
-    assert_eq!(rt; begin(&rt, alloc, &mut system, 4, Deed::Work), Ok(None));
-    run(&mut system, &mut out, 4, ALL)?;
-    run(&mut system, &mut out, 3, ALL)?;
-    assert_eq!(rt;
-        out.as_str(),
-        " 3 grab 0; 3 take 0 a; 4 grab 1; 4 take 1 b; 4 line 1 0; 3 line 0 0;"
+    let mut it = Trial::new(alloc, 8, Level::Off, 0)?;
+    it.does(&rt, alloc, 1, log(Level::Info, "a"));
+    it.does(&rt, alloc, 2, log(Level::Info, "b"));
+    it.out.clear();
+    it.begins(&rt, alloc, 3, Deed::Work, Ok(None));
+    it.runs(&rt, 3, 4);
+    it.does(&rt, alloc, 4, Deed::Work);
+    it.runs(&rt, 3, ALL);
+    it.told(
+        &rt,
+        " 3 grab 0; 3 take 0 a; 4 grab 1; 4 take 1 b; 4 line 1 0; 3 line 0 0;",
     );
-    file_is(&rt, &system, b"net I b\nnet I a\n");
+    it.file_is(&rt, b"net I b\nnet I a\n");
     Ok(())
 }
 
 #[test]
 fn a_level_that_is_set(rt: HostRuntime) -> Result<(), Fail> {
     let alloc = rt.alloc();
-    let mut system = small(alloc, 8, Level::Off, 0)?;
-    let mut out = String::new(alloc);
-    assert_eq!(rt;
-        begin(&rt, alloc, &mut system, 1, log(Level::Info, "begun")),
-        Ok(None)
-    );
-    assert!(rt; system.set_level(0, Level::Off));
-    run(&mut system, &mut out, 1, ALL)?;
-    assert!(rt; system.set_level(0, Level::Debug));
-    assert!(rt; !system.set_level(1, Level::Debug));
-    assert_eq!(rt; system.level(0), Some(Level::Debug));
-    assert_eq!(rt;
-        begin(&rt, alloc, &mut system, 2, log(Level::Debug, "quiet")),
-        Ok(None)
-    );
-    run(&mut system, &mut out, 2, ALL)?;
-    assert_eq!(rt;
-        out.as_str(),
-        " 1 claim 0; 1 write 0; 1 posted 0 overran 0; 2 claim 1; 2 write 1; 2 posted 1 overran 0;"
-    );
+    let mut it = Trial::new(alloc, 8, Level::Off, 0)?;
+    it.begins(&rt, alloc, 1, log(Level::Info, "begun"), Ok(None));
+    assert!(rt; it.system.set_level(0, Level::Off));
+    it.runs(&rt, 1, ALL);
+    it.told(&rt, " 1 claim 0; 1 write 0; 1 posted 0 overran 0;");
+    assert!(rt; it.system.set_level(0, Level::Debug));
+    assert!(rt; !it.system.set_level(1, Level::Debug));
+    assert_eq!(rt; it.system.level(0), Some(Level::Debug));
+    it.does(&rt, alloc, 2, log(Level::Debug, "quiet"));
+    it.told(&rt, " 2 claim 1; 2 write 1; 2 posted 1 overran 0;");
     Ok(())
 }
 
 #[test]
 fn hello_and_quiet(rt: HostRuntime) -> Result<(), Fail> {
     let alloc = rt.alloc();
-    let mut system = small(alloc, 8, Level::Off, 0)?;
-    let mut out = String::new(alloc);
-    assert_eq!(rt;
-        begin(&rt, alloc, &mut system, 1, log(Level::Info, "hello")),
-        Ok(None)
-    );
-    run(&mut system, &mut out, 1, ALL)?;
-    let quiet = begin(&rt, alloc, &mut system, 2, log(Level::Debug, "quiet"));
-    assert_eq!(rt; quiet, Ok(Some(Level::Info)));
-    assert!(rt; matches!(system.step(2), Err(StepError::NotInCall)));
-    assert_eq!(rt; begin(&rt, alloc, &mut system, 3, Deed::Work), Ok(None));
-    run(&mut system, &mut out, 3, ALL)?;
-    assert_eq!(rt;
-        out.as_str(),
-        " 1 claim 0; 1 write 0; 1 posted 0 overran 0; 3 grab 0; 3 take 0 hello; 3 line 0 0;"
-    );
-    file_is(&rt, &system, b"net I hello\n");
+    let mut it = Trial::new(alloc, 8, Level::Off, 0)?;
+    it.does(&rt, alloc, 1, log(Level::Info, "hello"));
+    it.told(&rt, " 1 claim 0; 1 write 0; 1 posted 0 overran 0;");
+    let quiet = log(Level::Debug, "quiet");
+    it.begins(&rt, alloc, 2, quiet, Ok(Some(Level::Info)));
+    it.refuses_a_step(&rt, 2, StepError::NotInCall);
+    it.does(&rt, alloc, 3, Deed::Work);
+    it.told(&rt, " 3 grab 0; 3 take 0 hello; 3 line 0 0;");
+    it.file_is(&rt, b"net I hello\n");
     Ok(())
+}
+
+// Three messages are filtered and kept, and the last two are dumped, and then none.
+fn keeps_three_and_dumps_two(rt: &impl Abort, alloc: Global, it: &mut Trial) {
+    for text in ["m1", "m2", "m3"] {
+        let below = log(Level::Debug, text);
+        it.begins(rt, alloc, 1, below, Ok(Some(Level::Info)));
+        it.runs(rt, 1, ALL);
+    }
+    it.told(rt, " 1 kept; 1 kept; 1 kept;");
+    it.does(rt, alloc, 1, Deed::Dump { time: 0, logger: 0 });
+    it.told(
+        rt,
+        " 1 dumped 2; 1 claim 0; 1 write 0; 1 posted 0 overran 0; 1 claim 1; 1 write 1; 1 posted 1 overran 0; 1 claim 2; 1 write 2; 1 posted 2 overran 0; 1 claim 3; 1 write 3; 1 posted 3 overran 0;",
+    );
+    it.does(rt, alloc, 1, Deed::Dump { time: 0, logger: 0 });
+    it.told(rt, " 1 dumped 0;");
 }
 
 #[test]
 fn dumps_the_last_two(rt: HostRuntime) -> Result<(), Fail> {
     let alloc = rt.alloc();
-    let mut system = small(alloc, 8, Level::Off, 2)?;
-    let mut out = String::new(alloc);
-    for text in ["m1", "m2", "m3"] {
-        let filtered = begin(&rt, alloc, &mut system, 1, log(Level::Debug, text));
-        assert_eq!(rt; filtered, Ok(Some(Level::Info)));
-        run(&mut system, &mut out, 1, ALL)?;
-    }
-    assert_eq!(rt; out.as_str(), " 1 kept; 1 kept; 1 kept;");
-    out.clear();
-    for _ in 0..2 {
-        let dump = Deed::Dump { time: 0, logger: 0 };
-        assert_eq!(rt; begin(&rt, alloc, &mut system, 1, dump), Ok(None));
-        run(&mut system, &mut out, 1, ALL)?;
-    }
-    let mut wanted = String::new(alloc);
-    write!(&mut wanted, " 1 dumped 2;")?;
-    for k in 0..4 {
-        write!(
-            &mut wanted,
-            " 1 claim {k}; 1 write {k}; 1 posted {k} overran 0;"
-        )?;
-    }
-    write!(&mut wanted, " 1 dumped 0;")?;
-    assert_eq!(rt; out.as_str(), wanted.as_str());
+    let mut it = Trial::new(alloc, 8, Level::Off, 2)?;
+    keeps_three_and_dumps_two(&rt, alloc, &mut it);
     for _ in 0..4 {
-        assert_eq!(rt; begin(&rt, alloc, &mut system, 2, Deed::Work), Ok(None));
-        run(&mut system, &mut out, 2, ALL)?;
+        it.does(&rt, alloc, 2, Deed::Work);
     }
-    file_is(
+    it.file_is(
         &rt,
-        &system,
         b"net I === backtrace start ===\nnet D m2\nnet D m3\nnet I === backtrace end ===\n",
     );
     Ok(())
@@ -356,112 +355,78 @@ fn dumps_the_last_two(rt: HostRuntime) -> Result<(), Fail> {
 #[test]
 fn a_log_that_is_posted_and_kept(rt: HostRuntime) -> Result<(), Fail> {
     let alloc = rt.alloc();
-    let mut system = small(alloc, 8, Level::Off, 1)?;
-    let mut out = String::new(alloc);
-    assert_eq!(rt;
-        begin(&rt, alloc, &mut system, 1, log(Level::Info, "m")),
-        Ok(None)
-    );
-    run(&mut system, &mut out, 1, 4)?;
-    assert_eq!(rt;
-        begin(
-            &rt,
-            alloc,
-            &mut system,
-            2,
-            Deed::Dump { time: 0, logger: 0 }
-        ),
-        Ok(None)
-    );
-    run(&mut system, &mut out, 2, ALL)?;
-    assert_eq!(rt;
-        begin(&rt, alloc, &mut system, 1, Deed::Work),
-        Err(BeginError::InCall)
-    );
-    run(&mut system, &mut out, 1, ALL)?;
-    assert_eq!(rt;
-        out.as_str(),
-        " 1 claim 0; 1 write 0; 1 posted 0 overran 0; 2 dumped 0; 1 kept;"
-    );
+    let mut it = Trial::new(alloc, 8, Level::Off, 1)?;
+    it.begins(&rt, alloc, 1, log(Level::Info, "m"), Ok(None));
+    it.runs(&rt, 1, 4);
+    it.told(&rt, " 1 claim 0; 1 write 0; 1 posted 0 overran 0;");
+    it.does(&rt, alloc, 2, Deed::Dump { time: 0, logger: 0 });
+    it.told(&rt, " 2 dumped 0;");
+    it.begins(&rt, alloc, 1, Deed::Work, Err(BeginError::InCall));
+    it.runs(&rt, 1, ALL);
+    it.told(&rt, " 1 kept;");
     Ok(())
 }
 
 #[test]
 fn blocks_until_there_is_room(rt: HostRuntime) -> Result<(), Fail> {
     let alloc = rt.alloc();
-    let mut system = small(alloc, 2, Level::Off, 0)?;
-    let mut out = String::new(alloc);
-    for text in ["a", "b"] {
-        assert_eq!(rt;
-            begin(&rt, alloc, &mut system, 1, log(Level::Info, text)),
-            Ok(None)
-        );
-        run(&mut system, &mut out, 1, ALL)?;
-    }
-    out.clear();
-    assert_eq!(rt;
-        begin(&rt, alloc, &mut system, 1, log(Level::Info, "c")),
-        Ok(None)
-    );
-    run(&mut system, &mut out, 1, 130)?;
-    assert_eq!(rt; out.len(), 65 * " 1 full 2;".len());
-    out.clear();
-    assert_eq!(rt; begin(&rt, alloc, &mut system, 2, Deed::Work), Ok(None));
-    run(&mut system, &mut out, 2, ALL)?;
-    run(&mut system, &mut out, 1, ALL)?;
-    assert_eq!(rt;
-        out.as_str(),
-        " 2 grab 0; 2 take 0 a; 2 line 0 0; 1 claim 2; 1 write 2; 1 posted 2 overran 0;"
-    );
-    let counts = system.counts();
+    let mut it = Trial::new(alloc, 2, Level::Off, 0)?;
+    it.does(&rt, alloc, 1, log(Level::Info, "a"));
+    it.does(&rt, alloc, 1, log(Level::Info, "b"));
+    it.out.clear();
+    it.begins(&rt, alloc, 1, log(Level::Info, "c"), Ok(None));
+    it.runs(&rt, 1, 130);
+    assert_eq!(rt; it.out.len(), 65 * " 1 full 2;".len());
+    it.out.clear();
+    it.does(&rt, alloc, 2, Deed::Work);
+    it.told(&rt, " 2 grab 0; 2 take 0 a; 2 line 0 0;");
+    it.runs(&rt, 1, ALL);
+    it.told(&rt, " 1 claim 2; 1 write 2; 1 posted 2 overran 0;");
+    let counts = it.system.counts();
     assert_eq!(rt; (counts.overrun, counts.discarded), (0, 0));
-    assert_eq!(rt; system.cells(alloc)?.len(), 2);
+    assert_eq!(rt; it.system.cells(alloc)?.len(), 2);
     Ok(())
+}
+
+// Of a log of a text of 65 letters: the actor, then its call, then the text, where it is looked at.
+fn refuses_in_order(rt: &impl Abort, alloc: Global, it: &mut Trial, text: &str) {
+    let (info, debug) = (log(Level::Info, text), log(Level::Debug, text));
+    it.begins(rt, alloc, 64, info, Err(BeginError::NoActor));
+    it.refuses_a_step(rt, 64, StepError::NoActor);
+    it.begins(rt, alloc, 1, Deed::Work, Ok(None));
+    it.begins(rt, alloc, 1, info, Err(BeginError::InCall));
+    it.begins(rt, alloc, 2, info, Err(BeginError::TextTooLong));
+    it.refuses_a_step(rt, 2, StepError::NotInCall);
+    it.begins(rt, alloc, 2, debug, Ok(Some(Level::Info)));
 }
 
 #[test]
 fn refusals_in_order(rt: HostRuntime) -> Result<(), Fail> {
     let alloc = rt.alloc();
-    let mut system = small(alloc, 8, Level::Off, 0)?;
     let mut long = String::new(alloc);
     for _ in 0..65 {
         long.push('a')?;
     }
-    let text = long.as_str();
-    let info = log(Level::Info, text);
-    assert_eq!(rt;
-        begin(&rt, alloc, &mut system, 64, info),
-        Err(BeginError::NoActor)
-    );
-    assert!(rt; matches!(system.step(64), Err(StepError::NoActor)));
-    assert_eq!(rt; begin(&rt, alloc, &mut system, 1, Deed::Work), Ok(None));
-    assert_eq!(rt;
-        begin(&rt, alloc, &mut system, 1, info),
-        Err(BeginError::InCall)
-    );
-    assert_eq!(rt;
-        begin(&rt, alloc, &mut system, 2, info),
-        Err(BeginError::TextTooLong)
-    );
-    assert!(rt; matches!(system.step(2), Err(StepError::NotInCall)));
-    let unread = begin(&rt, alloc, &mut system, 2, log(Level::Debug, text));
-    assert_eq!(rt; unread, Ok(Some(Level::Info)));
-    let mut system = small(alloc, 8, Level::Off, 1)?;
-    let kept = begin(&rt, alloc, &mut system, 2, log(Level::Debug, text));
-    assert_eq!(rt; kept, Err(BeginError::TextTooLong));
+    let mut it = Trial::new(alloc, 8, Level::Off, 0)?;
+    refuses_in_order(&rt, alloc, &mut it, long.as_str());
+    let mut it = Trial::new(alloc, 8, Level::Off, 1)?;
+    let kept = log(Level::Debug, long.as_str());
+    it.begins(&rt, alloc, 2, kept, Err(BeginError::TextTooLong));
     Ok(())
+}
+
+// Why there is no system of so many places.
+fn refusal_of(alloc: Global, places: usize) -> Result<Option<SystemError>, Fail> {
+    let loggers = one(alloc, Policy::Block, Level::Off, 0)?;
+    let sinks = vec![in alloc; memory(alloc)?]?;
+    Ok(System::of(alloc, places, TEXT_LIMIT, loggers, sinks).err())
 }
 
 #[test]
 fn refused_systems(rt: HostRuntime) -> Result<(), Fail> {
-    let alloc = rt.alloc();
     for places in [0, 1, 3, 131_072] {
-        let loggers = one(alloc, Policy::Block, Level::Off, 0)?;
-        let sinks = vec![in alloc; memory(alloc)?]?;
-        match System::of(alloc, places, TEXT_LIMIT, loggers, sinks) {
-            Ok(_) => assert!(rt; false, "{places}"),
-            Err(error) => assert_eq!(rt; error, SystemError::BadSize),
-        }
+        let refusal = refusal_of(rt.alloc(), places)?;
+        assert_eq!(rt; refusal, Some(SystemError::BadSize), "{places}");
     }
     Ok(())
 }
@@ -479,18 +444,15 @@ sinks = [\"out\"]
 #[test]
 fn of_a_configuration(rt: HostRuntime) -> Result<(), Fail> {
     let alloc = rt.alloc();
-    let mut config = read(alloc, ONE.as_bytes())?;
-    let mut system = System::new(alloc, &config)?;
-    let mut out = String::new(alloc);
-    assert_eq!(rt; system.find("net"), Some(0));
-    let hello = begin(&rt, alloc, &mut system, 1, log(Level::Info, "hello"));
-    assert_eq!(rt; hello, Ok(None));
-    run(&mut system, &mut out, 1, ALL)?;
-    assert_eq!(rt; begin(&rt, alloc, &mut system, 2, Deed::Work), Ok(None));
-    run(&mut system, &mut out, 2, ALL)?;
-    file_is(&rt, &system, b"net I hello\n");
-    config.queue = 3;
-    let refused = System::new(alloc, &config);
-    assert!(rt; matches!(refused, Err(SystemError::BadSize)));
+    let mut it = Trial::of_a_configuration(alloc, ONE.as_bytes())?;
+    assert_eq!(rt; it.system.find("net"), Some(0));
+    it.does(&rt, alloc, 1, log(Level::Info, "hello"));
+    it.does(&rt, alloc, 2, Deed::Work);
+    it.file_is(&rt, b"net I hello\n");
     Ok(())
+}
+
+#[test]
+fn the_law_at_a_store(_rt: HostRuntime) {
+    runs_of_a_system::<MemStore>();
 }

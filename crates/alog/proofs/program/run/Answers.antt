@@ -1,8 +1,9 @@
-use Rattle.std.proofs.Common.{◌≡◌, List, codes, map, inl, inr, arith, subst}
+use Rattle.std.proofs.Common.{◌≡◌, List, codes, map, inl, inr, refl, arith, subst}
 use Rattle.clap.specs.Words.{Row, Text}
-use Rattle.alog.specs.CommandLine.{values_in, Asks, IsRefusedBy}
+use Rattle.alog.specs.CommandLine.{config_in, values_in, Asks, IsRefusedBy}
 use Rattle.alog.specs.Formats.{Formats}
-use Rattle.alog.proofs.CommandLines.{one_row, replay_lacks_memory, replay_no_format, replay_no_check, format_is_no_check, lacks_memory}
+use Rattle.alog.proofs.CommandLines.{one_row, replay_lacks_memory, replay_no_format, replay_no_check, replay_no_config, format_is_no_check}
+use Rattle.alog.proofs.CommandLines.{format_is_no_replay, check_is_no_replay, not_both, lacks_memory}
 use Rattle.alog.proofs.program.run.Goals as goal
 
 pub returns-in-Ok-Format-clause-replays : goal.returns-in-Ok-Format-clause-replays
@@ -90,3 +91,63 @@ returns-in-Err-Clap-clause-checks g c =
     let memory = lacks_memory words c.in-Err-Clap.error asks.0 (subst (IsRefusedBy words) c.in-Err-Clap.field-0-is c.in-Err-Clap.ensures.refused) in
     let four : c.explain.result ≡ 4 = c.explain.ensures.memory.1 memory in
     inr (inr four, c.explain.ensures.unwritten (inr four))
+
+pub returns-in-Ok-Replay-clause-configured : goal.returns-in-Ok-Replay-clause-configured
+returns-in-Ok-Replay-clause-configured g c =
+    λ rows asks.
+    let words : List Text = map g.S.AsStr.text c.args.words.now in
+    let asked = subst (Asks words) c.in-Ok-Replay.field-0-is c.in-Ok-Replay.ensures.asked in
+    absurd (not_both (config_in rows) (asked.3 rows asks.0.1) asks.1)
+
+pub returns-in-Ok-ReplayConfig-clause-replays : goal.returns-in-Ok-ReplayConfig-clause-replays
+returns-in-Ok-ReplayConfig-clause-replays g c =
+    λ asks.
+    let words : List Text = map g.S.AsStr.text c.args.words.now in
+    let asked = subst (Asks words) c.in-Ok-ReplayConfig.field-0-is c.in-Ok-ReplayConfig.ensures.asked in
+    absurd (replay_no_config words asked.0 c.in-Ok-ReplayConfig.file.now asks asked.1.1 asked.2)
+
+pub returns-in-Ok-ReplayConfig-clause-configured : goal.returns-in-Ok-ReplayConfig-clause-configured
+returns-in-Ok-ReplayConfig-clause-configured g c = λ rows asks. c.replay_config_command.ensures.replays
+
+pub returns-in-Ok-ReplayConfig-clause-formats : goal.returns-in-Ok-ReplayConfig-clause-formats
+returns-in-Ok-ReplayConfig-clause-formats g c =
+    λ rows asks.
+    let words : List Text = map g.S.AsStr.text c.args.words.now in
+    let asked = subst (Asks words) c.in-Ok-ReplayConfig.field-0-is c.in-Ok-ReplayConfig.ensures.asked in
+    absurd (format_is_no_replay words rows asked.0 asks.1 asked.1.1)
+
+pub returns-in-Ok-ReplayConfig-clause-checks : goal.returns-in-Ok-ReplayConfig-clause-checks
+returns-in-Ok-ReplayConfig-clause-checks g c =
+    λ rows asks.
+    let words : List Text = map g.S.AsStr.text c.args.words.now in
+    let asked = subst (Asks words) c.in-Ok-ReplayConfig.field-0-is c.in-Ok-ReplayConfig.ensures.asked in
+    absurd (check_is_no_replay words rows asked.0 asks.1 asked.1.1)
+
+pub returns-in-Ok-Format-clause-configured : goal.returns-in-Ok-Format-clause-configured
+returns-in-Ok-Format-clause-configured g c =
+    λ rows asks.
+    let words : List Text = map g.S.AsStr.text c.args.words.now in
+    let asked = subst (Asks words) c.in-Ok-Format.field-0-is c.in-Ok-Format.ensures.asked in
+    absurd (format_is_no_replay words asked.0 rows asked.1.1 asks.0.1)
+
+pub returns-in-Ok-Check-clause-configured : goal.returns-in-Ok-Check-clause-configured
+returns-in-Ok-Check-clause-configured g c =
+    λ rows asks.
+    let words : List Text = map g.S.AsStr.text c.args.words.now in
+    let asked = subst (Asks words) c.in-Ok-Check.field-0-is c.in-Ok-Check.ensures.asked in
+    absurd (check_is_no_replay words asked.0 rows asked.1.1 asks.0.1)
+
+pub returns-in-Err-Value-clause-configured : goal.returns-in-Err-Value-clause-configured
+returns-in-Err-Value-clause-configured g c =
+    λ rows asks.
+    let words : List Text = map g.S.AsStr.text c.args.words.now in
+    let refused = subst (IsRefusedBy words) c.in-Err-Value.field-0-is c.in-Err-Value.ensures.refused in
+    absurd (format_is_no_replay words refused.0 rows refused.1.1 asks.0.1)
+
+pub returns-in-Err-Clap-clause-configured : goal.returns-in-Err-Clap-clause-configured
+returns-in-Err-Clap-clause-configured g c =
+    λ rows asks.
+    let words : List Text = map g.S.AsStr.text c.args.words.now in
+    let memory = lacks_memory words c.in-Err-Clap.error asks.0.0 (subst (IsRefusedBy words) c.in-Err-Clap.field-0-is c.in-Err-Clap.ensures.refused) in
+    let four : c.explain.result ≡ 4 = c.explain.ensures.memory.1 memory in
+    inr (inr four, (refl, c.explain.ensures.unwritten (inr four)))

@@ -1,10 +1,12 @@
-use Rattle.std.proofs.Common.{codes, map, ◌≡◌, ◌∙◌, ap, refl, subst, List, true, false}
+use Rattle.std.proofs.Common.{codes, map, ◌≡◌, ◌∙◌, ap, refl, sym, subst, List, None, true, false}
+use Rattle.std.specs.Prelude.{IsNone, is_some}
 use Rattle.clap.specs.Words.{Text, Row, app_of, found_of, rows_of}
-use Rattle.alog.specs.CommandLine.{IsRefusedBy}
+use Rattle.alog.specs.CommandLine.{IsRefusedBy, config_in}
 use Rattle.alog.specs.Options.{Values, AsksFor, IsFirstRefused, text_of}
 use Rattle.alog.specs.declared.words.WordsError.TheVariants.{Clap, Value}
-use Rattle.alog.proofs.CommandLines.{error_is, has_kind, names_command, names_no_command, no_fault, values_are}
+use Rattle.alog.proofs.CommandLines.{error_is, has_kind, names_command, names_no_command, no_fault, one_row, values_are}
 use Rattle.alog.proofs.words.read.Goals as goal
+use Rattle.alog.proofs.words.read.Goals.{in-Some-subcommand_matches+in_default-get_str, in_default-subcommand_matches}
 
 pub returns-in_err-matches-clause-refused : goal.returns-in_err-matches-clause-refused
 returns-in_err-matches-clause-refused g c =
@@ -47,18 +49,34 @@ returns-in-Some-clause-asked g c =
       subst (λ (v : Values). AsksFor v c.in_ok-line_request.field-0) (values_are m) c.in_ok-line_request.ensures.asked,
     )
 
-pub returns-in-Some-subcommand_matches-clause-asked : goal.returns-in-Some-subcommand_matches-clause-asked
-returns-in-Some-subcommand_matches-clause-asked g c =
+pub returns-in-Some-get_str-clause-asked : goal.returns-in-Some-get_str-clause-asked
+returns-in-Some-get_str-clause-asked g c =
     let words : List Text = map g.S.AsStr.text c.args.words.now in
     let app = app_of c.in_ok-alog.field-0 in
     let is = c.in_ok-alog.ensures in
-    let m = c.in-Some-subcommand_matches.check.now in
+    let m = c.in-Some-subcommand_matches.replay.now in
+    let rows : List Row = rows_of (found_of m) in (
+      rows,
+      (
+        no_fault app is words c.in_ok-matches.ensures.kinds,
+        names_command app is words (codes "replay") c.in_ok-matches.matches rows c.in_ok-matches.ensures.matches
+            (c.in-Some-subcommand_matches.ensures.found.0 refl) c.in-Some-subcommand_matches.ensures.rows,
+      ),
+      ap (λ (v : Values). v (codes "config")) (sym (values_are m)) ∙ sym c.in-Some-get_str.ensures,
+    )
+
+pub returns-in-Some-subcommand_matches-2-clause-asked : goal.returns-in-Some-subcommand_matches-2-clause-asked
+returns-in-Some-subcommand_matches-2-clause-asked g c =
+    let words : List Text = map g.S.AsStr.text c.args.words.now in
+    let app = app_of c.in_ok-alog.field-0 in
+    let is = c.in_ok-alog.ensures in
+    let m = c.in-Some-subcommand_matches-2.check.now in
     let rows : List Row = rows_of (found_of m) in (
       rows,
       (
         no_fault app is words c.in_ok-matches.ensures.kinds,
         names_command app is words (codes "check") c.in_ok-matches.matches rows c.in_ok-matches.ensures.matches
-            (c.in-Some-subcommand_matches.ensures.found.0 refl) c.in-Some-subcommand_matches.ensures.rows,
+            (c.in-Some-subcommand_matches-2.ensures.found.0 refl) c.in-Some-subcommand_matches-2.ensures.rows,
       ),
       c.text.ensures ∙ ap (λ (v : Values). text_of v (codes "FILE")) (values_are m),
     )
@@ -73,4 +91,17 @@ returns-clause-asked g c =
           (λ name. let bad : false ≡ true = c.in_default.ensures.found.1 name in cc) named,
       λ rows named. names_no_command app is words (codes "check") c.in_ok-matches.matches rows c.in_ok-matches.ensures.matches
           (λ name. let bad : false ≡ true = c.in-None.ensures.found.1 name in cc) named,
+      λ rows named. elim c.match-subcommand_matches-2.branch [
+        | in-Some-subcommand_matches+in_default-get_str w ↦
+            let m = w.in-Some-subcommand_matches.replay.now in
+            let own : List Row = rows_of (found_of m) in
+            let none : config_in own ≡ None =
+            sym (w.in_default-get_str.ensures ∙ ap (λ (v : Values). v (codes "config")) (values_are m)) in
+            subst (λ (rs : List Row). IsNone (config_in rs)) (one_row (codes "replay") words own rows (names_command app is words
+            (codes "replay") c.in_ok-matches.matches own c.in_ok-matches.ensures.matches
+            (w.in-Some-subcommand_matches.ensures.found.0 refl) w.in-Some-subcommand_matches.ensures.rows) named) (ap is_some none)
+        | in_default-subcommand_matches w ↦ absurd (names_no_command app is words (codes "replay") c.in_ok-matches.matches rows
+            c.in_ok-matches.ensures.matches
+            (λ name. let bad : false ≡ true = w.in_default-subcommand_matches.ensures.found.1 name in cc) named)
+      ],
     )

@@ -1,7 +1,7 @@
 use Rattle.std.proofs.Common.{List, [], Bor, String, BTreeMap, Global, map, subst, sym, w16, FitsSigned, rules, ℕ}
 use Rattle.std.proofs.lemmas.Int.{to_z-of_z}
 use Rattle.alog_config.proofs.Runs.{logger_fault, sink_fault, top_had}
-use Rattle.alog_config.proofs.Sounding.{top_sound}
+use Rattle.alog_config.proofs.Sounding.{top_kept, top_sound}
 use Rattle.alog_config.specs.Sound.{IsSound}
 use Rattle.alog_format.specs.declared.context.Zone.TheVariants.{Fixed}
 use Rattle.alog_config.specs.Meaning.{AreLoggers, AreSinks, IsLoggersFault, IsSinksFault}
@@ -62,4 +62,7 @@ invariant_of-result c =
     let back = to_z-of_z w16 c.or-3.result fits in
     let sound = top_sound t f v w c.or-text.result c.or-3.result sinks loggers c.in-Ok.ensures c.in-Given-Given.is-0 c.in-Given-Given.is-1
     c.or-text.ensures c.or-3.ensures said known in
-    record { sound = subst (λ z. IsSound c.or-text.result (Fixed z) sinks loggers) (sym back) sound }
+    record {
+      top = top_kept t f _ _ c.in-Ok.ensures c.or.ensures c.or-2.ensures;
+      sound = subst (λ z. IsSound c.or-text.result (Fixed z) sinks loggers) (sym back) sound;
+    }

@@ -1,4 +1,4 @@
-use Rattle.std.proofs.Common.{ap, refl}
+use Rattle.std.proofs.Common.{ap}
 use Rattle.std.specs.Option.{option_copied}
 use Rattle.alog_replay.proofs.FormLemmas.{is_no_name}
 use Rattle.alog_replay.proofs.parser.name_alone.Goals as goal

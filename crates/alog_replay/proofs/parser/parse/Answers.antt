@@ -43,15 +43,9 @@ pub returns-in_ok-actor-in-work : goal.returns-in_ok-actor-in-work
 unfolding row_named
 returns-in_ok-actor-in-work c = by_row _ _ _ c.cut.ensures c.in-work.is refl ((c.in_ok-actor-in-work.ensures _).0 refl)
 
-pub returns-in_err-actor-in-post : goal.returns-in_err-actor-in-post
+pub returns-in-post : goal.returns-in-post
 unfolding row_named
-returns-in_err-actor-in-post c =
-    by_none_given _ _ c.cut.ensures c.in-post.is refl c.from_residual-in_err-actor-in-post.ensures
-    (λ g h. none-some _ ((c.in_err-actor-in-post.ensures g).1 h))
-
-pub returns-in_ok-actor-in-post : goal.returns-in_ok-actor-in-post
-unfolding row_named
-returns-in_ok-actor-in-post c = by_row _ _ _ c.cut.ensures c.in-post.is refl ((c.in_ok-actor-in-post.ensures _).0 refl)
+returns-in-post c = by_found _ _ c.cut.ensures c.in-post.is refl c.post.ensures
 
 pub returns-in-log : goal.returns-in-log
 unfolding row_named

@@ -1,0 +1,82 @@
+use Rattle.std.proofs.Common.{◌≡◌, ◌⊎◌, ◌<◌, Some, length, refl, sym, ap, subst, ◌∙◌, arith}
+use Rattle.std.specs.Prelude.{IfOk, slice_get, slice_set}
+use Rattle.std.specs.Arc.{arc_value}
+use Rattle.std.proofs.lemmas.Int.{to_z-of_z}
+use Rattle.std.proofs.lemmas.Option.{slice_get_read}
+use Rattle.alog_policy.specs.Progress.{without_waiting}
+use Rattle.alog_policy.specs.Port.{PortDid}
+use Rattle.alog_pool.specs.Keeping.{KeepingView}
+use Rattle.alog_pool.specs.Producer.{ProducerView, Lent}
+use Rattle.alog_pool.specs.declared.shared.Shared.{Shared}
+use Rattle.alog_pool.proofs.Producing.{lent_log, kept_at, port_after}
+use Rattle.alog_registry.specs.Given.{message_with, IsWithin}
+use Rattle.alog_registry.specs.LaneKeeper.{KeepsByTurn, Passes}
+use Rattle.alog_registry.specs.Listed.{spec_at}
+use Rattle.alog_registry.specs.Logging.{Logs, IsUnread}
+use Rattle.alog_registry.specs.declared.logger.Spec.{Spec}
+use Rattle.alog_pool.proofs.producer.Producer.log_now.Goals as goal
+
+pub returns-clause-logs : goal.returns-clause-logs
+returns-clause-logs c =
+    let i = c.self.inside in
+    let v : ProducerView = record {
+      shared = arc_value i.shared;
+      pass = i.pass;
+      losses = i.losses;
+      keepings = i.keepings.items;
+      number = i.number;
+      limit = i.text_limit;
+    } in
+    let known : c.args.number < length v.shared.loggers =
+    subst (λ (w : ProducerView). c.args.number < length w.shared.loggers) (sym c.self.view_is) c.requires.known in
+    let low : c.args.number < length i.keepings.items = omega (arith, known, c.self.invariant.each) in
+    let place = c.index_mut-keeping.result.now in
+    let found : slice_get i.keepings.items c.args.number ≡ Some place =
+    slice_get_read i.keepings.items (length i.keepings.items) c.args.number place refl low c.index_mut-keeping.ensures.value in
+    let logs = simp (to_z-of_z, c.ranges.time) at c.log_now.ensures.logs in
+    let new : ProducerView = record {
+      shared = arc_value i.shared;
+      pass = c.log_now.new.port.pass.now;
+      losses = c.log_now.new.port.seat.now;
+      keepings = slice_set i.keepings.items c.args.number c.log_now.new.self;
+      number = i.number;
+      limit = i.text_limit;
+    } in
+    let P : ProducerView → Type 0 = λ w. (s : Spec) → spec_at w.shared.loggers c.args.number ≡ Some s
+    → IfOk c.log_now.result (λ r. Lent w new c.args.number (λ p k q l. Logs PortDid KeepsByTurn Passes (without_waiting s.policy) s
+    (message_with c.args.number c.args.level c.args.time w.number c.args.text.now c.args.source) p k r q l)) in
+    subst P c.self.view_is (λ s e.
+    lent_log Passes (without_waiting s.policy) s _ v new c.args.number _ c.log_now.new.port place c.log_now.new.self c.log_now.result
+    (record {
+      ring = ap (λ (x : Shared). x.ring) c.deref-shared.ensures;
+      book = ap (λ (x : Shared). x.book) c.deref-shared.ensures;
+      pass = refl;
+      losses = refl;
+    })
+    (port_after new _ c.log_now.new.port (ap (λ (x : Shared). x.ring) c.deref-shared.ensures) (ap (λ (x : Shared). x.book) c.deref-shared.ensures)
+    c.log_now.ensures.port.1 refl refl)
+    found refl (logs s (ap (λ (x : Shared). spec_at x.loggers c.args.number) c.deref-shared.ensures ∙ e)))
+
+pub returns-clause-within : goal.returns-clause-within
+returns-clause-within c =
+    let i = c.self.inside in
+    let v : ProducerView = record {
+      shared = arc_value i.shared;
+      pass = i.pass;
+      losses = i.losses;
+      keepings = i.keepings.items;
+      number = i.number;
+      limit = i.text_limit;
+    } in
+    let known : c.args.number < length v.shared.loggers =
+    subst (λ (w : ProducerView). c.args.number < length w.shared.loggers) (sym c.self.view_is) c.requires.known in
+    let low : c.args.number < length i.keepings.items = omega (arith, known, c.self.invariant.each) in
+    let place = c.index_mut-keeping.result.now in
+    let limit : place.lane.first.limit ≡ v.limit =
+    ap (λ (k : KeepingView). k.lane.first.limit) c.index_mut-keeping.ensures.value
+    ∙ kept_at i.text_limit i.keepings.items c.args.number place low c.self.invariant.kept in
+    let P : ProducerView → Type 0 = λ w. (s : Spec) → spec_at w.shared.loggers c.args.number ≡ Some s
+    → IfOk c.log_now.result (λ r. IsUnread s r ⊎ IsWithin w.limit c.args.text.now c.args.source) in
+    subst P c.self.view_is (λ s e.
+    subst (λ n. IfOk c.log_now.result (λ r. IsUnread s r ⊎ IsWithin n c.args.text.now c.args.source)) limit
+    (c.log_now.ensures.within s (ap (λ (x : Shared). spec_at x.loggers c.args.number) c.deref-shared.ensures ∙ e)))

@@ -1,0 +1,205 @@
+//! A producer: what a request thread logs with.
+ghost use Rattle.std.specs.Prelude.{◌≡◌, ◌⊎◌, ◌≤◌, ◌<◌, length, Some, OnErr, IfOk, IsErrOf};
+ghost use Rattle.alog_msg.specs.declared.item.Item.TheVariants.{Flush};
+ghost use Rattle.alog_policy.specs.Port.{PortDid};
+ghost use Rattle.alog_policy.specs.Progress.{without_waiting};
+ghost use Rattle.alog_policy.specs.declared.port.Port.{Port};
+ghost use Rattle.alog_pool.specs.Producer.{IsPortOf, IsSame, Lent};
+ghost use Rattle.alog_registry.specs.Backtrace.{Room};
+ghost use Rattle.alog_registry.specs.Carry.{PostsItemNow};
+ghost use Rattle.alog_registry.specs.Dumping.{PostsEach, posted_of};
+ghost use Rattle.alog_registry.specs.Given.{message_with, IsWithin, IsTooLongField};
+ghost use Rattle.alog_registry.specs.LaneKeeper.{DumpsByTurn, KeepsByTurn, NeverPasses, Passes};
+ghost use Rattle.alog_registry.specs.Listed.{spec_at};
+ghost use Rattle.alog_registry.specs.Logging.{Logs, IsUnread};
+ghost use Rattle.alog_registry.specs.declared.limit.TextLimit.{TextLimit};
+ghost use Rattle.alog_registry.specs.declared.logger.Spec.{Spec};
+
+use crate::keeping::Keeping;
+use crate::shared::Shared;
+use alog_msg::{Item, Level, MessageError, SourceRef};
+use alog_policy::{BookSeat, Outcome, Port};
+use alog_registry::LogReply;
+use alog_ring::Pass;
+use std::alloc::{AllocError, Global};
+use std::marker::Model;
+use std::sync::{Arc, Wait};
+
+/// What a request thread logs with: each has a producer of its own, which its pool made. No lock is round it. Its number is the
+/// thread number of its messages.
+#[derive(Drop)]
+pub struct Producer {
+    pub shared: Arc<Shared>,
+    pub pass: Pass<Item>,
+    /// Its seat of the loss book.
+    pub losses: BookSeat,
+    /// Its place at the backtrace of each logger.
+    pub keepings: Vec<Keeping>,
+    pub number: u64,
+    /// The most bytes of a text.
+    pub text_limit: usize,
+}
+
+impl Model for Producer {
+    ghost use Rattle.std.specs.Arc.{arc_value};
+    ghost use Rattle.alog_pool.specs.Producer.{ProducerView, IsProducer};
+
+    ghost Value = { ProducerView };
+
+    ghost view = { λ p. record {
+      shared = arc_value p.shared;
+      pass = p.pass;
+      losses = p.losses;
+      keepings = p.keepings.items;
+      number = p.number;
+      limit = p.text_limit;
+    } };
+
+    ghost invariant = { λ p. IsProducer (arc_value p.shared) p.pass p.losses p.keepings.items p.text_limit };
+}
+
+impl Producer {
+    /// Its number, from 0 in the order in which its pool made producers.
+    pub fn number(&self) -> u64
+        ensures { result ≡ self.now.number }
+    {
+        self.number
+    }
+
+    /// Logs a message to the logger of this number, as `Loggers::log` does: under `Block` it waits for room, and where the
+    /// logger has a backtrace it waits for its lock.
+    pub fn log(
+        &mut self,
+        rt: &impl Wait,
+        alloc: Global,
+        number: u32,
+        level: Level,
+        time: i64,
+        text: &str,
+        source: Option<SourceRef<'_>>,
+    ) -> Result<LogReply, MessageError>
+        requires known { number < length self.old.shared.loggers }
+        ensures logs { (s : Spec) → spec_at self.old.shared.loggers number ≡ Some s
+            → IfOk result (λ r. Lent self.old self.new number (λ p k q l. Logs PortDid KeepsByTurn NeverPasses s.policy s
+            (message_with number level time self.old.number text.now source.entry) p k r q l)) }
+        ensures within { (s : Spec) → spec_at self.old.shared.loggers number ≡ Some s
+            → IfOk result (λ r. IsUnread s r ⊎ IsWithin self.old.limit text.now source.entry) }
+        ensures text_too_long { IsErrOf result MessageError.TextTooLong → self.old.limit < length text.now }
+        ensures field_too_long { IsErrOf result MessageError.FieldTooLong → IsTooLongField self.old.limit text.now source.entry }
+        ensures out_of_memory { IsErrOf result MessageError.OutOfMemory → IsWithin self.old.limit text.now source.entry }
+        ensures err { OnErr result (self.new ≡ self.old) }
+        ensures same { IsSame self.old self.new }
+    {
+        let shared: &Shared = &self.shared;
+        let thread = self.number;
+        let mut port = Port {
+            ring: &shared.ring,
+            pass: &mut self.pass,
+            book: &shared.book,
+            seat: &mut self.losses,
+        };
+        let keeping = &mut self.keepings[number as usize];
+        keeping.log(
+            rt,
+            alloc,
+            &shared.loggers,
+            &mut port,
+            number,
+            level,
+            time,
+            thread,
+            text,
+            source,
+        )
+    }
+
+    /// Logs a message to the logger of this number, as `Loggers::log_now` does: it never waits.
+    pub fn log_now(
+        &mut self,
+        alloc: Global,
+        number: u32,
+        level: Level,
+        time: i64,
+        text: &str,
+        source: Option<SourceRef<'_>>,
+    ) -> Result<LogReply, MessageError>
+        requires known { number < length self.old.shared.loggers }
+        ensures logs { (s : Spec) → spec_at self.old.shared.loggers number ≡ Some s
+            → IfOk result (λ r. Lent self.old self.new number (λ p k q l. Logs PortDid KeepsByTurn Passes (without_waiting s.policy) s
+            (message_with number level time self.old.number text.now source.entry) p k r q l)) }
+        ensures within { (s : Spec) → spec_at self.old.shared.loggers number ≡ Some s
+            → IfOk result (λ r. IsUnread s r ⊎ IsWithin self.old.limit text.now source.entry) }
+        ensures text_too_long { IsErrOf result MessageError.TextTooLong → self.old.limit < length text.now }
+        ensures field_too_long { IsErrOf result MessageError.FieldTooLong → IsTooLongField self.old.limit text.now source.entry }
+        ensures out_of_memory { IsErrOf result MessageError.OutOfMemory → IsWithin self.old.limit text.now source.entry }
+        ensures err { OnErr result (self.new ≡ self.old) }
+        ensures same { IsSame self.old self.new }
+    {
+        let shared: &Shared = &self.shared;
+        let thread = self.number;
+        let mut port = Port {
+            ring: &shared.ring,
+            pass: &mut self.pass,
+            book: &shared.book,
+            seat: &mut self.losses,
+        };
+        let keeping = &mut self.keepings[number as usize];
+        keeping.log_now(
+            alloc,
+            &shared.loggers,
+            &mut port,
+            number,
+            level,
+            time,
+            thread,
+            text,
+            source,
+        )
+    }
+
+    /// Posts a flush of the logger of this number, as `Loggers::flush` does: it takes no memory and never waits.
+    pub fn flush(&mut self, number: u32) -> Outcome<()>
+        requires known { number < length self.old.shared.loggers }
+        ensures post { (s : Spec) → spec_at self.old.shared.loggers number ≡ Some s
+            → (p q : Port Item TextLimit) × IsPortOf self.old p × IsPortOf self.new q
+            × PostsItemNow PortDid s.policy (Flush number) p q result }
+        ensures same { IsSame self.old self.new × (self.new.keepings ≡ self.old.keepings) }
+    {
+        let shared: &Shared = &self.shared;
+        let mut port = Port {
+            ring: &shared.ring,
+            pass: &mut self.pass,
+            book: &shared.book,
+            seat: &mut self.losses,
+        };
+        shared.loggers.flush(&mut port, number)
+    }
+
+    /// Posts what the backtrace of the logger of this number kept, as `Loggers::dump_shared` does: it waits for the lock of the
+    /// backtrace, and under `Block` for room.
+    pub fn dump_backtrace(
+        &mut self,
+        rt: &impl Wait,
+        alloc: Global,
+        number: u32,
+        time: i64,
+    ) -> Result<Vec<Outcome<()>>, AllocError>
+        requires known { number < length self.old.shared.loggers }
+        ensures dumped { (s : Spec) → spec_at self.old.shared.loggers number ≡ Some s
+            → IfOk result (λ v. Lent self.old self.new number (λ p k q l. (d : Room) × DumpsByTurn k d l
+            × PostsEach PortDid s.policy (posted_of number time self.old.number d.messages) p v.items q)) }
+        ensures err { OnErr result (self.new ≡ self.old) }
+        ensures same { IsSame self.old self.new }
+    {
+        let shared: &Shared = &self.shared;
+        let thread = self.number;
+        let mut port = Port {
+            ring: &shared.ring,
+            pass: &mut self.pass,
+            book: &shared.book,
+            seat: &mut self.losses,
+        };
+        let keeping = &mut self.keepings[number as usize];
+        keeping.dump(rt, alloc, &shared.loggers, &mut port, number, time, thread)
+    }
+}
