@@ -5,3 +5,5 @@ pub mod Worked
 pub mod Sums
 pub mod Leaving
 pub mod Producing
+pub mod Sharing
+pub mod Parts

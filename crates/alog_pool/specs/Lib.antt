@@ -7,3 +7,5 @@ pub mod Producer
 pub mod Working
 pub mod Whole
 pub mod Ending
+pub mod Places
+pub mod Pool

@@ -1,13 +1,15 @@
 //! A worker's place at a sink.
-ghost use Rattle.std.specs.Prelude.{◌≡◌, ◌+◌, ◌%◌, ◌^◌};
+ghost use Rattle.std.specs.Prelude.{◌≡◌, ◌+◌, ◌%◌, ◌^◌, ◌<◌, IfOk, OnErr};
 ghost use Rattle.alog_lane.specs.Seats.{IsJoined};
 ghost use Rattle.alog_pattern.specs.declared.patterns.TheConstants.{LINE_MAX};
-ghost use Rattle.alog_pool.specs.Berth.{IsServable, Serves, fault_in};
+ghost use Rattle.alog_pool.specs.Berth.{IsServable, Serves, Suits, fault_in};
+ghost use Rattle.alog_pool.specs.Places.{IsFirst, IsPart};
 
 use alog_format::LineBuf;
 use alog_lane::{Lane, LaneSeat};
 use alog_msg::Item;
 use alog_sink::{Served, Sink, SinkError, Store};
+use std::alloc::{AllocError, Global};
 use std::marker::Model;
 use std::sync::{Arc, Wait};
 
@@ -58,6 +60,45 @@ fn fault_in(reply: &Result<Served, SinkError>) -> u64
 }
 
 impl<S: Store + Drop> Berth<S> {
+    /// The first place at this sink, which has all parts. Where there is no memory, the sink is dropped.
+    pub(crate) fn first(
+        alloc: Global,
+        sink: Sink<S>,
+        text_limit: usize,
+    ) -> Result<Berth<S>, AllocError>
+        requires { Suits text_limit sink }
+        ensures { IfOk result (λ b. IsFirst text_limit sink b) }
+    {
+        let Ok((lane, seat)) = Lane::new(alloc, sink) else {
+            return Err(AllocError);
+        };
+        match Arc::new(alloc, lane) {
+            Ok(lane) => Ok(Berth {
+                lane,
+                seat,
+                faults: 0,
+                text_limit,
+            }),
+            Err(_) => Err(AllocError),
+        }
+    }
+
+    /// A place at the same sink for a worker, with one of this one's parts.
+    pub(crate) fn split(&mut self) -> Result<Berth<S>, AllocError>
+        requires spare { 1 < self.old.seat.known.parts }
+        ensures given { IfOk result (λ b. IsPart self.old self.new b) }
+        ensures err { OnErr result (self.new ≡ self.old) }
+    {
+        let lane = Arc::try_clone(&self.lane)?;
+        let seat = self.lane.split(&mut self.seat, 1);
+        Ok(Berth {
+            lane,
+            seat,
+            faults: 0,
+            text_limit: self.text_limit,
+        })
+    }
+
     /// Takes a worker's seat of the same sink back, with its faults.
     pub fn take_back(&mut self, place: Berth<S>)
         requires { place.lane ≡ self.old.lane }

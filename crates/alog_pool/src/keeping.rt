@@ -6,6 +6,7 @@ ghost use Rattle.alog_policy.specs.Port.{IsFit, PortDid};
 ghost use Rattle.alog_policy.specs.Progress.{without_waiting};
 ghost use Rattle.alog_pool.specs.Keeping.{Keeps, empty_scratch};
 ghost use Rattle.alog_pool.specs.Lending.{LendsAlike};
+ghost use Rattle.alog_pool.specs.Places.{IsKeepingPart, IsSpareOf};
 ghost use Rattle.alog_registry.specs.Backtrace.{Room, room_for};
 ghost use Rattle.alog_registry.specs.Dumping.{PostsEach, posted_of};
 ghost use Rattle.alog_registry.specs.Given.{message_with, IsWithin, IsTooLongField};
@@ -35,6 +36,13 @@ pub struct Keeping {
     pub most: usize,
     /// The most bytes of a text.
     pub text_limit: usize,
+}
+
+/// What another place at a backtrace takes memory for: a share of the lane, and a list.
+#[derive(Drop)]
+pub(crate) struct Spare {
+    lane: Arc<Lane<Backtrace>>,
+    scratch: BacktraceScratch,
 }
 
 impl Model for Keeping {
@@ -72,6 +80,34 @@ impl Keeping {
                 text_limit,
             }),
             Err(_) => Err(AllocError),
+        }
+    }
+}
+
+impl Keeping {
+    /// The memory that another place at the same backtrace takes.
+    pub(crate) fn spare(&self, alloc: Global) -> Result<Spare, AllocError>
+        ensures { IfOk result (λ s. IsSpareOf self.now s) }
+    {
+        let lane = Arc::try_clone(&self.lane)?;
+        let scratch = scratch(alloc, self.most, self.text_limit)?;
+        Ok(Spare { lane, scratch })
+    }
+
+    /// Another place at the same backtrace, with one of this one's parts.
+    pub(crate) fn split(&mut self, spare: Spare) -> Keeping
+        requires of { IsSpareOf self.old spare }
+        requires parts { 1 < self.old.seat.known.parts }
+        ensures { IsKeepingPart self.old self.new result }
+    {
+        let Spare { lane, scratch } = spare;
+        let seat = self.lane.split(&mut self.seat, 1);
+        Keeping {
+            lane,
+            seat,
+            scratch,
+            most: self.most,
+            text_limit: self.text_limit,
         }
     }
 }

@@ -18,22 +18,30 @@
 #![tactic(auto)]
 
 mod berth;
+mod error;
 mod gate;
+mod ground;
 mod hand;
 mod keeping;
 mod laws;
+mod pool;
 mod producer;
 #[cfg(test)]
 mod producer_tests;
 mod rest;
+mod setup;
 mod shared;
 #[cfg(test)]
 mod tests;
+mod works;
 
 pub use berth::Berth;
+pub use error::{ProducerError, StartError};
 pub use gate::{Gate, OpenGate};
 pub use hand::Hand;
 pub use keeping::Keeping;
 pub use laws::{members_balance, no_work_is_left};
+pub use pool::{MOST_PRODUCERS, MOST_WORKERS, Pool};
 pub use producer::Producer;
+pub use setup::Setup;
 pub use shared::Shared;

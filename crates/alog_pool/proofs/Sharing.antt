@@ -1,0 +1,80 @@
+-- Loops that go through lists: some places are done, the others are as they were.
+use Rattle.std.proofs.Common.{◌≡◌, ◌<◌, ℕ, zero, suc, List, [], ◌∷◌, ◌++◌, length, slice_get, set, Some, refl, sym, subst, arith}
+use Rattle.std.specs.Prelude.{slice_index_or}
+use Rattle.std.specs.List.{AllByRecursion}
+use Rattle.alog_pool.specs.Places.{Each2, Each3}
+
+module _ {A B : Type 0} (R : A → B → Type 0) where
+  -- the first so many are done
+  abbrev pub Matching : ℕ → List A → List B → Type 0
+  Matching zero xs ys = ys ≡ []
+  Matching (suc i) (x ∷ xs) (y ∷ ys) = R x y × Matching i xs ys
+  Matching (suc i) [] ys = ⊥
+  Matching (suc i) (x ∷ xs) [] = ⊥
+
+  pub match_one : (i : ℕ) (xs : List A) (ys : List B) (x : A) (y : B) → slice_get xs i ≡ Some x → R x y → Matching i xs ys
+      → Matching (suc i) xs (ys ++ y ∷ [])
+  match_one i [] ys x y at r m = absurd (cc at)
+  match_one zero (z ∷ xs) ys x y at r m =
+      let same : z ≡ x = cc in
+      subst (λ (l : List B). Matching 1 (z ∷ xs) (l ++ y ∷ [])) (sym m) (subst (λ w. R w y) (sym same) r, refl)
+  match_one (suc i) (z ∷ xs) [] x y at r m = absurd m
+  match_one (suc i) (z ∷ xs) (w ∷ ys) x y at r m = (m.0, match_one i xs ys x y at r m.1)
+
+  pub match_all : (xs : List A) (ys : List B) → Matching (length xs) xs ys → Each2 R xs ys
+  match_all [] ys m = subst (λ (l : List B). Each2 R [] l) (sym m) tt
+  match_all (x ∷ xs) [] m = absurd m
+  match_all (x ∷ xs) (y ∷ ys) m = (m.0, match_all xs ys m.1)
+
+  pub matched_length : (i : ℕ) (xs : List A) (ys : List B) → Matching i xs ys → length ys ≡ i
+  matched_length zero xs ys m = subst (λ (l : List B). length l ≡ 0) (sym m) refl
+  matched_length (suc i) [] ys m = absurd m
+  matched_length (suc i) (x ∷ xs) [] m = absurd m
+  matched_length (suc i) (x ∷ xs) (y ∷ ys) m = λ k. suc (matched_length i xs ys m.1 k)
+
+module _ {A C : Type 0} (R : A → A → C → Type 0) where
+  -- the first so many gave something away, and the others are as they were
+  abbrev pub Sharing : ℕ → List A → List A → List C → Type 0
+  Sharing zero old new given = (new ≡ old) × (given ≡ [])
+  Sharing (suc i) (x ∷ xs) (y ∷ ys) (z ∷ zs) = R x y z × Sharing i xs ys zs
+  Sharing (suc i) [] new given = ⊥
+  Sharing (suc i) (x ∷ xs) [] given = ⊥
+  Sharing (suc i) (x ∷ xs) (y ∷ ys) [] = ⊥
+
+  pub share_one : (i : ℕ) (old new : List A) (given : List C) (d b : A) (c : C) → i < length new → R (slice_index_or new i d) b c
+      → Sharing i old new given → Sharing (suc i) old (set new i b) (given ++ c ∷ [])
+  share_one i old [] given d b c low r m = absurd (omega (arith, low))
+  share_one zero old (y ∷ ys) given d b c low r m =
+      subst (λ (o : List A). Sharing 1 o (b ∷ ys) (given ++ c ∷ [])) m.0
+      (subst (λ (l : List C). Sharing 1 (y ∷ ys) (b ∷ ys) (l ++ c ∷ [])) (sym m.1) (r, (refl, refl)))
+  share_one (suc i) [] (y ∷ ys) given d b c low r m = absurd m
+  share_one (suc i) (x ∷ xs) (y ∷ ys) [] d b c low r m = absurd m
+  share_one (suc i) (x ∷ xs) (y ∷ ys) (z ∷ zs) d b c low r m = (m.0, share_one i xs ys zs d b c (omega (arith, low)) r m.1)
+
+  pub share_all : (old new : List A) (given : List C) → Sharing (length old) old new given → Each3 R old new given
+  share_all [] new given m =
+      subst (λ (l : List A). Each3 R [] l given) (sym m.0) (subst (λ (l : List C). Each3 R [] [] l) (sym m.1) tt)
+  share_all (x ∷ xs) [] given m = absurd m
+  share_all (x ∷ xs) (y ∷ ys) [] m = absurd m
+  share_all (x ∷ xs) (y ∷ ys) (z ∷ zs) m = (m.0, share_all xs ys zs m.1)
+
+  pub shared_lengths : (i : ℕ) (old new : List A) (given : List C) → Sharing i old new given
+      → (length new ≡ length old) × (length given ≡ i)
+  shared_lengths zero old new given m =
+      ((λ k. length (m.0 k)), (λ k. length (m.1 k)))
+  shared_lengths (suc i) [] new given m = absurd m
+  shared_lengths (suc i) (x ∷ xs) [] given m = absurd m
+  shared_lengths (suc i) (x ∷ xs) (y ∷ ys) [] m = absurd m
+  shared_lengths (suc i) (x ∷ xs) (y ∷ ys) (z ∷ zs) m =
+      let r = shared_lengths i xs ys zs m.1 in ((λ k. suc (r.0 k)), (λ k. suc (r.1 k)))
+
+  -- what holds of each that is still as it was
+  pub shared_rest : (P : A → Type 0) (i : ℕ) (old new : List A) (given : List C) (d : A) → i < length new → AllByRecursion P old
+      → Sharing i old new given → P (slice_index_or new i d)
+  shared_rest P i old [] given d low all m = absurd (omega (arith, low))
+  shared_rest P zero [] (y ∷ ys) given d low all m = absurd (cc m.0)
+  shared_rest P zero (x ∷ xs) (y ∷ ys) given d low all m = let same : y ≡ x = cc m.0 in subst P (sym same) all.0
+  shared_rest P (suc i) [] (y ∷ ys) given d low all m = absurd m
+  shared_rest P (suc i) (x ∷ xs) (y ∷ ys) [] d low all m = absurd m
+  shared_rest P (suc i) (x ∷ xs) (y ∷ ys) (z ∷ zs) d low all m =
+      shared_rest P i xs ys zs d (omega (arith, low)) all.1 m.1

@@ -1,0 +1,25 @@
+//! Why a pool, or a producer, was not made.
+use thiserror::Error;
+
+/// Why no pool was started, in the order in which the reasons are looked at.
+#[derive(Clone, Copy, Debug, PartialEq, Eq, Drop, Error)]
+pub enum StartError {
+    #[error("the number of workers is not from 1 to 64")]
+    BadWorkers,
+    #[error("the queue's number of places is no power of two from 2 to 65,536")]
+    BadSize,
+    #[error("the first ticket is not below 2^62")]
+    BadFirst,
+    /// There was no memory, or a thread could not be started. Workers that were started end without taking an item.
+    #[error("out of memory")]
+    OutOfMemory,
+}
+
+/// Why no producer was made. Nothing changed.
+#[derive(Clone, Copy, Debug, PartialEq, Eq, Drop, Error)]
+pub enum ProducerError {
+    #[error("the pool made 4,096 producers")]
+    TooMany,
+    #[error("out of memory")]
+    OutOfMemory,
+}

@@ -1,0 +1,163 @@
+//! A pool: it starts workers, and makes producers.
+ghost use Rattle.std.specs.Prelude.{◌≡◌, ◌↔◌, ◌≤◌, ◌<◌, [], length, true, false, vec_capacity, IfOk, OnErr, IsErrOf};
+ghost use Rattle.std.specs.List.{AllByRecursion};
+ghost use Rattle.alog_core.specs.Queue.{last};
+ghost use Rattle.alog_core.specs.World.{is_size};
+ghost use Rattle.alog_pool.specs.Places.{Each2, Each3, IsKeepingPart, IsSpareOf};
+ghost use Rattle.alog_pool.specs.Pool.{Fits, HasWorkers, Starts, Makes};
+ghost use Rattle.alog_pool.specs.declared.pool.TheConstants.{MOST_PRODUCERS};
+
+use crate::berth::Berth;
+use crate::error::{ProducerError, StartError};
+use crate::gate::Gate;
+use crate::ground::{Ground, Worker};
+use crate::keeping::{Keeping, Spare};
+use crate::producer::Producer;
+use crate::setup::Setup;
+use crate::shared::Shared;
+use alog_msg::Item;
+use alog_policy::BookSeat;
+use alog_registry::TextLimit;
+use alog_ring::{NewError, Pass, Ring};
+use alog_sink::Store;
+use std::alloc::{AllocError, Global};
+use std::marker::Model;
+use std::sync::{Arc, Wait};
+use std::thread::Threads;
+use std::time::Clock;
+
+/// The most workers of a pool.
+pub const MOST_WORKERS: usize = 64;
+
+/// The most producers that a pool makes.
+pub const MOST_PRODUCERS: u64 = 4_096;
+
+/// Workers that write lines on threads of their own, and what producers are made of. A pool that is dropped leaves its workers
+/// waiting: end it by `shutdown`.
+#[derive(Drop)]
+pub struct Pool<S: Store> {
+    pub(crate) alloc: Global,
+    pub(crate) shared: Arc<Shared>,
+    pub(crate) pass: Pass<Item>,
+    pub(crate) losses: BookSeat,
+    pub(crate) berths: Vec<Berth<S>>,
+    pub(crate) keepings: Vec<Keeping>,
+    pub(crate) made: u64,
+    pub(crate) text_limit: usize,
+    pub(crate) tickets_max: usize,
+    pub(crate) workers: Vec<Worker<S>>,
+}
+
+impl<S: Store> Model for Pool<S> {
+    ghost use Rattle.std.specs.Prelude.{map};
+    ghost use Rattle.std.specs.Arc.{arc_value};
+    ghost use Rattle.alog_pool.specs.Pool.{PoolView, IsPool};
+
+    ghost Value = { PoolView S };
+
+    ghost view = { λ p. record {
+      shared = arc_value p.shared;
+      pass = p.pass;
+      losses = p.losses;
+      berths = p.berths.items;
+      keepings = p.keepings.items;
+      made = p.made;
+      limit = p.text_limit;
+      most = p.tickets_max;
+      hands = map (λ h. h.promise.start.value) p.workers.items;
+    } };
+
+    ghost invariant = { λ p. IsPool (arc_value p.shared) p.pass p.losses p.berths.items p.keepings.items p.made p.text_limit p.tickets_max
+        (map (λ h. h.promise.start.value) p.workers.items) };
+}
+
+impl<S: Store + Drop + Send + 'static> Pool<S> {
+    /// Starts so many workers, over a new queue and these loggers and sinks, with the gate round each text that they handle.
+    ///
+    /// The reasons for a refusal are looked at in the order of `StartError`; what was handed over is dropped then.
+    pub fn start<
+        R: Threads + Wait + Clock + Copy + Send + 'static,
+        G: Gate + Send + Sync + Drop + 'static,
+    >(rt: &R, alloc: Global, setup: Setup<S>, gate: G) -> Result<Pool<S>, StartError>
+        requires { Fits setup }
+        ensures bad_workers { IsErrOf result StartError.BadWorkers ↔ (¬ HasWorkers setup) }
+        ensures bad_size { IsErrOf result StartError.BadSize ↔ (HasWorkers setup × (is_size setup.queue ≡ false)) }
+        ensures bad_first { IsErrOf result StartError.BadFirst
+            ↔ (HasWorkers setup × (is_size setup.queue ≡ true) × (last ≤ setup.first)) }
+        ensures started { IfOk result (λ p. Starts setup p) }
+    {
+        if setup.workers < 1 || setup.workers > MOST_WORKERS {
+            return Err(StartError::BadWorkers);
+        }
+        let limit = TextLimit {
+            most: setup.text_limit,
+        };
+        let (ring, pass) = match Ring::limited(alloc, setup.queue, setup.first, limit) {
+            Ok(made) => made,
+            Err(NewError::BadSize) => return Err(StartError::BadSize),
+            Err(NewError::BadFirst) => return Err(StartError::BadFirst),
+            Err(NewError::OutOfMemory) => return Err(StartError::OutOfMemory),
+        };
+        let Ok(ground) = Ground::new(alloc, setup, ring, pass) else {
+            return Err(StartError::OutOfMemory);
+        };
+        match ground.staff(rt, gate) {
+            Ok(pool) => Ok(pool),
+            Err(AllocError) => Err(StartError::OutOfMemory),
+        }
+    }
+
+    /// A producer for a request thread. Its number is how many were made before it.
+    pub fn producer(&mut self) -> Result<Producer, ProducerError>
+        ensures too_many { IsErrOf result ProducerError.TooMany ↔ (MOST_PRODUCERS ≤ self.old.made) }
+        ensures made { IfOk result (λ p. Makes self.old self.new p) }
+        ensures err { OnErr result (self.new ≡ self.old) }
+    {
+        if self.made >= MOST_PRODUCERS {
+            return Err(ProducerError::TooMany);
+        }
+        let Ok(shared) = Arc::try_clone(&self.shared) else {
+            return Err(ProducerError::OutOfMemory);
+        };
+        let Ok(spares) = spares_of(self.alloc, &self.keepings) else {
+            return Err(ProducerError::OutOfMemory);
+        };
+        let Ok(mut keepings) = Vec::with_capacity(self.alloc, spares.len()) else {
+            return Err(ProducerError::OutOfMemory);
+        };
+        share_keepings(&mut self.keepings, spares, &mut keepings);
+        let producer = Producer {
+            pass: shared.ring.split(&mut self.pass, 1),
+            losses: shared.book.split(&mut self.losses, 1),
+            shared,
+            keepings,
+            number: self.made,
+            text_limit: self.text_limit,
+        };
+        self.made += 1;
+        Ok(producer)
+    }
+}
+
+/// What a place at each of these backtraces takes memory for.
+fn spares_of(alloc: Global, keepings: &[Keeping]) -> Result<Vec<Spare>, AllocError>
+    ensures { IfOk result (λ v. Each2 IsSpareOf keepings.now v.items) }
+{
+    let mut spares = Vec::with_capacity(alloc, keepings.len())?;
+    for keeping in keepings {
+        spares.push_reserved(keeping.spare(alloc)?);
+    }
+    Ok(spares)
+}
+
+/// Gives a part of each place away, into the memory that was made for it.
+fn share_keepings(keepings: &mut Vec<Keeping>, spares: Vec<Spare>, given: &mut Vec<Keeping>)
+    requires spares { Each2 IsSpareOf keepings.old.items spares.items }
+    requires parts { AllByRecursion (λ k. 1 < k.seat.known.parts) keepings.old.items }
+    requires room { (given.old.items ≡ []) × (length spares.items ≤ vec_capacity given.old) }
+    ensures { Each3 IsKeepingPart keepings.old.items keepings.new.items given.new.items }
+{
+    for (place, spare) in spares.into_iter().enumerate() {
+        given.push_reserved(keepings[place].split(spare));
+    }
+}

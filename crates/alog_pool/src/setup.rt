@@ -1,0 +1,20 @@
+//! What a pool is started with.
+use alog_registry::Registry;
+use alog_sink::{Sink, Store};
+
+/// What a pool is started with. The sinks that a logger names are among these, by number, and each writes any text of the limit.
+#[derive(Drop)]
+pub struct Setup<S: Store> {
+    /// The number of places of the queue: a power of two from 2 to 65,536.
+    pub queue: usize,
+    /// The first ticket, below 2^62.
+    pub first: u64,
+    /// 1 to 64.
+    pub workers: usize,
+    /// How many tickets of each worker the report tells.
+    pub tickets_max: usize,
+    /// The most bytes of a text, 64 to 8,192.
+    pub text_limit: usize,
+    pub loggers: Registry,
+    pub sinks: Vec<Sink<S>>,
+}
