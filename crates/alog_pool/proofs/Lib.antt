@@ -5,3 +5,4 @@ pub mod Worked
 pub mod Sums
 pub mod Leaving
 pub mod Producing
+pub mod Crosses
