@@ -41,15 +41,15 @@ use Rattle.alog_pool.specs.contracts.shared.Shared as Shared
 
 pub shared_send : IsSend Shared.the_row
 shared_send = recorded_send (Shared.the_field).row _ _ (Shared.the_type).to_one (struct_send (shape Shared.the_type) (
-      ring_send Item.the_row TextLimit.the_row limit_ghosts item_send,
-      (book_send, (loggers_send, (search (sendable, crosses) depth 12, tt))),
-    ))
+  ring_send Item.the_row TextLimit.the_row limit_ghosts item_send,
+  (book_send, (loggers_send, (search (sendable, crosses) depth 12, tt))),
+))
 
 pub shared_sync : IsSync Shared.the_row
 shared_sync = recorded_sync (Shared.the_field).row _ _ (Shared.the_type).to_one (struct_sync (shape Shared.the_type) (
-      ring_sync Item.the_row TextLimit.the_row limit_ghosts item_send item_sync,
-      (book_sync, (loggers_sync, (search (sendable, crosses) depth 12, tt))),
-    ))
+  ring_sync Item.the_row TextLimit.the_row limit_ghosts item_send item_sync,
+  (book_sync, (loggers_sync, (search (sendable, crosses) depth 12, tt))),
+))
 
 pub arc_shared_send : IsSend (Arc.the_row Shared.the_row Global.the_row alloc_ghosts)
 arc_shared_send = Arc-send Shared.the_row shared_send shared_sync
@@ -108,8 +108,23 @@ module _ (S : RattleType) (g : Ghosts S.Denot) where
   hand_send s = recorded_send (Hand.the_field S g).row _ _ (Hand.the_type S g).to_one (struct_send
       (shape (Hand.the_type S g)) (
         arc_shared_send,
-        (pass_send Item.the_row item_send, (Vec-send (Berth.the_row S g) (berth_send s), (line_send, (search sendable, (search sendable, (
-          Vec-send u64 (search sendable),
-          (search sendable, (search sendable, (search sendable, tt))),
-        )))))),
+        (
+          pass_send Item.the_row item_send,
+          (
+            Vec-send (Berth.the_row S g) (berth_send s),
+            (
+              line_send,
+              (
+                search sendable,
+                (
+                  search sendable,
+                  (
+                    Vec-send u64 (search sendable),
+                    (search sendable, (search sendable, (search sendable, tt))),
+                  ),
+                ),
+              ),
+            ),
+          ),
+        ),
       ))

@@ -40,13 +40,19 @@ module _ (T : RattleType) where
 module _ (T L : RattleType) (g : Ghosts L.Denot T.Denot) where
   board_send : IsSend T → IsSend (Board.the_field T L g).row
   board_send t = struct_send
-      (shape (Board.the_type T L g)) (table_field_send (Option.the_row T) (View.the_row T unit) (Shape.the_row L) Law.the_row
-          Global.the_row (LawRule.ghosts T L g LawRule.no_dict) alloc_ghosts (option_send T t) heap_send frees, (number_send, tt))
+      (shape (Board.the_type T L g)) (
+        table_field_send (Option.the_row T) (View.the_row T unit) (Shape.the_row L) Law.the_row
+            Global.the_row (LawRule.ghosts T L g LawRule.no_dict) alloc_ghosts (option_send T t) heap_send frees,
+        (number_send, tt),
+      )
 
   board_sync : IsSend T → IsSync (Board.the_field T L g).row
   board_sync t = struct_sync
-      (shape (Board.the_type T L g)) (table_field_sync (Option.the_row T) (View.the_row T unit) (Shape.the_row L) Law.the_row
-          Global.the_row (LawRule.ghosts T L g LawRule.no_dict) alloc_ghosts (option_send T t) heap_send heap_sync frees, (number_sync, tt))
+      (shape (Board.the_type T L g)) (
+        table_field_sync (Option.the_row T) (View.the_row T unit) (Shape.the_row L) Law.the_row
+            Global.the_row (LawRule.ghosts T L g LawRule.no_dict) alloc_ghosts (option_send T t) heap_send heap_sync frees,
+        (number_sync, tt),
+      )
 
   ring_inside_send : IsSend T → IsSend (RingInside.the_row T L g)
   ring_inside_send t = recorded_send (RingInside.the_field T L g).row _ _ (RingInside.the_type T L g).to_one (struct_send
