@@ -1,10 +1,10 @@
--- A lane may be shared, and its seats may go to other threads, where the value may.
+-- A lane may be shared and may go to other threads, and so may its seats, where the value may.
 use denote.RattleType.{RattleType}
-use denote.Param.Send.{IsSend, IsSync, sendable, view_send, view_sync, struct_sync, recorded_sync}
+use denote.Param.Send.{IsSend, IsSync, sendable, view_send, view_sync, struct_send, struct_sync, recorded_send, recorded_sync}
 use denote.Struct.Declared.{shape}
 use Rattle.std.proofs.Crossing.{crosses, frees, send as heap_send, sync as heap_sync}
 use Rattle.atomic_table.proofs.shared.Seat.TheSendSync.{the_send as table_seat_send}
-use Rattle.atomic_table.proofs.owned.Table.TheSendSync.{the_field_sync as table_field_sync}
+use Rattle.atomic_table.proofs.owned.Table.TheSendSync.{the_field_send as table_field_send, the_field_sync as table_field_sync}
 use Rattle.alog_lane.specs.declared.turn.Turn.{Ghosts}
 use Rattle.alog_lane.specs.contracts.seat.LaneSeat as LaneSeat
 use Rattle.alog_lane.specs.contracts.seat.LaneSeat.TheInside as Inside
@@ -39,3 +39,15 @@ module _ (T I R S : RattleType) (g : Ghosts T.Denot I.Denot R.Denot S.Denot) whe
 
   pub lane_sync : IsSend T → IsSync (Lane.the_row T I R S g)
   lane_sync t = view_sync _ _ _ _ _ (lane_inside_sync t)
+
+  lane_inside_send : IsSend T → IsSend (LaneInside.the_row T I R S g)
+  lane_inside_send t = recorded_send (LaneInside.the_field T I R S g).row _ _ (LaneInside.the_type T I R S g).to_one (struct_send
+      (shape (LaneInside.the_type T I R S g)) (
+        table_field_send (Cabin.the_row T I R S) (View.the_row T I R S g)
+            (Snapshot.the_row T) Law.the_row Global.the_row (LawRule.ghosts T I R S g LawRule.no_dict) alloc_ghosts
+            (cabin_send T I R S t) heap_send frees,
+        tt,
+      ))
+
+  pub lane_send : IsSend T → IsSend (Lane.the_row T I R S g)
+  lane_send t = view_send _ _ _ _ _ (lane_inside_send t)

@@ -17,3 +17,4 @@ pub mod BookCounting
 pub mod BookSums
 pub mod BookClosing
 pub mod Ports
+pub mod Crosses

@@ -7,3 +7,4 @@ pub mod Leaving
 pub mod Producing
 pub mod Sharing
 pub mod Parts
+pub mod Crosses

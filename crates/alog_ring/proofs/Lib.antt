@@ -17,3 +17,4 @@ pub mod Closing
 pub mod Ending
 pub mod Alone
 pub mod Waiting
+pub mod Crosses

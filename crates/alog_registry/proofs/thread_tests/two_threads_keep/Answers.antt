@@ -4,7 +4,8 @@ use Rattle.std.proofs.Crossing.{Vec-send}
 use Rattle.alog_lane.proofs.Crosses.{seat_send, lane_sync}
 use Rattle.alog_lane.specs.contracts.lane.Lane as Lane
 use Rattle.alog_lane.specs.contracts.seat.LaneSeat as LaneSeat
-use Rattle.alog_registry.proofs.Crosses.{backtrace_send, message_send}
+use Rattle.alog_msg.proofs.Crosses.{message_send}
+use Rattle.alog_registry.proofs.Crosses.{backtrace_send}
 use Rattle.alog_registry.specs.contracts.backtrace.Backtrace as Backtrace
 use Rattle.alog_registry.specs.contracts.turn.BacktraceItem as Item
 use Rattle.alog_registry.specs.contracts.turn.BacktraceReply as Reply

@@ -1,0 +1,51 @@
+-- Texts, sources, messages and items may be shared, and may go to other threads.
+use denote.Param.Send.{IsSend, IsSync, sendable, view_send, view_sync}
+use Rattle.std.proofs.Crossing.{crosses, Vec-send, Vec-sync}
+use Rattle.alog_msg.specs.contracts.item.Item as Item
+use Rattle.alog_msg.specs.contracts.message.Message as Message
+use Rattle.alog_msg.specs.contracts.source.Source as Source
+use Rattle.alog_msg.specs.contracts.source.Source.TheInside as SourceInside
+use Rattle.alog_msg.specs.contracts.text.Text as Text
+use Rattle.alog_msg.specs.contracts.text.Text.TheInside as TextInside
+
+text_inside_send : IsSend TextInside.the_row
+text_inside_send = search (sendable, Vec-send) depth 20
+
+pub text_send : IsSend Text.the_row
+text_send = view_send _ _ _ _ _ text_inside_send
+
+text_inside_sync : IsSync TextInside.the_row
+text_inside_sync = search (sendable, Vec-sync) depth 20
+
+pub text_sync : IsSync Text.the_row
+text_sync = view_sync _ _ _ _ _ text_inside_sync
+
+source_inside_send : IsSend SourceInside.the_row
+source_inside_send = search (sendable, text_send) depth 20
+
+pub source_send : IsSend Source.the_row
+source_send = view_send _ _ _ _ _ source_inside_send
+
+source_inside_sync : IsSync SourceInside.the_row
+source_inside_sync = search (sendable, text_sync) depth 20
+
+pub source_sync : IsSync Source.the_row
+source_sync = view_sync _ _ _ _ _ source_inside_sync
+
+message_field_send : IsSend (Message.the_field).row
+message_field_send = search (sendable, crosses, text_send, source_send) depth 60 fits 50000
+
+message_field_sync : IsSync (Message.the_field).row
+message_field_sync = search (sendable, crosses, text_sync, source_sync) depth 60 fits 50000
+
+pub message_send : IsSend Message.the_row
+message_send = search (sendable, message_field_send) depth 9
+
+pub message_sync : IsSync Message.the_row
+message_sync = search (sendable, message_field_sync) depth 9
+
+pub item_send : IsSend Item.the_row
+item_send = search (sendable, message_field_send) depth 20
+
+pub item_sync : IsSync Item.the_row
+item_sync = search (sendable, message_field_sync) depth 20

@@ -1,0 +1,130 @@
+-- What the threads of a pool share may be shared; a producer may go to another thread, and so may a worker where its store may.
+use denote.RattleType.{RattleType}
+use denote.Builtin.{u64}
+use denote.Param.Send.{IsSend, IsSync, sendable, view_send, struct_send, struct_sync, recorded_send, recorded_sync}
+use denote.Struct.Declared.{shape}
+use Rattle.std.proofs.Crossing.{crosses, Vec-send, Arc-send}
+use Rattle.std.specs.contracts.alloc.Global as Global
+use Rattle.std.specs.contracts.impls.GlobalAllocator.TheImpl.{ghosts as alloc_ghosts}
+use Rattle.std.specs.contracts.result.Result as Result
+use Rattle.std.specs.contracts.sync.Arc as Arc
+use Rattle.alog_format.specs.contracts.line_buf.LineBuf as LineBuf
+use Rattle.alog_lane.proofs.Crosses.{seat_send, lane_send, lane_sync}
+use Rattle.alog_lane.specs.contracts.lane.Lane as Lane
+use Rattle.alog_lane.specs.contracts.seat.LaneSeat as LaneSeat
+use Rattle.alog_msg.proofs.Crosses.{item_send, item_sync}
+use Rattle.alog_msg.specs.contracts.item.Item as Item
+use Rattle.alog_policy.proofs.Crosses.{book_seat_send, book_send, book_sync}
+use Rattle.alog_registry.proofs.Crosses.{backtrace_send, loggers_send, loggers_sync, scratch_send}
+use Rattle.alog_registry.specs.contracts.backtrace.Backtrace as Backtrace
+use Rattle.alog_registry.specs.contracts.limit.TextLimit as TextLimit
+use Rattle.alog_registry.specs.contracts.limit.TextLimitLimitItem.TheImpl.{ghosts as limit_ghosts}
+use Rattle.alog_registry.specs.contracts.turn.BacktraceItem as KeepItem
+use Rattle.alog_registry.specs.contracts.turn.BacktraceReply as KeepReply
+use Rattle.alog_registry.specs.contracts.turn.BacktraceScratch as Scratch
+use Rattle.alog_registry.specs.contracts.turn.BacktraceTurn.TheImpl.{ghosts as keep_ghosts}
+use Rattle.alog_ring.proofs.Crosses.{pass_send, ring_send, ring_sync}
+use Rattle.alog_sink.proofs.Crosses.{line_send, sink_send}
+use Rattle.alog_sink.specs.contracts.leaf.SinkError as SinkError
+use Rattle.alog_sink.specs.contracts.sink.Sink as Sink
+use Rattle.alog_sink.specs.contracts.turn.Served as Served
+use Rattle.alog_sink.specs.contracts.turn.SinkTurn.TheImpl as Turn
+use Rattle.alog_sink.specs.declared.store.Store.{Ghosts}
+use Rattle.alog_pool.specs.contracts.berth.Berth as Berth
+use Rattle.alog_pool.specs.contracts.berth.Berth.TheInside as BerthInside
+use Rattle.alog_pool.specs.contracts.hand.Hand as Hand
+use Rattle.alog_pool.specs.contracts.keeping.Keeping as Keeping
+use Rattle.alog_pool.specs.contracts.keeping.Keeping.TheInside as KeepingInside
+use Rattle.alog_pool.specs.contracts.producer.Producer as Producer
+use Rattle.alog_pool.specs.contracts.producer.Producer.TheInside as ProducerInside
+use Rattle.alog_pool.specs.contracts.shared.Shared as Shared
+
+pub shared_send : IsSend Shared.the_row
+shared_send = recorded_send (Shared.the_field).row _ _ (Shared.the_type).to_one (struct_send (shape Shared.the_type) (
+  ring_send Item.the_row TextLimit.the_row limit_ghosts item_send,
+  (book_send, (loggers_send, (search (sendable, crosses) depth 12, tt))),
+))
+
+pub shared_sync : IsSync Shared.the_row
+shared_sync = recorded_sync (Shared.the_field).row _ _ (Shared.the_type).to_one (struct_sync (shape Shared.the_type) (
+  ring_sync Item.the_row TextLimit.the_row limit_ghosts item_send item_sync,
+  (book_sync, (loggers_sync, (search (sendable, crosses) depth 12, tt))),
+))
+
+pub arc_shared_send : IsSend (Arc.the_row Shared.the_row Global.the_row alloc_ghosts)
+arc_shared_send = Arc-send Shared.the_row shared_send shared_sync
+
+keep_seat_send : IsSend (LaneSeat.the_row Backtrace.the_row KeepItem.the_row KeepReply.the_row Scratch.the_row keep_ghosts)
+keep_seat_send = seat_send Backtrace.the_row KeepItem.the_row KeepReply.the_row Scratch.the_row keep_ghosts backtrace_send
+
+abbrev KeepLane : RattleType
+KeepLane = Lane.the_row Backtrace.the_row KeepItem.the_row KeepReply.the_row Scratch.the_row keep_ghosts
+
+keep_lane_send : IsSend (Arc.the_row KeepLane Global.the_row alloc_ghosts)
+keep_lane_send = Arc-send KeepLane
+    (lane_send Backtrace.the_row KeepItem.the_row KeepReply.the_row Scratch.the_row keep_ghosts backtrace_send)
+    (lane_sync Backtrace.the_row KeepItem.the_row KeepReply.the_row Scratch.the_row keep_ghosts backtrace_send)
+
+keeping_inside_send : IsSend KeepingInside.the_row
+keeping_inside_send = recorded_send (KeepingInside.the_field).row _ _ (KeepingInside.the_type).to_one (struct_send
+    (shape KeepingInside.the_type) (keep_lane_send, (keep_seat_send, (scratch_send, (search sendable, (search sendable, tt))))))
+
+pub keeping_send : IsSend Keeping.the_row
+keeping_send = view_send _ _ _ _ _ keeping_inside_send
+
+producer_inside_send : IsSend ProducerInside.the_row
+producer_inside_send = recorded_send (ProducerInside.the_field).row _ _ (ProducerInside.the_type).to_one (struct_send
+    (shape ProducerInside.the_type) (
+      arc_shared_send,
+      (pass_send Item.the_row item_send, (book_seat_send, (Vec-send Keeping.the_row keeping_send, (search sendable, (search sendable, tt))))),
+    ))
+
+pub producer_send : IsSend Producer.the_row
+producer_send = view_send _ _ _ _ _ producer_inside_send
+
+abbrev Answer : RattleType
+Answer = Result.the_row Served.the_row SinkError.the_row
+
+module _ (S : RattleType) (g : Ghosts S.Denot) where
+  abbrev SinkLane : RattleType
+  SinkLane = Lane.the_row (Sink.the_row S) Item.the_row Answer LineBuf.the_row (Turn.ghosts S g Turn.no_dict)
+
+  pub sink_seat_send : IsSend S → IsSend (LaneSeat.the_row (Sink.the_row S) Item.the_row Answer LineBuf.the_row (Turn.ghosts S g Turn.no_dict))
+  sink_seat_send s = seat_send (Sink.the_row S) Item.the_row Answer LineBuf.the_row (Turn.ghosts S g Turn.no_dict) (sink_send S s)
+
+  pub sink_lane_send : IsSend S → IsSend (Arc.the_row SinkLane Global.the_row alloc_ghosts)
+  sink_lane_send s = Arc-send SinkLane
+      (lane_send (Sink.the_row S) Item.the_row Answer LineBuf.the_row (Turn.ghosts S g Turn.no_dict) (sink_send S s))
+      (lane_sync (Sink.the_row S) Item.the_row Answer LineBuf.the_row (Turn.ghosts S g Turn.no_dict) (sink_send S s))
+
+  berth_inside_send : IsSend S → IsSend (BerthInside.the_row S g)
+  berth_inside_send s = recorded_send (BerthInside.the_field S g).row _ _ (BerthInside.the_type S g).to_one (struct_send
+      (shape (BerthInside.the_type S g)) (sink_lane_send s, (sink_seat_send s, (search sendable, (search sendable, tt)))))
+
+  pub berth_send : IsSend S → IsSend (Berth.the_row S g)
+  berth_send s = view_send _ _ _ _ _ (berth_inside_send s)
+
+  pub hand_send : IsSend S → IsSend (Hand.the_row S g)
+  hand_send s = recorded_send (Hand.the_field S g).row _ _ (Hand.the_type S g).to_one (struct_send
+      (shape (Hand.the_type S g)) (
+        arc_shared_send,
+        (
+          pass_send Item.the_row item_send,
+          (
+            Vec-send (Berth.the_row S g) (berth_send s),
+            (
+              line_send,
+              (
+                search sendable,
+                (
+                  search sendable,
+                  (
+                    Vec-send u64 (search sendable),
+                    (search sendable, (search sendable, (search sendable, tt))),
+                  ),
+                ),
+              ),
+            ),
+          ),
+        ),
+      ))

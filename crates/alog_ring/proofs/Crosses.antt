@@ -1,0 +1,69 @@
+-- A ring may be shared and may go to other threads, and so may its passes, where the values may.
+use denote.RattleType.{RattleType}
+use denote.Builtin.{u64, unit}
+use denote.Param.Send.{IsSend, IsSync, sendable, view_send, view_sync, struct_send, struct_sync, recorded_send, recorded_sync}
+use denote.Struct.Declared.{shape}
+use Rattle.std.proofs.Crossing.{Vec-send, Vec-sync, frees, send as heap_send, sync as heap_sync}
+use Rattle.atomic_table.proofs.shared.Seat.TheSendSync.{the_send as table_seat_send}
+use Rattle.atomic_table.proofs.owned.Table.TheSendSync.{the_field_send as table_field_send, the_field_sync as table_field_sync}
+use Rattle.std.specs.contracts.option.Option as Option
+use Rattle.std.specs.contracts.alloc.Global as Global
+use Rattle.std.specs.contracts.impls.GlobalAllocator.TheImpl.{ghosts as alloc_ghosts}
+use Rattle.alog_ring.specs.declared.limit.Limit.{Ghosts}
+use Rattle.alog_ring.specs.contracts.board.Board as Board
+use Rattle.alog_ring.specs.contracts.pass.Pass as Pass
+use Rattle.alog_ring.specs.contracts.pass.Pass.TheInside as PassInside
+use Rattle.alog_ring.specs.contracts.ring.Ring as Ring
+use Rattle.alog_ring.specs.contracts.ring.Ring.TheInside as RingInside
+use Rattle.alog_ring.specs.contracts.view.View as View
+use Rattle.alog_ring.specs.contracts.view.Shape as Shape
+use Rattle.alog_ring.specs.contracts.view.Law as Law
+use Rattle.alog_ring.specs.contracts.view.LawTableRuleOptionViewUnitShape.TheImpl as LawRule
+
+number_send : IsSend u64
+number_send = search sendable
+
+number_sync : IsSync u64
+number_sync = search sendable
+
+option_send : (T : RattleType) → IsSend T → IsSend (Option.the_row T)
+option_send T t = search sendable depth 9
+
+module _ (T : RattleType) where
+  pass_inside_send : IsSend T → IsSend (PassInside.the_row T)
+  pass_inside_send t = recorded_send (PassInside.the_field T).row _ _ (PassInside.the_type T).to_one (struct_send
+      (shape (PassInside.the_type T)) (table_seat_send (Option.the_row T) (View.the_row T unit) (option_send T t), (number_send, tt)))
+
+  pub pass_send : IsSend T → IsSend (Pass.the_row T)
+  pass_send t = view_send _ _ _ _ _ (pass_inside_send t)
+
+module _ (T L : RattleType) (g : Ghosts L.Denot T.Denot) where
+  board_send : IsSend T → IsSend (Board.the_field T L g).row
+  board_send t = struct_send
+      (shape (Board.the_type T L g)) (
+        table_field_send (Option.the_row T) (View.the_row T unit) (Shape.the_row L) Law.the_row
+            Global.the_row (LawRule.ghosts T L g LawRule.no_dict) alloc_ghosts (option_send T t) heap_send frees,
+        (number_send, tt),
+      )
+
+  board_sync : IsSend T → IsSync (Board.the_field T L g).row
+  board_sync t = struct_sync
+      (shape (Board.the_type T L g)) (
+        table_field_sync (Option.the_row T) (View.the_row T unit) (Shape.the_row L) Law.the_row
+            Global.the_row (LawRule.ghosts T L g LawRule.no_dict) alloc_ghosts (option_send T t) heap_send heap_sync frees,
+        (number_sync, tt),
+      )
+
+  ring_inside_send : IsSend T → IsSend (RingInside.the_row T L g)
+  ring_inside_send t = recorded_send (RingInside.the_field T L g).row _ _ (RingInside.the_type T L g).to_one (struct_send
+      (shape (RingInside.the_type T L g)) (board_send t, (search (sendable, Vec-send) depth 12, tt)))
+
+  ring_inside_sync : IsSend T → IsSync T → IsSync (RingInside.the_row T L g)
+  ring_inside_sync t s = recorded_sync (RingInside.the_field T L g).row _ _ (RingInside.the_type T L g).to_one (struct_sync
+      (shape (RingInside.the_type T L g)) (board_sync t, (search (sendable, Vec-sync) depth 12, tt)))
+
+  pub ring_send : IsSend T → IsSend (Ring.the_row T L g)
+  ring_send t = view_send _ _ _ _ _ (ring_inside_send t)
+
+  pub ring_sync : IsSend T → IsSync T → IsSync (Ring.the_row T L g)
+  ring_sync t s = view_sync _ _ _ _ _ (ring_inside_sync t s)
