@@ -78,3 +78,37 @@ module _ {A C : Type 0} (R : A → A → C → Type 0) where
   shared_rest P (suc i) (x ∷ xs) (y ∷ ys) [] d low all m = absurd m
   shared_rest P (suc i) (x ∷ xs) (y ∷ ys) (z ∷ zs) d low all m =
       shared_rest P i xs ys zs d (omega (arith, low)) all.1 m.1
+
+module _ {A B : Type 0} (R : A → B → Type 0) where
+  pub each2_more : (xs : List A) (ys : List B) (x : A) (y : B) → Each2 R xs ys → R x y → Each2 R (xs ++ x ∷ []) (ys ++ y ∷ [])
+  each2_more [] [] x y each r = (r, tt)
+  each2_more [] (w ∷ ys) x y each r = absurd each
+  each2_more (z ∷ xs) [] x y each r = absurd each
+  each2_more (z ∷ xs) (w ∷ ys) x y each r = (each.0, each2_more xs ys x y each.1 r)
+
+  pub each2_length : (xs : List A) (ys : List B) → Each2 R xs ys → length ys ≡ length xs
+  each2_length [] [] each = refl
+  each2_length [] (w ∷ ys) each = absurd each
+  each2_length (z ∷ xs) [] each = absurd each
+  each2_length (z ∷ xs) (w ∷ ys) each = λ k. suc (each2_length xs ys each.1 k)
+
+  -- what holds of the next item and of what is still as it was
+  pub matched_next : {C : Type 0} (Q : A → A → C → Type 0) (ys : List B) (x : B) (zs : List B) (old new : List A) (given : List C) (d : A)
+      → Each2 R old (ys ++ x ∷ zs) → Sharing Q (length ys) old new given → R (slice_index_or new (length ys) d) x
+  matched_next Q [] x zs [] new given d each m = absurd each
+  matched_next Q [] x zs (a ∷ old) [] given d each m = absurd (cc m.0)
+  matched_next Q [] x zs (a ∷ old) (b ∷ new) given d each m =
+      let same : b ≡ a = cc m.0 in subst (λ c. R c x) (sym same) each.0
+  matched_next Q (y ∷ ys) x zs [] new given d each m = absurd each
+  matched_next Q (y ∷ ys) x zs (a ∷ old) [] given d each m = absurd m
+  matched_next Q (y ∷ ys) x zs (a ∷ old) (b ∷ new) [] d each m = absurd m
+  matched_next Q (y ∷ ys) x zs (a ∷ old) (b ∷ new) (c ∷ given) d each m = matched_next Q ys x zs old new given d each.1 m.1
+
+-- what holds of all holds of the next
+pub all_next : {A : Type 0} (P : A → Type 0) (xs : List A) (x : A) (zs : List A) → AllByRecursion P (xs ++ x ∷ zs) → P x
+all_next P [] x zs all = all.0
+all_next P (y ∷ xs) x zs all = all_next P xs x zs all.1
+
+pub all_more : {A : Type 0} (P : A → Type 0) (xs : List A) (x : A) → AllByRecursion P xs → P x → AllByRecursion P (xs ++ x ∷ [])
+all_more P [] x all p = (p, tt)
+all_more P (y ∷ xs) x all p = (all.0, all_more P xs x all.1 p)

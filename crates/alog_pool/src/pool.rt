@@ -157,7 +157,8 @@ fn share_keepings(keepings: &mut Vec<Keeping>, spares: Vec<Spare>, given: &mut V
     requires room { (given.old.items ≡ []) × (length spares.items ≤ vec_capacity given.old) }
     ensures { Each3 IsKeepingPart keepings.old.items keepings.new.items given.new.items }
 {
-    for (place, spare) in spares.into_iter().enumerate() {
+    for spare in spares {
+        let place = given.len();
         given.push_reserved(keepings[place].split(spare));
     }
 }
