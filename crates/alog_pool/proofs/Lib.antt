@@ -4,4 +4,5 @@ pub mod Deeds
 pub mod Worked
 pub mod Sums
 pub mod Leaving
+pub mod Ended
 pub mod Producing

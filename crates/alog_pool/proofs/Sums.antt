@@ -99,6 +99,12 @@ module _ {T N : Type 0} (f : Entry T N → ℕ) where
       let whole : sum_by f (x ∷ h) ≡ f x + sum_by f h = sum_by-cons f x h in
       omega (arith, whole, of_one members x h distinct each.0, all_of members h distinct each.1)
 
+  pub sum_of_actors : (members : List (Member T N)) (h : List (Entry T N)) → AreDistinct members
+      → AllByRecursion (λ (x : Entry T N). IsAmong x.actor members) h
+      → sum_by f h ≡ sum_by (λ (m : Member T N). sum_by f (own_of m.actor h)) members
+  unfolding sum_of
+  sum_of_actors members h distinct each = sym (all_of members h distinct each)
+
   sum_of_all : (members : List (Member T N)) (h : List (Entry T N)) → AreExact members h → AreDistinct members
       → AllByRecursion (λ (x : Entry T N). IsAmong x.actor members) h
       → sum_by f h ≡ sum_by (λ (m : Member T N). sum_by f m.own) members
@@ -126,13 +132,13 @@ module _ {T N : Type 0} (w : ℕ → T → ℕ) where
       let one : sum_by take (x ∷ h) ≡ take x + sum_by take h = sum_by-cons take x h in
       weigh-append w (got_by x.event) (takes h) ∙ ap (λ n. weigh w (got_by x.event) + n) (taken_sum h) ∙ sym one
 
-  claimed_sums : (members : List (Member T N)) → sum_by (λ (m : Member T N). sum_by claim m.own) members
-      ≡ sum_by (λ (m : Member T N). claimed w m.own) members
-  claimed_sums [] = refl
-  claimed_sums (m ∷ members) =
-      sum_by-cons (λ (c : Member T N). sum_by claim c.own) m members
-      ∙ (λ i. sym (claimed_sum m.own) i + claimed_sums members i)
-      ∙ sym (sum_by-cons (λ (c : Member T N). claimed w c.own) m members)
+  claimed_sums : (entries : Member T N → List (Entry T N)) (members : List (Member T N))
+      → sum_by (λ (m : Member T N). sum_by claim (entries m)) members ≡ sum_by (λ (m : Member T N). claimed w (entries m)) members
+  claimed_sums entries [] = refl
+  claimed_sums entries (m ∷ members) =
+      sum_by-cons (λ (c : Member T N). sum_by claim (entries c)) m members
+      ∙ (λ i. sym (claimed_sum (entries m)) i + claimed_sums entries members i)
+      ∙ sym (sum_by-cons (λ (c : Member T N). claimed w (entries c)) m members)
 
   taken_sums : (members : List (Member T N)) → sum_by (λ (m : Member T N). sum_by take m.own) members
       ≡ sum_by (λ (m : Member T N). taken w m.own) members
@@ -142,11 +148,18 @@ module _ {T N : Type 0} (w : ℕ → T → ℕ) where
       ∙ (λ i. sym (taken_sum m.own) i + taken_sums members i)
       ∙ sym (sum_by-cons (λ (c : Member T N). taken w c.own) m members)
 
+  -- what a history claims, where each entry is by one of these members
+  pub claimed_by_actors : (members : List (Member T N)) (h : List (Entry T N)) → AreDistinct members
+      → AllByRecursion (λ (x : Entry T N). IsAmong x.actor members) h
+      → claimed w h ≡ sum_by (λ (m : Member T N). claimed w (own_of m.actor h)) members
+  claimed_by_actors members h distinct each =
+      claimed_sum h ∙ sum_of_actors claim members h distinct each ∙ claimed_sums (λ (m : Member T N). own_of m.actor h) members
+
   pub whole_claimed : (k : Known T N) → IsWhole k → claimed w k.seen ≡ claimed_by w k
   whole_claimed k whole =
       claimed_sum k.seen
       ∙ sum_of_all claim (members_of k) k.seen (whole.faithful.own, whole.faithful.joined) whole.faithful.distinct whole.actors
-      ∙ claimed_sums (members_of k)
+      ∙ claimed_sums (λ (m : Member T N). m.own) (members_of k)
 
   pub whole_taken : (k : Known T N) → IsWhole k → taken w k.seen ≡ taken_by w k
   whole_taken k whole =

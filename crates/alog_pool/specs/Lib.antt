@@ -7,3 +7,4 @@ pub mod Producer
 pub mod Working
 pub mod Whole
 pub mod Ending
+pub mod Ended
