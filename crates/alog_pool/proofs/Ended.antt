@@ -10,7 +10,7 @@ use Rattle.alog_core.proofs.Accounts.{weigh-append}
 use Rattle.alog_core.proofs.Histories.{own_of-append}
 use Rattle.alog_msg.specs.declared.item.Item.{Item}
 use Rattle.alog_msg.specs.declared.item.Item.TheVariants.{Stop}
-use Rattle.alog_pool.specs.Accounts.{work, of_work, of_stops, Moved}
+use Rattle.alog_pool.specs.Accounts.{of_work, of_stops, Moved}
 use Rattle.alog_pool.specs.Ended.{PutNoStop, PutNothing, HasGathered, IsEndingFrom, HasEndedFrom}
 use Rattle.alog_pool.specs.Ending.{HasEndedAmong, IsEnd}
 use Rattle.alog_pool.specs.Whole.{claimed_among, taken_among, claimed_by, taken_by}
@@ -19,7 +19,7 @@ use Rattle.alog_pool.proofs.Moves.{claims-append}
 use Rattle.alog_pool.proofs.Sums.{claimed_by_actors}
 use Rattle.alog_ring.specs.Kinds.{no_note}
 use Rattle.alog_ring.specs.Known.{Known, Member, members_of, IsAmong, AreDistinct}
-use Rattle.alog_ring.specs.Made.{AreExact, IsFaithful, Made}
+use Rattle.alog_ring.specs.Made.{AreExact, Made}
 use Rattle.alog_ring.specs.Share.{IsWhole, Joins}
 use Rattle.alog_ring.proofs.Lists.{each_of, each_of_two, each_append, prefix_same, prefix_through}
 
