@@ -1,25 +1,27 @@
 -- A pool came to its end: no stop was put in before all producers had come back, and no text or flush after it. So what the
 -- producers put in, they or the workers took out.
-use Rattle.std.proofs.Common.{◌≡◌, ℕ, ◌+◌, ◌≤◌, List, [], ◌∷◌, ◌++◌, refl, sym, ap, subst, ◌∙◌, append_assoc, append-nil, inl, inr, arith}
+use Rattle.std.proofs.Common.{◌≡◌, ℕ, ◌+◌, ◌≤◌, cond, List, [], ◌∷◌, ◌++◌, refl, sym, ap, subst, ◌∙◌, append_assoc, append-nil, inl, inr, arith}
 use Rattle.std.specs.List.{AllByRecursion, sum_by}
 use mathlib.Core.List.{IsPrefix}
 use Rattle.std.proofs.lemmas.List.Sums.{sum_by-cons, sum_by-append}
-use Rattle.alog_core.specs.Accounts.{claims, takes, weigh, claimed, taken}
+use Rattle.alog_core.specs.Accounts.{got_by, claims, takes, weigh, claimed, taken}
 use Rattle.alog_core.specs.History.{Entry, own_of}
-use Rattle.alog_core.proofs.Accounts.{weigh-append}
+use Rattle.alog_core.proofs.Accounts.{weigh-append, accounts_balance}
+use Rattle.alog_core.proofs.Cells.{on_test}
 use Rattle.alog_core.proofs.Histories.{own_of-append}
+use Rattle.alog_lane.specs.Seats as lane
 use Rattle.alog_msg.specs.declared.item.Item.{Item}
-use Rattle.alog_msg.specs.declared.item.Item.TheVariants.{Stop}
-use Rattle.alog_pool.specs.Accounts.{of_work, of_stops, Moved}
-use Rattle.alog_pool.specs.Ended.{PutNoStop, PutNothing, HasGathered, IsEndingFrom, HasEndedFrom}
+use Rattle.alog_msg.specs.declared.item.Item.TheVariants.{Text, Flush, Stop}
+use Rattle.alog_policy.specs.BookAdds.{Add, items_in}
+use Rattle.alog_pool.specs.Accounts.{of_all, of_work, of_stops, Moved}
+use Rattle.alog_pool.specs.Ended.{PutNoStop, PutNothing, HasGathered, IsEndingFrom, HasEndedFrom, AreCounted}
 use Rattle.alog_pool.specs.Ending.{HasEndedAmong, IsEnd}
 use Rattle.alog_pool.specs.Whole.{claimed_among, taken_among, claimed_by, taken_by}
 use Rattle.alog_pool.proofs.Leaving.{none_weighs, stops_weigh_nothing, no_work_is_left}
-use Rattle.alog_pool.proofs.Moves.{claims-append}
-use Rattle.alog_pool.proofs.Sums.{claimed_by_actors}
+use Rattle.alog_pool.proofs.Sums.{claimed-append, claimed_by_actors}
 use Rattle.alog_ring.specs.Kinds.{no_note}
 use Rattle.alog_ring.specs.Known.{Known, Member, members_of, IsAmong, AreDistinct}
-use Rattle.alog_ring.specs.Made.{AreExact, Made}
+use Rattle.alog_ring.specs.Made.{AreExact, IsFaithful, Made}
 use Rattle.alog_ring.specs.Share.{IsWhole, Joins}
 use Rattle.alog_ring.proofs.Lists.{each_of, each_of_two, each_append, prefix_same, prefix_through}
 
@@ -43,10 +45,7 @@ module _ {A : Type 0} where
   sum_of_none f (x ∷ xs) none =
       let one : sum_by f (x ∷ xs) ≡ f x + sum_by f xs = sum_by-cons f x xs in omega (arith, one, none.0, sum_of_none f xs none.1)
 
--- what two lists of entries claim, one after the other, and what one actor's claims of them are
-claimed-append : (w : ℕ → Item → ℕ) (h g : List Deed) → claimed w (h ++ g) ≡ claimed w h + claimed w g
-claimed-append w h g = ap (λ (ps : List (ℕ × Item)). weigh w ps) (claims-append h g) ∙ weigh-append w (claims h) (claims g)
-
+-- what one actor claims in a history of two parts
 claimed_in_two : (w : ℕ → Item → ℕ) (a : ℕ) (s t : List Deed)
     → claimed w (own_of a (s ++ t)) ≡ claimed w (own_of a s) + claimed w (own_of a t)
 claimed_in_two w a s t = ap (λ (h : List Deed). claimed w h) (own_of-append a s t) ∙ claimed-append w (own_of a s) (own_of a t)
@@ -146,20 +145,24 @@ stands_at_end j k workers e whole =
     } in
     subst (λ (z : ℕ × List Deed × List One × List Deed). Stands z.0 z.1 z.2 z.3) same now
 
+no_stop_before : (j k : Known Item no_note) (workers : List One) → HasGathered j → IsEndingFrom j k workers → IsWhole k
+    → claimed of_stops j.seen ≡ 0
+no_stop_before j k workers gathered e whole =
+    no_stop j.actor j.own e.stops j.joined workers j.seen e.seen.0 (stands_at_end j k workers e whole) gathered.faithful.own
+    gathered.faithful.joined gathered.own e.no_claims gathered.members
+
 pub is_end : (j k : Known Item no_note) → HasGathered j → HasEndedFrom j k → IsWhole k → 1 ≤ k.places → IsEnd k
 is_end j k gathered ended whole some =
     let e = ended.since in
-    let stands = stands_at_end j k ended.workers e whole in
     record {
       whole = whole;
       some = some;
       before = j.seen;
       later = e.seen.0;
       seen = sym e.seen.1;
-      no_stop = no_stop j.actor j.own e.stops j.joined ended.workers j.seen e.seen.0 stands gathered.faithful.own
-          gathered.faithful.joined gathered.own e.no_claims gathered.members;
-      only_stops = no_work j.actor j.own e.stops j.joined ended.workers j.seen e.seen.0 stands gathered.faithful.own
-          gathered.faithful.joined gathered.own e.no_claims e.only_stops;
+      no_stop = no_stop_before j k ended.workers gathered e whole;
+      only_stops = no_work j.actor j.own e.stops j.joined ended.workers j.seen e.seen.0 (stands_at_end j k ended.workers e whole)
+          gathered.faithful.own gathered.faithful.joined gathered.own e.no_claims e.only_stops;
       ended = inr (subst HasEndedAmong (sym e.joined) (ended_second j.joined ended.workers ended.ended));
     }
 
@@ -202,10 +205,73 @@ all_came_out j k ended w gathered whole some none nothing =
     ∙ no_work_is_left k w (is_end j k gathered ended whole some) nothing
     ∙ all_took j k ended.workers w ended.since none
 
+-- Who takes out before any stop is put in takes only texts and flushes.
+each_kind : (ps : List (ℕ × Item)) → weigh of_all ps ≡ weigh of_work ps + weigh of_stops ps
+each_kind [] = refl
+each_kind ((t, Text m) ∷ ps) = omega (arith, each_kind ps)
+each_kind ((t, Flush n) ∷ ps) = omega (arith, each_kind ps)
+each_kind ((t, Stop) ∷ ps) = omega (arith, each_kind ps)
+
+own_takes_less : (w : ℕ → Item → ℕ) (a : ℕ) (h : List Deed) → taken w (own_of a h) ≤ taken w h
+own_takes_less w a [] = omega arith
+own_takes_less w a (x ∷ h) =
+    let rest = own_takes_less w a h in
+    let all : taken w (x ∷ h) ≡ weigh w (got_by x.event) + taken w h = weigh-append w (got_by x.event) (takes h) in
+    let mine : taken w (x ∷ own_of a h) ≡ weigh w (got_by x.event) + taken w (own_of a h) =
+    weigh-append w (got_by x.event) (takes (own_of a h)) in
+    on_test (λ b. taken w (cond b (x ∷ own_of a h) (own_of a h)) ≤ taken w (x ∷ h)) x.actor a
+    (λ _. omega (arith, rest, all, mine)) (λ _. omega (arith, rest, all))
+
+sums_alike : (f g : One → ℕ) (ms : List One) → AllByRecursion (λ (m : One). f m ≡ g m) ms → sum_by f ms ≡ sum_by g ms
+sums_alike f g [] same = refl
+sums_alike f g (m ∷ ms) same =
+    let one : sum_by f (m ∷ ms) ≡ f m + sum_by f ms = sum_by-cons f m ms in
+    let two : sum_by g (m ∷ ms) ≡ g m + sum_by g ms = sum_by-cons g m ms in
+    omega (arith, one, two, same.0, sums_alike f g ms same.1)
+
+-- So what the producers took out, and counted as overrun, were texts and flushes.
+pub overran_work : (j k : Known Item no_note) (workers : List One) → HasGathered j → IsEndingFrom j k workers → IsWhole k
+    → taken_among of_all j.joined ≡ taken_among of_work j.joined
+overran_work j k workers gathered e whole =
+    let none = no_stop_before j k workers gathered e whole in
+    let balance = accounts_balance Item no_note j.places j.first j.seen of_stops gathered.faithful.legal in
+    sums_alike (λ m. taken of_all m.own) (λ m. taken of_work m.own) j.joined
+    (each_of (λ (m : One). m.own ≡ own_of m.actor j.seen) (λ (m : One). taken of_all m.own ≡ taken of_work m.own) j.joined
+    (λ m is.
+    let same : taken of_stops m.own ≡ taken of_stops (own_of m.actor j.seen) = ap (λ (h : List Deed). taken of_stops h) is in
+    omega (arith, each_kind (takes m.own), same, own_takes_less of_stops m.actor j.seen, none, balance)) gathered.faithful.joined)
+
+-- what the seats counted
+pub counted_sum : (ms : List One) (ss : List (lane.Member Add)) → AreCounted ms ss
+    → sum_by (λ (s : lane.Member Add). items_in s.own) ss ≡ taken_among of_all ms
+counted_sum [] [] are = refl
+counted_sum [] (s ∷ ss) are = absurd are
+counted_sum (m ∷ ms) [] are = absurd are
+counted_sum (m ∷ ms) (s ∷ ss) are =
+    let f : lane.Member Add → ℕ = λ n. items_in n.own in
+    let g : One → ℕ = λ n. taken of_all n.own in
+    let one : sum_by f (s ∷ ss) ≡ f s + sum_by f ss = sum_by-cons f s ss in
+    let two : sum_by g (m ∷ ms) ≡ g m + sum_by g ms = sum_by-cons g m ms in
+    omega (arith, one, two, are.0, counted_sum ms ss are.1)
+
+pub counted_more : (ms : List One) (ss : List (lane.Member Add)) (m : One) (s : lane.Member Add) → AreCounted ms ss
+    → items_in s.own ≡ taken of_all m.own → AreCounted (ms ++ m ∷ []) (ss ++ s ∷ [])
+counted_more [] [] m s are one = (one, tt)
+counted_more [] (r ∷ ss) m s are one = absurd are
+counted_more (n ∷ ms) [] m s are one = absurd are
+counted_more (n ∷ ms) (r ∷ ss) m s are one = (are.0, counted_more ms ss m s are.1 one)
+
 -- How a pool comes there, call by call. A producer's pass, with nothing joined into it, comes back to the pool's own.
 pub alone : (P : One → Type 0) (k : Known Item no_note) → k.joined ≡ [] → P (record { actor = k.actor; own = k.own })
     → AllByRecursion P (members_of k)
 alone P k none is = (is, subst (λ (ms : List One). AllByRecursion P ms) (sym none) tt)
+
+pub gathered_starts : (j : Known Item no_note) → IsFaithful j → j.own ≡ [] → j.joined ≡ [] → HasGathered j
+gathered_starts j faithful own joined = record {
+  faithful = faithful;
+  own = ap (λ (h : List Deed). claims h) own;
+  members = subst (λ (ms : List One). AllByRecursion PutNoStop ms) (sym joined) tt;
+}
 
 pub gathered_join : (j p l : Known Item no_note) → HasGathered j → Joins j p l → AllByRecursion PutNoStop (members_of p) → HasGathered l
 gathered_join j p l gathered joins none = record {

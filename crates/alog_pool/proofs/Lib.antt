@@ -5,4 +5,5 @@ pub mod Worked
 pub mod Sums
 pub mod Leaving
 pub mod Ended
+pub mod Posting
 pub mod Producing

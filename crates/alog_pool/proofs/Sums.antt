@@ -1,5 +1,5 @@
 -- What a history weighs is what its members' own entries weigh together, where each entry is a member's.
-use Rattle.std.proofs.Common.{◌≡◌, ◌≢◌, ℕ, ◌+◌, cond, List, [], ◌∷◌, refl, sym, ap, subst, ◌∙◌, inl, inr, arith}
+use Rattle.std.proofs.Common.{◌≡◌, ◌≢◌, ℕ, ◌+◌, cond, List, [], ◌∷◌, ◌++◌, refl, sym, ap, subst, ◌∙◌, inl, inr, arith}
 use Rattle.std.specs.List.{AllByRecursion, sum_by}
 use Rattle.std.proofs.lemmas.List.Sums.{sum_by-cons}
 use Rattle.alog_core.specs.Accounts.{put_by, got_by, claims, takes, weigh, claimed, taken, listed}
@@ -10,6 +10,7 @@ use Rattle.alog_core.proofs.Cells.{on_test}
 use Rattle.alog_ring.specs.Known.{Member, Known, members_of, IsAmong, AreDistinct}
 use Rattle.alog_ring.specs.Made.{AreExact}
 use Rattle.alog_ring.specs.Share.{IsWhole}
+use Rattle.alog_pool.proofs.Moves.{claims-append, takes-append}
 use Rattle.alog_pool.specs.Whole.{claimed_by, taken_by, MembersBalance}
 
 module _ {T N : Type 0} (f : Entry T N → ℕ) where
@@ -112,6 +113,13 @@ module _ {T N : Type 0} (f : Entry T N → ℕ) where
   sum_of_all members h exact distinct each = sym (exact_sum members h exact ∙ all_of members h distinct each)
 
 module _ {T N : Type 0} (w : ℕ → T → ℕ) where
+  -- of two histories, one after the other
+  pub claimed-append : (h g : List (Entry T N)) → claimed w (h ++ g) ≡ claimed w h + claimed w g
+  claimed-append h g = ap (λ (ps : List (ℕ × T)). weigh w ps) (claims-append h g) ∙ weigh-append w (claims h) (claims g)
+
+  pub taken-append : (h g : List (Entry T N)) → taken w (h ++ g) ≡ taken w h + taken w g
+  taken-append h g = ap (λ (ps : List (ℕ × T)). weigh w ps) (takes-append h g) ∙ weigh-append w (takes h) (takes g)
+
   claim : Entry T N → ℕ
   claim x = weigh w (put_by x.event)
 

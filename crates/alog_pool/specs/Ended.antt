@@ -1,11 +1,13 @@
 -- How a pool comes to its end: all producers come back, then it puts in nothing but stops, and then its workers come back.
-use Rattle.std.specs.Prelude.{◌≡◌, List, [], ◌++◌}
+use Rattle.std.specs.Prelude.{◌≡◌, List, [], ◌∷◌, ◌++◌}
 use Rattle.std.specs.List.{AllByRecursion}
 use mathlib.Core.List.{IsPrefix}
-use Rattle.alog_core.specs.Accounts.{claims, claimed}
+use Rattle.alog_core.specs.Accounts.{claims, claimed, taken}
 use Rattle.alog_core.specs.History.{Entry}
+use Rattle.alog_lane.specs.Seats as lane
 use Rattle.alog_msg.specs.declared.item.Item.{Item}
-use Rattle.alog_pool.specs.Accounts.{of_work, of_stops}
+use Rattle.alog_policy.specs.BookAdds.{Add, items_in}
+use Rattle.alog_pool.specs.Accounts.{of_all, of_work, of_stops}
 use Rattle.alog_pool.specs.Ending.{HasEndedAmong}
 use Rattle.alog_ring.specs.Kinds.{no_note}
 use Rattle.alog_ring.specs.Known.{Known, Member}
@@ -39,3 +41,9 @@ pub record HasEndedFrom (j k : Known Item no_note) : Type 0 where
   pub workers : List (Member Item no_note)
   pub since : IsEndingFrom j k workers
   pub ended : HasEndedAmong workers
+
+-- of each of these passes the seat in the same place counted as many overrun items as the pass took out
+abbrev pub AreCounted : List (Member Item no_note) → List (lane.Member Add) → Type 0
+AreCounted [] [] = Unit {0}
+AreCounted (m ∷ ms) (s ∷ ss) = (items_in s.own ≡ taken of_all m.own) × AreCounted ms ss
+AreCounted _ _ = ⊥
