@@ -16,6 +16,7 @@ use Rattle.alog_policy.specs.BookAdds.{Add, items_in}
 use Rattle.alog_pool.specs.Accounts.{of_all, of_work, of_stops, Moved}
 use Rattle.alog_pool.specs.Ended.{PutNoStop, PutNothing, HasGathered, IsEndingFrom, HasEndedFrom, AreCounted}
 use Rattle.alog_pool.specs.Ending.{HasEndedAmong, IsEnd}
+use Rattle.alog_pool.specs.Lending.{IsAccountOf}
 use Rattle.alog_pool.specs.Whole.{claimed_among, taken_among, claimed_by, taken_by}
 use Rattle.alog_pool.proofs.Leaving.{none_weighs, stops_weigh_nothing, no_work_is_left}
 use Rattle.alog_pool.proofs.Sums.{claimed-append, claimed_by_actors}
@@ -261,6 +262,15 @@ counted_more [] (r ∷ ss) m s are one = absurd are
 counted_more (n ∷ ms) [] m s are one = absurd are
 counted_more (n ∷ ms) (r ∷ ss) m s are one = (are.0, counted_more ms ss m s are.1 one)
 
+-- What the producers posted of texts and flushes, was counted as overrun by their seats, or the workers took it out.
+pub overrun_or_handled : (j k : Known Item no_note) (ended : HasEndedFrom j k) (seats : List (lane.Member Add)) → HasGathered j → IsWhole k
+    → 1 ≤ k.places → takes k.own ≡ [] → AreCounted j.joined seats
+    → claimed_among of_work j.joined ≡ sum_by (λ (s : lane.Member Add). items_in s.own) seats + taken_among of_work ended.workers
+overrun_or_handled j k ended seats gathered whole some none counted =
+    all_came_out j k ended of_work gathered whole some none (λ t. refl)
+    ∙ ap (λ n. n + taken_among of_work ended.workers)
+    (sym (overran_work j k ended.workers gathered ended.since whole) ∙ sym (counted_sum j.joined seats counted))
+
 -- How a pool comes there, call by call. A producer's pass, with nothing joined into it, comes back to the pool's own.
 pub alone : (P : One → Type 0) (k : Known Item no_note) → k.joined ≡ [] → P (record { actor = k.actor; own = k.own })
     → AllByRecursion P (members_of k)
@@ -280,6 +290,22 @@ gathered_join j p l gathered joins none = record {
   members = subst (λ (k : Known Item no_note). AllByRecursion PutNoStop k.joined) (sym joins.known)
       (each_append PutNoStop j.joined (members_of p) gathered.members none);
 }
+
+pub gathered_producer : (j p l : Known Item no_note) (seat : lane.Known Add) → HasGathered j → Joins j p l → IsAccountOf p seat → HasGathered l
+gathered_producer j p l seat gathered joins account = gathered_join j p l gathered joins (alone PutNoStop p account.joined account.no_stop)
+
+-- and its seat of the loss book to the pool's own
+pub counted_producer : (j p l : Known Item no_note) (s t u : lane.Known Add) → AreCounted j.joined s.joined → Joins j p l
+    → lane.IsJoined s t u → IsAccountOf p t → AreCounted l.joined u.joined
+counted_producer j p l s t u counted joins joined account =
+    let m : One = record { actor = p.actor; own = p.own } in
+    let n : lane.Member Add = record { seat = t.seat; own = t.own } in
+    let one : l.joined ≡ j.joined ++ m ∷ [] =
+    ap (λ (z : Known Item no_note). z.joined) joins.known ∙ ap (λ (ms : List One). j.joined ++ m ∷ ms) account.joined in
+    let two : u.joined ≡ s.joined ++ n ∷ [] =
+    ap (λ (z : lane.Known Add). z.joined) joined.known ∙ ap (λ (ns : List (lane.Member Add)). s.joined ++ n ∷ ns) account.seat_joined in
+    subst (λ (z : List One × List (lane.Member Add)). AreCounted z.0 z.1) (λ i. (sym one i, sym two i))
+    (counted_more j.joined s.joined m n counted account.counted)
 
 -- from there on
 pub ending_starts : (j : Known Item no_note) → IsEndingFrom j j []
@@ -325,3 +351,7 @@ ending_join j k p l workers e joins none = record {
       ∙ append_assoc j.joined workers (members_of p);
   no_claims = each_append PutNothing workers (members_of p) e.no_claims none;
 }
+
+pub ending_worker : (j k p l : Known Item no_note) (workers : List One) → IsEndingFrom j k workers → Joins k p l → p.joined ≡ []
+    → claims p.own ≡ [] → IsEndingFrom j l (workers ++ members_of p)
+ending_worker j k p l workers e joins none puts = ending_join j k p l workers e joins (alone PutNothing p none puts)

@@ -1,6 +1,5 @@
 -- What a post adds to a producer's account: it puts no stop in, and its losses are the items that it takes.
 use Rattle.std.proofs.Common.{◌≡◌, ◌⊎◌, ℕ, ◌+◌, List, [], ◌∷◌, ◌++◌, refl, ap, ◌∙◌, append_assoc, inl, inr, arith}
-use Rattle.std.specs.List.{sum_by}
 use Rattle.std.proofs.lemmas.List.Sums.{sum_by-append}
 use Rattle.alog_core.specs.Accounts.{got_by, claims, takes, weigh, claimed, taken}
 use Rattle.alog_core.specs.History.{Entry}
