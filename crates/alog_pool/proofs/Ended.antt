@@ -262,7 +262,7 @@ counted_more [] (r ∷ ss) m s are one = absurd are
 counted_more (n ∷ ms) [] m s are one = absurd are
 counted_more (n ∷ ms) (r ∷ ss) m s are one = (are.0, counted_more ms ss m s are.1 one)
 
--- What the producers posted of texts and flushes, was counted as overrun by their seats, or the workers took it out.
+-- What the producers posted of texts and flushes was counted as overrun by their seats, or the workers took it out.
 pub overrun_or_handled : (j k : Known Item no_note) (ended : HasEndedFrom j k) (seats : List (lane.Member Add)) → HasGathered j → IsWhole k
     → 1 ≤ k.places → takes k.own ≡ [] → AreCounted j.joined seats
     → claimed_among of_work j.joined ≡ sum_by (λ (s : lane.Member Add). items_in s.own) seats + taken_among of_work ended.workers
