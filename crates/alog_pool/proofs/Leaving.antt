@@ -144,13 +144,13 @@ some_stop (p ∷ ps) some =
       | inr none ↦ let r = some_stop ps (omega (arith, some, none)) in (r.0, contains_more (r.0, Stop) p ps r.1)
     ]
 
-none_weighs : (w : ℕ → Item → ℕ) (ps : List (ℕ × Item)) (p : ℕ × Item) → weigh w ps ≡ 0 → Contains ps p → w p.0 p.1 ≡ 0
+pub none_weighs : (w : ℕ → Item → ℕ) (ps : List (ℕ × Item)) (p : ℕ × Item) → weigh w ps ≡ 0 → Contains ps p → w p.0 p.1 ≡ 0
 none_weighs w [] p none c = absurd (omega (arith, c.1))
 none_weighs w (q ∷ ps) p none (zero, l, e) =
     let same : w q.0 q.1 ≡ w p.0 p.1 = ap (λ (r : ℕ × Item). w r.0 r.1) e in omega (arith, none, same)
 none_weighs w (q ∷ ps) p none (suc k, l, e) = none_weighs w ps p (omega (arith, none)) (k, omega (arith, l), e)
 
-stops_weigh_nothing : (w : ℕ → Item → ℕ) (ps : List (ℕ × Item)) → ((t : ℕ) → w t Stop ≡ 0)
+pub stops_weigh_nothing : (w : ℕ → Item → ℕ) (ps : List (ℕ × Item)) → ((t : ℕ) → w t Stop ≡ 0)
     → ((p : ℕ × Item) → Contains ps p → work p.1 ≡ 0) → weigh w ps ≡ 0
 stops_weigh_nothing w [] nothing each = refl
 stops_weigh_nothing w (p ∷ ps) nothing each =

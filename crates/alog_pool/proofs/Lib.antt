@@ -4,6 +4,8 @@ pub mod Deeds
 pub mod Worked
 pub mod Sums
 pub mod Leaving
+pub mod Ended
+pub mod Posting
 pub mod Producing
 pub mod Sharing
 pub mod Parts

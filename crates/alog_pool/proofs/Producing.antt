@@ -1,20 +1,22 @@
 -- What a call of `Loggers` leaves of what a producer lends it.
-use Rattle.std.proofs.Common.{◌≡◌, ℕ, ℤ, zero, suc, ◌<◌, Bor, Bool, true, false, Some, None, Option, Result, Ok, Err, List, [], ◌∷◌, length, refl, ap, subst, ◌∙◌, arith}
+use Rattle.std.proofs.Common.{◌≡◌, ℕ, ℤ, zero, suc, ◌<◌, Bor, Bool, true, false, Some, None, Option, Result, Ok, Err, List, [], ◌∷◌, length, refl, sym, ap, subst, ◌∙◌, arith}
 use Rattle.std.specs.Prelude.{slice_get, slice_set, slice_index_or, IfOk, OnErr}
-use Rattle.alog_core.specs.Queue.{Event}
 use Rattle.alog_msg.specs.declared.item.Item.{Item}
 use Rattle.alog_msg.specs.declared.message.Message.{Message}
 use Rattle.alog_msg.specs.declared.message.MessageError.{MessageError}
 use Rattle.alog_policy.specs.BookCalls.{BookId, SeatView, IsSeatOf as IsBookSeatOf}
 use Rattle.alog_policy.specs.Port.{IsFit, PortDid}
+use Rattle.alog_policy.specs.Post.{overran_in, discards_in}
 use Rattle.alog_policy.specs.declared.policy.Outcome.{Outcome}
 use Rattle.alog_policy.specs.declared.policy.Policy.{Policy}
 use Rattle.alog_policy.specs.declared.port.Port.{Port}
 use Rattle.alog_lane.specs.Calls.{LaneId, IsSeatOf}
+use Rattle.alog_pool.specs.Accounts.{stop}
 use Rattle.alog_pool.specs.Keeping.{KeepingView, KeepingSeat, IsKeeping, IsKeeperOf, Keeps}
-use Rattle.alog_pool.specs.Lending.{LendsAlike}
+use Rattle.alog_pool.specs.Lending.{IsAccountOf, LendsAlike}
 use Rattle.alog_pool.specs.Producer.{ProducerView, AreKeepings, IsProducer, IsPortOf, Lent}
 use Rattle.alog_pool.specs.declared.shared.Shared.{Shared}
+use Rattle.alog_pool.proofs.Posting.{post_stops, post_takes, account_after}
 use Rattle.alog_registry.specs.Carry.{PostsItem}
 use Rattle.alog_registry.specs.Backtrace.{Room}
 use Rattle.alog_registry.specs.Dumping.{PostsEach, posted_of}
@@ -40,13 +42,20 @@ same_port a b e = record {
   book = ap (λ (p : Queueing). p.book) e;
   pass = ap (λ (p : Queueing). p.pass.ghost_name) e;
   seat = ap (λ (p : Queueing). p.seat.ghost_name) e;
+  account = λ is. subst (λ (p : Queueing). IsAccountOf p.pass.now.known p.seat.now.known) (sym e) is;
 }
 
-did_port : (a b : Queueing) (es : List (Event Item)) (i p : ℕ) → PortDid a es i p b → LendsAlike a b
-did_port a b es i p did = record { ring = did.ring; book = did.book; pass = did.pass_lent; seat = did.seat_lent }
-
-pub posts_port : (p : Policy) (x : Item) (a b : Queueing) (o : Outcome (Unit {0})) → PostsItem PortDid p x a b o → LendsAlike a b
-posts_port p x a b o posts = did_port a b posts.events _ _ posts.done
+pub posts_port : (p : Policy) (x : Item) (a b : Queueing) (o : Outcome (Unit {0})) → stop x ≡ 0 → PostsItem PortDid p x a b o
+    → LendsAlike a b
+posts_port p x a b o none posts = record {
+  ring = posts.done.ring;
+  book = posts.done.book;
+  pass = posts.done.pass_lent;
+  seat = posts.done.seat_lent;
+  account =
+      account_after a b posts.events (overran_in o) (discards_in o) posts.done
+      (post_stops p x tt posts.events o posts.post a.pass.now.known.actor none) (post_takes p x tt posts.events o posts.post);
+}
 
 then_port : (a b c : Queueing) → LendsAlike a b → LendsAlike b c → LendsAlike a c
 then_port a b c one two = record {
@@ -54,6 +63,7 @@ then_port a b c one two = record {
   book = two.book ∙ one.book;
   pass = two.pass ∙ one.pass;
   seat = two.seat ∙ one.seat;
+  account = λ is. two.account (one.account is);
 }
 
 pub each_port : (p : Policy) (ms : List Message) (a b : Queueing) (os : List (Outcome (Unit {0}))) → PostsEach PortDid p ms a os b
@@ -61,7 +71,7 @@ pub each_port : (p : Policy) (ms : List Message) (a b : Queueing) (os : List (Ou
 each_port p [] a b [] e = same_port a b e
 each_port p [] a b (o ∷ os) e = absurd e
 each_port p (m ∷ ms) a b [] e = absurd e
-each_port p (m ∷ ms) a b (o ∷ os) e = then_port a e.0 b (posts_port p _ a e.0 o e.1) (each_port p ms e.0 b os e.2)
+each_port p (m ∷ ms) a b (o ∷ os) e = then_port a e.0 b (posts_port p _ a e.0 o refl e.1) (each_port p ms e.0 b os e.2)
 
 same_keeper : (k l : LaneKeeper) → l ≡ k → LendsSame k l × (l.scratch.now.list ≡ k.scratch.now.list)
 same_keeper k l e = (
@@ -98,7 +108,7 @@ logs_waiting p s m a k (Filtered level kept) b l is =
     record { port = same_port a b is.1; keeper = c.0; list = c.1 }
 logs_waiting p s m a k (Logged o kept) b l is =
     let c = copy_waiting (copy_of s m) kept k l is.1 in
-    record { port = posts_port p _ a b o is.0; keeper = c.0; list = c.1 }
+    record { port = posts_port p _ a b o refl is.0; keeper = c.0; list = c.1 }
 
 logs_now : (p : Policy) (s : Spec) (m : Message) (a : Queueing) (k : LaneKeeper) (r : LogReply) (b : Queueing) (l : LaneKeeper)
     → Logs PortDid KeepsByTurn Passes p s m a k r b l → LeavesLent a k b l
@@ -107,7 +117,7 @@ logs_now p s m a k (Filtered level kept) b l is =
     record { port = same_port a b is.1; keeper = c.0; list = c.1 }
 logs_now p s m a k (Logged o kept) b l is =
     let c = copy_now (copy_of s m) kept k l is.1 in
-    record { port = posts_port p _ a b o is.0; keeper = c.0; list = c.1 }
+    record { port = posts_port p _ a b o refl is.0; keeper = c.0; list = c.1 }
 
 nothing_done : (a : Queueing) (k : LaneKeeper) (b : Queueing) (l : LaneKeeper) → b ≡ a → l ≡ k → LeavesLent a k b l
 nothing_done a k b l e f = let s = same_keeper k l f in record { port = same_port a b e; keeper = s.0; list = s.1 }
@@ -213,10 +223,13 @@ module _ {X : Type 0} (items : X → List (Outcome (Unit {0}))) (p : Policy) (n 
 -- a producer after a post on its port
 pub still_producer : (shared : Shared) (p : PassView Item no_note) (losses : SeatView) (keepings : List KeepingView) (limit : ℕ)
     (a b : Queueing) → IsProducer shared p losses keepings limit → a.ring.now ≡ shared.ring → a.book.now ≡ shared.book
-    → LendsAlike a b → IsFit b → IsProducer shared b.pass.now b.seat.now keepings limit
-still_producer shared p losses keepings limit a b old ring book alike fit =
+    → a.pass.now ≡ p → a.seat.now ≡ losses → LendsAlike a b → IsFit b → IsProducer shared b.pass.now b.seat.now keepings limit
+still_producer shared p losses keepings limit a b old ring book pass seat alike fit =
     let R : RingId TextLimit → Type 0 = λ r. IsPassOf r b.pass.now in
     let B : BookId → Type 0 = λ k. IsBookSeatOf k b.seat.now in
+    let mine : IsAccountOf a.pass.now.known a.seat.now.known =
+    subst (λ (s : SeatView). IsAccountOf a.pass.now.known s.known) (sym seat)
+    (subst (λ (v : PassView Item no_note). IsAccountOf v.known losses.known) (sym pass) old.account) in
     record {
       pass = subst R (ap (λ (x : Bor (RingId TextLimit)). x.now) alike.ring ∙ ring) fit.0;
       losses_are = subst B (ap (λ (x : Bor BookId). x.now) alike.book ∙ book) fit.1;
@@ -224,6 +237,7 @@ still_producer shared p losses keepings limit a b old ring book alike fit =
       kept = old.kept;
       queued = old.queued;
       limits = old.limits;
+      account = alike.account mine;
     }
 
 -- the port of a producer after it

@@ -1,5 +1,5 @@
 -- What a history weighs is what its members' own entries weigh together, where each entry is a member's.
-use Rattle.std.proofs.Common.{◌≡◌, ◌≢◌, ℕ, ◌+◌, cond, List, [], ◌∷◌, refl, sym, ap, subst, ◌∙◌, inl, inr, arith}
+use Rattle.std.proofs.Common.{◌≡◌, ◌≢◌, ℕ, ◌+◌, cond, List, [], ◌∷◌, ◌++◌, refl, sym, ap, subst, ◌∙◌, inl, inr, arith}
 use Rattle.std.specs.List.{AllByRecursion, sum_by}
 use Rattle.std.proofs.lemmas.List.Sums.{sum_by-cons}
 use Rattle.alog_core.specs.Accounts.{put_by, got_by, claims, takes, weigh, claimed, taken, listed}
@@ -10,6 +10,7 @@ use Rattle.alog_core.proofs.Cells.{on_test}
 use Rattle.alog_ring.specs.Known.{Member, Known, members_of, IsAmong, AreDistinct}
 use Rattle.alog_ring.specs.Made.{AreExact}
 use Rattle.alog_ring.specs.Share.{IsWhole}
+use Rattle.alog_pool.proofs.Moves.{claims-append, takes-append}
 use Rattle.alog_pool.specs.Whole.{claimed_by, taken_by, MembersBalance}
 
 module _ {T N : Type 0} (f : Entry T N → ℕ) where
@@ -99,6 +100,12 @@ module _ {T N : Type 0} (f : Entry T N → ℕ) where
       let whole : sum_by f (x ∷ h) ≡ f x + sum_by f h = sum_by-cons f x h in
       omega (arith, whole, of_one members x h distinct each.0, all_of members h distinct each.1)
 
+  pub sum_of_actors : (members : List (Member T N)) (h : List (Entry T N)) → AreDistinct members
+      → AllByRecursion (λ (x : Entry T N). IsAmong x.actor members) h
+      → sum_by f h ≡ sum_by (λ (m : Member T N). sum_by f (own_of m.actor h)) members
+  unfolding sum_of
+  sum_of_actors members h distinct each = sym (all_of members h distinct each)
+
   sum_of_all : (members : List (Member T N)) (h : List (Entry T N)) → AreExact members h → AreDistinct members
       → AllByRecursion (λ (x : Entry T N). IsAmong x.actor members) h
       → sum_by f h ≡ sum_by (λ (m : Member T N). sum_by f m.own) members
@@ -106,6 +113,13 @@ module _ {T N : Type 0} (f : Entry T N → ℕ) where
   sum_of_all members h exact distinct each = sym (exact_sum members h exact ∙ all_of members h distinct each)
 
 module _ {T N : Type 0} (w : ℕ → T → ℕ) where
+  -- of two histories, one after the other
+  pub claimed-append : (h g : List (Entry T N)) → claimed w (h ++ g) ≡ claimed w h + claimed w g
+  claimed-append h g = ap (λ (ps : List (ℕ × T)). weigh w ps) (claims-append h g) ∙ weigh-append w (claims h) (claims g)
+
+  pub taken-append : (h g : List (Entry T N)) → taken w (h ++ g) ≡ taken w h + taken w g
+  taken-append h g = ap (λ (ps : List (ℕ × T)). weigh w ps) (takes-append h g) ∙ weigh-append w (takes h) (takes g)
+
   claim : Entry T N → ℕ
   claim x = weigh w (put_by x.event)
 
@@ -126,13 +140,13 @@ module _ {T N : Type 0} (w : ℕ → T → ℕ) where
       let one : sum_by take (x ∷ h) ≡ take x + sum_by take h = sum_by-cons take x h in
       weigh-append w (got_by x.event) (takes h) ∙ ap (λ n. weigh w (got_by x.event) + n) (taken_sum h) ∙ sym one
 
-  claimed_sums : (members : List (Member T N)) → sum_by (λ (m : Member T N). sum_by claim m.own) members
-      ≡ sum_by (λ (m : Member T N). claimed w m.own) members
-  claimed_sums [] = refl
-  claimed_sums (m ∷ members) =
-      sum_by-cons (λ (c : Member T N). sum_by claim c.own) m members
-      ∙ (λ i. sym (claimed_sum m.own) i + claimed_sums members i)
-      ∙ sym (sum_by-cons (λ (c : Member T N). claimed w c.own) m members)
+  claimed_sums : (entries : Member T N → List (Entry T N)) (members : List (Member T N))
+      → sum_by (λ (m : Member T N). sum_by claim (entries m)) members ≡ sum_by (λ (m : Member T N). claimed w (entries m)) members
+  claimed_sums entries [] = refl
+  claimed_sums entries (m ∷ members) =
+      sum_by-cons (λ (c : Member T N). sum_by claim (entries c)) m members
+      ∙ (λ i. sym (claimed_sum (entries m)) i + claimed_sums entries members i)
+      ∙ sym (sum_by-cons (λ (c : Member T N). claimed w (entries c)) m members)
 
   taken_sums : (members : List (Member T N)) → sum_by (λ (m : Member T N). sum_by take m.own) members
       ≡ sum_by (λ (m : Member T N). taken w m.own) members
@@ -142,11 +156,18 @@ module _ {T N : Type 0} (w : ℕ → T → ℕ) where
       ∙ (λ i. sym (taken_sum m.own) i + taken_sums members i)
       ∙ sym (sum_by-cons (λ (c : Member T N). taken w c.own) m members)
 
+  -- what a history claims, where each entry is by one of these members
+  pub claimed_by_actors : (members : List (Member T N)) (h : List (Entry T N)) → AreDistinct members
+      → AllByRecursion (λ (x : Entry T N). IsAmong x.actor members) h
+      → claimed w h ≡ sum_by (λ (m : Member T N). claimed w (own_of m.actor h)) members
+  claimed_by_actors members h distinct each =
+      claimed_sum h ∙ sum_of_actors claim members h distinct each ∙ claimed_sums (λ (m : Member T N). own_of m.actor h) members
+
   pub whole_claimed : (k : Known T N) → IsWhole k → claimed w k.seen ≡ claimed_by w k
   whole_claimed k whole =
       claimed_sum k.seen
       ∙ sum_of_all claim (members_of k) k.seen (whole.faithful.own, whole.faithful.joined) whole.faithful.distinct whole.actors
-      ∙ claimed_sums (members_of k)
+      ∙ claimed_sums (λ (m : Member T N). m.own) (members_of k)
 
   pub whole_taken : (k : Known T N) → IsWhole k → taken w k.seen ≡ taken_by w k
   whole_taken k whole =

@@ -9,3 +9,4 @@ pub mod Whole
 pub mod Ending
 pub mod Places
 pub mod Pool
+pub mod Ended

@@ -6,6 +6,7 @@ use Rattle.alog_msg.specs.declared.limits.TheConstants.{LEAST_TEXT_LIMIT, MOST_T
 use Rattle.alog_policy.specs.BookCalls.{SeatView, IsSeatOf}
 use Rattle.alog_policy.specs.declared.port.Port.{Port}
 use Rattle.alog_pool.specs.Keeping.{KeepingView, Keeps}
+use Rattle.alog_pool.specs.Lending.{IsAccountOf}
 use Rattle.alog_pool.specs.declared.shared.Shared.{Shared}
 use Rattle.alog_registry.specs.declared.keep.LaneKeeper.{LaneKeeper}
 use Rattle.alog_registry.specs.declared.limit.TextLimit.{TextLimit}
@@ -27,7 +28,7 @@ abbrev pub AreKeepings : ℕ → List KeepingView → Type 0
 AreKeepings limit keepings = AllByRecursion (λ (k : KeepingView). k.lane.first.limit ≡ limit) keepings
 
 -- The producer is one of the pool that has this: pass and seat belong to its ring and its book, there is a place for each logger,
--- and all have one text limit.
+-- and all have one text limit. What pass and seat did is a producer's account.
 pub record IsProducer (shared : Shared) (p : PassView Item no_note) (losses : SeatView) (keepings : List KeepingView) (limit : ℕ) : Type 0 where
   pub pass : IsPassOf shared.ring p
   pub losses_are : IsSeatOf shared.book losses
@@ -35,6 +36,7 @@ pub record IsProducer (shared : Shared) (p : PassView Item no_note) (losses : Se
   pub kept : AreKeepings limit keepings
   pub queued : shared.ring.limit.most ≡ limit
   pub limits : (LEAST_TEXT_LIMIT ≤ limit) × (limit ≤ MOST_TEXT_LIMIT)
+  pub account : IsAccountOf p.known losses.known
 
 -- the port lends the pool's ring and book, and the producer's pass and seat
 pub record IsPortOf (p : ProducerView) (port : Port Item TextLimit) : Type 0 where

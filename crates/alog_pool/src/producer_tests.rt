@@ -1,5 +1,6 @@
 //! A producer alone.
 ghost use Rattle.std.specs.Prelude.{◌≡◌, length, IfOk};
+ghost use Rattle.alog_pool.specs.Working.{IsFresh};
 ghost use Rattle.alog_pool.specs.declared.tests.TheConstants.{TEXT_LIMIT};
 ghost use Rattle.alog_ring.specs.Known.{IsPassOf};
 
@@ -15,14 +16,17 @@ use std::sync::atomic::AtomicBool;
 use std::sync::{Arc, Wait};
 use std::test::Fail;
 
-// A queue of eight places and a pass of it.
+// A queue of eight places and a producer's pass of it.
 fn queue(rt: &impl Abort, alloc: Global) -> (Ring<Item, TextLimit>, Pass<Item>)
-    ensures { IsPassOf result.0 result.1 × (result.0.limit.most ≡ TEXT_LIMIT) }
+    ensures ring { IsPassOf result.0 result.1 × (result.0.limit.most ≡ TEXT_LIMIT) }
+    ensures fresh { IsFresh result.1.known }
 {
-    match Ring::limited(alloc, 8, 0, TextLimit { most: TEXT_LIMIT }) {
-        Ok(made) => made,
-        Err(_) => panic!(rt; "no memory"),
-    }
+    let limit = TextLimit { most: TEXT_LIMIT };
+    let Ok((ring, mut first)) = Ring::limited(alloc, 8, 0, limit) else {
+        panic!(rt; "no memory")
+    };
+    let pass = ring.split(&mut first, 1);
+    (ring, pass)
 }
 
 // A place at a backtrace of so many messages.
@@ -45,13 +49,15 @@ fn producer(
     keeping: Keeping,
 ) -> Producer
     requires ring { IsPassOf ring pass × (ring.limit.most ≡ TEXT_LIMIT) }
+    requires fresh { IsFresh pass.known }
     requires one { length loggers ≡ 1 }
     requires limit { keeping.lane.first.limit ≡ TEXT_LIMIT }
     ensures { length result.shared.loggers ≡ 1 }
 {
-    let Ok((book, losses)) = LossBook::new(alloc) else {
+    let Ok((book, mut first)) = LossBook::new(alloc) else {
         panic!(rt; "no memory")
     };
+    let losses = book.split(&mut first, 1);
     let shared = Shared {
         ring,
         book,

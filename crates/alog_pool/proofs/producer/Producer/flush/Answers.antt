@@ -17,7 +17,7 @@ shape_of-self-inside c =
     subst (λ (l : List Logger). c.args.number < length l)
     (sym (ap (λ (x : Shared). x.loggers) c.deref-shared.ensures ∙ ap (λ (w : ProducerView). w.shared.loggers) c.self.view_is)) c.requires.known in
     let s = has_spec c.deref-shared.result.now.loggers c.args.number known in
-    let alike = posts_port _ _ _ c.flush.new.outlet c.flush.result (c.flush.ensures.post s.0 s.1) in
+    let alike = posts_port _ _ _ c.flush.new.outlet c.flush.result refl (c.flush.ensures.post s.0 s.1) in
     sym alike.seat
 
 pub shape_of-self-inside-2 : goal.shape_of-self-inside-2
@@ -26,7 +26,7 @@ shape_of-self-inside-2 c =
     subst (λ (l : List Logger). c.args.number < length l)
     (sym (ap (λ (x : Shared). x.loggers) c.deref-shared.ensures ∙ ap (λ (w : ProducerView). w.shared.loggers) c.self.view_is)) c.requires.known in
     let s = has_spec c.deref-shared.result.now.loggers c.args.number known in
-    let alike = posts_port _ _ _ c.flush.new.outlet c.flush.result (c.flush.ensures.post s.0 s.1) in
+    let alike = posts_port _ _ _ c.flush.new.outlet c.flush.result refl (c.flush.ensures.post s.0 s.1) in
     sym alike.pass
 
 pub invariant_of-self : goal.invariant_of-self
@@ -36,9 +36,10 @@ invariant_of-self c =
     subst (λ (l : List Logger). c.args.number < length l)
     (sym (ap (λ (x : Shared). x.loggers) c.deref-shared.ensures ∙ ap (λ (w : ProducerView). w.shared.loggers) c.self.view_is)) c.requires.known in
     let s = has_spec c.deref-shared.result.now.loggers c.args.number known in
-    let alike = posts_port _ _ _ c.flush.new.outlet c.flush.result (c.flush.ensures.post s.0 s.1) in
+    let alike = posts_port _ _ _ c.flush.new.outlet c.flush.result refl (c.flush.ensures.post s.0 s.1) in
     still_producer (arc_value i.shared) i.pass i.losses i.keepings.items i.text_limit _ c.flush.new.outlet c.self.invariant
-    (ap (λ (x : Shared). x.ring) c.deref-shared.ensures) (ap (λ (x : Shared). x.book) c.deref-shared.ensures) alike c.flush.ensures.ready.0
+    (ap (λ (x : Shared). x.ring) c.deref-shared.ensures) (ap (λ (x : Shared). x.book) c.deref-shared.ensures) refl refl alike
+    c.flush.ensures.ready.0
 
 pub returns-clause-post : goal.returns-clause-post
 returns-clause-post c =
@@ -63,7 +64,7 @@ returns-clause-post c =
     → (p q : Queueing) × IsPortOf w p × IsPortOf new q × PostsItemNow PortDid s.policy (Flush c.args.number) p q c.flush.result in
     subst P c.self.view_is (λ s e.
     let post = c.flush.ensures.post s (ap (λ (x : Shared). spec_at x.loggers c.args.number) c.deref-shared.ensures ∙ e) in
-    let alike = posts_port _ _ _ c.flush.new.outlet c.flush.result post in (
+    let alike = posts_port _ _ _ c.flush.new.outlet c.flush.result refl post in (
       _,
       c.flush.new.outlet,
       record {
