@@ -10,3 +10,5 @@ pub mod Producing
 pub mod Sharing
 pub mod Parts
 pub mod Crosses
+pub mod Hiring
+pub mod Grounding

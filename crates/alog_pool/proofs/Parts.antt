@@ -5,7 +5,7 @@ use Rattle.alog_lane.specs.declared.seat.TheConstants.{ALL_PARTS}
 use Rattle.alog_pool.specs.Berth.{BerthView, place_of, places_of}
 use Rattle.alog_pool.specs.Keeping.{KeepingView}
 use Rattle.alog_pool.specs.Places.{Each3, IsPart, IsKeepingPart, AreSpare}
-use Rattle.alog_pool.specs.Pool.{IsNew, lanes_of}
+use Rattle.alog_pool.specs.Pool.{IsNew, IsUnused, lanes_of}
 use Rattle.alog_pool.specs.Producer.{AreKeepings}
 
 module _ {S : Type 0} where
@@ -18,6 +18,10 @@ module _ {S : Type 0} where
       → AllByRecursion (λ (b : BerthView S). b.seat.known.parts + n ≡ ALL_PARTS) old
       → AllByRecursion (λ (b : BerthView S). b.seat.known.parts + (n + 1) ≡ ALL_PARTS) new
   berth_parts_left n [] [] [] few each all = tt
+  berth_parts_left n [] [] (d ∷ ds) few each all = absurd each
+  berth_parts_left n [] (c ∷ cs) given few each all = absurd each
+  berth_parts_left n (b ∷ bs) [] given few each all = absurd each
+  berth_parts_left n (b ∷ bs) (c ∷ cs) [] few each all = absurd each
   berth_parts_left n (b ∷ bs) (c ∷ cs) (d ∷ ds) few each all =
       let one = all.0 in
       let kept = ap (λ k. k.parts) each.0.split.kept in
@@ -27,6 +31,10 @@ module _ {S : Type 0} where
       → AllByRecursion (λ (b : BerthView S). b.limit ≡ limit) old
       → AllByRecursion (λ (b : BerthView S). b.limit ≡ limit) new × AllByRecursion (λ (b : BerthView S). b.limit ≡ limit) given
   berth_limits limit [] [] [] each all = (tt, tt)
+  berth_limits limit [] [] (d ∷ ds) each all = absurd each
+  berth_limits limit [] (c ∷ cs) given each all = absurd each
+  berth_limits limit (b ∷ bs) [] given each all = absurd each
+  berth_limits limit (b ∷ bs) (c ∷ cs) [] each all = absurd each
   berth_limits limit (b ∷ bs) (c ∷ cs) (d ∷ ds) each all =
       let rest = berth_limits limit bs cs ds each.1 all.1 in
       ((each.0.same.1 ∙ all.0, rest.0), (each.0.given_lane.1 ∙ all.0, rest.1))
@@ -34,22 +42,44 @@ module _ {S : Type 0} where
   pub same_lanes : (old new given : List (BerthView S)) → Each3 IsPart old new given
       → (lanes_of new ≡ lanes_of old) × (lanes_of given ≡ lanes_of old)
   same_lanes [] [] [] each = (refl, refl)
+  same_lanes [] [] (d ∷ ds) each = absurd each
+  same_lanes [] (c ∷ cs) given each = absurd each
+  same_lanes (b ∷ bs) [] given each = absurd each
+  same_lanes (b ∷ bs) (c ∷ cs) [] each = absurd each
   same_lanes (b ∷ bs) (c ∷ cs) (d ∷ ds) each =
       let rest = same_lanes bs cs ds each.1 in
       ((λ k. each.0.same.0 k ∷ rest.0 k), (λ k. each.0.given_lane.0 k ∷ rest.1 k))
 
   pub given_new : (old new given : List (BerthView S)) → Each3 IsPart old new given → AllByRecursion IsNew given
   given_new [] [] [] each = tt
+  given_new [] [] (d ∷ ds) each = absurd each
+  given_new [] (c ∷ cs) given each = absurd each
+  given_new (b ∷ bs) [] given each = absurd each
+  given_new (b ∷ bs) (c ∷ cs) [] each = absurd each
   given_new (b ∷ bs) (c ∷ cs) (d ∷ ds) each =
-      let split = each.0.split.new_seat in
-      (
-        record {
-          parts = ap (λ k. k.parts) split;
-          joined = ap (λ k. k.joined) split;
-          own = ap (λ k. k.own) split;
-          faults = each.0.given_lane.2;
-        },
+      let split = each.0.split.new_seat in (
+        (
+          ap (λ k. k.parts) split,
+          record { joined = ap (λ k. k.joined) split; own = ap (λ k. k.own) split; faults = each.0.given_lane.2 },
+        ),
         given_new bs cs ds each.1,
+      )
+
+  pub still_unused : (old new given : List (BerthView S)) → Each3 IsPart old new given → AllByRecursion IsUnused old
+      → AllByRecursion IsUnused new
+  still_unused [] [] [] each all = tt
+  still_unused [] [] (d ∷ ds) each all = absurd each
+  still_unused [] (c ∷ cs) given each all = absurd each
+  still_unused (b ∷ bs) [] given each all = absurd each
+  still_unused (b ∷ bs) (c ∷ cs) [] each all = absurd each
+  still_unused (b ∷ bs) (c ∷ cs) (d ∷ ds) each all =
+      let kept = each.0.split.kept in (
+        record {
+          joined = ap (λ k. k.joined) kept ∙ all.0.joined;
+          own = ap (λ k. k.own) kept ∙ all.0.own;
+          faults = each.0.same.2 ∙ all.0.faults;
+        },
+        still_unused bs cs ds each.1 all.1,
       )
 
 pub keepings_spare : (n : ℕ) (ks : List KeepingView) → n < 4096
@@ -62,6 +92,10 @@ pub keeping_parts_left : (n : ℕ) (old new given : List KeepingView) → n < 40
     → AllByRecursion (λ (k : KeepingView). k.seat.known.parts + n ≡ ALL_PARTS) old
     → AllByRecursion (λ (k : KeepingView). k.seat.known.parts + (n + 1) ≡ ALL_PARTS) new
 keeping_parts_left n [] [] [] few each all = tt
+keeping_parts_left n [] [] (d ∷ ds) few each all = absurd each
+keeping_parts_left n [] (c ∷ cs) given few each all = absurd each
+keeping_parts_left n (b ∷ bs) [] given few each all = absurd each
+keeping_parts_left n (b ∷ bs) (c ∷ cs) [] few each all = absurd each
 keeping_parts_left n (b ∷ bs) (c ∷ cs) (d ∷ ds) few each all =
     let one = all.0 in
     let kept = ap (λ k. k.parts) each.0.split.kept in
@@ -70,9 +104,12 @@ keeping_parts_left n (b ∷ bs) (c ∷ cs) (d ∷ ds) few each all =
 pub keepings_limits : (limit : ℕ) (old new given : List KeepingView) → Each3 IsKeepingPart old new given → AreKeepings limit old
     → AreKeepings limit new × AreKeepings limit given
 keepings_limits limit [] [] [] each all = (tt, tt)
+keepings_limits limit [] [] (d ∷ ds) each all = absurd each
+keepings_limits limit [] (c ∷ cs) given each all = absurd each
+keepings_limits limit (b ∷ bs) [] given each all = absurd each
+keepings_limits limit (b ∷ bs) (c ∷ cs) [] each all = absurd each
 keepings_limits limit (b ∷ bs) (c ∷ cs) (d ∷ ds) each all =
-    let rest = keepings_limits limit bs cs ds each.1 all.1 in
-    (
+    let rest = keepings_limits limit bs cs ds each.1 all.1 in (
       (ap (λ l. l.first.limit) each.0.same.0 ∙ all.0, rest.0),
       (ap (λ l. l.first.limit) each.0.given_lane ∙ all.0, rest.1),
     )
@@ -80,5 +117,9 @@ keepings_limits limit (b ∷ bs) (c ∷ cs) (d ∷ ds) each all =
 pub each3_lengths : {A B C : Type 0} (R : A → B → C → Type 0) (xs : List A) (ys : List B) (zs : List C) → Each3 R xs ys zs
     → (length ys ≡ length xs) × (length zs ≡ length xs)
 each3_lengths R [] [] [] each = (refl, refl)
+each3_lengths R [] [] (z ∷ zs) each = absurd each
+each3_lengths R [] (y ∷ ys) zs each = absurd each
+each3_lengths R (x ∷ xs) [] zs each = absurd each
+each3_lengths R (x ∷ xs) (y ∷ ys) [] each = absurd each
 each3_lengths R (x ∷ xs) (y ∷ ys) (z ∷ zs) each =
     let rest = each3_lengths R xs ys zs each.1 in ((λ k. suc (rest.0 k)), (λ k. suc (rest.1 k)))

@@ -1,5 +1,5 @@
 -- Loops that go through lists: some places are done, the others are as they were.
-use Rattle.std.proofs.Common.{◌≡◌, ◌<◌, ℕ, zero, suc, List, [], ◌∷◌, ◌++◌, length, slice_get, set, Some, refl, sym, subst, arith}
+use Rattle.std.proofs.Common.{◌≡◌, ◌<◌, ℕ, zero, suc, List, [], ◌∷◌, ◌++◌, ◌≤◌, length, map, slice_get, slice_set, Some, refl, sym, subst, arith}
 use Rattle.std.specs.Prelude.{slice_index_or}
 use Rattle.std.specs.List.{AllByRecursion}
 use Rattle.alog_pool.specs.Places.{Each2, Each3}
@@ -26,6 +26,12 @@ module _ {A B : Type 0} (R : A → B → Type 0) where
   match_all (x ∷ xs) [] m = absurd m
   match_all (x ∷ xs) (y ∷ ys) m = (m.0, match_all xs ys m.1)
 
+  pub matched_within : (i : ℕ) (xs : List A) (ys : List B) → Matching i xs ys → i ≤ length xs
+  matched_within zero xs ys m = omega arith
+  matched_within (suc i) [] ys m = absurd m
+  matched_within (suc i) (x ∷ xs) [] m = absurd m
+  matched_within (suc i) (x ∷ xs) (y ∷ ys) m = let rest = matched_within i xs ys m.1 in omega (arith, rest)
+
   pub matched_length : (i : ℕ) (xs : List A) (ys : List B) → Matching i xs ys → length ys ≡ i
   matched_length zero xs ys m = subst (λ (l : List B). length l ≡ 0) (sym m) refl
   matched_length (suc i) [] ys m = absurd m
@@ -42,7 +48,7 @@ module _ {A C : Type 0} (R : A → A → C → Type 0) where
   Sharing (suc i) (x ∷ xs) (y ∷ ys) [] = ⊥
 
   pub share_one : (i : ℕ) (old new : List A) (given : List C) (d b : A) (c : C) → i < length new → R (slice_index_or new i d) b c
-      → Sharing i old new given → Sharing (suc i) old (set new i b) (given ++ c ∷ [])
+      → Sharing i old new given → Sharing (suc i) old (slice_set new i b) (given ++ c ∷ [])
   share_one i old [] given d b c low r m = absurd (omega (arith, low))
   share_one zero old (y ∷ ys) given d b c low r m =
       subst (λ (o : List A). Sharing 1 o (b ∷ ys) (given ++ c ∷ [])) m.0
@@ -67,6 +73,13 @@ module _ {A C : Type 0} (R : A → A → C → Type 0) where
   shared_lengths (suc i) (x ∷ xs) (y ∷ ys) [] m = absurd m
   shared_lengths (suc i) (x ∷ xs) (y ∷ ys) (z ∷ zs) m =
       let r = shared_lengths i xs ys zs m.1 in ((λ k. suc (r.0 k)), (λ k. suc (r.1 k)))
+
+  pub shared_within : (i : ℕ) (old new : List A) (given : List C) → Sharing i old new given → i ≤ length old
+  shared_within zero old new given m = omega arith
+  shared_within (suc i) [] new given m = absurd m
+  shared_within (suc i) (x ∷ xs) [] given m = absurd m
+  shared_within (suc i) (x ∷ xs) (y ∷ ys) [] m = absurd m
+  shared_within (suc i) (x ∷ xs) (y ∷ ys) (z ∷ zs) m = let rest = shared_within i xs ys zs m.1 in omega (arith, rest)
 
   -- what holds of each that is still as it was
   pub shared_rest : (P : A → Type 0) (i : ℕ) (old new : List A) (given : List C) (d : A) → i < length new → AllByRecursion P old
@@ -104,6 +117,17 @@ module _ {A B : Type 0} (R : A → B → Type 0) where
   matched_next Q (y ∷ ys) x zs (a ∷ old) (b ∷ new) [] d each m = absurd m
   matched_next Q (y ∷ ys) x zs (a ∷ old) (b ∷ new) (c ∷ given) d each m = matched_next Q ys x zs old new given d each.1 m.1
 
+  pub next_low : {C : Type 0} (Q : A → A → C → Type 0) (ys : List B) (x : B) (zs : List B) (old new : List A) (given : List C)
+      → Each2 R old (ys ++ x ∷ zs) → Sharing Q (length ys) old new given → length ys < length new
+  next_low Q [] x zs [] new given each m = absurd each
+  next_low Q [] x zs (a ∷ old) [] given each m = absurd (cc m.0)
+  next_low Q [] x zs (a ∷ old) (b ∷ new) given each m = omega arith
+  next_low Q (y ∷ ys) x zs [] new given each m = absurd each
+  next_low Q (y ∷ ys) x zs (a ∷ old) [] given each m = absurd m
+  next_low Q (y ∷ ys) x zs (a ∷ old) (b ∷ new) [] each m = absurd m
+  next_low Q (y ∷ ys) x zs (a ∷ old) (b ∷ new) (c ∷ given) each m =
+      let rest = next_low Q ys x zs old new given each.1 m.1 in omega (arith, rest)
+
 -- what holds of all holds of the next
 pub all_next : {A : Type 0} (P : A → Type 0) (xs : List A) (x : A) (zs : List A) → AllByRecursion P (xs ++ x ∷ zs) → P x
 all_next P [] x zs all = all.0
@@ -112,3 +136,8 @@ all_next P (y ∷ xs) x zs all = all_next P xs x zs all.1
 pub all_more : {A : Type 0} (P : A → Type 0) (xs : List A) (x : A) → AllByRecursion P xs → P x → AllByRecursion P (xs ++ x ∷ [])
 all_more P [] x all p = (p, tt)
 all_more P (y ∷ xs) x all p = (all.0, all_more P xs x all.1 p)
+
+pub all_map_more : {A B : Type 0} (f : A → B) (P : B → Type 0) (xs : List A) (x : A) → AllByRecursion P (map f xs) → P (f x)
+    → AllByRecursion P (map f (xs ++ x ∷ []))
+all_map_more f P [] x all p = (p, tt)
+all_map_more f P (y ∷ xs) x all p = (all.0, all_map_more f P xs x all.1 p)

@@ -42,8 +42,18 @@ pub record PoolView (S : Type 0) : Type 0 where
 abbrev pub lanes_of : {S : Type 0} → List (BerthView S) → List (LaneId (Sink S))
 lanes_of {S} bs = map (λ (b : BerthView S). b.lane) bs
 
+-- a seat at a sink that made nothing
+pub record IsUnused {S : Type 0} (b : BerthView S) : Type 0 where
+  pub joined : b.seat.known.joined ≡ []
+  pub own : b.seat.known.own ≡ []
+  pub faults : b.faults ≡ 0
+
+-- one with one part
+abbrev pub IsNew : {S : Type 0} → BerthView S → Type 0
+IsNew b = (b.seat.known.parts ≡ 1) × IsUnused b
+
 -- Where so many producers were made, and so many workers hired, each of which got one part of all that it uses: the parts that
--- are left, and those, are all.
+-- are left, and those, are all. The pool itself made nothing with its own.
 pub record HasLeft {S : Type 0} (shared : Shared) (pass : PassView Item no_note) (losses : book.SeatView)
     (berths : List (BerthView S)) (keepings : List KeepingView) (made hired limit : ℕ) : Type 0 where
   pub pass_is : IsPassOf shared.ring pass
@@ -58,13 +68,9 @@ pub record HasLeft {S : Type 0} (shared : Shared) (pass : PassView Item no_note)
   pub queued : shared.ring.limit.most ≡ limit
   pub limits : (LEAST_TEXT_LIMIT ≤ limit) × (limit ≤ MOST_TEXT_LIMIT)
   pub few : (made ≤ MOST_PRODUCERS) × (hired ≤ MOST_WORKERS)
-
--- the seat at a sink has one part, and made nothing
-pub record IsNew {S : Type 0} (b : BerthView S) : Type 0 where
-  pub parts : b.seat.known.parts ≡ 1
-  pub joined : b.seat.known.joined ≡ []
-  pub own : b.seat.known.own ≡ []
-  pub faults : b.faults ≡ 0
+  pub pass_unused : (pass.known.own ≡ []) × (pass.known.joined ≡ [])
+  pub losses_unused : (losses.known.own ≡ []) × (losses.known.joined ≡ [])
+  pub berths_unused : AllByRecursion IsUnused berths
 
 -- A worker of this pool that begins: it shares what all share, has a place at each sink, and made nothing.
 pub record Begins {S : Type 0} (shared : Shared) (lanes : List (LaneId (Sink S))) (most : ℕ) (h : Hand S) : Type 0 where
@@ -101,7 +107,7 @@ module _ {S : Type 0} where
     pub ring_is : (arc_value g.shared).ring ≡ ring
     pub loggers : (arc_value g.shared).loggers ≡ setup.loggers.loggers
     pub pass : g.pass.known ≡ first_known ring.places ring.first
-    pub lanes : map (λ (b : BerthView S). b.lane.first) g.berths.items ≡ setup.sinks.items
+    pub sinks : map (λ (l : LaneId (Sink S)). l.first) (lanes_of g.berths.items) ≡ setup.sinks.items
     pub workers : g.workers ≡ setup.workers
     pub most : g.tickets_max ≡ setup.tickets_max
     pub limit : g.text_limit ≡ setup.text_limit

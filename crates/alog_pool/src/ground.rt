@@ -9,6 +9,7 @@ ghost use Rattle.alog_pool.specs.Berth.{Suits};
 ghost use Rattle.alog_pool.specs.Keeping.{KeepingView};
 ghost use Rattle.alog_pool.specs.Places.{AreSpare, Each2, Each3, IsFirst, IsFirstKeeping, IsPart};
 ghost use Rattle.alog_pool.specs.Pool.{Begins, Fits, IsGround, Staffs, Stands, Hires, lanes_of};
+ghost use Rattle.alog_pool.specs.Working.{HasWorked, IsAtWork};
 ghost use Rattle.alog_pool.specs.declared.pool.TheConstants.{MOST_WORKERS};
 ghost use Rattle.alog_ring.specs.Known.{IsPassOf, first_known};
 
@@ -110,7 +111,7 @@ impl<S: Store + Drop + Send + 'static> Ground<S> {
 
     /// Starts its workers. Where one cannot be started, those that were end without taking an item.
     pub(crate) fn staff<
-        R: Threads + Wait + Clock + Copy + Send + 'static,
+        R: Threads + Wait + Clock + Clone + Drop + Send + 'static,
         G: Gate + Send + Sync + Drop + 'static,
     >(self, rt: &R, gate: G) -> Result<Pool<S>, AllocError>
         requires stands { Stands 0 self }
@@ -169,10 +170,11 @@ impl<S: Store + Drop + Send + 'static> Ground<S> {
 
     /// Starts one more worker.
     fn hire<
-        R: Threads + Wait + Clock + Copy + Send + 'static,
+        R: Threads + Wait + Clock + Clone + Drop + Send + 'static,
         G: Gate + Send + Sync + Drop + 'static,
     >(&mut self, rt: &R, gate: &Arc<G>, number: u32) -> Result<Worker<S>, AllocError>
-        requires { (n : ℕ) × Stands n self.old × (n < MOST_WORKERS) }
+        requires stands { (n : ℕ) × Stands n self.old × (n < MOST_WORKERS) }
+        requires workers { self.old.workers ≤ MOST_WORKERS }
         ensures { (n : ℕ) → Stands n self.old → n < MOST_WORKERS → IfOk result (λ h. Hires n self.old self.new h.promise.start.value) }
     {
         let gate = Arc::try_clone(gate)?;
@@ -180,8 +182,16 @@ impl<S: Store + Drop + Send + 'static> Ground<S> {
         let promise = Works {
             start: Snapshot::of(&hand),
         };
-        let own = *rt;
-        match thread::spawn_with(rt, promise, move || work_alone(own, gate, hand)) {
+        let own = rt.clone()?;
+        let worker = thread::spawn_with(
+            rt,
+            promise,
+            move || -> Hand<S>
+                requires { IsAtWork hand hand }
+                ensures { HasWorked hand result }
+            { work_alone(own, gate, hand) },
+        );
+        match worker {
             Ok(worker) => Ok(worker),
             Err(_) => Err(AllocError),
         }
@@ -189,7 +199,8 @@ impl<S: Store + Drop + Send + 'static> Ground<S> {
 
     /// What one more worker works with.
     fn hand(&mut self, number: u32) -> Result<Hand<S>, AllocError>
-        requires { (n : ℕ) × Stands n self.old × (n < MOST_WORKERS) }
+        requires stands { (n : ℕ) × Stands n self.old × (n < MOST_WORKERS) }
+        requires workers { self.old.workers ≤ MOST_WORKERS }
         ensures { (n : ℕ) → Stands n self.old → n < MOST_WORKERS → IfOk result (λ h. Hires n self.old self.new h) }
     {
         let shared = Arc::try_clone(&self.shared)?;

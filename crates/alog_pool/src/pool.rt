@@ -76,7 +76,7 @@ impl<S: Store + Drop + Send + 'static> Pool<S> {
     ///
     /// The reasons for a refusal are looked at in the order of `StartError`; what was handed over is dropped then.
     pub fn start<
-        R: Threads + Wait + Clock + Copy + Send + 'static,
+        R: Threads + Wait + Clock + Clone + Drop + Send + 'static,
         G: Gate + Send + Sync + Drop + 'static,
     >(rt: &R, alloc: Global, setup: Setup<S>, gate: G) -> Result<Pool<S>, StartError>
         requires { Fits setup }

@@ -20,7 +20,7 @@ impl<S: Store> Promise<Hand<S>> for Works<S> {
 }
 
 /// Works with this hand, on a thread of its own.
-pub(crate) fn work_alone<R: Wait + Clock + Copy, S: Store, G: Gate + Drop>(
+pub(crate) fn work_alone<R: Wait + Clock + Drop, S: Store, G: Gate + Drop>(
     rt: R,
     gate: Arc<G>,
     hand: Hand<S>,

@@ -1,0 +1,69 @@
+use Rattle.std.proofs.Common.{◌≤◌, ◌+◌, length, ap, sym, subst, ◌∙◌, arith}
+use Rattle.std.specs.Arc.{arc_value}
+use Rattle.alog_pool.specs.Places.{IsKeepingPart}
+use Rattle.alog_pool.specs.declared.shared.Shared.{Shared}
+use Rattle.alog_pool.proofs.Hiring.{fresh_part, one_less, still_own}
+use Rattle.alog_pool.proofs.Parts.{each3_lengths, keeping_parts_left, keepings_limits}
+use Rattle.alog_pool.proofs.Posting.{new_account}
+use Rattle.alog_pool.proofs.pool.Pool.producer.Goals as goal
+use Rattle.alog_policy.specs.BookCalls.{IsSeatOf}
+use Rattle.alog_ring.specs.Known.{IsPassOf}
+use Rattle.alog_ring.specs.declared.TheConstants.{ALL_PARTS}
+
+pub invariant_of-producer : goal.invariant_of-producer
+invariant_of-producer g c =
+    let inside = c.self.inside in
+    let left = c.self.invariant.left in
+    let old = inside.keepings.items in
+    let new = c.share_keepings.new.keepings.items in
+    let given = c.share_keepings.new.given.items in
+    let each = c.share_keepings.ensures in
+    let fresh = fresh_part inside.pass c.split.new.pass c.split.result c.split.ensures.split in
+    let seat = c.split-2.ensures.split.new_seat in
+    record {
+      pass = subst (λ (s : Shared). IsPassOf s.ring c.split.result) c.deref-2.ensures c.split.ensures.ring.1;
+      losses_are = subst (λ (s : Shared). IsSeatOf s.book c.split-2.result) c.deref-3.ensures c.split-2.ensures.seat.1;
+      each = (each3_lengths IsKeepingPart old new given each).1 ∙ left.each ∙ ap (λ (s : Shared). length s.loggers) (sym c.in-Ok.ensures);
+      kept = (keepings_limits inside.text_limit old new given each left.kept).1;
+      queued = ap (λ (s : Shared). s.ring.limit.most) c.in-Ok.ensures ∙ left.queued;
+      limits = left.limits;
+      account = new_account c.split.result.known c.split-2.result.known fresh.parts fresh.joined fresh.own (ap (λ k. k.parts) seat)
+          (ap (λ k. k.joined) seat) (ap (λ k. k.own) seat);
+    }
+
+pub invariant_of-self : goal.invariant_of-self
+invariant_of-self g c =
+    let inside = c.self.inside in
+    let left = c.self.invariant.left in
+    let old = inside.keepings.items in
+    let new = c.share_keepings.new.keepings.items in
+    let given = c.share_keepings.new.given.items in
+    let each = c.share_keepings.ensures in
+    let more = c.if-self-ge-MOST_PRODUCERS.false in
+    let hired = left.few.1 in
+    let parts = left.pass_parts in
+    let losses = left.losses_parts in
+    let kept = c.split-2.ensures.split.kept in
+    let kept_parts = ap (λ k. k.parts) kept in
+    let own = still_own inside.pass c.split.new.pass c.split.result c.split.ensures.split in
+    let less = one_less inside.pass c.split.new.pass c.split.result _ ALL_PARTS c.split.ensures.split (omega (arith, more, hired, parts)) parts in
+    record {
+      left = record {
+        pass_is = subst (λ (s : Shared). IsPassOf s.ring c.split.new.pass) (c.deref-2.ensures ∙ c.in-Ok.ensures) c.split.ensures.ring.0;
+        pass_parts = omega (arith, less);
+        losses_are = subst (λ (s : Shared). IsSeatOf s.book c.split-2.new.seat) (c.deref-3.ensures ∙ c.in-Ok.ensures) c.split-2.ensures.seat.0;
+        losses_parts = omega (arith, losses, kept_parts, more);
+        berth_parts = left.berth_parts;
+        berth_limits = left.berth_limits;
+        keeping_parts = keeping_parts_left inside.made old new given (omega (arith, more)) each left.keeping_parts;
+        each = (each3_lengths IsKeepingPart old new given each).0 ∙ left.each;
+        kept = (keepings_limits inside.text_limit old new given each left.kept).0;
+        queued = left.queued;
+        limits = left.limits;
+        few = (omega (arith, more), hired);
+        pass_unused = (own.0 ∙ left.pass_unused.0, own.1 ∙ left.pass_unused.1);
+        losses_unused = (ap (λ k. k.own) kept ∙ left.losses_unused.0, ap (λ k. k.joined) kept ∙ left.losses_unused.1);
+        berths_unused = left.berths_unused;
+      };
+      began = c.self.invariant.began;
+    }
