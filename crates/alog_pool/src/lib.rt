@@ -1,5 +1,5 @@
-//! What the workers and the producers of a pool do: workers pop items with waiting, and make the turns that each item asks for;
-//! request threads log with a producer.
+//! A pool: workers on threads of their own pop items with waiting, and make the turns that each item asks for; request threads
+//! log with a producer.
 //!
 //! A `Hand` is what one worker works with: a pass of the ring, a place at each sink under its lock, a line buffer. `Hand::work`
 //! handles items until the first stop, or until no ticket is left, and says in terms of the pass's own entries what was taken
@@ -11,10 +11,15 @@
 //!
 //! A `Producer` has a pass of the ring, a seat of the loss book and a place at the backtrace of each logger (`Keeping`). Each of
 //! its calls is one of `Loggers` on what it lends (`specs/Producer.antt`, `Keeping.antt`). The law `no_work_is_left` says that no
-//! text is left where workers have ended (`specs/Ending.antt`). The pool itself, which starts workers and makes producers, is not
-//! here yet.
+//! text is left where workers have ended (`specs/Ending.antt`).
 //!
-//! Read `gate.rt`, `shared.rt`; then `hand.rt`, `berth.rt`, `rest.rt` (how a worker waits); then `producer.rt`, `keeping.rt`.
+//! `Pool::start` makes a `Ground`, which is all but the workers, and hires them one by one: each gets a part of the pool's pass and
+//! a part of its place at each sink, and promises what `Hand::work` does (`Works`). `Pool::producer` gives parts away as well. What
+//! is left of the parts is known by their numbers (`specs/Pool.antt`). The end of a pool is not here yet; what will be known then
+//! stands in `specs/Ended.antt`.
+//!
+//! Read `gate.rt`, `shared.rt`; then `hand.rt`, `berth.rt`, `rest.rt` (how a worker waits); then `producer.rt`, `keeping.rt`; then
+//! `setup.rt`, `ground.rt`, `works.rt`, `pool.rt`.
 #![tactic(auto)]
 
 mod berth;
@@ -25,6 +30,8 @@ mod hand;
 mod keeping;
 mod laws;
 mod pool;
+#[cfg(test)]
+mod pool_tests;
 mod producer;
 #[cfg(test)]
 mod producer_tests;

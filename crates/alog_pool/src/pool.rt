@@ -33,7 +33,7 @@ pub const MOST_WORKERS: usize = 64;
 pub const MOST_PRODUCERS: u64 = 4_096;
 
 /// Workers that write lines on threads of their own, and what producers are made of. A pool that is dropped leaves its workers
-/// waiting: end it by `shutdown`.
+/// waiting.
 #[derive(Drop)]
 pub struct Pool<S: Store> {
     pub(crate) alloc: Global,

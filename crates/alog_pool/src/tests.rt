@@ -45,7 +45,7 @@ pub fn loggers(rt: &impl Abort, alloc: Global, backtrace: usize) -> Result<Logge
     }
 }
 
-fn face(alloc: Global) -> Result<Face, Fail>
+pub fn face(alloc: Global) -> Result<Face, Fail>
     ensures { IfOk result (λ f. f.pattern.text_limit ≡ TEXT_LIMIT) }
 {
     Ok(Face {
@@ -60,7 +60,7 @@ fn face(alloc: Global) -> Result<Face, Fail>
 }
 
 // A sink in memory, whose lines go to the file `log`.
-fn sink(rt: &impl Abort, alloc: Global, face: Face) -> Sink<MemStore>
+pub fn sink(rt: &impl Abort, alloc: Global, face: Face) -> Sink<MemStore>
     requires { face.pattern.text_limit ≡ TEXT_LIMIT }
     ensures { Suits TEXT_LIMIT result }
 {
