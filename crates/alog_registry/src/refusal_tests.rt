@@ -32,6 +32,7 @@ fn refuses<O: Carry>(
     requires known { 0 < length loggers.now }
     requires outlet { O.is_ready outlet.old × AdmitsShort O.admits TEXT_LIMIT outlet.old }
     requires kept { TEXT_LIMIT ≤ kept.old.limit }
+    ensures { O.is_ready outlet.new × AdmitsShort O.admits TEXT_LIMIT outlet.new }
 {
     let text = Err(MessageError::TextTooLong);
     tells(rt, loggers, alloc, outlet, kept, long, text);
@@ -81,10 +82,10 @@ fn refused_messages(rt: HostRuntime) -> Result<(), Fail> {
     };
     let loggers = one(&rt, alloc, Policy::Block, 1)?;
     let mut desk = Desk::<Item>::new(alloc, 2, 0)?;
-    let mut kept = Backtrace::new(alloc, 1)?;
+    let (mut kept, mut none) = (Backtrace::new(alloc, 1)?, Backtrace::new(alloc, 0)?);
     let mut outlet = desk.outlet(1)?;
     refuses(&rt, &loggers, alloc, &mut outlet, &mut kept, long);
     let bare = one(&rt, alloc, Policy::Block, 0)?;
-    looks_at_none_below(&rt, &bare, alloc, &mut outlet, &mut kept, long);
+    looks_at_none_below(&rt, &bare, alloc, &mut outlet, &mut none, long);
     Ok(())
 }
