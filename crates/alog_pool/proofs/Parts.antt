@@ -1,8 +1,8 @@
 -- The parts that a pool has left, when places gave one away.
-use Rattle.std.proofs.Common.{◌≡◌, ◌<◌, ◌≤◌, ℕ, suc, ◌+◌, List, [], ◌∷◌, length, map, refl, sym, ap, subst, ◌∙◌, arith}
+use Rattle.std.proofs.Common.{◌≡◌, ◌<◌, ℕ, suc, ◌+◌, List, [], ◌∷◌, length, refl, ap, ◌∙◌, arith}
 use Rattle.std.specs.List.{AllByRecursion}
 use Rattle.alog_lane.specs.declared.seat.TheConstants.{ALL_PARTS}
-use Rattle.alog_pool.specs.Berth.{BerthView, place_of, places_of}
+use Rattle.alog_pool.specs.Berth.{BerthView}
 use Rattle.alog_pool.specs.Keeping.{KeepingView}
 use Rattle.alog_pool.specs.Places.{Each3, IsPart, IsKeepingPart, AreSpare}
 use Rattle.alog_pool.specs.Pool.{IsNew, IsUnused, lanes_of}

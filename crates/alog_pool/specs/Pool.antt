@@ -1,16 +1,14 @@
 -- A pool: what it stands on, and what starting one and making a producer are.
-use Rattle.std.specs.Prelude.{◌≡◌, ◌≤◌, ◌<◌, ℕ, ◌+◌, List, [], ◌∷◌, ◌++◌, length, map}
+use Rattle.std.specs.Prelude.{◌≡◌, ◌≤◌, ℕ, ◌+◌, List, [], length, map}
 use Rattle.std.specs.Arc.{arc_value}
 use Rattle.std.specs.List.{AllByRecursion}
-use Rattle.alog_core.specs.History.{Entry}
 use Rattle.alog_lane.specs.Calls.{LaneId}
 use Rattle.alog_lane.specs.declared.seat.TheConstants.{ALL_PARTS as ALL_SEATS}
 use Rattle.alog_msg.specs.declared.item.Item.{Item}
 use Rattle.alog_msg.specs.declared.limits.TheConstants.{LEAST_TEXT_LIMIT, MOST_TEXT_LIMIT}
 use Rattle.alog_policy.specs.BookCalls as book
-use Rattle.alog_pool.specs.Berth.{BerthView, Suits, places_of}
+use Rattle.alog_pool.specs.Berth.{BerthView, Suits}
 use Rattle.alog_pool.specs.Keeping.{KeepingView}
-use Rattle.alog_pool.specs.Places.{IsFirst}
 use Rattle.alog_pool.specs.Producer.{ProducerView, AreKeepings}
 use Rattle.alog_pool.specs.Working.{IsAtWork, IsFresh}
 use Rattle.alog_pool.specs.declared.ground.Ground.{Ground}

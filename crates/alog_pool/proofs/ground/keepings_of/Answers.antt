@@ -1,4 +1,4 @@
-use Rattle.std.proofs.Common.{◌≡◌, List, [], ◌∷◌, ◌++◌, length, ap, sym, subst, arith}
+use Rattle.std.proofs.Common.{List, length, ap, sym, subst, arith}
 use Rattle.std.specs.List.{AllByRecursion}
 use Rattle.alog_pool.specs.Keeping.{KeepingView}
 use Rattle.alog_pool.specs.Places.{IsFirstKeeping}

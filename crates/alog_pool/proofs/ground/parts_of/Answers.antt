@@ -1,6 +1,6 @@
-use Rattle.std.proofs.Common.{◌≡◌, ◌<◌, ◌+◌, ℕ, suc, List, [], ◌∷◌, ◌++◌, length, slice_set, sym, subst, arith}
+use Rattle.std.proofs.Common.{◌≡◌, ◌<◌, ◌+◌, suc, List, [], ◌∷◌, ◌++◌, length, slice_set, sym, subst, arith}
 use Rattle.alog_pool.specs.Berth.{BerthView}
-use Rattle.alog_pool.specs.Places.{Each3, IsPart}
+use Rattle.alog_pool.specs.Places.{IsPart}
 use Rattle.alog_pool.proofs.Sharing.{Sharing, share_one, share_all, shared_lengths, shared_rest, shared_within}
 use Rattle.alog_pool.proofs.ground.parts_of.Goals as goal
 

@@ -1,11 +1,9 @@
-use Rattle.std.proofs.Common.{◌≤◌, ◌<◌, ◌+◌, List, ap, refl, sym, subst, ◌∙◌, arith}
+use Rattle.std.proofs.Common.{List, ap, refl, sym, subst, ◌∙◌, arith}
 use Rattle.std.specs.Arc.{arc_value}
 use Rattle.alog_core.specs.Accounts.{taken}
 use Rattle.alog_core.specs.History.{Entry}
 use Rattle.alog_msg.specs.declared.item.Item.{Item}
 use Rattle.alog_pool.specs.Accounts.{of_stops}
-use Rattle.alog_pool.specs.Berth.{BerthView}
-use Rattle.alog_pool.specs.Places.{IsPart}
 use Rattle.alog_pool.specs.Working.{IsWorkOf}
 use Rattle.alog_pool.specs.declared.shared.Shared.{Shared}
 use Rattle.alog_pool.proofs.Hiring.{fresh_part, fresh_work, limited, one_less, still_own}

@@ -1,5 +1,4 @@
-use Rattle.std.proofs.Common.{◌≡◌, length, ap, refl, sym, subst, ◌∙◌, arith}
-use Rattle.std.specs.Arc.{arc_value}
+use Rattle.std.proofs.Common.{length, ap, refl, sym, subst, ◌∙◌, arith}
 use Rattle.alog_pool.proofs.Grounding.{first_lanes, first_limits, first_parts, first_unused, keepings_kept, keepings_parts}
 use Rattle.alog_pool.specs.declared.shared.Shared.{Shared}
 use Rattle.alog_pool.proofs.ground.Ground.new.Goals as goal
