@@ -153,3 +153,21 @@ fn a_worker_makes_room(rt: HostRuntime) -> Result<(), Fail> {
     assert!(rt; logged(&rt, alloc, &mut one) == spent);
     Ok(())
 }
+
+// A pool makes 4,096 producers, and no further one. Its only ticket is used up, so that its worker ends.
+#[test]
+fn no_4097th_producer(rt: HostRuntime) -> Result<(), Fail> {
+    let alloc = rt.alloc();
+    let last = (1 << 62) - 1;
+    let mut pool = started(&rt, alloc, setup(&rt, alloc, 2, last, 1)?);
+    let mut first = made(&rt, &mut pool);
+    assert!(rt; logged(&rt, alloc, &mut first) == posted(last));
+    for number in 1..MOST_PRODUCERS {
+        match pool.producer() {
+            Ok(producer) => assert!(rt; producer.number() == number),
+            Err(_) => panic!(rt; "no producer"),
+        }
+    }
+    assert!(rt; matches!(pool.producer(), Err(ProducerError::TooMany)));
+    Ok(())
+}
