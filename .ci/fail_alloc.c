@@ -1,22 +1,19 @@
-/* Loaded before the C library: the Nth allocation of the program fails, N from FAIL_ALLOC, and at the end the number of
-   allocations is written to the file ALLOCS. */
+/* Loaded before the C library: the Nth allocation of the program fails, N from FAIL_ALLOC, and the Nth start of a thread, N from
+   FAIL_THREAD; at the end the numbers of allocations and of starts are written to the file ALLOCS. */
 #define _GNU_SOURCE
 #include <dlfcn.h>
 #include <errno.h>
+#include <pthread.h>
+#include <stdatomic.h>
 #include <stdio.h>
 #include <stdlib.h>
 
-static long count;
+static atomic_long allocations, starts;
 
-static int fails(void)
+static int fails(atomic_long *count, const char *name)
 {
-    static long failing = -1;
-    if (failing < 0) {
-        const char *number = getenv("FAIL_ALLOC");
-        failing = number ? atol(number) : 0;
-    }
-    count++;
-    return count == failing;
+    const char *number = getenv(name);
+    return atomic_fetch_add(count, 1) + 1 == (number ? atol(number) : 0);
 }
 
 void *malloc(size_t size)
@@ -24,7 +21,7 @@ void *malloc(size_t size)
     static void *(*next)(size_t);
     if (!next)
         next = dlsym(RTLD_NEXT, "malloc");
-    return fails() ? NULL : next(size);
+    return fails(&allocations, "FAIL_ALLOC") ? NULL : next(size);
 }
 
 void *realloc(void *old, size_t size)
@@ -32,7 +29,7 @@ void *realloc(void *old, size_t size)
     static void *(*next)(void *, size_t);
     if (!next)
         next = dlsym(RTLD_NEXT, "realloc");
-    return fails() ? NULL : next(old, size);
+    return fails(&allocations, "FAIL_ALLOC") ? NULL : next(old, size);
 }
 
 void *aligned_alloc(size_t align, size_t size)
@@ -40,7 +37,7 @@ void *aligned_alloc(size_t align, size_t size)
     static void *(*next)(size_t, size_t);
     if (!next)
         next = dlsym(RTLD_NEXT, "aligned_alloc");
-    return fails() ? NULL : next(align, size);
+    return fails(&allocations, "FAIL_ALLOC") ? NULL : next(align, size);
 }
 
 int posix_memalign(void **made, size_t align, size_t size)
@@ -48,16 +45,38 @@ int posix_memalign(void **made, size_t align, size_t size)
     static int (*next)(void **, size_t, size_t);
     if (!next)
         next = dlsym(RTLD_NEXT, "posix_memalign");
-    return fails() ? ENOMEM : next(made, align, size);
+    return fails(&allocations, "FAIL_ALLOC") ? ENOMEM : next(made, align, size);
 }
 
-__attribute__((destructor)) static void tell(void)
+int pthread_create(pthread_t *made, const pthread_attr_t *attributes, void *(*start)(void *), void *argument)
 {
-    long made = count;
+    static int (*next)(pthread_t *, const pthread_attr_t *, void *(*)(void *), void *);
+    if (!next)
+        next = dlsym(RTLD_NEXT, "pthread_create");
+    return fails(&starts, "FAIL_THREAD") ? EAGAIN : next(made, attributes, start, argument);
+}
+
+static void tell(void)
+{
+    long made = allocations, started = starts;
     const char *name = getenv("ALLOCS");
     FILE *file = name ? fopen(name, "w") : NULL;
     if (file) {
-        fprintf(file, "%ld\n", made);
+        fprintf(file, "%ld %ld\n", made, started);
         fclose(file);
     }
+}
+
+__attribute__((destructor)) static void at_end(void)
+{
+    tell();
+}
+
+/* a program of tests ends so */
+void _exit(int status)
+{
+    void (*next)(int) = dlsym(RTLD_NEXT, "_exit");
+    tell();
+    next(status);
+    abort();
 }

@@ -1,9 +1,9 @@
 """What `check` needs beside `rt ci`: processor seconds by crate and phase, and the wrong bodies that no gate tries.
 
-gate.py run FILE WORD..   runs a command, and writes to FILE what it and each prover below it have used
+gate.py run FILE WORD..   runs a command, and writes to FILE, each minute and at its end, what it and each prover below it have used
 gate.py times FILE        prints the processor seconds of the last gate by crate and phase, beside the budget
-gate.py applies           says which wrong bodies no longer apply, which crates have more edits than the gate tries, and
-                          which files of examples/ the tests of alog do not have
+gate.py applies           says which wrong bodies no longer apply, which crates have more edits than the gate tries or a file
+                          that is not laid out, and which files of examples/ the tests of alog do not have
 gate.py wrong [NAME..]    tries the wrong bodies of these crates, or of all, on a copy of the repository: many at once, each in a
                           function of its own (rounds.py), and alone what was not refused so
 """
@@ -65,23 +65,31 @@ def below(top):
 
 
 def run(file, words):
-    """Runs a command and samples what its provers use. What ends between two samples is in the sum of all alone."""
+    """Runs a command and samples what its provers use, and writes it each minute. What ends between two samples is in the sum of all alone."""
     ran = subprocess.Popen(words, stdin=subprocess.DEVNULL)
-    labels, used = {}, {}
+    labels, used, due = {}, {}, 0
     while ran.poll() is None:
         for pid, (_, seconds, start) in below(ran.pid).items():
             label = labels.get((pid, start)) or label_of(pid)
             if label:
                 labels[pid, start], used[pid, start] = label, seconds
+        if time.monotonic() > due:
+            write(file, labels, used, sum(used.values()))
+            due = time.monotonic() + 60
         time.sleep(0.2)
     spent = resource.getrusage(resource.RUSAGE_CHILDREN)
+    write(file, labels, used, spent.ru_utime + spent.ru_stime)
+    return ran.returncode
+
+
+def write(file, labels, used, spent):
+    """Writes what the provers have used, by crate and phase, and what all has."""
     sums = {}
     for process, seconds in used.items():
         crate, phase = labels[process]
         sums.setdefault(crate, dict.fromkeys(PHASES, 0.0))[phase] += seconds
     with open(file, "w") as it:
-        json.dump({"crates": sums, "all": spent.ru_utime + spent.ru_stime}, it)
-    return ran.returncode
+        json.dump({"crates": sums, "all": spent}, it)
 
 
 def times(file):
@@ -145,6 +153,18 @@ def untested():
     return [f"{it} is not in the tests of alog" for it in files if f'r#"{text_of(it)}"#;' not in tests]
 
 
+def badly_laid_out(crates):
+    """Returns what is said of each crate with a file that `rt fmt` would change: the gate proves nothing of such a crate."""
+    rattle = os.path.join(os.path.dirname(os.path.realpath(shutil.which("rt"))), "rattle")
+    faults = []
+    for crate in crates:
+        files = [it for part in ("src", "specs", "proofs") for it in glob.glob(f"{crate}/{part}/**/*", recursive=True) if it.endswith((".rt", ".antt"))]
+        ran = subprocess.run([rattle, "fmt", "--check", *files], stdout=subprocess.PIPE, stderr=subprocess.STDOUT, text=True, errors="replace")
+        if ran.returncode:
+            faults.append(f"{crate}: run rt fmt there: {' '.join(ran.stdout.split())[:300]}")
+    return faults
+
+
 def text_of(file):
     with open(file, encoding="utf-8") as it:
         return it.read()
@@ -159,7 +179,7 @@ def applies():
     crates = sorted(glob.glob("crates/*"))
     counts = [(crate, len(edits_in(f"{crate}/must-fail"))) for crate in crates]
     many = [f"{crate}/must-fail has {count} edits: at most {MOST_EDITS} stand there, the others in {crate}/wrong" for crate, count in counts if count > MOST_EDITS]
-    return tell(many + stale(crates) + untested())
+    return tell(many + stale(crates) + badly_laid_out(crates) + untested())
 
 
 def one_by_one(crate, room, edits):

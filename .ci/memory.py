@@ -1,7 +1,9 @@
-"""Makes each allocation of the proved and built program fail in turn, on the scripts and configurations of examples/.
+"""Makes each allocation of the proved and built program fail in turn, on the scripts and configurations of examples/, and each
+allocation and each start of a thread of the tests that bear any one of them failing.
 
 Where one fails, the program must end with status 4, its one line on standard error, and a front of what it prints otherwise; or
-with status 0 and what it prints otherwise, in which a line of a sink may be a fault. Needs a C compiler, `cc`, beside `rt`.
+with status 0 and what it prints otherwise, in which a line of a sink may be a fault. A test must pass, each of so many times, since
+threads go on in another order each time. Needs a C compiler, `cc`, beside `rt`.
 """
 import collections
 import glob
@@ -12,6 +14,9 @@ import tempfile
 
 PROGRAM = "crates/alog/out/alog"
 REFUSED = b"alog: refused 1\n"
+# the tests that bear it, by their crates, and how many times each is run for one failure
+TESTS = [("alog_pool", "memory_tests::want_of_memory")]
+TIMES = 10
 
 
 def cases():
@@ -33,7 +38,7 @@ def run(room, words, given, number):
     """Runs the program so that an allocation fails; returns what it did, and how many allocations it made."""
     env = {**os.environ, "LD_PRELOAD": f"{room}/fail_alloc.so", "FAIL_ALLOC": str(number), "ALLOCS": f"{room}/allocs"}
     ran = subprocess.run([f"./{PROGRAM}", *words], input=given, capture_output=True, env=env, timeout=60)
-    return ran, int(bytes_of(f"{room}/allocs"))
+    return ran, int(bytes_of(f"{room}/allocs").split()[0])
 
 
 def outcome(ran, whole):
@@ -63,11 +68,34 @@ def sweep(room, words, given, whole):
     return not bad
 
 
+def passes(room, crate, test, kind, number):
+    """Runs a test so that the call of this kind and number fails; returns whether it passed, and the numbers of both kinds that it made."""
+    env = {**os.environ, "LD_PRELOAD": f"{room}/fail_alloc.so", kind: str(number), "ALLOCS": f"{room}/calls"}
+    ran = subprocess.run([f"crates/{crate}/out/{crate}_tests", test], capture_output=True, env=env, timeout=60)
+    made, started = map(int, bytes_of(f"{room}/calls").split())
+    return ran.returncode == 0 and b"test result: ok" in ran.stdout, made if kind == "FAIL_ALLOC" else started
+
+
+def sweep_test(room, crate, test, kind, name):
+    """Makes each call of this kind that a test makes fail in turn, tells what came of it, and returns whether all is well."""
+    bad, number, most = [], 1, 1
+    while number <= most:
+        runs = [passes(room, crate, test, kind, number) for _ in range(TIMES)]
+        bad += [number] * (not all(well for well, _ in runs))
+        most = max(made for _, made in runs)
+        number += 1
+    print(f"memory: {crate} {test}: {number - 1} {name}, {TIMES} times each" + (f"; wrong at {bad}" if bad else ""), flush=True)
+    return not bad
+
+
 def main():
     subprocess.run(["./alog", "check", "examples/one_file.toml"], stdout=subprocess.DEVNULL, check=True)
     with tempfile.TemporaryDirectory(prefix="alog-memory-") as room:
         subprocess.run(["cc", "-shared", "-fPIC", "-O1", "-o", f"{room}/fail_alloc.so", ".ci/fail_alloc.c", "-ldl"], check=True)
         well = [sweep(room, *it) for it in cases()]
+        for crate, test in TESTS:
+            subprocess.run(["rt", "test"], cwd=f"crates/{crate}", stdout=subprocess.DEVNULL, check=True)
+            well += [sweep_test(room, crate, test, "FAIL_ALLOC", "allocations"), sweep_test(room, crate, test, "FAIL_THREAD", "starts of threads")]
     return 0 if all(well) else 1
 
 

@@ -1,3 +1,4 @@
 pub mod Statuses
 pub mod Commands
 pub mod CommandLines
+pub mod Loading

@@ -5,6 +5,8 @@ pub mod Replays
 pub mod LineError
 pub mod Line
 pub mod Options
+pub mod LoadOptions
 pub mod CommandLine
 pub mod Formats
 pub mod Checks
+pub mod Loaded

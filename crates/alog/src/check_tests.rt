@@ -2,12 +2,33 @@
 use crate::examples::{DAILY_ERRORS, FAN, ONE_FILE, ROTATING};
 use crate::run;
 use crate::script_tests::Narrow;
+use crate::stores::Folders;
 use std::io::Write;
 use std::path::PathBuf;
 use std::process::Abort;
 use std::rt::Files;
+use std::sync::Wait;
 use std::test::Fail;
+use std::thread::Threads;
+use std::time::Clock;
 use std::{env, fs, process};
+
+/// What the whole program runs on.
+pub(crate) trait Host: AllocGlobal
+    + Files
+    + Folders
+    + Threads
+    + Wait
+    + Clock
+    + Clone
+    + Drop
+    + Send
+    + 'static {}
+
+impl<R> Host for R
+where
+    R: AllocGlobal + Files + Folders + Threads + Wait + Clock + Clone + Drop + Send + 'static,
+{}
 
 // The smallest configuration.
 pub(crate) const SMALL: &str =
@@ -23,13 +44,7 @@ pub(crate) fn scratch(rt: &HostRuntime, name: &str) -> Result<PathBuf, Fail> {
 
 /// Runs `alog check` on a file, and checks its status, what it prints, and what it says on standard error: this where it
 /// ends a line, and else how it begins.
-fn says<R: AllocGlobal + Files + Abort>(
-    rt: &R,
-    file: &str,
-    status: u8,
-    printed: &str,
-    error: &str,
-) {
+fn says<R: Host + Abort>(rt: &R, file: &str, status: u8, printed: &str, error: &str) {
     let mut input = b"".as_slice();
     let mut output = Vec::new(rt.alloc());
     let mut errors = Vec::new(rt.alloc());
@@ -43,7 +58,7 @@ fn says<R: AllocGlobal + Files + Abort>(
 }
 
 // The same on a document, in this file.
-fn of_document<R: AllocGlobal + Files + Abort>(
+fn of_document<R: Host + Abort>(
     rt: &R,
     file: &str,
     document: &str,

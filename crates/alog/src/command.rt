@@ -2,7 +2,7 @@
 ghost use Rattle.std.specs.Prelude.{◌≡◌, IfOk, Some, false};
 ghost use Rattle.clap.specs.Words.{app_of, rule_of};
 ghost use Rattle.clap.specs.declared.builder.texts.Texts.TheVariants.{One};
-ghost use Rattle.alog.specs.CommandLine.{alog_app, argument_of, option_of};
+ghost use Rattle.alog.specs.CommandLine.{StandsFor, alog_app, argument_of, load_app, option_of};
 
 use clap::{Arg, Command};
 use std::alloc::{AllocError, Global};
@@ -33,13 +33,28 @@ pub(crate) fn alog<'a>(alloc: Global) -> Result<Command<'a>, AllocError>
         .about("Say whether a file has a configuration, or what is wrong with it")
         .long_about(CHECK_HELP)
         .arg(argument(alloc, "FILE", "The configuration, in TOML"))?;
+    let load = load(alloc)?;
     Command::new(alloc, "alog")
         .version("0.1.0")
         .about("The back end of an asynchronous logger, step by step")
         .subcommand_required(true)
         .subcommand(replay)?
         .subcommand(format)?
-        .subcommand(check)
+        .subcommand(check)?
+        .subcommand(load)
+}
+
+/// The command `alog load`.
+fn load<'a>(alloc: Global) -> Result<Command<'a>, AllocError>
+    ensures { IfOk result (λ command. StandsFor command load_app) }
+{
+    Command::new(alloc, "load")
+        .about("Log from several threads at once, and print what became of it")
+        .long_about(LOAD_HELP)
+        .arg(argument(alloc, "CONFIG", "The configuration, in TOML"))?
+        .arg(option(alloc, "producers", "N", PRODUCERS_HELP))?
+        .arg(option(alloc, "messages", "N", MESSAGES_HELP))?
+        .arg(option(alloc, "folder", "DIR", FOLDER_HELP))
 }
 
 /// An argument that is needed.
@@ -157,3 +172,35 @@ write fault, 4 no memory. A fault prints `alog: refused N` on standard error: 1 
 is taken, 28 no TOML, 29 an unknown key, 30 a bad value, 31 a missing key, 32 an unknown sink, 35 a write
 fault; behind 24 and 29 to 32 stands ` in top`, ` in sink I` or ` in logger I`, with I from 0, and a second
 line says what is wrong.";
+
+const PRODUCERS_HELP: &str = "How many producers, 1 to 64 [1]";
+
+const MESSAGES_HELP: &str = "How many messages each producer logs, 0 to 1000000 [100]";
+
+const FOLDER_HELP: &str = "The folder for the files of the sinks [kept in memory]";
+
+const LOAD_HELP: &str = "Log from several threads at once, and print what became of it.
+
+CONFIG is a configuration, of which `alog check --help` has the keys. Its workers have threads of their
+own, and so has each producer. The producers are numbered from 0, and go round among the loggers: producer
+P logs to the logger whose number is P modulo how many there are. Its messages are numbered from 0 too:
+message I has the text `P I`, the level info, and the time I in nanoseconds since 1970 UTC. When all are
+logged, the workers handle what is left in the queue, and the files are brought to where they are kept.
+
+Five lines are printed, each number modulo 2^64. They count texts, and the flushes that come of flush_on;
+a message below its logger's level is not counted:
+
+  asked N                       posted or discarded
+  posted N                      put into the queue: overrun or handled
+  discarded N                   refused, since the queue was full
+  overrun N                     taken out of the queue by a post, to make room
+  handled N                     taken out of the queue by a worker, and given to the sinks
+
+Without --folder the files of the sinks are kept in memory. With it they are files of the folder DIR, which
+has to be there; lines are written behind what a file has.
+
+Exit status: 0 done, 1 a wrong command line, or a number of producers or messages that is out of its bounds,
+2 a refused configuration, 3 a file that cannot be read, a store that failed or a write fault, 4 no memory.
+A fault prints `alog: refused N` on standard error: 1 no memory, 20 a number that is out of its bounds, 22 a
+store that failed, 35 a write fault. Where a store failed in the course of the load, 22 stands behind the
+five lines. Of a file that is no configuration it says what `alog check` says, and there is no load.";

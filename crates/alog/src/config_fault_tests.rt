@@ -1,12 +1,11 @@
 //! Faults of scripts with a configuration, on the whole program.
-use crate::check_tests::{SMALL, scratch};
+use crate::check_tests::{Host, SMALL, scratch};
 use crate::config_tests::{Said, replays, replays_with};
 use crate::run;
 use crate::script_tests::{Narrow, Trickle, long, refuses};
 use std::alloc::{AllocError, Global};
 use std::path::PathBuf;
 use std::process::Abort;
-use std::rt::Files;
 use std::test::Fail;
 use std::{env, fs, process};
 
@@ -163,7 +162,7 @@ fn files_that_are_no_configuration(rt: HostRuntime) -> Result<(), Fail> {
 }
 
 /// The file cannot be read, and standard error says why.
-fn cannot_be_read<R: AllocGlobal + Files + Abort>(rt: &R, file: &str, error: &str) {
+fn cannot_be_read<R: Host + Abort>(rt: &R, file: &str, error: &str) {
     let mut input = b"refused".as_slice();
     let mut output = Vec::new(rt.alloc());
     let mut errors = Vec::new(rt.alloc());
@@ -190,7 +189,7 @@ const PRINTED: &str =
     "1 claim 0\n1 write 0\n1 posted 0 overran 0\n2 grab 0\n2 take 0 a\n2 line 0 out\n== out out 8\nnet I a\n";
 
 /// Replays a front of the script into a writer of some room, and checks the status and what was written.
-fn trickles<R: AllocGlobal + Files + Abort>(
+fn trickles<R: Host + Abort>(
     rt: &R,
     file: &str,
     fails: bool,

@@ -1,9 +1,8 @@
 //! Scripts with a configuration, on the whole program.
-use crate::check_tests::{SMALL, scratch};
+use crate::check_tests::{Host, SMALL, scratch};
 use crate::run;
 use std::fs;
 use std::process::Abort;
-use std::rt::Files;
 use std::test::Fail;
 
 /// What a run is to answer and to write.
@@ -36,12 +35,7 @@ impl<'a> Said<'a> {
 }
 
 /// Replays a script with the configuration of a file.
-pub(crate) fn replays<R: AllocGlobal + Files + Abort>(
-    rt: &R,
-    file: &str,
-    script: &str,
-    said: Said<'_>,
-) {
+pub(crate) fn replays<R: Host + Abort>(rt: &R, file: &str, script: &str, said: Said<'_>) {
     let mut input = script.as_bytes();
     let mut output = Vec::new(rt.alloc());
     let mut errors = Vec::new(rt.alloc());
@@ -53,7 +47,7 @@ pub(crate) fn replays<R: AllocGlobal + Files + Abort>(
 }
 
 /// Replays a script with this configuration, in this file.
-pub(crate) fn replays_with<R: AllocGlobal + Files + Abort>(
+pub(crate) fn replays_with<R: Host + Abort>(
     rt: &R,
     file: &str,
     document: &str,
@@ -155,7 +149,7 @@ fn a_dump_of_what_was_kept(rt: HostRuntime) -> Result<(), Fail> {
 }
 
 /// Runs the program on these words and a script that prints a line, and checks the status and what is printed.
-fn answers<R: AllocGlobal + Files + Abort>(rt: &R, words: &[&str], status: u8, printed: &str) {
+fn answers<R: Host + Abort>(rt: &R, words: &[&str], status: u8, printed: &str) {
     let mut input = b"log 1 0 net debug x".as_slice();
     let mut output = Vec::new(rt.alloc());
     let mut errors = Vec::new(rt.alloc());

@@ -2,8 +2,9 @@
 //!
 //! `program.rt` has the one public function, `run`: the whole program over any reader and two writers, which answers
 //! the exit status. `words.rt` reads the command line into a request (`request.rt`): `command.rt` has the commands and
-//! their help for `clap`, and `options.rt` reads the values that it found. `line.rt` makes the line of `alog format`,
-//! and `status.rt` says which status and which line on standard error each fault has. `main` collects the words
+//! their help for `clap`, and `options.rt` and `load_options.rt` read the values that it found. `line.rt` makes the line
+//! of `alog format`, `check.rt`, `replay_config.rt` and `load.rt` do what begins with the configuration of a file, and
+//! `status.rt` says which status and which line on standard error each fault has. `main` collects the words
 //! (`arguments.rt`), and hands `run` these and the standard streams.
 #![tactic(auto)]
 
@@ -22,6 +23,10 @@ mod example_tests;
 #[cfg(test)]
 mod examples;
 mod line;
+mod load;
+mod load_options;
+#[cfg(test)]
+mod load_tests;
 mod options;
 mod program;
 mod replay_config;
@@ -29,6 +34,8 @@ mod request;
 #[cfg(test)]
 mod script_tests;
 mod status;
+mod stores;
+mod totals;
 #[cfg(test)]
 mod word_tests;
 mod words;

@@ -212,7 +212,7 @@ fn signed_number(text: &str, least: i64, most: i64) -> Option<i64>
 }
 
 /// A decimal number without a sign, and no more than `most`.
-fn unsigned_number(text: &str, most: u64) -> Option<u64>
+pub(crate) fn unsigned_number(text: &str, most: u64) -> Option<u64>
     ensures { MatchOption result (¬ Allows (Unsigned most) text.now)
         (λ number. Allows (Unsigned most) text.now × (number ≡ digits_value 10 text.now)) }
 {

@@ -1,11 +1,12 @@
 //! The whole program over any reader and two writers.
-ghost use Rattle.std.specs.Prelude.{◌≡◌, ◌≤◌, ◌⊎◌, ◌↔◌, List, map, OnOk};
+ghost use Rattle.std.specs.Prelude.{◌≡◌, ◌≤◌, ◌⊎◌, ◌↔◌, List, map, MatchOption, OnOk};
 ghost use Rattle.std.specs.Io.KnownBytes.{Appends, Keeps};
 ghost use Rattle.clap.specs.Words.{Row, kind_of};
 ghost use Rattle.alog.specs.Checks.{ChecksFile};
-ghost use Rattle.alog.specs.CommandLine.{AsksCheck, AsksFormat, AsksReplayConfig, values_in};
+ghost use Rattle.alog.specs.CommandLine.{AsksCheck, AsksFormat, AsksLoad, AsksReplayConfig, folder_in, values_in};
 ghost use Rattle.alog.specs.Formats.{Formats};
 ghost use Rattle.alog.specs.Line.{WritesLineOf, IsRefused};
+ghost use Rattle.alog.specs.Loaded.{LoadsBy};
 ghost use Rattle.alog.specs.Replays.{Replays, ReplaysFile};
 ghost use Rattle.alog.specs.Status.{status_of};
 ghost use Rattle.alog.specs.Words.{AsksReplay, IsAskedFor};
@@ -13,9 +14,11 @@ ghost use Rattle.alog.specs.Words.{AsksReplay, IsAskedFor};
 use crate::arguments::ArgumentsError;
 use crate::check::check_command;
 use crate::line::line_of;
+use crate::load::load_command;
 use crate::replay_config::replay_config_command;
 use crate::request::{LineRequest, Request};
 use crate::status::{number_of, status_of};
+use crate::stores::Folders;
 use crate::words::{WordsError, read};
 use alog_replay::{ReplayError, replay};
 use alog_sink::{MemStore, Store};
@@ -25,6 +28,9 @@ use std::convert::AsStr;
 use std::io;
 use std::io::{Read, Write};
 use std::rt::Files;
+use std::sync::Wait;
+use std::thread::Threads;
+use std::time::Clock;
 
 /// Runs the program on these words, of which the first is its own name, and answers its exit status: 0 where all was
 /// done, 1 for a wrong command line, 2 for refused input, 3 for a read or write fault, 4 for want of memory.
@@ -32,14 +38,17 @@ use std::rt::Files;
 /// A fault prints its line on `errors`. Help goes to `output`, and a wrong command line writes nothing there.
 /// `alog replay` replays the script of `input`, as `alog_replay::replay` does, or with `--config` on the configuration of
 /// a file, as `replay_config` does; where that file has none, nothing is read of the script and nothing is written on
-/// `output`. `alog format` writes the line that its arguments ask for.
-pub fn run<R: AllocGlobal + Files, S: AsStr, I: Read, O: Write, E: Write>(
+/// `output`. `alog format` writes the line that its arguments ask for. `alog load` makes a load, as `alog_load::load` does,
+/// and writes its totals; no other command starts threads.
+pub fn run<R, S: AsStr, I: Read, O: Write, E: Write>(
     rt: &R,
     words: &[S],
     input: &mut I,
     output: &mut O,
     errors: &mut E,
 ) -> u8
+where
+    R: AllocGlobal + Files + Folders + Threads + Wait + Clock + Clone + Drop + Send + 'static,
     ensures status { result ≤ 4 }
     ensures usage { result ≡ 1 → Keeps (O.contents output.old) (O.contents output.new) }
     ensures replays { AsksReplay (map S.text words.now)
@@ -51,13 +60,23 @@ pub fn run<R: AllocGlobal + Files, S: AsStr, I: Read, O: Write, E: Write>(
         → Formats (values_in rows) result (O.contents output.old) (O.contents output.new) }
     ensures checks { (rows : List Row) → AsksCheck (map S.text words.now) rows
         → ChecksFile result (O.contents output.old) (O.contents output.new) }
+    ensures loads { (rows : List Row) → AsksLoad (map S.text words.now) rows → MatchOption (folder_in rows)
+        (LoadsBy ⟦<MemStore as Store>⟧.tells ⟦<MemStore as Store>⟧.files ⟦<MemStore as Store>⟧.failures
+        (values_in rows) result (O.contents output.old) (O.contents output.new))
+        (λ _. LoadsBy R.Folder.tells R.Folder.files
+        R.Folder.failures (values_in rows) result (O.contents output.old) (O.contents output.new)) }
 {
     match read(rt.alloc(), words) {
         Ok(Request::Replay) => replay_command(rt.alloc(), input, output, errors),
         Ok(Request::ReplayConfig(file)) => replay_config_command(rt, file, input, output, errors),
         Ok(Request::Format(request)) => format_command(rt.alloc(), &request, output, errors),
         Ok(Request::Check(file)) => check_command(rt, file, output, errors),
+        Ok(Request::Load(request)) => load_command(rt, &request, output, errors),
         Err(WordsError::Value(fault)) => {
+            let _ = writeln!(errors, "alog: {fault}");
+            1
+        }
+        Err(WordsError::LoadValue(fault)) => {
             let _ = writeln!(errors, "alog: {fault}");
             1
         }

@@ -18,6 +18,18 @@ pub struct LineRequest<'a> {
     pub context: Context,
 }
 
+/// A load to be made through the loggers and sinks of a configuration.
+#[derive(Clone, Copy, Debug)]
+pub struct LoadRequest<'a> {
+    /// The path of the file that has the configuration.
+    pub file: &'a str,
+    pub producers: u64,
+    /// Of each producer.
+    pub messages: u64,
+    /// The folder for the files of the sinks, which are kept in memory where there is none.
+    pub folder: Option<&'a str>,
+}
+
 /// What the command line asks for.
 #[derive(Clone, Copy, Debug)]
 pub enum Request<'a> {
@@ -29,4 +41,6 @@ pub enum Request<'a> {
     Format(LineRequest<'a>),
     /// `alog check`: whether the file of this path has a configuration.
     Check(&'a str),
+    /// `alog load`: a load.
+    Load(LoadRequest<'a>),
 }

@@ -1,22 +1,16 @@
 //! The worked scripts and the bad forms, on the whole program and on `replay`.
+use crate::check_tests::Host;
 use crate::run;
 use alog_replay::replay;
 use std::alloc::{AllocError, Global};
 use std::io;
 use std::io::{Error, ErrorKind, Read, Write};
 use std::process::Abort;
-use std::rt::Files;
 use std::test::Fail;
 
 /// Runs `alog replay` on a script, and checks its status, what it prints, and its line on standard error. `replay`
 /// prints the same.
-fn expect<R: AllocGlobal + Files + Abort>(
-    rt: &R,
-    script: &[u8],
-    status: u8,
-    printed: &str,
-    error: &str,
-) {
+fn expect<R: Host + Abort>(rt: &R, script: &[u8], status: u8, printed: &str, error: &str) {
     let mut input = script;
     let mut output = Vec::new(rt.alloc());
     let mut errors = Vec::new(rt.alloc());
@@ -33,16 +27,11 @@ fn expect<R: AllocGlobal + Files + Abort>(
     assert!(rt; output.as_slice() == printed.as_bytes());
 }
 
-pub(crate) fn prints<R: AllocGlobal + Files + Abort>(rt: &R, script: &str, printed: &str) {
+pub(crate) fn prints<R: Host + Abort>(rt: &R, script: &str, printed: &str) {
     expect(rt, script.as_bytes(), 0, printed, "");
 }
 
-pub(crate) fn refuses<R: AllocGlobal + Files + Abort>(
-    rt: &R,
-    script: &str,
-    printed: &str,
-    error: &str,
-) {
+pub(crate) fn refuses<R: Host + Abort>(rt: &R, script: &str, printed: &str, error: &str) {
     expect(rt, script.as_bytes(), 2, printed, error);
 }
 
@@ -114,7 +103,7 @@ const STALLED: &str = "ring 2 0\npush 1 a\nstep 1 3\npush 2 b\nrun 2\n";
 
 const WRITTEN: &str = "1 claim 0\n2 claim 1\n2 write 1\n";
 
-fn posts<R: AllocGlobal + Files + Abort>(
+fn posts<R: Host + Abort>(
     rt: &R,
     front: &str,
     script: &str,
@@ -385,7 +374,7 @@ const PRINTED: &str =
     "1 claim 0\n1 write 0\n2 grab 0\n2 take 0 a\n2 line 0 memory\n== memory memory 2\na\n";
 
 /// Replays a front of the script into a writer of some room, and checks the status and what was written.
-fn trickles<R: AllocGlobal + Files + Abort>(
+fn trickles<R: Host + Abort>(
     rt: &R,
     fails: bool,
     room: usize,

@@ -1,5 +1,6 @@
 //! Command lines, and the lines of messages, on the whole program.
 use crate::arguments::{ArgumentsError, collect_words};
+use crate::check_tests::Host;
 use crate::program::refuse_arguments;
 use crate::run;
 use crate::script_tests::{Narrow, long};
@@ -7,17 +8,10 @@ use std::env::{Env, FillError};
 use std::io;
 use std::io::{BufWriter, Error, ErrorKind, Write};
 use std::process::Abort;
-use std::rt::Files;
 use std::test::Fail;
 
 /// Runs the program on these words, and checks its status, what it prints, and its line on standard error.
-fn prints<R: AllocGlobal + Files + Abort>(
-    rt: &R,
-    words: &[&str],
-    status: u8,
-    printed: &str,
-    error: &str,
-) {
+fn prints<R: Host + Abort>(rt: &R, words: &[&str], status: u8, printed: &str, error: &str) {
     let mut input = b"".as_slice();
     let mut output = Vec::new(rt.alloc());
     let mut errors = Vec::new(rt.alloc());
@@ -121,13 +115,7 @@ fn refused_values(rt: HostRuntime) {
 }
 
 /// The words are refused, and standard error says which option, its value, and what is allowed.
-fn refuses<R: AllocGlobal + Files + Abort>(
-    rt: &R,
-    words: &[&str],
-    option: &str,
-    is: &str,
-    said: &str,
-) {
+fn refuses<R: Host + Abort>(rt: &R, words: &[&str], option: &str, is: &str, said: &str) {
     let (name, value) = option.split_once('=').unwrap_or((option, ""));
     match format!(in rt.alloc(); "alog: {name}={value:?} {is} {said}\n") {
         Ok(error) => prints(rt, words, 1, "", error.as_str()),
@@ -159,7 +147,7 @@ fn refused_lines(rt: HostRuntime) -> Result<(), Fail> {
 }
 
 /// Runs the program on these words, and checks the status and which stream has text.
-fn says<R: AllocGlobal + Files + Abort>(rt: &R, words: &[&str], status: u8, on_output: bool) {
+fn says<R: Host + Abort>(rt: &R, words: &[&str], status: u8, on_output: bool) {
     let mut input = b"".as_slice();
     let mut output = Vec::new(rt.alloc());
     let mut errors = Vec::new(rt.alloc());
@@ -186,7 +174,9 @@ fn command_lines(rt: HostRuntime) {
         (["alog", "format", "--help"], 0, true),
         (["alog", "replay", "file"], 1, false),
         (["alog", "format", "%v"], 1, false),
-        (["alog", "load", "c.toml"], 1, false),
+        (["alog", "load", "--help"], 0, true),
+        (["alog", "load", "--folder=d"], 1, false),
+        (["alog", "loads", "c.toml"], 1, false),
     ] {
         says(&rt, words.as_slice(), status, on_output);
     }
@@ -214,7 +204,7 @@ impl Write for Unflushed {
 }
 
 /// Runs the program into this writer, which fails.
-fn fails<R: AllocGlobal + Files + Abort, O: Write>(rt: &R, words: &[&str], output: &mut O) {
+fn fails<R: Host + Abort, O: Write>(rt: &R, words: &[&str], output: &mut O) {
     let mut input = b"".as_slice();
     let mut errors = Vec::new(rt.alloc());
     let found = run(rt, words, &mut input, output, &mut errors);

@@ -3,6 +3,7 @@ ghost use Rattle.std.specs.Prelude.{map, IfErr, IfOk};
 ghost use Rattle.alog.specs.CommandLine.{Asks, IsRefusedBy};
 
 use crate::command::alog;
+use crate::load_options::{LoadValueError, load_request};
 use crate::options::{ValueError, line_request, text};
 use crate::request::Request;
 use clap::Error;
@@ -14,8 +15,10 @@ use std::convert::AsStr;
 pub enum WordsError<'a> {
     /// What `clap` says: help, the version, usage, or that there is no memory.
     Clap(Error),
-    /// The value of an option is refused.
+    /// The value of an option of `alog format` is refused.
     Value(ValueError<'a>),
+    /// The value of an option of `alog load` is refused.
+    LoadValue(LoadValueError<'a>),
 }
 
 impl<'a> From<Error> for WordsError<'a> {
@@ -50,6 +53,17 @@ impl<'a> From<ValueError<'a>> for WordsError<'a> {
     }
 }
 
+impl<'a> From<LoadValueError<'a>> for WordsError<'a> {
+    ghost use Rattle.std.specs.Prelude.{◌≡◌};
+    ghost use Rattle.alog.specs.declared.words.WordsError.TheVariants.{LoadValue};
+
+    ghost from_gives = { λ error fault. fault ≡ LoadValue error };
+
+    fn from(error: LoadValueError<'a>) -> WordsError<'a> {
+        WordsError::LoadValue(error)
+    }
+}
+
 /// Reads the command line, the program's name first.
 pub fn read<'a, S: AsStr>(alloc: Global, words: &'a [S]) -> Result<Request<'a>, WordsError<'a>>
     ensures asked { IfOk result (Asks (map S.text words.entry.now)) }
@@ -63,6 +77,9 @@ pub fn read<'a, S: AsStr>(alloc: Global, words: &'a [S]) -> Result<Request<'a>, 
         if let Some(file) = replay.get_str("config") {
             return Ok(Request::ReplayConfig(file));
         }
+    }
+    if let Some(load) = matches.subcommand_matches("load") {
+        return Ok(Request::Load(load_request(load)?));
     }
     match matches.subcommand_matches("check") {
         Some(check) => Ok(Request::Check(text(check, "FILE"))),

@@ -3,7 +3,7 @@ use denote.RattleType.{RattleType}
 use denote.Builtin.{u64}
 use denote.Param.Send.{IsSend, IsSync, sendable, view_send, struct_send, struct_sync, recorded_send, recorded_sync}
 use denote.Struct.Declared.{shape}
-use Rattle.std.proofs.Crossing.{crosses, Vec-send, Arc-send}
+use Rattle.std.proofs.Crossing.{Vec-send, Arc-send}
 use Rattle.std.specs.contracts.alloc.Global as Global
 use Rattle.std.specs.contracts.impls.GlobalAllocator.TheImpl.{ghosts as alloc_ghosts}
 use Rattle.std.specs.contracts.result.Result as Result
@@ -42,13 +42,13 @@ use Rattle.alog_pool.specs.contracts.shared.Shared as Shared
 pub shared_send : IsSend Shared.the_row
 shared_send = recorded_send (Shared.the_field).row _ _ (Shared.the_type).to_one (struct_send (shape Shared.the_type) (
   ring_send Item.the_row TextLimit.the_row limit_ghosts item_send,
-  (book_send, (loggers_send, (search (sendable, crosses) depth 12, tt))),
+  (book_send, (loggers_send, tt)),
 ))
 
 pub shared_sync : IsSync Shared.the_row
 shared_sync = recorded_sync (Shared.the_field).row _ _ (Shared.the_type).to_one (struct_sync (shape Shared.the_type) (
   ring_sync Item.the_row TextLimit.the_row limit_ghosts item_send item_sync,
-  (book_sync, (loggers_sync, (search (sendable, crosses) depth 12, tt))),
+  (book_sync, (loggers_sync, tt)),
 ))
 
 pub arc_shared_send : IsSend (Arc.the_row Shared.the_row Global.the_row alloc_ghosts)
@@ -120,7 +120,7 @@ module _ (S : RattleType) (g : Ghosts S.Denot) where
                   search sendable,
                   (
                     Vec-send u64 (search sendable),
-                    (search sendable, (search sendable, (search sendable, tt))),
+                    (search sendable, (search sendable, tt)),
                   ),
                 ),
               ),

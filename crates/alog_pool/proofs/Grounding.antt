@@ -1,13 +1,17 @@
 -- What a pool has before it has workers.
-use Rattle.std.proofs.Common.{◌≡◌, ◌+◌, ℕ, List, [], ◌∷◌, map, ap, refl, arith}
+use Rattle.std.proofs.Common.{◌≡◌, ◌+◌, ℕ, Option, Some, None, List, [], ◌∷◌, map, ap, refl, sym, arith}
+use Rattle.std.specs.Option.{option_map}
 use Rattle.std.specs.List.{AllByRecursion}
 use Rattle.alog_lane.specs.Calls.{LaneId}
 use Rattle.alog_lane.specs.declared.seat.TheConstants.{ALL_PARTS}
 use Rattle.alog_pool.specs.Berth.{BerthView}
 use Rattle.alog_pool.specs.Keeping.{KeepingView}
-use Rattle.alog_pool.specs.Places.{Each2, IsFirst, IsFirstKeeping}
+use Rattle.alog_pool.specs.Places.{Each2, IsFirst, IsKeepingOf}
 use Rattle.alog_pool.specs.Pool.{IsUnused, lanes_of}
 use Rattle.alog_pool.specs.Producer.{AreKeepings}
+use Rattle.alog_registry.specs.Backtrace.{room_for}
+use Rattle.alog_registry.specs.declared.logger.Logger.{Logger}
+use Rattle.alog_registry.specs.declared.logger.Spec.{Spec}
 use Rattle.alog_sink.specs.declared.sink.Sink.{Sink}
 
 module _ {S : Type 0} (limit : ℕ) where
@@ -43,11 +47,29 @@ module _ {S : Type 0} (limit : ℕ) where
   first_lanes (s ∷ sinks) [] each = absurd each
   first_lanes (s ∷ sinks) (b ∷ bs) each = λ k. each.0.lane k ∷ first_lanes sinks bs each.1 k
 
-pub keepings_parts : (limit : ℕ) (ks : List KeepingView) → AllByRecursion (IsFirstKeeping limit) ks
-    → AllByRecursion (λ (k : KeepingView). k.seat.known.parts + 0 ≡ ALL_PARTS) ks
-keepings_parts limit [] all = tt
-keepings_parts limit (k ∷ ks) all = let one = ap (λ m. m.parts) all.0.known in (omega (arith, one), keepings_parts limit ks all.1)
+module _ (limit : ℕ) where
+  pub keepings_parts : (ls : List Logger) (ks : List KeepingView) → Each2 (IsKeepingOf limit) ls ks
+      → AllByRecursion (λ (k : KeepingView). k.seat.known.parts + 0 ≡ ALL_PARTS) ks
+  keepings_parts [] [] each = tt
+  keepings_parts [] (k ∷ ks) each = absurd each
+  keepings_parts (l ∷ ls) [] each = absurd each
+  keepings_parts (l ∷ ls) (k ∷ ks) each = let one = ap (λ m. m.parts) each.0.known in (omega (arith, one), keepings_parts ls ks each.1)
 
-pub keepings_kept : (limit : ℕ) (ks : List KeepingView) → AllByRecursion (IsFirstKeeping limit) ks → AreKeepings limit ks
-keepings_kept limit [] all = tt
-keepings_kept limit (k ∷ ks) all = (all.0.limit_is, keepings_kept limit ks all.1)
+  pub keepings_kept : (ls : List Logger) (ks : List KeepingView) → Each2 (IsKeepingOf limit) ls ks → AreKeepings limit ks
+  keepings_kept [] [] each = tt
+  keepings_kept [] (k ∷ ks) each = absurd each
+  keepings_kept (l ∷ ls) [] each = absurd each
+  keepings_kept (l ∷ ls) (k ∷ ks) each = (ap (λ r. r.limit) each.0.room, keepings_kept ls ks each.1)
+
+  pub keepings_rooms : (ls : List Logger) (ks : List KeepingView) → Each2 (IsKeepingOf limit) ls ks
+      → map (λ (k : KeepingView). k.lane.first) ks ≡ map (λ (l : Logger). room_for l.spec.backtrace limit) ls
+  keepings_rooms [] [] each = refl
+  keepings_rooms [] (k ∷ ks) each = absurd each
+  keepings_rooms (l ∷ ls) [] each = absurd each
+  keepings_rooms (l ∷ ls) (k ∷ ks) each = λ i. each.0.room i ∷ keepings_rooms ls ks each.1 i
+
+-- the logger whose spec was found
+pub found_by : (o : Option Logger) (s : Spec) → Some s ≡ option_map (λ (l : Logger). l.spec) o
+    → (l : Logger) × (o ≡ Some l) × (l.spec ≡ s)
+found_by None s e = absurd (cc e)
+found_by (Some l) s e = let same : s ≡ l.spec = cc e in (l, refl, sym same)

@@ -1,14 +1,21 @@
 -- A worker that begins.
-use Rattle.std.proofs.Common.{◌≡◌, ◌≤◌, ℕ, zero, suc, ◌+◌, ◌%◌, ◌^◌, List, [], ◌∷◌, take, refl, sym, ap, subst, ◌∙◌, arith}
-use Rattle.std.specs.List.{AllByRecursion}
+use Rattle.std.proofs.Common.{Bool, true, false, ◌≡◌, ◌≤◌, ℕ, zero, suc, ◌+◌, ◌%◌, ◌^◌, List, [], ◌∷◌, ◌++◌, map, take, refl, sym, ap, subst, ◌∙◌, arith}
+use Rattle.std.proofs.lemmas.List.{map-id}
+use Rattle.std.proofs.lemmas.List.FromFn.{map-range_with_len_more}
+use Rattle.std.specs.List.{AllByRecursion, range_with_len}
 use Rattle.alog_core.specs.Accounts.{claims, takes, grabbed, handed_out, taken}
 use Rattle.alog_core.specs.History.{Entry}
+use Rattle.alog_core.specs.World.{is_size}
+use Rattle.alog_core.proofs.Sizes.{size_facts}
 use Rattle.alog_msg.specs.declared.item.Item.{Item}
 use Rattle.alog_pool.specs.Accounts.{of_work, work_tickets}
 use Rattle.alog_pool.specs.Berth.{BerthView, places_of}
-use Rattle.alog_pool.specs.Working.{AreLimited, IsFresh, IsWorkOf}
+use Rattle.alog_pool.specs.Working.{AreLimited, IsFresh, IsWorkOf, numbers_of}
+use Rattle.alog_pool.specs.declared.hand.Hand.{Hand}
+use Rattle.alog_pool.proofs.Back.{map_more}
 use Rattle.alog_ring.specs.Kinds.{no_note}
 use Rattle.alog_ring.specs.Known.{Known, PassView}
+use Rattle.alog_ring.specs.Made.{IsFaithful}
 use Rattle.alog_ring.specs.Share.{Splits}
 
 nothing_taken : (n : ℕ) → [] ≡ take {A = ℕ} n []
@@ -56,3 +63,23 @@ pub still_own : (old new given : PassView Item no_note) → Splits old new given
     → (new.known.own ≡ old.known.own) × (new.known.joined ≡ old.known.joined)
 still_own old new given s =
     (ap (λ (p : PassView Item no_note). p.known.own) s.kept, ap (λ (p : PassView Item no_note). p.known.joined) s.kept)
+
+pub kept_faithful : (old new given : PassView Item no_note) → Splits old new given 1 → IsFaithful old.known → IsFaithful new.known
+kept_faithful old new given s faithful =
+    subst (λ (p : PassView Item no_note). IsFaithful p.known) (sym s.kept)
+    (record { legal = faithful.legal; own = faithful.own; joined = faithful.joined; distinct = faithful.distinct })
+
+-- a size is at least one
+pub some_size : (n : ℕ) (b : Bool) → is_size n ≡ b → ¬ (is_size n ≡ false) → 1 ≤ n
+some_size n true is apart = let facts = size_facts n is in omega (arith, facts.1)
+some_size n false is apart = absurd (apart is)
+
+-- numbers that go on
+pub number_more : {S A : Type 0} (f : A → Hand S) (xs : List A) (a : A) (n : ℕ) → numbers_of (map f xs) ≡ range_with_len 0 n
+    → (f a).number ≡ n → numbers_of (map f (xs ++ a ∷ [])) ≡ range_with_len 0 (n + 1)
+number_more {S} {A} f xs a n are next =
+    let go : List ℕ → List ℕ = λ l. map (λ (i : ℕ). i) l in
+    let longer : go (range_with_len 0 (n + 1)) ≡ go (range_with_len 0 n) ++ n ∷ [] = map-range_with_len_more (λ (i : ℕ). i) 0 n n (omega arith) in
+    ap (λ l. numbers_of l) (map_more f xs a) ∙ map_more (λ (h : Hand S). h.number) (map f xs) (f a)
+    ∙ ap (λ l. l ++ (f a).number ∷ []) are ∙ ap (λ i. range_with_len 0 n ++ i ∷ []) next
+    ∙ sym (sym (map-id (range_with_len 0 (n + 1))) ∙ longer ∙ ap (λ l. l ++ n ∷ []) (map-id (range_with_len 0 n)))

@@ -12,3 +12,11 @@ pub mod Parts
 pub mod Crosses
 pub mod Hiring
 pub mod Grounding
+pub mod Back
+pub mod Halting
+pub mod Rows
+pub mod Served
+pub mod Closed
+pub mod Totalled
+pub mod OneWorker
+pub mod Opening

@@ -5,7 +5,7 @@ use Rattle.alog_lane.specs.declared.seat.TheConstants.{ALL_PARTS}
 use Rattle.alog_pool.specs.Berth.{BerthView}
 use Rattle.alog_pool.specs.Keeping.{KeepingView}
 use Rattle.alog_pool.specs.Places.{Each3, IsPart, IsKeepingPart, AreSpare}
-use Rattle.alog_pool.specs.Pool.{IsNew, IsUnused, lanes_of}
+use Rattle.alog_pool.specs.Pool.{IsNew, IsUnused, keeping_lanes, lanes_of}
 use Rattle.alog_pool.specs.Producer.{AreKeepings}
 
 module _ {S : Type 0} where
@@ -123,3 +123,14 @@ each3_lengths R (x ∷ xs) [] zs each = absurd each
 each3_lengths R (x ∷ xs) (y ∷ ys) [] each = absurd each
 each3_lengths R (x ∷ xs) (y ∷ ys) (z ∷ zs) each =
     let rest = each3_lengths R xs ys zs each.1 in ((λ k. suc (rest.0 k)), (λ k. suc (rest.1 k)))
+
+pub same_keepings : (old new given : List KeepingView) → Each3 IsKeepingPart old new given
+    → (keeping_lanes given ≡ keeping_lanes old) × (keeping_lanes new ≡ keeping_lanes old)
+same_keepings [] [] [] each = (refl, refl)
+same_keepings [] [] (d ∷ ds) each = absurd each
+same_keepings [] (c ∷ cs) given each = absurd each
+same_keepings (b ∷ bs) [] given each = absurd each
+same_keepings (b ∷ bs) (c ∷ cs) [] each = absurd each
+same_keepings (b ∷ bs) (c ∷ cs) (d ∷ ds) each =
+    let rest = same_keepings bs cs ds each.1 in
+    ((λ k. each.0.given_lane k ∷ rest.0 k), (λ k. each.0.same.0 k ∷ rest.1 k))

@@ -141,3 +141,17 @@ pub all_map_more : {A B : Type 0} (f : A → B) (P : B → Type 0) (xs : List A)
     → AllByRecursion P (map f (xs ++ x ∷ []))
 all_map_more f P [] x all p = (p, tt)
 all_map_more f P (y ∷ xs) x all p = (all.0, all_map_more f P xs x all.1 p)
+
+pub all_map_next : {A B : Type 0} (f : A → B) (P : B → Type 0) (xs : List A) (x : A) (zs : List A)
+    → AllByRecursion P (map f (xs ++ x ∷ zs)) → P (f x)
+all_map_next f P [] x zs all = all.0
+all_map_next f P (y ∷ xs) x zs all = all_map_next f P xs x zs all.1
+
+pub each3_more : {A B C : Type 0} (R : A → B → C → Type 0) (xs : List A) (ys : List B) (zs : List C) (x : A) (y : B) (z : C)
+    → Each3 R xs ys zs → R x y z → Each3 R (xs ++ x ∷ []) (ys ++ y ∷ []) (zs ++ z ∷ [])
+each3_more R [] [] [] x y z each r = (r, tt)
+each3_more R [] [] (c ∷ zs) x y z each r = absurd each
+each3_more R [] (b ∷ ys) zs x y z each r = absurd each
+each3_more R (a ∷ xs) [] zs x y z each r = absurd each
+each3_more R (a ∷ xs) (b ∷ ys) [] x y z each r = absurd each
+each3_more R (a ∷ xs) (b ∷ ys) (c ∷ zs) x y z each r = (each.0, each3_more R xs ys zs x y z each.1 r)

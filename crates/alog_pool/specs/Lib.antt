@@ -10,3 +10,10 @@ pub mod Ending
 pub mod Places
 pub mod Pool
 pub mod Ended
+pub mod Room
+pub mod Stops
+pub mod Back
+pub mod Rows
+pub mod Collected
+pub mod Report
+pub mod OneWorker

@@ -6,6 +6,8 @@ use Rattle.alog_lane.specs.Seats.{IsSplit, first_known}
 use Rattle.alog_pool.specs.Berth.{BerthView}
 use Rattle.alog_pool.specs.Keeping.{KeepingView}
 use Rattle.alog_pool.specs.declared.keeping.Spare.{Spare}
+use Rattle.alog_registry.specs.Backtrace.{room_for}
+use Rattle.alog_registry.specs.declared.logger.Logger.{Logger}
 use Rattle.alog_sink.specs.declared.sink.Sink.{Sink}
 
 -- this holds of each two that stand at one place of these lists
@@ -37,9 +39,9 @@ pub record IsPart {S : Type 0} (old new given : BerthView S) : Type 0 where
 abbrev pub AreSpare : {S : Type 0} → List (BerthView S) → Type 0
 AreSpare {S} bs = AllByRecursion (λ (b : BerthView S). 1 < b.seat.known.parts) bs
 
--- the first place at a backtrace of texts of so many bytes
-pub record IsFirstKeeping (limit : ℕ) (k : KeepingView) : Type 0 where
-  pub limit_is : k.lane.first.limit ≡ limit
+-- the first place at the backtrace of this logger, of texts of so many bytes
+pub record IsKeepingOf (limit : ℕ) (l : Logger) (k : KeepingView) : Type 0 where
+  pub room : k.lane.first ≡ room_for l.spec.backtrace limit
   pub known : k.seat.known ≡ first_known
 
 -- it shares the lane of this place, and has a list of the room that the place's list has
@@ -52,3 +54,7 @@ pub record IsKeepingPart (old new given : KeepingView) : Type 0 where
   pub same : (new.lane ≡ old.lane) × (new.scratch ≡ old.scratch)
   pub given_lane : given.lane ≡ old.lane
   pub split : IsSplit old.seat.known new.seat.known given.seat.known 1
+
+-- both are places at one sink
+abbrev pub IsSameLane : {S : Type 0} → BerthView S → BerthView S → Type 0
+IsSameLane b c = c.lane ≡ b.lane

@@ -1,5 +1,5 @@
 -- What a worker did.
-use Rattle.std.specs.Prelude.{◌≡◌, ◌⊎◌, ℕ, ◌%◌, ◌^◌, ◌≤◌, false, List, [], ◌∷◌, ◌++◌, take, vec_capacity}
+use Rattle.std.specs.Prelude.{◌≡◌, ◌⊎◌, ℕ, ◌%◌, ◌^◌, ◌≤◌, List, [], ◌∷◌, ◌++◌, map, take, vec_capacity}
 use Rattle.std.specs.Arc.{arc_value}
 use Rattle.std.specs.List.{AllByRecursion}
 use Rattle.alog_core.specs.History.{Entry}
@@ -11,7 +11,7 @@ use Rattle.alog_pool.specs.Berth.{Place, places_of}
 use Rattle.alog_pool.specs.Deeds.{HaveMade, all_dues}
 use Rattle.alog_pool.specs.declared.hand.Hand.{Hand}
 use Rattle.alog_pool.specs.declared.hand.Next.{Next}
-use Rattle.alog_pool.specs.declared.hand.Next.TheVariants.{Item as Took, End, Leave}
+use Rattle.alog_pool.specs.declared.hand.Next.TheVariants.{Item as Took, End}
 use Rattle.alog_registry.specs.Limit.{KeepsTo}
 use Rattle.alog_ring.specs.Known.{Known, IsPassOf}
 use Rattle.alog_ring.specs.Kinds.{no_note}
@@ -21,7 +21,6 @@ use Rattle.alog_ring.specs.Made.{IsFaithful}
 abbrev pub Finds : ℕ → Known Item no_note → Known Item no_note → Next → Type 0
 Finds limit old new (Took t x) = Moved old new [] ((t, x) ∷ []) × KeepsTo limit x
 Finds limit old new End = Moved old new [] [] × SawEnd new.own
-Finds limit old new Leave = Moved old new [] []
 
 -- A worker's account: it has one part and put nothing in. It recorded the tickets of its first texts and flushes, at most so many,
 -- and counted its texts and flushes modulo 2^64.
@@ -49,6 +48,10 @@ pub record IsFresh (k : Known Item no_note) : Type 0 where
 abbrev pub AreLimited : {S : Type 0} → ℕ → List (Place S) → Type 0
 AreLimited {S} limit places = AllByRecursion (λ (p : Place S). p.limit ≡ limit) places
 
+-- the numbers of these workers
+abbrev pub numbers_of : {S : Type 0} → List (Hand S) → List ℕ
+numbers_of {S} hands = map (λ (h : Hand S). h.number) hands
+
 -- A worker at work, which began with the first of these hands: it has taken no stop yet.
 pub record IsAtWork {S : Type 0} (start now : Hand S) : Type 0 where
   pub shared : arc_value now.shared ≡ arc_value start.shared
@@ -56,11 +59,11 @@ pub record IsAtWork {S : Type 0} (start now : Hand S) : Type 0 where
   pub work : IsWorkOf start.most now.pass.known now.tickets.items now.handled
   pub stops : taken of_stops now.pass.known.own ≡ 0
   pub most : now.most ≡ start.most
+  pub number : now.number ≡ start.number
   pub room : start.most ≤ vec_capacity now.tickets
   pub line : now.line.capacity ≡ LINE_MAX
   pub places : places_of now.berths.items ≡ places_of start.berths.items
   pub limits : AreLimited (arc_value start.shared).ring.limit.most (places_of start.berths.items)
-  pub left : now.left ≡ false
 
 -- What a worker made, since it began with the first of these hands: it took these items, and at each of its places its seat made
 -- exactly the turns that were due for them on that sink, in their order.
@@ -71,8 +74,9 @@ pub record HasTurned {S : Type 0} (start now : Hand S) : Type 0 where
 
 -- What became of a worker's hand.
 pub record HasWorked {S : Type 0} (start end : Hand S) : Type 0 where
+  pub number : end.number ≡ start.number
   pub ring : IsPassOf (arc_value start.shared).ring end.pass
   pub work : IsWorkOf start.most end.pass.known end.tickets.items end.handled
-  pub ended : end.left ≡ false → HasEnded end.pass.known.own
+  pub ended : HasEnded end.pass.known.own
   pub turns : HasTurned start end
   pub places : places_of end.berths.items ≡ places_of start.berths.items

@@ -1,10 +1,14 @@
 //! A worker's place at a sink.
 ghost use Rattle.std.specs.Prelude.{◌≡◌, ◌+◌, ◌%◌, ◌^◌, ◌<◌, IfOk, OnErr};
+ghost use Rattle.alog_lane.specs.Calls.{Closes};
 ghost use Rattle.alog_lane.specs.Seats.{IsJoined};
+ghost use Rattle.alog_lane.specs.declared.seat.TheConstants.{ALL_PARTS};
 ghost use Rattle.alog_pattern.specs.declared.patterns.TheConstants.{LINE_MAX};
 ghost use Rattle.alog_pool.specs.Berth.{IsServable, Serves, Suits, fault_in};
 ghost use Rattle.alog_pool.specs.Places.{IsFirst, IsPart};
+ghost use Rattle.alog_sink.specs.Sinks.{Turns};
 
+use crate::alone::alone;
 use alog_format::LineBuf;
 use alog_lane::{Lane, LaneSeat};
 use alog_msg::Item;
@@ -16,11 +20,11 @@ use std::sync::{Arc, Wait};
 /// A sink under its lock, a seat of that, and how many of the seat's turns were answered by a fault, modulo 2^64.
 #[derive(Drop)]
 pub struct Berth<S: Store> {
-    pub lane: Arc<Lane<Sink<S>>>,
-    pub seat: LaneSeat<Sink<S>>,
-    pub faults: u64,
+    pub(crate) lane: Arc<Lane<Sink<S>>>,
+    pub(crate) seat: LaneSeat<Sink<S>>,
+    pub(crate) faults: u64,
     /// The most bytes of a text.
-    pub text_limit: usize,
+    pub(crate) text_limit: usize,
 }
 
 impl<S: Store> Model for Berth<S> {
@@ -114,5 +118,23 @@ impl<S: Store + Drop> Berth<S> {
         } = place;
         self.lane.join(&mut self.seat, seat);
         self.faults = self.faults.wrapping_add(faults);
+    }
+
+    /// The sink, when all seats have come back.
+    pub(crate) fn close(self, rt: &impl Wait) -> Sink<S>
+        requires all { self.seat.known.parts ≡ ALL_PARTS }
+        ensures { Closes (Turns S.tells S.files S.failures) self.lane.first self.seat.known result }
+    {
+        let Berth {
+            lane,
+            seat,
+            faults: _,
+            text_limit: _,
+        } = self;
+        let lane = alone(rt, lane);
+        match lane.close(seat) {
+            Ok(sink) => sink,
+            Err(_) => unreachable!(),
+        }
     }
 }

@@ -1,4 +1,8 @@
-//! Why a pool, or a producer, was not made.
+//! Why a pool, or a producer, was not made, and why a pool was not ended.
+use crate::pool::Pool;
+use crate::producer::Producer;
+use alog_sink::Store;
+use std::fmt;
 use thiserror::Error;
 
 /// Why no pool was started, in the order in which the reasons are looked at.
@@ -10,7 +14,7 @@ pub enum StartError {
     BadSize,
     #[error("the first ticket is not below 2^62")]
     BadFirst,
-    /// There was no memory, or a thread could not be started. Workers that were started end without taking an item.
+    /// There was no memory, or a thread could not be started. Workers that were started are told to stop, and end.
     #[error("out of memory")]
     OutOfMemory,
 }
@@ -22,4 +26,18 @@ pub enum ProducerError {
     TooMany,
     #[error("out of memory")]
     OutOfMemory,
+}
+
+/// Not all producers that the pool made were handed in. Pool and producers come back as they were.
+#[derive(Drop, Error)]
+#[error("not all producers are here")]
+pub struct ProducersOut<S: Store> {
+    pub pool: Pool<S>,
+    pub producers: Vec<Producer>,
+}
+
+impl<S: Store> fmt::Debug for ProducersOut<S> {
+    fn fmt<W: fmt::Write>(&self, f: &mut fmt::Formatter<W>) -> fmt::Result {
+        f.pad("ProducersOut { .. }")
+    }
 }

@@ -1,15 +1,16 @@
 //! What a pool stands on before it has workers.
 ghost use Rattle.std.specs.Prelude.{◌≡◌, ◌≤◌, ◌<◌, ◌+◌, ℕ, [], length, map, IfOk};
 ghost use Rattle.std.specs.Arc.{arc_value};
-ghost use Rattle.std.specs.List.{AllByRecursion};
+ghost use Rattle.std.specs.List.{AllByRecursion, range_with_len};
 ghost use Rattle.alog_core.specs.World.{is_size};
 ghost use Rattle.alog_lane.specs.declared.seat.TheConstants.{ALL_PARTS as ALL_SEATS};
 ghost use Rattle.alog_msg.specs.declared.limits.TheConstants.{LEAST_TEXT_LIMIT, MOST_TEXT_LIMIT};
 ghost use Rattle.alog_pool.specs.Berth.{Suits};
 ghost use Rattle.alog_pool.specs.Keeping.{KeepingView};
-ghost use Rattle.alog_pool.specs.Places.{AreSpare, Each2, Each3, IsFirst, IsFirstKeeping, IsPart};
-ghost use Rattle.alog_pool.specs.Pool.{Begins, Fits, IsGround, Staffs, Stands, Hires, lanes_of};
-ghost use Rattle.alog_pool.specs.Working.{HasWorked, IsAtWork};
+ghost use Rattle.alog_pool.specs.Places.{AreSpare, Each2, Each3, IsFirst, IsKeepingOf, IsPart};
+ghost use Rattle.alog_pool.specs.Pool.{Begins, Fits, HasQueue, IsGround, Staffs, Stands, Hires, lanes_of};
+ghost use Rattle.alog_pool.specs.Room.{HasRoom};
+ghost use Rattle.alog_pool.specs.Working.{HasWorked, IsAtWork, numbers_of};
 ghost use Rattle.alog_pool.specs.declared.pool.TheConstants.{MOST_WORKERS};
 ghost use Rattle.alog_ring.specs.Known.{IsPassOf, first_known};
 
@@ -18,8 +19,10 @@ use crate::gate::Gate;
 use crate::hand::Hand;
 use crate::keeping::Keeping;
 use crate::pool::Pool;
+use crate::report::Blank;
 use crate::setup::Setup;
 use crate::shared::Shared;
+use crate::stops::post_stops;
 use crate::works::{Works, work_alone};
 use alog_format::LineBuf;
 use alog_msg::Item;
@@ -30,7 +33,6 @@ use alog_ring::{Pass, Ring};
 use alog_sink::{Sink, Store};
 use std::alloc::{AllocError, Global};
 use std::snapshot::Snapshot;
-use std::sync::atomic::{AtomicBool, Ordering};
 use std::sync::{Arc, Wait};
 use std::thread::{self, PromisedHandle, Threads};
 use std::time::Clock;
@@ -71,6 +73,7 @@ impl<S: Store + Drop + Send + 'static> Ground<S> {
         requires fits { Fits setup }
         requires ring { IsPassOf ring pass × (ring.limit.most ≡ setup.text_limit) }
         requires pass { pass.known ≡ first_known ring.places ring.first }
+        requires places { 1 ≤ ring.places }
         ensures { IfOk result (λ g. IsGround setup ring g) }
     {
         let Setup {
@@ -91,7 +94,6 @@ impl<S: Store + Drop + Send + 'static> Ground<S> {
             ring,
             book,
             loggers,
-            leaves: AtomicBool::new(false),
         };
         match Arc::new(alloc, shared) {
             Ok(shared) => Ok(Ground {
@@ -109,38 +111,41 @@ impl<S: Store + Drop + Send + 'static> Ground<S> {
         }
     }
 
-    /// Starts its workers. Where one cannot be started, those that were end without taking an item.
+    /// Starts its workers. Where one cannot be started, those that were are told to stop.
     pub(crate) fn staff<
         R: Threads + Wait + Clock + Clone + Drop + Send + 'static,
         G: Gate + Send + Sync + Drop + 'static,
     >(self, rt: &R, gate: G) -> Result<Pool<S>, AllocError>
         requires stands { Stands 0 self }
-        requires workers { self.workers ≤ MOST_WORKERS }
+        requires workers { (1 ≤ self.workers) × (self.workers ≤ MOST_WORKERS) }
         ensures { IfOk result (λ p. Staffs self p) }
     {
         let mut ground = self;
         let Ok(gate) = Arc::new(ground.alloc, gate) else {
             return Err(AllocError);
         };
+        let blank = Blank::new(ground.alloc, ground.workers, ground.berths.len())?;
         let mut workers = Vec::with_capacity(ground.alloc, ground.workers)?;
         for number in 0..ground.workers {
             match ground.hire(rt, &gate, number as u32) {
                 Ok(worker) => workers.push_reserved(worker),
                 Err(AllocError) => {
-                    ground.shared.leaves.store(true, Ordering::SeqCst);
+                    post_stops(rt, &ground.shared.ring, &mut ground.pass, workers.len());
                     return Err(AllocError);
                 }
             }
         }
-        Ok(ground.with(workers))
+        Ok(ground.with(workers, blank))
     }
 
     /// The pool with these workers.
-    fn with(self, workers: Vec<Worker<S>>) -> Pool<S>
+    fn with(self, workers: Vec<Worker<S>>, blank: Blank<S>) -> Pool<S>
         requires stands { Stands (length workers.items) self }
         requires each { AllByRecursion (Begins (arc_value self.shared) (lanes_of self.berths.items) self.tickets_max)
             (map (λ h. h.promise.start.value) workers.items) }
-        requires all { length workers.items ≡ self.workers }
+        requires all { (1 ≤ self.workers) × (length workers.items ≡ self.workers) }
+        requires numbers { numbers_of (map (λ h. h.promise.start.value) workers.items) ≡ range_with_len 0 self.workers }
+        requires room { HasRoom (length workers.items) (length self.berths.items) blank }
         ensures { Staffs self result }
     {
         let Ground {
@@ -165,6 +170,7 @@ impl<S: Store + Drop + Send + 'static> Ground<S> {
             text_limit,
             tickets_max,
             workers,
+            blank,
         }
     }
 
@@ -175,7 +181,9 @@ impl<S: Store + Drop + Send + 'static> Ground<S> {
     >(&mut self, rt: &R, gate: &Arc<G>, number: u32) -> Result<Worker<S>, AllocError>
         requires stands { (n : ℕ) × Stands n self.old × (n < MOST_WORKERS) }
         requires workers { self.old.workers ≤ MOST_WORKERS }
-        ensures { (n : ℕ) → Stands n self.old → n < MOST_WORKERS → IfOk result (λ h. Hires n self.old self.new h.promise.start.value) }
+        ensures hires { (n : ℕ) → Stands n self.old → n < MOST_WORKERS → IfOk result (λ h. Hires n self.old self.new h.promise.start.value) }
+        ensures number { IfOk result (λ h. h.promise.start.value.number ≡ number) }
+        ensures queue { HasQueue self.new }
     {
         let gate = Arc::try_clone(gate)?;
         let hand = self.hand(number)?;
@@ -201,7 +209,9 @@ impl<S: Store + Drop + Send + 'static> Ground<S> {
     fn hand(&mut self, number: u32) -> Result<Hand<S>, AllocError>
         requires stands { (n : ℕ) × Stands n self.old × (n < MOST_WORKERS) }
         requires workers { self.old.workers ≤ MOST_WORKERS }
-        ensures { (n : ℕ) → Stands n self.old → n < MOST_WORKERS → IfOk result (λ h. Hires n self.old self.new h) }
+        ensures hires { (n : ℕ) → Stands n self.old → n < MOST_WORKERS → IfOk result (λ h. Hires n self.old self.new h) }
+        ensures number { IfOk result (λ h. h.number ≡ number) }
+        ensures queue { HasQueue self.new }
     {
         let shared = Arc::try_clone(&self.shared)?;
         let line = LineBuf::new(self.alloc, LINE_MAX)?;
@@ -218,7 +228,6 @@ impl<S: Store + Drop + Send + 'static> Ground<S> {
             tickets,
             most: self.tickets_max,
             handled: 0,
-            left: false,
         })
     }
 }
@@ -261,7 +270,7 @@ fn keepings_of(
     text_limit: usize,
 ) -> Result<Vec<Keeping>, AllocError>
     requires { (LEAST_TEXT_LIMIT ≤ text_limit) × (text_limit ≤ MOST_TEXT_LIMIT) }
-    ensures { IfOk result (λ v. (length v.items ≡ length loggers.now) × AllByRecursion (IsFirstKeeping text_limit) v.items) }
+    ensures { IfOk result (λ v. Each2 (IsKeepingOf text_limit) loggers.now v.items) }
 {
     let mut keepings = Vec::with_capacity(alloc, loggers.len())?;
     for number in 0..loggers.len() {

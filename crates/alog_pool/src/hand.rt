@@ -21,7 +21,6 @@ use alog_msg::Item;
 use alog_registry::{Loggers, SinkDeed};
 use alog_ring::{Pass, PopError};
 use alog_sink::Store;
-use std::sync::atomic::Ordering;
 use std::sync::{Arc, Wait};
 use std::time::Clock;
 
@@ -40,8 +39,6 @@ pub struct Hand<S: Store> {
     pub most: usize,
     /// Its texts and flushes, modulo 2^64.
     pub handled: u64,
-    /// It was told to leave before it took anything.
-    pub left: bool,
 }
 
 /// What a worker finds to do.
@@ -50,8 +47,6 @@ pub(crate) enum Next {
     Item(u64, Item),
     /// No ticket is left, and none will come.
     End,
-    /// The pool could not be started.
-    Leave,
 }
 
 impl<S: Store> Hand<S> {
@@ -88,10 +83,6 @@ impl<S: Store> Hand<S> {
                     );
                 }
                 Next::End => return hand,
-                Next::Leave => {
-                    hand.left = true;
-                    return hand;
-                }
             }
         }
         unreachable!()
@@ -212,9 +203,6 @@ fn take_waiting<R: Wait + Clock>(
                     return Next::End;
                 }
             }
-        }
-        if shared.leaves.load(Ordering::SeqCst) {
-            return Next::Leave;
         }
         rest.wait(rt);
     }

@@ -29,13 +29,13 @@ use std::sync::{Arc, Wait};
 /// without room.
 #[derive(Drop)]
 pub struct Keeping {
-    pub lane: Arc<Lane<Backtrace>>,
-    pub seat: LaneSeat<Backtrace>,
-    pub scratch: BacktraceScratch,
+    pub(crate) lane: Arc<Lane<Backtrace>>,
+    pub(crate) seat: LaneSeat<Backtrace>,
+    pub(crate) scratch: BacktraceScratch,
     /// The most messages that are kept.
-    pub most: usize,
+    pub(crate) most: usize,
     /// The most bytes of a text.
-    pub text_limit: usize,
+    pub(crate) text_limit: usize,
 }
 
 /// What another place at a backtrace takes memory for: a share of the lane, and a list.

@@ -15,40 +15,59 @@
 //!
 //! `Pool::start` makes a `Ground`, which is all but the workers, and hires them one by one: each gets a part of the pool's pass and
 //! a part of its place at each sink, and promises what `Hand::work` does (`Works`). `Pool::producer` gives parts away as well. What
-//! is left of the parts is known by their numbers (`specs/Pool.antt`). The end of a pool is not here yet; what will be known then
-//! stands in `specs/Ended.antt`.
+//! is left of the parts is known by their numbers (`specs/Pool.antt`).
+//!
+//! `Pool::shutdown` takes all back: the producers' passes and seats, then it posts a stop for each worker and joins them, and then
+//! it has all parts, so that it knows the whole history (`specs/Report.antt`; what is known on the way stands in
+//! `specs/Ended.antt`). The law `one_worker_writes_in_order` says what a pool of one worker wrote (`specs/OneWorker.antt`).
 //!
 //! Read `gate.rt`, `shared.rt`; then `hand.rt`, `berth.rt`, `rest.rt` (how a worker waits); then `producer.rt`, `keeping.rt`; then
-//! `setup.rt`, `ground.rt`, `works.rt`, `pool.rt`.
+//! `setup.rt`, `ground.rt`, `works.rt`, `pool.rt`; then `stops.rt`, `alone.rt`, `report.rt`, `shutdown.rt`. Tests of whole pools go
+//! by `trial.rt`.
 #![tactic(auto)]
 
+mod alone;
 mod berth;
 mod error;
 mod gate;
+#[cfg(test)]
+mod gate_tests;
 mod ground;
 mod hand;
 mod keeping;
 mod laws;
+#[cfg(test)]
+mod memory_tests;
 mod pool;
 #[cfg(test)]
 mod pool_tests;
 mod producer;
 #[cfg(test)]
 mod producer_tests;
+mod report;
 mod rest;
 mod setup;
 mod shared;
+mod shutdown;
+#[cfg(test)]
+mod shutdown_tests;
+mod stops;
 #[cfg(test)]
 mod tests;
+#[cfg(test)]
+mod thread_tests;
+#[cfg(test)]
+mod trial;
 mod works;
 
 pub use berth::Berth;
-pub use error::{ProducerError, StartError};
+pub use error::{ProducerError, ProducersOut, StartError};
 pub use gate::{Gate, OpenGate};
 pub use hand::Hand;
 pub use keeping::Keeping;
-pub use laws::{members_balance, no_work_is_left};
+pub use laws::{members_balance, no_work_is_left, one_worker_writes_in_order};
 pub use pool::{MOST_PRODUCERS, MOST_WORKERS, Pool};
 pub use producer::Producer;
+pub use report::{Report, Totals};
 pub use setup::Setup;
 pub use shared::Shared;

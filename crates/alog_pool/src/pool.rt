@@ -13,6 +13,7 @@ use crate::gate::Gate;
 use crate::ground::{Ground, Worker};
 use crate::keeping::{Keeping, Spare};
 use crate::producer::Producer;
+use crate::report::Blank;
 use crate::setup::Setup;
 use crate::shared::Shared;
 use alog_msg::Item;
@@ -46,12 +47,14 @@ pub struct Pool<S: Store> {
     pub(crate) text_limit: usize,
     pub(crate) tickets_max: usize,
     pub(crate) workers: Vec<Worker<S>>,
+    pub(crate) blank: Blank<S>,
 }
 
 impl<S: Store> Model for Pool<S> {
-    ghost use Rattle.std.specs.Prelude.{map};
+    ghost use Rattle.std.specs.Prelude.{length, map};
     ghost use Rattle.std.specs.Arc.{arc_value};
     ghost use Rattle.alog_pool.specs.Pool.{PoolView, IsPool};
+    ghost use Rattle.alog_pool.specs.Room.{HasRoom};
 
     ghost Value = { PoolView S };
 
@@ -68,7 +71,7 @@ impl<S: Store> Model for Pool<S> {
     } };
 
     ghost invariant = { λ p. IsPool (arc_value p.shared) p.pass p.losses p.berths.items p.keepings.items p.made p.text_limit p.tickets_max
-        (map (λ h. h.promise.start.value) p.workers.items) };
+        (map (λ h. h.promise.start.value) p.workers.items) × HasRoom (length p.workers.items) (length p.berths.items) p.blank };
 }
 
 impl<S: Store + Drop + Send + 'static> Pool<S> {

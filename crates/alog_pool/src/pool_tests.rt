@@ -35,7 +35,7 @@ fn registry(rt: &impl Abort, alloc: Global) -> Result<Registry, Fail>
 }
 
 // A pool of one logger and one sink in memory.
-fn setup(
+pub fn setup(
     rt: &impl Abort,
     alloc: Global,
     queue: usize,
@@ -46,7 +46,7 @@ fn setup(
     ensures one { IfOk result (λ s. length s.loggers.loggers ≡ 1) }
 {
     let mut sinks = Vec::with_capacity(alloc, 1)?;
-    sinks.push_reserved(sink(rt, alloc, face(alloc)?));
+    sinks.push_reserved(sink(alloc, face(alloc)?, MemStore::new(alloc))?);
     Ok(Setup {
         queue,
         first,

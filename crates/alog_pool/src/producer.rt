@@ -29,15 +29,15 @@ use std::sync::{Arc, Wait};
 /// thread number of its messages.
 #[derive(Drop)]
 pub struct Producer {
-    pub shared: Arc<Shared>,
-    pub pass: Pass<Item>,
+    pub(crate) shared: Arc<Shared>,
+    pub(crate) pass: Pass<Item>,
     /// Its seat of the loss book.
-    pub losses: BookSeat,
+    pub(crate) losses: BookSeat,
     /// Its place at the backtrace of each logger.
-    pub keepings: Vec<Keeping>,
-    pub number: u64,
+    pub(crate) keepings: Vec<Keeping>,
+    pub(crate) number: u64,
     /// The most bytes of a text.
-    pub text_limit: usize,
+    pub(crate) text_limit: usize,
 }
 
 impl Model for Producer {

@@ -12,7 +12,6 @@ use alog_registry::{LogReply, Loggers, TextLimit};
 use alog_ring::{Pass, Ring};
 use std::alloc::Global;
 use std::process::Abort;
-use std::sync::atomic::AtomicBool;
 use std::sync::{Arc, Wait};
 use std::test::Fail;
 
@@ -62,7 +61,6 @@ fn producer(
         ring,
         book,
         loggers,
-        leaves: AtomicBool::new(false),
     };
     let Ok(shared) = Arc::new(alloc, shared) else {
         panic!(rt; "no memory")

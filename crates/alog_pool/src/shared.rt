@@ -3,7 +3,6 @@ use alog_msg::Item;
 use alog_policy::LossBook;
 use alog_registry::{Loggers, TextLimit};
 use alog_ring::Ring;
-use std::sync::atomic::AtomicBool;
 
 /// What all threads of a pool share. No lock is round it.
 #[derive(Drop)]
@@ -11,6 +10,4 @@ pub struct Shared {
     pub ring: Ring<Item, TextLimit>,
     pub book: LossBook,
     pub loggers: Loggers,
-    /// Set where the pool could not be started: workers that are there end.
-    pub leaves: AtomicBool,
 }

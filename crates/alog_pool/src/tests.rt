@@ -14,10 +14,9 @@ use alog_pattern::{LINE_MAX, Pattern};
 use alog_policy::{LossBook, Policy};
 use alog_registry::{Loggers, Registry, Spec, TextLimit};
 use alog_ring::{Pass, Ring};
-use alog_sink::{Face, MemStore, Names, Sink};
-use std::alloc::Global;
+use alog_sink::{Face, MemStore, Names, Sink, Store};
+use std::alloc::{AllocError, Global};
 use std::process::Abort;
-use std::sync::atomic::AtomicBool;
 use std::sync::{Arc, Wait};
 use std::test::Fail;
 
@@ -45,12 +44,15 @@ pub fn loggers(rt: &impl Abort, alloc: Global, backtrace: usize) -> Result<Logge
     }
 }
 
-pub fn face(alloc: Global) -> Result<Face, Fail>
+pub fn face(alloc: Global) -> Result<Face, AllocError>
     ensures { IfOk result (λ f. f.pattern.text_limit ≡ TEXT_LIMIT) }
 {
+    let Ok(pattern) = Pattern::compile(alloc, b"%v", TEXT_LIMIT) else {
+        return Err(AllocError);
+    };
     Ok(Face {
         level: Level::Info,
-        pattern: Pattern::compile(alloc, b"%v", TEXT_LIMIT)?,
+        pattern,
         context: Context {
             zone: Zone::Fixed(0),
             process: 7,
@@ -59,16 +61,16 @@ pub fn face(alloc: Global) -> Result<Face, Fail>
     })
 }
 
-// A sink in memory, whose lines go to the file `log`.
-pub fn sink(rt: &impl Abort, alloc: Global, face: Face) -> Sink<MemStore>
+// A sink over this store, whose lines go to the file `log`.
+pub fn sink<S: Store + Drop>(alloc: Global, face: Face, store: S) -> Result<Sink<S>, AllocError>
     requires { face.pattern.text_limit ≡ TEXT_LIMIT }
-    ensures { Suits TEXT_LIMIT result }
+    ensures { IfOk result (Suits TEXT_LIMIT) }
 {
     let _longest = face.pattern.longest();
-    match Sink::memory(alloc, face, MemStore::new(alloc), "log") {
-        Ok(sink) => sink,
-        Err(_) => panic!(rt; "no sink"),
-    }
+    let Ok(sink) = Sink::memory(alloc, face, store, "log") else {
+        return Err(AllocError);
+    };
+    Ok(sink)
 }
 
 // A place at this sink.
@@ -137,7 +139,6 @@ fn shared(
         ring,
         book,
         loggers,
-        leaves: AtomicBool::new(false),
     };
     match Arc::new(alloc, shared) {
         Ok(shared) => shared,
@@ -169,7 +170,6 @@ fn hand(
         tickets: Vec::with_capacity(alloc, 4)?,
         most: 4,
         handled: 0,
-        left: false,
     })
 }
 
@@ -192,11 +192,12 @@ fn has(rt: &impl Abort, hand: Hand<MemStore>, file: &[u8]) {
 #[test]
 fn a_worker_writes_and_stops(rt: HostRuntime) -> Result<(), Fail> {
     let alloc = rt.alloc();
-    let berth = berth(&rt, alloc, sink(&rt, alloc, face(alloc)?));
+    let sink = sink(alloc, face(alloc)?, MemStore::new(alloc))?;
+    let berth = berth(&rt, alloc, sink);
     let (ring, pass) = queue(&rt, alloc);
     let shared = shared(&rt, alloc, ring, loggers(&rt, alloc, 0)?);
     let hand = hand(alloc, shared, pass, berth)?.work(&rt, &OpenGate);
-    assert_eq!(rt; (hand.handled, hand.left), (1, false));
+    assert_eq!(rt; hand.handled, 1);
     assert!(rt; hand.tickets.as_slice() == [0].as_slice());
     has(&rt, hand, b"a\n");
     Ok(())

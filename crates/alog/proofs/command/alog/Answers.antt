@@ -1,7 +1,7 @@
 use Rattle.std.proofs.Common.{◌≡◌, ◌∙◌, ap, ap₂, refl, codes, true}
 use Rattle.std.proofs.lemmas.Result.{IfOk-weaker}
 use Rattle.clap.specs.Words.{App, app_of, new_app, with_subcommand}
-use Rattle.alog.specs.CommandLine.{top_app}
+use Rattle.alog.specs.CommandLine.{load_app, top_app}
 use Rattle.alog.proofs.Commands.{argument_added}
 use Rattle.alog.proofs.command.alog.Goals as goal
 
@@ -63,10 +63,12 @@ returns c =
       c.about-2.ensures,
       c.new-2.ensures.local,
     ) refl) ∙ ap₂ with_subcommand with_replay (ap (λ (a : App). a.top) format) in
-    IfOk-weaker c.subcommand-3.result _ _ (λ command adds. adds.shape (rw (
+    let with_check = c.in_ok-subcommand-3.ensures.shape (rw (
       c.in_ok-check.ensures.globals,
       c.argument-3.ensures.global,
       c.long_about-3.ensures,
       c.about-3.ensures,
       c.new-3.ensures.local,
-    ) refl) ∙ ap₂ with_subcommand with_format (ap (λ (a : App). a.top) check)) c.subcommand-3.ensures
+    ) refl) ∙ ap₂ with_subcommand with_format (ap (λ (a : App). a.top) check) in
+    IfOk-weaker c.subcommand-4.result _ _ (λ command adds. c.in_ok-load.ensures c.in_ok-subcommand-3.field-0 command adds
+    ∙ ap (λ (a : App). with_subcommand a load_app.top) with_check) c.subcommand-4.ensures

@@ -1,14 +1,16 @@
-use Rattle.std.proofs.Common.{List, length, ap, sym, subst, arith}
-use Rattle.std.specs.List.{AllByRecursion}
+use Rattle.std.proofs.Common.{◌≡◌, ◌+◌, suc, List, [], ◌∷◌, ◌++◌, length, slice_get, ap, sym, subst, ◌∙◌, arith}
 use Rattle.alog_pool.specs.Keeping.{KeepingView}
-use Rattle.alog_pool.specs.Places.{IsFirstKeeping}
-use Rattle.alog_pool.proofs.Sharing.{all_more}
+use Rattle.alog_pool.specs.Places.{IsKeepingOf}
+use Rattle.alog_pool.proofs.Grounding.{found_by}
+use Rattle.alog_pool.proofs.Sharing.{Matching, match_all, match_one, matched_length}
 use Rattle.alog_pool.proofs.ground.keepings_of.Goals as goal
+use Rattle.alog_registry.specs.Backtrace.{room_for}
+use Rattle.alog_registry.specs.declared.logger.Spec.{Spec}
 
 pub push_reserved-requires : goal.push_reserved-requires
 push_reserved-requires c =
     let i = c.loop-number.invariant in
-    let each = i.each in
+    let each = matched_length (IsKeepingOf c.args.text_limit) c.loop-number.number c.args.loggers.now c.loop-number.keepings.items i.each in
     let end = i.end in
     let room = i.room in
     let below = c.loop-number-test.true in
@@ -17,17 +19,23 @@ push_reserved-requires c =
 pub loop-number-preserved : goal.loop-number-preserved
 loop-number-preserved c =
     let i = c.loop-number.invariant in
-    let each = i.each in
     let room = i.room in
     let below = c.loop-number-test.true in
+    let limit = c.args.text_limit in
+    let n = c.loop-number.number in
+    let loggers = c.args.loggers.now in
     let new = c.in_ok-new.field-0 in
-    let long = ap length c.push_reserved.ensures.items in
-    let first : IsFirstKeeping c.args.text_limit new =
-    record { limit_is = ap (λ r. r.limit) c.in_ok-new.ensures.empty; known = c.in_ok-new.ensures.known } in
+    let spec = c.in-Some.spec.now in
+    let found = found_by (slice_get loggers n) spec c.in-Some.ensures.value in
+    let one : IsKeepingOf limit found.0 new = record {
+      room = c.in_ok-new.ensures.empty ∙ ap (λ (s : Spec). room_for s.backtrace limit) (sym found.2);
+      known = c.in_ok-new.ensures.known;
+    } in
+    let next : suc n ≡ n + 1 = omega arith in
     record {
-      first = subst (λ (l : List KeepingView). AllByRecursion (IsFirstKeeping c.args.text_limit) l) (sym c.push_reserved.ensures.items)
-          (all_more (IsFirstKeeping c.args.text_limit) c.loop-number.keepings.items new i.first first);
-      each = grind (arith, each, long);
+      each = subst (λ (l : List KeepingView). Matching (IsKeepingOf limit) (n + 1) loggers l) (sym c.push_reserved.ensures.items)
+          (subst (λ m. Matching (IsKeepingOf limit) m loggers (c.loop-number.keepings.items ++ new ∷ [])) next
+          (match_one (IsKeepingOf limit) n loggers c.loop-number.keepings.items found.0 new found.1 one i.each));
       within = omega (arith, below);
       end = i.end;
       room = omega (arith, room, c.push_reserved.ensures.capacity);
@@ -36,8 +44,9 @@ loop-number-preserved c =
 pub returns : goal.returns
 returns c =
     let i = c.loop-number.invariant in
-    let each = i.each in
     let within = i.within in
     let end = i.end in
     let past = c.loop-number-test.false in
-    (omega (arith, each, within, end, past), i.first)
+    let all : c.loop-number.number ≡ length c.args.loggers.now = omega (arith, within, end, past) in
+    match_all (IsKeepingOf c.args.text_limit) c.args.loggers.now c.loop-number.keepings.items
+    (subst (λ n. Matching (IsKeepingOf c.args.text_limit) n c.args.loggers.now c.loop-number.keepings.items) all i.each)

@@ -16,9 +16,6 @@ returns-then-is_end-clause-finds g c =
       refused_last _ _ _ (c.if-is_end.ensures.0 refl) refused,
     )
 
-pub returns-then-load-clause-finds : goal.returns-then-load-clause-finds
-returns-then-load-clause-finds g c = moved_more _ _ _ _ _ _ _ c.loop.invariant.1 (refused_moved _ _ _ c.in-Err.ensures.refused)
-
 pub loop-preserved : goal.loop-preserved
 loop-preserved g c = (
   c.pop.ensures.ring,

@@ -6,15 +6,15 @@ use Rattle.alog_msg.specs.declared.item.Item.{Item}
 use Rattle.alog_pool.specs.Accounts.{of_stops}
 use Rattle.alog_pool.specs.Working.{IsWorkOf}
 use Rattle.alog_pool.specs.declared.shared.Shared.{Shared}
-use Rattle.alog_pool.proofs.Hiring.{fresh_part, fresh_work, limited, one_less, still_own}
+use Rattle.alog_pool.proofs.Hiring.{fresh_part, fresh_work, kept_faithful, limited, one_less, still_own}
 use Rattle.alog_pool.proofs.Parts.{berth_limits, berth_parts_left, given_new, same_lanes, still_unused}
 use Rattle.alog_pool.proofs.ground.Ground.hand.Goals as goal
 use Rattle.alog_ring.specs.Kinds.{no_note}
 use Rattle.alog_ring.specs.Known.{IsPassOf}
 use Rattle.alog_ring.specs.declared.TheConstants.{ALL_PARTS}
 
-pub returns : goal.returns
-returns g c = λ n stands few.
+pub returns-clause-hires : goal.returns-clause-hires
+returns-clause-hires g c = λ n stands few.
     let now = c.args.self.now in
     let shared = arc_value now.shared in
     let old = now.berths.items in
@@ -32,6 +32,8 @@ returns g c = λ n stands few.
     record {
       stands = record {
         pass_is = ring;
+        pass_faithful = kept_faithful now.pass c.split-pass.new.pass c.split-pass.result split stands.pass_faithful;
+        some_places = stands.some_places;
         pass_parts = omega (arith, left);
         losses_are = stands.losses_are;
         losses_parts = stands.losses_parts;
@@ -49,6 +51,7 @@ returns g c = λ n stands few.
       };
       shared = refl;
       lanes = (same_lanes old new given each).0;
+      keepings = refl;
       kept = (refl, refl, refl);
       begins = record {
         at_work = record {
@@ -58,11 +61,11 @@ returns g c = λ n stands few.
               (fresh_work now.tickets_max c.split-pass.result.known fresh);
           stops = ap (λ (h : List (Entry Item no_note)). taken of_stops h) fresh.own;
           most = refl;
+          number = refl;
           room = c.in_ok-tickets.ensures.capacity;
           line = c.in_ok-line.ensures.capacity;
           places = refl;
           limits = limited _ now.text_limit given (ap (λ (s : Shared). s.ring.limit.most) c.in_ok-shared.ensures ∙ stands.queued) limits.1;
-          left = refl;
         };
         fresh = fresh;
         shares = c.in_ok-shared.ensures;
@@ -71,3 +74,12 @@ returns g c = λ n stands few.
         seats = given_new old new given each;
       };
     }
+
+pub returns-clause-queue : goal.returns-clause-queue
+returns-clause-queue g c =
+    let stands = c.requires.stands.1 in
+    let now = c.args.self.now in
+    let split = c.split-pass.ensures.split in (
+      subst (λ (s : Shared). IsPassOf s.ring c.split-pass.new.pass) c.deref.ensures c.split-pass.ensures.ring.0,
+      kept_faithful now.pass c.split-pass.new.pass c.split-pass.result split stands.pass_faithful,
+    )

@@ -39,10 +39,14 @@ pub spawn_with-worker-requires-clause-runs : goal.spawn_with-worker-requires-cla
 spawn_with-worker-requires-clause-runs g c =
     let s = c.requires.stands in
     let hand = c.in_ok-hand.hand in
-    let works : IsAtWork hand hand = (c.in_ok-hand.ensures s.0 s.1 s.2).begins.at_work in
+    let works : IsAtWork hand hand = (c.in_ok-hand.ensures.hires s.0 s.1 s.2).begins.at_work in
     search (rules, works)
 
-pub returns-in-Ok : goal.returns-in-Ok
-returns-in-Ok g c = λ n stands few.
+pub returns-in-Ok-clause-hires : goal.returns-in-Ok-clause-hires
+returns-in-Ok-clause-hires g c = λ n stands few.
     subst (λ (h : HandIs g.row.S.Denot). Hires n c.args.self.now c.hand.new.self h)
-    (sym (ap (λ p. p.start.value) c.in-Ok.ensures.ok ∙ c.of.ensures)) (c.in_ok-hand.ensures n stands few)
+    (sym (ap (λ p. p.start.value) c.in-Ok.ensures.ok ∙ c.of.ensures)) (c.in_ok-hand.ensures.hires n stands few)
+
+pub returns-in-Ok-clause-number : goal.returns-in-Ok-clause-number
+returns-in-Ok-clause-number g c =
+    ap (λ (h : HandIs g.row.S.Denot). h.number) (ap (λ p. p.start.value) c.in-Ok.ensures.ok ∙ c.of.ensures) ∙ c.in_ok-hand.ensures.number

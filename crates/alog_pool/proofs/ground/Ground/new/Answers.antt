@@ -1,9 +1,14 @@
-use Rattle.std.proofs.Common.{length, ap, refl, sym, subst, ◌∙◌, arith}
-use Rattle.alog_pool.proofs.Grounding.{first_lanes, first_limits, first_parts, first_unused, keepings_kept, keepings_parts}
+use Rattle.std.proofs.Common.{◌≤◌, List, length, map, ap, refl, sym, subst, ◌∙◌, arith}
+use Rattle.alog_pool.proofs.Grounding.{first_lanes, first_limits, first_parts, first_unused, keepings_kept, keepings_parts, keepings_rooms}
+use Rattle.alog_pool.proofs.Sharing.{each2_length}
+use Rattle.alog_pool.specs.Places.{IsKeepingOf}
+use Rattle.alog_registry.specs.Backtrace.{room_for}
+use Rattle.alog_registry.specs.declared.logger.Logger.{Logger}
 use Rattle.alog_pool.specs.declared.shared.Shared.{Shared}
 use Rattle.alog_pool.proofs.ground.Ground.new.Goals as goal
 use Rattle.alog_policy.specs.BookCalls.{IsSeatOf}
 use Rattle.alog_ring.specs.Known.{IsPassOf}
+use Rattle.alog_ring.specs.Made.{IsFaithful}
 
 pub returns-in-Ok-new : goal.returns-in-Ok-new
 returns-in-Ok-new g c =
@@ -11,19 +16,22 @@ returns-in-Ok-new g c =
     let shared = c.in-Ok-new.ensures.ok in
     let first = c.in_ok-berths.ensures in
     let keepings = c.in_ok-keepings.ensures in
+    let loggers = c.in-Ok.loggers in
     let known = c.requires.pass in
     let seat = c.in_ok-book.ensures.known in
     record {
       stands = record {
         pass_is = subst (λ (s : Shared). IsPassOf s.ring c.args.pass) (sym shared) c.requires.ring.0;
+        pass_faithful = subst IsFaithful (sym known) (record { legal = tt; own = refl; joined = tt; distinct = ((λ e. absurd e), tt) });
+        some_places = subst (λ (s : Shared). 1 ≤ s.ring.places) (sym shared) c.requires.places;
         pass_parts = (let parts = ap (λ k. k.parts) known in omega (arith, parts));
         losses_are = subst (λ (s : Shared). IsSeatOf s.book c.in_ok-book.losses) (sym shared) c.in_ok-book.ensures.seat;
         losses_parts = (let parts = ap (λ k. k.parts) seat in omega (arith, parts));
         berth_parts = first_parts setup.text_limit setup.sinks.items c.in_ok-berths.berths.items first;
         berth_limits = first_limits setup.text_limit setup.sinks.items c.in_ok-berths.berths.items first;
-        keeping_parts = keepings_parts setup.text_limit c.in_ok-keepings.keepings.items keepings.1;
-        each = keepings.0 ∙ ap (λ (s : Shared). length s.loggers) (sym shared);
-        kept = keepings_kept setup.text_limit c.in_ok-keepings.keepings.items keepings.1;
+        keeping_parts = keepings_parts setup.text_limit loggers c.in_ok-keepings.keepings.items keepings;
+        each = each2_length (IsKeepingOf setup.text_limit) loggers c.in_ok-keepings.keepings.items keepings ∙ ap (λ (s : Shared). length s.loggers) (sym shared);
+        kept = keepings_kept setup.text_limit loggers c.in_ok-keepings.keepings.items keepings;
         queued = ap (λ (s : Shared). s.ring.limit.most) shared ∙ c.requires.ring.1;
         limits = c.requires.fits.limits;
         few = (omega arith, omega arith);
@@ -35,6 +43,8 @@ returns-in-Ok-new g c =
       loggers = ap (λ (s : Shared). s.loggers) shared ∙ c.in-Ok.ensures.frozen;
       pass = known;
       sinks = first_lanes setup.text_limit setup.sinks.items c.in_ok-berths.berths.items first;
+      rooms = keepings_rooms setup.text_limit loggers c.in_ok-keepings.keepings.items keepings
+          ∙ ap (λ (ls : List Logger). map (λ (l : Logger). room_for l.spec.backtrace setup.text_limit) ls) c.in-Ok.ensures.frozen;
       workers = refl;
       most = refl;
       limit = refl;

@@ -33,9 +33,10 @@ returns-then-is_stop g c =
     let inv = c.loop.invariant.at_work in
     let w = took_stop _ _ _ _ _ _ _ inv.work inv.stops c.in-Item.ensures.finds.0 (c.if-is_stop.ensures.0 refl) in
     record {
+      number = inv.number;
       ring = subst (λ (s : Shared). IsPassOf s.ring c.take_waiting.new.pass) (c.deref.ensures ∙ inv.shared) c.take_waiting.ensures.ring;
       work = w.0;
-      ended = λ here. inl w.1;
+      ended = inl w.1;
       turns = record {
         gots = c.loop.invariant.turns.gots ++ (c.in-Item.ticket, c.in-Item.item) ∷ [];
         took = took_more c.args.self.pass.known c.loop.hand.pass.known c.take_waiting.new.pass.known c.loop.invariant.turns.gots
@@ -66,30 +67,14 @@ returns-in-End g c =
     let inv = c.loop.invariant.at_work in
     let w = took_nothing _ _ _ _ _ inv.work inv.stops c.in-End.ensures.finds.0 in
     record {
+      number = inv.number;
       ring = subst (λ (s : Shared). IsPassOf s.ring c.take_waiting.new.pass) (c.deref.ensures ∙ inv.shared) c.take_waiting.ensures.ring;
       work = w.0;
-      ended = λ here. inr (w.1, c.in-End.ensures.finds.1);
+      ended = inr (w.1, c.in-End.ensures.finds.1);
       turns = record {
         gots = c.loop.invariant.turns.gots;
         took = took_no_more c.args.self.pass.known c.loop.hand.pass.known c.take_waiting.new.pass.known c.loop.invariant.turns.gots
             c.loop.invariant.turns.took c.in-End.ensures.finds.0;
-        turns = c.loop.invariant.turns.turns;
-      };
-      places = inv.places;
-    }
-
-pub returns-in-Leave : goal.returns-in-Leave
-returns-in-Leave g c =
-    let inv = c.loop.invariant.at_work in
-    let w = took_nothing _ _ _ _ _ inv.work inv.stops c.in-Leave.ensures.finds in
-    record {
-      ring = subst (λ (s : Shared). IsPassOf s.ring c.take_waiting.new.pass) (c.deref.ensures ∙ inv.shared) c.take_waiting.ensures.ring;
-      work = w.0;
-      ended = λ here. absurd (cc);
-      turns = record {
-        gots = c.loop.invariant.turns.gots;
-        took = took_no_more c.args.self.pass.known c.loop.hand.pass.known c.take_waiting.new.pass.known c.loop.invariant.turns.gots
-            c.loop.invariant.turns.took c.in-Leave.ensures.finds;
         turns = c.loop.invariant.turns.turns;
       };
       places = inv.places;
@@ -108,11 +93,11 @@ loop-preserved-else-is_stop g c =
             (sym (c.note.ensures.noted ∙ ap (λ n. take n (c.loop.hand.tickets.items ++ c.in-Item.ticket ∷ [])) inv.most)) w.0;
         stops = w.1;
         most = inv.most;
+        number = inv.number;
         room = subst (λ n. c.args.self.most ≤ n) (sym c.note.ensures.room) inv.room;
         line = c.handle.ensures.line;
         places = c.handle.ensures.places ∙ inv.places;
         limits = inv.limits;
-        left = inv.left;
       };
       turns = record {
         gots = c.loop.invariant.turns.gots ++ (c.in-Item.ticket, c.in-Item.item) ∷ [];
@@ -138,11 +123,11 @@ loop-preserved-else-is_stop-2 g c =
             (sym (c.note.ensures.noted ∙ ap (λ n. take n (c.loop.hand.tickets.items ++ c.in-Item.ticket ∷ [])) inv.most)) w.0;
         stops = w.1;
         most = inv.most;
+        number = inv.number;
         room = subst (λ n. c.args.self.most ≤ n) (sym c.note.ensures.room) inv.room;
         line = c.handle.ensures.line;
         places = c.handle.ensures.places ∙ inv.places;
         limits = inv.limits;
-        left = inv.left;
       };
       turns = record {
         gots = c.loop.invariant.turns.gots ++ (c.in-Item.ticket, c.in-Item.item) ∷ [];
@@ -168,11 +153,11 @@ loop-preserved g c =
             (sym (c.note.ensures.noted ∙ ap (λ n. take n (c.loop.hand.tickets.items ++ c.in-Item.ticket ∷ [])) inv.most)) w.0;
         stops = w.1;
         most = inv.most;
+        number = inv.number;
         room = subst (λ n. c.args.self.most ≤ n) (sym c.note.ensures.room) inv.room;
         line = c.handle.ensures.line;
         places = c.handle.ensures.places ∙ inv.places;
         limits = inv.limits;
-        left = inv.left;
       };
       turns = record {
         gots = c.loop.invariant.turns.gots ++ (c.in-Item.ticket, c.in-Item.item) ∷ [];

@@ -1,8 +1,14 @@
-use Rattle.std.proofs.Common.{length, ap, sym, subst, ◌∙◌, arith}
+use Rattle.std.proofs.Common.{◌+◌, length, map, ap, refl, sym, subst, ◌∙◌, arith}
+use Rattle.std.specs.Arc.{arc_value}
+use Rattle.std.specs.declared.thread.PromisedHandle.{PromisedHandle}
+use Rattle.alog_pool.specs.Pool.{Makes, PoolView}
+use Rattle.alog_pool.specs.Producer.{ProducerView}
+use Rattle.alog_pool.specs.declared.hand.Hand.{Hand}
+use Rattle.alog_pool.specs.declared.works.Works.{Works}
 use Rattle.alog_pool.specs.Places.{IsKeepingPart}
 use Rattle.alog_pool.specs.declared.shared.Shared.{Shared}
-use Rattle.alog_pool.proofs.Hiring.{fresh_part, one_less, still_own}
-use Rattle.alog_pool.proofs.Parts.{each3_lengths, keeping_parts_left, keepings_limits}
+use Rattle.alog_pool.proofs.Hiring.{fresh_part, kept_faithful, one_less, still_own}
+use Rattle.alog_pool.proofs.Parts.{each3_lengths, keeping_parts_left, keepings_limits, same_keepings}
 use Rattle.alog_pool.proofs.Posting.{new_account}
 use Rattle.alog_pool.proofs.pool.Pool.producer.Goals as goal
 use Rattle.alog_policy.specs.BookCalls.{IsSeatOf}
@@ -12,7 +18,7 @@ use Rattle.alog_ring.specs.declared.TheConstants.{ALL_PARTS}
 pub invariant_of-producer : goal.invariant_of-producer
 invariant_of-producer g c =
     let inside = c.self.inside in
-    let left = c.self.invariant.left in
+    let left = c.self.invariant.0.left in
     let old = inside.keepings.items in
     let new = c.share_keepings.new.keepings.items in
     let given = c.share_keepings.new.given.items in
@@ -33,7 +39,7 @@ invariant_of-producer g c =
 pub invariant_of-self : goal.invariant_of-self
 invariant_of-self g c =
     let inside = c.self.inside in
-    let left = c.self.invariant.left in
+    let left = c.self.invariant.0.left in
     let old = inside.keepings.items in
     let new = c.share_keepings.new.keepings.items in
     let given = c.share_keepings.new.given.items in
@@ -45,24 +51,69 @@ invariant_of-self g c =
     let kept = c.split-2.ensures.split.kept in
     let kept_parts = ap (λ k. k.parts) kept in
     let own = still_own inside.pass c.split.new.pass c.split.result c.split.ensures.split in
-    let less = one_less inside.pass c.split.new.pass c.split.result _ ALL_PARTS c.split.ensures.split (omega (arith, more, hired, parts)) parts in
-    record {
-      left = record {
-        pass_is = subst (λ (s : Shared). IsPassOf s.ring c.split.new.pass) (c.deref-2.ensures ∙ c.in-Ok.ensures) c.split.ensures.ring.0;
-        pass_parts = omega (arith, less);
-        losses_are = subst (λ (s : Shared). IsSeatOf s.book c.split-2.new.seat) (c.deref-3.ensures ∙ c.in-Ok.ensures) c.split-2.ensures.seat.0;
-        losses_parts = omega (arith, losses, kept_parts, more);
-        berth_parts = left.berth_parts;
-        berth_limits = left.berth_limits;
-        keeping_parts = keeping_parts_left inside.made old new given (omega (arith, more)) each left.keeping_parts;
-        each = (each3_lengths IsKeepingPart old new given each).0 ∙ left.each;
-        kept = (keepings_limits inside.text_limit old new given each left.kept).0;
-        queued = left.queued;
-        limits = left.limits;
-        few = (omega (arith, more), hired);
-        pass_unused = (own.0 ∙ left.pass_unused.0, own.1 ∙ left.pass_unused.1);
-        losses_unused = (ap (λ k. k.own) kept ∙ left.losses_unused.0, ap (λ k. k.joined) kept ∙ left.losses_unused.1);
-        berths_unused = left.berths_unused;
-      };
-      began = c.self.invariant.began;
-    }
+    let less = one_less inside.pass c.split.new.pass c.split.result _ ALL_PARTS c.split.ensures.split (omega (arith, more, hired, parts)) parts in (
+      record {
+        left = record {
+          pass_is = subst (λ (s : Shared). IsPassOf s.ring c.split.new.pass) (c.deref-2.ensures ∙ c.in-Ok.ensures) c.split.ensures.ring.0;
+          pass_faithful = kept_faithful inside.pass c.split.new.pass c.split.result c.split.ensures.split left.pass_faithful;
+          some_places = left.some_places;
+          pass_parts = omega (arith, less);
+          losses_are = subst (λ (s : Shared). IsSeatOf s.book c.split-2.new.seat) (c.deref-3.ensures ∙ c.in-Ok.ensures) c.split-2.ensures.seat.0;
+          losses_parts = omega (arith, losses, kept_parts, more);
+          berth_parts = left.berth_parts;
+          berth_limits = left.berth_limits;
+          keeping_parts = keeping_parts_left inside.made old new given (omega (arith, more)) each left.keeping_parts;
+          each = (each3_lengths IsKeepingPart old new given each).0 ∙ left.each;
+          kept = (keepings_limits inside.text_limit old new given each left.kept).0;
+          queued = left.queued;
+          limits = left.limits;
+          few = (omega (arith, more), hired);
+          pass_unused = (own.0 ∙ left.pass_unused.0, own.1 ∙ left.pass_unused.1);
+          losses_unused = (ap (λ k. k.own) kept ∙ left.losses_unused.0, ap (λ k. k.joined) kept ∙ left.losses_unused.1);
+          berths_unused = left.berths_unused;
+        };
+        some = c.self.invariant.0.some;
+        began = c.self.invariant.0.began;
+      },
+      c.self.invariant.1,
+    )
+
+pub returns-clause-made : goal.returns-clause-made
+returns-clause-made g c =
+    let S = g.row.S.Denot in
+    let inside = c.self.inside in
+    let old = inside.keepings.items in
+    let new = c.share_keepings.new.keepings.items in
+    let given = c.share_keepings.new.given.items in
+    let fresh = fresh_part inside.pass c.split.new.pass c.split.result c.split.ensures.split in
+    let lanes = same_keepings old new given c.share_keepings.ensures in
+    let after : PoolView S = record {
+      shared = arc_value inside.shared;
+      pass = c.split.new.pass;
+      losses = c.split-2.new.seat;
+      berths = inside.berths.items;
+      keepings = new;
+      made = inside.made + 1;
+      limit = inside.text_limit;
+      most = inside.tickets_max;
+      hands = map (λ (h : PromisedHandle (Hand S) (Works S)). h.promise.start.value) inside.workers.items;
+    } in
+    let producer : ProducerView = record {
+      shared = arc_value c.in-Ok.shared;
+      pass = c.split.result;
+      losses = c.split-2.result;
+      keepings = given;
+      number = inside.made;
+      limit = inside.text_limit;
+    } in
+    subst (λ (v : PoolView S). Makes v after producer) c.self.view_is
+    (record {
+      shared = c.in-Ok.ensures;
+      number = refl;
+      limit = refl;
+      entries = (fresh.own, ap (λ k. k.own) c.split-2.ensures.split.new_seat);
+      made = refl;
+      same = (refl, refl, refl, refl);
+      lanes = refl;
+      kept = lanes;
+    })

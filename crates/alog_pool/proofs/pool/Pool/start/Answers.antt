@@ -1,5 +1,8 @@
-use Rattle.std.proofs.Common.{List, map, ap, ◌∙◌}
+use Rattle.std.proofs.Common.{◌≤◌, List, map, refl, sym, subst, ap, ◌∙◌}
+use Rattle.std.specs.List.{range_with_len}
+use Rattle.alog_pool.proofs.Hiring.{some_size}
 use Rattle.alog_lane.specs.Calls.{LaneId}
+use Rattle.alog_pool.specs.Keeping.{KeepingView}
 use Rattle.alog_pool.specs.declared.shared.Shared.{Shared}
 use Rattle.alog_pool.proofs.pool.Pool.start.Goals as goal
 use Rattle.alog_sink.specs.declared.sink.Sink.{Sink}
@@ -14,8 +17,14 @@ returns-in-Ok-staff-clause-started g c =
       queue = (ap (λ r. r.places) ring ∙ shape.0, ap (λ r. r.first) ring ∙ shape.1);
       loggers = ap (λ (s : Shared). s.loggers) staffed.shared ∙ ground.loggers;
       sinks = ap (λ (l : List (LaneId (Sink g.row.S.Denot))). map (λ (i : LaneId (Sink g.row.S.Denot)). i.first) l) staffed.lanes ∙ ground.sinks;
+      rooms = ap (λ (ks : List KeepingView). map (λ (k : KeepingView). k.lane.first) ks) staffed.keepings ∙ ground.rooms;
       made = staffed.made;
       limit = staffed.limit ∙ ground.limit;
       most = staffed.most ∙ ground.most;
       hands = staffed.hands ∙ ground.workers;
+      numbers = staffed.numbers ∙ ap (λ n. range_with_len 0 n) ground.workers;
     }
+
+pub new-requires-clause-places : goal.new-requires-clause-places
+new-requires-clause-places g c κs within =
+    subst (λ n. 1 ≤ n) (sym c.in-Ok.ensures.shape.0) (some_size c.args.setup.queue _ refl (λ small. cc (c.in-Ok.ensures.bad_size.1 small)))

@@ -1,0 +1,5 @@
+pub mod Crosses
+pub mod Making
+pub mod Sending
+pub mod Copying
+pub mod Suiting

@@ -1,0 +1,54 @@
+use Rattle.std.proofs.Common.{◌≡◌, ℕ, List, length, refl, sym, ap, subst, arith}
+use Rattle.alog_load.proofs.Copying.{built_length}
+use Rattle.alog_load.proofs.Making.{makes_count, makes_shared}
+use Rattle.alog_load.proofs.loading.load.Goals as goal
+use Rattle.alog_load.specs.Crew.{AreOf}
+use Rattle.alog_load.specs.Load.{HasServed}
+use Rattle.alog_pool.specs.Places.{Each2}
+use Rattle.alog_pool.specs.declared.shared.Shared.{Shared}
+use Rattle.alog_registry.specs.declared.logger.Logger.{Logger}
+
+pub run-back-requires-clause-loggers : goal.run-back-requires-clause-loggers
+run-back-requires-clause-loggers g c κs within =
+    let config = c.args.config.now in
+    let setup = c.in_ok-setup.setup in
+    let given = c.in_ok-setup.ensures.given in
+    let long = built_length g.S.Store.tells g.S.Store.files g.S.Store.failures config c.args.stores.items setup.loggers.loggers
+    setup.sinks.items given.built in
+    let same = ap (λ (l : List Logger). length l) c.in-Ok.ensures.started.loggers in
+    let few = config.sound.few_loggers in
+    (omega (arith, long, same, c.len-loggers.ensures, config.loggers.ok.0), omega (arith, few, c.len-loggers.ensures, config.loggers.ok.0))
+
+pub shutdown-requires-clause-own : goal.shutdown-requires-clause-own
+shutdown-requires-clause-own g c κs within =
+    let run = c.run-back.ensures in
+    let shared = makes_shared c.in-Ok.pool c.run-back.new.pool run.begun run.makes in
+    subst (λ (s : Shared). AreOf s c.run-back.result.0.items) (sym shared.0) run.own
+
+pub unreachable-requires-in-Err : goal.unreachable-requires-in-Err
+unreachable-requires-in-Err g c =
+    let run = c.run-back.ensures in
+    let count = makes_count c.in-Ok.pool c.run-back.new.pool run.begun run.makes in
+    let none = c.in-Ok.ensures.started.made in
+    let many = run.many in
+    c.in-Err.ensures.out.0 refl (omega (arith, count, none, many))
+
+pub returns-in-Ok-shutdown-clause-loads : goal.returns-in-Ok-shutdown-clause-loads
+returns-in-Ok-shutdown-clause-loads g c =
+    let config = c.args.config.now in
+    let run = c.run-back.ensures in
+    let each = run.each c.if-done.true in
+    let loggers : c.len-loggers.result ≡ length config.loggers.items = omega (arith, c.len-loggers.ensures, config.loggers.ok.0) in
+    record {
+      setup = c.in_ok-setup.setup;
+      given = c.in_ok-setup.ensures.given;
+      start = c.in-Ok.pool;
+      starts = c.in-Ok.ensures.started;
+      begun = run.begun;
+      many = each.0;
+      pool = c.run-back.new.pool;
+      makes = run.makes;
+      ended = c.run-back.result.0.items;
+      served = subst (λ (n : ℕ). Each2 (HasServed n c.args.messages) run.begun c.run-back.result.0.items) loggers each.1;
+      ends = c.in-Ok-shutdown.ensures.ends;
+    }

@@ -1,0 +1,3 @@
+pub mod Load
+pub mod Crew
+pub mod Copies

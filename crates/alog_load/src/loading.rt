@@ -1,0 +1,63 @@
+//! A whole load.
+ghost use Rattle.std.specs.Prelude.{◌≡◌, ◌↔◌, IfOk, IsErrOf, count_by, length};
+ghost use Rattle.std.specs.List.{Any};
+ghost use Rattle.alog_config.specs.Built.{HasFailed};
+ghost use Rattle.alog_config.specs.Sinks.{is_leaf};
+ghost use Rattle.alog_load.specs.Load.{AreBad, Loads};
+
+use crate::crew::Crew;
+use crate::error::LoadError;
+use crate::setup::setup_of;
+use crate::{MOST_MESSAGES, MOST_PRODUCERS};
+use alog_config::Config;
+use alog_pool::{Gate, Pool, Report, StartError};
+use alog_sink::Store;
+use std::alloc::Global;
+use std::sync::Wait;
+use std::thread::Threads;
+use std::time::Clock;
+
+/// Logs as many messages of each of so many producers as are asked for, through a pool of this configuration over these stores, and
+/// ends it.
+///
+/// The producers go round among the loggers: producer p logs the texts `p i`, i from 0, at level info with time i to the logger
+/// whose number is p modulo their number. Each has a thread of its own. The report tells every ticket.
+///
+/// There are as many stores as `alog_config::leaves` tells. The gate is called round each text that a worker handles. Where there is
+/// no memory for a message, all producers stop. The test `one_list_of_tickets` shows it.
+pub fn load<
+    R: Threads + Wait + Clock + Clone + Drop + Send + 'static,
+    S: Store + Drop + Send + 'static,
+    G: Gate + Send + Sync + Drop + 'static,
+>(
+    rt: &R,
+    alloc: Global,
+    config: &Config,
+    stores: Vec<S>,
+    gate: G,
+    producers: u64,
+    messages: u64,
+) -> Result<Report<S>, LoadError>
+    requires { length stores.items ≡ count_by is_leaf config.now.sinks.items }
+    ensures bad_value { IsErrOf result LoadError.BadValue ↔ AreBad producers messages }
+    ensures failed { IsErrOf result LoadError.Store → Any (HasFailed S.failures) stores.items }
+    ensures loads { IfOk result (λ r. Loads S.tells S.files S.failures config.now stores.items producers messages r) }
+{
+    if producers < 1 || producers > MOST_PRODUCERS || messages > MOST_MESSAGES {
+        return Err(LoadError::BadValue);
+    }
+    let setup = setup_of(alloc, config, stores, (producers * messages) as usize)?;
+    let crew = Crew::new(alloc, producers as usize)?;
+    let mut pool = match Pool::start(rt, alloc, setup, gate) {
+        Ok(pool) => pool,
+        Err(StartError::OutOfMemory) => return Err(LoadError::OutOfMemory),
+        Err(StartError::BadWorkers | StartError::BadSize | StartError::BadFirst) => unreachable!(),
+    };
+    let loggers = config.loggers.len();
+    let (back, done) = crew.run(rt, &mut pool, producers, loggers, messages);
+    match pool.shutdown(rt, back) {
+        Ok(report) if done => Ok(report),
+        Ok(_) => Err(LoadError::OutOfMemory),
+        Err(_) => unreachable!(),
+    }
+}

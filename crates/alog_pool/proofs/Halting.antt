@@ -1,0 +1,85 @@
+-- Stops that are posted, one by one.
+use Rattle.std.proofs.Common.{◌≡◌, ◌<◌, ℕ, ◌+◌, List, [], ◌∷◌, ◌++◌, length, length-append, refl, sym, ap, subst, append-nil, inl, inr, arith}
+use Rattle.alog_core.specs.History.{Entry}
+use Rattle.alog_core.specs.Queue as queue
+use Rattle.alog_core.specs.Accounts.{weigh}
+use Rattle.alog_msg.specs.declared.item.Item.{Item}
+use Rattle.alog_msg.specs.declared.item.Item.TheVariants.{Stop}
+use Rattle.alog_pool.specs.Accounts.{Moved, work, of_work}
+use Rattle.alog_pool.specs.Stops.{AreStops, IsSpent, PutsStops, SawSpent}
+use Rattle.alog_pool.proofs.Moves.{answer_moved, busy_pushes, moved_more, not_moved, pushed_moved}
+use Rattle.alog_pool.proofs.Sharing.{all_more}
+use Rattle.alog_ring.specs.Calls.{by}
+use Rattle.alog_ring.specs.Kinds.{no_note}
+use Rattle.alog_ring.specs.Known.{Known}
+use Rattle.alog_ring.specs.Made.{IsFaithful}
+use Rattle.alog_ring.specs.Waits.{PushedAtLast, PushRefusedAtLast}
+use Rattle.alog_ring.specs.declared.push.PushError.{PushError}
+use Rattle.alog_ring.specs.declared.push.PushError.TheVariants as push
+
+-- a push that was refused moves nothing
+pub refused_idles : (old new : Known Item no_note) (x : Item) (e : PushError Item) → PushRefusedAtLast old new x e → Moved old new [] []
+refused_idles old new x (push.Full v n) refused =
+    busy_pushes old refused.1.0 new [] refused.1.1 (answer_moved refused.1.0 new (queue.Full n) refl refl refl refused.1.2.2)
+refused_idles old new x (push.Busy v s) refused = absurd refused.0
+refused_idles old new x (push.Spent v) refused =
+    busy_pushes old refused.1.0 new [] refused.1.1 (answer_moved refused.1.0 new queue.Spent refl refl refl refused.1.2.1)
+
+saw_spent : (h : List (Entry Item no_note)) (x : Entry Item no_note) → x.event ≡ queue.Spent → SawSpent (h ++ x ∷ [])
+saw_spent [] x is = inl is
+saw_spent (y ∷ h) x is = inr (saw_spent h x is)
+
+pub refused_spent : (old new : Known Item no_note) (x : Item) (e : PushError Item) → IsSpent e → PushRefusedAtLast old new x e
+    → SawSpent new.own
+refused_spent old new x (push.Full v n) is refused = absurd is
+refused_spent old new x (push.Busy v s) is refused = absurd is
+refused_spent old new x (push.Spent v) is refused =
+    let mid : Known Item no_note = refused.1.0 in
+    subst SawSpent (sym refused.1.2.1.0.own) (saw_spent mid.own (by mid queue.Spent) refl)
+
+-- what a push put in
+pub pushed_last : (old new : Known Item no_note) (t : ℕ) (x : Item) → PushedAtLast old new t x → Moved old new ((t, x) ∷ []) []
+pushed_last old new t x pushed = busy_pushes old pushed.0 new ((t, x) ∷ []) pushed.1 (pushed_moved pushed.0 new t x pushed.2)
+
+-- so many stops were put in
+pub record HasPut (old new : Known Item no_note) (count : ℕ) : Type 0 where
+  pub puts : List (ℕ × Item)
+  pub moved : Moved old new puts []
+  pub stops : AreStops puts
+  pub many : length puts ≡ count
+
+pub put_none : (k : Known Item no_note) → IsFaithful k → HasPut k k 0
+put_none k faithful = record { puts = []; moved = not_moved k faithful; stops = tt; many = refl }
+
+pub put_one : (j k l : Known Item no_note) (n : ℕ) (t : ℕ) → HasPut j k n → Moved k l ((t, Stop) ∷ []) [] → HasPut j l (n + 1)
+put_one j k l n t h m =
+    let many = h.many in
+    let more : length (h.puts ++ (t, Stop) ∷ []) ≡ length h.puts + 1 = length-append h.puts ((t, Stop) ∷ []) in
+    record {
+      puts = h.puts ++ (t, Stop) ∷ [];
+      moved = moved_more j k l h.puts ((t, Stop) ∷ []) [] [] h.moved m;
+      stops = all_more (λ (p : ℕ × Item). p.1 ≡ Stop) h.puts (t, Stop) h.stops refl;
+      many = omega (arith, many, more);
+    }
+
+pub put_all : (j k : Known Item no_note) (n : ℕ) → HasPut j k n → PutsStops j k n
+put_all j k n h = record { puts = h.puts; moved = h.moved; stops = h.stops; enough = inl h.many }
+
+pub put_last : (j k l : Known Item no_note) (n count : ℕ) → HasPut j k n → n < count → Moved k l [] [] → SawSpent l.own
+    → PutsStops j l count
+put_last j k l n count h few m saw =
+    let many = h.many in
+    record {
+      puts = h.puts ++ [];
+      moved = moved_more j k l h.puts [] [] [] h.moved m;
+      stops = subst AreStops (sym (append-nil h.puts)) h.stops;
+      enough = inr ((let same = ap (λ (ps : List (ℕ × Item)). length ps) (append-nil h.puts) in omega (arith, same, many, few)), saw);
+    }
+
+no_stop_works : (x : Item) → x ≡ Stop → work x ≡ 0
+no_stop_works x is = ap work is
+
+pub no_work_in_stops : (ps : List (ℕ × Item)) → AreStops ps → weigh of_work ps ≡ 0
+no_work_in_stops [] all = refl
+no_work_in_stops (p ∷ ps) all =
+    let one = no_stop_works p.1 all.0 in omega (arith, one, no_work_in_stops ps all.1)

@@ -1,0 +1,8 @@
+use Rattle.std.proofs.Common.{◌≡◌, length}
+use Rattle.alog_pool.specs.Collected.{TakesBack}
+use Rattle.alog_pool.proofs.Sharing.{Sharing}
+use Rattle.alog_pool.proofs.shutdown.take_all_back.Given as goal
+
+abbrev pub invariant-loop-place : goal.invariant-loop-place
+invariant-loop-place g l =
+    Sharing TakesBack (length l.yielded) l.fn.berths.items l.berths.items l.yielded × (l.number ≡ length l.yielded)

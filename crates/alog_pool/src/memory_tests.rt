@@ -1,0 +1,113 @@
+//! Want of memory, for runs in which one allocation fails, as `rt try --test --fail-alloc` makes it. Whichever that is, the call
+//! that meets it answers that memory is wanting, and the next one of its kind is as ever. The workers of a pool that was refused
+//! end. A worker that has no memory for a line counts a fault. The end of a pool takes no memory.
+ghost use Rattle.std.specs.Prelude.{IfOk};
+ghost use Rattle.alog_pool.specs.Pool.{Fits};
+
+use super::*;
+use crate::trial::{Files, NEVER, PLAIN, Plan, Trial, has_totals, setup_of};
+use std::alloc::{AllocError, Global};
+use std::process::Abort;
+use std::sync::{Arc, Wait};
+use std::thread::{self, Threads};
+use std::time::Clock;
+
+/// How often a pool's workers are looked for.
+const LOOKS: u32 = 10_000_000;
+
+/// A gate that does nothing: the workers of a pool share it, and it is dropped when the last of them has ended.
+#[derive(Drop)]
+struct Witness(Arc<u8>);
+
+impl Gate for Witness {
+    fn before(&self, _worker: u32, _ticket: u64) {}
+
+    fn after(&self, _worker: u32, _ticket: u64) {}
+}
+
+/// Whether the other share was dropped, at one of so many looks.
+fn is_left_alone(shared: Arc<u8>) -> bool {
+    let mut shared = shared;
+    for _ in 0..LOOKS {
+        match Arc::try_unwrap(shared) {
+            Ok(_) => return true,
+            Err(again) => shared = again,
+        }
+        thread::yield_now();
+    }
+    false
+}
+
+/// A setup of three workers and two sinks, made again where memory was wanting.
+fn setup_again(alloc: Global) -> Result<Setup<Files>, AllocError>
+    ensures { IfOk result Fits }
+{
+    let plan = Plan {
+        workers: 3,
+        ..PLAIN
+    };
+    let setup = setup_of(alloc, plan, &[&[0, 1]], &[NEVER, NEVER]);
+    if setup.is_ok() {
+        return setup;
+    }
+    setup_of(alloc, plan, &[&[0, 1]], &[NEVER, NEVER])
+}
+
+/// A share, made again where memory was wanting, and another.
+fn shares(rt: &impl Abort, alloc: Global) -> (Arc<u8>, Arc<u8>) {
+    let shared = match Arc::new(alloc, 0) {
+        Ok(shared) => Ok(shared),
+        Err(_) => Arc::new(alloc, 0),
+    };
+    let Ok(shared) = shared else {
+        panic!(rt; "no memory")
+    };
+    match Arc::try_clone(&shared) {
+        Ok(other) => (shared, other),
+        Err(_) => panic!(rt; "no memory"),
+    }
+}
+
+/// A pool, started again where memory was wanting, when all workers of the first have ended.
+fn pool_again<R: Abort + Threads + Wait + Clock + Clone + Drop + Send + 'static>(
+    rt: &R,
+    alloc: Global,
+) -> Trial {
+    let (shared, other) = shares(rt, alloc);
+    let Ok(setup) = setup_again(alloc) else {
+        panic!(rt; "no memory")
+    };
+    match Pool::start(rt, alloc, setup, Witness(other)) {
+        Ok(pool) => Trial::of(rt, alloc, pool, 2),
+        Err(error) => {
+            assert!(rt; error == StartError::OutOfMemory);
+            assert!(rt; is_left_alone(shared));
+            Trial::start(rt, alloc, setup_again(alloc), OpenGate, 2)
+        }
+    }
+}
+
+/// The file of each sink has all three lines, which are the same since the workers write them in any order, unless a line made a
+/// fault.
+fn are_told(rt: &impl Abort, report: &Report<Files>) {
+    assert!(rt; report.faults.len() == 2 && report.sinks.len() == 2);
+    for (faults, sink) in report.faults.iter().zip(report.sinks.iter()) {
+        let file = sink
+            .store()
+            .and_then(|store| store.store().files().get("log"));
+        let is_whole = file.is_some_and(|file| file.as_slice() == b"a\na\na\n".as_slice());
+        assert!(rt; is_whole == (*faults == 0));
+    }
+}
+
+#[test]
+fn want_of_memory(rt: HostRuntime) {
+    let alloc = rt.alloc();
+    let mut trial = pool_again(&rt, alloc);
+    trial.say(&rt, alloc, 0, "a");
+    trial.say(&rt, alloc, 1, "a");
+    trial.say(&rt, alloc, 0, "a");
+    let report = trial.end(&rt);
+    has_totals(&rt, &report, 3, 0, 0);
+    are_told(&rt, &report);
+}

@@ -1,0 +1,198 @@
+//! The end of a pool.
+ghost use Rattle.std.specs.Prelude.{◌≡◌, ◌≢◌, ◌↔◌, ◌≤◌, ℕ, [], length, map, vec_capacity, IfOk, IfErr, IsErr};
+ghost use Rattle.std.specs.Arc.{arc_value};
+ghost use Rattle.std.specs.List.{AllByRecursion};
+ghost use Rattle.alog_lane.specs.declared.seat.TheConstants.{ALL_PARTS as ALL_SEATS};
+ghost use Rattle.alog_policy.specs.BookCalls as book;
+ghost use Rattle.alog_pool.specs.Back.{AreAccounts, HasBack, HasSeatsBack, loss_member, pass_member};
+ghost use Rattle.alog_pool.specs.Collected.{Collects, IsClosing, TakesBack};
+ghost use Rattle.alog_pool.specs.Places.{Each2, Each3, IsSameLane};
+ghost use Rattle.alog_pool.specs.Pool.{Begins, IsUnused, lanes_of};
+ghost use Rattle.alog_pool.specs.Report.{Ends};
+ghost use Rattle.alog_ring.specs.Known.{IsPassOf};
+ghost use Rattle.alog_ring.specs.Made.{IsFaithful};
+
+use crate::alone::alone;
+use crate::berth::Berth;
+use crate::error::ProducersOut;
+use crate::ground::Worker;
+use crate::hand::Hand;
+use crate::pool::Pool;
+use crate::producer::Producer;
+use crate::report::{Blank, Report, Totals};
+use crate::shared::Shared;
+use crate::stops::post_stops;
+use alog_msg::Item;
+use alog_policy::{BookSeat, Counts};
+use alog_ring::Pass;
+use alog_sink::{Sink, Store};
+use std::sync::{Arc, Wait};
+use std::thread::Threads;
+
+impl<S: Store + Drop + Send + 'static> Pool<S> {
+    /// Ends the pool, when its producers have come back: it tells its workers to stop, waits until each has handled what it took,
+    /// and answers what became of all messages. It takes no memory.
+    ///
+    /// Where not as many producers come back as were made, nothing is done, and pool and producers come back.
+    pub fn shutdown<R: Threads + Wait>(
+        self,
+        rt: &R,
+        producers: Vec<Producer>,
+    ) -> Result<Report<S>, ProducersOut<S>>
+        requires own { AllByRecursion (λ p. p.shared ≡ self.shared) producers.items }
+        ensures out { IsErr result ↔ (length producers.items ≢ self.made) }
+        ensures back { IfErr result (λ e. (e.pool ≡ self) × (e.producers ≡ producers)) }
+        ensures ends { IfOk result (λ r. Ends S.tells S.files S.failures self producers.items r) }
+    {
+        if producers.len() as u64 != self.made {
+            return Err(ProducersOut {
+                pool: self,
+                producers,
+            });
+        }
+        let Pool {
+            alloc: _,
+            shared,
+            mut pass,
+            mut losses,
+            mut berths,
+            keepings: _,
+            made: _,
+            text_limit: _,
+            tickets_max: _,
+            workers,
+            blank,
+        } = self;
+        let Blank {
+            mut tickets,
+            mut faults,
+            mut sinks,
+        } = blank;
+        gather(&shared, &mut pass, &mut losses, producers);
+        post_stops(rt, &shared.ring, &mut pass, workers.len());
+        let handled = collect(rt, &shared, &mut pass, &mut berths, workers, &mut tickets);
+        let _whole = shared.ring.is_whole(&mut pass);
+        let lost = close_book(rt, shared, losses);
+        close_berths(rt, berths, &mut faults, &mut sinks);
+        Ok(Report {
+            totals: Totals::of(lost, handled),
+            tickets,
+            faults,
+            sinks,
+        })
+    }
+}
+
+/// Takes each producer's pass and seat back.
+fn gather(shared: &Shared, pass: &mut Pass<Item>, losses: &mut BookSeat, producers: Vec<Producer>)
+    requires ring { IsPassOf shared.now.ring pass.old }
+    requires book { book.IsSeatOf shared.now.book losses.old }
+    requires faithful { IsFaithful pass.old.known }
+    requires own { AllByRecursion (λ p. p.shared ≡ shared.now) producers.items }
+    ensures ring { IsPassOf shared.now.ring pass.new }
+    ensures book { book.IsSeatOf shared.now.book losses.new }
+    ensures passes { HasBack pass.old.known pass.new.known (map pass_member producers.items) }
+    ensures seats { HasSeatsBack losses.old.known losses.new.known (map loss_member producers.items) }
+    ensures accounts { AreAccounts producers.items }
+{
+    for producer in producers {
+        let Producer {
+            shared: _,
+            pass: own,
+            losses: seat,
+            keepings: _,
+            number: _,
+            text_limit: _,
+        } = producer;
+        shared.ring.join(pass, own);
+        shared.book.join(losses, seat);
+    }
+}
+
+/// Waits for each worker, in their order: takes its pass and its places back, and lists its tickets. Answers how many texts and
+/// flushes all handled, modulo 2^64.
+fn collect<R: Threads, S: Store + Drop + Send + 'static>(
+    rt: &R,
+    shared: &Shared,
+    pass: &mut Pass<Item>,
+    berths: &mut Vec<Berth<S>>,
+    workers: Vec<Worker<S>>,
+    tickets: &mut Vec<Vec<u64>>,
+) -> u64
+    requires ring { IsPassOf shared.now.ring pass.old }
+    requires faithful { IsFaithful pass.old.known }
+    requires unused { AllByRecursion IsUnused berths.old.items }
+    requires began { (most : ℕ) × AllByRecursion (Begins shared.now (lanes_of berths.old.items) most)
+        (map (λ h. h.promise.start.value) workers.items) }
+    requires room { (tickets.old.items ≡ []) × (length workers.items ≤ vec_capacity tickets.old) }
+    ensures ring { IsPassOf shared.now.ring pass.new }
+    ensures collects { Collects (map (λ h. h.promise.start.value) workers.items) pass.old.known pass.new.known
+        berths.old.items berths.new.items tickets.new.items result }
+{
+    let mut all = 0_u64;
+    for worker in workers {
+        let Hand {
+            shared: _,
+            pass: own,
+            berths: places,
+            line: _,
+            number: _,
+            workers: _,
+            tickets: noted,
+            most: _,
+            handled,
+        } = worker.join(rt);
+        shared.ring.join(pass, own);
+        take_all_back(berths, places);
+        tickets.push_reserved(noted);
+        all = all.wrapping_add(handled);
+    }
+    all
+}
+
+/// Takes a worker's place at each sink back.
+fn take_all_back<S: Store + Drop>(berths: &mut Vec<Berth<S>>, places: Vec<Berth<S>>)
+    requires { Each2 IsSameLane berths.old.items places.items }
+    ensures { Each3 TakesBack berths.old.items berths.new.items places.items }
+{
+    let mut number = 0;
+    for place in places {
+        berths[number].take_back(place);
+        number += 1;
+    }
+}
+
+/// What was lost in all, when all seats have come back.
+fn close_book(rt: &impl Wait, shared: Arc<Shared>, losses: BookSeat) -> Counts
+    requires seat { book.IsSeatOf (arc_value shared).book losses }
+    requires all { losses.known.parts ≡ ALL_SEATS }
+    ensures { book.Closes losses.known result }
+{
+    let Shared {
+        ring: _,
+        book,
+        loggers: _,
+    } = alone(rt, shared);
+    match book.close(losses) {
+        Ok(lost) => lost,
+        Err(_) => unreachable!(),
+    }
+}
+
+/// The sinks and the faults, in order, when all places have come back.
+fn close_berths<S: Store + Drop>(
+    rt: &impl Wait,
+    berths: Vec<Berth<S>>,
+    faults: &mut Vec<u64>,
+    sinks: &mut Vec<Sink<S>>,
+)
+    requires all { AllByRecursion (λ b. b.seat.known.parts ≡ ALL_SEATS) berths.items }
+    requires faults { (faults.old.items ≡ []) × (length berths.items ≤ vec_capacity faults.old) }
+    requires sinks { (sinks.old.items ≡ []) × (length berths.items ≤ vec_capacity sinks.old) }
+    ensures { Each3 (IsClosing S.tells S.files S.failures) berths.items sinks.new.items faults.new.items }
+{
+    for berth in berths {
+        faults.push_reserved(berth.faults);
+        sinks.push_reserved(berth.close(rt));
+    }
+}

@@ -1,0 +1,265 @@
+//! Pools whose producers log on threads of their own, beside the workers, through a queue that is far smaller than what they log.
+//!
+//! What becomes of a message is a matter of chance where the policy may lose some: what the report says is held against what the
+//! producers were told, against the tickets, and against the lines.
+ghost use Rattle.std.specs.Prelude.{◌≡◌, All};
+
+use super::*;
+use crate::trial::{Files, NEVER, PLAIN, Plan, Trial, file_of, has_faults, setup_of, tickets_of};
+use alog_msg::Level;
+use alog_policy::{Outcome, Policy};
+use alog_registry::LogReply;
+use std::alloc::Global;
+use std::process::Abort;
+use std::sync::Wait;
+use std::sync::atomic::{AtomicU64, Ordering};
+use std::thread::{self, Threads};
+use std::time::Clock;
+
+/// How many producers log.
+const TALKERS: usize = 4;
+
+/// How many messages each logs.
+const MESSAGES: u64 = 200;
+
+/// How many messages are logged in all.
+const ALL: u64 = 800;
+
+/// What all producers were told.
+#[derive(Drop)]
+struct Told {
+    posted: AtomicU64,
+    discarded: AtomicU64,
+    overrun: AtomicU64,
+}
+
+impl Told {
+    /// Nothing yet.
+    fn new() -> Told {
+        Told {
+            posted: AtomicU64::new(0),
+            discarded: AtomicU64::new(0),
+            overrun: AtomicU64::new(0),
+        }
+    }
+
+    /// Counts what one post was told.
+    fn count(&self, outcome: &Outcome<()>) {
+        match outcome {
+            Outcome::Posted { overran, .. } => {
+                self.posted.fetch_add(1, Ordering::SeqCst);
+                self.overrun.fetch_add(*overran, Ordering::SeqCst);
+            }
+            Outcome::Discarded { overran, .. } => {
+                self.discarded.fetch_add(1, Ordering::SeqCst);
+                self.overrun.fetch_add(*overran, Ordering::SeqCst);
+            }
+        }
+    }
+
+    /// The totals, where what was posted and not overrun was handled.
+    fn totals(&self) -> Totals {
+        let posted = self.posted.load(Ordering::SeqCst);
+        let discarded = self.discarded.load(Ordering::SeqCst);
+        let overrun = self.overrun.load(Ordering::SeqCst);
+        Totals {
+            asked: ALL,
+            posted,
+            discarded,
+            overrun,
+            handled: posted.wrapping_sub(overrun),
+        }
+    }
+}
+
+/// The text of the producer's message of this number is a number that no other message has.
+fn text(rt: &impl Abort, alloc: Global, producer: u64, number: u64) -> String {
+    let text = producer.wrapping_mul(MESSAGES).wrapping_add(number);
+    match format!(in alloc; "{text}") {
+        Ok(text) => text,
+        Err(_) => panic!(rt; "no memory"),
+    }
+}
+
+/// Logs the message of this number.
+fn say(rt: &(impl Abort + Wait), alloc: Global, producer: &mut Producer, number: u64, told: &Told)
+    ensures { producer.new.shared ≡ producer.old.shared }
+{
+    assert!(rt; producer.shared.loggers.len() > 0);
+    let text = text(rt, alloc, producer.number(), number);
+    match producer.log(rt, alloc, 0, Level::Info, 0, text.as_str(), None) {
+        Ok(LogReply::Logged { outcome, .. }) => told.count(&outcome),
+        _ => panic!(rt; "not logged"),
+    }
+}
+
+/// Logs all messages of this producer.
+fn say_all(rt: &(impl Abort + Wait), alloc: Global, producer: Producer, told: &Told) -> Producer
+    ensures { result.shared ≡ producer.shared }
+{
+    let mut producer = producer;
+    for number in 0..MESSAGES {
+        say(rt, alloc, &mut producer, number, told);
+    }
+    producer
+}
+
+/// Lets each producer of this pool log on a thread of its own, and answers them when all have come back.
+fn come_back<R: Abort + Threads + Wait + Sync>(
+    rt: &R,
+    alloc: Global,
+    pool: &Pool<Files>,
+    producers: Vec<Producer>,
+    told: &Told,
+) -> Vec<Producer>
+    requires own { All (λ p. p.shared ≡ pool.now.shared) producers.items }
+    ensures { All (λ p. p.shared ≡ pool.now.shared) result.items }
+{
+    let back = thread::map_vec(
+        rt,
+        producers,
+        &|producer: Producer| -> Producer
+            ensures { result.shared ≡ producer.shared }
+        { say_all(rt, alloc, producer, told) },
+    );
+    match back {
+        Ok(producers) => producers,
+        Err(_) => panic!(rt; "no memory"),
+    }
+}
+
+/// Lets all producers log.
+fn talk<R: Abort + Threads + Wait + Sync>(
+    rt: &R,
+    alloc: Global,
+    trial: Trial,
+    told: &Told,
+) -> Trial {
+    let Trial { pool, producers } = trial;
+    let producers = come_back(rt, alloc, &pool, producers, told);
+    Trial { pool, producers }
+}
+
+/// Whether each number is more than the one before it.
+fn rise(numbers: &[u64]) -> bool {
+    let mut least = 0;
+    for number in numbers {
+        if *number < least {
+            return false;
+        }
+        least = number.saturating_add(1);
+    }
+    true
+}
+
+/// The tickets of each worker rise, and no two of all are the same. There is one for each message that was handled.
+fn has_each_ticket_once(rt: &impl Abort, alloc: Global, report: &Report<Files>, workers: usize) {
+    assert!(rt; report.tickets.len() == workers);
+    let mut all = Vec::new(alloc);
+    for worker in 0..workers {
+        let tickets = tickets_of(rt, report, worker);
+        assert!(rt; rise(tickets));
+        assert!(rt; all.extend_from_slice(tickets).is_ok());
+    }
+    assert!(rt; all.len() as u64 == report.totals.handled);
+    all.sort_unstable();
+    assert!(rt; rise(&all));
+}
+
+/// The numbers of the lines of the first sink, in their order.
+fn numbers_of(rt: &impl Abort, alloc: Global, report: &Report<Files>) -> Vec<u64> {
+    let Ok(file) = str::from_utf8(file_of(rt, report, 0)) else {
+        panic!(rt; "no text")
+    };
+    let mut numbers = Vec::new(alloc);
+    for line in file.lines() {
+        match line.parse::<u64>() {
+            Ok(number) => assert!(rt; numbers.push(number).is_ok()),
+            Err(_) => panic!(rt; "no number: {line}"),
+        }
+    }
+    numbers
+}
+
+/// The messages of each producer stand in the order in which it logged them.
+fn are_in_order(rt: &impl Abort, numbers: &[u64]) {
+    for producer in 0..TALKERS as u64 {
+        let mut least = 0;
+        for number in numbers {
+            if *number / MESSAGES == producer {
+                assert!(rt; *number >= least);
+                least = number.saturating_add(1);
+            }
+        }
+    }
+}
+
+/// There is a line for each message that was handled: each is one of those that were logged, and no two are the same. What one
+/// worker wrote is in order.
+fn has_each_line_once(rt: &impl Abort, alloc: Global, report: &Report<Files>, workers: usize) {
+    let mut numbers = numbers_of(rt, alloc, report);
+    assert!(rt; numbers.len() as u64 == report.totals.handled);
+    if workers == 1 {
+        are_in_order(rt, &numbers);
+    }
+    numbers.sort_unstable();
+    assert!(rt; rise(&numbers));
+    assert!(rt; numbers.last().is_none_or(|last| *last < ALL));
+}
+
+/// What became of the messages that the producers logged under this policy, to so many workers.
+fn outcome_of<R>(rt: &R, alloc: Global, policy: Policy, workers: usize) -> Totals
+where
+    R: Abort + Threads + Wait + Clock + Clone + Drop + Send + Sync + 'static,
+{
+    let plan = Plan {
+        workers,
+        policy,
+        tickets_max: ALL as usize,
+        ..PLAIN
+    };
+    let setup = setup_of(alloc, plan, &[&[0]], &[NEVER]);
+    let trial = Trial::start(rt, alloc, setup, OpenGate, TALKERS);
+    let told = Told::new();
+    let report = talk(rt, alloc, trial, &told).end(rt);
+    assert!(rt; report.totals == told.totals());
+    has_faults(rt, &report, &[0]);
+    has_each_ticket_once(rt, alloc, &report, workers);
+    has_each_line_once(rt, alloc, &report, workers);
+    report.totals
+}
+
+/// What was asked was posted or discarded, and what was posted was overrun or handled.
+fn balances(rt: &impl Abort, totals: Totals) {
+    assert!(rt; totals.asked == ALL);
+    assert!(rt; totals.posted.checked_add(totals.discarded) == Some(ALL));
+    assert!(rt; totals.overrun.checked_add(totals.handled) == Some(totals.posted));
+}
+
+#[test]
+fn talkers_wait_for_room(rt: HostRuntime) {
+    let alloc = rt.alloc();
+    for workers in [1, 2, 8] {
+        let totals = outcome_of(&rt, alloc, Policy::Block, workers);
+        balances(&rt, totals);
+        assert!(rt; totals.discarded == 0 && totals.overrun == 0);
+    }
+}
+
+#[test]
+fn talkers_overrun_the_oldest(rt: HostRuntime) {
+    let alloc = rt.alloc();
+    for workers in [1, 2, 8] {
+        balances(&rt, outcome_of(&rt, alloc, Policy::OverrunOldest, workers));
+    }
+}
+
+#[test]
+fn talkers_are_discarded(rt: HostRuntime) {
+    let alloc = rt.alloc();
+    for workers in [1, 2, 8] {
+        let totals = outcome_of(&rt, alloc, Policy::DiscardNew, workers);
+        balances(&rt, totals);
+        assert!(rt; totals.overrun == 0);
+    }
+}

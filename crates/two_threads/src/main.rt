@@ -1,0 +1,53 @@
+//! A pool over one sink in memory, and two threads that log to it. It prints what became of the messages, and the file's lines.
+//!
+//! Read `main`, then `setup.rt` for what a pool is started with. Proved is that it is safe.
+#![tactic(auto)]
+
+ghost use Rattle.std.specs.Prelude.{◌≡◌, length};
+
+mod setup;
+
+use alog_msg::Level;
+use alog_pool::{OpenGate, Pool, Producer};
+use anyhow::{Result, bail};
+use std::alloc::Global;
+use std::io::Write;
+use std::sync::Wait;
+use std::thread;
+
+fn main(rt: HostRuntime) -> Result<()> {
+    let alloc = rt.alloc();
+    let mut pool = Pool::start(&rt, alloc, setup::setup(alloc)?, OpenGate)?;
+    let mut one = pool.producer()?;
+    let mut two = pool.producer()?;
+    thread::join_mut(
+        &rt,
+        &mut || greet(&rt, alloc, &mut one),
+        &mut || greet(&rt, alloc, &mut two),
+    );
+    let mut producers = Vec::with_capacity(alloc, 2)?;
+    producers.push_reserved(one);
+    producers.push_reserved(two);
+    let Ok(report) = pool.shutdown(&rt, producers) else {
+        bail!("a producer is missing")
+    };
+    println!(rt;
+        "handled {} of {}",
+        report.totals.handled, report.totals.asked
+    )?;
+    for sink in &report.sinks {
+        if let Some(lines) = sink.store().and_then(|store| store.files().get("log")) {
+            rt.stdout().write_all(lines.as_slice())?;
+        }
+    }
+    Ok(())
+}
+
+/// Logs a text to the first logger.
+fn greet(rt: &impl Wait, alloc: Global, producer: &mut Producer)
+    requires { length producer.old.shared.loggers ≡ 1 }
+    ensures { producer.new.shared ≡ producer.old.shared }
+{
+    let logged = producer.log(rt, alloc, 0, Level::Info, 0, "hello", None);
+    drop(logged);
+}
