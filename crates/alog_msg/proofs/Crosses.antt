@@ -1,6 +1,6 @@
 -- Texts, sources, messages and items may be shared, and may go to other threads.
 use denote.Param.Send.{IsSend, IsSync, sendable, view_send, view_sync}
-use Rattle.std.proofs.Crossing.{crosses, Vec-send, Vec-sync}
+use Rattle.std.proofs.Crossing.{crosses, Box-send, Box-sync, Vec-send, Vec-sync}
 use Rattle.alog_msg.specs.contracts.item.Item as Item
 use Rattle.alog_msg.specs.contracts.message.Message as Message
 use Rattle.alog_msg.specs.contracts.source.Source as Source
@@ -21,13 +21,13 @@ pub text_sync : IsSync Text.the_row
 text_sync = view_sync _ _ _ _ _ text_inside_sync
 
 source_inside_send : IsSend SourceInside.the_row
-source_inside_send = search (sendable, text_send) depth 20
+source_inside_send = search (sendable, Box-send, text_send) depth 20
 
 pub source_send : IsSend Source.the_row
 source_send = view_send _ _ _ _ _ source_inside_send
 
 source_inside_sync : IsSync SourceInside.the_row
-source_inside_sync = search (sendable, text_sync) depth 20
+source_inside_sync = search (sendable, Box-sync, text_sync) depth 20
 
 pub source_sync : IsSync Source.the_row
 source_sync = view_sync _ _ _ _ _ source_inside_sync

@@ -15,8 +15,16 @@ pub struct SourceRef<'a> {
 
 /// The place in a program that a message comes from: a file of at most 256 bytes, a line, and a function of at
 /// most 128 bytes. File and function may be empty. The test `source_at_its_limits` shows it.
+///
+/// It is one pointer, so that a message, which moves through a queue, fits a line of the cache with or without it.
 #[derive(Debug, Drop)]
 pub struct Source {
+    place: Box<Place>,
+}
+
+/// What a source says.
+#[derive(Debug, Drop)]
+struct Place {
     file: Text,
     line: u32,
     function: Text,
@@ -29,9 +37,9 @@ impl Model for Source {
 
     ghost Value = { SourceFields };
 
-    ghost view = { λ s. record { file = s.file; line = s.line; function = s.function } };
+    ghost view = { λ s. record { file = s.place.value.file; line = s.place.value.line; function = s.place.value.function } };
 
-    ghost invariant = { λ s. (length s.file ≤ FILE_MAX) × (length s.function ≤ FUNCTION_MAX) };
+    ghost invariant = { λ s. (length s.place.value.file ≤ FILE_MAX) × (length s.place.value.function ≤ FUNCTION_MAX) };
 }
 
 impl Source {
@@ -43,10 +51,13 @@ impl Source {
         requires function_fits { length source.function.now ≤ FUNCTION_MAX }
         ensures { IfOk result (λ s. s ≡ fields_of source.entry) }
     {
-        Ok(Source {
+        let place = Place {
             file: Text::copy_of(alloc, source.file)?,
             line: source.line,
             function: Text::copy_of(alloc, source.function)?,
+        };
+        Ok(Source {
+            place: Box::new(alloc, place)?,
         })
     }
 
@@ -68,14 +79,14 @@ impl Source {
         ensures value { result.now ≡ self.now.file }
         ensures fits { length result.now ≤ FILE_MAX }
     {
-        self.file.as_str()
+        self.place.file.as_str()
     }
 
     /// The line in the file.
     pub fn line(&self) -> u32
         ensures { result ≡ self.now.line }
     {
-        self.line
+        self.place.line
     }
 
     /// The name of the function.
@@ -83,6 +94,6 @@ impl Source {
         ensures value { result.now ≡ self.now.function }
         ensures fits { length result.now ≤ FUNCTION_MAX }
     {
-        self.function.as_str()
+        self.place.function.as_str()
     }
 }
