@@ -1,5 +1,6 @@
 //! `alog check` on the whole program: files that have a configuration, that have none, and that cannot be read.
 use crate::examples::{DAILY_ERRORS, FAN, ONE_FILE, ROTATING};
+use crate::progress::Screen;
 use crate::run;
 use crate::script_tests::Narrow;
 use crate::stores::Folders;
@@ -17,17 +18,20 @@ use std::{env, fs, process};
 pub(crate) trait Host: AllocGlobal
     + Files
     + Folders
+    + Screen
     + Threads
     + Wait
     + Clock
     + Clone
     + Drop
     + Send
+    + Sync
     + 'static {}
 
 impl<R> Host for R
 where
-    R: AllocGlobal + Files + Folders + Threads + Wait + Clock + Clone + Drop + Send + 'static,
+    R: AllocGlobal + Files + Folders + Screen + Threads + Wait + Clock,
+    R: Clone + Drop + Send + Sync + 'static,
 {}
 
 // The smallest configuration.

@@ -7,15 +7,17 @@ ghost use Rattle.alog.specs.Status.{load_status_of};
 
 use crate::configuration::{read_document, refuse};
 use crate::program::fail;
+use crate::progress::{Progress, Screen};
 use crate::request::LoadRequest;
 use crate::status::{load_number_of, load_status_of};
 use crate::stores::{Folders, folder_stores, memory_stores};
 use crate::totals::write_totals;
 use alog_config::{Config, leaves, read};
 use alog_load::{LoadError, load};
-use alog_pool::{OpenGate, Report};
+use alog_pool::Report;
 use alog_replay::ReplayError;
 use alog_sink::{MemStore, Store};
+use std::alloc::AllocError;
 use std::io::Write;
 use std::rt::Files;
 use std::sync::Wait;
@@ -30,7 +32,8 @@ pub(crate) fn load_command<R, O: Write, E: Write>(
     errors: &mut E,
 ) -> u8
 where
-    R: AllocGlobal + Files + Folders + Threads + Wait + Clock + Clone + Drop + Send + 'static,
+    R: AllocGlobal + Files + Folders + Screen + Threads + Wait + Clock,
+    R: Clone + Drop + Send + Sync + 'static,
     ensures { MatchOption request.now.folder
         (LoadsFile ⟦<MemStore as Store>⟧.tells ⟦<MemStore as Store>⟧.files ⟦<MemStore as Store>⟧.failures
         request.now result (O.contents output.old) (O.contents output.new))
@@ -52,7 +55,8 @@ fn load_document<R, O: Write, E: Write>(
     errors: &mut E,
 ) -> u8
 where
-    R: AllocGlobal + Files + Folders + Threads + Wait + Clock + Clone + Drop + Send + 'static,
+    R: AllocGlobal + Files + Folders + Screen + Threads + Wait + Clock,
+    R: Clone + Drop + Send + Sync + 'static,
     ensures { MatchOption request.now.folder
         (LoadsDocument ⟦<MemStore as Store>⟧.tells ⟦<MemStore as Store>⟧.files ⟦<MemStore as Store>⟧.failures
         document.now request.now result (O.contents output.old) (O.contents output.new))
@@ -78,7 +82,7 @@ where
     }
 }
 
-/// Makes the load of a configuration over these stores, and writes its totals.
+/// Makes the load of a configuration over these stores, and writes its totals. While it goes on, a terminal shows how far it is.
 fn load_over<R, S: Store + Drop + Send + 'static, O: Write, E: Write>(
     rt: &R,
     config: &Config,
@@ -88,7 +92,7 @@ fn load_over<R, S: Store + Drop + Send + 'static, O: Write, E: Write>(
     errors: &mut E,
 ) -> u8
 where
-    R: AllocGlobal + Threads + Wait + Clock + Clone + Drop + Send + 'static,
+    R: AllocGlobal + Screen + Threads + Wait + Clock + Clone + Drop + Send + Sync + 'static,
     requires many { length stores.items ≡ count_by is_leaf config.now.sinks.items }
     requires fresh { All (IsNew S.tells S.files S.failures) stores.items }
     ensures { LoadsOn S.tells S.files S.failures config.now request.now result (O.contents output.old) (O.contents output.new) }
@@ -98,15 +102,16 @@ where
         messages,
         ..
     } = *request;
-    match load(
-        rt,
-        rt.alloc(),
-        config,
-        stores,
-        OpenGate,
-        producers,
-        messages,
-    ) {
+    let own: Result<R, AllocError> = rt.clone();
+    let Ok(own) = own else {
+        return refuse_load(LoadError::OutOfMemory, errors);
+    };
+    let gate = Progress::of(own, producers.saturating_mul(messages));
+    let made = load(rt, rt.alloc(), config, stores, gate, producers, messages);
+    if rt.is_watched() {
+        rt.clear();
+    }
+    match made {
         Ok(report) => tell(report, output, errors),
         Err(fault) => refuse_load(fault, errors),
     }

@@ -3,7 +3,7 @@
 //! `program.rt` has the one public function, `run`: the whole program over any reader and two writers, which answers
 //! the exit status. `words.rt` reads the command line into a request (`request.rt`): `command.rt` has the commands and
 //! their help for `clap`, and `options.rt` and `load_options.rt` read the values that it found. `line.rt` makes the line
-//! of `alog format`, `check.rt`, `replay_config.rt` and `load.rt` do what begins with the configuration of a file, and
+//! of `alog format`, `check.rt`, `replay_config.rt` and `load.rt` (with `progress.rt`) do what begins with the configuration of a file, and
 //! `status.rt` says which status and which line on standard error each fault has. `main` collects the words
 //! (`arguments.rt`), and hands `run` these and the standard streams.
 #![tactic(auto)]
@@ -29,6 +29,7 @@ mod load_options;
 mod load_tests;
 mod options;
 mod program;
+mod progress;
 mod replay_config;
 mod request;
 #[cfg(test)]

@@ -15,6 +15,7 @@ use crate::arguments::ArgumentsError;
 use crate::check::check_command;
 use crate::line::line_of;
 use crate::load::load_command;
+use crate::progress::Screen;
 use crate::replay_config::replay_config_command;
 use crate::request::{LineRequest, Request};
 use crate::status::{number_of, status_of};
@@ -39,7 +40,8 @@ use std::time::Clock;
 /// `alog replay` replays the script of `input`, as `alog_replay::replay` does, or with `--config` on the configuration of
 /// a file, as `replay_config` does; where that file has none, nothing is read of the script and nothing is written on
 /// `output`. `alog format` writes the line that its arguments ask for. `alog load` makes a load, as `alog_load::load` does,
-/// and writes its totals; no other command starts threads.
+/// and writes its totals; while it goes on, a terminal that standard error goes to shows how many messages were handled. No other
+/// command starts threads.
 pub fn run<R, S: AsStr, I: Read, O: Write, E: Write>(
     rt: &R,
     words: &[S],
@@ -48,7 +50,8 @@ pub fn run<R, S: AsStr, I: Read, O: Write, E: Write>(
     errors: &mut E,
 ) -> u8
 where
-    R: AllocGlobal + Files + Folders + Threads + Wait + Clock + Clone + Drop + Send + 'static,
+    R: AllocGlobal + Files + Folders + Screen + Threads + Wait + Clock,
+    R: Clone + Drop + Send + Sync + 'static,
     ensures status { result ≤ 4 }
     ensures usage { result ≡ 1 → Keeps (O.contents output.old) (O.contents output.new) }
     ensures replays { AsksReplay (map S.text words.now)

@@ -17,13 +17,13 @@ use std::thread::{self, Threads};
 use std::time::Clock;
 
 /// How many producers log.
-const TALKERS: usize = 4;
+const TALKERS: usize = 8;
 
 /// How many messages each logs.
-const MESSAGES: u64 = 200;
+const MESSAGES: u64 = 10_000;
 
 /// How many messages are logged in all.
-const ALL: u64 = 800;
+const ALL: u64 = 80_000;
 
 /// What all producers were told.
 #[derive(Drop)]

@@ -1,4 +1,4 @@
--- A sink may go to another thread where its store may, and so may files in memory, items, and buffers.
+-- A sink may go to another thread where its store may, and so may files in memory and buffers.
 use denote.RattleType.{RattleType}
 use denote.Param.Send.{IsSend, sendable, view_send, struct_send, recorded_send}
 use denote.Struct.Declared.{shape}
@@ -12,12 +12,7 @@ use Rattle.circular_buffer.specs.contracts.heap.HeapCircularBuffer.TheInside as 
 use Rattle.alog_format.proofs.Crosses.{bytes-send, deed-send}
 use Rattle.alog_format.specs.contracts.line_buf.LineBuf as LineBuf
 use Rattle.alog_format.specs.contracts.line_buf.LineBuf.TheInside as LineInside
-use Rattle.alog_msg.specs.contracts.item.Item as QueueItem
-use Rattle.alog_msg.specs.contracts.message.Message as Message
-use Rattle.alog_msg.specs.contracts.source.Source as Source
-use Rattle.alog_msg.specs.contracts.source.Source.TheInside as SourceInside
-use Rattle.alog_msg.specs.contracts.text.Text as Text
-use Rattle.alog_msg.specs.contracts.text.Text.TheInside as TextInside
+use Rattle.alog_msg.proofs.Crosses.{text_send}
 use Rattle.alog_pattern.specs.contracts.items.Item as Item
 use Rattle.alog_pattern.specs.contracts.items.Padding as Padding
 use Rattle.alog_pattern.specs.contracts.patterns.Pattern as Pattern
@@ -37,24 +32,6 @@ use Rattle.alog_sink.specs.contracts.rotation.Rotation as Rotation
 use Rattle.alog_sink.specs.contracts.rotation.Rotation.TheInside as RotationInside
 use Rattle.alog_sink.specs.contracts.sink.Sink as Sink
 use Rattle.alog_sink.specs.contracts.target.Target as Target
-
-text_inside_send : IsSend TextInside.the_row
-text_inside_send = search (sendable, crosses, Vec-send) depth 20
-
-text_send : IsSend Text.the_row
-text_send = view_send _ _ _ _ _ text_inside_send
-
-source_inside_send : IsSend SourceInside.the_row
-source_inside_send = search (sendable, crosses, text_send) depth 20
-
-source_send : IsSend Source.the_row
-source_send = view_send _ _ _ _ _ source_inside_send
-
-message_send : IsSend (Message.the_field).row
-message_send = search (sendable, crosses, text_send, source_send) depth 60 fits 50000
-
-pub queued_send : IsSend (QueueItem.the_field).row
-queued_send = search (sendable, message_send) depth 20
 
 line_inside_send : IsSend LineInside.the_row
 line_inside_send = search (sendable, crosses, bytes-send, deed-send) depth 20

@@ -8,7 +8,8 @@ use Rattle.alog_lane.proofs.Crosses.{seat_send, lane_sync}
 use Rattle.alog_lane.specs.contracts.lane.Lane as Lane
 use Rattle.alog_lane.specs.contracts.seat.LaneSeat as LaneSeat
 use Rattle.alog_msg.specs.contracts.item.Item as Item
-use Rattle.alog_sink.proofs.Crosses.{sink_send, store_send, queued_send, line_send}
+use Rattle.alog_msg.proofs.Crosses.{item_send}
+use Rattle.alog_sink.proofs.Crosses.{sink_send, store_send, line_send}
 use Rattle.alog_sink.specs.contracts.leaf.SinkError as SinkError
 use Rattle.alog_sink.specs.contracts.sink.Sink as Sink
 use Rattle.alog_sink.specs.contracts.turn.Served as Served
@@ -40,7 +41,7 @@ its_lane = lane_sync (Sink.the_row Yielding.the_row) Item.the_row Answer LineBuf
 
 its_writer : IsSend Writer.the_row
 its_writer = recorded_send (Writer.the_field).row _ _ (Writer.the_type).to_one (struct_send (shape Writer.the_type)
-    (its_seat, (queued_send, (line_send, (search (sendable, Vec-send), tt)))))
+    (its_seat, (item_send, (line_send, (search (sendable, Vec-send), tt)))))
 
 pub join-requires-send-F : goal.join-requires-send-F
 join-requires-send-F g c κs l = param_send 1 (arg-0-1 g.row.rt g.rt.laws g.rt.Threads-dict κs) (search (sendable, its_writer, its_lane) depth 8)
