@@ -29,5 +29,3 @@ pub use laws::{days_are_of_dates, one_line};
 pub use line_buf::{LineBuf, NoRoomError};
 pub use lines::format;
 
-#[cfg(test)]
-mod tests;

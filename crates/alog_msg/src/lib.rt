@@ -14,8 +14,6 @@ mod level;
 mod limits;
 mod message;
 mod source;
-#[cfg(test)]
-mod tests;
 mod text;
 
 pub use item::Item;

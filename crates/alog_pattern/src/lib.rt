@@ -20,5 +20,3 @@ pub use items::{Item, Padding, Side, WIDTH_MAX};
 pub use laws::{one_reading, padded_length};
 pub use patterns::{LINE_MAX, PATTERN_MAX, Pattern, PatternError};
 
-#[cfg(test)]
-mod tests;
