@@ -28,4 +28,3 @@ pub use context::{Context, OFFSET_MAX, Zone};
 pub use laws::{days_are_of_dates, one_line};
 pub use line_buf::{LineBuf, NoRoomError};
 pub use lines::format;
-

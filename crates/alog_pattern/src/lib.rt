@@ -19,4 +19,3 @@ pub use flags::Flag;
 pub use items::{Item, Padding, Side, WIDTH_MAX};
 pub use laws::{one_reading, padded_length};
 pub use patterns::{LINE_MAX, PATTERN_MAX, Pattern, PatternError};
-
