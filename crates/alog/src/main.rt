@@ -30,6 +30,8 @@ mod load_tests;
 mod options;
 mod program;
 mod progress;
+#[cfg(test)]
+mod progress_tests;
 mod replay_config;
 mod request;
 #[cfg(test)]
