@@ -41,6 +41,18 @@ match_across f None p A A2 B B2 is a b m = subst (λ q. MatchOption q A2 B2) is 
 match_across f (Some x) p A A2 B B2 is a b m = subst (λ q. MatchOption q A2 B2) is (b x m)
 
 module _ {S : Type 0} (tells : Bool) (files : S → Files) (failures : S → ℕ) (c : Config) (r : LoadRequest) where
+  -- where there is no memory, nothing is written
+  pub no_memory : (status : ℕ) (old : Option (List ℕ)) → status ≡ load_status_of OutOfMemory → LoadsOn tells files failures c r status old old
+  no_memory status old e = record {
+    done = λ zero. absurd (omega (arith, e, zero));
+    bad = λ one. absurd (omega (arith, e, one));
+    accepted = λ two. omega (arith, e, two);
+    fault = λ three. absurd (omega (arith, e, three));
+    unwritten = λ four. Keeps-refl old;
+    due = λ are. inr e;
+    others = omega (arith, e);
+  }
+
   -- a load by numbers that are out of their bounds is refused as such, and no other
   pub loads_fault : (fault : LoadError) (status : ℕ) (old : Option (List ℕ)) → status ≡ load_status_of fault
       → (IsErrOf {T = Report S} (Err fault) BadValue ↔ AreBad r.producers r.messages) → LoadsOn tells files failures c r status old old
@@ -62,15 +74,7 @@ module _ {S : Type 0} (tells : Bool) (files : S → Files) (failures : S → ℕ
     due = λ are. let no : IsErrOf {T = Report S} (Err Store) BadValue = bad.1 are in absurd (cc);
     others = omega (arith, e);
   }
-  loads_fault OutOfMemory status old e bad = record {
-    done = λ zero. absurd (omega (arith, e, zero));
-    bad = λ one. absurd (omega (arith, e, one));
-    accepted = λ two. omega (arith, e, two);
-    fault = λ three. absurd (omega (arith, e, three));
-    unwritten = λ four. Keeps-refl old;
-    due = λ are. inr e;
-    others = omega (arith, e);
-  }
+  loads_fault OutOfMemory status old e bad = no_memory status old e
 
 -- Over two types of stores, the second for a folder.
 module _ {S F : Type 0} (tells : Bool) (files : S → Files) (failures : S → ℕ) (tells2 : Bool) (files2 : F → Files) (failures2 : F → ℕ)
