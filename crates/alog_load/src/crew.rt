@@ -14,6 +14,7 @@ use std::snapshot::Snapshot;
 use std::sync::atomic::{AtomicBool, Ordering};
 use std::sync::{Arc, Wait};
 use std::thread::{self, PromisedHandle, Threads};
+use std::time::Clock;
 
 /// A producer's thread.
 type Away = PromisedHandle<Back, Goes>;
@@ -51,7 +52,7 @@ impl Crew {
     /// its messages.
     pub(crate) fn run<
         S: Store + Drop + Send + 'static,
-        R: Threads + Wait + Clone + Drop + Send + 'static,
+        R: Threads + Wait + Clock + Clone + Drop + Send + 'static,
     >(
         self,
         rt: &R,
@@ -103,7 +104,7 @@ fn make<S: Store + Drop + Send + 'static>(
 }
 
 /// Sends each producer off, and answers whether there was a thread for each. One that has none is back at once.
-fn send_all<R: Threads + Wait + Clone + Drop + Send + 'static>(
+fn send_all<R: Threads + Wait + Clock + Clone + Drop + Send + 'static>(
     rt: &R,
     alloc: Global,
     producers: Vec<Producer>,
@@ -136,7 +137,7 @@ fn send_all<R: Threads + Wait + Clone + Drop + Send + 'static>(
 
 /// Sends a producer off on a thread of its own. Where there is no thread for it, it comes back unused, and those that are away are
 /// told to end early.
-fn send<R: Threads + Wait + Clone + Drop + Send + 'static>(
+fn send<R: Threads + Wait + Clock + Clone + Drop + Send + 'static>(
     rt: &R,
     alloc: Global,
     producer: Producer,

@@ -11,6 +11,7 @@ use std::snapshot::Snapshot;
 use std::sync::atomic::{AtomicBool, Ordering};
 use std::sync::{Arc, Wait};
 use std::thread::Promise;
+use std::time::Clock;
 
 /// What a producer is sent off for: so many messages to the logger of this number.
 #[derive(Clone, Copy, Debug, Drop)]
@@ -59,7 +60,7 @@ impl Promise<Back> for Goes {
 }
 
 /// Runs the errand, on the thread of the producer. It ends early where there is no memory, or where another producer found none.
-pub(crate) fn go<R: Wait + Drop>(
+pub(crate) fn go<R: Wait + Clock + Drop>(
     rt: R,
     alloc: Global,
     producer: Producer,
@@ -77,7 +78,7 @@ pub(crate) fn go<R: Wait + Drop>(
 }
 
 /// Logs each message of the errand, and answers whether that was done.
-fn log_all<R: Wait>(
+fn log_all<R: Wait + Clock>(
     rt: &R,
     alloc: Global,
     producer: &mut Producer,
@@ -102,7 +103,7 @@ fn log_all<R: Wait>(
 }
 
 /// Logs the message of this number at this time, and answers whether there was memory for it.
-fn log_one<R: Wait>(
+fn log_one<R: Wait + Clock>(
     rt: &R,
     alloc: Global,
     producer: &mut Producer,

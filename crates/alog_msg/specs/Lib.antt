@@ -1,3 +1,4 @@
 pub mod Level
 pub mod Source
 pub mod Message
+pub mod Text

@@ -20,6 +20,7 @@ pub use item::Item;
 pub use level::Level;
 pub use limits::{
     DEFAULT_TEXT_LIMIT, FILE_MAX, FUNCTION_MAX, LEAST_TEXT_LIMIT, LOGGER_NAME_MAX, MOST_TEXT_LIMIT,
+    SHORT_TEXT_MAX,
 };
 pub use message::{Message, MessageError};
 pub use source::{Source, SourceRef};

@@ -17,3 +17,6 @@ pub const FUNCTION_MAX: usize = 128;
 
 /// The most bytes of a logger's name.
 pub const LOGGER_NAME_MAX: usize = 64;
+
+/// A text of at most so many bytes lies in its message, and takes no memory of its own.
+pub const SHORT_TEXT_MAX: usize = 64;

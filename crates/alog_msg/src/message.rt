@@ -1,4 +1,4 @@
-ghost use Rattle.std.specs.Prelude.{◌≡◌, ◌↔◌, ◌<◌, ◌≤◌, IfOk, IsErrOf, length};
+ghost use Rattle.std.specs.Prelude.{◌≡◌, ◌↔◌, ◌<◌, ◌≤◌, IfOk, IsErr, IsErrOf, length};
 ghost use Rattle.alog_msg.specs.declared.message.MessageError.TheVariants.{OutOfMemory};
 
 use crate::level::Level;
@@ -47,11 +47,12 @@ pub struct Message {
 }
 
 impl Message {
-    ghost use Rattle.alog_msg.specs.Message.{source_of, HasLongField};
+    ghost use Rattle.alog_msg.specs.Message.{source_of, HasLongField, TakesMemory};
 
     /// Makes a message of copies of the text and the source. A text limit is 64 to 8,192 bytes.
     ///
-    /// The refusals are tested in the order of `MessageError`.
+    /// The refusals are tested in the order of `MessageError`. A message without a source whose text has at most
+    /// `SHORT_TEXT_MAX` bytes takes no memory.
     ///
     /// ```text
     /// let source = SourceRef { file: "src/net.rt", line: 12, function: "connect" };
@@ -81,6 +82,7 @@ impl Message {
         ensures text_too_long { IsErrOf result MessageError.TextTooLong ↔ (text_limit < length text.now) }
         ensures field_too_long { IsErrOf result MessageError.FieldTooLong ↔
             ((length text.now ≤ text_limit) × HasLongField source.entry) }
+        ensures out_of_memory { IsErrOf result MessageError.OutOfMemory → TakesMemory text.now source.entry }
     {
         if text.len() > text_limit {
             return Err(MessageError::TextTooLong);
@@ -104,11 +106,12 @@ impl Message {
         })
     }
 
-    /// Copies the message: for a backtrace, which keeps what is posted besides.
+    /// Copies the message: for a backtrace, which keeps what is posted besides. It takes memory where `new` does.
     ///
     /// The test `copy_of_a_message` shows it.
     pub fn copy(&self, alloc: Global) -> Result<Message, AllocError>
-        ensures { IfOk result (λ m. m ≡ self.now) }
+        ensures copy { IfOk result (λ m. m ≡ self.now) }
+        ensures short { IsErr result → TakesMemory self.now.text self.now.source }
     {
         let source = match &self.source {
             Some(source) => Some(Source::copy_of(alloc, source.lend())?),

@@ -1,27 +1,39 @@
-ghost use Rattle.std.specs.Prelude.{◌≡◌, ◌↔◌, [], IfOk, IsTrue, length, string_bytes};
+ghost use Rattle.std.specs.Prelude.{◌≡◌, ◌≤◌, ◌↔◌, [], IsOk, IfOk, IsTrue, length, string_bytes};
+ghost use Rattle.alog_msg.specs.Text.{bytes_of};
 
+use crate::limits::SHORT_TEXT_MAX;
+use arrayvec::ArrayString;
 use std::alloc::{AllocError, Global};
 use std::marker::Model;
 
 /// The text of a message or of a field of it, in UTF-8. Contracts see it as the list of its bytes.
 ///
 /// ```text
-/// let text = Text::from_string(String::from_str(alloc, "né")?);
+/// let text = Text::copy_of(alloc, "né")?;
 /// assert_eq!(rt; text.len(), 3);
 /// assert!(rt; text.as_str() == "né");
 /// ```
 /// The test `text_of_a_string` runs it.
 #[derive(Debug, Drop)]
 pub struct Text {
-    string: String,
+    kept: Kept,
+}
+
+/// Where the bytes of a text are: a short one, as most messages have, lies in the value itself. So it takes no memory, and it
+/// goes through a queue with its message.
+#[derive(Debug, Drop)]
+enum Kept {
+    Short(ArrayString<SHORT_TEXT_MAX>),
+    Long(String),
 }
 
 impl Model for Text {
-    ghost use Rattle.std.specs.Prelude.{ℕ, List, string_bytes};
+    ghost use Rattle.std.specs.Prelude.{ℕ, List};
+    ghost use Rattle.alog_msg.specs.Text.{bytes_of};
 
     ghost Value = { List ℕ };
 
-    ghost view = { λ t. string_bytes t.string };
+    ghost view = { λ t. bytes_of t.kept };
 }
 
 impl Text {
@@ -29,47 +41,48 @@ impl Text {
     pub fn from_string(string: String) -> Text
         ensures { result ≡ string_bytes string }
     {
-        Text { string }
+        Text {
+            kept: Kept::Long(string),
+        }
     }
 
-    /// Copies a text, which takes as many bytes as the text has.
+    /// Copies a text. One of at most `SHORT_TEXT_MAX` bytes takes no memory, and a longer one as many bytes as it has.
     pub fn copy_of(alloc: Global, text: &str) -> Result<Text, AllocError>
-        ensures { IfOk result (λ t. t ≡ text.now) }
+        ensures copy { IfOk result (λ t. t ≡ text.now) }
+        ensures short { length text.now ≤ SHORT_TEXT_MAX → IsOk result }
     {
-        let string = String::from_str(alloc, text)?;
-        Ok(Text { string })
-    }
-
-    /// Gives the string back, without memory.
-    pub fn into_string(self) -> String
-        ensures { string_bytes result ≡ self }
-    {
-        let Text { string } = self;
-        string
+        let kept = match ArrayString::from(text) {
+            Ok(short) => Kept::Short(short),
+            Err(_) => Kept::Long(String::from_str(alloc, text)?),
+        };
+        Ok(Text { kept })
     }
 
     pub fn as_str(&self) -> &str
         ensures { result.now ≡ self.now }
     {
-        self.string.as_str()
+        match &self.kept {
+            Kept::Short(short) => short.as_str(),
+            Kept::Long(string) => string.as_str(),
+        }
     }
 
     pub fn as_bytes(&self) -> &[u8]
         ensures { result.now ≡ self.now }
     {
-        self.string.as_bytes()
+        self.as_str().as_bytes()
     }
 
     /// The number of bytes.
     pub fn len(&self) -> usize
         ensures { result ≡ length self.now }
     {
-        self.string.len()
+        self.as_str().len()
     }
 
     pub fn is_empty(&self) -> bool
         ensures { IsTrue result ↔ (self.now ≡ []) }
     {
-        self.string.is_empty()
+        self.as_str().is_empty()
     }
 }

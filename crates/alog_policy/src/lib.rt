@@ -11,7 +11,7 @@
 //! `specs/Desk.antt` for the desk, and `specs/Runs.antt` for what is true of whole runs; then `policy.rt`, `progress.rt`,
 //! `outlet.rt` and `posting.rt` (`post_now`), `desk.rt` with `following.rt` (what follows in a post after a step of it),
 //! and `desk_outlet.rt` with `rounds.rt` (rounds whose steps are made at once); `port.rt` with `specs/Port.antt`, and
-//! `waiting.rt` (`post_wait`).
+//! `waiting.rt` (`post_wait`) with `room.rt` (how it waits).
 //!
 //! Of the loss book contracts see one history of adds, each with its seat; what `counts` and `close` answer are sums of
 //! such histories. Read `specs/BookAdds.antt` and `specs/BookCalls.antt`, then `loss_book.rt` (a book, adds and counts),
@@ -42,6 +42,7 @@ mod port_tests;
 mod post;
 mod posting;
 mod progress;
+mod room;
 mod rounds;
 #[cfg(test)]
 mod tests;

@@ -8,12 +8,10 @@ use crate::outlet::Outlet;
 use crate::policy::{Outcome, Policy, Why};
 use crate::port::Port;
 use crate::posting::post_now;
+use crate::room::Room;
 use alog_ring::{Limit, PushError};
-use crossbeam_utils::Backoff;
 use std::sync::Wait;
-
-/// Steps of the backoff where another push was faster.
-const BUSY_STEPS: u32 = 4;
+use std::time::Clock;
 
 /// Brings the value into the ring under the policy, and answers how that went. Under `Block` it waits until there is room,
 /// so that it is discarded only where no ticket is left; under the other policies it is `post_now`. It takes no memory.
@@ -21,7 +19,7 @@ const BUSY_STEPS: u32 = 4;
 /// That it returns under `Block` is not promised while nobody pops, or while other pushes are always faster. A discarded
 /// value is handed back, and losses are counted as by `post_now`. The test `a_lone_port_posts` shows it.
 pub fn post_wait<T: Drop, L: Limit<T>>(
-    rt: &impl Wait,
+    rt: &(impl Wait + Clock),
     port: &mut Port<'_, T, L>,
     policy: Policy,
     value: T,
@@ -33,15 +31,19 @@ pub fn post_wait<T: Drop, L: Limit<T>>(
     ensures blocks { policy ≡ under.Block → IsPostedOrSpent result }
 {
     match policy {
-        Policy::Block => post_blocking(rt, port, value),
+        Policy::Block => {
+            let room = Room::new(port.ring.places());
+            post_blocking(rt, port, room, value)
+        }
         Policy::OverrunOldest | Policy::DiscardNew => post_now(port, policy, value),
     }
 }
 
 /// Makes the rounds of a post that blocks, until one ends it.
 fn post_blocking<O: Outlet>(
-    rt: &impl Wait,
+    rt: &(impl Wait + Clock),
     outlet: &mut O,
+    mut room: Room,
     mut value: O::Value,
 ) -> Outcome<O::Value>
     requires fit { O.is_fit outlet.old }
@@ -50,7 +52,6 @@ fn post_blocking<O: Outlet>(
     ensures fit { O.is_fit outlet.new }
     ensures blocks { IsPostedOrSpent result }
 {
-    let backoff = Backoff::new();
     for _ in rt.forever() {
         match outlet.push_once(value) {
             Ok(ticket) => return Outcome::Posted { ticket, overran: 0 },
@@ -61,7 +62,7 @@ fn post_blocking<O: Outlet>(
                 },
             ) => {
                 value = back;
-                backoff.snooze();
+                room.wait(rt);
             }
             Err(
                 PushError::Busy {
@@ -70,7 +71,7 @@ fn post_blocking<O: Outlet>(
                 },
             ) => {
                 value = back;
-                give_way(&backoff);
+                room.give_way();
             }
             Err(PushError::Spent { value: back }) => {
                 outlet.count_discarded();
@@ -83,11 +84,4 @@ fn post_blocking<O: Outlet>(
         }
     }
     unreachable!()
-}
-
-/// Lets the thread that is in the way get on.
-fn give_way(backoff: &Backoff) {
-    for _ in 0..BUSY_STEPS {
-        backoff.spin();
-    }
 }

@@ -8,6 +8,7 @@ use std::process::Abort;
 use std::sync::atomic::{AtomicBool, AtomicU32, Ordering};
 use std::sync::{Arc, Wait};
 use std::thread;
+use std::time::Clock;
 
 // How often a flag is looked at.
 const LOOKS: u32 = 10_000_000;
@@ -122,7 +123,7 @@ fn another_worker_goes_on(rt: HostRuntime) {
 
 // Five texts are logged to a queue of two places, whose worker is held at the first. The last two are answered so.
 fn says_five(
-    rt: &(impl Abort + Wait),
+    rt: &(impl Abort + Wait + Clock),
     alloc: Global,
     flags: &Flags,
     trial: &mut Trial,

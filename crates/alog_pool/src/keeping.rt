@@ -24,6 +24,7 @@ use alog_registry::{
 use std::alloc::{AllocError, Global};
 use std::marker::Model;
 use std::sync::{Arc, Wait};
+use std::time::Clock;
 
 /// The backtrace of a logger under its lock, a seat of that, and what turns at it use. A logger that keeps nothing has one
 /// without room.
@@ -116,7 +117,7 @@ impl Keeping {
     /// Logs a message, as `Loggers::log` does, with this place as its keeper.
     pub(crate) fn log(
         &mut self,
-        rt: &impl Wait,
+        rt: &(impl Wait + Clock),
         alloc: Global,
         loggers: &Loggers,
         port: &mut Port<'_, Item, TextLimit>,
@@ -214,7 +215,7 @@ impl Keeping {
     /// Posts what was kept, as `Loggers::dump_shared` does, with this place as its keeper.
     pub(crate) fn dump(
         &mut self,
-        rt: &impl Wait,
+        rt: &(impl Wait + Clock),
         alloc: Global,
         loggers: &Loggers,
         port: &mut Port<'_, Item, TextLimit>,

@@ -110,7 +110,7 @@ fn made(rt: &impl Abort, pool: &mut Pool<MemStore>) -> Producer
 }
 
 // What a log of this producer answers, once there is room.
-fn logged(rt: &(impl Abort + Wait), alloc: Global, producer: &mut Producer) -> LogReply
+fn logged(rt: &(impl Abort + Wait + Clock), alloc: Global, producer: &mut Producer) -> LogReply
     requires { length producer.old.shared.loggers ≡ 1 }
     ensures { length producer.new.shared.loggers ≡ 1 }
 {

@@ -24,6 +24,7 @@ use alog_ring::Pass;
 use std::alloc::{AllocError, Global};
 use std::marker::Model;
 use std::sync::{Arc, Wait};
+use std::time::Clock;
 
 /// What a request thread logs with: each has a producer of its own, which its pool made. No lock is round it. Its number is the
 /// thread number of its messages.
@@ -70,7 +71,7 @@ impl Producer {
     /// logger has a backtrace it waits for its lock.
     pub fn log(
         &mut self,
-        rt: &impl Wait,
+        rt: &(impl Wait + Clock),
         alloc: Global,
         number: u32,
         level: Level,
@@ -179,7 +180,7 @@ impl Producer {
     /// backtrace, and under `Block` for room.
     pub fn dump_backtrace(
         &mut self,
-        rt: &impl Wait,
+        rt: &(impl Wait + Clock),
         alloc: Global,
         number: u32,
         time: i64,

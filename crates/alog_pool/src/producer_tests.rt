@@ -14,6 +14,7 @@ use std::alloc::Global;
 use std::process::Abort;
 use std::sync::{Arc, Wait};
 use std::test::Fail;
+use std::time::Clock;
 
 // A queue of eight places and a producer's pass of it.
 fn queue(rt: &impl Abort, alloc: Global) -> (Ring<Item, TextLimit>, Pass<Item>)
@@ -90,7 +91,7 @@ fn keeping_so_many(rt: &impl Abort, alloc: Global, most: usize) -> Result<Produc
 
 // What a log of this text answers.
 fn says(
-    rt: &(impl Abort + Wait),
+    rt: &(impl Abort + Wait + Clock),
     alloc: Global,
     producer: &mut Producer,
     level: Level,
@@ -123,7 +124,7 @@ fn says_now(
 }
 
 // How many posts a dump makes.
-fn dumps(rt: &(impl Abort + Wait), alloc: Global, producer: &mut Producer) -> usize
+fn dumps(rt: &(impl Abort + Wait + Clock), alloc: Global, producer: &mut Producer) -> usize
     requires { length producer.old.shared.loggers ≡ 1 }
     ensures { length producer.new.shared.loggers ≡ 1 }
 {

@@ -28,13 +28,14 @@ use alog_ring::Pass;
 use alog_sink::{Sink, Store};
 use std::sync::{Arc, Wait};
 use std::thread::Threads;
+use std::time::Clock;
 
 impl<S: Store + Drop + Send + 'static> Pool<S> {
     /// Ends the pool, when its producers have come back: it tells its workers to stop, waits until each has handled what it took,
     /// and answers what became of all messages. It takes no memory.
     ///
     /// Where not as many producers come back as were made, nothing is done, and pool and producers come back.
-    pub fn shutdown<R: Threads + Wait>(
+    pub fn shutdown<R: Threads + Wait + Clock>(
         self,
         rt: &R,
         producers: Vec<Producer>,

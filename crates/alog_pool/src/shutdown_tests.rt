@@ -8,6 +8,7 @@ use alog_msg::Level;
 use std::alloc::Global;
 use std::process::Abort;
 use std::sync::Wait;
+use std::time::Clock;
 
 /// What a dump of two messages writes.
 const DUMPED: &[u8] = b"=== backtrace start ===\nm2\nm3\n=== backtrace end ===\n";
@@ -80,7 +81,7 @@ fn text(rt: &impl Abort, alloc: Global, who: usize, number: usize) -> String {
 }
 
 // Four producers log in turn, so many messages in all, while the workers take them.
-fn talk_in_turn(rt: &(impl Abort + Wait), alloc: Global, trial: &mut Trial, count: usize) {
+fn talk_in_turn(rt: &(impl Abort + Wait + Clock), alloc: Global, trial: &mut Trial, count: usize) {
     for number in 0..count {
         let who = number % 4;
         let line = text(rt, alloc, who, number);

@@ -9,10 +9,15 @@ use alog_registry::TextLimit;
 use alog_ring::{Pass, PushError, Ring};
 use std::sync::Wait;
 use std::thread;
+use std::time::{Clock, Duration};
+
+/// Where there is no room for a stop, the pool looks again after so many microseconds: meanwhile its workers have the queue to
+/// themselves.
+const NAP: u64 = 100;
 
 /// Posts so many stops, each as soon as there is room, or as many as there are tickets left: who finds no ticket left needs no stop.
 pub(crate) fn post_stops(
-    rt: &impl Wait,
+    rt: &(impl Wait + Clock),
     ring: &Ring<Item, TextLimit>,
     pass: &mut Pass<Item>,
     count: usize,
@@ -30,7 +35,7 @@ pub(crate) fn post_stops(
 }
 
 /// Posts a stop as soon as there is room, and answers whether a ticket was left for it.
-fn post_stop(rt: &impl Wait, ring: &Ring<Item, TextLimit>, pass: &mut Pass<Item>) -> bool
+fn post_stop(rt: &(impl Wait + Clock), ring: &Ring<Item, TextLimit>, pass: &mut Pass<Item>) -> bool
     requires ring { IsPassOf ring.now pass.old }
     requires faithful { IsFaithful pass.old.known }
     ensures ring { IsPassOf ring.now pass.new }
@@ -45,7 +50,7 @@ fn post_stop(rt: &impl Wait, ring: &Ring<Item, TextLimit>, pass: &mut Pass<Item>
                 }
             }
         }
-        thread::yield_now();
+        thread::sleep(rt, Duration::from_micros(NAP));
     }
     unreachable!()
 }

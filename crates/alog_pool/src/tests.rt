@@ -19,6 +19,7 @@ use std::alloc::{AllocError, Global};
 use std::process::Abort;
 use std::sync::{Arc, Wait};
 use std::test::Fail;
+use std::time::Clock;
 
 pub const TEXT_LIMIT: usize = 64;
 
@@ -94,7 +95,7 @@ fn berth(rt: &impl Abort, alloc: Global, sink: Sink<MemStore>) -> Berth<MemStore
 
 // Posts a text and a stop.
 fn post(
-    rt: &(impl Abort + Wait),
+    rt: &(impl Abort + Wait + Clock),
     alloc: Global,
     ring: &Ring<Item, TextLimit>,
     pass: &mut Pass<Item>,
@@ -110,7 +111,7 @@ fn post(
 }
 
 // A queue with a text and a stop, and a worker's pass of it.
-fn queue(rt: &(impl Abort + Wait), alloc: Global) -> (Ring<Item, TextLimit>, Pass<Item>)
+fn queue(rt: &(impl Abort + Wait + Clock), alloc: Global) -> (Ring<Item, TextLimit>, Pass<Item>)
     ensures ring { IsPassOf result.0 result.1 × (result.0.limit.most ≡ TEXT_LIMIT) }
     ensures fresh { IsFresh result.1.known }
 {

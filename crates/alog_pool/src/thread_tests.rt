@@ -82,7 +82,13 @@ fn text(rt: &impl Abort, alloc: Global, producer: u64, number: u64) -> String {
 }
 
 /// Logs the message of this number.
-fn say(rt: &(impl Abort + Wait), alloc: Global, producer: &mut Producer, number: u64, told: &Told)
+fn say(
+    rt: &(impl Abort + Wait + Clock),
+    alloc: Global,
+    producer: &mut Producer,
+    number: u64,
+    told: &Told,
+)
     ensures { producer.new.shared ≡ producer.old.shared }
 {
     assert!(rt; producer.shared.loggers.len() > 0);
@@ -94,7 +100,12 @@ fn say(rt: &(impl Abort + Wait), alloc: Global, producer: &mut Producer, number:
 }
 
 /// Logs all messages of this producer.
-fn say_all(rt: &(impl Abort + Wait), alloc: Global, producer: Producer, told: &Told) -> Producer
+fn say_all(
+    rt: &(impl Abort + Wait + Clock),
+    alloc: Global,
+    producer: Producer,
+    told: &Told,
+) -> Producer
     ensures { result.shared ≡ producer.shared }
 {
     let mut producer = producer;
@@ -105,7 +116,7 @@ fn say_all(rt: &(impl Abort + Wait), alloc: Global, producer: Producer, told: &T
 }
 
 /// Lets each producer of this pool log on a thread of its own, and answers them when all have come back.
-fn come_back<R: Abort + Threads + Wait + Sync>(
+fn come_back<R: Abort + Threads + Wait + Clock + Sync>(
     rt: &R,
     alloc: Global,
     pool: &Pool<Files>,
@@ -129,7 +140,7 @@ fn come_back<R: Abort + Threads + Wait + Sync>(
 }
 
 /// Lets all producers log.
-fn talk<R: Abort + Threads + Wait + Sync>(
+fn talk<R: Abort + Threads + Wait + Clock + Sync>(
     rt: &R,
     alloc: Global,
     trial: Trial,

@@ -191,7 +191,7 @@ impl Trial {
     /// The producer of this number logs this text to this logger. Where memory was wanting, it logs it again.
     pub fn log(
         &mut self,
-        rt: &(impl Abort + Wait),
+        rt: &(impl Abort + Wait + Clock),
         alloc: Global,
         number: usize,
         logger: u32,
@@ -213,7 +213,13 @@ impl Trial {
     }
 
     /// It logs it to the first logger.
-    pub fn say(&mut self, rt: &(impl Abort + Wait), alloc: Global, number: usize, text: &str) {
+    pub fn say(
+        &mut self,
+        rt: &(impl Abort + Wait + Clock),
+        alloc: Global,
+        number: usize,
+        text: &str,
+    ) {
         self.log(rt, alloc, number, 0, text);
     }
 
@@ -226,7 +232,7 @@ impl Trial {
     }
 
     /// It dumps the backtrace of the first logger, by so many posts.
-    pub fn dump(&mut self, rt: &(impl Abort + Wait), alloc: Global, posts: usize) {
+    pub fn dump(&mut self, rt: &(impl Abort + Wait + Clock), alloc: Global, posts: usize) {
         assert!(rt; self.producers.len() > 0);
         let producer = &mut self.producers[0];
         assert!(rt; producer.shared.loggers.len() > 0);
@@ -237,7 +243,7 @@ impl Trial {
     }
 
     /// Ends the pool.
-    pub fn end(self, rt: &(impl Abort + Threads + Wait)) -> Report<Files> {
+    pub fn end(self, rt: &(impl Abort + Threads + Wait + Clock)) -> Report<Files> {
         let Trial { pool, producers } = self;
         match pool.shutdown(rt, producers) {
             Ok(report) => report,
@@ -246,7 +252,7 @@ impl Trial {
     }
 
     /// Ends the pool when its last producer is back: while that is out, pool and producers come back as they were.
-    pub fn end_late(self, rt: &(impl Abort + Threads + Wait)) -> Report<Files> {
+    pub fn end_late(self, rt: &(impl Abort + Threads + Wait + Clock)) -> Report<Files> {
         let Trial {
             pool,
             mut producers,

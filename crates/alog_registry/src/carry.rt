@@ -8,6 +8,7 @@ use alog_policy::{DeskOutlet, Outcome, Policy, Port, post_now, post_wait};
 use alog_ring::Limit;
 use std::alloc::Global;
 use std::sync::Wait;
+use std::time::Clock;
 
 /// An outlet whose cells show items. A post is made in two steps: its value is made, and then it is posted.
 ///
@@ -92,7 +93,12 @@ pub trait CarryWaiting: Carry {
 
     /// Posts the value, as `alog_policy::post_wait` does: under `Block` it waits until there is room. Nothing is handed back of a
     /// discarded one. That it returns is not promised.
-    fn post_waiting(&mut self, rt: &impl Wait, policy: Policy, value: Self::Value) -> Outcome<()>
+    fn post_waiting(
+        &mut self,
+        rt: &(impl Wait + Clock),
+        policy: Policy,
+        value: Self::Value,
+    ) -> Outcome<()>
         requires { Self.is_fit self.old value }
         ensures post { PostsItem Self.did policy (Self.shows value) self.old self.new result }
         ensures ready { Self.is_ready self.new };
@@ -196,7 +202,12 @@ impl<L: Limit<Item>> Carry for Port<'_, Item, L> {
 }
 
 impl<L: Limit<Item>> CarryWaiting for Port<'_, Item, L> {
-    fn post_waiting(&mut self, rt: &impl Wait, policy: Policy, value: Item) -> Outcome<()> {
+    fn post_waiting(
+        &mut self,
+        rt: &(impl Wait + Clock),
+        policy: Policy,
+        value: Item,
+    ) -> Outcome<()> {
         dropped(post_wait(rt, self, policy, value))
     }
 }

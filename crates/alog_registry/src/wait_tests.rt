@@ -13,9 +13,10 @@ use std::alloc::Global;
 use std::process::Abort;
 use std::sync::Wait;
 use std::test::Fail;
+use std::time::Clock;
 
 // Logs a message with waiting, and answers whether that became of it.
-fn said<R: Wait>(
+fn said<R: Wait + Clock>(
     rt: &R,
     loggers: &Loggers,
     alloc: Global,
@@ -37,7 +38,7 @@ fn said<R: Wait>(
 }
 
 // One message is logged, two are kept, and the last two of the three are dumped.
-fn log_and_dump<R: Wait + Abort>(
+fn log_and_dump<R: Wait + Clock + Abort>(
     rt: &R,
     loggers: &Loggers,
     alloc: Global,

@@ -26,6 +26,7 @@ use alog_msg::{Level, Message, MessageError, SourceRef};
 use alog_policy::{Outcome, Policy};
 use std::alloc::{AllocError, Global};
 use std::sync::Wait;
+use std::time::Clock;
 
 impl Loggers {
     /// Logs a message as `log_now` does, but waits: under `Block` until there is room, and for the lock of the
@@ -33,7 +34,7 @@ impl Loggers {
     /// shows it.
     pub fn log<O: CarryWaiting>(
         &self,
-        rt: &impl Wait,
+        rt: &(impl Wait + Clock),
         alloc: Global,
         outlet: &mut O,
         keeper: &mut LaneKeeper<'_>,
@@ -98,7 +99,7 @@ impl Loggers {
     /// everything is as it was. That it returns is not promised. The test `logs_with_waiting` shows it.
     pub fn dump_shared<O: CarryWaiting>(
         &self,
-        rt: &impl Wait,
+        rt: &(impl Wait + Clock),
         alloc: Global,
         outlet: &mut O,
         keeper: &mut LaneKeeper<'_>,
@@ -144,7 +145,7 @@ impl Loggers {
 
 /// Posts what was dumped between the two markers, or nothing where nothing was.
 fn post_dumped<O: CarryWaiting>(
-    rt: &impl Wait,
+    rt: &(impl Wait + Clock),
     outlet: &mut O,
     policy: Policy,
     start: Message,
@@ -173,7 +174,7 @@ fn post_dumped<O: CarryWaiting>(
 
 /// Posts all messages of the list, oldest first, for whose outcomes there is room.
 fn post_all_waiting<O: CarryWaiting>(
-    rt: &impl Wait,
+    rt: &(impl Wait + Clock),
     outlet: &mut O,
     policy: Policy,
     list: &mut Dumped,
@@ -196,7 +197,7 @@ fn post_all_waiting<O: CarryWaiting>(
 
 /// Posts a message.
 fn post_waiting<O: CarryWaiting>(
-    rt: &impl Wait,
+    rt: &(impl Wait + Clock),
     outlet: &mut O,
     policy: Policy,
     message: Message,

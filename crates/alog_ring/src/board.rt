@@ -66,6 +66,13 @@ impl<T, L: Limit<T>> Board<T, L> {
         Ok((Board { table, mask }, seat))
     }
 
+    /// How many places there are.
+    pub(crate) fn places(&self) -> usize
+        ensures { result ≡ self.now.mask + 1 }
+    {
+        self.mask as usize + 1
+    }
+
     /// The place of a ticket: the ticket modulo the number of places.
     fn place_of(&self, ticket: u64) -> usize
         ensures place { result ≡ ticket % (self.now.mask + 1) }

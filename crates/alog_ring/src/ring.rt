@@ -105,3 +105,12 @@ impl<T, L: Limit<T> + Drop> Ring<T, L> {
         }
     }
 }
+
+impl<T, L: Limit<T>> Ring<T, L> {
+    /// How many places the ring has. The test `takes_sizes_and_first_tickets` shows it.
+    pub fn places(&self) -> usize
+        ensures { result ≡ self.now.places }
+    {
+        self.board.places()
+    }
+}

@@ -14,6 +14,7 @@ use std::alloc::Global;
 use std::io::Write;
 use std::sync::Wait;
 use std::thread;
+use std::time::Clock;
 
 fn main(rt: HostRuntime) -> Result<()> {
     let alloc = rt.alloc();
@@ -44,7 +45,7 @@ fn main(rt: HostRuntime) -> Result<()> {
 }
 
 /// Logs a text to the first logger.
-fn greet(rt: &impl Wait, alloc: Global, producer: &mut Producer)
+fn greet(rt: &(impl Wait + Clock), alloc: Global, producer: &mut Producer)
     requires { length producer.old.shared.loggers ≡ 1 }
     ensures { producer.new.shared ≡ producer.old.shared }
 {
