@@ -1,5 +1,5 @@
 //! Levels, texts, messages with their limits and copies, and items.
-use alog_msg::{Item, Level, Message, MessageError, Source, SourceRef, Text};
+use alog_msg::{Item, Level, Message, MessageError, SHORT_TEXT_MAX, Source, SourceRef, Text};
 use std::process::Abort;
 
 const TEXT_LIMIT: usize = 64;
@@ -75,9 +75,7 @@ fn text_of_a_string(rt: HostRuntime) {
         let text = Text::from_string(string);
         assert!(rt; (text.len(), text.is_empty()) == (len, len == 0));
         assert!(rt; text.as_bytes() == bytes.as_bytes());
-        assert!(rt; text.into_string().as_str() == bytes);
     }
-    assert!(rt; matches!(Text::copy_of(rt.alloc(), "né"), Ok(text) if text.as_str() == "né"));
 }
 
 const SOURCE: SourceRef<'static> = SourceRef {
@@ -131,6 +129,26 @@ fn copy_of_a_message(rt: HostRuntime) {
     has(&rt, &said, text.as_str());
     has_the_source(&rt, &said);
     assert!(rt; copy(&rt, &message(&rt, "", None)).source.is_none());
+}
+
+/// A copy of so many letters has them.
+fn is_copied(rt: &(impl Abort + AllocGlobal), count: usize) {
+    let letters = letters(rt, count);
+    match Text::copy_of(rt.alloc(), letters.as_str()) {
+        Ok(text) => {
+            assert!(rt; (text.len(), text.is_empty()) == (count, count == 0));
+            assert!(rt; text.as_str() == letters.as_str());
+            assert!(rt; text.as_bytes() == letters.as_bytes());
+        }
+        Err(_) => panic!(rt; "no memory"),
+    }
+}
+
+#[test]
+fn copies_of_short_and_long_texts(rt: HostRuntime) {
+    for count in [0, 1, 63, SHORT_TEXT_MAX, SHORT_TEXT_MAX + 1, 8_192] {
+        is_copied(&rt, count);
+    }
 }
 
 /// So many letters.

@@ -13,7 +13,7 @@ use std::marker::Model;
 /// assert_eq!(rt; text.len(), 3);
 /// assert!(rt; text.as_str() == "né");
 /// ```
-/// The test `text_of_a_string` runs it.
+/// The tests `text_of_a_string` and `copies_of_short_and_long_texts` run it.
 #[derive(Debug, Drop)]
 pub struct Text {
     kept: Kept,

@@ -12,6 +12,14 @@ use std::sync::{Arc, Wait};
 use std::thread::{self, Threads};
 use std::time::Clock;
 
+/// What is logged, which takes memory of its own.
+const TEXT: &str = "a request of more than sixty-four bytes, which do not lie in a message";
+
+/// The lines of three such.
+const LINES: &str = "a request of more than sixty-four bytes, which do not lie in a message\n\
+a request of more than sixty-four bytes, which do not lie in a message\n\
+a request of more than sixty-four bytes, which do not lie in a message\n";
+
 /// How often a pool's workers are looked for.
 const LOOKS: u32 = 10_000_000;
 
@@ -95,7 +103,7 @@ fn are_told(rt: &impl Abort, report: &Report<Files>) {
         let file = sink
             .store()
             .and_then(|store| store.store().files().get("log"));
-        let is_whole = file.is_some_and(|file| file.as_slice() == b"a\na\na\n".as_slice());
+        let is_whole = file.is_some_and(|file| file.as_slice() == LINES.as_bytes());
         assert!(rt; is_whole == (*faults == 0));
     }
 }
@@ -104,9 +112,9 @@ fn are_told(rt: &impl Abort, report: &Report<Files>) {
 fn want_of_memory(rt: HostRuntime) {
     let alloc = rt.alloc();
     let mut trial = pool_again(&rt, alloc);
-    trial.say(&rt, alloc, 0, "a");
-    trial.say(&rt, alloc, 1, "a");
-    trial.say(&rt, alloc, 0, "a");
+    trial.say(&rt, alloc, 0, TEXT);
+    trial.say(&rt, alloc, 1, TEXT);
+    trial.say(&rt, alloc, 0, TEXT);
     let report = trial.end(&rt);
     has_totals(&rt, &report, 3, 0, 0);
     are_told(&rt, &report);

@@ -107,7 +107,7 @@ impl<T, L: Limit<T> + Drop> Ring<T, L> {
 }
 
 impl<T, L: Limit<T>> Ring<T, L> {
-    /// How many places the ring has. The test `takes_sizes_and_first_tickets` shows it.
+    /// How many places the ring has. The test `a_ring_of_two` shows it.
     pub fn places(&self) -> usize
         ensures { result ≡ self.now.places }
     {

@@ -32,6 +32,7 @@ fn takes_sizes_and_first_tickets(rt: HostRuntime) -> Result<(), Fail> {
 #[test]
 fn a_ring_of_two(rt: HostRuntime) -> Result<(), Fail> {
     let (ring, mut pass) = Ring::<u64>::new(rt.alloc(), 2, 5)?;
+    assert_eq!(rt; ring.places(), 2);
     assert!(rt; matches!(ring.push_once(&mut pass, 7), Ok(5)));
     assert!(rt; matches!(ring.push_once(&mut pass, 8), Ok(6)));
     assert!(rt;
