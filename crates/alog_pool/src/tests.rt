@@ -21,7 +21,7 @@ use std::sync::{Arc, Wait};
 use std::test::Fail;
 use std::time::Clock;
 
-pub const TEXT_LIMIT: usize = 64;
+pub const TEXT_LIMIT: usize = 128;
 
 // One logger, whose only sink has the number 0, which is flushed at errors, and which keeps so many messages.
 pub fn loggers(rt: &impl Abort, alloc: Global, backtrace: usize) -> Result<Loggers, Fail>
