@@ -15,33 +15,21 @@
 #![tactic(auto)]
 
 mod broken;
-#[cfg(test)]
-mod build_tests;
 mod building;
 mod config;
 mod culprit;
-#[cfg(test)]
-mod explain_tests;
 mod explaining;
 mod fault;
 mod field;
-#[cfg(test)]
-mod key_tests;
 mod keys;
 mod lists;
 mod logger_fields;
-#[cfg(test)]
-mod many_tests;
-#[cfg(test)]
-mod memory_tests;
 mod names;
 mod opening;
 mod parts;
 mod reading;
 mod sink_fields;
 mod sinks;
-#[cfg(test)]
-mod tests;
 mod top;
 mod values;
 mod words;

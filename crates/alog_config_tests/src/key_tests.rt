@@ -1,7 +1,6 @@
 //! Each key at its least and greatest value, one below and one above, of another type, and absent.
-use crate::Place;
-use crate::tests::{LOGGER, SINK, gives};
-use std::test::Fail;
+use crate::documents::{LOGGER, SINK, gives};
+use alog_config::Place;
 
 const TOP_LINES: [(&str, u8); 30] = [
     ("queue = 2\n", 0),
@@ -37,15 +36,13 @@ const TOP_LINES: [(&str, u8); 30] = [
 ];
 
 #[test]
-fn keys_of_the_top(rt: HostRuntime) -> Result<(), Fail> {
-    let alloc = rt.alloc();
+fn keys_of_the_top(rt: HostRuntime) {
     for (line, number) in &TOP_LINES {
-        gives(&rt, alloc, &[line, SINK, LOGGER], *number, Place::Top)?;
+        gives(&rt, &[line, SINK, LOGGER], *number, Place::Top);
     }
-    Ok(())
 }
 
-const ARRAYS: [(&str, &str, u8); 8] = [
+const ARRAYS: [(&str, &str, u8); 9] = [
     ("sink = 1\n", LOGGER, 30),
     ("sink = [1]\n", LOGGER, 30),
     ("sink = [[]]\n", LOGGER, 30),
@@ -54,15 +51,14 @@ const ARRAYS: [(&str, &str, u8); 8] = [
     ("logger = {}\n", SINK, 30),
     ("logger = []\n", SINK, 31),
     ("", SINK, 31),
+    ("sink = []\n", "[logger]\n", 30),
 ];
 
 #[test]
-fn arrays_of_the_top(rt: HostRuntime) -> Result<(), Fail> {
-    let alloc = rt.alloc();
+fn arrays_of_the_top(rt: HostRuntime) {
     for (line, rest, number) in &ARRAYS {
-        gives(&rt, alloc, &[line, rest], *number, Place::Top)?;
+        gives(&rt, &[line, rest], *number, Place::Top);
     }
-    gives(&rt, alloc, &["sink = []\n[logger]\n"], 30, Place::Top)
 }
 
 // Keys of a second sink, named `s`.
@@ -171,16 +167,14 @@ const SINK_LINES: [(&str, u8); 62] = [
 ];
 
 #[test]
-fn keys_of_a_sink(rt: HostRuntime) -> Result<(), Fail> {
-    let alloc = rt.alloc();
+fn keys_of_a_sink(rt: HostRuntime) {
     let named = "[[sink]]\nname = \"s\"\n";
     let lender = "[[sink]]\nname = \"log\"\nkind = \"memory\"\n";
     let logger = "[[logger]]\nname = \"net\"\nsinks = [\"log\"]\n";
     for (lines, number) in &SINK_LINES {
         let parts = [SINK, named, lines, lender, logger];
-        gives(&rt, alloc, &parts, *number, Place::Sink(1))?;
+        gives(&rt, &parts, *number, Place::Sink(1));
     }
-    Ok(())
 }
 
 // Keys of the only logger, which is named but in the last lines.
@@ -214,16 +208,9 @@ const LOGGER_LINES: [(&str, u8); 26] = [
 ];
 
 #[test]
-fn keys_of_a_logger(rt: HostRuntime) -> Result<(), Fail> {
-    let alloc = rt.alloc();
+fn keys_of_a_logger(rt: HostRuntime) {
     for (lines, number) in &LOGGER_LINES {
-        gives(
-            &rt,
-            alloc,
-            &[SINK, "[[logger]]\n", lines],
-            *number,
-            Place::Logger(0),
-        )?;
+        let parts = [SINK, "[[logger]]\n", lines];
+        gives(&rt, &parts, *number, Place::Logger(0));
     }
-    Ok(())
 }

@@ -1,0 +1,163 @@
+//! What is built of a configuration, and what it does.
+//!
+//! A call of these in a test is one step of its proof, which no branch follows: so a test of many calls stays cheap.
+use crate::documents::config;
+use alog_config::{BuildError, Config, build, leaves};
+use alog_format::LineBuf;
+use alog_msg::{Level, Message};
+use alog_registry::Loggers;
+use alog_sink::{MemStore, Sink, SinkError, Store, Taken};
+use std::alloc::{AllocError, Global};
+use std::process::Abort;
+
+/// Loggers and sinks over files in memory.
+pub type Built = (Loggers, Vec<Sink<MemStore>>);
+
+/// Stores for each sink that needs one. Each has a file `number`, which tells its place.
+pub fn stores(alloc: Global, config: &Config) -> Result<Vec<MemStore>, AllocError> {
+    let mut stores = Vec::new(alloc);
+    for i in 0..leaves(config) {
+        let Ok(store) = MemStore::new(alloc).with("number", &[b'0' + (i % 10) as u8]) else {
+            return Err(AllocError);
+        };
+        stores.push(store)?;
+    }
+    Ok(stores)
+}
+
+/// What is built over these stores, which have to be as many as the sinks need.
+pub fn built_over<S: Store + Drop>(
+    rt: &(impl Abort + AllocGlobal),
+    config: &Config,
+    stores: Vec<S>,
+) -> Result<(Loggers, Vec<Sink<S>>), BuildError> {
+    assert!(rt; stores.len() == leaves(config));
+    build(rt.alloc(), config, stores)
+}
+
+/// What is built of a configuration over files in memory.
+pub fn built_of(rt: &(impl Abort + AllocGlobal), config: &Config) -> Built {
+    let Ok(stores) = stores(rt.alloc(), config) else {
+        panic!(rt; "no memory")
+    };
+    match built_over(rt, config, stores) {
+        Ok(built) => built,
+        Err(_) => panic!(rt; "not built"),
+    }
+}
+
+/// What is built of a document over files in memory.
+pub fn built(rt: &(impl Abort + AllocGlobal), document: &str) -> Built {
+    built_of(rt, &config(rt, &[document]))
+}
+
+/// The logger of this name has this number.
+pub fn finds(rt: &impl Abort, loggers: &Loggers, name: &str, number: u32) {
+    assert!(rt; loggers.find(name) == Some(number), "{name}");
+}
+
+/// There are so many sinks.
+pub fn has_sinks(rt: &impl Abort, sinks: &[Sink<MemStore>], count: usize) {
+    assert_eq!(rt; sinks.len(), count);
+}
+
+/// The logger of this number has these sinks.
+pub fn logs_to(rt: &impl Abort, loggers: &Loggers, number: u32, sinks: &[u32]) {
+    match loggers.spec(number) {
+        Some(spec) => assert!(rt; spec.sinks.as_slice() == sinks, "{number}"),
+        None => assert!(rt; false, "there is no logger {number}"),
+    }
+}
+
+/// What a sink answers to a text of this level, posted by the logger of this number at one second past 1970.
+fn answer_to<S: Store>(
+    rt: &(impl Abort + AllocGlobal),
+    sink: &mut Sink<S>,
+    level: Level,
+    logger: u32,
+    text: &str,
+) -> Result<Taken, SinkError> {
+    let made = Message::new(
+        rt.alloc(),
+        2_048,
+        logger,
+        level,
+        1_000_000_000,
+        1,
+        text,
+        None,
+    );
+    let Ok(message) = made else {
+        panic!(rt; "no message of {text}")
+    };
+    let Ok(mut line) = LineBuf::new(rt.alloc(), 4_096) else {
+        panic!(rt; "no buffer")
+    };
+    assert!(rt; sink.may_take(&message, &line), "{text}");
+    sink.take(&message, &mut line)
+}
+
+/// The sink at this place is given a text of this level by the logger of this number, and does this.
+pub fn gives(
+    rt: &(impl Abort + AllocGlobal),
+    sinks: &mut Vec<Sink<MemStore>>,
+    at: usize,
+    level: Level,
+    logger: u32,
+    text: &str,
+    wanted: Taken,
+) {
+    let Some(sink) = sinks.get_mut(at) else {
+        panic!(rt; "no sink {at}")
+    };
+    let answer = answer_to(rt, sink, level, logger, text);
+    assert!(rt; answer == Ok(wanted), "{text} at {at}: {answer:?}");
+}
+
+/// A store has this digit as its number, and beside it this file alone.
+fn store_has(rt: &impl Abort, store: &MemStore, number: u8, file: &str, bytes: &str) {
+    let files = store.files();
+    let own = files.get("number").map(|bytes| bytes.as_slice());
+    assert!(rt; own == Some(&[number]), "{number}");
+    let named = files.get(file).map(|bytes| bytes.as_slice());
+    assert_eq!(rt; files.len(), 2);
+    assert!(rt; named == Some(bytes.as_bytes()), "{file}");
+}
+
+/// The sink at this place, which is no fan, has a store with this digit as its number, and beside it this file alone.
+pub fn has(
+    rt: &impl Abort,
+    sinks: &[Sink<MemStore>],
+    at: usize,
+    number: u8,
+    file: &str,
+    bytes: &str,
+) {
+    match sinks.get(at).and_then(|sink| sink.store()) {
+        Some(store) => store_has(rt, store, number, file, bytes),
+        None => panic!(rt; "no store at {at}"),
+    }
+}
+
+/// The sink at this place is a fan of so many members.
+pub fn has_members(rt: &impl Abort, sinks: &[Sink<MemStore>], at: usize, count: usize) {
+    match sinks.get(at) {
+        Some(sink) => assert!(rt; sink.is_fan() && sink.members().len() == count, "{at}"),
+        None => panic!(rt; "no sink {at}"),
+    }
+}
+
+/// The same of the store of a member of the fan at this place.
+pub fn member_has(
+    rt: &impl Abort,
+    sinks: &[Sink<MemStore>],
+    (at, member): (usize, usize),
+    number: u8,
+    file: &str,
+    bytes: &str,
+) {
+    match sinks.get(at).and_then(|fan| fan.members().get(member)) {
+        Some(leaf) => store_has(rt, leaf.store(), number, file, bytes),
+        None => panic!(rt; "no member {member} at {at}"),
+    }
+}
