@@ -114,17 +114,30 @@ pub fn gives(
     assert!(rt; answer == Ok(wanted), "{text} at {at}: {answer:?}");
 }
 
-/// A store has this digit as its number, and beside it this file alone.
-fn store_has(rt: &impl Abort, store: &MemStore, number: u8, file: &str, bytes: &str) {
-    let files = store.files();
-    let own = files.get("number").map(|bytes| bytes.as_slice());
-    assert!(rt; own == Some(&[number]), "{number}");
-    let named = files.get(file).map(|bytes| bytes.as_slice());
-    assert_eq!(rt; files.len(), 2);
-    assert!(rt; named == Some(bytes.as_bytes()), "{file}");
+/// The file of this name has these bytes.
+fn file_has(rt: &impl Abort, store: &MemStore, name: &str, bytes: &[u8]) {
+    match store.files().get(name) {
+        Some(file) => assert!(rt; file.as_slice() == bytes, "{name}"),
+        None => assert!(rt; false, "{name} is absent"),
+    }
 }
 
-/// The sink at this place, which is no fan, has a store with this digit as its number, and beside it this file alone.
+/// A store has this digit as its number, and beside it this file alone.
+fn store_has(rt: &impl Abort, store: &MemStore, number: u8, file: &str, bytes: &str) {
+    file_has(rt, store, "number", &[number]);
+    file_has(rt, store, file, bytes.as_bytes());
+    assert_eq!(rt; store.files().len(), 2);
+}
+
+/// The sink at this place.
+fn sink_at<'a>(rt: &impl Abort, sinks: &'a [Sink<MemStore>], at: usize) -> &'a Sink<MemStore> {
+    match sinks.get(at) {
+        Some(sink) => sink,
+        None => panic!(rt; "no sink {at}"),
+    }
+}
+
+/// The sink at this place is no fan, and its store has this number and this file.
 pub fn has(
     rt: &impl Abort,
     sinks: &[Sink<MemStore>],
@@ -133,21 +146,19 @@ pub fn has(
     file: &str,
     bytes: &str,
 ) {
-    match sinks.get(at).and_then(|sink| sink.store()) {
+    match sink_at(rt, sinks, at).store() {
         Some(store) => store_has(rt, store, number, file, bytes),
-        None => panic!(rt; "no store at {at}"),
+        None => panic!(rt; "a fan at {at}"),
     }
 }
 
 /// The sink at this place is a fan of so many members.
 pub fn has_members(rt: &impl Abort, sinks: &[Sink<MemStore>], at: usize, count: usize) {
-    match sinks.get(at) {
-        Some(sink) => assert!(rt; sink.is_fan() && sink.members().len() == count, "{at}"),
-        None => panic!(rt; "no sink {at}"),
-    }
+    let sink = sink_at(rt, sinks, at);
+    assert!(rt; sink.is_fan() && sink.members().len() == count, "{at}");
 }
 
-/// The same of the store of a member of the fan at this place.
+/// The store of a member of the fan at this place has this number and this file.
 pub fn member_has(
     rt: &impl Abort,
     sinks: &[Sink<MemStore>],
@@ -156,7 +167,7 @@ pub fn member_has(
     file: &str,
     bytes: &str,
 ) {
-    match sinks.get(at).and_then(|fan| fan.members().get(member)) {
+    match sink_at(rt, sinks, at).members().get(member) {
         Some(leaf) => store_has(rt, leaf.store(), number, file, bytes),
         None => panic!(rt; "no member {member} at {at}"),
     }

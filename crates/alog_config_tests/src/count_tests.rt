@@ -36,13 +36,18 @@ fn document(rt: &(impl Abort + AllocGlobal), plain: usize, fans: usize, members:
 
 /// How many sinks were built.
 fn sinks_of(built: Built) -> usize {
-    let (_, sinks) = built;
-    sinks.len()
+    built.1.len()
 }
 
-/// How many stores the configuration of a document needs, and how many sinks are built of it.
-fn found(rt: &(impl Abort + AllocGlobal), document: &str) -> (usize, usize) {
-    let config = config(rt, &[document]);
+/// How many stores the configuration of that document needs, and how many sinks are built of it.
+fn found(
+    rt: &(impl Abort + AllocGlobal),
+    plain: usize,
+    fans: usize,
+    members: usize,
+) -> (usize, usize) {
+    let text = document(rt, plain, fans, members);
+    let config = config(rt, &[text.as_str()]);
     (leaves(&config), sinks_of(built_of(rt, &config)))
 }
 
@@ -59,9 +64,9 @@ fn stores_and_sinks_of_fans(rt: HostRuntime) {
         (16, 1, 16),
         (40, 2, 16),
     ] {
-        let text = document(&rt, plain, fans, members);
-        let found = found(&rt, text.as_str());
-        let all = stores_and_sinks(plain + fans, fans, fans * members);
-        assert!(rt; found == all, "{plain} {fans} {members}");
+        let found = found(&rt, plain, fans, members);
+        let (sinks, inner) = (fans.saturating_add(plain), fans.saturating_mul(members));
+        let want = stores_and_sinks(sinks, fans, inner);
+        assert!(rt; found == want, "{plain} {fans} {members}");
     }
 }

@@ -31,7 +31,7 @@ fn says(rt: &(impl Abort + AllocGlobal), parts: &[&str], want: &str) {
     is_text(rt, text.as_str(), want);
 }
 
-const TOPS: [([&str; 4], &str); 5] = [
+const REFUSALS: [([&str; 4], &str); 6] = [
     (
         ["colour = 1\n", SINK, LOGGER, ""],
         "\"colour\" = 1: a key that is not known here; \
@@ -51,31 +51,26 @@ const TOPS: [([&str; 4], &str); 5] = [
          it may have 1 to 64 bytes, and not the name of an earlier table of the same array",
     ),
     (
+        [
+            SINK,
+            "[[logger]]\n",
+            "name = \"n\"\nsinks = [\"out\", \"x\"]\n",
+            "",
+        ],
+        "sinks = [\"out\", \"x\"]: no sink has this name; \
+         it may have 1 to 16 names of sinks, none twice, none a member of a fan",
+    ),
+    (
         ["queue = 8\n[[sink]]\nname = \"ou", "", "", ""],
         "the document is not TOML: line 3: invalid string",
     ),
 ];
 
-/// Of the only logger, with these lines, this is said.
-const LOGGERS: [(&str, &str); 1] = [(
-    "name = \"n\"\nsinks = [\"out\", \"x\"]\n",
-    "sinks = [\"out\", \"x\"]: no sink has this name; \
-     it may have 1 to 16 names of sinks, none twice, none a member of a fan",
-)];
-
-/// Each of these is said of the only logger, with the lines beside it.
-fn loggers_say(rt: &(impl Abort + AllocGlobal), cases: &[(&str, &str)]) {
-    for (lines, want) in cases {
-        says(rt, &[SINK, "[[logger]]\n", lines], want);
-    }
-}
-
 #[test]
 fn refusals_in_words(rt: HostRuntime) {
-    for (parts, want) in &TOPS {
+    for (parts, want) in &REFUSALS {
         says(&rt, parts, want);
     }
-    loggers_say(&rt, &LOGGERS);
 }
 
 /// Of a second sink with these lines this is said.
@@ -118,7 +113,7 @@ fn sinks_in_words(rt: HostRuntime) {
     }
 }
 
-/// Values that are long, or have newlines, are cut.
+/// Of the only logger with these lines this is said. Values that are long, or have newlines, are cut.
 const LONG: [(&str, &str); 3] = [
     (
         "name = \"n\"\nsinks = [\"out\"]\nlevel = \"\\n\"\n",
@@ -139,7 +134,9 @@ const LONG: [(&str, &str); 3] = [
 
 #[test]
 fn long_values_in_words(rt: HostRuntime) {
-    loggers_say(&rt, &LONG);
+    for (lines, want) in &LONG {
+        says(&rt, &[SINK, "[[logger]]\n", lines], want);
+    }
 }
 
 /// A fault as its rule alone tells it.

@@ -25,23 +25,23 @@ fn config(rt: &(impl Abort + AllocGlobal), document: &str) -> Config {
 
 /// What is said of a document's fault, and said again where memory was wanting.
 fn said_again(rt: &(impl Abort + AllocGlobal), document: &str, fault: ConfigFault) -> String {
-    if let Ok(text) = explain(rt.alloc(), document.as_bytes(), fault) {
-        return text;
-    }
     match explain(rt.alloc(), document.as_bytes(), fault) {
         Ok(text) => text,
-        Err(_) => panic!(rt; "nothing said"),
+        Err(_) => match explain(rt.alloc(), document.as_bytes(), fault) {
+            Ok(text) => text,
+            Err(_) => panic!(rt; "nothing said"),
+        },
     }
 }
 
 /// Stores for a configuration, made again where memory was wanting.
 fn stores_again(rt: &(impl Abort + AllocGlobal), config: &Config) -> Vec<MemStore> {
-    if let Ok(stores) = stores(rt.alloc(), config) {
-        return stores;
-    }
     match stores(rt.alloc(), config) {
         Ok(stores) => stores,
-        Err(_) => panic!(rt; "no stores"),
+        Err(_) => match stores(rt.alloc(), config) {
+            Ok(stores) => stores,
+            Err(_) => panic!(rt; "no stores"),
+        },
     }
 }
 
