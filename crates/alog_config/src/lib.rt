@@ -12,6 +12,8 @@
 //! `specs/Meaning.antt` with `reading.rt` (what a document says, and which fault is first); `specs/Sound.antt` (what is true of
 //! each configuration); `specs/Built.antt` with `building.rt`, `opening.rt` and `parts.rt` (what is built of one);
 //! `specs/Culprits.antt` with `culprit.rt`, `words.rt` and `explaining.rt` (which key breaks a rule, and how that is told).
+//!
+//! The tests are in `alog_config_tests`.
 #![tactic(auto)]
 
 mod broken;

@@ -87,7 +87,8 @@ pub(crate) fn any_member(sinks: &[SinkConfig], names: &[Text]) -> bool
     names.iter().any(|name| is_member(sinks, name.as_str()))
 }
 
-/// How many stores the sinks of a configuration need: one for each that is no fan. The test `leaves_of_sinks` shows it.
+/// How many stores the sinks of a configuration need: one for each that is no fan. The test
+/// `leaves_of_sinks` of `alog_config_tests` shows it.
 pub fn leaves(config: &Config) -> usize
     ensures { result ≡ count_by is_leaf config.now.sinks.items }
 {

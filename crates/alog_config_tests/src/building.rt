@@ -48,7 +48,8 @@ pub fn built_of(rt: &(impl Abort + AllocGlobal), config: &Config) -> Built {
 
 /// What is built of a document over files in memory.
 pub fn built(rt: &(impl Abort + AllocGlobal), document: &str) -> Built {
-    built_of(rt, &config(rt, &[document]))
+    let config = config(rt, &[document]);
+    built_of(rt, &config)
 }
 
 /// The logger of this name has this number.
@@ -77,7 +78,7 @@ fn answer_to<S: Store>(
     logger: u32,
     text: &str,
 ) -> Result<Taken, SinkError> {
-    let made = Message::new(
+    let Ok(message) = Message::new(
         rt.alloc(),
         2_048,
         logger,
@@ -86,8 +87,7 @@ fn answer_to<S: Store>(
         1,
         text,
         None,
-    );
-    let Ok(message) = made else {
+    ) else {
         panic!(rt; "no message of {text}")
     };
     let Ok(mut line) = LineBuf::new(rt.alloc(), 4_096) else {
