@@ -20,17 +20,16 @@ const LONGEST_NAP: u64 = 1_000_000;
 pub(crate) struct Room {
     backoff: Backoff,
     looks: u32,
-    nap: Duration,
+    places: usize,
 }
 
 impl Room {
     /// For a queue of so many places, which a post has not looked at.
     pub(crate) fn new(places: usize) -> Room {
-        let nap = NAP_PER_PLACE.saturating_mul(places as u64);
         Room {
             backoff: Backoff::new(),
             looks: 0,
-            nap: Duration::from_nanos(nap.min(LONGEST_NAP)),
+            places,
         }
     }
 
@@ -40,7 +39,8 @@ impl Room {
             self.looks += 1;
             self.backoff.spin();
         } else {
-            thread::sleep(clock, self.nap);
+            let nap = NAP_PER_PLACE.saturating_mul(self.places as u64);
+            thread::sleep(clock, Duration::from_nanos(nap.min(LONGEST_NAP)));
         }
     }
 
