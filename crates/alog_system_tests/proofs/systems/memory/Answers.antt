@@ -1,8 +1,8 @@
 use Rattle.std.proofs.Common.{sym, subst}
 use Rattle.alog_sink.specs.declared.face.Face.{Face}
 use Rattle.alog_system.specs.Outputs.{Suits, SinkSuits}
-use Rattle.alog_system.specs.declared.tests.TheConstants.{TEXT_LIMIT}
-use Rattle.alog_system.proofs.tests.memory.Goals as goal
+use Rattle.alog_system_tests.specs.declared.systems.TheConstants.{TEXT_LIMIT}
+use Rattle.alog_system_tests.proofs.systems.memory.Goals as goal
 
 pub returns-in-Ok : goal.returns-in-Ok
 returns-in-Ok c =
