@@ -22,11 +22,11 @@ spawn_with-sent-requires-send-F g c κs within =
     let own : IsSend (param 0 g.row.R) = c.type_bounds.send-R in
     let kept : List RattleType = param 0 g.row.R ∷ Global.the_row ∷ Producer.the_row ∷ Errand.the_row
     ∷ Arc.the_row AtomicBool.the_row Global.the_row alloc_ghosts ∷ [] in
-    param_send 2 (arg-7-2 g.row.R g.R.laws g.R.Threads-dict g.R.Wait-dict g.R.Clone-dict g.R.Destruct-dict κs)
+    param_send 2 (arg-7-2 g.row.R g.R.laws g.R.Threads-dict g.R.Wait-dict g.R.Clock-dict g.R.Clone-dict g.R.Destruct-dict κs)
     (arg_send _ no _ (recorded_send (field_at _ kept).row _ _ (type_at _ kept).to_one
     (struct_send (shape (type_at _ kept)) (own, (alloc_send, (producer_send, (errand_send, (halt_send, tt))))))))
 
 pub spawn_with-sent-requires-send-T : goal.spawn_with-sent-requires-send-T
 spawn_with-sent-requires-send-T g c κs within =
-    param_send 3 (arg-7-3 g.row.R g.R.laws g.R.Threads-dict g.R.Wait-dict g.R.Clone-dict g.R.Destruct-dict κs)
+    param_send 3 (arg-7-3 g.row.R g.R.laws g.R.Threads-dict g.R.Wait-dict g.R.Clock-dict g.R.Clone-dict g.R.Destruct-dict κs)
     (search (sendable, back_send) depth 9)
