@@ -14,7 +14,7 @@ use std::marker::Model;
 /// assert!(rt; text.as_str() == "né");
 /// ```
 /// The tests `text_of_a_string` and `copies_of_short_and_long_texts` run it.
-#[derive(Debug, Drop)]
+#[derive(Debug)]
 pub struct Text {
     kept: Kept,
 }
@@ -34,6 +34,14 @@ impl Model for Text {
     ghost Value = { List ℕ };
 
     ghost view = { λ t. bytes_of t.kept };
+}
+
+// In one place, so that who drops a message has one way out, wherever its text lies.
+impl Drop for Text {
+    fn drop(self) {
+        let Text { kept } = self;
+        drop(kept);
+    }
 }
 
 impl Text {
