@@ -1,11 +1,12 @@
 -- A post that is made at once, from its first call to its end.
-use Rattle.std.proofs.Common.{◌≡◌, ◌≢◌, ℕ, ◌+◌, ◌⊎◌, inl, inr, Result, Ok, Err, List, [], ◌∷◌, ◌++◌, refl, sym, ap, subst, ◌∙◌}
+use Rattle.std.proofs.Common.{◌≡◌, ◌≢◌, ℕ, ◌+◌, ◌⊎◌, inl, inr, Option, Some, Result, Ok, Err, List, [], ◌∷◌, ◌++◌, refl, sym, ap, subst, ◌∙◌}
 use Rattle.std.proofs.Common.{add-zero, append-nil}
+use Rattle.std.specs.Prelude.{IsSome}
 use Rattle.alog_core.specs.Queue.{Event, Claim, Write}
 use Rattle.alog_policy.specs.Post.{IsPost, Part, Pushing, takes_in, End, Wrote, OutOfTickets, NoRoom, NothingToTake, OutOfRounds}
 use Rattle.alog_policy.specs.Post.{outcome_of, overran_in}
 use Rattle.alog_policy.specs.Progress.{IsKept, IsFresh, IsSoFar, without_waiting, begun}
-use Rattle.alog_policy.specs.Outlet.{Doing, Posts, Leads}
+use Rattle.alog_policy.specs.Outlet.{Doing, Posts, Leads, with_value, left_in, IsLeft, IsPostedOrSpent}
 use Rattle.alog_policy.specs.declared.policy.Policy.{Policy}
 use Rattle.alog_policy.specs.declared.policy.Policy.TheVariants.{Block, OverrunOldest, DiscardNew}
 use Rattle.alog_policy.specs.declared.policy.Outcome.{Outcome}
@@ -131,11 +132,51 @@ module _ {S T V : Type 0} (did : Doing S T) (fit : S → Type 0) (one : AreToget
               (done_more did one first now new posting.events made posting.done wrote);
         }
 
--- the same lead, told of the post's own value
-pub leads_told : {S T V : Type 0} (did : Doing S T) (fit : S → Type 0) (shows : V → T) (u v : V) (g : Progress)
-    (old new told : S) (next told_next : Result Progress Lost) → u ≡ v → told ≡ new → told_next ≡ next
-    → Leads did fit (shows u) u g old new next → Leads did fit (shows v) v g old told told_next
-leads_told {S} {T} {V} did fit shows u v g old new told next told_next e f h leads =
-    subst (λ (w : V). Leads did fit (shows w) w g old told told_next) e
-    (subst (λ (s : S). Leads did fit (shows u) u g old s told_next) (sym f)
-    (subst (λ (r : Result Progress Lost). Leads did fit (shows u) u g old new r) (sym h) leads))
+-- the same lead, where the outlet and what follows are told by other names
+pub leads_told : {S T V : Type 0} (did : Doing S T) (fit : S → Type 0) (x : T) (v : V) (g : Progress)
+    (old new told : S) (next told_next : Result Progress Lost) → told ≡ new → told_next ≡ next
+    → Leads did fit x v g old new next → Leads did fit x v g old told told_next
+leads_told {S} {T} {V} did fit x v g old new told next told_next f h leads =
+    subst (λ (s : S). Leads did fit x v g old s told_next) (sym f)
+    (subst (λ (r : Result Progress Lost). Leads did fit x v g old new r) (sym h) leads)
+
+with_value-outcome : {V : Type 0} (v : V) (k : ℕ) (e : End) → with_value v (outcome_of (tt {0}) k e) ≡ outcome_of v k e
+with_value-outcome v k (Wrote t) = refl
+with_value-outcome v k OutOfTickets = refl
+with_value-outcome v k (NoRoom f) = refl
+with_value-outcome v k (NothingToTake f t) = refl
+with_value-outcome v k OutOfRounds = refl
+
+post_with : {T V : Type 0} (p : Policy) (x : T) (v : V) (es : List (Event T)) (o : Outcome (Unit {0}))
+    → IsPost p x (tt {0}) es o → IsPost p x v es (with_value v o)
+post_with p x v es o q = record {
+  rounds = q.rounds;
+  end = q.end;
+  go_on = q.go_on;
+  ends = q.ends;
+  events_are = q.events_are;
+  outcome_is = ap (with_value v) q.outcome_is ∙ with_value-outcome v (takes_in es) q.end;
+}
+
+-- a post that leaves its value in a hand is the same post with its value handed back
+pub posts_with : {S T V : Type 0} (did : Doing S T) (p : Policy) (x : T) (v : V) (old new : S) (o : Outcome (Unit {0}))
+    → Posts did p x (tt {0}) old new o → Posts did p x v old new (with_value v o)
+posts_with did p x v old new (Posted t k) q = record {
+  events = q.events;
+  post = post_with p x v q.events (Posted t k) q.post;
+  done = q.done;
+}
+posts_with did p x v old new (Discarded u w k) q = record {
+  events = q.events;
+  post = post_with p x v q.events (Discarded u w k) q.post;
+  done = q.done;
+}
+
+-- what a post leaves is left
+pub is_left : {V : Type 0} (o : Outcome (Unit {0})) (v : V) (hand : Option V) → hand ≡ left_in o (Some v) → IsLeft o hand
+is_left (Posted t k) v hand e = e
+is_left (Discarded u w k) v hand e = let P : Option _ → Type 0 = λ h. IsSome h in subst P (sym e) refl
+
+pub posted_or_spent_with : {V : Type 0} (v : V) (o : Outcome (Unit {0})) → IsPostedOrSpent o → IsPostedOrSpent (with_value v o)
+posted_or_spent_with v (Posted t k) is = is
+posted_or_spent_with v (Discarded u w k) is = is

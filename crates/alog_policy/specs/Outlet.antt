@@ -1,6 +1,6 @@
 -- What the calls of an outlet promise, over its own relation `did` (which events its actor made, how many overrun items and how
 -- many discarded posts it counted) and its own condition `fit`.
-use Rattle.std.specs.Prelude.{◌≡◌, ◌≢◌, ◌<◌, ℕ, List, [], ◌∷◌, ◌++◌, Result, IfOk}
+use Rattle.std.specs.Prelude.{◌≡◌, ◌≢◌, ◌<◌, ℕ, List, [], ◌∷◌, ◌++◌, Option, None, IsSome, Result, IfOk}
 use Rattle.alog_core.specs.Queue as queue
 use Rattle.alog_core.specs.Queue.{Event, Grab, Take}
 use Rattle.alog_ring.specs.declared.push.PushError.{PushError}
@@ -26,7 +26,7 @@ module _ {S T : Type 0} (did : Doing S T) (fit : S → Type 0) where
   abbrev pub Refused : S → Event T → S → Type 0
   Refused old e new = did old (e ∷ []) 0 0 new × fit new
 
-  -- a push that was refused hands its value back
+  -- a push that was refused hands back what it was given: nothing, where the value stays in a hand
   abbrev pub PushRefused : {V : Type 0} → S → V → PushError V → S → Type 0
   PushRefused old v (Full back next) new = (back ≡ v) × Refused old (queue.Full next) new
   PushRefused old v (Busy back seen) new = (back ≡ v) × Refused old (queue.PushBusy seen) new
@@ -51,6 +51,21 @@ pub record Posts {S T V : Type 0} (did : Doing S T) (p : Policy) (x : T) (v : V)
 -- a post that never waits
 abbrev pub PostsNow : {S T V : Type 0} → Doing S T → Policy → T → V → S → S → Outcome V → Type 0
 PostsNow did p x v old new outcome = Posts did (without_waiting p) x v old new outcome
+
+-- what a post leaves in the hand that it took its value from
+abbrev pub left_in : {V : Type 0} → Outcome (Unit {0}) → Option V → Option V
+left_in (Posted t k) hand = None
+left_in (Discarded u w k) hand = hand
+
+-- the hand is empty where its value was posted, and has it elsewhere
+abbrev pub IsLeft : {V : Type 0} → Outcome (Unit {0}) → Option V → Type 0
+IsLeft (Posted t k) hand = hand ≡ None
+IsLeft (Discarded u w k) hand = IsSome hand
+
+-- the outcome of the post that brought this value, and hands it back if it is discarded
+abbrev pub with_value : {V : Type 0} → V → Outcome (Unit {0}) → Outcome V
+with_value v (Posted t k) = Posted t k
+with_value v (Discarded u w k) = Discarded v w k
 
 -- how a post ends that waits for room
 abbrev pub IsPostedOrSpent : {V : Type 0} → Outcome V → Type 0

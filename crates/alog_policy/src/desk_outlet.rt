@@ -38,8 +38,25 @@ impl<T: Drop> Outlet for DeskOutlet<'_, T> {
     ghost did = { λ o es k l p. (p.actor ≡ o.actor) × (p.desk.ghost_name ≡ o.desk.ghost_name)
         × DeskDid o.actor o.desk.now es k l p.desk.now };
 
-    fn push_once(&mut self, value: T) -> Result<u64, PushError<T>> {
-        self.desk.push_now(self.actor, value)
+    fn push_from(&mut self, hand: &mut Option<T>) -> Result<u64, PushError<()>> {
+        let Some(value) = hand.take() else {
+            unreachable!()
+        };
+        match self.desk.push_now(self.actor, value) {
+            Ok(ticket) => Ok(ticket),
+            Err(PushError::Full { value, next }) => {
+                *hand = Some(value);
+                Err(PushError::Full { value: (), next })
+            }
+            Err(PushError::Busy { value, seen }) => {
+                *hand = Some(value);
+                Err(PushError::Busy { value: (), seen })
+            }
+            Err(PushError::Spent { value }) => {
+                *hand = Some(value);
+                Err(PushError::Spent { value: () })
+            }
+        }
     }
 
     fn overrun_once(&mut self) -> Result<u64, PopError> {

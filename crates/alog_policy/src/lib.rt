@@ -3,7 +3,7 @@
 //! `post_now` makes a post that never waits, on any `Outlet`, and answers its `Outcome`. A `Desk` is the stepped queue of
 //! `alog_core` whose actors also make posts, one atomic step at a time, and which counts what they lose; `Desk::outlet`
 //! lends it to one actor for posts that are made at once. A `LossBook` counts losses for any number of threads, and a
-//! `Port` posts on a running ring; `post_wait` waits there under `Block`. The tests `overruns_the_oldest`, `posts_at_once`
+//! `Port` posts on a running ring; `post_wait` waits there under `Block`, as does `post_from`. The tests `overruns_the_oldest`, `posts_at_once`
 //! and `a_lone_port_posts` are examples.
 //!
 //! What a post is, is told by its actor's events alone: rounds that go on, and then one end. Read `specs/Post.antt` for that
@@ -62,7 +62,7 @@ pub use port::Port;
 pub use post::{Post, Stepped};
 pub use posting::post_now;
 pub use progress::{Lost, Progress, Side};
-pub use waiting::post_wait;
+pub use waiting::{post_from, post_wait};
 
 /// A post that does not block ends after so many rounds that went on.
 pub const MOST_ROUNDS: u64 = 64;

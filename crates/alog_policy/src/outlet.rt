@@ -9,7 +9,7 @@ use alog_ring::{PopError, PushError};
 /// a cell of the queue shows of a value. `is_fit` is what a push or a pop asks of the outlet, and `admits` what a push asks of
 /// its value.
 pub trait Outlet {
-    ghost use Rattle.std.specs.Prelude.{◌≡◌, ◌+◌, ℕ, List, [], ◌∷◌, ◌++◌, IfOk, IfErr, OnOk};
+    ghost use Rattle.std.specs.Prelude.{◌≡◌, ◌+◌, ℕ, List, [], ◌∷◌, ◌++◌, None, IsSome, IfSome, IfOk, IfErr, OnOk};
     ghost use Rattle.alog_core.specs.Queue.{Event, Claim, Write};
     ghost use Rattle.alog_policy.specs.Outlet.{PushRefused, Overran, PopRefused};
 
@@ -27,13 +27,16 @@ pub trait Outlet {
 
     ghost did: { Self → List (Event Self.Item) → ℕ → ℕ → Self → Type 0 };
 
-    /// Makes one round of a push: puts the value into the queue if that goes at once, and answers its ticket. A refusal
-    /// is one event, and hands the value back. It never waits and takes no memory.
-    fn push_once(&mut self, value: Self::Value) -> Result<u64, PushError<Self::Value>>
+    /// Makes one round of a push: puts the value that lies in the hand into the queue if that goes at once, and answers its
+    /// ticket. A refusal is one event, and leaves the value in the hand. It never waits and takes no memory.
+    fn push_from(&mut self, hand: &mut Option<Self::Value>) -> Result<u64, PushError<()>>
         requires fit { is_fit self.old }
-        requires admitted { admits self.old value }
-        ensures pushed { IfOk result (λ t. did self.old (Claim t (shows value) ∷ Write t ∷ []) 0 0 self.new) }
-        ensures refused { IfErr result (λ e. PushRefused did is_fit self.old value e self.new) }
+        requires there { IsSome hand.old }
+        requires admitted { IfSome hand.old (admits self.old) }
+        ensures pushed { IfOk result (λ t. IfSome hand.old (λ v. did self.old (Claim t (shows v) ∷ Write t ∷ []) 0 0 self.new)) }
+        ensures emptied { IfOk result (λ t. hand.new ≡ None) }
+        ensures refused { IfErr result (λ e. PushRefused did is_fit self.old (tt {0}) e self.new) }
+        ensures left { IfErr result (λ e. hand.new ≡ hand.old) }
         ensures fit { OnOk result (is_fit self.new) };
 
     /// Makes one round of a pop: takes the oldest item out if that goes at once, drops it and counts it as overrun, and

@@ -23,12 +23,12 @@ impl Outlet for Outrun {
 
     ghost did = { λ o es k l p. Unit {0} };
 
-    fn push_once(&mut self, value: u64) -> Result<u64, PushError<u64>> {
+    fn push_from(&mut self, _hand: &mut Option<u64>) -> Result<u64, PushError<()>> {
         self.pushes = self.pushes.wrapping_add(1);
         if self.is_full {
-            Err(PushError::Full { value, next: 9 })
+            Err(PushError::Full { value: (), next: 9 })
         } else {
-            Err(PushError::Busy { value, seen: 8 })
+            Err(PushError::Busy { value: (), seen: 8 })
         }
     }
 

@@ -36,8 +36,8 @@ impl<T: Drop, L: Limit<T>> Outlet for Port<'_, T, L> {
 
     ghost did = { PortDid };
 
-    fn push_once(&mut self, value: T) -> Result<u64, PushError<T>> {
-        self.ring.push_once(self.pass, value)
+    fn push_from(&mut self, hand: &mut Option<T>) -> Result<u64, PushError<()>> {
+        self.ring.push_from(self.pass, hand)
     }
 
     fn overrun_once(&mut self) -> Result<u64, PopError> {

@@ -1,13 +1,13 @@
 //! A post that may wait.
-ghost use Rattle.std.specs.Prelude.{◌≡◌};
-ghost use Rattle.alog_policy.specs.Outlet.{Posts, IsPostedOrSpent};
+ghost use Rattle.std.specs.Prelude.{◌≡◌, IsSome, IfSome};
+ghost use Rattle.alog_policy.specs.Outlet.{Posts, IsPostedOrSpent, left_in};
 ghost use Rattle.alog_policy.specs.Port.{IsFit, PostsOn};
 ghost use Rattle.alog_policy.specs.declared.policy.Policy.TheVariants as under;
 
 use crate::outlet::Outlet;
 use crate::policy::{Outcome, Policy, Why};
 use crate::port::Port;
-use crate::posting::post_now;
+use crate::posting::{handed_back, post_at_once};
 use crate::room::Room;
 use alog_ring::{Limit, PushError};
 use std::sync::Wait;
@@ -26,16 +26,39 @@ pub fn post_wait<T: Drop, L: Limit<T>>(
 ) -> Outcome<T>
     requires fit { IsFit port.old }
     requires limit { L.admits port.old.ring.now.limit value }
-    ensures post { PostsOn policy value port.old port.new result }
+    ensures post { PostsOn policy value value port.old port.new result }
+    ensures fit { IsFit port.new }
+    ensures blocks { policy ≡ under.Block → IsPostedOrSpent result }
+{
+    let mut hand = Some(value);
+    let outcome = post_from(rt, port, policy, &mut hand);
+    handed_back(outcome, hand)
+}
+
+/// Brings the value that lies in the hand into the ring under the policy, and answers how that went.
+///
+/// It is `post_wait` for a large value: it lies where it is until its place in the queue takes it, however often the post
+/// finds no room. A discarded value is left in the hand. The test `a_hand_keeps_what_is_discarded` shows it.
+pub fn post_from<T: Drop, L: Limit<T>>(
+    rt: &(impl Wait + Clock),
+    port: &mut Port<'_, T, L>,
+    policy: Policy,
+    hand: &mut Option<T>,
+) -> Outcome<()>
+    requires fit { IsFit port.old }
+    requires there { IsSome hand.old }
+    requires limit { IfSome hand.old (λ x. L.admits port.old.ring.now.limit x) }
+    ensures post { IfSome hand.old (λ x. PostsOn policy x (tt {0}) port.old port.new result) }
+    ensures left { hand.new ≡ left_in result hand.old }
     ensures fit { IsFit port.new }
     ensures blocks { policy ≡ under.Block → IsPostedOrSpent result }
 {
     match policy {
         Policy::Block => {
             let room = Room::new(port.ring.places());
-            post_blocking(rt, port, room, value)
+            post_blocking(rt, port, room, hand)
         }
-        Policy::OverrunOldest | Policy::DiscardNew => post_now(port, policy, value),
+        Policy::OverrunOldest | Policy::DiscardNew => post_at_once(port, policy, hand),
     }
 }
 
@@ -44,39 +67,25 @@ fn post_blocking<O: Outlet>(
     rt: &(impl Wait + Clock),
     outlet: &mut O,
     mut room: Room,
-    mut value: O::Value,
-) -> Outcome<O::Value>
+    hand: &mut Option<O::Value>,
+) -> Outcome<()>
     requires fit { O.is_fit outlet.old }
-    requires admitted { O.admits outlet.old value }
-    ensures post { Posts O.did under.Block (O.shows value) value outlet.old outlet.new result }
+    requires there { IsSome hand.old }
+    requires admitted { IfSome hand.old (O.admits outlet.old) }
+    ensures post { IfSome hand.old (λ v. Posts O.did under.Block (O.shows v) (tt {0}) outlet.old outlet.new result) }
+    ensures left { hand.new ≡ left_in result hand.old }
     ensures fit { O.is_fit outlet.new }
     ensures blocks { IsPostedOrSpent result }
 {
     for _ in rt.forever() {
-        match outlet.push_once(value) {
+        match outlet.push_from(hand) {
             Ok(ticket) => return Outcome::Posted { ticket, overran: 0 },
-            Err(
-                PushError::Full {
-                    value: back,
-                    next: _,
-                },
-            ) => {
-                value = back;
-                room.wait(rt);
-            }
-            Err(
-                PushError::Busy {
-                    value: back,
-                    seen: _,
-                },
-            ) => {
-                value = back;
-                room.give_way();
-            }
-            Err(PushError::Spent { value: back }) => {
+            Err(PushError::Full { value: (), next: _ }) => room.wait(rt),
+            Err(PushError::Busy { value: (), seen: _ }) => room.give_way(),
+            Err(PushError::Spent { value: () }) => {
                 outlet.count_discarded();
                 return Outcome::Discarded {
-                    value: back,
+                    value: (),
                     why: Why::Spent,
                     overran: 0,
                 };

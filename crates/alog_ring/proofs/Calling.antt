@@ -1,5 +1,6 @@
 -- What the calls' steps tell, put together.
-use Rattle.std.proofs.Common.{◌≡◌, ℕ, ◌%◌, Option, None, Some, List, [], ◌∷◌, ◌++◌, sym, ap, subst, ◌∙◌, append_assoc}
+use Rattle.std.proofs.Common.{◌≡◌, ℕ, ◌%◌, Option, None, Some, List, [], ◌∷◌, ◌++◌, refl, sym, ap, subst, ◌∙◌, append_assoc}
+use Rattle.std.specs.Prelude.{IsSome, IfSome}
 use mathlib.Core.Option.{some}
 use Rattle.atomic_table.specs.Table.{Me, step, rest}
 use Rattle.alog_core.specs.Queue.{Event, Claim, Grab}
@@ -35,17 +36,30 @@ module _ {T N : Type 0} where
       × EndsWith w (record { actor = z; event = e; note = note })
       in subst P a.actor (made_more u v w first (entry note v e ∷ []) a b.0, b.1)
 
+-- what lies in a hand that is not empty
+pub value_there : {T : Type 0} (o : Option T) → IsSome o → (x : T) × (o ≡ Some x)
+value_there None there = absurd (cc)
+value_there (Some x) there = (x, refl)
+
+-- what is so of the value that lies there, and of each
+pub of_value : {T : Type 0} (P : T → Type 0) (o : Option T) (x : T) → o ≡ Some x → IfSome o P → P x
+of_value P o x is holds = let Q : Option _ → Type 0 = λ r. IfSome r P in subst Q is holds
+
+pub for_value : {T : Type 0} (P : T → Type 0) (o : Option T) (x : T) → o ≡ Some x → P x → IfSome o P
+for_value P o x is holds = let Q : Option _ → Type 0 = λ r. IfSome r P in subst Q (sym is) holds
+
 -- A push: after the exchange of the position, the seat has the place; the item goes into it, and the sequence is stored.
-module _ {T : Type 0} (slots t new place found n : ℕ) (value : T) (old mid put : Me (Option T) (Sight T no_note))
-    (told : claimed tt some_value no_value (step slots NEXT t new (some (Some value))) old found mid) (hit : found ≡ t)
-    (filled : put ≡ (mid.0, (place, Some value) ∷ rest mid.1)) (at : place ≡ t % n) where
-  did : (x : T) × (some (Some value) ≡ some (some_value x)) × Acts tt old mid (Claim found x) (Writing found x)
+module _ {T : Type 0} (slots t new place found n : ℕ) (said : Option T) (value : T) (is : said ≡ Some value)
+    (old mid put : Me (Option T) (Sight T no_note))
+    (told : claimed tt some_value no_value (step slots NEXT t new (some said)) old found mid) (hit : found ≡ t)
+    (filled : put ≡ (mid.0, (place, said) ∷ rest mid.1)) (at : place ≡ t % n) where
+  did : (x : T) × (some said ≡ some (some_value x)) × Acts tt old mid (Claim found x) (Writing found x)
       × (mid.1 ≡ (found % slots, None) ∷ old.1)
   did = told.0 hit
 
   item : did.0 ≡ value
   unfolding did
-  item = let both : some (Some value) ≡ some (Some (told.0 hit).0) = (told.0 hit).1 in cc
+  item = let both : some said ≡ some (Some (told.0 hit).0) = (told.0 hit).1 in cc
 
   pub filling_stage : put.0.stage ≡ Writing t value
   unfolding did
@@ -54,7 +68,7 @@ module _ {T : Type 0} (slots t new place found n : ℕ) (value : T) (old mid put
 
   pub filling_place : put.1 ≡ (t % n, Some value) ∷ old.1
   filling_place = ap (λ (m : Me (Option T) (Sight T no_note)). m.1) filled
-      ∙ (λ i. (at i, Some value) ∷ ap rest (told.0 hit).3 i)
+      ∙ (λ i. (at i, is i) ∷ ap rest (told.0 hit).3 i)
 
   pub fills : (last : Me (Option T) (Sight T no_note)) → wrote tt t put last → Fills old last t value
   unfolding did

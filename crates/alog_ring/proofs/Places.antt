@@ -63,13 +63,17 @@ module _ {T : Type 0} (admits : T → Type 0) (n f slots id : ℕ) (me : Me (Opt
       ∙ at in let same : t ≡ u = cc in let P : ℕ → Type 0 = λ z. saw_free tt z me y m in subst P same told)
       (kept_in (seq_of n t) (λ y. y) (λ y m. saw_free tt t me y m) (sees_free (option_kind T) n f slots id me t stage)))
 
-  pub claim_may : (t new : ℕ) (x : T) → me.0.stage ≡ SawFree t → new ≡ t + 1 → t < last
+  pub claim_may : (t new : ℕ) (said : Option T) (x : T) → said ≡ Some x → me.0.stage ≡ SawFree t → new ≡ t + 1 → t < last
       → Allows Ring slots id me NEXT (λ y. either (eqb y t) new y)
+      (λ y m. claimed tt some_value no_value (step slots NEXT t new (some said)) me y m)
+  claim_may t new said x is stage next low =
+      let A : Option T → Type 0 = λ o.
+      Allows Ring slots id me NEXT (λ y. either (eqb y t) new y)
+      (λ y m. claimed tt some_value no_value (step slots NEXT t new (some o)) me y m)
+      in subst A (sym is)
+      (kept_in NEXT (λ y. either (eqb y t) new y)
       (λ y m. claimed tt some_value no_value (step slots NEXT t new (some (Some x))) me y m)
-  claim_may t new x stage next low =
-      kept_in NEXT (λ y. either (eqb y t) new y)
-      (λ y m. claimed tt some_value no_value (step slots NEXT t new (some (Some x))) me y m)
-      (claims (option_kind T) n f slots id me t new x stage next low)
+      (claims (option_kind T) n f slots id me t new x stage next low))
 
   pub write_may : (i t new : ℕ) (x : T) (more : List (ℕ × Option T)) → i ≡ seq_of n t → new ≡ t + 1
       → me.0.stage ≡ Writing t x → me.1 ≡ (t % n, Some x) ∷ more

@@ -10,8 +10,8 @@ use Rattle.alog_ring.specs.declared.push.PushError.TheVariants.{Full, Busy, Spen
 use Rattle.alog_ring.specs.declared.pop.PopError.{PopError}
 use Rattle.alog_ring.specs.declared.pop.PopError.TheVariants as pop
 
--- the value comes back
-abbrev pub PushRefused : {T : Type 0} → Known T no_note → Known T no_note → T → PushError T → Type 0
+-- what was brought comes back: the value, or the unit where it lies in a hand
+abbrev pub PushRefused : {T V : Type 0} → Known T no_note → Known T no_note → V → PushError V → Type 0
 PushRefused old new value (Full back next) = (back ≡ value) × (next_seen old ≤ next) × Answered old new (queue.Full next)
 PushRefused old new value (Busy back seen) = (back ≡ value) × (next_seen old ≤ seen)
     × Answered old new (queue.PushBusy seen)

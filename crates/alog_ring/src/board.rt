@@ -1,5 +1,5 @@
 //! The table of a ring, and the steps of a push and of a pop on it.
-ghost use Rattle.std.specs.Prelude.{◌≡◌, ℕ, ◌+◌, ◌%◌, ◌<◌, ◌≤◌, [], true, IfOk, MatchOption, MatchResult};
+ghost use Rattle.std.specs.Prelude.{◌≡◌, ℕ, ◌+◌, ◌%◌, ◌<◌, ◌≤◌, [], true, false, None, IsSome, IfSome, IfOk, MatchOption};
 ghost use Rattle.alog_core.specs.Queue.{last, PushBusy, PopBusy};
 ghost use Rattle.alog_core.specs.World.{is_size};
 ghost use Rattle.alog_core.specs.declared.TheConstants.{MOST_PLACES};
@@ -14,6 +14,7 @@ use crate::view::{Law, Shape, View};
 use crate::words::{APART, FRONT, NEXT, SEQUENCES};
 use atomic_table::{Seat, Table};
 use std::alloc::{AllocError, Global};
+use std::mem;
 
 /// A place of the board, and what it waits for: a sequence that is the ticket means that the place is free for the
 /// ticket, one more that its item is written there.
@@ -23,6 +24,16 @@ pub(crate) struct Board<T, L: Limit<T>> {
     pub(crate) mask: u64,
     ghost sized: { (table.shared.table_id.words ≡ word_count (mask + 1)) × (table.shared.table_id.slots ≡ mask + 1)
         × (table.shared.key.places ≡ mask + 1) × (mask < MOST_PLACES) × Masks mask },
+}
+
+/// Lets an empty hand go.
+pub(crate) fn let_go<T>(hand: Option<T>)
+    requires { hand ≡ None }
+{
+    match hand {
+        None => {}
+        Some(_) => unreachable!(),
+    }
 }
 
 /// The words of an empty ring.
@@ -102,36 +113,33 @@ impl<T, L: Limit<T>> Board<T, L> {
         self.table.shared.load::<SeeFree>(seat, word)
     }
 
-    /// Claims the ticket, puts the value into its place, and writes the ticket. Or gives the value back, where another
-    /// has claimed the ticket.
+    /// Claims the ticket, puts the value that lies in the hand into its place, and writes the ticket. Or answers no, and
+    /// leaves the hand as it is, where another has claimed the ticket.
     pub(crate) fn claim_and_fill(
         &self,
         seat: &mut Seat<Option<T>, View<T, ()>>,
         ticket: u64,
-        value: T,
-    ) -> Result<(), T>
+        hand: &mut Option<T>,
+    ) -> bool
         requires table { seat.old.table_id ≡ self.now.table.shared.table_id }
         requires stage { seat.old.me.0.stage ≡ SawFree ticket }
         requires home { seat.old.me.1 ≡ [] }
         requires below { ticket < last }
-        requires admitted { L.admits self.now.table.shared.key.limit value }
+        requires there { IsSome hand.old }
+        requires admitted { IfSome hand.old (λ x. L.admits self.now.table.shared.key.limit x) }
         ensures table { seat.new.table_id ≡ seat.old.table_id }
-        ensures told { MatchResult result (λ _. Fills seat.old.me seat.new.me ticket value)
-            (λ back. (back ≡ value) × Ends tt seat.old.me seat.new.me (PushBusy ticket)) }
+        ensures filled { result ≡ true → IfSome hand.old (λ x. Fills seat.old.me seat.new.me ticket x) × (hand.new ≡ None) }
+        ensures beaten { result ≡ false → Ends tt seat.old.me seat.new.me (PushBusy ticket) × (hand.new ≡ hand.old) }
     {
         let words = &self.table.shared;
         let place = self.place_of(ticket);
-        let item = Some(value);
-        let found = words.compare_exchange_with::<Claims>(seat, NEXT, ticket, ticket + 1, &item);
+        let found = words.compare_exchange_with::<Claims>(seat, NEXT, ticket, ticket + 1, hand);
         if found != ticket {
-            return Err(item.unwrap());
+            return false;
         }
-        match words.exchange(seat, place, item) {
-            None => {}
-            Some(_) => unreachable!(),
-        }
+        let_go(words.exchange(seat, place, hand.take()));
         words.store::<Writes>(seat, place * APART + SEQUENCES, ticket + 1);
-        Ok(())
+        true
     }
 
     pub(crate) fn see_front(&self, seat: &mut Seat<Option<T>, View<T, ()>>) -> u64
@@ -155,37 +163,32 @@ impl<T, L: Limit<T>> Board<T, L> {
         self.table.shared.load::<SeeFull>(seat, word)
     }
 
-    /// Grabs the ticket, takes the value out of its place, and gives the place back for the ticket a lap later. Or
-    /// answers None, where another has grabbed the ticket.
+    /// Grabs the ticket, takes the value out of its place into the hand, and gives the place back for the ticket a lap
+    /// later. Or answers no, and leaves the hand empty, where another has grabbed the ticket.
     pub(crate) fn grab_and_empty<A: Admits<T>>(
         &self,
         seat: &mut Seat<Option<T>, View<T, ()>>,
         ticket: u64,
-    ) -> Option<T>
+        hand: &mut Option<T>,
+    ) -> bool
         requires table { seat.old.table_id ≡ self.now.table.shared.table_id }
         requires stage { seat.old.me.0.stage ≡ SawFull ticket }
         requires home { seat.old.me.1 ≡ [] }
         requires below { ticket ≤ last }
         requires admitted { (x : T) → L.admits self.now.table.shared.key.limit x → A.admits x }
+        requires empty { hand.old ≡ None }
         ensures table { seat.new.table_id ≡ seat.old.table_id }
-        ensures told { MatchOption result (Ends tt seat.old.me seat.new.me (PopBusy ticket))
-            (λ x. Empties seat.old.me seat.new.me ticket x × A.admits x) }
+        ensures emptied { result ≡ true → MatchOption hand.new ⊥ (λ x. Empties seat.old.me seat.new.me ticket x × A.admits x) }
+        ensures beaten { result ≡ false → Ends tt seat.old.me seat.new.me (PopBusy ticket) × (hand.new ≡ None) }
     {
         let words = &self.table.shared;
         let place = self.place_of(ticket);
-        let nothing: Option<T> = None;
-        let found = words.compare_exchange_with::<Grabs<A>>(
-            seat,
-            FRONT,
-            ticket,
-            ticket + 1,
-            &nothing,
-        );
+        let found = words.compare_exchange_with::<Grabs<A>>(seat, FRONT, ticket, ticket + 1, hand);
         if found != ticket {
-            return nothing;
+            return false;
         }
-        let item = words.exchange(seat, place, nothing);
+        let_go(mem::replace(hand, words.exchange(seat, place, None)));
         words.store::<Takes>(seat, place * APART + SEQUENCES, ticket + (self.mask + 1));
-        item
+        true
     }
 }

@@ -1,9 +1,10 @@
 //! Pops.
-ghost use Rattle.std.specs.Prelude.{◌≡◌, IfOk, IfErr};
+ghost use Rattle.std.specs.Prelude.{◌≡◌, None, IsSome, IfSome, IfOk, IfErr};
 ghost use Rattle.alog_ring.specs.Known.{IsPassOf};
 ghost use Rattle.alog_ring.specs.Calls.{Popped};
 ghost use Rattle.alog_ring.specs.Refused.{PopRefused};
 
+use crate::board::let_go;
 use crate::limit::Limit;
 use crate::pass::Pass;
 use crate::ring::Ring;
@@ -34,18 +35,43 @@ impl<T, L: Limit<T>> Ring<T, L> {
         ensures limit { IfOk result (λ r. L.admits self.now.limit r.1) }
         ensures refused { IfErr result (λ e. PopRefused pass.old.known pass.new.known e) }
     {
+        let mut hand = None;
+        match self.pop_once_into(pass, &mut hand) {
+            Ok(ticket) => Ok((ticket, hand.unwrap())),
+            Err(error) => {
+                let_go(hand);
+                Err(error)
+            }
+        }
+    }
+
+    /// Takes the front value out of the ring into the empty hand if that goes at once, and answers its ticket.
+    ///
+    /// It is `pop_once` for a large value, which is moved once. A refused pop leaves the hand empty. The test
+    /// `a_hand_is_filled` shows it.
+    pub fn pop_once_into(
+        &self,
+        pass: &mut Pass<T>,
+        hand: &mut Option<T>,
+    ) -> Result<u64, PopError>
+        requires ring { IsPassOf self.now pass.old }
+        requires empty { hand.old ≡ None }
+        ensures ring { IsPassOf self.now pass.new }
+        ensures some { IfOk result (λ t. IsSome hand.new) }
+        ensures popped { IfOk result (λ t. IfSome hand.new (Popped pass.old.known pass.new.known t)) }
+        ensures limit { IfSome hand.new (λ x. L.admits self.now.limit x) }
+        ensures none { IfErr result (λ e. hand.new ≡ None) }
+        ensures refused { IfErr result (λ e. PopRefused pass.old.known pass.new.known e) }
+    {
         let seat = &mut pass.seat;
         let next = self.board.see_front(seat);
         let sequence = self.board.see_full(seat, next);
         if sequence < next + 1 {
             return Err(PopError::Empty { next });
         }
-        if sequence > next + 1 {
+        if sequence > next + 1 || !self.board.grab_and_empty::<Brand>(seat, next, hand) {
             return Err(PopError::Busy { seen: next });
         }
-        match self.board.grab_and_empty::<Brand>(seat, next) {
-            Some(value) => Ok((next, value)),
-            None => Err(PopError::Busy { seen: next }),
-        }
+        Ok(next)
     }
 }

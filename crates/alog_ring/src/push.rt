@@ -1,9 +1,10 @@
 //! Pushes.
-ghost use Rattle.std.specs.Prelude.{◌≡◌, IfOk, IfErr};
+ghost use Rattle.std.specs.Prelude.{◌≡◌, None, IsSome, IfSome, IfOk, IfErr};
 ghost use Rattle.alog_ring.specs.Known.{IsPassOf};
 ghost use Rattle.alog_ring.specs.Calls.{Pushed};
 ghost use Rattle.alog_ring.specs.Refused.{PushRefused};
 
+use crate::board::let_go;
 use crate::limit::Limit;
 use crate::pass::Pass;
 use crate::ring::Ring;
@@ -37,21 +38,59 @@ impl<T, L: Limit<T>> Ring<T, L> {
         ensures pushed { IfOk result (λ t. Pushed pass.old.known pass.new.known t value) }
         ensures refused { IfErr result (λ e. PushRefused pass.old.known pass.new.known value e) }
     {
+        let mut hand = Some(value);
+        match self.push_from(pass, &mut hand) {
+            Ok(ticket) => {
+                let_go(hand);
+                Ok(ticket)
+            }
+            Err(PushError::Full { value: (), next }) => Err(PushError::Full {
+                value: hand.unwrap(),
+                next,
+            }),
+            Err(PushError::Busy { value: (), seen }) => Err(PushError::Busy {
+                value: hand.unwrap(),
+                seen,
+            }),
+            Err(PushError::Spent { value: () }) => Err(PushError::Spent {
+                value: hand.unwrap(),
+            }),
+        }
+    }
+
+    /// Puts the value that lies in the hand into the ring if that goes at once, and answers its ticket.
+    ///
+    /// It is `push_once` for a large value: it lies where it is until its place takes it, so it is moved once however
+    /// many rounds are made. A refused push leaves it in the hand. The test `a_hand_is_emptied_once` shows it.
+    pub fn push_from(
+        &self,
+        pass: &mut Pass<T>,
+        hand: &mut Option<T>,
+    ) -> Result<u64, PushError<()>>
+        requires ring { IsPassOf self.now pass.old }
+        requires there { IsSome hand.old }
+        requires limit { IfSome hand.old (λ x. L.admits self.now.limit x) }
+        ensures ring { IsPassOf self.now pass.new }
+        ensures pushed { IfOk result (λ t. IfSome hand.old (Pushed pass.old.known pass.new.known t)) }
+        ensures emptied { IfOk result (λ t. hand.new ≡ None) }
+        ensures refused { IfErr result (λ e. PushRefused pass.old.known pass.new.known (tt {0}) e) }
+        ensures left { IfErr result (λ e. hand.new ≡ hand.old) }
+    {
         let seat = &mut pass.seat;
         let next = self.board.see_next(seat);
         if next == LAST_TICKET {
-            return Err(PushError::Spent { value });
+            return Err(PushError::Spent { value: () });
         }
         let sequence = self.board.see_free(seat, next);
         if sequence < next {
-            return Err(PushError::Full { value, next });
+            return Err(PushError::Full { value: (), next });
         }
-        if sequence > next {
-            return Err(PushError::Busy { value, seen: next });
+        if sequence > next || !self.board.claim_and_fill(seat, next, hand) {
+            return Err(PushError::Busy {
+                value: (),
+                seen: next,
+            });
         }
-        match self.board.claim_and_fill(seat, next, value) {
-            Ok(()) => Ok(next),
-            Err(value) => Err(PushError::Busy { value, seen: next }),
-        }
+        Ok(next)
     }
 }

@@ -1,4 +1,4 @@
-ghost use Rattle.std.specs.Prelude.{◌≡◌, ◌<◌, [], ◌∷◌, IfSome};
+ghost use Rattle.std.specs.Prelude.{◌≡◌, ◌<◌, None, [], ◌∷◌, IsSome, IfSome, IfNone};
 ghost use Rattle.alog_ring.specs.Known.{IsPassOf};
 
 use super::*;
@@ -113,6 +113,74 @@ fn a_lone_pass_closes_what_it_made(rt: HostRuntime) -> Result<(), Fail> {
     assert!(rt; left.is_some_and(|left| left.is_empty()));
     let left = one_value_left(rt.alloc(), 2, 7, 40);
     assert!(rt; left.is_some_and(|left| left.as_slice() == [(7, 40)].as_slice()));
+    Ok(())
+}
+
+// Pushes the value out of a hand, and answers the ticket and whether the hand is empty.
+fn pushed_from(ring: &Ring<u64>, pass: &mut Pass<u64>, hand: &mut Option<u64>) -> Option<u64>
+    requires ring { IsPassOf ring.now pass.old }
+    requires there { IsSome hand.old }
+    ensures ring { IsPassOf ring.now pass.new }
+    ensures emptied { IfSome result (λ t. hand.new ≡ None) }
+    ensures left { IfNone result (hand.new ≡ hand.old) }
+{
+    ring.push_from(pass, hand).ok()
+}
+
+#[test]
+fn a_hand_is_emptied_once(rt: HostRuntime) -> Result<(), Fail> {
+    let (ring, mut pass) = Ring::<u64>::new(rt.alloc(), 2, 5)?;
+    let mut hand = Some(7);
+    assert_eq!(rt; pushed_from(&ring, &mut pass, &mut hand), Some(5));
+    assert_eq!(rt; hand, None);
+    let mut hand = Some(8);
+    assert_eq!(rt; pushed_from(&ring, &mut pass, &mut hand), Some(6));
+    let mut hand = Some(9);
+    assert!(rt;
+        matches!(
+            ring.push_from(&mut pass, &mut hand),
+            Err(PushError::Full { value: (), next: 7 })
+        )
+    );
+    assert_eq!(rt; hand, Some(9));
+    let Ok(left) = ring.close(pass) else {
+        panic!(rt; "no pass is out")
+    };
+    assert_eq!(rt; left.as_slice(), [(5, 7), (6, 8)].as_slice());
+    Ok(())
+}
+
+// Pops into a hand that is empty, and answers the ticket; the hand has a value just where there is one.
+fn popped_into(ring: &Ring<u64>, pass: &mut Pass<u64>, hand: &mut Option<u64>) -> Option<u64>
+    requires ring { IsPassOf ring.now pass.old }
+    requires empty { hand.old ≡ None }
+    ensures ring { IsPassOf ring.now pass.new }
+    ensures some { IfSome result (λ t. IsSome hand.new) }
+    ensures none { IfNone result (hand.new ≡ None) }
+{
+    ring.pop_once_into(pass, hand).ok()
+}
+
+#[test]
+fn a_hand_is_filled(rt: HostRuntime) -> Result<(), Fail> {
+    let (ring, mut pass) = Ring::<u64>::new(rt.alloc(), 2, 5)?;
+    let mut none = None;
+    assert_eq!(rt; popped_into(&ring, &mut pass, &mut none), None);
+    assert_eq!(rt; none, None);
+    let mut first = None;
+    let mut second = None;
+    let mut third = None;
+    assert!(rt; ring.push_once(&mut pass, 7).is_ok());
+    assert!(rt; ring.push_once(&mut pass, 8).is_ok());
+    assert_eq!(rt; popped_into(&ring, &mut pass, &mut first), Some(5));
+    assert_eq!(rt; first, Some(7));
+    assert_eq!(rt; ring.pop_into(&rt, &mut pass, &mut second), Ok(6));
+    assert_eq!(rt; second, Some(8));
+    assert_eq!(rt;
+        ring.pop_into(&rt, &mut pass, &mut third),
+        Err(PopError::Empty { next: 7 })
+    );
+    assert_eq!(rt; third, None);
     Ok(())
 }
 

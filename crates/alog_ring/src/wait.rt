@@ -1,8 +1,9 @@
 //! Pushes and pops that begin again while another thread is in the way.
-ghost use Rattle.std.specs.Prelude.{◌≡◌, IfOk, IfErr};
+ghost use Rattle.std.specs.Prelude.{◌≡◌, None, IsSome, IfSome, IfOk, IfErr};
 ghost use Rattle.alog_ring.specs.Known.{IsPassOf};
 ghost use Rattle.alog_ring.specs.Waits.{PushedAtLast, PushRefusedAtLast, PoppedAtLast, PopRefusedAtLast};
 
+use crate::board::let_go;
 use crate::limit::Limit;
 use crate::pass::Pass;
 use crate::pop::PopError;
@@ -69,9 +70,38 @@ impl<T, L: Limit<T>> Ring<T, L> {
         ensures limit { IfOk result (λ r. L.admits self.now.limit r.1) }
         ensures refused { IfErr result (λ e. PopRefusedAtLast pass.old.known pass.new.known e) }
     {
+        let mut hand = None;
+        match self.pop_into(rt, pass, &mut hand) {
+            Ok(ticket) => Ok((ticket, hand.unwrap())),
+            Err(error) => {
+                let_go(hand);
+                Err(error)
+            }
+        }
+    }
+
+    /// Takes the front value out of the ring into the empty hand whatever other pops do, and answers its ticket.
+    ///
+    /// It is `pop` for a large value, which is moved once. A refused pop leaves the hand empty. That it returns is not
+    /// promised while other pops are always faster. The test `a_hand_is_filled` shows it.
+    pub fn pop_into(
+        &self,
+        rt: &impl Wait,
+        pass: &mut Pass<T>,
+        hand: &mut Option<T>,
+    ) -> Result<u64, PopError>
+        requires ring { IsPassOf self.now pass.old }
+        requires empty { hand.old ≡ None }
+        ensures ring { IsPassOf self.now pass.new }
+        ensures some { IfOk result (λ t. IsSome hand.new) }
+        ensures popped { IfOk result (λ t. IfSome hand.new (PoppedAtLast pass.old.known pass.new.known t)) }
+        ensures limit { IfSome hand.new (λ x. L.admits self.now.limit x) }
+        ensures none { IfErr result (λ e. hand.new ≡ None) }
+        ensures refused { IfErr result (λ e. PopRefusedAtLast pass.old.known pass.new.known e) }
+    {
         let backoff = Backoff::new();
         for _ in rt.forever() {
-            match self.pop_once(pass) {
+            match self.pop_once_into(pass, hand) {
                 Err(PopError::Busy { seen: _ }) => {}
                 answer => return answer,
             }

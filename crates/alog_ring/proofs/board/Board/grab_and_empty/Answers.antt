@@ -1,9 +1,7 @@
 use Rattle.std.proofs.Common.{ℕ, ◌≡◌, ◌+◌, ◌*◌, ◌%◌, ◌∷◌, sym, ap, subst, ◌∙◌, refl, Option, Some, None, arith}
 use Rattle.std.specs.Prelude.{MatchOption}
 use Rattle.atomic_table.specs.Table.{rest}
-use Rattle.alog_core.specs.Queue.{PopBusy}
 use Rattle.alog_ring.specs.declared.words.TheConstants.{SEQUENCES, APART}
-use Rattle.alog_ring.specs.Plays.{Ends}
 use Rattle.alog_ring.specs.Rule.{seq_of}
 use Rattle.alog_ring.specs.Board.{Empties}
 use Rattle.alog_ring.specs.Limit.{IsAdmitted}
@@ -21,11 +19,11 @@ compare_exchange_with-found-requires g c =
       grab_may (g.L.Limit.admits c.args.self.now.table.shared.key.limit) c.args.self.now.table.shared.key.places c.args.self.now.table.shared.key.first
           c.args.self.now.table.shared.table_id.slots c.args.seat.now.id c.args.seat.now.me
           (none_held (g.L.Limit.admits c.args.self.now.table.shared.key.limit) c.args.seat.now.me.1 c.requires.home) c.args.ticket
-          (c.args.ticket + 1) None g.A.Admits.admits c.requires.admitted c.requires.stage refl,
+          (c.args.ticket + 1) c.args.hand.now g.A.Admits.admits c.requires.admitted c.requires.stage refl,
     )
 
-pub exchange-item-requires : goal.exchange-item-requires
-exchange-item-requires g c =
+pub exchange-requires : goal.exchange-requires
+exchange-requires g c =
     let sized = c.args.self.now.sized
     in let did = c.compare_exchange_with-found.ensures.2.0.0 c.if-found-ticket.false
     in let slot : c.place_of-place.result ≡ c.compare_exchange_with-found.result % c.args.self.now.table.shared.table_id.slots =
@@ -47,26 +45,29 @@ store-requires g c =
     in let told = c.compare_exchange_with-found.ensures.2.0
     in let stage =
     emptying_stage slots t
-    (t + 1) c.place_of-place.result c.compare_exchange_with-found.result n None c.args.seat.now.me
-    c.compare_exchange_with-found.new.seat.me c.exchange-item.new.seat.me told c.if-found-ticket.false
-    c.exchange-item.ensures.3 place
+    (t + 1) c.place_of-place.result c.compare_exchange_with-found.result n c.args.hand.now c.args.seat.now.me
+    c.compare_exchange_with-found.new.seat.me c.exchange.new.seat.me told c.if-found-ticket.false
+    c.exchange.ensures.3 place
     in let has =
     emptying_place slots t
-    (t + 1) c.place_of-place.result c.compare_exchange_with-found.result n None c.args.seat.now.me
-    c.compare_exchange_with-found.new.seat.me c.exchange-item.new.seat.me told c.if-found-ticket.false
-    c.exchange-item.ensures.3 place
+    (t + 1) c.place_of-place.result c.compare_exchange_with-found.result n c.args.hand.now c.args.seat.now.me
+    c.compare_exchange_with-found.new.seat.me c.exchange.new.seat.me told c.if-found-ticket.false
+    c.exchange.ensures.3 place
     in (
-      c.exchange-item.ensures.0 ∙ c.compare_exchange_with-found.ensures.0 ∙ c.requires.table,
+      c.exchange.ensures.0 ∙ c.compare_exchange_with-found.ensures.0 ∙ c.requires.table,
       omega (arith, sized.0, c.place_of-place.ensures.within),
-      take_may (g.L.Limit.admits c.args.self.now.table.shared.key.limit) n c.args.self.now.table.shared.key.first slots c.exchange-item.new.seat.id c.exchange-item.new.seat.me
-          (one_held (g.L.Limit.admits c.args.self.now.table.shared.key.limit) c.exchange-item.new.seat.me.1 (t % n) None (has ∙ (λ i. (t % n, None) ∷ c.requires.home i)) tt)
+      take_may (g.L.Limit.admits c.args.self.now.table.shared.key.limit) n c.args.self.now.table.shared.key.first slots c.exchange.new.seat.id c.exchange.new.seat.me
+          (one_held (g.L.Limit.admits c.args.self.now.table.shared.key.limit) c.exchange.new.seat.me.1 (t % n) None (has ∙ (λ i. (t % n, None) ∷ c.requires.home i)) tt)
           (c.place_of-place.result * APART + SEQUENCES) t (t + (c.args.self.now.mask + 1))
           (told.0 c.if-found-ticket.false).0 c.args.seat.now.me.1 word
           (ap (λ (z : ℕ). t + z) (sym sized.2)) stage has,
     )
 
-pub returns-clause-told : goal.returns-clause-told
-returns-clause-told g c =
+pub let_go-requires : goal.let_go-requires
+let_go-requires g c = c.replace.ensures.value ∙ c.requires.empty
+
+pub returns-clause-emptied : goal.returns-clause-emptied
+returns-clause-emptied g c _ =
     let sized = c.args.self.now.sized
     in let t : ℕ = c.args.ticket
     in let n : ℕ = c.args.self.now.table.shared.key.places
@@ -74,29 +75,28 @@ returns-clause-told g c =
     in let place : c.place_of-place.result ≡ t % n = c.place_of-place.ensures.place ∙ ap (λ (z : ℕ). t % z) (sym sized.2)
     in let told = c.compare_exchange_with-found.ensures.2.0
     in let x = (told.0 c.if-found-ticket.false).0
+    in let said = c.args.hand.now
+    in let mid = c.compare_exchange_with-found.new.seat.me
     in let stage =
     emptying_stage slots t
-    (t + 1) c.place_of-place.result c.compare_exchange_with-found.result n None c.args.seat.now.me
-    c.compare_exchange_with-found.new.seat.me c.exchange-item.new.seat.me told c.if-found-ticket.false
-    c.exchange-item.ensures.3 place
+    (t + 1) c.place_of-place.result c.compare_exchange_with-found.result n said c.args.seat.now.me mid
+    c.exchange.new.seat.me told c.if-found-ticket.false c.exchange.ensures.3 place
     in let is =
     emptied_value slots t
-    (t + 1) c.place_of-place.result c.compare_exchange_with-found.result n None c.args.seat.now.me
-    c.compare_exchange_with-found.new.seat.me c.exchange-item.new.seat.me told c.if-found-ticket.false
-    c.exchange-item.ensures.3 place c.exchange-item.result c.exchange-item.ensures.2
-    in let admitted : IsAdmitted g.A.Admits.admits c.exchange-item.result =
-    held_first g.A.Admits.admits c.compare_exchange_with-found.new.seat.me.1 c.place_of-place.result c.exchange-item.result
-    c.exchange-item.ensures.2 c.compare_exchange_with-found.ensures.2.1
-    in let P : Option g.row.T.Denot → Type 0 =
-    λ o.
-    IsAdmitted g.A.Admits.admits o → MatchOption o (Ends tt c.args.seat.now.me c.store.new.seat.me (PopBusy t))
-    (λ y. Empties c.args.seat.now.me c.store.new.seat.me t y × g.A.Admits.admits y)
-    in subst P (sym is)
+    (t + 1) c.place_of-place.result c.compare_exchange_with-found.result n said c.args.seat.now.me mid
+    c.exchange.new.seat.me told c.if-found-ticket.false c.exchange.ensures.3 place c.exchange.result c.exchange.ensures.2
+    in let admitted : IsAdmitted g.A.Admits.admits c.exchange.result =
+    held_first g.A.Admits.admits mid.1 c.place_of-place.result c.exchange.result
+    c.exchange.ensures.2 c.compare_exchange_with-found.ensures.2.1
+    in let Q : Option g.row.T.Denot → Type 0 =
+    λ o. MatchOption o ⊥ (λ y. Empties c.args.seat.now.me c.store.new.seat.me t y × g.A.Admits.admits y)
+    in let P : Option g.row.T.Denot → Type 0 = λ o. IsAdmitted g.A.Admits.admits o → Q o
+    in subst Q (sym c.replace.ensures.after)
+    (subst P (sym is)
     (λ ok. (
-      empties slots t (t + 1) c.place_of-place.result c.compare_exchange_with-found.result n None c.args.seat.now.me
-          c.compare_exchange_with-found.new.seat.me c.exchange-item.new.seat.me told c.if-found-ticket.false
-          c.exchange-item.ensures.3 place
+      empties slots t (t + 1) c.place_of-place.result c.compare_exchange_with-found.result n said c.args.seat.now.me mid
+          c.exchange.new.seat.me told c.if-found-ticket.false c.exchange.ensures.3 place
           c.store.new.seat.me (c.store.ensures.2 t x stage),
       ok,
     ))
-    admitted
+    admitted)
