@@ -1,6 +1,6 @@
 -- One push or one pop of a port, and one loss that its seat counts.
 use Rattle.std.proofs.Common.{◌≡◌, ℕ, Result, Ok, Err, List, [], ◌∷◌, refl, sym, subst, ◌∙◌, inl, inr}
-use Rattle.std.specs.Prelude.{IfOk, IfErr, OnOk}
+use Rattle.std.specs.Prelude.{Option, None, Some, IsSome, IfSome, IfOk, IfErr, OnOk}
 use Rattle.std.specs.List.{AllByRecursion}
 use Rattle.alog_core.specs.Queue.{Event, Claim, Write, Grab, Take}
 use Rattle.alog_core.specs.Queue as queue
@@ -68,9 +68,11 @@ module _ {T L : Type 0} (a b : Port T L) (fit : IsFit a) where
     seat_fits = subst (λ r. IsSeatOf r.now b.seat.now) (sym did.book) seat_here
 
   -- after a push that went at once
-  pub push_fits : (v : T) (r : Result ℕ (PushError T)) → IfOk r (λ t. PortDid a (Claim t v ∷ Write t ∷ []) 0 0 b) → OnOk r (IsFit b)
-  push_fits v (Ok t) did = fit_still (Claim t v ∷ Write t ∷ []) 0 0 did
-  push_fits v (Err e) did = tt
+  pub push_fits : (hand : Option T) (r : Result ℕ (PushError (Unit {0}))) → IsSome hand
+      → IfOk r (λ t. IfSome hand (λ v. PortDid a (Claim t v ∷ Write t ∷ []) 0 0 b)) → OnOk r (IsFit b)
+  push_fits None (Ok t) there did = absurd (cc)
+  push_fits (Some v) (Ok t) there did = fit_still (Claim t v ∷ Write t ∷ []) 0 0 did
+  push_fits hand (Err e) there did = tt
 
   -- its pass alone did something
   module _ (ring_is : b.ring ≡ a.ring) (book_is : b.book ≡ a.book) (pass_is : b.pass.ghost_name ≡ a.pass.ghost_name)
@@ -95,12 +97,14 @@ module _ {T L : Type 0} (a b : Port T L) (fit : IsFit a) where
           → IsReadSince a.pass.now.known e → outlet.Refused PortDid IsFit a e b
       refused e made read = let d = did (e ∷ []) made (read, tt) in (d, fit_still (e ∷ []) 0 0 d)
 
-      pub push_done : (x : T) (r : Result ℕ (PushError T)) → IfOk r (λ t. Pushed a.pass.now.known b.pass.now.known t x)
-          → IfOk r (λ t. PortDid a (Claim t x ∷ Write t ∷ []) 0 0 b)
-      push_done x (Ok t) pushed = did (Claim t x ∷ Write t ∷ []) pushed.0 (tt, (tt, tt))
-      push_done x (Err e) pushed = tt
+      pub push_done : (hand : Option T) (r : Result ℕ (PushError (Unit {0})))
+          → IfOk r (λ t. IfSome hand (Pushed a.pass.now.known b.pass.now.known t))
+          → IfOk r (λ t. IfSome hand (λ x. PortDid a (Claim t x ∷ Write t ∷ []) 0 0 b))
+      push_done None (Ok t) pushed = tt
+      push_done (Some x) (Ok t) pushed = did (Claim t x ∷ Write t ∷ []) pushed.0 (tt, (tt, tt))
+      push_done hand (Err e) pushed = tt
 
-      pub push_refused : (x : T) (r : Result ℕ (PushError T))
+      pub push_refused : {V : Type 0} (x : V) (r : Result ℕ (PushError V))
           → IfErr r (λ e. ring.PushRefused a.pass.now.known b.pass.now.known x e)
           → IfErr r (λ e. outlet.PushRefused PortDid IsFit a x e b)
       push_refused x (Ok t) is = tt

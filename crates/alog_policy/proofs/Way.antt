@@ -140,6 +140,13 @@ leads_told {S} {T} {V} did fit x v g old new told next told_next f h leads =
     subst (λ (s : S). Leads did fit x v g old s told_next) (sym f)
     (subst (λ (r : Result Progress Lost). Leads did fit x v g old new r) (sym h) leads)
 
+-- what was admitted first is admitted still
+pub stays_admitted : {S T V : Type 0} (did : Doing S T) (admits : S → V → Type 0)
+    → ((a b : S) (v : V) (es : List (Event T)) (k l : ℕ) → did a es k l b → admits a v → admits b v)
+    → (a b : S) (v : V) (es : List (Event T)) → DidSoFar did a es b → admits a v → admits b v
+stays_admitted did admits still a b v es (inl none) is = subst (λ s. admits s v) none.1 is
+stays_admitted did admits still a b v es (inr done) is = still a b v es (takes_in es) 0 done is
+
 with_value-outcome : {V : Type 0} (v : V) (k : ℕ) (e : End) → with_value v (outcome_of (tt {0}) k e) ≡ outcome_of v k e
 with_value-outcome v k (Wrote t) = refl
 with_value-outcome v k OutOfTickets = refl

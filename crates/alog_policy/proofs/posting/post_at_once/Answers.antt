@@ -1,4 +1,4 @@
-use Rattle.std.proofs.Common.{◌≡◌, ◌≢◌, Some, Result, refl, sym, ap, subst, ◌∙◌}
+use Rattle.std.proofs.Common.{◌≡◌, ◌≢◌, Option, Some, Result, refl, sym, ap, subst, ◌∙◌}
 use Rattle.std.proofs.Common.{[], ◌∷◌}
 use Rattle.std.specs.Prelude.{IsSome, IfSome}
 use Rattle.alog_core.specs.Queue.{Claim, Write}
@@ -10,14 +10,14 @@ use Rattle.alog_policy.specs.declared.policy.Policy.TheVariants.{Block}
 use Rattle.alog_policy.specs.declared.policy.Outcome.TheVariants.{Posted, Discarded}
 use Rattle.alog_policy.specs.declared.progress.Progress.{Progress}
 use Rattle.alog_policy.specs.declared.progress.Lost.{Lost}
-use Rattle.alog_policy.proofs.Way.{posting_begins, posting_goes_on, posting_is_lost, posting_wrote, never_block, leads_told}
+use Rattle.alog_policy.proofs.Way.{posting_begins, posting_goes_on, posting_is_lost, posting_wrote, never_block, leads_told, stays_admitted}
 use Rattle.alog_policy.proofs.posting.post_at_once.Goals as goal
 use Rattle.alog_policy.proofs.posting.post_at_once.Goals.{in-Push+in-Err, in-Pop}
 
 pub returns-in-Ok-clause-post : goal.returns-in-Ok-clause-post
 returns-in-Ok-clause-post g c =
     let o = g.O.Outlet in
-    let there = value_there c.args.hand c.requires.there in
+    let there = value_there c.args.hand.now c.requires.there in
     let v = there.0 in
     let now = c.loop-progress.outlet in
     let before = c.loop-progress.progress in
@@ -26,7 +26,7 @@ returns-in-Ok-clause-post g c =
     let P : g.row.O-Value.Denot → Type 0 = λ w. o.did now (Claim t (o.shows w) ∷ Write t ∷ []) 0 0 c.push.new.outlet in
     for_value
     (λ w. PostsNow o.did c.args.policy (o.shows w) (tt {0}) c.args.outlet.now c.push.new.outlet (Posted t before.overran))
-    c.args.hand v there.1
+    c.args.hand.now v there.1
     (posting_wrote o.did o.is_fit g.met.O.Outlet.together (without_waiting c.args.policy) (o.shows v) (tt {0}) c.args.outlet.now now
     c.push.new.outlet before posting t c.in-Push.is
     (of_value P c.loop-progress.hand v (c.loop-progress.invariant.hand ∙ there.1) c.in-Ok.ensures.pushed))
@@ -34,7 +34,7 @@ returns-in-Ok-clause-post g c =
 pub loop-progress-smaller : goal.loop-progress-smaller
 loop-progress-smaller g c =
     let o = g.O.Outlet in
-    let there = value_there c.args.hand c.requires.there in
+    let there = value_there c.args.hand.now c.requires.there in
     let v = there.0 in
     let now = c.loop-progress.outlet in
     let before = c.loop-progress.progress in
@@ -43,7 +43,7 @@ loop-progress-smaller g c =
     elim c.match-progress.branch [
       | in-Push+in-Err w ↦
           leads_told o.did o.is_fit (o.shows v) (tt {0}) before now w.push.new.outlet c.match-progress.outlet
-          w.in-Err.field-0 c.match-progress.next w.outlet-is w.next-is (w.in-Err.ensures.refused (o.shows v))
+          w.in-Err.next c.match-progress.next w.outlet-is w.next-is (w.in-Err.ensures.refused (o.shows v))
       | in-Pop w ↦
           leads_told o.did o.is_fit (o.shows v) (tt {0}) before now w.make_room-next.new.outlet c.match-progress.outlet
           w.make_room-next.result c.match-progress.next w.outlet-is w.next-is (w.make_room-next.ensures (o.shows v))
@@ -68,12 +68,13 @@ loop-progress-preserved g c =
           elim c.match-progress.branch [
             | in-Push+in-Err w ↦
                 leads_told o.did o.is_fit (o.shows v) (tt {0}) before now w.push.new.outlet c.match-progress.outlet
-                w.in-Err.field-0 c.match-progress.next w.outlet-is w.next-is (w.in-Err.ensures.refused (o.shows v))
+                w.in-Err.next c.match-progress.next w.outlet-is w.next-is (w.in-Err.ensures.refused (o.shows v))
             | in-Pop w ↦
                 leads_told o.did o.is_fit (o.shows v) (tt {0}) before now w.make_room-next.new.outlet c.match-progress.outlet
                 w.make_room-next.result c.match-progress.next w.outlet-is w.next-is (w.make_room-next.ensures (o.shows v))
           ]
-                 let led = subst (λ (r : Result Progress Lost). Leads o.did o.is_fit (o.shows v) (tt {0}) before now c.match-progress.outlet r)
+          in
+          let led = subst (λ (r : Result Progress Lost). Leads o.did o.is_fit (o.shows v) (tt {0}) before now c.match-progress.outlet r)
           c.in-Ok-next.is next in
           posting_goes_on o.did o.is_fit g.met.O.Outlet.together (without_waiting c.args.policy) (o.shows v) (tt {0}) c.args.outlet.now now
           c.match-progress.outlet before (c.loop-progress.invariant.posting v is) c.in-Ok-next.further led;
@@ -82,7 +83,7 @@ loop-progress-preserved g c =
 pub returns-in-Err-next-clause-post : goal.returns-in-Err-next-clause-post
 returns-in-Err-next-clause-post g c =
     let o = g.O.Outlet in
-    let there = value_there c.args.hand c.requires.there in
+    let there = value_there c.args.hand.now c.requires.there in
     let v = there.0 in
     let now = c.loop-progress.outlet in
     let before = c.loop-progress.progress in
@@ -91,7 +92,7 @@ returns-in-Err-next-clause-post g c =
     elim c.match-progress.branch [
       | in-Push+in-Err w ↦
           leads_told o.did o.is_fit (o.shows v) (tt {0}) before now w.push.new.outlet c.match-progress.outlet
-          w.in-Err.field-0 c.match-progress.next w.outlet-is w.next-is (w.in-Err.ensures.refused (o.shows v))
+          w.in-Err.next c.match-progress.next w.outlet-is w.next-is (w.in-Err.ensures.refused (o.shows v))
       | in-Pop w ↦
           leads_told o.did o.is_fit (o.shows v) (tt {0}) before now w.make_room-next.new.outlet c.match-progress.outlet
           w.make_room-next.result c.match-progress.next w.outlet-is w.next-is (w.make_room-next.ensures (o.shows v))
@@ -102,13 +103,13 @@ returns-in-Err-next-clause-post g c =
     let l = c.in-Err-next.field-0 in
     for_value
     (λ w. PostsNow o.did c.args.policy (o.shows w) (tt {0}) c.args.outlet.now c.count_discarded.new.self (Discarded tt l.why l.overran))
-    c.args.hand v there.1
+    c.args.hand.now v there.1
     (posting_is_lost o.did o.is_fit g.met.O.Outlet.together (without_waiting c.args.policy) (o.shows v) (tt {0}) c.args.outlet.now now
     c.match-progress.outlet before posting l c.count_discarded.new.self led c.count_discarded.ensures.counted)
 
 pub returns-in-Err-next-clause-left : goal.returns-in-Err-next-clause-left
 returns-in-Err-next-clause-left g c =
-    let same : c.match-progress.hand ≡ c.args.hand =
+    let same : c.match-progress.hand ≡ c.args.hand.now =
     elim c.match-progress.branch [
       | in-Push+in-Err w ↦ w.hand-is ∙ (w.in-Err.ensures.left ∙ c.loop-progress.invariant.hand)
       | in-Pop w ↦ w.hand-is ∙ c.loop-progress.invariant.hand
@@ -118,7 +119,7 @@ returns-in-Err-next-clause-left g c =
 pub count_discarded-requires : goal.count_discarded-requires
 count_discarded-requires g c =
     let o = g.O.Outlet in
-    let there = value_there c.args.hand c.requires.there in
+    let there = value_there c.args.hand.now c.requires.there in
     let v = there.0 in
     let now = c.loop-progress.outlet in
     let before = c.loop-progress.progress in
@@ -127,7 +128,7 @@ count_discarded-requires g c =
     elim c.match-progress.branch [
       | in-Push+in-Err w ↦
           leads_told o.did o.is_fit (o.shows v) (tt {0}) before now w.push.new.outlet c.match-progress.outlet
-          w.in-Err.field-0 c.match-progress.next w.outlet-is w.next-is (w.in-Err.ensures.refused (o.shows v))
+          w.in-Err.next c.match-progress.next w.outlet-is w.next-is (w.in-Err.ensures.refused (o.shows v))
       | in-Pop w ↦
           leads_told o.did o.is_fit (o.shows v) (tt {0}) before now w.make_room-next.new.outlet c.match-progress.outlet
           w.make_room-next.result c.match-progress.next w.outlet-is w.next-is (w.make_room-next.ensures (o.shows v))
@@ -138,7 +139,7 @@ count_discarded-requires g c =
 pub push-requires : goal.push-requires
 push-requires g c =
     let o = g.O.Outlet in
-    let there = value_there c.args.hand c.requires.there in
+    let there = value_there c.args.hand.now c.requires.there in
     let v = there.0 in
     let now = c.loop-progress.outlet in
     let before = c.loop-progress.progress in
@@ -147,10 +148,18 @@ push-requires g c =
       fit = posting.ready;
       there = let P : Option _ → Type 0 = λ h. IsSome h in subst P (sym c.loop-progress.invariant.hand) c.requires.there;
       admitted = let P : Option _ → Type 0 = λ h. IfSome h (o.admits now) in
-          subst P (sym (c.loop-progress.invariant.hand ∙ there.1)) (still_admitted g c posting);
+          subst P (sym (c.loop-progress.invariant.hand ∙ there.1))
+          (stays_admitted o.did o.admits g.met.O.Outlet.still c.args.outlet.now now v posting.events posting.done
+          (of_value (o.admits c.args.outlet.now) c.args.hand.now v there.1 c.requires.admitted));
       side = c.in-Push.is;
       kept = posting.kept;
     }
+
+pub make_room-next-requires : goal.make_room-next-requires
+make_room-next-requires g c =
+    let there = value_there c.args.hand.now c.requires.there in
+    let posting = c.loop-progress.invariant.posting there.0 there.1 in
+    record { fit = posting.ready; side = c.in-Pop.is; kept = posting.kept }
 
 pub loop-progress-init : goal.loop-progress-init
 loop-progress-init g c =
