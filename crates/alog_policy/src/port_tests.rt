@@ -1,17 +1,25 @@
+ghost use Rattle.std.specs.Prelude.{◌≡◌, IsSome};
 ghost use Rattle.alog_ring.specs.Known.{IsPassOf};
+ghost use Rattle.alog_policy.specs.Outlet.{left_in};
 ghost use Rattle.alog_policy.specs.BookCalls.{IsSeatOf};
 
 use super::*;
 use alog_core::LAST_TICKET;
 use alog_ring::{Pass, Ring};
+use std::sync::Wait;
 use std::test::Fail;
 use std::thread;
+use std::time::Clock;
 
 fn losses(overrun: u64, discarded: u64) -> Counts {
     Counts { overrun, discarded }
 }
 
 fn posted(ticket: u64, overran: u64) -> Outcome<u64> {
+    Outcome::Posted { ticket, overran }
+}
+
+fn gone(ticket: u64, overran: u64) -> Outcome<()> {
     Outcome::Posted { ticket, overran }
 }
 
@@ -79,6 +87,90 @@ fn post(
         seat,
     };
     post_now(&mut port, policy, value)
+}
+
+// One post of what lies in a hand: the hand keeps what is discarded.
+fn post_hand(
+    rt: &(impl Wait + Clock),
+    ring: &Ring<u64>,
+    pass: &mut Pass<u64>,
+    book: &LossBook,
+    seat: &mut BookSeat,
+    policy: Policy,
+    hand: &mut Option<u64>,
+) -> Outcome<()>
+    requires fit { IsPassOf ring.now pass.old × IsSeatOf book.now seat.old }
+    requires there { IsSome hand.old }
+    ensures fit { IsPassOf ring.now pass.new × IsSeatOf book.now seat.new }
+    ensures left { hand.new ≡ left_in result hand.old }
+{
+    let mut port = Port {
+        ring,
+        pass,
+        book,
+        seat,
+    };
+    post_from(rt, &mut port, policy, hand)
+}
+
+fn no_room() -> Outcome<()> {
+    Outcome::Discarded {
+        value: (),
+        why: Why::Full,
+        overran: 0,
+    }
+}
+
+#[test]
+fn a_hand_keeps_what_is_discarded(rt: HostRuntime) -> Result<(), Fail> {
+    let (ring, mut pass) = Ring::<u64>::new(rt.alloc(), 2, 0)?;
+    let (book, mut seat) = LossBook::new(rt.alloc())?;
+    let mut hand = Some(7);
+    let outcome = post_hand(
+        &rt,
+        &ring,
+        &mut pass,
+        &book,
+        &mut seat,
+        Policy::Block,
+        &mut hand,
+    );
+    assert_eq!(rt; (outcome, hand), (gone(0, 0), None));
+    let mut hand = Some(8);
+    let outcome = post_hand(
+        &rt,
+        &ring,
+        &mut pass,
+        &book,
+        &mut seat,
+        Policy::DiscardNew,
+        &mut hand,
+    );
+    assert_eq!(rt; (outcome, hand), (gone(1, 0), None));
+    let mut hand = Some(9);
+    let outcome = post_hand(
+        &rt,
+        &ring,
+        &mut pass,
+        &book,
+        &mut seat,
+        Policy::DiscardNew,
+        &mut hand,
+    );
+    assert_eq!(rt; (outcome, hand), (no_room(), Some(9)));
+    let mut hand = Some(9);
+    let outcome = post_hand(
+        &rt,
+        &ring,
+        &mut pass,
+        &book,
+        &mut seat,
+        Policy::OverrunOldest,
+        &mut hand,
+    );
+    assert_eq!(rt; (outcome, hand), (gone(2, 1), None));
+    assert_eq!(rt; book.counts(&mut seat), losses(1, 1));
+    Ok(())
 }
 
 #[test]

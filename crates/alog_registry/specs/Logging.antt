@@ -9,12 +9,9 @@ use Rattle.alog_policy.specs.Outlet.{Doing}
 use Rattle.alog_policy.specs.declared.policy.Policy.{Policy}
 use Rattle.alog_registry.specs.Carry.{PostsItem}
 use Rattle.alog_registry.specs.Keep.{KeptOr}
-use Rattle.alog_registry.specs.Limit.{IsNoLonger}
 use Rattle.alog_registry.specs.declared.logger.Spec.{Spec}
 use Rattle.alog_registry.specs.declared.logging.LogReply.{LogReply}
 use Rattle.alog_registry.specs.declared.logging.LogReply.TheVariants as reply
-use Rattle.alog_registry.specs.declared.logging.Prepared.{Prepared}
-use Rattle.alog_registry.specs.declared.logging.Prepared.TheVariants as made
 
 -- a message of this level is filtered by a logger of that one
 abbrev pub IsBelow : Level → Level → Type 0
@@ -43,23 +40,9 @@ abbrev pub IsUnread : Spec → LogReply → Type 0
 IsUnread spec (reply.Filtered level kept) = spec.backtrace ≡ 0
 IsUnread spec (reply.Logged outcome kept) = ⊥
 
+-- What was made of a message before anything is done, by the level that was read: nothing where it is below that level, and else the
+-- value of the text.
 module _ {S V : Type 0} (did : Doing S Item) (fit : S → V → Type 0) (shows : V → Item) where
-  -- What was made before anything is done: the copy that is to be kept and, unless it is filtered, the value of the text.
-  abbrev pub IsPrepared : Spec → Message → S → Prepared V → S → Type 0
-  IsPrepared spec m old (made.Filtered level copy) new = IsBelow m.level level × (copy ≡ copy_of spec m) × (new ≡ old)
-  IsPrepared spec m old (made.Admitted value copy) new =
-      (shows value ≡ Text m) × (copy ≡ copy_of spec m) × fit new value × did old [] 0 0 new
-
--- The level that was read decides: what is below it is filtered, and that level is told; all else is not.
-abbrev pub IsDecided : {V : Type 0} → Level → Level → Prepared V → Type 0
-IsDecided own level (made.Filtered told copy) = (told ≡ own) × IsBelow level own
-IsDecided own level (made.Admitted value copy) = ¬ IsBelow level own
-
-abbrev pub IsUnmade : {V : Type 0} → Spec → Prepared V → Type 0
-IsUnmade spec (made.Filtered level copy) = spec.backtrace ≡ 0
-IsUnmade spec (made.Admitted value copy) = ⊥
-
--- what is to be kept keeps to the limit
-abbrev pub IsShortCopy : {V : Type 0} → ℕ → Prepared V → Type 0
-IsShortCopy limit (made.Filtered level copy) = IsNoLonger limit copy
-IsShortCopy limit (made.Admitted value copy) = IsNoLonger limit copy
+  abbrev pub IsMade : Level → Message → S → Option V → S → Type 0
+  IsMade own m old None new = IsBelow m.level own × (new ≡ old)
+  IsMade own m old (Some v) new = ¬ IsBelow m.level own × (shows v ≡ Text m) × fit new v × did old [] 0 0 new

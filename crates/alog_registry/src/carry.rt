@@ -4,7 +4,7 @@ ghost use Rattle.alog_registry.specs.Carry.{without_value};
 
 use crate::given::{MessageRef, message};
 use alog_msg::{Item, Message, MessageError};
-use alog_policy::{DeskOutlet, Outcome, Policy, Port, post_now, post_wait};
+use alog_policy::{DeskOutlet, Outcome, Policy, Port, post_from, post_now};
 use alog_ring::Limit;
 use std::alloc::Global;
 use std::sync::Wait;
@@ -28,7 +28,7 @@ pub trait Carry {
     ghost use Rattle.alog_msg.specs.declared.message.Message.{Message};
 
     /// What a post brings.
-    type Value;
+    type Value: Drop;
 
     ghost shows: { Self.Value → Item };
 
@@ -89,18 +89,22 @@ pub trait Carry {
 
 /// An outlet that carries items, and on which a post may wait for room.
 pub trait CarryWaiting: Carry {
+    ghost use Rattle.std.specs.Prelude.{◌≡◌, IsSome, IfSome};
+    ghost use Rattle.alog_policy.specs.Outlet.{left_in};
     ghost use Rattle.alog_registry.specs.Carry.{PostsItem};
 
-    /// Posts the value, as `alog_policy::post_wait` does: under `Block` it waits until there is room. Nothing is handed back of a
-    /// discarded one. That it returns is not promised.
+    /// Posts the value that lies in the hand, as `alog_policy::post_from` does: under `Block` it waits until there is room. A
+    /// discarded value is left in the hand. That it returns is not promised.
     fn post_waiting(
         &mut self,
         rt: &(impl Wait + Clock),
         policy: Policy,
-        value: Self::Value,
+        hand: &mut Option<Self::Value>,
     ) -> Outcome<()>
-        requires { Self.is_fit self.old value }
-        ensures post { PostsItem Self.did policy (Self.shows value) self.old self.new result }
+        requires there { IsSome hand.old }
+        requires fit { IfSome hand.old (λ v. Self.is_fit self.old v) }
+        ensures post { IfSome hand.old (λ v. PostsItem Self.did policy (Self.shows v) self.old self.new result) }
+        ensures left { hand.new ≡ left_in result hand.old }
         ensures ready { Self.is_ready self.new };
 }
 
@@ -206,9 +210,9 @@ impl<L: Limit<Item>> CarryWaiting for Port<'_, Item, L> {
         &mut self,
         rt: &(impl Wait + Clock),
         policy: Policy,
-        value: Item,
+        hand: &mut Option<Item>,
     ) -> Outcome<()> {
-        dropped(post_wait(rt, self, policy, value))
+        post_from(rt, self, policy, hand)
     }
 }
 

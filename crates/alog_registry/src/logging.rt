@@ -1,5 +1,5 @@
 //! What a logger does with a message: it is filtered, or posted, and kept for a backtrace.
-ghost use Rattle.std.specs.Prelude.{◌≡◌, ◌⊎◌, ◌≤◌, ◌<◌, length, Some, OnErr, IfOk, IsOk, IsErrOf};
+ghost use Rattle.std.specs.Prelude.{◌≡◌, ◌⊎◌, ◌≤◌, ◌<◌, length, None, Some, IsSome, OnErr, IfOk, IsOk, IsErrOf};
 ghost use Rattle.alog_msg.specs.declared.limits.TheConstants.{LEAST_TEXT_LIMIT, MOST_TEXT_LIMIT};
 ghost use Rattle.alog_msg.specs.declared.item.Item.TheVariants.{Flush};
 ghost use Rattle.alog_policy.specs.Progress.{without_waiting};
@@ -9,8 +9,7 @@ ghost use Rattle.alog_registry.specs.Listed.{spec_at};
 ghost use Rattle.alog_registry.specs.declared.logger.Spec.{Spec};
 ghost use Rattle.alog_msg.specs.declared.message.Message.{Message};
 ghost use Rattle.alog_registry.specs.Limit.{AdmitsShort, IsNoLonger};
-ghost use Rattle.alog_registry.specs.Logging.{copy_of, KeepsCopy, Logs, IsPrepared, IsUnread, IsUnmade, IsDecided, IsBelow};
-ghost use Rattle.alog_registry.specs.Logging.{IsShortCopy};
+ghost use Rattle.alog_registry.specs.Logging.{copy_of, KeepsCopy, Logs, IsMade, IsUnread, IsBelow};
 
 use crate::carry::Carry;
 use crate::given::{MessageRef, message};
@@ -38,14 +37,6 @@ pub enum LogReply {
         /// Whether it was kept for a backtrace.
         kept: bool,
     },
-}
-
-/// What is made of a message before anything is done.
-pub(crate) enum Prepared<V> {
-    /// It is below this level; the copy is to be kept.
-    Filtered { level: Level, copy: Option<Message> },
-    /// The value is to be posted; the copy is to be kept.
-    Admitted { value: V, copy: Option<Message> },
 }
 
 impl Loggers {
@@ -97,19 +88,20 @@ impl Loggers {
         let (Some(spec), Some(own)) = (self.spec(number), self.level(number)) else {
             unreachable!()
         };
-        match prepare(alloc, outlet, text_limit, spec, own, given)? {
-            Prepared::Filtered { level, copy } => Ok(LogReply::Filtered {
-                level,
+        let copy = copy_for(alloc, text_limit, spec, given)?;
+        let mut hand = None;
+        admit(alloc, outlet, text_limit, own, given, &mut hand)?;
+        let Some(value) = hand else {
+            return Ok(LogReply::Filtered {
+                level: own,
                 kept: keep_copy(keeper, copy),
-            }),
-            Prepared::Admitted { value, copy } => {
-                let outcome = outlet.post_now(spec.policy, value);
-                Ok(LogReply::Logged {
-                    outcome,
-                    kept: keep_copy(keeper, copy),
-                })
-            }
-        }
+            });
+        };
+        let outcome = outlet.post_now(spec.policy, value);
+        Ok(LogReply::Logged {
+            outcome,
+            kept: keep_copy(keeper, copy),
+        })
     }
 
     /// Posts a flush of the logger of this number, which is one that was added, under the logger's policy. It takes no memory and
@@ -130,38 +122,36 @@ impl Loggers {
     }
 }
 
-/// Makes all that a message needs before anything is done with it. Where this fails, nothing was done.
-pub(crate) fn prepare<O: Carry>(
+/// Makes the value of a message that is at least of this level, and puts it into the hand; the hand of one that is filtered stays
+/// empty. Where this fails, nothing was done.
+pub(crate) fn admit<O: Carry>(
     alloc: Global,
     outlet: &mut O,
     text_limit: usize,
-    spec: &Spec,
     own: Level,
     given: MessageRef<'_>,
-) -> Result<Prepared<O::Value>, MessageError>
+    hand: &mut Option<O::Value>,
+) -> Result<(), MessageError>
     requires limit { (LEAST_TEXT_LIMIT ≤ text_limit) × (text_limit ≤ MOST_TEXT_LIMIT) }
     requires ready { O.is_ready outlet.old × AdmitsShort O.admits text_limit outlet.old }
-    ensures prepared { IfOk result (λ p. IsPrepared O.did O.is_fit O.shows spec.now (message_of given.entry) outlet.old p outlet.new) }
-    ensures within { IfOk result (λ p. IsUnmade spec.now p ⊎ IsWithin text_limit given.entry.text.now given.entry.source) }
+    requires empty { hand.old ≡ None }
+    ensures made { IfOk result (λ _. IsMade O.did O.is_fit O.shows own (message_of given.entry) outlet.old hand.new outlet.new) }
+    ensures within { IfOk result (λ _. IsSome hand.new → IsWithin text_limit given.entry.text.now given.entry.source) }
     ensures text_too_long { IsErrOf result MessageError.TextTooLong → text_limit < length given.entry.text.now }
     ensures field_too_long { IsErrOf result MessageError.FieldTooLong → IsTooLongField text_limit given.entry.text.now given.entry.source }
     ensures out_of_memory { IsErrOf result MessageError.OutOfMemory → IsWithin text_limit given.entry.text.now given.entry.source }
     ensures err { OnErr result (outlet.new ≡ outlet.old) }
     ensures outlet { (m : Message) → O.admits outlet.old m → O.admits outlet.new m }
-    ensures short { IfOk result (λ p. IsShortCopy text_limit p) }
-    ensures decided { IfOk result (λ p. IsDecided own given.entry.level p) }
-    ensures unread { spec.now.backtrace ≡ 0 → IsBelow given.entry.level own → IsOk result }
+    ensures unread { IsBelow given.entry.level own → IsOk result }
 {
-    let copy = copy_for(alloc, text_limit, spec, given)?;
-    if given.level.number() < own.number() {
-        return Ok(Prepared::Filtered { level: own, copy });
+    if given.level.number() >= own.number() {
+        *hand = Some(outlet.text(alloc, text_limit, given)?);
     }
-    let value = outlet.text(alloc, text_limit, given)?;
-    Ok(Prepared::Admitted { value, copy })
+    Ok(())
 }
 
 /// Makes what is to be kept of a message, if its logger has a backtrace.
-fn copy_for(
+pub(crate) fn copy_for(
     alloc: Global,
     text_limit: usize,
     spec: &Spec,

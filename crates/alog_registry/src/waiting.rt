@@ -20,7 +20,7 @@ use crate::dumping::{END, START, marker};
 use crate::given::MessageRef;
 use crate::keep::LaneKeeper;
 use crate::loggers::Loggers;
-use crate::logging::{LogReply, Prepared, prepare};
+use crate::logging::{LogReply, admit, copy_for};
 use crate::turn::{BacktraceItem, BacktraceReply};
 use alog_msg::{Level, Message, MessageError, SourceRef};
 use alog_policy::{Outcome, Policy};
@@ -75,19 +75,20 @@ impl Loggers {
         let (Some(spec), Some(own)) = (self.spec(number), self.level(number)) else {
             unreachable!()
         };
-        match prepare(alloc, outlet, text_limit, spec, own, given)? {
-            Prepared::Filtered { level, copy } => Ok(LogReply::Filtered {
-                level,
+        let copy = copy_for(alloc, text_limit, spec, given)?;
+        let mut hand = None;
+        admit(alloc, outlet, text_limit, own, given, &mut hand)?;
+        if hand.is_none() {
+            return Ok(LogReply::Filtered {
+                level: own,
                 kept: keep_waiting(rt, keeper, copy),
-            }),
-            Prepared::Admitted { value, copy } => {
-                let outcome = outlet.post_waiting(rt, spec.policy, value);
-                Ok(LogReply::Logged {
-                    outcome,
-                    kept: keep_waiting(rt, keeper, copy),
-                })
-            }
+            });
         }
+        let outcome = outlet.post_waiting(rt, spec.policy, &mut hand);
+        Ok(LogReply::Logged {
+            outcome,
+            kept: keep_waiting(rt, keeper, copy),
+        })
     }
 }
 
@@ -207,8 +208,8 @@ fn post_waiting<O: CarryWaiting>(
     ensures ready { O.is_ready outlet.new }
     ensures admitted { (m : Message) → O.admits outlet.old m → O.admits outlet.new m }
 {
-    let value = outlet.message(message);
-    outlet.post_waiting(rt, policy, value)
+    let mut hand = Some(outlet.message(message));
+    outlet.post_waiting(rt, policy, &mut hand)
 }
 
 /// Keeps the copy, if there is one, as soon as the lock is got, and answers whether there is one.
