@@ -1,5 +1,6 @@
 -- A post whose value was made before.
-use Rattle.std.proofs.Common.{◌≡◌, ℕ, ◌+◌, List, [], ◌++◌, subst, zero-add}
+use Rattle.std.proofs.Common.{◌≡◌, ℕ, ◌+◌, List, [], ◌++◌, Option, None, Some, subst, zero-add}
+use Rattle.std.specs.Prelude.{IsSome, IfSome}
 use Rattle.alog_core.specs.Queue.{Event}
 use Rattle.alog_msg.specs.declared.item.Item.{Item}
 use Rattle.alog_policy.specs.Outlet.{Doing}
@@ -7,6 +8,10 @@ use Rattle.alog_policy.specs.Post.{overran_in, discards_in}
 use Rattle.alog_policy.specs.declared.policy.Policy.{Policy}
 use Rattle.alog_policy.specs.declared.policy.Outcome.{Outcome}
 use Rattle.alog_registry.specs.Carry.{PostsItem}
+use Rattle.alog_msg.specs.declared.item.Item.TheVariants.{Text}
+use Rattle.alog_msg.specs.declared.level.Level.{Level}
+use Rattle.alog_msg.specs.declared.message.Message.{Message}
+use Rattle.alog_registry.specs.Logging.{IsMade}
 use Rattle.alog_registry.specs.declared.logger.Spec.{Spec}
 
 module _ {S : Type 0} (did : Doing S Item)
@@ -30,3 +35,12 @@ module _ {S : Type 0} (did : Doing S Item)
   posted_by read found spec shown x a b c o same shows idle q =
       let P : Policy → Item → Type 0 = λ p y. PostsItem did p y a c o in
       subst (λ s. P (read s.policy) x) same (subst (P (read found.policy)) shows (made_and_posted (read found.policy) shown a b c o idle q))
+
+  -- the same of a value that lies in a hand, into which it was made by the level that was read
+  pub posted_from : {V : Type 0} (fit : S → V → Type 0) (shows : V → Item) (read : Policy → Policy) (found spec : Spec)
+      (own : Level) (m : Message) (a b c : S) (hand : Option V) (o : Outcome (Unit {0})) → found ≡ spec → IsSome hand
+      → IsMade did fit shows own m a hand b → IfSome hand (λ v. PostsItem did (read found.policy) (shows v) b c o)
+      → PostsItem did (read spec.policy) (Text m) a c o
+  posted_from fit shows read found spec own m a b c None o same there made q = absurd (cc)
+  posted_from fit shows read found spec own m a b c (Some v) o same there made q =
+      posted_by read found spec (shows v) (Text m) a b c o same made.1 made.3 q

@@ -9,6 +9,6 @@ returns-clause-post g c =
     let o = g.O.Carry in
     let old = c.args.outlet.now in
     let new = c.post_waiting.new.self in
-    let q = made_and_posted o.did g.met.O.Carry.together c.args.policy (o.shows c.message-value.result) old c.message-value.new.self
-    new c.post_waiting.result c.message-value.ensures.fit.1 c.post_waiting.ensures.post in
-    subst (λ (x : Item). PostsItem o.did c.args.policy x old new c.post_waiting.result) c.message-value.ensures.made q
+    let q = made_and_posted o.did g.met.O.Carry.together c.args.policy (o.shows c.message.result) old c.message.new.self
+    new c.post_waiting.result c.message.ensures.fit.1 c.post_waiting.ensures.post in
+    subst (λ (x : Item). PostsItem o.did c.args.policy x old new c.post_waiting.result) c.message.ensures.made q
