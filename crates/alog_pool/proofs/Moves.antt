@@ -4,7 +4,10 @@ use Rattle.alog_core.specs.Queue.{Event, PushBusy, PopBusy, Grab, Take, Claim, W
 use Rattle.alog_core.specs.History.{Entry}
 use Rattle.alog_core.specs.Accounts.{put_by, got_by, grabbed_by, claims, takes, grabbed}
 use Rattle.alog_msg.specs.declared.item.Item.{Item}
+use Rattle.std.specs.Prelude.{Option, None, Some, IsSome, IfSome}
 use Rattle.alog_pool.specs.Accounts.{Moved, SawEnd}
+use Rattle.alog_pool.specs.Working.{Finds}
+use Rattle.alog_registry.specs.Limit.{KeepsTo}
 use Rattle.alog_ring.specs.Calls.{by, Answered, Popped, Pushed}
 use Rattle.alog_ring.specs.Known.{Known}
 use Rattle.alog_ring.specs.Kinds.{no_note}
@@ -138,3 +141,20 @@ refused_last old new e is refused =
 -- what a pop took
 pub popped_last : (old new : Known Item no_note) (t : ℕ) (x : Item) → PoppedAtLast old new t x → Moved old new [] ((t, x) ∷ [])
 popped_last old new t x popped = busy_pops old popped.0 new ((t, x) ∷ []) popped.1 (popped_moved popped.0 new t x popped.2)
+
+-- what a pop into an empty hand found
+pub finds_there : (limit : ℕ) (u v w : Known Item no_note) (t : ℕ) (i : Option Item) → Moved u v [] [] → IsSome i
+    → IfSome i (PoppedAtLast v w t) → IfSome i (λ x. KeepsTo limit x) → Finds limit u w (Some t) i
+finds_there limit u v w t None before there popped keeps = absurd (cc)
+finds_there limit u v w t (Some x) before there popped keeps =
+    (moved_more u v w [] [] [] ((t, x) ∷ []) before (popped_last v w t x popped), keeps)
+
+pub finds_none : (limit : ℕ) (u w : Known Item no_note) (i : Option Item) → i ≡ None → Moved u w [] [] → SawEnd w.own
+    → Finds limit u w None i
+finds_none limit u w i none moved end =
+    let P : Option Item → Type 0 = λ o. Finds limit u w None o in subst P (sym none) (moved, end)
+
+pub found_none : (limit : ℕ) (u w : Known Item no_note) (i : Option Item) → Finds limit u w None i
+    → Moved u w [] [] × SawEnd w.own
+found_none limit u w None found = found
+found_none limit u w (Some x) found = absurd found

@@ -1,5 +1,5 @@
 -- What a worker did.
-use Rattle.std.specs.Prelude.{◌≡◌, ◌⊎◌, ℕ, ◌%◌, ◌^◌, ◌≤◌, List, [], ◌∷◌, ◌++◌, map, take, vec_capacity}
+use Rattle.std.specs.Prelude.{◌≡◌, ◌⊎◌, ℕ, ◌%◌, ◌^◌, ◌≤◌, List, [], ◌∷◌, ◌++◌, map, take, Option, None, Some, vec_capacity}
 use Rattle.std.specs.Arc.{arc_value}
 use Rattle.std.specs.List.{AllByRecursion}
 use Rattle.alog_core.specs.History.{Entry}
@@ -10,17 +10,17 @@ use Rattle.alog_pool.specs.Accounts.{of_work, of_stops, work_tickets, Moved, Saw
 use Rattle.alog_pool.specs.Berth.{Place, places_of}
 use Rattle.alog_pool.specs.Deeds.{HaveMade, all_dues}
 use Rattle.alog_pool.specs.declared.hand.Hand.{Hand}
-use Rattle.alog_pool.specs.declared.hand.Next.{Next}
-use Rattle.alog_pool.specs.declared.hand.Next.TheVariants.{Item as Took, End}
 use Rattle.alog_registry.specs.Limit.{KeepsTo}
 use Rattle.alog_ring.specs.Known.{Known, IsPassOf}
 use Rattle.alog_ring.specs.Kinds.{no_note}
 use Rattle.alog_ring.specs.Made.{IsFaithful}
 
--- what a worker that looks for an item finds
-abbrev pub Finds : ℕ → Known Item no_note → Known Item no_note → Next → Type 0
-Finds limit old new (Took t x) = Moved old new [] ((t, x) ∷ []) × KeepsTo limit x
-Finds limit old new End = Moved old new [] [] × SawEnd new.own
+-- what a worker that looks for an item finds: it took this item under this ticket, or no ticket is left
+abbrev pub Finds : ℕ → Known Item no_note → Known Item no_note → Option ℕ → Option Item → Type 0
+Finds limit old new None None = Moved old new [] [] × SawEnd new.own
+Finds limit old new None (Some x) = ⊥
+Finds limit old new (Some t) None = ⊥
+Finds limit old new (Some t) (Some x) = Moved old new [] ((t, x) ∷ []) × KeepsTo limit x
 
 -- A worker's account: it has one part and put nothing in. It recorded the tickets of its first texts and flushes, at most so many,
 -- and counted its texts and flushes modulo 2^64.

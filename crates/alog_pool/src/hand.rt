@@ -1,5 +1,5 @@
 //! A worker.
-ghost use Rattle.std.specs.Prelude.{◌≡◌, ◌↔◌, ◌≤◌, ◌∷◌, ◌++◌, [], IsTrue, take, length, vec_capacity};
+ghost use Rattle.std.specs.Prelude.{◌≡◌, ◌↔◌, ◌≤◌, ◌∷◌, ◌++◌, [], None, IsTrue, take, length, vec_capacity};
 ghost use Rattle.alog_core.specs.Queue.{last};
 ghost use Rattle.alog_msg.specs.declared.item.Item.TheVariants.{Stop};
 ghost use Rattle.alog_pattern.specs.declared.patterns.TheConstants.{LINE_MAX};
@@ -41,14 +41,6 @@ pub struct Hand<S: Store> {
     pub handled: u64,
 }
 
-/// What a worker finds to do.
-pub(crate) enum Next {
-    /// It took this item under this ticket.
-    Item(u64, Item),
-    /// No ticket is left, and none will come.
-    End,
-}
-
 impl<S: Store> Hand<S> {
     /// Handles items until the first stop, or until no ticket is left.
     pub fn work<R: Wait + Clock, G: Gate>(self, rt: &R, gate: &G) -> Hand<S>
@@ -57,33 +49,42 @@ impl<S: Store> Hand<S> {
     {
         let mut hand = self;
         for _ in rt.forever() {
-            match take_waiting(rt, &hand.shared, &mut hand.pass, hand.workers) {
-                Next::Item(ticket, item) => {
-                    if is_stop(&item) {
-                        return hand;
-                    }
-                    hand.handled = hand.handled.wrapping_add(1);
-                    note(&mut hand.tickets, hand.most, ticket);
-                    let Hand {
-                        shared,
-                        berths,
-                        line,
-                        number,
-                        ..
-                    } = &mut hand;
-                    handle(
-                        rt,
-                        gate,
-                        *number,
-                        &shared.loggers,
-                        berths,
-                        line,
-                        ticket,
-                        &item,
-                    );
-                }
-                Next::End => return hand,
+            let mut taken = None;
+            let Some(ticket) = take_waiting(
+                rt,
+                &hand.shared,
+                &mut hand.pass,
+                hand.workers,
+                &mut taken,
+            ) else {
+                let_go(taken);
+                return hand;
+            };
+            let Some(item) = &taken else { unreachable!() };
+            if is_stop(item) {
+                let_go(taken);
+                return hand;
             }
+            hand.handled = hand.handled.wrapping_add(1);
+            note(&mut hand.tickets, hand.most, ticket);
+            let Hand {
+                shared,
+                berths,
+                line,
+                number,
+                ..
+            } = &mut hand;
+            handle(
+                rt,
+                gate,
+                *number,
+                &shared.loggers,
+                berths,
+                line,
+                ticket,
+                item,
+            );
+            let_go(taken);
         }
         unreachable!()
     }
@@ -182,25 +183,31 @@ fn serve_at<S: Store>(
     }
 }
 
-/// Takes the next item, as soon as there is one.
+/// Drops what was taken. A drop of its own in each place would split what follows by the kinds of items.
+fn let_go(_taken: Option<Item>) {}
+
+/// Takes the next item into the empty hand as soon as there is one, and answers its ticket; or none, where no ticket is left and
+/// none will come.
 fn take_waiting<R: Wait + Clock>(
     rt: &R,
     shared: &Shared,
     pass: &mut Pass<Item>,
     workers: u32,
-) -> Next
+    taken: &mut Option<Item>,
+) -> Option<u64>
     requires ring { IsPassOf shared.now.ring pass.old }
     requires faithful { IsFaithful pass.old.known }
+    requires empty { taken.old ≡ None }
     ensures ring { IsPassOf shared.now.ring pass.new }
-    ensures finds { Finds shared.now.ring.limit.most pass.old.known pass.new.known result }
+    ensures finds { Finds shared.now.ring.limit.most pass.old.known pass.new.known result taken.new }
 {
     let mut rest = Rest::new(workers);
     for _ in rt.forever() {
-        match shared.ring.pop(rt, pass) {
-            Ok((ticket, item)) => return Next::Item(ticket, item),
+        match shared.ring.pop_into(rt, pass, taken) {
+            Ok(ticket) => return Some(ticket),
             Err(error) => {
                 if is_end(error) {
-                    return Next::End;
+                    return None;
                 }
             }
         }

@@ -49,11 +49,7 @@ impl<T, L: Limit<T>> Ring<T, L> {
     ///
     /// It is `pop_once` for a large value, which is moved once. A refused pop leaves the hand empty. The test
     /// `a_hand_is_filled` shows it.
-    pub fn pop_once_into(
-        &self,
-        pass: &mut Pass<T>,
-        hand: &mut Option<T>,
-    ) -> Result<u64, PopError>
+    pub fn pop_once_into(&self, pass: &mut Pass<T>, hand: &mut Option<T>) -> Result<u64, PopError>
         requires ring { IsPassOf self.now pass.old }
         requires empty { hand.old ≡ None }
         ensures ring { IsPassOf self.now pass.new }

@@ -62,11 +62,7 @@ impl<T, L: Limit<T>> Ring<T, L> {
     ///
     /// It is `push_once` for a large value: it lies where it is until its place takes it, so it is moved once however
     /// many rounds are made. A refused push leaves it in the hand. The test `a_hand_is_emptied_once` shows it.
-    pub fn push_from(
-        &self,
-        pass: &mut Pass<T>,
-        hand: &mut Option<T>,
-    ) -> Result<u64, PushError<()>>
+    pub fn push_from(&self, pass: &mut Pass<T>, hand: &mut Option<T>) -> Result<u64, PushError<()>>
         requires ring { IsPassOf self.now pass.old }
         requires there { IsSome hand.old }
         requires limit { IfSome hand.old (λ x. L.admits self.now.limit x) }
