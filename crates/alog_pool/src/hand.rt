@@ -57,12 +57,10 @@ impl<S: Store> Hand<S> {
                 hand.workers,
                 &mut taken,
             ) else {
-                let_go(taken);
                 return hand;
             };
             let Some(item) = &taken else { unreachable!() };
             if is_stop(item) {
-                let_go(taken);
                 return hand;
             }
             hand.handled = hand.handled.wrapping_add(1);

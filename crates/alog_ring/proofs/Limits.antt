@@ -1,9 +1,8 @@
 -- Each step keeps the values of a ring to their limit.
 use Rattle.std.proofs.Common.{◌≡◌, ℕ, zero, suc, ◌⊎◌, inl, inr, List, [], ◌∷◌, Option, Some, None, map, replicate, set, sym, subst}
-use Rattle.std.specs.List.{AllByRecursion}
 use mathlib.Core.Option as maybe
 use lib.ListN.{get_elem?}
-use Rattle.atomic_table.specs.Table.{State, Me, Act, keeps, takes, gives, chain, Valid, homes_after, carried_after, rest, Allows}
+use Rattle.atomic_table.specs.Table.{Me, Act, keeps, takes, gives, chain, Valid, homes_after, carried_after, rest, Allows}
 use Rattle.atomic_table.specs.Table.{Splits, Joins, Final, Seen}
 use Rattle.alog_ring.specs.Kinds.{no_note, some_value, no_value}
 use Rattle.alog_ring.specs.Sight.{Sight}

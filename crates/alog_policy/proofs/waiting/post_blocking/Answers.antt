@@ -1,4 +1,4 @@
-use Rattle.std.proofs.Common.{Option, Some, [], ◌∷◌, refl, sym, subst, ◌∙◌}
+use Rattle.std.proofs.Common.{Option, [], ◌∷◌, refl, sym, subst, ◌∙◌}
 use Rattle.std.specs.Prelude.{IsSome, IfSome}
 use Rattle.alog_core.specs.Queue.{Claim, Write}
 use Rattle.alog_ring.specs.declared.push.PushError.{PushError}

@@ -1,5 +1,5 @@
 use Rattle.std.proofs.Common.{refl}
-use Rattle.alog_pool.proofs.Moves.{moved_more, not_moved, popped_last, refused_moved, refused_last, finds_there, finds_none}
+use Rattle.alog_pool.proofs.Moves.{moved_more, not_moved, refused_moved, refused_last, finds_there, finds_none}
 use Rattle.alog_pool.proofs.hand.take_waiting.Goals as goal
 
 pub loop-init : goal.loop-init
