@@ -7,6 +7,7 @@ pub mod ItemTexts
 pub mod Moves
 pub mod OneLine
 pub mod PaddedTexts
+pub mod Seconds
 pub mod Shared
 pub mod Steps
 pub mod TextLengths

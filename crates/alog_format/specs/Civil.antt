@@ -1,5 +1,5 @@
 -- What a clock of a zone shows at a time.
-use Rattle.std.specs.Prelude.{◌≡◌, ℤ, pos, neg_ℤ, unsigned_abs, ◌+ℤ◌, ◌*ℤ◌, ◌≤ℤ◌}
+use Rattle.std.specs.Prelude.{◌≡◌, ℕ, ℤ, pos, neg_ℤ, unsigned_abs, ◌+ℤ◌, ◌*ℤ◌, ◌≤ℤ◌}
 use Rattle.jiff_core.specs.declared.civil.datetime.DateTime.{DateTime}
 use Rattle.std.specs.Int.{int_div_euclid, int_rem_euclid}
 use Rattle.jiff.specs.Words.{weekday_of, civil_nanos, epoch_day, nanos_of_seconds}
@@ -36,6 +36,19 @@ local_nanos zone time = time +ℤ nanos_of_seconds (offset_minutes zone *ℤ pos
 -- a clock of the zone shows this at the time
 abbrev pub IsShownAt : Zone → ℤ → Civil → Type 0
 IsShownAt zone time civil = (at : DateTime) × (civil_nanos at ≡ local_nanos zone time) × (civil ≡ fields at)
+
+-- what a clock shows, with other nanoseconds
+abbrev pub with_nanosecond : ℕ → Civil → Civil
+with_nanosecond n civil = record {
+  year = civil.year;
+  month = civil.month;
+  day = civil.day;
+  weekday = civil.weekday;
+  hour = civil.hour;
+  minute = civil.minute;
+  second = civil.second;
+  nanosecond = n;
+}
 
 -- whole seconds from 1970-01-01 00:00:00 on a clock of the zone
 abbrev pub clock_seconds : Zone → ℤ → ℤ

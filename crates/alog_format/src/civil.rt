@@ -9,7 +9,7 @@ use jiff::civil::DateTime;
 use jiff::tz::Offset;
 
 /// What a clock shows at a message's time.
-#[derive(Clone, Copy)]
+#[derive(Clone, Copy, Debug)]
 pub struct Civil {
     /// 1677 to 2262.
     pub year: u32,
@@ -83,7 +83,7 @@ pub fn civil_at(zone: Zone, time: i64) -> Civil
 }
 
 /// The date and the time of day there.
-fn local(zone: Zone, time: i64) -> DateTime
+pub(crate) fn local(zone: Zone, time: i64) -> DateTime
     requires { IsZone zone }
     ensures { civil_nanos result ≡ local_nanos zone time }
 {
@@ -94,7 +94,7 @@ fn local(zone: Zone, time: i64) -> DateTime
 }
 
 /// The fields of a date and a time of day.
-fn fields_of(at: DateTime) -> Civil
+pub(crate) fn fields_of(at: DateTime) -> Civil
     ensures { result ≡ fields at }
 {
     Civil {

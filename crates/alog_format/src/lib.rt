@@ -1,14 +1,15 @@
 //! Lines: how a message is written out by a pattern, after spdlog's custom formatting.
 //!
-//! `format` appends the line of a message to a `LineBuf`, a block of bytes of fixed capacity. The model of a buffer is
-//! a list with a capacity; the line is the joined texts of the pattern's items and a newline (`specs/Line.antt`), each
-//! flag's text by a table (`specs/Text.antt`). Every writer goes up to an end, so a text that is cut is never longer
-//! in the buffer than its width, and a buffer with room for the pattern's longest line is never too short.
+//! `format` appends the line of a message to a `LineBuf`, a block of bytes of fixed capacity, and so does a `Formatter`,
+//! which works the date out once in a second. The model of a buffer is a list with a capacity; the line is the joined
+//! texts of the pattern's items and a newline (`specs/Line.antt`), each flag's text by a table (`specs/Text.antt`).
+//! Every writer goes up to an end, so a text that is cut is never longer in the buffer than its width, and a buffer with
+//! room for the pattern's longest line is never too short.
 //!
 //! Read `line_buf.rt` with `specs/Buffer.antt`, and `block.rt`, the raw block under it, with `specs/Block.antt` and
 //! `specs/Ownership.antt`; `context.rt` and `civil.rt` with `specs/Civil.antt`, `clip.rt` with `specs/Clip.antt`,
-//! `names.rt`, `times.rt` and `flag_texts.rt` with `specs/Text.antt`, `pads.rt`, and `lines.rt` with
-//! `specs/Line.antt`; `laws.rt` states that a message has no two lines.
+//! `names.rt`, `times.rt` and `flag_texts.rt` with `specs/Text.antt`, `pads.rt`, and `lines.rt` and
+//! `formatter.rt` with `specs/Line.antt`; `laws.rt` states that a message has no two lines.
 #![tactic(auto)]
 
 mod block;
@@ -16,6 +17,7 @@ mod civil;
 mod clip;
 mod context;
 mod flag_texts;
+mod formatter;
 mod laws;
 mod line_buf;
 mod lines;
@@ -25,6 +27,6 @@ mod times;
 
 pub use civil::{Civil, ClockTime, civil_at, clock_time};
 pub use context::{Context, OFFSET_MAX, Zone};
+pub use formatter::{Formatter, format};
 pub use laws::{days_are_of_dates, one_line};
 pub use line_buf::{LineBuf, NoRoomError};
-pub use lines::format;

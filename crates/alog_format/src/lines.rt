@@ -5,10 +5,11 @@ ghost use Rattle.alog_pattern.specs.Compiled.{longest};
 ghost use Rattle.alog_pattern.specs.Length.{item_len};
 ghost use Rattle.alog_pattern.specs.Padding.{pad};
 ghost use Rattle.alog_format.specs.Buffer.{appended};
+ghost use Rattle.alog_format.specs.Civil.{IsShownAt};
 ghost use Rattle.alog_format.specs.Line.{shown_by, item_text, AppendsLine, IsShown, IsShowable, SourceFits};
 ghost use Rattle.alog_format.specs.Text.{flag_text, of_source};
 
-use crate::civil::civil_at;
+use crate::civil::Civil;
 use crate::context::Context;
 use crate::flag_texts::{Facts, write_flag};
 use crate::line_buf::LineBuf;
@@ -16,29 +17,29 @@ use crate::pads::write_padded;
 use alog_msg::{LOGGER_NAME_MAX, Message};
 use alog_pattern::{Flag, Item, Padding, Pattern, Side};
 
-/// Appends the line of a message: the texts of the pattern's items in order, and a newline.
-///
-/// The buffer has room for the pattern's longest line, the text keeps to the pattern's limit, and the name of the
-/// logger has at most 64 bytes. The tests `writes_the_default_format` and `writes_lines_one_behind_another` show calls.
-pub fn format(
+/// Appends the line of a message: the texts of the pattern's items in order, and a newline. A clock shows `at` at its time.
+pub(crate) fn write_line(
     pattern: &Pattern,
     context: &Context,
     name: &str,
     message: &Message,
+    at: Civil,
     line: &mut LineBuf,
 )
     requires text { length message.now.text ≤ pattern.now.text_limit }
     requires name { length name.now ≤ LOGGER_NAME_MAX }
+    requires at { IsShownAt context.now.zone message.now.time at }
     requires room { length line.old.bytes + longest pattern.now ≤ line.old.capacity }
     ensures { AppendsLine context.now pattern.now.items name.now message.now line.old line.new }
 {
-    let facts = facts_of(context, name, message);
+    let facts = facts_of(context, name, message, at);
     write_items(line, pattern.items(), pattern.text_limit(), &facts);
     put(line, b"\n");
 }
 
 /// What a line of the message shows.
-fn facts_of<'a>(context: &Context, name: &'a str, message: &'a Message) -> Facts<'a>
+fn facts_of<'a>(context: &Context, name: &'a str, message: &'a Message, at: Civil) -> Facts<'a>
+    requires { IsShownAt context.now.zone message.now.time at }
     ensures shown { IsShown context.now name.now message.now (shown_by result) }
     ensures source { SourceFits message.now.source }
     ensures thread { message.now.thread < 2 ^ 64 }
@@ -46,13 +47,12 @@ fn facts_of<'a>(context: &Context, name: &'a str, message: &'a Message) -> Facts
     ensures time { FitsSigned w64 message.now.time }
 {
     let process = context.process();
-    // What is read here only tells the prover its range: the fields of a source, and the thread.
+    // What is read here only tells the prover its range: the fields of a source, the thread, and the time.
     if let Some(source) = &message.source {
         let (_file, _line, _function) = (source.file(), source.line(), source.function());
     }
-    let _thread = message.thread;
+    let (_thread, _time) = (message.thread, message.time);
     let offset = context.zone.offset_minutes();
-    let at = civil_at(context.zone, message.time);
     Facts {
         message,
         name,

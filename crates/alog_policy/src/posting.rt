@@ -16,6 +16,7 @@ use alog_ring::{PopError, PushError};
 /// It makes at most 64 rounds. A round is a push and, under `OverrunOldest` where that found the queue full, a pop of the
 /// oldest item, which is dropped. A discarded value is handed back. Losses are counted by the outlet: each item at its
 /// take, a discarded post at its end. The test `posts_at_once` shows it.
+#[inline]
 pub fn post_now<O: Outlet>(outlet: &mut O, policy: Policy, value: O::Value) -> Outcome<O::Value>
     requires fit { O.is_fit outlet.old }
     requires admitted { O.admits outlet.old value }
@@ -28,6 +29,7 @@ pub fn post_now<O: Outlet>(outlet: &mut O, policy: Policy, value: O::Value) -> O
 }
 
 /// Makes the rounds of a post that never waits, until one ends it. What is not posted is left in the hand.
+#[inline]
 pub(crate) fn post_at_once<O: Outlet>(
     outlet: &mut O,
     policy: Policy,

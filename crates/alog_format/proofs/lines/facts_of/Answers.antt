@@ -12,17 +12,17 @@ returns-clause-shown c =
       name = c.args.name.now;
       process = c.args.context.now.process;
       offset = o;
-      at = c.civil_at-at.result;
+      at = c.args.at;
     } in
     let with_process : ℕ → Shown = λ p. record {
       message = c.args.message.now;
       name = c.args.name.now;
       process = p;
       offset = c.offset_minutes-offset.result;
-      at = c.civil_at-at.result;
+      at = c.args.at;
     } in (
-      c.civil_at-at.result,
-      simp to_z-of_z at c.civil_at-at.ensures,
+      c.args.at,
+      c.requires,
       simp to_z-of_z (ap with_process c.process-process.ensures
           ∙ ap make c.offset_minutes-offset.ensures),
     )

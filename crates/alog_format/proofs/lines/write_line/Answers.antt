@@ -5,7 +5,7 @@ use Rattle.std.proofs.Common.{List}
 use Rattle.alog_format.specs.Buffer.{appended}
 use Rattle.alog_format.specs.Line.{shown_by, item_text, line_text}
 use Rattle.alog_format.proofs.ItemTexts.{line_written}
-use Rattle.alog_format.proofs.lines.format.Goals as goal
+use Rattle.alog_format.proofs.lines.write_line.Goals as goal
 
 pub returns : goal.returns
 returns c =
