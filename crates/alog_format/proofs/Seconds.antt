@@ -1,5 +1,5 @@
 -- What a clock shows at a time it shows throughout that second, but for the nanoseconds.
-use Rattle.std.proofs.Common.{◌≡◌, ℕ, ◌<◌, ℤ, pos, ◌+ℤ◌, ◌*ℤ◌, ap, refl, arith}
+use Rattle.std.proofs.Common.{◌≡◌, ℕ, ◌<◌, ℤ, pos, negsuc, unsigned_abs, ◌+ℤ◌, ◌*ℤ◌, ap, refl, arith}
 use Rattle.std.specs.Int.{int_div_euclid, int_rem_euclid}
 use Rattle.jiff_core.specs.declared.civil.datetime.DateTime.{DateTime}
 use Rattle.jiff_core.proofs.DateTimeLemmas.{civil_nanos-civil_seconds}
@@ -51,3 +51,8 @@ shown_in zone time number at civil n in_second is second rest =
     let a = civil_nanos-civil_seconds other in
     let b = seconds_with n small at in
     (other, omega (arith, signed_arith), ap (with_nanosecond n) is)
+
+-- what is left of a time is not below 0
+pub rest_is : (time second : ℤ) → pos (unsigned_abs (int_rem_euclid time second)) ≡ int_rem_euclid time second
+rest_is (pos n) second = refl
+rest_is (negsuc n) second = refl

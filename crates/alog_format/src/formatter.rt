@@ -89,13 +89,25 @@ impl Formatter {
     {
         let number = time.div_euclid(SECOND);
         let nanosecond = time.rem_euclid(SECOND).unsigned_abs() as u32;
-        let last = self.last;
-        let second = match last {
-            Some(second) if second.number == number && second.zone == zone => second,
-            _ => second_of(zone, number, time),
-        };
+        let second = self.second_at(zone, number, time);
+        let at = at_nanosecond(second.civil, nanosecond);
         self.last = Some(second);
-        at_nanosecond(second.civil, nanosecond)
+        at
+    }
+
+    /// The second of a time, which is worked out unless it is the last one.
+    fn second_at(&self, zone: Zone, number: i64, time: i64) -> Second
+        requires zone { IsZone zone }
+        requires number { number ≡ int_div_euclid time (pos 1_000_000_000) }
+        ensures zone { result.zone ≡ zone }
+        ensures number { result.number ≡ number }
+    {
+        if let Some(second) = self.last {
+            if second.number == number && second.zone == zone {
+                return second;
+            }
+        }
+        second_of(zone, number, time)
     }
 }
 
