@@ -4,7 +4,7 @@ ghost use Rattle.alog_format.specs.Line.{AppendsLine};
 ghost use Rattle.alog_pattern.specs.Compiled.{longest};
 ghost use Rattle.alog_sink.specs.Lines.{name_of};
 
-use alog_format::{Context, LineBuf, format};
+use alog_format::{Context, Formatter, LineBuf};
 use alog_msg::{LOGGER_NAME_MAX, Level, Message, Text};
 use alog_pattern::Pattern;
 use std::alloc::{AllocError, Global};
@@ -120,13 +120,13 @@ impl Face {
     }
 
     /// Writes a message's line into the buffer, in place of what was there.
-    pub(crate) fn write(&self, message: &Message, line: &mut LineBuf)
+    pub(crate) fn write(&self, formatter: &mut Formatter, message: &Message, line: &mut LineBuf)
         requires { MayWrite self.now message.now line.old.capacity }
         ensures line { IsLineOf self.now message.now line.new.bytes }
         ensures capacity { line.new.capacity ≡ line.old.capacity }
     {
         line.clear();
-        format(
+        formatter.format(
             &self.pattern,
             &self.context,
             self.names.get(message.logger),

@@ -6,7 +6,7 @@ ghost use Rattle.alog_sink.specs.Turn.{Takes, Flushes};
 use crate::face::Face;
 use crate::store::{Store, StoreError};
 use crate::target::Target;
-use alog_format::LineBuf;
+use alog_format::{Formatter, LineBuf};
 use alog_msg::Message;
 use std::marker::Model;
 use thiserror::Error;
@@ -40,6 +40,8 @@ pub struct Leaf<S> {
     target: Target,
     store: S,
     broken: bool,
+    // Remembers the second of the last line.
+    formatter: Formatter,
 }
 
 impl<S> Model for Leaf<S> {
@@ -60,6 +62,7 @@ impl<S: Store> Leaf<S> {
             target,
             store,
             broken: false,
+            formatter: Formatter::new(),
         }
     }
 
@@ -101,7 +104,7 @@ impl<S: Store> Leaf<S> {
         ensures takes { Takes S.tells S.files S.failures self.old message.now result self.new }
         ensures capacity { line.new.capacity ≡ line.old.capacity }
     {
-        self.face.write(message, line);
+        self.face.write(&mut self.formatter, message, line);
         let zone = self.face.context.zone;
         match self
             .target
