@@ -105,12 +105,12 @@ void measure(const char *name, const std::function<double()> &run) {
 
 int main(int argc, char **argv) {
     if (argc < 2) {
-        measure("bare    ", bare);
-        measure("ostream ", ostream);
+        measure("bare     ", bare);
+        measure("ostream  ", ostream);
         return 0;
     }
     const std::filesystem::path folder = argv[1];
-    measure("basic   ", [&] { return basic(folder / "memory"); });
-    measure("rotating", [&] { return rotating(folder / "rotating"); });
-    measure("daily   ", [&] { return daily(folder / "daily"); });
+    measure("basic    ", [&] { return basic(folder / "memory"); });
+    measure("rotating ", [&] { return rotating(folder / "rotating"); });
+    measure("daily    ", [&] { return daily(folder / "daily"); });
 }

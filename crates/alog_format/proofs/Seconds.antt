@@ -42,8 +42,8 @@ seconds_are zone time number at shown is =
 
 -- any time in that second
 pub shown_in : (zone : Zone) (time number : ℤ) (at : DateTime) (civil : Civil) (n : ℕ)
-    → civil_seconds at ≡ number +ℤ offset_minutes zone *ℤ pos 60 → civil ≡ fields at
-    → number ≡ int_div_euclid time (pos 1_000_000_000) → pos n ≡ int_rem_euclid time (pos 1_000_000_000)
+    → civil_seconds at ≡ number +ℤ offset_minutes zone *ℤ pos 60
+    → civil ≡ with_nanosecond civil.nanosecond (fields at) → number ≡ int_div_euclid time (pos 1_000_000_000) → pos n ≡ int_rem_euclid time (pos 1_000_000_000)
     → IsShownAt zone time (with_nanosecond n civil)
 shown_in zone time number at civil n in_second is second rest =
     let small : n < 1_000_000_000 = omega (arith, signed_arith) in

@@ -18,7 +18,7 @@ use Rattle.alog_format.specs.Civil.{IsShownAt, offset_minutes}
 use Rattle.alog_format.specs.Text.{Shown, flag_text, of_source}
 
 abbrev pub shown_by : Facts → Shown
-shown_by f = record { message = f.message.now; name = f.name.now; process = f.process; offset = f.offset; at = f.at }
+shown_by f = record { message = f.message.now; name = f.name.now; process = f.process; offset = f.offset; at = f.at.now }
 
 abbrev pub item_text : Shown → Item → List ℕ
 item_text s (items.Byte b) = b ∷ []

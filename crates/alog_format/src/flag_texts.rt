@@ -27,7 +27,7 @@ pub(crate) struct Facts<'a> {
     /// Minutes east of UTC.
     pub offset: i16,
     /// What a clock shows at the message's time.
-    pub at: Civil,
+    pub at: &'a Civil,
 }
 
 /// Appends the text of a flag. What needs a stack frame is not inlined here, so that most flags need none.
@@ -56,7 +56,7 @@ pub(crate) fn write_flag(line: &mut LineBuf, end: usize, flag: Flag, facts: &Fac
         Flag::File => write_file(line, end, message),
         Flag::Line => write_source_line(line, end, message),
         Flag::Function => write_function(line, end, message),
-        _ => write_time_flag(line, end, flag, &facts.at),
+        _ => write_time_flag(line, end, flag, facts.at),
     }
 }
 
@@ -187,7 +187,7 @@ fn write_default(line: &mut LineBuf, end: usize, facts: &Facts<'_>)
     ensures written { line.new ≡ clipped line.old end (text.default_text (shown_by facts.now)) }
     ensures ends { HasEnd line.new end }
 {
-    write_stamp_part(line, end, &facts.at);
+    write_stamp_part(line, end, facts.at);
     write_name_part(line, end, facts.name.as_bytes());
     write_bracketed(line, end, facts.message.level.name().as_bytes());
     write_place_part(line, end, facts.message);

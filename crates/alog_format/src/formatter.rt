@@ -1,9 +1,7 @@
 //! A formatter, which remembers what a clock showed last.
-ghost use Rattle.std.specs.Prelude.{◌≡◌, ◌+◌, ◌≤◌, ◌+ℤ◌, ◌*ℤ◌, length, pos};
-ghost use Rattle.std.specs.Int.{int_div_euclid};
-ghost use Rattle.jiff.specs.Words.{civil_seconds};
+ghost use Rattle.std.specs.Prelude.{◌+◌, ◌≤◌, length};
 ghost use Rattle.alog_pattern.specs.Compiled.{longest};
-ghost use Rattle.alog_format.specs.Civil.{fields, offset_minutes, with_nanosecond, IsShownAt, IsZone};
+ghost use Rattle.alog_format.specs.Civil.{IsShownAt, IsZone};
 ghost use Rattle.alog_format.specs.Line.{AppendsLine};
 
 use crate::civil::{Civil, civil_at, fields_of, local};
@@ -13,6 +11,7 @@ use crate::lines::write_line;
 use alog_msg::{LOGGER_NAME_MAX, Message};
 use alog_pattern::Pattern;
 use jiff::civil::DateTime;
+use std::marker::Model;
 
 /// The nanoseconds of a second.
 const SECOND: i64 = 1_000_000_000;
@@ -34,34 +33,49 @@ pub fn format(
     ensures { AppendsLine context.now pattern.now.items name.now message.now line.old line.new }
 {
     let at = civil_at(context.zone, message.time);
-    write_line(pattern, context, name, message, at, line);
+    write_line(pattern, context, name, message, &at, line);
 }
 
 /// Appends lines as `format` does, and remembers the second of the last one, as spdlog's `pattern_formatter` does: the date
-/// and the time of day are worked out again only for a message of another second. The test `remembers_a_second` shows one.
-#[derive(Clone, Copy, Debug, Default)]
+/// and the time of day are worked out again only for a message of another second, or where another zone is asked for.
+///
+/// The test `remembers_a_second` of `alog_line_tests` shows one.
+#[derive(Debug, Drop)]
 pub struct Formatter {
-    last: Option<Second>,
+    zone: Zone,
+    /// The last line's second, counted from the epoch.
+    second: i64,
+    /// What a clock of the zone shows at some time in that second.
+    at: DateTime,
+    /// Its fields, with the nanoseconds of the last line.
+    civil: Civil,
 }
 
-/// What a clock shows throughout a second.
-#[derive(Clone, Copy, Debug)]
-struct Second {
-    zone: Zone,
-    /// Counted from the epoch.
-    number: i64,
-    /// The date and the time of day at some time in the second.
-    at: DateTime,
-    /// Its fields.
-    civil: Civil,
-    ghost in_second: { civil_seconds at ≡ number +ℤ offset_minutes zone *ℤ pos 60 },
-    ghost of_at: { civil ≡ fields at },
+impl Model for Formatter {
+    ghost use Rattle.std.specs.Prelude.{◌≡◌, ◌+ℤ◌, ◌*ℤ◌, pos};
+    ghost use Rattle.jiff.specs.Words.{civil_seconds};
+    ghost use Rattle.alog_format.specs.Civil.{fields, offset_minutes, with_nanosecond};
+    ghost use Rattle.alog_format.specs.declared.civil.Civil.{Civil};
+
+    ghost Value = { Civil };
+
+    ghost view = { λ f. f.civil };
+
+    ghost invariant = { λ f. (civil_seconds f.at ≡ f.second +ℤ offset_minutes f.zone *ℤ pos 60)
+        × (f.civil ≡ with_nanosecond f.civil.nanosecond (fields f.at)) };
 }
 
 impl Formatter {
-    /// A formatter that remembers nothing.
+    /// A formatter that remembers the first second of 1970 in UTC.
     pub fn new() -> Formatter {
-        Formatter { last: None }
+        let zone = Zone::Fixed(0);
+        let at = local(zone, 0);
+        Formatter {
+            zone,
+            second: 0,
+            at,
+            civil: fields_of(at),
+        }
     }
 
     /// Appends the line of a message, as `format` does, and by the same conditions.
@@ -78,61 +92,22 @@ impl Formatter {
         requires room { length line.old.bytes + longest pattern.now ≤ line.old.capacity }
         ensures { AppendsLine context.now pattern.now.items name.now message.now line.old line.new }
     {
-        let at = self.civil_at(context.zone, message.time);
-        write_line(pattern, context, name, message, at, line);
+        self.turn_to(context.zone, message.time);
+        write_line(pattern, context, name, message, &self.civil, line);
     }
 
-    /// What a clock of the zone shows at a time in nanoseconds since the epoch.
-    fn civil_at(&mut self, zone: Zone, time: i64) -> Civil
+    /// Shows what a clock of the zone shows at a time in nanoseconds since the epoch.
+    fn turn_to(&mut self, zone: Zone, time: i64)
         requires { IsZone zone }
-        ensures { IsShownAt zone time result }
+        ensures { IsShownAt zone time self.new }
     {
-        let number = time.div_euclid(SECOND);
-        let nanosecond = time.rem_euclid(SECOND).unsigned_abs() as u32;
-        let second = self.second_at(zone, number, time);
-        let at = at_nanosecond(second.civil, nanosecond);
-        self.last = Some(second);
-        at
-    }
-
-    /// The second of a time, which is worked out unless it is the last one.
-    fn second_at(&self, zone: Zone, number: i64, time: i64) -> Second
-        requires zone { IsZone zone }
-        requires number { number ≡ int_div_euclid time (pos 1_000_000_000) }
-        ensures zone { result.zone ≡ zone }
-        ensures number { result.number ≡ number }
-    {
-        if let Some(second) = self.last {
-            if second.number == number && second.zone == zone {
-                return second;
-            }
+        let second = time.div_euclid(SECOND);
+        if second != self.second || zone != self.zone {
+            self.zone = zone;
+            self.second = second;
+            self.at = local(zone, time);
+            self.civil = fields_of(self.at);
         }
-        second_of(zone, number, time)
-    }
-}
-
-/// What a clock shows, with other nanoseconds.
-fn at_nanosecond(civil: Civil, nanosecond: u32) -> Civil
-    ensures { result ≡ with_nanosecond nanosecond civil }
-{
-    Civil {
-        nanosecond,
-        ..civil
-    }
-}
-
-/// What a clock of the zone shows throughout the second of a time.
-fn second_of(zone: Zone, number: i64, time: i64) -> Second
-    requires zone { IsZone zone }
-    requires number { number ≡ int_div_euclid time (pos 1_000_000_000) }
-    ensures zone { result.zone ≡ zone }
-    ensures number { result.number ≡ number }
-{
-    let at = local(zone, time);
-    Second {
-        zone,
-        number,
-        at,
-        civil: fields_of(at),
+        self.civil.nanosecond = time.rem_euclid(SECOND).unsigned_abs() as u32;
     }
 }

@@ -23,12 +23,12 @@ pub(crate) fn write_line(
     context: &Context,
     name: &str,
     message: &Message,
-    at: Civil,
+    at: &Civil,
     line: &mut LineBuf,
 )
     requires text { length message.now.text ≤ pattern.now.text_limit }
     requires name { length name.now ≤ LOGGER_NAME_MAX }
-    requires at { IsShownAt context.now.zone message.now.time at }
+    requires at { IsShownAt context.now.zone message.now.time at.now }
     requires room { length line.old.bytes + longest pattern.now ≤ line.old.capacity }
     ensures { AppendsLine context.now pattern.now.items name.now message.now line.old line.new }
 {
@@ -38,8 +38,8 @@ pub(crate) fn write_line(
 }
 
 /// What a line of the message shows.
-fn facts_of<'a>(context: &Context, name: &'a str, message: &'a Message, at: Civil) -> Facts<'a>
-    requires { IsShownAt context.now.zone message.now.time at }
+fn facts_of<'a>(context: &Context, name: &'a str, message: &'a Message, at: &'a Civil) -> Facts<'a>
+    requires { IsShownAt context.now.zone message.now.time at.now }
     ensures shown { IsShown context.now name.now message.now (shown_by result) }
     ensures source { SourceFits message.now.source }
     ensures thread { message.now.thread < 2 ^ 64 }

@@ -11,12 +11,12 @@ pub const UTC: Context = Context {
 };
 
 /// The offsets at both limits.
-const WEST: Context = Context {
+pub const WEST: Context = Context {
     zone: Zone::Fixed(-1439),
     process: 0,
 };
 
-const EAST: Context = Context {
+pub const EAST: Context = Context {
     zone: Zone::Fixed(1439),
     process: 0,
 };
@@ -40,11 +40,11 @@ pub const NOTHING: Said<'static> = Said {
     source: None,
 };
 
-fn at<'a>(time: i64) -> Said<'a> {
+pub fn at<'a>(time: i64) -> Said<'a> {
     Said { time, ..NOTHING }
 }
 
-fn message(rt: &(impl Abort + AllocGlobal), said: Said<'_>) -> Message {
+pub fn message(rt: &(impl Abort + AllocGlobal), said: Said<'_>) -> Message {
     let Said {
         level,
         time,
@@ -58,7 +58,7 @@ fn message(rt: &(impl Abort + AllocGlobal), said: Said<'_>) -> Message {
     }
 }
 
-fn buffer(rt: &(impl Abort + AllocGlobal), capacity: usize) -> LineBuf {
+pub fn buffer(rt: &(impl Abort + AllocGlobal), capacity: usize) -> LineBuf {
     match LineBuf::new(rt.alloc(), capacity) {
         Ok(line) => line,
         Err(_) => panic!(rt; "no memory"),

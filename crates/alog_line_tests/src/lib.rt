@@ -1,11 +1,13 @@
 //! Tests of messages, patterns and lines over the public surface of `alog_msg`, `alog_pattern` and `alog_format`.
 //!
-//! They are here, and not in those crates, since a crate with tests is proved twice. Read `msg_tests.rt`, `pattern_tests.rt` and
-//! `format_tests.rt`, then `spaces.rt` (padding as a plain program) and `padding_tests.rt` (it beside the lines that are made).
+//! They are here, and not in those crates, since a crate with tests is proved twice. Read `msg_tests.rt`, `pattern_tests.rt`,
+//! `format_tests.rt` and `formatter_tests.rt`, then `spaces.rt` (padding as a plain program) and `padding_tests.rt` (it beside the lines that are made).
 #![tactic(auto)]
 
 #[cfg(test)]
 mod format_tests;
+#[cfg(test)]
+mod formatter_tests;
 #[cfg(test)]
 mod msg_tests;
 #[cfg(test)]

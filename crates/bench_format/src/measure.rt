@@ -1,7 +1,7 @@
 //! The runs, and what is printed.
 use crate::messages::{COUNT, Size, TEXT_LIMIT, messages};
-use crate::work::{ROUNDS, checksum, write_lines};
-use alog_format::LineBuf;
+use crate::work::{ROUNDS, Way, checksum, write_lines};
+use alog_format::{Formatter, LineBuf};
 use alog_msg::Message;
 use alog_pattern::Pattern;
 use anyhow::{Context, Result, ensure};
@@ -67,6 +67,7 @@ fn figures_of(time: Duration, bytes: u32) -> Figures {
 /// The bytes of a run, the same in each, and the times of all runs.
 fn run_all<R>(
     rt: &R,
+    way: &mut Way,
     pattern: &Pattern,
     messages: &mut [Message],
     line: &mut LineBuf,
@@ -76,10 +77,10 @@ where
     R: Clock + AllocGlobal,
 {
     let mut times = Vec::new(rt.alloc());
-    let wanted = write_lines(pattern, messages, line, step)?;
+    let wanted = write_lines(way, pattern, messages, line, step)?;
     for _ in 0..RUNS {
         let start = Instant::now(rt)?;
-        let bytes = write_lines(pattern, messages, line, step)?;
+        let bytes = write_lines(way, pattern, messages, line, step)?;
         times.push(start.elapsed(rt)?)?;
         ensure!(bytes == wanted, "two runs differ");
     }
@@ -87,29 +88,36 @@ where
     Ok((bytes, times))
 }
 
-fn measure_case<R>(rt: &R, case: Case) -> Result<()>
+fn measure_case<R>(rt: &R, case: Case, name: &str, mut way: Way) -> Result<()>
 where
     R: Clock + Print + AllocGlobal,
 {
     let pattern = Pattern::compile(rt.alloc(), PATTERN, TEXT_LIMIT)?;
     let mut messages = messages(rt.alloc(), case.size)?;
     let mut line = LineBuf::new(rt.alloc(), pattern.longest())?;
-    let (bytes, mut times) = run_all(rt, &pattern, &mut messages, &mut line, case.step)?;
-    let sum = checksum(&pattern, &mut messages, &mut line, case.step)?;
+    let (bytes, mut times) = run_all(rt, &mut way, &pattern, &mut messages, &mut line, case.step)?;
+    let sum = checksum(&mut way, &pattern, &mut messages, &mut line, case.step)?;
     times.sort_unstable();
     let best = figures_of(*times.first().context("no run")?, bytes);
     let middle = figures_of(*times.get(times.len() / 2).context("no run")?, bytes);
-    print_line(rt, case.name, best, middle, sum)
+    print_line(rt, name, case.name, best, middle, sum)
 }
 
-fn print_line<R>(rt: &R, case: &str, best: Figures, middle: Figures, sum: u64) -> Result<()>
+fn print_line<R>(
+    rt: &R,
+    name: &str,
+    case: &str,
+    best: Figures,
+    middle: Figures,
+    sum: u64,
+) -> Result<()>
 where
     R: Print,
 {
     let Figures { nanos, speed } = best;
     let (middle, middle_speed) = (middle.nanos, middle.speed);
     println!(rt;
-        "alog   {case}  best {nanos:>6.1} ns {speed:>5.0} MB/s  middle {middle:>6.1} ns {middle_speed:>5.0} MB/s  sum {sum:>20}"
+        "{name}  {case}  best {nanos:>6.1} ns {speed:>5.0} MB/s  middle {middle:>6.1} ns {middle_speed:>5.0} MB/s  sum {sum:>20}"
     )?;
     Ok(())
 }
@@ -121,7 +129,8 @@ where
     R: Clock + Print + AllocGlobal,
 {
     for case in CASES {
-        measure_case(rt, case)?;
+        measure_case(rt, case, "alog ", Way::Remembering(Formatter::new()))?;
+        measure_case(rt, case, "alone", Way::Alone)?;
     }
     Ok(())
 }

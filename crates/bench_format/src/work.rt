@@ -1,5 +1,5 @@
 //! The loop that is timed.
-use alog_format::{Context, LineBuf, Zone, format};
+use alog_format::{Context, Formatter, LineBuf, Zone, format};
 use alog_msg::Message;
 use alog_pattern::Pattern;
 use anyhow::{Result, ensure};
@@ -17,22 +17,40 @@ const UTC: Context = Context {
     process: 1,
 };
 
+/// How lines are made.
+#[derive(Drop)]
+pub enum Way {
+    /// By `format`, each for itself.
+    Alone,
+    /// By one formatter, which remembers the last second, as spdlog's does.
+    Remembering(Formatter),
+}
+
 /// Makes the line of a message.
 #[inline(always)]
-fn write_line(pattern: &Pattern, message: &Message, line: &mut LineBuf) -> Result<()> {
+fn write_line(
+    way: &mut Way,
+    pattern: &Pattern,
+    message: &Message,
+    line: &mut LineBuf,
+) -> Result<()> {
     line.clear();
     ensure!(
         message.text.len() <= pattern.text_limit(),
         "a text is too long"
     );
     ensure!(pattern.longest() <= line.room(), "a line has no room");
-    format(pattern, &UTC, NAME, message, line);
+    match way {
+        Way::Alone => format(pattern, &UTC, NAME, message, line),
+        Way::Remembering(formatter) => formatter.format(pattern, &UTC, NAME, message, line),
+    }
     Ok(())
 }
 
 /// Makes the line of each message, over and over, with times that are `step` nanoseconds apart, and answers the bytes
 /// of all lines. This is what is timed.
 pub fn write_lines(
+    way: &mut Way,
     pattern: &Pattern,
     messages: &mut [Message],
     line: &mut LineBuf,
@@ -44,7 +62,7 @@ pub fn write_lines(
         for message in messages.iter_mut() {
             message.time = time;
             time = time.wrapping_add(step);
-            write_line(pattern, message, line)?;
+            write_line(way, pattern, message, line)?;
             bytes = bytes.wrapping_add(line.len() as u64);
         }
     }
@@ -53,6 +71,7 @@ pub fn write_lines(
 
 /// A number of all bytes of the lines of one round, to compare with that of `format.cpp`.
 pub fn checksum(
+    way: &mut Way,
     pattern: &Pattern,
     messages: &mut [Message],
     line: &mut LineBuf,
@@ -63,7 +82,7 @@ pub fn checksum(
     for message in messages.iter_mut() {
         message.time = time;
         time = time.wrapping_add(step);
-        write_line(pattern, message, line)?;
+        write_line(way, pattern, message, line)?;
         for byte in line.as_slice() {
             sum = sum.wrapping_mul(31).wrapping_add(u64::from(*byte));
         }

@@ -1,6 +1,6 @@
 //! The runs, and what is printed.
 use crate::work::{COUNT, Kind, Target, fan, give_all, in_folder, in_memory, message, pattern};
-use alog_format::LineBuf;
+use alog_format::{Formatter, LineBuf};
 use anyhow::{Context, Result};
 use std::path::Path;
 use std::rt::{Clock, Files};
@@ -16,6 +16,7 @@ const LINE: usize = 65_536;
 #[derive(Clone, Copy)]
 enum Case {
     Bare,
+    Formatter,
     Memory(Kind),
     Fan,
     Folder(Kind),
@@ -24,12 +25,13 @@ enum Case {
 impl Case {
     fn name(self) -> &'static str {
         match self {
-            Case::Bare => "bare    ",
-            Case::Fan => "fan     ",
+            Case::Bare => "bare     ",
+            Case::Formatter => "formatter",
+            Case::Fan => "fan      ",
             Case::Memory(kind) | Case::Folder(kind) => match kind {
-                Kind::Memory => "memory  ",
-                Kind::Rotating => "rotating",
-                Kind::Daily => "daily   ",
+                Kind::Memory => "memory   ",
+                Kind::Rotating => "rotating ",
+                Kind::Daily => "daily    ",
             },
         }
     }
@@ -41,6 +43,7 @@ impl Case {
         let alloc = rt.alloc();
         Ok(match self {
             Case::Bare => Target::Bare(pattern(alloc)?),
+            Case::Formatter => Target::Formatter(pattern(alloc)?, Formatter::new()),
             Case::Fan => Target::Memory(fan(alloc)?),
             Case::Memory(kind) => Target::Memory(in_memory(alloc, kind)?),
             Case::Folder(kind) => Target::Folder(in_folder(alloc, kind, rt.clone()?, path)?),
@@ -83,12 +86,13 @@ where
     Ok(())
 }
 
-/// Measures the bare formatter, and sinks over files in memory.
+/// Measures the bare formatter, one that remembers, and sinks over files in memory.
 pub fn in_memory_all<R>(rt: &R) -> Result<()>
 where
     R: Files + Clock + Print + Clone + Drop + AllocGlobal,
 {
     measure_one(rt, Case::Bare, "")?;
+    measure_one(rt, Case::Formatter, "")?;
     for kind in [Kind::Memory, Kind::Rotating, Kind::Daily] {
         measure_one(rt, Case::Memory(kind), "")?;
     }

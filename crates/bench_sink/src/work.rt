@@ -1,5 +1,8 @@
 //! The messages, and the loop that is timed.
-use alog_format::{Context, LineBuf, Zone, format};
+ghost use Rattle.std.specs.Prelude.{◌+◌, ◌≤◌, OnOk, length};
+ghost use Rattle.alog_pattern.specs.Compiled.{longest};
+
+use alog_format::{Context, Formatter, LineBuf, Zone, format};
 use alog_msg::{Level, Message};
 use alog_pattern::Pattern;
 use alog_sink::{Face, FolderStore, MemStore, Names, Sink, Store};
@@ -42,8 +45,10 @@ const FILES: [&str; 5] = [
 /// What a message is given to.
 #[derive(Drop)]
 pub enum Target<R: Files> {
-    /// The formatter alone.
+    /// `format` alone.
     Bare(Pattern),
+    /// A formatter alone, which remembers the last second, as that of a sink does.
+    Formatter(Pattern, Formatter),
     /// A sink over files in memory.
     Memory(Sink<MemStore>),
     /// A sink over files of a folder.
@@ -133,18 +138,33 @@ fn take<S: Store>(sink: &mut Sink<S>, message: &Message, line: &mut LineBuf) -> 
     Ok(())
 }
 
+/// Clears the buffer for the line of a message, which fits there.
+#[inline(always)]
+fn make_room(pattern: &Pattern, message: &Message, line: &mut LineBuf) -> Result<()>
+    ensures { OnOk result ((length message.now.text ≤ pattern.now.text_limit)
+        × (length line.new.bytes + longest pattern.now ≤ line.new.capacity)) }
+{
+    line.clear();
+    ensure!(
+        message.text.len() <= pattern.text_limit(),
+        "a text is too long"
+    );
+    ensure!(pattern.longest() <= line.room(), "a line has no room");
+    Ok(())
+}
+
 /// Gives one message to what it goes to.
 #[inline(always)]
 fn give<R: Files>(target: &mut Target<R>, message: &Message, line: &mut LineBuf) -> Result<()> {
     match target {
         Target::Bare(pattern) => {
-            line.clear();
-            ensure!(
-                message.text.len() <= pattern.text_limit(),
-                "a text is too long"
-            );
-            ensure!(pattern.longest() <= line.room(), "a line has no room");
+            make_room(pattern, message, line)?;
             format(pattern, &UTC, NAME, message, line);
+            Ok(())
+        }
+        Target::Formatter(pattern, formatter) => {
+            make_room(pattern, message, line)?;
+            formatter.format(pattern, &UTC, NAME, message, line);
             Ok(())
         }
         Target::Memory(sink) => take(sink, message, line),
@@ -155,7 +175,7 @@ fn give<R: Files>(target: &mut Target<R>, message: &Message, line: &mut LineBuf)
 /// Flushes what has a file.
 fn flush<R: Files>(target: &mut Target<R>) -> Result<()> {
     match target {
-        Target::Bare(_) => Ok(()),
+        Target::Bare(_) | Target::Formatter(..) => Ok(()),
         Target::Memory(sink) => Ok(sink.flush()?),
         Target::Folder(sink) => Ok(sink.flush()?),
     }

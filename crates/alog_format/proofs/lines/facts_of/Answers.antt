@@ -12,16 +12,16 @@ returns-clause-shown c =
       name = c.args.name.now;
       process = c.args.context.now.process;
       offset = o;
-      at = c.args.at;
+      at = c.args.at.now;
     } in
     let with_process : ℕ → Shown = λ p. record {
       message = c.args.message.now;
       name = c.args.name.now;
       process = p;
       offset = c.offset_minutes-offset.result;
-      at = c.args.at;
+      at = c.args.at.now;
     } in (
-      c.args.at,
+      c.args.at.now,
       c.requires,
       simp to_z-of_z (ap with_process c.process-process.ensures
           ∙ ap make c.offset_minutes-offset.ensures),

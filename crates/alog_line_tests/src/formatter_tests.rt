@@ -1,0 +1,134 @@
+//! Formatters, which remember a second.
+use crate::format_tests::{EAST, UTC, WEST, at, buffer, message};
+use crate::pattern_tests::compiled;
+use alog_format::{Context, Formatter, LineBuf, format};
+use alog_pattern::Pattern;
+use std::process::Abort;
+
+const PATTERN: &[u8] = b"%Y-%m-%d %T.%F %a %z";
+
+/// Writes the line of a message of this time in place of what was there.
+fn write(
+    rt: &(impl Abort + AllocGlobal),
+    formatter: &mut Formatter,
+    pattern: &Pattern,
+    context: &Context,
+    time: i64,
+    line: &mut LineBuf,
+) {
+    let message = message(rt, at(time));
+    line.clear();
+    assert!(rt; message.text.len() <= pattern.text_limit());
+    assert!(rt; pattern.longest() <= line.room());
+    formatter.format(pattern, context, "", &message, line);
+}
+
+/// Writes it by the function that remembers nothing.
+fn write_alone(
+    rt: &(impl Abort + AllocGlobal),
+    pattern: &Pattern,
+    context: &Context,
+    time: i64,
+    line: &mut LineBuf,
+) {
+    let message = message(rt, at(time));
+    line.clear();
+    assert!(rt; message.text.len() <= pattern.text_limit());
+    assert!(rt; pattern.longest() <= line.room());
+    format(pattern, context, "", &message, line);
+}
+
+// By one formatter, in this order. The texts are those of Python's `datetime`.
+#[test]
+fn remembers_a_second(rt: HostRuntime) {
+    let pattern = compiled(&rt, PATTERN);
+    let mut line = buffer(&rt, pattern.longest());
+    let mut formatter = Formatter::new();
+    for (context, time, text) in [
+        (UTC, 0, "1970-01-01 00:00:00.000000000 Thu +00:00\n"),
+        (
+            UTC,
+            999_999_999,
+            "1970-01-01 00:00:00.999999999 Thu +00:00\n",
+        ),
+        (
+            EAST,
+            999_999_999,
+            "1970-01-01 23:59:00.999999999 Thu +23:59\n",
+        ),
+        (UTC, 1, "1970-01-01 00:00:00.000000001 Thu +00:00\n"),
+        (UTC, -1, "1969-12-31 23:59:59.999999999 Wed +00:00\n"),
+        (WEST, -1, "1969-12-31 00:00:59.999999999 Wed -23:59\n"),
+        (
+            WEST,
+            -1_000_000_000,
+            "1969-12-31 00:00:59.000000000 Wed -23:59\n",
+        ),
+        (
+            WEST,
+            -1_000_000_001,
+            "1969-12-31 00:00:58.999999999 Wed -23:59\n",
+        ),
+        (
+            UTC,
+            86_399_999_999_999,
+            "1970-01-01 23:59:59.999999999 Thu +00:00\n",
+        ),
+        (
+            UTC,
+            86_400_000_000_000,
+            "1970-01-02 00:00:00.000000000 Fri +00:00\n",
+        ),
+        (UTC, i64::MAX, "2262-04-11 23:47:16.854775807 Fri +00:00\n"),
+        (UTC, i64::MIN, "1677-09-21 00:12:43.145224192 Tue +00:00\n"),
+        (
+            UTC,
+            i64::MAX - 854_775_807,
+            "2262-04-11 23:47:16.000000000 Fri +00:00\n",
+        ),
+    ] {
+        write(&rt, &mut formatter, &pattern, &context, time, &mut line);
+        assert!(&rt; line.as_slice() == text.as_bytes(), "{text}");
+    }
+}
+
+// Times round whole seconds and days, on clocks of three zones: each after each.
+const TIMES: [i64; 9] = [
+    0,
+    1,
+    -1,
+    999_999_999,
+    -1_000_000_000,
+    1_000_000_000,
+    86_399_999_999_999,
+    i64::MIN,
+    i64::MAX,
+];
+
+/// One formatter after these two messages writes what `format` does.
+fn writes_as_alone(
+    rt: &(impl Abort + AllocGlobal),
+    pattern: &Pattern,
+    first: (Context, i64),
+    second: (Context, i64),
+) {
+    let mut formatter = Formatter::new();
+    let mut line = buffer(rt, pattern.longest());
+    let mut alone = buffer(rt, pattern.longest());
+    write(rt, &mut formatter, pattern, &first.0, first.1, &mut line);
+    write(rt, &mut formatter, pattern, &second.0, second.1, &mut line);
+    write_alone(rt, pattern, &second.0, second.1, &mut alone);
+    assert!(rt; line.as_slice() == alone.as_slice(), "{second:?}");
+}
+
+#[test]
+fn writes_any_second_after_any(rt: HostRuntime) {
+    let pattern = compiled(&rt, PATTERN);
+    for before in TIMES {
+        for after in TIMES {
+            writes_as_alone(&rt, &pattern, (UTC, before), (UTC, after));
+            writes_as_alone(&rt, &pattern, (UTC, before), (EAST, after));
+            writes_as_alone(&rt, &pattern, (WEST, before), (UTC, after));
+        }
+    }
+}
