@@ -11,6 +11,7 @@ use Rattle.circular_buffer.specs.contracts.heap.HeapCircularBuffer as Dates
 use Rattle.circular_buffer.specs.contracts.heap.HeapCircularBuffer.TheInside as DatesInside
 use Rattle.alog_format.proofs.Crosses.{bytes-send, deed-send}
 use Rattle.alog_format.specs.contracts.formatter.Formatter as Formatter
+use Rattle.alog_format.specs.contracts.formatter.Formatter.TheInside as FormatterInside
 use Rattle.alog_format.specs.contracts.line_buf.LineBuf as LineBuf
 use Rattle.alog_format.specs.contracts.line_buf.LineBuf.TheInside as LineInside
 use Rattle.alog_msg.proofs.Crosses.{text_send}
@@ -85,9 +86,11 @@ diary_send = view_send _ _ _ _ _ diary_inside_send
 target_send : IsSend (Target.the_field).row
 target_send = search (sendable, crosses, text_send, rotation_send, diary_send) depth 20
 
--- what a formatter remembers is of plain numbers
-formatter_send : IsSend (Formatter.the_field).row
-formatter_send = search (sendable, crosses) depth 30 fits 50000
+formatter_inside_send : IsSend FormatterInside.the_row
+formatter_inside_send = search (sendable, crosses) depth 30 fits 50000
+
+formatter_send : IsSend Formatter.the_row
+formatter_send = view_send _ _ _ _ _ formatter_inside_send
 
 leaf_inside_send : (S : RattleType) → IsSend S → IsSend (LeafInside.the_row S)
 leaf_inside_send S s = recorded_send (LeafInside.the_field S).row _ _ (LeafInside.the_type S).to_one (struct_send
