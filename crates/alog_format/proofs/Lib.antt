@@ -2,6 +2,7 @@ pub mod Blocks
 pub mod Parted
 pub mod Clips
 pub mod Crosses
+pub mod FirstItems
 pub mod Gaps
 pub mod ItemTexts
 pub mod Moves

@@ -5,3 +5,4 @@ pub mod Clip
 pub mod Civil
 pub mod Text
 pub mod Line
+pub mod Lasting

@@ -6,10 +6,12 @@ ghost use Rattle.alog_format.specs.Line.{AppendsLine};
 
 use crate::civil::{Civil, civil_at, fields_of, local};
 use crate::context::{Context, Zone};
+use crate::lasting::count_lasting;
 use crate::line_buf::LineBuf;
-use crate::lines::write_line;
+use crate::lines::{facts_of, put, write_items, write_line};
 use alog_msg::{LOGGER_NAME_MAX, Message};
 use alog_pattern::Pattern;
+use arrayvec::ArrayVec;
 use jiff::civil::DateTime;
 use std::marker::Model;
 
@@ -36,12 +38,18 @@ pub fn format(
     write_line(pattern, context, name, message, &at, line);
 }
 
-/// Appends lines as `format` does, and remembers the second of the last one, as spdlog's `pattern_formatter` does: the date
-/// and the time of day are worked out again only for a message of another second, or where another zone is asked for.
+/// The most bytes of a line that a formatter remembers.
+const FIRST_MAX: usize = 64;
+
+/// Appends the lines of a pattern as `format` does, and remembers the second of the last one, as spdlog's
+/// `pattern_formatter` does: the date and the time of day are worked out again only for a message of another second, or
+/// where another zone is asked for, and so is the text of the first items, as far as it is the same throughout a second
+/// and has at most 64 bytes.
 ///
 /// The test `remembers_a_second` of `alog_line_tests` shows one.
 #[derive(Debug, Drop)]
 pub struct Formatter {
+    pattern: Pattern,
     zone: Zone,
     /// The last line's second, counted from the epoch.
     second: i64,
@@ -49,65 +57,129 @@ pub struct Formatter {
     at: DateTime,
     /// Its fields, with the nanoseconds of the last line.
     civil: Civil,
+    /// How many of the first items are remembered.
+    count: usize,
+    /// Their text in that second.
+    first: ArrayVec<u8, FIRST_MAX>,
 }
 
 impl Model for Formatter {
     ghost use Rattle.std.specs.Prelude.{◌≡◌, ◌+ℤ◌, ◌*ℤ◌, pos};
     ghost use Rattle.jiff.specs.Words.{civil_seconds};
     ghost use Rattle.alog_format.specs.Civil.{fields, offset_minutes, with_nanosecond};
-    ghost use Rattle.alog_format.specs.declared.civil.Civil.{Civil};
+    ghost use Rattle.alog_format.specs.Lasting.{AreFirst, FormatterView};
 
-    ghost Value = { Civil };
+    ghost Value = { FormatterView };
 
-    ghost view = { λ f. f.civil };
+    ghost view = { λ f. record { pattern = f.pattern; at = f.civil } };
 
     ghost invariant = { λ f. (civil_seconds f.at ≡ f.second +ℤ offset_minutes f.zone *ℤ pos 60)
-        × (f.civil ≡ with_nanosecond f.civil.nanosecond (fields f.at)) };
+        × (f.civil ≡ with_nanosecond f.civil.nanosecond (fields f.at)) × AreFirst f.pattern.items f.civil f.count f.first.items };
 }
 
 impl Formatter {
-    /// A formatter that remembers the first second of 1970 in UTC.
-    pub fn new() -> Formatter {
+    ghost use Rattle.std.specs.Prelude.{◌≡◌};
+
+    /// A formatter of a pattern. It remembers the first second of 1970 in UTC.
+    pub fn new(pattern: Pattern) -> Formatter
+        ensures { result.pattern ≡ pattern }
+    {
         let zone = Zone::Fixed(0);
         let at = local(zone, 0);
         Formatter {
+            pattern,
             zone,
             second: 0,
             at,
             civil: fields_of(at),
+            count: 0,
+            first: ArrayVec::new(),
         }
     }
 
-    /// Appends the line of a message, as `format` does, and by the same conditions.
-    pub fn format(
-        &mut self,
-        pattern: &Pattern,
-        context: &Context,
-        name: &str,
-        message: &Message,
-        line: &mut LineBuf,
-    )
-        requires text { length message.now.text ≤ pattern.now.text_limit }
-        requires name { length name.now ≤ LOGGER_NAME_MAX }
-        requires room { length line.old.bytes + longest pattern.now ≤ line.old.capacity }
-        ensures { AppendsLine context.now pattern.now.items name.now message.now line.old line.new }
+    /// The pattern.
+    pub fn pattern(&self) -> &Pattern
+        ensures { result.now ≡ self.now.pattern }
     {
-        self.turn_to(context.zone, message.time);
-        write_line(pattern, context, name, message, &self.civil, line);
+        &self.pattern
     }
 
-    /// Shows what a clock of the zone shows at a time in nanoseconds since the epoch.
-    fn turn_to(&mut self, zone: Zone, time: i64)
+    /// Appends the line of a message, as `format` does, and by the same conditions.
+    pub fn format(&mut self, context: &Context, name: &str, message: &Message, line: &mut LineBuf)
+        requires text { length message.now.text ≤ self.old.pattern.text_limit }
+        requires name { length name.now ≤ LOGGER_NAME_MAX }
+        requires room { length line.old.bytes + longest self.old.pattern ≤ line.old.capacity }
+        ensures line { AppendsLine context.now self.old.pattern.items name.now message.now line.old line.new }
+        ensures same { self.new.pattern ≡ self.old.pattern }
+    {
+        self.turn_to(context, name, message, line);
+        let facts = facts_of(context, name, message, &self.civil);
+        put(line, self.first.as_slice());
+        let rest = &self.pattern.items()[self.count..];
+        write_items(line, rest, self.pattern.text_limit(), &facts);
+        put(line, b"\n");
+    }
+
+    /// Shows what a clock shows at a message's time. In another second than the last one it remembers the first items
+    /// anew. The buffer is as it was.
+    fn turn_to(&mut self, context: &Context, name: &str, message: &Message, line: &mut LineBuf)
+        requires text { length message.now.text ≤ self.old.pattern.text_limit }
+        requires name { length name.now ≤ LOGGER_NAME_MAX }
+        requires room { length line.old.bytes + longest self.old.pattern ≤ line.old.capacity }
+        ensures shown { IsShownAt context.now.zone message.now.time self.new.at }
+        ensures same { self.new.pattern ≡ self.old.pattern }
+        ensures line { line.new ≡ line.old }
+    {
+        if self.show(context.zone, message.time) {
+            self.remember(context, name, message, line);
+        }
+    }
+
+    /// Shows what a clock of the zone shows at a time, and answers whether that is another second than the last one.
+    fn show(&mut self, zone: Zone, time: i64) -> bool
         requires { IsZone zone }
-        ensures { IsShownAt zone time self.new }
+        ensures shown { IsShownAt zone time self.new.at }
+        ensures same { self.new.pattern ≡ self.old.pattern }
     {
         let second = time.div_euclid(SECOND);
-        if second != self.second || zone != self.zone {
+        let other = if second != self.second || zone != self.zone {
             self.zone = zone;
             self.second = second;
             self.at = local(zone, time);
             self.civil = fields_of(self.at);
-        }
+            self.count = 0;
+            self.first.clear();
+            true
+        } else {
+            false
+        };
         self.civil.nanosecond = time.rem_euclid(SECOND).unsigned_abs() as u32;
+        other
+    }
+
+    /// Remembers the text of the first items at the time of a message, which a clock shows now, if it is short enough.
+    fn remember(&mut self, context: &Context, name: &str, message: &Message, line: &mut LineBuf)
+        requires text { length message.now.text ≤ self.old.pattern.text_limit }
+        requires name { length name.now ≤ LOGGER_NAME_MAX }
+        requires room { length line.old.bytes + longest self.old.pattern ≤ line.old.capacity }
+        requires shown { IsShownAt context.now.zone message.now.time self.old.at }
+        ensures same { self.new ≡ self.old }
+        ensures line { line.new ≡ line.old }
+    {
+        let count = count_lasting(self.pattern.items());
+        let facts = facts_of(context, name, message, &self.civil);
+        let start = line.len();
+        write_items(
+            line,
+            &self.pattern.items()[..count],
+            self.pattern.text_limit(),
+            &facts,
+        );
+        self.first.clear();
+        self.count = match self.first.try_extend_from_slice(&line.as_slice()[start..]) {
+            Ok(()) => count,
+            Err(_) => 0,
+        };
+        line.cut(start);
     }
 }

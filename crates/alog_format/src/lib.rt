@@ -9,7 +9,7 @@
 //! Read `line_buf.rt` with `specs/Buffer.antt`, and `block.rt`, the raw block under it, with `specs/Block.antt` and
 //! `specs/Ownership.antt`; `context.rt` and `civil.rt` with `specs/Civil.antt`, `clip.rt` with `specs/Clip.antt`,
 //! `names.rt`, `times.rt` and `flag_texts.rt` with `specs/Text.antt`, `pads.rt`, and `lines.rt` and
-//! `formatter.rt` with `specs/Line.antt`; `laws.rt` states that a message has no two lines.
+//! `formatter.rt` with `specs/Line.antt`, `lasting.rt` with `specs/Lasting.antt`; `laws.rt` states that a message has no two lines.
 #![tactic(auto)]
 
 mod block;
@@ -18,6 +18,7 @@ mod clip;
 mod context;
 mod flag_texts;
 mod formatter;
+mod lasting;
 mod laws;
 mod line_buf;
 mod lines;

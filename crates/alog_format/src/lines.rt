@@ -38,9 +38,15 @@ pub(crate) fn write_line(
 }
 
 /// What a line of the message shows.
-fn facts_of<'a>(context: &Context, name: &'a str, message: &'a Message, at: &'a Civil) -> Facts<'a>
+pub(crate) fn facts_of<'a>(
+    context: &Context,
+    name: &'a str,
+    message: &'a Message,
+    at: &'a Civil,
+) -> Facts<'a>
     requires { IsShownAt context.now.zone message.now.time at.now }
     ensures shown { IsShown context.now name.now message.now (shown_by result) }
+    ensures at { result.at.now ≡ at.now }
     ensures source { SourceFits message.now.source }
     ensures thread { message.now.thread < 2 ^ 64 }
     ensures process { context.now.process < 2 ^ 32 }
@@ -63,7 +69,7 @@ fn facts_of<'a>(context: &Context, name: &'a str, message: &'a Message, at: &'a 
 }
 
 /// Appends the texts of items in order, and leaves room for a newline.
-fn write_items(line: &mut LineBuf, items: &[Item], text_limit: usize, facts: &Facts<'_>)
+pub(crate) fn write_items(line: &mut LineBuf, items: &[Item], text_limit: usize, facts: &Facts<'_>)
     requires showable { IsShowable text_limit (shown_by facts.now) }
     requires room { length line.old.bytes + sum_by (item_len text_limit) items.now < line.old.capacity }
     ensures written { line.new ≡ appended line.old (flat_map (item_text (shown_by facts.now)) items.now) }
@@ -111,7 +117,7 @@ fn write_function(line: &mut LineBuf, width: u8, side: Side, facts: &Facts<'_>)
 }
 
 /// Appends bytes for which there is room.
-fn put(line: &mut LineBuf, bytes: &[u8])
+pub(crate) fn put(line: &mut LineBuf, bytes: &[u8])
     requires { length line.old.bytes + length bytes.now ≤ line.old.capacity }
     ensures { line.new ≡ appended line.old bytes.now }
 {

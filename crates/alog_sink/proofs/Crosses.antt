@@ -21,9 +21,10 @@ use Rattle.alog_pattern.specs.contracts.patterns.Pattern as Pattern
 use Rattle.alog_pattern.specs.contracts.patterns.Pattern.TheInside as PatternInside
 use Rattle.alog_sink.specs.contracts.diary.Diary as Diary
 use Rattle.alog_sink.specs.contracts.diary.Diary.TheInside as DiaryInside
-use Rattle.alog_sink.specs.contracts.face.Face as Face
 use Rattle.alog_sink.specs.contracts.face.Names as Names
 use Rattle.alog_sink.specs.contracts.face.Names.TheInside as NamesInside
+use Rattle.alog_sink.specs.contracts.face.Scribe as Scribe
+use Rattle.alog_sink.specs.contracts.face.Scribe.TheInside as ScribeInside
 use Rattle.alog_sink.specs.contracts.fan.Fan as Fan
 use Rattle.alog_sink.specs.contracts.fan.Fan.TheInside as FanInside
 use Rattle.alog_sink.specs.contracts.leaf.Leaf as Leaf
@@ -62,8 +63,17 @@ names_inside_send = search (sendable, crosses, Vec-send, text_send) depth 20
 names_send : IsSend Names.the_row
 names_send = view_send _ _ _ _ _ names_inside_send
 
-face_send : IsSend (Face.the_field).row
-face_send = search (sendable, crosses, pattern_send, names_send) depth 20
+formatter_inside_send : IsSend FormatterInside.the_row
+formatter_inside_send = search (sendable, crosses, pattern_send) depth 30 fits 50000
+
+formatter_send : IsSend Formatter.the_row
+formatter_send = view_send _ _ _ _ _ formatter_inside_send
+
+scribe_inside_send : IsSend ScribeInside.the_row
+scribe_inside_send = search (sendable, crosses, formatter_send, names_send) depth 30 fits 50000
+
+scribe_send : IsSend Scribe.the_row
+scribe_send = view_send _ _ _ _ _ scribe_inside_send
 
 rotation_inside_send : IsSend RotationInside.the_row
 rotation_inside_send = search (sendable, crosses, Vec-send, String-send) depth 20
@@ -86,15 +96,9 @@ diary_send = view_send _ _ _ _ _ diary_inside_send
 target_send : IsSend (Target.the_field).row
 target_send = search (sendable, crosses, text_send, rotation_send, diary_send) depth 20
 
-formatter_inside_send : IsSend FormatterInside.the_row
-formatter_inside_send = search (sendable, crosses) depth 30 fits 50000
-
-formatter_send : IsSend Formatter.the_row
-formatter_send = view_send _ _ _ _ _ formatter_inside_send
-
 leaf_inside_send : (S : RattleType) → IsSend S → IsSend (LeafInside.the_row S)
 leaf_inside_send S s = recorded_send (LeafInside.the_field S).row _ _ (LeafInside.the_type S).to_one (struct_send
-    (shape (LeafInside.the_type S)) (face_send, (target_send, (s, (search sendable, (formatter_send, tt))))))
+    (shape (LeafInside.the_type S)) (scribe_send, (target_send, (s, (search sendable, tt)))))
 
 leaf_send : (S : RattleType) → IsSend S → IsSend (Leaf.the_row S)
 leaf_send S s = view_send _ _ _ _ _ (leaf_inside_send S s)

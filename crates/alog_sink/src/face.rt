@@ -1,10 +1,11 @@
 //! How a sink writes its lines.
 ghost use Rattle.std.specs.Prelude.{◌≡◌, ◌↔◌, ◌<◌, ◌≤◌, ◌∷◌, ◌++◌, [], length, IfOk, IsErrOf, OnOk, OnErr};
+ghost use Rattle.alog_format.specs.Civil.{IsZone};
 ghost use Rattle.alog_format.specs.Line.{AppendsLine};
 ghost use Rattle.alog_pattern.specs.Compiled.{longest};
 ghost use Rattle.alog_sink.specs.Lines.{name_of};
 
-use alog_format::{Context, Formatter, LineBuf};
+use alog_format::{Context, Formatter, LineBuf, Zone};
 use alog_msg::{LOGGER_NAME_MAX, Level, Message, Text};
 use alog_pattern::Pattern;
 use std::alloc::{AllocError, Global};
@@ -101,9 +102,51 @@ pub struct Face {
     pub names: Names,
 }
 
-impl Face {
+/// A face that writes lines. Contracts see it as the face.
+#[derive(Debug, Drop)]
+pub struct Scribe {
+    level: Level,
+    context: Context,
+    names: Names,
+    formatter: Formatter,
+}
+
+impl Model for Scribe {
+    ghost use Rattle.alog_sink.specs.declared.face.Face.{Face};
+
+    ghost Value = { Face };
+
+    ghost view = { λ s. record { level = s.level; pattern = s.formatter.pattern; context = s.context; names = s.names } };
+}
+
+impl Scribe {
     ghost use Rattle.std.specs.Prelude.{IsTrue};
     ghost use Rattle.alog_sink.specs.Lines.{admits, MayWrite, IsLineOf};
+
+    pub(crate) fn new(face: Face) -> Scribe
+        ensures { result ≡ face }
+    {
+        let Face {
+            level,
+            pattern,
+            context,
+            names,
+        } = face;
+        Scribe {
+            level,
+            context,
+            names,
+            formatter: Formatter::new(pattern),
+        }
+    }
+
+    /// Where the clock of the lines stands.
+    pub(crate) fn zone(&self) -> Zone
+        ensures value { result ≡ self.now.context.zone }
+        ensures zone { IsZone result }
+    {
+        self.context.zone
+    }
 
     /// Whether a message of this level is taken.
     pub(crate) fn admits(&self, level: Level) -> bool
@@ -116,22 +159,19 @@ impl Face {
     pub(crate) fn may_write(&self, message: &Message, line: &LineBuf) -> bool
         ensures { IsTrue result ↔ MayWrite self.now message.now line.now.capacity }
     {
-        message.text.len() <= self.pattern.text_limit() && self.pattern.longest() <= line.capacity()
+        let pattern = self.formatter.pattern();
+        message.text.len() <= pattern.text_limit() && pattern.longest() <= line.capacity()
     }
 
     /// Writes a message's line into the buffer, in place of what was there.
-    pub(crate) fn write(&self, formatter: &mut Formatter, message: &Message, line: &mut LineBuf)
-        requires { MayWrite self.now message.now line.old.capacity }
-        ensures line { IsLineOf self.now message.now line.new.bytes }
+    pub(crate) fn write(&mut self, message: &Message, line: &mut LineBuf)
+        requires { MayWrite self.old message.now line.old.capacity }
+        ensures line { IsLineOf self.old message.now line.new.bytes }
         ensures capacity { line.new.capacity ≡ line.old.capacity }
+        ensures same { self.new ≡ self.old }
     {
         line.clear();
-        formatter.format(
-            &self.pattern,
-            &self.context,
-            self.names.get(message.logger),
-            message,
-            line,
-        );
+        let name = self.names.get(message.logger);
+        self.formatter.format(&self.context, name, message, line);
     }
 }

@@ -3,10 +3,10 @@ ghost use Rattle.std.specs.Prelude.{◌≡◌, ◌↔◌, ◌⊎◌, IsTrue, tru
 ghost use Rattle.alog_sink.specs.Lines.{MayWrite, admits};
 ghost use Rattle.alog_sink.specs.Turn.{Takes, Flushes};
 
-use crate::face::Face;
+use crate::face::{Face, Scribe};
 use crate::store::{Store, StoreError};
 use crate::target::Target;
-use alog_format::{Formatter, LineBuf};
+use alog_format::LineBuf;
 use alog_msg::Message;
 use std::marker::Model;
 use thiserror::Error;
@@ -36,12 +36,10 @@ pub enum SinkError {
 /// Contracts see its face, its target, its store, and whether it is broken.
 #[derive(Debug, Drop)]
 pub struct Leaf<S> {
-    face: Face,
+    face: Scribe,
     target: Target,
     store: S,
     broken: bool,
-    // Remembers the second of the last line.
-    formatter: Formatter,
 }
 
 impl<S> Model for Leaf<S> {
@@ -58,11 +56,10 @@ impl<S: Store> Leaf<S> {
         ensures { result ≡ record { face = face; target = target; store = store; broken = false } }
     {
         Leaf {
-            face,
+            face: Scribe::new(face),
             target,
             store,
             broken: false,
-            formatter: Formatter::new(),
         }
     }
 
@@ -104,8 +101,8 @@ impl<S: Store> Leaf<S> {
         ensures takes { Takes S.tells S.files S.failures self.old message.now result self.new }
         ensures capacity { line.new.capacity ≡ line.old.capacity }
     {
-        self.face.write(&mut self.formatter, message, line);
-        let zone = self.face.context.zone;
+        self.face.write(message, line);
+        let zone = self.face.zone();
         match self
             .target
             .put(&mut self.store, zone, message, line.as_slice())
