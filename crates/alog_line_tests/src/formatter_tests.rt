@@ -11,16 +11,15 @@ const PATTERN: &[u8] = b"%Y-%m-%d %T.%F %a %z";
 fn write(
     rt: &(impl Abort + AllocGlobal),
     formatter: &mut Formatter,
-    pattern: &Pattern,
     context: &Context,
     time: i64,
     line: &mut LineBuf,
 ) {
     let message = message(rt, at(time));
     line.clear();
-    assert!(rt; message.text.len() <= pattern.text_limit());
-    assert!(rt; pattern.longest() <= line.room());
-    formatter.format(pattern, context, "", &message, line);
+    assert!(rt; message.text.len() <= formatter.pattern().text_limit());
+    assert!(rt; formatter.pattern().longest() <= line.room());
+    formatter.format(context, "", &message, line);
 }
 
 /// Writes it by the function that remembers nothing.

@@ -1,5 +1,5 @@
 //! How a sink writes its lines.
-ghost use Rattle.std.specs.Prelude.{◌≡◌, ◌↔◌, ◌<◌, ◌≤◌, ◌∷◌, ◌++◌, [], length, IfOk, IsErrOf, OnOk, OnErr};
+ghost use Rattle.std.specs.Prelude.{◌≡◌, ◌↔◌, ◌<◌, IsTrue, ◌≤◌, ◌∷◌, ◌++◌, [], length, IfOk, IsErrOf, OnOk, OnErr};
 ghost use Rattle.alog_format.specs.Civil.{IsZone};
 ghost use Rattle.alog_format.specs.Line.{AppendsLine};
 ghost use Rattle.alog_pattern.specs.Compiled.{longest};
@@ -120,7 +120,6 @@ impl Model for Scribe {
 }
 
 impl Scribe {
-    ghost use Rattle.std.specs.Prelude.{IsTrue};
     ghost use Rattle.alog_sink.specs.Lines.{admits, MayWrite, IsLineOf};
 
     pub(crate) fn new(face: Face) -> Scribe
@@ -138,6 +137,12 @@ impl Scribe {
             names,
             formatter: Formatter::new(pattern),
         }
+    }
+
+    fn pattern(&self) -> &Pattern
+        ensures { result.now ≡ self.now.pattern }
+    {
+        self.formatter.pattern()
     }
 
     /// Where the clock of the lines stands.
@@ -159,8 +164,7 @@ impl Scribe {
     pub(crate) fn may_write(&self, message: &Message, line: &LineBuf) -> bool
         ensures { IsTrue result ↔ MayWrite self.now message.now line.now.capacity }
     {
-        let pattern = self.formatter.pattern();
-        message.text.len() <= pattern.text_limit() && pattern.longest() <= line.capacity()
+        has_room(self.pattern(), message, line)
     }
 
     /// Writes a message's line into the buffer, in place of what was there.
@@ -174,4 +178,11 @@ impl Scribe {
         let name = self.names.get(message.logger);
         self.formatter.format(&self.context, name, message, line);
     }
+}
+
+/// Whether a message keeps to the limit of a pattern, and the buffer has room for the pattern's longest line.
+fn has_room(pattern: &Pattern, message: &Message, line: &LineBuf) -> bool
+    ensures { IsTrue result ↔ ((length message.now.text ≤ pattern.now.text_limit) × (longest pattern.now ≤ line.now.capacity)) }
+{
+    message.text.len() <= pattern.text_limit() && pattern.longest() <= line.capacity()
 }

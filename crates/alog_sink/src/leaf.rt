@@ -101,8 +101,8 @@ impl<S: Store> Leaf<S> {
         ensures takes { Takes S.tells S.files S.failures self.old message.now result self.new }
         ensures capacity { line.new.capacity ≡ line.old.capacity }
     {
-        self.face.write(message, line);
         let zone = self.face.zone();
+        self.face.write(message, line);
         match self
             .target
             .put(&mut self.store, zone, message, line.as_slice())

@@ -6,14 +6,16 @@ pub returns-in-Ok-clause-takes : goal.returns-in-Ok-clause-takes
 returns-in-Ok-clause-takes g c =
     let i = c.self.inside in
     let v : LeafView g.row.S.Denot = record { face = i.face; target = i.target; store = i.store; broken = i.broken } in
-    given_wrote g.S.Store.tells g.S.Store.files g.S.Store.failures c.args.self.now v c.self.view_is c.put.new.self c.put.new.store
+    let kept = rw c.zone-zone.ensures.value at c.put.ensures.kept in
+    rw c.write.ensures.same (given_wrote g.S.Store.tells g.S.Store.files g.S.Store.failures c.args.self.now v c.self.view_is c.put.new.self c.put.new.store
     c.args.message.now c.as_slice.result.now c.write.new.line.bytes c.requires.whole c.requires.admits c.as_slice.ensures
-    c.write.ensures.line c.put.ensures.same c.in-Ok.field-0 c.put.result c.in-Ok.is c.put.ensures.counted c.put.ensures.kept
+    c.write.ensures.line c.put.ensures.same c.in-Ok.field-0 c.put.result c.in-Ok.is c.put.ensures.counted kept)
 
 pub returns-in-Err-clause-takes : goal.returns-in-Err-clause-takes
 returns-in-Err-clause-takes g c =
     let i = c.self.inside in
     let v : LeafView g.row.S.Denot = record { face = i.face; target = i.target; store = i.store; broken = i.broken } in
-    given_fault g.S.Store.tells g.S.Store.files g.S.Store.failures c.args.self.now v c.self.view_is c.put.new.self c.put.new.store
+    let does = rw c.zone-zone.ensures.value at c.put.ensures.does in
+    rw c.write.ensures.same (given_fault g.S.Store.tells g.S.Store.files g.S.Store.failures c.args.self.now v c.self.view_is c.put.new.self c.put.new.store
     c.args.message.now c.as_slice.result.now c.write.new.line.bytes c.requires.whole c.requires.admits c.as_slice.ensures
-    c.write.ensures.line c.put.ensures.same c.in-Err.field-0 c.put.result c.in-Err.is c.put.ensures.counted c.put.ensures.does
+    c.write.ensures.line c.put.ensures.same c.in-Err.field-0 c.put.result c.in-Err.is c.put.ensures.counted does)
