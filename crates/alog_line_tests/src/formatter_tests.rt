@@ -40,9 +40,8 @@ fn write_alone(
 // By one formatter, in this order. The texts are those of Python's `datetime`.
 #[test]
 fn remembers_a_second(rt: HostRuntime) {
-    let pattern = compiled(&rt, PATTERN);
-    let mut line = buffer(&rt, pattern.longest());
-    let mut formatter = Formatter::new();
+    let mut formatter = Formatter::new(compiled(&rt, PATTERN));
+    let mut line = buffer(&rt, formatter.pattern().longest());
     for (context, time, text) in [
         (UTC, 0, "1970-01-01 00:00:00.000000000 Thu +00:00\n"),
         (
@@ -86,7 +85,7 @@ fn remembers_a_second(rt: HostRuntime) {
             "2262-04-11 23:47:16.000000000 Fri +00:00\n",
         ),
     ] {
-        write(&rt, &mut formatter, &pattern, &context, time, &mut line);
+        write(&rt, &mut formatter, &context, time, &mut line);
         assert!(&rt; line.as_slice() == text.as_bytes(), "{text}");
     }
 }
@@ -104,30 +103,41 @@ const TIMES: [i64; 9] = [
     i64::MAX,
 ];
 
+// Whole seconds first, milliseconds first, none at all, padded ones, and more than a formatter remembers.
+const PATTERNS: [&[u8]; 5] = [
+    PATTERN,
+    b"%e:%S %F %c",
+    b"%v",
+    b"%a %8H %S",
+    b"%c %c %c %A %B %r",
+];
+
 /// One formatter after these two messages writes what `format` does.
 fn writes_as_alone(
     rt: &(impl Abort + AllocGlobal),
-    pattern: &Pattern,
+    pattern: &[u8],
     first: (Context, i64),
     second: (Context, i64),
 ) {
-    let mut formatter = Formatter::new();
+    let mut formatter = Formatter::new(compiled(rt, pattern));
+    let pattern = compiled(rt, pattern);
     let mut line = buffer(rt, pattern.longest());
     let mut alone = buffer(rt, pattern.longest());
-    write(rt, &mut formatter, pattern, &first.0, first.1, &mut line);
-    write(rt, &mut formatter, pattern, &second.0, second.1, &mut line);
-    write_alone(rt, pattern, &second.0, second.1, &mut alone);
+    write(rt, &mut formatter, &first.0, first.1, &mut line);
+    write(rt, &mut formatter, &second.0, second.1, &mut line);
+    write_alone(rt, &pattern, &second.0, second.1, &mut alone);
     assert!(rt; line.as_slice() == alone.as_slice(), "{second:?}");
 }
 
 #[test]
 fn writes_any_second_after_any(rt: HostRuntime) {
-    let pattern = compiled(&rt, PATTERN);
-    for before in TIMES {
-        for after in TIMES {
-            writes_as_alone(&rt, &pattern, (UTC, before), (UTC, after));
-            writes_as_alone(&rt, &pattern, (UTC, before), (EAST, after));
-            writes_as_alone(&rt, &pattern, (WEST, before), (UTC, after));
+    for pattern in PATTERNS {
+        for before in TIMES {
+            for after in TIMES {
+                writes_as_alone(&rt, pattern, (UTC, before), (UTC, after));
+                writes_as_alone(&rt, pattern, (UTC, before), (EAST, after));
+                writes_as_alone(&rt, pattern, (WEST, before), (UTC, after));
+            }
         }
     }
 }

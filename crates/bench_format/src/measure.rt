@@ -68,7 +68,6 @@ fn figures_of(time: Duration, bytes: u32) -> Figures {
 fn run_all<R>(
     rt: &R,
     way: &mut Way,
-    pattern: &Pattern,
     messages: &mut [Message],
     line: &mut LineBuf,
     step: i64,
@@ -77,10 +76,10 @@ where
     R: Clock + AllocGlobal,
 {
     let mut times = Vec::new(rt.alloc());
-    let wanted = write_lines(way, pattern, messages, line, step)?;
+    let wanted = write_lines(way, messages, line, step)?;
     for _ in 0..RUNS {
         let start = Instant::now(rt)?;
-        let bytes = write_lines(way, pattern, messages, line, step)?;
+        let bytes = write_lines(way, messages, line, step)?;
         times.push(start.elapsed(rt)?)?;
         ensure!(bytes == wanted, "two runs differ");
     }
@@ -88,15 +87,21 @@ where
     Ok((bytes, times))
 }
 
+fn pattern<R>(rt: &R) -> Result<Pattern>
+where
+    R: AllocGlobal,
+{
+    Ok(Pattern::compile(rt.alloc(), PATTERN, TEXT_LIMIT)?)
+}
+
 fn measure_case<R>(rt: &R, case: Case, name: &str, mut way: Way) -> Result<()>
 where
     R: Clock + Print + AllocGlobal,
 {
-    let pattern = Pattern::compile(rt.alloc(), PATTERN, TEXT_LIMIT)?;
     let mut messages = messages(rt.alloc(), case.size)?;
-    let mut line = LineBuf::new(rt.alloc(), pattern.longest())?;
-    let (bytes, mut times) = run_all(rt, &mut way, &pattern, &mut messages, &mut line, case.step)?;
-    let sum = checksum(&mut way, &pattern, &mut messages, &mut line, case.step)?;
+    let mut line = LineBuf::new(rt.alloc(), way.longest())?;
+    let (bytes, mut times) = run_all(rt, &mut way, &mut messages, &mut line, case.step)?;
+    let sum = checksum(&mut way, &mut messages, &mut line, case.step)?;
     times.sort_unstable();
     let best = figures_of(*times.first().context("no run")?, bytes);
     let middle = figures_of(*times.get(times.len() / 2).context("no run")?, bytes);
@@ -129,8 +134,9 @@ where
     R: Clock + Print + AllocGlobal,
 {
     for case in CASES {
-        measure_case(rt, case, "alog ", Way::Remembering(Formatter::new()))?;
-        measure_case(rt, case, "alone", Way::Alone)?;
+        let formatter = Formatter::new(pattern(rt)?);
+        measure_case(rt, case, "alog ", Way::Remembering(formatter))?;
+        measure_case(rt, case, "alone", Way::Alone(pattern(rt)?))?;
     }
     Ok(())
 }

@@ -1,4 +1,7 @@
 //! The loop that is timed.
+ghost use Rattle.std.specs.Prelude.{◌+◌, ◌≤◌, OnOk, length};
+ghost use Rattle.alog_pattern.specs.Compiled.{longest};
+
 use alog_format::{Context, Formatter, LineBuf, Zone, format};
 use alog_msg::Message;
 use alog_pattern::Pattern;
@@ -21,28 +24,52 @@ const UTC: Context = Context {
 #[derive(Drop)]
 pub enum Way {
     /// By `format`, each for itself.
-    Alone,
+    Alone(Pattern),
     /// By one formatter, which remembers the last second, as spdlog's does.
     Remembering(Formatter),
 }
 
-/// Makes the line of a message.
+impl Way {
+    fn pattern(&self) -> &Pattern {
+        match self {
+            Way::Alone(pattern) => pattern,
+            Way::Remembering(formatter) => formatter.pattern(),
+        }
+    }
+
+    /// The bytes of the longest line.
+    pub fn longest(&self) -> usize {
+        self.pattern().longest()
+    }
+}
+
+/// Empties the buffer for the line of a message, which fits there.
 #[inline(always)]
-fn write_line(
-    way: &mut Way,
-    pattern: &Pattern,
-    message: &Message,
-    line: &mut LineBuf,
-) -> Result<()> {
+fn make_room(pattern: &Pattern, message: &Message, line: &mut LineBuf) -> Result<()>
+    ensures { OnOk result ((length message.now.text ≤ pattern.now.text_limit)
+        × (length line.new.bytes + longest pattern.now ≤ line.new.capacity)) }
+{
     line.clear();
     ensure!(
         message.text.len() <= pattern.text_limit(),
         "a text is too long"
     );
     ensure!(pattern.longest() <= line.room(), "a line has no room");
+    Ok(())
+}
+
+/// Makes the line of a message.
+#[inline(always)]
+fn write_line(way: &mut Way, message: &Message, line: &mut LineBuf) -> Result<()> {
     match way {
-        Way::Alone => format(pattern, &UTC, NAME, message, line),
-        Way::Remembering(formatter) => formatter.format(pattern, &UTC, NAME, message, line),
+        Way::Alone(pattern) => {
+            make_room(pattern, message, line)?;
+            format(pattern, &UTC, NAME, message, line);
+        }
+        Way::Remembering(formatter) => {
+            make_room(formatter.pattern(), message, line)?;
+            formatter.format(&UTC, NAME, message, line);
+        }
     }
     Ok(())
 }
@@ -51,7 +78,6 @@ fn write_line(
 /// of all lines. This is what is timed.
 pub fn write_lines(
     way: &mut Way,
-    pattern: &Pattern,
     messages: &mut [Message],
     line: &mut LineBuf,
     step: i64,
@@ -62,7 +88,7 @@ pub fn write_lines(
         for message in messages.iter_mut() {
             message.time = time;
             time = time.wrapping_add(step);
-            write_line(way, pattern, message, line)?;
+            write_line(way, message, line)?;
             bytes = bytes.wrapping_add(line.len() as u64);
         }
     }
@@ -72,7 +98,6 @@ pub fn write_lines(
 /// A number of all bytes of the lines of one round, to compare with that of `format.cpp`.
 pub fn checksum(
     way: &mut Way,
-    pattern: &Pattern,
     messages: &mut [Message],
     line: &mut LineBuf,
     step: i64,
@@ -82,7 +107,7 @@ pub fn checksum(
     for message in messages.iter_mut() {
         message.time = time;
         time = time.wrapping_add(step);
-        write_line(way, pattern, message, line)?;
+        write_line(way, message, line)?;
         for byte in line.as_slice() {
             sum = sum.wrapping_mul(31).wrapping_add(u64::from(*byte));
         }

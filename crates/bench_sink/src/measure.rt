@@ -43,7 +43,7 @@ impl Case {
         let alloc = rt.alloc();
         Ok(match self {
             Case::Bare => Target::Bare(pattern(alloc)?),
-            Case::Formatter => Target::Formatter(pattern(alloc)?, Formatter::new()),
+            Case::Formatter => Target::Formatter(Formatter::new(pattern(alloc)?)),
             Case::Fan => Target::Memory(fan(alloc)?),
             Case::Memory(kind) => Target::Memory(in_memory(alloc, kind)?),
             Case::Folder(kind) => Target::Folder(in_folder(alloc, kind, rt.clone()?, path)?),

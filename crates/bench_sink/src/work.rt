@@ -48,7 +48,7 @@ pub enum Target<R: Files> {
     /// `format` alone.
     Bare(Pattern),
     /// A formatter alone, which remembers the last second, as that of a sink does.
-    Formatter(Pattern, Formatter),
+    Formatter(Formatter),
     /// A sink over files in memory.
     Memory(Sink<MemStore>),
     /// A sink over files of a folder.
@@ -162,9 +162,9 @@ fn give<R: Files>(target: &mut Target<R>, message: &Message, line: &mut LineBuf)
             format(pattern, &UTC, NAME, message, line);
             Ok(())
         }
-        Target::Formatter(pattern, formatter) => {
-            make_room(pattern, message, line)?;
-            formatter.format(pattern, &UTC, NAME, message, line);
+        Target::Formatter(formatter) => {
+            make_room(formatter.pattern(), message, line)?;
+            formatter.format(&UTC, NAME, message, line);
             Ok(())
         }
         Target::Memory(sink) => take(sink, message, line),
@@ -175,7 +175,7 @@ fn give<R: Files>(target: &mut Target<R>, message: &Message, line: &mut LineBuf)
 /// Flushes what has a file.
 fn flush<R: Files>(target: &mut Target<R>) -> Result<()> {
     match target {
-        Target::Bare(_) | Target::Formatter(..) => Ok(()),
+        Target::Bare(_) | Target::Formatter(_) => Ok(()),
         Target::Memory(sink) => Ok(sink.flush()?),
         Target::Folder(sink) => Ok(sink.flush()?),
     }
