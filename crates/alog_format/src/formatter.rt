@@ -43,8 +43,8 @@ const FIRST_MAX: usize = 64;
 
 /// Appends the lines of a pattern as `format` does, and remembers the second of the last one, as spdlog's
 /// `pattern_formatter` does: the date and the time of day are worked out again only for a message of another second, or
-/// where another zone is asked for, and so is the text of the first items, as far as it is the same throughout a second
-/// and has at most 64 bytes.
+/// where another zone is asked for. From the second line of a second on it remembers the text of the first items too, as
+/// far as it is the same throughout a second and has at most 64 bytes.
 ///
 /// The test `remembers_a_second` of `alog_line_tests` shows one.
 #[derive(Debug, Drop)]
@@ -61,6 +61,8 @@ pub struct Formatter {
     count: usize,
     /// Their text in that second.
     first: ArrayVec<u8, FIRST_MAX>,
+    /// Whether the next line of that second is its second one, for which the first items are worth remembering.
+    is_fresh: bool,
 }
 
 impl Model for Formatter {
@@ -94,6 +96,7 @@ impl Formatter {
             civil: fields_of(at),
             count: 0,
             first: ArrayVec::new(),
+            is_fresh: true,
         }
     }
 
@@ -120,8 +123,8 @@ impl Formatter {
         put(line, b"\n");
     }
 
-    /// Shows what a clock shows at a message's time. In another second than the last one it remembers the first items
-    /// anew. The buffer is as it was.
+    /// Shows what a clock shows at a message's time, and remembers the first items at the second line of a second. The
+    /// buffer is as it was.
     fn turn_to(&mut self, context: &Context, name: &str, message: &Message, line: &mut LineBuf)
         requires text { length message.now.text ≤ self.old.pattern.text_limit }
         requires name { length name.now ≤ LOGGER_NAME_MAX }
@@ -130,7 +133,7 @@ impl Formatter {
         ensures same { self.new.pattern ≡ self.old.pattern }
         ensures line { line.new ≡ line.old }
     {
-        if self.show(context.zone, message.time) {
+        if !self.show(context.zone, message.time) && self.is_fresh {
             self.remember(context, name, message, line);
         }
     }
@@ -149,6 +152,7 @@ impl Formatter {
             self.civil = fields_of(self.at);
             self.count = 0;
             self.first.clear();
+            self.is_fresh = true;
             true
         } else {
             false
@@ -175,6 +179,7 @@ impl Formatter {
             self.pattern.text_limit(),
             &facts,
         );
+        self.is_fresh = false;
         self.first.clear();
         self.count = match self.first.try_extend_from_slice(&line.as_slice()[start..]) {
             Ok(()) => count,

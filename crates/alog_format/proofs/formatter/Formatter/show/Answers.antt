@@ -1,4 +1,4 @@
-use Rattle.std.proofs.Common.{◌≡◌, ◌∙◌, false, not, nat_eq, ℕ, ℤ, pos, ◌+ℤ◌, ◌*ℤ◌, ap, arith, refl, sym, subst, unsigned_abs, FitsSigned, w64, rules}
+use Rattle.std.proofs.Common.{◌≡◌, ◌∙◌, false, true, not, nat_eq, ℕ, ℤ, pos, ◌+ℤ◌, ◌*ℤ◌, ap, arith, refl, sym, subst, unsigned_abs, FitsSigned, w64, rules}
 use Rattle.std.specs.Int.{int_div_euclid, int_rem_euclid}
 use Rattle.std.proofs.lemmas.Int.{to_z-of_z}
 use Rattle.std.proofs.lemmas.Bool.Decides.{nat_tests}
@@ -53,6 +53,7 @@ knows c =
             civil = w.fields_of-self-inside.result;
             count = 0;
             first = w.clear.new.self;
+            is_fresh = true;
           }) = record {
             pattern_is = refl;
             zone_is = refl;

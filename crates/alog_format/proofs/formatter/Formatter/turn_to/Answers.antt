@@ -8,13 +8,13 @@ remember-requires-clause-shown c =
     let time : FitsSigned w64 c.args.message.now.time = search rules in
     simp to_z-of_z at c.show.ensures.shown
 
-pub returns-then-show-clause-shown : goal.returns-then-show-clause-shown
-returns-then-show-clause-shown c =
+pub returns-then-self-clause-shown : goal.returns-then-self-clause-shown
+returns-then-self-clause-shown c =
     let time : FitsSigned w64 c.args.message.now.time = search rules in
     let shown = simp to_z-of_z at c.show.ensures.shown in
     (shown.0, shown.1, ap (λ (v : FormatterView). v.at) c.remember.ensures.same ∙ shown.2)
 
-pub returns-else-show-clause-shown : goal.returns-else-show-clause-shown
-returns-else-show-clause-shown c =
+pub returns-else-not-show-clause-shown : goal.returns-else-not-show-clause-shown
+returns-else-not-show-clause-shown c =
     let time : FitsSigned w64 c.args.message.now.time = search rules in
     simp to_z-of_z at c.show.ensures.shown
