@@ -1,4 +1,4 @@
-//! Measures `alog_format::format`, which writes a message out by a pattern.
+//! Measures a `Formatter` of `alog_format`, and its `format` alone, which write a message out by a pattern.
 //!
 //! With the word `measure` it prints the nanoseconds that a line takes; with no word it prints nothing. Read
 //! `messages.rt` (what is written), `work.rt` (the loop that is timed) and `measure.rt` (the runs, and what is printed).
