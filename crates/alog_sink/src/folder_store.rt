@@ -12,16 +12,21 @@ use std::rt::Files;
 /// How many bytes the buffer of a file holds before they are written.
 const BUFFER: usize = 64 * 1024;
 
+/// What stands before and behind the name of a file that a rename has set aside.
+const ASIDE: (&str, &str) = (".", ".replaced");
+
 /// The files of one folder of a file system.
 ///
 /// A file is opened by the first append to it, which makes it where it is absent, and stays open, with a buffer of 64 KiB,
 /// until it is renamed or removed. Its buffer is written when it is full, before a rename to or from its name, a removal
 /// and a size, at a flush, and when the store is dropped, which tells no failure. A call fails where the system refuses
-/// what it asks, a write of the buffer among it, where memory is wanting, and where a name leads out of the folder. What
-/// could not be written stays in the buffer, and the next call on that file tries it again.
+/// what it asks, a write of the buffer among it, where memory is wanting, and where a name leads out of the folder or is of
+/// the form `.X.replaced`. What could not be written stays in the buffer, and the next call on that file tries it again.
 ///
-/// The system may change files as it likes, so this store does not tell what it holds. `rename` is POSIX's: what had the
-/// name before is replaced in one step.
+/// The system may change files as it likes, so this store does not tell what it holds. A rename to `X` sets aside what had
+/// that name, as `.X.replaced`, and removes it when the file has its new name: some file systems, ext4 among them, write a
+/// file out before it may replace another. Where the system refuses one of these steps, those before it are undone. A
+/// process that is ended within a rename may leave `.X.replaced`, which the next rename to `X` removes.
 #[derive(Drop)]
 pub struct FolderStore<R: Files> {
     folder: Folder<R>,
@@ -75,10 +80,19 @@ struct Folder<R: Files> {
 impl<R: Files> Folder<R> {
     /// The path of a file in the folder.
     fn path_of(&self, name: &str) -> io::Result<PathBuf> {
-        if name.is_empty() || name == "." || name == ".." || name.contains('/') {
+        let is_outside = name.is_empty() || name == "." || name == ".." || name.contains('/');
+        if is_outside || name.starts_with(ASIDE.0) && name.ends_with(ASIDE.1) {
             return Err(ErrorKind::InvalidInput.into());
         }
         Ok(self.path.join(self.alloc, name)?)
+    }
+
+    /// The path at which what had a name is set aside.
+    fn path_aside(&self, name: &str) -> io::Result<PathBuf> {
+        let mut aside = String::from_str(self.alloc, ASIDE.0)?;
+        aside.push_str(name)?;
+        aside.push_str(ASIDE.1)?;
+        Ok(self.path.join(self.alloc, aside.as_str())?)
     }
 
     /// The place of a file among the open ones. It is opened where it is not there.
@@ -134,11 +148,36 @@ impl<R: Files> Folder<R> {
         self.write_out(from)?;
         self.write_out(to)?;
         let (old, new) = (self.path_of(from)?, self.path_of(to)?);
-        if is_done(fs::rename(&self.files, old, new))? {
+        let aside = self.path_aside(to)?;
+        if self.replace(&old, &new, &aside)? {
             self.close(from);
             self.close(to);
         }
         Ok(())
+    }
+
+    /// Renames a file, and tells whether it was there. What had the new name is set aside, and put back where that is not
+    /// done.
+    fn replace(&self, old: &PathBuf, new: &PathBuf, aside: &PathBuf) -> io::Result<bool> {
+        let is_aside = is_done(fs::rename(&self.files, new, aside))?;
+        let answer = self.replace_aside(old, new, aside);
+        if is_aside && !matches!(answer, Ok(true)) {
+            fs::rename(&self.files, aside, new)?;
+        }
+        answer
+    }
+
+    /// Renames a file to a name that is free, and removes what was set aside; where that is refused it has its old name
+    /// again. Tells whether the file was there.
+    fn replace_aside(&self, old: &PathBuf, new: &PathBuf, aside: &PathBuf) -> io::Result<bool> {
+        if !is_done(fs::rename(&self.files, old, new))? {
+            return Ok(false);
+        }
+        if let Err(e) = is_done(fs::remove_file(&self.files, aside)) {
+            fs::rename(&self.files, new, old)?;
+            return Err(e);
+        }
+        Ok(true)
     }
 
     fn remove(&mut self, name: &str) -> io::Result<()> {

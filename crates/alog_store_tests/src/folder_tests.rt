@@ -167,7 +167,32 @@ fn a_folder_that_is_not_there(rt: HostRuntime) -> Result<(), Fail> {
     clear(&rt, &path)
 }
 
-// A name with which no call but a flush is done, since it leads out of the folder, or no file can have it.
+// What an ended process left within a rename: the next one to that name removes it, whether there is a file or none.
+#[test]
+fn a_file_left_aside(rt: HostRuntime) -> Result<(), Fail> {
+    let path = scratch(&rt, "aside")?;
+    for name in ["a", "b", "c", ".b.replaced", ".c.replaced"] {
+        fs::write(&rt, path.join(rt.alloc(), name)?, name)?;
+    }
+    let mut store = open(rt, &path)?;
+    renames(&rt, &mut store, "none", "c", DONE);
+    has(&rt, &path, "c", b"c");
+    renames(&rt, &mut store, "a", "b", DONE);
+    has(&rt, &path, "b", b"a");
+    renames(&rt, &mut store, "b", "d", DONE);
+    has(&rt, &path, "d", b"a");
+    renames(&rt, &mut store, "d", "d", DONE);
+    has(&rt, &path, "d", b"a");
+    removes(&rt, &mut store, "c", DONE);
+    assert_eq!(rt; count(&rt, path.as_str()), 1);
+    drop(store);
+    clear(&rt, &path)
+}
+
+// Names with which no call but a flush is done: no file can have the last but one, the last is a rename's own, and the
+// others lead out of the folder.
+const NO_NAMES: [&str; 8] = ["", ".", "..", "/tmp/x", "below/x", "../x", "a\0b", ".file.replaced"];
+
 fn refuses_name<S: Store>(rt: &impl Abort, store: &mut S, name: &str) {
     appends(rt, store, name, b"x", FAILED);
     sizes(rt, store, name, Err(StoreError));
@@ -177,8 +202,7 @@ fn refuses_name<S: Store>(rt: &impl Abort, store: &mut S, name: &str) {
     flushes(rt, store, name, DONE);
 }
 
-// What the system refuses whoever asks: a folder where a file is to be, and a name with a zero byte. The others lead
-// out of the folder.
+// What the system refuses whoever asks is a folder where a file is to be. Where a file can't take its place, it is as it was.
 #[test]
 fn what_is_refused(rt: HostRuntime) -> Result<(), Fail> {
     let path = scratch(&rt, "refused")?;
@@ -188,10 +212,12 @@ fn what_is_refused(rt: HostRuntime) -> Result<(), Fail> {
     appends(&rt, &mut store, "below", b"x", FAILED);
     renames(&rt, &mut store, "file", "below", FAILED);
     removes(&rt, &mut store, "below", FAILED);
-    for name in ["", ".", "..", "/tmp/x", "below/x", "../x", "a\0b"] {
+    for name in NO_NAMES {
         refuses_name(&rt, &mut store, name);
     }
     has(&rt, &path, "file", b"kept");
+    assert_eq!(rt; count(&rt, path.as_str()), 2);
+    fs::remove_dir(&rt, path.join(rt.alloc(), "below")?)?;
     clear(&rt, &path)
 }
 
