@@ -3,9 +3,21 @@ use denote.RattleType.{RattleType}
 use denote.Param.Send.{IsSend, sendable, view_send, struct_send, recorded_send}
 use denote.Struct.Declared.{shape}
 use Rattle.std.proofs.Crossing.{crosses, frees, Vec-send, send as heap_send}
-use Rattle.std.proofs.MapsCrossing.{String-send, BTreeMap-send}
+use Rattle.std.proofs.MapsCrossing.{String-send}
 use Rattle.std.specs.contracts.alloc.Global as Global
 use Rattle.std.specs.contracts.impls.GlobalAllocator.TheImpl.{ghosts as alloc_ghosts}
+use Rattle.std.specs.declared.cmp.PartialEq as eq
+use Rattle.std.specs.declared.hash.BuildHasher as builder
+use Rattle.std.specs.declared.hash.Hash as hash
+use Rattle.std.specs.declared.hash.Hasher as hasher
+use Rattle.indexmap.specs.contracts.columns.Columns as Columns
+use Rattle.indexmap.specs.contracts.columns.Columns.TheInside as ColumnsInside
+use Rattle.indexmap.specs.contracts.index_table.Bucket as Bucket
+use Rattle.indexmap.specs.contracts.index_table.IndexTable as IndexTable
+use Rattle.indexmap.specs.contracts.index_table.IndexTable.TheInside as TableInside
+use Rattle.indexmap.specs.contracts.index_table.group.Group as Group
+use Rattle.indexmap.specs.contracts.map.IndexMap as IndexMap
+use Rattle.indexmap.specs.contracts.map.IndexMap.TheInside as MapInside
 use Rattle.circular_buffer.proofs.Crosses.{Cells-send, Deed-send}
 use Rattle.circular_buffer.specs.contracts.heap.HeapCircularBuffer as Dates
 use Rattle.circular_buffer.specs.contracts.heap.HeapCircularBuffer.TheInside as DatesInside
@@ -34,6 +46,8 @@ use Rattle.alog_sink.specs.contracts.names.Date as Date
 use Rattle.alog_sink.specs.contracts.rotation.Rotation as Rotation
 use Rattle.alog_sink.specs.contracts.rotation.Rotation.TheInside as RotationInside
 use Rattle.alog_sink.specs.contracts.sink.Sink as Sink
+use Rattle.alog_sink.specs.contracts.sorted_files.SortedFiles as SortedFiles
+use Rattle.alog_sink.specs.contracts.sorted_files.SortedFiles.TheInside as FilesInside
 use Rattle.alog_sink.specs.contracts.target.Target as Target
 
 line_inside_send : IsSend LineInside.the_row
@@ -42,8 +56,39 @@ line_inside_send = search (sendable, crosses, bytes-send, deed-send) depth 20
 pub line_send : IsSend LineBuf.the_row
 line_send = view_send _ _ _ _ _ line_inside_send
 
+bucket_send : IsSend Bucket.the_row
+bucket_send = search sendable depth 20
+
+group_send : IsSend Group.the_row
+group_send = search sendable depth 20
+
+table_inside_send : IsSend (TableInside.the_row Global.the_row alloc_ghosts)
+table_inside_send = search (sendable, Vec-send, bucket_send, group_send) depth 20
+
+table_send : IsSend (IndexTable.the_row Global.the_row alloc_ghosts)
+table_send = view_send _ _ _ _ _ table_inside_send
+
+columns_inside_send : (K V : RattleType) → IsSend K → IsSend V → IsSend (ColumnsInside.the_row K V Global.the_row alloc_ghosts)
+columns_inside_send K V k v = search (sendable, Vec-send) depth 20
+
+columns_send : (K V : RattleType) → IsSend K → IsSend V → IsSend (Columns.the_row K V Global.the_row alloc_ghosts)
+columns_send K V k v = view_send _ _ _ _ _ (columns_inside_send K V k v)
+
+module _ (K V S T : RattleType) (e : eq.Ghosts K.Denot) (h : hash.Ghosts K.Denot) (b : builder.Ghosts S.Denot T.Denot) (w : hasher.Ghosts T.Denot) where
+  map_inside_send : IsSend K → IsSend V → IsSend S → IsSend (MapInside.the_row K V S Global.the_row T e h b w alloc_ghosts)
+  map_inside_send k v s = search (sendable, columns_send, table_send) depth 20
+
+  map_send : IsSend K → IsSend V → IsSend S → IsSend (IndexMap.the_row K V S Global.the_row T e h b w alloc_ghosts)
+  map_send k v s = view_send _ _ _ _ _ (map_inside_send k v s)
+
+files_inside_send : IsSend FilesInside.the_row
+files_inside_send = search (sendable, crosses, String-send, Vec-send, map_send) depth 30 fits 50000
+
+files_send : IsSend SortedFiles.the_row
+files_send = view_send _ _ _ _ _ files_inside_send
+
 pub store_send : IsSend (MemStore.the_field).row
-store_send = search (sendable, crosses, String-send, Vec-send, BTreeMap-send) depth 30 fits 50000
+store_send = search (sendable, files_send) depth 20
 
 padding_send : IsSend Padding.the_row
 padding_send = search sendable depth 20

@@ -1,4 +1,5 @@
 mod Filed
+mod Placed
 mod NamesCut
 mod NamesDated
 mod RotatedRuns

@@ -7,6 +7,7 @@ pub mod RotationDeeds
 pub mod RotationOpen
 pub mod Daily
 pub mod DailyDeeds
+pub mod Listed
 pub mod Memory
 pub mod Fuse
 pub mod Lines

@@ -33,6 +33,7 @@ mod rotation_plain_tests;
 #[cfg(test)]
 mod rotation_tests;
 mod sink;
+mod sorted_files;
 mod store;
 mod target;
 mod turn;
