@@ -1,14 +1,14 @@
 -- What is built of a configuration fits together.
-use Rattle.std.proofs.Common.{◌≡◌, ◌<◌, ◌≤◌, ◌⊎◌, inl, inr, ℕ, zero, suc, ◌++◌, Bool, Option, None, Some, List, [], ◌∷◌, length, map, refl, sym, ap, subst, ◌∙◌, arith}
-use Rattle.std.specs.Prelude.{slice_get, IfSome}
-use Rattle.std.specs.List.{All, AllByRecursion, Any}
+use Rattle.std.proofs.Common.{◌≡◌, ◌<◌, inl, inr, ℕ, zero, suc, ◌++◌, Bool, Option, None, Some, List, [], ◌∷◌, length, map, refl, sym, ap, subst, ◌∙◌, arith}
+use Rattle.std.specs.Prelude.{slice_get}
+use Rattle.std.specs.List.{All, AllByRecursion}
 use Rattle.std.specs.Option.{option_map}
 use Rattle.std.proofs.lemmas.List.{length-map}
 use Rattle.std.proofs.lemmas.List.Elements.{All-from_recursion}
 use Rattle.std.proofs.lemmas.Option.{slice_get-map, slice_get_read, slice_get_within}
 use Rattle.alog_config.specs.Built.{Built, EachIs, ArePicked, IsBuiltAs, IsFaceOf, IsLeafOf, IsLoggerOf, IsNamed, IsPart, IsPlace}
 use Rattle.alog_config.specs.Fits.{LoggerFits, SinkSuits, Suits}
-use Rattle.alog_config.specs.Sound.{IsSound, IsSoundKind, IsSoundSink, IsSoundLogger, AreSoundSinks, AreSoundLoggers}
+use Rattle.alog_config.specs.Sound.{IsSound, IsSoundKind, AreSoundSinks, AreSoundLoggers}
 use Rattle.alog_config.specs.Values.{IsPattern}
 use Rattle.alog_config.specs.declared.config.Config.{Config}
 use Rattle.alog_config.specs.declared.config.LoggerConfig.{LoggerConfig}

@@ -1,5 +1,5 @@
 -- How what is built of a configuration fits together.
-use Rattle.std.specs.Prelude.{◌≤◌, ◌<◌, ℕ, List}
+use Rattle.std.specs.Prelude.{◌≤◌, ◌<◌, ℕ}
 use Rattle.std.specs.List.{All}
 use Rattle.alog_pattern.specs.Compiled.{longest}
 use Rattle.alog_registry.specs.declared.TheConstants.{MOST_KEPT}

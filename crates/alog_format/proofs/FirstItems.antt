@@ -1,19 +1,18 @@
 -- What lasts a second is what each line of that second shows.
-use Rattle.std.proofs.Common.{◌≡◌, ℕ, ◌+◌, ◌-◌, ◌≤◌, ◌<◌, Bool, true, false, List, [], ◌∷◌, ◌++◌, length, take, drop, sum_by, All, Some, None, zero, suc, ap, subst, get_or, refl, sym, ◌∙◌, arith, length-append, append_assoc, rules}
+use Rattle.std.proofs.Common.{◌≡◌, ℕ, ◌+◌, ◌-◌, ◌≤◌, ◌<◌, true, false, List, [], ◌∷◌, ◌++◌, length, take, drop, sum_by, All, Some, None, zero, suc, ap, subst, get_or, refl, sym, ◌∙◌, arith, length-append, append_assoc}
 use Rattle.std.specs.List.{flat_map}
 use Rattle.std.proofs.lemmas.Grind.{flat_map-append}
 use Rattle.std.proofs.Math.Seq.{drop-append_seam, take-length}
 use Rattle.std.proofs.lemmas.List.{length-drop, take-append-drop, take_all, take_more}
 use Rattle.std.proofs.lemmas.List.Sums.{sum_by-cons, sum_by-take-drop, sum_by-take-le}
 use Rattle.std.proofs.lemmas.List.Elements.{All-append}
-use Rattle.alog_pattern.specs.declared.flags.Flag.{Flag}
 use Rattle.alog_pattern.specs.declared.flags.Flag.TheVariants as flags
 use Rattle.alog_pattern.specs.declared.items.Item.{Item}
 use Rattle.alog_pattern.specs.declared.items.Item.TheVariants as items
 use Rattle.alog_pattern.specs.Length.{item_len}
 use Rattle.alog_format.specs.declared.civil.Civil.{Civil}
 use Rattle.alog_format.specs.Buffer.{Buffer, appended}
-use Rattle.alog_format.specs.Lasting.{AreFirst, flag_lasts, lasts, second_text}
+use Rattle.alog_format.specs.Lasting.{AreFirst, lasts, second_text}
 use Rattle.alog_format.specs.Line.{IsShowable, item_text}
 use Rattle.alog_format.specs.Text.{Shown, flag_text, time_text, short_weekday, short_month, date_and_time, short_date, half_day_time, short_time, time}
 use Rattle.alog_format.proofs.ItemTexts.{item_text_len}

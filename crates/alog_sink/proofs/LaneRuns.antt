@@ -10,7 +10,7 @@ use Rattle.alog_msg.specs.declared.item.Item.TheVariants.{Text, Flush, Stop}
 use Rattle.alog_msg.specs.declared.level.Level.{Level}
 use Rattle.alog_msg.specs.declared.message.Message.{Message}
 use Rattle.alog_sink.specs.Files.{Files}
-use Rattle.alog_sink.specs.LaneRuns.{History, Stood, AllStand, AreServed, with_text, texts_of, LaneWritesTexts, LaneFansTexts}
+use Rattle.alog_sink.specs.LaneRuns.{History, Stood, AllStand, AreServed, with_text, texts_of}
 use Rattle.alog_sink.specs.Lines.{admits, admitted}
 use Rattle.alog_sink.specs.Sinks.{Turns, as_taken, as_flushed}
 use Rattle.alog_sink.specs.Turn.{Answer, LeafView, FanView, EachDoes, StandsFor, Takes, Flushes, FanTakes, FanFlushes, first_fault}

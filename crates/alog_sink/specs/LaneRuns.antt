@@ -12,7 +12,6 @@ use Rattle.alog_sink.specs.Lines.{admitted}
 use Rattle.alog_sink.specs.Sinks.{Turns}
 use Rattle.alog_sink.specs.Turn.{LeafView, FanView, StandsFor}
 use Rattle.alog_sink.specs.declared.leaf.SinkError.{SinkError}
-use Rattle.alog_sink.specs.declared.sink.Sink.{Sink}
 use Rattle.alog_sink.specs.declared.sink.Sink.TheVariants.{Leaf, Fan}
 use Rattle.alog_sink.specs.declared.turn.Served.{Served}
 

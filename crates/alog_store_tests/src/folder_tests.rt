@@ -191,7 +191,16 @@ fn a_file_left_aside(rt: HostRuntime) -> Result<(), Fail> {
 
 // Names with which no call but a flush is done: no file can have the last but one, the last is a rename's own, and the
 // others lead out of the folder.
-const NO_NAMES: [&str; 8] = ["", ".", "..", "/tmp/x", "below/x", "../x", "a\0b", ".file.replaced"];
+const NO_NAMES: [&str; 8] = [
+    "",
+    ".",
+    "..",
+    "/tmp/x",
+    "below/x",
+    "../x",
+    "a\0b",
+    ".file.replaced",
+];
 
 fn refuses_name<S: Store>(rt: &impl Abort, store: &mut S, name: &str) {
     appends(rt, store, name, b"x", FAILED);

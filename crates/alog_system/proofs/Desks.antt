@@ -1,13 +1,12 @@
 -- What is so of each value in a desk is so after each call of it, and of what a step tells.
-use Rattle.std.proofs.Common.{◌≡◌, ◌<◌, ◌⊎◌, ℕ, cond, Bool, true, false, Option, None, Some, Result, Ok, Err, List, [], ◌∷◌, ◌++◌, length}
-use Rattle.std.proofs.Common.{zero, suc, refl, sym, ap, subst, ◌∙◌, inl, inr, get_or, set, get_or-set_same, arith}
+use Rattle.std.proofs.Common.{◌≡◌, ◌<◌, ◌⊎◌, ℕ, cond, Bool, true, false, Option, None, Some, Ok, Err, List, [], ◌∷◌, length}
+use Rattle.std.proofs.Common.{zero, suc, refl, ap, ◌∙◌, inl, inr, get_or, get_or-set_same}
 use Rattle.std.specs.Prelude.{◌==◌, ◌&&◌, ◌||◌, not, nat_lt, is_none, IsSome}
 use Rattle.std.specs.List.{All}
-use Rattle.std.proofs.lemmas.List.Elements.{All-nil, All-cons, All-head, All-tail, All-push, All-set, All-from_get_or, All-get_or, All-replicate}
+use Rattle.std.proofs.lemmas.List.Elements.{All-nil, All-cons, All-head, All-tail, All-push, All-set, All-replicate}
 use Rattle.alog_core.specs.Queue.{Cell, Queue, Event, Claim, Write, Grab, Take, Full, Empty, PushBusy, PopBusy, Spent, last, cell_of, marked, without}
-use Rattle.alog_core.specs.Queue.{start}
 use Rattle.alog_core.specs.Round.{Move, move_of, after_event, goes_on, makes, ends, taking, is_blocked, is_claimed}
-use Rattle.alog_core.specs.World.{Machine, fresh, round_of, is_idle, began, brought, next_move, stepped, said_of, told}
+use Rattle.alog_core.specs.World.{Machine, round_of, is_idle, began, brought, next_move, stepped, said_of, told}
 use Rattle.alog_core.specs.declared.TheConstants.{ACTORS}
 use Rattle.alog_core.specs.declared.mark.Mark.{Mark}
 use Rattle.alog_core.specs.declared.round.Round.{Round}

@@ -1,7 +1,7 @@
 -- What a step of a system adds to the history of its queue.
-use Rattle.std.proofs.Common.{◌≡◌, ℕ, ◌<◌, Bool, true, false, cond, Option, None, Some, List, [], ◌∷◌, ◌++◌, refl, sym, ap, subst, ◌∙◌, append-nil}
+use Rattle.std.proofs.Common.{◌≡◌, ℕ, ◌<◌, false, cond, Option, None, Some, List, [], ◌∷◌, ◌++◌, refl, sym, ap, subst, ◌∙◌}
 use Rattle.alog_core.specs.Queue.{Queue}
-use Rattle.alog_core.specs.History.{Entry, GoesOn, StandsFor}
+use Rattle.alog_core.specs.History.{GoesOn, StandsFor}
 use Rattle.alog_core.specs.Run.{entries_of_step}
 use Rattle.alog_core.specs.Staged.{IsReached}
 use Rattle.alog_core.specs.World.{is_idle, next_move, round_of, stepped, told}

@@ -1,10 +1,9 @@
 -- What loggers keep.
-use Rattle.std.proofs.Common.{◌≡◌, ◌<◌, ◌≤◌, ℕ, List, [], ◌∷◌, length, map, refl, sym, ap, ◌∙◌, get_or, set, arith}
-use Rattle.std.proofs.Common.{length-set, ◌+◌, ◌++◌, take, drop, zero, suc, Option, Some, None}
+use Rattle.std.proofs.Common.{◌≡◌, ◌<◌, ℕ, List, [], ◌∷◌, length, map, refl, sym, ap, ◌∙◌, get_or, set, arith}
+use Rattle.std.proofs.Common.{length-set, ◌+◌, ◌++◌, take, drop, zero, suc, Option, Some}
 use Rattle.std.specs.Prelude.{unwrap_or}
 use Rattle.std.proofs.Math.Seq.{map-set_same}
 use Rattle.alog_msg.specs.declared.level.Level.{Level}
-use Rattle.alog_msg.specs.declared.message.Message.{Message}
 use Rattle.alog_msg.specs.declared.limits.TheConstants.{MOST_TEXT_LIMIT}
 use Rattle.alog_registry.specs.Backtrace.{Room}
 use Rattle.alog_registry.specs.Listed.{spec_at}

@@ -1,5 +1,5 @@
 -- What the steps of a run answered.
-use Rattle.std.proofs.Common.{◌≡◌, ◌⊎◌, ℕ, Bool, true, false, Option, None, Some, Result, Ok, Err, List, [], ◌∷◌, ◌++◌, refl, sym, ap, subst, ◌∙◌, inl, inr}
+use Rattle.std.proofs.Common.{◌≡◌, ℕ, Bool, Option, None, Some, Result, Ok, Err, List, refl, sym, subst, inl, inr}
 use Rattle.std.specs.List.{AllByRecursion}
 use Rattle.alog_core.specs.Queue.{Event, Claim, Write, Grab, Take, Full, Empty, PushBusy, PopBusy, Spent}
 use Rattle.alog_core.specs.World.{next_move, said_of, brought, round_of, told}
@@ -7,7 +7,6 @@ use Rattle.alog_core.specs.declared.said.Said.{Said}
 use Rattle.alog_core.specs.declared.said.Said.TheVariants as said
 use Rattle.alog_msg.specs.declared.item.Item.{Item}
 use Rattle.alog_msg.specs.declared.item.Item.TheVariants as item
-use Rattle.alog_msg.specs.declared.message.Message.{Message}
 use Rattle.alog_policy.specs.Desk.{DeskView, desk_told, post_of, answer_of, said_in_post}
 use Rattle.alog_policy.specs.Runs.{StepMade, step_of}
 use Rattle.alog_policy.specs.declared.post.Post.{Post}
@@ -21,14 +20,13 @@ use Rattle.alog_sink.specs.Turn.{Answer}
 use Rattle.alog_sink.specs.declared.leaf.SinkError.{SinkError}
 use Rattle.alog_sink.specs.declared.leaf.Taken.TheVariants.{Below as WasBelow, Written}
 use Rattle.alog_sink.specs.declared.sink.Sink.{Sink}
-use Rattle.alog_system.specs.Outputs.{OutputsView, DoesTurn, told_of_text, told_of_flush}
+use Rattle.alog_system.specs.Outputs.{DoesTurn, told_of_text, told_of_flush}
 use Rattle.alog_system.specs.Runs.{Did, InQueue, OnSink, Keeping, Emptying, Made, Leads, starts, begins, steps, sets, made_by, did_by, Tells, SaysOf, IsOnSink}
 use Rattle.alog_system.specs.Step.{told_in_round, told_of_work}
 use Rattle.alog_system.specs.System.{SystemView, fresh_system, duty_of}
 use Rattle.alog_system.specs.declared.duty.Duty.{Duty}
 use Rattle.alog_system.specs.declared.duty.Duty.TheVariants.{Free, Keeps, Dumps, Posts, Works, Serves}
 use Rattle.alog_system.specs.declared.stepped.Stepped.{Stepped}
-use Rattle.alog_system.specs.declared.stepped.Stepped.TheVariants.{Round, Took, Turned}
 use Rattle.alog_system.specs.declared.stepped.Turn.{Turn}
 use Rattle.alog_system.proofs.RunCases.{Case, queued, kept, dumped, served, case_of}
 use Rattle.alog_system.proofs.RunSinks.{all_more}

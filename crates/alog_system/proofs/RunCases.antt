@@ -1,5 +1,5 @@
 -- What one step of a system was.
-use Rattle.std.proofs.Common.{◌≡◌, ℕ, ◌+◌, Bool, true, false, cond, Option, None, Some, List, length, refl, sym, ap, subst, ◌∙◌}
+use Rattle.std.proofs.Common.{◌≡◌, ℕ, ◌+◌, Bool, true, false, cond, Option, Some, length, refl, sym, ap, subst, ◌∙◌}
 use Rattle.std.specs.Prelude.{MatchBool, slice_get}
 use Rattle.alog_core.specs.World.{is_idle, round_of}
 use Rattle.alog_msg.specs.declared.item.Item.{Item}
@@ -12,7 +12,7 @@ use Rattle.alog_system.specs.Dump.{DumpView}
 use Rattle.alog_system.specs.Outputs.{OutputsView, Turns}
 use Rattle.alog_system.specs.Roster.{keeping, emptied, kept_at, policy_at, turns_for}
 use Rattle.alog_system.specs.Runs.{Did, InQueue, OnSink, Keeping, Emptying, on_sink, turn_of, did_by}
-use Rattle.alog_system.specs.Step.{SystemSteps, TurnTold, TurnSteps, RoundSteps, ServesOn, after_round, dumped_by, posting, told_in_round}
+use Rattle.alog_system.specs.Step.{SystemSteps, TurnTold, TurnSteps, RoundSteps, after_round, dumped_by, posting, told_in_round}
 use Rattle.alog_system.specs.System.{SystemView, duty_of, with_duty, with_outputs, with_roster}
 use Rattle.alog_system.specs.declared.duty.Duty.{Duty}
 use Rattle.alog_system.specs.declared.duty.Duty.TheVariants.{Free, Keeps, Dumps, Posts, Works, Serves}

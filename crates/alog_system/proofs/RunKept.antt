@@ -1,10 +1,10 @@
 -- What the loggers of a system keep after a run.
-use Rattle.std.proofs.Common.{◌≡◌, ◌≢◌, ◌⊎◌, ℕ, zero, suc, ◌+◌, ◌-◌, ◌<◌, ◌≤◌, ◌==◌, Bool, true, false, cond, List, [], ◌∷◌, ◌++◌, length, map, drop, get_or, set, refl, sym, ap, subst, ◌∙◌, arith, inl, inr}
-use Rattle.std.proofs.Common.{append_assoc, append-nil, get_or-set_same, get_or-set_other}
-use Rattle.std.proofs.lemmas.List.{length-append, length-drop, set-get_or}
+use Rattle.std.proofs.Common.{◌≡◌, ◌≢◌, ◌⊎◌, ℕ, zero, suc, ◌+◌, ◌-◌, ◌<◌, ◌≤◌, ◌==◌, Bool, cond, List, [], ◌∷◌, ◌++◌, length, map, drop, get_or, set, refl, sym, ap, subst, ◌∙◌, arith, inl, inr}
+use Rattle.std.proofs.Common.{get_or-set_same, get_or-set_other}
+use Rattle.std.proofs.lemmas.List.{length-append, length-drop}
 use Rattle.alog_core.proofs.Cells.{on_test}
 use Rattle.alog_msg.specs.declared.message.Message.{Message}
-use Rattle.alog_registry.specs.Backtrace.{Room, Keeps, last_of, kept_with, room_for}
+use Rattle.alog_registry.specs.Backtrace.{Room, Keeps, last_of, kept_with}
 use Rattle.alog_registry.specs.declared.logger.Logger.{Logger}
 use Rattle.alog_sink.specs.Files.{Files}
 use Rattle.alog_sink.specs.declared.sink.Sink.{Sink}

@@ -1,8 +1,8 @@
 -- A run of a system is a run of its desk.
-use Rattle.std.proofs.Common.{◌≡◌, ℕ, ◌+◌, ◌<◌, Bool, true, false, cond, Option, None, Some, Ok, Err, List, [], ◌∷◌, ◌++◌, length, refl, sym, ap, subst, ◌∙◌, arith}
+use Rattle.std.proofs.Common.{◌≡◌, ℕ, ◌+◌, ◌<◌, Bool, true, false, Option, None, Some, Ok, Err, List, [], ◌∷◌, ◌++◌, length, refl, sym, ap, subst, ◌∙◌, arith}
 use Rattle.std.proofs.Common.{append_assoc, append-nil, length-set}
 use Rattle.std.proofs.lemmas.List.{length-replicate}
-use Rattle.std.specs.Prelude.{◌&&◌, ◌==◌, not, IsSome}
+use Rattle.std.specs.Prelude.{◌&&◌, IsSome}
 use Rattle.alog_core.specs.World.{Machine, is_idle, round_of}
 use Rattle.alog_core.specs.declared.TheConstants.{ACTORS}
 use Rattle.alog_core.specs.declared.round.Round.{Round}
@@ -10,7 +10,7 @@ use Rattle.alog_core.specs.declared.round.Round.TheVariants as round
 use Rattle.alog_msg.specs.declared.item.Item.{Item}
 use Rattle.alog_msg.specs.declared.item.Item.TheVariants.{Text, Flush}
 use Rattle.alog_msg.specs.declared.message.Message.{Message}
-use Rattle.alog_policy.specs.Desk.{DeskView, fresh_desk, post_of, call_began, post_began, desk_told, desk_stepped, after_step, Follows, Stays, Ends, Leads as GoesTo, turn_to, follows as follows_in, value_in, with_said}
+use Rattle.alog_policy.specs.Desk.{DeskView, fresh_desk, post_of, call_began, post_began, desk_told, desk_stepped, after_step, Follows, Stays, Ends, Leads as GoesTo, turn_to}
 use Rattle.alog_policy.specs.Runs.{CallMade, called, ToPop, ToPost, StepMade, step_of, Plays, starts as plays_start, pushes, pops, posts, steps_on}
 use Rattle.alog_policy.specs.declared.counts.Counts.{Counts}
 use Rattle.alog_policy.specs.declared.policy.Policy.{Policy}
@@ -20,11 +20,11 @@ use Rattle.alog_policy.specs.declared.post.Stepped.{Stepped as DeskStepped}
 use Rattle.alog_registry.specs.declared.logger.Logger.{Logger}
 use Rattle.alog_sink.specs.Files.{Files}
 use Rattle.alog_sink.specs.declared.sink.Sink.{Sink}
-use Rattle.alog_system.specs.Begin.{MayBegin, begun, is_below, kept_after, message_by, posting_unless}
+use Rattle.alog_system.specs.Begin.{MayBegin, begun, is_below, message_by, posting_unless}
 use Rattle.alog_system.specs.Roster.{level_at, policy_at}
-use Rattle.alog_system.specs.Runs.{Did, InQueue, Made, Leads, starts, begins, steps, sets, made_by, did_by, in_queue, queue_steps}
-use Rattle.alog_system.specs.Step.{after_round, follows, posting, posting_on, dumped_by}
-use Rattle.alog_system.specs.System.{SystemView, fresh_system, duty_of, is_free, owes, with_desk, with_duty}
+use Rattle.alog_system.specs.Runs.{Did, Made, Leads, starts, begins, steps, sets, made_by, did_by, in_queue, queue_steps}
+use Rattle.alog_system.specs.Step.{follows, posting, posting_on, dumped_by}
+use Rattle.alog_system.specs.System.{SystemView, fresh_system, duty_of, with_desk}
 use Rattle.alog_system.specs.declared.deed.Deed.{Deed}
 use Rattle.alog_system.specs.declared.deed.Deed.TheVariants as deed
 use Rattle.alog_system.specs.declared.duty.Duty.{Duty}

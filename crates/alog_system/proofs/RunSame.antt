@@ -1,5 +1,5 @@
 -- What the calls of a system leave as it was.
-use Rattle.std.proofs.Common.{◌≡◌, ℕ, Bool, true, false, Option, None, Some, List, [], ◌∷◌, length, refl, sym, ap, subst, ◌∙◌, length-set}
+use Rattle.std.proofs.Common.{◌≡◌, ℕ, Bool, true, false, Option, None, Some, List, [], ◌∷◌, refl}
 use Rattle.alog_msg.specs.declared.item.Item.{Item}
 use Rattle.alog_msg.specs.declared.message.Message.{Message}
 use Rattle.alog_policy.specs.Desk.{desk_told, desk_stepped}
@@ -7,10 +7,9 @@ use Rattle.alog_policy.specs.declared.policy.Policy.{Policy}
 use Rattle.alog_policy.specs.declared.policy.Outcome.{Outcome}
 use Rattle.alog_policy.specs.declared.post.Stepped.{Stepped as DeskStepped}
 use Rattle.alog_system.specs.Begin.{begun, is_below, message_by, posting_unless}
-use Rattle.alog_system.specs.Outputs.{OutputsView}
-use Rattle.alog_system.specs.Roster.{RosterView, emptied, level_at, policy_at}
-use Rattle.alog_system.specs.Step.{after_round, follows, posting, posting_on, dumped_by}
-use Rattle.alog_system.specs.System.{SystemView, duty_of, with_desk, with_roster}
+use Rattle.alog_system.specs.Roster.{level_at}
+use Rattle.alog_system.specs.Step.{after_round, follows, posting, posting_on}
+use Rattle.alog_system.specs.System.{SystemView, duty_of, with_desk}
 use Rattle.alog_system.specs.declared.deed.Deed.{Deed}
 use Rattle.alog_system.specs.declared.deed.Deed.TheVariants as deed
 use Rattle.alog_system.specs.declared.duty.Duty.{Duty}

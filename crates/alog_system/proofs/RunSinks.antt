@@ -1,5 +1,5 @@
 -- What the sinks of a system stand for after a run.
-use Rattle.std.proofs.Common.{◌≡◌, ◌≢◌, ℕ, zero, suc, ◌+◌, ◌==◌, Bool, true, false, cond, Option, None, Some, Result, Ok, Err, List, [], ◌∷◌, ◌++◌, length, map, set, refl, sym, ap, subst, ◌∙◌}
+use Rattle.std.proofs.Common.{◌≡◌, ℕ, zero, suc, ◌+◌, ◌==◌, Bool, true, false, cond, Option, Some, Result, Ok, Err, List, [], ◌∷◌, ◌++◌, set, refl, sym, ap, subst, ◌∙◌}
 use Rattle.std.proofs.Common.{append_assoc, append-nil, is_ok}
 use Rattle.std.specs.Prelude.{slice_get}
 use Rattle.std.specs.List.{AllByRecursion}
@@ -20,15 +20,15 @@ use Rattle.alog_sink.specs.Files.{Files}
 use Rattle.alog_sink.specs.LaneRuns.{Stood, AllStand}
 use Rattle.alog_sink.specs.Lines.{admits, admitted}
 use Rattle.alog_sink.specs.Sinks.{SinkTakes, SinkFlushes, as_taken, as_flushed}
-use Rattle.alog_sink.specs.Turn.{Answer, LeafView, FanView, StandsFor}
+use Rattle.alog_sink.specs.Turn.{Answer}
 use Rattle.alog_sink.specs.declared.leaf.SinkError.{SinkError}
 use Rattle.alog_sink.specs.declared.leaf.Taken.{Taken}
 use Rattle.alog_sink.specs.declared.sink.Sink.{Sink}
 use Rattle.alog_sink.specs.declared.sink.Sink.TheVariants.{Leaf, Fan}
 use Rattle.alog_sink.specs.declared.turn.Served.{Served}
 use Rattle.alog_sink.proofs.LaneRuns.{fan_writes}
-use Rattle.alog_system.specs.Outputs.{OutputsView, Turns, DoesTurn, TextTurn, FlushTurn, told_of_text, told_of_flush}
-use Rattle.alog_system.specs.Runs.{Did, InQueue, OnSink, Made, Leads, starts, begins, steps, sets, made_by, did_by, text_in, given_in, given_to, IsFaultOn, leaves, handed, with_more, SinkStands}
+use Rattle.alog_system.specs.Outputs.{OutputsView, Turns, DoesTurn, told_of_text, told_of_flush}
+use Rattle.alog_system.specs.Runs.{Did, Made, Leads, starts, begins, steps, sets, made_by, did_by, text_in, given_in, given_to, IsFaultOn, leaves, handed, with_more, SinkStands}
 use Rattle.alog_system.specs.Roster.{emptied, policy_at}
 use Rattle.alog_system.specs.Step.{dumped_by}
 use Rattle.alog_system.specs.System.{SystemView, fresh_system, with_roster}

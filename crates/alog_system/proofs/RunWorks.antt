@@ -1,9 +1,9 @@
 -- Which turns on sinks the actors of a system have made after a run.
-use Rattle.std.proofs.Common.{◌≡◌, ◌≢◌, ◌⊎◌, inl, inr, ℕ, zero, suc, ◌+◌, ◌<◌, ◌≤◌, ◌==◌, Bool, true, false, cond, Option, None, Some, List, [], ◌∷◌, ◌++◌, length, drop, get_or, set, refl, sym, ap, subst, ◌∙◌, arith}
+use Rattle.std.proofs.Common.{◌≡◌, ◌≢◌, ◌⊎◌, inl, inr, ℕ, zero, suc, ◌+◌, ◌<◌, ◌≤◌, ◌==◌, Bool, true, false, cond, Option, None, Some, List, [], ◌∷◌, ◌++◌, length, drop, refl, sym, ap, subst, ◌∙◌, arith}
 use Rattle.std.proofs.Common.{append_assoc, append-nil, get_or-set_same, get_or-set_other, length-set}
 use Rattle.std.proofs.lemmas.Bool.{ltb-false}
 use Rattle.std.proofs.lemmas.List.{length-replicate, get_or-replicate}
-use Rattle.std.specs.Prelude.{slice_get, nat_lt, not, ◌&&◌, replicate}
+use Rattle.std.specs.Prelude.{slice_get, nat_lt, not}
 use Rattle.alog_core.specs.Queue.{Event, Claim, Write, Grab, Take, Full, Empty, PushBusy, PopBusy, Spent}
 use Rattle.alog_core.specs.World.{is_idle, round_of, next_move, said_of, brought, told}
 use Rattle.alog_core.specs.declared.TheConstants.{ACTORS}
@@ -25,18 +25,17 @@ use Rattle.alog_sink.specs.Files.{Files}
 use Rattle.alog_sink.specs.declared.sink.Sink.{Sink}
 use Rattle.alog_system.specs.Begin.{MayBegin, begun, is_below, kept_after, message_by, posting_unless}
 use Rattle.alog_system.specs.Roster.{RosterView, level_at, logger_of, turns_by, turns_for, backtrace_at, emptied, policy_at}
-use Rattle.alog_system.specs.Runs.{Did, InQueue, OnSink, Made, Leads, starts, begins, steps, sets, made_by, did_by, on_sinks, turns_made, turns_asked, asked_in, turns_owed, HasWorked}
+use Rattle.alog_system.specs.Runs.{Did, InQueue, Made, Leads, starts, begins, steps, sets, did_by, on_sinks, turns_made, turns_asked, asked_in, turns_owed, HasWorked}
 use Rattle.alog_system.specs.Step.{after_round, follows, posting, posting_on, dumped_by, told_in_round, told_of_work, work_after}
-use Rattle.alog_system.specs.System.{SystemView, fresh_system, duty_of, is_free, owes, with_desk, with_duty, with_roster, with_outputs}
+use Rattle.alog_system.specs.System.{SystemView, fresh_system, duty_of, is_free, owes, with_desk, with_duty, with_roster}
 use Rattle.alog_system.specs.declared.deed.Deed.{Deed}
 use Rattle.alog_system.specs.declared.deed.Deed.TheVariants as deed
 use Rattle.alog_system.specs.declared.duty.Duty.{Duty}
 use Rattle.alog_system.specs.declared.duty.Duty.TheVariants.{Free, Keeps, Dumps, Posts, Works, Serves}
 use Rattle.alog_system.specs.declared.stepped.Stepped.{Stepped}
-use Rattle.alog_system.specs.declared.stepped.Stepped.TheVariants.{Round, Took, Turned}
 use Rattle.alog_system.proofs.RunCases.{Case, queued, kept, dumped, served, case_of}
 use Rattle.alog_system.proofs.RunQueue.{and_second}
-use Rattle.alog_system.proofs.RunSame.{IsSame, after_round_same, begun_same, posting_same}
+use Rattle.alog_system.proofs.RunSame.{after_round_same, begun_same, posting_same}
 
 -- the turns that are left of what an actor does beside its round
 abbrev left_of : List Logger → Duty → List SinkTurn

@@ -1,10 +1,9 @@
 -- What is true after a whole run of a system.
-use Rattle.std.proofs.Common.{◌≡◌, ◌≢◌, ◌⊎◌, ◌↔◌, ℕ, ◌<◌, ◌≤◌, Bool, true, List, [], length, refl, sym, ap, subst, arith, inl}
+use Rattle.std.proofs.Common.{◌⊎◌, ◌↔◌, ℕ, ◌≤◌, Bool, List, length, subst, arith, inl}
 use Rattle.std.specs.List.{Contains}
-use Rattle.alog_core.specs.Queue.{Queue, start, last, IsListed}
-use Rattle.alog_core.specs.Accounts.{issued, handed_out, takes, claims}
+use Rattle.alog_core.specs.Queue.{Queue, IsListed}
+use Rattle.alog_core.specs.Accounts.{issued, handed_out}
 use Rattle.alog_core.specs.History.{Entry}
-use Rattle.alog_core.specs.World.{is_size}
 use Rattle.alog_core.proofs.Histories.{reached_states_are_sound}
 use Rattle.alog_core.proofs.Items.{tickets_keep_their_items}
 use Rattle.alog_core.proofs.Sizes.{size_facts}

@@ -1,7 +1,7 @@
 -- A sink writes what it may after each turn, too.
-use Rattle.std.proofs.Common.{◌≡◌, ◌<◌, ◌≤◌, ◌⊎◌, ℕ, Bool, true, false, Some, List, [], ◌∷◌, length, Result, refl, sym, ap, subst, ◌∙◌, get_or, set, arith}
-use Rattle.std.proofs.Common.{inl, inr, zero, suc, cond, Option, None, ◌++◌, ◌*◌}
-use Rattle.std.specs.Prelude.{slice_get, slice_set, IfSome}
+use Rattle.std.proofs.Common.{◌≡◌, ◌<◌, ◌≤◌, ℕ, Bool, true, false, Some, List, [], ◌∷◌, length, Result, refl, sym, subst, get_or, set, arith}
+use Rattle.std.proofs.Common.{zero, suc, cond, Option, None, ◌*◌}
+use Rattle.std.specs.Prelude.{slice_get, IfSome}
 use Rattle.std.specs.Option.{option_map}
 use Rattle.std.specs.List.{All}
 use Rattle.std.proofs.lemmas.List.Elements.{All-nil, All-cons, All-head, All-tail, All-weaker, All-set, All-get_or, All-map, All-append}
@@ -19,12 +19,12 @@ use Rattle.alog_registry.specs.declared.work.SinkTurn.{SinkTurn}
 use Rattle.alog_sink.specs.Files.{Files}
 use Rattle.alog_sink.specs.Lines.{MayWrite, admits}
 use Rattle.alog_sink.specs.Sinks.{SinkTakes, SinkFlushes}
-use Rattle.alog_sink.specs.Turn.{Answer, LeafView, FanView, Takes, Flushes, FanTakes, FanFlushes, AllTake, AllFlush, EachDoes}
+use Rattle.alog_sink.specs.Turn.{Answer, LeafView, FanView, Takes, Flushes, FanTakes, EachDoes}
 use Rattle.alog_sink.specs.declared.face.Face.{Face}
 use Rattle.alog_sink.specs.declared.leaf.SinkError.{SinkError}
 use Rattle.alog_sink.specs.declared.sink.Sink.{Sink}
 use Rattle.alog_sink.specs.declared.sink.Sink.TheVariants as sinks
-use Rattle.alog_system.specs.Outputs.{OutputsView, Suits, SinkSuits, AllSuit, IsShort, MayMake, DoesTurn, TextTurn, FlushTurn, Turns}
+use Rattle.alog_system.specs.Outputs.{Suits, SinkSuits, AllSuit, IsShort, MayMake, DoesTurn}
 use Rattle.alog_system.specs.Roster.{RosterView, logger_of, turns_by, turns_for}
 use Rattle.alog_system.specs.Within.{LoggerFits}
 use Rattle.alog_system.specs.declared.stepped.Turn.{Turn}

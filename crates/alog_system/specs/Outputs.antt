@@ -1,20 +1,18 @@
 -- The sinks of a system, and a worker's turn on one.
-use Rattle.std.specs.Prelude.{◌≡◌, ℕ, ◌≤◌, ◌<◌, Bool, List, length, slice_get, slice_set, Some, Result, Ok, Err}
+use Rattle.std.specs.Prelude.{◌≡◌, ℕ, ◌≤◌, Bool, List, length, slice_get, slice_set, Some, Result, Ok, Err}
 use Rattle.std.specs.List.{All}
 pub use Rattle.alog_config.specs.Fits.{Suits, SinkSuits}
 use Rattle.alog_msg.specs.declared.item.Item.{Item}
 use Rattle.alog_msg.specs.declared.item.Item.TheVariants as item
 use Rattle.alog_msg.specs.declared.message.Message.{Message}
 use Rattle.alog_msg.specs.declared.limits.TheConstants.{LEAST_TEXT_LIMIT, MOST_TEXT_LIMIT}
-use Rattle.alog_pattern.specs.Compiled.{longest}
 use Rattle.alog_pattern.specs.declared.patterns.TheConstants.{LINE_MAX}
 use Rattle.alog_registry.specs.declared.work.SinkDeed.{SinkDeed}
 use Rattle.alog_registry.specs.declared.work.SinkDeed.TheVariants as deed
 use Rattle.alog_registry.specs.declared.work.SinkTurn.{SinkTurn}
 use Rattle.alog_sink.specs.Files.{Files}
 use Rattle.alog_sink.specs.Sinks.{MayTake, SinkTakes, SinkFlushes}
-use Rattle.alog_sink.specs.Turn.{Answer, LeafView}
-use Rattle.alog_sink.specs.declared.face.Face.{Face}
+use Rattle.alog_sink.specs.Turn.{Answer}
 use Rattle.alog_sink.specs.declared.leaf.SinkError.{SinkError}
 use Rattle.alog_sink.specs.declared.leaf.Taken.TheVariants as taken
 use Rattle.alog_sink.specs.declared.sink.Sink.{Sink}

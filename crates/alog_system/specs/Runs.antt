@@ -1,9 +1,8 @@
 -- A whole run of a system: its calls one after another, as each one's contract tells what it did, and what is true after them.
-use Rattle.std.specs.Prelude.{◌≡◌, ◌≢◌, ◌⊎◌, ◌↔◌, ◌==◌, ℕ, ◌<◌, ◌≤◌, Bool, true, false, if◌then◌else◌, Option, None, Some, List, [], ◌∷◌, ◌++◌, length, slice_get, map}
+use Rattle.std.specs.Prelude.{◌≡◌, ◌≢◌, ◌⊎◌, ◌↔◌, ◌==◌, ℕ, ◌<◌, ◌≤◌, Bool, true, if◌then◌else◌, Option, None, Some, List, [], ◌∷◌, ◌++◌, length, slice_get, map}
 use Rattle.std.specs.List.{AllByRecursion, AllPairs, Contains}
 use Rattle.alog_core.specs.Queue.{Event, PushBusy, PopBusy, Take, IsListed}
 use Rattle.alog_core.specs.Accounts.{claims, takes, issued, handed_out}
-use Rattle.alog_core.specs.History.{StandsFor}
 use Rattle.alog_core.specs.Run.{Says}
 use Rattle.alog_core.specs.World.{is_size, is_idle, round_of}
 use Rattle.alog_core.specs.declared.TheConstants.{ACTORS}

@@ -1,5 +1,5 @@
 -- One step of an actor in a call: a step of its round where it is in one, and else a turn of what it does beside.
-use Rattle.std.specs.Prelude.{◌≡◌, ℕ, ◌+◌, Bool, true, false, Option, Some, None, List, [], ◌∷◌, length, slice_get, MatchBool, if◌then◌else◌}
+use Rattle.std.specs.Prelude.{◌≡◌, ℕ, ◌+◌, Bool, Option, Some, None, List, [], ◌∷◌, length, slice_get, MatchBool, if◌then◌else◌}
 use Rattle.alog_core.specs.History.{Entry}
 use Rattle.alog_core.specs.Run.{entries_of_step}
 use Rattle.alog_core.specs.World.{is_idle, round_of}

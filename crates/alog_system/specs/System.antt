@@ -1,6 +1,6 @@
 -- The system: the stepped queue with its posts, the loggers, the sinks, and what each actor does beside its round.
-use Rattle.std.specs.Prelude.{◌≡◌, ℕ, ◌+◌, ◌<◌, nat_lt, not, ◌&&◌, ◌||◌, Bool, true, false, Option, Some, None, List, []}
-use Rattle.std.specs.Prelude.{length, replicate, slice_get, slice_index_or, slice_set}
+use Rattle.std.specs.Prelude.{ℕ, nat_lt, not, ◌&&◌, Bool, true, false, Option, Some, None, List}
+use Rattle.std.specs.Prelude.{length, replicate, slice_index_or, slice_set}
 use Rattle.alog_core.specs.World.{is_idle, round_of}
 use Rattle.alog_core.specs.declared.TheConstants.{ACTORS}
 use Rattle.alog_msg.specs.declared.item.Item.{Item}

@@ -1,21 +1,14 @@
 -- What is true of every system: texts keep to the limit wherever they are, and each logger's sinks are there.
-use Rattle.std.specs.Prelude.{◌≡◌, ℕ, ◌<◌, ◌≤◌, Option, Some, None, IfSome, List, length, slice_get}
+use Rattle.std.specs.Prelude.{◌≡◌, ℕ, ◌<◌, ◌≤◌, Option, Some, None, length}
 use Rattle.std.specs.List.{All}
 pub use Rattle.alog_config.specs.Fits.{LoggerFits}
-use Rattle.alog_core.specs.Queue.{Cell}
-use Rattle.alog_core.specs.World.{Machine, round_of, brought}
+use Rattle.alog_core.specs.World.{Machine, brought}
 use Rattle.alog_core.specs.declared.TheConstants.{ACTORS}
 use Rattle.alog_core.specs.declared.said.Said.{Said}
 use Rattle.alog_core.specs.declared.said.Said.TheVariants as said
-use Rattle.alog_msg.specs.declared.item.Item.{Item}
-use Rattle.alog_msg.specs.declared.item.Item.TheVariants as item
 use Rattle.alog_msg.specs.declared.message.Message.{Message}
 use Rattle.alog_policy.specs.Desk.{DeskView}
 use Rattle.alog_policy.specs.declared.post.Post.{Post}
-use Rattle.alog_registry.specs.Backtrace.{Room}
-use Rattle.alog_registry.specs.declared.TheConstants.{MOST_KEPT}
-use Rattle.alog_registry.specs.declared.logger.Logger.{Logger}
-use Rattle.alog_sink.specs.declared.sink.Sink.{Sink}
 use Rattle.alog_system.specs.Outputs.{IsShort}
 use Rattle.alog_system.specs.Roster.{RosterView, backtrace_at}
 use Rattle.alog_system.specs.System.{SystemView}

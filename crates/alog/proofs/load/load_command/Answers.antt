@@ -1,4 +1,4 @@
-use Rattle.std.proofs.Common.{inl, inr, Option}
+use Rattle.std.proofs.Common.{inl, inr}
 use Rattle.std.proofs.KnownBytes.{Keeps-refl}
 use Rattle.alog.proofs.Loading.{match_both, match_map}
 use Rattle.alog.proofs.load.load_command.Goals as goal

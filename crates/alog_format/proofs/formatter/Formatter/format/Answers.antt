@@ -1,4 +1,4 @@
-use Rattle.std.proofs.Common.{◌≡◌, ◌∙◌, ℕ, ◌+◌, ◌-◌, ◌≤◌, ◌<◌, ◌++◌, List, [], ◌∷◌, arith, ap, drop, length, length-append, refl, rules, subst, sum_by, sym, take}
+use Rattle.std.proofs.Common.{◌≡◌, ◌∙◌, ℕ, ◌+◌, ◌-◌, ◌≤◌, ◌++◌, List, arith, ap, drop, length, length-append, refl, rules, subst, sum_by, sym, take}
 use Rattle.std.specs.List.{flat_map}
 use Rattle.alog_pattern.specs.Compiled.{Compiled, longest}
 use Rattle.alog_pattern.specs.Length.{item_len}

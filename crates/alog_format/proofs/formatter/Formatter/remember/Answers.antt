@@ -3,7 +3,7 @@ use Rattle.std.specs.List.{flat_map}
 use Rattle.alog_pattern.specs.declared.items.Item.{Item}
 use Rattle.alog_format.specs.Buffer.{appended}
 use Rattle.alog_format.specs.Line.{item_text, shown_by}
-use Rattle.alog_pattern.specs.Compiled.{Compiled, longest}
+use Rattle.alog_pattern.specs.Compiled.{longest}
 use Rattle.alog_format.specs.Lasting.{AreFirst, FormatterView}
 use Rattle.alog_format.proofs.FirstItems.{Last, are_first, behind, first_fit}
 use Rattle.alog_format.proofs.formatter.Formatter.remember.Goals as goal

@@ -1,4 +1,4 @@
-use Rattle.std.proofs.Common.{◌≡◌, ◌<◌, length, set, sym, subst, refl}
+use Rattle.std.proofs.Common.{◌<◌, length, set, sym, subst, refl}
 use Rattle.std.proofs.lemmas.Option.{slice_get_read}
 use Rattle.alog_system.specs.Outputs.{OutputsView, Turns}
 use Rattle.alog_system.proofs.Suits.{all_suit}

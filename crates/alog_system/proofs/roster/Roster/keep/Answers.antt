@@ -1,4 +1,4 @@
-use Rattle.std.proofs.Common.{◌≡◌, ◌<◌, length, ap, ◌∙◌, arith}
+use Rattle.std.proofs.Common.{◌<◌, length, ap, ◌∙◌, arith}
 use Rattle.alog_system.specs.Roster.{empty_of}
 use Rattle.alog_system.proofs.Rooms.{same_rooms, lent_room, lent_limit}
 use Rattle.alog_system.proofs.roster.Roster.keep.Goals as goal

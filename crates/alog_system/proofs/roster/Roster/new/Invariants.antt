@@ -1,4 +1,4 @@
-use Rattle.std.proofs.Common.{◌≡◌, ◌≤◌, length, map, take, vec_capacity}
+use Rattle.std.proofs.Common.{◌≡◌, length, map, take, vec_capacity}
 use Rattle.alog_system.specs.Roster.{first_level, room_of}
 use Rattle.alog_system.proofs.roster.Roster.new.Given as goal
 

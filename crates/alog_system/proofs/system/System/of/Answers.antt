@@ -1,7 +1,7 @@
 use Rattle.std.proofs.Common.{◌≡◌, length, sym, subst, ◌∙◌, arith}
 use Rattle.alog_core.specs.declared.TheConstants.{ACTORS}
 use Rattle.alog_policy.specs.DeskInside.{desk_in}
-use Rattle.alog_system.specs.System.{SystemView, fresh_system}
+use Rattle.alog_system.specs.System.{SystemView}
 use Rattle.alog_system.specs.Within.{IsWithin}
 use Rattle.alog_system.proofs.Parts.{few_kept, fresh_within, made_fresh}
 use Rattle.alog_system.proofs.system.System.of.Goals as goal

@@ -1,4 +1,4 @@
-use Rattle.std.proofs.Common.{◌≡◌, ◌<◌, length, sym, subst, ◌∙◌}
+use Rattle.std.proofs.Common.{◌<◌, length, sym, subst}
 use Rattle.alog_system.specs.System.{SystemView}
 use Rattle.alog_system.proofs.Suits.{sink_there}
 use Rattle.alog_system.proofs.system.System.serve.Goals as goal

@@ -1,4 +1,4 @@
-use Rattle.std.proofs.Common.{◌≡◌, ◌≤◌, List, sym, ap, subst, ◌∙◌, arith}
+use Rattle.std.proofs.Common.{◌≤◌, List, sym, subst, arith}
 use Rattle.std.specs.List.{All}
 use Rattle.alog_msg.specs.declared.message.Message.{Message}
 use Rattle.alog_system.specs.System.{SystemView}

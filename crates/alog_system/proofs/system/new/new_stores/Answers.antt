@@ -1,4 +1,4 @@
-use Rattle.std.proofs.Common.{◌≡◌, [], ◌∷◌, length, sym, ap, subst, ◌∙◌, arith}
+use Rattle.std.proofs.Common.{[], ◌∷◌, length, sym, ap, subst, ◌∙◌, arith}
 use Rattle.std.proofs.lemmas.List.{length-append}
 use Rattle.alog_sink.specs.Files.{AreSame, no_files}
 use Rattle.alog_sink.specs.contracts.mem_store.MemStoreStore.TheImpl.{files-value}
