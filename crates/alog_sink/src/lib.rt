@@ -6,9 +6,9 @@
 //! messages; a relation says which opening files and which messages it stands for, and each turn leads from one such
 //! pair to the next.
 //!
-//! Read `specs/Files.antt`, `specs/Calls.antt` and `store.rt` (stores), `mem_store.rt`, `folder_store.rt` and
-//! `fuse_store.rt`; then `specs/Lines.antt` and `face.rt` (lines), `specs/Kept.antt` and `target.rt` (where they go: `journal.rt`,
-//! `rotation.rt` with `specs/Rotation.antt`, and `diary.rt` with `specs/Daily.antt` and `specs/Diary.antt`),
+//! Read `specs/Files.antt`, `specs/Calls.antt` and `store.rt` (stores), `mem_store.rt` over `sorted_files.rt`,
+//! `folder_store.rt` and `fuse_store.rt`; then `specs/Lines.antt` and `face.rt` (lines), `specs/Kept.antt` and `target.rt`
+//! (where they go: `journal.rt`, `rotation.rt` with `specs/Rotation.antt`, and `diary.rt` with `specs/Daily.antt` and `specs/Diary.antt`),
 //! `specs/Turn.antt`, `leaf.rt` and `fan.rt`, `specs/Sinks.antt` and `sink.rt`, `open.rt` (constructors), `turn.rt` (a
 //! sink under a lock). `names.rt` makes names of files; `laws.rt` states what is true of definitions.
 //!
