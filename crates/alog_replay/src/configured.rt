@@ -245,7 +245,7 @@ fn print_listed(
 ) -> Result<(), AllocError>
     ensures { OnOk result (out.new.items ≡ out.old.items ++ listed_text sink.now (listing store.now)) }
 {
-    for (file, bytes) in store.files() {
+    for (file, bytes) in store.files().iter() {
         print_file(alloc, out, sink, file.as_str(), bytes.as_slice())?;
     }
     Ok(())

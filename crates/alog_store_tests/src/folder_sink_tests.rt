@@ -131,7 +131,7 @@ fn is_like<R: Files + Clone + Drop + Abort + AllocGlobal>(
         panic!(rt; "no store")
     };
     assert_eq!(rt; store.files().len(), files);
-    for (name, file) in store.files() {
+    for (name, file) in store.files().iter() {
         has(rt, path, name.as_str(), file.as_slice());
     }
 }

@@ -40,7 +40,7 @@ fn names_in_order(rt: HostRuntime) -> Result<(), Fail> {
         appends(&rt, &mut store, name, b"x", DONE);
     }
     let mut names = String::new(rt.alloc());
-    for (name, _) in store.files() {
+    for (name, _) in store.files().iter() {
         names.push_str(name)?;
         names.push_str(" ")?;
     }
