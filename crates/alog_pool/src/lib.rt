@@ -37,6 +37,8 @@ mod hand;
 mod keeping;
 mod laws;
 #[cfg(test)]
+mod meeting_tests;
+#[cfg(test)]
 mod memory_tests;
 mod pool;
 #[cfg(test)]

@@ -65,7 +65,7 @@ impl Model for Trial {
 }
 
 /// Loggers that do what the plan says, of which each has a route: the numbers of its sinks.
-fn registry(alloc: Global, plan: Plan, routes: &[&[u32]]) -> Result<Registry, AllocError> {
+pub fn registry(alloc: Global, plan: Plan, routes: &[&[u32]]) -> Result<Registry, AllocError> {
     let mut registry = Registry::new(alloc);
     for (number, route) in routes.iter().enumerate() {
         let spec = Spec {

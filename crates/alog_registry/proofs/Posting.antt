@@ -36,11 +36,16 @@ module _ {S : Type 0} (did : Doing S Item)
       let P : Policy → Item → Type 0 = λ p y. PostsItem did p y a c o in
       subst (λ s. P (read s.policy) x) same (subst (P (read found.policy)) shows (made_and_posted (read found.policy) shown a b c o idle q))
 
-  -- the same of a value that lies in a hand, into which it was made by the level that was read
-  pub posted_from : {V : Type 0} (fit : S → V → Type 0) (shows : V → Item) (read : Policy → Policy) (found spec : Spec)
-      (own : Level) (m : Message) (a b c : S) (hand : Option V) (o : Outcome (Unit {0})) → found ≡ spec → IsSome hand
-      → IsMade did fit shows own m a hand b → IfSome hand (λ v. PostsItem did (read found.policy) (shows v) b c o)
-      → PostsItem did (read spec.policy) (Text m) a c o
-  posted_from fit shows read found spec own m a b c None o same there made q = absurd (cc)
-  posted_from fit shows read found spec own m a b c (Some v) o same there made q =
-      posted_by read found spec (shows v) (Text m) a b c o same made.1 made.3 q
+  -- the same of a value that was made by the level that was read, under a policy
+  pub brought_by : {V : Type 0} (fit : S → V → Type 0) (shows : V → Item) (p : Policy) (own : Level) (m : Message) (a b c : S)
+      (v : V) (o : Outcome (Unit {0})) → IsMade did fit shows own m a (Some v) b → PostsItem did p (shows v) b c o
+      → PostsItem did p (Text m) a c o
+  brought_by fit shows p own m a b c v o made q =
+      subst (λ x. PostsItem did p x a c o) made.1 (made_and_posted p (shows v) a b c o made.3 q)
+
+  -- the same of one that lies in a hand
+  pub brought_from : {V : Type 0} (fit : S → V → Type 0) (shows : V → Item) (p : Policy) (own : Level) (m : Message) (a b c : S)
+      (hand : Option V) (o : Outcome (Unit {0})) → IsSome hand → IsMade did fit shows own m a hand b
+      → IfSome hand (λ v. PostsItem did p (shows v) b c o) → PostsItem did p (Text m) a c o
+  brought_from fit shows p own m a b c None o there made q = absurd (cc)
+  brought_from fit shows p own m a b c (Some v) o there made q = brought_by fit shows p own m a b c v o made q

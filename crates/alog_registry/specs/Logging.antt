@@ -6,6 +6,7 @@ use Rattle.alog_msg.specs.declared.item.Item.TheVariants.{Text}
 use Rattle.alog_msg.specs.declared.level.Level.{Level}
 use Rattle.alog_msg.specs.declared.message.Message.{Message}
 use Rattle.alog_policy.specs.Outlet.{Doing}
+use Rattle.alog_policy.specs.declared.policy.Outcome.{Outcome}
 use Rattle.alog_policy.specs.declared.policy.Policy.{Policy}
 use Rattle.alog_registry.specs.Carry.{PostsItem}
 use Rattle.alog_registry.specs.Keep.{KeptOr}
@@ -46,3 +47,15 @@ module _ {S V : Type 0} (did : Doing S Item) (fit : S → V → Type 0) (shows :
   abbrev pub IsMade : Level → Message → S → Option V → S → Type 0
   IsMade own m old None new = IsBelow m.level own × (new ≡ old)
   IsMade own m old (Some v) new = ¬ IsBelow m.level own × (shows v ≡ Text m) × fit new v × did old [] 0 0 new
+
+-- What became of a message that is not kept yet: it is below that level and was not posted, or the text that is exactly this message
+-- was posted under this policy.
+module _ {S : Type 0} (did : Doing S Item) where
+  abbrev pub IsBrought : Level → Policy → Message → S → Option (Outcome (Unit {0})) → S → Type 0
+  IsBrought own p m old None new = IsBelow m.level own × (new ≡ old)
+  IsBrought own p m old (Some outcome) new = PostsItem did p (Text m) old new outcome
+
+-- what is answered of a message that became this
+abbrev pub reply_with : Level → Option (Outcome (Unit {0})) → Bool → LogReply
+reply_with own None kept = reply.Filtered own kept
+reply_with own (Some outcome) kept = reply.Logged outcome kept

@@ -8,16 +8,15 @@ ghost use Rattle.alog_registry.specs.Given.{message_of, message_with, IsWithin, 
 ghost use Rattle.alog_registry.specs.Listed.{spec_at};
 ghost use Rattle.alog_registry.specs.declared.logger.Spec.{Spec};
 ghost use Rattle.alog_msg.specs.declared.message.Message.{Message};
-ghost use Rattle.alog_registry.specs.Limit.{AdmitsShort, IsNoLonger};
-ghost use Rattle.alog_registry.specs.Logging.{copy_of, KeepsCopy, Logs, IsMade, IsUnread, IsBelow};
+ghost use Rattle.alog_registry.specs.Limit.{AdmitsShort};
+ghost use Rattle.alog_registry.specs.Logging.{reply_with, IsBrought, Logs, IsMade, IsUnread, IsBelow};
 
 use crate::carry::Carry;
 use crate::given::{MessageRef, message};
 use crate::keep::Keep;
-use crate::logger::Spec;
 use crate::loggers::Loggers;
 use alog_msg::{Level, Message, MessageError, SourceRef};
-use alog_policy::Outcome;
+use alog_policy::{Outcome, Policy};
 use std::alloc::Global;
 
 /// What became of a message that a logger was given. The test `logs_at_once` shows both.
@@ -88,20 +87,14 @@ impl Loggers {
         let (Some(spec), Some(own)) = (self.spec(number), self.level(number)) else {
             unreachable!()
         };
-        let copy = copy_for(alloc, text_limit, spec, given)?;
-        let mut hand = None;
-        admit(alloc, outlet, text_limit, own, given, &mut hand)?;
-        let Some(value) = hand else {
-            return Ok(LogReply::Filtered {
-                level: own,
-                kept: keep_copy(keeper, copy),
-            });
-        };
-        let outcome = outlet.post_now(spec.policy, value);
-        Ok(LogReply::Logged {
-            outcome,
-            kept: keep_copy(keeper, copy),
-        })
+        if spec.backtrace == 0 {
+            let posted = bring_now(alloc, outlet, text_limit, own, spec.policy, given)?;
+            return Ok(reply_of(own, posted, false));
+        }
+        let copy = message(alloc, text_limit, given)?;
+        let posted = bring_now(alloc, outlet, text_limit, own, spec.policy, given)?;
+        let kept = keeper.keep_now(copy);
+        Ok(reply_of(own, posted, kept))
     }
 
     /// Posts a flush of the logger of this number, which is one that was added, under the logger's policy. It takes no memory and
@@ -119,6 +112,35 @@ impl Loggers {
         };
         let value = outlet.flush(number);
         outlet.post_now(spec.policy, value)
+    }
+}
+
+/// Posts a message that is at least of this level, and answers how that went; one below it is not made. It never waits. Where this
+/// fails, nothing was done.
+fn bring_now<O: Carry>(
+    alloc: Global,
+    outlet: &mut O,
+    text_limit: usize,
+    own: Level,
+    policy: Policy,
+    given: MessageRef<'_>,
+) -> Result<Option<Outcome<()>>, MessageError>
+    requires limit { (LEAST_TEXT_LIMIT ≤ text_limit) × (text_limit ≤ MOST_TEXT_LIMIT) }
+    requires ready { O.is_ready outlet.old × AdmitsShort O.admits text_limit outlet.old }
+    ensures brought { IfOk result (λ p. IsBrought O.did own (without_waiting policy) (message_of given.entry) outlet.old p outlet.new) }
+    ensures within { IfOk result (λ p. IsSome p → IsWithin text_limit given.entry.text.now given.entry.source) }
+    ensures text_too_long { IsErrOf result MessageError.TextTooLong → text_limit < length given.entry.text.now }
+    ensures field_too_long { IsErrOf result MessageError.FieldTooLong → IsTooLongField text_limit given.entry.text.now given.entry.source }
+    ensures out_of_memory { IsErrOf result MessageError.OutOfMemory → IsWithin text_limit given.entry.text.now given.entry.source }
+    ensures err { OnErr result (outlet.new ≡ outlet.old) }
+    ensures ready { O.is_ready outlet.new }
+    ensures outlet { (m : Message) → O.admits outlet.old m → O.admits outlet.new m }
+{
+    let mut hand = None;
+    admit(alloc, outlet, text_limit, own, given, &mut hand)?;
+    match hand {
+        Some(value) => Ok(Some(outlet.post_now(policy, value))),
+        None => Ok(None),
     }
 }
 
@@ -150,38 +172,12 @@ pub(crate) fn admit<O: Carry>(
     Ok(())
 }
 
-/// Makes what is to be kept of a message, if its logger has a backtrace.
-pub(crate) fn copy_for(
-    alloc: Global,
-    text_limit: usize,
-    spec: &Spec,
-    given: MessageRef<'_>,
-) -> Result<Option<Message>, MessageError>
-    requires { (LEAST_TEXT_LIMIT ≤ text_limit) × (text_limit ≤ MOST_TEXT_LIMIT) }
-    ensures short { IfOk result (λ c. IsNoLonger text_limit c) }
-    ensures made { IfOk result (λ c. c ≡ copy_of spec.now (message_of given.entry)) }
-    ensures within { IfOk result (λ c. (spec.now.backtrace ≡ 0) ⊎ IsWithin text_limit given.entry.text.now given.entry.source) }
-    ensures text_too_long { IsErrOf result MessageError.TextTooLong → text_limit < length given.entry.text.now }
-    ensures field_too_long { IsErrOf result MessageError.FieldTooLong → IsTooLongField text_limit given.entry.text.now given.entry.source }
-    ensures out_of_memory { IsErrOf result MessageError.OutOfMemory → IsWithin text_limit given.entry.text.now given.entry.source }
-    ensures bare { spec.now.backtrace ≡ 0 → IsOk result }
+/// What is answered of a message that became this.
+pub(crate) fn reply_of(own: Level, posted: Option<Outcome<()>>, kept: bool) -> LogReply
+    ensures { result ≡ reply_with own posted kept }
 {
-    if spec.backtrace == 0 {
-        return Ok(None);
-    }
-    Ok(Some(message(alloc, text_limit, given)?))
-}
-
-/// Keeps the copy, if there is one, and answers whether it was kept.
-fn keep_copy<K: Keep>(keeper: &mut K, copy: Option<Message>) -> bool
-    requires ready { K.is_ready keeper.old }
-    requires admitted { (m : Message) → copy ≡ Some m → K.admits keeper.old m }
-    ensures kept { KeepsCopy K.keeps K.passes copy result keeper.old keeper.new }
-    ensures ready { K.is_ready keeper.new }
-    ensures still { (m : Message) → K.admits keeper.old m → K.admits keeper.new m }
-{
-    match copy {
-        Some(message) => keeper.keep_now(message),
-        None => false,
+    match posted {
+        None => LogReply::Filtered { level: own, kept },
+        Some(outcome) => LogReply::Logged { outcome, kept },
     }
 }

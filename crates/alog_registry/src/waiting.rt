@@ -1,26 +1,26 @@
 //! Logs and dumps that wait, for room and for the lock of a backtrace.
 ghost use Rattle.std.specs.Prelude.{◌≡◌, ◌⊎◌, ◌+◌, ◌≤◌, ◌<◌, ◌++◌, [], ℕ, ℤ, List, codes, length};
-ghost use Rattle.std.specs.Prelude.{vec_len, vec_capacity, Some, OnErr, IfOk, IsErrOf};
+ghost use Rattle.std.specs.Prelude.{vec_len, vec_capacity, None, Some, IsSome, OnErr, IfOk, IsErrOf};
 ghost use Rattle.alog_msg.specs.declared.limits.TheConstants.{LEAST_TEXT_LIMIT, MOST_TEXT_LIMIT};
 ghost use Rattle.alog_msg.specs.declared.item.Item.TheVariants.{Text};
 ghost use Rattle.alog_msg.specs.declared.message.Message.{Message};
 ghost use Rattle.alog_registry.specs.Backtrace.{Room, room_for};
 ghost use Rattle.alog_registry.specs.Dumping.{PostsEach, posted_of, marker};
 ghost use Rattle.alog_registry.specs.Carry.{PostsItem};
-ghost use Rattle.alog_registry.specs.Given.{message_with, IsWithin, IsTooLongField};
+ghost use Rattle.alog_registry.specs.Given.{message_of, message_with, IsWithin, IsTooLongField};
 ghost use Rattle.alog_registry.specs.LaneKeeper.{IsSeated, HasList, KeepsByTurn, DumpsByTurn, NeverPasses};
-ghost use Rattle.alog_registry.specs.Limit.{AdmitsShort, IsNoLonger, IsShort};
+ghost use Rattle.alog_registry.specs.Limit.{AdmitsShort, IsShort};
 ghost use Rattle.alog_registry.specs.Listed.{spec_at};
-ghost use Rattle.alog_registry.specs.Logging.{KeepsCopy, Logs, IsUnread};
+ghost use Rattle.alog_registry.specs.Logging.{IsBrought, Logs, IsUnread};
 ghost use Rattle.alog_registry.specs.declared.logger.Spec.{Spec};
 
 use crate::carry::CarryWaiting;
 use crate::dumped::Dumped;
 use crate::dumping::{END, START, marker};
-use crate::given::MessageRef;
+use crate::given::{MessageRef, message};
 use crate::keep::LaneKeeper;
 use crate::loggers::Loggers;
-use crate::logging::{LogReply, admit, copy_for};
+use crate::logging::{LogReply, admit, reply_of};
 use crate::turn::{BacktraceItem, BacktraceReply};
 use alog_msg::{Level, Message, MessageError, SourceRef};
 use alog_policy::{Outcome, Policy};
@@ -75,20 +75,14 @@ impl Loggers {
         let (Some(spec), Some(own)) = (self.spec(number), self.level(number)) else {
             unreachable!()
         };
-        let copy = copy_for(alloc, text_limit, spec, given)?;
-        let mut hand = None;
-        admit(alloc, outlet, text_limit, own, given, &mut hand)?;
-        if hand.is_none() {
-            return Ok(LogReply::Filtered {
-                level: own,
-                kept: keep_waiting(rt, keeper, copy),
-            });
+        if spec.backtrace == 0 {
+            let posted = bring(rt, alloc, outlet, text_limit, own, spec.policy, given)?;
+            return Ok(reply_of(own, posted, false));
         }
-        let outcome = outlet.post_waiting(rt, spec.policy, &mut hand);
-        Ok(LogReply::Logged {
-            outcome,
-            kept: keep_waiting(rt, keeper, copy),
-        })
+        let copy = message(alloc, text_limit, given)?;
+        let posted = bring(rt, alloc, outlet, text_limit, own, spec.policy, given)?;
+        keeper.keep(rt, copy);
+        Ok(reply_of(own, posted, true))
     }
 }
 
@@ -142,6 +136,36 @@ impl Loggers {
         keeper.scratch.take_back(list);
         Ok(outcomes)
     }
+}
+
+/// Posts a message that is at least of this level, and answers how that went; one below it is not made. Where this fails, nothing
+/// was done.
+fn bring<O: CarryWaiting>(
+    rt: &(impl Wait + Clock),
+    alloc: Global,
+    outlet: &mut O,
+    text_limit: usize,
+    own: Level,
+    policy: Policy,
+    given: MessageRef<'_>,
+) -> Result<Option<Outcome<()>>, MessageError>
+    requires limit { (LEAST_TEXT_LIMIT ≤ text_limit) × (text_limit ≤ MOST_TEXT_LIMIT) }
+    requires ready { O.is_ready outlet.old × AdmitsShort O.admits text_limit outlet.old }
+    ensures brought { IfOk result (λ p. IsBrought O.did own policy (message_of given.entry) outlet.old p outlet.new) }
+    ensures within { IfOk result (λ p. IsSome p → IsWithin text_limit given.entry.text.now given.entry.source) }
+    ensures text_too_long { IsErrOf result MessageError.TextTooLong → text_limit < length given.entry.text.now }
+    ensures field_too_long { IsErrOf result MessageError.FieldTooLong → IsTooLongField text_limit given.entry.text.now given.entry.source }
+    ensures out_of_memory { IsErrOf result MessageError.OutOfMemory → IsWithin text_limit given.entry.text.now given.entry.source }
+    ensures err { OnErr result (outlet.new ≡ outlet.old) }
+    ensures ready { O.is_ready outlet.new }
+    ensures outlet { (m : Message) → O.admits outlet.old m → O.admits outlet.new m }
+{
+    let mut hand = None;
+    admit(alloc, outlet, text_limit, own, given, &mut hand)?;
+    if hand.is_none() {
+        return Ok(None);
+    }
+    Ok(Some(outlet.post_waiting(rt, policy, &mut hand)))
 }
 
 /// Posts what was dumped between the two markers, or nothing where nothing was.
@@ -210,24 +234,6 @@ fn post_waiting<O: CarryWaiting>(
 {
     let mut hand = Some(outlet.message(message));
     outlet.post_waiting(rt, policy, &mut hand)
-}
-
-/// Keeps the copy, if there is one, as soon as the lock is got, and answers whether there is one.
-fn keep_waiting(rt: &impl Wait, keeper: &mut LaneKeeper<'_>, copy: Option<Message>) -> bool
-    requires seated { IsSeated keeper.old }
-    requires short { IsNoLonger keeper.old.lane.now.first.limit copy }
-    ensures kept { KeepsCopy KeepsByTurn NeverPasses copy result keeper.old keeper.new }
-    ensures ready { IsSeated keeper.new }
-    ensures list { HasList keeper.old → HasList keeper.new }
-    ensures lane { keeper.new.lane ≡ keeper.old.lane }
-{
-    match copy {
-        Some(message) => {
-            keeper.keep(rt, message);
-            true
-        }
-        None => false,
-    }
 }
 
 impl LaneKeeper<'_> {

@@ -1,0 +1,16 @@
+use Rattle.std.proofs.Common.{subst}
+use Rattle.alog_policy.specs.Progress.{without_waiting}
+use Rattle.alog_registry.specs.Given.{message_of}
+use Rattle.alog_registry.specs.Logging.{IsMade}
+use Rattle.alog_registry.proofs.Posting.{brought_by}
+use Rattle.alog_registry.proofs.logging.bring_now.Goals as goal
+
+pub returns-in-Some-clause-brought : goal.returns-in-Some-clause-brought
+returns-in-Some-clause-brought g c =
+    let o = g.O.Carry in
+    let a = c.args in
+    let m = message_of a.given in
+    brought_by o.did g.met.O.Carry.together o.is_fit o.shows (without_waiting a.policy) a.own m a.outlet.now c.admit.new.outlet
+    c.post_now.new.self c.in-Some.value c.post_now.result
+    (subst (λ h. IsMade o.did o.is_fit o.shows a.own m a.outlet.now h c.admit.new.outlet) c.in-Some.is c.in_ok-admit.ensures.made)
+    c.post_now.ensures.post
