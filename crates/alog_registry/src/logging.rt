@@ -5,6 +5,7 @@ ghost use Rattle.alog_msg.specs.declared.item.Item.TheVariants.{Flush};
 ghost use Rattle.alog_policy.specs.Progress.{without_waiting};
 ghost use Rattle.alog_registry.specs.Carry.{PostsItemNow};
 ghost use Rattle.alog_registry.specs.Given.{message_of, message_with, IsWithin, IsTooLongField};
+ghost use Rattle.alog_registry.specs.Keep.{KeptOr};
 ghost use Rattle.alog_registry.specs.Listed.{spec_at};
 ghost use Rattle.alog_registry.specs.declared.logger.Spec.{Spec};
 ghost use Rattle.alog_msg.specs.declared.message.Message.{Message};
@@ -91,9 +92,15 @@ impl Loggers {
             let posted = bring_now(alloc, outlet, text_limit, own, spec.policy, given)?;
             return Ok(reply_of(own, posted, false));
         }
-        let copy = message(alloc, text_limit, given)?;
-        let posted = bring_now(alloc, outlet, text_limit, own, spec.policy, given)?;
-        let kept = keeper.keep_now(copy);
+        let (posted, kept) = bring_and_keep_now(
+            alloc,
+            outlet,
+            keeper,
+            text_limit,
+            own,
+            spec.policy,
+            given,
+        )?;
         Ok(reply_of(own, posted, kept))
     }
 
@@ -133,6 +140,7 @@ fn bring_now<O: Carry>(
     ensures field_too_long { IsErrOf result MessageError.FieldTooLong → IsTooLongField text_limit given.entry.text.now given.entry.source }
     ensures out_of_memory { IsErrOf result MessageError.OutOfMemory → IsWithin text_limit given.entry.text.now given.entry.source }
     ensures err { OnErr result (outlet.new ≡ outlet.old) }
+    ensures unread { IsBelow given.entry.level own → IsOk result }
     ensures ready { O.is_ready outlet.new }
     ensures outlet { (m : Message) → O.admits outlet.old m → O.admits outlet.new m }
 {
@@ -142,6 +150,38 @@ fn bring_now<O: Carry>(
         Some(value) => Ok(Some(outlet.post_now(policy, value))),
         None => Ok(None),
     }
+}
+
+/// Posts a message as `bring_now` does, brings a copy of it to the keeper, and answers whether that kept it, too. Where this fails,
+/// nothing was done.
+#[inline(never)]
+fn bring_and_keep_now<O: Carry, K: Keep>(
+    alloc: Global,
+    outlet: &mut O,
+    keeper: &mut K,
+    text_limit: usize,
+    own: Level,
+    policy: Policy,
+    given: MessageRef<'_>,
+) -> Result<(Option<Outcome<()>>, bool), MessageError>
+    requires limit { (LEAST_TEXT_LIMIT ≤ text_limit) × (text_limit ≤ MOST_TEXT_LIMIT) }
+    requires outlet { O.is_ready outlet.old × AdmitsShort O.admits text_limit outlet.old }
+    requires keeper { K.is_ready keeper.old × AdmitsShort K.admits text_limit keeper.old }
+    ensures brought { IfOk result (λ r. IsBrought O.did own (without_waiting policy) (message_of given.entry) outlet.old r.0 outlet.new) }
+    ensures kept { IfOk result (λ r. KeptOr K.keeps K.passes r.1 keeper.old (message_of given.entry) keeper.new) }
+    ensures within { IfOk result (λ _. IsWithin text_limit given.entry.text.now given.entry.source) }
+    ensures text_too_long { IsErrOf result MessageError.TextTooLong → text_limit < length given.entry.text.now }
+    ensures field_too_long { IsErrOf result MessageError.FieldTooLong → IsTooLongField text_limit given.entry.text.now given.entry.source }
+    ensures out_of_memory { IsErrOf result MessageError.OutOfMemory → IsWithin text_limit given.entry.text.now given.entry.source }
+    ensures err { OnErr result ((outlet.new ≡ outlet.old) × (keeper.new ≡ keeper.old)) }
+    ensures ready { O.is_ready outlet.new × K.is_ready keeper.new }
+    ensures outlet { (m : Message) → O.admits outlet.old m → O.admits outlet.new m }
+    ensures keeper { (m : Message) → K.admits keeper.old m → K.admits keeper.new m }
+{
+    let copy = message(alloc, text_limit, given)?;
+    let posted = bring_now(alloc, outlet, text_limit, own, policy, given)?;
+    let kept = keeper.keep_now(copy);
+    Ok((posted, kept))
 }
 
 /// Makes the value of a message that is at least of this level, and puts it into the hand; the hand of one that is filtered stays

@@ -1,6 +1,6 @@
 //! Logs and dumps that wait, for room and for the lock of a backtrace.
 ghost use Rattle.std.specs.Prelude.{◌≡◌, ◌⊎◌, ◌+◌, ◌≤◌, ◌<◌, ◌++◌, [], ℕ, ℤ, List, codes, length};
-ghost use Rattle.std.specs.Prelude.{vec_len, vec_capacity, None, Some, IsSome, OnErr, IfOk, IsErrOf};
+ghost use Rattle.std.specs.Prelude.{vec_len, vec_capacity, None, Some, IsSome, OnErr, IfOk, IsOk, IsErrOf};
 ghost use Rattle.alog_msg.specs.declared.limits.TheConstants.{LEAST_TEXT_LIMIT, MOST_TEXT_LIMIT};
 ghost use Rattle.alog_msg.specs.declared.item.Item.TheVariants.{Text};
 ghost use Rattle.alog_msg.specs.declared.message.Message.{Message};
@@ -11,7 +11,7 @@ ghost use Rattle.alog_registry.specs.Given.{message_of, message_with, IsWithin, 
 ghost use Rattle.alog_registry.specs.LaneKeeper.{IsSeated, HasList, KeepsByTurn, DumpsByTurn, NeverPasses};
 ghost use Rattle.alog_registry.specs.Limit.{AdmitsShort, IsShort};
 ghost use Rattle.alog_registry.specs.Listed.{spec_at};
-ghost use Rattle.alog_registry.specs.Logging.{IsBrought, Logs, IsUnread};
+ghost use Rattle.alog_registry.specs.Logging.{IsBelow, IsBrought, Logs, IsUnread};
 ghost use Rattle.alog_registry.specs.declared.logger.Spec.{Spec};
 
 use crate::carry::CarryWaiting;
@@ -79,9 +79,16 @@ impl Loggers {
             let posted = bring(rt, alloc, outlet, text_limit, own, spec.policy, given)?;
             return Ok(reply_of(own, posted, false));
         }
-        let copy = message(alloc, text_limit, given)?;
-        let posted = bring(rt, alloc, outlet, text_limit, own, spec.policy, given)?;
-        keeper.keep(rt, copy);
+        let posted = bring_and_keep(
+            rt,
+            alloc,
+            outlet,
+            keeper,
+            text_limit,
+            own,
+            spec.policy,
+            given,
+        )?;
         Ok(reply_of(own, posted, true))
     }
 }
@@ -157,6 +164,7 @@ fn bring<O: CarryWaiting>(
     ensures field_too_long { IsErrOf result MessageError.FieldTooLong → IsTooLongField text_limit given.entry.text.now given.entry.source }
     ensures out_of_memory { IsErrOf result MessageError.OutOfMemory → IsWithin text_limit given.entry.text.now given.entry.source }
     ensures err { OnErr result (outlet.new ≡ outlet.old) }
+    ensures unread { IsBelow given.entry.level own → IsOk result }
     ensures ready { O.is_ready outlet.new }
     ensures outlet { (m : Message) → O.admits outlet.old m → O.admits outlet.new m }
 {
@@ -166,6 +174,40 @@ fn bring<O: CarryWaiting>(
         return Ok(None);
     }
     Ok(Some(outlet.post_waiting(rt, policy, &mut hand)))
+}
+
+/// Posts a message as `bring` does, and keeps a copy of it as soon as the lock is got. Where this fails, nothing was done. It is not
+/// inlined, so that a log that keeps nothing has no room for a copy on its stack, which would be cleared each time.
+#[inline(never)]
+fn bring_and_keep<O: CarryWaiting>(
+    rt: &(impl Wait + Clock),
+    alloc: Global,
+    outlet: &mut O,
+    keeper: &mut LaneKeeper<'_>,
+    text_limit: usize,
+    own: Level,
+    policy: Policy,
+    given: MessageRef<'_>,
+) -> Result<Option<Outcome<()>>, MessageError>
+    requires limit { (LEAST_TEXT_LIMIT ≤ text_limit) × (text_limit ≤ MOST_TEXT_LIMIT) }
+    requires outlet { O.is_ready outlet.old × AdmitsShort O.admits text_limit outlet.old }
+    requires keeper { IsSeated keeper.old × (text_limit ≤ keeper.old.lane.now.first.limit) }
+    ensures brought { IfOk result (λ p. IsBrought O.did own policy (message_of given.entry) outlet.old p outlet.new) }
+    ensures kept { IfOk result (λ _. KeepsByTurn keeper.old (message_of given.entry) keeper.new) }
+    ensures within { IfOk result (λ _. IsWithin text_limit given.entry.text.now given.entry.source) }
+    ensures text_too_long { IsErrOf result MessageError.TextTooLong → text_limit < length given.entry.text.now }
+    ensures field_too_long { IsErrOf result MessageError.FieldTooLong → IsTooLongField text_limit given.entry.text.now given.entry.source }
+    ensures out_of_memory { IsErrOf result MessageError.OutOfMemory → IsWithin text_limit given.entry.text.now given.entry.source }
+    ensures err { OnErr result ((outlet.new ≡ outlet.old) × (keeper.new ≡ keeper.old)) }
+    ensures ready { O.is_ready outlet.new × IsSeated keeper.new }
+    ensures list { HasList keeper.old → HasList keeper.new }
+    ensures outlet { (m : Message) → O.admits outlet.old m → O.admits outlet.new m }
+    ensures lane { keeper.new.lane ≡ keeper.old.lane }
+{
+    let copy = message(alloc, text_limit, given)?;
+    let posted = bring(rt, alloc, outlet, text_limit, own, policy, given)?;
+    keeper.keep(rt, copy);
+    Ok(posted)
 }
 
 /// Posts what was dumped between the two markers, or nothing where nothing was.
