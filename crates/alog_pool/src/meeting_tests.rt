@@ -9,7 +9,7 @@ use super::*;
 use crate::tests::{TEXT_LIMIT, face, sink};
 use crate::trial::{PLAIN, registry};
 use alog_msg::Level;
-use alog_sink::{MemStore, Sink, Store, StoreError};
+use alog_sink::{Sink, Store, StoreError};
 use std::alloc::{AllocError, Global};
 use std::process::Abort;
 use std::sync::atomic::{AtomicBool, Ordering};
@@ -22,47 +22,71 @@ use std::time::Clock;
 // How often a store looks whether the other one was called.
 const LOOKS: u32 = 1_000_000;
 
-// Files in memory. An append to those of one that waits goes on when the other one was called, or after so many looks.
+// Takes lines, and counts those that it is to get, and all other calls. A line of one that waits is taken when the other one was
+// called, or after so many looks.
 #[derive(Drop)]
 struct Meeting {
-    files: MemStore,
     called: Arc<AtomicBool>,
     waits: bool,
+    line: &'static [u8],
     looks: u32,
+    lines: u32,
+    others: u32,
 }
 
-impl Store for Meeting {
-    ghost use Rattle.std.specs.Prelude.{true};
+impl Meeting {
+    // Notes a call, whose bytes are those of the line or not.
+    fn note(&mut self, bytes: &[u8]) {
+        if bytes == self.line {
+            self.lines = self.lines.saturating_add(1);
+        } else {
+            self.others = self.others.saturating_add(1);
+        }
+    }
 
-    ghost files = { λ s. ⟦<MemStore as Store>⟧.files s.files };
-
-    ghost tells = { true };
-
-    ghost failures = { λ s. ⟦<MemStore as Store>⟧.failures s.files };
-
-    fn append(&mut self, name: &str, bytes: &[u8]) -> Result<(), StoreError> {
+    // Waits for the other one, or lets it go on.
+    fn meet(&mut self) {
         if self.waits {
             self.looks = looks_until(&self.called);
         } else {
             self.called.store(true, Ordering::SeqCst);
         }
-        self.files.append(name, bytes)
+    }
+}
+
+impl Store for Meeting {
+    ghost use Rattle.std.specs.Prelude.{false};
+    ghost use Rattle.alog_sink.specs.Files.{no_files};
+
+    ghost files = { λ s. no_files };
+
+    ghost tells = { false };
+
+    ghost failures = { λ s. 0 };
+
+    fn append(&mut self, _name: &str, bytes: &[u8]) -> Result<(), StoreError> {
+        self.meet();
+        self.note(bytes);
+        Ok(())
     }
 
-    fn rename(&mut self, from: &str, to: &str) -> Result<(), StoreError> {
-        self.files.rename(from, to)
+    fn rename(&mut self, _from: &str, _to: &str) -> Result<(), StoreError> {
+        self.note(b"");
+        Ok(())
     }
 
-    fn remove(&mut self, name: &str) -> Result<(), StoreError> {
-        self.files.remove(name)
+    fn remove(&mut self, _name: &str) -> Result<(), StoreError> {
+        self.note(b"");
+        Ok(())
     }
 
-    fn size(&mut self, name: &str) -> Result<Option<u64>, StoreError> {
-        self.files.size(name)
+    fn size(&mut self, _name: &str) -> Result<Option<u64>, StoreError> {
+        Ok(None)
     }
 
-    fn flush(&mut self, name: &str) -> Result<(), StoreError> {
-        self.files.flush(name)
+    fn flush(&mut self, _name: &str) -> Result<(), StoreError> {
+        self.note(b"");
+        Ok(())
     }
 }
 
@@ -77,23 +101,25 @@ fn looks_until(flag: &AtomicBool) -> u32 {
     LOOKS
 }
 
-// A sink over files that wait, and one over files that they wait for.
+// A store that is to get this line.
+fn store(called: Arc<AtomicBool>, waits: bool, line: &'static [u8]) -> Meeting {
+    Meeting {
+        called,
+        waits,
+        line,
+        looks: 0,
+        lines: 0,
+        others: 0,
+    }
+}
+
+// A sink over a store that waits, and one over a store that it waits for.
 fn sinks(alloc: Global) -> Result<Vec<Sink<Meeting>>, AllocError>
     ensures { IfOk result (λ v. AllByRecursion (Suits TEXT_LIMIT) v.items) }
 {
     let called = Arc::new(alloc, AtomicBool::new(false))?;
-    let waiting = Meeting {
-        files: MemStore::new(alloc),
-        called: Arc::try_clone(&called)?,
-        waits: true,
-        looks: 0,
-    };
-    let meeting = Meeting {
-        files: MemStore::new(alloc),
-        called,
-        waits: false,
-        looks: 0,
-    };
+    let waiting = store(Arc::try_clone(&called)?, true, b"a\n");
+    let meeting = store(called, false, b"b\n");
     let mut sinks = Vec::with_capacity(alloc, 2)?;
     sinks.push_reserved(sink(alloc, face(alloc)?, waiting)?);
     sinks.push_reserved(sink(alloc, face(alloc)?, meeting)?);
@@ -145,14 +171,13 @@ fn ended<R: Abort + Threads + Wait + Clock + Clone + Drop + Send + 'static>(
     }
 }
 
-// The file of this sink has these bytes, and its store did not wait in vain.
-fn has_met(rt: &impl Abort, report: &Report<Meeting>, sink: usize, bytes: &[u8]) {
+// The store of this sink got its line and no other call, and did not wait in vain.
+fn has_met(rt: &impl Abort, report: &Report<Meeting>, sink: usize) {
     let Some(store) = report.sinks.get(sink).and_then(|sink| sink.store()) else {
         panic!(rt; "no such sink")
     };
+    assert!(rt; (store.lines, store.others) == (1, 0));
     assert!(rt; store.looks < LOOKS);
-    let file = store.files.files().get("log");
-    assert!(rt; file.map(|file| file.as_slice()) == Some(bytes));
 }
 
 // While one worker is in the store of its sink, another writes to another sink: no lock is round both.
@@ -160,7 +185,7 @@ fn has_met(rt: &impl Abort, report: &Report<Meeting>, sink: usize, bytes: &[u8])
 fn a_store_waits_for_another(rt: HostRuntime) -> Result<(), Fail> {
     let alloc = rt.alloc();
     let report = ended(&rt, alloc)?;
-    has_met(&rt, &report, 0, b"a\n");
-    has_met(&rt, &report, 1, b"b\n");
+    has_met(&rt, &report, 0);
+    has_met(&rt, &report, 1);
     Ok(())
 }
