@@ -8,10 +8,9 @@ use Rattle.alog_policy.specs.Post.{overran_in, discards_in}
 use Rattle.alog_policy.specs.declared.policy.Policy.{Policy}
 use Rattle.alog_policy.specs.declared.policy.Outcome.{Outcome}
 use Rattle.alog_registry.specs.Carry.{PostsItem}
-use Rattle.alog_msg.specs.declared.item.Item.TheVariants.{Text}
 use Rattle.alog_msg.specs.declared.level.Level.{Level}
 use Rattle.alog_msg.specs.declared.message.Message.{Message}
-use Rattle.alog_registry.specs.Logging.{IsMade}
+use Rattle.alog_registry.specs.Logging.{IsBrought, IsMade}
 use Rattle.alog_registry.specs.declared.logger.Spec.{Spec}
 
 module _ {S : Type 0} (did : Doing S Item)
@@ -39,13 +38,13 @@ module _ {S : Type 0} (did : Doing S Item)
   -- the same of a value that was made by the level that was read, under a policy
   pub brought_by : {V : Type 0} (fit : S → V → Type 0) (shows : V → Item) (p : Policy) (own : Level) (m : Message) (a b c : S)
       (v : V) (o : Outcome (Unit {0})) → IsMade did fit shows own m a (Some v) b → PostsItem did p (shows v) b c o
-      → PostsItem did p (Text m) a c o
+      → IsBrought did own p m a (Some o) c
   brought_by fit shows p own m a b c v o made q =
-      subst (λ x. PostsItem did p x a c o) made.1 (made_and_posted p (shows v) a b c o made.3 q)
+      (made.0, subst (λ x. PostsItem did p x a c o) made.1 (made_and_posted p (shows v) a b c o made.3 q))
 
   -- the same of one that lies in a hand
   pub brought_from : {V : Type 0} (fit : S → V → Type 0) (shows : V → Item) (p : Policy) (own : Level) (m : Message) (a b c : S)
       (hand : Option V) (o : Outcome (Unit {0})) → IsSome hand → IsMade did fit shows own m a hand b
-      → IfSome hand (λ v. PostsItem did p (shows v) b c o) → PostsItem did p (Text m) a c o
+      → IfSome hand (λ v. PostsItem did p (shows v) b c o) → IsBrought did own p m a (Some o) c
   brought_from fit shows p own m a b c None o there made q = absurd (cc)
   brought_from fit shows p own m a b c (Some v) o there made q = brought_by fit shows p own m a b c v o made q

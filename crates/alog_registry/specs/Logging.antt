@@ -48,12 +48,12 @@ module _ {S V : Type 0} (did : Doing S Item) (fit : S → V → Type 0) (shows :
   IsMade own m old None new = IsBelow m.level own × (new ≡ old)
   IsMade own m old (Some v) new = ¬ IsBelow m.level own × (shows v ≡ Text m) × fit new v × did old [] 0 0 new
 
--- What became of a message that is not kept yet: it is below that level and was not posted, or the text that is exactly this message
--- was posted under this policy.
+-- What became of a message that is not kept yet, by the level that was read: where it is below that level it was not posted, and
+-- else the text that is exactly this message was posted under this policy.
 module _ {S : Type 0} (did : Doing S Item) where
   abbrev pub IsBrought : Level → Policy → Message → S → Option (Outcome (Unit {0})) → S → Type 0
   IsBrought own p m old None new = IsBelow m.level own × (new ≡ old)
-  IsBrought own p m old (Some outcome) new = PostsItem did p (Text m) old new outcome
+  IsBrought own p m old (Some outcome) new = ¬ IsBelow m.level own × PostsItem did p (Text m) old new outcome
 
 -- what is answered of a message that became this
 abbrev pub reply_with : Level → Option (Outcome (Unit {0})) → Bool → LogReply
