@@ -1,5 +1,5 @@
 -- A post whose value was made before.
-use Rattle.std.proofs.Common.{◌≡◌, ℕ, ◌+◌, List, [], ◌++◌, Option, None, Some, subst, zero-add}
+use Rattle.std.proofs.Common.{◌≡◌, ℕ, ◌+◌, Bool, List, [], ◌++◌, Option, None, Some, refl, subst, zero-add}
 use Rattle.std.specs.Prelude.{IsSome, IfSome}
 use Rattle.alog_core.specs.Queue.{Event}
 use Rattle.alog_msg.specs.declared.item.Item.{Item}
@@ -12,6 +12,7 @@ use Rattle.alog_msg.specs.declared.level.Level.{Level}
 use Rattle.alog_msg.specs.declared.message.Message.{Message}
 use Rattle.alog_registry.specs.Logging.{IsBrought, IsMade}
 use Rattle.alog_registry.specs.declared.logger.Spec.{Spec}
+use Rattle.alog_registry.specs.declared.logging.LogReply.TheVariants.{Logged}
 
 module _ {S : Type 0} (did : Doing S Item)
     (together : (a b c : S) (es fs : List (Event Item)) (k l m n : ℕ) → did a es k l b → did b fs m n c
@@ -36,15 +37,15 @@ module _ {S : Type 0} (did : Doing S Item)
       subst (λ s. P (read s.policy) x) same (subst (P (read found.policy)) shows (made_and_posted (read found.policy) shown a b c o idle q))
 
   -- the same of a value that was made by the level that was read, under a policy
-  pub brought_by : {V : Type 0} (fit : S → V → Type 0) (shows : V → Item) (p : Policy) (own : Level) (m : Message) (a b c : S)
-      (v : V) (o : Outcome (Unit {0})) → IsMade did fit shows own m a (Some v) b → PostsItem did p (shows v) b c o
-      → IsBrought did own p m a (Some o) c
-  brought_by fit shows p own m a b c v o made q =
-      (made.0, subst (λ x. PostsItem did p x a c o) made.1 (made_and_posted p (shows v) a b c o made.3 q))
+  pub brought_by : {V : Type 0} (fit : S → V → Type 0) (shows : V → Item) (p : Policy) (told : Bool) (own : Level) (m : Message)
+      (a b c : S) (v : V) (o : Outcome (Unit {0})) → IsMade did fit shows own m a (Some v) b → PostsItem did p (shows v) b c o
+      → IsBrought did own p told m a (Logged o told) c
+  brought_by fit shows p told own m a b c v o made q =
+      (refl, made.0, subst (λ x. PostsItem did p x a c o) made.1 (made_and_posted p (shows v) a b c o made.3 q))
 
   -- the same of one that lies in a hand
-  pub brought_from : {V : Type 0} (fit : S → V → Type 0) (shows : V → Item) (p : Policy) (own : Level) (m : Message) (a b c : S)
-      (hand : Option V) (o : Outcome (Unit {0})) → IsSome hand → IsMade did fit shows own m a hand b
-      → IfSome hand (λ v. PostsItem did p (shows v) b c o) → IsBrought did own p m a (Some o) c
-  brought_from fit shows p own m a b c None o there made q = absurd (cc)
-  brought_from fit shows p own m a b c (Some v) o there made q = brought_by fit shows p own m a b c v o made q
+  pub brought_from : {V : Type 0} (fit : S → V → Type 0) (shows : V → Item) (p : Policy) (told : Bool) (own : Level) (m : Message)
+      (a b c : S) (hand : Option V) (o : Outcome (Unit {0})) → IsSome hand → IsMade did fit shows own m a hand b
+      → IfSome hand (λ v. PostsItem did p (shows v) b c o) → IsBrought did own p told m a (Logged o told) c
+  brought_from fit shows p told own m a b c None o there made q = absurd (cc)
+  brought_from fit shows p told own m a b c (Some v) o there made q = brought_by fit shows p told own m a b c v o made q

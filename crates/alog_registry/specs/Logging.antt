@@ -6,7 +6,6 @@ use Rattle.alog_msg.specs.declared.item.Item.TheVariants.{Text}
 use Rattle.alog_msg.specs.declared.level.Level.{Level}
 use Rattle.alog_msg.specs.declared.message.Message.{Message}
 use Rattle.alog_policy.specs.Outlet.{Doing}
-use Rattle.alog_policy.specs.declared.policy.Outcome.{Outcome}
 use Rattle.alog_policy.specs.declared.policy.Policy.{Policy}
 use Rattle.alog_registry.specs.Carry.{PostsItem}
 use Rattle.alog_registry.specs.Keep.{KeptOr}
@@ -48,14 +47,20 @@ module _ {S V : Type 0} (did : Doing S Item) (fit : S → V → Type 0) (shows :
   IsMade own m old None new = IsBelow m.level own × (new ≡ old)
   IsMade own m old (Some v) new = ¬ IsBelow m.level own × (shows v ≡ Text m) × fit new v × did old [] 0 0 new
 
--- What became of a message that is not kept yet, by the level that was read: where it is below that level it was not posted, and
--- else the text that is exactly this message was posted under this policy.
+-- What is answered of a message before it is kept, by the level that was read: where it is below that level, which is told, it was
+-- not posted, and else the text that is exactly this message was posted under this policy. The answer says this of its being kept.
 module _ {S : Type 0} (did : Doing S Item) where
-  abbrev pub IsBrought : Level → Policy → Message → S → Option (Outcome (Unit {0})) → S → Type 0
-  IsBrought own p m old None new = IsBelow m.level own × (new ≡ old)
-  IsBrought own p m old (Some outcome) new = ¬ IsBelow m.level own × PostsItem did p (Text m) old new outcome
+  abbrev pub IsBrought : Level → Policy → Bool → Message → S → LogReply → S → Type 0
+  IsBrought own p told m old (reply.Filtered level kept) new = (level ≡ own) × (kept ≡ told) × IsBelow m.level own × (new ≡ old)
+  IsBrought own p told m old (reply.Logged outcome kept) new =
+      (kept ≡ told) × ¬ IsBelow m.level own × PostsItem did p (Text m) old new outcome
 
--- what is answered of a message that became this
-abbrev pub reply_with : Level → Option (Outcome (Unit {0})) → Bool → LogReply
-reply_with own None kept = reply.Filtered own kept
-reply_with own (Some outcome) kept = reply.Logged outcome kept
+-- the message was posted, or discarded by its post
+abbrev pub IsLogged : LogReply → Type 0
+IsLogged (reply.Filtered level kept) = ⊥
+IsLogged (reply.Logged outcome kept) = Unit {0}
+
+-- what an answer says of the message's being kept
+abbrev pub kept_by : LogReply → Bool
+kept_by (reply.Filtered level kept) = kept
+kept_by (reply.Logged outcome kept) = kept

@@ -10,7 +10,7 @@ ghost use Rattle.alog_registry.specs.Listed.{spec_at};
 ghost use Rattle.alog_registry.specs.declared.logger.Spec.{Spec};
 ghost use Rattle.alog_msg.specs.declared.message.Message.{Message};
 ghost use Rattle.alog_registry.specs.Limit.{AdmitsShort};
-ghost use Rattle.alog_registry.specs.Logging.{reply_with, IsBrought, Logs, IsMade, IsUnread, IsBelow};
+ghost use Rattle.alog_registry.specs.Logging.{kept_by, IsBrought, IsLogged, Logs, IsMade, IsUnread, IsBelow};
 
 use crate::carry::Carry;
 use crate::given::{MessageRef, message};
@@ -88,20 +88,11 @@ impl Loggers {
         let (Some(spec), Some(own)) = (self.spec(number), self.level(number)) else {
             unreachable!()
         };
+        let policy = spec.policy;
         if spec.backtrace == 0 {
-            let posted = bring_now(alloc, outlet, text_limit, own, spec.policy, given)?;
-            return Ok(reply_of(own, posted, false));
+            return bring_now(alloc, outlet, text_limit, own, policy, given, false);
         }
-        let (posted, kept) = bring_and_keep_now(
-            alloc,
-            outlet,
-            keeper,
-            text_limit,
-            own,
-            spec.policy,
-            given,
-        )?;
-        Ok(reply_of(own, posted, kept))
+        bring_and_keep_now(alloc, outlet, keeper, text_limit, own, policy, given)
     }
 
     /// Posts a flush of the logger of this number, which is one that was added, under the logger's policy. It takes no memory and
@@ -122,8 +113,8 @@ impl Loggers {
     }
 }
 
-/// Posts a message that is at least of this level, and answers how that went; one below it is not made. It never waits. Where this
-/// fails, nothing was done.
+/// Posts a message that is at least of this level, and answers how that went, and that it is kept as told; one below it is not made.
+/// It never waits. Where this fails, nothing was done.
 fn bring_now<O: Carry>(
     alloc: Global,
     outlet: &mut O,
@@ -131,11 +122,12 @@ fn bring_now<O: Carry>(
     own: Level,
     policy: Policy,
     given: MessageRef<'_>,
-) -> Result<Option<Outcome<()>>, MessageError>
+    kept: bool,
+) -> Result<LogReply, MessageError>
     requires limit { (LEAST_TEXT_LIMIT ≤ text_limit) × (text_limit ≤ MOST_TEXT_LIMIT) }
     requires ready { O.is_ready outlet.old × AdmitsShort O.admits text_limit outlet.old }
-    ensures brought { IfOk result (λ p. IsBrought O.did own (without_waiting policy) (message_of given.entry) outlet.old p outlet.new) }
-    ensures within { IfOk result (λ p. IsSome p → IsWithin text_limit given.entry.text.now given.entry.source) }
+    ensures brought { IfOk result (λ r. IsBrought O.did own (without_waiting policy) kept (message_of given.entry) outlet.old r outlet.new) }
+    ensures within { IfOk result (λ r. IsLogged r → IsWithin text_limit given.entry.text.now given.entry.source) }
     ensures text_too_long { IsErrOf result MessageError.TextTooLong → text_limit < length given.entry.text.now }
     ensures field_too_long { IsErrOf result MessageError.FieldTooLong → IsTooLongField text_limit given.entry.text.now given.entry.source }
     ensures out_of_memory { IsErrOf result MessageError.OutOfMemory → IsWithin text_limit given.entry.text.now given.entry.source }
@@ -147,8 +139,11 @@ fn bring_now<O: Carry>(
     let mut hand = None;
     admit(alloc, outlet, text_limit, own, given, &mut hand)?;
     match hand {
-        Some(value) => Ok(Some(outlet.post_now(policy, value))),
-        None => Ok(None),
+        Some(value) => {
+            let outcome = outlet.post_now(policy, value);
+            Ok(LogReply::Logged { outcome, kept })
+        }
+        None => Ok(LogReply::Filtered { level: own, kept }),
     }
 }
 
@@ -163,12 +158,12 @@ fn bring_and_keep_now<O: Carry, K: Keep>(
     own: Level,
     policy: Policy,
     given: MessageRef<'_>,
-) -> Result<(Option<Outcome<()>>, bool), MessageError>
+) -> Result<LogReply, MessageError>
     requires limit { (LEAST_TEXT_LIMIT ≤ text_limit) × (text_limit ≤ MOST_TEXT_LIMIT) }
     requires outlet { O.is_ready outlet.old × AdmitsShort O.admits text_limit outlet.old }
     requires keeper { K.is_ready keeper.old × AdmitsShort K.admits text_limit keeper.old }
-    ensures brought { IfOk result (λ r. IsBrought O.did own (without_waiting policy) (message_of given.entry) outlet.old r.0 outlet.new) }
-    ensures kept { IfOk result (λ r. KeptOr K.keeps K.passes r.1 keeper.old (message_of given.entry) keeper.new) }
+    ensures brought { IfOk result (λ r. IsBrought O.did own (without_waiting policy) (kept_by r) (message_of given.entry) outlet.old r outlet.new) }
+    ensures kept { IfOk result (λ r. KeptOr K.keeps K.passes (kept_by r) keeper.old (message_of given.entry) keeper.new) }
     ensures within { IfOk result (λ _. IsWithin text_limit given.entry.text.now given.entry.source) }
     ensures text_too_long { IsErrOf result MessageError.TextTooLong → text_limit < length given.entry.text.now }
     ensures field_too_long { IsErrOf result MessageError.FieldTooLong → IsTooLongField text_limit given.entry.text.now given.entry.source }
@@ -179,9 +174,12 @@ fn bring_and_keep_now<O: Carry, K: Keep>(
     ensures keeper { (m : Message) → K.admits keeper.old m → K.admits keeper.new m }
 {
     let copy = message(alloc, text_limit, given)?;
-    let posted = bring_now(alloc, outlet, text_limit, own, policy, given)?;
+    let reply = bring_now(alloc, outlet, text_limit, own, policy, given, false)?;
     let kept = keeper.keep_now(copy);
-    Ok((posted, kept))
+    Ok(match reply {
+        LogReply::Filtered { level, kept: _ } => LogReply::Filtered { level, kept },
+        LogReply::Logged { outcome, kept: _ } => LogReply::Logged { outcome, kept },
+    })
 }
 
 /// Makes the value of a message that is at least of this level, and puts it into the hand; the hand of one that is filtered stays
@@ -210,14 +208,4 @@ pub(crate) fn admit<O: Carry>(
         *hand = Some(outlet.text(alloc, text_limit, given)?);
     }
     Ok(())
-}
-
-/// What is answered of a message that became this.
-pub(crate) fn reply_of(own: Level, posted: Option<Outcome<()>>, kept: bool) -> LogReply
-    ensures { result ≡ reply_with own posted kept }
-{
-    match posted {
-        None => LogReply::Filtered { level: own, kept },
-        Some(outcome) => LogReply::Logged { outcome, kept },
-    }
 }

@@ -1,6 +1,6 @@
 //! Logs and dumps that wait, for room and for the lock of a backtrace.
 ghost use Rattle.std.specs.Prelude.{◌≡◌, ◌⊎◌, ◌+◌, ◌≤◌, ◌<◌, ◌++◌, [], ℕ, ℤ, List, codes, length};
-ghost use Rattle.std.specs.Prelude.{vec_len, vec_capacity, None, Some, IsSome, OnErr, IfOk, IsOk, IsErrOf};
+ghost use Rattle.std.specs.Prelude.{vec_len, vec_capacity, true, None, Some, OnErr, IfOk, IsOk, IsErrOf};
 ghost use Rattle.alog_msg.specs.declared.limits.TheConstants.{LEAST_TEXT_LIMIT, MOST_TEXT_LIMIT};
 ghost use Rattle.alog_msg.specs.declared.item.Item.TheVariants.{Text};
 ghost use Rattle.alog_msg.specs.declared.message.Message.{Message};
@@ -11,7 +11,7 @@ ghost use Rattle.alog_registry.specs.Given.{message_of, message_with, IsWithin, 
 ghost use Rattle.alog_registry.specs.LaneKeeper.{IsSeated, HasList, KeepsByTurn, DumpsByTurn, NeverPasses};
 ghost use Rattle.alog_registry.specs.Limit.{AdmitsShort, IsShort};
 ghost use Rattle.alog_registry.specs.Listed.{spec_at};
-ghost use Rattle.alog_registry.specs.Logging.{IsBelow, IsBrought, Logs, IsUnread};
+ghost use Rattle.alog_registry.specs.Logging.{IsBelow, IsBrought, IsLogged, Logs, IsUnread};
 ghost use Rattle.alog_registry.specs.declared.logger.Spec.{Spec};
 
 use crate::carry::CarryWaiting;
@@ -20,7 +20,7 @@ use crate::dumping::{END, START, marker};
 use crate::given::{MessageRef, message};
 use crate::keep::LaneKeeper;
 use crate::loggers::Loggers;
-use crate::logging::{LogReply, admit, reply_of};
+use crate::logging::{LogReply, admit};
 use crate::turn::{BacktraceItem, BacktraceReply};
 use alog_msg::{Level, Message, MessageError, SourceRef};
 use alog_policy::{Outcome, Policy};
@@ -75,21 +75,11 @@ impl Loggers {
         let (Some(spec), Some(own)) = (self.spec(number), self.level(number)) else {
             unreachable!()
         };
+        let policy = spec.policy;
         if spec.backtrace == 0 {
-            let posted = bring(rt, alloc, outlet, text_limit, own, spec.policy, given)?;
-            return Ok(reply_of(own, posted, false));
+            return bring(rt, alloc, outlet, text_limit, own, policy, given, false);
         }
-        let posted = bring_and_keep(
-            rt,
-            alloc,
-            outlet,
-            keeper,
-            text_limit,
-            own,
-            spec.policy,
-            given,
-        )?;
-        Ok(reply_of(own, posted, true))
+        bring_and_keep(rt, alloc, outlet, keeper, text_limit, own, policy, given)
     }
 }
 
@@ -145,8 +135,8 @@ impl Loggers {
     }
 }
 
-/// Posts a message that is at least of this level, and answers how that went; one below it is not made. Where this fails, nothing
-/// was done.
+/// Posts a message that is at least of this level, and answers how that went, and that it is kept as told; one below it is not made.
+/// Where this fails, nothing was done.
 fn bring<O: CarryWaiting>(
     rt: &(impl Wait + Clock),
     alloc: Global,
@@ -155,11 +145,12 @@ fn bring<O: CarryWaiting>(
     own: Level,
     policy: Policy,
     given: MessageRef<'_>,
-) -> Result<Option<Outcome<()>>, MessageError>
+    kept: bool,
+) -> Result<LogReply, MessageError>
     requires limit { (LEAST_TEXT_LIMIT ≤ text_limit) × (text_limit ≤ MOST_TEXT_LIMIT) }
     requires ready { O.is_ready outlet.old × AdmitsShort O.admits text_limit outlet.old }
-    ensures brought { IfOk result (λ p. IsBrought O.did own policy (message_of given.entry) outlet.old p outlet.new) }
-    ensures within { IfOk result (λ p. IsSome p → IsWithin text_limit given.entry.text.now given.entry.source) }
+    ensures brought { IfOk result (λ r. IsBrought O.did own policy kept (message_of given.entry) outlet.old r outlet.new) }
+    ensures within { IfOk result (λ r. IsLogged r → IsWithin text_limit given.entry.text.now given.entry.source) }
     ensures text_too_long { IsErrOf result MessageError.TextTooLong → text_limit < length given.entry.text.now }
     ensures field_too_long { IsErrOf result MessageError.FieldTooLong → IsTooLongField text_limit given.entry.text.now given.entry.source }
     ensures out_of_memory { IsErrOf result MessageError.OutOfMemory → IsWithin text_limit given.entry.text.now given.entry.source }
@@ -171,9 +162,10 @@ fn bring<O: CarryWaiting>(
     let mut hand = None;
     admit(alloc, outlet, text_limit, own, given, &mut hand)?;
     if hand.is_none() {
-        return Ok(None);
+        return Ok(LogReply::Filtered { level: own, kept });
     }
-    Ok(Some(outlet.post_waiting(rt, policy, &mut hand)))
+    let outcome = outlet.post_waiting(rt, policy, &mut hand);
+    Ok(LogReply::Logged { outcome, kept })
 }
 
 /// Posts a message as `bring` does, and keeps a copy of it as soon as the lock is got. Where this fails, nothing was done. It is not
@@ -188,11 +180,11 @@ fn bring_and_keep<O: CarryWaiting>(
     own: Level,
     policy: Policy,
     given: MessageRef<'_>,
-) -> Result<Option<Outcome<()>>, MessageError>
+) -> Result<LogReply, MessageError>
     requires limit { (LEAST_TEXT_LIMIT ≤ text_limit) × (text_limit ≤ MOST_TEXT_LIMIT) }
     requires outlet { O.is_ready outlet.old × AdmitsShort O.admits text_limit outlet.old }
     requires keeper { IsSeated keeper.old × (text_limit ≤ keeper.old.lane.now.first.limit) }
-    ensures brought { IfOk result (λ p. IsBrought O.did own policy (message_of given.entry) outlet.old p outlet.new) }
+    ensures brought { IfOk result (λ r. IsBrought O.did own policy true (message_of given.entry) outlet.old r outlet.new) }
     ensures kept { IfOk result (λ _. KeepsByTurn keeper.old (message_of given.entry) keeper.new) }
     ensures within { IfOk result (λ _. IsWithin text_limit given.entry.text.now given.entry.source) }
     ensures text_too_long { IsErrOf result MessageError.TextTooLong → text_limit < length given.entry.text.now }
@@ -205,9 +197,9 @@ fn bring_and_keep<O: CarryWaiting>(
     ensures lane { keeper.new.lane ≡ keeper.old.lane }
 {
     let copy = message(alloc, text_limit, given)?;
-    let posted = bring(rt, alloc, outlet, text_limit, own, policy, given)?;
+    let reply = bring(rt, alloc, outlet, text_limit, own, policy, given, true)?;
     keeper.keep(rt, copy);
-    Ok(posted)
+    Ok(reply)
 }
 
 /// Posts what was dumped between the two markers, or nothing where nothing was.

@@ -7,6 +7,6 @@ pub returns-clause-brought : goal.returns-clause-brought
 returns-clause-brought g c =
     let o = g.O.Carry in
     let a = c.args in
-    brought_from o.did g.met.O.Carry.together o.is_fit o.shows a.policy a.own (message_of a.given) a.outlet.now c.admit.new.outlet
-    c.post_waiting.new.self c.admit.new.hand c.post_waiting.result (c.is_none.ensures ∙ ap not c.if-is_none.false)
-    c.in_ok-admit.ensures.made c.post_waiting.ensures.post
+    brought_from o.did g.met.O.Carry.together o.is_fit o.shows a.policy a.kept a.own (message_of a.given) a.outlet.now c.admit.new.outlet
+    c.post_waiting-outcome.new.self c.admit.new.hand c.post_waiting-outcome.result
+    (c.is_none.ensures ∙ ap not c.if-is_none.false) c.in_ok-admit.ensures.made c.post_waiting-outcome.ensures.post
