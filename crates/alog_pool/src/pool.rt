@@ -18,7 +18,7 @@ use crate::setup::Setup;
 use crate::shared::Shared;
 use alog_msg::Item;
 use alog_policy::BookSeat;
-use alog_registry::TextLimit;
+use alog_registry::{Loggers, TextLimit};
 use alog_ring::{NewError, Pass, Ring};
 use alog_sink::Store;
 use std::alloc::{AllocError, Global};
@@ -108,6 +108,13 @@ impl<S: Store + Drop + Send + 'static> Pool<S> {
             Ok(pool) => Ok(pool),
             Err(AllocError) => Err(StartError::OutOfMemory),
         }
+    }
+
+    /// Its loggers: by name, with their levels, which any thread may set while it runs.
+    pub fn loggers(&self) -> &Loggers
+        ensures { result.now ≡ self.now.shared.loggers }
+    {
+        &self.shared.loggers
     }
 
     /// A producer for a request thread. Its number is how many were made before it.

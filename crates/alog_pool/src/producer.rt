@@ -19,7 +19,7 @@ use crate::keeping::Keeping;
 use crate::shared::Shared;
 use alog_msg::{Item, Level, MessageError, SourceRef};
 use alog_policy::{BookSeat, Outcome, Port};
-use alog_registry::LogReply;
+use alog_registry::{LogReply, Loggers};
 use alog_ring::Pass;
 use std::alloc::{AllocError, Global};
 use std::marker::Model;
@@ -65,6 +65,13 @@ impl Producer {
         ensures { result ≡ self.now.number }
     {
         self.number
+    }
+
+    /// The loggers that it logs to: by name, with their levels, which any thread may set while the pool runs.
+    pub fn loggers(&self) -> &Loggers
+        ensures { result.now ≡ self.now.shared.loggers }
+    {
+        &self.shared.loggers
     }
 
     /// Logs a message to the logger of this number, as `Loggers::log` does: under `Block` it waits for room, and where the
