@@ -19,4 +19,3 @@ pub mod Served
 pub mod Closed
 pub mod Totalled
 pub mod OneWorker
-pub mod Opening
