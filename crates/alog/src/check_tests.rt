@@ -1,7 +1,7 @@
 //! `alog check` on the whole program: files that have a configuration, that have none, and that cannot be read.
 use crate::examples::{DAILY_ERRORS, FAN, ONE_FILE, ROTATING};
-use crate::progress::Screen;
 use crate::program;
+use crate::progress::Screen;
 use crate::script_tests::Narrow;
 use crate::stores::Folders;
 use std::io::{Read, Write};

@@ -198,6 +198,64 @@ fn files_of_a_folder(rt: HostRuntime) -> Result<(), Fail> {
     Ok(fs::remove_file(&rt, file)?)
 }
 
+/// How many producers a load of many lines has, and how many messages each logs.
+const PRODUCERS: usize = 3;
+
+const MESSAGES: usize = 200;
+
+/// Which of all those messages a line is of.
+fn number_of(line: &str) -> Option<usize> {
+    let (producer, message) = line.strip_prefix("net I ")?.split_once(' ')?;
+    let (producer, message) = (
+        producer.parse::<usize>().ok()?,
+        message.parse::<usize>().ok()?,
+    );
+    if producer >= PRODUCERS || message >= MESSAGES {
+        return None;
+    }
+    Some(producer * MESSAGES + message)
+}
+
+/// Each message has one line here, and nothing else stands here.
+fn has_each_once<R: AllocGlobal + Abort>(rt: &R, text: &str) -> Result<(), Fail> {
+    let mut found = Vec::from_elem(rt.alloc(), false, PRODUCERS * MESSAGES)?;
+    for line in text.lines() {
+        let Some(is_found) = number_of(line).and_then(|number| found.get_mut(number)) else {
+            panic!(rt; "another line: {line}")
+        };
+        assert!(rt; !*is_found, "{line}");
+        *is_found = true;
+    }
+    assert!(rt; found.iter().all(|is_found| *is_found));
+    Ok(())
+}
+
+/// Two workers write the lines of three producers to a file.
+#[test]
+fn each_line_of_many_is_in_its_file(rt: HostRuntime) -> Result<(), Fail> {
+    let path = scratch(&rt, "to_many")?;
+    let folder = scratch(&rt, "many")?;
+    let document = format!(in rt.alloc(); "workers = 2\n{SMALL}")?;
+    fs::write(&rt, path.as_str(), document.as_str())?;
+    fs::create_dir(&rt, folder.as_str())?;
+    let (file, to) = (path.as_str(), folder.as_str());
+    let words = [
+        "alog",
+        "load",
+        file,
+        "--producers=3",
+        "--messages=200",
+        "--folder",
+        to,
+    ];
+    let all = "asked 600\nposted 600\ndiscarded 0\noverrun 0\nhandled 600\n";
+    answers(&rt, words.as_slice(), Said::done(all));
+    let written = fs::read_to_string(&rt, folder.join(rt.alloc(), "out")?)?;
+    has_each_once(&rt, written.as_str())?;
+    fs::remove_dir_all(&rt, to)?;
+    Ok(fs::remove_file(&rt, file)?)
+}
+
 // No line can be written to a folder that is absent.
 #[test]
 fn a_fault_stands_behind_the_totals(rt: HostRuntime) -> Result<(), Fail> {

@@ -1,11 +1,12 @@
 //! Loads of small configurations.
 use super::*;
 use alog_config::{Config, ConfigFault, leaves, read};
-use alog_pool::{OpenGate, Report, Totals};
+use alog_pool::{Gate, OpenGate, Report, Totals};
 use alog_sink::{FuseStore, MemStore, Sink, Store};
 use std::alloc::{AllocError, Global};
 use std::process::Abort;
-use std::sync::Wait;
+use std::sync::atomic::{AtomicU64, Ordering};
+use std::sync::{Arc, Wait};
 use std::test::Fail;
 use std::thread::Threads;
 use std::time::Clock;
@@ -62,22 +63,33 @@ fn config_of(alloc: Global, document: &str) -> Result<Config, Fail> {
     }
 }
 
-// What a load over these stores answers, which have to be as many as the sinks need.
+// What a load over these stores answers, which have to be as many as the sinks need, with this gate.
 fn loaded_over<
     R: Abort + Threads + Wait + Clock + Clone + Drop + Send + 'static,
     S: Store + Drop + Send + 'static,
+    G: Gate + Send + Sync + Drop + 'static,
 >(
     rt: &R,
     alloc: Global,
     config: &Config,
     stores: Vec<S>,
+    gate: G,
     producers: u64,
     messages: u64,
 ) -> Result<Result<Report<S>, LoadError>, Fail> {
     if stores.len() != leaves(config) {
         return Err(Fail::new("there are as many stores as leaves"));
     }
-    Ok(load(rt, alloc, config, stores, OpenGate, producers, messages))
+    Ok(load(rt, alloc, config, stores, gate, producers, messages))
+}
+
+// So many stores in memory.
+fn memory(alloc: Global, number: usize) -> Result<Vec<MemStore>, Fail> {
+    let mut stores = Vec::new(alloc);
+    for _ in 0..number {
+        stores.push(MemStore::new(alloc))?;
+    }
+    Ok(stores)
 }
 
 // What one over stores in memory answers.
@@ -89,11 +101,8 @@ fn loaded<R: Abort + Threads + Wait + Clock + Clone + Drop + Send + 'static>(
     messages: u64,
 ) -> Result<Result<Report<MemStore>, LoadError>, Fail> {
     let config = config_of(alloc, document)?;
-    let mut stores = Vec::new(alloc);
-    for _ in 0..leaves(&config) {
-        stores.push(MemStore::new(alloc))?;
-    }
-    loaded_over(rt, alloc, &config, stores, producers, messages)
+    let stores = memory(alloc, leaves(&config))?;
+    loaded_over(rt, alloc, &config, stores, OpenGate, producers, messages)
 }
 
 // All of so many were posted and handled.
@@ -226,7 +235,7 @@ fn with_fuse<R: Abort + Threads + Wait + Clock + Clone + Drop + Send + 'static>(
     let mut stores = Vec::new(alloc);
     stores.push(FuseStore::new(MemStore::new(alloc), 1_000, 0))?;
     stores.push(FuseStore::new(MemStore::new(alloc), k, 0))?;
-    loaded_over(rt, alloc, &config, stores, 1, 10)
+    loaded_over(rt, alloc, &config, stores, OpenGate, 1, 10)
 }
 
 #[test]
@@ -238,5 +247,76 @@ fn a_store_that_fails(rt: HostRuntime) -> Result<(), Fail> {
     };
     assert!(rt; report.totals == all_of(10));
     assert!(rt; report.faults.as_slice() == [0, 8].as_slice());
+    Ok(())
+}
+
+// What the workers of a load told their gate.
+#[derive(Drop)]
+struct Seen {
+    begun: AtomicU64,
+    ended: AtomicU64,
+    /// The texts that are being handled: a bit for each ticket below 64.
+    open: AtomicU64,
+    /// The texts that began twice, or ended without having begun.
+    strays: AtomicU64,
+}
+
+// Nothing yet.
+fn unseen() -> Seen {
+    Seen {
+        begun: AtomicU64::new(0),
+        ended: AtomicU64::new(0),
+        open: AtomicU64::new(0),
+        strays: AtomicU64::new(0),
+    }
+}
+
+// The bit of a ticket.
+fn bit(ticket: u64) -> u64 {
+    1 << (ticket % 64)
+}
+
+// A gate that counts its calls.
+#[derive(Drop)]
+struct Counting(Arc<Seen>);
+
+impl Gate for Counting {
+    fn before(&self, _worker: u32, ticket: u64) {
+        let seen: &Seen = &self.0;
+        seen.begun.fetch_add(1, Ordering::SeqCst);
+        if seen.open.fetch_or(bit(ticket), Ordering::SeqCst) & bit(ticket) != 0 {
+            seen.strays.fetch_add(1, Ordering::SeqCst);
+        }
+    }
+
+    fn after(&self, _worker: u32, ticket: u64) {
+        let seen: &Seen = &self.0;
+        seen.ended.fetch_add(1, Ordering::SeqCst);
+        if seen.open.fetch_and(!bit(ticket), Ordering::SeqCst) & bit(ticket) == 0 {
+            seen.strays.fetch_add(1, Ordering::SeqCst);
+        }
+    }
+}
+
+// So many texts began, and each ended behind that.
+fn has_seen(rt: &impl Abort, seen: &Seen, texts: u64) {
+    assert_eq!(rt; seen.begun.load(Ordering::SeqCst), texts);
+    assert_eq!(rt; seen.ended.load(Ordering::SeqCst), texts);
+    assert_eq!(rt; seen.open.load(Ordering::SeqCst), 0);
+    assert_eq!(rt; seen.strays.load(Ordering::SeqCst), 0);
+}
+
+// Three of four producers log twenty texts that are handled.
+#[test]
+fn the_gate_is_called_round_each_text(rt: HostRuntime) -> Result<(), Fail> {
+    let alloc = rt.alloc();
+    let config = config_of(alloc, TWO_LOGGERS)?;
+    let seen = Arc::new(alloc, unseen())?;
+    let gate = Counting(Arc::try_clone(&seen)?);
+    let Ok(report) = loaded_over(&rt, alloc, &config, memory(alloc, 2)?, gate, 4, 20)? else {
+        panic!(rt; "no report")
+    };
+    assert!(rt; report.totals == all_of(60));
+    has_seen(&rt, &seen, 60);
     Ok(())
 }

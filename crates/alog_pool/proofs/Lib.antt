@@ -20,4 +20,3 @@ pub mod Closed
 pub mod Totalled
 pub mod Held
 pub mod OneWorker
-pub mod Opening

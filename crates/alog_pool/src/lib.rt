@@ -22,44 +22,26 @@
 //! `specs/Ended.antt`). The law `one_worker_writes_in_order` says what a pool of one worker wrote (`specs/OneWorker.antt`).
 //!
 //! Read `gate.rt`, `shared.rt`; then `hand.rt`, `berth.rt`, `rest.rt` (how a worker waits); then `producer.rt`, `keeping.rt`; then
-//! `setup.rt`, `ground.rt`, `works.rt`, `pool.rt`; then `stops.rt`, `alone.rt`, `report.rt`, `shutdown.rt`. Tests of whole pools go
-//! by `trial.rt`.
+//! `setup.rt`, `ground.rt`, `works.rt`, `pool.rt`; then `stops.rt`, `alone.rt`, `report.rt`, `shutdown.rt`. The tests are in
+//! `alog_pool_tests`.
 #![tactic(auto)]
 
 mod alone;
 mod berth;
 mod error;
 mod gate;
-#[cfg(test)]
-mod gate_tests;
 mod ground;
 mod hand;
 mod keeping;
 mod laws;
-#[cfg(test)]
-mod meeting_tests;
-#[cfg(test)]
-mod memory_tests;
 mod pool;
-#[cfg(test)]
-mod pool_tests;
 mod producer;
-#[cfg(test)]
-mod producer_tests;
 mod report;
 mod rest;
 mod setup;
 mod shared;
 mod shutdown;
-#[cfg(test)]
-mod shutdown_tests;
 mod stops;
-#[cfg(test)]
-mod tests;
-#[cfg(test)]
-mod thread_tests;
-#[cfg(test)]
-mod trial;
 mod works;
 
 pub use berth::Berth;

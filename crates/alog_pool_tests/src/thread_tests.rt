@@ -1,18 +1,21 @@
 //! Pools whose producers log on threads of their own, beside the workers, through a queue that is far smaller than what they log.
 //!
 //! What becomes of a message is a matter of chance where the policy may lose some: what the report says is held against what the
-//! producers were told, against the tickets, and against the lines.
+//! producers were told, against the tickets, and against the lines, each of which is of a text that its producer was told is
+//! posted.
 ghost use Rattle.std.specs.Prelude.{◌≡◌, All};
 
-use super::*;
-use crate::trial::{Files, NEVER, PLAIN, Plan, Trial, file_of, has_faults, setup_of, tickets_of};
+use crate::reports::{file_of, has_faults, tickets_of};
+use crate::totals::totals_of;
+use crate::trial::{Files, NEVER, PLAIN, Plan, Trial, setup_of};
 use alog_msg::Level;
 use alog_policy::{Outcome, Policy};
+use alog_pool::{OpenGate, Pool, Producer, Report, Totals};
 use alog_registry::LogReply;
 use std::alloc::Global;
 use std::process::Abort;
 use std::sync::Wait;
-use std::sync::atomic::{AtomicU64, Ordering};
+use std::sync::atomic::{AtomicBool, AtomicU64, Ordering};
 use std::thread::{self, Threads};
 use std::time::Clock;
 
@@ -25,29 +28,35 @@ const MESSAGES: u64 = 10_000;
 /// How many messages are logged in all.
 const ALL: u64 = 80_000;
 
-/// What all producers were told.
+/// What all producers were told: which texts were posted, by their numbers, and how many were lost.
 #[derive(Drop)]
 struct Told {
-    posted: AtomicU64,
+    posted: Vec<AtomicBool>,
     discarded: AtomicU64,
     overrun: AtomicU64,
 }
 
-impl Told {
-    /// Nothing yet.
-    fn new() -> Told {
-        Told {
-            posted: AtomicU64::new(0),
-            discarded: AtomicU64::new(0),
-            overrun: AtomicU64::new(0),
-        }
+/// Nothing yet.
+fn untold(rt: &impl Abort, alloc: Global) -> Told {
+    let mut posted = Vec::new(alloc);
+    for _ in 0..ALL {
+        assert!(rt; posted.push(AtomicBool::new(false)).is_ok());
     }
+    Told {
+        posted,
+        discarded: AtomicU64::new(0),
+        overrun: AtomicU64::new(0),
+    }
+}
 
-    /// Counts what one post was told.
-    fn count(&self, outcome: &Outcome<()>) {
+impl Told {
+    /// Notes what the post of this text was told.
+    fn note(&self, text: u64, outcome: &Outcome<()>) {
         match outcome {
             Outcome::Posted { overran, .. } => {
-                self.posted.fetch_add(1, Ordering::SeqCst);
+                if let Some(flag) = self.posted.get(text as usize) {
+                    flag.store(true, Ordering::SeqCst);
+                }
                 self.overrun.fetch_add(*overran, Ordering::SeqCst);
             }
             Outcome::Discarded { overran, .. } => {
@@ -57,31 +66,33 @@ impl Told {
         }
     }
 
-    /// The totals, where what was posted and not overrun was handled.
-    fn totals(&self) -> Totals {
-        let posted = self.posted.load(Ordering::SeqCst);
-        let discarded = self.discarded.load(Ordering::SeqCst);
-        let overrun = self.overrun.load(Ordering::SeqCst);
-        Totals {
-            asked: ALL,
-            posted,
-            discarded,
-            overrun,
-            handled: posted.wrapping_sub(overrun),
+    /// Whether this text was posted.
+    fn is_posted(&self, text: u64) -> bool {
+        match self.posted.get(text as usize) {
+            Some(flag) => flag.load(Ordering::SeqCst),
+            None => false,
         }
     }
-}
 
-/// The text of the producer's message of this number is a number that no other message has.
-fn text(rt: &impl Abort, alloc: Global, producer: u64, number: u64) -> String {
-    let text = producer.wrapping_mul(MESSAGES).wrapping_add(number);
-    match format!(in alloc; "{text}") {
-        Ok(text) => text,
-        Err(_) => panic!(rt; "no memory"),
+    /// How many were.
+    fn count_posted(&self) -> usize {
+        let is_up = |flag: &&AtomicBool| flag.load(Ordering::SeqCst);
+        self.posted.iter().filter(is_up).count()
+    }
+
+    /// The totals, where what was posted and not overrun was handled.
+    fn totals(&self) -> Totals {
+        let discarded = self.discarded.load(Ordering::SeqCst);
+        totals_of(ALL, discarded, self.overrun.load(Ordering::SeqCst))
     }
 }
 
-/// Logs the message of this number.
+/// The number of the producer's message of this number, which no other message has.
+fn number_of(producer: u64, number: u64) -> u64 {
+    producer.wrapping_mul(MESSAGES).wrapping_add(number)
+}
+
+/// Logs the message of this number. Its text is its number among all.
 fn say(
     rt: &(impl Abort + Wait + Clock),
     alloc: Global,
@@ -91,10 +102,13 @@ fn say(
 )
     ensures { producer.new.shared ≡ producer.old.shared }
 {
-    assert!(rt; producer.shared.loggers.len() > 0);
-    let text = text(rt, alloc, producer.number(), number);
+    assert!(rt; producer.loggers().len() > 0);
+    let number = number_of(producer.number(), number);
+    let Ok(text) = format!(in alloc; "{number}") else {
+        panic!(rt; "no memory")
+    };
     match producer.log(rt, alloc, 0, Level::Info, 0, text.as_str(), None) {
-        Ok(LogReply::Logged { outcome, .. }) => told.count(&outcome),
+        Ok(LogReply::Logged { outcome, .. }) => told.note(number, &outcome),
         _ => panic!(rt; "not logged"),
     }
 }
@@ -205,17 +219,31 @@ fn are_in_order(rt: &impl Abort, numbers: &[u64]) {
     }
 }
 
-/// There is a line for each message that was handled: each is one of those that were logged, and no two are the same. What one
-/// worker wrote is in order.
-fn has_each_line_once(rt: &impl Abort, alloc: Global, report: &Report<Files>, workers: usize) {
+/// Each of these texts was posted, and as many as the totals say were posted in all.
+fn are_posted(rt: &impl Abort, numbers: &[u64], told: &Told, totals: Totals) {
+    assert!(rt; told.count_posted() as u64 == totals.posted);
+    for number in numbers {
+        assert!(rt; told.is_posted(*number));
+    }
+}
+
+/// There is a line for each message that was handled: each is one of those that were posted, and no two are the same. So all that
+/// were posted have a line where none was overrun. What one worker wrote is in order.
+fn has_each_line_once(
+    rt: &impl Abort,
+    alloc: Global,
+    report: &Report<Files>,
+    told: &Told,
+    workers: usize,
+) {
     let mut numbers = numbers_of(rt, alloc, report);
     assert!(rt; numbers.len() as u64 == report.totals.handled);
+    are_posted(rt, &numbers, told, report.totals);
     if workers == 1 {
         are_in_order(rt, &numbers);
     }
     numbers.sort_unstable();
     assert!(rt; rise(&numbers));
-    assert!(rt; numbers.last().is_none_or(|last| *last < ALL));
 }
 
 /// What became of the messages that the producers logged under this policy, to so many workers.
@@ -231,12 +259,12 @@ where
     };
     let setup = setup_of(alloc, plan, &[&[0]], &[NEVER]);
     let trial = Trial::start(rt, alloc, setup, OpenGate, TALKERS);
-    let told = Told::new();
+    let told = untold(rt, alloc);
     let report = talk(rt, alloc, trial, &told).end(rt);
     assert!(rt; report.totals == told.totals());
     has_faults(rt, &report, &[0]);
     has_each_ticket_once(rt, alloc, &report, workers);
-    has_each_line_once(rt, alloc, &report, workers);
+    has_each_line_once(rt, alloc, &report, &told, workers);
     report.totals
 }
 

@@ -1,10 +1,10 @@
 //! Pools that are ended.
-use super::*;
-use crate::trial::{
-    Files, NEVER, PLAIN, Plan, Trial, file_of, has, has_faults, has_first_tickets, has_lines,
-    has_tickets, has_totals, setup_of,
+use crate::reports::{
+    file_of, has, has_faults, has_first_tickets, has_lines, has_tickets, has_totals,
 };
+use crate::trial::{Files, NEVER, PLAIN, Plan, Trial, setup_of};
 use alog_msg::Level;
+use alog_pool::{OpenGate, Report};
 use std::alloc::Global;
 use std::process::Abort;
 use std::sync::Wait;
@@ -12,6 +12,18 @@ use std::time::Clock;
 
 /// What a dump of two messages writes.
 const DUMPED: &[u8] = b"=== backtrace start ===\nm2\nm3\n=== backtrace end ===\n";
+
+#[test]
+fn a_worker_writes_and_stops(rt: HostRuntime) {
+    let alloc = rt.alloc();
+    let setup = setup_of(alloc, PLAIN, &[&[0]], &[NEVER]);
+    let mut trial = Trial::start(&rt, alloc, setup, OpenGate, 1);
+    trial.say(&rt, alloc, 0, "a");
+    let report = trial.end(&rt);
+    has_totals(&rt, &report, 1, 0, 0);
+    has_tickets(&rt, &report, 0, &[0]);
+    has(&rt, &report, 0, b"a\n");
+}
 
 #[test]
 fn two_producers_come_back(rt: HostRuntime) {
@@ -183,8 +195,8 @@ fn a_dump_and_a_flush_are_handled(rt: HostRuntime) {
     trial.say(&rt, alloc, 0, "m1");
     trial.say(&rt, alloc, 0, "m2");
     trial.say(&rt, alloc, 0, "m3");
-    trial.dump(&rt, alloc, 4);
-    trial.flush(&rt);
+    trial.dump(&rt, alloc, 0, 4);
+    trial.flush(&rt, 0, 4);
     let report = trial.end(&rt);
     has_totals(&rt, &report, 5, 0, 0);
     has_tickets(&rt, &report, 0, &[0, 1, 2, 3, 4]);

@@ -4,8 +4,10 @@
 ghost use Rattle.std.specs.Prelude.{IfOk};
 ghost use Rattle.alog_pool.specs.Pool.{Fits};
 
-use super::*;
-use crate::trial::{Files, NEVER, PLAIN, Plan, Trial, has_totals, setup_of};
+use crate::reports::{count_lines, file_of, has_totals};
+use crate::trial::{Files, NEVER, PLAIN, Plan, Trial, setup_of};
+use alog_msg::Level;
+use alog_pool::{Gate, OpenGate, Pool, Report, Setup, StartError};
 use std::alloc::{AllocError, Global};
 use std::process::Abort;
 use std::sync::{Arc, Wait};
@@ -15,10 +17,12 @@ use std::time::Clock;
 /// What is logged, which takes memory of its own.
 const TEXT: &str = "a request of more than sixty-four bytes, which do not lie in a message";
 
-/// The lines of three such.
-const LINES: &str = "a request of more than sixty-four bytes, which do not lie in a message\n\
-a request of more than sixty-four bytes, which do not lie in a message\n\
-a request of more than sixty-four bytes, which do not lie in a message\n";
+/// The lines of a whole run, and how often each stands there: three texts are logged, and two of them dumped between two others.
+const LINES: [(&str, usize); 3] = [
+    (TEXT, 5),
+    ("=== backtrace start ===", 1),
+    ("=== backtrace end ===", 1),
+];
 
 /// How often a pool's workers are looked for.
 const LOOKS: u32 = 10_000_000;
@@ -46,12 +50,14 @@ fn is_left_alone(shared: Arc<u8>) -> bool {
     false
 }
 
-/// A setup of three workers and two sinks, made again where memory was wanting.
+/// A setup of three workers, two sinks and a backtrace of two messages, made again where memory was wanting.
 fn setup_again(alloc: Global) -> Result<Setup<Files>, AllocError>
     ensures { IfOk result Fits }
 {
     let plan = Plan {
+        queue: 16,
         workers: 3,
+        backtrace: 2,
         ..PLAIN
     };
     let setup = setup_of(alloc, plan, &[&[0, 1]], &[NEVER, NEVER]);
@@ -95,16 +101,23 @@ fn pool_again<R: Abort + Threads + Wait + Clock + Clone + Drop + Send + 'static>
     }
 }
 
-/// The file of each sink has all three lines, which are the same since the workers write them in any order, unless a line made a
-/// fault.
+/// Whether a file has all lines and no others, in whichever order: three workers write them.
+fn is_whole(file: &[u8]) -> bool {
+    let mut bytes = 0_usize;
+    for (line, count) in LINES {
+        if count_lines(file, line.as_bytes()) != count {
+            return false;
+        }
+        bytes = bytes.saturating_add(count.saturating_mul(line.len().saturating_add(1)));
+    }
+    file.len() == bytes
+}
+
+/// The file of each sink is whole, unless a line made a fault.
 fn are_told(rt: &impl Abort, report: &Report<Files>) {
     assert!(rt; report.faults.len() == 2 && report.sinks.len() == 2);
-    for (faults, sink) in report.faults.iter().zip(report.sinks.iter()) {
-        let file = sink
-            .store()
-            .and_then(|store| store.store().files().get("log"));
-        let is_whole = file.is_some_and(|file| file.as_slice() == LINES.as_bytes());
-        assert!(rt; is_whole == (*faults == 0));
+    for (sink, faults) in report.faults.iter().enumerate() {
+        assert!(rt; is_whole(file_of(rt, report, sink)) == (*faults == 0));
     }
 }
 
@@ -113,9 +126,12 @@ fn want_of_memory(rt: HostRuntime) {
     let alloc = rt.alloc();
     let mut trial = pool_again(&rt, alloc);
     trial.say(&rt, alloc, 0, TEXT);
+    trial.log_now(&rt, alloc, 1, Level::Error, TEXT);
+    trial.log_at(&rt, alloc, 0, 0, Level::Debug, TEXT);
+    trial.flush(&rt, 1, 2);
+    trial.dump(&rt, alloc, 0, 4);
     trial.say(&rt, alloc, 1, TEXT);
-    trial.say(&rt, alloc, 0, TEXT);
     let report = trial.end(&rt);
-    has_totals(&rt, &report, 3, 0, 0);
+    has_totals(&rt, &report, 8, 0, 0);
     are_told(&rt, &report);
 }

@@ -3,12 +3,12 @@ ghost use Rattle.std.specs.Prelude.{◌≡◌, IfOk};
 ghost use Rattle.std.specs.List.{AllByRecursion};
 ghost use Rattle.alog_pool.specs.Berth.{Suits};
 ghost use Rattle.alog_pool.specs.Pool.{Fits};
-ghost use Rattle.alog_pool.specs.declared.tests.TheConstants.{TEXT_LIMIT};
+ghost use Rattle.alog_pool_tests.specs.declared.sinks.TheConstants.{TEXT_LIMIT};
 
-use super::*;
-use crate::tests::{TEXT_LIMIT, face, sink};
+use crate::sinks::{TEXT_LIMIT, face, sink};
 use crate::trial::{PLAIN, registry};
 use alog_msg::Level;
+use alog_pool::{OpenGate, Pool, Report, Setup};
 use alog_sink::{Sink, Store, StoreError};
 use std::alloc::{AllocError, Global};
 use std::process::Abort;
@@ -152,7 +152,7 @@ fn ended<R: Abort + Threads + Wait + Clock + Clone + Drop + Send + 'static>(
     let Ok(mut producer) = pool.producer() else {
         panic!(rt; "no producer")
     };
-    assert!(rt; producer.shared.loggers.len() == 2);
+    assert!(rt; producer.loggers().len() == 2);
     assert!(rt;
         producer
             .log(rt, alloc, 0, Level::Info, 0, "a", None)

@@ -1,16 +1,16 @@
-//! A pool that is tried, with its producers, and what it answers at its end. The functions end the test where something is not as
-//! it should be: a test is a straight line of calls.
+//! A pool that is tried, with its producers. The functions end the test where something is not as it should be: a test is a
+//! straight line of calls.
 ghost use Rattle.std.specs.Prelude.{◌≡◌, [], IfOk};
 ghost use Rattle.std.specs.List.{AllByRecursion};
 ghost use Rattle.alog_pool.specs.Berth.{Suits};
 ghost use Rattle.alog_pool.specs.Pool.{Fits};
-ghost use Rattle.alog_pool.specs.declared.tests.TheConstants.{TEXT_LIMIT};
+ghost use Rattle.alog_pool_tests.specs.declared.sinks.TheConstants.{TEXT_LIMIT};
 
-use super::*;
-use crate::tests::{TEXT_LIMIT, face, sink};
+use crate::sinks::{TEXT_LIMIT, face, sink};
 use alog_msg::{Level, MessageError};
 use alog_policy::{Outcome, Policy};
-use alog_registry::{LogReply, Registry, Spec};
+use alog_pool::{Gate, Pool, Producer, ProducerError, ProducersOut, Report, Setup};
+use alog_registry::{LogReply, Loggers, Registry, Spec};
 use alog_sink::{FuseStore, MemStore, Sink};
 use std::alloc::{AllocError, Global};
 use std::marker::Model;
@@ -29,6 +29,8 @@ pub const NEVER: u64 = u64::MAX;
 #[derive(Clone, Copy, Drop)]
 pub struct Plan {
     pub queue: usize,
+    /// The first ticket.
+    pub first: u64,
     pub workers: usize,
     pub tickets_max: usize,
     pub level: Level,
@@ -39,6 +41,7 @@ pub struct Plan {
 /// One worker and a queue of eight places, which blocks where it is full.
 pub const PLAIN: Plan = Plan {
     queue: 8,
+    first: 0,
     workers: 1,
     tickets_max: 400,
     level: Level::Info,
@@ -64,7 +67,7 @@ impl Model for Trial {
     ghost invariant = { λ t. AllByRecursion (λ p. p.shared ≡ t.pool.shared) t.producers.items };
 }
 
-/// Loggers that do what the plan says, of which each has a route: the numbers of its sinks.
+/// Loggers that do what the plan says, of which each has a route: the numbers of its sinks. The name of each is its number.
 pub fn registry(alloc: Global, plan: Plan, routes: &[&[u32]]) -> Result<Registry, AllocError> {
     let mut registry = Registry::new(alloc);
     for (number, route) in routes.iter().enumerate() {
@@ -109,7 +112,7 @@ pub fn setup_of(
     let sinks = sinks(alloc, fuses)?;
     Ok(Setup {
         queue: plan.queue,
-        first: 0,
+        first: plan.first,
         workers: plan.workers,
         tickets_max: plan.tickets_max,
         text_limit: TEXT_LIMIT,
@@ -146,14 +149,16 @@ fn room(rt: &impl Abort, alloc: Global, count: usize) -> Vec<Producer>
     }
 }
 
-/// So many producers of this pool.
+/// So many producers of this pool, which made none yet.
 fn made(rt: &impl Abort, alloc: Global, pool: &mut Pool<Files>, count: usize) -> Vec<Producer>
     ensures pool { pool.new.shared ≡ pool.old.shared }
     ensures producers { AllByRecursion (λ p. p.shared ≡ pool.old.shared) result.items }
 {
     let mut all = room(rt, alloc, count);
-    for _ in 0..count {
-        assert!(rt; all.push(next(rt, pool)).is_ok());
+    for number in 0..count {
+        let producer = next(rt, pool);
+        assert!(rt; producer.number() == number as u64);
+        assert!(rt; all.push(producer).is_ok());
     }
     all
 }
@@ -188,21 +193,22 @@ impl Trial {
         Trial { pool, producers }
     }
 
-    /// The producer of this number logs this text to this logger. Where memory was wanting, it logs it again.
-    pub fn log(
+    /// The producer of this number logs this text, of this level, to this logger. Where memory was wanting, it logs it again.
+    pub fn log_at(
         &mut self,
         rt: &(impl Abort + Wait + Clock),
         alloc: Global,
         number: usize,
         logger: u32,
+        level: Level,
         text: &str,
     ) -> LogReply {
         assert!(rt; number < self.producers.len());
         let producer = &mut self.producers[number];
-        assert!(rt; (logger as usize) < producer.shared.loggers.len());
-        let answer = match producer.log(rt, alloc, logger, Level::Info, 0, text, None) {
+        assert!(rt; (logger as usize) < producer.loggers().len());
+        let answer = match producer.log(rt, alloc, logger, level, 0, text, None) {
             Err(MessageError::OutOfMemory) => {
-                producer.log(rt, alloc, logger, Level::Info, 0, text, None)
+                producer.log(rt, alloc, logger, level, 0, text, None)
             }
             answer => answer,
         };
@@ -212,7 +218,41 @@ impl Trial {
         }
     }
 
-    /// It logs it to the first logger.
+    /// It logs it without waiting, to the first logger.
+    pub fn log_now(
+        &mut self,
+        rt: &impl Abort,
+        alloc: Global,
+        number: usize,
+        level: Level,
+        text: &str,
+    ) -> LogReply {
+        assert!(rt; number < self.producers.len());
+        let producer = &mut self.producers[number];
+        assert!(rt; producer.loggers().len() > 0);
+        let answer = match producer.log_now(alloc, 0, level, 0, text, None) {
+            Err(MessageError::OutOfMemory) => producer.log_now(alloc, 0, level, 0, text, None),
+            answer => answer,
+        };
+        match answer {
+            Ok(reply) => reply,
+            Err(_) => panic!(rt; "no memory"),
+        }
+    }
+
+    /// It logs it, of level info, to this logger.
+    pub fn log(
+        &mut self,
+        rt: &(impl Abort + Wait + Clock),
+        alloc: Global,
+        number: usize,
+        logger: u32,
+        text: &str,
+    ) -> LogReply {
+        self.log_at(rt, alloc, number, logger, Level::Info, text)
+    }
+
+    /// It logs it, of level info, to the first logger.
     pub fn say(
         &mut self,
         rt: &(impl Abort + Wait + Clock),
@@ -223,22 +263,40 @@ impl Trial {
         self.log(rt, alloc, number, 0, text);
     }
 
-    /// The first producer posts a flush of the first logger.
-    pub fn flush(&mut self, rt: &impl Abort) {
-        assert!(rt; self.producers.len() > 0);
-        let producer = &mut self.producers[0];
-        assert!(rt; producer.shared.loggers.len() > 0);
-        assert!(rt; matches!(producer.flush(0), Outcome::Posted { .. }));
+    /// It posts a flush of the first logger, under this ticket.
+    pub fn flush(&mut self, rt: &impl Abort, number: usize, ticket: u64) {
+        assert!(rt; number < self.producers.len());
+        let producer = &mut self.producers[number];
+        assert!(rt; producer.loggers().len() > 0);
+        assert!(rt; producer.flush(0) == Outcome::Posted { ticket, overran: 0 });
     }
 
-    /// It dumps the backtrace of the first logger, by so many posts.
-    pub fn dump(&mut self, rt: &(impl Abort + Wait + Clock), alloc: Global, posts: usize) {
-        assert!(rt; self.producers.len() > 0);
-        let producer = &mut self.producers[0];
-        assert!(rt; producer.shared.loggers.len() > 0);
-        match producer.dump_backtrace(rt, alloc, 0, 0) {
+    /// It dumps the backtrace of the first logger, by so many posts. Where memory was wanting, it dumps it again.
+    pub fn dump(
+        &mut self,
+        rt: &(impl Abort + Wait + Clock),
+        alloc: Global,
+        number: usize,
+        posts: usize,
+    ) {
+        assert!(rt; number < self.producers.len());
+        let producer = &mut self.producers[number];
+        assert!(rt; producer.loggers().len() > 0);
+        let answer = match producer.dump_backtrace(rt, alloc, 0, 0) {
+            Err(_) => producer.dump_backtrace(rt, alloc, 0, 0),
+            answer => answer,
+        };
+        match answer {
             Ok(outcomes) => assert!(rt; outcomes.len() == posts),
             Err(_) => panic!(rt; "no memory"),
+        }
+    }
+
+    /// The loggers, as the producer of this number lends them.
+    pub fn loggers(&self, rt: &impl Abort, number: usize) -> &Loggers {
+        match self.producers.get(number) {
+            Some(producer) => producer.loggers(),
+            None => panic!(rt; "no producer"),
         }
     }
 
@@ -272,86 +330,14 @@ impl Trial {
         assert!(rt; producers.push(late).is_ok());
         Trial { pool, producers }.end(rt)
     }
-}
 
-/// The totals where so many texts and flushes were asked, of which so many were lost.
-fn totals(asked: u64, discarded: u64, overrun: u64) -> Totals {
-    let posted = asked.wrapping_sub(discarded);
-    Totals {
-        asked,
-        posted,
-        discarded,
-        overrun,
-        handled: posted.wrapping_sub(overrun),
+    /// Ends the pool, which makes no producer more.
+    pub fn end_full(self, rt: &(impl Abort + Threads + Wait + Clock)) -> Report<Files> {
+        let Trial {
+            mut pool,
+            producers,
+        } = self;
+        assert!(rt; matches!(pool.producer(), Err(ProducerError::TooMany)));
+        Trial { pool, producers }.end(rt)
     }
-}
-
-/// So many texts and flushes were asked, of which so many were discarded and overrun.
-pub fn has_totals(
-    rt: &impl Abort,
-    report: &Report<Files>,
-    asked: u64,
-    discarded: u64,
-    overrun: u64,
-) {
-    assert!(rt; report.totals == totals(asked, discarded, overrun));
-}
-
-/// There is a sink for each of these numbers, at which so many turns were answered by a fault.
-pub fn has_faults(rt: &impl Abort, report: &Report<Files>, faults: &[u64]) {
-    assert!(rt; report.sinks.len() == faults.len());
-    assert!(rt; report.faults.as_slice() == faults);
-}
-
-/// The tickets that are told of this worker.
-pub fn tickets_of<'a>(rt: &impl Abort, report: &'a Report<Files>, worker: usize) -> &'a [u64] {
-    match report.tickets.get(worker) {
-        Some(tickets) => tickets.as_slice(),
-        None => panic!(rt; "no worker"),
-    }
-}
-
-/// The tickets of this worker are these.
-pub fn has_tickets(rt: &impl Abort, report: &Report<Files>, worker: usize, tickets: &[u64]) {
-    assert!(rt; tickets_of(rt, report, worker) == tickets);
-}
-
-/// The tickets of this worker are the first ones, so many.
-pub fn has_first_tickets(rt: &impl Abort, report: &Report<Files>, worker: usize, count: usize) {
-    let tickets = tickets_of(rt, report, worker);
-    assert!(rt; tickets.len() == count);
-    for (place, ticket) in tickets.iter().enumerate() {
-        assert!(rt; *ticket == place as u64);
-    }
-}
-
-/// What the file of this sink has.
-pub fn file_of<'a>(rt: &impl Abort, report: &'a Report<Files>, sink: usize) -> &'a [u8] {
-    let store = report.sinks.get(sink).and_then(|sink| sink.store());
-    match store.and_then(|store| store.store().files().get("log")) {
-        Some(file) => file.as_slice(),
-        None => panic!(rt; "no file"),
-    }
-}
-
-/// The file of this sink has these bytes.
-pub fn has(rt: &impl Abort, report: &Report<Files>, sink: usize, bytes: &[u8]) {
-    assert!(rt; file_of(rt, report, sink) == bytes);
-}
-
-/// So many of the lines of this sink's file are this one.
-pub fn has_lines(
-    rt: &impl Abort,
-    report: &Report<Files>,
-    sink: usize,
-    wanted: &[u8],
-    count: usize,
-) {
-    let mut found = 0_usize;
-    for line in file_of(rt, report, sink).split(|byte| *byte == b'\n') {
-        if line == wanted {
-            found = found.saturating_add(1);
-        }
-    }
-    assert!(rt; found == count);
 }

@@ -1,0 +1,39 @@
+//! Tests of pools over the public surface of `alog_pool`.
+//!
+//! They are here, and not in `alog_pool`, since a crate with tests is proved twice. Read `sinks.rt` (a sink, and the limit of
+//! texts), `totals.rt` (what a pool has to report, as a plain program), `trial.rt` (a pool that is tried, with its producers) and
+//! `reports.rt` (what is wanted of replies and reports). Then `hand_tests.rt` (a worker alone), `producer_tests.rt`,
+//! `pool_tests.rt` and `shutdown_tests.rt`; `gates.rt` (a gate that holds a worker), `gate_tests.rt` and `order_tests.rt` (which
+//! turn comes before which); `meeting_tests.rt` (sinks that wait for each other), `thread_tests.rt` (producers on threads of their
+//! own) and `memory_tests.rt` (want of memory).
+#![tactic(auto)]
+
+#[cfg(test)]
+mod gate_tests;
+#[cfg(test)]
+mod gates;
+#[cfg(test)]
+mod hand_tests;
+#[cfg(test)]
+mod meeting_tests;
+#[cfg(test)]
+mod memory_tests;
+#[cfg(test)]
+mod order_tests;
+#[cfg(test)]
+mod pool_tests;
+#[cfg(test)]
+mod producer_tests;
+#[cfg(test)]
+mod reports;
+#[cfg(test)]
+mod shutdown_tests;
+#[cfg(test)]
+mod sinks;
+#[cfg(test)]
+mod thread_tests;
+mod totals;
+#[cfg(test)]
+mod trial;
+
+pub use totals::totals_of;
