@@ -6,7 +6,7 @@ use Rattle.alog_core.specs.Accounts.{taken, takes}
 use Rattle.alog_core.proofs.Cells.{on_test}
 use Rattle.alog_format.specs.Buffer.{Buffer}
 use Rattle.alog_lane.specs.Calls.{LaneId}
-use Rattle.alog_lane.specs.Seats.{AreExact, Entry, IsAmong, Member, own_of}
+use Rattle.alog_lane.specs.Seats.{AreExact, IsAmong, Member, own_of}
 use Rattle.alog_lane.specs.Turns.{Turned, Leads}
 use Rattle.alog_msg.specs.declared.item.Item.{Item}
 use Rattle.alog_pool.specs.Back.{seat_member}
