@@ -20,3 +20,4 @@ pub mod Closed
 pub mod Totalled
 pub mod Held
 pub mod OneWorker
+pub mod Opening
