@@ -201,12 +201,16 @@ fn files_of_a_folder(rt: HostRuntime) -> Result<(), Fail> {
 
 /// How many producers a load of many lines has, and how many messages each logs.
 const PRODUCERS: usize = 3;
+
 const MESSAGES: usize = 200;
 
 /// Which of all those messages a line is of.
 fn number_of(line: &str) -> Option<usize> {
     let (producer, message) = line.strip_prefix("net I ")?.split_once(' ')?;
-    let (producer, message) = (producer.parse::<usize>().ok()?, message.parse::<usize>().ok()?);
+    let (producer, message) = (
+        producer.parse::<usize>().ok()?,
+        message.parse::<usize>().ok()?,
+    );
     if producer >= PRODUCERS || message >= MESSAGES {
         return None;
     }
@@ -237,7 +241,13 @@ fn each_line_of_many_is_in_its_file(rt: HostRuntime) -> Result<(), Fail> {
     fs::create_dir(&rt, folder.as_str())?;
     let (file, to) = (path.as_str(), folder.as_str());
     let words = [
-        "alog", "load", file, "--producers=3", "--messages=200", "--folder", to,
+        "alog",
+        "load",
+        file,
+        "--producers=3",
+        "--messages=200",
+        "--folder",
+        to,
     ];
     let all = "asked 600\nposted 600\ndiscarded 0\noverrun 0\nhandled 600\n";
     answers(&rt, words.as_slice(), Said::done(all));
