@@ -1,9 +1,11 @@
-"""Makes each allocation of the proved and built program fail in turn, on the scripts and configurations of examples/, and each
-allocation and each start of a thread of the tests that bear any one of them failing.
+"""Makes each allocation of the proved and built program fail in turn, on the scripts and configurations of examples/; each
+allocation and each start of a thread of a small load; and those of the tests that bear any one of them failing.
 
 Where one fails, the program must end with status 4, its one line on standard error, and a front of what it prints otherwise; or
-with status 0 and what it prints otherwise, in which a line of a sink may be a fault. A test must pass, each of so many times, since
-threads go on in another order each time. Needs a C compiler, `cc`, beside `rt`.
+with status 0 and what it prints otherwise, in which a line of a sink may be a fault. A load prints nothing with status 4, and with
+status 3 it prints all that it prints otherwise, and its one line on standard error: then a sink had no memory for a line. A test
+must pass. What has threads is run so many times for each failure, since threads go on in another order each time. Needs a C
+compiler, `cc`, beside `rt`.
 """
 import collections
 import glob
@@ -13,10 +15,15 @@ import sys
 import tempfile
 
 PROGRAM = "crates/alog/out/alog"
-REFUSED = b"alog: refused 1\n"
-# the tests that bear it, by their crates, and how many times each is run for one failure
-TESTS = [("alog_pool", "memory_tests::want_of_memory")]
+REFUSED, STORE_FAILED = b"alog: refused 1\n", b"alog: refused 22\n"
+# a small load, and what it prints
+LOAD = ["load", "examples/one_file.toml", "--producers", "2", "--messages", "3"]
+TOTALS = b"asked 6\nposted 6\ndiscarded 0\noverrun 0\nhandled 6\n"
+# the tests that bear it, by their crates, and how many times what has threads is run for one failure
+TESTS = [("alog_pool_tests", "memory_tests::want_of_memory")]
 TIMES = 10
+# what fails, and what it is called
+KINDS = {"FAIL_ALLOC": "allocations", "FAIL_THREAD": "starts of threads"}
 
 
 def cases():
@@ -34,11 +41,12 @@ def bytes_of(file):
         return it.read()
 
 
-def run(room, words, given, number):
-    """Runs the program so that an allocation fails; returns what it did, and how many allocations it made."""
-    env = {**os.environ, "LD_PRELOAD": f"{room}/fail_alloc.so", "FAIL_ALLOC": str(number), "ALLOCS": f"{room}/allocs"}
-    ran = subprocess.run([f"./{PROGRAM}", *words], input=given, capture_output=True, env=env, timeout=60)
-    return ran, int(bytes_of(f"{room}/allocs").split()[0])
+def run(room, words, given, kind, number):
+    """Runs a program so that the call of this kind and number fails; returns what it did, and how many calls of the kind it made."""
+    env = {**os.environ, "LD_PRELOAD": f"{room}/fail_alloc.so", kind: str(number), "ALLOCS": f"{room}/calls"}
+    ran = subprocess.run(words, input=given, capture_output=True, env=env, timeout=60)
+    made, started = map(int, bytes_of(f"{room}/calls").split())
+    return ran, made if kind == "FAIL_ALLOC" else started
 
 
 def outcome(ran, whole):
@@ -52,39 +60,31 @@ def outcome(ran, whole):
     return None
 
 
-def sweep(room, words, given, whole):
-    """Makes each allocation of a run fail in turn, tells what came of it, and returns whether all is well."""
+def load_outcome(ran, whole):
+    """Returns in words what came of a load, or None where it is none of what may come."""
+    found = ran.returncode, ran.stdout, ran.stderr
+    return {(4, b"", REFUSED): "no memory", (3, whole, STORE_FAILED): "a fault", (0, whole, b""): "nothing"}.get(found)
+
+
+def test_outcome(ran, whole):
+    """Returns in words that a test passed, or None."""
+    return "passed" if ran.returncode == 0 and whole in ran.stdout else None
+
+
+def sweep(room, name, words, given, whole, judge, kind="FAIL_ALLOC", times=1):
+    """Makes each call of this kind that a program makes fail in turn, tells what came of it, and returns whether all is well."""
     found, bad, number = collections.Counter(), [], 1
     while True:
-        ran, made = run(room, words, given, number)
-        if number > made:
+        runs = [run(room, words, given, kind, number) for _ in range(times)]
+        if number > max(made for _, made in runs):
             break
-        came = outcome(ran, whole)
-        found[came] += 1
-        bad += [number] * (came is None)
+        came = [judge(ran, whole) for ran, _ in runs]
+        found.update(came)
+        bad += [number] * (None in came)
         number += 1
     told = ", ".join(f"{count} {came}" for came, count in sorted(found.items(), key=str) if came)
-    print(f"memory: alog {' '.join(words)}: {number - 1} allocations: {told}" + (f"; wrong at {bad}" if bad else ""), flush=True)
-    return not bad
-
-
-def passes(room, crate, test, kind, number):
-    """Runs a test so that the call of this kind and number fails; returns whether it passed, and the numbers of both kinds that it made."""
-    env = {**os.environ, "LD_PRELOAD": f"{room}/fail_alloc.so", kind: str(number), "ALLOCS": f"{room}/calls"}
-    ran = subprocess.run([f"crates/{crate}/out/{crate}_tests", test], capture_output=True, env=env, timeout=60)
-    made, started = map(int, bytes_of(f"{room}/calls").split())
-    return ran.returncode == 0 and b"test result: ok" in ran.stdout, made if kind == "FAIL_ALLOC" else started
-
-
-def sweep_test(room, crate, test, kind, name):
-    """Makes each call of this kind that a test makes fail in turn, tells what came of it, and returns whether all is well."""
-    bad, number, most = [], 1, 1
-    while number <= most:
-        runs = [passes(room, crate, test, kind, number) for _ in range(TIMES)]
-        bad += [number] * (not all(well for well, _ in runs))
-        most = max(made for _, made in runs)
-        number += 1
-    print(f"memory: {crate} {test}: {number - 1} {name}, {TIMES} times each" + (f"; wrong at {bad}" if bad else ""), flush=True)
+    each = f", {times} times each" if times > 1 else ""
+    print(f"memory: {name}: {number - 1} {KINDS[kind]}{each}: {told}" + (f"; wrong at {bad}" if bad else ""), flush=True)
     return not bad
 
 
@@ -92,10 +92,15 @@ def main():
     subprocess.run(["./alog", "check", "examples/one_file.toml"], stdout=subprocess.DEVNULL, check=True)
     with tempfile.TemporaryDirectory(prefix="alog-memory-") as room:
         subprocess.run(["cc", "-shared", "-fPIC", "-O1", "-o", f"{room}/fail_alloc.so", ".ci/fail_alloc.c", "-ldl"], check=True)
-        well = [sweep(room, *it) for it in cases()]
+        program = f"./{PROGRAM}"
+        well = [sweep(room, f"alog {' '.join(words)}", [program, *words], given, whole, outcome) for words, given, whole in cases()]
+        for kind in KINDS:
+            well.append(sweep(room, f"alog {' '.join(LOAD)}", [program, *LOAD], b"", TOTALS, load_outcome, kind, TIMES))
         for crate, test in TESTS:
             subprocess.run(["rt", "test"], cwd=f"crates/{crate}", stdout=subprocess.DEVNULL, check=True)
-            well += [sweep_test(room, crate, test, "FAIL_ALLOC", "allocations"), sweep_test(room, crate, test, "FAIL_THREAD", "starts of threads")]
+            words = [f"crates/{crate}/out/{crate}_tests", test]
+            for kind in KINDS:
+                well.append(sweep(room, f"{crate} {test}", words, b"", b"test result: ok", test_outcome, kind, TIMES))
     return 0 if all(well) else 1
 
 
