@@ -78,6 +78,18 @@ fn log_and_dump<R: Wait + Clock + Abort>(
     Ok(())
 }
 
+// Whether the post found no room.
+fn is_full(outcome: &Outcome<()>) -> bool {
+    matches!(
+        outcome,
+        Outcome::Discarded {
+            why: Why::Full,
+            overran: 0,
+            ..
+        }
+    )
+}
+
 // Three more messages fill the queue, and the last two are dumped: no post of the dump waits for room, and none finds any.
 fn dump_to_a_full_queue<R: Wait + Clock + Abort>(
     rt: &R,
@@ -96,12 +108,7 @@ fn dump_to_a_full_queue<R: Wait + Clock + Abort>(
         assert!(rt; matches!(logged, LogReply::Logged { kept: true, .. }));
     }
     let outcomes = loggers.dump_shared(rt, alloc, port, keeper, 0, 5, 7)?;
-    let full = Outcome::Discarded {
-        value: (),
-        why: Why::Full,
-        overran: 0,
-    };
-    assert_eq!(rt; outcomes.as_slice(), [full, full, full, full].as_slice());
+    assert!(rt; outcomes.len() == 4 && outcomes.iter().all(is_full));
     Ok(())
 }
 
