@@ -144,7 +144,12 @@ fn started<R: Abort + Threads + Wait + Clock + Clone + Drop + Send + 'static>(
 type Given<'a> = (u32, Level, &'a str);
 
 /// The producer logs this text.
-fn log(rt: &(impl Abort + Wait + Clock), alloc: Global, producer: &mut Producer, given: Given<'_>)
+fn log(
+    rt: &(impl Abort + Wait + Clock),
+    alloc: Global,
+    producer: &mut Producer,
+    given: Given<'_>,
+)
     ensures { producer.new.shared ≡ producer.old.shared }
 {
     let (logger, level, text) = given;
@@ -156,7 +161,42 @@ fn log(rt: &(impl Abort + Wait + Clock), alloc: Global, producer: &mut Producer,
     );
 }
 
-/// What the pool reports when a producer of its own has logged these texts, while its worker was held at the first.
+/// It logs these.
+fn log_all(
+    rt: &(impl Abort + Wait + Clock),
+    alloc: Global,
+    producer: Producer,
+    texts: &[Given<'_>],
+) -> Producer
+    ensures { result.shared ≡ producer.shared }
+{
+    let mut producer = producer;
+    for given in texts {
+        log(rt, alloc, &mut producer, *given);
+    }
+    producer
+}
+
+/// What the pool reports at its end, of which this is the only producer.
+fn ended<R: Abort + Threads + Wait + Clock>(
+    rt: &R,
+    alloc: Global,
+    pool: Pool<Scribe>,
+    producer: Producer,
+) -> Report<Scribe>
+    requires { producer.shared ≡ pool.shared }
+{
+    let Ok(mut producers) = Vec::with_capacity(alloc, 1) else {
+        panic!(rt; "no memory")
+    };
+    producers.push_reserved(producer);
+    match pool.shutdown(rt, producers) {
+        Ok(report) => report,
+        Err(_) => panic!(rt; "a producer is out"),
+    }
+}
+
+/// What the pool reports when a producer has logged these texts, while its worker was held at the first.
 fn reported<R: Abort + Threads + Wait + Clock + Clone + Drop + Send + 'static>(
     rt: &R,
     alloc: Global,
@@ -164,21 +204,13 @@ fn reported<R: Abort + Threads + Wait + Clock + Clone + Drop + Send + 'static>(
 ) -> Report<Scribe> {
     let flags = lowered(rt, alloc);
     let mut pool = started(rt, alloc, holds_until(rt, &flags, u64::MAX));
-    let Ok(mut producer) = pool.producer() else {
+    let Ok(producer) = pool.producer() else {
         panic!(rt; "no producer")
     };
-    for text in texts {
-        log(rt, alloc, &mut producer, *text);
-    }
+    let producer = log_all(rt, alloc, producer, texts);
     has_begun(rt, &flags);
     open(&flags);
-    let Ok(producers) = Vec::from_array(alloc, [producer]) else {
-        panic!(rt; "no memory")
-    };
-    match pool.shutdown(rt, producers) {
-        Ok(report) => report,
-        Err(_) => panic!(rt; "a producer is out"),
-    }
+    ended(rt, alloc, pool, producer)
 }
 
 /// The call of this number at one of these sinks.
