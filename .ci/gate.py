@@ -6,6 +6,7 @@ gate.py applies           says which wrong bodies no longer apply, which crates 
                           that is not laid out, and which files of examples/ the tests of alog do not have
 gate.py wrong [NAME..]    tries the wrong bodies of these crates, or of all, on a copy of the repository: many at once, each in a
                           function of its own (rounds.py), and alone what was not refused so
+gate.py planted           tries the bodies that no contract refuses, crates/NAME/planted, on a copy: a test of that crate must fail
 """
 import glob
 import json
@@ -140,8 +141,8 @@ def fault_of(edit, crate):
 
 
 def stale(crates):
-    """Returns what is said of each wrong body that no longer applies."""
-    edits = [(edit, fault_of(edit, crate)) for crate in crates for edit in edits_in(f"{crate}/wrong")]
+    """Returns what is said of each wrong or planted body that no longer applies."""
+    edits = [(edit, fault_of(edit, crate)) for crate in crates for edit in edits_in(f"{crate}/wrong") + edits_in(f"{crate}/planted")]
     return [f"{edit}: {why}" for edit, why in edits if why]
 
 
@@ -226,6 +227,28 @@ def wrong(names):
     return 1 if others else 0
 
 
+def planted():
+    """Runs the tests of a crate on each of the bodies that they are to refuse, unproved, and tells which tests fail."""
+    let_through = []
+    with tempfile.TemporaryDirectory(prefix="alog-planted-") as room:
+        shutil.copytree("crates", f"{room}/crates", symlinks=True, ignore=shutil.ignore_patterns("out"))
+        for it in ("crates.txt", "HANDLES"):
+            shutil.copy(it, room)
+        for edit in sorted(glob.glob("crates/*/planted/*.edit")):
+            home = f"{room}/{os.path.dirname(os.path.dirname(edit))}"
+            kept = {f"{home}/{path}": text_of(f"{home}/{path}") for path, _, _ in rounds.pairs_of(edit)}
+            rounds.turn(home, edit)
+            ran = subprocess.run(["rt", "try", "--test"], cwd=home, stdout=subprocess.PIPE, stderr=subprocess.STDOUT, text=True, errors="replace")
+            for file, text in kept.items():
+                with open(file, "w", encoding="utf-8") as it:
+                    it.write(text)
+            failed = re.findall(r"(?m)^test (\S+) \.\.\. FAILED", ran.stdout)
+            came = f"refused by {', '.join(failed)}" if failed else f"NOT REFUSED: {ran.stdout.strip().splitlines()[-1:]}"
+            print(f"planted {edit}: {came}", flush=True)
+            let_through += [] if failed else [edit]
+    return 1 if let_through else 0
+
+
 def main(words):
     if words[:1] == ["run"] and len(words) > 2:
         return run(words[1], words[2:])
@@ -235,6 +258,8 @@ def main(words):
         return applies()
     if words[:1] == ["wrong"]:
         return wrong(words[1:])
+    if words == ["planted"]:
+        return planted()
     print(__doc__, end="", file=sys.stderr)
     return 2
 

@@ -1,10 +1,10 @@
 //! `alog check` on the whole program: files that have a configuration, that have none, and that cannot be read.
 use crate::examples::{DAILY_ERRORS, FAN, ONE_FILE, ROTATING};
+use crate::program;
 use crate::progress::Screen;
-use crate::run;
 use crate::script_tests::Narrow;
 use crate::stores::Folders;
-use std::io::Write;
+use std::io::{Read, Write};
 use std::path::PathBuf;
 use std::process::Abort;
 use std::rt::Files;
@@ -33,6 +33,18 @@ where
     R: AllocGlobal + Files + Folders + Screen + Threads + Wait + Clock,
     R: Clone + Drop + Send + Sync + 'static,
 {}
+
+/// Runs the program on these words, and answers its status. What `run` promises is told to no test by it: a test looks, and its
+/// proof has nothing to carry.
+pub(crate) fn run<R: Host, I: Read, O: Write>(
+    rt: &R,
+    words: &[&str],
+    input: &mut I,
+    output: &mut O,
+    errors: &mut Vec<u8>,
+) -> u8 {
+    program::run(rt, words, input, output, errors)
+}
 
 // The smallest configuration.
 pub(crate) const SMALL: &str =

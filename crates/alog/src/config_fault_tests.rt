@@ -1,7 +1,6 @@
 //! Faults of scripts with a configuration, on the whole program.
-use crate::check_tests::{Host, SMALL, scratch};
+use crate::check_tests::{Host, SMALL, run, scratch};
 use crate::config_tests::{Said, replays, replays_with};
-use crate::run;
 use crate::script_tests::{Narrow, Trickle, long, refuses};
 use std::alloc::{AllocError, Global};
 use std::path::PathBuf;

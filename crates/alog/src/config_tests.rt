@@ -1,6 +1,5 @@
 //! Scripts with a configuration, on the whole program.
-use crate::check_tests::{Host, SMALL, scratch};
-use crate::run;
+use crate::check_tests::{Host, SMALL, run, scratch};
 use std::fs;
 use std::process::Abort;
 use std::test::Fail;

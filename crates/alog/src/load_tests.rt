@@ -1,7 +1,6 @@
 //! `alog load`, on the whole program.
-use crate::check_tests::{Host, SMALL, scratch};
+use crate::check_tests::{Host, SMALL, run, scratch};
 use crate::config_tests::Said;
-use crate::run;
 use crate::script_tests::Narrow;
 use std::fs;
 use std::process::Abort;

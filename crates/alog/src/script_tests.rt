@@ -1,6 +1,5 @@
 //! The worked scripts and the bad forms, on the whole program and on `replay`.
-use crate::check_tests::Host;
-use crate::run;
+use crate::check_tests::{Host, run};
 use alog_replay::replay;
 use std::alloc::{AllocError, Global};
 use std::io;

@@ -1,8 +1,7 @@
 //! Command lines, and the lines of messages, on the whole program.
 use crate::arguments::{ArgumentsError, collect_words};
-use crate::check_tests::Host;
+use crate::check_tests::{Host, run};
 use crate::program::refuse_arguments;
-use crate::run;
 use crate::script_tests::{Narrow, long};
 use std::env::{Env, FillError};
 use std::io;

@@ -62,6 +62,7 @@ pub use port::Port;
 pub use post::{Post, Stepped};
 pub use posting::post_now;
 pub use progress::{Lost, Progress, Side};
+pub use room::Room;
 pub use waiting::{post_from, post_wait};
 
 /// A post that does not block ends after so many rounds that went on.

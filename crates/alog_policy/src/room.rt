@@ -15,9 +15,11 @@ const NAP_PER_PLACE: u64 = 125;
 /// But at most so many nanoseconds.
 const LONGEST_NAP: u64 = 1_000_000;
 
-/// What a post waits with.
+/// What a post waits with until there is room: its own, from its first look on.
+///
+/// Of how long it waits no contract says anything. The test `a_port_waits_for_room` waits with it.
 #[derive(Drop)]
-pub(crate) struct Room {
+pub struct Room {
     backoff: Backoff,
     looks: u32,
     places: usize,
@@ -25,7 +27,7 @@ pub(crate) struct Room {
 
 impl Room {
     /// For a queue of so many places, which a post has not looked at.
-    pub(crate) fn new(places: usize) -> Room {
+    pub fn new(places: usize) -> Room {
         Room {
             backoff: Backoff::new(),
             looks: 0,
@@ -34,7 +36,7 @@ impl Room {
     }
 
     /// Waits a little where there was no room.
-    pub(crate) fn wait(&mut self, clock: &impl Clock) {
+    pub fn wait(&mut self, clock: &impl Clock) {
         if self.looks < SPINS {
             self.looks += 1;
             self.backoff.spin();

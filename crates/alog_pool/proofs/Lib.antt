@@ -18,4 +18,6 @@ pub mod Rows
 pub mod Served
 pub mod Closed
 pub mod Totalled
+pub mod Held
 pub mod OneWorker
+pub mod Opening

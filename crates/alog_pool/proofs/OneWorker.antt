@@ -1,30 +1,28 @@
 -- A pool of one worker: all turns on a sink are its own.
-use Rattle.std.proofs.Common.{◌≡◌, ◌⊎◌, ℕ, ◌+◌, Bool, cond, List, [], ◌∷◌, map, length, inl, inr, refl, sym, ap, subst, ◌∙◌, arith}
+use Rattle.std.proofs.Common.{◌≡◌, ◌⊎◌, ℕ, ◌+◌, ◌%◌, ◌^◌, Bool, cond, List, [], ◌∷◌, map, length, inl, inr, refl, sym, ap, subst, ◌∙◌, arith}
 use Rattle.std.specs.List.{AllByRecursion, sum_by}
 use Rattle.std.proofs.lemmas.List.Sums.{sum_by-cons}
 use Rattle.alog_core.specs.Accounts.{taken, takes}
 use Rattle.alog_core.proofs.Cells.{on_test}
 use Rattle.alog_format.specs.Buffer.{Buffer}
 use Rattle.alog_lane.specs.Calls.{LaneId}
-use Rattle.alog_lane.specs.Seats.{AreExact, Entry, IsAmong, Member, own_of}
+use Rattle.alog_lane.specs.Seats.{AreExact, IsAmong, Member, own_of}
 use Rattle.alog_lane.specs.Turns.{Turned, Leads}
 use Rattle.alog_msg.specs.declared.item.Item.{Item}
 use Rattle.alog_pool.specs.Back.{seat_member}
 use Rattle.alog_pool.specs.Berth.{Answer, BerthView}
-use Rattle.alog_pool.specs.Deeds.{Due, all_dues, dues_on, told}
+use Rattle.alog_pool.specs.Deeds.{Due, all_dues, dues_on, faults_in, told}
 use Rattle.alog_pool.specs.OneWorker.{AreWritten, IsWritten, OneWorkerWritesInOrder, WritesInOrder}
 use Rattle.alog_pool.specs.Pool.{PoolView, lanes_of}
 use Rattle.alog_pool.specs.Producer.{ProducerView}
 use Rattle.alog_pool.specs.Report.{AllCameOut, AreClosed, HasServed, IsClosed, MadeAll}
 use Rattle.alog_pool.specs.declared.hand.Hand.{Hand}
 use Rattle.alog_pool.specs.declared.report.Report.{Report}
+use Rattle.alog_pool.proofs.Held.{Turn, texts_held}
 use Rattle.alog_pool.proofs.Served.{takes_rise}
 use Rattle.alog_sink.specs.Files.{Files}
 use Rattle.alog_sink.specs.Sinks.{Turns}
 use Rattle.alog_sink.specs.declared.sink.Sink.{Sink}
-
-abbrev Turn : Type 0
-Turn = Entry (Turned Item Buffer Answer)
 
 abbrev One : Type 0
 One = Member (Turned Item Buffer Answer)
@@ -50,7 +48,7 @@ only a b (x ∷ h) all none =
 
 module _ {S : Type 0} (tells : Bool) (files : S → Files) (failures : S → ℕ) where
   closed_one : (l : LaneId (Sink S)) (b : BerthView S) (k : Sink S) (f : ℕ) (turns : List (ℕ × Item))
-      → IsClosed tells files failures l (b ∷ []) k f → told b.seat.known.own ≡ turns → IsWritten tells files failures l.first k turns
+      → IsClosed tells files failures l (b ∷ []) k f → told b.seat.known.own ≡ turns → IsWritten tells files failures l.first k f turns
   closed_one l b k f turns c made =
       let m : One = seat_member b in
       let whole = subst (λ (ms : List One). AllByRecursion (λ (x : Turn). (x.seat ≡ c.end.seat) ⊎ IsAmong x.seat ms) c.end.seen)
@@ -58,15 +56,21 @@ module _ {S : Type 0} (tells : Bool) (files : S → Files) (failures : S → ℕ
       let exact : AreExact (m ∷ []) c.end.seen = subst (λ (ms : List One). AreExact ms c.end.seen) c.members c.closes.faithful.joined in
       let mine : own_of c.end.seat c.end.seen ≡ [] = sym c.closes.faithful.own ∙ c.own in
       let all : m.own ≡ c.end.seen = exact.0 ∙ only c.end.seat m.seat c.end.seen whole mine in
+      let leads = subst (λ (h : List Turn). Leads (Turns tells files failures) l.first h k) (sym all) c.closes.leads in
+      let t : BerthView S → ℕ = λ z. faults_in z.seat.known.own in
+      let single : sum_by t (b ∷ []) ≡ t b = sum_by-cons t b [] ∙ omega arith in
+      let counted : f ≡ faults_in m.own % 2 ^ 64 = c.faults_are ∙ ap (λ (n : ℕ). n % 2 ^ 64) single in
       record {
         history = m.own;
         turns_are = made;
-        leads = subst (λ (h : List Turn). Leads (Turns tells files failures) l.first h k) (sym all) c.closes.leads;
+        leads = leads;
+        faults_are = counted;
+        holds = texts_held tells files failures l.first k m.own f turns leads made counted;
       }
 
   closed_all : (s : ℕ) (ls : List (LaneId (Sink S))) (bs : List (BerthView S)) (ks : List (Sink S)) (fs : List ℕ) (dues : List Due)
       → AreClosed tells files failures ls (bs ∷ []) ks fs → lanes_of bs ≡ ls → MadeAll s bs dues
-      → AreWritten tells files failures s ls ks dues
+      → AreWritten tells files failures s ls ks fs dues
   closed_all s [] bs [] [] dues closed same made = tt
   closed_all s [] bs [] (f ∷ fs) dues closed same made = absurd closed
   closed_all s [] bs (k ∷ ks) fs dues closed same made = absurd closed

@@ -7,6 +7,7 @@ use Rattle.alog_msg.specs.declared.message.MessageError.{MessageError}
 use Rattle.alog_policy.specs.BookCalls.{BookId, SeatView, IsSeatOf as IsBookSeatOf}
 use Rattle.alog_policy.specs.Port.{IsFit, PortDid}
 use Rattle.alog_policy.specs.Post.{overran_in, discards_in}
+use Rattle.alog_policy.specs.Progress.{without_waiting}
 use Rattle.alog_policy.specs.declared.policy.Outcome.{Outcome}
 use Rattle.alog_policy.specs.declared.policy.Policy.{Policy}
 use Rattle.alog_policy.specs.declared.port.Port.{Port}
@@ -149,12 +150,12 @@ log_now_leaves policy_of ls n m a k (Err e) b l low ok err = nothing_done a k b 
 pub dump_leaves : {X E : Type 0} (items : X → List (Outcome (Unit {0}))) (ls : List Logger) (n : ℕ) (t : ℤ) (th : ℕ) (a : Queueing)
     (k : LaneKeeper) (r : Result X E) (b : Queueing) (l : LaneKeeper) → n < length ls
     → ((s : Spec) → spec_at ls n ≡ Some s → IfOk r (λ v. (d : Room) × DumpsByTurn k d l
-    × PostsEach PortDid s.policy (posted_of n t th d.messages) a (items v) b))
+    × PostsEach PortDid (without_waiting s.policy) (posted_of n t th d.messages) a (items v) b))
     → OnErr r ((b ≡ a) × (l ≡ k)) → LendsAlike a b × LendsSame k l
 dump_leaves items ls n t th a k (Ok v) b l low ok err =
     let s = has_spec ls n low in
     let is = ok s.0 s.1 in
-    (each_port s.0.policy (posted_of n t th is.0.messages) a b (items v) is.2, is.1.lends)
+    (each_port (without_waiting s.0.policy) (posted_of n t th is.0.messages) a b (items v) is.2, is.1.lends)
 dump_leaves items ls n t th a k (Err e) b l low ok err = (same_port a b err.0, (same_keeper k l err.1).0)
 
 -- a place after a call of its keeper

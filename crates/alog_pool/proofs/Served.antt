@@ -116,7 +116,8 @@ module _ {S : Type 0} where
         let work = subst (λ n. IsWorkOf n k.pass.known k.tickets.items k.handled) b.most_is w.work in
         record {
           work = work;
-          rising = tickets_rise most k.pass.known k.tickets.items k.handled work;
+          rising = takes_rise most k.pass.known k.tickets.items k.handled work;
+          tickets_rise = tickets_rise most k.pass.known k.tickets.items k.handled work;
           ended = w.ended;
           lanes_are = place_lanes h.berths.items k.berths.items w.places ∙ b.lanes_are;
           turns = subst (λ (l : List Due). MadeAll 0 k.berths.items l) dues

@@ -2,7 +2,7 @@
 use Rattle.std.specs.Prelude.{◌≡◌, ◌<◌, ℕ, ◌+◌, ◌%◌, ◌^◌, Bool, List, [], ◌∷◌, ◌++◌, length, map, Vec}
 use Rattle.std.specs.List.{AllByRecursion, sum_by}
 use Rattle.std.specs.declared.alloc.Global.{Global}
-use Rattle.alog_core.specs.Accounts.{claims, takes, claimed, taken}
+use Rattle.alog_core.specs.Accounts.{claims, takes, claimed, taken, handed_out}
 use Rattle.alog_format.specs.Buffer.{Buffer}
 use Rattle.alog_lane.specs.Calls.{LaneId, Closes}
 use Rattle.alog_lane.specs.Seats as lane
@@ -72,11 +72,12 @@ abbrev pub IsRising : List ℕ → Type 0
 IsRising [] = Unit {0}
 IsRising (t ∷ ts) = AllByRecursion (λ (u : ℕ). t < u) ts × IsRising ts
 
--- A worker that ended: it recorded the tickets of its first texts and flushes, at most so many, which rise. It ended at its first
--- stop or where no ticket was left, and made exactly the turns that were due for what it took.
+-- A worker that ended: the tickets that it took rise, and it recorded those of its first texts and flushes, at most so many. It
+-- ended at its first stop or where no ticket was left, and made exactly the turns that were due for what it took, in that order.
 pub record HasServed {S : Type 0} (loggers : List Logger) (lanes : List (LaneId (Sink S))) (most : ℕ) (h : Hand S) : Type 0 where
   pub work : IsWorkOf most h.pass.known h.tickets.items h.handled
-  pub rising : IsRising h.tickets.items
+  pub rising : IsRising (handed_out h.pass.known.own)
+  pub tickets_rise : IsRising h.tickets.items
   pub ended : HasEnded h.pass.known.own
   pub lanes_are : lanes_of h.berths.items ≡ lanes
   pub turns : MadeAll 0 h.berths.items (all_dues loggers (takes h.pass.known.own))

@@ -215,7 +215,7 @@ impl Keeping {
     /// Posts what was kept, as `Loggers::dump_shared` does, with this place as its keeper.
     pub(crate) fn dump(
         &mut self,
-        rt: &(impl Wait + Clock),
+        rt: &impl Wait,
         alloc: Global,
         loggers: &Loggers,
         port: &mut Port<'_, Item, TextLimit>,
@@ -227,7 +227,7 @@ impl Keeping {
         requires fit { IsFit port.old × (port.old.ring.now.limit.most ≡ self.old.lane.first.limit) }
         ensures dumped { (s : Spec) → spec_at loggers.now number ≡ Some s
             → IfOk result (λ v. Keeps self.old self.new (λ k l. (d : Room) × DumpsByTurn k d l
-            × PostsEach PortDid s.policy (posted_of number time thread d.messages) port.old v.items port.new)) }
+            × PostsEach PortDid (without_waiting s.policy) (posted_of number time thread d.messages) port.old v.items port.new)) }
         ensures err { OnErr result ((self.new ≡ self.old) × (port.new ≡ port.old)) }
         ensures lane { self.new.lane ≡ self.old.lane }
         ensures port { IsFit port.new × LendsAlike port.old port.new }

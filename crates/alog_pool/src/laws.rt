@@ -20,7 +20,8 @@ pub fn no_work_is_left()
 {}
 
 /// Where a pool of one worker has ended: each sink was given exactly the turns that are due for what was posted and not overrun, in the
-/// order of the tickets. So its lines are in that order.
+/// order of the tickets. Where none of them met a fault, over a store that tells its files, it holds exactly the lines of their texts in
+/// that order, behind what it held before.
 /// It does nothing: its contract is the law.
 pub fn one_worker_writes_in_order<S: Store>()
     ensures { OneWorkerWritesInOrder S.tells S.files S.failures }

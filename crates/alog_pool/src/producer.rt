@@ -184,10 +184,10 @@ impl Producer {
     }
 
     /// Posts what the backtrace of the logger of this number kept, as `Loggers::dump_shared` does: it waits for the lock of the
-    /// backtrace, and under `Block` for room.
+    /// backtrace, and its posts never wait.
     pub fn dump_backtrace(
         &mut self,
-        rt: &(impl Wait + Clock),
+        rt: &impl Wait,
         alloc: Global,
         number: u32,
         time: i64,
@@ -195,7 +195,7 @@ impl Producer {
         requires known { number < length self.old.shared.loggers }
         ensures dumped { (s : Spec) → spec_at self.old.shared.loggers number ≡ Some s
             → IfOk result (λ v. Lent self.old self.new number (λ p k q l. (d : Room) × DumpsByTurn k d l
-            × PostsEach PortDid s.policy (posted_of number time self.old.number d.messages) p v.items q)) }
+            × PostsEach PortDid (without_waiting s.policy) (posted_of number time self.old.number d.messages) p v.items q)) }
         ensures err { OnErr result (self.new ≡ self.old) }
         ensures same { IsSame self.old self.new }
     {

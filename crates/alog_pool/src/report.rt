@@ -15,7 +15,7 @@ pub struct Totals {
     pub asked: u64,
     /// Put into the queue.
     pub posted: u64,
-    /// Refused, since the queue was full or no ticket was left.
+    /// Given up, as its policy says: the queue was full, 64 rounds went on, or no ticket was left.
     pub discarded: u64,
     /// Taken out of the queue by a post, to make room.
     pub overrun: u64,

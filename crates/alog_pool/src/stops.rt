@@ -5,15 +5,11 @@ ghost use Rattle.alog_ring.specs.Known.{IsPassOf};
 ghost use Rattle.alog_ring.specs.Made.{IsFaithful};
 
 use alog_msg::Item;
+use alog_policy::Room;
 use alog_registry::TextLimit;
 use alog_ring::{Pass, PushError, Ring};
 use std::sync::Wait;
-use std::thread;
-use std::time::{Clock, Duration};
-
-/// Where there is no room for a stop, the pool looks again after so many microseconds: meanwhile its workers have the queue to
-/// themselves.
-const NAP: u64 = 100;
+use std::time::Clock;
 
 /// Posts so many stops, each as soon as there is room, or as many as there are tickets left: who finds no ticket left needs no stop.
 pub(crate) fn post_stops(
@@ -41,6 +37,7 @@ fn post_stop(rt: &(impl Wait + Clock), ring: &Ring<Item, TextLimit>, pass: &mut 
     ensures ring { IsPassOf ring.now pass.new }
     ensures did { DidPost pass.old.known pass.new.known result }
 {
+    let mut room = Room::new(ring.places());
     for _ in rt.forever() {
         match ring.push(rt, pass, Item::Stop) {
             Ok(_) => return true,
@@ -50,7 +47,7 @@ fn post_stop(rt: &(impl Wait + Clock), ring: &Ring<Item, TextLimit>, pass: &mut 
                 }
             }
         }
-        thread::sleep(rt, Duration::from_micros(NAP));
+        room.wait(rt);
     }
     unreachable!()
 }

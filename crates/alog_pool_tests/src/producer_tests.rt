@@ -51,16 +51,16 @@ fn a_producer_dumps_what_it_kept(rt: HostRuntime) {
     has(&rt, &report, 0, DUMPED);
 }
 
-// The level of the first logger is set so, and read so.
+// The level of the second logger is set so, and read so.
 fn sets(rt: &impl Abort, loggers: &Loggers, level: Level) {
-    let Some(number) = loggers.find("0") else {
+    let Some(number) = loggers.find("1") else {
         panic!(rt; "no logger")
     };
     assert!(rt; loggers.set_level(number, level));
     assert!(rt; loggers.level(number) == Some(level));
 }
 
-// While two workers run, the pool's loggers and a producer's let a level be set, for all producers.
+// While two workers run, the pool's loggers and a producer's let the level of one be set, for all producers. The other keeps its own.
 #[test]
 fn a_level_is_set_while_workers_run(rt: HostRuntime) {
     let alloc = rt.alloc();
@@ -68,16 +68,18 @@ fn a_level_is_set_while_workers_run(rt: HostRuntime) {
         workers: 2,
         ..PLAIN
     };
-    let setup = setup_of(alloc, plan, &[&[0]], &[NEVER]);
+    let setup = setup_of(alloc, plan, &[&[0], &[0]], &[NEVER]);
     let mut trial = Trial::start(&rt, alloc, setup, OpenGate, 2);
-    let below = trial.log_at(&rt, alloc, 0, 0, Level::Debug, "a");
+    let below = trial.log_at(&rt, alloc, 0, 1, Level::Debug, "a");
     sets(&rt, trial.pool.loggers(), Level::Debug);
-    let above = trial.log_at(&rt, alloc, 0, 0, Level::Debug, "b");
+    let above = trial.log_at(&rt, alloc, 0, 1, Level::Debug, "b");
+    let other = trial.log_at(&rt, alloc, 0, 0, Level::Debug, "c");
     sets(&rt, trial.loggers(&rt, 1), Level::Error);
-    let under = trial.log_at(&rt, alloc, 0, 0, Level::Warning, "c");
+    let under = trial.log_at(&rt, alloc, 0, 1, Level::Warning, "d");
     let report = trial.end(&rt);
     is_told(&rt, below, filtered(Level::Info, false));
     is_told(&rt, above, logged(posted(0)));
+    is_told(&rt, other, filtered(Level::Info, false));
     is_told(&rt, under, filtered(Level::Error, false));
     has_totals(&rt, &report, 1, 0, 0);
     has(&rt, &report, 0, b"b\n");

@@ -1,5 +1,6 @@
 //! Posting what a backtrace kept.
-ghost use Rattle.std.specs.Prelude.{◌≡◌, ◌+◌, ◌<◌, ◌++◌, List, [], length, Some, OnErr, OnOk, IfOk, IsOk, vec_len, vec_capacity};
+ghost use Rattle.std.specs.Prelude.{◌≡◌, ◌+◌, ◌≤◌, ◌<◌, ◌++◌, ℕ, ℤ, List, [], codes, length};
+ghost use Rattle.std.specs.Prelude.{Some, OnErr, OnOk, IfOk, IsOk, vec_len, vec_capacity};
 ghost use Rattle.alog_registry.specs.Backtrace.{room_for};
 ghost use Rattle.alog_msg.specs.declared.item.Item.TheVariants as item;
 ghost use Rattle.alog_msg.specs.declared.message.Message.{Message};
@@ -61,9 +62,7 @@ impl Loggers {
         let start = marker(alloc, number, time, thread, START)?;
         let end = marker(alloc, number, time, thread, END)?;
         let mut list = backtrace.dump(room);
-        outcomes.push_reserved(post(outlet, spec.policy, start));
-        post_all(outlet, spec.policy, &mut list, &mut outcomes);
-        outcomes.push_reserved(post(outlet, spec.policy, end));
+        post_dumped(outlet, spec.policy, start, end, &mut list, &mut outcomes);
         Ok(outcomes)
     }
 }
@@ -88,6 +87,34 @@ pub(crate) fn marker(
     })
 }
 
+/// Posts what was dumped between the two markers, or nothing where nothing was.
+pub(crate) fn post_dumped<O: Carry>(
+    outlet: &mut O,
+    policy: Policy,
+    start: Message,
+    end: Message,
+    list: &mut Dumped,
+    outcomes: &mut Vec<Outcome<()>>,
+)
+    requires ready { O.is_ready outlet.old × AdmitsShort O.admits list.old.limit outlet.old }
+    requires markers { O.admits outlet.old start × O.admits outlet.old end }
+    requires none { outcomes.old.items ≡ [] }
+    requires room { length list.old.messages + 2 ≤ vec_capacity outcomes.old }
+    ensures posted { (n : ℕ) (t : ℤ) (th : ℕ) → start ≡ marker n t th (codes "=== backtrace start ===")
+        → end ≡ marker n t th (codes "=== backtrace end ===")
+        → PostsEach O.did (without_waiting policy) (posted_of n t th list.old.messages) outlet.old outcomes.new.items outlet.new }
+    ensures list { list.new ≡ room_for list.old.most list.old.limit }
+    ensures ready { O.is_ready outlet.new }
+    ensures outlet { (m : Message) → O.admits outlet.old m → O.admits outlet.new m }
+{
+    if list.is_empty() {
+        return;
+    }
+    outcomes.push_reserved(post(outlet, policy, start));
+    post_all(outlet, policy, list, outcomes);
+    outcomes.push_reserved(post(outlet, policy, end));
+}
+
 /// Posts a message.
 fn post<O: Carry>(outlet: &mut O, policy: Policy, message: Message) -> Outcome<()>
     requires ready { O.is_ready outlet.old × O.admits outlet.old message }
@@ -110,6 +137,7 @@ fn post_all<O: Carry>(
     requires room { vec_len outcomes.old + length list.old.messages < vec_capacity outcomes.old }
     ensures posted { (s : O) (before : List Message) → PostsEach O.did (without_waiting policy) before s outcomes.old.items outlet.old
         → PostsEach O.did (without_waiting policy) (before ++ list.old.messages) s outcomes.new.items outlet.new }
+    ensures list { list.new ≡ room_for list.old.most list.old.limit }
     ensures count { vec_len outcomes.new ≡ vec_len outcomes.old + length list.old.messages }
     ensures room { vec_capacity outcomes.new ≡ vec_capacity outcomes.old }
     ensures ready { O.is_ready outlet.new }

@@ -7,7 +7,7 @@ use super::*;
 use crate::log_tests::{TEXT_LIMIT, one, posted};
 use alog_lane::Lane;
 use alog_msg::{Item, Level, MOST_TEXT_LIMIT};
-use alog_policy::{LossBook, Policy, Port};
+use alog_policy::{LossBook, Outcome, Policy, Port, Why};
 use alog_ring::Ring;
 use std::alloc::Global;
 use std::process::Abort;
@@ -49,6 +49,8 @@ fn log_and_dump<R: Wait + Clock + Abort>(
     requires fit { IsFit port.old }
     requires seated { IsSeated keeper.old × HasList keeper.old }
     requires limit { LEAST_TEXT_LIMIT ≤ keeper.old.lane.now.first.limit }
+    ensures fit { IsFit port.new }
+    ensures seated { IsSeated keeper.new × HasList keeper.new × (keeper.new.lane ≡ keeper.old.lane) }
 {
     let logged = LogReply::Logged {
         outcome: posted(0),
@@ -73,6 +75,40 @@ fn log_and_dump<R: Wait + Clock + Abort>(
     let outcomes = loggers.dump_shared(rt, alloc, port, keeper, 0, 5, 7)?;
     let all = [posted(1), posted(2), posted(3), posted(4)];
     assert_eq!(rt; outcomes.as_slice(), all.as_slice());
+    Ok(())
+}
+
+// Whether the post found no room.
+fn is_full(outcome: &Outcome<()>) -> bool {
+    matches!(
+        outcome,
+        Outcome::Discarded {
+            why: Why::Full,
+            overran: 0,
+            ..
+        }
+    )
+}
+
+// Three more messages fill the queue, and the last two are dumped: no post of the dump waits for room, and none finds any.
+fn dump_to_a_full_queue<R: Wait + Clock + Abort>(
+    rt: &R,
+    loggers: &Loggers,
+    alloc: Global,
+    port: &mut Port<'_, Item>,
+    keeper: &mut LaneKeeper<'_>,
+) -> Result<(), Fail>
+    requires known { 0 < length loggers.now }
+    requires fit { IsFit port.old }
+    requires seated { IsSeated keeper.old × HasList keeper.old }
+    requires limit { LEAST_TEXT_LIMIT ≤ keeper.old.lane.now.first.limit }
+{
+    for text in ["m4", "m5", "m6"] {
+        let logged = said(rt, loggers, alloc, port, keeper, Level::Info, text)?;
+        assert!(rt; matches!(logged, LogReply::Logged { kept: true, .. }));
+    }
+    let outcomes = loggers.dump_shared(rt, alloc, port, keeper, 0, 5, 7)?;
+    assert!(rt; outcomes.len() == 4 && outcomes.iter().all(is_full));
     Ok(())
 }
 
@@ -104,6 +140,7 @@ fn logs_with_waiting(rt: HostRuntime) -> Result<(), Fail> {
     let none = loggers.dump_shared(&rt, alloc, &mut port, &mut keeper, 0, 5, 7)?;
     assert!(rt; none.is_empty());
     log_and_dump(&rt, &loggers, alloc, &mut port, &mut keeper)?;
+    dump_to_a_full_queue(&rt, &loggers, alloc, &mut port, &mut keeper)?;
     drop(port);
     drop(keeper);
     assert!(rt; scratch.list.is_some());

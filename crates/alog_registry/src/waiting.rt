@@ -1,12 +1,10 @@
-//! Logs and dumps that wait, for room and for the lock of a backtrace.
-ghost use Rattle.std.specs.Prelude.{◌≡◌, ◌⊎◌, ◌+◌, ◌≤◌, ◌<◌, ◌++◌, [], ℕ, ℤ, List, codes, length};
-ghost use Rattle.std.specs.Prelude.{vec_len, vec_capacity, true, None, Some, OnErr, IfOk, IsOk, IsErrOf};
+//! Logs that wait for room and for the lock of a backtrace, and dumps that wait for that lock.
+ghost use Rattle.std.specs.Prelude.{◌≡◌, ◌⊎◌, ◌≤◌, ◌<◌, length, true, Some, OnErr, IfOk, IsOk, IsErrOf};
 ghost use Rattle.alog_msg.specs.declared.limits.TheConstants.{LEAST_TEXT_LIMIT, MOST_TEXT_LIMIT};
-ghost use Rattle.alog_msg.specs.declared.item.Item.TheVariants.{Text};
 ghost use Rattle.alog_msg.specs.declared.message.Message.{Message};
-ghost use Rattle.alog_registry.specs.Backtrace.{Room, room_for};
-ghost use Rattle.alog_registry.specs.Dumping.{PostsEach, posted_of, marker};
-ghost use Rattle.alog_registry.specs.Carry.{PostsItem};
+ghost use Rattle.alog_policy.specs.Progress.{without_waiting};
+ghost use Rattle.alog_registry.specs.Backtrace.{Room};
+ghost use Rattle.alog_registry.specs.Dumping.{PostsEach, posted_of};
 ghost use Rattle.alog_registry.specs.Given.{message_of, message_with, IsWithin, IsTooLongField};
 ghost use Rattle.alog_registry.specs.LaneKeeper.{IsSeated, HasList, KeepsByTurn, DumpsByTurn, NeverPasses};
 ghost use Rattle.alog_registry.specs.Limit.{AdmitsShort, IsShort};
@@ -14,9 +12,9 @@ ghost use Rattle.alog_registry.specs.Listed.{spec_at};
 ghost use Rattle.alog_registry.specs.Logging.{IsBelow, IsBrought, IsLogged, Logs, IsUnread};
 ghost use Rattle.alog_registry.specs.declared.logger.Spec.{Spec};
 
-use crate::carry::CarryWaiting;
+use crate::carry::{Carry, CarryWaiting};
 use crate::dumped::Dumped;
-use crate::dumping::{END, START, marker};
+use crate::dumping::{END, START, marker, post_dumped};
 use crate::given::{MessageRef, message};
 use crate::keep::LaneKeeper;
 use crate::loggers::Loggers;
@@ -84,14 +82,14 @@ impl Loggers {
 }
 
 impl Loggers {
-    /// Dumps a shared backtrace as `dump_backtrace` does one of one's own, but waits: for its lock, and under `Block` until
-    /// there is room. The scratch lends an empty list of the backtrace's room, and has one again afterwards.
+    /// Dumps a shared backtrace as `dump_backtrace` does one of one's own, when it has got its lock, for which it waits. The posts
+    /// never wait. The scratch lends an empty list of the backtrace's room, and has one again afterwards.
     ///
     /// What is needed is made before the backtrace is emptied, also where nothing is kept, and where there is no memory,
     /// everything is as it was. That it returns is not promised. The test `logs_with_waiting` shows it.
-    pub fn dump_shared<O: CarryWaiting>(
+    pub fn dump_shared<O: Carry>(
         &self,
-        rt: &(impl Wait + Clock),
+        rt: &impl Wait,
         alloc: Global,
         outlet: &mut O,
         keeper: &mut LaneKeeper<'_>,
@@ -106,7 +104,7 @@ impl Loggers {
         requires limit { (LEAST_TEXT_LIMIT ≤ keeper.old.lane.now.first.limit)
             × AdmitsShort O.admits keeper.old.lane.now.first.limit outlet.old }
         ensures dumped { (s : Spec) → spec_at self.now number ≡ Some s → IfOk result (λ v. (d : Room) × DumpsByTurn keeper.old d keeper.new
-            × PostsEach O.did s.policy (posted_of number time thread d.messages) outlet.old v.items outlet.new) }
+            × PostsEach O.did (without_waiting s.policy) (posted_of number time thread d.messages) outlet.old v.items outlet.new) }
         ensures err { OnErr result ((outlet.new ≡ outlet.old) × (keeper.new ≡ keeper.old)) }
         ensures ready { O.is_ready outlet.new × IsSeated keeper.new × HasList keeper.new }
         ensures outlet { (m : Message) → O.admits outlet.old m → O.admits outlet.new m }
@@ -121,15 +119,7 @@ impl Loggers {
         let mut list = keeper.dump(rt);
         // It has no more messages than its room, so there is room for the outcomes.
         let _dumped = list.len();
-        post_dumped(
-            rt,
-            outlet,
-            spec.policy,
-            start,
-            end,
-            &mut list,
-            &mut outcomes,
-        );
+        post_dumped(outlet, spec.policy, start, end, &mut list, &mut outcomes);
         keeper.scratch.take_back(list);
         Ok(outcomes)
     }
@@ -200,74 +190,6 @@ fn bring_and_keep<O: CarryWaiting>(
     let reply = bring(rt, alloc, outlet, text_limit, own, policy, given, true)?;
     keeper.keep(rt, copy);
     Ok(reply)
-}
-
-/// Posts what was dumped between the two markers, or nothing where nothing was.
-fn post_dumped<O: CarryWaiting>(
-    rt: &(impl Wait + Clock),
-    outlet: &mut O,
-    policy: Policy,
-    start: Message,
-    end: Message,
-    list: &mut Dumped,
-    outcomes: &mut Vec<Outcome<()>>,
-)
-    requires ready { O.is_ready outlet.old × AdmitsShort O.admits list.old.limit outlet.old }
-    requires markers { O.admits outlet.old start × O.admits outlet.old end }
-    requires none { outcomes.old.items ≡ [] }
-    requires room { length list.old.messages + 2 ≤ vec_capacity outcomes.old }
-    ensures posted { (n : ℕ) (t : ℤ) (th : ℕ) → start ≡ marker n t th (codes "=== backtrace start ===")
-        → end ≡ marker n t th (codes "=== backtrace end ===")
-        → PostsEach O.did policy (posted_of n t th list.old.messages) outlet.old outcomes.new.items outlet.new }
-    ensures list { list.new ≡ room_for list.old.most list.old.limit }
-    ensures ready { O.is_ready outlet.new }
-    ensures outlet { (m : Message) → O.admits outlet.old m → O.admits outlet.new m }
-{
-    if list.is_empty() {
-        return;
-    }
-    outcomes.push_reserved(post_waiting(rt, outlet, policy, start));
-    post_all_waiting(rt, outlet, policy, list, outcomes);
-    outcomes.push_reserved(post_waiting(rt, outlet, policy, end));
-}
-
-/// Posts all messages of the list, oldest first, for whose outcomes there is room.
-fn post_all_waiting<O: CarryWaiting>(
-    rt: &(impl Wait + Clock),
-    outlet: &mut O,
-    policy: Policy,
-    list: &mut Dumped,
-    outcomes: &mut Vec<Outcome<()>>,
-)
-    requires ready { O.is_ready outlet.old × AdmitsShort O.admits list.old.limit outlet.old }
-    requires room { vec_len outcomes.old + length list.old.messages < vec_capacity outcomes.old }
-    ensures posted { (s : O) (before : List Message) → PostsEach O.did policy before s outcomes.old.items outlet.old
-        → PostsEach O.did policy (before ++ list.old.messages) s outcomes.new.items outlet.new }
-    ensures list { list.new ≡ room_for list.old.most list.old.limit }
-    ensures count { vec_len outcomes.new ≡ vec_len outcomes.old + length list.old.messages }
-    ensures room { vec_capacity outcomes.new ≡ vec_capacity outcomes.old }
-    ensures ready { O.is_ready outlet.new }
-    ensures admitted { (m : Message) → O.admits outlet.old m → O.admits outlet.new m }
-{
-    while let Some(message) = list.take_oldest() {
-        outcomes.push_reserved(post_waiting(rt, outlet, policy, message));
-    }
-}
-
-/// Posts a message.
-fn post_waiting<O: CarryWaiting>(
-    rt: &(impl Wait + Clock),
-    outlet: &mut O,
-    policy: Policy,
-    message: Message,
-) -> Outcome<()>
-    requires ready { O.is_ready outlet.old × O.admits outlet.old message }
-    ensures post { PostsItem O.did policy (Text message) outlet.old outlet.new result }
-    ensures ready { O.is_ready outlet.new }
-    ensures admitted { (m : Message) → O.admits outlet.old m → O.admits outlet.new m }
-{
-    let mut hand = Some(outlet.message(message));
-    outlet.post_waiting(rt, policy, &mut hand)
 }
 
 impl LaneKeeper<'_> {

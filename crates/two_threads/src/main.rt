@@ -9,7 +9,7 @@ mod setup;
 
 use alog_msg::Level;
 use alog_pool::{OpenGate, Pool, Producer};
-use anyhow::{Result, bail};
+use anyhow::{Context, Result};
 use std::alloc::Global;
 use std::io::Write;
 use std::sync::Wait;
@@ -19,19 +19,14 @@ use std::time::Clock;
 fn main(rt: HostRuntime) -> Result<()> {
     let alloc = rt.alloc();
     let mut pool = Pool::start(&rt, alloc, setup::setup(alloc)?, OpenGate)?;
-    let mut one = pool.producer()?;
-    let mut two = pool.producer()?;
+    let (mut one, mut two) = (pool.producer()?, pool.producer()?);
     thread::join_mut(
         &rt,
         &mut || greet(&rt, alloc, &mut one),
         &mut || greet(&rt, alloc, &mut two),
     );
-    let mut producers = Vec::with_capacity(alloc, 2)?;
-    producers.push_reserved(one);
-    producers.push_reserved(two);
-    let Ok(report) = pool.shutdown(&rt, producers) else {
-        bail!("a producer is missing")
-    };
+    let ended = pool.shutdown(&rt, vec![in alloc; one, two]?);
+    let report = ended.ok().context("a producer is missing")?;
     println!(rt;
         "handled {} of {}",
         report.totals.handled, report.totals.asked

@@ -1,7 +1,7 @@
 use Rattle.std.proofs.Common.{◌≤◌, subst}
 use Rattle.alog_pattern.specs.Compiled.{longest}
 use Rattle.alog_pattern.specs.declared.patterns.TheConstants.{LINE_MAX}
-use Rattle.alog_pool_tests.proofs.Opening.{opened_suits}
+use Rattle.alog_pool.proofs.Opening.{opened_suits}
 use Rattle.alog_pool_tests.proofs.sinks.sink.Goals as goal
 
 pub returns : goal.returns

@@ -29,6 +29,7 @@ loop-message-preserved g c =
           );
       count = omega arith;
       room = c.push_reserved.ensures.capacity ∙ c.loop-message.invariant.room;
+      most = ap (λ l. l.most) c.take_oldest.ensures.rest ∙ c.loop-message.invariant.most;
       ready = c.post.ensures.ready;
       limit = ap (λ l. l.limit) c.take_oldest.ensures.rest ∙ c.loop-message.invariant.limit;
       admitted = λ x h. c.post.ensures.admitted x (c.loop-message.invariant.admitted x h);

@@ -12,6 +12,7 @@ invariant-loop-message g l = record {
       × PostsEach g.O.Carry.did (without_waiting l.fn.policy) (before ++ gone) s l.outcomes.items l.outlet;
   count : vec_len l.outcomes + length l.list.messages ≡ vec_len l.fn.outcomes + length l.fn.list.messages;
   room : vec_capacity l.outcomes ≡ vec_capacity l.fn.outcomes;
+  most : l.list.most ≡ l.fn.list.most;
   ready : g.O.Carry.is_ready l.outlet;
   limit : l.list.limit ≡ l.fn.list.limit;
   admitted : (m : Message) → g.O.Carry.admits l.fn.outlet m → g.O.Carry.admits l.outlet m;

@@ -1,6 +1,7 @@
 use Rattle.std.proofs.Common.{Bor, refl, sym, ap, ◌∙◌}
 use Rattle.std.proofs.lemmas.Int.{to_z-of_z}
 use Rattle.alog_lane.specs.Calls.{LaneId}
+use Rattle.alog_policy.specs.Progress.{without_waiting}
 use Rattle.alog_pool.specs.Keeping.{KeepingView}
 use Rattle.alog_pool.proofs.Producing.{dump_leaves, keeps_dump}
 use Rattle.alog_registry.specs.Backtrace.{Room}
@@ -21,7 +22,7 @@ shape_of-self-inside-2 g c =
 pub returns-clause-dumped : goal.returns-clause-dumped
 returns-clause-dumped g c = λ s e.
     let dumped = simp (to_z-of_z, c.ranges.time) at c.dump_shared.ensures.dumped in
-    keeps_dump (λ v. v.items) s.policy c.args.number c.args.time c.args.thread c.args.port.now c.dump_shared.new.outlet _ c.dump_shared.new.keeper
+    keeps_dump (λ v. v.items) (without_waiting s.policy) c.args.number c.args.time c.args.thread c.args.port.now c.dump_shared.new.outlet _ c.dump_shared.new.keeper
     c.args.self.now _ c.dump_shared.result (
       c.deref.ensures ∙ ap (λ (v : KeepingView). v.lane) c.self.view_is,
       ap (λ (v : KeepingView). v.seat) c.self.view_is,

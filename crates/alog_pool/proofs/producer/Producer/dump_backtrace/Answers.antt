@@ -4,6 +4,7 @@ use Rattle.std.specs.Arc.{arc_value}
 use Rattle.std.proofs.lemmas.Int.{to_z-of_z}
 use Rattle.std.proofs.lemmas.Option.{slice_get_read}
 use Rattle.alog_policy.specs.Port.{PortDid}
+use Rattle.alog_policy.specs.Progress.{without_waiting}
 use Rattle.alog_pool.specs.Producer.{ProducerView, Lent}
 use Rattle.alog_pool.specs.declared.shared.Shared.{Shared}
 use Rattle.alog_pool.proofs.Producing.{lent_dump, port_after}
@@ -42,9 +43,9 @@ returns-clause-dumped g c =
     } in
     let P : ProducerView → Type 0 = λ w. (s : Spec) → spec_at w.shared.loggers c.args.number ≡ Some s
     → IfOk c.dump.result (λ x. Lent w new c.args.number (λ p k q l. (d : Room) × DumpsByTurn k d l
-    × PostsEach PortDid s.policy (posted_of c.args.number c.args.time w.number d.messages) p x.items q)) in
+    × PostsEach PortDid (without_waiting s.policy) (posted_of c.args.number c.args.time w.number d.messages) p x.items q)) in
     subst P c.self.view_is (λ s e.
-    lent_dump (λ x. x.items) s.policy c.args.number c.args.time i.number v new c.args.number _ c.dump.new.port place c.dump.new.self c.dump.result
+    lent_dump (λ x. x.items) (without_waiting s.policy) c.args.number c.args.time i.number v new c.args.number _ c.dump.new.port place c.dump.new.self c.dump.result
     (record {
       ring = ap (λ (x : Shared). x.ring) c.deref-shared.ensures;
       book = ap (λ (x : Shared). x.book) c.deref-shared.ensures;
