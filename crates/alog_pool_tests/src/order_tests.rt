@@ -218,6 +218,17 @@ fn call_at(rt: &impl Abort, sinks: &[Sink<Scribe>], number: u64) -> At {
     panic!(rt; "no call {number}")
 }
 
+/// How many calls these sinks made.
+fn count_calls(sinks: &[Sink<Scribe>]) -> usize {
+    let mut found = 0_usize;
+    for sink in sinks {
+        if let Some(store) = sink.store() {
+            found = found.saturating_add(store.calls.len());
+        }
+    }
+    found
+}
+
 /// The calls of these texts are these, in this order, and no others.
 fn calls<R: Abort + Threads + Wait + Clock + Clone + Drop + Send + 'static>(
     rt: &R,
@@ -229,11 +240,7 @@ fn calls<R: Abort + Threads + Wait + Clock + Clone + Drop + Send + 'static>(
     for (number, call) in wanted.iter().enumerate() {
         assert!(rt; call_at(rt, &report.sinks, number as u64) == *call);
     }
-    let all = report.sinks.iter().map(|sink| sink.store());
-    let found: usize = all
-        .map(|store| store.map_or(0, |store| store.calls.len()))
-        .sum();
-    assert!(rt; found == wanted.len());
+    assert!(rt; count_calls(&report.sinks) == wanted.len());
 }
 
 #[test]
