@@ -144,12 +144,7 @@ fn started<R: Abort + Threads + Wait + Clock + Clone + Drop + Send + 'static>(
 type Given<'a> = (u32, Level, &'a str);
 
 /// The producer logs this text.
-fn log(
-    rt: &(impl Abort + Wait + Clock),
-    alloc: Global,
-    producer: &mut Producer,
-    given: Given<'_>,
-)
+fn log(rt: &(impl Abort + Wait + Clock), alloc: Global, producer: &mut Producer, given: Given<'_>)
     ensures { producer.new.shared ≡ producer.old.shared }
 {
     let (logger, level, text) = given;
