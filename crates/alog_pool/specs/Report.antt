@@ -73,7 +73,8 @@ IsRising [] = Unit {0}
 IsRising (t ∷ ts) = AllByRecursion (λ (u : ℕ). t < u) ts × IsRising ts
 
 -- A worker that ended: the tickets that it took rise, and it recorded those of its first texts and flushes, at most so many. It
--- ended at its first stop or where no ticket was left, and made exactly the turns that were due for what it took, in that order.
+-- ended at its first stop or where no ticket was left, and at each sink it made exactly the turns that were due there for what it
+-- took, in that order.
 pub record HasServed {S : Type 0} (loggers : List Logger) (lanes : List (LaneId (Sink S))) (most : ℕ) (h : Hand S) : Type 0 where
   pub work : IsWorkOf most h.pass.known h.tickets.items h.handled
   pub rising : IsRising (handed_out h.pass.known.own)
