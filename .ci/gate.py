@@ -23,7 +23,7 @@ sys.dont_write_bytecode = True
 import rounds
 
 # processor seconds: of all of alog, of a crate's proof with its tests, of its edits
-BUDGET, SHARE, EDITS_SHARE = 13_000, 600, 400
+BUDGET, SHARE, EDITS_SHARE = 12_500, 600, 400
 MOST_EDITS = 12
 PHASES = ("proof", "tests", "edits")
 TICKS = os.sysconf("SC_CLK_TCK")

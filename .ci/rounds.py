@@ -94,7 +94,7 @@ def is_refusal(verdict):
     """Whether a verdict is the function's own, and not only that of a function that it calls."""
     kind, _, reasons = verdict.partition(":")
     if kind != "no proof":
-        return kind == "not proved"
+        return kind.startswith("not proved")
     return any(it.strip() and not it.strip().startswith("it calls ") for it in reasons.split(";"))
 
 
