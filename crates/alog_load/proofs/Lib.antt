@@ -1,5 +1,5 @@
 pub mod Crosses
 pub mod Making
 pub mod Sending
-pub mod Copying
+pub mod Building
 pub mod Suiting

@@ -1,3 +1,2 @@
 pub mod Load
 pub mod Crew
-pub mod Copies

@@ -77,7 +77,7 @@ MakesAll {S} old (p ∷ ps) new = (mid : PoolView S) × Makes old mid p × Makes
 module _ {S : Type 0} (tells : Bool) (files : S → Files) (failures : S → ℕ) where
   -- What a configuration gives, over these stores, for a pool that tells so many tickets of each worker.
   pub record IsSetupOf (c : Config) (stores : List S) (most : ℕ) (setup : Setup S) : Type 0 where
-    pub built : Built tells files failures c stores setup.loggers.loggers setup.sinks.items
+    pub built : Built tells files failures c stores setup.loggers setup.sinks.items
     pub queue : setup.queue ≡ c.queue
     pub first : setup.first ≡ 0
     pub workers : setup.workers ≡ c.workers

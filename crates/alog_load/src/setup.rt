@@ -7,7 +7,6 @@ ghost use Rattle.alog_load.specs.Load.{IsSetupOf};
 ghost use Rattle.alog_pool.specs.Pool.{Fits};
 
 use crate::error::LoadError;
-use crate::registry::registry_of;
 use alog_config::{Config, build};
 use alog_pool::Setup;
 use alog_sink::Store;
@@ -34,7 +33,7 @@ pub fn setup_of<S: Store + Drop>(
         workers: config.workers,
         tickets_max,
         text_limit: config.text,
-        loggers: registry_of(alloc, config, &loggers)?,
+        loggers,
         sinks,
     })
 }

@@ -103,7 +103,7 @@ module _ {S : Type 0} where
 
   -- the backtraces of its loggers, empty
   abbrev pub rooms_of : Setup S → List Room
-  rooms_of setup = map (λ (l : Logger). room_for l.spec.backtrace setup.text_limit) setup.loggers.loggers
+  rooms_of setup = map (λ (l : Logger). room_for l.spec.backtrace setup.text_limit) setup.loggers
 
   -- it asks for a number of workers that a pool may have
   abbrev pub HasWorkers : Setup S → Type 0
@@ -121,7 +121,7 @@ module _ {S : Type 0} where
   pub record IsGround (setup : Setup S) (ring : RingId TextLimit) (g : Ground S) : Type 0 where
     pub stands : Stands 0 g
     pub ring_is : (arc_value g.shared).ring ≡ ring
-    pub loggers : (arc_value g.shared).loggers ≡ setup.loggers.loggers
+    pub loggers : (arc_value g.shared).loggers ≡ setup.loggers
     pub pass : g.pass.known ≡ first_known ring.places ring.first
     pub sinks : map (λ (l : LaneId (Sink S)). l.first) (lanes_of g.berths.items) ≡ setup.sinks.items
     pub rooms : map (λ (k : KeepingView). k.lane.first) g.keepings.items ≡ rooms_of setup
@@ -153,7 +153,7 @@ module _ {S : Type 0} where
   -- work for it, numbered from 0 on, and it made no producer.
   pub record Starts (setup : Setup S) (p : PoolView S) : Type 0 where
     pub queue : (p.shared.ring.places ≡ setup.queue) × (p.shared.ring.first ≡ setup.first)
-    pub loggers : p.shared.loggers ≡ setup.loggers.loggers
+    pub loggers : p.shared.loggers ≡ setup.loggers
     pub sinks : map (λ (l : LaneId (Sink S)). l.first) (lanes_of p.berths) ≡ setup.sinks.items
     pub rooms : map (λ (k : KeepingView). k.lane.first) p.keepings ≡ rooms_of setup
     pub made : p.made ≡ 0

@@ -84,9 +84,6 @@ impl<S: Store + Drop + Send + 'static> Ground<S> {
             workers,
             ..
         } = setup;
-        let Ok(loggers) = loggers.freeze(alloc) else {
-            return Err(AllocError);
-        };
         let keepings = keepings_of(alloc, &loggers, text_limit)?;
         let berths = berths_of(alloc, sinks, text_limit)?;
         let (book, losses) = LossBook::new(alloc)?;

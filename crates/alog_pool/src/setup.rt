@@ -1,5 +1,5 @@
 //! What a pool is started with.
-use alog_registry::Registry;
+use alog_registry::Loggers;
 use alog_sink::{Sink, Store};
 
 /// What a pool is started with. The sinks that a logger names are among these, by number, and each writes any text of the limit.
@@ -15,6 +15,6 @@ pub struct Setup<S: Store> {
     pub tickets_max: usize,
     /// The most bytes of a text, 64 to 8,192.
     pub text_limit: usize,
-    pub loggers: Registry,
+    pub loggers: Loggers,
     pub sinks: Vec<Sink<S>>,
 }

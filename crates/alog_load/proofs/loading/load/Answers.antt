@@ -1,5 +1,5 @@
 use Rattle.std.proofs.Common.{◌≡◌, ℕ, List, length, refl, sym, ap, subst, arith}
-use Rattle.alog_load.proofs.Copying.{built_length}
+use Rattle.alog_load.proofs.Building.{built_length}
 use Rattle.alog_load.proofs.Making.{makes_count, makes_shared}
 use Rattle.alog_load.proofs.loading.load.Goals as goal
 use Rattle.alog_load.specs.Crew.{AreOf}
@@ -13,7 +13,7 @@ run-back-requires-clause-loggers g c κs within =
     let config = c.args.config.now in
     let setup = c.in_ok-setup.setup in
     let given = c.in_ok-setup.ensures.given in
-    let long = built_length g.S.Store.tells g.S.Store.files g.S.Store.failures config c.args.stores.items setup.loggers.loggers
+    let long = built_length g.S.Store.tells g.S.Store.files g.S.Store.failures config c.args.stores.items setup.loggers
     setup.sinks.items given.built in
     let same = ap (λ (l : List Logger). length l) c.in-Ok.ensures.started.loggers in
     let few = config.sound.few_loggers in

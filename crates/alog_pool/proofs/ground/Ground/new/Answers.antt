@@ -1,9 +1,7 @@
-use Rattle.std.proofs.Common.{◌≤◌, List, length, map, ap, refl, sym, subst, ◌∙◌, arith}
+use Rattle.std.proofs.Common.{◌≤◌, length, ap, refl, sym, subst, ◌∙◌, arith}
 use Rattle.alog_pool.proofs.Grounding.{first_lanes, first_limits, first_parts, first_unused, keepings_kept, keepings_parts, keepings_rooms}
 use Rattle.alog_pool.proofs.Sharing.{each2_length}
 use Rattle.alog_pool.specs.Places.{IsKeepingOf}
-use Rattle.alog_registry.specs.Backtrace.{room_for}
-use Rattle.alog_registry.specs.declared.logger.Logger.{Logger}
 use Rattle.alog_pool.specs.declared.shared.Shared.{Shared}
 use Rattle.alog_pool.proofs.ground.Ground.new.Goals as goal
 use Rattle.alog_policy.specs.BookCalls.{IsSeatOf}
@@ -16,7 +14,7 @@ returns-in-Ok-new g c =
     let shared = c.in-Ok-new.ensures.ok in
     let first = c.in_ok-berths.ensures in
     let keepings = c.in_ok-keepings.ensures in
-    let loggers = c.in-Ok.loggers in
+    let loggers = setup.loggers in
     let known = c.requires.pass in
     let seat = c.in_ok-book.ensures.known in
     record {
@@ -40,11 +38,10 @@ returns-in-Ok-new g c =
         berths_unused = first_unused setup.text_limit setup.sinks.items c.in_ok-berths.berths.items first;
       };
       ring_is = ap (λ (s : Shared). s.ring) shared;
-      loggers = ap (λ (s : Shared). s.loggers) shared ∙ c.in-Ok.ensures.frozen;
+      loggers = ap (λ (s : Shared). s.loggers) shared;
       pass = known;
       sinks = first_lanes setup.text_limit setup.sinks.items c.in_ok-berths.berths.items first;
-      rooms = keepings_rooms setup.text_limit loggers c.in_ok-keepings.keepings.items keepings
-          ∙ ap (λ (ls : List Logger). map (λ (l : Logger). room_for l.spec.backtrace setup.text_limit) ls) c.in-Ok.ensures.frozen;
+      rooms = keepings_rooms setup.text_limit loggers c.in_ok-keepings.keepings.items keepings;
       workers = refl;
       most = refl;
       limit = refl;
