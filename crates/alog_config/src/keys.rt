@@ -1,5 +1,5 @@
 //! Which keys a table may have.
-ghost use Rattle.std.specs.Prelude.{◌↔◌, IsTrue, option_map};
+ghost use Rattle.std.specs.Prelude.{◌↔◌, IsTrue, None, Some, option_map};
 ghost use Rattle.alog_config.specs.Culprits.{IsOtherKey};
 ghost use Rattle.alog_config.specs.Keys.{HasOtherKey, IsOneOf, keys_of, logger_keys, sink_keys, top_keys};
 ghost use Rattle.toml.specs.View.{table_view};
@@ -44,34 +44,69 @@ fn is_logger_key(key: &str) -> bool
     )
 }
 
+/// Whether a memory sink has this key.
+fn is_memory_key(key: &str) -> bool
+    ensures { IsTrue result ↔ IsOneOf (sink_keys (Some Kind.Memory)) key.now }
+{
+    matches!(key, "name" | "kind" | "level" | "pattern" | "file")
+}
+
+/// Whether a rotating sink has this key.
+fn is_rotating_key(key: &str) -> bool
+    ensures { IsTrue result ↔ IsOneOf (sink_keys (Some Kind.Rotating)) key.now }
+{
+    matches!(
+        key,
+        "name" | "kind" | "level" | "pattern" | "file" | "max_size" | "max_files"
+    )
+}
+
+/// Whether a daily sink has this key.
+fn is_daily_key(key: &str) -> bool
+    ensures { IsTrue result ↔ IsOneOf (sink_keys (Some Kind.Daily)) key.now }
+{
+    matches!(
+        key,
+        "name" | "kind" | "level" | "pattern" | "file" | "hour" | "minute" | "max_files"
+    )
+}
+
+/// Whether a fan has this key.
+fn is_fan_key(key: &str) -> bool
+    ensures { IsTrue result ↔ IsOneOf (sink_keys (Some Kind.Fan)) key.now }
+{
+    matches!(key, "name" | "kind" | "level" | "of")
+}
+
+/// Whether a sink of some kind has this key.
+fn is_key_of_any_sink(key: &str) -> bool
+    ensures { IsTrue result ↔ IsOneOf (sink_keys None) key.now }
+{
+    matches!(
+        key,
+        "name"
+            | "kind"
+            | "level"
+            | "pattern"
+            | "file"
+            | "max_size"
+            | "max_files"
+            | "hour"
+            | "minute"
+            | "of"
+    )
+}
+
 /// Whether a sink of this kind has this key. Where no kind is told, it may be a key of any kind.
 fn is_sink_key(kind: Option<Kind>, key: &str) -> bool
     ensures { IsTrue result ↔ IsOneOf (sink_keys kind) key.now }
 {
     match kind {
-        Some(Kind::Memory) => { matches!(key, "name" | "kind" | "level" | "pattern" | "file") }
-        Some(Kind::Rotating) => matches!(
-            key,
-            "name" | "kind" | "level" | "pattern" | "file" | "max_size" | "max_files"
-        ),
-        Some(Kind::Daily) => matches!(
-            key,
-            "name" | "kind" | "level" | "pattern" | "file" | "hour" | "minute" | "max_files"
-        ),
-        Some(Kind::Fan) => matches!(key, "name" | "kind" | "level" | "of"),
-        None => matches!(
-            key,
-            "name"
-                | "kind"
-                | "level"
-                | "pattern"
-                | "file"
-                | "max_size"
-                | "max_files"
-                | "hour"
-                | "minute"
-                | "of"
-        ),
+        Some(Kind::Memory) => is_memory_key(key),
+        Some(Kind::Rotating) => is_rotating_key(key),
+        Some(Kind::Daily) => is_daily_key(key),
+        Some(Kind::Fan) => is_fan_key(key),
+        None => is_key_of_any_sink(key),
     }
 }
 
