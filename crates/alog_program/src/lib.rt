@@ -1,0 +1,31 @@
+//! The whole program `alog`, but for `main`: the command line over the crates below it.
+//!
+//! `program.rt` has `run`: the whole program over any reader and two writers, which answers the exit status. `words.rt` reads the
+//! command line into a request (`request.rt`): `command.rt` has the commands and their help for `clap`, and `options.rt` and
+//! `load_options.rt` read the values that it found. `line.rt` makes the line of `alog format`, `check.rt`, `replay_config.rt` and
+//! `load.rt` (with `progress.rt`) do what begins with the configuration of a file, and `status.rt` says which status and which line
+//! on standard error each fault has. `arguments.rt` collects the words that the system gave, for `main` in the crate `alog`. The
+//! tests are in the crate `test_program`.
+#![tactic(auto)]
+
+mod arguments;
+mod check;
+mod command;
+mod configuration;
+mod line;
+mod load;
+mod load_options;
+mod options;
+mod program;
+mod progress;
+mod replay_config;
+mod request;
+mod status;
+mod stores;
+mod totals;
+mod words;
+
+pub use arguments::{ArgumentsError, collect_words};
+pub use program::{refuse_arguments, run};
+pub use progress::{Progress, Screen};
+pub use stores::Folders;

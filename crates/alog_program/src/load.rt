@@ -1,0 +1,149 @@
+//! `alog load`: a load through the loggers and sinks of a configuration.
+ghost use Rattle.std.specs.Prelude.{◌≡◌, ◌⊎◌, All, MatchOption, count_by, length};
+ghost use Rattle.std.specs.Io.KnownBytes.{Appends};
+ghost use Rattle.alog_config.specs.Sinks.{is_leaf};
+ghost use Rattle.alog_program.specs.Loaded.{HasNoFault, IsNew, LoadsDocument, LoadsFile, LoadsOn, totals_text};
+ghost use Rattle.alog_program.specs.Status.{load_status_of};
+
+use crate::configuration::{read_document, refuse};
+use crate::program::fail;
+use crate::progress::{Progress, Screen};
+use crate::request::LoadRequest;
+use crate::status::{load_number_of, load_status_of};
+use crate::stores::{Folders, folder_stores, memory_stores};
+use crate::totals::write_totals;
+use alog_config::{Config, leaves, read};
+use alog_load::{LoadError, load};
+use alog_pool::Report;
+use alog_replay::ReplayError;
+use alog_sink::{MemStore, Store};
+use std::alloc::AllocError;
+use std::io::Write;
+use std::rt::Files;
+use std::sync::Wait;
+use std::thread::Threads;
+use std::time::Clock;
+
+/// `alog load`: makes the load where the file has a configuration, and else says what is wrong with the file.
+pub(crate) fn load_command<R, O: Write, E: Write>(
+    rt: &R,
+    request: &LoadRequest<'_>,
+    output: &mut O,
+    errors: &mut E,
+) -> u8
+where
+    R: AllocGlobal + Files + Folders + Screen + Threads + Wait + Clock,
+    R: Clone + Drop + Send + Sync + 'static,
+    ensures { MatchOption request.now.folder
+        (LoadsFile ⟦<MemStore as Store>⟧.tells ⟦<MemStore as Store>⟧.files ⟦<MemStore as Store>⟧.failures
+        request.now result (O.contents output.old) (O.contents output.new))
+        (λ _. LoadsFile R.Folder.tells R.Folder.files
+        R.Folder.failures request.now result (O.contents output.old) (O.contents output.new)) }
+{
+    match read_document(rt, request.file, errors) {
+        Ok(document) => load_document(rt, document.as_slice(), request, output, errors),
+        Err(status) => status,
+    }
+}
+
+/// Makes the load of the configuration of a document, or says what is wrong with the document.
+fn load_document<R, O: Write, E: Write>(
+    rt: &R,
+    document: &[u8],
+    request: &LoadRequest<'_>,
+    output: &mut O,
+    errors: &mut E,
+) -> u8
+where
+    R: AllocGlobal + Files + Folders + Screen + Threads + Wait + Clock,
+    R: Clone + Drop + Send + Sync + 'static,
+    ensures { MatchOption request.now.folder
+        (LoadsDocument ⟦<MemStore as Store>⟧.tells ⟦<MemStore as Store>⟧.files ⟦<MemStore as Store>⟧.failures
+        document.now request.now result (O.contents output.old) (O.contents output.new))
+        (λ _. LoadsDocument R.Folder.tells R.Folder.files
+        R.Folder.failures document.now request.now result
+        (O.contents output.old) (O.contents output.new)) }
+{
+    let alloc = rt.alloc();
+    let config = match read(alloc, document) {
+        Ok(config) => config,
+        Err(fault) => return refuse(alloc, document, fault, errors),
+    };
+    let count = leaves(&config);
+    match request.folder {
+        None => match memory_stores(alloc, count) {
+            Ok(stores) => load_over(rt, &config, stores, request, output, errors),
+            Err(_) => refuse_load(LoadError::OutOfMemory, errors),
+        },
+        Some(path) => match folder_stores(rt, alloc, path, count) {
+            Ok(stores) => load_over(rt, &config, stores, request, output, errors),
+            Err(_) => refuse_load(LoadError::OutOfMemory, errors),
+        },
+    }
+}
+
+/// Makes the load of a configuration over these stores, and writes its totals. While it goes on, a terminal shows how far it is.
+fn load_over<R, S: Store + Drop + Send + 'static, O: Write, E: Write>(
+    rt: &R,
+    config: &Config,
+    stores: Vec<S>,
+    request: &LoadRequest<'_>,
+    output: &mut O,
+    errors: &mut E,
+) -> u8
+where
+    R: AllocGlobal + Screen + Threads + Wait + Clock + Clone + Drop + Send + Sync + 'static,
+    requires many { length stores.items ≡ count_by is_leaf config.now.sinks.items }
+    requires fresh { All (IsNew S.tells S.files S.failures) stores.items }
+    ensures { LoadsOn S.tells S.files S.failures config.now request.now result (O.contents output.old) (O.contents output.new) }
+{
+    let LoadRequest {
+        producers,
+        messages,
+        ..
+    } = *request;
+    let own: Result<R, AllocError> = rt.clone();
+    let Ok(own) = own else {
+        return refuse_load(LoadError::OutOfMemory, errors);
+    };
+    let gate = Progress::of(own, producers.saturating_mul(messages));
+    let made = load(rt, rt.alloc(), config, stores, gate, producers, messages);
+    if rt.is_watched() {
+        rt.clear();
+    }
+    match made {
+        Ok(report) => tell(report, output, errors),
+        Err(fault) => refuse_load(fault, errors),
+    }
+}
+
+/// Brings all lines to the stores, and writes the totals of a load; behind them, that a store failed, where one did.
+fn tell<S: Store + Drop, O: Write, E: Write>(
+    report: Report<S>,
+    output: &mut O,
+    errors: &mut E,
+) -> u8
+    ensures status { (result ≡ 0) ⊎ (result ≡ 3) }
+    ensures done { result ≡ 0 → HasNoFault report × Appends (O.contents output.old) (O.contents output.new) (totals_text report.totals) }
+{
+    let mut report = report;
+    let is_whole = report.faults.iter().all(|number| *number == 0);
+    let mut is_kept = true;
+    for sink in report.sinks.iter_mut() {
+        is_kept = sink.flush().is_ok() && is_kept;
+    }
+    match write_totals(output, report.totals) {
+        Ok(()) if is_whole && is_kept => 0,
+        Ok(()) => refuse_load(LoadError::Store, errors),
+        Err(_) => fail(ReplayError::WriteFault, errors),
+    }
+}
+
+/// Writes the line of a load's fault, and answers its status.
+fn refuse_load<E: Write>(fault: LoadError, errors: &mut E) -> u8
+    ensures { result ≡ load_status_of fault }
+{
+    let number = load_number_of(fault);
+    let _ = writeln!(errors, "alog: refused {number}");
+    load_status_of(fault)
+}

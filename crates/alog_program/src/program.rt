@@ -1,0 +1,196 @@
+//! The whole program over any reader and two writers.
+ghost use Rattle.std.specs.Prelude.{◌≡◌, ◌≤◌, ◌⊎◌, ◌↔◌, List, map, MatchOption, OnOk};
+ghost use Rattle.std.specs.Io.KnownBytes.{Appends, Keeps};
+ghost use Rattle.clap.specs.Words.{Row, kind_of};
+ghost use Rattle.alog_program.specs.Checks.{ChecksFile};
+ghost use Rattle.alog_program.specs.CommandLine.{AsksCheck, AsksFormat, AsksLoad, AsksReplayConfig, folder_in, values_in};
+ghost use Rattle.alog_program.specs.Formats.{Formats};
+ghost use Rattle.alog_program.specs.Line.{WritesLineOf, IsRefused};
+ghost use Rattle.alog_program.specs.Loaded.{LoadsBy};
+ghost use Rattle.alog_program.specs.Replays.{Replays, ReplaysFile};
+ghost use Rattle.alog_program.specs.Status.{status_of};
+ghost use Rattle.alog_program.specs.Words.{AsksReplay, IsAskedFor};
+
+use crate::arguments::ArgumentsError;
+use crate::check::check_command;
+use crate::line::line_of;
+use crate::load::load_command;
+use crate::progress::Screen;
+use crate::replay_config::replay_config_command;
+use crate::request::{LineRequest, Request};
+use crate::status::{number_of, status_of};
+use crate::stores::Folders;
+use crate::words::{WordsError, read};
+use alog_replay::{ReplayError, replay};
+use alog_sink::{MemStore, Store};
+use clap::error::ErrorKind;
+use std::alloc::Global;
+use std::convert::AsStr;
+use std::io;
+use std::io::{Read, Write};
+use std::rt::Files;
+use std::sync::Wait;
+use std::thread::Threads;
+use std::time::Clock;
+
+/// Runs the program on these words, of which the first is its own name, and answers its exit status: 0 where all was
+/// done, 1 for a wrong command line, 2 for refused input, 3 for a read or write fault, 4 for want of memory.
+///
+/// A fault prints its line on `errors`. Help goes to `output`, and a wrong command line writes nothing there.
+/// `alog replay` replays the script of `input`, as `alog_replay::replay` does, or with `--config` on the configuration of
+/// a file, as `replay_config` does; where that file has none, nothing is read of the script and nothing is written on
+/// `output`. `alog format` writes the line that its arguments ask for. `alog load` makes a load, as `alog_load::load` does,
+/// and writes its totals; while it goes on, a terminal that standard error goes to shows how many messages were handled. No other
+/// command starts threads.
+pub fn run<R, S: AsStr, I: Read, O: Write, E: Write>(
+    rt: &R,
+    words: &[S],
+    input: &mut I,
+    output: &mut O,
+    errors: &mut E,
+) -> u8
+where
+    R: AllocGlobal + Files + Folders + Screen + Threads + Wait + Clock,
+    R: Clone + Drop + Send + Sync + 'static,
+    ensures status { result ≤ 4 }
+    ensures usage { result ≡ 1 → Keeps (O.contents output.old) (O.contents output.new) }
+    ensures replays { AsksReplay (map S.text words.now)
+        → Replays result (I.remaining input.old) (I.remaining input.new) (O.contents output.old) (O.contents output.new) }
+    ensures configured { (rows : List Row) → AsksReplayConfig (map S.text words.now) rows
+        → ReplaysFile ⟦<MemStore as Store>⟧.tells ⟦<MemStore as Store>⟧.files ⟦<MemStore as Store>⟧.failures result
+        (I.remaining input.old) (I.remaining input.new) (O.contents output.old) (O.contents output.new) }
+    ensures formats { (rows : List Row) → AsksFormat (map S.text words.now) rows
+        → Formats (values_in rows) result (O.contents output.old) (O.contents output.new) }
+    ensures checks { (rows : List Row) → AsksCheck (map S.text words.now) rows
+        → ChecksFile result (O.contents output.old) (O.contents output.new) }
+    ensures loads { (rows : List Row) → AsksLoad (map S.text words.now) rows → MatchOption (folder_in rows)
+        (LoadsBy ⟦<MemStore as Store>⟧.tells ⟦<MemStore as Store>⟧.files ⟦<MemStore as Store>⟧.failures
+        (values_in rows) result (O.contents output.old) (O.contents output.new))
+        (λ _. LoadsBy R.Folder.tells R.Folder.files
+        R.Folder.failures (values_in rows) result (O.contents output.old) (O.contents output.new)) }
+{
+    match read(rt.alloc(), words) {
+        Ok(Request::Replay) => replay_command(rt.alloc(), input, output, errors),
+        Ok(Request::ReplayConfig(file)) => replay_config_command(rt, file, input, output, errors),
+        Ok(Request::Format(request)) => format_command(rt.alloc(), &request, output, errors),
+        Ok(Request::Check(file)) => check_command(rt, file, output, errors),
+        Ok(Request::Load(request)) => load_command(rt, &request, output, errors),
+        Err(WordsError::Value(fault)) => {
+            let _ = writeln!(errors, "alog: {fault}");
+            1
+        }
+        Err(WordsError::LoadValue(fault)) => {
+            let _ = writeln!(errors, "alog: {fault}");
+            1
+        }
+        Err(WordsError::Clap(error)) => explain(&error, output, errors),
+    }
+}
+
+/// Says why there are no words to run the program on, and answers the status: 1, or 4 for want of memory.
+pub fn refuse_arguments<E: Write>(error: ArgumentsError, errors: &mut E) -> u8
+    ensures status { (result ≡ 1) ⊎ (result ≡ 4) }
+    ensures memory { (result ≡ 4) ↔ (error ≡ ArgumentsError.OutOfMemory) }
+{
+    if error == ArgumentsError::OutOfMemory {
+        return fail(ReplayError::OutOfMemory, errors);
+    }
+    let _ = writeln!(errors, "alog: {error}");
+    1
+}
+
+/// Says what `clap` says: help and the version on the output, and usage on standard error.
+fn explain<O: Write, E: Write>(error: &clap::Error, output: &mut O, errors: &mut E) -> u8
+    ensures status { (result ≤ 1) ⊎ ((3 ≤ result) × (result ≤ 4)) }
+    ensures help { ((result ≡ 0) ⊎ (result ≡ 3)) ↔ IsAskedFor (kind_of error.now) }
+    ensures memory { (result ≡ 4) ↔ (kind_of error.now ≡ ErrorKind.OutOfMemory) }
+    ensures unwritten { (result ≡ 1) ⊎ (result ≡ 4) → Keeps (O.contents output.old) (O.contents output.new) }
+{
+    if !error.use_stderr() {
+        return help(error, output, errors);
+    }
+    if error.kind() == ErrorKind::OutOfMemory {
+        return fail(ReplayError::OutOfMemory, errors);
+    }
+    let _ = write!(errors, "{error}");
+    1
+}
+
+/// `alog format`.
+fn format_command<O: Write, E: Write>(
+    alloc: Global,
+    request: &LineRequest<'_>,
+    output: &mut O,
+    errors: &mut E,
+) -> u8
+    ensures status { (result ≡ 0) ⊎ ((2 ≤ result) × (result ≤ 4)) }
+    ensures line { result ≡ 0 → WritesLineOf request.now (O.contents output.old) (O.contents output.new) }
+    ensures refused { result ≡ 2 → IsRefused request.now }
+    ensures due { IsRefused request.now → (result ≡ 2) ⊎ (result ≡ 4) }
+    ensures unwritten { (result ≡ 2) ⊎ (result ≡ 4) → Keeps (O.contents output.old) (O.contents output.new) }
+{
+    let line = match line_of(alloc, request) {
+        Ok(line) => line,
+        Err(fault) => {
+            let number = fault.number();
+            let _ = writeln!(errors, "alog: refused {number}");
+            return fault.status();
+        }
+    };
+    match write_out(output, line.as_slice()) {
+        Ok(()) => 0,
+        Err(_) => fail(ReplayError::WriteFault, errors),
+    }
+}
+
+/// Writes all these bytes, and flushes.
+pub(crate) fn write_out<O: Write>(output: &mut O, bytes: &[u8]) -> io::Result<()>
+    ensures { OnOk result (Appends (O.contents output.old) (O.contents output.new) bytes.now) }
+{
+    output.write_all(bytes)?;
+    output.flush()
+}
+
+/// `alog replay`.
+fn replay_command<I: Read, O: Write, E: Write>(
+    alloc: Global,
+    input: &mut I,
+    output: &mut O,
+    errors: &mut E,
+) -> u8
+    ensures status { result ≤ 4 }
+    ensures replays { Replays result (I.remaining input.old) (I.remaining input.new) (O.contents output.old) (O.contents output.new) }
+{
+    match replay(alloc, input, output) {
+        Ok(_) => 0,
+        Err(fault) => fail(fault, errors),
+    }
+}
+
+/// Writes the line of a fault, and answers its status.
+pub(crate) fn fail<E: Write>(fault: ReplayError, errors: &mut E) -> u8
+    ensures { result ≡ status_of fault }
+{
+    let number = number_of(fault);
+    let _ = match fault {
+        ReplayError::LineRefused { line } => {
+            writeln!(errors, "alog: refused {number} at line {line}")
+        }
+        _ => writeln!(errors, "alog: refused {number}"),
+    };
+    status_of(fault)
+}
+
+/// Writes the text of help or of the version.
+fn help<O: Write, E: Write>(text: &clap::Error, output: &mut O, errors: &mut E) -> u8
+    ensures status { (result ≡ 0) ⊎ (result ≡ 3) }
+{
+    let written = match write!(output, "{text}") {
+        Ok(()) => output.flush(),
+        Err(error) => Err(error),
+    };
+    match written {
+        Ok(()) => 0,
+        Err(_) => fail(ReplayError::WriteFault, errors),
+    }
+}
