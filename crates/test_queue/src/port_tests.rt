@@ -4,7 +4,10 @@ ghost use Rattle.alog_policy.specs.Outlet.{left_in};
 ghost use Rattle.alog_policy.specs.BookCalls.{IsSeatOf};
 
 use alog_core::LAST_TICKET;
-use alog_policy::{BookSeat, Counts, LossBook, Outcome, Policy, Port, SeatsOut, Why, post_from, post_now, post_wait};
+use alog_policy::{
+    BookSeat, Counts, LossBook, Outcome, Policy, Port, SeatsOut, Why, post_from, post_now,
+    post_wait,
+};
 use alog_ring::{Pass, Ring};
 use std::sync::Wait;
 use std::test::Fail;

@@ -3,10 +3,10 @@ ghost use Rattle.alog_registry.specs.Limit.{IsShort};
 ghost use Rattle.alog_policy.specs.Port.{IsFit};
 ghost use Rattle.alog_ring.specs.Known.{IsPassOf};
 
-use super::*;
 use crate::log_tests::{TEXT_LIMIT, dump_twice, keep_three, log_to_a_full, one, posted};
 use alog_msg::{Item, Level, Message};
 use alog_policy::{LossBook, Outcome, Policy, Port, Why};
+use alog_registry::{Backtrace, LogReply, Loggers, Registry, Spec, TextLimit};
 use alog_ring::{Pass, Ring};
 use std::alloc::Global;
 use std::process::Abort;

@@ -3,11 +3,11 @@ ghost use Rattle.alog_msg.specs.declared.limits.TheConstants.{LEAST_TEXT_LIMIT};
 ghost use Rattle.alog_policy.specs.Port.{IsFit};
 ghost use Rattle.alog_registry.specs.LaneKeeper.{IsSeated, HasList};
 
-use super::*;
 use crate::log_tests::{TEXT_LIMIT, one, posted};
 use alog_lane::Lane;
 use alog_msg::{Item, Level, MOST_TEXT_LIMIT};
 use alog_policy::{LossBook, Outcome, Policy, Port, Why};
+use alog_registry::{Backtrace, BacktraceScratch, Dumped, LaneKeeper, LogReply, Loggers};
 use alog_ring::Ring;
 use std::alloc::Global;
 use std::process::Abort;

@@ -1,10 +1,13 @@
 ghost use Rattle.std.specs.Prelude.{IfOk};
 ghost use Rattle.alog_registry.specs.Limit.{IsShort};
 
-use super::*;
 use alog_lane::Lane;
 use alog_msg::{Item, Level, MOST_TEXT_LIMIT, Message};
 use alog_policy::Policy;
+use alog_registry::{
+    AddError, Backtrace, BacktraceError, BacktraceItem, BacktraceReply, BacktraceScratch, Dumped,
+    Loggers, RefusedSpec, Registry, SinkDeed, SinkTurn, Spec,
+};
 use std::alloc::{AllocError, Global};
 use std::process::Abort;
 use std::test::Fail;

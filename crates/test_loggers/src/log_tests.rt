@@ -1,11 +1,13 @@
 ghost use Rattle.std.specs.Prelude.{◌<◌, length, IfOk};
 ghost use Rattle.alog_registry.specs.Limit.{AdmitsShort};
-ghost use Rattle.alog_registry.specs.declared.log_tests.TheConstants.{TEXT_LIMIT};
+ghost use Rattle.test_loggers.specs.declared.log_tests.TheConstants.{TEXT_LIMIT};
 
-use super::*;
 use alog_lane::Lane;
 use alog_msg::{Item, Level, Message, MessageError, SourceRef};
 use alog_policy::{Desk, Outcome, Policy, Stepped, Why};
+use alog_registry::{
+    Backtrace, BacktraceScratch, Carry, Keep, LaneKeeper, LogReply, Loggers, Registry, Spec,
+};
 use std::alloc::Global;
 use std::process::Abort;
 use std::test::Fail;

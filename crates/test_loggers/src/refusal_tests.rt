@@ -1,12 +1,12 @@
 //! Messages that a logger refuses, and what it leaves then.
 ghost use Rattle.std.specs.Prelude.{◌≤◌, ◌<◌, length};
 ghost use Rattle.alog_registry.specs.Limit.{AdmitsShort};
-ghost use Rattle.alog_registry.specs.declared.log_tests.TheConstants.{TEXT_LIMIT};
+ghost use Rattle.test_loggers.specs.declared.log_tests.TheConstants.{TEXT_LIMIT};
 
-use super::*;
 use crate::log_tests::{TEXT_LIMIT, Words, at_level, filtered, one, tells};
 use alog_msg::{Item, Level, MessageError, SourceRef};
 use alog_policy::{Desk, Policy};
+use alog_registry::{Backtrace, Carry, Loggers};
 use std::alloc::Global;
 use std::process::Abort;
 use std::test::Fail;

@@ -1,5 +1,5 @@
 use Rattle.alog_lane.specs.Calls.{IsSeatOf}
-use Rattle.alog_registry.proofs.thread_tests.Keeping.keep_all.Given as goal
+use Rattle.test_loggers.proofs.thread_tests.Keeping.keep_all.Given as goal
 
 abbrev pub invariant-loop-message : goal.invariant-loop-message
 invariant-loop-message l = IsSeatOf l.lane l.own.seat

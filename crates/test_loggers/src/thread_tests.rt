@@ -2,12 +2,14 @@
 ghost use Rattle.std.specs.Prelude.{◌≡◌, ◌≤◌, ◌↔◌, IfSome, IsTrue};
 ghost use Rattle.alog_lane.specs.Calls.{IsSeatOf};
 ghost use Rattle.alog_registry.specs.Limit.{IsShort};
-ghost use Rattle.alog_registry.specs.declared.log_tests.TheConstants.{TEXT_LIMIT};
+ghost use Rattle.test_loggers.specs.declared.log_tests.TheConstants.{TEXT_LIMIT};
 
-use super::*;
 use crate::log_tests::TEXT_LIMIT;
 use alog_lane::{Lane, LaneSeat};
 use alog_msg::{Level, MOST_TEXT_LIMIT, Message};
+use alog_registry::{
+    Backtrace, BacktraceItem, BacktraceReply, BacktraceScratch, Dumped, Keep, LaneKeeper,
+};
 use std::alloc::{AllocError, Global};
 use std::mem;
 use std::sync::atomic::{AtomicBool, Ordering};
