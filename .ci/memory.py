@@ -20,7 +20,7 @@ REFUSED, STORE_FAILED = b"alog: refused 1\n", b"alog: refused 22\n"
 LOAD = ["load", "examples/one_file.toml", "--producers", "2", "--messages", "3"]
 TOTALS = b"asked 6\nposted 6\ndiscarded 0\noverrun 0\nhandled 6\n"
 # the tests that bear it, by their crates, and how many times what has threads is run for one failure
-TESTS = [("alog_pool_tests", "memory_tests::want_of_memory")]
+TESTS = [("test_pool", "memory_tests::want_of_memory")]
 TIMES = 10
 # what fails, and what it is called
 KINDS = {"FAIL_ALLOC": "allocations", "FAIL_THREAD": "starts of threads"}

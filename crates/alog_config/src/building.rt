@@ -16,7 +16,7 @@ use std::alloc::{AllocError, Global};
 use std::collections::VecDeque;
 use thiserror::Error;
 
-/// Why nothing was built. The test `a_store_that_fails` of `alog_config_tests` shows one.
+/// Why nothing was built. The test `a_store_that_fails` of `test_config` shows one.
 #[derive(Clone, Copy, Debug, PartialEq, Eq, Drop, Error)]
 pub enum BuildError {
     /// A growth was refused.
@@ -42,7 +42,7 @@ impl From<AllocError> for BuildError {
 ///
 /// The sinks are those that are no fan's member, in their order; a member is in its fan. A logger's sinks are told by their
 /// places among them. There are as many stores as `leaves` tells. After a refusal the stores are dropped. The test
-/// `one_file` of `alog_config_tests` shows it.
+/// `one_file` of `test_config` shows it.
 pub fn build<S: Store + Drop>(
     alloc: Global,
     config: &Config,

@@ -13,7 +13,7 @@
 //! each configuration); `specs/Built.antt` with `building.rt`, `opening.rt` and `parts.rt` (what is built of one);
 //! `specs/Culprits.antt` with `culprit.rt`, `words.rt` and `explaining.rt` (which key breaks a rule, and how that is told).
 //!
-//! The tests are in `alog_config_tests`.
+//! The tests are in `test_config`.
 #![tactic(auto)]
 
 mod broken;

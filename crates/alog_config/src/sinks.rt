@@ -88,7 +88,7 @@ pub(crate) fn any_member(sinks: &[SinkConfig], names: &[Text]) -> bool
 }
 
 /// How many stores the sinks of a configuration need: one for each that is no fan. The test
-/// `leaves_of_sinks` of `alog_config_tests` shows it.
+/// `leaves_of_sinks` of `test_config` shows it.
 pub fn leaves(config: &Config) -> usize
     ensures { result ≡ count_by is_leaf config.now.sinks.items }
 {

@@ -20,8 +20,6 @@ mod play;
 mod round;
 mod said;
 mod table;
-#[cfg(test)]
-mod tests;
 mod world;
 
 pub use error::{BeginError, Refused, StepError, WorldError};

@@ -46,7 +46,7 @@ const FIRST_MAX: usize = 64;
 /// where another zone is asked for. From the second line of a second on it remembers the text of the first items too, as
 /// far as it is the same throughout a second and has at most 64 bytes.
 ///
-/// The test `remembers_a_second` of `alog_line_tests` shows one.
+/// The test `remembers_a_second` of `test_lines` shows one.
 #[derive(Debug, Drop)]
 pub struct Formatter {
     pattern: Pattern,

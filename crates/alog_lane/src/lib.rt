@@ -17,8 +17,6 @@ mod laws;
 mod plays;
 mod seat;
 mod share;
-#[cfg(test)]
-mod tests;
 mod turn;
 mod view;
 mod wait;

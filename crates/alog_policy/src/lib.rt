@@ -23,8 +23,6 @@ mod book_close;
 mod book_plays;
 mod book_seat;
 mod book_share;
-#[cfg(test)]
-mod book_tests;
 mod book_view;
 mod counts;
 mod desk;
@@ -33,19 +31,13 @@ mod following;
 mod laws;
 mod loss_book;
 mod outlet;
-#[cfg(test)]
-mod outlet_tests;
 mod policy;
 mod port;
-#[cfg(test)]
-mod port_tests;
 mod post;
 mod posting;
 mod progress;
 mod room;
 mod rounds;
-#[cfg(test)]
-mod tests;
 mod waiting;
 
 pub use alog_lane::ALL_PARTS;

@@ -23,7 +23,7 @@
 //!
 //! Read `gate.rt`, `shared.rt`; then `hand.rt`, `berth.rt`, `rest.rt` (how a worker waits); then `producer.rt`, `keeping.rt`; then
 //! `setup.rt`, `ground.rt`, `works.rt`, `pool.rt`; then `stops.rt`, `alone.rt`, `report.rt`, `shutdown.rt`. The tests are in
-//! `alog_pool_tests`.
+//! `test_pool`.
 #![tactic(auto)]
 
 mod alone;

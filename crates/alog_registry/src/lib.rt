@@ -23,24 +23,12 @@ mod given;
 mod keep;
 mod level_word;
 mod limit;
-#[cfg(test)]
-mod log_tests;
 mod logger;
 mod loggers;
 mod logging;
 mod lookup;
-#[cfg(test)]
-mod port_tests;
-#[cfg(test)]
-mod refusal_tests;
 mod registry;
-#[cfg(test)]
-mod tests;
-#[cfg(test)]
-mod thread_tests;
 mod turn;
-#[cfg(test)]
-mod wait_tests;
 mod waiting;
 mod work;
 

@@ -22,8 +22,6 @@ mod pop;
 mod push;
 mod ring;
 mod share;
-#[cfg(test)]
-mod tests;
 mod view;
 mod wait;
 mod words;

@@ -92,7 +92,7 @@ impl Names {
 
 /// How a sink writes its lines, and which messages it takes: those of a level that is at least its own.
 ///
-/// The test `a_memory_sink` of `alog_tests` shows one.
+/// The test `a_memory_sink` of `test_sinks` shows one.
 #[derive(Debug, Drop)]
 pub struct Face {
     pub level: Level,

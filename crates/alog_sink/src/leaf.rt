@@ -20,7 +20,7 @@ pub enum Taken {
     Written,
 }
 
-/// Why a line was not written, or a sink not flushed. The test `a_store_that_fails_at_its_second_call` of `alog_tests` shows both.
+/// Why a line was not written, or a sink not flushed. The test `a_store_that_fails_at_its_second_call` of `test_sinks` shows both.
 #[derive(Clone, Copy, Debug, PartialEq, Eq, Drop, Error)]
 pub enum SinkError {
     /// The store failed in this call. The sink is broken from then on.

@@ -12,8 +12,8 @@
 //! `specs/Turn.antt`, `leaf.rt` and `fan.rt`, `specs/Sinks.antt` and `sink.rt`, `open.rt` (constructors), `turn.rt` (a
 //! sink under a lock). `names.rt` makes names of files; `laws.rt` states what is true of definitions.
 //!
-//! The tests `a_memory_sink` and `a_rotating_sink` of `alog_tests`, and `a_daily_sink` of `alog_daily_tests`, are examples.
-//! The tests here try what is private; those of stores are in `alog_store_tests`.
+//! The tests `a_memory_sink` and `a_rotating_sink` of `test_sinks`, and `a_daily_sink` of `test_daily`, are examples.
+//! The tests here try what is private; those of stores are in `test_stores`.
 #![tactic(auto)]
 
 mod diary;

@@ -22,7 +22,7 @@ use std::alloc::Global;
 use std::fmt::Debug;
 use thiserror::Error;
 
-/// Why a sink was not opened, in the order in which this is tested. The test `refused_sinks` of `alog_tests` shows each.
+/// Why a sink was not opened, in the order in which this is tested. The test `refused_sinks` of `test_sinks` shows each.
 #[derive(Clone, Copy, Debug, PartialEq, Eq, Drop, Error)]
 pub enum OpenError {
     /// A limit is not within its bounds.

@@ -9,7 +9,7 @@ use alog_format::LineBuf;
 use alog_lane::Turn;
 use alog_msg::Item;
 
-/// What a sink did in a turn. The test `a_lane_over_a_sink` of `alog_tests` shows both.
+/// What a sink did in a turn. The test `a_lane_over_a_sink` of `test_sinks` shows both.
 #[derive(Clone, Copy, Debug, PartialEq, Eq, Drop)]
 pub enum Served {
     /// It was given a message.

@@ -10,7 +10,7 @@
 //! What is true after a whole run is `specs/Runs.antt`, with the law in `laws.rt`.
 //!
 //! Then `system.rt` with `system/new.rt`, `begin.rt` and `step.rt`; below them `duty.rt`, `dump.rt`, `roster.rt` and `outputs.rt`.
-//! The tests that comments name here are in `alog_system_tests`.
+//! The tests that comments name here are in `test_system`.
 #![tactic(auto)]
 
 mod deed;

@@ -1,5 +1,0 @@
-use Rattle.alog_lane.specs.Calls.{IsSeatOf}
-use Rattle.alog_lane.proofs.tests.add_one.Given as goal
-
-abbrev pub invariant-loop : goal.invariant-loop
-invariant-loop l = IsSeatOf l.lane l.seat

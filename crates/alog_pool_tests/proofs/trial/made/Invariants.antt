@@ -1,6 +1,0 @@
-use Rattle.std.proofs.Common.{◌≡◌}
-use Rattle.std.specs.List.{AllByRecursion}
-use Rattle.alog_pool_tests.proofs.trial.made.Given as goal
-
-abbrev pub invariant-loop-number : goal.invariant-loop-number
-invariant-loop-number g l = (l.pool.shared ≡ l.fn.pool.shared) × AllByRecursion (λ p. p.shared ≡ l.fn.pool.shared) l.all.items

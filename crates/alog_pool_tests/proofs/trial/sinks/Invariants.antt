@@ -1,7 +1,0 @@
-use Rattle.std.specs.List.{AllByRecursion}
-use Rattle.alog_pool.specs.Berth.{Suits}
-use Rattle.alog_pool_tests.specs.declared.sinks.TheConstants.{TEXT_LIMIT}
-use Rattle.alog_pool_tests.proofs.trial.sinks.Given as goal
-
-abbrev pub invariant-loop-fuse : goal.invariant-loop-fuse
-invariant-loop-fuse l = AllByRecursion (Suits TEXT_LIMIT) l.sinks.items

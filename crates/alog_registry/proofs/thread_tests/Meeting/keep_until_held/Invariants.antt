@@ -1,5 +1,0 @@
-use Rattle.alog_lane.specs.Calls.{IsSeatOf}
-use Rattle.alog_registry.proofs.thread_tests.Meeting.keep_until_held.Given as goal
-
-abbrev pub invariant-loop-time : goal.invariant-loop-time
-invariant-loop-time l = IsSeatOf l.lane l.own.seat

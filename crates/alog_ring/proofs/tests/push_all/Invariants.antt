@@ -1,5 +1,0 @@
-use Rattle.alog_ring.specs.Known.{IsPassOf}
-use Rattle.alog_ring.proofs.tests.push_all.Given as goal
-
-abbrev pub invariant-loop-value : goal.invariant-loop-value
-invariant-loop-value g l = IsPassOf l.ring l.pass

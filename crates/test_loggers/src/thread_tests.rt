@@ -1,0 +1,279 @@
+//! A backtrace under a lock, with which two threads keep messages, and one meets the lock while the other has it.
+ghost use Rattle.std.specs.Prelude.{◌≡◌, ◌≤◌, ◌↔◌, IfSome, IsTrue};
+ghost use Rattle.alog_lane.specs.Calls.{IsSeatOf};
+ghost use Rattle.alog_registry.specs.Limit.{IsShort};
+ghost use Rattle.test_loggers.specs.declared.log_tests.TheConstants.{TEXT_LIMIT};
+
+use crate::log_tests::TEXT_LIMIT;
+use alog_lane::{Lane, LaneSeat};
+use alog_msg::{Level, MOST_TEXT_LIMIT, Message};
+use alog_registry::{
+    Backtrace, BacktraceItem, BacktraceReply, BacktraceScratch, Dumped, Keep, LaneKeeper,
+};
+use std::alloc::{AllocError, Global};
+use std::mem;
+use std::sync::atomic::{AtomicBool, Ordering};
+use std::test::Fail;
+use std::thread::{self, Threads};
+
+/// The messages of each thread.
+const MESSAGES: usize = 2_000;
+
+/// The most messages that are kept.
+const ROOM: usize = 64;
+
+/// What a thread works with: its seat and its messages, and how many of them it kept.
+#[derive(Drop)]
+struct Keeping {
+    seat: LaneSeat<Backtrace>,
+    messages: Vec<Message>,
+    kept: usize,
+}
+
+impl Keeping {
+    /// Keeps each of its messages, where the lock is free.
+    fn keep_all(self, lane: &Lane<Backtrace>) -> Keeping
+        requires { IsSeatOf lane.now self.seat × (TEXT_LIMIT ≤ lane.now.first.limit) }
+        ensures { IsSeatOf lane.now result.seat }
+    {
+        let mut own = self;
+        let mut scratch = BacktraceScratch {
+            message: None,
+            list: None,
+        };
+        while let Some(message) = own.messages.pop() {
+            if is_short(&message) && keep_one(lane, &mut own.seat, &mut scratch, message) {
+                own.kept = own.kept.saturating_add(1);
+            }
+        }
+        own
+    }
+}
+
+/// What a thread works with that keeps messages until the lock was met while another thread had it: its seat, how many messages
+/// it kept, and whether it met the lock so.
+#[derive(Drop)]
+struct Meeting {
+    alloc: Global,
+    seat: LaneSeat<Backtrace>,
+    kept: u64,
+    met: bool,
+}
+
+impl Meeting {
+    fn new(alloc: Global, seat: LaneSeat<Backtrace>) -> Meeting
+        ensures { result.seat ≡ seat }
+    {
+        Meeting {
+            alloc,
+            seat,
+            kept: 0,
+            met: false,
+        }
+    }
+
+    /// Keeps messages until one is not kept, here or in the other thread.
+    fn keep_until_held(self, lane: &Lane<Backtrace>, is_met: &AtomicBool) -> Meeting
+        requires { IsSeatOf lane.now self.seat × (TEXT_LIMIT ≤ lane.now.first.limit) }
+        ensures { IsSeatOf lane.now result.seat }
+    {
+        let mut own = self;
+        let mut scratch = BacktraceScratch {
+            message: None,
+            list: None,
+        };
+        for time in 0..i64::MAX {
+            if is_met.load(Ordering::SeqCst) {
+                break;
+            }
+            let Some(message) = short_message(own.alloc, time, 1) else {
+                break;
+            };
+            if keep_one(lane, &mut own.seat, &mut scratch, message) {
+                own.kept = own.kept.saturating_add(1);
+            } else {
+                own.met = true;
+                is_met.store(true, Ordering::SeqCst);
+            }
+        }
+        own
+    }
+}
+
+/// A message of a thread at this time.
+fn short_message(alloc: Global, time: i64, thread: u64) -> Option<Message>
+    ensures { IfSome result (IsShort TEXT_LIMIT) }
+{
+    match Message::new(
+        alloc,
+        TEXT_LIMIT,
+        0,
+        Level::Info,
+        time,
+        thread,
+        "text",
+        None,
+    ) {
+        Ok(message) if is_short(&message) => Some(message),
+        _ => None,
+    }
+}
+
+/// Whether a text has at most 64 bytes, as all here have.
+fn is_short(message: &Message) -> bool
+    ensures { IsTrue result ↔ IsShort TEXT_LIMIT message.now }
+{
+    message.text.as_str().len() <= TEXT_LIMIT
+}
+
+/// Keeps the message, where the lock is free, and answers whether it did.
+fn keep_one(
+    lane: &Lane<Backtrace>,
+    seat: &mut LaneSeat<Backtrace>,
+    scratch: &mut BacktraceScratch,
+    message: Message,
+) -> bool
+    requires seat { IsSeatOf lane.now seat.old }
+    requires short { IsShort lane.now.first.limit message }
+    ensures { IsSeatOf lane.now seat.new }
+{
+    let mut keeper = LaneKeeper {
+        lane,
+        seat,
+        scratch,
+    };
+    keeper.keep_now(message)
+}
+
+/// The messages of this thread: the first to keep has time 0, and stands last.
+fn messages_of(alloc: Global, thread: u64) -> Result<Vec<Message>, Fail> {
+    let mut messages = Vec::with_capacity(alloc, MESSAGES)?;
+    for place in 0..MESSAGES {
+        let time = (MESSAGES - 1 - place) as i64;
+        messages.push(Message::new(
+            alloc,
+            TEXT_LIMIT,
+            0,
+            Level::Info,
+            time,
+            thread,
+            "text",
+            None,
+        )?)?;
+    }
+    Ok(messages)
+}
+
+/// Whether there are at most 64 messages, and those of each thread stand in the order in which it kept them.
+fn are_in_order(list: &mut Dumped) -> bool {
+    let (mut one, mut two) = (-1, -1);
+    for _ in 0..ROOM {
+        let Some(message) = list.take_oldest() else {
+            return true;
+        };
+        let last = match message.thread {
+            1 => mem::replace(&mut one, message.time),
+            _ => mem::replace(&mut two, message.time),
+        };
+        if message.time <= last {
+            return false;
+        }
+    }
+    list.is_empty()
+}
+
+#[test]
+fn two_threads_keep(rt: HostRuntime) -> Result<(), Fail> {
+    let alloc = rt.alloc();
+    let Ok((lane, mut seat)) = Lane::new(alloc, Backtrace::new(alloc, ROOM)?) else {
+        return Err(AllocError.into());
+    };
+    let mut scratch = BacktraceScratch {
+        message: None,
+        list: Some(Dumped::new(alloc, ROOM, MOST_TEXT_LIMIT)?),
+    };
+    let (first, second) = (messages_of(alloc, 1)?, messages_of(alloc, 2)?);
+    let one = Keeping {
+        seat: lane.split(&mut seat, 1),
+        messages: first,
+        kept: 0,
+    };
+    let two = Keeping {
+        seat: lane.split(&mut seat, 1),
+        messages: second,
+        kept: 0,
+    };
+    let shared = &lane;
+    let (one, two) = thread::join(
+        &rt,
+        || -> Keeping
+            requires { IsSeatOf shared.now one.seat × (TEXT_LIMIT ≤ shared.now.first.limit) }
+            ensures { IsSeatOf shared.entry.now result.seat }
+        { one.keep_all(shared) },
+        || -> Keeping
+            requires { IsSeatOf shared.now two.seat × (TEXT_LIMIT ≤ shared.now.first.limit) }
+            ensures { IsSeatOf shared.entry.now result.seat }
+        { two.keep_all(shared) },
+    );
+    let kept = one.kept.saturating_add(two.kept);
+    lane.join(&mut seat, one.seat);
+    lane.join(&mut seat, two.seat);
+    match lane.turn_once(&mut seat, 0, &BacktraceItem::Dump, &mut scratch) {
+        Ok((index, BacktraceReply::Dumped(mut list))) => {
+            assert_eq!(rt; index, kept as u64);
+            assert_eq!(rt; list.len(), kept.min(ROOM));
+            assert!(rt; are_in_order(&mut list));
+        }
+        Ok((_, BacktraceReply::Kept)) | Err(_) => panic!(rt; "it is dumped"),
+    }
+    Ok(())
+}
+
+/// How many messages two threads kept until one of them met the lock while the other had it.
+fn kept_until_held(
+    rt: &impl Threads,
+    lane: &Lane<Backtrace>,
+    one: Meeting,
+    two: Meeting,
+) -> (Meeting, Meeting)
+    requires { IsSeatOf lane.now one.seat × IsSeatOf lane.now two.seat × (TEXT_LIMIT ≤ lane.now.first.limit) }
+    ensures { IsSeatOf lane.now result.0.seat × IsSeatOf lane.now result.1.seat }
+{
+    let is_met = &AtomicBool::new(false);
+    thread::join(
+        rt,
+        || -> Meeting
+            requires { IsSeatOf lane.now one.seat × (TEXT_LIMIT ≤ lane.now.first.limit) }
+            ensures { IsSeatOf lane.entry.now result.seat }
+        { one.keep_until_held(lane, is_met) },
+        || -> Meeting
+            requires { IsSeatOf lane.now two.seat × (TEXT_LIMIT ≤ lane.now.first.limit) }
+            ensures { IsSeatOf lane.entry.now result.seat }
+        { two.keep_until_held(lane, is_met) },
+    )
+}
+
+#[test]
+fn a_lock_that_is_held(rt: HostRuntime) -> Result<(), Fail> {
+    let alloc = rt.alloc();
+    let Ok((lane, mut seat)) = Lane::new(alloc, Backtrace::new(alloc, ROOM)?) else {
+        return Err(AllocError.into());
+    };
+    let mut scratch = BacktraceScratch {
+        message: None,
+        list: Some(Dumped::new(alloc, ROOM, MOST_TEXT_LIMIT)?),
+    };
+    let one = Meeting::new(alloc, lane.split(&mut seat, 1));
+    let two = Meeting::new(alloc, lane.split(&mut seat, 1));
+    let (one, two) = kept_until_held(&rt, &lane, one, two);
+    assert!(rt; one.met || two.met);
+    let kept = one.kept.saturating_add(two.kept);
+    lane.join(&mut seat, one.seat);
+    lane.join(&mut seat, two.seat);
+    // What was not kept made no turn.
+    match lane.turn_once(&mut seat, 0, &BacktraceItem::Dump, &mut scratch) {
+        Ok((index, BacktraceReply::Dumped(_))) => assert_eq!(rt; index, kept),
+        Ok((_, BacktraceReply::Kept)) | Err(_) => panic!(rt; "it is dumped"),
+    }
+    Ok(())
+}

@@ -1,0 +1,147 @@
+ghost use Rattle.std.specs.Prelude.{◌≡◌, ◌≤◌, ◌<◌, length};
+ghost use Rattle.alog_msg.specs.declared.limits.TheConstants.{LEAST_TEXT_LIMIT};
+ghost use Rattle.alog_policy.specs.Port.{IsFit};
+ghost use Rattle.alog_registry.specs.LaneKeeper.{IsSeated, HasList};
+
+use crate::log_tests::{TEXT_LIMIT, one, posted};
+use alog_lane::Lane;
+use alog_msg::{Item, Level, MOST_TEXT_LIMIT};
+use alog_policy::{LossBook, Outcome, Policy, Port, Why};
+use alog_registry::{Backtrace, BacktraceScratch, Dumped, LaneKeeper, LogReply, Loggers};
+use alog_ring::Ring;
+use std::alloc::Global;
+use std::process::Abort;
+use std::sync::Wait;
+use std::test::Fail;
+use std::time::Clock;
+
+// Logs a message with waiting, and answers whether that became of it.
+fn said<R: Wait + Clock>(
+    rt: &R,
+    loggers: &Loggers,
+    alloc: Global,
+    port: &mut Port<'_, Item>,
+    keeper: &mut LaneKeeper<'_>,
+    level: Level,
+    text: &str,
+) -> Result<LogReply, Fail>
+    requires known { 0 < length loggers.now }
+    requires fit { IsFit port.old }
+    requires seated { IsSeated keeper.old × HasList keeper.old }
+    requires limit { LEAST_TEXT_LIMIT ≤ keeper.old.lane.now.first.limit }
+    ensures fit { IsFit port.new }
+    ensures seated { IsSeated keeper.new × HasList keeper.new × (keeper.new.lane ≡ keeper.old.lane) }
+{
+    Ok(loggers.log(
+        rt, alloc, port, keeper, TEXT_LIMIT, 0, level, 0, 1, text, None,
+    )?)
+}
+
+// One message is logged, two are kept, and the last two of the three are dumped.
+fn log_and_dump<R: Wait + Clock + Abort>(
+    rt: &R,
+    loggers: &Loggers,
+    alloc: Global,
+    port: &mut Port<'_, Item>,
+    keeper: &mut LaneKeeper<'_>,
+) -> Result<(), Fail>
+    requires known { 0 < length loggers.now }
+    requires fit { IsFit port.old }
+    requires seated { IsSeated keeper.old × HasList keeper.old }
+    requires limit { LEAST_TEXT_LIMIT ≤ keeper.old.lane.now.first.limit }
+    ensures fit { IsFit port.new }
+    ensures seated { IsSeated keeper.new × HasList keeper.new × (keeper.new.lane ≡ keeper.old.lane) }
+{
+    let logged = LogReply::Logged {
+        outcome: posted(0),
+        kept: true,
+    };
+    let kept = LogReply::Filtered {
+        level: Level::Info,
+        kept: true,
+    };
+    assert_eq!(rt;
+        said(rt, loggers, alloc, port, keeper, Level::Info, "m1")?,
+        logged
+    );
+    assert_eq!(rt;
+        said(rt, loggers, alloc, port, keeper, Level::Debug, "m2")?,
+        kept
+    );
+    assert_eq!(rt;
+        said(rt, loggers, alloc, port, keeper, Level::Debug, "m3")?,
+        kept
+    );
+    let outcomes = loggers.dump_shared(rt, alloc, port, keeper, 0, 5, 7)?;
+    let all = [posted(1), posted(2), posted(3), posted(4)];
+    assert_eq!(rt; outcomes.as_slice(), all.as_slice());
+    Ok(())
+}
+
+// Whether the post found no room.
+fn is_full(outcome: &Outcome<()>) -> bool {
+    matches!(
+        outcome,
+        Outcome::Discarded {
+            why: Why::Full,
+            overran: 0,
+            ..
+        }
+    )
+}
+
+// Three more messages fill the queue, and the last two are dumped: no post of the dump waits for room, and none finds any.
+fn dump_to_a_full_queue<R: Wait + Clock + Abort>(
+    rt: &R,
+    loggers: &Loggers,
+    alloc: Global,
+    port: &mut Port<'_, Item>,
+    keeper: &mut LaneKeeper<'_>,
+) -> Result<(), Fail>
+    requires known { 0 < length loggers.now }
+    requires fit { IsFit port.old }
+    requires seated { IsSeated keeper.old × HasList keeper.old }
+    requires limit { LEAST_TEXT_LIMIT ≤ keeper.old.lane.now.first.limit }
+{
+    said(rt, loggers, alloc, port, keeper, Level::Info, "m4")?;
+    said(rt, loggers, alloc, port, keeper, Level::Info, "m5")?;
+    said(rt, loggers, alloc, port, keeper, Level::Info, "m6")?;
+    let outcomes = loggers.dump_shared(rt, alloc, port, keeper, 0, 5, 7)?;
+    assert!(rt; outcomes.len() == 4 && outcomes.iter().all(is_full));
+    Ok(())
+}
+
+#[test]
+fn logs_with_waiting(rt: HostRuntime) -> Result<(), Fail> {
+    let alloc = rt.alloc();
+    let loggers = one(&rt, alloc, Policy::Block, 2)?;
+    let (ring, mut pass) = Ring::<Item>::new(alloc, 8, 0)?;
+    let (book, mut losses) = LossBook::new(alloc)?;
+    let (lane, mut seat) = match Lane::new(alloc, Backtrace::new(alloc, 2)?) {
+        Ok(made) => made,
+        Err(_) => panic!(rt; "there is memory"),
+    };
+    let mut scratch = BacktraceScratch {
+        message: None,
+        list: Some(Dumped::new(alloc, 2, MOST_TEXT_LIMIT)?),
+    };
+    let mut port = Port {
+        ring: &ring,
+        pass: &mut pass,
+        book: &book,
+        seat: &mut losses,
+    };
+    let mut keeper = LaneKeeper {
+        lane: &lane,
+        seat: &mut seat,
+        scratch: &mut scratch,
+    };
+    let none = loggers.dump_shared(&rt, alloc, &mut port, &mut keeper, 0, 5, 7)?;
+    assert!(rt; none.is_empty());
+    log_and_dump(&rt, &loggers, alloc, &mut port, &mut keeper)?;
+    dump_to_a_full_queue(&rt, &loggers, alloc, &mut port, &mut keeper)?;
+    drop(port);
+    drop(keeper);
+    assert!(rt; scratch.list.is_some());
+    Ok(())
+}

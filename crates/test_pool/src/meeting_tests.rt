@@ -1,0 +1,191 @@
+//! A pool whose sinks wait for each other.
+ghost use Rattle.std.specs.Prelude.{◌≡◌, IfOk};
+ghost use Rattle.std.specs.List.{AllByRecursion};
+ghost use Rattle.alog_pool.specs.Berth.{Suits};
+ghost use Rattle.alog_pool.specs.Pool.{Fits};
+ghost use Rattle.test_pool.specs.declared.sinks.TheConstants.{TEXT_LIMIT};
+
+use crate::sinks::{TEXT_LIMIT, face, sink};
+use crate::trial::{PLAIN, registry};
+use alog_msg::Level;
+use alog_pool::{OpenGate, Pool, Report, Setup};
+use alog_sink::{Sink, Store, StoreError};
+use std::alloc::{AllocError, Global};
+use std::process::Abort;
+use std::sync::atomic::{AtomicBool, Ordering};
+use std::sync::{Arc, Wait};
+use std::test::Fail;
+use std::thread;
+use std::thread::Threads;
+use std::time::Clock;
+
+// How often a store looks whether the other one was called.
+const LOOKS: u32 = 1_000_000;
+
+// Takes lines, and counts those that it is to get, and all other calls. A line of one that waits is taken when the other one was
+// called, or after so many looks.
+#[derive(Drop)]
+struct Meeting {
+    called: Arc<AtomicBool>,
+    waits: bool,
+    line: &'static [u8],
+    looks: u32,
+    lines: u32,
+    others: u32,
+}
+
+impl Meeting {
+    // Notes a call, whose bytes are those of the line or not.
+    fn note(&mut self, bytes: &[u8]) {
+        if bytes == self.line {
+            self.lines = self.lines.saturating_add(1);
+        } else {
+            self.others = self.others.saturating_add(1);
+        }
+    }
+
+    // Waits for the other one, or lets it go on.
+    fn meet(&mut self) {
+        if self.waits {
+            self.looks = looks_until(&self.called);
+        } else {
+            self.called.store(true, Ordering::SeqCst);
+        }
+    }
+}
+
+impl Store for Meeting {
+    ghost use Rattle.std.specs.Prelude.{false};
+    ghost use Rattle.alog_sink.specs.Files.{no_files};
+
+    ghost files = { λ s. no_files };
+
+    ghost tells = { false };
+
+    ghost failures = { λ s. 0 };
+
+    fn append(&mut self, _name: &str, bytes: &[u8]) -> Result<(), StoreError> {
+        self.meet();
+        self.note(bytes);
+        Ok(())
+    }
+
+    fn rename(&mut self, _from: &str, _to: &str) -> Result<(), StoreError> {
+        self.note(b"");
+        Ok(())
+    }
+
+    fn remove(&mut self, _name: &str) -> Result<(), StoreError> {
+        self.note(b"");
+        Ok(())
+    }
+
+    fn size(&mut self, _name: &str) -> Result<Option<u64>, StoreError> {
+        Ok(None)
+    }
+
+    fn flush(&mut self, _name: &str) -> Result<(), StoreError> {
+        self.note(b"");
+        Ok(())
+    }
+}
+
+// How often the flag was looked at until it was up.
+fn looks_until(flag: &AtomicBool) -> u32 {
+    for look in 0..LOOKS {
+        if flag.load(Ordering::SeqCst) {
+            return look;
+        }
+        thread::yield_now();
+    }
+    LOOKS
+}
+
+// A store that is to get this line.
+fn store(called: Arc<AtomicBool>, waits: bool, line: &'static [u8]) -> Meeting {
+    Meeting {
+        called,
+        waits,
+        line,
+        looks: 0,
+        lines: 0,
+        others: 0,
+    }
+}
+
+// A sink over a store that waits, and one over a store that it waits for.
+fn sinks(alloc: Global) -> Result<Vec<Sink<Meeting>>, AllocError>
+    ensures { IfOk result (λ v. AllByRecursion (Suits TEXT_LIMIT) v.items) }
+{
+    let called = Arc::new(alloc, AtomicBool::new(false))?;
+    let waiting = store(Arc::try_clone(&called)?, true, b"a\n");
+    let meeting = store(called, false, b"b\n");
+    let mut sinks = Vec::with_capacity(alloc, 2)?;
+    sinks.push_reserved(sink(alloc, face(alloc)?, waiting)?);
+    sinks.push_reserved(sink(alloc, face(alloc)?, meeting)?);
+    Ok(sinks)
+}
+
+// Two workers, and two loggers with a sink each.
+fn setup(alloc: Global) -> Result<Setup<Meeting>, AllocError>
+    ensures { IfOk result Fits }
+{
+    Ok(Setup {
+        queue: PLAIN.queue,
+        first: 0,
+        workers: 2,
+        tickets_max: 0,
+        text_limit: TEXT_LIMIT,
+        loggers: registry(alloc, PLAIN, &[&[0], &[1]])?,
+        sinks: sinks(alloc)?,
+    })
+}
+
+// A text is logged to each logger, and the pool is ended.
+fn ended<R: Abort + Threads + Wait + Clock + Clone + Drop + Send + 'static>(
+    rt: &R,
+    alloc: Global,
+) -> Result<Report<Meeting>, Fail> {
+    let Ok(mut pool) = Pool::start(rt, alloc, setup(alloc)?, OpenGate) else {
+        panic!(rt; "no pool")
+    };
+    let Ok(mut producer) = pool.producer() else {
+        panic!(rt; "no producer")
+    };
+    assert!(rt; producer.loggers().len() == 2);
+    assert!(rt;
+        producer
+            .log(rt, alloc, 0, Level::Info, 0, "a", None)
+            .is_ok()
+    );
+    assert!(rt;
+        producer
+            .log(rt, alloc, 1, Level::Info, 0, "b", None)
+            .is_ok()
+    );
+    let mut producers = Vec::with_capacity(alloc, 1)?;
+    producers.push_reserved(producer);
+    match pool.shutdown(rt, producers) {
+        Ok(report) => Ok(report),
+        Err(_) => panic!(rt; "a producer is out"),
+    }
+}
+
+// The store of this sink got its line and no other call, and did not wait in vain.
+fn has_met(rt: &impl Abort, report: &Report<Meeting>, sink: usize) {
+    let Some(store) = report.sinks.get(sink).and_then(|sink| sink.store()) else {
+        panic!(rt; "no such sink")
+    };
+    assert!(rt; (store.lines, store.others) == (1, 0));
+    assert!(rt; store.looks < LOOKS);
+}
+
+// While one worker is in the store of its sink, another writes to another sink: no lock is round both.
+#[test]
+fn a_store_waits_for_another(rt: HostRuntime) -> Result<(), Fail> {
+    let alloc = rt.alloc();
+    let report = ended(&rt, alloc)?;
+    has_met(&rt, &report, 0);
+    has_met(&rt, &report, 1);
+    Ok(())
+}

@@ -1,0 +1,133 @@
+ghost use Rattle.std.specs.Prelude.{◌≡◌, ◌+◌, ◌*◌, ◌^◌, ◌<◌, IfOk};
+ghost use Rattle.alog_policy.specs.BookAdds.{items_in, posts_in};
+ghost use Rattle.alog_policy.specs.BookCalls.{IsSeatOf};
+
+use alog_policy::{ALL_PARTS, BookSeat, Counts, LossBook, SeatsOut};
+use std::alloc::{AllocError, Global};
+use std::test::Fail;
+use std::thread::{self, Threads};
+
+fn losses(overrun: u64, discarded: u64) -> Counts {
+    Counts { overrun, discarded }
+}
+
+#[test]
+fn counts_losses(rt: HostRuntime) -> Result<(), Fail> {
+    let (book, mut seat) = LossBook::new(rt.alloc())?;
+    assert_eq!(rt; seat.parts(), ALL_PARTS);
+    assert_eq!(rt; book.counts(&mut seat), losses(0, 0));
+    book.overran(&mut seat);
+    assert_eq!(rt; book.counts(&mut seat), losses(1, 0));
+    book.discarded(&mut seat);
+    book.discarded(&mut seat);
+    assert_eq!(rt; book.counts(&mut seat), losses(1, 2));
+    assert_eq!(rt; book.close(seat).ok(), Some(losses(1, 2)));
+    Ok(())
+}
+
+#[test]
+fn seats_split_and_join(rt: HostRuntime) -> Result<(), Fail> {
+    let (book, mut seat) = LossBook::new(rt.alloc())?;
+    let mut other = book.split(&mut seat, 1);
+    assert_eq!(rt; (seat.parts(), other.parts()), (ALL_PARTS - 1, 1));
+    book.overran(&mut seat);
+    book.discarded(&mut other);
+    assert_eq!(rt; book.counts(&mut other), losses(1, 1));
+    let Err(out) = book.close(seat) else {
+        panic!(rt; "a seat is out")
+    };
+    assert!(rt; format!(in rt.alloc(); "{out}")?.as_str() == "not all seats are here");
+    assert!(rt; format!(in rt.alloc(); "{out:?}")?.as_str() == "SeatsOut { .. }");
+    let SeatsOut { book, mut seat } = out;
+    book.join(&mut seat, other);
+    assert_eq!(rt; seat.parts(), ALL_PARTS);
+    assert_eq!(rt; book.close(seat).ok(), Some(losses(1, 1)));
+    Ok(())
+}
+
+// Counts so many overrun items and twice as many discarded posts.
+fn add_losses(book: &LossBook, mut seat: BookSeat, items: u64) -> BookSeat
+    requires { IsSeatOf book.now seat }
+    ensures seat { IsSeatOf book.now result }
+    ensures kept { (result.known.parts ≡ seat.known.parts) × (result.known.joined ≡ seat.known.joined) }
+    ensures overrun { items_in result.known.own ≡ items_in seat.known.own + items }
+    ensures discarded { posts_in result.known.own ≡ posts_in seat.known.own + 2 * items }
+{
+    for _ in 0..items {
+        book.overran(&mut seat);
+        book.discarded(&mut seat);
+        book.discarded(&mut seat);
+    }
+    seat
+}
+
+// What a book counts in the end where each of two threads adds so many losses is known from its contracts alone.
+fn added_by_two(rt: &impl Threads, alloc: Global, items: u64) -> Result<Option<Counts>, AllocError>
+    requires { items < 2 ^ 32 }
+    ensures { IfOk result (λ c. c ≡ Some (record { overrun = 2 * items; discarded = 4 * items })) }
+{
+    let (book, mut seat) = LossBook::new(alloc)?;
+    let shared = &book;
+    let one = shared.split(&mut seat, 1);
+    let two = shared.split(&mut seat, 1);
+    let (one, two) = thread::join(
+        rt,
+        || -> BookSeat
+            requires { IsSeatOf shared.now one }
+            ensures seat { IsSeatOf shared.entry.now result }
+            ensures kept { (result.known.parts ≡ one.known.parts) × (result.known.joined ≡ one.known.joined) }
+            ensures overrun { items_in result.known.own ≡ items_in one.known.own + items }
+            ensures discarded { posts_in result.known.own ≡ posts_in one.known.own + 2 * items }
+        { add_losses(shared, one, items) },
+        || -> BookSeat
+            requires { IsSeatOf shared.now two }
+            ensures seat { IsSeatOf shared.entry.now result }
+            ensures kept { (result.known.parts ≡ two.known.parts) × (result.known.joined ≡ two.known.joined) }
+            ensures overrun { items_in result.known.own ≡ items_in two.known.own + items }
+            ensures discarded { posts_in result.known.own ≡ posts_in two.known.own + 2 * items }
+        { add_losses(shared, two, items) },
+    );
+    shared.join(&mut seat, one);
+    shared.join(&mut seat, two);
+    Ok(book.close(seat).ok())
+}
+
+#[test]
+fn two_threads_add(rt: HostRuntime) -> Result<(), Fail> {
+    assert_eq!(rt;
+        added_by_two(&rt, rt.alloc(), 10_000)?,
+        Some(losses(20_000, 40_000))
+    );
+    Ok(())
+}
+
+// Where one seat has all parts, what its book counts is known from the contracts alone.
+fn counted_alone(alloc: Global) -> Result<Counts, AllocError>
+    ensures { IfOk result (λ c. c ≡ record { overrun = 1; discarded = 2 }) }
+{
+    let (book, mut seat) = LossBook::new(alloc)?;
+    book.overran(&mut seat);
+    book.discarded(&mut seat);
+    book.discarded(&mut seat);
+    Ok(book.counts(&mut seat))
+}
+
+#[test]
+fn a_lone_seat_counts_its_own(rt: HostRuntime) -> Result<(), Fail> {
+    assert_eq!(rt; counted_alone(rt.alloc())?, losses(1, 2));
+    Ok(())
+}
+
+// A book to which nothing was added has no losses: its contracts say so.
+fn closed_at_once(alloc: Global) -> Result<Option<Counts>, AllocError>
+    ensures { IfOk result (λ c. c ≡ Some (record { overrun = 0; discarded = 0 })) }
+{
+    let (book, seat) = LossBook::new(alloc)?;
+    Ok(book.close(seat).ok())
+}
+
+#[test]
+fn a_new_book_has_no_losses(rt: HostRuntime) -> Result<(), Fail> {
+    assert_eq!(rt; closed_at_once(rt.alloc())?, Some(losses(0, 0)));
+    Ok(())
+}

@@ -1,0 +1,323 @@
+ghost use Rattle.alog_lane.specs.Calls.{IsSeatOf};
+ghost use Rattle.std.specs.Prelude.{◌≡◌, ◌+◌, ◌%◌, ◌^◌, IfOk, Some};
+
+use alog_lane::{ALL_PARTS, Held, Lane, LaneSeat, SeatsOut, Turn};
+use std::alloc::{AllocError, Global};
+use std::sync::atomic::{AtomicBool, AtomicU64, Ordering};
+use std::sync::{Arc, Wait};
+use std::test::Fail;
+use std::thread;
+
+// A number to which each turn adds its item. It replies with the sum.
+#[derive(Debug, PartialEq, Eq, Drop)]
+struct Sum(u64);
+
+impl Turn for Sum {
+    type Item = u64;
+
+    type Reply = u64;
+
+    type Scratch = ();
+
+    ghost turns = { λ v before i r w after. (w.0 ≡ (v.0 + i) % 2 ^ 64) × (r ≡ w.0) };
+
+    ghost may_turn = { λ v i s. Unit {0} };
+
+    fn turn(&mut self, item: &u64, _scratch: &mut ()) -> u64 {
+        self.0 = self.0.wrapping_add(*item);
+        self.0
+    }
+}
+
+#[test]
+fn a_lane_over_a_sum(rt: HostRuntime) -> Result<(), Fail> {
+    let (lane, mut seat) = Lane::new(rt.alloc(), Sum(0))?;
+    assert_eq!(rt; seat.parts(), 4_294_967_296);
+    assert_eq!(rt; lane.turn_once(&mut seat, 0, &5, &mut ()), Ok((0, 5)));
+    assert_eq!(rt; lane.turn_once(&mut seat, 0, &7, &mut ()), Ok((1, 12)));
+    let other = lane.split(&mut seat, 1);
+    assert_eq!(rt; (seat.parts(), other.parts()), (ALL_PARTS - 1, 1));
+    assert_eq!(rt; lane.turn_once(&mut seat, 0, &3, &mut ()), Ok((2, 15)));
+    let Err(SeatsOut { lane, mut seat }) = lane.close(seat) else {
+        panic!(rt; "a seat is out")
+    };
+    lane.join(&mut seat, other);
+    assert_eq!(rt; seat.parts(), ALL_PARTS);
+    let Ok(sum) = lane.close(seat) else {
+        panic!(rt; "no seat is out")
+    };
+    assert_eq!(rt; sum, Sum(15));
+    Ok(())
+}
+
+#[test]
+fn tells_the_errors(rt: HostRuntime) -> Result<(), Fail> {
+    let (lane, mut seat) = Lane::new(rt.alloc(), Sum(0))?;
+    let _other = lane.split(&mut seat, 1);
+    let Err(out) = lane.close(seat) else {
+        panic!(rt; "a seat is out")
+    };
+    assert!(rt; format!(in rt.alloc(); "{out}")?.as_str() == "not all seats are here");
+    assert!(rt; format!(in rt.alloc(); "{Held}")?.as_str() == "another seat has the lock");
+    Ok(())
+}
+
+// A lane that took no turn gives back the value that it was made with: its contracts say so.
+fn closed_at_once(alloc: Global, value: Sum) -> Result<Option<Sum>, AllocError>
+    ensures { IfOk result (λ v. v ≡ Some value) }
+{
+    let Ok((lane, seat)) = Lane::new(alloc, value) else {
+        return Err(AllocError);
+    };
+    Ok(lane.close(seat).ok())
+}
+
+#[test]
+fn gives_back_what_it_was_given(rt: HostRuntime) -> Result<(), Fail> {
+    assert_eq!(rt; closed_at_once(rt.alloc(), Sum(9))?, Some(Sum(9)));
+    Ok(())
+}
+
+// A value that notes how often it was dropped.
+#[derive(Debug)]
+struct Noted<'a>(&'a AtomicU64);
+
+impl<'a> Drop for Noted<'a> {
+    fn drop(self) {
+        let Self(drops) = self;
+        drops.fetch_add(1, Ordering::SeqCst);
+    }
+}
+
+impl<'a> Turn for Noted<'a> {
+    type Item = u64;
+
+    type Reply = u64;
+
+    type Scratch = Vec<u64>;
+
+    ghost turns = { λ v before i r w after. Unit {0} };
+
+    ghost may_turn = { λ v i s. Unit {0} };
+
+    fn turn(&mut self, item: &u64, scratch: &mut Vec<u64>) -> u64 {
+        if scratch.push(*item).is_err() {
+            return 0;
+        }
+        *item
+    }
+}
+
+#[test]
+fn drops_its_value_once(rt: HostRuntime) -> Result<(), Fail> {
+    let drops = AtomicU64::new(0);
+    let mut scratch = Vec::new(rt.alloc());
+    let (lane, mut seat) = Lane::new(rt.alloc(), Noted(&drops))?;
+    assert_eq!(rt; lane.turn_once(&mut seat, 3, &8, &mut scratch), Ok((0, 8)));
+    assert_eq!(rt; lane.turn(&rt, &mut seat, 4, &9, &mut scratch), (1, 9));
+    assert_eq!(rt; scratch.as_slice(), [8, 9].as_slice());
+    assert!(rt; drops.load(Ordering::SeqCst) == 0);
+    drop(lane);
+    drop(seat);
+    assert!(rt; drops.load(Ordering::SeqCst) == 1);
+    let (lane, seat) = Lane::new(rt.alloc(), Noted(&drops))?;
+    drop(lane.close(seat));
+    assert!(rt; drops.load(Ordering::SeqCst) == 2);
+    Ok(())
+}
+
+const LOOKS: u32 = 1_000_000;
+
+// Adds 1, as soon as the lock is free at one of so many looks, and answers the index of the turn.
+fn add_one(lane: &Lane<Sum>, seat: &mut LaneSeat<Sum>) -> Option<u64>
+    requires { IsSeatOf lane.now seat.old }
+    ensures { IsSeatOf lane.now seat.new }
+{
+    for _ in 0..LOOKS {
+        match lane.turn_once(seat, 0, &1, &mut ()) {
+            Ok((index, _sum)) => return Some(index),
+            Err(Held) => thread::yield_now(),
+        }
+    }
+    None
+}
+
+// Adds 1 so many times: whether the indexes of the turns rose, and their sum.
+fn add_ones(lane: &Lane<Sum>, mut seat: LaneSeat<Sum>, count: u64) -> (bool, u64)
+    requires { IsSeatOf lane.now seat }
+{
+    let mut rose = true;
+    let mut last = None;
+    let mut sum = 0u64;
+    for _ in 0..count {
+        let index = add_one(lane, &mut seat);
+        rose = rose && index > last;
+        last = index;
+        sum = sum.wrapping_add(index.unwrap_or(0));
+    }
+    (rose, sum)
+}
+
+#[test]
+fn two_threads_take_turns(rt: HostRuntime) -> Result<(), Fail> {
+    let (lane, mut seat) = Lane::new(rt.alloc(), Sum(0))?;
+    let lane = &lane;
+    let first = lane.split(&mut seat, 1);
+    let second = lane.split(&mut seat, 1);
+    let (one, two) = thread::join(
+        &rt,
+        ||
+            requires { IsSeatOf lane.now first }
+        { add_ones(lane, first, 20_000) },
+        ||
+            requires { IsSeatOf lane.now second }
+        { add_ones(lane, second, 20_000) },
+    );
+    assert!(rt; one.0 && two.0);
+    assert_eq!(rt; one.1.wrapping_add(two.1), 20_000 * 39_999);
+    assert_eq!(rt;
+        lane.turn_once(&mut seat, 0, &0, &mut ()),
+        Ok((40_000, 40_000))
+    );
+    Ok(())
+}
+
+#[test]
+fn four_threads_take_turns(rt: HostRuntime) -> Result<(), Fail> {
+    let (lane, mut seat) = Lane::new(rt.alloc(), Sum(0))?;
+    let lane = &lane;
+    let one = lane.split(&mut seat, 1);
+    let two = lane.split(&mut seat, 1);
+    let three = lane.split(&mut seat, 1);
+    let four = lane.split(&mut seat, 1);
+    let (one, (two, (three, four))) = thread::join(
+        &rt,
+        ||
+            requires { IsSeatOf lane.now one }
+        { add_ones(lane, one, 10_000) },
+        ||
+            requires { IsSeatOf lane.now two × IsSeatOf lane.now three × IsSeatOf lane.now four }
+        {
+            thread::join(
+                &rt,
+                ||
+                    requires { IsSeatOf lane.now two }
+                { add_ones(lane, two, 10_000) },
+                ||
+                    requires { IsSeatOf lane.now three × IsSeatOf lane.now four }
+                {
+                    thread::join(
+                        &rt,
+                        ||
+                            requires { IsSeatOf lane.now three }
+                        { add_ones(lane, three, 10_000) },
+                        ||
+                            requires { IsSeatOf lane.now four }
+                        { add_ones(lane, four, 10_000) },
+                    )
+                },
+            )
+        },
+    );
+    let mut sum = 0u64;
+    for (rose, part) in [one, two, three, four] {
+        assert!(rt; rose);
+        sum = sum.wrapping_add(part);
+    }
+    assert_eq!(rt; sum, 20_000 * 39_999);
+    assert_eq!(rt;
+        lane.turn_once(&mut seat, 0, &0, &mut ()),
+        Ok((40_000, 40_000))
+    );
+    Ok(())
+}
+
+// Whether a turn has begun, and whether another thread has met it.
+#[derive(Drop)]
+struct Flags {
+    begun: AtomicBool,
+    met: AtomicBool,
+}
+
+// A value whose turn lasts until another thread has met it, or for so many looks at most.
+#[derive(Drop)]
+struct Slow(Arc<Flags>);
+
+// Whether the flag was up, at one of so many looks.
+fn is_raised(flag: &AtomicBool) -> bool {
+    for _ in 0..LOOKS {
+        if flag.load(Ordering::SeqCst) {
+            return true;
+        }
+        thread::yield_now();
+    }
+    false
+}
+
+impl Turn for Slow {
+    type Item = ();
+
+    type Reply = bool;
+
+    type Scratch = ();
+
+    ghost turns = { λ v before i r w after. Unit {0} };
+
+    ghost may_turn = { λ v i s. Unit {0} };
+
+    fn turn(&mut self, _item: &(), _scratch: &mut ()) -> bool {
+        self.0.begun.store(true, Ordering::SeqCst);
+        is_raised(&self.0.met)
+    }
+}
+
+// Tries while a turn is under way, and then waits for one: whether it saw the turn begin, and both answers.
+fn visit(
+    rt: &impl Wait,
+    lane: &Lane<Slow>,
+    mut seat: LaneSeat<Slow>,
+    flags: &Flags,
+) -> (bool, Result<(u64, bool), Held>, (u64, bool))
+    requires { IsSeatOf lane.now seat }
+{
+    let has_begun = is_raised(&flags.begun);
+    let was_held = lane.turn_once(&mut seat, 0, &(), &mut ());
+    flags.met.store(true, Ordering::SeqCst);
+    (
+        has_begun,
+        was_held,
+        lane.turn(rt, &mut seat, 0, &(), &mut ()),
+    )
+}
+
+// Takes one turn, if the lock is free.
+fn enter(lane: &Lane<Slow>, mut seat: LaneSeat<Slow>) -> Result<(u64, bool), Held>
+    requires { IsSeatOf lane.now seat }
+{
+    lane.turn_once(&mut seat, 0, &(), &mut ())
+}
+
+#[test]
+fn a_held_lock_is_told(rt: HostRuntime) -> Result<(), Fail> {
+    let flags = Flags {
+        begun: AtomicBool::new(false),
+        met: AtomicBool::new(false),
+    };
+    let flags = Arc::new(rt.alloc(), flags)?;
+    let (lane, mut seat) = Lane::new(rt.alloc(), Slow(Arc::try_clone(&flags)?))?;
+    let lane = &lane;
+    let flags = &*flags;
+    let second = lane.split(&mut seat, 1);
+    let (was_met, visit) = thread::join(
+        &rt,
+        ||
+            requires { IsSeatOf lane.now seat }
+        { enter(lane, seat) },
+        ||
+            requires { IsSeatOf lane.now second }
+        { visit(&rt, lane, second, flags) },
+    );
+    assert_eq!(rt; was_met, Ok((0, true)));
+    assert_eq!(rt; visit, (true, Err(Held), (1, true)));
+    Ok(())
+}

@@ -1,0 +1,78 @@
+use alog_policy::{Outcome, Outlet, Policy, Why, post_now};
+use alog_ring::{PopError, PushError};
+
+// An outlet where others are always faster: at each push or, where its queue is full, at each pop. It counts its calls.
+#[derive(Drop)]
+struct Outrun {
+    is_full: bool,
+    pushes: u64,
+    pops: u64,
+    discarded: u64,
+}
+
+impl Outlet for Outrun {
+    type Value = u64;
+
+    type Item = u64;
+
+    ghost shows = { λ x. x };
+
+    ghost is_fit = { λ o. Unit {0} };
+
+    ghost admits = { λ o v. Unit {0} };
+
+    ghost did = { λ o es k l p. Unit {0} };
+
+    fn push_from(&mut self, _hand: &mut Option<u64>) -> Result<u64, PushError<()>> {
+        self.pushes = self.pushes.wrapping_add(1);
+        if self.is_full {
+            Err(PushError::Full { value: (), next: 9 })
+        } else {
+            Err(PushError::Busy { value: (), seen: 8 })
+        }
+    }
+
+    fn overrun_once(&mut self) -> Result<u64, PopError> {
+        self.pops = self.pops.wrapping_add(1);
+        Err(PopError::Busy { seen: 7 })
+    }
+
+    fn count_discarded(&mut self) {
+        self.discarded = self.discarded.wrapping_add(1);
+    }
+
+    ghost together = { λ a b c es fs k l m n first then. tt };
+
+    ghost still = { λ a b v es k l done is. tt };
+}
+
+// What a post of 7 ends with, and how many pushes, pops and discarded posts the outlet then counted.
+fn post_outrun(is_full: bool, policy: Policy) -> (Outcome<u64>, [u64; 3]) {
+    let mut outlet = Outrun {
+        is_full,
+        pushes: 0,
+        pops: 0,
+        discarded: 0,
+    };
+    let outcome = post_now(&mut outlet, policy, 7);
+    (outcome, [outlet.pushes, outlet.pops, outlet.discarded])
+}
+
+fn busy() -> Outcome<u64> {
+    Outcome::Discarded {
+        value: 7,
+        why: Why::Busy,
+        overran: 0,
+    }
+}
+
+#[test]
+fn gives_up_where_others_are_always_faster(rt: HostRuntime) {
+    for policy in [Policy::Block, Policy::OverrunOldest, Policy::DiscardNew] {
+        assert_eq!(rt; post_outrun(false, policy), (busy(), [64, 0, 1]));
+    }
+    assert_eq!(rt;
+        post_outrun(true, Policy::OverrunOldest),
+        (busy(), [64, 64, 1])
+    );
+}

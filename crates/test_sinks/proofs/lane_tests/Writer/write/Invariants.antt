@@ -1,0 +1,6 @@
+use Rattle.alog_lane.specs.Calls.{IsSeatOf}
+use Rattle.alog_sink.specs.Sinks.{MayTurn}
+use Rattle.test_sinks.proofs.lane_tests.Writer.write.Given as goal
+
+abbrev pub invariant-loop : goal.invariant-loop
+invariant-loop l = IsSeatOf l.lane l.self.seat × MayTurn l.lane.first l.self.text l.self.line

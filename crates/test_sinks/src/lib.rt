@@ -1,0 +1,19 @@
+//! Tests over the public surface of several crates, and the stores that they hand to sinks.
+//!
+//! They are here, and not in the crates that they try, since a crate with tests is proved twice. Read `stores.rt` (a store
+//! that yields, and one that notes what is flushed), `sinks.rt` (what the tests share), `sink_tests.rt` (sinks of each
+//! kind), `fault_tests.rt` (sinks whose store fails) and `lane_tests.rt` (sinks under a lock, to which threads give lines).
+//! Daily sinks have a crate of tests of their own, `test_daily`, and so have stores, `test_stores`.
+#![tactic(auto)]
+
+#[cfg(test)]
+mod fault_tests;
+#[cfg(test)]
+mod lane_tests;
+#[cfg(test)]
+mod sink_tests;
+#[cfg(test)]
+mod sinks;
+mod stores;
+
+pub use stores::{Noting, Yielding};
