@@ -113,17 +113,23 @@ impl<R: Files> Folder<R> {
     fn open_file(&mut self, name: &str) -> io::Result<usize>
         ensures { IfOk result (λ at. at < length self.new.open.items) }
     {
+        self.open.reserve(1)?;
+        let kept = self.opened(name)?;
+        let at = self.open.len();
+        self.open.push(kept)?;
+        Ok(at)
+    }
+
+    /// A file that is open for appends, made where it was absent.
+    fn opened(&self, name: &str) -> io::Result<Kept<R::File>> {
         let path = self.path_of(name)?;
         let name = String::from_str(self.alloc, name)?;
-        self.open.reserve(1)?;
         let file = OpenOptions::new()
             .append(true)
             .create(true)
             .open(&self.files, path)?;
         let writer = BufWriter::with_capacity(self.alloc, BUFFER, file)?;
-        let at = self.open.len();
-        self.open.push(Kept { name, writer })?;
-        Ok(at)
+        Ok(Kept { name, writer })
     }
 
     fn append(&mut self, name: &str, bytes: &[u8]) -> io::Result<()> {
@@ -147,13 +153,19 @@ impl<R: Files> Folder<R> {
     fn rename(&mut self, from: &str, to: &str) -> io::Result<()> {
         self.write_out(from)?;
         self.write_out(to)?;
-        let (old, new) = (self.path_of(from)?, self.path_of(to)?);
-        let aside = self.path_aside(to)?;
-        if self.replace(&old, &new, &aside)? {
+        if self.rename_file(from, to)? {
             self.close(from);
             self.close(to);
         }
         Ok(())
+    }
+
+    /// Renames a file that has no buffer to write out, and tells whether it was there.
+    fn rename_file(&self, from: &str, to: &str) -> io::Result<bool> {
+        let old = self.path_of(from)?;
+        let new = self.path_of(to)?;
+        let aside = self.path_aside(to)?;
+        self.replace(&old, &new, &aside)
     }
 
     /// Renames a file, and tells whether it was there. What had the new name is set aside, and put back where that is not
