@@ -1,7 +1,8 @@
 -- What command lines the program takes, in the words of `clap`, which defines what it makes of them.
-use Rattle.std.specs.Prelude.{◌≡◌, List, [], ◌∷◌, Option, Some, IsNone, IsSome, codes, true}
+use Rattle.std.specs.Prelude.{◌≡◌, List, [], ◌∷◌, Option, Some, IsNone, IsSome, codes, true, false}
 use Rattle.clap.specs.Words.{App, Row, Rule, Text, first_of, new_app, new_rule, with_rule, with_subcommand, subcommand_of, fault_of}
-use Rattle.clap.specs.Words.{HasKind, AddsSubcommand, app_of}
+use Rattle.clap.specs.Words.{HasKind, app_of}
+use Rattle.clap.specs.declared.builder.command.Command.TheViews.{out-Command}
 use Rattle.clap.specs.declared.builder.command.Command.{Command}
 use Rattle.alog_program.specs.LoadOptions.{AsksForLoad, IsFirstUnread}
 use Rattle.alog_program.specs.Options.{Values, AsksFor, IsFirstRefused, text_of}
@@ -21,20 +22,23 @@ abbrev pub with_rules : App → List Rule → App
 with_rules app [] = app
 with_rules app (r ∷ rs) = with_rules (with_rule app r) rs
 
--- a command to which this one is added takes what it took before, and beside it this
+-- a command takes this, and none of its arguments holds for the commands below it too
 abbrev pub StandsFor : Command → App → Type 0
-StandsFor command app = (old new : Command) → AddsSubcommand old command new → app_of new ≡ with_subcommand (app_of old) app.top
+StandsFor command app = (app_of command ≡ app) × ((out-Command command).has_globals ≡ false)
 
 -- `alog replay`
 abbrev pub replay_app : App
 replay_app = with_rules (new_app (codes "replay")) (option_of (codes "config") ∷ [])
 
--- `alog format`
+-- `alog format`, and of it the options that say what a message is of
+abbrev pub origin_options : List Rule
+origin_options = option_of (codes "level") ∷ option_of (codes "thread") ∷ option_of (codes "process") ∷ option_of (codes "file")
+    ∷ option_of (codes "line") ∷ option_of (codes "function") ∷ []
+
 abbrev pub format_app : App
-format_app = with_rules (new_app (codes "format"))
+format_app = with_rules (with_rules (new_app (codes "format"))
     (argument_of (codes "PATTERN") ∷ argument_of (codes "TEXT") ∷ option_of (codes "time") ∷ option_of (codes "offset")
-    ∷ option_of (codes "name") ∷ option_of (codes "level") ∷ option_of (codes "thread") ∷ option_of (codes "process")
-    ∷ option_of (codes "file") ∷ option_of (codes "line") ∷ option_of (codes "function") ∷ [])
+    ∷ option_of (codes "name") ∷ [])) origin_options
 
 -- `alog check`
 abbrev pub check_app : App

@@ -1,47 +1,84 @@
 //! The commands, arguments and options of the program, and what help says of them.
 ghost use Rattle.std.specs.Prelude.{◌≡◌, IfOk, Some, false};
-ghost use Rattle.clap.specs.Words.{app_of, rule_of};
+ghost use Rattle.clap.specs.Words.{App, app_of, rule_of, with_subcommand};
 ghost use Rattle.clap.specs.declared.builder.texts.Texts.TheVariants.{One};
-ghost use Rattle.alog_program.specs.CommandLine.{StandsFor, alog_app, argument_of, load_app, option_of};
+ghost use Rattle.alog_program.specs.CommandLine.{StandsFor, alog_app, argument_of, check_app, format_app, load_app, option_of, origin_options, replay_app, with_rules};
 
 use clap::{Arg, Command};
 use std::alloc::{AllocError, Global};
 
-/// The program's command line. Help lists the options of `alog format` in the order in which they are added.
+/// The program's command line.
 pub(crate) fn alog<'a>(alloc: Global) -> Result<Command<'a>, AllocError>
     ensures { IfOk result (λ command. app_of command ≡ alog_app) }
 {
-    let replay = Command::new(alloc, "replay")
+    let command = Command::new(alloc, "alog")
+        .version("0.1.0")
+        .about("The back end of an asynchronous logger, step by step")
+        .subcommand_required(true);
+    let command = with(command, replay(alloc))?;
+    let command = with(command, format(alloc))?;
+    let command = with(command, check(alloc))?;
+    with(command, load(alloc))
+}
+
+/// The command with this one below it, if this one could be made.
+fn with<'a>(
+    command: Command<'a>,
+    below: Result<Command<'a>, AllocError>,
+) -> Result<Command<'a>, AllocError>
+    ensures { (app own : App) → StandsFor command.entry app → IfOk below.entry (λ b. StandsFor b own)
+        → IfOk result (λ with. StandsFor with (with_subcommand app own.top)) }
+{
+    command.subcommand(below?)
+}
+
+/// The command `alog replay`.
+fn replay<'a>(alloc: Global) -> Result<Command<'a>, AllocError>
+    ensures { IfOk result (λ command. StandsFor command replay_app) }
+{
+    Command::new(alloc, "replay")
         .about("Replay a schedule script from standard input")
         .long_about(REPLAY_HELP)
-        .arg(option(alloc, "config", "FILE", CONFIG_HELP))?;
-    let format = Command::new(alloc, "format")
+        .arg(option(alloc, "config", "FILE", CONFIG_HELP))
+}
+
+/// The command `alog format`. Help lists its options in the order in which they are added.
+fn format<'a>(alloc: Global) -> Result<Command<'a>, AllocError>
+    ensures { IfOk result (λ command. StandsFor command format_app) }
+{
+    let command = Command::new(alloc, "format")
         .about("Print the line of a message by a pattern")
         .long_about(FORMAT_HELP)
         .arg(argument(alloc, "PATTERN", "The pattern of the line"))?
         .arg(argument(alloc, "TEXT", "The text of the message"))?
         .arg(option(alloc, "time", "N", TIME_HELP))?
         .arg(option(alloc, "offset", "N", OFFSET_HELP))?
-        .arg(option(alloc, "name", "N", "The name of the logger [none]"))?
+        .arg(option(alloc, "name", "N", "The name of the logger [none]"))?;
+    with_origin(alloc, command)
+}
+
+/// The command with the options of `alog format` that say what a message is of.
+fn with_origin<'a>(alloc: Global, command: Command<'a>) -> Result<Command<'a>, AllocError>
+    ensures { (app : App) → StandsFor command.entry app
+        → IfOk result (λ with. StandsFor with (with_rules app origin_options)) }
+{
+    command
         .arg(option(alloc, "level", "L", LEVEL_HELP))?
         .arg(option(alloc, "thread", "N", "The number of the thread [0]"))?
         .arg(option(alloc, "process", "N", "The number of the process [0]"))?
         .arg(option(alloc, "file", "F", "The file of the source"))?
         .arg(option(alloc, "line", "N", LINE_HELP))?
-        .arg(option(alloc, "function", "F", "The function of the source"))?;
-    let check = Command::new(alloc, "check")
+        .arg(option(alloc, "function", "F", "The function of the source"))
+}
+
+/// The command `alog check`.
+fn check<'a>(alloc: Global) -> Result<Command<'a>, AllocError>
+    ensures { IfOk result (λ command. StandsFor command check_app) }
+{
+    Command::new(alloc, "check")
         .about("Say whether a file has a configuration, or what is wrong with it")
         .long_about(CHECK_HELP)
-        .arg(argument(alloc, "FILE", "The configuration, in TOML"))?;
-    let load = load(alloc)?;
-    Command::new(alloc, "alog")
-        .version("0.1.0")
-        .about("The back end of an asynchronous logger, step by step")
-        .subcommand_required(true)
-        .subcommand(replay)?
-        .subcommand(format)?
-        .subcommand(check)?
-        .subcommand(load)
+        .arg(argument(alloc, "FILE", "The configuration, in TOML"))
 }
 
 /// The command `alog load`.
