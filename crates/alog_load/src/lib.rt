@@ -18,8 +18,6 @@ mod error;
 mod loading;
 mod registry;
 mod setup;
-#[cfg(test)]
-mod tests;
 
 pub use error::LoadError;
 pub use loading::load;
