@@ -17,8 +17,6 @@ mod errand;
 mod error;
 mod loading;
 mod setup;
-#[cfg(test)]
-mod tests;
 
 pub use error::LoadError;
 pub use loading::load;

@@ -13,7 +13,7 @@
 //! sink under a lock). `names.rt` makes names of files; `laws.rt` states what is true of definitions.
 //!
 //! The tests `a_memory_sink` and `a_rotating_sink` of `test_sinks`, and `a_daily_sink` of `test_daily`, are examples.
-//! The tests here try what is private; those of stores are in `test_stores`.
+//! Stores are tried in `test_stores`.
 #![tactic(auto)]
 
 mod diary;
@@ -28,10 +28,6 @@ mod mem_store;
 mod names;
 mod open;
 mod rotation;
-#[cfg(test)]
-mod rotation_plain_tests;
-#[cfg(test)]
-mod rotation_tests;
 mod sink;
 mod sorted_files;
 mod store;

@@ -1,11 +1,11 @@
-//! Tests of pools over the public surface of `alog_pool`.
+//! Tests of pools and of loads over the public surface of `alog_pool` and `alog_load`.
 //!
-//! They are here, and not in `alog_pool`, since a crate with tests is proved twice. Read `sinks.rt` (a sink, and the limit of
+//! They are here, and not in those crates, since a crate with tests is proved twice. Read `sinks.rt` (a sink, and the limit of
 //! texts), `totals.rt` (what a pool has to report, as a plain program), `trial.rt` (a pool that is tried, with its producers) and
 //! `reports.rt` (what is wanted of replies and reports). Then `hand_tests.rt` (a worker alone), `producer_tests.rt`,
 //! `pool_tests.rt` and `shutdown_tests.rt`; `gates.rt` (a gate that holds a worker), `gate_tests.rt` and `order_tests.rt` (which
 //! turn comes before which); `meeting_tests.rt` (sinks that wait for each other), `thread_tests.rt` (producers on threads of their
-//! own) and `memory_tests.rt` (want of memory).
+//! own) and `memory_tests.rt` (want of memory); last `load_tests.rt` (loads of small configurations).
 #![tactic(auto)]
 
 #[cfg(test)]
@@ -14,6 +14,8 @@ mod gate_tests;
 mod gates;
 #[cfg(test)]
 mod hand_tests;
+#[cfg(test)]
+mod load_tests;
 #[cfg(test)]
 mod meeting_tests;
 #[cfg(test)]

@@ -69,12 +69,22 @@ pub fn has_first_tickets(rt: &impl Abort, report: &Report<Files>, worker: usize,
     }
 }
 
-/// What the file of this sink has, which has no bytes where it is absent.
+/// What the file `log` of this sink has, which has no bytes where it is absent.
 pub fn file_of<'a>(rt: &impl Abort, report: &'a Report<Files>, sink: usize) -> &'a [u8] {
+    file_named(rt, report, sink, "log")
+}
+
+/// What this file of this sink has, which has no bytes where it is absent.
+pub fn file_named<'a>(
+    rt: &impl Abort,
+    report: &'a Report<Files>,
+    sink: usize,
+    name: &str,
+) -> &'a [u8] {
     let Some(store) = report.sinks.get(sink).and_then(|sink| sink.store()) else {
         panic!(rt; "no sink")
     };
-    match store.store().files().get("log") {
+    match store.store().files().get(name) {
         Some(file) => file.as_slice(),
         None => b"",
     }
@@ -83,6 +93,11 @@ pub fn file_of<'a>(rt: &impl Abort, report: &'a Report<Files>, sink: usize) -> &
 /// The file of this sink has these bytes.
 pub fn has(rt: &impl Abort, report: &Report<Files>, sink: usize, bytes: &[u8]) {
     assert!(rt; file_of(rt, report, sink) == bytes);
+}
+
+/// How many lines a file has.
+pub fn count_of_lines(file: &[u8]) -> usize {
+    file.iter().filter(|byte| **byte == b'\n').count()
 }
 
 /// How many of the lines of a file are this one.

@@ -1,8 +1,9 @@
-//! Tests over the public surface of several crates, and the stores that they hand to sinks.
+//! Tests of sinks over the public surface of several crates, and the stores that they hand to sinks.
 //!
 //! They are here, and not in the crates that they try, since a crate with tests is proved twice. Read `stores.rt` (a store
 //! that yields, and one that notes what is flushed), `sinks.rt` (what the tests share), `sink_tests.rt` (sinks of each
-//! kind), `fault_tests.rt` (sinks whose store fails) and `lane_tests.rt` (sinks under a lock, to which threads give lines).
+//! kind), `rotation_tests.rt` and `rotation_plain_tests.rt` (rotating sinks, and the definition as a plain program beside them, on all
+//! small lists of lines), `fault_tests.rt` (sinks whose store fails) and `lane_tests.rt` (sinks under a lock, to which threads give lines).
 //! Daily sinks have a crate of tests of their own, `test_daily`, and so have stores, `test_stores`.
 #![tactic(auto)]
 
@@ -10,6 +11,10 @@
 mod fault_tests;
 #[cfg(test)]
 mod lane_tests;
+#[cfg(test)]
+mod rotation_plain_tests;
+#[cfg(test)]
+mod rotation_tests;
 #[cfg(test)]
 mod sink_tests;
 #[cfg(test)]

@@ -39,11 +39,17 @@ fn answer_to<S: Store>(
     let Ok(message) = Message::new(rt.alloc(), TEXT_LIMIT, 0, level, 0, 1, text, None) else {
         panic!(rt; "no message of {text}")
     };
-    let Ok(mut line) = LineBuf::new(rt.alloc(), 1_024) else {
-        panic!(rt; "no buffer")
-    };
+    let mut line = buffer(rt);
     assert!(rt; sink.may_take(&message, &line), "{text}");
     sink.take(&message, &mut line)
+}
+
+// Room for a line.
+fn buffer(rt: &(impl Abort + AllocGlobal)) -> LineBuf {
+    match LineBuf::new(rt.alloc(), 256) {
+        Ok(line) => line,
+        Err(_) => panic!(rt; "no buffer"),
+    }
 }
 
 // Gives one text of this level to a sink, which answers this.
@@ -92,6 +98,30 @@ pub fn has(rt: &impl Abort, store: Option<&MemStore>, name: &str, bytes: &[u8]) 
         Some(file) => assert!(rt; file.as_slice() == bytes, "{name}"),
         None => assert!(rt; false, "{name} is absent"),
     }
+}
+
+// A rotating sink over this store that was given these texts.
+pub fn rotated(
+    rt: &(impl Abort + AllocGlobal),
+    store: MemStore,
+    file: &str,
+    max_size: u64,
+    max_files: usize,
+    texts: &[&str],
+) -> Result<Sink<MemStore>, Fail> {
+    let face = face(rt.alloc(), Level::Trace, b"%v")?;
+    let mut sink = opened(Sink::rotating(
+        rt.alloc(),
+        face,
+        store,
+        file,
+        max_size,
+        max_files,
+    ))?;
+    for text in texts {
+        gives(rt, &mut sink, text, Ok(Taken::Written));
+    }
+    Ok(sink)
 }
 
 // A fan of one sink for level info, and one for level error.
