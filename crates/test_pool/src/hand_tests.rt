@@ -7,7 +7,7 @@ ghost use Rattle.test_pool.specs.declared.sinks.TheConstants.{TEXT_LIMIT};
 ghost use Rattle.alog_ring.specs.Known.{IsPassOf};
 
 use crate::sinks::TEXT_LIMIT;
-use crate::trial::{PLAIN, registry};
+use crate::trial::{PLAIN, loggers};
 use alog_format::LineBuf;
 use alog_msg::{Item, Level, Message};
 use alog_pattern::LINE_MAX;
@@ -73,14 +73,6 @@ fn queue(rt: &(impl Abort + Wait + Clock), alloc: Global) -> (Queue, Pass<Item>,
     (ring, pass, first)
 }
 
-// One logger, whose only sink has the number 0.
-fn loggers(rt: &impl Abort, alloc: Global) -> Result<Loggers, Fail> {
-    match registry(alloc, PLAIN, &[&[0]])?.freeze(alloc) {
-        Ok(loggers) => Ok(loggers),
-        Err(_) => panic!(rt; "no memory"),
-    }
-}
-
 // What this queue's worker shares with the rest of its pool.
 fn shared(rt: &impl Abort, alloc: Global, ring: Queue, loggers: Loggers) -> Arc<Shared>
     ensures { (arc_value result).ring ≡ ring }
@@ -132,7 +124,7 @@ fn has_the_last(rt: &(impl Abort + Wait + Clock), ring: &Queue, pass: &mut Pass<
 fn a_worker_ends_at_its_stop(rt: HostRuntime) -> Result<(), Fail> {
     let alloc = rt.alloc();
     let (ring, pass, mut other) = queue(&rt, alloc);
-    let shared = shared(&rt, alloc, ring, loggers(&rt, alloc)?);
+    let shared = shared(&rt, alloc, ring, loggers(alloc, PLAIN, &[&[0]])?);
     let same = Arc::try_clone(&shared)?;
     let hand = hand(alloc, shared, pass)?.work(&rt, &OpenGate);
     assert_eq!(rt; hand.handled, 1);

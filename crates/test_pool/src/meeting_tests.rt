@@ -6,7 +6,7 @@ ghost use Rattle.alog_pool.specs.Pool.{Fits};
 ghost use Rattle.test_pool.specs.declared.sinks.TheConstants.{TEXT_LIMIT};
 
 use crate::sinks::{TEXT_LIMIT, face, sink};
-use crate::trial::{PLAIN, registry};
+use crate::trial::{PLAIN, loggers};
 use alog_msg::Level;
 use alog_pool::{OpenGate, Pool, Report, Setup};
 use alog_sink::{Sink, Store, StoreError};
@@ -136,7 +136,7 @@ fn setup(alloc: Global) -> Result<Setup<Meeting>, AllocError>
         workers: 2,
         tickets_max: 0,
         text_limit: TEXT_LIMIT,
-        loggers: registry(alloc, PLAIN, &[&[0], &[1]])?,
+        loggers: loggers(alloc, PLAIN, &[&[0], &[1]])?,
         sinks: sinks(alloc)?,
     })
 }

@@ -8,7 +8,7 @@ ghost use Rattle.test_pool.specs.declared.sinks.TheConstants.{TEXT_LIMIT};
 
 use crate::gates::{HoldsFirst, has_begun, holds_until, lowered, open};
 use crate::sinks::{TEXT_LIMIT, face, sink};
-use crate::trial::{PLAIN, registry};
+use crate::trial::{PLAIN, loggers};
 use alog_msg::Level;
 use alog_pool::{Pool, Producer, Report, Setup};
 use alog_sink::{Sink, Store, StoreError};
@@ -120,7 +120,7 @@ fn setup(alloc: Global) -> Result<Setup<Scribe>, AllocError>
         workers: 1,
         tickets_max: 0,
         text_limit: TEXT_LIMIT,
-        loggers: registry(alloc, PLAIN, &[&[0, 1], &[1, 0]])?,
+        loggers: loggers(alloc, PLAIN, &[&[0, 1], &[1, 0]])?,
         sinks: sinks(alloc)?,
     })
 }

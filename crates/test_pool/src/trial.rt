@@ -68,7 +68,7 @@ impl Model for Trial {
 }
 
 /// Loggers that do what the plan says, of which each has a route: the numbers of its sinks. The name of each is its number.
-pub fn registry(alloc: Global, plan: Plan, routes: &[&[u32]]) -> Result<Registry, AllocError> {
+pub fn loggers(alloc: Global, plan: Plan, routes: &[&[u32]]) -> Result<Loggers, AllocError> {
     let mut registry = Registry::new(alloc);
     for (number, route) in routes.iter().enumerate() {
         let spec = Spec {
@@ -83,7 +83,10 @@ pub fn registry(alloc: Global, plan: Plan, routes: &[&[u32]]) -> Result<Registry
             return Err(AllocError);
         }
     }
-    Ok(registry)
+    match registry.freeze(alloc) {
+        Ok(loggers) => Ok(loggers),
+        Err(_) => Err(AllocError),
+    }
 }
 
 /// Sinks over stores of which each fails the call of such a number, of an append when it has three bytes.
@@ -108,7 +111,7 @@ pub fn setup_of(
 ) -> Result<Setup<Files>, AllocError>
     ensures { IfOk result Fits }
 {
-    let loggers = registry(alloc, plan, routes)?;
+    let loggers = self::loggers(alloc, plan, routes)?;
     let sinks = sinks(alloc, fuses)?;
     Ok(Setup {
         queue: plan.queue,

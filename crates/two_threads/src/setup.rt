@@ -9,7 +9,7 @@ use alog_msg::Level;
 use alog_pattern::Pattern;
 use alog_policy::Policy;
 use alog_pool::Setup;
-use alog_registry::{Registry, Spec};
+use alog_registry::{Loggers, Registry, Spec};
 use alog_sink::{Face, MemStore, Names, Sink};
 use anyhow::{Result, bail};
 use std::alloc::Global;
@@ -20,7 +20,7 @@ const TEXT_LIMIT: usize = 64;
 /// A queue of eight places, one worker, and the logger `net`, whose lines go to the file `log` in memory.
 pub fn setup(alloc: Global) -> Result<Setup<MemStore>>
     ensures fits { IfOk result Fits }
-    ensures one { IfOk result (λ s. length s.loggers.loggers ≡ 1) }
+    ensures one { IfOk result (λ s. length s.loggers ≡ 1) }
 {
     let mut sinks = Vec::with_capacity(alloc, 1)?;
     sinks.push_reserved(sink(alloc)?);
@@ -36,8 +36,8 @@ pub fn setup(alloc: Global) -> Result<Setup<MemStore>>
 }
 
 /// The logger `net`, which waits for room where the queue is full.
-fn loggers(alloc: Global) -> Result<Registry>
-    ensures { IfOk result (λ r. length r.loggers ≡ 1) }
+fn loggers(alloc: Global) -> Result<Loggers>
+    ensures { IfOk result (λ l. length l ≡ 1) }
 {
     let spec = Spec {
         level: Level::Info,
@@ -48,8 +48,12 @@ fn loggers(alloc: Global) -> Result<Registry>
     };
     let mut registry = Registry::new(alloc);
     match registry.add("net", spec) {
-        Ok(_) => Ok(registry),
+        Ok(_) => {}
         Err(_) => bail!("no logger"),
+    }
+    match registry.freeze(alloc) {
+        Ok(loggers) => Ok(loggers),
+        Err(_) => bail!("out of memory"),
     }
 }
 
