@@ -66,7 +66,10 @@ def below(top):
 
 
 def run(file, words):
-    """Runs a command and samples what its provers use, and writes it each minute. What ends between two samples is in the sum of all alone."""
+    """Runs a command and samples what its provers use, and writes it each minute. What ends between two samples is in the sum of all alone.
+
+    A gate proves again only what changed since one that passed: of the rest the file keeps what it told before."""
+    before = told_in(file)
     ran = subprocess.Popen(words, stdin=subprocess.DEVNULL)
     labels, used, due = {}, {}, 0
     while ran.poll() is None:
@@ -75,22 +78,34 @@ def run(file, words):
             if label:
                 labels[pid, start], used[pid, start] = label, seconds
         if time.monotonic() > due:
-            write(file, labels, used, sum(used.values()))
+            write(file, before, labels, used, sum(used.values()))
             due = time.monotonic() + 60
         time.sleep(0.2)
     spent = resource.getrusage(resource.RUSAGE_CHILDREN)
-    write(file, labels, used, spent.ru_utime + spent.ru_stime)
+    write(file, before, labels, used, spent.ru_utime + spent.ru_stime)
     return ran.returncode
 
 
-def write(file, labels, used, spent):
+def told_in(file):
+    """Returns the seconds that a file tells of each crate by phase, of crates that are there still."""
+    try:
+        with open(file) as it:
+            return {crate: by for crate, by in json.load(it)["crates"].items() if os.path.isdir(f"crates/{crate}")}
+    except (OSError, ValueError):
+        return {}
+
+
+def write(file, before, labels, used, spent):
     """Writes what the provers have used, by crate and phase, and what all has."""
-    sums = {}
+    now = {}
     for process, seconds in used.items():
         crate, phase = labels[process]
-        sums.setdefault(crate, dict.fromkeys(PHASES, 0.0))[phase] += seconds
+        by = now.setdefault(crate, {})
+        by[phase] = by.get(phase, 0.0) + seconds
+    crates = {crate: {**dict.fromkeys(PHASES, 0.0), **before.get(crate, {}), **now.get(crate, {})} for crate in {*before, *now}}
+    others = spent - sum(used.values())
     with open(file, "w") as it:
-        json.dump({"crates": sums, "all": spent}, it)
+        json.dump({"crates": crates, "all": sum(sum(by.values()) for by in crates.values()) + others}, it)
 
 
 def times(file):
