@@ -16,11 +16,13 @@ use atomic_table::{Seat, Table};
 use std::alloc::{AllocError, Global};
 use std::mem;
 
-/// A place of the board, and what it waits for: a sequence that is the ticket means that the place is free for the
-/// ticket, one more that its item is written there.
+/// The words and places of a ring. What a place waits for its sequence tells: where it is a ticket, the place is free for that
+/// ticket; where it is one more, the ticket's item lies in it.
 #[derive(Drop)]
 pub(crate) struct Board<T, L: Limit<T>> {
+    /// Two positions, the next ticket and the front one, and for each place its sequence and what lies there: nothing, or an item.
     pub(crate) table: Table<Option<T>, View<T, ()>, Shape<L>, Law, Global>,
+    /// One less than the number of places: the bits of a ticket that tell its place.
     pub(crate) mask: u64,
     ghost sized: { (table.shared.table_id.words ≡ word_count (mask + 1)) × (table.shared.table_id.slots ≡ mask + 1)
         × (table.shared.key.places ≡ mask + 1) × (mask < MOST_PLACES) × Masks mask },
@@ -138,6 +140,9 @@ impl<T, L: Limit<T>> Board<T, L> {
             return false;
         }
         let_go(words.exchange(seat, place, hand.take()));
+        // This publishes the item. Until here nobody else touches the place: only the thread whose exchange moved the position
+        // past the ticket may write there, and a pop waits for this very number. All steps are sequentially consistent, so
+        // who reads the number finds the item in the place.
         words.store::<Writes>(seat, place * APART + SEQUENCES, ticket + 1);
         true
     }
@@ -188,6 +193,8 @@ impl<T, L: Limit<T>> Board<T, L> {
             return false;
         }
         let_go(mem::replace(hand, words.exchange(seat, place, None)));
+        // This gives the place back for the ticket a lap later. Until here a push of that ticket finds a lower number, and
+        // answers full.
         words.store::<Takes>(seat, place * APART + SEQUENCES, ticket + (self.mask + 1));
         true
     }
