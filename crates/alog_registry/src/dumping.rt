@@ -20,10 +20,10 @@ use alog_policy::{Outcome, Policy};
 use std::alloc::{AllocError, Global};
 
 /// The text of the message before those of a dump.
-pub(crate) const START: &str = "=== backtrace start ===";
+const START: &str = "=== backtrace start ===";
 
 /// The text of the message behind those of a dump.
-pub(crate) const END: &str = "=== backtrace end ===";
+const END: &str = "=== backtrace end ===";
 
 impl Loggers {
     /// Empties the backtrace and posts what it kept under the policy of the logger of this number, which is one that was added:
@@ -57,18 +57,32 @@ impl Loggers {
         if backtrace.is_empty() {
             return Ok(Vec::new(alloc));
         }
-        let room = Dumped::new(alloc, backtrace.most(), backtrace.text_limit())?;
+        let (start, end) = markers(alloc, number, time, thread)?;
         let mut outcomes = Vec::with_capacity(alloc, backtrace.len() + 2)?;
-        let start = marker(alloc, number, time, thread, START)?;
-        let end = marker(alloc, number, time, thread, END)?;
+        let room = Dumped::new(alloc, backtrace.most(), backtrace.text_limit())?;
         let mut list = backtrace.dump(room);
         post_dumped(outlet, spec.policy, start, end, &mut list, &mut outcomes);
         Ok(outcomes)
     }
 }
 
+/// The messages before and behind those of a dump.
+pub(crate) fn markers(
+    alloc: Global,
+    number: u32,
+    time: i64,
+    thread: u64,
+) -> Result<(Message, Message), AllocError>
+    ensures start { IfOk result (λ r. r.0 ≡ marker number time thread (codes "=== backtrace start ===")) }
+    ensures end { IfOk result (λ r. r.1 ≡ marker number time thread (codes "=== backtrace end ===")) }
+{
+    let start = marker(alloc, number, time, thread, START)?;
+    let end = marker(alloc, number, time, thread, END)?;
+    Ok((start, end))
+}
+
 /// A marker of a dump.
-pub(crate) fn marker(
+fn marker(
     alloc: Global,
     number: u32,
     time: i64,

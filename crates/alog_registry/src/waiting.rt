@@ -14,7 +14,7 @@ ghost use Rattle.alog_registry.specs.declared.logger.Spec.{Spec};
 
 use crate::carry::{Carry, CarryWaiting};
 use crate::dumped::Dumped;
-use crate::dumping::{END, START, marker, post_dumped};
+use crate::dumping::{markers, post_dumped};
 use crate::given::{MessageRef, message};
 use crate::keep::LaneKeeper;
 use crate::loggers::Loggers;
@@ -113,9 +113,8 @@ impl Loggers {
         let Some(spec) = self.spec(number) else {
             unreachable!()
         };
+        let (start, end) = markers(alloc, number, time, thread)?;
         let mut outcomes = Vec::with_capacity(alloc, keeper.scratch.room() + 2)?;
-        let start = marker(alloc, number, time, thread, START)?;
-        let end = marker(alloc, number, time, thread, END)?;
         let mut list = keeper.dump(rt);
         // It has no more messages than its room, so there is room for the outcomes.
         let _dumped = list.len();
