@@ -3,6 +3,7 @@ ghost use Rattle.std.specs.Prelude.{◌≡◌, ◌+◌, ◌≤◌, ◌<◌, ◌+
 ghost use Rattle.std.specs.Prelude.{Some, OnErr, OnOk, IfOk, IsOk, vec_len, vec_capacity};
 ghost use Rattle.alog_registry.specs.Backtrace.{room_for};
 ghost use Rattle.alog_msg.specs.declared.item.Item.TheVariants as item;
+ghost use Rattle.alog_msg.specs.declared.limits.TheConstants.{LEAST_TEXT_LIMIT};
 ghost use Rattle.alog_msg.specs.declared.message.Message.{Message};
 ghost use Rattle.alog_policy.specs.Progress.{without_waiting};
 ghost use Rattle.alog_registry.specs.Carry.{PostsItemNow};
@@ -58,12 +59,23 @@ impl Loggers {
             return Ok(Vec::new(alloc));
         }
         let (start, end) = markers(alloc, number, time, thread)?;
-        let mut outcomes = Vec::with_capacity(alloc, backtrace.len() + 2)?;
-        let room = Dumped::new(alloc, backtrace.most(), backtrace.text_limit())?;
+        let (room, mut outcomes) = room_of(alloc, backtrace)?;
         let mut list = backtrace.dump(room);
         post_dumped(outlet, spec.policy, start, end, &mut list, &mut outcomes);
         Ok(outcomes)
     }
+}
+
+/// An empty list for what the backtrace kept, and one for the outcomes of its posts and of two more.
+fn room_of(alloc: Global, backtrace: &Backtrace) -> Result<(Dumped, Vec<Outcome<()>>), AllocError>
+    ensures list { IfOk result (λ r. r.0 ≡ room_for backtrace.now.most backtrace.now.limit) }
+    ensures none { IfOk result (λ r. r.1.items ≡ []) }
+    ensures room { IfOk result (λ r. length backtrace.now.messages + 2 ≤ vec_capacity r.1) }
+    ensures limit { OnOk result (LEAST_TEXT_LIMIT ≤ backtrace.now.limit) }
+{
+    let outcomes = Vec::with_capacity(alloc, backtrace.len() + 2)?;
+    let list = Dumped::new(alloc, backtrace.most(), backtrace.text_limit())?;
+    Ok((list, outcomes))
 }
 
 /// The messages before and behind those of a dump.
