@@ -15,15 +15,11 @@
 //! Read the specs in that order, then `scene.rt` (the trait of what a script is played on), `player.rt` (which plays on
 //! any such thing, and has `replay` at its end); `plain.rt` and `session.rt` are the queue, `memory.rt` its sink, of which
 //! `specs/MemorySink.antt` says what it is, `lines.rt` the reader, `parser.rt` and `entry.rt` the lines, and `print.rt` has
-//! the texts of steps, cells and files.
+//! the texts of steps, cells and files. The tests are in the crate `test_scripts`.
 #![tactic(auto)]
 
 mod command;
-#[cfg(test)]
-mod config_fault_tests;
 mod configured;
-#[cfg(test)]
-mod configured_tests;
 mod duty;
 mod entry;
 mod error;
@@ -33,10 +29,6 @@ mod lines;
 mod memory;
 mod of_config;
 mod parser;
-#[cfg(test)]
-mod parser_tests;
-#[cfg(test)]
-mod placed_tests;
 mod places;
 mod plain;
 mod player;
@@ -44,14 +36,13 @@ mod print;
 mod pushed;
 mod scene;
 mod session;
-#[cfg(test)]
-mod tests;
 mod told;
 
-pub use command::TextRef;
+pub use command::{Act, Actor, TextRef};
 pub use configured::Configured;
 pub use entry::{one_command, one_entry};
-pub use error::ReplayError;
+pub use error::{LineError, ReplayError};
 pub use of_config::replay_config;
 pub use places::Place;
 pub use player::{one_text, play, replay, tells_one_thing, tells_something};
+pub use scene::Playable;

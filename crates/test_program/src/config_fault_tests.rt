@@ -1,7 +1,7 @@
 //! Faults of scripts with a configuration, on the whole program.
-use crate::check_tests::{Host, SMALL, run, scratch};
-use crate::config_tests::{Said, replays, replays_with};
-use crate::script_tests::{Narrow, Trickle, long, refuses};
+use crate::config_tests::{replays, replays_with};
+use crate::faulty::{Course, goes};
+use crate::program::{Host, SMALL, Said, answers, removed, run, scratch, written};
 use std::alloc::{AllocError, Global};
 use std::path::PathBuf;
 use std::process::Abort;
@@ -61,125 +61,151 @@ const REFUSED: [&str; 37] = [
 
 #[test]
 fn lines_that_are_refused(rt: HostRuntime) -> Result<(), Fail> {
-    let path = scratch(&rt, "forms")?;
-    fs::write(&rt, path.as_str(), SMALL)?;
-    for line in REFUSED {
+    let path = written(&rt, "forms", SMALL)?;
+    for line in &REFUSED {
         replays(&rt, path.as_str(), line, Said::refused("", FIRST));
     }
-    Ok(fs::remove_file(&rt, path.as_str())?)
+    removed(&rt, path)
 }
+
+/// Scripts whose second line comes at a wrong time, and what is printed before.
+const AT_A_WRONG_TIME: [(&str, &str); 6] = [
+    // An actor in a call, whose log is not looked at; and one in none.
+    ("work 1\nlog 1 0 net debug x", ""),
+    ("flush 1 net\nwork 1", ""),
+    ("log 1 0 net info x\ndump 1 0 net", ""),
+    ("log 1 0 net debug x\nrun 1", "1 filtered info\n"),
+    ("level net info\nstep 1", ""),
+    // The steps that were made before it stand.
+    (
+        "log 1 0 net info x\nstep 1 5",
+        "1 claim 0\n1 write 0\n1 posted 0 overran 0\n",
+    ),
+];
 
 #[test]
 fn lines_that_come_at_a_wrong_time(rt: HostRuntime) -> Result<(), Fail> {
-    let path = scratch(&rt, "times")?;
-    fs::write(&rt, path.as_str(), SMALL)?;
-    for (script, printed) in [
-        // An actor in a call, whose log is not looked at; and one in none.
-        ("work 1\nlog 1 0 net debug x", ""),
-        ("flush 1 net\nwork 1", ""),
-        ("log 1 0 net info x\ndump 1 0 net", ""),
-        ("log 1 0 net debug x\nrun 1", "1 filtered info\n"),
-        ("level net info\nstep 1", ""),
-        // The steps that were made before it stand.
-        (
-            "log 1 0 net info x\nstep 1 5",
-            "1 claim 0\n1 write 0\n1 posted 0 overran 0\n",
-        ),
-    ] {
+    let path = written(&rt, "times", SMALL)?;
+    for (script, printed) in &AT_A_WRONG_TIME {
         replays(&rt, path.as_str(), script, Said::refused(printed, SECOND));
     }
-    Ok(fs::remove_file(&rt, path.as_str())?)
+    removed(&rt, path)
 }
 
 #[test]
 fn lines_that_want_a_configuration(rt: HostRuntime) {
-    for script in [
-        "ring 2 0\nlog 1 0 memory info x",
-        "ring 2 0\nflush 1 memory",
-        "ring 2 0\ndump 1 0 memory",
-        "ring 2 0\nlevel memory info",
+    for (script, error) in [
+        ("ring 2 0\nlog 1 0 memory info x", SECOND),
+        ("ring 2 0\nflush 1 memory", SECOND),
+        ("ring 2 0\ndump 1 0 memory", SECOND),
+        ("ring 2 0\nlevel memory info", SECOND),
+        ("log 1 0 memory info x", FIRST),
     ] {
-        refuses(&rt, script, "", SECOND);
+        answers(
+            &rt,
+            ["alog", "replay"].as_slice(),
+            script,
+            Said::refused("", error),
+        );
     }
-    refuses(&rt, "log 1 0 memory info x", "", FIRST);
 }
 
 /// The small configuration, with texts of up to 64 bytes.
 const SHORT: &str =
     "text = 64\n\n[[sink]]\nname = \"out\"\nkind = \"memory\"\n\n[[logger]]\nname = \"net\"\nsinks = [\"out\"]\n";
 
-#[test]
-fn texts_over_the_limit(rt: HostRuntime) -> Result<(), Fail> {
-    let alloc = rt.alloc();
-    let path = scratch(&rt, "texts")?;
-    fs::write(&rt, path.as_str(), SHORT)?;
-    let fits = long(alloc, "log 1 0 net info ", 64)?;
-    let exceeds = long(alloc, "log 1 0 net info ", 65)?;
-    let filtered = long(alloc, "log 1 0 net debug ", 65)?;
-    replays(&rt, path.as_str(), fits.as_str(), Said::done(""));
-    replays(
-        &rt,
-        path.as_str(),
-        exceeds.as_str(),
-        Said::refused("", FIRST),
-    );
-    // A message that no one gets is not looked at.
-    replays(
-        &rt,
-        path.as_str(),
-        filtered.as_str(),
-        Said::done("1 filtered info\n"),
-    );
-    Ok(fs::remove_file(&rt, path.as_str())?)
+/// A text of 64 letters.
+const LETTERS: &str = "xxxxxxxxxxxxxxxxxxxxxxxxxxxxxxxxxxxxxxxxxxxxxxxxxxxxxxxxxxxxxxxx";
+
+/// Replays this front of a line with 64 letters and more behind it.
+fn of_letters<R: Host + Abort>(
+    rt: &R,
+    file: &str,
+    front: &str,
+    more: &str,
+    said: Said<'_>,
+) -> Result<(), Fail> {
+    let line = format!(in rt.alloc(); "{front}{LETTERS}{more}")?;
+    replays(rt, file, line.as_str(), said);
+    Ok(())
+}
+
+/// Replays texts at the limit, and over it. A message that no one gets is not looked at.
+fn of_limits<R: Host + Abort>(rt: &R, file: &str) -> Result<(), Fail> {
+    let filtered = Said::done("1 filtered info\n");
+    of_letters(rt, file, "log 1 0 net info ", "", Said::done(""))?;
+    of_letters(rt, file, "log 1 0 net info ", "x", Said::refused("", FIRST))?;
+    of_letters(rt, file, "log 1 0 net debug ", "x", filtered)
 }
 
 #[test]
-fn files_that_are_no_configuration(rt: HostRuntime) -> Result<(), Fail> {
-    let path = scratch(&rt, "refused")?;
-    for (document, error) in [
-        (
-            "",
-            "alog: refused 31 in top\nalog: sink: a key is missing; it may have 1 to 256 tables\n",
-        ),
-        (
-            "queue = \"8",
-            "alog: refused 28\nalog: the document is not TOML: line 1: invalid string\n",
-        ),
-        (
-            "queue = 3\n[[sink]]\nname = \"out\"\nkind = \"memory\"\n[[logger]]\nname = \"net\"\nsinks = [\"out\"]\n",
-            "alog: refused 30 in top\n\
-             alog: queue = 3: a value that its key can not have; it may have a power of two, 2 to 65536\n",
-        ),
-    ] {
-        // Whatever the script is.
+fn texts_over_the_limit(rt: HostRuntime) -> Result<(), Fail> {
+    let path = written(&rt, "texts", SHORT)?;
+    of_limits(&rt, path.as_str())?;
+    removed(&rt, path)
+}
+
+/// Documents that are no configurations, and what is said of each.
+const NO_CONFIGURATIONS: [(&str, &str); 3] = [
+    (
+        "",
+        "alog: refused 31 in top\nalog: sink: a key is missing; it may have 1 to 256 tables\n",
+    ),
+    (
+        "queue = \"8",
+        "alog: refused 28\nalog: the document is not TOML: line 1: invalid string\n",
+    ),
+    (
+        "queue = 3\n[[sink]]\nname = \"out\"\nkind = \"memory\"\n[[logger]]\nname = \"net\"\nsinks = [\"out\"]\n",
+        "alog: refused 30 in top\n\
+         alog: queue = 3: a value that its key can not have; it may have a power of two, 2 to 65536\n",
+    ),
+];
+
+/// A script with a document that is no configuration says what is wrong with it, whatever the script is.
+fn are_no_configurations<R: Host + Abort>(rt: &R, file: &str) -> Result<(), Fail> {
+    for (document, error) in &NO_CONFIGURATIONS {
         for script in ["# nothing", "log 1 0 net debug x", "refused"] {
-            let said = Said::refused("", error);
-            replays_with(&rt, path.as_str(), document, script, said)?;
+            replays_with(rt, file, document, script, Said::refused("", error))?;
         }
     }
     Ok(())
 }
 
-/// The file cannot be read, and standard error says why.
-fn cannot_be_read<R: Host + Abort>(rt: &R, file: &str, error: &str) {
-    let mut input = b"refused".as_slice();
-    let mut output = Vec::new(rt.alloc());
-    let mut errors = Vec::new(rt.alloc());
-    let words = ["alog", "replay", "--config", file];
-    let found = run(rt, words.as_slice(), &mut input, &mut output, &mut errors);
-    assert_eq!(rt; found, 3);
-    assert!(rt; output.is_empty() && input.len() == 7);
-    assert!(rt; errors.as_slice().starts_with(error.as_bytes()));
+#[test]
+fn files_that_are_no_configuration(rt: HostRuntime) -> Result<(), Fail> {
+    let path = scratch(&rt, "refused")?;
+    are_no_configurations(&rt, path.as_str())
 }
 
 #[test]
 fn files_that_cannot_be_read(rt: HostRuntime) -> Result<(), Fail> {
     let path = scratch(&rt, "missing")?;
-    let error = format!(in rt.alloc(); "alog: {} cannot be read: ", path.as_str())?;
-    cannot_be_read(&rt, path.as_str(), error.as_str());
-    cannot_be_read(&rt, "/", "alog: / cannot be read: ");
-    cannot_be_read(&rt, "", "alog:  cannot be read: ");
+    let file = path.as_str();
+    let error = format!(in rt.alloc(); "alog: {file} cannot be read: ")?;
+    for (file, error) in [
+        (file, error.as_str()),
+        ("/", "alog: / cannot be read: "),
+        ("", "alog:  cannot be read: "),
+    ] {
+        replays(&rt, file, "refused", Said::fault("", error));
+    }
     Ok(())
+}
+
+/// Nothing is read of the script.
+fn reads_nothing<R: Host>(rt: &R, file: &str) -> bool {
+    let mut input = b"refused".as_slice();
+    let mut output = Vec::new(rt.alloc());
+    let mut errors = Vec::new(rt.alloc());
+    let words = ["alog", "replay", "--config", file];
+    let status = run(rt, words.as_slice(), &mut input, &mut output, &mut errors);
+    status == 3 && input.len() == 7
+}
+
+#[test]
+fn a_script_is_not_read_where_there_is_no_configuration(rt: HostRuntime) {
+    assert!(rt; reads_nothing(&rt, "/"));
 }
 
 const SCRIPT: &str = "log 1 0 net info a\nrun 1\nwork 2\nrun 2\n";
@@ -187,66 +213,54 @@ const SCRIPT: &str = "log 1 0 net info a\nrun 1\nwork 2\nrun 2\n";
 const PRINTED: &str =
     "1 claim 0\n1 write 0\n1 posted 0 overran 0\n2 grab 0\n2 take 0 a\n2 line 0 out\n== out out 8\nnet I a\n";
 
-/// Replays a front of the script into a writer of some room, and checks the status and what was written.
-fn trickles<R: Host + Abort>(
-    rt: &R,
-    file: &str,
-    fails: bool,
-    room: usize,
-    status: u8,
-    error: &str,
-) {
-    let mut input = Trickle {
-        bytes: SCRIPT.as_bytes(),
-        fails,
+/// Plays the script where the reader, or the writer behind each number of bytes, fails.
+fn are_faults<R: Host + Abort>(rt: &R, words: &[&str]) {
+    let course = Course {
+        words,
+        script: SCRIPT,
+        printed: PRINTED,
+        reader_fails: false,
+        room: PRINTED.len(),
+        writer_fails: true,
     };
-    let mut output = Narrow {
-        taken: Vec::new(rt.alloc()),
-        room,
-        fails: true,
+    goes(rt, course, 0, "");
+    let read_fault = Course {
+        reader_fails: true,
+        ..course
     };
-    let mut errors = Vec::new(rt.alloc());
-    let words = ["alog", "replay", "--config", file];
-    let found = run(rt, words.as_slice(), &mut input, &mut output, &mut errors);
-    assert_eq!(rt; found, status);
-    assert!(rt; errors.as_slice() == error.as_bytes());
-    assert!(rt; PRINTED.as_bytes().starts_with(output.taken.as_slice()));
-    assert!(rt; output.taken.len() == room.min(PRINTED.len()) || fails);
+    goes(rt, read_fault, 3, "alog: refused 34\n");
+    for room in 0..PRINTED.len() {
+        goes(rt, Course { room, ..course }, 3, "alog: refused 35\n");
+    }
 }
 
 #[test]
 fn failing_readers_and_writers(rt: HostRuntime) -> Result<(), Fail> {
-    let path = scratch(&rt, "failing")?;
-    let file = path.as_str();
-    fs::write(&rt, file, SMALL)?;
-    let most = PRINTED.len();
-    trickles(&rt, file, false, most, 0, "");
-    trickles(&rt, file, true, most, 3, "alog: refused 34\n");
-    for room in 0..most {
-        trickles(&rt, file, false, room, 3, "alog: refused 35\n");
-    }
-    Ok(fs::remove_file(&rt, file)?)
+    let path = written(&rt, "failing", SMALL)?;
+    are_faults(
+        &rt,
+        ["alog", "replay", "--config", path.as_str()].as_slice(),
+    );
+    removed(&rt, path)
 }
 
 #[test]
 fn a_refused_configuration_comes_before_a_script_that_cannot_be_read(
     rt: HostRuntime,
 ) -> Result<(), Fail> {
-    let path = scratch(&rt, "order")?;
-    let file = path.as_str();
-    fs::write(&rt, file, "[")?;
-    let mut input = Trickle {
-        bytes: b"",
-        fails: true,
+    let (document, error) = NO_CONFIGURATIONS[1];
+    let path = written(&rt, "order", document)?;
+    let words = ["alog", "replay", "--config", path.as_str()];
+    let course = Course {
+        words: words.as_slice(),
+        script: "",
+        printed: "",
+        reader_fails: true,
+        room: 0,
+        writer_fails: true,
     };
-    let mut output = Vec::new(rt.alloc());
-    let mut errors = Vec::new(rt.alloc());
-    let words = ["alog", "replay", "--config", file];
-    let found = run(&rt, words.as_slice(), &mut input, &mut output, &mut errors);
-    assert_eq!(rt; found, 2);
-    assert!(rt; output.is_empty());
-    assert!(rt; errors.as_slice().starts_with(b"alog: refused 28\n"));
-    Ok(fs::remove_file(&rt, file)?)
+    goes(&rt, course, 2, error);
+    removed(&rt, path)
 }
 
 /// A file for this test.
@@ -275,25 +289,59 @@ fn room(alloc: Global, bytes: usize) -> Result<Vec<u8>, AllocError> {
     }
 }
 
+/// What a run answered, with what it printed and what it said on standard error.
+#[derive(Drop)]
+struct Ran {
+    status: u8,
+    printed: Vec<u8>,
+    errors: Vec<u8>,
+}
+
+/// Plays the script, over lists that have room for what it prints.
+fn played<R: Host>(rt: &R, file: &str) -> Result<Ran, AllocError> {
+    let mut printed = room(rt.alloc(), 256)?;
+    let mut errors = room(rt.alloc(), 256)?;
+    let words = ["alog", "replay", "--config", file];
+    let mut input = SCRIPT.as_bytes();
+    let status = run(rt, words.as_slice(), &mut input, &mut printed, &mut errors);
+    Ok(Ran {
+        status,
+        printed,
+        errors,
+    })
+}
+
+/// The script was played.
+fn is_played(ran: &Ran) -> bool {
+    let is_printed = ran.printed.as_slice() == PRINTED.as_bytes();
+    ran.status == 0 && is_printed && ran.errors.is_empty()
+}
+
+/// There was no memory.
+fn is_without_memory(ran: &Ran) -> bool {
+    let is_front = PRINTED.as_bytes().starts_with(ran.printed.as_slice());
+    ran.status == 4 && is_front && ran.errors.as_slice() == b"alog: refused 1\n".as_slice()
+}
+
+/// Whether the script is played, or ends for want of memory and is played when it is asked for again.
+fn is_played_in_the_end<R: Host>(rt: &R, file: &str) -> bool {
+    match played(rt, file) {
+        Ok(first) if is_without_memory(&first) => {
+            played(rt, file).is_ok_and(|again| is_played(&again))
+        }
+        Ok(first) => is_played(&first),
+        Err(_) => false,
+    }
+}
+
 // For runs in which one allocation fails, as `rt try --test --fail-alloc` makes it: whichever that is, the status is 4, and
 // the next run is as ever.
 #[test]
 fn want_of_memory(rt: HostRuntime) -> Result<(), Fail> {
     let path = own_path_again(&rt)?;
     fs::write(&rt, path.as_str(), SMALL)?;
-    let words = ["alog", "replay", "--config", path.as_str()];
-    let (mut output, mut errors) = (room(rt.alloc(), 256)?, room(rt.alloc(), 256)?);
-    let mut input = SCRIPT.as_bytes();
-    let mut found = run(&rt, words.as_slice(), &mut input, &mut output, &mut errors);
-    if found == 4 {
-        assert!(rt; errors.as_slice() == b"alog: refused 1\n".as_slice());
-        assert!(rt; PRINTED.as_bytes().starts_with(output.as_slice()));
-        output.clear();
-        errors.clear();
-        input = SCRIPT.as_bytes();
-        found = run(&rt, words.as_slice(), &mut input, &mut output, &mut errors);
-    }
-    assert_eq!(rt; found, 0);
-    assert!(rt; errors.is_empty() && output.as_slice() == PRINTED.as_bytes());
-    Ok(fs::remove_file(&rt, path.as_str())?)
+    let is_played = is_played_in_the_end(&rt, path.as_str());
+    fs::remove_file(&rt, path.as_str())?;
+    assert!(rt; is_played);
+    Ok(())
 }

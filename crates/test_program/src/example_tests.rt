@@ -1,12 +1,13 @@
 //! The scripts of `examples/`, on the whole program.
-use crate::check_tests::scratch;
-use crate::config_tests::{Said, replays_with};
+use crate::config_tests::replays_with;
 use crate::examples::{
     DAILY_ERRORS, DAILY_ERRORS_PRINTED, DAILY_ERRORS_SCRIPT, EMPTYING, EMPTYING_PRINTED, FAN,
     FAN_PRINTED, FAN_SCRIPT, FIRST, FIRST_PRINTED, POSTS, POSTS_PRINTED, ROTATING,
     ROTATING_PRINTED, ROTATING_SCRIPT,
 };
+use crate::program::{Host, Said, scratch};
 use crate::script_tests::prints;
+use std::process::Abort;
 use std::test::Fail;
 
 #[test]
@@ -20,15 +21,20 @@ fn examples_without_a_configuration(rt: HostRuntime) {
     }
 }
 
-#[test]
-fn examples_with_a_configuration(rt: HostRuntime) -> Result<(), Fail> {
-    let path = scratch(&rt, "scripts")?;
+/// Replays the examples that have a configuration, in this file.
+fn are_examples<R: Host + Abort>(rt: &R, file: &str) -> Result<(), Fail> {
     for (document, script, printed) in [
         (DAILY_ERRORS, DAILY_ERRORS_SCRIPT, DAILY_ERRORS_PRINTED),
         (FAN, FAN_SCRIPT, FAN_PRINTED),
         (ROTATING, ROTATING_SCRIPT, ROTATING_PRINTED),
     ] {
-        replays_with(&rt, path.as_str(), document, script, Said::done(printed))?;
+        replays_with(rt, file, document, script, Said::done(printed))?;
     }
     Ok(())
+}
+
+#[test]
+fn examples_with_a_configuration(rt: HostRuntime) -> Result<(), Fail> {
+    let path = scratch(&rt, "scripts")?;
+    are_examples(&rt, path.as_str())
 }

@@ -1,190 +1,204 @@
 //! Command lines, and the lines of messages, on the whole program.
-use crate::check_tests::{Host, run};
-use crate::script_tests::{Narrow, long};
+use crate::faulty::{Narrow, ends_into, ends_within, long};
+use crate::program::{Host, Said, answers, run};
 use alog_program::{ArgumentsError, collect_words, refuse_arguments};
+use std::alloc::Global;
 use std::env::{Env, FillError};
 use std::io;
 use std::io::{BufWriter, Error, ErrorKind, Write};
 use std::process::Abort;
 use std::test::Fail;
 
-/// Runs the program on these words, and checks its status, what it prints, and its line on standard error.
-fn prints<R: Host + Abort>(rt: &R, words: &[&str], status: u8, printed: &str, error: &str) {
-    let mut input = b"".as_slice();
-    let mut output = Vec::new(rt.alloc());
-    let mut errors = Vec::new(rt.alloc());
-    let found = run(rt, words, &mut input, &mut output, &mut errors);
-    assert_eq!(rt; found, status);
-    assert!(rt; output.as_slice() == printed.as_bytes());
-    assert!(rt; errors.as_slice() == error.as_bytes());
-}
+/// What stands behind `alog format`, and the line; the last five have least and greatest values.
+const LINES: [([&str; 4], &str); 10] = [
+    (["%=5L|%-3!n|", "x", "--name", "abcdef"], "  I  |abc|\n"),
+    (["[%6!]", "x", "--function", "main"], "[  main]\n"),
+    (
+        [
+            "[%Y-%m-%d %T.%e] [%l] %v",
+            "hello",
+            "--time=1706974546123000000",
+            "--offset=60",
+        ],
+        "[2024-02-03 16:35:46.123] [info] hello\n",
+    ),
+    (
+        ["%# %s|", "", "--file=a/b", "--line=4294967295"],
+        "4294967295 b|\n",
+    ),
+    (
+        ["%+", "--level=err", "--", "-x"],
+        "[1970-01-01 00:00:00.000] [error] -x\n",
+    ),
+    (
+        ["%Y-%m-%d %T.%F %E", "", "--time=-1", "--offset=0"],
+        "1969-12-31 23:59:59.999999999 -1\n",
+    ),
+    (
+        ["%T %z", "", "--time=-9223372036854775808", "--offset=-1439"],
+        "00:13:43 -23:59\n",
+    ),
+    (
+        ["%T %z", "", "--time=9223372036854775807", "--offset=1439"],
+        "23:46:16 +23:59\n",
+    ),
+    (
+        ["%P %#|", "", "--process=4294967295", "--line=4294967295"],
+        "4294967295 |\n",
+    ),
+    (
+        ["%t %l", "", "--thread=18446744073709551615", "--level=off"],
+        "18446744073709551615 off\n",
+    ),
+];
 
 #[test]
 fn lines(rt: HostRuntime) {
-    for ([pattern, text, first, second], line) in [
-        (["%=5L|%-3!n|", "x", "--name", "abcdef"], "  I  |abc|\n"),
-        (["[%6!]", "x", "--function", "main"], "[  main]\n"),
-        (
-            [
-                "[%Y-%m-%d %T.%e] [%l] %v",
-                "hello",
-                "--time=1706974546123000000",
-                "--offset=60",
-            ],
-            "[2024-02-03 16:35:46.123] [info] hello\n",
-        ),
-        (
-            ["%# %s|", "", "--file=a/b", "--line=4294967295"],
-            "4294967295 b|\n",
-        ),
-        (
-            ["%+", "--level=err", "--", "-x"],
-            "[1970-01-01 00:00:00.000] [error] -x\n",
-        ),
-    ] {
-        let words = ["alog", "format", pattern, text, first, second];
-        prints(&rt, words.as_slice(), 0, line, "");
+    for ([pattern, text, first, second], line) in &LINES {
+        let words = ["alog", "format", *pattern, *text, *first, *second];
+        answers(&rt, words.as_slice(), "", Said::done(line));
     }
 }
 
-#[test]
-fn lines_of_least_and_greatest_values(rt: HostRuntime) {
-    for ([pattern, text, first, second], line) in [
-        (
-            ["%Y-%m-%d %T.%F %E", "", "--time=-1", "--offset=0"],
-            "1969-12-31 23:59:59.999999999 -1\n",
-        ),
-        (
-            ["%T %z", "", "--time=-9223372036854775808", "--offset=-1439"],
-            "00:13:43 -23:59\n",
-        ),
-        (
-            ["%T %z", "", "--time=9223372036854775807", "--offset=1439"],
-            "23:46:16 +23:59\n",
-        ),
-        (
-            ["%P %#|", "", "--process=4294967295", "--line=4294967295"],
-            "4294967295 |\n",
-        ),
-        (
-            ["%t %l", "", "--thread=18446744073709551615", "--level=off"],
-            "18446744073709551615 off\n",
-        ),
-    ] {
-        let words = ["alog", "format", pattern, text, first, second];
-        prints(&rt, words.as_slice(), 0, line, "");
-    }
-}
+/// Values that are refused, and what is said of each.
+const REFUSED_VALUES: [(&str, &str); 9] = [
+    (
+        "--time=1x",
+        "alog: --time=\"1x\" is refused: allowed is a number from -9223372036854775808 to 9223372036854775807, without +\n",
+    ),
+    (
+        "--time=9223372036854775808",
+        "alog: --time=\"9223372036854775808\" is refused: allowed is a number from -9223372036854775808 to 9223372036854775807, without +\n",
+    ),
+    (
+        "--time=+1",
+        "alog: --time=\"+1\" is refused: allowed is a number from -9223372036854775808 to 9223372036854775807, without +\n",
+    ),
+    (
+        "--offset=1440",
+        "alog: --offset=\"1440\" is refused: allowed is a number from -1439 to 1439, without +\n",
+    ),
+    (
+        "--offset=-1440",
+        "alog: --offset=\"-1440\" is refused: allowed is a number from -1439 to 1439, without +\n",
+    ),
+    (
+        "--thread=-1",
+        "alog: --thread=\"-1\" is refused: allowed is a number from 0 to 18446744073709551615, without a sign\n",
+    ),
+    (
+        "--process=4294967296",
+        "alog: --process=\"4294967296\" is refused: allowed is a number from 0 to 4294967295, without a sign\n",
+    ),
+    (
+        "--line=",
+        "alog: --line=\"\" is refused: allowed is a number from 0 to 4294967295, without a sign\n",
+    ),
+    (
+        "--level=Info",
+        "alog: --level=\"Info\" is refused: allowed is trace, debug, info, warning, error, critical or off\n",
+    ),
+];
 
 #[test]
 fn refused_values(rt: HostRuntime) {
-    let number = "is refused: allowed is a number from";
-    for (value, said) in [
-        (
-            "--time=1x",
-            "-9223372036854775808 to 9223372036854775807, without +",
-        ),
-        (
-            "--time=9223372036854775808",
-            "-9223372036854775808 to 9223372036854775807, without +",
-        ),
-        (
-            "--time=+1",
-            "-9223372036854775808 to 9223372036854775807, without +",
-        ),
-        ("--offset=1440", "-1439 to 1439, without +"),
-        ("--offset=-1440", "-1439 to 1439, without +"),
-        ("--thread=-1", "0 to 18446744073709551615, without a sign"),
-        ("--process=4294967296", "0 to 4294967295, without a sign"),
-        ("--line=", "0 to 4294967295, without a sign"),
-    ] {
-        let words = ["alog", "format", "%v", "x", value];
-        refuses(&rt, words.as_slice(), value, number, said);
-    }
-    let said = "trace, debug, info, warning, error, critical or off";
-    let words = ["alog", "format", "%v", "x", "--level=Info"];
-    refuses(
-        &rt,
-        words.as_slice(),
-        "--level=Info",
-        "is refused: allowed is",
-        said,
-    );
-}
-
-/// The words are refused, and standard error says which option, its value, and what is allowed.
-fn refuses<R: Host + Abort>(rt: &R, words: &[&str], option: &str, is: &str, said: &str) {
-    let (name, value) = option.split_once('=').unwrap_or((option, ""));
-    match format!(in rt.alloc(); "alog: {name}={value:?} {is} {said}\n") {
-        Ok(error) => prints(rt, words, 1, "", error.as_str()),
-        Err(_) => assert!(rt; false),
+    for (value, error) in &REFUSED_VALUES {
+        let words = ["alog", "format", "%v", "x", *value];
+        answers(&rt, words.as_slice(), "", Said::wrong(error));
     }
 }
 
-#[test]
-fn refused_lines(rt: HostRuntime) -> Result<(), Fail> {
-    let alloc = rt.alloc();
-    let (pattern, text) = (long(alloc, "", 257)?, long(alloc, "", 2_049)?);
-    let (long_pattern, long_text) = (pattern.as_str(), text.as_str());
-    let (name, file) = (long(alloc, "--name=", 65)?, long(alloc, "--file=", 257)?);
-    let function = long(alloc, "--function=", 129)?;
-    let long_name = name.as_str();
+/// A line of a pattern, a text and a field of so many letters is refused by this number.
+fn of_long<R: Host + Abort>(
+    rt: &R,
+    pattern: &str,
+    text: &str,
+    field: (&str, usize),
+    error: &str,
+) -> Result<(), Fail> {
+    let field = long(rt.alloc(), field.0, field.1)?;
+    let words = ["alog", "format", pattern, text, field.as_str()];
+    answers(rt, words.as_slice(), "", Said::refused("", error));
+    Ok(())
+}
+
+/// Lines whose name, file or function is too long are refused, behind a text and a pattern that are.
+fn of_long_texts<R: Host + Abort>(rt: &R, pattern: &str, text: &str) -> Result<(), Fail> {
     let wide = "%v%v%v%v%v%v%v%v%v%v%v%v%v%v%v%v%v%v%v%v%v%v%v%v%v%v%v%v%v%v%v%v";
-    for (pattern, text, field, error) in [
-        (long_pattern, long_text, long_name, "alog: refused 17\n"),
-        (wide, long_text, long_name, "alog: refused 18\n"),
-        ("%v", long_text, long_name, "alog: refused 2\n"),
-        ("%v", "x", long_name, "alog: refused 3\n"),
-        ("%v", "x", file.as_str(), "alog: refused 3\n"),
-        ("%v", "x", function.as_str(), "alog: refused 3\n"),
+    for (pattern, text, field, letters, error) in [
+        (pattern, text, "--name=", 65, "alog: refused 17\n"),
+        (wide, text, "--name=", 65, "alog: refused 18\n"),
+        ("%v", text, "--name=", 65, "alog: refused 2\n"),
+        ("%v", "x", "--name=", 65, "alog: refused 3\n"),
+        ("%v", "x", "--file=", 257, "alog: refused 3\n"),
+        ("%v", "x", "--function=", 129, "alog: refused 3\n"),
     ] {
-        let words = ["alog", "format", pattern, text, field];
-        prints(&rt, words.as_slice(), 2, "", error);
+        of_long(rt, pattern, text, (field, letters), error)?;
     }
     Ok(())
 }
 
-/// Runs the program on these words, and checks the status and which stream has text.
-fn says<R: Host + Abort>(rt: &R, words: &[&str], status: u8, on_output: bool) {
+#[test]
+fn refused_lines(rt: HostRuntime) -> Result<(), Fail> {
+    let pattern = long(rt.alloc(), "", 257)?;
+    let text = long(rt.alloc(), "", 2_049)?;
+    of_long_texts(&rt, pattern.as_str(), text.as_str())
+}
+
+/// Which stream has text.
+#[derive(Clone, Copy, PartialEq, Eq)]
+enum On {
+    Neither,
+    Output,
+    Errors,
+}
+
+/// The status of a run, and which stream has text; none if both have.
+fn ran<R: Host>(rt: &R, words: &[&str]) -> (u8, Option<On>) {
     let mut input = b"".as_slice();
     let mut output = Vec::new(rt.alloc());
     let mut errors = Vec::new(rt.alloc());
-    let found = run(rt, words, &mut input, &mut output, &mut errors);
-    assert_eq!(rt; found, status);
-    assert_eq!(rt; output.is_empty(), !on_output);
-    assert_eq!(rt; errors.is_empty(), status == 0);
+    let status = run(rt, words, &mut input, &mut output, &mut errors);
+    let on = match (output.is_empty(), errors.is_empty()) {
+        (true, true) => Some(On::Neither),
+        (false, true) => Some(On::Output),
+        (true, false) => Some(On::Errors),
+        (false, false) => None,
+    };
+    (status, on)
+}
+
+/// These words have this status, and text on this stream.
+fn says<R: Host + Abort>(rt: &R, words: &[&str], status: u8, on: On) {
+    assert!(rt; ran(rt, words) == (status, Some(on)), "{words:?}");
 }
 
 #[test]
 fn command_lines(rt: HostRuntime) {
-    says(&rt, ["alog"].as_slice(), 1, false);
-    for (word, status, on_output) in [
-        ("replay", 0, false),
-        ("--help", 0, true),
-        ("--version", 0, true),
-        ("play", 1, false),
-        ("format", 1, false),
+    for words in [
+        ["alog", "--help"].as_slice(),
+        ["alog", "--version"].as_slice(),
+        ["alog", "replay", "--help"].as_slice(),
+        ["alog", "format", "--help"].as_slice(),
+        ["alog", "load", "--help"].as_slice(),
     ] {
-        says(&rt, ["alog", word].as_slice(), status, on_output);
-    }
-    for (words, status, on_output) in [
-        (["alog", "replay", "--help"], 0, true),
-        (["alog", "format", "--help"], 0, true),
-        (["alog", "replay", "file"], 1, false),
-        (["alog", "format", "%v"], 1, false),
-        (["alog", "load", "--help"], 0, true),
-        (["alog", "load", "--folder=d"], 1, false),
-        (["alog", "loads", "c.toml"], 1, false),
-    ] {
-        says(&rt, words.as_slice(), status, on_output);
+        says(&rt, words, 0, On::Output);
     }
     for words in [
-        ["alog", "format", "%v", "x", "y"],
-        ["alog", "format", "%v", "x", "--previous=0"],
-        ["alog", "format", "%v", "--time", "-1"],
+        ["alog"].as_slice(),
+        ["alog", "play"].as_slice(),
+        ["alog", "format"].as_slice(),
+        ["alog", "replay", "file"].as_slice(),
+        ["alog", "format", "%v"].as_slice(),
+        ["alog", "load", "--folder=d"].as_slice(),
+        ["alog", "loads", "c.toml"].as_slice(),
+        ["alog", "format", "%v", "x", "y"].as_slice(),
+        ["alog", "format", "%v", "x", "--previous=0"].as_slice(),
+        ["alog", "format", "%v", "--time", "-1"].as_slice(),
     ] {
-        says(&rt, words.as_slice(), 1, false);
+        says(&rt, words, 1, On::Errors);
     }
+    says(&rt, ["alog", "replay"].as_slice(), 0, On::Neither);
 }
 
 /// Takes all bytes, and fails when it is flushed.
@@ -201,38 +215,27 @@ impl Write for Unflushed {
     }
 }
 
-/// Runs the program into this writer, which fails.
-fn fails<R: Host + Abort, O: Write>(rt: &R, words: &[&str], output: &mut O) {
-    let mut input = b"".as_slice();
-    let mut errors = Vec::new(rt.alloc());
-    let found = run(rt, words, &mut input, output, &mut errors);
-    assert_eq!(rt; found, 3);
-    assert!(rt; errors.as_slice() == b"alog: refused 35\n".as_slice());
+/// Runs the program into a buffer over a writer with this room, which fails.
+fn ends_within_a_buffer<R: Host + Abort>(rt: &R, words: &[&str], room: usize) -> Result<(), Fail> {
+    let mut output = BufWriter::new(rt.alloc(), Narrow::new(rt.alloc(), room, true))?;
+    ends_into(rt, words, &mut output, 3, "alog: refused 35\n");
+    Ok(())
+}
+
+/// Runs the program into writers that fail.
+fn fails<R: Host + Abort>(rt: &R, words: &[&str]) -> Result<(), Fail> {
+    ends_into(rt, words, &mut Unflushed, 3, "alog: refused 35\n");
+    for room in 0..5 {
+        ends_within(rt, words, room, 3);
+        ends_within_a_buffer(rt, words, room)?;
+    }
+    Ok(())
 }
 
 #[test]
 fn failing_writers(rt: HostRuntime) -> Result<(), Fail> {
-    for words in [
-        ["alog", "format", "%v", "hello"].as_slice(),
-        ["alog", "--help"].as_slice(),
-    ] {
-        fails(&rt, words, &mut Unflushed);
-        for room in 0..5 {
-            let mut narrow = Narrow {
-                taken: Vec::new(rt.alloc()),
-                room,
-                fails: true,
-            };
-            fails(&rt, words, &mut narrow);
-            let narrow = Narrow {
-                taken: Vec::new(rt.alloc()),
-                room,
-                fails: true,
-            };
-            fails(&rt, words, &mut BufWriter::new(rt.alloc(), narrow)?);
-        }
-    }
-    Ok(())
+    fails(&rt, ["alog", "format", "%v", "hello"].as_slice())?;
+    fails(&rt, ["alog", "--help"].as_slice())
 }
 
 /// The words that it has, as bytes. It is asked for nothing else.
@@ -260,39 +263,47 @@ impl Env for Words<'_> {
     }
 }
 
+/// Why these words cannot be had, if they cannot.
+fn refused(alloc: Global, given: &[&[u8]]) -> Option<ArgumentsError> {
+    collect_words(alloc, &Words(given)).err()
+}
+
+/// Whether these words are had.
+fn are_had(alloc: Global, given: &[&str; 2]) -> bool {
+    let [first, second] = *given;
+    let bytes = [first.as_bytes(), second.as_bytes()];
+    collect_words(alloc, &Words(bytes.as_slice())).is_ok_and(|words| {
+        words.len() == 2 && words[0].as_str() == first && words[1].as_str() == second
+    })
+}
+
 #[test]
 fn collected_words(rt: HostRuntime) -> Result<(), Fail> {
-    let given = [b"alog".as_slice(), "né".as_bytes()];
-    match collect_words(rt.alloc(), &Words(given.as_slice())) {
-        Ok(words) => {
-            assert_eq!(rt; words.len(), 2);
-            assert!(rt; words[0].as_str() == "alog" && words[1].as_str() == "né");
-        }
-        Err(_) => assert!(rt; false),
-    }
+    assert!(rt; are_had(rt.alloc(), &["alog", "n\u{e9}"]));
     let given = [b"alog".as_slice(), b"format".as_slice(), b"\xff".as_slice()];
-    let refused = collect_words(rt.alloc(), &Words(given.as_slice()));
-    assert!(rt; refused.err() == Some(ArgumentsError::NotText(2)));
+    assert!(rt; refused(rt.alloc(), given.as_slice()) == Some(ArgumentsError::NotText(2)));
     let word = long(rt.alloc(), "", 131_073)?;
-    let given = [word.as_bytes()];
-    let refused = collect_words(rt.alloc(), &Words(given.as_slice()));
-    assert!(rt; refused.err() == Some(ArgumentsError::TooLong(0)));
+    let error = refused(rt.alloc(), [word.as_bytes()].as_slice());
+    assert!(rt; error == Some(ArgumentsError::TooLong(0)));
+    Ok(())
+}
+
+/// Whether words that cannot be had end the program so.
+fn ends_by<R: AllocGlobal>(rt: &R, error: ArgumentsError, status: u8, said: &str) -> bool {
+    let mut errors = Vec::new(rt.alloc());
+    let found = refuse_arguments(error, &mut errors);
+    found == status && errors.as_slice() == said.as_bytes()
+}
+
+#[test]
+fn words_that_cannot_be_had(rt: HostRuntime) {
+    let no_text = "alog: argument 2 is no text in UTF-8\n";
+    let too_long = "alog: argument 3 has more than 131072 bytes\n";
     for (error, status, said) in [
-        (
-            ArgumentsError::NotText(2),
-            1,
-            "alog: argument 2 is no text in UTF-8\n",
-        ),
-        (
-            ArgumentsError::TooLong(3),
-            1,
-            "alog: argument 3 has more than 131072 bytes\n",
-        ),
+        (ArgumentsError::NotText(2), 1, no_text),
+        (ArgumentsError::TooLong(3), 1, too_long),
         (ArgumentsError::OutOfMemory, 4, "alog: refused 1\n"),
     ] {
-        let mut errors = Vec::new(rt.alloc());
-        assert_eq!(rt; refuse_arguments(error, &mut errors), status);
-        assert!(rt; errors.as_slice() == said.as_bytes());
+        assert!(rt; ends_by(&rt, error, status, said));
     }
-    Ok(())
 }

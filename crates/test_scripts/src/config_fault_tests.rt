@@ -1,7 +1,8 @@
 //! Scripts with a configuration that cannot be read, or whose text cannot be written, to the end.
-use crate::tests::Fails;
-use crate::{ReplayError, replay_config};
-use alog_config::{Config, ConfigFault, read};
+use crate::line_tests::Fails;
+use crate::scripts::{Answer, config_of, configured, is_configured};
+use alog_config::{Config, ConfigFault};
+use alog_replay::ReplayError;
 use std::alloc::{AllocError, Global};
 use std::io;
 use std::io::{Error, ErrorKind, Write};
@@ -28,12 +29,12 @@ const PRINTED: &str =
 
 #[test]
 fn no_files_at_a_read_fault(rt: HostRuntime) -> Result<(), Fail> {
-    let config = read(rt.alloc(), ONE.as_bytes())?;
-    let mut out = Vec::new(rt.alloc());
-    let mut reader = Fails(SCRIPT.as_bytes());
-    let found = replay_config(rt.alloc(), &config, &mut reader, &mut out);
-    assert_eq!(rt; found, Err(ReplayError::ReadFault));
-    assert!(rt; out.as_slice() == STEPS.as_bytes());
+    let config = config_of(rt.alloc(), ONE)?;
+    let mut script = Fails(SCRIPT.as_bytes());
+    let fault = Err(ReplayError::ReadFault);
+    let is_fault = is_configured(rt.alloc(), &config, &mut script, fault, STEPS);
+    drop(config);
+    assert!(rt; is_fault);
     Ok(())
 }
 
@@ -63,33 +64,29 @@ impl Write for Narrow {
     }
 }
 
-// What was written to a writer with this room, and whether all was.
-fn writes(alloc: Global, config: &Config, room: usize) -> (Result<u64, ReplayError>, Vec<u8>) {
+// Whether a writer with this room gets a front that fills it, and the replay answers this.
+fn writes(alloc: Global, config: &Config, room: usize, answer: Answer) -> bool {
     let mut writer = Narrow {
         taken: Vec::new(alloc),
         room,
     };
-    let found = replay_config(alloc, config, &mut SCRIPT.as_bytes(), &mut writer);
-    let Narrow { taken, room: _ } = writer;
-    (found, taken)
+    let found = configured(alloc, config, &mut SCRIPT.as_bytes(), &mut writer);
+    let is_front = PRINTED.as_bytes().starts_with(writer.taken.as_slice());
+    found == answer && is_front && writer.taken.len() == room
 }
 
-fn writes_a_front(rt: &impl Abort, alloc: Global, config: &Config, room: usize) {
-    let (found, taken) = writes(alloc, config, room);
-    assert_eq!(rt; found, Err(ReplayError::WriteFault));
-    assert_eq!(rt; taken.len(), room);
-    assert!(rt; PRINTED.as_bytes().starts_with(taken.as_slice()));
+// The room has these consequences.
+fn has_room<R: AllocGlobal + Abort>(rt: &R, config: &Config, room: usize, answer: Answer) {
+    assert!(rt; writes(rt.alloc(), config, room, answer), "{room}");
 }
 
 #[test]
 fn a_writer_that_fails(rt: HostRuntime) -> Result<(), Fail> {
-    let config = read(rt.alloc(), ONE.as_bytes())?;
+    let config = config_of(rt.alloc(), ONE)?;
     for room in 0..PRINTED.len() {
-        writes_a_front(&rt, rt.alloc(), &config, room);
+        has_room(&rt, &config, room, Err(ReplayError::WriteFault));
     }
-    let (found, taken) = writes(rt.alloc(), &config, PRINTED.len());
-    assert_eq!(rt; found, Ok(4));
-    assert!(rt; taken.as_slice() == PRINTED.as_bytes());
+    has_room(&rt, &config, PRINTED.len(), Ok(4));
     Ok(())
 }
 
@@ -99,8 +96,8 @@ const WITHOUT_LINE: &str =
 
 // A configuration, read again where memory was wanting.
 fn read_again(alloc: Global) -> Result<Config, ConfigFault> {
-    match read(alloc, ONE.as_bytes()) {
-        Err(ConfigFault::OutOfMemory) => read(alloc, ONE.as_bytes()),
+    match config_of(alloc, ONE) {
+        Err(ConfigFault::OutOfMemory) => config_of(alloc, ONE),
         answer => answer,
     }
 }
@@ -113,26 +110,31 @@ fn roomy(alloc: Global) -> Result<Vec<u8>, AllocError> {
     }
 }
 
+// Whether the script is played, or ends for want of memory and is played when it is asked for again; or a sink had no memory for its
+// line.
+fn is_played_in_the_end(alloc: Global, config: &Config, out: &mut Vec<u8>) -> bool {
+    match configured(alloc, config, &mut SCRIPT.as_bytes(), out) {
+        Ok(4) => {
+            let is_whole = out.as_slice() == PRINTED.as_bytes();
+            is_whole || out.as_slice().starts_with(WITHOUT_LINE.as_bytes())
+        }
+        Err(ReplayError::OutOfMemory) => {
+            let is_front = PRINTED.as_bytes().starts_with(out.as_slice());
+            is_front && is_configured(alloc, config, &mut SCRIPT.as_bytes(), Ok(4), PRINTED)
+        }
+        _ => false,
+    }
+}
+
 // For runs in which one allocation fails, as `rt try --test --fail-alloc` makes it: it is told as want of memory, or as the fault
 // of a sink that had none for its line, and the next script is played as ever.
 #[test]
 fn want_of_memory_for_a_script(rt: HostRuntime) -> Result<(), Fail> {
-    let alloc = rt.alloc();
-    let config = read_again(alloc)?;
-    let mut out = roomy(alloc)?;
-    match replay_config(alloc, &config, &mut SCRIPT.as_bytes(), &mut out) {
-        Err(ReplayError::OutOfMemory) => {
-            assert!(rt; PRINTED.as_bytes().starts_with(out.as_slice()));
-            let mut out = Vec::new(alloc);
-            let found = replay_config(alloc, &config, &mut SCRIPT.as_bytes(), &mut out);
-            assert_eq!(rt; found, Ok(4));
-            assert!(rt; out.as_slice() == PRINTED.as_bytes());
-        }
-        found => {
-            assert_eq!(rt; found, Ok(4));
-            let is_whole = out.as_slice() == PRINTED.as_bytes();
-            assert!(rt; is_whole || out.as_slice().starts_with(WITHOUT_LINE.as_bytes()));
-        }
-    }
+    let mut out = roomy(rt.alloc())?;
+    let is_played = match read_again(rt.alloc()) {
+        Ok(config) => is_played_in_the_end(rt.alloc(), &config, &mut out),
+        Err(_) => false,
+    };
+    assert!(rt; is_played);
     Ok(())
 }
