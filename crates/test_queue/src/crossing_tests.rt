@@ -6,6 +6,7 @@ use alog_ring::{Pass, PushError, Ring};
 use std::alloc::{AllocError, Global};
 use std::process::Abort;
 use std::sync::Wait;
+use std::test::Fail;
 use std::thread;
 
 // Pushes until the ring takes the value.
@@ -109,8 +110,8 @@ fn are_pushed(rt: &impl Abort, pushed: &[bool]) {
 }
 
 #[test]
-fn two_threads_share_a_ring(rt: HostRuntime) {
-    let (ring, mut pass) = ring_of::<u64>(&rt, rt.alloc(), 1024, 0);
+fn two_threads_share_a_ring(rt: HostRuntime) -> Result<(), Fail> {
+    let (ring, mut pass) = Ring::<u64>::new(rt.alloc(), 1024, 0)?;
     let mut other = ring.split(&mut pass, 1);
     let (pushed, popped) = thread::join(
         &rt,
@@ -118,6 +119,7 @@ fn two_threads_share_a_ring(rt: HostRuntime) {
         || pop_until(&rt, &ring, &mut other),
     );
     assert!(rt; (pushed, popped) == (Some(0), 42));
+    Ok(())
 }
 
 #[test]
