@@ -2,7 +2,7 @@
 //!
 //! Use it to play a schedule: `World::new` makes the queue, an actor begins a push or a pop, and each `step` makes one
 //! atomic step of the actor's call and answers what it was; `run` plays a list of such calls. The test
-//! `calls_and_their_answers` is an example. The rule is Dmitry Vyukov's (1024cores.net, "Bounded MPMC queue").
+//! `calls_and_their_answers` of `test_queue` is an example. The rule is Dmitry Vyukov's (1024cores.net, "Bounded MPMC queue").
 //!
 //! Contracts see a `World` as a queue of cells in ticket order and the round in which each actor stands; whatever keeps
 //! them is private. Read `specs/Queue.antt` for cells, events and what each is allowed to do, `specs/History.antt` for

@@ -4,7 +4,7 @@
 //! `alog_core` whose actors also make posts, one atomic step at a time, and which counts what they lose; `Desk::outlet`
 //! lends it to one actor for posts that are made at once. A `LossBook` counts losses for any number of threads, and a
 //! `Port` posts on a running ring; `post_wait` waits there under `Block`, as does `post_from`. The tests `overruns_the_oldest`, `posts_at_once`
-//! and `a_lone_port_posts` are examples.
+//! and `a_lone_port_posts` of `test_queue` are examples.
 //!
 //! What a post is, is told by its actor's events alone: rounds that go on, and then one end. Read `specs/Post.antt` for that
 //! definition, `specs/Progress.antt` for the same as a machine, `specs/Outlet.antt` for what an outlet promises,

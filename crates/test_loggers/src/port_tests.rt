@@ -1,11 +1,14 @@
-ghost use Rattle.std.specs.Prelude.{◌≡◌, ◌<◌, length, IfOk, IfSome};
+ghost use Rattle.std.specs.Prelude.{◌≡◌, ◌<◌, length, IfSome};
 ghost use Rattle.alog_registry.specs.Limit.{IsShort};
+ghost use Rattle.alog_policy.specs.BookCalls.{IsSeatOf};
 ghost use Rattle.alog_policy.specs.Port.{IsFit};
 ghost use Rattle.alog_ring.specs.Known.{IsPassOf};
 
-use crate::log_tests::{TEXT_LIMIT, dump_twice, keep_three, log_to_a_full, one, posted};
-use alog_msg::{Item, Level, Message};
-use alog_policy::{LossBook, Outcome, Policy, Port, Why};
+use crate::log_tests::{
+    TEXT_LIMIT, discarded, dump_twice, is_outcome, keep_three, log_to_a_full, one, overran, posted,
+};
+use alog_msg::{Item, Level, Message, MessageError};
+use alog_policy::{BookSeat, LossBook, Outcome, Policy, Port};
 use alog_registry::{Backtrace, LogReply, Loggers, Registry, Spec, TextLimit};
 use alog_ring::{Pass, Ring};
 use std::alloc::Global;
@@ -24,43 +27,62 @@ fn plain(alloc: Global, level: Level) -> Spec {
 }
 
 // Two loggers, `net` as level info and `disk` as level error.
-fn two(rt: &impl Abort, alloc: Global) -> Result<Loggers, Fail>
-    ensures { IfOk result (λ l. 1 < length l) }
+fn two(rt: &impl Abort, alloc: Global) -> Loggers
+    ensures { 1 < length result }
 {
     let mut registry = Registry::new(alloc);
-    assert_eq!(rt;
-        registry.add("net", plain(alloc, Level::Info)).ok(),
-        Some(0)
-    );
-    assert_eq!(rt;
-        registry.add("disk", plain(alloc, Level::Error)).ok(),
-        Some(1)
-    );
+    let net = registry.add("net", plain(alloc, Level::Info)).is_ok();
+    let disk = registry.add("disk", plain(alloc, Level::Error)).is_ok();
     match registry.freeze(alloc) {
         Ok(loggers) => {
-            assert!(rt; loggers.spec(1).is_some());
-            Ok(loggers)
+            assert!(rt; net && disk && loggers.spec(1).is_some());
+            loggers
         }
         Err(_) => panic!(rt; "there is memory"),
     }
 }
 
-// What a log of this level to the logger of this number answers.
-fn said(
+// An empty ring, and its first pass.
+pub(crate) fn ring_of(rt: &impl Abort, alloc: Global, places: usize) -> (Ring<Item>, Pass<Item>)
+    ensures { IsPassOf result.0 result.1 }
+{
+    match Ring::new(alloc, places, 0) {
+        Ok(made) => made,
+        Err(_) => panic!(rt; "no ring of {places} places"),
+    }
+}
+
+// A loss book, and its first seat.
+pub(crate) fn new_book(rt: &impl Abort, alloc: Global) -> (LossBook, BookSeat)
+    ensures { IsSeatOf result.0 result.1 }
+{
+    match LossBook::new(alloc) {
+        Ok(made) => made,
+        Err(_) => panic!(rt; "there is memory"),
+    }
+}
+
+// A log of this level to the logger of this number answers this.
+fn says(
+    rt: &impl Abort,
     loggers: &Loggers,
     alloc: Global,
     port: &mut Port<'_, Item>,
     number: u32,
     level: Level,
-) -> Result<LogReply, Fail>
+    wanted: LogReply,
+)
     requires known { number < length loggers.now }
     requires fit { IsFit port.old }
     ensures fit { IsFit port.new }
 {
-    let mut none = Backtrace::new(alloc, 0)?;
-    Ok(loggers.log_now(
+    let Ok(mut none) = Backtrace::new(alloc, 0) else {
+        panic!(rt; "there is memory")
+    };
+    let reply = loggers.log_now(
         alloc, port, &mut none, TEXT_LIMIT, number, level, 0, 1, "", None,
-    )?)
+    );
+    assert!(rt; reply == Ok(wanted));
 }
 
 fn filtered(level: Level) -> LogReply {
@@ -74,70 +96,113 @@ fn logged(ticket: u64) -> LogReply {
     }
 }
 
-// Each logger filters by its own level, as it was added.
-fn log_by_first_levels(
-    rt: &impl Abort,
-    loggers: &Loggers,
-    alloc: Global,
-    port: &mut Port<'_, Item>,
-) -> Result<(), Fail>
-    requires known { 1 < length loggers.now }
-    requires fit { IsFit port.old }
-    ensures fit { IsFit port.new }
-{
-    let info = filtered(Level::Info);
-    assert_eq!(rt; said(loggers, alloc, port, 0, Level::Trace)?, info);
-    assert_eq!(rt; said(loggers, alloc, port, 0, Level::Warning)?, logged(0));
-    let error = filtered(Level::Error);
-    assert_eq!(rt; said(loggers, alloc, port, 1, Level::Warning)?, error);
-    assert_eq!(rt; said(loggers, alloc, port, 1, Level::Error)?, logged(1));
-    Ok(())
+// The level of this logger is set.
+fn sets(rt: &impl Abort, loggers: &Loggers, number: u32, level: Level) {
+    assert!(rt; loggers.set_level(number, level));
 }
 
 #[test]
-fn each_logger_has_its_level(rt: HostRuntime) -> Result<(), Fail> {
+fn each_logger_has_its_level(rt: HostRuntime) {
     let alloc = rt.alloc();
-    let loggers = two(&rt, alloc)?;
-    let (ring, mut pass) = Ring::<Item>::new(alloc, 4, 0)?;
-    let (book, mut losses) = LossBook::new(alloc)?;
+    let loggers = two(&rt, alloc);
+    let (ring, mut pass) = ring_of(&rt, alloc, 4);
+    let (book, mut losses) = new_book(&rt, alloc);
     let mut port = Port {
         ring: &ring,
         pass: &mut pass,
         book: &book,
         seat: &mut losses,
     };
-    log_by_first_levels(&rt, &loggers, alloc, &mut port)?;
-    assert!(rt; loggers.set_level(1, Level::Off));
-    let off = filtered(Level::Off);
-    let critical = said(&loggers, alloc, &mut port, 1, Level::Critical)?;
-    assert_eq!(rt; critical, off);
-    let info = filtered(Level::Info);
-    let debug = said(&loggers, alloc, &mut port, 0, Level::Debug)?;
-    assert_eq!(rt; debug, info);
-    let critical = said(&loggers, alloc, &mut port, 0, Level::Critical)?;
-    assert_eq!(rt; critical, logged(2));
-    Ok(())
+    let (info, error, off) = (Level::Info, Level::Error, Level::Off);
+    says(
+        &rt,
+        &loggers,
+        alloc,
+        &mut port,
+        0,
+        Level::Trace,
+        filtered(info),
+    );
+    says(
+        &rt,
+        &loggers,
+        alloc,
+        &mut port,
+        0,
+        Level::Warning,
+        logged(0),
+    );
+    says(
+        &rt,
+        &loggers,
+        alloc,
+        &mut port,
+        1,
+        Level::Warning,
+        filtered(error),
+    );
+    says(&rt, &loggers, alloc, &mut port, 1, Level::Error, logged(1));
+    sets(&rt, &loggers, 1, off);
+    says(
+        &rt,
+        &loggers,
+        alloc,
+        &mut port,
+        1,
+        Level::Critical,
+        filtered(off),
+    );
+    says(
+        &rt,
+        &loggers,
+        alloc,
+        &mut port,
+        0,
+        Level::Debug,
+        filtered(info),
+    );
+    says(
+        &rt,
+        &loggers,
+        alloc,
+        &mut port,
+        0,
+        Level::Critical,
+        logged(2),
+    );
 }
 
-// Whether the next item of the ring is this text.
-fn is_next(ring: &Ring<Item>, pass: &mut Pass<Item>, text: &str) -> bool
+// The next item of the ring is this text.
+fn takes(rt: &impl Abort, ring: &Ring<Item>, pass: &mut Pass<Item>, text: &str)
     requires { IsPassOf ring.now pass.old }
     ensures { IsPassOf ring.now pass.new }
 {
-    match ring.pop_once(pass) {
+    let is = match ring.pop_once(pass) {
         Ok((_, Item::Text(message))) => message.text.as_str() == text,
         Ok((_, Item::Flush(_) | Item::Stop)) | Err(_) => false,
-    }
+    };
+    assert!(rt; is, "{text}");
+}
+
+// What a dump of the last two posted is taken, and then a flush.
+fn take_dumped(rt: &impl Abort, ring: &Ring<Item>, pass: &mut Pass<Item>)
+    requires { IsPassOf ring.now pass.old }
+{
+    takes(rt, ring, pass, "=== backtrace start ===");
+    takes(rt, ring, pass, "m2");
+    takes(rt, ring, pass, "m3");
+    takes(rt, ring, pass, "=== backtrace end ===");
+    assert!(rt; matches!(ring.pop_once(pass), Ok((4, Item::Flush(0)))));
 }
 
 #[test]
 fn a_port_logs_dumps_and_flushes(rt: HostRuntime) -> Result<(), Fail> {
     let alloc = rt.alloc();
-    let loggers = one(&rt, alloc, Policy::Block, 2)?;
-    let (ring, mut pass) = Ring::<Item>::new(alloc, 8, 0)?;
-    let (book, mut losses) = LossBook::new(alloc)?;
-    let mut other = ring.split(&mut pass, 1);
     let mut backtrace = Backtrace::new(alloc, 2)?;
+    let loggers = one(&rt, alloc, Policy::Block, 2);
+    let (ring, mut pass) = ring_of(&rt, alloc, 8);
+    let (book, mut losses) = new_book(&rt, alloc);
+    let mut other = ring.split(&mut pass, 1);
     let mut port = Port {
         ring: &ring,
         pass: &mut pass,
@@ -145,53 +210,32 @@ fn a_port_logs_dumps_and_flushes(rt: HostRuntime) -> Result<(), Fail> {
         seat: &mut losses,
     };
     keep_three(&rt, &loggers, alloc, &mut port, &mut backtrace);
-    dump_twice(&rt, &loggers, alloc, &mut port, &mut backtrace)?;
-    assert_eq!(rt; loggers.flush(&mut port, 0), posted(4));
-    assert!(rt; is_next(&ring, &mut other, "=== backtrace start ==="));
-    assert!(rt; is_next(&ring, &mut other, "m2"));
-    assert!(rt; is_next(&ring, &mut other, "m3"));
-    assert!(rt; is_next(&ring, &mut other, "=== backtrace end ==="));
-    assert!(rt; matches!(ring.pop_once(&mut other), Ok((4, Item::Flush(0)))));
+    dump_twice(&rt, &loggers, alloc, &mut port, &mut backtrace);
+    let flushed = loggers.flush(&mut port, 0);
+    is_outcome(&rt, &flushed, &posted(4));
+    take_dumped(&rt, &ring, &mut other);
     Ok(())
 }
 
-// How a log under this policy goes where the ring is full, and how many items are then kept.
-fn when_full(rt: &impl Abort, alloc: Global, policy: Policy) -> Result<(Outcome<()>, usize), Fail> {
-    let loggers = one(rt, alloc, policy, 4)?;
-    let (ring, mut pass) = Ring::<Item>::new(alloc, 2, 0)?;
-    let (book, mut losses) = LossBook::new(alloc)?;
+// How a log goes under this policy where the ring is full.
+fn when_full(rt: &impl Abort, alloc: Global, policy: Policy, outcome: Outcome<()>) {
+    let loggers = one(rt, alloc, policy, 4);
+    let (ring, mut pass) = ring_of(rt, alloc, 2);
+    let (book, mut losses) = new_book(rt, alloc);
     let mut port = Port {
         ring: &ring,
         pass: &mut pass,
         book: &book,
         seat: &mut losses,
     };
-    log_to_a_full(rt, &loggers, alloc, &mut port)
+    log_to_a_full(rt, &loggers, alloc, &mut port, outcome);
 }
 
 #[test]
-fn policies_of_a_full_ring(rt: HostRuntime) -> Result<(), Fail> {
-    let (outcome, kept) = when_full(&rt, rt.alloc(), Policy::DiscardNew)?;
-    let full = Outcome::Discarded {
-        value: (),
-        why: Why::Full,
-        overran: 0,
-    };
-    assert_eq!(rt; (outcome, kept), (full, 1));
-    let (outcome, kept) = when_full(&rt, rt.alloc(), Policy::Block)?;
-    let full = Outcome::Discarded {
-        value: (),
-        why: Why::Full,
-        overran: 0,
-    };
-    assert_eq!(rt; (outcome, kept), (full, 1));
-    let (outcome, kept) = when_full(&rt, rt.alloc(), Policy::OverrunOldest)?;
-    let overran = Outcome::Posted {
-        ticket: 2,
-        overran: 1,
-    };
-    assert_eq!(rt; (outcome, kept), (overran, 1));
-    Ok(())
+fn policies_of_a_full_ring(rt: HostRuntime) {
+    when_full(&rt, rt.alloc(), Policy::DiscardNew, discarded());
+    when_full(&rt, rt.alloc(), Policy::Block, discarded());
+    when_full(&rt, rt.alloc(), Policy::OverrunOldest, overran());
 }
 
 // The next text of a ring, which is as short as the ring says.
@@ -205,15 +249,30 @@ fn next_text(ring: &Ring<Item, TextLimit>, pass: &mut Pass<Item>) -> Option<Mess
     }
 }
 
+// The next text of a ring is this one.
+fn takes_short(rt: &impl Abort, ring: &Ring<Item, TextLimit>, pass: &mut Pass<Item>, text: &str)
+    requires { IsPassOf ring.now pass.old }
+{
+    match next_text(ring, pass) {
+        Some(message) => assert!(rt; message.text.as_str() == text),
+        None => panic!(rt; "there is a text"),
+    }
+}
+
+// What a log answered.
+fn is_reply(rt: &impl Abort, reply: Result<LogReply, MessageError>, wanted: LogReply) {
+    assert!(rt; reply == Ok(wanted));
+}
+
 #[test]
 fn a_ring_of_short_texts(rt: HostRuntime) -> Result<(), Fail> {
     let alloc = rt.alloc();
-    let loggers = one(&rt, alloc, Policy::Block, 1)?;
+    let mut backtrace = Backtrace::limited(alloc, 1, TEXT_LIMIT)?;
     let limit = TextLimit { most: TEXT_LIMIT };
     let (ring, mut pass) = Ring::limited(alloc, 4, 0, limit)?;
-    let (book, mut losses) = LossBook::new(alloc)?;
+    let loggers = one(&rt, alloc, Policy::Block, 1);
+    let (book, mut losses) = new_book(&rt, alloc);
     let mut other = ring.split(&mut pass, 1);
-    let mut backtrace = Backtrace::limited(alloc, 1, TEXT_LIMIT)?;
     let mut port = Port {
         ring: &ring,
         pass: &mut pass,
@@ -231,15 +290,16 @@ fn a_ring_of_short_texts(rt: HostRuntime) -> Result<(), Fail> {
         1,
         "m1",
         None,
-    )?;
-    assert_eq!(rt;
+    );
+    let outcome = posted(0);
+    is_reply(
+        &rt,
         reply,
         LogReply::Logged {
-            outcome: posted(0),
-            kept: true
-        }
+            outcome,
+            kept: true,
+        },
     );
-    let message = next_text(&ring, &mut other).expect(&rt, "a text");
-    assert_eq!(rt; message.text.as_str(), "m1");
+    takes_short(&rt, &ring, &mut other, "m1");
     Ok(())
 }

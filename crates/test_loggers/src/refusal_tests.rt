@@ -3,7 +3,7 @@ ghost use Rattle.std.specs.Prelude.{◌≤◌, ◌<◌, length};
 ghost use Rattle.alog_registry.specs.Limit.{AdmitsShort};
 ghost use Rattle.test_loggers.specs.declared.log_tests.TheConstants.{TEXT_LIMIT};
 
-use crate::log_tests::{TEXT_LIMIT, Words, at_level, filtered, one, tells};
+use crate::log_tests::{TEXT_LIMIT, Words, at_level, desk_of, filtered, one, tells};
 use alog_msg::{Item, Level, MessageError, SourceRef};
 use alog_policy::{Desk, Policy};
 use alog_registry::{Backtrace, Carry, Loggers};
@@ -68,6 +68,25 @@ fn looks_at_none_below<O: Carry>(
     tells(rt, bare, alloc, outlet, none, info, text);
 }
 
+// Actor 1 logs what is refused: by a logger that keeps one message, and by one that keeps none.
+fn log_refused(
+    rt: &impl Abort,
+    loggers: &Loggers,
+    bare: &Loggers,
+    alloc: Global,
+    desk: &mut Desk<Item>,
+    long: Words<'_>,
+) -> Result<(), Fail>
+    requires { (0 < length loggers.now) × (0 < length bare.now) }
+{
+    let mut kept = Backtrace::new(alloc, 1)?;
+    let mut none = Backtrace::new(alloc, 0)?;
+    let mut outlet = desk.outlet(1)?;
+    refuses(rt, loggers, alloc, &mut outlet, &mut kept, long);
+    looks_at_none_below(rt, bare, alloc, &mut outlet, &mut none, long);
+    Ok(())
+}
+
 #[test]
 fn refused_messages(rt: HostRuntime) -> Result<(), Fail> {
     let alloc = rt.alloc();
@@ -80,12 +99,8 @@ fn refused_messages(rt: HostRuntime) -> Result<(), Fail> {
         }),
         ..at_level(Level::Debug, text.as_str())
     };
-    let loggers = one(&rt, alloc, Policy::Block, 1)?;
-    let mut desk = Desk::<Item>::new(alloc, 2, 0)?;
-    let (mut kept, mut none) = (Backtrace::new(alloc, 1)?, Backtrace::new(alloc, 0)?);
-    let mut outlet = desk.outlet(1)?;
-    refuses(&rt, &loggers, alloc, &mut outlet, &mut kept, long);
-    let bare = one(&rt, alloc, Policy::Block, 0)?;
-    looks_at_none_below(&rt, &bare, alloc, &mut outlet, &mut none, long);
-    Ok(())
+    let loggers = one(&rt, alloc, Policy::Block, 1);
+    let bare = one(&rt, alloc, Policy::Block, 0);
+    let mut desk = desk_of(&rt, alloc, 2);
+    log_refused(&rt, &loggers, &bare, alloc, &mut desk, long)
 }

@@ -2,110 +2,120 @@ ghost use Rattle.std.specs.Prelude.{IfOk};
 ghost use Rattle.alog_registry.specs.Limit.{IsShort};
 
 use alog_lane::Lane;
-use alog_msg::{Item, Level, MOST_TEXT_LIMIT, Message};
+use alog_msg::{Item, Level, MOST_TEXT_LIMIT, Message, MessageError};
 use alog_policy::Policy;
 use alog_registry::{
     AddError, Backtrace, BacktraceError, BacktraceItem, BacktraceReply, BacktraceScratch, Dumped,
     Loggers, RefusedSpec, Registry, SinkDeed, SinkTurn, Spec,
 };
-use std::alloc::{AllocError, Global};
+use std::alloc::Global;
 use std::process::Abort;
 use std::test::Fail;
-use std::thread;
+use std::thread::{self, Threads};
 
-fn spec(alloc: Global, backtrace: usize) -> Result<Spec, AllocError> {
-    Ok(Spec {
+fn spec(rt: &impl Abort, alloc: Global, backtrace: usize) -> Spec {
+    let Ok(sinks) = Vec::from_slice(alloc, &[3, 1]) else {
+        panic!(rt; "there is memory")
+    };
+    Spec {
         level: Level::Info,
         policy: Policy::Block,
         flush_on: Level::Error,
         backtrace,
-        sinks: Vec::from_slice(alloc, &[3, 1])?,
-    })
+        sinks,
+    }
 }
 
-// Why a logger of this name and backtrace is refused.
-fn refusal(
+// A logger of this name and backtrace is added, and gets this number.
+fn adds(
+    rt: &impl Abort,
     alloc: Global,
     registry: &mut Registry,
     name: &str,
     backtrace: usize,
-) -> Result<Option<AddError>, AllocError> {
-    match registry.add(name, spec(alloc, backtrace)?) {
-        Ok(_) => Ok(None),
+    number: u32,
+) {
+    let added = registry.add(name, spec(rt, alloc, backtrace)).ok();
+    assert!(rt; added == Some(number), "{name}");
+}
+
+// A logger of this name and backtrace is refused so, and its spec comes back.
+fn refuses(
+    rt: &impl Abort,
+    alloc: Global,
+    registry: &mut Registry,
+    name: &str,
+    backtrace: usize,
+    wanted: AddError,
+) {
+    match registry.add(name, spec(rt, alloc, backtrace)) {
+        Ok(_) => panic!(rt; "it is refused"),
         Err(RefusedSpec { fault, spec }) => {
             let back = spec.backtrace == backtrace && spec.sinks.as_slice() == [3, 1].as_slice();
-            Ok(if back { Some(fault) } else { None })
+            assert!(rt; back && fault == wanted, "{name}");
         }
     }
 }
 
-fn letters(alloc: Global, count: usize) -> Result<String, AllocError> {
-    let mut text = String::new(alloc);
-    for _ in 0..count {
-        text.push('a')?;
+// The logger of this name has this number.
+fn finds(rt: &impl Abort, registry: &Registry, name: &str, wanted: Option<u32>) {
+    assert!(rt; registry.find(name) == wanted, "{name}");
+}
+
+#[test]
+fn loggers_by_name(rt: HostRuntime) {
+    let mut registry = Registry::new(rt.alloc());
+    adds(&rt, rt.alloc(), &mut registry, "net", 0, 0);
+    adds(&rt, rt.alloc(), &mut registry, "db", 4_096, 1);
+    for (name, wanted) in [
+        ("db", Some(1)),
+        ("net", Some(0)),
+        ("d", None),
+        ("dbs", None),
+        ("", None),
+    ] {
+        finds(&rt, &registry, name, wanted);
     }
-    Ok(text)
 }
 
-#[test]
-fn loggers_by_name(rt: HostRuntime) -> Result<(), Fail> {
-    let alloc = rt.alloc();
-    let mut registry = Registry::new(alloc);
-    assert_eq!(rt; registry.add("net", spec(alloc, 0)?).ok(), Some(0));
-    assert_eq!(rt; registry.add("db", spec(alloc, 4_096)?).ok(), Some(1));
-    assert_eq!(rt; registry.find("db"), Some(1));
-    assert_eq!(rt; registry.find("net"), Some(0));
-    assert_eq!(rt; registry.find("d"), None);
-    assert_eq!(rt; registry.find("dbs"), None);
-    assert_eq!(rt; registry.find(""), None);
-    Ok(())
-}
+const LONGEST: &str = "0123456789abcdef0123456789abcdef0123456789abcdef0123456789abcdef";
+
+const TOO_LONG: &str = "0123456789abcdef0123456789abcdef0123456789abcdef0123456789abcdef!";
 
 #[test]
-fn refusals_in_order(rt: HostRuntime) -> Result<(), Fail> {
-    let alloc = rt.alloc();
-    let mut registry = Registry::new(alloc);
-    let (long, longest) = (letters(alloc, 65)?, letters(alloc, 64)?);
-    assert_eq!(rt; refusal(alloc, &mut registry, "net", 0)?, None);
-    assert_eq!(rt;
-        refusal(alloc, &mut registry, long.as_str(), 4_097)?,
-        Some(AddError::FieldTooLong)
-    );
-    assert_eq!(rt;
-        refusal(alloc, &mut registry, "net", 4_097)?,
-        Some(AddError::NameTaken)
-    );
-    assert_eq!(rt;
-        refusal(alloc, &mut registry, "db", 4_097)?,
-        Some(AddError::BadLimit)
-    );
-    assert_eq!(rt; registry.find("db"), None);
-    assert_eq!(rt;
-        refusal(alloc, &mut registry, longest.as_str(), 4_096)?,
-        None
-    );
-    assert_eq!(rt; registry.find(longest.as_str()), Some(1));
-    Ok(())
-}
-
-#[test]
-fn no_257th_logger(rt: HostRuntime) -> Result<(), Fail> {
-    let alloc = rt.alloc();
-    let mut registry = Registry::new(alloc);
-    for i in 0..256u32 {
-        let name = format!(in alloc; "{i}")?;
-        assert_eq!(rt; registry.add(name.as_str(), spec(alloc, 0)?).ok(), Some(i));
+fn refusals_in_order(rt: HostRuntime) {
+    let mut registry = Registry::new(rt.alloc());
+    adds(&rt, rt.alloc(), &mut registry, "net", 0, 0);
+    for (name, wanted) in [
+        (TOO_LONG, AddError::FieldTooLong),
+        ("net", AddError::NameTaken),
+        ("db", AddError::BadLimit),
+    ] {
+        refuses(&rt, rt.alloc(), &mut registry, name, 4_097, wanted);
     }
-    assert_eq!(rt;
-        refusal(alloc, &mut registry, "256", 4_097)?,
-        Some(AddError::TooMany)
-    );
-    assert_eq!(rt;
-        refusal(alloc, &mut registry, "255", 0)?,
-        Some(AddError::NameTaken)
-    );
-    assert_eq!(rt; registry.find("255"), Some(255));
-    Ok(())
+    finds(&rt, &registry, "db", None);
+    adds(&rt, rt.alloc(), &mut registry, LONGEST, 4_096, 1);
+    finds(&rt, &registry, LONGEST, Some(1));
+}
+
+// The logger of this number is added, with its number as its name.
+fn adds_by_number(rt: &impl Abort, alloc: Global, registry: &mut Registry, number: u32) {
+    match format!(in alloc; "{number}") {
+        Ok(name) => adds(rt, alloc, registry, name.as_str(), 0, number),
+        Err(_) => panic!(rt; "there is memory"),
+    }
+}
+
+#[test]
+fn no_257th_logger(rt: HostRuntime) {
+    let mut registry = Registry::new(rt.alloc());
+    for number in 0..256u32 {
+        adds_by_number(&rt, rt.alloc(), &mut registry, number);
+    }
+    let (many, taken) = (AddError::TooMany, AddError::NameTaken);
+    refuses(&rt, rt.alloc(), &mut registry, "256", 4_097, many);
+    refuses(&rt, rt.alloc(), &mut registry, "255", 0, taken);
+    finds(&rt, &registry, "255", Some(255));
 }
 
 fn frozen(rt: &impl Abort, alloc: Global, registry: Registry) -> Loggers {
@@ -115,68 +125,91 @@ fn frozen(rt: &impl Abort, alloc: Global, registry: Registry) -> Loggers {
     }
 }
 
-#[test]
-fn levels_are_set(rt: HostRuntime) -> Result<(), Fail> {
-    let alloc = rt.alloc();
-    let mut registry = Registry::new(alloc);
-    assert!(rt; registry.add("net", spec(alloc, 2)?).is_ok());
-    assert!(rt; registry.add("db", spec(alloc, 0)?).is_ok());
-    assert_eq!(rt; registry.level(1), Some(Level::Info));
-    assert!(rt; registry.set_level(1, Level::Debug));
-    assert!(rt; !registry.set_level(9, Level::Debug));
-    assert_eq!(rt;
-        (registry.level(0), registry.level(1)),
-        (Some(Level::Info), Some(Level::Debug))
-    );
-    assert_eq!(rt; registry.level(2), None);
-    let loggers = frozen(&rt, alloc, registry);
-    assert_eq!(rt; (loggers.find("db"), loggers.find("b")), (Some(1), None));
-    assert_eq!(rt;
-        (loggers.level(0), loggers.level(1)),
-        (Some(Level::Info), Some(Level::Debug))
-    );
-    assert!(rt; loggers.set_level(0, Level::Off));
-    assert!(rt; !loggers.set_level(9, Level::Debug));
-    assert_eq!(rt;
-        (loggers.level(0), loggers.level(1)),
-        (Some(Level::Off), Some(Level::Debug))
-    );
-    assert_eq!(rt; (loggers.level(2), loggers.spec(2).is_none()), (None, true));
+// The first loggers have these levels, and there is no further one.
+fn added_with(rt: &impl Abort, registry: &Registry, levels: [Level; 2]) {
+    for (number, level) in [Some(levels[0]), Some(levels[1]), None].iter().enumerate() {
+        assert!(rt; registry.level(number as u32) == *level, "{number}");
+    }
+}
+
+// The same of loggers that are shared.
+fn have_levels(rt: &impl Abort, loggers: &Loggers, levels: [Level; 2]) {
+    for (number, level) in [Some(levels[0]), Some(levels[1]), None].iter().enumerate() {
+        assert!(rt; loggers.level(number as u32) == *level, "{number}");
+        assert!(rt;
+            loggers.spec(number as u32).is_some() == level.is_some(),
+            "{number}"
+        );
+    }
+}
+
+// The level of this logger is set, if there is one.
+fn sets_added(rt: &impl Abort, registry: &mut Registry, number: u32, level: Level, is: bool) {
+    assert!(rt; registry.set_level(number, level) == is, "{number}");
+}
+
+fn sets(rt: &impl Abort, loggers: &Loggers, number: u32, level: Level, is: bool) {
+    assert!(rt; loggers.set_level(number, level) == is, "{number}");
+}
+
+// Logger 0 was set up at level info, with a backtrace of two, and logger 1 is `db`.
+fn are_as_added(rt: &impl Abort, loggers: &Loggers) {
     let Some(first) = loggers.spec(0) else {
         panic!(rt; "there is a logger 0")
     };
-    assert_eq!(rt; (first.level, first.backtrace), (Level::Info, 2));
-    Ok(())
+    assert!(rt; first.level == Level::Info && first.backtrace == 2);
+    assert!(rt; loggers.find("db") == Some(1) && loggers.find("b").is_none());
 }
 
 #[test]
-fn each_level_is_read_back(rt: HostRuntime) -> Result<(), Fail> {
-    let alloc = rt.alloc();
-    let mut registry = Registry::new(alloc);
-    assert!(rt; registry.add("net", spec(alloc, 0)?).is_ok());
-    let loggers = frozen(&rt, alloc, registry);
+fn levels_are_set(rt: HostRuntime) {
+    let mut registry = Registry::new(rt.alloc());
+    adds(&rt, rt.alloc(), &mut registry, "net", 2, 0);
+    adds(&rt, rt.alloc(), &mut registry, "db", 0, 1);
+    added_with(&rt, &registry, [Level::Info, Level::Info]);
+    sets_added(&rt, &mut registry, 1, Level::Debug, true);
+    sets_added(&rt, &mut registry, 9, Level::Debug, false);
+    added_with(&rt, &registry, [Level::Info, Level::Debug]);
+    let loggers = frozen(&rt, rt.alloc(), registry);
+    have_levels(&rt, &loggers, [Level::Info, Level::Debug]);
+    sets(&rt, &loggers, 0, Level::Off, true);
+    sets(&rt, &loggers, 9, Level::Debug, false);
+    have_levels(&rt, &loggers, [Level::Off, Level::Debug]);
+    are_as_added(&rt, &loggers);
+}
+
+// Sets the level of logger 0 to the one of this name, while another thread reads it.
+fn sets_beside_a_reader(rt: &(impl Abort + Threads), loggers: &Loggers, name: &str) {
+    let Some(level) = Level::read(name) else {
+        panic!(rt; "a level's name")
+    };
+    let (set, read) = thread::join(
+        rt,
+        || loggers.set_level(0, level),
+        || loggers.level(0).is_some(),
+    );
+    assert!(rt; set && read && loggers.level(0) == Some(level), "{name}");
+}
+
+#[test]
+fn each_level_is_read_back(rt: HostRuntime) {
+    let mut registry = Registry::new(rt.alloc());
+    adds(&rt, rt.alloc(), &mut registry, "net", 0, 0);
+    let loggers = frozen(&rt, rt.alloc(), registry);
     for name in [
         "trace", "debug", "info", "warning", "error", "critical", "off",
     ] {
-        let level = Level::read(name).expect(&rt, "a level's name");
-        let (set, read) = thread::join(
-            &rt,
-            || loggers.set_level(0, level),
-            || loggers.level(0).is_some(),
-        );
-        assert!(rt; set && read);
-        assert_eq!(rt; loggers.level(0), Some(level));
+        sets_beside_a_reader(&rt, &loggers, name);
     }
-    Ok(())
 }
 
-fn message(alloc: Global, level: Level, text: &str) -> Result<Message, Fail>
+fn message(alloc: Global, level: Level, text: &str) -> Result<Message, MessageError>
     ensures { IfOk result (λ m. IsShort 64 m) }
 {
-    Ok(Message::new(alloc, 64, 0, level, 5, 1, text, None)?)
+    Message::new(alloc, 64, 0, level, 5, 1, text, None)
 }
 
-fn debug(alloc: Global, text: &str) -> Result<Message, Fail>
+fn debug(alloc: Global, text: &str) -> Result<Message, MessageError>
     ensures { IfOk result (λ m. IsShort 64 m) }
 {
     message(alloc, Level::Debug, text)
@@ -254,31 +287,49 @@ fn turn(sink: u32, deed: SinkDeed) -> Option<SinkTurn> {
     Some(SinkTurn { sink, tag: 7, deed })
 }
 
+// A text of this level makes these turns, from this place on.
+fn text_turns(
+    rt: &impl Abort,
+    alloc: Global,
+    level: Level,
+    from: usize,
+    turns: &[Option<SinkTurn>],
+) {
+    let Ok(message) = message(alloc, level, "text") else {
+        panic!(rt; "there is memory")
+    };
+    item_turns(rt, alloc, &Item::Text(message), from, turns);
+}
+
+// An item makes these turns, from this place on, by the work of a logger whose sinks are 3 and 1.
+fn item_turns(
+    rt: &impl Abort,
+    alloc: Global,
+    item: &Item,
+    from: usize,
+    turns: &[Option<SinkTurn>],
+) {
+    let spec = spec(rt, alloc, 0);
+    for (i, wanted) in turns.iter().enumerate() {
+        let place = from.saturating_add(i);
+        assert!(rt; spec.turn_of_work(7, item, place) == *wanted, "{place}");
+    }
+}
+
 #[test]
-fn turns_of_a_work(rt: HostRuntime) -> Result<(), Fail> {
+fn turns_of_a_work(rt: HostRuntime) {
     let alloc = rt.alloc();
-    let spec = spec(alloc, 0)?;
-    let bad = Item::Text(message(alloc, Level::Error, "bad")?);
-    let turns = [
-        turn(3, SinkDeed::Take),
-        turn(1, SinkDeed::Take),
-        turn(3, SinkDeed::Flush),
-        turn(1, SinkDeed::Flush),
+    let (take, flush) = (SinkDeed::Take, SinkDeed::Flush);
+    let bad = [
+        turn(3, take),
+        turn(1, take),
+        turn(3, flush),
+        turn(1, flush),
         None,
     ];
-    for place in 0..5 {
-        assert_eq!(rt; spec.turn_of_work(7, &bad, place), turns[place]);
-    }
-    for level in [Level::Warning, Level::Off] {
-        let text = Item::Text(message(alloc, level, "text")?);
-        assert_eq!(rt; spec.turn_of_work(7, &text, 1), turn(1, SinkDeed::Take));
-        assert_eq!(rt; spec.turn_of_work(7, &text, 2), None);
-    }
-    assert_eq!(rt;
-        spec.turn_of_work(7, &Item::Flush(0), 1),
-        turn(1, SinkDeed::Flush)
-    );
-    assert_eq!(rt; spec.turn_of_work(7, &Item::Flush(0), 2), None);
-    assert_eq!(rt; spec.turn_of_work(7, &Item::Stop, 0), None);
-    Ok(())
+    text_turns(&rt, alloc, Level::Error, 0, &bad);
+    text_turns(&rt, alloc, Level::Warning, 1, &[turn(1, take), None]);
+    text_turns(&rt, alloc, Level::Off, 1, &[turn(1, take), None]);
+    item_turns(&rt, alloc, &Item::Flush(0), 1, &[turn(1, flush), None]);
+    item_turns(&rt, alloc, &Item::Stop, 0, &[None]);
 }

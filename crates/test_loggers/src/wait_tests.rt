@@ -3,12 +3,12 @@ ghost use Rattle.alog_msg.specs.declared.limits.TheConstants.{LEAST_TEXT_LIMIT};
 ghost use Rattle.alog_policy.specs.Port.{IsFit};
 ghost use Rattle.alog_registry.specs.LaneKeeper.{IsSeated, HasList};
 
-use crate::log_tests::{TEXT_LIMIT, one, posted};
+use crate::log_tests::{TEXT_LIMIT, are_posted, one, posted};
+use crate::port_tests::{new_book, ring_of};
 use alog_lane::Lane;
 use alog_msg::{Item, Level, MOST_TEXT_LIMIT};
-use alog_policy::{LossBook, Outcome, Policy, Port, Why};
+use alog_policy::{Outcome, Policy, Port, Why};
 use alog_registry::{Backtrace, BacktraceScratch, Dumped, LaneKeeper, LogReply, Loggers};
-use alog_ring::Ring;
 use std::alloc::Global;
 use std::process::Abort;
 use std::sync::Wait;
@@ -111,20 +111,39 @@ fn dump_to_a_full_queue<R: Wait + Clock + Abort>(
     Ok(())
 }
 
+// No dump is made of what was not kept.
+fn dumps_nothing<R: Wait + Clock + Abort>(
+    rt: &R,
+    loggers: &Loggers,
+    alloc: Global,
+    port: &mut Port<'_, Item>,
+    keeper: &mut LaneKeeper<'_>,
+)
+    requires known { 0 < length loggers.now }
+    requires fit { IsFit port.old }
+    requires seated { IsSeated keeper.old × HasList keeper.old }
+    requires limit { LEAST_TEXT_LIMIT ≤ keeper.old.lane.now.first.limit }
+    ensures fit { IsFit port.new }
+    ensures seated { IsSeated keeper.new × HasList keeper.new × (keeper.new.lane ≡ keeper.old.lane) }
+{
+    let none = loggers.dump_shared(rt, alloc, port, keeper, 0, 5, 7);
+    are_posted(rt, none, &[]);
+}
+
 #[test]
 fn logs_with_waiting(rt: HostRuntime) -> Result<(), Fail> {
     let alloc = rt.alloc();
-    let loggers = one(&rt, alloc, Policy::Block, 2)?;
-    let (ring, mut pass) = Ring::<Item>::new(alloc, 8, 0)?;
-    let (book, mut losses) = LossBook::new(alloc)?;
-    let (lane, mut seat) = match Lane::new(alloc, Backtrace::new(alloc, 2)?) {
-        Ok(made) => made,
-        Err(_) => panic!(rt; "there is memory"),
-    };
     let mut scratch = BacktraceScratch {
         message: None,
         list: Some(Dumped::new(alloc, 2, MOST_TEXT_LIMIT)?),
     };
+    let (lane, mut seat) = match Lane::new(alloc, Backtrace::new(alloc, 2)?) {
+        Ok(made) => made,
+        Err(_) => panic!(rt; "there is memory"),
+    };
+    let loggers = one(&rt, alloc, Policy::Block, 2);
+    let (ring, mut pass) = ring_of(&rt, alloc, 8);
+    let (book, mut losses) = new_book(&rt, alloc);
     let mut port = Port {
         ring: &ring,
         pass: &mut pass,
@@ -136,12 +155,7 @@ fn logs_with_waiting(rt: HostRuntime) -> Result<(), Fail> {
         seat: &mut seat,
         scratch: &mut scratch,
     };
-    let none = loggers.dump_shared(&rt, alloc, &mut port, &mut keeper, 0, 5, 7)?;
-    assert!(rt; none.is_empty());
+    dumps_nothing(&rt, &loggers, alloc, &mut port, &mut keeper);
     log_and_dump(&rt, &loggers, alloc, &mut port, &mut keeper)?;
-    dump_to_a_full_queue(&rt, &loggers, alloc, &mut port, &mut keeper)?;
-    drop(port);
-    drop(keeper);
-    assert!(rt; scratch.list.is_some());
-    Ok(())
+    dump_to_a_full_queue(&rt, &loggers, alloc, &mut port, &mut keeper)
 }

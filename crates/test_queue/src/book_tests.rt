@@ -4,6 +4,7 @@ ghost use Rattle.alog_policy.specs.BookCalls.{IsSeatOf};
 
 use alog_policy::{ALL_PARTS, BookSeat, Counts, LossBook, SeatsOut};
 use std::alloc::{AllocError, Global};
+use std::process::Abort;
 use std::test::Fail;
 use std::thread::{self, Threads};
 
@@ -11,17 +12,67 @@ fn losses(overrun: u64, discarded: u64) -> Counts {
     Counts { overrun, discarded }
 }
 
+// A book counts so many losses.
+fn has(rt: &impl Abort, book: &LossBook, seat: &mut BookSeat, wanted: Counts)
+    requires { IsSeatOf book.now seat.old }
+    ensures { IsSeatOf book.now seat.new }
+{
+    assert!(rt; book.counts(seat) == wanted);
+}
+
+// It is closed with so many.
+fn closes(rt: &impl Abort, book: LossBook, seat: BookSeat, wanted: Counts)
+    requires { IsSeatOf book seat }
+{
+    assert!(rt; book.close(seat).ok() == Some(wanted));
+}
+
+// A seat is out, and so it is not closed.
+fn stays(rt: &impl Abort, alloc: Global, book: LossBook, seat: BookSeat) -> (LossBook, BookSeat)
+    requires { IsSeatOf book seat }
+    ensures { IsSeatOf result.0 result.1 }
+{
+    match book.close(seat) {
+        Ok(_) => panic!(rt; "a seat is out"),
+        Err(out) => {
+            is_told(rt, alloc, &out);
+            let SeatsOut { book, seat } = out;
+            (book, seat)
+        }
+    }
+}
+
+fn is_told(rt: &impl Abort, alloc: Global, out: &SeatsOut) {
+    match (format!(in alloc; "{out}"), format!(in alloc; "{out:?}")) {
+        (Ok(shown), Ok(debug)) => {
+            let is = shown.as_str() == "not all seats are here";
+            assert!(rt; is && debug.as_str() == "SeatsOut { .. }");
+        }
+        _ => panic!(rt; "there is memory"),
+    }
+}
+
+// The seats have so many parts.
+fn have_parts(rt: &impl Abort, seats: &[&BookSeat], wanted: &[u64]) {
+    assert!(rt;
+        seats
+            .iter()
+            .map(|seat| seat.parts())
+            .eq(wanted.iter().copied())
+    );
+}
+
 #[test]
 fn counts_losses(rt: HostRuntime) -> Result<(), Fail> {
     let (book, mut seat) = LossBook::new(rt.alloc())?;
-    assert_eq!(rt; seat.parts(), ALL_PARTS);
-    assert_eq!(rt; book.counts(&mut seat), losses(0, 0));
+    have_parts(&rt, &[&seat], &[ALL_PARTS]);
+    has(&rt, &book, &mut seat, losses(0, 0));
     book.overran(&mut seat);
-    assert_eq!(rt; book.counts(&mut seat), losses(1, 0));
+    has(&rt, &book, &mut seat, losses(1, 0));
     book.discarded(&mut seat);
     book.discarded(&mut seat);
-    assert_eq!(rt; book.counts(&mut seat), losses(1, 2));
-    assert_eq!(rt; book.close(seat).ok(), Some(losses(1, 2)));
+    has(&rt, &book, &mut seat, losses(1, 2));
+    closes(&rt, book, seat, losses(1, 2));
     Ok(())
 }
 
@@ -29,19 +80,14 @@ fn counts_losses(rt: HostRuntime) -> Result<(), Fail> {
 fn seats_split_and_join(rt: HostRuntime) -> Result<(), Fail> {
     let (book, mut seat) = LossBook::new(rt.alloc())?;
     let mut other = book.split(&mut seat, 1);
-    assert_eq!(rt; (seat.parts(), other.parts()), (ALL_PARTS - 1, 1));
+    have_parts(&rt, &[&seat, &other], &[ALL_PARTS - 1, 1]);
     book.overran(&mut seat);
     book.discarded(&mut other);
-    assert_eq!(rt; book.counts(&mut other), losses(1, 1));
-    let Err(out) = book.close(seat) else {
-        panic!(rt; "a seat is out")
-    };
-    assert!(rt; format!(in rt.alloc(); "{out}")?.as_str() == "not all seats are here");
-    assert!(rt; format!(in rt.alloc(); "{out:?}")?.as_str() == "SeatsOut { .. }");
-    let SeatsOut { book, mut seat } = out;
+    has(&rt, &book, &mut other, losses(1, 1));
+    let (book, mut seat) = stays(&rt, rt.alloc(), book, seat);
     book.join(&mut seat, other);
-    assert_eq!(rt; seat.parts(), ALL_PARTS);
-    assert_eq!(rt; book.close(seat).ok(), Some(losses(1, 1)));
+    have_parts(&rt, &[&seat], &[ALL_PARTS]);
+    closes(&rt, book, seat, losses(1, 1));
     Ok(())
 }
 

@@ -4,241 +4,258 @@ ghost use Rattle.alog_policy.specs.DeskOutlet.{IsFree, DeskDid};
 ghost use Rattle.alog_policy.specs.Outlet.{PostsNow};
 ghost use Rattle.alog_policy.specs.declared.policy.Policy.TheVariants as under;
 
-use alog_core::{BeginError, CellView, LAST_TICKET, Mark, Said, StepError, WorldError};
+use alog_core::{BeginError, LAST_TICKET, Mark, Said, StepError, WorldError};
 use alog_policy::{Counts, Desk, Outcome, Policy, Stepped, Why, post_now, runs_are_cut};
 use std::alloc::Global;
 use std::process::Abort;
 use std::test::Fail;
 
+// A new desk.
+fn new_desk(rt: &impl Abort, alloc: Global, places: usize, first: u64) -> Desk<char> {
+    match Desk::new(alloc, places, first) {
+        Ok(desk) => desk,
+        Err(_) => panic!(rt; "no desk of {places} places from {first}"),
+    }
+}
+
 // The next event of an actor, and how its post ended if it did.
 fn event(rt: &impl Abort, desk: &mut Desk<char>, actor: u32) -> Stepped<char> {
     for _ in 0..4 {
-        let stepped = desk.step(actor).expect(rt, "the actor is in a call");
-        if stepped.said != Said::Nothing {
-            return stepped;
+        match desk.step(actor) {
+            Ok(
+                Stepped {
+                    said: Said::Nothing,
+                    ..
+                },
+            ) => {}
+            Ok(stepped) => return stepped,
+            Err(_) => panic!(rt; "the actor is in a call"),
         }
     }
     panic!(rt; "each round has an event within four steps")
 }
 
-// The next event of an actor, which ends no post.
-fn said(rt: &impl Abort, desk: &mut Desk<char>, actor: u32) -> Said<char> {
+// The next event of an actor is this, which ends no post.
+fn says(rt: &impl Abort, desk: &mut Desk<char>, actor: u32, wanted: Said<char>) {
     let Stepped { said, outcome } = event(rt, desk, actor);
-    assert_eq!(rt; outcome, None);
-    said
+    assert!(rt; said == wanted && outcome.is_none());
+}
+
+// The next event of an actor is this, and ends its post so.
+fn ends(
+    rt: &impl Abort,
+    desk: &mut Desk<char>,
+    actor: u32,
+    wanted: Said<char>,
+    ended: Outcome<char>,
+) {
+    let Stepped { said, outcome } = event(rt, desk, actor);
+    assert!(rt; said == wanted && outcome == Some(ended));
+}
+
+// A post begins.
+fn begins(rt: &impl Abort, desk: &mut Desk<char>, actor: u32, policy: Policy, value: char) {
+    assert!(rt; desk.begin_post(actor, policy, value).is_ok());
+}
+
+// A push begins, and a pop.
+fn begins_push(rt: &impl Abort, desk: &mut Desk<char>, actor: u32, item: char) {
+    assert!(rt; desk.begin_push(actor, item).is_ok());
+}
+
+fn begins_pop(rt: &impl Abort, desk: &mut Desk<char>, actor: u32) {
+    assert!(rt; desk.begin_pop(actor).is_ok());
 }
 
 // A whole push, and a whole pop.
 fn push(rt: &impl Abort, desk: &mut Desk<char>, actor: u32, item: char, ticket: u64) {
-    assert!(rt; desk.begin_push(actor, item).is_ok());
-    assert_eq!(rt; said(rt, desk, actor), Said::Claim(ticket));
-    assert_eq!(rt; said(rt, desk, actor), Said::Write(ticket));
+    begins_push(rt, desk, actor, item);
+    says(rt, desk, actor, Said::Claim(ticket));
+    says(rt, desk, actor, Said::Write(ticket));
 }
 
 fn pop(rt: &impl Abort, desk: &mut Desk<char>, actor: u32, item: char, ticket: u64) {
-    assert!(rt; desk.begin_pop(actor).is_ok());
-    assert_eq!(rt; said(rt, desk, actor), Said::Grab(ticket));
-    assert_eq!(rt; said(rt, desk, actor), Said::Take(ticket, item));
+    begins_pop(rt, desk, actor);
+    says(rt, desk, actor, Said::Grab(ticket));
+    says(rt, desk, actor, Said::Take(ticket, item));
 }
 
-fn counts(overrun: u64, discarded: u64) -> Counts {
-    Counts { overrun, discarded }
+// So much was lost.
+fn has_lost(rt: &impl Abort, desk: &Desk<char>, overrun: u64, discarded: u64) {
+    assert!(rt; desk.counts() == Counts { overrun, discarded });
+}
+
+// The actor is in no call.
+fn is_done(rt: &impl Abort, desk: &mut Desk<char>, actor: u32) {
+    assert!(rt; desk.step(actor) == Err(StepError::NotInCall));
+}
+
+fn posted(ticket: u64, overran: u64) -> Outcome<char> {
+    Outcome::Posted { ticket, overran }
+}
+
+fn discarded(value: char, why: Why) -> Outcome<char> {
+    Outcome::Discarded {
+        value,
+        why,
+        overran: 0,
+    }
 }
 
 #[test]
-fn overruns_the_oldest(rt: HostRuntime) -> Result<(), Fail> {
-    let mut desk = Desk::new(rt.alloc(), 2, 0)?;
+fn overruns_the_oldest(rt: HostRuntime) {
+    let mut desk = new_desk(&rt, rt.alloc(), 2, 0);
     push(&rt, &mut desk, 1, 'a', 0);
     push(&rt, &mut desk, 2, 'b', 1);
-    assert!(rt; desk.begin_post(3, Policy::OverrunOldest, 'c').is_ok());
-    assert_eq!(rt; said(&rt, &mut desk, 3), Said::Full(2, None));
-    assert_eq!(rt; said(&rt, &mut desk, 3), Said::Grab(0));
-    assert_eq!(rt; desk.counts(), counts(0, 0));
-    assert_eq!(rt; said(&rt, &mut desk, 3), Said::Take(0, 'a'));
-    assert_eq!(rt; desk.counts(), counts(1, 0));
-    assert_eq!(rt; said(&rt, &mut desk, 3), Said::Claim(2));
-    assert_eq!(rt;
-        event(&rt, &mut desk, 3),
-        Stepped {
-            said: Said::Write(2),
-            outcome: Some(Outcome::Posted {
-                ticket: 2,
-                overran: 1
-            }),
-        }
-    );
-    assert_eq!(rt; desk.step(3), Err(StepError::NotInCall));
-    assert_eq!(rt; desk.counts(), counts(1, 0));
+    begins(&rt, &mut desk, 3, Policy::OverrunOldest, 'c');
+    says(&rt, &mut desk, 3, Said::Full(2, None));
+    says(&rt, &mut desk, 3, Said::Grab(0));
+    has_lost(&rt, &desk, 0, 0);
+    says(&rt, &mut desk, 3, Said::Take(0, 'a'));
+    has_lost(&rt, &desk, 1, 0);
+    says(&rt, &mut desk, 3, Said::Claim(2));
+    ends(&rt, &mut desk, 3, Said::Write(2), posted(2, 1));
+    is_done(&rt, &mut desk, 3);
+    has_lost(&rt, &desk, 1, 0);
     pop(&rt, &mut desk, 4, 'b', 1);
     pop(&rt, &mut desk, 4, 'c', 2);
-    Ok(())
 }
 
 // A queue of two whose actor 1 stalls after its claim of the first ticket, 5, and in which ticket 6 is written.
-fn stalled(rt: &impl Abort, desk: &mut Desk<char>) {
-    assert!(rt; desk.begin_push(1, 'a').is_ok());
-    assert_eq!(rt; said(rt, desk, 1), Said::Claim(5));
-    push(rt, desk, 2, 'b', 6);
+fn stalled(rt: &impl Abort, alloc: Global) -> Desk<char> {
+    let mut desk = new_desk(rt, alloc, 2, 5);
+    begins_push(rt, &mut desk, 1, 'a');
+    says(rt, &mut desk, 1, Said::Claim(5));
+    push(rt, &mut desk, 2, 'b', 6);
+    desk
 }
 
 #[test]
-fn stalls_behind_a_claim(rt: HostRuntime) -> Result<(), Fail> {
-    let mut desk = Desk::new(rt.alloc(), 2, 5)?;
-    stalled(&rt, &mut desk);
-    assert!(rt; desk.begin_post(3, Policy::OverrunOldest, 'c').is_ok());
-    assert_eq!(rt; said(&rt, &mut desk, 3), Said::Full(7, None));
-    assert_eq!(rt;
-        event(&rt, &mut desk, 3),
-        Stepped {
-            said: Said::Empty(5),
-            outcome: Some(Outcome::Discarded {
-                value: 'c',
-                why: Why::Stalled,
-                overran: 0,
-            }),
-        }
-    );
-    assert_eq!(rt; desk.counts(), counts(0, 1));
-    Ok(())
+fn stalls_behind_a_claim(rt: HostRuntime) {
+    let mut desk = stalled(&rt, rt.alloc());
+    begins(&rt, &mut desk, 3, Policy::OverrunOldest, 'c');
+    says(&rt, &mut desk, 3, Said::Full(7, None));
+    let stalled = discarded('c', Why::Stalled);
+    ends(&rt, &mut desk, 3, Said::Empty(5), stalled);
+    has_lost(&rt, &desk, 0, 1);
+}
+
+// The cells of a desk are these.
+fn has_cells(rt: &impl Abort, alloc: Global, desk: &Desk<char>, wanted: &[(u64, Mark)]) {
+    let Ok(cells) = desk.cells(alloc) else {
+        panic!(rt; "there is memory")
+    };
+    let shown = cells.iter().map(|cell| (cell.ticket, cell.mark));
+    assert!(rt; shown.eq(wanted.iter().copied()));
 }
 
 #[test]
-fn discards_the_new(rt: HostRuntime) -> Result<(), Fail> {
-    let mut desk = Desk::new(rt.alloc(), 2, 5)?;
-    stalled(&rt, &mut desk);
-    assert!(rt; desk.begin_post(3, Policy::DiscardNew, 'c').is_ok());
-    assert_eq!(rt;
-        event(&rt, &mut desk, 3),
-        Stepped {
-            said: Said::Full(7, None),
-            outcome: Some(Outcome::Discarded {
-                value: 'c',
-                why: Why::Full,
-                overran: 0,
-            }),
-        }
-    );
-    assert_eq!(rt; desk.counts(), counts(0, 1));
-    let cells = desk.cells(rt.alloc())?;
-    let shown = [
-        CellView {
-            ticket: 5,
-            mark: Mark::Claimed,
-        },
-        CellView {
-            ticket: 6,
-            mark: Mark::Written,
-        },
-    ];
-    assert_eq!(rt; cells.as_slice(), shown.as_slice());
-    Ok(())
+fn discards_the_new(rt: HostRuntime) {
+    let mut desk = stalled(&rt, rt.alloc());
+    begins(&rt, &mut desk, 3, Policy::DiscardNew, 'c');
+    let full = discarded('c', Why::Full);
+    ends(&rt, &mut desk, 3, Said::Full(7, None), full);
+    has_lost(&rt, &desk, 0, 1);
+    let cells = [(5, Mark::Claimed), (6, Mark::Written)];
+    has_cells(&rt, rt.alloc(), &desk, &cells);
 }
 
 #[test]
-fn blocks_until_there_is_room(rt: HostRuntime) -> Result<(), Fail> {
-    let mut desk = Desk::new(rt.alloc(), 2, 0)?;
+fn blocks_until_there_is_room(rt: HostRuntime) {
+    let mut desk = new_desk(&rt, rt.alloc(), 2, 0);
     push(&rt, &mut desk, 1, 'a', 0);
     push(&rt, &mut desk, 2, 'b', 1);
-    assert!(rt; desk.begin_post(3, Policy::Block, 'c').is_ok());
+    begins(&rt, &mut desk, 3, Policy::Block, 'c');
     for _ in 0..256 {
-        assert_eq!(rt; said(&rt, &mut desk, 3), Said::Full(2, None));
+        says(&rt, &mut desk, 3, Said::Full(2, None));
     }
     pop(&rt, &mut desk, 4, 'a', 0);
-    assert_eq!(rt; said(&rt, &mut desk, 3), Said::Claim(2));
-    assert_eq!(rt;
-        event(&rt, &mut desk, 3),
-        Stepped {
-            said: Said::Write(2),
-            outcome: Some(Outcome::Posted {
-                ticket: 2,
-                overran: 0
-            }),
-        }
-    );
-    assert_eq!(rt; desk.counts(), counts(0, 0));
-    Ok(())
+    says(&rt, &mut desk, 3, Said::Claim(2));
+    ends(&rt, &mut desk, 3, Said::Write(2), posted(2, 0));
+    has_lost(&rt, &desk, 0, 0);
 }
 
-// In each round another push is faster: the post reads the next ticket, which is then claimed, written and taken.
-#[test]
-fn gives_up_after_64_busy_rounds(rt: HostRuntime) -> Result<(), Fail> {
-    let mut desk = Desk::new(rt.alloc(), 4, 0)?;
-    assert!(rt; desk.begin_post(3, Policy::DiscardNew, 'c').is_ok());
-    for round in 0..64 {
-        assert_eq!(rt; desk.step(3).map(|s| s.said), Ok(Said::Nothing));
-        push(&rt, &mut desk, 1, 'a', round);
-        pop(&rt, &mut desk, 2, 'a', round);
-        let last = round == 63;
-        let outcome = Outcome::Discarded {
-            value: 'c',
-            why: Why::Busy,
-            overran: 0,
-        };
-        assert_eq!(rt;
-            event(&rt, &mut desk, 3),
-            Stepped {
-                said: Said::Busy(round, None),
-                outcome: if last { Some(outcome) } else { None },
-            }
-        );
+// A post of actor 3 reads this next ticket, which another actor then claims, writes and takes.
+fn is_outrun(rt: &impl Abort, desk: &mut Desk<char>, ticket: u64) {
+    match desk.step(3) {
+        Ok(stepped) => assert!(rt; stepped.said == Said::Nothing),
+        Err(_) => panic!(rt; "the actor is in a call"),
     }
-    assert_eq!(rt; desk.counts(), counts(0, 1));
-    Ok(())
+    push(rt, desk, 1, 'a', ticket);
+    pop(rt, desk, 2, 'a', ticket);
+}
+
+// In each round another push is faster.
+#[test]
+fn gives_up_after_64_busy_rounds(rt: HostRuntime) {
+    let mut desk = new_desk(&rt, rt.alloc(), 4, 0);
+    begins(&rt, &mut desk, 3, Policy::DiscardNew, 'c');
+    for round in 0..63 {
+        is_outrun(&rt, &mut desk, round);
+        says(&rt, &mut desk, 3, Said::Busy(round, None));
+    }
+    is_outrun(&rt, &mut desk, 63);
+    let busy = discarded('c', Why::Busy);
+    ends(&rt, &mut desk, 3, Said::Busy(63, None), busy);
+    has_lost(&rt, &desk, 0, 1);
+}
+
+// No ticket is left for a post under this policy.
+fn is_spent(rt: &impl Abort, alloc: Global, policy: Policy) {
+    let mut desk = new_desk(rt, alloc, 2, LAST_TICKET - 1);
+    push(rt, &mut desk, 1, 'a', LAST_TICKET - 1);
+    begins(rt, &mut desk, 2, policy, 'b');
+    ends(
+        rt,
+        &mut desk,
+        2,
+        Said::Spent(None),
+        discarded('b', Why::Spent),
+    );
+    has_lost(rt, &desk, 0, 1);
 }
 
 #[test]
-fn no_ticket_is_left(rt: HostRuntime) -> Result<(), Fail> {
+fn no_ticket_is_left(rt: HostRuntime) {
     for policy in [Policy::Block, Policy::OverrunOldest, Policy::DiscardNew] {
-        let mut desk = Desk::new(rt.alloc(), 2, LAST_TICKET - 1)?;
-        push(&rt, &mut desk, 1, 'a', LAST_TICKET - 1);
-        assert!(rt; desk.begin_post(2, policy, 'b').is_ok());
-        assert_eq!(rt;
-            event(&rt, &mut desk, 2),
-            Stepped {
-                said: Said::Spent(None),
-                outcome: Some(Outcome::Discarded {
-                    value: 'b',
-                    why: Why::Spent,
-                    overran: 0,
-                }),
-            }
-        );
-        assert_eq!(rt; desk.counts(), counts(0, 1));
+        is_spent(&rt, rt.alloc(), policy);
     }
-    Ok(())
 }
 
 #[test]
-fn refusals(rt: HostRuntime) -> Result<(), Fail> {
-    assert_eq!(rt;
-        Desk::<char>::new(rt.alloc(), 3, 0).err(),
-        Some(WorldError::BadSize)
-    );
-    assert_eq!(rt;
-        Desk::<char>::new(rt.alloc(), 2, LAST_TICKET).err(),
-        Some(WorldError::BadFirst)
-    );
-    let mut desk = Desk::new(rt.alloc(), 2, 0)?;
-    let refused = desk
-        .begin_post(64, Policy::Block, 'a')
-        .err()
-        .ok_or("no actor 64")?;
-    assert_eq!(rt; (refused.fault, refused.item), (BeginError::NoActor, 'a'));
-    assert_eq!(rt; desk.begin_pop(64), Err(BeginError::NoActor));
-    assert_eq!(rt; desk.step(64), Err(StepError::NoActor));
-    assert_eq!(rt; desk.step(3), Err(StepError::NotInCall));
-    assert!(rt; desk.begin_post(3, Policy::Block, 'a').is_ok());
-    let refused = desk
-        .begin_post(3, Policy::Block, 'b')
-        .err()
-        .ok_or("in a call")?;
-    assert_eq!(rt; (refused.fault, refused.item), (BeginError::InCall, 'b'));
-    let refused = desk.begin_push(3, 'b').err().ok_or("in a call")?;
-    assert_eq!(rt; (refused.fault, refused.item), (BeginError::InCall, 'b'));
-    assert_eq!(rt; desk.begin_pop(3), Err(BeginError::InCall));
-    assert_eq!(rt; desk.outlet(3).map(|_| ()), Err(BeginError::InCall));
-    assert_eq!(rt; desk.outlet(64).map(|_| ()), Err(BeginError::NoActor));
-    Ok(())
+fn sizes_and_first_tickets_of_a_desk(rt: HostRuntime) {
+    for (places, first, refused) in [
+        (3, 0, WorldError::BadSize),
+        (2, LAST_TICKET, WorldError::BadFirst),
+    ] {
+        let made = Desk::<char>::new(rt.alloc(), places, first);
+        assert!(rt; made.err() == Some(refused), "{places}, {first}");
+    }
+}
+
+// A push and a post of this actor are refused so, and their items come back; so are a pop and an outlet.
+fn refuses(rt: &impl Abort, desk: &mut Desk<char>, actor: u32, fault: BeginError) {
+    let post = desk.begin_post(actor, Policy::Block, 'b');
+    assert!(rt; post.is_err_and(|refused| refused.fault == fault && refused.item == 'b'));
+    let push = desk.begin_push(actor, 'b');
+    assert!(rt; push.is_err_and(|refused| refused.fault == fault && refused.item == 'b'));
+    assert!(rt; desk.begin_pop(actor) == Err(fault));
+    assert!(rt; desk.outlet(actor).map(|_| ()) == Err(fault));
+}
+
+// A step of this actor is refused so.
+fn refuses_step(rt: &impl Abort, desk: &mut Desk<char>, actor: u32, fault: StepError) {
+    assert!(rt; desk.step(actor) == Err(fault));
+}
+
+#[test]
+fn refusals(rt: HostRuntime) {
+    let mut desk = new_desk(&rt, rt.alloc(), 2, 0);
+    refuses(&rt, &mut desk, 64, BeginError::NoActor);
+    refuses_step(&rt, &mut desk, 64, StepError::NoActor);
+    refuses_step(&rt, &mut desk, 3, StepError::NotInCall);
+    begins(&rt, &mut desk, 3, Policy::Block, 'a');
+    refuses(&rt, &mut desk, 3, BeginError::InCall);
 }
 
 // What a caller knows of a desk after a post that was made at once: the actor's events are one post by the definition, the
@@ -254,6 +271,11 @@ fn at_once(desk: &mut Desk<u64>, actor: u32, policy: Policy, value: u64) -> Opti
     }
 }
 
+// A post of 7 at once is told so.
+fn is_told(rt: &impl Abort, desk: &mut Desk<u64>, actor: u32, wanted: Option<Outcome<u64>>) {
+    assert!(rt; at_once(desk, actor, Policy::Block, 7) == wanted);
+}
+
 #[test]
 fn a_caller_knows_the_desk(rt: HostRuntime) -> Result<(), Fail> {
     let mut desk = Desk::new(rt.alloc(), 2, 5)?;
@@ -261,8 +283,8 @@ fn a_caller_knows_the_desk(rt: HostRuntime) -> Result<(), Fail> {
         ticket: 5,
         overran: 0,
     };
-    assert_eq!(rt; at_once(&mut desk, 0, Policy::Block, 7), Some(posted));
-    assert_eq!(rt; at_once(&mut desk, 64, Policy::Block, 7), None);
+    is_told(&rt, &mut desk, 0, Some(posted));
+    is_told(&rt, &mut desk, 64, None);
     Ok(())
 }
 
@@ -289,74 +311,49 @@ fn a_caller_knows_a_run(rt: HostRuntime) {
     assert!(rt; first_step(rt.alloc(), 7).is_some());
 }
 
-// A post that is made at once, by actor 3.
-fn now(rt: &impl Abort, desk: &mut Desk<char>, policy: Policy, value: char) -> Outcome<char> {
-    let mut outlet = desk.outlet(3).expect(rt, "actor 3 is in no call");
-    post_now(&mut outlet, policy, value)
-}
-
-fn discarded(value: char, why: Why) -> Outcome<char> {
-    Outcome::Discarded {
-        value,
-        why,
-        overran: 0,
-    }
+// A post that is made at once, by actor 3, ends so.
+fn now(rt: &impl Abort, desk: &mut Desk<char>, policy: Policy, value: char, wanted: Outcome<char>) {
+    let Ok(mut outlet) = desk.outlet(3) else {
+        panic!(rt; "actor 3 is in no call")
+    };
+    let outcome = post_now(&mut outlet, policy, value);
+    drop(outlet);
+    assert!(rt; outcome == wanted);
 }
 
 #[test]
-fn posts_at_once(rt: HostRuntime) -> Result<(), Fail> {
-    let mut desk = Desk::new(rt.alloc(), 2, 0)?;
-    let posted = |ticket, overran| Outcome::Posted { ticket, overran };
-    assert_eq!(rt; now(&rt, &mut desk, Policy::Block, 'a'), posted(0, 0));
-    assert_eq!(rt; now(&rt, &mut desk, Policy::DiscardNew, 'b'), posted(1, 0));
-    assert_eq!(rt;
-        now(&rt, &mut desk, Policy::Block, 'c'),
-        discarded('c', Why::Full)
-    );
-    assert_eq!(rt;
-        now(&rt, &mut desk, Policy::DiscardNew, 'c'),
-        discarded('c', Why::Full)
-    );
-    assert_eq!(rt;
-        now(&rt, &mut desk, Policy::OverrunOldest, 'c'),
-        posted(2, 1)
-    );
-    assert_eq!(rt; desk.counts(), counts(1, 2));
+fn posts_at_once(rt: HostRuntime) {
+    let mut desk = new_desk(&rt, rt.alloc(), 2, 0);
+    now(&rt, &mut desk, Policy::Block, 'a', posted(0, 0));
+    now(&rt, &mut desk, Policy::DiscardNew, 'b', posted(1, 0));
+    for policy in [Policy::Block, Policy::DiscardNew] {
+        now(&rt, &mut desk, policy, 'c', discarded('c', Why::Full));
+    }
+    now(&rt, &mut desk, Policy::OverrunOldest, 'c', posted(2, 1));
+    has_lost(&rt, &desk, 1, 2);
     pop(&rt, &mut desk, 4, 'b', 1);
     pop(&rt, &mut desk, 4, 'c', 2);
-    Ok(())
 }
 
 #[test]
-fn posts_at_once_behind_a_claim(rt: HostRuntime) -> Result<(), Fail> {
-    let mut desk = Desk::new(rt.alloc(), 2, 5)?;
-    stalled(&rt, &mut desk);
-    assert_eq!(rt;
-        now(&rt, &mut desk, Policy::OverrunOldest, 'c'),
-        discarded('c', Why::Stalled)
-    );
-    assert_eq!(rt;
-        now(&rt, &mut desk, Policy::DiscardNew, 'c'),
-        discarded('c', Why::Full)
-    );
-    assert_eq!(rt; desk.counts(), counts(0, 2));
-    Ok(())
-}
-
-#[test]
-fn posts_at_once_without_a_ticket(rt: HostRuntime) -> Result<(), Fail> {
-    let mut desk = Desk::new(rt.alloc(), 2, LAST_TICKET - 1)?;
-    let posted = Outcome::Posted {
-        ticket: LAST_TICKET - 1,
-        overran: 0,
-    };
-    assert_eq!(rt; now(&rt, &mut desk, Policy::Block, 'a'), posted);
-    for policy in [Policy::Block, Policy::OverrunOldest, Policy::DiscardNew] {
-        assert_eq!(rt;
-            now(&rt, &mut desk, policy, 'b'),
-            discarded('b', Why::Spent)
-        );
+fn posts_at_once_behind_a_claim(rt: HostRuntime) {
+    let mut desk = stalled(&rt, rt.alloc());
+    for (policy, why) in [
+        (Policy::OverrunOldest, Why::Stalled),
+        (Policy::DiscardNew, Why::Full),
+    ] {
+        now(&rt, &mut desk, policy, 'c', discarded('c', why));
     }
-    assert_eq!(rt; desk.counts(), counts(0, 3));
-    Ok(())
+    has_lost(&rt, &desk, 0, 2);
+}
+
+#[test]
+fn posts_at_once_without_a_ticket(rt: HostRuntime) {
+    let mut desk = new_desk(&rt, rt.alloc(), 2, LAST_TICKET - 1);
+    let last = posted(LAST_TICKET - 1, 0);
+    now(&rt, &mut desk, Policy::Block, 'a', last);
+    for policy in [Policy::Block, Policy::OverrunOldest, Policy::DiscardNew] {
+        now(&rt, &mut desk, policy, 'b', discarded('b', Why::Spent));
+    }
+    has_lost(&rt, &desk, 0, 3);
 }

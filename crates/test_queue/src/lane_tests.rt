@@ -3,6 +3,7 @@ ghost use Rattle.std.specs.Prelude.{◌≡◌, ◌+◌, ◌%◌, ◌^◌, IfOk, 
 
 use alog_lane::{ALL_PARTS, Held, Lane, LaneSeat, SeatsOut, Turn};
 use std::alloc::{AllocError, Global};
+use std::process::Abort;
 use std::sync::atomic::{AtomicBool, AtomicU64, Ordering};
 use std::sync::{Arc, Wait};
 use std::test::Fail;
@@ -29,36 +30,90 @@ impl Turn for Sum {
     }
 }
 
+// A turn adds so much, and has this index and sum.
+fn adds(rt: &impl Abort, lane: &Lane<Sum>, seat: &mut LaneSeat<Sum>, item: u64, wanted: (u64, u64))
+    requires { IsSeatOf lane.now seat.old }
+    ensures { IsSeatOf lane.now seat.new }
+{
+    assert!(rt; lane.turn_once(seat, 0, &item, &mut ()) == Ok(wanted));
+}
+
+// The seats have so many parts.
+fn have_parts(rt: &impl Abort, seats: &[&LaneSeat<Sum>], wanted: &[u64]) {
+    assert!(rt;
+        seats
+            .iter()
+            .map(|seat| seat.parts())
+            .eq(wanted.iter().copied())
+    );
+}
+
+// A seat is out, and so the lane is not closed.
+fn stays(rt: &impl Abort, lane: Lane<Sum>, seat: LaneSeat<Sum>) -> (Lane<Sum>, LaneSeat<Sum>)
+    requires { IsSeatOf lane seat }
+    ensures { IsSeatOf result.0 result.1 }
+{
+    match lane.close(seat) {
+        Ok(_) => panic!(rt; "a seat is out"),
+        Err(SeatsOut { lane, seat }) => (lane, seat),
+    }
+}
+
+// The lane is closed, and gives this sum back.
+fn closes(rt: &impl Abort, lane: Lane<Sum>, seat: LaneSeat<Sum>, wanted: Sum)
+    requires { IsSeatOf lane seat }
+{
+    match lane.close(seat) {
+        Ok(sum) => assert!(rt; sum == wanted),
+        Err(_) => panic!(rt; "no seat is out"),
+    }
+}
+
 #[test]
 fn a_lane_over_a_sum(rt: HostRuntime) -> Result<(), Fail> {
     let (lane, mut seat) = Lane::new(rt.alloc(), Sum(0))?;
-    assert_eq!(rt; seat.parts(), 4_294_967_296);
-    assert_eq!(rt; lane.turn_once(&mut seat, 0, &5, &mut ()), Ok((0, 5)));
-    assert_eq!(rt; lane.turn_once(&mut seat, 0, &7, &mut ()), Ok((1, 12)));
+    have_parts(&rt, &[&seat], &[4_294_967_296]);
+    adds(&rt, &lane, &mut seat, 5, (0, 5));
+    adds(&rt, &lane, &mut seat, 7, (1, 12));
     let other = lane.split(&mut seat, 1);
-    assert_eq!(rt; (seat.parts(), other.parts()), (ALL_PARTS - 1, 1));
-    assert_eq!(rt; lane.turn_once(&mut seat, 0, &3, &mut ()), Ok((2, 15)));
-    let Err(SeatsOut { lane, mut seat }) = lane.close(seat) else {
-        panic!(rt; "a seat is out")
-    };
+    have_parts(&rt, &[&seat, &other], &[ALL_PARTS - 1, 1]);
+    adds(&rt, &lane, &mut seat, 3, (2, 15));
+    let (lane, mut seat) = stays(&rt, lane, seat);
     lane.join(&mut seat, other);
-    assert_eq!(rt; seat.parts(), ALL_PARTS);
-    let Ok(sum) = lane.close(seat) else {
-        panic!(rt; "no seat is out")
-    };
-    assert_eq!(rt; sum, Sum(15));
+    have_parts(&rt, &[&seat], &[ALL_PARTS]);
+    closes(&rt, lane, seat, Sum(15));
     Ok(())
+}
+
+// An error says this.
+fn says(rt: &impl Abort, shown: Result<String, AllocError>, wanted: &str) {
+    match shown {
+        Ok(shown) => assert!(rt; shown.as_str() == wanted),
+        Err(_) => panic!(rt; "there is memory"),
+    }
+}
+
+// A lane that is not closed says why.
+fn is_told(rt: &impl Abort, alloc: Global, lane: Lane<Sum>, seat: LaneSeat<Sum>)
+    requires { IsSeatOf lane seat }
+{
+    match lane.close(seat) {
+        Ok(_) => panic!(rt; "a seat is out"),
+        Err(out) => says(rt, format!(in alloc; "{out}"), "not all seats are here"),
+    }
 }
 
 #[test]
 fn tells_the_errors(rt: HostRuntime) -> Result<(), Fail> {
     let (lane, mut seat) = Lane::new(rt.alloc(), Sum(0))?;
-    let _other = lane.split(&mut seat, 1);
-    let Err(out) = lane.close(seat) else {
-        panic!(rt; "a seat is out")
-    };
-    assert!(rt; format!(in rt.alloc(); "{out}")?.as_str() == "not all seats are here");
-    assert!(rt; format!(in rt.alloc(); "{Held}")?.as_str() == "another seat has the lock");
+    let other = lane.split(&mut seat, 1);
+    is_told(&rt, rt.alloc(), lane, seat);
+    drop(other);
+    says(
+        &rt,
+        format!(in rt.alloc(); "{Held}"),
+        "another seat has the lock",
+    );
     Ok(())
 }
 
@@ -108,21 +163,46 @@ impl<'a> Turn for Noted<'a> {
     }
 }
 
+// It was dropped so often.
+fn has_dropped(rt: &impl Abort, drops: &AtomicU64, times: u64) {
+    assert!(rt; drops.load(Ordering::SeqCst) == times);
+}
+
+// Two turns put their items into the scratch and answer them, the second with waiting.
+fn take_two_turns<'a>(
+    rt: &(impl Abort + Wait),
+    alloc: Global,
+    lane: &Lane<Noted<'a>>,
+    seat: &mut LaneSeat<Noted<'a>>,
+)
+    requires { IsSeatOf lane.now seat.old }
+    ensures { IsSeatOf lane.now seat.new }
+{
+    let mut scratch = Vec::new(alloc);
+    let once = lane.turn_once(seat, 3, &8, &mut scratch);
+    let waited = lane.turn(rt, seat, 4, &9, &mut scratch);
+    assert!(rt; once == Ok((0, 8)) && waited == (1, 9));
+    assert!(rt; scratch.as_slice() == [8, 9].as_slice());
+}
+
 #[test]
 fn drops_its_value_once(rt: HostRuntime) -> Result<(), Fail> {
     let drops = AtomicU64::new(0);
-    let mut scratch = Vec::new(rt.alloc());
     let (lane, mut seat) = Lane::new(rt.alloc(), Noted(&drops))?;
-    assert_eq!(rt; lane.turn_once(&mut seat, 3, &8, &mut scratch), Ok((0, 8)));
-    assert_eq!(rt; lane.turn(&rt, &mut seat, 4, &9, &mut scratch), (1, 9));
-    assert_eq!(rt; scratch.as_slice(), [8, 9].as_slice());
-    assert!(rt; drops.load(Ordering::SeqCst) == 0);
+    take_two_turns(&rt, rt.alloc(), &lane, &mut seat);
+    has_dropped(&rt, &drops, 0);
     drop(lane);
     drop(seat);
-    assert!(rt; drops.load(Ordering::SeqCst) == 1);
+    has_dropped(&rt, &drops, 1);
+    Ok(())
+}
+
+#[test]
+fn drops_what_it_gives_back(rt: HostRuntime) -> Result<(), Fail> {
+    let drops = AtomicU64::new(0);
     let (lane, seat) = Lane::new(rt.alloc(), Noted(&drops))?;
     drop(lane.close(seat));
-    assert!(rt; drops.load(Ordering::SeqCst) == 2);
+    has_dropped(&rt, &drops, 1);
     Ok(())
 }
 
@@ -158,6 +238,16 @@ fn add_ones(lane: &Lane<Sum>, mut seat: LaneSeat<Sum>, count: u64) -> (bool, u64
     (rose, sum)
 }
 
+// The indexes of each thread rose, and those of all are the numbers below 40,000, by their sum.
+fn all_rose(rt: &impl Abort, threads: &[(bool, u64)]) {
+    let mut sum = 0u64;
+    for (rose, part) in threads {
+        assert!(rt; *rose);
+        sum = sum.wrapping_add(*part);
+    }
+    assert!(rt; sum == 20_000 * 39_999);
+}
+
 #[test]
 fn two_threads_take_turns(rt: HostRuntime) -> Result<(), Fail> {
     let (lane, mut seat) = Lane::new(rt.alloc(), Sum(0))?;
@@ -173,12 +263,8 @@ fn two_threads_take_turns(rt: HostRuntime) -> Result<(), Fail> {
             requires { IsSeatOf lane.now second }
         { add_ones(lane, second, 20_000) },
     );
-    assert!(rt; one.0 && two.0);
-    assert_eq!(rt; one.1.wrapping_add(two.1), 20_000 * 39_999);
-    assert_eq!(rt;
-        lane.turn_once(&mut seat, 0, &0, &mut ()),
-        Ok((40_000, 40_000))
-    );
+    all_rose(&rt, &[one, two]);
+    adds(&rt, lane, &mut seat, 0, (40_000, 40_000));
     Ok(())
 }
 
@@ -219,16 +305,8 @@ fn four_threads_take_turns(rt: HostRuntime) -> Result<(), Fail> {
             )
         },
     );
-    let mut sum = 0u64;
-    for (rose, part) in [one, two, three, four] {
-        assert!(rt; rose);
-        sum = sum.wrapping_add(part);
-    }
-    assert_eq!(rt; sum, 20_000 * 39_999);
-    assert_eq!(rt;
-        lane.turn_once(&mut seat, 0, &0, &mut ()),
-        Ok((40_000, 40_000))
-    );
+    all_rose(&rt, &[one, two, three, four]);
+    adds(&rt, lane, &mut seat, 0, (40_000, 40_000));
     Ok(())
 }
 

@@ -7,7 +7,7 @@ use std::alloc::{AllocError, Global};
 use std::mem;
 
 /// One ticket of the queue: how far it has come, its item, and its actor.
-#[derive(Debug, Drop)]
+#[derive(Drop)]
 struct Listed<T> {
     ticket: u64,
     mark: Mark,
@@ -16,7 +16,7 @@ struct Listed<T> {
 }
 
 /// The queue: how many places it has, the ticket to claim next, the front ticket, and the cells in ticket order.
-#[derive(Debug, Drop)]
+#[derive(Drop)]
 struct Table<T> {
     places: u64,
     next: u64,

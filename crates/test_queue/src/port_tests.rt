@@ -2,6 +2,7 @@ ghost use Rattle.std.specs.Prelude.{◌≡◌, IsSome};
 ghost use Rattle.alog_ring.specs.Known.{IsPassOf};
 ghost use Rattle.alog_policy.specs.Outlet.{left_in};
 ghost use Rattle.alog_policy.specs.BookCalls.{IsSeatOf};
+ghost use Rattle.alog_policy.specs.Port.{IsFit};
 
 use alog_core::LAST_TICKET;
 use alog_policy::{
@@ -9,8 +10,9 @@ use alog_policy::{
     post_wait,
 };
 use alog_ring::{Pass, Ring};
+use std::alloc::Global;
+use std::process::Abort;
 use std::sync::Wait;
-use std::test::Fail;
 use std::thread;
 use std::time::Clock;
 
@@ -34,41 +36,105 @@ fn discarded(value: u64, why: Why) -> Outcome<u64> {
     }
 }
 
+// A ring of two places, and its first pass.
+fn ring_of_two(rt: &impl Abort, alloc: Global, first: u64) -> (Ring<u64>, Pass<u64>)
+    ensures { IsPassOf result.0 result.1 }
+{
+    match Ring::new(alloc, 2, first) {
+        Ok(made) => made,
+        Err(_) => panic!(rt; "no ring from {first}"),
+    }
+}
+
+// A loss book, and its first seat.
+fn new_book(rt: &impl Abort, alloc: Global) -> (LossBook, BookSeat)
+    ensures { IsSeatOf result.0 result.1 }
+{
+    match LossBook::new(alloc) {
+        Ok(made) => made,
+        Err(_) => panic!(rt; "there is memory"),
+    }
+}
+
+// A post through a port, with waiting where there may be, ends so.
+fn waits(
+    rt: &(impl Abort + Wait + Clock),
+    port: &mut Port<'_, u64>,
+    policy: Policy,
+    value: u64,
+    wanted: Outcome<u64>,
+)
+    requires { IsFit port.old }
+    ensures { IsFit port.new }
+{
+    assert!(rt; post_wait(rt, port, policy, value) == wanted);
+}
+
+// A post that never waits ends so.
+fn goes(rt: &impl Abort, port: &mut Port<'_, u64>, policy: Policy, value: u64, wanted: Outcome<u64>)
+    requires { IsFit port.old }
+    ensures { IsFit port.new }
+{
+    assert!(rt; post_now(port, policy, value) == wanted);
+}
+
+// So much was lost.
+fn has_lost(rt: &impl Abort, book: &LossBook, seat: &mut BookSeat, wanted: Counts)
+    requires { IsSeatOf book.now seat.old }
+    ensures { IsSeatOf book.now seat.new }
+{
+    assert!(rt; book.counts(seat) == wanted);
+}
+
+// A seat is out, and so the book is not closed.
+fn stays(rt: &impl Abort, book: LossBook, seat: BookSeat) -> (LossBook, BookSeat)
+    requires { IsSeatOf book seat }
+    ensures { IsSeatOf result.0 result.1 }
+{
+    match book.close(seat) {
+        Ok(_) => panic!(rt; "a seat is out"),
+        Err(SeatsOut { book, seat }) => (book, seat),
+    }
+}
+
+// The book is closed with so much lost.
+fn closes(rt: &impl Abort, book: LossBook, seat: BookSeat, wanted: Counts)
+    requires { IsSeatOf book seat }
+{
+    assert!(rt; book.close(seat).ok() == Some(wanted));
+}
+
+// No pass is out, and this is left in the ring.
+fn leaves(rt: &impl Abort, ring: Ring<u64>, pass: Pass<u64>, wanted: &[(u64, u64)])
+    requires { IsPassOf ring pass }
+{
+    match ring.close(pass) {
+        Ok(left) => assert!(rt; left.as_slice() == wanted),
+        Err(_) => panic!(rt; "no pass is out"),
+    }
+}
+
 #[test]
-fn a_lone_port_posts(rt: HostRuntime) -> Result<(), Fail> {
-    let (ring, mut pass) = Ring::<u64>::new(rt.alloc(), 2, 0)?;
-    let (book, mut seat) = LossBook::new(rt.alloc())?;
+fn a_lone_port_posts(rt: HostRuntime) {
+    let (ring, mut pass) = ring_of_two(&rt, rt.alloc(), 0);
+    let (book, mut seat) = new_book(&rt, rt.alloc());
     let mut port = Port {
         ring: &ring,
         pass: &mut pass,
         book: &book,
         seat: &mut seat,
     };
-    assert_eq!(rt; post_wait(&rt, &mut port, Policy::Block, 7), posted(0, 0));
-    assert_eq!(rt;
-        post_wait(&rt, &mut port, Policy::DiscardNew, 8),
-        posted(1, 0)
-    );
-    assert_eq!(rt;
-        post_now(&mut port, Policy::DiscardNew, 9),
-        discarded(9, Why::Full)
-    );
-    assert_eq!(rt;
-        post_wait(&rt, &mut port, Policy::OverrunOldest, 9),
-        posted(2, 1)
-    );
-    assert_eq!(rt; book.counts(&mut seat), losses(1, 1));
+    waits(&rt, &mut port, Policy::Block, 7, posted(0, 0));
+    waits(&rt, &mut port, Policy::DiscardNew, 8, posted(1, 0));
+    let full = discarded(9, Why::Full);
+    goes(&rt, &mut port, Policy::DiscardNew, 9, full);
+    waits(&rt, &mut port, Policy::OverrunOldest, 9, posted(2, 1));
+    has_lost(&rt, &book, &mut seat, losses(1, 1));
     let other = book.split(&mut seat, 1);
-    let Err(SeatsOut { book, mut seat }) = book.close(seat) else {
-        panic!(rt; "a seat is out")
-    };
+    let (book, mut seat) = stays(&rt, book, seat);
     book.join(&mut seat, other);
-    assert_eq!(rt; book.close(seat).ok(), Some(losses(1, 1)));
-    let Ok(left) = ring.close(pass) else {
-        panic!(rt; "no pass is out")
-    };
-    assert_eq!(rt; left.as_slice(), [(1, 8), (2, 9)].as_slice());
-    Ok(())
+    closes(&rt, book, seat, losses(1, 1));
+    leaves(&rt, ring, pass, &[(1, 8), (2, 9)]);
 }
 
 // One post on a ring, whose losses a book counts.
@@ -95,25 +161,33 @@ fn post(
 // One post of what lies in a hand: the hand keeps what is discarded.
 fn post_hand(
     rt: &(impl Wait + Clock),
-    ring: &Ring<u64>,
-    pass: &mut Pass<u64>,
-    book: &LossBook,
-    seat: &mut BookSeat,
+    port: &mut Port<'_, u64>,
     policy: Policy,
     hand: &mut Option<u64>,
 ) -> Outcome<()>
-    requires fit { IsPassOf ring.now pass.old × IsSeatOf book.now seat.old }
+    requires fit { IsFit port.old }
     requires there { IsSome hand.old }
-    ensures fit { IsPassOf ring.now pass.new × IsSeatOf book.now seat.new }
+    ensures fit { IsFit port.new }
     ensures left { hand.new ≡ left_in result hand.old }
 {
-    let mut port = Port {
-        ring,
-        pass,
-        book,
-        seat,
-    };
-    post_from(rt, &mut port, policy, hand)
+    post_from(rt, port, policy, hand)
+}
+
+// A post of a value in a hand ends so, and this is left in the hand.
+fn hands(
+    rt: &(impl Abort + Wait + Clock),
+    port: &mut Port<'_, u64>,
+    policy: Policy,
+    value: u64,
+    wanted: Outcome<()>,
+    left: Option<u64>,
+)
+    requires { IsFit port.old }
+    ensures { IsFit port.new }
+{
+    let mut hand = Some(value);
+    let outcome = post_hand(rt, port, policy, &mut hand);
+    assert!(rt; outcome == wanted && hand == left);
 }
 
 fn no_room() -> Outcome<()> {
@@ -125,83 +199,43 @@ fn no_room() -> Outcome<()> {
 }
 
 #[test]
-fn a_hand_keeps_what_is_discarded(rt: HostRuntime) -> Result<(), Fail> {
-    let (ring, mut pass) = Ring::<u64>::new(rt.alloc(), 2, 0)?;
-    let (book, mut seat) = LossBook::new(rt.alloc())?;
-    let mut hand = Some(7);
-    let outcome = post_hand(
-        &rt,
-        &ring,
-        &mut pass,
-        &book,
-        &mut seat,
-        Policy::Block,
-        &mut hand,
-    );
-    assert_eq!(rt; (outcome, hand), (gone(0, 0), None));
-    let mut hand = Some(8);
-    let outcome = post_hand(
-        &rt,
-        &ring,
-        &mut pass,
-        &book,
-        &mut seat,
-        Policy::DiscardNew,
-        &mut hand,
-    );
-    assert_eq!(rt; (outcome, hand), (gone(1, 0), None));
-    let mut hand = Some(9);
-    let outcome = post_hand(
-        &rt,
-        &ring,
-        &mut pass,
-        &book,
-        &mut seat,
-        Policy::DiscardNew,
-        &mut hand,
-    );
-    assert_eq!(rt; (outcome, hand), (no_room(), Some(9)));
-    let mut hand = Some(9);
-    let outcome = post_hand(
-        &rt,
-        &ring,
-        &mut pass,
-        &book,
-        &mut seat,
-        Policy::OverrunOldest,
-        &mut hand,
-    );
-    assert_eq!(rt; (outcome, hand), (gone(2, 1), None));
-    assert_eq!(rt; book.counts(&mut seat), losses(1, 1));
-    Ok(())
+fn a_hand_keeps_what_is_discarded(rt: HostRuntime) {
+    let (ring, mut pass) = ring_of_two(&rt, rt.alloc(), 0);
+    let (book, mut seat) = new_book(&rt, rt.alloc());
+    let mut port = Port {
+        ring: &ring,
+        pass: &mut pass,
+        book: &book,
+        seat: &mut seat,
+    };
+    hands(&rt, &mut port, Policy::Block, 7, gone(0, 0), None);
+    hands(&rt, &mut port, Policy::DiscardNew, 8, gone(1, 0), None);
+    hands(&rt, &mut port, Policy::DiscardNew, 9, no_room(), Some(9));
+    hands(&rt, &mut port, Policy::OverrunOldest, 9, gone(2, 1), None);
+    has_lost(&rt, &book, &mut seat, losses(1, 1));
+}
+
+// Under this policy the last ticket is given, and then none is left.
+fn is_spent(rt: &(impl Abort + Wait + Clock), alloc: Global, policy: Policy) {
+    let (ring, mut pass) = ring_of_two(rt, alloc, LAST_TICKET - 1);
+    let (book, mut seat) = new_book(rt, alloc);
+    let mut port = Port {
+        ring: &ring,
+        pass: &mut pass,
+        book: &book,
+        seat: &mut seat,
+    };
+    goes(rt, &mut port, policy, 7, posted(LAST_TICKET - 1, 0));
+    goes(rt, &mut port, policy, 8, discarded(8, Why::Spent));
+    waits(rt, &mut port, policy, 9, discarded(9, Why::Spent));
+    has_lost(rt, &book, &mut seat, losses(0, 2));
 }
 
 #[test]
-fn a_port_without_a_ticket(rt: HostRuntime) -> Result<(), Fail> {
+fn a_port_without_a_ticket(rt: HostRuntime) {
     for policy in [Policy::Block, Policy::OverrunOldest, Policy::DiscardNew] {
-        let (ring, mut pass) = Ring::<u64>::new(rt.alloc(), 2, LAST_TICKET - 1)?;
-        let (book, mut seat) = LossBook::new(rt.alloc())?;
-        assert_eq!(rt;
-            post(&ring, &mut pass, &book, &mut seat, policy, 7),
-            posted(LAST_TICKET - 1, 0)
-        );
-        assert_eq!(rt;
-            post(&ring, &mut pass, &book, &mut seat, policy, 8),
-            discarded(8, Why::Spent)
-        );
-        let mut port = Port {
-            ring: &ring,
-            pass: &mut pass,
-            book: &book,
-            seat: &mut seat,
-        };
-        assert_eq!(rt;
-            post_wait(&rt, &mut port, policy, 9),
-            discarded(9, Why::Spent)
-        );
-        assert_eq!(rt; book.counts(&mut seat), losses(0, 2));
+        is_spent(&rt, rt.alloc(), policy);
     }
-    Ok(())
 }
 
 // How posts went, and how many values were popped beside them.
@@ -276,10 +310,27 @@ fn post_many(
     (pass, seat, tally)
 }
 
+// How many values are left in a ring, of which no pass is out.
+fn left_in_ring(rt: &impl Abort, ring: Ring<u64>, pass: Pass<u64>) -> u64
+    requires { IsPassOf ring pass }
+{
+    match ring.close(pass) {
+        Ok(left) => left.len() as u64,
+        Err(_) => panic!(rt; "no pass is out"),
+    }
+}
+
+// Each post was posted or discarded, and what was posted was overrun or popped, or is left.
+fn adds_up(rt: &impl Abort, tally: Tally, left: u64) {
+    let gone = tally.overran.wrapping_add(tally.popped);
+    assert!(rt; tally.posted.wrapping_add(tally.discarded) == 20_000);
+    assert!(rt; tally.posted == gone.wrapping_add(left));
+}
+
 #[test]
-fn two_threads_overrun_each_other(rt: HostRuntime) -> Result<(), Fail> {
-    let (ring, mut pass) = Ring::<u64>::new(rt.alloc(), 2, 0)?;
-    let (book, mut seat) = LossBook::new(rt.alloc())?;
+fn two_threads_overrun_each_other(rt: HostRuntime) {
+    let (ring, mut pass) = ring_of_two(&rt, rt.alloc(), 0);
+    let (book, mut seat) = new_book(&rt, rt.alloc());
     let (shared, counting) = (&ring, &book);
     let other_pass = shared.split(&mut pass, 1);
     let other_seat = counting.split(&mut seat, 1);
@@ -299,23 +350,16 @@ fn two_threads_overrun_each_other(rt: HostRuntime) -> Result<(), Fail> {
     shared.join(&mut pass, other_pass);
     counting.join(&mut seat, other_seat);
     let tally = mine.with(others);
-    assert_eq!(rt; tally.posted.wrapping_add(tally.discarded), 20_000);
-    assert_eq!(rt;
-        book.close(seat).ok(),
-        Some(losses(tally.overran, tally.discarded))
-    );
-    let Ok(left) = ring.close(pass) else {
-        panic!(rt; "no pass is out")
-    };
-    let gone = tally.overran.wrapping_add(tally.popped);
-    assert_eq!(rt; tally.posted, gone.wrapping_add(left.len() as u64));
-    Ok(())
+    let counts = losses(tally.overran, tally.discarded);
+    closes(&rt, book, seat, counts);
+    let left = left_in_ring(&rt, ring, pass);
+    adds_up(&rt, tally, left);
 }
 
 #[test]
-fn a_port_waits_for_room(rt: HostRuntime) -> Result<(), Fail> {
-    let (ring, mut pass) = Ring::<u64>::new(rt.alloc(), 2, 0)?;
-    let (book, mut seat) = LossBook::new(rt.alloc())?;
+fn a_port_waits_for_room(rt: HostRuntime) {
+    let (ring, mut pass) = ring_of_two(&rt, rt.alloc(), 0);
+    let (book, mut seat) = new_book(&rt, rt.alloc());
     let mut other = ring.split(&mut pass, 1);
     post(&ring, &mut pass, &book, &mut seat, Policy::DiscardNew, 7);
     post(&ring, &mut pass, &book, &mut seat, Policy::DiscardNew, 8);
@@ -330,7 +374,5 @@ fn a_port_waits_for_room(rt: HostRuntime) -> Result<(), Fail> {
         || post_wait(&rt, &mut port, Policy::Block, 9),
         || ring.pop_once(&mut other),
     );
-    assert_eq!(rt; outcome, posted(2, 0));
-    assert_eq!(rt; popped, Ok((0, 7)));
-    Ok(())
+    assert!(rt; outcome == posted(2, 0) && popped == Ok((0, 7)));
 }

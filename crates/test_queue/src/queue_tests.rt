@@ -6,8 +6,8 @@ ghost use Rattle.alog_core.specs.World.{fresh};
 ghost use Rattle.alog_core.specs.Run.{entries_of_run, TellAll};
 
 use alog_core::{
-    Answer, BeginError, Call, CellView, MOST_PLACES, Mark, Refused, Said, StepError, World,
-    WorldError, accounts_balance, an_actors_tickets_rise, no_ticket_is_handed_out_twice,
+    Answer, BeginError, Call, MOST_PLACES, Mark, Refused, Said, StepError, World, WorldError,
+    accounts_balance, an_actors_tickets_rise, no_ticket_is_handed_out_twice,
     reached_states_are_sound, takes_follow_their_claims, tickets_are_grabbed_in_order,
     tickets_are_handed_out_or_listed, tickets_are_issued_in_order, tickets_keep_their_items,
 };
@@ -53,6 +53,14 @@ fn run_counted(
     Some(world)
 }
 
+/// A new queue.
+pub(crate) fn world(rt: &impl Abort, alloc: Global, places: usize, first: u64) -> World<u64> {
+    match World::new(alloc, places, first) {
+        Ok(world) => world,
+        Err(_) => panic!(rt; "no queue of {places} places from {first}"),
+    }
+}
+
 /// The next steps of an actor answer this.
 pub(crate) fn says(rt: &impl Abort, world: &mut World<u64>, actor: u32, wanted: &[Said<u64>]) {
     for said in wanted {
@@ -62,34 +70,55 @@ pub(crate) fn says(rt: &impl Abort, world: &mut World<u64>, actor: u32, wanted: 
     }
 }
 
+/// A push begins, and its first steps answer this.
+pub(crate) fn push_says(
+    rt: &impl Abort,
+    world: &mut World<u64>,
+    actor: u32,
+    item: u64,
+    wanted: &[Said<u64>],
+) {
+    assert!(rt; world.begin_push(actor, item).is_ok());
+    says(rt, world, actor, wanted);
+}
+
+/// A pop begins, and its first steps answer this.
+pub(crate) fn pop_says(rt: &impl Abort, world: &mut World<u64>, actor: u32, wanted: &[Said<u64>]) {
+    assert!(rt; world.begin_pop(actor).is_ok());
+    says(rt, world, actor, wanted);
+}
+
 /// A whole push, which gets this ticket.
 pub(crate) fn pushes(rt: &impl Abort, world: &mut World<u64>, actor: u32, item: u64, ticket: u64) {
-    assert!(rt; world.begin_push(actor, item).is_ok());
     let wanted = [
         Said::Nothing,
         Said::Nothing,
         Said::Claim(ticket),
         Said::Write(ticket),
     ];
-    says(rt, world, actor, &wanted);
+    push_says(rt, world, actor, item, &wanted);
     assert!(rt; world.step(actor) == Err(StepError::NotInCall));
 }
 
 /// A whole pop, which gets this ticket and this item.
 pub(crate) fn pops(rt: &impl Abort, world: &mut World<u64>, actor: u32, ticket: u64, item: u64) {
-    assert!(rt; world.begin_pop(actor).is_ok());
     let wanted = [
         Said::Nothing,
         Said::Nothing,
         Said::Grab(ticket),
         Said::Take(ticket, item),
     ];
-    says(rt, world, actor, &wanted);
+    pop_says(rt, world, actor, &wanted);
     assert!(rt; world.step(actor) == Err(StepError::NotInCall));
 }
 
-fn cell(ticket: u64, mark: Mark) -> CellView {
-    CellView { ticket, mark }
+/// The cells of a queue are these.
+fn has_cells(rt: &impl Abort, alloc: Global, world: &World<u64>, wanted: &[(u64, Mark)]) {
+    let Ok(cells) = world.cells(alloc) else {
+        panic!(rt; "there is memory")
+    };
+    let shown = cells.iter().map(|cell| (cell.ticket, cell.mark));
+    assert!(rt; shown.eq(wanted.iter().copied()));
 }
 
 #[test]
@@ -117,157 +146,143 @@ fn sizes_and_first_tickets(rt: HostRuntime) {
     }
 }
 
-#[test]
-fn empty_queue(rt: HostRuntime) -> Result<(), Fail> {
-    let mut world = World::new(rt.alloc(), 2, 0)?;
-    world.begin_pop(2)?;
-    says(&rt, &mut world, 2, &[Said::Nothing, Said::Empty(0)]);
-    assert!(rt; world.is_idle(2));
-    assert!(rt; world.cells(rt.alloc())?.is_empty());
-    Ok(())
+// The actor is in no call.
+fn is_idle(rt: &impl Abort, world: &World<u64>, actor: u32) {
+    assert!(rt; world.is_idle(actor));
 }
 
 #[test]
-fn claimed_cell_in_front(rt: HostRuntime) -> Result<(), Fail> {
-    let mut world = World::new(rt.alloc(), 4, 0)?;
-    world.begin_push(1, 10)?;
-    says(
-        &rt,
-        &mut world,
-        1,
-        &[Said::Nothing, Said::Nothing, Said::Claim(0)],
-    );
+fn empty_queue(rt: HostRuntime) {
+    let mut world = world(&rt, rt.alloc(), 2, 0);
+    pop_says(&rt, &mut world, 2, &[Said::Nothing, Said::Empty(0)]);
+    is_idle(&rt, &world, 2);
+    has_cells(&rt, rt.alloc(), &world, &[]);
+}
+
+const CLAIM_0: [Said<u64>; 3] = [Said::Nothing, Said::Nothing, Said::Claim(0)];
+
+const GRAB_0: [Said<u64>; 3] = [Said::Nothing, Said::Nothing, Said::Grab(0)];
+
+#[test]
+fn claimed_cell_in_front(rt: HostRuntime) {
+    let mut world = world(&rt, rt.alloc(), 4, 0);
+    push_says(&rt, &mut world, 1, 10, &CLAIM_0);
     pushes(&rt, &mut world, 2, 20, 1);
-    world.begin_pop(3)?;
-    says(&rt, &mut world, 3, &[Said::Nothing, Said::Empty(0)]);
-    assert_eq!(rt;
-        world.cells(rt.alloc())?.as_slice(),
-        [cell(0, Mark::Claimed), cell(1, Mark::Written)].as_slice()
-    );
-    Ok(())
+    pop_says(&rt, &mut world, 3, &[Said::Nothing, Said::Empty(0)]);
+    let cells = [(0, Mark::Claimed), (1, Mark::Written)];
+    has_cells(&rt, rt.alloc(), &world, &cells);
 }
 
 #[test]
-fn emptying_cell_keeps_its_place(rt: HostRuntime) -> Result<(), Fail> {
-    let mut world = World::new(rt.alloc(), 2, 0)?;
+fn emptying_cell_keeps_its_place(rt: HostRuntime) {
+    let mut world = world(&rt, rt.alloc(), 2, 0);
     pushes(&rt, &mut world, 1, 10, 0);
     pushes(&rt, &mut world, 2, 20, 1);
-    world.begin_pop(3)?;
-    says(
-        &rt,
-        &mut world,
-        3,
-        &[Said::Nothing, Said::Nothing, Said::Grab(0)],
-    );
+    pop_says(&rt, &mut world, 3, &GRAB_0);
     pops(&rt, &mut world, 4, 1, 20);
-    world.begin_push(5, 30)?;
-    says(
-        &rt,
-        &mut world,
-        5,
-        &[Said::Nothing, Said::Full(2, Some(30))],
-    );
-    assert_eq!(rt;
-        world.cells(rt.alloc())?.as_slice(),
-        [cell(0, Mark::Emptying)].as_slice()
-    );
+    push_says(&rt, &mut world, 5, 30, &FULL_AT_2);
+    has_cells(&rt, rt.alloc(), &world, &[(0, Mark::Emptying)]);
     says(&rt, &mut world, 3, &[Said::Take(0, 10)]);
     pushes(&rt, &mut world, 5, 30, 2);
-    Ok(())
 }
 
+pub(crate) const FULL_AT_2: [Said<u64>; 2] = [Said::Nothing, Said::Full(2, Some(30))];
+
 #[test]
-fn busy_push(rt: HostRuntime) -> Result<(), Fail> {
-    let mut at_sequence = World::new(rt.alloc(), 4, 0)?;
-    at_sequence.begin_push(1, 10)?;
-    says(&rt, &mut at_sequence, 1, &[Said::Nothing]);
+fn busy_push(rt: HostRuntime) {
+    let mut at_sequence = world(&rt, rt.alloc(), 4, 0);
+    push_says(&rt, &mut at_sequence, 1, 10, &[Said::Nothing]);
     pushes(&rt, &mut at_sequence, 2, 20, 0);
     says(&rt, &mut at_sequence, 1, &[Said::Busy(0, Some(10))]);
 
-    let mut at_exchange = World::new(rt.alloc(), 4, 0)?;
-    at_exchange.begin_push(1, 10)?;
-    says(&rt, &mut at_exchange, 1, &[Said::Nothing, Said::Nothing]);
-    at_exchange.begin_push(2, 20)?;
-    says(
-        &rt,
-        &mut at_exchange,
-        2,
-        &[Said::Nothing, Said::Nothing, Said::Claim(0)],
-    );
+    let mut at_exchange = world(&rt, rt.alloc(), 4, 0);
+    let nothing = [Said::Nothing, Said::Nothing];
+    push_says(&rt, &mut at_exchange, 1, 10, &nothing);
+    push_says(&rt, &mut at_exchange, 2, 20, &CLAIM_0);
     says(&rt, &mut at_exchange, 1, &[Said::Busy(0, Some(10))]);
-    Ok(())
 }
 
 #[test]
-fn busy_pop(rt: HostRuntime) -> Result<(), Fail> {
-    let mut at_sequence = World::new(rt.alloc(), 4, 0)?;
+fn busy_pop(rt: HostRuntime) {
+    let mut at_sequence = world(&rt, rt.alloc(), 4, 0);
     pushes(&rt, &mut at_sequence, 1, 10, 0);
-    at_sequence.begin_pop(3)?;
-    says(&rt, &mut at_sequence, 3, &[Said::Nothing]);
+    pop_says(&rt, &mut at_sequence, 3, &[Said::Nothing]);
     pops(&rt, &mut at_sequence, 4, 0, 10);
     says(&rt, &mut at_sequence, 3, &[Said::Busy(0, None)]);
 
-    let mut at_exchange = World::new(rt.alloc(), 4, 0)?;
+    let mut at_exchange = world(&rt, rt.alloc(), 4, 0);
     pushes(&rt, &mut at_exchange, 1, 10, 0);
-    at_exchange.begin_pop(3)?;
-    says(&rt, &mut at_exchange, 3, &[Said::Nothing, Said::Nothing]);
-    at_exchange.begin_pop(4)?;
-    says(
-        &rt,
-        &mut at_exchange,
-        4,
-        &[Said::Nothing, Said::Nothing, Said::Grab(0)],
-    );
+    let nothing = [Said::Nothing, Said::Nothing];
+    pop_says(&rt, &mut at_exchange, 3, &nothing);
+    pop_says(&rt, &mut at_exchange, 4, &GRAB_0);
     says(&rt, &mut at_exchange, 3, &[Said::Busy(0, None)]);
-    Ok(())
 }
 
 #[test]
-fn last_ticket(rt: HostRuntime) -> Result<(), Fail> {
-    let mut world = World::new(rt.alloc(), 2, LAST)?;
+fn last_ticket(rt: HostRuntime) {
+    let mut world = world(&rt, rt.alloc(), 2, LAST);
     pushes(&rt, &mut world, 1, 10, LAST);
-    world.begin_push(2, 20)?;
-    says(&rt, &mut world, 2, &[Said::Spent(Some(20))]);
+    push_says(&rt, &mut world, 2, 20, &[Said::Spent(Some(20))]);
     pops(&rt, &mut world, 3, LAST, 10);
-    world.begin_pop(3)?;
-    says(
-        &rt,
-        &mut world,
-        3,
-        &[Said::Nothing, Said::Empty(4_611_686_018_427_387_904)],
-    );
-    Ok(())
+    pop_says(&rt, &mut world, 3, &[Said::Nothing, Said::Empty(LAST + 1)]);
+}
+
+// No push, no pop and no step of this actor is made, for these reasons.
+fn refuses(
+    rt: &impl Abort,
+    world: &mut World<u64>,
+    actor: u32,
+    fault: BeginError,
+    step: Option<StepError>,
+) {
+    let refused = Refused { fault, item: 20 };
+    assert!(rt; world.begin_push(actor, 20) == Err(refused));
+    assert!(rt; world.begin_pop(actor) == Err(fault));
+    if let Some(error) = step {
+        assert!(rt; world.step(actor) == Err(error));
+    }
+}
+
+// An actor that is in no call makes no step.
+fn refuses_step(rt: &impl Abort, world: &mut World<u64>, actor: u32) {
+    assert!(rt; world.step(actor) == Err(StepError::NotInCall));
 }
 
 #[test]
-fn refusals(rt: HostRuntime) -> Result<(), Fail> {
-    let mut world = World::new(rt.alloc(), 2, 0)?;
-    let no_actor = Refused {
-        fault: BeginError::NoActor,
-        item: 10,
-    };
-    assert!(rt; world.begin_push(64, 10) == Err(no_actor));
-    assert!(rt; world.begin_pop(64) == Err(BeginError::NoActor));
-    assert!(rt; world.step(64) == Err(StepError::NoActor));
-    world.begin_push(63, 10)?;
-    let in_call = Refused {
-        fault: BeginError::InCall,
-        item: 20,
-    };
-    assert!(rt; world.begin_push(63, 20) == Err(in_call));
-    assert!(rt; world.begin_pop(63) == Err(BeginError::InCall));
-    assert!(rt; world.step(62) == Err(StepError::NotInCall));
+fn refusals(rt: HostRuntime) {
+    let mut world = world(&rt, rt.alloc(), 2, 0);
+    let no_actor = Some(StepError::NoActor);
+    refuses(&rt, &mut world, 64, BeginError::NoActor, no_actor);
+    push_says(&rt, &mut world, 63, 10, &[]);
+    refuses(&rt, &mut world, 63, BeginError::InCall, None);
+    refuses_step(&rt, &mut world, 62);
     pushes(&rt, &mut world, 62, 30, 0);
+}
+
+#[test]
+fn numbers_of_refusals(rt: HostRuntime) {
     assert_eq!(rt; BeginError::NoActor.number(), 6);
     assert_eq!(rt; BeginError::InCall.number(), 7);
     assert_eq!(rt; StepError::NoActor.number(), 6);
     assert_eq!(rt; StepError::NotInCall.number(), 8);
-    Ok(())
+}
+
+// A run of these calls answers this.
+fn runs(
+    rt: &impl Abort,
+    alloc: Global,
+    world: &mut World<u64>,
+    calls: Vec<Call<u64>>,
+    wanted: &[Answer<u64>],
+) {
+    match world.run(alloc, calls) {
+        Ok(answers) => assert!(rt; answers.as_slice() == wanted),
+        Err(_) => panic!(rt; "there is memory"),
+    }
 }
 
 #[test]
 fn calls_and_their_answers(rt: HostRuntime) -> Result<(), Fail> {
-    let mut world = World::new(rt.alloc(), 2, 0)?;
     let calls = vec![in rt.alloc();
         Call::Push(1, 10),
         Call::Step(1),
@@ -276,6 +291,13 @@ fn calls_and_their_answers(rt: HostRuntime) -> Result<(), Fail> {
         Call::Step(1),
         Call::Step(1),
     ]?;
+    let refused = vec![in rt.alloc();
+        Call::Push(64, 20),
+        Call::Pop(0),
+        Call::Push(0, 30),
+        Call::Step(64),
+    ]?;
+    let mut world = world(&rt, rt.alloc(), 2, 0);
     let wanted = [
         Answer::Began,
         Answer::Said(Said::Nothing),
@@ -284,98 +306,82 @@ fn calls_and_their_answers(rt: HostRuntime) -> Result<(), Fail> {
         Answer::Said(Said::Write(0)),
         Answer::Refused(8, None),
     ];
-    assert_eq!(rt; world.run(rt.alloc(), calls)?.as_slice(), wanted.as_slice());
-    let refused = vec![in rt.alloc();
-        Call::Push(64, 20),
-        Call::Pop(0),
-        Call::Push(0, 30),
-        Call::Step(64),
-    ]?;
+    runs(&rt, rt.alloc(), &mut world, calls, &wanted);
     let wanted = [
         Answer::Refused(6, Some(20)),
         Answer::Began,
         Answer::Refused(7, Some(30)),
         Answer::Refused(6, None),
     ];
-    assert_eq!(rt;
-        world.run(rt.alloc(), refused)?.as_slice(),
-        wanted.as_slice()
-    );
+    runs(&rt, rt.alloc(), &mut world, refused, &wanted);
     Ok(())
+}
+
+// Calls of two actors whose items are texts.
+fn calls_of_texts(alloc: Global) -> Result<Vec<Call<String>>, AllocError> {
+    let mut calls = Vec::new(alloc);
+    calls.push(Call::Push(0, String::from_str(alloc, "first")?))?;
+    calls.push(Call::Push(0, String::from_str(alloc, "refused")?))?;
+    for _ in 0..4 {
+        calls.push(Call::Step(0))?;
+    }
+    let left = String::from_str(alloc, "left in its round")?;
+    calls.push(Call::Push(1, left))?;
+    calls.push(Call::Pop(0))?;
+    for _ in 0..4 {
+        calls.push(Call::Step(0))?;
+    }
+    Ok(calls)
+}
+
+// Whether the second answer is a refusal, and the last an item that was taken.
+fn are_of_texts(answers: &[Answer<String>]) -> bool {
+    let refused = match answers.get(1) {
+        Some(Answer::Refused(7, Some(text))) => text.as_str() == "refused",
+        _ => false,
+    };
+    let taken = match answers.last() {
+        Some(Answer::Said(Said::Take(5, text))) => text.as_str() == "first",
+        _ => false,
+    };
+    refused && taken && answers.len() == 12
 }
 
 #[test]
 fn items_that_own_memory(rt: HostRuntime) -> Result<(), Fail> {
-    let alloc = rt.alloc();
-    let mut world = World::new(alloc, 2, 5)?;
-    let calls = vec![in alloc;
-        Call::Push(0, String::from_str(alloc, "first")?),
-        Call::Push(0, String::from_str(alloc, "refused")?),
-        Call::Step(0),
-        Call::Step(0),
-        Call::Step(0),
-        Call::Step(0),
-        Call::Push(1, String::from_str(alloc, "left in its round")?),
-        Call::Pop(0),
-        Call::Step(0),
-        Call::Step(0),
-        Call::Step(0),
-        Call::Step(0),
-    ]?;
-    let answers = world.run(alloc, calls)?;
-    assert_eq!(rt; answers.len(), 12);
-    let refused = Answer::Refused(7, Some(String::from_str(alloc, "refused")?));
-    assert!(rt; answers[1] == refused);
-    let taken = Answer::Said(Said::Take(5, String::from_str(alloc, "first")?));
-    assert!(rt; answers[11] == taken);
-    Ok(())
-}
-
-/// Pushes of this actor, one after another, until the queue is full.
-fn fill(
-    rt: &impl Abort,
-    alloc: Global,
-    world: &mut World<u64>,
-    actor: u32,
-) -> Result<(), AllocError> {
-    for item in 0..MOST_PLACES as u64 {
-        let calls = vec![in alloc;
-            Call::Push(actor, item),
-            Call::Step(actor),
-            Call::Step(actor),
-            Call::Step(actor),
-            Call::Step(actor),
-        ]?;
-        let Ok(answers) = world.run(alloc, calls) else {
-            return Err(AllocError);
-        };
-        assert!(rt; answers.last() == Some(&Answer::Said(Said::Write(item))));
+    let calls = calls_of_texts(rt.alloc())?;
+    let mut world = World::new(rt.alloc(), 2, 5)?;
+    match world.run(rt.alloc(), calls) {
+        Ok(answers) => assert!(rt; are_of_texts(answers.as_slice())),
+        Err(_) => panic!(rt; "there is memory"),
     }
     Ok(())
 }
 
 #[test]
-fn the_largest_queue(rt: HostRuntime) -> Result<(), Fail> {
-    let mut world = World::new(rt.alloc(), MOST_PLACES, 0)?;
-    fill(&rt, rt.alloc(), &mut world, 63)?;
-    world.begin_push(0, 1)?;
-    says(
-        &rt,
-        &mut world,
-        0,
-        &[Said::Nothing, Said::Full(65_536, Some(1))],
-    );
-    let cells = world.cells(rt.alloc())?;
-    assert_eq!(rt; cells.len(), 65_536);
-    let written = (0..65_536).map(|ticket| cell(ticket, Mark::Written));
-    assert!(rt; cells.iter().copied().eq(written));
-    Ok(())
+fn the_largest_queue(rt: HostRuntime) {
+    let mut world = world(&rt, rt.alloc(), MOST_PLACES, 0);
+    for item in 0..MOST_PLACES as u64 {
+        pushes(&rt, &mut world, 63, item, item);
+    }
+    let full = [Said::Nothing, Said::Full(65_536, Some(1))];
+    push_says(&rt, &mut world, 0, 1, &full);
+    all_are_written(&rt, rt.alloc(), &world);
 }
 
-#[test]
-fn a_run_of_hundreds_of_calls(rt: HostRuntime) -> Result<(), Fail> {
-    let mut calls = Vec::new(rt.alloc());
-    for item in 0..100 {
+// All places have a written cell, from ticket 0 on.
+fn all_are_written(rt: &impl Abort, alloc: Global, world: &World<u64>) {
+    let Ok(cells) = world.cells(alloc) else {
+        panic!(rt; "there is memory")
+    };
+    let shown = cells.iter().map(|cell| (cell.ticket, cell.mark));
+    assert!(rt; shown.eq((0..65_536).map(|ticket| (ticket, Mark::Written))));
+}
+
+// Pushes and pops of so many items, step by step.
+fn pushes_and_pops(alloc: Global, items: u64) -> Result<Vec<Call<u64>>, AllocError> {
+    let mut calls = Vec::new(alloc);
+    for item in 0..items {
         calls.push(Call::Push(1, item))?;
         calls.push(Call::Pop(2))?;
         for _ in 0..4 {
@@ -385,19 +391,26 @@ fn a_run_of_hundreds_of_calls(rt: HostRuntime) -> Result<(), Fail> {
             calls.push(Call::Step(2))?;
         }
     }
-    let Some((world, answers)) = run_anew(rt.alloc(), 2, 7, calls) else {
-        panic!(rt; "memory is there")
-    };
-    assert_eq!(rt; answers.len(), 1000);
-    let mut taken = answers.iter().filter_map(|answer| match answer {
+    Ok(calls)
+}
+
+// The items that were taken are the numbers below so many, with tickets from 7 on.
+fn all_are_taken(rt: &impl Abort, answers: &[Answer<u64>], items: u64) {
+    let taken = answers.iter().filter_map(|answer| match answer {
         Answer::Said(Said::Take(ticket, item)) => Some((*ticket, *item)),
         _ => None,
     });
-    for item in 0..100 {
-        assert_eq!(rt; taken.next(), Some((item + 7, item)));
-    }
-    assert!(rt; taken.next().is_none());
-    assert!(rt; world.cells(rt.alloc())?.is_empty());
+    assert!(rt; taken.eq((0..items).map(|item| (item.saturating_add(7), item))));
+}
+
+#[test]
+fn a_run_of_hundreds_of_calls(rt: HostRuntime) -> Result<(), Fail> {
+    let calls = pushes_and_pops(rt.alloc(), 100)?;
+    let Some((world, answers)) = run_anew(rt.alloc(), 2, 7, calls) else {
+        panic!(rt; "memory is there")
+    };
+    all_are_taken(&rt, answers.as_slice(), 100);
+    has_cells(&rt, rt.alloc(), &world, &[]);
     Ok(())
 }
 
@@ -425,45 +438,55 @@ fn tickets_of_a_run(rt: HostRuntime) -> Result<(), Fail> {
     let Some(world) = run_counted(rt.alloc(), 2, 7, calls) else {
         panic!(rt; "memory is there")
     };
-    assert_eq!(rt;
-        world.cells(rt.alloc())?.as_slice(),
-        [cell(7, Mark::Claimed)].as_slice()
-    );
+    has_cells(&rt, rt.alloc(), &world, &[(7, Mark::Claimed)]);
     Ok(())
+}
+
+// How often a call has had no answer for want of memory: it may be wanting once.
+fn is_wanting(rt: &impl Abort, wanting: &mut bool) {
+    assert!(rt; !*wanting, "twice");
+    *wanting = true;
+}
+
+// A new queue, where memory may be wanting once.
+fn world_at_last(rt: &impl Abort, alloc: Global, wanting: &mut bool) -> World<u64> {
+    if let Ok(made) = World::new(alloc, 4, 5) {
+        return made;
+    }
+    is_wanting(rt, wanting);
+    world(rt, alloc, 4, 5)
+}
+
+// The queue has one written cell, where memory may be wanting once.
+fn shows_its_cell(rt: &impl Abort, alloc: Global, world: &World<u64>, wanting: &mut bool) {
+    match world.cells(alloc) {
+        Ok(cells) => {
+            let shown = cells.iter().map(|cell| (cell.ticket, cell.mark));
+            assert!(rt; shown.eq([(5, Mark::Written)].iter().copied()));
+        }
+        Err(AllocError) => is_wanting(rt, wanting),
+    }
+}
+
+// And these words.
+fn shows_its_words(rt: &impl Abort, alloc: Global, world: &World<u64>, wanting: &mut bool) {
+    match world.words(alloc) {
+        Ok(words) => assert!(rt; words.as_slice() == [6, 5, 8, 6, 6, 7].as_slice()),
+        Err(AllocError) => is_wanting(rt, wanting),
+    }
 }
 
 // Where memory is wanting once, one of these calls has no answer, and the next finds the queue as it was.
 #[test]
-fn want_of_memory(rt: HostRuntime) -> Result<(), Fail> {
-    let alloc = rt.alloc();
+fn want_of_memory(rt: HostRuntime) {
     let mut wanting = false;
-    let mut world = match World::new(alloc, 4, 5) {
-        Ok(world) => world,
-        Err(error) => {
-            assert_eq!(rt; error, WorldError::OutOfMemory);
-            wanting = true;
-            World::new(alloc, 4, 5)?
-        }
-    };
+    let mut world = world_at_last(&rt, rt.alloc(), &mut wanting);
     pushes(&rt, &mut world, 1, 10, 5);
-    for cells in [world.cells(alloc), world.cells(alloc)] {
-        match cells {
-            Ok(cells) => assert!(rt; cells.as_slice() == [cell(5, Mark::Written)].as_slice()),
-            Err(AllocError) => {
-                assert!(rt; !wanting, "twice");
-                wanting = true;
-            }
-        }
+    for _ in 0..2 {
+        shows_its_cell(&rt, rt.alloc(), &world, &mut wanting);
     }
-    for words in [world.words(alloc), world.words(alloc)] {
-        match words {
-            Ok(words) => assert!(rt; words.as_slice() == [6, 5, 8, 6, 6, 7].as_slice()),
-            Err(AllocError) => {
-                assert!(rt; !wanting, "twice");
-                wanting = true;
-            }
-        }
+    for _ in 0..2 {
+        shows_its_words(&rt, rt.alloc(), &world, &mut wanting);
     }
     pops(&rt, &mut world, 2, 5, 10);
-    Ok(())
 }

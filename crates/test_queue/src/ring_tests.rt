@@ -1,80 +1,155 @@
 ghost use Rattle.std.specs.Prelude.{◌≡◌, ◌<◌, None, [], ◌∷◌, IsSome, IfSome, IfNone};
 ghost use Rattle.alog_ring.specs.Known.{IsPassOf};
 
-use alog_ring::{Limit, NewError, Pass, PassesOut, PopError, PushError, Ring};
-use std::alloc::{AllocError, Global};
+use alog_ring::{ALL_PARTS, Limit, NewError, Pass, PassesOut, PopError, PushError, Ring};
+use std::alloc::Global;
+use std::process::Abort;
 use std::sync::Wait;
 use std::sync::atomic::{AtomicU64, Ordering};
 use std::test::Fail;
-use std::thread;
 
 #[test]
-fn takes_sizes_and_first_tickets(rt: HostRuntime) -> Result<(), Fail> {
-    for places in [0, 1, 3, 131_072] {
-        assert_eq!(rt;
-            Ring::<u64>::new(rt.alloc(), places, 0).err(),
-            Some(NewError::BadSize)
-        );
+fn takes_sizes_and_first_tickets(rt: HostRuntime) {
+    for (places, first, refused) in [
+        (0, 0, Some(NewError::BadSize)),
+        (1, 0, Some(NewError::BadSize)),
+        (3, 0, Some(NewError::BadSize)),
+        (131_072, 0, Some(NewError::BadSize)),
+        (3, 1 << 62, Some(NewError::BadSize)),
+        (2, 1 << 62, Some(NewError::BadFirst)),
+        (2, (1 << 62) - 1, None),
+        (65_536, 0, None),
+    ] {
+        assert!(rt; Ring::<u64>::new(rt.alloc(), places, first).err() == refused);
     }
-    assert_eq!(rt;
-        Ring::<u64>::new(rt.alloc(), 3, 1 << 62).err(),
-        Some(NewError::BadSize)
+}
+
+// A ring of numbers, and its first pass.
+pub(crate) fn ring_of<T>(
+    rt: &impl Abort,
+    alloc: Global,
+    places: usize,
+    first: u64,
+) -> (Ring<T>, Pass<T>)
+    ensures { IsPassOf result.0 result.1 }
+{
+    match Ring::new(alloc, places, first) {
+        Ok(made) => made,
+        Err(_) => panic!(rt; "no ring of {places} places from {first}"),
+    }
+}
+
+// One round of a push gets this ticket.
+fn pushes(rt: &impl Abort, ring: &Ring<u64>, pass: &mut Pass<u64>, value: u64, ticket: u64)
+    requires { IsPassOf ring.now pass.old }
+    ensures { IsPassOf ring.now pass.new }
+{
+    assert!(rt; matches!(ring.push_once(pass, value), Ok(got) if got == ticket));
+}
+
+// The ring is full, and the next ticket is this one.
+fn is_full(rt: &impl Abort, ring: &Ring<u64>, pass: &mut Pass<u64>, at: u64)
+    requires { IsPassOf ring.now pass.old }
+    ensures { IsPassOf ring.now pass.new }
+{
+    let full = matches!(
+        ring.push_once(pass, 9),
+        Err(PushError::Full { value: 9, next }) if next == at
     );
-    assert_eq!(rt;
-        Ring::<u64>::new(rt.alloc(), 2, 1 << 62).err(),
-        Some(NewError::BadFirst)
-    );
-    assert!(rt; Ring::<u64>::new(rt.alloc(), 2, (1 << 62) - 1).is_ok());
-    assert!(rt; Ring::<u64>::new(rt.alloc(), 65_536, 0).is_ok());
-    Ok(())
+    assert!(rt; full);
+}
+
+// One round of a pop takes this value with this ticket.
+fn pops(rt: &impl Abort, ring: &Ring<u64>, pass: &mut Pass<u64>, ticket: u64, value: u64)
+    requires { IsPassOf ring.now pass.old }
+    ensures { IsPassOf ring.now pass.new }
+{
+    assert!(rt; ring.pop_once(pass) == Ok((ticket, value)));
+}
+
+// A pass is out, and so the ring is not closed.
+fn stays(rt: &impl Abort, ring: Ring<u64>, pass: Pass<u64>) -> (Ring<u64>, Pass<u64>)
+    requires { IsPassOf ring pass }
+    ensures { IsPassOf result.0 result.1 }
+{
+    match ring.close(pass) {
+        Ok(_) => panic!(rt; "a pass is out"),
+        Err(PassesOut { ring, pass }) => (ring, pass),
+    }
+}
+
+// No pass is out, and this is left in the ring.
+fn leaves<L: Limit<u64> + Drop>(
+    rt: &impl Abort,
+    ring: Ring<u64, L>,
+    pass: Pass<u64>,
+    wanted: &[(u64, u64)],
+)
+    requires { IsPassOf ring pass }
+{
+    match ring.close(pass) {
+        Ok(left) => assert!(rt; left.as_slice() == wanted),
+        Err(_) => panic!(rt; "no pass is out"),
+    }
+}
+
+// The pass has so many parts of its ring, and has all of them or not.
+fn has_parts(rt: &impl Abort, ring: &Ring<u64>, pass: &mut Pass<u64>, parts: u64)
+    requires { IsPassOf ring.now pass.old }
+    ensures { IsPassOf ring.now pass.new }
+{
+    assert!(rt; pass.parts() == parts && ring.is_whole(pass) == (parts == ALL_PARTS));
 }
 
 #[test]
-fn a_ring_of_two(rt: HostRuntime) -> Result<(), Fail> {
-    let (ring, mut pass) = Ring::<u64>::new(rt.alloc(), 2, 5)?;
-    assert_eq!(rt; ring.places(), 2);
-    assert!(rt; matches!(ring.push_once(&mut pass, 7), Ok(5)));
-    assert!(rt; matches!(ring.push_once(&mut pass, 8), Ok(6)));
-    assert!(rt;
-        matches!(
-            ring.push_once(&mut pass, 9),
-            Err(PushError::Full { value: 9, next: 7 })
-        )
-    );
-    assert_eq!(rt; ring.pop_once(&mut pass), Ok((5, 7)));
+fn a_ring_of_two(rt: HostRuntime) {
+    let (ring, mut pass) = ring_of(&rt, rt.alloc(), 2, 5);
+    pushes(&rt, &ring, &mut pass, 7, 5);
+    pushes(&rt, &ring, &mut pass, 8, 6);
+    is_full(&rt, &ring, &mut pass, 7);
+    pops(&rt, &ring, &mut pass, 5, 7);
     let mut other = ring.split(&mut pass, 1);
-    assert_eq!(rt; (pass.parts(), other.parts()), ((1 << 32) - 1, 1));
     ring.meet(&mut pass, &mut other);
-    assert!(rt; !ring.is_whole(&mut pass));
-    let Err(PassesOut { ring, mut pass }) = ring.close(pass) else {
-        panic!(rt; "a pass is out")
-    };
+    has_parts(&rt, &ring, &mut pass, ALL_PARTS - 1);
+    has_parts(&rt, &ring, &mut other, 1);
+    let (ring, mut pass) = stays(&rt, ring, pass);
     ring.join(&mut pass, other);
-    assert!(rt; ring.is_whole(&mut pass));
-    let Ok(left) = ring.close(pass) else {
-        panic!(rt; "no pass is out")
-    };
-    assert_eq!(rt; left.as_slice(), [(6, 8)].as_slice());
-    Ok(())
+    has_parts(&rt, &ring, &mut pass, ALL_PARTS);
+    leaves(&rt, ring, pass, &[(6, 8)]);
 }
 
 #[test]
-fn the_last_ticket_of_all(rt: HostRuntime) -> Result<(), Fail> {
+fn a_ring_tells_its_places(rt: HostRuntime) {
+    let (ring, _pass) = ring_of::<u64>(&rt, rt.alloc(), 2, 5);
+    let places = ring.places();
+    drop(ring);
+    assert!(rt; places == 2);
+}
+
+// Pushes with waiting: the last ticket of all is given, and then there is none.
+fn push_at_last(rt: &(impl Abort + Wait), ring: &Ring<u64>, pass: &mut Pass<u64>, last: u64)
+    requires { IsPassOf ring.now pass.old }
+    ensures { IsPassOf ring.now pass.new }
+{
+    assert!(rt; matches!(ring.push(rt, pass, 1), Ok(ticket) if ticket == last));
+    assert!(rt; matches!(ring.push(rt, pass, 2), Err(PushError::Spent { value: 2 })));
+}
+
+// Pops with waiting: the value of the last ticket, and then none.
+fn pop_at_last(rt: &(impl Abort + Wait), ring: &Ring<u64>, pass: &mut Pass<u64>, last: u64)
+    requires { IsPassOf ring.now pass.old }
+    ensures { IsPassOf ring.now pass.new }
+{
+    assert!(rt; ring.pop(rt, pass) == Ok((last, 1)));
+    assert!(rt; ring.pop(rt, pass) == Err(PopError::Empty { next: 1 << 62 }));
+}
+
+#[test]
+fn the_last_ticket_of_all(rt: HostRuntime) {
     let last = (1 << 62) - 1;
-    let (ring, mut pass) = Ring::<u64>::new(rt.alloc(), 2, last)?;
-    assert!(rt; matches!(ring.push(&rt, &mut pass, 1), Ok(4_611_686_018_427_387_903)));
-    assert!(rt;
-        matches!(
-            ring.push(&rt, &mut pass, 2),
-            Err(PushError::Spent { value: 2 })
-        )
-    );
-    assert_eq!(rt; ring.pop(&rt, &mut pass), Ok((last, 1)));
-    assert_eq!(rt;
-        ring.pop(&rt, &mut pass),
-        Err(PopError::Empty { next: 1 << 62 })
-    );
-    Ok(())
+    let (ring, mut pass) = ring_of(&rt, rt.alloc(), 2, last);
+    push_at_last(&rt, &ring, &mut pass, last);
+    pop_at_last(&rt, &ring, &mut pass, last);
 }
 
 // A ring that is made and closed: nothing is left in it.
@@ -127,27 +202,36 @@ fn pushed_from(ring: &Ring<u64>, pass: &mut Pass<u64>, hand: &mut Option<u64>) -
     ring.push_from(pass, hand).ok()
 }
 
-#[test]
-fn a_hand_is_emptied_once(rt: HostRuntime) -> Result<(), Fail> {
-    let (ring, mut pass) = Ring::<u64>::new(rt.alloc(), 2, 5)?;
-    let mut hand = Some(7);
-    assert_eq!(rt; pushed_from(&ring, &mut pass, &mut hand), Some(5));
-    assert_eq!(rt; hand, None);
-    let mut hand = Some(8);
-    assert_eq!(rt; pushed_from(&ring, &mut pass, &mut hand), Some(6));
+// Pushes this value out of a hand, which is empty then.
+fn empties(rt: &impl Abort, ring: &Ring<u64>, pass: &mut Pass<u64>, value: u64, ticket: u64)
+    requires { IsPassOf ring.now pass.old }
+    ensures { IsPassOf ring.now pass.new }
+{
+    let mut hand = Some(value);
+    let pushed = pushed_from(ring, pass, &mut hand);
+    assert!(rt; pushed == Some(ticket) && hand.is_none());
+}
+
+// The ring is full, the next ticket is this one, and the hand keeps its value.
+fn keeps(rt: &impl Abort, ring: &Ring<u64>, pass: &mut Pass<u64>, at: u64)
+    requires { IsPassOf ring.now pass.old }
+    ensures { IsPassOf ring.now pass.new }
+{
     let mut hand = Some(9);
-    assert!(rt;
-        matches!(
-            ring.push_from(&mut pass, &mut hand),
-            Err(PushError::Full { value: (), next: 7 })
-        )
+    let full = matches!(
+        ring.push_from(pass, &mut hand),
+        Err(PushError::Full { value: (), next }) if next == at
     );
-    assert_eq!(rt; hand, Some(9));
-    let Ok(left) = ring.close(pass) else {
-        panic!(rt; "no pass is out")
-    };
-    assert_eq!(rt; left.as_slice(), [(5, 7), (6, 8)].as_slice());
-    Ok(())
+    assert!(rt; full && hand == Some(9));
+}
+
+#[test]
+fn a_hand_is_emptied_once(rt: HostRuntime) {
+    let (ring, mut pass) = ring_of(&rt, rt.alloc(), 2, 5);
+    empties(&rt, &ring, &mut pass, 7, 5);
+    empties(&rt, &ring, &mut pass, 8, 6);
+    keeps(&rt, &ring, &mut pass, 7);
+    leaves(&rt, ring, pass, &[(5, 7), (6, 8)]);
 }
 
 // Pops into a hand that is empty, and answers the ticket; the hand has a value just where there is one.
@@ -161,27 +245,36 @@ fn popped_into(ring: &Ring<u64>, pass: &mut Pass<u64>, hand: &mut Option<u64>) -
     ring.pop_once_into(pass, hand).ok()
 }
 
+// A pop, of which the hand gets this value, if any.
+fn fills(rt: &impl Abort, ring: &Ring<u64>, pass: &mut Pass<u64>, wanted: Option<(u64, u64)>)
+    requires { IsPassOf ring.now pass.old }
+    ensures { IsPassOf ring.now pass.new }
+{
+    let mut hand = None;
+    let ticket = popped_into(ring, pass, &mut hand);
+    assert!(rt; (ticket, hand) == (wanted.map(|it| it.0), wanted.map(|it| it.1)));
+}
+
+// The same with waiting: a value, and then none.
+fn fills_at_last(rt: &(impl Abort + Wait), ring: &Ring<u64>, pass: &mut Pass<u64>)
+    requires { IsPassOf ring.now pass.old }
+    ensures { IsPassOf ring.now pass.new }
+{
+    let (mut second, mut third) = (None, None);
+    let some = ring.pop_into(rt, pass, &mut second);
+    let none = ring.pop_into(rt, pass, &mut third);
+    assert!(rt; some == Ok(6) && second == Some(8));
+    assert!(rt; none == Err(PopError::Empty { next: 7 }) && third.is_none());
+}
+
 #[test]
-fn a_hand_is_filled(rt: HostRuntime) -> Result<(), Fail> {
-    let (ring, mut pass) = Ring::<u64>::new(rt.alloc(), 2, 5)?;
-    let mut none = None;
-    assert_eq!(rt; popped_into(&ring, &mut pass, &mut none), None);
-    assert_eq!(rt; none, None);
-    let mut first = None;
-    let mut second = None;
-    let mut third = None;
-    assert!(rt; ring.push_once(&mut pass, 7).is_ok());
-    assert!(rt; ring.push_once(&mut pass, 8).is_ok());
-    assert_eq!(rt; popped_into(&ring, &mut pass, &mut first), Some(5));
-    assert_eq!(rt; first, Some(7));
-    assert_eq!(rt; ring.pop_into(&rt, &mut pass, &mut second), Ok(6));
-    assert_eq!(rt; second, Some(8));
-    assert_eq!(rt;
-        ring.pop_into(&rt, &mut pass, &mut third),
-        Err(PopError::Empty { next: 7 })
-    );
-    assert_eq!(rt; third, None);
-    Ok(())
+fn a_hand_is_filled(rt: HostRuntime) {
+    let (ring, mut pass) = ring_of(&rt, rt.alloc(), 2, 5);
+    fills(&rt, &ring, &mut pass, None);
+    pushes(&rt, &ring, &mut pass, 7, 5);
+    pushes(&rt, &ring, &mut pass, 8, 6);
+    fills(&rt, &ring, &mut pass, Some((5, 7)));
+    fills_at_last(&rt, &ring, &mut pass);
 }
 
 // A drop writes its digit behind those of the drops before.
@@ -198,254 +291,75 @@ impl<'a> Drop for Noted<'a> {
     }
 }
 
-#[test]
-fn drops_each_value_once(rt: HostRuntime) -> Result<(), Fail> {
-    let drops = AtomicU64::new(0);
-    let (ring, mut pass) = Ring::new(rt.alloc(), 2, 0)?;
-    assert!(rt; ring.push_once(&mut pass, Noted(&drops, 1)).is_ok());
-    assert!(rt; ring.push_once(&mut pass, Noted(&drops, 2)).is_ok());
-    drop(ring.push_once(&mut pass, Noted(&drops, 3)));
-    assert!(rt; drops.load(Ordering::SeqCst) == 3);
-    drop(ring.pop_once(&mut pass));
-    assert!(rt; drops.load(Ordering::SeqCst) == 31);
-    drop(ring);
-    assert!(rt; drops.load(Ordering::SeqCst) == 312);
-    Ok(())
+// Three values are brought to a ring of two, which refuses the third, and the first is taken.
+fn bring_three<'a>(ring: &Ring<Noted<'a>>, pass: &mut Pass<Noted<'a>>, drops: &'a AtomicU64) -> u64
+    requires { IsPassOf ring.now pass.old }
+{
+    drop(ring.push_once(pass, Noted(drops, 1)));
+    drop(ring.push_once(pass, Noted(drops, 2)));
+    drop(ring.push_once(pass, Noted(drops, 3)));
+    let refused = drops.load(Ordering::SeqCst);
+    drop(ring.pop_once(pass));
+    refused
 }
 
+#[test]
+fn drops_each_value_once(rt: HostRuntime) {
+    let drops = AtomicU64::new(0);
+    let (ring, mut pass) = ring_of(&rt, rt.alloc(), 2, 0);
+    let refused = bring_three(&ring, &mut pass, &drops);
+    let taken = drops.load(Ordering::SeqCst);
+    drop(ring);
+    assert!(rt; (refused, taken, drops.load(Ordering::SeqCst)) == (3, 31, 312));
+}
+
+// A text is pushed.
 fn push_text(
+    rt: &impl Abort,
     alloc: Global,
     ring: &Ring<String>,
     pass: &mut Pass<String>,
     text: &str,
-) -> Result<bool, AllocError>
+)
     requires { IsPassOf ring.now pass.old }
     ensures { IsPassOf ring.now pass.new }
 {
-    let text = String::from_str(alloc, text)?;
-    Ok(ring.push_once(pass, text).is_ok())
+    let Ok(text) = String::from_str(alloc, text) else {
+        panic!(rt; "there is memory")
+    };
+    assert!(rt; ring.push_once(pass, text).is_ok());
 }
 
-#[test]
-fn keeps_values_that_own_memory(rt: HostRuntime) -> Result<(), Fail> {
-    let (ring, mut pass) = Ring::new(rt.alloc(), 4, 0)?;
-    assert!(rt; push_text(rt.alloc(), &ring, &mut pass, "a")?);
-    assert!(rt; push_text(rt.alloc(), &ring, &mut pass, "bc")?);
-    assert!(rt; push_text(rt.alloc(), &ring, &mut pass, "def")?);
-    let Ok((ticket, text)) = ring.pop_once(&mut pass) else {
-        panic!(rt; "three are there")
-    };
-    assert_eq!(rt; (ticket, text.as_str()), (0, "a"));
+// The first text is taken.
+fn pop_text(rt: &impl Abort, ring: &Ring<String>, pass: &mut Pass<String>, wanted: &str)
+    requires { IsPassOf ring.now pass.old }
+    ensures { IsPassOf ring.now pass.new }
+{
+    match ring.pop_once(pass) {
+        Ok((0, text)) => assert!(rt; text.as_str() == wanted),
+        _ => panic!(rt; "there is a text"),
+    }
+}
+
+// Texts of these lengths are left, with these tickets.
+fn leaves_texts(rt: &impl Abort, ring: Ring<String>, pass: Pass<String>, wanted: &[(u64, usize)])
+    requires { IsPassOf ring pass }
+{
     let Ok(left) = ring.close(pass) else {
         panic!(rt; "no pass is out")
     };
-    let mut lengths = left.iter().map(|(ticket, text)| (*ticket, text.len()));
-    assert_eq!(rt;
-        (lengths.next(), lengths.next()),
-        (Some((1, 2)), Some((2, 3)))
-    );
-    Ok(())
-}
-
-// Pushes until the ring takes the value.
-fn push_until<T>(rt: &impl Wait, ring: &Ring<T>, pass: &mut Pass<T>, mut value: T) -> u64
-    requires { IsPassOf ring.now pass.old }
-    ensures { IsPassOf ring.now pass.new }
-{
-    for _ in rt.forever() {
-        value = match ring.push(rt, pass, value) {
-            Ok(ticket) => return ticket,
-            Err(
-                PushError::Full { value, .. }
-                | PushError::Busy { value, .. }
-                | PushError::Spent { value },
-            ) => value,
-        };
-        thread::yield_now();
-    }
-    unreachable!()
-}
-
-// Pops until there is a value.
-fn pop_until<T>(rt: &impl Wait, ring: &Ring<T>, pass: &mut Pass<T>) -> T
-    requires { IsPassOf ring.now pass.old }
-    ensures { IsPassOf ring.now pass.new }
-{
-    for _ in rt.forever() {
-        match ring.pop(rt, pass) {
-            Ok((_, value)) => return value,
-            Err(_) => thread::yield_now(),
-        }
-    }
-    unreachable!()
-}
-
-// A ring, and a pass of it.
-#[derive(Drop)]
-struct Worker<'a, T> {
-    ring: &'a Ring<T>,
-    pass: Pass<T>,
-    ghost fits: { IsPassOf ring.now pass },
-}
-
-// Pushes the numbers from `from` to `to`, and answers their tickets.
-fn push_all(
-    rt: &impl Wait,
-    alloc: Global,
-    worker: Worker<u64>,
-    from: u64,
-    to: u64,
-) -> Result<Vec<u64>, AllocError> {
-    let Worker { ring, mut pass } = worker;
-    let mut tickets = Vec::new(alloc);
-    for value in from..to {
-        tickets.push(push_until(rt, ring, &mut pass, value))?;
-    }
-    Ok(tickets)
-}
-
-// Pops so many values.
-fn pop_all(
-    rt: &impl Wait,
-    alloc: Global,
-    worker: Worker<u64>,
-    count: u64,
-) -> Result<Vec<u64>, AllocError> {
-    let Worker { ring, mut pass } = worker;
-    let mut values = Vec::new(alloc);
-    for _ in 0..count {
-        values.push(pop_until(rt, ring, &mut pass))?;
-    }
-    Ok(values)
-}
-
-// Whether these are the numbers below `count`, each once.
-fn are_all_below(mut one: Vec<u64>, two: Vec<u64>, count: u64) -> Result<bool, AllocError> {
-    one.extend_from_slice(two.as_slice())?;
-    one.sort()?;
-    Ok(one.as_slice().iter().copied().eq(0..count))
+    let lengths = left.iter().map(|(ticket, text)| (*ticket, text.len()));
+    assert!(rt; lengths.eq(wanted.iter().copied()));
 }
 
 #[test]
-fn two_threads_share_a_ring(rt: HostRuntime) -> Result<(), Fail> {
-    let (ring, mut pass) = Ring::<u64>::new(rt.alloc(), 1024, 0)?;
-    let mut other = ring.split(&mut pass, 1);
-    let (pushed, popped) = thread::join(
-        &rt,
-        || ring.push(&rt, &mut pass, 42).ok(),
-        || pop_until(&rt, &ring, &mut other),
-    );
-    assert_eq!(rt; (pushed, popped), (Some(0), 42));
-    Ok(())
-}
-
-#[test]
-fn two_threads_push(rt: HostRuntime) -> Result<(), Fail> {
-    let alloc = rt.alloc();
-    let (ring, mut pass) = Ring::<u64>::new(alloc, 1024, 0)?;
-    let ring = &ring;
-    let other = Worker {
-        ring,
-        pass: ring.split(&mut pass, 1 << 31),
-    };
-    let worker = Worker { ring, pass };
-    let (one, two) = thread::join(
-        &rt,
-        || push_all(&rt, alloc, worker, 0, 500),
-        || push_all(&rt, alloc, other, 500, 1000),
-    );
-    assert!(rt; are_all_below(one?, two?, 1000)?);
-    Ok(())
-}
-
-#[test]
-fn two_threads_push_and_two_pop(rt: HostRuntime) -> Result<(), Fail> {
-    let alloc = rt.alloc();
-    let (ring, mut pass) = Ring::<u64>::new(alloc, 8, (1 << 62) - 4000)?;
-    let ring = &ring;
-    let second = Worker {
-        ring,
-        pass: ring.split(&mut pass, 1),
-    };
-    let third = Worker {
-        ring,
-        pass: ring.split(&mut pass, 1),
-    };
-    let fourth = Worker {
-        ring,
-        pass: ring.split(&mut pass, 1),
-    };
-    let first = Worker { ring, pass };
-    let (pushes, pops) = thread::join(
-        &rt,
-        || {
-            thread::join(
-                &rt,
-                || push_all(&rt, alloc, first, 0, 1000),
-                || push_all(&rt, alloc, second, 1000, 2000),
-            )
-        },
-        || {
-            thread::join(
-                &rt,
-                || pop_all(&rt, alloc, third, 1000),
-                || pop_all(&rt, alloc, fourth, 1000),
-            )
-        },
-    );
-    assert!(rt; pushes.0.is_ok() && pushes.1.is_ok());
-    assert!(rt; are_all_below(pops.0?, pops.1?, 2000)?);
-    Ok(())
-}
-
-// Pushes the numbers below `count`, each in a list of its own.
-fn push_lists(
-    rt: &impl Wait,
-    alloc: Global,
-    worker: Worker<Vec<u64>>,
-    count: u64,
-) -> Result<(), AllocError> {
-    let Worker { ring, mut pass } = worker;
-    for number in 0..count {
-        push_until(rt, ring, &mut pass, vec![in alloc; number; 1]?);
+fn keeps_values_that_own_memory(rt: HostRuntime) {
+    let (ring, mut pass) = ring_of(&rt, rt.alloc(), 4, 0);
+    for text in ["a", "bc", "def"] {
+        push_text(&rt, rt.alloc(), &ring, &mut pass, text);
     }
-    Ok(())
-}
-
-// Pops so many lists, and joins them.
-fn pop_lists(
-    rt: &impl Wait,
-    alloc: Global,
-    worker: Worker<Vec<u64>>,
-    count: u64,
-) -> Result<Vec<u64>, AllocError> {
-    let Worker { ring, mut pass } = worker;
-    let mut numbers = Vec::new(alloc);
-    for _ in 0..count {
-        let list = pop_until(rt, ring, &mut pass);
-        numbers.extend_from_slice(list.as_slice())?;
-    }
-    Ok(numbers)
-}
-
-#[test]
-fn lists_go_from_thread_to_thread(rt: HostRuntime) -> Result<(), Fail> {
-    let alloc = rt.alloc();
-    let (ring, mut pass) = Ring::<Vec<u64>>::new(alloc, 2, 0)?;
-    let ring = &ring;
-    let other = Worker {
-        ring,
-        pass: ring.split(&mut pass, 1),
-    };
-    let worker = Worker { ring, pass };
-    let (pushed, popped) = thread::join(
-        &rt,
-        || push_lists(&rt, alloc, worker, 1000),
-        || pop_lists(&rt, alloc, other, 1000),
-    );
-    assert!(rt; pushed.is_ok());
-    assert!(rt; popped?.as_slice().iter().copied().eq(0..1000));
-    Ok(())
+    pop_text(&rt, &ring, &mut pass, "a");
+    leaves_texts(&rt, ring, pass, &[(1, 2), (2, 3)]);
 }
 
 // Numbers of one digit.
@@ -469,15 +383,20 @@ fn through(ring: &Ring<u64, Small>, pass: &mut Pass<u64>, value: u64) -> Option<
     ring.pop_once(pass).ok().map(|(_, out)| out)
 }
 
+// The numbers 9 and 3 are brought, and the 9 is taken.
+fn bring_small(rt: &impl Abort, ring: &Ring<u64, Small>, pass: &mut Pass<u64>)
+    requires { IsPassOf ring.now pass.old }
+    ensures { IsPassOf ring.now pass.new }
+{
+    assert!(rt; through(ring, pass, 9) == Some(9));
+    assert!(rt; ring.push_once(pass, 3).is_ok());
+}
+
 #[test]
-fn a_ring_of_small_numbers(rt: HostRuntime) -> Result<(), Fail> {
-    let (ring, mut pass) = Ring::limited(rt.alloc(), 2, 0, Small)?;
-    assert_eq!(rt; through(&ring, &mut pass, 9), Some(9));
-    assert!(rt; ring.push_once(&mut pass, 3).is_ok());
-    let left = match ring.close(pass) {
-        Ok(left) => left,
-        Err(_) => panic!(rt; "no pass is out"),
+fn a_ring_of_small_numbers(rt: HostRuntime) {
+    let Ok((ring, mut pass)) = Ring::limited(rt.alloc(), 2, 0, Small) else {
+        panic!(rt; "there is memory")
     };
-    assert_eq!(rt; left.as_slice(), [(1, 3)].as_slice());
-    Ok(())
+    bring_small(&rt, &ring, &mut pass);
+    leaves(&rt, ring, pass, &[(1, 3)]);
 }

@@ -1,71 +1,48 @@
 //! The words of a queue: worked rows, and 1,000 schedules on which words and places answer as the plain list does.
 use crate::plain::Plain;
-use crate::queue_tests::{LAST, pops, pushes, says};
+use crate::queue_tests::{FULL_AT_2, LAST, pop_says, pops, push_says, pushes, says, world};
 use alog_core::{Answer, Call, Said, World};
 use std::alloc::{AllocError, Global};
 use std::process::Abort;
 use std::test::Fail;
 
 /// The words of a queue are these.
-fn has_words(
-    rt: &impl Abort,
-    alloc: Global,
-    world: &World<u64>,
-    wanted: &[u64],
-) -> Result<(), AllocError> {
-    let words = world.words(alloc)?;
-    assert!(rt; words.as_slice() == wanted, "{words:?} and not {wanted:?}");
-    Ok(())
+fn has_words(rt: &impl Abort, alloc: Global, world: &World<u64>, wanted: &[u64]) {
+    match world.words(alloc) {
+        Ok(words) => assert!(rt; words.as_slice() == wanted),
+        Err(_) => panic!(rt; "there is memory"),
+    }
 }
 
 #[test]
-fn words_of_a_queue(rt: HostRuntime) -> Result<(), Fail> {
-    let mut world = World::new(rt.alloc(), 2, 5)?;
-    has_words(&rt, rt.alloc(), &world, &[5, 5, 6, 5])?;
-    world.begin_push(1, 10)?;
-    says(
-        &rt,
-        &mut world,
-        1,
-        &[Said::Nothing, Said::Nothing, Said::Claim(5)],
-    );
-    has_words(&rt, rt.alloc(), &world, &[6, 5, 6, 5])?;
+fn words_of_a_queue(rt: HostRuntime) {
+    let mut world = world(&rt, rt.alloc(), 2, 5);
+    has_words(&rt, rt.alloc(), &world, &[5, 5, 6, 5]);
+    let claimed = [Said::Nothing, Said::Nothing, Said::Claim(5)];
+    push_says(&rt, &mut world, 1, 10, &claimed);
+    has_words(&rt, rt.alloc(), &world, &[6, 5, 6, 5]);
     says(&rt, &mut world, 1, &[Said::Write(5)]);
-    has_words(&rt, rt.alloc(), &world, &[6, 5, 6, 6])?;
+    has_words(&rt, rt.alloc(), &world, &[6, 5, 6, 6]);
     pops(&rt, &mut world, 2, 5, 10);
-    has_words(&rt, rt.alloc(), &world, &[6, 6, 6, 7])?;
-    Ok(())
+    has_words(&rt, rt.alloc(), &world, &[6, 6, 6, 7]);
 }
 
 #[test]
-fn words_of_a_full_queue(rt: HostRuntime) -> Result<(), Fail> {
-    let mut world = World::new(rt.alloc(), 2, 0)?;
+fn words_of_a_full_queue(rt: HostRuntime) {
+    let mut world = world(&rt, rt.alloc(), 2, 0);
     pushes(&rt, &mut world, 1, 10, 0);
     pushes(&rt, &mut world, 2, 20, 1);
-    world.begin_pop(3)?;
-    says(
-        &rt,
-        &mut world,
-        3,
-        &[Said::Nothing, Said::Nothing, Said::Grab(0)],
-    );
+    let grabbed = [Said::Nothing, Said::Nothing, Said::Grab(0)];
+    pop_says(&rt, &mut world, 3, &grabbed);
     pops(&rt, &mut world, 4, 1, 20);
-    world.begin_push(5, 30)?;
-    says(
-        &rt,
-        &mut world,
-        5,
-        &[Said::Nothing, Said::Full(2, Some(30))],
-    );
-    has_words(&rt, rt.alloc(), &world, &[2, 2, 1, 3])?;
-    Ok(())
+    push_says(&rt, &mut world, 5, 30, &FULL_AT_2);
+    has_words(&rt, rt.alloc(), &world, &[2, 2, 1, 3]);
 }
 
 #[test]
-fn words_at_the_last_ticket(rt: HostRuntime) -> Result<(), Fail> {
-    let world = World::new(rt.alloc(), 2, LAST)?;
-    has_words(&rt, rt.alloc(), &world, &[LAST, LAST, LAST + 1, LAST])?;
-    Ok(())
+fn words_at_the_last_ticket(rt: HostRuntime) {
+    let world = world(&rt, rt.alloc(), 2, LAST);
+    has_words(&rt, rt.alloc(), &world, &[LAST, LAST, LAST + 1, LAST]);
 }
 
 /// Numbers in a fixed order (Steele, Lea and Flood's SplitMix64).
@@ -128,28 +105,48 @@ fn answer_alike(
     Ok(answers == wanted)
 }
 
+/// Whether both show the same cells and words.
+fn show_alike(alloc: Global, world: &World<u64>, plain: &Plain<u64>) -> Result<bool, AllocError> {
+    let cells = world.cells(alloc)? == plain.cells(alloc)?;
+    Ok(cells && world.words(alloc)? == plain.words(alloc)?)
+}
+
+/// Plays eight runs on both, and tells whether both were alike after each.
+fn are_alike(
+    alloc: Global,
+    world: &mut World<u64>,
+    plain: &mut Plain<u64>,
+    numbers: &mut Numbers,
+    actors: u64,
+) -> Result<bool, AllocError> {
+    let mut alike = true;
+    for _ in 0..8 {
+        let answers = answer_alike(alloc, world, plain, numbers.next(), actors)?;
+        alike = alike && answers && show_alike(alloc, world, plain)?;
+    }
+    Ok(alike)
+}
+
+/// A queue of one of a few sizes and first tickets, and the same as a plain list, are alike.
+fn schedule_is_alike(
+    rt: &impl Abort,
+    alloc: Global,
+    numbers: &mut Numbers,
+) -> Result<bool, AllocError> {
+    let places = numbers.one_of(&[2, 4, 8, 16]);
+    let first = numbers.one_of(&[0, 1, 5, 14, LAST - 40, LAST - 9, LAST - 2, LAST]);
+    let actors = numbers.one_of(&[1, 2, 4, 8, 16, 32, 64, 64]);
+    let mut plain = Plain::new(alloc, places, first)?;
+    let mut world = world(rt, alloc, places as usize, first);
+    are_alike(alloc, &mut world, &mut plain, numbers, actors)
+}
+
 #[test]
 fn a_plain_list_answers_alike(rt: HostRuntime) -> Result<(), Fail> {
-    let alloc = rt.alloc();
     let mut numbers = Numbers(1);
     for schedule in 0..1000 {
-        let places = numbers.one_of(&[2, 4, 8, 16]);
-        let first = numbers.one_of(&[0, 1, 5, 14, LAST - 40, LAST - 9, LAST - 2, LAST]);
-        let actors = numbers.one_of(&[1, 2, 4, 8, 16, 32, 64, 64]);
-        let mut world = World::new(alloc, places as usize, first)?;
-        let mut plain = Plain::new(alloc, places, first)?;
-        for _ in 0..8 {
-            let alike = answer_alike(alloc, &mut world, &mut plain, numbers.next(), actors)?;
-            assert!(rt; alike, "schedule {schedule}");
-            assert!(rt;
-                world.cells(alloc)? == plain.cells(alloc)?,
-                "schedule {schedule}"
-            );
-            assert!(rt;
-                world.words(alloc)? == plain.words(alloc)?,
-                "schedule {schedule}"
-            );
-        }
+        let alike = schedule_is_alike(&rt, rt.alloc(), &mut numbers)?;
+        assert!(rt; alike, "schedule {schedule}");
     }
     Ok(())
 }

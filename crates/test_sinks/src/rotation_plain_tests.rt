@@ -168,17 +168,24 @@ fn looks_right(
     Ok(are_right(rt, sink.store(), &opened, runs, max_files)?)
 }
 
-// Pieces of the sizes that are the digits of `code` by 5; all but the first are lines, which end with one byte more.
-fn pieces_of(alloc: Global, count: usize, code: usize) -> Result<Vec<Vec<u8>>, AllocError> {
+// Pieces of these sizes, by the digits of `code`; all but the first are lines, which end with one byte more.
+fn pieces_of(
+    alloc: Global,
+    count: usize,
+    sizes: &[usize],
+    code: usize,
+) -> Result<Vec<Vec<u8>>, AllocError> {
     let mut pieces = Vec::new(alloc);
     let mut code = code;
     for letter in b"abcdef".iter().take(count) {
-        let mut piece = vec![in alloc; *letter; code % 5]?;
+        let digit = code.checked_rem(sizes.len()).unwrap_or(0);
+        let size = sizes.get(digit).copied().unwrap_or(0);
+        let mut piece = vec![in alloc; *letter; size]?;
         if !pieces.is_empty() {
             piece.push(b'\n')?;
         }
         pieces.push(piece)?;
-        code /= 5;
+        code = code.checked_div(sizes.len()).unwrap_or(0);
     }
     Ok(pieces)
 }
@@ -195,19 +202,42 @@ fn each_limit(rt: &(impl Abort + AllocGlobal), pieces: &[Vec<u8>]) -> Result<(),
         let max_size = numbers.saturating_add(1);
         let runs = runs_of(rt, some.as_slice(), max_size)?;
         for max_files in 0..4 {
-            looks_right(rt, pieces, runs.as_slice(), numbers, max_size as u64, max_files)?;
+            looks_right(
+                rt,
+                pieces,
+                runs.as_slice(),
+                numbers,
+                max_size as u64,
+                max_files,
+            )?;
         }
     }
     Ok(())
 }
 
-#[test]
-fn all_small_lists_of_pieces(rt: HostRuntime) -> Result<(), Fail> {
-    for (count, lists) in [1, 5, 25, 125, 625].iter().enumerate() {
-        for code in 0..*lists {
-            let pieces = pieces_of(rt.alloc(), count, code)?;
-            each_limit(&rt, pieces.as_slice())?;
-        }
+// Rotates all lists of so many pieces of these sizes, of which there are as many as are said.
+fn each_list(
+    rt: &(impl Abort + AllocGlobal),
+    count: usize,
+    sizes: &[usize],
+    lists: usize,
+) -> Result<(), Fail> {
+    for code in 0..lists {
+        let pieces = pieces_of(rt.alloc(), count, sizes, code)?;
+        each_limit(rt, pieces.as_slice())?;
     }
     Ok(())
+}
+
+#[test]
+fn all_lists_of_up_to_three_pieces(rt: HostRuntime) -> Result<(), Fail> {
+    for (count, lists) in [1, 5, 25, 125].iter().enumerate() {
+        each_list(&rt, count, &[0, 1, 2, 3, 4], *lists)?;
+    }
+    Ok(())
+}
+
+#[test]
+fn all_lists_of_six_pieces(rt: HostRuntime) -> Result<(), Fail> {
+    each_list(&rt, 6, &[0, 3], 64)
 }

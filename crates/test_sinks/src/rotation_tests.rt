@@ -1,7 +1,7 @@
 //! Files that are rotated, by what a sink leaves in them; names of files; and what is true of definitions.
 use crate::sinks::rotated;
 use alog_sink::{
-    MemStore, days_go_on, dated_names_differ, is_file_name, numbered_names_differ,
+    MemStore, dated_names_differ, days_go_on, is_file_name, numbered_names_differ,
     pieces_have_one_cut,
 };
 use std::alloc::{AllocError, Global};

@@ -110,14 +110,7 @@ pub fn rotated(
     texts: &[&str],
 ) -> Result<Sink<MemStore>, Fail> {
     let face = face(rt.alloc(), Level::Trace, b"%v")?;
-    let mut sink = opened(Sink::rotating(
-        rt.alloc(),
-        face,
-        store,
-        file,
-        max_size,
-        max_files,
-    ))?;
+    let mut sink = opened(Sink::rotating(rt.alloc(), face, store, file, max_size, max_files))?;
     for text in texts {
         gives(rt, &mut sink, text, Ok(Taken::Written));
     }
