@@ -2,7 +2,7 @@ ghost use Rattle.std.specs.Prelude.{◌≡◌, ◌<◌, length, IfSome};
 ghost use Rattle.alog_registry.specs.Limit.{IsShort};
 ghost use Rattle.alog_policy.specs.BookCalls.{IsSeatOf};
 ghost use Rattle.alog_policy.specs.Port.{IsFit};
-ghost use Rattle.alog_ring.specs.Known.{IsPassOf};
+ghost use Rattle.alog_ring.specs.Known.{IsPassOf, first_known};
 
 use crate::log_tests::{
     TEXT_LIMIT, discarded, dump_twice, is_outcome, keep_three, log_to_a_full, one, overran, posted,
@@ -44,7 +44,8 @@ fn two(rt: &impl Abort, alloc: Global) -> Loggers
 
 // An empty ring, and its first pass.
 pub(crate) fn ring_of(rt: &impl Abort, alloc: Global, places: usize) -> (Ring<Item>, Pass<Item>)
-    ensures { IsPassOf result.0 result.1 }
+    ensures ring { IsPassOf result.0 result.1 }
+    ensures first { result.1.known ≡ first_known places 0 }
 {
     match Ring::new(alloc, places, 0) {
         Ok(made) => made,

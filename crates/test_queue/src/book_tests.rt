@@ -30,7 +30,8 @@ fn closes(rt: &impl Abort, book: LossBook, seat: BookSeat, wanted: Counts)
 // A seat is out, and so it is not closed.
 fn stays(rt: &impl Abort, alloc: Global, book: LossBook, seat: BookSeat) -> (LossBook, BookSeat)
     requires { IsSeatOf book seat }
-    ensures { IsSeatOf result.0 result.1 }
+    ensures same { result.0 ≡ book }
+    ensures seat { IsSeatOf result.0 result.1 }
 {
     match book.close(seat) {
         Ok(_) => panic!(rt; "a seat is out"),

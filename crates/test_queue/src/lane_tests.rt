@@ -51,7 +51,8 @@ fn have_parts(rt: &impl Abort, seats: &[&LaneSeat<Sum>], wanted: &[u64]) {
 // A seat is out, and so the lane is not closed.
 fn stays(rt: &impl Abort, lane: Lane<Sum>, seat: LaneSeat<Sum>) -> (Lane<Sum>, LaneSeat<Sum>)
     requires { IsSeatOf lane seat }
-    ensures { IsSeatOf result.0 result.1 }
+    ensures same { result.0 ≡ lane }
+    ensures seat { IsSeatOf result.0 result.1 }
 {
     match lane.close(seat) {
         Ok(_) => panic!(rt; "a seat is out"),
@@ -73,10 +74,10 @@ fn closes(rt: &impl Abort, lane: Lane<Sum>, seat: LaneSeat<Sum>, wanted: Sum)
 fn a_lane_over_a_sum(rt: HostRuntime) -> Result<(), Fail> {
     let (lane, mut seat) = Lane::new(rt.alloc(), Sum(0))?;
     have_parts(&rt, &[&seat], &[4_294_967_296]);
-    adds(&rt, &lane, &mut seat, 5, (0, 5));
-    adds(&rt, &lane, &mut seat, 7, (1, 12));
     let other = lane.split(&mut seat, 1);
     have_parts(&rt, &[&seat, &other], &[ALL_PARTS - 1, 1]);
+    adds(&rt, &lane, &mut seat, 5, (0, 5));
+    adds(&rt, &lane, &mut seat, 7, (1, 12));
     adds(&rt, &lane, &mut seat, 3, (2, 15));
     let (lane, mut seat) = stays(&rt, lane, seat);
     lane.join(&mut seat, other);

@@ -1,5 +1,6 @@
 ghost use Rattle.std.specs.Prelude.{◌≡◌, IsSome};
-ghost use Rattle.alog_ring.specs.Known.{IsPassOf};
+ghost use Rattle.alog_lane.specs.Seats.{first_known as first_seat_known};
+ghost use Rattle.alog_ring.specs.Known.{IsPassOf, first_known};
 ghost use Rattle.alog_policy.specs.Outlet.{left_in};
 ghost use Rattle.alog_policy.specs.BookCalls.{IsSeatOf};
 ghost use Rattle.alog_policy.specs.Port.{IsFit};
@@ -38,7 +39,8 @@ fn discarded(value: u64, why: Why) -> Outcome<u64> {
 
 // A ring of two places, and its first pass.
 fn ring_of_two(rt: &impl Abort, alloc: Global, first: u64) -> (Ring<u64>, Pass<u64>)
-    ensures { IsPassOf result.0 result.1 }
+    ensures ring { IsPassOf result.0 result.1 }
+    ensures first { result.1.known ≡ first_known 2 first }
 {
     match Ring::new(alloc, 2, first) {
         Ok(made) => made,
@@ -48,7 +50,8 @@ fn ring_of_two(rt: &impl Abort, alloc: Global, first: u64) -> (Ring<u64>, Pass<u
 
 // A loss book, and its first seat.
 fn new_book(rt: &impl Abort, alloc: Global) -> (LossBook, BookSeat)
-    ensures { IsSeatOf result.0 result.1 }
+    ensures seat { IsSeatOf result.0 result.1 }
+    ensures first { result.1.known ≡ first_seat_known }
 {
     match LossBook::new(alloc) {
         Ok(made) => made,
@@ -89,7 +92,8 @@ fn has_lost(rt: &impl Abort, book: &LossBook, seat: &mut BookSeat, wanted: Count
 // A seat is out, and so the book is not closed.
 fn stays(rt: &impl Abort, book: LossBook, seat: BookSeat) -> (LossBook, BookSeat)
     requires { IsSeatOf book seat }
-    ensures { IsSeatOf result.0 result.1 }
+    ensures same { result.0 ≡ book }
+    ensures seat { IsSeatOf result.0 result.1 }
 {
     match book.close(seat) {
         Ok(_) => panic!(rt; "a seat is out"),
@@ -118,6 +122,7 @@ fn leaves(rt: &impl Abort, ring: Ring<u64>, pass: Pass<u64>, wanted: &[(u64, u64
 fn a_lone_port_posts(rt: HostRuntime) {
     let (ring, mut pass) = ring_of_two(&rt, rt.alloc(), 0);
     let (book, mut seat) = new_book(&rt, rt.alloc());
+    let other = book.split(&mut seat, 1);
     let mut port = Port {
         ring: &ring,
         pass: &mut pass,
@@ -130,7 +135,6 @@ fn a_lone_port_posts(rt: HostRuntime) {
     goes(&rt, &mut port, Policy::DiscardNew, 9, full);
     waits(&rt, &mut port, Policy::OverrunOldest, 9, posted(2, 1));
     has_lost(&rt, &book, &mut seat, losses(1, 1));
-    let other = book.split(&mut seat, 1);
     let (book, mut seat) = stays(&rt, book, seat);
     book.join(&mut seat, other);
     closes(&rt, book, seat, losses(1, 1));

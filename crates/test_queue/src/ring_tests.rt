@@ -1,5 +1,5 @@
 ghost use Rattle.std.specs.Prelude.{◌≡◌, ◌<◌, None, [], ◌∷◌, IsSome, IfSome, IfNone};
-ghost use Rattle.alog_ring.specs.Known.{IsPassOf};
+ghost use Rattle.alog_ring.specs.Known.{IsPassOf, first_known};
 
 use alog_ring::{ALL_PARTS, Limit, NewError, Pass, PassesOut, PopError, PushError, Ring};
 use std::alloc::Global;
@@ -31,7 +31,8 @@ pub(crate) fn ring_of<T>(
     places: usize,
     first: u64,
 ) -> (Ring<T>, Pass<T>)
-    ensures { IsPassOf result.0 result.1 }
+    ensures ring { IsPassOf result.0 result.1 }
+    ensures first { result.1.known ≡ first_known places first }
 {
     match Ring::new(alloc, places, first) {
         Ok(made) => made,
@@ -70,7 +71,8 @@ fn pops(rt: &impl Abort, ring: &Ring<u64>, pass: &mut Pass<u64>, ticket: u64, va
 // A pass is out, and so the ring is not closed.
 fn stays(rt: &impl Abort, ring: Ring<u64>, pass: Pass<u64>) -> (Ring<u64>, Pass<u64>)
     requires { IsPassOf ring pass }
-    ensures { IsPassOf result.0 result.1 }
+    ensures same { result.0 ≡ ring }
+    ensures pass { IsPassOf result.0 result.1 }
 {
     match ring.close(pass) {
         Ok(_) => panic!(rt; "a pass is out"),
@@ -104,11 +106,11 @@ fn has_parts(rt: &impl Abort, ring: &Ring<u64>, pass: &mut Pass<u64>, parts: u64
 #[test]
 fn a_ring_of_two(rt: HostRuntime) {
     let (ring, mut pass) = ring_of(&rt, rt.alloc(), 2, 5);
+    let mut other = ring.split(&mut pass, 1);
     pushes(&rt, &ring, &mut pass, 7, 5);
     pushes(&rt, &ring, &mut pass, 8, 6);
     is_full(&rt, &ring, &mut pass, 7);
     pops(&rt, &ring, &mut pass, 5, 7);
-    let mut other = ring.split(&mut pass, 1);
     ring.meet(&mut pass, &mut other);
     has_parts(&rt, &ring, &mut pass, ALL_PARTS - 1);
     has_parts(&rt, &ring, &mut other, 1);
