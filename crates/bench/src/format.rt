@@ -7,17 +7,16 @@ mod work;
 
 use crate::format::messages::{COUNT, Size, messages};
 use crate::format::work::{ROUNDS, checksum, write_lines};
-use crate::lines::{Way, pattern};
+use crate::lines::Way;
 use crate::runs::{Summary, nanos_each, sum_up};
-use alog_format::{Formatter, LineBuf};
+use alog_format::LineBuf;
 use alog_msg::Message;
 use anyhow::{Context, Result, ensure};
-use std::alloc::Global;
 use std::rt::Clock;
 use std::time::{Duration, Instant};
 
 /// The runs of each case.
-const RUNS: u32 = 7;
+const RUNS: usize = 7;
 
 /// How long the texts are, and how many nanoseconds lie between two messages.
 #[derive(Clone, Copy)]
@@ -76,26 +75,28 @@ struct Outcome {
     sum: u64,
 }
 
-/// The bytes of a run, and the time that it took.
+/// The time of a run, whose lines have as many bytes as are wanted.
 fn run_one<R>(
     rt: &R,
     way: &mut Way,
     messages: &mut [Message],
     line: &mut LineBuf,
     step: i64,
-) -> Result<(u64, Duration)>
+    wanted: u64,
+) -> Result<Duration>
 where
     R: Clock,
 {
     let start = Instant::now(rt)?;
     let bytes = write_lines(way, messages, line, step)?;
-    Ok((bytes, start.elapsed(rt)?))
+    let time = start.elapsed(rt)?;
+    ensure!(bytes == wanted, "two runs differ");
+    Ok(time)
 }
 
 /// The bytes of a run, the same in each, and the times of the best run and of the middle one.
 fn run_all<R>(
     rt: &R,
-    alloc: Global,
     way: &mut Way,
     messages: &mut [Message],
     line: &mut LineBuf,
@@ -106,18 +107,15 @@ where
 {
     let wanted = write_lines(way, messages, line, step)?;
     let found = u32::try_from(wanted).ok().context("too many bytes")?;
-    let mut times = Vec::new(alloc);
-    for _ in 0..RUNS {
-        let (bytes, time) = run_one(rt, way, messages, line, step)?;
-        ensure!(bytes == wanted, "two runs differ");
-        times.push(time)?;
+    let mut times = [Duration::ZERO; RUNS];
+    for time in &mut times {
+        *time = run_one(rt, way, messages, line, step, wanted)?;
     }
     Ok((found, sum_up(&mut times)?))
 }
 
 fn outcome_of<R>(
     rt: &R,
-    alloc: Global,
     way: &mut Way,
     messages: &mut [Message],
     line: &mut LineBuf,
@@ -126,7 +124,7 @@ fn outcome_of<R>(
 where
     R: Clock,
 {
-    let (bytes, runs) = run_all(rt, alloc, way, messages, line, step)?;
+    let (bytes, runs) = run_all(rt, way, messages, line, step)?;
     Ok(Outcome {
         best: figures_of(runs.best, bytes),
         middle: figures_of(runs.middle, bytes),
@@ -154,7 +152,7 @@ where
     let alloc = rt.alloc();
     let mut line = LineBuf::new(alloc, way.longest())?;
     let mut messages = messages(alloc, case.size)?;
-    let outcome = outcome_of(rt, alloc, way, &mut messages, &mut line, case.step)?;
+    let outcome = outcome_of(rt, way, &mut messages, &mut line, case.step)?;
     print_line(rt, name, case.name, outcome)
 }
 
@@ -164,8 +162,8 @@ pub fn measure<R>(rt: &R) -> Result<()>
 where
     R: Clock + Print + AllocGlobal,
 {
-    let mut remembering = Way::Remembering(Formatter::new(pattern(rt.alloc())?));
-    let mut alone = Way::Alone(pattern(rt.alloc())?);
+    let mut remembering = Way::remembering(rt.alloc())?;
+    let mut alone = Way::alone(rt.alloc())?;
     measure_all(rt, &mut remembering, &mut alone)
 }
 

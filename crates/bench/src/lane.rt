@@ -5,7 +5,7 @@
 mod adder;
 
 use crate::lane::adder::{Adder, LaneAdder, MutexAdder, Task, Total, add_all};
-use crate::rivals::{Pair, Rivals, Times};
+use crate::rivals::{Pair, Rivals};
 use crate::threads::{share, sum_of_shares, together};
 use alog_lane::Lane;
 use anyhow::{Context, Result, ensure};
@@ -19,7 +19,7 @@ use std::time::{Duration, Instant};
 const TURNS: u32 = 1 << 20;
 
 /// The runs of each lock in a case, in turn.
-const RUNS: u32 = 11;
+const RUNS: usize = 11;
 
 const RIVALS: Rivals = Rivals {
     ours: "lane",
@@ -67,7 +67,7 @@ where
     let count = share(TURNS, threads);
     let mut tasks = Vec::new(alloc);
     for _ in 0..threads {
-        let adder = adder.another().context("no part of a seat is left")?;
+        let adder = adder.another()?;
         tasks.push(Task { adder, count })?;
     }
     Ok(tasks)
@@ -109,14 +109,13 @@ fn compare<R>(rt: &R, alloc: Global, threads: u32) -> Result<Pair>
 where
     R: Threads + Wait + Clock + Sync,
 {
-    let mut times = Times::new(alloc);
-    for _ in 0..RUNS {
-        times.add(
-            lane_run(rt, alloc, threads)?,
-            mutex_run(rt, alloc, threads)?,
-        )?;
+    let mut ours = [Duration::ZERO; RUNS];
+    let mut theirs = [Duration::ZERO; RUNS];
+    for run in 0..RUNS {
+        ours[run] = lane_run(rt, alloc, threads)?;
+        theirs[run] = mutex_run(rt, alloc, threads)?;
     }
-    times.sum_up()
+    Pair::of(&mut ours, &mut theirs)
 }
 
 /// Prints two lines for each number of threads, of the best run and of the middle one.

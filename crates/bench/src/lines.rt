@@ -29,7 +29,7 @@ pub const UTC: Context = Context {
 };
 
 /// The pattern of a whole line, compiled.
-pub fn pattern(alloc: Global) -> Result<Pattern> {
+fn pattern(alloc: Global) -> Result<Pattern> {
     Ok(Pattern::compile(alloc, PATTERN, TEXT_LIMIT)?)
 }
 
@@ -58,6 +58,14 @@ fn make_room(pattern: &Pattern, message: &Message, line: &mut LineBuf) -> Result
 }
 
 impl Way {
+    pub fn alone(alloc: Global) -> Result<Way> {
+        Ok(Way::Alone(pattern(alloc)?))
+    }
+
+    pub fn remembering(alloc: Global) -> Result<Way> {
+        Ok(Way::Remembering(Formatter::new(pattern(alloc)?)))
+    }
+
     fn pattern(&self) -> &Pattern {
         match self {
             Way::Alone(pattern) => pattern,

@@ -35,11 +35,12 @@ fn remove_all<S: Store>(store: &mut S, names: &[&str]) -> Result<()> {
 }
 
 /// A store over the folder with this path, from which the files with these names are removed.
-pub fn emptied<R>(alloc: Global, files: R, path: &str, names: &[&str]) -> Result<FolderStore<R>>
+pub fn emptied<R>(rt: &R, alloc: Global, path: &str, names: &[&str]) -> Result<FolderStore<R>>
 where
-    R: Files + Drop,
+    R: Files + Clone + Drop,
 {
-    let mut store = FolderStore::new(alloc, files, path)?;
+    let own: R = rt.clone()?;
+    let mut store = FolderStore::new(alloc, own, path)?;
     remove_all(&mut store, names)?;
     Ok(store)
 }

@@ -9,11 +9,11 @@ mod work;
 use crate::post::poster::{PortPoster, Poster};
 use crate::post::work::{BATCH, Task, alone};
 use crate::ring_lane::RingLane;
-use crate::rivals::{Pair, Rivals, Times};
+use crate::rivals::{Pair, Rivals};
 use crate::threads::{share, sum_below, sum_of_shares, together};
 use alog_policy::{LossBook, Policy};
 use alog_ring::Ring;
-use anyhow::{Context, Result};
+use anyhow::Result;
 use std::alloc::Global;
 use std::rt::Clock;
 use std::sync::Wait;
@@ -30,12 +30,63 @@ const VALUES: u32 = 61_440;
 const BATCHES: u64 = 120;
 
 /// The runs of each in a case, in turn.
-const RUNS: u32 = 31;
+const RUNS: usize = 31;
 
-/// How many threads bring values in.
-const THREADS: [u32; 3] = [1, 2, 4];
+/// How many threads bring values in, and the policy of their posts.
+#[derive(Clone, Copy)]
+struct Case {
+    name: &'static str,
+    threads: u32,
+    policy: Policy,
+}
 
-const POLICIES: [Policy; 3] = [Policy::Block, Policy::OverrunOldest, Policy::DiscardNew];
+const CASES: [Case; 9] = [
+    Case {
+        name: "threads 1  block         ",
+        threads: 1,
+        policy: Policy::Block,
+    },
+    Case {
+        name: "threads 1  overrun_oldest",
+        threads: 1,
+        policy: Policy::OverrunOldest,
+    },
+    Case {
+        name: "threads 1  discard_new   ",
+        threads: 1,
+        policy: Policy::DiscardNew,
+    },
+    Case {
+        name: "threads 2  block         ",
+        threads: 2,
+        policy: Policy::Block,
+    },
+    Case {
+        name: "threads 2  overrun_oldest",
+        threads: 2,
+        policy: Policy::OverrunOldest,
+    },
+    Case {
+        name: "threads 2  discard_new   ",
+        threads: 2,
+        policy: Policy::DiscardNew,
+    },
+    Case {
+        name: "threads 4  block         ",
+        threads: 4,
+        policy: Policy::Block,
+    },
+    Case {
+        name: "threads 4  overrun_oldest",
+        threads: 4,
+        policy: Policy::OverrunOldest,
+    },
+    Case {
+        name: "threads 4  discard_new   ",
+        threads: 4,
+        policy: Policy::DiscardNew,
+    },
+];
 
 const RIVALS: Rivals = Rivals {
     ours: "post_now",
@@ -43,32 +94,24 @@ const RIVALS: Rivals = Rivals {
     count: VALUES,
 };
 
-/// How many threads bring values in, and the policy of their posts.
-#[derive(Clone, Copy)]
-struct Case {
+/// A task that brings values in, for each thread, and the one that takes them out.
+fn tasks_of<'a, P>(
+    alloc: Global,
+    poster: &mut P,
+    taker: RingLane<'a>,
     threads: u32,
-    policy: Policy,
-}
-
-fn name(policy: Policy) -> &'static str {
-    match policy {
-        Policy::Block => "block",
-        Policy::OverrunOldest => "overrun_oldest",
-        Policy::DiscardNew => "discard_new",
-    }
-}
-
-/// A task that brings values in, for each thread.
-fn posts_of<'a, P>(alloc: Global, poster: &mut P, threads: u32) -> Result<Vec<Task<'a, P>>>
+) -> Result<Vec<Task<'a, P>>>
 where
     P: Poster + Drop,
 {
     let count = share(VALUES, threads);
     let mut tasks = Vec::new(alloc);
     for _ in 0..threads {
-        let poster = poster.another().context("no part of a pass is left")?;
+        let poster = poster.another()?;
         tasks.push(Task::Post { poster, count })?;
     }
+    let count = count.wrapping_mul(u64::from(threads));
+    tasks.push(Task::Take { lane: taker, count })?;
     Ok(tasks)
 }
 
@@ -88,9 +131,7 @@ where
         let wanted = sum_below(BATCH).wrapping_mul(BATCHES);
         return alone(rt, poster, &mut taker, BATCHES)?.checked(wanted);
     }
-    let mut tasks = posts_of(alloc, poster, threads)?;
-    let count = share(VALUES, threads).wrapping_mul(u64::from(threads));
-    tasks.push(Task::Take { lane: taker, count })?;
+    let tasks = tasks_of(alloc, poster, taker, threads)?;
     together(rt, tasks)?.checked(sum_of_shares(VALUES, threads))
 }
 
@@ -119,25 +160,13 @@ fn compare<R>(rt: &R, alloc: Global, case: Case) -> Result<Pair>
 where
     R: Threads + Wait + Clock + Sync,
 {
-    let mut times = Times::new(alloc);
-    for _ in 0..RUNS {
-        times.add(
-            post_run(rt, alloc, case)?,
-            push_run(rt, alloc, case.threads)?,
-        )?;
+    let mut ours = [Duration::ZERO; RUNS];
+    let mut theirs = [Duration::ZERO; RUNS];
+    for run in 0..RUNS {
+        ours[run] = post_run(rt, alloc, case)?;
+        theirs[run] = push_run(rt, alloc, case.threads)?;
     }
-    times.sum_up()
-}
-
-fn measure_case<R>(rt: &R, case: Case) -> Result<()>
-where
-    R: Threads + Wait + Clock + Print + AllocGlobal + Sync,
-{
-    let pair = compare(rt, rt.alloc(), case)?;
-    let Case { threads, policy } = case;
-    let policy = name(policy);
-    let name = format!(in rt.alloc(); "threads {threads}  {policy:<14}")?;
-    RIVALS.print(rt, &name, &name, pair)
+    Pair::of(&mut ours, &mut theirs)
 }
 
 /// Prints two lines for each number of threads and each policy, of the best run and of the middle one.
@@ -145,14 +174,9 @@ pub fn measure<R>(rt: &R) -> Result<()>
 where
     R: Threads + Wait + Clock + Print + AllocGlobal + Sync,
 {
-    for threads in &THREADS {
-        for policy in &POLICIES {
-            let case = Case {
-                threads: *threads,
-                policy: *policy,
-            };
-            measure_case(rt, case)?;
-        }
+    for case in &CASES {
+        let pair = compare(rt, rt.alloc(), *case)?;
+        RIVALS.print(rt, case.name, case.name, pair)?;
     }
     Ok(())
 }

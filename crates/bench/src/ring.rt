@@ -8,10 +8,10 @@ mod work;
 use crate::ring::lane::{Lane, QueueLane};
 use crate::ring::work::{Task, alone};
 use crate::ring_lane::RingLane;
-use crate::rivals::{Pair, Rivals, Times};
+use crate::rivals::{Pair, Rivals};
 use crate::threads::{Outcome, share, sum_below, sum_of_shares, together};
 use alog_ring::Ring;
-use anyhow::{Context, Result};
+use anyhow::Result;
 use crossbeam_queue::ArrayQueue;
 use std::alloc::Global;
 use std::rt::Clock;
@@ -25,7 +25,7 @@ const CAPACITY: usize = 1024;
 const ITEMS: u32 = 1 << 20;
 
 /// The runs of each queue in a case, in turn.
-const RUNS: u32 = 11;
+const RUNS: usize = 11;
 
 const RIVALS: Rivals = Rivals {
     ours: "ring",
@@ -70,7 +70,22 @@ where
     Ok(Outcome { time, sum })
 }
 
-/// A task that pushes and one that pops, for each pair.
+/// Adds a task that pushes and one that pops.
+fn push_pair<L>(lane: &mut L, count: u64, tasks: &mut Vec<Task<L>>) -> Result<()>
+where
+    L: Lane + Drop,
+{
+    let first = lane.another()?;
+    tasks.push(Task::Push { lane: first, count })?;
+    let second = lane.another()?;
+    tasks.push(Task::Pop {
+        lane: second,
+        count,
+    })?;
+    Ok(())
+}
+
+/// Two tasks for each pair of threads.
 fn tasks_of<L>(alloc: Global, lane: &mut L, pairs: u32) -> Result<Vec<Task<L>>>
 where
     L: Lane + Drop,
@@ -78,16 +93,7 @@ where
     let count = share(ITEMS, pairs);
     let mut tasks = Vec::new(alloc);
     for _ in 0..pairs {
-        let lane_in = lane.another().context("no part of a pass is left")?;
-        tasks.push(Task::Push {
-            lane: lane_in,
-            count,
-        })?;
-        let lane_out = lane.another().context("no part of a pass is left")?;
-        tasks.push(Task::Pop {
-            lane: lane_out,
-            count,
-        })?;
+        push_pair(lane, count, &mut tasks)?;
     }
     Ok(tasks)
 }
@@ -128,11 +134,13 @@ fn compare<R>(rt: &R, alloc: Global, case: Case) -> Result<Pair>
 where
     R: Threads + Wait + Clock + Sync,
 {
-    let mut times = Times::new(alloc);
-    for _ in 0..RUNS {
-        times.add(ring_run(rt, alloc, case)?, queue_run(rt, alloc, case)?)?;
+    let mut ours = [Duration::ZERO; RUNS];
+    let mut theirs = [Duration::ZERO; RUNS];
+    for run in 0..RUNS {
+        ours[run] = ring_run(rt, alloc, case)?;
+        theirs[run] = queue_run(rt, alloc, case)?;
     }
-    times.sum_up()
+    Pair::of(&mut ours, &mut theirs)
 }
 
 /// Prints two lines for each case, of the best run and of the middle one.

@@ -2,6 +2,7 @@
 ghost use Rattle.alog_ring.specs.Calls.{IsPassOf};
 
 use alog_ring::{Pass, Ring};
+use anyhow::{Result, ensure};
 use std::sync::Wait;
 
 /// The ring, with a pass of its own.
@@ -19,13 +20,11 @@ impl<'a> RingLane<'a> {
         RingLane { ring, pass }
     }
 
-    /// A lane for one more thread. None if the pass has no part to give.
-    pub fn split(&mut self) -> Option<RingLane<'a>> {
-        if self.pass.parts() < 2 {
-            return None;
-        }
+    /// A lane for one more thread.
+    pub fn split(&mut self) -> Result<RingLane<'a>> {
+        ensure!(self.pass.parts() >= 2, "no part of a pass is left");
         let pass = self.ring.split(&mut self.pass, 1);
-        Some(RingLane::new(self.ring, pass))
+        Ok(RingLane::new(self.ring, pass))
     }
 
     /// Whether the value went in: not if the ring is full. It waits for other threads.

@@ -1,15 +1,7 @@
-//! Two that are compared: the times of their runs, and what is printed of them.
+//! Two that are compared: their runs, and what is printed of them.
 use crate::runs::{Summary, nanos_each, sum_up};
 use anyhow::Result;
-use std::alloc::Global;
 use std::time::Duration;
-
-/// The times of the runs of two that are compared.
-#[derive(Drop)]
-pub struct Times {
-    ours: Vec<Duration>,
-    theirs: Vec<Duration>,
-}
 
 /// The runs of ours, and those of theirs.
 #[derive(Clone, Copy)]
@@ -18,25 +10,12 @@ pub struct Pair {
     theirs: Summary,
 }
 
-impl Times {
-    pub fn new(alloc: Global) -> Times {
-        Times {
-            ours: Vec::new(alloc),
-            theirs: Vec::new(alloc),
-        }
-    }
-
-    /// Notes one more run of each.
-    pub fn add(&mut self, ours: Duration, theirs: Duration) -> Result<()> {
-        self.ours.push(ours)?;
-        self.theirs.push(theirs)?;
-        Ok(())
-    }
-
-    pub fn sum_up(&mut self) -> Result<Pair> {
+impl Pair {
+    /// Sums up runs that took these times, which it sorts.
+    pub fn of(ours: &mut [Duration], theirs: &mut [Duration]) -> Result<Pair> {
         Ok(Pair {
-            ours: sum_up(&mut self.ours)?,
-            theirs: sum_up(&mut self.theirs)?,
+            ours: sum_up(ours)?,
+            theirs: sum_up(theirs)?,
         })
     }
 }

@@ -8,18 +8,17 @@
 mod targets;
 mod work;
 
-use crate::lines::{Way, pattern};
-use crate::runs::{nanos_each, sum_up};
+use crate::lines::Way;
+use crate::runs::{Summary, nanos_each, sum_up};
 use crate::sink::targets::{Kind, fan, in_folder, in_memory};
 use crate::sink::work::{COUNT, time_of};
-use alog_format::Formatter;
 use anyhow::Result;
 use std::path::Path;
 use std::rt::{Clock, Files};
 use std::time::Duration;
 
 /// The runs of each target.
-const RUNS: u32 = 7;
+const RUNS: usize = 7;
 
 /// What is measured.
 #[derive(Clone, Copy)]
@@ -53,14 +52,11 @@ where
 {
     let alloc = rt.alloc();
     match case {
-        Case::Bare => time_of(rt, alloc, Way::Alone(pattern(alloc)?)),
-        Case::Formatter => {
-            let formatter = Formatter::new(pattern(alloc)?);
-            time_of(rt, alloc, Way::Remembering(formatter))
-        }
-        Case::Fan => time_of(rt, alloc, fan(alloc)?),
-        Case::Memory(kind) => time_of(rt, alloc, in_memory(alloc, kind)?),
-        Case::Folder(kind) => time_of(rt, alloc, in_folder(alloc, kind, rt.clone()?, path)?),
+        Case::Bare => time_of(rt, alloc, Way::alone(alloc)),
+        Case::Formatter => time_of(rt, alloc, Way::remembering(alloc)),
+        Case::Fan => time_of(rt, alloc, fan(alloc)),
+        Case::Memory(kind) => time_of(rt, alloc, in_memory(alloc, kind)),
+        Case::Folder(kind) => time_of(rt, alloc, in_folder(rt, alloc, kind, path)),
     }
 }
 
@@ -69,13 +65,19 @@ fn measure_one<R>(rt: &R, case: Case, path: &str) -> Result<()>
 where
     R: Files + Clock + Print + Clone + Drop + AllocGlobal,
 {
-    let mut times = Vec::new(rt.alloc());
-    for _ in 0..RUNS {
-        times.push(run_one(rt, case, path)?)?;
+    let mut times = [Duration::ZERO; RUNS];
+    for time in &mut times {
+        *time = run_one(rt, case, path)?;
     }
-    let runs = sum_up(&mut times)?;
-    let name = case.name();
-    let (best, middle) = (nanos_each(runs.best, COUNT), nanos_each(runs.middle, COUNT));
+    print_line(rt, case.name(), sum_up(&mut times)?)
+}
+
+fn print_line<R>(rt: &R, name: &str, runs: Summary) -> Result<()>
+where
+    R: Print,
+{
+    let best = nanos_each(runs.best, COUNT);
+    let middle = nanos_each(runs.middle, COUNT);
     println!(rt; "alog   {name}  best {best:>6.1} ns  middle {middle:>6.1} ns")?;
     Ok(())
 }
@@ -100,20 +102,23 @@ where
     Ok(())
 }
 
+/// Measures a sink over the files of a folder in the one with this path.
+fn in_folder_one<R>(rt: &R, kind: Kind, path: &str, folder: &str) -> Result<()>
+where
+    R: Files + Clock + Print + Clone + Drop + AllocGlobal,
+{
+    let path = Path::new(path).join(rt.alloc(), folder)?;
+    measure_one(rt, Case::Folder(kind), path.as_str())
+}
+
 /// Measures sinks over the files of a folder, in which those of the last runs stay.
 fn in_folder_all<R>(rt: &R, path: &str) -> Result<()>
 where
     R: Files + Clock + Print + Clone + Drop + AllocGlobal,
 {
-    for (kind, folder) in [
-        (Kind::Memory, "memory"),
-        (Kind::Rotating, "rotating"),
-        (Kind::Daily, "daily"),
-    ] {
-        let path = Path::new(path).join(rt.alloc(), folder)?;
-        measure_one(rt, Case::Folder(kind), path.as_str())?;
-    }
-    Ok(())
+    in_folder_one(rt, Kind::Memory, path, "memory")?;
+    in_folder_one(rt, Kind::Rotating, path, "rotating")?;
+    in_folder_one(rt, Kind::Daily, path, "daily")
 }
 
 /// Measures what these words ask for.

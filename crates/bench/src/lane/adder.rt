@@ -3,14 +3,15 @@ ghost use Rattle.alog_lane.specs.Calls.{IsSeatOf};
 
 use crate::threads::Job;
 use alog_lane::{Lane, LaneSeat, Turn};
+use anyhow::{Result, ensure};
 use std::sync::{Mutex, Wait};
 
 /// What a thread adds numbers to.
 pub trait Adder: Sized {
     fn add<R: Wait>(&mut self, rt: &R, number: u64);
 
-    /// An adder for one more thread. None if there can be no more.
-    fn another(&mut self) -> Option<Self>;
+    /// An adder for one more thread.
+    fn another(&mut self) -> Result<Self>;
 
     /// The number, under the lock.
     fn total<R: Wait>(&mut self, rt: &R) -> u64;
@@ -60,12 +61,10 @@ impl<'a> Adder for LaneAdder<'a> {
         self.lane.turn(rt, &mut self.seat, 0, &number, &mut ());
     }
 
-    fn another(&mut self) -> Option<LaneAdder<'a>> {
-        if self.seat.parts() < 2 {
-            return None;
-        }
+    fn another(&mut self) -> Result<LaneAdder<'a>> {
+        ensure!(self.seat.parts() >= 2, "no part of a seat is left");
         let seat = self.lane.split(&mut self.seat, 1);
-        Some(LaneAdder::new(self.lane, seat))
+        Ok(LaneAdder::new(self.lane, seat))
     }
 
     fn total<R: Wait>(&mut self, rt: &R) -> u64 {
@@ -92,8 +91,8 @@ impl<'a> Adder for MutexAdder<'a> {
         *total = total.wrapping_add(number);
     }
 
-    fn another(&mut self) -> Option<MutexAdder<'a>> {
-        Some(MutexAdder::new(self.mutex))
+    fn another(&mut self) -> Result<MutexAdder<'a>> {
+        Ok(MutexAdder::new(self.mutex))
     }
 
     fn total<R: Wait>(&mut self, rt: &R) -> u64 {

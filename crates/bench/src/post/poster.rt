@@ -5,14 +5,15 @@ ghost use Rattle.alog_ring.specs.Calls.{IsPassOf};
 use crate::ring_lane::RingLane;
 use alog_policy::{BookSeat, LossBook, Outcome, Policy, Port, post_now};
 use alog_ring::{Pass, Ring};
+use anyhow::{Result, ensure};
 
 /// What a thread brings numbers into the ring with.
 pub trait Poster: Sized {
     /// Whether the value went in: not if the queue is full, or others were faster.
     fn post(&mut self, value: u64) -> bool;
 
-    /// The same for one more thread. None if no part is left for it.
-    fn another(&mut self) -> Option<Self>;
+    /// The same for one more thread.
+    fn another(&mut self) -> Result<Self>;
 }
 
 /// A lane pushes.
@@ -22,7 +23,7 @@ impl<'a> Poster for RingLane<'a> {
         self.push_once(value)
     }
 
-    fn another(&mut self) -> Option<RingLane<'a>> {
+    fn another(&mut self) -> Result<RingLane<'a>> {
         self.split()
     }
 }
@@ -94,12 +95,11 @@ impl<'a> Poster for PortPoster<'a> {
         matches!(outcome, Outcome::Posted { .. })
     }
 
-    fn another(&mut self) -> Option<PortPoster<'a>> {
-        if self.pass.parts() < 2 || self.seat.parts() < 2 {
-            return None;
-        }
+    fn another(&mut self) -> Result<PortPoster<'a>> {
+        ensure!(self.pass.parts() >= 2, "no part of a pass is left");
+        ensure!(self.seat.parts() >= 2, "no part of a seat is left");
         let pass = self.ring.split(&mut self.pass, 1);
         let seat = self.book.split(&mut self.seat, 1);
-        Some(PortPoster::new(self.ring, pass, self.book, seat, self.policy))
+        Ok(PortPoster::new(self.ring, pass, self.book, seat, self.policy))
     }
 }

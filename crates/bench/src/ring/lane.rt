@@ -1,5 +1,6 @@
 //! A queue as one thread sees it.
 use crate::ring_lane::RingLane;
+use anyhow::Result;
 use crossbeam_queue::ArrayQueue;
 use std::sync::Wait;
 
@@ -11,8 +12,8 @@ pub trait Lane: Sized {
     /// None if the queue is empty.
     fn take<R: Wait>(&mut self, rt: &R) -> Option<u64>;
 
-    /// A lane for one more thread. None if there can be no more.
-    fn another(&mut self) -> Option<Self>;
+    /// A lane for one more thread.
+    fn another(&mut self) -> Result<Self>;
 }
 
 impl<'a> Lane for RingLane<'a> {
@@ -26,7 +27,7 @@ impl<'a> Lane for RingLane<'a> {
         self.pop(rt)
     }
 
-    fn another(&mut self) -> Option<RingLane<'a>> {
+    fn another(&mut self) -> Result<RingLane<'a>> {
         self.split()
     }
 }
@@ -53,7 +54,7 @@ impl<'a> Lane for QueueLane<'a> {
         self.queue.pop(rt)
     }
 
-    fn another(&mut self) -> Option<QueueLane<'a>> {
-        Some(QueueLane::new(self.queue))
+    fn another(&mut self) -> Result<QueueLane<'a>> {
+        Ok(QueueLane::new(self.queue))
     }
 }

@@ -46,13 +46,13 @@ pub fn in_memory(alloc: Global, kind: Kind) -> Result<Sink<MemStore>> {
 }
 
 /// A sink over a folder, from which the files of earlier runs are removed.
-pub fn in_folder<R: Files + Drop>(
+pub fn in_folder<R: Files + Clone + Drop>(
+    rt: &R,
     alloc: Global,
     kind: Kind,
-    files: R,
     path: &str,
 ) -> Result<Sink<FolderStore<R>>> {
-    sink(alloc, kind, emptied(alloc, files, path, &FILES)?)
+    sink(alloc, kind, emptied(rt, alloc, path, &FILES)?)
 }
 
 /// A sink that writes one file and one that rotates.

@@ -81,12 +81,13 @@ where
     Ok(start.elapsed(rt)?)
 }
 
-/// The time that a run on this target takes.
-pub fn time_of<T, R>(rt: &R, alloc: Global, mut target: T) -> Result<Duration>
+/// The time that a run on this target takes, if it could be made.
+pub fn time_of<T, R>(rt: &R, alloc: Global, target: Result<T>) -> Result<Duration>
 where
     T: Taker + Drop,
     R: Clock,
 {
+    let mut target = target?;
     let mut line = LineBuf::new(alloc, LINE)?;
     let mut message = message(alloc)?;
     timed(rt, &mut target, &mut message, &mut line)
