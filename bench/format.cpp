@@ -1,4 +1,4 @@
-// Formats a million messages a run by spdlog's pattern_formatter: what crates/bench_format does by alog_format::format.
+// Formats a million messages a run by spdlog's pattern_formatter: what `bench format` of crates/bench does by alog_format::format.
 #include <algorithm>
 #include <chrono>
 #include <cstdint>

@@ -1,5 +1,5 @@
 // Gives a million messages a run to spdlog's bare formatter and ostream sink, or with the path of a folder to its file sinks,
-// whose files are in the folders memory, rotating and daily there: what crates/bench_sink does by alog_sink.
+// whose files are in the folders memory, rotating and daily there: what `bench sink` of crates/bench does by alog_sink.
 #include <algorithm>
 #include <chrono>
 #include <cstdio>
