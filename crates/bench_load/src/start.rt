@@ -9,7 +9,7 @@ use alog_msg::Level;
 use alog_pattern::Pattern;
 use alog_policy::Policy;
 use alog_pool::{OpenGate, Pool, Setup};
-use alog_registry::{Registry, Spec};
+use alog_registry::{Loggers, Registry, Spec};
 use alog_sink::{Face, Names, Sink, Store};
 use anyhow::{Result, bail};
 use std::alloc::Global;
@@ -59,8 +59,8 @@ fn sink<S: Store + Drop>(alloc: Global, face: Face, store: S) -> Result<Sink<S>>
 }
 
 /// One logger, which blocks where the queue is full.
-fn registry(alloc: Global) -> Result<Registry>
-    ensures { IfOk result (λ r. length r.loggers ≡ 1) }
+fn loggers(alloc: Global) -> Result<Loggers>
+    ensures { IfOk result (λ l. length l ≡ 1) }
 {
     let spec = Spec {
         level: Level::Info,
@@ -71,8 +71,12 @@ fn registry(alloc: Global) -> Result<Registry>
     };
     let mut registry = Registry::new(alloc);
     match registry.add(NAME, spec) {
-        Ok(_) => Ok(registry),
+        Ok(_) => {}
         Err(_) => bail!("the logger was refused"),
+    }
+    match registry.freeze(alloc) {
+        Ok(loggers) => Ok(loggers),
+        Err(_) => bail!("out of memory"),
     }
 }
 
@@ -83,7 +87,7 @@ fn setup<S: Store + Drop>(
     workers: usize,
 ) -> Result<Setup<S>>
     ensures fits { IfOk result (λ s. Fits s) }
-    ensures one { IfOk result (λ s. length s.loggers.loggers ≡ 1) }
+    ensures one { IfOk result (λ s. length s.loggers ≡ 1) }
 {
     let mut sinks = Vec::with_capacity(alloc, 1)?;
     sinks.push_reserved(sink(alloc, face(alloc, pattern)?, store)?);
@@ -93,7 +97,7 @@ fn setup<S: Store + Drop>(
         workers,
         tickets_max: 0,
         text_limit: TEXT_LIMIT,
-        loggers: registry(alloc)?,
+        loggers: loggers(alloc)?,
         sinks,
     })
 }
