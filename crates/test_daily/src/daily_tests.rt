@@ -36,6 +36,20 @@ fn a_daily_sink(rt: HostRuntime) -> Result<(), Fail> {
     Ok(())
 }
 
+// Where the only dot of a name is its first character, the date stands behind the whole name.
+#[test]
+fn a_name_that_begins_with_a_dot(rt: HostRuntime) -> Result<(), Fail> {
+    let alloc = rt.alloc();
+    let face = face(alloc, 0)?;
+    let store = MemStore::new(alloc);
+    let Ok(mut sink) = Sink::daily(alloc, face, store, ".hidden", 0, 0, 0) else {
+        return Err(OpenError::OutOfMemory.into());
+    };
+    writes(&rt, &mut sink, 1_709_251_199_999_999_999, "a");
+    has_only(&rt, sink.store(), &[(".hidden_2024-02-29", "a\n")]);
+    Ok(())
+}
+
 #[test]
 fn a_file_that_makes_way(rt: HostRuntime) -> Result<(), Fail> {
     let plan = Plan {
