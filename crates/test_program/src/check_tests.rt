@@ -33,70 +33,57 @@ fn examples_are_configurations(rt: HostRuntime) -> Result<(), Fail> {
     are_configurations(&rt, path.as_str(), documents.as_slice())
 }
 
-/// A sink and a logger that are refused by nothing.
-const SINK: &str = "[[sink]]\nname = \"out\"\nkind = \"memory\"\n";
-
-const LOGGER: &str = "[[logger]]\nname = \"net\"\nsinks = [\"out\"]\n";
-
-/// Parts of documents that are no configurations, and what is said of each.
-const REFUSALS: [([&str; 3], &str); 8] = [
+/// Documents that are refused as a whole or at their top, and what is said of each.
+const TOPS: [(&str, &str); 4] = [
     (
-        ["", "", ""],
+        "",
         "alog: refused 31 in top\nalog: sink: a key is missing; it may have 1 to 256 tables\n",
     ),
     (
-        ["queue = \"8", "", ""],
+        "queue = \"8",
         "alog: refused 28\nalog: the document is not TOML: line 1: invalid string\n",
     ),
     (
-        ["queue = 3\n", SINK, LOGGER],
+        "queue = 3\n[[sink]]\nname = \"out\"\nkind = \"memory\"\n[[logger]]\nname = \"net\"\nsinks = [\"out\"]\n",
         "alog: refused 30 in top\n\
          alog: queue = 3: a value that its key can not have; it may have a power of two, 2 to 65536\n",
     ),
     (
-        ["colour = 1\nqueue = 3\n", SINK, LOGGER],
+        "colour = 1\nqueue = 3\n[[sink]]\nname = \"out\"\nkind = \"memory\"\n[[logger]]\nname = \"net\"\nsinks = [\"out\"]\n",
         "alog: refused 29 in top\nalog: \"colour\" = 1: a key that is not known here; \
          known are queue, workers, text, offset, process, sink and logger\n",
     ),
+];
+
+/// Documents of which a sink or a logger is refused, and what is said of each.
+const TABLES: [(&str, &str); 4] = [
     (
-        [SINK, LOGGER, LOGGER],
+        "[[sink]]\nname = \"out\"\nkind = \"memory\"\n[[logger]]\nname = \"net\"\nsinks = [\"out\"]\n[[logger]]\nname = \"net\"\nsinks = [\"out\"]\n",
         "alog: refused 24 in logger 1\nalog: name = \"net\": the name is taken; \
          it may have 1 to 64 bytes, and not the name of an earlier table of the same array\n",
     ),
     (
-        [SINK, "[[logger]]\nname = \"n\"\nsinks = [\"x\"]\n", ""],
+        "[[sink]]\nname = \"out\"\nkind = \"memory\"\n[[logger]]\nname = \"n\"\nsinks = [\"x\"]\n",
         "alog: refused 32 in logger 0\nalog: sinks = [\"x\"]: no sink has this name; \
          it may have 1 to 16 names of sinks, none twice, none a member of a fan\n",
     ),
     (
-        ["[[sink]]\nname = \"out\"\nkind = \"console\"\n", LOGGER, ""],
+        "[[sink]]\nname = \"out\"\nkind = \"console\"\n[[logger]]\nname = \"net\"\nsinks = [\"out\"]\n",
         "alog: refused 30 in sink 0\nalog: kind = \"console\": a value that its key can not have; \
          it may have memory, rotating, daily or fan\n",
     ),
     (
-        [SINK, SINK, LOGGER],
+        "[[sink]]\nname = \"out\"\nkind = \"memory\"\n[[sink]]\nname = \"out\"\nkind = \"memory\"\n[[logger]]\nname = \"net\"\nsinks = [\"out\"]\n",
         "alog: refused 30 in sink 1\nalog: file: a value that its key can not have; \
          it may have 1 to 64 bytes, not . or .., without a slash or a zero byte, and not the file of an earlier sink; \
          where a memory sink has none, its name stands for it\n",
     ),
 ];
 
-/// A document of these parts is refused.
-fn of_parts<R: Host + Abort>(
-    rt: &R,
-    file: &str,
-    parts: &[&str; 3],
-    error: &str,
-) -> Result<(), Fail> {
-    let [first, second, third] = parts;
-    let document = format!(in rt.alloc(); "{first}{second}{third}")?;
-    of_document(rt, file, document.as_str(), Said::refused("", error))
-}
-
 /// Each document is refused.
-fn are_refused<R: Host + Abort>(rt: &R, file: &str) -> Result<(), Fail> {
-    for (parts, error) in &REFUSALS {
-        of_parts(rt, file, parts, error)?;
+fn are_refused<R: Host + Abort>(rt: &R, file: &str, rows: &[(&str, &str)]) -> Result<(), Fail> {
+    for (document, error) in rows {
+        of_document(rt, file, document, Said::refused("", error))?;
     }
     Ok(())
 }
@@ -104,27 +91,28 @@ fn are_refused<R: Host + Abort>(rt: &R, file: &str) -> Result<(), Fail> {
 #[test]
 fn faults_of_configurations(rt: HostRuntime) -> Result<(), Fail> {
     let path = scratch(&rt, "faults")?;
-    are_refused(&rt, path.as_str())
+    are_refused(&rt, path.as_str(), TOPS.as_slice())?;
+    are_refused(&rt, path.as_str(), TABLES.as_slice())
+}
+
+/// A file cannot be read.
+fn is_unreadable<R: Host + Abort>(rt: &R, file: &str) -> Result<(), Fail> {
+    let error = format!(in rt.alloc(); "alog: {file} cannot be read: ")?;
+    answers(
+        rt,
+        ["alog", "check", file].as_slice(),
+        "",
+        Said::fault("", error.as_str()),
+    );
+    Ok(())
 }
 
 #[test]
 fn unreadable_files(rt: HostRuntime) -> Result<(), Fail> {
     let path = scratch(&rt, "absent")?;
-    let file = path.as_str();
-    let error = format!(in rt.alloc(); "alog: {file} cannot be read: ")?;
-    for (file, error) in [
-        (file, error.as_str()),
-        ("/", "alog: / cannot be read: "),
-        ("", "alog:  cannot be read: "),
-    ] {
-        answers(
-            &rt,
-            ["alog", "check", file].as_slice(),
-            "",
-            Said::fault("", error),
-        );
-    }
-    Ok(())
+    is_unreadable(&rt, path.as_str())?;
+    is_unreadable(&rt, "/")?;
+    is_unreadable(&rt, "")
 }
 
 #[test]

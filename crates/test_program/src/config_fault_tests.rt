@@ -178,19 +178,19 @@ fn files_that_are_no_configuration(rt: HostRuntime) -> Result<(), Fail> {
     are_no_configurations(&rt, path.as_str())
 }
 
+/// A file cannot be read.
+fn is_unreadable<R: Host + Abort>(rt: &R, file: &str) -> Result<(), Fail> {
+    let error = format!(in rt.alloc(); "alog: {file} cannot be read: ")?;
+    replays(rt, file, "refused", Said::fault("", error.as_str()));
+    Ok(())
+}
+
 #[test]
 fn files_that_cannot_be_read(rt: HostRuntime) -> Result<(), Fail> {
     let path = scratch(&rt, "missing")?;
-    let file = path.as_str();
-    let error = format!(in rt.alloc(); "alog: {file} cannot be read: ")?;
-    for (file, error) in [
-        (file, error.as_str()),
-        ("/", "alog: / cannot be read: "),
-        ("", "alog:  cannot be read: "),
-    ] {
-        replays(&rt, file, "refused", Said::fault("", error));
-    }
-    Ok(())
+    is_unreadable(&rt, path.as_str())?;
+    is_unreadable(&rt, "/")?;
+    is_unreadable(&rt, "")
 }
 
 /// Nothing is read of the script.
