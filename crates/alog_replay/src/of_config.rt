@@ -34,7 +34,7 @@ fn staged(alloc: Global, config: &Config) -> Result<Configured<'_, MemStore>, Al
 /// (`specs/OfConfig.antt`) and the scene of `specs/Configured.antt`. Want of memory, refused lines and faults are as with `replay`;
 /// where there is no memory for the stage itself, nothing is written.
 ///
-/// The test `a_flush_that_is_due` (`src/configured_tests.rt`) shows a call.
+/// The test `a_flush_that_is_due` of `test_scripts` shows a call.
 pub fn replay_config<R: Read, W: Write>(
     alloc: Global,
     config: &Config,
