@@ -1,9 +1,7 @@
-ghost use Rattle.std.specs.Prelude.{◌≡◌, IsSome};
+ghost use Rattle.std.specs.Prelude.{◌≡◌};
 ghost use Rattle.alog_lane.specs.Seats.{first_known as first_seat_known};
 ghost use Rattle.alog_ring.specs.Known.{IsPassOf, first_known};
-ghost use Rattle.alog_policy.specs.Outlet.{left_in};
 ghost use Rattle.alog_policy.specs.BookCalls.{IsSeatOf};
-ghost use Rattle.alog_policy.specs.Port.{IsFit};
 
 use alog_core::LAST_TICKET;
 use alog_policy::{
@@ -59,26 +57,45 @@ fn new_book(rt: &impl Abort, alloc: Global) -> (LossBook, BookSeat)
     }
 }
 
-// A post through a port, with waiting where there may be, ends so.
+// A post on a ring, whose losses a book counts, ends so, with waiting where there may be.
 fn waits(
     rt: &(impl Abort + Wait + Clock),
-    port: &mut Port<'_, u64>,
+    ring: &Ring<u64>,
+    pass: &mut Pass<u64>,
+    book: &LossBook,
+    seat: &mut BookSeat,
     policy: Policy,
     value: u64,
     wanted: Outcome<u64>,
 )
-    requires { IsFit port.old }
-    ensures { IsFit port.new }
+    requires { IsPassOf ring.now pass.old × IsSeatOf book.now seat.old }
+    ensures { IsPassOf ring.now pass.new × IsSeatOf book.now seat.new }
 {
-    assert!(rt; post_wait(rt, port, policy, value) == wanted);
+    let mut port = Port {
+        ring,
+        pass,
+        book,
+        seat,
+    };
+    let outcome = post_wait(rt, &mut port, policy, value);
+    assert!(rt; outcome == wanted);
 }
 
 // A post that never waits ends so.
-fn goes(rt: &impl Abort, port: &mut Port<'_, u64>, policy: Policy, value: u64, wanted: Outcome<u64>)
-    requires { IsFit port.old }
-    ensures { IsFit port.new }
+fn goes(
+    rt: &impl Abort,
+    ring: &Ring<u64>,
+    pass: &mut Pass<u64>,
+    book: &LossBook,
+    seat: &mut BookSeat,
+    policy: Policy,
+    value: u64,
+    wanted: Outcome<u64>,
+)
+    requires { IsPassOf ring.now pass.old × IsSeatOf book.now seat.old }
+    ensures { IsPassOf ring.now pass.new × IsSeatOf book.now seat.new }
 {
-    assert!(rt; post_now(port, policy, value) == wanted);
+    assert!(rt; post(ring, pass, book, seat, policy, value) == wanted);
 }
 
 // So much was lost.
@@ -123,17 +140,47 @@ fn a_lone_port_posts(rt: HostRuntime) {
     let (ring, mut pass) = ring_of_two(&rt, rt.alloc(), 0);
     let (book, mut seat) = new_book(&rt, rt.alloc());
     let other = book.split(&mut seat, 1);
-    let mut port = Port {
-        ring: &ring,
-        pass: &mut pass,
-        book: &book,
-        seat: &mut seat,
-    };
-    waits(&rt, &mut port, Policy::Block, 7, posted(0, 0));
-    waits(&rt, &mut port, Policy::DiscardNew, 8, posted(1, 0));
+    waits(
+        &rt,
+        &ring,
+        &mut pass,
+        &book,
+        &mut seat,
+        Policy::Block,
+        7,
+        posted(0, 0),
+    );
+    waits(
+        &rt,
+        &ring,
+        &mut pass,
+        &book,
+        &mut seat,
+        Policy::DiscardNew,
+        8,
+        posted(1, 0),
+    );
     let full = discarded(9, Why::Full);
-    goes(&rt, &mut port, Policy::DiscardNew, 9, full);
-    waits(&rt, &mut port, Policy::OverrunOldest, 9, posted(2, 1));
+    goes(
+        &rt,
+        &ring,
+        &mut pass,
+        &book,
+        &mut seat,
+        Policy::DiscardNew,
+        9,
+        full,
+    );
+    waits(
+        &rt,
+        &ring,
+        &mut pass,
+        &book,
+        &mut seat,
+        Policy::OverrunOldest,
+        9,
+        posted(2, 1),
+    );
     has_lost(&rt, &book, &mut seat, losses(1, 1));
     let (book, mut seat) = stays(&rt, book, seat);
     book.join(&mut seat, other);
@@ -162,36 +209,29 @@ fn post(
     post_now(&mut port, policy, value)
 }
 
-// One post of what lies in a hand: the hand keeps what is discarded.
-fn post_hand(
-    rt: &(impl Wait + Clock),
-    port: &mut Port<'_, u64>,
-    policy: Policy,
-    hand: &mut Option<u64>,
-) -> Outcome<()>
-    requires fit { IsFit port.old }
-    requires there { IsSome hand.old }
-    ensures fit { IsFit port.new }
-    ensures left { hand.new ≡ left_in result hand.old }
-{
-    post_from(rt, port, policy, hand)
-}
-
-// A post of a value in a hand ends so, and this is left in the hand.
+// A post of a value in a hand ends so, and this is left in the hand: it keeps what is discarded.
 fn hands(
     rt: &(impl Abort + Wait + Clock),
-    port: &mut Port<'_, u64>,
+    ring: &Ring<u64>,
+    pass: &mut Pass<u64>,
+    book: &LossBook,
+    seat: &mut BookSeat,
     policy: Policy,
     value: u64,
-    wanted: Outcome<()>,
-    left: Option<u64>,
+    wanted: (Outcome<()>, Option<u64>),
 )
-    requires { IsFit port.old }
-    ensures { IsFit port.new }
+    requires { IsPassOf ring.now pass.old × IsSeatOf book.now seat.old }
+    ensures { IsPassOf ring.now pass.new × IsSeatOf book.now seat.new }
 {
+    let mut port = Port {
+        ring,
+        pass,
+        book,
+        seat,
+    };
     let mut hand = Some(value);
-    let outcome = post_hand(rt, port, policy, &mut hand);
-    assert!(rt; outcome == wanted && hand == left);
+    let outcome = post_from(rt, &mut port, policy, &mut hand);
+    assert!(rt; (outcome, hand) == wanted);
 }
 
 fn no_room() -> Outcome<()> {
@@ -206,16 +246,47 @@ fn no_room() -> Outcome<()> {
 fn a_hand_keeps_what_is_discarded(rt: HostRuntime) {
     let (ring, mut pass) = ring_of_two(&rt, rt.alloc(), 0);
     let (book, mut seat) = new_book(&rt, rt.alloc());
-    let mut port = Port {
-        ring: &ring,
-        pass: &mut pass,
-        book: &book,
-        seat: &mut seat,
-    };
-    hands(&rt, &mut port, Policy::Block, 7, gone(0, 0), None);
-    hands(&rt, &mut port, Policy::DiscardNew, 8, gone(1, 0), None);
-    hands(&rt, &mut port, Policy::DiscardNew, 9, no_room(), Some(9));
-    hands(&rt, &mut port, Policy::OverrunOldest, 9, gone(2, 1), None);
+    let (kept, over) = (Policy::DiscardNew, Policy::OverrunOldest);
+    hands(
+        &rt,
+        &ring,
+        &mut pass,
+        &book,
+        &mut seat,
+        Policy::Block,
+        7,
+        (gone(0, 0), None),
+    );
+    hands(
+        &rt,
+        &ring,
+        &mut pass,
+        &book,
+        &mut seat,
+        kept,
+        8,
+        (gone(1, 0), None),
+    );
+    hands(
+        &rt,
+        &ring,
+        &mut pass,
+        &book,
+        &mut seat,
+        kept,
+        9,
+        (no_room(), Some(9)),
+    );
+    hands(
+        &rt,
+        &ring,
+        &mut pass,
+        &book,
+        &mut seat,
+        over,
+        9,
+        (gone(2, 1), None),
+    );
     has_lost(&rt, &book, &mut seat, losses(1, 1));
 }
 
@@ -223,15 +294,28 @@ fn a_hand_keeps_what_is_discarded(rt: HostRuntime) {
 fn is_spent(rt: &(impl Abort + Wait + Clock), alloc: Global, policy: Policy) {
     let (ring, mut pass) = ring_of_two(rt, alloc, LAST_TICKET - 1);
     let (book, mut seat) = new_book(rt, alloc);
-    let mut port = Port {
-        ring: &ring,
-        pass: &mut pass,
-        book: &book,
-        seat: &mut seat,
-    };
-    goes(rt, &mut port, policy, 7, posted(LAST_TICKET - 1, 0));
-    goes(rt, &mut port, policy, 8, discarded(8, Why::Spent));
-    waits(rt, &mut port, policy, 9, discarded(9, Why::Spent));
+    let last = posted(LAST_TICKET - 1, 0);
+    goes(rt, &ring, &mut pass, &book, &mut seat, policy, 7, last);
+    goes(
+        rt,
+        &ring,
+        &mut pass,
+        &book,
+        &mut seat,
+        policy,
+        8,
+        discarded(8, Why::Spent),
+    );
+    waits(
+        rt,
+        &ring,
+        &mut pass,
+        &book,
+        &mut seat,
+        policy,
+        9,
+        discarded(9, Why::Spent),
+    );
     has_lost(rt, &book, &mut seat, losses(0, 2));
 }
 

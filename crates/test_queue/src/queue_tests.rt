@@ -146,16 +146,16 @@ fn sizes_and_first_tickets(rt: HostRuntime) {
     }
 }
 
-// The actor is in no call.
-fn is_idle(rt: &impl Abort, world: &World<u64>, actor: u32) {
-    assert!(rt; world.is_idle(actor));
+// Actor 2 is in no call.
+fn is_idle(rt: &impl Abort, world: &World<u64>) {
+    assert!(rt; world.is_idle(2));
 }
 
 #[test]
 fn empty_queue(rt: HostRuntime) {
     let mut world = world(&rt, rt.alloc(), 2, 0);
     pop_says(&rt, &mut world, 2, &[Said::Nothing, Said::Empty(0)]);
-    is_idle(&rt, &world, 2);
+    is_idle(&rt, &world);
     has_cells(&rt, rt.alloc(), &world, &[]);
 }
 

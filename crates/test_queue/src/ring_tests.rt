@@ -357,9 +357,9 @@ fn leaves_texts(rt: &impl Abort, ring: Ring<String>, pass: Pass<String>, wanted:
 #[test]
 fn keeps_values_that_own_memory(rt: HostRuntime) {
     let (ring, mut pass) = ring_of(&rt, rt.alloc(), 4, 0);
-    for text in ["a", "bc", "def"] {
-        push_text(&rt, rt.alloc(), &ring, &mut pass, text);
-    }
+    push_text(&rt, rt.alloc(), &ring, &mut pass, "a");
+    push_text(&rt, rt.alloc(), &ring, &mut pass, "bc");
+    push_text(&rt, rt.alloc(), &ring, &mut pass, "def");
     pop_text(&rt, &ring, &mut pass, "a");
     leaves_texts(&rt, ring, pass, &[(1, 2), (2, 3)]);
 }
