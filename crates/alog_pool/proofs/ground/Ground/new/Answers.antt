@@ -8,10 +8,10 @@ use Rattle.alog_policy.specs.BookCalls.{IsSeatOf}
 use Rattle.alog_ring.specs.Known.{IsPassOf}
 use Rattle.alog_ring.specs.Made.{IsFaithful}
 
-pub returns-in-Ok-new : goal.returns-in-Ok-new
-returns-in-Ok-new g c =
+pub returns-in-Ok : goal.returns-in-Ok
+returns-in-Ok g c =
     let setup = c.args.setup in
-    let shared = c.in-Ok-new.ensures.ok in
+    let shared = c.in-Ok.ensures.ok in
     let first = c.in_ok-berths.ensures in
     let keepings = c.in_ok-keepings.ensures in
     let loggers = setup.loggers in
