@@ -3,8 +3,10 @@ ghost use Rattle.std.specs.Prelude.{◌≡◌, ◌≤◌, ◌<◌, ◌+◌, ℕ,
 ghost use Rattle.std.specs.Arc.{arc_value};
 ghost use Rattle.std.specs.List.{AllByRecursion, range_with_len};
 ghost use Rattle.alog_core.specs.World.{is_size};
+ghost use Rattle.alog_lane.specs.Seats.{first_known as first_seat};
 ghost use Rattle.alog_lane.specs.declared.seat.TheConstants.{ALL_PARTS as ALL_SEATS};
 ghost use Rattle.alog_msg.specs.declared.limits.TheConstants.{LEAST_TEXT_LIMIT, MOST_TEXT_LIMIT};
+ghost use Rattle.alog_policy.specs.BookCalls.{IsSeatOf};
 ghost use Rattle.alog_pool.specs.Berth.{Suits};
 ghost use Rattle.alog_pool.specs.Keeping.{KeepingView};
 ghost use Rattle.alog_pool.specs.Places.{AreSpare, Each2, Each3, IsFirst, IsKeepingOf, IsPart};
@@ -54,14 +56,6 @@ pub(crate) struct Ground<S: Store> {
     pub(crate) workers: usize,
 }
 
-/// How a worker begins: its number, of how many workers it is one, and the number of tickets that it records.
-#[derive(Clone, Copy, Drop)]
-pub(crate) struct Post {
-    pub(crate) number: u32,
-    pub(crate) workers: u32,
-    pub(crate) most: usize,
-}
-
 impl<S: Store + Drop + Send + 'static> Ground<S> {
     /// What a pool over this queue stands on.
     pub(crate) fn new(
@@ -85,27 +79,19 @@ impl<S: Store + Drop + Send + 'static> Ground<S> {
             ..
         } = setup;
         let keepings = keepings_of(alloc, &loggers, text_limit)?;
+        let (shared, losses) = shared_of(alloc, ring, loggers)?;
         let berths = berths_of(alloc, sinks, text_limit)?;
-        let (book, losses) = LossBook::new(alloc)?;
-        let shared = Shared {
-            ring,
-            book,
-            loggers,
-        };
-        match Arc::new(alloc, shared) {
-            Ok(shared) => Ok(Ground {
-                alloc,
-                shared,
-                pass,
-                losses,
-                berths,
-                keepings,
-                text_limit,
-                tickets_max,
-                workers,
-            }),
-            Err(_) => Err(AllocError),
-        }
+        Ok(Ground {
+            alloc,
+            shared,
+            pass,
+            losses,
+            berths,
+            keepings,
+            text_limit,
+            tickets_max,
+            workers,
+        })
     }
 
     /// Starts its workers. Where one cannot be started, those that were are told to stop.
@@ -226,6 +212,29 @@ impl<S: Store + Drop + Send + 'static> Ground<S> {
             most: self.tickets_max,
             handled: 0,
         })
+    }
+}
+
+/// What all threads of a pool over this queue share, and the first seat of its loss book.
+fn shared_of(
+    alloc: Global,
+    ring: Ring<Item, TextLimit>,
+    loggers: Loggers,
+) -> Result<(Arc<Shared>, BookSeat), AllocError>
+    ensures ring { IfOk result (λ r. (arc_value r.0).ring ≡ ring) }
+    ensures loggers { IfOk result (λ r. (arc_value r.0).loggers ≡ loggers) }
+    ensures seat { IfOk result (λ r. IsSeatOf (arc_value r.0).book r.1) }
+    ensures known { IfOk result (λ r. r.1.known ≡ first_seat) }
+{
+    let (book, losses) = LossBook::new(alloc)?;
+    let shared = Shared {
+        ring,
+        book,
+        loggers,
+    };
+    match Arc::new(alloc, shared) {
+        Ok(shared) => Ok((shared, losses)),
+        Err(_) => Err(AllocError),
     }
 }
 
