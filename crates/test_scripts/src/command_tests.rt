@@ -60,7 +60,7 @@ const COMMANDS: [(&str, u64, &str); 5] = [
         "7 claim 0\n7 write 0\ncells 0:written\noverrun 0 discarded 0\n",
     ),
     (
-        "ring 2 0\npost 1 discard_new a\nstep 1 5",
+        "ring 2 0\npost 1 discard_new a\nstep 1 4",
         3,
         "1 claim 0\n1 write 0\n1 posted 0 overran 0\n",
     ),
