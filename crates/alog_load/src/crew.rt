@@ -84,8 +84,8 @@ impl Crew {
     }
 }
 
-/// Has the pool make so many producers, and answers whether it did.
-fn make<S: Store + Drop + Send + 'static>(
+/// Has a pool make so many producers, into a list with room for them, and answers whether it did.
+pub fn make<S: Store + Drop + Send + 'static>(
     pool: &mut Pool<S>,
     count: u64,
     producers: &mut Vec<Producer>,

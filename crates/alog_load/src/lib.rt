@@ -18,6 +18,7 @@ mod error;
 mod loading;
 mod setup;
 
+pub use crew::make;
 pub use error::LoadError;
 pub use loading::load;
 pub use setup::setup_of;
