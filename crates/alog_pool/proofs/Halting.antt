@@ -1,12 +1,12 @@
 -- Stops that are posted, one by one.
-use Rattle.std.proofs.Common.{◌≡◌, ◌<◌, ℕ, ◌+◌, List, [], ◌∷◌, ◌++◌, length, length-append, refl, sym, ap, subst, append-nil, inl, inr, arith}
+use Rattle.std.proofs.Common.{Bool, true, false, ◌≡◌, ◌<◌, ℕ, ◌+◌, List, [], ◌∷◌, ◌++◌, length, length-append, refl, sym, ap, subst, append-nil, inl, inr, arith}
 use Rattle.alog_core.specs.History.{Entry}
 use Rattle.alog_core.specs.Queue as queue
 use Rattle.alog_core.specs.Accounts.{weigh}
 use Rattle.alog_msg.specs.declared.item.Item.{Item}
 use Rattle.alog_msg.specs.declared.item.Item.TheVariants.{Stop}
 use Rattle.alog_pool.specs.Accounts.{Moved, work, of_work}
-use Rattle.alog_pool.specs.Stops.{AreStops, IsSpent, PutsStops, SawSpent}
+use Rattle.alog_pool.specs.Stops.{AreStops, DidPost, IsSpent, PutsStops, SawSpent}
 use Rattle.alog_pool.proofs.Moves.{answer_moved, busy_pushes, moved_more, not_moved, pushed_moved}
 use Rattle.alog_pool.proofs.Sharing.{all_more}
 use Rattle.alog_ring.specs.Calls.{by}
@@ -40,6 +40,11 @@ refused_spent old new x (push.Spent v) is refused =
 -- what a push put in
 pub pushed_last : (old new : Known Item no_note) (t : ℕ) (x : Item) → PushedAtLast old new t x → Moved old new ((t, x) ∷ []) []
 pushed_last old new t x pushed = busy_pushes old pushed.0 new ((t, x) ∷ []) pushed.1 (pushed_moved pushed.0 new t x pushed.2)
+
+-- tries, one behind the other
+pub did_more : (j k l : Known Item no_note) (posted : Bool) → Moved j k [] [] → DidPost k l posted → DidPost j l posted
+did_more j k l true before did = (did.0, moved_more j k l [] ((did.0, Stop) ∷ []) [] [] before did.1)
+did_more j k l false before did = (moved_more j k l [] [] [] [] before did.0, did.1)
 
 -- so many stops were put in
 pub record HasPut (old new : Known Item no_note) (count : ℕ) : Type 0 where

@@ -138,6 +138,17 @@ module _ {S : Type 0} where
     pub kept : (new.tickets_max ≡ old.tickets_max) × (new.text_limit ≡ old.text_limit) × (new.workers ≡ old.workers)
     pub begins : Begins (arc_value old.shared) (lanes_of old.berths.items) old.tickets_max h
 
+  -- All its workers were hired, numbered from 0 on, and the ground stands without their parts.
+  pub record Crews (old new : Ground S) (hands : List (Hand S)) : Type 0 where
+    pub stands : Stands (length hands) new
+    pub shared : arc_value new.shared ≡ arc_value old.shared
+    pub lanes : lanes_of new.berths.items ≡ lanes_of old.berths.items
+    pub keepings : new.keepings.items ≡ old.keepings.items
+    pub kept : (new.tickets_max ≡ old.tickets_max) × (new.text_limit ≡ old.text_limit) × (new.workers ≡ old.workers)
+    pub began : AllByRecursion (Begins (arc_value old.shared) (lanes_of old.berths.items) old.tickets_max) hands
+    pub all : length hands ≡ old.workers
+    pub numbers : numbers_of hands ≡ range_with_len 0 old.workers
+
   -- The pool stands on this ground, with as many workers as it wants, numbered from 0 on, and made no producer.
   pub record Staffs (g : Ground S) (p : PoolView S) : Type 0 where
     pub shared : p.shared ≡ arc_value g.shared

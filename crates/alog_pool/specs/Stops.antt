@@ -1,5 +1,5 @@
 -- How a pool tells its workers to end.
-use Rattle.std.specs.Prelude.{◌≡◌, ◌⊎◌, ◌<◌, ℕ, Bool, true, false, List, [], ◌∷◌, length}
+use Rattle.std.specs.Prelude.{◌≡◌, ◌⊎◌, ◌<◌, ℕ, Bool, true, false, Option, None, Some, List, [], ◌∷◌, length}
 use Rattle.std.specs.List.{AllByRecursion}
 use Rattle.alog_core.specs.History.{Entry}
 use Rattle.alog_core.specs.Queue as queue
@@ -41,3 +41,8 @@ pub record PutsStops (old new : Known Item no_note) (count : ℕ) : Type 0 where
 abbrev pub DidPost : Known Item no_note → Known Item no_note → Bool → Type 0
 DidPost old new true = (t : ℕ) × Moved old new ((t, Stop) ∷ []) []
 DidPost old new false = Moved old new [] [] × SawSpent new.own
+
+-- It did so, or moved nothing.
+abbrev pub Tries : Known Item no_note → Known Item no_note → Option Bool → Type 0
+Tries old new (Some posted) = DidPost old new posted
+Tries old new None = Moved old new [] []

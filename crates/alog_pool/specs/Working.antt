@@ -1,5 +1,5 @@
 -- What a worker did.
-use Rattle.std.specs.Prelude.{◌≡◌, ◌⊎◌, ℕ, ◌%◌, ◌^◌, ◌≤◌, List, [], ◌∷◌, ◌++◌, map, take, Option, None, Some, vec_capacity}
+use Rattle.std.specs.Prelude.{◌≡◌, ◌⊎◌, ℕ, Bool, true, false, ◌%◌, ◌^◌, ◌≤◌, List, [], ◌∷◌, ◌++◌, map, take, Option, None, Some, vec_capacity}
 use Rattle.std.specs.Arc.{arc_value}
 use Rattle.std.specs.List.{AllByRecursion}
 use Rattle.alog_core.specs.History.{Entry}
@@ -80,3 +80,8 @@ pub record HasWorked {S : Type 0} (start end : Hand S) : Type 0 where
   pub ended : HasEnded end.pass.known.own
   pub turns : HasTurned start end
   pub places : places_of end.berths.items ≡ places_of start.berths.items
+
+-- Whether it goes on: it is at work and made its turns, or it has worked.
+abbrev pub GoesOn : {S : Type 0} → Hand S → Hand S → Bool → Type 0
+GoesOn start now true = IsAtWork start now × HasTurned start now
+GoesOn start now false = HasWorked start now

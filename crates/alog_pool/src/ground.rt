@@ -10,7 +10,7 @@ ghost use Rattle.alog_policy.specs.BookCalls.{IsSeatOf};
 ghost use Rattle.alog_pool.specs.Berth.{Suits};
 ghost use Rattle.alog_pool.specs.Keeping.{KeepingView};
 ghost use Rattle.alog_pool.specs.Places.{AreSpare, Each2, Each3, IsFirst, IsKeepingOf, IsPart};
-ghost use Rattle.alog_pool.specs.Pool.{Begins, Fits, HasQueue, IsGround, Staffs, Stands, Hires, lanes_of};
+ghost use Rattle.alog_pool.specs.Pool.{Begins, Fits, HasQueue, IsGround, Staffs, Stands, Crews, Hires, lanes_of};
 ghost use Rattle.alog_pool.specs.Room.{HasRoom};
 ghost use Rattle.alog_pool.specs.Working.{HasWorked, IsAtWork, numbers_of};
 ghost use Rattle.alog_pool.specs.declared.pool.TheConstants.{MOST_WORKERS};
@@ -108,17 +108,30 @@ impl<S: Store + Drop + Send + 'static> Ground<S> {
             return Err(AllocError);
         };
         let blank = Blank::new(ground.alloc, ground.workers, ground.berths.len())?;
-        let mut workers = Vec::with_capacity(ground.alloc, ground.workers)?;
-        for number in 0..ground.workers {
-            match ground.hire(rt, &gate, number as u32) {
+        let workers = ground.crew(rt, &gate)?;
+        Ok(ground.with(workers, blank))
+    }
+
+    /// Starts all of its workers. Where one cannot be started, those that were are told to stop.
+    fn crew<
+        R: Threads + Wait + Clock + Clone + Drop + Send + 'static,
+        G: Gate + Send + Sync + Drop + 'static,
+    >(&mut self, rt: &R, gate: &Arc<G>) -> Result<Vec<Worker<S>>, AllocError>
+        requires stands { Stands 0 self.old }
+        requires workers { self.old.workers ≤ MOST_WORKERS }
+        ensures { IfOk result (λ v. Crews self.old self.new (map (λ h. h.promise.start.value) v.items)) }
+    {
+        let mut workers = Vec::with_capacity(self.alloc, self.workers)?;
+        for number in 0..self.workers {
+            match self.hire(rt, gate, number as u32) {
                 Ok(worker) => workers.push_reserved(worker),
                 Err(AllocError) => {
-                    post_stops(rt, &ground.shared.ring, &mut ground.pass, workers.len());
+                    post_stops(rt, &self.shared.ring, &mut self.pass, workers.len());
                     return Err(AllocError);
                 }
             }
         }
-        Ok(ground.with(workers, blank))
+        Ok(workers)
     }
 
     /// The pool with these workers.
@@ -169,12 +182,12 @@ impl<S: Store + Drop + Send + 'static> Ground<S> {
         ensures queue { HasQueue self.new }
     {
         let gate = Arc::try_clone(gate)?;
+        let own = rt.clone()?;
         let hand = self.hand(number)?;
         let promise = Works {
             start: Snapshot::of(&hand),
         };
-        let own = rt.clone()?;
-        let worker = thread::spawn_with(
+        let handle = thread::spawn_with(
             rt,
             promise,
             move || -> Hand<S>
@@ -182,8 +195,8 @@ impl<S: Store + Drop + Send + 'static> Ground<S> {
                 ensures { HasWorked hand result }
             { work_alone(own, gate, hand) },
         );
-        match worker {
-            Ok(worker) => Ok(worker),
+        match handle {
+            Ok(handle) => Ok(handle),
             Err(_) => Err(AllocError),
         }
     }

@@ -5,7 +5,7 @@ ghost use Rattle.alog_msg.specs.declared.item.Item.TheVariants.{Stop};
 ghost use Rattle.alog_pattern.specs.declared.patterns.TheConstants.{LINE_MAX};
 ghost use Rattle.alog_pool.specs.Berth.{AreServable, places_of};
 ghost use Rattle.alog_pool.specs.Deeds.{Due, HaveMade, dues_by, dues_of};
-ghost use Rattle.alog_pool.specs.Working.{Finds, HasWorked, IsAtWork};
+ghost use Rattle.alog_pool.specs.Working.{Finds, GoesOn, HasTurned, HasWorked, IsAtWork};
 ghost use Rattle.alog_registry.specs.Listed.{spec_at};
 ghost use Rattle.alog_ring.specs.Known.{IsPassOf};
 ghost use Rattle.alog_ring.specs.Made.{IsFaithful};
@@ -49,42 +49,49 @@ impl<S: Store> Hand<S> {
     {
         let mut hand = self;
         for _ in rt.forever() {
-            let mut taken = None;
-            let Some(ticket) = take_waiting(
-                rt,
-                &hand.shared,
-                &mut hand.pass,
-                hand.workers,
-                &mut taken,
-            ) else {
-                return hand;
-            };
-            let Some(item) = &taken else { unreachable!() };
-            if is_stop(item) {
+            if !hand.goes_on(rt, gate) {
                 return hand;
             }
-            hand.handled = hand.handled.wrapping_add(1);
-            note(&mut hand.tickets, hand.most, ticket);
-            let Hand {
-                shared,
-                berths,
-                line,
-                number,
-                ..
-            } = &mut hand;
-            handle(
-                rt,
-                gate,
-                *number,
-                &shared.loggers,
-                berths,
-                line,
-                ticket,
-                item,
-            );
-            let_go(taken);
         }
         unreachable!()
+    }
+
+    /// Handles the next item as soon as there is one, and answers whether the worker goes on: it does not after a stop, nor where no
+    /// ticket is left.
+    fn goes_on<R: Wait + Clock, G: Gate>(&mut self, rt: &R, gate: &G) -> bool
+        requires { (start : Hand S) × IsAtWork start self.old }
+        ensures { (start : Hand S) → IsAtWork start self.old → HasTurned start self.old → GoesOn start self.new result }
+    {
+        let mut taken = None;
+        let Some(ticket) = take_waiting(rt, &self.shared, &mut self.pass, self.workers, &mut taken)
+        else {
+            return false;
+        };
+        let Some(item) = &taken else { unreachable!() };
+        if is_stop(item) {
+            return false;
+        }
+        self.handled = self.handled.wrapping_add(1);
+        note(&mut self.tickets, self.most, ticket);
+        let Hand {
+            shared,
+            berths,
+            line,
+            number,
+            ..
+        } = self;
+        handle(
+            rt,
+            gate,
+            *number,
+            &shared.loggers,
+            berths,
+            line,
+            ticket,
+            item,
+        );
+        let_go(taken);
+        true
     }
 }
 

@@ -4,8 +4,10 @@ ghost use Rattle.std.specs.List.{AllByRecursion};
 ghost use Rattle.alog_core.specs.Queue.{last};
 ghost use Rattle.alog_core.specs.World.{is_size};
 ghost use Rattle.alog_pool.specs.Places.{Each2, Each3, IsKeepingPart, IsSpareOf};
-ghost use Rattle.alog_pool.specs.Pool.{Fits, HasWorkers, Starts, Makes};
+ghost use Rattle.alog_pool.specs.Pool.{Fits, HasWorkers, IsGround, Makes, Staffs, Starts};
+ghost use Rattle.alog_pool.specs.declared.ground.Ground.{Ground};
 ghost use Rattle.alog_pool.specs.declared.pool.TheConstants.{MOST_PRODUCERS};
+ghost use Rattle.alog_ring.specs.Known.{IsPassOf, first_known};
 
 use crate::berth::Berth;
 use crate::error::{ProducerError, StartError};
@@ -92,19 +94,8 @@ impl<S: Store + Drop + Send + 'static> Pool<S> {
         if setup.workers < 1 || setup.workers > MOST_WORKERS {
             return Err(StartError::BadWorkers);
         }
-        let limit = TextLimit {
-            most: setup.text_limit,
-        };
-        let (ring, pass) = match Ring::limited(alloc, setup.queue, setup.first, limit) {
-            Ok(made) => made,
-            Err(NewError::BadSize) => return Err(StartError::BadSize),
-            Err(NewError::BadFirst) => return Err(StartError::BadFirst),
-            Err(NewError::OutOfMemory) => return Err(StartError::OutOfMemory),
-        };
-        let Ok(ground) = Ground::new(alloc, setup, ring, pass) else {
-            return Err(StartError::OutOfMemory);
-        };
-        match ground.staff(rt, gate) {
+        let (ring, pass) = queue_of(alloc, setup.queue, setup.first, setup.text_limit)?;
+        match open(rt, alloc, setup, ring, pass, gate) {
             Ok(pool) => Ok(pool),
             Err(AllocError) => Err(StartError::OutOfMemory),
         }
@@ -147,6 +138,52 @@ impl<S: Store + Drop + Send + 'static> Pool<S> {
         self.made += 1;
         Ok(producer)
     }
+}
+
+/// The queue of a pool, and the first pass of it.
+fn queue_of(
+    alloc: Global,
+    places: usize,
+    first: u64,
+    text_limit: usize,
+) -> Result<(Ring<Item, TextLimit>, Pass<Item>), StartError>
+    ensures workers { ¬ IsErrOf result StartError.BadWorkers }
+    ensures bad_size { IsErrOf result StartError.BadSize ↔ (is_size places ≡ false) }
+    ensures bad_first { IsErrOf result StartError.BadFirst ↔ ((is_size places ≡ true) × (last ≤ first)) }
+    ensures shape { IfOk result (λ r. (r.0.places ≡ places) × (r.0.first ≡ first) × (r.0.limit.most ≡ text_limit)) }
+    ensures ring { IfOk result (λ r. IsPassOf r.0 r.1) }
+    ensures first { IfOk result (λ r. r.1.known ≡ first_known places first) }
+{
+    let limit = TextLimit { most: text_limit };
+    match Ring::limited(alloc, places, first, limit) {
+        Ok(made) => Ok(made),
+        Err(NewError::BadSize) => Err(StartError::BadSize),
+        Err(NewError::BadFirst) => Err(StartError::BadFirst),
+        Err(NewError::OutOfMemory) => Err(StartError::OutOfMemory),
+    }
+}
+
+/// Starts the workers of a pool over this queue.
+fn open<
+    S: Store + Drop + Send + 'static,
+    R: Threads + Wait + Clock + Clone + Drop + Send + 'static,
+    G: Gate + Send + Sync + Drop + 'static,
+>(
+    rt: &R,
+    alloc: Global,
+    setup: Setup<S>,
+    ring: Ring<Item, TextLimit>,
+    pass: Pass<Item>,
+    gate: G,
+) -> Result<Pool<S>, AllocError>
+    requires fits { Fits setup }
+    requires workers { HasWorkers setup }
+    requires ring { IsPassOf ring pass × (ring.limit.most ≡ setup.text_limit) }
+    requires pass { pass.known ≡ first_known ring.places ring.first }
+    requires places { 1 ≤ ring.places }
+    ensures { IfOk result (λ p. (g : Ground S) × IsGround setup ring g × Staffs g p) }
+{
+    Ground::new(alloc, setup, ring, pass)?.staff(rt, gate)
 }
 
 /// What a place at each of these backtraces takes memory for.

@@ -1,6 +1,6 @@
 //! How a pool tells its workers to end.
 ghost use Rattle.std.specs.Prelude.{◌↔◌, IsTrue};
-ghost use Rattle.alog_pool.specs.Stops.{DidPost, IsSpent, PutsStops};
+ghost use Rattle.alog_pool.specs.Stops.{DidPost, IsSpent, PutsStops, Tries};
 ghost use Rattle.alog_ring.specs.Known.{IsPassOf};
 ghost use Rattle.alog_ring.specs.Made.{IsFaithful};
 
@@ -39,17 +39,25 @@ fn post_stop(rt: &(impl Wait + Clock), ring: &Ring<Item, TextLimit>, pass: &mut 
 {
     let mut room = Room::new(ring.places());
     for _ in rt.forever() {
-        match ring.push(rt, pass, Item::Stop) {
-            Ok(_) => return true,
-            Err(error) => {
-                if is_spent(&error) {
-                    return false;
-                }
-            }
+        if let Some(posted) = try_stop(rt, ring, pass) {
+            return posted;
         }
         room.wait(rt);
     }
     unreachable!()
+}
+
+/// Tries to post a stop, and answers whether a ticket was left for it; `None` where there was no room.
+fn try_stop(rt: &impl Wait, ring: &Ring<Item, TextLimit>, pass: &mut Pass<Item>) -> Option<bool>
+    requires ring { IsPassOf ring.now pass.old }
+    requires faithful { IsFaithful pass.old.known }
+    ensures ring { IsPassOf ring.now pass.new }
+    ensures tried { Tries pass.old.known pass.new.known result }
+{
+    match ring.push(rt, pass, Item::Stop) {
+        Ok(_) => Some(true),
+        Err(error) => { if is_spent(&error) { Some(false) } else { None } }
+    }
 }
 
 /// Whether a push found that no ticket is left.

@@ -17,8 +17,8 @@ use Rattle.alog_pool.specs.Working.{IsAtWork}
 use Rattle.alog_pool.specs.contracts.hand.Hand as Hand
 use Rattle.alog_pool.specs.declared.hand.Hand.{Hand as HandIs}
 
-pub spawn_with-worker-requires-send-F : goal.spawn_with-worker-requires-send-F
-spawn_with-worker-requires-send-F g c κs within =
+pub spawn_with-handle-requires-send-F : goal.spawn_with-handle-requires-send-F
+spawn_with-handle-requires-send-F g c κs within =
     let own : IsSend (param 1 g.row.R) = c.type_bounds.send-R in
     let gate = Arc-send (param 2 g.row.G) c.type_bounds.send-G c.type_bounds.sync-G in
     let hand = hand_send (param 0 g.row.S) g.S.Store c.type_bounds.send-S in
@@ -29,14 +29,14 @@ spawn_with-worker-requires-send-F g c κs within =
     g.R.Destruct-dict g.G.Destruct-dict κs) (arg_send _ no _ (recorded_send (field_at _ kept).row _ _ (type_at _ kept).to_one
     (struct_send (shape (type_at _ kept)) (own, (gate, (hand, tt))))))
 
-pub spawn_with-worker-requires-send-T : goal.spawn_with-worker-requires-send-T
-spawn_with-worker-requires-send-T g c κs within =
+pub spawn_with-handle-requires-send-T : goal.spawn_with-handle-requires-send-T
+spawn_with-handle-requires-send-T g c κs within =
     param_send 3 (arg-15-3 g.row.S g.row.R g.row.G g.S.laws g.R.laws g.G.laws g.S.Store g.S.Store-dict g.S.Destruct-dict
     g.R.Threads g.R.Threads-dict g.R.Wait g.R.Wait-dict g.R.Clock g.R.Clock-dict g.R.Clone g.R.Clone-dict g.G.Gate g.G.Gate-dict
     g.R.Destruct-dict g.G.Destruct-dict κs) (search (sendable, hand_send) depth 9)
 
-pub spawn_with-worker-requires-clause-runs : goal.spawn_with-worker-requires-clause-runs
-spawn_with-worker-requires-clause-runs g c =
+pub spawn_with-handle-requires-clause-runs : goal.spawn_with-handle-requires-clause-runs
+spawn_with-handle-requires-clause-runs g c =
     let s = c.requires.stands in
     let hand = c.in_ok-hand.hand in
     let works : IsAtWork hand hand = (c.in_ok-hand.ensures.hires s.0 s.1 s.2).begins.at_work in

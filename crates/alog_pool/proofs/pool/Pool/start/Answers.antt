@@ -1,4 +1,4 @@
-use Rattle.std.proofs.Common.{◌≤◌, List, map, refl, sym, subst, ap, ◌∙◌}
+use Rattle.std.proofs.Common.{◌≡◌, ◌≤◌, List, map, refl, sym, subst, ap, ◌∙◌}
 use Rattle.std.specs.List.{range_with_len}
 use Rattle.alog_pool.proofs.Hiring.{some_size}
 use Rattle.alog_lane.specs.Calls.{LaneId}
@@ -7,11 +7,11 @@ use Rattle.alog_pool.specs.declared.shared.Shared.{Shared}
 use Rattle.alog_pool.proofs.pool.Pool.start.Goals as goal
 use Rattle.alog_sink.specs.declared.sink.Sink.{Sink}
 
-pub returns-in-Ok-staff-clause-started : goal.returns-in-Ok-staff-clause-started
-returns-in-Ok-staff-clause-started g c =
-    let ground = c.in-Ok-new.ensures in
-    let staffed = c.in-Ok-staff.ensures in
-    let shape = c.in-Ok.ensures.shape in
+pub returns-in-Ok-clause-started : goal.returns-in-Ok-clause-started
+returns-in-Ok-clause-started g c =
+    let ground = c.in-Ok.ensures.1 in
+    let staffed = c.in-Ok.ensures.2 in
+    let shape = c.in_ok-queue_of.ensures.shape in
     let ring = ap (λ (s : Shared). s.ring) staffed.shared ∙ ground.ring_is in
     record {
       queue = (ap (λ r. r.places) ring ∙ shape.0, ap (λ r. r.first) ring ∙ shape.1);
@@ -25,6 +25,7 @@ returns-in-Ok-staff-clause-started g c =
       numbers = staffed.numbers ∙ ap (λ n. range_with_len 0 n) ground.workers;
     }
 
-pub new-requires-clause-places : goal.new-requires-clause-places
-new-requires-clause-places g c κs within =
-    subst (λ n. 1 ≤ n) (sym c.in-Ok.ensures.shape.0) (some_size c.args.setup.queue _ refl (λ small. cc (c.in-Ok.ensures.bad_size.1 small)))
+pub open-requires-clause-places : goal.open-requires-clause-places
+open-requires-clause-places g c κs within =
+    let made = c.in_ok-queue_of.ensures in
+    subst (λ n. 1 ≤ n) (sym made.shape.0) (some_size c.args.setup.queue _ refl (λ small. cc (made.bad_size.1 small)))

@@ -3,17 +3,17 @@ use Rattle.std.specs.Arc.{arc_value}
 use Rattle.std.specs.List.{AllByRecursion, range_with_len}
 use Rattle.alog_pool.specs.Pool.{Begins, Stands, lanes_of}
 use Rattle.alog_pool.specs.Working.{numbers_of}
-use Rattle.alog_pool.proofs.ground.Ground.staff.Given as goal
+use Rattle.alog_pool.proofs.ground.Ground.crew.Given as goal
 
 abbrev pub invariant-loop-number : goal.invariant-loop-number
 invariant-loop-number g l = record {
-  stands : Stands l.number l.ground;
-  shared : arc_value l.ground.shared ≡ arc_value l.fn.self.shared;
-  lanes : lanes_of l.ground.berths.items ≡ lanes_of l.fn.self.berths.items;
-  keepings : l.ground.keepings.items ≡ l.fn.self.keepings.items;
-  most : l.ground.tickets_max ≡ l.fn.self.tickets_max;
-  limit : l.ground.text_limit ≡ l.fn.self.text_limit;
-  workers : l.ground.workers ≡ l.fn.self.workers;
+  stands : Stands l.number l.self;
+  shared : arc_value l.self.shared ≡ arc_value l.fn.self.shared;
+  lanes : lanes_of l.self.berths.items ≡ lanes_of l.fn.self.berths.items;
+  keepings : l.self.keepings.items ≡ l.fn.self.keepings.items;
+  most : l.self.tickets_max ≡ l.fn.self.tickets_max;
+  limit : l.self.text_limit ≡ l.fn.self.text_limit;
+  workers : l.self.workers ≡ l.fn.self.workers;
   began : AllByRecursion (Begins (arc_value l.fn.self.shared) (lanes_of l.fn.self.berths.items) l.fn.self.tickets_max)
       (map (λ h. h.promise.start.value) l.workers.items);
   count : length l.workers.items ≡ l.number;
