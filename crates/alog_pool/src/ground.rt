@@ -104,12 +104,28 @@ impl<S: Store + Drop + Send + 'static> Ground<S> {
         ensures { IfOk result (λ p. Staffs self p) }
     {
         let mut ground = self;
-        let Ok(gate) = Arc::new(ground.alloc, gate) else {
+        match ground.hire_all(rt, gate) {
+            Ok((workers, blank)) => Ok(ground.with(workers, blank)),
+            Err(AllocError) => Err(AllocError),
+        }
+    }
+
+    /// Starts all of its workers, and gives them with room for what they will have done.
+    fn hire_all<
+        R: Threads + Wait + Clock + Clone + Drop + Send + 'static,
+        G: Gate + Send + Sync + Drop + 'static,
+    >(&mut self, rt: &R, gate: G) -> Result<(Vec<Worker<S>>, Blank<S>), AllocError>
+        requires stands { Stands 0 self.old }
+        requires workers { self.old.workers ≤ MOST_WORKERS }
+        ensures crew { IfOk result (λ r. Crews self.old self.new (map (λ h. h.promise.start.value) r.0.items)) }
+        ensures room { IfOk result (λ r. HasRoom (length r.0.items) (length self.new.berths.items) r.1) }
+    {
+        let Ok(gate) = Arc::new(self.alloc, gate) else {
             return Err(AllocError);
         };
-        let blank = Blank::new(ground.alloc, ground.workers, ground.berths.len())?;
-        let workers = ground.crew(rt, &gate)?;
-        Ok(ground.with(workers, blank))
+        let blank = Blank::new(self.alloc, self.workers, self.berths.len())?;
+        let workers = self.crew(rt, &gate)?;
+        Ok((workers, blank))
     }
 
     /// Starts all of its workers. Where one cannot be started, those that were are told to stop.

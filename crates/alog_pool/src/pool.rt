@@ -95,7 +95,7 @@ impl<S: Store + Drop + Send + 'static> Pool<S> {
             return Err(StartError::BadWorkers);
         }
         let (ring, pass) = queue_of(alloc, setup.queue, setup.first, setup.text_limit)?;
-        match open(rt, alloc, setup, ring, pass, gate) {
+        match start_workers(rt, alloc, setup, ring, pass, gate) {
             Ok(pool) => Ok(pool),
             Err(AllocError) => Err(StartError::OutOfMemory),
         }
@@ -164,7 +164,7 @@ fn queue_of(
 }
 
 /// Starts the workers of a pool over this queue.
-fn open<
+fn start_workers<
     S: Store + Drop + Send + 'static,
     R: Threads + Wait + Clock + Clone + Drop + Send + 'static,
     G: Gate + Send + Sync + Drop + 'static,

@@ -5,8 +5,8 @@ use Rattle.alog_pool.proofs.stops.post_stop.Goals as goal
 pub loop-init : goal.loop-init
 loop-init g c = (c.requires.ring, not_moved _ c.requires.faithful)
 
-pub returns-in-Some-clause-did : goal.returns-in-Some-clause-did
-returns-in-Some-clause-did g c = did_more _ _ _ c.in-Some.posted c.loop.invariant.1 c.in-Some.ensures.tried
+pub returns-in-Some-try_stop-clause-did : goal.returns-in-Some-try_stop-clause-did
+returns-in-Some-try_stop-clause-did g c = did_more _ _ _ c.in-Some-try_stop.posted c.loop.invariant.1 c.in-Some-try_stop.ensures.tried
 
 pub loop-preserved : goal.loop-preserved
-loop-preserved g c = (c.try_stop.ensures.ring, moved_more _ _ _ _ _ _ _ c.loop.invariant.1 c.else.ensures.tried)
+loop-preserved g c = (c.try_stop.ensures.ring, moved_more _ _ _ _ _ _ _ c.loop.invariant.1 c.in_default.ensures.tried)

@@ -10,5 +10,5 @@ returns-then-is_spent-clause-tried g c =
     let refused = c.in-Err.ensures.refused in
     (refused_idles _ _ _ _ refused, refused_spent _ _ _ _ (c.if-is_spent.ensures.0 refl) refused)
 
-pub returns-else-is_spent-clause-tried : goal.returns-else-is_spent-clause-tried
-returns-else-is_spent-clause-tried g c = refused_idles _ _ _ _ c.in-Err.ensures.refused
+pub returns-clause-tried : goal.returns-clause-tried
+returns-clause-tried g c = refused_idles _ _ _ _ c.in-Err.ensures.refused

@@ -32,11 +32,11 @@ note-requires-clause-few g c =
 pub handle-requires-clause-servable : goal.handle-requires-clause-servable
 handle-requires-clause-servable g c =
     let limit = c.deref.result.now.ring.limit.most in
-    let t = c.in-Some-take_waiting.ticket in
+    let t = c.in-Some.ticket in
     let x = c.in-Some-taken.item in
     let found : Finds limit c.args.self.now.pass.known c.take_waiting.new.pass.known (Some t) (Some x) =
     subst (λ o. Finds limit c.args.self.now.pass.known c.take_waiting.new.pass.known (Some t) o) c.in-Some-taken.is
-    c.in-Some-take_waiting.ensures.finds in
+    c.in-Some.ensures.finds in
     let at_work = c.requires.1 in
     let keeps = subst (λ (s : Shared). KeepsTo s.ring.limit.most x) (c.deref.ensures ∙ at_work.shared) found.1 in
     subst (λ (ps : _). AreServable x ps) (sym at_work.places)
@@ -62,11 +62,11 @@ returns-in_default g c = λ start at_work turned.
 pub returns-then-is_stop : goal.returns-then-is_stop
 returns-then-is_stop g c = λ start at_work turned.
     let limit = c.deref.result.now.ring.limit.most in
-    let t = c.in-Some-take_waiting.ticket in
+    let t = c.in-Some.ticket in
     let x = c.in-Some-taken.item in
     let found : Finds limit c.args.self.now.pass.known c.take_waiting.new.pass.known (Some t) (Some x) =
     subst (λ o. Finds limit c.args.self.now.pass.known c.take_waiting.new.pass.known (Some t) o) c.in-Some-taken.is
-    c.in-Some-take_waiting.ensures.finds in
+    c.in-Some.ensures.finds in
     let w = took_stop _ _ _ _ _ _ _ at_work.work at_work.stops found.0 (c.if-is_stop.ensures.0 refl) in
     record {
       number = at_work.number;
@@ -86,12 +86,12 @@ returns-then-is_stop g c = λ start at_work turned.
 pub returns : goal.returns
 returns g c = λ start at_work turned.
     let limit = c.deref.result.now.ring.limit.most in
-    let t = c.in-Some-take_waiting.ticket in
+    let t = c.in-Some.ticket in
     let x = c.in-Some-taken.item in
     let old = c.args.self.now in
     let found : Finds limit old.pass.known c.take_waiting.new.pass.known (Some t) (Some x) =
     subst (λ o. Finds limit old.pass.known c.take_waiting.new.pass.known (Some t) o) c.in-Some-taken.is
-    c.in-Some-take_waiting.ensures.finds in
+    c.in-Some.ensures.finds in
     let w = took_work _ _ _ _ _ _ _ at_work.work at_work.stops found.0
     (λ is. let e : false ≡ true = c.if-is_stop.ensures.1 is in cc) in (
       record {
@@ -113,6 +113,6 @@ returns g c = λ start at_work turned.
         took = took_more start.pass.known old.pass.known c.take_waiting.new.pass.known turned.gots ((t, x) ∷ []) turned.took found.0;
         turns = made_for (arc_value start.shared).loggers start.berths.items old.berths.items c.handle.new.berths.items turned.gots t x
             turned.turns (subst (λ (s : Shared). HaveMade 0 old.berths.items c.handle.new.berths.items (dues_of s.loggers t x))
-            (c.deref-handle.ensures ∙ at_work.shared) c.handle.ensures.turns);
+            (c.deref-2.ensures ∙ at_work.shared) c.handle.ensures.turns);
       },
     )

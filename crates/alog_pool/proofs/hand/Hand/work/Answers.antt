@@ -22,4 +22,4 @@ returns-then-not-goes_on g c = c.if-not-goes_on.ensures c.args.self c.loop.invar
 pub loop-preserved : goal.loop-preserved
 loop-preserved g c =
     let on = c.if-not-goes_on.ensures c.args.self c.loop.invariant.at_work c.loop.invariant.turns in
-    record { at_work = on.0; turns = on.1; }
+    record { at_work = on.0; turns = on.1 }

@@ -11,7 +11,7 @@ pub returns-in-Ok-clause-started : goal.returns-in-Ok-clause-started
 returns-in-Ok-clause-started g c =
     let ground = c.in-Ok.ensures.1 in
     let staffed = c.in-Ok.ensures.2 in
-    let shape = c.in_ok-queue_of.ensures.shape in
+    let shape = c.in_ok-ring.ensures.shape in
     let ring = ap (λ (s : Shared). s.ring) staffed.shared ∙ ground.ring_is in
     record {
       queue = (ap (λ r. r.places) ring ∙ shape.0, ap (λ r. r.first) ring ∙ shape.1);
@@ -25,7 +25,7 @@ returns-in-Ok-clause-started g c =
       numbers = staffed.numbers ∙ ap (λ n. range_with_len 0 n) ground.workers;
     }
 
-pub open-requires-clause-places : goal.open-requires-clause-places
-open-requires-clause-places g c κs within =
-    let made = c.in_ok-queue_of.ensures in
+pub start_workers-requires-clause-places : goal.start_workers-requires-clause-places
+start_workers-requires-clause-places g c κs within =
+    let made = c.in_ok-ring.ensures in
     subst (λ n. 1 ≤ n) (sym made.shape.0) (some_size c.args.setup.queue _ refl (λ small. cc (made.bad_size.1 small)))
