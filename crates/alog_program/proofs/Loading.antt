@@ -53,6 +53,18 @@ module _ {S : Type 0} (tells : Bool) (files : S → Files) (failures : S → ℕ
     others = omega (arith, e);
   }
 
+  -- where there is no folder to write to, for a load by numbers within their bounds, nothing is written
+  pub no_folder : (old : Option (List ℕ)) → ¬ AreBad r.producers r.messages → LoadsOn tells files failures c r 3 old old
+  no_folder old within = record {
+    done = λ zero. absurd (omega (arith, zero));
+    bad = λ one. absurd (omega (arith, one));
+    accepted = λ two. omega (arith, two);
+    fault = λ three. inl (Keeps-refl old);
+    unwritten = λ four. Keeps-refl old;
+    due = λ are. absurd (within are);
+    others = omega arith;
+  }
+
   -- a load by numbers that are out of their bounds is refused as such, and no other
   pub loads_fault : (fault : LoadError) (status : ℕ) (old : Option (List ℕ)) → status ≡ load_status_of fault
       → (IsErrOf {T = Report S} (Err fault) BadValue ↔ AreBad r.producers r.messages) → LoadsOn tells files failures c r status old old

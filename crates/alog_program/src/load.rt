@@ -1,7 +1,8 @@
 //! `alog load`: a load through the loggers and sinks of a configuration.
-ghost use Rattle.std.specs.Prelude.{◌≡◌, ◌⊎◌, All, MatchOption, count_by, length};
+ghost use Rattle.std.specs.Prelude.{◌≡◌, ◌↔◌, ◌⊎◌, IsTrue, All, MatchOption, count_by, length};
 ghost use Rattle.std.specs.Io.KnownBytes.{Appends};
 ghost use Rattle.alog_config.specs.Sinks.{is_leaf};
+ghost use Rattle.alog_load.specs.Load.{AreBad};
 ghost use Rattle.alog_program.specs.Loaded.{HasNoFault, IsNew, LoadsDocument, LoadsFile, LoadsOn, totals_text};
 ghost use Rattle.alog_program.specs.Status.{load_status_of};
 
@@ -13,12 +14,13 @@ use crate::status::{load_number_of, load_status_of};
 use crate::stores::{Folders, folder_stores, memory_stores};
 use crate::totals::write_totals;
 use alog_config::{Config, leaves, read};
-use alog_load::{LoadError, load};
+use alog_load::{LoadError, MOST_MESSAGES, MOST_PRODUCERS, load};
 use alog_pool::Report;
 use alog_replay::ReplayError;
 use alog_sink::{MemStore, Store};
 use std::alloc::AllocError;
-use std::io::Write;
+use std::fs;
+use std::io::{ErrorKind, Write};
 use std::rt::Files;
 use std::sync::Wait;
 use std::thread::Threads;
@@ -75,10 +77,15 @@ where
             Ok(stores) => load_over(rt, &config, stores, request, output, errors),
             Err(_) => refuse_load(LoadError::OutOfMemory, errors),
         },
-        Some(path) => match folder_stores(rt, alloc, path, count) {
-            Ok(stores) => load_over(rt, &config, stores, request, output, errors),
-            Err(_) => refuse_load(LoadError::OutOfMemory, errors),
-        },
+        Some(path) => {
+            if lacks_folder(rt, path, request, errors) {
+                return 3;
+            }
+            match folder_stores(rt, alloc, path, count) {
+                Ok(stores) => load_over(rt, &config, stores, request, output, errors),
+                Err(_) => refuse_load(LoadError::OutOfMemory, errors),
+            }
+        }
     }
 }
 
@@ -113,8 +120,47 @@ where
     }
     match made {
         Ok(report) => tell(report, output, errors),
-        Err(fault) => refuse_load(fault, errors),
+        Err(fault) => {
+            let status = refuse_load(fault, errors);
+            if fault == LoadError::BadValue {
+                say_bounds(request, errors);
+            }
+            status
+        }
     }
+}
+
+/// Whether a load by numbers within their bounds cannot write to this folder, which is said then.
+fn lacks_folder<R: Files, E: Write>(
+    rt: &R,
+    path: &str,
+    request: &LoadRequest<'_>,
+    errors: &mut E,
+) -> bool
+    ensures { IsTrue result → ¬ AreBad request.now.producers request.now.messages }
+{
+    if is_out_of_bounds(request) {
+        return false;
+    }
+    match fs::metadata(rt, path) {
+        Ok(found) if found.is_dir() => false,
+        Ok(_) => {
+            let _ = writeln!(errors, "alog: {path} is no folder");
+            true
+        }
+        Err(error) if error.kind() == ErrorKind::OutOfMemory => false,
+        Err(error) => {
+            let _ = writeln!(errors, "alog: no files can be written to {path}: {error}");
+            true
+        }
+    }
+}
+
+/// Whether one of a load's numbers is out of its bounds.
+fn is_out_of_bounds(request: &LoadRequest<'_>) -> bool
+    ensures { IsTrue result ↔ AreBad request.now.producers request.now.messages }
+{
+    request.producers < 1 || request.producers > MOST_PRODUCERS || request.messages > MOST_MESSAGES
 }
 
 /// Brings all lines to the stores, and writes the totals of a load; behind them, that a store failed, where one did.
@@ -134,16 +180,53 @@ fn tell<S: Store + Drop, O: Write, E: Write>(
     }
     match write_totals(output, report.totals) {
         Ok(()) if is_whole && is_kept => 0,
-        Ok(()) => refuse_load(LoadError::Store, errors),
+        Ok(()) => {
+            let status = refuse_load(LoadError::Store, errors);
+            say_faults(report.faults.as_slice(), is_kept, errors);
+            status
+        }
         Err(_) => fail(ReplayError::WriteFault, errors),
     }
 }
 
-/// Writes the line of a load's fault, and answers its status.
+/// Says at which sinks turns failed, and how many, and whether the last flush failed.
+fn say_faults<E: Write>(faults: &[u64], is_kept: bool, errors: &mut E) {
+    for (sink, number) in faults.iter().enumerate() {
+        if *number > 0 {
+            let _ = writeln!(errors, "alog: sink {sink}: {number} turns failed");
+        }
+    }
+    if !is_kept {
+        let _ = writeln!(errors, "alog: at the end a file could not be flushed");
+    }
+}
+
+/// Says which of a load's numbers is out of its bounds.
+fn say_bounds<E: Write>(request: &LoadRequest<'_>, errors: &mut E) {
+    let LoadRequest {
+        producers,
+        messages,
+        ..
+    } = *request;
+    let (name, value, bounds) = if producers < 1 || producers > MOST_PRODUCERS {
+        ("producers", producers, "1 to 64")
+    } else {
+        ("messages", messages, "0 to 1000000")
+    };
+    let _ = writeln!(
+        errors,
+        "alog: --{name}=\"{value}\" is refused: allowed is {bounds}"
+    );
+}
+
+/// Writes the lines of a load's fault, its number and what it is, and answers its status.
 fn refuse_load<E: Write>(fault: LoadError, errors: &mut E) -> u8
     ensures { result ≡ load_status_of fault }
 {
     let number = load_number_of(fault);
-    let _ = writeln!(errors, "alog: refused {number}");
+    let _ = match fault {
+        LoadError::BadValue => writeln!(errors, "alog: refused {number}"),
+        _ => writeln!(errors, "alog: refused {number}\nalog: {fault}"),
+    };
     load_status_of(fault)
 }

@@ -133,7 +133,7 @@ fn format_command<O: Write, E: Write>(
         Ok(line) => line,
         Err(fault) => {
             let number = fault.number();
-            let _ = writeln!(errors, "alog: refused {number}");
+            let _ = writeln!(errors, "alog: refused {number}\nalog: {fault}");
             return fault.status();
         }
     };
@@ -167,16 +167,17 @@ fn replay_command<I: Read, O: Write, E: Write>(
     }
 }
 
-/// Writes the line of a fault, and answers its status.
+/// Writes the lines of a fault, its number and what it is, and answers its status.
 pub(crate) fn fail<E: Write>(fault: ReplayError, errors: &mut E) -> u8
     ensures { result ≡ status_of fault }
 {
     let number = number_of(fault);
     let _ = match fault {
-        ReplayError::LineRefused { line } => {
-            writeln!(errors, "alog: refused {number} at line {line}")
-        }
-        _ => writeln!(errors, "alog: refused {number}"),
+        ReplayError::LineRefused { line } => writeln!(
+            errors,
+            "alog: refused {number} at line {line}\nalog: no command of this form may stand there"
+        ),
+        _ => writeln!(errors, "alog: refused {number}\nalog: {fault}"),
     };
     status_of(fault)
 }
