@@ -120,13 +120,7 @@ where
     }
     match made {
         Ok(report) => tell(report, output, errors),
-        Err(fault) => {
-            let status = refuse_load(fault, errors);
-            if fault == LoadError::BadValue {
-                say_bounds(request, errors);
-            }
-            status
-        }
+        Err(fault) => refuse_asked(fault, request, errors),
     }
 }
 
@@ -187,6 +181,17 @@ fn tell<S: Store + Drop, O: Write, E: Write>(
         }
         Err(_) => fail(ReplayError::WriteFault, errors),
     }
+}
+
+/// Writes the lines of a fault of the load that was asked for, and answers its status.
+fn refuse_asked<E: Write>(fault: LoadError, request: &LoadRequest<'_>, errors: &mut E) -> u8
+    ensures { result ≡ load_status_of fault }
+{
+    let status = refuse_load(fault, errors);
+    if fault == LoadError::BadValue {
+        say_bounds(request, errors);
+    }
+    status
 }
 
 /// Says at which sinks turns failed, and how many, and whether the last flush failed.

@@ -22,8 +22,8 @@ returns-in-Ok-made g c =
 
 pub returns-in-Err : goal.returns-in-Err
 returns-in-Err g c =
-    loads_fault g.S.Store.tells g.S.Store.files g.S.Store.failures c.args.config.now c.args.request.now c.in-Err.fault c.refuse_load-in-Err.result
-    (g.O.Write.contents c.args.output.now) c.refuse_load-in-Err.ensures c.in-Err.ensures.bad_value
+    loads_fault g.S.Store.tells g.S.Store.files g.S.Store.failures c.args.config.now c.args.request.now c.in-Err.fault c.refuse_asked.result
+    (g.O.Write.contents c.args.output.now) c.refuse_asked.ensures c.in-Err.ensures.bad_value
 
 pub returns-in_default : goal.returns-in_default
 returns-in_default g c =
