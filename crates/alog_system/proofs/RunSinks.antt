@@ -28,13 +28,16 @@ use Rattle.alog_sink.specs.declared.sink.Sink.TheVariants.{Leaf, Fan}
 use Rattle.alog_sink.specs.declared.turn.Served.{Served}
 use Rattle.alog_sink.proofs.LaneRuns.{fan_writes}
 use Rattle.alog_system.specs.Outputs.{OutputsView, Turns, DoesTurn, told_of_text, told_of_flush}
-use Rattle.alog_system.specs.Runs.{Did, Made, Leads, starts, begins, steps, sets, made_by, did_by, text_in, given_in, given_to, IsFaultOn, leaves, handed, with_more, SinkStands}
-use Rattle.alog_system.specs.Roster.{emptied, policy_at}
+use Rattle.alog_system.specs.Acts.{Did, Made, Act, BeginsDeed, MakesStep, SetsLevel, steps_in, text_in, given_in, given_to}
+use Rattle.alog_system.specs.Runs.{Leads, starts, begins, steps, sets, made_by, did_by, IsFaultOn, leaves, handed, with_more, SinkStands}
+use Rattle.alog_system.specs.Begin.{begun}
+use Rattle.alog_system.specs.Roster.{emptied, policy_at, with_level}
 use Rattle.alog_system.specs.Step.{dumped_by}
 use Rattle.alog_system.specs.System.{SystemView, fresh_system, with_roster}
 use Rattle.alog_system.specs.declared.stepped.Stepped.{Stepped}
 use Rattle.alog_system.specs.declared.stepped.Stepped.TheVariants as stepped
 use Rattle.alog_system.specs.declared.stepped.Turn.{Turn}
+use Rattle.alog_system.proofs.RunLists.{steps_begun, steps_made, steps_set}
 use Rattle.alog_system.proofs.RunCases.{Case, queued, kept, dumped, served, case_of}
 use Rattle.alog_system.proofs.RunSame.{begun_outputs, after_round_same, posting_same}
 
@@ -217,14 +220,14 @@ module _ {S : Type 0} (tells : Bool) (files : S → Files) (failures : S → ℕ
   stays_case k given w u a told did old stood tell fine (queued busy same after) h =
       given_same k given w.outputs.sinks u.outputs.sinks old stood
       (ap (λ (v : SystemView S). slice_get v.outputs.sinks k) after ∙ ap (λ (o : OutputsView S). slice_get o.sinks k) (after_round_same w a).outputs) h
-  stays_case k given w u a told did old stood tell fine (kept m was same after) h =
+  stays_case k given w u a told did old stood tell fine (kept m idle was same after) h =
       given_same k given w.outputs.sinks u.outputs.sinks old stood (ap (λ (v : SystemView S). slice_get v.outputs.sinks k) after) h
   stays_case k given w u a told did old stood tell fine (dumped d idle was same after) h =
       given_same k given w.outputs.sinks u.outputs.sinks old stood
       (ap (λ (v : SystemView S). slice_get v.outputs.sinks k) after
       ∙ ap (λ (o : OutputsView S). slice_get o.sinks k)
       (posting_same (with_roster w (emptied w.roster d.logger)) a (policy_at w.roster d.logger) (dumped_by w d)).outputs) h
-  stays_case k given w u a told did old stood tell fine (served t i done turn outputs said was next makes same after) h =
+  stays_case k given w u a told did old stood tell fine (served t i done turn outputs said idle was next makes same after) h =
       subst (λ (v : SystemView S). Stays k (given ++ cond (turn.sink == k) (text_in turn.deed i) []) v.outputs.sinks old stood) (sym after)
       (on_test (λ b. Stays k (given ++ cond b (text_in turn.deed i) []) outputs.sinks old stood) turn.sink k
       (λ mine. given_more k given w.outputs.sinks old stood turn i said outputs w.outputs tell
@@ -234,27 +237,39 @@ module _ {S : Type 0} (tells : Bool) (files : S → Files) (failures : S → ℕ
 
   module _ (n limit : ℕ) (loggers : List Logger) (first : List (Sink S)) (told : tells ≡ true) (k : ℕ) (old : Sink S) (stood : List Stood)
       (there : slice_get first k ≡ Some old) (all : AllStand files (leaves old) stood) where
-    stays : (made : List Made) (v : SystemView S) → Leads tells files failures (fresh_system n limit loggers first) made v
-        → AllByRecursion (λ (m : Made). IsFaultOn k m.told → ⊥) made → Stays k (given_to k made) v.outputs.sinks old stood
-    stays made v starts fine = record {
-      new = old;
-      there = there;
-      same = λ ms. refl;
-      stands = subst (λ (l : List Stood). AllStand files (leaves old) l)
-          (sym (ap (λ (ms : List Message). with_more ms stood) (handed_none old) ∙ more_none stood)) all;
-    }
-    stays made v (begins {made = ms} {w = w} a d leads may) fine =
-        subst (λ (o : OutputsView S). Stays k (given_to k ms) o.sinks old stood) (sym (begun_outputs w a d)) (stays ms w leads fine)
-    stays made v (steps {made = ms} {w = w} {u = u} a said leads lt h) fine =
+    IsFine : Made → Type 0
+    IsFine m = IsFaultOn k m.told → ⊥
+
+    -- the sink after these steps, if none of them met a fault
+    abbrev StaysBy : List Made → SystemView S → Type 0
+    StaysBy made v = AllByRecursion (λ (m : Made). IsFaultOn k m.told → ⊥) made → Stays k (given_to k made) v.outputs.sinks old stood
+
+    stays : (run : List Act) (v : SystemView S) → Leads tells files failures (fresh_system n limit loggers first) run v → StaysBy (steps_in run) v
+    unfolding IsFine
+    stays run v starts = λ fine.
+        record {
+          new = old;
+          there = there;
+          same = λ ms. refl;
+          stands = subst (λ (l : List Stood). AllStand files (leaves old) l)
+              (sym (ap (λ (ms : List Message). with_more ms stood) (handed_none old) ∙ more_none stood)) all;
+        }
+    stays run v (begins {run = xs} {w = w} a d leads may) =
+        subst (λ (made : List Made). StaysBy made (begun w a d)) (sym (steps_begun xs a d))
+        (λ fine. subst (λ (o : OutputsView S). Stays k (given_to k (steps_in xs)) o.sinks old stood) (sym (begun_outputs w a d)) (stays xs w leads fine))
+    stays run v (steps {run = xs} {w = w} {u = u} a said leads lt h) =
         let last = made_by w a said in
-        let IsFine : Made → Type 0 = λ m. IsFaultOn k m.told → ⊥ in
+        let ms = steps_in xs in
+        subst (λ (made : List Made). StaysBy made u) (sym (steps_made xs last))
+        (λ fine.
         subst (λ (given : List Message). Stays k given u.outputs.sinks old stood) (sym (given_last k last ms))
         (stays_case k (given_to k ms) w u a said (did_by w a) old stood told (all_last IsFine ms last fine) (case_of tells files failures w a said u h)
-        (stays ms w leads (all_before IsFine ms last fine)))
-    stays made v (sets {made = ms} {w = w} j level leads) fine = stays ms w leads fine
+        (stays xs w leads (all_before IsFine ms last fine))))
+    stays run v (sets {run = xs} {w = w} j level leads) =
+        subst (λ (made : List Made). StaysBy made (with_roster w (with_level w.roster j level))) (sym (steps_set xs j level)) (stays xs w leads)
 
-  pub sinks_stand : (n limit : ℕ) (loggers : List Logger) (first : List (Sink S)) (made : List Made) (v : SystemView S)
-      → Leads tells files failures (fresh_system n limit loggers first) made v → tells ≡ true → SinkStands files made first v.outputs.sinks
-  sinks_stand n limit loggers first made v leads told k old stood there all fine =
-      let h = stays n limit loggers first told k old stood there all made v leads fine in
+  pub sinks_stand : (n limit : ℕ) (loggers : List Logger) (first : List (Sink S)) (run : List Act) (v : SystemView S)
+      → Leads tells files failures (fresh_system n limit loggers first) run v → tells ≡ true → SinkStands files (steps_in run) first v.outputs.sinks
+  sinks_stand n limit loggers first run v leads told k old stood there all fine =
+      let h = stays n limit loggers first told k old stood there all run v leads fine in
       (h.new, h.there, h.stands)

@@ -1,3 +1,5 @@
+pub mod Acts
+pub mod Asked
 pub mod Error
 pub mod Dump
 pub mod Roster
