@@ -8,6 +8,7 @@ mod RunCases
 mod RunGoes
 mod RunKept
 mod RunKnown
+mod RunLeaves
 mod RunLists
 mod RunOthers
 mod RunPosts

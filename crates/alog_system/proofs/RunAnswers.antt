@@ -1,5 +1,5 @@
 -- What the steps of a run answered.
-use Rattle.std.proofs.Common.{◌≡◌, ◌⊎◌, ℕ, zero, suc, Bool, true, false, Option, None, Some, Result, Ok, Err, List, [], ◌∷◌, ◌++◌, length, map, refl, sym, ap, subst, ◌∙◌, inl, inr}
+use Rattle.std.proofs.Common.{◌≡◌, ◌⊎◌, ℕ, ◌<◌, zero, suc, Bool, true, false, Option, None, Some, Result, Ok, Err, List, [], ◌∷◌, ◌++◌, length, map, refl, sym, ap, subst, ◌∙◌, inl, inr}
 use Rattle.std.proofs.Common.{append-nil}
 use Rattle.std.proofs.lemmas.List.{map-set}
 use Rattle.std.specs.Prelude.{slice_get, slice_set}
@@ -13,7 +13,7 @@ use Rattle.alog_msg.specs.declared.item.Item.TheVariants as item
 use Rattle.alog_msg.specs.declared.level.Level.{Level}
 use Rattle.alog_msg.specs.declared.message.Message.{Message}
 use Rattle.alog_policy.specs.Desk.{DeskView, desk_told, post_of, answer_of, said_in_post}
-use Rattle.alog_policy.specs.Runs.{Call, StepMade, step_of, overruns_in, outcomes_made}
+use Rattle.alog_policy.specs.Runs.{Call, StepMade, step_of, overruns_in, calls_made, outcomes_made}
 use Rattle.alog_policy.specs.declared.post.Post.{Post}
 use Rattle.alog_policy.specs.declared.post.Stepped.{Stepped as DeskStepped}
 use Rattle.alog_registry.specs.declared.logger.Logger.{Logger}
@@ -29,7 +29,7 @@ use Rattle.alog_sink.specs.declared.leaf.SinkError.{SinkError}
 use Rattle.alog_sink.specs.declared.leaf.Taken.TheVariants.{Below as WasBelow, Written}
 use Rattle.alog_sink.specs.declared.sink.Sink.{Sink}
 use Rattle.alog_sink.specs.declared.sink.Sink.TheVariants.{Leaf, Fan}
-use Rattle.alog_system.specs.Acts.{Did, InQueue, OnSink, Keeping, Emptying, Made, Act, MakesStep, steps_in, queue_steps, kept_after}
+use Rattle.alog_system.specs.Acts.{Did, InQueue, OnSink, Keeping, Emptying, Made, Act, BeginsDeed, MakesStep, SetsLevel, steps_in, queue_steps, kept_after}
 use Rattle.alog_system.specs.Asked.{calls_asked, posts_in}
 use Rattle.alog_system.specs.Outputs.{OutputsView, DoesTurn, Turns, told_of_text, told_of_flush}
 use Rattle.alog_system.specs.Roster.{emptied, policy_at}
@@ -245,7 +245,7 @@ module _ {S : Type 0} (tells : Bool) (files : S → Files) (failures : S → ℕ
     has_posted idle =
         let ss = queue_steps (steps_in run) in
         let none = none_where_idle n size h.calls ss w.desk h.plays a lt idle in
-        sym (ap posts_in (h.asked a lt ∙ (ap (λ (cs : List (Call Item)). _ ++ cs) (idle_calls n size ls run w h a lt idle) ∙ append-nil _))
+        sym (ap posts_in (h.asked a lt ∙ (ap (λ (cs : List (Call Item)). calls_made a h.calls ++ cs) (idle_calls n size ls run w h a lt idle) ∙ append-nil (calls_made a h.calls)))
         ∙ ahead_of n size h.calls ss w.desk h.plays a lt None none)
 
     is_made : (u : SystemView S) (x : Stepped) (did : Did) → Case tells files failures w a x u did
@@ -281,10 +281,10 @@ module _ {S : Type 0} (tells : Bool) (files : S → Files) (failures : S → ℕ
       → Leads tells files failures (fresh_system n limit ls first) run v → EachStep (IsMade ls first) [] run
   answers_tell n limit size ls first run v starts = tt
   answers_tell n limit size ls first run v (begins {run = xs} {w = w} a d leads may) =
-      each_last (IsMade ls first) [] xs _ (answers_tell n limit size ls first xs w leads) tt
+      each_last (IsMade ls first) [] xs (BeginsDeed a d) (answers_tell n limit size ls first xs w leads) tt
   answers_tell n limit size ls first run v (steps {run = xs} {w = w} {u = u} a x leads lt h) =
       each_last (IsMade ls first) [] xs (MakesStep (made_by w a x)) (answers_tell n limit size ls first xs w leads)
       (is_made n size ls first xs w (known n size ls tells files failures limit first xs w leads) (is_kept tells files failures n limit ls first xs w leads)
       (levels_stay n limit ls first xs w leads) a lt u x (did_by w a) (case_of tells files failures w a x u h))
   answers_tell n limit size ls first run v (sets {run = xs} {w = w} k level leads) =
-      each_last (IsMade ls first) [] xs _ (answers_tell n limit size ls first xs w leads) tt
+      each_last (IsMade ls first) [] xs (SetsLevel k level) (answers_tell n limit size ls first xs w leads) tt

@@ -83,7 +83,7 @@ record Brings (ls : List Logger) (run : List Act) (x : Act) (a : ℕ) (more : Li
   pub no_calls : (b : ℕ) → b ≢ a → calls_by ls b run x ≡ []
   pub turns : turns_by_act ls a x ≡ asks
   pub no_turns : (b : ℕ) → b ≢ a → turns_by_act ls b x ≡ []
-  pub made : turn_in a x ≡ made
+  pub makes : turn_in a x ≡ made
   pub none_made : (b : ℕ) → b ≢ a → turn_in b x ≡ []
 
 deed_brings : (ls : List Logger) (run : List Act) (a : ℕ) (d : Deed)
@@ -93,7 +93,7 @@ deed_brings ls run a d = record {
   no_calls = λ b other. if_other a b (calls_by_deed ls run b d) other;
   turns = if_mine a a (turns_by_deed ls a d) refl;
   no_turns = λ b other. if_other a b (turns_by_deed ls b d) other;
-  made = refl;
+  makes = refl;
   none_made = λ b other. refl;
 }
 
@@ -104,7 +104,7 @@ step_brings ls run m = record {
   no_calls = λ b other. if_other m.actor b (calls_by_step ls run m.did) other;
   turns = if_mine m.actor m.actor (turns_by_step ls m.did) refl;
   no_turns = λ b other. if_other m.actor b (turns_by_step ls m.did) other;
-  made = if_mine m.actor m.actor (beside m.did) refl;
+  makes = if_mine m.actor m.actor (beside m.did) refl;
   none_made = λ b other. if_other m.actor b (beside m.did) other;
 }
 
@@ -144,7 +144,7 @@ module _ {S : Type 0} (n : ℕ) (size : is_size n ≡ true) (ls : List Logger) w
         ∙ (ap (λ (ts : List Did). turns_asked ls a run ++ ts) brings.turns
         ∙ (stays_even (turns_asked ls a run) (turns_made a run) (turns_left ls (duty_of w a)) asks made (turns_left ls (duty_of u a)) (h.turns a lt) goes.turns_even
         ∙ ap (λ (ts : List Did). ts ++ turns_left ls (duty_of u a))
-        (ap (λ (ts : List Did). turns_made a run ++ ts) (sym brings.made) ∙ sym (flat_map_last (turn_in a) run x))))
+        (ap (λ (ts : List Did). turns_made a run ++ ts) (sym brings.makes) ∙ sym (flat_map_last (turn_in a) run x))))
 
     other_turns : (b : ℕ) → b < ACTORS → b ≢ a → turns_asked ls b (run ++ x ∷ []) ≡ turns_made b (run ++ x ∷ []) ++ turns_left ls (duty_of u b)
     other_turns b below other =
@@ -209,10 +209,10 @@ module _ {S : Type 0} (n : ℕ) (size : is_size n ≡ true) (ls : List Logger) w
         (set_duty w a (Keeps m) there) refl refl refl
     log_goes m p false true is =
         subst (λ (q : Policy). Opens (ToPost q (Text m) ∷ []) [] (with_duty (posting_unless false w a m) a Free)) (sym is)
-        (post_goes n size ls a lt h.calls (queue_steps (steps_in run)) w (policy_at w.roster m.logger) (Text m) Free [] _ [] [] [] h.plays idle there tt refl refl)
+        (post_goes n size ls a lt h.calls (queue_steps (steps_in run)) w (policy_at w.roster m.logger) (Text m) Free [] (ToPost (policy_at w.roster m.logger) (Text m) ∷ []) [] [] [] h.plays idle there tt refl refl)
     log_goes m p false false is =
         subst (λ (q : Policy). Opens (ToPost q (Text m) ∷ []) (Keeping m ∷ []) (with_duty (posting_unless false w a m) a (Keeps m))) (sym is)
-        (post_goes n size ls a lt h.calls (queue_steps (steps_in run)) w (policy_at w.roster m.logger) (Text m) (Keeps m) [] _ [] (Keeping m ∷ []) [] h.plays idle there tt refl refl)
+        (post_goes n size ls a lt h.calls (queue_steps (steps_in run)) w (policy_at w.roster m.logger) (Text m) (Keeps m) [] (ToPost (policy_at w.roster m.logger) (Text m) ∷ []) [] (Keeping m ∷ []) [] h.plays idle there tt refl refl)
 
     policy_is : (k : ℕ) → policy ls k ≡ policy_at w.roster k
     policy_is k = ap (λ (l : List Logger). policy_in (spec_at l k)) (sym kept_so.loggers)
@@ -233,7 +233,7 @@ module _ {S : Type 0} (n : ℕ) (size : is_size n ≡ true) (ls : List Logger) w
         (log_goes m (policy ls k) (is_below level (level_at w.roster k)) (backtrace_at w.roster k == 0) (policy_is k)))
     deed_goes (deed.Flush k) =
         subst (λ (q : Policy). Opens (ToPost q (Flush k) ∷ []) [] (begun w a (deed.Flush k))) (sym (policy_is k))
-        (post_goes n size ls a lt h.calls (queue_steps (steps_in run)) w (policy_at w.roster k) (Flush k) Free [] _ [] [] [] h.plays idle there tt refl refl)
+        (post_goes n size ls a lt h.calls (queue_steps (steps_in run)) w (policy_at w.roster k) (Flush k) Free [] (ToPost (policy_at w.roster k) (Flush k) ∷ []) [] [] [] h.plays idle there tt refl refl)
     deed_goes (deed.Dump time k) =
         let d : Duty = Dumps (record { logger = k; time = time; thread = a; most = backtrace_at w.roster k }) in
         rests_goes n size ls a lt h.calls (queue_steps (steps_in run)) (with_duty w a d) d [] [] [] (Emptying k time a ∷ []) [] h.plays idle (set_duty w a d there) refl refl refl

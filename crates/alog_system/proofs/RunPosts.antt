@@ -76,8 +76,8 @@ module _ {T : Type 0} where
 
   -- an actor has as many outcomes as posts, but for the one that it is in
   abbrev pub Ahead : Option (Post T) → ℕ → ℕ → Type 0
-  Ahead None posts ended = posts ≡ ended
-  Ahead (Some p) posts ended = posts ≡ ended + 1
+  Ahead None many ended = many ≡ ended
+  Ahead (Some p) many ended = many ≡ ended + 1
 
   ahead : (o : Option (Post T)) (r : Round T) (cs : List (Call T)) (es : List (Event T)) (os : List (Outcome T)) → IsCut o r cs es os
       → Ahead o (posts_in cs) (length os)
@@ -92,13 +92,13 @@ module _ {T : Type 0} where
       let all : posts_in cs ≡ posts_in h.ended + posts_in h.current = ap posts_in h.order ∙ posts_append h.ended h.current in
       omega (arith, whole, current, all)
 
-  none_by : (o : Option (Post T)) (posts ended : ℕ) → Ahead o posts ended → posts ≡ ended → o ≡ None
-  none_by None posts ended h e = refl
-  none_by (Some p) posts ended h e = absurd (omega (arith, h, e))
+  none_by : (o : Option (Post T)) (many ended : ℕ) → Ahead o many ended → many ≡ ended → o ≡ None
+  none_by None many ended h e = refl
+  none_by (Some p) many ended h e = absurd (omega (arith, h, e))
 
-  some_by : (o : Option (Post T)) (posts ended : ℕ) → Ahead o posts ended → posts ≡ ended + 1 → (p : Post T) × (o ≡ Some p)
-  some_by None posts ended h e = absurd (omega (arith, h, e))
-  some_by (Some p) posts ended h e = (p, refl)
+  some_by : (o : Option (Post T)) (many ended : ℕ) → Ahead o many ended → many ≡ ended + 1 → (p : Post T) × (o ≡ Some p)
+  some_by None many ended h e = absurd (omega (arith, h, e))
+  some_by (Some p) many ended h e = (p, refl)
 
   none_idle : (o : Option (Post T)) (r : Round T) (cs : List (Call T)) (es : List (Event T)) (os : List (Outcome T)) → r ≡ round.Idle
       → IsCut o r cs es os → o ≡ None

@@ -22,7 +22,7 @@ use Rattle.alog_system.proofs.RunAnswers.{answers_tell}
 use Rattle.alog_system.proofs.RunGoes.{calls_left, turns_left}
 use Rattle.alog_system.proofs.RunKept.{is_kept, kept_messages}
 use Rattle.alog_system.proofs.RunKnown.{known, idle_calls, free_left}
-use Rattle.alog_system.proofs.RunSinks.{sinks_stand}
+use Rattle.alog_system.proofs.RunSinks.{sinks_stand, fine_sinks_stand}
 
 pub system_runs : {S : Type 0} (tells : Bool) (files : S → Files) (failures : S → ℕ) → SystemRuns tells files failures
 system_runs {S} tells files failures places limit loggers first made v size leads =
@@ -51,5 +51,8 @@ system_runs {S} tells files failures places limit loggers first made v size lead
       same = λ t i taken. (tickets_keep_their_items Item (Unit {0}) places 0 es t i legal (inl taken)).0;
       levels = kept_so.levels;
       kept = kept_messages loggers made v kept_so;
-      sinks = sinks_stand tells files failures places limit loggers first made v leads;
+      sinks = λ told. sinks_stand tells files failures told places limit loggers first made v leads;
+      fine = λ told.
+          fine_sinks_stand tells files failures told (steps_in made) first v.outputs.sinks
+          (sinks_stand tells files failures told places limit loggers first made v leads);
     }

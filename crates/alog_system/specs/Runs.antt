@@ -1,6 +1,6 @@
 -- A whole run of a system: its calls one after another, as each one's contract tells what it did, and what is true after them.
-use Rattle.std.specs.Prelude.{◌≡◌, ◌≢◌, ◌⊎◌, ◌↔◌, ℕ, ◌<◌, ◌≤◌, Bool, true, false, if◌then◌else◌, Option, None, Some, List, [], ◌∷◌, ◌++◌, length, slice_get, map}
-use Rattle.std.specs.List.{AllByRecursion, AllPairs, Contains}
+use Rattle.std.specs.Prelude.{◌≡◌, ◌≢◌, ◌⊎◌, ◌↔◌, ℕ, ◌<◌, ◌≤◌, Bool, true, false, if◌then◌else◌, Option, None, Some, List, [], ◌∷◌, ◌++◌, length, slice_get}
+use Rattle.std.specs.List.{AllPairs, Contains}
 use Rattle.alog_core.specs.Queue.{Event, Claim, Write, Grab, Take, Full, Empty, PushBusy, PopBusy, Spent, IsListed}
 use Rattle.alog_core.specs.Accounts.{claims, takes, issued, handed_out}
 use Rattle.alog_core.specs.Run.{Says}
@@ -18,14 +18,13 @@ use Rattle.alog_registry.specs.declared.work.SinkDeed.{SinkDeed}
 use Rattle.alog_registry.specs.declared.work.SinkDeed.TheVariants as sink_deed
 use Rattle.alog_registry.specs.declared.work.SinkTurn.{SinkTurn}
 use Rattle.alog_sink.specs.Files.{Files}
-use Rattle.alog_sink.specs.LaneRuns.{Stood, AllStand}
-use Rattle.alog_sink.specs.Lines.{admits, admitted}
-use Rattle.alog_sink.specs.Turn.{LeafView}
+use Rattle.alog_sink.specs.Lines.{admits}
 use Rattle.alog_sink.specs.declared.sink.Sink.{Sink}
 use Rattle.alog_sink.specs.declared.sink.Sink.TheVariants as sinks
-pub use Rattle.alog_system.specs.Acts.{Did, InQueue, OnSink, Keeping, Emptying, Nothing, Made, Act, BeginsDeed, MakesStep, SetsLevel, steps_in, queue_steps, given_to, kept_after, levels_after}
+pub use Rattle.alog_system.specs.Acts.{Did, InQueue, OnSink, Keeping, Emptying, Nothing, Made, Act, BeginsDeed, MakesStep, SetsLevel, steps_in, queue_steps, kept_after, levels_after}
 use Rattle.alog_system.specs.Asked.{calls_asked, posts_in, turns_asked, turns_made}
 use Rattle.alog_system.specs.Begin.{MayBegin, begun}
+use Rattle.alog_system.specs.Faults.{SinkStands, FineSinkStands}
 use Rattle.alog_system.specs.Roster.{kept_at, turns_for, with_level, RosterView}
 use Rattle.alog_system.specs.Step.{SystemSteps}
 use Rattle.alog_system.specs.System.{SystemView, fresh_system, duty_of, is_free, with_roster}
@@ -119,6 +118,18 @@ abbrev pub own_level : {S : Type 0} → Sink S → Level
 own_level (sinks.Leaf l) = l.face.level
 own_level (sinks.Fan f) = f.level
 
+module _ (loggers : List Logger) where
+  -- A turn beside the queue was made once each post that was asked of its actor had ended.
+  abbrev pub HasPosted : List Act → ℕ → Type 0
+  HasPosted before a = length (outcomes_made a (queue_steps (steps_in before))) ≡ posts_in (calls_asked loggers a before)
+
+  abbrev pub Waits : List Act → ℕ → Did → Type 0
+  Waits before a (InQueue step) = Unit {0}
+  Waits before a (OnSink turn i) = HasPosted before a
+  Waits before a (Keeping m) = HasPosted before a
+  Waits before a (Emptying n time thread) = HasPosted before a
+  Waits before a Nothing = ⊥
+
 module _ {S : Type 0} (loggers : List Logger) (first : List (Sink S)) where
   -- Each step answered what it was. A take is told as taken, or is an overrun; an emptying tells how many messages its logger kept
   -- since the one before.
@@ -131,20 +142,9 @@ module _ {S : Type 0} (loggers : List Logger) (first : List (Sink S)) where
   Tells before (Turned turn) (Emptying n time thread) = turn ≡ Dumped (length (kept_after loggers before n))
   Tells before told did = ⊥
 
-  -- A turn beside the queue was made once each post that was asked of its actor had ended.
-  abbrev pub HasPosted : List Act → ℕ → Type 0
-  HasPosted before a = length (outcomes_made a (queue_steps (steps_in before))) ≡ posts_in (calls_asked loggers a before)
-
-  abbrev pub Waits : List Act → ℕ → Did → Type 0
-  Waits before a (InQueue step) = Unit {0}
-  Waits before a (OnSink turn i) = HasPosted before a
-  Waits before a (Keeping m) = HasPosted before a
-  Waits before a (Emptying n time thread) = HasPosted before a
-  Waits before a Nothing = ⊥
-
   pub record IsMade (before : List Act) (m : Made) : Type 0 where
     pub tells : Tells before m.told m.did
-    pub waits : Waits before m.actor m.did
+    pub waits : Waits loggers before m.actor m.did
 
 -- each step of some acts is so, after the acts before it
 abbrev pub StepIs : (Made → Type 0) → Act → Type 0
@@ -156,32 +156,6 @@ abbrev pub EachStep : (List Act → Made → Type 0) → List Act → List Act �
 EachStep P before [] = Unit {0}
 EachStep P before (x ∷ run) = StepIs (P before) x × EachStep P (before ++ x ∷ []) run
 
--- the step answered that this sink's store had failed
-abbrev pub IsFaultOn : ℕ → Stepped → Type 0
-IsFaultOn k (Turned (Fault ticket sink)) = sink ≡ k
-IsFaultOn k told = ⊥
-
--- the leaves of a sink, and those of the messages given to it that it hands to them
-abbrev pub leaves : {S : Type 0} → Sink S → List (LeafView S)
-leaves (sinks.Leaf l) = l ∷ []
-leaves (sinks.Fan f) = f.members
-
-abbrev pub handed : {S : Type 0} → Sink S → List Message → List Message
-handed (sinks.Leaf l) ms = ms
-handed (sinks.Fan f) ms = admitted f.level ms
-
--- each leaf stands for these messages more
-abbrev pub with_more : List Message → List Stood → List Stood
-with_more more stood = map (λ (s : Stood). (s.0, s.1 ++ more)) stood
-
--- A sink that stood for some messages stands for these and then exactly those that it was given, in the order of the turns,
--- where none of them met a fault.
-abbrev pub SinkStands : {S : Type 0} → (S → Files) → List Made → List (Sink S) → List (Sink S) → Type 0
-SinkStands {S} files made first now =
-    (k : ℕ) (old : Sink S) (stood : List Stood) → slice_get first k ≡ Some old → AllStand files (leaves old) stood
-    → AllByRecursion (λ (m : Made). ¬ IsFaultOn k m.told) made
-    → (new : Sink S) × (slice_get now k ≡ Some new) × AllStand files (leaves new) (with_more (handed old (given_to k made)) stood)
-
 -- What a run from a new system is.
 --
 -- Its steps of the queue are a run of the queue by its definition: their entries are one legal history, which the queue stands
@@ -190,7 +164,8 @@ SinkStands {S} files made first now =
 -- turns beside the queue. Every answer is that of its step. The queue has at most as many cells as places; no item is handed out
 -- twice; one that was brought in was handed out or is in the queue, never both; and each is handed out as it was brought in. Each
 -- logger's level is the last that was set, and it keeps the last of what it was given since it was last emptied. And each sink
--- stands for exactly the messages of the turns made on it, in order.
+-- stands for exactly the messages of the turns made on it, in order; where a fault was told, a leaf may stand for those before it,
+-- with a front of the operations of that turn.
 pub record IsSystemRun {S : Type 0} (tells : Bool) (files : S → Files) (places : ℕ) (loggers : List Logger) (first : List (Sink S))
     (run : List Act) (v : SystemView S) : Type 0 where
   pub calls : List (CallMade Item)
@@ -208,6 +183,7 @@ pub record IsSystemRun {S : Type 0} (tells : Bool) (files : S → Files) (places
   pub levels : v.roster.levels ≡ levels_after loggers run
   pub kept : (n : ℕ) → (kept_at v.roster n).messages ≡ kept_after loggers run n
   pub sinks : tells ≡ true → SinkStands files (steps_in run) first v.outputs.sinks
+  pub fine : tells ≡ true → FineSinkStands files (steps_in run) first v.outputs.sinks
 
 -- So is each run from a new system.
 abbrev pub SystemRuns : {S : Type 0} → Bool → (S → Files) → (S → ℕ) → Type 0
