@@ -1,0 +1,5 @@
+mod Homes
+mod Finding
+mod Saying
+pub mod Making
+pub mod Suiting
