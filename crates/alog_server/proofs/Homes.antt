@@ -36,3 +36,8 @@ pub of_home : (s : Shared) (all back : List ProducerView) → 0 < length all →
     → AllByRecursion (λ (p : ProducerView). IsHomeOf all p.shared) back → AreOf s back
 of_home s all [] some own home = tt
 of_home s all (p ∷ back) some own home = (same_home s p.shared all some own home.0, of_home s all back some own home.1)
+
+-- a producer that is the same one of the same pool stays at home
+pub stays_home : (is_home : Shared → Type 0) (loggers : List Logger) (old new : ProducerView) → new.shared ≡ old.shared
+    → IsAtHome is_home loggers old → IsAtHome is_home loggers new
+stays_home is_home loggers old new same home = subst (λ (s : Shared). is_home s × (s.loggers ≡ loggers)) (sym same) home

@@ -1,6 +1,5 @@
 //! The calls of a client. A message has the time of its call.
 ghost use Rattle.std.specs.Prelude.{◌≡◌, ◌<◌, length, None, Some};
-ghost use Rattle.alog_msg.specs.declared.level.Level.TheVariants as level;
 ghost use Rattle.alog_server.specs.Says.{Dumps, DumpsAt, Flushes, Says, SaysAt, Waiting, AtOnce};
 
 use crate::client::Client;
@@ -77,7 +76,7 @@ impl<H: Home> Client<H> {
         logger: &Logger<H>,
         text: &str,
     ) -> Result<LogReply, LogError>
-        ensures { Says Waiting logger.now.number level.Trace text.now None self.old result self.new }
+        ensures { Says Waiting logger.now.number Level.Trace text.now None self.old result self.new }
     {
         self.log(rt, logger, Level::Trace, text)
     }
@@ -89,7 +88,7 @@ impl<H: Home> Client<H> {
         logger: &Logger<H>,
         text: &str,
     ) -> Result<LogReply, LogError>
-        ensures { Says Waiting logger.now.number level.Debug text.now None self.old result self.new }
+        ensures { Says Waiting logger.now.number Level.Debug text.now None self.old result self.new }
     {
         self.log(rt, logger, Level::Debug, text)
     }
@@ -101,7 +100,7 @@ impl<H: Home> Client<H> {
         logger: &Logger<H>,
         text: &str,
     ) -> Result<LogReply, LogError>
-        ensures { Says Waiting logger.now.number level.Info text.now None self.old result self.new }
+        ensures { Says Waiting logger.now.number Level.Info text.now None self.old result self.new }
     {
         self.log(rt, logger, Level::Info, text)
     }
@@ -113,7 +112,7 @@ impl<H: Home> Client<H> {
         logger: &Logger<H>,
         text: &str,
     ) -> Result<LogReply, LogError>
-        ensures { Says Waiting logger.now.number level.Warning text.now None self.old result self.new }
+        ensures { Says Waiting logger.now.number Level.Warning text.now None self.old result self.new }
     {
         self.log(rt, logger, Level::Warning, text)
     }
@@ -125,7 +124,7 @@ impl<H: Home> Client<H> {
         logger: &Logger<H>,
         text: &str,
     ) -> Result<LogReply, LogError>
-        ensures { Says Waiting logger.now.number level.Error text.now None self.old result self.new }
+        ensures { Says Waiting logger.now.number Level.Error text.now None self.old result self.new }
     {
         self.log(rt, logger, Level::Error, text)
     }
@@ -137,7 +136,7 @@ impl<H: Home> Client<H> {
         logger: &Logger<H>,
         text: &str,
     ) -> Result<LogReply, LogError>
-        ensures { Says Waiting logger.now.number level.Critical text.now None self.old result self.new }
+        ensures { Says Waiting logger.now.number Level.Critical text.now None self.old result self.new }
     {
         self.log(rt, logger, Level::Critical, text)
     }
@@ -146,7 +145,6 @@ impl<H: Home> Client<H> {
     pub fn flush(&mut self, logger: &Logger<H>) -> Outcome<()>
         ensures { Flushes logger.now.number self.old result self.new }
     {
-        let _known = &self.alloc;
         self.producer.flush(logger.number)
     }
 
