@@ -27,7 +27,7 @@ use Rattle.alog_server.specs.declared.error.LogError.{LogError}
 use Rattle.alog_server.specs.declared.error.LogError.TheVariants as log
 
 -- whether a call may wait, for room and for the lock of a backtrace
-data pub How : Type 0 where
+pub data How : Type 0 where
   Waiting : How
   AtOnce : How
 

@@ -94,12 +94,7 @@ fn work_all<H: Home, R: Threads + Sync, W: Work<R> + Sync>(
 }
 
 /// Does the work of the thread of this number.
-fn work_one<H: Home, R, W: Work<R>>(
-    rt: &R,
-    number: usize,
-    seat: &mut Seat<H, W::Error>,
-    work: &W,
-) {
+fn work_one<H: Home, R, W: Work<R>>(rt: &R, number: usize, seat: &mut Seat<H, W::Error>, work: &W) {
     if let Err(error) = work.work(rt, number, &mut seat.client) {
         seat.error = Some(error);
     }

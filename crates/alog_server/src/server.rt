@@ -104,11 +104,7 @@ impl<E: Drop> Ended<E> {
 }
 
 /// Makes a producer for each thread, lets the threads do their work, and gives the producers back.
-fn work_with<
-    S: Store + Drop + Send + 'static,
-    R: Threads + Wait + Clock + Sync,
-    W: Work<R> + Sync,
->(
+fn work_with<S: Store + Drop + Send + 'static, R: Threads + Wait + Clock + Sync, W: Work<R> + Sync>(
     rt: &R,
     alloc: Global,
     pool: &mut Pool<S>,
