@@ -17,6 +17,12 @@ IsOfFault fault (start.Config own text) = own ≡ fault
 IsOfFault fault start.Store = ⊥
 IsOfFault fault start.OutOfMemory = Unit {0}
 
+-- a reason that is not the document's
+abbrev pub IsOfStores : StartError → Type 0
+IsOfStores (start.Config fault text) = ⊥
+IsOfStores start.Store = Unit {0}
+IsOfStores start.OutOfMemory = Unit {0}
+
 -- when a start over this document is refused so
 abbrev pub IsReasonFor : List ℕ → StartError → Type 0
 IsReasonFor document (start.Config fault text) = Reads document (Err fault)

@@ -1,14 +1,16 @@
 //! The calls of a client. A message has the time of its call.
-ghost use Rattle.std.specs.Prelude.{◌≡◌, ◌<◌, length, None, Some};
+ghost use Rattle.std.specs.Prelude.{◌≡◌, None, Some};
+ghost use Rattle.alog_server.specs.Reasons.{answer_of, outcomes_of};
 ghost use Rattle.alog_server.specs.Says.{Dumps, DumpsAt, Flushes, Says, SaysAt, Waiting, AtOnce};
 
 use crate::client::Client;
 use crate::error::LogError;
 use crate::home::Home;
 use crate::logger::Logger;
-use alog_msg::{Level, SourceRef};
+use alog_msg::{Level, MessageError, SourceRef};
 use alog_policy::Outcome;
 use alog_registry::LogReply;
+use std::alloc::AllocError;
 use std::sync::Wait;
 use std::time::Clock;
 
@@ -16,6 +18,26 @@ use std::time::Clock;
 fn time_of(clock: &impl Clock) -> Option<i64> {
     let elapsed = clock.since_1970().ok()?;
     i64::try_from(elapsed.as_nanos()).ok()
+}
+
+/// A producer's answer to a log, as a client gives it.
+fn answer_of(answer: Result<LogReply, MessageError>) -> Result<LogReply, LogError>
+    ensures { result ≡ answer_of answer }
+{
+    match answer {
+        Ok(reply) => Ok(reply),
+        Err(error) => Err(LogError::from(error)),
+    }
+}
+
+/// A producer's answer to a dump, as a client gives it.
+fn outcomes_of(answer: Result<Vec<Outcome<()>>, AllocError>) -> Result<Vec<Outcome<()>>, LogError>
+    ensures { result ≡ outcomes_of answer }
+{
+    match answer {
+        Ok(outcomes) => Ok(outcomes),
+        Err(_) => Err(LogError::OutOfMemory),
+    }
 }
 
 impl<H: Home> Client<H> {
@@ -176,13 +198,10 @@ impl<H: Home> Client<H> {
         ensures { SaysAt time Waiting logger.now.number level text.now source.entry self.old result self.new }
     {
         let number = logger.number;
-        match self
+        let answer = self
             .producer
-            .log(rt, self.alloc, number, level, time, text, source)
-        {
-            Ok(reply) => Ok(reply),
-            Err(error) => Err(LogError::from(error)),
-        }
+            .log(rt, self.alloc, number, level, time, text, source);
+        answer_of(answer)
     }
 
     /// Logs a message with this time, without waiting.
@@ -196,13 +215,10 @@ impl<H: Home> Client<H> {
         ensures { SaysAt time AtOnce logger.now.number level text.now None self.old result self.new }
     {
         let number = logger.number;
-        match self
+        let answer = self
             .producer
-            .log_now(self.alloc, number, level, time, text, None)
-        {
-            Ok(reply) => Ok(reply),
-            Err(error) => Err(LogError::from(error)),
-        }
+            .log_now(self.alloc, number, level, time, text, None);
+        answer_of(answer)
     }
 
     /// Dumps the backtrace between markers of this time.
@@ -214,12 +230,8 @@ impl<H: Home> Client<H> {
     ) -> Result<Vec<Outcome<()>>, LogError>
         ensures { DumpsAt time logger.now.number self.old result self.new }
     {
-        match self
-            .producer
-            .dump_backtrace(rt, self.alloc, logger.number, time)
-        {
-            Ok(outcomes) => Ok(outcomes),
-            Err(_) => Err(LogError::OutOfMemory),
-        }
+        let number = logger.number;
+        let answer = self.producer.dump_backtrace(rt, self.alloc, number, time);
+        outcomes_of(answer)
     }
 }

@@ -14,7 +14,7 @@
 //! `Server::run` picks it (`specs/Homes.antt`). A client's calls are those of `alog_pool::Producer` (`specs/Says.antt`).
 //!
 //! Read `home.rt`, `logger.rt`, `client.rt` and `calls.rt` (what a thread logs with), `work.rt`, `seats.rt` (the clients of all
-//! threads) and `server.rt`; then `start.rt` over `setup.rt`, `making.rt` and `folders.rt`, and `error.rt`.
+//! threads) and `server.rt`; then `opening.rt` over `setup.rt`, `producers.rt` and `folders.rt`, and `error.rt`.
 #![tactic(auto)]
 
 mod calls;
@@ -23,11 +23,11 @@ mod error;
 mod folders;
 mod home;
 mod logger;
-mod making;
+mod opening;
+mod producers;
 mod seats;
 mod server;
 mod setup;
-mod start;
 mod work;
 
 pub use client::Client;
@@ -35,10 +35,10 @@ pub use error::{LogError, RunError, StartError};
 pub use folders::{Folders, folder_stores};
 pub use home::Home;
 pub use logger::Logger;
-pub use making::make;
+pub use opening::start;
+pub use producers::make;
 pub use server::{Ran, Server};
 pub use setup::setup_of;
-pub use start::start;
 pub use work::Work;
 
 /// The most threads of a server.

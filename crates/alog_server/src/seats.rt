@@ -48,7 +48,7 @@ pub(crate) fn run_all<H: Home, R: Threads + Sync, W: Work<R> + Sync>(
         return (producers, Ended::OutOfMemory);
     };
     let mut seats: Vec<Seat<H, W::Error>> = seat_all(alloc, producers, seats);
-    work_all(rt, seats.as_mut_slice(), work);
+    work_all(rt, &mut seats, work);
     match rise_all(seats, &mut back) {
         None => (back, Ended::Done),
         Some(error) => (back, Ended::Early(error)),
@@ -78,16 +78,16 @@ fn seat_all<H: Home, E: Drop>(
 /// Lets each thread do its work.
 fn work_all<H: Home, R: Threads + Sync, W: Work<R> + Sync>(
     rt: &R,
-    seats: &mut [Seat<H, W::Error>],
+    seats: &mut Vec<Seat<H, W::Error>>,
     work: &W,
 )
-    requires { 0 < length seats.old }
-    ensures { length seats.new ≡ length seats.old }
+    requires { 0 < length seats.old.items }
+    ensures { length seats.new.items ≡ length seats.old.items }
 {
     let threads = seats.len();
     thread::for_each_mut(
         rt,
-        seats,
+        seats.as_mut_slice(),
         threads,
         &|number, seat: &mut Seat<H, W::Error>| work_one(rt, number, seat, work),
     );

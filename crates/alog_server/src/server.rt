@@ -1,15 +1,15 @@
 //! A server's pool, and a run of its threads.
-ghost use Rattle.std.specs.Prelude.{◌≡◌, ◌↔◌, ◌≤◌, IfOk, IsErrOf, count_by, length};
+ghost use Rattle.std.specs.Prelude.{◌≡◌, ◌↔◌, ◌≤◌, IfOk, IfErr, IsErrOf, count_by, length};
 ghost use Rattle.std.specs.List.{Any};
 ghost use Rattle.alog_config.specs.Built.{HasFailed};
 ghost use Rattle.alog_config.specs.Sinks.{is_leaf};
 ghost use Rattle.alog_server.specs.Running.{AreBad, HasThreads, Runs, Works};
-ghost use Rattle.alog_server.specs.Starting.{IsServerOf};
+ghost use Rattle.alog_server.specs.Starting.{IsOfStores, IsServerOf};
 ghost use Rattle.alog_server.specs.declared.TheConstants.{MOST_THREADS};
 
 use crate::MOST_THREADS;
 use crate::error::{RunError, StartError};
-use crate::making::make;
+use crate::producers::make;
 use crate::seats::{Ended, run_all};
 use crate::setup::setup_of;
 use crate::work::Work;
@@ -49,6 +49,7 @@ impl<S: Store + Drop + Send + 'static> Server<S> {
     ) -> Result<Server<S>, StartError>
         requires { length stores.items ≡ count_by is_leaf config.now.sinks.items }
         ensures started { IfOk result (λ s. IsServerOf S.tells S.files S.failures config.now stores.items s.pool) }
+        ensures refused { IfErr result IsOfStores }
         ensures failed { IsErrOf result StartError.Store → Any (HasFailed S.failures) stores.items }
     {
         let setup = setup_of(alloc, config, stores, 0)?;
