@@ -1,4 +1,4 @@
-use Rattle.std.proofs.Common.{length, refl}
+use Rattle.std.proofs.Common.{refl}
 use Rattle.alog_server.proofs.Suiting.{all_suit}
 use Rattle.alog_server.proofs.setup.setup_of.Goals as goal
 

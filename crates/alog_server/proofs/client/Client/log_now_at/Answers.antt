@@ -1,4 +1,4 @@
-use Rattle.std.proofs.Common.{◌≡◌, None, Result, sym, subst}
+use Rattle.std.proofs.Common.{None, Result, sym, subst}
 use Rattle.std.proofs.lemmas.Int.{to_z-of_z}
 use Rattle.alog_pool.specs.Producer.{ProducerView}
 use Rattle.alog_registry.specs.declared.logging.LogReply.{LogReply}
