@@ -2,7 +2,7 @@
 use std::marker::Brand;
 
 /// A pool as a type: the clients of its threads and the loggers that they find name it. `Server::run` picks it.
-pub trait Home: Drop + Send {
+pub trait Home: Drop {
     ghost use Rattle.std.specs.Prelude.{List};
     ghost use Rattle.alog_pool.specs.declared.shared.Shared.{Shared};
     ghost use Rattle.alog_registry.specs.declared.logger.Logger.{Logger};

@@ -29,7 +29,7 @@ pub(crate) enum Ended<E> {
 }
 
 /// Lets as many threads as there are producers do their work, each with a client of its own, and gives the producers back.
-pub(crate) fn run_all<H: Home, R: Threads + Sync, W: Work<R> + Sync>(
+pub(crate) fn run_all<H: Home + Send, R: Threads + Sync, W: Work<R> + Sync>(
     rt: &R,
     alloc: Global,
     producers: Vec<Producer>,
@@ -76,7 +76,7 @@ fn seat_all<H: Home, E: Drop>(
 }
 
 /// Lets each thread do its work.
-fn work_all<H: Home, R: Threads + Sync, W: Work<R> + Sync>(
+fn work_all<H: Home + Send, R: Threads + Sync, W: Work<R> + Sync>(
     rt: &R,
     seats: &mut Vec<Seat<H, W::Error>>,
     work: &W,
