@@ -2,4 +2,3 @@ pub mod Crosses
 pub mod Making
 pub mod Sending
 pub mod Building
-pub mod Suiting

@@ -1,23 +1,20 @@
 -- The producers of a load while they are away and when they are back.
 use Rattle.std.specs.Prelude.{◌≡◌, ◌≤◌, ◌+◌, ℕ, Bool, true, List, [], ◌++◌, length, vec_capacity}
 use Rattle.std.specs.List.{AllByRecursion}
-use Rattle.alog_load.specs.Load.{HasLogged, HasServed, MakesAll, errand_of}
+use Rattle.alog_load.specs.Load.{HasLogged, HasServed, errand_of}
 use Rattle.alog_load.specs.declared.crew.Crew.{Crew}
 use Rattle.alog_load.specs.declared.errand.Goes.{Goes}
 use Rattle.alog_pool.specs.Places.{Each2}
 use Rattle.alog_pool.specs.Pool.{PoolView}
 use Rattle.alog_pool.specs.Producer.{ProducerView, IsSame}
 use Rattle.alog_pool.specs.declared.shared.Shared.{Shared}
+use Rattle.alog_server.specs.Making.{AreOf, MakesAll}
 
 -- it has no producer yet, and room for so many
 pub record HasRoom (count : ℕ) (c : Crew) : Type 0 where
   pub ready : (c.ready.items ≡ []) × (count ≤ vec_capacity c.ready)
   pub away : (c.away.items ≡ []) × (count ≤ vec_capacity c.away)
   pub back : (c.back.items ≡ []) × (count ≤ vec_capacity c.back)
-
--- these producers share this
-abbrev pub AreOf : Shared → List ProducerView → Type 0
-AreOf shared producers = AllByRecursion (λ (p : ProducerView). p.shared ≡ shared) producers
 
 -- the producer was sent off with this promise
 abbrev pub IsSentFor : ℕ → ℕ → ProducerView → Goes → Type 0

@@ -1,7 +1,6 @@
 -- What a load is: what is asked for, what a configuration gives, what each producer logs, and what is answered.
 use Rattle.std.specs.Prelude.{◌≡◌, ◌<◌, ◌⊎◌, ◌*◌, ◌%◌, ℕ, zero, suc, pos, Bool, List, [], ◌∷◌, ◌++◌, length, Some, None, true}
 use Rattle.std.specs.Fmt.{decimal}
-use Rattle.alog_config.specs.Built.{Built}
 use Rattle.alog_config.specs.declared.building.BuildError.{BuildError}
 use Rattle.alog_config.specs.declared.building.BuildError.TheVariants as built
 use Rattle.alog_config.specs.declared.config.Config.{Config}
@@ -13,7 +12,7 @@ use Rattle.alog_load.specs.declared.error.LoadError.TheVariants as refused
 use Rattle.alog_msg.specs.declared.level.Level.TheVariants.{Info}
 use Rattle.alog_policy.specs.Port.{PortDid}
 use Rattle.alog_pool.specs.Places.{Each2}
-use Rattle.alog_pool.specs.Pool.{PoolView, Makes, Starts}
+use Rattle.alog_pool.specs.Pool.{PoolView, Starts}
 use Rattle.alog_pool.specs.Producer.{ProducerView, IsSame, Lent}
 use Rattle.alog_pool.specs.Report.{Ends}
 use Rattle.alog_pool.specs.declared.report.Report.{Report}
@@ -24,6 +23,8 @@ use Rattle.alog_registry.specs.Listed.{spec_at}
 use Rattle.alog_registry.specs.Logging.{Logs}
 use Rattle.alog_registry.specs.declared.logger.Spec.{Spec}
 use Rattle.alog_registry.specs.declared.logging.LogReply.{LogReply}
+use Rattle.alog_server.specs.Making.{MakesAll}
+use Rattle.alog_server.specs.Setting.{IsSetupOf}
 use Rattle.alog_sink.specs.Files.{Files}
 
 -- these numbers of producers and of messages are out of bounds
@@ -69,26 +70,12 @@ abbrev pub HasServed : ℕ → ℕ → ProducerView → ProducerView → Type 0
 HasServed loggers messages start end =
     HasLogged (errand_of start.number loggers messages).logger (errand_of start.number loggers messages).messages start end
 
--- the pool made these producers, one after the other
-abbrev pub MakesAll : {S : Type 0} → PoolView S → List ProducerView → PoolView S → Type 0
-MakesAll old [] new = new ≡ old
-MakesAll {S} old (p ∷ ps) new = (mid : PoolView S) × Makes old mid p × MakesAll mid ps new
-
 module _ {S : Type 0} (tells : Bool) (files : S → Files) (failures : S → ℕ) where
-  -- What a configuration gives, over these stores, for a pool that tells so many tickets of each worker.
-  pub record IsSetupOf (c : Config) (stores : List S) (most : ℕ) (setup : Setup S) : Type 0 where
-    pub built : Built tells files failures c stores setup.loggers setup.sinks.items
-    pub queue : setup.queue ≡ c.queue
-    pub first : setup.first ≡ 0
-    pub workers : setup.workers ≡ c.workers
-    pub limit : setup.text_limit ≡ c.text
-    pub most_is : setup.tickets_max ≡ most
-
   -- The report of a load: a pool was started with what the configuration gives, and told every ticket; it made as many producers
   -- as were asked for; each logged all its messages; and with these the pool was ended.
   pub record Loads (c : Config) (stores : List S) (producers messages : ℕ) (r : Report S) : Type 0 where
     pub setup : Setup S
-    pub given : IsSetupOf c stores (producers * messages) setup
+    pub given : IsSetupOf tells files failures c stores (producers * messages) setup
     pub start : PoolView S
     pub starts : Starts setup start
     pub begun : List ProducerView

@@ -1,13 +1,14 @@
 //! The producers of a load, each on a thread of its own.
-ghost use Rattle.std.specs.Prelude.{◌≡◌, ◌≤◌, ◌<◌, ◌+◌, [], length, map, vec_capacity, IfOk, IfErr, IsTrue};
+ghost use Rattle.std.specs.Prelude.{◌≡◌, ◌≤◌, ◌<◌, ◌+◌, [], length, map, vec_capacity, IfOk, IfErr};
 ghost use Rattle.std.specs.List.{AllByRecursion};
-ghost use Rattle.alog_load.specs.Crew.{AreBack, AreOf, AreSent, HasRoom, Runs};
-ghost use Rattle.alog_load.specs.Load.{HasGone, MakesAll};
+ghost use Rattle.alog_load.specs.Crew.{AreBack, AreSent, HasRoom, Runs};
+ghost use Rattle.alog_load.specs.Load.{HasGone};
 ghost use Rattle.alog_load.specs.declared.TheConstants.{MOST_MESSAGES};
 ghost use Rattle.alog_registry.specs.declared.TheConstants.{MOST_LOGGERS};
 
 use crate::errand::{Back, Errand, Goes, go};
 use alog_pool::{Pool, Producer};
+use alog_server::make;
 use alog_sink::Store;
 use std::alloc::{AllocError, Global};
 use std::snapshot::Snapshot;
@@ -82,25 +83,6 @@ impl Crew {
         let done = join_all(rt, away, &mut back);
         (back, sent && done)
     }
-}
-
-/// Has a pool make so many producers, into a list with room for them, and answers whether it did.
-pub fn make<S: Store + Drop + Send + 'static>(
-    pool: &mut Pool<S>,
-    count: u64,
-    producers: &mut Vec<Producer>,
-) -> bool
-    requires room { (producers.old.items ≡ []) × (count ≤ vec_capacity producers.old) }
-    ensures makes { MakesAll pool.old producers.new.items pool.new }
-    ensures many { IsTrue result → length producers.new.items ≡ count }
-{
-    for _number in 0..count {
-        match pool.producer() {
-            Ok(producer) => producers.push_reserved(producer),
-            Err(_) => return false,
-        }
-    }
-    true
 }
 
 /// Sends each producer off, and answers whether there was a thread for each. One that has none is back at once.

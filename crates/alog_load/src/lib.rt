@@ -18,10 +18,8 @@ mod error;
 mod loading;
 mod setup;
 
-pub use crew::make;
 pub use error::LoadError;
 pub use loading::load;
-pub use setup::setup_of;
 
 /// The most producers of a load.
 pub const MOST_PRODUCERS: u64 = 64;

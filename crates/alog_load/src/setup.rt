@@ -1,20 +1,19 @@
-//! What a configuration gives to start a pool with.
+//! What a configuration gives to start the pool of a load with.
 ghost use Rattle.std.specs.Prelude.{◌≡◌, IfOk, IsErrOf, count_by, length};
 ghost use Rattle.std.specs.List.{Any};
 ghost use Rattle.alog_config.specs.Built.{HasFailed};
 ghost use Rattle.alog_config.specs.Sinks.{is_leaf};
-ghost use Rattle.alog_load.specs.Load.{IsSetupOf};
 ghost use Rattle.alog_pool.specs.Pool.{Fits};
+ghost use Rattle.alog_server.specs.Setting.{IsSetupOf};
 
 use crate::error::LoadError;
-use alog_config::{Config, build};
+use alog_config::Config;
 use alog_pool::Setup;
 use alog_sink::Store;
 use std::alloc::Global;
 
-/// What the configuration gives, over these stores, for a pool whose report tells so many tickets of each worker. The first ticket
-/// is 0. There are as many stores as `alog_config::leaves` tells. The test `one_list_of_tickets` shows it.
-pub fn setup_of<S: Store + Drop>(
+/// What `alog_server::setup_of` gives, or why there is no load.
+pub(crate) fn setup_of<S: Store + Drop>(
     alloc: Global,
     config: &Config,
     stores: Vec<S>,
@@ -26,14 +25,5 @@ pub fn setup_of<S: Store + Drop>(
     ensures failed { IsErrOf result LoadError.Store → Any (HasFailed S.failures) stores.items }
     ensures bounds { IsErrOf result LoadError.BadValue → ⊥ }
 {
-    let (loggers, sinks) = build(alloc, config, stores)?;
-    Ok(Setup {
-        queue: config.queue,
-        first: 0,
-        workers: config.workers,
-        tickets_max,
-        text_limit: config.text,
-        loggers,
-        sinks,
-    })
+    Ok(alog_server::setup_of(alloc, config, stores, tickets_max)?)
 }

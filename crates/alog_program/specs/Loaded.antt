@@ -1,5 +1,5 @@
 -- What `alog load` does.
-use Rattle.std.specs.Prelude.{◌≡◌, ◌≢◌, ◌≤◌, ◌⊎◌, ℕ, All, Bool, true, List, [], ◌∷◌, ◌++◌, Option, Ok, codes}
+use Rattle.std.specs.Prelude.{◌≡◌, ◌≢◌, ◌≤◌, ◌⊎◌, ℕ, All, Bool, List, [], ◌∷◌, ◌++◌, Option, Ok, codes}
 use Rattle.std.specs.Fmt.{decimal}
 use Rattle.std.specs.Io.KnownBytes.{Appends, Keeps}
 use Rattle.alog_config.specs.Meaning.{Reads}
@@ -7,7 +7,8 @@ use Rattle.alog_config.specs.declared.config.Config.{Config}
 use Rattle.alog_load.specs.Load.{AreBad, Loads}
 use Rattle.alog_pool.specs.declared.report.Report.{Report}
 use Rattle.alog_pool.specs.declared.report.Totals.{Totals}
-use Rattle.alog_sink.specs.Files.{AreSame, Files, no_files}
+use Rattle.alog_server.specs.Stores.{IsNew}
+use Rattle.alog_sink.specs.Files.{Files}
 use Rattle.alog_program.specs.Documents.{IsNoConfiguration}
 use Rattle.alog_program.specs.LoadOptions.{AsksForLoad, IsFirstUnread}
 use Rattle.alog_program.specs.Options.{Values}
@@ -30,14 +31,10 @@ HasNoFault report = All (λ n. n ≡ 0) report.faults.items
 
 -- over stores of this type, by what they tell, their files and their failures
 module _ {S : Type 0} (tells : Bool) (files : S → Files) (failures : S → ℕ) where
-  -- a store that was just made: it has no files as far as it tells them, and did not fail
-  abbrev pub IsNew : S → Type 0
-  IsNew s = (tells ≡ true → AreSame no_files (files s)) × (failures s ≡ 0)
-
   -- The report of a load, as it was asked for, of a configuration, over new stores.
   pub record IsReportOf (c : Config) (r : LoadRequest) (report : Report S) : Type 0 where
     pub stores : List S
-    pub fresh : All IsNew stores
+    pub fresh : All (IsNew tells files failures) stores
     pub loads : Loads tells files failures c stores r.producers r.messages report
 
   -- By the exit status, of a configuration: a load was made, no fault was counted, and its totals were written; or the numbers are out

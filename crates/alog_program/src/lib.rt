@@ -28,4 +28,3 @@ mod words;
 pub use arguments::{ArgumentsError, collect_words};
 pub use program::{refuse_arguments, run};
 pub use progress::{Progress, Screen};
-pub use stores::Folders;

@@ -3,20 +3,22 @@ ghost use Rattle.std.specs.Prelude.{◌≡◌, ◌↔◌, ◌⊎◌, IsTrue, All
 ghost use Rattle.std.specs.Io.KnownBytes.{Appends};
 ghost use Rattle.alog_config.specs.Sinks.{is_leaf};
 ghost use Rattle.alog_load.specs.Load.{AreBad};
-ghost use Rattle.alog_program.specs.Loaded.{HasNoFault, IsNew, LoadsDocument, LoadsFile, LoadsOn, totals_text};
+ghost use Rattle.alog_program.specs.Loaded.{HasNoFault, LoadsDocument, LoadsFile, LoadsOn, totals_text};
 ghost use Rattle.alog_program.specs.Status.{load_status_of};
+ghost use Rattle.alog_server.specs.Stores.{IsNew};
 
 use crate::configuration::{read_document, refuse};
 use crate::program::fail;
 use crate::progress::{Progress, Screen};
 use crate::request::LoadRequest;
 use crate::status::{load_number_of, load_status_of};
-use crate::stores::{Folders, folder_stores, memory_stores};
+use crate::stores::memory_stores;
 use crate::totals::write_totals;
 use alog_config::{Config, leaves, read};
 use alog_load::{LoadError, MOST_MESSAGES, MOST_PRODUCERS, load};
 use alog_pool::Report;
 use alog_replay::ReplayError;
+use alog_server::{Folders, folder_stores};
 use alog_sink::{MemStore, Store};
 use std::alloc::AllocError;
 use std::fs;

@@ -1,7 +1,8 @@
 //! One run of the whole program, and whether it said what it was to say.
 //!
 //! What a run holds is alive in one small function alone, which answers a `bool`: the tests that look at it have nothing alive.
-use alog_program::{Folders, Screen};
+use alog_program::Screen;
+use alog_server::Folders;
 use std::io::{Read, Write};
 use std::path::PathBuf;
 use std::process::Abort;

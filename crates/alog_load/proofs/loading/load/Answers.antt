@@ -1,12 +1,12 @@
 use Rattle.std.proofs.Common.{◌≡◌, ℕ, List, length, refl, sym, ap, subst, arith}
 use Rattle.alog_load.proofs.Building.{built_length}
-use Rattle.alog_load.proofs.Making.{makes_count, makes_shared}
 use Rattle.alog_load.proofs.loading.load.Goals as goal
-use Rattle.alog_load.specs.Crew.{AreOf}
 use Rattle.alog_load.specs.Load.{HasServed}
 use Rattle.alog_pool.specs.Places.{Each2}
 use Rattle.alog_pool.specs.declared.shared.Shared.{Shared}
 use Rattle.alog_registry.specs.declared.logger.Logger.{Logger}
+use Rattle.alog_server.proofs.Making.{makes_count, makes_shared}
+use Rattle.alog_server.specs.Making.{AreOf}
 
 pub run-back-requires-clause-loggers : goal.run-back-requires-clause-loggers
 run-back-requires-clause-loggers g c κs within =

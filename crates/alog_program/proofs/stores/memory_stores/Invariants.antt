@@ -1,6 +1,6 @@
 use Rattle.std.proofs.Common.{◌≡◌, ◌≤◌, length, vec_capacity}
 use Rattle.std.specs.Prelude.{All}
-use Rattle.alog_program.specs.Loaded.{IsNew}
+use Rattle.alog_server.specs.Stores.{IsNew}
 use Rattle.alog_sink.specs.contracts.mem_store.MemStoreStore.TheImpl.{ghosts}
 use Rattle.alog_program.proofs.stores.memory_stores.Given as goal
 

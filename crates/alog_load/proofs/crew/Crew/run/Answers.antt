@@ -1,6 +1,6 @@
 use Rattle.std.proofs.Common.{◌≡◌, Bool, true, List, ◌++◌, map, refl, sym, ap, subst, ◌∙◌, arith}
 use Rattle.std.specs.declared.thread.PromisedHandle.{PromisedHandle}
-use Rattle.alog_load.proofs.Making.{known_loggers, makes_shared}
+use Rattle.alog_load.proofs.Making.{known_loggers}
 use Rattle.alog_load.proofs.Sending.{back_length, back_own, served_all}
 use Rattle.alog_load.proofs.crew.Crew.run.Goals as goal
 use Rattle.alog_load.proofs.crew.Crew.run.Goals.{then-sent, else-sent}
@@ -10,6 +10,7 @@ use Rattle.alog_load.specs.declared.errand.Back.{Back}
 use Rattle.alog_load.specs.declared.errand.Goes.{Goes}
 use Rattle.alog_pool.specs.Places.{Each2}
 use Rattle.alog_pool.specs.Producer.{ProducerView}
+use Rattle.alog_server.proofs.Making.{makes_shared}
 
 abbrev promises_of : List (PromisedHandle Back Goes) → List Goes
 promises_of hs = map (λ h. h.promise) hs

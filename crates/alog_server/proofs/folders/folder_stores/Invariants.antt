@@ -1,7 +1,7 @@
 use Rattle.std.proofs.Common.{◌≡◌, ◌≤◌, length, vec_capacity}
 use Rattle.std.specs.Prelude.{All}
-use Rattle.alog_program.specs.Loaded.{IsNew}
-use Rattle.alog_program.proofs.stores.folder_stores.Given as goal
+use Rattle.alog_server.specs.Stores.{IsNew}
+use Rattle.alog_server.proofs.folders.folder_stores.Given as goal
 
 abbrev pub invariant-loop-number : goal.invariant-loop-number
 invariant-loop-number g l = record {

@@ -1,6 +1,6 @@
-use Rattle.std.proofs.Common.{length, refl}
-use Rattle.alog_load.proofs.Suiting.{all_suit}
-use Rattle.alog_load.proofs.setup.setup_of.Goals as goal
+use Rattle.std.proofs.Common.{refl}
+use Rattle.alog_server.proofs.Suiting.{all_suit}
+use Rattle.alog_server.proofs.setup.setup_of.Goals as goal
 
 pub returns-clause-given : goal.returns-clause-given
 returns-clause-given g c = record {

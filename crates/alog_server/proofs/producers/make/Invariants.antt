@@ -1,6 +1,6 @@
 use Rattle.std.proofs.Common.{◌≡◌, ◌≤◌, length, vec_capacity}
-use Rattle.alog_load.specs.Load.{MakesAll}
-use Rattle.alog_load.proofs.crew.make.Given as goal
+use Rattle.alog_server.specs.Making.{MakesAll}
+use Rattle.alog_server.proofs.producers.make.Given as goal
 
 abbrev pub invariant-loop-number : goal.invariant-loop-number
 invariant-loop-number g l = record {

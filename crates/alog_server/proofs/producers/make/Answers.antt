@@ -1,7 +1,7 @@
 use Rattle.std.proofs.Common.{List, [], ◌∷◌, length, length-append, refl, sym, ap, subst, ◌∙◌, arith}
-use Rattle.alog_load.proofs.Making.{makes_more}
-use Rattle.alog_load.proofs.crew.make.Goals as goal
-use Rattle.alog_load.specs.Load.{MakesAll}
+use Rattle.alog_server.proofs.Making.{makes_more}
+use Rattle.alog_server.proofs.producers.make.Goals as goal
+use Rattle.alog_server.specs.Making.{MakesAll}
 use Rattle.alog_pool.specs.Pool.{PoolView}
 use Rattle.alog_pool.specs.Producer.{ProducerView}
 

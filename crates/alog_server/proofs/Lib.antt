@@ -1,0 +1,7 @@
+mod Crosses
+mod Homes
+mod Finding
+mod Refusing
+mod Saying
+pub mod Making
+pub mod Suiting

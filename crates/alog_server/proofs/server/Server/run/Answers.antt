@@ -1,0 +1,39 @@
+use Rattle.std.proofs.Common.{refl, sym, subst, ◌∙◌, arith}
+use Rattle.std.proofs.lemmas.Result.{IfOk-weaker}
+use Rattle.alog_pool.specs.Report.{Ends}
+use Rattle.alog_pool.specs.declared.report.Report.{Report}
+use Rattle.alog_pool.specs.declared.shared.Shared.{Shared}
+use Rattle.alog_server.proofs.Making.{makes_count, makes_shared}
+use Rattle.alog_server.proofs.server.Server.run.Goals as goal
+use Rattle.alog_server.specs.Making.{AreOf}
+
+pub shutdown-requires-2-clause-own : goal.shutdown-requires-2-clause-own
+shutdown-requires-2-clause-own g c κs within =
+    let run = c.work_with-producers.ensures in
+    let shared = makes_shared c.args.self.pool c.work_with-producers.new.pool run.begun run.makes in
+    subst (λ (s : Shared). AreOf s c.work_with-producers.result.0.items) (sym shared.0) run.own
+
+pub unreachable-requires : goal.unreachable-requires
+unreachable-requires g c =
+    let run = c.work_with-producers.ensures in
+    let count = makes_count c.args.self.pool c.work_with-producers.new.pool run.begun run.makes in
+    let none = c.args.self.fresh in
+    let many = run.many in
+    c.in-Err.ensures.out.0 refl (omega (arith, count, none, many))
+
+pub returns-clause-runs : goal.returns-clause-runs
+returns-clause-runs g c =
+    let run = c.work_with-producers.ensures in
+    let new = c.work_with-producers.new.pool in
+    let back = c.work_with-producers.result.0.items in
+    IfOk-weaker c.with.result _ _ (λ r h. record {
+      begun = run.begun;
+      many = run.each h.1;
+      pool = new;
+      makes = run.makes;
+      back = back;
+      all = run.many ∙ run.each h.1;
+      own = run.own;
+      ends = subst (λ (q : Report g.row.S.Denot). Ends g.S.Store.tells g.S.Store.files g.S.Store.failures new back q) (sym h.0)
+          c.in-Ok.ensures.ends;
+    }) c.with.ensures.ran

@@ -1,0 +1,35 @@
+-- Answers and the reasons of refusals that are passed on.
+use Rattle.std.specs.Prelude.{Result, Ok, Err, Vec}
+use Rattle.std.specs.declared.alloc.Global.{Global}
+use Rattle.std.specs.declared.alloc.AllocError.{AllocError}
+use Rattle.alog_config.specs.declared.building.BuildError.{BuildError}
+use Rattle.alog_config.specs.declared.building.BuildError.TheVariants as built
+use Rattle.alog_msg.specs.declared.message.MessageError.{MessageError}
+use Rattle.alog_msg.specs.declared.message.MessageError.TheVariants as message
+use Rattle.alog_policy.specs.declared.policy.Outcome.{Outcome}
+use Rattle.alog_registry.specs.declared.logging.LogReply.{LogReply}
+use Rattle.alog_server.specs.declared.error.LogError.{LogError}
+use Rattle.alog_server.specs.declared.error.LogError.TheVariants as log
+use Rattle.alog_server.specs.declared.error.StartError.{StartError}
+use Rattle.alog_server.specs.declared.error.StartError.TheVariants as start
+
+-- the same reason, as a call of a client answers it
+abbrev pub told : MessageError → LogError
+told message.TextTooLong = log.TextTooLong
+told message.FieldTooLong = log.FieldTooLong
+told message.OutOfMemory = log.OutOfMemory
+
+-- and as a start does
+abbrev pub built_told : BuildError → StartError
+built_told built.OutOfMemory = start.OutOfMemory
+built_told built.Store = start.Store
+
+-- the same answer to a log
+abbrev pub answer_of : Result LogReply MessageError → Result LogReply LogError
+answer_of (Ok reply) = Ok reply
+answer_of (Err e) = Err (told e)
+
+-- and to a dump
+abbrev pub outcomes_of : Result (Vec (Outcome (Unit {0})) Global) AllocError → Result (Vec (Outcome (Unit {0})) Global) LogError
+outcomes_of (Ok outcomes) = Ok outcomes
+outcomes_of (Err e) = Err log.OutOfMemory

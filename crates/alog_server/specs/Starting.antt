@@ -1,0 +1,45 @@
+-- A server that starts.
+use Rattle.std.specs.Prelude.{◌≡◌, ℕ, All, Bool, List, Ok, Err}
+use Rattle.alog_config.specs.Meaning.{Reads}
+use Rattle.alog_config.specs.declared.config.Config.{Config}
+use Rattle.alog_config.specs.declared.fault.ConfigFault.{ConfigFault}
+use Rattle.alog_pool.specs.Pool.{PoolView, Starts}
+use Rattle.alog_pool.specs.declared.setup.Setup.{Setup}
+use Rattle.alog_sink.specs.Files.{Files}
+use Rattle.alog_server.specs.Setting.{IsSetupOf}
+use Rattle.alog_server.specs.Stores.{IsNew}
+use Rattle.alog_server.specs.declared.error.StartError.{StartError}
+use Rattle.alog_server.specs.declared.error.StartError.TheVariants as start
+
+-- the reason that this fault of a document is
+abbrev pub IsOfFault : ConfigFault → StartError → Type 0
+IsOfFault fault (start.Config own text) = own ≡ fault
+IsOfFault fault start.Store = ⊥
+IsOfFault fault start.OutOfMemory = Unit {0}
+
+-- a reason that is not the document's
+abbrev pub IsOfStores : StartError → Type 0
+IsOfStores (start.Config fault text) = ⊥
+IsOfStores start.Store = Unit {0}
+IsOfStores start.OutOfMemory = Unit {0}
+
+-- when a start over this document is refused so
+abbrev pub IsReasonFor : List ℕ → StartError → Type 0
+IsReasonFor document (start.Config fault text) = Reads document (Err fault)
+IsReasonFor document start.Store = (c : Config) × Reads document (Ok c)
+IsReasonFor document start.OutOfMemory = Unit {0}
+
+module _ {S : Type 0} (tells : Bool) (files : S → Files) (failures : S → ℕ) where
+  -- The pool was started with what the configuration gives over these stores, and tells no tickets.
+  pub record IsServerOf (c : Config) (stores : List S) (pool : PoolView S) : Type 0 where
+    pub setup : Setup S
+    pub given : IsSetupOf tells files failures c stores 0 setup
+    pub starts : Starts setup pool
+
+  -- It was started with what the document says, over new stores.
+  pub record IsServerOn (document : List ℕ) (pool : PoolView S) : Type 0 where
+    pub config : Config
+    pub reads : Reads document (Ok config)
+    pub stores : List S
+    pub fresh : All (IsNew tells files failures) stores
+    pub server : IsServerOf config stores pool

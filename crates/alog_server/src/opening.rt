@@ -1,0 +1,59 @@
+//! Starting a server: from the text of a configuration, over the files of a folder.
+ghost use Rattle.std.specs.Prelude.{IfOk, IfErr};
+ghost use Rattle.alog_server.specs.Starting.{IsServerOn, IsOfFault, IsReasonFor};
+
+use crate::error::StartError;
+use crate::folders::{Folders, folder_stores};
+use crate::server::Server;
+use alog_config::{ConfigFault, Place, explain, leaves, read};
+use std::alloc::{AllocError, Global};
+use std::sync::Wait;
+use std::thread::Threads;
+use std::time::Clock;
+
+/// Starts a server of the configuration that is in this document, with the files of its sinks in this folder, which has to be there.
+pub fn start<R: Folders + Threads + Wait + Clock + Clone + Drop + Send + 'static>(
+    rt: &R,
+    alloc: Global,
+    document: &[u8],
+    folder: &str,
+) -> Result<Server<R::Folder>, StartError>
+    ensures started { IfOk result (λ s. IsServerOn R.Folder.tells R.Folder.files R.Folder.failures document.now s.pool) }
+    ensures refused { IfErr result (IsReasonFor document.now) }
+{
+    let config = match read(alloc, document) {
+        Ok(config) => config,
+        Err(fault) => return Err(refused(alloc, document, fault)),
+    };
+    let stores = folder_stores(rt, alloc, folder, leaves(&config))?;
+    Server::over(rt, alloc, &config, stores)
+}
+
+/// Why a server is not started of a document that has this fault.
+fn refused(alloc: Global, document: &[u8], fault: ConfigFault) -> StartError
+    ensures { IsOfFault fault result }
+{
+    if fault == ConfigFault::OutOfMemory {
+        return StartError::OutOfMemory;
+    }
+    match words(alloc, document, fault) {
+        Ok(text) => StartError::Config { fault, text },
+        Err(AllocError) => StartError::OutOfMemory,
+    }
+}
+
+/// What `alog check` says of a document that has this fault.
+fn words(alloc: Global, document: &[u8], fault: ConfigFault) -> Result<String, AllocError> {
+    let number = fault.number();
+    let why = explain(alloc, document, fault)?;
+    match fault {
+        ConfigFault::Broken { place, .. } => match place {
+            Place::Top => format!(in alloc; "refused {number} in top: {why}"),
+            Place::Sink(i) => format!(in alloc; "refused {number} in sink {i}: {why}"),
+            Place::Logger(i) => format!(in alloc; "refused {number} in logger {i}: {why}"),
+        },
+        ConfigFault::NotToml | ConfigFault::OutOfMemory => {
+            format!(in alloc; "refused {number}: {why}")
+        }
+    }
+}

@@ -1,0 +1,125 @@
+//! A server's pool, and a run of its threads.
+ghost use Rattle.std.specs.Prelude.{◌≡◌, ◌↔◌, ◌≤◌, IfOk, IfErr, IsErrOf, count_by, length};
+ghost use Rattle.std.specs.List.{Any};
+ghost use Rattle.alog_config.specs.Built.{HasFailed};
+ghost use Rattle.alog_config.specs.Sinks.{is_leaf};
+ghost use Rattle.alog_server.specs.Running.{AreBad, HasThreads, Runs, Works};
+ghost use Rattle.alog_server.specs.Starting.{IsOfStores, IsServerOf};
+ghost use Rattle.alog_server.specs.declared.TheConstants.{MOST_THREADS};
+
+use crate::MOST_THREADS;
+use crate::error::{RunError, StartError};
+use crate::producers::make;
+use crate::seats::{Ended, run_all};
+use crate::setup::setup_of;
+use crate::work::Work;
+use alog_config::Config;
+use alog_pool::{OpenGate, Pool, Producer, Report};
+use alog_sink::Store;
+use std::alloc::Global;
+use std::marker::Brand;
+use std::sync::Wait;
+use std::thread::Threads;
+use std::time::Clock;
+
+/// A pool that made no producer yet. One that is dropped leaves its workers waiting: `run` ends it.
+#[derive(Drop)]
+pub struct Server<S: Store> {
+    alloc: Global,
+    pub(crate) pool: Pool<S>,
+    pub ghost fresh: { pool.made ≡ 0 },
+}
+
+/// What a run answers.
+#[derive(Drop)]
+pub struct Ran<S: Store, E> {
+    /// What became of all messages, and the sinks.
+    pub report: Report<S>,
+    /// Why work ended early: of the first thread, by number, where it did.
+    pub error: Option<E>,
+}
+
+impl<S: Store + Drop + Send + 'static> Server<S> {
+    /// A server of this configuration over these stores, of which there are as many as `alog_config::leaves` tells.
+    pub fn over<R: Threads + Wait + Clock + Clone + Drop + Send + 'static>(
+        rt: &R,
+        alloc: Global,
+        config: &Config,
+        stores: Vec<S>,
+    ) -> Result<Server<S>, StartError>
+        requires { length stores.items ≡ count_by is_leaf config.now.sinks.items }
+        ensures started { IfOk result (λ s. IsServerOf S.tells S.files S.failures config.now stores.items s.pool) }
+        ensures refused { IfErr result IsOfStores }
+        ensures failed { IsErrOf result StartError.Store → Any (HasFailed S.failures) stores.items }
+    {
+        let setup = setup_of(alloc, config, stores, 0)?;
+        match Pool::start(rt, alloc, setup, OpenGate) {
+            Ok(pool) => Ok(Server { alloc, pool }),
+            Err(_) => Err(StartError::OutOfMemory),
+        }
+    }
+
+    /// Lets so many threads, 1 to 4,096, do their work, each with a client of its own, and ends the pool when all are done. Each has a
+    /// thread of its own, as far as the system gives threads. What the clients logged is written then, and the pool is ended
+    /// whatever is answered.
+    pub fn run<R: Threads + Wait + Clock + Sync, W: Work<R> + Sync>(
+        self,
+        rt: &R,
+        threads: usize,
+        work: &W,
+    ) -> Result<Ran<S, W::Error>, RunError>
+        ensures bad_threads { IsErrOf result RunError.BadThreads ↔ AreBad threads }
+        ensures runs { IfOk result (λ r. Runs S.tells S.files S.failures self.pool threads r.report) }
+    {
+        let Server { alloc, mut pool } = self;
+        if threads < 1 || threads > MOST_THREADS {
+            drop(pool.shutdown(rt, Vec::new(alloc)));
+            return Err(RunError::BadThreads);
+        }
+        let (producers, ended) = work_with(rt, alloc, &mut pool, threads, work);
+        match pool.shutdown(rt, producers) {
+            Ok(report) => ended.with(report),
+            Err(_) => unreachable!(),
+        }
+    }
+}
+
+impl<E: Drop> Ended<E> {
+    /// What a run answers whose pool ended with this report.
+    fn with<S: Store + Drop>(self, report: Report<S>) -> Result<Ran<S, E>, RunError>
+        ensures ran { IfOk result (λ r. (r.report ≡ report) × HasThreads self) }
+        ensures threads { IsErrOf result RunError.BadThreads → ⊥ }
+    {
+        match self {
+            Ended::Done => Ok(Ran {
+                report,
+                error: None,
+            }),
+            Ended::Early(error) => Ok(Ran {
+                report,
+                error: Some(error),
+            }),
+            Ended::OutOfMemory => Err(RunError::OutOfMemory),
+        }
+    }
+}
+
+/// Makes a producer for each thread, lets the threads do their work, and gives the producers back.
+fn work_with<S: Store + Drop + Send + 'static, R: Threads + Wait + Clock + Sync, W: Work<R> + Sync>(
+    rt: &R,
+    alloc: Global,
+    pool: &mut Pool<S>,
+    threads: usize,
+    work: &W,
+) -> (Vec<Producer>, Ended<W::Error>)
+    requires { 1 ≤ threads }
+    ensures { Works pool.old pool.new threads result.0.items result.1 }
+{
+    let Ok(mut producers) = Vec::with_capacity(alloc, threads) else {
+        return (Vec::new(alloc), Ended::OutOfMemory);
+    };
+    if !make(pool, threads as u64, &mut producers) {
+        return (producers, Ended::OutOfMemory);
+    }
+    run_all::<Brand, R, W>(rt, alloc, producers, work)
+}
