@@ -5,10 +5,14 @@ pub mod Parts
 pub mod Steps
 mod RunAnswers
 mod RunCases
+mod RunGoes
 mod RunKept
-mod RunQueue
+mod RunKnown
+mod RunLeaves
+mod RunLists
+mod RunOthers
+mod RunPosts
 mod RunSame
 mod RunSinks
-mod RunWorks
 mod Runs
 mod History

@@ -11,7 +11,8 @@ use Rattle.alog_sink.specs.Files.{Files}
 use Rattle.alog_system.specs.Dump.{DumpView}
 use Rattle.alog_system.specs.Outputs.{OutputsView, Turns}
 use Rattle.alog_system.specs.Roster.{keeping, emptied, kept_at, policy_at, turns_for}
-use Rattle.alog_system.specs.Runs.{Did, InQueue, OnSink, Keeping, Emptying, on_sink, turn_of, did_by}
+use Rattle.alog_system.specs.Acts.{Did, InQueue, OnSink, Keeping, Emptying}
+use Rattle.alog_system.specs.Runs.{on_sink, turn_of, did_by}
 use Rattle.alog_system.specs.Step.{SystemSteps, TurnTold, TurnSteps, RoundSteps, after_round, dumped_by, posting, told_in_round}
 use Rattle.alog_system.specs.System.{SystemView, duty_of, with_duty, with_outputs, with_roster}
 use Rattle.alog_system.specs.declared.duty.Duty.{Duty}
@@ -26,27 +27,27 @@ module _ {S : Type 0} (tells : Bool) (files : S → Files) (failures : S → ℕ
   pub data Case (w : SystemView S) (a : ℕ) (told : Stepped) (u : SystemView S) : Did → Type 0 where
     queued : is_idle (round_of w.desk.world a) ≡ false → told ≡ told_in_round (duty_of w a) (desk_told w.desk a) → u ≡ after_round w a
         → Case w a told u (InQueue (step_of w.desk a))
-    kept : (m : Message) → duty_of w a ≡ Keeps m → told ≡ Turned Kept → u ≡ with_duty (with_roster w (keeping w.roster m)) a Free
-        → Case w a told u (Keeping m)
+    kept : (m : Message) → is_idle (round_of w.desk.world a) ≡ true → duty_of w a ≡ Keeps m → told ≡ Turned Kept
+        → u ≡ with_duty (with_roster w (keeping w.roster m)) a Free → Case w a told u (Keeping m)
     dumped : (d : DumpView) → is_idle (round_of w.desk.world a) ≡ true → duty_of w a ≡ Dumps d
         → told ≡ Turned (Dumped (length (kept_at w.roster d.logger).messages))
         → u ≡ posting (with_roster w (emptied w.roster d.logger)) a (policy_at w.roster d.logger) (dumped_by w d)
-        → Case w a told u (Emptying d.logger)
-    served : (t : ℕ) (i : Item) (done : ℕ) (turn : SinkTurn) (outputs : OutputsView S) (said : Turn) → duty_of w a ≡ Serves t i done
-        → slice_get (turns_for w.roster t i) done ≡ Some turn → Turns tells files failures w.outputs turn i said outputs
+        → Case w a told u (Emptying d.logger d.time d.thread)
+    served : (t : ℕ) (i : Item) (done : ℕ) (turn : SinkTurn) (outputs : OutputsView S) (said : Turn)
+        → is_idle (round_of w.desk.world a) ≡ true → duty_of w a ≡ Serves t i done → slice_get (turns_for w.roster t i) done ≡ Some turn → Turns tells files failures w.outputs turn i said outputs
         → told ≡ Turned said → u ≡ with_duty (with_outputs w outputs) a (Serves t i (done + 1)) → Case w a told u (OnSink turn i)
 
   turn_case : (w : SystemView S) (a : ℕ) (told : Stepped) (u : SystemView S) (said : Turn) (d : Duty) → d ≡ duty_of w a
       → is_idle (round_of w.desk.world a) ≡ true → told ≡ Turned said → TurnSteps tells files failures w a d said u
       → Case w a told u (turn_of w.roster d)
   turn_case w a told u said Free is idle same h = absurd h
-  turn_case w a told u said (Keeps m) is idle same h = kept m (sym is) (same ∙ ap Turned h.0) h.1
+  turn_case w a told u said (Keeps m) is idle same h = kept m idle (sym is) (same ∙ ap Turned h.0) h.1
   turn_case w a told u said (Dumps d) is idle same h = dumped d idle (sym is) (same ∙ ap Turned h.0) h.1
   turn_case w a told u said (Posts p ms) is idle same h = absurd h
   turn_case w a told u said Works is idle same h = absurd h
   turn_case w a told u said (Serves t i done) is idle same h =
       subst (λ (o : Option SinkTurn). Case w a told u (on_sink o i)) (sym h.next)
-      (served t i done h.turn h.outputs said (sym is) h.next h.makes same h.after)
+      (served t i done h.turn h.outputs said idle (sym is) h.next h.makes same h.after)
 
   step_case : (w : SystemView S) (a : ℕ) (told : Stepped) (u : SystemView S) (b : Bool) → is_idle (round_of w.desk.world a) ≡ b
       → MatchBool b (TurnTold tells files failures w a told u) (RoundSteps w a told u)

@@ -1,17 +1,17 @@
--- What the sinks of a system stand for after a run.
-use Rattle.std.proofs.Common.{◌≡◌, ℕ, zero, suc, ◌+◌, ◌==◌, Bool, true, false, cond, Option, Some, Result, Ok, Err, List, [], ◌∷◌, ◌++◌, set, refl, sym, ap, subst, ◌∙◌}
-use Rattle.std.proofs.Common.{append_assoc, append-nil, is_ok}
+-- What the sinks of a system stand for after a run, where a store may have failed.
+use Rattle.std.proofs.Common.{◌≡◌, ◌⊎◌, inl, inr, ℕ, zero, suc, ◌==◌, Bool, true, false, cond, Option, Some, Result, Ok, Err, List, [], ◌∷◌, ◌++◌, set, refl, sym, ap, subst, ◌∙◌}
+use Rattle.std.proofs.Common.{append_assoc, append-nil}
 use Rattle.std.specs.Prelude.{slice_get}
 use Rattle.std.specs.List.{AllByRecursion}
-use Rattle.std.proofs.lemmas.List.Elements.{All-nil, All-cons}
 use Rattle.alog_core.proofs.Cells.{on_test}
-use Rattle.alog_format.specs.Buffer.{Buffer}
-use Rattle.alog_lane.specs.Seats.{Entry}
-use Rattle.alog_lane.specs.Turns.{Turned as TurnedOn}
 use Rattle.alog_msg.specs.declared.item.Item.{Item}
 use Rattle.alog_msg.specs.declared.item.Item.TheVariants as item
 use Rattle.alog_msg.specs.declared.level.Level.{Level}
 use Rattle.alog_msg.specs.declared.message.Message.{Message}
+use Rattle.alog_core.specs.declared.said.Said.{Said}
+use Rattle.alog_core.specs.declared.said.Said.TheVariants as said
+use Rattle.alog_policy.specs.Desk.{desk_told}
+use Rattle.alog_policy.specs.declared.post.Stepped.{Stepped as DeskStepped}
 use Rattle.alog_registry.specs.declared.logger.Logger.{Logger}
 use Rattle.alog_registry.specs.declared.work.SinkDeed.{SinkDeed}
 use Rattle.alog_registry.specs.declared.work.SinkDeed.TheVariants as sink_deed
@@ -19,23 +19,29 @@ use Rattle.alog_registry.specs.declared.work.SinkTurn.{SinkTurn}
 use Rattle.alog_sink.specs.Files.{Files}
 use Rattle.alog_sink.specs.LaneRuns.{Stood, AllStand}
 use Rattle.alog_sink.specs.Lines.{admits, admitted}
-use Rattle.alog_sink.specs.Sinks.{SinkTakes, SinkFlushes, as_taken, as_flushed}
-use Rattle.alog_sink.specs.Turn.{Answer}
+use Rattle.alog_sink.specs.Sinks.{SinkTakes, SinkFlushes}
+use Rattle.alog_sink.specs.Turn.{Answer, LeafView, FanView, StandsFor, EachDoes, Takes, Flushes, first_fault}
 use Rattle.alog_sink.specs.declared.leaf.SinkError.{SinkError}
-use Rattle.alog_sink.specs.declared.leaf.Taken.{Taken}
+use Rattle.alog_sink.specs.declared.leaf.SinkError.TheVariants as errors
+use Rattle.alog_sink.specs.declared.leaf.Taken.TheVariants.{Below as WasBelow, Written}
 use Rattle.alog_sink.specs.declared.sink.Sink.{Sink}
 use Rattle.alog_sink.specs.declared.sink.Sink.TheVariants.{Leaf, Fan}
-use Rattle.alog_sink.specs.declared.turn.Served.{Served}
-use Rattle.alog_sink.proofs.LaneRuns.{fan_writes}
+use Rattle.alog_system.specs.Acts.{Did, OnSink, Made, Act, BeginsDeed, MakesStep, SetsLevel, steps_in, text_in, given_in, given_to}
+use Rattle.alog_system.specs.Begin.{begun}
+use Rattle.alog_system.specs.Faults.{IsFaultOn, AreFine, leaves, handed, MeetsNone, HasFront, StandsWhole, BrokeOff, EachStands, SinkStands, with_more, FineSinkStands}
 use Rattle.alog_system.specs.Outputs.{OutputsView, Turns, DoesTurn, told_of_text, told_of_flush}
-use Rattle.alog_system.specs.Runs.{Did, Made, Leads, starts, begins, steps, sets, made_by, did_by, text_in, given_in, given_to, IsFaultOn, leaves, handed, with_more, SinkStands}
-use Rattle.alog_system.specs.Roster.{emptied, policy_at}
-use Rattle.alog_system.specs.Step.{dumped_by}
-use Rattle.alog_system.specs.System.{SystemView, fresh_system, with_roster}
+use Rattle.alog_system.specs.Roster.{emptied, policy_at, with_level}
+use Rattle.alog_system.specs.Runs.{Leads, starts, begins, steps, sets, made_by, did_by}
+use Rattle.alog_system.specs.Step.{dumped_by, told_in_round, told_of_work}
+use Rattle.alog_system.specs.System.{SystemView, duty_of, fresh_system, with_roster}
+use Rattle.alog_system.specs.declared.duty.Duty.{Duty}
+use Rattle.alog_system.specs.declared.duty.Duty.TheVariants.{Free, Keeps, Dumps, Posts, Works, Serves}
 use Rattle.alog_system.specs.declared.stepped.Stepped.{Stepped}
 use Rattle.alog_system.specs.declared.stepped.Stepped.TheVariants as stepped
 use Rattle.alog_system.specs.declared.stepped.Turn.{Turn}
 use Rattle.alog_system.proofs.RunCases.{Case, queued, kept, dumped, served, case_of}
+use Rattle.alog_system.proofs.RunLeaves.{fine_more, fine_not, handed_none, HasFailed, IsFailed, failed_first, takes_has, flushes_has, each_stays, each_has}
+use Rattle.alog_system.proofs.RunLists.{if_other, steps_begun, steps_made, steps_set}
 use Rattle.alog_system.proofs.RunSame.{begun_outputs, after_round_same, posting_same}
 
 -- what is found in a list after one of its places was set
@@ -51,210 +57,277 @@ get_set_other (z ∷ xs) zero (suc k) y other = refl
 get_set_other (z ∷ xs) (suc j) zero y other = refl
 get_set_other (z ∷ xs) (suc j) (suc k) y other = get_set_other xs j k y (λ e. other (ap suc e))
 
--- what is so of each of a list is so of the last, and of those before
-pub all_before : {X : Type 0} (P : X → Type 0) (xs : List X) (x : X) → AllByRecursion P (xs ++ x ∷ []) → AllByRecursion P xs
-all_before P [] x h = tt
-all_before P (y ∷ xs) x h = (h.0, all_before P xs x h.1)
-
-pub all_last : {X : Type 0} (P : X → Type 0) (xs : List X) (x : X) → AllByRecursion P (xs ++ x ∷ []) → P x
-all_last P [] x h = h.0
-all_last P (y ∷ xs) x h = all_last P xs x h.1
-
-pub all_more : {X : Type 0} (P : X → Type 0) (xs : List X) (x : X) → AllByRecursion P xs → P x → AllByRecursion P (xs ++ x ∷ [])
-all_more P [] x h p = (p, tt)
-all_more P (y ∷ xs) x h p = (h.0, all_more P xs x h.1 p)
-
--- what was given, with one step more
-given_last : (k : ℕ) (m : Made) (ms : List Made) → given_to k (ms ++ m ∷ []) ≡ given_to k ms ++ given_in k m.did
-given_last k m [] = append-nil (given_in k m.did)
-given_last k m (n ∷ ms) =
-    ap (λ (h : List Message). given_in k n.did ++ h) (given_last k m ms) ∙ sym (append_assoc (given_in k n.did) (given_to k ms) (given_in k m.did))
-
-admitted_append : (level : Level) (xs ys : List Message) → admitted level (xs ++ ys) ≡ admitted level xs ++ admitted level ys
-admitted_append level [] ys = refl
-admitted_append level (m ∷ xs) ys = at (admits level m.level) (admitted_append level xs ys)
-  where
-    at : (b : Bool) → admitted level (xs ++ ys) ≡ admitted level xs ++ admitted level ys
-        → cond b (m ∷ admitted level (xs ++ ys)) (admitted level (xs ++ ys)) ≡ cond b (m ∷ admitted level xs) (admitted level xs) ++ admitted level ys
-    at true e = ap (λ (h : List Message). m ∷ h) e
-    at false e = e
-
-handed_append : {S : Type 0} (s : Sink S) (xs ys : List Message) → handed s (xs ++ ys) ≡ handed s xs ++ handed s ys
-handed_append (Leaf l) xs ys = refl
-handed_append (Fan f) xs ys = admitted_append f.level xs ys
-
-handed_none : {S : Type 0} (s : Sink S) → handed s [] ≡ []
-handed_none (Leaf l) = refl
-handed_none (Fan f) = refl
-
-more_twice : (xs ys : List Message) (stood : List Stood) → with_more ys (with_more xs stood) ≡ with_more (xs ++ ys) stood
-more_twice xs ys [] = refl
-more_twice xs ys (s ∷ stood) =
-    ap (λ (h : List Message). (s.0, h) ∷ with_more ys (with_more xs stood)) (append_assoc s.1 xs ys)
-    ∙ ap (λ (rest : List Stood). (s.0, s.1 ++ (xs ++ ys)) ∷ rest) (more_twice xs ys stood)
-
-more_none : (stood : List Stood) → with_more [] stood ≡ stood
-more_none [] = refl
-more_none (s ∷ stood) =
-    ap (λ (h : List Message). (s.0, h) ∷ with_more [] stood) (append-nil s.1) ∙ ap (λ (rest : List Stood). s ∷ rest) (more_none stood)
-
 some_same : {X : Type 0} (x y : X) (o : Option X) → o ≡ Some x → o ≡ Some y → x ≡ y
 some_same x y o e f = let both : Some x ≡ Some y = sym e ∙ f in cc
 
--- a buffer, where none is needed
-no_line : Buffer
-no_line = record { bytes = []; capacity = 0 }
+-- a sink stays of its kind, and a fan of its level
+abbrev IsAlike : {S : Type 0} → Sink S → Sink S → Type 0
+IsAlike (Leaf l) (Leaf o) = Unit {0}
+IsAlike (Fan f) (Fan g) = g.level ≡ f.level
+IsAlike _ _ = ⊥
 
--- a turn alone, as a history of a lane
-turn_on : Item → Result Served SinkError → Entry (TurnedOn Item Buffer (Result Served SinkError))
-turn_on i reply = record { seat = 0; deed = record { tag = 0; item = i; before = no_line; reply = reply; after = no_line } }
+is_alike : {S : Type 0} (s : Sink S) → IsAlike s s
+is_alike (Leaf l) = tt
+is_alike (Fan f) = refl
 
-module _ {S : Type 0} (tells : Bool) (files : S → Files) (failures : S → ℕ) where
-  -- A sink after a turn: what its leaves stand for, and what it hands on, which is what it did before.
-  record HasTurned (old new : Sink S) (more : List Message) (stood : List Stood) : Type 0 where
-    pub stands : AllStand files (leaves new) (with_more (handed old more) stood)
-    pub same : (ms : List Message) → handed new ms ≡ handed old ms
+module _ {S : Type 0} (tells : Bool) (files : S → Files) (failures : S → ℕ) (told : tells ≡ true) where
+  -- a sink after a text that it was given, and after a flush
+  text_has : (sink o n : Sink S) (k : ℕ) (made : List Made) (x : Made) (m : Message) (a : Answer) (stood : List Stood) → given_in k x.did ≡ m ∷ []
+      → (IsFailed a → IsFaultOn k x.told) → ((IsFailed a → ⊥) → IsFaultOn k x.told → ⊥) → SinkTakes tells files failures o m a n → IsAlike sink o
+      → EachStands files sink k made stood (leaves o) → IsAlike sink n × EachStands files sink k (made ++ x ∷ []) stood (leaves n)
+  text_has (Leaf l) (Leaf o) (Leaf n) k made x m a (s ∷ []) given fault fine takes alike all =
+      (tt, (takes_has tells files failures told (Leaf l) k made x s m o n a given fault (λ served h. fine_more k made x h (fine served)) takes all.0, tt))
+  text_has (Leaf l) (Leaf o) (Leaf n) k made x m a [] given fault fine takes alike all = absurd all
+  text_has (Leaf l) (Leaf o) (Leaf n) k made x m a (s ∷ r ∷ stood) given fault fine takes alike all = absurd all.1
+  text_has (Fan f) (Fan o) (Fan n) k made x m a stood given fault fine takes alike all = (takes.level ∙ alike, at (admits o.level m.level) refl)
+    where
+      level : Level → Bool
+      level l = admits l m.level
 
-  took : (o n : Sink S) (m : Message) (t : Taken) (stood : List Stood) → tells ≡ true → SinkTakes tells files failures o m (Ok t) n
-      → AllStand files (leaves o) stood → HasTurned o n (m ∷ []) stood
-  unfolding turn_on
-  took (Leaf o) (Leaf n) m t (s ∷ []) told takes all = record { stands = (takes.stands told s.0 s.1 all.0, tt); same = λ ms. refl }
-  took (Leaf o) (Leaf n) m t [] told takes all = absurd all
-  took (Leaf o) (Leaf n) m t (s ∷ r ∷ stood) told takes all = absurd all.1
-  took (Fan o) (Fan n) m t stood told takes all =
-      let h = turn_on (item.Text m) (as_taken (Ok t)) in
-      record {
-        stands = fan_writes tells files failures told o n (h ∷ []) stood (Fan n, (Ok t, takes, refl, refl, λ _. refl), refl)
-            (All-cons (λ x. is_ok x.deed.reply ≡ true) h [] refl (All-nil (λ x. is_ok x.deed.reply ≡ true))) all;
-        same = λ ms. ap (λ (l : Level). admitted l ms) takes.level;
-      }
-  took (Leaf o) (Fan n) m t stood told takes all = absurd takes
-  took (Fan o) (Leaf n) m t stood told takes all = absurd takes
+      given_is : (b : Bool) → admits o.level m.level ≡ b → handed (Fan f) (given_in k x.did) ≡ cond b (m ∷ []) []
+      given_is b e =
+          ap (λ (ms : List Message). admitted f.level ms) given
+          ∙ (ap (λ (l : Level). cond (admits l m.level) (m ∷ []) []) (sym alike) ∙ ap (λ v. cond v (m ∷ []) []) e)
 
-  was_flushed : (o n : Sink S) (stood : List Stood) → tells ≡ true → SinkFlushes tells files failures o (Ok tt) n
-      → AllStand files (leaves o) stood → HasTurned o n [] stood
-  unfolding turn_on
-  was_flushed (Leaf o) (Leaf n) (s ∷ []) told does all = record {
-    stands = subst (λ (ms : List Message). AllStand files (n ∷ []) ((s.0, ms) ∷ [])) (sym (append-nil s.1)) (does.stands told s.0 s.1 all.0, tt);
-    same = λ ms. refl;
-  }
-  was_flushed (Leaf o) (Leaf n) [] told does all = absurd all
-  was_flushed (Leaf o) (Leaf n) (s ∷ r ∷ stood) told does all = absurd all.1
-  was_flushed (Fan o) (Fan n) stood told does all =
-      let h = turn_on (item.Flush 0) (as_flushed (Ok tt)) in
-      record {
-        stands = fan_writes tells files failures told o n (h ∷ []) stood (Fan n, (Ok tt, does, refl, refl), refl)
-            (All-cons (λ x. is_ok x.deed.reply ≡ true) h [] refl (All-nil (λ x. is_ok x.deed.reply ≡ true))) all;
-        same = λ ms. ap (λ (l : Level). admitted l ms) does.level;
-      }
-  was_flushed (Leaf o) (Fan n) stood told does all = absurd does
-  was_flushed (Fan o) (Leaf n) stood told does all = absurd does
+      at : (b : Bool) → admits o.level m.level ≡ b → EachStands files (Fan f) k (made ++ x ∷ []) stood n.members
+      at true e =
+          let h = takes.given e in
+          each_has tells files failures told (Fan f) k made x (λ p c q. Takes tells files failures p m c q)
+          (λ s p q c failed does has. takes_has tells files failures told (Fan f) k made x s m p q c (given_is true e) failed (λ served none. tt) does has)
+          o.members h.0 n.members stood h.1 (λ failed. fault (subst IsFailed (sym h.2) (failed_first Written h.0 failed))) all
+      at false e =
+          subst (λ (g : FanView S). EachStands files (Fan f) k (made ++ x ∷ []) stood g.members) (sym (takes.below e).1)
+          (each_stays tells files failures told (Fan f) k made x stood o.members (given_is false e) (λ none. tt) all)
+  text_has (Leaf l) (Leaf o) (Fan n) k made x m a stood given fault fine takes alike all = absurd takes
+  text_has (Leaf l) (Fan o) n k made x m a stood given fault fine takes alike all = absurd alike
+  text_has (Fan f) (Fan o) (Leaf n) k made x m a stood given fault fine takes alike all = absurd takes
+  text_has (Fan f) (Leaf o) n k made x m a stood given fault fine takes alike all = absurd alike
 
-  text_turned : (t : SinkTurn) (m : Message) (o n : Sink S) (said : Turn) (stood : List Stood) (answer : Answer) → tells ≡ true
-      → (IsFaultOn t.sink (stepped.Turned said) → ⊥) → SinkTakes tells files failures o m answer n → said ≡ told_of_text t answer
-      → AllStand files (leaves o) stood → HasTurned o n (m ∷ []) stood
-  text_turned t m o n said stood (Ok taken) told fine takes same all = took o n m taken stood told takes all
-  text_turned t m o n said stood (Err e) told fine takes same all =
-      absurd (fine (subst (λ (x : Turn). IsFaultOn t.sink (stepped.Turned x)) (sym same) refl))
+  flush_has : (sink o n : Sink S) (k : ℕ) (made : List Made) (x : Made) (a : Result Unit SinkError) (stood : List Stood) → given_in k x.did ≡ []
+      → (IsFailed a → IsFaultOn k x.told) → ((IsFailed a → ⊥) → IsFaultOn k x.told → ⊥) → SinkFlushes tells files failures o a n → IsAlike sink o
+      → EachStands files sink k made stood (leaves o) → IsAlike sink n × EachStands files sink k (made ++ x ∷ []) stood (leaves n)
+  flush_has (Leaf l) (Leaf o) (Leaf n) k made x a (s ∷ []) given fault fine does alike all =
+      (tt, (flushes_has tells files failures told (Leaf l) k made x s o n a given fault (λ served h. fine_more k made x h (fine served)) does all.0, tt))
+  flush_has (Leaf l) (Leaf o) (Leaf n) k made x a [] given fault fine does alike all = absurd all
+  flush_has (Leaf l) (Leaf o) (Leaf n) k made x a (s ∷ r ∷ stood) given fault fine does alike all = absurd all.1
+  flush_has (Fan f) (Fan o) (Fan n) k made x a stood given fault fine does alike all =
+      let none : handed (Fan f) (given_in k x.did) ≡ [] = ap (λ (ms : List Message). admitted f.level ms) given in
+      (does.level ∙ alike,
+      each_has tells files failures told (Fan f) k made x (Flushes tells files failures)
+      (λ s p q c failed flushes has. flushes_has tells files failures told (Fan f) k made x s p q c none failed (λ served h. tt) flushes has)
+      o.members does.answers n.members stood does.given (λ failed. fault (subst IsFailed (sym does.first) (failed_first tt does.answers failed))) all)
+  flush_has (Leaf l) (Leaf o) (Fan n) k made x a stood given fault fine does alike all = absurd does
+  flush_has (Leaf l) (Fan o) n k made x a stood given fault fine does alike all = absurd alike
+  flush_has (Fan f) (Fan o) (Leaf n) k made x a stood given fault fine does alike all = absurd does
+  flush_has (Fan f) (Leaf o) n k made x a stood given fault fine does alike all = absurd alike
 
-  flush_turned : (t : SinkTurn) (o n : Sink S) (said : Turn) (stood : List Stood) (answer : Result Unit SinkError) → tells ≡ true
-      → (IsFaultOn t.sink (stepped.Turned said) → ⊥) → SinkFlushes tells files failures o answer n → said ≡ told_of_flush t answer
-      → AllStand files (leaves o) stood → HasTurned o n [] stood
-  flush_turned t o n said stood (Ok u) told fine does same all = was_flushed o n stood told does all
-  flush_turned t o n said stood (Err e) told fine does same all =
-      absurd (fine (subst (λ (x : Turn). IsFaultOn t.sink (stepped.Turned x)) (sym same) refl))
+  -- a fault of a turn is told as one, and nothing else is
+  text_fault : (t : SinkTurn) (a : Answer) → (IsFailed a → IsFaultOn t.sink (stepped.Turned (told_of_text t a)))
+      × ((IsFailed a → ⊥) → IsFaultOn t.sink (stepped.Turned (told_of_text t a)) → ⊥)
+  text_fault t (Ok Written) = (λ f. absurd f, λ served f. f)
+  text_fault t (Ok WasBelow) = (λ f. absurd f, λ served f. f)
+  text_fault t (Err e) = (λ f. refl, λ served f. served tt)
 
-  turned : (t : SinkTurn) (d : SinkDeed) (i : Item) (o n : Sink S) (said : Turn) (stood : List Stood) → tells ≡ true
-      → (IsFaultOn t.sink (stepped.Turned said) → ⊥) → DoesTurn tells files failures t d i o said n
-      → AllStand files (leaves o) stood → HasTurned o n (text_in d i) stood
-  turned t sink_deed.Take (item.Text m) o n said stood told fine does all = text_turned t m o n said stood does.0 told fine does.1 does.2 all
-  turned t sink_deed.Take (item.Flush k) o n said stood told fine does all = flush_turned t o n said stood does.0 told fine does.1 does.2 all
-  turned t sink_deed.Take item.Stop o n said stood told fine does all = flush_turned t o n said stood does.0 told fine does.1 does.2 all
-  turned t sink_deed.Flush i o n said stood told fine does all = flush_turned t o n said stood does.0 told fine does.1 does.2 all
+  flush_fault : (t : SinkTurn) (a : Result Unit SinkError) → (IsFailed a → IsFaultOn t.sink (stepped.Turned (told_of_flush t a)))
+      × ((IsFailed a → ⊥) → IsFaultOn t.sink (stepped.Turned (told_of_flush t a)) → ⊥)
+  flush_fault t (Ok u) = (λ f. absurd f, λ served f. f)
+  flush_fault t (Err e) = (λ f. refl, λ served f. served tt)
 
-  -- What is known of the sink of this number, which was this at first and was given these messages.
-  record Stays (k : ℕ) (given : List Message) (now : List (Sink S)) (old : Sink S) (stood : List Stood) : Type 0 where
+  abbrev turn_made : ℕ → SinkTurn → Item → Turn → Made
+  turn_made a t i said = record { actor = a; did = OnSink t i; told = stepped.Turned said }
+
+  -- a turn on the sink
+  module _ (sink o n : Sink S) (made : List Made) (a : ℕ) (t : SinkTurn) (i : Item) (said : Turn) (stood : List Stood) (alike : IsAlike sink o)
+      (all : EachStands files sink t.sink made stood (leaves o)) where
+    abbrev Turned : Type 0
+    Turned = IsAlike sink n × EachStands files sink t.sink (made ++ turn_made a t i said ∷ []) stood (leaves n)
+
+    text_turned : (m : Message) (answer : Answer) → given_in t.sink (OnSink t i) ≡ m ∷ [] → SinkTakes tells files failures o m answer n
+        → said ≡ told_of_text t answer → Turned
+    text_turned m answer given takes same =
+        let h = text_fault t answer in
+        text_has sink o n t.sink made (turn_made a t i said) m answer stood given
+        (λ failed. subst (λ (y : Turn). IsFaultOn t.sink (stepped.Turned y)) (sym same) (h.0 failed))
+        (λ served fault. h.1 served (subst (λ (y : Turn). IsFaultOn t.sink (stepped.Turned y)) same fault)) takes alike all
+
+    flush_turned : (answer : Result Unit SinkError) → given_in t.sink (OnSink t i) ≡ [] → SinkFlushes tells files failures o answer n
+        → said ≡ told_of_flush t answer → Turned
+    flush_turned answer given does same =
+        let h = flush_fault t answer in
+        flush_has sink o n t.sink made (turn_made a t i said) answer stood given
+        (λ failed. subst (λ (y : Turn). IsFaultOn t.sink (stepped.Turned y)) (sym same) (h.0 failed))
+        (λ served fault. h.1 served (subst (λ (y : Turn). IsFaultOn t.sink (stepped.Turned y)) same fault)) does alike all
+
+  -- by what the turn does with the item
+  turned : (sink o n : Sink S) (made : List Made) (a : ℕ) (t : SinkTurn) (d : SinkDeed) (i : Item) (said : Turn) (stood : List Stood) → IsAlike sink o
+      → EachStands files sink t.sink made stood (leaves o) → given_in t.sink (OnSink t i) ≡ text_in d i → DoesTurn tells files failures t d i o said n
+      → IsAlike sink n × EachStands files sink t.sink (made ++ turn_made a t i said ∷ []) stood (leaves n)
+  turned sink o n made a t sink_deed.Take (item.Text m) said stood alike all given does =
+      text_turned sink o n made a t (item.Text m) said stood alike all m does.0 given does.1 does.2
+  turned sink o n made a t sink_deed.Take (item.Flush j) said stood alike all given does =
+      flush_turned sink o n made a t (item.Flush j) said stood alike all does.0 given does.1 does.2
+  turned sink o n made a t sink_deed.Take item.Stop said stood alike all given does =
+      flush_turned sink o n made a t item.Stop said stood alike all does.0 given does.1 does.2
+  turned sink o n made a t sink_deed.Flush i said stood alike all given does =
+      flush_turned sink o n made a t i said stood alike all does.0 given does.1 does.2
+
+  -- What is known of the sink of this number, which was this at first.
+  record Stays (k : ℕ) (made : List Made) (now : List (Sink S)) (old : Sink S) (stood : List Stood) : Type 0 where
     pub new : Sink S
     pub there : slice_get now k ≡ Some new
-    pub same : (ms : List Message) → handed new ms ≡ handed old ms
-    pub stands : AllStand files (leaves new) (with_more (handed old given) stood)
+    pub alike : IsAlike old new
+    pub each : EachStands files old k made stood (leaves new)
 
-  given_more : (k : ℕ) (given : List Message) (now : List (Sink S)) (old : Sink S) (stood : List Stood) (t : SinkTurn) (i : Item) (said : Turn)
-      (next : OutputsView S) (outputs : OutputsView S) → tells ≡ true → (IsFaultOn k (stepped.Turned said) → ⊥)
-      → Turns tells files failures outputs t i said next → now ≡ outputs.sinks → t.sink ≡ k → Stays k given now old stood
-      → Stays k (given ++ text_in t.deed i) next.sinks old stood
-  given_more k given now old stood t i said next outputs told fine turn is mine h =
-      let more = text_in t.deed i in
-      let before : slice_get outputs.sinks k ≡ Some turn.before = ap (slice_get outputs.sinks) (sym mine) ∙ turn.there in
-      let found : turn.before ≡ h.new = some_same turn.before h.new (slice_get outputs.sinks k) before (ap (λ (l : List (Sink S)). slice_get l k) (sym is) ∙ h.there) in
-      let stands = subst (λ (s : Sink S). AllStand files (leaves s) (with_more (handed old given) stood)) (sym found) h.stands in
-      let done = turned t t.deed i turn.before turn.after said (with_more (handed old given) stood) told
-      (λ f. fine (subst (λ n. IsFaultOn n (stepped.Turned said)) mine f)) turn.turn stands in
-      let same : (ms : List Message) → handed turn.before ms ≡ handed old ms = λ ms. ap (λ (s : Sink S). handed s ms) found ∙ h.same ms in
-      record {
-        new = turn.after;
-        there = ap (λ (o : OutputsView S). slice_get o.sinks k) turn.others
-            ∙ (ap (λ n. slice_get (set outputs.sinks n turn.after) k) mine ∙ get_set_same outputs.sinks k turn.before turn.after before);
-        same = λ ms. done.same ms ∙ same ms;
-        stands = subst (λ (l : List Stood). AllStand files (leaves turn.after) l)
-            (ap (λ (ms : List Message). with_more ms (with_more (handed old given) stood)) (same more)
-            ∙ (more_twice (handed old given) (handed old more) stood
-            ∙ ap (λ (ms : List Message). with_more ms stood) (sym (handed_append old given more)))) done.stands;
-      }
+  -- a step that is no turn on it
+  fine_sink : (s : Sink S) (k : ℕ) (made : List Made) (x : Made) → (IsFaultOn k x.told → ⊥) → MeetsNone s k made → MeetsNone s k (made ++ x ∷ [])
+  fine_sink (Leaf l) k made x fine h = fine_more k made x h fine
+  fine_sink (Fan f) k made x fine h = tt
 
-  given_same : (k : ℕ) (given : List Message) (now after : List (Sink S)) (old : Sink S) (stood : List Stood)
-      → slice_get after k ≡ slice_get now k → Stays k given now old stood → Stays k (given ++ []) after old stood
-  given_same k given now after old stood same h = record {
+  stays_else : (k : ℕ) (made : List Made) (x : Made) (now after : List (Sink S)) (old : Sink S) (stood : List Stood)
+      → slice_get after k ≡ slice_get now k → given_in k x.did ≡ [] → (IsFaultOn k x.told → ⊥) → Stays k made now old stood
+      → Stays k (made ++ x ∷ []) after old stood
+  stays_else k made x now after old stood same given fine h = record {
     new = h.new;
     there = same ∙ h.there;
-    same = h.same;
-    stands = subst (λ (ms : List Message). AllStand files (leaves h.new) (with_more (handed old ms) stood)) (sym (append-nil given)) h.stands;
+    alike = h.alike;
+    each = each_stays tells files failures told old k made x stood (leaves h.new)
+        (ap (λ (ms : List Message). handed old ms) given ∙ handed_none old) (fine_sink old k made x fine) h.each;
   }
 
-  stays_case : (k : ℕ) (given : List Message) (w u : SystemView S) (a : ℕ) (told : Stepped) (did : Did) (old : Sink S) (stood : List Stood)
-      → tells ≡ true → (IsFaultOn k told → ⊥) → Case tells files failures w a told u did → Stays k given w.outputs.sinks old stood
-      → Stays k (given ++ given_in k did) u.outputs.sinks old stood
-  stays_case k given w u a told did old stood tell fine (queued busy same after) h =
-      given_same k given w.outputs.sinks u.outputs.sinks old stood
-      (ap (λ (v : SystemView S). slice_get v.outputs.sinks k) after ∙ ap (λ (o : OutputsView S). slice_get o.sinks k) (after_round_same w a).outputs) h
-  stays_case k given w u a told did old stood tell fine (kept m was same after) h =
-      given_same k given w.outputs.sinks u.outputs.sinks old stood (ap (λ (v : SystemView S). slice_get v.outputs.sinks k) after) h
-  stays_case k given w u a told did old stood tell fine (dumped d idle was same after) h =
-      given_same k given w.outputs.sinks u.outputs.sinks old stood
+  -- a turn on it
+  stays_turned : (made : List Made) (a : ℕ) (t : SinkTurn) (i : Item) (said : Turn) (w next : OutputsView S) (old : Sink S) (stood : List Stood)
+      → Turns tells files failures w t i said next → Stays t.sink made w.sinks old stood → Stays t.sink (made ++ turn_made a t i said ∷ []) next.sinks old stood
+  stays_turned made a t i said w next old stood turn h =
+      let found : turn.before ≡ h.new = some_same turn.before h.new (slice_get w.sinks t.sink) turn.there h.there in
+      let given : given_in t.sink (OnSink t i) ≡ text_in t.deed i =
+      on_test (λ b. cond b (text_in t.deed i) [] ≡ text_in t.deed i) t.sink t.sink (λ _. refl) (λ other. absurd (other refl)) in
+      let done = turned old turn.before turn.after made a t t.deed i said stood (subst (λ (s : Sink S). IsAlike old s) (sym found) h.alike)
+      (subst (λ (s : Sink S). EachStands files old t.sink made stood (leaves s)) (sym found) h.each) given turn.turn in
+      record {
+        new = turn.after;
+        there = ap (λ (o : OutputsView S). slice_get o.sinks t.sink) turn.others ∙ get_set_same w.sinks t.sink turn.before turn.after turn.there;
+        alike = done.0;
+        each = done.1;
+      }
+
+  -- a turn on another sink is no fault of this one
+  text_other : (t : SinkTurn) (a : Answer) (k : ℕ) → (t.sink ≡ k → ⊥) → IsFaultOn k (stepped.Turned (told_of_text t a)) → ⊥
+  text_other t (Ok Written) k other f = f
+  text_other t (Ok WasBelow) k other f = f
+  text_other t (Err e) k other f = other f
+
+  flush_other : (t : SinkTurn) (a : Result Unit SinkError) (k : ℕ) → (t.sink ≡ k → ⊥) → IsFaultOn k (stepped.Turned (told_of_flush t a)) → ⊥
+  flush_other t (Ok u) k other f = f
+  flush_other t (Err e) k other f = other f
+
+  other_fault : (t : SinkTurn) (d : SinkDeed) (i : Item) (o n : Sink S) (said : Turn) (k : ℕ) → DoesTurn tells files failures t d i o said n
+      → (t.sink ≡ k → ⊥) → IsFaultOn k (stepped.Turned said) → ⊥
+  other_fault t sink_deed.Take (item.Text m) o n said k does other fault =
+      text_other t does.0 k other (subst (λ (y : Turn). IsFaultOn k (stepped.Turned y)) does.2 fault)
+  other_fault t sink_deed.Take (item.Flush j) o n said k does other fault =
+      flush_other t does.0 k other (subst (λ (y : Turn). IsFaultOn k (stepped.Turned y)) does.2 fault)
+  other_fault t sink_deed.Take item.Stop o n said k does other fault =
+      flush_other t does.0 k other (subst (λ (y : Turn). IsFaultOn k (stepped.Turned y)) does.2 fault)
+  other_fault t sink_deed.Flush i o n said k does other fault =
+      flush_other t does.0 k other (subst (λ (y : Turn). IsFaultOn k (stepped.Turned y)) does.2 fault)
+
+  -- nor is a step of the queue
+  work_fine : (k : ℕ) (s : DeskStepped Item) (x : Said Item) → IsFaultOn k (told_of_work s x) → ⊥
+  work_fine k s said.Nothing f = f
+  work_fine k s (said.Claim t) f = f
+  work_fine k s (said.Write t) f = f
+  work_fine k s (said.Full t y) f = f
+  work_fine k s (said.Grab t) f = f
+  work_fine k s (said.Take t i) f = f
+  work_fine k s (said.Empty t) f = f
+  work_fine k s (said.Busy t y) f = f
+  work_fine k s (said.Spent y) f = f
+
+  round_fine : (k : ℕ) (d : Duty) (s : DeskStepped Item) → IsFaultOn k (told_in_round d s) → ⊥
+  round_fine k Free s f = f
+  round_fine k (Keeps m) s f = f
+  round_fine k (Dumps d) s f = f
+  round_fine k (Posts p ms) s f = f
+  round_fine k Works s f = work_fine k s s.said f
+  round_fine k (Serves t i done) s f = f
+
+  stays_case : (k : ℕ) (made : List Made) (w u : SystemView S) (a : ℕ) (x : Stepped) (did : Did) (old : Sink S) (stood : List Stood)
+      → Case tells files failures w a x u did → Stays k made w.outputs.sinks old stood
+      → Stays k (made ++ record { actor = a; did = did; told = x } ∷ []) u.outputs.sinks old stood
+  stays_case k made w u a x did old stood (queued busy same after) h =
+      stays_else k made (record { actor = a; did = did; told = x }) w.outputs.sinks u.outputs.sinks old stood
+      (ap (λ (v : SystemView S). slice_get v.outputs.sinks k) after ∙ ap (λ (o : OutputsView S). slice_get o.sinks k) (after_round_same w a).outputs) refl
+      (λ f. round_fine k (duty_of w a) (desk_told w.desk a) (subst (λ (y : Stepped). IsFaultOn k y) same f)) h
+  stays_case k made w u a x did old stood (kept m idle was same after) h =
+      stays_else k made (record { actor = a; did = did; told = x }) w.outputs.sinks u.outputs.sinks old stood
+      (ap (λ (v : SystemView S). slice_get v.outputs.sinks k) after) refl (λ f. subst (λ (y : Stepped). IsFaultOn k y) same f) h
+  stays_case k made w u a x did old stood (dumped d idle was same after) h =
+      stays_else k made (record { actor = a; did = did; told = x }) w.outputs.sinks u.outputs.sinks old stood
       (ap (λ (v : SystemView S). slice_get v.outputs.sinks k) after
       ∙ ap (λ (o : OutputsView S). slice_get o.sinks k)
-      (posting_same (with_roster w (emptied w.roster d.logger)) a (policy_at w.roster d.logger) (dumped_by w d)).outputs) h
-  stays_case k given w u a told did old stood tell fine (served t i done turn outputs said was next makes same after) h =
-      subst (λ (v : SystemView S). Stays k (given ++ cond (turn.sink == k) (text_in turn.deed i) []) v.outputs.sinks old stood) (sym after)
-      (on_test (λ b. Stays k (given ++ cond b (text_in turn.deed i) []) outputs.sinks old stood) turn.sink k
-      (λ mine. given_more k given w.outputs.sinks old stood turn i said outputs w.outputs tell
-      (λ f. fine (subst (λ (x : Stepped). IsFaultOn k x) (sym same) f)) makes refl mine h)
-      (λ other. given_same k given w.outputs.sinks outputs.sinks old stood
-      (ap (λ (o : OutputsView S). slice_get o.sinks k) makes.others ∙ get_set_other w.outputs.sinks turn.sink k makes.after other) h))
+      (posting_same (with_roster w (emptied w.roster d.logger)) a (policy_at w.roster d.logger) (dumped_by w d)).outputs) refl
+      (λ f. subst (λ (y : Stepped). IsFaultOn k y) same f) h
+  stays_case k made w u a x did old stood (served t i done turn outputs said idle was next makes same after) h =
+      subst (λ (v : SystemView S). Stays k (made ++ record { actor = a; did = did; told = x } ∷ []) v.outputs.sinks old stood) (sym after)
+      (subst (λ (y : Stepped). Stays k (made ++ record { actor = a; did = OnSink turn i; told = y } ∷ []) outputs.sinks old stood) (sym same)
+      (on_test (λ _. Stays k (made ++ turn_made a turn i said ∷ []) outputs.sinks old stood) turn.sink k
+      (λ mine.
+      subst (λ j. Stays j (made ++ turn_made a turn i said ∷ []) outputs.sinks old stood) mine
+      (stays_turned made a turn i said w.outputs outputs old stood makes (subst (λ j. Stays j made w.outputs.sinks old stood) (sym mine) h)))
+      (λ other.
+      stays_else k made (turn_made a turn i said) w.outputs.sinks outputs.sinks old stood
+      (ap (λ (o : OutputsView S). slice_get o.sinks k) makes.others ∙ get_set_other w.outputs.sinks turn.sink k makes.after other)
+      (if_other turn.sink k (text_in turn.deed i) (λ e. other (sym e)))
+      (other_fault turn turn.deed i makes.before makes.after said k makes.turn other) h)))
 
-  module _ (n limit : ℕ) (loggers : List Logger) (first : List (Sink S)) (told : tells ≡ true) (k : ℕ) (old : Sink S) (stood : List Stood)
+  each_start : (k : ℕ) (old : Sink S) (stood : List Stood) (ls : List (LeafView S)) → AllStand files ls stood → EachStands files old k [] stood ls
+  each_start k old [] [] all = tt
+  each_start k old (s ∷ stood) (l ∷ ls) all =
+      (inl (record {
+        stands = subst (λ (ms : List Message). StandsFor files l s.0 ms) (sym (ap (λ (ms : List Message). s.1 ++ ms) (handed_none old) ∙ append-nil s.1)) all.0;
+        fine = none_yet old;
+      }), each_start k old stood ls all.1)
+    where
+      none_yet : (t : Sink S) → MeetsNone t k []
+      none_yet (Leaf o) = tt
+      none_yet (Fan o) = tt
+  each_start k old [] (l ∷ ls) all = absurd all
+  each_start k old (s ∷ stood) [] all = absurd all
+
+  module _ (n limit : ℕ) (loggers : List Logger) (first : List (Sink S)) (k : ℕ) (old : Sink S) (stood : List Stood)
       (there : slice_get first k ≡ Some old) (all : AllStand files (leaves old) stood) where
-    stays : (made : List Made) (v : SystemView S) → Leads tells files failures (fresh_system n limit loggers first) made v
-        → AllByRecursion (λ (m : Made). IsFaultOn k m.told → ⊥) made → Stays k (given_to k made) v.outputs.sinks old stood
-    stays made v starts fine = record {
-      new = old;
-      there = there;
-      same = λ ms. refl;
-      stands = subst (λ (l : List Stood). AllStand files (leaves old) l)
-          (sym (ap (λ (ms : List Message). with_more ms stood) (handed_none old) ∙ more_none stood)) all;
-    }
-    stays made v (begins {made = ms} {w = w} a d leads may) fine =
-        subst (λ (o : OutputsView S). Stays k (given_to k ms) o.sinks old stood) (sym (begun_outputs w a d)) (stays ms w leads fine)
-    stays made v (steps {made = ms} {w = w} {u = u} a said leads lt h) fine =
-        let last = made_by w a said in
-        let IsFine : Made → Type 0 = λ m. IsFaultOn k m.told → ⊥ in
-        subst (λ (given : List Message). Stays k given u.outputs.sinks old stood) (sym (given_last k last ms))
-        (stays_case k (given_to k ms) w u a said (did_by w a) old stood told (all_last IsFine ms last fine) (case_of tells files failures w a said u h)
-        (stays ms w leads (all_before IsFine ms last fine)))
-    stays made v (sets {made = ms} {w = w} j level leads) fine = stays ms w leads fine
+    stays : (run : List Act) (v : SystemView S) → Leads tells files failures (fresh_system n limit loggers first) run v
+        → Stays k (steps_in run) v.outputs.sinks old stood
+    stays run v starts = record { new = old; there = there; alike = is_alike old; each = each_start k old stood (leaves old) all }
+    stays run v (begins {run = xs} {w = w} a d leads may) =
+        subst (λ (made : List Made). Stays k made (begun w a d).outputs.sinks old stood) (sym (steps_begun xs a d))
+        (subst (λ (o : OutputsView S). Stays k (steps_in xs) o.sinks old stood) (sym (begun_outputs w a d)) (stays xs w leads))
+    stays run v (steps {run = xs} {w = w} {u = u} a x leads lt h) =
+        subst (λ (made : List Made). Stays k made u.outputs.sinks old stood) (sym (steps_made xs (made_by w a x)))
+        (stays_case k (steps_in xs) w u a x (did_by w a) old stood (case_of tells files failures w a x u h) (stays xs w leads))
+    stays run v (sets {run = xs} {w = w} j level leads) =
+        subst (λ (made : List Made). Stays k made w.outputs.sinks old stood) (sym (steps_set xs j level)) (stays xs w leads)
 
-  pub sinks_stand : (n limit : ℕ) (loggers : List Logger) (first : List (Sink S)) (made : List Made) (v : SystemView S)
-      → Leads tells files failures (fresh_system n limit loggers first) made v → tells ≡ true → SinkStands files made first v.outputs.sinks
-  sinks_stand n limit loggers first made v leads told k old stood there all fine =
-      let h = stays n limit loggers first told k old stood there all made v leads fine in
-      (h.new, h.there, h.stands)
+  -- each leaf of each sink stands for what it was given, or broke off
+  pub sinks_stand : (n limit : ℕ) (loggers : List Logger) (first : List (Sink S)) (run : List Act) (v : SystemView S)
+      → Leads tells files failures (fresh_system n limit loggers first) run v → SinkStands files (steps_in run) first v.outputs.sinks
+  sinks_stand n limit loggers first run v leads k old stood there all =
+      let h = stays n limit loggers first k old stood there all run v leads in
+      (h.new, h.there, h.each)
+
+  -- where no fault was told, none broke off
+  each_fine : (k : ℕ) (old : Sink S) (made : List Made) (stood : List Stood) (ls : List (LeafView S)) → AreFine k made → EachStands files old k made stood ls
+      → AllStand files ls (with_more (handed old (given_to k made)) stood)
+  each_fine k old made [] [] fine each = tt
+  each_fine k old made (s ∷ stood) (l ∷ ls) fine each =
+      (elim (each.0) [
+        | inl h ↦ h.stands
+        | inr b ↦ absurd (fine_not k b.before b.turn b.later b.told (subst (λ (ms : List Made). AreFine k ms) b.cut fine))
+      ], each_fine k old made stood ls fine each.1)
+  each_fine k old made [] (l ∷ ls) fine each = absurd each
+  each_fine k old made (s ∷ stood) [] fine each = absurd each
+
+  pub fine_sinks_stand : (made : List Made) (first now : List (Sink S)) → SinkStands files made first now → FineSinkStands files made first now
+  fine_sinks_stand made first now stands k old stood there all fine =
+      let h = stands k old stood there all in
+      (h.0, h.1, each_fine k old made stood (leaves h.0) fine h.2)

@@ -9,36 +9,50 @@ use Rattle.alog_core.proofs.Items.{tickets_keep_their_items}
 use Rattle.alog_core.proofs.Sizes.{size_facts}
 use Rattle.alog_core.proofs.Tickets.{no_ticket_is_handed_out_twice, tickets_are_handed_out_or_listed}
 use Rattle.alog_msg.specs.declared.item.Item.{Item}
-use Rattle.alog_policy.specs.Runs.{entries_made}
+use Rattle.alog_msg.specs.declared.message.Message.{Message}
+use Rattle.alog_policy.specs.Runs.{Call, entries_made}
 use Rattle.alog_policy.proofs.Running.{runs_are_cut}
+use Rattle.alog_registry.specs.Listed.{spec_at}
+use Rattle.alog_registry.specs.declared.logger.Logger.{Logger}
 use Rattle.alog_sink.specs.Files.{Files}
-use Rattle.alog_system.specs.Runs.{SystemRuns, queue_steps}
+use Rattle.alog_system.specs.Acts.{Did, steps_in, queue_steps}
+use Rattle.alog_system.specs.Runs.{SystemRuns}
+use Rattle.alog_system.specs.System.{is_free, owes, duty_of}
 use Rattle.alog_system.proofs.RunAnswers.{answers_tell}
-use Rattle.alog_system.proofs.RunKept.{keeps_since}
-use Rattle.alog_system.proofs.RunQueue.{played}
-use Rattle.alog_system.proofs.RunSinks.{sinks_stand}
-use Rattle.alog_system.proofs.RunWorks.{has_worked}
+use Rattle.alog_system.proofs.RunGoes.{calls_left, turns_left}
+use Rattle.alog_system.proofs.RunKept.{is_kept, kept_messages}
+use Rattle.alog_system.proofs.RunKnown.{known, idle_calls, free_left}
+use Rattle.alog_system.proofs.RunSinks.{sinks_stand, fine_sinks_stand}
 
 pub system_runs : {S : Type 0} (tells : Bool) (files : S → Files) (failures : S → ℕ) → SystemRuns tells files failures
 system_runs {S} tells files failures places limit loggers first made v size leads =
-    let desk = played places tells files failures limit loggers first made v leads in
-    let run = runs_are_cut Item places 0 desk.calls (queue_steps made) v.desk size (omega arith) desk.plays in
-    let h : List (Entry Item (Unit {0})) = entries_made (queue_steps made) in
+    let h = known places size loggers tells files failures limit first made v leads in
+    let kept_so = is_kept tells files failures places limit loggers first made v leads in
+    let ss = queue_steps (steps_in made) in
+    let run = runs_are_cut Item places 0 h.calls ss v.desk size (omega arith) h.plays in
+    let es : List (Entry Item (Unit {0})) = entries_made ss in
     let legal = run.history.legal in
     let left = run.history.queue in
     let facts = size_facts places size in
-    let kept = tickets_are_handed_out_or_listed Item (Unit {0}) places 0 h in
+    let there = tickets_are_handed_out_or_listed Item (Unit {0}) places 0 es in
     record {
-      calls = desk.calls;
+      calls = h.calls;
       queue = run;
-      answers = answers_tell tells files failures places limit loggers first made v leads;
+      asked = λ a lt.
+          record { left = calls_left (duty_of v a); began = h.asked a lt; none = idle_calls places size loggers made v h a lt };
+      turns = λ a lt. record { left = turns_left loggers (duty_of v a); made = h.turns a lt; none = free_left loggers made v kept_so a };
+      steps = answers_tell tells files failures places limit size loggers first made v leads;
       few = subst (λ (q : Queue Item). length q.cells ≤ places) left
-          (reached_states_are_sound Item (Unit {0}) places 0 h (omega (arith, facts.1)) legal).1;
-      once = no_ticket_is_handed_out_twice Item (Unit {0}) places 0 h legal;
+          (reached_states_are_sound Item (Unit {0}) places 0 es (omega (arith, facts.1)) legal).1;
+      once = no_ticket_is_handed_out_twice Item (Unit {0}) places 0 es legal;
       all = λ t.
-          subst (λ (q : Queue Item). Contains (issued h) t ↔ (Contains (handed_out h) t ⊎ IsListed t q.cells)) left (kept t legal).0;
-      same = λ t i there. (tickets_keep_their_items Item (Unit {0}) places 0 h t i legal (inl there)).0;
-      works = has_worked tells files failures loggers places limit first made v leads;
-      kept = keeps_since tells files failures places limit loggers first made v leads;
-      sinks = sinks_stand tells files failures places limit loggers first made v leads;
+          subst (λ (q : Queue Item). Contains (issued es) t ↔ (Contains (handed_out es) t ⊎ IsListed t q.cells)) left (there t legal).0;
+      apart = λ t. subst (λ (q : Queue Item). Contains (handed_out es) t → ¬ IsListed t q.cells) left (there t legal).1;
+      same = λ t i taken. (tickets_keep_their_items Item (Unit {0}) places 0 es t i legal (inl taken)).0;
+      levels = kept_so.levels;
+      kept = kept_messages loggers made v kept_so;
+      sinks = λ told. sinks_stand tells files failures told places limit loggers first made v leads;
+      fine = λ told.
+          fine_sinks_stand tells files failures told (steps_in made) first v.outputs.sinks
+          (sinks_stand tells files failures told places limit loggers first made v leads);
     }

@@ -1,12 +1,13 @@
 -- What is begun by a deed.
-use Rattle.std.specs.Prelude.{◌≡◌, ℕ, ℤ, ◌==◌, ◌<◌, nat_lt, ◌&&◌, Bool, true, false, if◌then◌else◌, Option, Some, None, List, length}
+use Rattle.std.specs.Prelude.{◌≡◌, ℕ, ◌==◌, ◌<◌, ◌&&◌, Bool, true, false, if◌then◌else◌, Option, Some, None, List, length}
 use Rattle.alog_core.specs.declared.TheConstants.{ACTORS}
 use Rattle.alog_core.specs.declared.round.Round.TheVariants as round
-use Rattle.alog_msg.specs.Level.{row_of}
 use Rattle.alog_msg.specs.declared.item.Item.TheVariants.{Text, Flush}
 use Rattle.alog_msg.specs.declared.level.Level.{Level}
 use Rattle.alog_msg.specs.declared.message.Message.{Message}
 use Rattle.alog_policy.specs.Desk.{call_began, post_began}
+pub use Rattle.alog_system.specs.Acts.{is_below}
+pub use Rattle.alog_system.specs.Asked.{message_by}
 use Rattle.alog_system.specs.Roster.{RosterView, policy_at, backtrace_at, level_at}
 use Rattle.alog_system.specs.System.{SystemView, is_free, with_desk, with_duty}
 use Rattle.alog_system.specs.declared.deed.Deed.{Deed}
@@ -22,14 +23,6 @@ IsKnown r (deed.Log time n level text) = n < length r.loggers
 IsKnown r (deed.Flush n) = n < length r.loggers
 IsKnown r (deed.Dump time n) = n < length r.loggers
 IsKnown r deed.Work = Unit {0}
-
--- the message of a log
-abbrev pub message_by : ℕ → ℤ → ℕ → Level → List ℕ → Message
-message_by a time n level text = record { logger = n; level = level; time = time; thread = a; text = text; source = None }
-
--- a log of this level is filtered by a logger of that one
-abbrev pub is_below : Level → Level → Bool
-is_below level own = nat_lt (row_of level).number (row_of own).number
 
 -- the level that filters a message, if one does, and the deed, if it logs
 abbrev pub filtering : Level → Level → Option Level

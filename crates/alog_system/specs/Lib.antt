@@ -1,3 +1,6 @@
+pub mod Acts
+pub mod Asked
+pub mod Faults
 pub mod Error
 pub mod Dump
 pub mod Roster

@@ -1,19 +1,16 @@
 -- Loggers with their levels, and what each keeps.
-use Rattle.std.specs.Prelude.{◌≡◌, ℕ, Option, Some, None, List, [], map, length, slice_get, slice_index_or, slice_set, unwrap_or}
+use Rattle.std.specs.Prelude.{◌≡◌, ℕ, List, [], map, length, slice_get, slice_index_or, slice_set, unwrap_or}
 use Rattle.alog_msg.specs.declared.item.Item.{Item}
-use Rattle.alog_msg.specs.declared.item.Item.TheVariants as item
 use Rattle.alog_msg.specs.declared.level.Level.{Level}
 use Rattle.alog_msg.specs.declared.level.Level.TheVariants.{Off}
 use Rattle.alog_msg.specs.declared.limits.TheConstants.{MOST_TEXT_LIMIT}
 use Rattle.alog_msg.specs.declared.message.Message.{Message}
 use Rattle.alog_registry.specs.Backtrace.{Room, room_for, kept_with}
 use Rattle.alog_policy.specs.declared.policy.Policy.{Policy}
-use Rattle.alog_policy.specs.declared.policy.Policy.TheVariants.{Block}
 use Rattle.alog_registry.specs.Listed.{spec_at}
-use Rattle.alog_registry.specs.Work.{turns_of}
 use Rattle.alog_registry.specs.declared.logger.Logger.{Logger}
-use Rattle.alog_registry.specs.declared.logger.Spec.{Spec}
 use Rattle.alog_registry.specs.declared.work.SinkTurn.{SinkTurn}
+pub use Rattle.alog_system.specs.Acts.{first_level, policy_in, backtrace_in, logger_of, turns_by}
 
 -- What callers see of them, by number: the loggers, their levels as they are now, and what each keeps.
 pub record RosterView : Type 0 where
@@ -21,10 +18,7 @@ pub record RosterView : Type 0 where
   pub levels : List Level
   pub kept : List Room
 
--- the level that a logger has at first, and the room for what it keeps
-abbrev pub first_level : Logger → Level
-first_level l = l.spec.level
-
+-- the room for what a logger keeps
 abbrev pub room : ℕ → Room
 room most = room_for most MOST_TEXT_LIMIT
 
@@ -68,16 +62,8 @@ pub record IsRoster (loggers : List Logger) (levels : List Level) (kept : List R
   pub rooms : map empty_of kept ≡ map room_of loggers
 
 -- the policy of a logger, and how many messages it keeps at most
-abbrev pub policy_in : Option Spec → Policy
-policy_in None = Block
-policy_in (Some spec) = spec.policy
-
 abbrev pub policy_at : RosterView → ℕ → Policy
 policy_at r n = policy_in (spec_at r.loggers n)
-
-abbrev pub backtrace_in : Option Spec → ℕ
-backtrace_in None = 0
-backtrace_in (Some spec) = spec.backtrace
 
 abbrev pub backtrace_at : RosterView → ℕ → ℕ
 backtrace_at r n = backtrace_in (spec_at r.loggers n)
@@ -85,16 +71,6 @@ backtrace_at r n = backtrace_in (spec_at r.loggers n)
 -- the level of a logger as it is now
 abbrev pub level_at : RosterView → ℕ → Level
 level_at r n = unwrap_or (slice_get r.levels n) Off
-
--- the number of an item's logger
-abbrev pub logger_of : Item → ℕ
-logger_of (item.Text m) = m.logger
-logger_of (item.Flush n) = n
-logger_of item.Stop = 0
-
-abbrev pub turns_by : Option Spec → ℕ → Item → List SinkTurn
-turns_by None ticket i = []
-turns_by (Some spec) ticket i = turns_of spec ticket i
 
 -- the turns of the work on an item that was taken under this ticket
 abbrev pub turns_for : RosterView → ℕ → Item → List SinkTurn

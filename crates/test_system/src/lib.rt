@@ -8,6 +8,7 @@
 #[cfg(test)]
 mod dump_tests;
 mod dumped;
+mod law;
 #[cfg(test)]
 mod system_tests;
 #[cfg(test)]
@@ -18,3 +19,4 @@ mod telling;
 mod trials;
 
 pub use dumped::lost_and_dumped;
+pub use law::a_log_and_a_work;
