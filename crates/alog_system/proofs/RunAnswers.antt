@@ -33,7 +33,7 @@ use Rattle.alog_system.specs.Acts.{Did, InQueue, OnSink, Keeping, Emptying, Made
 use Rattle.alog_system.specs.Asked.{calls_asked, posts_in}
 use Rattle.alog_system.specs.Outputs.{OutputsView, DoesTurn, Turns, told_of_text, told_of_flush}
 use Rattle.alog_system.specs.Roster.{emptied, policy_at}
-use Rattle.alog_system.specs.Runs.{Leads, starts, begins, steps, sets, made_by, did_by, EachStep, IsMade, Tells, HasPosted, Waits, SaysOf, IsOverrun, IsToldOf, IsToldOfText, IsToldOfFlush, own_level}
+use Rattle.alog_system.specs.Runs.{Leads, starts, begins, steps, sets, made_by, did_by, EachStep, IsMade, Tells, HasPosted, SaysOf, IsOverrun, IsToldOf, IsToldOfText, IsToldOfFlush, own_level}
 use Rattle.alog_system.specs.Step.{told_in_round, told_of_work, dumped_by}
 use Rattle.alog_system.specs.System.{SystemView, fresh_system, duty_of, with_roster}
 use Rattle.alog_system.specs.declared.duty.Duty.{Duty}
@@ -167,12 +167,15 @@ map_set_same {Y = Y} f (z ∷ xs) (suc k) x y e same = ap (λ (ws : List Y). f z
 module _ {S : Type 0} (tells : Bool) (files : S → Files) (failures : S → ℕ) where
   takes_told : (t : SinkTurn) (m : Message) (o n : Sink S) (a : Answer) (x : Turn) → SinkTakes tells files failures o m a n
       → x ≡ told_of_text t a → IsToldOfText (admits (own_level o) m.level) t x × (own_level n ≡ own_level o)
-  takes_told t m (Leaf o) (Leaf n) a x h is =
-      (text_told (admits o.face.level m.level) t a x h.below.1 (λ on. leaf_admitted (admits o.face.level m.level) a on h.below.0) is,
-      ap (λ (f : Face). f.level) h.face)
-  takes_told t m (Fan o) (Fan n) a x h is =
-      (text_told (admits o.level m.level) t a x (λ off. (h.below off).0)
-      (λ on. subst WroteOrFailed (sym (h.given on).2) (fan_admitted (h.given on).0)) is, h.level)
+  takes_told t m (Leaf o) (Leaf n) a x h is = (
+    text_told (admits o.face.level m.level) t a x h.below.1 (λ on. leaf_admitted (admits o.face.level m.level) a on h.below.0) is,
+    ap (λ (f : Face). f.level) h.face,
+  )
+  takes_told t m (Fan o) (Fan n) a x h is = (
+    text_told (admits o.level m.level) t a x (λ off. (h.below off).0)
+        (λ on. subst WroteOrFailed (sym (h.given on).2) (fan_admitted (h.given on).0)) is,
+    h.level,
+  )
   takes_told t m (Leaf o) (Fan n) a x h is = absurd h
   takes_told t m (Fan o) (Leaf n) a x h is = absurd h
 
@@ -253,16 +256,16 @@ module _ {S : Type 0} (tells : Bool) (files : S → Files) (failures : S → ℕ
     is_made u x did (queued busy same after) = record {
       tells = subst (λ (y : Stepped). Tells ls first run y (InQueue (step_of w.desk a))) (sym same)
           (queued_tells (post_of w.desk a) refl (h.stands a lt) busy);
-      waits = tt;
+      place = refl;
     }
     is_made u x did (kept m idle was same after) = record {
       tells = subst (λ (y : Stepped). Tells ls first run y (Keeping m)) (sym same) refl;
-      waits = has_posted idle;
+      place = has_posted idle;
     }
     is_made u x did (dumped d idle was same after) = record {
       tells = subst (λ (y : Stepped). Tells ls first run y (Emptying d.logger d.time d.thread)) (sym same)
           (ap (λ (ms : List Message). Dumped (length ms)) (kept_messages ls run w kept_so d.logger));
-      waits = has_posted idle;
+      place = has_posted idle;
     }
     is_made u x did (served t i done turn outputs said idle was next makes same after) =
         let told = turn_told turn turn.deed i makes.before makes.after said makes.turn in
@@ -273,7 +276,7 @@ module _ {S : Type 0} (tells : Bool) (files : S → Files) (failures : S → ℕ
         record {
           tells = subst (λ (y : Stepped). Tells ls first run y (OnSink turn i)) (sym same)
               (found.0, found.1, subst (λ (l : Level). IsToldOf l turn turn.deed i said) (sym found.2) told.0);
-          waits = has_posted idle;
+          place = has_posted idle;
         }
 
   -- each step answered what it was

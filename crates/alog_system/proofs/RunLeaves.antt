@@ -186,9 +186,10 @@ module _ {S : Type 0} (tells : Bool) (files : S → Files) (failures : S → ℕ
       → (olds : List (LeafView S)) (answers : List (Result A SinkError)) (news : List (LeafView S)) (stood : List Stood)
       → EachDoes Does olds answers news → (HasFailed answers → IsFaultOn k x.told) → Each made stood olds → Each more stood news
   each_has Does one [] [] [] [] each fault all = tt
-  each_has Does one (o ∷ os) (a ∷ answers) (n ∷ ns) (s ∷ stood) each fault all =
-      (one s o n a (λ f. fault (failed_head a answers f)) each.0 all.0,
-      each_has Does one os answers ns stood each.1 (λ f. fault (failed_tail a answers f)) all.1)
+  each_has Does one (o ∷ os) (a ∷ answers) (n ∷ ns) (s ∷ stood) each fault all = (
+    one s o n a (λ f. fault (failed_head a answers f)) each.0 all.0,
+    each_has Does one os answers ns stood each.1 (λ f. fault (failed_tail a answers f)) all.1,
+  )
   each_has Does one (o ∷ os) (a ∷ answers) (n ∷ ns) [] each fault all = absurd all
   each_has Does one [] [] [] (s ∷ stood) each fault all = absurd all
   each_has Does one [] (a ∷ answers) ns stood each fault all = absurd each

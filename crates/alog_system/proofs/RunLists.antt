@@ -2,7 +2,7 @@
 use Rattle.std.proofs.Common.{◌≡◌, ◌≢◌, ℕ, ◌==◌, cond, List, [], ◌∷◌, ◌++◌, refl, sym, ap, subst, ◌∙◌}
 use Rattle.std.proofs.Common.{append_assoc, append-nil}
 use Rattle.std.proofs.lemmas.List.Concat.{flat_map-append}
-use Rattle.std.specs.List.{flat_map}
+use Rattle.std.specs.List.{AllByRecursion, flat_map}
 use Rattle.alog_core.proofs.Cells.{on_test}
 use Rattle.alog_msg.specs.declared.item.Item.{Item}
 use Rattle.alog_msg.specs.declared.level.Level.{Level}
@@ -11,6 +11,11 @@ use Rattle.alog_policy.specs.declared.policy.Outcome.{Outcome}
 use Rattle.alog_system.specs.Acts.{Made, Act, BeginsDeed, MakesStep, SetsLevel, step_in, steps_in, along, in_queue, queue_steps, levels_set}
 use Rattle.alog_system.specs.Runs.{StepIs, EachStep}
 use Rattle.alog_system.specs.declared.deed.Deed.{Deed}
+
+-- what is so of each of a list and of one more
+pub all_more : {X : Type 0} (P : X → Type 0) (xs : List X) (x : X) → AllByRecursion P xs → P x → AllByRecursion P (xs ++ x ∷ [])
+all_more P [] x h p = (p, tt)
+all_more P (y ∷ xs) x h p = (h.0, all_more P xs x h.1 p)
 
 pub flat_map_last : {X A : Type 0} (f : X → List A) (xs : List X) (x : X) → flat_map f (xs ++ x ∷ []) ≡ flat_map f xs ++ f x
 flat_map_last {A = A} f xs x = flat_map-append f xs (x ∷ []) ∙ ap (λ (ys : List A). flat_map f xs ++ ys) (append-nil (f x))

@@ -111,11 +111,12 @@ module _ {S : Type 0} (tells : Bool) (files : S → Files) (failures : S → ℕ
   flush_has (Leaf l) (Leaf o) (Leaf n) k made x a [] given fault fine does alike all = absurd all
   flush_has (Leaf l) (Leaf o) (Leaf n) k made x a (s ∷ r ∷ stood) given fault fine does alike all = absurd all.1
   flush_has (Fan f) (Fan o) (Fan n) k made x a stood given fault fine does alike all =
-      let none : handed (Fan f) (given_in k x.did) ≡ [] = ap (λ (ms : List Message). admitted f.level ms) given in
-      (does.level ∙ alike,
-      each_has tells files failures told (Fan f) k made x (Flushes tells files failures)
-      (λ s p q c failed flushes has. flushes_has tells files failures told (Fan f) k made x s p q c none failed (λ served h. tt) flushes has)
-      o.members does.answers n.members stood does.given (λ failed. fault (subst IsFailed (sym does.first) (failed_first tt does.answers failed))) all)
+      let none : handed (Fan f) (given_in k x.did) ≡ [] = ap (λ (ms : List Message). admitted f.level ms) given in (
+        does.level ∙ alike,
+        each_has tells files failures told (Fan f) k made x (Flushes tells files failures)
+            (λ s p q c failed flushes has. flushes_has tells files failures told (Fan f) k made x s p q c none failed (λ served h. tt) flushes has)
+            o.members does.answers n.members stood does.given (λ failed. fault (subst IsFailed (sym does.first) (failed_first tt does.answers failed))) all,
+      )
   flush_has (Leaf l) (Leaf o) (Fan n) k made x a stood given fault fine does alike all = absurd does
   flush_has (Leaf l) (Fan o) n k made x a stood given fault fine does alike all = absurd alike
   flush_has (Fan f) (Fan o) (Leaf n) k made x a stood given fault fine does alike all = absurd does
@@ -282,11 +283,13 @@ module _ {S : Type 0} (tells : Bool) (files : S → Files) (failures : S → ℕ
 
   each_start : (k : ℕ) (old : Sink S) (stood : List Stood) (ls : List (LeafView S)) → AllStand files ls stood → EachStands files old k [] stood ls
   each_start k old [] [] all = tt
-  each_start k old (s ∷ stood) (l ∷ ls) all =
-      (inl (record {
-        stands = subst (λ (ms : List Message). StandsFor files l s.0 ms) (sym (ap (λ (ms : List Message). s.1 ++ ms) (handed_none old) ∙ append-nil s.1)) all.0;
-        fine = none_yet old;
-      }), each_start k old stood ls all.1)
+  each_start k old (s ∷ stood) (l ∷ ls) all = (
+    inl (record {
+      stands = subst (λ (ms : List Message). StandsFor files l s.0 ms) (sym (ap (λ (ms : List Message). s.1 ++ ms) (handed_none old) ∙ append-nil s.1)) all.0;
+      fine = none_yet old;
+    }),
+    each_start k old stood ls all.1,
+  )
     where
       none_yet : (t : Sink S) → MeetsNone t k []
       none_yet (Leaf o) = tt
@@ -319,11 +322,13 @@ module _ {S : Type 0} (tells : Bool) (files : S → Files) (failures : S → ℕ
   each_fine : (k : ℕ) (old : Sink S) (made : List Made) (stood : List Stood) (ls : List (LeafView S)) → AreFine k made → EachStands files old k made stood ls
       → AllStand files ls (with_more (handed old (given_to k made)) stood)
   each_fine k old made [] [] fine each = tt
-  each_fine k old made (s ∷ stood) (l ∷ ls) fine each =
-      (elim (each.0) [
-        | inl h ↦ h.stands
-        | inr b ↦ absurd (fine_not k b.before b.turn b.later b.told (subst (λ (ms : List Made). AreFine k ms) b.cut fine))
-      ], each_fine k old made stood ls fine each.1)
+  each_fine k old made (s ∷ stood) (l ∷ ls) fine each = (
+    elim (each.0) [
+      | inl h ↦ h.stands
+      | inr b ↦ absurd (fine_not k b.before b.turn b.later b.told (subst (λ (ms : List Made). AreFine k ms) b.cut fine))
+    ],
+    each_fine k old made stood ls fine each.1,
+  )
   each_fine k old made [] (l ∷ ls) fine each = absurd each
   each_fine k old made (s ∷ stood) [] fine each = absurd each
 

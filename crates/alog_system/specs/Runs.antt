@@ -119,16 +119,17 @@ own_level (sinks.Leaf l) = l.face.level
 own_level (sinks.Fan f) = f.level
 
 module _ (loggers : List Logger) where
-  -- A turn beside the queue was made once each post that was asked of its actor had ended.
+  -- each post that was asked of an actor has ended
   abbrev pub HasPosted : List Act → ℕ → Type 0
   HasPosted before a = length (outcomes_made a (queue_steps (steps_in before))) ≡ posts_in (calls_asked loggers a before)
 
-  abbrev pub Waits : List Act → ℕ → Did → Type 0
-  Waits before a (InQueue step) = Unit {0}
-  Waits before a (OnSink turn i) = HasPosted before a
-  Waits before a (Keeping m) = HasPosted before a
-  Waits before a (Emptying n time thread) = HasPosted before a
-  Waits before a Nothing = ⊥
+  -- A step of the queue was its actor's; a turn beside it was made once each post that was asked of its actor had ended.
+  abbrev pub IsInPlace : List Act → ℕ → Did → Type 0
+  IsInPlace before a (InQueue step) = step.actor ≡ a
+  IsInPlace before a (OnSink turn i) = HasPosted before a
+  IsInPlace before a (Keeping m) = HasPosted before a
+  IsInPlace before a (Emptying n time thread) = HasPosted before a
+  IsInPlace before a Nothing = ⊥
 
 module _ {S : Type 0} (loggers : List Logger) (first : List (Sink S)) where
   -- Each step answered what it was. A take is told as taken, or is an overrun; an emptying tells how many messages its logger kept
@@ -144,7 +145,7 @@ module _ {S : Type 0} (loggers : List Logger) (first : List (Sink S)) where
 
   pub record IsMade (before : List Act) (m : Made) : Type 0 where
     pub tells : Tells before m.told m.did
-    pub waits : Waits loggers before m.actor m.did
+    pub place : IsInPlace loggers before m.actor m.did
 
 -- each step of some acts is so, after the acts before it
 abbrev pub StepIs : (Made → Type 0) → Act → Type 0

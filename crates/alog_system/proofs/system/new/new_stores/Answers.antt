@@ -3,7 +3,7 @@ use Rattle.std.proofs.lemmas.List.{length-append}
 use Rattle.alog_sink.specs.Files.{AreSame, no_files}
 use Rattle.alog_sink.specs.contracts.mem_store.MemStoreStore.TheImpl.{files-value}
 use Rattle.alog_system.specs.Named.{AreEmpty}
-use Rattle.alog_system.proofs.RunSinks.{all_more}
+use Rattle.alog_system.proofs.RunLists.{all_more}
 use Rattle.alog_system.proofs.system.new.new_stores.Goals as goal
 
 pub loop-preserved : goal.loop-preserved
