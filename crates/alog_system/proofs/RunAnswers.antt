@@ -1,10 +1,9 @@
 -- What the steps of a run answered.
 use Rattle.std.proofs.Common.{◌≡◌, ◌⊎◌, ℕ, ◌<◌, zero, suc, Bool, true, false, Option, None, Some, Result, Ok, Err, List, [], ◌∷◌, ◌++◌, length, map, refl, sym, ap, subst, ◌∙◌, inl, inr}
 use Rattle.std.proofs.Common.{append-nil}
-use Rattle.std.proofs.lemmas.List.{map-set}
 use Rattle.std.specs.Prelude.{slice_get, slice_set}
 use Rattle.alog_core.specs.Queue.{Event, Claim, Write, Grab, Take, Full, Empty, PushBusy, PopBusy, Spent}
-use Rattle.alog_core.specs.World.{is_size, is_idle, next_move, said_of, brought, round_of, told}
+use Rattle.alog_core.specs.World.{is_size, is_idle, next_move, said_of, brought, round_of}
 use Rattle.alog_core.specs.declared.TheConstants.{ACTORS}
 use Rattle.alog_core.specs.declared.said.Said.{Said}
 use Rattle.alog_core.specs.declared.said.Said.TheVariants as said
@@ -12,8 +11,8 @@ use Rattle.alog_msg.specs.declared.item.Item.{Item}
 use Rattle.alog_msg.specs.declared.item.Item.TheVariants as item
 use Rattle.alog_msg.specs.declared.level.Level.{Level}
 use Rattle.alog_msg.specs.declared.message.Message.{Message}
-use Rattle.alog_policy.specs.Desk.{DeskView, desk_told, post_of, answer_of, said_in_post}
-use Rattle.alog_policy.specs.Runs.{Call, StepMade, step_of, overruns_in, calls_made, outcomes_made}
+use Rattle.alog_policy.specs.Desk.{desk_told, post_of, answer_of, said_in_post}
+use Rattle.alog_policy.specs.Runs.{Call, StepMade, step_of, overruns_in, calls_made}
 use Rattle.alog_policy.specs.declared.post.Post.{Post}
 use Rattle.alog_policy.specs.declared.post.Stepped.{Stepped as DeskStepped}
 use Rattle.alog_registry.specs.declared.logger.Logger.{Logger}
@@ -29,9 +28,9 @@ use Rattle.alog_sink.specs.declared.leaf.SinkError.{SinkError}
 use Rattle.alog_sink.specs.declared.leaf.Taken.TheVariants.{Below as WasBelow, Written}
 use Rattle.alog_sink.specs.declared.sink.Sink.{Sink}
 use Rattle.alog_sink.specs.declared.sink.Sink.TheVariants.{Leaf, Fan}
-use Rattle.alog_system.specs.Acts.{Did, InQueue, OnSink, Keeping, Emptying, Made, Act, BeginsDeed, MakesStep, SetsLevel, steps_in, queue_steps, kept_after}
-use Rattle.alog_system.specs.Asked.{calls_asked, posts_in}
-use Rattle.alog_system.specs.Outputs.{OutputsView, DoesTurn, Turns, told_of_text, told_of_flush}
+use Rattle.alog_system.specs.Acts.{Did, InQueue, OnSink, Keeping, Emptying, Act, BeginsDeed, MakesStep, SetsLevel, steps_in, queue_steps}
+use Rattle.alog_system.specs.Asked.{posts_in}
+use Rattle.alog_system.specs.Outputs.{OutputsView, DoesTurn, told_of_text, told_of_flush}
 use Rattle.alog_system.specs.Roster.{emptied, policy_at}
 use Rattle.alog_system.specs.Runs.{Leads, starts, begins, steps, sets, made_by, did_by, EachStep, IsMade, Tells, HasPosted, SaysOf, IsOverrun, IsToldOf, IsToldOfText, IsToldOfFlush, own_level}
 use Rattle.alog_system.specs.Step.{told_in_round, told_of_work, dumped_by}
@@ -43,7 +42,7 @@ use Rattle.alog_system.specs.declared.stepped.Stepped.TheVariants as stepped
 use Rattle.alog_system.specs.declared.stepped.Turn.{Turn}
 use Rattle.alog_system.specs.declared.stepped.Turn.TheVariants.{Dumped}
 use Rattle.alog_system.proofs.RunCases.{Case, queued, kept, dumped, served, case_of}
-use Rattle.alog_system.proofs.RunGoes.{calls_left, IsBeside, Stance}
+use Rattle.alog_system.proofs.RunGoes.{IsBeside, Stance}
 use Rattle.alog_system.proofs.RunKept.{IsKept, is_kept, kept_messages}
 use Rattle.alog_system.proofs.RunKnown.{Known, known, idle_calls}
 use Rattle.alog_system.proofs.RunLists.{each_last}

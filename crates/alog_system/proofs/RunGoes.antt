@@ -13,14 +13,13 @@ use Rattle.alog_core.specs.declared.round.Round.TheVariants as round
 use Rattle.alog_core.specs.declared.said.Said.{Said}
 use Rattle.alog_core.specs.declared.said.Said.TheVariants as said
 use Rattle.alog_msg.specs.declared.item.Item.{Item}
-use Rattle.alog_msg.specs.declared.item.Item.TheVariants.{Text, Flush}
+use Rattle.alog_msg.specs.declared.item.Item.TheVariants.{Text}
 use Rattle.alog_msg.specs.declared.message.Message.{Message}
-use Rattle.alog_policy.specs.Desk.{fresh_desk, DeskView, answer_of, after_step, desk_told, desk_stepped, post_of, call_began, post_began}
+use Rattle.alog_policy.specs.Desk.{fresh_desk, answer_of, after_step, desk_told, desk_stepped, post_of, call_began, post_began}
 use Rattle.alog_policy.specs.Runs.{Call, CallMade, called, ToPop, ToPost, StepMade, step_of, overruns_in, outcome_in, Plays, pops, posts, steps_on, calls_made, outcomes_made}
 use Rattle.alog_policy.specs.declared.policy.Policy.{Policy}
 use Rattle.alog_policy.specs.declared.policy.Outcome.{Outcome}
 use Rattle.alog_policy.specs.declared.post.Post.{Post}
-use Rattle.alog_policy.specs.declared.post.Stepped.{Stepped as DeskStepped}
 use Rattle.alog_policy.proofs.StepKinds.{either}
 use Rattle.alog_registry.specs.Listed.{spec_at}
 use Rattle.alog_registry.specs.declared.logger.Logger.{Logger}
@@ -33,7 +32,7 @@ use Rattle.alog_system.specs.declared.duty.Duty.TheVariants.{Free, Keeps, Dumps,
 use Rattle.alog_system.proofs.Desks.{ended_idle}
 use Rattle.alog_system.proofs.RunLists.{my_call, my_outcome, others_call}
 use Rattle.alog_system.proofs.RunOthers.{set_duty}
-use Rattle.alog_system.proofs.RunPosts.{posts_append, ahead_of, none_where_idle, none_where_even, some_where_ahead}
+use Rattle.alog_system.proofs.RunPosts.{posts_append, ahead_of, none_where_idle, some_where_ahead}
 
 -- the calls that are left of what an actor does beside its round, and the turns
 abbrev pub calls_left : Duty → List (Call Item)

@@ -13,7 +13,7 @@ use Rattle.std.specs.Prelude.{slice_set}
 use Rattle.alog_system.specs.Begin.{begun}
 use Rattle.alog_system.specs.Roster.{RosterView, kept_at, keeping, emptied, policy_at, room, room_of, empty_of, with_room}
 use Rattle.alog_system.specs.Acts.{Did, Made, Act, BeginsDeed, MakesStep, SetsLevel, steps_in, first_level, levels_after, most, kept_by, kept_since, kept_after}
-use Rattle.alog_system.specs.Runs.{Leads, starts, begins, steps, sets, made_by, did_by}
+use Rattle.alog_system.specs.Runs.{Leads, starts, begins, steps, sets, did_by}
 use Rattle.alog_system.specs.Step.{dumped_by}
 use Rattle.alog_system.specs.System.{SystemView, fresh_system, with_roster}
 use Rattle.alog_system.specs.declared.stepped.Stepped.{Stepped}

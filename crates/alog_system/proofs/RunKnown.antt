@@ -1,9 +1,9 @@
 -- What is known of the calls and the turns of a system's actors after a run.
-use Rattle.std.proofs.Common.{◌≡◌, ◌≢◌, ℕ, zero, suc, ◌+◌, ◌<◌, ◌≤◌, ◌==◌, Bool, true, false, cond, Option, None, Some, List, [], ◌∷◌, ◌++◌, length, drop, refl, sym, ap, subst, ◌∙◌, arith}
+use Rattle.std.proofs.Common.{◌≡◌, ◌≢◌, ℕ, zero, suc, ◌+◌, ◌<◌, ◌==◌, Bool, true, false, cond, Option, None, Some, List, [], ◌∷◌, ◌++◌, length, drop, refl, sym, ap, subst, ◌∙◌, arith}
 use Rattle.std.proofs.Common.{append-nil}
 use Rattle.std.proofs.lemmas.Bool.{ltb-false}
 use Rattle.std.proofs.lemmas.List.{length-replicate, get_or-replicate, drop_all}
-use Rattle.std.specs.Prelude.{◌&&◌, nat_lt, not, slice_get, unwrap_or}
+use Rattle.std.specs.Prelude.{◌&&◌, not, slice_get, unwrap_or}
 use Rattle.alog_core.specs.World.{is_size, is_idle, round_of}
 use Rattle.alog_core.specs.declared.TheConstants.{ACTORS}
 use Rattle.alog_core.specs.declared.round.Round.{Round}
@@ -15,7 +15,7 @@ use Rattle.alog_msg.specs.declared.level.Level.{Level}
 use Rattle.alog_msg.specs.declared.level.Level.TheVariants.{Off}
 use Rattle.alog_msg.specs.declared.message.Message.{Message}
 use Rattle.alog_policy.specs.Desk.{fresh_desk, post_of}
-use Rattle.alog_policy.specs.Runs.{Call, CallMade, ToPop, ToPost, StepMade, Plays, starts as plays_start, calls_made, step_of}
+use Rattle.alog_policy.specs.Runs.{Call, CallMade, ToPost, StepMade, Plays, starts as plays_start, calls_made, step_of}
 use Rattle.alog_policy.specs.declared.policy.Policy.{Policy}
 use Rattle.alog_policy.specs.declared.post.Post.{Post}
 use Rattle.alog_registry.specs.Dumping.{posted_of}
@@ -27,9 +27,9 @@ use Rattle.alog_sink.specs.declared.sink.Sink.{Sink}
 use Rattle.alog_system.specs.Acts.{Did, InQueue, OnSink, Keeping, Emptying, Made, Act, BeginsDeed, MakesStep, SetsLevel, steps_in, in_queue, queue_steps, policy_in, backtrace_in, turns_by, logger_of, policy, most, level_after, kept_after, is_below}
 use Rattle.alog_system.specs.Asked.{message_by, posts_of, on_sinks, calls_by_deed, calls_by_step, calls_by, calls_asked, turns_by_deed, turns_by_step, turns_by_act, turns_asked, beside, turn_in, turns_made}
 use Rattle.alog_system.specs.Begin.{MayBegin, begun, posting_unless}
-use Rattle.alog_system.specs.Roster.{RosterView, turns_for, level_at, policy_at, backtrace_at, emptied, keeping, with_level}
-use Rattle.alog_system.specs.Runs.{Leads, starts, begins, steps, sets, made_by, did_by}
-use Rattle.alog_system.specs.Step.{after_round, dumped_by}
+use Rattle.alog_system.specs.Roster.{RosterView, turns_for, level_at, policy_at, backtrace_at, emptied, keeping}
+use Rattle.alog_system.specs.Runs.{Leads, starts, begins, steps, sets, did_by}
+use Rattle.alog_system.specs.Step.{dumped_by}
 use Rattle.alog_system.specs.System.{SystemView, fresh_system, duty_of, is_free, owes, with_duty, with_outputs, with_roster}
 use Rattle.alog_system.specs.declared.deed.Deed.{Deed}
 use Rattle.alog_system.specs.declared.deed.Deed.TheVariants as deed

@@ -1,8 +1,7 @@
 -- What the sinks of a system stand for after a run, where a store may have failed.
-use Rattle.std.proofs.Common.{◌≡◌, ◌⊎◌, inl, inr, ℕ, zero, suc, ◌==◌, Bool, true, false, cond, Option, Some, Result, Ok, Err, List, [], ◌∷◌, ◌++◌, set, refl, sym, ap, subst, ◌∙◌}
-use Rattle.std.proofs.Common.{append_assoc, append-nil}
+use Rattle.std.proofs.Common.{◌≡◌, inl, inr, ℕ, zero, suc, Bool, true, false, cond, Option, Some, Result, Ok, Err, List, [], ◌∷◌, ◌++◌, set, refl, sym, ap, subst, ◌∙◌}
+use Rattle.std.proofs.Common.{append-nil}
 use Rattle.std.specs.Prelude.{slice_get}
-use Rattle.std.specs.List.{AllByRecursion}
 use Rattle.alog_core.proofs.Cells.{on_test}
 use Rattle.alog_msg.specs.declared.item.Item.{Item}
 use Rattle.alog_msg.specs.declared.item.Item.TheVariants as item
@@ -20,17 +19,16 @@ use Rattle.alog_sink.specs.Files.{Files}
 use Rattle.alog_sink.specs.LaneRuns.{Stood, AllStand}
 use Rattle.alog_sink.specs.Lines.{admits, admitted}
 use Rattle.alog_sink.specs.Sinks.{SinkTakes, SinkFlushes}
-use Rattle.alog_sink.specs.Turn.{Answer, LeafView, FanView, StandsFor, EachDoes, Takes, Flushes, first_fault}
+use Rattle.alog_sink.specs.Turn.{Answer, LeafView, FanView, StandsFor, Takes, Flushes}
 use Rattle.alog_sink.specs.declared.leaf.SinkError.{SinkError}
-use Rattle.alog_sink.specs.declared.leaf.SinkError.TheVariants as errors
 use Rattle.alog_sink.specs.declared.leaf.Taken.TheVariants.{Below as WasBelow, Written}
 use Rattle.alog_sink.specs.declared.sink.Sink.{Sink}
 use Rattle.alog_sink.specs.declared.sink.Sink.TheVariants.{Leaf, Fan}
-use Rattle.alog_system.specs.Acts.{Did, OnSink, Made, Act, BeginsDeed, MakesStep, SetsLevel, steps_in, text_in, given_in, given_to}
+use Rattle.alog_system.specs.Acts.{Did, OnSink, Made, Act, steps_in, text_in, given_in, given_to}
 use Rattle.alog_system.specs.Begin.{begun}
-use Rattle.alog_system.specs.Faults.{IsFaultOn, AreFine, leaves, handed, MeetsNone, HasFront, StandsWhole, BrokeOff, EachStands, SinkStands, with_more, FineSinkStands}
+use Rattle.alog_system.specs.Faults.{IsFaultOn, AreFine, leaves, handed, MeetsNone, EachStands, SinkStands, with_more, FineSinkStands}
 use Rattle.alog_system.specs.Outputs.{OutputsView, Turns, DoesTurn, told_of_text, told_of_flush}
-use Rattle.alog_system.specs.Roster.{emptied, policy_at, with_level}
+use Rattle.alog_system.specs.Roster.{emptied, policy_at}
 use Rattle.alog_system.specs.Runs.{Leads, starts, begins, steps, sets, made_by, did_by}
 use Rattle.alog_system.specs.Step.{dumped_by, told_in_round, told_of_work}
 use Rattle.alog_system.specs.System.{SystemView, duty_of, fresh_system, with_roster}
@@ -40,7 +38,7 @@ use Rattle.alog_system.specs.declared.stepped.Stepped.{Stepped}
 use Rattle.alog_system.specs.declared.stepped.Stepped.TheVariants as stepped
 use Rattle.alog_system.specs.declared.stepped.Turn.{Turn}
 use Rattle.alog_system.proofs.RunCases.{Case, queued, kept, dumped, served, case_of}
-use Rattle.alog_system.proofs.RunLeaves.{fine_more, fine_not, handed_none, HasFailed, IsFailed, failed_first, takes_has, flushes_has, each_stays, each_has}
+use Rattle.alog_system.proofs.RunLeaves.{fine_more, fine_not, handed_none, IsFailed, failed_first, takes_has, flushes_has, each_stays, each_has}
 use Rattle.alog_system.proofs.RunLists.{if_other, steps_begun, steps_made, steps_set}
 use Rattle.alog_system.proofs.RunSame.{begun_outputs, after_round_same, posting_same}
 

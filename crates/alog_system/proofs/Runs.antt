@@ -9,15 +9,12 @@ use Rattle.alog_core.proofs.Items.{tickets_keep_their_items}
 use Rattle.alog_core.proofs.Sizes.{size_facts}
 use Rattle.alog_core.proofs.Tickets.{no_ticket_is_handed_out_twice, tickets_are_handed_out_or_listed}
 use Rattle.alog_msg.specs.declared.item.Item.{Item}
-use Rattle.alog_msg.specs.declared.message.Message.{Message}
-use Rattle.alog_policy.specs.Runs.{Call, entries_made}
+use Rattle.alog_policy.specs.Runs.{entries_made}
 use Rattle.alog_policy.proofs.Running.{runs_are_cut}
-use Rattle.alog_registry.specs.Listed.{spec_at}
-use Rattle.alog_registry.specs.declared.logger.Logger.{Logger}
 use Rattle.alog_sink.specs.Files.{Files}
-use Rattle.alog_system.specs.Acts.{Did, steps_in, queue_steps}
+use Rattle.alog_system.specs.Acts.{steps_in, queue_steps}
 use Rattle.alog_system.specs.Runs.{SystemRuns}
-use Rattle.alog_system.specs.System.{is_free, owes, duty_of}
+use Rattle.alog_system.specs.System.{duty_of}
 use Rattle.alog_system.proofs.RunAnswers.{answers_tell}
 use Rattle.alog_system.proofs.RunGoes.{calls_left, turns_left}
 use Rattle.alog_system.proofs.RunKept.{is_kept, kept_messages}

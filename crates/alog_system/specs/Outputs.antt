@@ -16,7 +16,6 @@ use Rattle.alog_sink.specs.Turn.{Answer}
 use Rattle.alog_sink.specs.declared.leaf.SinkError.{SinkError}
 use Rattle.alog_sink.specs.declared.leaf.Taken.TheVariants as taken
 use Rattle.alog_sink.specs.declared.sink.Sink.{Sink}
-use Rattle.alog_sink.specs.declared.sink.Sink.TheVariants as sinks
 use Rattle.alog_system.specs.declared.stepped.Turn.{Turn}
 use Rattle.alog_system.specs.declared.stepped.Turn.TheVariants.{Line, Below, Fault, Flushed}
 

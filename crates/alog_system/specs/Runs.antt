@@ -11,7 +11,6 @@ use Rattle.alog_core.specs.declared.said.Said.TheVariants as said
 use Rattle.alog_msg.specs.declared.item.Item.{Item}
 use Rattle.alog_msg.specs.declared.item.Item.TheVariants as item
 use Rattle.alog_msg.specs.declared.level.Level.{Level}
-use Rattle.alog_msg.specs.declared.message.Message.{Message}
 use Rattle.alog_policy.specs.Runs.{step_of, entries_made, Call, CallMade, calls_made, outcomes_made, IsRun}
 use Rattle.alog_registry.specs.declared.logger.Logger.{Logger}
 use Rattle.alog_registry.specs.declared.work.SinkDeed.{SinkDeed}
