@@ -7,7 +7,8 @@
 //!
 //! Read `deed.rt` and `specs/Begin.antt` (what is begun by a deed), `stepped.rt` and `specs/Step.antt` (what a step does), both over
 //! `specs/System.antt` (what callers see of a system, and what an actor does beside its round) and `specs/Roster.antt` (loggers).
-//! What is true after a whole run is `specs/Runs.antt`, with the law in `laws.rt`.
+//! What is true after a whole run is `specs/Runs.antt`, with the law in `laws.rt`: over `specs/Acts.antt` (what callers did),
+//! `Asked.antt` (what that asks for) and `Faults.antt` (what sinks stand for), none of which says how a system is made.
 //!
 //! Then `system.rt` with `system/new.rt`, `begin.rt` and `step.rt`; below them `duty.rt`, `dump.rt`, `roster.rt` and `outputs.rt`.
 //! The tests that comments name here are in `test_system`.

@@ -2,7 +2,8 @@
 //!
 //! They are here, and not in `alog_system`, since a crate with tests is proved twice. Read `systems.rt` (a system of one logger and
 //! one sink), `telling.rt` (how a step is told), `trials.rt` (calls of a system with the answer wanted) and `system_tests.rt`, then
-//! `dumped.rt` (how many messages a dump has, as a plain program) and `dump_tests.rt` (dumps, and the plain program beside them).
+//! `dumped.rt` (how many messages a dump has, as a plain program) and `dump_tests.rt` (dumps, and the plain program beside them);
+//! and `law.rt`, what a caller gets of the law over whole runs.
 #![tactic(auto)]
 
 #[cfg(test)]
