@@ -1,6 +1,6 @@
 //! Loads: many producers that log all their messages through a pool, as fast as they can.
 //!
-//! `load` builds what a configuration names (`setup.rt`), starts a pool of it, and sends so many producers off, each
+//! `load` builds what a configuration names (`alog_server::setup_of`), starts a pool of it, and sends so many producers off, each
 //! on a thread of its own (`crew.rt`), where each logs its messages one after the other (`errand.rt`). When all have come back, the
 //! pool is ended, and its report answered. Whatever is refused on the way, all threads are joined, and a pool that was started is
 //! ended.
@@ -9,7 +9,8 @@
 //! and was ended with as many producers as were asked for, each of which made the logs of its own messages, in order, and no other
 //! calls.
 //!
-//! Read `loading.rt`, `error.rt`; then `errand.rt` and `crew.rt`; then `setup.rt`.
+//! Read `loading.rt`, `error.rt`; then `errand.rt` and `crew.rt`; then `setup.rt`. What servers need as well, the setup and the making of
+//! producers, is in `alog_server`.
 #![tactic(auto)]
 
 mod crew;
