@@ -1,4 +1,4 @@
-// Does one run by spdlog's asynchronous logger: what a call of crates/bench_load does by alog_pool.
+// Does one run by spdlog's asynchronous logger: what a call of crates/bench with the word load does by alog_pool.
 //   run STORE PATTERN PRODUCERS rate     how many messages go in a second, from the first log to the last line written
 //   run STORE PATTERN PRODUCERS OFFERED  the 50th, 99th and 99.9th percentile of the nanoseconds that one log takes, where so many
 //                                        messages are offered in a second, or as many as go where that is 0

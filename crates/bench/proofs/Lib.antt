@@ -1,1 +1,2 @@
 mod AddersCross
+mod TasksCross

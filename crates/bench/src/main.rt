@@ -1,6 +1,6 @@
 //! Measures parts of alog, most of them beside what others have.
 //!
-//! The first word names the part: `ring`, `lane`, `post`, `format` or `sink`. The words behind it are those of
+//! The first word names the part: `ring`, `lane`, `post`, `format`, `sink`, `replay` or `load`. The words behind it are those of
 //! the part, which the head of its file tells. With no word the program prints nothing. The scripts of `bench/` run it.
 //!
 //! Read the part's file (what is run, and what is printed), and then those of its folder. What parts share stands once: `runs.rt`
@@ -13,8 +13,10 @@
 mod format;
 mod lane;
 mod lines;
+mod load;
 mod outputs;
 mod post;
+mod replay;
 mod ring;
 mod ring_lane;
 mod rivals;
@@ -27,6 +29,7 @@ use std::env;
 use std::rt::{Clock, Files};
 use std::sync::Wait;
 use std::thread::Threads;
+use std::time::CpuClock;
 
 fn main(rt: HostRuntime) -> Result<()> {
     let words: Vec<String> = env::args(&rt)?.collect(rt.alloc())?;
@@ -39,7 +42,9 @@ fn main(rt: HostRuntime) -> Result<()> {
 /// Measures the part of this name as the words say.
 fn measure<R>(rt: &R, part: &str, words: &[String]) -> Result<()>
 where
-    R: Threads + Wait + Clock + Files + Print + AllocGlobal + Clone + Drop + Send + Sync + 'static,
+    R: Threads + Wait + Clock + CpuClock + Files + Print + AllocGlobal,
+    R: Clone + Drop + Send + Sync + 'static,
+    R::File: Send + 'static,
 {
     match part {
         "ring" => ring::measure(rt),
@@ -47,6 +52,8 @@ where
         "post" => post::measure(rt),
         "format" => format::measure(rt),
         "sink" => sink::measure(rt, words),
+        "replay" => replay::measure(rt, words),
+        "load" => load::measure(rt, words),
         _ => Ok(()),
     }
 }

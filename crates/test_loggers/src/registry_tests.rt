@@ -222,37 +222,82 @@ fn is_text(message: Option<Message>, text: &str) -> bool {
     }
 }
 
+// Keeps this text, of level debug.
+fn keeps(alloc: Global, backtrace: &mut Backtrace, text: &str) -> Result<(), Fail> {
+    let message = debug(alloc, text)?;
+    let _least = backtrace.text_limit();
+    backtrace.keep(message);
+    Ok(())
+}
+
+// What a backtrace kept, of which it is emptied.
+fn dumped(alloc: Global, backtrace: &mut Backtrace) -> Result<Dumped, Fail> {
+    let list = Dumped::new(alloc, backtrace.most(), backtrace.text_limit())?;
+    Ok(backtrace.dump(list))
+}
+
+// Whether a list has just these texts, which are taken.
+fn has_just(list: &mut Dumped, texts: &[&str]) -> bool {
+    for text in texts {
+        if !is_text(list.take_oldest(), text) {
+            return false;
+        }
+    }
+    list.is_empty() && list.take_oldest().is_none()
+}
+
+// Whether a backtrace that keeps these texts dumps those, and is empty then.
+fn dumps(
+    alloc: Global,
+    backtrace: &mut Backtrace,
+    texts: &[&str],
+    wanted: &[&str],
+) -> Result<bool, Fail> {
+    for text in texts {
+        keeps(alloc, backtrace, text)?;
+    }
+    let len = backtrace.len();
+    let mut list = dumped(alloc, backtrace)?;
+    let are_as_many = len == wanted.len() && list.len() == wanted.len();
+    Ok(are_as_many && backtrace.is_empty() && has_just(&mut list, wanted))
+}
+
 #[test]
 fn dumps_the_last_two(rt: HostRuntime) -> Result<(), Fail> {
-    let alloc = rt.alloc();
-    let mut backtrace = Backtrace::new(alloc, 2)?;
-    backtrace.keep(debug(alloc, "m1")?);
-    backtrace.keep(debug(alloc, "m2")?);
-    backtrace.keep(debug(alloc, "m3")?);
-    assert_eq!(rt; (backtrace.len(), backtrace.most()), (2, 2));
-    let mut dumped = backtrace.dump(Dumped::new(alloc, 2, MOST_TEXT_LIMIT)?);
-    assert!(rt; backtrace.is_empty() && dumped.len() == 2);
-    assert!(rt; is_text(dumped.take_oldest(), "m2"));
-    assert!(rt; is_text(dumped.take_oldest(), "m3"));
-    assert!(rt; dumped.is_empty() && dumped.take_oldest().is_none());
-    backtrace.keep(debug(alloc, "m4")?);
-    let mut dumped = backtrace.dump(dumped);
-    assert!(rt; is_text(dumped.take_oldest(), "m4"));
-    assert!(rt; backtrace.dump(dumped).is_empty());
+    let mut backtrace = Backtrace::new(rt.alloc(), 2)?;
+    let rows: [(&[&str], &[&str]); 3] = [
+        (&["m1", "m2", "m3"], &["m2", "m3"]),
+        (&["m4"], &["m4"]),
+        (&[], &[]),
+    ];
+    for (texts, wanted) in &rows {
+        assert!(rt; dumps(rt.alloc(), &mut backtrace, texts, wanted)?);
+    }
     Ok(())
+}
+
+// The most that a backtrace keeps which is to keep so many, or why it is refused.
+fn most_of(alloc: Global, most: usize) -> Result<usize, BacktraceError> {
+    Ok(Backtrace::new(alloc, most)?.most())
+}
+
+// Whether a backtrace that is to keep nothing does so.
+fn keeps_nothing(alloc: Global) -> Result<bool, Fail> {
+    let mut none = Backtrace::new(alloc, 0)?;
+    keeps(alloc, &mut none, "m1")?;
+    Ok(none.is_empty())
 }
 
 #[test]
 fn limits_of_a_backtrace(rt: HostRuntime) -> Result<(), Fail> {
-    let alloc = rt.alloc();
-    assert_eq!(rt;
-        Backtrace::new(alloc, 4_097).err(),
-        Some(BacktraceError::BadLimit)
-    );
-    assert_eq!(rt; Backtrace::new(alloc, 4_096)?.most(), 4_096);
-    let mut none = Backtrace::new(alloc, 0)?;
-    none.keep(debug(alloc, "m1")?);
-    assert!(rt; none.is_empty());
+    for (most, wanted) in [
+        (4_097, Err(BacktraceError::BadLimit)),
+        (4_096, Ok(4_096)),
+        (2, Ok(2)),
+    ] {
+        assert!(rt; most_of(rt.alloc(), most) == wanted, "{most}");
+    }
+    assert!(rt; keeps_nothing(rt.alloc())?);
     Ok(())
 }
 

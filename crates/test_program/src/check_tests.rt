@@ -1,36 +1,22 @@
 //! `alog check` on the whole program: files that have a configuration, that have none, and that cannot be read.
 use crate::examples::{DAILY_ERRORS, FAN, ONE_FILE, ROTATING};
 use crate::faulty::ends_within;
-use crate::program::{Host, SMALL, Said, answers, removed, scratch, written};
-use std::fs;
-use std::process::Abort;
+use crate::program::{Host, SMALL, Said, removed, says, says_of, scratch, written};
 use std::test::Fail;
 
-/// Runs `alog check` on a document, in this file.
-fn of_document<R: Host + Abort>(
-    rt: &R,
-    file: &str,
-    document: &str,
-    said: Said<'_>,
-) -> Result<(), Fail> {
-    fs::write(rt, file, document)?;
-    answers(rt, ["alog", "check", file].as_slice(), "", said);
-    Ok(fs::remove_file(rt, file)?)
-}
-
-/// Each of these documents is a configuration.
-fn are_configurations<R: Host + Abort>(rt: &R, file: &str, documents: &[&str]) -> Result<(), Fail> {
-    for document in documents {
-        of_document(rt, file, document, Said::done("ok\n"))?;
-    }
-    Ok(())
+/// Whether `alog check` says this of a document, in this file.
+fn checks<R: Host>(rt: &R, file: &str, document: &str, said: Said<'_>) -> bool {
+    let words = ["alog", "check", file];
+    says_of(rt, (file, document), words.as_slice(), "", said)
 }
 
 #[test]
 fn examples_are_configurations(rt: HostRuntime) -> Result<(), Fail> {
     let path = scratch(&rt, "examples")?;
-    let documents = [ONE_FILE, DAILY_ERRORS, FAN, ROTATING, SMALL];
-    are_configurations(&rt, path.as_str(), documents.as_slice())
+    for document in [ONE_FILE, DAILY_ERRORS, FAN, ROTATING, SMALL] {
+        assert!(rt; checks(&rt, path.as_str(), document, Said::done("ok\n")));
+    }
+    Ok(())
 }
 
 /// Documents that are refused as a whole or at their top, and what is said of each.
@@ -80,51 +66,32 @@ const TABLES: [(&str, &str); 4] = [
     ),
 ];
 
-/// Each document is refused.
-fn are_refused<R: Host + Abort>(rt: &R, file: &str, rows: &[(&str, &str)]) -> Result<(), Fail> {
-    for (document, error) in rows {
-        of_document(rt, file, document, Said::refused("", error))?;
-    }
-    Ok(())
-}
-
 #[test]
 fn faults_of_configurations(rt: HostRuntime) -> Result<(), Fail> {
     let path = scratch(&rt, "faults")?;
-    are_refused(&rt, path.as_str(), TOPS.as_slice())?;
-    are_refused(&rt, path.as_str(), TABLES.as_slice())
-}
-
-/// A file cannot be read.
-fn is_unreadable<R: Host + Abort>(rt: &R, file: &str) -> Result<(), Fail> {
-    let error = format!(in rt.alloc(); "alog: {file} cannot be read: ")?;
-    answers(
-        rt,
-        ["alog", "check", file].as_slice(),
-        "",
-        Said::fault("", error.as_str()),
-    );
+    for (document, error) in TOPS.iter().chain(&TABLES) {
+        assert!(rt; checks(&rt, path.as_str(), document, Said::refused("", error)));
+    }
     Ok(())
 }
 
 #[test]
 fn unreadable_files(rt: HostRuntime) -> Result<(), Fail> {
     let path = scratch(&rt, "absent")?;
-    is_unreadable(&rt, path.as_str())?;
-    is_unreadable(&rt, "/")?;
-    is_unreadable(&rt, "")
+    for file in [path.as_str(), "/", ""] {
+        let error = format!(in rt.alloc(); "alog: {file} cannot be read: ")?;
+        let words = ["alog", "check", file];
+        assert!(rt; says(&rt, words.as_slice(), b"", Said::fault("", error.as_str())));
+    }
+    Ok(())
 }
 
 #[test]
 fn checks_to_failing_writers(rt: HostRuntime) -> Result<(), Fail> {
     let path = written(&rt, "writers", SMALL)?;
     for (room, status) in [(0, 3), (2, 3), (3, 0)] {
-        ends_within(
-            &rt,
-            ["alog", "check", path.as_str()].as_slice(),
-            room,
-            status,
-        );
+        let words = ["alog", "check", path.as_str()];
+        assert!(rt; ends_within(&rt, words.as_slice(), room, status), "{room}");
     }
     removed(&rt, path)
 }

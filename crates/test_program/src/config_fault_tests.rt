@@ -1,10 +1,9 @@
 //! Faults of scripts with a configuration, on the whole program.
 use crate::config_tests::{replays, replays_with};
-use crate::faulty::{Course, goes};
-use crate::program::{Host, SMALL, Said, answers, removed, run, scratch, written};
+use crate::faulty::{Course, ends};
+use crate::program::{Host, SMALL, Said, removed, run, says, scratch, written};
 use std::alloc::{AllocError, Global};
 use std::path::PathBuf;
-use std::process::Abort;
 use std::test::Fail;
 use std::{env, fs, process};
 
@@ -63,7 +62,10 @@ const REFUSED: [&str; 37] = [
 fn lines_that_are_refused(rt: HostRuntime) -> Result<(), Fail> {
     let path = written(&rt, "forms", SMALL)?;
     for line in &REFUSED {
-        replays(&rt, path.as_str(), line, Said::refused("", FIRST));
+        assert!(rt;
+            replays(&rt, path.as_str(), line, Said::refused("", FIRST)),
+            "{line}"
+        );
     }
     removed(&rt, path)
 }
@@ -87,7 +89,8 @@ const AT_A_WRONG_TIME: [(&str, &str); 6] = [
 fn lines_that_come_at_a_wrong_time(rt: HostRuntime) -> Result<(), Fail> {
     let path = written(&rt, "times", SMALL)?;
     for (script, printed) in &AT_A_WRONG_TIME {
-        replays(&rt, path.as_str(), script, Said::refused(printed, SECOND));
+        let said = Said::refused(printed, SECOND);
+        assert!(rt; replays(&rt, path.as_str(), script, said), "{script}");
     }
     removed(&rt, path)
 }
@@ -101,11 +104,10 @@ fn lines_that_want_a_configuration(rt: HostRuntime) {
         ("ring 2 0\nlevel memory info", SECOND),
         ("log 1 0 memory info x", FIRST),
     ] {
-        answers(
-            &rt,
-            ["alog", "replay"].as_slice(),
-            script,
-            Said::refused("", error),
+        let (words, said) = (["alog", "replay"], Said::refused("", error));
+        assert!(rt;
+            says(&rt, words.as_slice(), script.as_bytes(), said),
+            "{script}"
         );
     }
 }
@@ -117,31 +119,21 @@ const SHORT: &str =
 /// A text of 64 letters.
 const LETTERS: &str = "xxxxxxxxxxxxxxxxxxxxxxxxxxxxxxxxxxxxxxxxxxxxxxxxxxxxxxxxxxxxxxxx";
 
-/// Replays this front of a line with 64 letters and more behind it.
-fn of_letters<R: Host + Abort>(
-    rt: &R,
-    file: &str,
-    front: &str,
-    more: &str,
-    said: Said<'_>,
-) -> Result<(), Fail> {
-    let line = format!(in rt.alloc(); "{front}{LETTERS}{more}")?;
-    replays(rt, file, line.as_str(), said);
-    Ok(())
-}
-
-/// Replays texts at the limit, and over it. A message that no one gets is not looked at.
-fn of_limits<R: Host + Abort>(rt: &R, file: &str) -> Result<(), Fail> {
-    let filtered = Said::done("1 filtered info\n");
-    of_letters(rt, file, "log 1 0 net info ", "", Said::done(""))?;
-    of_letters(rt, file, "log 1 0 net info ", "x", Said::refused("", FIRST))?;
-    of_letters(rt, file, "log 1 0 net debug ", "x", filtered)
-}
-
+// Texts at the limit, and over it. A message that no one gets is not looked at.
 #[test]
 fn texts_over_the_limit(rt: HostRuntime) -> Result<(), Fail> {
     let path = written(&rt, "texts", SHORT)?;
-    of_limits(&rt, path.as_str())?;
+    for (front, more, said) in [
+        ("log 1 0 net info ", "", Said::done("")),
+        ("log 1 0 net info ", "x", Said::refused("", FIRST)),
+        ("log 1 0 net debug ", "x", Said::done("1 filtered info\n")),
+    ] {
+        let line = format!(in rt.alloc(); "{front}{LETTERS}{more}")?;
+        assert!(rt;
+            replays(&rt, path.as_str(), line.as_str(), said),
+            "{front} and {more}"
+        );
+    }
     removed(&rt, path)
 }
 
@@ -162,35 +154,30 @@ const NO_CONFIGURATIONS: [(&str, &str); 3] = [
     ),
 ];
 
-/// A script with a document that is no configuration says what is wrong with it, whatever the script is.
-fn are_no_configurations<R: Host + Abort>(rt: &R, file: &str) -> Result<(), Fail> {
+// A script with a document that is no configuration says what is wrong with it, whatever the script is.
+#[test]
+fn files_that_are_no_configuration(rt: HostRuntime) -> Result<(), Fail> {
+    let path = scratch(&rt, "refused")?;
     for (document, error) in &NO_CONFIGURATIONS {
         for script in ["# nothing", "log 1 0 net debug x", "refused"] {
-            replays_with(rt, file, document, script, Said::refused("", error))?;
+            let file = (path.as_str(), *document);
+            assert!(rt;
+                replays_with(&rt, file, script, Said::refused("", error)),
+                "{script}"
+            );
         }
     }
     Ok(())
 }
 
 #[test]
-fn files_that_are_no_configuration(rt: HostRuntime) -> Result<(), Fail> {
-    let path = scratch(&rt, "refused")?;
-    are_no_configurations(&rt, path.as_str())
-}
-
-/// A file cannot be read.
-fn is_unreadable<R: Host + Abort>(rt: &R, file: &str) -> Result<(), Fail> {
-    let error = format!(in rt.alloc(); "alog: {file} cannot be read: ")?;
-    replays(rt, file, "refused", Said::fault("", error.as_str()));
-    Ok(())
-}
-
-#[test]
 fn files_that_cannot_be_read(rt: HostRuntime) -> Result<(), Fail> {
     let path = scratch(&rt, "missing")?;
-    is_unreadable(&rt, path.as_str())?;
-    is_unreadable(&rt, "/")?;
-    is_unreadable(&rt, "")
+    for file in [path.as_str(), "/", ""] {
+        let error = format!(in rt.alloc(); "alog: {file} cannot be read: ")?;
+        assert!(rt; replays(&rt, file, "refused", Said::fault("", error.as_str())));
+    }
+    Ok(())
 }
 
 /// Nothing is read of the script.
@@ -213,34 +200,29 @@ const SCRIPT: &str = "log 1 0 net info a\nrun 1\nwork 2\nrun 2\n";
 const PRINTED: &str =
     "1 claim 0\n1 write 0\n1 posted 0 overran 0\n2 grab 0\n2 take 0 a\n2 line 0 out\n== out out 8\nnet I a\n";
 
-/// Plays the script where the reader, or the writer behind each number of bytes, fails.
-fn are_faults<R: Host + Abort>(rt: &R, words: &[&str]) {
+// The script where the reader, or the writer behind each number of bytes, fails.
+#[test]
+fn failing_readers_and_writers(rt: HostRuntime) -> Result<(), Fail> {
+    let path = written(&rt, "failing", SMALL)?;
+    let words = ["alog", "replay", "--config", path.as_str()];
     let course = Course {
-        words,
+        words: words.as_slice(),
         script: SCRIPT,
         printed: PRINTED,
         reader_fails: false,
         room: PRINTED.len(),
         writer_fails: true,
     };
-    goes(rt, course, 0, "");
+    assert!(rt; ends(&rt, course, 0, ""));
     let read_fault = Course {
         reader_fails: true,
         ..course
     };
-    goes(rt, read_fault, 3, "alog: refused 34\n");
+    assert!(rt; ends(&rt, read_fault, 3, "alog: refused 34\n"));
     for room in 0..PRINTED.len() {
-        goes(rt, Course { room, ..course }, 3, "alog: refused 35\n");
+        let cut = Course { room, ..course };
+        assert!(rt; ends(&rt, cut, 3, "alog: refused 35\n"), "at {room} bytes");
     }
-}
-
-#[test]
-fn failing_readers_and_writers(rt: HostRuntime) -> Result<(), Fail> {
-    let path = written(&rt, "failing", SMALL)?;
-    are_faults(
-        &rt,
-        ["alog", "replay", "--config", path.as_str()].as_slice(),
-    );
     removed(&rt, path)
 }
 
@@ -259,7 +241,7 @@ fn a_refused_configuration_comes_before_a_script_that_cannot_be_read(
         room: 0,
         writer_fails: true,
     };
-    goes(&rt, course, 2, error);
+    assert!(rt; ends(&rt, course, 2, error));
     removed(&rt, path)
 }
 

@@ -1,37 +1,22 @@
 //! Scripts with a configuration, on the whole program.
-use crate::program::{Host, SMALL, Said, answers, removed, scratch, written};
-use std::fs;
-use std::process::Abort;
+use crate::program::{Host, SMALL, Said, removed, says, says_of, scratch, written};
 use std::test::Fail;
 
-/// Replays a script with the configuration of a file.
-pub(crate) fn replays<R: Host + Abort>(rt: &R, file: &str, script: &str, said: Said<'_>) {
-    answers(
-        rt,
-        ["alog", "replay", "--config", file].as_slice(),
-        script,
-        said,
-    );
+/// Whether a script with the configuration of a file says this.
+pub(crate) fn replays<R: Host>(rt: &R, file: &str, script: &str, said: Said<'_>) -> bool {
+    let words = ["alog", "replay", "--config", file];
+    says(rt, words.as_slice(), script.as_bytes(), said)
 }
 
-/// Replays scripts with the configuration of a file, of which each prints this.
-fn print<R: Host + Abort>(rt: &R, file: &str, rows: &[(&str, &str)]) {
-    for (script, printed) in rows {
-        replays(rt, file, script, Said::done(printed));
-    }
-}
-
-/// Replays a script with this configuration, in this file.
-pub(crate) fn replays_with<R: Host + Abort>(
+/// Whether a script with this configuration, in this file, says this.
+pub(crate) fn replays_with<R: Host>(
     rt: &R,
-    file: &str,
-    document: &str,
+    (file, document): (&str, &str),
     script: &str,
     said: Said<'_>,
-) -> Result<(), Fail> {
-    fs::write(rt, file, document)?;
-    replays(rt, file, script, said);
-    Ok(fs::remove_file(rt, file)?)
+) -> bool {
+    let words = ["alog", "replay", "--config", file];
+    says_of(rt, (file, document), words.as_slice(), script, said)
 }
 
 /// The small configuration, whose logger flushes errors.
@@ -63,7 +48,12 @@ const LOGS: [(&str, &str); 2] = [
 #[test]
 fn logs_and_works(rt: HostRuntime) -> Result<(), Fail> {
     let path = written(&rt, "logs", SMALL)?;
-    print(&rt, path.as_str(), LOGS.as_slice());
+    for (script, printed) in &LOGS {
+        assert!(rt;
+            replays(&rt, path.as_str(), script, Said::done(printed)),
+            "{script}"
+        );
+    }
     removed(&rt, path)
 }
 
@@ -92,7 +82,12 @@ const LEVELS: [(&str, &str); 4] = [
 #[test]
 fn levels_flushes_and_counts(rt: HostRuntime) -> Result<(), Fail> {
     let path = written(&rt, "levels", SMALL)?;
-    print(&rt, path.as_str(), LEVELS.as_slice());
+    for (script, printed) in &LEVELS {
+        assert!(rt;
+            replays(&rt, path.as_str(), script, Said::done(printed)),
+            "{script}"
+        );
+    }
     removed(&rt, path)
 }
 
@@ -103,7 +98,9 @@ fn a_flush_that_is_due(rt: HostRuntime) -> Result<(), Fail> {
     let printed =
         "1 claim 0\n1 write 0\n1 posted 0 overran 0\n2 grab 0\n2 take 0 x\n2 line 0 out\n2 flush 0 out\n\
                    == out out 8\nnet E x\n";
-    replays_with(&rt, path.as_str(), FLUSHING, script, Said::done(printed))
+    let file = (path.as_str(), FLUSHING);
+    assert!(rt; replays_with(&rt, file, script, Said::done(printed)));
+    Ok(())
 }
 
 #[test]
@@ -120,34 +117,27 @@ fn a_dump_of_what_was_kept(rt: HostRuntime) -> Result<(), Fail> {
                    1 dumped 0\n2 grab 0\n2 take 0 === backtrace start ===\n2 line 0 out\n2 grab 1\n2 take 1 m2\n\
                    2 line 1 out\n2 grab 2\n2 take 2 m3\n2 line 2 out\n2 grab 3\n2 take 3 === backtrace end ===\n\
                    2 line 3 out\n== out out 52\n=== backtrace start ===\nm2\nm3\n=== backtrace end ===\n";
-    replays_with(&rt, path.as_str(), KEEPING, script, Said::done(printed))
-}
-
-/// The words have this status, on a script that prints a line.
-fn of_words<R: Host + Abort>(rt: &R, words: &[&str], said: Said<'_>) {
-    answers(rt, words, "log 1 0 net debug x", said);
-}
-
-/// Runs the program on command lines that name this configuration, and on some that do not.
-fn of_command_lines<R: Host + Abort>(rt: &R, file: &str, joined: &str) {
-    let done = Said::done("1 filtered info\n");
-    let wrong = Said::wrong("error: ");
-    of_words(rt, ["alog", "replay", joined].as_slice(), done);
-    of_words(rt, ["alog", "replay", "--config"].as_slice(), wrong);
-    of_words(
-        rt,
-        ["alog", "replay", "--config", file, "x"].as_slice(),
-        wrong,
-    );
-    of_words(rt, ["alog", "replay", joined, joined].as_slice(), wrong);
-    of_words(rt, ["alog", "--config", file, "replay"].as_slice(), wrong);
-    of_words(rt, ["alog", "check", "--config", file].as_slice(), wrong);
+    let file = (path.as_str(), KEEPING);
+    assert!(rt; replays_with(&rt, file, script, Said::done(printed)));
+    Ok(())
 }
 
 #[test]
 fn command_lines_with_a_configuration(rt: HostRuntime) -> Result<(), Fail> {
     let path = written(&rt, "words", SMALL)?;
-    let joined = format!(in rt.alloc(); "--config={}", path.as_str())?;
-    of_command_lines(&rt, path.as_str(), joined.as_str());
+    let file = path.as_str();
+    let joined = format!(in rt.alloc(); "--config={file}")?;
+    let joined = joined.as_str();
+    let (done, wrong) = (Said::done("1 filtered info\n"), Said::wrong("error: "));
+    for (words, said) in [
+        (["alog", "replay", joined].as_slice(), done),
+        (["alog", "replay", "--config"].as_slice(), wrong),
+        (["alog", "replay", "--config", file, "x"].as_slice(), wrong),
+        (["alog", "replay", joined, joined].as_slice(), wrong),
+        (["alog", "--config", file, "replay"].as_slice(), wrong),
+        (["alog", "check", "--config", file].as_slice(), wrong),
+    ] {
+        assert!(rt; says(&rt, words, b"log 1 0 net debug x", said), "{words:?}");
+    }
     removed(&rt, path)
 }

@@ -5,9 +5,8 @@ use crate::examples::{
     FAN_PRINTED, FAN_SCRIPT, FIRST, FIRST_PRINTED, POSTS, POSTS_PRINTED, ROTATING,
     ROTATING_PRINTED, ROTATING_SCRIPT,
 };
-use crate::program::{Host, Said, scratch};
+use crate::program::{Said, scratch};
 use crate::script_tests::prints;
-use std::process::Abort;
 use std::test::Fail;
 
 #[test]
@@ -17,24 +16,23 @@ fn examples_without_a_configuration(rt: HostRuntime) {
         (EMPTYING, EMPTYING_PRINTED),
         (POSTS, POSTS_PRINTED),
     ] {
-        prints(&rt, script, printed);
+        assert!(rt; prints(&rt, script, printed), "{script}");
     }
-}
-
-/// Replays the examples that have a configuration, in this file.
-fn are_examples<R: Host + Abort>(rt: &R, file: &str) -> Result<(), Fail> {
-    for (document, script, printed) in [
-        (DAILY_ERRORS, DAILY_ERRORS_SCRIPT, DAILY_ERRORS_PRINTED),
-        (FAN, FAN_SCRIPT, FAN_PRINTED),
-        (ROTATING, ROTATING_SCRIPT, ROTATING_PRINTED),
-    ] {
-        replays_with(rt, file, document, script, Said::done(printed))?;
-    }
-    Ok(())
 }
 
 #[test]
 fn examples_with_a_configuration(rt: HostRuntime) -> Result<(), Fail> {
     let path = scratch(&rt, "scripts")?;
-    are_examples(&rt, path.as_str())
+    for (document, script, printed) in [
+        (DAILY_ERRORS, DAILY_ERRORS_SCRIPT, DAILY_ERRORS_PRINTED),
+        (FAN, FAN_SCRIPT, FAN_PRINTED),
+        (ROTATING, ROTATING_SCRIPT, ROTATING_PRINTED),
+    ] {
+        let file = (path.as_str(), document);
+        assert!(rt;
+            replays_with(&rt, file, script, Said::done(printed)),
+            "{script}"
+        );
+    }
+    Ok(())
 }

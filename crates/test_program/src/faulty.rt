@@ -3,7 +3,6 @@ use crate::program::{Host, run};
 use std::alloc::{AllocError, Global};
 use std::io;
 use std::io::{Error, ErrorKind, Read, Write};
-use std::process::Abort;
 
 /// A text of this many letters, after a front.
 pub(crate) fn long(alloc: Global, front: &str, letters: usize) -> Result<String, AllocError> {
@@ -86,7 +85,7 @@ pub(crate) struct Course<'a> {
 }
 
 /// Whether a run has this status, prints a front that fills its room, and says this on standard error.
-fn ends<R: Host>(rt: &R, course: Course<'_>, status: u8, error: &str) -> bool {
+pub(crate) fn ends<R: Host>(rt: &R, course: Course<'_>, status: u8, error: &str) -> bool {
     let mut input = Trickle {
         bytes: course.script.as_bytes(),
         fails: course.reader_fails,
@@ -103,13 +102,8 @@ fn ends<R: Host>(rt: &R, course: Course<'_>, status: u8, error: &str) -> bool {
     found == status && is_full && is_front && errors.as_slice() == error.as_bytes()
 }
 
-/// The run has this status, prints a front that fills its room, and says this on standard error.
-pub(crate) fn goes<R: Host + Abort>(rt: &R, course: Course<'_>, status: u8, error: &str) {
-    assert!(rt; ends(rt, course, status, error), "at {} bytes", course.room);
-}
-
 /// Whether a run into this writer has this status, and says this on standard error.
-fn writes<R: Host, O: Write>(
+pub(crate) fn ends_into<R: Host, O: Write>(
     rt: &R,
     words: &[&str],
     output: &mut O,
@@ -122,29 +116,13 @@ fn writes<R: Host, O: Write>(
     found == status && errors.as_slice() == error.as_bytes()
 }
 
-/// The run into this writer has this status, and says this on standard error.
-pub(crate) fn ends_into<R: Host + Abort, O: Write>(
-    rt: &R,
-    words: &[&str],
-    output: &mut O,
-    status: u8,
-    error: &str,
-) {
-    assert!(rt; writes(rt, words, output, status, error), "{words:?}");
-}
-
-/// The run into a writer with this room has this status, and says that the output could not be written if it is 3.
-pub(crate) fn ends_within<R: Host + Abort>(rt: &R, words: &[&str], room: usize, status: u8) {
+/// Whether a run into a writer with this room has this status, and says that the output could not be written if it is 3.
+pub(crate) fn ends_within<R: Host>(rt: &R, words: &[&str], room: usize, status: u8) -> bool {
     let error = if status == 3 {
         "alog: refused 35\n"
     } else {
         ""
     };
-    ends_into(
-        rt,
-        words,
-        &mut Narrow::new(rt.alloc(), room, true),
-        status,
-        error,
-    );
+    let mut output = Narrow::new(rt.alloc(), room, true);
+    ends_into(rt, words, &mut output, status, error)
 }

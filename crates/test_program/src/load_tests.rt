@@ -1,24 +1,20 @@
 //! `alog load`, on the whole program.
 use crate::faulty::ends_within;
-use crate::program::{Host, SMALL, Said, answers, removed, scratch, written};
+use crate::program::{Host, SMALL, Said, removed, says, scratch, written};
+use std::alloc::Global;
 use std::fs;
 use std::path::PathBuf;
-use std::process::Abort;
 use std::test::Fail;
 
 const NO_TOTALS: &str = "asked 0\nposted 0\ndiscarded 0\noverrun 0\nhandled 0\n";
 
 const THREE: &str = "asked 3\nposted 3\ndiscarded 0\noverrun 0\nhandled 3\n";
 
-/// Makes a load of the configuration in this file, with two words more.
-fn loads<R: Host + Abort>(rt: &R, file: &str, more: &[&str; 2], said: Said<'_>) {
+/// Whether a load of the configuration in this file, with two words more, says this.
+fn loads<R: Host>(rt: &R, file: &str, more: &[&str; 2], said: Said<'_>) -> bool {
     let [first, second] = *more;
-    answers(
-        rt,
-        ["alog", "load", file, first, second].as_slice(),
-        "",
-        said,
-    );
+    let words = ["alog", "load", file, first, second];
+    says(rt, words.as_slice(), b"", said)
 }
 
 /// What more the words have, and which totals are printed.
@@ -43,11 +39,14 @@ const TOTALS: [([&str; 2], &str); 5] = [
 fn totals(rt: HostRuntime) -> Result<(), Fail> {
     let path = written(&rt, "totals", SMALL)?;
     for (more, printed) in &TOTALS {
-        loads(&rt, path.as_str(), more, Said::done(printed));
+        assert!(rt;
+            loads(&rt, path.as_str(), more, Said::done(printed)),
+            "{more:?}"
+        );
     }
     let hundred = "asked 100\nposted 100\ndiscarded 0\noverrun 0\nhandled 100\n";
     let words = ["alog", "load", path.as_str()];
-    answers(&rt, words.as_slice(), "", Said::done(hundred));
+    assert!(rt; says(&rt, words.as_slice(), b"", Said::done(hundred)));
     removed(&rt, path)
 }
 
@@ -59,7 +58,7 @@ const QUIET: &str = "[[sink]]\nname = \"out\"\nkind = \"memory\"\n\n\
 fn messages_below_the_level_are_not_counted(rt: HostRuntime) -> Result<(), Fail> {
     let path = written(&rt, "quiet", QUIET)?;
     let more = ["--producers=2", "--messages=5"];
-    loads(&rt, path.as_str(), &more, Said::done(NO_TOTALS));
+    assert!(rt; loads(&rt, path.as_str(), &more, Said::done(NO_TOTALS)));
     removed(&rt, path)
 }
 
@@ -100,10 +99,14 @@ const OUT_OF_BOUNDS: [[&str; 2]; 4] = [
 fn numbers_that_are_refused(rt: HostRuntime) -> Result<(), Fail> {
     let path = written(&rt, "numbers", SMALL)?;
     for (more, error) in &NO_NUMBERS {
-        loads(&rt, path.as_str(), more, Said::wrong(error));
+        assert!(rt;
+            loads(&rt, path.as_str(), more, Said::wrong(error)),
+            "{more:?}"
+        );
     }
     for more in &OUT_OF_BOUNDS {
-        loads(&rt, path.as_str(), more, Said::wrong("alog: refused 20\n"));
+        let said = Said::wrong("alog: refused 20\n");
+        assert!(rt; loads(&rt, path.as_str(), more, said), "{more:?}");
     }
     removed(&rt, path)
 }
@@ -113,37 +116,32 @@ fn a_configuration_that_is_refused_comes_before_those_bounds(rt: HostRuntime) ->
     let path = written(&rt, "no_toml", "queue = \"8")?;
     let error = "alog: refused 28\nalog: the document is not TOML: line 1: invalid string\n";
     let more = ["--producers", "65"];
-    loads(&rt, path.as_str(), &more, Said::refused("", error));
+    assert!(rt; loads(&rt, path.as_str(), &more, Said::refused("", error)));
     removed(&rt, path)
 }
 
 /// Why a file cannot be read that is absent.
-fn why_absent<R: Host>(rt: &R, file: &str) -> Result<String, Fail> {
+fn why_absent(rt: &HostRuntime, file: &str) -> Result<String, Fail> {
     match fs::read(rt, file) {
         Ok(_) => Err(Fail::new("the file is absent")),
         Err(why) => Ok(format!(in rt.alloc(); "alog: {file} cannot be read: {why}\n")?),
     }
 }
 
-/// A load of a file that is absent.
-fn of_absent<R: Host + Abort>(rt: &R, file: &str) -> Result<(), Fail> {
-    let error = why_absent(rt, file)?;
-    let more = ["--producers", "65"];
-    loads(rt, file, &more, Said::fault("", error.as_str()));
-    Ok(())
-}
-
 #[test]
 fn a_file_that_is_absent_comes_before_those_bounds(rt: HostRuntime) -> Result<(), Fail> {
     let path = scratch(&rt, "absent_load")?;
-    of_absent(&rt, path.as_str())
+    let error = why_absent(&rt, path.as_str())?;
+    let said = Said::fault("", error.as_str());
+    assert!(rt; loads(&rt, path.as_str(), &["--producers", "65"], said));
+    Ok(())
 }
 
 #[test]
 fn no_configuration_is_named(rt: HostRuntime) {
     let words = ["alog", "load", "--producers=2"];
     let error = "error: the following required arguments";
-    answers(&rt, words.as_slice(), "", Said::wrong(error));
+    assert!(rt; says(&rt, words.as_slice(), b"", Said::wrong(error)));
 }
 
 #[test]
@@ -151,7 +149,7 @@ fn totals_to_failing_writers(rt: HostRuntime) -> Result<(), Fail> {
     let path = written(&rt, "totals_failing", SMALL)?;
     for (room, status) in [(0, 3), (THREE.len() - 1, 3), (THREE.len(), 0)] {
         let words = ["alog", "load", path.as_str(), "--messages=3"];
-        ends_within(&rt, words.as_slice(), room, status);
+        assert!(rt; ends_within(&rt, words.as_slice(), room, status), "{room}");
     }
     removed(&rt, path)
 }
@@ -164,36 +162,33 @@ fn folder(rt: &HostRuntime, name: &str) -> Result<PathBuf, Fail> {
 }
 
 /// The file of the sink in this folder, which is removed.
-fn lines_in<R: Host>(rt: &R, folder: &PathBuf) -> Result<String, Fail> {
+fn lines_in(rt: &HostRuntime, folder: &PathBuf) -> Result<String, Fail> {
     let file = folder.join(rt.alloc(), "out")?;
     let lines = fs::read_to_string(rt, file)?;
     fs::remove_dir_all(rt, folder.as_str())?;
     Ok(lines)
 }
 
-/// These are the lines of the sink in this folder.
-fn has_lines<R: Host + Abort>(rt: &R, folder: &PathBuf, wanted: &str) -> Result<(), Fail> {
-    let is_whole = lines_in(rt, folder)?.as_str() == wanted;
-    assert!(rt; is_whole);
-    Ok(())
-}
-
-/// Makes two loads to this folder.
-fn of_folder<R: Host + Abort>(rt: &R, file: &str, folder: &PathBuf) -> Result<(), Fail> {
-    let to = folder.as_str();
-    let words = ["alog", "load", file, "--messages=3", "--folder", to];
-    answers(rt, words.as_slice(), "", Said::done(THREE));
-    let words = ["alog", "load", file, "--folder", to, "--messages=1"];
-    let one = "asked 1\nposted 1\ndiscarded 0\noverrun 0\nhandled 1\n";
-    answers(rt, words.as_slice(), "", Said::done(one));
-    has_lines(rt, folder, "net I 0 0\nnet I 0 1\nnet I 0 2\nnet I 0 0\n")
+/// Whether a load to a folder says this, which has so many messages.
+fn loads_to<R: Host>(rt: &R, (file, to): (&str, &str), messages: &str, said: Said<'_>) -> bool {
+    let words = ["alog", "load", file, messages, "--folder", to];
+    says(rt, words.as_slice(), b"", said)
 }
 
 #[test]
 fn files_of_a_folder(rt: HostRuntime) -> Result<(), Fail> {
     let folder = folder(&rt, "folder")?;
     let path = written(&rt, "to_folder", SMALL)?;
-    of_folder(&rt, path.as_str(), &folder)?;
+    let places = (path.as_str(), folder.as_str());
+    let one = "asked 1\nposted 1\ndiscarded 0\noverrun 0\nhandled 1\n";
+    for (messages, printed) in [("--messages=3", THREE), ("--messages=1", one)] {
+        assert!(rt;
+            loads_to(&rt, places, messages, Said::done(printed)),
+            "{messages}"
+        );
+    }
+    let lines = lines_in(&rt, &folder)?;
+    assert!(rt; lines.as_str() == "net I 0 0\nnet I 0 1\nnet I 0 2\nnet I 0 0\n");
     removed(&rt, path)
 }
 
@@ -215,23 +210,28 @@ fn number_of(line: &str) -> Option<usize> {
     Some(producer * MESSAGES + message)
 }
 
-/// Each message has one line here, and nothing else stands here.
-fn has_each_once<R: AllocGlobal + Abort>(rt: &R, text: &str) -> Result<(), Fail> {
-    let mut found = Vec::from_elem(rt.alloc(), false, PRODUCERS * MESSAGES)?;
+/// Whether each message has one line here, and nothing else stands here.
+fn has_each_once(alloc: Global, text: &str) -> Result<bool, Fail> {
+    let mut found = Vec::from_elem(alloc, false, PRODUCERS * MESSAGES)?;
     for line in text.lines() {
-        let Some(is_found) = number_of(line).and_then(|number| found.get_mut(number)) else {
-            panic!(rt; "another line: {line}")
-        };
-        assert!(rt; !*is_found, "{line}");
-        *is_found = true;
+        match number_of(line).and_then(|number| found.get_mut(number)) {
+            Some(is_found) if !*is_found => *is_found = true,
+            _ => return Ok(false),
+        }
     }
-    assert!(rt; found.iter().all(|is_found| *is_found));
-    Ok(())
+    Ok(found.iter().all(|is_found| *is_found))
 }
 
-/// Two workers write the lines of three producers to a file of this folder.
-fn of_many<R: Host + Abort>(rt: &R, file: &str, folder: &PathBuf) -> Result<(), Fail> {
-    let to = folder.as_str();
+/// The small configuration with two workers.
+const TWO_WORKERS: &str =
+    "workers = 2\nqueue = 8\n\n[[sink]]\nname = \"out\"\nkind = \"memory\"\npattern = \"%n %L %v\"\n\n\
+                           [[logger]]\nname = \"net\"\nsinks = [\"out\"]\n";
+
+/// What a load of three producers says.
+const SIX_HUNDRED: &str = "asked 600\nposted 600\ndiscarded 0\noverrun 0\nhandled 600\n";
+
+/// Whether two workers that write the lines of three producers to a file of a folder say so.
+fn loads_many<R: Host>(rt: &R, file: &str, to: &str) -> bool {
     let words = [
         "alog",
         "load",
@@ -241,22 +241,16 @@ fn of_many<R: Host + Abort>(rt: &R, file: &str, folder: &PathBuf) -> Result<(), 
         "--folder",
         to,
     ];
-    let all = "asked 600\nposted 600\ndiscarded 0\noverrun 0\nhandled 600\n";
-    answers(rt, words.as_slice(), "", Said::done(all));
-    let lines = lines_in(rt, folder)?;
-    has_each_once(rt, lines.as_str())
+    says(rt, words.as_slice(), b"", Said::done(SIX_HUNDRED))
 }
-
-/// The small configuration with two workers.
-const TWO_WORKERS: &str =
-    "workers = 2\nqueue = 8\n\n[[sink]]\nname = \"out\"\nkind = \"memory\"\npattern = \"%n %L %v\"\n\n\
-                           [[logger]]\nname = \"net\"\nsinks = [\"out\"]\n";
 
 #[test]
 fn each_line_of_many_is_in_its_file(rt: HostRuntime) -> Result<(), Fail> {
     let folder = folder(&rt, "many")?;
     let path = written(&rt, "to_many", TWO_WORKERS)?;
-    of_many(&rt, path.as_str(), &folder)?;
+    assert!(rt; loads_many(&rt, path.as_str(), folder.as_str()));
+    let lines = lines_in(&rt, &folder)?;
+    assert!(rt; has_each_once(rt.alloc(), lines.as_str())?);
     removed(&rt, path)
 }
 
@@ -265,13 +259,8 @@ fn each_line_of_many_is_in_its_file(rt: HostRuntime) -> Result<(), Fail> {
 fn a_fault_stands_behind_the_totals(rt: HostRuntime) -> Result<(), Fail> {
     let folder = scratch(&rt, "absent_folder")?;
     let path = written(&rt, "no_folder", SMALL)?;
-    let (file, to) = (path.as_str(), folder.as_str());
-    let words = ["alog", "load", file, "--messages=3", "--folder", to];
-    answers(
-        &rt,
-        words.as_slice(),
-        "",
-        Said::fault(THREE, "alog: refused 22\n"),
-    );
+    let places = (path.as_str(), folder.as_str());
+    let said = Said::fault(THREE, "alog: refused 22\n");
+    assert!(rt; loads_to(&rt, places, "--messages=3", said));
     removed(&rt, path)
 }

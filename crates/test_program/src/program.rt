@@ -1,11 +1,12 @@
 //! One run of the whole program, and whether it said what it was to say.
 //!
-//! What a run holds is alive in one small function alone, which answers a `bool`: the tests that look at it have nothing alive.
+//! What a run holds is alive in one small function alone, which answers a `bool`: the tests that look at it have nothing alive. A
+//! function over any `Host` is dear, since it carries what each part of one promises: so there are few, and the loops over rows are in
+//! the tests, whose runtime is known.
 use alog_program::Screen;
 use alog_server::Folders;
 use std::io::{Read, Write};
 use std::path::PathBuf;
-use std::process::Abort;
 use std::rt::Files;
 use std::sync::Wait;
 use std::test::Fail;
@@ -99,7 +100,7 @@ fn is_error(found: &[u8], wanted: &str) -> bool {
 }
 
 /// Whether the program says this on these words and this input.
-fn says<R: Host>(rt: &R, words: &[&str], input: &[u8], said: Said<'_>) -> bool {
+pub(crate) fn says<R: Host>(rt: &R, words: &[&str], input: &[u8], said: Said<'_>) -> bool {
     let mut input = input;
     let mut output = Vec::new(rt.alloc());
     let mut errors = Vec::new(rt.alloc());
@@ -108,17 +109,18 @@ fn says<R: Host>(rt: &R, words: &[&str], input: &[u8], said: Said<'_>) -> bool {
     status == said.status && is_printed && is_error(errors.as_slice(), said.error)
 }
 
-/// The program says this on these words and this input.
-pub(crate) fn answers<R: Host + Abort>(rt: &R, words: &[&str], input: &str, said: Said<'_>) {
-    assert!(rt;
-        says(rt, words, input.as_bytes(), said),
-        "{words:?} {input}"
-    );
-}
-
-/// The same with an input that is no text.
-pub(crate) fn answers_bytes<R: Host + Abort>(rt: &R, words: &[&str], input: &[u8], said: Said<'_>) {
-    assert!(rt; says(rt, words, input, said));
+/// Whether it does so where this file has this document. The file is removed again.
+pub(crate) fn says_of<R: Host>(
+    rt: &R,
+    (file, document): (&str, &str),
+    words: &[&str],
+    input: &str,
+    said: Said<'_>,
+) -> bool {
+    let is_written = fs::write(rt, file, document).is_ok();
+    let is_said = says(rt, words, input.as_bytes(), said);
+    let is_removed = fs::remove_file(rt, file).is_ok();
+    is_written && is_said && is_removed
 }
 
 /// A file for one test, which is not there yet.

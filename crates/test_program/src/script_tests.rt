@@ -1,20 +1,19 @@
 //! The worked scripts and the bad forms, on the whole program.
-use crate::faulty::{Course, goes, long};
-use crate::program::{Host, Said, answers, answers_bytes};
+use crate::faulty::{Course, ends, long};
+use crate::program::{Host, Said, says};
 use std::alloc::AllocError;
-use std::process::Abort;
 use std::test::Fail;
 
 const WORDS: [&str; 2] = ["alog", "replay"];
 
-/// Replays a script, which prints this.
-pub(crate) fn prints<R: Host + Abort>(rt: &R, script: &str, printed: &str) {
-    answers(rt, WORDS.as_slice(), script, Said::done(printed));
+/// Whether a script says this.
+fn replays<R: Host>(rt: &R, script: &str, said: Said<'_>) -> bool {
+    says(rt, WORDS.as_slice(), script.as_bytes(), said)
 }
 
-/// Replays a script, of which a line is refused behind what it prints.
-fn refuses<R: Host + Abort>(rt: &R, script: &str, printed: &str, error: &str) {
-    answers(rt, WORDS.as_slice(), script, Said::refused(printed, error));
+/// Whether a script prints this.
+pub(crate) fn prints<R: Host>(rt: &R, script: &str, printed: &str) -> bool {
+    replays(rt, script, Said::done(printed))
 }
 
 /// Texts through the queue into the memory file, and what is printed.
@@ -41,7 +40,7 @@ const MEMORY_FILES: [(&str, &str); 3] = [
 #[test]
 fn memory_file(rt: HostRuntime) {
     for (script, printed) in &MEMORY_FILES {
-        prints(&rt, script, printed);
+        assert!(rt; prints(&rt, script, printed), "{script}");
     }
 }
 
@@ -80,7 +79,7 @@ const QUEUES: [(&str, &str); 6] = [
 #[test]
 fn empty_and_full_queues(rt: HostRuntime) {
     for (script, printed) in &QUEUES {
-        prints(&rt, script, printed);
+        assert!(rt; prints(&rt, script, printed), "{script}");
     }
 }
 
@@ -121,7 +120,7 @@ const POSTS: [(&str, &str); 4] = [
 #[test]
 fn posts(rt: HostRuntime) {
     for (script, printed) in &POSTS {
-        prints(&rt, script, printed);
+        assert!(rt; prints(&rt, script, printed), "{script}");
     }
 }
 
@@ -152,7 +151,7 @@ fn a_post_blocks_until_there_is_room(rt: HostRuntime) -> Result<(), Fail> {
     )?;
     let script = "ring 2 0\npush 1 a\nrun 1\npush 2 b\nrun 2\n\
                   post 3 block c\nrun 3\npop 4\nrun 4\nrun 3\ncounts";
-    prints(&rt, script, printed.as_str());
+    assert!(rt; prints(&rt, script, printed.as_str()));
     Ok(())
 }
 
@@ -180,14 +179,14 @@ fn busy_script(rt: &impl AllocGlobal) -> Result<String, AllocError> {
 fn a_post_gives_up_after_64_busy_rounds(rt: HostRuntime) -> Result<(), Fail> {
     let script = busy_script(&rt)?;
     let printed = busy_rounds(&rt)?;
-    prints(&rt, script.as_str(), printed.as_str());
+    assert!(rt; prints(&rt, script.as_str(), printed.as_str()));
     Ok(())
 }
 
 #[test]
 fn scripts_without_a_command(rt: HostRuntime) {
     for script in ["", "\n# a comment\n\n"] {
-        prints(&rt, script, "");
+        assert!(rt; prints(&rt, script, ""), "{script}");
     }
 }
 
@@ -236,17 +235,19 @@ const THIRD_LINES: [&str; 6] = [
 
 #[test]
 fn refused_lines(rt: HostRuntime) {
-    for script in &FIRST_LINES {
-        refuses(&rt, script, "", "alog: refused 33 at line 1\n");
+    for (scripts, error) in [
+        (FIRST_LINES.as_slice(), "alog: refused 33 at line 1\n"),
+        (SECOND_LINES.as_slice(), "alog: refused 33 at line 2\n"),
+        (THIRD_LINES.as_slice(), "alog: refused 33 at line 3\n"),
+        (
+            ["\n#\nring 2 0\nring 2 0"].as_slice(),
+            "alog: refused 33 at line 4\n",
+        ),
+    ] {
+        for script in scripts {
+            assert!(rt; replays(&rt, script, Said::refused("", error)), "{script}");
+        }
     }
-    for script in &SECOND_LINES {
-        refuses(&rt, script, "", "alog: refused 33 at line 2\n");
-    }
-    for script in &THIRD_LINES {
-        refuses(&rt, script, "", "alog: refused 33 at line 3\n");
-    }
-    let again = "\n#\nring 2 0\nring 2 0";
-    refuses(&rt, again, "", "alog: refused 33 at line 4\n");
 }
 
 #[test]
@@ -265,20 +266,11 @@ fn printed_before_a_refused_line(rt: HostRuntime) {
             "alog: refused 33 at line 6\n",
         ),
     ] {
-        refuses(&rt, script, printed, error);
+        assert!(rt;
+            replays(&rt, script, Said::refused(printed, error)),
+            "{script}"
+        );
     }
-}
-
-/// Replays a script whose last line has so many letters behind its front.
-fn of_long<R: Host + Abort>(
-    rt: &R,
-    front: &str,
-    letters: usize,
-    said: Said<'_>,
-) -> Result<(), Fail> {
-    let script = long(rt.alloc(), front, letters)?;
-    answers(rt, WORDS.as_slice(), script.as_str(), said);
-    Ok(())
 }
 
 #[test]
@@ -287,16 +279,25 @@ fn long_lines(rt: HostRuntime) -> Result<(), Fail> {
         "alog: refused 33 at line 1\n",
         "alog: refused 33 at line 2\n",
     );
-    of_long(&rt, "#", 16_383, Said::done(""))?;
-    of_long(&rt, "#", 16_384, Said::refused("", first))?;
-    of_long(&rt, "ring 2 0\npush 1 ", 2_048, Said::done(""))?;
-    of_long(&rt, "ring 2 0\npush 1 ", 2_049, Said::refused("", second))
+    for (front, letters, said) in [
+        ("#", 16_383, Said::done("")),
+        ("#", 16_384, Said::refused("", first)),
+        ("ring 2 0\npush 1 ", 2_048, Said::done("")),
+        ("ring 2 0\npush 1 ", 2_049, Said::refused("", second)),
+    ] {
+        let script = long(rt.alloc(), front, letters)?;
+        assert!(rt;
+            replays(&rt, script.as_str(), said),
+            "{front} and {letters}"
+        );
+    }
+    Ok(())
 }
 
 #[test]
 fn a_line_that_is_no_text(rt: HostRuntime) {
     let said = Said::refused("", "alog: refused 33 at line 2\n");
-    answers_bytes(&rt, WORDS.as_slice(), b"ring 2 0\n#\xff\n".as_slice(), said);
+    assert!(rt; says(&rt, WORDS.as_slice(), b"ring 2 0\n#\xff\n", said));
 }
 
 const SCRIPT: &str = "ring 2 0\npush 1 a\nrun 1\nwork 2\nrun 2\n";
@@ -315,7 +316,7 @@ fn one_byte_at_a_time(rt: HostRuntime) {
             room: PRINTED.len(),
             writer_fails: true,
         };
-        goes(&rt, course, status, error);
+        assert!(rt; ends(&rt, course, status, error), "{status}");
     }
 }
 
@@ -331,7 +332,10 @@ fn each_write_failing(rt: HostRuntime) {
                 room,
                 writer_fails,
             };
-            goes(&rt, course, 3, "alog: refused 35\n");
+            assert!(rt;
+                ends(&rt, course, 3, "alog: refused 35\n"),
+                "at {room} bytes"
+            );
         }
     }
 }

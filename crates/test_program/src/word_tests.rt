@@ -1,12 +1,11 @@
 //! Command lines, and the lines of messages, on the whole program.
 use crate::faulty::{Narrow, ends_into, ends_within, long};
-use crate::program::{Host, Said, answers, run};
+use crate::program::{Host, Said, run, says};
 use alog_program::{ArgumentsError, collect_words, refuse_arguments};
 use std::alloc::Global;
 use std::env::{Env, FillError};
 use std::io;
 use std::io::{BufWriter, Error, ErrorKind, Write};
-use std::process::Abort;
 use std::test::Fail;
 
 /// What stands behind `alog format`, and the line; the last five have least and greatest values.
@@ -56,7 +55,10 @@ const LINES: [([&str; 4], &str); 10] = [
 fn lines(rt: HostRuntime) {
     for ([pattern, text, first, second], line) in &LINES {
         let words = ["alog", "format", *pattern, *text, *first, *second];
-        answers(&rt, words.as_slice(), "", Said::done(line));
+        assert!(rt;
+            says(&rt, words.as_slice(), b"", Said::done(line)),
+            "{pattern}"
+        );
     }
 }
 
@@ -104,45 +106,38 @@ const REFUSED_VALUES: [(&str, &str); 9] = [
 fn refused_values(rt: HostRuntime) {
     for (value, error) in &REFUSED_VALUES {
         let words = ["alog", "format", "%v", "x", *value];
-        answers(&rt, words.as_slice(), "", Said::wrong(error));
+        assert!(rt;
+            says(&rt, words.as_slice(), b"", Said::wrong(error)),
+            "{value}"
+        );
     }
 }
 
-/// A line of a pattern, a text and a field of so many letters is refused by this number.
-fn of_long<R: Host + Abort>(
-    rt: &R,
-    pattern: &str,
-    text: &str,
-    field: (&str, usize),
-    error: &str,
-) -> Result<(), Fail> {
-    let field = long(rt.alloc(), field.0, field.1)?;
-    let words = ["alog", "format", pattern, text, field.as_str()];
-    answers(rt, words.as_slice(), "", Said::refused("", error));
-    Ok(())
-}
+/// So many signs, which make a line too long.
+const WIDE: &str = "%v%v%v%v%v%v%v%v%v%v%v%v%v%v%v%v%v%v%v%v%v%v%v%v%v%v%v%v%v%v%v%v";
 
-/// Lines whose name, file or function is too long are refused, behind a text and a pattern that are.
-fn of_long_texts<R: Host + Abort>(rt: &R, pattern: &str, text: &str) -> Result<(), Fail> {
-    let wide = "%v%v%v%v%v%v%v%v%v%v%v%v%v%v%v%v%v%v%v%v%v%v%v%v%v%v%v%v%v%v%v%v";
+// Lines whose name, file or function is too long are refused, behind a text and a pattern that are.
+#[test]
+fn refused_lines(rt: HostRuntime) -> Result<(), Fail> {
+    let pattern = long(rt.alloc(), "", 257)?;
+    let text = long(rt.alloc(), "", 2_049)?;
+    let (pattern, text) = (pattern.as_str(), text.as_str());
     for (pattern, text, field, letters, error) in [
         (pattern, text, "--name=", 65, "alog: refused 17\n"),
-        (wide, text, "--name=", 65, "alog: refused 18\n"),
+        (WIDE, text, "--name=", 65, "alog: refused 18\n"),
         ("%v", text, "--name=", 65, "alog: refused 2\n"),
         ("%v", "x", "--name=", 65, "alog: refused 3\n"),
         ("%v", "x", "--file=", 257, "alog: refused 3\n"),
         ("%v", "x", "--function=", 129, "alog: refused 3\n"),
     ] {
-        of_long(rt, pattern, text, (field, letters), error)?;
+        let field = long(rt.alloc(), field, letters)?;
+        let words = ["alog", "format", pattern, text, field.as_str()];
+        assert!(rt;
+            says(&rt, words.as_slice(), b"", Said::refused("", error)),
+            "{error}"
+        );
     }
     Ok(())
-}
-
-#[test]
-fn refused_lines(rt: HostRuntime) -> Result<(), Fail> {
-    let pattern = long(rt.alloc(), "", 257)?;
-    let text = long(rt.alloc(), "", 2_049)?;
-    of_long_texts(&rt, pattern.as_str(), text.as_str())
 }
 
 /// Which stream has text.
@@ -168,11 +163,6 @@ fn ran<R: Host>(rt: &R, words: &[&str]) -> (u8, Option<On>) {
     (status, on)
 }
 
-/// These words have this status, and text on this stream.
-fn says<R: Host + Abort>(rt: &R, words: &[&str], status: u8, on: On) {
-    assert!(rt; ran(rt, words) == (status, Some(on)), "{words:?}");
-}
-
 #[test]
 fn command_lines(rt: HostRuntime) {
     for words in [
@@ -182,7 +172,7 @@ fn command_lines(rt: HostRuntime) {
         ["alog", "format", "--help"].as_slice(),
         ["alog", "load", "--help"].as_slice(),
     ] {
-        says(&rt, words, 0, On::Output);
+        assert!(rt; ran(&rt, words) == (0, Some(On::Output)), "{words:?}");
     }
     for words in [
         ["alog"].as_slice(),
@@ -196,9 +186,9 @@ fn command_lines(rt: HostRuntime) {
         ["alog", "format", "%v", "x", "--previous=0"].as_slice(),
         ["alog", "format", "%v", "--time", "-1"].as_slice(),
     ] {
-        says(&rt, words, 1, On::Errors);
+        assert!(rt; ran(&rt, words) == (1, Some(On::Errors)), "{words:?}");
     }
-    says(&rt, ["alog", "replay"].as_slice(), 0, On::Neither);
+    assert!(rt; ran(&rt, ["alog", "replay"].as_slice()) == (0, Some(On::Neither)));
 }
 
 /// Takes all bytes, and fails when it is flushed.
@@ -215,27 +205,26 @@ impl Write for Unflushed {
     }
 }
 
-/// Runs the program into a buffer over a writer with this room, which fails.
-fn ends_within_a_buffer<R: Host + Abort>(rt: &R, words: &[&str], room: usize) -> Result<(), Fail> {
-    let mut output = BufWriter::new(rt.alloc(), Narrow::new(rt.alloc(), room, true))?;
-    ends_into(rt, words, &mut output, 3, "alog: refused 35\n");
-    Ok(())
-}
-
-/// Runs the program into writers that fail.
-fn fails<R: Host + Abort>(rt: &R, words: &[&str]) -> Result<(), Fail> {
-    ends_into(rt, words, &mut Unflushed, 3, "alog: refused 35\n");
-    for room in 0..5 {
-        ends_within(rt, words, room, 3);
-        ends_within_a_buffer(rt, words, room)?;
+/// Whether a run into a buffer over a writer with this room, which fails, tells so.
+fn ends_within_a_buffer<R: Host>(rt: &R, words: &[&str], room: usize) -> bool {
+    match BufWriter::new(rt.alloc(), Narrow::new(rt.alloc(), room, true)) {
+        Ok(mut output) => ends_into(rt, words, &mut output, 3, "alog: refused 35\n"),
+        Err(_) => false,
     }
-    Ok(())
 }
 
 #[test]
-fn failing_writers(rt: HostRuntime) -> Result<(), Fail> {
-    fails(&rt, ["alog", "format", "%v", "hello"].as_slice())?;
-    fails(&rt, ["alog", "--help"].as_slice())
+fn failing_writers(rt: HostRuntime) {
+    for words in [
+        ["alog", "format", "%v", "hello"].as_slice(),
+        ["alog", "--help"].as_slice(),
+    ] {
+        assert!(rt; ends_into(&rt, words, &mut Unflushed, 3, "alog: refused 35\n"));
+        for room in 0..5 {
+            assert!(rt; ends_within(&rt, words, room, 3), "{room}");
+            assert!(rt; ends_within_a_buffer(&rt, words, room), "{room}");
+        }
+    }
 }
 
 /// The words that it has, as bytes. It is asked for nothing else.
@@ -289,8 +278,8 @@ fn collected_words(rt: HostRuntime) -> Result<(), Fail> {
 }
 
 /// Whether words that cannot be had end the program so.
-fn ends_by<R: AllocGlobal>(rt: &R, error: ArgumentsError, status: u8, said: &str) -> bool {
-    let mut errors = Vec::new(rt.alloc());
+fn ends_by(alloc: Global, error: ArgumentsError, status: u8, said: &str) -> bool {
+    let mut errors = Vec::new(alloc);
     let found = refuse_arguments(error, &mut errors);
     found == status && errors.as_slice() == said.as_bytes()
 }
@@ -304,6 +293,6 @@ fn words_that_cannot_be_had(rt: HostRuntime) {
         (ArgumentsError::TooLong(3), 1, too_long),
         (ArgumentsError::OutOfMemory, 4, "alog: refused 1\n"),
     ] {
-        assert!(rt; ends_by(&rt, error, status, said));
+        assert!(rt; ends_by(rt.alloc(), error, status, said));
     }
 }

@@ -1,14 +1,15 @@
 //! A sink under a lock, to which two threads give lines.
-ghost use Rattle.std.specs.Prelude.{◌≡◌};
+ghost use Rattle.std.specs.Prelude.{◌≡◌, IsTrue};
 ghost use Rattle.alog_lane.specs.Calls.{IsSeatOf};
 ghost use Rattle.alog_sink.specs.Sinks.{MayTurn};
 
-use crate::sinks::{has, memory, message};
+use crate::sinks::{Plan, leaves, message};
 use crate::stores::Yielding;
 use alog_format::LineBuf;
 use alog_lane::{Held, Lane, LaneSeat, alone_saw_its_own};
 use alog_msg::{Item, Level};
-use alog_sink::{MemStore, Served, Sink, SinkError, Taken, lanes_write_their_texts};
+use alog_sink::{MemStore, Served, Sink, SinkError, Store, Taken, lanes_write_their_texts};
+use std::alloc::Global;
 use std::process::Abort;
 use std::test::Fail;
 use std::thread::{self, Threads};
@@ -116,73 +117,124 @@ fn has_lines(rt: &impl Abort, sink: &Sink<Yielding>, one: &[u64], two: &[u64]) {
     has_letter(rt, bytes, two, b'b');
 }
 
-#[test]
-fn two_threads_write_lines(rt: HostRuntime) -> Result<(), Fail> {
-    let alloc = rt.alloc();
-    let one = message(alloc, Level::Info, "a")?;
-    let two = message(alloc, Level::Info, "b")?;
-    let (first, second) = (LineBuf::new(alloc, 128)?, LineBuf::new(alloc, 128)?);
-    let sink = memory(alloc, Yielding(MemStore::new(alloc)), b"%v")?;
-    assert!(rt; sink.may_take(&one, &first) && sink.may_take(&two, &second));
-    let Ok((lane, mut seat)) = Lane::new(alloc, sink) else {
-        panic!(rt; "no memory")
-    };
+// What a thread gives, and room for its line.
+#[derive(Drop)]
+struct Given {
+    text: Item,
+    line: LineBuf,
+}
+
+// A text of level info.
+fn given(alloc: Global, text: &str) -> Result<Given, Fail> {
+    let text = Item::Text(message(alloc, Level::Info, text)?);
+    let line = LineBuf::new(alloc, 128)?;
+    Ok(Given { text, line })
+}
+
+// Whether a sink may be given this.
+fn may_turn<S: Store>(sink: &Sink<S>, given: &Given) -> bool
+    ensures { IsTrue result → MayTurn sink.now given.now.text given.now.line }
+{
+    match &given.text {
+        Item::Text(message) => sink.may_take(message, &given.line),
+        Item::Flush(_) => true,
+        Item::Stop => false,
+    }
+}
+
+// A sink under a lock, which may be given both.
+fn lane_over<S: Store + Drop>(
+    rt: &impl Abort,
+    alloc: Global,
+    sink: Sink<S>,
+    one: &Given,
+    two: &Given,
+) -> (Lane<Sink<S>>, LaneSeat<Sink<S>>)
+    ensures seat { IsSeatOf result.0 result.1 }
+    ensures one { MayTurn result.0.first one.now.text one.now.line }
+    ensures two { MayTurn result.0.first two.now.text two.now.line }
+{
+    assert!(rt; may_turn(&sink, one) && may_turn(&sink, two));
+    match Lane::new(alloc, sink) {
+        Ok(made) => made,
+        Err(_) => panic!(rt; "no memory"),
+    }
+}
+
+// Both write, each with a seat of its own. The indexes of the turns of each, and the sink.
+fn write(
+    rt: &(impl Abort + Threads),
+    alloc: Global,
+    lane: Lane<Sink<Yielding>>,
+    seat: LaneSeat<Sink<Yielding>>,
+    one: Given,
+    two: Given,
+) -> (Vec<u64>, Vec<u64>, Sink<Yielding>)
+    requires seat { IsSeatOf lane seat }
+    requires turns { MayTurn lane.first one.text one.line × MayTurn lane.first two.text two.line }
+{
+    let mut seat = seat;
     let one = Writer {
         seat: lane.split(&mut seat, 1),
-        text: Item::Text(one),
-        line: first,
+        text: one.text,
+        line: one.line,
         indexes: Vec::new(alloc),
     };
     let two = Writer {
         seat: lane.split(&mut seat, 1),
-        text: Item::Text(two),
-        line: second,
+        text: two.text,
+        line: two.line,
         indexes: Vec::new(alloc),
     };
-    let (one, two) = write_both(&rt, &lane, one, two);
+    let (one, two) = write_both(rt, &lane, one, two);
     lane.join(&mut seat, one.seat);
     lane.join(&mut seat, two.seat);
-    let Ok(sink) = lane.close(seat) else {
-        panic!(rt; "a seat is out")
-    };
-    has_lines(&rt, &sink, &one.indexes, &two.indexes);
+    match lane.close(seat) {
+        Ok(sink) => (one.indexes, two.indexes, sink),
+        Err(_) => panic!(rt; "a seat is out"),
+    }
+}
+
+#[test]
+fn two_threads_write_lines(rt: HostRuntime) -> Result<(), Fail> {
+    let alloc = rt.alloc();
+    let (one, two) = (given(alloc, "a")?, given(alloc, "b")?);
+    let sink = Plan::MEMORY.opened(alloc, Yielding(MemStore::new(alloc)))?;
+    let (lane, seat) = lane_over(&rt, alloc, sink, &one, &two);
+    let (first, second, sink) = write(&rt, alloc, lane, seat, one, two);
+    has_lines(&rt, &sink, &first, &second);
     Ok(())
 }
 
-// A text is written by a turn, and flushed by the next.
-fn writes_and_flushes(
+// A text is written by a turn, and flushed by the next. The sink then.
+fn write_and_flush(
     rt: &impl Abort,
-    lane: &Lane<Sink<MemStore>>,
-    seat: &mut LaneSeat<Sink<MemStore>>,
-    text: Item,
-    line: LineBuf,
-)
-    requires seat { IsSeatOf lane.now seat.old }
-    requires turn { MayTurn lane.now.first text line }
-    ensures { IsSeatOf lane.now seat.new }
+    lane: Lane<Sink<MemStore>>,
+    seat: LaneSeat<Sink<MemStore>>,
+    given: Given,
+) -> Sink<MemStore>
+    requires seat { IsSeatOf lane seat }
+    requires turn { MayTurn lane.first given.text given.line }
 {
-    let mut line = line;
-    let taken = lane.turn_once(seat, 5, &text, &mut line);
+    let (mut seat, Given { text, mut line }) = (seat, given);
+    let taken = lane.turn_once(&mut seat, 5, &text, &mut line);
     assert!(rt; taken == Ok((0, Ok(Served::Taken(Taken::Written)))));
-    let flushed = lane.turn_once(seat, 6, &Item::Flush(0), &mut line);
+    let flushed = lane.turn_once(&mut seat, 6, &Item::Flush(0), &mut line);
     assert!(rt; flushed == Ok((1, Ok(Served::Flushed))));
+    match lane.close(seat) {
+        Ok(sink) => sink,
+        Err(_) => panic!(rt; "a seat is out"),
+    }
 }
 
 #[test]
 fn a_lane_over_a_sink(rt: HostRuntime) -> Result<(), Fail> {
     let alloc = rt.alloc();
-    let line = LineBuf::new(alloc, 1_024)?;
-    let text = message(alloc, Level::Info, "a")?;
-    let sink = memory(alloc, MemStore::new(alloc), b"%v")?;
-    assert!(rt; sink.may_take(&text, &line));
-    let Ok((lane, mut seat)) = Lane::new(alloc, sink) else {
-        panic!(rt; "no memory")
-    };
-    writes_and_flushes(&rt, &lane, &mut seat, Item::Text(text), line);
-    let Ok(sink) = lane.close(seat) else {
-        panic!(rt; "a seat is out")
-    };
-    has(&rt, sink.store(), "log", b"a\n");
+    let given = given(alloc, "a")?;
+    let sink = Plan::MEMORY.opened(alloc, MemStore::new(alloc))?;
+    let (lane, seat) = lane_over(&rt, alloc, sink, &given, &given);
+    let sink = write_and_flush(&rt, lane, seat, given);
+    assert!(rt; leaves(&sink, &[("log", b"a\n")]));
     Ok(())
 }
 

@@ -1,150 +1,158 @@
 //! Sinks of each kind, by what they leave in their files, and those that are refused.
-use crate::sinks::{face, fan_of_two, flushes, gives, gives_at, has, memory, opened};
+use crate::sinks::{Deed, Named, Plan, Row, answered, fan_of_two, members_leave, store_of};
 use alog_msg::Level;
-use alog_sink::{FuseStore, MemStore, NameError, Names, OpenError, Sink, Taken, Unopened};
+use alog_sink::{
+    FuseStore, MemStore, NameError, Names, NoFan, OpenError, Sink, Store, Taken, Unopened,
+};
 use std::alloc::Global;
 use std::error::Error;
-use std::process::Abort;
 use std::test::Fail;
 
-fn name_is(rt: &impl Abort, names: &Names, number: u32, name: &str) {
-    assert!(rt; names.get(number) == name, "{number}");
+/// Names for the numbers 0, 1 and 2.
+fn names(alloc: Global) -> Result<Names, Fail> {
+    let mut names = Names::new(alloc);
+    for name in ["net", "", "db"] {
+        names.push(alloc, name)?;
+    }
+    Ok(names)
 }
 
 #[test]
 fn names_by_number(rt: HostRuntime) -> Result<(), Fail> {
-    let mut names = Names::new(rt.alloc());
-    for name in ["net", "", "db"] {
-        names.push(rt.alloc(), name)?;
+    let names = names(rt.alloc())?;
+    for (number, name) in [(0, "net"), (1, ""), (2, "db"), (3, ""), (u32::MAX, "")] {
+        assert!(rt; names.get(number) == name, "{number}");
     }
-    name_is(&rt, &names, 0, "net");
-    name_is(&rt, &names, 1, "");
-    name_is(&rt, &names, 2, "db");
-    name_is(&rt, &names, 3, "");
-    name_is(&rt, &names, u32::MAX, "");
     Ok(())
 }
 
+/// How a name is taken, and whether the names then have it.
+fn pushed(alloc: Global, name: &str) -> (Result<(), NameError>, bool) {
+    let mut names = Names::new(alloc);
+    let pushed = names.push(alloc, name);
+    (pushed, names.get(0) == name)
+}
+
 #[test]
-fn names_of_64_bytes(rt: HostRuntime) -> Result<(), Fail> {
-    let mut names = Names::new(rt.alloc());
-    let long = [b'n'; 65];
-    let long = std::str::from_utf8(&long)?;
-    assert_eq!(rt; names.push(rt.alloc(), long), Err(NameError::NameTooLong));
-    names.push(rt.alloc(), &long[..64])?;
-    name_is(&rt, &names, 0, &long[..64]);
-    Ok(())
+fn names_of_64_bytes(rt: HostRuntime) {
+    let longest = "nnnnnnnnnnnnnnnnnnnnnnnnnnnnnnnnnnnnnnnnnnnnnnnnnnnnnnnnnnnnnnnn";
+    let longer = "nnnnnnnnnnnnnnnnnnnnnnnnnnnnnnnnnnnnnnnnnnnnnnnnnnnnnnnnnnnnnnnnn";
+    assert!(rt; pushed(rt.alloc(), longest) == (Ok(()), true));
+    assert!(rt; pushed(rt.alloc(), longer) == (Err(NameError::NameTooLong), false));
+}
+
+/// The files that a sink opens, and what it does and leaves.
+type Opened<'a> = (Named<'a>, Row<'a>);
+
+const WRITING: Opened<'_> = (
+    &[("log", b"old\n")],
+    Row {
+        plan: Plan {
+            level: Level::Info,
+            pattern: b"%n %L %v",
+            file: "log",
+            limits: None,
+        },
+        deeds: &[
+            Deed::Writes("one"),
+            Deed::Writes(""),
+            Deed::Gives(Level::Debug, "no", Ok(Taken::Below)),
+            Deed::Gives(Level::Off, "off", Ok(Taken::Written)),
+            Deed::Flushes(Ok(())),
+        ],
+        files: &[("log", b"old\nnet I one\nnet I \nnet O off\n")],
+    },
+);
+
+const SILENT: Opened<'_> = (
+    &[],
+    Row {
+        plan: Plan::MEMORY,
+        deeds: &[
+            Deed::Flushes(Ok(())),
+            Deed::Gives(Level::Trace, "no", Ok(Taken::Below)),
+        ],
+        files: &[],
+    },
+);
+
+const ROTATING: Opened<'_> = (
+    &[],
+    Row {
+        plan: Plan {
+            level: Level::Trace,
+            pattern: b"%v",
+            file: "log.txt",
+            limits: Some((10, 2)),
+        },
+        deeds: &[
+            Deed::Writes("aaaaa"),
+            Deed::Writes("bbbbb"),
+            Deed::Writes("ccccc"),
+            Deed::Writes("ddddd"),
+            Deed::Flushes(Ok(())),
+        ],
+        files: &[
+            ("log.txt", b"ddddd\n"),
+            ("log.1.txt", b"ccccc\n"),
+            ("log.2.txt", b"bbbbb\n"),
+        ],
+    },
+);
+
+/// Whether a row holds.
+fn holds(alloc: Global, row: &Opened<'_>) -> Result<bool, Fail> {
+    let store = store_of(alloc, row.0)?;
+    row.1.holds(alloc, store)
 }
 
 #[test]
 fn a_memory_sink(rt: HostRuntime) -> Result<(), Fail> {
-    let store = MemStore::new(rt.alloc()).with("log", b"old\n")?;
-    let mut sink = memory(rt.alloc(), store, b"%n %L %v")?;
-    gives(&rt, &mut sink, "one", Ok(Taken::Written));
-    gives(&rt, &mut sink, "", Ok(Taken::Written));
-    gives_at(&rt, &mut sink, Level::Debug, "no", Ok(Taken::Below));
-    gives_at(&rt, &mut sink, Level::Off, "off", Ok(Taken::Written));
-    flushes(&rt, &mut sink, Ok(()));
-    has(
-        &rt,
-        sink.store(),
-        "log",
-        b"old\nnet I one\nnet I \nnet O off\n",
-    );
-    assert!(rt; sink.members().is_empty() && !sink.is_fan());
+    assert!(rt; holds(rt.alloc(), &WRITING)?);
     Ok(())
 }
 
 #[test]
 fn a_sink_without_a_line_has_no_file(rt: HostRuntime) -> Result<(), Fail> {
-    let mut sink = memory(rt.alloc(), MemStore::new(rt.alloc()), b"%v")?;
-    flushes(&rt, &mut sink, Ok(()));
-    gives_at(&rt, &mut sink, Level::Trace, "no", Ok(Taken::Below));
-    let count = sink.store().map(|store| store.files().len());
-    assert_eq!(rt; count, Some(0));
+    assert!(rt; holds(rt.alloc(), &SILENT)?);
     Ok(())
 }
 
 #[test]
 fn a_rotating_sink(rt: HostRuntime) -> Result<(), Fail> {
-    let face = face(rt.alloc(), Level::Trace, b"%v")?;
-    let store = MemStore::new(rt.alloc());
-    let mut sink = opened(Sink::rotating(rt.alloc(), face, store, "log.txt", 10, 2))?;
-    for text in ["aaaaa", "bbbbb", "ccccc", "ddddd"] {
-        gives(&rt, &mut sink, text, Ok(Taken::Written));
-    }
-    flushes(&rt, &mut sink, Ok(()));
-    has(&rt, sink.store(), "log.txt", b"ddddd\n");
-    has(&rt, sink.store(), "log.1.txt", b"ccccc\n");
-    has(&rt, sink.store(), "log.2.txt", b"bbbbb\n");
+    assert!(rt; holds(rt.alloc(), &ROTATING)?);
     Ok(())
 }
 
-fn member_has(rt: &impl Abort, fan: &Sink<MemStore>, member: usize, bytes: &[u8]) {
-    match fan.members().get(member) {
-        Some(leaf) => has(rt, Some(leaf.store()), "log", bytes),
-        None => assert!(rt; false, "no member {member}"),
-    }
+/// Whether a sink of one store is no fan and has no members.
+fn is_no_fan(alloc: Global) -> Result<bool, Fail> {
+    let sink = Plan::MEMORY.opened(alloc, MemStore::new(alloc))?;
+    Ok(sink.members().is_empty() && !sink.is_fan())
+}
+
+const TWO: [Deed<'_>; 3] = [
+    Deed::Writes("a"),
+    Deed::Gives(Level::Error, "b", Ok(Taken::Written)),
+    Deed::Flushes(Ok(())),
+];
+
+/// Whether a fan gives what it is given to each member that is to have it.
+fn gives_to_each(alloc: Global) -> Result<bool, Fail> {
+    let mut fan = fan_of_two(alloc, MemStore::new(alloc), MemStore::new(alloc))?;
+    let count = answered(alloc, &mut fan, &TWO)?;
+    let is_fan = fan.store().is_none() && fan.is_fan();
+    let files: [Named<'_>; 2] = [&[("log", b"a\nb\n")], &[("log", b"b\n")]];
+    Ok(count == TWO.len() && is_fan && members_leave(&fan, &files))
 }
 
 #[test]
-fn a_fan_gives_to_each(rt: HostRuntime) -> Result<(), Fail> {
-    let (one, two) = (MemStore::new(rt.alloc()), MemStore::new(rt.alloc()));
-    let mut fan = fan_of_two(rt.alloc(), one, two)?;
-    gives_at(&rt, &mut fan, Level::Info, "a", Ok(Taken::Written));
-    gives_at(&rt, &mut fan, Level::Error, "b", Ok(Taken::Written));
-    flushes(&rt, &mut fan, Ok(()));
-    assert!(rt; fan.store().is_none() && fan.is_fan() && fan.members().len() == 2);
-    member_has(&rt, &fan, 0, b"a\nb\n");
-    member_has(&rt, &fan, 1, b"b\n");
+fn fans(rt: HostRuntime) -> Result<(), Fail> {
+    assert!(rt; is_no_fan(rt.alloc())?);
+    assert!(rt; gives_to_each(rt.alloc())?);
     Ok(())
 }
 
-// A memory sink of this name is refused.
-fn refuses_name(rt: &(impl Abort + AllocGlobal), name: &str) -> Result<(), Fail> {
-    let face = face(rt.alloc(), Level::Info, b"%v")?;
-    let sink = Sink::memory(rt.alloc(), face, MemStore::new(rt.alloc()), name);
-    assert!(rt; error_of(sink) == Some(OpenError::BadName), "{name}");
-    Ok(())
-}
-
-// A rotating sink with these limits and this name is refused so.
-fn refuses(
-    rt: &(impl Abort + AllocGlobal),
-    size: u64,
-    files: usize,
-    name: &str,
-    error: OpenError,
-) -> Result<(), Fail> {
-    let face = face(rt.alloc(), Level::Info, b"%v")?;
-    let sink = Sink::rotating(
-        rt.alloc(),
-        face,
-        MemStore::new(rt.alloc()),
-        name,
-        size,
-        files,
-    );
-    assert!(rt; error_of(sink) == Some(error), "{size}, {files}, {name}");
-    Ok(())
-}
-
-#[test]
-fn refused_sinks(rt: HostRuntime) -> Result<(), Fail> {
-    for name in ["", ".", "..", "a/b", "a\0"] {
-        refuses_name(&rt, name)?;
-    }
-    refuses(&rt, 0, 2, "", OpenError::BadLimit)?;
-    refuses(&rt, (1 << 40) + 1, 2, "a", OpenError::BadLimit)?;
-    refuses(&rt, 1, 1_001, "a", OpenError::BadLimit)?;
-    refuses(&rt, 1 << 40, 0, "a/b", OpenError::BadName)?;
-    let face = face(rt.alloc(), Level::Info, b"%v")?;
-    let store = FuseStore::new(MemStore::new(rt.alloc()), 0, 0);
-    let sink = Sink::rotating(rt.alloc(), face, store, "a", 1, 0);
-    assert!(rt; error_of(sink) == Some(OpenError::Store));
-    Ok(())
-}
-
+/// Why a sink was refused, if it was.
 fn error_of<S: Drop>(sink: Result<Sink<S>, Unopened<S>>) -> Option<OpenError> {
     match sink {
         Ok(_) => None,
@@ -152,62 +160,137 @@ fn error_of<S: Drop>(sink: Result<Sink<S>, Unopened<S>>) -> Option<OpenError> {
     }
 }
 
-// A fan of so many members is made, or refused with them.
-fn fan_of(rt: &(impl Abort + AllocGlobal), count: usize, is_made: bool) -> Result<(), Fail> {
-    let mut members = Vec::new(rt.alloc());
-    for _ in 0..count {
-        members.push(memory(rt.alloc(), MemStore::new(rt.alloc()), b"%v")?)?;
+/// Why a sink over this store is refused, if it is.
+fn refusal<S: Store + Drop>(
+    alloc: Global,
+    plan: Plan,
+    store: S,
+) -> Result<Option<OpenError>, Fail> {
+    Ok(error_of(plan.open(alloc, store)?))
+}
+
+/// A memory sink.
+fn memory(file: &'static str) -> Plan {
+    Plan {
+        file,
+        ..Plan::MEMORY
     }
-    match Sink::fan(rt.alloc(), Level::Info, members) {
-        Ok(fan) => assert!(rt; is_made && fan.members().len() == count, "{count}"),
-        Err(refused) => {
-            assert!(rt; !is_made && refused.error == OpenError::BadLimit, "{count}");
-            assert_eq!(rt; refused.members.len(), count);
+}
+
+/// Whether no sink may have such a name.
+fn are_bad_names(alloc: Global) -> Result<bool, Fail> {
+    for name in ["", ".", "..", "a/b", "a\0"] {
+        if refusal(alloc, memory(name), MemStore::new(alloc))? != Some(OpenError::BadName) {
+            return Ok(false);
         }
+    }
+    Ok(true)
+}
+
+/// Limits and names that a rotating sink may not have, and why.
+const LIMITS: [(u64, usize, &str, OpenError); 4] = [
+    (0, 2, "", OpenError::BadLimit),
+    (1_099_511_627_777, 2, "a", OpenError::BadLimit),
+    (1, 1_001, "a", OpenError::BadLimit),
+    (1_099_511_627_776, 0, "a/b", OpenError::BadName),
+];
+
+/// Whether a rotating sink is refused within each of those limits.
+fn are_bad_limits(alloc: Global) -> Result<bool, Fail> {
+    for (size, files, name, wanted) in &LIMITS {
+        let plan = Plan::rotating(name, *size, *files);
+        if refusal(alloc, plan, MemStore::new(alloc))? != Some(*wanted) {
+            return Ok(false);
+        }
+    }
+    Ok(true)
+}
+
+/// Whether a rotating sink is refused over a store that fails at once.
+fn is_bad_store(alloc: Global) -> Result<bool, Fail> {
+    let store = FuseStore::new(MemStore::new(alloc), 0, 0);
+    let error = refusal(alloc, Plan::rotating("a", 1, 0), store)?;
+    Ok(error == Some(OpenError::Store))
+}
+
+#[test]
+fn refused_sinks(rt: HostRuntime) -> Result<(), Fail> {
+    assert!(rt; are_bad_names(rt.alloc())?, "names");
+    assert!(rt; are_bad_limits(rt.alloc())?, "limits");
+    assert!(rt; is_bad_store(rt.alloc())?, "stores");
+    Ok(())
+}
+
+/// So many memory sinks.
+fn members(alloc: Global, count: usize) -> Result<Vec<Sink<MemStore>>, Fail> {
+    let mut members = Vec::with_capacity(alloc, count)?;
+    for _ in 0..count {
+        members.push(Plan::MEMORY.opened(alloc, MemStore::new(alloc))?)?;
+    }
+    Ok(members)
+}
+
+/// How many members a fan has, or why it is refused and how many are given back.
+fn fan_of(alloc: Global, members: Vec<Sink<MemStore>>) -> Result<usize, (OpenError, usize)> {
+    match Sink::fan(alloc, Level::Info, members) {
+        Ok(fan) => Ok(fan.members().len()),
+        Err(refused) => Err((refused.error, refused.members.len())),
+    }
+}
+
+#[test]
+fn sizes_of_fans(rt: HostRuntime) -> Result<(), Fail> {
+    for (count, wanted) in [
+        (0, Err((OpenError::BadLimit, 0))),
+        (1, Ok(1)),
+        (16, Ok(16)),
+        (17, Err((OpenError::BadLimit, 17))),
+    ] {
+        let members = members(rt.alloc(), count)?;
+        assert!(rt; fan_of(rt.alloc(), members) == wanted, "{count}");
     }
     Ok(())
 }
 
-#[test]
-fn refused_fans(rt: HostRuntime) -> Result<(), Fail> {
-    fan_of(&rt, 0, false)?;
-    fan_of(&rt, 1, true)?;
-    fan_of(&rt, 16, true)?;
-    fan_of(&rt, 17, false)
+/// Whether a fan of a fan is refused.
+fn refuses_a_fan(alloc: Global) -> Result<bool, Fail> {
+    let mut members = Vec::with_capacity(alloc, 1)?;
+    members.push(fan_of_two(alloc, MemStore::new(alloc), MemStore::new(alloc))?)?;
+    Ok(Sink::fan(alloc, Level::Info, members).is_err())
 }
 
 #[test]
 fn a_fan_of_a_fan_is_refused(rt: HostRuntime) -> Result<(), Fail> {
-    let (one, two) = (MemStore::new(rt.alloc()), MemStore::new(rt.alloc()));
-    let mut members = Vec::new(rt.alloc());
-    members.push(fan_of_two(rt.alloc(), one, two)?)?;
-    assert!(rt; Sink::fan(rt.alloc(), Level::Info, members).is_err());
+    assert!(rt; refuses_a_fan(rt.alloc())?);
     Ok(())
 }
 
+/// The message of an error.
 fn text_of(alloc: Global, error: &impl Error) -> Result<String, Fail> {
     Ok(format!(in alloc; "{error}")?)
 }
 
-// The messages of refusals, which name the reason.
-#[test]
-fn refusals_are_errors(rt: HostRuntime) -> Result<(), Fail> {
-    let face = face(rt.alloc(), Level::Info, b"%v")?;
-    let Err(unopened) = Sink::memory(rt.alloc(), face, MemStore::new(rt.alloc()), "a/b") else {
-        panic!(rt; "opened")
-    };
-    let text = text_of(rt.alloc(), &unopened)?;
-    assert!(rt; text.as_str() == "the sink was not opened: no file can have this name");
-    Ok(())
+/// The refusal of a sink with a bad name.
+fn unopened(alloc: Global) -> Result<Unopened<MemStore>, Fail> {
+    match memory("a/b").open(alloc, MemStore::new(alloc))? {
+        Ok(_) => Err(Fail::new("opened")),
+        Err(unopened) => Ok(unopened),
+    }
+}
+
+/// The refusal of a fan without members.
+fn no_fan(alloc: Global) -> Result<NoFan<MemStore>, Fail> {
+    match Sink::fan(alloc, Level::Info, Vec::new(alloc)) {
+        Ok(_) => Err(Fail::new("made")),
+        Err(no_fan) => Ok(no_fan),
+    }
 }
 
 #[test]
-fn refusals_of_fans_are_errors(rt: HostRuntime) -> Result<(), Fail> {
-    let none: Vec<Sink<MemStore>> = Vec::new(rt.alloc());
-    let Err(no_fan) = Sink::fan(rt.alloc(), Level::Info, none) else {
-        panic!(rt; "made")
-    };
-    let text = text_of(rt.alloc(), &no_fan)?;
+fn refusals_are_errors(rt: HostRuntime) -> Result<(), Fail> {
+    let text = text_of(rt.alloc(), &unopened(rt.alloc())?)?;
+    assert!(rt; text.as_str() == "the sink was not opened: no file can have this name");
+    let text = text_of(rt.alloc(), &no_fan(rt.alloc())?)?;
     assert!(rt; text.as_str() == "the fan was not made: a limit of the sink is out of its bounds");
     Ok(())
 }

@@ -1,17 +1,51 @@
-//! What the tests of sinks share: faces, messages, sinks over one store or two, and calls of them with the answer wanted.
+//! What the tests of sinks share: faces, messages, sinks, what is done with one, and what its files have then.
 //!
-//! A call of these in a test is one step of its proof, which no branch follows: so a test of many calls stays cheap.
+//! What a test knows of a sink is what it looks at: no helper has a contract, and each answers plain data. So a test is a loop
+//! over rows, and its proof has nothing to carry.
+use crate::stores::Noting;
 use alog_format::{Context, LineBuf, Zone};
 use alog_msg::{Level, Message};
 use alog_pattern::Pattern;
-use alog_sink::{Face, MemStore, Names, Sink, SinkError, Store, Taken, Unopened};
+use alog_sink::{Face, FuseStore, MemStore, Names, Sink, SinkError, Store, Taken, Unopened};
 use std::alloc::Global;
-use std::process::Abort;
 use std::test::Fail;
 
 pub const TEXT_LIMIT: usize = 64;
 
-pub fn face(alloc: Global, level: Level, pattern: &[u8]) -> Result<Face, Fail> {
+/// Files by name.
+pub type Named<'a> = &'a [(&'a str, &'a [u8])];
+
+/// What a call of a sink answers.
+pub type Answer = Result<Taken, SinkError>;
+
+/// A store that fails one call.
+pub type Fused = FuseStore<MemStore>;
+
+/// A store whose files a test can look at.
+pub trait Kept: Store + Drop {
+    /// Its files.
+    fn kept(&self) -> &MemStore;
+}
+
+impl Kept for MemStore {
+    fn kept(&self) -> &MemStore {
+        self
+    }
+}
+
+impl Kept for Fused {
+    fn kept(&self) -> &MemStore {
+        self.store()
+    }
+}
+
+impl Kept for Noting {
+    fn kept(&self) -> &MemStore {
+        &self.files
+    }
+}
+
+fn face(alloc: Global, level: Level, pattern: &[u8]) -> Result<Face, Fail> {
     let mut names = Names::new(alloc);
     names.push(alloc, "net")?;
     Ok(Face {
@@ -29,103 +63,193 @@ pub fn message(alloc: Global, level: Level, text: &str) -> Result<Message, Fail>
     Ok(Message::new(alloc, TEXT_LIMIT, 0, level, 0, 1, text, None)?)
 }
 
-// Gives one text of this level to a sink. The test ends here where there is no memory, or the sink may not be given it.
-fn answer_to<S: Store>(
-    rt: &(impl Abort + AllocGlobal),
-    sink: &mut Sink<S>,
-    level: Level,
-    text: &str,
-) -> Result<Taken, SinkError> {
-    let Ok(message) = Message::new(rt.alloc(), TEXT_LIMIT, 0, level, 0, 1, text, None) else {
-        panic!(rt; "no message of {text}")
+/// A sink over one store: the least level of its messages, its pattern, its file, and the limits of one that rotates.
+#[derive(Clone, Copy)]
+pub struct Plan {
+    pub level: Level,
+    pub pattern: &'static [u8],
+    pub file: &'static str,
+    /// The most bytes of a file, and the most further files.
+    pub limits: Option<(u64, usize)>,
+}
+
+impl Plan {
+    /// A sink of texts alone that writes one file.
+    pub const MEMORY: Plan = Plan {
+        level: Level::Info,
+        pattern: b"%v",
+        file: "log",
+        limits: None,
     };
-    let mut line = buffer(rt);
-    assert!(rt; sink.may_take(&message, &line), "{text}");
-    sink.take(&message, &mut line)
-}
 
-// Room for a line.
-fn buffer(rt: &(impl Abort + AllocGlobal)) -> LineBuf {
-    match LineBuf::new(rt.alloc(), 256) {
-        Ok(line) => line,
-        Err(_) => panic!(rt; "no buffer"),
+    /// A sink of texts alone whose file has at most so many bytes, beside so many further files.
+    pub fn rotating(file: &'static str, max_size: u64, max_files: usize) -> Plan {
+        Plan {
+            level: Level::Info,
+            pattern: b"%v",
+            file,
+            limits: Some((max_size, max_files)),
+        }
+    }
+
+    /// Opens the sink over this store.
+    pub fn open<S: Store + Drop>(
+        &self,
+        alloc: Global,
+        store: S,
+    ) -> Result<Result<Sink<S>, Unopened<S>>, Fail> {
+        let face = face(alloc, self.level, self.pattern)?;
+        Ok(match self.limits {
+            None => Sink::memory(alloc, face, store, self.file),
+            Some((max_size, max_files)) => {
+                Sink::rotating(alloc, face, store, self.file, max_size, max_files)
+            }
+        })
+    }
+
+    /// The sink over this store, or its refusal as an error of the test.
+    pub fn opened<S: Store + Drop>(&self, alloc: Global, store: S) -> Result<Sink<S>, Fail> {
+        match self.open(alloc, store)? {
+            Ok(sink) => Ok(sink),
+            Err(unopened) => Err(unopened.error.into()),
+        }
     }
 }
 
-// Gives one text of this level to a sink, which answers this.
-pub fn gives_at<S: Store>(
-    rt: &(impl Abort + AllocGlobal),
-    sink: &mut Sink<S>,
-    level: Level,
-    text: &str,
-    wanted: Result<Taken, SinkError>,
-) {
-    let answer = answer_to(rt, sink, level, text);
-    assert!(rt; answer == wanted, "{text}: {answer:?}");
-}
-
-// Gives one text of level info to a sink, which answers this.
-pub fn gives<S: Store>(
-    rt: &(impl Abort + AllocGlobal),
-    sink: &mut Sink<S>,
-    text: &str,
-    wanted: Result<Taken, SinkError>,
-) {
-    gives_at(rt, sink, Level::Info, text, wanted);
-}
-
-// Flushes a sink, which answers this.
-pub fn flushes<S: Store>(rt: &impl Abort, sink: &mut Sink<S>, wanted: Result<(), SinkError>) {
-    let answer = sink.flush();
-    assert!(rt; answer == wanted, "{answer:?}");
-}
-
-pub fn memory<S: Store + Drop>(alloc: Global, store: S, pattern: &[u8]) -> Result<Sink<S>, Fail> {
-    opened(Sink::memory(alloc, face(alloc, Level::Info, pattern)?, store, "log"))
-}
-
-// What was opened, or the refusal as an error of the test.
-pub fn opened<S: Drop>(sink: Result<Sink<S>, Unopened<S>>) -> Result<Sink<S>, Fail> {
-    match sink {
-        Ok(sink) => Ok(sink),
-        Err(unopened) => Err(unopened.error.into()),
-    }
-}
-
-pub fn has(rt: &impl Abort, store: Option<&MemStore>, name: &str, bytes: &[u8]) {
-    let found = store.and_then(|store| store.files().get(name));
-    match found {
-        Some(file) => assert!(rt; file.as_slice() == bytes, "{name}"),
-        None => assert!(rt; false, "{name} is absent"),
-    }
-}
-
-// A rotating sink over this store that was given these texts.
-pub fn rotated(
-    rt: &(impl Abort + AllocGlobal),
-    store: MemStore,
-    file: &str,
-    max_size: u64,
-    max_files: usize,
-    texts: &[&str],
-) -> Result<Sink<MemStore>, Fail> {
-    let face = face(rt.alloc(), Level::Trace, b"%v")?;
-    let mut sink = opened(Sink::rotating(rt.alloc(), face, store, file, max_size, max_files))?;
-    for text in texts {
-        gives(rt, &mut sink, text, Ok(Taken::Written));
-    }
-    Ok(sink)
-}
-
-// A fan of one sink for level info, and one for level error.
+/// A fan of one sink for level info, and one for level error.
 pub fn fan_of_two<S: Store + Drop>(alloc: Global, one: S, two: S) -> Result<Sink<S>, Fail> {
-    let first = memory(alloc, one, b"%v")?;
-    let second = opened(Sink::memory(alloc, face(alloc, Level::Error, b"%v")?, two, "log"))?;
-    let mut members = Vec::new(alloc);
-    members.push(first)?;
-    members.push(second)?;
+    let errors = Plan {
+        level: Level::Error,
+        ..Plan::MEMORY
+    };
+    let first = Plan::MEMORY.opened(alloc, one)?;
+    let second = errors.opened(alloc, two)?;
+    let members = Vec::from_array(alloc, [first, second])?;
     match Sink::fan(alloc, Level::Trace, members) {
         Ok(fan) => Ok(fan),
         Err(refused) => Err(refused.error.into()),
+    }
+}
+
+/// What is done with a sink, and what it answers. Texts are of level info where no other is named.
+#[derive(Clone, Copy)]
+pub enum Deed<'a> {
+    /// It writes a text.
+    Writes(&'a str),
+    /// Its store fails as it writes a text.
+    Fails(&'a str),
+    /// It is given a text, and is broken.
+    IsBroken(&'a str),
+    /// It is given a text of this level.
+    Gives(Level, &'a str, Answer),
+    /// It is flushed.
+    Flushes(Result<(), SinkError>),
+}
+
+/// Gives a message to a sink. The answer is none where the sink may not be given it.
+fn take<S: Store>(sink: &mut Sink<S>, message: &Message, line: &mut LineBuf) -> Option<Answer> {
+    if sink.may_take(message, line) {
+        Some(sink.take(message, line))
+    } else {
+        None
+    }
+}
+
+/// Gives one text of this level to a sink.
+pub fn given<S: Store>(
+    alloc: Global,
+    sink: &mut Sink<S>,
+    level: Level,
+    text: &str,
+) -> Result<Option<Answer>, Fail> {
+    let message = message(alloc, level, text)?;
+    let mut line = LineBuf::new(alloc, 256)?;
+    Ok(take(sink, &message, &mut line))
+}
+
+/// Whether a sink answers a deed so.
+fn answers<S: Store>(alloc: Global, sink: &mut Sink<S>, deed: Deed<'_>) -> Result<bool, Fail> {
+    let (level, text, wanted) = match deed {
+        Deed::Writes(text) => (Level::Info, text, Ok(Taken::Written)),
+        Deed::Fails(text) => (Level::Info, text, Err(SinkError::Store)),
+        Deed::IsBroken(text) => (Level::Info, text, Err(SinkError::Broken)),
+        Deed::Gives(level, text, wanted) => (level, text, wanted),
+        Deed::Flushes(wanted) => return Ok(sink.flush() == wanted),
+    };
+    Ok(given(alloc, sink, level, text)? == Some(wanted))
+}
+
+/// How many of these deeds a sink answers as they say, up to the first that it does not.
+pub fn answered<S: Store>(
+    alloc: Global,
+    sink: &mut Sink<S>,
+    deeds: &[Deed<'_>],
+) -> Result<usize, Fail> {
+    for (i, deed) in deeds.iter().enumerate() {
+        if !answers(alloc, sink, *deed)? {
+            return Ok(i);
+        }
+    }
+    Ok(deeds.len())
+}
+
+/// Whether a store has this file.
+fn has_file(store: &MemStore, name: &str, bytes: &[u8]) -> bool {
+    let found = store.files().get(name).map(|file| file.as_slice());
+    found == Some(bytes)
+}
+
+/// Whether a store has these files, and no others.
+pub fn has_just(store: &MemStore, files: Named<'_>) -> bool {
+    for (name, bytes) in files {
+        if !has_file(store, name, bytes) {
+            return false;
+        }
+    }
+    store.files().len() == files.len()
+}
+
+/// Whether the store of a sink has these files, and no others.
+pub fn leaves<S: Kept>(sink: &Sink<S>, files: Named<'_>) -> bool {
+    match sink.store() {
+        Some(store) => has_just(store.kept(), files),
+        None => false,
+    }
+}
+
+/// Whether the stores of a fan's members have these files, and no others.
+pub fn members_leave<S: Kept>(fan: &Sink<S>, files: &[Named<'_>]) -> bool {
+    let members = fan.members();
+    for (member, files) in members.iter().zip(files) {
+        if !has_just(member.store().kept(), files) {
+            return false;
+        }
+    }
+    members.len() == files.len()
+}
+
+/// A store of these files.
+pub fn store_of(alloc: Global, files: Named<'_>) -> Result<MemStore, Fail> {
+    let mut store = MemStore::new(alloc);
+    for (name, bytes) in files {
+        store = store.with(name, bytes)?;
+    }
+    Ok(store)
+}
+
+/// A sink, what is done with it, and which files it leaves.
+#[derive(Clone, Copy)]
+pub struct Row<'a> {
+    pub plan: Plan,
+    pub deeds: &'a [Deed<'a>],
+    pub files: Named<'a>,
+}
+
+impl Row<'_> {
+    /// Whether the sink of the row, over this store, answers and leaves what it says.
+    pub fn holds<S: Kept>(&self, alloc: Global, store: S) -> Result<bool, Fail> {
+        let mut sink = self.plan.opened(alloc, store)?;
+        let count = answered(alloc, &mut sink, self.deeds)?;
+        Ok(count == self.deeds.len() && leaves(&sink, self.files))
     }
 }

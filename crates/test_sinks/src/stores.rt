@@ -41,7 +41,7 @@ impl Store for Yielding {
     }
 }
 
-/// Files in memory that note which names were flushed. The test `a_flush_names_the_file` shows it.
+/// Files in memory that note which names were flushed. The test `a_flush_names_its_file` shows it.
 #[derive(Debug, Drop)]
 pub struct Noting {
     /// the files

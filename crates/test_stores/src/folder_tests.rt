@@ -1,196 +1,235 @@
 //! Files of a folder: what the system has after each call, and what a call answers that the system refuses.
-use crate::calls::{DONE, FAILED, appends, each_call, flushes, removes, renames, sizes};
-use crate::folder::{Folder, clear, count, found, has, has_none, open, scratch};
+use crate::calls::{Call, EACH, answers, wrong};
+use crate::folder::{clear, count, found, has, has_all, open, scratch};
+use crate::sessions::{Before, Row, Step, holds, prepared};
 use alog_sink::{FolderStore, Store, StoreError};
 use std::alloc::Global;
 use std::fs;
-use std::os::unix::fs::symlink;
 use std::path::PathBuf;
-use std::process::Abort;
-use std::rt::Files;
 use std::test::Fail;
 
-// How many bytes a buffer holds.
-const FULL: usize = 65_536;
+/// Each call once.
+fn of_each_call(rt: &HostRuntime) -> Result<bool, Fail> {
+    let path = prepared(rt, "each", &[Before::File("a", "abc")])?;
+    let are_right = of_calls(rt, &path, &EACH)?
+        && has_all(rt, &path, &[("b", Some(b"abcde")), ("d", Some(b"xy"))])?
+        && count(rt, path.as_str())? == 2;
+    clear(rt, &path)?;
+    Ok(are_right)
+}
+
+/// Whether a store of its own answers each of these calls as it says.
+fn of_calls(rt: &HostRuntime, path: &PathBuf, calls: &[Call<'_>]) -> Result<bool, Fail> {
+    let mut store = open(rt, path)?;
+    Ok(wrong(&mut store, calls).is_none())
+}
 
 #[test]
 fn each_call_in_a_folder(rt: HostRuntime) -> Result<(), Fail> {
-    let path = scratch(&rt, "each")?;
-    fs::write(&rt, path.join(rt.alloc(), "a")?, "abc")?;
-    let mut store = open(rt, &path)?;
-    each_call(&rt, &mut store);
-    drop(store);
-    assert_eq!(rt; count(&rt, path.as_str()), 2);
-    has(&rt, &path, "b", b"abcde");
-    has(&rt, &path, "d", b"xy");
-    clear(&rt, &path)
+    assert!(rt; of_each_call(&rt)?);
+    Ok(())
 }
 
-// Bytes wait in the buffer until one of these calls on their file; other files keep theirs.
-fn write_buffers<R: Files + Abort + AllocGlobal>(rt: &R, path: &PathBuf, store: &mut Folder) {
-    for name in ["flushed", "asked", "moved", "replaced", "removed", "kept"] {
-        appends(rt, store, name, b"one\n", DONE);
-        has(rt, path, name, b"");
-    }
-    flushes(rt, store, "flushed", DONE);
-    has(rt, path, "flushed", b"one\n");
-    sizes(rt, store, "asked", Ok(Some(4)));
-    has(rt, path, "asked", b"one\n");
-    renames(rt, store, "moved", "new", DONE);
-    has_none(rt, path, "moved");
-    has(rt, path, "new", b"one\n");
-    renames(rt, store, "none", "replaced", DONE);
-    has(rt, path, "replaced", b"one\n");
-    removes(rt, store, "removed", DONE);
-    has_none(rt, path, "removed");
-    has(rt, path, "kept", b"");
-}
+/// Bytes wait in the buffer until one of these calls on their file; other files keep theirs.
+const BUFFERS: Row<'_> = Row {
+    name: "buffer",
+    before: &[],
+    sessions: &[&[
+        Step::Calls(Call::Appends("flushed", b"one\n", true)),
+        Step::Has("flushed", Some(b"")),
+        Step::Calls(Call::Appends("asked", b"one\n", true)),
+        Step::Has("asked", Some(b"")),
+        Step::Calls(Call::Appends("moved", b"one\n", true)),
+        Step::Has("moved", Some(b"")),
+        Step::Calls(Call::Appends("replaced", b"one\n", true)),
+        Step::Has("replaced", Some(b"")),
+        Step::Calls(Call::Appends("removed", b"one\n", true)),
+        Step::Has("removed", Some(b"")),
+        Step::Calls(Call::Appends("kept", b"one\n", true)),
+        Step::Has("kept", Some(b"")),
+        Step::Calls(Call::Flushes("flushed", true)),
+        Step::Has("flushed", Some(b"one\n")),
+        Step::Calls(Call::Sizes("asked", Ok(Some(4)))),
+        Step::Has("asked", Some(b"one\n")),
+        Step::Calls(Call::Renames("moved", "new", true)),
+        Step::Has("moved", None),
+        Step::Has("new", Some(b"one\n")),
+        Step::Calls(Call::Renames("none", "replaced", true)),
+        Step::Has("replaced", Some(b"one\n")),
+        Step::Calls(Call::Removes("removed", true)),
+        Step::Has("removed", None),
+        Step::Has("kept", Some(b"")),
+    ]],
+    after: &[("kept", Some(b"one\n"))],
+    count: 5,
+};
+
+const AGAIN: Row<'_> = Row {
+    name: "again",
+    before: &[],
+    sessions: &[
+        &[Step::Calls(Call::Appends("log", b"one\n", true))],
+        &[
+            Step::Has("log", Some(b"one\n")),
+            Step::Calls(Call::Appends("log", b"two\n", true)),
+        ],
+        &[
+            Step::Has("log", Some(b"one\ntwo\n")),
+            Step::Calls(Call::Appends("log", b"three\n", true)),
+            Step::Calls(Call::Renames("log", "old", true)),
+            Step::Calls(Call::Appends("log", b"four\n", true)),
+            Step::Calls(Call::Appends("old", b"five\n", true)),
+            Step::Calls(Call::Removes("log", true)),
+            Step::Calls(Call::Appends("log", b"six\n", true)),
+        ],
+    ],
+    after: &[
+        ("old", Some(b"one\ntwo\nthree\nfive\n")),
+        ("log", Some(b"six\n")),
+    ],
+    count: 2,
+};
+
+/// A file is opened once, and stays open until it is renamed or removed, or the store is dropped.
+const OPEN: Row<'_> = Row {
+    name: "open",
+    before: &[],
+    sessions: &[&[
+        Step::Calls(Call::Appends("a", b"x", true)),
+        Step::Calls(Call::Flushes("a", true)),
+        Step::Calls(Call::Appends("b", b"x", true)),
+        Step::Calls(Call::Flushes("b", true)),
+        Step::Calls(Call::Appends("a", b"x", true)),
+        Step::Calls(Call::Flushes("a", true)),
+        Step::Calls(Call::Appends("c", b"x", true)),
+        Step::Calls(Call::Flushes("c", true)),
+        Step::Calls(Call::Appends("b", b"x", true)),
+        Step::Calls(Call::Flushes("b", true)),
+        Step::HasOpen(3),
+        Step::Calls(Call::Renames("a", "b", true)),
+        Step::HasOpen(1),
+        Step::Calls(Call::Appends("b", b"x", true)),
+        Step::Calls(Call::Removes("c", true)),
+        Step::HasOpen(1),
+    ]],
+    after: &[("b", Some(b"xxx"))],
+    count: 1,
+};
+
+const ABSENT: Row<'_> = Row {
+    name: "absent",
+    before: &[],
+    sessions: &[&[
+        Step::Leaves,
+        Step::Calls(Call::Appends("log", b"x", false)),
+        Step::Calls(Call::Appends("log", b"x", false)),
+        Step::Calls(Call::Sizes("log", Ok(None))),
+        Step::Calls(Call::Renames("log", "old", true)),
+        Step::Calls(Call::Removes("log", true)),
+        Step::Calls(Call::Flushes("log", true)),
+        Step::Comes,
+        Step::Calls(Call::Appends("log", b"x", true)),
+    ]],
+    after: &[("log", Some(b"x"))],
+    count: 1,
+};
+
+/// What an ended process left within a rename: the next one to that name removes it, whether there is a file or none.
+const ASIDE: Row<'_> = Row {
+    name: "aside",
+    before: &[
+        Before::File("a", "a"),
+        Before::File("b", "b"),
+        Before::File("c", "c"),
+        Before::File(".b.replaced", ".b.replaced"),
+        Before::File(".c.replaced", ".c.replaced"),
+    ],
+    sessions: &[&[
+        Step::Calls(Call::Renames("none", "c", true)),
+        Step::Has("c", Some(b"c")),
+        Step::Calls(Call::Renames("a", "b", true)),
+        Step::Has("b", Some(b"a")),
+        Step::Calls(Call::Renames("b", "d", true)),
+        Step::Has("d", Some(b"a")),
+        Step::Calls(Call::Renames("d", "d", true)),
+        Step::Has("d", Some(b"a")),
+        Step::Calls(Call::Removes("c", true)),
+        Step::Counts(1),
+    ]],
+    after: &[],
+    count: 1,
+};
+
+const ROWS: [Row<'_>; 5] = [BUFFERS, AGAIN, OPEN, ABSENT, ASIDE];
 
 #[test]
-fn what_writes_a_buffer(rt: HostRuntime) -> Result<(), Fail> {
-    let path = scratch(&rt, "buffer")?;
-    let mut store = open(rt, &path)?;
-    write_buffers(&rt, &path, &mut store);
-    drop(store);
-    has(&rt, &path, "kept", b"one\n");
-    clear(&rt, &path)
+fn files_that_are_left(rt: HostRuntime) -> Result<(), Fail> {
+    for row in &ROWS {
+        assert!(rt; holds(&rt, row)?, "{name}", name = row.name);
+    }
+    Ok(())
 }
+
+/// How many bytes a buffer holds.
+const FULL: usize = 65_536;
 
 fn many(alloc: Global, count: usize) -> Result<Vec<u8>, Fail> {
     Ok(Vec::from_elem(alloc, b'x', count)?)
 }
 
-// What is written before a flush, of two appends of so many bytes.
-fn ends<R: Files + Abort + AllocGlobal>(
-    rt: &R,
+/// Whether just so many of these bytes are written before a flush, where they are appended in two parts.
+fn are_written(
+    rt: &HostRuntime,
     path: &PathBuf,
-    store: &mut Folder,
+    all: &[u8],
     first: usize,
-    second: usize,
     written: usize,
-) -> Result<(), Fail> {
+) -> Result<bool, Fail> {
+    let mut store = open(rt, path)?;
+    let parts = [
+        Call::Appends("log", all.get(..first).unwrap_or(&[]), true),
+        Call::Appends("log", all.get(first..).unwrap_or(&[]), true),
+    ];
+    let ends = [Call::Flushes("log", true)];
+    Ok(
+        wrong(&mut store, &parts).is_none()
+            && has(rt, path, "log", all.get(..written))?
+            && wrong(&mut store, &ends).is_none()
+            && has(rt, path, "log", Some(all))?,
+    )
+}
+
+/// The bytes of two appends, and how many of them are written before a flush.
+const ENDS: [(usize, usize, usize); 8] = [
+    (0, FULL - 1, 0),
+    (0, FULL, FULL),
+    (0, FULL + 1, FULL + 1),
+    (1, FULL - 1, 0),
+    (1, FULL, FULL + 1),
+    (2, FULL - 1, 2),
+    (FULL - 1, 1, 0),
+    (FULL - 1, 2, FULL - 1),
+];
+
+/// Whether a row holds.
+fn ends(rt: &HostRuntime, first: usize, second: usize, written: usize) -> Result<bool, Fail> {
+    let path = scratch(rt, "ends")?;
     let all = many(rt.alloc(), first.saturating_add(second))?;
-    appends(rt, store, "log", &all[..first.min(all.len())], DONE);
-    appends(rt, store, "log", &all[first.min(all.len())..], DONE);
-    has(rt, path, "log", &all[..written.min(all.len())]);
-    flushes(rt, store, "log", DONE);
-    has(rt, path, "log", &all);
-    removes(rt, store, "log", DONE);
-    Ok(())
+    let are_written = are_written(rt, &path, all.as_slice(), first, written)?;
+    clear(rt, &path)?;
+    Ok(are_written)
 }
 
 #[test]
 fn the_ends_of_a_buffer(rt: HostRuntime) -> Result<(), Fail> {
-    let path = scratch(&rt, "ends")?;
-    let mut store = open(rt, &path)?;
-    ends(&rt, &path, &mut store, 0, FULL - 1, 0)?;
-    ends(&rt, &path, &mut store, 0, FULL, FULL)?;
-    ends(&rt, &path, &mut store, 0, FULL + 1, FULL + 1)?;
-    ends(&rt, &path, &mut store, 1, FULL - 1, 0)?;
-    ends(&rt, &path, &mut store, 1, FULL, FULL + 1)?;
-    ends(&rt, &path, &mut store, 2, FULL - 1, 2)?;
-    ends(&rt, &path, &mut store, FULL - 1, 1, 0)?;
-    ends(&rt, &path, &mut store, FULL - 1, 2, FULL - 1)?;
-    drop(store);
-    clear(&rt, &path)
-}
-
-fn add(rt: HostRuntime, stop: &impl Abort, path: &PathBuf, text: &str) -> Result<(), Fail> {
-    let mut store = open(rt, path)?;
-    appends(stop, &mut store, "log", text.as_bytes(), DONE);
+    for (first, second, written) in &ENDS {
+        assert!(rt; ends(&rt, *first, *second, *written)?, "{first}, {second}");
+    }
     Ok(())
 }
 
-#[test]
-fn a_folder_opened_again(rt: HostRuntime) -> Result<(), Fail> {
-    let path = scratch(&rt, "again")?;
-    add(rt, &rt, &path, "one\n")?;
-    has(&rt, &path, "log", b"one\n");
-    add(rt, &rt, &path, "two\n")?;
-    has(&rt, &path, "log", b"one\ntwo\n");
-    let mut store = open(rt, &path)?;
-    appends(&rt, &mut store, "log", b"three\n", DONE);
-    renames(&rt, &mut store, "log", "old", DONE);
-    appends(&rt, &mut store, "log", b"four\n", DONE);
-    appends(&rt, &mut store, "old", b"five\n", DONE);
-    removes(&rt, &mut store, "log", DONE);
-    appends(&rt, &mut store, "log", b"six\n", DONE);
-    drop(store);
-    has(&rt, &path, "old", b"one\ntwo\nthree\nfive\n");
-    has(&rt, &path, "log", b"six\n");
-    clear(&rt, &path)
-}
-
-// This process has so many more files open than it had before.
-fn has_open<R: Files + Clone + Drop + Abort + AllocGlobal>(rt: &R, before: usize, more: usize) {
-    let now = count(rt, "/proc/self/fd");
-    assert_eq!(rt; now.checked_sub(before), Some(more));
-}
-
-// A file is opened once, and stays open until it is renamed or removed, or the store is dropped.
-#[test]
-fn files_stay_open(rt: HostRuntime) -> Result<(), Fail> {
-    let path = scratch(&rt, "open")?;
-    let mut store = open(rt, &path)?;
-    let before = count(&rt, "/proc/self/fd");
-    for name in ["a", "b", "a", "c", "b"] {
-        appends(&rt, &mut store, name, b"x", DONE);
-        flushes(&rt, &mut store, name, DONE);
-    }
-    has_open(&rt, before, 3);
-    renames(&rt, &mut store, "a", "b", DONE);
-    has_open(&rt, before, 1);
-    appends(&rt, &mut store, "b", b"x", DONE);
-    removes(&rt, &mut store, "c", DONE);
-    has_open(&rt, before, 1);
-    drop(store);
-    has_open(&rt, before, 0);
-    has(&rt, &path, "b", b"xxx");
-    clear(&rt, &path)
-}
-
-#[test]
-fn a_folder_that_is_not_there(rt: HostRuntime) -> Result<(), Fail> {
-    let path = scratch(&rt, "absent")?;
-    fs::remove_dir(&rt, path.as_str())?;
-    let mut store = open(rt, &path)?;
-    appends(&rt, &mut store, "log", b"x", FAILED);
-    appends(&rt, &mut store, "log", b"x", FAILED);
-    sizes(&rt, &mut store, "log", Ok(None));
-    renames(&rt, &mut store, "log", "old", DONE);
-    removes(&rt, &mut store, "log", DONE);
-    flushes(&rt, &mut store, "log", DONE);
-    fs::create_dir(&rt, path.as_str())?;
-    appends(&rt, &mut store, "log", b"x", DONE);
-    drop(store);
-    has(&rt, &path, "log", b"x");
-    clear(&rt, &path)
-}
-
-// What an ended process left within a rename: the next one to that name removes it, whether there is a file or none.
-#[test]
-fn a_file_left_aside(rt: HostRuntime) -> Result<(), Fail> {
-    let path = scratch(&rt, "aside")?;
-    for name in ["a", "b", "c", ".b.replaced", ".c.replaced"] {
-        fs::write(&rt, path.join(rt.alloc(), name)?, name)?;
-    }
-    let mut store = open(rt, &path)?;
-    renames(&rt, &mut store, "none", "c", DONE);
-    has(&rt, &path, "c", b"c");
-    renames(&rt, &mut store, "a", "b", DONE);
-    has(&rt, &path, "b", b"a");
-    renames(&rt, &mut store, "b", "d", DONE);
-    has(&rt, &path, "d", b"a");
-    renames(&rt, &mut store, "d", "d", DONE);
-    has(&rt, &path, "d", b"a");
-    removes(&rt, &mut store, "c", DONE);
-    assert_eq!(rt; count(&rt, path.as_str()), 1);
-    drop(store);
-    clear(&rt, &path)
-}
-
-// Names with which no call but a flush is done: no file can have the last but one, the last is a rename's own, and the
-// others lead out of the folder.
+/// Names with which no call but a flush is done: no file can have the last but one, the last is a rename's own, and the
+/// others lead out of the folder.
 const NO_NAMES: [&str; 8] = [
     "",
     ".",
@@ -202,68 +241,110 @@ const NO_NAMES: [&str; 8] = [
     ".file.replaced",
 ];
 
-fn refuses_name<S: Store>(rt: &impl Abort, store: &mut S, name: &str) {
-    appends(rt, store, name, b"x", FAILED);
-    sizes(rt, store, name, Err(StoreError));
-    removes(rt, store, name, FAILED);
-    renames(rt, store, "file", name, FAILED);
-    renames(rt, store, name, "file", FAILED);
-    flushes(rt, store, name, DONE);
+/// Whether all calls with a name are refused but a flush.
+fn refuses_name<S: Store>(store: &mut S, name: &str) -> bool {
+    let calls = [
+        Call::Appends(name, b"x", false),
+        Call::Sizes(name, Err(StoreError)),
+        Call::Removes(name, false),
+        Call::Renames("file", name, false),
+        Call::Renames(name, "file", false),
+        Call::Flushes(name, true),
+    ];
+    wrong(store, &calls).is_none()
 }
 
-// What the system refuses whoever asks is a folder where a file is to be. Where a file can't take its place, it is as it was.
+/// The first of those names with which a call is not refused.
+fn first_taken<S: Store>(store: &mut S) -> Option<usize> {
+    for (i, name) in NO_NAMES.iter().enumerate() {
+        if !refuses_name(store, name) {
+            return Some(i);
+        }
+    }
+    None
+}
+
+/// What the system refuses whoever asks is a folder where a file is to be.
+const BELOW: [Call<'_>; 3] = [
+    Call::Appends("below", b"x", false),
+    Call::Renames("file", "below", false),
+    Call::Removes("below", false),
+];
+
+/// Whether all that is refused in a folder.
+fn refuses_all(rt: &HostRuntime, path: &PathBuf) -> Result<bool, Fail> {
+    let mut store = open(rt, path)?;
+    Ok(wrong(&mut store, &BELOW).is_none() && first_taken(&mut store).is_none())
+}
+
+/// Whether all that is refused, and leaves a file that cannot take its place as it was.
+fn of_refusals(rt: &HostRuntime) -> Result<bool, Fail> {
+    let before = [Before::Folder("below"), Before::File("file", "kept")];
+    let path = prepared(rt, "refused", &before)?;
+    let are_refused = refuses_all(rt, &path)?
+        && has(rt, &path, "file", Some(b"kept"))?
+        && count(rt, path.as_str())? == 2;
+    fs::remove_dir(rt, path.join(rt.alloc(), "below")?)?;
+    clear(rt, &path)?;
+    Ok(are_refused)
+}
+
 #[test]
 fn what_is_refused(rt: HostRuntime) -> Result<(), Fail> {
-    let path = scratch(&rt, "refused")?;
-    fs::create_dir(&rt, path.join(rt.alloc(), "below")?)?;
-    fs::write(&rt, path.join(rt.alloc(), "file")?, "kept")?;
-    let mut store = open(rt, &path)?;
-    appends(&rt, &mut store, "below", b"x", FAILED);
-    renames(&rt, &mut store, "file", "below", FAILED);
-    removes(&rt, &mut store, "below", FAILED);
-    for name in NO_NAMES {
-        refuses_name(&rt, &mut store, name);
-    }
-    has(&rt, &path, "file", b"kept");
-    assert_eq!(rt; count(&rt, path.as_str()), 2);
-    fs::remove_dir(&rt, path.join(rt.alloc(), "below")?)?;
-    clear(&rt, &path)
+    assert!(rt; of_refusals(&rt)?);
+    Ok(())
 }
 
-// The calls on files to which nothing can be written.
-fn refuse_each(rt: &impl Abort, store: &mut Folder, bytes: &[u8]) {
-    appends(rt, store, "a", bytes, FAILED);
-    flushes(rt, store, "a", DONE);
-    for name in ["b", "c", "d", "e"] {
-        appends(rt, store, name, b"x", DONE);
-    }
-    flushes(rt, store, "b", FAILED);
-    appends(rt, store, "b", bytes, FAILED);
-    sizes(rt, store, "c", Err(StoreError));
-    renames(rt, store, "d", "f", FAILED);
-    renames(rt, store, "f", "d", FAILED);
-    removes(rt, store, "e", FAILED);
+/// Whether the calls are refused on files to which nothing can be written, but an append that stays in the buffer; other files can
+/// be written.
+fn refuses_each(rt: &HostRuntime, path: &PathBuf, bytes: &[u8]) -> Result<bool, Fail> {
+    let calls = [
+        Call::Appends("a", bytes, false),
+        Call::Flushes("a", true),
+        Call::Appends("b", b"x", true),
+        Call::Appends("c", b"x", true),
+        Call::Appends("d", b"x", true),
+        Call::Appends("e", b"x", true),
+        Call::Flushes("b", false),
+        Call::Appends("b", bytes, false),
+        Call::Sizes("c", Err(StoreError)),
+        Call::Renames("d", "f", false),
+        Call::Renames("f", "d", false),
+        Call::Removes("e", false),
+    ];
+    let mut store = open(rt, path)?;
+    Ok(
+        wrong(&mut store, &calls).is_none()
+            && count(rt, path.as_str())? == 5
+            && answers(&mut store, Call::Appends("log", b"x", true)),
+    )
 }
 
-// A file to which nothing can be written: a link to the system's device that is always full.
-#[test]
-fn a_full_file(rt: HostRuntime) -> Result<(), Fail> {
-    let path = scratch(&rt, "full")?;
+/// Files to which nothing can be written.
+const FULL_FILES: [Before<'_>; 5] = [
+    Before::Full("a"),
+    Before::Full("b"),
+    Before::Full("c"),
+    Before::Full("d"),
+    Before::Full("e"),
+];
+
+fn of_full_files(rt: &HostRuntime) -> Result<bool, Fail> {
+    let path = prepared(rt, "full", &FULL_FILES)?;
     let bytes = many(rt.alloc(), FULL)?;
-    for name in ["a", "b", "c", "d", "e"] {
-        symlink(&rt, "/dev/full", path.join(rt.alloc(), name)?)?;
-    }
-    let mut store = open(rt, &path)?;
-    refuse_each(&rt, &mut store, &bytes);
-    assert_eq!(rt; count(&rt, path.as_str()), 5);
-    appends(&rt, &mut store, "log", b"x", DONE);
-    drop(store);
-    has(&rt, &path, "log", b"x");
-    clear(&rt, &path)
+    let is_right = refuses_each(rt, &path, bytes.as_slice())? && has(rt, &path, "log", Some(b"x"))?;
+    clear(rt, &path)?;
+    Ok(is_right)
 }
 
-// Which of seven calls were done: two appends, a size, a rename, an append, a removal and a flush.
-#[derive(Clone, Copy, Debug)]
+#[test]
+fn full_files(rt: HostRuntime) -> Result<(), Fail> {
+    assert!(rt; of_full_files(&rt)?);
+    Ok(())
+}
+
+/// Which of seven calls were done: two appends, a size, a rename, an append, a removal and a flush.
+#[derive(Clone, Copy)]
 struct Answers {
     one: bool,
     two: bool,
@@ -300,7 +381,7 @@ fn failures(answers: Answers) -> usize {
     all.iter().filter(|&&is_ok| !is_ok).count()
 }
 
-// What `log` and `old` have where at most one call was not done; `log` may be absent then.
+/// What `log` and `old` have where at most one call was not done; `log` may be absent then.
 fn left_by(answers: Answers) -> (&'static [u8], Option<&'static [u8]>) {
     if !answers.one {
         (b"three\n", None)
@@ -315,19 +396,35 @@ fn left_by(answers: Answers) -> (&'static [u8], Option<&'static [u8]>) {
     }
 }
 
+/// Which of the calls a store of its own did, or none where it was not made.
+fn called(rt: &HostRuntime, path: &PathBuf) -> Option<Answers> {
+    match FolderStore::new(rt.alloc(), *rt, path.as_str()) {
+        Ok(mut store) => Some(seven_calls(&mut store)),
+        Err(_) => None,
+    }
+}
+
+/// Whether the files have what those calls left that were done, of which at most one was not.
+fn is_left_by(rt: &HostRuntime, path: &PathBuf, answers: Answers) -> Result<bool, Fail> {
+    let (log, old) = left_by(answers);
+    let kept = found(rt, path, "log")?;
+    let is_kept = kept.is_none_or(|file| file.as_slice() == log);
+    Ok(failures(answers) <= 1 && is_kept && has(rt, path, "old", old)?)
+}
+
+fn of_want_of_memory(rt: &HostRuntime) -> Result<bool, Fail> {
+    let path = scratch(rt, "memory")?;
+    let is_right = match called(rt, &path) {
+        Some(answers) => is_left_by(rt, &path, answers)?,
+        None => true,
+    };
+    clear(rt, &path)?;
+    Ok(is_right)
+}
+
 // Where memory is wanting once, the store is not made, or one call fails: the files have what the others were answered.
 #[test]
 fn want_of_memory(rt: HostRuntime) -> Result<(), Fail> {
-    let path = scratch(&rt, "memory")?;
-    let Ok(mut store) = FolderStore::new(rt.alloc(), rt, path.as_str()) else {
-        return Ok(fs::remove_dir(&rt, path.as_str())?);
-    };
-    let answers = seven_calls(&mut store);
-    assert!(rt; failures(answers) <= 1, "{answers:?}");
-    let (log, old) = left_by(answers);
-    let kept = found(&rt, &path, "log");
-    assert!(rt; kept.is_none_or(|file| file.as_slice() == log));
-    let kept = found(&rt, &path, "old");
-    assert!(rt; kept.as_ref().map(|file| file.as_slice()) == old);
-    clear(&rt, &path)
+    assert!(rt; of_want_of_memory(&rt)?);
+    Ok(())
 }

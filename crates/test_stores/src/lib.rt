@@ -3,8 +3,8 @@
 //!
 //! They are here, and not in `alog_sink`, since a crate with tests is proved twice. Read `calls.rt` (calls of any store
 //! with the answer wanted, and each call once), `memory_tests.rt` (files in memory, and behind a fuse), `folder.rt` (what
-//! the system has), `folder_tests.rt` (files of a folder), then `hours.rt` and `folder_sink_tests.rt` (sinks over a folder,
-//! beside those over memory).
+//! the system has), `sessions.rt` (what is done in a folder, step by step), `folder_tests.rt` (files of a folder), then
+//! `hours.rt` and `folder_sink_tests.rt` (sinks over a folder, beside those over memory).
 #![tactic(auto)]
 
 #[cfg(test)]
@@ -18,5 +18,7 @@ mod folder_tests;
 mod hours;
 #[cfg(test)]
 mod memory_tests;
+#[cfg(test)]
+mod sessions;
 
 pub use hours::hour_of_line;

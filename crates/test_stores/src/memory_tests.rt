@@ -1,93 +1,148 @@
 //! Files in memory, and behind a fuse.
-use crate::calls::{DONE, FAILED, appends, each_call, flushes, has, removes, renames, sizes};
+use crate::calls::{Call, EACH, has_just, wrong};
 use alog_sink::{Fuse, FuseStore, MemStore, StoreError};
 use std::alloc::Global;
-use std::process::Abort;
 use std::test::Fail;
 
+/// A store with one file, which was put there twice.
 fn opened(alloc: Global) -> Result<MemStore, Fail> {
-    Ok(MemStore::new(alloc).with("a", b"old")?.with("a", b"abc")?)
+    let store = MemStore::new(alloc).with("a", b"old")?;
+    Ok(store.with("a", b"abc")?)
 }
 
-// The files that each call once has left.
-fn looks_called(rt: &impl Abort, store: &MemStore) {
-    assert_eq!(rt; store.files().len(), 2);
-    has(rt, store, "b", b"abcde");
-    has(rt, store, "d", b"xy");
+/// The files that each call once has left.
+const LEFT: [(&str, &[u8]); 2] = [("b", b"abcde"), ("d", b"xy")];
+
+/// Whether each call once is answered by files in memory as it says, and leaves those.
+fn of_memory(alloc: Global) -> Result<bool, Fail> {
+    let mut store = opened(alloc)?;
+    Ok(wrong(&mut store, &EACH).is_none() && has_just(&store, &LEFT))
+}
+
+/// The same behind a fuse that does not burn.
+fn of_fuse(alloc: Global) -> Result<bool, Fail> {
+    let mut store = FuseStore::new(opened(alloc)?, 100, 0);
+    Ok(
+        wrong(&mut store, &EACH).is_none()
+            && has_just(store.store(), &LEFT)
+            && has_just(&store.into_store(), &LEFT),
+    )
 }
 
 #[test]
-fn each_call_on_files_in_memory(rt: HostRuntime) -> Result<(), Fail> {
-    let mut store = opened(rt.alloc())?;
-    each_call(&rt, &mut store);
-    looks_called(&rt, &store);
+fn each_call(rt: HostRuntime) -> Result<(), Fail> {
+    assert!(rt; of_memory(rt.alloc())?, "in memory");
+    assert!(rt; of_fuse(rt.alloc())?, "behind a fuse");
     Ok(())
 }
 
-#[test]
-fn each_call_behind_a_fuse(rt: HostRuntime) -> Result<(), Fail> {
-    let mut store = FuseStore::new(opened(rt.alloc())?, 100, 0);
-    each_call(&rt, &mut store);
-    assert_eq!(rt; store.store().files().len(), 2);
-    looks_called(&rt, &store.into_store());
-    Ok(())
+/// Files in no order of their names.
+const NAMES: [Call<'_>; 5] = [
+    Call::Appends("b.2", b"x", true),
+    Call::Appends("b", b"x", true),
+    Call::Appends("a", b"x", true),
+    Call::Appends("c", b"x", true),
+    Call::Appends("B", b"x", true),
+];
+
+/// Whether the names of a store's files are these, in this order.
+fn has_names(store: &MemStore, names: &[&str]) -> bool {
+    for (found, name) in store.files().keys().zip(names) {
+        if found.as_str() != *name {
+            return false;
+        }
+    }
+    store.files().len() == names.len()
 }
 
 #[test]
-fn names_in_order(rt: HostRuntime) -> Result<(), Fail> {
+fn names_in_order(rt: HostRuntime) {
     let mut store = MemStore::new(rt.alloc());
-    for name in ["b.2", "b", "a", "c", "B"] {
-        appends(&rt, &mut store, name, b"x", DONE);
-    }
-    let mut names = String::new(rt.alloc());
-    for (name, _) in store.files().iter() {
-        names.push_str(name)?;
-        names.push_str(" ")?;
-    }
-    assert!(rt; names.as_str() == "B a b b.2 c ");
-    Ok(())
+    let wrong = wrong(&mut store, &NAMES);
+    assert!(rt; wrong.is_none() && has_names(&store, &["B", "a", "b", "b.2", "c"]));
+}
+
+/// After how many calls a fuse burns, how many bytes of an append it passes on, and the calls; how far it has burnt then, and what
+/// is left.
+type Burning<'a> = (u64, usize, &'a [Call<'a>], Fuse, &'a [(&'a str, &'a [u8])]);
+
+const BURNING: [Burning<'_>; 3] = [
+    // An append that stops.
+    (
+        1,
+        3,
+        &[
+            Call::Appends("log", b"one\n", true),
+            Call::Appends("log", b"two\n", false),
+        ],
+        Fuse::Burnt,
+        &[("log", b"one\ntwo")],
+    ),
+    (
+        1,
+        3,
+        &[
+            Call::Appends("log", b"one\n", true),
+            Call::Appends("log", b"two\n", false),
+            Call::Appends("log", b"!", true),
+        ],
+        Fuse::Burnt,
+        &[("log", b"one\ntwo!")],
+    ),
+    // A line shorter than its part.
+    (
+        0,
+        9,
+        &[Call::Appends("log", b"one", false)],
+        Fuse::Burnt,
+        &[("log", b"one")],
+    ),
+];
+
+/// Whether a row holds.
+fn burns(alloc: Global, row: &Burning<'_>) -> bool {
+    let (count, part, calls, fuse, files) = *row;
+    let mut store = FuseStore::new(MemStore::new(alloc), count, part);
+    wrong(&mut store, calls).is_none() && store.fuse == fuse && has_just(store.store(), files)
 }
 
 #[test]
 fn an_append_that_stops(rt: HostRuntime) {
-    let mut store = FuseStore::new(MemStore::new(rt.alloc()), 1, 3);
-    appends(&rt, &mut store, "log", b"one\n", DONE);
-    appends(&rt, &mut store, "log", b"two\n", FAILED);
-    assert!(rt; store.fuse == Fuse::Burnt);
-    has(&rt, store.store(), "log", b"one\ntwo");
-    appends(&rt, &mut store, "log", b"!", DONE);
-    has(&rt, store.store(), "log", b"one\ntwo!");
+    for (i, row) in BURNING.iter().enumerate() {
+        assert!(rt; burns(rt.alloc(), row), "row {i}");
+    }
 }
 
-#[test]
-fn a_line_shorter_than_its_part(rt: HostRuntime) {
-    let mut store = FuseStore::new(MemStore::new(rt.alloc()), 0, 9);
-    appends(&rt, &mut store, "log", b"one", FAILED);
-    has(&rt, store.store(), "log", b"one");
-}
+/// Which of five calls fails, the first four of which differ, what the size is said to be, and how many files are left.
+const FAILING: [(u64, Result<Option<u64>, StoreError>, usize); 4] = [
+    (0, Ok(None), 1),
+    (1, Ok(Some(3)), 0),
+    (2, Err(StoreError), 0),
+    (3, Ok(Some(3)), 1),
+];
 
-fn failing(is_failing: bool) -> Result<(), StoreError> {
-    if is_failing { FAILED } else { DONE }
-}
-
-// A store that fails the call after so many, of five calls, the first four of which differ.
-fn fails_once(rt: &(impl Abort + AllocGlobal), call: u64, left: usize) -> Result<(), Fail> {
-    let mut store = FuseStore::new(opened(rt.alloc())?, call, 0);
-    renames(rt, &mut store, "a", "b", failing(call == 0));
-    flushes(rt, &mut store, "b", failing(call == 1));
-    let size = if call == 0 { None } else { Some(3) };
-    let size = if call == 2 { Err(StoreError) } else { Ok(size) };
-    sizes(rt, &mut store, "b", size);
-    removes(rt, &mut store, "b", failing(call == 3));
-    flushes(rt, &mut store, "b", DONE);
-    assert_eq!(rt; store.into_store().files().len(), left);
-    Ok(())
+/// Whether a store fails just that call, and leaves so many files.
+fn fails_once(
+    alloc: Global,
+    call: u64,
+    size: Result<Option<u64>, StoreError>,
+    left: usize,
+) -> Result<bool, Fail> {
+    let calls = [
+        Call::Renames("a", "b", call != 0),
+        Call::Flushes("b", call != 1),
+        Call::Sizes("b", size),
+        Call::Removes("b", call != 3),
+        Call::Flushes("b", true),
+    ];
+    let mut store = FuseStore::new(opened(alloc)?, call, 0);
+    Ok(wrong(&mut store, &calls).is_none() && store.into_store().files().len() == left)
 }
 
 #[test]
 fn a_fuse_fails_any_call_once(rt: HostRuntime) -> Result<(), Fail> {
-    fails_once(&rt, 0, 1)?;
-    fails_once(&rt, 1, 0)?;
-    fails_once(&rt, 2, 0)?;
-    fails_once(&rt, 3, 1)
+    for (call, size, left) in &FAILING {
+        assert!(rt; fails_once(rt.alloc(), *call, *size, *left)?, "call {call}");
+    }
+    Ok(())
 }

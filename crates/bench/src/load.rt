@@ -1,0 +1,63 @@
+//! Measures the whole way of a message: producers on threads, a pool with one worker, and a sink.
+//!
+//! A call of the program is one run, so that `bench/load` can run it and its peer in turn.
+//!
+//! - `run STORE PATTERN PRODUCERS rate` prints how many messages go in a second, from the first log to the last line written.
+//! - `run STORE PATTERN PRODUCERS OFFERED` prints the 50th, 99th and 99.9th percentile of the nanoseconds that one log takes,
+//!   where so many messages are offered in a second, or as many as go where that is 0.
+//! - `idle WORKERS SECONDS` prints the microseconds of a processor that a pool takes in a second in which nothing is logged.
+//!
+//! STORE is `null`, `memory` or the path of a folder, PATTERN `short` or `full`. Read `case.rt` (what is asked for), `start.rt`
+//! (the pool of a run), `work.rt` (what a producer does), `run.rt` (a run and what it prints), `null_store.rt` and `idle.rt`.
+//! `bench/load.cpp` does the same by spdlog.
+mod case;
+mod idle;
+mod null_store;
+mod run;
+mod start;
+mod work;
+
+use crate::load::case::{Case, Target, case_of, number};
+use crate::load::idle::print_idle;
+use crate::load::null_store::NullStore;
+use crate::load::run::{Run, print_run, run_on};
+use crate::outputs::{FILE, emptied};
+use alog_sink::MemStore;
+use anyhow::Result;
+use std::rt::{Clock, Files};
+use std::sync::Wait;
+use std::thread::Threads;
+use std::time::CpuClock;
+
+/// Makes the run that is asked for, over a store of its own.
+fn run_case<R>(rt: &R, case: &Case<'_>) -> Result<Run>
+where
+    R: Threads + Wait + Clock + Files + AllocGlobal + Clone + Drop + Send + Sync + 'static,
+    R::File: Send + 'static,
+{
+    let alloc = rt.alloc();
+    match case.target {
+        Target::Null => run_on(rt, NullStore, case),
+        Target::Memory => run_on(rt, MemStore::new(alloc), case),
+        Target::Folder(path) => run_on(rt, emptied(rt, alloc, path, &[FILE])?, case),
+    }
+}
+
+/// Measures what these words ask for.
+pub fn measure<R>(rt: &R, words: &[String]) -> Result<()>
+where
+    R: Threads + Wait + Clock + CpuClock + Files + Print + AllocGlobal,
+    R: Clone + Drop + Send + Sync + 'static,
+    R::File: Send + 'static,
+{
+    match words {
+        [word, store, pattern, producers, how] if word.as_str() == "run" => {
+            let case = case_of(store, pattern, producers, how)?;
+            print_run(rt, &case, run_case(rt, &case)?)
+        }
+        [word, workers, seconds] if word.as_str() == "idle" => {
+            print_idle(rt, number(workers)?, number(seconds)?)
+        }
+        _ => Ok(()),
+    }
+}

@@ -1,0 +1,111 @@
+//! What is asked for.
+use crate::lines::PATTERN;
+use anyhow::{Context, Result, bail};
+
+/// The messages of each producer, where as many are logged as go.
+const EACH: u32 = 250_000;
+
+/// The messages of all producers, where so many are offered in a second.
+const OFFERED: u32 = 100_000;
+
+const SHORT: &[u8] = b"%n %L %v";
+
+/// Nanoseconds in a second.
+const SECOND: u64 = 1_000_000_000;
+
+/// What takes the lines.
+#[derive(Clone, Copy)]
+pub enum Target<'a> {
+    /// Nothing keeps them.
+    Null,
+    /// A file in memory.
+    Memory,
+    /// A file in the folder with this path.
+    Folder(&'a str),
+}
+
+/// What is measured.
+#[derive(Clone, Copy, PartialEq, Eq)]
+pub enum Figure {
+    /// How many messages go in a second.
+    Rate,
+    /// How long each log takes.
+    Times,
+}
+
+/// What one producer does.
+#[derive(Clone, Copy, Drop)]
+pub struct Order {
+    /// How many messages it logs.
+    pub count: u32,
+    /// How many nanoseconds lie between the beginnings of two logs, at least.
+    pub gap: u64,
+    pub figure: Figure,
+}
+
+/// A run.
+#[derive(Clone, Copy)]
+pub struct Case<'a> {
+    pub target: Target<'a>,
+    pub pattern: &'static [u8],
+    pub producers: u32,
+    pub order: Order,
+}
+
+impl Case<'_> {
+    /// How many messages are logged by all.
+    pub fn messages(&self) -> u32 {
+        self.producers.wrapping_mul(self.order.count)
+    }
+}
+
+/// The number that a word spells.
+pub fn number(word: &str) -> Result<u32> {
+    word.parse::<u32>().ok().context("no number")
+}
+
+/// The run that these words ask for.
+pub fn case_of<'a>(store: &'a str, pattern: &str, producers: &str, how: &str) -> Result<Case<'a>> {
+    let target = match store {
+        "null" => Target::Null,
+        "memory" => Target::Memory,
+        folder => Target::Folder(folder),
+    };
+    let pattern = match pattern {
+        "short" => SHORT,
+        "full" => PATTERN,
+        _ => bail!("no such pattern"),
+    };
+    let producers = number(producers)?;
+    let order = match how {
+        "rate" => Order {
+            count: EACH,
+            gap: 0,
+            figure: Figure::Rate,
+        },
+        offered => timed(number(offered)?, producers),
+    };
+    Ok(Case {
+        target,
+        pattern,
+        producers,
+        order,
+    })
+}
+
+/// The order of each of so many producers that offer so many messages in a second, or as many as go where that is 0.
+fn timed(offered: u32, producers: u32) -> Order {
+    let all = SECOND.saturating_mul(u64::from(producers));
+    match all.checked_div(u64::from(offered)) {
+        Some(gap) => Order {
+            count: OFFERED.checked_div(producers).unwrap_or(0),
+            gap,
+            figure: Figure::Times,
+        },
+        None => Order {
+            count: EACH,
+            gap: 0,
+            figure: Figure::Times,
+        },
+    }
+}
