@@ -7,9 +7,9 @@ use std::path::PathBuf;
 use std::test::Fail;
 use std::{env, fs, process};
 
-const FIRST: &str = "alog: refused 33 at line 1\n";
+const FIRST: &str = "alog: refused 33 at line 1\nalog: no command of this form may stand there\n";
 
-const SECOND: &str = "alog: refused 33 at line 2\n";
+const SECOND: &str = "alog: refused 33 at line 2\nalog: no command of this form may stand there\n";
 
 /// Lines that no script with the small configuration has.
 const REFUSED: [&str; 37] = [
@@ -218,10 +218,25 @@ fn failing_readers_and_writers(rt: HostRuntime) -> Result<(), Fail> {
         reader_fails: true,
         ..course
     };
-    assert!(rt; ends(&rt, read_fault, 3, "alog: refused 34\n"));
+    assert!(rt;
+        ends(
+            &rt,
+            read_fault,
+            3,
+            "alog: refused 34\nalog: the script could not be read\n"
+        )
+    );
     for room in 0..PRINTED.len() {
         let cut = Course { room, ..course };
-        assert!(rt; ends(&rt, cut, 3, "alog: refused 35\n"), "at {room} bytes");
+        assert!(rt;
+            ends(
+                &rt,
+                cut,
+                3,
+                "alog: refused 35\nalog: the output could not be written\n"
+            ),
+            "at {room} bytes"
+        );
     }
     removed(&rt, path)
 }
@@ -302,7 +317,9 @@ fn is_played(ran: &Ran) -> bool {
 /// There was no memory.
 fn is_without_memory(ran: &Ran) -> bool {
     let is_front = PRINTED.as_bytes().starts_with(ran.printed.as_slice());
-    ran.status == 4 && is_front && ran.errors.as_slice() == b"alog: refused 1\n".as_slice()
+    ran.status == 4
+        && is_front
+        && ran.errors.as_slice() == b"alog: refused 1\nalog: out of memory\n".as_slice()
 }
 
 /// Whether the script is played, or ends for want of memory and is played when it is asked for again.

@@ -119,7 +119,7 @@ pub(crate) fn ends_into<R: Host, O: Write>(
 /// Whether a run into a writer with this room has this status, and says that the output could not be written if it is 3.
 pub(crate) fn ends_within<R: Host>(rt: &R, words: &[&str], room: usize, status: u8) -> bool {
     let error = if status == 3 {
-        "alog: refused 35\n"
+        "alog: refused 35\nalog: the output could not be written\n"
     } else {
         ""
     };

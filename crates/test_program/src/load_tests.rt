@@ -87,12 +87,25 @@ const NO_NUMBERS: [([&str; 2], &str); 5] = [
     ),
 ];
 
-/// Numbers that are out of their bounds.
-const OUT_OF_BOUNDS: [[&str; 2]; 4] = [
-    ["--producers=65", "--messages=1"],
-    ["--producers", "0"],
-    ["--messages", "1000001"],
-    ["--producers", "18446744073709551615"],
+/// Numbers that are out of their bounds, and the line that says so.
+const OUT_OF_BOUNDS: [([&str; 2], &str); 4] = [
+    (
+        ["--producers=65", "--messages=1"],
+        "alog: refused 20\nalog: --producers=\"65\" is refused: allowed is 1 to 64\n",
+    ),
+    (
+        ["--producers", "0"],
+        "alog: refused 20\nalog: --producers=\"0\" is refused: allowed is 1 to 64\n",
+    ),
+    (
+        ["--messages", "1000001"],
+        "alog: refused 20\nalog: --messages=\"1000001\" is refused: allowed is 0 to 1000000\n",
+    ),
+    (
+        ["--producers", "18446744073709551615"],
+        "alog: refused 20\n\
+            alog: --producers=\"18446744073709551615\" is refused: allowed is 1 to 64\n",
+    ),
 ];
 
 #[test]
@@ -104,9 +117,11 @@ fn numbers_that_are_refused(rt: HostRuntime) -> Result<(), Fail> {
             "{more:?}"
         );
     }
-    for more in &OUT_OF_BOUNDS {
-        let said = Said::wrong("alog: refused 20\n");
-        assert!(rt; loads(&rt, path.as_str(), more, said), "{more:?}");
+    for (more, error) in &OUT_OF_BOUNDS {
+        assert!(rt;
+            loads(&rt, path.as_str(), more, Said::wrong(error)),
+            "{more:?}"
+        );
     }
     removed(&rt, path)
 }
@@ -254,13 +269,31 @@ fn each_line_of_many_is_in_its_file(rt: HostRuntime) -> Result<(), Fail> {
     removed(&rt, path)
 }
 
-// No line can be written to a folder that is absent.
+/// What is said where no turn at the sink could write its line.
+const FAILED: &str = "alog: refused 22\nalog: a store failed\nalog: sink 0: 3 turns failed";
+
+// No line can be written where a folder has the name of the file.
 #[test]
 fn a_fault_stands_behind_the_totals(rt: HostRuntime) -> Result<(), Fail> {
+    let folder = folder(&rt, "taken")?;
+    fs::create_dir(&rt, folder.join(rt.alloc(), "out")?)?;
+    let path = written(&rt, "to_taken", SMALL)?;
+    let places = (path.as_str(), folder.as_str());
+    assert!(rt; loads_to(&rt, places, "--messages=3", Said::fault(THREE, FAILED)));
+    fs::remove_dir_all(&rt, folder.as_str())?;
+    removed(&rt, path)
+}
+
+#[test]
+fn a_folder_that_is_none_is_refused_at_the_start(rt: HostRuntime) -> Result<(), Fail> {
     let folder = scratch(&rt, "absent_folder")?;
     let path = written(&rt, "no_folder", SMALL)?;
-    let places = (path.as_str(), folder.as_str());
-    let said = Said::fault(THREE, "alog: refused 22\n");
-    assert!(rt; loads_to(&rt, places, "--messages=3", said));
+    let (file, absent) = (path.as_str(), folder.as_str());
+    let error = format!(in rt.alloc(); "alog: no files can be written to {absent}: ")?;
+    let said = Said::fault("", error.as_str());
+    assert!(rt; loads_to(&rt, (file, absent), "--messages=3", said));
+    let error = format!(in rt.alloc(); "alog: {file} is no folder\n")?;
+    let said = Said::fault("", error.as_str());
+    assert!(rt; loads_to(&rt, (file, file), "--messages=3", said));
     removed(&rt, path)
 }

@@ -236,12 +236,21 @@ const THIRD_LINES: [&str; 6] = [
 #[test]
 fn refused_lines(rt: HostRuntime) {
     for (scripts, error) in [
-        (FIRST_LINES.as_slice(), "alog: refused 33 at line 1\n"),
-        (SECOND_LINES.as_slice(), "alog: refused 33 at line 2\n"),
-        (THIRD_LINES.as_slice(), "alog: refused 33 at line 3\n"),
+        (
+            FIRST_LINES.as_slice(),
+            "alog: refused 33 at line 1\nalog: no command of this form may stand there\n",
+        ),
+        (
+            SECOND_LINES.as_slice(),
+            "alog: refused 33 at line 2\nalog: no command of this form may stand there\n",
+        ),
+        (
+            THIRD_LINES.as_slice(),
+            "alog: refused 33 at line 3\nalog: no command of this form may stand there\n",
+        ),
         (
             ["\n#\nring 2 0\nring 2 0"].as_slice(),
-            "alog: refused 33 at line 4\n",
+            "alog: refused 33 at line 4\nalog: no command of this form may stand there\n",
         ),
     ] {
         for script in scripts {
@@ -257,13 +266,13 @@ fn printed_before_a_refused_line(rt: HostRuntime) {
         (
             "ring 2 0\npush 1 a\nstep 1 6\npop 2\n",
             "1 claim 0\n1 write 0\n",
-            "alog: refused 33 at line 3\n",
+            "alog: refused 33 at line 3\nalog: no command of this form may stand there\n",
         ),
         // A worker that owes its turn is in its call still, and the file is not printed.
         (
             "ring 2 0\npush 1 a\nrun 1\nwork 2\nstep 2 4\nwork 2",
             "1 claim 0\n1 write 0\n2 grab 0\n2 take 0 a\n",
-            "alog: refused 33 at line 6\n",
+            "alog: refused 33 at line 6\nalog: no command of this form may stand there\n",
         ),
     ] {
         assert!(rt;
@@ -276,8 +285,8 @@ fn printed_before_a_refused_line(rt: HostRuntime) {
 #[test]
 fn long_lines(rt: HostRuntime) -> Result<(), Fail> {
     let (first, second) = (
-        "alog: refused 33 at line 1\n",
-        "alog: refused 33 at line 2\n",
+        "alog: refused 33 at line 1\nalog: no command of this form may stand there\n",
+        "alog: refused 33 at line 2\nalog: no command of this form may stand there\n",
     );
     for (front, letters, said) in [
         ("#", 16_383, Said::done("")),
@@ -296,7 +305,10 @@ fn long_lines(rt: HostRuntime) -> Result<(), Fail> {
 
 #[test]
 fn a_line_that_is_no_text(rt: HostRuntime) {
-    let said = Said::refused("", "alog: refused 33 at line 2\n");
+    let said = Said::refused(
+        "",
+        "alog: refused 33 at line 2\nalog: no command of this form may stand there\n",
+    );
     assert!(rt; says(&rt, WORDS.as_slice(), b"ring 2 0\n#\xff\n", said));
 }
 
@@ -307,7 +319,14 @@ const PRINTED: &str =
 
 #[test]
 fn one_byte_at_a_time(rt: HostRuntime) {
-    for (reader_fails, status, error) in [(false, 0, ""), (true, 3, "alog: refused 34\n")] {
+    for (reader_fails, status, error) in [
+        (false, 0, ""),
+        (
+            true,
+            3,
+            "alog: refused 34\nalog: the script could not be read\n",
+        ),
+    ] {
         let course = Course {
             words: WORDS.as_slice(),
             script: SCRIPT,
@@ -333,7 +352,12 @@ fn each_write_failing(rt: HostRuntime) {
                 writer_fails,
             };
             assert!(rt;
-                ends(&rt, course, 3, "alog: refused 35\n"),
+                ends(
+                    &rt,
+                    course,
+                    3,
+                    "alog: refused 35\nalog: the output could not be written\n"
+                ),
                 "at {room} bytes"
             );
         }

@@ -123,12 +123,48 @@ fn refused_lines(rt: HostRuntime) -> Result<(), Fail> {
     let text = long(rt.alloc(), "", 2_049)?;
     let (pattern, text) = (pattern.as_str(), text.as_str());
     for (pattern, text, field, letters, error) in [
-        (pattern, text, "--name=", 65, "alog: refused 17\n"),
-        (WIDE, text, "--name=", 65, "alog: refused 18\n"),
-        ("%v", text, "--name=", 65, "alog: refused 2\n"),
-        ("%v", "x", "--name=", 65, "alog: refused 3\n"),
-        ("%v", "x", "--file=", 257, "alog: refused 3\n"),
-        ("%v", "x", "--function=", 129, "alog: refused 3\n"),
+        (
+            pattern,
+            text,
+            "--name=",
+            65,
+            "alog: refused 17\nalog: the pattern has more than 256 bytes\n",
+        ),
+        (
+            WIDE,
+            text,
+            "--name=",
+            65,
+            "alog: refused 18\nalog: a line of the pattern may have more than 65,536 bytes\n",
+        ),
+        (
+            "%v",
+            text,
+            "--name=",
+            65,
+            "alog: refused 2\nalog: the text has more than 2,048 bytes\n",
+        ),
+        (
+            "%v",
+            "x",
+            "--name=",
+            65,
+            "alog: refused 3\nalog: the name has more than 64 bytes, the file more than 256 or the function more than 128\n",
+        ),
+        (
+            "%v",
+            "x",
+            "--file=",
+            257,
+            "alog: refused 3\nalog: the name has more than 64 bytes, the file more than 256 or the function more than 128\n",
+        ),
+        (
+            "%v",
+            "x",
+            "--function=",
+            129,
+            "alog: refused 3\nalog: the name has more than 64 bytes, the file more than 256 or the function more than 128\n",
+        ),
     ] {
         let field = long(rt.alloc(), field, letters)?;
         let words = ["alog", "format", pattern, text, field.as_str()];
@@ -208,7 +244,13 @@ impl Write for Unflushed {
 /// Whether a run into a buffer over a writer with this room, which fails, tells so.
 fn ends_within_a_buffer<R: Host>(rt: &R, words: &[&str], room: usize) -> bool {
     match BufWriter::new(rt.alloc(), Narrow::new(rt.alloc(), room, true)) {
-        Ok(mut output) => ends_into(rt, words, &mut output, 3, "alog: refused 35\n"),
+        Ok(mut output) => ends_into(
+            rt,
+            words,
+            &mut output,
+            3,
+            "alog: refused 35\nalog: the output could not be written\n",
+        ),
         Err(_) => false,
     }
 }
@@ -219,7 +261,15 @@ fn failing_writers(rt: HostRuntime) {
         ["alog", "format", "%v", "hello"].as_slice(),
         ["alog", "--help"].as_slice(),
     ] {
-        assert!(rt; ends_into(&rt, words, &mut Unflushed, 3, "alog: refused 35\n"));
+        assert!(rt;
+            ends_into(
+                &rt,
+                words,
+                &mut Unflushed,
+                3,
+                "alog: refused 35\nalog: the output could not be written\n"
+            )
+        );
         for room in 0..5 {
             assert!(rt; ends_within(&rt, words, room, 3), "{room}");
             assert!(rt; ends_within_a_buffer(&rt, words, room), "{room}");
@@ -291,7 +341,11 @@ fn words_that_cannot_be_had(rt: HostRuntime) {
     for (error, status, said) in [
         (ArgumentsError::NotText(2), 1, no_text),
         (ArgumentsError::TooLong(3), 1, too_long),
-        (ArgumentsError::OutOfMemory, 4, "alog: refused 1\n"),
+        (
+            ArgumentsError::OutOfMemory,
+            4,
+            "alog: refused 1\nalog: out of memory\n",
+        ),
     ] {
         assert!(rt; ends_by(rt.alloc(), error, status, said));
     }
