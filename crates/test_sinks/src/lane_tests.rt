@@ -119,20 +119,20 @@ fn has_lines(rt: &impl Abort, sink: &Sink<Yielding>, one: &[u64], two: &[u64]) {
 
 // What a thread gives, and room for its line.
 #[derive(Drop)]
-struct Given {
+struct Draft {
     text: Item,
     line: LineBuf,
 }
 
 // A text of level info.
-fn given(alloc: Global, text: &str) -> Result<Given, Fail> {
+fn draft_of(alloc: Global, text: &str) -> Result<Draft, Fail> {
     let text = Item::Text(message(alloc, Level::Info, text)?);
     let line = LineBuf::new(alloc, 128)?;
-    Ok(Given { text, line })
+    Ok(Draft { text, line })
 }
 
 // Whether a sink may be given this.
-fn may_turn<S: Store>(sink: &Sink<S>, given: &Given) -> bool
+fn may_turn<S: Store>(sink: &Sink<S>, given: &Draft) -> bool
     ensures { IsTrue result → MayTurn sink.now given.now.text given.now.line }
 {
     match &given.text {
@@ -147,8 +147,8 @@ fn lane_over<S: Store + Drop>(
     rt: &impl Abort,
     alloc: Global,
     sink: Sink<S>,
-    one: &Given,
-    two: &Given,
+    one: &Draft,
+    two: &Draft,
 ) -> (Lane<Sink<S>>, LaneSeat<Sink<S>>)
     ensures seat { IsSeatOf result.0 result.1 }
     ensures one { MayTurn result.0.first one.now.text one.now.line }
@@ -167,8 +167,8 @@ fn write(
     alloc: Global,
     lane: Lane<Sink<Yielding>>,
     seat: LaneSeat<Sink<Yielding>>,
-    one: Given,
-    two: Given,
+    one: Draft,
+    two: Draft,
 ) -> (Vec<u64>, Vec<u64>, Sink<Yielding>)
     requires seat { IsSeatOf lane seat }
     requires turns { MayTurn lane.first one.text one.line × MayTurn lane.first two.text two.line }
@@ -198,7 +198,7 @@ fn write(
 #[test]
 fn two_threads_write_lines(rt: HostRuntime) -> Result<(), Fail> {
     let alloc = rt.alloc();
-    let (one, two) = (given(alloc, "a")?, given(alloc, "b")?);
+    let (one, two) = (draft_of(alloc, "a")?, draft_of(alloc, "b")?);
     let sink = Plan::MEMORY.opened(alloc, Yielding(MemStore::new(alloc)))?;
     let (lane, seat) = lane_over(&rt, alloc, sink, &one, &two);
     let (first, second, sink) = write(&rt, alloc, lane, seat, one, two);
@@ -211,12 +211,12 @@ fn write_and_flush(
     rt: &impl Abort,
     lane: Lane<Sink<MemStore>>,
     seat: LaneSeat<Sink<MemStore>>,
-    given: Given,
+    given: Draft,
 ) -> Sink<MemStore>
     requires seat { IsSeatOf lane seat }
     requires turn { MayTurn lane.first given.text given.line }
 {
-    let (mut seat, Given { text, mut line }) = (seat, given);
+    let (mut seat, Draft { text, mut line }) = (seat, given);
     let taken = lane.turn_once(&mut seat, 5, &text, &mut line);
     assert!(rt; taken == Ok((0, Ok(Served::Taken(Taken::Written)))));
     let flushed = lane.turn_once(&mut seat, 6, &Item::Flush(0), &mut line);
@@ -230,10 +230,10 @@ fn write_and_flush(
 #[test]
 fn a_lane_over_a_sink(rt: HostRuntime) -> Result<(), Fail> {
     let alloc = rt.alloc();
-    let given = given(alloc, "a")?;
+    let draft = draft_of(alloc, "a")?;
     let sink = Plan::MEMORY.opened(alloc, MemStore::new(alloc))?;
-    let (lane, seat) = lane_over(&rt, alloc, sink, &given, &given);
-    let sink = write_and_flush(&rt, lane, seat, given);
+    let (lane, seat) = lane_over(&rt, alloc, sink, &draft, &draft);
+    let sink = write_and_flush(&rt, lane, seat, draft);
     assert!(rt; leaves(&sink, &[("log", b"a\n")]));
     Ok(())
 }
