@@ -245,12 +245,22 @@ const FLUSHES: [Flush<'_>; 3] = [
     ),
 ];
 
+/// Whether a sink answers these deeds as they say, and just these names were flushed then.
+fn does(
+    alloc: Global,
+    sink: &mut Sink<Noting>,
+    deeds: &[Deed<'_>],
+    names: &str,
+) -> Result<bool, Fail> {
+    let count = answered(alloc, sink, deeds)?;
+    Ok(count == deeds.len() && flushed(sink, names))
+}
+
 /// Whether a row holds.
 fn flushes(alloc: Global, flush: Flush<'_>) -> Result<bool, Fail> {
     let (plan, deeds, names) = flush;
     let mut sink = plan.opened(alloc, notes(alloc))?;
-    let count = answered(alloc, &mut sink, deeds)?;
-    Ok(count == deeds.len() && flushed(&sink, names))
+    does(alloc, &mut sink, deeds, names)
 }
 
 #[test]

@@ -246,10 +246,15 @@ pub struct Row<'a> {
 }
 
 impl Row<'_> {
-    /// Whether the sink of the row, over this store, answers and leaves what it says.
+    /// Whether a sink answers and leaves what the row says.
+    fn is_done<S: Kept>(&self, alloc: Global, sink: &mut Sink<S>) -> Result<bool, Fail> {
+        let count = answered(alloc, sink, self.deeds)?;
+        Ok(count == self.deeds.len() && leaves(sink, self.files))
+    }
+
+    /// Whether the sink of the row, over this store, does so.
     pub fn holds<S: Kept>(&self, alloc: Global, store: S) -> Result<bool, Fail> {
         let mut sink = self.plan.opened(alloc, store)?;
-        let count = answered(alloc, &mut sink, self.deeds)?;
-        Ok(count == self.deeds.len() && leaves(&sink, self.files))
+        self.is_done(alloc, &mut sink)
     }
 }
