@@ -21,10 +21,12 @@ use crate::load::case::{Case, Target, case_of, number};
 use crate::load::idle::print_idle;
 use crate::load::null_store::NullStore;
 use crate::load::run::{Run, print_run, run_on};
-use crate::outputs::{FILE, emptied};
+use crate::outputs::{FILE, remove_all};
+use alog_server::Folders;
 use alog_sink::MemStore;
 use anyhow::Result;
-use std::rt::{Clock, Files};
+use std::alloc::Global;
+use std::rt::Clock;
 use std::sync::Wait;
 use std::thread::Threads;
 use std::time::CpuClock;
@@ -32,23 +34,28 @@ use std::time::CpuClock;
 /// Makes the run that is asked for, over a store of its own.
 fn run_case<R>(rt: &R, case: &Case<'_>) -> Result<Run>
 where
-    R: Threads + Wait + Clock + Files + AllocGlobal + Clone + Drop + Send + Sync + 'static,
-    R::File: Send + 'static,
+    R: Threads + Wait + Clock + Folders + AllocGlobal + Clone + Drop + Send + Sync + 'static,
 {
     let alloc = rt.alloc();
     match case.target {
         Target::Null => run_on(rt, NullStore, case),
         Target::Memory => run_on(rt, MemStore::new(alloc), case),
-        Target::Folder(path) => run_on(rt, emptied(rt, alloc, path, &[FILE])?, case),
+        Target::Folder(path) => run_on(rt, folder(rt, alloc, path)?, case),
     }
+}
+
+/// A store over the folder with this path, which may go to other threads, and from which the file of a run is removed.
+fn folder<R: Folders>(rt: &R, alloc: Global, path: &str) -> Result<R::Folder> {
+    let mut store = rt.folder(alloc, path)?;
+    remove_all(&mut store, &[FILE])?;
+    Ok(store)
 }
 
 /// Measures what these words ask for.
 pub fn measure<R>(rt: &R, words: &[String]) -> Result<()>
 where
-    R: Threads + Wait + Clock + CpuClock + Files + Print + AllocGlobal,
+    R: Threads + Wait + Clock + CpuClock + Folders + Print + AllocGlobal,
     R: Clone + Drop + Send + Sync + 'static,
-    R::File: Send + 'static,
 {
     match words {
         [word, store, pattern, producers, how] if word.as_str() == "run" => {

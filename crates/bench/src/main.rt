@@ -24,6 +24,7 @@ mod runs;
 mod sink;
 mod threads;
 
+use alog_server::Folders;
 use anyhow::Result;
 use std::env;
 use std::rt::{Clock, Files};
@@ -42,9 +43,8 @@ fn main(rt: HostRuntime) -> Result<()> {
 /// Measures the part of this name as the words say.
 fn measure<R>(rt: &R, part: &str, words: &[String]) -> Result<()>
 where
-    R: Threads + Wait + Clock + CpuClock + Files + Print + AllocGlobal,
+    R: Threads + Wait + Clock + CpuClock + Files + Folders + Print + AllocGlobal,
     R: Clone + Drop + Send + Sync + 'static,
-    R::File: Send + 'static,
 {
     match part {
         "ring" => ring::measure(rt),

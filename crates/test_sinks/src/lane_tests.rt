@@ -1,6 +1,7 @@
 //! A sink under a lock, to which two threads give lines.
 ghost use Rattle.std.specs.Prelude.{◌≡◌, IsTrue};
 ghost use Rattle.alog_lane.specs.Calls.{IsSeatOf};
+ghost use Rattle.alog_lane.specs.Seats.{first_known};
 ghost use Rattle.alog_sink.specs.Sinks.{MayTurn};
 
 use crate::sinks::{Plan, leaves, message};
@@ -151,6 +152,7 @@ fn lane_over<S: Store + Drop>(
     two: &Draft,
 ) -> (Lane<Sink<S>>, LaneSeat<Sink<S>>)
     ensures seat { IsSeatOf result.0 result.1 }
+    ensures known { result.1.known ≡ first_known }
     ensures one { MayTurn result.0.first one.now.text one.now.line }
     ensures two { MayTurn result.0.first two.now.text two.now.line }
 {
@@ -171,6 +173,7 @@ fn write(
     two: Draft,
 ) -> (Vec<u64>, Vec<u64>, Sink<Yielding>)
     requires seat { IsSeatOf lane seat }
+    requires known { seat.known ≡ first_known }
     requires turns { MayTurn lane.first one.text one.line × MayTurn lane.first two.text two.line }
 {
     let mut seat = seat;

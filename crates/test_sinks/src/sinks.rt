@@ -122,9 +122,9 @@ pub fn fan_of_two<S: Store + Drop>(alloc: Global, one: S, two: S) -> Result<Sink
         level: Level::Error,
         ..Plan::MEMORY
     };
-    let first = Plan::MEMORY.opened(alloc, one)?;
-    let second = errors.opened(alloc, two)?;
-    let members = Vec::from_array(alloc, [first, second])?;
+    let mut members = Vec::with_capacity(alloc, 2)?;
+    members.push_reserved(Plan::MEMORY.opened(alloc, one)?);
+    members.push_reserved(errors.opened(alloc, two)?);
     match Sink::fan(alloc, Level::Trace, members) {
         Ok(fan) => Ok(fan),
         Err(refused) => Err(refused.error.into()),
