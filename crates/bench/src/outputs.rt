@@ -27,6 +27,7 @@ pub fn face(alloc: Global, pattern: &[u8]) -> Result<Face>
     })
 }
 
+/// Removes the files with these names.
 pub fn remove_all<S: Store>(store: &mut S, names: &[&str]) -> Result<()> {
     for name in names {
         store.remove(name)?;
