@@ -122,22 +122,31 @@ fn a_dump_of_what_was_kept(rt: HostRuntime) -> Result<(), Fail> {
     Ok(())
 }
 
+/// Whether the program says this on these words, on a script that prints a line.
+fn says_on<R: Host>(rt: &R, words: &[&str], said: Said<'_>) -> bool {
+    says(rt, words, b"log 1 0 net debug x", said)
+}
+
+/// Whether it does so on command lines that name this configuration, and on some that do not.
+fn says_on_each<R: Host>(rt: &R, file: &str, joined: &str) -> bool {
+    let done = Said::done("1 filtered info\n");
+    let wrong = Said::wrong("error: ");
+    says_on(rt, ["alog", "replay", joined].as_slice(), done)
+        && says_on(rt, ["alog", "replay", "--config"].as_slice(), wrong)
+        && says_on(
+            rt,
+            ["alog", "replay", "--config", file, "x"].as_slice(),
+            wrong,
+        )
+        && says_on(rt, ["alog", "replay", joined, joined].as_slice(), wrong)
+        && says_on(rt, ["alog", "--config", file, "replay"].as_slice(), wrong)
+        && says_on(rt, ["alog", "check", "--config", file].as_slice(), wrong)
+}
+
 #[test]
 fn command_lines_with_a_configuration(rt: HostRuntime) -> Result<(), Fail> {
     let path = written(&rt, "words", SMALL)?;
-    let file = path.as_str();
-    let joined = format!(in rt.alloc(); "--config={file}")?;
-    let joined = joined.as_str();
-    let (done, wrong) = (Said::done("1 filtered info\n"), Said::wrong("error: "));
-    for (words, said) in [
-        (["alog", "replay", joined].as_slice(), done),
-        (["alog", "replay", "--config"].as_slice(), wrong),
-        (["alog", "replay", "--config", file, "x"].as_slice(), wrong),
-        (["alog", "replay", joined, joined].as_slice(), wrong),
-        (["alog", "--config", file, "replay"].as_slice(), wrong),
-        (["alog", "check", "--config", file].as_slice(), wrong),
-    ] {
-        assert!(rt; says(&rt, words, b"log 1 0 net debug x", said), "{words:?}");
-    }
+    let joined = format!(in rt.alloc(); "--config={}", path.as_str())?;
+    assert!(rt; says_on_each(&rt, path.as_str(), joined.as_str()));
     removed(&rt, path)
 }

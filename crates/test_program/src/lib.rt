@@ -3,8 +3,7 @@
 //! They are here, and not there, since a crate with tests is proved twice. Read `program.rt` (one run, and whether it said what it was
 //! to say) and `faulty.rt` (readers and writers that fail). Then `word_tests.rt` (command lines, and `alog format`), `script_tests.rt`
 //! (`alog replay`), `check_tests.rt`, `config_tests.rt`, `config_fault_tests.rt` (`alog replay --config`), `load_tests.rt`,
-//! `progress_tests.rt`, `server_tests.rt` (servers, of `alog_server`) and `example_tests.rt` (the files of `examples/`, which
-//! `examples.rt` has).
+//! `progress_tests.rt` and `example_tests.rt` (the files of `examples/`, which `examples.rt` has).
 #![tactic(auto)]
 
 #[cfg(test)]
@@ -27,7 +26,5 @@ mod program;
 mod progress_tests;
 #[cfg(test)]
 mod script_tests;
-#[cfg(test)]
-mod server_tests;
 #[cfg(test)]
 mod word_tests;
