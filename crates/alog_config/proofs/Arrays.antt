@@ -2,7 +2,7 @@
 use Rattle.std.proofs.Common.{◌≡◌, ℕ, ◌<◌, zero, suc, List, [], ◌∷◌, Bool, true, false, length, get_or}
 use Rattle.std.proofs.Common.{map, Some, None, refl, sym, ap, subst, ◌∙◌, arith}
 use Rattle.std.proofs.Common.{◌≤◌}
-use Rattle.alog_config.specs.declared.TheConstants.{MOST_TABLES}
+use Rattle.alog_config.specs.declared.TheConstants.{TABLES_MAX}
 use Rattle.alog_config.specs.Values.{AreLent, AreNames, IsNameList, IsTableArray, IsTexts, LentTables, tables_in}
 use Rattle.toml.specs.Data.{Data, Items, no_items, item, Members, no_members, as_array, string}
 use Rattle.toml.specs.Data.{integer, float, boolean, datetime, array, table}
@@ -97,15 +97,15 @@ no_names d ds texts is e bad names h =
 
 -- an array is one of tables, or it is none
 pub tables_given : (d : Data) (ds : List Data) (v : LentTables) → d ≡ array (items_of ds) → ds ≡ map table (tables_in v)
-    → length (tables_in v) ≤ MOST_TABLES → IsTableArray d v
+    → length (tables_in v) ≤ TABLES_MAX → IsTableArray d v
 tables_given d ds v is e few = (subst (λ (vs : List Data). d ≡ array (items_of vs)) e is, few)
 
 pub no_tables : (d : Data) (ds : List Data) → d ≡ array (items_of ds) → AreLent ds None → (v : LentTables) → ¬ IsTableArray d v
 no_tables d ds is none v h = none (tables_in v) (same_values ds (map table (tables_in v)) (sym is ∙ h.0))
 
 pub too_many : (d : Data) (ds : List Data) (v : LentTables) → d ≡ array (items_of ds) → ds ≡ map table (tables_in v)
-    → ¬ (length (tables_in v) ≤ MOST_TABLES) → (w : LentTables) → ¬ IsTableArray d w
+    → ¬ (length (tables_in v) ≤ TABLES_MAX) → (w : LentTables) → ¬ IsTableArray d w
 too_many d ds v is e many w h =
     let same : tables_in v ≡ tables_in w = same_tables (tables_in v) (tables_in w) (sym e
     ∙ same_values ds (map table (tables_in w)) (sym is ∙ h.0)) in
-    many (subst (λ (ts : List Members). length ts ≤ MOST_TABLES) (sym same) h.1)
+    many (subst (λ (ts : List Members). length ts ≤ TABLES_MAX) (sym same) h.1)

@@ -19,7 +19,7 @@ use Rattle.alog_config.specs.Fields.{AreSinkFields, AreTopFields}
 use Rattle.alog_config.specs.declared.top.TopFields.{TopFields}
 use Rattle.alog_format.specs.Civil.{IsZone}
 use Rattle.alog_format.specs.declared.context.Zone.TheVariants.{Fixed}
-use Rattle.alog_msg.specs.declared.limits.TheConstants.{DEFAULT_TEXT_LIMIT, LEAST_TEXT_LIMIT, MOST_TEXT_LIMIT}
+use Rattle.alog_msg.specs.declared.limits.TheConstants.{DEFAULT_TEXT_LIMIT, TEXT_LIMIT_MIN, TEXT_LIMIT_MAX}
 use Rattle.alog_config.specs.Meaning.{AreLoggers, AreSinks, IsLogger, IsSink, SaysKind, SaysUpkeep, limit_of}
 use Rattle.alog_config.specs.Rules.{AreBadMembers, AreLentSinks, AreNoSinks, IsBadFile, IsFirst, IsTakenLoggerName, IsTakenName}
 use Rattle.alog_config.specs.Rules.{LoggerBreaks, SinkBreaks, order}
@@ -35,7 +35,7 @@ use Rattle.alog_pattern.specs.declared.flags.Flag.TheVariants.{Default}
 use Rattle.alog_pattern.specs.declared.items.Item.{Item}
 use Rattle.alog_pattern.specs.declared.items.Item.TheVariants.{Flag}
 use Rattle.alog_pattern.proofs.Readings.{line_within}
-use Rattle.alog_registry.specs.declared.TheConstants.{MOST_KEPT}
+use Rattle.alog_registry.specs.declared.TheConstants.{KEPT_MAX}
 use Rattle.alog_sink.specs.Names.{IsFileName}
 use Rattle.toml.specs.Data.{Data, Members}
 
@@ -180,7 +180,7 @@ logger_sound ss earlier t l h =
       names = n.1.1;
       known = λ x. kept.no_sink (subst (AreNoSinks ss) (sym h.says.sinks) x);
       apart = λ x. kept.bad (inr (subst (AreLentSinks ss) (sym h.says.sinks) x));
-      few = rw h.says.backtrace (number_or_zero 0 MOST_KEPT _ f.backtrace h.are.backtrace);
+      few = rw h.says.backtrace (number_or_zero 0 KEPT_MAX _ f.backtrace h.are.backtrace);
     }
 
 -- all of them, as many as tables
@@ -203,9 +203,9 @@ loggers_sound sinks earlier (t ∷ ts) (l ∷ ls) h =
     ((logger_sound sinks earlier t l h.0, rest.0), ap suc rest.1)
 
 -- what is said for all
-text_sound : (o : Option Data) (field : Field ℕ) → IsField (IsNumber LEAST_TEXT_LIMIT MOST_TEXT_LIMIT) o field
+text_sound : (o : Option Data) (field : Field ℕ) → IsField (IsNumber TEXT_LIMIT_MIN TEXT_LIMIT_MAX) o field
     → IsTextLimit (given_or DEFAULT_TEXT_LIMIT field)
-text_sound o (Given n) h = number_sound LEAST_TEXT_LIMIT MOST_TEXT_LIMIT o (Given n) n h refl
+text_sound o (Given n) h = number_sound TEXT_LIMIT_MIN TEXT_LIMIT_MAX o (Given n) n h refl
 text_sound o Absent h = (omega arith, omega arith)
 text_sound o Bad h = (omega arith, omega arith)
 

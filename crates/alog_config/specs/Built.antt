@@ -13,11 +13,11 @@ use Rattle.alog_format.specs.declared.context.Zone.TheVariants.{Fixed}
 use Rattle.alog_msg.specs.declared.level.Level.{Level}
 use Rattle.alog_pattern.specs.Grammar.{IsReading}
 use Rattle.alog_registry.specs.declared.logger.Logger.{Logger}
-use Rattle.alog_sink.specs.Diary.{change_at}
+use Rattle.alog_sink.specs.DailyFiles.{change_at}
 use Rattle.alog_sink.specs.Files.{Files}
 use Rattle.alog_sink.specs.Opened.{Opened, leaves_of, store_of}
-use Rattle.alog_sink.specs.Refused.{IsNewDiary, IsRotating}
-use Rattle.alog_sink.specs.declared.TheConstants.{MOST_FAILURES}
+use Rattle.alog_sink.specs.Refused.{IsNewDaily, IsRotating}
+use Rattle.alog_sink.specs.declared.TheConstants.{FAILURES_MAX}
 use Rattle.alog_sink.specs.declared.face.Face.{Face}
 use Rattle.alog_sink.specs.declared.sink.Sink.{Sink}
 use Rattle.alog_sink.specs.declared.sink.Sink.TheVariants as built
@@ -39,7 +39,7 @@ IsTargetOf file upkeeps.Never target = target ≡ targets.Memory (record { file 
 IsTargetOf file (upkeeps.BySize max_size max_files) target =
     IsRotating (record { file = file; max_size = max_size; max_files = max_files }) target
 IsTargetOf file (upkeeps.Daily hour minute max_files) target =
-    IsNewDiary (record { file = file; change = change_at hour minute; max_files = max_files }) target
+    IsNewDaily (record { file = file; change = change_at hour minute; max_files = max_files }) target
 
 -- two lists go together, item by item
 abbrev pub EachIs : {A B : Type 0} → (A → B → Type 0) → List A → List B → Type 0
@@ -72,7 +72,7 @@ pub record IsLoggerOf {S : Type 0} (tops : List (Part S)) (l : LoggerConfig) (lo
 
 -- A store failed, where it counts its failures.
 abbrev pub HasFailed : {S : Type 0} → (S → ℕ) → S → Type 0
-HasFailed {S} failures store = (after : S) × (failures store < MOST_FAILURES → failures after ≡ failures store + 1)
+HasFailed {S} failures store = (after : S) × (failures store < FAILURES_MAX → failures after ≡ failures store + 1)
 
 module _ {S : Type 0} (tells : Bool) (files : S → Files) (failures : S → ℕ) where
   -- the store that a sink has is the one that it was given, which did not fail

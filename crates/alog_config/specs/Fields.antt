@@ -12,8 +12,8 @@ use Rattle.alog_config.specs.Keys.{HasOtherKey}
 use Rattle.alog_config.specs.Values.{IsField, IsKind, IsMinutes, IsName, IsNameList, IsNumber, IsPatternText, IsPolicy}
 use Rattle.alog_config.specs.Values.{IsQueue, IsTableArray, IsText, Spelled}
 use Rattle.alog_msg.specs.Level.{Names}
-use Rattle.alog_msg.specs.declared.limits.TheConstants.{LEAST_TEXT_LIMIT, MOST_TEXT_LIMIT}
-use Rattle.alog_registry.specs.declared.TheConstants.{MOST_KEPT}
+use Rattle.alog_msg.specs.declared.limits.TheConstants.{TEXT_LIMIT_MIN, TEXT_LIMIT_MAX}
+use Rattle.alog_registry.specs.declared.TheConstants.{KEPT_MAX}
 use Rattle.toml.specs.Data.{Members, get_member}
 
 -- what is given, if something is
@@ -27,7 +27,7 @@ pub record AreTopFields (t : Members) (f : TopFields) : Type 0 where
   pub others : IsTrue f.other_key ↔ HasOtherKey Top t
   pub queue : IsField IsQueue (get_member (codes "queue") t) f.queue
   pub workers : IsField (IsNumber 1 64) (get_member (codes "workers") t) f.workers
-  pub text : IsField (IsNumber LEAST_TEXT_LIMIT MOST_TEXT_LIMIT) (get_member (codes "text") t) f.text
+  pub text : IsField (IsNumber TEXT_LIMIT_MIN TEXT_LIMIT_MAX) (get_member (codes "text") t) f.text
   pub offset : IsField IsMinutes (get_member (codes "offset") t) f.offset
   pub process : IsField (IsNumber 0 4294967295) (get_member (codes "process") t) f.process
   pub sinks : IsField IsTableArray (get_member (codes "sink") t) f.sinks
@@ -55,7 +55,7 @@ pub record AreLoggerFields (t : Members) (f : LoggerFields) : Type 0 where
   pub policy : IsField (Spelled IsPolicy) (get_member (codes "policy") t) f.policy
   pub sinks : IsField IsNameList (get_member (codes "sinks") t) f.sinks
   pub flush_on : IsField (Spelled Names) (get_member (codes "flush_on") t) f.flush_on
-  pub backtrace : IsField (IsNumber 0 MOST_KEPT) (get_member (codes "backtrace") t) f.backtrace
+  pub backtrace : IsField (IsNumber 0 KEPT_MAX) (get_member (codes "backtrace") t) f.backtrace
 
 -- The file that a sink's lines would go to: the one that is given, and for a memory sink without one its name.
 abbrev pub default_file : Field Kind → Field (List ℕ) → Option (List ℕ)

@@ -2,7 +2,7 @@
 use Rattle.std.specs.Prelude.{◌≤◌, ◌<◌, ℕ}
 use Rattle.std.specs.List.{All}
 use Rattle.alog_pattern.specs.Compiled.{longest}
-use Rattle.alog_registry.specs.declared.TheConstants.{MOST_KEPT}
+use Rattle.alog_registry.specs.declared.TheConstants.{KEPT_MAX}
 use Rattle.alog_registry.specs.declared.logger.Logger.{Logger}
 use Rattle.alog_sink.specs.declared.face.Face.{Face}
 use Rattle.alog_sink.specs.declared.sink.Sink.{Sink}
@@ -19,4 +19,4 @@ SinkSuits limit capacity (sinks.Fan f) = All (λ l. Suits limit capacity l.face)
 -- the sinks of a logger are among so many, and its backtrace is no longer than one may be
 pub record LoggerFits (count : ℕ) (l : Logger) : Type 0 where
   pub sinks : All (λ s. s < count) l.spec.sinks.items
-  pub backtrace : l.spec.backtrace ≤ MOST_KEPT
+  pub backtrace : l.spec.backtrace ≤ KEPT_MAX

@@ -5,7 +5,7 @@ use Rattle.alog_config.specs.Built.{ArePicked, IsLeafOf, IsPart}
 use Rattle.alog_config.specs.Sinks.{IsMember}
 use Rattle.alog_config.specs.Sound.{IsSoundUpkeep}
 use Rattle.alog_config.specs.Values.{AreNames, IsPattern}
-use Rattle.alog_config.specs.declared.TheConstants.{MOST_TABLES}
+use Rattle.alog_config.specs.declared.TheConstants.{TABLES_MAX}
 use Rattle.alog_config.specs.declared.config.Config.{Config}
 use Rattle.alog_config.specs.declared.config.LoggerConfig.{LoggerConfig}
 use Rattle.alog_config.specs.declared.config.SinkKind.{SinkKind}
@@ -13,7 +13,7 @@ use Rattle.alog_config.specs.declared.config.SinkKind.TheVariants as kinds
 use Rattle.alog_config.specs.declared.parts.Part.{Part}
 use Rattle.alog_msg.specs.declared.level.Level.{Level}
 use Rattle.alog_msg.specs.declared.limits.TheConstants.{LOGGER_NAME_MAX}
-use Rattle.alog_registry.specs.declared.TheConstants.{MOST_KEPT}
+use Rattle.alog_registry.specs.declared.TheConstants.{KEPT_MAX}
 use Rattle.alog_sink.specs.Files.{Files}
 use Rattle.alog_sink.specs.Names.{IsFileName}
 use Rattle.alog_sink.specs.Opened.{IsFan, leaves_of}
@@ -51,11 +51,11 @@ pub record MayAdd {S : Type 0} (parts : List (Part S)) (earlier : List LoggerCon
   pub short : length l.name ≤ LOGGER_NAME_MAX
   pub free : ¬ Any (λ (x : LoggerConfig). x.name ≡ l.name) earlier
   pub known : AreAllKnown parts l.sinks
-  pub few : l.backtrace ≤ MOST_KEPT
+  pub few : l.backtrace ≤ KEPT_MAX
 
 pub record MayLog {S : Type 0} (parts : List (Part S)) (loggers : List LoggerConfig) : Type 0 where
-  pub few_parts : length parts ≤ MOST_TABLES
-  pub few : length loggers ≤ MOST_TABLES
+  pub few_parts : length parts ≤ TABLES_MAX
+  pub few : length loggers ≤ TABLES_MAX
   pub each : (i : ℕ) (l : LoggerConfig) → slice_get loggers i ≡ Some l → MayAdd parts (take i loggers) l
 
 -- a sink of this kind may be made: it keeps the rules, and has a store, or its members are parts

@@ -1,7 +1,7 @@
 -- What is true of each configuration: it keeps the rules.
 use Rattle.std.specs.Prelude.{◌≡◌, ◌≤◌, ◌^◌, ℕ, true, List, [], ◌∷◌, ◌++◌, length}
 use Rattle.std.specs.List.{Any}
-use Rattle.alog_config.specs.declared.TheConstants.{MOST_TABLES}
+use Rattle.alog_config.specs.declared.TheConstants.{TABLES_MAX}
 use Rattle.alog_config.specs.declared.config.LoggerConfig.{LoggerConfig}
 use Rattle.alog_config.specs.declared.config.SinkConfig.{SinkConfig}
 use Rattle.alog_config.specs.declared.config.SinkKind.{SinkKind}
@@ -15,7 +15,7 @@ use Rattle.alog_format.specs.Civil.{IsZone}
 use Rattle.alog_format.specs.declared.context.Zone.{Zone}
 use Rattle.alog_msg.specs.declared.limits.TheConstants.{LOGGER_NAME_MAX}
 use Rattle.alog_pattern.specs.Compiled.{IsTextLimit}
-use Rattle.alog_registry.specs.declared.TheConstants.{MOST_KEPT}
+use Rattle.alog_registry.specs.declared.TheConstants.{KEPT_MAX}
 use Rattle.alog_sink.specs.Names.{IsFileName}
 
 -- the numbers of a sink's kind are within their bounds
@@ -46,7 +46,7 @@ pub record IsSoundLogger (sinks : List SinkConfig) (earlier : List LoggerConfig)
   pub names : AreNames l.sinks
   pub known : ¬ AnyUnknown sinks l.sinks
   pub apart : ¬ AnyMember sinks l.sinks
-  pub few : l.backtrace ≤ MOST_KEPT
+  pub few : l.backtrace ≤ KEPT_MAX
 
 abbrev pub AreSoundSinks : ℕ → List SinkConfig → List SinkConfig → Type 0
 AreSoundSinks limit earlier [] = Unit {0}
@@ -66,7 +66,7 @@ pub record IsSoundTop (queue workers : ℕ) : Type 0 where
 pub record IsSound (limit : ℕ) (zone : Zone) (sinks : List SinkConfig) (loggers : List LoggerConfig) : Type 0 where
   pub limited : IsTextLimit limit
   pub near : IsZone zone
-  pub few_sinks : length sinks ≤ MOST_TABLES
-  pub few_loggers : length loggers ≤ MOST_TABLES
+  pub few_sinks : length sinks ≤ TABLES_MAX
+  pub few_loggers : length loggers ≤ TABLES_MAX
   pub each_sink : AreSoundSinks limit [] sinks
   pub each_logger : AreSoundLoggers sinks [] loggers

@@ -6,7 +6,7 @@ use Rattle.std.specs.BTreeMap.{BTreeMap}
 use Rattle.std.specs.Int.{is_power_of_two}
 use Rattle.std.specs.List.{AllPairs}
 use Rattle.std.specs.declared.alloc.Global.{Global}
-use Rattle.alog_config.specs.declared.TheConstants.{MOST_NAMES, MOST_TABLES}
+use Rattle.alog_config.specs.declared.TheConstants.{NAMES_MAX, TABLES_MAX}
 use Rattle.alog_config.specs.declared.field.Field.{Field}
 use Rattle.alog_config.specs.declared.field.Field.TheVariants.{Absent, Bad, Given}
 use Rattle.alog_config.specs.declared.keys.Kind.{Kind}
@@ -77,7 +77,7 @@ IsPolicy text DiscardNew = text ≡ codes "discard_new"
 -- 1 to 16 names, none twice
 pub record AreNames (names : List (List ℕ)) : Type 0 where
   pub some : 1 ≤ length names
-  pub few : length names ≤ MOST_NAMES
+  pub few : length names ≤ NAMES_MAX
   pub apart : AllPairs (λ a b. ¬ (a ≡ b)) names
 
 -- these values are strings with these texts
@@ -102,7 +102,7 @@ AreLent values (Some v) = values ≡ map table (tables_in v)
 
 -- an array of at most 256 tables
 abbrev pub IsTableArray : Data → LentTables → Type 0
-IsTableArray d v = (d ≡ array (items_of (map table (tables_in v)))) × (length (tables_in v) ≤ MOST_TABLES)
+IsTableArray d v = (d ≡ array (items_of (map table (tables_in v)))) × (length (tables_in v) ≤ TABLES_MAX)
 
 -- the text at a key: no such key, a value that is no string, or its text
 abbrev pub IsTextAt : Option Data → Field (Bor (List ℕ)) → Type 0

@@ -18,7 +18,7 @@ use toml::Table;
 use toml::de::Error;
 
 /// At most so many bytes of a key or of a value are shown.
-const MOST_SHOWN: usize = 64;
+const SHOWN_MAX: usize = 64;
 
 /// Says in one line why `read` refuses a document so: the key, the value that it has, and what it may have.
 ///
@@ -157,11 +157,11 @@ fn shown_at(alloc: Global, table: &Table, key: &str) -> Result<String, AllocErro
 
 /// The first bytes of a text, at most so many, and none from its first newline on. `..` stands for the rest.
 fn cut(alloc: Global, text: &str) -> Result<String, AllocError>
-    ensures { IfOk result (λ s. string_len s ≤ MOST_SHOWN + 2) }
+    ensures { IfOk result (λ s. string_len s ≤ SHOWN_MAX + 2) }
 {
     let mut shown = String::new(alloc);
     for c in text.chars() {
-        if c == '\n' || shown.len() + c.len_utf8() > MOST_SHOWN {
+        if c == '\n' || shown.len() + c.len_utf8() > SHOWN_MAX {
             shown.push_str("..")?;
             return Ok(shown);
         }

@@ -45,7 +45,7 @@ pub use reading::read;
 pub use sinks::leaves;
 
 /// There are no more sinks than this, and no more loggers.
-pub const MOST_TABLES: usize = 256;
+pub const TABLES_MAX: usize = 256;
 
 /// A fan has no more members than this, and a logger no more sinks.
-pub const MOST_NAMES: usize = 16;
+pub const NAMES_MAX: usize = 16;

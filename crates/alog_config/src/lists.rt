@@ -8,7 +8,7 @@ ghost use Rattle.toml.specs.View.{table_view, view};
 use crate::field::Field;
 use crate::names::NameList;
 use crate::values::value_at;
-use crate::{MOST_NAMES, MOST_TABLES};
+use crate::{NAMES_MAX, TABLES_MAX};
 use alog_msg::Text;
 use std::alloc::{AllocError, Global};
 use toml::{Table, Value};
@@ -45,7 +45,7 @@ fn are_apart(names: &[Text]) -> bool
 fn are_names(names: &NameList) -> bool
     ensures { IsTrue result ↔ AreNames names.now }
 {
-    (1..=MOST_NAMES).contains(&names.len()) && are_apart(names.as_slice())
+    (1..=NAMES_MAX).contains(&names.len()) && are_apart(names.as_slice())
 }
 
 /// The names at a key: 1 to 16, none twice.
@@ -105,7 +105,7 @@ pub(crate) fn tables_at<'t>(
     let Some(tables) = tables_of(alloc, items.as_slice())? else {
         return Ok(Field::Bad);
     };
-    if tables.len() <= MOST_TABLES {
+    if tables.len() <= TABLES_MAX {
         Ok(Field::Given(tables))
     } else {
         Ok(Field::Bad)

@@ -17,7 +17,7 @@ use crate::sinks::{any_member, any_unknown};
 use crate::values::{count_at, level_at, name_at, policy_at};
 use alog_msg::{Level, Text};
 use alog_policy::Policy;
-use alog_registry::MOST_KEPT;
+use alog_registry::KEPT_MAX;
 use std::alloc::{AllocError, Global};
 use toml::Table;
 
@@ -45,7 +45,7 @@ pub(crate) fn logger_fields(alloc: Global, table: &Table) -> Result<LoggerFields
         policy: policy_at(table, "policy"),
         sinks: names_at(alloc, table, "sinks")?,
         flush_on: level_at(table, "flush_on"),
-        backtrace: count_at(table, "backtrace", 0, MOST_KEPT as u32),
+        backtrace: count_at(table, "backtrace", 0, KEPT_MAX as u32),
     })
 }
 

@@ -5,7 +5,7 @@ ghost use Rattle.alog_config.specs.Built.{EachIs, IsPlace};
 ghost use Rattle.alog_config.specs.Parts.{AnyBuiltFan, AreAllKnown, MakesFan, TakesOut};
 ghost use Rattle.alog_config.specs.Values.{AreNames};
 
-use crate::MOST_TABLES;
+use crate::TABLES_MAX;
 use crate::config::SinkConfig;
 use alog_msg::{Level, Text};
 use alog_sink::{NoFan, OpenError, Sink, Store};
@@ -48,7 +48,7 @@ pub(crate) fn places_of<S: Store>(
     parts: &[Part<'_, S>],
     names: &[Text],
 ) -> Result<Vec<u32>, AllocError>
-    requires few { length parts.now ≤ MOST_TABLES }
+    requires few { length parts.now ≤ TABLES_MAX }
     requires known { AreAllKnown parts.now names.now }
     ensures { IfOk result (λ v. EachIs (IsPlace parts.now) names.now v.items) }
 {

@@ -10,7 +10,7 @@ use crate::field::Field;
 use crate::keys::{Owner, has_other_key};
 use crate::lists::tables_at;
 use crate::values::{count_at, minutes_at, queue_at};
-use alog_msg::{LEAST_TEXT_LIMIT, MOST_TEXT_LIMIT};
+use alog_msg::{TEXT_LIMIT_MAX, TEXT_LIMIT_MIN};
 use std::alloc::{AllocError, Global};
 use toml::Table;
 
@@ -38,12 +38,7 @@ pub(crate) fn top_fields<'t>(alloc: Global, table: &'t Table) -> Result<TopField
         other_key: has_other_key(table, Owner::Top),
         queue: queue_at(table, "queue"),
         workers: count_at(table, "workers", 1, 64),
-        text: count_at(
-            table,
-            "text",
-            LEAST_TEXT_LIMIT as u32,
-            MOST_TEXT_LIMIT as u32,
-        ),
+        text: count_at(table, "text", TEXT_LIMIT_MIN as u32, TEXT_LIMIT_MAX as u32),
         offset: minutes_at(table, "offset"),
         process: count_at(table, "process", 0, u32::MAX),
         sinks,

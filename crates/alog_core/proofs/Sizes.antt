@@ -7,7 +7,7 @@ use Rattle.std.proofs.lemmas.Grind.{pow_more}
 use Rattle.std.proofs.lemmas.Nat.{and_mask, ones_le_self, zero_from_ones}
 use lib.Count.{ones_step}
 use Rattle.alog_core.specs.World.{is_size}
-use Rattle.alog_core.specs.declared.TheConstants.{LEAST_PLACES, MOST_PLACES}
+use Rattle.alog_core.specs.declared.TheConstants.{PLACES_MIN, PLACES_MAX}
 use Rattle.alog_core.proofs.Steps.{and_first, and_second}
 
 one_digit : (d n : ℕ) → n ≤ d → count_ones n ≡ 1 → IsPowerOfTwo n
@@ -25,13 +25,13 @@ one_digit (suc d) n h e =
           (0, omega (arith, none))
     ]
 
-pub size_facts : (n : ℕ) → is_size n ≡ true → IsPowerOfTwo n × (LEAST_PLACES ≤ n) × (n ≤ MOST_PLACES)
+pub size_facts : (n : ℕ) → is_size n ≡ true → IsPowerOfTwo n × (PLACES_MIN ≤ n) × (n ≤ PLACES_MAX)
 size_facts n h =
-    let within : Bool = leb LEAST_PLACES n && leb n MOST_PLACES in
+    let within : Bool = leb PLACES_MIN n && leb n PLACES_MAX in
     let power : is_power_of_two n ≡ true = and_first (is_power_of_two n) within h in
     let bounds : within ≡ true = and_second (is_power_of_two n) within h in
-    let least : leb LEAST_PLACES n ≡ true = and_first (leb LEAST_PLACES n) (leb n MOST_PLACES) bounds in
-    let most : leb n MOST_PLACES ≡ true = and_second (leb LEAST_PLACES n) (leb n MOST_PLACES) bounds in
+    let least : leb PLACES_MIN n ≡ true = and_first (leb PLACES_MIN n) (leb n PLACES_MAX) bounds in
+    let most : leb n PLACES_MAX ≡ true = and_second (leb PLACES_MIN n) (leb n PLACES_MAX) bounds in
     (one_digit n n (omega arith) (grind (arith, nat_tests)), grind (arith, nat_tests), grind (arith, nat_tests))
 
 -- what the mask of a size keeps of a number is the remainder

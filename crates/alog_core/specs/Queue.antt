@@ -1,7 +1,7 @@
 -- The queue as its users see it: cells in the order of their tickets, and no word, mask or place.
 -- The rule is that of Dmitry Vyukov's bounded queue for many producers and many consumers (1024cores.net).
 use Rattle.std.specs.Prelude.{◌≡◌, ℕ, ◌+◌, ◌-◌, ◌<◌, ◌≤◌, ◌==◌, ◌⊎◌, ◌↔◌, if◌then◌else◌, Option, None, Some, List, [], ◌∷◌, ◌++◌}
-use Rattle.alog_core.specs.declared.TheConstants.{LAST_TICKET}
+use Rattle.alog_core.specs.declared.TheConstants.{TICKET_END}
 use Rattle.alog_core.specs.declared.mark.Mark.{Mark}
 use Rattle.alog_core.specs.declared.mark.Mark.TheVariants.{Claimed, Written, Emptying}
 
@@ -32,7 +32,7 @@ pub data Event (T : Type 0) : Type 0 where
 
 -- no ticket is as large: tickets are below it
 abbrev pub last : ℕ
-last = LAST_TICKET
+last = TICKET_END
 
 -- an empty queue whose first ticket is f
 abbrev pub start : {T : Type 0} → ℕ → Queue T

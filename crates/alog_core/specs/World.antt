@@ -5,7 +5,7 @@ use Rattle.std.specs.Int.{is_power_of_two}
 use Rattle.alog_core.specs.Queue.{Cell, Queue, Event, Claim, Write, Grab, Take, Full, Empty, PushBusy, PopBusy, Spent, start}
 use Rattle.alog_core.specs.Round.{Move, move_of, after_event}
 use Rattle.alog_core.specs.History.{Entry}
-use Rattle.alog_core.specs.declared.TheConstants.{ACTORS, LEAST_PLACES, MOST_PLACES}
+use Rattle.alog_core.specs.declared.TheConstants.{ACTORS, PLACES_MIN, PLACES_MAX}
 use Rattle.alog_core.specs.declared.round.Round.{Round}
 use Rattle.alog_core.specs.declared.round.Round.TheVariants as round
 use Rattle.alog_core.specs.declared.said.Said.{Said}
@@ -25,7 +25,7 @@ pub record Machine (T : Type 0) : Type 0 where
 
 -- a number of places that a queue may have: a power of two from 2 to 65,536
 abbrev pub is_size : ℕ → Bool
-is_size n = is_power_of_two n && (nat_le LEAST_PLACES n && nat_le n MOST_PLACES)
+is_size n = is_power_of_two n && (nat_le PLACES_MIN n && nat_le n PLACES_MAX)
 
 -- an empty queue, and nobody in a call
 abbrev pub fresh : {T : Type 0} → ℕ → ℕ → Machine T

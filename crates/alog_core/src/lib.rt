@@ -37,10 +37,10 @@ pub use world::{World, is_size};
 pub const ACTORS: u32 = 64;
 
 /// A queue has at least so many places.
-pub const LEAST_PLACES: usize = 2;
+pub const PLACES_MIN: usize = 2;
 
 /// A queue has at most so many places.
-pub const MOST_PLACES: usize = 65_536;
+pub const PLACES_MAX: usize = 65_536;
 
 /// No ticket is as large. A queue that issued all tickets below it is spent.
-pub const LAST_TICKET: u64 = 1 << 62;
+pub const TICKET_END: u64 = 1 << 62;

@@ -6,7 +6,7 @@ ghost use Rattle.alog_core.specs.Table.{places_of, queue_in, IsTable, Advances};
 ghost use Rattle.alog_core.specs.declared.mark.Mark.TheVariants.{Claimed, Emptying};
 ghost use Rattle.alog_core.specs.declared.round.Round.TheVariants as round;
 
-use crate::LAST_TICKET;
+use crate::TICKET_END;
 use crate::round::Round;
 use crate::said::Said;
 use crate::table::{Held, Table, place_of};
@@ -36,7 +36,7 @@ fn load_next<T: Drop>(table: &Table<T>, item: T) -> (Said<T>, Round<T>)
     ensures { (a : ℕ) → Advances table.now table.now a (round.Push item) result }
 {
     let ticket = table.next;
-    if ticket == LAST_TICKET {
+    if ticket == TICKET_END {
         (Said::Spent(Some(item)), Round::Idle)
     } else {
         (Said::Nothing, Round::PushRead { ticket, item })

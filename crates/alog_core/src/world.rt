@@ -14,7 +14,7 @@ use crate::play::advance;
 use crate::round::Round;
 use crate::said::{Answer, Call, CellView, Said};
 use crate::table::{Table, empty, views, words};
-use crate::{ACTORS, LAST_TICKET, LEAST_PLACES, MOST_PLACES};
+use crate::{ACTORS, PLACES_MAX, PLACES_MIN, TICKET_END};
 use std::alloc::{AllocError, AllocFailed, Global};
 use std::marker::Model;
 use std::mem;
@@ -47,7 +47,7 @@ impl<T> Model for World<T> {
 pub fn is_size(places: usize) -> bool
     ensures { result ≡ is_size places }
 {
-    places.is_power_of_two() && (LEAST_PLACES..=MOST_PLACES).contains(&places)
+    places.is_power_of_two() && (PLACES_MIN..=PLACES_MAX).contains(&places)
 }
 
 impl<T: Drop> World<T> {
@@ -63,7 +63,7 @@ impl<T: Drop> World<T> {
         if !is_size(places) {
             return Err(WorldError::BadSize);
         }
-        if first >= LAST_TICKET {
+        if first >= TICKET_END {
             return Err(WorldError::BadFirst);
         }
         let mut rounds = Vec::with_capacity(alloc, ACTORS as usize)?;

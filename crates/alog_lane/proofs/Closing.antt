@@ -6,7 +6,7 @@ use mathlib.Core.Option.{some}
 use lib.ListN.{get_elem?}
 use Rattle.atomic_table.specs.Table.{State, Final, Seen}
 use Rattle.alog_lane.specs.declared.seat.TheConstants.{ALL_PARTS}
-use Rattle.alog_lane.specs.declared.view.Cabin.{Cabin}
+use Rattle.alog_lane.specs.declared.view.LockedValue.{LockedValue}
 use Rattle.alog_lane.specs.Seats.{Entry, Member, members_of, IsAmong, AreExact, IsFaithful}
 use Rattle.alog_lane.specs.Roster.{Stage, Idle, Working, members_by, members_at}
 use Rattle.alog_lane.specs.Turns.{Turned, Leads}
@@ -24,12 +24,12 @@ module _ {T I S R : Type 0} (turns : T → S → I → R → T → S → Type 0)
   Deed = Turned I S R
 
   -- the end of a lane: the seat has all parts
-  pub closes : (id : ℕ) (v : View) (words : List ℕ) (slots : List (Cabin T I R S))
-      → Final (Seen (λ (s : State (Cabin T I R S) View). Ruled turns may first s) id v) words slots → v.stage ≡ Idle
+  pub closes : (id : ℕ) (v : View) (words : List ℕ) (slots : List (LockedValue T I R S))
+      → Final (Seen (λ (s : State (LockedValue T I R S) View). Ruled turns may first s) id v) words slots → v.stage ≡ Idle
       → v.known.parts ≡ ALL_PARTS → IsFaithful v.known
-      → (c : Cabin T I R S) → get_elem? slots 0 ≡ some c → Closes turns first v.known c.value
+      → (c : LockedValue T I R S) → get_elem? slots 0 ≡ some c → Closes turns first v.known c.value
   closes id v words slots final idle all faithful c slot =
-      let s : State (Cabin T I R S) View = final.0
+      let s : State (LockedValue T I R S) View = final.0
       in let r : Ruled turns may first s = final.1.0
       in let at : get_elem? s.views id ≡ some v = final.1.1
       in let mine : members_at id v ≡ members_of v.known = ap (λ (z : Stage Deed T). members_by id v.known z) idle
@@ -40,8 +40,8 @@ module _ {T I S R : Type 0} (turns : T → S → I → R → T → S → Type 0)
       in let H : List (Entry Deed) → Type 0 = λ g. AllByRecursion (λ (x : Entry Deed). IsAmong x.seat (members_of v.known)) g
       in elim r.lock [
         | inl free ↦
-            let is : c ≡ free.cabin = one_value slots 0 c free.cabin slot (final.4 0 free.cabin free.home)
-            in let value : free.cabin.value ≡ c.value = sym (ap (λ (z : Cabin T I R S). z.value) is)
+            let is : c ≡ free.locked = one_value slots 0 c free.locked slot (final.4 0 free.locked free.home)
+            in let value : free.locked.value ≡ c.value = sym (ap (λ (z : LockedValue T I R S). z.value) is)
             in let L : List (Entry Deed) → Type 0 = λ g. Leads turns first g c.value
             in let V : T → Type 0 = λ z. Leads turns first r.history z
             in record {

@@ -5,7 +5,7 @@ use mathlib.Core.Option.{some}
 use lib.ListN.{get_elem?}
 use Rattle.atomic_table.specs.Table.{State, Splits, Joins}
 use Rattle.atomic_table.proofs.Lists.{at_set, set_else, at_longer}
-use Rattle.alog_lane.specs.declared.view.Cabin.{Cabin}
+use Rattle.alog_lane.specs.declared.view.LockedValue.{LockedValue}
 use Rattle.alog_lane.specs.Roster.{Stage, Idle, Fresh, Joined, Working, Gone, kept_part}
 use Rattle.alog_lane.specs.Roster.{given_part, taking_in, gone}
 use Rattle.alog_lane.specs.Turns.{Turned}
@@ -24,7 +24,7 @@ module _ {T I S R : Type 0} (turns : T → S → I → R → T → S → Type 0)
 
   -- a seat is cut in two
   pub splits : (id parts : ℕ) (v : View) → v.stage ≡ Idle → parts < v.known.parts → 0 < parts
-      → Splits (λ (s : State (Cabin T I R S) View). Ruled turns may first s) id v (kept_part parts v) (given_part parts v)
+      → Splits (λ (s : State (LockedValue T I R S) View). Ruled turns may first s) id v (kept_part parts v) (given_part parts v)
   splits id parts v idle fewer some_parts s r at =
       let left : View = kept_part parts v
       in let right : View = given_part parts v
@@ -57,7 +57,7 @@ module _ {T I S R : Type 0} (turns : T → S → I → R → T → S → Type 0)
 
   -- a seat takes another in
   pub joins : (id o : ℕ) (v w : View) → v.stage ≡ Idle → w.stage ≡ Idle → 0 < v.known.parts
-      → Joins (λ (s : State (Cabin T I R S) View). Ruled turns may first s) id v o w (taking_in v w) gone
+      → Joins (λ (s : State (LockedValue T I R S) View). Ruled turns may first s) id v o w (taking_in v w) gone
   joins id o v w idle other_idle some_parts s r at apart e =
       let both : View = taking_in v w
       in let at_other : get_elem? s.views o ≡ some w = sym (set_else s.views id o both apart) ∙ e

@@ -1,7 +1,7 @@
 -- Seats split off and joined: what the steps owe, at the views that they find.
 use Rattle.std.proofs.Common.{◌≡◌, ℕ, List, refl, sym, ap, subst}
 use Rattle.atomic_table.specs.Table.{State, Me, Allows, carried_after}
-use Rattle.alog_lane.specs.declared.view.Cabin.{Cabin}
+use Rattle.alog_lane.specs.declared.view.LockedValue.{LockedValue}
 use Rattle.alog_lane.specs.Seats.{Entry, IsFaithful}
 use Rattle.alog_lane.specs.Roster.{Stage, Joined, taking_in, given_part}
 use Rattle.alog_lane.specs.Turns.{Turned}
@@ -15,14 +15,14 @@ module _ {T I S R : Type 0} (turns : T → S → I → R → T → S → Type 0)
   View = LaneSight T I S R
 
   -- a seat that has just taken in another
-  pub see_both_may : (me : Me (Cabin T I R S) View) (v w : View) (out : List (ℕ × Cabin T I R S)) → me ≡ (taking_in v w, out)
+  pub see_both_may : (me : Me (LockedValue T I R S) View) (v w : View) (out : List (ℕ × LockedValue T I R S)) → me ≡ (taking_in v w, out)
       → IsFaithful v.known → IsFaithful w.known
-      → Allows (λ (s : State (Cabin T I R S) View). Ruled turns may first s) slots id me 0 (λ n. n) (λ n m.
+      → Allows (λ (s : State (LockedValue T I R S) View). Ruled turns may first s) slots id me 0 (λ n. n) (λ n m.
       (h : List (Entry (Turned I S R))) → me.0.stage ≡ Joined h → saw_both h me m)
   see_both_may me v w out is mine its =
-      let M : Me (Cabin T I R S) View = (taking_in v w, out)
-      in let P : Me (Cabin T I R S) View → Type 0 = λ m0. Allows (λ
-      (s : State (Cabin T I R S) View). Ruled turns may first s) slots id m0 0 (λ n. n) (λ n m. (h : List
+      let M : Me (LockedValue T I R S) View = (taking_in v w, out)
+      in let P : Me (LockedValue T I R S) View → Type 0 = λ m0. Allows (λ
+      (s : State (LockedValue T I R S) View). Ruled turns may first s) slots id m0 0 (λ n. n) (λ n m. (h : List
       (Entry (Turned I S R))) → m0.0.stage ≡ Joined h → saw_both h m0 m)
       in subst P (sym is)
       (λ s r wide at fits.
@@ -40,8 +40,8 @@ module _ {T I S R : Type 0} (turns : T → S → I → R → T → S → Type 0)
       ))
 
   -- a seat that was just split off
-  pub name_may : (me : Me (Cabin T I R S) View) (v : View) (parts : ℕ) (out : List (ℕ × Cabin T I R S))
-      → me ≡ (given_part parts v, out) → Allows (λ (s : State (Cabin T I R S) View). Ruled turns may first s) slots id me 0
+  pub name_may : (me : Me (LockedValue T I R S) View) (v : View) (parts : ℕ) (out : List (ℕ × LockedValue T I R S))
+      → me ≡ (given_part parts v, out) → Allows (λ (s : State (LockedValue T I R S) View). Ruled turns may first s) slots id me 0
       (λ n. n) (λ n m. was_named me m)
   name_may me v parts out is = names turns may first slots id me (ap (λ m. m.0.stage) is) (ap (λ m. m.0.known.own) is) (ap
       (λ m. m.0.known.joined) is)

@@ -11,7 +11,7 @@ use lib.Seq.{set-get_or}
 use prog.Atomic.{either}
 use Rattle.atomic_table.specs.Table.{State, Me, keeps, takes, gives, Allows, opening, put_back}
 use Rattle.atomic_table.proofs.Lists.{at_set, set_else, set_here, set_again}
-use Rattle.alog_lane.specs.declared.view.Cabin.{Cabin}
+use Rattle.alog_lane.specs.declared.view.LockedValue.{LockedValue}
 use Rattle.alog_lane.specs.Seats.{Entry, Member, Known, own_of, members_of, having_seen, AreExact}
 use Rattle.alog_lane.specs.Roster.{Stage, Idle, Fresh, Joined, Working, members_by, members_at}
 use Rattle.alog_lane.specs.Roster.{first_sight}
@@ -67,7 +67,7 @@ module _ {T I S R : Type 0} (turns : T → S → I → R → T → S → Type 0)
   Deed = Turned I S R
 
   -- a lane at its start
-  pub starts : (c : Cabin T I R S) → c.value ≡ first → c.turns ≡ 0
+  pub starts : (c : LockedValue T I R S) → c.value ≡ first → c.turns ≡ 0
       → Ruled turns may first (opening (0 ∷ []) (c ∷ []) (first_sight (Some first)))
   starts c is_first none_taken = record {
     history = [];
@@ -77,7 +77,7 @@ module _ {T I S R : Type 0} (turns : T → S → I → R → T → S → Type 0)
     lock =
         inl (record {
           word = refl;
-          cabin = c;
+          locked = c;
           home = refl;
           reaches = record { leads = sym is_first; keeps = λ i z is. let P : T → Type 0 = λ v. may v i z in subst P (sym is_first) is };
           count = none_taken;
@@ -91,7 +91,7 @@ module _ {T I S R : Type 0} (turns : T → S → I → R → T → S → Type 0)
   }
 
   -- The lock stays as it is where a seat at work stays so, and none other comes to work.
-  pub lock_stays : (h : List (Entry Deed)) (words : List ℕ) (homes : List (Option (Cabin T I R S))) (old new : List View)
+  pub lock_stays : (h : List (Entry Deed)) (words : List ℕ) (homes : List (Option (LockedValue T I R S))) (old new : List View)
       → ((b : ℕ) (u : View) (x : T) → get_elem? new b ≡ some u → u.stage ≡ Working x → get_elem? old b ≡ some u)
       → ((b : ℕ) (u : View) (x : T) → get_elem? old b ≡ some u → u.stage ≡ Working x → get_elem? new b ≡ some u)
       → IsFree turns may first h (record { words = words; homes = homes; views = old })
@@ -102,7 +102,7 @@ module _ {T I S R : Type 0} (turns : T → S → I → R → T → S → Type 0)
       elim lock [
         | inl free ↦ inl (record {
           word = free.word;
-          cabin = free.cabin;
+          locked = free.locked;
           home = free.home;
           reaches = free.reaches;
           count = free.count;
@@ -123,7 +123,7 @@ module _ {T I S R : Type 0} (turns : T → S → I → R → T → S → Type 0)
       ]
 
   -- a seat that is not at work changes its view, and is not at work then
-  module _ (s : State (Cabin T I R S) View) (id : ℕ) (v w : View) (at : get_elem? s.views id ≡ some v) (calm : (x : T)
+  module _ (s : State (LockedValue T I R S) View) (id : ℕ) (v w : View) (at : get_elem? s.views id ≡ some v) (calm : (x : T)
       → v.stage ≢ Working x) (calm_after : (x : T) → w.stage ≢ Working x) where
     back_set : (b : ℕ) (u : View) (x : T) → get_elem? (set s.views id w) b ≡ some u → u.stage ≡ Working x → get_elem? s.views b ≡ some u
     back_set b u x e is = elim (at_set s.views id b w u e) [
@@ -154,16 +154,16 @@ module _ {T I S R : Type 0} (turns : T → S → I → R → T → S → Type 0)
           lock = lock_stays r.history s.words s.homes s.views (set s.views id w) back_set forth_set r.lock;
         })
 
-  module _ (slots id : ℕ) (me : Me (Cabin T I R S) View) where
+  module _ (slots id : ℕ) (me : Me (LockedValue T I R S) View) where
     -- the exchange of the lock word
-    pub tries : me.0.stage ≡ Idle → Allows (λ (s : State (Cabin T I R S) View). Ruled turns may first s) slots id me 0 (λ n. either
+    pub tries : me.0.stage ≡ Idle → Allows (λ (s : State (LockedValue T I R S) View). Ruled turns may first s) slots id me 0 (λ n. either
         (eqb n 0) 1 n) (λ n m. tried turns may me n m)
     tries idle s r wide at _ =
         let mine : members_at id me.0 ≡ members_of me.0.known = by_stage id me.0 Idle idle
         in elim r.lock [
           | inl free ↦
-              let c : Cabin T I R S = free.cabin
-              in let w : View = record { key = me.0.key; stage = Working free.cabin.value; known = having_seen me.0.known r.history }
+              let c : LockedValue T I R S = free.locked
+              in let w : View = record { key = me.0.key; stage = Working free.locked.value; known = having_seen me.0.known r.history }
               in let word : either (eqb (slice_index s.words 0) 0) 1 (slice_index s.words 0) ≡ 1 = ap (λ (z : ℕ). either
               (eqb z 0) 1 z) free.word
               in let wide_views : id < length s.views = inside s.views id me.0 at
@@ -179,7 +179,7 @@ module _ {T I S R : Type 0} (turns : T → S → I → R → T → S → Type 0)
                         parts = refl;
                         members = sym mine;
                         seen = prefix_same r.history;
-                        other = λ z is. let wrong : ◌≡◌ {A = Stage Deed T} (Working free.cabin.value) (Joined z) = is in cc;
+                        other = λ z is. let wrong : ◌≡◌ {A = Stage Deed T} (Working free.locked.value) (Joined z) = is in cc;
                       });
                   words = length-set s.words 0 (either (eqb (slice_index s.words 0) 0) 1 (slice_index s.words 0)) ∙ r.words;
                   homes = length-set s.homes 0 none ∙ r.homes;
@@ -189,7 +189,7 @@ module _ {T I S R : Type 0} (turns : T → S → I → R → T → S → Type 0)
                         owner = id;
                         view = w;
                         at = set_here s.views id w wide_views;
-                        value = free.cabin.value;
+                        value = free.locked.value;
                         stage = refl;
                         reaches = free.reaches;
                         seen = refl;
@@ -204,7 +204,7 @@ module _ {T I S R : Type 0} (turns : T → S → I → R → T → S → Type 0)
                   (λ _. record {
                     first = first;
                     key = its_key first r.history s.views id me.0 r.agrees at mine;
-                    cabin = c;
+                    locked = c;
                     taken = refl;
                     stage = refl;
                     same_key = refl;
@@ -247,10 +247,10 @@ module _ {T I S R : Type 0} (turns : T → S → I → R → T → S → Type 0)
         ]
 
     -- the store of the lock word, after a turn
-    pub gives_back : (x : T) (c : Cabin T I R S) (t : Turned I S R) (more : List (ℕ × Cabin T I R S)) → me.0.stage ≡ Working x
+    pub gives_back : (x : T) (c : LockedValue T I R S) (t : Turned I S R) (more : List (ℕ × LockedValue T I R S)) → me.0.stage ≡ Working x
         → me.1 ≡ (0, c) ∷ more → Turns turns x t c.value → Keeps may x c.value
         → c.turns ≡ index_after (me.0.known.seen ++ record { seat = me.0.known.seat; deed = t } ∷ [])
-        → Allows (λ (s : State (Cabin T I R S) View). Ruled turns may first s) slots id me 0 (λ _. 0) (λ _ m. GaveBack t me m)
+        → Allows (λ (s : State (LockedValue T I R S) View). Ruled turns may first s) slots id me 0 (λ _. 0) (λ _ m. GaveBack t me m)
     gives_back x c t more stage has turn keeping number s r wide at _ =
         let mine : members_at id me.0 ≡ members_of me.0.known = by_stage id me.0 (Working x) stage
         in let k : Known Deed = me.0.known
@@ -270,10 +270,10 @@ module _ {T I S R : Type 0} (turns : T → S → I → R → T → S → Type 0)
               in let h' : List (Entry Deed) = r.history ++ e ∷ []
               in let w' : View = standing me.0 Idle (with_entry first r.history s.views id me.0 r.agrees at mine t)
               in let home_len : 0 < length s.homes = (let l : length s.homes ≡ 1 = r.homes in omega arith)
-              in let H : List (ℕ × Cabin T I R S) → Type 0 = λ l. get_elem? (put_back s.homes l) 0 ≡ some (some c)
+              in let H : List (ℕ × LockedValue T I R S) → Type 0 = λ l. get_elem? (put_back s.homes l) 0 ≡ some (some c)
               in let n_is : c.turns ≡ index_after h' = number ∙ ap (λ (g : List (Entry Deed)). index_after (g ++ e ∷ [])) seen
               in let home : H me.1 = subst H (sym has) (set_here s.homes 0 (some c) home_len)
-              in let L : List (ℕ × Cabin T I R S) → Type 0 = λ l. length (put_back s.homes l) ≡ 1
+              in let L : List (ℕ × LockedValue T I R S) → Type 0 = λ l. length (put_back s.homes l) ≡ 1
               in (
                 w',
                 gives,
@@ -287,7 +287,7 @@ module _ {T I S R : Type 0} (turns : T → S → I → R → T → S → Type 0)
                   lock =
                       inl (record {
                         word = word_set s.words 0 r.words;
-                        cabin = c;
+                        locked = c;
                         home = home;
                         reaches = record {
                           leads = leads_more turns first r.history x e c.value reached.leads turn;
@@ -314,7 +314,7 @@ module _ {T I S R : Type 0} (turns : T → S → I → R → T → S → Type 0)
 
     -- a new seat learns its number
     pub names : me.0.stage ≡ Fresh → me.0.known.own ≡ [] → me.0.known.joined ≡ []
-        → Allows (λ (s : State (Cabin T I R S) View). Ruled turns may first s) slots id me 0 (λ n. n) (λ n m. was_named me m)
+        → Allows (λ (s : State (LockedValue T I R S) View). Ruled turns may first s) slots id me 0 (λ n. n) (λ n m. was_named me m)
     names fresh none_own alone s r wide at _ = (
       named first r.history s.views id me.0 r.agrees at fresh none_own alone,
       keeps,
@@ -330,7 +330,7 @@ module _ {T I S R : Type 0} (turns : T → S → I → R → T → S → Type 0)
     pub sees_both : (g : List (Entry Deed)) → me.0.stage ≡ Joined g
         → AllByRecursion (λ (c : Member Deed). (c.own ≡ own_of c.seat me.0.known.seen)
         ⊎ (c.own ≡ own_of c.seat g)) (members_of me.0.known)
-        → Allows (λ (s : State (Cabin T I R S) View). Ruled turns may first s) slots id me 0 (λ n. n) (λ n m. saw_both g me m)
+        → Allows (λ (s : State (LockedValue T I R S) View). Ruled turns may first s) slots id me 0 (λ n. n) (λ n m. saw_both g me m)
     sees_both g stage old s r wide at _ = (
       seeing_both first r.history s.views id me.0 r.agrees at g stage old,
       keeps,

@@ -3,7 +3,7 @@ use Rattle.std.proofs.Common.{◌≡◌, ℕ, ◌+◌, ◌%◌, ◌^◌, Option,
 use Rattle.std.proofs.lemmas.List.{append-nil}
 use mathlib.Core.List.{IsPrefix}
 use Rattle.atomic_table.specs.Table.{State, Me, Allows, rest, carried_after}
-use Rattle.alog_lane.specs.declared.view.Cabin.{Cabin}
+use Rattle.alog_lane.specs.declared.view.LockedValue.{LockedValue}
 use Rattle.alog_lane.specs.declared.view.Done.{Done}
 use Rattle.alog_lane.specs.Seats.{Entry, Known, Made, IsFaithful}
 use Rattle.alog_lane.specs.Roster.{Working}
@@ -24,13 +24,13 @@ one_last None t u first second = absurd first
 one_last (Some d) t u first second = sym first ∙ second
 
 module _ {T I S R : Type 0} (turns : T → S → I → R → T → S → Type 0) (may : T → I → S
-    → Type 0) (deed : Turned I S R) (index : ℕ) (m0 m1 m2 : Me (Cabin T I R S) (LaneSight T I S R)) (got : Got turns may m0 m1)
+    → Type 0) (deed : Turned I S R) (index : ℕ) (m0 m1 m2 : Me (LockedValue T I R S) (LaneSight T I S R)) (got : Got turns may m0 m1)
     (took : Took turns may deed index m1 m2) where
   abbrev Slot : Type 0
-  Slot = Cabin T I R S
+  Slot = LockedValue T I R S
 
   -- the turn was taken at the value that was found
-  found : took.old ≡ got.cabin
+  found : took.old ≡ got.locked
   found = ap (λ (l : List (ℕ × Slot)). (get_or l 0 (0, took.old)).1) (sym took.was ∙ got.taken)
 
   abbrev entry : Entry (Turned I S R)
@@ -42,21 +42,21 @@ module _ {T I S R : Type 0} (turns : T → S → I → R → T → S → Type 0)
   seat_is : m2.0.known.seat ≡ m0.0.known.seat
   seat_is = ap (λ (k : Known (Turned I S R)). k.seat) same_known ∙ got.looks.seat
 
-  turn_found : Turns turns got.cabin.value deed took.new.value
+  turn_found : Turns turns got.locked.value deed took.new.value
   turn_found = let P : Slot → Type 0 = λ c. Turns turns c.value deed took.new.value in subst P found took.turn
 
   -- the lock may be given back
   pub may_give_back : (first : T) (slots id : ℕ)
       → Allows (λ (s : State Slot (LaneSight T I S R)). Ruled turns may first s) slots id m2 0 (λ _. 0) (λ _ m. gave_back m2 m)
   may_give_back first slots id s r wide at fits =
-      let stage : m2.0.stage ≡ Working got.cabin.value = ap (λ (v : LaneSight T I S R). v.stage) took.view ∙ got.stage
+      let stage : m2.0.stage ≡ Working got.locked.value = ap (λ (v : LaneSight T I S R). v.stage) took.view ∙ got.stage
       in let K : Slot → Type 0 = λ c. Keeps may c.value took.new.value
       in let seen : m1.0.known.seen ≡ m2.0.known.seen = ap (λ (k : Known (Turned I S R)). k.seen) (sym same_known)
       in let its : Entry (Turned I S R) = record { seat = m2.0.known.seat; deed = deed }
       in let count : took.new.turns ≡ index_after (m2.0.known.seen ++ its ∷ []) =
       took.count ∙ ap (λ (n : ℕ). (n + 1) % 2 ^ 64) (sym took.index_is ∙ ap (λ (c : Slot). c.turns) found ∙ got.count
       ∙ ap (λ (h : List (Entry (Turned I S R))). index_after h) seen) ∙ index_more m2.0.known.seen its
-      in let go = gives_back turns may first slots id m2 got.cabin.value took.new deed [] stage took.is turn_found
+      in let go = gives_back turns may first slots id m2 got.locked.value took.new deed [] stage took.is turn_found
       (subst K found took.keeps) count s r wide at fits
       in (
         go.0,
@@ -99,6 +99,6 @@ module _ {T I S R : Type 0} (turns : T → S → I → R → T → S → Type 0)
         ends = seen;
         place = sym took.index_is ∙ ap (λ (c : Slot). c.turns) found ∙ got.count;
         value = took.new.value;
-        leads = subst L (sym seen) (leads_more turns got.first m1.0.known.seen got.cabin.value entry took.new.value
+        leads = subst L (sym seen) (leads_more turns got.first m1.0.known.seen got.locked.value entry took.new.value
             got.reaches.leads turn_found);
       }

@@ -2,7 +2,7 @@
 use Rattle.std.specs.Prelude.{◌≡◌, ◌≢◌, ℕ, ◌+◌, ◌%◌, ◌^◌, ◌≤◌, Option, None, Some, List, [], ◌∷◌, ◌++◌}
 use Rattle.atomic_table.specs.Table.{Me, rest}
 use Rattle.alog_lane.specs.declared.seat.TheConstants.{ALL_PARTS}
-use Rattle.alog_lane.specs.declared.view.Cabin.{Cabin}
+use Rattle.alog_lane.specs.declared.view.LockedValue.{LockedValue}
 use Rattle.alog_lane.specs.declared.view.Done.{Done}
 use Rattle.alog_lane.specs.Seats.{Entry, Known, Made, IsFaithful, IsLonger, having_seen}
 use Rattle.alog_lane.specs.Roster.{Stage, Idle, Working, Sight}
@@ -34,20 +34,20 @@ module _ {S K D W : Type 0} where
 
 module _ {T I S R : Type 0} (turns : T → S → I → R → T → S → Type 0) (may : T → I → S → Type 0) where
   -- The seat got the lock, and with it the value that the history leads to and the number of turns.
-  pub record Got (m m' : Me (Cabin T I R S) (LaneSight T I S R)) : Type 0 where
+  pub record Got (m m' : Me (LockedValue T I R S) (LaneSight T I S R)) : Type 0 where
     pub first : T
     pub key : m.0.key ≡ Some first
-    pub cabin : Cabin T I R S
-    pub taken : m'.1 ≡ (0, cabin) ∷ m.1
-    pub stage : m'.0.stage ≡ Working cabin.value
+    pub locked : LockedValue T I R S
+    pub taken : m'.1 ≡ (0, locked) ∷ m.1
+    pub stage : m'.0.stage ≡ Working locked.value
     pub same_key : m'.0.key ≡ m.0.key
     pub looks : Made m.0.known m'.0.known []
-    pub reaches : Reaches turns may first m'.0.known.seen cabin.value
-    pub count : cabin.turns ≡ index_after m'.0.known.seen
+    pub reaches : Reaches turns may first m'.0.known.seen locked.value
+    pub count : locked.turns ≡ index_after m'.0.known.seen
     pub alone : m.0.known.parts ≡ ALL_PARTS → IsFaithful m.0.known → m'.0.known.seen ≡ m.0.known.seen
 
   -- the exchange of the lock word: the lock was free, or nothing happened, and the seat is not the only one
-  abbrev pub tried : Me (Cabin T I R S) (LaneSight T I S R) → ℕ → Me (Cabin T I R S) (LaneSight T I S R) → Type 0
+  abbrev pub tried : Me (LockedValue T I R S) (LaneSight T I S R) → ℕ → Me (LockedValue T I R S) (LaneSight T I S R) → Type 0
   tried m r m' = (r ≡ 0 → Got m m') × (r ≢ 0 → (m' ≡ m) × (m.0.known.parts ≢ ALL_PARTS))
 
 -- the last turn of what lies behind the lock
@@ -60,12 +60,12 @@ last_is (Some d) t = deed_of d ≡ t
 
 module _ {T I S R : Type 0} (turns : T → S → I → R → T → S → Type 0) (may : T → I → S → Type 0) where
   -- The owner of the lock took this turn at the value, which now has one turn more.
-  pub record Took (deed : Turned I S R) (index : ℕ) (m m' : Me (Cabin T I R S) (LaneSight T I S R)) : Type 0 where
+  pub record Took (deed : Turned I S R) (index : ℕ) (m m' : Me (LockedValue T I R S) (LaneSight T I S R)) : Type 0 where
     pub view : m'.0 ≡ m.0
-    pub old : Cabin T I R S
+    pub old : LockedValue T I R S
     pub was : m.1 ≡ (0, old) ∷ []
     pub index_is : old.turns ≡ index
-    pub new : Cabin T I R S
+    pub new : LockedValue T I R S
     pub is : m'.1 ≡ (0, new) ∷ []
     pub count : new.turns ≡ (index + 1) % 2 ^ 64
     pub last : last_is new.last.value deed
@@ -73,7 +73,7 @@ module _ {T I S R : Type 0} (turns : T → S → I → R → T → S → Type 0)
     pub keeps : Keeps may old.value new.value
 
 -- The seat gave the lock back after its turn, which is the next of the history.
-pub record GaveBack {T I S R : Type 0} (deed : Turned I S R) (m m' : Me (Cabin T I R S) (LaneSight T I S R)) : Type 0 where
+pub record GaveBack {T I S R : Type 0} (deed : Turned I S R) (m m' : Me (LockedValue T I R S) (LaneSight T I S R)) : Type 0 where
   pub made : Made m.0.known m'.0.known (record { seat = m.0.known.seat; deed = deed } ∷ [])
   pub seen : m'.0.known.seen ≡ m.0.known.seen ++ record { seat = m.0.known.seat; deed = deed } ∷ []
   pub stage : m'.0.stage ≡ Idle
@@ -81,5 +81,5 @@ pub record GaveBack {T I S R : Type 0} (deed : Turned I S R) (m m' : Me (Cabin T
   pub back : m'.1 ≡ rest m.1
 
 -- the store of the lock word: the last turn of what lies behind the lock is the seat's
-abbrev pub gave_back : {T I S R : Type 0} → Me (Cabin T I R S) (LaneSight T I S R) → Me (Cabin T I R S) (LaneSight T I S R) → Type 0
-gave_back {T} {I} {S} {R} m m' = (c : Cabin T I R S) (t : Turned I S R) → m.1 ≡ (0, c) ∷ rest m.1 → last_is c.last.value t → GaveBack t m m'
+abbrev pub gave_back : {T I S R : Type 0} → Me (LockedValue T I R S) (LaneSight T I S R) → Me (LockedValue T I R S) (LaneSight T I S R) → Type 0
+gave_back {T} {I} {S} {R} m m' = (c : LockedValue T I R S) (t : Turned I S R) → m.1 ≡ (0, c) ∷ rest m.1 → last_is c.last.value t → GaveBack t m m'

@@ -6,7 +6,7 @@ use Rattle.atomic_table.specs.Table.{State}
 use Rattle.alog_lane.specs.Seats.{Entry}
 use Rattle.alog_lane.specs.Roster.{Working, Sight, Agrees}
 use Rattle.alog_lane.specs.Turns.{Turned, Leads}
-use Rattle.alog_lane.specs.declared.view.Cabin.{Cabin}
+use Rattle.alog_lane.specs.declared.view.LockedValue.{LockedValue}
 
 -- The view of a seat: it knows the first value, and at work the value that it found.
 abbrev pub LaneSight : (T I S R : Type 0) → Type 0
@@ -35,16 +35,16 @@ module _ {T I S R : Type 0} where
       pub keeps : Keeps may first v
 
     -- The lock is free: the value that the history leads to lies behind it, with the number of turns.
-    pub record IsFree (h : List (Entry (Turned I S R))) (s : State (Cabin T I R S) (LaneSight T I S R)) : Type 0 where
+    pub record IsFree (h : List (Entry (Turned I S R))) (s : State (LockedValue T I R S) (LaneSight T I S R)) : Type 0 where
       pub word : slice_index s.words 0 ≡ 0
-      pub cabin : Cabin T I R S
-      pub home : get_elem? s.homes 0 ≡ some (some cabin)
-      pub reaches : Reaches h cabin.value
-      pub count : cabin.turns ≡ index_after h
+      pub locked : LockedValue T I R S
+      pub home : get_elem? s.homes 0 ≡ some (some locked)
+      pub reaches : Reaches h locked.value
+      pub count : locked.turns ≡ index_after h
       pub nobody : NobodyAtWork s.views
 
     -- A seat has the lock: it has seen the whole history, and knows the value that it leads to.
-    pub record IsHeld (h : List (Entry (Turned I S R))) (s : State (Cabin T I R S) (LaneSight T I S R)) : Type 0 where
+    pub record IsHeld (h : List (Entry (Turned I S R))) (s : State (LockedValue T I R S) (LaneSight T I S R)) : Type 0 where
       pub word : slice_index s.words 0 ≡ 1
       pub owner : ℕ
       pub view : LaneSight T I S R
@@ -56,7 +56,7 @@ module _ {T I S R : Type 0} where
       pub alone : AloneAtWork s.views owner
 
     -- The rule of a lane with this first value.
-    pub record Ruled (s : State (Cabin T I R S) (LaneSight T I S R)) : Type 0 where
+    pub record Ruled (s : State (LockedValue T I R S) (LaneSight T I S R)) : Type 0 where
       pub history : List (Entry (Turned I S R))
       pub agrees : Agrees first history s.views
       pub words : length s.words ≡ 1

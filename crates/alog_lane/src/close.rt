@@ -2,10 +2,10 @@
 ghost use Rattle.std.specs.Prelude.{◌≡◌, ◌↔◌, IsOk, IfOk, IfErr};
 ghost use Rattle.alog_lane.specs.Calls.{IsSeatOf, Closes};
 
-use crate::lane::{CABIN, Lane};
+use crate::lane::{Lane, SLOT};
 use crate::seat::{ALL_PARTS, LaneSeat};
 use crate::turn::Turn;
-use crate::view::Cabin;
+use crate::view::LockedValue;
 use std::fmt;
 use thiserror::Error;
 
@@ -34,11 +34,11 @@ impl<T: Turn> Lane<T> {
         let Lane { table } = self;
         let LaneSeat { seat, parts: _ } = seat;
         let mut closed = table.close_with(seat);
-        let Cabin {
+        let LockedValue {
             value,
             turns: _,
             last: _,
-        } = closed.take(CABIN);
+        } = closed.take(SLOT);
         closed.free();
         Ok(value)
     }

@@ -2,14 +2,14 @@
 ghost use Rattle.std.specs.Prelude.{◌≡◌, ◌≢◌, ◌+◌, ◌%◌, ◌^◌, ◌∷◌, ◌++◌, [], ℕ, IfOk, IfErr, OnErr, IsErr};
 ghost use Rattle.alog_lane.specs.Seats.{first_known};
 ghost use Rattle.alog_lane.specs.Roster.{Idle};
-ghost use Rattle.alog_lane.specs.declared.view.Cabin.{Cabin};
+ghost use Rattle.alog_lane.specs.declared.view.LockedValue.{LockedValue};
 ghost use Rattle.alog_lane.specs.Plays.{tried, Took};
 ghost use Rattle.alog_lane.specs.Calls.{IsSeatOf, TakesTurn};
 
 use crate::plays::{GivesBack, Tries};
 use crate::seat::{ALL_PARTS, LaneSeat};
 use crate::turn::Turn;
-use crate::view::{Cabin, Done, Law, View};
+use crate::view::{Done, Law, LockedValue, View};
 use atomic_table::{Refused, Seat, Table};
 use std::alloc::{AllocFailed, Global};
 use std::marker::Model;
@@ -24,7 +24,7 @@ const FREE: u64 = 0;
 const TAKEN: u64 = 1;
 
 /// The slot of the value.
-pub(crate) const CABIN: usize = 0;
+pub(crate) const SLOT: usize = 0;
 
 /// Another seat has the lock. Nothing happened. The test `a_held_lock_is_told` shows it.
 #[derive(Clone, Copy, Debug, PartialEq, Eq, Error)]
@@ -34,7 +34,7 @@ pub struct Held;
 /// A value behind a lock, for any number of threads. The tests `a_lane_over_a_sum` and `two_threads_take_turns` show it.
 #[derive(Drop)]
 pub struct Lane<T: Turn> {
-    pub(crate) table: Table<Cabin<T>, View<T>, Snapshot<T>, Law, Global>,
+    pub(crate) table: Table<LockedValue<T>, View<T>, Snapshot<T>, Law, Global>,
     ghost sized: { (table.shared.table_id.words ≡ 1) × (table.shared.table_id.slots ≡ 1) },
 }
 
@@ -59,7 +59,7 @@ impl<T: Turn> Lane<T> {
             return Err(AllocFailed { value });
         };
         let first = Snapshot::of(&value);
-        slots.push_reserved(Cabin {
+        slots.push_reserved(LockedValue {
             value,
             turns: 0,
             last: Snapshot::of(&None),
@@ -74,7 +74,7 @@ impl<T: Turn> Lane<T> {
             }
             Err(Refused { mut slots }) => match slots.pop() {
                 Some(
-                    Cabin {
+                    LockedValue {
                         value,
                         turns: _,
                         last: _,
@@ -118,7 +118,7 @@ impl<T: Turn> Lane<T> {
     }
 
     /// Tries to get the lock, and tells what the lock word was.
-    fn try_lock(&self, own: &mut Seat<Cabin<T>, View<T>>) -> u64
+    fn try_lock(&self, own: &mut Seat<LockedValue<T>, View<T>>) -> u64
         requires table { own.old.table_id ≡ self.now.table }
         requires stage { own.old.me.0.stage ≡ Idle }
         ensures table { own.new.table_id ≡ own.old.table_id }
@@ -132,23 +132,23 @@ impl<T: Turn> Lane<T> {
     /// The owner's turn at the value, and its index.
     fn take_turn(
         &self,
-        own: &mut Seat<Cabin<T>, View<T>>,
+        own: &mut Seat<LockedValue<T>, View<T>>,
         tag: u64,
         item: &T::Item,
         scratch: &mut T::Scratch,
     ) -> (u64, T::Reply)
         requires table { own.old.table_id ≡ self.now.table }
-        requires owner { (c : Cabin T T.Item T.Reply T.Scratch) × (own.old.me.1 ≡ (0, c) ∷ []) × T.may_turn c.value item.now scratch.old }
+        requires owner { (c : LockedValue T T.Item T.Reply T.Scratch) × (own.old.me.1 ≡ (0, c) ∷ []) × T.may_turn c.value item.now scratch.old }
         ensures table { own.new.table_id ≡ own.old.table_id }
         ensures took { Took T.turns T.may_turn
             (record { tag = tag; item = item.now; before = scratch.old; reply = result.1; after = scratch.new })
             result.0 own.old.me own.new.me }
     {
         let before = Snapshot::of(&*scratch);
-        let cabin = own.slot_mut(&self.table.shared, CABIN);
-        let index = cabin.turns;
-        let reply = cabin.value.turn(item, scratch);
-        cabin.turns = index_after(index);
+        let locked = own.slot_mut(&self.table.shared, SLOT);
+        let index = locked.turns;
+        let reply = locked.value.turn(item, scratch);
+        locked.turns = index_after(index);
         let done = Done {
             tag,
             item: Snapshot::of(item),
@@ -156,7 +156,7 @@ impl<T: Turn> Lane<T> {
             reply: Snapshot::of(&reply),
             after: Snapshot::of(&*scratch),
         };
-        cabin.last = Snapshot::of(&Some(done));
+        locked.last = Snapshot::of(&Some(done));
         (index, reply)
     }
 }

@@ -6,21 +6,21 @@ ghost use Rattle.alog_lane.specs.Turns.{Turned};
 ghost use Rattle.alog_lane.specs.Plays.{was_named, saw_both, tried, gave_back};
 
 use crate::turn::Turn;
-use crate::view::{Cabin, View};
+use crate::view::{LockedValue, View};
 use atomic_table::{Join, Play, Split};
 use std::marker::{Brand, PhantomData};
 
 /// The exchange of the lock word.
 pub struct Tries;
 
-impl<T: Turn> Play<Cabin<T>, View<T>> for Tries {
+impl<T: Turn> Play<LockedValue<T>, View<T>> for Tries {
     ghost then = { λ s m r n. tried T.turns T.may_turn m r n };
 }
 
 /// The store of the lock word, after a turn.
 pub struct GivesBack;
 
-impl<T: Turn> Play<Cabin<T>, View<T>> for GivesBack {
+impl<T: Turn> Play<LockedValue<T>, View<T>> for GivesBack {
     ghost then = { λ s m r n. gave_back m n };
 }
 
@@ -47,7 +47,7 @@ impl<T: Turn, A: Amount> Split<View<T>> for Cut<A> {
 /// A new seat learns its number.
 pub struct Names;
 
-impl<T: Turn> Play<Cabin<T>, View<T>> for Names {
+impl<T: Turn> Play<LockedValue<T>, View<T>> for Names {
     ghost then = { λ s m r n. was_named m n };
 }
 
@@ -63,6 +63,6 @@ impl<T: Turn> Join<View<T>> for TakeIn {
 /// A seat into which another was joined sees what both had seen.
 pub struct SeeBoth;
 
-impl<T: Turn> Play<Cabin<T>, View<T>> for SeeBoth {
+impl<T: Turn> Play<LockedValue<T>, View<T>> for SeeBoth {
     ghost then = { λ s m r n. (h : List (Entry (Turned T.Item T.Scratch T.Reply))) → m.0.stage ≡ Joined h → saw_both h m n };
 }

@@ -2,7 +2,7 @@
 ghost use Rattle.std.specs.Prelude.{◌≡◌};
 
 use crate::turn::Turn;
-use crate::view::{Cabin, View};
+use crate::view::{LockedValue, View};
 use atomic_table::Seat;
 use std::marker::Model;
 
@@ -14,7 +14,7 @@ pub const ALL_PARTS: u64 = 1 << 32;
 /// `a_lane_over_a_sum` shows it.
 #[derive(Drop)]
 pub struct LaneSeat<T: Turn> {
-    pub(crate) seat: Seat<Cabin<T>, View<T>>,
+    pub(crate) seat: Seat<LockedValue<T>, View<T>>,
     pub(crate) parts: u64,
 }
 

@@ -10,7 +10,7 @@ use crate::lane::{LOCK, Lane};
 use crate::plays::{Amount, Cut, Names, SeeBoth, TakeIn};
 use crate::seat::LaneSeat;
 use crate::turn::Turn;
-use crate::view::{Cabin, View};
+use crate::view::{LockedValue, View};
 use atomic_table::Seat;
 use std::marker::Brand;
 
@@ -42,7 +42,7 @@ impl<T: Turn> Lane<T> {
         seat.parts += parts;
     }
 
-    fn cut<A: Amount>(&self, own: &mut Seat<Cabin<T>, View<T>>, parts: u64) -> LaneSeat<T>
+    fn cut<A: Amount>(&self, own: &mut Seat<LockedValue<T>, View<T>>, parts: u64) -> LaneSeat<T>
         requires amount { parts ≡ A.parts }
         requires table { own.old.table_id ≡ self.now.table }
         requires stage { own.old.me.0.stage ≡ Idle }
@@ -60,7 +60,7 @@ impl<T: Turn> Lane<T> {
         LaneSeat { seat: given, parts }
     }
 
-    fn take_in(&self, own: &mut Seat<Cabin<T>, View<T>>, other: Seat<Cabin<T>, View<T>>)
+    fn take_in(&self, own: &mut Seat<LockedValue<T>, View<T>>, other: Seat<LockedValue<T>, View<T>>)
         requires table { (own.old.table_id ≡ self.now.table) × (other.table_id ≡ self.now.table) }
         requires stage { (own.old.me.0.stage ≡ Idle) × (other.me.0.stage ≡ Idle) }
         requires some { 0 < own.old.me.0.known.parts }

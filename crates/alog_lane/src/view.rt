@@ -20,7 +20,7 @@ pub struct Done<T: Turn> {
 
 /// What lies behind the lock: the value, and the number of turns that it has taken, modulo 2^64.
 #[derive(Drop)]
-pub struct Cabin<T: Turn> {
+pub struct LockedValue<T: Turn> {
     pub value: T,
     pub turns: u64,
     /// The last turn, for the clauses: it has no bytes.
@@ -45,7 +45,7 @@ impl<T: Turn> Model for View<T> {
 /// The rule of the lane.
 pub struct Law;
 
-impl<T: Turn> TableRule<Cabin<T>, View<T>, Snapshot<T>> for Law {
+impl<T: Turn> TableRule<LockedValue<T>, View<T>, Snapshot<T>> for Law {
     ghost holds = { λ first s. Ruled T.turns T.may_turn first.value s };
 
     ghost first = { λ key. first_sight (Some key.value) };

@@ -6,8 +6,8 @@ use Rattle.std.proofs.Crossing.{Arc-send, crosses}
 use Rattle.std.specs.contracts.alloc.Global as Global
 use Rattle.std.specs.contracts.impls.GlobalAllocator.TheImpl.{ghosts as alloc_ghosts}
 use Rattle.std.specs.contracts.sync.Arc as Arc
-use Rattle.alog_load.specs.contracts.errand.Back as Back
-use Rattle.alog_load.specs.contracts.errand.Errand as Errand
+use Rattle.alog_load.specs.contracts.load_task.Back as Back
+use Rattle.alog_load.specs.contracts.load_task.LoadTask as LoadTask
 use Rattle.alog_pool.proofs.Crosses.{producer_send}
 
 flag_send : IsSend AtomicBool.the_row
@@ -19,7 +19,7 @@ flag_sync = search (crosses, sendable) depth 9
 pub halt_send : IsSend (Arc.the_row AtomicBool.the_row Global.the_row alloc_ghosts)
 halt_send = Arc-send AtomicBool.the_row flag_send flag_sync
 
-pub errand_send : IsSend Errand.the_row
+pub errand_send : IsSend LoadTask.the_row
 errand_send = search sendable depth 9
 
 pub back_send : IsSend Back.the_row

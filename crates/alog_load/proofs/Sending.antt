@@ -3,16 +3,16 @@ use Rattle.std.proofs.Common.{◌≡◌, ◌+◌, ◌<◌, ◌≤◌, ℕ, zero,
 use Rattle.std.proofs.Common.{append-nil, append_assoc, refl, sym, ap, subst, ◌∙◌, arith}
 use Rattle.std.proofs.lemmas.Nat.{mod_below}
 use Rattle.std.specs.List.{AllByRecursion}
-use Rattle.alog_load.specs.Crew.{AreBack, AreSent, IsBack, IsSentFor}
+use Rattle.alog_load.specs.Producers.{AreBack, AreSent, IsBack, IsSentFor}
 use Rattle.alog_load.specs.Load.{HasLogged, HasServed, errand_of}
-use Rattle.alog_load.specs.declared.errand.Goes.{Goes}
+use Rattle.alog_load.specs.declared.load_task.Goes.{Goes}
 use Rattle.alog_pool.proofs.Sharing.{all_more, each2_length, each2_more}
 use Rattle.alog_pool.specs.Places.{Each2}
 use Rattle.alog_pool.specs.Producer.{ProducerView}
 use Rattle.alog_pool.specs.declared.shared.Shared.{Shared}
 use Rattle.alog_server.specs.Making.{AreOf}
 
--- an errand names a logger, and no more messages than were asked for
+-- an task names a logger, and no more messages than were asked for
 pub errand_known : (p n m : ℕ) → 0 < (errand_of p n m).messages → (errand_of p n m).logger < n
 errand_known p zero m some = absurd (omega (arith, some))
 errand_known p (suc n) m some = mod_below p (suc n) (omega arith)
@@ -60,7 +60,7 @@ module _ (loggers messages : ℕ) where
     each = λ t. absurd (cc t);
   }
 
-  -- those that were sent off, and logged all, served their errands
+  -- those that were sent off, and logged all, served their tasks
   pub served_all : (ps : List ProducerView) (away : List Goes) (back : List ProducerView) → Each2 (IsSentFor loggers messages) ps away
       → Each2 (IsBack true) away back → Each2 (HasServed loggers messages) ps back
   served_all [] [] [] sent backs = tt

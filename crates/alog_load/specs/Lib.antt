@@ -1,2 +1,2 @@
 pub mod Load
-pub mod Crew
+pub mod Producers

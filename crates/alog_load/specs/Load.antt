@@ -4,9 +4,9 @@ use Rattle.std.specs.Fmt.{decimal}
 use Rattle.alog_config.specs.declared.building.BuildError.{BuildError}
 use Rattle.alog_config.specs.declared.building.BuildError.TheVariants as built
 use Rattle.alog_config.specs.declared.config.Config.{Config}
-use Rattle.alog_load.specs.declared.TheConstants.{MOST_PRODUCERS, MOST_MESSAGES}
-use Rattle.alog_load.specs.declared.errand.Back.{Back}
-use Rattle.alog_load.specs.declared.errand.Errand.{Errand}
+use Rattle.alog_load.specs.declared.TheConstants.{LOAD_PRODUCERS_MAX, LOAD_MESSAGES_MAX}
+use Rattle.alog_load.specs.declared.load_task.Back.{Back}
+use Rattle.alog_load.specs.declared.load_task.LoadTask.{LoadTask}
 use Rattle.alog_load.specs.declared.error.LoadError.{LoadError}
 use Rattle.alog_load.specs.declared.error.LoadError.TheVariants as refused
 use Rattle.alog_msg.specs.declared.level.Level.TheVariants.{Info}
@@ -29,7 +29,7 @@ use Rattle.alog_sink.specs.Files.{Files}
 
 -- these numbers of producers and of messages are out of bounds
 abbrev pub AreBad : ℕ → ℕ → Type 0
-AreBad producers messages = (producers < 1) ⊎ (MOST_PRODUCERS < producers) ⊎ (MOST_MESSAGES < messages)
+AreBad producers messages = (producers < 1) ⊎ (LOAD_PRODUCERS_MAX < producers) ⊎ (LOAD_MESSAGES_MAX < messages)
 
 -- the same reason
 abbrev pub IsOfBuild : BuildError → LoadError → Type 0
@@ -38,7 +38,7 @@ IsOfBuild built.Store e = e ≡ refused.Store
 
 -- What the producer of this number is sent off for: the producers go round among so many loggers. Where there is none, nothing is
 -- logged.
-abbrev pub errand_of : ℕ → ℕ → ℕ → Errand
+abbrev pub errand_of : ℕ → ℕ → ℕ → LoadTask
 errand_of number zero messages = record { logger = 0; messages = 0 }
 errand_of number (suc n) messages = record { logger = number % suc n; messages = messages }
 
@@ -60,8 +60,8 @@ abbrev pub HasLogged : ℕ → ℕ → ProducerView → ProducerView → Type 0
 HasLogged logger zero old new = new ≡ old
 HasLogged logger (suc n) old new = (mid : ProducerView) × HasLogged logger n old mid × LogsMessage logger n mid new
 
--- A producer came back: it is the same, and where it was done, it logged all messages of its errand.
-pub record HasGone (e : Errand) (start : ProducerView) (back : Back) : Type 0 where
+-- A producer came back: it is the same, and where it was done, it logged all messages of its task.
+pub record HasGone (e : LoadTask) (start : ProducerView) (back : Back) : Type 0 where
   pub same : IsSame start back.producer
   pub logged : back.done ≡ true → HasLogged e.logger e.messages start back.producer
 

@@ -5,10 +5,10 @@ ghost use Rattle.alog_config.specs.Built.{HasFailed};
 ghost use Rattle.alog_config.specs.Sinks.{is_leaf};
 ghost use Rattle.alog_load.specs.Load.{AreBad, Loads};
 
-use crate::crew::Crew;
 use crate::error::LoadError;
+use crate::producers::Producers;
 use crate::setup::setup_of;
-use crate::{MOST_MESSAGES, MOST_PRODUCERS};
+use crate::{LOAD_MESSAGES_MAX, LOAD_PRODUCERS_MAX};
 use alog_config::Config;
 use alog_pool::{Gate, Pool, Report, StartError};
 use alog_sink::Store;
@@ -43,11 +43,11 @@ pub fn load<
     ensures failed { IsErrOf result LoadError.Store → Any (HasFailed S.failures) stores.items }
     ensures loads { IfOk result (λ r. Loads S.tells S.files S.failures config.now stores.items producers messages r) }
 {
-    if producers < 1 || producers > MOST_PRODUCERS || messages > MOST_MESSAGES {
+    if producers < 1 || producers > LOAD_PRODUCERS_MAX || messages > LOAD_MESSAGES_MAX {
         return Err(LoadError::BadValue);
     }
     let setup = setup_of(alloc, config, stores, (producers * messages) as usize)?;
-    let crew = Crew::new(alloc, producers as usize)?;
+    let crew = Producers::new(alloc, producers as usize)?;
     let mut pool = match Pool::start(rt, alloc, setup, gate) {
         Ok(pool) => pool,
         Err(StartError::OutOfMemory) => return Err(LoadError::OutOfMemory),

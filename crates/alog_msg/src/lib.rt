@@ -19,8 +19,8 @@ mod text;
 pub use item::Item;
 pub use level::Level;
 pub use limits::{
-    DEFAULT_TEXT_LIMIT, FILE_MAX, FUNCTION_MAX, LEAST_TEXT_LIMIT, LOGGER_NAME_MAX, MOST_TEXT_LIMIT,
-    SHORT_TEXT_MAX,
+    DEFAULT_TEXT_LIMIT, FILE_MAX, FUNCTION_MAX, LOGGER_NAME_MAX, SHORT_TEXT_MAX, TEXT_LIMIT_MAX,
+    TEXT_LIMIT_MIN,
 };
 pub use message::{Message, MessageError};
 pub use source::{Source, SourceRef};

@@ -4,10 +4,10 @@
 pub const DEFAULT_TEXT_LIMIT: usize = 2_048;
 
 /// No text limit is smaller.
-pub const LEAST_TEXT_LIMIT: usize = 64;
+pub const TEXT_LIMIT_MIN: usize = 64;
 
 /// No text limit is larger.
-pub const MOST_TEXT_LIMIT: usize = 8_192;
+pub const TEXT_LIMIT_MAX: usize = 8_192;
 
 /// The most bytes of a source's file.
 pub const FILE_MAX: usize = 256;

@@ -2,7 +2,7 @@ ghost use Rattle.std.specs.Prelude.{◌≡◌, ◌↔◌, ◌<◌, ◌≤◌, If
 ghost use Rattle.alog_msg.specs.declared.message.MessageError.TheVariants.{OutOfMemory};
 
 use crate::level::Level;
-use crate::limits::{FILE_MAX, FUNCTION_MAX, LEAST_TEXT_LIMIT, MOST_TEXT_LIMIT};
+use crate::limits::{FILE_MAX, FUNCTION_MAX, TEXT_LIMIT_MAX, TEXT_LIMIT_MIN};
 use crate::source::{Source, SourceRef};
 use crate::text::Text;
 use std::alloc::{AllocError, Global};
@@ -70,7 +70,7 @@ impl Message {
         text: &str,
         source: Option<SourceRef<'_>>,
     ) -> Result<Message, MessageError>
-        requires { (LEAST_TEXT_LIMIT ≤ text_limit) × (text_limit ≤ MOST_TEXT_LIMIT) }
+        requires { (TEXT_LIMIT_MIN ≤ text_limit) × (text_limit ≤ TEXT_LIMIT_MAX) }
         ensures made { IfOk result (λ m. m ≡ record {
           logger = logger;
           level = level;

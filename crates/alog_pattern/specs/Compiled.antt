@@ -1,6 +1,6 @@
 -- What callers see of a compiled pattern.
 use Rattle.std.specs.Prelude.{ℕ, ◌≤◌, List}
-use Rattle.alog_msg.specs.declared.limits.TheConstants.{LEAST_TEXT_LIMIT, MOST_TEXT_LIMIT}
+use Rattle.alog_msg.specs.declared.limits.TheConstants.{TEXT_LIMIT_MIN, TEXT_LIMIT_MAX}
 use Rattle.alog_pattern.specs.declared.items.Item.{Item}
 use Rattle.alog_pattern.specs.Length.{longest_line}
 
@@ -14,4 +14,4 @@ abbrev pub longest : Compiled → ℕ
 longest p = longest_line p.text_limit p.items
 
 abbrev pub IsTextLimit : ℕ → Type 0
-IsTextLimit limit = (LEAST_TEXT_LIMIT ≤ limit) × (limit ≤ MOST_TEXT_LIMIT)
+IsTextLimit limit = (TEXT_LIMIT_MIN ≤ limit) × (limit ≤ TEXT_LIMIT_MAX)

@@ -1,4 +1,4 @@
-use alog_msg::{FILE_MAX, FUNCTION_MAX, LOGGER_NAME_MAX, MOST_TEXT_LIMIT};
+use alog_msg::{FILE_MAX, FUNCTION_MAX, LOGGER_NAME_MAX, TEXT_LIMIT_MAX};
 
 /// What a flag of a pattern stands for, as `%v` for the text of the message. The test `skips_a_side_without_a_width` shows
 /// some.
@@ -145,7 +145,7 @@ impl Flag {
 
     /// The greatest length of the flag's text in bytes, where the text of a message has at most `text_limit`.
     pub(crate) fn greatest_len(self, text_limit: usize) -> usize
-        requires { text_limit ≤ MOST_TEXT_LIMIT }
+        requires { text_limit ≤ TEXT_LIMIT_MAX }
         ensures { result ≡ greatest_len text_limit self }
     {
         match self {

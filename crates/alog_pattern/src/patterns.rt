@@ -5,7 +5,7 @@ ghost use Rattle.alog_pattern.specs.Scan.{items_of as items_of_bytes};
 use crate::flags::Flag;
 use crate::items::{Item, Padding};
 use crate::scan::Scan;
-use alog_msg::MOST_TEXT_LIMIT;
+use alog_msg::TEXT_LIMIT_MAX;
 use std::alloc::{AllocError, AllocFailed, Global};
 use std::marker::Model;
 use thiserror::Error;
@@ -146,7 +146,7 @@ fn items_of(alloc: Global, spelling: &[u8]) -> Result<Vec<Item>, AllocError>
 /// The length of the longest line of a pattern, with its newline.
 fn longest_line(spelling: &[u8], text_limit: usize) -> usize
     requires short { length spelling.now ≤ PATTERN_MAX }
-    requires limit { text_limit ≤ MOST_TEXT_LIMIT }
+    requires limit { text_limit ≤ TEXT_LIMIT_MAX }
     ensures { result ≡ longest_line_of text_limit (items_of_bytes spelling.now) }
 {
     let mut longest = 1;
@@ -163,7 +163,7 @@ fn longest_line(spelling: &[u8], text_limit: usize) -> usize
 
 /// The greatest length of an item's text.
 fn item_len(item: Item, text_limit: usize) -> usize
-    requires { text_limit ≤ MOST_TEXT_LIMIT }
+    requires { text_limit ≤ TEXT_LIMIT_MAX }
     ensures value { result ≡ item_len text_limit item }
     ensures within { result ≤ 8566 }
 {

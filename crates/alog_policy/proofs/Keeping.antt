@@ -4,19 +4,19 @@ use Rattle.std.specs.Prelude.{IfOk}
 use Rattle.alog_core.proofs.Cells.{on_test}
 use Rattle.alog_policy.specs.Progress.{IsKept, begun, lost, pushing, with_take, counting, again_under, again}
 use Rattle.alog_policy.specs.Progress.{full_under, after_full, after_take}
-use Rattle.alog_policy.specs.declared.TheConstants.{MOST_ROUNDS}
+use Rattle.alog_policy.specs.declared.TheConstants.{ROUNDS_MAX}
 use Rattle.alog_policy.specs.declared.policy.Policy.{Policy}
 use Rattle.alog_policy.specs.declared.policy.Policy.TheVariants.{Block, OverrunOldest, DiscardNew}
 use Rattle.alog_policy.specs.declared.policy.Why.TheVariants as why
 use Rattle.alog_policy.specs.declared.progress.Side.TheVariants.{Pop}
 use Rattle.alog_policy.specs.declared.progress.Progress.{Progress}
 
-pub kept_pushing : (g : Progress) (k : ℕ) → k < MOST_ROUNDS → g.overran ≤ k → IsKept (pushing g k)
+pub kept_pushing : (g : Progress) (k : ℕ) → k < ROUNDS_MAX → g.overran ≤ k → IsKept (pushing g k)
 kept_pushing g k within few = record { within = within; few = few; pops = λ bad. absurd (cc) }
 
-kept_counting : (g : Progress) → g.rounds < MOST_ROUNDS → g.overran ≤ g.rounds + 1 → IfOk (counting g) IsKept
+kept_counting : (g : Progress) → g.rounds < ROUNDS_MAX → g.overran ≤ g.rounds + 1 → IfOk (counting g) IsKept
 kept_counting g within few =
-    on_test (λ b. IfOk (cond b (Err (lost g why.Busy)) (Ok (pushing g (g.rounds + 1)))) IsKept) (g.rounds + 1) MOST_ROUNDS
+    on_test (λ b. IfOk (cond b (Err (lost g why.Busy)) (Ok (pushing g (g.rounds + 1)))) IsKept) (g.rounds + 1) ROUNDS_MAX
     (λ _. tt) (λ other. kept_pushing g (g.rounds + 1) (omega (arith, within, other)) few)
 
 kept_again_under : (p : Policy) (g : Progress) → IsKept g → IfOk (again_under p g) IsKept

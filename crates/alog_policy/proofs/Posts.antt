@@ -11,7 +11,7 @@ use Rattle.alog_policy.specs.Post.{counted, events_of_rounds, take_in, takes_in,
 use Rattle.alog_policy.specs.Post.{events_of_part, IsPartUnder, IsUnderWay}
 use Rattle.alog_policy.specs.Progress.{begun, lost, pushing, again_under, again, full_under}
 use Rattle.alog_policy.specs.Progress.{after_full, after_take, IsSoFar, Agrees}
-use Rattle.alog_policy.specs.declared.TheConstants.{MOST_ROUNDS}
+use Rattle.alog_policy.specs.declared.TheConstants.{ROUNDS_MAX}
 use Rattle.alog_policy.specs.declared.policy.Policy.{Policy}
 use Rattle.alog_policy.specs.declared.policy.Policy.TheVariants.{Block, OverrunOldest, DiscardNew}
 use Rattle.alog_policy.specs.declared.policy.Why.TheVariants as why
@@ -57,7 +57,7 @@ module _ {T : Type 0} (p : Policy) (x : T) (k o : ℕ) (part : Part) (es made : 
 
   -- a round went on, and another one begins
   under_way_again : (r : Round T) (l : ℕ) → IsRoundUnder p r → events_of_part x part ++ made ≡ events_of_round r
-      → l ≡ counted p (length way.rounds + 1) → l < MOST_ROUNDS
+      → l ≡ counted p (length way.rounds + 1) → l < ROUNDS_MAX
       → IsUnderWay p x l (o + takes_in made) Pushing (es ++ made)
   under_way_again r l under whole count within =
       record {
@@ -72,7 +72,7 @@ module _ {T : Type 0} (p : Policy) (x : T) (k o : ℕ) (part : Part) (es made : 
 
   -- a round went on, and it was the last
   out_of_rounds : {V : Type 0} (v : V) (r : Round T) → IsRoundUnder p r
-      → events_of_part x part ++ made ≡ events_of_round r → counted p (length way.rounds + 1) ≡ MOST_ROUNDS
+      → events_of_part x part ++ made ≡ events_of_round r → counted p (length way.rounds + 1) ≡ ROUNDS_MAX
       → IsPost p x v (es ++ made) (Discarded v why.Busy (o + takes_in made))
   out_of_rounds v r under whole count =
       record {
@@ -125,7 +125,7 @@ again_agrees_under {T} {V} OverrunOldest x v s k o part es made r way under whol
     let count : k + 1 ≡ counted OverrunOldest (length way.rounds + 1) = ap (λ n. n + 1) way.count in
     let le = way.within in
     on_test (λ b. Agrees OverrunOldest x v (es ++ made) (cond b (Err (lost g why.Busy)) (Ok (pushing g (k + 1))))) (k + 1)
-    MOST_ROUNDS (λ e. out_of_rounds OverrunOldest x k o part es made way v r under whole (sym count ∙ e))
+    ROUNDS_MAX (λ e. out_of_rounds OverrunOldest x k o part es made way v r under whole (sym count ∙ e))
     (λ other. (
       refl,
       (
@@ -139,7 +139,7 @@ again_agrees_under {T} {V} DiscardNew x v s k o part es made r way under whole =
     let count : k + 1 ≡ counted DiscardNew (length way.rounds + 1) = ap (λ n. n + 1) way.count in
     let le = way.within in
     on_test (λ b. Agrees DiscardNew x v (es ++ made) (cond b (Err (lost g why.Busy)) (Ok (pushing g (k + 1))))) (k + 1)
-    MOST_ROUNDS (λ e. out_of_rounds DiscardNew x k o part es made way v r under whole (sym count ∙ e))
+    ROUNDS_MAX (λ e. out_of_rounds DiscardNew x k o part es made way v r under whole (sym count ∙ e))
     (λ other. (
       refl,
       (

@@ -3,7 +3,7 @@
 use Rattle.std.specs.Prelude.{◌≡◌, ℕ, ◌+◌, ◌<◌, List, [], ◌∷◌, ◌++◌, length}
 use Rattle.std.specs.List.{AllByRecursion}
 use Rattle.alog_core.specs.Queue.{Event, Claim, Write, Grab, Take, Full, Empty, PushBusy, PopBusy, Spent}
-use Rattle.alog_policy.specs.declared.TheConstants.{MOST_ROUNDS}
+use Rattle.alog_policy.specs.declared.TheConstants.{ROUNDS_MAX}
 use Rattle.alog_policy.specs.declared.policy.Policy.{Policy}
 use Rattle.alog_policy.specs.declared.policy.Policy.TheVariants.{Block, OverrunOldest, DiscardNew}
 use Rattle.alog_policy.specs.declared.policy.Why.TheVariants as why
@@ -58,11 +58,11 @@ events_of_end x OutOfRounds = []
 
 -- under which policies, and after how many rounds that count, a post ends so
 abbrev pub IsEndUnder : Policy → ℕ → End → Type 0
-IsEndUnder p k (Wrote t) = k < MOST_ROUNDS
-IsEndUnder p k OutOfTickets = k < MOST_ROUNDS
-IsEndUnder p k (NoRoom f) = (k < MOST_ROUNDS) × (p ≡ DiscardNew)
-IsEndUnder p k (NothingToTake f t) = (k < MOST_ROUNDS) × (p ≡ OverrunOldest)
-IsEndUnder p k OutOfRounds = k ≡ MOST_ROUNDS
+IsEndUnder p k (Wrote t) = k < ROUNDS_MAX
+IsEndUnder p k OutOfTickets = k < ROUNDS_MAX
+IsEndUnder p k (NoRoom f) = (k < ROUNDS_MAX) × (p ≡ DiscardNew)
+IsEndUnder p k (NothingToTake f t) = (k < ROUNDS_MAX) × (p ≡ OverrunOldest)
+IsEndUnder p k OutOfRounds = k ≡ ROUNDS_MAX
 
 -- and what the one who posted is answered, who brought v and overran k items
 abbrev pub outcome_of : {V : Type 0} → V → ℕ → End → Outcome V
@@ -148,7 +148,7 @@ pub record IsUnderWay {T : Type 0} (p : Policy) (x : T) (k overran : ℕ) (part 
   pub rounds : List (Round T)
   pub go_on : AllByRecursion (IsRoundUnder p) rounds
   pub count : k ≡ counted p (length rounds)
-  pub within : k < MOST_ROUNDS
+  pub within : k < ROUNDS_MAX
   pub of_part : IsPartUnder p part
   pub events_are : events ≡ events_of_rounds rounds ++ events_of_part x part
   pub overran_is : overran ≡ takes_in events

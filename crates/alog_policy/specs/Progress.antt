@@ -2,7 +2,7 @@
 use Rattle.std.specs.Prelude.{◌≡◌, ℕ, ◌+◌, ◌-◌, ◌*◌, ◌<◌, ◌≤◌, ◌==◌, if◌then◌else◌, List, Result, Ok, Err}
 use Rattle.alog_core.specs.Queue.{Event}
 use Rattle.alog_policy.specs.Post.{IsPost, IsUnderWay, Part, Pushing, Popping}
-use Rattle.alog_policy.specs.declared.TheConstants.{MOST_ROUNDS}
+use Rattle.alog_policy.specs.declared.TheConstants.{ROUNDS_MAX}
 use Rattle.alog_policy.specs.declared.policy.Policy.{Policy}
 use Rattle.alog_policy.specs.declared.policy.Policy.TheVariants.{Block, OverrunOldest, DiscardNew}
 use Rattle.alog_policy.specs.declared.policy.Why.{Why}
@@ -15,7 +15,7 @@ use Rattle.alog_policy.specs.declared.progress.Lost.{Lost}
 
 -- What is true of each post under way: it pops only where its policy is to overrun the oldest, at most once a round.
 pub record IsKept (g : Progress) : Type 0 where
-  pub within : g.rounds < MOST_ROUNDS
+  pub within : g.rounds < ROUNDS_MAX
   pub few : g.overran ≤ g.rounds
   pub pops : g.side ≡ Pop → g.policy ≡ OverrunOldest
 
@@ -46,7 +46,7 @@ with_take g = record { policy = g.policy; side = g.side; rounds = g.rounds; over
 
 -- one more round counts: the post goes on, or its rounds are used up
 abbrev pub counting : Progress → Result Progress Lost
-counting g = if g.rounds + 1 == MOST_ROUNDS then Err (lost g why.Busy) else Ok (pushing g (g.rounds + 1))
+counting g = if g.rounds + 1 == ROUNDS_MAX then Err (lost g why.Busy) else Ok (pushing g (g.rounds + 1))
 
 -- after a round that goes on
 abbrev pub again_under : Policy → Progress → Result Progress Lost
@@ -76,7 +76,7 @@ half Push = 1
 half Pop = 0
 
 abbrev pub work : Progress → ℕ
-work g = 2 * (MOST_ROUNDS - g.rounds) + half g.side
+work g = 2 * (ROUNDS_MAX - g.rounds) + half g.side
 
 -- the part of its round that a post begins with a push or with a pop
 abbrev pub IsFresh : Side → Part → Type 0

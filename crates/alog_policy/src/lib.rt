@@ -11,7 +11,7 @@
 //! `specs/Desk.antt` for the desk, and `specs/Runs.antt` for what is true of whole runs; then `policy.rt`, `progress.rt`,
 //! `outlet.rt` and `posting.rt` (`post_now`), `desk.rt` with `following.rt` (what follows in a post after a step of it),
 //! and `desk_outlet.rt` with `rounds.rt` (rounds whose steps are made at once); `port.rt` with `specs/Port.antt`, and
-//! `waiting.rt` (`post_wait`) with `room.rt` (how it waits).
+//! `waiting.rt` (`post_wait`) with `room_wait.rt` (how it waits).
 //!
 //! Of the loss book contracts see one history of adds, each with its seat; what `counts` and `close` answer are sums of
 //! such histories. Read `specs/BookAdds.antt` and `specs/BookCalls.antt`, then `loss_book.rt` (a book, adds and counts),
@@ -36,7 +36,7 @@ mod port;
 mod post;
 mod posting;
 mod progress;
-mod room;
+mod room_wait;
 mod rounds;
 mod waiting;
 
@@ -54,8 +54,8 @@ pub use port::Port;
 pub use post::{Post, Stepped};
 pub use posting::post_now;
 pub use progress::{Lost, Progress, Side};
-pub use room::Room;
+pub use room_wait::RoomWait;
 pub use waiting::{post_from, post_wait};
 
 /// A post that does not block ends after so many rounds that went on.
-pub const MOST_ROUNDS: u64 = 64;
+pub const ROUNDS_MAX: u64 = 64;

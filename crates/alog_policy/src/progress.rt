@@ -2,7 +2,7 @@
 ghost use Rattle.std.specs.Prelude.{◌≡◌, ◌<◌};
 ghost use Rattle.alog_policy.specs.Progress.{begun, again, after_full, after_take, lost};
 
-use crate::MOST_ROUNDS;
+use crate::ROUNDS_MAX;
 use crate::policy::{Policy, Why};
 
 /// Which half of its round a post is in.
@@ -49,7 +49,7 @@ impl Progress {
 
     /// After a round that went on: the next one, or the post was lost since its rounds are used up.
     pub(crate) fn again(self) -> Result<Progress, Lost>
-        requires { self.rounds < MOST_ROUNDS }
+        requires { self.rounds < ROUNDS_MAX }
         ensures { result ≡ again self }
     {
         let next = Progress {
@@ -60,7 +60,7 @@ impl Progress {
             Policy::Block => Ok(next),
             Policy::OverrunOldest | Policy::DiscardNew => {
                 let rounds = self.rounds + 1;
-                if rounds == MOST_ROUNDS {
+                if rounds == ROUNDS_MAX {
                     Err(self.lost(Why::Busy))
                 } else {
                     Ok(Progress { rounds, ..next })
@@ -71,7 +71,7 @@ impl Progress {
 
     /// After a push that found the queue full.
     pub(crate) fn after_full(self) -> Result<Progress, Lost>
-        requires { self.rounds < MOST_ROUNDS }
+        requires { self.rounds < ROUNDS_MAX }
         ensures { result ≡ after_full self }
     {
         match self.policy {
@@ -86,8 +86,8 @@ impl Progress {
 
     /// After a pop that took the oldest item out.
     pub(crate) fn after_take(self) -> Result<Progress, Lost>
-        requires rounds { self.rounds < MOST_ROUNDS }
-        requires overran { self.overran < MOST_ROUNDS }
+        requires rounds { self.rounds < ROUNDS_MAX }
+        requires overran { self.overran < ROUNDS_MAX }
         ensures { result ≡ after_take self }
     {
         let taken = Progress {

@@ -8,7 +8,7 @@ use crate::outlet::Outlet;
 use crate::policy::{Outcome, Policy, Why};
 use crate::port::Port;
 use crate::posting::{handed_back, post_at_once};
-use crate::room::Room;
+use crate::room_wait::RoomWait;
 use alog_ring::{Limit, PushError};
 use std::sync::Wait;
 use std::time::Clock;
@@ -55,7 +55,7 @@ pub fn post_from<T: Drop, L: Limit<T>>(
 {
     match policy {
         Policy::Block => {
-            let room = Room::new(port.ring.places());
+            let room = RoomWait::new(port.ring.places());
             post_blocking(rt, port, room, hand)
         }
         Policy::OverrunOldest | Policy::DiscardNew => post_at_once(port, policy, hand),
@@ -66,7 +66,7 @@ pub fn post_from<T: Drop, L: Limit<T>>(
 fn post_blocking<O: Outlet>(
     rt: &(impl Wait + Clock),
     outlet: &mut O,
-    mut room: Room,
+    mut room: RoomWait,
     hand: &mut Option<O::Value>,
 ) -> Outcome<()>
     requires fit { O.is_fit outlet.old }

@@ -9,7 +9,7 @@ use Rattle.alog_lane.specs.Turns.{Turned}
 use Rattle.alog_lane.specs.declared.seat.TheConstants.{ALL_PARTS}
 use Rattle.alog_msg.specs.declared.item.Item.{Item}
 use Rattle.alog_pool.specs.Back.{seat_member}
-use Rattle.alog_pool.specs.Berth.{Answer, BerthView}
+use Rattle.alog_pool.specs.SinkSeat.{Answer, SinkSeatView}
 use Rattle.alog_pool.specs.Collected.{HasPlacesBack, HaveBack, IsClosing}
 use Rattle.alog_pool.specs.Deeds.{IsCounted, faults_in}
 use Rattle.alog_pool.specs.Places.{Each3}
@@ -52,15 +52,15 @@ module _ {A : Type 0} where
 
 module _ {S : Type 0} where
   -- a place that took back a part for each worker has all
-  pub all_back : (n : ℕ) (bs cs : List (BerthView S)) (rows : List (List (BerthView S))) → HaveBack bs cs rows → length rows ≡ n
-      → AllByRecursion (λ (row : List (BerthView S)). length row ≡ length bs) rows
-      → AllByRecursion (λ (b : BerthView S). b.seat.known.parts + n ≡ ALL_PARTS) bs
-      → AllByRecursion (λ (b : BerthView S). b.seat.known.parts ≡ ALL_PARTS) cs
+  pub all_back : (n : ℕ) (bs cs : List (SinkSeatView S)) (rows : List (List (SinkSeatView S))) → HaveBack bs cs rows → length rows ≡ n
+      → AllByRecursion (λ (row : List (SinkSeatView S)). length row ≡ length bs) rows
+      → AllByRecursion (λ (b : SinkSeatView S). b.seat.known.parts + n ≡ ALL_PARTS) bs
+      → AllByRecursion (λ (b : SinkSeatView S). b.seat.known.parts ≡ ALL_PARTS) cs
   all_back n [] [] rows back many even left = tt
   all_back n [] (c ∷ cs) rows back many even left = absurd back
   all_back n (b ∷ bs) [] rows back many even left = absurd back
   all_back n (b ∷ bs) (c ∷ cs) rows back many even left =
-      let f : BerthView S → lane.Member (Turned Item Buffer Answer) = λ p. seat_member p in
+      let f : SinkSeatView S → lane.Member (Turned Item Buffer Answer) = λ p. seat_member p in
       let parts = back.0.seats.parts in
       let mapped : length (map f (heads rows)) ≡ length (heads rows) = length-map (heads rows) f in
       let column = heads_length (length bs) rows even in
@@ -70,24 +70,24 @@ module _ {S : Type 0} where
       )
 
   module _ (tells : Bool) (files : S → Files) (failures : S → ℕ) where
-    one_closed : (b c : BerthView S) (column : List (BerthView S)) (s : Sink S) (faults : ℕ) → HasPlacesBack b c column
+    one_closed : (b c : SinkSeatView S) (column : List (SinkSeatView S)) (s : Sink S) (faults : ℕ) → HasPlacesBack b c column
         → IsClosing tells files failures c s faults → IsUnused b → AllByRecursion IsCounted column
         → IsClosed tells files failures b.lane column s faults
     one_closed b c column s faults back closing unused counted =
         let M : Type 0 = List (lane.Member (Turned Item Buffer Answer)) in
-        let f : BerthView S → lane.Member (Turned Item Buffer Answer) = λ p. seat_member p in
+        let f : SinkSeatView S → lane.Member (Turned Item Buffer Answer) = λ p. seat_member p in
         record {
           end = c.seat.known;
           closes = subst (λ (l : LaneId (Sink S)). Closes (Turns tells files failures) l.first c.seat.known s) back.lane closing.closes;
           own = back.seats.own ∙ unused.own;
           members = back.seats.joined ∙ ap (λ (l : M). l ++ map f column) unused.joined;
           faults_are = closing.faults_are ∙ back.faults
-              ∙ sum_mod (λ (p : BerthView S). p.faults) (λ (p : BerthView S). faults_in p.seat.known.own) column counted;
+              ∙ sum_mod (λ (p : SinkSeatView S). p.faults) (λ (p : SinkSeatView S). faults_in p.seat.known.own) column counted;
         }
 
-    pub all_closed : (bs cs : List (BerthView S)) (rows : List (List (BerthView S))) (sinks : List (Sink S)) (faults : List ℕ)
+    pub all_closed : (bs cs : List (SinkSeatView S)) (rows : List (List (SinkSeatView S))) (sinks : List (Sink S)) (faults : List ℕ)
         → HaveBack bs cs rows → Each3 (IsClosing tells files failures) cs sinks faults → AllByRecursion IsUnused bs
-        → AllByRecursion (λ (row : List (BerthView S)). AllByRecursion IsCounted row) rows
+        → AllByRecursion (λ (row : List (SinkSeatView S)). AllByRecursion IsCounted row) rows
         → AreClosed tells files failures (lanes_of bs) rows sinks faults
     all_closed [] [] rows [] [] back closing unused counted = tt
     all_closed [] [] rows [] (f ∷ fs) back closing unused counted = absurd closing

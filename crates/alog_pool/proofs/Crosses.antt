@@ -30,11 +30,11 @@ use Rattle.alog_sink.specs.contracts.sink.Sink as Sink
 use Rattle.alog_sink.specs.contracts.turn.Served as Served
 use Rattle.alog_sink.specs.contracts.turn.SinkTurn.TheImpl as Turn
 use Rattle.alog_sink.specs.declared.store.Store.{Ghosts}
-use Rattle.alog_pool.specs.contracts.berth.Berth as Berth
-use Rattle.alog_pool.specs.contracts.berth.Berth.TheInside as BerthInside
-use Rattle.alog_pool.specs.contracts.hand.Hand as Hand
-use Rattle.alog_pool.specs.contracts.keeping.Keeping as Keeping
-use Rattle.alog_pool.specs.contracts.keeping.Keeping.TheInside as KeepingInside
+use Rattle.alog_pool.specs.contracts.sink_seat.SinkSeat as SinkSeat
+use Rattle.alog_pool.specs.contracts.sink_seat.SinkSeat.TheInside as SinkSeatInside
+use Rattle.alog_pool.specs.contracts.worker.Worker as Worker
+use Rattle.alog_pool.specs.contracts.backtrace_seat.BacktraceSeat as BacktraceSeat
+use Rattle.alog_pool.specs.contracts.backtrace_seat.BacktraceSeat.TheInside as BacktraceSeatInside
 use Rattle.alog_pool.specs.contracts.producer.Producer as Producer
 use Rattle.alog_pool.specs.contracts.producer.Producer.TheInside as ProducerInside
 use Rattle.alog_pool.specs.contracts.shared.Shared as Shared
@@ -65,18 +65,18 @@ keep_lane_send = Arc-send KeepLane
     (lane_send Backtrace.the_row KeepItem.the_row KeepReply.the_row Scratch.the_row keep_ghosts backtrace_send)
     (lane_sync Backtrace.the_row KeepItem.the_row KeepReply.the_row Scratch.the_row keep_ghosts backtrace_send)
 
-keeping_inside_send : IsSend KeepingInside.the_row
-keeping_inside_send = recorded_send (KeepingInside.the_field).row _ _ (KeepingInside.the_type).to_one (struct_send
-    (shape KeepingInside.the_type) (keep_lane_send, (keep_seat_send, (scratch_send, (search sendable, (search sendable, tt))))))
+backtrace_seat_inside_send : IsSend BacktraceSeatInside.the_row
+backtrace_seat_inside_send = recorded_send (BacktraceSeatInside.the_field).row _ _ (BacktraceSeatInside.the_type).to_one (struct_send
+    (shape BacktraceSeatInside.the_type) (keep_lane_send, (keep_seat_send, (scratch_send, (search sendable, (search sendable, tt))))))
 
-pub keeping_send : IsSend Keeping.the_row
-keeping_send = view_send _ _ _ _ _ keeping_inside_send
+pub backtrace_seat_send : IsSend BacktraceSeat.the_row
+backtrace_seat_send = view_send _ _ _ _ _ backtrace_seat_inside_send
 
 producer_inside_send : IsSend ProducerInside.the_row
 producer_inside_send = recorded_send (ProducerInside.the_field).row _ _ (ProducerInside.the_type).to_one (struct_send
     (shape ProducerInside.the_type) (
       arc_shared_send,
-      (pass_send Item.the_row item_send, (book_seat_send, (Vec-send Keeping.the_row keeping_send, (search sendable, (search sendable, tt))))),
+      (pass_send Item.the_row item_send, (book_seat_send, (Vec-send BacktraceSeat.the_row backtrace_seat_send, (search sendable, (search sendable, tt))))),
     ))
 
 pub producer_send : IsSend Producer.the_row
@@ -89,29 +89,29 @@ module _ (S : RattleType) (g : Ghosts S.Denot) where
   abbrev SinkLane : RattleType
   SinkLane = Lane.the_row (Sink.the_row S) Item.the_row Answer LineBuf.the_row (Turn.ghosts S g Turn.no_dict)
 
-  pub sink_seat_send : IsSend S → IsSend (LaneSeat.the_row (Sink.the_row S) Item.the_row Answer LineBuf.the_row (Turn.ghosts S g Turn.no_dict))
-  sink_seat_send s = seat_send (Sink.the_row S) Item.the_row Answer LineBuf.the_row (Turn.ghosts S g Turn.no_dict) (sink_send S s)
+  pub sink_lane_seat_send : IsSend S → IsSend (LaneSeat.the_row (Sink.the_row S) Item.the_row Answer LineBuf.the_row (Turn.ghosts S g Turn.no_dict))
+  sink_lane_seat_send s = seat_send (Sink.the_row S) Item.the_row Answer LineBuf.the_row (Turn.ghosts S g Turn.no_dict) (sink_send S s)
 
   pub sink_lane_send : IsSend S → IsSend (Arc.the_row SinkLane Global.the_row alloc_ghosts)
   sink_lane_send s = Arc-send SinkLane
       (lane_send (Sink.the_row S) Item.the_row Answer LineBuf.the_row (Turn.ghosts S g Turn.no_dict) (sink_send S s))
       (lane_sync (Sink.the_row S) Item.the_row Answer LineBuf.the_row (Turn.ghosts S g Turn.no_dict) (sink_send S s))
 
-  berth_inside_send : IsSend S → IsSend (BerthInside.the_row S g)
-  berth_inside_send s = recorded_send (BerthInside.the_field S g).row _ _ (BerthInside.the_type S g).to_one (struct_send
-      (shape (BerthInside.the_type S g)) (sink_lane_send s, (sink_seat_send s, (search sendable, (search sendable, tt)))))
+  sink_seat_inside_send : IsSend S → IsSend (SinkSeatInside.the_row S g)
+  sink_seat_inside_send s = recorded_send (SinkSeatInside.the_field S g).row _ _ (SinkSeatInside.the_type S g).to_one (struct_send
+      (shape (SinkSeatInside.the_type S g)) (sink_lane_send s, (sink_lane_seat_send s, (search sendable, (search sendable, tt)))))
 
-  pub berth_send : IsSend S → IsSend (Berth.the_row S g)
-  berth_send s = view_send _ _ _ _ _ (berth_inside_send s)
+  pub sink_seat_send : IsSend S → IsSend (SinkSeat.the_row S g)
+  sink_seat_send s = view_send _ _ _ _ _ (sink_seat_inside_send s)
 
-  pub hand_send : IsSend S → IsSend (Hand.the_row S g)
-  hand_send s = recorded_send (Hand.the_field S g).row _ _ (Hand.the_type S g).to_one (struct_send
-      (shape (Hand.the_type S g)) (
+  pub worker_send : IsSend S → IsSend (Worker.the_row S g)
+  worker_send s = recorded_send (Worker.the_field S g).row _ _ (Worker.the_type S g).to_one (struct_send
+      (shape (Worker.the_type S g)) (
         arc_shared_send,
         (
           pass_send Item.the_row item_send,
           (
-            Vec-send (Berth.the_row S g) (berth_send s),
+            Vec-send (SinkSeat.the_row S g) (sink_seat_send s),
             (
               line_send,
               (

@@ -13,7 +13,7 @@ use Rattle.alog_core.specs.Accounts.{takes}
 use Rattle.alog_msg.specs.declared.item.Item.{Item}
 use Rattle.alog_msg.specs.declared.item.Item.TheVariants.{Stop}
 use Rattle.alog_pool.specs.Accounts.{Moved}
-use Rattle.alog_pool.specs.Berth.{Answer, BerthView, Serves, fault_in}
+use Rattle.alog_pool.specs.SinkSeat.{Answer, SinkSeatView, Serves, fault_in}
 use Rattle.alog_pool.specs.Deeds.{Due, due_by, dues_by, dues_of, all_dues, dues_on, faults_in, HasMade, HaveMade}
 use Rattle.alog_pool.proofs.Worked.{moved_gots}
 use Rattle.alog_registry.specs.Work.{turns_of}
@@ -79,10 +79,10 @@ dues_whole o spec logger ticket x k is at =
     (take_whole (map f (turns_of spec ticket x)) k none)
 
 module _ {S : Type 0} where
-  none_made : (b : BerthView S) → HasMade b b []
+  none_made : (b : SinkSeatView S) → HasMade b b []
   none_made b = record { number = refl; entries = []; own = sym (append-nil b.seat.known.own); turns_are = refl; counted = λ is. is }
 
-  made_then : (a b c : BerthView S) (first second : List (ℕ × Item)) → HasMade a b first → HasMade b c second → HasMade a c (first ++ second)
+  made_then : (a b c : SinkSeatView S) (first second : List (ℕ × Item)) → HasMade a b first → HasMade b c second → HasMade a c (first ++ second)
   made_then a b c first second one two = record {
     number = two.number ∙ one.number;
     entries = one.entries ++ two.entries;
@@ -92,7 +92,7 @@ module _ {S : Type 0} where
   }
 
   -- one turn
-  pub made_one : (tells : _) (files : S → Files) (failures : S → ℕ) (old new : BerthView S) (tag : ℕ) (item : Item)
+  pub made_one : (tells : _) (files : S → Files) (failures : S → ℕ) (old new : SinkSeatView S) (tag : ℕ) (item : Item)
       → Serves tells files failures old tag item new → HasMade old new ((tag, item) ∷ [])
   made_one tells files failures old new tag item s =
       let entry : Deed = record { seat = old.seat.known.seat; deed = s.deed } in
@@ -109,11 +109,11 @@ module _ {S : Type 0} where
             ∙ mod-add-mod (faults_in old.seat.known.own) (2 ^ 64) (fault_in s.deed.reply) ∙ ap (λ n. n % 2 ^ 64) (sym more);
       }
 
-  pub have_none : (s : ℕ) (bs : List (BerthView S)) → HaveMade s bs bs []
+  pub have_none : (s : ℕ) (bs : List (SinkSeatView S)) → HaveMade s bs bs []
   have_none s [] = tt
   have_none s (b ∷ bs) = (none_made b, have_none (s + 1) bs)
 
-  pub have_then : (s : ℕ) (os bs cs : List (BerthView S)) (first second : List Due) → HaveMade s os bs first → HaveMade s bs cs second
+  pub have_then : (s : ℕ) (os bs cs : List (SinkSeatView S)) (first second : List Due) → HaveMade s os bs first → HaveMade s bs cs second
       → HaveMade s os cs (first ++ second)
   have_then s [] [] [] first second one two = tt
   have_then s [] [] (c ∷ cs) first second one two = absurd two
@@ -127,20 +127,20 @@ module _ {S : Type 0} where
   )
 
   -- a turn on a sink that is none of these
-  made_elsewhere : (s : ℕ) (b : BerthView S) (due : Due) → due.sink ≢ s → HasMade b b (dues_on s (due ∷ []))
+  made_elsewhere : (s : ℕ) (b : SinkSeatView S) (due : Due) → due.sink ≢ s → HasMade b b (dues_on s (due ∷ []))
   made_elsewhere s b due apart =
       subst (λ (l : List (ℕ × Item)). HasMade b b l) (sym (at_other due.sink s ((due.tag, due.item) ∷ []) [] apart)) (none_made b)
 
-  below : (s : ℕ) (bs : List (BerthView S)) (due : Due) → due.sink < s → HaveMade s bs bs (due ∷ [])
+  below : (s : ℕ) (bs : List (SinkSeatView S)) (due : Due) → due.sink < s → HaveMade s bs bs (due ∷ [])
   below s [] due low = tt
   below s (b ∷ bs) due low = (made_elsewhere s b due (λ e. omega (arith, e, low)), below (s + 1) bs due (omega (arith, low)))
 
-  past : (s : ℕ) (bs : List (BerthView S)) (due : Due) → s + length bs ≤ due.sink → HaveMade s bs bs (due ∷ [])
+  past : (s : ℕ) (bs : List (SinkSeatView S)) (due : Due) → s + length bs ≤ due.sink → HaveMade s bs bs (due ∷ [])
   past s [] due high = tt
   past s (b ∷ bs) due high = (made_elsewhere s b due (λ e. omega (arith, e, high)), past (s + 1) bs due (omega (arith, high)))
 
   -- a turn on the sink of one of these places
-  one_at : (s i : ℕ) (bs : List (BerthView S)) (c d : BerthView S) (due : Due) → due.sink ≡ s + i → i < length bs
+  one_at : (s i : ℕ) (bs : List (SinkSeatView S)) (c d : SinkSeatView S) (due : Due) → due.sink ≡ s + i → i < length bs
       → HasMade (slice_index_or bs i d) c ((due.tag, due.item) ∷ []) → HaveMade s bs (set bs i c) (due ∷ [])
   one_at s i [] c d due is low made = absurd (omega (arith, low))
   one_at s zero (b ∷ bs) c d due is low made = (
@@ -152,23 +152,23 @@ module _ {S : Type 0} where
     one_at (s + 1) i bs c d due (omega (arith, is)) (omega (arith, low)) made,
   )
 
-  pub have_one : (bs : List (BerthView S)) (i tag : ℕ) (item : Item) (c d : BerthView S) → i < length bs
+  pub have_one : (bs : List (SinkSeatView S)) (i tag : ℕ) (item : Item) (c d : SinkSeatView S) → i < length bs
       → HasMade (slice_index_or bs i d) c ((tag, item) ∷ []) → HaveMade 0 bs (set bs i c) (record { sink = i; tag = tag; item = item } ∷ [])
   have_one bs i tag item c d low made = one_at 0 i bs c d (record { sink = i; tag = tag; item = item }) (omega arith) low made
 
-  pub have_past : (bs : List (BerthView S)) (i tag : ℕ) (item : Item) → length bs ≤ i
+  pub have_past : (bs : List (SinkSeatView S)) (i tag : ℕ) (item : Item) → length bs ≤ i
       → HaveMade 0 bs bs (record { sink = i; tag = tag; item = item } ∷ [])
   have_past bs i tag item high = past 0 bs (record { sink = i; tag = tag; item = item }) (omega (arith, high))
 
   -- the turns for the items of a worker's takes, after one more
-  pub made_for_stop : (loggers : List Logger) (bs cs : List (BerthView S)) (gots : List (ℕ × Item)) (t : ℕ) (x : Item) → x ≡ Stop
+  pub made_for_stop : (loggers : List Logger) (bs cs : List (SinkSeatView S)) (gots : List (ℕ × Item)) (t : ℕ) (x : Item) → x ≡ Stop
       → HaveMade 0 bs cs (all_dues loggers gots) → HaveMade 0 bs cs (all_dues loggers (gots ++ (t, x) ∷ []))
   made_for_stop loggers bs cs gots t x is made =
       subst (λ (z : Item). HaveMade 0 bs cs (all_dues loggers (gots ++ (t, z) ∷ []))) (sym is)
       (subst (λ (l : List Due). HaveMade 0 bs cs l) (sym (all_dues-append loggers gots ((t, Stop) ∷ [])))
       (have_then 0 bs cs cs (all_dues loggers gots) [] made (have_none 0 cs)))
 
-  pub made_for : (loggers : List Logger) (bs cs ds : List (BerthView S)) (gots : List (ℕ × Item)) (t : ℕ) (x : Item)
+  pub made_for : (loggers : List Logger) (bs cs ds : List (SinkSeatView S)) (gots : List (ℕ × Item)) (t : ℕ) (x : Item)
       → HaveMade 0 bs cs (all_dues loggers gots) → HaveMade 0 cs ds (dues_of loggers t x)
       → HaveMade 0 bs ds (all_dues loggers (gots ++ (t, x) ∷ []))
   made_for loggers bs cs ds gots t x made more =

@@ -10,7 +10,7 @@ use Rattle.alog_lane.specs.Turns.{Turned, Leads}
 use Rattle.alog_msg.specs.declared.item.Item.{Item}
 use Rattle.alog_msg.specs.declared.item.Item.TheVariants.{Text, Flush, Stop}
 use Rattle.alog_msg.specs.declared.message.Message.{Message}
-use Rattle.alog_pool.specs.Berth.{Answer, fault_in}
+use Rattle.alog_pool.specs.SinkSeat.{Answer, fault_in}
 use Rattle.alog_pool.specs.Deeds.{faults_in, told}
 use Rattle.alog_pool.specs.OneWorker.{HoldsMore, texts_in}
 use Rattle.alog_sink.proofs.LaneRuns.{fan_writes, leaf_writes}

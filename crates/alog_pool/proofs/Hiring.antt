@@ -9,9 +9,9 @@ use Rattle.alog_core.specs.World.{is_size}
 use Rattle.alog_core.proofs.Sizes.{size_facts}
 use Rattle.alog_msg.specs.declared.item.Item.{Item}
 use Rattle.alog_pool.specs.Accounts.{of_work, work_tickets}
-use Rattle.alog_pool.specs.Berth.{BerthView, places_of}
+use Rattle.alog_pool.specs.SinkSeat.{SinkSeatView, places_of}
 use Rattle.alog_pool.specs.Working.{AreLimited, IsFresh, IsWorkOf, numbers_of}
-use Rattle.alog_pool.specs.declared.hand.Hand.{Hand}
+use Rattle.alog_pool.specs.declared.worker.Worker.{Worker}
 use Rattle.alog_pool.proofs.Back.{map_more}
 use Rattle.alog_ring.specs.Kinds.{no_note}
 use Rattle.alog_ring.specs.Known.{Known, PassView}
@@ -48,8 +48,8 @@ fresh_part old new given s =
     }
 
 -- places of the pool's text limit
-pub limited : {S : Type 0} (most limit : ℕ) (bs : List (BerthView S)) → most ≡ limit
-    → AllByRecursion (λ (b : BerthView S). b.limit ≡ limit) bs → AreLimited most (places_of bs)
+pub limited : {S : Type 0} (most limit : ℕ) (bs : List (SinkSeatView S)) → most ≡ limit
+    → AllByRecursion (λ (b : SinkSeatView S). b.limit ≡ limit) bs → AreLimited most (places_of bs)
 limited most limit [] same all = tt
 limited most limit (b ∷ bs) same all = (all.0 ∙ sym same, limited most limit bs same all.1)
 
@@ -75,11 +75,11 @@ some_size n true is apart = let facts = size_facts n is in omega (arith, facts.1
 some_size n false is apart = absurd (apart is)
 
 -- numbers that go on
-pub number_more : {S A : Type 0} (f : A → Hand S) (xs : List A) (a : A) (n : ℕ) → numbers_of (map f xs) ≡ range_with_len 0 n
+pub number_more : {S A : Type 0} (f : A → Worker S) (xs : List A) (a : A) (n : ℕ) → numbers_of (map f xs) ≡ range_with_len 0 n
     → (f a).number ≡ n → numbers_of (map f (xs ++ a ∷ [])) ≡ range_with_len 0 (n + 1)
 number_more {S} {A} f xs a n are next =
     let go : List ℕ → List ℕ = λ l. map (λ (i : ℕ). i) l in
     let longer : go (range_with_len 0 (n + 1)) ≡ go (range_with_len 0 n) ++ n ∷ [] = map-range_with_len_more (λ (i : ℕ). i) 0 n n (omega arith) in
-    ap (λ l. numbers_of l) (map_more f xs a) ∙ map_more (λ (h : Hand S). h.number) (map f xs) (f a)
+    ap (λ l. numbers_of l) (map_more f xs a) ∙ map_more (λ (h : Worker S). h.number) (map f xs) (f a)
     ∙ ap (λ l. l ++ (f a).number ∷ []) are ∙ ap (λ i. range_with_len 0 n ++ i ∷ []) next
     ∙ sym (sym (map-id (range_with_len 0 (n + 1))) ∙ longer ∙ ap (λ l. l ++ n ∷ []) (map-id (range_with_len 0 n)))

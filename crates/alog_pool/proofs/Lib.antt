@@ -11,7 +11,7 @@ pub mod Sharing
 pub mod Parts
 pub mod Crosses
 pub mod Hiring
-pub mod Grounding
+pub mod FirstParts
 pub mod Back
 pub mod Halting
 pub mod Rows

@@ -10,13 +10,13 @@ use Rattle.alog_lane.specs.Seats.{AreExact, IsAmong, Member, own_of}
 use Rattle.alog_lane.specs.Turns.{Turned, Leads}
 use Rattle.alog_msg.specs.declared.item.Item.{Item}
 use Rattle.alog_pool.specs.Back.{seat_member}
-use Rattle.alog_pool.specs.Berth.{Answer, BerthView}
+use Rattle.alog_pool.specs.SinkSeat.{Answer, SinkSeatView}
 use Rattle.alog_pool.specs.Deeds.{Due, all_dues, dues_on, faults_in, told}
 use Rattle.alog_pool.specs.OneWorker.{AreWritten, IsWritten, OneWorkerWritesInOrder, WritesInOrder}
 use Rattle.alog_pool.specs.Pool.{PoolView, lanes_of}
 use Rattle.alog_pool.specs.Producer.{ProducerView}
 use Rattle.alog_pool.specs.Report.{AllCameOut, AreClosed, HasServed, IsClosed, MadeAll}
-use Rattle.alog_pool.specs.declared.hand.Hand.{Hand}
+use Rattle.alog_pool.specs.declared.worker.Worker.{Worker}
 use Rattle.alog_pool.specs.declared.report.Report.{Report}
 use Rattle.alog_pool.proofs.Held.{Turn, texts_held}
 use Rattle.alog_pool.proofs.Served.{takes_rise}
@@ -47,7 +47,7 @@ only a b (x ∷ h) all none =
     none
 
 module _ {S : Type 0} (tells : Bool) (files : S → Files) (failures : S → ℕ) where
-  closed_one : (l : LaneId (Sink S)) (b : BerthView S) (k : Sink S) (f : ℕ) (turns : List (ℕ × Item))
+  closed_one : (l : LaneId (Sink S)) (b : SinkSeatView S) (k : Sink S) (f : ℕ) (turns : List (ℕ × Item))
       → IsClosed tells files failures l (b ∷ []) k f → told b.seat.known.own ≡ turns → IsWritten tells files failures l.first k f turns
   closed_one l b k f turns c made =
       let m : One = seat_member b in
@@ -57,7 +57,7 @@ module _ {S : Type 0} (tells : Bool) (files : S → Files) (failures : S → ℕ
       let mine : own_of c.end.seat c.end.seen ≡ [] = sym c.closes.faithful.own ∙ c.own in
       let all : m.own ≡ c.end.seen = exact.0 ∙ only c.end.seat m.seat c.end.seen whole mine in
       let leads = subst (λ (h : List Turn). Leads (Turns tells files failures) l.first h k) (sym all) c.closes.leads in
-      let t : BerthView S → ℕ = λ z. faults_in z.seat.known.own in
+      let t : SinkSeatView S → ℕ = λ z. faults_in z.seat.known.own in
       let single : sum_by t (b ∷ []) ≡ t b = sum_by-cons t b [] ∙ omega arith in
       let counted : f ≡ faults_in m.own % 2 ^ 64 = c.faults_are ∙ ap (λ (n : ℕ). n % 2 ^ 64) single in
       record {
@@ -68,7 +68,7 @@ module _ {S : Type 0} (tells : Bool) (files : S → Files) (failures : S → ℕ
         holds = texts_held tells files failures l.first k m.own f turns leads made counted;
       }
 
-  closed_all : (s : ℕ) (ls : List (LaneId (Sink S))) (bs : List (BerthView S)) (ks : List (Sink S)) (fs : List ℕ) (dues : List Due)
+  closed_all : (s : ℕ) (ls : List (LaneId (Sink S))) (bs : List (SinkSeatView S)) (ks : List (Sink S)) (fs : List ℕ) (dues : List Due)
       → AreClosed tells files failures ls (bs ∷ []) ks fs → lanes_of bs ≡ ls → MadeAll s bs dues
       → AreWritten tells files failures s ls ks fs dues
   closed_all s [] bs [] [] dues closed same made = tt
@@ -81,9 +81,9 @@ module _ {S : Type 0} (tells : Bool) (files : S → Files) (failures : S → ℕ
       let rest : lanes_of bs ≡ ls = cc same in
       (closed_one l b k f (dues_on s dues) closed.0 made.0, closed_all (s + 1) ls bs ks fs dues closed.1 rest made.1)
 
-  by_one : (pool : PoolView S) (producers : List ProducerView) (r : Report S) (hands : List (Hand S)) → length hands ≡ 1
-      → AllByRecursion (HasServed pool.shared.loggers (lanes_of pool.berths) pool.most) hands → AllCameOut producers hands
-      → AreClosed tells files failures (lanes_of pool.berths) (map (λ (h : Hand S). h.berths.items) hands) r.sinks.items r.faults.items
+  by_one : (pool : PoolView S) (producers : List ProducerView) (r : Report S) (crew : List (Worker S)) → length crew ≡ 1
+      → AllByRecursion (HasServed pool.shared.loggers (lanes_of pool.sink_seats) pool.most) crew → AllCameOut producers crew
+      → AreClosed tells files failures (lanes_of pool.sink_seats) (map (λ (h : Worker S). h.sink_seats.items) crew) r.sinks.items r.faults.items
       → WritesInOrder tells files failures pool producers r
   by_one pool producers r [] one served out closed = absurd (omega (arith, one))
   by_one pool producers r (h ∷ k ∷ hs) one served out closed = absurd (omega (arith, one))
@@ -91,14 +91,14 @@ module _ {S : Type 0} (tells : Bool) (files : S → Files) (failures : S → ℕ
     items = takes h.pass.known.own;
     rise = takes_rise pool.most h.pass.known h.tickets.items h.handled served.0.work;
     posted = λ w nothing.
-        let t : Hand S → ℕ = λ z. taken w z.pass.known.own in
+        let t : Worker S → ℕ = λ z. taken w z.pass.known.own in
         let all = out w nothing in
         let single : sum_by t (h ∷ []) ≡ t h + sum_by t [] = sum_by-cons t h [] in
         omega (arith, all, single);
-    written = closed_all 0 (lanes_of pool.berths) h.berths.items r.sinks.items r.faults.items
+    written = closed_all 0 (lanes_of pool.sink_seats) h.sink_seats.items r.sinks.items r.faults.items
         (all_dues pool.shared.loggers (takes h.pass.known.own)) closed served.0.lanes_are served.0.turns;
   }
 
   pub one_worker_writes_in_order : OneWorkerWritesInOrder tells files failures
   one_worker_writes_in_order pool producers r ends single =
-      by_one pool producers r ends.hands (ends.count ∙ single) ends.served ends.out ends.sinks
+      by_one pool producers r ends.crew (ends.count ∙ single) ends.served ends.out ends.sinks

@@ -2,7 +2,7 @@
 use Rattle.std.proofs.Common.{◌≡◌, ◌≤◌, ℕ, Bool, sym, subst, arith}
 use Rattle.alog_pattern.specs.Compiled.{longest}
 use Rattle.alog_pattern.specs.declared.patterns.TheConstants.{LINE_MAX}
-use Rattle.alog_pool.specs.Berth.{Suits}
+use Rattle.alog_pool.specs.SinkSeat.{Suits}
 use Rattle.alog_sink.specs.Files.{Files}
 use Rattle.alog_sink.specs.Lines.{MayWrite}
 use Rattle.alog_sink.specs.Opened.{Opened}

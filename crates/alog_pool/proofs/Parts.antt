@@ -2,44 +2,44 @@
 use Rattle.std.proofs.Common.{◌≡◌, ◌<◌, ℕ, suc, ◌+◌, List, [], ◌∷◌, length, refl, ap, ◌∙◌, arith}
 use Rattle.std.specs.List.{AllByRecursion}
 use Rattle.alog_lane.specs.declared.seat.TheConstants.{ALL_PARTS}
-use Rattle.alog_pool.specs.Berth.{BerthView}
-use Rattle.alog_pool.specs.Keeping.{KeepingView}
-use Rattle.alog_pool.specs.Places.{Each3, IsPart, IsKeepingPart, AreSpare}
-use Rattle.alog_pool.specs.Pool.{IsNew, IsUnused, keeping_lanes, lanes_of}
-use Rattle.alog_pool.specs.Producer.{AreKeepings}
+use Rattle.alog_pool.specs.SinkSeat.{SinkSeatView}
+use Rattle.alog_pool.specs.BacktraceSeat.{BacktraceSeatView}
+use Rattle.alog_pool.specs.Places.{Each3, IsPart, IsBacktraceSeatPart, AreSpare}
+use Rattle.alog_pool.specs.Pool.{IsNew, IsUnused, backtrace_seat_lanes, lanes_of}
+use Rattle.alog_pool.specs.Producer.{AreBacktraceSeats}
 
 module _ {S : Type 0} where
-  pub are_spare : (n : ℕ) (bs : List (BerthView S)) → n < 64
-      → AllByRecursion (λ (b : BerthView S). b.seat.known.parts + n ≡ ALL_PARTS) bs → AreSpare bs
+  pub are_spare : (n : ℕ) (bs : List (SinkSeatView S)) → n < 64
+      → AllByRecursion (λ (b : SinkSeatView S). b.seat.known.parts + n ≡ ALL_PARTS) bs → AreSpare bs
   are_spare n [] few all = tt
   are_spare n (b ∷ bs) few all = let one = all.0 in (omega (arith, few, one), are_spare n bs few all.1)
 
-  pub berth_parts_left : (n : ℕ) (old new given : List (BerthView S)) → n < 64 → Each3 IsPart old new given
-      → AllByRecursion (λ (b : BerthView S). b.seat.known.parts + n ≡ ALL_PARTS) old
-      → AllByRecursion (λ (b : BerthView S). b.seat.known.parts + (n + 1) ≡ ALL_PARTS) new
-  berth_parts_left n [] [] [] few each all = tt
-  berth_parts_left n [] [] (d ∷ ds) few each all = absurd each
-  berth_parts_left n [] (c ∷ cs) given few each all = absurd each
-  berth_parts_left n (b ∷ bs) [] given few each all = absurd each
-  berth_parts_left n (b ∷ bs) (c ∷ cs) [] few each all = absurd each
-  berth_parts_left n (b ∷ bs) (c ∷ cs) (d ∷ ds) few each all =
+  pub sink_seat_parts_left : (n : ℕ) (old new given : List (SinkSeatView S)) → n < 64 → Each3 IsPart old new given
+      → AllByRecursion (λ (b : SinkSeatView S). b.seat.known.parts + n ≡ ALL_PARTS) old
+      → AllByRecursion (λ (b : SinkSeatView S). b.seat.known.parts + (n + 1) ≡ ALL_PARTS) new
+  sink_seat_parts_left n [] [] [] few each all = tt
+  sink_seat_parts_left n [] [] (d ∷ ds) few each all = absurd each
+  sink_seat_parts_left n [] (c ∷ cs) given few each all = absurd each
+  sink_seat_parts_left n (b ∷ bs) [] given few each all = absurd each
+  sink_seat_parts_left n (b ∷ bs) (c ∷ cs) [] few each all = absurd each
+  sink_seat_parts_left n (b ∷ bs) (c ∷ cs) (d ∷ ds) few each all =
       let one = all.0 in
       let kept = ap (λ k. k.parts) each.0.split.kept in
-      (omega (arith, few, one, kept), berth_parts_left n bs cs ds few each.1 all.1)
+      (omega (arith, few, one, kept), sink_seat_parts_left n bs cs ds few each.1 all.1)
 
-  pub berth_limits : (limit : ℕ) (old new given : List (BerthView S)) → Each3 IsPart old new given
-      → AllByRecursion (λ (b : BerthView S). b.limit ≡ limit) old
-      → AllByRecursion (λ (b : BerthView S). b.limit ≡ limit) new × AllByRecursion (λ (b : BerthView S). b.limit ≡ limit) given
-  berth_limits limit [] [] [] each all = (tt, tt)
-  berth_limits limit [] [] (d ∷ ds) each all = absurd each
-  berth_limits limit [] (c ∷ cs) given each all = absurd each
-  berth_limits limit (b ∷ bs) [] given each all = absurd each
-  berth_limits limit (b ∷ bs) (c ∷ cs) [] each all = absurd each
-  berth_limits limit (b ∷ bs) (c ∷ cs) (d ∷ ds) each all =
-      let rest = berth_limits limit bs cs ds each.1 all.1 in
+  pub sink_seat_limits : (limit : ℕ) (old new given : List (SinkSeatView S)) → Each3 IsPart old new given
+      → AllByRecursion (λ (b : SinkSeatView S). b.limit ≡ limit) old
+      → AllByRecursion (λ (b : SinkSeatView S). b.limit ≡ limit) new × AllByRecursion (λ (b : SinkSeatView S). b.limit ≡ limit) given
+  sink_seat_limits limit [] [] [] each all = (tt, tt)
+  sink_seat_limits limit [] [] (d ∷ ds) each all = absurd each
+  sink_seat_limits limit [] (c ∷ cs) given each all = absurd each
+  sink_seat_limits limit (b ∷ bs) [] given each all = absurd each
+  sink_seat_limits limit (b ∷ bs) (c ∷ cs) [] each all = absurd each
+  sink_seat_limits limit (b ∷ bs) (c ∷ cs) (d ∷ ds) each all =
+      let rest = sink_seat_limits limit bs cs ds each.1 all.1 in
       ((each.0.same.1 ∙ all.0, rest.0), (each.0.given_lane.1 ∙ all.0, rest.1))
 
-  pub same_lanes : (old new given : List (BerthView S)) → Each3 IsPart old new given
+  pub same_lanes : (old new given : List (SinkSeatView S)) → Each3 IsPart old new given
       → (lanes_of new ≡ lanes_of old) × (lanes_of given ≡ lanes_of old)
   same_lanes [] [] [] each = (refl, refl)
   same_lanes [] [] (d ∷ ds) each = absurd each
@@ -50,7 +50,7 @@ module _ {S : Type 0} where
       let rest = same_lanes bs cs ds each.1 in
       ((λ k. each.0.same.0 k ∷ rest.0 k), (λ k. each.0.given_lane.0 k ∷ rest.1 k))
 
-  pub given_new : (old new given : List (BerthView S)) → Each3 IsPart old new given → AllByRecursion IsNew given
+  pub given_new : (old new given : List (SinkSeatView S)) → Each3 IsPart old new given → AllByRecursion IsNew given
   given_new [] [] [] each = tt
   given_new [] [] (d ∷ ds) each = absurd each
   given_new [] (c ∷ cs) given each = absurd each
@@ -65,7 +65,7 @@ module _ {S : Type 0} where
         given_new bs cs ds each.1,
       )
 
-  pub still_unused : (old new given : List (BerthView S)) → Each3 IsPart old new given → AllByRecursion IsUnused old
+  pub still_unused : (old new given : List (SinkSeatView S)) → Each3 IsPart old new given → AllByRecursion IsUnused old
       → AllByRecursion IsUnused new
   still_unused [] [] [] each all = tt
   still_unused [] [] (d ∷ ds) each all = absurd each
@@ -82,34 +82,34 @@ module _ {S : Type 0} where
         still_unused bs cs ds each.1 all.1,
       )
 
-pub keepings_spare : (n : ℕ) (ks : List KeepingView) → n < 4096
-    → AllByRecursion (λ (k : KeepingView). k.seat.known.parts + n ≡ ALL_PARTS) ks
-    → AllByRecursion (λ (k : KeepingView). 1 < k.seat.known.parts) ks
-keepings_spare n [] few all = tt
-keepings_spare n (k ∷ ks) few all = let one = all.0 in (omega (arith, few, one), keepings_spare n ks few all.1)
+pub backtrace_seats_spare : (n : ℕ) (ks : List BacktraceSeatView) → n < 4096
+    → AllByRecursion (λ (k : BacktraceSeatView). k.seat.known.parts + n ≡ ALL_PARTS) ks
+    → AllByRecursion (λ (k : BacktraceSeatView). 1 < k.seat.known.parts) ks
+backtrace_seats_spare n [] few all = tt
+backtrace_seats_spare n (k ∷ ks) few all = let one = all.0 in (omega (arith, few, one), backtrace_seats_spare n ks few all.1)
 
-pub keeping_parts_left : (n : ℕ) (old new given : List KeepingView) → n < 4096 → Each3 IsKeepingPart old new given
-    → AllByRecursion (λ (k : KeepingView). k.seat.known.parts + n ≡ ALL_PARTS) old
-    → AllByRecursion (λ (k : KeepingView). k.seat.known.parts + (n + 1) ≡ ALL_PARTS) new
-keeping_parts_left n [] [] [] few each all = tt
-keeping_parts_left n [] [] (d ∷ ds) few each all = absurd each
-keeping_parts_left n [] (c ∷ cs) given few each all = absurd each
-keeping_parts_left n (b ∷ bs) [] given few each all = absurd each
-keeping_parts_left n (b ∷ bs) (c ∷ cs) [] few each all = absurd each
-keeping_parts_left n (b ∷ bs) (c ∷ cs) (d ∷ ds) few each all =
+pub backtrace_seat_parts_left : (n : ℕ) (old new given : List BacktraceSeatView) → n < 4096 → Each3 IsBacktraceSeatPart old new given
+    → AllByRecursion (λ (k : BacktraceSeatView). k.seat.known.parts + n ≡ ALL_PARTS) old
+    → AllByRecursion (λ (k : BacktraceSeatView). k.seat.known.parts + (n + 1) ≡ ALL_PARTS) new
+backtrace_seat_parts_left n [] [] [] few each all = tt
+backtrace_seat_parts_left n [] [] (d ∷ ds) few each all = absurd each
+backtrace_seat_parts_left n [] (c ∷ cs) given few each all = absurd each
+backtrace_seat_parts_left n (b ∷ bs) [] given few each all = absurd each
+backtrace_seat_parts_left n (b ∷ bs) (c ∷ cs) [] few each all = absurd each
+backtrace_seat_parts_left n (b ∷ bs) (c ∷ cs) (d ∷ ds) few each all =
     let one = all.0 in
     let kept = ap (λ k. k.parts) each.0.split.kept in
-    (omega (arith, few, one, kept), keeping_parts_left n bs cs ds few each.1 all.1)
+    (omega (arith, few, one, kept), backtrace_seat_parts_left n bs cs ds few each.1 all.1)
 
-pub keepings_limits : (limit : ℕ) (old new given : List KeepingView) → Each3 IsKeepingPart old new given → AreKeepings limit old
-    → AreKeepings limit new × AreKeepings limit given
-keepings_limits limit [] [] [] each all = (tt, tt)
-keepings_limits limit [] [] (d ∷ ds) each all = absurd each
-keepings_limits limit [] (c ∷ cs) given each all = absurd each
-keepings_limits limit (b ∷ bs) [] given each all = absurd each
-keepings_limits limit (b ∷ bs) (c ∷ cs) [] each all = absurd each
-keepings_limits limit (b ∷ bs) (c ∷ cs) (d ∷ ds) each all =
-    let rest = keepings_limits limit bs cs ds each.1 all.1 in (
+pub backtrace_seats_limits : (limit : ℕ) (old new given : List BacktraceSeatView) → Each3 IsBacktraceSeatPart old new given → AreBacktraceSeats limit old
+    → AreBacktraceSeats limit new × AreBacktraceSeats limit given
+backtrace_seats_limits limit [] [] [] each all = (tt, tt)
+backtrace_seats_limits limit [] [] (d ∷ ds) each all = absurd each
+backtrace_seats_limits limit [] (c ∷ cs) given each all = absurd each
+backtrace_seats_limits limit (b ∷ bs) [] given each all = absurd each
+backtrace_seats_limits limit (b ∷ bs) (c ∷ cs) [] each all = absurd each
+backtrace_seats_limits limit (b ∷ bs) (c ∷ cs) (d ∷ ds) each all =
+    let rest = backtrace_seats_limits limit bs cs ds each.1 all.1 in (
       (ap (λ l. l.first.limit) each.0.same.0 ∙ all.0, rest.0),
       (ap (λ l. l.first.limit) each.0.given_lane ∙ all.0, rest.1),
     )
@@ -124,13 +124,13 @@ each3_lengths R (x ∷ xs) (y ∷ ys) [] each = absurd each
 each3_lengths R (x ∷ xs) (y ∷ ys) (z ∷ zs) each =
     let rest = each3_lengths R xs ys zs each.1 in ((λ k. suc (rest.0 k)), (λ k. suc (rest.1 k)))
 
-pub same_keepings : (old new given : List KeepingView) → Each3 IsKeepingPart old new given
-    → (keeping_lanes given ≡ keeping_lanes old) × (keeping_lanes new ≡ keeping_lanes old)
-same_keepings [] [] [] each = (refl, refl)
-same_keepings [] [] (d ∷ ds) each = absurd each
-same_keepings [] (c ∷ cs) given each = absurd each
-same_keepings (b ∷ bs) [] given each = absurd each
-same_keepings (b ∷ bs) (c ∷ cs) [] each = absurd each
-same_keepings (b ∷ bs) (c ∷ cs) (d ∷ ds) each =
-    let rest = same_keepings bs cs ds each.1 in
+pub same_backtrace_seats : (old new given : List BacktraceSeatView) → Each3 IsBacktraceSeatPart old new given
+    → (backtrace_seat_lanes given ≡ backtrace_seat_lanes old) × (backtrace_seat_lanes new ≡ backtrace_seat_lanes old)
+same_backtrace_seats [] [] [] each = (refl, refl)
+same_backtrace_seats [] [] (d ∷ ds) each = absurd each
+same_backtrace_seats [] (c ∷ cs) given each = absurd each
+same_backtrace_seats (b ∷ bs) [] given each = absurd each
+same_backtrace_seats (b ∷ bs) (c ∷ cs) [] each = absurd each
+same_backtrace_seats (b ∷ bs) (c ∷ cs) (d ∷ ds) each =
+    let rest = same_backtrace_seats bs cs ds each.1 in
     ((λ k. each.0.given_lane k ∷ rest.0 k), (λ k. each.0.same.0 k ∷ rest.1 k))

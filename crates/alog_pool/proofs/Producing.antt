@@ -13,12 +13,12 @@ use Rattle.alog_policy.specs.declared.policy.Policy.{Policy}
 use Rattle.alog_policy.specs.declared.port.Port.{Port}
 use Rattle.alog_lane.specs.Calls.{LaneId, IsSeatOf}
 use Rattle.alog_pool.specs.Accounts.{stop}
-use Rattle.alog_pool.specs.Keeping.{KeepingView, KeepingSeat, IsKeeping, IsKeeperOf, Keeps}
+use Rattle.alog_pool.specs.BacktraceSeat.{BacktraceSeatView, LaneSeatView, IsBacktraceSeat, IsKeeperOf, Keeps}
 use Rattle.alog_pool.specs.Lending.{IsAccountOf, LendsAlike}
-use Rattle.alog_pool.specs.Producer.{ProducerView, AreKeepings, IsProducer, IsPortOf, Lent}
+use Rattle.alog_pool.specs.Producer.{ProducerView, AreBacktraceSeats, IsProducer, IsPortOf, Lent}
 use Rattle.alog_pool.specs.declared.shared.Shared.{Shared}
 use Rattle.alog_pool.proofs.Posting.{post_stops, post_takes, account_after}
-use Rattle.alog_registry.specs.Carry.{PostsItem}
+use Rattle.alog_registry.specs.ItemOutlet.{PostsItem}
 use Rattle.alog_registry.specs.Backtrace.{Room}
 use Rattle.alog_registry.specs.Dumping.{PostsEach, posted_of}
 use Rattle.alog_registry.specs.LaneKeeper.{IsSeated, LendsSame, KeepsByTurn, DumpsByTurn, NeverPasses, Passes}
@@ -159,10 +159,10 @@ dump_leaves items ls n t th a k (Ok v) b l low ok err =
 dump_leaves items ls n t th a k (Err e) b l low ok err = (same_port a b err.0, (same_keeper k l err.1).0)
 
 -- a place after a call of its keeper
-pub still_keeping : (most limit : ℕ) (lane : LaneId Room) (seat : KeepingSeat) (scratch : BacktraceScratch) (k l : LaneKeeper)
-    → IsKeeping most limit lane seat scratch → k.lane.now ≡ lane → k.scratch.now ≡ scratch → LendsSame k l
-    → l.scratch.now.list ≡ k.scratch.now.list → IsSeated l → IsKeeping most limit lane l.seat.now l.scratch.now
-still_keeping most limit lane seat scratch k l old at was same list seated =
+pub still_seated : (most limit : ℕ) (lane : LaneId Room) (seat : LaneSeatView) (scratch : BacktraceScratch) (k l : LaneKeeper)
+    → IsBacktraceSeat most limit lane seat scratch → k.lane.now ≡ lane → k.scratch.now ≡ scratch → LendsSame k l
+    → l.scratch.now.list ≡ k.scratch.now.list → IsSeated l → IsBacktraceSeat most limit lane l.seat.now l.scratch.now
+still_seated most limit lane seat scratch k l old at was same list seated =
     let there : l.lane.now ≡ lane = ap (λ (b : Bor (LaneId Room)). b.now) same.lane ∙ at in
     record {
       seat_is = subst (λ (x : LaneId Room). IsSeatOf x l.seat.now) there seated;
@@ -172,14 +172,14 @@ still_keeping most limit lane seat scratch k l old at was same list seated =
     }
 
 module _ (passes : LaneKeeper → LaneKeeper → Type 0) (p : Policy) (s : Spec) (m : Message) where
-  pub keeps_log : {E : Type 0} (a b : Queueing) (k l : LaneKeeper) (v w : KeepingView) (r : Result LogReply E) → IsKeeperOf v k → IsKeeperOf w l
+  pub keeps_log : {E : Type 0} (a b : Queueing) (k l : LaneKeeper) (v w : BacktraceSeatView) (r : Result LogReply E) → IsKeeperOf v k → IsKeeperOf w l
       → IfOk r (λ x. Logs PortDid KeepsByTurn passes p s m a k x b l)
       → IfOk r (λ x. Keeps v w (λ y z. Logs PortDid KeepsByTurn passes p s m a y x b z))
   keeps_log a b k l v w (Ok x) lent left logs = record { keeper = k; after = l; lent = lent; left = left; called = logs }
   keeps_log a b k l v w (Err e) lent left logs = logs
 
-  pub lent_log : {E : Type 0} (old new : ProducerView) (n : ℕ) (a b : Queueing) (k l : KeepingView) (r : Result LogReply E) → IsPortOf old a
-      → IsPortOf new b → slice_get old.keepings n ≡ Some k → new.keepings ≡ slice_set old.keepings n l
+  pub lent_log : {E : Type 0} (old new : ProducerView) (n : ℕ) (a b : Queueing) (k l : BacktraceSeatView) (r : Result LogReply E) → IsPortOf old a
+      → IsPortOf new b → slice_get old.backtrace_seats n ≡ Some k → new.backtrace_seats ≡ slice_set old.backtrace_seats n l
       → IfOk r (λ x. Keeps k l (λ y z. Logs PortDid KeepsByTurn passes p s m a y x b z))
       → IfOk r (λ x. Lent old new n (λ c y d z. Logs PortDid KeepsByTurn passes p s m c y x d z))
   lent_log old new n a b k l (Ok x) lent left found others kept = record {
@@ -199,13 +199,13 @@ module _ {X : Type 0} (items : X → List (Outcome (Unit {0}))) (p : Policy) (n 
   abbrev pub Dumped : Queueing → X → Queueing → LaneKeeper → LaneKeeper → Type 0
   Dumped a v b k l = (d : Room) × DumpsByTurn k d l × PostsEach PortDid p (posted_of n t th d.messages) a (items v) b
 
-  pub keeps_dump : {E : Type 0} (a b : Queueing) (k l : LaneKeeper) (v w : KeepingView) (r : Result X E) → IsKeeperOf v k → IsKeeperOf w l
+  pub keeps_dump : {E : Type 0} (a b : Queueing) (k l : LaneKeeper) (v w : BacktraceSeatView) (r : Result X E) → IsKeeperOf v k → IsKeeperOf w l
       → IfOk r (λ x. Dumped a x b k l) → IfOk r (λ x. Keeps v w (λ y z. Dumped a x b y z))
   keeps_dump a b k l v w (Ok x) lent left did = record { keeper = k; after = l; lent = lent; left = left; called = did }
   keeps_dump a b k l v w (Err e) lent left did = did
 
-  pub lent_dump : {E : Type 0} (old new : ProducerView) (at : ℕ) (a b : Queueing) (k l : KeepingView) (r : Result X E) → IsPortOf old a
-      → IsPortOf new b → slice_get old.keepings at ≡ Some k → new.keepings ≡ slice_set old.keepings at l
+  pub lent_dump : {E : Type 0} (old new : ProducerView) (at : ℕ) (a b : Queueing) (k l : BacktraceSeatView) (r : Result X E) → IsPortOf old a
+      → IsPortOf new b → slice_get old.backtrace_seats at ≡ Some k → new.backtrace_seats ≡ slice_set old.backtrace_seats at l
       → IfOk r (λ x. Keeps k l (λ y z. Dumped a x b y z))
       → IfOk r (λ x. Lent old new at (λ c y d z. Dumped c x d y z))
   lent_dump old new at a b k l (Ok x) lent left found others kept = record {
@@ -222,10 +222,10 @@ module _ {X : Type 0} (items : X → List (Outcome (Unit {0}))) (p : Policy) (n 
   lent_dump old new at a b k l (Err e) lent left found others kept = kept
 
 -- a producer after a post on its port
-pub still_producer : (shared : Shared) (p : PassView Item no_note) (losses : SeatView) (keepings : List KeepingView) (limit : ℕ)
-    (a b : Queueing) → IsProducer shared p losses keepings limit → a.ring.now ≡ shared.ring → a.book.now ≡ shared.book
-    → a.pass.now ≡ p → a.seat.now ≡ losses → LendsAlike a b → IsFit b → IsProducer shared b.pass.now b.seat.now keepings limit
-still_producer shared p losses keepings limit a b old ring book pass seat alike fit =
+pub still_producer : (shared : Shared) (p : PassView Item no_note) (losses : SeatView) (backtrace_seats : List BacktraceSeatView) (limit : ℕ)
+    (a b : Queueing) → IsProducer shared p losses backtrace_seats limit → a.ring.now ≡ shared.ring → a.book.now ≡ shared.book
+    → a.pass.now ≡ p → a.seat.now ≡ losses → LendsAlike a b → IsFit b → IsProducer shared b.pass.now b.seat.now backtrace_seats limit
+still_producer shared p losses backtrace_seats limit a b old ring book pass seat alike fit =
     let R : RingId TextLimit → Type 0 = λ r. IsPassOf r b.pass.now in
     let B : BookId → Type 0 = λ k. IsBookSeatOf k b.seat.now in
     let mine : IsAccountOf a.pass.now.known a.seat.now.known =
@@ -252,7 +252,7 @@ port_after v a b ring book alike pass losses = record {
 }
 
 -- the text limit of a place at a backtrace
-pub kept_at : (limit : ℕ) (ks : List KeepingView) (n : ℕ) (d : KeepingView) → n < length ks → AreKeepings limit ks
+pub kept_at : (limit : ℕ) (ks : List BacktraceSeatView) (n : ℕ) (d : BacktraceSeatView) → n < length ks → AreBacktraceSeats limit ks
     → (slice_index_or ks n d).lane.first.limit ≡ limit
 kept_at limit [] n d low all = absurd (omega (arith, low))
 kept_at limit (k ∷ ks) zero d low all = all.0

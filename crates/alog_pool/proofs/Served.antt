@@ -14,8 +14,8 @@ use Rattle.alog_lane.specs.Turns.{Turned}
 use Rattle.alog_msg.specs.declared.item.Item.{Item}
 use Rattle.alog_msg.specs.declared.item.Item.TheVariants.{Text, Flush, Stop}
 use Rattle.alog_pool.specs.Accounts.{work_tickets}
-use Rattle.alog_pool.specs.Back.{hand_member}
-use Rattle.alog_pool.specs.Berth.{Answer, BerthView}
+use Rattle.alog_pool.specs.Back.{worker_member}
+use Rattle.alog_pool.specs.SinkSeat.{Answer, SinkSeatView}
 use Rattle.alog_pool.specs.Deeds.{Due, all_dues, faults_in, told, HaveMade, IsCounted}
 use Rattle.alog_pool.specs.Ended.{PutNothing}
 use Rattle.alog_pool.specs.Ending.{HasEndedAmong}
@@ -23,7 +23,7 @@ use Rattle.alog_pool.specs.Places.{Each2}
 use Rattle.alog_pool.specs.Pool.{Begins, IsNew, lanes_of}
 use Rattle.alog_pool.specs.Report.{HasServed, IsRising, MadeAll, handled_by}
 use Rattle.alog_pool.specs.Working.{HasWorked, IsWorkOf, numbers_of}
-use Rattle.alog_pool.specs.declared.hand.Hand.{Hand}
+use Rattle.alog_pool.specs.declared.worker.Worker.{Worker}
 use Rattle.alog_pool.specs.declared.shared.Shared.{Shared}
 use Rattle.alog_pool.proofs.Rows.{place_lanes}
 use Rattle.alog_ring.specs.Kinds.{no_note}
@@ -85,7 +85,7 @@ Turn = lane.Entry (Turned Item Buffer Answer)
 
 module _ {S : Type 0} where
   -- a seat that had made nothing made all that it has
-  made_all : (s : ℕ) (bs cs : List (BerthView S)) (dues : List Due) → HaveMade s bs cs dues → AllByRecursion IsNew bs → MadeAll s cs dues
+  made_all : (s : ℕ) (bs cs : List (SinkSeatView S)) (dues : List Due) → HaveMade s bs cs dues → AllByRecursion IsNew bs → MadeAll s cs dues
   made_all s [] [] dues made new = tt
   made_all s [] (c ∷ cs) dues made new = absurd made
   made_all s (b ∷ bs) [] dues made new = absurd made
@@ -94,10 +94,10 @@ module _ {S : Type 0} where
       made.0.own ∙ ap (λ (l : List Turn). l ++ made.0.entries) new.0.1.own in
       (ap (λ (l : List Turn). told l) own ∙ made.0.turns_are, made_all (s + 1) bs cs dues made.1 new.1)
 
-  counted_new : (b : BerthView S) → IsNew b → IsCounted b
+  counted_new : (b : SinkSeatView S) → IsNew b → IsCounted b
   counted_new b new = subst (λ (l : List Turn). b.faults ≡ faults_in l % 2 ^ 64) (sym new.1.own) new.1.faults
 
-  made_counted : (s : ℕ) (bs cs : List (BerthView S)) (dues : List Due) → HaveMade s bs cs dues → AllByRecursion IsNew bs
+  made_counted : (s : ℕ) (bs cs : List (SinkSeatView S)) (dues : List Due) → HaveMade s bs cs dues → AllByRecursion IsNew bs
       → AllByRecursion IsCounted cs
   made_counted s [] [] dues made new = tt
   made_counted s [] (c ∷ cs) dues made new = absurd made
@@ -106,7 +106,7 @@ module _ {S : Type 0} where
       (made.0.counted (counted_new b new.0), made_counted (s + 1) bs cs dues made.1 new.1)
 
   module _ (shared : Shared) (lanes : List (LaneId (Sink S))) (most : ℕ) where
-    served_one : (h k : Hand S) → Begins shared lanes most h → HasWorked h k → HasServed shared.loggers lanes most k
+    served_one : (h k : Worker S) → Begins shared lanes most h → HasWorked h k → HasServed shared.loggers lanes most k
     served_one h k b w =
         let none : takes h.pass.known.own ≡ [] = ap (λ (l : List (Entry Item no_note)). takes l) b.fresh.own in
         let gots : takes k.pass.known.own ≡ w.turns.gots =
@@ -119,12 +119,12 @@ module _ {S : Type 0} where
           rising = takes_rise most k.pass.known k.tickets.items k.handled work;
           tickets_rise = tickets_rise most k.pass.known k.tickets.items k.handled work;
           ended = w.ended;
-          lanes_are = place_lanes h.berths.items k.berths.items w.places ∙ b.lanes_are;
-          turns = subst (λ (l : List Due). MadeAll 0 k.berths.items l) dues
-              (made_all 0 h.berths.items k.berths.items _ w.turns.turns b.seats);
+          lanes_are = place_lanes h.sink_seats.items k.sink_seats.items w.places ∙ b.lanes_are;
+          turns = subst (λ (l : List Due). MadeAll 0 k.sink_seats.items l) dues
+              (made_all 0 h.sink_seats.items k.sink_seats.items _ w.turns.turns b.seats);
         }
 
-    pub all_served : (hs ks : List (Hand S)) → AllByRecursion (Begins shared lanes most) hs → Each2 HasWorked hs ks
+    pub all_served : (hs ks : List (Worker S)) → AllByRecursion (Begins shared lanes most) hs → Each2 HasWorked hs ks
         → AllByRecursion (HasServed shared.loggers lanes most) ks
     all_served [] [] began worked = tt
     all_served [] (k ∷ ks) began worked = absurd worked
@@ -132,55 +132,55 @@ module _ {S : Type 0} where
     all_served (h ∷ hs) (k ∷ ks) began worked = (served_one h k began.0 worked.0, all_served hs ks began.1 worked.1)
 
     -- their rows of places
-    pub rows_counted : (hs ks : List (Hand S)) → AllByRecursion (Begins shared lanes most) hs → Each2 HasWorked hs ks
-        → AllByRecursion (λ (row : List (BerthView S)). AllByRecursion IsCounted row) (map (λ (k : Hand S). k.berths.items) ks)
+    pub rows_counted : (hs ks : List (Worker S)) → AllByRecursion (Begins shared lanes most) hs → Each2 HasWorked hs ks
+        → AllByRecursion (λ (row : List (SinkSeatView S)). AllByRecursion IsCounted row) (map (λ (k : Worker S). k.sink_seats.items) ks)
     rows_counted [] [] began worked = tt
     rows_counted [] (k ∷ ks) began worked = absurd worked
     rows_counted (h ∷ hs) [] began worked = absurd worked
     rows_counted (h ∷ hs) (k ∷ ks) began worked = (
-      made_counted 0 h.berths.items k.berths.items _ worked.0.turns.turns began.0.seats,
+      made_counted 0 h.sink_seats.items k.sink_seats.items _ worked.0.turns.turns began.0.seats,
       rows_counted hs ks began.1 worked.1,
     )
 
   -- each has as many places as the pool
-  even : (cs bs : List (BerthView S)) → lanes_of cs ≡ lanes_of bs → length cs ≡ length bs
-  even cs bs same = sym (length-map cs (λ (b : BerthView S). b.lane)) ∙ ap (λ (l : List (LaneId (Sink S))). length l) same
-      ∙ length-map bs (λ (b : BerthView S). b.lane)
+  even : (cs bs : List (SinkSeatView S)) → lanes_of cs ≡ lanes_of bs → length cs ≡ length bs
+  even cs bs same = sym (length-map cs (λ (b : SinkSeatView S). b.lane)) ∙ ap (λ (l : List (LaneId (Sink S))). length l) same
+      ∙ length-map bs (λ (b : SinkSeatView S). b.lane)
 
-  pub rows_even : (shared : Shared) (bs : List (BerthView S)) (most : ℕ) (hs ks : List (Hand S))
+  pub rows_even : (shared : Shared) (bs : List (SinkSeatView S)) (most : ℕ) (hs ks : List (Worker S))
       → AllByRecursion (Begins shared (lanes_of bs) most) hs → Each2 HasWorked hs ks
-      → AllByRecursion (λ (row : List (BerthView S)). length row ≡ length bs) (map (λ (k : Hand S). k.berths.items) ks)
+      → AllByRecursion (λ (row : List (SinkSeatView S)). length row ≡ length bs) (map (λ (k : Worker S). k.sink_seats.items) ks)
   rows_even shared bs most [] [] began worked = tt
   rows_even shared bs most [] (k ∷ ks) began worked = absurd worked
   rows_even shared bs most (h ∷ hs) [] began worked = absurd worked
   rows_even shared bs most (h ∷ hs) (k ∷ ks) began worked = (
-    even k.berths.items bs (place_lanes h.berths.items k.berths.items worked.0.places ∙ began.0.lanes_are),
+    even k.sink_seats.items bs (place_lanes h.sink_seats.items k.sink_seats.items worked.0.places ∙ began.0.lanes_are),
     rows_even shared bs most hs ks began.1 worked.1,
   )
 
   -- their passes put nothing in, and one ended
-  pub put_nothing : (hs ks : List (Hand S)) → Each2 HasWorked hs ks → AllByRecursion PutNothing (map (λ (k : Hand S). hand_member k) ks)
+  pub put_nothing : (hs ks : List (Worker S)) → Each2 HasWorked hs ks → AllByRecursion PutNothing (map (λ (k : Worker S). worker_member k) ks)
   put_nothing [] [] worked = tt
   put_nothing [] (k ∷ ks) worked = absurd worked
   put_nothing (h ∷ hs) [] worked = absurd worked
   put_nothing (h ∷ hs) (k ∷ ks) worked = (worked.0.work.puts, put_nothing hs ks worked.1)
 
-  pub one_ended : (hs ks : List (Hand S)) → 1 ≤ length hs → Each2 HasWorked hs ks
-      → HasEndedAmong (map (λ (k : Hand S). hand_member k) ks)
+  pub one_ended : (hs ks : List (Worker S)) → 1 ≤ length hs → Each2 HasWorked hs ks
+      → HasEndedAmong (map (λ (k : Worker S). worker_member k) ks)
   one_ended [] ks some worked = absurd (omega (arith, some))
   one_ended (h ∷ hs) [] some worked = absurd worked
   one_ended (h ∷ hs) (k ∷ ks) some worked = inl worked.0.ended
 
   -- what they counted
-  pub all_handled : (hs ks : List (Hand S)) → Each2 HasWorked hs ks
-      → AllByRecursion (λ (k : Hand S). k.handled ≡ handled_by k % 2 ^ 64) ks
+  pub all_handled : (hs ks : List (Worker S)) → Each2 HasWorked hs ks
+      → AllByRecursion (λ (k : Worker S). k.handled ≡ handled_by k % 2 ^ 64) ks
   all_handled [] [] worked = tt
   all_handled [] (k ∷ ks) worked = absurd worked
   all_handled (h ∷ hs) [] worked = absurd worked
   all_handled (h ∷ hs) (k ∷ ks) worked = (worked.0.work.handled_is, all_handled hs ks worked.1)
 
 -- workers keep their numbers
-pub same_numbers : {S : Type 0} (hs ks : List (Hand S)) → Each2 HasWorked hs ks → numbers_of ks ≡ numbers_of hs
+pub same_numbers : {S : Type 0} (hs ks : List (Worker S)) → Each2 HasWorked hs ks → numbers_of ks ≡ numbers_of hs
 same_numbers [] [] worked = refl
 same_numbers [] (k ∷ ks) worked = absurd worked
 same_numbers (h ∷ hs) [] worked = absurd worked

@@ -12,7 +12,7 @@ use Rattle.alog_policy.specs.BookAdds.{Add, items_in, posts_in}
 use Rattle.alog_policy.specs.BookCalls as book
 use Rattle.alog_policy.specs.declared.counts.Counts.{Counts}
 use Rattle.alog_pool.specs.Accounts.{of_work}
-use Rattle.alog_pool.specs.Back.{AreAccounts, HasBack, HasSeatsBack, hand_member, loss_member, pass_member}
+use Rattle.alog_pool.specs.Back.{AreAccounts, HasBack, HasSeatsBack, worker_member, loss_member, pass_member}
 use Rattle.alog_pool.specs.Ended.{AreCounted, HasEndedFrom, HasGathered, IsEndingFrom, PutNoStop}
 use Rattle.alog_pool.specs.Places.{Each2}
 use Rattle.alog_pool.specs.Producer.{ProducerView}
@@ -20,7 +20,7 @@ use Rattle.alog_pool.specs.Report.{AllCameOut, AreSums, AreTotals, handled_by, p
 use Rattle.alog_pool.specs.Stops.{AreEnough, AreStops, PutsStops}
 use Rattle.alog_pool.specs.Whole.{claimed_among, taken_among}
 use Rattle.alog_pool.specs.Working.{HasWorked}
-use Rattle.alog_pool.specs.declared.hand.Hand.{Hand}
+use Rattle.alog_pool.specs.declared.worker.Worker.{Worker}
 use Rattle.alog_pool.specs.declared.report.Totals.{Totals}
 use Rattle.alog_pool.proofs.Back.{sum_mod, sum_of_map}
 use Rattle.alog_pool.proofs.Ended.{all_came_out, ending_moved, ending_starts, overrun_or_handled}
@@ -64,12 +64,12 @@ two_mods a b m n first second =
     ∙ ap (λ k. (k + m) % 2 ^ 64) second ∙ mod-add-mod n (2 ^ 64) m ∙ ap (λ k. k % 2 ^ 64) back
 
 -- The pool's pass before any came back, then when the producers had, when stops were posted, and when the workers had come back.
-module _ {S : Type 0} (a j k l : Known Item no_note) (producers : List ProducerView) (starts hands : List (Hand S)) (count : ℕ)
+module _ {S : Type 0} (a j k l : Known Item no_note) (producers : List ProducerView) (starts crew : List (Worker S)) (count : ℕ)
     (own : a.own ≡ []) (none : a.joined ≡ []) (gather : HasBack a j (map pass_member producers)) (accounts : AreAccounts producers)
-    (stops : PutsStops j k count) (collect : HasBack k l (map (λ (h : Hand S). hand_member h) hands))
-    (worked : Each2 HasWorked starts hands) (some : 1 ≤ length starts) where
+    (stops : PutsStops j k count) (collect : HasBack k l (map (λ (h : Worker S). worker_member h) crew))
+    (worked : Each2 HasWorked starts crew) (some : 1 ≤ length starts) where
   abbrev workers : List One
-  workers = map (λ (h : Hand S). hand_member h) hands
+  workers = map (λ (h : Worker S). worker_member h) crew
 
   abbrev made_by : List One
   made_by = map pass_member producers
@@ -100,9 +100,9 @@ module _ {S : Type 0} (a j k l : Known Item no_note) (producers : List ProducerV
       own = collect.own ∙ posted.own;
       only_stops = posted.only_stops;
       joined = collect.joined ∙ ap (λ (ms : List One). ms ++ workers) (posted.joined ∙ append-nil j.joined);
-      no_claims = put_nothing starts hands worked;
+      no_claims = put_nothing starts crew worked;
     };
-    ended = one_ended starts hands some worked;
+    ended = one_ended starts crew some worked;
   }
 
   pub members : l.joined ≡ made_by ++ workers
@@ -124,17 +124,17 @@ module _ {S : Type 0} (a j k l : Known Item no_note) (producers : List ProducerV
   )
 
   -- all parts are here
-  pub all_parts : l.parts ≡ a.parts + (length producers + length hands)
+  pub all_parts : l.parts ≡ a.parts + (length producers + length crew)
   all_parts =
       let one = gather.parts in
       let two = stops.moved.made.parts in
       let three = collect.parts in
       let first : length made_by ≡ length producers = length-map producers pass_member in
-      let second : length workers ≡ length hands = length-map hands (λ (h : Hand S). hand_member h) in
+      let second : length workers ≡ length crew = length-map crew (λ (h : Worker S). worker_member h) in
       omega (arith, one, two, three, first, second)
 
   module _ (whole : IsWhole l) (places : 1 ≤ l.places) where
-    pub out : AllCameOut producers hands
+    pub out : AllCameOut producers crew
     unfolding ended
     out w nothing =
         let c : One → ℕ = λ m. claimed w m.own in
@@ -145,12 +145,12 @@ module _ {S : Type 0} (a j k l : Known Item no_note) (producers : List ProducerV
         ap (λ (ms : List One). sum_by c ms) gathered_are ∙ sum_of_map pass_member c producers in
         let got : taken_among w j.joined ≡ sum_by (λ (p : ProducerView). t (pass_member p)) producers =
         ap (λ (ms : List One). sum_by t ms) gathered_are ∙ sum_of_map pass_member t producers in
-        let more : taken_among w workers ≡ sum_by (λ (h : Hand S). t (hand_member h)) hands =
-        sum_of_map (λ (h : Hand S). hand_member h) t hands in
+        let more : taken_among w workers ≡ sum_by (λ (h : Worker S). t (worker_member h)) crew =
+        sum_of_map (λ (h : Worker S). worker_member h) t crew in
         omega (arith, all, put, got, more)
 
     -- what the producers put in was counted as overrun, or handled
-    balance : sum_by put_in producers ≡ sum_by took_out producers + sum_by (λ (h : Hand S). handled_by h) hands
+    balance : sum_by put_in producers ≡ sum_by took_out producers + sum_by (λ (h : Worker S). handled_by h) crew
     unfolding ended
     balance =
         let seats : List (lane.Member Add) = map loss_member producers in
@@ -165,13 +165,13 @@ module _ {S : Type 0} (a j k l : Known Item no_note) (producers : List ProducerV
         ap (λ (ms : List One). sum_by c ms) gathered_are ∙ sum_of_map pass_member c producers in
         let lost : sum_by f seats ≡ sum_by took_out producers =
         sum_of_map loss_member f producers ∙ overran producers accounts in
-        let more : taken_among of_work workers ≡ sum_by (λ (h : Hand S). handled_by h) hands =
-        sum_of_map (λ (h : Hand S). hand_member h) t hands in
+        let more : taken_among of_work workers ≡ sum_by (λ (h : Worker S). handled_by h) crew =
+        sum_of_map (λ (h : Worker S). worker_member h) t crew in
         omega (arith, all, put, lost, more)
 
     module _ (s u : lane.Known Add) (lost : Counts) (handled : ℕ) (t : Totals) (seat_own : s.own ≡ []) (seat_none : s.joined ≡ [])
         (seats : HasSeatsBack s u (map loss_member producers)) (closes : book.Closes u lost)
-        (handled_is : handled ≡ sum_by (λ (h : Hand S). h.handled) hands % 2 ^ 64) (sums : AreSums lost handled t) where
+        (handled_is : handled ≡ sum_by (λ (h : Worker S). h.handled) crew % 2 ^ 64) (sums : AreSums lost handled t) where
       -- a sum over the seats of the book is one over the producers
       of_seats : (f : lane.Member Add → ℕ) → f (record { seat = u.seat; own = [] }) ≡ 0
           → sum_by f (lane.members_of u) ≡ sum_by (λ (p : ProducerView). f (loss_member p)) producers
@@ -190,11 +190,11 @@ module _ {S : Type 0} (a j k l : Known Item no_note) (producers : List ProducerV
       overrun_is : lost.overrun ≡ sum_by took_out producers % 2 ^ 64
       overrun_is = closes.overrun ∙ ap (λ n. n % 2 ^ 64) (of_seats (λ m. items_in m.own) refl ∙ overran producers accounts)
 
-      handled_are : handled ≡ sum_by (λ (h : Hand S). handled_by h) hands % 2 ^ 64
+      handled_are : handled ≡ sum_by (λ (h : Worker S). handled_by h) crew % 2 ^ 64
       handled_are = handled_is
-          ∙ sum_mod (λ (h : Hand S). h.handled) (λ (h : Hand S). handled_by h) hands (all_handled starts hands worked)
+          ∙ sum_mod (λ (h : Worker S). h.handled) (λ (h : Worker S). handled_by h) crew (all_handled starts crew worked)
 
-      pub totals : AreTotals t producers hands
+      pub totals : AreTotals t producers crew
       totals = record {
         posted = sums.posted ∙ two_mods lost.overrun handled _ _ overrun_is handled_are ∙ ap (λ n. n % 2 ^ 64) (sym balance);
         overrun = sums.overrun ∙ overrun_is;

@@ -8,13 +8,13 @@ use Rattle.alog_lane.specs.Turns.{Turned}
 use Rattle.alog_lane.proofs.Steps.{its_turn}
 use Rattle.alog_msg.specs.declared.item.Item.{Item}
 use Rattle.alog_msg.specs.declared.item.Item.TheVariants.{Text, Flush, Stop}
-use Rattle.alog_pool.specs.Berth.{Answer, BerthView, Place, place_of, places_of, IsServable, AreServable, Serves}
+use Rattle.alog_pool.specs.SinkSeat.{Answer, SinkSeatView, Place, place_of, places_of, IsServable, AreServable, Serves}
 use Rattle.alog_sink.specs.Files.{Files}
 use Rattle.alog_sink.specs.Sinks.{Turns}
 use Rattle.alog_sink.specs.declared.sink.Sink.{Sink}
 
 module _ {S : Type 0} where
-  pub servable_at : (item : Item) (bs : List (BerthView S)) (i : ℕ) (d : BerthView S) → i < length bs
+  pub servable_at : (item : Item) (bs : List (SinkSeatView S)) (i : ℕ) (d : SinkSeatView S) → i < length bs
       → AreServable item (places_of bs) → IsServable (slice_index_or bs i d).limit item
   servable_at item [] i d low all = absurd (omega (arith, low))
   servable_at item (b ∷ bs) zero d low all = all.0
@@ -25,7 +25,7 @@ module _ {S : Type 0} where
   flush_servable n (p ∷ ps) = (tt, flush_servable n ps)
 
   module _ (tells : Bool) (files : S → Files) (failures : S → ℕ) where
-    pub place_same : (old new : BerthView S) (tag : ℕ) (item : Item) → Serves tells files failures old tag item new
+    pub place_same : (old new : SinkSeatView S) (tag : ℕ) (item : Item) → Serves tells files failures old tag item new
         → place_of new ≡ place_of old
     place_same old new tag item s = λ k. record {
       lane = s.lane k;

@@ -8,7 +8,7 @@ use Rattle.alog_core.proofs.Accounts.{weigh-append}
 use Rattle.alog_msg.specs.declared.item.Item.{Item}
 use Rattle.alog_msg.specs.declared.item.Item.TheVariants.{Text, Flush, Stop}
 use Rattle.alog_pool.specs.Accounts.{of_work, of_stops, work_tickets, Moved}
-use Rattle.alog_pool.specs.Berth.{Place, AreServable}
+use Rattle.alog_pool.specs.SinkSeat.{Place, AreServable}
 use Rattle.alog_pool.specs.Working.{AreLimited, IsWorkOf}
 use Rattle.alog_pool.proofs.Moves.{claims-append, takes-append, grabbed-append, tickets-append}
 use Rattle.alog_pool.proofs.Turning.{flush_servable}

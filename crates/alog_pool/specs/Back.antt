@@ -7,10 +7,10 @@ use Rattle.alog_lane.specs.Seats as lane
 use Rattle.alog_lane.specs.Turns.{Turned}
 use Rattle.alog_msg.specs.declared.item.Item.{Item}
 use Rattle.alog_policy.specs.BookAdds.{Add}
-use Rattle.alog_pool.specs.Berth.{Answer, BerthView}
+use Rattle.alog_pool.specs.SinkSeat.{Answer, SinkSeatView}
 use Rattle.alog_pool.specs.Lending.{IsAccountOf}
 use Rattle.alog_pool.specs.Producer.{ProducerView}
-use Rattle.alog_pool.specs.declared.hand.Hand.{Hand}
+use Rattle.alog_pool.specs.declared.worker.Worker.{Worker}
 use Rattle.alog_ring.specs.Kinds.{no_note}
 use Rattle.alog_ring.specs.Known.{Known, Member}
 use Rattle.alog_ring.specs.Made.{IsFaithful}
@@ -22,10 +22,10 @@ pass_member p = record { actor = p.pass.known.actor; own = p.pass.known.own }
 abbrev pub loss_member : ProducerView → lane.Member Add
 loss_member p = record { seat = p.losses.known.seat; own = p.losses.known.own }
 
-abbrev pub hand_member : {S : Type 0} → Hand S → Member Item no_note
-hand_member h = record { actor = h.pass.known.actor; own = h.pass.known.own }
+abbrev pub worker_member : {S : Type 0} → Worker S → Member Item no_note
+worker_member h = record { actor = h.pass.known.actor; own = h.pass.known.own }
 
-abbrev pub seat_member : {S : Type 0} → BerthView S → lane.Member (Turned Item Buffer Answer)
+abbrev pub seat_member : {S : Type 0} → SinkSeatView S → lane.Member (Turned Item Buffer Answer)
 seat_member b = record { seat = b.seat.known.seat; own = b.seat.known.own }
 
 -- each producer's account is one

@@ -5,7 +5,7 @@ use Rattle.alog_lane.specs.Seats.{Entry}
 use Rattle.alog_lane.specs.Turns.{Turned}
 use Rattle.alog_msg.specs.declared.item.Item.{Item}
 use Rattle.alog_msg.specs.declared.item.Item.TheVariants.{Text, Flush, Stop}
-use Rattle.alog_pool.specs.Berth.{Answer, BerthView, fault_in}
+use Rattle.alog_pool.specs.SinkSeat.{Answer, SinkSeatView, fault_in}
 use Rattle.alog_registry.specs.Listed.{spec_at}
 use Rattle.alog_registry.specs.Work.{turns_of}
 use Rattle.alog_registry.specs.declared.logger.Logger.{Logger}
@@ -60,11 +60,11 @@ faults_in (x ∷ h) = fault_in x.deed.reply + faults_in h
 
 module _ {S : Type 0} where
   -- the place counts, modulo 2^64, those of its seat's own turns that were answered by a fault
-  abbrev pub IsCounted : BerthView S → Type 0
+  abbrev pub IsCounted : SinkSeatView S → Type 0
   IsCounted b = b.faults ≡ faults_in b.seat.known.own % 2 ^ 64
 
   -- The seat made exactly turns of these tags and items, in this order. A count of its faults stays one.
-  pub record HasMade (old new : BerthView S) (turns : List (ℕ × Item)) : Type 0 where
+  pub record HasMade (old new : SinkSeatView S) (turns : List (ℕ × Item)) : Type 0 where
     pub number : new.seat.known.seat ≡ old.seat.known.seat
     pub entries : List (Entry (Turned Item Buffer Answer))
     pub own : new.seat.known.own ≡ old.seat.known.own ++ entries
@@ -73,7 +73,7 @@ module _ {S : Type 0} where
 
   -- At each of these places, of which the first is that of the sink of this number, the seat made exactly the turns that were
   -- due on its sink.
-  abbrev pub HaveMade : ℕ → List (BerthView S) → List (BerthView S) → List Due → Type 0
+  abbrev pub HaveMade : ℕ → List (SinkSeatView S) → List (SinkSeatView S) → List Due → Type 0
   HaveMade s [] [] dues = Unit {0}
   HaveMade s (b ∷ bs) (c ∷ cs) dues = HasMade b c (dues_on s dues) × HaveMade (s + 1) bs cs dues
   HaveMade s [] (c ∷ cs) dues = ⊥

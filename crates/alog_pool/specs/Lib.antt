@@ -1,7 +1,7 @@
 pub mod Accounts
-pub mod Berth
+pub mod SinkSeat
 pub mod Deeds
-pub mod Keeping
+pub mod BacktraceSeat
 pub mod Lending
 pub mod Producer
 pub mod Working

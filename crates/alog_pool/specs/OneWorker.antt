@@ -9,7 +9,7 @@ use Rattle.alog_lane.specs.Turns.{Turned, Leads}
 use Rattle.alog_msg.specs.declared.item.Item.{Item}
 use Rattle.alog_msg.specs.declared.item.Item.TheVariants.{Stop}
 use Rattle.alog_msg.specs.declared.message.Message.{Message}
-use Rattle.alog_pool.specs.Berth.{Answer}
+use Rattle.alog_pool.specs.SinkSeat.{Answer}
 use Rattle.alog_pool.specs.Deeds.{Due, all_dues, dues_on, faults_in, told}
 use Rattle.alog_pool.specs.Pool.{PoolView, lanes_of}
 use Rattle.alog_pool.specs.Producer.{ProducerView}
@@ -62,8 +62,8 @@ module _ {S : Type 0} (tells : Bool) (files : S → Files) (failures : S → ℕ
     pub posted : (w : ℕ → Item → ℕ) → ((t : ℕ) → w t Stop ≡ 0)
         → sum_by (λ (p : ProducerView). claimed w p.pass.known.own) producers
         ≡ sum_by (λ (p : ProducerView). taken w p.pass.known.own) producers + weigh w items
-    pub written : AreWritten 0 (lanes_of pool.berths) r.sinks.items r.faults.items (all_dues pool.shared.loggers items)
+    pub written : AreWritten 0 (lanes_of pool.sink_seats) r.sinks.items r.faults.items (all_dues pool.shared.loggers items)
 
   abbrev pub OneWorkerWritesInOrder : Type 0
   OneWorkerWritesInOrder = (pool : PoolView S) (producers : List ProducerView) (r : Report S)
-      → Ends tells files failures pool producers r → length pool.hands ≡ 1 → WritesInOrder pool producers r
+      → Ends tells files failures pool producers r → length pool.crew ≡ 1 → WritesInOrder pool producers r

@@ -2,10 +2,10 @@
 use Rattle.std.specs.Prelude.{◌≡◌, ◌≤◌, ℕ, List, length, Some, slice_get, slice_set}
 use Rattle.std.specs.List.{AllByRecursion}
 use Rattle.alog_msg.specs.declared.item.Item.{Item}
-use Rattle.alog_msg.specs.declared.limits.TheConstants.{LEAST_TEXT_LIMIT, MOST_TEXT_LIMIT}
+use Rattle.alog_msg.specs.declared.limits.TheConstants.{TEXT_LIMIT_MIN, TEXT_LIMIT_MAX}
 use Rattle.alog_policy.specs.BookCalls.{SeatView, IsSeatOf}
 use Rattle.alog_policy.specs.declared.port.Port.{Port}
-use Rattle.alog_pool.specs.Keeping.{KeepingView, Keeps}
+use Rattle.alog_pool.specs.BacktraceSeat.{BacktraceSeatView, Keeps}
 use Rattle.alog_pool.specs.Lending.{IsAccountOf}
 use Rattle.alog_pool.specs.declared.shared.Shared.{Shared}
 use Rattle.alog_registry.specs.declared.keep.LaneKeeper.{LaneKeeper}
@@ -19,23 +19,23 @@ pub record ProducerView : Type 0 where
   pub shared : Shared
   pub pass : PassView Item no_note
   pub losses : SeatView
-  pub keepings : List KeepingView
+  pub backtrace_seats : List BacktraceSeatView
   pub number : ℕ
   pub limit : ℕ
 
 -- each of these backtraces takes texts of so many bytes
-abbrev pub AreKeepings : ℕ → List KeepingView → Type 0
-AreKeepings limit keepings = AllByRecursion (λ (k : KeepingView). k.lane.first.limit ≡ limit) keepings
+abbrev pub AreBacktraceSeats : ℕ → List BacktraceSeatView → Type 0
+AreBacktraceSeats limit backtrace_seats = AllByRecursion (λ (k : BacktraceSeatView). k.lane.first.limit ≡ limit) backtrace_seats
 
 -- The producer is one of the pool that has this: pass and seat belong to its ring and its book, there is a place for each logger,
 -- and all have one text limit. What pass and seat did is a producer's account.
-pub record IsProducer (shared : Shared) (p : PassView Item no_note) (losses : SeatView) (keepings : List KeepingView) (limit : ℕ) : Type 0 where
+pub record IsProducer (shared : Shared) (p : PassView Item no_note) (losses : SeatView) (backtrace_seats : List BacktraceSeatView) (limit : ℕ) : Type 0 where
   pub pass : IsPassOf shared.ring p
   pub losses_are : IsSeatOf shared.book losses
-  pub each : length keepings ≡ length shared.loggers
-  pub kept : AreKeepings limit keepings
+  pub each : length backtrace_seats ≡ length shared.loggers
+  pub kept : AreBacktraceSeats limit backtrace_seats
   pub queued : shared.ring.limit.most ≡ limit
-  pub limits : (LEAST_TEXT_LIMIT ≤ limit) × (limit ≤ MOST_TEXT_LIMIT)
+  pub limits : (TEXT_LIMIT_MIN ≤ limit) × (limit ≤ TEXT_LIMIT_MAX)
   pub account : IsAccountOf p.known losses.known
 
 -- the port lends the pool's ring and book, and the producer's pass and seat
@@ -59,8 +59,8 @@ pub record Lent (old new : ProducerView) (number : ℕ)
   pub after : Port Item TextLimit
   pub lent : IsPortOf old port
   pub left : IsPortOf new after
-  pub place : KeepingView
-  pub place_after : KeepingView
-  pub found : slice_get old.keepings number ≡ Some place
-  pub others : new.keepings ≡ slice_set old.keepings number place_after
+  pub place : BacktraceSeatView
+  pub place_after : BacktraceSeatView
+  pub found : slice_get old.backtrace_seats number ≡ Some place
+  pub others : new.backtrace_seats ≡ slice_set old.backtrace_seats number place_after
   pub kept : Keeps place place_after (λ k l. call port k after l)

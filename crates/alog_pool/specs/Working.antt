@@ -7,9 +7,9 @@ use Rattle.alog_core.specs.Accounts.{claims, takes, grabbed, handed_out, taken}
 use Rattle.alog_msg.specs.declared.item.Item.{Item}
 use Rattle.alog_pattern.specs.declared.patterns.TheConstants.{LINE_MAX}
 use Rattle.alog_pool.specs.Accounts.{of_work, of_stops, work_tickets, Moved, SawEnd}
-use Rattle.alog_pool.specs.Berth.{Place, places_of}
+use Rattle.alog_pool.specs.SinkSeat.{Place, places_of}
 use Rattle.alog_pool.specs.Deeds.{HaveMade, all_dues}
-use Rattle.alog_pool.specs.declared.hand.Hand.{Hand}
+use Rattle.alog_pool.specs.declared.worker.Worker.{Worker}
 use Rattle.alog_registry.specs.Limit.{KeepsTo}
 use Rattle.alog_ring.specs.Known.{Known, IsPassOf}
 use Rattle.alog_ring.specs.Kinds.{no_note}
@@ -49,11 +49,11 @@ abbrev pub AreLimited : {S : Type 0} → ℕ → List (Place S) → Type 0
 AreLimited {S} limit places = AllByRecursion (λ (p : Place S). p.limit ≡ limit) places
 
 -- the numbers of these workers
-abbrev pub numbers_of : {S : Type 0} → List (Hand S) → List ℕ
-numbers_of {S} hands = map (λ (h : Hand S). h.number) hands
+abbrev pub numbers_of : {S : Type 0} → List (Worker S) → List ℕ
+numbers_of {S} crew = map (λ (h : Worker S). h.number) crew
 
--- A worker at work, which began with the first of these hands: it has taken no stop yet.
-pub record IsAtWork {S : Type 0} (start now : Hand S) : Type 0 where
+-- A worker at work, which began with the first of these workers: it has taken no stop yet.
+pub record IsAtWork {S : Type 0} (start now : Worker S) : Type 0 where
   pub shared : arc_value now.shared ≡ arc_value start.shared
   pub ring : IsPassOf (arc_value start.shared).ring now.pass
   pub work : IsWorkOf start.most now.pass.known now.tickets.items now.handled
@@ -62,26 +62,26 @@ pub record IsAtWork {S : Type 0} (start now : Hand S) : Type 0 where
   pub number : now.number ≡ start.number
   pub room : start.most ≤ vec_capacity now.tickets
   pub line : now.line.capacity ≡ LINE_MAX
-  pub places : places_of now.berths.items ≡ places_of start.berths.items
-  pub limits : AreLimited (arc_value start.shared).ring.limit.most (places_of start.berths.items)
+  pub places : places_of now.sink_seats.items ≡ places_of start.sink_seats.items
+  pub limits : AreLimited (arc_value start.shared).ring.limit.most (places_of start.sink_seats.items)
 
--- What a worker made, since it began with the first of these hands: it took these items, and at each of its places its seat made
+-- What a worker made, since it began with the first of these workers: it took these items, and at each of its places its seat made
 -- exactly the turns that were due for them on that sink, in their order.
-pub record HasTurned {S : Type 0} (start now : Hand S) : Type 0 where
+pub record HasTurned {S : Type 0} (start now : Worker S) : Type 0 where
   pub gots : List (ℕ × Item)
   pub took : takes now.pass.known.own ≡ takes start.pass.known.own ++ gots
-  pub turns : HaveMade 0 start.berths.items now.berths.items (all_dues (arc_value start.shared).loggers gots)
+  pub turns : HaveMade 0 start.sink_seats.items now.sink_seats.items (all_dues (arc_value start.shared).loggers gots)
 
--- What became of a worker's hand.
-pub record HasWorked {S : Type 0} (start end : Hand S) : Type 0 where
+-- What became of a worker.
+pub record HasWorked {S : Type 0} (start end : Worker S) : Type 0 where
   pub number : end.number ≡ start.number
   pub ring : IsPassOf (arc_value start.shared).ring end.pass
   pub work : IsWorkOf start.most end.pass.known end.tickets.items end.handled
   pub ended : HasEnded end.pass.known.own
   pub turns : HasTurned start end
-  pub places : places_of end.berths.items ≡ places_of start.berths.items
+  pub places : places_of end.sink_seats.items ≡ places_of start.sink_seats.items
 
 -- Whether it goes on: it is at work and made its turns, or it has worked.
-abbrev pub GoesOn : {S : Type 0} → Hand S → Hand S → Bool → Type 0
+abbrev pub GoesOn : {S : Type 0} → Worker S → Worker S → Bool → Type 0
 GoesOn start now true = IsAtWork start now × HasTurned start now
 GoesOn start now false = HasWorked start now

@@ -1,57 +1,57 @@
 //! A pool: workers on threads of their own pop items with waiting, and make the turns that each item asks for; request threads
 //! log with a producer.
 //!
-//! A `Hand` is what one worker works with: a pass of the ring, a place at each sink under its lock, a line buffer. `Hand::work`
+//! A `Worker` is what one worker works with: a pass of the ring, a place at each sink under its lock, a line buffer. `Worker::work`
 //! handles items until the first stop, or until no ticket is left, and says in terms of the pass's own entries what was taken
 //! (`specs/Working.antt`, over `specs/Accounts.antt`): nothing was put in, the recorded tickets are the first ones of its texts
 //! and flushes, their number is counted, and it ended at its first stop or at the end of tickets. At each place the seat's own
 //! turns are those that the definition of the work gives for the items that were taken, in their order and by their tags, and
-//! the place's faults count those of them that were answered by one (`specs/Deeds.antt`); `Berth` says of one turn what it is
-//! (`specs/Berth.antt`).
+//! the place's faults count those of them that were answered by one (`specs/Deeds.antt`); `SinkSeat` says of one turn what it is
+//! (`specs/SinkSeat.antt`).
 //!
-//! A `Producer` has a pass of the ring, a seat of the loss book and a place at the backtrace of each logger (`Keeping`). Each of
-//! its calls is one of `Loggers` on what it lends (`specs/Producer.antt`, `Keeping.antt`). The law `no_work_is_left` says that no
+//! A `Producer` has a pass of the ring, a seat of the loss book and a place at the backtrace of each logger (`BacktraceSeat`). Each of
+//! its calls is one of `Loggers` on what it lends (`specs/Producer.antt`, `BacktraceSeat.antt`). The law `no_work_is_left` says that no
 //! text is left where workers have ended (`specs/Ending.antt`).
 //!
-//! `Pool::start` makes a `Ground`, which is all but the workers, and hires them one by one: each gets a part of the pool's pass and
-//! a part of its place at each sink, and promises what `Hand::work` does (`Works`). `Pool::producer` gives parts away as well. What
+//! `Pool::start` makes a `PoolParts`, which is all but the workers, and hires them one by one: each gets a part of the pool's pass and
+//! a part of its place at each sink, and promises what `Worker::work` does (`Works`). `Pool::producer` gives parts away as well. What
 //! is left of the parts is known by their numbers (`specs/Pool.antt`).
 //!
 //! `Pool::shutdown` takes all back: the producers' passes and seats, then it posts a stop for each worker and joins them, and then
 //! it has all parts, so that it knows the whole history (`specs/Report.antt`; what is known on the way stands in
 //! `specs/Ended.antt`). The law `one_worker_writes_in_order` says what a pool of one worker wrote (`specs/OneWorker.antt`).
 //!
-//! Read `gate.rt`, `shared.rt`; then `hand.rt`, `berth.rt`, `rest.rt` (how a worker waits); then `producer.rt`, `keeping.rt`; then
-//! `setup.rt`, `ground.rt`, `works.rt`, `pool.rt`; then `stops.rt`, `alone.rt`, `report.rt`, `shutdown.rt`. The tests are in
+//! Read `gate.rt`, `shared.rt`; then `worker.rt`, `sink_seat.rt`, `item_wait.rt` (how a worker waits); then `producer.rt`, `backtrace_seat.rt`; then
+//! `setup.rt`, `pool_parts.rt`, `works.rt`, `pool.rt`; then `stops.rt`, `alone.rt`, `report.rt`, `shutdown.rt`. The tests are in
 //! `test_pool`.
 #![tactic(auto)]
 
 mod alone;
-mod berth;
+mod backtrace_seat;
 mod error;
 mod gate;
-mod ground;
-mod hand;
-mod keeping;
+mod item_wait;
 mod laws;
 mod pool;
+mod pool_parts;
 mod producer;
 mod report;
-mod rest;
 mod setup;
 mod shared;
 mod shutdown;
+mod sink_seat;
 mod stops;
+mod worker;
 mod works;
 
-pub use berth::Berth;
+pub use backtrace_seat::BacktraceSeat;
 pub use error::{ProducerError, ProducersOut, StartError};
 pub use gate::{Gate, OpenGate};
-pub use hand::Hand;
-pub use keeping::Keeping;
 pub use laws::{members_balance, no_work_is_left, one_worker_writes_in_order};
-pub use pool::{MOST_PRODUCERS, MOST_WORKERS, Pool};
+pub use pool::{PRODUCERS_MAX, Pool, WORKERS_MAX};
 pub use producer::Producer;
 pub use report::{Report, Totals};
 pub use setup::Setup;
 pub use shared::Shared;
+pub use sink_seat::SinkSeat;
+pub use worker::Worker;

@@ -3,21 +3,21 @@ ghost use Rattle.std.specs.Prelude.{◌≡◌, ◌↔◌, ◌≤◌, ◌<◌, []
 ghost use Rattle.std.specs.List.{AllByRecursion};
 ghost use Rattle.alog_core.specs.Queue.{last};
 ghost use Rattle.alog_core.specs.World.{is_size};
-ghost use Rattle.alog_pool.specs.Places.{Each2, Each3, IsKeepingPart, IsSpareOf};
-ghost use Rattle.alog_pool.specs.Pool.{Fits, HasWorkers, IsGround, Makes, Staffs, Starts};
-ghost use Rattle.alog_pool.specs.declared.ground.Ground.{Ground};
-ghost use Rattle.alog_pool.specs.declared.pool.TheConstants.{MOST_PRODUCERS};
+ghost use Rattle.alog_pool.specs.Places.{Each2, Each3, IsBacktraceSeatPart, IsSpareOf};
+ghost use Rattle.alog_pool.specs.Pool.{Fits, HasWorkers, AreParts, Makes, Staffs, Starts};
+ghost use Rattle.alog_pool.specs.declared.pool_parts.PoolParts.{PoolParts};
+ghost use Rattle.alog_pool.specs.declared.pool.TheConstants.{PRODUCERS_MAX};
 ghost use Rattle.alog_ring.specs.Known.{IsPassOf, first_known};
 
-use crate::berth::Berth;
+use crate::backtrace_seat::{BacktraceSeat, Spare};
 use crate::error::{ProducerError, StartError};
 use crate::gate::Gate;
-use crate::ground::{Ground, Worker};
-use crate::keeping::{Keeping, Spare};
+use crate::pool_parts::{PoolParts, WorkerHandle};
 use crate::producer::Producer;
 use crate::report::Blank;
 use crate::setup::Setup;
 use crate::shared::Shared;
+use crate::sink_seat::SinkSeat;
 use alog_msg::Item;
 use alog_policy::BookSeat;
 use alog_registry::{Loggers, TextLimit};
@@ -30,10 +30,10 @@ use std::thread::Threads;
 use std::time::Clock;
 
 /// The most workers of a pool.
-pub const MOST_WORKERS: usize = 64;
+pub const WORKERS_MAX: usize = 64;
 
 /// The most producers that a pool makes.
-pub const MOST_PRODUCERS: u64 = 4_096;
+pub const PRODUCERS_MAX: u64 = 4_096;
 
 /// Workers that write lines on threads of their own, and what producers are made of. A pool that is dropped leaves its workers
 /// waiting.
@@ -43,12 +43,12 @@ pub struct Pool<S: Store> {
     pub(crate) shared: Arc<Shared>,
     pub(crate) pass: Pass<Item>,
     pub(crate) losses: BookSeat,
-    pub(crate) berths: Vec<Berth<S>>,
-    pub(crate) keepings: Vec<Keeping>,
+    pub(crate) sink_seats: Vec<SinkSeat<S>>,
+    pub(crate) backtrace_seats: Vec<BacktraceSeat>,
     pub(crate) made: u64,
     pub(crate) text_limit: usize,
     pub(crate) tickets_max: usize,
-    pub(crate) workers: Vec<Worker<S>>,
+    pub(crate) workers: Vec<WorkerHandle<S>>,
     pub(crate) blank: Blank<S>,
 }
 
@@ -64,16 +64,16 @@ impl<S: Store> Model for Pool<S> {
       shared = arc_value p.shared;
       pass = p.pass;
       losses = p.losses;
-      berths = p.berths.items;
-      keepings = p.keepings.items;
+      sink_seats = p.sink_seats.items;
+      backtrace_seats = p.backtrace_seats.items;
       made = p.made;
       limit = p.text_limit;
       most = p.tickets_max;
-      hands = map (λ h. h.promise.start.value) p.workers.items;
+      crew = map (λ h. h.promise.start.value) p.workers.items;
     } };
 
-    ghost invariant = { λ p. IsPool (arc_value p.shared) p.pass p.losses p.berths.items p.keepings.items p.made p.text_limit p.tickets_max
-        (map (λ h. h.promise.start.value) p.workers.items) × HasRoom (length p.workers.items) (length p.berths.items) p.blank };
+    ghost invariant = { λ p. IsPool (arc_value p.shared) p.pass p.losses p.sink_seats.items p.backtrace_seats.items p.made p.text_limit p.tickets_max
+        (map (λ h. h.promise.start.value) p.workers.items) × HasRoom (length p.workers.items) (length p.sink_seats.items) p.blank };
 }
 
 impl<S: Store + Drop + Send + 'static> Pool<S> {
@@ -91,7 +91,7 @@ impl<S: Store + Drop + Send + 'static> Pool<S> {
             ↔ (HasWorkers setup × (is_size setup.queue ≡ true) × (last ≤ setup.first)) }
         ensures started { IfOk result (λ p. Starts setup p) }
     {
-        if setup.workers < 1 || setup.workers > MOST_WORKERS {
+        if setup.workers < 1 || setup.workers > WORKERS_MAX {
             return Err(StartError::BadWorkers);
         }
         let (ring, pass) = queue_of(alloc, setup.queue, setup.first, setup.text_limit)?;
@@ -110,28 +110,28 @@ impl<S: Store + Drop + Send + 'static> Pool<S> {
 
     /// A producer for a request thread. Its number is how many were made before it.
     pub fn producer(&mut self) -> Result<Producer, ProducerError>
-        ensures too_many { IsErrOf result ProducerError.TooMany ↔ (MOST_PRODUCERS ≤ self.old.made) }
+        ensures too_many { IsErrOf result ProducerError.TooMany ↔ (PRODUCERS_MAX ≤ self.old.made) }
         ensures made { IfOk result (λ p. Makes self.old self.new p) }
         ensures err { OnErr result (self.new ≡ self.old) }
     {
-        if self.made >= MOST_PRODUCERS {
+        if self.made >= PRODUCERS_MAX {
             return Err(ProducerError::TooMany);
         }
         let Ok(shared) = Arc::try_clone(&self.shared) else {
             return Err(ProducerError::OutOfMemory);
         };
-        let Ok(spares) = spares_of(self.alloc, &self.keepings) else {
+        let Ok(spares) = spares_of(self.alloc, &self.backtrace_seats) else {
             return Err(ProducerError::OutOfMemory);
         };
-        let Ok(mut keepings) = Vec::with_capacity(self.alloc, spares.len()) else {
+        let Ok(mut backtrace_seats) = Vec::with_capacity(self.alloc, spares.len()) else {
             return Err(ProducerError::OutOfMemory);
         };
-        share_keepings(&mut self.keepings, spares, &mut keepings);
+        share_backtrace_seats(&mut self.backtrace_seats, spares, &mut backtrace_seats);
         let producer = Producer {
             pass: shared.ring.split(&mut self.pass, 1),
             losses: shared.book.split(&mut self.losses, 1),
             shared,
-            keepings,
+            backtrace_seats,
             number: self.made,
             text_limit: self.text_limit,
         };
@@ -181,31 +181,35 @@ fn start_workers<
     requires ring { IsPassOf ring pass × (ring.limit.most ≡ setup.text_limit) }
     requires pass { pass.known ≡ first_known ring.places ring.first }
     requires places { 1 ≤ ring.places }
-    ensures { IfOk result (λ p. (g : Ground S) × IsGround setup ring g × Staffs g p) }
+    ensures { IfOk result (λ p. (g : PoolParts S) × AreParts setup ring g × Staffs g p) }
 {
-    Ground::new(alloc, setup, ring, pass)?.staff(rt, gate)
+    PoolParts::new(alloc, setup, ring, pass)?.staff(rt, gate)
 }
 
 /// What a place at each of these backtraces takes memory for.
-fn spares_of(alloc: Global, keepings: &[Keeping]) -> Result<Vec<Spare>, AllocError>
-    ensures { IfOk result (λ v. Each2 IsSpareOf keepings.now v.items) }
+fn spares_of(alloc: Global, backtrace_seats: &[BacktraceSeat]) -> Result<Vec<Spare>, AllocError>
+    ensures { IfOk result (λ v. Each2 IsSpareOf backtrace_seats.now v.items) }
 {
-    let mut spares = Vec::with_capacity(alloc, keepings.len())?;
-    for keeping in keepings {
-        spares.push_reserved(keeping.spare(alloc)?);
+    let mut spares = Vec::with_capacity(alloc, backtrace_seats.len())?;
+    for backtrace_seat in backtrace_seats {
+        spares.push_reserved(backtrace_seat.spare(alloc)?);
     }
     Ok(spares)
 }
 
 /// Gives a part of each place away, into the memory that was made for it.
-fn share_keepings(keepings: &mut Vec<Keeping>, spares: Vec<Spare>, given: &mut Vec<Keeping>)
-    requires spares { Each2 IsSpareOf keepings.old.items spares.items }
-    requires parts { AllByRecursion (λ k. 1 < k.seat.known.parts) keepings.old.items }
+fn share_backtrace_seats(
+    backtrace_seats: &mut Vec<BacktraceSeat>,
+    spares: Vec<Spare>,
+    given: &mut Vec<BacktraceSeat>,
+)
+    requires spares { Each2 IsSpareOf backtrace_seats.old.items spares.items }
+    requires parts { AllByRecursion (λ k. 1 < k.seat.known.parts) backtrace_seats.old.items }
     requires room { (given.old.items ≡ []) × (length spares.items ≤ vec_capacity given.old) }
-    ensures { Each3 IsKeepingPart keepings.old.items keepings.new.items given.new.items }
+    ensures { Each3 IsBacktraceSeatPart backtrace_seats.old.items backtrace_seats.new.items given.new.items }
 {
     for spare in spares {
         let place = given.len();
-        given.push_reserved(keepings[place].split(spare));
+        given.push_reserved(backtrace_seats[place].split(spare));
     }
 }

@@ -6,7 +6,7 @@ ghost use Rattle.alog_policy.specs.Progress.{without_waiting};
 ghost use Rattle.alog_policy.specs.declared.port.Port.{Port};
 ghost use Rattle.alog_pool.specs.Producer.{IsPortOf, IsSame, Lent};
 ghost use Rattle.alog_registry.specs.Backtrace.{Room};
-ghost use Rattle.alog_registry.specs.Carry.{PostsItemNow};
+ghost use Rattle.alog_registry.specs.ItemOutlet.{PostsItemNow};
 ghost use Rattle.alog_registry.specs.Dumping.{PostsEach, posted_of};
 ghost use Rattle.alog_registry.specs.Given.{message_with, IsWithin, IsTooLongField};
 ghost use Rattle.alog_registry.specs.LaneKeeper.{DumpsByTurn, KeepsByTurn, NeverPasses, Passes};
@@ -15,7 +15,7 @@ ghost use Rattle.alog_registry.specs.Logging.{Logs, IsUnread};
 ghost use Rattle.alog_registry.specs.declared.limit.TextLimit.{TextLimit};
 ghost use Rattle.alog_registry.specs.declared.logger.Spec.{Spec};
 
-use crate::keeping::Keeping;
+use crate::backtrace_seat::BacktraceSeat;
 use crate::shared::Shared;
 use alog_msg::{Item, Level, MessageError, SourceRef};
 use alog_policy::{BookSeat, Outcome, Port};
@@ -35,7 +35,7 @@ pub struct Producer {
     /// Its seat of the loss book.
     pub(crate) losses: BookSeat,
     /// Its place at the backtrace of each logger.
-    pub(crate) keepings: Vec<Keeping>,
+    pub(crate) backtrace_seats: Vec<BacktraceSeat>,
     pub(crate) number: u64,
     /// The most bytes of a text.
     pub(crate) text_limit: usize,
@@ -51,12 +51,12 @@ impl Model for Producer {
       shared = arc_value p.shared;
       pass = p.pass;
       losses = p.losses;
-      keepings = p.keepings.items;
+      backtrace_seats = p.backtrace_seats.items;
       number = p.number;
       limit = p.text_limit;
     } };
 
-    ghost invariant = { λ p. IsProducer (arc_value p.shared) p.pass p.losses p.keepings.items p.text_limit };
+    ghost invariant = { λ p. IsProducer (arc_value p.shared) p.pass p.losses p.backtrace_seats.items p.text_limit };
 }
 
 impl Producer {
@@ -106,8 +106,8 @@ impl Producer {
             book: &shared.book,
             seat: &mut self.losses,
         };
-        let keeping = &mut self.keepings[number as usize];
-        keeping.log(
+        let backtrace_seat = &mut self.backtrace_seats[number as usize];
+        backtrace_seat.log(
             rt,
             alloc,
             &shared.loggers,
@@ -151,8 +151,8 @@ impl Producer {
             book: &shared.book,
             seat: &mut self.losses,
         };
-        let keeping = &mut self.keepings[number as usize];
-        keeping.log_now(
+        let backtrace_seat = &mut self.backtrace_seats[number as usize];
+        backtrace_seat.log_now(
             alloc,
             &shared.loggers,
             &mut port,
@@ -171,7 +171,7 @@ impl Producer {
         ensures post { (s : Spec) → spec_at self.old.shared.loggers number ≡ Some s
             → (p q : Port Item TextLimit) × IsPortOf self.old p × IsPortOf self.new q
             × PostsItemNow PortDid s.policy (Flush number) p q result }
-        ensures same { IsSame self.old self.new × (self.new.keepings ≡ self.old.keepings) }
+        ensures same { IsSame self.old self.new × (self.new.backtrace_seats ≡ self.old.backtrace_seats) }
     {
         let shared: &Shared = &self.shared;
         let mut port = Port {
@@ -207,7 +207,7 @@ impl Producer {
             book: &shared.book,
             seat: &mut self.losses,
         };
-        let keeping = &mut self.keepings[number as usize];
-        keeping.dump(rt, alloc, &shared.loggers, &mut port, number, time, thread)
+        let backtrace_seat = &mut self.backtrace_seats[number as usize];
+        backtrace_seat.dump(rt, alloc, &shared.loggers, &mut port, number, time, thread)
     }
 }

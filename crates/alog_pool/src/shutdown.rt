@@ -13,15 +13,15 @@ ghost use Rattle.alog_ring.specs.Known.{IsPassOf};
 ghost use Rattle.alog_ring.specs.Made.{IsFaithful};
 
 use crate::alone::alone;
-use crate::berth::Berth;
 use crate::error::ProducersOut;
-use crate::ground::Worker;
-use crate::hand::Hand;
 use crate::pool::Pool;
+use crate::pool_parts::WorkerHandle;
 use crate::producer::Producer;
 use crate::report::{Blank, Report, Totals};
 use crate::shared::Shared;
+use crate::sink_seat::SinkSeat;
 use crate::stops::post_stops;
+use crate::worker::Worker;
 use alog_msg::Item;
 use alog_policy::{BookSeat, Counts};
 use alog_ring::Pass;
@@ -56,8 +56,8 @@ impl<S: Store + Drop + Send + 'static> Pool<S> {
             shared,
             mut pass,
             mut losses,
-            mut berths,
-            keepings: _,
+            mut sink_seats,
+            backtrace_seats: _,
             made: _,
             text_limit: _,
             tickets_max: _,
@@ -71,10 +71,17 @@ impl<S: Store + Drop + Send + 'static> Pool<S> {
         } = blank;
         gather(&shared, &mut pass, &mut losses, producers);
         post_stops(rt, &shared.ring, &mut pass, workers.len());
-        let handled = collect(rt, &shared, &mut pass, &mut berths, workers, &mut tickets);
+        let handled = collect(
+            rt,
+            &shared,
+            &mut pass,
+            &mut sink_seats,
+            workers,
+            &mut tickets,
+        );
         let _whole = shared.ring.is_whole(&mut pass);
         let lost = close_book(rt, shared, losses);
-        close_berths(rt, berths, &mut faults, &mut sinks);
+        close_sink_seats(rt, sink_seats, &mut faults, &mut sinks);
         Ok(Report {
             totals: Totals::of(lost, handled),
             tickets,
@@ -101,7 +108,7 @@ fn gather(shared: &Shared, pass: &mut Pass<Item>, losses: &mut BookSeat, produce
             shared: _,
             pass: own,
             losses: seat,
-            keepings: _,
+            backtrace_seats: _,
             number: _,
             text_limit: _,
         } = producer;
@@ -116,26 +123,26 @@ fn collect<R: Threads, S: Store + Drop + Send + 'static>(
     rt: &R,
     shared: &Shared,
     pass: &mut Pass<Item>,
-    berths: &mut Vec<Berth<S>>,
-    workers: Vec<Worker<S>>,
+    sink_seats: &mut Vec<SinkSeat<S>>,
+    workers: Vec<WorkerHandle<S>>,
     tickets: &mut Vec<Vec<u64>>,
 ) -> u64
     requires ring { IsPassOf shared.now.ring pass.old }
     requires faithful { IsFaithful pass.old.known }
-    requires unused { AllByRecursion IsUnused berths.old.items }
-    requires began { (most : ℕ) × AllByRecursion (Begins shared.now (lanes_of berths.old.items) most)
+    requires unused { AllByRecursion IsUnused sink_seats.old.items }
+    requires began { (most : ℕ) × AllByRecursion (Begins shared.now (lanes_of sink_seats.old.items) most)
         (map (λ h. h.promise.start.value) workers.items) }
     requires room { (tickets.old.items ≡ []) × (length workers.items ≤ vec_capacity tickets.old) }
     ensures ring { IsPassOf shared.now.ring pass.new }
     ensures collects { Collects (map (λ h. h.promise.start.value) workers.items) pass.old.known pass.new.known
-        berths.old.items berths.new.items tickets.new.items result }
+        sink_seats.old.items sink_seats.new.items tickets.new.items result }
 {
     let mut all = 0_u64;
     for worker in workers {
-        let Hand {
+        let Worker {
             shared: _,
             pass: own,
-            berths: places,
+            sink_seats: places,
             line: _,
             number: _,
             workers: _,
@@ -144,7 +151,7 @@ fn collect<R: Threads, S: Store + Drop + Send + 'static>(
             handled,
         } = worker.join(rt);
         shared.ring.join(pass, own);
-        take_all_back(berths, places);
+        take_all_back(sink_seats, places);
         tickets.push_reserved(noted);
         all = all.wrapping_add(handled);
     }
@@ -152,13 +159,13 @@ fn collect<R: Threads, S: Store + Drop + Send + 'static>(
 }
 
 /// Takes a worker's place at each sink back.
-fn take_all_back<S: Store + Drop>(berths: &mut Vec<Berth<S>>, places: Vec<Berth<S>>)
-    requires { Each2 IsSameLane berths.old.items places.items }
-    ensures { Each3 TakesBack berths.old.items berths.new.items places.items }
+fn take_all_back<S: Store + Drop>(sink_seats: &mut Vec<SinkSeat<S>>, places: Vec<SinkSeat<S>>)
+    requires { Each2 IsSameLane sink_seats.old.items places.items }
+    ensures { Each3 TakesBack sink_seats.old.items sink_seats.new.items places.items }
 {
     let mut number = 0;
     for place in places {
-        berths[number].take_back(place);
+        sink_seats[number].take_back(place);
         number += 1;
     }
 }
@@ -181,19 +188,19 @@ fn close_book(rt: &impl Wait, shared: Arc<Shared>, losses: BookSeat) -> Counts
 }
 
 /// The sinks and the faults, in order, when all places have come back.
-fn close_berths<S: Store + Drop>(
+fn close_sink_seats<S: Store + Drop>(
     rt: &impl Wait,
-    berths: Vec<Berth<S>>,
+    sink_seats: Vec<SinkSeat<S>>,
     faults: &mut Vec<u64>,
     sinks: &mut Vec<Sink<S>>,
 )
-    requires all { AllByRecursion (λ b. b.seat.known.parts ≡ ALL_SEATS) berths.items }
-    requires faults { (faults.old.items ≡ []) × (length berths.items ≤ vec_capacity faults.old) }
-    requires sinks { (sinks.old.items ≡ []) × (length berths.items ≤ vec_capacity sinks.old) }
-    ensures { Each3 (IsClosing S.tells S.files S.failures) berths.items sinks.new.items faults.new.items }
+    requires all { AllByRecursion (λ b. b.seat.known.parts ≡ ALL_SEATS) sink_seats.items }
+    requires faults { (faults.old.items ≡ []) × (length sink_seats.items ≤ vec_capacity faults.old) }
+    requires sinks { (sinks.old.items ≡ []) × (length sink_seats.items ≤ vec_capacity sinks.old) }
+    ensures { Each3 (IsClosing S.tells S.files S.failures) sink_seats.items sinks.new.items faults.new.items }
 {
-    for berth in berths {
-        faults.push_reserved(berth.faults);
-        sinks.push_reserved(berth.close(rt));
+    for sink_seat in sink_seats {
+        faults.push_reserved(sink_seat.faults);
+        sinks.push_reserved(sink_seat.close(rt));
     }
 }

@@ -5,7 +5,7 @@ ghost use Rattle.alog_ring.specs.Known.{IsPassOf};
 ghost use Rattle.alog_ring.specs.Made.{IsFaithful};
 
 use alog_msg::Item;
-use alog_policy::Room;
+use alog_policy::RoomWait;
 use alog_registry::TextLimit;
 use alog_ring::{Pass, PushError, Ring};
 use std::sync::Wait;
@@ -37,7 +37,7 @@ fn post_stop(rt: &(impl Wait + Clock), ring: &Ring<Item, TextLimit>, pass: &mut 
     ensures ring { IsPassOf ring.now pass.new }
     ensures did { DidPost pass.old.known pass.new.known result }
 {
-    let mut room = Room::new(ring.places());
+    let mut room = RoomWait::new(ring.places());
     for _ in rt.forever() {
         if let Some(posted) = try_stop(rt, ring, pass) {
             return posted;

@@ -15,7 +15,7 @@ use crate::status::{load_number_of, load_status_of};
 use crate::stores::memory_stores;
 use crate::totals::write_totals;
 use alog_config::{Config, leaves, read};
-use alog_load::{LoadError, MOST_MESSAGES, MOST_PRODUCERS, load};
+use alog_load::{LOAD_MESSAGES_MAX, LOAD_PRODUCERS_MAX, LoadError, load};
 use alog_pool::Report;
 use alog_replay::ReplayError;
 use alog_server::{Folders, folder_stores};
@@ -156,7 +156,9 @@ fn lacks_folder<R: Files, E: Write>(
 fn is_out_of_bounds(request: &LoadRequest<'_>) -> bool
     ensures { IsTrue result ↔ AreBad request.now.producers request.now.messages }
 {
-    request.producers < 1 || request.producers > MOST_PRODUCERS || request.messages > MOST_MESSAGES
+    request.producers < 1
+        || request.producers > LOAD_PRODUCERS_MAX
+        || request.messages > LOAD_MESSAGES_MAX
 }
 
 /// Brings all lines to the stores, and writes the totals of a load; behind them, that a store failed, where one did.
@@ -215,7 +217,7 @@ fn say_bounds<E: Write>(request: &LoadRequest<'_>, errors: &mut E) {
         messages,
         ..
     } = *request;
-    let (name, value, bounds) = if producers < 1 || producers > MOST_PRODUCERS {
+    let (name, value, bounds) = if producers < 1 || producers > LOAD_PRODUCERS_MAX {
         ("producers", producers, "1 to 64")
     } else {
         ("messages", messages, "0 to 1000000")

@@ -6,7 +6,7 @@ use Rattle.std.proofs.lemmas.Option.{slice_get_read}
 use Rattle.std.specs.Bool.{IsTrue}
 use Rattle.std.specs.Option.{option_map, is_some}
 use Rattle.alog_msg.specs.declared.level.Level.{Level}
-use Rattle.alog_registry.specs.declared.TheConstants.{MOST_LOGGERS}
+use Rattle.alog_registry.specs.declared.TheConstants.{LOGGERS_MAX}
 use Rattle.alog_registry.specs.declared.logger.Logger.{Logger}
 use Rattle.alog_registry.specs.Listed.{name_at, IsTaken, AreApart, IsListing}
 
@@ -50,7 +50,7 @@ listing_of_none levels e = record {
 }
 
 pub listing_more : (ls : List Logger) (levels : List Level) (x : Logger) (level : Level) → IsListing ls levels → ¬ IsTaken ls x.name
-    → length ls < MOST_LOGGERS → IsListing (ls ++ x ∷ []) (levels ++ level ∷ [])
+    → length ls < LOGGERS_MAX → IsListing (ls ++ x ∷ []) (levels ++ level ∷ [])
 listing_more ls levels x level old free room = record {
   each = let e : length levels ≡ length ls = old.each in simp (length-append, length-append) (omega arith);
   few = simp length-append (omega arith);

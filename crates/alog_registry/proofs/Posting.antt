@@ -7,7 +7,7 @@ use Rattle.alog_policy.specs.Outlet.{Doing}
 use Rattle.alog_policy.specs.Post.{overran_in, discards_in}
 use Rattle.alog_policy.specs.declared.policy.Policy.{Policy}
 use Rattle.alog_policy.specs.declared.policy.Outcome.{Outcome}
-use Rattle.alog_registry.specs.Carry.{PostsItem}
+use Rattle.alog_registry.specs.ItemOutlet.{PostsItem}
 use Rattle.alog_msg.specs.declared.level.Level.{Level}
 use Rattle.alog_msg.specs.declared.message.Message.{Message}
 use Rattle.alog_registry.specs.Logging.{IsBrought, IsMade}

@@ -7,7 +7,7 @@ use Rattle.alog_msg.specs.declared.message.Message.{Message}
 use Rattle.alog_policy.specs.Outlet.{Doing}
 use Rattle.alog_policy.specs.declared.policy.Policy.{Policy}
 use Rattle.alog_policy.specs.declared.policy.Outcome.{Outcome}
-use Rattle.alog_registry.specs.Carry.{PostsItem}
+use Rattle.alog_registry.specs.ItemOutlet.{PostsItem}
 
 -- a marker of a dump: level info, no source
 abbrev pub marker : ℕ → ℤ → ℕ → List ℕ → Message

@@ -6,6 +6,6 @@ pub mod Work
 pub mod Given
 pub mod Keep
 pub mod LaneKeeper
-pub mod Carry
+pub mod ItemOutlet
 pub mod Logging
 pub mod Dumping

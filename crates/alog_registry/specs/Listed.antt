@@ -3,7 +3,7 @@ use Rattle.std.specs.Prelude.{◌≡◌, ◌<◌, ◌≤◌, ℕ, List, [], ◌�
 use Rattle.std.specs.Option.{option_map}
 use Rattle.alog_msg.specs.declared.limits.TheConstants.{LOGGER_NAME_MAX}
 use Rattle.alog_msg.specs.declared.level.Level.{Level}
-use Rattle.alog_registry.specs.declared.TheConstants.{MOST_LOGGERS, MOST_KEPT}
+use Rattle.alog_registry.specs.declared.TheConstants.{LOGGERS_MAX, KEPT_MAX}
 use Rattle.alog_registry.specs.declared.logger.Logger.{Logger}
 use Rattle.alog_registry.specs.declared.logger.Spec.{Spec}
 use Rattle.alog_registry.specs.declared.error.AddError.{AddError}
@@ -28,8 +28,8 @@ AreApart loggers = (m n : ℕ) (name : List ℕ) → name_at loggers m ≡ Some 
 pub record MayBeAdded (loggers : List Logger) (name : List ℕ) (backtrace : ℕ) : Type 0 where
   pub short : length name ≤ LOGGER_NAME_MAX
   pub free : ¬ IsTaken loggers name
-  pub room : length loggers < MOST_LOGGERS
-  pub few : backtrace ≤ MOST_KEPT
+  pub room : length loggers < LOGGERS_MAX
+  pub few : backtrace ≤ KEPT_MAX
 
 -- What callers see of a registry: its loggers and their levels, by number.
 pub record RegistryView : Type 0 where
@@ -55,7 +55,7 @@ IsRefused (Err r) fault = r.fault ≡ fault
 -- what is true of the loggers and so many levels
 pub record IsShared (loggers : List Logger) (levels : ℕ) : Type 0 where
   pub each : levels ≡ length loggers
-  pub few : length loggers ≤ MOST_LOGGERS
+  pub few : length loggers ≤ LOGGERS_MAX
   pub apart : AreApart loggers
 
 abbrev pub IsListing : List Logger → List Level → Type 0

@@ -1,13 +1,13 @@
 //! A backtrace: the last messages that were kept.
 ghost use Rattle.std.specs.Prelude.{◌≡◌, ◌==◌, ◌↔◌, ◌<◌, ◌≤◌, [], ◌∷◌, ◌++◌, List, length, IfOk, IsErrOf};
 ghost use Rattle.alog_registry.specs.Backtrace.{room_for, kept_with, Keeps};
-ghost use Rattle.alog_msg.specs.declared.limits.TheConstants.{LEAST_TEXT_LIMIT, MOST_TEXT_LIMIT};
+ghost use Rattle.alog_msg.specs.declared.limits.TheConstants.{TEXT_LIMIT_MIN, TEXT_LIMIT_MAX};
 ghost use Rattle.alog_msg.specs.declared.message.Message.{Message};
 ghost use Rattle.alog_registry.specs.Limit.{IsShort};
 
-use crate::MOST_KEPT;
+use crate::KEPT_MAX;
 use crate::dumped::Dumped;
-use alog_msg::{MOST_TEXT_LIMIT, Message};
+use alog_msg::{Message, TEXT_LIMIT_MAX};
 use circular_buffer::HeapCircularBuffer;
 use std::alloc::{AllocError, Global};
 use std::marker::Model;
@@ -47,26 +47,26 @@ pub struct Backtrace {
 
 impl Model for Backtrace {
     ghost use Rattle.std.specs.Prelude.{◌≤◌, length};
-    ghost use Rattle.alog_registry.specs.declared.TheConstants.{MOST_KEPT};
-    ghost use Rattle.alog_msg.specs.declared.limits.TheConstants.{LEAST_TEXT_LIMIT, MOST_TEXT_LIMIT};
+    ghost use Rattle.alog_registry.specs.declared.TheConstants.{KEPT_MAX};
+    ghost use Rattle.alog_msg.specs.declared.limits.TheConstants.{TEXT_LIMIT_MIN, TEXT_LIMIT_MAX};
     ghost use Rattle.alog_registry.specs.Backtrace.{Room, AreShort};
 
     ghost Value = { Room };
 
     ghost view = { λ b. record { messages = b.messages.items; most = b.messages.capacity; limit = b.text_limit } };
 
-    ghost invariant = { λ b. (b.messages.capacity ≤ MOST_KEPT) × AreShort b.text_limit b.messages.items
-        × (LEAST_TEXT_LIMIT ≤ b.text_limit) × (b.text_limit ≤ MOST_TEXT_LIMIT) };
+    ghost invariant = { λ b. (b.messages.capacity ≤ KEPT_MAX) × AreShort b.text_limit b.messages.items
+        × (TEXT_LIMIT_MIN ≤ b.text_limit) × (b.text_limit ≤ TEXT_LIMIT_MAX) };
 }
 
 impl Backtrace {
     /// A backtrace that keeps the last so many messages, 0 to 4,096, with texts of at most 8,192 bytes. All memory that it
     /// takes is taken here. The test `limits_of_a_backtrace` shows it.
     pub fn new(alloc: Global, most: usize) -> Result<Backtrace, BacktraceError>
-        ensures made { IfOk result (λ b. b ≡ room_for most MOST_TEXT_LIMIT) }
-        ensures bad_limit { IsErrOf result BacktraceError.BadLimit ↔ (MOST_KEPT < most) }
+        ensures made { IfOk result (λ b. b ≡ room_for most TEXT_LIMIT_MAX) }
+        ensures bad_limit { IsErrOf result BacktraceError.BadLimit ↔ (KEPT_MAX < most) }
     {
-        Backtrace::limited(alloc, most, MOST_TEXT_LIMIT)
+        Backtrace::limited(alloc, most, TEXT_LIMIT_MAX)
     }
 
     /// The same, with another text limit, 64 to 8,192 bytes.
@@ -75,11 +75,11 @@ impl Backtrace {
         most: usize,
         text_limit: usize,
     ) -> Result<Backtrace, BacktraceError>
-        requires { (LEAST_TEXT_LIMIT ≤ text_limit) × (text_limit ≤ MOST_TEXT_LIMIT) }
+        requires { (TEXT_LIMIT_MIN ≤ text_limit) × (text_limit ≤ TEXT_LIMIT_MAX) }
         ensures made { IfOk result (λ b. b ≡ room_for most text_limit) }
-        ensures bad_limit { IsErrOf result BacktraceError.BadLimit ↔ (MOST_KEPT < most) }
+        ensures bad_limit { IsErrOf result BacktraceError.BadLimit ↔ (KEPT_MAX < most) }
     {
-        if most > MOST_KEPT {
+        if most > KEPT_MAX {
             return Err(BacktraceError::BadLimit);
         }
         Ok(Backtrace {
@@ -102,7 +102,7 @@ impl Backtrace {
     /// How many messages are kept.
     pub fn len(&self) -> usize
         ensures len { result ≡ length self.now.messages }
-        ensures within { (result ≤ self.now.most) × (self.now.most ≤ MOST_KEPT) }
+        ensures within { (result ≤ self.now.most) × (self.now.most ≤ KEPT_MAX) }
     {
         self.messages.len()
     }
@@ -117,7 +117,7 @@ impl Backtrace {
     /// The most bytes of a text that it keeps.
     pub fn text_limit(&self) -> usize
         ensures limit { result ≡ self.now.limit }
-        ensures within { (LEAST_TEXT_LIMIT ≤ result) × (result ≤ MOST_TEXT_LIMIT) }
+        ensures within { (TEXT_LIMIT_MIN ≤ result) × (result ≤ TEXT_LIMIT_MAX) }
     {
         self.text_limit
     }
@@ -125,7 +125,7 @@ impl Backtrace {
     /// The most messages that it keeps.
     pub fn most(&self) -> usize
         ensures most { result ≡ self.now.most }
-        ensures within { result ≤ MOST_KEPT }
+        ensures within { result ≤ KEPT_MAX }
     {
         self.messages.capacity()
     }

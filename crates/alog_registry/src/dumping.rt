@@ -3,18 +3,18 @@ ghost use Rattle.std.specs.Prelude.{◌≡◌, ◌+◌, ◌≤◌, ◌<◌, ◌+
 ghost use Rattle.std.specs.Prelude.{Some, OnErr, OnOk, IfOk, IsOk, vec_len, vec_capacity};
 ghost use Rattle.alog_registry.specs.Backtrace.{room_for};
 ghost use Rattle.alog_msg.specs.declared.item.Item.TheVariants as item;
-ghost use Rattle.alog_msg.specs.declared.limits.TheConstants.{LEAST_TEXT_LIMIT};
+ghost use Rattle.alog_msg.specs.declared.limits.TheConstants.{TEXT_LIMIT_MIN};
 ghost use Rattle.alog_msg.specs.declared.message.Message.{Message};
 ghost use Rattle.alog_policy.specs.Progress.{without_waiting};
-ghost use Rattle.alog_registry.specs.Carry.{PostsItemNow};
+ghost use Rattle.alog_registry.specs.ItemOutlet.{PostsItemNow};
 ghost use Rattle.alog_registry.specs.Dumping.{marker, PostsEach, posted_of};
 ghost use Rattle.alog_registry.specs.Limit.{AdmitsShort};
 ghost use Rattle.alog_registry.specs.Listed.{spec_at};
 ghost use Rattle.alog_registry.specs.declared.logger.Spec.{Spec};
 
 use crate::backtrace::Backtrace;
-use crate::carry::Carry;
 use crate::dumped::Dumped;
+use crate::item_outlet::ItemOutlet;
 use crate::loggers::Loggers;
 use alog_msg::{Level, Message, Text};
 use alog_policy::{Outcome, Policy};
@@ -33,7 +33,7 @@ impl Loggers {
     ///
     /// Where nothing was kept, nothing is posted and no memory is taken. Otherwise all that is needed is made before the backtrace
     /// is emptied; where there is no memory, everything is as it was. The test `flushes_and_dumps_at_once` shows it.
-    pub fn dump_backtrace<O: Carry>(
+    pub fn dump_backtrace<O: ItemOutlet>(
         &self,
         alloc: Global,
         outlet: &mut O,
@@ -71,7 +71,7 @@ fn room_of(alloc: Global, backtrace: &Backtrace) -> Result<(Dumped, Vec<Outcome<
     ensures list { IfOk result (λ r. r.0 ≡ room_for backtrace.now.most backtrace.now.limit) }
     ensures none { IfOk result (λ r. r.1.items ≡ []) }
     ensures room { IfOk result (λ r. length backtrace.now.messages + 2 ≤ vec_capacity r.1) }
-    ensures limit { OnOk result (LEAST_TEXT_LIMIT ≤ backtrace.now.limit) }
+    ensures limit { OnOk result (TEXT_LIMIT_MIN ≤ backtrace.now.limit) }
 {
     let outcomes = Vec::with_capacity(alloc, backtrace.len() + 2)?;
     let list = Dumped::new(alloc, backtrace.most(), backtrace.text_limit())?;
@@ -114,7 +114,7 @@ fn marker(
 }
 
 /// Posts what was dumped between the two markers, or nothing where nothing was.
-pub(crate) fn post_dumped<O: Carry>(
+pub(crate) fn post_dumped<O: ItemOutlet>(
     outlet: &mut O,
     policy: Policy,
     start: Message,
@@ -142,7 +142,7 @@ pub(crate) fn post_dumped<O: Carry>(
 }
 
 /// Posts a message.
-fn post<O: Carry>(outlet: &mut O, policy: Policy, message: Message) -> Outcome<()>
+fn post<O: ItemOutlet>(outlet: &mut O, policy: Policy, message: Message) -> Outcome<()>
     requires ready { O.is_ready outlet.old × O.admits outlet.old message }
     ensures post { PostsItemNow O.did policy (item.Text message) outlet.old outlet.new result }
     ensures ready { O.is_ready outlet.new }
@@ -153,7 +153,7 @@ fn post<O: Carry>(outlet: &mut O, policy: Policy, message: Message) -> Outcome<(
 }
 
 /// Posts all messages of the list, oldest first, for whose outcomes there is room.
-fn post_all<O: Carry>(
+fn post_all<O: ItemOutlet>(
     outlet: &mut O,
     policy: Policy,
     list: &mut Dumped,

@@ -1,6 +1,6 @@
 //! What a logger is given to make a message of.
 ghost use Rattle.std.specs.Prelude.{◌≡◌, ◌↔◌, ◌≤◌, ◌<◌, length, IfOk, IsErrOf};
-ghost use Rattle.alog_msg.specs.declared.limits.TheConstants.{LEAST_TEXT_LIMIT, MOST_TEXT_LIMIT};
+ghost use Rattle.alog_msg.specs.declared.limits.TheConstants.{TEXT_LIMIT_MIN, TEXT_LIMIT_MAX};
 ghost use Rattle.alog_registry.specs.Given.{message_of, IsWithin, IsTooLongField};
 
 use alog_msg::{Level, Message, MessageError, SourceRef};
@@ -26,7 +26,7 @@ pub(crate) fn message(
     text_limit: usize,
     given: MessageRef<'_>,
 ) -> Result<Message, MessageError>
-    requires { (LEAST_TEXT_LIMIT ≤ text_limit) × (text_limit ≤ MOST_TEXT_LIMIT) }
+    requires { (TEXT_LIMIT_MIN ≤ text_limit) × (text_limit ≤ TEXT_LIMIT_MAX) }
     ensures made { IfOk result (λ m. m ≡ message_of given.entry) }
     ensures text_too_long { IsErrOf result MessageError.TextTooLong ↔ (text_limit < length given.entry.text.now) }
     ensures field_too_long { IsErrOf result MessageError.FieldTooLong ↔

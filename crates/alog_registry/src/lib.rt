@@ -8,18 +8,18 @@
 //!
 //! Read `logger.rt` (a logger and its `Spec`), `registry.rt` and `loggers.rt` with `specs/Listed.antt` (numbers and names);
 //! `backtrace.rt` and `dumped.rt` with `specs/Backtrace.antt`, `turn.rt` with `specs/Turn.antt`; `work.rt` with
-//! `specs/Work.antt`. Then what is done with a message: `given.rt` with `specs/Given.antt`, `carry.rt` with `specs/Carry.antt` (how
+//! `specs/Work.antt`. Then what is done with a message: `given.rt` with `specs/Given.antt`, `item_outlet.rt` with `specs/ItemOutlet.antt` (how
 //! a post's value is made), `keep.rt` with `specs/Keep.antt` and `LaneKeeper.antt` (who keeps messages), `logging.rt` with
 //! `specs/Logging.antt`, `dumping.rt` with `specs/Dumping.antt`, and `waiting.rt`, which does both with waiting. Below them are
 //! `lookup.rt` (a number by a name) and `level_word.rt`.
 #![tactic(auto)]
 
 mod backtrace;
-mod carry;
 mod dumped;
 mod dumping;
 mod error;
 mod given;
+mod item_outlet;
 mod keep;
 mod level_word;
 mod limit;
@@ -33,10 +33,10 @@ mod waiting;
 mod work;
 
 pub use backtrace::{Backtrace, BacktraceError};
-pub use carry::{Carry, CarryWaiting};
 pub use dumped::Dumped;
 pub use error::{AddError, RefusedSpec};
 pub use given::MessageRef;
+pub use item_outlet::{ItemOutlet, WaitingItemOutlet};
 pub use keep::{Keep, LaneKeeper};
 pub use limit::TextLimit;
 pub use logger::{Logger, Spec};
@@ -47,7 +47,7 @@ pub use turn::{BacktraceItem, BacktraceReply, BacktraceScratch};
 pub use work::{SinkDeed, SinkTurn};
 
 /// There are no more loggers than this.
-pub const MOST_LOGGERS: usize = 256;
+pub const LOGGERS_MAX: usize = 256;
 
 /// No backtrace keeps more messages than this.
-pub const MOST_KEPT: usize = 4_096;
+pub const KEPT_MAX: usize = 4_096;

@@ -3,7 +3,7 @@ ghost use Rattle.std.specs.Prelude.{◌≡◌, ◌==◌, ◌↔◌, ◌<◌, ◌
 ghost use Rattle.std.specs.Option.{option_copied};
 ghost use Rattle.alog_registry.specs.Listed.{name_at, spec_at};
 
-use crate::MOST_LOGGERS;
+use crate::LOGGERS_MAX;
 use crate::level_word::LevelWord;
 use crate::logger::{Logger, Spec};
 use crate::lookup::number_of;
@@ -44,7 +44,7 @@ impl Loggers {
     /// How many loggers there are.
     pub fn len(&self) -> usize
         ensures len { result ≡ length self.now }
-        ensures few { result ≤ MOST_LOGGERS }
+        ensures few { result ≤ LOGGERS_MAX }
     {
         self.loggers.len()
     }

@@ -1,9 +1,9 @@
 //! What a logger does with a message: it is filtered, or posted, and kept for a backtrace.
 ghost use Rattle.std.specs.Prelude.{◌≡◌, ◌⊎◌, ◌≤◌, ◌<◌, length, None, Some, IsSome, OnErr, IfOk, IsOk, IsErrOf};
-ghost use Rattle.alog_msg.specs.declared.limits.TheConstants.{LEAST_TEXT_LIMIT, MOST_TEXT_LIMIT};
+ghost use Rattle.alog_msg.specs.declared.limits.TheConstants.{TEXT_LIMIT_MIN, TEXT_LIMIT_MAX};
 ghost use Rattle.alog_msg.specs.declared.item.Item.TheVariants.{Flush};
 ghost use Rattle.alog_policy.specs.Progress.{without_waiting};
-ghost use Rattle.alog_registry.specs.Carry.{PostsItemNow};
+ghost use Rattle.alog_registry.specs.ItemOutlet.{PostsItemNow};
 ghost use Rattle.alog_registry.specs.Given.{message_of, message_with, IsWithin, IsTooLongField};
 ghost use Rattle.alog_registry.specs.Keep.{KeptOr};
 ghost use Rattle.alog_registry.specs.Listed.{spec_at};
@@ -12,8 +12,8 @@ ghost use Rattle.alog_msg.specs.declared.message.Message.{Message};
 ghost use Rattle.alog_registry.specs.Limit.{AdmitsShort};
 ghost use Rattle.alog_registry.specs.Logging.{kept_by, IsBrought, IsLogged, Logs, IsMade, IsUnread, IsBelow};
 
-use crate::carry::Carry;
 use crate::given::{MessageRef, message};
+use crate::item_outlet::ItemOutlet;
 use crate::keep::Keep;
 use crate::loggers::Loggers;
 use alog_msg::{Level, Message, MessageError, SourceRef};
@@ -47,7 +47,7 @@ impl Loggers {
     /// Otherwise all that is needed is made before anything is done, and a refusal, which is one of `Message::new`, leaves
     /// everything as it was. A text limit is 64 to 8,192 bytes; by condition outlet and keeper take texts of the limit. The
     /// tests `logs_at_once` and `a_ring_of_short_texts` show it.
-    pub fn log_now<O: Carry, K: Keep>(
+    pub fn log_now<O: ItemOutlet, K: Keep>(
         &self,
         alloc: Global,
         outlet: &mut O,
@@ -61,7 +61,7 @@ impl Loggers {
         source: Option<SourceRef<'_>>,
     ) -> Result<LogReply, MessageError>
         requires known { number < length self.now }
-        requires limit { (LEAST_TEXT_LIMIT ≤ text_limit) × (text_limit ≤ MOST_TEXT_LIMIT) }
+        requires limit { (TEXT_LIMIT_MIN ≤ text_limit) × (text_limit ≤ TEXT_LIMIT_MAX) }
         requires outlet { O.is_ready outlet.old × AdmitsShort O.admits text_limit outlet.old }
         requires keeper { K.is_ready keeper.old × AdmitsShort K.admits text_limit keeper.old }
         ensures logs { (s : Spec) → spec_at self.now number ≡ Some s
@@ -97,7 +97,7 @@ impl Loggers {
 
     /// Posts a flush of the logger of this number, which is one that was added, under the logger's policy. It takes no memory and
     /// never waits. The test `flushes_and_dumps_at_once` shows it.
-    pub fn flush<O: Carry>(&self, outlet: &mut O, number: u32) -> Outcome<()>
+    pub fn flush<O: ItemOutlet>(&self, outlet: &mut O, number: u32) -> Outcome<()>
         requires known { number < length self.now }
         requires ready { O.is_ready outlet.old }
         ensures post { (s : Spec) → spec_at self.now number ≡ Some s
@@ -115,7 +115,7 @@ impl Loggers {
 
 /// Posts a message that is at least of this level, and answers how that went, and that it is kept as told; one below it is not made.
 /// It never waits. Where this fails, nothing was done.
-fn bring_now<O: Carry>(
+fn bring_now<O: ItemOutlet>(
     alloc: Global,
     outlet: &mut O,
     text_limit: usize,
@@ -124,7 +124,7 @@ fn bring_now<O: Carry>(
     given: MessageRef<'_>,
     kept: bool,
 ) -> Result<LogReply, MessageError>
-    requires limit { (LEAST_TEXT_LIMIT ≤ text_limit) × (text_limit ≤ MOST_TEXT_LIMIT) }
+    requires limit { (TEXT_LIMIT_MIN ≤ text_limit) × (text_limit ≤ TEXT_LIMIT_MAX) }
     requires ready { O.is_ready outlet.old × AdmitsShort O.admits text_limit outlet.old }
     ensures brought { IfOk result (λ r. IsBrought O.did own (without_waiting policy) kept (message_of given.entry) outlet.old r outlet.new) }
     ensures within { IfOk result (λ r. IsLogged r → IsWithin text_limit given.entry.text.now given.entry.source) }
@@ -150,7 +150,7 @@ fn bring_now<O: Carry>(
 /// Posts a message as `bring_now` does, brings a copy of it to the keeper, and answers whether that kept it, too. Where this fails,
 /// nothing was done.
 #[inline(never)]
-fn bring_and_keep_now<O: Carry, K: Keep>(
+fn bring_and_keep_now<O: ItemOutlet, K: Keep>(
     alloc: Global,
     outlet: &mut O,
     keeper: &mut K,
@@ -159,7 +159,7 @@ fn bring_and_keep_now<O: Carry, K: Keep>(
     policy: Policy,
     given: MessageRef<'_>,
 ) -> Result<LogReply, MessageError>
-    requires limit { (LEAST_TEXT_LIMIT ≤ text_limit) × (text_limit ≤ MOST_TEXT_LIMIT) }
+    requires limit { (TEXT_LIMIT_MIN ≤ text_limit) × (text_limit ≤ TEXT_LIMIT_MAX) }
     requires outlet { O.is_ready outlet.old × AdmitsShort O.admits text_limit outlet.old }
     requires keeper { K.is_ready keeper.old × AdmitsShort K.admits text_limit keeper.old }
     ensures brought { IfOk result (λ r. IsBrought O.did own (without_waiting policy) (kept_by r) (message_of given.entry) outlet.old r outlet.new) }
@@ -184,7 +184,7 @@ fn bring_and_keep_now<O: Carry, K: Keep>(
 
 /// Makes the value of a message that is at least of this level, and puts it into the hand; the hand of one that is filtered stays
 /// empty. Where this fails, nothing was done.
-pub(crate) fn admit<O: Carry>(
+pub(crate) fn admit<O: ItemOutlet>(
     alloc: Global,
     outlet: &mut O,
     text_limit: usize,
@@ -192,7 +192,7 @@ pub(crate) fn admit<O: Carry>(
     given: MessageRef<'_>,
     hand: &mut Option<O::Value>,
 ) -> Result<(), MessageError>
-    requires limit { (LEAST_TEXT_LIMIT ≤ text_limit) × (text_limit ≤ MOST_TEXT_LIMIT) }
+    requires limit { (TEXT_LIMIT_MIN ≤ text_limit) × (text_limit ≤ TEXT_LIMIT_MAX) }
     requires ready { O.is_ready outlet.old × AdmitsShort O.admits text_limit outlet.old }
     requires empty { hand.old ≡ None }
     ensures made { IfOk result (λ _. IsMade O.did O.is_fit O.shows own (message_of given.entry) outlet.old hand.new outlet.new) }

@@ -2,12 +2,12 @@
 ghost use Rattle.std.specs.Prelude.{◌≡◌, ◌↔◌, ◌≤◌, ℕ, length, Some, IsTrue};
 ghost use Rattle.alog_registry.specs.Listed.{name_at, IsTaken, AreApart};
 
-use crate::MOST_LOGGERS;
+use crate::LOGGERS_MAX;
 use crate::logger::Logger;
 
 /// The number of the logger of this name, or `None` where there is no such logger.
 pub(crate) fn number_of(loggers: &[Logger], name: &str) -> Option<u32>
-    requires few { length loggers.now ≤ MOST_LOGGERS }
+    requires few { length loggers.now ≤ LOGGERS_MAX }
     requires apart { AreApart loggers.now }
     ensures { (n : ℕ) → (result ≡ Some n) ↔ (name_at loggers.now n ≡ Some name.now) }
 {
@@ -21,7 +21,7 @@ pub(crate) fn number_of(loggers: &[Logger], name: &str) -> Option<u32>
 
 /// Whether a logger has this name.
 pub(crate) fn is_taken(loggers: &[Logger], name: &str) -> bool
-    requires few { length loggers.now ≤ MOST_LOGGERS }
+    requires few { length loggers.now ≤ LOGGERS_MAX }
     requires apart { AreApart loggers.now }
     ensures { IsTrue result ↔ IsTaken loggers.now name.now }
 {

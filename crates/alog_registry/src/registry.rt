@@ -8,7 +8,7 @@ use crate::level_word::LevelWord;
 use crate::logger::{Logger, Spec};
 use crate::loggers::Loggers;
 use crate::lookup::{is_taken, number_of};
-use crate::{MOST_KEPT, MOST_LOGGERS};
+use crate::{KEPT_MAX, LOGGERS_MAX};
 use alog_msg::{LOGGER_NAME_MAX, Level, Text};
 use std::alloc::{AllocError, AllocFailed, Global};
 use std::marker::Model;
@@ -55,10 +55,10 @@ impl Registry {
         ensures name_taken { IsRefused result AddError.NameTaken
             ↔ ((length name.now ≤ LOGGER_NAME_MAX) × IsTaken self.old.loggers name.now) }
         ensures too_many { IsRefused result AddError.TooMany
-            ↔ ((length name.now ≤ LOGGER_NAME_MAX) × (¬ IsTaken self.old.loggers name.now) × (MOST_LOGGERS ≤ length self.old.loggers)) }
+            ↔ ((length name.now ≤ LOGGER_NAME_MAX) × (¬ IsTaken self.old.loggers name.now) × (LOGGERS_MAX ≤ length self.old.loggers)) }
         ensures bad_limit { IsRefused result AddError.BadLimit
-            ↔ ((length name.now ≤ LOGGER_NAME_MAX) × (¬ IsTaken self.old.loggers name.now) × (length self.old.loggers < MOST_LOGGERS)
-            × (MOST_KEPT < spec.backtrace)) }
+            ↔ ((length name.now ≤ LOGGER_NAME_MAX) × (¬ IsTaken self.old.loggers name.now) × (length self.old.loggers < LOGGERS_MAX)
+            × (KEPT_MAX < spec.backtrace)) }
         ensures out_of_memory { IsRefused result AddError.OutOfMemory → MayBeAdded self.old.loggers name.now spec.backtrace }
         ensures back { IfErr result (λ r. r.spec ≡ spec) }
         ensures err { OnErr result (self.new ≡ self.old) }
@@ -123,16 +123,16 @@ impl Registry {
 
 /// Why no logger of this name and backtrace is added, if that is so.
 fn fault_of(loggers: &[Logger], name: &str, backtrace: usize) -> Option<AddError>
-    requires few { length loggers.now ≤ MOST_LOGGERS }
+    requires few { length loggers.now ≤ LOGGERS_MAX }
     requires apart { AreApart loggers.now }
     ensures field_too_long { (result ≡ Some AddError.FieldTooLong) ↔ (LOGGER_NAME_MAX < length name.now) }
     ensures name_taken { (result ≡ Some AddError.NameTaken)
         ↔ ((length name.now ≤ LOGGER_NAME_MAX) × IsTaken loggers.now name.now) }
     ensures too_many { (result ≡ Some AddError.TooMany)
-        ↔ ((length name.now ≤ LOGGER_NAME_MAX) × (¬ IsTaken loggers.now name.now) × (MOST_LOGGERS ≤ length loggers.now)) }
+        ↔ ((length name.now ≤ LOGGER_NAME_MAX) × (¬ IsTaken loggers.now name.now) × (LOGGERS_MAX ≤ length loggers.now)) }
     ensures bad_limit { (result ≡ Some AddError.BadLimit)
-        ↔ ((length name.now ≤ LOGGER_NAME_MAX) × (¬ IsTaken loggers.now name.now) × (length loggers.now < MOST_LOGGERS)
-        × (MOST_KEPT < backtrace)) }
+        ↔ ((length name.now ≤ LOGGER_NAME_MAX) × (¬ IsTaken loggers.now name.now) × (length loggers.now < LOGGERS_MAX)
+        × (KEPT_MAX < backtrace)) }
     ensures memory { result ≢ Some AddError.OutOfMemory }
     ensures none { result ≡ None → MayBeAdded loggers.now name.now backtrace }
 {
@@ -140,9 +140,9 @@ fn fault_of(loggers: &[Logger], name: &str, backtrace: usize) -> Option<AddError
         Some(AddError::FieldTooLong)
     } else if is_taken(loggers, name) {
         Some(AddError::NameTaken)
-    } else if loggers.len() >= MOST_LOGGERS {
+    } else if loggers.len() >= LOGGERS_MAX {
         Some(AddError::TooMany)
-    } else if backtrace > MOST_KEPT {
+    } else if backtrace > KEPT_MAX {
         Some(AddError::BadLimit)
     } else {
         None

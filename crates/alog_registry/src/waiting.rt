@@ -1,6 +1,6 @@
 //! Logs that wait for room and for the lock of a backtrace, and dumps that wait for that lock.
 ghost use Rattle.std.specs.Prelude.{◌≡◌, ◌⊎◌, ◌≤◌, ◌<◌, length, true, Some, OnErr, IfOk, IsOk, IsErrOf};
-ghost use Rattle.alog_msg.specs.declared.limits.TheConstants.{LEAST_TEXT_LIMIT, MOST_TEXT_LIMIT};
+ghost use Rattle.alog_msg.specs.declared.limits.TheConstants.{TEXT_LIMIT_MIN, TEXT_LIMIT_MAX};
 ghost use Rattle.alog_msg.specs.declared.message.Message.{Message};
 ghost use Rattle.alog_policy.specs.Progress.{without_waiting};
 ghost use Rattle.alog_registry.specs.Backtrace.{Room};
@@ -12,10 +12,10 @@ ghost use Rattle.alog_registry.specs.Listed.{spec_at};
 ghost use Rattle.alog_registry.specs.Logging.{IsBelow, IsBrought, IsLogged, Logs, IsUnread};
 ghost use Rattle.alog_registry.specs.declared.logger.Spec.{Spec};
 
-use crate::carry::{Carry, CarryWaiting};
 use crate::dumped::Dumped;
 use crate::dumping::{markers, post_dumped};
 use crate::given::{MessageRef, message};
+use crate::item_outlet::{ItemOutlet, WaitingItemOutlet};
 use crate::keep::LaneKeeper;
 use crate::loggers::Loggers;
 use crate::logging::{LogReply, admit};
@@ -30,7 +30,7 @@ impl Loggers {
     /// Logs a message as `log_now` does, but waits: under `Block` until there is room, and for the lock of the
     /// backtrace, so that it is always kept where there is one. That it returns is not promised. The test `logs_with_waiting`
     /// shows it.
-    pub fn log<O: CarryWaiting>(
+    pub fn log<O: WaitingItemOutlet>(
         &self,
         rt: &(impl Wait + Clock),
         alloc: Global,
@@ -45,7 +45,7 @@ impl Loggers {
         source: Option<SourceRef<'_>>,
     ) -> Result<LogReply, MessageError>
         requires known { number < length self.now }
-        requires limit { (LEAST_TEXT_LIMIT ≤ text_limit) × (text_limit ≤ MOST_TEXT_LIMIT) }
+        requires limit { (TEXT_LIMIT_MIN ≤ text_limit) × (text_limit ≤ TEXT_LIMIT_MAX) }
         requires outlet { O.is_ready outlet.old × AdmitsShort O.admits text_limit outlet.old }
         requires keeper { IsSeated keeper.old × (text_limit ≤ keeper.old.lane.now.first.limit) }
         ensures logs { (s : Spec) → spec_at self.now number ≡ Some s
@@ -87,7 +87,7 @@ impl Loggers {
     ///
     /// What is needed is made before the backtrace is emptied, also where nothing is kept, and where there is no memory,
     /// everything is as it was. That it returns is not promised. The test `logs_with_waiting` shows it.
-    pub fn dump_shared<O: Carry>(
+    pub fn dump_shared<O: ItemOutlet>(
         &self,
         rt: &impl Wait,
         alloc: Global,
@@ -101,7 +101,7 @@ impl Loggers {
         requires outlet { O.is_ready outlet.old }
         requires seated { IsSeated keeper.old }
         requires list { HasList keeper.old }
-        requires limit { (LEAST_TEXT_LIMIT ≤ keeper.old.lane.now.first.limit)
+        requires limit { (TEXT_LIMIT_MIN ≤ keeper.old.lane.now.first.limit)
             × AdmitsShort O.admits keeper.old.lane.now.first.limit outlet.old }
         ensures dumped { (s : Spec) → spec_at self.now number ≡ Some s → IfOk result (λ v. (d : Room) × DumpsByTurn keeper.old d keeper.new
             × PostsEach O.did (without_waiting s.policy) (posted_of number time thread d.messages) outlet.old v.items outlet.new) }
@@ -126,7 +126,7 @@ impl Loggers {
 
 /// Posts a message that is at least of this level, and answers how that went, and that it is kept as told; one below it is not made.
 /// Where this fails, nothing was done.
-fn bring<O: CarryWaiting>(
+fn bring<O: WaitingItemOutlet>(
     rt: &(impl Wait + Clock),
     alloc: Global,
     outlet: &mut O,
@@ -136,7 +136,7 @@ fn bring<O: CarryWaiting>(
     given: MessageRef<'_>,
     kept: bool,
 ) -> Result<LogReply, MessageError>
-    requires limit { (LEAST_TEXT_LIMIT ≤ text_limit) × (text_limit ≤ MOST_TEXT_LIMIT) }
+    requires limit { (TEXT_LIMIT_MIN ≤ text_limit) × (text_limit ≤ TEXT_LIMIT_MAX) }
     requires ready { O.is_ready outlet.old × AdmitsShort O.admits text_limit outlet.old }
     ensures brought { IfOk result (λ r. IsBrought O.did own policy kept (message_of given.entry) outlet.old r outlet.new) }
     ensures within { IfOk result (λ r. IsLogged r → IsWithin text_limit given.entry.text.now given.entry.source) }
@@ -160,7 +160,7 @@ fn bring<O: CarryWaiting>(
 /// Posts a message as `bring` does, and keeps a copy of it as soon as the lock is got. Where this fails, nothing was done. It is not
 /// inlined, so that a log that keeps nothing has no room for a copy on its stack, which would be cleared each time.
 #[inline(never)]
-fn bring_and_keep<O: CarryWaiting>(
+fn bring_and_keep<O: WaitingItemOutlet>(
     rt: &(impl Wait + Clock),
     alloc: Global,
     outlet: &mut O,
@@ -170,7 +170,7 @@ fn bring_and_keep<O: CarryWaiting>(
     policy: Policy,
     given: MessageRef<'_>,
 ) -> Result<LogReply, MessageError>
-    requires limit { (LEAST_TEXT_LIMIT ≤ text_limit) × (text_limit ≤ MOST_TEXT_LIMIT) }
+    requires limit { (TEXT_LIMIT_MIN ≤ text_limit) × (text_limit ≤ TEXT_LIMIT_MAX) }
     requires outlet { O.is_ready outlet.old × AdmitsShort O.admits text_limit outlet.old }
     requires keeper { IsSeated keeper.old × (text_limit ≤ keeper.old.lane.now.first.limit) }
     ensures brought { IfOk result (λ r. IsBrought O.did own policy true (message_of given.entry) outlet.old r outlet.new) }

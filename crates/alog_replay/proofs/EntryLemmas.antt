@@ -8,7 +8,7 @@ use Rattle.std.specs.Str.{is_utf8, bytes_eq}
 use Rattle.std.proofs.lemmas.Bool.{false≢true}
 use Rattle.std.proofs.lemmas.Slice.Eq.{bytes_eq-Decides}
 use Rattle.std.proofs.lemmas.Str.{IsUtf8-from_is_utf8, is_utf8-from_IsUtf8}
-use Rattle.alog_replay.specs.declared.limits.TheConstants.{LINE_MAX}
+use Rattle.alog_replay.specs.declared.limits.TheConstants.{SCRIPT_LINE_MAX}
 use Rattle.alog_replay.specs.Cut.{tail_of, IsCut}
 use Rattle.alog_replay.specs.Command.{Row, rows, row_named, Given, SpellsForm, SpellsRow, Spells}
 use Rattle.alog_replay.specs.Entry.{IsReadable, IsSkipped, IsEntry, OneCommand, OneEntry}
@@ -162,7 +162,7 @@ text_or_not line false e = inr (λ u. false≢true (sym e ∙ is_utf8-from_IsUtf
 
 readable_or_not : (line : List ℕ) → IsReadable line ⊎ (IsReadable line → ⊥)
 readable_or_not line =
-    dite (dec_le (length line) LINE_MAX)
+    dite (dec_le (length line) SCRIPT_LINE_MAX)
     (λ y. elim (text_or_not line (is_utf8 line) refl) [ inl u ↦ inl (y, u) | inr n ↦ inr (λ r. n r.1) ])
     (λ n. inr (λ r. n r.0))
 

@@ -4,7 +4,7 @@ use Rattle.std.proofs.Common.{subst, arith, append_assoc, length-append, if◌th
 use Rattle.std.proofs.Math.Dec.{eqb-suc-zero}
 use Rattle.std.proofs.lemmas.List.{append-nil}
 use Rattle.std.specs.Io.KnownBytes.{Consumes, IsAtEnd}
-use Rattle.alog_replay.specs.declared.limits.TheConstants.{LINE_MAX}
+use Rattle.alog_replay.specs.declared.limits.TheConstants.{SCRIPT_LINE_MAX}
 use Rattle.alog_replay.specs.Lines.{lines_of, IsUnbroken}
 use Rattle.alog_replay.specs.LineState.{LineState, rest_of}
 use Rattle.alog_replay.specs.Reading.{FindsLine, IsNextLine, MovesPiece}
@@ -34,7 +34,7 @@ takes_whole (Some xs) old new h = ap (λ t. old.pending ++ (t ++ xs)) (sym h.0)
 
 -- a line that its newline ends
 pub finds_ended : (script left : Option (List ℕ)) (old new : LineState) → IsUnbroken old.line
-    → Consumes script (rest_of old left) old.line → MovesPiece piece.Ended old new → length new.line ≤ LINE_MAX
+    → Consumes script (rest_of old left) old.line → MovesPiece piece.Ended old new → length new.line ≤ SCRIPT_LINE_MAX
     → FindsLine next.Found script (rest_of new left) new.line
 finds_ended None left old new u h m fits = tt
 finds_ended (Some s) None old new u h m fits = absurd h
@@ -52,11 +52,11 @@ finds_too_long (Some s) None old new u h m = absurd h
 finds_too_long (Some s) (Some xs) old new u h m =
     let cut = rw m.3 at h in
     let e : s ≡ (old.line ++ m.1) ++ (m.2 ++ xs) = cut ∙ simp append_assoc in
-    let over : LINE_MAX < length (old.line ++ m.1) = omega (arith, m.5, length-append old.line m.1) in
+    let over : SCRIPT_LINE_MAX < length (old.line ++ m.1) = omega (arith, m.5, length-append old.line m.1) in
     rw m.0 (h, begins_too_long s (old.line ++ m.1) (m.2 ++ xs) (unbroken-append old.line m.1 u m.4) over e)
 
 -- what is there at the end of the script: a last line, or nothing
-finds_at_end : (s line : List ℕ) → IsUnbroken line → s ≡ line → length line ≤ LINE_MAX → (answer : Line)
+finds_at_end : (s line : List ℕ) → IsUnbroken line → s ≡ line → length line ≤ SCRIPT_LINE_MAX → (answer : Line)
     → answer ≡ (if length line == 0 then next.End else next.Found) → IsNextLine answer s line []
 finds_at_end s [] u e fits answer a = rw a (e, ap lines_of e ∙ lines_of-nil, refl, refl)
 finds_at_end s (b ∷ line) u e fits answer a =
@@ -64,7 +64,7 @@ finds_at_end s (b ∷ line) u e fits answer a =
     rw found (takes_last s (b ∷ line) u (omega arith) e fits)
 
 pub finds_last : (script after : Option (List ℕ)) (line : List ℕ) (answer : Line) → IsUnbroken line → Consumes script after line
-    → IsAtEnd after → length line ≤ LINE_MAX
+    → IsAtEnd after → length line ≤ SCRIPT_LINE_MAX
     → answer ≡ (if length line == 0 then next.End else next.Found) → FindsLine answer script after line
 finds_last None after line answer u h end fits a = tt
 finds_last (Some s) None line answer u h end fits a = absurd h

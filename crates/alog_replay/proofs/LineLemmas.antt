@@ -3,7 +3,7 @@ use Rattle.std.proofs.Common.{◌≡◌, ◌≢◌, ◌≤◌, ◌<◌, ℕ, Lis
 use Rattle.std.proofs.Common.{ap, arith, append_assoc, length-append}
 use Rattle.std.proofs.lemmas.Bool.{eqb-true}
 use Rattle.std.proofs.lemmas.List.{append-nil}
-use Rattle.alog_replay.specs.declared.limits.TheConstants.{LINE_MAX}
+use Rattle.alog_replay.specs.declared.limits.TheConstants.{SCRIPT_LINE_MAX}
 use Rattle.alog_replay.specs.Lines.{lines_of, begin_line, IsUnbroken, TakesLine, BeginsTooLong}
 
 -- a byte that is no newline begins the first line
@@ -47,7 +47,7 @@ begins_first (b ∷ c ∷ w) x h more =
     (p.0, p.1, lines_of-cons b ((c ∷ w) ++ x) h.0 ∙ ap (begin_line b) p.2)
 
 -- a line that its newline ends is taken
-pub takes_ended : (script line after : List ℕ) → IsUnbroken line → script ≡ line ++ 10 ∷ after → length line ≤ LINE_MAX
+pub takes_ended : (script line after : List ℕ) → IsUnbroken line → script ≡ line ++ 10 ∷ after → length line ≤ SCRIPT_LINE_MAX
     → TakesLine script line after
 takes_ended script line after h e fits = record {
   taken = line ++ 10 ∷ [];
@@ -62,7 +62,7 @@ last_fronts line [] y h more p = ap lines_of (append-nil line) ∙ (last_line li
 last_fronts line (b ∷ x) y h more p = absurd cc
 
 -- a last line without a newline is taken
-pub takes_last : (script line : List ℕ) → IsUnbroken line → 0 < length line → script ≡ line → length line ≤ LINE_MAX
+pub takes_last : (script line : List ℕ) → IsUnbroken line → 0 < length line → script ≡ line → length line ≤ SCRIPT_LINE_MAX
     → TakesLine script line []
 takes_last script line h more e fits = record {
   taken = line;
@@ -73,7 +73,7 @@ takes_last script line h more e fits = record {
 }
 
 -- a first line of more bytes than a line may have
-pub begins_too_long : (script w x : List ℕ) → IsUnbroken w → LINE_MAX < length w → script ≡ w ++ x → BeginsTooLong script
+pub begins_too_long : (script w x : List ℕ) → IsUnbroken w → SCRIPT_LINE_MAX < length w → script ≡ w ++ x → BeginsTooLong script
 begins_too_long script w x h over e =
     let p = begins_first w x h (omega arith) in
     (w ++ p.0, p.1, ap lines_of e ∙ p.2, omega (arith, length-append w p.0))

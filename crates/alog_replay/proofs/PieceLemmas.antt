@@ -3,7 +3,7 @@ use Rattle.std.proofs.Common.{◌≡◌, ◌≢◌, ◌≤◌, ◌<◌, ℕ, zer
 use Rattle.std.proofs.Common.{◌∙◌, ap, subst, arith}
 use Rattle.std.proofs.lemmas.List.{take-append-drop, take_all, length-take, length-take-le, drop-take, drop-drop, drop_more}
 use Rattle.std.specs.List.{slice_range}
-use Rattle.alog_replay.specs.declared.limits.TheConstants.{LINE_MAX}
+use Rattle.alog_replay.specs.declared.limits.TheConstants.{SCRIPT_LINE_MAX}
 use Rattle.alog_replay.specs.Lines.{IsUnbroken}
 
 -- bytes of which none is a newline, by their places
@@ -15,9 +15,9 @@ unbroken_take (b ∷ bytes) (suc n) h before =
     (before 0 (omega arith), unbroken_take bytes n (omega arith) (λ k l. before (suc k) (omega arith)))
 
 -- more bytes than a line may have
-pub too_long : (pending line : List ℕ) (n : ℕ) → n ≤ length pending → ((k : ℕ) → k < n → get_or pending k 0 ≢ 10) → length line ≤ LINE_MAX
-    → LINE_MAX - length line < n
-    → (p : List ℕ) × (q : List ℕ) × (pending ≡ p ++ q) × IsUnbroken p × (LINE_MAX < length line + length p)
+pub too_long : (pending line : List ℕ) (n : ℕ) → n ≤ length pending → ((k : ℕ) → k < n → get_or pending k 0 ≢ 10) → length line ≤ SCRIPT_LINE_MAX
+    → SCRIPT_LINE_MAX - length line < n
+    → (p : List ℕ) × (q : List ℕ) × (pending ≡ p ++ q) × IsUnbroken p × (SCRIPT_LINE_MAX < length line + length p)
 too_long pending line n h before fits over =
     let e = length-take-le n pending h in
     (take n pending, drop n pending, sym (take-append-drop n pending), unbroken_take pending n h before, omega (arith, e))

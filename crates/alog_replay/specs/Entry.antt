@@ -1,14 +1,14 @@
 -- What a line of a script is: refused, skipped or a command.
 use Rattle.std.specs.Prelude.{◌≡◌, ◌≤◌, ◌⊎◌, ℕ, List, [], ◌∷◌, length, IsUtf8}
 use Rattle.alog_replay.specs.Command.{Spells}
-use Rattle.alog_replay.specs.declared.limits.TheConstants.{LINE_MAX}
+use Rattle.alog_replay.specs.declared.limits.TheConstants.{SCRIPT_LINE_MAX}
 use Rattle.alog_replay.specs.declared.command.Command.{Command}
 use Rattle.alog_replay.specs.declared.entry.Entry.{Entry}
 use Rattle.alog_replay.specs.declared.entry.Entry.TheVariants.{Skipped, Does, Refused}
 
 -- a line that is not too long, in UTF-8
 abbrev pub IsReadable : List ℕ → Type 0
-IsReadable line = (length line ≤ LINE_MAX) × IsUtf8 line
+IsReadable line = (length line ≤ SCRIPT_LINE_MAX) × IsUtf8 line
 
 -- an empty line, or one that begins with '#'
 abbrev pub IsSkipped : List ℕ → Type 0

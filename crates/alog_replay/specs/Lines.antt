@@ -1,7 +1,7 @@
 -- The lines of a script.
 use Rattle.std.specs.Prelude.{◌≡◌, ◌≢◌, ◌≤◌, ◌<◌, ◌==◌, ℕ, List, [], ◌∷◌, ◌++◌, if◌then◌else◌, length}
 use Rattle.std.specs.List.{AllByRecursion}
-use Rattle.alog_replay.specs.declared.limits.TheConstants.{LINE_MAX}
+use Rattle.alog_replay.specs.declared.limits.TheConstants.{SCRIPT_LINE_MAX}
 
 -- a byte before the first line, or a line of its own where there is no line
 abbrev pub begin_line : ℕ → List (List ℕ) → List (List ℕ)
@@ -19,11 +19,11 @@ pub record TakesLine (script line after : List ℕ) : Type 0 where
   pub whole : script ≡ taken ++ after
   pub lines : lines_of script ≡ line ∷ lines_of after
   pub fronts : (x y : List ℕ) → after ≡ x ++ y → lines_of (taken ++ x) ≡ line ∷ lines_of x
-  pub fits : length line ≤ LINE_MAX
+  pub fits : length line ≤ SCRIPT_LINE_MAX
 
--- the first line has more than `LINE_MAX` bytes
+-- the first line has more than `SCRIPT_LINE_MAX` bytes
 abbrev pub BeginsTooLong : List ℕ → Type 0
-BeginsTooLong script = (line : List ℕ) × (lines : List (List ℕ)) × (lines_of script ≡ line ∷ lines) × (LINE_MAX < length line)
+BeginsTooLong script = (line : List ℕ) × (lines : List (List ℕ)) × (lines_of script ≡ line ∷ lines) × (SCRIPT_LINE_MAX < length line)
 
 -- no newline is in these bytes
 abbrev pub IsUnbroken : List ℕ → Type 0

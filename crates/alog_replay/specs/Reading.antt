@@ -3,7 +3,7 @@ use Rattle.std.specs.Prelude.{◌≡◌, ◌++◌, ◌∷◌, ◌<◌, ◌+◌, 
 use Rattle.alog_replay.specs.Known.{WhereKnown}
 use Rattle.alog_replay.specs.Lines.{lines_of, TakesLine, BeginsTooLong, IsUnbroken}
 use Rattle.alog_replay.specs.LineState.{LineState}
-use Rattle.alog_replay.specs.declared.limits.TheConstants.{LINE_MAX}
+use Rattle.alog_replay.specs.declared.limits.TheConstants.{SCRIPT_LINE_MAX}
 use Rattle.alog_replay.specs.declared.lines.Line.{Line}
 use Rattle.alog_replay.specs.declared.lines.Line.TheVariants as next
 use Rattle.alog_replay.specs.declared.lines.Piece.{Piece}
@@ -24,4 +24,4 @@ abbrev pub MovesPiece : Piece → LineState → LineState → Type 0
 MovesPiece piece.Ended old new = (p : List ℕ) × (old.pending ≡ p ++ 10 ∷ new.pending) × (new.line ≡ old.line ++ p) × IsUnbroken p
 MovesPiece piece.Whole old new = (new.pending ≡ []) × (new.line ≡ old.line ++ old.pending) × IsUnbroken old.pending
 MovesPiece piece.TooLong old new =
-    (new ≡ old) × (p : List ℕ) × (q : List ℕ) × (old.pending ≡ p ++ q) × IsUnbroken p × (LINE_MAX < length old.line + length p)
+    (new ≡ old) × (p : List ℕ) × (q : List ℕ) × (old.pending ≡ p ++ q) × IsUnbroken p × (SCRIPT_LINE_MAX < length old.line + length p)

@@ -3,7 +3,7 @@ ghost use Rattle.alog_replay.specs.Entry.{IsEntry, IsSkipped, OneCommand, OneEnt
 ghost use Rattle.alog_replay.specs.declared.entry.Entry.{Entry};
 
 use crate::command::Command;
-use crate::limits::LINE_MAX;
+use crate::limits::SCRIPT_LINE_MAX;
 use crate::parser::parse;
 use std::str;
 
@@ -17,9 +17,9 @@ pub enum Entry<'a> {
     Refused,
 }
 
-/// What a line of at most `LINE_MAX` bytes is, without its newline.
+/// What a line of at most `SCRIPT_LINE_MAX` bytes is, without its newline.
 pub fn entry_of(line: &[u8]) -> Entry<'_>
-    requires { length line.now ≤ LINE_MAX }
+    requires { length line.now ≤ SCRIPT_LINE_MAX }
     ensures { (entry : Entry) → (result ≡ entry) ↔ IsEntry line.now entry }
 {
     let Ok(text) = str::from_utf8(line) else {

@@ -1,7 +1,7 @@
 //! What a script may ask for at most.
 
 /// The most bytes that a line of a script has, its newline not counted.
-pub const LINE_MAX: usize = 16_384;
+pub const SCRIPT_LINE_MAX: usize = 16_384;
 
 /// The most steps that one line asks for, and that one `run` makes.
 pub const STEPS_MAX: u32 = 512;

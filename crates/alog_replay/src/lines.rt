@@ -3,7 +3,7 @@ ghost use Rattle.std.specs.Io.KnownBytes.{Consumes, IsAtEnd};
 ghost use Rattle.alog_replay.specs.LineState.{rest_of, work_left};
 ghost use Rattle.alog_replay.specs.Lines.{IsUnbroken};
 
-use crate::limits::{CHUNK, LINE_MAX, READS_MAX};
+use crate::limits::{CHUNK, READS_MAX, SCRIPT_LINE_MAX};
 use std::alloc::{AllocError, Global};
 use std::io::{ErrorKind, Read};
 use std::marker::Model;
@@ -17,7 +17,7 @@ pub struct ReadFault;
 /// What comes next in a script.
 #[derive(Clone, Copy, Debug, PartialEq, Eq)]
 pub enum Line {
-    /// A line of at most `LINE_MAX` bytes.
+    /// A line of at most `SCRIPT_LINE_MAX` bytes.
     Found,
     /// A line of more bytes.
     TooLong,
@@ -32,7 +32,7 @@ enum Piece {
     Ended,
     // Not to its newline: none is pending.
     Whole,
-    // Past `LINE_MAX` bytes.
+    // Past `SCRIPT_LINE_MAX` bytes.
     TooLong,
 }
 
@@ -60,14 +60,14 @@ pub struct LineReader {
 impl Model for LineReader {
     ghost use Rattle.std.specs.Prelude.{◌≡◌, ◌≤◌, slice_range, vec_len, vec_capacity};
     ghost use Rattle.alog_replay.specs.LineState.{LineState};
-    ghost use Rattle.alog_replay.specs.declared.limits.TheConstants.{CHUNK, LINE_MAX};
+    ghost use Rattle.alog_replay.specs.declared.limits.TheConstants.{CHUNK, SCRIPT_LINE_MAX};
 
     ghost Value = { LineState };
 
     ghost view = { λ r. record { line = r.line.items; pending = slice_range r.chunk.items r.start r.end; reads_left = r.reads_left } };
 
     ghost invariant = { λ r. (r.start ≤ r.end) × (r.end ≤ vec_len r.chunk) × (vec_len r.chunk ≡ CHUNK)
-        × (vec_len r.line ≤ LINE_MAX) × (LINE_MAX ≤ vec_capacity r.line) };
+        × (vec_len r.line ≤ SCRIPT_LINE_MAX) × (SCRIPT_LINE_MAX ≤ vec_capacity r.line) };
 }
 
 impl LineReader {
@@ -78,7 +78,7 @@ impl LineReader {
         ensures { IfOk result (λ r. r ≡ record { line = []; pending = []; reads_left = READS_MAX }) }
     {
         Ok(LineReader {
-            line: Vec::with_capacity(alloc, LINE_MAX)?,
+            line: Vec::with_capacity(alloc, SCRIPT_LINE_MAX)?,
             chunk: vec![in alloc; 0; CHUNK]?,
             start: 0,
             end: 0,
@@ -89,7 +89,7 @@ impl LineReader {
     /// The line that was found last, without its newline.
     pub fn line(&self) -> &[u8]
         ensures value { result.now ≡ self.now.line }
-        ensures fits { length result.now ≤ LINE_MAX }
+        ensures fits { length result.now ≤ SCRIPT_LINE_MAX }
     {
         self.line.as_slice()
     }
@@ -140,11 +140,11 @@ impl LineReader {
     fn take_piece(&mut self) -> Piece
         ensures piece { MovesPiece result self.old self.new }
         ensures reads { self.new.reads_left ≡ self.old.reads_left }
-        ensures fits { length self.new.line ≤ LINE_MAX }
+        ensures fits { length self.new.line ≤ SCRIPT_LINE_MAX }
     {
         let pending = &self.chunk[self.start..self.end];
         let len = unbroken_len(pending);
-        if len > LINE_MAX - self.line.len() {
+        if len > SCRIPT_LINE_MAX - self.line.len() {
             return Piece::TooLong;
         }
         self.line.extend_from_slice(&pending[..len]).unwrap();

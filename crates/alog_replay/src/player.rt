@@ -10,7 +10,7 @@ ghost use Rattle.alog_replay.specs.Plain.{plain, OneText};
 use crate::command::{Actor, Command};
 use crate::entry::{Entry, entry_of};
 use crate::error::{LineError, ReplayError};
-use crate::limits::{LINE_MAX, STEPS_MAX};
+use crate::limits::{SCRIPT_LINE_MAX, STEPS_MAX};
 use crate::lines::{Line, LineReader};
 use crate::scene::Playable;
 use crate::session::Session;
@@ -81,7 +81,7 @@ fn play_line<S: Playable>(
     line: &[u8],
     out: &mut String,
 ) -> Result<(), LineError>
-    requires { length line.now ≤ LINE_MAX }
+    requires { length line.now ≤ SCRIPT_LINE_MAX }
     ensures done { OnOk result (LineDone S.scene stage.old line.now
         (string_bytes out.old) (string_bytes out.new) stage.new) }
     ensures refused { IsErrOf result LineError.Refused → LineRefused S.scene stage.old line.now
@@ -124,7 +124,7 @@ fn play_and_write<S: Playable, W: Write>(
     writer: &mut W,
     out: &mut String,
 ) -> Result<(), ReplayError>
-    requires { length line.now ≤ LINE_MAX }
+    requires { length line.now ≤ SCRIPT_LINE_MAX }
     ensures done { OnOk result (WritesLine S.scene stage.old line.now stage.new (W.contents writer.old) (W.contents writer.new)) }
     ensures refused { IfErr result (λ e. (k : ℕ) → e ≡ ReplayError.LineRefused k → (k ≡ number)
         × WritesRefused S.scene stage.old line.now (W.contents writer.old) (W.contents writer.new)) }

@@ -2,7 +2,7 @@
 ghost use Rattle.std.specs.Prelude.{◌≡◌, ℕ, ◌+◌, ◌%◌, ◌<◌, ◌≤◌, [], true, false, None, IsSome, IfSome, IfOk, MatchOption};
 ghost use Rattle.alog_core.specs.Queue.{last, PushBusy, PopBusy};
 ghost use Rattle.alog_core.specs.World.{is_size};
-ghost use Rattle.alog_core.specs.declared.TheConstants.{MOST_PLACES};
+ghost use Rattle.alog_core.specs.declared.TheConstants.{PLACES_MAX};
 ghost use Rattle.alog_ring.specs.Sight.{first_sight, Idle, SawNext, SawFree, SawFront, SawFull};
 ghost use Rattle.alog_ring.specs.Plays.{saw_next, saw_free, saw_front, saw_full, Ends};
 ghost use Rattle.alog_ring.specs.Rule.{word_count};
@@ -25,7 +25,7 @@ pub(crate) struct Board<T, L: Limit<T>> {
     /// One less than the number of places: the bits of a ticket that tell its place.
     pub(crate) mask: u64,
     ghost sized: { (table.shared.table_id.words ≡ word_count (mask + 1)) × (table.shared.table_id.slots ≡ mask + 1)
-        × (table.shared.key.places ≡ mask + 1) × (mask < MOST_PLACES) × Masks mask },
+        × (table.shared.key.places ≡ mask + 1) × (mask < PLACES_MAX) × Masks mask },
 }
 
 /// Lets an empty hand go.

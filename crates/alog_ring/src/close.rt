@@ -3,7 +3,7 @@ ghost use Rattle.std.specs.Prelude.{◌≡◌, ◌+◌, ◌<◌, ◌≤◌, ◌�
 ghost use Rattle.std.specs.List.{AllByRecursion};
 ghost use Rattle.std.specs.Mem.Slots.{slots_items, slots_len, IsFull};
 ghost use Rattle.alog_core.specs.Queue.{Cell, last};
-ghost use Rattle.alog_core.specs.declared.TheConstants.{MOST_PLACES};
+ghost use Rattle.alog_core.specs.declared.TheConstants.{PLACES_MAX};
 ghost use Rattle.alog_ring.specs.Known.{IsPassOf};
 ghost use Rattle.alog_ring.specs.Share.{Closes, ticket_and_item};
 ghost use Rattle.alog_ring.specs.Sight.{Idle};
@@ -37,7 +37,7 @@ fn take_out<T>(
     mask: u64,
 ) -> Vec<(u64, T)>
     requires places { IsFull closed.slots × (slots_len closed.slots ≡ mask + 1) }
-    requires sizes { (mask < MOST_PLACES) × (first ≤ last) × Masks mask }
+    requires sizes { (mask < PLACES_MAX) × (first ≤ last) × Masks mask }
     requires room { (left.items ≡ []) × (mask + 1 ≤ vec_capacity left) }
     ensures { (cells : List (Cell T)) → LieIn (slots_items closed.slots) first (mask + 1) cells → result.items ≡ map ticket_and_item cells }
 {

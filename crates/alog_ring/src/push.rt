@@ -8,7 +8,7 @@ use crate::board::let_go;
 use crate::limit::Limit;
 use crate::pass::Pass;
 use crate::ring::Ring;
-use alog_core::LAST_TICKET;
+use alog_core::TICKET_END;
 use thiserror::Error;
 
 /// Why a push did not go through: the value comes back. The tests `a_ring_of_two` and `the_last_ticket_of_all` show it.
@@ -74,7 +74,7 @@ impl<T, L: Limit<T>> Ring<T, L> {
     {
         let seat = &mut pass.seat;
         let next = self.board.see_next(seat);
-        if next == LAST_TICKET {
+        if next == TICKET_END {
             return Err(PushError::Spent { value: () });
         }
         let sequence = self.board.see_free(seat, next);

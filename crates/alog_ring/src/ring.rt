@@ -8,7 +8,7 @@ use crate::ALL_PARTS;
 use crate::board::Board;
 use crate::limit::{Limit, NoLimit};
 use crate::pass::Pass;
-use alog_core::{LAST_TICKET, is_size};
+use alog_core::{TICKET_END, is_size};
 use std::alloc::Global;
 use std::marker::Model;
 use thiserror::Error;
@@ -84,7 +84,7 @@ impl<T, L: Limit<T> + Drop> Ring<T, L> {
         if !is_size(places) {
             return Err(NewError::BadSize);
         }
-        if first >= LAST_TICKET {
+        if first >= TICKET_END {
             return Err(NewError::BadFirst);
         }
         let Ok(left) = Vec::with_capacity(alloc, places) else {

@@ -5,7 +5,7 @@ use Rattle.std.specs.List.{All, AllByRecursion}
 use Rattle.alog_config.specs.Fits.{SinkSuits, Suits as FaceSuits}
 use Rattle.alog_msg.specs.declared.message.Message.{Message}
 use Rattle.alog_pattern.specs.declared.patterns.TheConstants.{LINE_MAX}
-use Rattle.alog_pool.specs.Berth.{Suits}
+use Rattle.alog_pool.specs.SinkSeat.{Suits}
 use Rattle.alog_sink.specs.Lines.{MayWrite}
 use Rattle.alog_sink.specs.Turn.{LeafView}
 use Rattle.alog_sink.specs.declared.face.Face.{Face}

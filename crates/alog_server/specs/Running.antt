@@ -6,13 +6,13 @@ use Rattle.alog_pool.specs.Report.{Ends}
 use Rattle.alog_pool.specs.declared.report.Report.{Report}
 use Rattle.alog_sink.specs.Files.{Files}
 use Rattle.alog_server.specs.Making.{AreOf, MakesAll}
-use Rattle.alog_server.specs.declared.TheConstants.{MOST_THREADS}
+use Rattle.alog_server.specs.declared.TheConstants.{THREADS_MAX}
 use Rattle.alog_server.specs.declared.seats.Ended.{Ended}
 use Rattle.alog_server.specs.declared.seats.Ended.TheVariants as ended
 
 -- this number of threads is out of bounds
 abbrev pub AreBad : ℕ → Type 0
-AreBad threads = (threads < 1) ⊎ (MOST_THREADS < threads)
+AreBad threads = (threads < 1) ⊎ (THREADS_MAX < threads)
 
 -- the threads did their work, to its end or not
 abbrev pub HasThreads : {E : Type 0} → Ended E → Type 0

@@ -12,7 +12,7 @@ use Rattle.alog_policy.specs.declared.policy.Outcome.{Outcome}
 use Rattle.alog_policy.specs.declared.port.Port.{Port}
 use Rattle.alog_pool.specs.Producer.{ProducerView, IsPortOf, IsSame, Lent}
 use Rattle.alog_registry.specs.Backtrace.{Room}
-use Rattle.alog_registry.specs.Carry.{PostsItemNow}
+use Rattle.alog_registry.specs.ItemOutlet.{PostsItemNow}
 use Rattle.alog_registry.specs.Dumping.{PostsEach, posted_of}
 use Rattle.alog_registry.specs.Given.{message_with, IsWithin, IsTooLongField}
 use Rattle.alog_registry.specs.LaneKeeper.{DumpsByTurn, KeepsByTurn, NeverPasses, Passes}
@@ -67,7 +67,7 @@ pub record Flushes (number : ℕ) (old : ProducerView) (outcome : Outcome (Unit 
   pub post : (s : Spec) → spec_at old.shared.loggers number ≡ Some s
       → (p q : Port Item TextLimit) × IsPortOf old p × IsPortOf new q × PostsItemNow PortDid s.policy (Flush number) p q outcome
   pub same : IsSame old new
-  pub keepings : new.keepings ≡ old.keepings
+  pub backtrace_seats : new.backtrace_seats ≡ old.backtrace_seats
 
 -- The producer emptied the backtrace of the logger of this number, and posted what it kept between two markers of this time, each post
 -- with one outcome.

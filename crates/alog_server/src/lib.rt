@@ -42,4 +42,4 @@ pub use setup::setup_of;
 pub use work::Work;
 
 /// The most threads of a server.
-pub const MOST_THREADS: usize = 4_096;
+pub const THREADS_MAX: usize = 4_096;

@@ -5,9 +5,9 @@ ghost use Rattle.alog_config.specs.Built.{HasFailed};
 ghost use Rattle.alog_config.specs.Sinks.{is_leaf};
 ghost use Rattle.alog_server.specs.Running.{AreBad, HasThreads, Runs, Works};
 ghost use Rattle.alog_server.specs.Starting.{IsOfStores, IsServerOf};
-ghost use Rattle.alog_server.specs.declared.TheConstants.{MOST_THREADS};
+ghost use Rattle.alog_server.specs.declared.TheConstants.{THREADS_MAX};
 
-use crate::MOST_THREADS;
+use crate::THREADS_MAX;
 use crate::error::{RunError, StartError};
 use crate::producers::make;
 use crate::seats::{Ended, run_all};
@@ -72,7 +72,7 @@ impl<S: Store + Drop + Send + 'static> Server<S> {
         ensures runs { IfOk result (λ r. Runs S.tells S.files S.failures self.pool threads r.report) }
     {
         let Server { alloc, mut pool } = self;
-        if threads < 1 || threads > MOST_THREADS {
+        if threads < 1 || threads > THREADS_MAX {
             drop(pool.shutdown(rt, Vec::new(alloc)));
             return Err(RunError::BadThreads);
         }

@@ -31,8 +31,8 @@ use Rattle.alog_pattern.specs.contracts.items.Item as Item
 use Rattle.alog_pattern.specs.contracts.items.Padding as Padding
 use Rattle.alog_pattern.specs.contracts.patterns.Pattern as Pattern
 use Rattle.alog_pattern.specs.contracts.patterns.Pattern.TheInside as PatternInside
-use Rattle.alog_sink.specs.contracts.diary.Diary as Diary
-use Rattle.alog_sink.specs.contracts.diary.Diary.TheInside as DiaryInside
+use Rattle.alog_sink.specs.contracts.daily_files.DailyFiles as DailyFiles
+use Rattle.alog_sink.specs.contracts.daily_files.DailyFiles.TheInside as DailyFilesInside
 use Rattle.alog_sink.specs.contracts.face.Names as Names
 use Rattle.alog_sink.specs.contracts.face.Names.TheInside as NamesInside
 use Rattle.alog_sink.specs.contracts.face.Scribe as Scribe
@@ -132,14 +132,14 @@ dates_inside_send = search (sendable, crosses, heap_send, frees, Cells-send, Dee
 dates_send : IsSend (Dates.the_row Date.the_row Global.the_row alloc_ghosts)
 dates_send = view_send _ _ _ _ _ dates_inside_send
 
-diary_inside_send : IsSend DiaryInside.the_row
-diary_inside_send = search (sendable, crosses, String-send, text_send, dates_send) depth 20
+daily_files_inside_send : IsSend DailyFilesInside.the_row
+daily_files_inside_send = search (sendable, crosses, String-send, text_send, dates_send) depth 20
 
-diary_send : IsSend Diary.the_row
-diary_send = view_send _ _ _ _ _ diary_inside_send
+daily_files_send : IsSend DailyFiles.the_row
+daily_files_send = view_send _ _ _ _ _ daily_files_inside_send
 
 target_send : IsSend (Target.the_field).row
-target_send = search (sendable, crosses, text_send, rotation_send, diary_send) depth 20
+target_send = search (sendable, crosses, text_send, rotation_send, daily_files_send) depth 20
 
 leaf_inside_send : (S : RattleType) → IsSend S → IsSend (LeafInside.the_row S)
 leaf_inside_send S s = recorded_send (LeafInside.the_field S).row _ _ (LeafInside.the_type S).to_one (struct_send

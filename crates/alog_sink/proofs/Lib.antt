@@ -10,15 +10,15 @@ mod RotatedOn
 mod RotatedDoes
 mod RotatedPut
 mod DailyFiles
-mod DiaryDays
-mod DiaryKnown
-mod DiaryPut
-mod DiaryNames
-mod DiaryOn
-mod DiaryLine
+mod DailyDays
+mod DailyKnown
+mod DailyPut
+mod DailyNames
+mod DailyOn
+mod DailyLine
 mod Targets
 mod Fronts
-pub mod Journals
+pub mod OneFiles
 pub mod Turns
 pub mod Fans
 pub mod Opens

@@ -15,7 +15,7 @@ use Rattle.alog_sink.specs.declared.target.Target.{Target}
 use Rattle.alog_sink.specs.declared.target.Target.TheVariants.{Memory, Rotating, Daily}
 use Rattle.alog_sink.specs.declared.leaf.SinkError.TheVariants as errors
 use Rattle.alog_sink.specs.declared.leaf.Taken.TheVariants.{Below, Written as Wrote}
-use Rattle.alog_sink.proofs.DiaryOn.{days_alike}
+use Rattle.alog_sink.proofs.DailyOn.{days_alike}
 use Rattle.alog_sink.proofs.RotatedOn.{stands_alike}
 
 -- a message more, which is taken or not

@@ -1,7 +1,7 @@
 -- What the calls of a store leave, by their answer.
 use Rattle.std.specs.Prelude.{◌≡◌, ℕ, ◌+◌, ◌<◌, ◌⊎◌, List, ◌++◌, OnOk, OnErr, Result}
 use Rattle.alog_sink.specs.Files.{Files, AreSame, appended}
-use Rattle.alog_sink.specs.declared.TheConstants.{MOST_FAILURES}
+use Rattle.alog_sink.specs.declared.TheConstants.{FAILURES_MAX}
 
 -- A failed append leaves the files as they were, or some first bytes of what was to be appended behind the file.
 abbrev pub LeavesFront : List ℕ → List ℕ → Files → Files → Type 0
@@ -11,4 +11,4 @@ LeavesFront name bytes old new = AreSame old new
 -- A failed call is counted: one failure more, as long as there are fewer than 2^64 - 1. Another call leaves the count.
 pub record Counts {A E : Type 0} (old new : ℕ) (answer : Result A E) : Type 0 where
   pub done : OnOk answer (new ≡ old)
-  pub failed : OnErr answer (old < MOST_FAILURES → new ≡ old + 1)
+  pub failed : OnErr answer (old < FAILURES_MAX → new ≡ old + 1)

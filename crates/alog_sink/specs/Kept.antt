@@ -1,9 +1,9 @@
 -- What each kind of target makes of the lines that it was given.
 use Rattle.std.specs.Prelude.{◌≡◌, List, [], ◌∷◌}
 use Rattle.alog_sink.specs.Deeds.{Deed, Append}
-use Rattle.alog_sink.specs.Diary.{StandsFor as DaysStandFor, entry_of, deeds_of as days_deeds}
+use Rattle.alog_sink.specs.DailyFiles.{StandsFor as DaysStandFor, entry_of, deeds_of as days_deeds}
 use Rattle.alog_sink.specs.Files.{Files, AreSame}
-use Rattle.alog_sink.specs.Journal.{journal}
+use Rattle.alog_sink.specs.OneFile.{one_file}
 use Rattle.alog_sink.specs.Lines.{Written, lines_of}
 use Rattle.alog_sink.specs.RotationDeeds.{StandsFor, deeds_of as rotation_deeds}
 use Rattle.alog_sink.specs.declared.target.Target.{Target}
@@ -11,7 +11,7 @@ use Rattle.alog_sink.specs.declared.target.Target.TheVariants.{Memory, Rotating,
 
 -- these are the files after these lines, where those were the files at the start
 abbrev pub IsKept : Target → Files → List Written → Files → Type 0
-IsKept (Memory j) opening ws files = AreSame (journal j.file opening (lines_of ws)) files
+IsKept (Memory j) opening ws files = AreSame (one_file j.file opening (lines_of ws)) files
 IsKept (Rotating r) opening ws files = StandsFor r opening (lines_of ws) files
 IsKept (Daily d) opening ws files = DaysStandFor d opening ws files
 

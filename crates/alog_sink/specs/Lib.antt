@@ -11,8 +11,8 @@ pub mod Listed
 pub mod Memory
 pub mod Fuse
 pub mod Lines
-pub mod Journal
-pub mod Diary
+pub mod OneFile
+pub mod DailyFiles
 pub mod Kept
 pub mod Turn
 pub mod Sinks

@@ -1,9 +1,9 @@
 -- Which limits of a rotation are refused, and what a refused constructor leaves of the count of failures.
 use Rattle.std.specs.Prelude.{◌≡◌, ℕ, ◌+◌, ◌<◌, ◌⊎◌, None, []}
-use Rattle.alog_sink.specs.Diary.{DayLimits}
+use Rattle.alog_sink.specs.DailyFiles.{DayLimits}
 use Rattle.alog_sink.specs.Rotation.{Limits}
-use Rattle.alog_sink.specs.declared.TheConstants.{MOST_FAILURES}
-use Rattle.alog_sink.specs.declared.diary.TheConstants.{HOUR_MAX, MINUTE_MAX}
+use Rattle.alog_sink.specs.declared.TheConstants.{FAILURES_MAX}
+use Rattle.alog_sink.specs.declared.daily_files.TheConstants.{HOUR_MAX, MINUTE_MAX}
 use Rattle.alog_sink.specs.declared.open.OpenError.{OpenError}
 use Rattle.alog_sink.specs.declared.open.OpenError.TheVariants.{BadLimit, BadName, OutOfMemory, Store}
 use Rattle.alog_sink.specs.declared.rotation.OpenError.{OpenError as RotationError}
@@ -18,7 +18,7 @@ AreBadLimits max_size max_files = (max_size ≡ 0) ⊎ (SIZE_MAX < max_size) ⊎
 
 -- the store failed where it is said, and else it did not
 abbrev pub FailsAs : ℕ → ℕ → OpenError → Type 0
-FailsAs old new Store = old < MOST_FAILURES → new ≡ old + 1
+FailsAs old new Store = old < FAILURES_MAX → new ≡ old + 1
 FailsAs old new BadLimit = new ≡ old
 FailsAs old new BadName = new ≡ old
 FailsAs old new OutOfMemory = new ≡ old
@@ -34,10 +34,10 @@ abbrev pub AreBadDays : ℕ → ℕ → ℕ → Type 0
 AreBadDays hour minute max_files = (HOUR_MAX < hour) ⊎ (MINUTE_MAX < minute) ⊎ (FILES_MAX < max_files)
 
 -- files by days within these limits, of which none was opened
-abbrev pub IsNewDiary : DayLimits → Target → Type 0
-IsNewDiary limits (Memory j) = ⊥
-IsNewDiary limits (Rotating r) = ⊥
-IsNewDiary limits (Daily d) = d ≡ record { limits = limits; latest = None; names = [] }
+abbrev pub IsNewDaily : DayLimits → Target → Type 0
+IsNewDaily limits (Memory j) = ⊥
+IsNewDaily limits (Rotating r) = ⊥
+IsNewDaily limits (Daily d) = d ≡ record { limits = limits; latest = None; names = [] }
 
 abbrev pub as_open_error : RotationError → OpenError
 as_open_error rotation.OutOfMemory = OutOfMemory

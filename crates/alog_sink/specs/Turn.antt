@@ -7,7 +7,7 @@ use Rattle.alog_sink.specs.Deeds.{BreaksOff}
 use Rattle.alog_sink.specs.Files.{Files, AreSame}
 use Rattle.alog_sink.specs.Kept.{HasNoFile, IsKept, IsSameTarget, deeds_of}
 use Rattle.alog_sink.specs.Lines.{Written, IsWrittenOf, AreLines, MayWrite, admits}
-use Rattle.alog_sink.specs.declared.TheConstants.{MOST_FAILURES}
+use Rattle.alog_sink.specs.declared.TheConstants.{FAILURES_MAX}
 use Rattle.alog_sink.specs.declared.face.Face.{Face}
 use Rattle.alog_sink.specs.declared.target.Target.{Target}
 use Rattle.alog_sink.specs.declared.leaf.SinkError.{SinkError}
@@ -45,7 +45,7 @@ module _ {S : Type 0} (tells : Bool) (files : S → Files) (failures : S → ℕ
     pub target : IsSameTarget old.target new.target
     pub wrote : answer ≡ Ok Wrote → new.broken ≡ false
     pub failed : answer ≡ Err errors.Store → new.broken ≡ true
-    pub rose : answer ≡ Err errors.Store → failures old.store < MOST_FAILURES → failures new.store ≡ failures old.store + 1
+    pub rose : answer ≡ Err errors.Store → failures old.store < FAILURES_MAX → failures new.store ≡ failures old.store + 1
     pub stayed : OnOk answer (failures new.store ≡ failures old.store)
     pub stands : tells ≡ true → (opening : Files) (ms : List Message) → StandsFor files old opening ms
         → OnOk answer (StandsFor files new opening (ms ++ m ∷ []))
@@ -60,7 +60,7 @@ module _ {S : Type 0} (tells : Bool) (files : S → Files) (failures : S → ℕ
     pub target : new.target ≡ old.target
     pub done : OnOk answer (new.broken ≡ false)
     pub failed : answer ≡ Err errors.Store → new.broken ≡ true
-    pub rose : answer ≡ Err errors.Store → failures old.store < MOST_FAILURES → failures new.store ≡ failures old.store + 1
+    pub rose : answer ≡ Err errors.Store → failures old.store < FAILURES_MAX → failures new.store ≡ failures old.store + 1
     pub stayed : OnOk answer (failures new.store ≡ failures old.store)
     pub same : tells ≡ true → AreSame (files old.store) (files new.store)
     pub stands : tells ≡ true → (opening : Files) (ms : List Message) → StandsFor files old opening ms

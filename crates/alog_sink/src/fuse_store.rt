@@ -85,7 +85,7 @@ impl<S: Store> Store for FuseStore<S> {
     ghost use Rattle.alog_sink.specs.Files.{AreSame, appended, renamed, removed};
     ghost use Rattle.alog_sink.specs.Calls.{Counts, LeavesFront};
     ghost use Rattle.alog_sink.specs.Fuse.{own_failures, Passes};
-    ghost use Rattle.alog_sink.specs.declared.TheConstants.{MOST_FAILURES};
+    ghost use Rattle.alog_sink.specs.declared.TheConstants.{FAILURES_MAX};
 
     ghost files = { λ s. S.files s.store };
 
@@ -102,7 +102,7 @@ impl<S: Store> Store for FuseStore<S> {
         ensures fails { (self.old.fuse ≡ Fuse.Left 0) → IsErr result }
         ensures ends { (self.old.fuse ≡ Fuse.Left 0) → ((self.new.fuse ≡ Fuse.Burnt) ⊎ (self.new.fuse ≡ Fuse.Spared)) }
         ensures spared { (self.old.fuse ≡ Fuse.Left 0) → (self.new.fuse ≡ Fuse.Spared)
-            → (S.failures self.old.store < MOST_FAILURES) → S.failures self.new.store ≡ S.failures self.old.store + 1 }
+            → (S.failures self.old.store < FAILURES_MAX) → S.failures self.new.store ≡ S.failures self.old.store + 1 }
         ensures part { S.tells ≡ true → (self.old.fuse ≡ Fuse.Left 0) → (self.new.fuse ≡ Fuse.Burnt)
             → AreSame (appended name.now (take self.old.part bytes.now) (S.files self.old.store)) (S.files self.new.store) }
         ensures passes { (self.old.fuse ≢ Fuse.Left 0)

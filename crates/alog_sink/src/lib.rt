@@ -8,7 +8,7 @@
 //!
 //! Read `specs/Files.antt`, `specs/Calls.antt` and `store.rt` (stores), `mem_store.rt` over `sorted_files.rt`,
 //! `folder_store.rt` and `fuse_store.rt`; then `specs/Lines.antt` and `face.rt` (lines), `specs/Kept.antt` and `target.rt`
-//! (where they go: `journal.rt`, `rotation.rt` with `specs/Rotation.antt`, and `diary.rt` with `specs/Daily.antt` and `specs/Diary.antt`),
+//! (where they go: `one_file.rt`, `rotation.rt` with `specs/Rotation.antt`, and `daily_files.rt` with `specs/Daily.antt` and `specs/DailyFiles.antt`),
 //! `specs/Turn.antt`, `leaf.rt` and `fan.rt`, `specs/Sinks.antt` and `sink.rt`, `open.rt` (constructors), `turn.rt` (a
 //! sink under a lock). `names.rt` makes names of files; `laws.rt` states what is true of definitions.
 //!
@@ -16,16 +16,16 @@
 //! Stores are tried in `test_stores`.
 #![tactic(auto)]
 
-mod diary;
+mod daily_files;
 mod face;
 mod fan;
 mod folder_store;
 mod fuse_store;
-mod journal;
 mod laws;
 mod leaf;
 mod mem_store;
 mod names;
+mod one_file;
 mod open;
 mod rotation;
 mod sink;
@@ -51,7 +51,7 @@ pub use store::{Store, StoreError};
 pub use turn::Served;
 
 /// A store counts so many failures, and may stop counting then.
-pub const MOST_FAILURES: u64 = u64::MAX;
+pub const FAILURES_MAX: u64 = u64::MAX;
 
 /// The most members of a fan.
 pub const FAN_MAX: usize = 16;

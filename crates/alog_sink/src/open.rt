@@ -2,17 +2,17 @@
 ghost use Rattle.std.specs.Prelude.{◌≡◌, ◌≢◌, ◌↔◌, ◌⊎◌, Some, true, IfOk, IfErr, IfSome, IsErrAnd, IsTrue, [], ◌≤◌, length, vec_capacity, vec_len, ◌<◌, ◌++◌, ◌∷◌};
 ghost use Rattle.alog_sink.specs.Names.{IsFileName};
 ghost use Rattle.alog_sink.specs.Files.{AreSame};
-ghost use Rattle.alog_sink.specs.Refused.{AreBadDays, AreBadLimits, FailsAs, IsNewDiary, IsRotating};
-ghost use Rattle.alog_sink.specs.Diary.{change_at};
+ghost use Rattle.alog_sink.specs.Refused.{AreBadDays, AreBadLimits, FailsAs, IsNewDaily, IsRotating};
+ghost use Rattle.alog_sink.specs.DailyFiles.{change_at};
 ghost use Rattle.alog_sink.specs.Opened.{AreNoMembers, Opened, leaves_of, store_of};
 
 use crate::FAN_MAX;
-use crate::diary::{Diary, HOUR_MAX, MINUTE_MAX};
+use crate::daily_files::{DailyFiles, HOUR_MAX, MINUTE_MAX};
 use crate::face::Face;
 use crate::fan::Fan;
-use crate::journal::Journal;
 use crate::leaf::Leaf;
 use crate::names::is_file_name;
+use crate::one_file::OneFile;
 use crate::rotation::{self, FILES_MAX, Rotation, SIZE_MAX};
 use crate::sink::Sink;
 use crate::store::Store;
@@ -97,7 +97,7 @@ impl<S: Store + Drop> Sink<S> {
             });
         }
         match Text::copy_of(alloc, file) {
-            Ok(file) => Ok(Sink::Leaf(Leaf::open(face, Target::Memory(Journal { file }), store))),
+            Ok(file) => Ok(Sink::Leaf(Leaf::open(face, Target::Memory(OneFile { file }), store))),
             Err(_) => Err(Unopened {
                 error: OpenError::OutOfMemory,
                 face,
@@ -171,7 +171,7 @@ impl<S: Store + Drop> Sink<S> {
         max_files: usize,
     ) -> Result<Sink<S>, Unopened<S>>
         ensures opened { IfOk result (λ s. Opened S.tells S.files face
-            (IsNewDiary (record { file = file.now; change = change_at hour minute; max_files = max_files })) (S.files store) s) }
+            (IsNewDaily (record { file = file.now; change = change_at hour minute; max_files = max_files })) (S.files store) s) }
         ensures store { IfOk result (λ s. store_of s ≡ Some store) }
         ensures bad_limit { IsErrAnd result (λ e. e.error ≡ OpenError.BadLimit) ↔ AreBadDays hour minute max_files }
         ensures bad_name { IsErrAnd result (λ e. e.error ≡ OpenError.BadName)
@@ -194,8 +194,8 @@ impl<S: Store + Drop> Sink<S> {
                 store,
             });
         }
-        match Diary::open(alloc, file, hour, minute, max_files) {
-            Ok(diary) => Ok(Sink::Leaf(Leaf::open(face, Target::Daily(diary), store))),
+        match DailyFiles::open(alloc, file, hour, minute, max_files) {
+            Ok(daily_files) => Ok(Sink::Leaf(Leaf::open(face, Target::Daily(daily_files), store))),
             Err(_) => Err(Unopened {
                 error: OpenError::OutOfMemory,
                 face,

@@ -131,7 +131,7 @@ impl Rotation {
         if self.size == 0 || self.size.saturating_add(length) <= self.max_size {
             return Ok(self.size);
         }
-        give_up(self.names.as_slice(), store)?;
+        rotate(self.names.as_slice(), store)?;
         Ok(0)
     }
 
@@ -175,7 +175,7 @@ fn names_of(alloc: Global, file: &str, max_files: usize) -> Result<Vec<String>, 
 }
 
 // Renames each file, from the last but one down, to the next name, or removes the only one.
-fn give_up<S: Store>(names: &[String], store: &mut S) -> Result<(), StoreError>
+fn rotate<S: Store>(names: &[String], store: &mut S) -> Result<(), StoreError>
     requires some { 1 ≤ length names.now }
     requires numbered { AreNumbersOf (base_name (map string_bytes names.now)) (map string_bytes names.now) }
     ensures deeds { S.tells ≡ true

@@ -7,8 +7,8 @@ ghost use Rattle.alog_sink.specs.Files.{AreSame, Files};
 ghost use Rattle.alog_sink.specs.Kept.{HasNoFile, IsKept, IsSameTarget, deeds_of};
 ghost use Rattle.alog_sink.specs.Lines.{IsShownTo, Written};
 
-use crate::diary::Diary;
-use crate::journal::Journal;
+use crate::daily_files::DailyFiles;
+use crate::one_file::OneFile;
 use crate::rotation::Rotation;
 use crate::store::{Store, StoreError};
 use alog_format::Zone;
@@ -18,16 +18,16 @@ use alog_msg::Message;
 #[derive(Debug, Drop)]
 pub(crate) enum Target {
     /// One file.
-    Memory(Journal),
+    Memory(OneFile),
     /// A base, and further files that have what it had before.
     Rotating(Rotation),
     /// A file for each date that opened a period.
-    Daily(Diary),
+    Daily(DailyFiles),
 }
 
 impl Target {
     /// Brings the line of a message to the files; the zone is that of its dates.
-    #[tactic(auto, using(crate::proofs::Journals::lines_more))]
+    #[tactic(auto, using(crate::proofs::OneFiles::lines_more))]
     pub(crate) fn put<S: Store>(
         &mut self,
         store: &mut S,
@@ -45,9 +45,9 @@ impl Target {
         ensures counted { Counts (S.failures store.old) (S.failures store.new) result }
     {
         match self {
-            Target::Memory(journal) => journal.put(store, line),
+            Target::Memory(one_file) => one_file.put(store, line),
             Target::Rotating(rotation) => rotation.put(store, line),
-            Target::Daily(diary) => diary.put(store, zone, message, line),
+            Target::Daily(daily_files) => daily_files.put(store, zone, message, line),
         }
     }
 
@@ -58,9 +58,9 @@ impl Target {
         ensures quiet { HasNoFile self.now → IsOk result × (store.new ≡ store.old) }
     {
         match self {
-            Target::Memory(journal) => store.flush(journal.file.as_str()),
+            Target::Memory(one_file) => store.flush(one_file.file.as_str()),
             Target::Rotating(rotation) => store.flush(rotation.file()),
-            Target::Daily(diary) => diary.flush(store),
+            Target::Daily(daily_files) => daily_files.flush(store),
         }
     }
 }

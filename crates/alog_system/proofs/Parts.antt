@@ -10,7 +10,7 @@ use Rattle.alog_msg.specs.declared.message.Message.{Message}
 use Rattle.alog_policy.specs.Desk.{DeskView, fresh_desk}
 use Rattle.alog_registry.specs.Backtrace.{Room}
 use Rattle.alog_registry.specs.Dumping.{marker, posted_of}
-use Rattle.alog_registry.specs.declared.TheConstants.{MOST_KEPT}
+use Rattle.alog_registry.specs.declared.TheConstants.{KEPT_MAX}
 use Rattle.alog_registry.specs.declared.logger.Logger.{Logger}
 use Rattle.alog_sink.specs.declared.sink.Sink.{Sink}
 use Rattle.alog_system.specs.Outputs.{OutputsView, IsShort}
@@ -83,8 +83,8 @@ fresh_within places limit loggers sinks all = record {
   fit = All-replicate (DutyFits (fresh_roster loggers) limit) ACTORS Free tt;
 }
 
-pub few_kept : (count : ℕ) (loggers : List Logger) → All (LoggerFits count) loggers → All (λ l. backtrace_of l ≤ MOST_KEPT) loggers
-few_kept count loggers all = All-weaker (LoggerFits count) (λ l. backtrace_of l ≤ MOST_KEPT) (λ l h. h.backtrace) loggers all
+pub few_kept : (count : ℕ) (loggers : List Logger) → All (LoggerFits count) loggers → All (λ l. backtrace_of l ≤ KEPT_MAX) loggers
+few_kept count loggers all = All-weaker (LoggerFits count) (λ l. backtrace_of l ≤ KEPT_MAX) (λ l h. h.backtrace) loggers all
 
 pub made_fresh : {S : Type 0} (v : SystemView S) (places limit n : ℕ) (loggers : List Logger) (sinks : List (Sink S)) → v.desk ≡ fresh_desk places 0
     → v.duties ≡ replicate n Free → n ≡ ACTORS → v.roster ≡ fresh_roster loggers → v.outputs ≡ record { sinks = sinks; text_limit = limit }

@@ -4,7 +4,7 @@ use Rattle.std.proofs.Common.{length-set, ◌+◌, ◌++◌, take, drop, zero, s
 use Rattle.std.specs.Prelude.{unwrap_or}
 use Rattle.std.proofs.Math.Seq.{map-set_same}
 use Rattle.alog_msg.specs.declared.level.Level.{Level}
-use Rattle.alog_msg.specs.declared.limits.TheConstants.{MOST_TEXT_LIMIT}
+use Rattle.alog_msg.specs.declared.limits.TheConstants.{TEXT_LIMIT_MAX}
 use Rattle.alog_registry.specs.Backtrace.{Room}
 use Rattle.alog_registry.specs.Listed.{spec_at}
 use Rattle.alog_registry.specs.declared.logger.Logger.{Logger}
@@ -84,7 +84,7 @@ rooms_most (l ∷ ls) = ap (λ xs. room_of l ∷ xs) (rooms_most ls)
 
 -- what is kept by a logger may be as long as any text
 pub lent_limit : (loggers : List Logger) (levels : List Level) (kept : List Room) (n : ℕ) (lent : Room) → n < length kept
-    → IsRoster loggers levels kept → lent ≡ get_or kept n (room 0) → lent.limit ≡ MOST_TEXT_LIMIT
+    → IsRoster loggers levels kept → lent ≡ get_or kept n (room 0) → lent.limit ≡ TEXT_LIMIT_MAX
 lent_limit loggers levels kept n lent below whole is =
     ap (λ (b : Room). b.limit) is ∙ ap (λ (b : Room). b.limit) (room_at loggers kept n whole.rooms)
 

@@ -1,7 +1,7 @@
 -- A dump: what is known of it before it takes anything, and what is left to post of it.
 use Rattle.std.specs.Prelude.{◌≡◌, ℕ, ℤ, List, ◌++◌, codes}
 use Rattle.std.specs.Option.{option_to_list}
-use Rattle.alog_msg.specs.declared.limits.TheConstants.{MOST_TEXT_LIMIT}
+use Rattle.alog_msg.specs.declared.limits.TheConstants.{TEXT_LIMIT_MAX}
 use Rattle.alog_msg.specs.declared.message.Message.{Message}
 use Rattle.alog_registry.specs.Backtrace.{room_for}
 use Rattle.alog_registry.specs.Dumping.{marker}
@@ -28,7 +28,7 @@ view_of d = record { logger = d.logger; time = d.time; thread = d.thread; most =
 -- its markers and its room are made
 pub record IsReady (d : dump.Inside) : Type 0 where
   pub start : d.start ≡ marker d.logger d.time d.thread start_text
-  pub room : d.room ≡ room_for d.room.most MOST_TEXT_LIMIT
+  pub room : d.room ≡ room_for d.room.most TEXT_LIMIT_MAX
   pub end : d.end ≡ marker d.logger d.time d.thread end_text
 
 -- the messages that are left, in order

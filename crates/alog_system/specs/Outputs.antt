@@ -5,7 +5,7 @@ pub use Rattle.alog_config.specs.Fits.{Suits, SinkSuits}
 use Rattle.alog_msg.specs.declared.item.Item.{Item}
 use Rattle.alog_msg.specs.declared.item.Item.TheVariants as item
 use Rattle.alog_msg.specs.declared.message.Message.{Message}
-use Rattle.alog_msg.specs.declared.limits.TheConstants.{LEAST_TEXT_LIMIT, MOST_TEXT_LIMIT}
+use Rattle.alog_msg.specs.declared.limits.TheConstants.{TEXT_LIMIT_MIN, TEXT_LIMIT_MAX}
 use Rattle.alog_pattern.specs.declared.patterns.TheConstants.{LINE_MAX}
 use Rattle.alog_registry.specs.declared.work.SinkDeed.{SinkDeed}
 use Rattle.alog_registry.specs.declared.work.SinkDeed.TheVariants as deed
@@ -26,8 +26,8 @@ pub record OutputsView (S : Type 0) : Type 0 where
 
 -- each of these sinks suits texts of at most so many bytes, and a buffer of this capacity
 pub record AllSuit {S : Type 0} (limit capacity : ℕ) (all : List (Sink S)) : Type 0 where
-  pub least : LEAST_TEXT_LIMIT ≤ limit
-  pub most : limit ≤ MOST_TEXT_LIMIT
+  pub least : TEXT_LIMIT_MIN ≤ limit
+  pub most : limit ≤ TEXT_LIMIT_MAX
   pub each : All (λ s. SinkSuits limit capacity s) all
 
 -- each suits a buffer that holds the longest line of any pattern

@@ -3,7 +3,7 @@ use Rattle.std.specs.Prelude.{◌≡◌, ℕ, List, map, length, slice_get, slic
 use Rattle.alog_msg.specs.declared.item.Item.{Item}
 use Rattle.alog_msg.specs.declared.level.Level.{Level}
 use Rattle.alog_msg.specs.declared.level.Level.TheVariants.{Off}
-use Rattle.alog_msg.specs.declared.limits.TheConstants.{MOST_TEXT_LIMIT}
+use Rattle.alog_msg.specs.declared.limits.TheConstants.{TEXT_LIMIT_MAX}
 use Rattle.alog_msg.specs.declared.message.Message.{Message}
 use Rattle.alog_registry.specs.Backtrace.{Room, room_for, kept_with}
 use Rattle.alog_policy.specs.declared.policy.Policy.{Policy}
@@ -20,7 +20,7 @@ pub record RosterView : Type 0 where
 
 -- the room for what a logger keeps
 abbrev pub room : ℕ → Room
-room most = room_for most MOST_TEXT_LIMIT
+room most = room_for most TEXT_LIMIT_MAX
 
 abbrev pub room_of : Logger → Room
 room_of l = room l.spec.backtrace

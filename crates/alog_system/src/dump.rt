@@ -4,7 +4,7 @@ ghost use Rattle.alog_registry.specs.Dumping.{marker, posted_of};
 ghost use Rattle.alog_system.specs.Dump.{start_text, end_text};
 ghost use Rattle.alog_system.specs.Roster.{room, empty_of};
 
-use alog_msg::{Level, MOST_TEXT_LIMIT, Message, Text};
+use alog_msg::{Level, Message, TEXT_LIMIT_MAX, Text};
 use alog_registry::{Backtrace, Dumped};
 use std::alloc::{AllocError, Global};
 use std::marker::Model;
@@ -52,7 +52,7 @@ impl Dump {
             logger,
             time,
             thread,
-            room: Dumped::new(alloc, most, MOST_TEXT_LIMIT)?,
+            room: Dumped::new(alloc, most, TEXT_LIMIT_MAX)?,
             start: marker(alloc, logger, time, thread, START)?,
             end: marker(alloc, logger, time, thread, END)?,
         })

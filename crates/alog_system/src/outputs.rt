@@ -1,6 +1,6 @@
 //! The sinks of a system, and the buffer that lines are made in.
 ghost use Rattle.std.specs.Prelude.{◌≡◌, ◌<◌, ◌≤◌, IfOk, length};
-ghost use Rattle.alog_msg.specs.declared.limits.TheConstants.{LEAST_TEXT_LIMIT, MOST_TEXT_LIMIT};
+ghost use Rattle.alog_msg.specs.declared.limits.TheConstants.{TEXT_LIMIT_MIN, TEXT_LIMIT_MAX};
 ghost use Rattle.alog_system.specs.Outputs.{AreSuited, IsShort, MayMake, Turns, DoesTurn, TextTurn, FlushTurn};
 ghost use Rattle.alog_sink.specs.Sinks.{MayTake};
 
@@ -52,7 +52,7 @@ impl<S: Store + Drop> Outputs<S> {
     /// The most bytes of a text.
     pub fn text_limit(&self) -> usize
         ensures limit { result ≡ self.now.text_limit }
-        ensures within { (LEAST_TEXT_LIMIT ≤ result) × (result ≤ MOST_TEXT_LIMIT) }
+        ensures within { (TEXT_LIMIT_MIN ≤ result) × (result ≤ TEXT_LIMIT_MAX) }
     {
         self.text_limit
     }

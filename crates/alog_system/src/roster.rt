@@ -2,10 +2,10 @@
 ghost use Rattle.std.specs.Prelude.{◌≡◌, ◌↔◌, ◌<◌, ◌≤◌, ◌+◌, ◌^◌, ℕ, IfOk, IsTrue, IsSome, length, map, slice_get, Some};
 ghost use Rattle.std.specs.Option.{option_copied};
 ghost use Rattle.std.specs.List.{All};
-ghost use Rattle.alog_msg.specs.declared.limits.TheConstants.{MOST_TEXT_LIMIT};
+ghost use Rattle.alog_msg.specs.declared.limits.TheConstants.{TEXT_LIMIT_MAX};
 ghost use Rattle.alog_registry.specs.Dumping.{posted_of};
 ghost use Rattle.alog_registry.specs.Listed.{spec_at, name_at};
-ghost use Rattle.alog_registry.specs.declared.TheConstants.{MOST_KEPT};
+ghost use Rattle.alog_registry.specs.declared.TheConstants.{KEPT_MAX};
 ghost use Rattle.alog_system.specs.Roster.{fresh_roster, keeping, emptied, with_level, kept_at, backtrace_of, level_at, policy_at, backtrace_at, turns_for};
 
 use crate::dump::{Dump, Rest};
@@ -36,7 +36,7 @@ impl Model for Roster {
 impl Roster {
     /// Each logger with the level of its spec, and nothing kept.
     pub fn new(alloc: Global, loggers: Loggers) -> Result<Roster, AllocError>
-        requires { All (λ l. backtrace_of l ≤ MOST_KEPT) loggers }
+        requires { All (λ l. backtrace_of l ≤ KEPT_MAX) loggers }
         ensures made { IfOk result (λ r. r ≡ fresh_roster loggers) }
     {
         let mut levels = Vec::with_capacity(alloc, loggers.len())?;
@@ -144,7 +144,7 @@ impl Roster {
 
     /// The backtrace of the message's logger keeps it.
     pub fn keep(&mut self, message: Message)
-        requires { length message.text ≤ MOST_TEXT_LIMIT }
+        requires { length message.text ≤ TEXT_LIMIT_MAX }
         ensures { self.new ≡ keeping self.old message }
     {
         let number = message.logger as usize;

@@ -6,7 +6,7 @@ use alog_lane::Lane;
 use alog_msg::{Item, Level, Message, MessageError, SourceRef};
 use alog_policy::{Desk, Outcome, Policy, Stepped, Why};
 use alog_registry::{
-    Backtrace, BacktraceScratch, Carry, Keep, LaneKeeper, LogReply, Loggers, Registry, Spec,
+    Backtrace, BacktraceScratch, ItemOutlet, Keep, LaneKeeper, LogReply, Loggers, Registry, Spec,
 };
 use std::alloc::{AllocError, Global};
 use std::process::Abort;
@@ -99,7 +99,7 @@ pub(crate) fn filtered(kept: bool) -> Result<LogReply, MessageError> {
 }
 
 // Logs by the first logger, which says that this came of it.
-pub(crate) fn tells<O: Carry, K: Keep>(
+pub(crate) fn tells<O: ItemOutlet, K: Keep>(
     rt: &impl Abort,
     loggers: &Loggers,
     alloc: Global,
@@ -141,7 +141,7 @@ fn takes(rt: &impl Abort, desk: &mut Desk<Item>, level: Level, time: i64, thread
 }
 
 // Three messages are filtered and kept.
-pub(crate) fn keep_three<O: Carry, K: Keep>(
+pub(crate) fn keep_three<O: ItemOutlet, K: Keep>(
     rt: &impl Abort,
     loggers: &Loggers,
     alloc: Global,
@@ -177,7 +177,7 @@ pub(crate) fn are_posted(
 }
 
 // The last two are dumped, and then nothing is.
-pub(crate) fn dump_twice<O: Carry>(
+pub(crate) fn dump_twice<O: ItemOutlet>(
     rt: &impl Abort,
     loggers: &Loggers,
     alloc: Global,
@@ -235,7 +235,7 @@ fn flushes_and_dumps_at_once(rt: HostRuntime) {
 }
 
 // One message is posted, one is below the level, and one is posted at level off.
-fn log_hello_quiet_and_off<O: Carry, K: Keep>(
+fn log_hello_quiet_and_off<O: ItemOutlet, K: Keep>(
     rt: &impl Abort,
     loggers: &Loggers,
     alloc: Global,
@@ -306,7 +306,7 @@ fn logs_at_once(rt: HostRuntime) {
 }
 
 // A log goes so where the queue has two places and is full, and its message is kept.
-pub(crate) fn log_to_a_full<O: Carry>(
+pub(crate) fn log_to_a_full<O: ItemOutlet>(
     rt: &impl Abort,
     loggers: &Loggers,
     alloc: Global,

@@ -6,7 +6,7 @@ ghost use Rattle.test_loggers.specs.declared.log_tests.TheConstants.{TEXT_LIMIT}
 use crate::log_tests::{TEXT_LIMIT, Words, at_level, desk_of, filtered, one, tells};
 use alog_msg::{Item, Level, MessageError, SourceRef};
 use alog_policy::{Desk, Policy};
-use alog_registry::{Backtrace, Carry, Loggers};
+use alog_registry::{Backtrace, ItemOutlet, Loggers};
 use std::alloc::Global;
 use std::process::Abort;
 use std::test::Fail;
@@ -21,7 +21,7 @@ fn letters(alloc: Global, count: usize) -> Result<String, Fail> {
 }
 
 // A text of 65 bytes is refused before a file of 257, which is refused too; nothing is kept of either.
-fn refuses<O: Carry>(
+fn refuses<O: ItemOutlet>(
     rt: &impl Abort,
     loggers: &Loggers,
     alloc: Global,
@@ -47,7 +47,7 @@ fn refuses<O: Carry>(
 }
 
 // A logger that keeps nothing does not look at a message below its level.
-fn looks_at_none_below<O: Carry>(
+fn looks_at_none_below<O: ItemOutlet>(
     rt: &impl Abort,
     bare: &Loggers,
     alloc: Global,

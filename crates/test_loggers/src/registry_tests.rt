@@ -2,7 +2,7 @@ ghost use Rattle.std.specs.Prelude.{IfOk};
 ghost use Rattle.alog_registry.specs.Limit.{IsShort};
 
 use alog_lane::Lane;
-use alog_msg::{Item, Level, MOST_TEXT_LIMIT, Message, MessageError};
+use alog_msg::{Item, Level, Message, MessageError, TEXT_LIMIT_MAX};
 use alog_policy::Policy;
 use alog_registry::{
     AddError, Backtrace, BacktraceError, BacktraceItem, BacktraceReply, BacktraceScratch, Dumped,
@@ -315,7 +315,7 @@ fn turns_of_a_backtrace(rt: HostRuntime) -> Result<(), Fail> {
     let kept = lane.turn_once(&mut seat, 0, &BacktraceItem::Keep, &mut scratch);
     assert!(rt; matches!(kept, Ok((0, BacktraceReply::Kept))));
     assert!(rt; scratch.message.is_none());
-    scratch.list = Some(Dumped::new(alloc, 1, MOST_TEXT_LIMIT)?);
+    scratch.list = Some(Dumped::new(alloc, 1, TEXT_LIMIT_MAX)?);
     match lane.turn_once(&mut seat, 0, &BacktraceItem::Dump, &mut scratch) {
         Ok((1, BacktraceReply::Dumped(mut list))) => assert!(rt; is_text(list.take_oldest(), "m1")),
         _ => panic!(rt; "the lock is free"),

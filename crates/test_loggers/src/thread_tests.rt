@@ -6,7 +6,7 @@ ghost use Rattle.test_loggers.specs.declared.log_tests.TheConstants.{TEXT_LIMIT}
 
 use crate::log_tests::TEXT_LIMIT;
 use alog_lane::{Lane, LaneSeat};
-use alog_msg::{Level, MOST_TEXT_LIMIT, Message};
+use alog_msg::{Level, Message, TEXT_LIMIT_MAX};
 use alog_registry::{
     Backtrace, BacktraceItem, BacktraceReply, BacktraceScratch, Dumped, Keep, LaneKeeper,
 };
@@ -190,7 +190,7 @@ fn two_threads_keep(rt: HostRuntime) -> Result<(), Fail> {
     };
     let mut scratch = BacktraceScratch {
         message: None,
-        list: Some(Dumped::new(alloc, ROOM, MOST_TEXT_LIMIT)?),
+        list: Some(Dumped::new(alloc, ROOM, TEXT_LIMIT_MAX)?),
     };
     let (first, second) = (messages_of(alloc, 1)?, messages_of(alloc, 2)?);
     let one = Keeping {
@@ -261,7 +261,7 @@ fn a_lock_that_is_held(rt: HostRuntime) -> Result<(), Fail> {
     };
     let mut scratch = BacktraceScratch {
         message: None,
-        list: Some(Dumped::new(alloc, ROOM, MOST_TEXT_LIMIT)?),
+        list: Some(Dumped::new(alloc, ROOM, TEXT_LIMIT_MAX)?),
     };
     let one = Meeting::new(alloc, lane.split(&mut seat, 1));
     let two = Meeting::new(alloc, lane.split(&mut seat, 1));

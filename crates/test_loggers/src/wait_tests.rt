@@ -1,12 +1,12 @@
 ghost use Rattle.std.specs.Prelude.{◌≡◌, ◌≤◌, ◌<◌, length};
-ghost use Rattle.alog_msg.specs.declared.limits.TheConstants.{LEAST_TEXT_LIMIT};
+ghost use Rattle.alog_msg.specs.declared.limits.TheConstants.{TEXT_LIMIT_MIN};
 ghost use Rattle.alog_policy.specs.Port.{IsFit};
 ghost use Rattle.alog_registry.specs.LaneKeeper.{IsSeated, HasList};
 
 use crate::log_tests::{TEXT_LIMIT, are_posted, one, posted};
 use crate::port_tests::{new_book, ring_of};
 use alog_lane::Lane;
-use alog_msg::{Item, Level, MOST_TEXT_LIMIT};
+use alog_msg::{Item, Level, TEXT_LIMIT_MAX};
 use alog_policy::{Outcome, Policy, Port, Why};
 use alog_registry::{Backtrace, BacktraceScratch, Dumped, LaneKeeper, LogReply, Loggers};
 use std::alloc::Global;
@@ -28,7 +28,7 @@ fn said<R: Wait + Clock>(
     requires known { 0 < length loggers.now }
     requires fit { IsFit port.old }
     requires seated { IsSeated keeper.old × HasList keeper.old }
-    requires limit { LEAST_TEXT_LIMIT ≤ keeper.old.lane.now.first.limit }
+    requires limit { TEXT_LIMIT_MIN ≤ keeper.old.lane.now.first.limit }
     ensures fit { IsFit port.new }
     ensures seated { IsSeated keeper.new × HasList keeper.new × (keeper.new.lane ≡ keeper.old.lane) }
 {
@@ -48,7 +48,7 @@ fn log_and_dump<R: Wait + Clock + Abort>(
     requires known { 0 < length loggers.now }
     requires fit { IsFit port.old }
     requires seated { IsSeated keeper.old × HasList keeper.old }
-    requires limit { LEAST_TEXT_LIMIT ≤ keeper.old.lane.now.first.limit }
+    requires limit { TEXT_LIMIT_MIN ≤ keeper.old.lane.now.first.limit }
     ensures fit { IsFit port.new }
     ensures seated { IsSeated keeper.new × HasList keeper.new × (keeper.new.lane ≡ keeper.old.lane) }
 {
@@ -101,7 +101,7 @@ fn dump_to_a_full_queue<R: Wait + Clock + Abort>(
     requires known { 0 < length loggers.now }
     requires fit { IsFit port.old }
     requires seated { IsSeated keeper.old × HasList keeper.old }
-    requires limit { LEAST_TEXT_LIMIT ≤ keeper.old.lane.now.first.limit }
+    requires limit { TEXT_LIMIT_MIN ≤ keeper.old.lane.now.first.limit }
 {
     said(rt, loggers, alloc, port, keeper, Level::Info, "m4")?;
     said(rt, loggers, alloc, port, keeper, Level::Info, "m5")?;
@@ -122,7 +122,7 @@ fn dumps_nothing<R: Wait + Clock + Abort>(
     requires known { 0 < length loggers.now }
     requires fit { IsFit port.old }
     requires seated { IsSeated keeper.old × HasList keeper.old }
-    requires limit { LEAST_TEXT_LIMIT ≤ keeper.old.lane.now.first.limit }
+    requires limit { TEXT_LIMIT_MIN ≤ keeper.old.lane.now.first.limit }
     ensures fit { IsFit port.new }
     ensures seated { IsSeated keeper.new × HasList keeper.new × (keeper.new.lane ≡ keeper.old.lane) }
 {
@@ -135,7 +135,7 @@ fn logs_with_waiting(rt: HostRuntime) -> Result<(), Fail> {
     let alloc = rt.alloc();
     let mut scratch = BacktraceScratch {
         message: None,
-        list: Some(Dumped::new(alloc, 2, MOST_TEXT_LIMIT)?),
+        list: Some(Dumped::new(alloc, 2, TEXT_LIMIT_MAX)?),
     };
     let (lane, mut seat) = match Lane::new(alloc, Backtrace::new(alloc, 2)?) {
         Ok(made) => made,

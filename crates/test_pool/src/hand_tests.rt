@@ -12,7 +12,7 @@ use alog_format::LineBuf;
 use alog_msg::{Item, Level, Message};
 use alog_pattern::LINE_MAX;
 use alog_policy::LossBook;
-use alog_pool::{Hand, OpenGate, Shared};
+use alog_pool::{OpenGate, Shared, Worker};
 use alog_registry::{Loggers, TextLimit};
 use alog_ring::{Pass, Ring};
 use alog_sink::MemStore;
@@ -92,15 +92,15 @@ fn shared(rt: &impl Abort, alloc: Global, ring: Queue, loggers: Loggers) -> Arc<
 }
 
 // A worker without a place, of a pool of one.
-fn hand(alloc: Global, shared: Arc<Shared>, pass: Pass<Item>) -> Result<Hand<MemStore>, Fail>
+fn hand(alloc: Global, shared: Arc<Shared>, pass: Pass<Item>) -> Result<Worker<MemStore>, Fail>
     requires ring { IsPassOf (arc_value shared).ring pass }
     requires fresh { IsFresh pass.known }
     ensures { IfOk result (λ h. IsAtWork h h) }
 {
-    Ok(Hand {
+    Ok(Worker {
         shared,
         pass,
-        berths: Vec::new(alloc),
+        sink_seats: Vec::new(alloc),
         line: LineBuf::new(alloc, LINE_MAX)?,
         number: 0,
         workers: 1,

@@ -1,7 +1,7 @@
 //! A pool whose sinks wait for each other.
 ghost use Rattle.std.specs.Prelude.{◌≡◌, IfOk};
 ghost use Rattle.std.specs.List.{AllByRecursion};
-ghost use Rattle.alog_pool.specs.Berth.{Suits};
+ghost use Rattle.alog_pool.specs.SinkSeat.{Suits};
 ghost use Rattle.alog_pool.specs.Pool.{Fits};
 ghost use Rattle.test_pool.specs.declared.sinks.TheConstants.{TEXT_LIMIT};
 

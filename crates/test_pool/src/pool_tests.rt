@@ -2,7 +2,7 @@
 use crate::reports::{has, has_totals, is_told, logged, posted};
 use crate::trial::{NEVER, PLAIN, Plan, Trial, setup_of};
 use alog_policy::{Outcome, Why};
-use alog_pool::{MOST_PRODUCERS, OpenGate, Pool, StartError};
+use alog_pool::{OpenGate, PRODUCERS_MAX, Pool, StartError};
 use alog_registry::LogReply;
 use std::alloc::Global;
 use std::process::Abort;
@@ -88,7 +88,7 @@ fn no_4097th_producer(rt: HostRuntime) {
     let alloc = rt.alloc();
     let last = (1 << 62) - 1;
     let setup = setup_of(alloc, of(2, last, 1), &[&[0]], &[NEVER]);
-    let mut trial = Trial::start(&rt, alloc, setup, OpenGate, MOST_PRODUCERS as usize);
+    let mut trial = Trial::start(&rt, alloc, setup, OpenGate, PRODUCERS_MAX as usize);
     is_told(&rt, trial.log(&rt, alloc, 0, 0, "a"), logged(posted(last)));
     let report = trial.end_full(&rt);
     has_totals(&rt, &report, 1, 0, 0);

@@ -1,6 +1,6 @@
 //! A sink in memory, whose lines are the texts.
 ghost use Rattle.std.specs.Prelude.{◌≡◌, IfOk};
-ghost use Rattle.alog_pool.specs.Berth.{Suits};
+ghost use Rattle.alog_pool.specs.SinkSeat.{Suits};
 ghost use Rattle.test_pool.specs.declared.sinks.TheConstants.{TEXT_LIMIT};
 
 use alog_format::{Context, Zone};

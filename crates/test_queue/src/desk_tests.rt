@@ -4,7 +4,7 @@ ghost use Rattle.alog_policy.specs.DeskOutlet.{IsFree, DeskDid};
 ghost use Rattle.alog_policy.specs.Outlet.{PostsNow};
 ghost use Rattle.alog_policy.specs.declared.policy.Policy.TheVariants as under;
 
-use alog_core::{BeginError, LAST_TICKET, Mark, Said, StepError, WorldError};
+use alog_core::{BeginError, Mark, Said, StepError, TICKET_END, WorldError};
 use alog_policy::{Counts, Desk, Outcome, Policy, Stepped, Why, post_now, runs_are_cut};
 use std::alloc::Global;
 use std::process::Abort;
@@ -202,8 +202,8 @@ fn gives_up_after_64_busy_rounds(rt: HostRuntime) {
 
 // No ticket is left for a post under this policy.
 fn is_spent(rt: &impl Abort, alloc: Global, policy: Policy) {
-    let mut desk = new_desk(rt, alloc, 2, LAST_TICKET - 1);
-    push(rt, &mut desk, 1, 'a', LAST_TICKET - 1);
+    let mut desk = new_desk(rt, alloc, 2, TICKET_END - 1);
+    push(rt, &mut desk, 1, 'a', TICKET_END - 1);
     begins(rt, &mut desk, 2, policy, 'b');
     ends(
         rt,
@@ -226,7 +226,7 @@ fn no_ticket_is_left(rt: HostRuntime) {
 fn sizes_and_first_tickets_of_a_desk(rt: HostRuntime) {
     for (places, first, refused) in [
         (3, 0, WorldError::BadSize),
-        (2, LAST_TICKET, WorldError::BadFirst),
+        (2, TICKET_END, WorldError::BadFirst),
     ] {
         let made = Desk::<char>::new(rt.alloc(), places, first);
         assert!(rt; made.err() == Some(refused), "{places}, {first}");
@@ -349,8 +349,8 @@ fn posts_at_once_behind_a_claim(rt: HostRuntime) {
 
 #[test]
 fn posts_at_once_without_a_ticket(rt: HostRuntime) {
-    let mut desk = new_desk(&rt, rt.alloc(), 2, LAST_TICKET - 1);
-    let last = posted(LAST_TICKET - 1, 0);
+    let mut desk = new_desk(&rt, rt.alloc(), 2, TICKET_END - 1);
+    let last = posted(TICKET_END - 1, 0);
     now(&rt, &mut desk, Policy::Block, 'a', last);
     for policy in [Policy::Block, Policy::OverrunOldest, Policy::DiscardNew] {
         now(&rt, &mut desk, policy, 'b', discarded('b', Why::Spent));

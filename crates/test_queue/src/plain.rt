@@ -2,7 +2,7 @@
 //! compared with. It looks through the list for each step.
 ghost use Rattle.std.specs.Prelude.{◌<◌, IfSome, length};
 
-use alog_core::{ACTORS, Answer, Call, CellView, LAST_TICKET, Mark, Round, Said};
+use alog_core::{ACTORS, Answer, Call, CellView, Mark, Round, Said, TICKET_END};
 use std::alloc::{AllocError, Global};
 use std::mem;
 
@@ -159,7 +159,7 @@ fn advance<T: Drop>(
 }
 
 fn load_next<T>(table: &Table<T>, item: T) -> (Said<T>, Round<T>) {
-    if table.next == LAST_TICKET {
+    if table.next == TICKET_END {
         (Said::Spent(Some(item)), Round::Idle)
     } else {
         (

@@ -3,7 +3,7 @@ ghost use Rattle.alog_lane.specs.Seats.{first_known as first_seat_known};
 ghost use Rattle.alog_ring.specs.Known.{IsPassOf, first_known};
 ghost use Rattle.alog_policy.specs.BookCalls.{IsSeatOf};
 
-use alog_core::LAST_TICKET;
+use alog_core::TICKET_END;
 use alog_policy::{
     BookSeat, Counts, LossBook, Outcome, Policy, Port, SeatsOut, Why, post_from, post_now,
     post_wait,
@@ -292,9 +292,9 @@ fn a_hand_keeps_what_is_discarded(rt: HostRuntime) {
 
 // Under this policy the last ticket is given, and then none is left.
 fn is_spent(rt: &(impl Abort + Wait + Clock), alloc: Global, policy: Policy) {
-    let (ring, mut pass) = ring_of_two(rt, alloc, LAST_TICKET - 1);
+    let (ring, mut pass) = ring_of_two(rt, alloc, TICKET_END - 1);
     let (book, mut seat) = new_book(rt, alloc);
-    let last = posted(LAST_TICKET - 1, 0);
+    let last = posted(TICKET_END - 1, 0);
     goes(rt, &ring, &mut pass, &book, &mut seat, policy, 7, last);
     goes(
         rt,

@@ -6,7 +6,7 @@ ghost use Rattle.alog_core.specs.World.{fresh};
 ghost use Rattle.alog_core.specs.Run.{entries_of_run, TellAll};
 
 use alog_core::{
-    Answer, BeginError, Call, MOST_PLACES, Mark, Refused, Said, StepError, World, WorldError,
+    Answer, BeginError, Call, Mark, PLACES_MAX, Refused, Said, StepError, World, WorldError,
     accounts_balance, an_actors_tickets_rise, no_ticket_is_handed_out_twice,
     reached_states_are_sound, takes_follow_their_claims, tickets_are_grabbed_in_order,
     tickets_are_handed_out_or_listed, tickets_are_issued_in_order, tickets_keep_their_items,
@@ -360,8 +360,8 @@ fn items_that_own_memory(rt: HostRuntime) -> Result<(), Fail> {
 
 #[test]
 fn the_largest_queue(rt: HostRuntime) {
-    let mut world = world(&rt, rt.alloc(), MOST_PLACES, 0);
-    for item in 0..MOST_PLACES as u64 {
+    let mut world = world(&rt, rt.alloc(), PLACES_MAX, 0);
+    for item in 0..PLACES_MAX as u64 {
         pushes(&rt, &mut world, 63, item, item);
     }
     let full = [Said::Nothing, Said::Full(65_536, Some(1))];

@@ -1,6 +1,6 @@
 //! The pool of a run.
 ghost use Rattle.std.specs.Prelude.{◌≡◌, ◌<◌, length, IfOk};
-ghost use Rattle.alog_pool.specs.Berth.{Suits};
+ghost use Rattle.alog_pool.specs.SinkSeat.{Suits};
 ghost use Rattle.alog_pool.specs.Pool.{Fits};
 ghost use Rattle.bench.specs.declared.lines.TheConstants.{TEXT_LIMIT};
 

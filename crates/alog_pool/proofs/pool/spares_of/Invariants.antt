@@ -3,5 +3,5 @@ use Rattle.alog_pool.specs.Places.{IsSpareOf}
 use Rattle.alog_pool.proofs.Sharing.{Matching}
 use Rattle.alog_pool.proofs.pool.spares_of.Given as goal
 
-abbrev pub invariant-loop-keeping : goal.invariant-loop-keeping
-invariant-loop-keeping l = Matching IsSpareOf l.keeping-index l.keepings l.spares.items × (length l.keepings ≤ vec_capacity l.spares)
+abbrev pub invariant-loop-backtrace_seat : goal.invariant-loop-backtrace_seat
+invariant-loop-backtrace_seat l = Matching IsSpareOf l.backtrace_seat-index l.backtrace_seats l.spares.items × (length l.backtrace_seats ≤ vec_capacity l.spares)

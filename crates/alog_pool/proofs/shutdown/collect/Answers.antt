@@ -7,13 +7,13 @@ use Rattle.std.specs.declared.alloc.Global.{Global}
 use Rattle.std.specs.declared.thread.PromisedHandle.{PromisedHandle}
 use Rattle.alog_core.proofs.Calls.{given_front}
 use Rattle.alog_msg.specs.declared.item.Item.{Item}
-use Rattle.alog_pool.specs.Back.{HasBack, hand_member}
-use Rattle.alog_pool.specs.Berth.{BerthView}
+use Rattle.alog_pool.specs.Back.{HasBack, worker_member}
+use Rattle.alog_pool.specs.SinkSeat.{SinkSeatView}
 use Rattle.alog_pool.specs.Collected.{HaveBack}
 use Rattle.alog_pool.specs.Places.{Each2}
 use Rattle.alog_pool.specs.Pool.{Begins, lanes_of}
 use Rattle.alog_pool.specs.Working.{HasWorked}
-use Rattle.alog_pool.specs.declared.hand.Hand.{Hand}
+use Rattle.alog_pool.specs.declared.worker.Worker.{Worker}
 use Rattle.alog_pool.specs.declared.shared.Shared.{Shared}
 use Rattle.alog_pool.specs.declared.works.Works.{Works}
 use Rattle.alog_pool.proofs.Back.{back_starts, back_one, map_more, sum_more}
@@ -27,10 +27,10 @@ pub loop-worker-init : goal.loop-worker-init
 loop-worker-init g c = record {
   ring = c.requires.ring;
   collects = record {
-    hands = [];
+    crew = [];
     worked = tt;
     passes = back_starts c.args.pass.now.known c.requires.faithful;
-    places = rows_start c.args.berths.now.items c.requires.unused;
+    places = rows_start c.args.sink_seats.now.items c.requires.unused;
     tickets_are = ap (λ (l : List (Vec ℕ Global)). map (λ (v : Vec ℕ Global). v.items) l) c.requires.room.0;
     handled_is = refl;
   };
@@ -40,85 +40,85 @@ loop-worker-init g c = record {
 pub join-requires-clause-other : goal.join-requires-clause-other
 join-requires-clause-other g c =
     let S = g.row.S.Denot in
-    let W : Type 0 = PromisedHandle (Hand S) (Works S) in
+    let W : Type 0 = PromisedHandle (Worker S) (Works S) in
     let yielded = c.loop-worker.yielded in
     let front = given_front c.into_iter-worker-iterator.result yielded c.loop-worker.worker-iterator c.loop-worker.yielded_by in
     let all = sym c.into_iter-worker-iterator.ensures.into_iter_gives.0 ∙ front ∙ ap (λ (l : List W). yielded ++ l) c.in-Some.ensures.steps.0 in
-    let f : W → Hand S = λ h. h.promise.start.value in
-    let P : Hand S → Type 0 = Begins c.args.shared.now (lanes_of c.args.berths.now.items) c.requires.began.0 in
+    let f : W → Worker S = λ h. h.promise.start.value in
+    let P : Worker S → Type 0 = Begins c.args.shared.now (lanes_of c.args.sink_seats.now.items) c.requires.began.0 in
     let begins = all_map_next f P yielded c.in-Some.worker _ (subst (λ (l : List W). AllByRecursion P (map f l)) all c.requires.began.1) in
     subst (λ (s : Shared). IsPassOf s.ring c.join-own.result.pass) begins.shares c.join-own.ensures.ring
 
 pub take_all_back-requires : goal.take_all_back-requires
 take_all_back-requires g c =
     let S = g.row.S.Denot in
-    let W : Type 0 = PromisedHandle (Hand S) (Works S) in
+    let W : Type 0 = PromisedHandle (Worker S) (Works S) in
     let yielded = c.loop-worker.yielded in
     let front = given_front c.into_iter-worker-iterator.result yielded c.loop-worker.worker-iterator c.loop-worker.yielded_by in
     let all = sym c.into_iter-worker-iterator.ensures.into_iter_gives.0 ∙ front ∙ ap (λ (l : List W). yielded ++ l) c.in-Some.ensures.steps.0 in
-    let f : W → Hand S = λ h. h.promise.start.value in
-    let P : Hand S → Type 0 = Begins c.args.shared.now (lanes_of c.args.berths.now.items) c.requires.began.0 in
+    let f : W → Worker S = λ h. h.promise.start.value in
+    let P : Worker S → Type 0 = Begins c.args.shared.now (lanes_of c.args.sink_seats.now.items) c.requires.began.0 in
     let begins = all_map_next f P yielded c.in-Some.worker _ (subst (λ (l : List W). AllByRecursion P (map f l)) all c.requires.began.1) in
     let collected = c.loop-worker.invariant.collects in
-    each_lane c.loop-worker.berths.items c.join-own.result.berths.items
-    (place_lanes (f c.in-Some.worker).berths.items c.join-own.result.berths.items c.join-own.ensures.places ∙ begins.lanes_are
-    ∙ sym (rows_lanes c.args.berths.now.items c.loop-worker.berths.items (map (λ (h : Hand S). h.berths.items) collected.hands)
+    each_lane c.loop-worker.sink_seats.items c.join-own.result.sink_seats.items
+    (place_lanes (f c.in-Some.worker).sink_seats.items c.join-own.result.sink_seats.items c.join-own.ensures.places ∙ begins.lanes_are
+    ∙ sym (rows_lanes c.args.sink_seats.now.items c.loop-worker.sink_seats.items (map (λ (h : Worker S). h.sink_seats.items) collected.crew)
     collected.places))
 
 pub push_reserved-requires : goal.push_reserved-requires
 push_reserved-requires g c =
     let S = g.row.S.Denot in
-    let W : Type 0 = PromisedHandle (Hand S) (Works S) in
-    let f : W → Hand S = λ h. h.promise.start.value in
+    let W : Type 0 = PromisedHandle (Worker S) (Works S) in
+    let f : W → Worker S = λ h. h.promise.start.value in
     let yielded = c.loop-worker.yielded in
     let front = given_front c.into_iter-worker-iterator.result yielded c.loop-worker.worker-iterator c.loop-worker.yielded_by in
     let more = ap length (sym c.into_iter-worker-iterator.ensures.into_iter_gives.0 ∙ front)
     ∙ length-append yielded (into_iter_items c.loop-worker.worker-iterator) in
     let first = ap length c.in-Some.ensures.steps.0 in
     let collected = c.loop-worker.invariant.collects in
-    let many = each2_length HasWorked (map f yielded) collected.hands collected.worked ∙ length-map yielded f in
+    let many = each2_length HasWorked (map f yielded) collected.crew collected.worked ∙ length-map yielded f in
     let listed = sym (length-map c.loop-worker.tickets.items (λ (v : Vec ℕ Global). v.items))
-    ∙ ap (λ (l : List (List ℕ)). length l) collected.tickets_are ∙ length-map collected.hands (λ (h : Hand S). h.tickets.items) in
+    ∙ ap (λ (l : List (List ℕ)). length l) collected.tickets_are ∙ length-map collected.crew (λ (h : Worker S). h.tickets.items) in
     let room = c.loop-worker.invariant.room in
     omega (arith, more, first, many, listed, room, c.loop-worker.tickets.ok.0)
 
 pub loop-worker-preserved : goal.loop-worker-preserved
 loop-worker-preserved g c =
     let S = g.row.S.Denot in
-    let W : Type 0 = PromisedHandle (Hand S) (Works S) in
-    let f : W → Hand S = λ h. h.promise.start.value in
+    let W : Type 0 = PromisedHandle (Worker S) (Works S) in
+    let f : W → Worker S = λ h. h.promise.start.value in
     let yielded = c.loop-worker.yielded in
     let front = given_front c.into_iter-worker-iterator.result yielded c.loop-worker.worker-iterator c.loop-worker.yielded_by in
     let all = sym c.into_iter-worker-iterator.ensures.into_iter_gives.0 ∙ front ∙ ap (λ (l : List W). yielded ++ l) c.in-Some.ensures.steps.0 in
-    let P : Hand S → Type 0 = Begins c.args.shared.now (lanes_of c.args.berths.now.items) c.requires.began.0 in
+    let P : Worker S → Type 0 = Begins c.args.shared.now (lanes_of c.args.sink_seats.now.items) c.requires.began.0 in
     let begins = all_map_next f P yielded c.in-Some.worker _ (subst (λ (l : List W). AllByRecursion P (map f l)) all c.requires.began.1) in
     let collected = c.loop-worker.invariant.collects in
-    let hands = collected.hands in
-    let hand = c.join-own.result in
+    let crew = collected.crew in
+    let worker = c.join-own.result in
     let M : Type 0 = Member Item no_note in
     let V : Type 0 = Vec ℕ Global in
     let room = c.loop-worker.invariant.room in
     record {
       ring = c.join.ensures.ring;
       collects = record {
-        hands = hands ++ hand ∷ [];
-        worked = subst (λ (l : List (Hand S)). Each2 HasWorked l (hands ++ hand ∷ [])) (sym (map_more f yielded c.in-Some.worker))
-            (each2_more HasWorked (map f yielded) hands (f c.in-Some.worker) hand collected.worked c.join-own.ensures);
+        crew = crew ++ worker ∷ [];
+        worked = subst (λ (l : List (Worker S)). Each2 HasWorked l (crew ++ worker ∷ [])) (sym (map_more f yielded c.in-Some.worker))
+            (each2_more HasWorked (map f yielded) crew (f c.in-Some.worker) worker collected.worked c.join-own.ensures);
         passes = subst (λ (l : List M). HasBack c.args.pass.now.known c.join.new.pass.known l)
-            (sym (map_more (λ (h : Hand S). hand_member h) hands hand))
-            (back_one c.args.pass.now.known c.loop-worker.pass.known hand.pass.known c.join.new.pass.known
-            (map (λ (h : Hand S). hand_member h) hands) collected.passes c.join.ensures.joined c.join-own.ensures.work.joined
+            (sym (map_more (λ (h : Worker S). worker_member h) crew worker))
+            (back_one c.args.pass.now.known c.loop-worker.pass.known worker.pass.known c.join.new.pass.known
+            (map (λ (h : Worker S). worker_member h) crew) collected.passes c.join.ensures.joined c.join-own.ensures.work.joined
             c.join-own.ensures.work.parts);
-        places = subst (λ (l : List (List (BerthView S))). HaveBack c.args.berths.now.items c.take_all_back.new.berths.items l)
-            (sym (map_more (λ (h : Hand S). h.berths.items) hands hand))
-            (rows_more c.args.berths.now.items c.loop-worker.berths.items c.take_all_back.new.berths.items hand.berths.items
-            (map (λ (h : Hand S). h.berths.items) hands) collected.places c.take_all_back.ensures
-            (ones (f c.in-Some.worker).berths.items hand.berths.items c.join-own.ensures.places begins.seats));
+        places = subst (λ (l : List (List (SinkSeatView S))). HaveBack c.args.sink_seats.now.items c.take_all_back.new.sink_seats.items l)
+            (sym (map_more (λ (h : Worker S). h.sink_seats.items) crew worker))
+            (rows_more c.args.sink_seats.now.items c.loop-worker.sink_seats.items c.take_all_back.new.sink_seats.items worker.sink_seats.items
+            (map (λ (h : Worker S). h.sink_seats.items) crew) collected.places c.take_all_back.ensures
+            (ones (f c.in-Some.worker).sink_seats.items worker.sink_seats.items c.join-own.ensures.places begins.seats));
         tickets_are = ap (λ (l : List V). map (λ (v : V). v.items) l) c.push_reserved.ensures.items
-            ∙ map_more (λ (v : V). v.items) c.loop-worker.tickets.items hand.tickets
-            ∙ (λ i. collected.tickets_are i ++ hand.tickets.items ∷ [])
-            ∙ sym (map_more (λ (h : Hand S). h.tickets.items) hands hand);
-        handled_is = sum_more (λ (h : Hand S). h.handled) hands hand c.loop-worker.all collected.handled_is;
+            ∙ map_more (λ (v : V). v.items) c.loop-worker.tickets.items worker.tickets
+            ∙ (λ i. collected.tickets_are i ++ worker.tickets.items ∷ [])
+            ∙ sym (map_more (λ (h : Worker S). h.tickets.items) crew worker);
+        handled_is = sum_more (λ (h : Worker S). h.handled) crew worker c.loop-worker.all collected.handled_is;
       };
       room = omega (arith, room, c.push_reserved.ensures.capacity);
     }

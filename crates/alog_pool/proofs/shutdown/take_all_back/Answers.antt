@@ -2,7 +2,7 @@ use Rattle.std.proofs.Common.{◌≡◌, suc, List, [], ◌∷◌, ◌++◌, len
 use Rattle.std.specs.Prelude.{slice_index_or}
 use Rattle.std.specs.Vec.Iter.{into_iter_items}
 use Rattle.alog_core.proofs.Calls.{given_front, all_given}
-use Rattle.alog_pool.specs.Berth.{BerthView}
+use Rattle.alog_pool.specs.SinkSeat.{SinkSeatView}
 use Rattle.alog_pool.specs.Collected.{TakesBack}
 use Rattle.alog_pool.specs.Places.{Each2, Each3, IsSameLane}
 use Rattle.alog_pool.proofs.Sharing.{Sharing, each2_length, matched_next, next_low, share_one, share_all, shared_lengths}
@@ -15,31 +15,31 @@ index_mut-requires g c =
     let more = ap length (sym c.into_iter-place-iterator.ensures.into_iter_gives.0 ∙ front)
     ∙ length-append yielded (into_iter_items c.loop-place.place-iterator) in
     let first = ap length c.in-Some.ensures.steps.0 in
-    let each = each2_length IsSameLane c.args.berths.now.items c.args.places.items c.requires in
-    let long = (shared_lengths TakesBack (length yielded) c.args.berths.now.items c.loop-place.berths.items yielded
+    let each = each2_length IsSameLane c.args.sink_seats.now.items c.args.places.items c.requires in
+    let long = (shared_lengths TakesBack (length yielded) c.args.sink_seats.now.items c.loop-place.sink_seats.items yielded
     c.loop-place.invariant.0).0 in
     let at = c.loop-place.invariant.1 in
-    omega (arith, more, first, each, long, at, c.loop-place.berths.ok.0)
+    omega (arith, more, first, each, long, at, c.loop-place.sink_seats.ok.0)
 
 pub take_back-requires : goal.take_back-requires
 take_back-requires g c =
-    let B : Type 0 = BerthView g.row.S.Denot in
+    let B : Type 0 = SinkSeatView g.row.S.Denot in
     let yielded = c.loop-place.yielded in
     let front = given_front c.into_iter-place-iterator.result yielded c.loop-place.place-iterator c.loop-place.yielded_by in
     let all = sym c.into_iter-place-iterator.ensures.into_iter_gives.0 ∙ front ∙ ap (λ (l : List B). yielded ++ l) c.in-Some.ensures.steps.0 in
-    let new = c.loop-place.berths.items in
-    let one = matched_next IsSameLane TakesBack yielded c.in-Some.place _ c.args.berths.now.items new yielded
-    c.index_mut.result.now (subst (λ (l : List B). Each2 IsSameLane c.args.berths.now.items l) all c.requires) c.loop-place.invariant.0 in
+    let new = c.loop-place.sink_seats.items in
+    let one = matched_next IsSameLane TakesBack yielded c.in-Some.place _ c.args.sink_seats.now.items new yielded
+    c.index_mut.result.now (subst (λ (l : List B). Each2 IsSameLane c.args.sink_seats.now.items l) all c.requires) c.loop-place.invariant.0 in
     subst (λ (b : B). c.in-Some.place.lane ≡ b.lane) (sym c.index_mut.ensures.value)
     (subst (λ n. c.in-Some.place.lane ≡ (slice_index_or new n c.index_mut.result.now).lane) (sym c.loop-place.invariant.1) one)
 
 pub loop-place-preserved : goal.loop-place-preserved
 loop-place-preserved g c =
-    let B : Type 0 = BerthView g.row.S.Denot in
+    let B : Type 0 = SinkSeatView g.row.S.Denot in
     let yielded = c.loop-place.yielded in
     let place = c.in-Some.place in
-    let old = c.args.berths.now.items in
-    let new = c.loop-place.berths.items in
+    let old = c.args.sink_seats.now.items in
+    let new = c.loop-place.sink_seats.items in
     let s = c.loop-place.invariant.0 in
     let at : length yielded ≡ c.loop-place.number = sym c.loop-place.invariant.1 in
     let front = given_front c.into_iter-place-iterator.result yielded c.loop-place.place-iterator c.loop-place.yielded_by in
@@ -64,10 +64,10 @@ loop-place-preserved g c =
 
 pub returns : goal.returns
 returns g c =
-    let B : Type 0 = BerthView g.row.S.Denot in
+    let B : Type 0 = SinkSeatView g.row.S.Denot in
     let yielded = c.loop-place.yielded in
-    let old = c.args.berths.now.items in
-    let new = c.loop-place.berths.items in
+    let old = c.args.sink_seats.now.items in
+    let new = c.loop-place.sink_seats.items in
     let all = all_given c.into_iter-place-iterator.result yielded c.loop-place.place-iterator c.loop-place.yielded_by
     c.in-None.ensures.steps.0 in
     let same = sym all ∙ c.into_iter-place-iterator.ensures.into_iter_gives.0 in

@@ -5,4 +5,4 @@ use Rattle.alog_pool.proofs.shutdown.take_all_back.Given as goal
 
 abbrev pub invariant-loop-place : goal.invariant-loop-place
 invariant-loop-place g l =
-    Sharing TakesBack (length l.yielded) l.fn.berths.items l.berths.items l.yielded × (l.number ≡ length l.yielded)
+    Sharing TakesBack (length l.yielded) l.fn.sink_seats.items l.sink_seats.items l.yielded × (l.number ≡ length l.yielded)

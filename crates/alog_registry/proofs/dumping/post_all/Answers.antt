@@ -7,7 +7,7 @@ use Rattle.alog_registry.proofs.dumping.post_all.Goals as goal
 
 pub loop-message-preserved : goal.loop-message-preserved
 loop-message-preserved g c =
-    let o = g.O.Carry in
+    let o = g.O.ItemOutlet in
     let left = c.loop-message.list.messages in
     let m = c.in-Some.message in
     let rest : c.take_oldest.new.self.messages ≡ drop 1 left = ap (λ l. l.messages) c.take_oldest.ensures.rest in

@@ -1,5 +1,5 @@
 use Rattle.std.specs.List.{AllByRecursion}
-use Rattle.alog_pool.specs.Berth.{Suits}
+use Rattle.alog_pool.specs.SinkSeat.{Suits}
 use Rattle.test_pool.specs.declared.sinks.TheConstants.{TEXT_LIMIT}
 use Rattle.test_pool.proofs.trial.sinks.Given as goal
 

@@ -1,5 +1,5 @@
 use Rattle.std.proofs.Common.{◌≡◌, ◌∷◌, List, ℕ, sym, ap, subst, ◌∙◌, arith}
-use Rattle.alog_lane.specs.declared.view.Cabin.{Cabin}
+use Rattle.alog_lane.specs.declared.view.LockedValue.{LockedValue}
 use Rattle.alog_lane.specs.Seats.{Known}
 use Rattle.alog_lane.specs.Turns.{Turned}
 use Rattle.alog_lane.specs.Calls.{TakesTurn}
@@ -13,11 +13,11 @@ take_turn-answer-requires-clause-owner g c =
     ∙ ap (λ s. s.first) c.seat.view_is ∙ c.requires.seat.first)
     in let M : g.row.T.Denot → Type 0 = λ v. g.T.Turn.may_turn v c.args.item.now c.args.scratch.now
     in (
-      got.cabin,
+      got.locked,
       got.taken ∙ ap (λ (l : List (ℕ
-          × Cabin g.row.T.Denot g.row.T-Item.Denot g.row.T-Reply.Denot g.row.T-Scratch.Denot)). (
+          × LockedValue g.row.T.Denot g.row.T-Item.Denot g.row.T-Reply.Denot g.row.T-Scratch.Denot)). (
             0,
-            got.cabin,
+            got.locked,
           ) ∷ l) c.seat.invariant.1,
       got.reaches.keeps c.args.item.now c.args.scratch.now
           (subst M (sym same) c.requires.may_turn),

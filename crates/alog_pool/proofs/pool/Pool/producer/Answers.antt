@@ -3,12 +3,12 @@ use Rattle.std.specs.Arc.{arc_value}
 use Rattle.std.specs.declared.thread.PromisedHandle.{PromisedHandle}
 use Rattle.alog_pool.specs.Pool.{Makes, PoolView}
 use Rattle.alog_pool.specs.Producer.{ProducerView}
-use Rattle.alog_pool.specs.declared.hand.Hand.{Hand}
+use Rattle.alog_pool.specs.declared.worker.Worker.{Worker}
 use Rattle.alog_pool.specs.declared.works.Works.{Works}
-use Rattle.alog_pool.specs.Places.{IsKeepingPart}
+use Rattle.alog_pool.specs.Places.{IsBacktraceSeatPart}
 use Rattle.alog_pool.specs.declared.shared.Shared.{Shared}
 use Rattle.alog_pool.proofs.Hiring.{fresh_part, kept_faithful, one_less, still_own}
-use Rattle.alog_pool.proofs.Parts.{each3_lengths, keeping_parts_left, keepings_limits, same_keepings}
+use Rattle.alog_pool.proofs.Parts.{each3_lengths, backtrace_seat_parts_left, backtrace_seats_limits, same_backtrace_seats}
 use Rattle.alog_pool.proofs.Posting.{new_account}
 use Rattle.alog_pool.proofs.pool.Pool.producer.Goals as goal
 use Rattle.alog_policy.specs.BookCalls.{IsSeatOf}
@@ -19,17 +19,17 @@ pub invariant_of-producer : goal.invariant_of-producer
 invariant_of-producer g c =
     let inside = c.self.inside in
     let left = c.self.invariant.0.left in
-    let old = inside.keepings.items in
-    let new = c.share_keepings.new.keepings.items in
-    let given = c.share_keepings.new.given.items in
-    let each = c.share_keepings.ensures in
+    let old = inside.backtrace_seats.items in
+    let new = c.share_backtrace_seats.new.backtrace_seats.items in
+    let given = c.share_backtrace_seats.new.given.items in
+    let each = c.share_backtrace_seats.ensures in
     let fresh = fresh_part inside.pass c.split.new.pass c.split.result c.split.ensures.split in
     let seat = c.split-2.ensures.split.new_seat in
     record {
       pass = subst (λ (s : Shared). IsPassOf s.ring c.split.result) c.deref-2.ensures c.split.ensures.ring.1;
       losses_are = subst (λ (s : Shared). IsSeatOf s.book c.split-2.result) c.deref-3.ensures c.split-2.ensures.seat.1;
-      each = (each3_lengths IsKeepingPart old new given each).1 ∙ left.each ∙ ap (λ (s : Shared). length s.loggers) (sym c.in-Ok.ensures);
-      kept = (keepings_limits inside.text_limit old new given each left.kept).1;
+      each = (each3_lengths IsBacktraceSeatPart old new given each).1 ∙ left.each ∙ ap (λ (s : Shared). length s.loggers) (sym c.in-Ok.ensures);
+      kept = (backtrace_seats_limits inside.text_limit old new given each left.kept).1;
       queued = ap (λ (s : Shared). s.ring.limit.most) c.in-Ok.ensures ∙ left.queued;
       limits = left.limits;
       account = new_account c.split.result.known c.split-2.result.known fresh.parts fresh.joined fresh.own (ap (λ k. k.parts) seat)
@@ -40,11 +40,11 @@ pub invariant_of-self : goal.invariant_of-self
 invariant_of-self g c =
     let inside = c.self.inside in
     let left = c.self.invariant.0.left in
-    let old = inside.keepings.items in
-    let new = c.share_keepings.new.keepings.items in
-    let given = c.share_keepings.new.given.items in
-    let each = c.share_keepings.ensures in
-    let more = c.if-self-ge-MOST_PRODUCERS.false in
+    let old = inside.backtrace_seats.items in
+    let new = c.share_backtrace_seats.new.backtrace_seats.items in
+    let given = c.share_backtrace_seats.new.given.items in
+    let each = c.share_backtrace_seats.ensures in
+    let more = c.if-self-ge-PRODUCERS_MAX.false in
     let hired = left.few.1 in
     let parts = left.pass_parts in
     let losses = left.losses_parts in
@@ -60,17 +60,17 @@ invariant_of-self g c =
           pass_parts = omega (arith, less);
           losses_are = subst (λ (s : Shared). IsSeatOf s.book c.split-2.new.seat) (c.deref-3.ensures ∙ c.in-Ok.ensures) c.split-2.ensures.seat.0;
           losses_parts = omega (arith, losses, kept_parts, more);
-          berth_parts = left.berth_parts;
-          berth_limits = left.berth_limits;
-          keeping_parts = keeping_parts_left inside.made old new given (omega (arith, more)) each left.keeping_parts;
-          each = (each3_lengths IsKeepingPart old new given each).0 ∙ left.each;
-          kept = (keepings_limits inside.text_limit old new given each left.kept).0;
+          sink_seat_parts = left.sink_seat_parts;
+          sink_seat_limits = left.sink_seat_limits;
+          backtrace_seat_parts = backtrace_seat_parts_left inside.made old new given (omega (arith, more)) each left.backtrace_seat_parts;
+          each = (each3_lengths IsBacktraceSeatPart old new given each).0 ∙ left.each;
+          kept = (backtrace_seats_limits inside.text_limit old new given each left.kept).0;
           queued = left.queued;
           limits = left.limits;
           few = (omega (arith, more), hired);
           pass_unused = (own.0 ∙ left.pass_unused.0, own.1 ∙ left.pass_unused.1);
           losses_unused = (ap (λ k. k.own) kept ∙ left.losses_unused.0, ap (λ k. k.joined) kept ∙ left.losses_unused.1);
-          berths_unused = left.berths_unused;
+          sink_seats_unused = left.sink_seats_unused;
         };
         some = c.self.invariant.0.some;
         began = c.self.invariant.0.began;
@@ -82,27 +82,27 @@ pub returns-clause-made : goal.returns-clause-made
 returns-clause-made g c =
     let S = g.row.S.Denot in
     let inside = c.self.inside in
-    let old = inside.keepings.items in
-    let new = c.share_keepings.new.keepings.items in
-    let given = c.share_keepings.new.given.items in
+    let old = inside.backtrace_seats.items in
+    let new = c.share_backtrace_seats.new.backtrace_seats.items in
+    let given = c.share_backtrace_seats.new.given.items in
     let fresh = fresh_part inside.pass c.split.new.pass c.split.result c.split.ensures.split in
-    let lanes = same_keepings old new given c.share_keepings.ensures in
+    let lanes = same_backtrace_seats old new given c.share_backtrace_seats.ensures in
     let after : PoolView S = record {
       shared = arc_value inside.shared;
       pass = c.split.new.pass;
       losses = c.split-2.new.seat;
-      berths = inside.berths.items;
-      keepings = new;
+      sink_seats = inside.sink_seats.items;
+      backtrace_seats = new;
       made = inside.made + 1;
       limit = inside.text_limit;
       most = inside.tickets_max;
-      hands = map (λ (h : PromisedHandle (Hand S) (Works S)). h.promise.start.value) inside.workers.items;
+      crew = map (λ (h : PromisedHandle (Worker S) (Works S)). h.promise.start.value) inside.workers.items;
     } in
     let producer : ProducerView = record {
       shared = arc_value c.in-Ok.shared;
       pass = c.split.result;
       losses = c.split-2.result;
-      keepings = given;
+      backtrace_seats = given;
       number = inside.made;
       limit = inside.text_limit;
     } in

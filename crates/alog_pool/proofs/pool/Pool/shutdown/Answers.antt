@@ -3,12 +3,12 @@ use Rattle.std.proofs.lemmas.List.{length-map}
 use Rattle.std.specs.Arc.{arc_value}
 use Rattle.std.specs.List.{AllByRecursion}
 use Rattle.std.specs.declared.thread.PromisedHandle.{PromisedHandle}
-use Rattle.alog_pool.specs.Berth.{BerthView}
+use Rattle.alog_pool.specs.SinkSeat.{SinkSeatView}
 use Rattle.alog_pool.specs.Pool.{Begins, PoolView, lanes_of}
 use Rattle.alog_pool.specs.Report.{Ends}
 use Rattle.alog_pool.specs.Stops.{AreEnough}
 use Rattle.alog_pool.specs.Working.{HasWorked}
-use Rattle.alog_pool.specs.declared.hand.Hand.{Hand}
+use Rattle.alog_pool.specs.declared.worker.Worker.{Worker}
 use Rattle.alog_pool.specs.declared.report.Report.{Report}
 use Rattle.alog_pool.specs.declared.shared.Shared.{Shared}
 use Rattle.alog_pool.specs.declared.works.Works.{Works}
@@ -27,46 +27,46 @@ pub collect-handled-requires-clause-began : goal.collect-handled-requires-clause
 collect-handled-requires-clause-began g c κs within =
     let S = g.row.S.Denot in
     let inside = c.self.inside in
-    let starts : List (Hand S) = map (λ (h : PromisedHandle (Hand S) (Works S)). h.promise.start.value) inside.workers.items in (
+    let starts : List (Worker S) = map (λ (h : PromisedHandle (Worker S) (Works S)). h.promise.start.value) inside.workers.items in (
       inside.tickets_max,
-      subst (λ (s : Shared). AllByRecursion (Begins s (lanes_of inside.berths.items) inside.tickets_max) starts)
+      subst (λ (s : Shared). AllByRecursion (Begins s (lanes_of inside.sink_seats.items) inside.tickets_max) starts)
           (sym c.deref-3.ensures) c.self.invariant.0.began,
     )
 
-pub close_berths-requires-clause-all : goal.close_berths-requires-clause-all
-close_berths-requires-clause-all g c =
+pub close_sink_seats-requires-clause-all : goal.close_sink_seats-requires-clause-all
+close_sink_seats-requires-clause-all g c =
     let S = g.row.S.Denot in
     let inside = c.self.inside in
     let pool = c.self.invariant.0 in
-    let starts : List (Hand S) = map (λ (h : PromisedHandle (Hand S) (Works S)). h.promise.start.value) inside.workers.items in
+    let starts : List (Worker S) = map (λ (h : PromisedHandle (Worker S) (Works S)). h.promise.start.value) inside.workers.items in
     let collected = c.collect-handled.ensures.collects in
-    let hands = collected.hands in
-    let rows : List (List (BerthView S)) = map (λ (h : Hand S). h.berths.items) hands in
+    let crew = collected.crew in
+    let rows : List (List (SinkSeatView S)) = map (λ (h : Worker S). h.sink_seats.items) crew in
     let many : length rows ≡ length starts =
-    length-map hands (λ (h : Hand S). h.berths.items) ∙ each2_length HasWorked starts hands collected.worked in
-    all_back (length starts) inside.berths.items c.collect-handled.new.berths.items rows collected.places many
-    (rows_even (arc_value inside.shared) inside.berths.items inside.tickets_max starts hands pool.began collected.worked)
-    pool.left.berth_parts
+    length-map crew (λ (h : Worker S). h.sink_seats.items) ∙ each2_length HasWorked starts crew collected.worked in
+    all_back (length starts) inside.sink_seats.items c.collect-handled.new.sink_seats.items rows collected.places many
+    (rows_even (arc_value inside.shared) inside.sink_seats.items inside.tickets_max starts crew pool.began collected.worked)
+    pool.left.sink_seat_parts
 
-pub close_berths-requires-clause-faults : goal.close_berths-requires-clause-faults
-close_berths-requires-clause-faults g c =
+pub close_sink_seats-requires-clause-faults : goal.close_sink_seats-requires-clause-faults
+close_sink_seats-requires-clause-faults g c =
     let S = g.row.S.Denot in
     let room = c.self.invariant.1.faults in
-    let old = c.self.inside.berths.items in
-    let new = c.collect-handled.new.berths.items in
-    let same = sym (length-map new (λ (b : BerthView S). b.lane))
-    ∙ ap (λ l. length l) (rows_lanes old new _ c.collect-handled.ensures.collects.places) ∙ length-map old (λ (b : BerthView S). b.lane) in
+    let old = c.self.inside.sink_seats.items in
+    let new = c.collect-handled.new.sink_seats.items in
+    let same = sym (length-map new (λ (b : SinkSeatView S). b.lane))
+    ∙ ap (λ l. length l) (rows_lanes old new _ c.collect-handled.ensures.collects.places) ∙ length-map old (λ (b : SinkSeatView S). b.lane) in
     let enough = room.1 in
     (room.0, omega (arith, same, enough))
 
-pub close_berths-requires-clause-sinks : goal.close_berths-requires-clause-sinks
-close_berths-requires-clause-sinks g c =
+pub close_sink_seats-requires-clause-sinks : goal.close_sink_seats-requires-clause-sinks
+close_sink_seats-requires-clause-sinks g c =
     let S = g.row.S.Denot in
     let room = c.self.invariant.1.sinks_are in
-    let old = c.self.inside.berths.items in
-    let new = c.collect-handled.new.berths.items in
-    let same = sym (length-map new (λ (b : BerthView S). b.lane))
-    ∙ ap (λ l. length l) (rows_lanes old new _ c.collect-handled.ensures.collects.places) ∙ length-map old (λ (b : BerthView S). b.lane) in
+    let old = c.self.inside.sink_seats.items in
+    let new = c.collect-handled.new.sink_seats.items in
+    let same = sym (length-map new (λ (b : SinkSeatView S). b.lane))
+    ∙ ap (λ l. length l) (rows_lanes old new _ c.collect-handled.ensures.collects.places) ∙ length-map old (λ (b : SinkSeatView S). b.lane) in
     let enough = room.1 in
     (room.0, omega (arith, same, enough))
 
@@ -77,10 +77,10 @@ returns-clause-ends g c =
     let pool = c.self.invariant.0 in
     let left = pool.left in
     let shared : Shared = arc_value inside.shared in
-    let starts : List (Hand S) = map (λ (h : PromisedHandle (Hand S) (Works S)). h.promise.start.value) inside.workers.items in
+    let starts : List (Worker S) = map (λ (h : PromisedHandle (Worker S) (Works S)). h.promise.start.value) inside.workers.items in
     let producers = c.args.producers.items in
     let collected = c.collect-handled.ensures.collects in
-    let hands = collected.hands in
+    let crew = collected.crew in
     let a = inside.pass.known in
     let j = c.gather.new.pass.known in
     let k = c.post_stops.new.pass.known in
@@ -91,45 +91,45 @@ returns-clause-ends g c =
     let stops = c.post_stops.ensures.stops in
     let own = left.pass_unused.0 in
     let none = left.pass_unused.1 in
-    let many = each2_length HasWorked starts hands collected.worked in
+    let many = each2_length HasWorked starts crew collected.worked in
     let made = c.if-len-self.false in
     let left_parts = left.pass_parts in
     let parts : l.parts ≡ ALL_PARTS =
-    (let all = all_parts a j k l producers starts hands count own none gather accounts stops collected.passes collected.worked pool.some in
+    (let all = all_parts a j k l producers starts crew count own none gather accounts stops collected.passes collected.worked pool.some in
     omega (arith, all, many, made, left_parts, c.len.ensures, c.args.producers.ok.0)) in
     let yes = c.is_whole-whole.ensures.parts.1 parts in
     let whole : IsWhole l = subst IsWhole (c.is_whole-whole.ensures.same yes) (c.is_whole-whole.ensures.whole yes) in
     let ring = subst (λ (s : Shared). IsPassOf s.ring c.collect-handled.new.pass) c.deref-3.ensures c.collect-handled.ensures.ring in
     let places : 1 ≤ l.places = subst (λ n. 1 ≤ n) (sym ring.places) left.some_places in
     let every : count ≡ length starts =
-    (let long = length-map inside.workers.items (λ (h : PromisedHandle (Hand S) (Works S)). h.promise.start.value) in
+    (let long = length-map inside.workers.items (λ (h : PromisedHandle (Worker S) (Works S)). h.promise.start.value) in
     omega (arith, long, c.len-2.ensures, inside.workers.ok.0)) in
-    let halted = only_stops a j k l producers starts hands count own none gather accounts stops collected.passes collected.worked pool.some in
+    let halted = only_stops a j k l producers starts crew count own none gather accounts stops collected.passes collected.worked pool.some in
     let report : Report S = record {
       totals = c.of.result;
       tickets = c.collect-handled.new.tickets;
-      faults = c.close_berths.new.faults;
-      sinks = c.close_berths.new.sinks;
+      faults = c.close_sink_seats.new.faults;
+      sinks = c.close_sink_seats.new.sinks;
     } in
     subst (λ (v : PoolView S). Ends g.S.Store.tells g.S.Store.files g.S.Store.failures v producers report) c.self.view_is
     (record {
-      hands = hands;
+      crew = crew;
       count = many;
-      numbers = same_numbers starts hands collected.worked;
-      served = all_served shared (lanes_of inside.berths.items) inside.tickets_max starts hands pool.began collected.worked;
+      numbers = same_numbers starts crew collected.worked;
+      served = all_served shared (lanes_of inside.sink_seats.items) inside.tickets_max starts crew pool.began collected.worked;
       end = l;
       whole = whole;
       ring = (ring.places, ring.first);
-      members = members a j k l producers starts hands count own none gather accounts stops collected.passes collected.worked pool.some;
+      members = members a j k l producers starts crew count own none gather accounts stops collected.passes collected.worked pool.some;
       stops = (halted.0, subst (λ n. AreEnough n (claims l.own) l.own) every halted.1);
-      took_none = took_none a j k l producers starts hands count own none gather accounts stops collected.passes collected.worked pool.some;
-      out = out a j k l producers starts hands count own none gather accounts stops collected.passes collected.worked pool.some whole places;
-      totals = totals a j k l producers starts hands count own none gather accounts stops collected.passes collected.worked pool.some
+      took_none = took_none a j k l producers starts crew count own none gather accounts stops collected.passes collected.worked pool.some;
+      out = out a j k l producers starts crew count own none gather accounts stops collected.passes collected.worked pool.some whole places;
+      totals = totals a j k l producers starts crew count own none gather accounts stops collected.passes collected.worked pool.some
           whole places inside.losses.known c.gather.new.losses.known c.close_book-lost.result c.collect-handled.result c.of.result
           left.losses_unused.0 left.losses_unused.1 c.gather.ensures.seats c.close_book-lost.ensures collected.handled_is c.of.ensures;
       tickets = collected.tickets_are;
-      sinks = all_closed g.S.Store.tells g.S.Store.files g.S.Store.failures inside.berths.items c.collect-handled.new.berths.items
-          (map (λ (h : Hand S). h.berths.items) hands) c.close_berths.new.sinks.items c.close_berths.new.faults.items collected.places
-          c.close_berths.ensures left.berths_unused
-          (rows_counted shared (lanes_of inside.berths.items) inside.tickets_max starts hands pool.began collected.worked);
+      sinks = all_closed g.S.Store.tells g.S.Store.files g.S.Store.failures inside.sink_seats.items c.collect-handled.new.sink_seats.items
+          (map (λ (h : Worker S). h.sink_seats.items) crew) c.close_sink_seats.new.sinks.items c.close_sink_seats.new.faults.items collected.places
+          c.close_sink_seats.ensures left.sink_seats_unused
+          (rows_counted shared (lanes_of inside.sink_seats.items) inside.tickets_max starts crew pool.began collected.worked);
     })

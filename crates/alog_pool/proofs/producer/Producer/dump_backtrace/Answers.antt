@@ -22,22 +22,22 @@ returns-clause-dumped g c =
       shared = arc_value i.shared;
       pass = i.pass;
       losses = i.losses;
-      keepings = i.keepings.items;
+      backtrace_seats = i.backtrace_seats.items;
       number = i.number;
       limit = i.text_limit;
     } in
     let known : c.args.number < length v.shared.loggers =
     subst (λ (w : ProducerView). c.args.number < length w.shared.loggers) (sym c.self.view_is) c.requires.known in
-    let low : c.args.number < length i.keepings.items = omega (arith, known, c.self.invariant.each) in
-    let place = c.index_mut-keeping.result.now in
-    let found : slice_get i.keepings.items c.args.number ≡ Some place =
-    slice_get_read i.keepings.items (length i.keepings.items) c.args.number place refl low c.index_mut-keeping.ensures.value in
+    let low : c.args.number < length i.backtrace_seats.items = omega (arith, known, c.self.invariant.each) in
+    let place = c.index_mut-backtrace_seat.result.now in
+    let found : slice_get i.backtrace_seats.items c.args.number ≡ Some place =
+    slice_get_read i.backtrace_seats.items (length i.backtrace_seats.items) c.args.number place refl low c.index_mut-backtrace_seat.ensures.value in
     let dumped = simp (to_z-of_z, c.ranges.time) at c.dump.ensures.dumped in
     let new : ProducerView = record {
       shared = arc_value i.shared;
       pass = c.dump.new.port.pass.now;
       losses = c.dump.new.port.seat.now;
-      keepings = slice_set i.keepings.items c.args.number c.dump.new.self;
+      backtrace_seats = slice_set i.backtrace_seats.items c.args.number c.dump.new.self;
       number = i.number;
       limit = i.text_limit;
     } in

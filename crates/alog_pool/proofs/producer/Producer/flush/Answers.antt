@@ -5,7 +5,7 @@ use Rattle.alog_policy.specs.Port.{PortDid}
 use Rattle.alog_pool.specs.Producer.{ProducerView, IsPortOf}
 use Rattle.alog_pool.specs.declared.shared.Shared.{Shared}
 use Rattle.alog_pool.proofs.Producing.{Queueing, posts_port, has_spec, still_producer, port_after}
-use Rattle.alog_registry.specs.Carry.{PostsItemNow}
+use Rattle.alog_registry.specs.ItemOutlet.{PostsItemNow}
 use Rattle.alog_registry.specs.Listed.{spec_at}
 use Rattle.alog_registry.specs.declared.logger.Logger.{Logger}
 use Rattle.alog_registry.specs.declared.logger.Spec.{Spec}
@@ -37,7 +37,7 @@ invariant_of-self c =
     (sym (ap (λ (x : Shared). x.loggers) c.deref-shared.ensures ∙ ap (λ (w : ProducerView). w.shared.loggers) c.self.view_is)) c.requires.known in
     let s = has_spec c.deref-shared.result.now.loggers c.args.number known in
     let alike = posts_port _ _ _ c.flush.new.outlet c.flush.result refl (c.flush.ensures.post s.0 s.1) in
-    still_producer (arc_value i.shared) i.pass i.losses i.keepings.items i.text_limit _ c.flush.new.outlet c.self.invariant
+    still_producer (arc_value i.shared) i.pass i.losses i.backtrace_seats.items i.text_limit _ c.flush.new.outlet c.self.invariant
     (ap (λ (x : Shared). x.ring) c.deref-shared.ensures) (ap (λ (x : Shared). x.book) c.deref-shared.ensures) refl refl alike
     c.flush.ensures.ready.0
 
@@ -48,7 +48,7 @@ returns-clause-post c =
       shared = arc_value i.shared;
       pass = i.pass;
       losses = i.losses;
-      keepings = i.keepings.items;
+      backtrace_seats = i.backtrace_seats.items;
       number = i.number;
       limit = i.text_limit;
     } in
@@ -56,7 +56,7 @@ returns-clause-post c =
       shared = arc_value i.shared;
       pass = c.flush.new.outlet.pass.now;
       losses = c.flush.new.outlet.seat.now;
-      keepings = i.keepings.items;
+      backtrace_seats = i.backtrace_seats.items;
       number = i.number;
       limit = i.text_limit;
     } in

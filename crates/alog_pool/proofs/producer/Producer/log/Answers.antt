@@ -4,7 +4,7 @@ use Rattle.std.specs.Arc.{arc_value}
 use Rattle.std.proofs.lemmas.Int.{to_z-of_z}
 use Rattle.std.proofs.lemmas.Option.{slice_get_read}
 use Rattle.alog_policy.specs.Port.{PortDid}
-use Rattle.alog_pool.specs.Keeping.{KeepingView}
+use Rattle.alog_pool.specs.BacktraceSeat.{BacktraceSeatView}
 use Rattle.alog_pool.specs.Producer.{ProducerView, Lent}
 use Rattle.alog_pool.specs.declared.shared.Shared.{Shared}
 use Rattle.alog_pool.proofs.Producing.{lent_log, kept_at, port_after}
@@ -22,22 +22,22 @@ returns-clause-logs g c =
       shared = arc_value i.shared;
       pass = i.pass;
       losses = i.losses;
-      keepings = i.keepings.items;
+      backtrace_seats = i.backtrace_seats.items;
       number = i.number;
       limit = i.text_limit;
     } in
     let known : c.args.number < length v.shared.loggers =
     subst (λ (w : ProducerView). c.args.number < length w.shared.loggers) (sym c.self.view_is) c.requires.known in
-    let low : c.args.number < length i.keepings.items = omega (arith, known, c.self.invariant.each) in
-    let place = c.index_mut-keeping.result.now in
-    let found : slice_get i.keepings.items c.args.number ≡ Some place =
-    slice_get_read i.keepings.items (length i.keepings.items) c.args.number place refl low c.index_mut-keeping.ensures.value in
+    let low : c.args.number < length i.backtrace_seats.items = omega (arith, known, c.self.invariant.each) in
+    let place = c.index_mut-backtrace_seat.result.now in
+    let found : slice_get i.backtrace_seats.items c.args.number ≡ Some place =
+    slice_get_read i.backtrace_seats.items (length i.backtrace_seats.items) c.args.number place refl low c.index_mut-backtrace_seat.ensures.value in
     let logs = simp (to_z-of_z, c.ranges.time) at c.log.ensures.logs in
     let new : ProducerView = record {
       shared = arc_value i.shared;
       pass = c.log.new.port.pass.now;
       losses = c.log.new.port.seat.now;
-      keepings = slice_set i.keepings.items c.args.number c.log.new.self;
+      backtrace_seats = slice_set i.backtrace_seats.items c.args.number c.log.new.self;
       number = i.number;
       limit = i.text_limit;
     } in
@@ -63,17 +63,17 @@ returns-clause-within g c =
       shared = arc_value i.shared;
       pass = i.pass;
       losses = i.losses;
-      keepings = i.keepings.items;
+      backtrace_seats = i.backtrace_seats.items;
       number = i.number;
       limit = i.text_limit;
     } in
     let known : c.args.number < length v.shared.loggers =
     subst (λ (w : ProducerView). c.args.number < length w.shared.loggers) (sym c.self.view_is) c.requires.known in
-    let low : c.args.number < length i.keepings.items = omega (arith, known, c.self.invariant.each) in
-    let place = c.index_mut-keeping.result.now in
+    let low : c.args.number < length i.backtrace_seats.items = omega (arith, known, c.self.invariant.each) in
+    let place = c.index_mut-backtrace_seat.result.now in
     let limit : place.lane.first.limit ≡ v.limit =
-    ap (λ (k : KeepingView). k.lane.first.limit) c.index_mut-keeping.ensures.value
-    ∙ kept_at i.text_limit i.keepings.items c.args.number place low c.self.invariant.kept in
+    ap (λ (k : BacktraceSeatView). k.lane.first.limit) c.index_mut-backtrace_seat.ensures.value
+    ∙ kept_at i.text_limit i.backtrace_seats.items c.args.number place low c.self.invariant.kept in
     let P : ProducerView → Type 0 = λ w. (s : Spec) → spec_at w.shared.loggers c.args.number ≡ Some s
     → IfOk c.log.result (λ r. IsUnread s r ⊎ IsWithin w.limit c.args.text.now c.args.source) in
     subst P c.self.view_is (λ s e.

@@ -1,5 +1,5 @@
 use Rattle.std.proofs.Common.{ℕ, ◌≡◌, ◌+◌, ◌-◌, ◌≤◌, List, subst, sym, ap, ◌∙◌, refl, arith}
-use Rattle.alog_core.specs.declared.TheConstants.{MOST_PLACES}
+use Rattle.alog_core.specs.declared.TheConstants.{PLACES_MAX}
 use Rattle.alog_core.proofs.Sizes.{size_facts}
 use Rattle.alog_ring.specs.Rule.{word_count}
 use Rattle.alog_ring.specs.Board.{AreFirstWords}
@@ -21,7 +21,7 @@ pub invariant_of-result : goal.invariant_of-result
 invariant_of-result g c =
     let n : ℕ = c.args.places
     in let two : 2 ≤ n = (size_facts c.args.places c.requires.size).1
-    in let most : n ≤ MOST_PLACES = (size_facts c.args.places c.requires.size).2
+    in let most : n ≤ PLACES_MAX = (size_facts c.args.places c.requires.size).2
     in let up : n ≡ n - 1 + 1 = omega arith
     in let made = c.in_ok-table.ensures
     in let P : List ℕ → Type 0 = λ w. AreFirstWords c.args.places c.args.first w

@@ -11,8 +11,8 @@ pub returns-clause-deeds : goal.returns-clause-deeds
 returns-clause-deeds g c = λ tells.
     let view = the_view c.self.inside in
     let old = g.S.Store.files c.args.store.now in
-    let new = g.S.Store.files c.give_up.new.store in
+    let new = g.S.Store.files c.rotate.new.store in
     let room = full_room view c.args.length c.if-self-eq0.false (omega arith) in
-    let given = rw c.as_slice.ensures.value at (c.in_ok-give_up.ensures.deeds tells) in
+    let given = rw c.as_slice.ensures.value at (c.in_ok-rotate.ensures.deeds tells) in
     subst (λ r. Does (makes_room r c.args.length) old new (Ok 0)) c.self.view_is
     (does_ok (makes_room view c.args.length) old new 0 (subst (λ deeds. AreSame (all_done deeds old) new) (sym room) given.done))

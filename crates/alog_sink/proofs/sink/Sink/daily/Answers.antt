@@ -1,8 +1,8 @@
 use Rattle.std.proofs.Common.{[], sym, subst}
-use Rattle.alog_sink.specs.Diary.{DayLimits, Days, StandsFor, change_at}
-use Rattle.alog_sink.specs.Refused.{IsNewDiary}
+use Rattle.alog_sink.specs.DailyFiles.{DayLimits, Days, StandsFor, change_at}
+use Rattle.alog_sink.specs.Refused.{IsNewDaily}
 use Rattle.alog_sink.specs.declared.target.Target.TheVariants.{Daily}
-use Rattle.alog_sink.proofs.DiaryOn.{begins}
+use Rattle.alog_sink.proofs.DailyOn.{begins}
 use Rattle.alog_sink.proofs.Opens.{opened}
 use Rattle.alog_sink.proofs.sink.Sink.daily.Goals as goal
 
@@ -14,5 +14,5 @@ returns-in-Ok-clause-opened g c =
       max_files = c.args.max_files;
     } in
     let files = g.S.Store.files c.args.store in
-    opened g.S.Store.tells g.S.Store.files c.args.face (IsNewDiary limits) files (Daily c.in-Ok.diary) c.args.store c.open-in-Ok.result
+    opened g.S.Store.tells g.S.Store.files c.args.face (IsNewDaily limits) files (Daily c.in-Ok.daily_files) c.args.store c.open-in-Ok.result
     c.open-in-Ok.ensures c.in-Ok.ensures (λ t. subst (λ (d : Days). StandsFor d files [] files) (sym c.in-Ok.ensures) (begins limits files))

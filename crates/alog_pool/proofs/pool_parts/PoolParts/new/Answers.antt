@@ -1,0 +1,47 @@
+use Rattle.std.proofs.Common.{◌≤◌, List, length, ap, refl, sym, subst, ◌∙◌, arith}
+use Rattle.alog_pool.proofs.FirstParts.{first_lanes, first_limits, first_parts, first_unused, backtrace_seats_kept, backtrace_seats_parts, backtrace_seats_rooms}
+use Rattle.alog_pool.proofs.Sharing.{each2_length}
+use Rattle.alog_pool.specs.Places.{IsBacktraceSeatOf}
+use Rattle.alog_pool.proofs.pool_parts.PoolParts.new.Goals as goal
+use Rattle.alog_registry.specs.declared.limit.TextLimit.{TextLimit}
+use Rattle.alog_registry.specs.declared.logger.Logger.{Logger}
+use Rattle.alog_ring.specs.Known.{IsPassOf, RingId}
+use Rattle.alog_ring.specs.Made.{IsFaithful}
+
+pub returns : goal.returns
+returns g c =
+    let setup = c.args.setup in
+    let shared = c.in_ok-shared.ensures in
+    let first = c.in_ok-sink_seats.ensures in
+    let backtrace_seats = c.in_ok-backtrace_seats.ensures in
+    let known = c.requires.pass in
+    record {
+      stands = record {
+        pass_is = subst (λ (r : RingId TextLimit). IsPassOf r c.args.pass) (sym shared.ring) c.requires.ring.0;
+        pass_faithful = subst IsFaithful (sym known) (record { legal = tt; own = refl; joined = tt; distinct = ((λ e. absurd e), tt) });
+        some_places = subst (λ (r : RingId TextLimit). 1 ≤ r.places) (sym shared.ring) c.requires.places;
+        pass_parts = (let parts = ap (λ k. k.parts) known in omega (arith, parts));
+        losses_are = shared.seat;
+        losses_parts = (let parts = ap (λ k. k.parts) shared.known in omega (arith, parts));
+        sink_seat_parts = first_parts setup.text_limit setup.sinks.items c.in_ok-sink_seats.sink_seats.items first;
+        sink_seat_limits = first_limits setup.text_limit setup.sinks.items c.in_ok-sink_seats.sink_seats.items first;
+        backtrace_seat_parts = backtrace_seats_parts setup.text_limit setup.loggers c.in_ok-backtrace_seats.backtrace_seats.items backtrace_seats;
+        each = each2_length (IsBacktraceSeatOf setup.text_limit) setup.loggers c.in_ok-backtrace_seats.backtrace_seats.items backtrace_seats
+            ∙ ap (λ (ls : List Logger). length ls) (sym shared.loggers);
+        kept = backtrace_seats_kept setup.text_limit setup.loggers c.in_ok-backtrace_seats.backtrace_seats.items backtrace_seats;
+        queued = ap (λ (r : RingId TextLimit). r.limit.most) shared.ring ∙ c.requires.ring.1;
+        limits = c.requires.fits.limits;
+        few = (omega arith, omega arith);
+        pass_unused = (ap (λ k. k.own) known, ap (λ k. k.joined) known);
+        losses_unused = (ap (λ k. k.own) shared.known, ap (λ k. k.joined) shared.known);
+        sink_seats_unused = first_unused setup.text_limit setup.sinks.items c.in_ok-sink_seats.sink_seats.items first;
+      };
+      ring_is = shared.ring;
+      loggers = shared.loggers;
+      pass = known;
+      sinks = first_lanes setup.text_limit setup.sinks.items c.in_ok-sink_seats.sink_seats.items first;
+      rooms = backtrace_seats_rooms setup.text_limit setup.loggers c.in_ok-backtrace_seats.backtrace_seats.items backtrace_seats;
+      workers = refl;
+      most = refl;
+      limit = refl;
+    }

@@ -1,0 +1,29 @@
+use Rattle.std.proofs.Common.{◌∷◌, [], arith, sym, subst, ap, ◌∙◌}
+use Rattle.std.proofs.Math.Seq.{map-set_same}
+use Rattle.alog_pool.specs.SinkSeat.{SinkSeatView, IsServable, place_of}
+use Rattle.alog_pool.specs.Deeds.{HasMade}
+use Rattle.alog_pool.proofs.Deeds.{made_one, have_one, have_past}
+use Rattle.alog_pool.proofs.Turning.{servable_at, place_same}
+use Rattle.alog_pool.proofs.worker.serve_at.Goals as goal
+
+pub serve-requires-clause-item : goal.serve-requires-clause-item
+serve-requires-clause-item g c =
+    subst (λ (b : SinkSeatView g.row.S.Denot). IsServable b.limit c.args.item.now) (sym c.index_mut.ensures.value)
+    (servable_at c.args.item.now c.args.sink_seats.now.items c.args.number c.index_mut.result.now (omega (arith, c.if-number-len.true)) c.requires.servable)
+
+pub returns-then-number-len-clause-turn : goal.returns-then-number-len-clause-turn
+returns-then-number-len-clause-turn g c =
+    have_one c.args.sink_seats.now.items c.args.number c.args.tag c.args.item.now c.serve.new.self c.index_mut.result.now
+    (omega (arith, c.if-number-len.true))
+    (subst (λ (b : SinkSeatView g.row.S.Denot). HasMade b c.serve.new.self ((c.args.tag, c.args.item.now) ∷ [])) c.index_mut.ensures.value
+    (made_one g.S.Store.tells g.S.Store.files g.S.Store.failures _ _ _ _ c.serve.ensures.serves))
+
+pub returns-else-number-len-clause-turn : goal.returns-else-number-len-clause-turn
+returns-else-number-len-clause-turn g c =
+    have_past c.args.sink_seats.now.items c.args.number c.args.tag c.args.item.now (omega (arith, c.if-number-len.false))
+
+pub returns-then-number-len-clause-places : goal.returns-then-number-len-clause-places
+returns-then-number-len-clause-places g c =
+    map-set_same place_of c.args.sink_seats.now.items c.args.number c.serve.new.self c.index_mut.result.now
+    (place_same g.S.Store.tells g.S.Store.files g.S.Store.failures _ _ _ _ c.serve.ensures.serves
+    ∙ ap (λ (b : SinkSeatView g.row.S.Denot). place_of b) c.index_mut.ensures.value)

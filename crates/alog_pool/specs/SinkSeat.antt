@@ -1,0 +1,71 @@
+-- A place at a sink under its lock.
+use Rattle.std.specs.Prelude.{◌≡◌, ℕ, ◌+◌, ◌%◌, ◌^◌, ◌≤◌, Bool, List, length, map, Result, Ok, Err}
+use Rattle.std.specs.List.{AllByRecursion}
+use Rattle.alog_format.specs.Buffer.{Buffer}
+use Rattle.alog_lane.specs.Calls.{LaneId, SeatView, TakesTurn}
+use Rattle.alog_lane.specs.Seats.{Member}
+use Rattle.alog_lane.specs.Turns.{Turned}
+use Rattle.alog_msg.specs.declared.item.Item.{Item}
+use Rattle.alog_msg.specs.declared.item.Item.TheVariants.{Text, Flush, Stop}
+use Rattle.alog_msg.specs.declared.message.Message.{Message}
+use Rattle.alog_pattern.specs.declared.patterns.TheConstants.{LINE_MAX}
+use Rattle.alog_sink.specs.Files.{Files}
+use Rattle.alog_sink.specs.Sinks.{MayTake, Turns}
+use Rattle.alog_sink.specs.declared.leaf.SinkError.{SinkError}
+use Rattle.alog_sink.specs.declared.sink.Sink.{Sink}
+use Rattle.alog_sink.specs.declared.turn.Served.{Served}
+
+-- what a turn on a sink answers
+abbrev pub Answer : Type 0
+Answer = Result Served SinkError
+
+-- the sink writes each text of at most so many bytes with a buffer for the longest line
+abbrev pub Suits : {S : Type 0} → ℕ → Sink S → Type 0
+Suits limit sink = (m : Message) → length m.text ≤ limit → MayTake sink m LINE_MAX
+
+-- What is seen of a place: the lane, the seat, the faults that were answered, and the most bytes of a text.
+pub record SinkSeatView (S : Type 0) : Type 0 where
+  pub lane : LaneId (Sink S)
+  pub seat : SeatView (Sink S) Item Buffer Answer
+  pub faults : ℕ
+  pub limit : ℕ
+
+-- What stays of a place while turns are made: the lane, the text limit, the seat's parts and what was joined into it.
+pub record Place (S : Type 0) : Type 0 where
+  pub lane : LaneId (Sink S)
+  pub limit : ℕ
+  pub parts : ℕ
+  pub joined : List (Member (Turned Item Buffer Answer))
+
+abbrev pub place_of : {S : Type 0} → SinkSeatView S → Place S
+place_of b = record { lane = b.lane; limit = b.limit; parts = b.seat.known.parts; joined = b.seat.known.joined }
+
+abbrev pub places_of : {S : Type 0} → List (SinkSeatView S) → List (Place S)
+places_of {S} bs = map (λ (b : SinkSeatView S). place_of b) bs
+
+-- a turn may be made at this item
+abbrev pub IsServable : ℕ → Item → Type 0
+IsServable limit (Text m) = length m.text ≤ limit
+IsServable limit (Flush n) = Unit {0}
+IsServable limit Stop = ⊥
+
+-- at each of these places
+abbrev pub AreServable : {S : Type 0} → Item → List (Place S) → Type 0
+AreServable {S} item places = AllByRecursion (λ (p : Place S). IsServable p.limit item) places
+
+-- one for a fault
+abbrev pub fault_in : Answer → ℕ
+fault_in (Ok served) = 0
+fault_in (Err e) = 1
+
+module _ {S : Type 0} (tells : Bool) (files : S → Files) (failures : S → ℕ) where
+  -- The seat made one turn, of this tag, at this item. Its fault, if it was one, is counted.
+  pub record Serves (old : SinkSeatView S) (tag : ℕ) (item : Item) (new : SinkSeatView S) : Type 0 where
+    pub lane : new.lane ≡ old.lane
+    pub limit : new.limit ≡ old.limit
+    pub deed : Turned Item Buffer Answer
+    pub tag_is : deed.tag ≡ tag
+    pub item_is : deed.item ≡ item
+    pub index : ℕ
+    pub turn : TakesTurn (Turns tells files failures) old.lane.first old.seat.known new.seat.known deed index
+    pub faults : new.faults ≡ (old.faults + fault_in deed.reply) % 2 ^ 64

@@ -1,0 +1,140 @@
+//! A worker's place at a sink.
+ghost use Rattle.std.specs.Prelude.{◌≡◌, ◌+◌, ◌%◌, ◌^◌, ◌<◌, IfOk, OnErr};
+ghost use Rattle.alog_lane.specs.Calls.{Closes};
+ghost use Rattle.alog_lane.specs.Seats.{IsJoined};
+ghost use Rattle.alog_lane.specs.declared.seat.TheConstants.{ALL_PARTS};
+ghost use Rattle.alog_pattern.specs.declared.patterns.TheConstants.{LINE_MAX};
+ghost use Rattle.alog_pool.specs.SinkSeat.{IsServable, Serves, Suits, fault_in};
+ghost use Rattle.alog_pool.specs.Places.{IsFirst, IsPart};
+ghost use Rattle.alog_sink.specs.Sinks.{Turns};
+
+use crate::alone::alone;
+use alog_format::LineBuf;
+use alog_lane::{Lane, LaneSeat};
+use alog_msg::Item;
+use alog_sink::{Served, Sink, SinkError, Store};
+use std::alloc::{AllocError, Global};
+use std::marker::Model;
+use std::sync::{Arc, Wait};
+
+/// A sink under its lock, a seat of that, and how many of the seat's turns were answered by a fault, modulo 2^64.
+#[derive(Drop)]
+pub struct SinkSeat<S: Store> {
+    pub(crate) lane: Arc<Lane<Sink<S>>>,
+    pub(crate) seat: LaneSeat<Sink<S>>,
+    pub(crate) faults: u64,
+    /// The most bytes of a text.
+    pub(crate) text_limit: usize,
+}
+
+impl<S: Store> Model for SinkSeat<S> {
+    ghost use Rattle.std.specs.Prelude.{◌≡◌};
+    ghost use Rattle.std.specs.Arc.{arc_value};
+    ghost use Rattle.alog_lane.specs.Calls.{IsSeatOf};
+    ghost use Rattle.alog_pool.specs.SinkSeat.{SinkSeatView, Suits};
+
+    ghost Value = { SinkSeatView S };
+
+    ghost view = { λ b. record { lane = arc_value b.lane; seat = b.seat; faults = b.faults; limit = b.text_limit } };
+
+    ghost invariant = { λ b. IsSeatOf (arc_value b.lane) b.seat × Suits b.text_limit (arc_value b.lane).first };
+}
+
+impl<S: Store> SinkSeat<S> {
+    /// Makes a turn on the sink at this item, as soon as the lock is got.
+    pub fn serve(&mut self, rt: &impl Wait, tag: u64, item: &Item, line: &mut LineBuf)
+        requires item { IsServable self.old.limit item.now }
+        requires line { line.old.capacity ≡ LINE_MAX }
+        ensures serves { Serves S.tells S.files S.failures self.old tag item.now self.new }
+        ensures line { line.new.capacity ≡ LINE_MAX }
+    {
+        let (_, reply) = self.lane.turn(rt, &mut self.seat, tag, item, line);
+        self.faults = self.faults.wrapping_add(fault_in(&reply));
+    }
+}
+
+/// One for a fault.
+fn fault_in(reply: &Result<Served, SinkError>) -> u64
+    ensures { result ≡ fault_in reply.now }
+{
+    match reply {
+        Ok(_) => 0,
+        Err(_) => 1,
+    }
+}
+
+impl<S: Store + Drop> SinkSeat<S> {
+    /// The first place at this sink, which has all parts. Where there is no memory, the sink is dropped.
+    pub(crate) fn first(
+        alloc: Global,
+        sink: Sink<S>,
+        text_limit: usize,
+    ) -> Result<SinkSeat<S>, AllocError>
+        requires { Suits text_limit sink }
+        ensures { IfOk result (λ b. IsFirst text_limit sink b) }
+    {
+        let Ok((lane, seat)) = Lane::new(alloc, sink) else {
+            return Err(AllocError);
+        };
+        match Arc::new(alloc, lane) {
+            Ok(lane) => Ok(SinkSeat {
+                lane,
+                seat,
+                faults: 0,
+                text_limit,
+            }),
+            Err(_) => Err(AllocError),
+        }
+    }
+
+    /// A place at the same sink for a worker, with one of this one's parts.
+    pub(crate) fn split(&mut self) -> Result<SinkSeat<S>, AllocError>
+        requires spare { 1 < self.old.seat.known.parts }
+        ensures given { IfOk result (λ b. IsPart self.old self.new b) }
+        ensures err { OnErr result (self.new ≡ self.old) }
+    {
+        let lane = Arc::try_clone(&self.lane)?;
+        let seat = self.lane.split(&mut self.seat, 1);
+        Ok(SinkSeat {
+            lane,
+            seat,
+            faults: 0,
+            text_limit: self.text_limit,
+        })
+    }
+
+    /// Takes a worker's seat of the same sink back, with its faults.
+    pub fn take_back(&mut self, place: SinkSeat<S>)
+        requires { place.lane ≡ self.old.lane }
+        ensures same { (self.new.lane ≡ self.old.lane) × (self.new.limit ≡ self.old.limit) }
+        ensures joined { IsJoined self.old.seat.known place.seat.known self.new.seat.known }
+        ensures faults { self.new.faults ≡ (self.old.faults + place.faults) % 2 ^ 64 }
+    {
+        let SinkSeat {
+            lane: _,
+            seat,
+            faults,
+            text_limit: _,
+        } = place;
+        self.lane.join(&mut self.seat, seat);
+        self.faults = self.faults.wrapping_add(faults);
+    }
+
+    /// The sink, when all seats have come back.
+    pub(crate) fn close(self, rt: &impl Wait) -> Sink<S>
+        requires all { self.seat.known.parts ≡ ALL_PARTS }
+        ensures { Closes (Turns S.tells S.files S.failures) self.lane.first self.seat.known result }
+    {
+        let SinkSeat {
+            lane,
+            seat,
+            faults: _,
+            text_limit: _,
+        } = self;
+        let lane = alone(rt, lane);
+        match lane.close(seat) {
+            Ok(sink) => sink,
+            Err(_) => unreachable!(),
+        }
+    }
+}

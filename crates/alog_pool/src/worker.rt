@@ -1,0 +1,239 @@
+//! A worker.
+ghost use Rattle.std.specs.Prelude.{◌≡◌, ◌↔◌, ◌≤◌, ◌∷◌, ◌++◌, [], None, IsTrue, take, length, vec_capacity};
+ghost use Rattle.alog_core.specs.Queue.{last};
+ghost use Rattle.alog_msg.specs.declared.item.Item.TheVariants.{Stop};
+ghost use Rattle.alog_pattern.specs.declared.patterns.TheConstants.{LINE_MAX};
+ghost use Rattle.alog_pool.specs.SinkSeat.{AreServable, places_of};
+ghost use Rattle.alog_pool.specs.Deeds.{Due, HaveMade, dues_by, dues_of};
+ghost use Rattle.alog_pool.specs.Working.{Finds, GoesOn, HasTurned, HasWorked, IsAtWork};
+ghost use Rattle.alog_registry.specs.Listed.{spec_at};
+ghost use Rattle.alog_ring.specs.Known.{IsPassOf};
+ghost use Rattle.alog_ring.specs.Made.{IsFaithful};
+ghost use Rattle.alog_ring.specs.declared.pop.PopError.TheVariants.{Empty};
+
+use crate::gate::Gate;
+use crate::item_wait::ItemWait;
+use crate::shared::Shared;
+use crate::sink_seat::SinkSeat;
+use alog_core::TICKET_END;
+use alog_format::LineBuf;
+use alog_msg::Item;
+use alog_registry::{Loggers, SinkDeed};
+use alog_ring::{Pass, PopError};
+use alog_sink::Store;
+use std::sync::{Arc, Wait};
+use std::time::Clock;
+
+/// What a worker works with, and what it did.
+#[derive(Drop)]
+pub struct Worker<S: Store> {
+    pub shared: Arc<Shared>,
+    pub pass: Pass<Item>,
+    pub sink_seats: Vec<SinkSeat<S>>,
+    pub line: LineBuf,
+    pub number: u32,
+    /// Of how many workers.
+    pub workers: u32,
+    /// The tickets of its first texts and flushes, for which there is room.
+    pub tickets: Vec<u64>,
+    pub most: usize,
+    /// Its texts and flushes, modulo 2^64.
+    pub handled: u64,
+}
+
+impl<S: Store> Worker<S> {
+    /// Handles items until the first stop, or until no ticket is left.
+    pub fn work<R: Wait + Clock, G: Gate>(self, rt: &R, gate: &G) -> Worker<S>
+        requires { IsAtWork self self }
+        ensures { HasWorked self result }
+    {
+        let mut worker = self;
+        for _ in rt.forever() {
+            if !worker.goes_on(rt, gate) {
+                return worker;
+            }
+        }
+        unreachable!()
+    }
+
+    /// Handles the next item as soon as there is one, and answers whether the worker goes on: it does not after a stop, nor where no
+    /// ticket is left.
+    fn goes_on<R: Wait + Clock, G: Gate>(&mut self, rt: &R, gate: &G) -> bool
+        requires { (start : Worker S) × IsAtWork start self.old }
+        ensures { (start : Worker S) → IsAtWork start self.old → HasTurned start self.old → GoesOn start self.new result }
+    {
+        let mut taken = None;
+        let Some(ticket) = take_waiting(rt, &self.shared, &mut self.pass, self.workers, &mut taken)
+        else {
+            return false;
+        };
+        let Some(item) = &taken else { unreachable!() };
+        if is_stop(item) {
+            return false;
+        }
+        self.handled = self.handled.wrapping_add(1);
+        note(&mut self.tickets, self.most, ticket);
+        let Worker {
+            shared,
+            sink_seats,
+            line,
+            number,
+            ..
+        } = self;
+        handle(
+            rt,
+            gate,
+            *number,
+            &shared.loggers,
+            sink_seats,
+            line,
+            ticket,
+            item,
+        );
+        let_go(taken);
+        true
+    }
+}
+
+/// Notes the ticket, if fewer than so many are noted.
+fn note(tickets: &mut Vec<u64>, most: usize, ticket: u64)
+    requires room { most ≤ vec_capacity tickets.old }
+    requires few { length tickets.old.items ≤ most }
+    ensures noted { tickets.new.items ≡ take most (tickets.old.items ++ ticket ∷ []) }
+    ensures room { vec_capacity tickets.new ≡ vec_capacity tickets.old }
+{
+    if tickets.len() < most {
+        tickets.push_reserved(ticket);
+    }
+}
+
+/// Makes the turns of an item, and calls the gate before and after those of a text.
+fn handle<S: Store, R: Wait, G: Gate>(
+    rt: &R,
+    gate: &G,
+    number: u32,
+    loggers: &Loggers,
+    sink_seats: &mut Vec<SinkSeat<S>>,
+    line: &mut LineBuf,
+    ticket: u64,
+    item: &Item,
+)
+    requires servable { AreServable item.now (places_of sink_seats.old.items) }
+    requires line { line.old.capacity ≡ LINE_MAX }
+    ensures turns { HaveMade 0 sink_seats.old.items sink_seats.new.items (dues_of loggers.now ticket item.now) }
+    ensures places { places_of sink_seats.new.items ≡ places_of sink_seats.old.items }
+    ensures line { line.new.capacity ≡ LINE_MAX }
+{
+    match item {
+        Item::Text(message) => {
+            gate.before(number, ticket);
+            make_turns(rt, loggers, message.logger, sink_seats, line, ticket, item);
+            gate.after(number, ticket);
+        }
+        Item::Flush(logger) => make_turns(rt, loggers, *logger, sink_seats, line, ticket, item),
+        Item::Stop => {}
+    }
+}
+
+/// Makes the turns of an item of this logger, one after another.
+fn make_turns<S: Store>(
+    rt: &impl Wait,
+    loggers: &Loggers,
+    logger: u32,
+    sink_seats: &mut Vec<SinkSeat<S>>,
+    line: &mut LineBuf,
+    ticket: u64,
+    item: &Item,
+)
+    requires servable { AreServable item.now (places_of sink_seats.old.items) }
+    requires line { line.old.capacity ≡ LINE_MAX }
+    ensures turns { HaveMade 0 sink_seats.old.items sink_seats.new.items (dues_by (spec_at loggers.now logger) logger ticket item.now) }
+    ensures places { places_of sink_seats.new.items ≡ places_of sink_seats.old.items }
+    ensures line { line.new.capacity ≡ LINE_MAX }
+{
+    let Some(spec) = loggers.spec(logger) else {
+        return;
+    };
+    for place in 0..usize::MAX {
+        let Some(turn) = spec.turn_of_work(ticket, item, place) else {
+            return;
+        };
+        let flush = Item::Flush(logger);
+        let given = match turn.deed {
+            SinkDeed::Take => item,
+            SinkDeed::Flush => &flush,
+        };
+        serve_at(rt, sink_seats, turn.sink as usize, turn.tag, given, line);
+    }
+}
+
+/// Makes a turn at the place of this number, if there is one.
+fn serve_at<S: Store>(
+    rt: &impl Wait,
+    sink_seats: &mut Vec<SinkSeat<S>>,
+    number: usize,
+    tag: u64,
+    item: &Item,
+    line: &mut LineBuf,
+)
+    requires servable { AreServable item.now (places_of sink_seats.old.items) }
+    requires line { line.old.capacity ≡ LINE_MAX }
+    ensures turn { let due : Due = record { sink = number; tag = tag; item = item.now } in
+        HaveMade 0 sink_seats.old.items sink_seats.new.items (due ∷ []) }
+    ensures places { places_of sink_seats.new.items ≡ places_of sink_seats.old.items }
+    ensures line { line.new.capacity ≡ LINE_MAX }
+{
+    if number < sink_seats.len() {
+        sink_seats[number].serve(rt, tag, item, line);
+    }
+}
+
+/// Drops what was taken. A drop of its own in each place would split what follows by the kinds of items.
+fn let_go(_taken: Option<Item>) {}
+
+/// Takes the next item into the empty hand as soon as there is one, and answers its ticket; or none, where no ticket is left and
+/// none will come.
+fn take_waiting<R: Wait + Clock>(
+    rt: &R,
+    shared: &Shared,
+    pass: &mut Pass<Item>,
+    workers: u32,
+    taken: &mut Option<Item>,
+) -> Option<u64>
+    requires ring { IsPassOf shared.now.ring pass.old }
+    requires faithful { IsFaithful pass.old.known }
+    requires empty { taken.old ≡ None }
+    ensures ring { IsPassOf shared.now.ring pass.new }
+    ensures finds { Finds shared.now.ring.limit.most pass.old.known pass.new.known result taken.new }
+{
+    let mut pause = ItemWait::new(workers);
+    for _ in rt.forever() {
+        match shared.ring.pop_into(rt, pass, taken) {
+            Ok(ticket) => return Some(ticket),
+            Err(error) => {
+                if is_end(error) {
+                    return None;
+                }
+            }
+        }
+        pause.wait(rt);
+    }
+    unreachable!()
+}
+
+/// Whether a pop found that no ticket is left.
+fn is_end(error: PopError) -> bool
+    ensures { IsTrue result ↔ (error ≡ Empty last) }
+{
+    match error {
+        PopError::Empty { next } => next == TICKET_END,
+        PopError::Busy { seen: _ } => false,
+    }
+}
+
+/// Whether the item makes its worker end.
+pub(crate) fn is_stop(item: &Item) -> bool
+    ensures { IsTrue result ↔ (item.now ≡ Stop) }
+{
+    matches!(item, Item::Stop)
+}
