@@ -1,28 +1,13 @@
 //! The scripts of `examples/`, on the whole program.
+use crate::config_tests::replays_with;
 use crate::examples::{
     DAILY_ERRORS, DAILY_ERRORS_PRINTED, DAILY_ERRORS_SCRIPT, EMPTYING, EMPTYING_PRINTED, FAN,
     FAN_PRINTED, FAN_SCRIPT, FIRST, FIRST_PRINTED, POSTS, POSTS_PRINTED, ROTATING,
     ROTATING_PRINTED, ROTATING_SCRIPT,
 };
-use crate::program::{Host, Said, says, says_of, scratch};
+use crate::program::{Said, scratch};
+use crate::script_tests::prints;
 use std::test::Fail;
-
-/// Whether a script prints this.
-fn prints<R: Host>(rt: &R, script: &str, printed: &str) -> bool {
-    let words = ["alog", "replay"];
-    says(rt, words.as_slice(), script.as_bytes(), Said::done(printed))
-}
-
-/// Whether a script with this configuration, in this file, says this.
-fn replays_with<R: Host>(
-    rt: &R,
-    (file, document): (&str, &str),
-    script: &str,
-    said: Said<'_>,
-) -> bool {
-    let words = ["alog", "replay", "--config", file];
-    says_of(rt, (file, document), words.as_slice(), script, said)
-}
 
 #[test]
 fn examples_without_a_configuration(rt: HostRuntime) {
