@@ -25,7 +25,9 @@ pub data Event (T : Type 0) : Type 0 where
   Grab : (ticket : ℕ) → Event T
   Take : (ticket : ℕ) (item : T) → Event T
   Full : (ticket : ℕ) → Event T
+  Front : (ticket : ℕ) → Event T
   Empty : (ticket : ℕ) → Event T
+  Idle : (ticket : ℕ) → Event T
   PushBusy : (ticket : ℕ) → Event T
   PopBusy : (ticket : ℕ) → Event T
   Spent : Event T
@@ -78,10 +80,13 @@ IsWritten {T} t cs = (x : T) × (a : ℕ) × HasCell cs t Written x a
 abbrev pub IsUnwritten : {T : Type 0} → ℕ → List (Cell T) → Type 0
 IsUnwritten {T} t cs = (cell_of t cs ≡ None) ⊎ ((x : T) × (a : ℕ) × HasCell cs t Claimed x a)
 
--- Where a refusal is true. A refusal changes nothing.
+-- Where a refusal is true. A refusal changes nothing. A pop that finds the front unwritten looks at the end next: the queue is
+-- idle where both ends are its ticket, and empty, though a ticket is claimed, where the end is past it.
 abbrev pub Refuses : {T : Type 0} → ℕ → Queue T → Event T → Type 0
 Refuses n q (Full t) = (t ≡ q.next) × IsBlocked n t q.cells
-Refuses n q (Empty t) = (t ≡ q.front) × IsUnwritten t q.cells
+Refuses n q (Front t) = (t ≡ q.front) × IsUnwritten t q.cells
+Refuses n q (Empty t) = t < q.next
+Refuses n q (Idle t) = (t ≡ q.next) × (t ≡ q.front)
 Refuses n q (PushBusy t) = t < q.next
 Refuses n q (PopBusy t) = t < q.front
 Refuses n q Spent = q.next ≡ last
@@ -97,7 +102,9 @@ Allows {T} n q a (Write t) = (x : T) × HasCell q.cells t Claimed x a
 Allows n q a (Grab t) = (t ≡ q.front) × IsWritten t q.cells
 Allows n q a (Take t x) = HasCell q.cells t Emptying x a
 Allows n q a (Full t) = Refuses n q (Full t)
+Allows n q a (Front t) = Refuses n q (Front t)
 Allows n q a (Empty t) = Refuses n q (Empty t)
+Allows n q a (Idle t) = Refuses n q (Idle t)
 Allows n q a (PushBusy t) = Refuses n q (PushBusy t)
 Allows n q a (PopBusy t) = Refuses n q (PopBusy t)
 Allows n q a Spent = Refuses n q Spent
@@ -110,7 +117,9 @@ after q a (Write t) = record q { cells = marked t Written a q.cells }
 after q a (Grab t) = record q { front = q.front + 1; cells = marked t Emptying a q.cells }
 after q a (Take t x) = record q { cells = without t q.cells }
 after q a (Full t) = q
+after q a (Front t) = q
 after q a (Empty t) = q
+after q a (Idle t) = q
 after q a (PushBusy t) = q
 after q a (PopBusy t) = q
 after q a Spent = q

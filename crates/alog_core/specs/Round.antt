@@ -3,11 +3,12 @@
 use Rattle.std.specs.Prelude.{ℕ, ◌+◌, ◌==◌, ◌&&◌, ◌||◌, not, nat_lt, Bool, true, false, if◌then◌else◌, Option, None, Some}
 use Rattle.std.specs.Prelude.{is_none, List}
 use Rattle.std.specs.List.{list_any}
-use Rattle.alog_core.specs.Queue.{Cell, Queue, Event, Claim, Write, Grab, Take, Full, Empty, PushBusy, PopBusy, Spent, last}
+use Rattle.alog_core.specs.Queue.{Cell, Queue, Event, Claim, Write, Grab, Take, Full, Front, Empty, PushBusy, PopBusy, Spent, last}
 use Rattle.alog_core.specs.Queue.{cell_of, after}
+use Rattle.alog_core.specs.Queue as queue
 use Rattle.alog_core.specs.declared.round.Round.{Round}
 use Rattle.alog_core.specs.declared.round.Round.TheVariants.{Idle, Push, PushRead, PushFree, PushClaimed, Pop, PopRead, PopReady}
-use Rattle.alog_core.specs.declared.round.Round.TheVariants.{PopGrabbed}
+use Rattle.alog_core.specs.declared.round.Round.TheVariants.{PopGrabbed, PopFronted}
 use Rattle.alog_core.specs.declared.mark.Mark.{Mark}
 use Rattle.alog_core.specs.declared.mark.Mark.TheVariants.{Claimed, Written, Emptying}
 
@@ -64,11 +65,13 @@ move_of n q (PushRead p x) =
     else goes_on (PushFree p x)
 move_of n q (PushFree p x) = if q.next == p then makes (Claim p x) (PushClaimed p) else ends (PushBusy p)
 move_of n q (PushClaimed p) = ends (Write p)
--- A pop: load the front ticket; load the sequence of its place; move the front ticket on; store the sequence.
+-- A pop: load the front ticket; load the sequence of its place; move the front ticket on; store the sequence. Where the front
+-- is not written, it loads the next ticket in place of the last two.
 move_of n q Pop = goes_on (PopRead q.front)
 move_of n q (PopRead p) =
-    if p == q.front && (is_none (cell_of p q.cells) || is_claimed (cell_of p q.cells)) then ends (Empty p)
+    if p == q.front && (is_none (cell_of p q.cells) || is_claimed (cell_of p q.cells)) then makes (Front p) (PopFronted p)
     else if nat_lt p q.front && is_none (cell_of p q.cells) then ends (PopBusy p)
     else goes_on (PopReady p)
 move_of n q (PopReady p) = if q.front == p then makes (Grab p) (PopGrabbed p) else ends (PopBusy p)
 move_of n q (PopGrabbed p) = taking p (cell_of p q.cells)
+move_of n q (PopFronted p) = if q.next == p then ends (queue.Idle p) else ends (Empty p)

@@ -1,8 +1,9 @@
 -- A run: calls of a machine one after another. The entries that they add to the history, what the replies tell of them,
 -- and what each step finds.
 use Rattle.std.specs.Prelude.{◌≡◌, ℕ, ◌<◌, nat_lt, if◌then◌else◌, Option, None, Some, List, [], ◌∷◌, ◌++◌}
-use Rattle.alog_core.specs.Queue.{Event, Claim, Write, Grab, Take, Full, Empty, PushBusy, PopBusy, Spent, HasCell}
-use Rattle.alog_core.specs.History.{Entry}
+use Rattle.alog_core.specs.Queue.{Event, Claim, Write, Grab, Take, Full, Front, Empty, Idle, PushBusy, PopBusy}
+use Rattle.alog_core.specs.Queue.{Spent, HasCell}
+use Rattle.alog_core.specs.History.{Entry, StandsFor, latest}
 use Rattle.alog_core.specs.World.{Machine, round_of, is_idle, next_move, told, entries_of, after_call, after_calls}
 use Rattle.alog_core.specs.declared.TheConstants.{ACTORS}
 use Rattle.alog_core.specs.declared.mark.Mark.TheVariants.{Claimed, Emptying}
@@ -13,6 +14,15 @@ use Rattle.alog_core.specs.declared.said.Call.{Call}
 use Rattle.alog_core.specs.declared.said.Call.TheVariants as call
 use Rattle.alog_core.specs.declared.said.Answer.{Answer}
 use Rattle.alog_core.specs.declared.said.Answer.TheVariants as answer
+
+-- The history leads to this machine: it leaves its queue, and whoever is before the last look of a pop found that front last.
+pub record LeadsTo {T N : Type 0} (f : ℕ) (h : List (Entry T N)) (m : Machine T) : Type 0 where
+  pub stands : StandsFor m.places f h m.queue
+  pub fronts : (a p : ℕ) → round_of m a ≡ round.PopFronted p → latest a h ≡ Some (Front p)
+
+-- each history that leads to the first machine goes on, legally, with these entries to one that leads to the second
+abbrev pub GoesOn : {T N : Type 0} → Machine T → List (Entry T N) → Machine T → Type 0
+GoesOn {T} {N} m made k = (f : ℕ) (h : List (Entry T N)) → LeadsTo f h m → LeadsTo f (h ++ made) k
 
 -- the entry that a step of this actor adds to the history, if it is an event
 abbrev pub entries_of_step : {T : Type 0} → Machine T → ℕ → List (Entry T (Unit {0}))
@@ -40,7 +50,9 @@ Says (said.Write t) o = o ≡ Some (Write t)
 Says (said.Full t x) o = o ≡ Some (Full t)
 Says (said.Grab t) o = o ≡ Some (Grab t)
 Says (said.Take t x) o = o ≡ Some (Take t x)
+Says (said.Front t) o = o ≡ Some (Front t)
 Says (said.Empty t) o = o ≡ Some (Empty t)
+Says (said.Idle t) o = o ≡ Some (Idle t)
 Says (said.Busy t (Some x)) o = o ≡ Some (PushBusy t)
 Says (said.Busy t None) o = o ≡ Some (PopBusy t)
 Says (said.Spent x) o = o ≡ Some Spent

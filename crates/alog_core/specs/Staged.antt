@@ -17,6 +17,7 @@ IsStaged n q a round.Pop = Unit {0}
 IsStaged n q a (round.PopRead p) = p ≤ q.front
 IsStaged n q a (round.PopReady p) = (p ≤ q.front) × (p ≡ q.front → IsWritten p q.cells)
 IsStaged {T} n q a (round.PopGrabbed p) = (x : T) × HasCell q.cells p Emptying x a
+IsStaged n q a (round.PopFronted p) = p ≤ q.front
 
 -- What holds of every machine that calls lead to.
 pub record IsReached {T : Type 0} (m : Machine T) : Type 0 where

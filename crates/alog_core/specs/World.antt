@@ -2,7 +2,8 @@
 use Rattle.std.specs.Prelude.{ℕ, ◌&&◌, nat_lt, nat_le, Bool, true, false, if◌then◌else◌, Option, None, Some, List, [], ◌∷◌}
 use Rattle.std.specs.Prelude.{replicate, slice_index_or, slice_set}
 use Rattle.std.specs.Int.{is_power_of_two}
-use Rattle.alog_core.specs.Queue.{Cell, Queue, Event, Claim, Write, Grab, Take, Full, Empty, PushBusy, PopBusy, Spent, start}
+use Rattle.alog_core.specs.Queue.{Cell, Queue, Event, Claim, Write, Grab, Take, Full, Front, Empty, Idle, PushBusy, PopBusy}
+use Rattle.alog_core.specs.Queue.{Spent, start}
 use Rattle.alog_core.specs.Round.{Move, move_of, after_event}
 use Rattle.alog_core.specs.History.{Entry}
 use Rattle.alog_core.specs.declared.TheConstants.{ACTORS, PLACES_MIN, PLACES_MAX}
@@ -46,6 +47,7 @@ is_idle round.Pop = false
 is_idle (round.PopRead p) = false
 is_idle (round.PopReady p) = false
 is_idle (round.PopGrabbed p) = false
+is_idle (round.PopFronted p) = false
 
 -- the machine with this actor in this round
 abbrev pub began : {T : Type 0} → Machine T → ℕ → Round T → Machine T
@@ -75,6 +77,7 @@ brought round.Pop = None
 brought (round.PopRead p) = None
 brought (round.PopReady p) = None
 brought (round.PopGrabbed p) = None
+brought (round.PopFronted p) = None
 
 -- what a step answers: its event, and to a refused push the item that it brought
 abbrev pub said_of : {T : Type 0} → Option T → Option (Event T) → Said T
@@ -84,7 +87,9 @@ said_of x (Some (Write t)) = said.Write t
 said_of x (Some (Full t)) = said.Full t x
 said_of x (Some (Grab t)) = said.Grab t
 said_of x (Some (Take t y)) = said.Take t y
+said_of x (Some (Front t)) = said.Front t
 said_of x (Some (Empty t)) = said.Empty t
+said_of x (Some (Idle t)) = said.Idle t
 said_of x (Some (PushBusy t)) = said.Busy t x
 said_of x (Some (PopBusy t)) = said.Busy t x
 said_of x (Some Spent) = said.Spent x

@@ -27,6 +27,7 @@ pub fn advance<T: Drop>(table: &mut Table<T>, actor: u32, round: Round<T>) -> (S
         Round::PopRead { ticket } => load_sequence_to_pop(table, ticket),
         Round::PopReady { ticket } => grab(table, actor, ticket),
         Round::PopGrabbed { ticket } => take(table, ticket),
+        Round::PopFronted { ticket } => load_end_to_pop(table, ticket),
     }
 }
 
@@ -102,11 +103,24 @@ fn load_sequence_to_pop<T: Drop>(table: &Table<T>, ticket: u64) -> (Said<T>, Rou
 {
     let sequence = table.sequences[place_of(table.mask, ticket)];
     if sequence < ticket + 1 {
-        (Said::Empty(ticket), Round::Idle)
+        (Said::Front(ticket), Round::PopFronted { ticket })
     } else if sequence == ticket + 1 {
         (Said::Nothing, Round::PopReady { ticket })
     } else {
         (Said::Busy(ticket, None), Round::Idle)
+    }
+}
+
+/// A pop that found its ticket unwritten reads the next ticket: nobody has claimed it, or somebody has.
+fn load_end_to_pop<T: Drop>(table: &Table<T>, ticket: u64) -> (Said<T>, Round<T>)
+    requires table { IsTable table.now }
+    requires read { ticket ≤ table.now.front }
+    ensures { (a : ℕ) → Advances table.now table.now a (round.PopFronted ticket) result }
+{
+    if table.next == ticket {
+        (Said::Idle(ticket), Round::Idle)
+    } else {
+        (Said::Empty(ticket), Round::Idle)
     }
 }
 

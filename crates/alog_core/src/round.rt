@@ -1,6 +1,6 @@
 ghost use Rattle.std.specs.Prelude.{◌≡◌};
 
-/// Where an actor stands: in no call, or before one of the four steps of a push or of a pop.
+/// Where an actor stands: in no call, or before one of the four steps of a push or of the five of a pop.
 ///
 /// A ticket here is a position that an earlier step of the round read. The tests `busy_push` and
 /// `busy_pop` step through the rounds of a push and of a pop.
@@ -49,6 +49,11 @@ pub enum Round<T> {
         /// The ticket that it grabbed.
         ticket: u64,
     },
+    /// A pop before it loads the next ticket: it found the front ticket unwritten.
+    PopFronted {
+        /// The front ticket that it read.
+        ticket: u64,
+    },
 }
 
 impl<T> Round<T> {
@@ -67,7 +72,8 @@ impl<T> Round<T> {
             | Round::Pop
             | Round::PopRead { .. }
             | Round::PopReady { .. }
-            | Round::PopGrabbed { .. } => false,
+            | Round::PopGrabbed { .. }
+            | Round::PopFronted { .. } => false,
         }
     }
 }

@@ -15,8 +15,12 @@ pub enum Said<T> {
     Grab(u64),
     /// The pop hands out the item of this ticket, and the call has ended.
     Take(u64, T),
-    /// The front ticket is not written. It ends a pop.
+    /// The front ticket is not written. The pop goes on: it looks whether that ticket is claimed.
+    Front(u64),
+    /// The front ticket was claimed when the pop looked at the end, so a value is on its way. It ends a pop.
     Empty(u64),
+    /// No ticket was there to take when the pop looked at the end: the front ticket was the next one too. It ends a pop.
+    Idle(u64),
     /// Another actor was faster: the position has left the ticket that this round read. It ends the round.
     Busy(u64, Option<T>),
     /// All tickets are issued. It ends a push.

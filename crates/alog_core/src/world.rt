@@ -1,11 +1,10 @@
 //! The stepped queue: what its calls answer, and in which order they refuse.
-ghost use Rattle.std.specs.Prelude.{◌≡◌, ◌<◌, ◌≤◌, ◌↔◌, Some, true, false, map, IfOk, OnOk, OnErr, IfErr, IsOk, IsErrOf};
+ghost use Rattle.std.specs.Prelude.{◌≡◌, ◌<◌, ◌≤◌, ◌↔◌, Some, [], true, false, map, IfOk, OnOk, OnErr, IfErr, IsOk, IsErrOf};
 ghost use Rattle.alog_core.specs.Queue.{Event, Allows, last};
-ghost use Rattle.alog_core.specs.History.{GoesOn};
 ghost use Rattle.alog_core.specs.World.{is_size, fresh, round_of, is_idle, began, next_move, stepped, told, shown};
 ghost use Rattle.alog_core.specs.World.{reply_to, after_call, replies_to, after_calls};
 ghost use Rattle.alog_core.specs.Words.{AreWords};
-ghost use Rattle.alog_core.specs.Run.{entries_of_step, entries_of_run, TellAll, HasItsCell, EachHasItsCell};
+ghost use Rattle.alog_core.specs.Run.{GoesOn, entries_of_step, entries_of_run, TellAll, HasItsCell, EachHasItsCell};
 ghost use Rattle.alog_core.specs.Staged.{IsReached};
 ghost use Rattle.alog_core.specs.declared.round.Round.TheVariants as round;
 
@@ -23,8 +22,8 @@ use std::mem;
 /// of pushes and pops. The tests `emptying_cell_keeps_its_place` and `busy_push` show it.
 ///
 /// Contracts see it as the machine of `specs/World.antt`: the number of places, the queue of cells in ticket order,
-/// and each actor's round. It stores no history: a step says of each history that the queue before it stands for
-/// which one the queue after it stands for.
+/// and each actor's round. It stores no history: a step says of each history that leads to the world before it
+/// which one leads to the world after it.
 #[derive(Drop)]
 pub struct World<T> {
     table: Table<T>,
@@ -91,6 +90,7 @@ impl<T: Drop> World<T> {
         ensures begins { IsOk result ↔ ((actor < ACTORS) × (is_idle (round_of self.old actor) ≡ true)) }
         ensures no_actor { IfErr result (λ r. (r.fault ≡ BeginError.NoActor) ↔ (ACTORS ≤ actor)) }
         ensures item { IfErr result (λ r. r.item ≡ item) }
+        ensures history { OnOk result (GoesOn {N = Unit {0}} self.old [] self.new) }
         ensures err { OnErr result (self.new ≡ self.old) }
     {
         match self.may_begin(actor) {
@@ -108,6 +108,7 @@ impl<T: Drop> World<T> {
         ensures began { OnOk result (self.new ≡ began self.old actor round.Pop) }
         ensures begins { IsOk result ↔ ((actor < ACTORS) × (is_idle (round_of self.old actor) ≡ true)) }
         ensures no_actor { IsErrOf result BeginError.NoActor ↔ (ACTORS ≤ actor) }
+        ensures history { OnOk result (GoesOn {N = Unit {0}} self.old [] self.new) }
         ensures err { OnErr result (self.new ≡ self.old) }
     {
         self.may_begin(actor)?;
@@ -149,10 +150,10 @@ impl<T: Drop> World<T> {
 
         ensures said { IfOk result (λ s. s ≡ told self.old actor) }
         ensures stepped { OnOk result (self.new ≡ stepped self.old actor) }
-        // The queue allows the step's event, so each history that it stood for goes on with it.
+        // The queue allows the step's event, so each history that leads to the world before goes on with it.
         ensures allowed { OnOk result ((e : Event T) → (next_move self.old actor).event ≡ Some e
             → Allows self.old.places self.old.queue actor e) }
-        ensures history { OnOk result (GoesOn self.old.places self.old.queue (entries_of_step self.old actor) self.new.queue) }
+        ensures history { OnOk result (GoesOn self.old (entries_of_step self.old actor) self.new) }
         // A ticket that the actor got has its cell, and the last step of a call writes it, or takes its item out.
         ensures cell { OnOk result (HasItsCell self.old actor) }
     {
@@ -207,8 +208,8 @@ impl<T: Drop> World<T> {
         ensures answers { IfOk result (λ v. v.items ≡ replies_to self.old calls.items) }
         ensures after { OnOk result (self.new ≡ after_calls self.old calls.items) }
 
-        // The whole run: each history that the queue stood for goes on with its entries, which the answers tell.
-        ensures history { OnOk result (GoesOn self.old.places self.old.queue (entries_of_run self.old calls.items) self.new.queue) }
+        // The whole run: each history that leads to the world before goes on with its entries, which the answers tell.
+        ensures history { OnOk result (GoesOn self.old (entries_of_run self.old calls.items) self.new) }
         ensures told { IfOk result (λ v. TellAll calls.items v.items (entries_of_run self.old calls.items)) }
         ensures cells { OnOk result (EachHasItsCell self.old calls.items) }
 
