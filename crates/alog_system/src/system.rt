@@ -1,9 +1,10 @@
 //! The system: what its calls answer.
-ghost use Rattle.std.specs.Prelude.{◌≡◌, ◌↔◌, ◌<◌, ℕ, IfOk, IsErrOf, IsSome, IsTrue, false, Some, length, map, slice_get};
+ghost use Rattle.std.specs.Prelude.{◌≡◌, ◌↔◌, ◌<◌, ℕ, IfOk, IsErrOf, IsSome, IsTrue, false, Some, length, map, replicate, slice_get};
 ghost use Rattle.std.specs.List.{All};
 ghost use Rattle.std.specs.Option.{option_copied};
 ghost use Rattle.alog_core.specs.World.{is_size, shown};
 ghost use Rattle.alog_core.specs.declared.TheConstants.{ACTORS};
+ghost use Rattle.alog_policy.specs.Desk.{fresh_desk};
 ghost use Rattle.alog_registry.specs.Listed.{name_at};
 ghost use Rattle.alog_system.specs.Outputs.{AreSuited};
 ghost use Rattle.alog_system.specs.Roster.{with_level};
@@ -67,15 +68,12 @@ impl<S: Store + Drop> System<S> {
         ensures made { IfOk result (λ s. s ≡ fresh_system places text_limit loggers sinks.items) }
         ensures bad_size { IsErrOf result SystemError.BadSize ↔ (is_size places ≡ false) }
     {
-        let desk = Desk::new(alloc, places, 0)?;
-        let mut duties = Vec::with_capacity(alloc, ACTORS as usize)?;
-        for _ in 0..ACTORS {
-            duties.push_reserved(Duty::Free);
-        }
+        let (desk, duties) = desk_of(alloc, places)?;
+        let roster = Roster::new(alloc, loggers)?;
         Ok(System {
             desk,
             duties,
-            roster: Roster::new(alloc, loggers)?,
+            roster,
             outputs: Outputs::new(alloc, text_limit, sinks)?,
         })
     }
@@ -163,4 +161,25 @@ impl<S: Store + Drop> System<S> {
     {
         mem::replace(&mut self.duties[actor as usize], Duty::Free)
     }
+}
+
+/// A new desk of this many places, and no actor does anything.
+fn desk_of(alloc: Global, places: usize) -> Result<(Desk<Item>, Vec<Duty>), SystemError>
+    ensures desk { IfOk result (λ r. r.0 ≡ fresh_desk places 0) }
+    ensures duties { IfOk result (λ r. r.1.items ≡ replicate ACTORS duty.Free) }
+    ensures bad_size { IsErrOf result SystemError.BadSize ↔ (is_size places ≡ false) }
+{
+    let desk = Desk::new(alloc, places, 0)?;
+    Ok((desk, free_duties(alloc)?))
+}
+
+/// No actor does anything.
+fn free_duties(alloc: Global) -> Result<Vec<Duty>, AllocError>
+    ensures { IfOk result (λ v. v.items ≡ replicate ACTORS duty.Free) }
+{
+    let mut duties = Vec::with_capacity(alloc, ACTORS as usize)?;
+    for _ in 0..ACTORS {
+        duties.push_reserved(Duty::Free);
+    }
+    Ok(duties)
 }

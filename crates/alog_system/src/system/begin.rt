@@ -4,10 +4,11 @@ ghost use Rattle.alog_core.specs.World.{is_idle, round_of};
 ghost use Rattle.alog_core.specs.declared.TheConstants.{ACTORS};
 ghost use Rattle.alog_core.specs.declared.round.Round.TheVariants as round;
 ghost use Rattle.alog_policy.specs.Desk.{call_began, post_began};
+ghost use Rattle.alog_msg.specs.declared.item.Item.TheVariants.{Text};
 ghost use Rattle.alog_registry.specs.Given.{message_of};
 ghost use Rattle.alog_system.specs.Begin.{IsKnown, IsTooLong, IsOfMaking, MayBegin, begun, filtered_by, filtering, logging, kept_after, is_unread};
 ghost use Rattle.alog_system.specs.Outputs.{IsShort};
-ghost use Rattle.alog_system.specs.Roster.{backtrace_at, level_at};
+ghost use Rattle.alog_system.specs.Roster.{backtrace_at, level_at, policy_at};
 ghost use Rattle.alog_system.specs.System.{is_free, with_desk, with_duty};
 ghost use Rattle.alog_system.specs.Within.{DutyFits};
 ghost use Rattle.alog_system.specs.declared.deed.Deed.TheVariants as deed;
@@ -131,13 +132,24 @@ impl<S: Store + Drop> System<S> {
             self.owe(actor, duty);
             return Ok(Some(own));
         }
-        let message = match self.message(alloc, given) {
-            Ok(message) => message,
+        match self.message(alloc, given) {
+            Ok(message) => self.post_text(actor, message, duty),
             Err(fault) => return Err(fault),
-        };
-        let policy = self.roster.policy(given.logger);
-        self.post(actor, policy, Item::Text(message), duty);
+        }
         Ok(None)
+    }
+
+    /// Begins the post of a text under its logger's policy, whose actor then does this beside.
+    fn post_text(&mut self, actor: u32, message: Message, duty: Duty)
+        requires actor { actor < ACTORS }
+        requires idle { is_idle (round_of self.old.desk.world actor) ≡ true }
+        requires short { length message.text ≤ self.old.outputs.text_limit }
+        requires fits { DutyFits self.old.roster self.old.outputs.text_limit duty }
+        ensures { self.new ≡ with_duty (with_desk self.old (post_began self.old.desk actor
+            (policy_at self.old.roster message.logger) (Text message))) actor duty }
+    {
+        let policy = self.roster.policy(message.logger);
+        self.post(actor, policy, Item::Text(message), duty);
     }
 
     /// Makes what an actor does after the post of a message: it keeps a copy, where the logger has a backtrace.
@@ -184,10 +196,10 @@ impl<S: Store + Drop> System<S> {
         requires fits { DutyFits self.old.roster self.old.outputs.text_limit duty }
         ensures { self.new ≡ with_duty (with_desk self.old (post_began self.old.desk actor policy item)) actor duty }
     {
+        self.owe(actor, duty);
         let Ok(()) = self.desk.begin_post(actor, policy, item) else {
             unreachable!()
         };
-        self.duties[actor as usize] = duty;
     }
 
     /// Begins a worker's pop.
@@ -196,10 +208,10 @@ impl<S: Store + Drop> System<S> {
         requires idle { is_idle (round_of self.old.desk.world actor) ≡ true }
         ensures { self.new ≡ with_duty (with_desk self.old (call_began self.old.desk actor round.Pop)) actor duty.Works }
     {
+        self.owe(actor, Duty::Works);
         let Ok(()) = self.desk.begin_pop(actor) else {
             unreachable!()
         };
-        self.duties[actor as usize] = Duty::Works;
     }
 
     /// The actor does this from now on.

@@ -1,4 +1,4 @@
-use Rattle.std.proofs.Common.{◌≡◌, length, sym, subst, ◌∙◌, arith}
+use Rattle.std.proofs.Common.{◌≡◌, length, refl, sym, subst, ◌∙◌}
 use Rattle.alog_core.specs.declared.TheConstants.{ACTORS}
 use Rattle.alog_policy.specs.DeskInside.{desk_in}
 use Rattle.alog_system.specs.System.{SystemView}
@@ -6,23 +6,19 @@ use Rattle.alog_system.specs.Within.{IsWithin}
 use Rattle.alog_system.proofs.Parts.{few_kept, fresh_within, made_fresh}
 use Rattle.alog_system.proofs.system.System.of.Goals as goal
 
-pub new-requires-2 : goal.new-requires-2
-new-requires-2 g c = few_kept (length c.args.sinks.items) c.args.loggers c.requires.loggers
+pub new-requires : goal.new-requires
+new-requires g c = few_kept (length c.args.sinks.items) c.args.loggers c.requires.loggers
 
 pub invariant_of-result-2 : goal.invariant_of-result-2
 invariant_of-result-2 g c =
-    let n = c.loop.counter in
-    let all : n ≡ ACTORS = omega (arith, c.loop-test.false, c.loop.auto.counter-end) in
-    let v : SystemView g.row.S.Denot = record { desk = c.in_ok-desk.desk; duties = c.loop.duties.items; roster = c.in_ok-new.field-0; outputs = c.in_ok-new-2.field-0 } in
-    let is = made_fresh v c.args.places c.args.text_limit n c.args.loggers c.args.sinks.items c.in_ok-desk.ensures.made c.loop.invariant.items all
-    c.in_ok-new.ensures.made c.in_ok-new-2.ensures in
+    let v : SystemView g.row.S.Denot = record { desk = c.in_ok-desk.desk; duties = c.in_ok-desk.duties.items; roster = c.in_ok-roster.roster; outputs = c.in_ok-new.field-0 } in
+    let is = made_fresh v c.args.places c.args.text_limit ACTORS c.args.loggers c.args.sinks.items c.in_ok-desk.ensures.desk c.in_ok-desk.ensures.duties refl
+    c.in_ok-roster.ensures.made c.in_ok-new.ensures in
     let whole : IsWithin v = subst IsWithin (sym is) (fresh_within c.args.places c.args.text_limit c.args.loggers c.args.sinks.items c.requires.loggers) in
     subst (λ d. IsWithin (let r : SystemView g.row.S.Denot = record { desk = d; duties = v.duties; roster = v.roster; outputs = v.outputs } in r)) (sym c.desk.view_is) whole
 
 pub returns-clause-made : goal.returns-clause-made
 returns-clause-made g c =
-    let n = c.loop.counter in
-    let all : n ≡ ACTORS = omega (arith, c.loop-test.false, c.loop.auto.counter-end) in
-    let v : SystemView g.row.S.Denot = record { desk = desk_in c.desk.inside; duties = c.loop.duties.items; roster = c.in_ok-new.field-0; outputs = c.in_ok-new-2.field-0 } in
-    made_fresh v c.args.places c.args.text_limit n c.args.loggers c.args.sinks.items (c.desk.view_is ∙ c.in_ok-desk.ensures.made) c.loop.invariant.items all
-    c.in_ok-new.ensures.made c.in_ok-new-2.ensures
+    let v : SystemView g.row.S.Denot = record { desk = desk_in c.desk.inside; duties = c.in_ok-desk.duties.items; roster = c.in_ok-roster.roster; outputs = c.in_ok-new.field-0 } in
+    made_fresh v c.args.places c.args.text_limit ACTORS c.args.loggers c.args.sinks.items (c.desk.view_is ∙ c.in_ok-desk.ensures.desk) c.in_ok-desk.ensures.duties refl
+    c.in_ok-roster.ensures.made c.in_ok-new.ensures
