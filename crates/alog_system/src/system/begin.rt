@@ -132,11 +132,37 @@ impl<S: Store + Drop> System<S> {
             self.owe(actor, duty);
             return Ok(Some(own));
         }
-        match self.message(alloc, given) {
-            Ok(message) => self.post_text(actor, message, duty),
-            Err(fault) => return Err(fault),
+        match self.post_message(alloc, actor, given, duty) {
+            Ok(()) => Ok(None),
+            Err(fault) => Err(fault),
         }
-        Ok(None)
+    }
+
+    /// Begins the post of a message without a source, whose actor then does this beside.
+    fn post_message(
+        &mut self,
+        alloc: Global,
+        actor: u32,
+        given: MessageRef<'_>,
+        duty: Duty,
+    ) -> Result<(), BeginError>
+        requires actor { actor < ACTORS }
+        requires idle { is_idle (round_of self.old.desk.world actor) ≡ true }
+        requires source { given.source ≡ None }
+        requires fits { DutyFits self.old.roster self.old.outputs.text_limit duty }
+        ensures begun { OnOk result (self.new ≡ with_duty (with_desk self.old (post_began self.old.desk actor
+            (policy_at self.old.roster given.entry.logger) (Text (message_of given.entry)))) actor duty) }
+        ensures text_too_long { IsErrOf result BeginError.TextTooLong ↔ (self.old.outputs.text_limit < length given.entry.text.now) }
+        ensures cause { IfErr result (λ e. IsOfMaking e) }
+        ensures err { OnErr result (self.new ≡ self.old) }
+    {
+        match self.message(alloc, given) {
+            Ok(message) => {
+                self.post_text(actor, message, duty);
+                Ok(())
+            }
+            Err(fault) => Err(fault),
+        }
     }
 
     /// Begins the post of a text under its logger's policy, whose actor then does this beside.
