@@ -1,5 +1,5 @@
 //! Building what a configuration names.
-ghost use Rattle.std.specs.Prelude.{◌≡◌, IfOk, IsErrOf, count_by, length};
+ghost use Rattle.std.specs.Prelude.{◌≡◌, [], ◌∷◌, ◌++◌, IfOk, IsErrOf, OnOk, count_by, length};
 ghost use Rattle.std.specs.List.{All, Any};
 ghost use Rattle.alog_config.specs.Built.{Built, EachIs, HasFailed, IsLoggerOf};
 ghost use Rattle.alog_config.specs.Fits.{LoggerFits, SinkSuits};
@@ -78,12 +78,22 @@ fn parts_of<'c, S: Store + Drop>(
             Ok(sink) => sink,
             Err(error) => return Err(error),
         };
-        let part = Part { config: said, sink };
-        if parts.push(part).is_err() {
-            return Err(BuildError::OutOfMemory);
-        }
+        add(&mut parts, Part { config: said, sink })?;
     }
     Ok(parts)
+}
+
+/// Adds a part behind the others.
+fn add<'c, S: Store + Drop>(
+    parts: &mut Vec<Part<'c, S>>,
+    part: Part<'c, S>,
+) -> Result<(), AllocError>
+    ensures { OnOk result (parts.new.items ≡ parts.old.items ++ part.entry ∷ []) }
+{
+    match parts.push(part) {
+        Ok(()) => Ok(()),
+        Err(_) => Err(AllocError),
+    }
 }
 
 /// Makes the next sink, of the next store or of the parts that it names.

@@ -3,6 +3,7 @@ ghost use Rattle.std.specs.Prelude.{◌+◌, ◌≤◌, IfOk, string_len};
 ghost use Rattle.alog_config.specs.Meaning.{limit_of};
 ghost use Rattle.alog_pattern.specs.Compiled.{IsTextLimit};
 
+use crate::config::SinkConfig;
 use crate::fault::{ConfigFault, Place, Rule};
 use crate::field::Field;
 use crate::keys::{Owner, other_key};
@@ -77,14 +78,40 @@ fn broken_sink(
     let Some(table) = tables.get(i) else {
         return rule.to_string(alloc);
     };
-    let earlier = match read_sinks(alloc, &tables[..i], limit) {
-        Ok(earlier) => earlier,
-        Err(ConfigFault::OutOfMemory) => return Err(AllocError),
-        Err(_) => return rule.to_string(alloc),
-    };
+    match sinks_of(alloc, &tables[..i], limit)? {
+        Some(earlier) => broken_sink_table(alloc, table, earlier.as_slice(), limit, rule),
+        None => rule.to_string(alloc),
+    }
+}
+
+/// How the table of a sink breaks a rule behind these sinks.
+fn broken_sink_table(
+    alloc: Global,
+    table: &Table,
+    earlier: &[SinkConfig],
+    limit: usize,
+    rule: Rule,
+) -> Result<String, AllocError>
+    requires { IsTextLimit limit }
+{
     let fields = sink_fields(alloc, table, limit)?;
-    let key = fields.culprit(earlier.as_slice(), rule);
+    let key = fields.culprit(earlier, rule);
     said(alloc, table, Owner::Sink(told(&fields.kind)), rule, key)
+}
+
+/// The sinks that these tables say, or `None` where one of them says none.
+fn sinks_of(
+    alloc: Global,
+    tables: &[&Table],
+    limit: usize,
+) -> Result<Option<Vec<SinkConfig>>, AllocError>
+    requires { IsTextLimit limit }
+{
+    match read_sinks(alloc, tables, limit) {
+        Ok(sinks) => Ok(Some(sinks)),
+        Err(ConfigFault::OutOfMemory) => Err(AllocError),
+        Err(_) => Ok(None),
+    }
 }
 
 /// How the logger of this number breaks a rule.
@@ -109,13 +136,21 @@ fn broken_logger(
     let Some(table) = loggers.get(i) else {
         return rule.to_string(alloc);
     };
-    let sinks = match read_sinks(alloc, sinks.as_slice(), limit) {
-        Ok(sinks) => sinks,
-        Err(ConfigFault::OutOfMemory) => return Err(AllocError),
-        Err(_) => return rule.to_string(alloc),
-    };
+    match sinks_of(alloc, sinks.as_slice(), limit)? {
+        Some(sinks) => broken_logger_table(alloc, table, sinks.as_slice(), rule),
+        None => rule.to_string(alloc),
+    }
+}
+
+/// How the table of a logger breaks a rule over these sinks.
+fn broken_logger_table(
+    alloc: Global,
+    table: &Table,
+    sinks: &[SinkConfig],
+    rule: Rule,
+) -> Result<String, AllocError> {
     let fields = logger_fields(alloc, table)?;
-    let key = fields.culprit(sinks.as_slice(), rule);
+    let key = fields.culprit(sinks, rule);
     said(alloc, table, Owner::Logger, rule, key)
 }
 

@@ -215,13 +215,11 @@ impl SinkFields {
             let kind = SinkKind::Fan { of };
             return Ok(Some(SinkConfig { name, level, kind }));
         }
-        let Some(upkeep) = upkeep_of(kind, max_size, max_files, hour, minute) else {
+        let upkeep = upkeep_of(kind, max_size, max_files, hour, minute);
+        let texts = texts_for(alloc, kind, &name, file, pattern)?;
+        let (Some(upkeep), Some((file, pattern))) = (upkeep, texts) else {
             return Ok(None);
         };
-        let Some(file) = file_for(alloc, kind, &name, file)? else {
-            return Ok(None);
-        };
-        let pattern = pattern_for(alloc, pattern)?;
         let kind = SinkKind::Lines {
             file,
             pattern,
@@ -229,6 +227,23 @@ impl SinkFields {
         };
         Ok(Some(SinkConfig { name, level, kind }))
     }
+}
+
+/// The file of a sink of this kind and name, as `file_for` has it, with the pattern of its lines.
+fn texts_for(
+    alloc: Global,
+    kind: Kind,
+    name: &Text,
+    file: Field<Text>,
+    pattern: Field<Text>,
+) -> Result<Option<(Text, Text)>, AllocError>
+    ensures { IfOk result (λ o. o ≡ option_map (λ f. (f, given_or (codes "%+") pattern))
+        (file_or (default_file (Field.Given kind) (Field.Given name.now)) file)) }
+{
+    let Some(file) = file_for(alloc, kind, name, file)? else {
+        return Ok(None);
+    };
+    Ok(Some((file, pattern_for(alloc, pattern)?)))
 }
 
 /// The file of a sink of this kind and name, where one is given or stands for it.

@@ -35,9 +35,8 @@ loop-said-preserved g c =
     let s = c.said-item.result in
     let here = slice_get_read items (length items) i s refl c.loop-said-test.true c.said-item.is in
     let at = subst (λ (ss : List SinkConfig). slice_get ss i ≡ Some s) c.deref-said-items.ensures.value here in
-    let ok : is_ok c.push.result ≡ true = grind (arith, common_steps) in
     record {
-      built = rw (c.push.ensures.items, ok) (next_made g.S.Store.tells g.S.Store.files g.S.Store.failures config c.args.stores.items
+      built = rw (c.in_ok-add.ensures) (next_made g.S.Store.tells g.S.Store.files g.S.Store.failures config c.args.stores.items
           c.loop-said.stores.items c.made.new.stores.items i c.loop-said.parts.items c.made.new.parts.items s _ config.sound.each_sink
           c.loop-said.invariant.built at refl c.loop-said.invariant.left c.in-Ok.ensures.made);
       left = next_left g.S.Store.tells g.S.Store.files g.S.Store.failures config c.args.stores.items c.loop-said.stores.items
