@@ -3,7 +3,7 @@ use Rattle.std.proofs.Common.{◌≡◌, ◌⊎◌, ℕ, ◌+◌, List, [], ◌�
 use Rattle.std.proofs.lemmas.List.Sums.{sum_by-append}
 use Rattle.alog_core.specs.Accounts.{got_by, claims, takes, weigh, claimed, taken}
 use Rattle.alog_core.specs.History.{Entry}
-use Rattle.alog_core.specs.Queue.{Event, Claim, Write, Grab, Take, Full, Empty, PushBusy, PopBusy, Spent}
+use Rattle.alog_core.specs.Queue.{Event, Claim, Write, Grab, Take, Full, Front, Empty, Idle, PushBusy, PopBusy, Spent}
 use Rattle.alog_core.proofs.Accounts.{weigh-append}
 use Rattle.alog_lane.specs.Seats as lane
 use Rattle.alog_msg.specs.declared.item.Item.{Item}
@@ -31,7 +31,9 @@ one_take (Write t) = refl
 one_take (Grab t) = refl
 one_take (Take t x) = refl
 one_take (Full t) = refl
+one_take (Front t) = refl
 one_take (Empty t) = refl
+one_take (Idle t) = refl
 one_take (PushBusy t) = refl
 one_take (PopBusy t) = refl
 one_take Spent = refl
