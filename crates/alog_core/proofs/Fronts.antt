@@ -1,7 +1,7 @@
 -- A pop that is before its last look found a front, and did nothing since: what it says then follows that front.
 use Rattle.std.proofs.Common.{◌≡◌, ◌≢◌, ℕ, ◌<◌, ◌==◌, ◌&&◌, ◌||◌, not, ltb, cond, Bool, Option, None, Some, List, [], ◌++◌}
 use Rattle.std.proofs.Common.{length, get_or, set, get_or-set_other, get_or-set_same, inl, inr, refl, sym, ap, subst, ◌∙◌, arith}
-use Rattle.std.proofs.Common.{append_assoc}
+use Rattle.std.proofs.Common.{append_assoc, replicate, zero, suc}
 use Rattle.std.specs.Option.{is_none}
 use Rattle.std.proofs.lemmas.Bool.Decides.{eqb_tells}
 use Rattle.std.proofs.lemmas.List.{append-nil}
@@ -9,13 +9,13 @@ use Rattle.alog_core.specs.Queue.{Cell, Queue, Event, Claim, Write, Grab, Take, 
 use Rattle.alog_core.specs.Queue.{Spent, last, cell_of}
 use Rattle.alog_core.specs.Round.{Move, move_of, goes_on, makes, ends, taking, is_blocked, is_claimed}
 use Rattle.alog_core.specs.History.{Entry, latest, Follows, StandsFor}
-use Rattle.alog_core.specs.World.{Machine, round_of, began, next_move, stepped, entries_of}
+use Rattle.alog_core.specs.World.{Machine, fresh, round_of, began, next_move, stepped, entries_of}
 use Rattle.alog_core.specs.Run.{LeadsTo, GoesOn, entries_of_step}
 use Rattle.alog_core.specs.Staged.{IsReached}
 use Rattle.alog_core.specs.declared.TheConstants.{ACTORS}
 use Rattle.alog_core.specs.declared.round.Round.{Round}
 use Rattle.alog_core.specs.declared.round.Round.TheVariants as round
-use Rattle.alog_core.proofs.Histories.{stands_step, latest_own, latest_other}
+use Rattle.alog_core.proofs.Histories.{stands_start, stands_step, latest_own, latest_other}
 use Rattle.alog_core.proofs.Steps.{on_either}
 use Rattle.alog_core.proofs.Reached.{fine_step}
 
@@ -98,6 +98,19 @@ goes_nowhere {T} {N} m k places queue fronts f h leads =
 
 pub goes_same : {T N : Type 0} (m : Machine T) → GoesOn {N = N} m [] m
 goes_same m = goes_nowhere m m refl refl (λ a p is. is)
+
+-- nobody is in a round of a new machine, so the empty history leads to it
+all_the_same : {X : Type 0} (n i : ℕ) (x : X) → get_or (replicate n x) i x ≡ x
+all_the_same zero i x = refl
+all_the_same (suc n) zero x = refl
+all_the_same (suc n) (suc i) x = all_the_same n i x
+
+pub leads_start : {T N : Type 0} (n f : ℕ) → LeadsTo {N = N} f [] (fresh {T = T} n f)
+leads_start {T} n f = record {
+  stands = stands_start n f;
+  fronts = λ a p is.
+      let idle : round_of (fresh {T = T} n f) a ≡ round.Idle = all_the_same ACTORS a round.Idle in absurd (cc);
+}
 
 -- a call that begins is not before a last look
 pub goes_began : {T N : Type 0} (m : Machine T) (a : ℕ) (r : Round T) → length m.rounds ≡ ACTORS → a < ACTORS

@@ -82,6 +82,25 @@ goes_call {T} m (call.Step a) h =
     (λ _. goes_step m a h (less_from_test a ACTORS lt)))
     (λ _. goes_same m)
 
+-- calls leave the number of places
+places_after_call : {T : Type 0} (m : Machine T) (c : Call T) → (after_call m c).places ≡ m.places
+places_after_call {T} m (call.Push a x) =
+    let P : Machine T → Type 0 = λ k. k.places ≡ m.places in
+    on_either P (ltb a ACTORS) (cond (is_idle (round_of m a)) (began m a (round.Push x)) m) m
+    (λ _. on_either P (is_idle (round_of m a)) (began m a (round.Push x)) m (λ _. refl) (λ _. refl)) (λ _. refl)
+places_after_call {T} m (call.Pop a) =
+    let P : Machine T → Type 0 = λ k. k.places ≡ m.places in
+    on_either P (ltb a ACTORS) (cond (is_idle (round_of m a)) (began m a round.Pop) m) m
+    (λ _. on_either P (is_idle (round_of m a)) (began m a round.Pop) m (λ _. refl) (λ _. refl)) (λ _. refl)
+places_after_call {T} m (call.Step a) =
+    let P : Machine T → Type 0 = λ k. k.places ≡ m.places in
+    on_either P (ltb a ACTORS) (cond (is_idle (round_of m a)) m (stepped m a)) m
+    (λ _. on_either P (is_idle (round_of m a)) m (stepped m a) (λ _. refl) (λ _. refl)) (λ _. refl)
+
+pub places_after_calls : {T : Type 0} (m : Machine T) (cs : List (Call T)) → (after_calls m cs).places ≡ m.places
+places_after_calls m [] = refl
+places_after_calls m (c ∷ cs) = places_after_calls (after_call m c) cs ∙ places_after_call m c
+
 -- each history goes on with the entries of the run
 pub run_goes_on : {T : Type 0} (m : Machine T) (cs : List (Call T)) → IsReached m
     → GoesOn m (entries_of_run m cs) (after_calls m cs)
