@@ -197,8 +197,7 @@ impl<S: Store + Drop + Send + 'static> PoolParts<S> {
         ensures number { IfOk result (λ h. h.promise.start.value.number ≡ number) }
         ensures queue { HasQueue self.new }
     {
-        let gate = Arc::try_clone(gate)?;
-        let own = rt.clone()?;
+        let (own, gate) = both_for_one(rt, gate)?;
         let worker = self.worker(number)?;
         let promise = Works {
             start: Snapshot::of(&worker),
@@ -242,6 +241,15 @@ impl<S: Store + Drop + Send + 'static> PoolParts<S> {
             handled: 0,
         })
     }
+}
+
+/// The runtime and the gate of one more worker.
+fn both_for_one<R: Clone + Drop, G: Drop>(
+    rt: &R,
+    gate: &Arc<G>,
+) -> Result<(R, Arc<G>), AllocError> {
+    let gate = Arc::try_clone(gate)?;
+    Ok((rt.clone()?, gate))
 }
 
 /// What all threads of a pool over this queue share, and the first seat of its loss book.
