@@ -22,7 +22,8 @@ use Rattle.alog_policy.specs.declared.progress.Side.TheVariants.{Push, Pop}
 use Rattle.alog_policy.specs.declared.progress.Progress.{Progress}
 use Rattle.alog_policy.specs.declared.progress.Lost.{Lost}
 use Rattle.alog_policy.proofs.StepKinds.{PushHas, PopSeeks, Kind, IsIdle, Pushes, Claims, FindsFull, PushIsBusy, IsSpent, Writes}
-use Rattle.alog_policy.proofs.StepKinds.{Pops, Grabs, FindsFront, FindsEmpty, FindsIdle, PopIsBusy, Takes, brought_push, brought_pop}
+use Rattle.alog_policy.proofs.StepKinds.{Pops, Grabs, FindsFront, FindsEmpty, FindsIdle, PopIsBusy, Takes, brought_push}
+use Rattle.alog_policy.proofs.StepKinds.{brought_pop}
 
 -- a desk in which one actor's round and post were set
 pub kept_set : {T : Type 0} (d e : DeskView T) (a : ℕ) (r : Round T) (p : Option (Post T)) → IsKeptDesk d → a < ACTORS

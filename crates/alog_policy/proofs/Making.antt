@@ -41,7 +41,8 @@ pub record MadeSoFar {T : Type 0} (a : ℕ) (old : Machine T) (es : List (Event 
   pub history : GoesOn old (entries_by a es) now
 
 module _ {T : Type 0} (a : ℕ) (old : Machine T) (lt : a < length old.rounds) where
-  pub made_nothing : (now : Machine T) (r : Round T) → now ≡ began old a r → GoesOn old [] now → MadeSoFar a old [] now
+  pub made_nothing : (now : Machine T) (r : Round T) → now ≡ began old a r → GoesOn {N = Unit {0}} old [] now
+      → MadeSoFar a old [] now
   made_nothing now r e goes =
       let rounds : now.rounds ≡ set old.rounds a r = ap (λ (m : Machine T). m.rounds) e in
       record {
@@ -446,7 +447,7 @@ pop_result {T} a old new (Err (pop.Busy seen)) es e made un =
 
 -- a round that begins
 pub round_begins_push : {T : Type 0} (old : Machine T) (a : ℕ) → a < length old.rounds → (x : T) (new : Machine T)
-    → new ≡ began old a (round.Push x) → GoesOn old [] new → RoundSoFar (InPush x) a old new
+    → new ≡ began old a (round.Push x) → GoesOn {N = Unit {0}} old [] new → RoundSoFar (InPush x) a old new
 round_begins_push {T} old a lt x new e goes =
     let here : round_of new a ≡ round.Push x =
     round_set new old.rounds a (round.Push x) lt (ap (λ (m : Machine T). m.rounds) e) in
@@ -459,7 +460,7 @@ round_begins_push {T} old a lt x new e goes =
     }
 
 pub round_begins_pop : {T : Type 0} (old : Machine T) (a : ℕ) → a < length old.rounds → (new : Machine T)
-    → new ≡ began old a round.Pop → GoesOn old [] new → RoundSoFar InPop a old new
+    → new ≡ began old a round.Pop → GoesOn {N = Unit {0}} old [] new → RoundSoFar InPop a old new
 round_begins_pop {T} old a lt new e goes =
     let here : round_of new a ≡ round.Pop = round_set new old.rounds a round.Pop lt (ap (λ (m : Machine T). m.rounds) e) in
     record {

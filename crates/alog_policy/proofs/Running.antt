@@ -142,8 +142,8 @@ reached_fresh {T} n f size below =
     }
 
 -- a machine to which the same histories lead
-leads_still : {T : Type 0} (f : ℕ) (h : List (Entry T (Unit {0}))) (m k : Machine T) → GoesOn m [] k → LeadsTo f h m
-    → LeadsTo f h k
+leads_still : {T : Type 0} (f : ℕ) (h : List (Entry T (Unit {0}))) (m k : Machine T) → GoesOn {N = Unit {0}} m [] k
+    → LeadsTo f h m → LeadsTo f h k
 leads_still {T} f h m k goes leads =
     subst (λ (g : List (Entry T (Unit {0}))). LeadsTo f g k) (append-nil h) (goes f h leads)
 
