@@ -1,6 +1,7 @@
 -- The accounts of a queue balance, by whatever weight.
 use Rattle.std.proofs.Common.{◌≡◌, ℕ, ◌+◌, cond, Some, List, [], ◌∷◌, ◌++◌, refl, sym, ap, arith}
-use Rattle.alog_core.specs.Queue.{Cell, Queue, Event, Claim, Write, Grab, Take, Full, Empty, PushBusy, PopBusy, Spent, start}
+use Rattle.alog_core.specs.Queue.{Cell, Queue, Event, Claim, Write, Grab, Take, Full, Front, Empty, Idle, PushBusy, PopBusy}
+use Rattle.alog_core.specs.Queue.{Spent, start}
 use Rattle.alog_core.specs.Queue.{cell_of, marked, without, Allows, after}
 use Rattle.alog_core.specs.History.{Entry, left_by, IsLegalFrom}
 use Rattle.alog_core.specs.Accounts.{put_by, got_by, claims, takes, held, weigh, claimed, taken, listed, AccountsBalance}
@@ -51,7 +52,9 @@ balance_step n q a (Write t) w may = ap (λ ps. 0 + weigh w ps) (sym (held-marke
 balance_step n q a (Grab t) w may = ap (λ ps. 0 + weigh w ps) (sym (held-marked t Emptying a q.cells))
 balance_step n q a (Take t x) w may = omega (arith, listed-without w t q.cells _ may)
 balance_step n q a (Full t) w may = refl
+balance_step n q a (Front t) w may = refl
 balance_step n q a (Empty t) w may = refl
+balance_step n q a (Idle t) w may = refl
 balance_step n q a (PushBusy t) w may = refl
 balance_step n q a (PopBusy t) w may = refl
 balance_step n q a Spent w may = refl
@@ -69,4 +72,4 @@ balance_from n q (x ∷ h) w legal =
     )
 
 pub accounts_balance : (T N : Type 0) → AccountsBalance T N
-accounts_balance T N n f h w legal = omega (arith, balance_from n (start f) h w legal)
+accounts_balance T N n f h w legal = omega (arith, balance_from n (start f) h w legal.0)

@@ -276,7 +276,7 @@ module _ {T : Type 0} (t : Table T) (is : IsTable t) (a p i s : ℕ) (place : i 
       pop_looks (places_of t) (queue_in t) t.sequences.items (size_facts (places_of t) is.size).1 is.sound
       is.shows.sequences p low
 
-  pub finds_unwritten : p ≤ t.front → s < p + 1 → Advances t t a (round.PopRead p) (said.Empty p, round.Idle)
+  pub finds_unwritten : p ≤ t.front → s < p + 1 → Advances t t a (round.PopRead p) (said.Front p, round.PopFronted p)
   finds_unwritten low less =
       elim (pop_look low) [
         | inl h ↦ stays (round.PopRead p) _ _ h.1 refl refl refl

@@ -5,7 +5,8 @@ use Rattle.std.specs.List.{range_with_len}
 use Rattle.std.proofs.lemmas.List.{length-append, get_or_append_left}
 use Rattle.std.proofs.lemmas.List.Elements.{All-nil, All-cons, All-weaker}
 use Rattle.std.proofs.lemmas.List.Kept.{AllPairs-cons}
-use Rattle.alog_core.specs.Queue.{Queue, Event, Claim, Write, Grab, Take, Full, Empty, PushBusy, PopBusy, Spent, start}
+use Rattle.alog_core.specs.Queue.{Queue, Event, Claim, Write, Grab, Take, Full, Front, Empty, Idle, PushBusy, PopBusy}
+use Rattle.alog_core.specs.Queue.{Spent, start}
 use Rattle.alog_core.specs.Queue.{Allows, after}
 use Rattle.alog_core.specs.History.{Entry, left_by, own_of, IsLegalFrom}
 use Rattle.alog_core.specs.Accounts.{grabbed_by, grabbed, handed_out, TicketsAreGrabbedInOrder, AnActorsTicketsRise}
@@ -28,7 +29,9 @@ grabs_step n q a (Claim t x) us high may g = g
 grabs_step n q a (Write t) us high may g = g
 grabs_step n q a (Take t x) us high may g = g
 grabs_step n q a (Full t) us high may g = g
+grabs_step n q a (Front t) us high may g = g
 grabs_step n q a (Empty t) us high may g = g
+grabs_step n q a (Idle t) us high may g = g
 grabs_step n q a (PushBusy t) us high may g = g
 grabs_step n q a (PopBusy t) us high may g = g
 grabs_step n q a Spent us high may g = g
@@ -42,7 +45,7 @@ grabs_from n q (x ∷ h) legal =
 
 pub tickets_are_grabbed_in_order : (T N : Type 0) → TicketsAreGrabbedInOrder T N
 tickets_are_grabbed_in_order T N n f h legal =
-    let g = grabs_from n (start f) h legal in
+    let g = grabs_from n (start f) h legal.0 in
     let many : length (grabbed h) ≡ (left_by (start f) h).front - f = omega (arith, g.front) in
     (omega (arith, g.front), g.tickets ∙ ap (λ m. range_with_len f m) many)
 
@@ -71,7 +74,9 @@ front_stays q a (Claim t x) = omega arith
 front_stays q a (Write t) = omega arith
 front_stays q a (Take t x) = omega arith
 front_stays q a (Full t) = omega arith
+front_stays q a (Front t) = omega arith
 front_stays q a (Empty t) = omega arith
+front_stays q a (Idle t) = omega arith
 front_stays q a (PushBusy t) = omega arith
 front_stays q a (PopBusy t) = omega arith
 front_stays q a Spent = omega arith
@@ -83,7 +88,9 @@ rise_step n q a (Claim t x) us may r = r
 rise_step n q a (Write t) us may r = r
 rise_step n q a (Take t x) us may r = r
 rise_step n q a (Full t) us may r = r
+rise_step n q a (Front t) us may r = r
 rise_step n q a (Empty t) us may r = r
+rise_step n q a (Idle t) us may r = r
 rise_step n q a (PushBusy t) us may r = r
 rise_step n q a (PopBusy t) us may r = r
 rise_step n q a Spent us may r = r
@@ -112,7 +119,7 @@ rising_front us vs rising = λ i j d less within.
 
 pub an_actors_tickets_rise : (T N : Type 0) → AnActorsTicketsRise T N
 an_actors_tickets_rise T N n f h a legal =
-    let rising = (rise_from n (start f) h a legal).rising in (
+    let rising = (rise_from n (start f) h a legal.0).rising in (
       rising,
       λ yet same. rising_front (handed_out (own_of a h)) yet (subst (λ us. AllPairs (λ t u. t < u) us) same rising),
     )

@@ -2,7 +2,8 @@
 use Rattle.std.proofs.Common.{◌≡◌, ◌⊎◌, ℕ, zero, suc, ◌+◌, ◌≤◌, cond, Some, List, [], ◌∷◌, ◌++◌, map, Contains, inl, inr}
 use Rattle.std.proofs.Common.{refl, sym, ap, subst, ◌∙◌, arith}
 use Rattle.std.proofs.lemmas.List.Elements.{Contains-append_left, Contains-append_right, Contains-append_cases}
-use Rattle.alog_core.specs.Queue.{Cell, Queue, Event, Claim, Write, Grab, Take, Full, Empty, PushBusy, PopBusy, Spent, start}
+use Rattle.alog_core.specs.Queue.{Cell, Queue, Event, Claim, Write, Grab, Take, Full, Front, Empty, Idle, PushBusy, PopBusy}
+use Rattle.alog_core.specs.Queue.{Spent, start}
 use Rattle.alog_core.specs.Queue.{cell_of, without, Allows, after}
 use Rattle.alog_core.specs.History.{Entry, left_by, IsLegalFrom}
 use Rattle.alog_core.specs.Accounts.{put_by, got_by, claims, takes, held}
@@ -67,7 +68,9 @@ held_step q a (Write t) p h = inr (subst (λ ps. Contains ps p) (held-marked t W
 held_step q a (Grab t) p h = inr (subst (λ ps. Contains ps p) (held-marked t Emptying a q.cells) h)
 held_step q a (Take t x) p h = inr (held-without t q.cells p h)
 held_step q a (Full t) p h = inr h
+held_step q a (Front t) p h = inr h
 held_step q a (Empty t) p h = inr h
+held_step q a (Idle t) p h = inr h
 held_step q a (PushBusy t) p h = inr h
 held_step q a (PopBusy t) p h = inr h
 held_step q a Spent p h = inr h
@@ -81,7 +84,9 @@ got_step {T} n q a (Take t x) p may (zero, l, e) =
     subst (λ (r : ℕ × T). Contains (held q.cells) r) e (found_held t q.cells _ may)
 got_step n q a (Take t x) p may (suc k, l, e) = absurd (omega (arith, l))
 got_step n q a (Full t) p may h = absurd (omega (arith, h.1))
+got_step n q a (Front t) p may h = absurd (omega (arith, h.1))
 got_step n q a (Empty t) p may h = absurd (omega (arith, h.1))
+got_step n q a (Idle t) p may h = absurd (omega (arith, h.1))
 got_step n q a (PushBusy t) p may h = absurd (omega (arith, h.1))
 got_step n q a (PopBusy t) p may h = absurd (omega (arith, h.1))
 got_step n q a Spent p may h = absurd (omega (arith, h.1))
@@ -147,7 +152,7 @@ pub tickets_keep_their_items : (T N : Type 0) → TicketsKeepTheirItems T N
 tickets_keep_their_items T N n f h t x legal is =
     let c : Contains (claims h) (t, x) =
     elim is [
-      | inl out ↦ was_claimed f h (t, x) (taken_from n (start f) h (t, x) legal out)
+      | inl out ↦ was_claimed f h (t, x) (taken_from n (start f) h (t, x) legal.0 out)
       | inr in' ↦ was_claimed f h (t, x) (held_from (start f) h (t, x) in')
     ]
     in (c, λ y d. one_item (claims h) t x y (issued_once n f h t legal) c d)
@@ -156,5 +161,5 @@ pub takes_follow_their_claims : (T N : Type 0) → TakesFollowTheirClaims T N
 takes_follow_their_claims T N n f before later e t x legal is =
     let q : Queue T = left_by (start f) before in
     let may : Allows n q e.actor (Take t x) =
-    subst (λ (v : Event T). Allows n q e.actor v) is (legal_second n (start f) before (e ∷ later) legal).0 in
+    subst (λ (v : Event T). Allows n q e.actor v) is (legal_second n (start f) before (e ∷ later) legal.0).0 in
     was_claimed f before (t, x) (held_from (start f) before (t, x) (found_held t q.cells _ may))

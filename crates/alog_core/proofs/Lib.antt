@@ -17,5 +17,6 @@ pub mod Steps
 pub mod Others
 pub mod Reached
 pub mod Calls
+pub mod Fronts
 pub mod Runs
 pub mod Sizes

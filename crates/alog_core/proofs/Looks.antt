@@ -4,8 +4,8 @@ use Rattle.std.proofs.Common.{Option, None, Some, List, get_or, inl, inr, refl, 
 use Rattle.std.specs.Option.{is_none}
 use Rattle.std.proofs.lemmas.Bool.Decides.{leb_tells}
 use native.Mathlib.Nat.{add-mod_right}
-use Rattle.alog_core.specs.Queue.{Cell, Queue, Full, Empty, PushBusy, PopBusy, cell_of, IsListed, IsBlocked, IsRoom, IsSound}
-use Rattle.alog_core.specs.Round.{Move, move_of, goes_on, ends, is_blocked, is_claimed}
+use Rattle.alog_core.specs.Queue.{Cell, Queue, Full, Front, PushBusy, PopBusy, cell_of, IsListed, IsBlocked, IsRoom, IsSound}
+use Rattle.alog_core.specs.Round.{Move, move_of, goes_on, makes, ends, is_blocked, is_claimed}
 use Rattle.alog_core.specs.Words.{sequence_by, AreSequences}
 use Rattle.alog_core.specs.declared.mark.Mark.{Mark}
 use Rattle.alog_core.specs.declared.mark.Mark.TheVariants.{Claimed, Written, Emptying}
@@ -131,13 +131,13 @@ module _ {T : Type 0} (n : ℕ) (q : Queue T) (s : List ℕ) (two : 2 ≤ n) (so
   -- a pop at its second step
   abbrev pub PopLooks : ℕ → Type 0
   PopLooks p =
-      ((at p < p + 1) × (move_of n q (round.PopRead p) ≡ ends (Empty p)))
+      ((at p < p + 1) × (move_of n q (round.PopRead p) ≡ makes (Front p) (round.PopFronted p)))
       ⊎ (((at p ≡ p + 1) × (move_of n q (round.PopRead p) ≡ goes_on (round.PopReady p)))
       ⊎ ((p + 1 < at p) × (move_of n q (round.PopRead p) ≡ ends (PopBusy p))))
 
   abbrev pop_move : ℕ → Bool → Bool → Option (Cell T) → Move T
   pop_move p here early o =
-      cond (here && (is_none o || is_claimed o)) (ends (Empty p))
+      cond (here && (is_none o || is_claimed o)) (makes (Front p) (round.PopFronted p))
       (cond (early && is_none o) (ends (PopBusy p)) (goes_on (round.PopReady p)))
 
   -- a front ticket that is not listed is the next one

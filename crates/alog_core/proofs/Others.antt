@@ -1,6 +1,7 @@
 -- What a round knows stays true whatever another actor does.
 use Rattle.std.proofs.Common.{◌≡◌, ◌≢◌, ℕ, ◌≤◌, Option, None, Some, List, [], ◌∷◌, ◌++◌, refl, ap, subst, ◌∙◌, arith}
-use Rattle.alog_core.specs.Queue.{Cell, Queue, Event, Claim, Write, Grab, Take, Full, Empty, PushBusy, PopBusy, Spent, last}
+use Rattle.alog_core.specs.Queue.{Cell, Queue, Event, Claim, Write, Grab, Take, Full, Front, Empty, Idle, PushBusy, PopBusy}
+use Rattle.alog_core.specs.Queue.{Spent, last}
 use Rattle.alog_core.specs.Queue.{Allows, after, cell_of, marked, without, HasCell, IsRoom, IsWritten, IsSound}
 use Rattle.alog_core.specs.Round.{after_event}
 use Rattle.alog_core.specs.Staged.{IsStaged}
@@ -32,6 +33,7 @@ keeps_staged n q new b (round.PopRead p) k st = omega (arith, k.front, st)
 keeps_staged n q new b (round.PopReady p) k st =
     (omega (arith, k.front, st.0), λ e. k.written p e st.0 (st.1 (omega (arith, k.front, st.0, e))))
 keeps_staged n q new b (round.PopGrabbed p) k st = (st.0, k.emptying p st.0 st.1)
+keeps_staged n q new b (round.PopFronted p) k st = omega (arith, k.front, st)
 
 keeps_same : {T : Type 0} (n : ℕ) (q : Queue T) (b : ℕ) → Keeps n q q b
 keeps_same n q b =
@@ -162,7 +164,9 @@ keeps_after n q a b (Write t) some s other may = keeps_write n q a b t may.0 oth
 keeps_after n q a b (Grab t) some s other may = keeps_grab n q a b t may.1.0 may.1.1 may.1.2
 keeps_after n q a b (Take t x) some s other may = keeps_take n q a b t x other may
 keeps_after n q a b (Full t) some s other may = keeps_same n q b
+keeps_after n q a b (Front t) some s other may = keeps_same n q b
 keeps_after n q a b (Empty t) some s other may = keeps_same n q b
+keeps_after n q a b (Idle t) some s other may = keeps_same n q b
 keeps_after n q a b (PushBusy t) some s other may = keeps_same n q b
 keeps_after n q a b (PopBusy t) some s other may = keeps_same n q b
 keeps_after n q a b Spent some s other may = keeps_same n q b
@@ -175,7 +179,9 @@ issued_after n q a (Write t) most may = most
 issued_after n q a (Grab t) most may = most
 issued_after n q a (Take t x) most may = most
 issued_after n q a (Full t) most may = most
+issued_after n q a (Front t) most may = most
 issued_after n q a (Empty t) most may = most
+issued_after n q a (Idle t) most may = most
 issued_after n q a (PushBusy t) most may = most
 issued_after n q a (PopBusy t) most may = most
 issued_after n q a Spent most may = most

@@ -1,14 +1,13 @@
 -- What a run adds to a history, what its replies tell, and what its steps find.
 use Rattle.std.proofs.Common.{◌≡◌, ℕ, ◌<◌, ◌==◌, ◌&&◌, ◌||◌, not, ltb, cond, Bool, true, false, Option, None, Some, List, [], ◌∷◌}
-use Rattle.std.proofs.Common.{◌++◌, refl, sym, ap, subst, ◌∙◌, append_assoc}
-use Rattle.std.proofs.lemmas.List.{append-nil}
+use Rattle.std.proofs.Common.{refl, ap, subst, ◌∙◌}
 use Rattle.std.specs.Option.{is_none}
-use Rattle.alog_core.specs.Queue.{Cell, Queue, Claim, Full, Empty, Grab, PushBusy, PopBusy, Spent, last, cell_of}
+use Rattle.alog_core.specs.Queue.{Cell, Queue, Claim, Full, Front, Empty, Idle, Grab, PushBusy, PopBusy, Spent, last, cell_of}
 use Rattle.alog_core.specs.Round.{Move, move_of, makes, ends, goes_on, taking, is_blocked, is_claimed}
-use Rattle.alog_core.specs.History.{Entry, StandsFor, GoesOn}
+use Rattle.alog_core.specs.History.{Entry}
 use Rattle.alog_core.specs.World.{Machine, round_of, is_idle, began, next_move, stepped, brought, said_of, told, entries_of}
 use Rattle.alog_core.specs.World.{reply_to, after_call, replies_to, after_calls}
-use Rattle.alog_core.specs.Run.{entries_of_call, entries_of_run, Says, Tells, TellAll, HasItsCell, EachHasItsCell}
+use Rattle.alog_core.specs.Run.{GoesOn, entries_of_step, entries_of_call, entries_of_run, Says, Tells, TellAll, HasItsCell, EachHasItsCell}
 use Rattle.alog_core.specs.Staged.{IsStaged, IsReached}
 use Rattle.alog_core.specs.declared.TheConstants.{ACTORS}
 use Rattle.alog_core.specs.declared.round.Round.{Round}
@@ -16,9 +15,9 @@ use Rattle.alog_core.specs.declared.round.Round.TheVariants as round
 use Rattle.alog_core.specs.declared.said.Call.{Call}
 use Rattle.alog_core.specs.declared.said.Call.TheVariants as call
 use Rattle.alog_core.specs.declared.said.Answer.TheVariants as answer
-use Rattle.alog_core.proofs.Histories.{stands_step}
+use Rattle.alog_core.proofs.Fronts.{goes_same, goes_began, goes_step, goes_further}
 use Rattle.alog_core.proofs.Steps.{on_either, less_from_test}
-use Rattle.alog_core.proofs.Reached.{reached_began, reached_stepped, fine_step}
+use Rattle.alog_core.proofs.Reached.{reached_began, reached_stepped}
 
 -- a test by its two cases, wherever it stands
 on_result : (P : Bool → Type 0) (b : Bool) → (b ≡ true → P true) → (b ≡ false → P false) → P b
@@ -54,79 +53,61 @@ pub reached_calls : {T : Type 0} (m : Machine T) (cs : List (Call T)) → IsReac
 reached_calls m [] h = h
 reached_calls m (c ∷ cs) h = reached_calls (after_call m c) cs (reached_call m c h)
 
--- where a call leads from a machine: as many places, and each history goes on with these entries
-record Leads {T : Type 0} (m : Machine T) (made : List (Entry T (Unit {0}))) (k : Machine T) : Type 0 where
-  pub places : k.places ≡ m.places
-  pub goes_on : GoesOn m.places m.queue made k.queue
-
-leads_nowhere : {T : Type 0} (m k : Machine T) → k.places ≡ m.places → k.queue ≡ m.queue → Leads m [] k
-leads_nowhere {T} m k e g =
-    record {
-      places = e;
-      goes_on = λ f h stands.
-          subst (λ (q : Queue T). StandsFor m.places f (h ++ []) q) (sym g)
-          (subst (λ (x : List (Entry T (Unit {0}))). StandsFor m.places f x m.queue) (sym (append-nil h)) stands);
-    }
-
-leads_step : {T : Type 0} (m : Machine T) (a : ℕ) → IsReached m → a < ACTORS
-    → Leads m (entries_of a tt (next_move m a).event) (stepped m a)
-leads_step m a reached lt =
-    record {
-      places = refl;
-      goes_on = λ f h stands.
-          stands_step m.places f h m.queue a tt (next_move m a).event stands (fine_step m a reached lt).allowed;
-    }
-
-leads_call : {T : Type 0} (m : Machine T) (c : Call T) → IsReached m → Leads m (entries_of_call m c) (after_call m c)
-leads_call {T} m (call.Push a x) h =
-    on_either (Leads m []) (ltb a ACTORS) (cond (is_idle (round_of m a)) (began m a (round.Push x)) m) m
-    (λ _. on_either (Leads m []) (is_idle (round_of m a)) (began m a (round.Push x)) m
-    (λ _. leads_nowhere m (began m a (round.Push x)) refl refl) (λ _. leads_nowhere m m refl refl))
-    (λ _. leads_nowhere m m refl refl)
-leads_call {T} m (call.Pop a) h =
-    on_either (Leads m []) (ltb a ACTORS) (cond (is_idle (round_of m a)) (began m a round.Pop) m) m
-    (λ _. on_either (Leads m []) (is_idle (round_of m a)) (began m a round.Pop) m
-    (λ _. leads_nowhere m (began m a round.Pop) refl refl) (λ _. leads_nowhere m m refl refl))
-    (λ _. leads_nowhere m m refl refl)
-leads_call {T} m (call.Step a) h =
-    let made : List (Entry T (Unit {0})) = entries_of a tt (next_move m a).event in
+goes_call : {T : Type 0} (m : Machine T) (c : Call T) → IsReached m → GoesOn m (entries_of_call m c) (after_call m c)
+goes_call {T} m (call.Push a x) h =
+    on_result
+    (λ b. GoesOn {N = Unit {0}} m [] (cond b (cond (is_idle (round_of m a)) (began m a (round.Push x)) m) m))
+    (ltb a ACTORS)
+    (λ lt. on_either (GoesOn m []) (is_idle (round_of m a)) (began m a (round.Push x)) m
+    (λ _. goes_began m a (round.Push x) h.actors (less_from_test a ACTORS lt) (λ p is. cc)) (λ _. goes_same m))
+    (λ _. goes_same m)
+goes_call {T} m (call.Pop a) h =
+    on_result
+    (λ b. GoesOn {N = Unit {0}} m [] (cond b (cond (is_idle (round_of m a)) (began m a round.Pop) m) m))
+    (ltb a ACTORS)
+    (λ lt. on_either (GoesOn m []) (is_idle (round_of m a)) (began m a round.Pop) m
+    (λ _. goes_began m a round.Pop h.actors (less_from_test a ACTORS lt) (λ p is. cc)) (λ _. goes_same m))
+    (λ _. goes_same m)
+goes_call {T} m (call.Step a) h =
+    let made : List (Entry T (Unit {0})) = entries_of_step m a in
     let idle : Bool = is_idle (round_of m a) in
     on_result
-    (λ b. Leads m (cond b (cond idle [] made) []) (cond b (cond idle m (stepped m a)) m))
+    (λ b. GoesOn m (cond b (cond idle [] made) []) (cond b (cond idle m (stepped m a)) m))
     (ltb a ACTORS)
     (λ lt.
     on_result
-    (λ b. Leads m (cond b [] made) (cond b m (stepped m a)))
+    (λ b. GoesOn m (cond b [] made) (cond b m (stepped m a)))
     idle
-    (λ _. leads_nowhere m m refl refl)
-    (λ _. leads_step m a h (less_from_test a ACTORS lt)))
-    (λ _. leads_nowhere m m refl refl)
+    (λ _. goes_same m)
+    (λ _. goes_step m a h (less_from_test a ACTORS lt)))
+    (λ _. goes_same m)
 
-leads_on : {T : Type 0} (m k l : Machine T) (first rest : List (Entry T (Unit {0}))) → Leads m first k → Leads k rest l
-    → Leads m (first ++ rest) l
-leads_on {T} m k l first rest one two =
-    record {
-      places = two.places ∙ one.places;
-      goes_on = λ f h stands.
-          let mid : StandsFor k.places f (h ++ first) k.queue =
-          subst (λ (n : ℕ). StandsFor n f (h ++ first) k.queue) (sym one.places) (one.goes_on f h stands) in
-          let both : StandsFor m.places f ((h ++ first) ++ rest) l.queue =
-          subst (λ (n : ℕ). StandsFor n f ((h ++ first) ++ rest) l.queue) one.places (two.goes_on f (h ++ first) mid) in
-          let whole : (h ++ first) ++ rest ≡ h ++ (first ++ rest) = append_assoc h first rest in
-          subst (λ (x : List (Entry T (Unit {0}))). StandsFor m.places f x l.queue) whole both;
-    }
+-- calls leave the number of places
+places_after_call : {T : Type 0} (m : Machine T) (c : Call T) → (after_call m c).places ≡ m.places
+places_after_call {T} m (call.Push a x) =
+    let P : Machine T → Type 0 = λ k. k.places ≡ m.places in
+    on_either P (ltb a ACTORS) (cond (is_idle (round_of m a)) (began m a (round.Push x)) m) m
+    (λ _. on_either P (is_idle (round_of m a)) (began m a (round.Push x)) m (λ _. refl) (λ _. refl)) (λ _. refl)
+places_after_call {T} m (call.Pop a) =
+    let P : Machine T → Type 0 = λ k. k.places ≡ m.places in
+    on_either P (ltb a ACTORS) (cond (is_idle (round_of m a)) (began m a round.Pop) m) m
+    (λ _. on_either P (is_idle (round_of m a)) (began m a round.Pop) m (λ _. refl) (λ _. refl)) (λ _. refl)
+places_after_call {T} m (call.Step a) =
+    let P : Machine T → Type 0 = λ k. k.places ≡ m.places in
+    on_either P (ltb a ACTORS) (cond (is_idle (round_of m a)) m (stepped m a)) m
+    (λ _. on_either P (is_idle (round_of m a)) m (stepped m a) (λ _. refl) (λ _. refl)) (λ _. refl)
 
-leads_run : {T : Type 0} (m : Machine T) (cs : List (Call T)) → IsReached m
-    → Leads m (entries_of_run m cs) (after_calls m cs)
-leads_run m [] h = leads_nowhere m m refl refl
-leads_run m (c ∷ cs) h =
-    leads_on m (after_call m c) (after_calls (after_call m c) cs) (entries_of_call m c)
-    (entries_of_run (after_call m c) cs) (leads_call m c h) (leads_run (after_call m c) cs (reached_call m c h))
+pub places_after_calls : {T : Type 0} (m : Machine T) (cs : List (Call T)) → (after_calls m cs).places ≡ m.places
+places_after_calls m [] = refl
+places_after_calls m (c ∷ cs) = places_after_calls (after_call m c) cs ∙ places_after_call m c
 
 -- each history goes on with the entries of the run
 pub run_goes_on : {T : Type 0} (m : Machine T) (cs : List (Call T)) → IsReached m
-    → GoesOn m.places m.queue (entries_of_run m cs) (after_calls m cs).queue
-run_goes_on m cs h = (leads_run m cs h).goes_on
+    → GoesOn m (entries_of_run m cs) (after_calls m cs)
+run_goes_on m [] h = goes_same m
+run_goes_on m (c ∷ cs) h =
+    goes_further m (after_call m c) (after_calls (after_call m c) cs) (entries_of_call m c) (entries_of_run (after_call m c) cs)
+    (goes_call m c h) (run_goes_on (after_call m c) cs (reached_call m c h))
 
 -- a step's answer says its event
 abbrev SaysMove : {T : Type 0} → Option T → Move T → Type 0
@@ -154,13 +135,15 @@ says_move n q round.Pop = refl
 says_move {T} n q (round.PopRead p) =
     let none : Bool = p == q.front && (is_none (cell_of p q.cells) || is_claimed (cell_of p q.cells)) in
     let late : Bool = ltb p q.front && is_none (cell_of p q.cells) in
-    on_either (SaysMove {T = T} None) none (ends (Empty p)) (cond late (ends (PopBusy p)) (goes_on (round.PopReady p)))
+    on_either (SaysMove {T = T} None) none (makes (Front p) (round.PopFronted p)) (cond late (ends (PopBusy p)) (goes_on (round.PopReady p)))
     (λ _. refl)
     (λ _. on_either (SaysMove {T = T} None) late (ends (PopBusy p)) (goes_on (round.PopReady p)) (λ _. refl) (λ _. refl))
 says_move {T} n q (round.PopReady p) =
     on_either (SaysMove {T = T} None) (q.front == p) (makes (Grab p) (round.PopGrabbed p)) (ends (PopBusy p)) (λ _. refl)
     (λ _. refl)
 says_move n q (round.PopGrabbed p) = says_taking p (cell_of p q.cells)
+says_move {T} n q (round.PopFronted p) =
+    on_either (SaysMove {T = T} None) (q.next == p) (ends (Idle p)) (ends (Empty p)) (λ _. refl) (λ _. refl)
 
 tells_call : {T : Type 0} (m : Machine T) (c : Call T) → Tells c (reply_to m c) (entries_of_call m c)
 tells_call m (call.Push a x) = refl

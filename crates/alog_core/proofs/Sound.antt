@@ -2,7 +2,8 @@
 use Rattle.std.proofs.Common.{◌≡◌, ◌≢◌, ℕ, ◌+◌, ◌-◌, ◌<◌, ◌≤◌, ◌↔◌, None, Some, List, [], ◌∷◌, ◌++◌, length, inl, inr, refl, sym}
 use Rattle.std.proofs.Common.{ap, subst, ◌∙◌, arith}
 use Rattle.std.proofs.lemmas.Bool.Decides.{eqb_tells, leb_tells}
-use Rattle.alog_core.specs.Queue.{Cell, Queue, Event, Claim, Write, Grab, Take, Full, Empty, PushBusy, PopBusy, Spent, start}
+use Rattle.alog_core.specs.Queue.{Cell, Queue, Event, Claim, Write, Grab, Take, Full, Front, Empty, Idle, PushBusy, PopBusy}
+use Rattle.alog_core.specs.Queue.{Spent, start}
 use Rattle.alog_core.specs.Queue.{cell_of, marked, without, IsListed, HasCell, IsRoom, Rises, IsSound, Allows, after}
 use Rattle.alog_core.specs.declared.mark.Mark.TheVariants.{Claimed, Written, Emptying}
 use Rattle.alog_core.proofs.Cells.{remarked, cell_of-append_listed, cell_of-append_other, cell_of-append_same}
@@ -169,7 +170,9 @@ sound_after n q a (Write t) some s may = sound_write n q a t may.0 a s may.1
 sound_after n q a (Grab t) some s may = sound_grab n q a t may.1.0 may.1.1 s may.0 may.1.2
 sound_after n q a (Take t x) some s may = sound_take n q a t x a s may
 sound_after n q a (Full t) some s may = s
+sound_after n q a (Front t) some s may = s
 sound_after n q a (Empty t) some s may = s
+sound_after n q a (Idle t) some s may = s
 sound_after n q a (PushBusy t) some s may = s
 sound_after n q a (PopBusy t) some s may = s
 sound_after n q a Spent some s may = s

@@ -3,7 +3,8 @@ use Rattle.std.proofs.Common.{◌≡◌, ◌≢◌, ℕ, ◌+◌, ◌-◌, ◌<�
 use Rattle.std.proofs.Common.{Some, List, [], ◌∷◌, inl, inr, refl, sym, ap, subst, ◌∙◌, arith}
 use Rattle.std.specs.Option.{is_none}
 use Rattle.std.proofs.lemmas.Bool.Decides.{nat_tests}
-use Rattle.alog_core.specs.Queue.{Cell, Queue, Event, Claim, Write, Grab, Take, Full, Empty, PushBusy, PopBusy, Spent, last}
+use Rattle.alog_core.specs.Queue.{Cell, Queue, Event, Claim, Write, Grab, Take, Full, Front, Empty, Idle, PushBusy, PopBusy}
+use Rattle.alog_core.specs.Queue.{Spent, last}
 use Rattle.alog_core.specs.Queue.{Allows, after, cell_of, HasCell, IsListed, IsBlocked, IsRoom, IsWritten, IsUnwritten, IsSound}
 use Rattle.alog_core.specs.Round.{Move, move_of, after_event, goes_on, makes, ends, taking, is_blocked, is_claimed}
 use Rattle.alog_core.specs.Staged.{IsStaged}
@@ -207,11 +208,11 @@ fine_pop_read {T} n q a p s le =
     on_either
     (IsFine n q a)
     (p == q.front && (is_none (cell_of p q.cells) || is_claimed (cell_of p q.cells)))
-    (ends (Empty p))
+    (makes (Front p) (round.PopFronted p))
     (cond (ltb p q.front && is_none (cell_of p q.cells)) (ends (PopBusy p)) (goes_on (round.PopReady p)))
     (λ h.
-    fine_ends n q a (Empty p)
-    (eq_from_test p q.front (and_first _ _ h), unwritten_at q p (and_second _ _ h)))
+    fine_makes n q a (Front p) (round.PopFronted p)
+    (eq_from_test p q.front (and_first _ _ h), unwritten_at q p (and_second _ _ h)) le)
     (λ h.
     on_either
     (IsFine n q a)
@@ -241,6 +242,18 @@ fine_pop_grabbed : {T : Type 0} (n : ℕ) (q : Queue T) (a p : ℕ) (x : T) → 
 fine_pop_grabbed {T} n q a p x c =
     subst (λ (o : Option (Cell T)). IsFine n q a (taking p o)) (sym c) (fine_ends n q a (Take p x) c)
 
+fine_pop_fronted : {T : Type 0} (n : ℕ) (q : Queue T) (a p : ℕ) → IsSound n q → p ≤ q.front
+    → IsFine n q a (move_of n q (round.PopFronted p))
+fine_pop_fronted n q a p s le =
+    on_either
+    (IsFine n q a)
+    (q.next == p)
+    (ends (Idle p))
+    (ends (Empty p))
+    (λ h.
+    let e = eq_from_test q.next p h in fine_ends n q a (Idle p) (sym e, omega (arith, e, le, s.ordered)))
+    (λ h. let other = other_from_test q.next p h in fine_ends n q a (Empty p) (omega (arith, other, le, s.ordered)))
+
 -- each step of a round is fine
 pub fine_move : {T : Type 0} (n : ℕ) (q : Queue T) (a : ℕ) (r : Round T) → IsSound n q → q.next ≤ last → IsStaged n q a r
     → IsFine n q a (move_of n q r)
@@ -253,3 +266,4 @@ fine_move n q a round.Pop s most st = fine_goes_on n q a (round.PopRead q.front)
 fine_move n q a (round.PopRead p) s most st = fine_pop_read n q a p s st
 fine_move n q a (round.PopReady p) s most st = fine_pop_ready n q a p st.0 st.1
 fine_move n q a (round.PopGrabbed p) s most st = fine_pop_grabbed n q a p st.0 st.1
+fine_move n q a (round.PopFronted p) s most st = fine_pop_fronted n q a p s st

@@ -5,7 +5,8 @@ use Rattle.std.specs.List.{range_with_len}
 use Rattle.std.proofs.lemmas.Bool.Decides.{leb_tells}
 use Rattle.std.proofs.lemmas.List.Elements.{All-nil, All-cons}
 use Rattle.std.proofs.lemmas.List.Kept.{AllPairs-cons}
-use Rattle.alog_core.specs.Queue.{Cell, Queue, Event, Claim, Write, Grab, Take, Full, Empty, PushBusy, PopBusy, Spent, start}
+use Rattle.alog_core.specs.Queue.{Cell, Queue, Event, Claim, Write, Grab, Take, Full, Front, Empty, Idle, PushBusy, PopBusy}
+use Rattle.alog_core.specs.Queue.{Spent, start}
 use Rattle.alog_core.specs.Queue.{cell_of, IsListed, Allows, after}
 use Rattle.alog_core.specs.History.{Entry, left_by, IsLegalFrom, IsLegal}
 use Rattle.alog_core.specs.Accounts.{put_by, claims, takes, weigh, listed, issued, handed_out}
@@ -30,7 +31,9 @@ issues_step n q a (Write t) ps high may i = i
 issues_step n q a (Grab t) ps high may i = i
 issues_step n q a (Take t x) ps high may i = i
 issues_step n q a (Full t) ps high may i = i
+issues_step n q a (Front t) ps high may i = i
 issues_step n q a (Empty t) ps high may i = i
+issues_step n q a (Idle t) ps high may i = i
 issues_step n q a (PushBusy t) ps high may i = i
 issues_step n q a (PopBusy t) ps high may i = i
 issues_step n q a Spent ps high may i = i
@@ -44,7 +47,7 @@ issues_from n q (x ∷ h) legal =
 
 pub tickets_are_issued_in_order : (T N : Type 0) → TicketsAreIssuedInOrder T N
 tickets_are_issued_in_order T N n f h legal =
-    let i = issues_from n (start f) h legal in
+    let i = issues_from n (start f) h legal.0 in
     let many : length (claims h) ≡ (left_by (start f) h).next - f = omega (arith, i.next) in
     (omega (arith, i.next), i.tickets ∙ ap (λ m. range_with_len f m) many)
 

@@ -170,6 +170,7 @@ impl<T: Drop> World<T> {
         ensures said { result ≡ told self.old actor }
         ensures stepped { self.new ≡ stepped self.old actor }
         ensures allowed { (e : Event T) → (next_move self.old actor).event ≡ Some e → Allows self.old.places self.old.queue actor e }
+        ensures history { GoesOn self.old (entries_of_step self.old actor) self.new }
         ensures cell { HasItsCell self.old actor }
     {
         let place = actor as usize;

@@ -5,7 +5,7 @@ use Rattle.std.proofs.lemmas.Bool.{cases_lt}
 use Rattle.std.proofs.lemmas.List.Elements.{Contains-append_left, Contains-append_right, Contains-append_cases}
 use Rattle.alog_core.specs.Accounts.{put_by, got_by, claims, takes, held, weigh, claimed, listed}
 use Rattle.alog_core.specs.History.{Entry, left_by, own_of, IsLegal, IsLegalFrom}
-use Rattle.alog_core.specs.Queue.{Cell, Queue, Event, Claim, Write, Grab, Take, Full, Empty, PushBusy, PopBusy, Spent, start, last}
+use Rattle.alog_core.specs.Queue.{Cell, Queue, Event, Claim, Write, Grab, Take, Full, Front, Empty, Idle, PushBusy, PopBusy, Spent, start, last}
 use Rattle.alog_core.specs.Queue.{cell_of, Allows, after, IsListed, IsSound}
 use Rattle.alog_core.specs.declared.mark.Mark.TheVariants.{Written}
 use Rattle.alog_core.proofs.Cells.{on_test}
@@ -40,7 +40,9 @@ put_above n q a (Write t) p may c = absurd (omega (arith, c.1))
 put_above n q a (Grab t) p may c = absurd (omega (arith, c.1))
 put_above n q a (Take t x) p may c = absurd (omega (arith, c.1))
 put_above n q a (Full t) p may c = absurd (omega (arith, c.1))
+put_above n q a (Front t) p may c = absurd (omega (arith, c.1))
 put_above n q a (Empty t) p may c = absurd (omega (arith, c.1))
+put_above n q a (Idle t) p may c = absurd (omega (arith, c.1))
 put_above n q a (PushBusy t) p may c = absurd (omega (arith, c.1))
 put_above n q a (PopBusy t) p may c = absurd (omega (arith, c.1))
 put_above n q a Spent p may c = absurd (omega (arith, c.1))
@@ -55,7 +57,9 @@ got_below n q a (Claim t x) p sound may c = absurd (omega (arith, c.1))
 got_below n q a (Write t) p sound may c = absurd (omega (arith, c.1))
 got_below n q a (Grab t) p sound may c = absurd (omega (arith, c.1))
 got_below n q a (Full t) p sound may c = absurd (omega (arith, c.1))
+got_below n q a (Front t) p sound may c = absurd (omega (arith, c.1))
 got_below n q a (Empty t) p sound may c = absurd (omega (arith, c.1))
+got_below n q a (Idle t) p sound may c = absurd (omega (arith, c.1))
 got_below n q a (PushBusy t) p sound may c = absurd (omega (arith, c.1))
 got_below n q a (PopBusy t) p sound may c = absurd (omega (arith, c.1))
 got_below n q a Spent p sound may c = absurd (omega (arith, c.1))
@@ -95,9 +99,9 @@ takes_below n q (x ∷ h) p some sound legal c =
 end_reached : (n : ℕ) (q : Queue Item) (h : List Deed) → IsLegalFrom n q h → SawEnd h → last ≤ (left_by q h).front
 end_reached n q [] legal saw = absurd saw
 end_reached n q (x ∷ h) legal (inl is) =
-    let may : Allows n q x.actor (Empty last) = subst (λ (e : Event Item). Allows n q x.actor e) is legal.0 in
+    let may : Allows n q x.actor (Idle last) = subst (λ (e : Event Item). Allows n q x.actor e) is legal.0 in
     let up = rises_left q (x ∷ h) in
-    let at = may.0 in
+    let at = may.1 in
     omega (arith, at, up.1)
 end_reached n q (x ∷ h) legal (inr saw) = end_reached n (after q x.actor x.event) h legal.1 saw
 
@@ -190,12 +194,12 @@ module _ (n f : ℕ) (before later : List Deed) (some : 1 ≤ n) (legal : IsLega
 
   stop_reached : (t : ℕ) → Contains (takes seen) (t, Stop) → Reached
   stop_reached t c =
-      let below = takes_below n (start f) seen (t, Stop) some (sound_start n f) legal c in
+      let below = takes_below n (start f) seen (t, Stop) some (sound_start n f) legal.0 c in
       let put = (tickets_keep_their_items Item no_note n f seen t Stop legal (inl c)).0 in
       elim (claimed_in (t, Stop) put) [
         | inl early ↦ absurd (omega (arith, none_weighs of_stops (claims before) (t, Stop) no_stop early))
         | inr late ↦
-            let from = claims_between n (left_by (start f) before) later (t, Stop) (legal_second n (start f) before later legal) late in
+            let from = claims_between n (left_by (start f) before) later (t, Stop) (legal_second n (start f) before later legal.0) late in
             inl (omega (arith, from.0, below))
       ]
 
@@ -207,7 +211,7 @@ module _ (n f : ℕ) (before later : List Deed) (some : 1 ≤ n) (legal : IsLega
       subst (λ (h : List Deed). Contains (takes h) (one.0, Stop)) is one.1 in
       stop_reached one.0 (own_takes a seen (one.0, Stop) mine)
   ended_reached own a is (inr saw) =
-      inr (end_reached n (start f) seen legal (own_saw a seen (subst SawEnd is saw.1)))
+      inr (end_reached n (start f) seen legal.0 (own_saw a seen (subst SawEnd is saw.1)))
 
   among_reached : (ms : List (Member Item no_note)) → AreExact ms seen → HasEndedAmong ms → Reached
   among_reached [] exact ended = absurd ended
@@ -221,13 +225,13 @@ module _ (n f : ℕ) (before later : List Deed) (some : 1 ≤ n) (legal : IsLega
       let cell = held_listed (left_by (start f) seen).cells p c in
       let mark = written p.0 cell.0 cell.1 in
       let sound = sound_by_history n f seen some legal in
-      let all = claims_between n (start f) seen p legal put in
+      let all = claims_between n (start f) seen p legal.0 put in
       elim (cases_lt p.0 (left_by (start f) seen).front) [
         | inl low ↦ let emptying = (sound.emptied p.0 cell.0 cell.1).1 low in absurd (cc)
         | inr high ↦
             elim (claimed_in p put) [
               | inl early ↦
-                  let here = claims_between n (start f) before p (legal_first n (start f) before later legal) early in
+                  let here = claims_between n (start f) before p (legal_first n (start f) before later legal.0) early in
                   elim reached [
                     | inl far ↦ absurd (omega (arith, high, far, here.1))
                     | inr out ↦ absurd (omega (arith, high, out, all.2))

@@ -1,6 +1,6 @@
 -- What a pass put in and took out, over several calls.
 use Rattle.std.proofs.Common.{◌≡◌, ℕ, List, [], ◌∷◌, ◌++◌, map, refl, sym, ap, subst, ◌∙◌, append_assoc, append-nil, inl, inr}
-use Rattle.alog_core.specs.Queue.{Event, PushBusy, PopBusy, Grab, Take, Claim, Write, Empty, last}
+use Rattle.alog_core.specs.Queue.{Event, PushBusy, PopBusy, Grab, Take, Claim, Write, Front, Empty, Idle, last}
 use Rattle.alog_core.specs.History.{Entry}
 use Rattle.alog_core.specs.Accounts.{put_by, got_by, grabbed_by, claims, takes, grabbed}
 use Rattle.alog_msg.specs.declared.item.Item.{Item}
@@ -8,7 +8,7 @@ use Rattle.std.specs.Prelude.{Option, None, Some, IsSome, IfSome}
 use Rattle.alog_pool.specs.Accounts.{Moved, SawEnd}
 use Rattle.alog_pool.specs.Working.{Finds}
 use Rattle.alog_registry.specs.Limit.{KeepsTo}
-use Rattle.alog_ring.specs.Calls.{by, Answered, Popped, Pushed}
+use Rattle.alog_ring.specs.Calls.{by, Answered, FoundUnwritten, Popped, Pushed}
 use Rattle.alog_ring.specs.Known.{Known}
 use Rattle.alog_ring.specs.Kinds.{no_note}
 use Rattle.alog_ring.specs.Made.{IsFaithful}
@@ -121,22 +121,35 @@ answer_moved old new e puts gots grabs answered = record {
   grabs_are = ap (λ (l : List ℕ). l ++ []) grabs;
 }
 
--- an answer at the end of a list of entries
-pub saw_last : (h : List (Entry Item no_note)) (x : Entry Item no_note) → x.event ≡ Empty last → SawEnd (h ++ x ∷ [])
-saw_last [] x is = inl is
-saw_last (y ∷ h) x is = inr (saw_last h x is)
+-- and what a pop answers that found the front unwritten
+unwritten_moved : (old new : Known Item no_note) (t : ℕ) (e : Event Item) → put_by e ≡ [] → got_by e ≡ [] → grabbed_by e ≡ []
+    → FoundUnwritten old new t e → Moved old new [] []
+unwritten_moved old new t e puts gots grabs found = record {
+  entries = by old (Front t) ∷ by old e ∷ [];
+  made = found.0;
+  puts_are = ap (λ (l : List (ℕ × Item)). l ++ []) puts;
+  gots_are = ap (λ (l : List (ℕ × Item)). l ++ []) gots;
+  grabs_are = ap (λ (l : List ℕ). l ++ []) grabs;
+}
+
+-- an answer behind other entries
+saw_behind : (h g : List (Entry Item no_note)) → SawEnd g → SawEnd (h ++ g)
+saw_behind [] g saw = saw
+saw_behind (y ∷ h) g saw = inr (saw_behind h g saw)
 
 -- a pop that was refused moves nothing
 pub refused_moved : (old new : Known Item no_note) (e : PopError) → PopRefusedAtLast old new e → Moved old new [] []
 refused_moved old new (pop.Empty n) refused =
-    busy_pops old refused.1.0 new [] refused.1.1 (answer_moved refused.1.0 new (Empty n) refl refl refl refused.1.2.1)
+    busy_pops old refused.1.0 new [] refused.1.1 (unwritten_moved refused.1.0 new n (Empty n) refl refl refl refused.1.2.1)
+refused_moved old new (pop.Idle n) refused =
+    busy_pops old refused.1.0 new [] refused.1.1 (unwritten_moved refused.1.0 new n (Idle n) refl refl refl refused.1.2.1)
 refused_moved old new (pop.Busy s) refused = absurd refused.0
 
-pub refused_last : (old new : Known Item no_note) (e : PopError) → e ≡ pop.Empty last → PopRefusedAtLast old new e → SawEnd new.own
+pub refused_last : (old new : Known Item no_note) (e : PopError) → e ≡ pop.Idle last → PopRefusedAtLast old new e → SawEnd new.own
 refused_last old new e is refused =
-    let end : PopRefusedAtLast old new (pop.Empty last) = subst (λ (z : PopError). PopRefusedAtLast old new z) is refused in
+    let end : PopRefusedAtLast old new (pop.Idle last) = subst (λ (z : PopError). PopRefusedAtLast old new z) is refused in
     let mid : Known Item no_note = end.1.0 in
-    subst SawEnd (sym end.1.2.1.0.own) (saw_last mid.own (by mid (Empty last)) refl)
+    subst SawEnd (sym end.1.2.1.0.own) (saw_behind mid.own (by mid (Front last) ∷ by mid (Idle last) ∷ []) (inr (inl refl)))
 
 -- what a pop took
 pub popped_last : (old new : Known Item no_note) (t : ℕ) (x : Item) → PoppedAtLast old new t x → Moved old new [] ((t, x) ∷ [])

@@ -3,7 +3,7 @@ use Rattle.std.proofs.Common.{◌≡◌, ◌⊎◌, ℕ, ◌+◌, List, [], ◌�
 use Rattle.std.proofs.lemmas.List.Sums.{sum_by-append}
 use Rattle.alog_core.specs.Accounts.{got_by, claims, takes, weigh, claimed, taken}
 use Rattle.alog_core.specs.History.{Entry}
-use Rattle.alog_core.specs.Queue.{Event, Claim, Write, Grab, Take, Full, Empty, PushBusy, PopBusy, Spent}
+use Rattle.alog_core.specs.Queue.{Event, Claim, Write, Grab, Take, Full, Front, Empty, Idle, PushBusy, PopBusy, Spent}
 use Rattle.alog_core.proofs.Accounts.{weigh-append}
 use Rattle.alog_lane.specs.Seats as lane
 use Rattle.alog_msg.specs.declared.item.Item.{Item}
@@ -11,7 +11,8 @@ use Rattle.alog_policy.specs.BookAdds.{Add, items_of, items_in}
 use Rattle.alog_policy.specs.BookCalls.{SeatView}
 use Rattle.alog_policy.specs.Port.{PassMade, SeatCounted, PortDid}
 use Rattle.alog_policy.specs.Post.{Round, PushBeaten, Overran, PopBeaten, Waited, events_of_round, events_of_rounds}
-use Rattle.alog_policy.specs.Post.{End, Wrote, OutOfTickets, NoRoom, NothingToTake, OutOfRounds, events_of_end, outcome_of}
+use Rattle.alog_policy.specs.Post.{End, Wrote, OutOfTickets, NoRoom, NothingToTake, AllGrabbed, OutOfRounds, events_of_end}
+use Rattle.alog_policy.specs.Post.{outcome_of}
 use Rattle.alog_policy.specs.Post.{IsPost, take_in, takes_in, overran_in}
 use Rattle.alog_policy.specs.Rounds.{entries_by}
 use Rattle.alog_policy.specs.declared.policy.Outcome.{Outcome}
@@ -31,7 +32,9 @@ one_take (Write t) = refl
 one_take (Grab t) = refl
 one_take (Take t x) = refl
 one_take (Full t) = refl
+one_take (Front t) = refl
 one_take (Empty t) = refl
+one_take (Idle t) = refl
 one_take (PushBusy t) = refl
 one_take (PopBusy t) = refl
 one_take Spent = refl
@@ -59,6 +62,7 @@ end_stops a x (Wrote t) none = omega (arith, none)
 end_stops a x OutOfTickets none = refl
 end_stops a x (NoRoom f) none = refl
 end_stops a x (NothingToTake f t) none = refl
+end_stops a x (AllGrabbed f t) none = refl
 end_stops a x OutOfRounds none = refl
 
 overran_is : {V : Type 0} (v : V) (k : ℕ) (e : End) → overran_in (outcome_of v k e) ≡ k
@@ -66,6 +70,7 @@ overran_is v k (Wrote t) = refl
 overran_is v k OutOfTickets = refl
 overran_is v k (NoRoom f) = refl
 overran_is v k (NothingToTake f t) = refl
+overran_is v k (AllGrabbed f t) = refl
 overran_is v k OutOfRounds = refl
 
 module _ {V : Type 0} (p : Policy) (x : Item) (v : V) (es : List (Event Item)) (o : Outcome V) (post : IsPost p x v es o) where

@@ -1,6 +1,6 @@
 -- What a pass put into the queue and took out of it, and how that is counted.
 use Rattle.std.specs.Prelude.{◌≡◌, ◌⊎◌, ℕ, ◌==◌, if◌then◌else◌, List, [], ◌∷◌, map}
-use Rattle.alog_core.specs.Queue.{Empty, last}
+use Rattle.alog_core.specs.Queue.{Idle, last}
 use Rattle.alog_core.specs.History.{Entry}
 use Rattle.alog_core.specs.Accounts.{claims, takes, grabbed}
 use Rattle.alog_msg.specs.declared.item.Item.{Item}
@@ -46,4 +46,4 @@ pub record Moved (old new : Known Item no_note) (puts gots : List (ℕ × Item))
 -- among these entries is an answer that no ticket is left
 abbrev pub SawEnd : List (Entry Item no_note) → Type 0
 SawEnd [] = ⊥
-SawEnd (x ∷ h) = (x.event ≡ Empty last) ⊎ SawEnd h
+SawEnd (x ∷ h) = (x.event ≡ Idle last) ⊎ SawEnd h

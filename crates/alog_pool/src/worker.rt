@@ -9,7 +9,7 @@ ghost use Rattle.alog_pool.specs.Working.{Finds, GoesOn, HasTurned, HasWorked, I
 ghost use Rattle.alog_registry.specs.Listed.{spec_at};
 ghost use Rattle.alog_ring.specs.Known.{IsPassOf};
 ghost use Rattle.alog_ring.specs.Made.{IsFaithful};
-ghost use Rattle.alog_ring.specs.declared.pop.PopError.TheVariants.{Empty};
+ghost use Rattle.alog_ring.specs.declared.pop.PopError.TheVariants.{Idle};
 
 use crate::gate::Gate;
 use crate::item_wait::ItemWait;
@@ -214,20 +214,20 @@ fn take_waiting<R: Wait + Clock>(
                 if is_end(error) {
                     return None;
                 }
+                pause.after(rt, error);
             }
         }
-        pause.wait(rt);
     }
     unreachable!()
 }
 
-/// Whether a pop found that no ticket is left.
+/// Whether a pop found that no ticket is left: at the last one it is idle, where a smaller one may still be claimed.
 fn is_end(error: PopError) -> bool
-    ensures { IsTrue result ↔ (error ≡ Empty last) }
+    ensures { IsTrue result ↔ (error ≡ Idle last) }
 {
     match error {
-        PopError::Empty { next } => next == TICKET_END,
-        PopError::Busy { seen: _ } => false,
+        PopError::Idle { next } => next == TICKET_END,
+        PopError::Empty { next: _ } | PopError::Busy { seen: _ } => false,
     }
 }
 

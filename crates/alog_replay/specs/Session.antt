@@ -64,7 +64,9 @@ work_after (said.Write t) = Free
 work_after (said.Full t m) = Free
 work_after (said.Grab t) = Works
 work_after (said.Take t m) = Owes t m
+work_after (said.Front t) = Works
 work_after (said.Empty t) = Free
+work_after (said.Idle t) = Free
 work_after (said.Busy t m) = Free
 work_after (said.Spent m) = Free
 

@@ -34,7 +34,9 @@ said_text shown a (said.Write t) = ticket_line a (codes "write") t
 said_text shown a (said.Full t x) = ticket_line a (codes "full") t
 said_text shown a (said.Grab t) = ticket_line a (codes "grab") t
 said_text shown a (said.Take t x) = take_line a t (shown x)
+said_text shown a (said.Front t) = []
 said_text shown a (said.Empty t) = ticket_line a (codes "empty") t
+said_text shown a (said.Idle t) = ticket_line a (codes "idle") t
 said_text shown a (said.Busy t x) = ticket_line a (codes "busy") t
 said_text shown a (said.Spent x) = line_of a (codes "spent")
 

@@ -63,18 +63,19 @@ fn why_name(why: Why) -> &'static str
     }
 }
 
-/// Prints the line of a step, or nothing for a step that is no event.
+/// Prints the line of a step, or nothing for a step that is no event, or after which the pop looks at the end.
 fn print_said<T: Shows>(out: &mut String, actor: u8, said: &Said<T>) -> Result<(), AllocError>
     ensures { OnOk result (string_bytes out.new ≡ string_bytes out.old ++ said_text T.shown actor said.now) }
 {
     match said {
-        Said::Nothing => Ok(()),
+        Said::Nothing | Said::Front(_) => Ok(()),
         Said::Claim(ticket) => writeln!(out, "{actor} claim {ticket}"),
         Said::Write(ticket) => writeln!(out, "{actor} write {ticket}"),
         Said::Full(ticket, _) => writeln!(out, "{actor} full {ticket}"),
         Said::Grab(ticket) => writeln!(out, "{actor} grab {ticket}"),
         Said::Take(ticket, item) => print_take(out, actor, *ticket, item),
         Said::Empty(ticket) => writeln!(out, "{actor} empty {ticket}"),
+        Said::Idle(ticket) => writeln!(out, "{actor} idle {ticket}"),
         Said::Busy(ticket, _) => writeln!(out, "{actor} busy {ticket}"),
         Said::Spent(_) => writeln!(out, "{actor} spent"),
     }

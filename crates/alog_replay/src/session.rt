@@ -228,7 +228,7 @@ fn owed(said: Said<Pushed>) -> Duty
 {
     match said {
         Said::Take(ticket, pushed) => Duty::Owes { ticket, pushed },
-        Said::Nothing | Said::Grab(_) => Duty::Works,
+        Said::Nothing | Said::Grab(_) | Said::Front(_) => Duty::Works,
         _ => Duty::Free,
     }
 }

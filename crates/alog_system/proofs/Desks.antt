@@ -4,7 +4,7 @@ use Rattle.std.proofs.Common.{zero, suc, refl, ap, ◌∙◌, inl, inr, get_or, 
 use Rattle.std.specs.Prelude.{◌==◌, ◌&&◌, ◌||◌, not, nat_lt, is_none, IsSome}
 use Rattle.std.specs.List.{All}
 use Rattle.std.proofs.lemmas.List.Elements.{All-nil, All-cons, All-head, All-tail, All-push, All-set, All-replicate}
-use Rattle.alog_core.specs.Queue.{Cell, Queue, Event, Claim, Write, Grab, Take, Full, Empty, PushBusy, PopBusy, Spent, last, cell_of, marked, without}
+use Rattle.alog_core.specs.Queue.{Cell, Queue, Event, Claim, Write, Grab, Take, Full, Front, Empty, Idle, PushBusy, PopBusy, Spent, last, cell_of, marked, without}
 use Rattle.alog_core.specs.Round.{Move, move_of, after_event, goes_on, makes, ends, taking, is_blocked, is_claimed}
 use Rattle.alog_core.specs.World.{Machine, round_of, is_idle, began, brought, next_move, stepped, said_of, told}
 use Rattle.alog_core.specs.declared.TheConstants.{ACTORS}
@@ -54,7 +54,9 @@ module _ {T : Type 0} (P : T → Type 0) where
   EventHas (Some (Grab t)) = Unit {0}
   EventHas (Some (Take t x)) = P x
   EventHas (Some (Full t)) = Unit {0}
+  EventHas (Some (Front t)) = Unit {0}
   EventHas (Some (Empty t)) = Unit {0}
+  EventHas (Some (Idle t)) = Unit {0}
   EventHas (Some (PushBusy t)) = Unit {0}
   EventHas (Some (PopBusy t)) = Unit {0}
   EventHas (Some Spent) = Unit {0}
@@ -80,11 +82,12 @@ module _ {T : Type 0} (P : T → Type 0) where
   move_has n q (round.PopRead p) cells h =
       let unwritten : Bool = p == q.front && (is_none (cell_of p q.cells) || is_claimed (cell_of p q.cells)) in
       let late : Bool = nat_lt p q.front && is_none (cell_of p q.cells) in
-      either MoveHas unwritten (ends (Empty p)) (cond late (ends (PopBusy p)) (goes_on (round.PopReady p))) (tt, tt)
+      either MoveHas unwritten (makes (Front p) (round.PopFronted p)) (cond late (ends (PopBusy p)) (goes_on (round.PopReady p))) (tt, tt)
       (either MoveHas late (ends (PopBusy p)) (goes_on (round.PopReady p)) (tt, tt) (tt, tt))
   move_has n q (round.PopReady p) cells h =
       either MoveHas (q.front == p) (makes (Grab p) (round.PopGrabbed p)) (ends (PopBusy p)) (tt, tt) (tt, tt)
   move_has n q (round.PopGrabbed p) cells h = taking_has p (cell_of p q.cells) (cell_has p q.cells cells)
+  move_has n q (round.PopFronted p) cells h = either MoveHas (q.next == p) (ends (Idle p)) (ends (Empty p)) (tt, tt) (tt, tt)
 
   after_has : (q : Queue T) (a : ℕ) (e : Option (Event T)) → All (λ c. P c.item) q.cells → EventHas e
       → All (λ c. P c.item) (after_event q a e).cells
@@ -94,7 +97,9 @@ module _ {T : Type 0} (P : T → Type 0) where
   after_has q a (Some (Grab t)) cells h = marked_has t _ a q.cells cells
   after_has q a (Some (Take t x)) cells h = without_has t q.cells cells
   after_has q a (Some (Full t)) cells h = cells
+  after_has q a (Some (Front t)) cells h = cells
   after_has q a (Some (Empty t)) cells h = cells
+  after_has q a (Some (Idle t)) cells h = cells
   after_has q a (Some (PushBusy t)) cells h = cells
   after_has q a (Some (PopBusy t)) cells h = cells
   after_has q a (Some Spent) cells h = cells
@@ -106,7 +111,9 @@ module _ {T : Type 0} (P : T → Type 0) where
   said_has x (Some (Full t)) h k = h
   said_has x (Some (Grab t)) h k = tt
   said_has x (Some (Take t y)) h k = k
+  said_has x (Some (Front t)) h k = tt
   said_has x (Some (Empty t)) h k = tt
+  said_has x (Some (Idle t)) h k = tt
   said_has x (Some (PushBusy t)) h k = h
   said_has x (Some (PopBusy t)) h k = h
   said_has x (Some Spent) h k = h
@@ -148,7 +155,9 @@ module _ {T : Type 0} (P : T → Type 0) where
   value_has v (said.Full t x) h k = or_has x v k h
   value_has v (said.Grab t) h k = h
   value_has v (said.Take t y) h k = h
+  value_has v (said.Front t) h k = h
   value_has v (said.Empty t) h k = h
+  value_has v (said.Idle t) h k = h
   value_has v (said.Busy t x) h k = or_has x v k h
   value_has v (said.Spent x) h k = or_has x v k h
 
@@ -159,7 +168,9 @@ module _ {T : Type 0} (P : T → Type 0) where
   in_post_has (said.Full t x) h = tt
   in_post_has (said.Grab t) h = tt
   in_post_has (said.Take t y) h = h
+  in_post_has (said.Front t) h = tt
   in_post_has (said.Empty t) h = tt
+  in_post_has (said.Idle t) h = tt
   in_post_has (said.Busy t x) h = tt
   in_post_has (said.Spent x) h = tt
 
@@ -231,7 +242,9 @@ module _ {T : Type 0} where
   IsStaying (Some (Grab t)) = Unit {0}
   IsStaying (Some (Take t x)) = ⊥
   IsStaying (Some (Full t)) = ⊥
+  IsStaying (Some (Front t)) = Unit {0}
   IsStaying (Some (Empty t)) = ⊥
+  IsStaying (Some (Idle t)) = ⊥
   IsStaying (Some (PushBusy t)) = ⊥
   IsStaying (Some (PopBusy t)) = ⊥
   IsStaying (Some Spent) = ⊥
@@ -258,11 +271,12 @@ module _ {T : Type 0} where
   move_ends n q (round.PopRead p) =
       let unwritten : Bool = p == q.front && (is_none (cell_of p q.cells) || is_claimed (cell_of p q.cells)) in
       let late : Bool = nat_lt p q.front && is_none (cell_of p q.cells) in
-      either EndsOr unwritten (ends (Empty p)) (cond late (ends (PopBusy p)) (goes_on (round.PopReady p))) (inr refl)
+      either EndsOr unwritten (makes (Front p) (round.PopFronted p)) (cond late (ends (PopBusy p)) (goes_on (round.PopReady p))) (inl tt)
       (either EndsOr late (ends (PopBusy p)) (goes_on (round.PopReady p)) (inr refl) (inl tt))
   move_ends n q (round.PopReady p) =
       either EndsOr (q.front == p) (makes (Grab p) (round.PopGrabbed p)) (ends (PopBusy p)) (inl tt) (inr refl)
   move_ends n q (round.PopGrabbed p) = taking_ends p (cell_of p q.cells)
+  move_ends n q (round.PopFronted p) = either EndsOr (q.next == p) (ends (Idle p)) (ends (Empty p)) (inr refl) (inr refl)
 
   -- a post does not end with one of those
   stays_on : (m : Machine T) (a : ℕ) (p : Post T) (c : Counts) (x : Option T) (e : Option (Event T)) → IsStaying e
@@ -273,7 +287,9 @@ module _ {T : Type 0} where
   stays_on m a p c x (Some (Grab t)) h k = nothing k
   stays_on m a p c x (Some (Take t y)) h k = h
   stays_on m a p c x (Some (Full t)) h k = h
+  stays_on m a p c x (Some (Front t)) h k = nothing k
   stays_on m a p c x (Some (Empty t)) h k = h
+  stays_on m a p c x (Some (Idle t)) h k = h
   stays_on m a p c x (Some (PushBusy t)) h k = h
   stays_on m a p c x (Some (PopBusy t)) h k = h
   stays_on m a p c x (Some Spent) h k = h

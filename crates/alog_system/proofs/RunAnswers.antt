@@ -2,7 +2,7 @@
 use Rattle.std.proofs.Common.{◌≡◌, ◌⊎◌, ℕ, ◌<◌, zero, suc, Bool, true, false, Option, None, Some, Result, Ok, Err, List, [], ◌∷◌, ◌++◌, length, map, refl, sym, ap, subst, ◌∙◌, inl, inr}
 use Rattle.std.proofs.Common.{append-nil}
 use Rattle.std.specs.Prelude.{slice_get, slice_set}
-use Rattle.alog_core.specs.Queue.{Event, Claim, Write, Grab, Take, Full, Empty, PushBusy, PopBusy, Spent}
+use Rattle.alog_core.specs.Queue.{Event, Claim, Write, Grab, Take, Full, Front, Empty, Idle, PushBusy, PopBusy, Spent}
 use Rattle.alog_core.specs.World.{is_size, is_idle, next_move, said_of, brought, round_of}
 use Rattle.alog_core.specs.declared.TheConstants.{ACTORS}
 use Rattle.alog_core.specs.declared.said.Said.{Said}
@@ -57,7 +57,9 @@ says_of x (Some (Write t)) = refl
 says_of x (Some (Grab t)) = refl
 says_of x (Some (Take t y)) = refl
 says_of x (Some (Full t)) = refl
+says_of x (Some (Front t)) = refl
 says_of x (Some (Empty t)) = refl
+says_of x (Some (Idle t)) = refl
 says_of x (Some (PushBusy t)) = inl refl
 says_of x (Some (PopBusy t)) = inr refl
 says_of x (Some Spent) = refl
@@ -69,7 +71,9 @@ in_post (said.Write t) e h = h
 in_post (said.Full t x) e h = h
 in_post (said.Grab t) e h = h
 in_post (said.Take t x) e h = h
+in_post (said.Front t) e h = h
 in_post (said.Empty t) e h = h
+in_post (said.Idle t) e h = h
 in_post (said.Busy t x) e h = h
 in_post (said.Spent x) e h = h
 
@@ -81,7 +85,9 @@ post_overruns p (Some (Write t)) = tt
 post_overruns p (Some (Grab t)) = tt
 post_overruns p (Some (Take t y)) = refl
 post_overruns p (Some (Full t)) = tt
+post_overruns p (Some (Front t)) = tt
 post_overruns p (Some (Empty t)) = tt
+post_overruns p (Some (Idle t)) = tt
 post_overruns p (Some (PushBusy t)) = tt
 post_overruns p (Some (PopBusy t)) = tt
 post_overruns p (Some Spent) = tt
@@ -101,7 +107,9 @@ module _ {S : Type 0} (ls : List Logger) (first : List (Sink S)) (before : List 
   work_tells s x (Some (Grab t)) is says ends none = round_tells s (Some (Grab t)) is says ends tt
   work_tells s x (Some (Take t y)) is says ends none = (y, is, none)
   work_tells s x (Some (Full t)) is says ends none = round_tells s (Some (Full t)) is says ends tt
+  work_tells s x (Some (Front t)) is says ends none = round_tells s (Some (Front t)) is says ends tt
   work_tells s x (Some (Empty t)) is says ends none = round_tells s (Some (Empty t)) is says ends tt
+  work_tells s x (Some (Idle t)) is says ends none = round_tells s (Some (Idle t)) is says ends tt
   work_tells s x (Some (PushBusy t)) is says ends none = round_tells s (Some (PushBusy t)) is says ends tt
   work_tells s x (Some (PopBusy t)) is says ends none = round_tells s (Some (PopBusy t)) is says ends tt
   work_tells s x (Some Spent) is says ends none = round_tells s (Some Spent) is says ends tt

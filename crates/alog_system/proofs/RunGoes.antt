@@ -3,7 +3,7 @@ use Rattle.std.proofs.Common.{◌≡◌, ◌≢◌, ◌⊎◌, inl, inr, ℕ, �
 use Rattle.std.proofs.Common.{append-nil, get_or-set_same}
 use Rattle.std.proofs.lemmas.List.{length-append}
 use Rattle.std.specs.Prelude.{◌&&◌, ◌||◌, nat_lt, is_none, IsSome}
-use Rattle.alog_core.specs.Queue.{Queue, Event, Claim, Write, Grab, Take, Full, Empty, PushBusy, PopBusy, Spent, cell_of}
+use Rattle.alog_core.specs.Queue.{Queue, Event, Claim, Write, Grab, Take, Full, Front, Empty, Idle, PushBusy, PopBusy, Spent, cell_of}
 use Rattle.alog_core.specs.Queue.{Cell}
 use Rattle.alog_core.specs.Round.{Move, move_of, goes_on, makes, ends, taking, is_claimed}
 use Rattle.alog_core.specs.World.{is_size, is_idle, round_of, next_move, brought, said_of, told}
@@ -71,6 +71,7 @@ IsInPop round.Pop = Unit {0}
 IsInPop (round.PopRead t) = Unit {0}
 IsInPop (round.PopReady t) = Unit {0}
 IsInPop (round.PopGrabbed t) = Unit {0}
+IsInPop (round.PopFronted t) = Unit {0}
 
 -- an actor in no post has no post left, and where it is in a round it pops for its work
 pub record Rests (r : Round Item) (d : Duty) : Type 0 where
@@ -105,7 +106,9 @@ IsQuiet (Some (Write t)) = ⊥
 IsQuiet (Some (Grab t)) = Unit {0}
 IsQuiet (Some (Take t x)) = ⊥
 IsQuiet (Some (Full t)) = ⊥
+IsQuiet (Some (Front t)) = Unit {0}
 IsQuiet (Some (Empty t)) = ⊥
+IsQuiet (Some (Idle t)) = ⊥
 IsQuiet (Some (PushBusy t)) = ⊥
 IsQuiet (Some (PopBusy t)) = ⊥
 IsQuiet (Some Spent) = ⊥
@@ -127,11 +130,12 @@ pop_goes n q round.Pop h = inr (tt, tt)
 pop_goes n q (round.PopRead t) h =
     let unwritten : Bool = t == q.front && (is_none (cell_of t q.cells) || is_claimed (cell_of t q.cells)) in
     let late : Bool = nat_lt t q.front && is_none (cell_of t q.cells) in
-    either PopGoes unwritten (ends (Empty t)) (cond late (ends (PopBusy t)) (goes_on (round.PopReady t))) (inl refl)
+    either PopGoes unwritten (makes (Front t) (round.PopFronted t)) (cond late (ends (PopBusy t)) (goes_on (round.PopReady t))) (inr (tt, tt))
     (either PopGoes late (ends (PopBusy t)) (goes_on (round.PopReady t)) (inl refl) (inr (tt, tt)))
 pop_goes n q (round.PopReady t) h =
     either PopGoes (q.front == t) (makes (Grab t) (round.PopGrabbed t)) (ends (PopBusy t)) (inr (tt, tt)) (inl refl)
 pop_goes n q (round.PopGrabbed t) h = pop_takes t (cell_of t q.cells)
+pop_goes n q (round.PopFronted t) h = either PopGoes (q.next == t) (ends (Idle t)) (ends (Empty t)) (inl refl) (inl refl)
 
 works_on : (x : Option Item) (e : Option (Event Item)) → IsQuiet e → work_after (said_of x e) ≡ Works
 works_on x None h = refl
@@ -140,7 +144,9 @@ works_on x (Some (Write t)) h = absurd h
 works_on x (Some (Grab t)) h = refl
 works_on x (Some (Take t y)) h = absurd h
 works_on x (Some (Full t)) h = absurd h
+works_on x (Some (Front t)) h = refl
 works_on x (Some (Empty t)) h = absurd h
+works_on x (Some (Idle t)) h = absurd h
 works_on x (Some (PushBusy t)) h = absurd h
 works_on x (Some (PopBusy t)) h = absurd h
 works_on x (Some Spent) h = absurd h
@@ -153,7 +159,9 @@ work_calls (said.Write t) = refl
 work_calls (said.Full t y) = refl
 work_calls (said.Grab t) = refl
 work_calls (said.Take t i) = refl
+work_calls (said.Front t) = refl
 work_calls (said.Empty t) = refl
+work_calls (said.Idle t) = refl
 work_calls (said.Busy t y) = refl
 work_calls (said.Spent y) = refl
 
@@ -164,7 +172,9 @@ work_turns ls x (Some (Write t)) = refl
 work_turns ls x (Some (Grab t)) = refl
 work_turns ls x (Some (Take t y)) = refl
 work_turns ls x (Some (Full t)) = refl
+work_turns ls x (Some (Front t)) = refl
 work_turns ls x (Some (Empty t)) = refl
+work_turns ls x (Some (Idle t)) = refl
 work_turns ls x (Some (PushBusy t)) = refl
 work_turns ls x (Some (PopBusy t)) = refl
 work_turns ls x (Some Spent) = refl
@@ -177,7 +187,9 @@ post_turns ls p (Some (Write t)) = refl
 post_turns ls p (Some (Grab t)) = refl
 post_turns ls p (Some (Take t y)) = refl
 post_turns ls p (Some (Full t)) = refl
+post_turns ls p (Some (Front t)) = refl
 post_turns ls p (Some (Empty t)) = refl
+post_turns ls p (Some (Idle t)) = refl
 post_turns ls p (Some (PushBusy t)) = refl
 post_turns ls p (Some (PopBusy t)) = refl
 post_turns ls p (Some Spent) = refl

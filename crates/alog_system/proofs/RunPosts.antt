@@ -73,6 +73,7 @@ module _ {T : Type 0} where
   begun_posts (round.PopRead t) cs es h = ap posts_in h.0
   begun_posts (round.PopReady t) cs es h = ap posts_in h.0
   begun_posts (round.PopGrabbed t) cs es h = ap posts_in h.0
+  begun_posts (round.PopFronted t) cs es h = ap posts_in h.0
 
   -- an actor has as many outcomes as posts, but for the one that it is in
   abbrev pub Ahead : Option (Post T) → ℕ → ℕ → Type 0

@@ -238,7 +238,9 @@ module _ {S : Type 0} (tells : Bool) (files : S → Files) (failures : S → ℕ
   work_fine k s (said.Full t y) f = f
   work_fine k s (said.Grab t) f = f
   work_fine k s (said.Take t i) f = f
+  work_fine k s (said.Front t) f = f
   work_fine k s (said.Empty t) f = f
+  work_fine k s (said.Idle t) f = f
   work_fine k s (said.Busy t y) f = f
   work_fine k s (said.Spent y) f = f
 

@@ -1,7 +1,7 @@
 -- What the deeds of a run ask of its actors: the calls of the queue, and the turns beside it. Nothing here is of how a system is made.
 use Rattle.std.specs.Prelude.{ℕ, ℤ, ◌+◌, ◌==◌, if◌then◌else◌, Option, None, Some, List, [], ◌∷◌, map}
 use Rattle.std.specs.List.{flat_map}
-use Rattle.alog_core.specs.Queue.{Event, Claim, Write, Grab, Take, Full, Empty, PushBusy, PopBusy, Spent}
+use Rattle.alog_core.specs.Queue.{Event, Claim, Write, Grab, Take, Full, Front, Empty, Idle, PushBusy, PopBusy, Spent}
 use Rattle.alog_msg.specs.declared.item.Item.{Item}
 use Rattle.alog_msg.specs.declared.item.Item.TheVariants.{Text, Flush}
 use Rattle.alog_msg.specs.declared.level.Level.{Level}
@@ -74,7 +74,9 @@ module _ (loggers : List Logger) where
   turns_by_event (Some (Grab t)) = []
   turns_by_event (Some (Take t i)) = on_sinks i (turns_by (spec_at loggers (logger_of i)) t i)
   turns_by_event (Some (Full t)) = []
+  turns_by_event (Some (Front t)) = []
   turns_by_event (Some (Empty t)) = []
+  turns_by_event (Some (Idle t)) = []
   turns_by_event (Some (PushBusy t)) = []
   turns_by_event (Some (PopBusy t)) = []
   turns_by_event (Some Spent) = []

@@ -1,7 +1,7 @@
 -- A whole run of a system: its calls one after another, as each one's contract tells what it did, and what is true after them.
 use Rattle.std.specs.Prelude.{◌≡◌, ◌≢◌, ◌⊎◌, ◌↔◌, ℕ, ◌<◌, ◌≤◌, Bool, true, false, if◌then◌else◌, Option, None, Some, List, [], ◌∷◌, ◌++◌, length, slice_get}
 use Rattle.std.specs.List.{AllPairs, Contains}
-use Rattle.alog_core.specs.Queue.{Event, Claim, Write, Grab, Take, Full, Empty, PushBusy, PopBusy, Spent, IsListed}
+use Rattle.alog_core.specs.Queue.{Event, Claim, Write, Grab, Take, Full, Front, Empty, Idle, PushBusy, PopBusy, Spent, IsListed}
 use Rattle.alog_core.specs.Accounts.{claims, takes, issued, handed_out}
 use Rattle.alog_core.specs.Run.{Says}
 use Rattle.alog_core.specs.World.{is_size, is_idle, round_of}
@@ -92,7 +92,9 @@ IsOverrun (Some (Write t)) overran = Unit {0}
 IsOverrun (Some (Grab t)) overran = Unit {0}
 IsOverrun (Some (Take t i)) overran = overran ≡ 1
 IsOverrun (Some (Full t)) overran = Unit {0}
+IsOverrun (Some (Front t)) overran = Unit {0}
 IsOverrun (Some (Empty t)) overran = Unit {0}
+IsOverrun (Some (Idle t)) overran = Unit {0}
 IsOverrun (Some (PushBusy t)) overran = Unit {0}
 IsOverrun (Some (PopBusy t)) overran = Unit {0}
 IsOverrun (Some Spent) overran = Unit {0}

@@ -39,7 +39,9 @@ work_after (said.Write t) = Free
 work_after (said.Full t i) = Free
 work_after (said.Grab t) = Works
 work_after (said.Take t i) = Serves t i 0
+work_after (said.Front t) = Works
 work_after (said.Empty t) = Free
+work_after (said.Idle t) = Free
 work_after (said.Busy t i) = Free
 work_after (said.Spent i) = Free
 
@@ -51,7 +53,9 @@ told_of_work s (said.Write t) = Round s
 told_of_work s (said.Full t i) = Round s
 told_of_work s (said.Grab t) = Round s
 told_of_work s (said.Take t i) = Took t
+told_of_work s (said.Front t) = Round s
 told_of_work s (said.Empty t) = Round s
+told_of_work s (said.Idle t) = Round s
 told_of_work s (said.Busy t i) = Round s
 told_of_work s (said.Spent i) = Round s
 

@@ -41,7 +41,9 @@ SaidHasOnly P (said.Write t) = Unit {0}
 SaidHasOnly P (said.Full t x) = HasOnly P x
 SaidHasOnly P (said.Grab t) = Unit {0}
 SaidHasOnly P (said.Take t x) = P x
+SaidHasOnly P (said.Front t) = Unit {0}
 SaidHasOnly P (said.Empty t) = Unit {0}
+SaidHasOnly P (said.Idle t) = Unit {0}
 SaidHasOnly P (said.Busy t x) = HasOnly P x
 SaidHasOnly P (said.Spent x) = HasOnly P x
 

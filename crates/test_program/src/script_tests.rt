@@ -44,10 +44,16 @@ fn memory_file(rt: HostRuntime) {
     }
 }
 
-/// Queues that are empty, full, busy or spent, and what is printed.
-const QUEUES: [(&str, &str); 6] = [
-    // An empty queue.
-    ("ring 2 0\npop 2\nstep 2 2", "2 empty 0\n"),
+/// Queues that are idle, empty, full, busy or spent, and what is printed.
+const QUEUES: [(&str, &str); 8] = [
+    // An idle queue: the pop's third step says so.
+    ("ring 2 0\npop 2\nstep 2 2", ""),
+    ("ring 2 0\npop 2\nstep 2 3", "2 idle 0\n"),
+    // An empty one: a push came in before that step.
+    (
+        "ring 2 0\npop 2\nstep 2 2\npush 1 a\nrun 1\nstep 2",
+        "1 claim 0\n1 write 0\n2 empty 0\n",
+    ),
     // A claimed cell in front.
     (
         "ring 4 0\npush 1 a\nstep 1 3\npush 2 b\nrun 2\npop 3\nrun 3\ncells",
@@ -63,7 +69,7 @@ const QUEUES: [(&str, &str); 6] = [
     (
         "ring 2 4611686018427387903\npush 1 a\nrun 1\npush 2 b\nstep 2\npop 3\nrun 3\npop 3\nrun 3",
         "1 claim 4611686018427387903\n1 write 4611686018427387903\n2 spent\n3 grab 4611686018427387903\n\
-         3 take 4611686018427387903 a\n3 empty 4611686018427387904\n",
+         3 take 4611686018427387903 a\n3 idle 4611686018427387904\n",
     ),
     // Pushes that find their place taken.
     (
@@ -83,8 +89,8 @@ fn empty_and_full_queues(rt: HostRuntime) {
     }
 }
 
-/// Posts on a full queue, on one whose first cell is claimed, and where no ticket is left, and what is printed.
-const POSTS: [(&str, &str); 4] = [
+/// Posts on a full queue, on one whose first cell is claimed, on one whose cells are grabbed, and where no ticket is left, and what is printed.
+const POSTS: [(&str, &str); 5] = [
     // The oldest is overrun.
     (
         "ring 2 0\npush 1 a\nrun 1\npush 2 b\nrun 2\n\
@@ -100,6 +106,13 @@ const POSTS: [(&str, &str); 4] = [
          post 3 overrun_oldest c\nrun 3\ncounts",
         "1 claim 0\n2 claim 1\n2 write 1\n\
          3 full 2\n3 empty 0\n3 discarded stalled overran 0\noverrun 0 discarded 1\n",
+    ),
+    // The post is stalled where others have grabbed all.
+    (
+        "ring 2 0\npush 1 a\nrun 1\npush 2 b\nrun 2\npop 3\nstep 3 3\npop 4\nstep 4 3\n\
+         post 5 overrun_oldest c\nrun 5\ncounts",
+        "1 claim 0\n1 write 0\n2 claim 1\n2 write 1\n3 grab 0\n4 grab 1\n\
+         5 full 2\n5 idle 2\n5 discarded stalled overran 0\noverrun 0 discarded 1\n",
     ),
     // The new is discarded.
     (

@@ -135,8 +135,27 @@ fn stalls_behind_a_claim(rt: HostRuntime) {
     let mut desk = stalled(&rt, rt.alloc());
     begins(&rt, &mut desk, 3, Policy::OverrunOldest, 'c');
     says(&rt, &mut desk, 3, Said::Full(7, None));
+    says(&rt, &mut desk, 3, Said::Front(5));
     let stalled = discarded('c', Why::Stalled);
     ends(&rt, &mut desk, 3, Said::Empty(5), stalled);
+    has_lost(&rt, &desk, 0, 1);
+}
+
+// Both places are being emptied: a post that overruns finds no ticket there to take.
+#[test]
+fn stalls_at_idle(rt: HostRuntime) {
+    let mut desk = new_desk(&rt, rt.alloc(), 2, 0);
+    push(&rt, &mut desk, 1, 'a', 0);
+    push(&rt, &mut desk, 2, 'b', 1);
+    begins_pop(&rt, &mut desk, 3);
+    says(&rt, &mut desk, 3, Said::Grab(0));
+    begins_pop(&rt, &mut desk, 4);
+    says(&rt, &mut desk, 4, Said::Grab(1));
+    begins(&rt, &mut desk, 5, Policy::OverrunOldest, 'c');
+    says(&rt, &mut desk, 5, Said::Full(2, None));
+    says(&rt, &mut desk, 5, Said::Front(2));
+    let stalled = discarded('c', Why::Stalled);
+    ends(&rt, &mut desk, 5, Said::Idle(2), stalled);
     has_lost(&rt, &desk, 0, 1);
 }
 

@@ -155,6 +155,8 @@ fn advance<T: Drop>(
             Some(item) => (Said::Take(ticket, item), Round::Idle),
             None => (Said::Nothing, Round::Idle),
         },
+        Round::PopFronted { ticket } if ticket == table.next => (Said::Idle(ticket), Round::Idle),
+        Round::PopFronted { ticket } => (Said::Empty(ticket), Round::Idle),
     })
 }
 
@@ -206,7 +208,7 @@ fn load_sequence_to_pop<T>(table: &Table<T>, ticket: u64) -> (Said<T>, Round<T>)
     let mark = mark_of(&table.cells, ticket);
     let unwritten = mark.is_none() || mark == Some(Mark::Claimed);
     if ticket == table.front && unwritten {
-        (Said::Empty(ticket), Round::Idle)
+        (Said::Front(ticket), Round::PopFronted { ticket })
     } else if ticket < table.front && mark.is_none() {
         (Said::Busy(ticket, None), Round::Idle)
     } else {

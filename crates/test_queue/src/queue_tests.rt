@@ -152,12 +152,26 @@ fn is_idle(rt: &impl Abort, world: &World<u64>) {
 }
 
 #[test]
-fn empty_queue(rt: HostRuntime) {
+fn idle_queue(rt: HostRuntime) {
     let mut world = world(&rt, rt.alloc(), 2, 0);
-    pop_says(&rt, &mut world, 2, &[Said::Nothing, Said::Empty(0)]);
+    pop_says(&rt, &mut world, 2, &FRONT_0);
+    says(&rt, &mut world, 2, &[Said::Idle(0)]);
     is_idle(&rt, &world);
     has_cells(&rt, rt.alloc(), &world, &[]);
 }
+
+// A push that comes between a pop's look at the front and its look at the end.
+#[test]
+fn empty_though_a_push_came(rt: HostRuntime) {
+    let mut world = world(&rt, rt.alloc(), 2, 0);
+    pop_says(&rt, &mut world, 2, &FRONT_0);
+    pushes(&rt, &mut world, 1, 10, 0);
+    says(&rt, &mut world, 2, &[Said::Empty(0)]);
+    is_idle(&rt, &world);
+    pops(&rt, &mut world, 2, 0, 10);
+}
+
+const FRONT_0: [Said<u64>; 2] = [Said::Nothing, Said::Front(0)];
 
 const CLAIM_0: [Said<u64>; 3] = [Said::Nothing, Said::Nothing, Said::Claim(0)];
 
@@ -168,7 +182,8 @@ fn claimed_cell_in_front(rt: HostRuntime) {
     let mut world = world(&rt, rt.alloc(), 4, 0);
     push_says(&rt, &mut world, 1, 10, &CLAIM_0);
     pushes(&rt, &mut world, 2, 20, 1);
-    pop_says(&rt, &mut world, 3, &[Said::Nothing, Said::Empty(0)]);
+    pop_says(&rt, &mut world, 3, &FRONT_0);
+    says(&rt, &mut world, 3, &[Said::Empty(0)]);
     let cells = [(0, Mark::Claimed), (1, Mark::Written)];
     has_cells(&rt, rt.alloc(), &world, &cells);
 }
@@ -224,7 +239,8 @@ fn last_ticket(rt: HostRuntime) {
     pushes(&rt, &mut world, 1, 10, LAST);
     push_says(&rt, &mut world, 2, 20, &[Said::Spent(Some(20))]);
     pops(&rt, &mut world, 3, LAST, 10);
-    pop_says(&rt, &mut world, 3, &[Said::Nothing, Said::Empty(LAST + 1)]);
+    let last = [Said::Nothing, Said::Front(LAST + 1), Said::Idle(LAST + 1)];
+    pop_says(&rt, &mut world, 3, &last);
 }
 
 // No push, no pop and no step of this actor is made, for these reasons.

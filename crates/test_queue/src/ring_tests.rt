@@ -143,7 +143,7 @@ fn pop_at_last(rt: &(impl Abort + Wait), ring: &Ring<u64>, pass: &mut Pass<u64>,
     ensures { IsPassOf ring.now pass.new }
 {
     assert!(rt; ring.pop(rt, pass) == Ok((last, 1)));
-    assert!(rt; ring.pop(rt, pass) == Err(PopError::Empty { next: 1 << 62 }));
+    assert!(rt; ring.pop(rt, pass) == Err(PopError::Idle { next: 1 << 62 }));
 }
 
 #[test]
@@ -266,7 +266,7 @@ fn fills_at_last(rt: &(impl Abort + Wait), ring: &Ring<u64>, pass: &mut Pass<u64
     let some = ring.pop_into(rt, pass, &mut second);
     let none = ring.pop_into(rt, pass, &mut third);
     assert!(rt; some == Ok(6) && second == Some(8));
-    assert!(rt; none == Err(PopError::Empty { next: 7 }) && third.is_none());
+    assert!(rt; none == Err(PopError::Idle { next: 7 }) && third.is_none());
 }
 
 #[test]

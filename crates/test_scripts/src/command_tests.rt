@@ -52,8 +52,8 @@ const COMMANDS: [(&str, u64, &str); 5] = [
         4,
         "1 claim 5\n1 write 5\n",
     ),
-    ("ring 065536 00\npop 63\nstep 63 2", 3, "63 empty 0\n"),
-    ("ring 2 0\nwork 0\nrun 0", 3, "0 empty 0\n"),
+    ("ring 065536 00\npop 63\nstep 63 3", 3, "63 idle 0\n"),
+    ("ring 2 0\nwork 0\nrun 0", 3, "0 idle 0\n"),
     (
         "ring 2 0\npush 7 a\nrun 7\ncells\ncounts",
         5,

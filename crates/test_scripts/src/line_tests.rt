@@ -106,7 +106,7 @@ fn lines_byte_by_byte(rt: HostRuntime) {
         bytes: b"ring 2 0\n\n# x\npop 2\nrun 2",
         interrupted: false,
     };
-    assert!(rt; is_replayed(rt.alloc(), &mut script, Ok(5), b"2 empty 0\n"));
+    assert!(rt; is_replayed(rt.alloc(), &mut script, Ok(5), b"2 idle 0\n"));
 }
 
 /// Whether a script ends by a read fault behind these bytes, and has printed this.

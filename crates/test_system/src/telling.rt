@@ -38,13 +38,14 @@ pub fn tell(
 
 fn tell_round(out: &mut String, actor: u32, said: &Said<Item>) -> Result<(), AllocError> {
     match said {
-        Said::Nothing => Ok(()),
+        Said::Nothing | Said::Front(_) => Ok(()),
         Said::Claim(ticket) => write!(out, " {actor} claim {ticket};"),
         Said::Write(ticket) => write!(out, " {actor} write {ticket};"),
         Said::Full(ticket, _) => write!(out, " {actor} full {ticket};"),
         Said::Grab(ticket) => write!(out, " {actor} grab {ticket};"),
         Said::Take(ticket, _) => write!(out, " {actor} overran {ticket};"),
         Said::Empty(ticket) => write!(out, " {actor} empty {ticket};"),
+        Said::Idle(ticket) => write!(out, " {actor} idle {ticket};"),
         Said::Busy(ticket, _) => write!(out, " {actor} busy {ticket};"),
         Said::Spent(_) => write!(out, " {actor} spent;"),
     }

@@ -1,7 +1,7 @@
 //! What a step does.
 ghost use Rattle.std.specs.Prelude.{◌≡◌, ◌↔◌, ◌≤◌, ◌<◌, IfOk, OnOk, OnErr, IsErrOf, IsSome, true, false, length};
 ghost use Rattle.std.specs.List.{All};
-ghost use Rattle.alog_core.specs.History.{GoesOn};
+ghost use Rattle.alog_core.specs.Run.{GoesOn};
 ghost use Rattle.alog_core.specs.World.{is_idle, round_of};
 ghost use Rattle.alog_core.specs.declared.TheConstants.{ACTORS};
 ghost use Rattle.alog_policy.specs.Desk.{desk_told, desk_stepped};
@@ -35,9 +35,8 @@ impl<S: Store + Drop> System<S> {
         ensures not_in_call { IsErrOf result StepError.NotInCall ↔ ((actor < ACTORS) × (is_free self.old actor ≡ true)) }
         ensures err { OnErr result (self.new ≡ self.old) }
         ensures steps { IfOk result (λ told. SystemSteps S.tells S.files S.failures self.old actor told self.new) }
-        // Each history that the queue stood for goes on with the step's event, if it was a step of the queue.
-        ensures history { OnOk result (GoesOn self.old.desk.world.places self.old.desk.world.queue (entries_by self.old actor)
-            self.new.desk.world.queue) }
+        // Each history that leads to the queue and its rounds goes on with the step's event, if it was a step of the queue.
+        ensures history { OnOk result (GoesOn self.old.desk.world (entries_by self.old actor) self.new.desk.world) }
     {
         if actor >= ACTORS {
             return Err(StepError::NoActor);
@@ -207,6 +206,7 @@ fn work_on(stepped: alog_policy::Stepped<Item>) -> (Stepped, Duty)
         }
         Said::Nothing => (going(Said::Nothing, outcome), Duty::Works),
         Said::Grab(ticket) => (going(Said::Grab(ticket), outcome), Duty::Works),
+        Said::Front(ticket) => (going(Said::Front(ticket), outcome), Duty::Works),
         said => (going(said, outcome), Duty::Free),
     }
 }

@@ -19,3 +19,6 @@ returns-in-PopRead g c = rw c.in-PopRead.is (c.load_sequence_to_pop.ensures c.ar
 pub returns-in-PopGrabbed : goal.returns-in-PopGrabbed
 returns-in-PopGrabbed g c =
     rw c.in-PopGrabbed.is (c.take.ensures c.args.actor (rw c.in-PopGrabbed.is at c.requires.staged))
+
+pub returns-in-PopFronted : goal.returns-in-PopFronted
+returns-in-PopFronted g c = rw c.in-PopFronted.is (c.load_end_to_pop.ensures c.args.actor)

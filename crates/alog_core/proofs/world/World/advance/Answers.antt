@@ -1,9 +1,10 @@
 use Rattle.std.proofs.Common.{◌≡◌, ◌+◌, ◌<◌, Some, length, ap, sym, subst, ◌∙◌, arith}
 use Rattle.alog_core.specs.Queue.{Event, Allows}
 use Rattle.alog_core.specs.World.{is_size, Machine, next_move, stepped}
-use Rattle.alog_core.specs.Run.{HasItsCell}
+use Rattle.alog_core.specs.Run.{GoesOn, HasItsCell, entries_of_step}
 use Rattle.alog_core.specs.Staged.{IsReached}
 use Rattle.alog_core.proofs.Reached.{kept, taken_round, table_of, staged_in, stepped_in, reached_stepped, fine_step}
+use Rattle.alog_core.proofs.Fronts.{goes_step}
 use Rattle.alog_core.proofs.Runs.{has_its_cell}
 use Rattle.alog_core.proofs.world.World.advance.Goals as goal
 
@@ -52,6 +53,16 @@ returns-clause-allowed g c =
     → Allows m.places m.queue c.args.actor e) c.self.view_is
     (fine_step (kept c.self.inside.table c.self.inside.rounds.items) c.args.actor c.self.invariant.reached
     c.requires).allowed
+
+pub returns-clause-history : goal.returns-clause-history
+returns-clause-history g c =
+    let a = c.args.actor in
+    let m = kept c.self.inside.table c.self.inside.rounds.items in
+    let goes : GoesOn c.args.self.now (entries_of_step c.args.self.now a) (stepped c.args.self.now a) =
+    subst (λ (m : Machine g.row.T.Denot). GoesOn m (entries_of_step m a) (stepped m a)) c.self.view_is
+    (goes_step m a c.self.invariant.reached c.requires) in
+    subst (λ (k : Machine g.row.T.Denot). GoesOn c.args.self.now (entries_of_step c.args.self.now a) k)
+    (sym (returns-clause-stepped g c)) goes
 
 pub returns-clause-cell : goal.returns-clause-cell
 returns-clause-cell g c =

@@ -1,5 +1,8 @@
-use Rattle.std.proofs.Common.{refl}
+use Rattle.std.proofs.Common.{[], refl, subst}
+use Rattle.alog_core.specs.World.{Machine, began}
+use Rattle.alog_core.specs.Run.{GoesOn}
 use Rattle.alog_core.specs.declared.round.Round.TheVariants as round
+use Rattle.alog_core.proofs.Fronts.{goes_began}
 use Rattle.alog_core.proofs.Reached.{kept, reached_began}
 use Rattle.alog_core.proofs.world.World.begin_push.Goals as goal
 
@@ -11,3 +14,9 @@ invariant_of-self g c =
           (round.Push c.args.item) c.self.invariant.reached (c.in-Ok.ensures.begins.0 refl).0 tt;
       shows = c.self.invariant.shows;
     }
+
+pub returns-in-Ok-clause-history : goal.returns-in-Ok-clause-history
+returns-in-Ok-clause-history g c =
+    let was = kept c.self.inside.table c.self.inside.rounds.items in
+    subst (λ (m : Machine g.row.T.Denot). GoesOn {N = Unit {0}} m [] (began was c.args.actor (round.Push c.args.item))) c.self.view_is
+    (goes_began was c.args.actor (round.Push c.args.item) c.self.invariant.reached.actors (c.in-Ok.ensures.begins.0 refl).0 (λ p is. cc))

@@ -1,8 +1,7 @@
 use Rattle.std.proofs.Common.{List, ◌++◌, ◌∷◌, [], length, length-append, ap, sym, subst, ◌∙◌, arith}
 use Rattle.std.specs.Vec.Iter.{into_iter_items}
-use Rattle.alog_core.specs.History.{GoesOn}
 use Rattle.alog_core.specs.World.{Machine, reply_to, after_call, replies_to, after_calls}
-use Rattle.alog_core.specs.Run.{entries_of_run, TellAll}
+use Rattle.alog_core.specs.Run.{GoesOn, entries_of_run, TellAll}
 use Rattle.alog_core.specs.declared.said.Answer.{Answer}
 use Rattle.alog_core.proofs.Calls.{given_front, after_calls_last, replies_to_last, length-replies_to, all_given}
 use Rattle.alog_core.proofs.Runs.{run_goes_on, tell_all, each_has_its_cell}
@@ -50,7 +49,7 @@ returns-clause-after g c =
 pub returns-clause-history : goal.returns-clause-history
 returns-clause-history g c =
     let m = c.args.self.now in
-    subst (λ (k : Machine g.row.T.Denot). GoesOn m.places m.queue (entries_of_run m c.args.calls.items) k.queue)
+    subst (λ (k : Machine g.row.T.Denot). GoesOn m (entries_of_run m c.args.calls.items) k)
     (sym (returns-clause-after g c))
     (run_goes_on m c.args.calls.items c.is_reached.ensures)
 
