@@ -8,7 +8,7 @@ use Rattle.atomic_table.proofs.Lists.{set_else, set_here}
 use Rattle.alog_core.specs.declared.mark.Mark.TheVariants.{Claimed, Written, Emptying}
 use Rattle.alog_core.specs.Queue.{Cell, Queue, Event, Claim, Write, Grab, Take, last, cell_of, HasCell, IsRoom, Allows, after}
 use Rattle.alog_core.specs.Queue.{IsSound}
-use Rattle.alog_core.specs.History.{Entry, StandsFor}
+use Rattle.alog_core.specs.History.{Entry, latest, Follows, StandsFor}
 use Rattle.alog_core.proofs.Cells.{cell_of-append_same, cell_of-marked_same}
 use Rattle.alog_core.proofs.Rising.{cell_of-without_same}
 use Rattle.alog_core.proofs.Histories.{stands_after}
@@ -46,14 +46,17 @@ module _ {S T N : Type 0} (kind : PlaceKind S T N) (n f : ℕ) (s : State S (Sig
   sound_next e may = sound_after n r.queue a e some_places (sound_now kind n f s r a v at) may
 
   acted : (note : N) (e : Event T) (stage : Stage T N) (words : List ℕ) (homes : List (maybe.Option S))
-      → Allows n r.queue a e → Staged n (longer note e) (after r.queue a e) (set s.views a (acting note e stage))
+      → Allows n r.queue a e → Follows (latest a r.history) e
+      → Staged n (longer note e) (after r.queue a e) (set s.views a (acting note e stage))
       → Shown kind.put kind.spare n (longer note e) (after r.queue a e) words homes → Acted note e stage words homes
-  acted note e stage words homes may staged shown =
+  acted note e stage words homes may follows staged shown =
       let x : Entry T N = entry note v.known e
       in let A : ℕ → Type 0 = λ b. Allows n r.queue b e
+      in let F : ℕ → Type 0 = λ b. Follows (latest b r.history) e
       in let P : ℕ → Type 0 = λ b. StandsFor n f (r.history ++ x ∷ []) (after r.queue b e)
       in let stands : StandsFor n f (r.history ++ x ∷ []) (after r.queue a e) =
-      subst P work.0 (stands_after n f r.history r.queue x r.stands (subst A (sym work.0) may))
+      subst P work.0
+      (stands_after n f r.history r.queue x r.stands (subst A (sym work.0) may) (subst F (sym work.0) follows))
       in (
         kept kind n f s r a v at work (x ∷ []) (one_of a x work.0) stage
             (after r.queue a e) words homes stands staged shown,
@@ -96,7 +99,7 @@ module _ {S T N : Type 0} (kind : PlaceKind S T N) (n f : ℕ) (s : State S (Sig
       (get_elem? (set s.homes (t % n) maybe.none) (t % n)) c.item c.mark
       in (
         old.1,
-        acted kind.blank e (Writing t x) words (set s.homes (t % n) maybe.none) may
+        acted kind.blank e (Writing t x) words (set s.homes (t % n) maybe.none) may tt
             (staged_turn n a t q q' turn r.history (entry kind.blank v.known e ∷ []) s.views v
             (acting kind.blank e (Writing t x)) at r.staged (work, has)
             (record {
@@ -155,7 +158,7 @@ module _ {S T N : Type 0} (kind : PlaceKind S T N) (n f : ℕ) (s : State S (Sig
       in let W : Cell T → Type 0 =
       λ c.
       ShowsCell kind.put kind.spare t (get_or words (seq_of n t) 0) (get_elem? homes (t % n)) c.item c.mark
-      in acted kind.blank e Idle words homes may
+      in acted kind.blank e Idle words homes may tt
       (staged_turn n a t q q' turn r.history (entry kind.blank v.known e ∷ []) s.views v
       (acting kind.blank e Idle) at r.staged work
       (record {
@@ -225,7 +228,7 @@ module _ {S T N : Type 0} (kind : PlaceKind S T N) (n f : ℕ) (s : State S (Sig
       (get_elem? (set s.homes (t % n) maybe.none) (t % n)) c.item c.mark
       in (
         before.1,
-        acted kind.blank e (Reading t x) words (set s.homes (t % n) maybe.none) may
+        acted kind.blank e (Reading t x) words (set s.homes (t % n) maybe.none) may tt
             (staged_turn n a t q q' turn r.history (entry kind.blank v.known e ∷ []) s.views v
             (acting kind.blank e (Reading t x)) at r.staged (work, has)
             (record {
@@ -273,7 +276,7 @@ module _ {S T N : Type 0} (kind : PlaceKind S T N) (n f : ℕ) (s : State S (Sig
       in let below : (q.next - n ≤ t) × (t < q.next) = within n q t was sound old
       in let words : List ℕ = set s.words (seq_of n t) (t + n)
       in let homes : List (maybe.Option S) = set s.homes (t % n) (maybe.some (kind.plain note))
-      in acted note e Idle words homes may
+      in acted note e Idle words homes may tt
       (staged_turn n a t q q' turn r.history (entry note v.known e ∷ []) s.views v (acting note e Idle) at r.staged work
       (record {
         left_write = λ p y is. absurd (let wrong : Reading t x ≡ Writing p y = sym stage ∙ is in cc);

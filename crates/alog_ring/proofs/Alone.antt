@@ -4,7 +4,7 @@ use Rattle.std.proofs.Common.{inl, inr, arith}
 use Rattle.std.specs.List.{AllByRecursion}
 use Rattle.std.proofs.lemmas.Bool.Decides.{leb_tells}
 use Rattle.alog_core.specs.Queue.{Cell, last, start}
-use Rattle.alog_core.specs.History.{Entry, IsLegal, left_by, own_of}
+use Rattle.alog_core.specs.History.{Entry, IsLegalFrom, IsLegal, left_by, own_of}
 use Rattle.alog_core.specs.declared.mark.Mark.TheVariants.{Claimed, Written}
 use Rattle.alog_core.proofs.Cells.{at_same}
 use Rattle.alog_ring.specs.Known.{Member, Known, IsAmong, first_known}
@@ -40,12 +40,12 @@ module _ {T : Type 0} where
         λ l. AllByRecursion (λ (x : Entry T no_note). (x.actor ≡ k.actor) ⊎ IsAmong x.actor l) k.seen
         in sym (all_own k.actor k.seen (subst P did.joined whole.actors)) ∙ sym whole.faithful.own ∙ did.own
 
-    pub legal_alone : IsLegal n f made
+    pub legal_alone : IsLegalFrom n (start f) made
     legal_alone =
         let N : ℕ → Type 0 = λ z. IsLegal z k.first k.seen
         in let F : ℕ → Type 0 = λ z. IsLegal n z k.seen
         in let S : List (Entry T no_note) → Type 0 = λ l. IsLegal n f l
-        in subst S seen_alone (subst F did.first (subst N did.places whole.faithful.legal))
+        in (subst S seen_alone (subst F did.first (subst N did.places whole.faithful.legal))).0
 
   pub refused_alone : (n f : ℕ) (k : Known T no_note) (value : T) (e : PushError T) → f < last
       → PushRefused (first_known n f) k value e → IsWhole k → ⊥

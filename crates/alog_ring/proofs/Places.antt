@@ -7,15 +7,16 @@ use Rattle.alog_core.specs.Queue.{last}
 use Rattle.alog_core.specs.History.{Entry}
 use Rattle.alog_ring.specs.declared.words.TheConstants.{NEXT, FRONT}
 use Rattle.alog_ring.specs.Kinds.{no_note, some_value, no_value}
-use Rattle.alog_ring.specs.Sight.{Stage, Idle, Fresh, Joined, SawNext, SawFree, Writing, SawFront, SawFull, Reading, Sight}
-use Rattle.alog_ring.specs.Plays.{saw_next, saw_free, claimed, wrote, saw_front, saw_full, grabbed, took}
+use Rattle.alog_ring.specs.Sight.{Stage, Idle, Fresh, Joined, SawNext, SawFree, Writing, SawFront, SawFull, Reading, SawUnwritten}
+use Rattle.alog_ring.specs.Sight.{Sight}
+use Rattle.alog_ring.specs.Plays.{saw_next, saw_free, claimed, wrote, saw_front, saw_full, saw_end, grabbed, took}
 use Rattle.alog_ring.specs.Seats.{was_named, saw_both, saw_all}
 use Rattle.alog_ring.specs.Rule.{seq_of, Ruled}
 use Rattle.alog_ring.specs.Limit.{AreHeld, Keeps}
 use Rattle.alog_ring.proofs.Limits.{allowed_in, weaker}
 use Rattle.alog_ring.proofs.Meeting.{names_itself, sees_both, sees_all}
 use Rattle.alog_ring.proofs.Stepping.{PlaceKind}
-use Rattle.alog_ring.proofs.Steps.{sees_next, sees_free, claims, writes, sees_front, sees_full, grabs, takes_out}
+use Rattle.alog_ring.proofs.Steps.{sees_next, sees_free, claims, writes, sees_front, sees_full, sees_end, grabs, takes_out}
 
 abbrev pub option_kind : (T : Type 0) → PlaceKind (Option T) T no_note
 option_kind T = record {
@@ -102,6 +103,14 @@ module _ {T : Type 0} (admits : T → Type 0) (n f slots id : ℕ) (me : Me (Opt
       (λ y m told u at. let both : ◌≡◌ {A = Stage T no_note} (SawFront t) (SawFront u) = sym stage
       ∙ at in let same : t ≡ u = cc in let P : ℕ → Type 0 = λ z. saw_full tt z me y m in subst P same told)
       (kept_in (seq_of n t) (λ y. y) (λ y m. saw_full tt t me y m) (sees_full (option_kind T) n f slots id me t stage)))
+
+  pub see_end_may : (t : ℕ) → me.0.stage ≡ SawUnwritten t
+      → Allows Ring slots id me NEXT (λ y. y) (λ y m. (u : ℕ) → me.0.stage ≡ SawUnwritten u → saw_end tt u me y m)
+  see_end_may t stage =
+      told_as NEXT (λ y. y) (λ y m. saw_end tt t me y m) (λ y m. (u : ℕ) → me.0.stage ≡ SawUnwritten u → saw_end tt u me y m)
+      (λ y m told u at. let both : ◌≡◌ {A = Stage T no_note} (SawUnwritten t) (SawUnwritten u) = sym stage
+      ∙ at in let same : t ≡ u = cc in let P : ℕ → Type 0 = λ z. saw_end tt z me y m in subst P same told)
+      (kept_in NEXT (λ y. y) (λ y m. saw_end tt t me y m) (sees_end (option_kind T) n f slots id me t stage))
 
   -- what is grabbed is admitted, and so by a weaker limit
   pub grab_may : (t new : ℕ) (said : Option T) (more : T → Type 0) → ((x : T) → admits x → more x)

@@ -1,16 +1,19 @@
 -- How a step of a seat keeps the rule, put together from the history, the stages, and the words and places.
-use Rattle.std.proofs.Common.{◌≡◌, ◌≢◌, ℕ, ◌+◌, ◌<◌, ◌≤◌, List, [], ◌∷◌, ◌++◌, set, get_or, refl, sym, ap, subst, ◌∙◌, arith}
+use Rattle.std.proofs.Common.{◌≡◌, ◌≢◌, ℕ, ◌+◌, ◌<◌, ◌≤◌, Option, Some, None, List, [], ◌∷◌, ◌++◌, set, get_or, refl, sym, ap}
+use Rattle.std.proofs.Common.{subst, ◌∙◌, arith}
 use Rattle.std.proofs.lemmas.List.{append-nil}
-use mathlib.Core.Option.{Option, some}
+use mathlib.Core.Option as maybe
+use mathlib.Core.Option.{some}
 use mathlib.Core.List.{IsPrefix}
 use lib.ListN.{get_elem?}
 use lib.Seq.{set-get_or}
 use Rattle.atomic_table.specs.Table.{State}
-use Rattle.alog_core.specs.Queue.{Queue, Event, Claim, Write, Grab, Take, Full, Empty, PushBusy, PopBusy, Spent, start, Allows}
-use Rattle.alog_core.specs.Queue.{after, IsSound}
-use Rattle.alog_core.specs.History.{Entry, IsLegal, left_by, own_of, StandsFor}
+use Rattle.alog_core.specs.Queue as queue
+use Rattle.alog_core.specs.Queue.{Queue, Event, Claim, Write, Grab, Take, Full, Front, Empty, PushBusy, PopBusy, Spent, start}
+use Rattle.alog_core.specs.Queue.{Allows, after, IsSound}
+use Rattle.alog_core.specs.History.{Entry, IsLegal, left_by, own_of, last_event, latest, Follows, StandsFor}
 use Rattle.alog_core.proofs.Cells.{at_same, at_other}
-use Rattle.alog_core.proofs.Histories.{left_by-append, stands_after, stands_sound}
+use Rattle.alog_core.proofs.Histories.{left_by-append, latest_own, stands_after, stands_sound}
 use Rattle.alog_ring.specs.Made.{AreExact, Made, next_seen, front_seen, entry, Adds}
 use Rattle.alog_ring.specs.Sight.{Stage, Idle, Sight}
 use Rattle.alog_ring.specs.Rule.{IsAtWork, Knows, Staged, Shown, Ruled}
@@ -39,7 +42,9 @@ rises_after q a (Write t) = (omega arith, omega arith)
 rises_after q a (Grab t) = (omega arith, omega arith)
 rises_after q a (Take t x) = (omega arith, omega arith)
 rises_after q a (Full t) = (omega arith, omega arith)
+rises_after q a (Front t) = (omega arith, omega arith)
 rises_after q a (Empty t) = (omega arith, omega arith)
+rises_after q a (queue.Idle t) = (omega arith, omega arith)
 rises_after q a (PushBusy t) = (omega arith, omega arith)
 rises_after q a (PopBusy t) = (omega arith, omega arith)
 rises_after q a Spent = (omega arith, omega arith)
@@ -119,7 +124,7 @@ module _ {S T N : Type 0} (kind : PlaceKind S T N) (n f : ℕ) (s : State S (Sig
           };
         }
 
-    pub kept : (q : Queue T) (words : List ℕ) (homes : List (Option S)) → StandsFor n f (r.history ++ more) q
+    pub kept : (q : Queue T) (words : List ℕ) (homes : List (maybe.Option S)) → StandsFor n f (r.history ++ more) q
         → Staged n (r.history ++ more) q (set s.views a stepping)
         → Shown kind.put kind.spare n (r.history ++ more) q words homes
         → Ruled kind.put kind.spare n f (record { words = words; homes = homes; views = set s.views a stepping })
@@ -167,26 +172,53 @@ module _ {S T N : Type 0} (kind : PlaceKind S T N) (n f : ℕ) (s : State S (Sig
         made work [] (none_of a) stage r.queue stands,
       )
 
-  -- the seat answers a refusal, which changes nothing
-  pub refuses : (i : ℕ) → IsAtWork a v.known → IsFree v.stage → (e : Event T) → Allows n r.queue a e
-      → after r.queue a e ≡ r.queue → ((u : ℕ) (y : T) → e ≢ Take u y)
-      → Ruled kind.put kind.spare n f
+  -- the last event that the pass knows of its own is its actor's latest, and an entry that it makes now is the last then
+  pub latest_now : 0 < v.known.parts → (o : Option (Event T)) → last_event None v.known.own ≡ o → latest a r.history ≡ o
+  latest_now live o is = ap (λ (l : List (Entry T N)). last_event None l) (sym (r.told.entries a v at live).own) ∙ is
+
+  pub last_made : IsAtWork a v.known → (note : N) (e : Event T)
+      → last_event None (v.known.own ++ entry note v.known e ∷ []) ≡ Some e
+  last_made work note e =
+      let x : Entry T N = entry note v.known e
+      in ap (λ (l : List (Entry T N)). last_event None l)
+      (faithful_now n f a r.history (x ∷ []) s.views v r.told at work.1 (one_of a x work.0)).0
+      ∙ latest_own a r.history x work.0
+
+  -- the rule after a refusal that a load at this word told, and what it tells
+  abbrev pub Refused : ℕ → Stage T N → Event T → Type 0
+  Refused i stage e =
+      Ruled kind.put kind.spare n f
       (record {
         words = set s.words i (get_or s.words i 0);
         homes = s.homes;
         views =
-            set s.views a (record { stage = Idle; known = grown v.known r.history (entry kind.blank v.known e ∷ []) });
+            set s.views a (record { stage = stage; known = grown v.known r.history (entry kind.blank v.known e ∷ []) });
       })
       × Adds kind.blank v.known (grown v.known r.history (entry kind.blank v.known e ∷ [])) e
-  refuses i work free e may still no_take =
+
+  -- the seat tells a refusal, which changes nothing, and stands at this stage then
+  pub tells : (i : ℕ) → IsAtWork a v.known → IsFree v.stage → (stage : Stage T N) (e : Event T) → Allows n r.queue a e
+      → Follows (latest a r.history) e → after r.queue a e ≡ r.queue → ((u : ℕ) (y : T) → e ≢ Take u y)
+      → Knows n (r.history ++ entry kind.blank v.known e ∷ []) r.queue a
+      (grown v.known r.history (entry kind.blank v.known e ∷ [])) stage
+      → Refused i stage e
+  tells i work free stage e may follows still no_take knows =
       let x : Entry T N = entry kind.blank v.known e
       in let P : Queue T → Type 0 = λ q. StandsFor n f (r.history ++ x ∷ []) q
       in let A : ℕ → Type 0 = λ b. Allows n r.queue b e
       in let B : ℕ → Type 0 = λ b. after r.queue b e ≡ r.queue
+      in let F : ℕ → Type 0 = λ b. Follows (latest b r.history) e
       in let stands : StandsFor n f (r.history ++ x ∷ []) r.queue =
-      subst P (subst B (sym work.0) still) (stands_after n f r.history r.queue x r.stands (subst A (sym work.0) may))
+      subst P (subst B (sym work.0) still)
+      (stands_after n f r.history r.queue x r.stands (subst A (sym work.0) may) (subst F (sym work.0) follows))
       in (
-        kept_still work (x ∷ []) (one_of a x work.0) Idle i free stands
-            (λ t. kind.stays n r.history x t (λ u y is. absurd (no_take u y is))) work,
-        (made work (x ∷ []) (one_of a x work.0) Idle r.queue stands, (r.history, refl)),
+        kept_still work (x ∷ []) (one_of a x work.0) stage i free stands
+            (λ t. kind.stays n r.history x t (λ u y is. absurd (no_take u y is))) knows,
+        (made work (x ∷ []) (one_of a x work.0) stage r.queue stands, (r.history, refl)),
       )
+
+  -- the seat ends its round with a refusal
+  pub refuses : (i : ℕ) → IsAtWork a v.known → IsFree v.stage → (e : Event T) → Allows n r.queue a e
+      → Follows (latest a r.history) e → after r.queue a e ≡ r.queue → ((u : ℕ) (y : T) → e ≢ Take u y)
+      → Refused i Idle e
+  refuses i work free e may follows still no_take = tells i work free Idle e may follows still no_take work

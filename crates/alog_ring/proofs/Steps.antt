@@ -1,24 +1,26 @@
 -- Each step of a push and of a pop may be made at the table, and tells what its play says.
-use Rattle.std.proofs.Common.{◌≡◌, ℕ, ◌+◌, ◌%◌, ◌<◌, ◌≤◌, eqb, List, [], ◌∷◌, ◌++◌, length, get_or, refl, sym, ap, subst, ◌∙◌}
-use Rattle.std.proofs.Common.{inl, inr, arith}
+use Rattle.std.proofs.Common.{◌≡◌, ℕ, ◌+◌, ◌%◌, ◌<◌, ◌≤◌, eqb, Some, None, List, [], ◌∷◌, ◌++◌, length, get_or, refl, sym, ap, subst}
+use Rattle.std.proofs.Common.{◌∙◌, inl, inr, arith}
 use mathlib.Core.Option.{Option, some}
 use prog.Atomic.{either}
 use Rattle.atomic_table.specs.Table.{State, Me, Act, keeps, takes, gives, Valid, stepped, carried_after, step, Allows}
 use Rattle.atomic_table.proofs.Lists.{exchanged}
 use Rattle.alog_core.specs.declared.mark.Mark.TheVariants.{Claimed, Emptying}
-use Rattle.alog_core.specs.Queue.{Queue, Event, Claim, Write, Grab, Take, Full, Empty, PushBusy, PopBusy, Spent, last, HasCell}
-use Rattle.alog_core.specs.Queue.{IsRoom, IsWritten}
+use Rattle.alog_core.specs.Queue as queue
+use Rattle.alog_core.specs.Queue.{Queue, Event, Claim, Write, Grab, Take, Full, Front, Empty, PushBusy, PopBusy, Spent, last}
+use Rattle.alog_core.specs.Queue.{HasCell, IsRoom, IsWritten}
+use Rattle.alog_core.specs.History.{Entry, last_event, latest}
 use Rattle.alog_ring.specs.declared.words.TheConstants.{NEXT, FRONT}
 use Rattle.alog_ring.specs.Known.{Known}
 use Rattle.alog_ring.specs.Made.{entry}
-use Rattle.alog_ring.specs.Sight.{Stage, Idle, SawNext, SawFree, Writing, SawFront, SawFull, Reading, Sight}
-use Rattle.alog_ring.specs.Plays.{saw_next, saw_free, claimed, wrote, saw_front, saw_full, grabbed, took}
+use Rattle.alog_ring.specs.Sight.{Stage, Idle, SawNext, SawFree, Writing, SawFront, SawFull, Reading, SawUnwritten, Sight}
+use Rattle.alog_ring.specs.Plays.{saw_next, saw_free, claimed, wrote, saw_front, saw_full, saw_end, grabbed, took}
 use Rattle.alog_ring.specs.Rule.{IsAtWork, seq_of, Ruled}
 use Rattle.alog_ring.proofs.Lists.{same_or_not}
 use Rattle.alog_ring.proofs.Turning.{IsFree}
 use Rattle.alog_ring.proofs.Looking.{push_look, pop_look}
 use Rattle.alog_ring.proofs.Telling.{grown}
-use Rattle.alog_ring.proofs.Stepping.{PlaceKind, sound_now, knows_now, seen_behind, looks, refuses}
+use Rattle.alog_ring.proofs.Stepping.{PlaceKind, sound_now, knows_now, seen_behind, looks, latest_now, last_made, tells, refuses}
 use Rattle.alog_ring.proofs.Acting.{claim_step, write_step, grab_step, take_step}
 
 -- the stages at which a seat has no cell
@@ -41,6 +43,9 @@ module _ {T N : Type 0} where
   saw_full_free : (t : ℕ) → IsFree {T = T} {N = N} (SawFull t)
   saw_full_free t = (λ p x e. cc, λ p x e. cc)
 
+  saw_unwritten_free : (t : ℕ) → IsFree {T = T} {N = N} (SawUnwritten t)
+  saw_unwritten_free t = (λ p x e. cc, λ p x e. cc)
+
 module _ {S T N : Type 0} (kind : PlaceKind S T N) (n f : ℕ) (slots id : ℕ) (me : Me S (Sight T N)) where
   abbrev Holds : State S (Sight T N) → Type 0
   Holds s = Ruled kind.put kind.spare n f s
@@ -60,7 +65,7 @@ module _ {S T N : Type 0} (kind : PlaceKind S T N) (n f : ℕ) (slots id : ℕ) 
       in let bounded : r.queue.next ≤ last = r.shown.bounded
       in elim (same_or_not y last) [
         | inl end ↦
-            let done = refuses kind n f s r id me.0 at NEXT work free Spent (sym is ∙ end) refl (λ u x e. cc)
+            let done = refuses kind n f s r id me.0 at NEXT work free Spent (sym is ∙ end) tt refl (λ u x e. cc)
             in (
               record { stage = Idle; known = grown me.0.known r.history (entry kind.blank me.0.known Spent ∷ []) },
               keeps,
@@ -102,7 +107,7 @@ module _ {S T N : Type 0} (kind : PlaceKind S T N) (n f : ℕ) (slots id : ℕ) 
             elim more [
               | inl full ↦
                   let low : y < t = full.0
-                  in let done = refuses kind n f s r id me.0 at i knows.0 free (Full t) (full.1, full.2) refl (λ u x e. cc)
+                  in let done = refuses kind n f s r id me.0 at i knows.0 free (Full t) (full.1, full.2) tt refl (λ u x e. cc)
                   in (
                     record
                         { stage = Idle; known = grown me.0.known r.history (entry kind.blank me.0.known (Full t) ∷ []) },
@@ -113,7 +118,7 @@ module _ {S T N : Type 0} (kind : PlaceKind S T N) (n f : ℕ) (slots id : ℕ) 
                   )
               | inr busy ↦
                   let high : t < y = busy.0
-                  in let done = refuses kind n f s r id me.0 at i knows.0 free (PushBusy t) busy.1 refl (λ u x e. cc)
+                  in let done = refuses kind n f s r id me.0 at i knows.0 free (PushBusy t) busy.1 tt refl (λ u x e. cc)
                   in (
                     record {
                       stage = Idle;
@@ -166,13 +171,14 @@ module _ {S T N : Type 0} (kind : PlaceKind S T N) (n f : ℕ) (slots id : ℕ) 
             )
         | inr more ↦
             elim more [
-              | inl empty ↦
-                  let low : y < t + 1 = empty.0
+              | inl unwritten ↦
+                  let low : y < t + 1 = unwritten.0
+                  in let x : Entry T N = entry kind.blank me.0.known (Front t)
                   in let done =
-                  refuses kind n f s r id me.0 at i knows.0 free (Empty t) (empty.1, empty.2) refl (λ u x e. cc)
+                  tells kind n f s r id me.0 at i knows.0 free (SawUnwritten t) (Front t) (unwritten.1, unwritten.2) tt refl
+                  (λ u z e. cc) (knows.0, knows.1, last_made kind n f s r id me.0 at knows.0 kind.blank (Front t))
                   in (
-                    record
-                        { stage = Idle; known = grown me.0.known r.history (entry kind.blank me.0.known (Empty t) ∷ []) },
+                    record { stage = SawUnwritten t; known = grown me.0.known r.history (x ∷ []) },
                     keeps,
                     tt,
                     done.0,
@@ -180,7 +186,7 @@ module _ {S T N : Type 0} (kind : PlaceKind S T N) (n f : ℕ) (slots id : ℕ) 
                   )
               | inr busy ↦
                   let high : t + 1 < y = busy.0
-                  in let done = refuses kind n f s r id me.0 at i knows.0 free (PopBusy t) busy.1 refl (λ u x e. cc)
+                  in let done = refuses kind n f s r id me.0 at i knows.0 free (PopBusy t) busy.1 tt refl (λ u x e. cc)
                   in (
                     record
                         { stage = Idle; known = grown me.0.known r.history (entry kind.blank me.0.known (PopBusy t) ∷ []) },
@@ -190,6 +196,42 @@ module _ {S T N : Type 0} (kind : PlaceKind S T N) (n f : ℕ) (slots id : ℕ) 
                     (λ z. absurd (omega arith), λ z. absurd (omega arith), λ _. ((done.1, refl), refl)),
                   )
             ]
+      ]
+
+  pub sees_end : (t : ℕ) → me.0.stage ≡ SawUnwritten t
+      → Allows Holds slots id me NEXT (λ y. y) (λ y m. saw_end kind.blank t me y m)
+  sees_end t stage s r wide at _ =
+      let y : ℕ = get_or s.words NEXT 0
+      in let is : y ≡ r.queue.next = r.shown.next
+      in let knows : IsAtWork id me.0.known × (t ≤ r.queue.front) × (last_event None me.0.known.own ≡ Some (Front t)) =
+      knows_now kind n f s r id me.0 at (SawUnwritten t) stage
+      in let free : IsFree me.0.stage = free_at me.0.stage (SawUnwritten t) stage (saw_unwritten_free t)
+      in let follows : latest id r.history ≡ Some (Front t) =
+      latest_now kind n f s r id me.0 at knows.0.1 (Some (Front t)) knows.2
+      in let ordered : r.queue.front ≤ r.queue.next = (sound_now kind n f s r id me.0 at).ordered
+      in let low : t ≤ y = omega (arith, is, knows.1)
+      in elim (same_or_not y t) [
+        | inl one ↦
+            let ends : (t ≡ r.queue.next) × (t ≡ r.queue.front) = (sym one ∙ is, omega (arith, is, knows.1))
+            in let done = refuses kind n f s r id me.0 at NEXT knows.0 free (queue.Idle t) ends follows refl (λ u x e. cc)
+            in (
+              record
+                  { stage = Idle; known = grown me.0.known r.history (entry kind.blank me.0.known (queue.Idle t) ∷ []) },
+              keeps,
+              tt,
+              done.0,
+              (low, λ _. ((done.1, refl), refl), λ past. absurd (omega arith)),
+            )
+        | inr more ↦
+            let past : t < r.queue.next = omega (arith, is)
+            in let done = refuses kind n f s r id me.0 at NEXT knows.0 free (Empty t) past follows refl (λ u x e. cc)
+            in (
+              record { stage = Idle; known = grown me.0.known r.history (entry kind.blank me.0.known (Empty t) ∷ []) },
+              keeps,
+              tt,
+              done.0,
+              (low, λ one. absurd (more one), λ _. ((done.1, refl), refl)),
+            )
       ]
 
   -- the ticket's place by the number of slots
@@ -241,7 +283,7 @@ module _ {S T N : Type 0} (kind : PlaceKind S T N) (n f : ℕ) (slots id : ℕ) 
       (λ miss.
       let done =
       refuses kind n f s r id me.0 at NEXT knows.0 free (PushBusy t)
-      (let l : t < q.next = omega (arith, knows.1) in l) refl (λ u z e. cc)
+      (let l : t < q.next = omega (arith, knows.1) in l) tt refl (λ u z e. cc)
       in (
         record { stage = Idle; known = grown me.0.known r.history (entry kind.blank me.0.known (PushBusy t) ∷ []) },
         keeps,
@@ -302,7 +344,7 @@ module _ {S T N : Type 0} (kind : PlaceKind S T N) (n f : ℕ) (slots id : ℕ) 
       (λ miss.
       let done =
       refuses kind n f s r id me.0 at FRONT knows.0 free (PopBusy t)
-      (let l : t < q.front = omega (arith, knows.1) in l) refl (λ u z e. cc)
+      (let l : t < q.front = omega (arith, knows.1) in l) tt refl (λ u z e. cc)
       in (
         record { stage = Idle; known = grown me.0.known r.history (entry kind.blank me.0.known (PopBusy t) ∷ []) },
         keeps,

@@ -11,8 +11,8 @@ use Rattle.alog_core.proofs.Cells.{cell_of-append_other, cell_of-marked_other, c
 use Rattle.alog_core.proofs.Rising.{listed_within}
 use Rattle.alog_core.proofs.Sound.{next_is_unlisted}
 use Rattle.alog_ring.specs.Known.{Known}
-use Rattle.alog_ring.specs.Sight.{Stage, Idle, Fresh, SawNext, SawFree, Writing, SawFront, SawFull, Reading, Joined, Lent, Gone}
-use Rattle.alog_ring.specs.Sight.{Sight}
+use Rattle.alog_ring.specs.Sight.{Stage, Idle, Fresh, SawNext, SawFree, Writing, SawFront, SawFull, Reading, SawUnwritten, Joined}
+use Rattle.alog_ring.specs.Sight.{Lent, Gone, Sight}
 use Rattle.alog_ring.specs.Rule.{Knows, Staged}
 use Rattle.alog_ring.proofs.Lists.{not_both, same_or_not, inside, one_value, prefix_longer}
 
@@ -174,6 +174,7 @@ module _ {T N : Type 0} (n a t : ℕ) (q r : Queue T) (turn : Turn n a t q r) (h
         in (old.0, old.1, turn.others p (turn.written p high old) ∙ old.2),
   )
   knows_on j k (Reading p x) other is = (is.0, turn.others p (turn.readers p x j other is.1) ∙ is.1)
+  knows_on j k (SawUnwritten p) other is = (is.0, omega (arith, is.1, turn.front), is.2)
   knows_on j k (Joined s) other is = (is.0, prefix_longer s h more is.1)
   knows_on j k Lent other is = tt
   knows_on j k Gone other is = tt

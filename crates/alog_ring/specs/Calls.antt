@@ -1,6 +1,6 @@
--- What a push and a pop that go through promise.
+-- What a push and a pop promise of the entries that they make.
 use Rattle.std.specs.Prelude.{ℕ, ◌∷◌, []}
-use Rattle.alog_core.specs.Queue.{Event, Claim, Write, Grab, Take}
+use Rattle.alog_core.specs.Queue.{Event, Claim, Write, Grab, Take, Front}
 use Rattle.alog_core.specs.History.{Entry}
 use Rattle.alog_ring.specs.Known.{Known}
 use Rattle.alog_ring.specs.Made.{Made, EndsWith, entry, Adds}
@@ -23,3 +23,7 @@ module _ {T : Type 0} where
   -- the pass answered this and did nothing else
   abbrev pub Answered : Known T no_note → Known T no_note → Event T → Type 0
   Answered old new e = Adds tt old new e
+
+  -- the pass found the ticket unwritten at the front, and when it looked at the end then, it answered this
+  abbrev pub FoundUnwritten : Known T no_note → Known T no_note → ℕ → Event T → Type 0
+  FoundUnwritten old new t e = Made old new (by old (Front t) ∷ by old e ∷ []) × EndsWith new (by old e)

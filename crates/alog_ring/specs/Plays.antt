@@ -2,10 +2,11 @@
 use Rattle.std.specs.Prelude.{◌≡◌, ◌≢◌, ℕ, ◌+◌, ◌%◌, ◌<◌, ◌≤◌, List, [], ◌∷◌}
 use mathlib.Core.Option.{some}
 use Rattle.atomic_table.specs.Table.{Me, Step, rest}
-use Rattle.alog_core.specs.Queue.{Event, Claim, Write, Grab, Take, Full, Empty, PushBusy, PopBusy, Spent, last}
+use Rattle.alog_core.specs.Queue as queue
+use Rattle.alog_core.specs.Queue.{Event, Claim, Write, Grab, Take, Full, Front, Empty, PushBusy, PopBusy, Spent, last}
 use Rattle.alog_core.specs.History.{Entry}
 use Rattle.alog_ring.specs.Made.{Made, Adds, next_seen, front_seen}
-use Rattle.alog_ring.specs.Sight.{Stage, Idle, SawNext, SawFree, Writing, SawFront, SawFull, Reading, Sight}
+use Rattle.alog_ring.specs.Sight.{Stage, Idle, SawNext, SawFree, Writing, SawFront, SawFull, Reading, SawUnwritten, Sight}
 
 module _ {S T N : Type 0} where
   -- the pass only looked, and stands at this stage
@@ -16,9 +17,13 @@ module _ {S T N : Type 0} where
   abbrev pub Acts : N → Me S (Sight T N) → Me S (Sight T N) → Event T → Stage T N → Type 0
   Acts note m m' e stage = Adds note m.0.known m'.0.known e × (m'.0.stage ≡ stage)
 
-  -- its round is over, and no place is out with it that was not before
+  -- it made this entry, stands at this stage, and no place is out with it that was not before
+  abbrev pub Tells : N → Me S (Sight T N) → Me S (Sight T N) → Event T → Stage T N → Type 0
+  Tells note m m' e stage = Acts note m m' e stage × (m'.1 ≡ m.1)
+
+  -- its round is over with this entry
   abbrev pub Ends : N → Me S (Sight T N) → Me S (Sight T N) → Event T → Type 0
-  Ends note m m' e = Acts note m m' e Idle × (m'.1 ≡ m.1)
+  Ends note m m' e = Tells note m m' e Idle
 
   -- A push reads the next ticket,
   abbrev pub saw_next : N → Me S (Sight T N) → ℕ → Me S (Sight T N) → Type 0
@@ -48,8 +53,12 @@ module _ {S T N : Type 0} where
 
   -- reads the sequence of its ticket's place,
   abbrev pub saw_full : N → ℕ → Me S (Sight T N) → ℕ → Me S (Sight T N) → Type 0
-  saw_full blank t m r m' = (r ≡ t + 1 → Looks m m' (SawFull t)) × (r < t + 1 → Ends blank m m' (Empty t))
-      × (t + 1 < r → Ends blank m m' (PopBusy t))
+  saw_full blank t m r m' = (r ≡ t + 1 → Looks m m' (SawFull t))
+      × (r < t + 1 → Tells blank m m' (Front t) (SawUnwritten t)) × (t + 1 < r → Ends blank m m' (PopBusy t))
+
+  -- reads the next ticket where that place is unwritten, and else
+  abbrev pub saw_end : N → ℕ → Me S (Sight T N) → ℕ → Me S (Sight T N) → Type 0
+  saw_end blank t m r m' = (t ≤ r) × (r ≡ t → Ends blank m m' (queue.Idle t)) × (t < r → Ends blank m m' (Empty t))
 
   -- exchanges the front ticket,
   abbrev pub grabbed : N → (T → S) → Step S → Me S (Sight T N) → ℕ → Me S (Sight T N) → Type 0

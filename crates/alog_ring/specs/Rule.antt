@@ -1,6 +1,6 @@
 -- What holds of a ring between any two steps: of the history, of what each pass knows, and of the words and places.
 -- It is said of any kind of place: `put` is a place with an item, `spare` one without, for a ticket after a history.
-use Rattle.std.specs.Prelude.{◌≡◌, ◌≢◌, ℕ, ◌+◌, ◌*◌, ◌%◌, ◌<◌, ◌≤◌, ◌⊎◌, List, [], length, slice_index, Some}
+use Rattle.std.specs.Prelude.{◌≡◌, ◌≢◌, ℕ, ◌+◌, ◌*◌, ◌%◌, ◌<◌, ◌≤◌, ◌⊎◌, List, [], length, slice_index, Some, None}
 use Rattle.std.specs.List.{AllByRecursion, sum_by}
 use mathlib.Core.Option.{Option, some}
 use mathlib.Core.List.{IsPrefix}
@@ -8,14 +8,14 @@ use lib.ListN.{get_elem?}
 use Rattle.atomic_table.specs.Table.{State}
 use Rattle.alog_core.specs.declared.mark.Mark.{Mark}
 use Rattle.alog_core.specs.declared.mark.Mark.TheVariants.{Claimed, Written, Emptying}
-use Rattle.alog_core.specs.Queue.{Cell, Queue, last, cell_of, HasCell, IsRoom, IsWritten}
-use Rattle.alog_core.specs.History.{Entry, own_of, StandsFor}
+use Rattle.alog_core.specs.Queue.{Cell, Queue, Front, last, cell_of, HasCell, IsRoom, IsWritten}
+use Rattle.alog_core.specs.History.{Entry, own_of, last_event, StandsFor}
 use Rattle.alog_ring.specs.declared.words.TheConstants.{NEXT, FRONT, SEQUENCES, APART}
 use Rattle.alog_ring.specs.declared.TheConstants.{ALL_PARTS}
 use Rattle.alog_ring.specs.Known.{Member, Known, IsAmong, AreDistinct}
 use Rattle.alog_ring.specs.Made.{AreExact}
-use Rattle.alog_ring.specs.Sight.{Stage, Idle, Fresh, SawNext, SawFree, Writing, SawFront, SawFull, Reading, Joined, Lent, Gone}
-use Rattle.alog_ring.specs.Sight.{Sight}
+use Rattle.alog_ring.specs.Sight.{Stage, Idle, Fresh, SawNext, SawFree, Writing, SawFront, SawFull, Reading, SawUnwritten, Joined}
+use Rattle.alog_ring.specs.Sight.{Lent, Gone, Sight}
 
 -- where the sequence of a ticket's place lies, and how many words there are
 abbrev pub seq_of : ℕ → ℕ → ℕ
@@ -61,7 +61,7 @@ module _ {T N : Type 0} where
   abbrev pub IsAtWork : ℕ → Known T N → Type 0
   IsAtWork a k = (k.actor ≡ a) × (0 < k.parts)
 
-  -- what a seat at this stage knows of the queue
+  -- What a seat at this stage knows of the queue. Who found the front unwritten has made nothing since.
   abbrev pub Knows : ℕ → List (Entry T N) → Queue T → ℕ → Known T N → Stage T N → Type 0
   Knows n h q a k Idle = IsAtWork a k
   Knows n h q a k Fresh = Unit {0}
@@ -71,6 +71,7 @@ module _ {T N : Type 0} where
   Knows n h q a k (SawFront t) = IsAtWork a k × (t ≤ q.front)
   Knows n h q a k (SawFull t) = IsAtWork a k × (t ≤ q.front) × (q.front ≤ t → IsWritten t q.cells)
   Knows n h q a k (Reading t x) = IsAtWork a k × HasCell q.cells t Emptying x a
+  Knows n h q a k (SawUnwritten t) = IsAtWork a k × (t ≤ q.front) × (last_event None k.own ≡ Some (Front t))
   Knows n h q a k (Joined s) = IsAtWork a k × IsPrefix s h
   Knows n h q a k Lent = Unit {0}
   Knows n h q a k Gone = Unit {0}

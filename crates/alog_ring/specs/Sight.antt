@@ -17,6 +17,8 @@ pub data Stage (T N : Type 0) : Type 0 where
   SawFront : (ticket : ℕ) → Stage T N
   SawFull : (ticket : ℕ) → Stage T N
   Reading : (ticket : ℕ) (item : T) → Stage T N
+  -- a pop has read the front ticket, and found it unwritten
+  SawUnwritten : (ticket : ℕ) → Stage T N
   -- another that had seen this was joined into it
   Joined : (seen : List (Entry T N)) → Stage T N
   -- without parts: on its way from one pass to another, or joined into another

@@ -38,6 +38,7 @@ EndsPush (Spent back) = Unit {0}
 
 abbrev pub EndsPop : PopError → Type 0
 EndsPop (pop.Empty next) = Unit {0}
+EndsPop (pop.Idle next) = Unit {0}
 EndsPop (pop.Busy seen) = ⊥
 
 -- busy rounds, and then one that was refused

@@ -3,13 +3,15 @@ ghost use Rattle.std.specs.Prelude.{◌≡◌, ℕ, ◌+◌, ◌%◌, ◌<◌, �
 ghost use Rattle.alog_core.specs.Queue.{last, PushBusy, PopBusy};
 ghost use Rattle.alog_core.specs.World.{is_size};
 ghost use Rattle.alog_core.specs.declared.TheConstants.{PLACES_MAX};
-ghost use Rattle.alog_ring.specs.Sight.{first_sight, Idle, SawNext, SawFree, SawFront, SawFull};
-ghost use Rattle.alog_ring.specs.Plays.{saw_next, saw_free, saw_front, saw_full, Ends};
+ghost use Rattle.alog_ring.specs.Sight.{first_sight, Idle, SawNext, SawFree, SawFront, SawFull, SawUnwritten};
+ghost use Rattle.alog_ring.specs.Plays.{saw_next, saw_free, saw_front, saw_full, saw_end, Ends};
 ghost use Rattle.alog_ring.specs.Rule.{word_count};
 ghost use Rattle.alog_ring.specs.Board.{AreFirstWords, Masks, Fills, Empties};
 
 use crate::limit::Limit;
-use crate::plays::{Admits, Claims, Grabs, SeeFree, SeeFront, SeeFull, SeeNext, Takes, Writes};
+use crate::plays::{
+    Admits, Claims, Grabs, SeeEnd, SeeFree, SeeFront, SeeFull, SeeNext, Takes, Writes,
+};
 use crate::view::{Law, Shape, View};
 use crate::words::{APART, FRONT, NEXT, SEQUENCES};
 use atomic_table::{Seat, Table};
@@ -166,6 +168,18 @@ impl<T, L: Limit<T>> Board<T, L> {
     {
         let word = self.place_of(ticket) * APART + SEQUENCES;
         self.table.shared.load::<SeeFull>(seat, word)
+    }
+
+    /// Reads the next ticket, for a pop that found the front one unwritten: where the two are one, no ticket is claimed
+    /// that is not grabbed.
+    pub(crate) fn see_end(&self, seat: &mut Seat<Option<T>, View<T, ()>>, ticket: u64) -> u64
+        requires table { seat.old.table_id ≡ self.now.table.shared.table_id }
+        requires stage { seat.old.me.0.stage ≡ SawUnwritten ticket }
+        requires home { seat.old.me.1 ≡ [] }
+        ensures table { seat.new.table_id ≡ seat.old.table_id }
+        ensures end { saw_end tt ticket seat.old.me result seat.new.me }
+    {
+        self.table.shared.load::<SeeEnd>(seat, NEXT)
     }
 
     /// Grabs the ticket, takes the value out of its place into the hand, and gives the place back for the ticket a lap

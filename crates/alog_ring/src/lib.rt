@@ -2,8 +2,9 @@
 //!
 //! `Ring::new` gives a ring and its first `Pass`, `split` a pass for each further thread, and a thread pushes and pops
 //! with its own. A *round* reads a position, looks at its place and exchanges the position, and is busy where another
-//! thread was faster: `push_once` and `pop_once` make one round, `push` and `pop` go on until one is not busy. A large value
-//! lies in a hand, from which `push_from` takes it, or into which `pop_once_into` and `pop_into` put it. The test
+//! thread was faster: `push_once` and `pop_once` make one round, `push` and `pop` go on until one is not busy. A pop that
+//! finds no value looks at the other position: the ring is empty where a value is on its way, and idle where none is. A
+//! large value lies in a hand, from which `push_from` takes it, or into which `pop_once_into` and `pop_into` put it. The test
 //! `two_threads_share_a_ring` of `test_queue` is a program that uses it. The rule is Dmitry Vyukov's (1024cores.net).
 //!
 //! Contracts see no word of it. They speak of the queue of `alog_core`: one history for all threads, of which a pass

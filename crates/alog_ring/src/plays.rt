@@ -3,8 +3,8 @@ ghost use Rattle.std.specs.Prelude.{◌≡◌, ℕ, List};
 ghost use Rattle.alog_ring.specs.Limit.{AreHeld};
 ghost use Rattle.alog_core.specs.History.{Entry};
 ghost use Rattle.alog_ring.specs.Kinds.{no_note, some_value, no_value};
-ghost use Rattle.alog_ring.specs.Sight.{SawNext, SawFront, Writing, Reading, Joined};
-ghost use Rattle.alog_ring.specs.Plays.{saw_next, saw_free, claimed, wrote, saw_front, saw_full, grabbed, took};
+ghost use Rattle.alog_ring.specs.Sight.{SawNext, SawFront, SawUnwritten, Writing, Reading, Joined};
+ghost use Rattle.alog_ring.specs.Plays.{saw_next, saw_free, claimed, wrote, saw_front, saw_full, saw_end, grabbed, took};
 ghost use Rattle.alog_ring.specs.Seats.{kept_part, given_part, lent_note, taking_in, reading_note, gone, was_named, saw_both, saw_all};
 
 use crate::view::View;
@@ -45,6 +45,12 @@ pub struct SeeFull;
 
 impl<T> Play<Option<T>, View<T, ()>> for SeeFull {
     ghost then = { λ s m r n. (t : ℕ) → m.0.stage ≡ SawFront t → saw_full tt t m r n };
+}
+
+pub struct SeeEnd;
+
+impl<T> Play<Option<T>, View<T, ()>> for SeeEnd {
+    ghost then = { λ s m r n. (t : ℕ) → m.0.stage ≡ SawUnwritten t → saw_end tt t m r n };
 }
 
 /// What the values of the ring keep to. Each call picks it.

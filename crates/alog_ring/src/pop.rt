@@ -14,9 +14,14 @@ use thiserror::Error;
 /// Why a pop did not go through. The test `the_last_ticket_of_all` shows it.
 #[derive(Clone, Copy, Debug, PartialEq, Eq, Error)]
 pub enum PopError {
-    /// The front ticket is not there, or claimed and not yet written. From 2^62 on none will come.
+    /// The front ticket was not written, and it was claimed by the time that this pop looked at the end: its value is on
+    /// its way, or has come since.
     #[error("empty at {next}")]
     Empty { next: u64 },
+    /// The front ticket was not written, and nobody had claimed it when this pop looked at the end: no value was there, and
+    /// none on its way. From 2^62 on none will come.
+    #[error("idle at {next}")]
+    Idle { next: u64 },
     /// Another pop grabbed the ticket that this one read.
     #[error("busy at {seen}")]
     Busy { seen: u64 },
@@ -25,9 +30,10 @@ pub enum PopError {
 impl<T, L: Limit<T>> Ring<T, L> {
     /// Takes the front value out of the ring if that goes at once, and answers it with its ticket.
     ///
-    /// It is one round of a pop: it reads the front ticket, looks whether it is written, and grabs it. It never waits, so
-    /// it is for a caller that has something else to do where another pop was faster (`Busy`): `pop` begins again there.
-    /// The test `a_ring_of_two` shows it.
+    /// It is one round of a pop: it reads the front ticket, looks whether it is written, and grabs it. Where it is not
+    /// written, it looks whether it is claimed (`Empty`) or not (`Idle`), and ends. It never waits, so it is for a caller
+    /// that has something else to do where another pop was faster (`Busy`): `pop` begins again there. The test
+    /// `a_ring_of_two` shows it.
     pub fn pop_once(&self, pass: &mut Pass<T>) -> Result<(u64, T), PopError>
         requires { IsPassOf self.now pass.old }
         ensures ring { IsPassOf self.now pass.new }
@@ -63,6 +69,9 @@ impl<T, L: Limit<T>> Ring<T, L> {
         let next = self.board.see_front(seat);
         let sequence = self.board.see_full(seat, next);
         if sequence < next + 1 {
+            if self.board.see_end(seat, next) == next {
+                return Err(PopError::Idle { next });
+            }
             return Err(PopError::Empty { next });
         }
         if sequence > next + 1 || !self.board.grab_and_empty::<Brand>(seat, next, hand) {

@@ -60,8 +60,9 @@ impl<T, L: Limit<T>> Ring<T, L> {
     /// Takes the front value out of the ring whatever other pops do, and answers it with its ticket. It is what a thread
     /// calls that has nothing else to do.
     ///
-    /// It makes rounds until one is not busy, and backs off between them. An empty ring refuses it as it refuses
-    /// `pop_once`. That it returns is not promised while other pops are always faster. The test
+    /// It makes rounds until one is not busy, and backs off between them. A ring without a written value refuses it as it
+    /// refuses `pop_once`: where that is `Empty` a value is on its way, so another look soon finds it, and where it is
+    /// `Idle` none is. That it returns is not promised while other pops are always faster. The test
     /// `two_threads_share_a_ring` shows it.
     pub fn pop(&self, rt: &impl Wait, pass: &mut Pass<T>) -> Result<(u64, T), PopError>
         requires { IsPassOf self.now pass.old }
