@@ -157,9 +157,9 @@ none_in_round : {T : Type 0} (n f a : ℕ) → round_of (fresh {T = T} n f) a �
 none_in_round n f a = all_the_same ACTORS a round.Idle
 
 leads_start : {T : Type 0} (n f : ℕ) → LeadsTo {N = Unit {0}} f [] (fresh {T = T} n f)
-leads_start n f = record {
+leads_start {T} n f = record {
   stands = stands_start n f;
-  fronts = λ a p is. let none = none_in_round n f a in absurd (cc);
+  fronts = λ a p is. let none : round_of (fresh {T = T} n f) a ≡ round.Idle = none_in_round n f a in absurd (cc);
 }
 
 after_start : {T : Type 0} (n f : ℕ) → is_size n ≡ true → f < last → After {T = T} n f [] [] (fresh_desk n f)
