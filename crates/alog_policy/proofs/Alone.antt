@@ -3,7 +3,7 @@ use Rattle.std.proofs.Common.{◌≡◌, ℕ, cond, Bool, Option, None, Some, re
 use Rattle.std.specs.Prelude.{◌==◌, ◌&&◌, ◌||◌, not, nat_lt, is_none}
 use Rattle.std.specs.List.{AllByRecursion}
 use Rattle.std.proofs.lemmas.Bool.{le-ltb}
-use Rattle.alog_core.specs.Queue.{Cell, Queue, Claim, Full, Empty, PushBusy, PopBusy, Spent, Grab, last, cell_of}
+use Rattle.alog_core.specs.Queue.{Cell, Queue, Claim, Full, Front, Empty, Idle, PushBusy, PopBusy, Spent, Grab, last, cell_of}
 use Rattle.alog_core.specs.Round.{Move, move_of, goes_on, makes, ends, taking, is_blocked, is_claimed, after_event}
 use Rattle.alog_core.specs.declared.round.Round.{Round}
 use Rattle.alog_core.specs.declared.round.Round.TheVariants as round
@@ -23,6 +23,7 @@ IsCurrent q round.Pop = Unit {0}
 IsCurrent q (round.PopRead p) = p ≡ q.front
 IsCurrent q (round.PopReady p) = p ≡ q.front
 IsCurrent q (round.PopGrabbed p) = Unit {0}
+IsCurrent q (round.PopFronted p) = Unit {0}
 
 -- a test that fails
 never : {X : Type 0} (P : X → Type 0) (b c : Bool) (x y : X) → b ≡ false → P y → P (cond (b && c) x y)
@@ -47,7 +48,8 @@ module _ {T : Type 0} (n : ℕ) (q : Queue T) (a : ℕ) where
       let unwritten : Bool = p == q.front && (is_none (cell_of p q.cells) || is_claimed (cell_of p q.cells)) in
       let gone : Bool = is_none (cell_of p q.cells) in
       let late : Bool = nat_lt p q.front && gone in
-      either StaysCurrent unwritten (ends (Empty p)) (cond late (ends (PopBusy p)) (goes_on (round.PopReady p))) ((tt, tt), tt)
+      either StaysCurrent unwritten (makes (Front p) (round.PopFronted p))
+      (cond late (ends (PopBusy p)) (goes_on (round.PopReady p))) ((tt, tt), tt)
       (never StaysCurrent (nat_lt p q.front) gone (ends (PopBusy p)) (goes_on (round.PopReady p))
       (le-ltb p q.front (omega (arith, is))) (tt, is))
 
@@ -70,3 +72,5 @@ module _ {T : Type 0} (n : ℕ) (q : Queue T) (a : ℕ) where
       on_test (λ b. StaysCurrent (cond b (makes (Grab p) (round.PopGrabbed p)) (ends (PopBusy p)))) q.front p
       (λ _. ((tt, tt), tt)) (λ other. absurd (other (sym is)))
   stays_current (round.PopGrabbed p) is = current_taking p (cell_of p q.cells)
+  stays_current (round.PopFronted p) is =
+      either StaysCurrent (q.next == p) (ends (Idle p)) (ends (Empty p)) ((tt, tt), tt) ((tt, tt), tt)

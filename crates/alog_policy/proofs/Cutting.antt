@@ -1,7 +1,7 @@
 -- Each step of a desk leaves an actor's own events cut into whole calls and the beginning of one.
 use Rattle.std.proofs.Common.{◌≡◌, ◌≢◌, ℕ, Option, None, Some, Ok, Err}
 use Rattle.std.proofs.Common.{List, [], ◌∷◌, ◌++◌, refl, sym, ap, subst, ◌∙◌, append_assoc, append-nil}
-use Rattle.alog_core.specs.Queue.{Event, Claim, Write, Grab, Take, Full, Empty, PushBusy, PopBusy, Spent}
+use Rattle.alog_core.specs.Queue.{Event, Claim, Write, Grab, Take, Full, Front, Empty, Idle, PushBusy, PopBusy, Spent}
 use Rattle.alog_core.specs.Round.{Move}
 use Rattle.alog_core.specs.World.{Machine, round_of}
 use Rattle.alog_core.specs.declared.round.Round.{Round}
@@ -13,7 +13,7 @@ use Rattle.alog_policy.specs.Progress.{IsSoFar}
 use Rattle.alog_policy.specs.Desk.{Follows, Stays, Ends, Leads, follows, value_in, with_said, turn_to, turn_of, event_of, IsAt}
 use Rattle.alog_policy.specs.DeskInside.{FitsRound}
 use Rattle.alog_policy.specs.Runs.{Call, ToPush, ToPop, ToPost, IsPush, IsPop, wrote, found_full, was_spent, took}
-use Rattle.alog_policy.specs.Runs.{found_empty, AreWhole, and_push}
+use Rattle.alog_policy.specs.Runs.{found_empty, found_idle, AreWhole, and_push}
 use Rattle.alog_policy.specs.Runs.{and_pop, and_post, IsBegun, IsUnderWayIn, IsCut, outcome_in}
 use Rattle.alog_policy.specs.Runs as runs
 use Rattle.alog_policy.specs.declared.counts.Counts.{Counts}
@@ -21,7 +21,7 @@ use Rattle.alog_policy.specs.declared.policy.Policy.{Policy}
 use Rattle.alog_policy.specs.declared.policy.Outcome.{Outcome}
 use Rattle.alog_policy.specs.declared.post.Post.{Post}
 use Rattle.alog_policy.proofs.StepKinds.{PushHas, PopSeeks, Kind, IsIdle, Pushes, Claims, FindsFull, PushIsBusy, IsSpent, Writes}
-use Rattle.alog_policy.proofs.StepKinds.{Pops, Grabs, FindsEmpty, PopIsBusy, Takes}
+use Rattle.alog_policy.proofs.StepKinds.{Pops, Grabs, FindsFront, FindsEmpty, FindsIdle, PopIsBusy, Takes}
 use Rattle.alog_policy.proofs.Desks.{saying, push_says, pop_says}
 use Rattle.alog_policy.proofs.Turns.{CameTo}
 
@@ -39,6 +39,7 @@ begun_push y round.Pop cs es h b = absurd h
 begun_push y (round.PopRead t) cs es h b = absurd h
 begun_push y (round.PopReady t) cs es h b = absurd h
 begun_push y (round.PopGrabbed t) cs es h b = absurd h
+begun_push y (round.PopFronted t) cs es h b = absurd h
 
 push_begun : {T : Type 0} (y : T) (r : Round T) (cs : List (Call T)) (es : List (Event T)) → PushHas y r
     → (cs ≡ ToPush y ∷ []) × (es ≡ []) → IsBegun r cs es
@@ -51,6 +52,7 @@ push_begun y round.Pop cs es h b = absurd h
 push_begun y (round.PopRead t) cs es h b = absurd h
 push_begun y (round.PopReady t) cs es h b = absurd h
 push_begun y (round.PopGrabbed t) cs es h b = absurd h
+push_begun y (round.PopFronted t) cs es h b = absurd h
 
 begun_pop : {T : Type 0} (r : Round T) (cs : List (Call T)) (es : List (Event T)) → PopSeeks r → IsBegun r cs es
     → (cs ≡ ToPop ∷ []) × (es ≡ [])
@@ -63,6 +65,7 @@ begun_pop round.Pop cs es h b = b
 begun_pop (round.PopRead t) cs es h b = b
 begun_pop (round.PopReady t) cs es h b = b
 begun_pop (round.PopGrabbed t) cs es h b = absurd h
+begun_pop (round.PopFronted t) cs es h b = absurd h
 
 pop_begun : {T : Type 0} (r : Round T) (cs : List (Call T)) (es : List (Event T)) → PopSeeks r
     → (cs ≡ ToPop ∷ []) × (es ≡ []) → IsBegun r cs es
@@ -75,6 +78,7 @@ pop_begun round.Pop cs es h b = b
 pop_begun (round.PopRead t) cs es h b = b
 pop_begun (round.PopReady t) cs es h b = b
 pop_begun (round.PopGrabbed t) cs es h b = absurd h
+pop_begun (round.PopFronted t) cs es h b = absurd h
 
 -- a push or a pop after a step: it goes on, or it is whole
 data PlainStep {T : Type 0} (s : Round T) (cs : List (Call T)) (made : List (Event T)) : Type 0 where
@@ -122,9 +126,19 @@ module _ {T : Type 0} (r : Round T) (m : Move T) (cs : List (Call T)) (es : List
       at_event (Some (Grab t)) e
       (GoesOn (subst (λ (s : Round T). IsBegun s cs (es ++ Grab t ∷ [])) (sym n)
       (k.0, after_nothing es (Grab t ∷ []) k.1)))
-  plain_step (FindsEmpty t h e n) b =
+  plain_step (FindsFront t h e n) b =
       let k = begun_pop r cs es h b in
-      at_event (Some (Empty t)) e (IsWholePop n k.0 (found_empty t (after_nothing es (Empty t ∷ []) k.1)))
+      at_event (Some (Front t)) e
+      (GoesOn (subst (λ (s : Round T). IsBegun s cs (es ++ Front t ∷ [])) (sym n)
+      (k.0, after_nothing es (Front t ∷ []) k.1)))
+  plain_step (FindsEmpty t h e n) b =
+      let k = subst (λ (s : Round T). IsBegun s cs es) h b in
+      at_event (Some (Empty t)) e
+      (IsWholePop n k.0 (found_empty t (ap (λ (gs : List (Event T)). gs ++ Empty t ∷ []) k.1)))
+  plain_step (FindsIdle t h e n) b =
+      let k = subst (λ (s : Round T). IsBegun s cs es) h b in
+      at_event (Some (Idle t)) e
+      (IsWholePop n k.0 (found_idle t (ap (λ (gs : List (Event T)). gs ++ Idle t ∷ []) k.1)))
   plain_step (PopIsBusy t h e n) b =
       let k = begun_pop r cs es h b in
       at_event (Some (PopBusy t)) e (IsWholePop n k.0 (runs.IsPop.was_busy t (after_nothing es (PopBusy t ∷ []) k.1)))
@@ -286,7 +300,10 @@ module _ {T : Type 0} (w : Machine T) (a : ℕ) (p : Post T) (c : Counts) (r : R
   ended_is_idle (Pops h e n less) f some = absurd (some (stays_none said.Nothing (pop_says r m None h e) refl))
   ended_is_idle (Grabs t h e n) f some =
       absurd (some (stays_none (said.Grab t) (pop_says r m (Some (Grab t)) h e) refl))
+  ended_is_idle (FindsFront t h e n) f some =
+      absurd (some (stays_none (said.Front t) (pop_says r m (Some (Front t)) h e) refl))
   ended_is_idle (FindsEmpty t h e n) f some = n
+  ended_is_idle (FindsIdle t h e n) f some = n
   ended_is_idle (PopIsBusy t h e n) f some = n
   ended_is_idle (Takes t y h e n) f some = n
 

@@ -1,21 +1,22 @@
 -- A step of a desk whose actor is in a post.
-use Rattle.std.proofs.Common.{◌≡◌, ℕ, ◌<◌, Option, None, Some, Ok, Err, List, [], ◌++◌, length}
-use Rattle.std.proofs.Common.{refl, sym, ap, subst, ◌∙◌, arith, get_or, set, length-set, get_or-set_same}
+use Rattle.std.proofs.Common.{◌≡◌, ◌≢◌, ℕ, ◌<◌, Option, None, Some, Ok, Err, List, [], ◌++◌, length}
+use Rattle.std.proofs.Common.{refl, sym, ap, subst, ◌∙◌, arith, get_or, set, length-set, get_or-set_same, append-nil}
 use Rattle.std.proofs.lemmas.List.{get_or_read, get_or-replicate, length-replicate}
-use Rattle.alog_core.specs.Queue.{Queue, Event}
-use Rattle.alog_core.specs.History.{GoesOn}
-use Rattle.alog_core.specs.Run.{HasItsCell, entries_of_step}
+use Rattle.alog_core.specs.Queue.{Event}
+use Rattle.alog_core.specs.History.{Entry}
+use Rattle.alog_core.specs.Run.{GoesOn, HasItsCell, entries_of_step}
 use Rattle.alog_core.specs.World.{Machine, fresh, round_of, is_idle, began, next_move, stepped, told}
 use Rattle.alog_core.specs.declared.TheConstants.{ACTORS}
 use Rattle.alog_core.specs.declared.round.Round.{Round}
 use Rattle.alog_core.specs.declared.round.Round.TheVariants as round
 use Rattle.alog_core.specs.declared.said.Said.{Said}
 use Rattle.alog_core.specs.declared.mark.Mark.TheVariants.{Emptying}
+use Rattle.alog_core.proofs.Fronts.{goes_same, goes_began, goes_further}
 use Rattle.alog_policy.specs.Post.{Pushing, IsPost}
 use Rattle.alog_policy.specs.Progress.{IsSoFar, begun}
 use Rattle.alog_policy.specs.Desk.{DeskView, fresh_desk, post_of, Follows, Stays, Ends, Leads, follows, value_in, with_said, Turn}
 use Rattle.alog_policy.specs.Desk.{turn_to, turn_of, after_step, desk_stepped, answer_of, desk_told, said_in_post}
-use Rattle.alog_policy.specs.Desk.{event_of, IsAt, IsPosting, Continues, PostGoesOn}
+use Rattle.alog_policy.specs.Desk.{event_of, call_of, IsAt, IsPosting, Continues, PostGoesOn}
 use Rattle.alog_policy.specs.DeskInside.{Fits, IsKeptDesk}
 use Rattle.alog_policy.specs.Following.{MayGoOn}
 use Rattle.alog_policy.specs.declared.counts.Counts.{Counts}
@@ -23,6 +24,8 @@ use Rattle.alog_policy.specs.declared.policy.Policy.{Policy}
 use Rattle.alog_policy.specs.declared.policy.Outcome.{Outcome}
 use Rattle.alog_policy.specs.declared.post.Post.{Post}
 use Rattle.alog_policy.specs.declared.post.Stepped.{Stepped}
+use Rattle.alog_policy.specs.declared.progress.Side.{Side}
+use Rattle.alog_policy.specs.declared.progress.Side.TheVariants.{Push, Pop}
 use Rattle.alog_policy.proofs.Posts.{begun_agrees}
 use Rattle.alog_policy.proofs.Keeping.{kept_begun}
 use Rattle.alog_policy.proofs.StepKinds.{Kind, kind_of}
@@ -60,6 +63,19 @@ turn_queue w a p c v Stays = refl
 turn_queue w a p c v (Ends t) = refl
 turn_queue w a p c v (Leads (Ok g)) = refl
 turn_queue w a p c v (Leads (Err l)) = refl
+
+begins_no_look : {T : Type 0} (s : Side) (v : Option T) (t : ℕ) → call_of s v ≢ round.PopFronted t
+begins_no_look Push None t e = cc
+begins_no_look Push (Some x) t e = cc
+begins_no_look Pop v t e = cc
+
+-- and each history that leads to the machine that the step left leads to the turn's: the next call may have begun
+pub turn_goes : {T : Type 0} (w : Machine T) (a : ℕ) (p : Post T) (c : Counts) (v : Option T) (f : Follows)
+    → length w.rounds ≡ ACTORS → a < ACTORS → GoesOn {N = Unit {0}} w [] (turn_to w a p c v f).world
+turn_goes w a p c v Stays all lt = goes_same w
+turn_goes w a p c v (Ends t) all lt = goes_same w
+turn_goes w a p c v (Leads (Ok g)) all lt = goes_began w a (call_of g.side v) all lt (begins_no_look g.side v)
+turn_goes w a p c v (Leads (Err l)) all lt = goes_same w
 
 continues_from : {T : Type 0} (e : DeskView T) (a : ℕ) (q r : Policy) (x : T) (fs : List (Event T)) (o : Option (Post T))
     (s : Round T) (out : Option (Outcome T)) → q ≡ r → post_of e a ≡ o → round_of e.world a ≡ s → CameTo q x fs o s out
@@ -149,15 +165,16 @@ module _ {T : Type 0} (d : DeskView T) (a : ℕ) (p : Post T) (kept : IsKeptDesk
       stepped_is s (said_in_post (told d.world a)) turn.outcome said outcome
       ∙ ap (λ (o : Option (Post T)). answer_of d a o) (sym there)
 
-  pub history_after : (w : Machine T) → w ≡ turn.world
-      → GoesOn d.world.places d.world.queue (entries_of_step d.world a) left.queue
-      → GoesOn d.world.places d.world.queue (entries_of_step d.world a) w.queue
+  pub history_after : (w : Machine T) → w ≡ turn.world → GoesOn d.world (entries_of_step d.world a) left
+      → GoesOn d.world (entries_of_step d.world a) w
   history_after w world goes =
-      let same : w.queue ≡ left.queue =
-      ap (λ (m : Machine T). m.queue) world
-      ∙ turn_queue left a p (with_said d.counts (told d.world a)) (value_in p.hand (told d.world a))
-      (follows p.progress (told d.world a)) in
-      subst (λ (q : Queue T). GoesOn d.world.places d.world.queue (entries_of_step d.world a) q) (sym same) goes
+      let all : length left.rounds ≡ ACTORS = length-set d.world.rounds a (next_move d.world a).round ∙ kept.actors in
+      let more =
+      turn_goes left a p (with_said d.counts (told d.world a)) (value_in p.hand (told d.world a))
+      (follows p.progress (told d.world a)) all lt in
+      let both = goes_further d.world left turn.world (entries_of_step d.world a) [] goes more in
+      subst (λ (m : Machine T). GoesOn d.world (entries_of_step d.world a) m) (sym world)
+      (subst (λ (h : List (Entry T (Unit {0}))). GoesOn d.world h turn.world) (append-nil (entries_of_step d.world a)) both)
 
 -- the desk that was made
 pub kept_fresh : {T : Type 0} (d : DeskView T) (n f : ℕ) → d ≡ fresh_desk n f → IsKeptDesk d

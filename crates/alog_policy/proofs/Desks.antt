@@ -2,7 +2,7 @@
 use Rattle.std.proofs.Common.{◌≡◌, ℕ, ◌<◌, Option, None, Some, Result, Ok, Err, List, length}
 use Rattle.std.proofs.Common.{refl, sym, ap, subst, ◌∙◌, arith, get_or, set, get_or-set_same, get_or-set_other, set-set, length-set}
 use Rattle.std.specs.Prelude.{IfOk}
-use Rattle.alog_core.specs.Queue.{Event, Claim, Write, Grab, Take, Full, Empty, PushBusy, PopBusy, Spent}
+use Rattle.alog_core.specs.Queue.{Event, Claim, Write, Grab, Take, Full, Front, Empty, Idle, PushBusy, PopBusy, Spent}
 use Rattle.alog_core.specs.Round.{Move}
 use Rattle.alog_core.specs.World.{Machine, round_of, said_of, brought}
 use Rattle.alog_core.specs.declared.TheConstants.{ACTORS}
@@ -22,7 +22,8 @@ use Rattle.alog_policy.specs.declared.progress.Side.TheVariants.{Push, Pop}
 use Rattle.alog_policy.specs.declared.progress.Progress.{Progress}
 use Rattle.alog_policy.specs.declared.progress.Lost.{Lost}
 use Rattle.alog_policy.proofs.StepKinds.{PushHas, PopSeeks, Kind, IsIdle, Pushes, Claims, FindsFull, PushIsBusy, IsSpent, Writes}
-use Rattle.alog_policy.proofs.StepKinds.{Pops, Grabs, FindsEmpty, PopIsBusy, Takes, brought_push, brought_pop}
+use Rattle.alog_policy.proofs.StepKinds.{Pops, Grabs, FindsFront, FindsEmpty, FindsIdle, PopIsBusy, Takes, brought_push}
+use Rattle.alog_policy.proofs.StepKinds.{brought_pop}
 
 -- a desk in which one actor's round and post were set
 pub kept_set : {T : Type 0} (d e : DeskView T) (a : ℕ) (r : Round T) (p : Option (Post T)) → IsKeptDesk d → a < ACTORS
@@ -68,6 +69,7 @@ push_side p x round.Pop h f = absurd h
 push_side p x (round.PopRead t) h f = absurd h
 push_side p x (round.PopReady t) h f = absurd h
 push_side p x (round.PopGrabbed t) h f = absurd h
+push_side p x (round.PopFronted t) h f = absurd h
 
 pub pop_side : {T : Type 0} (p : Post T) (r : Round T) → PopSeeks r → FitsRound p r → IsPopping p
 pop_side p round.Idle h f = absurd h
@@ -79,6 +81,7 @@ pop_side p round.Pop h f = f
 pop_side p (round.PopRead t) h f = f
 pop_side p (round.PopReady t) h f = f
 pop_side p (round.PopGrabbed t) h f = absurd h
+pop_side p (round.PopFronted t) h f = absurd h
 
 pub fits_push : {T : Type 0} (p : Post T) (x : T) (r : Round T) → PushHas x r → IsPushing p → FitsRound p r
 fits_push p x round.Idle h f = absurd h
@@ -90,6 +93,7 @@ fits_push p x round.Pop h f = absurd h
 fits_push p x (round.PopRead t) h f = absurd h
 fits_push p x (round.PopReady t) h f = absurd h
 fits_push p x (round.PopGrabbed t) h f = absurd h
+fits_push p x (round.PopFronted t) h f = absurd h
 
 pub fits_pop : {T : Type 0} (p : Post T) (r : Round T) → PopSeeks r → IsPopping p → FitsRound p r
 fits_pop p round.Idle h f = absurd h
@@ -101,6 +105,7 @@ fits_pop p round.Pop h f = f
 fits_pop p (round.PopRead t) h f = f
 fits_pop p (round.PopReady t) h f = f
 fits_pop p (round.PopGrabbed t) h f = absurd h
+fits_pop p (round.PopFronted t) h f = absurd h
 
 -- what the step says
 abbrev pub saying : {T : Type 0} → Round T → Move T → Said T
@@ -135,8 +140,11 @@ module _ {T : Type 0} (p : Post T) (r : Round T) (m : Move T) where
   has_value (Writes t h e n) f = subst (HasValue p) (sym (says r m (Some (Write t)) e)) tt
   has_value (Pops h e n less) f = subst (HasValue p) (sym (pop_says r m None h e)) tt
   has_value (Grabs t h e n) f = subst (HasValue p) (sym (pop_says r m (Some (Grab t)) h e)) tt
+  has_value (FindsFront t h e n) f = subst (HasValue p) (sym (pop_says r m (Some (Front t)) h e)) tt
   has_value (FindsEmpty t h e n) f =
-      subst (HasValue p) (sym (pop_says r m (Some (Empty t)) h e)) (hand_there p (pop_side p r h f))
+      subst (HasValue p) (sym (says r m (Some (Empty t)) e)) (hand_there p (subst (λ (s : Round T). FitsRound p s) h f))
+  has_value (FindsIdle t h e n) f =
+      subst (HasValue p) (sym (says r m (Some (Idle t)) e)) (hand_there p (subst (λ (s : Round T). FitsRound p s) h f))
   has_value (PopIsBusy t h e n) f =
       subst (HasValue p) (sym (pop_says r m (Some (PopBusy t)) h e)) (hand_there p (pop_side p r h f))
   has_value (Takes t y h e n) f =
@@ -162,7 +170,10 @@ module _ {T : Type 0} (p : Post T) (r : Round T) (m : Move T) where
   led_is_idle (Pops h e n less) f next leads = absurd (no_lead said.Nothing next (pop_says r m None h e) refl leads)
   led_is_idle (Grabs t h e n) f next leads =
       absurd (no_lead (said.Grab t) next (pop_says r m (Some (Grab t)) h e) refl leads)
+  led_is_idle (FindsFront t h e n) f next leads =
+      absurd (no_lead (said.Front t) next (pop_says r m (Some (Front t)) h e) refl leads)
   led_is_idle (FindsEmpty t h e n) f next leads = n
+  led_is_idle (FindsIdle t h e n) f next leads = n
   led_is_idle (PopIsBusy t h e n) f next leads = n
   led_is_idle (Takes t y h e n) f next leads = n
 

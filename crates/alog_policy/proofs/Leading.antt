@@ -1,9 +1,9 @@
 -- What one push or one pop of a post leads to, by what the outlet tells of it.
 use Rattle.std.proofs.Common.{◌≡◌, ◌≢◌, ◌<◌, ℕ, Result, Err, List, [], ◌∷◌, ◌++◌, refl, sym, ap, subst}
 use Rattle.std.specs.Prelude.{IfOk}
-use Rattle.alog_core.specs.Queue.{Event, Grab, Take, Full, Empty, PushBusy, PopBusy, Spent}
+use Rattle.alog_core.specs.Queue.{Event, Grab, Take, Full, Front, Empty, Idle, PushBusy, PopBusy, Spent}
 use Rattle.alog_policy.specs.Post.{Round, PushBeaten, PopBeaten, IsPost, Part, Pushing, Popping, takes_in, End, Wrote}
-use Rattle.alog_policy.specs.Post.{OutOfTickets, NothingToTake, overran_in, discards_in}
+use Rattle.alog_policy.specs.Post.{OutOfTickets, NothingToTake, AllGrabbed, overran_in, discards_in}
 use Rattle.alog_policy.specs.Post as post
 use Rattle.alog_policy.specs.Progress.{IsKept, IsFresh, IsSoFar, Agrees, lost, again, after_full, after_take, work}
 use Rattle.alog_policy.specs.Outlet.{Doing, Refused, Overran, Leads}
@@ -38,7 +38,7 @@ module _ {S T V : Type 0} (did : Doing S T) (fit : S → Type 0) (x : T) (v : V)
       (record { made = made; done = done; ready = ready; kept = keeps; less = less; agrees = agrees })
 
   pub full_leads : (next : Result Progress Lost) (f : ℕ) → g.side ≡ Push → next ≡ after_full g
-      → Refused did fit old (Full f) new → Leads did fit x v g old new next
+      → Refused did fit old (Full f ∷ []) new → Leads did fit x v g old new next
   full_leads next f side e h =
       leads next (after_full g) (Full f ∷ []) e h.0 h.1 (kept_full g kept)
       (λ not. less_full g not side kept.within)
@@ -46,7 +46,7 @@ module _ {S T V : Type 0} (did : Doing S T) (fit : S → Type 0) (x : T) (v : V)
       full_agrees g x v es f (subst (λ (p : Part). IsSoFar g x p es) (fresh_push g.side b side fresh) way))
 
   pub push_busy_leads : (next : Result Progress Lost) (t : ℕ) → g.side ≡ Push → next ≡ again g
-      → Refused did fit old (PushBusy t) new → Leads did fit x v g old new next
+      → Refused did fit old (PushBusy t ∷ []) new → Leads did fit x v g old new next
   push_busy_leads next t side e h =
       leads next (again g) (PushBusy t ∷ []) e h.0 h.1 (kept_again g kept)
       (λ not. less_again g not kept.within)
@@ -54,7 +54,7 @@ module _ {S T V : Type 0} (did : Doing S T) (fit : S → Type 0) (x : T) (v : V)
       again_agrees g x v Pushing es (PushBusy t ∷ []) (PushBeaten t)
       (subst (λ (p : Part). IsSoFar g x p es) (fresh_push g.side b side fresh) way) tt refl refl)
 
-  pub spent_leads : (l : Lost) → g.side ≡ Push → l ≡ lost g why.Spent → Refused did fit old Spent new
+  pub spent_leads : (l : Lost) → g.side ≡ Push → l ≡ lost g why.Spent → Refused did fit old (Spent ∷ []) new
       → Leads did fit x v g old new (Err l)
   spent_leads l side e h =
       leads (Err l) (Err (lost g why.Spent)) (Spent ∷ []) (ap Err e) h.0 h.1 tt
@@ -80,7 +80,7 @@ module _ {S T V : Type 0} (did : Doing S T) (fit : S → Type 0) (x : T) (v : V)
       take_agrees g x v (Popping at.0) es (Grab t ∷ Take t y ∷ []) (post.Overran at.0 t y) at.1 (kept.pops side) refl refl)
 
   pub pop_busy_leads : (next : Result Progress Lost) (t : ℕ) → g.side ≡ Pop → next ≡ again g
-      → Refused did fit old (PopBusy t) new → Leads did fit x v g old new next
+      → Refused did fit old (PopBusy t ∷ []) new → Leads did fit x v g old new next
   pop_busy_leads next t side e h =
       leads next (again g) (PopBusy t ∷ []) e h.0 h.1 (kept_again g kept)
       (λ not. less_again g not kept.within)
@@ -88,12 +88,23 @@ module _ {S T V : Type 0} (did : Doing S T) (fit : S → Type 0) (x : T) (v : V)
       let at = pop_way b es side fresh way in
       again_agrees g x v (Popping at.0) es (PopBusy t ∷ []) (PopBeaten at.0 t) at.1 (kept.pops side) refl refl)
 
-  pub stalled_leads : (l : Lost) (t : ℕ) → g.side ≡ Pop → l ≡ lost g why.Stalled → Refused did fit old (Empty t) new
-      → Leads did fit x v g old new (Err l)
-  stalled_leads l t side e h =
-      leads (Err l) (Err (lost g why.Stalled)) (Empty t ∷ []) (ap Err e) h.0 h.1 tt
+  -- the pop found nothing to take
+  pub empty_leads : (l : Lost) (t : ℕ) → g.side ≡ Pop → l ≡ lost g why.Stalled
+      → Refused did fit old (Front t ∷ Empty t ∷ []) new → Leads did fit x v g old new (Err l)
+  empty_leads l t side e h =
+      leads (Err l) (Err (lost g why.Stalled)) (Front t ∷ Empty t ∷ []) (ap Err e) h.0 h.1 tt
       (λ _. tt)
       (λ b es fresh way.
       let at = pop_way b es side fresh way in
-      end_agrees g.policy x g.rounds g.overran (Popping at.0) es (Empty t ∷ []) at.1 v (NothingToTake at.0 t)
+      end_agrees g.policy x g.rounds g.overran (Popping at.0) es (Front t ∷ Empty t ∷ []) at.1 v (NothingToTake at.0 t)
+      (kept.within, kept.pops side) refl refl)
+
+  pub idle_leads : (l : Lost) (t : ℕ) → g.side ≡ Pop → l ≡ lost g why.Stalled
+      → Refused did fit old (Front t ∷ Idle t ∷ []) new → Leads did fit x v g old new (Err l)
+  idle_leads l t side e h =
+      leads (Err l) (Err (lost g why.Stalled)) (Front t ∷ Idle t ∷ []) (ap Err e) h.0 h.1 tt
+      (λ _. tt)
+      (λ b es fresh way.
+      let at = pop_way b es side fresh way in
+      end_agrees g.policy x g.rounds g.overran (Popping at.0) es (Front t ∷ Idle t ∷ []) at.1 v (AllGrabbed at.0 t)
       (kept.within, kept.pops side) refl refl)

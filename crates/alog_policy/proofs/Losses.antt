@@ -1,6 +1,6 @@
 -- A step counts its losses: an overrun at the take of a post, a discarded post at its end.
 use Rattle.std.proofs.Common.{◌≡◌, ℕ, ◌+◌, Option, None, Some, Result, Ok, Err, sym, ap, subst, ◌∙◌, refl, add-zero, zero-add}
-use Rattle.alog_core.specs.Queue.{Event, Claim, Write, Grab, Take, Full, Empty, PushBusy, PopBusy, Spent}
+use Rattle.alog_core.specs.Queue.{Event, Claim, Write, Grab, Take, Full, Front, Empty, Idle, PushBusy, PopBusy, Spent}
 use Rattle.alog_core.specs.Round.{Move}
 use Rattle.alog_core.specs.World.{Machine, said_of, brought}
 use Rattle.alog_core.specs.declared.round.Round.{Round}
@@ -26,7 +26,9 @@ said_takes c x (Some (Write t)) = refl
 said_takes c x (Some (Grab t)) = refl
 said_takes c x (Some (Take t y)) = refl
 said_takes c x (Some (Full t)) = refl
+said_takes c x (Some (Front t)) = refl
 said_takes c x (Some (Empty t)) = refl
+said_takes c x (Some (Idle t)) = refl
 said_takes c x (Some (PushBusy t)) = refl
 said_takes c x (Some (PopBusy t)) = refl
 said_takes c x (Some Spent) = refl
@@ -50,7 +52,9 @@ value_there p (said.Write t) next h e = absurd (cc)
 value_there p (said.Full t x) next h e = h
 value_there p (said.Grab t) next h e = absurd (cc)
 value_there p (said.Take t y) next h e = h.0
+value_there p (said.Front t) next h e = absurd (cc)
 value_there p (said.Empty t) next h e = h
+value_there p (said.Idle t) next h e = h
 value_there p (said.Busy t x) next h e = h
 value_there p (said.Spent x) next h e = h
 

@@ -1,20 +1,21 @@
 -- One round whose steps an actor makes all at once.
 use Rattle.std.proofs.Common.{◌≡◌, ℕ, ◌<◌, ◌≤◌, Option, None, Some, Result, Ok, Err, List, [], ◌∷◌, ◌++◌, length}
-use Rattle.std.proofs.Common.{refl, sym, ap, subst, ◌∙◌, arith, set, set-set, get_or-set_same, append-nil, true}
+use Rattle.std.proofs.Common.{refl, sym, ap, subst, ◌∙◌, arith, set, set-set, true}
 use Rattle.std.proofs.Common.{length-set}
 use Rattle.std.specs.Prelude.{IfOk, IfErr}
 use Rattle.std.specs.List.{AllByRecursion}
 use Rattle.std.proofs.lemmas.List.{set-get_or}
-use Rattle.alog_core.specs.Queue.{Queue, Event, Claim, Write, Grab, Take, Full, Empty, PushBusy, PopBusy, Spent}
-use Rattle.alog_core.specs.History.{Entry, StandsFor, GoesOn}
+use Rattle.alog_core.specs.Queue.{Queue, Event, Claim, Write, Grab, Take, Full, Front, Empty, Idle, PushBusy, PopBusy, Spent}
+use Rattle.alog_core.specs.History.{Entry}
 use Rattle.alog_core.specs.Round.{Move, after_event}
-use Rattle.alog_core.specs.Run.{HasItsCell, entries_of_step}
+use Rattle.alog_core.specs.Run.{GoesOn, HasItsCell, entries_of_step}
 use Rattle.alog_core.specs.World.{Machine, round_of, is_idle, began, next_move, stepped, told, entries_of}
 use Rattle.alog_core.specs.declared.mark.Mark.TheVariants.{Emptying}
 use Rattle.alog_core.specs.declared.round.Round.{Round}
 use Rattle.alog_core.specs.declared.round.Round.TheVariants as round
 use Rattle.alog_core.specs.declared.said.Said.{Said}
 use Rattle.alog_core.specs.declared.said.Said.TheVariants as said
+use Rattle.alog_core.proofs.Fronts.{goes_further}
 use Rattle.alog_ring.specs.declared.push.PushError.{PushError}
 use Rattle.alog_ring.specs.declared.push.PushError.TheVariants as push
 use Rattle.alog_ring.specs.declared.pop.PopError.{PopError}
@@ -23,57 +24,49 @@ use Rattle.alog_lane.proofs.Lists.{each_append}
 use Rattle.alog_policy.specs.Desk.{event_of}
 use Rattle.alog_policy.specs.DeskOutlet.{IsUnbeaten}
 use Rattle.alog_policy.specs.Rounds.{entries_by, Makes, PushRoundRefused, PopRoundRefused, IsOfPush, IsOfPop, push_answer, pop_answer}
-use Rattle.alog_policy.specs.Together.{entries_by-append, goes_further}
+use Rattle.alog_policy.specs.Together.{entries_by-append}
 use Rattle.alog_policy.proofs.Alone.{IsCurrent, stays_current}
 use Rattle.alog_policy.proofs.StepKinds.{PushHas, PopSeeks, Kind, IsIdle, Pushes, Claims, FindsFull, PushIsBusy, IsSpent, Writes}
-use Rattle.alog_policy.proofs.StepKinds.{Pops, Grabs, FindsEmpty, PopIsBusy, Takes, kind_of, steps_left}
+use Rattle.alog_policy.proofs.StepKinds.{Pops, Grabs, FindsFront, FindsEmpty, FindsIdle, PopIsBusy, Takes, kind_of, steps_left}
 use Rattle.alog_policy.proofs.Desks.{saying, push_says, pop_says, says, round_set}
 
 entries_by-event : {T : Type 0} (a : ℕ) (o : Option (Event T)) → entries_by a (event_of o) ≡ entries_of a tt o
 entries_by-event a None = refl
 entries_by-event a (Some e) = refl
 
--- a queue that nobody touched
-pub goes_nowhere : {T : Type 0} (n : ℕ) (q : Queue T) → GoesOn {N = Unit {0}} n q [] q
-goes_nowhere {T} n q f h stands =
-    subst (λ (g : List (Entry T (Unit {0}))). StandsFor n f g q) (sym (append-nil h)) stands
-
 -- The actor has made these events so far, and only its own round has changed.
 pub record MadeSoFar {T : Type 0} (a : ℕ) (old : Machine T) (es : List (Event T)) (now : Machine T) : Type 0 where
   pub places : now.places ≡ old.places
   pub rounds : now.rounds ≡ set old.rounds a (round_of now a)
-  pub history : GoesOn old.places old.queue (entries_by a es) now.queue
+  pub history : GoesOn old (entries_by a es) now
 
 module _ {T : Type 0} (a : ℕ) (old : Machine T) (lt : a < length old.rounds) where
-  pub made_nothing : (now : Machine T) (r : Round T) → now ≡ began old a r → MadeSoFar a old [] now
-  made_nothing now r e =
-      let M : Machine T → Type 0 = λ m. MadeSoFar a old [] m in
-      subst M (sym e)
-      (record {
-        places = refl;
-        rounds = ap (λ (s : Round T). set old.rounds a s) (sym (get_or-set_same old.rounds a r round.Idle lt));
-        history = goes_nowhere old.places old.queue;
-      })
+  pub made_nothing : (now : Machine T) (r : Round T) → now ≡ began old a r → GoesOn {N = Unit {0}} old [] now
+      → MadeSoFar a old [] now
+  made_nothing now r e goes =
+      let rounds : now.rounds ≡ set old.rounds a r = ap (λ (m : Machine T). m.rounds) e in
+      record {
+        places = ap (λ (m : Machine T). m.places) e;
+        rounds = rounds ∙ ap (λ (s : Round T). set old.rounds a s) (sym (round_set now old.rounds a r lt rounds));
+        history = goes;
+      }
 
   pub made_step : (es : List (Event T)) (now new : Machine T) → MadeSoFar a old es now → new ≡ stepped now a
-      → GoesOn now.places now.queue (entries_of_step now a) new.queue
-      → MadeSoFar a old (es ++ event_of (next_move now a).event) new
+      → GoesOn now (entries_of_step now a) new → MadeSoFar a old (es ++ event_of (next_move now a).event) new
   made_step es now new made e goes =
       let r : Round T = (next_move now a).round in
       let rounds : new.rounds ≡ set old.rounds a r =
       ap (λ (m : Machine T). m.rounds) e
       ∙ (ap (λ (rs : List (Round T)). set rs a r) made.rounds ∙ set-set old.rounds a (round_of now a) r) in
       let here : round_of new a ≡ r = round_set new old.rounds a r lt rounds in
-      let more : GoesOn old.places now.queue (entries_of_step now a) new.queue =
-      subst (λ n. GoesOn n now.queue (entries_of_step now a) new.queue) made.places goes in
       let all : entries_by a es ++ entries_of_step now a ≡ entries_by a (es ++ event_of (next_move now a).event) =
       ap (λ (h : List (Entry T (Unit {0}))). entries_by a es ++ h) (sym (entries_by-event a (next_move now a).event))
       ∙ sym (entries_by-append a es (event_of (next_move now a).event)) in
       record {
         places = ap (λ (m : Machine T). m.places) e ∙ made.places;
         rounds = rounds ∙ ap (λ (s : Round T). set old.rounds a s) (sym here);
-        history = subst (λ (h : List (Entry T (Unit {0}))). GoesOn old.places old.queue h new.queue) all
-            (goes_further old.places old.queue now.queue new.queue (entries_by a es) (entries_of_step now a) made.history more);
+        history = subst (λ (h : List (Entry T (Unit {0}))). GoesOn old h new) all
+            (goes_further old now new (entries_by a es) (entries_of_step now a) made.history goes);
       }
 
   pub made_round : (es : List (Event T)) (new : Machine T) → MadeSoFar a old es new → round_of new a ≡ round.Idle
@@ -97,6 +90,7 @@ idle_is round.Pop e = absurd (cc)
 idle_is (round.PopRead p) e = absurd (cc)
 idle_is (round.PopReady p) e = absurd (cc)
 idle_is (round.PopGrabbed p) e = absurd (cc)
+idle_is (round.PopFronted p) e = absurd (cc)
 
 -- a push of x that has made these events, and a pop
 abbrev pub InPush : {T : Type 0} → T → Round T → List (Event T) → Type 0
@@ -109,6 +103,7 @@ InPush x round.Pop es = ⊥
 InPush x (round.PopRead p) es = ⊥
 InPush x (round.PopReady p) es = ⊥
 InPush x (round.PopGrabbed p) es = ⊥
+InPush x (round.PopFronted p) es = ⊥
 
 abbrev pub InPop : {T : Type 0} → Round T → List (Event T) → Type 0
 InPop round.Idle es = ⊥
@@ -120,6 +115,7 @@ InPop round.Pop es = es ≡ []
 InPop (round.PopRead p) es = es ≡ []
 InPop (round.PopReady p) es = es ≡ []
 InPop (round.PopGrabbed p) es = es ≡ Grab p ∷ []
+InPop (round.PopFronted p) es = es ≡ Front p ∷ []
 
 push_in : {T : Type 0} (x y : T) (r : Round T) (es : List (Event T)) → PushHas y r → InPush x r es
     → (y ≡ x) × (es ≡ []) × (2 ≤ steps_left r)
@@ -132,6 +128,7 @@ push_in x y round.Pop es h i = absurd h
 push_in x y (round.PopRead p) es h i = absurd h
 push_in x y (round.PopReady p) es h i = absurd h
 push_in x y (round.PopGrabbed p) es h i = absurd h
+push_in x y (round.PopFronted p) es h i = absurd h
 
 in_push : {T : Type 0} (x : T) (r : Round T) (es : List (Event T)) → PushHas x r → es ≡ [] → InPush x r es
 in_push x round.Idle es h e = absurd h
@@ -143,6 +140,7 @@ in_push x round.Pop es h e = absurd h
 in_push x (round.PopRead p) es h e = absurd h
 in_push x (round.PopReady p) es h e = absurd h
 in_push x (round.PopGrabbed p) es h e = absurd h
+in_push x (round.PopFronted p) es h e = absurd h
 
 no_pop : {T : Type 0} (x : T) (r : Round T) (es : List (Event T)) → PopSeeks r → InPush x r es → ⊥
 no_pop x round.Idle es h i = h
@@ -154,6 +152,7 @@ no_pop x round.Pop es h i = i
 no_pop x (round.PopRead p) es h i = i
 no_pop x (round.PopReady p) es h i = i
 no_pop x (round.PopGrabbed p) es h i = i
+no_pop x (round.PopFronted p) es h i = i
 
 pop_in : {T : Type 0} (r : Round T) (es : List (Event T)) → PopSeeks r → InPop r es → (es ≡ []) × (2 ≤ steps_left r)
 pop_in round.Idle es h i = absurd h
@@ -165,6 +164,7 @@ pop_in round.Pop es h i = (i, omega arith)
 pop_in (round.PopRead p) es h i = (i, omega arith)
 pop_in (round.PopReady p) es h i = (i, omega arith)
 pop_in (round.PopGrabbed p) es h i = absurd h
+pop_in (round.PopFronted p) es h i = absurd h
 
 in_pop : {T : Type 0} (r : Round T) (es : List (Event T)) → PopSeeks r → es ≡ [] → InPop r es
 in_pop round.Idle es h e = absurd h
@@ -176,6 +176,7 @@ in_pop round.Pop es h e = e
 in_pop (round.PopRead p) es h e = e
 in_pop (round.PopReady p) es h e = e
 in_pop (round.PopGrabbed p) es h e = absurd h
+in_pop (round.PopFronted p) es h e = absurd h
 
 no_push : {T : Type 0} (x : T) (r : Round T) (es : List (Event T)) → PushHas x r → InPop r es → ⊥
 no_push x round.Idle es h i = h
@@ -187,6 +188,7 @@ no_push x round.Pop es h i = h
 no_push x (round.PopRead p) es h i = h
 no_push x (round.PopReady p) es h i = h
 no_push x (round.PopGrabbed p) es h i = h
+no_push x (round.PopFronted p) es h i = h
 
 -- what the events of a round are by its answer
 abbrev pub PushEnds : {T : Type 0} → T → Result ℕ (PushError T) → List (Event T) → Type 0
@@ -197,7 +199,8 @@ PushEnds x (Err (push.Spent back)) es = (back ≡ x) × (es ≡ Spent ∷ [])
 
 abbrev pub PopEnds : {T : Type 0} → Result (ℕ × T) PopError → List (Event T) → Type 0
 PopEnds (Ok r) es = es ≡ Grab r.0 ∷ Take r.0 r.1 ∷ []
-PopEnds (Err (pop.Empty next)) es = es ≡ Empty next ∷ []
+PopEnds (Err (pop.Empty next)) es = es ≡ Front next ∷ Empty next ∷ []
+PopEnds (Err (pop.Idle next)) es = es ≡ Front next ∷ Idle next ∷ []
 PopEnds (Err (pop.Busy seen)) es = es ≡ PopBusy seen ∷ []
 
 -- A step of a round, whose answer is None where it goes on.
@@ -270,7 +273,9 @@ module _ {T : Type 0} (x : T) (r : Round T) (m : Move T) (es : List (Event T)) w
       (ap (λ (gs : List (Event T)). gs ++ Write t ∷ []) k))
   push_goes (Pops h e n less) i = absurd (no_pop x r es h i)
   push_goes (Grabs t h e n) i = absurd (no_pop x r es h i)
-  push_goes (FindsEmpty t h e n) i = absurd (no_pop x r es h i)
+  push_goes (FindsFront t h e n) i = absurd (no_pop x r es h i)
+  push_goes (FindsEmpty t h e n) i = absurd (subst (λ (u : Round T). InPush x u es) h i)
+  push_goes (FindsIdle t h e n) i = absurd (subst (λ (u : Round T). InPush x u es) h i)
   push_goes (PopIsBusy t h e n) i = absurd (no_pop x r es h i)
   push_goes (Takes t y h e n) i = absurd (subst (λ (u : Round T). InPush x u es) h i)
 
@@ -302,10 +307,23 @@ module _ {T : Type 0} (r : Round T) (m : Move T) (es : List (Event T)) where
       (goes_on InPop PopEnds r m es (Unit {0}) (Some (Grab t)) tt
       (subst (λ (u : Round T). InPop u (es ++ Grab t ∷ [])) (sym n) (after_none es (Grab t ∷ []) k.0))
       (omega (arith, left, k.1)))
-  pop_goes (FindsEmpty t h e n) i =
+  pop_goes (FindsFront t h e n) i =
       let k = pop_in r es h i in
-      pop_told (said.Empty t) (Some (Empty t)) (pop_says r m (Some (Empty t)) h e) e
-      (stops_with InPop PopEnds r m es (Unit {0}) (Some (Empty t)) (Err (pop.Empty t)) tt n (after_none es (Empty t ∷ []) k.0))
+      let left : steps_left m.round ≡ 1 = ap steps_left n in
+      pop_told (said.Front t) (Some (Front t)) (pop_says r m (Some (Front t)) h e) e
+      (goes_on InPop PopEnds r m es (Unit {0}) (Some (Front t)) tt
+      (subst (λ (u : Round T). InPop u (es ++ Front t ∷ [])) (sym n) (after_none es (Front t ∷ []) k.0))
+      (omega (arith, left, k.1)))
+  pop_goes (FindsEmpty t h e n) i =
+      let k : es ≡ Front t ∷ [] = subst (λ (u : Round T). InPop u es) h i in
+      pop_told (said.Empty t) (Some (Empty t)) (says r m (Some (Empty t)) e) e
+      (stops_with InPop PopEnds r m es (Unit {0}) (Some (Empty t)) (Err (pop.Empty t)) tt n
+      (ap (λ (gs : List (Event T)). gs ++ Empty t ∷ []) k))
+  pop_goes (FindsIdle t h e n) i =
+      let k : es ≡ Front t ∷ [] = subst (λ (u : Round T). InPop u es) h i in
+      pop_told (said.Idle t) (Some (Idle t)) (says r m (Some (Idle t)) e) e
+      (stops_with InPop PopEnds r m es (Unit {0}) (Some (Idle t)) (Err (pop.Idle t)) tt n
+      (ap (λ (gs : List (Event T)). gs ++ Idle t ∷ []) k))
   pop_goes (PopIsBusy t h e n) i =
       let k = pop_in r es h i in
       pop_told (said.Busy t None) (Some (PopBusy t)) (pop_says r m (Some (PopBusy t)) h e) e
@@ -342,8 +360,7 @@ next_step : {T A : Type 0} (in_round : Round T → List (Event T) → Type 0) (e
     (old now new : Machine T) (answer : Option A) (of : Type 0) → a < length old.rounds
     → (far : RoundSoFar in_round a old now)
     → RoundGoes in_round ends (round_of now a) (next_move now a) far.events of (next_move now a).event answer
-    → new ≡ stepped now a → GoesOn now.places now.queue (entries_of_step now a) new.queue
-    → NextStep in_round ends a old now new answer
+    → new ≡ stepped now a → GoesOn now (entries_of_step now a) new → NextStep in_round ends a old now new answer
 next_step {T} {A} in_round ends a old now new answer of lt far step e goes =
     let made = made_step a old lt far.events now new far.made e goes in
     let es = far.events ++ event_of (next_move now a).event in
@@ -376,7 +393,7 @@ next_step {T} {A} in_round ends a old now new answer of lt far step e goes =
     }
 
 module _ {T : Type 0} (a : ℕ) (old now new : Machine T) (lt : a < length old.rounds) (cell : HasItsCell now a)
-    (e : new ≡ stepped now a) (goes : GoesOn now.places now.queue (entries_of_step now a) new.queue) where
+    (e : new ≡ stepped now a) (goes : GoesOn now (entries_of_step now a) new) where
   pub push_of : (x : T) (s : Said T) → RoundSoFar (InPush x) a old now → s ≡ told now a → IsOfPush s
   push_of x s far says =
       subst (λ (t : Said T). IsOfPush t) (sym says)
@@ -422,31 +439,33 @@ pub pop_result : {T : Type 0} (a : ℕ) (old new : Machine T) (b : Result (ℕ �
     → PopEnds b es → Makes a old es new → AllByRecursion IsUnbeaten es
     → IfOk b (λ r. Makes a old (Grab r.0 ∷ Take r.0 r.1 ∷ []) new) × IfErr b (λ e. PopRoundRefused a old e new)
 pop_result a old new (Ok r) es e made un = (made_as a old new es (Grab r.0 ∷ Take r.0 r.1 ∷ []) e made, tt)
-pop_result a old new (Err (pop.Empty next)) es e made un = (tt, made_as a old new es (Empty next ∷ []) e made)
+pop_result a old new (Err (pop.Empty next)) es e made un =
+    (tt, made_as a old new es (Front next ∷ Empty next ∷ []) e made)
+pop_result a old new (Err (pop.Idle next)) es e made un = (tt, made_as a old new es (Front next ∷ Idle next ∷ []) e made)
 pop_result {T} a old new (Err (pop.Busy seen)) es e made un =
     (tt, (subst (λ (gs : List (Event T)). AllByRecursion IsUnbeaten gs) e un).0)
 
 -- a round that begins
 pub round_begins_push : {T : Type 0} (old : Machine T) (a : ℕ) → a < length old.rounds → (x : T) (new : Machine T)
-    → new ≡ began old a (round.Push x) → RoundSoFar (InPush x) a old new
-round_begins_push {T} old a lt x new e =
+    → new ≡ began old a (round.Push x) → GoesOn {N = Unit {0}} old [] new → RoundSoFar (InPush x) a old new
+round_begins_push {T} old a lt x new e goes =
     let here : round_of new a ≡ round.Push x =
     round_set new old.rounds a (round.Push x) lt (ap (λ (m : Machine T). m.rounds) e) in
     record {
       events = [];
-      made = made_nothing a old lt new (round.Push x) e;
+      made = made_nothing a old lt new (round.Push x) e goes;
       unbeaten = tt;
       current = subst (λ (r : Round T). IsCurrent new.queue r) (sym here) tt;
       stage = subst (λ (r : Round T). InPush x r []) (sym here) (refl, refl);
     }
 
 pub round_begins_pop : {T : Type 0} (old : Machine T) (a : ℕ) → a < length old.rounds → (new : Machine T)
-    → new ≡ began old a round.Pop → RoundSoFar InPop a old new
-round_begins_pop {T} old a lt new e =
+    → new ≡ began old a round.Pop → GoesOn {N = Unit {0}} old [] new → RoundSoFar InPop a old new
+round_begins_pop {T} old a lt new e goes =
     let here : round_of new a ≡ round.Pop = round_set new old.rounds a round.Pop lt (ap (λ (m : Machine T). m.rounds) e) in
     record {
       events = [];
-      made = made_nothing a old lt new round.Pop e;
+      made = made_nothing a old lt new round.Pop e goes;
       unbeaten = tt;
       current = subst (λ (r : Round T). IsCurrent new.queue r) (sym here) tt;
       stage = subst (λ (r : Round T). InPop r []) (sym here) refl;

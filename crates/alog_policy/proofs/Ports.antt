@@ -93,9 +93,9 @@ module _ {T L : Type 0} (a b : Port T L) (fit : IsFit a) where
         seat = inl (refl, refl, seat_is);
       }
 
-      refused : (e : Event T) → Made a.pass.now.known b.pass.now.known (entries_by a.pass.now.known.actor (e ∷ []))
-          → IsReadSince a.pass.now.known e → outlet.Refused PortDid IsFit a e b
-      refused e made read = let d = did (e ∷ []) made (read, tt) in (d, fit_still (e ∷ []) 0 0 d)
+      refused : (es : List (Event T)) → Made a.pass.now.known b.pass.now.known (entries_by a.pass.now.known.actor es)
+          → AllByRecursion (IsReadSince a.pass.now.known) es → outlet.Refused PortDid IsFit a es b
+      refused es made read = let d = did es made read in (d, fit_still es 0 0 d)
 
       pub push_done : (hand : Option T) (r : Result ℕ (PushError (Unit {0})))
           → IfOk r (λ t. IfSome hand (Pushed a.pass.now.known b.pass.now.known t))
@@ -108,14 +108,15 @@ module _ {T L : Type 0} (a b : Port T L) (fit : IsFit a) where
           → IfErr r (λ e. ring.PushRefused a.pass.now.known b.pass.now.known x e)
           → IfErr r (λ e. outlet.PushRefused PortDid IsFit a x e b)
       push_refused x (Ok t) is = tt
-      push_refused x (Err (Full back next)) is = (is.0, refused (queue.Full next) is.2.0 is.1)
-      push_refused x (Err (Busy back seen)) is = (is.0, refused (queue.PushBusy seen) is.2.0 is.1)
-      push_refused x (Err (Spent back)) is = (is.0, refused queue.Spent is.1.0 tt)
+      push_refused x (Err (Full back next)) is = (is.0, refused (queue.Full next ∷ []) is.2.0 (is.1, tt))
+      push_refused x (Err (Busy back seen)) is = (is.0, refused (queue.PushBusy seen ∷ []) is.2.0 (is.1, tt))
+      push_refused x (Err (Spent back)) is = (is.0, refused (queue.Spent ∷ []) is.1.0 (tt, tt))
 
       pub pop_refused : (e : PopError) → ring.PopRefused a.pass.now.known b.pass.now.known e
           → outlet.PopRefused PortDid IsFit a e b
-      pop_refused (pop.Empty next) is = refused (queue.Empty next) is.1.0 is.0
-      pop_refused (pop.Busy seen) is = refused (queue.PopBusy seen) is.1.0 is.0
+      pop_refused (pop.Empty next) is = refused (queue.Front next ∷ queue.Empty next ∷ []) is.1.0 (is.0, (is.0, tt))
+      pop_refused (pop.Idle next) is = refused (queue.Front next ∷ queue.Idle next ∷ []) is.1.0 (is.0, (is.0, tt))
+      pop_refused (pop.Busy seen) is = refused (queue.PopBusy seen ∷ []) is.1.0 (is.0, tt)
 
     pub overran : (t : ℕ) (y : T) → Popped a.pass.now.known b.pass.now.known t y → IsSeatOf a.book.now b.seat.now
         → Adds a.seat.now.known b.seat.now.known (Overran 1) → outlet.Overran PortDid IsFit a t b

@@ -1,12 +1,12 @@
 -- A whole run of a desk, step by step.
-use Rattle.std.proofs.Common.{◌≡◌, ◌≢◌, ℕ, ◌+◌, ◌<◌, ◌==◌, cond, true, false, Option, None, Some, Ok, Err}
+use Rattle.std.proofs.Common.{◌≡◌, ◌≢◌, ℕ, zero, suc, ◌+◌, ◌<◌, ◌==◌, cond, true, false, Option, None, Some, Ok, Err}
 use Rattle.std.proofs.Common.{List, [], ◌∷◌, ◌++◌, length, refl, sym, ap, subst, ◌∙◌, arith, get_or, set, get_or-set_other}
-use Rattle.std.proofs.Common.{get_or-set_same, length-set}
+use Rattle.std.proofs.Common.{get_or-set_same, length-set, replicate}
 use Rattle.std.proofs.Common.{append_assoc, append-nil}
 use Rattle.std.proofs.lemmas.List.{set-get_or, get_or-replicate, length-replicate}
-use Rattle.alog_core.specs.Queue.{Queue, Event, start, last}
-use Rattle.alog_core.specs.History.{Entry, StandsFor}
-use Rattle.alog_core.specs.Run.{HasItsCell}
+use Rattle.alog_core.specs.Queue.{Event, start, last}
+use Rattle.alog_core.specs.History.{Entry}
+use Rattle.alog_core.specs.Run.{LeadsTo, GoesOn, HasItsCell}
 use Rattle.alog_core.specs.Staged.{IsStaged, IsReached}
 use Rattle.alog_core.specs.World.{Machine, fresh, is_size, round_of, is_idle, next_move, stepped, told}
 use Rattle.alog_core.specs.World.{entries_of}
@@ -14,8 +14,9 @@ use Rattle.alog_core.specs.declared.TheConstants.{ACTORS}
 use Rattle.alog_core.specs.declared.round.Round.{Round}
 use Rattle.alog_core.specs.declared.round.Round.TheVariants as round
 use Rattle.alog_core.proofs.Cells.{on_test}
-use Rattle.alog_core.proofs.Histories.{stands_start, stands_step}
-use Rattle.alog_core.proofs.Reached.{reached_began, reached_stepped, fine_step}
+use Rattle.alog_core.proofs.Fronts.{goes_began, goes_step}
+use Rattle.alog_core.proofs.Histories.{stands_start}
+use Rattle.alog_core.proofs.Reached.{reached_began, reached_stepped}
 use Rattle.alog_core.proofs.Runs.{has_its_cell}
 use Rattle.alog_core.proofs.Sizes.{size_facts}
 use Rattle.alog_core.proofs.Sound.{sound_start}
@@ -39,7 +40,7 @@ use Rattle.alog_policy.proofs.StepKinds.{Kind}
 use Rattle.alog_policy.proofs.Losses.{turn_counts}
 use Rattle.alog_policy.proofs.Desks.{kept_set, has_value, round_set}
 use Rattle.alog_policy.proofs.Turns.{turn_comes}
-use Rattle.alog_policy.proofs.DeskSteps.{post_begins, kept_fresh, kept_after, rounds_after, turn_queue}
+use Rattle.alog_policy.proofs.DeskSteps.{post_begins, kept_fresh, kept_after, rounds_after, turn_goes}
 use Rattle.alog_policy.proofs.Making.{idle_is, kind_here}
 use Rattle.alog_policy.proofs.Cutting.{plain_cut, post_cut, begins_cut, post_begins_cut, ended_leaves}
 
@@ -112,7 +113,6 @@ fits_idle {T} (Some p) r e f = absurd (subst (λ (s : Round T). FitsRound p s) e
 record After {T : Type 0} (n f : ℕ) (calls : List (CallMade T)) (steps : List (StepMade T)) (e : DeskView T) : Type 0 where
   pub reached : IsReached e.world
   pub kept : IsKeptDesk e
-  pub places : e.world.places ≡ n
   pub run : IsRun n f calls steps e
 
 abbrev CutOf : {T : Type 0} → DeskView T → List (CallMade T) → List (StepMade T) → ℕ → Type 0
@@ -141,14 +141,35 @@ reached_fresh {T} n f size below =
           subst (λ (r : Round T). IsStaged n (start f) a r) (sym (get_or-replicate ACTORS a round.Idle round.Idle lt)) tt;
     }
 
+-- a machine to which the same histories lead
+leads_still : {T : Type 0} (f : ℕ) (h : List (Entry T (Unit {0}))) (m k : Machine T) → GoesOn {N = Unit {0}} m [] k
+    → LeadsTo f h m → LeadsTo f h k
+leads_still {T} f h m k goes leads =
+    subst (λ (g : List (Entry T (Unit {0}))). LeadsTo f g k) (append-nil h) (goes f h leads)
+
+all_the_same : {X : Type 0} (n i : ℕ) (x : X) → get_or (replicate n x) i x ≡ x
+all_the_same zero i x = refl
+all_the_same (suc n) zero x = refl
+all_the_same (suc n) (suc i) x = all_the_same n i x
+
+-- nobody is in a round of a new machine
+none_in_round : {T : Type 0} (n f a : ℕ) → round_of (fresh {T = T} n f) a ≡ round.Idle
+none_in_round n f a = all_the_same ACTORS a round.Idle
+
+leads_start : {T : Type 0} (n f : ℕ) → LeadsTo {N = Unit {0}} f [] (fresh {T = T} n f)
+leads_start {T} n f = record {
+  stands = stands_start n f;
+  fronts = λ a p is. let none : round_of (fresh {T = T} n f) a ≡ round.Idle = none_in_round n f a in absurd (cc);
+}
+
 after_start : {T : Type 0} (n f : ℕ) → is_size n ≡ true → f < last → After {T = T} n f [] [] (fresh_desk n f)
 after_start {T} n f size below =
     record {
       reached = reached_fresh n f size below;
       kept = kept_fresh (fresh_desk n f) n f refl;
-      places = refl;
       run = record {
-        history = stands_start n f;
+        places = refl;
+        history = leads_start n f;
         actors = λ a lt.
             same_cut None (post_of (fresh_desk n f) a) round.Idle (round_of (fresh n f) a) [] [] [] [] [] []
             (get_or-replicate ACTORS a None None lt) (get_or-replicate ACTORS a round.Idle round.Idle lt) refl refl refl
@@ -184,8 +205,9 @@ module _ {T : Type 0} (n f : ℕ) (calls : List (CallMade T)) (steps : List (Ste
 
   -- a push or a pop begins
   after_call : (r : Round T) (c : Call T) → is_idle (round_of e.world a) ≡ true → IsStaged e.world.places e.world.queue a r
-      → IsBegun r (c ∷ []) [] → After n f (calls ++ called a c ∷ []) steps (call_began e a r)
-  after_call r c idle staged begun =
+      → ((t : ℕ) → r ≢ round.PopFronted t) → IsBegun r (c ∷ []) []
+      → After n f (calls ++ called a c ∷ []) steps (call_began e a r)
+  after_call r c idle staged first begun =
       let new : DeskView T = call_began e a r in
       let more : List (CallMade T) = calls ++ called a c ∷ [] in
       let before : round_of e.world a ≡ round.Idle = idle_is (round_of e.world a) idle in
@@ -195,9 +217,10 @@ module _ {T : Type 0} (n f : ℕ) (calls : List (CallMade T)) (steps : List (Ste
         reached = reached_began e.world a r after.reached lt staged;
         kept = kept_set e new a r (post_of e a) after.kept lt (subst (λ (o : Option (Post T)). Fits o r) (sym no_post) tt)
             refl same_posts;
-        places = after.places;
         run = record {
-          history = after.run.history;
+          places = after.run.places;
+          history = leads_still f (entries_made steps) e.world new.world
+              (goes_began e.world a r after.kept.actors lt first) after.run.history;
           actors = λ b below.
               on_test (λ _. CutOf new more steps b) b a
               (λ same.
@@ -231,9 +254,10 @@ module _ {T : Type 0} (n f : ℕ) (calls : List (CallMade T)) (steps : List (Ste
       record {
         reached = reached_began e.world a (round.Push x) after.reached lt tt;
         kept = both.0;
-        places = after.places;
         run = record {
-          history = after.run.history;
+          places = after.run.places;
+          history = leads_still f (entries_made steps) e.world new.world
+              (goes_began e.world a (round.Push x) after.kept.actors lt (λ t is. cc)) after.run.history;
           actors = λ b below.
               on_test (λ _. CutOf new more steps b) b a
               (λ same.
@@ -309,19 +333,13 @@ module _ {T : Type 0} (n f : ℕ) (calls : List (CallMade T)) (steps : List (Ste
   kind : Kind T (round_of e.world a) (next_move e.world a)
   kind = kind_here e.world a cell
 
-  stood : (s : StepMade T) → s.actor ≡ a → s.event ≡ (next_move e.world a).event
-      → StandsFor n f (entries_made (steps ++ s ∷ [])) (stepped e.world a).queue
-  stood s actor event =
-      let q : Queue T = (stepped e.world a).queue in
-      let o = (next_move e.world a).event in
-      let more =
-      stands_step e.world.places f (entries_made steps) e.world.queue a tt o
-      (subst (λ m. StandsFor m f (entries_made steps) e.world.queue) (sym after.places) after.run.history)
-      (fine_step e.world a after.reached lt).allowed in
-      subst (λ (h : List (Entry T (Unit {0}))). StandsFor n f h q)
+  led : (s : StepMade T) → s.actor ≡ a → s.event ≡ (next_move e.world a).event
+      → LeadsTo f (entries_made (steps ++ s ∷ [])) (stepped e.world a)
+  led s actor event =
+      subst (λ (h : List (Entry T (Unit {0}))). LeadsTo f h (stepped e.world a))
       (ap (λ (u : Option (Event T)). entries_made steps ++ entries_of a tt u) (sym event)
       ∙ (ap (λ b. entries_made steps ++ entries_of b tt s.event) (sym actor) ∙ sym (entries_made-last s steps)))
-      (subst (λ m. StandsFor m f (entries_made steps ++ entries_of a tt o) q) after.places more)
+      (goes_step e.world a after.reached lt f (entries_made steps) after.run.history)
 
   -- the events and outcomes of an actor with one more step
   others_cut : (new : DeskView T) (s : StepMade T) (b : ℕ) → s.actor ≡ a → b ≢ a → post_of new b ≡ post_of e b
@@ -368,9 +386,9 @@ module _ {T : Type 0} (n f : ℕ) (calls : List (CallMade T)) (steps : List (Ste
         reached = reached_stepped e.world a after.reached lt;
         kept = kept_set e new a r (post_of e a) after.kept lt (subst (λ (o : Option (Post T)). Fits o r) (sym no_post) tt)
             refl posts;
-        places = after.places;
         run = record {
-          history = stood (made_by None) refl refl;
+          places = after.run.places;
+          history = led (made_by None) refl refl;
           actors = λ b below.
               on_test (λ _. CutOf new calls (steps ++ made_by None ∷ []) b) b a
               (λ same.
@@ -415,10 +433,11 @@ module _ {T : Type 0} (n f : ℕ) (calls : List (CallMade T)) (steps : List (Ste
       record {
         reached = turn_reached w a p d v (follows p.progress s) (reached_stepped e.world a after.reached lt) lt;
         kept = kept;
-        places = turn_places w a p d v (follows p.progress s) ∙ after.places;
         run = record {
-          history = subst (λ (q : Queue T). StandsFor n f (entries_made (steps ++ made_by (Some p) ∷ [])) q)
-              (sym (turn_queue w a p d v (follows p.progress s))) (stood (made_by (Some p)) refl refl);
+          places = turn_places w a p d v (follows p.progress s) ∙ after.run.places;
+          history = leads_still f (entries_made (steps ++ made_by (Some p) ∷ [])) w new.world
+              (turn_goes w a p d v (follows p.progress s) (length-set e.world.rounds a m.round ∙ after.kept.actors) lt)
+              (led (made_by (Some p)) refl refl);
           actors = λ b below.
               on_test (λ _. CutOf new calls (steps ++ made_by (Some p) ∷ []) b) b a
               (λ same.
@@ -452,9 +471,10 @@ after_run : {T : Type 0} (n f : ℕ) (calls : List (CallMade T)) (steps : List (
     → f < last → Plays (fresh_desk n f) calls steps e → After n f calls steps e
 after_run n f calls steps e size below starts = after_start n f size below
 after_run n f calls steps e size below (pushes {calls = cs} {steps = ss} {e = d} a x plays lt idle) =
-    after_call n f cs ss d (after_run n f cs ss d size below plays) a lt (round.Push x) (ToPush x) idle tt (refl, refl)
+    after_call n f cs ss d (after_run n f cs ss d size below plays) a lt (round.Push x) (ToPush x) idle tt (λ t is. cc)
+    (refl, refl)
 after_run n f calls steps e size below (pops {calls = cs} {steps = ss} {e = d} a plays lt idle) =
-    after_call n f cs ss d (after_run n f cs ss d size below plays) a lt round.Pop ToPop idle tt (refl, refl)
+    after_call n f cs ss d (after_run n f cs ss d size below plays) a lt round.Pop ToPop idle tt (λ t is. cc) (refl, refl)
 after_run n f calls steps e size below (posts {calls = cs} {steps = ss} {e = d} a p x plays lt idle) =
     after_post n f cs ss d (after_run n f cs ss d size below plays) a lt p x idle
 after_run n f calls steps e size below (steps_on {calls = cs} {steps = ss} {e = d} a plays lt busy) =

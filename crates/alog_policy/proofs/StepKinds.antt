@@ -1,7 +1,8 @@
 -- What kind of step each step of a round is.
 use Rattle.std.proofs.Common.{◌≡◌, ◌<◌, ℕ, cond, Bool, true, false, Option, None, Some, refl, sym, ap, subst, arith}
 use Rattle.std.specs.Prelude.{◌==◌, ◌&&◌, ◌||◌, not, nat_lt, is_none}
-use Rattle.alog_core.specs.Queue.{Cell, Queue, Claim, Write, Grab, Take, Full, Empty, PushBusy, PopBusy, Spent, last, cell_of}
+use Rattle.alog_core.specs.Queue.{Cell, Queue, Claim, Write, Grab, Take, Full, Front, Empty, Idle, PushBusy, PopBusy, Spent}
+use Rattle.alog_core.specs.Queue.{last, cell_of}
 use Rattle.alog_core.specs.Round.{Move, move_of, goes_on, makes, ends, taking, is_blocked, is_claimed}
 use Rattle.alog_core.specs.World.{brought}
 use Rattle.alog_core.specs.declared.round.Round.{Round}
@@ -18,8 +19,9 @@ PushHas x round.Pop = ⊥
 PushHas x (round.PopRead p) = ⊥
 PushHas x (round.PopReady p) = ⊥
 PushHas x (round.PopGrabbed p) = ⊥
+PushHas x (round.PopFronted p) = ⊥
 
--- a pop that has grabbed nothing yet
+-- a pop that has made no event yet
 abbrev pub PopSeeks : {T : Type 0} → Round T → Type 0
 PopSeeks round.Idle = ⊥
 PopSeeks (round.Push y) = ⊥
@@ -30,6 +32,7 @@ PopSeeks round.Pop = Unit {0}
 PopSeeks (round.PopRead p) = Unit {0}
 PopSeeks (round.PopReady p) = Unit {0}
 PopSeeks (round.PopGrabbed p) = ⊥
+PopSeeks (round.PopFronted p) = ⊥
 
 -- how many steps are left to a round, at most
 abbrev pub steps_left : {T : Type 0} → Round T → ℕ
@@ -42,6 +45,7 @@ steps_left round.Pop = 4
 steps_left (round.PopRead p) = 3
 steps_left (round.PopReady p) = 2
 steps_left (round.PopGrabbed p) = 1
+steps_left (round.PopFronted p) = 1
 
 -- a step of a round, by its event and where it leaves the actor
 pub data Kind (T : Type 0) (r : Round T) (m : Move T) : Type 0 where
@@ -54,7 +58,9 @@ pub data Kind (T : Type 0) (r : Round T) (m : Move T) : Type 0 where
   Writes : (t : ℕ) → r ≡ round.PushClaimed t → m.event ≡ Some (Write t) → m.round ≡ round.Idle → Kind T r m
   Pops : PopSeeks r → m.event ≡ None → PopSeeks m.round → steps_left m.round < steps_left r → Kind T r m
   Grabs : (t : ℕ) → PopSeeks r → m.event ≡ Some (Grab t) → m.round ≡ round.PopGrabbed t → Kind T r m
-  FindsEmpty : (t : ℕ) → PopSeeks r → m.event ≡ Some (Empty t) → m.round ≡ round.Idle → Kind T r m
+  FindsFront : (t : ℕ) → PopSeeks r → m.event ≡ Some (Front t) → m.round ≡ round.PopFronted t → Kind T r m
+  FindsEmpty : (t : ℕ) → r ≡ round.PopFronted t → m.event ≡ Some (Empty t) → m.round ≡ round.Idle → Kind T r m
+  FindsIdle : (t : ℕ) → r ≡ round.PopFronted t → m.event ≡ Some (Idle t) → m.round ≡ round.Idle → Kind T r m
   PopIsBusy : (t : ℕ) → PopSeeks r → m.event ≡ Some (PopBusy t) → m.round ≡ round.Idle → Kind T r m
   Takes : (t : ℕ) (y : T) → r ≡ round.PopGrabbed t → m.event ≡ Some (Take t y) → m.round ≡ round.Idle → Kind T r m
 
@@ -87,8 +93,8 @@ kind_pop_read : {T : Type 0} (n : ℕ) (q : Queue T) (p : ℕ) → Kind T (round
 kind_pop_read {T} n q p =
     let unwritten : Bool = p == q.front && (is_none (cell_of p q.cells) || is_claimed (cell_of p q.cells)) in
     let late : Bool = nat_lt p q.front && is_none (cell_of p q.cells) in
-    either (Kind T (round.PopRead p)) unwritten (ends (Empty p))
-    (cond late (ends (PopBusy p)) (goes_on (round.PopReady p))) (FindsEmpty p tt refl refl)
+    either (Kind T (round.PopRead p)) unwritten (makes (Front p) (round.PopFronted p))
+    (cond late (ends (PopBusy p)) (goes_on (round.PopReady p))) (FindsFront p tt refl refl)
     (either (Kind T (round.PopRead p)) late (ends (PopBusy p)) (goes_on (round.PopReady p)) (PopIsBusy p tt refl refl)
     (Pops tt refl tt (omega arith)))
 
@@ -96,6 +102,11 @@ kind_pop_ready : {T : Type 0} (n : ℕ) (q : Queue T) (p : ℕ) → Kind T (roun
 kind_pop_ready {T} n q p =
     either (Kind T (round.PopReady p)) (q.front == p) (makes (Grab p) (round.PopGrabbed p)) (ends (PopBusy p))
     (Grabs p tt refl refl) (PopIsBusy p tt refl refl)
+
+kind_pop_fronted : {T : Type 0} (n : ℕ) (q : Queue T) (p : ℕ) → Kind T (round.PopFronted p) (move_of n q (round.PopFronted p))
+kind_pop_fronted {T} n q p =
+    either (Kind T (round.PopFronted p)) (q.next == p) (ends (Idle p)) (ends (Empty p)) (FindsIdle p refl refl refl)
+    (FindsEmpty p refl refl refl)
 
 kind_taking : {T : Type 0} (p : ℕ) (o : Option (Cell T)) (c : Cell T) → o ≡ Some c
     → Kind T (round.PopGrabbed p) (taking p o)
@@ -114,6 +125,7 @@ kind_of n q round.Pop has = Pops tt refl tt (omega arith)
 kind_of n q (round.PopRead p) has = kind_pop_read n q p
 kind_of n q (round.PopReady p) has = kind_pop_ready n q p
 kind_of n q (round.PopGrabbed p) has = let c = has p refl in kind_taking p (cell_of p q.cells) c.0 c.1
+kind_of n q (round.PopFronted p) has = kind_pop_fronted n q p
 
 -- what a push still has is what it brought, and a pop brought nothing
 pub brought_push : {T : Type 0} (x : T) (r : Round T) → PushHas x r → brought r ≡ Some x
@@ -126,6 +138,7 @@ brought_push x round.Pop h = absurd h
 brought_push x (round.PopRead p) h = absurd h
 brought_push x (round.PopReady p) h = absurd h
 brought_push x (round.PopGrabbed p) h = absurd h
+brought_push x (round.PopFronted p) h = absurd h
 
 pub brought_pop : {T : Type 0} (r : Round T) → PopSeeks r → brought r ≡ None
 brought_pop round.Idle h = absurd h
@@ -137,3 +150,4 @@ brought_pop round.Pop h = refl
 brought_pop (round.PopRead p) h = refl
 brought_pop (round.PopReady p) h = refl
 brought_pop (round.PopGrabbed p) h = absurd h
+brought_pop (round.PopFronted p) h = absurd h

@@ -2,15 +2,15 @@
 use Rattle.std.proofs.Common.{◌≡◌, ℕ, ◌<◌, Option, None, Some, Result, Ok, Err, List, [], ◌∷◌, ◌++◌, length}
 use Rattle.std.proofs.Common.{refl, sym, subst, ◌∙◌, get_or-set_same, append-nil}
 use Rattle.std.specs.Prelude.{IfOk}
-use Rattle.alog_core.specs.Queue.{Event, Claim, Write, Grab, Take, Full, Empty, PushBusy, PopBusy, Spent}
+use Rattle.alog_core.specs.Queue.{Event, Claim, Write, Grab, Take, Full, Front, Empty, Idle, PushBusy, PopBusy, Spent}
 use Rattle.alog_core.specs.Round.{Move}
 use Rattle.alog_core.specs.World.{Machine, round_of}
 use Rattle.alog_core.specs.declared.round.Round.{Round}
 use Rattle.alog_core.specs.declared.round.Round.TheVariants as round
 use Rattle.alog_core.specs.declared.said.Said.{Said}
 use Rattle.alog_core.specs.declared.said.Said.TheVariants as said
-use Rattle.alog_policy.specs.Post.{IsPost, Part, Pushing, Claimed, Popping, Grabbed, PushBeaten, PopBeaten, Wrote, OutOfTickets}
-use Rattle.alog_policy.specs.Post.{NothingToTake}
+use Rattle.alog_policy.specs.Post.{IsPost, Part, Pushing, Claimed, Popping, Grabbed, Fronted, PushBeaten, PopBeaten, Wrote}
+use Rattle.alog_policy.specs.Post.{OutOfTickets, NothingToTake, AllGrabbed}
 use Rattle.alog_policy.specs.Post as post
 use Rattle.alog_policy.specs.Progress.{IsKept, IsFresh, IsSoFar, Agrees, again, after_full, after_take}
 use Rattle.alog_policy.specs.Desk.{Leads, call_of, hand_of, Turn, turn_to, turn_of, with_said, event_of, IsAt}
@@ -27,7 +27,7 @@ use Rattle.alog_policy.specs.declared.progress.Lost.{Lost}
 use Rattle.alog_policy.proofs.Posts.{part_agrees, end_agrees, again_agrees, take_agrees, full_agrees}
 use Rattle.alog_policy.proofs.Keeping.{kept_again, kept_full, kept_take}
 use Rattle.alog_policy.proofs.StepKinds.{PushHas, PopSeeks, Kind, IsIdle, Pushes, Claims, FindsFull, PushIsBusy, IsSpent, Writes}
-use Rattle.alog_policy.proofs.StepKinds.{Pops, Grabs, FindsEmpty, PopIsBusy, Takes}
+use Rattle.alog_policy.proofs.StepKinds.{Pops, Grabs, FindsFront, FindsEmpty, FindsIdle, PopIsBusy, Takes}
 use Rattle.alog_policy.proofs.Desks.{push_side, pop_side, fits_push, fits_pop, saying, push_says, pop_says, says, turn_led_fits}
 
 -- The post of an actor fits its round after the step too.
@@ -67,7 +67,11 @@ module _ {T : Type 0} (w : Machine T) (a : ℕ) (p : Post T) (c : Counts) (r : R
   turn_fits (Grabs t h e n) f =
       subst FitsAfter (sym (pop_says r m (Some (Grab t)) h e))
       (stays_fit (subst (λ (s : Round T). FitsRound p s) (sym n) (pop_side p r h f)))
-  turn_fits (FindsEmpty t h e n) f = subst FitsAfter (sym (pop_says r m (Some (Empty t)) h e)) tt
+  turn_fits (FindsFront t h e n) f =
+      subst FitsAfter (sym (pop_says r m (Some (Front t)) h e))
+      (stays_fit (subst (λ (s : Round T). FitsRound p s) (sym n) (pop_side p r h f)))
+  turn_fits (FindsEmpty t h e n) f = subst FitsAfter (sym (says r m (Some (Empty t)) e)) tt
+  turn_fits (FindsIdle t h e n) f = subst FitsAfter (sym (says r m (Some (Idle t)) e)) tt
   turn_fits (PopIsBusy t h e n) f =
       subst FitsAfter (sym (pop_says r m (Some (PopBusy t)) h e))
       (led_in_hand c (again p.progress) (pop_side p r h f) (kept_again p.progress kept))
@@ -88,6 +92,7 @@ at_push x y h s round.Pop b has at = absurd has
 at_push x y h s (round.PopRead t) b has at = absurd has
 at_push x y h s (round.PopReady t) b has at = absurd has
 at_push x y h s (round.PopGrabbed t) b has at = absurd has
+at_push x y h s (round.PopFronted t) b has at = absurd has
 
 at_pop : {T : Type 0} (x : T) (h : Option T) (s : Side) (r : Round T) (b : Part) → PopSeeks r → IsAt x h s r b
     → (s ≡ Pop) × (h ≡ Some x) × ((f : ℕ) × (b ≡ Popping f))
@@ -100,6 +105,7 @@ at_pop x h s round.Pop b has at = at
 at_pop x h s (round.PopRead t) b has at = at
 at_pop x h s (round.PopReady t) b has at = at
 at_pop x h s (round.PopGrabbed t) b has at = absurd has
+at_pop x h s (round.PopFronted t) b has at = absurd has
 
 push_at : {T : Type 0} (x : T) (h : Option T) (s : Side) (r : Round T) (b : Part) → PushHas x r → s ≡ Push → h ≡ None
     → b ≡ Pushing → IsAt x h s r b
@@ -112,6 +118,7 @@ push_at x h s round.Pop b has side none part = absurd has
 push_at x h s (round.PopRead t) b has side none part = absurd has
 push_at x h s (round.PopReady t) b has side none part = absurd has
 push_at x h s (round.PopGrabbed t) b has side none part = absurd has
+push_at x h s (round.PopFronted t) b has side none part = absurd has
 
 pop_at : {T : Type 0} (x : T) (h : Option T) (s : Side) (r : Round T) (b : Part) → PopSeeks r
     → (s ≡ Pop) × (h ≡ Some x) × ((f : ℕ) × (b ≡ Popping f)) → IsAt x h s r b
@@ -124,6 +131,7 @@ pop_at x h s round.Pop b has at = at
 pop_at x h s (round.PopRead t) b has at = at
 pop_at x h s (round.PopReady t) b has at = at
 pop_at x h s (round.PopGrabbed t) b has at = absurd has
+pop_at x h s (round.PopFronted t) b has at = absurd has
 
 -- after these events the post is under way, or has ended with its outcome
 pub record StandsAt {T : Type 0} (q : Policy) (x : T) (es : List (Event T)) (o : Option (Post T)) (r : Round T) : Type 0 where
@@ -256,13 +264,30 @@ module _ {T : Type 0} (w : Machine T) (a : ℕ) (p : Post T) (c : Counts) (x : T
         (part_agrees p.progress.policy x p.progress.rounds p.progress.overran (Popping f) es (Grab t ∷ [])
         (way_at (Popping f) k.2.1) (Grabbed f t) (kept.pops k.0) refl refl)
 
-    finds_empty : (t : ℕ) → PopSeeks r → After (said.Empty t) (Some (Empty t))
-    finds_empty t h =
+    finds_front : (t : ℕ) → PopSeeks r → m.round ≡ round.PopFronted t → After (said.Front t) (Some (Front t))
+    finds_front t h n =
         let k = at_pop x p.hand p.progress.side r b h at in
         let f = k.2.0 in
+        stays_at (Fronted f t) (es ++ Front t ∷ [])
+        (subst (λ (u : Round T). IsAt x p.hand p.progress.side u (Fronted f t)) (sym n) (k.0, k.1, (f, refl)))
+        (part_agrees p.progress.policy x p.progress.rounds p.progress.overran (Popping f) es (Front t ∷ [])
+        (way_at (Popping f) k.2.1) (Fronted f t) (kept.pops k.0) refl refl)
+
+    finds_empty : (t : ℕ) → r ≡ round.PopFronted t → After (said.Empty t) (Some (Empty t))
+    finds_empty t h =
+        let k = subst (λ (u : Round T). IsAt x p.hand p.progress.side u b) h at in
+        let f = k.2.0 in
         led_hand_comes c (Err (record { why = why.Stalled; overran = p.progress.overran })) (es ++ Empty t ∷ []) k.1
-        (end_agrees p.progress.policy x p.progress.rounds p.progress.overran (Popping f) es (Empty t ∷ [])
-        (way_at (Popping f) k.2.1) x (NothingToTake f t) (kept.within, kept.pops k.0) refl refl)
+        (end_agrees p.progress.policy x p.progress.rounds p.progress.overran (Fronted f t) es (Empty t ∷ [])
+        (way_at (Fronted f t) k.2.1) x (NothingToTake f t) (kept.within, kept.pops k.0) refl refl)
+
+    finds_idle : (t : ℕ) → r ≡ round.PopFronted t → After (said.Idle t) (Some (Idle t))
+    finds_idle t h =
+        let k = subst (λ (u : Round T). IsAt x p.hand p.progress.side u b) h at in
+        let f = k.2.0 in
+        led_hand_comes c (Err (record { why = why.Stalled; overran = p.progress.overran })) (es ++ Idle t ∷ []) k.1
+        (end_agrees p.progress.policy x p.progress.rounds p.progress.overran (Fronted f t) es (Idle t ∷ [])
+        (way_at (Fronted f t) k.2.1) x (AllGrabbed f t) (kept.within, kept.pops k.0) refl refl)
 
     pop_is_busy : (t : ℕ) → PopSeeks r → After (said.Busy t None) (Some (PopBusy t))
     pop_is_busy t h =
@@ -296,8 +321,12 @@ module _ {T : Type 0} (w : Machine T) (a : ℕ) (p : Post T) (c : Counts) (x : T
     turn_comes (Pops h e n less) = told_after said.Nothing None (pop_says r m None h e) e (pops h n)
     turn_comes (Grabs t h e n) =
         told_after (said.Grab t) (Some (Grab t)) (pop_says r m (Some (Grab t)) h e) e (grabs t h n)
+    turn_comes (FindsFront t h e n) =
+        told_after (said.Front t) (Some (Front t)) (pop_says r m (Some (Front t)) h e) e (finds_front t h n)
     turn_comes (FindsEmpty t h e n) =
-        told_after (said.Empty t) (Some (Empty t)) (pop_says r m (Some (Empty t)) h e) e (finds_empty t h)
+        told_after (said.Empty t) (Some (Empty t)) (says r m (Some (Empty t)) e) e (finds_empty t h)
+    turn_comes (FindsIdle t h e n) =
+        told_after (said.Idle t) (Some (Idle t)) (says r m (Some (Idle t)) e) e (finds_idle t h)
     turn_comes (PopIsBusy t h e n) =
         told_after (said.Busy t None) (Some (PopBusy t)) (pop_says r m (Some (PopBusy t)) h e) e (pop_is_busy t h)
     turn_comes (Takes t y h e n) =

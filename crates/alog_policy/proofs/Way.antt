@@ -3,8 +3,8 @@ use Rattle.std.proofs.Common.{◌≡◌, ◌≢◌, ℕ, ◌+◌, ◌⊎◌, inl
 use Rattle.std.proofs.Common.{add-zero, append-nil}
 use Rattle.std.specs.Prelude.{IsSome}
 use Rattle.alog_core.specs.Queue.{Event, Claim, Write}
-use Rattle.alog_policy.specs.Post.{IsPost, Part, Pushing, takes_in, End, Wrote, OutOfTickets, NoRoom, NothingToTake, OutOfRounds}
-use Rattle.alog_policy.specs.Post.{outcome_of, overran_in}
+use Rattle.alog_policy.specs.Post.{IsPost, Part, Pushing, takes_in, End, Wrote, OutOfTickets, NoRoom, NothingToTake, AllGrabbed}
+use Rattle.alog_policy.specs.Post.{OutOfRounds, outcome_of, overran_in}
 use Rattle.alog_policy.specs.Progress.{IsKept, IsFresh, IsSoFar, without_waiting, begun}
 use Rattle.alog_policy.specs.Outlet.{Doing, Posts, Leads, with_value, left_in, IsLeft, IsPostedOrSpent}
 use Rattle.alog_policy.specs.declared.policy.Policy.{Policy}
@@ -49,6 +49,7 @@ overran_in-outcome v k (Wrote t) = refl
 overran_in-outcome v k OutOfTickets = refl
 overran_in-outcome v k (NoRoom f) = refl
 overran_in-outcome v k (NothingToTake f t) = refl
+overran_in-outcome v k (AllGrabbed f t) = refl
 overran_in-outcome v k OutOfRounds = refl
 
 overran_takes : {T V : Type 0} (p : Policy) (x : T) (v : V) (es : List (Event T)) (o : Outcome V) → IsPost p x v es o
@@ -152,6 +153,7 @@ with_value-outcome v k (Wrote t) = refl
 with_value-outcome v k OutOfTickets = refl
 with_value-outcome v k (NoRoom f) = refl
 with_value-outcome v k (NothingToTake f t) = refl
+with_value-outcome v k (AllGrabbed f t) = refl
 with_value-outcome v k OutOfRounds = refl
 
 post_with : {T V : Type 0} (p : Policy) (x : T) (v : V) (es : List (Event T)) (o : Outcome (Unit {0}))

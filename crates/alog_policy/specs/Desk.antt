@@ -8,7 +8,7 @@ use Rattle.alog_core.specs.declared.round.Round.{Round}
 use Rattle.alog_core.specs.declared.round.Round.TheVariants as round
 use Rattle.alog_core.specs.declared.said.Said.{Said}
 use Rattle.alog_core.specs.declared.said.Said.TheVariants as said
-use Rattle.alog_policy.specs.Post.{IsPost, Part, Pushing, Claimed, Popping, Grabbed}
+use Rattle.alog_policy.specs.Post.{IsPost, Part, Pushing, Claimed, Popping, Grabbed, Fronted}
 use Rattle.alog_policy.specs.Progress.{IsSoFar, begun, lost, again, after_full, after_take}
 use Rattle.alog_policy.specs.declared.counts.Counts.{Counts}
 use Rattle.alog_policy.specs.declared.policy.Policy.{Policy}
@@ -70,7 +70,9 @@ follows g (said.Write t) = Ends t
 follows g (said.Full t x) = Leads (after_full g)
 follows g (said.Grab t) = Stays
 follows g (said.Take t y) = Leads (after_take g)
+follows g (said.Front t) = Stays
 follows g (said.Empty t) = Leads (Err (lost g why.Stalled))
+follows g (said.Idle t) = Leads (Err (lost g why.Stalled))
 follows g (said.Busy t x) = Leads (again g)
 follows g (said.Spent x) = Leads (Err (lost g why.Spent))
 
@@ -86,7 +88,9 @@ value_in h (said.Write t) = h
 value_in h (said.Full t x) = or_else x h
 value_in h (said.Grab t) = h
 value_in h (said.Take t y) = h
+value_in h (said.Front t) = h
 value_in h (said.Empty t) = h
+value_in h (said.Idle t) = h
 value_in h (said.Busy t x) = or_else x h
 value_in h (said.Spent x) = or_else x h
 
@@ -98,7 +102,9 @@ said_in_post (said.Write t) = said.Write t
 said_in_post (said.Full t x) = said.Full t None
 said_in_post (said.Grab t) = said.Grab t
 said_in_post (said.Take t y) = said.Take t y
+said_in_post (said.Front t) = said.Front t
 said_in_post (said.Empty t) = said.Empty t
+said_in_post (said.Idle t) = said.Idle t
 said_in_post (said.Busy t x) = said.Busy t None
 said_in_post (said.Spent x) = said.Spent None
 
@@ -110,7 +116,9 @@ with_said c (said.Write t) = c
 with_said c (said.Full t x) = c
 with_said c (said.Grab t) = c
 with_said c (said.Take t y) = record { overrun = one_more c.overrun; discarded = c.discarded }
+with_said c (said.Front t) = c
 with_said c (said.Empty t) = c
+with_said c (said.Idle t) = c
 with_said c (said.Busy t x) = c
 with_said c (said.Spent x) = c
 
@@ -194,6 +202,7 @@ IsAt x h s round.Pop b = (s ≡ Pop) × (h ≡ Some x) × ((f : ℕ) × (b ≡ P
 IsAt x h s (round.PopRead p) b = (s ≡ Pop) × (h ≡ Some x) × ((f : ℕ) × (b ≡ Popping f))
 IsAt x h s (round.PopReady p) b = (s ≡ Pop) × (h ≡ Some x) × ((f : ℕ) × (b ≡ Popping f))
 IsAt x h s (round.PopGrabbed p) b = (s ≡ Pop) × (h ≡ Some x) × ((f : ℕ) × (b ≡ Grabbed f p))
+IsAt x h s (round.PopFronted p) b = (s ≡ Pop) × (h ≡ Some x) × ((f : ℕ) × (b ≡ Fronted f p))
 
 -- The actor is in a post under this policy, which brings x, and these are its own events in it so far: by the definition the
 -- beginning of a post.

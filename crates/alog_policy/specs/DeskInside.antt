@@ -30,6 +30,7 @@ FitsRound p round.Pop = IsPopping p
 FitsRound p (round.PopRead t) = IsPopping p
 FitsRound p (round.PopReady t) = IsPopping p
 FitsRound p (round.PopGrabbed t) = IsPopping p
+FitsRound p (round.PopFronted t) = IsPopping p
 
 -- a post and the round of its actor
 abbrev pub Fits : {T : Type 0} → Option (Post T) → Round T → Type 0

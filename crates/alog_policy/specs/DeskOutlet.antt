@@ -2,7 +2,7 @@
 use Rattle.std.specs.Prelude.{◌≡◌, ◌<◌, ℕ, true, List}
 use Rattle.std.specs.List.{AllByRecursion}
 use Rattle.std.proofs.Common.{zero, suc}
-use Rattle.alog_core.specs.Queue.{Event, Claim, Write, Grab, Take, Full, Empty, PushBusy, PopBusy, Spent}
+use Rattle.alog_core.specs.Queue.{Event, Claim, Write, Grab, Take, Full, Front, Empty, Idle, PushBusy, PopBusy, Spent}
 use Rattle.alog_core.specs.World.{round_of, is_idle}
 use Rattle.alog_core.specs.declared.TheConstants.{ACTORS}
 use Rattle.alog_policy.specs.Desk.{DeskView, one_more}
@@ -29,7 +29,9 @@ IsUnbeaten (Write t) = Unit {0}
 IsUnbeaten (Grab t) = Unit {0}
 IsUnbeaten (Take t x) = Unit {0}
 IsUnbeaten (Full t) = Unit {0}
+IsUnbeaten (Front t) = Unit {0}
 IsUnbeaten (Empty t) = Unit {0}
+IsUnbeaten (Idle t) = Unit {0}
 IsUnbeaten (PushBusy t) = ⊥
 IsUnbeaten (PopBusy t) = ⊥
 IsUnbeaten Spent = Unit {0}

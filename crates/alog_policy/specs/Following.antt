@@ -30,7 +30,9 @@ HasValue p (said.Write t) = Unit {0}
 HasValue p (said.Full t x) = IsThere (value_in p.hand (said.Full t x))
 HasValue p (said.Grab t) = Unit {0}
 HasValue p (said.Take t y) = IsThere p.hand × (p.progress.side ≡ Pop)
+HasValue p (said.Front t) = Unit {0}
 HasValue p (said.Empty t) = IsThere p.hand
+HasValue p (said.Idle t) = IsThere p.hand
 HasValue p (said.Busy t x) = IsThere (value_in p.hand (said.Busy t x))
 HasValue p (said.Spent x) = IsThere (value_in p.hand (said.Spent x))
 

@@ -22,23 +22,25 @@ abbrev pub Doing : Type 0 → Type 0 → Type 1
 Doing S T = S → List (Event T) → ℕ → ℕ → S → Type 0
 
 module _ {S T : Type 0} (did : Doing S T) (fit : S → Type 0) where
-  -- one event, which refused the call, and nothing else
-  abbrev pub Refused : S → Event T → S → Type 0
-  Refused old e new = did old (e ∷ []) 0 0 new × fit new
+  -- these events, which refused the call, and nothing else
+  abbrev pub Refused : S → List (Event T) → S → Type 0
+  Refused old es new = did old es 0 0 new × fit new
 
   -- a push that was refused hands back what it was given: nothing, where the value stays in a hand
   abbrev pub PushRefused : {V : Type 0} → S → V → PushError V → S → Type 0
-  PushRefused old v (Full back next) new = (back ≡ v) × Refused old (queue.Full next) new
-  PushRefused old v (Busy back seen) new = (back ≡ v) × Refused old (queue.PushBusy seen) new
-  PushRefused old v (Spent back) new = (back ≡ v) × Refused old queue.Spent new
+  PushRefused old v (Full back next) new = (back ≡ v) × Refused old (queue.Full next ∷ []) new
+  PushRefused old v (Busy back seen) new = (back ≡ v) × Refused old (queue.PushBusy seen ∷ []) new
+  PushRefused old v (Spent back) new = (back ≡ v) × Refused old (queue.Spent ∷ []) new
 
   -- a pop took the oldest item out and dropped it, which was counted as one loss
   abbrev pub Overran : S → ℕ → S → Type 0
   Overran old t new = ((y : T) × did old (Grab t ∷ Take t y ∷ []) 1 0 new) × fit new
 
+  -- a pop that found nothing to take: the front was not written, and then claimed, or no ticket was there
   abbrev pub PopRefused : S → PopError → S → Type 0
-  PopRefused old (pop.Empty next) new = Refused old (queue.Empty next) new
-  PopRefused old (pop.Busy seen) new = Refused old (queue.PopBusy seen) new
+  PopRefused old (pop.Empty next) new = Refused old (queue.Front next ∷ queue.Empty next ∷ []) new
+  PopRefused old (pop.Idle next) new = Refused old (queue.Front next ∷ queue.Idle next ∷ []) new
+  PopRefused old (pop.Busy seen) new = Refused old (queue.PopBusy seen ∷ []) new
 
 -- A post: the outlet's events were one post under this policy by the definition, which brought v, of which a cell shows x, and
 -- the outlet counted its losses.

@@ -2,7 +2,7 @@
 -- on it leaves.
 use Rattle.std.specs.Prelude.{◌≡◌, ◌≤◌, ◌⊎◌, ℕ, List, []}
 use Rattle.std.specs.List.{AllByRecursion}
-use Rattle.alog_core.specs.Queue.{Event, Claim, Write, Grab, Take, Full, Empty, PushBusy, PopBusy, Spent}
+use Rattle.alog_core.specs.Queue.{Event, Claim, Write, Grab, Take, Full, Front, Empty, Idle, PushBusy, PopBusy, Spent}
 use Rattle.alog_ring.specs.Known.{Known, IsPassOf, PassView}
 use Rattle.alog_ring.specs.Kinds.{no_note}
 use Rattle.alog_ring.specs.Made.{Made, next_seen, front_seen}
@@ -22,7 +22,9 @@ IsReadSince k (Write t) = Unit {0}
 IsReadSince k (Grab t) = Unit {0}
 IsReadSince k (Take t x) = Unit {0}
 IsReadSince k (Full t) = next_seen k ≤ t
+IsReadSince k (Front t) = front_seen k ≤ t
 IsReadSince k (Empty t) = front_seen k ≤ t
+IsReadSince k (Idle t) = front_seen k ≤ t
 IsReadSince k (PushBusy t) = next_seen k ≤ t
 IsReadSince k (PopBusy t) = front_seen k ≤ t
 IsReadSince k Spent = Unit {0}

@@ -1,7 +1,7 @@
 -- What a port did first, and what it did then.
 use Rattle.std.proofs.Common.{append-nil, arith, ◌⊎◌, ◌≡◌, ◌≤◌, ℕ, ◌+◌, List, [], ◌++◌, sym, ap, subst, ◌∙◌, inl, inr}
 use Rattle.std.proofs.lemmas.List.Sums.{sum_by-append}
-use Rattle.alog_core.specs.Queue.{Event, Claim, Write, Grab, Take, Full, Empty, PushBusy, PopBusy, Spent, start}
+use Rattle.alog_core.specs.Queue.{Event, Claim, Write, Grab, Take, Full, Front, Empty, Idle, PushBusy, PopBusy, Spent, start}
 use Rattle.alog_core.specs.History.{Entry, left_by}
 use Rattle.alog_ring.specs.Known.{Known, PassView}
 use Rattle.alog_ring.specs.Kinds.{no_note}
@@ -34,7 +34,9 @@ read_later k m rises (Write t) read = tt
 read_later k m rises (Grab t) read = tt
 read_later k m rises (Take t x) read = tt
 read_later k m rises (Full t) read = omega (arith, rises.0, read)
+read_later k m rises (Front t) read = omega (arith, rises.1, read)
 read_later k m rises (Empty t) read = omega (arith, rises.1, read)
+read_later k m rises (Idle t) read = omega (arith, rises.1, read)
 read_later k m rises (PushBusy t) read = omega (arith, rises.0, read)
 read_later k m rises (PopBusy t) read = omega (arith, rises.1, read)
 read_later k m rises Spent read = tt

@@ -2,7 +2,7 @@
 -- go on, and then one end. The first table names the kinds of round that goes on, the second the kinds of end.
 use Rattle.std.specs.Prelude.{◌≡◌, ℕ, ◌+◌, ◌<◌, List, [], ◌∷◌, ◌++◌, length}
 use Rattle.std.specs.List.{AllByRecursion}
-use Rattle.alog_core.specs.Queue.{Event, Claim, Write, Grab, Take, Full, Empty, PushBusy, PopBusy, Spent}
+use Rattle.alog_core.specs.Queue.{Event, Claim, Write, Grab, Take, Full, Front, Empty, Idle, PushBusy, PopBusy, Spent}
 use Rattle.alog_policy.specs.declared.TheConstants.{ROUNDS_MAX}
 use Rattle.alog_policy.specs.declared.policy.Policy.{Policy}
 use Rattle.alog_policy.specs.declared.policy.Policy.TheVariants.{Block, OverrunOldest, DiscardNew}
@@ -45,6 +45,8 @@ pub data End : Type 0 where
   NoRoom : (full : ℕ) → End
   -- the queue was full, and its oldest item not written yet
   NothingToTake : (full oldest : ℕ) → End
+  -- the queue was full, and others had grabbed all of it: no ticket was there to take
+  AllGrabbed : (full front : ℕ) → End
   -- as many rounds as may be went on
   OutOfRounds : End
 
@@ -53,7 +55,8 @@ abbrev pub events_of_end : {T : Type 0} → T → End → List (Event T)
 events_of_end x (Wrote t) = Claim t x ∷ Write t ∷ []
 events_of_end x OutOfTickets = Spent ∷ []
 events_of_end x (NoRoom f) = Full f ∷ []
-events_of_end x (NothingToTake f t) = Full f ∷ Empty t ∷ []
+events_of_end x (NothingToTake f t) = Full f ∷ Front t ∷ Empty t ∷ []
+events_of_end x (AllGrabbed f t) = Full f ∷ Front t ∷ Idle t ∷ []
 events_of_end x OutOfRounds = []
 
 -- under which policies, and after how many rounds that count, a post ends so
@@ -62,6 +65,7 @@ IsEndUnder p k (Wrote t) = k < ROUNDS_MAX
 IsEndUnder p k OutOfTickets = k < ROUNDS_MAX
 IsEndUnder p k (NoRoom f) = (k < ROUNDS_MAX) × (p ≡ DiscardNew)
 IsEndUnder p k (NothingToTake f t) = (k < ROUNDS_MAX) × (p ≡ OverrunOldest)
+IsEndUnder p k (AllGrabbed f t) = (k < ROUNDS_MAX) × (p ≡ OverrunOldest)
 IsEndUnder p k OutOfRounds = k ≡ ROUNDS_MAX
 
 -- and what the one who posted is answered, who brought v and overran k items
@@ -70,6 +74,7 @@ outcome_of v k (Wrote t) = Posted t k
 outcome_of v k OutOfTickets = Discarded v why.Spent k
 outcome_of v k (NoRoom f) = Discarded v why.Full k
 outcome_of v k (NothingToTake f t) = Discarded v why.Stalled k
+outcome_of v k (AllGrabbed f t) = Discarded v why.Stalled k
 outcome_of v k OutOfRounds = Discarded v why.Busy k
 
 -- how many of so many rounds count: under block none, so that any number follow
@@ -90,7 +95,9 @@ take_in (Write t) = 0
 take_in (Grab t) = 0
 take_in (Take t x) = 1
 take_in (Full t) = 0
+take_in (Front t) = 0
 take_in (Empty t) = 0
+take_in (Idle t) = 0
 take_in (PushBusy t) = 0
 take_in (PopBusy t) = 0
 take_in Spent = 0
@@ -129,18 +136,22 @@ pub data Part : Type 0 where
   Popping : (full : ℕ) → Part
   -- it grabbed the oldest item, and has not taken it yet
   Grabbed : (full oldest : ℕ) → Part
+  -- it found the front not written, and has not looked at the end yet
+  Fronted : (full front : ℕ) → Part
 
 abbrev pub events_of_part : {T : Type 0} → T → Part → List (Event T)
 events_of_part x Pushing = []
 events_of_part x (Claimed t) = Claim t x ∷ []
 events_of_part x (Popping f) = Full f ∷ []
 events_of_part x (Grabbed f t) = Full f ∷ Grab t ∷ []
+events_of_part x (Fronted f t) = Full f ∷ Front t ∷ []
 
 abbrev pub IsPartUnder : Policy → Part → Type 0
 IsPartUnder p Pushing = Unit {0}
 IsPartUnder p (Claimed t) = Unit {0}
 IsPartUnder p (Popping f) = p ≡ OverrunOldest
 IsPartUnder p (Grabbed f t) = p ≡ OverrunOldest
+IsPartUnder p (Fronted f t) = p ≡ OverrunOldest
 
 -- These events are the beginning of a post under this policy which brings the item x: so many of its rounds count, it overran
 -- so many items, and this is what it has done of the round that it is in.

@@ -2,7 +2,8 @@
 use Rattle.std.specs.Prelude.{◌≡◌, ℕ, Option, None, Some, Result, Ok, Err, List, [], ◌∷◌, map}
 use Rattle.alog_core.specs.Queue.{Event, Claim, Write, Grab, Take}
 use Rattle.alog_core.specs.Queue as queue
-use Rattle.alog_core.specs.History.{Entry, GoesOn}
+use Rattle.alog_core.specs.History.{Entry}
+use Rattle.alog_core.specs.Run.{GoesOn}
 use Rattle.alog_core.specs.World.{Machine}
 use Rattle.alog_core.specs.declared.said.Said.{Said}
 use Rattle.alog_core.specs.declared.said.Said.TheVariants as said
@@ -19,7 +20,7 @@ entries_by {T} a es = map (λ (e : Event T). let x : Entry T (Unit {0}) = record
 pub record Makes {T : Type 0} (a : ℕ) (old : Machine T) (es : List (Event T)) (new : Machine T) : Type 0 where
   pub places : new.places ≡ old.places
   pub rounds : new.rounds ≡ old.rounds
-  pub history : GoesOn old.places old.queue (entries_by a es) new.queue
+  pub history : GoesOn old (entries_by a es) new
 
 -- A round of a push that was refused. Nobody else steps in it, so it never finds its ticket gone.
 abbrev pub PushRoundRefused : {T : Type 0} → ℕ → Machine T → T → PushError T → Machine T → Type 0
@@ -29,7 +30,8 @@ PushRoundRefused a old x (push.Spent back) new = (back ≡ x) × Makes a old (qu
 
 -- a round of a pop that was refused
 abbrev pub PopRoundRefused : {T : Type 0} → ℕ → Machine T → PopError → Machine T → Type 0
-PopRoundRefused a old (pop.Empty next) new = Makes a old (queue.Empty next ∷ []) new
+PopRoundRefused a old (pop.Empty next) new = Makes a old (queue.Front next ∷ queue.Empty next ∷ []) new
+PopRoundRefused a old (pop.Idle next) new = Makes a old (queue.Front next ∷ queue.Idle next ∷ []) new
 PopRoundRefused a old (pop.Busy seen) new = ⊥
 
 -- what a step of a push may say, and of a pop
@@ -41,7 +43,9 @@ IsOfPush (said.Full t None) = ⊥
 IsOfPush (said.Full t (Some x)) = Unit {0}
 IsOfPush (said.Grab t) = ⊥
 IsOfPush (said.Take t y) = ⊥
+IsOfPush (said.Front t) = ⊥
 IsOfPush (said.Empty t) = ⊥
+IsOfPush (said.Idle t) = ⊥
 IsOfPush (said.Busy t None) = ⊥
 IsOfPush (said.Busy t (Some x)) = Unit {0}
 IsOfPush (said.Spent None) = ⊥
@@ -54,7 +58,9 @@ IsOfPop (said.Write t) = ⊥
 IsOfPop (said.Full t x) = ⊥
 IsOfPop (said.Grab t) = Unit {0}
 IsOfPop (said.Take t y) = Unit {0}
+IsOfPop (said.Front t) = Unit {0}
 IsOfPop (said.Empty t) = Unit {0}
+IsOfPop (said.Idle t) = Unit {0}
 IsOfPop (said.Busy t x) = Unit {0}
 IsOfPop (said.Spent x) = ⊥
 
@@ -67,7 +73,9 @@ push_answer (said.Full t None) = None
 push_answer (said.Full t (Some x)) = Some (Err (push.Full x t))
 push_answer (said.Grab t) = None
 push_answer (said.Take t y) = None
+push_answer (said.Front t) = None
 push_answer (said.Empty t) = None
+push_answer (said.Idle t) = None
 push_answer (said.Busy t None) = None
 push_answer (said.Busy t (Some x)) = Some (Err (push.Busy x t))
 push_answer (said.Spent None) = None
@@ -80,6 +88,8 @@ pop_answer (said.Write t) = None
 pop_answer (said.Full t x) = None
 pop_answer (said.Grab t) = None
 pop_answer (said.Take t y) = Some (Ok (t, y))
+pop_answer (said.Front t) = None
 pop_answer (said.Empty t) = Some (Err (pop.Empty t))
+pop_answer (said.Idle t) = Some (Err (pop.Idle t))
 pop_answer (said.Busy t x) = Some (Err (pop.Busy t))
 pop_answer (said.Spent x) = None

@@ -1,7 +1,8 @@
 -- A whole run of a desk: its calls one after another, as each one's contract tells what it did.
 use Rattle.std.specs.Prelude.{◌≡◌, ◌==◌, ℕ, ◌+◌, ◌<◌, true, false, if◌then◌else◌, Option, None, Some, List, [], ◌∷◌, ◌++◌}
-use Rattle.alog_core.specs.Queue.{Event, Claim, Write, Grab, Take, Full, Empty, PushBusy, PopBusy, Spent, last}
-use Rattle.alog_core.specs.History.{Entry, StandsFor}
+use Rattle.alog_core.specs.Queue.{Event, Claim, Write, Grab, Take, Full, Front, Empty, Idle, PushBusy, PopBusy, Spent, last}
+use Rattle.alog_core.specs.History.{Entry}
+use Rattle.alog_core.specs.Run.{LeadsTo}
 use Rattle.alog_core.specs.World.{round_of, is_idle, is_size, next_move, entries_of}
 use Rattle.alog_core.specs.declared.TheConstants.{ACTORS}
 use Rattle.alog_core.specs.declared.round.Round.{Round}
@@ -110,7 +111,8 @@ pub data IsPush {T : Type 0} (x : T) (made : List (Event T)) : Type 0 where
 
 pub data IsPop {T : Type 0} (made : List (Event T)) : Type 0 where
   took : (t : ℕ) (y : T) → made ≡ Grab t ∷ Take t y ∷ [] → IsPop made
-  found_empty : (t : ℕ) → made ≡ Empty t ∷ [] → IsPop made
+  found_empty : (t : ℕ) → made ≡ Front t ∷ Empty t ∷ [] → IsPop made
+  found_idle : (t : ℕ) → made ≡ Front t ∷ Idle t ∷ [] → IsPop made
   was_busy : (t : ℕ) → made ≡ PopBusy t ∷ [] → IsPop made
 
 -- These calls were made whole, one after another: these are their events, each push and each post of the item, and under the
@@ -135,6 +137,7 @@ IsBegun round.Pop cs es = (cs ≡ ToPop ∷ []) × (es ≡ [])
 IsBegun (round.PopRead t) cs es = (cs ≡ ToPop ∷ []) × (es ≡ [])
 IsBegun (round.PopReady t) cs es = (cs ≡ ToPop ∷ []) × (es ≡ [])
 IsBegun (round.PopGrabbed t) cs es = (cs ≡ ToPop ∷ []) × (es ≡ Grab t ∷ [])
+IsBegun (round.PopFronted t) cs es = (cs ≡ ToPop ∷ []) × (es ≡ Front t ∷ [])
 
 -- the one call that the actor is in, a post, a push or a pop, if it is in one, and its events so far
 abbrev pub IsUnderWayIn : {T : Type 0} → Option (Post T) → Round T → List (Call T) → List (Event T) → Type 0
@@ -155,11 +158,12 @@ pub record IsCut {T : Type 0} (post : Option (Post T)) (r : Round T) (cs : List 
   pub calls : AreWhole ended whole os
   pub begun : IsUnderWayIn post r current rest
 
--- What a run from a new desk is: its entries are a legal history that its queue stands for; each actor's own calls and events
+-- What a run from a new desk is: its entries are a legal history that leads to its machine; each actor's own calls and events
 -- are cut into whole pushes, pops and posts by the definition, with the items, policies and outcomes of its calls, and the one
 -- that it is in; and the counts are the losses, modulo 2^64.
 pub record IsRun {T : Type 0} (n f : ℕ) (calls : List (CallMade T)) (steps : List (StepMade T)) (e : DeskView T) : Type 0 where
-  pub history : StandsFor n f (entries_made steps) e.world.queue
+  pub places : e.world.places ≡ n
+  pub history : LeadsTo f (entries_made steps) e.world
   pub actors : (a : ℕ) → a < ACTORS
       → IsCut (post_of e a) (round_of e.world a) (calls_made a calls) (events_made a steps) (outcomes_made a steps)
   pub counts : e.counts ≡ with_losses (record { overrun = 0; discarded = 0 }) (overruns_made steps) (discards_made steps)

@@ -1,8 +1,10 @@
 -- What an actor of a desk did first, and what it did then.
-use Rattle.std.proofs.Common.{◌≡◌, ℕ, zero, suc, ◌+◌, List, [], ◌∷◌, ◌++◌, refl, sym, ap, subst, ◌∙◌, add-zero, add-suc, append_assoc}
-use Rattle.alog_core.specs.Queue.{Queue, Event}
-use Rattle.alog_core.specs.History.{Entry, StandsFor, GoesOn}
+use Rattle.std.proofs.Common.{◌≡◌, ℕ, zero, suc, ◌+◌, List, [], ◌∷◌, ◌++◌, refl, sym, ap, subst, ◌∙◌, add-zero, add-suc}
+use Rattle.alog_core.specs.Queue.{Event}
+use Rattle.alog_core.specs.History.{Entry}
+use Rattle.alog_core.specs.Run.{GoesOn}
 use Rattle.alog_core.specs.World.{Machine}
+use Rattle.alog_core.proofs.Fronts.{goes_further}
 use Rattle.alog_lane.proofs.Lists.{each_append}
 use Rattle.alog_policy.specs.Desk.{DeskView, one_more}
 use Rattle.alog_policy.specs.DeskOutlet.{more, with_losses, IsUnbeaten, DeskDid}
@@ -14,13 +16,6 @@ pub entries_by-append : {T : Type 0} (a : ℕ) (es fs : List (Event T))
 entries_by-append a [] fs = refl
 entries_by-append {T} a (e ∷ es) fs =
     ap (λ (h : List (Entry T (Unit {0}))). record { actor = a; event = e; note = tt } ∷ h) (entries_by-append a es fs)
-
--- one after another
-pub goes_further : {T : Type 0} (n : ℕ) (q r s : Queue T) (g h : List (Entry T (Unit {0}))) → GoesOn n q g r
-    → GoesOn n r h s → GoesOn n q (g ++ h) s
-goes_further {T} n q r s g h first then f old stands =
-    subst (λ (k : List (Entry T (Unit {0}))). StandsFor n f k s) (append_assoc old g h)
-    (then f (old ++ g) (first f old stands))
 
 more-add : (n k m : ℕ) → more n (k + m) ≡ more (more n k) m
 more-add n k zero = ap (more n) (add-zero k)
@@ -35,13 +30,11 @@ with_losses-add c k l m n =
 makes_together : {T : Type 0} (a : ℕ) (u v w : Machine T) (es fs : List (Event T)) → Makes a u es v → Makes a v fs w
     → Makes a u (es ++ fs) w
 makes_together {T} a u v w es fs first then =
-    let more : GoesOn u.places v.queue (entries_by a fs) w.queue =
-    subst (λ n. GoesOn n v.queue (entries_by a fs) w.queue) first.places then.history in
     record {
       places = then.places ∙ first.places;
       rounds = then.rounds ∙ first.rounds;
-      history = subst (λ (h : List (Entry T (Unit {0}))). GoesOn u.places u.queue h w.queue) (sym (entries_by-append a es fs))
-          (goes_further u.places u.queue v.queue w.queue (entries_by a es) (entries_by a fs) first.history more);
+      history = subst (λ (h : List (Entry T (Unit {0}))). GoesOn u h w) (sym (entries_by-append a es fs))
+          (goes_further u v w (entries_by a es) (entries_by a fs) first.history then.history);
     }
 
 pub did_together : {T : Type 0} (a : ℕ) (u v w : DeskView T) (es fs : List (Event T)) (k l m n : ℕ) → DeskDid a u es k l v

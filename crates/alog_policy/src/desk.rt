@@ -1,9 +1,8 @@
 //! The stepped queue with posts: what its calls answer, and which losses they count.
 ghost use Rattle.std.specs.Prelude.{◌≡◌, ℕ, ◌∷◌, ◌<◌, ◌≤◌, ◌↔◌, [], Some, None, true, false, map, IfOk, OnOk, OnErr, IfErr, IsOk, IsErrOf};
 ghost use Rattle.alog_core.specs.Queue.{last, Claim, Write};
-ghost use Rattle.alog_core.specs.History.{GoesOn};
 ghost use Rattle.alog_core.specs.World.{is_size, round_of, is_idle, next_move, shown};
-ghost use Rattle.alog_core.specs.Run.{entries_of_step};
+ghost use Rattle.alog_core.specs.Run.{GoesOn, entries_of_step};
 ghost use Rattle.alog_core.specs.Staged.{IsReached};
 ghost use Rattle.alog_core.specs.declared.round.Round.TheVariants as round;
 ghost use Rattle.alog_policy.specs.Desk.{fresh_desk, call_began, post_began, desk_told, desk_stepped, IsPosting, PostGoesOn};
@@ -79,6 +78,7 @@ impl<T: Drop> Desk<T> {
         ensures begins { IsOk result ↔ ((actor < ACTORS) × (is_idle (round_of self.old.world actor) ≡ true)) }
         ensures no_actor { IfErr result (λ r. (r.fault ≡ BeginError.NoActor) ↔ (ACTORS ≤ actor)) }
         ensures item { IfErr result (λ r. r.item ≡ item) }
+        ensures history { OnOk result (GoesOn {N = Unit {0}} self.old.world [] self.new.world) }
         ensures err { OnErr result (self.new ≡ self.old) }
     {
         self.world.begin_push(actor, item)
@@ -89,6 +89,7 @@ impl<T: Drop> Desk<T> {
         ensures began { OnOk result (self.new ≡ call_began self.old actor round.Pop) }
         ensures begins { IsOk result ↔ ((actor < ACTORS) × (is_idle (round_of self.old.world actor) ≡ true)) }
         ensures no_actor { IsErrOf result BeginError.NoActor ↔ (ACTORS ≤ actor) }
+        ensures history { OnOk result (GoesOn {N = Unit {0}} self.old.world [] self.new.world) }
         ensures err { OnErr result (self.new ≡ self.old) }
     {
         self.world.begin_pop(actor)
@@ -102,6 +103,7 @@ impl<T: Drop> Desk<T> {
         ensures begins { IsOk result ↔ ((actor < ACTORS) × (is_idle (round_of self.old.world actor) ≡ true)) }
         ensures no_actor { IfErr result (λ r. (r.fault ≡ BeginError.NoActor) ↔ (ACTORS ≤ actor)) }
         ensures item { IfErr result (λ r. r.item ≡ value) }
+        ensures history { OnOk result (GoesOn {N = Unit {0}} self.old.world [] self.new.world) }
         ensures err { OnErr result (self.new ≡ self.old) }
     {
         self.world.begin_push(actor, value)?;
@@ -125,9 +127,8 @@ impl<T: Drop> Desk<T> {
 
         ensures told { IfOk result (λ s. s ≡ desk_told self.old actor) }
         ensures stepped { OnOk result (self.new ≡ desk_stepped self.old actor) }
-        // Each history that the queue stood for goes on with the step's event.
-        ensures history { OnOk result (GoesOn self.old.world.places self.old.world.queue (entries_of_step self.old.world actor)
-            self.new.world.queue) }
+        // Each history that leads to the machine before goes on with the step's event to the machine after.
+        ensures history { OnOk result (GoesOn self.old.world (entries_of_step self.old.world actor) self.new.world) }
         // The actor's events in its post so far are the beginning of one by the definition, and at its end a whole one, with
         // the outcome of the definition.
         ensures post { IfOk result (λ s. PostGoesOn self.old actor s.outcome self.new) }

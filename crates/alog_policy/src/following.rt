@@ -69,7 +69,9 @@ fn count_take<T>(counts: &mut Counts, said: &Said<T>)
         | Said::Write(_)
         | Said::Full(..)
         | Said::Grab(_)
+        | Said::Front(_)
         | Said::Empty(_)
+        | Said::Idle(_)
         | Said::Busy(..)
         | Said::Spent(_) => {}
     }
@@ -84,7 +86,7 @@ fn read<T: Drop>(post: Post<T>, said: Said<T>) -> (Said<T>, Reading<T>)
 {
     let Post { progress, hand } = post;
     let (said, value, next) = match said {
-        Said::Nothing | Said::Claim(_) | Said::Grab(_) => {
+        Said::Nothing | Said::Claim(_) | Said::Grab(_) | Said::Front(_) => {
             let post = Post { progress, hand };
             return (said, Reading::Stays { post });
         }
@@ -98,7 +100,7 @@ fn read<T: Drop>(post: Post<T>, said: Said<T>) -> (Said<T>, Reading<T>)
             let lost = progress.lost(Why::Spent);
             (Said::Spent(None), back.or(hand), Err(lost))
         }
-        Said::Empty(at) => (Said::Empty(at), hand, Err(progress.lost(Why::Stalled))),
+        Said::Empty(_) | Said::Idle(_) => (said, hand, Err(progress.lost(Why::Stalled))),
         Said::Take(at, item) => (Said::Take(at, item), hand, progress.after_take()),
     };
     let Some(value) = value else { unreachable!() };

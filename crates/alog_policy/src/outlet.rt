@@ -40,7 +40,8 @@ pub trait Outlet {
         ensures fit { OnOk result (is_fit self.new) };
 
     /// Makes one round of a pop: takes the oldest item out if that goes at once, drops it and counts it as overrun, and
-    /// answers its ticket. A refusal is one event, and nothing is counted. It never waits and takes no memory.
+    /// answers its ticket. A refusal is one event where another pop was faster, and else two: the front was not written, and
+    /// then it was claimed, or no ticket was there. Nothing is counted then. It never waits and takes no memory.
     fn overrun_once(&mut self) -> Result<u64, PopError>
         requires { is_fit self.old }
         ensures overran { IfOk result (λ t. Overran did is_fit self.old t self.new) }

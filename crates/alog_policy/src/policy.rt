@@ -32,7 +32,7 @@ pub enum Why {
     /// The queue is full, and the policy is to discard the new.
     Full,
     /// The queue was full, and then there was nothing to take out: its oldest item was not written yet, or others had
-    /// emptied it since.
+    /// grabbed each item of it.
     Stalled,
     /// 64 rounds went on: in each one others were faster, or an item was overrun.
     Busy,

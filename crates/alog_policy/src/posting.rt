@@ -131,5 +131,6 @@ fn make_room<O: Outlet>(outlet: &mut O, progress: Progress) -> Result<Progress, 
         Ok(_) => progress.after_take(),
         Err(PopError::Busy { seen: _ }) => progress.again(),
         Err(PopError::Empty { next: _ }) => Err(progress.lost(Why::Stalled)),
+        Err(PopError::Idle { next: _ }) => Err(progress.lost(Why::Stalled)),
     }
 }

@@ -69,7 +69,9 @@ fn push_answer<T: Drop>(said: Said<T>) -> Option<Result<u64, PushError<T>>>
         | Said::Spent(None)
         | Said::Grab(_)
         | Said::Take(..)
-        | Said::Empty(_) => unreachable!(),
+        | Said::Front(_)
+        | Said::Empty(_)
+        | Said::Idle(_) => unreachable!(),
     }
 }
 
@@ -79,9 +81,10 @@ fn pop_answer<T: Drop>(said: Said<T>) -> Option<Result<(u64, T), PopError>>
     ensures { result ≡ pop_answer said }
 {
     match said {
-        Said::Nothing | Said::Grab(_) => None,
+        Said::Nothing | Said::Grab(_) | Said::Front(_) => None,
         Said::Take(ticket, item) => Some(Ok((ticket, item))),
         Said::Empty(next) => Some(Err(PopError::Empty { next })),
+        Said::Idle(next) => Some(Err(PopError::Idle { next })),
         Said::Busy(seen, _) => Some(Err(PopError::Busy { seen })),
         Said::Claim(_) | Said::Write(_) | Said::Full(..) | Said::Spent(_) => unreachable!(),
     }

@@ -68,4 +68,4 @@ loop-said-init g c =
     let a = c.args.actor in
     let old = c.args.world.now in
     let lt : a < length old.rounds = omega (arith, c.is_reached.ensures.actors, c.requires.actor) in
-    round_begins_pop old a lt c.begin_pop.new.self c.in-Ok.ensures.began
+    round_begins_pop old a lt c.begin_pop.new.self c.in-Ok.ensures.began c.in-Ok.ensures.history

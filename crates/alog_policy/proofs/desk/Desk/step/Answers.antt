@@ -1,6 +1,5 @@
 use Rattle.std.proofs.Common.{◌≡◌, ◌<◌, ◌≤◌, Option, None, Some, length, set, set-set, sym, ap, subst, ◌∙◌, arith}
-use Rattle.alog_core.specs.History.{GoesOn}
-use Rattle.alog_core.specs.Run.{entries_of_step}
+use Rattle.alog_core.specs.Run.{GoesOn, entries_of_step}
 use Rattle.alog_core.specs.World.{Machine, round_of, stepped, told, next_move}
 use Rattle.alog_core.specs.declared.TheConstants.{ACTORS}
 use Rattle.alog_core.specs.declared.said.Said.{Said}
@@ -171,11 +170,9 @@ returns-in-Some-clause-history g c =
     }
     in
     subst
-    (λ (k : DeskView g.row.T.Denot). GoesOn k.world.places k.world.queue (entries_of_step k.world a)
-    c.go_on-stepped.new.world.queue) c.self.view_is
+    (λ (k : DeskView g.row.T.Denot). GoesOn k.world (entries_of_step k.world a) c.go_on-stepped.new.world) c.self.view_is
     (history_after d a p c.self.invariant lt there said.cell c.go_on-stepped.new.world world
-    (subst (λ (m : Machine g.row.T.Denot). GoesOn d.world.places d.world.queue (entries_of_step d.world a) m.queue)
-    said.stepped said.history))
+    (subst (λ (m : Machine g.row.T.Denot). GoesOn d.world (entries_of_step d.world a) m) said.stepped said.history))
 
 pub returns-in-Some-clause-post : goal.returns-in-Some-clause-post
 returns-in-Some-clause-post g c =
