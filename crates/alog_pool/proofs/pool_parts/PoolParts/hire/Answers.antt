@@ -10,7 +10,7 @@ use Rattle.std.specs.contracts.alloc.Global as Global
 use Rattle.std.specs.contracts.impls.GlobalAllocator.TheImpl.{ghosts as alloc_ghosts}
 use Rattle.std.specs.contracts.sync.Arc as Arc
 use Rattle.alog_pool.proofs.Crosses.{worker_send}
-use Rattle.alog_pool.proofs.pool_parts.PoolParts.hire.Lts.{arg-10-2, arg-10-3}
+use Rattle.alog_pool.proofs.pool_parts.PoolParts.hire.Lts.{arg-8-2, arg-8-3}
 use Rattle.alog_pool.proofs.pool_parts.PoolParts.hire.Goals as goal
 use Rattle.alog_pool.specs.Pool.{Hires}
 use Rattle.alog_pool.specs.Working.{IsAtWork}
@@ -24,14 +24,14 @@ spawn_with-handle-requires-send-F g c κs within =
     let worker = worker_send (param 0 g.row.S) g.S.Store c.type_bounds.send-S in
     let kept : List RattleType = param 1 g.row.R ∷ Arc.the_row (param 2 g.row.G) Global.the_row alloc_ghosts
     ∷ Worker.the_row (param 0 g.row.S) g.S.Store ∷ [] in
-    param_send 2 (arg-10-2 g.row.S g.row.R g.row.G g.S.laws g.R.laws g.G.laws g.S.Store g.S.Store-dict g.S.Destruct-dict
+    param_send 2 (arg-8-2 g.row.S g.row.R g.row.G g.S.laws g.R.laws g.G.laws g.S.Store g.S.Store-dict g.S.Destruct-dict
     g.R.Threads g.R.Threads-dict g.R.Wait g.R.Wait-dict g.R.Clock g.R.Clock-dict g.R.Clone g.R.Clone-dict g.G.Gate g.G.Gate-dict
     g.R.Destruct-dict g.G.Destruct-dict κs) (arg_send _ no _ (recorded_send (field_at _ kept).row _ _ (type_at _ kept).to_one
     (struct_send (shape (type_at _ kept)) (own, (gate, (worker, tt))))))
 
 pub spawn_with-handle-requires-send-T : goal.spawn_with-handle-requires-send-T
 spawn_with-handle-requires-send-T g c κs within =
-    param_send 3 (arg-10-3 g.row.S g.row.R g.row.G g.S.laws g.R.laws g.G.laws g.S.Store g.S.Store-dict g.S.Destruct-dict
+    param_send 3 (arg-8-3 g.row.S g.row.R g.row.G g.S.laws g.R.laws g.G.laws g.S.Store g.S.Store-dict g.S.Destruct-dict
     g.R.Threads g.R.Threads-dict g.R.Wait g.R.Wait-dict g.R.Clock g.R.Clock-dict g.R.Clone g.R.Clone-dict g.G.Gate g.G.Gate-dict
     g.R.Destruct-dict g.G.Destruct-dict κs) (search (sendable, worker_send) depth 9)
 
