@@ -3,7 +3,7 @@ use Rattle.std.proofs.Common.{◌⊎◌, ◌↔◌, ℕ, ◌≤◌, Bool, List, 
 use Rattle.std.specs.List.{Contains}
 use Rattle.alog_core.specs.Queue.{Queue, IsListed}
 use Rattle.alog_core.specs.Accounts.{issued, handed_out}
-use Rattle.alog_core.specs.History.{Entry}
+use Rattle.alog_core.specs.History.{Entry, StandsFor}
 use Rattle.alog_core.proofs.Histories.{reached_states_are_sound}
 use Rattle.alog_core.proofs.Items.{tickets_keep_their_items}
 use Rattle.alog_core.proofs.Sizes.{size_facts}
@@ -28,8 +28,10 @@ system_runs {S} tells files failures places limit loggers first made v size lead
     let ss = queue_steps (steps_in made) in
     let run = runs_are_cut Item places 0 h.calls ss v.desk size (omega arith) h.plays in
     let es : List (Entry Item (Unit {0})) = entries_made ss in
-    let legal = run.history.legal in
-    let left = run.history.queue in
+    let stood : StandsFor places 0 es v.desk.world.queue =
+    subst (λ n. StandsFor n 0 es v.desk.world.queue) run.places run.history.stands in
+    let legal = stood.legal in
+    let left = stood.queue in
     let facts = size_facts places size in
     let there = tickets_are_handed_out_or_listed Item (Unit {0}) places 0 es in
     record {

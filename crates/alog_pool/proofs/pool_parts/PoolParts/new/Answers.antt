@@ -18,7 +18,7 @@ returns g c =
     record {
       stands = record {
         pass_is = subst (λ (r : RingId TextLimit). IsPassOf r c.args.pass) (sym shared.ring) c.requires.ring.0;
-        pass_faithful = subst IsFaithful (sym known) (record { legal = tt; own = refl; joined = tt; distinct = ((λ e. absurd e), tt) });
+        pass_faithful = subst IsFaithful (sym known) (record { legal = (tt, tt); own = refl; joined = tt; distinct = ((λ e. absurd e), tt) });
         some_places = subst (λ (r : RingId TextLimit). 1 ≤ r.places) (sym shared.ring) c.requires.places;
         pass_parts = (let parts = ap (λ k. k.parts) known in omega (arith, parts));
         losses_are = shared.seat;
