@@ -1,6 +1,6 @@
 -- What a step of a system adds to the history of its queue.
 use Rattle.std.proofs.Common.{◌≡◌, ℕ, ◌<◌, true, false, cond, Option, None, Some, Ok, Err, List, [], ◌∷◌, ◌++◌, length, refl, sym, ap, subst, ◌∙◌}
-use Rattle.std.proofs.Common.{append-nil, length-set}
+use Rattle.std.proofs.Common.{append-nil, length-set, Bool}
 use Rattle.alog_core.specs.History.{Entry}
 use Rattle.alog_core.specs.Run.{GoesOn, entries_of_step}
 use Rattle.alog_core.specs.Staged.{IsReached}
@@ -13,6 +13,7 @@ use Rattle.alog_msg.specs.declared.item.Item.TheVariants as item
 use Rattle.alog_msg.specs.declared.message.Message.{Message}
 use Rattle.alog_policy.specs.Desk.{DeskView, Follows, Stays, Ends, Leads, after_step, call_of, desk_stepped, desk_told}
 use Rattle.alog_policy.specs.Desk.{follows as follows_in, post_of, turn_to, value_in, with_said}
+use Rattle.alog_policy.specs.declared.counts.Counts.{Counts}
 use Rattle.alog_policy.specs.declared.policy.Policy.{Policy}
 use Rattle.alog_policy.specs.declared.policy.Outcome.{Outcome}
 use Rattle.alog_policy.specs.declared.post.Post.{Post}
