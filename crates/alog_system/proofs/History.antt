@@ -1,5 +1,5 @@
 -- What a step of a system adds to the history of its queue.
-use Rattle.std.proofs.Common.{◌≡◌, ℕ, ◌<◌, true, false, cond, Option, None, Some, Ok, Err, List, [], ◌∷◌, ◌++◌, length, refl, sym, ap, subst, ◌∙◌}
+use Rattle.std.proofs.Common.{◌≡◌, ℕ, ◌<◌, true, false, cond, Option, None, Some, Ok, Err, List, [], ◌∷◌, length, refl, sym, subst, ◌∙◌}
 use Rattle.std.proofs.Common.{append-nil, length-set, Bool}
 use Rattle.alog_core.specs.History.{Entry}
 use Rattle.alog_core.specs.Run.{GoesOn, entries_of_step}
@@ -20,7 +20,7 @@ use Rattle.alog_policy.specs.declared.post.Post.{Post}
 use Rattle.alog_policy.specs.declared.post.Stepped.{Stepped as DeskStepped}
 use Rattle.alog_policy.proofs.DeskSteps.{turn_goes}
 use Rattle.alog_sink.specs.Files.{Files}
-use Rattle.alog_system.specs.Roster.{emptied, kept_at, policy_at}
+use Rattle.alog_system.specs.Roster.{emptied, policy_at}
 use Rattle.alog_system.specs.Step.{RoundSteps, TurnSteps, after_round, dumped_by, entries_by, follows, posting, posting_on}
 use Rattle.alog_system.specs.System.{SystemView, duty_of, with_desk, with_roster}
 use Rattle.alog_system.specs.declared.duty.Duty.{Duty}

@@ -1,5 +1,4 @@
 use Rattle.std.specs.Prelude.{Result, Ok, Err, IfOk}
-use Rattle.std.specs.declared.alloc.AllocError.{AllocError}
 use Rattle.alog_pool.specs.Pool.{AreParts, PoolView, Staffs}
 use Rattle.alog_pool.specs.declared.pool_parts.PoolParts.{PoolParts}
 use Rattle.alog_pool.proofs.pool.start_workers.Goals as goal

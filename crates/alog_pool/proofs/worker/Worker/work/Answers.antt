@@ -1,4 +1,4 @@
-use Rattle.std.proofs.Common.{append-nil, ◌++◌, [], sym}
+use Rattle.std.proofs.Common.{append-nil, [], sym}
 use Rattle.alog_core.specs.Accounts.{takes}
 use Rattle.alog_pool.proofs.Deeds.{have_none}
 use Rattle.alog_pool.proofs.worker.Worker.work.Goals as goal

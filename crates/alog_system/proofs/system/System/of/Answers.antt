@@ -1,4 +1,4 @@
-use Rattle.std.proofs.Common.{◌≡◌, length, refl, sym, subst, ◌∙◌}
+use Rattle.std.proofs.Common.{length, refl, sym, subst, ◌∙◌}
 use Rattle.alog_core.specs.declared.TheConstants.{ACTORS}
 use Rattle.alog_policy.specs.DeskInside.{desk_in}
 use Rattle.alog_system.specs.System.{SystemView}
