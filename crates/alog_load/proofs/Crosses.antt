@@ -19,8 +19,8 @@ flag_sync = search (crosses, sendable) depth 9
 pub halt_send : IsSend (Arc.the_row AtomicBool.the_row Global.the_row alloc_ghosts)
 halt_send = Arc-send AtomicBool.the_row flag_send flag_sync
 
-pub errand_send : IsSend LoadTask.the_row
-errand_send = search sendable depth 9
+pub load_task_send : IsSend LoadTask.the_row
+load_task_send = search sendable depth 9
 
 pub back_send : IsSend Back.the_row
 back_send = recorded_send (Back.the_field).row _ _ (Back.the_type).to_one (struct_send (shape Back.the_type)

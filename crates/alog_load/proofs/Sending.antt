@@ -4,7 +4,7 @@ use Rattle.std.proofs.Common.{append-nil, append_assoc, refl, sym, ap, subst, �
 use Rattle.std.proofs.lemmas.Nat.{mod_below}
 use Rattle.std.specs.List.{AllByRecursion}
 use Rattle.alog_load.specs.Producers.{AreBack, AreSent, IsBack, IsSentFor}
-use Rattle.alog_load.specs.Load.{HasLogged, HasServed, errand_of}
+use Rattle.alog_load.specs.Load.{HasLogged, HasServed, load_task_of}
 use Rattle.alog_load.specs.declared.load_task.Goes.{Goes}
 use Rattle.alog_pool.proofs.Sharing.{all_more, each2_length, each2_more}
 use Rattle.alog_pool.specs.Places.{Each2}
@@ -13,13 +13,13 @@ use Rattle.alog_pool.specs.declared.shared.Shared.{Shared}
 use Rattle.alog_server.specs.Making.{AreOf}
 
 -- an task names a logger, and no more messages than were asked for
-pub errand_known : (p n m : ℕ) → 0 < (errand_of p n m).messages → (errand_of p n m).logger < n
-errand_known p zero m some = absurd (omega (arith, some))
-errand_known p (suc n) m some = mod_below p (suc n) (omega arith)
+pub load_task_known : (p n m : ℕ) → 0 < (load_task_of p n m).messages → (load_task_of p n m).logger < n
+load_task_known p zero m some = absurd (omega (arith, some))
+load_task_known p (suc n) m some = mod_below p (suc n) (omega arith)
 
-pub errand_few : (p n m : ℕ) → (errand_of p n m).messages ≤ m
-errand_few p zero m = omega arith
-errand_few p (suc n) m = omega arith
+pub task_few : (p n m : ℕ) → (load_task_of p n m).messages ≤ m
+task_few p zero m = omega arith
+task_few p (suc n) m = omega arith
 
 one_more : {A : Type 0} (xs : List A) (x : A) → length (xs ++ x ∷ []) ≡ length xs + 1
 one_more xs x = length-append xs (x ∷ [])
@@ -69,7 +69,7 @@ module _ (loggers messages : ℕ) where
   served_all (p ∷ ps) [] back sent backs = absurd sent
   served_all (p ∷ ps) (g ∷ away) [] sent backs = absurd backs
   served_all (p ∷ ps) (g ∷ away) (q ∷ back) sent backs = (
-    subst (λ (o : ProducerView). HasLogged (errand_of p.number loggers messages).logger (errand_of p.number loggers messages).messages o q)
+    subst (λ (o : ProducerView). HasLogged (load_task_of p.number loggers messages).logger (load_task_of p.number loggers messages).messages o q)
         sent.0.0 (subst (λ e. HasLogged e.logger e.messages g.start.value q) sent.0.1 (backs.0.logged refl)),
     served_all ps away back sent.1 backs.1,
   )

@@ -38,9 +38,9 @@ IsOfBuild built.Store e = e ≡ refused.Store
 
 -- What the producer of this number is sent off for: the producers go round among so many loggers. Where there is none, nothing is
 -- logged.
-abbrev pub errand_of : ℕ → ℕ → ℕ → LoadTask
-errand_of number zero messages = record { logger = 0; messages = 0 }
-errand_of number (suc n) messages = record { logger = number % suc n; messages = messages }
+abbrev pub load_task_of : ℕ → ℕ → ℕ → LoadTask
+load_task_of number zero messages = record { logger = 0; messages = 0 }
+load_task_of number (suc n) messages = record { logger = number % suc n; messages = messages }
 
 -- the text of message i of producer p
 abbrev pub text_of : ℕ → ℕ → List ℕ
@@ -68,7 +68,7 @@ pub record HasGone (e : LoadTask) (start : ProducerView) (back : Back) : Type 0 
 -- one that was made by a pool with so many loggers, and logged all that it was sent off for
 abbrev pub HasServed : ℕ → ℕ → ProducerView → ProducerView → Type 0
 HasServed loggers messages start end =
-    HasLogged (errand_of start.number loggers messages).logger (errand_of start.number loggers messages).messages start end
+    HasLogged (load_task_of start.number loggers messages).logger (load_task_of start.number loggers messages).messages start end
 
 module _ {S : Type 0} (tells : Bool) (files : S → Files) (failures : S → ℕ) where
   -- The report of a load: a pool was started with what the configuration gives, and told every ticket; it made as many producers

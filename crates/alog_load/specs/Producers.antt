@@ -1,7 +1,7 @@
 -- The producers of a load while they are away and when they are back.
 use Rattle.std.specs.Prelude.{◌≡◌, ◌≤◌, ◌+◌, ℕ, Bool, true, List, [], ◌++◌, length, vec_capacity}
 use Rattle.std.specs.List.{AllByRecursion}
-use Rattle.alog_load.specs.Load.{HasLogged, HasServed, errand_of}
+use Rattle.alog_load.specs.Load.{HasLogged, HasServed, load_task_of}
 use Rattle.alog_load.specs.declared.producers.Producers.{Producers}
 use Rattle.alog_load.specs.declared.load_task.Goes.{Goes}
 use Rattle.alog_pool.specs.Places.{Each2}
@@ -18,7 +18,7 @@ pub record HasRoom (count : ℕ) (c : Producers) : Type 0 where
 
 -- the producer was sent off with this promise
 abbrev pub IsSentFor : ℕ → ℕ → ProducerView → Goes → Type 0
-IsSentFor loggers messages p g = (g.start.value ≡ p) × (g.task ≡ errand_of p.number loggers messages)
+IsSentFor loggers messages p g = (g.start.value ≡ p) × (g.task ≡ load_task_of p.number loggers messages)
 
 -- Each of these producers was sent off, or is back. Where there was a thread for each, all were sent off, in their order.
 pub record AreSent (loggers messages : ℕ) (producers : List ProducerView) (away : List Goes) (back : List ProducerView) (all : Bool)

@@ -1,6 +1,6 @@
 //! What one producer of a load does.
 ghost use Rattle.std.specs.Prelude.{◌≡◌, ◌≤◌, ◌<◌, length, pos, IsTrue};
-ghost use Rattle.alog_load.specs.Load.{HasGone, HasLogged, LogsMessage, errand_of};
+ghost use Rattle.alog_load.specs.Load.{HasGone, HasLogged, LogsMessage, load_task_of};
 ghost use Rattle.alog_load.specs.declared.TheConstants.{LOAD_MESSAGES_MAX};
 ghost use Rattle.alog_pool.specs.Producer.{IsSame};
 
@@ -25,7 +25,7 @@ impl LoadTask {
     /// nothing to log.
     pub(crate) fn of(number: u64, loggers: usize, messages: u64) -> LoadTask
         requires few { loggers ≤ 256 }
-        ensures { result ≡ errand_of number loggers messages }
+        ensures { result ≡ load_task_of number loggers messages }
     {
         if loggers == 0 {
             return LoadTask {

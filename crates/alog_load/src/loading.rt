@@ -47,14 +47,14 @@ pub fn load<
         return Err(LoadError::BadValue);
     }
     let setup = setup_of(alloc, config, stores, (producers * messages) as usize)?;
-    let crew = Producers::new(alloc, producers as usize)?;
+    let threads = Producers::new(alloc, producers as usize)?;
     let mut pool = match Pool::start(rt, alloc, setup, gate) {
         Ok(pool) => pool,
         Err(StartError::OutOfMemory) => return Err(LoadError::OutOfMemory),
         Err(StartError::BadWorkers | StartError::BadSize | StartError::BadFirst) => unreachable!(),
     };
     let loggers = config.loggers.len();
-    let (back, done) = crew.run(rt, &mut pool, producers, loggers, messages);
+    let (back, done) = threads.run(rt, &mut pool, producers, loggers, messages);
     match pool.shutdown(rt, back) {
         Ok(report) if done => Ok(report),
         Ok(_) => Err(LoadError::OutOfMemory),

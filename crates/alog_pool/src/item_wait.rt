@@ -23,9 +23,13 @@ const FIRST_NAP: u64 = 50;
 /// wakes at most a thousand times a second, whatever its number of workers is.
 const LONGEST_NAP: u64 = 1_000;
 
-/// How long a worker has found nothing.
+/// How a thread waits that takes items: what a worker of a pool does after a pop that took nothing, from one item to the next.
+///
+/// Where the queue is idle it spins, then yields, and then sleeps, each time twice as long, from 50 microseconds up to one
+/// millisecond for each worker. Where it is empty, so that an item is on its way, it looks again at once, a hundred times, and
+/// then yields before each look; it never sleeps then. The test `rests_where_the_queue_is_idle_alone` of `test_pool` shows it.
 #[derive(Drop)]
-pub(crate) struct ItemWait {
+pub struct ItemWait {
     /// Looks since the queue was idle last, each of which found an item on its way.
     looks: u32,
     /// Spins and yields while the queue was idle.
@@ -36,8 +40,8 @@ pub(crate) struct ItemWait {
 }
 
 impl ItemWait {
-    /// A worker of a pool of so many, which has just found something.
-    pub(crate) fn new(workers: u32) -> ItemWait {
+    /// That of one of so many workers, which has just found something.
+    pub fn new(workers: u32) -> ItemWait {
         ItemWait {
             looks: 0,
             rests: 0,
@@ -48,8 +52,8 @@ impl ItemWait {
     }
 
     /// Lets so much time pass as is right after a pop that took nothing: longer each time where nothing is there, and hardly
-    /// any where an item is on its way.
-    pub(crate) fn after(&mut self, clock: &impl Clock, error: PopError) {
+    /// any where an item is on its way, or where another pop was faster.
+    pub fn after(&mut self, clock: &impl Clock, error: PopError) {
         match error {
             PopError::Idle { next: _ } => self.rest(clock),
             PopError::Empty { next: _ } => self.look_again(),

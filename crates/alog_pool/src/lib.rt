@@ -47,6 +47,7 @@ mod works;
 pub use backtrace_seat::BacktraceSeat;
 pub use error::{ProducerError, ProducersOut, StartError};
 pub use gate::{Gate, OpenGate};
+pub use item_wait::ItemWait;
 pub use laws::{members_balance, no_work_is_left, one_worker_writes_in_order};
 pub use pool::{PRODUCERS_MAX, Pool, WORKERS_MAX};
 pub use producer::Producer;

@@ -2,8 +2,8 @@
 //!
 //! They are here, and not in those crates, since a crate with tests is proved twice. Read `sinks.rt` (a sink, and the limit of
 //! texts), `totals.rt` (what a pool has to report, as a plain program), `trial.rt` (a pool that is tried, with its producers) and
-//! `reports.rt` (what is wanted of replies and reports). Then `hand_tests.rt` (a worker alone), `producer_tests.rt`,
-//! `pool_tests.rt` and `shutdown_tests.rt`; `gates.rt` (a gate that holds a worker), `gate_tests.rt` and `order_tests.rt` (which
+//! `reports.rt` (what is wanted of replies and reports). Then `worker_tests.rt` (a worker alone), `wait_tests.rt` (how it waits),
+//! `producer_tests.rt`, `pool_tests.rt` and `shutdown_tests.rt`; `gates.rt` (a gate that holds a worker), `gate_tests.rt` and `order_tests.rt` (which
 //! turn comes before which); `meeting_tests.rt` (sinks that wait for each other), `thread_tests.rt` (producers on threads of their
 //! own) and `memory_tests.rt` (want of memory); last `load_tests.rt` (loads of small configurations).
 #![tactic(auto)]
@@ -12,8 +12,6 @@
 mod gate_tests;
 #[cfg(test)]
 mod gates;
-#[cfg(test)]
-mod hand_tests;
 #[cfg(test)]
 mod load_tests;
 #[cfg(test)]
@@ -37,5 +35,9 @@ mod thread_tests;
 mod totals;
 #[cfg(test)]
 mod trial;
+#[cfg(test)]
+mod wait_tests;
+#[cfg(test)]
+mod worker_tests;
 
 pub use totals::totals_of;

@@ -10,7 +10,7 @@ use Rattle.std.specs.contracts.alloc.Global as Global
 use Rattle.std.specs.contracts.impls.GlobalAllocator.TheImpl.{ghosts as alloc_ghosts}
 use Rattle.std.specs.contracts.sync.Arc as Arc
 use Rattle.std.proofs.Crossing.{send as alloc_send}
-use Rattle.alog_load.proofs.Crosses.{back_send, errand_send, halt_send}
+use Rattle.alog_load.proofs.Crosses.{back_send, load_task_send, halt_send}
 use Rattle.alog_load.proofs.producers.send.Lts.{arg-7-2, arg-7-3}
 use Rattle.alog_load.proofs.producers.send.Goals as goal
 use Rattle.alog_load.specs.contracts.load_task.LoadTask as LoadTask
@@ -24,7 +24,7 @@ spawn_with-sent-requires-send-F g c κs within =
     ∷ Arc.the_row AtomicBool.the_row Global.the_row alloc_ghosts ∷ [] in
     param_send 2 (arg-7-2 g.row.R g.R.laws g.R.Threads-dict g.R.Wait-dict g.R.Clock-dict g.R.Clone-dict g.R.Destruct-dict κs)
     (arg_send _ no _ (recorded_send (field_at _ kept).row _ _ (type_at _ kept).to_one
-    (struct_send (shape (type_at _ kept)) (own, (alloc_send, (producer_send, (errand_send, (halt_send, tt))))))))
+    (struct_send (shape (type_at _ kept)) (own, (alloc_send, (producer_send, (load_task_send, (halt_send, tt))))))))
 
 pub spawn_with-sent-requires-send-T : goal.spawn_with-sent-requires-send-T
 spawn_with-sent-requires-send-T g c κs within =

@@ -2,10 +2,10 @@ use Rattle.std.proofs.Common.{◌≡◌, ◌<◌, ℕ, List, [], ◌∷◌, ◌+
 use Rattle.std.specs.List.{AllByRecursion}
 use Rattle.std.specs.declared.thread.PromisedHandle.{PromisedHandle}
 use Rattle.alog_core.proofs.Calls.{given_front}
-use Rattle.alog_load.proofs.Sending.{errand_known, sent_back, sent_more}
+use Rattle.alog_load.proofs.Sending.{load_task_known, sent_back, sent_more}
 use Rattle.alog_load.proofs.producers.send_all.Goals as goal
 use Rattle.alog_load.specs.Producers.{AreSent}
-use Rattle.alog_load.specs.Load.{errand_of}
+use Rattle.alog_load.specs.Load.{load_task_of}
 use Rattle.alog_load.specs.declared.load_task.Back.{Back}
 use Rattle.alog_load.specs.declared.load_task.LoadTask.{LoadTask}
 use Rattle.alog_load.specs.declared.load_task.Goes.{Goes}
@@ -30,7 +30,7 @@ send-requires-clause-known g c κs within =
     let here = all_next P yielded p _ (subst (λ (l : List ProducerView). AllByRecursion P l) all c.requires.known) in
     λ some.
     let more = subst (λ (e : LoadTask). 0 < e.messages) c.of-task.ensures some in
-    let known = errand_known c.number.result c.args.loggers c.args.messages more in
+    let known = load_task_known c.number.result c.args.loggers c.args.messages more in
     let logger = ap (λ (e : LoadTask). e.logger) c.of-task.ensures in
     omega (arith, known, logger, here)
 
@@ -42,7 +42,7 @@ loop-producer-preserved-in-Ok g c =
     let away = c.loop-producer.away.items in
     let inv = c.loop-producer.invariant in
     let task = c.in-Ok.ensures.away.1 ∙ c.of-task.ensures
-    ∙ ap (λ (n : ℕ). errand_of n c.args.loggers c.args.messages) c.number.ensures in
+    ∙ ap (λ (n : ℕ). load_task_of n c.args.loggers c.args.messages) c.number.ensures in
     let room = inv.away in
     record {
       sent = subst (λ (l : List Away). AreSent c.args.loggers c.args.messages (yielded ++ p ∷ []) (map promise_of l)

@@ -92,7 +92,7 @@ fn shared(rt: &impl Abort, alloc: Global, ring: Queue, loggers: Loggers) -> Arc<
 }
 
 // A worker without a place, of a pool of one.
-fn hand(alloc: Global, shared: Arc<Shared>, pass: Pass<Item>) -> Result<Worker<MemStore>, Fail>
+fn worker(alloc: Global, shared: Arc<Shared>, pass: Pass<Item>) -> Result<Worker<MemStore>, Fail>
     requires ring { IsPassOf (arc_value shared).ring pass }
     requires fresh { IsFresh pass.known }
     ensures { IfOk result (λ h. IsAtWork h h) }
@@ -126,9 +126,9 @@ fn a_worker_ends_at_its_stop(rt: HostRuntime) -> Result<(), Fail> {
     let (ring, pass, mut other) = queue(&rt, alloc);
     let shared = shared(&rt, alloc, ring, loggers(alloc, PLAIN, &[&[0]])?);
     let same = Arc::try_clone(&shared)?;
-    let hand = hand(alloc, shared, pass)?.work(&rt, &OpenGate);
-    assert_eq!(rt; hand.handled, 1);
-    assert!(rt; hand.tickets.as_slice() == [0].as_slice());
+    let worker = worker(alloc, shared, pass)?.work(&rt, &OpenGate);
+    assert_eq!(rt; worker.handled, 1);
+    assert!(rt; worker.tickets.as_slice() == [0].as_slice());
     has_the_last(&rt, &same.ring, &mut other);
     Ok(())
 }
