@@ -15,6 +15,6 @@ returns-clause-stands c =
     c.in-Ok-run.ensures.history in
     let places =
     ap (λ (m : Machine ℕ). m.places) c.in-Ok-run.ensures.after
-    ∙ places_after_calls c.new.in_ok.self c.args.calls.items ∙ ap (λ (m : Machine ℕ). m.places) c.in-Ok.ensures.made in
+    ∙ places_after_calls _ c.args.calls.items ∙ ap (λ (m : Machine ℕ). m.places) c.in-Ok.ensures.made in
     subst (λ n. StandsFor n c.args.first entries c.run.new.self.queue) places
     (goes c.args.first [] (leads_start c.args.places c.args.first)).stands
