@@ -163,7 +163,7 @@ def stale(crates):
 
 def untested():
     """Returns what is said of each file of examples/ that the tests of alog do not have byte for byte."""
-    with open("crates/test_program/src/examples.rt", encoding="utf-8") as it:
+    with open("crates/test_runs/src/examples.rt", encoding="utf-8") as it:
         tests = it.read()
     files = sorted(glob.glob("examples/*"))
     return [f"{it} is not in the tests of alog" for it in files if f'r#"{text_of(it)}"#;' not in tests]

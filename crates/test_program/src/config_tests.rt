@@ -1,23 +1,6 @@
 //! Scripts with a configuration, on the whole program.
-use crate::program::{Host, SMALL, Said, removed, says, says_of, scratch, written};
-use std::test::Fail;
-
-/// Whether a script with the configuration of a file says this.
-pub(crate) fn replays<R: Host>(rt: &R, file: &str, script: &str, said: Said<'_>) -> bool {
-    let words = ["alog", "replay", "--config", file];
-    says(rt, words.as_slice(), script.as_bytes(), said)
-}
-
-/// Whether a script with this configuration, in this file, says this.
-pub(crate) fn replays_with<R: Host>(
-    rt: &R,
-    (file, document): (&str, &str),
-    script: &str,
-    said: Said<'_>,
-) -> bool {
-    let words = ["alog", "replay", "--config", file];
-    says_of(rt, (file, document), words.as_slice(), script, said)
-}
+use std::io;
+use test_runs::{Host, SMALL, Said, removed, replays, replays_with, says, scratch, written};
 
 /// The small configuration, whose logger flushes errors.
 const FLUSHING: &str =
@@ -46,7 +29,7 @@ const LOGS: [(&str, &str); 2] = [
 ];
 
 #[test]
-fn logs_and_works(rt: HostRuntime) -> Result<(), Fail> {
+fn logs_and_works(rt: HostRuntime) -> io::Result<()> {
     let path = written(&rt, "logs", SMALL)?;
     for (script, printed) in &LOGS {
         assert!(rt;
@@ -80,7 +63,7 @@ const LEVELS: [(&str, &str); 4] = [
 ];
 
 #[test]
-fn levels_flushes_and_counts(rt: HostRuntime) -> Result<(), Fail> {
+fn levels_flushes_and_counts(rt: HostRuntime) -> io::Result<()> {
     let path = written(&rt, "levels", SMALL)?;
     for (script, printed) in &LEVELS {
         assert!(rt;
@@ -92,7 +75,7 @@ fn levels_flushes_and_counts(rt: HostRuntime) -> Result<(), Fail> {
 }
 
 #[test]
-fn a_flush_that_is_due(rt: HostRuntime) -> Result<(), Fail> {
+fn a_flush_that_is_due(rt: HostRuntime) -> io::Result<()> {
     let path = scratch(&rt, "flush")?;
     let script = "log 1 0 net error x\nrun 1\nwork 2\nrun 2\n";
     let printed =
@@ -104,7 +87,7 @@ fn a_flush_that_is_due(rt: HostRuntime) -> Result<(), Fail> {
 }
 
 #[test]
-fn a_dump_of_what_was_kept(rt: HostRuntime) -> Result<(), Fail> {
+fn a_dump_of_what_was_kept(rt: HostRuntime) -> io::Result<()> {
     let path = scratch(&rt, "dump")?;
     let script =
         "log 1 0 net debug m1\nrun 1\nlog 1 0 net debug m2\nrun 1\nlog 1 0 net debug m3\nrun 1\n\
@@ -144,7 +127,7 @@ fn says_on_each<R: Host>(rt: &R, file: &str, joined: &str) -> bool {
 }
 
 #[test]
-fn command_lines_with_a_configuration(rt: HostRuntime) -> Result<(), Fail> {
+fn command_lines_with_a_configuration(rt: HostRuntime) -> io::Result<()> {
     let path = written(&rt, "words", SMALL)?;
     let joined = format!(in rt.alloc(); "--config={}", path.as_str())?;
     assert!(rt; says_on_each(&rt, path.as_str(), joined.as_str()));

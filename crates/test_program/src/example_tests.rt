@@ -1,13 +1,12 @@
 //! The scripts of `examples/`, on the whole program.
-use crate::config_tests::replays_with;
-use crate::examples::{
+use crate::script_tests::prints;
+use std::io;
+use test_runs::examples::{
     DAILY_ERRORS, DAILY_ERRORS_PRINTED, DAILY_ERRORS_SCRIPT, EMPTYING, EMPTYING_PRINTED, FAN,
     FAN_PRINTED, FAN_SCRIPT, FIRST, FIRST_PRINTED, POSTS, POSTS_PRINTED, ROTATING,
     ROTATING_PRINTED, ROTATING_SCRIPT,
 };
-use crate::program::{Said, scratch};
-use crate::script_tests::prints;
-use std::test::Fail;
+use test_runs::{Said, replays_with, scratch};
 
 #[test]
 fn examples_without_a_configuration(rt: HostRuntime) {
@@ -21,7 +20,7 @@ fn examples_without_a_configuration(rt: HostRuntime) {
 }
 
 #[test]
-fn examples_with_a_configuration(rt: HostRuntime) -> Result<(), Fail> {
+fn examples_with_a_configuration(rt: HostRuntime) -> io::Result<()> {
     let path = scratch(&rt, "scripts")?;
     for (document, script, printed) in [
         (DAILY_ERRORS, DAILY_ERRORS_SCRIPT, DAILY_ERRORS_PRINTED),

@@ -4,8 +4,11 @@ use std::alloc::{AllocError, Global};
 use std::io;
 use std::io::{Error, ErrorKind, Read, Write};
 
+/// What is said where a write fails.
+pub const UNWRITTEN: &str = "alog: refused 35\nalog: the output could not be written\n";
+
 /// A text of this many letters, after a front.
-pub(crate) fn long(alloc: Global, front: &str, letters: usize) -> Result<String, AllocError> {
+pub fn long(alloc: Global, front: &str, letters: usize) -> Result<String, AllocError> {
     let mut text = String::from_str(alloc, front)?;
     for _ in 0..letters {
         text.push('x')?;
@@ -36,14 +39,14 @@ impl Read for Trickle<'_> {
 
 /// Takes this many bytes, one at a time, and then fails or takes none.
 #[derive(Drop)]
-pub(crate) struct Narrow {
+pub struct Narrow {
     taken: Vec<u8>,
     room: usize,
     fails: bool,
 }
 
 impl Narrow {
-    pub(crate) fn new(alloc: Global, room: usize, fails: bool) -> Narrow {
+    pub fn new(alloc: Global, room: usize, fails: bool) -> Narrow {
         Narrow {
             taken: Vec::new(alloc),
             room,
@@ -71,7 +74,7 @@ impl Write for Narrow {
 
 /// A run that is disturbed: its input comes byte by byte and may fail at its end, and its output takes a byte at a time.
 #[derive(Clone, Copy)]
-pub(crate) struct Course<'a> {
+pub struct Course<'a> {
     pub words: &'a [&'a str],
     pub script: &'a str,
     /// What it prints where nothing fails.
@@ -84,8 +87,17 @@ pub(crate) struct Course<'a> {
     pub writer_fails: bool,
 }
 
-/// Whether a run has this status, prints a front that fills its room, and says this on standard error.
-pub(crate) fn ends<R: Host>(rt: &R, course: Course<'_>, status: u8, error: &str) -> bool {
+impl Course<'_> {
+    /// Whether it may print this: a front of what it prints, which fills its room where its input does not fail.
+    fn prints(self, taken: &[u8]) -> bool {
+        let most = self.room.min(self.printed.len());
+        let is_full = taken.len() == most || self.reader_fails;
+        is_full && self.printed.as_bytes().starts_with(taken)
+    }
+}
+
+/// Whether a run has this status, prints what it may, and says this on standard error.
+pub fn ends<R: Host>(rt: &R, course: Course<'_>, status: u8, error: &str) -> bool {
     let mut input = Trickle {
         bytes: course.script.as_bytes(),
         fails: course.reader_fails,
@@ -93,17 +105,13 @@ pub(crate) fn ends<R: Host>(rt: &R, course: Course<'_>, status: u8, error: &str)
     let mut output = Narrow::new(rt.alloc(), course.room, course.writer_fails);
     let mut errors = Vec::new(rt.alloc());
     let found = run(rt, course.words, &mut input, &mut output, &mut errors);
-    let most = course.room.min(course.printed.len());
-    let is_full = output.taken.len() == most || course.reader_fails;
-    let is_front = course
-        .printed
-        .as_bytes()
-        .starts_with(output.taken.as_slice());
-    found == status && is_full && is_front && errors.as_slice() == error.as_bytes()
+    found == status
+        && course.prints(output.taken.as_slice())
+        && errors.as_slice() == error.as_bytes()
 }
 
 /// Whether a run into this writer has this status, and says this on standard error.
-pub(crate) fn ends_into<R: Host, O: Write>(
+pub fn ends_into<R: Host, O: Write>(
     rt: &R,
     words: &[&str],
     output: &mut O,
@@ -117,12 +125,8 @@ pub(crate) fn ends_into<R: Host, O: Write>(
 }
 
 /// Whether a run into a writer with this room has this status, and says that the output could not be written if it is 3.
-pub(crate) fn ends_within<R: Host>(rt: &R, words: &[&str], room: usize, status: u8) -> bool {
-    let error = if status == 3 {
-        "alog: refused 35\nalog: the output could not be written\n"
-    } else {
-        ""
-    };
+pub fn ends_within<R: Host>(rt: &R, words: &[&str], room: usize, status: u8) -> bool {
+    let error = if status == 3 { UNWRITTEN } else { "" };
     let mut output = Narrow::new(rt.alloc(), room, true);
     ends_into(rt, words, &mut output, status, error)
 }

@@ -1,21 +1,16 @@
 //! One run of the whole program, and whether it said what it was to say.
-//!
-//! What a run holds is alive in one small function alone, which answers a `bool`: the tests that look at it have nothing alive. A
-//! function over any `Host` is dear, since it carries what each part of one promises: so there are few, and the loops over rows are in
-//! the tests, whose runtime is known.
 use alog_program::Screen;
 use alog_server::Folders;
+use std::alloc::{AllocError, Global};
+use std::fs;
 use std::io::{Read, Write};
-use std::path::PathBuf;
 use std::rt::Files;
 use std::sync::Wait;
-use std::test::Fail;
 use std::thread::Threads;
 use std::time::Clock;
-use std::{env, fs, process};
 
 /// What the whole program runs on.
-pub(crate) trait Host: AllocGlobal
+pub trait Host: AllocGlobal
     + Files
     + Folders
     + Screen
@@ -36,7 +31,7 @@ where
 
 /// Runs the program on these words, and answers its status. What `run` promises is told to no test by it: a test looks, and its
 /// proof has nothing to carry.
-pub(crate) fn run<R: Host, I: Read, O: Write>(
+pub fn run<R: Host, I: Read, O: Write>(
     rt: &R,
     words: &[&str],
     input: &mut I,
@@ -48,7 +43,7 @@ pub(crate) fn run<R: Host, I: Read, O: Write>(
 
 /// What a run is to answer and to write.
 #[derive(Clone, Copy)]
-pub(crate) struct Said<'a> {
+pub struct Said<'a> {
     pub status: u8,
     pub printed: &'a str,
     /// On standard error: this where it ends a line or is empty, and else how it begins.
@@ -57,7 +52,7 @@ pub(crate) struct Said<'a> {
 
 impl<'a> Said<'a> {
     /// All was done.
-    pub(crate) fn done(printed: &'a str) -> Said<'a> {
+    pub fn done(printed: &'a str) -> Said<'a> {
         Said {
             status: 0,
             printed,
@@ -66,7 +61,7 @@ impl<'a> Said<'a> {
     }
 
     /// The words are wrong.
-    pub(crate) fn wrong(error: &'a str) -> Said<'a> {
+    pub fn wrong(error: &'a str) -> Said<'a> {
         Said {
             status: 1,
             printed: "",
@@ -75,7 +70,7 @@ impl<'a> Said<'a> {
     }
 
     /// The input is refused, behind what was printed.
-    pub(crate) fn refused(printed: &'a str, error: &'a str) -> Said<'a> {
+    pub fn refused(printed: &'a str, error: &'a str) -> Said<'a> {
         Said {
             status: 2,
             printed,
@@ -84,7 +79,7 @@ impl<'a> Said<'a> {
     }
 
     /// There is a fault, behind what was printed.
-    pub(crate) fn fault(printed: &'a str, error: &'a str) -> Said<'a> {
+    pub fn fault(printed: &'a str, error: &'a str) -> Said<'a> {
         Said {
             status: 3,
             printed,
@@ -100,7 +95,7 @@ fn is_error(found: &[u8], wanted: &str) -> bool {
 }
 
 /// Whether the program says this on these words and this input.
-pub(crate) fn says<R: Host>(rt: &R, words: &[&str], input: &[u8], said: Said<'_>) -> bool {
+pub fn says<R: Host>(rt: &R, words: &[&str], input: &[u8], said: Said<'_>) -> bool {
     let mut input = input;
     let mut output = Vec::new(rt.alloc());
     let mut errors = Vec::new(rt.alloc());
@@ -109,40 +104,66 @@ pub(crate) fn says<R: Host>(rt: &R, words: &[&str], input: &[u8], said: Said<'_>
     status == said.status && is_printed && is_error(errors.as_slice(), said.error)
 }
 
-/// Whether it does so where this file has this document. The file is removed again.
-pub(crate) fn says_of<R: Host>(
+/// These words, with this file where `FILE` stands.
+fn placed<'a>(alloc: Global, words: &[&'a str], file: &'a str) -> Result<Vec<&'a str>, AllocError> {
+    let mut placed = Vec::new(alloc);
+    for word in words {
+        placed.push(if *word == "FILE" { file } else { *word })?;
+    }
+    Ok(placed)
+}
+
+/// Whether the program says this on these words, in which `FILE` stands for this file.
+pub fn says_on<'a, R: Host>(
     rt: &R,
-    (file, document): (&str, &str),
-    words: &[&str],
-    input: &str,
+    file: &'a str,
+    words: &[&'a str],
+    input: &[u8],
+    said: Said<'_>,
+) -> bool {
+    match placed(rt.alloc(), words, file) {
+        Ok(words) => says(rt, words.as_slice(), input, said),
+        Err(_) => false,
+    }
+}
+
+/// Whether it does so where the file has this document. The file is removed again.
+pub fn says_of<'a, R: Host>(
+    rt: &R,
+    (file, document): (&'a str, &str),
+    words: &[&'a str],
+    input: &[u8],
     said: Said<'_>,
 ) -> bool {
     let is_written = fs::write(rt, file, document).is_ok();
-    let is_said = says(rt, words, input.as_bytes(), said);
+    let is_said = says_on(rt, file, words, input, said);
     let is_removed = fs::remove_file(rt, file).is_ok();
     is_written && is_said && is_removed
 }
 
-/// A file for one test, which is not there yet.
-pub(crate) fn scratch(rt: &HostRuntime, name: &str) -> Result<PathBuf, Fail> {
-    let process = process::id(rt.process());
-    let own = format!(in rt.alloc(); "alog_{process}_{name}.toml")?;
-    Ok(env::temp_dir(rt)?.join(rt.alloc(), own.as_str())?)
-}
-
-/// A file for one test, which has this document.
-pub(crate) fn written(rt: &HostRuntime, name: &str, document: &str) -> Result<PathBuf, Fail> {
-    let path = scratch(rt, name)?;
-    fs::write(rt, path.as_str(), document)?;
-    Ok(path)
-}
-
-/// The file of a test is removed.
-pub(crate) fn removed(rt: &HostRuntime, path: PathBuf) -> Result<(), Fail> {
-    Ok(fs::remove_file(rt, path.as_str())?)
-}
-
 /// The smallest configuration.
-pub(crate) const SMALL: &str =
+pub const SMALL: &str =
     "queue = 8\n\n[[sink]]\nname = \"out\"\nkind = \"memory\"\npattern = \"%n %L %v\"\n\n\
                      [[logger]]\nname = \"net\"\nsinks = [\"out\"]\n";
+
+/// The same without a pattern of its own, for texts of at most 64 bytes.
+pub const SHORT: &str = "text = 64\n\n[[sink]]\nname = \"out\"\nkind = \"memory\"\n\n\
+                         [[logger]]\nname = \"net\"\nsinks = [\"out\"]\n";
+
+/// `alog replay` with the configuration of a file.
+pub const REPLAY: &[&str] = &["alog", "replay", "--config", "FILE"];
+
+/// Whether a script with the configuration of this file says this.
+pub fn replays<R: Host>(rt: &R, file: &str, script: &str, said: Said<'_>) -> bool {
+    says_on(rt, file, REPLAY, script.as_bytes(), said)
+}
+
+/// Whether a script with this configuration, in this file, says this.
+pub fn replays_with<R: Host>(
+    rt: &R,
+    (file, document): (&str, &str),
+    script: &str,
+    said: Said<'_>,
+) -> bool {
+    says_of(rt, (file, document), REPLAY, script.as_bytes(), said)
+}

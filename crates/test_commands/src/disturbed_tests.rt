@@ -1,0 +1,166 @@
+//! `alog replay --config` on the whole program where its reader or its writer fails, or memory is wanting.
+use crate::check_tests::NO_TOML;
+use std::alloc::{AllocError, Global};
+use std::path::PathBuf;
+use std::{fs, io};
+use test_runs::{Course, Host, SMALL, UNWRITTEN, ends, removed, run, scratch, written};
+
+const SCRIPT: &str = "log 1 0 net info a\nrun 1\nwork 2\nrun 2\n";
+
+const PRINTED: &str =
+    "1 claim 0\n1 write 0\n1 posted 0 overran 0\n2 grab 0\n2 take 0 a\n2 line 0 out\n== out out 8\nnet I a\n";
+
+/// Whether the script, with the configuration of this file, ends so where its reader fails or not, and its writer takes so many bytes.
+fn ends_so<R: Host>(
+    rt: &R,
+    file: &str,
+    (reader_fails, room): (bool, usize),
+    status: u8,
+    error: &str,
+) -> bool {
+    let course = Course {
+        words: &["alog", "replay", "--config", file],
+        script: SCRIPT,
+        printed: PRINTED,
+        reader_fails,
+        room,
+        writer_fails: true,
+    };
+    ends(rt, course, status, error)
+}
+
+#[test]
+fn a_reader_failing(rt: HostRuntime) -> io::Result<()> {
+    let path = written(&rt, "reader", SMALL)?;
+    let unread = "alog: refused 34\nalog: the script could not be read\n";
+    for (reader_fails, status, error) in [(false, 0, ""), (true, 3, unread)] {
+        let how = (reader_fails, PRINTED.len());
+        assert!(rt; ends_so(&rt, path.as_str(), how, status, error), "{status}");
+    }
+    removed(&rt, path)
+}
+
+#[test]
+fn each_write_failing(rt: HostRuntime) -> io::Result<()> {
+    let path = written(&rt, "writes", SMALL)?;
+    for room in 0..PRINTED.len() {
+        assert!(rt;
+            ends_so(&rt, path.as_str(), (false, room), 3, UNWRITTEN),
+            "at {room} bytes"
+        );
+    }
+    removed(&rt, path)
+}
+
+/// Whether a file that has no configuration is refused so where the script cannot be read either.
+fn refuses_first<R: Host>(rt: &R, file: &str, error: &str) -> bool {
+    let course = Course {
+        words: &["alog", "replay", "--config", file],
+        script: "",
+        printed: "",
+        reader_fails: true,
+        room: 0,
+        writer_fails: true,
+    };
+    ends(rt, course, 2, error)
+}
+
+#[test]
+fn a_refused_configuration_comes_before_a_script_that_cannot_be_read(
+    rt: HostRuntime,
+) -> io::Result<()> {
+    let (document, error) = NO_TOML;
+    let path = written(&rt, "order", document)?;
+    assert!(rt; refuses_first(&rt, path.as_str(), error));
+    removed(&rt, path)
+}
+
+/// Nothing is read of the script.
+fn reads_nothing<R: Host>(rt: &R, file: &str) -> bool {
+    let mut input = b"refused".as_slice();
+    let mut output = Vec::new(rt.alloc());
+    let mut errors = Vec::new(rt.alloc());
+    let words = ["alog", "replay", "--config", file];
+    let status = run(rt, words.as_slice(), &mut input, &mut output, &mut errors);
+    status == 3 && input.len() == 7
+}
+
+#[test]
+fn a_script_is_not_read_where_there_is_no_configuration(rt: HostRuntime) {
+    assert!(rt; reads_nothing(&rt, "/"));
+}
+
+/// A path for this test, asked for again where memory was wanting.
+fn own_path(rt: &HostRuntime) -> io::Result<PathBuf> {
+    match scratch(rt, "memory") {
+        Ok(path) => Ok(path),
+        Err(_) => scratch(rt, "memory"),
+    }
+}
+
+/// A list with room for this many bytes, asked for again where memory was wanting.
+fn room(alloc: Global, bytes: usize) -> Result<Vec<u8>, AllocError> {
+    match Vec::with_capacity(alloc, bytes) {
+        Ok(room) => Ok(room),
+        Err(_) => Vec::with_capacity(alloc, bytes),
+    }
+}
+
+/// What a run answered, with what it printed and what it said on standard error.
+#[derive(Drop)]
+struct Ran {
+    status: u8,
+    printed: Vec<u8>,
+    errors: Vec<u8>,
+}
+
+/// Plays the script, over lists that have room for what it prints.
+fn played<R: Host>(rt: &R, file: &str) -> Result<Ran, AllocError> {
+    let mut printed = room(rt.alloc(), 256)?;
+    let mut errors = room(rt.alloc(), 256)?;
+    let words = ["alog", "replay", "--config", file];
+    let mut input = SCRIPT.as_bytes();
+    let status = run(rt, words.as_slice(), &mut input, &mut printed, &mut errors);
+    Ok(Ran {
+        status,
+        printed,
+        errors,
+    })
+}
+
+/// The script was played.
+fn is_played(ran: &Ran) -> bool {
+    let is_printed = ran.printed.as_slice() == PRINTED.as_bytes();
+    ran.status == 0 && is_printed && ran.errors.is_empty()
+}
+
+/// There was no memory.
+fn is_without_memory(ran: &Ran) -> bool {
+    let is_front = PRINTED.as_bytes().starts_with(ran.printed.as_slice());
+    ran.status == 4
+        && is_front
+        && ran.errors.as_slice() == b"alog: refused 1\nalog: out of memory\n".as_slice()
+}
+
+/// Whether the script is played, or ends for want of memory and is played when it is asked for again.
+fn is_played_in_the_end<R: Host>(rt: &R, file: &str) -> bool {
+    match played(rt, file) {
+        Ok(first) if is_without_memory(&first) => {
+            played(rt, file).is_ok_and(|again| is_played(&again))
+        }
+        Ok(first) => is_played(&first),
+        Err(_) => false,
+    }
+}
+
+// For runs in which one allocation fails, as `rt try --test --fail-alloc` makes it: whichever that is, the status is 4, and
+// the next run is as ever.
+#[test]
+fn want_of_memory(rt: HostRuntime) -> io::Result<()> {
+    let path = own_path(&rt)?;
+    fs::write(&rt, path.as_str(), SMALL)?;
+    let is_played = is_played_in_the_end(&rt, path.as_str());
+    removed(&rt, path)?;
+    assert!(rt; is_played);
+    Ok(())
+}
