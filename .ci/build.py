@@ -1,7 +1,8 @@
 """Proves and builds a program and all that it stands on, as many crates side by side as there are processors: build.py PROGRAM.
 
 `rt run` alone builds one crate after another. Here each crate is proved in a room of its own, which has it and, built before, what it
-stands on; the crates with the longest way before them come first, and one that is alone gets all processors. What is built comes
+stands on; the crates with the longest way before them come first, the first of them with two jobs at least, and one that is alone
+gets all processors. What is built comes
 back into the crates' folders, so that `rt` there goes on from it. On a terminal a line shows which crates are being proved and how
 many are left. The status is 0, or 1 where a crate failed, of which what was said is printed.
 """
@@ -115,7 +116,8 @@ def build(program):
                 spare = (memory() if running else 10**12) - FIRST_JOB
                 if idle < 1 or spare < 0:
                     break
-                jobs = max(1, min(4, idle // (len(ready) - at), 1 + int(spare // NEXT_JOB)))
+                wanted = max(idle // (len(ready) - at), 1 if at else 2)
+                jobs = max(1, min(4, wanted, 1 + int(spare // NEXT_JOB)))
                 left.remove(crate)
                 running[pool.submit(prove, crate, rows, rooms, jobs)] = crate, jobs
             show(len(left) + len(running), [it for it, _ in running.values()])
