@@ -1,10 +1,9 @@
 """Proves and builds a program and all that it stands on, as many crates side by side as there are processors: build.py PROGRAM.
 
 `rt run` alone builds one crate after another. Here each crate is proved in a room of its own, which has it and, built before, what it
-stands on; the crates with the longest way before them come first, the first of them with two jobs at least, and one that is alone
-gets all processors. What is built comes
-back into the crates' folders, so that `rt` there goes on from it. On a terminal a line shows which crates are being proved and how
-many are left. The status is 0, or 1 where a crate failed, of which what was said is printed.
+stands on. The crates with the longest way before them come first, the first of them with two jobs at least, and one that is alone
+gets all processors. What is built comes back into the crates' folders, so that `rt` there goes on from it. On a terminal a line shows
+which crates are being proved and how many are left. The status is 0, or 1 where a crate failed, of which what was said is printed.
 """
 import concurrent.futures as futures
 import os
