@@ -81,6 +81,34 @@ fn a_worker_makes_room(rt: HostRuntime) {
     has(&rt, &report, 0, b"a\nb\nc\nd\n");
 }
 
+// The last two tickets: the text has one and a stop the other, at which one of two workers ends, and the other since no ticket is
+// left.
+#[test]
+fn one_ends_at_a_stop_and_one_at_the_end(rt: HostRuntime) {
+    let alloc = rt.alloc();
+    let first = (1 << 62) - 2;
+    let setup = setup_of(alloc, of(2, first, 2), &[&[0]], &[NEVER]);
+    let mut trial = Trial::start(&rt, alloc, setup, OpenGate, 1);
+    is_told(&rt, trial.log(&rt, alloc, 0, 0, "a"), logged(posted(first)));
+    let report = trial.end(&rt);
+    has_totals(&rt, &report, 1, 0, 0);
+    has(&rt, &report, 0, b"a\n");
+}
+
+// The last ticket of all: the next text is discarded, and the worker ends without a stop.
+#[test]
+fn the_last_ticket_of_a_pool(rt: HostRuntime) {
+    let alloc = rt.alloc();
+    let last = (1 << 62) - 1;
+    let setup = setup_of(alloc, of(2, last, 1), &[&[0]], &[NEVER]);
+    let mut trial = Trial::start(&rt, alloc, setup, OpenGate, 1);
+    is_told(&rt, trial.log(&rt, alloc, 0, 0, "a"), logged(posted(last)));
+    is_told(&rt, trial.log(&rt, alloc, 0, 0, "b"), spent());
+    let report = trial.end(&rt);
+    has_totals(&rt, &report, 2, 1, 0);
+    has(&rt, &report, 0, b"a\n");
+}
+
 // A pool makes 4,096 producers, and no further one. Its only ticket is used up, so that its worker ends; at the end all producers
 // come back.
 #[test]

@@ -6,9 +6,10 @@ use std::process::Abort;
 use std::sync::atomic::{AtomicU64, Ordering};
 use std::time::{Clock, Duration};
 
-/// A clock that stands still, and counts the sleeps.
+/// A clock that stands still, and counts the sleeps and the microseconds that they are asked to take.
 struct Stopped {
     sleeps: AtomicU64,
+    micros: AtomicU64,
 }
 
 impl Clock for Stopped {
@@ -20,35 +21,40 @@ impl Clock for Stopped {
         Ok(Duration::ZERO)
     }
 
-    fn sleep(&self, _duration: Duration) {
+    fn sleep(&self, duration: Duration) {
         self.sleeps.fetch_add(1, Ordering::SeqCst);
+        self.micros
+            .fetch_add(duration.as_micros() as u64, Ordering::SeqCst);
     }
 }
 
-/// After a thousand pops more that took nothing for this reason, so many sleeps were made in all.
-fn sleeps_after(
+/// After a thousand pops more that took nothing for this reason, so many sleeps of so many microseconds were made in all.
+fn has_slept(
     rt: &impl Abort,
     wait: &mut ItemWait,
     clock: &Stopped,
     error: PopError,
-    wanted: u64,
+    wanted: (u64, u64),
 ) {
     for _ in 0..1_000 {
         wait.after(clock, error);
     }
     let sleeps = clock.sleeps.load(Ordering::SeqCst);
-    assert!(rt; sleeps == wanted, "{sleeps} sleeps");
+    let micros = clock.micros.load(Ordering::SeqCst);
+    assert!(rt; (sleeps, micros) == wanted, "{sleeps} sleeps of {micros}");
 }
 
 #[test]
 fn rests_where_the_queue_is_idle_alone(rt: HostRuntime) {
     let clock = Stopped {
         sleeps: AtomicU64::new(0),
+        micros: AtomicU64::new(0),
     };
     let mut wait = ItemWait::new(1);
-    sleeps_after(&rt, &mut wait, &clock, PopError::Empty { next: 7 }, 0);
-    sleeps_after(&rt, &mut wait, &clock, PopError::Busy { seen: 7 }, 0);
-    // Seven spins and eight yields come before the first sleep.
-    sleeps_after(&rt, &mut wait, &clock, PopError::Idle { next: 7 }, 985);
-    sleeps_after(&rt, &mut wait, &clock, PopError::Empty { next: 7 }, 985);
+    has_slept(&rt, &mut wait, &clock, PopError::Empty { next: 7 }, (0, 0));
+    has_slept(&rt, &mut wait, &clock, PopError::Busy { seen: 7 }, (0, 0));
+    // Seven spins and eight yields come before the first sleep, of 50 microseconds; the sixth and all behind it take a thousand.
+    let slept = (985, 981_550);
+    has_slept(&rt, &mut wait, &clock, PopError::Idle { next: 7 }, slept);
+    has_slept(&rt, &mut wait, &clock, PopError::Empty { next: 7 }, slept);
 }

@@ -141,16 +141,21 @@ fn stalls_behind_a_claim(rt: HostRuntime) {
     has_lost(&rt, &desk, 0, 1);
 }
 
-// Both places are being emptied: a post that overruns finds no ticket there to take.
+// A queue of two that are both being emptied, by actors 1 and 2: a post that overruns finds no ticket there to take.
+fn all_grabbed(rt: &impl Abort, alloc: Global) -> Desk<char> {
+    let mut desk = new_desk(rt, alloc, 2, 0);
+    push(rt, &mut desk, 1, 'a', 0);
+    push(rt, &mut desk, 2, 'b', 1);
+    for (actor, ticket) in [(1, 0), (2, 1)] {
+        begins_pop(rt, &mut desk, actor);
+        says(rt, &mut desk, actor, Said::Grab(ticket));
+    }
+    desk
+}
+
 #[test]
 fn stalls_at_idle(rt: HostRuntime) {
-    let mut desk = new_desk(&rt, rt.alloc(), 2, 0);
-    push(&rt, &mut desk, 1, 'a', 0);
-    push(&rt, &mut desk, 2, 'b', 1);
-    begins_pop(&rt, &mut desk, 3);
-    says(&rt, &mut desk, 3, Said::Grab(0));
-    begins_pop(&rt, &mut desk, 4);
-    says(&rt, &mut desk, 4, Said::Grab(1));
+    let mut desk = all_grabbed(&rt, rt.alloc());
     begins(&rt, &mut desk, 5, Policy::OverrunOldest, 'c');
     says(&rt, &mut desk, 5, Said::Full(2, None));
     says(&rt, &mut desk, 5, Said::Front(2));
@@ -364,6 +369,14 @@ fn posts_at_once_behind_a_claim(rt: HostRuntime) {
         now(&rt, &mut desk, policy, 'c', discarded('c', why));
     }
     has_lost(&rt, &desk, 0, 2);
+}
+
+#[test]
+fn posts_at_once_where_all_is_grabbed(rt: HostRuntime) {
+    let mut desk = all_grabbed(&rt, rt.alloc());
+    let stalled = discarded('c', Why::Stalled);
+    now(&rt, &mut desk, Policy::OverrunOldest, 'c', stalled);
+    has_lost(&rt, &desk, 0, 1);
 }
 
 #[test]

@@ -1,7 +1,7 @@
 //! Tests of the bounded queue, and of what is posted to it, over the public surface of `alog_core`, `alog_ring`, `alog_lane` and
 //! `alog_policy`.
 //!
-//! They are here, and not in those crates, since a crate with tests is proved twice. Read `queue_tests.rt` (the stepped queue),
+//! They are here, and not in those crates, since a crate with tests is proved twice. Read `queue_tests.rt` and `memory_tests.rt` (the stepped queue),
 //! `plain.rt` (the queue as a plain program, over a list of cells) with `words_tests.rt` (it beside the real one, on 1,000
 //! schedules); `ring_tests.rt` and `crossing_tests.rt` (the running ring, and its values from thread to thread); `lane_tests.rt`;
 //! `desk_tests.rt` (posts on the stepped queue), `outlet_tests.rt`, `book_tests.rt` (the loss book) and `port_tests.rt` (posts on a
@@ -16,6 +16,8 @@ mod crossing_tests;
 mod desk_tests;
 #[cfg(test)]
 mod lane_tests;
+#[cfg(test)]
+mod memory_tests;
 #[cfg(test)]
 mod outlet_tests;
 #[cfg(test)]

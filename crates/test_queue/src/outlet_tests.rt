@@ -1,10 +1,11 @@
 use alog_policy::{Outcome, Outlet, Policy, Why, post_now};
 use alog_ring::{PopError, PushError};
 
-// An outlet where others are always faster: at each push or, where its queue is full, at each pop. It counts its calls.
+// An outlet where others are always faster at each push or, where its queue is full, which refuses each pop so. It counts its calls.
 #[derive(Drop)]
 struct Outrun {
     is_full: bool,
+    refusal: PopError,
     pushes: u64,
     pops: u64,
     discarded: u64,
@@ -34,7 +35,7 @@ impl Outlet for Outrun {
 
     fn overrun_once(&mut self) -> Result<u64, PopError> {
         self.pops = self.pops.wrapping_add(1);
-        Err(PopError::Busy { seen: 7 })
+        Err(self.refusal)
     }
 
     fn count_discarded(&mut self) {
@@ -47,9 +48,10 @@ impl Outlet for Outrun {
 }
 
 // What a post of 7 ends with, and how many pushes, pops and discarded posts the outlet then counted.
-fn post_outrun(is_full: bool, policy: Policy) -> (Outcome<u64>, [u64; 3]) {
+fn post_outrun(is_full: bool, refusal: PopError, policy: Policy) -> (Outcome<u64>, [u64; 3]) {
     let mut outlet = Outrun {
         is_full,
+        refusal,
         pushes: 0,
         pops: 0,
         discarded: 0,
@@ -58,10 +60,10 @@ fn post_outrun(is_full: bool, policy: Policy) -> (Outcome<u64>, [u64; 3]) {
     (outcome, [outlet.pushes, outlet.pops, outlet.discarded])
 }
 
-fn busy() -> Outcome<u64> {
+fn discarded(why: Why) -> Outcome<u64> {
     Outcome::Discarded {
         value: 7,
-        why: Why::Busy,
+        why,
         overran: 0,
     }
 }
@@ -69,10 +71,19 @@ fn busy() -> Outcome<u64> {
 #[test]
 fn gives_up_where_others_are_always_faster(rt: HostRuntime) {
     for policy in [Policy::Block, Policy::OverrunOldest, Policy::DiscardNew] {
-        assert_eq!(rt; post_outrun(false, policy), (busy(), [64, 0, 1]));
+        let told = post_outrun(false, BEATEN, policy);
+        assert_eq!(rt; told, (discarded(Why::Busy), [64, 0, 1]));
     }
-    assert_eq!(rt;
-        post_outrun(true, Policy::OverrunOldest),
-        (busy(), [64, 64, 1])
-    );
+    let told = post_outrun(true, BEATEN, Policy::OverrunOldest);
+    assert_eq!(rt; told, (discarded(Why::Busy), [64, 64, 1]));
+}
+
+const BEATEN: PopError = PopError::Busy { seen: 7 };
+
+#[test]
+fn stalls_where_there_is_nothing_to_take(rt: HostRuntime) {
+    for refusal in [PopError::Empty { next: 7 }, PopError::Idle { next: 9 }] {
+        let told = post_outrun(true, refusal, Policy::OverrunOldest);
+        assert_eq!(rt; told, (discarded(Why::Stalled), [1, 1, 1]));
+    }
 }
