@@ -7,6 +7,7 @@ use std::sync::atomic::{AtomicU64, Ordering};
 use std::time::{Clock, Duration};
 
 /// A clock that stands still, and counts the sleeps and the microseconds that they are asked to take.
+#[derive(Drop)]
 struct Stopped {
     sleeps: AtomicU64,
     micros: AtomicU64,
