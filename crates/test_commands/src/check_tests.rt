@@ -1,24 +1,24 @@
-//! `alog check` on the whole program: files that have a configuration, that have none, and that cannot be read.
-use crate::unread::are_unread;
+//! `alog check` on the whole program: documents that are configurations, and documents that are none.
 use std::io;
 use test_runs::examples::{DAILY_ERRORS, FAN, ONE_FILE, ROTATING};
-use test_runs::{Host, SMALL, Said, ends_within, removed, says_of, scratch, written};
+use test_runs::{Host, SMALL, Said, ends_within, removed, says_with, written};
 
 /// `alog check` of a file.
-const CHECK: &[&str] = &["alog", "check", "FILE"];
+pub(crate) const CHECK: &[&str] = &["alog", "check", "FILE"];
 
-/// Whether it says this of a document, in this file.
-fn checks<R: Host>(rt: &R, file: &str, document: &str, said: Said<'_>) -> bool {
-    says_of(rt, (file, document), CHECK, b"", said)
+/// Whether it says this of a document.
+fn checks<R: Host>(rt: &R, document: &str, said: Said<'_>) -> bool {
+    says_with(rt, document, CHECK, b"", said)
 }
 
+/// Documents that are configurations.
+const CONFIGURATIONS: [&str; 5] = [ONE_FILE, DAILY_ERRORS, FAN, ROTATING, SMALL];
+
 #[test]
-fn examples_are_configurations(rt: HostRuntime) -> io::Result<()> {
-    let path = scratch(&rt, "examples")?;
-    for document in [ONE_FILE, DAILY_ERRORS, FAN, ROTATING, SMALL] {
-        assert!(rt; checks(&rt, path.as_str(), document, Said::done("ok\n")));
+fn examples_are_configurations(rt: HostRuntime) {
+    for document in &CONFIGURATIONS {
+        assert!(rt; checks(&rt, document, Said::done("ok\n")));
     }
-    Ok(())
 }
 
 /// A document that is not TOML, and what is said of it.
@@ -27,8 +27,8 @@ pub(crate) const NO_TOML: (&str, &str) = (
     "alog: refused 28\nalog: the document is not TOML: line 1: invalid string\n",
 );
 
-/// Documents that are no configurations, and what is said of each.
-pub(crate) const NO_CONFIGURATIONS: [(&str, &str); 3] = [
+/// Documents that are no configurations, as a whole, at their top, or in a sink or a logger, and what is said of each.
+pub(crate) const NO_CONFIGURATIONS: [(&str, &str); 8] = [
     (
         "",
         "alog: refused 31 in top\nalog: sink: a key is missing; it may have 1 to 256 tables\n",
@@ -39,10 +39,6 @@ pub(crate) const NO_CONFIGURATIONS: [(&str, &str); 3] = [
         "alog: refused 30 in top\n\
          alog: queue = 3: a value that its key can not have; it may have a power of two, 2 to 65536\n",
     ),
-];
-
-/// Documents with another fault, and what is said of each.
-const OTHER_FAULTS: [(&str, &str); 5] = [
     (
         "colour = 1\nqueue = 3\n[[sink]]\nname = \"out\"\nkind = \"memory\"\n[[logger]]\nname = \"net\"\nsinks = [\"out\"]\n",
         "alog: refused 29 in top\nalog: \"colour\" = 1: a key that is not known here; \
@@ -71,40 +67,23 @@ const OTHER_FAULTS: [(&str, &str); 5] = [
     ),
 ];
 
-/// Whether `alog check` refuses a document, in this file, so.
-fn refuses<R: Host>(rt: &R, file: &str, document: &str, error: &str) -> bool {
-    checks(rt, file, document, Said::refused("", error))
-}
-
 #[test]
-fn faults_of_configurations(rt: HostRuntime) -> io::Result<()> {
-    let path = scratch(&rt, "faults")?;
+fn faults_of_configurations(rt: HostRuntime) {
     for (document, error) in &NO_CONFIGURATIONS {
-        assert!(rt; refuses(&rt, path.as_str(), document, error), "{error}");
+        assert!(rt; checks(&rt, document, Said::refused("", error)), "{error}");
     }
-    for (document, error) in &OTHER_FAULTS {
-        assert!(rt; refuses(&rt, path.as_str(), document, error), "{error}");
-    }
-    Ok(())
-}
-
-#[test]
-fn unreadable_files(rt: HostRuntime) -> io::Result<()> {
-    let path = scratch(&rt, "absent")?;
-    assert!(rt; are_unread(&rt, CHECK, path.as_str()));
-    Ok(())
 }
 
 /// Whether `alog check` of this file into a writer with this room has this status.
 fn checks_within<R: Host>(rt: &R, file: &str, room: usize, status: u8) -> bool {
-    ends_within(rt, ["alog", "check", file].as_slice(), room, status)
+    ends_within(rt, &["alog", "check", file], room, status)
 }
 
 #[test]
 fn checks_to_failing_writers(rt: HostRuntime) -> io::Result<()> {
-    let path = written(&rt, "writers", SMALL)?;
-    for (room, status) in [(0, 3), (2, 3), (3, 0)] {
-        assert!(rt; checks_within(&rt, path.as_str(), room, status), "{room}");
+    let path = written(&rt, SMALL)?;
+    for (room, status) in &[(0, 3), (2, 3), (3, 0)] {
+        assert!(rt; checks_within(&rt, path.as_str(), *room, *status), "{room}");
     }
     removed(&rt, path)
 }

@@ -1,10 +1,6 @@
-//! What `alog replay --config` refuses, on the whole program: lines of scripts, texts, and files that have no configuration.
+//! What `alog replay --config` refuses, on the whole program: lines of scripts, texts, and documents that are no configurations.
 use crate::check_tests::NO_CONFIGURATIONS;
-use crate::unread::are_unread;
-use std::io;
-use test_runs::{
-    Host, REPLAY, SHORT, SMALL, Said, long, removed, replays, replays_with, says, scratch, written,
-};
+use test_runs::{Host, SHORT, SMALL, Said, long, replays_with, says};
 
 const FIRST: &str = "alog: refused 33 at line 1\nalog: no command of this form may stand there\n";
 
@@ -58,15 +54,13 @@ const REFUSED: [&str; 37] = [
 ];
 
 #[test]
-fn lines_that_are_refused(rt: HostRuntime) -> io::Result<()> {
-    let path = written(&rt, "forms", SMALL)?;
+fn lines_that_are_refused(rt: HostRuntime) {
     for line in &REFUSED {
         assert!(rt;
-            replays(&rt, path.as_str(), line, Said::refused("", FIRST)),
+            replays_with(&rt, SMALL, line, Said::refused("", FIRST)),
             "{line}"
         );
     }
-    removed(&rt, path)
 }
 
 /// Scripts whose second line comes at a wrong time, and what is printed before.
@@ -85,15 +79,11 @@ const AT_A_WRONG_TIME: [(&str, &str); 6] = [
 ];
 
 #[test]
-fn lines_that_come_at_a_wrong_time(rt: HostRuntime) -> io::Result<()> {
-    let path = written(&rt, "times", SMALL)?;
+fn lines_that_come_at_a_wrong_time(rt: HostRuntime) {
     for (script, printed) in &AT_A_WRONG_TIME {
-        assert!(rt;
-            replays(&rt, path.as_str(), script, Said::refused(printed, SECOND)),
-            "{script}"
-        );
+        let said = Said::refused(printed, SECOND);
+        assert!(rt; replays_with(&rt, SMALL, script, said), "{script}");
     }
-    removed(&rt, path)
 }
 
 /// Scripts without a configuration of which a line wants one, and what is said of it.
@@ -122,59 +112,34 @@ fn lines_that_want_a_configuration(rt: HostRuntime) {
     }
 }
 
-/// Whether a script whose text has so many letters says this.
-fn replays_long<R: Host>(
-    rt: &R,
-    file: &str,
-    (front, letters): (&str, usize),
-    said: Said<'_>,
-) -> bool {
+/// Whether a script whose text has so many letters says this, where texts have at most 64.
+fn replays_long<R: Host>(rt: &R, front: &str, letters: usize, said: Said<'_>) -> bool {
     match long(rt.alloc(), front, letters) {
-        Ok(script) => replays(rt, file, script.as_str(), said),
+        Ok(script) => replays_with(rt, SHORT, script.as_str(), said),
         Err(_) => false,
     }
 }
 
-/// Whether texts at the limit, and over it, say what they are to. A message that no one gets is not looked at.
-fn replays_all_long<R: Host>(rt: &R, file: &str) -> bool {
-    let filtered = Said::done("1 filtered info\n");
-    replays_long(rt, file, ("log 1 0 net info ", 64), Said::done(""))
-        && replays_long(
-            rt,
-            file,
-            ("log 1 0 net info ", 65),
-            Said::refused("", FIRST),
-        )
-        && replays_long(rt, file, ("log 1 0 net debug ", 65), filtered)
-}
-
+// A message that no one gets is not looked at.
 #[test]
-fn texts_over_the_limit(rt: HostRuntime) -> io::Result<()> {
-    let path = written(&rt, "texts", SHORT)?;
-    assert!(rt; replays_all_long(&rt, path.as_str()));
-    removed(&rt, path)
+fn texts_over_the_limit(rt: HostRuntime) {
+    let (admitted, filtered) = ("log 1 0 net info ", "log 1 0 net debug ");
+    assert!(rt; replays_long(&rt, admitted, 64, Said::done("")));
+    assert!(rt; replays_long(&rt, admitted, 65, Said::refused("", FIRST)));
+    assert!(rt; replays_long(&rt, filtered, 65, Said::done("1 filtered info\n")));
 }
 
 /// Whether a script with a document that is no configuration says what is wrong with it, whatever the script is.
-fn refuses_all<R: Host>(rt: &R, file: &str, document: &str, error: &str) -> bool {
-    let (file, said) = ((file, document), Said::refused("", error));
-    replays_with(rt, file, "# nothing", said)
-        && replays_with(rt, file, "log 1 0 net debug x", said)
-        && replays_with(rt, file, "refused", said)
+fn refuses_all<R: Host>(rt: &R, document: &str, error: &str) -> bool {
+    let said = Said::refused("", error);
+    replays_with(rt, document, "# nothing", said)
+        && replays_with(rt, document, "log 1 0 net debug x", said)
+        && replays_with(rt, document, "refused", said)
 }
 
 #[test]
-fn files_that_are_no_configuration(rt: HostRuntime) -> io::Result<()> {
-    let path = scratch(&rt, "refused")?;
+fn documents_that_are_no_configurations(rt: HostRuntime) {
     for (document, error) in &NO_CONFIGURATIONS {
-        assert!(rt; refuses_all(&rt, path.as_str(), document, error), "{error}");
+        assert!(rt; refuses_all(&rt, document, error), "{error}");
     }
-    Ok(())
-}
-
-#[test]
-fn files_that_cannot_be_read(rt: HostRuntime) -> io::Result<()> {
-    let path = scratch(&rt, "missing")?;
-    assert!(rt; are_unread(&rt, REPLAY, path.as_str()));
-    Ok(())
 }

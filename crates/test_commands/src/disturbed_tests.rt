@@ -3,20 +3,19 @@ use crate::check_tests::NO_TOML;
 use std::alloc::{AllocError, Global};
 use std::path::PathBuf;
 use std::{fs, io};
-use test_runs::{Course, Host, SMALL, UNWRITTEN, ends, removed, run, scratch, written};
+use test_runs::{Course, Host, SMALL, Scratch, UNWRITTEN, ends, removed, run, written};
 
 const SCRIPT: &str = "log 1 0 net info a\nrun 1\nwork 2\nrun 2\n";
 
 const PRINTED: &str =
     "1 claim 0\n1 write 0\n1 posted 0 overran 0\n2 grab 0\n2 take 0 a\n2 line 0 out\n== out out 8\nnet I a\n";
 
-/// Whether the script, with the configuration of this file, ends so where its reader fails or not, and its writer takes so many bytes.
-fn ends_so<R: Host>(
+/// Whether the script, with the configuration of this file, ends so.
+fn ends_on<R: Host>(
     rt: &R,
     file: &str,
     (reader_fails, room): (bool, usize),
-    status: u8,
-    error: &str,
+    (status, error): (u8, &str),
 ) -> bool {
     let course = Course {
         words: &["alog", "replay", "--config", file],
@@ -29,27 +28,32 @@ fn ends_so<R: Host>(
     ends(rt, course, status, error)
 }
 
-#[test]
-fn a_reader_failing(rt: HostRuntime) -> io::Result<()> {
-    let path = written(&rt, "reader", SMALL)?;
-    let unread = "alog: refused 34\nalog: the script could not be read\n";
-    for (reader_fails, status, error) in [(false, 0, ""), (true, 3, unread)] {
-        let how = (reader_fails, PRINTED.len());
-        assert!(rt; ends_so(&rt, path.as_str(), how, status, error), "{status}");
+/// Whether the script, with the small configuration, ends so where its reader fails or not, and its writer takes so many bytes.
+fn ends_so<R: Host>(rt: &R, how: (bool, usize), said: (u8, &str)) -> bool {
+    match written(rt, SMALL) {
+        Ok(path) => {
+            let is_so = ends_on(rt, path.as_str(), how, said);
+            fs::remove_file(rt, path.as_str()).is_ok() && is_so
+        }
+        Err(_) => false,
     }
-    removed(&rt, path)
 }
 
 #[test]
-fn each_write_failing(rt: HostRuntime) -> io::Result<()> {
-    let path = written(&rt, "writes", SMALL)?;
+fn a_reader_failing(rt: HostRuntime) {
+    let unread = "alog: refused 34\nalog: the script could not be read\n";
+    assert!(rt; ends_so(&rt, (false, PRINTED.len()), (0, "")));
+    assert!(rt; ends_so(&rt, (true, PRINTED.len()), (3, unread)));
+}
+
+#[test]
+fn each_write_failing(rt: HostRuntime) {
     for room in 0..PRINTED.len() {
         assert!(rt;
-            ends_so(&rt, path.as_str(), (false, room), 3, UNWRITTEN),
+            ends_so(&rt, (false, room), (3, UNWRITTEN)),
             "at {room} bytes"
         );
     }
-    removed(&rt, path)
 }
 
 /// Whether a file that has no configuration is refused so where the script cannot be read either.
@@ -70,31 +74,16 @@ fn a_refused_configuration_comes_before_a_script_that_cannot_be_read(
     rt: HostRuntime,
 ) -> io::Result<()> {
     let (document, error) = NO_TOML;
-    let path = written(&rt, "order", document)?;
+    let path = written(&rt, document)?;
     assert!(rt; refuses_first(&rt, path.as_str(), error));
     removed(&rt, path)
 }
 
-/// Nothing is read of the script.
-fn reads_nothing<R: Host>(rt: &R, file: &str) -> bool {
-    let mut input = b"refused".as_slice();
-    let mut output = Vec::new(rt.alloc());
-    let mut errors = Vec::new(rt.alloc());
-    let words = ["alog", "replay", "--config", file];
-    let status = run(rt, words.as_slice(), &mut input, &mut output, &mut errors);
-    status == 3 && input.len() == 7
-}
-
-#[test]
-fn a_script_is_not_read_where_there_is_no_configuration(rt: HostRuntime) {
-    assert!(rt; reads_nothing(&rt, "/"));
-}
-
 /// A path for this test, asked for again where memory was wanting.
 fn own_path(rt: &HostRuntime) -> io::Result<PathBuf> {
-    match scratch(rt, "memory") {
+    match rt.scratch("memory") {
         Ok(path) => Ok(path),
-        Err(_) => scratch(rt, "memory"),
+        Err(_) => rt.scratch("memory"),
     }
 }
 

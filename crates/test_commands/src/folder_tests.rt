@@ -3,7 +3,7 @@ use crate::load_tests::THREE;
 use std::alloc::Global;
 use std::path::PathBuf;
 use std::{fs, io};
-use test_runs::{Host, SMALL, Said, folder, lines_in, removed, says, scratch, written};
+use test_runs::{Host, SMALL, Said, Scratch, folder, lines_in, removed, says, written};
 
 /// A folder for the files of one test, in which its configuration is too.
 #[derive(Drop)]
@@ -13,8 +13,8 @@ struct Room {
 }
 
 impl Room {
-    fn new(rt: &HostRuntime, name: &str, document: &str) -> io::Result<Room> {
-        let folder = folder(rt, name)?;
+    fn new(rt: &HostRuntime, document: &str) -> io::Result<Room> {
+        let folder = folder(rt)?;
         let config = folder.join(rt.alloc(), "alog.toml")?;
         fs::write(rt, config.as_str(), document)?;
         Ok(Room { folder, config })
@@ -26,24 +26,34 @@ impl Room {
     }
 }
 
-/// Whether a load of a file to a folder says this, which has so many messages.
-fn loads_to<R: Host>(rt: &R, (file, to): (&str, &str), messages: &str, said: Said<'_>) -> bool {
-    let words = ["alog", "load", file, messages, "--folder", to];
+/// Whether a load of a file to a folder, with these words more, says this.
+fn loads_to<R: Host>(
+    rt: &R,
+    (file, to): (&str, &str),
+    (producers, messages): (&str, &str),
+    said: Said<'_>,
+) -> bool {
+    let words = ["alog", "load", file, producers, messages, "--folder", to];
     says(rt, words.as_slice(), b"", said)
 }
+
+/// How many producers and messages a load of one message has, and one of three.
+const FOR_ONE: (&str, &str) = ("--producers=1", "--messages=1");
+
+const FOR_THREE: (&str, &str) = ("--producers=1", "--messages=3");
 
 /// What a load of one message says.
 const ONE: &str = "asked 1\nposted 1\ndiscarded 0\noverrun 0\nhandled 1\n";
 
 /// Whether two loads to a folder say what they have written.
 fn loads_twice<R: Host>(rt: &R, places: (&str, &str)) -> bool {
-    loads_to(rt, places, "--messages=3", Said::done(THREE))
-        && loads_to(rt, places, "--messages=1", Said::done(ONE))
+    loads_to(rt, places, FOR_THREE, Said::done(THREE))
+        && loads_to(rt, places, FOR_ONE, Said::done(ONE))
 }
 
 #[test]
 fn files_of_a_folder(rt: HostRuntime) -> io::Result<()> {
-    let room = Room::new(&rt, "folder", SMALL)?;
+    let room = Room::new(&rt, SMALL)?;
     assert!(rt; loads_twice(&rt, room.places()));
     let lines = lines_in(&rt, &room.folder)?;
     assert!(rt; lines.as_str() == "net I 0 0\nnet I 0 1\nnet I 0 2\nnet I 0 0\n");
@@ -91,22 +101,14 @@ const TWO_WORKERS: &str =
 const SIX_HUNDRED: &str = "asked 600\nposted 600\ndiscarded 0\noverrun 0\nhandled 600\n";
 
 /// Whether two workers that write the lines of three producers to a file of a folder say so.
-fn loads_many<R: Host>(rt: &R, (file, to): (&str, &str)) -> bool {
-    let words = [
-        "alog",
-        "load",
-        file,
-        "--producers=3",
-        "--messages=200",
-        "--folder",
-        to,
-    ];
-    says(rt, words.as_slice(), b"", Said::done(SIX_HUNDRED))
+fn loads_many<R: Host>(rt: &R, places: (&str, &str)) -> bool {
+    let more = ("--producers=3", "--messages=200");
+    loads_to(rt, places, more, Said::done(SIX_HUNDRED))
 }
 
 #[test]
 fn each_line_of_many_is_in_its_file(rt: HostRuntime) -> io::Result<()> {
-    let room = Room::new(&rt, "many", TWO_WORKERS)?;
+    let room = Room::new(&rt, TWO_WORKERS)?;
     assert!(rt; loads_many(&rt, room.places()));
     let lines = lines_in(&rt, &room.folder)?;
     assert!(rt; has_each_once(rt.alloc(), lines.as_str()));
@@ -123,7 +125,7 @@ fn taken(rt: &HostRuntime, room: &Room) -> io::Result<()> {
 
 #[test]
 fn a_fault_stands_behind_the_totals(rt: HostRuntime) -> io::Result<()> {
-    let room = Room::new(&rt, "taken", SMALL)?;
+    let room = Room::new(&rt, SMALL)?;
     taken(&rt, &room)?;
     assert!(rt;
         loads_to(
@@ -139,12 +141,7 @@ fn a_fault_stands_behind_the_totals(rt: HostRuntime) -> io::Result<()> {
 /// Whether a load to what is no folder is refused, for a reason that begins so and ends so behind its name.
 fn refuses<R: Host>(rt: &R, (file, to): (&str, &str), (front, end): (&str, &str)) -> bool {
     match format!(in rt.alloc(); "{front}{to}{end}") {
-        Ok(error) => loads_to(
-            rt,
-            (file, to),
-            "--messages=3",
-            Said::fault("", error.as_str()),
-        ),
+        Ok(error) => loads_to(rt, (file, to), FOR_THREE, Said::fault("", error.as_str())),
         Err(_) => false,
     }
 }
@@ -158,8 +155,8 @@ fn refuses_both<R: Host>(rt: &R, file: &str, absent: &str) -> bool {
 
 #[test]
 fn a_folder_that_is_none_is_refused_at_the_start(rt: HostRuntime) -> io::Result<()> {
-    let absent = scratch(&rt, "absent_folder")?;
-    let path = written(&rt, "no_folder", SMALL)?;
+    let absent = rt.scratch("absent")?;
+    let path = written(&rt, SMALL)?;
     assert!(rt; refuses_both(&rt, path.as_str(), absent.as_str()));
     removed(&rt, path)
 }

@@ -1,7 +1,14 @@
 //! `alog load` on the whole program: its numbers, its totals, and in which order it refuses.
 use crate::check_tests::NO_TOML;
 use std::{fs, io};
-use test_runs::{Host, SMALL, Said, ends_within, removed, says, says_on, scratch, written};
+use test_runs::{
+    Host, SMALL, Said, Scratch, ends_within, removed, says, says_on, says_with, written,
+};
+
+/// Whether a load of this configuration says this, on these words.
+fn loads<R: Host>(rt: &R, document: &str, words: &[&'static str], said: Said<'_>) -> bool {
+    says_with(rt, document, words, b"", said)
+}
 
 /// What a load says that counts nothing, and one of three messages.
 const NO_TOTALS: &str = "asked 0\nposted 0\ndiscarded 0\noverrun 0\nhandled 0\n";
@@ -34,32 +41,20 @@ const TOTALS: &[(&[&str], &str)] = &[
 ];
 
 #[test]
-fn totals(rt: HostRuntime) -> io::Result<()> {
-    let path = written(&rt, "totals", SMALL)?;
+fn totals(rt: HostRuntime) {
     for (words, printed) in TOTALS {
-        assert!(rt;
-            says_on(&rt, path.as_str(), words, b"", Said::done(printed)),
-            "{printed}"
-        );
+        assert!(rt; loads(&rt, SMALL, words, Said::done(printed)), "{printed}");
     }
-    removed(&rt, path)
 }
 
 /// One whose logger lets no message through that a load logs.
 const QUIET: &str = "[[sink]]\nname = \"out\"\nkind = \"memory\"\n\n\
                      [[logger]]\nname = \"net\"\nlevel = \"error\"\nsinks = [\"out\"]\n";
 
-/// Whether a load of this file, by two producers of five messages, counts none.
-fn counts_none<R: Host>(rt: &R, file: &str) -> bool {
-    let words = ["alog", "load", file, "--producers=2", "--messages=5"];
-    says(rt, words.as_slice(), b"", Said::done(NO_TOTALS))
-}
-
 #[test]
-fn messages_below_the_level_are_not_counted(rt: HostRuntime) -> io::Result<()> {
-    let path = written(&rt, "quiet", QUIET)?;
-    assert!(rt; counts_none(&rt, path.as_str()));
-    removed(&rt, path)
+fn messages_below_the_level_are_not_counted(rt: HostRuntime) {
+    let words = ["alog", "load", "FILE", "--producers=2", "--messages=5"];
+    assert!(rt; loads(&rt, QUIET, words.as_slice(), Said::done(NO_TOTALS)));
 }
 
 /// Loads with numbers that cannot be read or are out of their bounds, and what is said of each.
@@ -110,29 +105,19 @@ const REFUSED: &[(&[&str], &str)] = &[
 ];
 
 #[test]
-fn numbers_that_are_refused(rt: HostRuntime) -> io::Result<()> {
-    let path = written(&rt, "numbers", SMALL)?;
+fn numbers_that_are_refused(rt: HostRuntime) {
     for (words, error) in REFUSED {
-        assert!(rt;
-            says_on(&rt, path.as_str(), words, b"", Said::wrong(error)),
-            "{error}"
-        );
+        assert!(rt; loads(&rt, SMALL, words, Said::wrong(error)), "{error}");
     }
-    removed(&rt, path)
 }
 
-/// Whether a load of this file by more producers than there may be says this.
-fn loads_by_many<R: Host>(rt: &R, file: &str, said: Said<'_>) -> bool {
-    let words = ["alog", "load", file, "--producers", "65"];
-    says(rt, words.as_slice(), b"", said)
-}
+/// A load by more producers than there may be.
+const MANY: &[&str] = &["alog", "load", "FILE", "--producers", "65"];
 
 #[test]
-fn a_configuration_that_is_refused_comes_before_those_bounds(rt: HostRuntime) -> io::Result<()> {
+fn a_configuration_that_is_refused_comes_before_those_bounds(rt: HostRuntime) {
     let (document, error) = NO_TOML;
-    let path = written(&rt, "no_toml", document)?;
-    assert!(rt; loads_by_many(&rt, path.as_str(), Said::refused("", error)));
-    removed(&rt, path)
+    assert!(rt; loads(&rt, document, MANY, Said::refused("", error)));
 }
 
 /// Whether a load of this file, which is absent, says why it cannot be read.
@@ -141,14 +126,14 @@ fn says_why_absent<R: Host>(rt: &R, file: &str) -> bool {
         return false;
     };
     match format!(in rt.alloc(); "alog: {file} cannot be read: {why}\n") {
-        Ok(error) => loads_by_many(rt, file, Said::fault("", error.as_str())),
+        Ok(error) => says_on(rt, file, MANY, b"", Said::fault("", error.as_str())),
         Err(_) => false,
     }
 }
 
 #[test]
 fn a_file_that_is_absent_comes_before_those_bounds(rt: HostRuntime) -> io::Result<()> {
-    let path = scratch(&rt, "absent_load")?;
+    let path = rt.scratch("absent")?;
     assert!(rt; says_why_absent(&rt, path.as_str()));
     Ok(())
 }
@@ -174,9 +159,9 @@ fn loads_within<R: Host>(rt: &R, file: &str, room: usize, status: u8) -> bool {
 
 #[test]
 fn totals_to_failing_writers(rt: HostRuntime) -> io::Result<()> {
-    let path = written(&rt, "totals_failing", SMALL)?;
-    for (room, status) in [(0, 3), (THREE.len() - 1, 3), (THREE.len(), 0)] {
-        assert!(rt; loads_within(&rt, path.as_str(), room, status), "{room}");
+    let path = written(&rt, SMALL)?;
+    for (room, status) in &[(0, 3), (THREE.len() - 1, 3), (THREE.len(), 0)] {
+        assert!(rt; loads_within(&rt, path.as_str(), *room, *status), "{room}");
     }
     removed(&rt, path)
 }

@@ -1,6 +1,6 @@
 //! Scripts with a configuration, on the whole program.
 use std::io;
-use test_runs::{Host, SMALL, Said, removed, replays, replays_with, says, scratch, written};
+use test_runs::{Host, SMALL, Said, removed, replays_with, says, written};
 
 /// The small configuration, whose logger flushes errors.
 const FLUSHING: &str =
@@ -29,15 +29,13 @@ const LOGS: [(&str, &str); 2] = [
 ];
 
 #[test]
-fn logs_and_works(rt: HostRuntime) -> io::Result<()> {
-    let path = written(&rt, "logs", SMALL)?;
+fn logs_and_works(rt: HostRuntime) {
     for (script, printed) in &LOGS {
         assert!(rt;
-            replays(&rt, path.as_str(), script, Said::done(printed)),
+            replays_with(&rt, SMALL, script, Said::done(printed)),
             "{script}"
         );
     }
-    removed(&rt, path)
 }
 
 /// Levels, flushes and counts, and what they print.
@@ -63,32 +61,26 @@ const LEVELS: [(&str, &str); 4] = [
 ];
 
 #[test]
-fn levels_flushes_and_counts(rt: HostRuntime) -> io::Result<()> {
-    let path = written(&rt, "levels", SMALL)?;
+fn levels_flushes_and_counts(rt: HostRuntime) {
     for (script, printed) in &LEVELS {
         assert!(rt;
-            replays(&rt, path.as_str(), script, Said::done(printed)),
+            replays_with(&rt, SMALL, script, Said::done(printed)),
             "{script}"
         );
     }
-    removed(&rt, path)
 }
 
 #[test]
-fn a_flush_that_is_due(rt: HostRuntime) -> io::Result<()> {
-    let path = scratch(&rt, "flush")?;
+fn a_flush_that_is_due(rt: HostRuntime) {
     let script = "log 1 0 net error x\nrun 1\nwork 2\nrun 2\n";
     let printed =
         "1 claim 0\n1 write 0\n1 posted 0 overran 0\n2 grab 0\n2 take 0 x\n2 line 0 out\n2 flush 0 out\n\
                    == out out 8\nnet E x\n";
-    let file = (path.as_str(), FLUSHING);
-    assert!(rt; replays_with(&rt, file, script, Said::done(printed)));
-    Ok(())
+    assert!(rt; replays_with(&rt, FLUSHING, script, Said::done(printed)));
 }
 
 #[test]
-fn a_dump_of_what_was_kept(rt: HostRuntime) -> io::Result<()> {
-    let path = scratch(&rt, "dump")?;
+fn a_dump_of_what_was_kept(rt: HostRuntime) {
     let script =
         "log 1 0 net debug m1\nrun 1\nlog 1 0 net debug m2\nrun 1\nlog 1 0 net debug m3\nrun 1\n\
                   dump 1 0 net\nrun 1\ndump 1 0 net\nrun 1\n\
@@ -100,9 +92,7 @@ fn a_dump_of_what_was_kept(rt: HostRuntime) -> io::Result<()> {
                    1 dumped 0\n2 grab 0\n2 take 0 === backtrace start ===\n2 line 0 out\n2 grab 1\n2 take 1 m2\n\
                    2 line 1 out\n2 grab 2\n2 take 2 m3\n2 line 2 out\n2 grab 3\n2 take 3 === backtrace end ===\n\
                    2 line 3 out\n== out out 52\n=== backtrace start ===\nm2\nm3\n=== backtrace end ===\n";
-    let file = (path.as_str(), KEEPING);
-    assert!(rt; replays_with(&rt, file, script, Said::done(printed)));
-    Ok(())
+    assert!(rt; replays_with(&rt, KEEPING, script, Said::done(printed)));
 }
 
 /// Whether the program says this on these words, on a script that prints a line.
@@ -128,7 +118,7 @@ fn says_on_each<R: Host>(rt: &R, file: &str, joined: &str) -> bool {
 
 #[test]
 fn command_lines_with_a_configuration(rt: HostRuntime) -> io::Result<()> {
-    let path = written(&rt, "words", SMALL)?;
+    let path = written(&rt, SMALL)?;
     let joined = format!(in rt.alloc(); "--config={}", path.as_str())?;
     assert!(rt; says_on_each(&rt, path.as_str(), joined.as_str()));
     removed(&rt, path)

@@ -1,12 +1,11 @@
 //! The scripts of `examples/`, on the whole program.
 use crate::script_tests::prints;
-use std::io;
 use test_runs::examples::{
     DAILY_ERRORS, DAILY_ERRORS_PRINTED, DAILY_ERRORS_SCRIPT, EMPTYING, EMPTYING_PRINTED, FAN,
     FAN_PRINTED, FAN_SCRIPT, FIRST, FIRST_PRINTED, POSTS, POSTS_PRINTED, ROTATING,
     ROTATING_PRINTED, ROTATING_SCRIPT,
 };
-use test_runs::{Said, replays_with, scratch};
+use test_runs::{Said, replays_with};
 
 #[test]
 fn examples_without_a_configuration(rt: HostRuntime) {
@@ -20,18 +19,15 @@ fn examples_without_a_configuration(rt: HostRuntime) {
 }
 
 #[test]
-fn examples_with_a_configuration(rt: HostRuntime) -> io::Result<()> {
-    let path = scratch(&rt, "scripts")?;
+fn examples_with_a_configuration(rt: HostRuntime) {
     for (document, script, printed) in [
         (DAILY_ERRORS, DAILY_ERRORS_SCRIPT, DAILY_ERRORS_PRINTED),
         (FAN, FAN_SCRIPT, FAN_PRINTED),
         (ROTATING, ROTATING_SCRIPT, ROTATING_PRINTED),
     ] {
-        let file = (path.as_str(), document);
         assert!(rt;
-            replays_with(&rt, file, script, Said::done(printed)),
+            replays_with(&rt, document, script, Said::done(printed)),
             "{script}"
         );
     }
-    Ok(())
 }

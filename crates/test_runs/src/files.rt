@@ -1,17 +1,25 @@
-//! The files and folders of a test, which no other test and no other process has.
+//! The files and folders of a test, which runs in a process of its own.
+use crate::program::Host;
 use std::path::PathBuf;
 use std::{env, fs, io, process};
 
-/// A path for one test, at which nothing is yet.
-pub fn scratch(rt: &HostRuntime, name: &str) -> io::Result<PathBuf> {
-    let process = process::id(rt.process());
-    let own = format!(in rt.alloc(); "alog_{process}_{name}")?;
-    Ok(env::temp_dir(rt)?.join(rt.alloc(), own.as_str())?)
+/// What has paths at which no other process has anything.
+pub trait Scratch {
+    /// The path of this name, at which nothing is yet.
+    fn scratch(&self, name: &str) -> io::Result<PathBuf>;
 }
 
-/// A file for one test, which has this document.
-pub fn written(rt: &HostRuntime, name: &str, document: &str) -> io::Result<PathBuf> {
-    let path = scratch(rt, name)?;
+impl Scratch for HostRuntime {
+    fn scratch(&self, name: &str) -> io::Result<PathBuf> {
+        let process = process::id(self.process());
+        let own = format!(in self.alloc(); "alog_{process}_{name}")?;
+        Ok(env::temp_dir(self)?.join(self.alloc(), own.as_str())?)
+    }
+}
+
+/// The file of a test, which has this document.
+pub fn written<R: Host>(rt: &R, document: &str) -> io::Result<PathBuf> {
+    let path = rt.scratch("file")?;
     fs::write(rt, path.as_str(), document)?;
     Ok(path)
 }
@@ -21,9 +29,9 @@ pub fn removed(rt: &HostRuntime, path: PathBuf) -> io::Result<()> {
     fs::remove_file(rt, path.as_str())
 }
 
-/// A folder for one test, which is empty.
-pub fn folder(rt: &HostRuntime, name: &str) -> io::Result<PathBuf> {
-    let path = scratch(rt, name)?;
+/// The folder of a test, which is empty.
+pub fn folder(rt: &HostRuntime) -> io::Result<PathBuf> {
+    let path = rt.scratch("folder")?;
     fs::create_dir(rt, path.as_str())?;
     Ok(path)
 }

@@ -13,7 +13,5 @@ mod files;
 mod program;
 
 pub use faulty::{Course, Narrow, UNWRITTEN, ends, ends_into, ends_within, long};
-pub use files::{folder, lines_in, removed, scratch, written};
-pub use program::{
-    Host, REPLAY, SHORT, SMALL, Said, replays, replays_with, run, says, says_of, says_on,
-};
+pub use files::{Scratch, folder, lines_in, removed, written};
+pub use program::{Host, REPLAY, SHORT, SMALL, Said, replays_with, run, says, says_on, says_with};

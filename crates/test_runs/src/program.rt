@@ -1,4 +1,5 @@
 //! One run of the whole program, and whether it said what it was to say.
+use crate::files::{Scratch, written};
 use alog_program::Screen;
 use alog_server::Folders;
 use std::alloc::{AllocError, Global};
@@ -14,6 +15,7 @@ pub trait Host: AllocGlobal
     + Files
     + Folders
     + Screen
+    + Scratch
     + Threads
     + Wait
     + Clock
@@ -25,9 +27,18 @@ pub trait Host: AllocGlobal
 
 impl<R> Host for R
 where
-    R: AllocGlobal + Files + Folders + Screen + Threads + Wait + Clock,
+    R: AllocGlobal + Files + Folders + Screen + Scratch + Threads + Wait + Clock,
     R: Clone + Drop + Send + Sync + 'static,
 {}
+
+/// The smallest configuration.
+pub const SMALL: &str =
+    "queue = 8\n\n[[sink]]\nname = \"out\"\nkind = \"memory\"\npattern = \"%n %L %v\"\n\n\
+                     [[logger]]\nname = \"net\"\nsinks = [\"out\"]\n";
+
+/// The same without a pattern of its own, for texts of at most 64 bytes.
+pub const SHORT: &str = "text = 64\n\n[[sink]]\nname = \"out\"\nkind = \"memory\"\n\n\
+                         [[logger]]\nname = \"net\"\nsinks = [\"out\"]\n";
 
 /// Runs the program on these words, and answers its status. What `run` promises is told to no test by it: a test looks, and its
 /// proof has nothing to carry.
@@ -105,7 +116,11 @@ pub fn says<R: Host>(rt: &R, words: &[&str], input: &[u8], said: Said<'_>) -> bo
 }
 
 /// These words, with this file where `FILE` stands.
-fn placed<'a>(alloc: Global, words: &[&'a str], file: &'a str) -> Result<Vec<&'a str>, AllocError> {
+fn placed<'a>(
+    alloc: Global,
+    words: &[&'static str],
+    file: &'a str,
+) -> Result<Vec<&'a str>, AllocError> {
     let mut placed = Vec::new(alloc);
     for word in words {
         placed.push(if *word == "FILE" { file } else { *word })?;
@@ -114,10 +129,10 @@ fn placed<'a>(alloc: Global, words: &[&'a str], file: &'a str) -> Result<Vec<&'a
 }
 
 /// Whether the program says this on these words, in which `FILE` stands for this file.
-pub fn says_on<'a, R: Host>(
+pub fn says_on<R: Host>(
     rt: &R,
-    file: &'a str,
-    words: &[&'a str],
+    file: &str,
+    words: &[&'static str],
     input: &[u8],
     said: Said<'_>,
 ) -> bool {
@@ -127,43 +142,27 @@ pub fn says_on<'a, R: Host>(
     }
 }
 
-/// Whether it does so where the file has this document. The file is removed again.
-pub fn says_of<'a, R: Host>(
+/// Whether it does so where `FILE` stands for a file that has this document.
+pub fn says_with<R: Host>(
     rt: &R,
-    (file, document): (&'a str, &str),
-    words: &[&'a str],
+    document: &str,
+    words: &[&'static str],
     input: &[u8],
     said: Said<'_>,
 ) -> bool {
-    let is_written = fs::write(rt, file, document).is_ok();
-    let is_said = says_on(rt, file, words, input, said);
-    let is_removed = fs::remove_file(rt, file).is_ok();
-    is_written && is_said && is_removed
+    match written(rt, document) {
+        Ok(path) => {
+            let is_said = says_on(rt, path.as_str(), words, input, said);
+            fs::remove_file(rt, path.as_str()).is_ok() && is_said
+        }
+        Err(_) => false,
+    }
 }
-
-/// The smallest configuration.
-pub const SMALL: &str =
-    "queue = 8\n\n[[sink]]\nname = \"out\"\nkind = \"memory\"\npattern = \"%n %L %v\"\n\n\
-                     [[logger]]\nname = \"net\"\nsinks = [\"out\"]\n";
-
-/// The same without a pattern of its own, for texts of at most 64 bytes.
-pub const SHORT: &str = "text = 64\n\n[[sink]]\nname = \"out\"\nkind = \"memory\"\n\n\
-                         [[logger]]\nname = \"net\"\nsinks = [\"out\"]\n";
 
 /// `alog replay` with the configuration of a file.
 pub const REPLAY: &[&str] = &["alog", "replay", "--config", "FILE"];
 
-/// Whether a script with the configuration of this file says this.
-pub fn replays<R: Host>(rt: &R, file: &str, script: &str, said: Said<'_>) -> bool {
-    says_on(rt, file, REPLAY, script.as_bytes(), said)
-}
-
-/// Whether a script with this configuration, in this file, says this.
-pub fn replays_with<R: Host>(
-    rt: &R,
-    (file, document): (&str, &str),
-    script: &str,
-    said: Said<'_>,
-) -> bool {
-    says_of(rt, (file, document), REPLAY, script.as_bytes(), said)
+/// Whether a script with this configuration says this.
+pub fn replays_with<R: Host>(rt: &R, document: &str, script: &str, said: Said<'_>) -> bool {
+    says_with(rt, document, REPLAY, script.as_bytes(), said)
 }

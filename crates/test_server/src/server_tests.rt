@@ -85,7 +85,7 @@ fn has_lines(text: &str, count: usize, wanted: &str) -> bool {
 
 #[test]
 fn threads_of_a_server_log_to_one_file(rt: HostRuntime) -> io::Result<()> {
-    let folder = folder(&rt, "server")?;
+    let folder = folder(&rt)?;
     assert!(rt; runs(&rt, (SMALL, folder.as_str()), (3, &HELLO), (300, None)));
     let lines = lines_in(&rt, &folder)?;
     assert!(rt; has_lines(lines.as_str(), 300, "net I hello"));
@@ -119,7 +119,7 @@ fn ends_early<R: Host>(rt: &R, folder: &str, work: &Talk, error: LogError) -> bo
 
 #[test]
 fn works_that_end_early_end_the_pool_all_the_same(rt: HostRuntime) -> io::Result<()> {
-    let folder = folder(&rt, "server_early")?;
+    let folder = folder(&rt)?;
     for (work, error) in &EARLY {
         assert!(rt; ends_early(&rt, folder.as_str(), work, *error), "{error}");
     }
@@ -141,7 +141,7 @@ fn refuses_threads<R: Host>(rt: &R, folder: &str, threads: usize) -> bool {
 
 #[test]
 fn a_server_has_1_to_4096_threads(rt: HostRuntime) -> io::Result<()> {
-    let folder = folder(&rt, "server_threads")?;
+    let folder = folder(&rt)?;
     for threads in [0, 4_097] {
         assert!(rt; refuses_threads(&rt, folder.as_str(), threads), "{threads}");
     }
