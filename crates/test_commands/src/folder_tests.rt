@@ -127,14 +127,7 @@ fn taken(rt: &HostRuntime, room: &Room) -> io::Result<()> {
 fn a_fault_stands_behind_the_totals(rt: HostRuntime) -> io::Result<()> {
     let room = Room::new(&rt, SMALL)?;
     taken(&rt, &room)?;
-    assert!(rt;
-        loads_to(
-            &rt,
-            room.places(),
-            "--messages=3",
-            Said::fault(THREE, FAILED)
-        )
-    );
+    assert!(rt; loads_to(&rt, room.places(), FOR_THREE, Said::fault(THREE, FAILED)));
     fs::remove_dir_all(&rt, room.folder.as_str())
 }
 
