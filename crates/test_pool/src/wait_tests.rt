@@ -6,7 +6,7 @@ use std::process::Abort;
 use std::sync::atomic::{AtomicU64, Ordering};
 use std::time::{Clock, Duration};
 
-/// A clock that stands still, and counts the sleeps and the microseconds that they are asked to take.
+/// A clock that stands still, and counts the sleeps and the microseconds that they are asked to take, each less than a second.
 #[derive(Drop)]
 struct Stopped {
     sleeps: AtomicU64,
@@ -24,8 +24,8 @@ impl Clock for Stopped {
 
     fn sleep(&self, duration: Duration) {
         self.sleeps.fetch_add(1, Ordering::SeqCst);
-        self.micros
-            .fetch_add(duration.as_micros() as u64, Ordering::SeqCst);
+        let micros = u64::from(duration.subsec_micros());
+        self.micros.fetch_add(micros, Ordering::SeqCst);
     }
 }
 
