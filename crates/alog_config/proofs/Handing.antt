@@ -15,7 +15,6 @@ use Rattle.alog_config.specs.Sinks.{AnyMember, AnyUnknown, IsMember, is_leaf, is
 use Rattle.alog_config.specs.Sound.{AreSoundSinks, IsSound, IsSoundKind}
 use Rattle.alog_config.proofs.Parting.{all_known, config_of, length_mapped, logger_sound_at, name_of, next_fan, next_leaf, no_built_fan, sound_at}
 use Rattle.alog_config.proofs.Picking.{Has, any_has, has_any, picked_short, split_at, take_one_more}
-use Rattle.alog_format.specs.declared.context.Zone.TheVariants.{Fixed}
 use Rattle.alog_registry.specs.declared.logger.Logger.{Logger}
 use Rattle.alog_sink.specs.Files.{Files}
 use Rattle.alog_sink.specs.declared.sink.Sink.{Sink}
@@ -75,7 +74,7 @@ if_ok_both (Err e) P Q R f p q = tt
 
 module _ {S : Type 0} (tells : Bool) (files : S → Files) (failures : S → ℕ) where
   -- the loggers may be made
-  pub may_log : (c : Config) (stores : List S) (left : List (Part S)) → IsSound c.text (Fixed c.offset) c.sinks.items c.loggers.items
+  pub may_log : (c : Config) (stores : List S) (left : List (Part S)) → IsSound c.text c.zone c.sinks.items c.loggers.items
       → AreBuilt tells files failures c stores (length c.sinks.items) left → MayLog left c.loggers.items
   may_log c stores left sound b =
       let all = c.sinks.items in

@@ -17,10 +17,11 @@ use Rattle.alog_config.specs.declared.field.Field.TheVariants.{Absent, Bad, Give
 use Rattle.alog_config.specs.declared.sink_fields.SinkFields.{SinkFields}
 use Rattle.alog_config.specs.Fields.{AreSinkFields, AreTopFields}
 use Rattle.alog_config.specs.declared.top.TopFields.{TopFields}
-use Rattle.alog_format.specs.Civil.{IsZone}
-use Rattle.alog_format.specs.declared.context.Zone.TheVariants.{Fixed}
+use Rattle.alog_format.specs.Civil.{IsRuleOf, IsZone}
+use Rattle.alog_format.specs.declared.context.Zone.{Zone}
+use Rattle.alog_format.specs.declared.context.Zone.TheVariants as zones
 use Rattle.alog_msg.specs.declared.limits.TheConstants.{DEFAULT_TEXT_LIMIT, TEXT_LIMIT_MIN, TEXT_LIMIT_MAX}
-use Rattle.alog_config.specs.Meaning.{AreLoggers, AreSinks, IsLogger, IsSink, SaysKind, SaysUpkeep, limit_of}
+use Rattle.alog_config.specs.Meaning.{AreLoggers, AreSinks, IsLogger, IsSink, SaysKind, SaysUpkeep, limit_of, zone_of}
 use Rattle.alog_config.specs.Rules.{AreBadMembers, AreLentSinks, AreNoSinks, IsBadFile, IsFirst, IsTakenLoggerName, IsTakenName}
 use Rattle.alog_config.specs.Rules.{LoggerBreaks, SinkBreaks, order}
 use Rattle.alog_config.specs.Sound.{AreSoundLoggers, AreSoundSinks, IsSound, IsSoundKind, IsSoundLogger, IsSoundSink, IsSoundTop}
@@ -209,13 +210,24 @@ text_sound o (Given n) h = number_sound TEXT_LIMIT_MIN TEXT_LIMIT_MAX o (Given n
 text_sound o Absent h = (omega arith, omega arith)
 text_sound o Bad h = (omega arith, omega arith)
 
-zero_near : IsZone (Fixed (pos 0))
+zero_near : IsZone (zones.Fixed (pos 0))
 zero_near = search rules
 
-minutes_sound : (o : Option Data) (field : Field ℤ) → IsField IsMinutes o field → IsZone (Fixed (given_or (pos 0) field))
+minutes_sound : (o : Option Data) (field : Field ℤ) → IsField IsMinutes o field → IsZone (zones.Fixed (given_or (pos 0) field))
 minutes_sound o (Given n) h = let r = given_reads IsMinutes o (Given n) n h refl in (r.1.1, r.1.2)
 minutes_sound o Absent h = zero_near
 minutes_sound o Bad h = zero_near
+
+rule_near : (text : List ℕ) (zone : Zone) → IsRuleOf text zone → IsZone zone
+rule_near text (zones.Fixed minutes) h = absurd h
+rule_near text (zones.Rule rule) h = zero_near
+
+zone_sound : (o : Option Data) (minutes : ℤ) (field : Field Zone) → IsZone (zones.Fixed minutes) → IsField (Spelled IsRuleOf) o field
+    → IsZone (given_or (zones.Fixed minutes) field)
+zone_sound o minutes (Given zone) fixed h =
+    let r = given_reads (Spelled IsRuleOf) o (Given zone) zone h refl in rule_near r.1.0 zone r.1.2
+zone_sound o minutes Absent fixed h = fixed
+zone_sound o minutes Bad fixed h = fixed
 
 default_size : is_size 8192 ≡ true
 unfolding ones
@@ -245,10 +257,10 @@ top_kept t f queue workers are places threads =
     }
 
 -- what is read keeps the rules
-pub top_sound : (t : Members) (f : TopFields) (v w : LentTables) (limit : ℕ) (offset : ℤ) (ss : List SinkConfig) (ls : List LoggerConfig)
-    → AreTopFields t f → f.sinks ≡ Given v → f.loggers ≡ Given w → limit ≡ limit_of f → offset ≡ given_or (pos 0) f.offset
-    → AreSinks limit [] (tables_in v) ss → AreLoggers ss [] (tables_in w) ls → IsSound limit (Fixed offset) ss ls
-top_sound t f v w limit offset ss ls are has_sinks has_loggers limited minutes sinks_are loggers_are =
+pub top_sound : (t : Members) (f : TopFields) (v w : LentTables) (limit : ℕ) (zone : Zone) (ss : List SinkConfig) (ls : List LoggerConfig)
+    → AreTopFields t f → f.sinks ≡ Given v → f.loggers ≡ Given w → limit ≡ limit_of f → zone ≡ zone_of f
+    → AreSinks limit [] (tables_in v) ss → AreLoggers ss [] (tables_in w) ls → IsSound limit zone ss ls
+top_sound t f v w limit zone ss ls are has_sinks has_loggers limited clock sinks_are loggers_are =
     let in_limit = subst IsTextLimit (sym limited) (text_sound _ f.text are.text) in
     let sinks_keep = sinks_sound limit [] (tables_in v) ss in_limit sinks_are in
     let loggers_keep = loggers_sound ss [] (tables_in w) ls loggers_are in
@@ -258,7 +270,7 @@ top_sound t f v w limit offset ss ls are has_sinks has_loggers limited minutes s
     let more = loggers_keep.1 in
     record {
       limited = in_limit;
-      near = subst (λ z. IsZone (Fixed z)) (sym minutes) (minutes_sound _ f.offset are.offset);
+      near = subst IsZone (sym clock) (zone_sound _ _ f.zone (minutes_sound _ f.offset are.offset) are.zone);
       few_sinks = omega (arith, many, few_sinks);
       few_loggers = omega (arith, more, few_loggers);
       each_sink = sinks_keep.0;

@@ -1,5 +1,5 @@
 -- What a key holds, from the value at it and from its text.
-use Rattle.std.proofs.Common.{◌≡◌, ℕ, List, Option, Some, None, Bor, refl, sym, ap, subst, ◌∙◌}
+use Rattle.std.proofs.Common.{◌≡◌, ℕ, List, Option, Some, None, IsSome, Bor, refl, sym, ap, subst, ◌∙◌}
 use Rattle.alog_config.specs.Values.{IsField, IsTextAt, Spelled}
 use Rattle.alog_config.specs.declared.field.Field.TheVariants.{Absent, Bad, Given}
 use Rattle.toml.specs.Data.{Data, as_str, string, integer, float, boolean, datetime, array, table}
@@ -27,6 +27,10 @@ pub field_bad : {A : Type 0} (reads : Data → A → Type 0) (o : Option Data) (
     → IsField reads o Bad
 field_bad reads None d e r = absurd (cc e)
 field_bad reads (Some x) d e r = let same : d ≡ x = cc in λ a y. r a (subst (λ z. reads z a) (sym same) y)
+
+pub none_is_none : {A : Type 0} (o : Option A) → o ≡ None → ¬ IsSome o
+none_is_none None e h = absurd (cc h)
+none_is_none (Some x) e h = absurd (cc e)
 
 -- the same, from the text at the key
 pub spelled_absent : {A : Type 0} (P : List ℕ → A → Type 0) (o : Option Data) → IsTextAt o Absent → IsField (Spelled P) o Absent

@@ -9,7 +9,6 @@ use Rattle.alog_config.specs.declared.config.Upkeep.{Upkeep}
 use Rattle.alog_config.specs.declared.config.Upkeep.TheVariants as upkeeps
 use Rattle.alog_config.specs.declared.parts.Part.{Part}
 use Rattle.alog_config.specs.Sinks.{IsMember, is_leaf}
-use Rattle.alog_format.specs.declared.context.Zone.TheVariants.{Fixed}
 use Rattle.alog_msg.specs.declared.level.Level.{Level}
 use Rattle.alog_pattern.specs.Grammar.{IsReading}
 use Rattle.alog_registry.specs.declared.logger.Logger.{Logger}
@@ -29,7 +28,7 @@ pub record IsFaceOf (c : Config) (least : Level) (pattern : List ℕ) (face : Fa
   pub level : face.level ≡ least
   pub items : IsReading pattern face.pattern.items
   pub limit : face.pattern.text_limit ≡ c.text
-  pub zone : face.context.zone ≡ Fixed c.offset
+  pub zone : face.context.zone ≡ c.zone
   pub process : face.context.process ≡ c.process
   pub names : face.names ≡ map (λ (l : LoggerConfig). l.name) c.loggers.items
 

@@ -11,6 +11,7 @@ use Rattle.alog_config.specs.declared.top.TopFields.{TopFields}
 use Rattle.alog_config.specs.Keys.{HasOtherKey}
 use Rattle.alog_config.specs.Values.{IsField, IsKind, IsMinutes, IsName, IsNameList, IsNumber, IsPatternText, IsPolicy}
 use Rattle.alog_config.specs.Values.{IsQueue, IsTableArray, IsText, Spelled}
+use Rattle.alog_format.specs.Civil.{IsRuleOf}
 use Rattle.alog_msg.specs.Level.{Names}
 use Rattle.alog_msg.specs.declared.limits.TheConstants.{TEXT_LIMIT_MIN, TEXT_LIMIT_MAX}
 use Rattle.alog_registry.specs.declared.TheConstants.{KEPT_MAX}
@@ -29,6 +30,7 @@ pub record AreTopFields (t : Members) (f : TopFields) : Type 0 where
   pub workers : IsField (IsNumber 1 64) (get_member (codes "workers") t) f.workers
   pub text : IsField (IsNumber TEXT_LIMIT_MIN TEXT_LIMIT_MAX) (get_member (codes "text") t) f.text
   pub offset : IsField IsMinutes (get_member (codes "offset") t) f.offset
+  pub zone : IsField (Spelled IsRuleOf) (get_member (codes "zone") t) f.zone
   pub process : IsField (IsNumber 0 4294967295) (get_member (codes "process") t) f.process
   pub sinks : IsField IsTableArray (get_member (codes "sink") t) f.sinks
   pub loggers : IsField IsTableArray (get_member (codes "logger") t) f.loggers

@@ -26,6 +26,8 @@ use Rattle.alog_config.specs.declared.top.TopFields.{TopFields}
 use Rattle.alog_config.specs.Fields.{AreLoggerFields, AreSinkFields, AreTopFields, file_of}
 use Rattle.alog_config.specs.Rules.{IsFirst, LoggerBreaks, SinkBreaks, TopBreaks, order}
 use Rattle.alog_config.specs.Values.{LentTables, given_or, tables_in}
+use Rattle.alog_format.specs.declared.context.Zone.{Zone}
+use Rattle.alog_format.specs.declared.context.Zone.TheVariants.{Fixed}
 use Rattle.alog_msg.specs.declared.level.Level.TheVariants as levels
 use Rattle.alog_msg.specs.declared.limits.TheConstants.{DEFAULT_TEXT_LIMIT}
 use Rattle.alog_policy.specs.declared.policy.Policy.TheVariants as policies
@@ -126,6 +128,10 @@ pub record IsTop (t : Members) (f : TopFields) (sink_tables : List Members) (log
 abbrev pub limit_of : TopFields → ℕ
 limit_of f = given_or DEFAULT_TEXT_LIMIT f.text
 
+-- the clock of lines: by the rule that the top gives, or else so many minutes east of UTC
+abbrev pub zone_of : TopFields → Zone
+zone_of f = given_or (Fixed (given_or (pos 0) f.offset)) f.zone
+
 -- A document says this configuration.
 pub record Says (t : Members) (c : Config) : Type 0 where
   pub fields : TopFields
@@ -135,7 +141,7 @@ pub record Says (t : Members) (c : Config) : Type 0 where
   pub queue : c.queue ≡ given_or 8192 fields.queue
   pub workers : c.workers ≡ given_or 1 fields.workers
   pub text : c.text ≡ limit_of fields
-  pub offset : c.offset ≡ given_or (pos 0) fields.offset
+  pub zone : c.zone ≡ zone_of fields
   pub process : c.process ≡ given_or 0 fields.process
   pub sinks : AreSinks c.text [] sink_tables c.sinks.items
   pub loggers : AreLoggers c.sinks.items [] logger_tables c.loggers.items

@@ -41,10 +41,13 @@ LacksTables Absent = Unit {0}
 LacksTables Bad = ⊥
 LacksTables (Given tables) = tables_in tables ≡ []
 
--- The rules of the top.
+-- The rules of the top. No zone stands beside an offset, whatever that is.
+abbrev pub HasBadZoneKey : TopFields → Type 0
+HasBadZoneKey f = (f.zone ≡ Bad) ⊎ ((¬ (f.zone ≡ Absent)) × (¬ (f.offset ≡ Absent)))
+
 abbrev pub HasBadTopField : TopFields → Type 0
-HasBadTopField f = (f.queue ≡ Bad) ⊎ (f.workers ≡ Bad) ⊎ (f.text ≡ Bad) ⊎ (f.offset ≡ Bad) ⊎ (f.process ≡ Bad) ⊎ (f.sinks ≡ Bad)
-    ⊎ (f.loggers ≡ Bad)
+HasBadTopField f = (f.queue ≡ Bad) ⊎ (f.workers ≡ Bad) ⊎ (f.text ≡ Bad) ⊎ (f.offset ≡ Bad) ⊎ HasBadZoneKey f ⊎ (f.process ≡ Bad)
+    ⊎ (f.sinks ≡ Bad) ⊎ (f.loggers ≡ Bad)
 
 abbrev pub TopBreaks : TopFields → Rule → Type 0
 TopBreaks f UnknownKey = f.other_key ≡ true

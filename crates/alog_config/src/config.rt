@@ -1,9 +1,9 @@
 //! What a configuration says.
 ghost use Rattle.alog_config.specs.Soundness.{IsSound-prop, IsSoundTop-prop};
 ghost use Rattle.alog_config.specs.Sound.{IsSound, IsSoundTop};
-ghost use Rattle.alog_format.specs.declared.context.Zone.TheVariants.{Fixed};
 
 use crate::names::NameList;
+use alog_format::Zone;
 use alog_msg::{Level, Text};
 use alog_policy::Policy;
 
@@ -18,8 +18,8 @@ pub struct Config {
     pub workers: usize,
     /// The most bytes of a message's text, 64 to 8,192.
     pub text: usize,
-    /// Minutes east of UTC of the clock that lines show, -1,439 to 1,439.
-    pub offset: i16,
+    /// Where the clock stands that lines show: at a fixed offset, or by a rule.
+    pub zone: Zone,
     /// The number of the process that lines show.
     pub process: u32,
     /// The sinks by number, 1 to 256.
@@ -27,7 +27,7 @@ pub struct Config {
     /// The loggers by number, 1 to 256.
     pub loggers: Vec<LoggerConfig>,
     ghost top: { IsSoundTop queue workers } by { IsSoundTop-prop queue workers },
-    ghost sound: { IsSound text (Fixed offset) sinks.items loggers.items } by { IsSound-prop text (Fixed offset) sinks.items loggers.items },
+    ghost sound: { IsSound text zone sinks.items loggers.items } by { IsSound-prop text zone sinks.items loggers.items },
 }
 
 /// One sink of a configuration.

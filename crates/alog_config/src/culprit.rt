@@ -31,21 +31,29 @@ impl TopFields<'_> {
         ensures { IsTopCulprit self.now rule result }
     {
         match rule {
-            Rule::BadValue => first_told(&[
-                (Key::Queue, self.queue.is_bad()),
-                (Key::Workers, self.workers.is_bad()),
-                (Key::Text, self.text.is_bad()),
-                (Key::Offset, self.offset.is_bad()),
-                (Key::Process, self.process.is_bad()),
-                (Key::Sink, self.sinks.is_bad()),
-                (Key::Logger, self.loggers.is_bad()),
-            ]),
+            Rule::BadValue => self.bad_key(),
             Rule::Missing => first_told(&[
                 (Key::Sink, lacks_tables(&self.sinks)),
                 (Key::Logger, lacks_tables(&self.loggers)),
             ]),
             Rule::UnknownKey | Rule::NameTaken | Rule::NoSuchSink => None,
         }
+    }
+
+    /// The first key with a value that it can not have.
+    fn bad_key(&self) -> Option<Key>
+        ensures { IsTopCulprit self.now Rule.BadValue result }
+    {
+        first_told(&[
+            (Key::Queue, self.queue.is_bad()),
+            (Key::Workers, self.workers.is_bad()),
+            (Key::Text, self.text.is_bad()),
+            (Key::Offset, self.offset.is_bad()),
+            (Key::Zone, self.has_bad_zone_key()),
+            (Key::Process, self.process.is_bad()),
+            (Key::Sink, self.sinks.is_bad()),
+            (Key::Logger, self.loggers.is_bad()),
+        ])
     }
 }
 

@@ -8,7 +8,7 @@ ghost use Rattle.alog_sink.specs.Opened.{Opened, store_of};
 
 use crate::building::BuildError;
 use crate::config::{Config, Upkeep};
-use alog_format::{Context, Zone};
+use alog_format::Context;
 use alog_msg::Level;
 use alog_pattern::{Pattern, PatternError};
 use alog_sink::{Face, NameError, Names, OpenError, Sink, Store, Unopened};
@@ -48,7 +48,7 @@ pub(crate) fn face_of(
         level,
         pattern,
         context: Context {
-            zone: Zone::Fixed(config.offset),
+            zone: config.zone,
             process: config.process,
         },
         names: logger_names(alloc, config)?,

@@ -1,7 +1,9 @@
 //! Reading a configuration.
-ghost use Rattle.std.specs.Prelude.{◌≡◌, [], IfOk, IfErr, map};
+ghost use Rattle.std.specs.Prelude.{◌≡◌, [], IfOk, IfErr, map, pos};
 ghost use Rattle.alog_config.specs.Meaning.{AreLoggers, AreSinks, IsAnswer, IsLogger, IsLoggersFault, IsRefusedLogger};
 ghost use Rattle.alog_config.specs.Meaning.{IsRefusedSink, IsSink, IsSinksFault, IsTableAnswer, Reads, fault_at};
+ghost use Rattle.alog_config.specs.Values.{given_or};
+ghost use Rattle.alog_format.specs.declared.context.Zone.TheVariants.{Fixed};
 ghost use Rattle.alog_pattern.specs.Compiled.{IsTextLimit};
 ghost use Rattle.toml.specs.View.{table_view};
 
@@ -11,6 +13,7 @@ use crate::field::Field;
 use crate::logger_fields::logger_fields;
 use crate::sink_fields::sink_fields;
 use crate::top::{TopFields, top_fault, top_fields};
+use alog_format::Zone;
 use alog_msg::DEFAULT_TEXT_LIMIT;
 use std::alloc::{AllocError, Global};
 use toml::Table;
@@ -71,6 +74,7 @@ fn read_top(alloc: Global, table: &Table) -> Result<Config, ConfigFault>
         workers,
         text,
         offset,
+        zone,
         process,
         sinks,
         loggers,
@@ -93,11 +97,18 @@ fn read_top(alloc: Global, table: &Table) -> Result<Config, ConfigFault>
         queue: queue.or(8_192) as usize,
         workers: workers.or(1) as usize,
         text,
-        offset: offset.or(0),
+        zone: clock_of(offset, zone),
         process: process.or(0),
         sinks,
         loggers,
     })
+}
+
+/// The clock of lines: by the rule that is given, or else so many minutes east of UTC.
+fn clock_of(offset: Field<i16>, zone: Field<Zone>) -> Zone
+    ensures { result ≡ given_or (Fixed (given_or (pos 0) offset)) zone }
+{
+    zone.or(Zone::Fixed(offset.or(0)))
 }
 
 /// Reads the sinks, each behind those before it.

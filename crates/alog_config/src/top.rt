@@ -1,7 +1,7 @@
 //! The top of a document.
 ghost use Rattle.std.specs.Prelude.{◌≡◌, ◌↔◌, IfOk, IsTrue};
 ghost use Rattle.alog_config.specs.Fields.{AreTopFields};
-ghost use Rattle.alog_config.specs.Rules.{IsFirst, LacksTables, TopBreaks, has, order};
+ghost use Rattle.alog_config.specs.Rules.{HasBadZoneKey, IsFirst, LacksTables, TopBreaks, has, order};
 ghost use Rattle.toml.specs.View.{table_view};
 
 use crate::broken::Broken;
@@ -9,7 +9,8 @@ use crate::fault::Rule;
 use crate::field::Field;
 use crate::keys::{Owner, has_other_key};
 use crate::lists::tables_at;
-use crate::values::{count_at, minutes_at, queue_at};
+use crate::values::{count_at, minutes_at, queue_at, zone_at};
+use alog_format::Zone;
 use alog_msg::{TEXT_LIMIT_MAX, TEXT_LIMIT_MIN};
 use std::alloc::{AllocError, Global};
 use toml::Table;
@@ -23,9 +24,19 @@ pub(crate) struct TopFields<'t> {
     pub workers: Field<u32>,
     pub text: Field<u32>,
     pub offset: Field<i16>,
+    pub zone: Field<Zone>,
     pub process: Field<u32>,
     pub sinks: Field<Vec<&'t Table>>,
     pub loggers: Field<Vec<&'t Table>>,
+}
+
+impl TopFields<'_> {
+    /// Whether its zone can not be read, or stands beside an offset.
+    pub(crate) fn has_bad_zone_key(&self) -> bool
+        ensures { IsTrue result ↔ HasBadZoneKey self.now }
+    {
+        self.zone.is_bad() || (!self.zone.is_absent() && !self.offset.is_absent())
+    }
 }
 
 /// Reads the keys of the top.
@@ -40,6 +51,7 @@ pub(crate) fn top_fields<'t>(alloc: Global, table: &'t Table) -> Result<TopField
         workers: count_at(table, "workers", 1, 64),
         text: count_at(table, "text", TEXT_LIMIT_MIN as u32, TEXT_LIMIT_MAX as u32),
         offset: minutes_at(table, "offset"),
+        zone: zone_at(table, "zone"),
         process: count_at(table, "process", 0, u32::MAX),
         sinks,
         loggers,
@@ -86,6 +98,7 @@ fn has_bad_value(top: &TopFields<'_>) -> bool
         || top.workers.is_bad()
         || top.text.is_bad()
         || top.offset.is_bad()
+        || top.has_bad_zone_key()
         || top.process.is_bad()
         || top.sinks.is_bad()
         || top.loggers.is_bad()

@@ -2,6 +2,7 @@
 ghost use Rattle.std.specs.Prelude.{◌≡◌, ◌↔◌, ℕ, Some, IfOk, IsTrue, option_map};
 ghost use Rattle.alog_config.specs.Values.{IsField, IsKind, IsMinutes, IsName, IsNumber, IsPattern, IsPatternText};
 ghost use Rattle.alog_config.specs.Values.{IsPolicy, IsQueue, IsText, IsTextAt, Spelled};
+ghost use Rattle.alog_format.specs.Civil.{IsRuleOf};
 ghost use Rattle.alog_msg.specs.Level.{Names};
 ghost use Rattle.alog_pattern.specs.Compiled.{IsTextLimit};
 ghost use Rattle.toml.specs.Data.{get_member};
@@ -9,7 +10,7 @@ ghost use Rattle.toml.specs.View.{table_view, view};
 
 use crate::field::Field;
 use crate::keys::Kind;
-use alog_format::OFFSET_MAX;
+use alog_format::{OFFSET_MAX, Zone};
 use alog_msg::{LOGGER_NAME_MAX, Level, Text};
 use alog_pattern::{Pattern, PatternError};
 use alog_policy::Policy;
@@ -70,6 +71,20 @@ pub(crate) fn minutes_at(table: &Table, key: &str) -> Field<i16>
             Field::Given(n as i16)
         }
         _ => Field::Bad,
+    }
+}
+
+/// The zone whose rule is at a key.
+pub(crate) fn zone_at(table: &Table, key: &str) -> Field<Zone>
+    ensures { IsField (Spelled IsRuleOf) (get_member key.now (table_view table.now)) result }
+{
+    match text_at(table, key) {
+        Field::Absent => Field::Absent,
+        Field::Bad => Field::Bad,
+        Field::Given(text) => match Zone::rule(text) {
+            Some(zone) => Field::Given(zone),
+            None => Field::Bad,
+        },
     }
 }
 

@@ -11,6 +11,7 @@ pub(crate) enum Key {
     Workers,
     Text,
     Offset,
+    Zone,
     Process,
     Sink,
     Logger,
@@ -40,6 +41,7 @@ impl Key {
             Key::Workers => "workers",
             Key::Text => "text",
             Key::Offset => "offset",
+            Key::Zone => "zone",
             Key::Process => "process",
             Key::Sink => "sink",
             Key::Logger => "logger",
@@ -67,6 +69,8 @@ impl Key {
             Key::Workers => "a number, 1 to 64",
             Key::Text => "a number, 64 to 8192",
             Key::Offset => "minutes, -1439 to 1439",
+            Key::Zone =>
+                "a POSIX rule of 1 to 64 bytes, as CET-1CEST,M3.5.0,M10.5.0/3, and no offset beside it",
             Key::Process => "a number, 0 to 4294967295",
             Key::Sink | Key::Logger => "1 to 256 tables",
             Key::Name => "1 to 64 bytes, and not the name of an earlier table of the same array",
@@ -94,7 +98,7 @@ impl Key {
 /// The keys that a table of this owner may have.
 pub(crate) fn known_keys(owner: Owner) -> &'static str {
     match owner {
-        Owner::Top => "queue, workers, text, offset, process, sink and logger",
+        Owner::Top => "queue, workers, text, offset, zone, process, sink and logger",
         Owner::Logger => "name, level, policy, sinks, flush_on and backtrace",
         Owner::Sink(None) => {
             "name, kind, level, pattern, file, max_size, max_files, hour, minute and of"

@@ -81,7 +81,8 @@ abbrev pub IsUnwritten : {T : Type 0} → ℕ → List (Cell T) → Type 0
 IsUnwritten {T} t cs = (cell_of t cs ≡ None) ⊎ ((x : T) × (a : ℕ) × HasCell cs t Claimed x a)
 
 -- Where a refusal is true. A refusal changes nothing. A pop that finds the front unwritten looks at the end next: the queue is
--- idle where both ends are its ticket, and empty, though a ticket is claimed, where the end is past it.
+-- idle where both ends are that ticket, and is called empty where the end is past it. The ticket was claimed then, so its item
+-- is on its way, or has come since the first look.
 abbrev pub Refuses : {T : Type 0} → ℕ → Queue T → Event T → Type 0
 Refuses n q (Full t) = (t ≡ q.next) × IsBlocked n t q.cells
 Refuses n q (Front t) = (t ≡ q.front) × IsUnwritten t q.cells

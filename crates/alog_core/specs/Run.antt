@@ -1,5 +1,5 @@
--- A run: calls of a machine one after another. The entries that they add to the history, what the replies tell of them,
--- and what each step finds.
+-- Which histories lead to a machine, and how they go on. Then a run, which is calls of a machine one after another: the
+-- entries that they add to a history, what the replies tell of them, and what each step finds.
 use Rattle.std.specs.Prelude.{◌≡◌, ℕ, ◌<◌, nat_lt, if◌then◌else◌, Option, None, Some, List, [], ◌∷◌, ◌++◌}
 use Rattle.alog_core.specs.Queue.{Event, Claim, Write, Grab, Take, Full, Front, Empty, Idle, PushBusy, PopBusy}
 use Rattle.alog_core.specs.Queue.{Spent, HasCell}
@@ -15,7 +15,8 @@ use Rattle.alog_core.specs.declared.said.Call.TheVariants as call
 use Rattle.alog_core.specs.declared.said.Answer.{Answer}
 use Rattle.alog_core.specs.declared.said.Answer.TheVariants as answer
 
--- The history leads to this machine: it leaves its queue, and whoever is before the last look of a pop found that front last.
+-- The history leads to this machine: it leaves its queue, and the last event of whoever is before the last look of a pop is the
+-- front of that pop.
 pub record LeadsTo {T N : Type 0} (f : ℕ) (h : List (Entry T N)) (m : Machine T) : Type 0 where
   pub stands : StandsFor m.places f h m.queue
   pub fronts : (a p : ℕ) → round_of m a ≡ round.PopFronted p → latest a h ≡ Some (Front p)

@@ -7,7 +7,7 @@
 //! Contracts see a `World` as a queue of cells in ticket order and the round in which each actor stands; whatever keeps
 //! them is private. Read `specs/Queue.antt` for cells, events and what each is allowed to do, `specs/History.antt` for
 //! histories, `specs/Accounts.antt` for what they issue and hand out, `specs/Round.antt` for the steps of a push and of a
-//! pop, `specs/World.antt` for the machine, `specs/Run.antt` for whole runs, and `specs/Staged.antt` for what is true of
+//! pop, `specs/World.antt` for the machine, `specs/Run.antt` for which histories lead to it and for whole runs, and `specs/Staged.antt` for what is true of
 //! every world; then `world.rt`, whose calls are that machine.
 //! `play.rt` makes the steps over words and places (`table.rt`; how they stand for the queue is in `specs/Words.antt`),
 //! and `laws.rt` states what is true of every history.

@@ -17,7 +17,7 @@ pub enum Said<T> {
     Take(u64, T),
     /// The front ticket is not written. The pop goes on: it looks whether that ticket is claimed.
     Front(u64),
-    /// The front ticket was claimed when the pop looked at the end, so a value is on its way. It ends a pop.
+    /// The ticket was claimed when the pop looked at the end, so a value is on its way, or has come since. It ends a pop.
     Empty(u64),
     /// No ticket was there to take when the pop looked at the end: the front ticket was the next one too. It ends a pop.
     Idle(u64),

@@ -4,7 +4,7 @@ ghost use Rattle.alog_core.specs.Queue.{Event, Allows, last};
 ghost use Rattle.alog_core.specs.World.{is_size, fresh, round_of, is_idle, began, next_move, stepped, told, shown};
 ghost use Rattle.alog_core.specs.World.{reply_to, after_call, replies_to, after_calls};
 ghost use Rattle.alog_core.specs.Words.{AreWords};
-ghost use Rattle.alog_core.specs.Run.{GoesOn, entries_of_step, entries_of_run, TellAll, HasItsCell, EachHasItsCell};
+ghost use Rattle.alog_core.specs.Run.{LeadsTo, GoesOn, entries_of_step, entries_of_run, TellAll, HasItsCell, EachHasItsCell};
 ghost use Rattle.alog_core.specs.Staged.{IsReached};
 ghost use Rattle.alog_core.specs.declared.round.Round.TheVariants as round;
 
@@ -56,6 +56,7 @@ impl<T: Drop> World<T> {
     /// `sizes_and_first_tickets` shows it.
     pub fn new(alloc: Global, places: usize, first: u64) -> Result<World<T>, WorldError>
         ensures made { IfOk result (λ w. w ≡ fresh places first) }
+        ensures history { IfOk result (λ w. LeadsTo {N = Unit {0}} first [] w) }
         ensures bad_size { IsErrOf result WorldError.BadSize ↔ (is_size places ≡ false) }
         ensures bad_first { IsErrOf result WorldError.BadFirst ↔ ((is_size places ≡ true) × (last ≤ first)) }
     {

@@ -1,4 +1,4 @@
--- What the parts of a block own and show names no thread.
+-- What the parts of a block own and show names no thread, and neither does a context.
 use Rattle.std.proofs.Common.{ℕ, List, [], Bool, true, false, length}
 use mir.Val.{Val}
 use base.Fml.{Fml, ftrue, fsep}
@@ -11,9 +11,15 @@ use denote.Param.Send.{IsSend, IsSync, Common, part_keyless, array_send, array_s
 use denote.Struct.Owning.{shape, to}
 use Rattle.std.specs.Vec.Ownership.{owns_if, has_block}
 use Rattle.std.proofs.Crossing.{Vec-send}
+use Rattle.jiff_tz.specs.contracts.posix.Day as Day
+use Rattle.jiff_tz.specs.contracts.posix.DayTime as DayTime
+use Rattle.jiff_tz.specs.contracts.posix.Dst as Dst
+use Rattle.jiff_tz.specs.contracts.posix.TimeZone as TimeZone
 use Rattle.alog_format.specs.Ownership.{V, bytes_own, bytes_lent, room_own, rest_own}
 use Rattle.alog_format.specs.contracts.block.Bytes as Bytes
 use Rattle.alog_format.specs.contracts.block.Deed as Deed
+use Rattle.alog_format.specs.contracts.context.Context as Context
+use Rattle.alog_format.specs.contracts.context.Zone as Zone
 
 byte-send : IsSend u8
 byte-send = search sendable
@@ -62,3 +68,21 @@ deed-send = record {
 
 pub deed-sync : IsSync Deed.the_row
 deed-sync = record { shared = λ e b o κ. tt }
+
+day_send : IsSend Day.the_row
+day_send = search sendable depth 40
+
+day_time_send : IsSend DayTime.the_row
+day_time_send = search (sendable, day_send) depth 20
+
+dst_send : IsSend Dst.the_row
+dst_send = search (sendable, day_time_send) depth 40
+
+time_zone_field_send : IsSend (TimeZone.the_field).row
+time_zone_field_send = search (sendable, dst_send) depth 60 fits 50000
+
+zone_field_send : IsSend (Zone.the_field).row
+zone_field_send = search (sendable, time_zone_field_send) depth 20
+
+pub context_field_send : IsSend (Context.the_field).row
+context_field_send = search (sendable, zone_field_send) depth 20

@@ -6,6 +6,7 @@ pub mod FirstItems
 pub mod Gaps
 pub mod ItemTexts
 pub mod Moves
+pub mod Offsets
 pub mod OneLine
 pub mod PaddedTexts
 pub mod Seconds

@@ -207,6 +207,13 @@ flag_len limit s h flags.Level = level_len s.message.level
 flag_len limit s h flags.ShortLevel = short_level_len s.message.level
 flag_len limit s h flags.Offset = omega (arith, length-offset_text s.offset)
 flag_len limit s h flags.Epoch = epoch_len s.message.time h.time
+flag_len limit s h flags.ElapsedNanoseconds = let e = h.elapsed in length-decimal-le 20 s.elapsed (omega arith) (omega arith) e
+flag_len limit s h flags.ElapsedMicroseconds =
+    let e = h.elapsed in length-decimal-le 17 (s.elapsed / 1_000) (omega arith) (omega arith) (omega arith)
+flag_len limit s h flags.ElapsedMilliseconds =
+    let e = h.elapsed in length-decimal-le 14 (s.elapsed / 1_000_000) (omega arith) (omega arith) (omega arith)
+flag_len limit s h flags.ElapsedSeconds =
+    let e = h.elapsed in length-decimal-le 11 (s.elapsed / 1_000_000_000) (omega arith) (omega arith) (omega arith)
 flag_len limit s h flags.Percent = lit≤ tt
 flag_len limit s h flags.Default = default_len limit s h
 flag_len limit s h flags.ColourStart = lit≤ tt

@@ -1,5 +1,5 @@
 -- The texts of the flags.
-use Rattle.std.specs.Prelude.{ℕ, zero, suc, ◌+◌, ◌/◌, ◌%◌, List, [], ◌∷◌, ◌++◌, take, Option, Some, None, ℤ, pos, negsuc, unsigned_abs}
+use Rattle.std.specs.Prelude.{ℕ, zero, suc, ◌+◌, ◌/◌, ◌%◌, List, [], ◌∷◌, ◌++◌, take, Option, Some, None, ℤ, pos, negsuc, ◌-ℤ◌, unsigned_abs}
 use Rattle.std.specs.Prelude.{codes, decimal, nat_lt, ◌==◌, if◌then◌else◌}
 use Rattle.std.specs.Fmt.{signed_decimal}
 use Rattle.std.specs.Int.{int_div_euclid}
@@ -12,13 +12,14 @@ use Rattle.alog_msg.specs.declared.message.Message.{Message}
 use Rattle.alog_pattern.specs.declared.flags.Flag.{Flag}
 use Rattle.alog_pattern.specs.declared.flags.Flag.TheVariants as flags
 
--- what a line shows: the message, the name of its logger, the process, the offset from UTC in minutes, and what a
--- clock shows at the message's time
+-- what a line shows: the message, the name of its logger, the process, the offset from UTC in whole minutes, the nanoseconds
+-- since the message before, and what a clock shows at the message's time
 pub record Shown : Type 0 where
   pub message : Message
   pub name : List ℕ
   pub process : ℕ
   pub offset : ℤ
+  pub elapsed : ℕ
   pub at : Civil
 
 -- the last k decimal digits of n
@@ -85,6 +86,16 @@ offset_sign (negsuc n) = codes "-"
 unfoldable pub offset_text : ℤ → List ℕ
 offset_text minutes =
     offset_sign minutes ++ digits 2 (unsigned_abs minutes / 60) ++ codes ":" ++ digits 2 (unsigned_abs minutes % 60)
+
+-- how much of a difference is above 0
+abbrev pub above_zero : ℤ → ℕ
+above_zero (pos n) = n
+above_zero (negsuc n) = 0
+
+-- the nanoseconds from the time of the message before to a time: 0 without one, and where time went back
+abbrev pub elapsed : Option ℤ → ℤ → ℕ
+elapsed None time = 0
+elapsed (Some previous) time = above_zero (time -ℤ previous)
 
 -- whole seconds since the epoch, rounded down
 unfoldable pub epoch : ℤ → List ℕ
@@ -160,6 +171,10 @@ flag_text s flags.Level = (row_of s.message.level).name
 flag_text s flags.ShortLevel = (row_of s.message.level).short
 flag_text s flags.Offset = offset_text s.offset
 flag_text s flags.Epoch = epoch s.message.time
+flag_text s flags.ElapsedNanoseconds = decimal s.elapsed
+flag_text s flags.ElapsedMicroseconds = decimal (s.elapsed / 1_000)
+flag_text s flags.ElapsedMilliseconds = decimal (s.elapsed / 1_000_000)
+flag_text s flags.ElapsedSeconds = decimal (s.elapsed / 1_000_000_000)
 flag_text s flags.Percent = codes "%"
 flag_text s flags.Default = default_text s
 flag_text s flags.ColourStart = []

@@ -1,7 +1,8 @@
-ghost use Rattle.std.specs.Prelude.{◌≡◌, pos};
+ghost use Rattle.std.specs.Prelude.{◌≡◌, ◌+ℤ◌, int_div, pos};
 ghost use Rattle.std.specs.Int.{int_div_euclid, int_rem_euclid};
-ghost use Rattle.jiff.specs.Words.{civil_nanos};
-ghost use Rattle.alog_format.specs.Civil.{clock_seconds, day_at, fields, local_nanos, second_at, IsShownAt, IsZone};
+ghost use Rattle.jiff_core.specs.Timestamp.{IsOffsetSeconds};
+ghost use Rattle.jiff.specs.Words.{civil_nanos, nanos_of_seconds};
+ghost use Rattle.alog_format.specs.Civil.{clock_seconds, day_at, fields, second_at, IsShownAt, IsZone};
 
 use crate::context::Zone;
 use jiff::Timestamp;
@@ -27,6 +28,8 @@ pub struct Civil {
     pub second: u32,
     /// 0 to 999,999,999.
     pub nanosecond: u32,
+    /// Minutes east of UTC, -1,559 to 1,559; the seconds of an offset are dropped, toward zero.
+    pub offset: i16,
 }
 
 /// A day and a second of it, as a clock shows them.
@@ -40,10 +43,10 @@ pub struct ClockTime {
 
 /// The day and the second of it that a clock of the zone shows at a time in nanoseconds since the epoch. It costs a few
 /// divisions; `civil_at` costs the whole date. The test `days_and_seconds` shows it.
-pub fn clock_time(zone: Zone, time: i64) -> ClockTime
-    requires { IsZone zone }
-    ensures day { result.day ≡ day_at zone time }
-    ensures second { result.second ≡ second_at zone time }
+pub fn clock_time(zone: &Zone, time: i64) -> ClockTime
+    requires { IsZone zone.now }
+    ensures day { result.day ≡ day_at zone.now time }
+    ensures second { result.second ≡ second_at zone.now time }
 {
     let seconds = clock_seconds(zone, time);
     ClockTime {
@@ -53,11 +56,11 @@ pub fn clock_time(zone: Zone, time: i64) -> ClockTime
 }
 
 /// Whole seconds from 1970-01-01 00:00:00 on a clock of the zone.
-fn clock_seconds(zone: Zone, time: i64) -> i64
-    requires { IsZone zone }
-    ensures { result ≡ clock_seconds zone time }
+fn clock_seconds(zone: &Zone, time: i64) -> i64
+    requires { IsZone zone.now }
+    ensures { result ≡ clock_seconds zone.now time }
 {
-    time.div_euclid(1_000_000_000) + i64::from(zone.offset_minutes()) * 60
+    time.div_euclid(1_000_000_000) + i64::from(zone.offset_seconds(time))
 }
 
 /// The day of a second, counted from 1970-01-01.
@@ -75,27 +78,27 @@ fn second_of(seconds: i64) -> i64
 }
 
 /// What a clock of the zone shows at a time in nanoseconds since the epoch.
-pub fn civil_at(zone: Zone, time: i64) -> Civil
-    requires { IsZone zone }
-    ensures { IsShownAt zone time result }
+pub fn civil_at(zone: &Zone, time: i64) -> Civil
+    requires { IsZone zone.now }
+    ensures { IsShownAt zone.now time result }
 {
-    fields_of(local(zone, time))
+    let offset = zone.offset_seconds(time);
+    fields_of(offset, local(offset, time))
 }
 
-/// The date and the time of day there.
-pub(crate) fn local(zone: Zone, time: i64) -> DateTime
-    requires { IsZone zone }
-    ensures { civil_nanos result ≡ local_nanos zone time }
+/// The date and the time of day on a clock so many seconds east of UTC.
+pub(crate) fn local(offset: i32, time: i64) -> DateTime
+    requires { IsOffsetSeconds offset }
+    ensures { civil_nanos result ≡ time +ℤ nanos_of_seconds offset }
 {
-    let minutes = zone.offset_minutes();
     let timestamp = Timestamp::from_nanosecond(i128::from(time)).unwrap();
-    let offset = Offset::from_seconds(i32::from(minutes) * 60).unwrap();
-    offset.to_datetime(timestamp)
+    Offset::from_seconds(offset).unwrap().to_datetime(timestamp)
 }
 
-/// The fields of a date and a time of day.
-pub(crate) fn fields_of(at: DateTime) -> Civil
-    ensures { result ≡ fields at }
+/// The fields of a date and a time of day there.
+pub(crate) fn fields_of(offset: i32, at: DateTime) -> Civil
+    requires { IsOffsetSeconds offset }
+    ensures { result ≡ fields offset at }
 {
     Civil {
         year: u32::from(at.year().unsigned_abs()),
@@ -106,5 +109,14 @@ pub(crate) fn fields_of(at: DateTime) -> Civil
         minute: u32::from(at.minute().unsigned_abs()),
         second: u32::from(at.second().unsigned_abs()),
         nanosecond: at.subsec_nanosecond().unsigned_abs(),
+        offset: minutes_of(offset),
     }
+}
+
+/// The whole minutes of an offset in seconds, toward zero.
+fn minutes_of(offset: i32) -> i16
+    requires { IsOffsetSeconds offset }
+    ensures { result ≡ int_div offset (pos 60) }
+{
+    (offset / 60) as i16
 }

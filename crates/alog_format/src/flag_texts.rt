@@ -24,8 +24,10 @@ pub(crate) struct Facts<'a> {
     /// The name of the logger.
     pub name: &'a str,
     pub process: u32,
-    /// Minutes east of UTC.
+    /// Whole minutes east of UTC.
     pub offset: i16,
+    /// Nanoseconds since the message before in the same sink.
+    pub elapsed: u64,
     /// What a clock shows at the message's time.
     pub at: &'a Civil,
 }
@@ -48,6 +50,10 @@ pub(crate) fn write_flag(line: &mut LineBuf, end: usize, flag: Flag, facts: &Fac
         Flag::ShortLevel => write(line, end, message.level.short().as_bytes()),
         Flag::Offset => write_offset(line, end, facts.offset),
         Flag::Epoch => write_epoch(line, end, message.time),
+        Flag::ElapsedNanoseconds => write_decimal(line, end, facts.elapsed),
+        Flag::ElapsedMicroseconds => write_decimal(line, end, facts.elapsed / 1_000),
+        Flag::ElapsedMilliseconds => write_decimal(line, end, facts.elapsed / 1_000_000),
+        Flag::ElapsedSeconds => write_decimal(line, end, facts.elapsed / 1_000_000_000),
         Flag::Percent => write(line, end, b"%"),
         Flag::Default => write_default(line, end, facts),
         Flag::ColourStart | Flag::ColourEnd => write(line, end, b""),

@@ -20,22 +20,24 @@ const SECOND: i64 = 1_000_000_000;
 
 /// Appends the line of a message: the texts of the pattern's items in order, and a newline.
 ///
-/// The buffer has room for the pattern's longest line, the text keeps to the pattern's limit, and the name of the
+/// The previous time is that of the message before in the same sink, which the flags of elapsed time count from. The
+/// buffer has room for the pattern's longest line, the text keeps to the pattern's limit, and the name of the
 /// logger has at most 64 bytes. The tests `writes_the_default_format` and `writes_lines_one_behind_another` show calls.
 pub fn format(
     pattern: &Pattern,
     context: &Context,
     name: &str,
     message: &Message,
+    previous: Option<i64>,
     line: &mut LineBuf,
 )
     requires text { length message.now.text ≤ pattern.now.text_limit }
     requires name { length name.now ≤ LOGGER_NAME_MAX }
     requires room { length line.old.bytes + longest pattern.now ≤ line.old.capacity }
-    ensures { AppendsLine context.now pattern.now.items name.now message.now line.old line.new }
+    ensures { AppendsLine context.now pattern.now.items name.now message.now previous line.old line.new }
 {
-    let at = civil_at(context.zone, message.time);
-    write_line(pattern, context, name, message, &at, line);
+    let at = civil_at(&context.zone, message.time);
+    write_line(pattern, context, name, message, previous, &at, line);
 }
 
 /// The most bytes of a line that a formatter remembers.
@@ -43,17 +45,18 @@ const FIRST_MAX: usize = 64;
 
 /// Appends the lines of a pattern as `format` does, and remembers the second of the last one, as spdlog's
 /// `pattern_formatter` does: the date and the time of day are worked out again only for a message of another second, or
-/// where another zone is asked for. From the second line of a second on it remembers the text of the first items too, as
+/// where the clock is at another offset. From the second line of a second on it remembers the text of the first items too, as
 /// far as it is the same throughout a second and has at most 64 bytes.
 ///
 /// The test `remembers_a_second` of `test_lines` shows one.
 #[derive(Debug, Drop)]
 pub struct Formatter {
     pattern: Pattern,
-    zone: Zone,
     /// The last line's second, counted from the epoch.
     second: i64,
-    /// What a clock of the zone shows at some time in that second.
+    /// The offset of its clock in seconds east of UTC. By a rule it may change within a second.
+    offset: i32,
+    /// What that clock shows at some time in that second.
     at: DateTime,
     /// Its fields, with the nanoseconds of the last line.
     civil: Civil,
@@ -66,17 +69,17 @@ pub struct Formatter {
 }
 
 impl Model for Formatter {
-    ghost use Rattle.std.specs.Prelude.{◌≡◌, ◌+ℤ◌, ◌*ℤ◌, pos};
+    ghost use Rattle.std.specs.Prelude.{◌≡◌, ◌+ℤ◌};
     ghost use Rattle.jiff.specs.Words.{civil_seconds};
-    ghost use Rattle.alog_format.specs.Civil.{fields, offset_minutes, with_nanosecond};
+    ghost use Rattle.alog_format.specs.Civil.{fields, with_nanosecond};
     ghost use Rattle.alog_format.specs.Lasting.{AreFirst, FormatterView};
 
     ghost Value = { FormatterView };
 
     ghost view = { λ f. record { pattern = f.pattern; at = f.civil } };
 
-    ghost invariant = { λ f. (civil_seconds f.at ≡ f.second +ℤ offset_minutes f.zone *ℤ pos 60)
-        × (f.civil ≡ with_nanosecond f.civil.nanosecond (fields f.at)) × AreFirst f.pattern.items f.civil f.count f.first.items };
+    ghost invariant = { λ f. (civil_seconds f.at ≡ f.second +ℤ f.offset)
+        × (f.civil ≡ with_nanosecond f.civil.nanosecond (fields f.offset f.at)) × AreFirst f.pattern.items f.civil f.count f.first.items };
 }
 
 impl Formatter {
@@ -86,14 +89,13 @@ impl Formatter {
     pub fn new(pattern: Pattern) -> Formatter
         ensures { result.pattern ≡ pattern }
     {
-        let zone = Zone::Fixed(0);
-        let at = local(zone, 0);
+        let at = local(0, 0);
         Formatter {
             pattern,
-            zone,
             second: 0,
+            offset: 0,
             at,
-            civil: fields_of(at),
+            civil: fields_of(0, at),
             count: 0,
             first: ArrayVec::new(),
             is_fresh: true,
@@ -108,15 +110,22 @@ impl Formatter {
     }
 
     /// Appends the line of a message, as `format` does, and by the same conditions.
-    pub fn format(&mut self, context: &Context, name: &str, message: &Message, line: &mut LineBuf)
+    pub fn format(
+        &mut self,
+        context: &Context,
+        name: &str,
+        message: &Message,
+        previous: Option<i64>,
+        line: &mut LineBuf,
+    )
         requires text { length message.now.text ≤ self.old.pattern.text_limit }
         requires name { length name.now ≤ LOGGER_NAME_MAX }
         requires room { length line.old.bytes + longest self.old.pattern ≤ line.old.capacity }
-        ensures line { AppendsLine context.now self.old.pattern.items name.now message.now line.old line.new }
+        ensures line { AppendsLine context.now self.old.pattern.items name.now message.now previous line.old line.new }
         ensures same { self.new.pattern ≡ self.old.pattern }
     {
         self.turn_to(context, name, message, line);
-        let facts = facts_of(context, name, message, &self.civil);
+        let facts = facts_of(context, name, message, previous, &self.civil);
         put(line, self.first.as_slice());
         let rest = &self.pattern.items()[self.count..];
         write_items(line, rest, self.pattern.text_limit(), &facts);
@@ -133,23 +142,25 @@ impl Formatter {
         ensures same { self.new.pattern ≡ self.old.pattern }
         ensures line { line.new ≡ line.old }
     {
-        if !self.show(context.zone, message.time) && self.is_fresh {
+        if !self.show(&context.zone, message.time) && self.is_fresh {
             self.remember(context, name, message, line);
         }
     }
 
-    /// Shows what a clock of the zone shows at a time, and answers whether that is another second than the last one.
-    fn show(&mut self, zone: Zone, time: i64) -> bool
-        requires { IsZone zone }
-        ensures shown { IsShownAt zone time self.new.at }
+    /// Shows what a clock of the zone shows at a time, and answers whether that is another second than the last one, or one
+    /// at another offset.
+    fn show(&mut self, zone: &Zone, time: i64) -> bool
+        requires { IsZone zone.now }
+        ensures shown { IsShownAt zone.now time self.new.at }
         ensures same { self.new.pattern ≡ self.old.pattern }
     {
         let second = time.div_euclid(SECOND);
-        let other = if second != self.second || zone != self.zone {
-            self.zone = zone;
+        let offset = zone.offset_seconds(time);
+        let other = if second != self.second || offset != self.offset {
             self.second = second;
-            self.at = local(zone, time);
-            self.civil = fields_of(self.at);
+            self.offset = offset;
+            self.at = local(offset, time);
+            self.civil = fields_of(offset, self.at);
             self.count = 0;
             self.first.clear();
             self.is_fresh = true;
@@ -171,7 +182,7 @@ impl Formatter {
         ensures line { line.new ≡ line.old }
     {
         let count = count_lasting(self.pattern.items());
-        let facts = facts_of(context, name, message, &self.civil);
+        let facts = facts_of(context, name, message, None, &self.civil);
         let start = line.len();
         write_items(
             line,

@@ -8,7 +8,7 @@
 //!
 //! Read `line_buf.rt` with `specs/Buffer.antt`, and `block.rt`, the raw block under it, with `specs/Block.antt` and
 //! `specs/Ownership.antt`; `context.rt` and `civil.rt` with `specs/Civil.antt`, `clip.rt` with `specs/Clip.antt`,
-//! `names.rt`, `times.rt` and `flag_texts.rt` with `specs/Text.antt`, `pads.rt`, and `lines.rt` and
+//! `names.rt`, `times.rt`, `elapsed.rt` and `flag_texts.rt` with `specs/Text.antt`, `pads.rt`, and `lines.rt` and
 //! `formatter.rt` with `specs/Line.antt`, `lasting.rt` with `specs/Lasting.antt`; `laws.rt` states that a message has no two lines.
 #![tactic(auto)]
 
@@ -16,6 +16,7 @@ mod block;
 mod civil;
 mod clip;
 mod context;
+mod elapsed;
 mod flag_texts;
 mod formatter;
 mod lasting;
@@ -27,7 +28,7 @@ mod pads;
 mod times;
 
 pub use civil::{Civil, ClockTime, civil_at, clock_time};
-pub use context::{Context, OFFSET_MAX, Zone};
+pub use context::{Context, OFFSET_MAX, RULE_MAX, Zone};
 pub use formatter::{Formatter, format};
 pub use laws::{days_are_of_dates, one_line};
 pub use line_buf::{LineBuf, NoRoomError};

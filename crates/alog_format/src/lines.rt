@@ -11,18 +11,21 @@ ghost use Rattle.alog_format.specs.Text.{flag_text, of_source};
 
 use crate::civil::Civil;
 use crate::context::Context;
+use crate::elapsed::elapsed_since;
 use crate::flag_texts::{Facts, write_flag};
 use crate::line_buf::LineBuf;
 use crate::pads::write_padded;
 use alog_msg::{LOGGER_NAME_MAX, Message};
 use alog_pattern::{Flag, Item, Padding, Pattern, Side};
 
-/// Appends the line of a message: the texts of the pattern's items in order, and a newline. A clock shows `at` at its time.
+/// Appends the line of a message: the texts of the pattern's items in order, and a newline. A clock shows `at` at its time,
+/// and the message before came at the previous time.
 pub(crate) fn write_line(
     pattern: &Pattern,
     context: &Context,
     name: &str,
     message: &Message,
+    previous: Option<i64>,
     at: &Civil,
     line: &mut LineBuf,
 )
@@ -30,9 +33,9 @@ pub(crate) fn write_line(
     requires name { length name.now ≤ LOGGER_NAME_MAX }
     requires at { IsShownAt context.now.zone message.now.time at.now }
     requires room { length line.old.bytes + longest pattern.now ≤ line.old.capacity }
-    ensures { AppendsLine context.now pattern.now.items name.now message.now line.old line.new }
+    ensures { AppendsLine context.now pattern.now.items name.now message.now previous line.old line.new }
 {
-    let facts = facts_of(context, name, message, at);
+    let facts = facts_of(context, name, message, previous, at);
     write_items(line, pattern.items(), pattern.text_limit(), &facts);
     put(line, b"\n");
 }
@@ -42,15 +45,17 @@ pub(crate) fn facts_of<'a>(
     context: &Context,
     name: &'a str,
     message: &'a Message,
+    previous: Option<i64>,
     at: &'a Civil,
 ) -> Facts<'a>
     requires { IsShownAt context.now.zone message.now.time at.now }
-    ensures shown { IsShown context.now name.now message.now (shown_by result) }
+    ensures shown { IsShown context.now name.now message.now previous (shown_by result) }
     ensures at { result.at.now ≡ at.now }
     ensures source { SourceFits message.now.source }
     ensures thread { message.now.thread < 2 ^ 64 }
     ensures process { context.now.process < 2 ^ 32 }
     ensures time { FitsSigned w64 message.now.time }
+    ensures elapsed { result.elapsed < 2 ^ 64 }
 {
     let process = context.process();
     // What is read here only tells the prover its range: the fields of a source, the thread, and the time.
@@ -58,12 +63,13 @@ pub(crate) fn facts_of<'a>(
         let (_file, _line, _function) = (source.file(), source.line(), source.function());
     }
     let (_thread, _time) = (message.thread, message.time);
-    let offset = context.zone.offset_minutes();
+    let elapsed = elapsed_since(previous, message.time);
     Facts {
         message,
         name,
         process,
-        offset,
+        offset: at.offset,
+        elapsed,
         at,
     }
 }

@@ -1,4 +1,4 @@
-pub mod Crosses
-pub mod Making
-pub mod Sending
 pub mod Building
+pub mod Crosses
+pub mod Going
+pub mod Making

@@ -1,11 +1,11 @@
 -- What a load is: what is asked for, what a configuration gives, what each producer logs, and what is answered.
-use Rattle.std.specs.Prelude.{◌≡◌, ◌<◌, ◌⊎◌, ◌*◌, ◌%◌, ℕ, zero, suc, pos, Bool, List, [], ◌∷◌, ◌++◌, length, Some, None, true}
+use Rattle.std.specs.Prelude.{◌≡◌, ◌<◌, ◌⊎◌, ◌*◌, ◌%◌, ℕ, zero, suc, pos, Bool, List, ◌∷◌, ◌++◌, length, Some, None, true}
 use Rattle.std.specs.Fmt.{decimal}
 use Rattle.alog_config.specs.declared.building.BuildError.{BuildError}
 use Rattle.alog_config.specs.declared.building.BuildError.TheVariants as built
 use Rattle.alog_config.specs.declared.config.Config.{Config}
 use Rattle.alog_load.specs.declared.TheConstants.{LOAD_PRODUCERS_MAX, LOAD_MESSAGES_MAX}
-use Rattle.alog_load.specs.declared.load_task.Back.{Back}
+use Rattle.alog_load.specs.declared.load_seat.LoadSeat.{LoadSeat}
 use Rattle.alog_load.specs.declared.load_task.LoadTask.{LoadTask}
 use Rattle.alog_load.specs.declared.error.LoadError.{LoadError}
 use Rattle.alog_load.specs.declared.error.LoadError.TheVariants as refused
@@ -60,15 +60,15 @@ abbrev pub HasLogged : ℕ → ℕ → ProducerView → ProducerView → Type 0
 HasLogged logger zero old new = new ≡ old
 HasLogged logger (suc n) old new = (mid : ProducerView) × HasLogged logger n old mid × LogsMessage logger n mid new
 
--- A producer came back: it is the same, and where it was done, it logged all messages of its task.
-pub record HasGone (e : LoadTask) (start : ProducerView) (back : Back) : Type 0 where
-  pub same : IsSame start back.producer
-  pub logged : back.done ≡ true → HasLogged e.logger e.messages start back.producer
-
 -- one that was made by a pool with so many loggers, and logged all that it was sent off for
 abbrev pub HasServed : ℕ → ℕ → ProducerView → ProducerView → Type 0
 HasServed loggers messages start end =
     HasLogged (load_task_of start.number loggers messages).logger (load_task_of start.number loggers messages).messages start end
+
+-- Its thread did what it was to do: the producer is the same, and where it is done, it logged all messages that it was sent off for.
+pub record Goes (loggers messages : ℕ) (old new : LoadSeat) : Type 0 where
+  pub same : IsSame old.producer new.producer
+  pub served : new.done ≡ true → HasServed loggers messages old.producer new.producer
 
 module _ {S : Type 0} (tells : Bool) (files : S → Files) (failures : S → ℕ) where
   -- The report of a load: a pool was started with what the configuration gives, and told every ticket; it made as many producers

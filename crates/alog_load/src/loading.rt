@@ -6,7 +6,7 @@ ghost use Rattle.alog_config.specs.Sinks.{is_leaf};
 ghost use Rattle.alog_load.specs.Load.{AreBad, Loads};
 
 use crate::error::LoadError;
-use crate::producers::Producers;
+use crate::producers::run_all;
 use crate::setup::setup_of;
 use crate::{LOAD_MESSAGES_MAX, LOAD_PRODUCERS_MAX};
 use alog_config::Config;
@@ -21,12 +21,13 @@ use std::time::Clock;
 /// ends it.
 ///
 /// The producers go round among the loggers: producer p logs the texts `p i`, i from 0, at level info with time i to the logger
-/// whose number is p modulo their number. Each has a thread of its own. The report tells every ticket.
+/// whose number is p modulo their number. Each has a thread of its own, as far as the system gives threads. The report tells every
+/// ticket.
 ///
 /// There are as many stores as `alog_config::leaves` tells. The gate is called round each text that a worker handles. Where there is
 /// no memory for a message, all producers stop. The test `one_list_of_tickets` shows it.
 pub fn load<
-    R: Threads + Wait + Clock + Clone + Drop + Send + 'static,
+    R: Threads + Wait + Clock + Clone + Drop + Send + Sync + 'static,
     S: Store + Drop + Send + 'static,
     G: Gate + Send + Sync + Drop + 'static,
 >(
@@ -47,14 +48,13 @@ pub fn load<
         return Err(LoadError::BadValue);
     }
     let setup = setup_of(alloc, config, stores, (producers * messages) as usize)?;
-    let threads = Producers::new(alloc, producers as usize)?;
     let mut pool = match Pool::start(rt, alloc, setup, gate) {
         Ok(pool) => pool,
         Err(StartError::OutOfMemory) => return Err(LoadError::OutOfMemory),
         Err(StartError::BadWorkers | StartError::BadSize | StartError::BadFirst) => unreachable!(),
     };
     let loggers = config.loggers.len();
-    let (back, done) = threads.run(rt, &mut pool, producers, loggers, messages);
+    let (back, done) = run_all(rt, alloc, &mut pool, producers, loggers, messages);
     match pool.shutdown(rt, back) {
         Ok(report) if done => Ok(report),
         Ok(_) => Err(LoadError::OutOfMemory),

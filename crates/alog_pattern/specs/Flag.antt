@@ -9,11 +9,13 @@ use Rattle.alog_pattern.specs.declared.flags.Flag.TheVariants.{MonthNumber, Day,
 use Rattle.alog_pattern.specs.declared.flags.Flag.TheVariants.{Microseconds, Nanoseconds, HalfDay, HalfDayTime, ShortTime, Time}
 use Rattle.alog_pattern.specs.declared.flags.Flag.TheVariants.{Offset, Epoch, Percent, Default, ColourStart, ColourEnd, Location}
 use Rattle.alog_pattern.specs.declared.flags.Flag.TheVariants.{FileBase, File, Line, Function}
+use Rattle.alog_pattern.specs.declared.flags.Flag.TheVariants.{ElapsedNanoseconds, ElapsedMicroseconds, ElapsedMilliseconds, ElapsedSeconds}
 
--- the flag bytes of a message and of what is the same in each line, each with its flag
+-- the flag bytes of a message, of the time since the one before it, and of what is the same in each line, each with its flag
 abbrev pub message_flags : List (ℕ × Flag)
 message_flags =
     (byte "v", Text) ∷ (byte "t", Thread) ∷ (byte "P", Process) ∷ (byte "n", Name) ∷ (byte "l", Level) ∷ (byte "L", ShortLevel)
+    ∷ (byte "u", ElapsedNanoseconds) ∷ (byte "i", ElapsedMicroseconds) ∷ (byte "o", ElapsedMilliseconds) ∷ (byte "O", ElapsedSeconds)
     ∷ (byte "%", Percent) ∷ (byte "+", Default) ∷ (byte "^", ColourStart) ∷ (byte "$", ColourEnd)
     ∷ (byte "@", Location) ∷ (byte "s", FileBase) ∷ (byte "g", File) ∷ (byte "#", Line) ∷ (byte "!", Function) ∷ []
 
@@ -66,6 +68,10 @@ greatest_len limit ShortTime = 5
 greatest_len limit Time = 8
 greatest_len limit Offset = 6
 greatest_len limit Epoch = 11
+greatest_len limit ElapsedNanoseconds = 20
+greatest_len limit ElapsedMicroseconds = 17
+greatest_len limit ElapsedMilliseconds = 14
+greatest_len limit ElapsedSeconds = 11
 greatest_len limit Percent = 1
 greatest_len limit Default = limit + 374
 greatest_len limit ColourStart = 0

@@ -62,6 +62,14 @@ pub enum Flag {
     Offset,
     /// `%E`: whole seconds since the epoch, rounded down.
     Epoch,
+    /// `%u`: the nanoseconds since the message before in the same sink, decimal.
+    ElapsedNanoseconds,
+    /// `%i`: the microseconds since then, rounded down.
+    ElapsedMicroseconds,
+    /// `%o`: the milliseconds since then, rounded down.
+    ElapsedMilliseconds,
+    /// `%O`: the seconds since then, rounded down.
+    ElapsedSeconds,
     /// `%%`: a percent sign.
     Percent,
     /// `%+`: the default format.
@@ -98,6 +106,10 @@ impl Flag {
             b'n' => Some(Flag::Name),
             b'l' => Some(Flag::Level),
             b'L' => Some(Flag::ShortLevel),
+            b'u' => Some(Flag::ElapsedNanoseconds),
+            b'i' => Some(Flag::ElapsedMicroseconds),
+            b'o' => Some(Flag::ElapsedMilliseconds),
+            b'O' => Some(Flag::ElapsedSeconds),
             b'%' => Some(Flag::Percent),
             b'+' => Some(Flag::Default),
             b'^' => Some(Flag::ColourStart),
@@ -150,7 +162,7 @@ impl Flag {
     {
         match self {
             Flag::Text => text_limit,
-            Flag::Thread => 20,
+            Flag::Thread | Flag::ElapsedNanoseconds => 20,
             Flag::Process | Flag::Line => 10,
             Flag::Name => LOGGER_NAME_MAX,
             Flag::Level | Flag::ShortDate | Flag::Time => 8,
@@ -168,7 +180,9 @@ impl Flag {
             | Flag::HalfDay => 2,
             Flag::Year => 4,
             Flag::Microseconds | Flag::Offset => 6,
-            Flag::HalfDayTime | Flag::Epoch => 11,
+            Flag::HalfDayTime | Flag::Epoch | Flag::ElapsedSeconds => 11,
+            Flag::ElapsedMicroseconds => 17,
+            Flag::ElapsedMilliseconds => 14,
             Flag::ShortTime => 5,
             Flag::Default => text_limit + DEFAULT_BESIDE_TEXT,
             Flag::ColourStart | Flag::ColourEnd => 0,

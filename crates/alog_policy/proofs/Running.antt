@@ -1,7 +1,7 @@
 -- A whole run of a desk, step by step.
-use Rattle.std.proofs.Common.{◌≡◌, ◌≢◌, ℕ, zero, suc, ◌+◌, ◌<◌, ◌==◌, cond, true, false, Option, None, Some, Ok, Err}
+use Rattle.std.proofs.Common.{◌≡◌, ◌≢◌, ℕ, ◌+◌, ◌<◌, ◌==◌, cond, true, false, Option, None, Some, Ok, Err}
 use Rattle.std.proofs.Common.{List, [], ◌∷◌, ◌++◌, length, refl, sym, ap, subst, ◌∙◌, arith, get_or, set, get_or-set_other}
-use Rattle.std.proofs.Common.{get_or-set_same, length-set, replicate}
+use Rattle.std.proofs.Common.{get_or-set_same, length-set}
 use Rattle.std.proofs.Common.{append_assoc, append-nil}
 use Rattle.std.proofs.lemmas.List.{set-get_or, get_or-replicate, length-replicate}
 use Rattle.alog_core.specs.Queue.{Event, start, last}
@@ -14,8 +14,7 @@ use Rattle.alog_core.specs.declared.TheConstants.{ACTORS}
 use Rattle.alog_core.specs.declared.round.Round.{Round}
 use Rattle.alog_core.specs.declared.round.Round.TheVariants as round
 use Rattle.alog_core.proofs.Cells.{on_test}
-use Rattle.alog_core.proofs.Fronts.{goes_began, goes_step}
-use Rattle.alog_core.proofs.Histories.{stands_start}
+use Rattle.alog_core.proofs.Fronts.{goes_began, goes_step, leads_start}
 use Rattle.alog_core.proofs.Reached.{reached_began, reached_stepped}
 use Rattle.alog_core.proofs.Runs.{has_its_cell}
 use Rattle.alog_core.proofs.Sizes.{size_facts}
@@ -146,21 +145,6 @@ leads_still : {T : Type 0} (f : ℕ) (h : List (Entry T (Unit {0}))) (m k : Mach
     → LeadsTo f h m → LeadsTo f h k
 leads_still {T} f h m k goes leads =
     subst (λ (g : List (Entry T (Unit {0}))). LeadsTo f g k) (append-nil h) (goes f h leads)
-
-all_the_same : {X : Type 0} (n i : ℕ) (x : X) → get_or (replicate n x) i x ≡ x
-all_the_same zero i x = refl
-all_the_same (suc n) zero x = refl
-all_the_same (suc n) (suc i) x = all_the_same n i x
-
--- nobody is in a round of a new machine
-none_in_round : {T : Type 0} (n f a : ℕ) → round_of (fresh {T = T} n f) a ≡ round.Idle
-none_in_round n f a = all_the_same ACTORS a round.Idle
-
-leads_start : {T : Type 0} (n f : ℕ) → LeadsTo {N = Unit {0}} f [] (fresh {T = T} n f)
-leads_start {T} n f = record {
-  stands = stands_start n f;
-  fronts = λ a p is. let none : round_of (fresh {T = T} n f) a ≡ round.Idle = none_in_round n f a in absurd (cc);
-}
 
 after_start : {T : Type 0} (n f : ℕ) → is_size n ≡ true → f < last → After {T = T} n f [] [] (fresh_desk n f)
 after_start {T} n f size below =

@@ -36,7 +36,8 @@ module _ {S T : Type 0} (did : Doing S T) (fit : S → Type 0) where
   abbrev pub Overran : S → ℕ → S → Type 0
   Overran old t new = ((y : T) × did old (Grab t ∷ Take t y ∷ []) 1 0 new) × fit new
 
-  -- a pop that found nothing to take: the front was not written, and then claimed, or no ticket was there
+  -- a pop that took nothing: it found the front unwritten, and then that its ticket was claimed, or that none was there; or
+  -- another pop was faster
   abbrev pub PopRefused : S → PopError → S → Type 0
   PopRefused old (pop.Empty next) new = Refused old (queue.Front next ∷ queue.Empty next ∷ []) new
   PopRefused old (pop.Idle next) new = Refused old (queue.Front next ∷ queue.Idle next ∷ []) new

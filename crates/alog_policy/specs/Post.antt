@@ -43,7 +43,7 @@ pub data End : Type 0 where
   OutOfTickets : End
   -- the queue was full
   NoRoom : (full : ℕ) → End
-  -- the queue was full, and its oldest item not written yet
+  -- the queue was full, and its front ticket was not written yet, though claimed
   NothingToTake : (full oldest : ℕ) → End
   -- the queue was full, and others had grabbed all of it: no ticket was there to take
   AllGrabbed : (full front : ℕ) → End

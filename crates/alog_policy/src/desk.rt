@@ -2,7 +2,7 @@
 ghost use Rattle.std.specs.Prelude.{◌≡◌, ℕ, ◌∷◌, ◌<◌, ◌≤◌, ◌↔◌, [], Some, None, true, false, map, IfOk, OnOk, OnErr, IfErr, IsOk, IsErrOf};
 ghost use Rattle.alog_core.specs.Queue.{last, Claim, Write};
 ghost use Rattle.alog_core.specs.World.{is_size, round_of, is_idle, next_move, shown};
-ghost use Rattle.alog_core.specs.Run.{GoesOn, entries_of_step};
+ghost use Rattle.alog_core.specs.Run.{LeadsTo, GoesOn, entries_of_step};
 ghost use Rattle.alog_core.specs.Staged.{IsReached};
 ghost use Rattle.alog_core.specs.declared.round.Round.TheVariants as round;
 ghost use Rattle.alog_policy.specs.Desk.{fresh_desk, call_began, post_began, desk_told, desk_stepped, IsPosting, PostGoesOn};
@@ -52,6 +52,7 @@ impl<T: Drop> Desk<T> {
     /// here.
     pub fn new(alloc: Global, places: usize, first: u64) -> Result<Desk<T>, WorldError>
         ensures made { IfOk result (λ d. d ≡ fresh_desk places first) }
+        ensures history { IfOk result (λ d. LeadsTo {N = Unit {0}} first [] d.world) }
         ensures bad_size { IsErrOf result WorldError.BadSize ↔ (is_size places ≡ false) }
         ensures bad_first { IsErrOf result WorldError.BadFirst ↔ ((is_size places ≡ true) × (last ≤ first)) }
     {

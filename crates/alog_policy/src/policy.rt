@@ -31,8 +31,8 @@ impl Policy {
 pub enum Why {
     /// The queue is full, and the policy is to discard the new.
     Full,
-    /// The queue was full, and then there was nothing to take out: its oldest item was not written yet, or others had
-    /// grabbed each item of it.
+    /// The queue was full, and then there was nothing to take out: its front ticket was claimed and not written yet, or others
+    /// had grabbed all of its tickets.
     Stalled,
     /// 64 rounds went on: in each one others were faster, or an item was overrun.
     Busy,

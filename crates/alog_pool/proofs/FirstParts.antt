@@ -7,7 +7,7 @@ use Rattle.alog_lane.specs.declared.seat.TheConstants.{ALL_PARTS}
 use Rattle.alog_pool.specs.SinkSeat.{SinkSeatView}
 use Rattle.alog_pool.specs.BacktraceSeat.{BacktraceSeatView}
 use Rattle.alog_pool.specs.Places.{Each2, IsFirst, IsBacktraceSeatOf}
-use Rattle.alog_pool.specs.Pool.{IsUnused, lanes_of}
+use Rattle.alog_pool.specs.Pool.{IsIdleSeat, IsUnused, lanes_of}
 use Rattle.alog_pool.specs.Producer.{AreBacktraceSeats}
 use Rattle.alog_registry.specs.Backtrace.{room_for}
 use Rattle.alog_registry.specs.declared.logger.Logger.{Logger}
@@ -60,6 +60,15 @@ module _ (limit : ℕ) where
   backtrace_seats_kept [] (k ∷ ks) each = absurd each
   backtrace_seats_kept (l ∷ ls) [] each = absurd each
   backtrace_seats_kept (l ∷ ls) (k ∷ ks) each = (ap (λ r. r.limit) each.0.room, backtrace_seats_kept ls ks each.1)
+
+  pub backtrace_seats_idle : (ls : List Logger) (ks : List BacktraceSeatView) → Each2 (IsBacktraceSeatOf limit) ls ks
+      → AllByRecursion IsIdleSeat ks
+  backtrace_seats_idle [] [] each = tt
+  backtrace_seats_idle [] (k ∷ ks) each = absurd each
+  backtrace_seats_idle (l ∷ ls) [] each = absurd each
+  backtrace_seats_idle (l ∷ ls) (k ∷ ks) each =
+      let known = each.0.known in
+      (record { joined = ap (λ m. m.joined) known; own = ap (λ m. m.own) known }, backtrace_seats_idle ls ks each.1)
 
   pub backtrace_seats_rooms : (ls : List Logger) (ks : List BacktraceSeatView) → Each2 (IsBacktraceSeatOf limit) ls ks
       → map (λ (k : BacktraceSeatView). k.lane.first) ks ≡ map (λ (l : Logger). room_for l.spec.backtrace limit) ls

@@ -5,7 +5,7 @@ use Rattle.alog_lane.specs.declared.seat.TheConstants.{ALL_PARTS}
 use Rattle.alog_pool.specs.SinkSeat.{SinkSeatView}
 use Rattle.alog_pool.specs.BacktraceSeat.{BacktraceSeatView}
 use Rattle.alog_pool.specs.Places.{Each3, IsPart, IsBacktraceSeatPart, AreSpare}
-use Rattle.alog_pool.specs.Pool.{IsNew, IsUnused, backtrace_seat_lanes, lanes_of}
+use Rattle.alog_pool.specs.Pool.{IsIdleSeat, IsNew, IsUnused, backtrace_seat_lanes, lanes_of}
 use Rattle.alog_pool.specs.Producer.{AreBacktraceSeats}
 
 module _ {S : Type 0} where
@@ -112,6 +112,19 @@ backtrace_seats_limits limit (b ∷ bs) (c ∷ cs) (d ∷ ds) each all =
     let rest = backtrace_seats_limits limit bs cs ds each.1 all.1 in (
       (ap (λ l. l.first.limit) each.0.same.0 ∙ all.0, rest.0),
       (ap (λ l. l.first.limit) each.0.given_lane ∙ all.0, rest.1),
+    )
+
+pub still_idle : (old new given : List BacktraceSeatView) → Each3 IsBacktraceSeatPart old new given → AllByRecursion IsIdleSeat old
+    → AllByRecursion IsIdleSeat new
+still_idle [] [] [] each all = tt
+still_idle [] [] (d ∷ ds) each all = absurd each
+still_idle [] (c ∷ cs) given each all = absurd each
+still_idle (b ∷ bs) [] given each all = absurd each
+still_idle (b ∷ bs) (c ∷ cs) [] each all = absurd each
+still_idle (b ∷ bs) (c ∷ cs) (d ∷ ds) each all =
+    let kept = each.0.split.kept in (
+      record { joined = ap (λ k. k.joined) kept ∙ all.0.joined; own = ap (λ k. k.own) kept ∙ all.0.own },
+      still_idle bs cs ds each.1 all.1,
     )
 
 pub each3_lengths : {A B C : Type 0} (R : A → B → C → Type 0) (xs : List A) (ys : List B) (zs : List C) → Each3 R xs ys zs

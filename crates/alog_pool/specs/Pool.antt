@@ -57,6 +57,11 @@ pub record IsUnused {S : Type 0} (b : SinkSeatView S) : Type 0 where
 abbrev pub IsNew : {S : Type 0} → SinkSeatView S → Type 0
 IsNew b = (b.seat.known.parts ≡ 1) × IsUnused b
 
+-- a seat at a backtrace that made nothing
+pub record IsIdleSeat (k : BacktraceSeatView) : Type 0 where
+  pub joined : k.seat.known.joined ≡ []
+  pub own : k.seat.known.own ≡ []
+
 -- Where so many producers were made, and so many workers hired, each of which got one part of all that it uses: the parts that
 -- are left, and those, are all. The pool itself made nothing with its own.
 pub record HasLeft {S : Type 0} (shared : Shared) (pass : PassView Item no_note) (losses : book.SeatView)
@@ -78,6 +83,7 @@ pub record HasLeft {S : Type 0} (shared : Shared) (pass : PassView Item no_note)
   pub pass_unused : (pass.known.own ≡ []) × (pass.known.joined ≡ [])
   pub losses_unused : (losses.known.own ≡ []) × (losses.known.joined ≡ [])
   pub sink_seats_unused : AllByRecursion IsUnused sink_seats
+  pub backtrace_seats_unused : AllByRecursion IsIdleSeat backtrace_seats
 
 -- A worker of this pool that begins: it shares what all share, has a place at each sink, and made nothing.
 pub record Begins {S : Type 0} (shared : Shared) (lanes : List (LaneId (Sink S))) (most : ℕ) (h : Worker S) : Type 0 where
@@ -160,8 +166,8 @@ module _ {S : Type 0} where
     pub crew : length p.crew ≡ g.workers
     pub numbers : numbers_of p.crew ≡ range_with_len 0 g.workers
 
-  -- A pool of this setup: its queue is empty, its loggers and its sinks are those that it was given, in their order, as many workers
-  -- work for it, numbered from 0 on, and it made no producer.
+  -- A pool of this setup: its queue is as large and begins at the ticket that were asked for, its loggers and its sinks are those that
+  -- it was given, in their order, as many workers work for it, numbered from 0 on, and it made no producer.
   pub record Starts (setup : Setup S) (p : PoolView S) : Type 0 where
     pub queue : (p.shared.ring.places ≡ setup.queue) × (p.shared.ring.first ≡ setup.first)
     pub loggers : p.shared.loggers ≡ setup.loggers

@@ -29,7 +29,7 @@ use std::time::Clock;
 /// The backtrace of a logger under its lock, a seat of that, and what turns at it use. A logger that keeps nothing has one
 /// without room.
 #[derive(Drop)]
-pub struct BacktraceSeat {
+pub(crate) struct BacktraceSeat {
     pub(crate) lane: Arc<Lane<Backtrace>>,
     pub(crate) seat: LaneSeat<Backtrace>,
     pub(crate) scratch: BacktraceScratch,
@@ -60,7 +60,11 @@ impl Model for BacktraceSeat {
 
 impl BacktraceSeat {
     /// A backtrace that keeps the last so many messages, and its first place.
-    pub fn new(alloc: Global, most: usize, text_limit: usize) -> Result<BacktraceSeat, AllocError>
+    pub(crate) fn new(
+        alloc: Global,
+        most: usize,
+        text_limit: usize,
+    ) -> Result<BacktraceSeat, AllocError>
         requires limit { (TEXT_LIMIT_MIN ≤ text_limit) × (text_limit ≤ TEXT_LIMIT_MAX) }
         ensures empty { IfOk result (λ k. k.lane.first ≡ room_for most text_limit) }
         ensures known { IfOk result (λ k. k.seat.known ≡ first_known) }

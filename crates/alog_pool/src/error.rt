@@ -28,9 +28,8 @@ pub enum ProducerError {
     OutOfMemory,
 }
 
-/// Not all producers that the pool made were handed in. Pool and producers come back as they were.
-#[derive(Drop, Error)]
-#[error("not all producers are here")]
+/// Not all producers that the pool made were handed in. Pool and producers come back as they were, and are no more let go than before:
+/// so this is no `std::error::Error`, which has to be `Drop`.
 pub struct ProducersOut<S: Store> {
     pub pool: Pool<S>,
     pub producers: Vec<Producer>,
@@ -39,5 +38,11 @@ pub struct ProducersOut<S: Store> {
 impl<S: Store> fmt::Debug for ProducersOut<S> {
     fn fmt<W: fmt::Write>(&self, f: &mut fmt::Formatter<W>) -> fmt::Result {
         f.pad("ProducersOut { .. }")
+    }
+}
+
+impl<S: Store> fmt::Display for ProducersOut<S> {
+    fn fmt<W: fmt::Write>(&self, f: &mut fmt::Formatter<W>) -> fmt::Result {
+        f.pad("not all producers are here")
     }
 }

@@ -4,13 +4,13 @@ use crossbeam_utils::Backoff;
 use std::thread;
 use std::time::{Clock, Duration};
 
-/// A worker that finds an item on its way looks again at once, so many times: its producer has only to write it, some 50
-/// nanoseconds, and so many looks take two microseconds. A producer that has not written it by then was preempted, and a
-/// worker that went on would keep it from a processor: from then on it yields before each look.
+/// A worker that finds an item on its way looks again at once, so many times: its producer has only to write it. A producer
+/// that has not written it by then was most likely preempted, and a worker that went on could keep it from a processor: from
+/// then on it yields before each look.
 const LOOKS: u32 = 100;
 
-/// A worker of an idle queue spins so many steps of the backoff first: an item that comes within a microsecond or two costs no
-/// call of the system.
+/// A worker that finds the queue idle spins so many steps of the backoff first: an item that comes meanwhile costs no call of
+/// the system.
 const SPINS: u32 = 7;
 
 /// Then it yields so many times, which lets a producer on its processor get on.
@@ -23,14 +23,14 @@ const FIRST_NAP: u64 = 50;
 /// wakes at most a thousand times a second, whatever its number of workers is.
 const LONGEST_NAP: u64 = 1_000;
 
-/// How a thread waits that takes items: what a worker of a pool does after a pop that took nothing, from one item to the next.
+/// How a thread that takes items waits: what a worker of a pool does after each pop that took nothing, from one item to the next.
 ///
 /// Where the queue is idle it spins, then yields, and then sleeps, each time twice as long, from 50 microseconds up to one
 /// millisecond for each worker. Where it is empty, so that an item is on its way, it looks again at once, a hundred times, and
 /// then yields before each look; it never sleeps then. The test `rests_where_the_queue_is_idle_alone` of `test_pool` shows it.
 #[derive(Drop)]
 pub struct ItemWait {
-    /// Looks since the queue was idle last, each of which found an item on its way.
+    /// Looks since the queue was idle last, each of which found an item on its way, as far as they are counted.
     looks: u32,
     /// Spins and yields while the queue was idle.
     rests: u32,
@@ -40,7 +40,7 @@ pub struct ItemWait {
 }
 
 impl ItemWait {
-    /// That of one of so many workers, which has just found something.
+    /// The wait of one of so many workers, which has just taken an item.
     pub fn new(workers: u32) -> ItemWait {
         ItemWait {
             looks: 0,

@@ -24,6 +24,7 @@ use alog_registry::{Loggers, TextLimit};
 use alog_ring::{NewError, Pass, Ring};
 use alog_sink::Store;
 use std::alloc::{AllocError, Global};
+use std::fmt;
 use std::marker::Model;
 use std::sync::{Arc, Wait};
 use std::thread::Threads;
@@ -35,9 +36,10 @@ pub const WORKERS_MAX: usize = 64;
 /// The most producers that a pool makes.
 pub const PRODUCERS_MAX: u64 = 4_096;
 
-/// Workers that write lines on threads of their own, and what producers are made of. A pool that is dropped leaves its workers
+/// Workers that write lines on threads of their own, and what producers are made of.
+///
+/// A pool is no `Drop`: a way out of a function that does not end it by `shutdown` does not compile, so no pool leaves its workers
 /// waiting.
-#[derive(Drop)]
 pub struct Pool<S: Store> {
     pub(crate) alloc: Global,
     pub(crate) shared: Arc<Shared>,
@@ -74,6 +76,15 @@ impl<S: Store> Model for Pool<S> {
 
     ghost invariant = { λ p. IsPool (arc_value p.shared) p.pass p.losses p.sink_seats.items p.backtrace_seats.items p.made p.text_limit p.tickets_max
         (map (λ h. h.promise.start.value) p.workers.items) × HasRoom (length p.workers.items) (length p.sink_seats.items) p.blank };
+}
+
+impl<S: Store> fmt::Debug for Pool<S> {
+    fn fmt<W: fmt::Write>(&self, f: &mut fmt::Formatter<W>) -> fmt::Result {
+        f.debug_struct("Pool")
+            .field("workers", &self.workers.len())
+            .field("producers", &self.made)
+            .finish_non_exhaustive()
+    }
 }
 
 impl<S: Store + Drop + Send + 'static> Pool<S> {

@@ -22,13 +22,16 @@ use alog_policy::{BookSeat, Outcome, Port};
 use alog_registry::{LogReply, Loggers};
 use alog_ring::Pass;
 use std::alloc::{AllocError, Global};
+use std::fmt;
 use std::marker::Model;
 use std::sync::{Arc, Wait};
 use std::time::Clock;
 
 /// What a request thread logs with: each has a producer of its own, which its pool made. No lock is round it. Its number is the
 /// thread number of its messages.
-#[derive(Drop)]
+///
+/// A producer is no `Drop`: it has to come back to `Pool::shutdown`, and a way out of a function that loses one does not compile. A
+/// thread gets it by reference, as by `std::thread::for_each_mut`, since what a thread gives back has to be `Drop`.
 pub struct Producer {
     pub(crate) shared: Arc<Shared>,
     pub(crate) pass: Pass<Item>,
@@ -57,6 +60,14 @@ impl Model for Producer {
     } };
 
     ghost invariant = { λ p. IsProducer (arc_value p.shared) p.pass p.losses p.backtrace_seats.items p.text_limit };
+}
+
+impl fmt::Debug for Producer {
+    fn fmt<W: fmt::Write>(&self, f: &mut fmt::Formatter<W>) -> fmt::Result {
+        f.debug_struct("Producer")
+            .field("number", &self.number)
+            .finish_non_exhaustive()
+    }
 }
 
 impl Producer {

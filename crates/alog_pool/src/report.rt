@@ -6,6 +6,7 @@ ghost use Rattle.alog_pool.specs.Room.{HasRoom};
 use alog_policy::Counts;
 use alog_sink::{Sink, Store};
 use std::alloc::{AllocError, Global};
+use std::fmt;
 
 /// What became of the texts and flushes that the producers of a pool logged, each number modulo 2^64. What was asked was posted or
 /// discarded, and what was posted was overrun or handled. Stops are not counted.
@@ -33,6 +34,16 @@ pub struct Report<S: Store> {
     pub faults: Vec<u64>,
     /// The sinks, in the order of the setup.
     pub sinks: Vec<Sink<S>>,
+}
+
+impl<S: Store> fmt::Debug for Report<S> {
+    fn fmt<W: fmt::Write>(&self, f: &mut fmt::Formatter<W>) -> fmt::Result {
+        f.debug_struct("Report")
+            .field("totals", &self.totals)
+            .field("tickets", &self.tickets)
+            .field("faults", &self.faults)
+            .finish_non_exhaustive()
+    }
 }
 
 impl Totals {

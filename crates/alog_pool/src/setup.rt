@@ -1,6 +1,7 @@
 //! What a pool is started with.
 use alog_registry::Loggers;
 use alog_sink::{Sink, Store};
+use std::fmt;
 
 /// What a pool is started with. The sinks that a logger names are among these, by number, and each writes any text of the limit.
 #[derive(Drop)]
@@ -17,4 +18,16 @@ pub struct Setup<S: Store> {
     pub text_limit: usize,
     pub loggers: Loggers,
     pub sinks: Vec<Sink<S>>,
+}
+
+impl<S: Store> fmt::Debug for Setup<S> {
+    fn fmt<W: fmt::Write>(&self, f: &mut fmt::Formatter<W>) -> fmt::Result {
+        f.debug_struct("Setup")
+            .field("queue", &self.queue)
+            .field("first", &self.first)
+            .field("workers", &self.workers)
+            .field("tickets_max", &self.tickets_max)
+            .field("text_limit", &self.text_limit)
+            .finish_non_exhaustive()
+    }
 }

@@ -103,7 +103,8 @@ fn gather(shared: &Shared, pass: &mut Pass<Item>, losses: &mut BookSeat, produce
     ensures seats { HasSeatsBack losses.old.known losses.new.known (map loss_member producers.items) }
     ensures accounts { AreAccounts producers.items }
 {
-    for producer in producers {
+    let mut rest = producers.into_iter();
+    while let Some(producer) = rest.next() {
         let Producer {
             shared: _,
             pass: own,
@@ -115,6 +116,7 @@ fn gather(shared: &Shared, pass: &mut Pass<Item>, losses: &mut BookSeat, produce
         shared.ring.join(pass, own);
         shared.book.join(losses, seat);
     }
+    rest.destroy_empty();
 }
 
 /// Waits for each worker, in their order: takes its pass and its places back, and lists its tickets. Answers how many texts and

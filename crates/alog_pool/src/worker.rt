@@ -221,7 +221,8 @@ fn take_waiting<R: Wait + Clock>(
     unreachable!()
 }
 
-/// Whether a pop found that no ticket is left: at the last one it is idle, where a smaller one may still be claimed.
+/// Whether a pop found that no ticket is left and none will come: the queue is idle at 2^62. Where it is idle or empty at a
+/// smaller ticket, one may still come.
 fn is_end(error: PopError) -> bool
     ensures { IsTrue result ↔ (error ≡ Idle last) }
 {

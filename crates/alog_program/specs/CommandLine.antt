@@ -33,12 +33,12 @@ replay_app = with_rules (new_app (codes "replay")) (option_of (codes "config") �
 -- `alog format`, and of it the options that say what a message is of
 abbrev pub origin_options : List Rule
 origin_options = option_of (codes "level") ∷ option_of (codes "thread") ∷ option_of (codes "process") ∷ option_of (codes "file")
-    ∷ option_of (codes "line") ∷ option_of (codes "function") ∷ []
+    ∷ option_of (codes "line") ∷ option_of (codes "function") ∷ option_of (codes "previous") ∷ []
 
 abbrev pub format_app : App
 format_app = with_rules (with_rules (new_app (codes "format"))
     (argument_of (codes "PATTERN") ∷ argument_of (codes "TEXT") ∷ option_of (codes "time") ∷ option_of (codes "offset")
-    ∷ option_of (codes "name") ∷ [])) origin_options
+    ∷ option_of (codes "zone") ∷ option_of (codes "name") ∷ [])) origin_options
 
 -- `alog check`
 abbrev pub check_app : App

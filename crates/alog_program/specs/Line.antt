@@ -16,9 +16,10 @@ abbrev pub message_of : LineRequest → Message
 message_of r =
     record { logger = 0; level = r.level; time = r.time; thread = r.thread; text = r.text.now; source = source_of r.source }
 
--- the bytes are the message's line, by the items that the pattern reads as
+-- the bytes are the message's line behind one of the previous time, by the items that the pattern reads as
 abbrev pub IsLineOf : LineRequest → List ℕ → Type 0
-IsLineOf r bytes = (items : List Item) × IsReading r.pattern.now items × IsLine r.context items r.name.now (message_of r) bytes
+IsLineOf r bytes =
+    (items : List Item) × IsReading r.pattern.now items × IsLine r.context items r.name.now (message_of r) r.previous bytes
 
 abbrev pub IsPatternTooLong : LineRequest → Type 0
 IsPatternTooLong r = PATTERN_MAX < length r.pattern.now

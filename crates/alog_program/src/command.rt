@@ -53,6 +53,7 @@ fn format<'a>(alloc: Global) -> Result<Command<'a>, AllocError>
         .arg(argument(alloc, "TEXT", "The text of the message"))?
         .arg(option(alloc, "time", "N", TIME_HELP))?
         .arg(option(alloc, "offset", "N", OFFSET_HELP))?
+        .arg(option(alloc, "zone", "RULE", ZONE_HELP))?
         .arg(option(alloc, "name", "N", "The name of the logger [none]"))?;
     with_origin(alloc, command)
 }
@@ -68,7 +69,8 @@ fn with_origin<'a>(alloc: Global, command: Command<'a>) -> Result<Command<'a>, A
         .arg(option(alloc, "process", "N", "The number of the process [0]"))?
         .arg(option(alloc, "file", "F", "The file of the source"))?
         .arg(option(alloc, "line", "N", LINE_HELP))?
-        .arg(option(alloc, "function", "F", "The function of the source"))
+        .arg(option(alloc, "function", "F", "The function of the source"))?
+        .arg(option(alloc, "previous", "N", PREVIOUS_HELP))
 }
 
 /// The command `alog check`.
@@ -120,9 +122,14 @@ const TIME_HELP: &str = "Nanoseconds since 1970 UTC; where negative, as --time=N
 
 const OFFSET_HELP: &str = "Minutes east of UTC, -1439 to 1439; where negative, as --offset=N [0]";
 
+const ZONE_HELP: &str =
+    "The POSIX rule of the zone, as CET-1CEST,M3.5.0,M10.5.0/3, in place of --offset [none]";
+
 const LEVEL_HELP: &str = "trace, debug, info, warning, error, critical or off [info]";
 
 const LINE_HELP: &str = "The line of the source, which --line alone does not make [0]";
+
+const PREVIOUS_HELP: &str = "The time of the message before, as --time has it [none]";
 
 const CONFIG_HELP: &str =
     "The configuration, in TOML, whose loggers and sinks the script drives [none]";
@@ -168,8 +175,8 @@ const FORMAT_HELP: &str =
     "Print the line of a message by a pattern, after spdlog's custom formatting.
 
 PATTERN has at most 256 bytes, TEXT 2048, --name 64, --file 256 and --function 128. Negative numbers
-are written with `=`: --time=N, --offset=N. A source is made by --file or --function; --line alone
-makes none.
+are written with `=`: --time=N, --offset=N, --previous=N. A source is made by --file or --function;
+--line alone makes none.
 
 Flags of a pattern:
 
@@ -181,6 +188,10 @@ Flags of a pattern:
   %r 03:35:46 PM    %R HH:MM          %T %X HH:MM:SS    %c Sat Feb 3 15:35:46 2024
   %z offset +02:00  %E epoch seconds  %@ file:line      %s %g file, its last part or whole
   %# line           %! function       %^ %$ nothing
+
+Since the message before, rounded down, and 0 without one or where time went back:
+
+  %u nanoseconds    %i microseconds   %o milliseconds   %O seconds
 
 Between % and the flag may stand a side (- left, = centre, else right), a width of at most 64, and
 behind the width a ! that cuts what is longer: %8l, %-8l, %=8l, %3!l.
@@ -195,7 +206,8 @@ const CHECK_HELP: &str = "Say whether a file has a configuration: `ok`, or what 
 A configuration is a document in TOML. Its tables, keys, values and defaults:
 
   top        queue (a power of two from 2 to 65536) [8192], workers (1 to 64) [1], text (64 to 8192) [2048],
-             offset (minutes, -1439 to 1439) [0], process (0 to 4294967295) [0]
+             offset (minutes, -1439 to 1439) [0], or in its place zone (a POSIX rule of 1 to 64 bytes, as
+             CET-1CEST,M3.5.0,M10.5.0/3), process (0 to 4294967295) [0]
   [[sink]]   name, kind (memory, rotating, daily, fan), level [trace]
     no fan   pattern [%+], file [for memory the name of the sink]
     rotating max_size (1 to 1099511627776), max_files (0 to 1000)

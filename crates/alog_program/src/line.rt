@@ -109,6 +109,7 @@ pub fn line_of(alloc: Global, request: &LineRequest<'_>) -> Result<LineBuf, Line
         &request.context,
         request.name,
         &message,
+        request.previous,
         &mut line,
     );
     Ok(line)

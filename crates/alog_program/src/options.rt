@@ -1,10 +1,11 @@
 //! The values of the options of `alog format`.
 ghost use Rattle.std.specs.Prelude.{◌≡◌, ◌↔◌, IsNone, IfOk, IfErr, IfSome, MatchOption, Some, codes, neg_ℤ, pos, ◌≤ℤ◌};
 ghost use Rattle.std.specs.Str.Parse.{digits_value, signed_digits_value};
+ghost use Rattle.alog_format.specs.Civil.{IsZone};
 ghost use Rattle.alog_msg.specs.Level.{Names};
 ghost use Rattle.alog_msg.specs.Message.{fields_of};
-ghost use Rattle.alog_program.specs.Options.{value_of, text_of, name_of, allowed_of, Allows, IsAllowed, IsNumber, IsSignedNumber, IsLevel, AsksFor};
-ghost use Rattle.alog_program.specs.Options.{Refuses, IsFirstRefused};
+ghost use Rattle.alog_program.specs.Options.{value_of, text_of, name_of, allowed_of, Allows, IsAllowed, IsClock, IsNumber, IsSignedNumber, IsTime, IsLevel, AsksFor};
+ghost use Rattle.alog_program.specs.Options.{MayStand, Refuses, IsFirstRefused};
 ghost use Rattle.alog_program.specs.declared.options.Allowed.TheVariants.{Signed, Unsigned, LevelName};
 
 use crate::request::LineRequest;
@@ -20,10 +21,12 @@ use thiserror::Error;
 pub enum FormatOption {
     Time,
     Offset,
+    Zone,
     Level,
     Thread,
     Process,
     Line,
+    Previous,
 }
 
 /// What the value of an option may be.
@@ -33,6 +36,8 @@ pub enum Allowed {
     Signed { least: i64, most: i64 },
     /// A decimal number without a sign, and no more than this.
     Unsigned { most: u64 },
+    /// A POSIX rule, and no offset beside it.
+    ZoneRule,
     /// The name of a level.
     LevelName,
 }
@@ -54,10 +59,12 @@ impl FormatOption {
         match self {
             FormatOption::Time => "time",
             FormatOption::Offset => "offset",
+            FormatOption::Zone => "zone",
             FormatOption::Level => "level",
             FormatOption::Thread => "thread",
             FormatOption::Process => "process",
             FormatOption::Line => "line",
+            FormatOption::Previous => "previous",
         }
     }
 
@@ -66,7 +73,7 @@ impl FormatOption {
         ensures { result ≡ allowed_of self }
     {
         match self {
-            FormatOption::Time => Allowed::Signed {
+            FormatOption::Time | FormatOption::Previous => Allowed::Signed {
                 least: i64::MIN,
                 most: i64::MAX,
             },
@@ -74,6 +81,7 @@ impl FormatOption {
                 least: i64::from(-OFFSET_MAX),
                 most: i64::from(OFFSET_MAX),
             },
+            FormatOption::Zone => Allowed::ZoneRule,
             FormatOption::Level => Allowed::LevelName,
             FormatOption::Thread => Allowed::Unsigned { most: u64::MAX },
             FormatOption::Process | FormatOption::Line => Allowed::Unsigned {
@@ -102,6 +110,9 @@ impl Display for Allowed {
                 "a number from {least} to {most}, without +"
             ),
             Allowed::Unsigned { most } => write!(f, "a number from 0 to {most}, without a sign"),
+            Allowed::ZoneRule => f.write_str(
+                "a POSIX rule of 1 to 64 bytes, as CET-1CEST,M3.5.0,M10.5.0/3, without --offset",
+            ),
             Allowed::LevelName => f.write_str(
                 "trace, debug, info, warning, error, critical or off",
             ),
@@ -116,11 +127,13 @@ pub(crate) fn line_request<'a>(matches: &ArgMatches<'a>) -> Result<LineRequest<'
 {
     let time = signed(matches, FormatOption::Time, i64::MIN, i64::MAX)?;
     let offset = offset(matches)?;
+    let zone = zone(matches, offset)?;
     let level = level(matches)?;
     let thread = unsigned(matches, FormatOption::Thread, u64::MAX)?;
     let most = u64::from(u32::MAX);
     let process = unsigned(matches, FormatOption::Process, most)?;
     let line = unsigned(matches, FormatOption::Line, most)?;
+    let previous = previous(matches)?;
     Ok(LineRequest {
         pattern: text(matches, "PATTERN"),
         text: text(matches, "TEXT"),
@@ -130,9 +143,10 @@ pub(crate) fn line_request<'a>(matches: &ArgMatches<'a>) -> Result<LineRequest<'
         thread,
         source: source(matches, line as u32),
         context: Context {
-            zone: Zone::Fixed(offset),
+            zone,
             process: process as u32,
         },
+        previous,
     })
 }
 
@@ -148,6 +162,44 @@ fn offset<'a>(matches: &ArgMatches<'a>) -> Result<i16, ValueError<'a>>
     Ok(minutes as i16)
 }
 
+/// The time of the message before, where it is given.
+fn previous<'a>(matches: &ArgMatches<'a>) -> Result<Option<i64>, ValueError<'a>>
+    ensures read { IfOk result (IsTime (value_of matches.now (codes "previous"))) }
+    ensures allowed { IfOk result (λ _. IsAllowed (value_of matches.now) FormatOption.Previous) }
+    ensures refused { IfErr result (Refuses (value_of matches.now) FormatOption.Previous) }
+{
+    let option = FormatOption::Previous;
+    match matches.get_str(option.name()) {
+        None => Ok(None),
+        Some(text) => match signed_number(text, i64::MIN, i64::MAX) {
+            Some(time) => Ok(Some(time)),
+            None => Err(option.refuse(text)),
+        },
+    }
+}
+
+/// The zone of a rule, or so many minutes east of UTC where none is given. No rule stands beside an offset.
+fn zone<'a>(matches: &ArgMatches<'a>, minutes: i16) -> Result<Zone, ValueError<'a>>
+    requires read { IsSignedNumber (value_of matches.now (codes "offset")) minutes }
+    requires near { (neg_ℤ OFFSET_MAX ≤ℤ minutes) × (minutes ≤ℤ OFFSET_MAX) }
+    ensures read { IfOk result (IsClock (value_of matches.now (codes "zone")) (value_of matches.now (codes "offset"))) }
+    ensures near { IfOk result IsZone }
+    ensures allowed { IfOk result (λ _. IsAllowed (value_of matches.now) FormatOption.Zone) }
+    ensures refused { IfErr result (Refuses (value_of matches.now) FormatOption.Zone) }
+{
+    let option = FormatOption::Zone;
+    let Some(rule) = matches.get_str(option.name()) else {
+        return Ok(Zone::Fixed(minutes));
+    };
+    if matches.get_str("offset").is_some() {
+        return Err(option.refuse(rule));
+    }
+    match Zone::rule(rule) {
+        Some(zone) => Ok(zone),
+        None => Err(option.refuse(rule)),
+    }
+}
+
 /// The value of a signed option, or 0 where it is not given.
 fn signed<'a>(
     matches: &ArgMatches<'a>,
@@ -155,7 +207,8 @@ fn signed<'a>(
     least: i64,
     most: i64,
 ) -> Result<i64, ValueError<'a>>
-    requires { allowed_of option ≡ Signed least most }
+    requires kind { allowed_of option ≡ Signed least most }
+    requires stands { MayStand (value_of matches.now) option }
     ensures read { IfOk result (λ number. IsSignedNumber (value_of matches.now (name_of option)) number) }
     ensures near { least ≤ℤ pos 0 → pos 0 ≤ℤ most → IfOk result (λ number. (least ≤ℤ number) × (number ≤ℤ most)) }
     ensures allowed { IfOk result (λ _. IsAllowed (value_of matches.now) option) }
@@ -173,7 +226,8 @@ fn unsigned<'a>(
     option: FormatOption,
     most: u64,
 ) -> Result<u64, ValueError<'a>>
-    requires { allowed_of option ≡ Unsigned most }
+    requires kind { allowed_of option ≡ Unsigned most }
+    requires stands { MayStand (value_of matches.now) option }
     ensures read { IfOk result (λ number. IsNumber (value_of matches.now (name_of option)) number) }
     ensures allowed { IfOk result (λ _. IsAllowed (value_of matches.now) option) }
     ensures refused { IfErr result (Refuses (value_of matches.now) option) }

@@ -16,6 +16,8 @@ pub struct LineRequest<'a> {
     pub source: Option<SourceRef<'a>>,
     /// The zone and the process.
     pub context: Context,
+    /// The time of the message before.
+    pub previous: Option<i64>,
 }
 
 /// A load to be made through the loggers and sinks of a configuration.

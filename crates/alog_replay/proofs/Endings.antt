@@ -1,7 +1,7 @@
 -- What a replay has written where it ends.
 use Rattle.std.proofs.Common.{◌≡◌, ℕ, ◌+◌, Option, List, [], ◌∷◌, ◌++◌, Result, Ok, Err, inl, inr, refl, sym, ap}
 use Rattle.std.proofs.Common.{subst, ◌∙◌, append_assoc}
-use Rattle.std.specs.Prelude.{IfSome, OnOk, OnErr}
+use Rattle.std.specs.Prelude.{IfSome, OnErr}
 use Rattle.std.proofs.lemmas.List.{append-nil}
 use Rattle.std.specs.Io.KnownBytes.{Appends, prepend_known}
 use Rattle.alog_replay.specs.Known.{WhereKnown}
@@ -20,10 +20,6 @@ use Rattle.alog_replay.proofs.Telling.{text_behind}
 pub on_any_err : {T E P : Type 0} (r : Result T E) → P → OnErr r P
 on_any_err (Ok x) p = tt
 on_any_err (Err e) p = p
-
-pub on_ok_too : {T E P Q : Type 0} (r : Result T E) → (P → Q) → OnOk r P → OnOk r Q
-on_ok_too (Ok x) f p = f p
-on_ok_too (Err e) f p = tt
 
 -- a front of what may follow was written behind the text so far
 front_of : (text : List ℕ) (t : Told) (old mid new : Option (List ℕ)) → Appends old mid text → WritesFrontOf (text_of t) mid new

@@ -4,7 +4,7 @@ use Rattle.alog_replay.specs.Lines.{lines_of}
 use Rattle.alog_replay.specs.declared.limits.TheConstants.{STEPS_MAX}
 use Rattle.alog_replay.specs.Scene.{Scene, Played, Done, Refused, behind, WhereTrue, StepThen, Makes, Plays, GoesOn, IsCertain}
 use Rattle.alog_replay.specs.Scene.{refused, done}
-use Rattle.alog_replay.specs.Script.{Told, Whole, RefusedAt, told_behind, Tells, TellsLine, TellsPlayed, TellsSomething, TellsOneThing}
+use Rattle.alog_replay.specs.Script.{Told, Whole, RefusedAt, told_behind, Tells, TellsLine, TellsPlayed, TellsSomething, ScriptTells}
 use Rattle.alog_replay.specs.declared.command.Act.{Act}
 use Rattle.alog_replay.specs.declared.command.Command.{Command}
 use Rattle.alog_replay.specs.declared.command.Command.TheVariants.{Acts, Step, Run}
@@ -122,5 +122,7 @@ module _ {S : Type 0} (scene : Scene S) (certain : IsCertain scene) where
       let same : g.0 ≡ h.0 = same_entry line g.0 h.0 g.1 h.1 in
       one_line s n h.0 rest (λ next. one_told lines next (n + 1)) t u h.2 (subst (λ (e : Entry). TellsLine scene s n e rest u) same g.2)
 
-pub one_script : {S : Type 0} (scene : Scene S) → TellsOneThing scene
+-- a script tells one thing alone on a scene of which each relation does
+pub one_script : {S : Type 0} (scene : Scene S) → IsCertain scene → (s : S) (script : List ℕ) (t u : Told) → ScriptTells scene s script t
+    → ScriptTells scene s script u → t ≡ u
 one_script scene certain s script t u h g = one_told scene certain (lines_of script) s 0 t u h g

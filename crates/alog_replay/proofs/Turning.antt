@@ -1,5 +1,5 @@
 -- What a turn of the sink `memory` does to its file.
-use Rattle.std.proofs.Common.{◌≡◌, ◌≤◌, ℕ, Bool, true, false, cond, Option, None, List, [], ◌∷◌, ◌++◌, length}
+use Rattle.std.proofs.Common.{◌≡◌, ◌≤◌, ℕ, ℤ, Bool, true, false, cond, Option, None, List, [], ◌∷◌, ◌++◌, length}
 use Rattle.std.proofs.Common.{Ok, Err, refl, sym, ap, subst, ◌∙◌, inl, inr, arith}
 use Rattle.std.specs.Prelude.{is_ok}
 use Rattle.std.proofs.lemmas.List.{append-nil}
@@ -14,11 +14,11 @@ use Rattle.alog_format.specs.Line.{line_text}
 use Rattle.alog_format.specs.Text.{Shown, flag_text}
 use Rattle.alog_sink.specs.Calls.{LeavesFront}
 use Rattle.alog_sink.specs.Deeds.{Deed, Append, BreaksOff, Fails, all_done}
-use Rattle.alog_sink.specs.Files.{Files}
-use Rattle.alog_sink.specs.Kept.{IsKept, IsSameTarget, deeds_of}
-use Rattle.alog_sink.specs.Lines.{Written, IsWrittenOf, AreWrittenOf, admits, admitted}
+use Rattle.alog_sink.specs.Files.{Files, AreSame}
+use Rattle.alog_sink.specs.Kept.{IsSameTarget, deeds_of}
+use Rattle.alog_sink.specs.Lines.{Written, IsWrittenOf, admits}
 use Rattle.alog_sink.specs.Sinks.{MayTake, SinkTakes}
-use Rattle.alog_sink.specs.Turn.{Answer, LeafView, StandsFor, Takes}
+use Rattle.alog_sink.specs.Turn.{Answer, LeafView, Takes}
 use Rattle.alog_sink.specs.declared.face.Face.{Face}
 use Rattle.alog_sink.specs.declared.leaf.SinkError.TheVariants as errors
 use Rattle.alog_sink.specs.declared.leaf.Taken.TheVariants.{Below, Written as Wrote}
@@ -49,17 +49,11 @@ text_line : (s : Shown) → line_text s (Flag Text None ∷ []) ≡ line s.messa
 unfolding flag_text
 text_line s = ap (λ bs. bs ++ 10 ∷ []) (append-nil s.message.text)
 
-the_line : (face : Face) (m : Message) (w : Written) → face.pattern.items ≡ Flag Text None ∷ [] → IsWrittenOf face m w
-    → w.line ≡ line m.text
-the_line face m w items is =
+the_line : (face : Face) (previous : Option ℤ) (m : Message) (w : Written) → face.pattern.items ≡ Flag Text None ∷ []
+    → IsWrittenOf face previous m w → w.line ≡ line m.text
+the_line face previous m w items is =
     let shown = is.0 in
     shown.2 ∙ (ap (line_text shown.0) items ∙ (text_line shown.0 ∙ ap (λ (s : Shown). line s.message.text) shown.1.2))
-
-one_written : (face : Face) (m : Message) (ws : List Written) → AreWrittenOf face (m ∷ []) ws
-    → (w : Written) × (ws ≡ w ∷ []) × IsWrittenOf face m w
-one_written face m [] are = absurd are
-one_written face m (w ∷ []) are = (w, refl, are.0)
-one_written face m (w ∷ v ∷ ws) are = absurd are.1
 
 same_memory : {name : List ℕ} (t : Target) → IsSameTarget (Memory (record { file = name })) t → t ≡ Memory (record { file = name })
 same_memory (Memory k) e = ap Memory e
@@ -100,28 +94,13 @@ module _ {S : Type 0} (tells : Bool) (files : S → Files) (failures : S → ℕ
       room = subst (λ (f : Face). longest f.pattern ≡ capacity) (sym takes.face) is.room;
     }
 
-    its_lines : (ws : List Written) → n.face ≡ o.face → AreWrittenOf n.face (admitted n.face.level (m ∷ [])) ws
-        → AreWrittenOf o.face (m ∷ []) ws
-    its_lines ws same are =
-        let here = subst (λ (f : Face). AreWrittenOf f (admitted f.level (m ∷ [])) ws) same are in
-        subst (λ b. AreWrittenOf o.face (cond b (m ∷ []) []) ws) admitted_all here
-
     wrote : Takes tells files failures o m (Ok Wrote) n → Turns true (file_of files (Leaf o)) m.text true (file_of files (Leaf n))
     wrote takes =
-        let opening = files o.store in
         let sound : o.broken ≡ false = whole (Ok Wrote) takes (λ e. cc) in
-        let start : StandsFor files o opening [] = record {
-          whole = sound;
-          written = [];
-          lines = tt;
-          kept = subst (λ t. IsKept t opening [] opening) (sym is.target) (λ name. refl);
-        } in
-        let ends = takes.stands is.tells_all opening [] start in
-        let w = one_written o.face m ends.written (its_lines ends.written takes.face ends.lines) in
-        let has = subst (λ (ws : List Written). IsKept n.target opening ws (files n.store)) w.1 ends.kept in
-        let at = subst (λ (t : Target). IsKept t opening (w.0 ∷ []) (files n.store)) (target_stays (Ok Wrote) takes) has in
-        let text : w.0.line ++ [] ≡ line m.text = append-nil w.0.line ∙ the_line o.face m w.0 is.items w.2 in
-        (sound, turned (at memory_name ∙ ap (with_bytes (opening memory_name)) text) (ends.whole ∙ sym sound))
+        let w = takes.writes is.tells_all refl in
+        let has = subst (λ t. AreSame (all_done (deeds_of t w.0) (files o.store)) (files n.store)) is.target w.2 in
+        let text : w.0.line ≡ line m.text = the_line o.face o.previous m w.0 is.items w.1 in
+        (sound, turned (has memory_name ∙ ap (with_bytes (files o.store memory_name)) text) (takes.wrote refl ∙ sym sound))
       where
         turned : {bytes : Option (List ℕ)} → files n.store memory_name ≡ bytes → n.broken ≡ o.broken
             → file_of files (Leaf n) ≡ record { bytes = bytes; broken = o.broken }
@@ -136,7 +115,7 @@ module _ {S : Type 0} (tells : Bool) (files : S → Files) (failures : S → ℕ
           refl,
           takes.failed refl,
           where_false o.broken _ _ (whole (Err errors.Store) takes (λ e. cc))
-              (front_left (files o.store) (files n.store) w.line m.text (the_line o.face m w is.items broke.1) left),
+              (front_left (files o.store) (files n.store) w.line m.text (the_line o.face o.previous m w is.items broke.1) left),
         )
 
     again : Takes tells files failures o m (Err errors.Broken) n → Turns true (file_of files (Leaf o)) m.text false (file_of files (Leaf n))

@@ -14,7 +14,7 @@ use Rattle.alog_registry.specs.declared.work.SinkDeed.TheVariants as does
 use Rattle.alog_registry.specs.declared.work.SinkTurn.{SinkTurn}
 use Rattle.alog_sink.specs.Files.{Files}
 use Rattle.alog_sink.specs.Kept.{IsSameTarget}
-use Rattle.alog_sink.specs.Lines.{AreWrittenOf, admits, admitted}
+use Rattle.alog_sink.specs.Lines.{AreWrittenOf, admits, admitted, last_time}
 use Rattle.alog_sink.specs.Sinks.{SinkFlushes, SinkTakes}
 use Rattle.alog_sink.specs.Turn.{AllFlush, AllTake, Answer, FanView, Flushes, LeafView, Takes, first_fault}
 use Rattle.alog_sink.specs.declared.leaf.SinkError.{SinkError}
@@ -78,9 +78,11 @@ module _ {S : Type 0} (tells : Bool) (files : S → Files) (failures : S → ℕ
     stands = λ t opening ms s. record {
       whole = s.whole;
       written = s.written;
-      lines = subst (λ (xs : List Message). AreWrittenOf l.face xs s.written) (sym (not_admitted l.face.level ms m h)) s.lines;
+      lines = subst (λ (xs : List Message). AreWrittenOf l.face None xs s.written) (sym (not_admitted l.face.level ms m h)) s.lines;
       kept = s.kept;
+      previous = s.previous ∙ ap (last_time None) (sym (not_admitted l.face.level ms m h));
     };
+    writes = λ t e. absurd (subst IsBelow e tt);
     breaks = λ t e. absurd (subst IsBelow e tt);
   }
 
@@ -97,6 +99,7 @@ module _ {S : Type 0} (tells : Bool) (files : S → Files) (failures : S → ℕ
     rose = λ e r. absurd (subst IsBroken e tt);
     stayed = tt;
     stands = λ t opening ms s. tt;
+    writes = λ t e. absurd (subst IsBroken e tt);
     breaks = λ t e. absurd (subst IsBroken e tt);
   }
 

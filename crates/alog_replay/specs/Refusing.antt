@@ -26,7 +26,7 @@ any_writes m (l ∷ leaves) = if writes m l then true else any_writes m leaves
 
 -- the leaf once its store refused
 abbrev pub broken_leaf : {S : Type 0} → LeafView S → LeafView S
-broken_leaf l = record { face = l.face; target = l.target; store = l.store; broken = true }
+broken_leaf l = record { face = l.face; target = l.target; store = l.store; broken = true; previous = l.previous }
 
 abbrev pub refused_leaf : {S : Type 0} → Message → LeafView S → LeafView S
 refused_leaf m l = if writes m l then broken_leaf l else l

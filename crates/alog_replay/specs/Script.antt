@@ -3,7 +3,7 @@ use Rattle.std.specs.Prelude.{◌≡◌, ℕ, ◌+◌, ◌⊎◌, Option, List, 
 use Rattle.std.specs.Io.KnownBytes.{Appends}
 use Rattle.alog_replay.specs.Known.{WhereKnown}
 use Rattle.alog_replay.specs.Lines.{lines_of}
-use Rattle.alog_replay.specs.Scene.{Scene, Played, Done, Refused, IsDone, IsRefused, Plays, GoesOn, IsCertain}
+use Rattle.alog_replay.specs.Scene.{Scene, Played, Done, Refused, IsDone, IsRefused, Plays, GoesOn}
 use Rattle.alog_replay.specs.Entry.{IsEntry}
 use Rattle.alog_replay.specs.declared.error.ReplayError.{ReplayError}
 use Rattle.alog_replay.specs.declared.error.ReplayError.TheVariants as fault
@@ -49,11 +49,6 @@ ScriptTells scene s script t = Tells scene s 0 (lines_of script) t
 -- each script tells something on a scene that goes on
 abbrev pub TellsSomething : {S : Type 0} → Scene S → Type 0
 TellsSomething {S} scene = GoesOn scene → (s : S) (script : List ℕ) → (t : Told) × ScriptTells scene s script t
-
--- a script tells one thing alone on a scene of which each relation does
-abbrev pub TellsOneThing : {S : Type 0} → Scene S → Type 0
-TellsOneThing {S} scene =
-    IsCertain scene → (s : S) (script : List ℕ) (t u : Told) → ScriptTells scene s script t → ScriptTells scene s script u → t ≡ u
 
 -- a line was carried out: what was printed behind what stood there, and the stage after it
 abbrev pub EntryDone : {S : Type 0} → Scene S → S → Entry → List ℕ → List ℕ → S → Type 0

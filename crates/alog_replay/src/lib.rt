@@ -44,5 +44,5 @@ pub use entry::{one_command, one_entry};
 pub use error::{LineError, ReplayError};
 pub use of_config::replay_config;
 pub use places::Place;
-pub use player::{one_text, play, replay, tells_one_thing, tells_something};
+pub use player::{one_text, play, replay, tells_something};
 pub use scene::Playable;

@@ -4,7 +4,7 @@ ghost use Rattle.std.specs.Prelude.{IfOk, IfErr, IfSome, OnOk, OnErr, IsErrOf};
 ghost use Rattle.std.specs.Io.KnownBytes.{Appends};
 ghost use Rattle.alog_replay.specs.Scene.{IsDone, IsRefused, Makes, Runs, Plays, refused};
 ghost use Rattle.alog_replay.specs.Script.{Whole, RefusedAt, LineDone, LineRefused, WritesLine, WritesRefused, WritesLineFront};
-ghost use Rattle.alog_replay.specs.Script.{WritesFrontOf, IsNoRefusal, WritesText, WritesFront, WasRead, TellsOneThing, TellsSomething};
+ghost use Rattle.alog_replay.specs.Script.{WritesFrontOf, IsNoRefusal, WritesText, WritesFront, WasRead, TellsSomething};
 ghost use Rattle.alog_replay.specs.Plain.{plain, OneText};
 
 use crate::command::{Actor, Command};
@@ -219,12 +219,6 @@ pub fn replay<R: Read, W: Write>(
 /// contract is the law.
 pub fn tells_something<S: Playable>()
     ensures { TellsSomething S.scene }
-{}
-
-/// A script tells one thing alone, its whole text or its first refused line with what was printed before, on a scene
-/// where one thing alone comes of each act and of each step.
-pub fn tells_one_thing<S: Playable>()
-    ensures { TellsOneThing S.scene }
 {}
 
 /// A script without a configuration whose store never fails tells one thing, and one alone. It is among what the script

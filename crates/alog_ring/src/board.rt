@@ -8,6 +8,7 @@ ghost use Rattle.alog_ring.specs.Plays.{saw_next, saw_free, saw_front, saw_full,
 ghost use Rattle.alog_ring.specs.Rule.{word_count};
 ghost use Rattle.alog_ring.specs.Board.{AreFirstWords, Masks, Fills, Empties};
 
+use crate::gate::StepGate;
 use crate::limit::Limit;
 use crate::plays::{
     Admits, Claims, Grabs, SeeEnd, SeeFree, SeeFront, SeeFull, SeeNext, Takes, Writes,
@@ -119,11 +120,12 @@ impl<T, L: Limit<T>> Board<T, L> {
 
     /// Claims the ticket, puts the value that lies in the hand into its place, and writes the ticket. Or answers no, and
     /// leaves the hand as it is, where another has claimed the ticket.
-    pub(crate) fn claim_and_fill(
+    pub(crate) fn claim_and_fill<G: StepGate>(
         &self,
         seat: &mut Seat<Option<T>, View<T, ()>>,
         ticket: u64,
         hand: &mut Option<T>,
+        gate: &G,
     ) -> bool
         requires table { seat.old.table_id ≡ self.now.table.shared.table_id }
         requires stage { seat.old.me.0.stage ≡ SawFree ticket }
@@ -137,11 +139,13 @@ impl<T, L: Limit<T>> Board<T, L> {
     {
         let words = &self.table.shared;
         let place = self.place_of(ticket);
+        gate.before(3);
         let found = words.compare_exchange_with::<Claims>(seat, NEXT, ticket, ticket + 1, hand);
         if found != ticket {
             return false;
         }
         let_go(words.exchange(seat, place, hand.take()));
+        gate.before(4);
         // This publishes the item. Until here nobody else touches the place: only the thread whose exchange moved the position
         // past the ticket may write there, and a pop waits for this very number. All steps are sequentially consistent, so
         // who reads the number finds the item in the place.
@@ -184,11 +188,12 @@ impl<T, L: Limit<T>> Board<T, L> {
 
     /// Grabs the ticket, takes the value out of its place into the hand, and gives the place back for the ticket a lap
     /// later. Or answers no, and leaves the hand empty, where another has grabbed the ticket.
-    pub(crate) fn grab_and_empty<A: Admits<T>>(
+    pub(crate) fn grab_and_empty<A: Admits<T>, G: StepGate>(
         &self,
         seat: &mut Seat<Option<T>, View<T, ()>>,
         ticket: u64,
         hand: &mut Option<T>,
+        gate: &G,
     ) -> bool
         requires table { seat.old.table_id ≡ self.now.table.shared.table_id }
         requires stage { seat.old.me.0.stage ≡ SawFull ticket }
@@ -202,11 +207,13 @@ impl<T, L: Limit<T>> Board<T, L> {
     {
         let words = &self.table.shared;
         let place = self.place_of(ticket);
+        gate.before(3);
         let found = words.compare_exchange_with::<Grabs<A>>(seat, FRONT, ticket, ticket + 1, hand);
         if found != ticket {
             return false;
         }
         let_go(mem::replace(hand, words.exchange(seat, place, None)));
+        gate.before(4);
         // This gives the place back for the ticket a lap later. Until here a push of that ticket finds a lower number, and
         // answers full.
         words.store::<Takes>(seat, place * APART + SEQUENCES, ticket + (self.mask + 1));

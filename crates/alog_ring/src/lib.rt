@@ -16,6 +16,7 @@
 
 mod board;
 mod close;
+mod gate;
 mod limit;
 mod pass;
 mod plays;
@@ -28,6 +29,7 @@ mod wait;
 mod words;
 
 pub use close::PassesOut;
+pub use gate::StepGate;
 pub use limit::{Limit, NoLimit};
 pub use pass::Pass;
 pub use pop::PopError;

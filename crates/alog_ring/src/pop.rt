@@ -5,6 +5,7 @@ ghost use Rattle.alog_ring.specs.Calls.{Popped};
 ghost use Rattle.alog_ring.specs.Refused.{PopRefused};
 
 use crate::board::let_go;
+use crate::gate::{OpenSteps, StepGate};
 use crate::limit::Limit;
 use crate::pass::Pass;
 use crate::ring::Ring;
@@ -65,16 +66,39 @@ impl<T, L: Limit<T>> Ring<T, L> {
         ensures none { IfErr result (λ e. hand.new ≡ None) }
         ensures refused { IfErr result (λ e. PopRefused pass.old.known pass.new.known e) }
     {
+        self.pop_round(pass, hand, &OpenSteps)
+    }
+
+    /// Makes one round of a pop into the empty hand, at this gate.
+    pub(crate) fn pop_round<G: StepGate>(
+        &self,
+        pass: &mut Pass<T>,
+        hand: &mut Option<T>,
+        gate: &G,
+    ) -> Result<u64, PopError>
+        requires ring { IsPassOf self.now pass.old }
+        requires empty { hand.old ≡ None }
+        ensures ring { IsPassOf self.now pass.new }
+        ensures some { IfOk result (λ t. IsSome hand.new) }
+        ensures popped { IfOk result (λ t. IfSome hand.new (Popped pass.old.known pass.new.known t)) }
+        ensures limit { IfSome hand.new (λ x. L.admits self.now.limit x) }
+        ensures none { IfErr result (λ e. hand.new ≡ None) }
+        ensures refused { IfErr result (λ e. PopRefused pass.old.known pass.new.known e) }
+    {
+        let board = &self.board;
         let seat = &mut pass.seat;
-        let next = self.board.see_front(seat);
-        let sequence = self.board.see_full(seat, next);
+        gate.before(1);
+        let next = board.see_front(seat);
+        gate.before(2);
+        let sequence = board.see_full(seat, next);
         if sequence < next + 1 {
-            if self.board.see_end(seat, next) == next {
+            gate.before(5);
+            if board.see_end(seat, next) == next {
                 return Err(PopError::Idle { next });
             }
             return Err(PopError::Empty { next });
         }
-        if sequence > next + 1 || !self.board.grab_and_empty::<Brand>(seat, next, hand) {
+        if sequence > next + 1 || !board.grab_and_empty::<Brand, G>(seat, next, hand, gate) {
             return Err(PopError::Busy { seen: next });
         }
         Ok(next)

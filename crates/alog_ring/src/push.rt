@@ -5,6 +5,7 @@ ghost use Rattle.alog_ring.specs.Calls.{Pushed};
 ghost use Rattle.alog_ring.specs.Refused.{PushRefused};
 
 use crate::board::let_go;
+use crate::gate::{OpenSteps, StepGate};
 use crate::limit::Limit;
 use crate::pass::Pass;
 use crate::ring::Ring;
@@ -38,8 +39,41 @@ impl<T, L: Limit<T>> Ring<T, L> {
         ensures pushed { IfOk result (λ t. Pushed pass.old.known pass.new.known t value) }
         ensures refused { IfErr result (λ e. PushRefused pass.old.known pass.new.known value e) }
     {
+        self.push_value(pass, value, &OpenSteps)
+    }
+
+    /// Puts the value that lies in the hand into the ring if that goes at once, and answers its ticket.
+    ///
+    /// It is `push_once` for a large value: it lies where it is until its place takes it, so it is moved once however
+    /// many rounds are made. A refused push leaves it in the hand. The test `a_hand_is_emptied_once` shows it.
+    pub fn push_from(&self, pass: &mut Pass<T>, hand: &mut Option<T>) -> Result<u64, PushError<()>>
+        requires ring { IsPassOf self.now pass.old }
+        requires there { IsSome hand.old }
+        requires limit { IfSome hand.old (λ x. L.admits self.now.limit x) }
+        ensures ring { IsPassOf self.now pass.new }
+        ensures pushed { IfOk result (λ t. IfSome hand.old (Pushed pass.old.known pass.new.known t)) }
+        ensures emptied { IfOk result (λ t. hand.new ≡ None) }
+        ensures refused { IfErr result (λ e. PushRefused pass.old.known pass.new.known (tt {0}) e) }
+        ensures left { IfErr result (λ e. hand.new ≡ hand.old) }
+    {
+        self.push_round(pass, hand, &OpenSteps)
+    }
+
+    /// Makes one round of a push of the value, at this gate.
+    pub(crate) fn push_value<G: StepGate>(
+        &self,
+        pass: &mut Pass<T>,
+        value: T,
+        gate: &G,
+    ) -> Result<u64, PushError<T>>
+        requires ring { IsPassOf self.now pass.old }
+        requires limit { L.admits self.now.limit value }
+        ensures ring { IsPassOf self.now pass.new }
+        ensures pushed { IfOk result (λ t. Pushed pass.old.known pass.new.known t value) }
+        ensures refused { IfErr result (λ e. PushRefused pass.old.known pass.new.known value e) }
+    {
         let mut hand = Some(value);
-        match self.push_from(pass, &mut hand) {
+        match self.push_round(pass, &mut hand, gate) {
             Ok(ticket) => {
                 let_go(hand);
                 Ok(ticket)
@@ -58,11 +92,13 @@ impl<T, L: Limit<T>> Ring<T, L> {
         }
     }
 
-    /// Puts the value that lies in the hand into the ring if that goes at once, and answers its ticket.
-    ///
-    /// It is `push_once` for a large value: it lies where it is until its place takes it, so it is moved once however
-    /// many rounds are made. A refused push leaves it in the hand. The test `a_hand_is_emptied_once` shows it.
-    pub fn push_from(&self, pass: &mut Pass<T>, hand: &mut Option<T>) -> Result<u64, PushError<()>>
+    /// Makes one round of a push of the value that lies in the hand, at this gate.
+    fn push_round<G: StepGate>(
+        &self,
+        pass: &mut Pass<T>,
+        hand: &mut Option<T>,
+        gate: &G,
+    ) -> Result<u64, PushError<()>>
         requires ring { IsPassOf self.now pass.old }
         requires there { IsSome hand.old }
         requires limit { IfSome hand.old (λ x. L.admits self.now.limit x) }
@@ -73,15 +109,17 @@ impl<T, L: Limit<T>> Ring<T, L> {
         ensures left { IfErr result (λ e. hand.new ≡ hand.old) }
     {
         let seat = &mut pass.seat;
+        gate.before(1);
         let next = self.board.see_next(seat);
         if next == TICKET_END {
             return Err(PushError::Spent { value: () });
         }
+        gate.before(2);
         let sequence = self.board.see_free(seat, next);
         if sequence < next {
             return Err(PushError::Full { value: (), next });
         }
-        if sequence > next || !self.board.claim_and_fill(seat, next, hand) {
+        if sequence > next || !self.board.claim_and_fill(seat, next, hand, gate) {
             return Err(PushError::Busy {
                 value: (),
                 seen: next,

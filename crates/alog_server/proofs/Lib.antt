@@ -1,4 +1,5 @@
 mod Crosses
+pub mod Ending
 mod Homes
 mod Finding
 mod Refusing

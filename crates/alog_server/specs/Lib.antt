@@ -1,3 +1,4 @@
+pub mod Ends
 pub mod Homes
 pub mod Making
 pub mod Reasons

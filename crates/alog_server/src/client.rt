@@ -10,8 +10,7 @@ use alog_pool::Producer;
 use std::alloc::Global;
 use std::marker::{Model, PhantomData};
 
-/// What a thread of a server logs with. `calls.rt` has its calls. Contracts see it as its producer.
-#[derive(Drop)]
+/// What a thread of a server logs with. `calls.rt` has its calls. Contracts see it as its producer. Like that it is no `Drop`.
 pub struct Client<H: Home> {
     pub(crate) alloc: Global,
     pub(crate) producer: Producer,

@@ -1,6 +1,7 @@
 //! The clients of all threads, from their producers and back.
-ghost use Rattle.std.specs.Prelude.{◌≡◌, ◌≤◌, ◌<◌, [], length, vec_capacity};
+ghost use Rattle.std.specs.Prelude.{◌≡◌, ◌≤◌, ◌<◌, None, [], length, map, vec_capacity};
 ghost use Rattle.std.specs.List.{AllByRecursion};
+ghost use Rattle.alog_server.specs.Ends.{AllEnd, EachEnds, EndsSo, first_error};
 ghost use Rattle.alog_server.specs.Homes.{IsAtHome};
 
 use crate::client::Client;
@@ -11,7 +12,6 @@ use std::alloc::Global;
 use std::thread::{self, Threads};
 
 /// A thread's client, and why its work ended early, where it did.
-#[derive(Drop)]
 pub(crate) struct Seat<H: Home, E> {
     client: Client<H>,
     error: Option<E>,
@@ -39,12 +39,14 @@ pub(crate) fn run_all<H: Home + Send, R: Threads + Sync, W: Work<R> + Sync>(
     requires some { 0 < length producers.items }
     ensures home { AllByRecursion (λ p. H.is_home p.shared) result.0.items }
     ensures count { length result.0.items ≡ length producers.items }
+    ensures ends { AllEnd (W.ends work.now) (length producers.items) result.1 }
 {
     let count = producers.len();
-    let (Ok(seats), Ok(mut back)) = (
-        Vec::with_capacity(alloc, count),
-        Vec::with_capacity(alloc, count),
-    ) else {
+    let Ok(mut back) = Vec::with_capacity(alloc, count) else {
+        return (producers, Ended::OutOfMemory);
+    };
+    let Ok(seats) = Vec::with_capacity(alloc, count) else {
+        back.destroy_empty();
         return (producers, Ended::OutOfMemory);
     };
     let mut seats: Vec<Seat<H, W::Error>> = seat_all(alloc, producers, seats);
@@ -63,15 +65,18 @@ fn seat_all<H: Home, E: Drop>(
 ) -> Vec<Seat<H, E>>
     requires home { AllByRecursion (λ p. IsAtHome H.is_home H.loggers p) producers.items }
     requires room { (seats.items ≡ []) × (length producers.items ≤ vec_capacity seats) }
-    ensures { length result.items ≡ length producers.items }
+    ensures count { length result.items ≡ length producers.items }
+    ensures fresh { AllByRecursion (λ s. s.error ≡ None) result.items }
 {
     let mut seats = seats;
-    for producer in producers {
+    let mut rest = producers.into_iter();
+    while let Some(producer) = rest.next() {
         seats.push_reserved(Seat {
             client: Client::of(alloc, producer),
             error: None,
         });
     }
+    rest.destroy_empty();
     seats
 }
 
@@ -81,20 +86,28 @@ fn work_all<H: Home + Send, R: Threads + Sync, W: Work<R> + Sync>(
     seats: &mut Vec<Seat<H, W::Error>>,
     work: &W,
 )
-    requires { 0 < length seats.old.items }
-    ensures { length seats.new.items ≡ length seats.old.items }
+    requires some { 0 < length seats.old.items }
+    requires fresh { AllByRecursion (λ s. s.error ≡ None) seats.old.items }
+    ensures count { length seats.new.items ≡ length seats.old.items }
+    ensures ends { EachEnds (W.ends work.now) 0 (map (λ s. s.error) seats.new.items) }
 {
     let threads = seats.len();
     thread::for_each_mut(
         rt,
         seats.as_mut_slice(),
         threads,
-        &|number, seat: &mut Seat<H, W::Error>| work_one(rt, number, seat, work),
+        &|number, seat: &mut Seat<H, W::Error>|
+            requires { seat.now.error ≡ None }
+            ensures { EndsSo (W.ends work.entry.now number) seat.exit.now.error }
+        { work_one(rt, number, seat, work) },
     );
 }
 
 /// Does the work of the thread of this number.
-fn work_one<H: Home, R, W: Work<R>>(rt: &R, number: usize, seat: &mut Seat<H, W::Error>, work: &W) {
+fn work_one<H: Home, R, W: Work<R>>(rt: &R, number: usize, seat: &mut Seat<H, W::Error>, work: &W)
+    requires { seat.old.error ≡ None }
+    ensures { EndsSo (W.ends work.now number) seat.new.error }
+{
     if let Err(error) = work.work(rt, number, &mut seat.client) {
         seat.error = Some(error);
     }
@@ -105,12 +118,15 @@ fn rise_all<H: Home, E: Drop>(seats: Vec<Seat<H, E>>, back: &mut Vec<Producer>) 
     requires room { (back.old.items ≡ []) × (length seats.items ≤ vec_capacity back.old) }
     ensures home { AllByRecursion (λ p. H.is_home p.shared) back.new.items }
     ensures count { length back.new.items ≡ length seats.items }
+    ensures first { result ≡ first_error (map (λ s. s.error) seats.items) }
 {
     let mut first = None;
-    for seat in seats {
+    let mut rest = seats.into_iter();
+    while let Some(seat) = rest.next() {
         let Seat { client, error } = seat;
         back.push_reserved(client.into_producer());
         first = first.or(error);
     }
+    rest.destroy_empty();
     first
 }

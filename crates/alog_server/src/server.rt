@@ -3,6 +3,7 @@ ghost use Rattle.std.specs.Prelude.{◌≡◌, ◌↔◌, ◌≤◌, IfOk, IfErr
 ghost use Rattle.std.specs.List.{Any};
 ghost use Rattle.alog_config.specs.Built.{HasFailed};
 ghost use Rattle.alog_config.specs.Sinks.{is_leaf};
+ghost use Rattle.alog_server.specs.Ends.{AllEnd, IsToldOf, TellsError};
 ghost use Rattle.alog_server.specs.Running.{AreBad, HasThreads, Runs, Works};
 ghost use Rattle.alog_server.specs.Starting.{IsOfStores, IsServerOf};
 ghost use Rattle.alog_server.specs.declared.TheConstants.{THREADS_MAX};
@@ -22,8 +23,7 @@ use std::sync::Wait;
 use std::thread::Threads;
 use std::time::Clock;
 
-/// A pool that made no producer yet. One that is dropped leaves its workers waiting: `run` ends it.
-#[derive(Drop)]
+/// A pool that made no producer yet. It is no `Drop`: a way out of a function that does not end it by `run` does not compile.
 pub struct Server<S: Store> {
     alloc: Global,
     pub(crate) pool: Pool<S>,
@@ -70,10 +70,11 @@ impl<S: Store + Drop + Send + 'static> Server<S> {
     ) -> Result<Ran<S, W::Error>, RunError>
         ensures bad_threads { IsErrOf result RunError.BadThreads ↔ AreBad threads }
         ensures runs { IfOk result (λ r. Runs S.tells S.files S.failures self.pool threads r.report) }
+        ensures error { IfOk result (λ r. TellsError (W.ends work.now) threads r.error) }
     {
         let Server { alloc, mut pool } = self;
         if threads < 1 || threads > THREADS_MAX {
-            drop(pool.shutdown(rt, Vec::new(alloc)));
+            end_unused(rt, alloc, pool);
             return Err(RunError::BadThreads);
         }
         let (producers, ended) = work_with(rt, alloc, &mut pool, threads, work);
@@ -84,10 +85,24 @@ impl<S: Store + Drop + Send + 'static> Server<S> {
     }
 }
 
+/// Ends a pool that made no producer.
+fn end_unused<R: Threads + Wait + Clock, S: Store + Drop + Send + 'static>(
+    rt: &R,
+    alloc: Global,
+    pool: Pool<S>,
+)
+    requires { pool.made ≡ 0 }
+{
+    match pool.shutdown(rt, Vec::new(alloc)) {
+        Ok(_report) => {}
+        Err(_) => unreachable!(),
+    }
+}
+
 impl<E: Drop> Ended<E> {
     /// What a run answers whose pool ended with this report.
     fn with<S: Store + Drop>(self, report: Report<S>) -> Result<Ran<S, E>, RunError>
-        ensures ran { IfOk result (λ r. (r.report ≡ report) × HasThreads self) }
+        ensures ran { IfOk result (λ r. (r.report ≡ report) × HasThreads self × IsToldOf self r.error) }
         ensures threads { IsErrOf result RunError.BadThreads → ⊥ }
     {
         match self {
@@ -113,7 +128,8 @@ fn work_with<S: Store + Drop + Send + 'static, R: Threads + Wait + Clock + Sync,
     work: &W,
 ) -> (Vec<Producer>, Ended<W::Error>)
     requires { 1 ≤ threads }
-    ensures { Works pool.old pool.new threads result.0.items result.1 }
+    ensures works { Works pool.old pool.new threads result.0.items result.1 }
+    ensures ends { AllEnd (W.ends work.now) threads result.1 }
 {
     let Ok(mut producers) = Vec::with_capacity(alloc, threads) else {
         return (Vec::new(alloc), Ended::OutOfMemory);

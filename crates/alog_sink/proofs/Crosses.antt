@@ -21,7 +21,7 @@ use Rattle.indexmap.specs.contracts.map.IndexMap.TheInside as MapInside
 use Rattle.circular_buffer.proofs.Crosses.{Cells-send, Deed-send}
 use Rattle.circular_buffer.specs.contracts.heap.HeapCircularBuffer as Dates
 use Rattle.circular_buffer.specs.contracts.heap.HeapCircularBuffer.TheInside as DatesInside
-use Rattle.alog_format.proofs.Crosses.{bytes-send, deed-send}
+use Rattle.alog_format.proofs.Crosses.{bytes-send, deed-send, context_field_send}
 use Rattle.alog_format.specs.contracts.formatter.Formatter as Formatter
 use Rattle.alog_format.specs.contracts.formatter.Formatter.TheInside as FormatterInside
 use Rattle.alog_format.specs.contracts.line_buf.LineBuf as LineBuf
@@ -115,7 +115,7 @@ formatter_send : IsSend Formatter.the_row
 formatter_send = view_send _ _ _ _ _ formatter_inside_send
 
 scribe_inside_send : IsSend ScribeInside.the_row
-scribe_inside_send = search (sendable, crosses, formatter_send, names_send) depth 30 fits 50000
+scribe_inside_send = search (sendable, crosses, formatter_send, names_send, context_field_send) depth 30 fits 50000
 
 scribe_send : IsSend Scribe.the_row
 scribe_send = view_send _ _ _ _ _ scribe_inside_send
@@ -143,7 +143,7 @@ target_send = search (sendable, crosses, text_send, rotation_send, daily_files_s
 
 leaf_inside_send : (S : RattleType) → IsSend S → IsSend (LeafInside.the_row S)
 leaf_inside_send S s = recorded_send (LeafInside.the_field S).row _ _ (LeafInside.the_type S).to_one (struct_send
-    (shape (LeafInside.the_type S)) (scribe_send, (target_send, (s, (search sendable, tt)))))
+    (shape (LeafInside.the_type S)) (scribe_send, (target_send, (s, (search sendable, (search sendable, tt))))))
 
 leaf_send : (S : RattleType) → IsSend S → IsSend (Leaf.the_row S)
 leaf_send S s = view_send _ _ _ _ _ (leaf_inside_send S s)

@@ -13,6 +13,7 @@ use Rattle.jiff_core.proofs.DateTimeLemmas.{civil_nanos_injective, civil_nanos-p
 use Rattle.jiff_core.proofs.MarchLemmas.{day_count-early}
 use Rattle.jiff_core.proofs.SignedLemmas.{signed_arith, back_small}
 use Rattle.jiff.specs.Words.{civil_nanos, epoch_day}
+use Rattle.alog_format.proofs.Offsets.{offset_near}
 use Rattle.alog_format.specs.Civil.{IsZone, day_at, second_at, local_nanos}
 use Rattle.alog_format.specs.declared.context.Zone.{Zone}
 use Rattle.alog_sink.specs.DailyFiles.{date_of, period_of}
@@ -82,7 +83,12 @@ period_near change at = by (nat_lt (time_seconds at.time) change)
 pub day_near : (zone : Zone) (time : ℤ) (at : DateTime) → IsZone zone → FitsSigned w64 time → civil_nanos at ≡ local_nanos zone time
     → (neg_ℤ (pos 200_000) ≤ℤ epoch_day at.date) × (epoch_day at.date ≤ℤ pos 200_000)
 day_near zone time at near fits shown =
-    omega (arith, signed_arith, shown, civil_nanos-parts at, time_nanos_bound at.time)
+    let offset = offset_near zone time near in
+    omega (arith, signed_arith, shown, offset, civil_nanos-parts at, time_nanos_bound at.time)
+
+pub day_bound : (zone : Zone) (time : ℤ) → IsZone zone → FitsSigned w64 time
+    → (neg_ℤ (pos 200_000) ≤ℤ day_at zone time) × (day_at zone time ≤ℤ pos 200_000)
+day_bound zone time near fits = let offset = offset_near zone time near in omega (arith, signed_arith, offset)
 
 abs_near : (z : ℤ) → neg_ℤ (pos 300_000) ≤ℤ z → z ≤ℤ pos 300_000 → unsigned_abs z < 2 ^ 63
 abs_near (pos n) low high = omega (arith, signed_arith)

@@ -1,5 +1,5 @@
 -- A sink that was opened stands for its opening files; and the sinks that become members of a fan.
-use Rattle.std.proofs.Common.{◌≡◌, ◌≤◌, Bool, true, false, List, [], ◌∷◌, ◌++◌, length, refl, sym, ap, subst, ◌∙◌, arith}
+use Rattle.std.proofs.Common.{◌≡◌, ◌≤◌, Bool, true, false, None, List, [], ◌∷◌, ◌++◌, length, refl, sym, ap, subst, ◌∙◌, arith}
 use Rattle.std.specs.Iterator.{Yields}
 use Rattle.std.specs.Vec.Iter.{into_iter_items, into_iter_steps}
 use Rattle.std.specs.declared.vec.IntoIter.{IntoIter}
@@ -13,10 +13,10 @@ use Rattle.alog_sink.specs.declared.sink.Sink.TheVariants.{Leaf, Fan}
 use Rattle.alog_sink.specs.declared.target.Target.{Target}
 
 pub opened : {S : Type 0} (tells : Bool) (files : S → Files) (face : Face) (IsSuch : Target → Type 0) (opening : Files) (target : Target)
-    (store : S) (leaf : LeafView S) → leaf ≡ record { face = face; target = target; store = store; broken = false } → IsSuch target
+    (store : S) (leaf : LeafView S) → leaf ≡ record { face = face; target = target; store = store; broken = false; previous = None } → IsSuch target
     → (tells ≡ true → IsKept target opening [] (files store)) → Opened tells files face IsSuch opening (Leaf leaf)
 opened {S} tells files face IsSuch opening target store leaf is such kept =
-    let v : LeafView S = record { face = face; target = target; store = store; broken = false }
+    let v : LeafView S = record { face = face; target = target; store = store; broken = false; previous = None }
     in let P : LeafView S → Type 0 = λ l. Opened tells files face IsSuch opening (Leaf l)
     in subst P (sym is) (record {
       leaf = v;
@@ -24,7 +24,7 @@ opened {S} tells files face IsSuch opening target store leaf is such kept =
       same = refl;
       such = such;
       whole = refl;
-      stands = λ t. record { whole = refl; written = []; lines = tt; kept = kept t };
+      stands = λ t. record { whole = refl; written = []; lines = tt; kept = kept t; previous = refl };
     })
 
 -- one sink more

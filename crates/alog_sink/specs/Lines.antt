@@ -1,5 +1,6 @@
--- The lines of a sink: those of the messages that it was given, in order, with a level at least its own.
-use Rattle.std.specs.Prelude.{◌≡◌, ℕ, ◌≤◌, Bool, nat_le, if◌then◌else◌, List, [], ◌∷◌, length, slice_index_or}
+-- The lines of a sink: those of the messages that it was given, in order, with a level at least its own, each with the time of
+-- the one before it.
+use Rattle.std.specs.Prelude.{◌≡◌, ℕ, ◌≤◌, ℤ, Bool, nat_le, if◌then◌else◌, List, [], ◌∷◌, length, Option, None, Some, slice_index_or}
 use Rattle.alog_msg.specs.Level.{row_of}
 use Rattle.alog_msg.specs.declared.level.Level.{Level}
 use Rattle.alog_msg.specs.declared.message.Message.{Message}
@@ -24,9 +25,9 @@ admitted own (m ∷ ms) = if admits own m.level then m ∷ admitted own ms else 
 abbrev pub name_of : List (List ℕ) → ℕ → List ℕ
 name_of names number = slice_index_or names number []
 
--- the bytes are the message's line
-abbrev pub IsLineOf : Face → Message → List ℕ → Type 0
-IsLineOf face m bytes = IsLine face.context face.pattern.items (name_of face.names m.logger) m bytes
+-- the bytes are the message's line behind one of the previous time
+abbrev pub IsLineOf : Face → Option ℤ → Message → List ℕ → Type 0
+IsLineOf face previous m bytes = IsLine face.context face.pattern.items (name_of face.names m.logger) m previous bytes
 
 -- what writing a line asks: a text within the pattern's limit, and room for the longest line
 abbrev pub MayWrite : Face → Message → ℕ → Type 0
@@ -41,18 +42,27 @@ pub record Written : Type 0 where
 abbrev pub IsShownTo : Zone → Message → DateTime → Type 0
 IsShownTo zone m at = civil_nanos at ≡ local_nanos zone m.time
 
-abbrev pub IsWrittenOf : Face → Message → Written → Type 0
-IsWrittenOf face m w = IsLineOf face m w.line × IsShownTo face.context.zone m w.at
+abbrev pub IsWrittenOf : Face → Option ℤ → Message → Written → Type 0
+IsWrittenOf face previous m w = IsLineOf face previous m w.line × IsShownTo face.context.zone m w.at
 
--- these are the lines of these messages, in order
-abbrev pub AreWrittenOf : Face → List Message → List Written → Type 0
-AreWrittenOf face [] [] = Unit {0}
-AreWrittenOf face (m ∷ ms) (w ∷ ws) = IsWrittenOf face m w × AreWrittenOf face ms ws
-AreWrittenOf face _ _ = ⊥
+-- these are the lines of these messages, in order: that of the first behind the previous time, and each other one behind the
+-- time of the message before it
+abbrev pub AreWrittenOf : Face → Option ℤ → List Message → List Written → Type 0
+AreWrittenOf face previous [] [] = Unit {0}
+AreWrittenOf face previous (m ∷ ms) (w ∷ ws) = IsWrittenOf face previous m w × AreWrittenOf face (Some m.time) ms ws
+AreWrittenOf face previous _ _ = ⊥
 
--- the lines of a sink that was given these messages
+-- the time of the last of some messages, or else the previous time
+abbrev pub last_time : Option ℤ → List Message → Option ℤ
+last_time previous [] = previous
+last_time previous (m ∷ ms) = last_time (Some m.time) ms
+
+-- the lines of a sink that was given these messages, and what is the time of the last of them that it took
 abbrev pub AreLines : Face → List Message → List Written → Type 0
-AreLines face messages ws = AreWrittenOf face (admitted face.level messages) ws
+AreLines face messages ws = AreWrittenOf face None (admitted face.level messages) ws
+
+abbrev pub previous_of : Level → List Message → Option ℤ
+previous_of level messages = last_time None (admitted level messages)
 
 -- the lines alone
 abbrev pub lines_of : List Written → List (List ℕ)

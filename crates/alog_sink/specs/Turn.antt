@@ -1,12 +1,12 @@
 -- The turns of sinks: a step relation between a sink, what it is given, its answer, and the sink after.
-use Rattle.std.specs.Prelude.{◌≡◌, ◌↔◌, ◌⊎◌, ℕ, ◌+◌, ◌<◌, Bool, true, false, List, [], ◌∷◌, ◌++◌, Result, Ok, Err, OnOk}
+use Rattle.std.specs.Prelude.{◌≡◌, ◌↔◌, ◌⊎◌, ℕ, ◌+◌, ◌<◌, ℤ, Option, Bool, true, false, List, [], ◌∷◌, ◌++◌, Result, Ok, Err, OnOk}
 use Rattle.std.specs.List.{All}
 use Rattle.alog_msg.specs.declared.level.Level.{Level}
 use Rattle.alog_msg.specs.declared.message.Message.{Message}
-use Rattle.alog_sink.specs.Deeds.{BreaksOff}
+use Rattle.alog_sink.specs.Deeds.{BreaksOff, all_done}
 use Rattle.alog_sink.specs.Files.{Files, AreSame}
 use Rattle.alog_sink.specs.Kept.{HasNoFile, IsKept, IsSameTarget, deeds_of}
-use Rattle.alog_sink.specs.Lines.{Written, IsWrittenOf, AreLines, MayWrite, admits}
+use Rattle.alog_sink.specs.Lines.{Written, IsWrittenOf, AreLines, MayWrite, admits, previous_of}
 use Rattle.alog_sink.specs.declared.TheConstants.{FAILURES_MAX}
 use Rattle.alog_sink.specs.declared.face.Face.{Face}
 use Rattle.alog_sink.specs.declared.target.Target.{Target}
@@ -21,19 +21,22 @@ pub record LeafView (S : Type 0) : Type 0 where
   pub target : Target
   pub store : S
   pub broken : Bool
+  -- the time of the last message whose line was written
+  pub previous : Option ℤ
 
 -- the answer to a text, and to a flush
 abbrev pub Answer : Type 0
 Answer = Result Taken SinkError
 
 module _ {S : Type 0} (files : S → Files) where
-  -- A sink stands for the files at its start and the messages that it was given: it is not broken, and its files are
-  -- what its kind makes of the messages' lines.
+  -- A sink stands for the files at its start and the messages that it was given: it is not broken, its files are what its
+  -- kind makes of the messages' lines, and it knows the time of the last message that passed its level.
   pub record StandsFor (leaf : LeafView S) (opening : Files) (messages : List Message) : Type 0 where
     pub whole : leaf.broken ≡ false
     pub written : List Written
     pub lines : AreLines leaf.face messages written
     pub kept : IsKept leaf.target opening written (files leaf.store)
+    pub previous : leaf.previous ≡ previous_of leaf.face.level messages
 
 module _ {S : Type 0} (tells : Bool) (files : S → Files) (failures : S → ℕ) where
   -- A sink is given a message.
@@ -49,8 +52,10 @@ module _ {S : Type 0} (tells : Bool) (files : S → Files) (failures : S → ℕ
     pub stayed : OnOk answer (failures new.store ≡ failures old.store)
     pub stands : tells ≡ true → (opening : Files) (ms : List Message) → StandsFor files old opening ms
         → OnOk answer (StandsFor files new opening (ms ++ m ∷ []))
+    pub writes : tells ≡ true → answer ≡ Ok Wrote → (w : Written) × IsWrittenOf old.face old.previous m w
+        × AreSame (all_done (deeds_of old.target w) (files old.store)) (files new.store)
     pub breaks : tells ≡ true → answer ≡ Err errors.Store
-        → (w : Written) × IsWrittenOf old.face m w × BreaksOff (deeds_of old.target w) (files old.store) (files new.store)
+        → (w : Written) × IsWrittenOf old.face old.previous m w × BreaksOff (deeds_of old.target w) (files old.store) (files new.store)
 
   -- A sink is flushed.
   pub record Flushes (old : LeafView S) (answer : Result Unit SinkError) (new : LeafView S) : Type 0 where

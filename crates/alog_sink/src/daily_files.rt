@@ -111,14 +111,14 @@ impl DailyFiles {
     pub(crate) fn put<S: Store>(
         &mut self,
         store: &mut S,
-        zone: Zone,
+        zone: &Zone,
         message: &Message,
         line: &[u8],
     ) -> Result<(), StoreError>
-        requires { IsZone zone }
-        ensures does { S.tells ≡ true → (w : Written) → IsShownTo zone message.now w.at → w.line ≡ line.now
+        requires { IsZone zone.now }
+        ensures does { S.tells ≡ true → (w : Written) → IsShownTo zone.now message.now w.at → w.line ≡ line.now
             → Does (deeds_of self.old (entry_of self.old.limits w)) (S.files store.old) (S.files store.new) result }
-        ensures kept { S.tells ≡ true → (opening : Files) (ws : List Written) (w : Written) → IsShownTo zone message.now w.at
+        ensures kept { S.tells ≡ true → (opening : Files) (ws : List Written) (w : Written) → IsShownTo zone.now message.now w.at
             → w.line ≡ line.now → StandsFor self.old opening ws (S.files store.old)
             → OnOk result (StandsFor self.new opening (ws ++ w ∷ []) (S.files store.new)) }
         ensures same { self.new.limits ≡ self.old.limits }
@@ -154,14 +154,14 @@ impl DailyFiles {
     fn begin<S: Store>(
         &mut self,
         store: &mut S,
-        zone: Zone,
+        zone: &Zone,
         message: &Message,
     ) -> Result<(), StoreError>
-        requires { IsZone zone }
-        ensures does { S.tells ≡ true → (w : Written) → IsShownTo zone message.now w.at
+        requires { IsZone zone.now }
+        ensures does { S.tells ≡ true → (w : Written) → IsShownTo zone.now message.now w.at
             → Does (deeds_before self.old (entry_of self.old.limits w)) (S.files store.old) (S.files store.new) result }
-        ensures year { (w : Written) → IsShownTo zone message.now w.at → pos 0 ≤ℤ w.at.date.year }
-        ensures begun { (w : Written) → IsShownTo zone message.now w.at
+        ensures year { (w : Written) → IsShownTo zone.now message.now w.at → pos 0 ≤ℤ w.at.date.year }
+        ensures begun { (w : Written) → IsShownTo zone.now message.now w.at
             → OnOk result (self.new ≡ with_entry self.old (entry_of self.old.limits w)) }
         ensures same { self.new.limits ≡ self.old.limits }
         ensures counted { Counts (S.failures store.old) (S.failures store.new) result }
@@ -229,10 +229,10 @@ impl DailyFiles {
 }
 
 // The period of a message, whose year is not before year 0.
-fn period_of(zone: Zone, change: u32, message: &Message) -> i64
-    requires { IsZone zone }
-    ensures period { (at : DateTime) → IsShownTo zone message.now at → result ≡ period_of change at }
-    ensures year { (at : DateTime) → IsShownTo zone message.now at → pos 0 ≤ℤ at.date.year }
+fn period_of(zone: &Zone, change: u32, message: &Message) -> i64
+    requires { IsZone zone.now }
+    ensures period { (at : DateTime) → IsShownTo zone.now message.now at → result ≡ period_of change at }
+    ensures year { (at : DateTime) → IsShownTo zone.now message.now at → pos 0 ≤ℤ at.date.year }
 {
     let clock = clock_time(zone, message.time);
     if clock.second < i64::from(change) {
@@ -243,9 +243,9 @@ fn period_of(zone: Zone, change: u32, message: &Message) -> i64
 }
 
 // The date of a message.
-fn date_of(zone: Zone, message: &Message) -> Date
-    requires { IsZone zone }
-    ensures date { (at : DateTime) → IsShownTo zone message.now at → result ≡ date_of at }
+fn date_of(zone: &Zone, message: &Message) -> Date
+    requires { IsZone zone.now }
+    ensures date { (at : DateTime) → IsShownTo zone.now message.now at → result ≡ date_of at }
     ensures fits { IsDate result }
 {
     let civil = civil_at(zone, message.time);

@@ -146,11 +146,11 @@ impl Scribe {
     }
 
     /// Where the clock of the lines stands.
-    pub(crate) fn zone(&self) -> Zone
-        ensures value { result ≡ self.now.context.zone }
-        ensures zone { IsZone result }
+    pub(crate) fn zone(&self) -> &Zone
+        ensures value { result.now ≡ self.now.context.zone }
+        ensures zone { IsZone result.now }
     {
-        self.context.zone
+        &self.context.zone
     }
 
     /// Whether a message of this level is taken.
@@ -167,16 +167,17 @@ impl Scribe {
         has_room(self.pattern(), message, line)
     }
 
-    /// Writes a message's line into the buffer, in place of what was there.
-    pub(crate) fn write(&mut self, message: &Message, line: &mut LineBuf)
+    /// Writes a message's line into the buffer, in place of what was there. The message before came at the previous time.
+    pub(crate) fn write(&mut self, message: &Message, previous: Option<i64>, line: &mut LineBuf)
         requires { MayWrite self.old message.now line.old.capacity }
-        ensures line { IsLineOf self.old message.now line.new.bytes }
+        ensures line { IsLineOf self.old previous message.now line.new.bytes }
         ensures capacity { line.new.capacity ≡ line.old.capacity }
         ensures same { self.new ≡ self.old }
     {
         line.clear();
         let name = self.names.get(message.logger);
-        self.formatter.format(&self.context, name, message, line);
+        self.formatter
+            .format(&self.context, name, message, previous, line);
     }
 }
 

@@ -1,5 +1,5 @@
 //! A sink of one store.
-ghost use Rattle.std.specs.Prelude.{◌≡◌, ◌↔◌, ◌⊎◌, IsTrue, true, false};
+ghost use Rattle.std.specs.Prelude.{◌≡◌, ◌↔◌, ◌⊎◌, IsTrue, true, false, None};
 ghost use Rattle.alog_sink.specs.Lines.{MayWrite, admits};
 ghost use Rattle.alog_sink.specs.Turn.{Takes, Flushes};
 
@@ -33,13 +33,15 @@ pub enum SinkError {
 
 /// A sink of one store, with a face and files.
 ///
-/// Contracts see its face, its target, its store, and whether it is broken.
+/// Contracts see its face, its target, its store, whether it is broken, and the time of the last message whose line it wrote.
 #[derive(Debug, Drop)]
 pub struct Leaf<S> {
     face: Scribe,
     target: Target,
     store: S,
     broken: bool,
+    /// The time of the last message whose line was written.
+    previous: Option<i64>,
 }
 
 impl<S> Model for Leaf<S> {
@@ -47,19 +49,20 @@ impl<S> Model for Leaf<S> {
 
     ghost Value = { LeafView S };
 
-    ghost view = { λ l. record { face = l.face; target = l.target; store = l.store; broken = l.broken } };
+    ghost view = { λ l. record { face = l.face; target = l.target; store = l.store; broken = l.broken; previous = l.previous } };
 }
 
 impl<S: Store> Leaf<S> {
     /// A sink that was given nothing.
     pub(crate) fn open(face: Face, target: Target, store: S) -> Leaf<S>
-        ensures { result ≡ record { face = face; target = target; store = store; broken = false } }
+        ensures { result ≡ record { face = face; target = target; store = store; broken = false; previous = None } }
     {
         Leaf {
             face: Scribe::new(face),
             target,
             store,
             broken: false,
+            previous: None,
         }
     }
 
@@ -101,13 +104,16 @@ impl<S: Store> Leaf<S> {
         ensures takes { Takes S.tells S.files S.failures self.old message.now result self.new }
         ensures capacity { line.new.capacity ≡ line.old.capacity }
     {
+        self.face.write(message, self.previous, line);
         let zone = self.face.zone();
-        self.face.write(message, line);
         match self
             .target
             .put(&mut self.store, zone, message, line.as_slice())
         {
-            Ok(()) => Ok(Taken::Written),
+            Ok(()) => {
+                self.previous = Some(message.time);
+                Ok(Taken::Written)
+            }
             Err(StoreError) => {
                 self.broken = true;
                 Err(SinkError::Store)

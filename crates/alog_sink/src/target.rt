@@ -31,14 +31,14 @@ impl Target {
     pub(crate) fn put<S: Store>(
         &mut self,
         store: &mut S,
-        zone: Zone,
+        zone: &Zone,
         message: &Message,
         line: &[u8],
     ) -> Result<(), StoreError>
-        requires { IsZone zone }
-        ensures does { S.tells ≡ true → (w : Written) → IsShownTo zone message.now w.at → w.line ≡ line.now
+        requires { IsZone zone.now }
+        ensures does { S.tells ≡ true → (w : Written) → IsShownTo zone.now message.now w.at → w.line ≡ line.now
             → Does (deeds_of self.old w) (S.files store.old) (S.files store.new) result }
-        ensures kept { S.tells ≡ true → (opening : Files) (ws : List Written) (w : Written) → IsShownTo zone message.now w.at
+        ensures kept { S.tells ≡ true → (opening : Files) (ws : List Written) (w : Written) → IsShownTo zone.now message.now w.at
             → w.line ≡ line.now → IsKept self.old opening ws (S.files store.old)
             → OnOk result (IsKept self.new opening (ws ++ w ∷ []) (S.files store.new)) }
         ensures same { IsSameTarget self.old self.new }

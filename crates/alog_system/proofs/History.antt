@@ -20,7 +20,8 @@ use Rattle.alog_policy.specs.declared.post.Post.{Post}
 use Rattle.alog_policy.specs.declared.post.Stepped.{Stepped as DeskStepped}
 use Rattle.alog_policy.proofs.DeskSteps.{turn_goes}
 use Rattle.alog_sink.specs.Files.{Files}
-use Rattle.alog_system.specs.Roster.{emptied, policy_at}
+use Rattle.alog_system.specs.Begin.{is_below, logging, posting_unless}
+use Rattle.alog_system.specs.Roster.{emptied, level_at, policy_at}
 use Rattle.alog_system.specs.Step.{RoundSteps, TurnSteps, after_round, dumped_by, entries_by, follows, posting, posting_on}
 use Rattle.alog_system.specs.System.{SystemView, duty_of, with_desk, with_roster}
 use Rattle.alog_system.specs.declared.duty.Duty.{Duty}
@@ -93,6 +94,16 @@ module _ {S : Type 0} where
   round_goes_on v a said u reached lt busy h =
       subst (λ b. GoesOn v.desk.world (cond b [] (entries_of_step v.desk.world a)) u.desk.world) (sym busy)
       (subst (λ (w : SystemView S). GoesOn v.desk.world (entries_of_step v.desk.world a) w.desk.world) (sym h.1) (round_goes v a reached lt))
+
+  logged_goes : (b : Bool) (v : SystemView S) (a : ℕ) (m : Message) → length v.desk.world.rounds ≡ ACTORS → a < ACTORS
+      → GoesOn {N = Unit {0}} v.desk.world [] (posting_unless b v a m).desk.world
+  logged_goes true v a m all lt = goes_same v.desk.world
+  logged_goes false v a m all lt = goes_began v.desk.world a (round.Push (item.Text m)) all lt (λ t is. cc)
+
+  -- and with a log that begins, which adds nothing
+  pub log_goes : (v : SystemView S) (a : ℕ) (m : Message) → length v.desk.world.rounds ≡ ACTORS → a < ACTORS
+      → GoesOn {N = Unit {0}} v.desk.world [] (logging v a m).desk.world
+  log_goes v a m all lt = logged_goes (is_below m.level (level_at v.roster m.logger)) v a m all lt
 
   module _ (tells : Bool) (files : S → Files) (failures : S → ℕ) where
     -- and with a turn, which adds nothing

@@ -42,7 +42,7 @@ MeetsNone (sinks.Fan f) k made = Unit {0}
 abbrev pub HasFront : {S : Type 0} → (S → Files) → LeafView S → List Message → Files → Type 0
 HasFront files whole [] after = AreSame (files whole.store) after
 HasFront files whole (m ∷ ms) after =
-    (w : Written) × IsWrittenOf whole.face m w × BreaksOff (deeds_of whole.target w) (files whole.store) after
+    (w : Written) × IsWrittenOf whole.face whole.previous m w × BreaksOff (deeds_of whole.target w) (files whole.store) after
 
 module _ {S : Type 0} (files : S → Files) (sink : Sink S) (k : ℕ) (made : List Made) (stood : Stood) (leaf : LeafView S) where
   -- A leaf stands for what it stood for and then for what its sink was given and handed on.

@@ -160,8 +160,8 @@ EachStep P before (x ∷ run) = StepIs (P before) x × EachStep P (before ++ x �
 
 -- What a run from a new system is.
 --
--- Its steps of the queue are a run of the queue by its definition: their entries are one legal history, which the queue stands
--- for; each actor's own events are whole pops and posts, with the outcomes that were answered, and the beginning of the one that it
+-- Its steps of the queue are a run of the queue by its definition: their entries are one legal history, which leads to the queue
+-- and its rounds; each actor's own events are whole pops and posts, with the outcomes that were answered, and the beginning of the one that it
 -- is in; and the counts are the losses. These pops and posts are those that its deeds and dumps asked for, and so are each actor's
 -- turns beside the queue. Every answer is that of its step. The queue has at most as many cells as places; no item is handed out
 -- twice; one that was brought in was handed out or is in the queue, never both; and each is handed out as it was brought in. Each

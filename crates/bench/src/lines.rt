@@ -84,11 +84,11 @@ impl Way {
         match self {
             Way::Alone(pattern) => {
                 make_room(pattern, message, line)?;
-                format(pattern, &UTC, NAME, message, line);
+                format(pattern, &UTC, NAME, message, None, line);
             }
             Way::Remembering(formatter) => {
                 make_room(formatter.pattern(), message, line)?;
-                formatter.format(&UTC, NAME, message, line);
+                formatter.format(&UTC, NAME, message, None, line);
             }
         }
         Ok(())

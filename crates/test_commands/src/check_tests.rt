@@ -42,7 +42,7 @@ pub(crate) const NO_CONFIGURATIONS: [(&str, &str); 8] = [
     (
         "colour = 1\nqueue = 3\n[[sink]]\nname = \"out\"\nkind = \"memory\"\n[[logger]]\nname = \"net\"\nsinks = [\"out\"]\n",
         "alog: refused 29 in top\nalog: \"colour\" = 1: a key that is not known here; \
-         known are queue, workers, text, offset, process, sink and logger\n",
+         known are queue, workers, text, offset, zone, process, sink and logger\n",
     ),
     (
         "[[sink]]\nname = \"out\"\nkind = \"memory\"\n[[logger]]\nname = \"net\"\nsinks = [\"out\"]\n[[logger]]\nname = \"net\"\nsinks = [\"out\"]\n",

@@ -2,7 +2,7 @@
 use std::alloc::{AllocError, Global};
 use test_runs::{Host, Said, long, says};
 
-/// Command lines, and the line of each; the last five have least and greatest values.
+/// Command lines, and the line of each; some have least and greatest values.
 const LINES: &[(&[&str], &str)] = &[
     (
         &["alog", "format", "%=5L|%-3!n|", "x", "--name", "abcdef"],
@@ -33,6 +33,28 @@ const LINES: &[(&[&str], &str)] = &[
             "--line=4294967295",
         ],
         "4294967295 b|\n",
+    ),
+    (
+        &[
+            "alog",
+            "format",
+            "%T %z",
+            "",
+            "--time=1711846799000000000",
+            "--zone=CET-1CEST,M3.5.0,M10.5.0/3",
+        ],
+        "01:59:59 +01:00\n",
+    ),
+    (
+        &[
+            "alog",
+            "format",
+            "%T %z",
+            "",
+            "--time=1711846800000000000",
+            "--zone=CET-1CEST,M3.5.0,M10.5.0/3",
+        ],
+        "03:00:00 +02:00\n",
     ),
     (
         &["alog", "format", "%+", "--level=err", "--", "-x"],
@@ -93,6 +115,30 @@ const LINES: &[(&[&str], &str)] = &[
         ],
         "18446744073709551615 off\n",
     ),
+    (&["alog", "format", "%5o|", "", "--time=1"], "    0|\n"),
+    (
+        &[
+            "alog",
+            "format",
+            "%O %o %i %u",
+            "",
+            "--time=1500000000",
+            "--previous=0",
+        ],
+        "1 1500 1500000 1500000000\n",
+    ),
+    (&["alog", "format", "%u", "", "--previous=1"], "0\n"),
+    (
+        &[
+            "alog",
+            "format",
+            "%u %O",
+            "",
+            "--time=9223372036854775807",
+            "--previous=-9223372036854775808",
+        ],
+        "18446744073709551615 18446744073\n",
+    ),
 ];
 
 #[test]
@@ -117,12 +163,34 @@ const REFUSED_VALUES: &[(&[&str], &str)] = &[
         "alog: --time=\"+1\" is refused: allowed is a number from -9223372036854775808 to 9223372036854775807, without +\n",
     ),
     (
+        &[
+            "alog",
+            "format",
+            "%v",
+            "x",
+            "--previous=-9223372036854775809",
+        ],
+        "alog: --previous=\"-9223372036854775809\" is refused: allowed is a number from -9223372036854775808 to 9223372036854775807, without +\n",
+    ),
+    (
+        &["alog", "format", "%v", "x", "--previous="],
+        "alog: --previous=\"\" is refused: allowed is a number from -9223372036854775808 to 9223372036854775807, without +\n",
+    ),
+    (
         &["alog", "format", "%v", "x", "--offset=1440"],
         "alog: --offset=\"1440\" is refused: allowed is a number from -1439 to 1439, without +\n",
     ),
     (
         &["alog", "format", "%v", "x", "--offset=-1440"],
         "alog: --offset=\"-1440\" is refused: allowed is a number from -1439 to 1439, without +\n",
+    ),
+    (
+        &["alog", "format", "%v", "x", "--zone=UTC"],
+        "alog: --zone=\"UTC\" is refused: allowed is a POSIX rule of 1 to 64 bytes, as CET-1CEST,M3.5.0,M10.5.0/3, without --offset\n",
+    ),
+    (
+        &["alog", "format", "%v", "x", "--zone=UTC0", "--offset=0"],
+        "alog: --zone=\"UTC0\" is refused: allowed is a POSIX rule of 1 to 64 bytes, as CET-1CEST,M3.5.0,M10.5.0/3, without --offset\n",
     ),
     (
         &["alog", "format", "%v", "x", "--thread=-1"],

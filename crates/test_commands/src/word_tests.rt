@@ -33,7 +33,7 @@ const WRONG: &[&[&str]] = &[
     &["alog", "load", "--folder=d"],
     &["alog", "loads", "c.toml"],
     &["alog", "format", "%v", "x", "y"],
-    &["alog", "format", "%v", "x", "--previous=0"],
+    &["alog", "format", "%v", "x", "--after=0"],
     &["alog", "format", "%v", "--time", "-1"],
 ];
 

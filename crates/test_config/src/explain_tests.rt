@@ -31,15 +31,25 @@ fn says(rt: &(impl Abort + AllocGlobal), parts: &[&str], want: &str) {
     is_text(rt, text.as_str(), want);
 }
 
-const REFUSALS: [([&str; 4], &str); 6] = [
+const REFUSALS: [([&str; 4], &str); 8] = [
     (
         ["colour = 1\n", SINK, LOGGER, ""],
         "\"colour\" = 1: a key that is not known here; \
-         known are queue, workers, text, offset, process, sink and logger",
+         known are queue, workers, text, offset, zone, process, sink and logger",
     ),
     (
         ["queue = 3\n", SINK, LOGGER, ""],
         "queue = 3: a value that its key can not have; it may have a power of two, 2 to 65536",
+    ),
+    (
+        ["zone = \"UTC\"\n", SINK, LOGGER, ""],
+        "zone = \"UTC\": a value that its key can not have; \
+         it may have a POSIX rule of 1 to 64 bytes, as CET-1CEST,M3.5.0,M10.5.0/3, and no offset beside it",
+    ),
+    (
+        ["offset = 0\nzone = \"UTC0\"\n", SINK, LOGGER, ""],
+        "zone = \"UTC0\": a value that its key can not have; \
+         it may have a POSIX rule of 1 to 64 bytes, as CET-1CEST,M3.5.0,M10.5.0/3, and no offset beside it",
     ),
     (
         [SINK, "", "", ""],

@@ -2,7 +2,7 @@
 use crate::documents::{LOGGER, SINK, gives};
 use alog_config::Place;
 
-const TOP_LINES: [(&str, u8); 30] = [
+const TOP_LINES: [(&str, u8); 39] = [
     ("queue = 2\n", 0),
     ("queue = 1\n", 30),
     ("queue = 65536\n", 0),
@@ -30,7 +30,22 @@ const TOP_LINES: [(&str, u8); 30] = [
     ("process = 4294967295\n", 0),
     ("process = 4294967296\n", 30),
     ("process = []\n", 30),
-    ("zone = \"UTC0\"\n", 29),
+    ("zone = \"UTC0\"\n", 0),
+    (
+        "zone = \"<ABCDEFGHIJKLM>-10:30:00<ABCDEFGHIJKLMN>-11:00:00,M10.1.0,M4.1.0\"\n",
+        0,
+    ),
+    (
+        "zone = \"<ABCDEFGHIJKLMN>-10:30:00<ABCDEFGHIJKLMN>-11:00:00,M10.1.0,M4.1.0\"\n",
+        30,
+    ),
+    ("zone = \"\"\n", 30),
+    ("zone = \"Europe/Berlin\"\n", 30),
+    ("zone = \"UTC0 \"\n", 30),
+    ("zone = 0\n", 30),
+    ("zone = \"UTC0\"\noffset = 0\n", 30),
+    ("zone = \"UTC0\"\noffset = 1440\n", 30),
+    ("zone = \"UTC\"\noffset = \"x\"\n", 30),
     ("sinks = 1\n", 29),
     ("queue = 99999999999999999999\n", 28),
 ];

@@ -3,6 +3,7 @@ use crate::documents::{LOGGER, SINK, config, gives, outcome};
 use alog_config::{
     Config, ConfigFault, NameList, Place, RULES, Rule, SinkConfig, SinkKind, Upkeep, leaves,
 };
+use alog_format::Zone;
 use alog_msg::Level;
 use alog_policy::Policy;
 use std::process::Abort;
@@ -29,10 +30,10 @@ struct Wanted<'a> {
     backtrace: usize,
 }
 
-/// The top has these sizes, of the queue, the workers and a text, and this offset and process.
-fn has_top(rt: &impl Abort, config: &Config, sizes: (usize, usize, usize), clock: (i16, u32)) {
+/// The top has these sizes, of the queue, the workers and a text, and this zone and process.
+fn has_top(rt: &impl Abort, config: &Config, sizes: (usize, usize, usize), clock: (Zone, u32)) {
     assert_eq!(rt; (config.queue, config.workers, config.text), sizes);
-    assert_eq!(rt; (config.offset, config.process), clock);
+    assert_eq!(rt; (config.zone, config.process), clock);
 }
 
 /// There are so many sinks, loggers, and sinks that need a store.
@@ -129,10 +130,22 @@ const NET: Wanted<'static> = Wanted {
 #[test]
 fn defaults(rt: HostRuntime) {
     let config = config(&rt, &[PLAIN, LOGGER]);
-    has_top(&rt, &config, (8_192, 1, 2_048), (0, 0));
+    has_top(&rt, &config, (8_192, 1, 2_048), (Zone::Fixed(0), 0));
     has_tables(&rt, &config, 1, 1, 1);
     has_leaf(&rt, &config, 0, OUT);
     has_logger(&rt, &config, 0, NET, &["out"]);
+}
+
+// The zone in place of the offset.
+#[test]
+fn a_rule(rt: HostRuntime) {
+    let rule = "CET-1CEST,M3.5.0,M10.5.0/3";
+    let Some(zone) = Zone::rule(rule) else {
+        panic!(rt; "no rule: {rule}");
+    };
+    let line = "zone = \"CET-1CEST,M3.5.0,M10.5.0/3\"\n";
+    let config = config(&rt, &[line, PLAIN, LOGGER]);
+    has_top(&rt, &config, (8_192, 1, 2_048), (zone, 0));
 }
 
 const ALL_SINKS: &str = "queue = 64
@@ -236,7 +249,7 @@ const DISCARDING: Wanted<'static> = Wanted {
 #[test]
 fn all_that_is_given(rt: HostRuntime) {
     let config = config(&rt, &[ALL_SINKS]);
-    has_top(&rt, &config, (64, 3, 100), (-90, 7));
+    has_top(&rt, &config, (64, 3, 100), (Zone::Fixed(-90), 7));
     has_logger(&rt, &config, 0, OFF, &["both", "e"]);
     has_logger(&rt, &config, 1, DISCARDING, &["e", "both"]);
 }

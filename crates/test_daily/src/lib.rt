@@ -1,8 +1,9 @@
 //! Tests of daily sinks over the public surface of `alog_sink`.
 //!
 //! They are here, and not in `alog_sink`, since a crate with tests is proved twice. Read `sinks.rt` (what the tests share)
-//! and `daily_tests.rt` (which file each line goes to, which files are kept, stores that fail), then `period.rt` and
-//! `daily_plain_tests.rt` (the definition as a plain program, beside what a daily sink does).
+//! and `daily_tests.rt` (which file each line goes to, which files are kept, stores that fail), `zone_tests.rt`
+//! (days by rules), then `period.rt` and `daily_plain_tests.rt` (the definition as a plain program, beside what a daily
+//! sink does).
 #![tactic(auto)]
 
 #[cfg(test)]
@@ -12,5 +13,7 @@ mod daily_tests;
 mod period;
 #[cfg(test)]
 mod sinks;
+#[cfg(test)]
+mod zone_tests;
 
 pub use period::{Moment, period_of};

@@ -29,15 +29,18 @@ pub struct Said<'a> {
     pub time: i64,
     pub text: &'a str,
     pub source: Option<SourceRef<'a>>,
+    /// The time of the message before.
+    pub previous: Option<i64>,
 }
 
-/// Nothing at the epoch, at level info.
+/// Nothing at the epoch, at level info, with no message before.
 pub const NOTHING: Said<'static> = Said {
     name: "",
     level: Level::Info,
     time: 0,
     text: "",
     source: None,
+    previous: None,
 };
 
 pub fn at<'a>(time: i64) -> Said<'a> {
@@ -77,7 +80,7 @@ fn append(
     assert!(rt; said.name.len() <= 64);
     assert!(rt; message.text.len() <= pattern.text_limit());
     assert!(rt; pattern.longest() <= line.room());
-    format(pattern, context, said.name, &message, line);
+    format(pattern, context, said.name, &message, said.previous, line);
 }
 
 /// The line has this text and a newline.
@@ -261,6 +264,43 @@ fn writes_the_default_format(rt: HostRuntime) {
     }
 }
 
+// The time from the message before: none before, the same time, later, back, on both sides of 1970, and over the whole range of
+// times, where each text has its greatest length.
+#[test]
+fn tells_what_has_elapsed(rt: HostRuntime) {
+    for (previous, time, text) in [
+        (None, 5, "0 0 0 0     0|0"),
+        (Some(0), 0, "0 0 0 0     0|0"),
+        (Some(0), 999, "0 0 0 999     0|9"),
+        (Some(0), 1_500_000_000, "1 1500 1500000 1500000000  1500|1"),
+        (Some(1_600_000_000), 1_000_000_000, "0 0 0 0     0|0"),
+        (Some(1_000_000_000), 1_000_001_000, "0 0 1 1000     0|1"),
+        (Some(-1), 0, "0 0 0 1     0|1"),
+        (
+            Some(-1_500_000_000),
+            -500_000_001,
+            "0 999 999999 999999999   999|9",
+        ),
+        (
+            Some(i64::MIN),
+            0,
+            "9223372036 9223372036854 9223372036854775 9223372036854775808 9223372036854|9",
+        ),
+        (
+            Some(i64::MIN),
+            i64::MAX,
+            "18446744073 18446744073709 18446744073709551 18446744073709551615 18446744073709|1",
+        ),
+        (Some(i64::MAX), i64::MIN, "0 0 0 0     0|0"),
+    ] {
+        let said = Said {
+            previous,
+            ..at(time)
+        };
+        check(&rt, "%O %o %i %u %5o|%1!u", &UTC, said, text);
+    }
+}
+
 /// The line has these bytes.
 fn has(rt: &impl Abort, line: &LineBuf, bytes: &str) {
     assert!(rt; line.as_slice() == bytes.as_bytes(), "{bytes}");
@@ -390,7 +430,7 @@ fn days_and_seconds(rt: HostRuntime) {
         (1_439, i64::MAX, 106_752, 85_576),
         (-1_439, i64::MIN, -106_753, 823),
     ] {
-        let shown = clock_time(Zone::Fixed(offset), time);
+        let shown = clock_time(&Zone::Fixed(offset), time);
         assert_eq!(rt; (shown.day, shown.second), (day, second), "{time}");
     }
 }

@@ -7,11 +7,12 @@ use std::process::Abort;
 
 const PATTERN: &[u8] = b"%Y-%m-%d %T.%F %a %z";
 
-/// Writes the line of a message of this time in place of what was there.
-fn write(
+/// Writes the line of a message of this time, behind one of the previous time, in place of what was there.
+pub fn write(
     rt: &(impl Abort + AllocGlobal),
     formatter: &mut Formatter,
     context: &Context,
+    previous: Option<i64>,
     time: i64,
     line: &mut LineBuf,
 ) {
@@ -19,7 +20,7 @@ fn write(
     line.clear();
     assert!(rt; message.text.len() <= formatter.pattern().text_limit());
     assert!(rt; formatter.pattern().longest() <= line.room());
-    formatter.format(context, "", &message, line);
+    formatter.format(context, "", &message, previous, line);
 }
 
 /// Writes it by the function that remembers nothing.
@@ -27,6 +28,7 @@ fn write_alone(
     rt: &(impl Abort + AllocGlobal),
     pattern: &Pattern,
     context: &Context,
+    previous: Option<i64>,
     time: i64,
     line: &mut LineBuf,
 ) {
@@ -34,7 +36,7 @@ fn write_alone(
     line.clear();
     assert!(rt; message.text.len() <= pattern.text_limit());
     assert!(rt; pattern.longest() <= line.room());
-    format(pattern, context, "", &message, line);
+    format(pattern, context, "", &message, previous, line);
 }
 
 // By one formatter, in this order. The texts are those of Python's `datetime`.
@@ -85,7 +87,7 @@ fn remembers_a_second(rt: HostRuntime) {
             "2262-04-11 23:47:16.000000000 Fri +00:00\n",
         ),
     ] {
-        write(&rt, &mut formatter, &context, time, &mut line);
+        write(&rt, &mut formatter, &context, None, time, &mut line);
         assert!(&rt; line.as_slice() == text.as_bytes(), "{text}");
     }
 }
@@ -103,13 +105,14 @@ const TIMES: [i64; 9] = [
     i64::MAX,
 ];
 
-// Whole seconds first, milliseconds first, none at all, padded ones, and more than a formatter remembers.
-const PATTERNS: [&[u8]; 5] = [
+// Whole seconds first, milliseconds first, none at all, padded ones, more than a formatter remembers, and elapsed times.
+const PATTERNS: [&[u8]; 6] = [
     PATTERN,
     b"%e:%S %F %c",
     b"%v",
     b"%a %8H %S",
     b"%c %c %c %A %B %r",
+    b"%S %u %i %o %O",
 ];
 
 /// One formatter after these two messages writes what `format` does.
@@ -123,9 +126,10 @@ fn writes_as_alone(
     let pattern = compiled(rt, pattern);
     let mut line = buffer(rt, pattern.longest());
     let mut alone = buffer(rt, pattern.longest());
-    write(rt, &mut formatter, &first.0, first.1, &mut line);
-    write(rt, &mut formatter, &second.0, second.1, &mut line);
-    write_alone(rt, &pattern, &second.0, second.1, &mut alone);
+    let previous = Some(first.1);
+    write(rt, &mut formatter, &first.0, None, first.1, &mut line);
+    write(rt, &mut formatter, &second.0, previous, second.1, &mut line);
+    write_alone(rt, &pattern, &second.0, previous, second.1, &mut alone);
     assert!(rt; line.as_slice() == alone.as_slice(), "{second:?}");
 }
 

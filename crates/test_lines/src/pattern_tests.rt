@@ -97,6 +97,24 @@ fn skips_a_side_without_a_width(rt: HostRuntime) {
     spells(&rt, "%-v|%--v%-%%-!%0!%%100t", &items, longest);
 }
 
+#[test]
+fn counts_elapsed_times(rt: HostRuntime) {
+    let items = [
+        Item::Flag(Flag::ElapsedNanoseconds, None),
+        Item::Flag(Flag::ElapsedMicroseconds, None),
+        Item::Flag(Flag::ElapsedMilliseconds, None),
+        Item::Flag(Flag::ElapsedSeconds, None),
+        Item::Flag(Flag::ElapsedNanoseconds, right(21)),
+        Item::Flag(Flag::ElapsedSeconds, padding(4, Side::Left, true)),
+    ];
+    spells(
+        &rt,
+        "%u%i%o%O%21u%-4!O",
+        &items,
+        20 + 17 + 14 + 11 + 21 + 4 + 1,
+    );
+}
+
 /// So many times this spelling.
 fn repeated(rt: &(impl Abort + AllocGlobal), spelling: &str, times: usize) -> Vec<u8> {
     let mut pattern = Vec::new(rt.alloc());

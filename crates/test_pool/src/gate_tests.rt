@@ -1,7 +1,8 @@
 //! Pools whose workers are held by a gate.
 use crate::gates::{Flags, has_begun, holder, holds_until, lowered, open};
-use crate::reports::{has, has_tickets, has_totals, is_told, logged};
+use crate::reports::{has, has_tickets, has_totals, is_told, logged, posted};
 use crate::trial::{Files, NEVER, PLAIN, Plan, Trial, setup_of};
+use alog_msg::Level;
 use alog_policy::{Outcome, Policy, Why};
 use alog_pool::Report;
 use std::alloc::Global;
@@ -130,5 +131,50 @@ fn the_new_are_discarded(rt: HostRuntime) {
     let report = trial.end(&rt);
     has_totals(&rt, &report, 5, 2, 0);
     has_tickets(&rt, &report, 0, &[0, 1, 2]);
+    has(&rt, &report, 0, b"a\nb\nc\n");
+}
+
+// A text is logged to a queue of two places, whose worker is held at it, and then three without waiting, of which the last is
+// answered so.
+fn says_three_now(
+    rt: &(impl Abort + Wait + Clock),
+    alloc: Global,
+    flags: &Flags,
+    trial: &mut Trial,
+    last: Outcome<()>,
+) {
+    trial.say(rt, alloc, 0, "a");
+    has_begun(rt, flags);
+    let answers = [("b", posted(1)), ("c", posted(2)), ("d", last)];
+    for (text, outcome) in answers {
+        let reply = trial.log_now(rt, alloc, 0, Level::Info, text);
+        is_told(rt, reply, logged(outcome));
+    }
+    open(flags);
+}
+
+#[test]
+fn the_oldest_of_three_is_overrun(rt: HostRuntime) {
+    let alloc = rt.alloc();
+    let flags = lowered(&rt, alloc);
+    let gate = holds_until(&rt, &flags, 0);
+    let setup = setup_of(alloc, narrow(Policy::OverrunOldest), &[&[0]], &[NEVER]);
+    let mut trial = Trial::start(&rt, alloc, setup, gate, 1);
+    says_three_now(&rt, alloc, &flags, &mut trial, overran(3));
+    let report = trial.end(&rt);
+    has_totals(&rt, &report, 4, 0, 1);
+    has(&rt, &report, 0, b"a\nc\nd\n");
+}
+
+#[test]
+fn the_last_of_three_is_discarded(rt: HostRuntime) {
+    let alloc = rt.alloc();
+    let flags = lowered(&rt, alloc);
+    let gate = holds_until(&rt, &flags, 0);
+    let setup = setup_of(alloc, narrow(Policy::DiscardNew), &[&[0]], &[NEVER]);
+    let mut trial = Trial::start(&rt, alloc, setup, gate, 1);
+    says_three_now(&rt, alloc, &flags, &mut trial, full());
+    let report = trial.end(&rt);
+    has_totals(&rt, &report, 4, 1, 0);
     has(&rt, &report, 0, b"a\nb\nc\n");
 }

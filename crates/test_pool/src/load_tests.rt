@@ -1,5 +1,6 @@
 //! Loads of small configurations, over files in memory.
 use crate::reports::{count_of_lines, file_named, has_faults, has_first_tickets, has_totals};
+use crate::thread_tests::has_each_ticket_once;
 use crate::trial::{Files, NEVER};
 use alog_config::{Config, leaves, read};
 use alog_load::{LoadError, load};
@@ -80,7 +81,7 @@ fn stores_of(rt: &impl Abort, alloc: Global, count: usize, fails: u64) -> Vec<Fi
 
 // What a load answers with this gate, where the last store fails its call of this number.
 fn answer_of<
-    R: Abort + Threads + Wait + Clock + Clone + Drop + Send + 'static,
+    R: Abort + Threads + Wait + Clock + Clone + Drop + Send + Sync + 'static,
     G: Gate + Send + Sync + Drop + 'static,
 >(
     rt: &R,
@@ -98,7 +99,7 @@ fn answer_of<
 }
 
 // What a load of this configuration answers.
-fn answered<R: Abort + Threads + Wait + Clock + Clone + Drop + Send + 'static>(
+fn answered<R: Abort + Threads + Wait + Clock + Clone + Drop + Send + Sync + 'static>(
     rt: &R,
     alloc: Global,
     document: &str,
@@ -119,7 +120,7 @@ fn reported(rt: &impl Abort, answer: Result<Report<Files>, LoadError>) -> Report
 }
 
 // The report of a load of this configuration.
-fn report_of<R: Abort + Threads + Wait + Clock + Clone + Drop + Send + 'static>(
+fn report_of<R: Abort + Threads + Wait + Clock + Clone + Drop + Send + Sync + 'static>(
     rt: &R,
     alloc: Global,
     document: &str,
@@ -139,6 +140,30 @@ fn one_list_of_tickets(rt: HostRuntime) {
     has_workers(&rt, &report, 1);
     has_first_tickets(&rt, &report, 0, 400);
     has_faults(&rt, &report, &[0]);
+}
+
+const EIGHT_WORKERS: &str = "
+queue = 8
+workers = 8
+
+[[sink]]
+name = \"out\"
+kind = \"memory\"
+pattern = \"%n %L %v\"
+
+[[logger]]
+name = \"net\"
+sinks = [\"out\"]
+";
+
+// Eight lists of tickets, which rise and have together each of the 4,000 once.
+#[test]
+fn eight_lists_of_tickets(rt: HostRuntime) {
+    let alloc = rt.alloc();
+    let report = report_of(&rt, alloc, EIGHT_WORKERS, 4, 1_000);
+    has_totals(&rt, &report, 4_000, 0, 0);
+    has_each_ticket_once(&rt, alloc, &report, 8);
+    has_count(&rt, &report, 0, "out", 4_000);
 }
 
 // There are so many workers.

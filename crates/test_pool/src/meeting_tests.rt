@@ -163,7 +163,9 @@ fn ended<R: Abort + Threads + Wait + Clock + Clone + Drop + Send + 'static>(
             .log(rt, alloc, 1, Level::Info, 0, "b", None)
             .is_ok()
     );
-    let mut producers = Vec::with_capacity(alloc, 1)?;
+    let Ok(mut producers) = Vec::with_capacity(alloc, 1) else {
+        panic!(rt; "no memory")
+    };
     producers.push_reserved(producer);
     match pool.shutdown(rt, producers) {
         Ok(report) => Ok(report),

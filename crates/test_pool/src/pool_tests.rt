@@ -29,7 +29,10 @@ fn is_refused<R: Abort + Threads + Wait + Clock + Clone + Drop + Send + 'static>
     wanted: StartError,
 ) -> Result<(), Fail> {
     let setup = setup_of(alloc, plan, &[&[0]], &[NEVER])?;
-    assert!(rt; Pool::start(rt, alloc, setup, OpenGate).err() == Some(wanted));
+    match Pool::start(rt, alloc, setup, OpenGate) {
+        Ok(_) => panic!(rt; "a pool"),
+        Err(error) => assert!(rt; error == wanted),
+    }
     Ok(())
 }
 
@@ -106,6 +109,19 @@ fn the_last_ticket_of_a_pool(rt: HostRuntime) {
     is_told(&rt, trial.log(&rt, alloc, 0, 0, "b"), spent());
     let report = trial.end(&rt);
     has_totals(&rt, &report, 2, 1, 0);
+    has(&rt, &report, 0, b"a\n");
+}
+
+// One ticket is left behind the only text: one of two workers is stopped by it, and the other ends at the end of all tickets.
+#[test]
+fn one_ticket_for_two_stops(rt: HostRuntime) {
+    let alloc = rt.alloc();
+    let first = (1 << 62) - 2;
+    let setup = setup_of(alloc, of(2, first, 2), &[&[0]], &[NEVER]);
+    let mut trial = Trial::start(&rt, alloc, setup, OpenGate, 1);
+    is_told(&rt, trial.log(&rt, alloc, 0, 0, "a"), logged(posted(first)));
+    let report = trial.end(&rt);
+    has_totals(&rt, &report, 1, 0, 0);
     has(&rt, &report, 0, b"a\n");
 }
 

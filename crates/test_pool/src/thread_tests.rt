@@ -3,14 +3,16 @@
 //! What becomes of a message is a matter of chance where the policy may lose some: what the report says is held against what the
 //! producers were told, against the tickets, and against the lines, each of which is of a text that its producer was told is
 //! posted.
-ghost use Rattle.std.specs.Prelude.{◌≡◌, All};
+ghost use Rattle.std.specs.Prelude.{◌≡◌};
+ghost use Rattle.std.specs.List.{AllByRecursion};
+ghost use Rattle.alog_pool.specs.declared.shared.Shared.{Shared};
 
 use crate::reports::{file_of, has_faults, tickets_of};
 use crate::totals::totals_of;
 use crate::trial::{Files, NEVER, PLAIN, Plan, Trial, setup_of};
 use alog_msg::Level;
 use alog_policy::{Outcome, Policy};
-use alog_pool::{OpenGate, Pool, Producer, Report, Totals};
+use alog_pool::{OpenGate, Producer, Report, Totals};
 use alog_registry::LogReply;
 use std::alloc::Global;
 use std::process::Abort;
@@ -114,43 +116,32 @@ fn say(
 }
 
 /// Logs all messages of this producer.
-fn say_all(
-    rt: &(impl Abort + Wait + Clock),
-    alloc: Global,
-    producer: Producer,
-    told: &Told,
-) -> Producer
-    ensures { result.shared ≡ producer.shared }
+fn say_all(rt: &(impl Abort + Wait + Clock), alloc: Global, producer: &mut Producer, told: &Told)
+    ensures { producer.new.shared ≡ producer.old.shared }
 {
-    let mut producer = producer;
     for number in 0..MESSAGES {
-        say(rt, alloc, &mut producer, number, told);
+        say(rt, alloc, producer, number, told);
     }
-    producer
 }
 
-/// Lets each producer of this pool log on a thread of its own, and answers them when all have come back.
-fn come_back<R: Abort + Threads + Wait + Clock + Sync>(
+/// Lets each of these producers of a pool log on a thread of its own, until all have.
+fn talk_all<R: Abort + Threads + Wait + Clock + Sync>(
     rt: &R,
     alloc: Global,
-    pool: &Pool<Files>,
-    producers: Vec<Producer>,
+    producers: &mut Vec<Producer>,
     told: &Told,
-) -> Vec<Producer>
-    requires own { All (λ p. p.shared ≡ pool.now.shared) producers.items }
-    ensures { All (λ p. p.shared ≡ pool.now.shared) result.items }
+)
+    ensures { (s : Shared) → AllByRecursion (λ p. p.shared ≡ s) producers.old.items
+        → AllByRecursion (λ p. p.shared ≡ s) producers.new.items }
 {
-    let back = thread::map_vec(
+    thread::for_each_mut(
         rt,
-        producers,
-        &|producer: Producer| -> Producer
-            ensures { result.shared ≡ producer.shared }
+        producers.as_mut_slice(),
+        TALKERS,
+        &|_number, producer: &mut Producer|
+            ensures { producer.exit.now.shared ≡ producer.entry.now.shared }
         { say_all(rt, alloc, producer, told) },
     );
-    match back {
-        Ok(producers) => producers,
-        Err(_) => panic!(rt; "no memory"),
-    }
 }
 
 /// Lets all producers log.
@@ -160,8 +151,11 @@ fn talk<R: Abort + Threads + Wait + Clock + Sync>(
     trial: Trial,
     told: &Told,
 ) -> Trial {
-    let Trial { pool, producers } = trial;
-    let producers = come_back(rt, alloc, &pool, producers, told);
+    let Trial {
+        pool,
+        mut producers,
+    } = trial;
+    talk_all(rt, alloc, &mut producers, told);
     Trial { pool, producers }
 }
 
@@ -178,7 +172,12 @@ fn rise(numbers: &[u64]) -> bool {
 }
 
 /// The tickets of each worker rise, and no two of all are the same. There is one for each message that was handled.
-fn has_each_ticket_once(rt: &impl Abort, alloc: Global, report: &Report<Files>, workers: usize) {
+pub(crate) fn has_each_ticket_once(
+    rt: &impl Abort,
+    alloc: Global,
+    report: &Report<Files>,
+    workers: usize,
+) {
     assert!(rt; report.tickets.len() == workers);
     let mut all = Vec::new(alloc);
     for worker in 0..workers {

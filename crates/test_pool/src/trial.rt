@@ -1,6 +1,6 @@
 //! A pool that is tried, with its producers. The functions end the test where something is not as it should be: a test is a
 //! straight line of calls.
-ghost use Rattle.std.specs.Prelude.{◌≡◌, [], IfOk};
+ghost use Rattle.std.specs.Prelude.{◌≡◌, [], ◌∷◌, ◌++◌, IfOk};
 ghost use Rattle.std.specs.List.{AllByRecursion};
 ghost use Rattle.alog_pool.specs.SinkSeat.{Suits};
 ghost use Rattle.alog_pool.specs.Pool.{Fits};
@@ -50,7 +50,6 @@ pub const PLAIN: Plan = Plan {
 };
 
 /// A pool and its producers.
-#[derive(Drop)]
 pub struct Trial {
     pub pool: Pool<Files>,
     pub producers: Vec<Producer>,
@@ -152,6 +151,16 @@ fn room(rt: &impl Abort, alloc: Global, count: usize) -> Vec<Producer>
     }
 }
 
+/// Adds a producer to those.
+fn add(rt: &impl Abort, all: &mut Vec<Producer>, producer: Producer)
+    ensures { all.new.items ≡ all.old.items ++ producer ∷ [] }
+{
+    match all.push(producer) {
+        Ok(()) => {}
+        Err(_) => panic!(rt; "no memory"),
+    }
+}
+
 /// So many producers of this pool, which made none yet.
 fn made(rt: &impl Abort, alloc: Global, pool: &mut Pool<Files>, count: usize) -> Vec<Producer>
     ensures pool { pool.new.shared ≡ pool.old.shared }
@@ -161,7 +170,7 @@ fn made(rt: &impl Abort, alloc: Global, pool: &mut Pool<Files>, count: usize) ->
     for number in 0..count {
         let producer = next(rt, pool);
         assert!(rt; producer.number() == number as u64);
-        assert!(rt; all.push(producer).is_ok());
+        add(rt, &mut all, producer);
     }
     all
 }
@@ -330,7 +339,7 @@ impl Trial {
             mut producers,
         } = out;
         assert!(rt; producers.len() == others && late.number() == others as u64);
-        assert!(rt; producers.push(late).is_ok());
+        add(rt, &mut producers, late);
         Trial { pool, producers }.end(rt)
     }
 
@@ -340,7 +349,10 @@ impl Trial {
             mut pool,
             producers,
         } = self;
-        assert!(rt; matches!(pool.producer(), Err(ProducerError::TooMany)));
+        match pool.producer() {
+            Err(ProducerError::TooMany) => {}
+            _ => panic!(rt; "a producer more"),
+        }
         Trial { pool, producers }.end(rt)
     }
 }

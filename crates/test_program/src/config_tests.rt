@@ -13,7 +13,7 @@ const KEEPING: &str =
                        [[logger]]\nname = \"net\"\nsinks = [\"out\"]\nbacktrace = 2\n";
 
 /// Logs and works, and what they print.
-const LOGS: [(&str, &str); 2] = [
+const LOGS: [(&str, &str); 3] = [
     // A message that is admitted, and one that is not.
     (
         "log 1 0 net info hello\nrun 1\nlog 2 0 net debug quiet\nwork 3\nrun 3\n",
@@ -25,6 +25,11 @@ const LOGS: [(&str, &str); 2] = [
         "log 1 0 net info a\nrun 1\nlog 2 0 net info b\nrun 2\nwork 3\nstep 3 4\nwork 4\nrun 4\nrun 3\n",
         "1 claim 0\n1 write 0\n1 posted 0 overran 0\n2 claim 1\n2 write 1\n2 posted 1 overran 0\n3 grab 0\n\
          3 take 0 a\n4 grab 1\n4 take 1 b\n4 line 1 out\n3 line 0 out\n== out out 16\nnet I b\nnet I a\n",
+    ),
+    // A work at an idle queue, and one beside a log that is claimed and not written yet.
+    (
+        "work 3\nrun 3\nlog 1 0 net info a\nstep 1 3\nwork 3\nstep 3 2\nstep 3\nrun 1\n",
+        "3 idle 0\n1 claim 0\n3 empty 0\n1 write 0\n1 posted 0 overran 0\n",
     ),
 ];
 

@@ -15,7 +15,7 @@ use std::sync::Wait;
 use std::thread;
 use std::time::Clock;
 
-fn losses(overrun: u64, discarded: u64) -> Counts {
+pub(crate) fn losses(overrun: u64, discarded: u64) -> Counts {
     Counts { overrun, discarded }
 }
 
@@ -27,7 +27,7 @@ fn gone(ticket: u64, overran: u64) -> Outcome<()> {
     Outcome::Posted { ticket, overran }
 }
 
-fn discarded(value: u64, why: Why) -> Outcome<u64> {
+pub(crate) fn discarded(value: u64, why: Why) -> Outcome<u64> {
     Outcome::Discarded {
         value,
         why,
@@ -47,7 +47,7 @@ fn ring_of_two(rt: &impl Abort, alloc: Global, first: u64) -> (Ring<u64>, Pass<u
 }
 
 // A loss book, and its first seat.
-fn new_book(rt: &impl Abort, alloc: Global) -> (LossBook, BookSeat)
+pub(crate) fn new_book(rt: &impl Abort, alloc: Global) -> (LossBook, BookSeat)
     ensures seat { IsSeatOf result.0 result.1 }
     ensures first { result.1.known ≡ first_seat_known }
 {
@@ -82,7 +82,7 @@ fn waits(
 }
 
 // A post that never waits ends so.
-fn goes(
+pub(crate) fn goes(
     rt: &impl Abort,
     ring: &Ring<u64>,
     pass: &mut Pass<u64>,
@@ -99,7 +99,7 @@ fn goes(
 }
 
 // So much was lost.
-fn has_lost(rt: &impl Abort, book: &LossBook, seat: &mut BookSeat, wanted: Counts)
+pub(crate) fn has_lost(rt: &impl Abort, book: &LossBook, seat: &mut BookSeat, wanted: Counts)
     requires { IsSeatOf book.now seat.old }
     ensures { IsSeatOf book.now seat.new }
 {

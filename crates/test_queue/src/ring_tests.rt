@@ -41,7 +41,13 @@ pub(crate) fn ring_of<T>(
 }
 
 // One round of a push gets this ticket.
-fn pushes(rt: &impl Abort, ring: &Ring<u64>, pass: &mut Pass<u64>, value: u64, ticket: u64)
+pub(crate) fn pushes(
+    rt: &impl Abort,
+    ring: &Ring<u64>,
+    pass: &mut Pass<u64>,
+    value: u64,
+    ticket: u64,
+)
     requires { IsPassOf ring.now pass.old }
     ensures { IsPassOf ring.now pass.new }
 {
@@ -49,7 +55,7 @@ fn pushes(rt: &impl Abort, ring: &Ring<u64>, pass: &mut Pass<u64>, value: u64, t
 }
 
 // The ring is full, and the next ticket is this one.
-fn is_full(rt: &impl Abort, ring: &Ring<u64>, pass: &mut Pass<u64>, at: u64)
+pub(crate) fn is_full(rt: &impl Abort, ring: &Ring<u64>, pass: &mut Pass<u64>, at: u64)
     requires { IsPassOf ring.now pass.old }
     ensures { IsPassOf ring.now pass.new }
 {
@@ -61,7 +67,7 @@ fn is_full(rt: &impl Abort, ring: &Ring<u64>, pass: &mut Pass<u64>, at: u64)
 }
 
 // One round of a pop takes this value with this ticket.
-fn pops(rt: &impl Abort, ring: &Ring<u64>, pass: &mut Pass<u64>, ticket: u64, value: u64)
+pub(crate) fn pops(rt: &impl Abort, ring: &Ring<u64>, pass: &mut Pass<u64>, ticket: u64, value: u64)
     requires { IsPassOf ring.now pass.old }
     ensures { IsPassOf ring.now pass.new }
 {
@@ -69,7 +75,7 @@ fn pops(rt: &impl Abort, ring: &Ring<u64>, pass: &mut Pass<u64>, ticket: u64, va
 }
 
 // A pass is out, and so the ring is not closed.
-fn stays(rt: &impl Abort, ring: Ring<u64>, pass: Pass<u64>) -> (Ring<u64>, Pass<u64>)
+pub(crate) fn stays(rt: &impl Abort, ring: Ring<u64>, pass: Pass<u64>) -> (Ring<u64>, Pass<u64>)
     requires { IsPassOf ring pass }
     ensures same { result.0 ≡ ring }
     ensures pass { IsPassOf result.0 result.1 }
@@ -81,7 +87,7 @@ fn stays(rt: &impl Abort, ring: Ring<u64>, pass: Pass<u64>) -> (Ring<u64>, Pass<
 }
 
 // No pass is out, and this is left in the ring.
-fn leaves<L: Limit<u64> + Drop>(
+pub(crate) fn leaves<L: Limit<u64> + Drop>(
     rt: &impl Abort,
     ring: Ring<u64, L>,
     pass: Pass<u64>,
@@ -96,7 +102,7 @@ fn leaves<L: Limit<u64> + Drop>(
 }
 
 // The pass has so many parts of its ring, and has all of them or not.
-fn has_parts(rt: &impl Abort, ring: &Ring<u64>, pass: &mut Pass<u64>, parts: u64)
+pub(crate) fn has_parts(rt: &impl Abort, ring: &Ring<u64>, pass: &mut Pass<u64>, parts: u64)
     requires { IsPassOf ring.now pass.old }
     ensures { IsPassOf ring.now pass.new }
 {

@@ -171,3 +171,26 @@ fn files_by_days(rt: HostRuntime) {
         "1 claim 0\n1 write 0\n1 posted 0 overran 0\n2 grab 0\n2 take 0 a\n2 line 0 days\n1 claim 1\n1 write 1\n1 posted 1 overran 0\n2 grab 1\n2 take 1 b\n2 line 1 days\n== days day_1970-01-01.log 8\n23:59 a\n== days day_1970-01-02.log 8\n00:00 b\n",
     );
 }
+
+const RULE: &str = "queue = 2
+zone = \"CET-1CEST,M3.5.0,M10.5.0/3\"
+[[sink]]
+name = \"days\"
+kind = \"daily\"
+file = \"day.log\"
+pattern = \"%T %z %v\"
+[[logger]]
+name = \"net\"
+sinks = [\"days\"]
+";
+
+#[test]
+fn files_by_days_of_a_rule(rt: HostRuntime) {
+    plays(
+        &rt,
+        RULE,
+        "log 1 1711846799000000000 net info a\nrun 1\nwork 2\nrun 2\nlog 1 1711846800000000000 net info b\nrun 1\nwork 2\nrun 2\nlog 1 1711922400000000000 net info c\nrun 1\nwork 2\nrun 2\n",
+        Ok(12),
+        "1 claim 0\n1 write 0\n1 posted 0 overran 0\n2 grab 0\n2 take 0 a\n2 line 0 days\n1 claim 1\n1 write 1\n1 posted 1 overran 0\n2 grab 1\n2 take 1 b\n2 line 1 days\n1 claim 2\n1 write 2\n1 posted 2 overran 0\n2 grab 2\n2 take 2 c\n2 line 2 days\n== days day_2024-03-31.log 36\n01:59:59 +01:00 a\n03:00:00 +02:00 b\n== days day_2024-04-01.log 18\n00:00:00 +02:00 c\n",
+    );
+}

@@ -1,4 +1,5 @@
 //! Servers: starts that are refused, runs of threads, and what a client answers.
+use crate::works::told_of_works;
 use alog_server::{Client, Home, LogError, Ran, RunError, Server, StartError, Work, start};
 use alog_sink::Store;
 use std::sync::Wait;
@@ -172,17 +173,15 @@ fn says(error: &StartError, why: &str) -> bool {
     }
 }
 
-/// Whether no server was started, for this reason.
-fn is_refused<S: Store + Drop>(started: Result<Server<S>, StartError>, why: &str) -> bool {
-    match started {
-        Ok(_) => false,
+/// Whether no server is started of this document, for this reason. One that is started has to be ended.
+fn refuses<R: Host>(rt: &R, document: &str, why: &str) -> bool {
+    match started(rt, document, "") {
+        Ok(server) => {
+            drop(ran(rt, server, 1, &HELLO));
+            false
+        }
         Err(error) => says(&error, why),
     }
-}
-
-/// Whether no server is started of this document, for this reason.
-fn refuses<R: Host>(rt: &R, document: &str, why: &str) -> bool {
-    is_refused(started(rt, document, ""), why)
 }
 
 #[test]
@@ -190,4 +189,23 @@ fn documents_of_no_server(rt: HostRuntime) {
     for (document, why) in &NO_SERVERS {
         assert!(rt; refuses(&rt, document, why), "{why}");
     }
+}
+
+/// Whether a run of so many threads, of which all but the first two end early, tells this error.
+fn tells_late<R: Host>(rt: &R, folder: &str, threads: usize, error: Option<usize>) -> bool {
+    match started(rt, SMALL, folder) {
+        Ok(server) => match told_of_works(rt, server, threads) {
+            Ok(ran) => ran.error == error,
+            Err(_) => false,
+        },
+        Err(_) => false,
+    }
+}
+
+#[test]
+fn the_first_thread_that_ends_early_is_told(rt: HostRuntime) -> io::Result<()> {
+    let folder = folder(&rt)?;
+    assert!(rt; tells_late(&rt, folder.as_str(), 5, Some(2)));
+    assert!(rt; tells_late(&rt, folder.as_str(), 2, None));
+    fs::remove_dir_all(&rt, folder.as_str())
 }

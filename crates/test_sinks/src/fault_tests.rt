@@ -2,10 +2,12 @@
 use crate::sinks::{
     Deed, Fused, Kept, Named, Plan, Row, answered, fan_of_two, has_just, members_leave, store_of,
 };
-use crate::stores::Noting;
+use crate::stores::{Marking, Noting};
 use alog_msg::Level;
-use alog_sink::{FuseStore, MemStore, OpenError, Sink, SinkError, Taken};
+use alog_sink::{FuseStore, MemStore, OpenError, Sink, SinkError, Taken, Unopened};
 use std::alloc::Global;
+use std::sync::Arc;
+use std::sync::atomic::{AtomicU64, Ordering};
 use std::test::Fail;
 
 /// A store that fails the call after so many, of an append when it has so many bytes.
@@ -177,22 +179,22 @@ fn a_fan_with_a_fault(rt: HostRuntime) -> Result<(), Fail> {
     Ok(())
 }
 
-/// Why a rotating sink is refused over a store that fails at once, and whether it gives back what the store had.
-fn of_a_refusal(alloc: Global, opening: Named<'_>) -> Result<(Option<OpenError>, bool), Fail> {
+/// The refusal of a rotating sink over a store of these files that fails at once.
+fn unopened(alloc: Global, opening: Named<'_>) -> Result<Option<Unopened<Fused>>, Fail> {
     let store = FuseStore::new(store_of(alloc, opening)?, 0, 0);
-    match Plan::rotating("log", 10, 1).open(alloc, store)? {
-        Ok(_) => Ok((None, false)),
-        Err(unopened) => {
-            let is_back = has_just(unopened.store.kept(), opening);
-            Ok((Some(unopened.error), is_back))
-        }
-    }
+    Ok(Plan::rotating("log", 10, 1).open(alloc, store)?.err())
+}
+
+/// Why it is refused, and whether it gives back what the store had.
+fn of_a_refusal(alloc: Global, opening: Named<'_>) -> Result<Option<(OpenError, bool)>, Fail> {
+    let refusal = unopened(alloc, opening)?;
+    Ok(refusal.map(|it| (it.error, has_just(it.store.kept(), opening))))
 }
 
 #[test]
 fn a_rotating_sink_that_cannot_be_opened(rt: HostRuntime) -> Result<(), Fail> {
     let refusal = of_a_refusal(rt.alloc(), &[("log", b"old\n")])?;
-    assert!(rt; refusal == (Some(OpenError::Store), true));
+    assert!(rt; refusal == Some((OpenError::Store, true)));
     Ok(())
 }
 
@@ -285,5 +287,34 @@ fn flushes_each(alloc: Global) -> Result<bool, Fail> {
 #[test]
 fn a_flush_of_each_member(rt: HostRuntime) -> Result<(), Fail> {
     assert!(rt; flushes_each(rt.alloc())?);
+    Ok(())
+}
+
+/// What two members of a fan noted in turn, the first with 1 and the second with 2, where the store of the first fails its call of
+/// this number; none where the fan answers other than the deeds say.
+fn marked(alloc: Global, fails: u64, deeds: &[Deed<'_>]) -> Result<Option<u64>, Fail> {
+    let marks = Arc::new(alloc, AtomicU64::new(0))?;
+    let one = marking(Arc::try_clone(&marks)?, 1, fails);
+    let two = marking(Arc::try_clone(&marks)?, 2, u64::MAX);
+    let mut fan = fan_of_two(alloc, one, two)?;
+    let count = answered(alloc, &mut fan, deeds)?;
+    Ok((count == deeds.len()).then_some(marks.load(Ordering::SeqCst)))
+}
+
+fn marking(marks: Arc<AtomicU64>, digit: u64, fails: u64) -> FuseStore<Marking> {
+    FuseStore::new(Marking { marks, digit }, fails, 0)
+}
+
+// Each line and each flush goes to the first member first, and a fault of its flush does not keep the second from its own.
+#[test]
+fn a_fan_serves_its_members_in_order(rt: HostRuntime) -> Result<(), Fail> {
+    let deeds = [
+        Deed::Gives(Level::Error, "x", Ok(Taken::Written)),
+        Deed::Flushes(Ok(())),
+    ];
+    let in_order = marked(rt.alloc(), u64::MAX, deeds.as_slice())?;
+    let failed = [Deed::Flushes(Err(SinkError::Store))];
+    let behind_a_fault = marked(rt.alloc(), 0, failed.as_slice())?;
+    assert!(rt; (in_order, behind_a_fault) == (Some(1212), Some(2)));
     Ok(())
 }

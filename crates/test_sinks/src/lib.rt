@@ -1,7 +1,7 @@
 //! Tests of sinks over the public surface of several crates, and the stores that they hand to sinks.
 //!
-//! They are here, and not in the crates that they try, since a crate with tests is proved twice. Read `stores.rt` (a store
-//! that yields, and one that notes what is flushed), `sinks.rt` (what the tests share), `sink_tests.rt` (sinks of each
+//! They are here, and not in the crates that they try, since a crate with tests is proved twice. Read `stores.rt` (stores
+//! that yield, that note what is flushed, and that note when), `sinks.rt` (what the tests share), `sink_tests.rt` (sinks of each
 //! kind), `rotation_tests.rt` and `rotation_plain_tests.rt` (rotating sinks, and the definition as a plain program beside them, on all
 //! small lists of lines), `fault_tests.rt` (sinks whose store fails) and `lane_tests.rt` (sinks under a lock, to which threads give lines).
 //! Daily sinks have a crate of tests of their own, `test_daily`, and so have stores, `test_stores`.
@@ -21,4 +21,4 @@ mod sink_tests;
 mod sinks;
 mod stores;
 
-pub use stores::{Noting, Yielding};
+pub use stores::{Marking, Noting, Yielding};

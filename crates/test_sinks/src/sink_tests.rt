@@ -1,5 +1,7 @@
 //! Sinks of each kind, by what they leave in their files, and those that are refused.
-use crate::sinks::{Deed, Named, Plan, Row, answered, fan_of_two, members_leave, store_of};
+use crate::sinks::{
+    Deed, Named, Plan, Row, answered, fan_of_plan, fan_of_two, members_leave, store_of,
+};
 use alog_msg::Level;
 use alog_sink::{
     FuseStore, MemStore, NameError, Names, NoFan, OpenError, Sink, Store, Taken, Unopened,
@@ -100,6 +102,47 @@ const ROTATING: Opened<'_> = (
     },
 );
 
+/// Neither a message below the sink's level nor a flush is a line before.
+const ELAPSING: Opened<'_> = (
+    &[],
+    Row {
+        plan: Plan {
+            pattern: b"%O %o %i %u",
+            ..Plan::MEMORY
+        },
+        deeds: &[
+            Deed::At(Level::Info, 0, Ok(Taken::Written)),
+            Deed::At(Level::Info, 1_500_000_000, Ok(Taken::Written)),
+            Deed::At(Level::Debug, 1_600_000_000, Ok(Taken::Below)),
+            Deed::Flushes(Ok(())),
+            Deed::At(Level::Info, 1_000_000_000, Ok(Taken::Written)),
+            Deed::At(Level::Info, 1_000_001_000, Ok(Taken::Written)),
+        ],
+        files: &[(
+            "log",
+            b"0 0 0 0\n1 1500 1500000 1500000000\n0 0 0 0\n0 0 1 1000\n",
+        )],
+    },
+);
+
+/// The line before may stand in another file.
+const ELAPSING_FILES: Opened<'_> = (
+    &[],
+    Row {
+        plan: Plan {
+            pattern: b"%u",
+            limits: Some((2, 2)),
+            ..Plan::MEMORY
+        },
+        deeds: &[
+            Deed::At(Level::Info, -3, Ok(Taken::Written)),
+            Deed::At(Level::Info, 2, Ok(Taken::Written)),
+            Deed::At(Level::Info, 9, Ok(Taken::Written)),
+        ],
+        files: &[("log", b"7\n"), ("log.1", b"5\n"), ("log.2", b"0\n")],
+    },
+);
+
 /// Whether a row holds.
 fn holds(alloc: Global, row: &Opened<'_>) -> Result<bool, Fail> {
     let store = store_of(alloc, row.0)?;
@@ -121,6 +164,33 @@ fn a_sink_without_a_line_has_no_file(rt: HostRuntime) -> Result<(), Fail> {
 #[test]
 fn a_rotating_sink(rt: HostRuntime) -> Result<(), Fail> {
     assert!(rt; holds(rt.alloc(), &ROTATING)?);
+    Ok(())
+}
+
+const FOUR_TIMES: [Deed<'_>; 4] = [
+    Deed::At(Level::Info, 10, Ok(Taken::Written)),
+    Deed::At(Level::Error, 15, Ok(Taken::Written)),
+    Deed::At(Level::Info, 17, Ok(Taken::Written)),
+    Deed::At(Level::Error, 18, Ok(Taken::Written)),
+];
+
+/// Whether each member of a fan counts from the line before of its own.
+fn elapses_for_each(alloc: Global) -> Result<bool, Fail> {
+    let plan = Plan {
+        pattern: b"%u",
+        ..Plan::MEMORY
+    };
+    let mut fan = fan_of_plan(alloc, plan, MemStore::new(alloc), MemStore::new(alloc))?;
+    let count = answered(alloc, &mut fan, &FOUR_TIMES)?;
+    let files: [Named<'_>; 2] = [&[("log", b"0\n5\n2\n1\n")], &[("log", b"0\n3\n")]];
+    Ok(count == FOUR_TIMES.len() && members_leave(&fan, &files))
+}
+
+#[test]
+fn the_time_since_the_line_before(rt: HostRuntime) -> Result<(), Fail> {
+    assert!(rt; holds(rt.alloc(), &ELAPSING)?, "a level");
+    assert!(rt; holds(rt.alloc(), &ELAPSING_FILES)?, "files");
+    assert!(rt; elapses_for_each(rt.alloc())?, "a fan");
     Ok(())
 }
 

@@ -63,6 +63,11 @@ pub fn message(alloc: Global, level: Level, text: &str) -> Result<Message, Fail>
     Ok(Message::new(alloc, TEXT_LIMIT, 0, level, 0, 1, text, None)?)
 }
 
+/// An empty text of this time.
+fn message_at(alloc: Global, level: Level, time: i64) -> Result<Message, Fail> {
+    Ok(Message::new(alloc, TEXT_LIMIT, 0, level, time, 1, "", None)?)
+}
+
 /// A sink over one store: the least level of its messages, its pattern, its file, and the limits of one that rotates.
 #[derive(Clone, Copy)]
 pub struct Plan {
@@ -118,12 +123,22 @@ impl Plan {
 
 /// A fan of one sink for level info, and one for level error.
 pub fn fan_of_two<S: Store + Drop>(alloc: Global, one: S, two: S) -> Result<Sink<S>, Fail> {
+    fan_of_plan(alloc, Plan::MEMORY, one, two)
+}
+
+/// A fan of a sink of this plan, and of one of the same for level error.
+pub fn fan_of_plan<S: Store + Drop>(
+    alloc: Global,
+    plan: Plan,
+    one: S,
+    two: S,
+) -> Result<Sink<S>, Fail> {
     let errors = Plan {
         level: Level::Error,
-        ..Plan::MEMORY
+        ..plan
     };
     let mut members = Vec::with_capacity(alloc, 2)?;
-    members.push_reserved(Plan::MEMORY.opened(alloc, one)?);
+    members.push_reserved(plan.opened(alloc, one)?);
     members.push_reserved(errors.opened(alloc, two)?);
     match Sink::fan(alloc, Level::Trace, members) {
         Ok(fan) => Ok(fan),
@@ -142,6 +157,8 @@ pub enum Deed<'a> {
     IsBroken(&'a str),
     /// It is given a text of this level.
     Gives(Level, &'a str, Answer),
+    /// It is given an empty text of this level and time.
+    At(Level, i64, Answer),
     /// It is flushed.
     Flushes(Result<(), SinkError>),
 }
@@ -167,6 +184,18 @@ pub fn given<S: Store>(
     Ok(take(sink, &message, &mut line))
 }
 
+/// Gives an empty text of this level and time to a sink.
+fn given_at<S: Store>(
+    alloc: Global,
+    sink: &mut Sink<S>,
+    level: Level,
+    time: i64,
+) -> Result<Option<Answer>, Fail> {
+    let message = message_at(alloc, level, time)?;
+    let mut line = LineBuf::new(alloc, 256)?;
+    Ok(take(sink, &message, &mut line))
+}
+
 /// Whether a sink answers a deed so.
 fn answers<S: Store>(alloc: Global, sink: &mut Sink<S>, deed: Deed<'_>) -> Result<bool, Fail> {
     let (level, text, wanted) = match deed {
@@ -174,6 +203,9 @@ fn answers<S: Store>(alloc: Global, sink: &mut Sink<S>, deed: Deed<'_>) -> Resul
         Deed::Fails(text) => (Level::Info, text, Err(SinkError::Store)),
         Deed::IsBroken(text) => (Level::Info, text, Err(SinkError::Broken)),
         Deed::Gives(level, text, wanted) => (level, text, wanted),
+        Deed::At(level, time, wanted) => {
+            return Ok(given_at(alloc, sink, level, time)? == Some(wanted));
+        }
         Deed::Flushes(wanted) => return Ok(sink.flush() == wanted),
     };
     Ok(given(alloc, sink, level, text)? == Some(wanted))

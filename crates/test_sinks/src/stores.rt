@@ -1,5 +1,7 @@
 //! Stores that tests hand to sinks. Each meets the law of `Store`, as those of `alog_sink` do.
 use alog_sink::{MemStore, Store, StoreError};
+use std::sync::Arc;
+use std::sync::atomic::{AtomicU64, Ordering};
 use std::thread;
 
 /// Files in memory, where each call lets other threads go on first. The test `two_threads_write_lines` shows it.
@@ -79,5 +81,56 @@ impl Store for Noting {
         drop(self.flushed.push_str(name));
         drop(self.flushed.push_str(" "));
         self.files.flush(name)
+    }
+}
+
+/// Notes each append and each flush in a number that several stores share: one digit more, its own. The test
+/// `a_fan_serves_its_members_in_order` shows it.
+#[derive(Drop)]
+pub struct Marking {
+    /// what all have noted
+    pub marks: Arc<AtomicU64>,
+    /// its own digit
+    pub digit: u64,
+}
+
+impl Marking {
+    fn mark(&self) {
+        let marks = self.marks.load(Ordering::SeqCst).wrapping_mul(10);
+        self.marks
+            .store(marks.wrapping_add(self.digit), Ordering::SeqCst);
+    }
+}
+
+impl Store for Marking {
+    ghost use Rattle.std.specs.Prelude.{false};
+    ghost use Rattle.alog_sink.specs.Files.{no_files};
+
+    ghost files = { λ s. no_files };
+
+    ghost tells = { false };
+
+    ghost failures = { λ s. 0 };
+
+    fn append(&mut self, _name: &str, _bytes: &[u8]) -> Result<(), StoreError> {
+        self.mark();
+        Ok(())
+    }
+
+    fn rename(&mut self, _from: &str, _to: &str) -> Result<(), StoreError> {
+        Ok(())
+    }
+
+    fn remove(&mut self, _name: &str) -> Result<(), StoreError> {
+        Ok(())
+    }
+
+    fn size(&mut self, _name: &str) -> Result<Option<u64>, StoreError> {
+        Ok(None)
+    }
+
+    fn flush(&mut self, _name: &str) -> Result<(), StoreError> {
+        self.mark();
+        Ok(())
     }
 }

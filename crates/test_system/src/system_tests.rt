@@ -71,6 +71,19 @@ fn hello_and_quiet(rt: HostRuntime) {
 }
 
 #[test]
+fn a_work_that_finds_nothing(rt: HostRuntime) {
+    let mut it = Trial::new(&rt, 8, Level::Off, 0);
+    it.tells(&rt, 3, Deed::Work, " 3 idle 0;");
+    it.begins(&rt, 1, log(Level::Info, "a"), Ok(None));
+    it.runs(&rt, 1, 3);
+    it.begins(&rt, 3, Deed::Work, Ok(None));
+    it.runs(&rt, 3, 2);
+    it.told(&rt, " 1 claim 0;");
+    it.begins(&rt, 3, Deed::Work, Err(BeginError::InCall));
+    it.ends(&rt, 3, " 3 empty 0;");
+}
+
+#[test]
 fn a_log_that_is_posted_and_kept(rt: HostRuntime) {
     let mut it = Trial::new(&rt, 8, Level::Off, 1);
     it.begins(&rt, 1, log(Level::Info, "m"), Ok(None));

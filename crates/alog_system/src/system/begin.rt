@@ -1,5 +1,6 @@
 //! How a deed begins.
-ghost use Rattle.std.specs.Prelude.{◌≡◌, ◌↔◌, ◌≤◌, ◌<◌, ◌==◌, IfOk, OnOk, OnErr, IfErr, IsErrOf, None, true, false, length};
+ghost use Rattle.std.specs.Prelude.{◌≡◌, ◌↔◌, ◌≤◌, ◌<◌, ◌==◌, IfOk, OnOk, OnErr, IfErr, IsErrOf, None, [], true, false, length};
+ghost use Rattle.alog_core.specs.Run.{GoesOn};
 ghost use Rattle.alog_core.specs.World.{is_idle, round_of};
 ghost use Rattle.alog_core.specs.declared.TheConstants.{ACTORS};
 ghost use Rattle.alog_core.specs.declared.round.Round.TheVariants as round;
@@ -42,6 +43,8 @@ impl<S: Store + Drop> System<S> {
         requires { IsKnown self.old.roster deed }
         ensures filtered { IfOk result (λ level. level ≡ filtered_by self.old.roster deed.entry) }
         ensures begun { OnOk result (self.new ≡ begun self.old actor deed.entry) }
+        // Each history that leads to the queue and its rounds leads to those in which the deed has begun.
+        ensures history { OnOk result (GoesOn {N = Unit {0}} self.old.desk.world [] self.new.desk.world) }
         ensures no_actor { IsErrOf result BeginError.NoActor ↔ (ACTORS ≤ actor) }
         ensures in_call { IsErrOf result BeginError.InCall ↔ ((actor < ACTORS) × (is_free self.old actor ≡ false)) }
         ensures text_too_long { IsErrOf result BeginError.TextTooLong
@@ -55,6 +58,7 @@ impl<S: Store + Drop> System<S> {
         if !self.is_free(actor) {
             return Err(BeginError::InCall);
         }
+        self.desk.is_reached();
         match deed {
             Deed::Log {
                 time,

@@ -2,8 +2,10 @@
 ghost use Rattle.std.specs.Prelude.{[]};
 
 use crate::load::null_store::NullStore;
+use crate::load::run::ended;
 use crate::load::start::started;
-use anyhow::{Result, bail};
+use anyhow::Result;
+use std::process::Abort;
 use std::rt::Clock;
 use std::sync::Wait;
 use std::thread;
@@ -14,15 +16,24 @@ use std::time::{CpuClock, Duration};
 /// in which nothing is logged.
 pub fn print_idle<R>(rt: &R, workers: u32, seconds: u32) -> Result<()>
 where
-    R: Threads + Wait + Clock + CpuClock + Print + AllocGlobal + Clone + Drop + Send + 'static,
+    R: Threads
+        + Wait
+        + Clock
+        + Abort
+        + CpuClock
+        + Print
+        + AllocGlobal
+        + Clone
+        + Drop
+        + Send
+        + 'static,
 {
     let pool = started(rt, rt.alloc(), b"%v", NullStore, workers as usize)?;
-    let before = rt.process_cpu_time()?;
+    let before = rt.process_cpu_time();
     thread::sleep(rt, Duration::from_secs(u64::from(seconds)));
-    let taken = rt.process_cpu_time()?.saturating_sub(before);
-    if pool.shutdown(rt, Vec::new(rt.alloc())).is_err() {
-        bail!("a producer is out");
-    }
+    let after = rt.process_cpu_time();
+    drop(ended(rt, pool, Vec::new(rt.alloc())));
+    let taken = after?.saturating_sub(before?);
     let share = taken.as_secs_f64() * 1e6 / f64::from(seconds);
     println!(rt; "{share:.0}")?;
     Ok(())

@@ -1,19 +1,21 @@
 //! A run, and what it prints.
-ghost use Rattle.std.specs.Prelude.{◌≡◌, ◌<◌, [], All, length, IfOk};
+ghost use Rattle.std.specs.Prelude.{◌≡◌, ◌<◌, ◌≤◌, [], All, length, vec_capacity};
 ghost use Rattle.std.specs.List.{AllByRecursion};
+ghost use Rattle.alog_pool.specs.declared.shared.Shared.{Shared};
 
 use crate::load::case::{Case, Figure};
 use crate::load::start::started;
 use crate::load::work::{Task, carry_out};
 use alog_pool::{Pool, Producer, Report};
 use alog_sink::Store;
-use anyhow::{Result, bail, ensure};
+use anyhow::{Result, anyhow, ensure};
 use std::alloc::Global;
+use std::process::Abort;
 use std::rt::Clock;
 use std::sync::Wait;
-use std::thread;
 use std::thread::Threads;
 use std::time::{Duration, Instant};
+use std::{io, thread};
 
 /// What a run took.
 #[derive(Drop)]
@@ -24,73 +26,126 @@ pub struct Run {
     times: Vec<u64>,
 }
 
-/// A task for each producer.
-fn tasks_of<S: Store + Drop + Send + 'static>(
+/// Makes a task for each producer, into a list with room for them.
+fn add_tasks<S: Store + Drop + Send + 'static>(
     alloc: Global,
     pool: &mut Pool<S>,
     case: &Case<'_>,
-) -> Result<Vec<Task>>
+    tasks: &mut Vec<Task>,
+) -> Result<()>
+    requires room { (tasks.old.items ≡ []) × (case.now.producers ≤ vec_capacity tasks.old) }
     ensures pool { pool.new.shared ≡ pool.old.shared }
-    ensures each { IfOk result (λ v. All (λ t. t.producer.shared ≡ pool.old.shared) v.items) }
+    ensures each { All (λ t. t.producer.shared ≡ pool.old.shared) tasks.new.items }
+    ensures few { length tasks.new.items ≤ case.now.producers }
 {
     let room = match case.order.figure {
         Figure::Rate => 0,
         Figure::Times => case.order.count as usize,
     };
-    let mut tasks = Vec::new(alloc);
-    for _ in 0..case.producers {
-        tasks.push(Task {
-            times: Vec::with_capacity(alloc, room)?,
+    for _made in 0..case.producers {
+        let times = Vec::with_capacity(alloc, room)?;
+        tasks.push_reserved(Task {
             producer: pool.producer()?,
             order: case.order,
+            times,
             failed: 0,
-        })?;
+        });
     }
-    Ok(tasks)
+    Ok(())
 }
 
-/// Lets each task be done on a thread of its own, and answers them when all have ended.
-fn done_by_threads<S, R>(
+/// Lets each task be done on a thread of its own, until all are.
+fn do_by_threads<R: Threads + Wait + Clock + Sync>(rt: &R, alloc: Global, tasks: &mut Vec<Task>)
+    requires each { All (λ t. 0 < length t.producer.shared.loggers) tasks.old.items }
+    ensures count { length tasks.new.items ≡ length tasks.old.items }
+    ensures each { (s : Shared) → All (λ t. t.producer.shared ≡ s) tasks.old.items → All (λ t. t.producer.shared ≡ s) tasks.new.items }
+{
+    let threads = tasks.len().max(1);
+    thread::for_each_mut(
+        rt,
+        tasks.as_mut_slice(),
+        threads,
+        &|_number, task: &mut Task|
+            requires { 0 < length task.now.producer.shared.loggers }
+            ensures { task.exit.now.producer.shared ≡ task.entry.now.producer.shared }
+        { carry_out(rt, alloc, task) },
+    );
+}
+
+/// Takes the producers of tasks back, with all their times, and says whether each log was done.
+fn take_back(tasks: Vec<Task>, producers: &mut Vec<Producer>, times: &mut Vec<u64>) -> bool
+    requires room { (producers.old.items ≡ []) × (length tasks.items ≤ vec_capacity producers.old) }
+    ensures { (s : Shared) → All (λ t. t.producer.shared ≡ s) tasks.items → All (λ p. p.shared ≡ s) producers.new.items }
+{
+    let mut all = true;
+    let mut rest = tasks.into_iter();
+    while let Some(task) = rest.next() {
+        let Task {
+            producer,
+            order: _,
+            times: own,
+            failed,
+        } = task;
+        producers.push_reserved(producer);
+        all = all && failed == 0 && times.extend_from_slice(&own).is_ok();
+    }
+    rest.destroy_empty();
+    all
+}
+
+/// Lets so many producers of the pool log, and answers them, and when they began and what times were taken.
+fn logged<S, R>(
     rt: &R,
     alloc: Global,
-    pool: &Pool<S>,
-    tasks: Vec<Task>,
-) -> Result<Vec<Task>>
+    pool: &mut Pool<S>,
+    case: &Case<'_>,
+) -> (Vec<Producer>, Result<(Instant, Vec<u64>)>)
 where
     S: Store + Drop + Send + 'static,
     R: Threads + Wait + Clock + Sync,
-    requires some { 0 < length pool.now.shared.loggers }
-    requires each { All (λ t. t.producer.shared ≡ pool.now.shared) tasks.items }
-    ensures each { IfOk result (λ v. All (λ t. t.producer.shared ≡ pool.now.shared) v.items) }
-{
-    let done = thread::map_vec(
-        rt,
-        tasks,
-        &|task: Task| -> Task
-            requires { 0 < length task.producer.shared.loggers }
-            ensures { result.producer.shared ≡ task.producer.shared }
-        { carry_out(rt, alloc, task) },
-    )?;
-    Ok(done)
-}
-
-/// The producers of tasks that are done, and all their times.
-fn apart<S: Store>(
-    alloc: Global,
-    pool: &Pool<S>,
-    tasks: Vec<Task>,
-    times: &mut Vec<u64>,
-) -> Result<Vec<Producer>>
-    requires each { All (λ t. t.producer.shared ≡ pool.now.shared) tasks.items }
-    ensures each { IfOk result (λ v. AllByRecursion (λ p. p.shared ≡ pool.now.shared) v.items) }
+    requires some { 0 < length pool.old.shared.loggers }
+    ensures pool { pool.new.shared ≡ pool.old.shared }
+    ensures own { AllByRecursion (λ p. p.shared ≡ pool.old.shared) result.0.items }
 {
     let mut producers = Vec::new(alloc);
-    for task in tasks {
-        ensure!(task.failed == 0, "a log failed");
-        times.extend_from_slice(&task.times)?;
-        producers.push(task.producer)?;
+    let mut tasks = Vec::new(alloc);
+    if producers.reserve(case.producers as usize).is_err()
+        || tasks.reserve(case.producers as usize).is_err()
+    {
+        tasks.destroy_empty();
+        return (producers, Err(anyhow!("out of memory")));
     }
-    Ok(producers)
+    let made = add_tasks(alloc, pool, case, &mut tasks);
+    let start = Instant::now(rt);
+    do_by_threads(rt, alloc, &mut tasks);
+    let mut times = Vec::new(alloc);
+    let all = take_back(tasks, &mut producers, &mut times);
+    (producers, begun(made, start, all, times))
+}
+
+/// When a run began and what times were taken, where all was done.
+fn begun(
+    made: Result<()>,
+    start: io::Result<Instant>,
+    all: bool,
+    times: Vec<u64>,
+) -> Result<(Instant, Vec<u64>)> {
+    made?;
+    ensure!(all, "a log failed");
+    Ok((start?, times))
+}
+
+/// Ends the pool with its producers.
+pub fn ended<S, R>(rt: &R, pool: Pool<S>, producers: Vec<Producer>) -> Report<S>
+where
+    S: Store + Drop + Send + 'static,
+    R: Threads + Wait + Clock + Abort,
+    requires own { AllByRecursion (λ p. p.shared ≡ pool.shared) producers.items }
+{
+    match pool.shutdown(rt, producers) {
+        Ok(report) => report,
+        Err(_) => panic!(rt; "a producer is out"),
+    }
 }
 
 /// Brings all lines to the stores.
@@ -111,18 +166,13 @@ fn is_whole<S: Store>(report: &Report<S>, case: &Case<'_>) -> bool {
 pub fn run_on<S, R>(rt: &R, store: S, case: &Case<'_>) -> Result<Run>
 where
     S: Store + Drop + Send + 'static,
-    R: Threads + Wait + Clock + AllocGlobal + Clone + Drop + Send + Sync + 'static,
+    R: Threads + Wait + Clock + Abort + AllocGlobal + Clone + Drop + Send + Sync + 'static,
 {
     let alloc = rt.alloc();
     let mut pool = started(rt, alloc, case.pattern, store, 1)?;
-    let tasks = tasks_of(alloc, &mut pool, case)?;
-    let mut times = Vec::new(alloc);
-    let start = Instant::now(rt)?;
-    let tasks = done_by_threads(rt, alloc, &pool, tasks)?;
-    let producers = apart(alloc, &pool, tasks, &mut times)?;
-    let Ok(mut report) = pool.shutdown(rt, producers) else {
-        bail!("a producer is out")
-    };
+    let (producers, logged) = logged(rt, alloc, &mut pool, case);
+    let mut report = ended(rt, pool, producers);
+    let (start, times) = logged?;
     flush_all(&mut report)?;
     let time = start.elapsed(rt)?;
     ensure!(is_whole(&report, case), "a message was lost");

@@ -12,7 +12,6 @@ use std::thread;
 use std::time::Duration;
 
 /// A producer, its order, and the nanoseconds of its logs as far as they are asked for.
-#[derive(Drop)]
 pub struct Task {
     pub producer: Producer,
     pub order: Order,
@@ -102,24 +101,18 @@ fn log_timed<R: Wait + Clock>(
 }
 
 /// Does what the task says.
-pub fn carry_out<R: Wait + Clock>(rt: &R, alloc: Global, task: Task) -> Task
-    requires { 0 < length task.producer.shared.loggers }
-    ensures { result.producer.shared ≡ task.producer.shared }
+pub fn carry_out<R: Wait + Clock>(rt: &R, alloc: Global, task: &mut Task)
+    requires { 0 < length task.old.producer.shared.loggers }
+    ensures { task.new.producer.shared ≡ task.old.producer.shared }
 {
     let Task {
-        mut producer,
-        order,
-        mut times,
-        mut failed,
-    } = task;
-    match order.figure {
-        Figure::Rate => log_all(rt, alloc, &mut producer, order.count, &mut failed),
-        Figure::Times => log_timed(rt, alloc, &mut producer, order, &mut times, &mut failed),
-    }
-    Task {
         producer,
         order,
         times,
         failed,
+    } = task;
+    match order.figure {
+        Figure::Rate => log_all(rt, alloc, producer, order.count, failed),
+        Figure::Times => log_timed(rt, alloc, producer, *order, times, failed),
     }
 }

@@ -3,7 +3,6 @@ use Rattle.alog_config.specs.Built.{EachIs, IsLoggerOf}
 use Rattle.alog_config.specs.Parts.{MayLog}
 use Rattle.alog_config.specs.declared.config.LoggerConfig.{LoggerConfig}
 use Rattle.alog_config.specs.declared.parts.Part.{Part}
-use Rattle.alog_format.specs.declared.context.Zone.TheVariants.{Fixed}
 use Rattle.alog_config.proofs.Fitting.{each_fits, each_suits}
 use Rattle.alog_config.proofs.Handing.{all_built, may_log}
 use Rattle.alog_config.proofs.building.build.Goals as goal
@@ -30,11 +29,11 @@ returns-clause-built g c =
 pub returns-clause-fits : goal.returns-clause-fits
 returns-clause-fits g c =
     let config = c.args.config.now in
-    each_fits g.S.Store.tells g.S.Store.files g.S.Store.failures config (Fixed config.offset) c.args.stores.items c.in_ok-loggers.loggers
+    each_fits g.S.Store.tells g.S.Store.files g.S.Store.failures config config.zone c.args.stores.items c.in_ok-loggers.loggers
     c.in_ok-sinks.sinks.items config.sound (returns-clause-built g c)
 
 pub returns-clause-suits : goal.returns-clause-suits
 returns-clause-suits g c =
     let config = c.args.config.now in
-    each_suits g.S.Store.tells g.S.Store.files g.S.Store.failures config (Fixed config.offset) c.args.stores.items c.in_ok-loggers.loggers
+    each_suits g.S.Store.tells g.S.Store.files g.S.Store.failures config config.zone c.args.stores.items c.in_ok-loggers.loggers
     c.in_ok-sinks.sinks.items config.sound (returns-clause-built g c)

@@ -1,8 +1,5 @@
-use Rattle.std.proofs.Common.{◌≡◌, true, List, count_by, length, slice_get, take, Err, Some, refl, ap, subst}
-use Rattle.std.proofs.lemmas.Grind.{common_steps}
-use Rattle.std.proofs.Common.{arith}
+use Rattle.std.proofs.Common.{◌≡◌, List, count_by, length, slice_get, take, Err, Some, refl, ap, subst}
 use Rattle.std.proofs.lemmas.Option.{slice_get_read}
-use Rattle.std.specs.Result.{is_ok}
 use Rattle.alog_config.specs.Built.{HasFailed}
 use Rattle.alog_config.specs.Sinks.{is_leaf}
 use Rattle.alog_config.specs.declared.building.BuildError.TheVariants.{Store}

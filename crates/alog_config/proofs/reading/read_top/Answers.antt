@@ -1,9 +1,6 @@
-use Rattle.std.proofs.Common.{List, [], Bor, String, BTreeMap, Global, map, subst, sym, w16, FitsSigned, rules, ℕ}
-use Rattle.std.proofs.lemmas.Int.{to_z-of_z}
+use Rattle.std.proofs.Common.{List, [], Bor, String, BTreeMap, Global, map, subst, ℕ}
 use Rattle.alog_config.proofs.Runs.{logger_fault, sink_fault, top_had}
 use Rattle.alog_config.proofs.Sounding.{top_kept, top_sound}
-use Rattle.alog_config.specs.Sound.{IsSound}
-use Rattle.alog_format.specs.declared.context.Zone.TheVariants.{Fixed}
 use Rattle.alog_config.specs.Meaning.{AreLoggers, AreSinks, IsLoggersFault, IsSinksFault}
 use Rattle.alog_config.specs.Values.{tables_in}
 use Rattle.alog_config.specs.declared.config.SinkConfig.{SinkConfig}
@@ -58,11 +55,37 @@ invariant_of-result c =
     let told = subst (λ (bs : List (Bor (BTreeMap (String Global) Value))). AreLoggers c.as_slice-3.result.now [] (map holds bs) loggers)
     c.as_slice-2.ensures.value c.in-Ok-read_loggers.ensures.says in
     let known = subst (λ (ss : List SinkConfig). AreLoggers ss [] (tables_in w) loggers) c.as_slice-3.ensures.value told in
-    let fits : FitsSigned w16 c.or-3.result = search rules in
-    let back = to_z-of_z w16 c.or-3.result fits in
-    let sound = top_sound t f v w c.or-text.result c.or-3.result sinks loggers c.in-Ok.ensures c.in-Given-Given.is-0 c.in-Given-Given.is-1
-    c.or-text.ensures c.or-3.ensures said known in
     record {
       top = top_kept t f _ _ c.in-Ok.ensures c.or.ensures c.or-2.ensures;
-      sound = subst (λ z. IsSound c.or-text.result (Fixed z) sinks loggers) (sym back) sound;
+      sound = top_sound t f v w c.or-text.result c.clock_of.result sinks loggers c.in-Ok.ensures c.in-Given-Given.is-0 c.in-Given-Given.is-1
+          c.or-text.ensures c.clock_of.ensures said known;
+    }
+
+pub returns : goal.returns
+returns c =
+    let holds = λ (b : Bor (BTreeMap (String Global) Value)). table_view b.now in
+    let f = c.in-Ok.top in
+    let v = c.in-Given-Given.sinks in
+    let w = c.in-Given-Given.loggers in
+    let sinks = c.in-Ok-read_sinks.sinks.items in
+    let loggers = c.in-Ok-read_loggers.loggers.items in
+    let top = top_had (table_view c.args.table.now) f v w c.in-Ok.ensures
+    (rw c.in_default-top_fault.is at c.top_fault.ensures) c.in-Given-Given.is-0 c.in-Given-Given.is-1 in
+    let said = subst (λ (bs : List (Bor (BTreeMap (String Global) Value))). AreSinks c.or-text.result [] (map holds bs) sinks)
+    c.as_slice.ensures.value c.in-Ok-read_sinks.ensures.says in
+    let told = subst (λ (bs : List (Bor (BTreeMap (String Global) Value))). AreLoggers c.as_slice-3.result.now [] (map holds bs) loggers)
+    c.as_slice-2.ensures.value c.in-Ok-read_loggers.ensures.says in
+    let known = subst (λ (ss : List SinkConfig). AreLoggers ss [] (tables_in w) loggers) c.as_slice-3.ensures.value told in
+    record {
+      fields = f;
+      sink_tables = tables_in v;
+      logger_tables = tables_in w;
+      top = top;
+      queue = c.or.ensures;
+      workers = c.or-2.ensures;
+      text = c.or-text.ensures;
+      zone = c.clock_of.ensures;
+      process = c.or-3.ensures;
+      sinks = said;
+      loggers = known;
     }

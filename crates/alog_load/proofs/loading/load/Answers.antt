@@ -8,8 +8,8 @@ use Rattle.alog_registry.specs.declared.logger.Logger.{Logger}
 use Rattle.alog_server.proofs.Making.{makes_count, makes_shared}
 use Rattle.alog_server.specs.Making.{AreOf}
 
-pub run-back-requires-clause-loggers : goal.run-back-requires-clause-loggers
-run-back-requires-clause-loggers g c κs within =
+pub run_all-back-requires-clause-loggers : goal.run_all-back-requires-clause-loggers
+run_all-back-requires-clause-loggers g c κs within =
     let config = c.args.config.now in
     let setup = c.in_ok-setup.setup in
     let given = c.in_ok-setup.ensures.given in
@@ -21,14 +21,14 @@ run-back-requires-clause-loggers g c κs within =
 
 pub shutdown-requires-clause-own : goal.shutdown-requires-clause-own
 shutdown-requires-clause-own g c κs within =
-    let run = c.run-back.ensures in
-    let shared = makes_shared c.in-Ok.pool c.run-back.new.pool run.begun run.makes in
-    subst (λ (s : Shared). AreOf s c.run-back.result.0.items) (sym shared.0) run.own
+    let run = c.run_all-back.ensures in
+    let shared = makes_shared c.in-Ok.pool c.run_all-back.new.pool run.begun run.makes in
+    subst (λ (s : Shared). AreOf s c.run_all-back.result.0.items) (sym shared.0) run.own
 
 pub unreachable-requires-in-Err : goal.unreachable-requires-in-Err
 unreachable-requires-in-Err g c =
-    let run = c.run-back.ensures in
-    let count = makes_count c.in-Ok.pool c.run-back.new.pool run.begun run.makes in
+    let run = c.run_all-back.ensures in
+    let count = makes_count c.in-Ok.pool c.run_all-back.new.pool run.begun run.makes in
     let none = c.in-Ok.ensures.started.made in
     let many = run.many in
     c.in-Err.ensures.out.0 refl (omega (arith, count, none, many))
@@ -36,7 +36,7 @@ unreachable-requires-in-Err g c =
 pub returns-in-Ok-shutdown-clause-loads : goal.returns-in-Ok-shutdown-clause-loads
 returns-in-Ok-shutdown-clause-loads g c =
     let config = c.args.config.now in
-    let run = c.run-back.ensures in
+    let run = c.run_all-back.ensures in
     let each = run.each c.if-done.true in
     let loggers : c.len-loggers.result ≡ length config.loggers.items = omega (arith, c.len-loggers.ensures, config.loggers.ok.0) in
     record {
@@ -46,9 +46,9 @@ returns-in-Ok-shutdown-clause-loads g c =
       starts = c.in-Ok.ensures.started;
       begun = run.begun;
       many = each.0;
-      pool = c.run-back.new.pool;
+      pool = c.run_all-back.new.pool;
       makes = run.makes;
-      ended = c.run-back.result.0.items;
-      served = subst (λ (n : ℕ). Each2 (HasServed n c.args.messages) run.begun c.run-back.result.0.items) loggers each.1;
+      ended = c.run_all-back.result.0.items;
+      served = subst (λ (n : ℕ). Each2 (HasServed n c.args.messages) run.begun c.run_all-back.result.0.items) loggers each.1;
       ends = c.in-Ok-shutdown.ensures.ends;
     }

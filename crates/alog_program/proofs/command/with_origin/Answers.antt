@@ -9,4 +9,5 @@ returns c app was =
     let l3 = argument_added _ _ _ _ _ c.in_ok-arg-3.ensures c.option-3.ensures.global c.option-3.ensures.rule l2 in
     let l4 = argument_added _ _ _ _ _ c.in_ok-arg-4.ensures c.option-4.ensures.global c.option-4.ensures.rule l3 in
     let l5 = argument_added _ _ _ _ _ c.in_ok-arg-5.ensures c.option-5.ensures.global c.option-5.ensures.rule l4 in
-    IfOk-weaker c.arg-6.result _ _ (λ command adds. argument_added _ _ _ _ _ adds c.option-6.ensures.global c.option-6.ensures.rule l5) c.arg-6.ensures
+    let l6 = argument_added _ _ _ _ _ c.in_ok-arg-6.ensures c.option-6.ensures.global c.option-6.ensures.rule l5 in
+    IfOk-weaker c.arg-7.result _ _ (λ command adds. argument_added _ _ _ _ _ adds c.option-7.ensures.global c.option-7.ensures.rule l6) c.arg-7.ensures

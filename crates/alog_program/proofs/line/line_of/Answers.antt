@@ -13,10 +13,10 @@ returns-clause-made c =
     let appends = c.format.ensures in
     let bytes_are : c.format.new.line.bytes ≡ appends.0 = ap (λ b. b.bytes) appends.2
     ∙ ap (λ xs. xs ++ appends.0) c.in_ok-line.ensures.empty in
-    let line = subst (λ (m : Message). IsLine r.context p.items r.name.now m appends.0) c.in_ok-message.ensures.made appends.1 in (
+    let line = subst (λ (m : Message). IsLine r.context p.items r.name.now m r.previous appends.0) c.in_ok-message.ensures.made appends.1 in (
       p.items,
       subst (λ (bs : List ℕ). IsReading bs p.items) c.as_bytes.ensures.value c.in_ok-pattern.ensures.items,
-      subst (λ (bs : List ℕ). IsLine r.context p.items r.name.now (message_of r) bs) (sym bytes_are) line,
+      subst (λ (bs : List ℕ). IsLine r.context p.items r.name.now (message_of r) r.previous bs) (sym bytes_are) line,
     )
 
 pub returns-clause-line : goal.returns-clause-line

@@ -14,5 +14,5 @@ pub returns-clause-date : goal.returns-clause-date
 returns-clause-date c = λ at shown.
     let s = c.civil_at-civil.ensures in
     let fits : FitsSigned w64 c.args.message.now.time = search rules in
-    let t = ap (local_nanos c.args.zone) (to_z-of_z w64 c.args.message.now.time fits) in
+    let t = ap (local_nanos c.args.zone.now) (to_z-of_z w64 c.args.message.now.time fits) in
     ap date_in s.2 ∙ shown_date s.0 at (s.1 ∙ (t ∙ sym shown))

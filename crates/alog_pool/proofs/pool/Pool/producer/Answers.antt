@@ -8,7 +8,7 @@ use Rattle.alog_pool.specs.declared.works.Works.{Works}
 use Rattle.alog_pool.specs.Places.{IsBacktraceSeatPart}
 use Rattle.alog_pool.specs.declared.shared.Shared.{Shared}
 use Rattle.alog_pool.proofs.Hiring.{fresh_part, kept_faithful, one_less, still_own}
-use Rattle.alog_pool.proofs.Parts.{each3_lengths, backtrace_seat_parts_left, backtrace_seats_limits, same_backtrace_seats}
+use Rattle.alog_pool.proofs.Parts.{each3_lengths, backtrace_seat_parts_left, backtrace_seats_limits, same_backtrace_seats, still_idle}
 use Rattle.alog_pool.proofs.Posting.{new_account}
 use Rattle.alog_pool.proofs.pool.Pool.producer.Goals as goal
 use Rattle.alog_policy.specs.BookCalls.{IsSeatOf}
@@ -71,6 +71,7 @@ invariant_of-self g c =
           pass_unused = (own.0 ∙ left.pass_unused.0, own.1 ∙ left.pass_unused.1);
           losses_unused = (ap (λ k. k.own) kept ∙ left.losses_unused.0, ap (λ k. k.joined) kept ∙ left.losses_unused.1);
           sink_seats_unused = left.sink_seats_unused;
+          backtrace_seats_unused = still_idle old new given each left.backtrace_seats_unused;
         };
         some = c.self.invariant.0.some;
         began = c.self.invariant.0.began;

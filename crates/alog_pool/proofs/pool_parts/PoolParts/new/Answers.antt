@@ -1,5 +1,5 @@
 use Rattle.std.proofs.Common.{◌≤◌, List, length, ap, refl, sym, subst, ◌∙◌, arith}
-use Rattle.alog_pool.proofs.FirstParts.{first_lanes, first_limits, first_parts, first_unused, backtrace_seats_kept, backtrace_seats_parts, backtrace_seats_rooms}
+use Rattle.alog_pool.proofs.FirstParts.{first_lanes, first_limits, first_parts, first_unused, backtrace_seats_idle, backtrace_seats_kept, backtrace_seats_parts, backtrace_seats_rooms}
 use Rattle.alog_pool.proofs.Sharing.{each2_length}
 use Rattle.alog_pool.specs.Places.{IsBacktraceSeatOf}
 use Rattle.alog_pool.proofs.pool_parts.PoolParts.new.Goals as goal
@@ -35,6 +35,8 @@ returns g c =
         pass_unused = (ap (λ k. k.own) known, ap (λ k. k.joined) known);
         losses_unused = (ap (λ k. k.own) shared.known, ap (λ k. k.joined) shared.known);
         sink_seats_unused = first_unused setup.text_limit setup.sinks.items c.in_ok-sink_seats.sink_seats.items first;
+        backtrace_seats_unused = backtrace_seats_idle setup.text_limit setup.loggers c.in_ok-backtrace_seats.backtrace_seats.items
+            backtrace_seats;
       };
       ring_is = shared.ring;
       loggers = shared.loggers;

@@ -48,6 +48,7 @@ returns-clause-hires g c = λ n stands few.
         pass_unused = (own.0 ∙ stands.pass_unused.0, own.1 ∙ stands.pass_unused.1);
         losses_unused = stands.losses_unused;
         sink_seats_unused = still_unused old new given each stands.sink_seats_unused;
+        backtrace_seats_unused = stands.backtrace_seats_unused;
       };
       shared = refl;
       lanes = (same_lanes old new given each).0;

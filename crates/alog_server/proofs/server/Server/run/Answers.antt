@@ -3,19 +3,20 @@ use Rattle.std.proofs.lemmas.Result.{IfOk-weaker}
 use Rattle.alog_pool.specs.Report.{Ends}
 use Rattle.alog_pool.specs.declared.report.Report.{Report}
 use Rattle.alog_pool.specs.declared.shared.Shared.{Shared}
+use Rattle.alog_server.proofs.Ending.{told}
 use Rattle.alog_server.proofs.Making.{makes_count, makes_shared}
 use Rattle.alog_server.proofs.server.Server.run.Goals as goal
 use Rattle.alog_server.specs.Making.{AreOf}
 
-pub shutdown-requires-2-clause-own : goal.shutdown-requires-2-clause-own
-shutdown-requires-2-clause-own g c κs within =
-    let run = c.work_with-producers.ensures in
+pub shutdown-requires-clause-own : goal.shutdown-requires-clause-own
+shutdown-requires-clause-own g c κs within =
+    let run = c.work_with-producers.ensures.works in
     let shared = makes_shared c.args.self.pool c.work_with-producers.new.pool run.begun run.makes in
     subst (λ (s : Shared). AreOf s c.work_with-producers.result.0.items) (sym shared.0) run.own
 
 pub unreachable-requires : goal.unreachable-requires
 unreachable-requires g c =
-    let run = c.work_with-producers.ensures in
+    let run = c.work_with-producers.ensures.works in
     let count = makes_count c.args.self.pool c.work_with-producers.new.pool run.begun run.makes in
     let none = c.args.self.fresh in
     let many = run.many in
@@ -23,7 +24,7 @@ unreachable-requires g c =
 
 pub returns-clause-runs : goal.returns-clause-runs
 returns-clause-runs g c =
-    let run = c.work_with-producers.ensures in
+    let run = c.work_with-producers.ensures.works in
     let new = c.work_with-producers.new.pool in
     let back = c.work_with-producers.result.0.items in
     IfOk-weaker c.with.result _ _ (λ r h. record {
@@ -37,3 +38,9 @@ returns-clause-runs g c =
       ends = subst (λ (q : Report g.row.S.Denot). Ends g.S.Store.tells g.S.Store.files g.S.Store.failures new back q) (sym h.0)
           c.in-Ok.ensures.ends;
     }) c.with.ensures.ran
+
+pub returns-clause-error : goal.returns-clause-error
+returns-clause-error g c =
+    IfOk-weaker c.with.result _ _
+    (λ r h. told (g.W.Work.ends c.args.work.now) c.args.threads c.work_with-producers.result.1 r.error c.work_with-producers.ensures.ends
+    h.2) c.with.ensures.ran

@@ -12,7 +12,7 @@ returns-clause-line c =
     ap (λ (b : Buffer). b.bytes) l.2 ∙ ap (λ (b : Buffer). b.bytes ++ l.0) c.clear.ensures in
     let i = c.self.inside in
     let m = c.args.message.now in
-    let line : IsLine i.context i.formatter.pattern.items (name_of i.names m.logger) m l.0 =
-    subst (λ (n : List ℕ). IsLine i.context i.formatter.pattern.items n m l.0) c.get-name.ensures.name l.1 in
-    let mine : IsLineOf c.args.self.now m l.0 = subst (λ (f : Face). IsLineOf f m l.0) c.self.view_is line in
-    subst (λ (b : List ℕ). IsLineOf c.args.self.now m b) (sym bytes) mine
+    let line : IsLine i.context i.formatter.pattern.items (name_of i.names m.logger) m c.args.previous l.0 =
+    subst (λ (n : List ℕ). IsLine i.context i.formatter.pattern.items n m c.args.previous l.0) c.get-name.ensures.name l.1 in
+    let mine : IsLineOf c.args.self.now c.args.previous m l.0 = subst (λ (f : Face). IsLineOf f c.args.previous m l.0) c.self.view_is line in
+    subst (λ (b : List ℕ). IsLineOf c.args.self.now c.args.previous m b) (sym bytes) mine
