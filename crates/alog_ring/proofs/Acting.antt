@@ -24,7 +24,7 @@ use Rattle.alog_ring.proofs.Showing.{shown_turn}
 use Rattle.alog_ring.proofs.Stepping.{PlaceKind, one_of, sound_now, made, kept}
 
 module _ {S T N : Type 0} (kind : PlaceKind S T N) (n f : ℕ) (s : State S (Sight T N))
-    (r : Ruled kind.put kind.spare n f s) (a : ℕ) (v : Sight T N) (at : get_elem? s.views a ≡ maybe.some v)
+    (r : Ruled kind.has kind.spare n f s) (a : ℕ) (v : Sight T N) (at : get_elem? s.views a ≡ maybe.some v)
     (work : IsAtWork a v.known) where
   -- the view after an event
   abbrev pub acting : N → Event T → Stage T N → Sight T N
@@ -36,7 +36,7 @@ module _ {S T N : Type 0} (kind : PlaceKind S T N) (n f : ℕ) (s : State S (Sig
   -- the rule after it, and what it tells
   abbrev pub Acted : N → Event T → Stage T N → List ℕ → List (maybe.Option S) → Type 0
   Acted note e stage words homes =
-      Ruled kind.put kind.spare n f (record { words = words; homes = homes; views = set s.views a (acting note e stage) })
+      Ruled kind.has kind.spare n f (record { words = words; homes = homes; views = set s.views a (acting note e stage) })
       × Adds note v.known (acting note e stage).known e
 
   some_places : 1 ≤ n
@@ -48,7 +48,7 @@ module _ {S T N : Type 0} (kind : PlaceKind S T N) (n f : ℕ) (s : State S (Sig
   acted : (note : N) (e : Event T) (stage : Stage T N) (words : List ℕ) (homes : List (maybe.Option S))
       → Allows n r.queue a e → Follows (latest a r.history) e
       → Staged n (longer note e) (after r.queue a e) (set s.views a (acting note e stage))
-      → Shown kind.put kind.spare n (longer note e) (after r.queue a e) words homes → Acted note e stage words homes
+      → Shown kind.has kind.spare n (longer note e) (after r.queue a e) words homes → Acted note e stage words homes
   acted note e stage words homes may follows staged shown =
       let x : Entry T N = entry note v.known e
       in let A : ℕ → Type 0 = λ b. Allows n r.queue b e
@@ -74,7 +74,7 @@ module _ {S T N : Type 0} (kind : PlaceKind S T N) (n f : ℕ) (s : State S (Sig
   pub claim_step : (x : T) → IsRoom n r.queue.next r.queue.cells → r.queue.next < last
       → ((p : ℕ) (y : T) → v.stage ≡ Writing p y → r.queue.next ≡ p)
       → ((p : ℕ) (y : T) → v.stage ≡ Reading p y → r.queue.next ≡ p)
-      → (get_elem? s.homes (r.queue.next % n) ≡ maybe.some (maybe.some (kind.spare n r.history r.queue.next)))
+      → ((y : S) × (get_elem? s.homes (r.queue.next % n) ≡ maybe.some (maybe.some y)) × kind.spare n r.history r.queue.next y)
       × Acted kind.blank (Claim r.queue.next x) (Writing r.queue.next x) (set s.words NEXT (r.queue.next + 1))
       (set s.homes (r.queue.next % n) maybe.none)
   claim_step x room low not_writing not_reading =
@@ -95,7 +95,7 @@ module _ {S T N : Type 0} (kind : PlaceKind S T N) (n f : ℕ) (s : State S (Sig
       get_or-set_other s.words NEXT (i * APART + SEQUENCES) (t + 1) 0 (λ z. omega arith)
       in let W : Cell T → Type 0 =
       λ c.
-      ShowsCell kind.put kind.spare t (get_or words (seq_of n t) 0)
+      ShowsCell kind.has kind.spare t (get_or words (seq_of n t) 0)
       (get_elem? (set s.homes (t % n) maybe.none) (t % n)) c.item c.mark
       in (
         old.1,
@@ -121,7 +121,7 @@ module _ {S T N : Type 0} (kind : PlaceKind S T N) (n f : ℕ) (s : State S (Sig
                     actor = b;
                   } = cc in let m : Claimed ≡ Emptying = ap (λ (c : Cell T). c.mark) same in cc);
             }))
-            (shown_turn kind.put kind.spare n a t q q' r.history (longer kind.blank e) s.words words s.homes
+            (shown_turn kind.has kind.spare n a t q q' r.history (longer kind.blank e) s.words words s.homes
             (set s.homes (t % n) maybe.none) (sound_next e may) turn (omega arith) r.shown
             (record {
               wide = length-set s.words NEXT (t + 1);
@@ -140,9 +140,9 @@ module _ {S T N : Type 0} (kind : PlaceKind S T N) (n f : ℕ) (s : State S (Sig
             })),
       )
 
-  pub write_step : (t : ℕ) (x : T) → v.stage ≡ Writing t x → HasCell r.queue.cells t Claimed x a
-      → Acted kind.blank (Write t) Idle (set s.words (seq_of n t) (t + 1)) (set s.homes (t % n) (maybe.some (kind.put x)))
-  write_step t x stage old =
+  pub write_step : (t : ℕ) (x : T) (y : S) → kind.has y x → v.stage ≡ Writing t x → HasCell r.queue.cells t Claimed x a
+      → Acted kind.blank (Write t) Idle (set s.words (seq_of n t) (t + 1)) (set s.homes (t % n) (maybe.some y))
+  write_step t x y lies stage old =
       let q : Queue T = r.queue
       in let e : Event T = Write t
       in let q' : Queue T = after q a e
@@ -154,10 +154,10 @@ module _ {S T N : Type 0} (kind : PlaceKind S T N) (n f : ℕ) (s : State S (Sig
       in let has : HasCell q'.cells t Written x a = cell_of-marked_same t Written a q.cells was old
       in let below : (q.next - n ≤ t) × (t < q.next) = within n q t was sound old
       in let words : List ℕ = set s.words (seq_of n t) (t + 1)
-      in let homes : List (maybe.Option S) = set s.homes (t % n) (maybe.some (kind.put x))
+      in let homes : List (maybe.Option S) = set s.homes (t % n) (maybe.some y)
       in let W : Cell T → Type 0 =
       λ c.
-      ShowsCell kind.put kind.spare t (get_or words (seq_of n t) 0) (get_elem? homes (t % n)) c.item c.mark
+      ShowsCell kind.has kind.spare t (get_or words (seq_of n t) 0) (get_elem? homes (t % n)) c.item c.mark
       in acted kind.blank e Idle words homes may tt
       (staged_turn n a t q q' turn r.history (entry kind.blank v.known e ∷ []) s.views v
       (acting kind.blank e Idle) at r.staged work
@@ -173,11 +173,11 @@ module _ {S T N : Type 0} (kind : PlaceKind S T N) (n f : ℕ) (s : State S (Sig
             absurd (let same : new ≡ record { ticket = t; mark = Emptying; item = y; actor = b } = cc in
             let m : Written ≡ Emptying = ap (λ (c : Cell T). c.mark) same in cc);
       }))
-      (shown_turn kind.put kind.spare n a t q q' r.history (longer kind.blank e) s.words words s.homes homes
+      (shown_turn kind.has kind.spare n a t q q' r.history (longer kind.blank e) s.words words s.homes homes
       (sound_next e may) turn below.1 r.shown
       (record {
         wide = length-set s.words (seq_of n t) (t + 1);
-        places = length-set s.homes (t % n) (maybe.some (kind.put x));
+        places = length-set s.homes (t % n) (maybe.some y);
         next = get_or-set_other s.words (seq_of n t) NEXT (t + 1) 0 (λ z. omega arith)
             ∙ r.shown.next;
         front = get_or-set_other s.words (seq_of n t) FRONT (t + 1) 0 (λ z. omega arith)
@@ -186,11 +186,11 @@ module _ {S T N : Type 0} (kind : PlaceKind S T N) (n f : ℕ) (s : State S (Sig
         words_else = λ i apart.
             get_or-set_other s.words (seq_of n t) (i * APART + SEQUENCES) (t + 1) 0 (λ z. apart (omega arith));
         homes_else =
-            λ i apart. set_else s.homes (t % n) i (maybe.some (kind.put x)) apart;
+            λ i apart. set_else s.homes (t % n) i (maybe.some y) apart;
         cell_here = λ c is. let same : new ≡ c = cc in
             subst W same (
               get_or-set_same s.words (seq_of n t) (t + 1) 0 (seq_in t),
-              set_here s.homes (t % n) (maybe.some (kind.put x)) (place_in t),
+              (y, set_here s.homes (t % n) (maybe.some y) (place_in t), lies),
             );
         free_here = λ none. not_both none has;
         spare_else =
@@ -200,7 +200,7 @@ module _ {S T N : Type 0} (kind : PlaceKind S T N) (n f : ℕ) (s : State S (Sig
   pub grab_step : (x : T) (b : ℕ) → HasCell r.queue.cells r.queue.front Written x b
       → ((p : ℕ) (y : T) → v.stage ≡ Writing p y → r.queue.front ≡ p)
       → ((p : ℕ) (y : T) → v.stage ≡ Reading p y → r.queue.front ≡ p)
-      → (get_elem? s.homes (r.queue.front % n) ≡ maybe.some (maybe.some (kind.put x)))
+      → ((y : S) × (get_elem? s.homes (r.queue.front % n) ≡ maybe.some (maybe.some y)) × kind.has y x)
       × Acted kind.blank (Grab r.queue.front) (Reading r.queue.front x) (set s.words FRONT (r.queue.front + 1))
       (set s.homes (r.queue.front % n) maybe.none)
   grab_step x b old not_writing not_reading =
@@ -216,7 +216,7 @@ module _ {S T N : Type 0} (kind : PlaceKind S T N) (n f : ℕ) (s : State S (Sig
       in let has : HasCell q'.cells t Emptying x a = cell_of-marked_same t Emptying a q.cells was old
       in let below : (q.next - n ≤ t) × (t < q.next) = within n q t was sound old
       in let before : (get_or s.words (seq_of n t) 0 ≡ t + 1)
-      × (get_elem? s.homes (t % n) ≡ maybe.some (maybe.some (kind.put x))) =
+      × ((y : S) × (get_elem? s.homes (t % n) ≡ maybe.some (maybe.some y)) × kind.has y x) =
       r.shown.cells t was old
       in let wide : length s.words ≡ n * APART + SEQUENCES = r.shown.wide
       in let words : List ℕ = set s.words FRONT (t + 1)
@@ -224,7 +224,7 @@ module _ {S T N : Type 0} (kind : PlaceKind S T N) (n f : ℕ) (s : State S (Sig
       get_or-set_other s.words FRONT (i * APART + SEQUENCES) (t + 1) 0 (λ z. omega arith)
       in let W : Cell T → Type 0 =
       λ c.
-      ShowsCell kind.put kind.spare t (get_or words (seq_of n t) 0)
+      ShowsCell kind.has kind.spare t (get_or words (seq_of n t) 0)
       (get_elem? (set s.homes (t % n) maybe.none) (t % n)) c.item c.mark
       in (
         before.1,
@@ -241,7 +241,7 @@ module _ {S T N : Type 0} (kind : PlaceKind S T N) (n f : ℕ) (s : State S (Sig
                   let same : new ≡ record { ticket = t; mark = Emptying; item = y; actor = j } = cc in
                   (sym (ap (λ (c : Cell T). c.actor) same), ap (λ (c : Cell T). Reading t c.item) same);
             }))
-            (shown_turn kind.put kind.spare n a t q q' r.history (longer kind.blank e) s.words words s.homes
+            (shown_turn kind.has kind.spare n a t q q' r.history (longer kind.blank e) s.words words s.homes
             (set s.homes (t % n) maybe.none) (sound_next e may) turn below.1 r.shown
             (record {
               wide = length-set s.words FRONT (t + 1);
@@ -262,9 +262,9 @@ module _ {S T N : Type 0} (kind : PlaceKind S T N) (n f : ℕ) (s : State S (Sig
             })),
       )
 
-  pub take_step : (note : N) (t : ℕ) (x : T) → v.stage ≡ Reading t x → HasCell r.queue.cells t Emptying x a
-      → Acted note (Take t x) Idle (set s.words (seq_of n t) (t + n)) (set s.homes (t % n) (maybe.some (kind.plain note)))
-  take_step note t x stage old =
+  pub take_step : (note : N) (t : ℕ) (x : T) (y : S) → kind.brings note y → v.stage ≡ Reading t x → HasCell r.queue.cells t Emptying x a
+      → Acted note (Take t x) Idle (set s.words (seq_of n t) (t + n)) (set s.homes (t % n) (maybe.some y))
+  take_step note t x y brought stage old =
       let q : Queue T = r.queue
       in let e : Event T = Take t x
       in let q' : Queue T = after q a e
@@ -275,7 +275,7 @@ module _ {S T N : Type 0} (kind : PlaceKind S T N) (n f : ℕ) (s : State S (Sig
       in let gone : cell_of t q'.cells ≡ None = cell_of-without_same t (q.next - n) q.cells q.next sound.rising
       in let below : (q.next - n ≤ t) × (t < q.next) = within n q t was sound old
       in let words : List ℕ = set s.words (seq_of n t) (t + n)
-      in let homes : List (maybe.Option S) = set s.homes (t % n) (maybe.some (kind.plain note))
+      in let homes : List (maybe.Option S) = set s.homes (t % n) (maybe.some y)
       in acted note e Idle words homes may tt
       (staged_turn n a t q q' turn r.history (entry note v.known e ∷ []) s.views v (acting note e Idle) at r.staged work
       (record {
@@ -286,10 +286,10 @@ module _ {S T N : Type 0} (kind : PlaceKind S T N) (n f : ℕ) (s : State S (Sig
         now_read =
             λ y b h. not_both gone h;
       }))
-      (shown_turn kind.put kind.spare n a t q q' r.history (longer note e) s.words words s.homes homes
+      (shown_turn kind.has kind.spare n a t q q' r.history (longer note e) s.words words s.homes homes
       (sound_next e may) turn below.1 r.shown (record {
         wide = length-set s.words (seq_of n t) (t + n);
-        places = length-set s.homes (t % n) (maybe.some (kind.plain note));
+        places = length-set s.homes (t % n) (maybe.some y);
         next =
             get_or-set_other s.words (seq_of n t) NEXT (t + n) 0 (λ z. omega arith)
             ∙ r.shown.next;
@@ -299,12 +299,15 @@ module _ {S T N : Type 0} (kind : PlaceKind S T N) (n f : ℕ) (s : State S (Sig
         words_else = λ i apart.
             get_or-set_other s.words (seq_of n t) (i * APART + SEQUENCES) (t + n) 0 (λ z. apart (omega arith));
         homes_else =
-            λ i apart. set_else s.homes (t % n) i (maybe.some (kind.plain note)) apart;
+            λ i apart. set_else s.homes (t % n) i (maybe.some y) apart;
         cell_here = λ c is. not_both gone is;
         free_here = λ _. (
           get_or-set_same s.words (seq_of n t) (t + n) 0 (seq_in t),
-          set_here s.homes (t % n) (maybe.some (kind.plain note)) (place_in t)
-              ∙ ap (λ (z : S). maybe.some (maybe.some z)) (sym (kind.comes n r.history (entry note v.known e) t x refl)),
+          (
+            y,
+            set_here s.homes (t % n) (maybe.some y) (place_in t),
+            kind.comes n r.history (entry note v.known e) t x refl y brought,
+          ),
         );
         spare_else = λ u apart.
             kind.stays n r.history (entry note v.known e) u

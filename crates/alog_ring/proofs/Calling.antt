@@ -53,28 +53,31 @@ module _ {T : Type 0} (slots t new place found n : ℕ) (said : Option T) (value
     (old mid put : Me (Option T) (Sight T no_note))
     (told : claimed tt some_value no_value (step slots NEXT t new (some said)) old found mid) (hit : found ≡ t)
     (filled : put ≡ (mid.0, (place, said) ∷ rest mid.1)) (at : place ≡ t % n) where
-  did : (x : T) × (some said ≡ some (some_value x)) × Acts tt old mid (Claim found x) (Writing found x)
-      × (mid.1 ≡ (found % slots, None) ∷ old.1)
+  did : (y : Option T) × (x : T) × (some said ≡ some y) × (y ≡ Some x) × Acts tt old mid (Claim found x) (Writing found x)
+      × ((z : Option T) × (mid.1 ≡ (found % slots, z) ∷ old.1) × (z ≡ None))
   did = told.0 hit
 
-  item : did.0 ≡ value
+  item : did.1 ≡ value
   unfolding did
-  item = let both : some said ≡ some (Some (told.0 hit).0) = (told.0 hit).1 in cc
+  item =
+      let both : some said ≡ some (told.0 hit).0 = (told.0 hit).2
+      in let lies : (told.0 hit).0 ≡ Some (told.0 hit).1 = (told.0 hit).3
+      in cc
 
   pub filling_stage : put.0.stage ≡ Writing t value
   unfolding did
-  filling_stage = ap (λ (m : Me (Option T) (Sight T no_note)). m.0.stage) filled ∙ (told.0 hit).2.1
+  filling_stage = ap (λ (m : Me (Option T) (Sight T no_note)). m.0.stage) filled ∙ (told.0 hit).4.1
       ∙ (λ i. Writing (hit i) (item i))
 
   pub filling_place : put.1 ≡ (t % n, Some value) ∷ old.1
   filling_place = ap (λ (m : Me (Option T) (Sight T no_note)). m.1) filled
-      ∙ (λ i. (at i, is i) ∷ ap rest (told.0 hit).3 i)
+      ∙ (λ i. (at i, is i) ∷ ap rest (told.0 hit).5.1 i)
 
   pub fills : (last : Me (Option T) (Sight T no_note)) → wrote tt t put last → Fills old last t value
   unfolding did
   fills last done =
-      let claim : Adds tt old.0.known mid.0.known (Claim found (told.0 hit).0) = (told.0 hit).2.0
-      in let P : ℕ → Type 0 = λ z. Adds tt old.0.known mid.0.known (Claim z (told.0 hit).0)
+      let claim : Adds tt old.0.known mid.0.known (Claim found (told.0 hit).1) = (told.0 hit).4.0
+      in let P : ℕ → Type 0 = λ z. Adds tt old.0.known mid.0.known (Claim z (told.0 hit).1)
       in let Q : T → Type 0 = λ z. Adds tt old.0.known mid.0.known (Claim t z)
       in let R : Known T no_note → Type 0 = λ z. Adds tt old.0.known z (Claim t value)
       in (
@@ -95,7 +98,7 @@ module _ {T : Type 0} (slots t new place found n : ℕ) (said : Option T) (old m
 
   pub emptying_place : out.1 ≡ (t % n, None) ∷ old.1
   emptying_place = ap (λ (m : Me (Option T) (Sight T no_note)). m.1) emptied
-      ∙ (λ i. (at i, None) ∷ ap rest (told.0 hit).2 i)
+      ∙ (λ i. (at i, None) ∷ ap rest (told.0 hit).2.1 i)
 
   pub empties : (last : Me (Option T) (Sight T no_note)) → took tt t (told.0 hit).0 out last
       → Empties old last t (told.0 hit).0
@@ -114,6 +117,6 @@ module _ {T : Type 0} (slots t new place found n : ℕ) (said : Option T) (old m
   -- what came out of the place
   pub emptied_value : (got : Option T) → mid.1 ≡ (place, got) ∷ rest mid.1 → got ≡ Some (told.0 hit).0
   emptied_value got has =
-      let both : (place, got) ∷ rest mid.1 ≡ (found % slots, Some (told.0 hit).0) ∷ old.1 = sym has ∙ (told.0 hit).2
-      in let pair : ◌≡◌ {A = ℕ × Option T} (place, got) (found % slots, Some (told.0 hit).0) = cc
-      in ap (λ (z : ℕ × Option T). z.1) pair
+      let both : (place, got) ∷ rest mid.1 ≡ (found % slots, (told.0 hit).2.0) ∷ old.1 = sym has ∙ (told.0 hit).2.1
+      in let pair : ◌≡◌ {A = ℕ × Option T} (place, got) (found % slots, (told.0 hit).2.0) = cc
+      in ap (λ (z : ℕ × Option T). z.1) pair ∙ (told.0 hit).2.2

@@ -22,7 +22,7 @@ use Rattle.alog_ring.specs.Kinds.{no_note, some_value, no_value}
 use Rattle.alog_ring.specs.Share.{ticket_and_item}
 use Rattle.alog_ring.specs.Sight.{Stage, Idle, Sight}
 use Rattle.alog_ring.specs.Rule.{IsAtWork, HasEntries, Knows, seq_of, ShowsCell, Ruled}
-use Rattle.alog_ring.specs.Limit.{AreAtHome}
+use Rattle.alog_ring.specs.Limit.{IsAdmitted, AreAtHome}
 use Rattle.alog_ring.specs.Board.{Leaves, AreInRow, value_at, LieIn}
 use Rattle.alog_ring.proofs.Lists.{not_both, same_or_not, found, prefix_same}
 use Rattle.alog_ring.proofs.Showing.{near_apart}
@@ -308,9 +308,10 @@ module _ {T : Type 0} {n f : ℕ} {v : Sight T no_note} {words : List ℕ} {plac
                   ShowsCell some_value no_value t (get_or end.fin.0.words (seq_of n t) 0)
                   (get_elem? end.fin.0.homes (t % n)) c.item m
                   in let lies : (get_or end.fin.0.words (seq_of n t) 0 ≡ t + 1)
-                  × (get_elem? end.fin.0.homes (t % n) ≡ maybe.some (maybe.some (Some c.item))) =
+                  × ((y : Option T) × (get_elem? end.fin.0.homes (t % n) ≡ maybe.some (maybe.some y)) × (y ≡ Some c.item)) =
                   subst W (written t c some.1) (end.fin.1.0.shown.cells t c some.1)
-                  in end.fin.4 (t % n) (Some c.item) lies.1 ∙ ap maybe.some (sym (value_listed q.front q.cells i c row some.1))
+                  in end.fin.4 (t % n) lies.1.0 lies.1.1
+                  ∙ ap maybe.some (lies.1.2 ∙ sym (value_listed q.front q.cells i c row some.1))
               | inl none ↦
                   let past : q.next ≤ t =
                   elim (leb_tells q.next t) [
@@ -325,7 +326,8 @@ module _ {T : Type 0} {n f : ℕ} {v : Sight T no_note} {words : List ℕ} {plac
                     | inr some ↦ let high : q.front ≤ u = from_front u some.0 some.1 in absurd (omega arith)
                   ]
                   in let lies = end.fin.1.0.shown.free t past (omega arith) room
-                  in end.fin.4 (t % n) None lies.1 ∙ ap maybe.some (sym (value_unlisted q.front q.cells i row none))
+                  in end.fin.4 (t % n) lies.1.0 lies.1.1
+                  ∙ ap maybe.some (lies.1.2 ∙ sym (value_unlisted q.front q.cells i row none))
             ];
       }
 
@@ -379,6 +381,7 @@ module _ {T : Type 0} {n f : ℕ} {v : Sight T no_note} {words : List ℕ} {plac
       λ m.
       ShowsCell some_value no_value t (get_or end.fin.0.words (seq_of n t) 0) (get_elem? end.fin.0.homes (t % n)) c.item m
       in let lies : (get_or end.fin.0.words (seq_of n t) 0 ≡ t + 1)
-      × (get_elem? end.fin.0.homes (t % n) ≡ maybe.some (maybe.some (Some c.item))) =
+      × ((y : Option T) × (get_elem? end.fin.0.homes (t % n) ≡ maybe.some (maybe.some y)) × (y ≡ Some c.item)) =
       subst W (written t c is) (end.fin.1.0.shown.cells t c is)
-      in home (t % n) (Some c.item) lies.1))
+      in let I : Option T → Type 0 = λ y. IsAdmitted admits y
+      in subst I lies.1.2 (home (t % n) lies.1.0 lies.1.1)))

@@ -227,7 +227,7 @@ module _ {T N : Type 0} where
               in (old.0, elsewhere b old.0 not_me not_it old.1, old.2);
         }
 
-  module _ {S : Type 0} (put : T → S) (spare : ℕ → List (Entry T N) → ℕ → S) (n f a o : ℕ) (v w : Sight T N)
+  module _ {S : Type 0} (has : S → T → Type 0) (spare : ℕ → List (Entry T N) → ℕ → S → Type 0) (n f a o : ℕ) (v w : Sight T N)
       (idle : v.stage ≡ Idle) (live : 0 < v.known.parts) where
     unjoined : (both : Sight T N) (s : State S (Sight T N)) → get_elem? s.views a ≡ some v → o ≢ a
         → get_elem? (set s.views a both) o ≡ some w → get_elem? s.views o ≡ some w
@@ -235,7 +235,7 @@ module _ {T N : Type 0} where
 
     -- another pass is joined
     pub joins : w.stage ≡ Idle → 0 < w.known.parts
-        → Joins (λ (s : State S (Sight T N)). Ruled put spare n f s) a v o w (taking_in v w) gone
+        → Joins (λ (s : State S (Sight T N)). Ruled has spare n f s) a v o w (taking_in v w) gone
     joins other_idle other_live s r at apart e =
         let both : Sight T N = taking_in v w
         in let at_other : get_elem? s.views o ≡ some w = unjoined both s at apart e
@@ -326,7 +326,7 @@ module _ {T N : Type 0} where
 
     -- a note is read
     pub reads_note : w.stage ≡ Lent → w.known.parts ≡ 0
-        → Joins (λ (s : State S (Sight T N)). Ruled put spare n f s) a v o w (reading_note v w) gone
+        → Joins (λ (s : State S (Sight T N)). Ruled has spare n f s) a v o w (reading_note v w) gone
     reads_note lent none s r at apart e =
         let both : Sight T N = reading_note v w
         in let at_other : get_elem? s.views o ≡ some w = unjoined both s at apart e

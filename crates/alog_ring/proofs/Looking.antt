@@ -57,15 +57,15 @@ has_cell cs t c m is mark =
     let ticket : c.ticket ≡ t = ticket_of_cell t cs c is
     in is ∙ (λ i. Some (record { ticket = ticket i; mark = mark i; item = c.item; actor = c.actor }))
 
-module _ {S T N : Type 0} (put : T → S) (spare : ℕ → List (Entry T N) → ℕ → S) where
-  shown_word : (t word : ℕ) (home : maybe.Option (maybe.Option S)) (x : T) (m : Mark) → ShowsCell put spare t word home x m
+module _ {S T N : Type 0} (has : S → T → Type 0) (spare : ℕ → List (Entry T N) → ℕ → S → Type 0) where
+  shown_word : (t word : ℕ) (home : maybe.Option (maybe.Option S)) (x : T) (m : Mark) → ShowsCell has spare t word home x m
       → (word ≡ t) ⊎ (word ≡ t + 1)
   shown_word t word home x Claimed is = inl is
   shown_word t word home x Written is = inr is.0
   shown_word t word home x Emptying is = inr is
 
   module _ (n : ℕ) (h : List (Entry T N)) (q : Queue T) (words : List ℕ) (homes : List (maybe.Option S)) (two : 2 ≤ n)
-      (sound : IsSound n q) (shown : Shown put spare n h q words homes) where
+      (sound : IsSound n q) (shown : Shown has spare n h q words homes) where
     -- a place whose ticket is listed, and one that waits for the ticket
     word_listed : (t : ℕ) → IsListed t q.cells → (get_or words (seq_of n t) 0 ≡ t) ⊎ (get_or words (seq_of n t) 0 ≡ t + 1)
     word_listed t is =
@@ -144,7 +144,7 @@ module _ {S T N : Type 0} (put : T → S) (spare : ℕ → List (Entry T N) → 
           | inr some ↦
               let c : Cell T = some.0
               in let F : Mark → Type 0 =
-              λ m. ShowsCell put spare p (get_or words (seq_of n p) 0) (get_elem? homes (p % n)) c.item m
+              λ m. ShowsCell has spare p (get_or words (seq_of n p) 0) (get_elem? homes (p % n)) c.item m
               in let shows : F c.mark = shown.cells p c some.1
               in elim (on_mark c.mark) [
                 | inl e ↦ let w : get_or words (seq_of n p) 0 ≡ p = subst F e shows in
@@ -152,7 +152,7 @@ module _ {S T N : Type 0} (put : T → S) (spare : ℕ → List (Entry T N) → 
                 | inr more ↦
                     elim more [
                       | inl e ↦ let w : (get_or words (seq_of n p) 0 ≡ p + 1)
-                          × (get_elem? homes (p % n) ≡ maybe.some (maybe.some (put c.item))) = subst F e shows in
+                          × ((y : S) × (get_elem? homes (p % n) ≡ maybe.some (maybe.some y)) × has y c.item) = subst F e shows in
                           inl (w.0, λ _. (c.item, c.actor, has_cell q.cells p c Written some.1 e))
                       | inr e ↦ let low : p < q.front = (sound.emptied p c some.1).0 e in absurd (omega arith)
                     ]
@@ -171,7 +171,7 @@ module _ {S T N : Type 0} (put : T → S) (spare : ℕ → List (Entry T N) → 
           | inr some ↦
               let c : Cell T = some.0
               in let F : Mark → Type 0 =
-              λ m. ShowsCell put spare p (get_or words (seq_of n p) 0) (get_elem? homes (p % n)) c.item m
+              λ m. ShowsCell has spare p (get_or words (seq_of n p) 0) (get_elem? homes (p % n)) c.item m
               in let e : c.mark ≡ Emptying = (sound.emptied p c some.1).1 low
               in let w : get_or words (seq_of n p) 0 ≡ p + 1 = subst F e (shown.cells p c some.1)
               in inl (w, λ high. absurd (omega arith))

@@ -119,16 +119,16 @@ record SeesMore {T N : Type 0} (v w : Known T N) (h : List (Entry T N)) : Type 0
   pub seen : IsPrefix w.seen h
 
 module _ {S T N : Type 0} (kind : PlaceKind S T N) (n f : ℕ) (s : State S (Sight T N))
-    (r : Ruled kind.put kind.spare n f s) (a : ℕ) (v : Sight T N) (at : get_elem? s.views a ≡ some v)
+    (r : Ruled kind.has kind.spare n f s) (a : ℕ) (v : Sight T N) (at : get_elem? s.views a ≡ some v)
     (live : 0 < v.known.parts) where
   -- the view changes, and nothing else
   seen_anew : (i : ℕ) (w : Sight T N) → IsFree v.stage → SeesMore v.known w.known r.history
       → Knows n (r.history ++ []) r.queue a w.known w.stage
-      → Ruled kind.put kind.spare n f
+      → Ruled kind.has kind.spare n f
       (record { words = set s.words i (get_or s.words i 0); homes = s.homes; views = set s.views a w })
   seen_anew i w free more knows =
       let P : List ℕ → Type 0 =
-      λ ws. Ruled kind.put kind.spare n f (record { words = ws; homes = s.homes; views = set s.views a w })
+      λ ws. Ruled kind.has kind.spare n f (record { words = ws; homes = s.homes; views = set s.views a w })
       in let Q : List (Entry T N) → Type 0 = λ h. StandsFor n f h r.queue
       in subst P (sym (set-get_or s.words i 0)) (record {
         history = r.history ++ [];
@@ -146,8 +146,8 @@ module _ {S T N : Type 0} (kind : PlaceKind S T N) (n f : ℕ) (s : State S (Sig
               seen = prefix_longer w.known.seen r.history [] more.seen;
             });
         staged = staged_on n a r.queue r.history [] s.views v w (sound_now kind n f s r a v at) at r.staged knows free;
-        shown = shown_on kind.put kind.spare n r.queue r.history (r.history ++ []) s.words s.homes
-            (λ t. ap (λ h. kind.spare n h t) (append-nil r.history)) r.shown;
+        shown = shown_on kind.has kind.spare n r.queue r.history (r.history ++ []) s.words s.homes
+            (λ t z is. let P : List (Entry T N) → Type 0 = λ h. kind.spare n h t z in subst P (sym (append-nil r.history)) is) r.shown;
       })
 
   -- a beginning of the history is legal
@@ -162,7 +162,7 @@ module _ {S T N : Type 0} (kind : PlaceKind S T N) (n f : ℕ) (s : State S (Sig
 module _ {S T N : Type 0} (kind : PlaceKind S T N) (n f slots id : ℕ) (me : Me S (Sight T N))
     (live : 0 < me.0.known.parts) where
   pub names_itself : me.0.stage ≡ Fresh → me.0.known.own ≡ [] → me.0.known.joined ≡ []
-      → Allows (λ (s : State S (Sight T N)). Ruled kind.put kind.spare n f s) slots id me NEXT (λ y. y)
+      → Allows (λ (s : State S (Sight T N)). Ruled kind.has kind.spare n f s) slots id me NEXT (λ y. y)
       (λ y m. was_named me m)
   names_itself fresh none alone s r wide at _ =
       let k : Known T N = me.0.known
@@ -210,7 +210,7 @@ module _ {S T N : Type 0} (kind : PlaceKind S T N) (n f slots id : ℕ) (me : Me
       )
 
   pub sees_both : (t : List (Entry T N)) → me.0.stage ≡ Joined t
-      → Allows (λ (s : State S (Sight T N)). Ruled kind.put kind.spare n f s) slots id me NEXT (λ y. y)
+      → Allows (λ (s : State S (Sight T N)). Ruled kind.has kind.spare n f s) slots id me NEXT (λ y. y)
       (λ y m. saw_both t me m)
   sees_both t stage s r wide at _ =
       let k : Known T N = me.0.known
@@ -241,7 +241,7 @@ module _ {S T N : Type 0} (kind : PlaceKind S T N) (n f slots id : ℕ) (me : Me
       )
 
   -- with all parts the pass is alone
-  module _ (s : State S (Sight T N)) (r : Ruled kind.put kind.spare n f s) (at : get_elem? s.views id ≡ some me.0)
+  module _ (s : State S (Sight T N)) (r : Ruled kind.has kind.spare n f s) (at : get_elem? s.views id ≡ some me.0)
       (idle : me.0.stage ≡ Idle) (all : me.0.known.parts ≡ ALL_PARTS) where
     others_have_none : (b : ℕ) (u : Sight T N) → b ≢ id → get_elem? s.views b ≡ some u → u.known.parts ≡ 0
     others_have_none b u apart e = let two : parts_of me.0 + parts_of u ≤ sum_by parts_of s.views =
@@ -315,7 +315,7 @@ module _ {S T N : Type 0} (kind : PlaceKind S T N) (n f slots id : ℕ) (me : Me
         ]
 
   pub sees_all : me.0.stage ≡ Idle
-      → Allows (λ (s : State S (Sight T N)). Ruled kind.put kind.spare n f s) slots id me NEXT (λ y. y)
+      → Allows (λ (s : State S (Sight T N)). Ruled kind.has kind.spare n f s) slots id me NEXT (λ y. y)
       (λ y m. saw_all me m)
   sees_all idle s r wide at _ =
       let k : Known T N = me.0.known

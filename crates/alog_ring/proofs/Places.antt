@@ -20,12 +20,13 @@ use Rattle.alog_ring.proofs.Steps.{sees_next, sees_free, claims, writes, sees_fr
 
 abbrev pub option_kind : (T : Type 0) → PlaceKind (Option T) T no_note
 option_kind T = record {
-  put = some_value;
-  plain = λ _. None;
+  has = some_value;
+  brings = λ _ y. y ≡ None;
+  once = λ a b y _ _. refl;
   blank = tt;
   spare = no_value;
-  stays = λ n h x t _. refl;
-  comes = λ n h x u y _. refl;
+  stays = λ n h x t _ z is. is;
+  comes = λ n h x u y _ z is. is;
 }
 
 module _ {T : Type 0} (admits : T → Type 0) (n f slots id : ℕ) (me : Me (Option T) (Sight T no_note))
@@ -74,7 +75,7 @@ module _ {T : Type 0} (admits : T → Type 0) (n f slots id : ℕ) (me : Me (Opt
       in subst A (sym is)
       (kept_in NEXT (λ y. either (eqb y t) new y)
       (λ y m. claimed tt some_value no_value (step slots NEXT t new (some (Some x))) me y m)
-      (claims (option_kind T) n f slots id me t new x stage next low))
+      (claims (option_kind T) n f slots id me t new x (Some x) refl stage next low))
 
   pub write_may : (i t new : ℕ) (x : T) (more : List (ℕ × Option T)) → i ≡ seq_of n t → new ≡ t + 1
       → me.0.stage ≡ Writing t x → me.1 ≡ (t % n, Some x) ∷ more
@@ -88,7 +89,7 @@ module _ {T : Type 0} (admits : T → Type 0) (n f slots id : ℕ) (me : Me (Opt
       (λ _ m. (u : ℕ) (z : T) → me.0.stage ≡ Writing u z → wrote tt u me m)
       (λ y m told u z at. let both : ◌≡◌ {A = Stage T no_note} (Writing t x) (Writing u z) = sym stage
       ∙ at in let same : t ≡ u = cc in let P : ℕ → Type 0 = λ k. wrote tt k me m in subst P same told)
-      (kept_in (seq_of n t) (λ _. t + 1) (λ _ m. wrote tt t me m) (writes (option_kind T) n f slots id me t x more stage has))))
+      (kept_in (seq_of n t) (λ _. t + 1) (λ _ m. wrote tt t me m) (writes (option_kind T) n f slots id me t x (Some x) more refl stage has))))
 
   pub see_front_may : me.0.stage ≡ Idle → Allows Ring slots id me FRONT (λ y. y) (λ y m. saw_front me y m)
   see_front_may idle =
@@ -141,7 +142,7 @@ module _ {T : Type 0} (admits : T → Type 0) (n f slots id : ℕ) (me : Me (Opt
       in let P : ℕ → Type 0 = λ k. took tt k x me m
       in let Q : T → Type 0 = λ k. took tt u k me m
       in subst Q item (subst P same told))
-      (kept_in (seq_of n t) (λ _. t + n) (λ _ m. took tt t x me m) (takes_out (option_kind T) n f slots id me tt t x more stage has))))
+      (kept_in (seq_of n t) (λ _. t + n) (λ _ m. took tt t x me m) (takes_out (option_kind T) n f slots id me tt t x None more refl stage has))))
 
 module _ {T : Type 0} (admits : T → Type 0) (n f slots id : ℕ) (me : Me (Option T) (Sight T no_note))
     (in_hand : AreHeld admits me.1) where

@@ -28,7 +28,7 @@ far_apart n t u apart a b same =
       | inr lt ↦ let e : t ≡ u = one_turn t u n (omega arith) (omega (arith, lt.1)) (sym same) in omega arith
     ]
 
-module _ {S T N : Type 0} (put : T → S) (spare : ℕ → List (Entry T N) → ℕ → S) where
+module _ {S T N : Type 0} (has : S → T → Type 0) (spare : ℕ → List (Entry T N) → ℕ → S → Type 0) where
   -- what a turn of ticket t does to the words and the places
   pub record Turned (n t : ℕ) (r : Queue T) (h h' : List (Entry T N)) (words words' : List ℕ)
       (homes homes' : List (Option S)) : Type 0 where
@@ -40,15 +40,16 @@ module _ {S T N : Type 0} (put : T → S) (spare : ℕ → List (Entry T N) → 
     pub words_else : (i : ℕ) → i ≢ t % n → get_or words' (i * APART + SEQUENCES) 0 ≡ get_or words (i * APART + SEQUENCES) 0
     pub homes_else : (i : ℕ) → i ≢ t % n → get_elem? homes' i ≡ get_elem? homes i
     pub cell_here : (c : Cell T) → cell_of t r.cells ≡ Some c
-        → ShowsCell put spare t (get_or words' (seq_of n t) 0) (get_elem? homes' (t % n)) c.item c.mark
+        → ShowsCell has spare t (get_or words' (seq_of n t) 0) (get_elem? homes' (t % n)) c.item c.mark
     pub free_here : cell_of t r.cells ≡ None
-        → (get_or words' (seq_of n t) 0 ≡ t + n) × (get_elem? homes' (t % n) ≡ some (some (spare n h' (t + n))))
-    pub spare_else : (u : ℕ) → u ≢ t + n → spare n h' u ≡ spare n h u
+        → (get_or words' (seq_of n t) 0 ≡ t + n)
+        × ((y : S) × (get_elem? homes' (t % n) ≡ some (some y)) × spare n h' (t + n) y)
+    pub spare_else : (u : ℕ) → u ≢ t + n → (y : S) → spare n h u y → spare n h' u y
 
   pub shown_turn : (n a t : ℕ) (q r : Queue T) (h h' : List (Entry T N)) (words words' : List ℕ)
       (homes homes' : List (Option S))
-      → IsSound n r → Turn n a t q r → t < r.next → Shown put spare n h q words homes
-      → Turned n t r h h' words words' homes homes' → Shown put spare n h' r words' homes'
+      → IsSound n r → Turn n a t q r → t < r.next → Shown has spare n h q words homes
+      → Turned n t r h h' words words' homes homes' → Shown has spare n h' r words' homes'
   shown_turn n a t q r h h' words words' homes homes' sound turn below shown turned = record {
     wide = turned.wide ∙ shown.wide;
     places = turned.places ∙ shown.places;
@@ -60,16 +61,16 @@ module _ {S T N : Type 0} (put : T → S) (spare : ℕ → List (Entry T N) → 
         elim (same_or_not t u) [
           | inl same ↦
               let P : ℕ → Type 0 = λ z. (d : Cell T) → cell_of z r.cells ≡ Some d
-              → ShowsCell put spare z (get_or words' (seq_of n z) 0) (get_elem? homes' (z % n)) d.item d.mark
+              → ShowsCell has spare z (get_or words' (seq_of n z) 0) (get_elem? homes' (z % n)) d.item d.mark
               in subst P same turned.cell_here c is
           | inr apart ↦
               let w : (r.next - n ≤ u) × (u < r.next) = within n r u c sound is
               in let places_apart : u % n ≢ t % n =
               near_apart n t u apart (omega (arith, w.0)) (omega (arith, w.1, turn.near))
               in let old = shown.cells u c (sym (turn.others u apart) ∙ is)
-              in let Q : ℕ → Type 0 = λ z. ShowsCell put spare u z (get_elem? homes' (u % n)) c.item c.mark
+              in let Q : ℕ → Type 0 = λ z. ShowsCell has spare u z (get_elem? homes' (u % n)) c.item c.mark
               in let R : Option (Option S) → Type 0 =
-              λ z. ShowsCell put spare u (get_or words (seq_of n u) 0) z c.item c.mark
+              λ z. ShowsCell has spare u (get_or words (seq_of n u) 0) z c.item c.mark
               in subst Q (sym (turned.words_else (u % n) places_apart))
               (subst R (sym (turned.homes_else (u % n) places_apart)) old)
         ];
@@ -78,13 +79,13 @@ module _ {S T N : Type 0} (put : T → S) (spare : ℕ → List (Entry T N) → 
         elim (same_or_not u (t + n)) [
           | inl same ↦
               let now : (get_or words' (seq_of n t) 0 ≡ t + n)
-              × (get_elem? homes' (t % n) ≡ some (some (spare n h' (t + n)))) =
+              × ((y : S) × (get_elem? homes' (t % n) ≡ some (some y)) × spare n h' (t + n) y) =
               turned.free_here (room t (sym same))
               in let place : u % n ≡ t % n = ap (λ (z : ℕ). z % n) same ∙ add-mod_right t n
+              in let P : ℕ → Type 0 = λ z. spare n h' z now.1.0
               in (
                 ap (λ (z : ℕ). get_or words' (z * APART + SEQUENCES) 0) place ∙ now.0 ∙ sym same,
-                ap (λ (z : ℕ). get_elem? homes' z) place ∙ now.1
-                    ∙ ap (λ (z : ℕ). some (some (spare n h' z))) (sym same),
+                (now.1.0, ap (λ (z : ℕ). get_elem? homes' z) place ∙ now.1.1, subst P (sym same) now.1.2),
               )
           | inr other ↦
               let places_apart : u % n ≢ t % n = far_apart n t u other (omega arith) (omega (arith, turn.near))
@@ -96,14 +97,13 @@ module _ {S T N : Type 0} (put : T → S) (spare : ℕ → List (Entry T N) → 
               in let old = shown.free u from_q to_q old_room
               in (
                 turned.words_else (u % n) places_apart ∙ old.0,
-                turned.homes_else (u % n) places_apart ∙ old.1
-                    ∙ ap (λ (z : S). some (some z)) (sym (turned.spare_else u other)),
+                (old.1.0, turned.homes_else (u % n) places_apart ∙ old.1.1, turned.spare_else u other old.1.0 old.1.2),
               )
         ];
   }
 
   pub shown_on : (n : ℕ) (q : Queue T) (h h' : List (Entry T N)) (words : List ℕ) (homes : List (Option S))
-      → ((u : ℕ) → spare n h' u ≡ spare n h u) → Shown put spare n h q words homes → Shown put spare n h' q words homes
+      → ((u : ℕ) (y : S) → spare n h u y → spare n h' u y) → Shown has spare n h q words homes → Shown has spare n h' q words homes
   shown_on n q h h' words homes same shown = record {
     wide = shown.wide;
     places = shown.places;
@@ -112,5 +112,5 @@ module _ {S T N : Type 0} (put : T → S) (spare : ℕ → List (Entry T N) → 
     bounded = shown.bounded;
     cells = shown.cells;
     free = λ u from to room. let old = shown.free u from to room in
-        (old.0, old.1 ∙ ap (λ (z : S). some (some z)) (sym (same u)));
+        (old.0, (old.1.0, old.1.1, same u old.1.0 old.1.2));
   }

@@ -169,9 +169,9 @@ module _ {T N : Type 0} (n f a : ℕ) (v : Sight T N) (parts : ℕ) (stage : Sta
               in (old.0, elsewhere b old.0 not_me old.1, old.2);
         }
 
-  pub splits : {S : Type 0} (put : T → S) (spare : ℕ → List (Entry T N) → ℕ → S)
-      → Splits (λ (s : State S (Sight T N)). Ruled put spare n f s) a v left_seat new_seat
-  splits put spare s r at = record {
+  pub splits : {S : Type 0} (has : S → T → Type 0) (spare : ℕ → List (Entry T N) → ℕ → S → Type 0)
+      → Splits (λ (s : State S (Sight T N)). Ruled has spare n f s) a v left_seat new_seat
+  splits has spare s r at = record {
     history = r.history;
     queue = r.queue;
     two = r.two;

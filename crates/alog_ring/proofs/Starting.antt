@@ -93,7 +93,7 @@ starts {T} n f words two low are =
         bounded = omega arith;
         cells = λ t c has. absurd (cc);
         free = λ t from to _.
-            (are.sequences t from to, same_place None n (t % n) (mod-lt t (let some : 0 < n = omega arith in some)));
+            (are.sequences t from to, (None, same_place None n (t % n) (mod-lt t (let some : 0 < n = omega arith in some)), refl));
       };
     }
   where

@@ -24,15 +24,16 @@ use Rattle.alog_ring.proofs.Showing.{shown_on}
 
 -- What lies in the places: an item in a place, the place that a note brings, the note of all other events, and what
 -- lies in a free place, which only the Take of the ticket a lap before changes.
-pub record PlaceKind (S T N : Type 0) : Type 0 where
-  pub put : T → S
-  pub plain : N → S
+pub record PlaceKind (S T N : Type 0) : Type 1 where
+  pub has : S → T → Type 0
+  pub brings : N → S → Type 0
+  pub once : (a b : N) (y : S) → brings a y → brings b y → a ≡ b
   pub blank : N
-  pub spare : ℕ → List (Entry T N) → ℕ → S
+  pub spare : ℕ → List (Entry T N) → ℕ → S → Type 0
   pub stays : (n : ℕ) (h : List (Entry T N)) (x : Entry T N) (t : ℕ) → ((u : ℕ) (y : T) → x.event ≡ Take u y → u + n ≢ t)
-      → spare n (h ++ x ∷ []) t ≡ spare n h t
+      → (z : S) → spare n h t z → spare n (h ++ x ∷ []) t z
   pub comes : (n : ℕ) (h : List (Entry T N)) (x : Entry T N) (u : ℕ) (y : T) → x.event ≡ Take u y
-      → spare n (h ++ x ∷ []) (u + n) ≡ plain x.note
+      → (z : S) → brings x.note z → spare n (h ++ x ∷ []) (u + n) z
 
 -- positions only rise
 pub rises_after : {T : Type 0} (q : Queue T) (a : ℕ) (e : Event T) → (q.next ≤ (after q a e).next)
@@ -79,7 +80,7 @@ pub none_of : {T N : Type 0} (a : ℕ) → AreOf {T = T} {N = N} a []
 none_of a = record { all = refl; others = λ b apart. refl }
 
 module _ {S T N : Type 0} (kind : PlaceKind S T N) (n f : ℕ) (s : State S (Sight T N))
-    (r : Ruled kind.put kind.spare n f s) (a : ℕ) (v : Sight T N) (at : get_elem? s.views a ≡ some v) where
+    (r : Ruled kind.has kind.spare n f s) (a : ℕ) (v : Sight T N) (at : get_elem? s.views a ≡ some v) where
   pub sound_now : IsSound n r.queue
   sound_now = stands_sound n f r.history r.queue (let two : 2 ≤ n = r.two in omega arith) r.stands
 
@@ -126,8 +127,8 @@ module _ {S T N : Type 0} (kind : PlaceKind S T N) (n f : ℕ) (s : State S (Sig
 
     pub kept : (q : Queue T) (words : List ℕ) (homes : List (maybe.Option S)) → StandsFor n f (r.history ++ more) q
         → Staged n (r.history ++ more) q (set s.views a stepping)
-        → Shown kind.put kind.spare n (r.history ++ more) q words homes
-        → Ruled kind.put kind.spare n f (record { words = words; homes = homes; views = set s.views a stepping })
+        → Shown kind.has kind.spare n (r.history ++ more) q words homes
+        → Ruled kind.has kind.spare n f (record { words = words; homes = homes; views = set s.views a stepping })
     kept q words homes stands staged shown = record {
       history = r.history ++ more;
       queue = q;
@@ -140,23 +141,23 @@ module _ {S T N : Type 0} (kind : PlaceKind S T N) (n f : ℕ) (s : State S (Sig
 
     -- a step that changes neither the queue nor a word nor a place
     pub kept_still : (i : ℕ) → IsFree v.stage → StandsFor n f (r.history ++ more) r.queue
-        → ((t : ℕ) → kind.spare n (r.history ++ more) t ≡ kind.spare n r.history t)
+        → ((t : ℕ) (z : S) → kind.spare n r.history t z → kind.spare n (r.history ++ more) t z)
         → Knows n (r.history ++ more) r.queue a (grown v.known r.history more) stage
-        → Ruled kind.put kind.spare n f
+        → Ruled kind.has kind.spare n f
         (record { words = set s.words i (get_or s.words i 0); homes = s.homes; views = set s.views a stepping })
     kept_still i free stands same knows =
         let P : List ℕ → Type 0 =
         λ ws.
-        Ruled kind.put kind.spare n f (record { words = ws; homes = s.homes; views = set s.views a stepping })
+        Ruled kind.has kind.spare n f (record { words = ws; homes = s.homes; views = set s.views a stepping })
         in subst P (sym (set-get_or s.words i 0))
         (kept r.queue s.words s.homes stands
         (staged_on n a r.queue r.history more s.views v stepping sound_now at r.staged knows free)
-        (shown_on kind.put kind.spare n r.queue r.history (r.history ++ more) s.words s.homes same r.shown))
+        (shown_on kind.has kind.spare n r.queue r.history (r.history ++ more) s.words s.homes same r.shown))
 
   -- the seat only looks
   pub looks : (i : ℕ) → IsAtWork a v.known → IsFree v.stage → (stage : Stage T N)
       → Knows n (r.history ++ []) r.queue a (grown v.known r.history []) stage
-      → Ruled kind.put kind.spare n f
+      → Ruled kind.has kind.spare n f
       (record {
         words = set s.words i (get_or s.words i 0);
         homes = s.homes;
@@ -168,7 +169,7 @@ module _ {S T N : Type 0} (kind : PlaceKind S T N) (n f : ℕ) (s : State S (Sig
       in let stands : StandsFor n f (r.history ++ []) r.queue = subst P (sym (append-nil r.history)) r.stands
       in (
         kept_still work [] (none_of a) stage i free stands
-            (λ t. ap (λ h. kind.spare n h t) (append-nil r.history)) knows,
+            (λ t z is. let P : List (Entry T N) → Type 0 = λ h. kind.spare n h t z in subst P (sym (append-nil r.history)) is) knows,
         made work [] (none_of a) stage r.queue stands,
       )
 
@@ -187,7 +188,7 @@ module _ {S T N : Type 0} (kind : PlaceKind S T N) (n f : ℕ) (s : State S (Sig
   -- the rule after a refusal that a load at this word told, and what it tells
   abbrev pub Refused : ℕ → Stage T N → Event T → Type 0
   Refused i stage e =
-      Ruled kind.put kind.spare n f
+      Ruled kind.has kind.spare n f
       (record {
         words = set s.words i (get_or s.words i 0);
         homes = s.homes;

@@ -48,12 +48,12 @@ module _ {T N : Type 0} where
 
 module _ {S T N : Type 0} (kind : PlaceKind S T N) (n f : ℕ) (slots id : ℕ) (me : Me S (Sight T N)) where
   abbrev Holds : State S (Sight T N) → Type 0
-  Holds s = Ruled kind.put kind.spare n f s
+  Holds s = Ruled kind.has kind.spare n f s
 
   -- what a step at the word i has to give: a view and an act that keep the rule, and what the play tells
   abbrev Goes : State S (Sight T N) → ℕ → (Me S (Sight T N) → Type 0) → ℕ → Type 0
   Goes s i told new = (w : Sight T N) × (a : Act S) × Valid s.homes me.1 a
-      × Ruled kind.put kind.spare n f (stepped s i new id me.1 w a) × told (w, carried_after me.1 a)
+      × Ruled kind.has kind.spare n f (stepped s i new id me.1 w a) × told (w, carried_after me.1 a)
 
   pub sees_next : me.0.stage ≡ Idle → Allows Holds slots id me NEXT (λ y. y) (λ y m. saw_next kind.blank me y m)
   sees_next idle s r wide at _ =
@@ -91,7 +91,7 @@ module _ {S T N : Type 0} (kind : PlaceKind S T N) (n f : ℕ) (slots id : ℕ) 
       in let y : ℕ = get_or s.words (seq_of n t) 0
       in let knows : IsAtWork id me.0.known × (t ≤ r.queue.next) = knows_now kind n f s r id me.0 at (SawNext t) stage
       in let free : IsFree me.0.stage = free_at me.0.stage (SawNext t) stage (saw_next_free t)
-      in elim (push_look kind.put kind.spare n r.history r.queue s.words s.homes r.two
+      in elim (push_look kind.has kind.spare n r.history r.queue s.words s.homes r.two
       (sound_now kind n f s r id me.0 at) r.shown t knows.1) [
         | inl go ↦
             let e : y ≡ t = go.0
@@ -157,7 +157,7 @@ module _ {S T N : Type 0} (kind : PlaceKind S T N) (n f : ℕ) (slots id : ℕ) 
       in let y : ℕ = get_or s.words (seq_of n t) 0
       in let knows : IsAtWork id me.0.known × (t ≤ r.queue.front) = knows_now kind n f s r id me.0 at (SawFront t) stage
       in let free : IsFree me.0.stage = free_at me.0.stage (SawFront t) stage (saw_head_free t)
-      in elim (pop_look kind.put kind.spare n r.history r.queue s.words s.homes r.two
+      in elim (pop_look kind.has kind.spare n r.history r.queue s.words s.homes r.two
       (sound_now kind n f s r id me.0 at) r.shown t knows.1) [
         | inl go ↦
             let e : y ≡ t + 1 = go.0
@@ -238,10 +238,10 @@ module _ {S T N : Type 0} (kind : PlaceKind S T N) (n f : ℕ) (slots id : ℕ) 
   same_place : (s : State S (Sight T N)) → Holds s → length s.homes ≡ slots → (t : ℕ) → t % n ≡ t % slots
   same_place s r wide t = ap (λ (z : ℕ). t % z) (sym r.shown.places ∙ wide)
 
-  pub claims : (t new : ℕ) (x : T) → me.0.stage ≡ SawFree t → new ≡ t + 1 → t < last
+  pub claims : (t new : ℕ) (x : T) (place : S) → kind.has place x → me.0.stage ≡ SawFree t → new ≡ t + 1 → t < last
       → Allows Holds slots id me NEXT (λ y. either (eqb y t) new y)
-      (λ y m. claimed kind.blank kind.put kind.spare (step slots NEXT t new (some (kind.put x))) me y m)
-  claims t new x stage next low s r wide at _ =
+      (λ y m. claimed kind.blank kind.has kind.spare (step slots NEXT t new (some place)) me y m)
+  claims t new x place lies stage next low s r wide at _ =
       let y : ℕ = get_or s.words NEXT 0
       in let q : Queue T = r.queue
       in let is : y ≡ q.next = r.shown.next
@@ -249,7 +249,7 @@ module _ {S T N : Type 0} (kind : PlaceKind S T N) (n f : ℕ) (slots id : ℕ) 
       knows_now kind n f s r id me.0 at (SawFree t) stage
       in let free : IsFree me.0.stage = free_at me.0.stage (SawFree t) stage (saw_free_free t)
       in let told : Me S (Sight T N) → Type 0 =
-      λ m. claimed kind.blank kind.put kind.spare (step slots NEXT t new (some (kind.put x))) me y m
+      λ m. claimed kind.blank kind.has kind.spare (step slots NEXT t new (some place)) me y m
       in exchanged y t new (Goes s NEXT told)
       (λ hit.
       let same : t ≡ q.next = sym hit ∙ is
@@ -260,23 +260,23 @@ module _ {S T N : Type 0} (kind : PlaceKind S T N) (n f : ℕ) (slots id : ℕ) 
       in let e : Event T = Claim q.next x
       in let k' : Known T N = grown me.0.known r.history (entry kind.blank me.0.known e ∷ [])
       in let w : Sight T N = record { stage = Writing q.next x; known = k' }
-      in let y0 : S = kind.spare n r.history q.next
-      in let H : ℕ → Type 0 = λ z. Ruled kind.put kind.spare n f (stepped s NEXT z id me.1 w (takes (q.next % n) y0))
-      in let lies : y0 ≡ kind.spare me.0.known.places (r.history ++ entry kind.blank me.0.known e ∷ []) q.next =
-      sym (kind.stays n r.history (entry kind.blank me.0.known e) q.next (λ u z is. cc))
-      ∙ ap (λ (z : ℕ). kind.spare z (r.history ++ entry kind.blank me.0.known e ∷ []) q.next)
-      (sym (r.told.places id me.0 at knows.0.1))
+      in let y0 : S = did.0.0
+      in let H : ℕ → Type 0 = λ z. Ruled kind.has kind.spare n f (stepped s NEXT z id me.1 w (takes (q.next % n) y0))
+      in let Z : ℕ → Type 0 = λ z. kind.spare z (r.history ++ entry kind.blank me.0.known e ∷ []) q.next y0
+      in let was : kind.spare me.0.known.places (r.history ++ entry kind.blank me.0.known e ∷ []) q.next y0 =
+      subst Z (sym (r.told.places id me.0 at knows.0.1))
+      (kind.stays n r.history (entry kind.blank me.0.known e) q.next (λ u z is. cc) y0 did.0.2)
       in let D : ℕ → Type 0 =
       λ z.
-      claimed kind.blank kind.put kind.spare (step slots NEXT t new (some (kind.put x))) me z
+      claimed kind.blank kind.has kind.spare (step slots NEXT t new (some place)) me z
       (w, (q.next % n, y0) ∷ me.1)
       in (
         w,
         takes (q.next % n) y0,
-        did.0,
+        did.0.1,
         subst H (let e2 : q.next + 1 ≡ new = omega arith in e2) did.1.0,
         subst D (sym is) (
-          (λ _. (x, refl, (did.1.1, refl), (λ i. (same_place s r wide q.next i, lies i) ∷ me.1))),
+          (λ _. (place, x, refl, lies, (did.1.1, refl), (y0, (λ i. (same_place s r wide q.next i, y0) ∷ me.1), was))),
           λ miss. absurd (miss (sym same)),
         ),
       ))
@@ -292,20 +292,21 @@ module _ {S T N : Type 0} (kind : PlaceKind S T N) (n f : ℕ) (slots id : ℕ) 
         ((λ hit. absurd (miss hit)), λ _. ((done.1, refl), refl)),
       ))
 
-  pub writes : (t : ℕ) (x : T) (more : List (ℕ × S)) → me.0.stage ≡ Writing t x → me.1 ≡ (t % n, kind.put x) ∷ more
+  pub writes : (t : ℕ) (x : T) (y : S) (more : List (ℕ × S)) → kind.has y x → me.0.stage ≡ Writing t x
+      → me.1 ≡ (t % n, y) ∷ more
       → Allows Holds slots id me (seq_of n t) (λ _. t + 1) (λ _ m. wrote kind.blank t me m)
-  writes t x more stage has s r wide at _ =
+  writes t x y more lies stage has s r wide at _ =
       let knows : IsAtWork id me.0.known × HasCell r.queue.cells t Claimed x id =
       knows_now kind n f s r id me.0 at (Writing t x) stage
-      in let did = write_step kind n f s r id me.0 at knows.0 t x stage knows.1
+      in let did = write_step kind n f s r id me.0 at knows.0 t x y lies stage knows.1
       in let w : Sight T N =
       record { stage = Idle; known = grown me.0.known r.history (entry kind.blank me.0.known (Write t) ∷ []) }
-      in let H : List (ℕ × S) → Type 0 = λ c. Ruled kind.put kind.spare n f (stepped s (seq_of n t) (t + 1) id c w gives)
+      in let H : List (ℕ × S) → Type 0 = λ c. Ruled kind.has kind.spare n f (stepped s (seq_of n t) (t + 1) id c w gives)
       in (w, gives, tt, subst H (sym has) did.0, ((did.1, refl), refl))
 
   pub grabs : (t new : ℕ) (said : Option S) → me.0.stage ≡ SawFull t → new ≡ t + 1
       → Allows Holds slots id me FRONT (λ y. either (eqb y t) new y)
-      (λ y m. grabbed kind.blank kind.put (step slots FRONT t new said) me y m)
+      (λ y m. grabbed kind.blank kind.has (step slots FRONT t new said) me y m)
   grabs t new said stage next s r wide at _ =
       let y : ℕ = get_or s.words FRONT 0
       in let q : Queue T = r.queue
@@ -313,7 +314,7 @@ module _ {S T N : Type 0} (kind : PlaceKind S T N) (n f : ℕ) (slots id : ℕ) 
       in let knows : IsAtWork id me.0.known × (t ≤ q.front) × (q.front ≤ t → IsWritten t q.cells) =
       knows_now kind n f s r id me.0 at (SawFull t) stage
       in let free : IsFree me.0.stage = free_at me.0.stage (SawFull t) stage (saw_full_free t)
-      in let told : Me S (Sight T N) → Type 0 = λ m. grabbed kind.blank kind.put (step slots FRONT t new said) me y m
+      in let told : Me S (Sight T N) → Type 0 = λ m. grabbed kind.blank kind.has (step slots FRONT t new said) me y m
       in exchanged y t new (Goes s FRONT told)
       (λ hit.
       let same : t ≡ q.front = sym hit ∙ is
@@ -327,17 +328,17 @@ module _ {S T N : Type 0} (kind : PlaceKind S T N) (n f : ℕ) (slots id : ℕ) 
       in let w : Sight T N =
       record { stage = Reading q.front x; known = grown me.0.known r.history (entry kind.blank me.0.known e ∷ []) }
       in let H : ℕ → Type 0 =
-      λ z. Ruled kind.put kind.spare n f (stepped s FRONT z id me.1 w (takes (q.front % n) (kind.put x)))
+      λ z. Ruled kind.has kind.spare n f (stepped s FRONT z id me.1 w (takes (q.front % n) did.0.0))
       in let D : ℕ → Type 0 =
       λ z.
-      grabbed kind.blank kind.put (step slots FRONT t new said) me z (w, (q.front % n, kind.put x) ∷ me.1)
+      grabbed kind.blank kind.has (step slots FRONT t new said) me z (w, (q.front % n, did.0.0) ∷ me.1)
       in (
         w,
-        takes (q.front % n) (kind.put x),
-        did.0,
+        takes (q.front % n) did.0.0,
+        did.0.1,
         subst H (let e2 : q.front + 1 ≡ new = omega arith in e2) did.1.0,
         subst D (sym is) (
-          (λ _. (x, (did.1.1, refl), (λ i. (same_place s r wide q.front i, kind.put x) ∷ me.1))),
+          (λ _. (x, (did.1.1, refl), (did.0.0, (λ i. (same_place s r wide q.front i, did.0.0) ∷ me.1), did.0.2))),
           λ miss. absurd (miss (sym same)),
         ),
       ))
@@ -353,14 +354,14 @@ module _ {S T N : Type 0} (kind : PlaceKind S T N) (n f : ℕ) (slots id : ℕ) 
         ((λ hit. absurd (miss hit)), λ _. ((done.1, refl), refl)),
       ))
 
-  pub takes_out : (note : N) (t : ℕ) (x : T) (more : List (ℕ × S)) → me.0.stage ≡ Reading t x
-      → me.1 ≡ (t % n, kind.plain note) ∷ more
+  pub takes_out : (note : N) (t : ℕ) (x : T) (y : S) (more : List (ℕ × S)) → kind.brings note y → me.0.stage ≡ Reading t x
+      → me.1 ≡ (t % n, y) ∷ more
       → Allows Holds slots id me (seq_of n t) (λ _. t + n) (λ _ m. took note t x me m)
-  takes_out note t x more stage has s r wide at _ =
+  takes_out note t x y more brought stage has s r wide at _ =
       let knows : IsAtWork id me.0.known × HasCell r.queue.cells t Emptying x id =
       knows_now kind n f s r id me.0 at (Reading t x) stage
-      in let did = take_step kind n f s r id me.0 at knows.0 note t x stage knows.1
+      in let did = take_step kind n f s r id me.0 at knows.0 note t x y brought stage knows.1
       in let w : Sight T N =
       record { stage = Idle; known = grown me.0.known r.history (entry note me.0.known (Take t x) ∷ []) }
-      in let H : List (ℕ × S) → Type 0 = λ c. Ruled kind.put kind.spare n f (stepped s (seq_of n t) (t + n) id c w gives)
+      in let H : List (ℕ × S) → Type 0 = λ c. Ruled kind.has kind.spare n f (stepped s (seq_of n t) (t + n) id c w gives)
       in (w, gives, tt, subst H (sym has) did.0, ((did.1, refl), refl))

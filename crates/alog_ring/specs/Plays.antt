@@ -36,11 +36,11 @@ module _ {S T N : Type 0} where
       × (t < r → Ends blank m m' (PushBusy t))
 
   -- exchanges the next ticket,
-  abbrev pub claimed : N → (T → S) → (ℕ → List (Entry T N) → ℕ → S) → Step S → Me S (Sight T N) → ℕ → Me S (Sight T N)
-      → Type 0
-  claimed blank put spare st m r m' =
-      (r ≡ st.first → (x : T) × (st.said ≡ some (put x)) × Acts blank m m' (Claim r x) (Writing r x)
-      × (m'.1 ≡ (r % st.slots, spare m'.0.known.places m'.0.known.seen r) ∷ m.1))
+  abbrev pub claimed : N → (S → T → Type 0) → (ℕ → List (Entry T N) → ℕ → S → Type 0) → Step S → Me S (Sight T N) → ℕ
+      → Me S (Sight T N) → Type 0
+  claimed blank has spare st m r m' =
+      (r ≡ st.first → (y : S) × (x : T) × (st.said ≡ some y) × has y x × Acts blank m m' (Claim r x) (Writing r x)
+      × ((z : S) × (m'.1 ≡ (r % st.slots, z) ∷ m.1) × spare m'.0.known.places m'.0.known.seen r z))
       × (r ≢ st.first → Ends blank m m' (PushBusy st.first))
 
   -- and stores the sequence.
@@ -61,9 +61,10 @@ module _ {S T N : Type 0} where
   saw_end blank t m r m' = (t ≤ r) × (r ≡ t → Ends blank m m' (queue.Idle t)) × (t < r → Ends blank m m' (Empty t))
 
   -- exchanges the front ticket,
-  abbrev pub grabbed : N → (T → S) → Step S → Me S (Sight T N) → ℕ → Me S (Sight T N) → Type 0
-  grabbed blank put st m r m' =
-      (r ≡ st.first → (x : T) × Acts blank m m' (Grab r) (Reading r x) × (m'.1 ≡ (r % st.slots, put x) ∷ m.1))
+  abbrev pub grabbed : N → (S → T → Type 0) → Step S → Me S (Sight T N) → ℕ → Me S (Sight T N) → Type 0
+  grabbed blank has st m r m' =
+      (r ≡ st.first → (x : T) × Acts blank m m' (Grab r) (Reading r x)
+      × ((y : S) × (m'.1 ≡ (r % st.slots, y) ∷ m.1) × has y x))
       × (r ≢ st.first → Ends blank m m' (PopBusy st.first))
 
   -- and stores the sequence, with the spare that it brings.

@@ -1,5 +1,5 @@
 -- What holds of a ring between any two steps: of the history, of what each pass knows, and of the words and places.
--- It is said of any kind of place: `put` is a place with an item, `spare` one without, for a ticket after a history.
+-- It is said of any kind of place: what lies in a place `has` an item, or is the `spare` for a ticket after a history.
 use Rattle.std.specs.Prelude.{◌≡◌, ◌≢◌, ℕ, ◌+◌, ◌*◌, ◌%◌, ◌<◌, ◌≤◌, ◌⊎◌, List, [], length, slice_index, Some, None}
 use Rattle.std.specs.List.{AllByRecursion, sum_by}
 use mathlib.Core.Option.{Option, some}
@@ -84,11 +84,11 @@ module _ {T N : Type 0} where
     pub readers : (t : ℕ) (x : T) (a : ℕ) → HasCell q.cells t Emptying x a → (v : Sight T N) × (get_elem? views a ≡ some v)
         × (v.stage ≡ Reading t x)
 
-module _ {S T N : Type 0} (put : T → S) (spare : ℕ → List (Entry T N) → ℕ → S) where
+module _ {S T N : Type 0} (has : S → T → Type 0) (spare : ℕ → List (Entry T N) → ℕ → S → Type 0) where
   -- the sequence of a ticket's place, and the value that lies there, which is out while a cell is claimed or emptied
   abbrev pub ShowsCell : ℕ → ℕ → Option (Option S) → T → Mark → Type 0
   ShowsCell t word home x Claimed = word ≡ t
-  ShowsCell t word home x Written = (word ≡ t + 1) × (home ≡ some (some (put x)))
+  ShowsCell t word home x Written = (word ≡ t + 1) × ((y : S) × (home ≡ some (some y)) × has y x)
   ShowsCell t word home x Emptying = word ≡ t + 1
 
   -- The queue against the words and the places.
@@ -101,7 +101,7 @@ module _ {S T N : Type 0} (put : T → S) (spare : ℕ → List (Entry T N) → 
     pub cells : (t : ℕ) (c : Cell T) → cell_of t q.cells ≡ Some c
         → ShowsCell t (slice_index words (seq_of n t)) (get_elem? homes (t % n)) c.item c.mark
     pub free : (t : ℕ) → q.next ≤ t → t < q.next + n → IsRoom n t q.cells → (slice_index words (seq_of n t) ≡ t)
-        × (get_elem? homes (t % n) ≡ some (some (spare n h t)))
+        × ((y : S) × (get_elem? homes (t % n) ≡ some (some y)) × spare n h t y)
 
   -- The rule of a ring of n places with first ticket f.
   pub record Ruled (n f : ℕ) (s : State S (Sight T N)) : Type 0 where

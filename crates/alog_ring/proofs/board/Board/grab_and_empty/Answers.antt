@@ -31,7 +31,7 @@ exchange-requires g c =
     in (
       c.compare_exchange_with-found.ensures.0
           ∙ c.requires.table,
-      (Some did.0, did.2 ∙ (λ i. (sym slot i, Some did.0) ∷ sym (ap rest did.2) i)),
+      (did.2.0, did.2.1 ∙ (λ i. (sym slot i, did.2.0) ∷ sym (ap rest did.2.1) i)),
     )
 
 pub store-requires : goal.store-requires
