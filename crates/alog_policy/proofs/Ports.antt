@@ -1,7 +1,6 @@
 -- One push or one pop of a port, and one loss that its seat counts.
 use Rattle.std.proofs.Common.{◌≡◌, ℕ, Result, Ok, Err, List, [], ◌∷◌, refl, sym, subst, ◌∙◌, inl, inr}
 use Rattle.std.specs.Prelude.{Option, None, Some, IsSome, IfSome, IfOk, IfErr, OnOk}
-use Rattle.std.specs.List.{AllByRecursion}
 use Rattle.alog_core.specs.Queue.{Event, Claim, Write, Grab, Take}
 use Rattle.alog_core.specs.Queue as queue
 use Rattle.alog_ring.specs.Known.{IsPassOf}
@@ -15,7 +14,7 @@ use Rattle.alog_ring.specs.declared.pop.PopError.TheVariants as pop
 use Rattle.alog_policy.specs.BookAdds.{Overran, Discarded}
 use Rattle.alog_policy.specs.BookCalls.{BookId, IsSeatOf, SeatView, Adds}
 use Rattle.alog_policy.specs.Outlet as outlet
-use Rattle.alog_policy.specs.Port.{IsReadSince, PassMade, SeatCounted, IsFit, PortDid}
+use Rattle.alog_policy.specs.Port.{Rounds, PassMade, SeatCounted, IsFit, PortDid}
 use Rattle.alog_policy.specs.Rounds.{entries_by}
 use Rattle.alog_policy.specs.declared.port.Port.{Port}
 
@@ -78,45 +77,47 @@ module _ {T L : Type 0} (a b : Port T L) (fit : IsFit a) where
   module _ (ring_is : b.ring ≡ a.ring) (book_is : b.book ≡ a.book) (pass_is : b.pass.ghost_name ≡ a.pass.ghost_name)
       (lent : b.seat.ghost_name ≡ a.seat.ghost_name) (new : IsPassOf a.ring.now b.pass.now) where
     pass_made : (es : List (Event T)) → Made a.pass.now.known b.pass.now.known (entries_by a.pass.now.known.actor es)
-        → AllByRecursion (IsReadSince a.pass.now.known) es → PassMade a.pass.now es b.pass.now
-    pass_made es made read = record { table = new.table ∙ sym fit.0.table; made = made; read = read }
+        → Rounds a.pass.now.known es b.pass.now.known → PassMade a.pass.now es b.pass.now
+    pass_made es made rounds = record { table = new.table ∙ sym fit.0.table; made = made; rounds = rounds }
 
     module _ (seat_is : b.seat.now ≡ a.seat.now) where
       pub did : (es : List (Event T)) → Made a.pass.now.known b.pass.now.known (entries_by a.pass.now.known.actor es)
-          → AllByRecursion (IsReadSince a.pass.now.known) es → PortDid a es 0 0 b
-      did es made read = record {
+          → Rounds a.pass.now.known es b.pass.now.known → PortDid a es 0 0 b
+      did es made rounds = record {
         ring = ring_is;
         book = book_is;
         pass_lent = pass_is;
         seat_lent = lent;
-        pass = inr (pass_made es made read);
+        pass = inr (pass_made es made rounds);
         seat = inl (refl, refl, seat_is);
       }
 
       refused : (es : List (Event T)) → Made a.pass.now.known b.pass.now.known (entries_by a.pass.now.known.actor es)
-          → AllByRecursion (IsReadSince a.pass.now.known) es → outlet.Refused PortDid IsFit a es b
-      refused es made read = let d = did es made read in (d, fit_still es 0 0 d)
+          → Rounds a.pass.now.known es b.pass.now.known → outlet.Refused PortDid IsFit a es b
+      refused es made rounds = let d = did es made rounds in (d, fit_still es 0 0 d)
 
       pub push_done : (hand : Option T) (r : Result ℕ (PushError (Unit {0})))
           → IfOk r (λ t. IfSome hand (Pushed a.pass.now.known b.pass.now.known t))
           → IfOk r (λ t. IfSome hand (λ x. PortDid a (Claim t x ∷ Write t ∷ []) 0 0 b))
       push_done None (Ok t) pushed = tt
-      push_done (Some x) (Ok t) pushed = did (Claim t x ∷ Write t ∷ []) pushed.0 (tt, (tt, tt))
+      push_done (Some x) (Ok t) pushed = did (Claim t x ∷ Write t ∷ []) pushed.0 (Rounds.two (Claim t x) (Write t) Rounds.none tt tt pushed)
       push_done hand (Err e) pushed = tt
 
       pub push_refused : {V : Type 0} (x : V) (r : Result ℕ (PushError V))
           → IfErr r (λ e. ring.PushRefused a.pass.now.known b.pass.now.known x e)
           → IfErr r (λ e. outlet.PushRefused PortDid IsFit a x e b)
       push_refused x (Ok t) is = tt
-      push_refused x (Err (Full back next)) is = (is.0, refused (queue.Full next ∷ []) is.2.0 (is.1, tt))
-      push_refused x (Err (Busy back seen)) is = (is.0, refused (queue.PushBusy seen ∷ []) is.2.0 (is.1, tt))
-      push_refused x (Err (Spent back)) is = (is.0, refused (queue.Spent ∷ []) is.1.0 (tt, tt))
+      push_refused x (Err (Full back next)) is = (is.0, refused (queue.Full next ∷ []) is.2.0 (Rounds.one (queue.Full next) Rounds.none is.1 is.2))
+      push_refused x (Err (Busy back seen)) is = (is.0, refused (queue.PushBusy seen ∷ []) is.2.0 (Rounds.one (queue.PushBusy seen) Rounds.none is.1 is.2))
+      push_refused x (Err (Spent back)) is = (is.0, refused (queue.Spent ∷ []) is.1.0 (Rounds.one queue.Spent Rounds.none tt is.1))
 
       pub pop_refused : (e : PopError) → ring.PopRefused a.pass.now.known b.pass.now.known e
           → outlet.PopRefused PortDid IsFit a e b
-      pop_refused (pop.Empty next) is = refused (queue.Front next ∷ queue.Empty next ∷ []) is.1.0 (is.0, (is.0, tt))
-      pop_refused (pop.Idle next) is = refused (queue.Front next ∷ queue.Idle next ∷ []) is.1.0 (is.0, (is.0, tt))
-      pop_refused (pop.Busy seen) is = refused (queue.PopBusy seen ∷ []) is.1.0 (is.0, tt)
+      pop_refused (pop.Empty next) is =
+          refused (queue.Front next ∷ queue.Empty next ∷ []) is.1.0 (Rounds.two (queue.Front next) (queue.Empty next) Rounds.none is.0 is.0 is.1)
+      pop_refused (pop.Idle next) is =
+          refused (queue.Front next ∷ queue.Idle next ∷ []) is.1.0 (Rounds.two (queue.Front next) (queue.Idle next) Rounds.none is.0 is.0 is.1)
+      pop_refused (pop.Busy seen) is = refused (queue.PopBusy seen ∷ []) is.1.0 (Rounds.one (queue.PopBusy seen) Rounds.none is.0 is.1)
 
     pub overran : (t : ℕ) (y : T) → Popped a.pass.now.known b.pass.now.known t y → IsSeatOf a.book.now b.seat.now
         → Adds a.seat.now.known b.seat.now.known (Overran 1) → outlet.Overran PortDid IsFit a t b
@@ -126,6 +127,6 @@ module _ {T L : Type 0} (a b : Port T L) (fit : IsFit a) where
           book = book_is;
           pass_lent = pass_is;
           seat_lent = lent;
-          pass = inr (pass_made (Grab t ∷ Take t y ∷ []) popped.0 (tt, (tt, tt)));
+          pass = inr (pass_made (Grab t ∷ Take t y ∷ []) popped.0 (Rounds.two (Grab t) (Take t y) Rounds.none tt tt popped));
           seat = inr (counted_overran a.book.now a.seat.now b.seat.now fit.1 seat adds);
         } in ((y, d), fit_still (Grab t ∷ Take t y ∷ []) 1 0 d)

@@ -1,45 +1,32 @@
 -- What a port did first, and what it did then.
-use Rattle.std.proofs.Common.{append-nil, arith, ◌⊎◌, ◌≡◌, ◌≤◌, ℕ, ◌+◌, List, [], ◌++◌, sym, ap, subst, ◌∙◌, inl, inr}
+use Rattle.std.proofs.Common.{append-nil, append_assoc, arith, ◌⊎◌, ◌≡◌, ℕ, ◌+◌, List, [], ◌∷◌, ◌++◌, sym, ap, subst, ◌∙◌, inl, inr}
 use Rattle.std.proofs.lemmas.List.Sums.{sum_by-append}
-use Rattle.alog_core.specs.Queue.{Event, Claim, Write, Grab, Take, Full, Front, Empty, Idle, PushBusy, PopBusy, Spent, start}
-use Rattle.alog_core.specs.History.{Entry, left_by}
+use Rattle.alog_core.specs.Queue.{Event}
+use Rattle.alog_core.specs.History.{Entry}
 use Rattle.alog_ring.specs.Known.{Known, PassView}
 use Rattle.alog_ring.specs.Kinds.{no_note}
-use Rattle.alog_ring.specs.Made.{Made, next_seen, front_seen}
+use Rattle.alog_ring.specs.Made.{Made}
 use Rattle.alog_ring.proofs.Calling.{made_more}
-use Rattle.alog_ring.proofs.Stepping.{rises_prefix}
 use Rattle.alog_lane.specs.Seats as lane
 use Rattle.alog_lane.proofs.Knowing.{made_then}
-use Rattle.alog_lane.proofs.Lists.{each_append, each_of}
+use Rattle.alog_lane.proofs.Lists.{each_append}
 use Rattle.alog_policy.specs.BookAdds.{Add, items_of, posts_of}
 use Rattle.alog_policy.specs.BookCalls.{SeatView}
-use Rattle.alog_policy.specs.Port.{IsReadSince, PassMade, IsOneLoss, SeatCounted, PortDid}
+use Rattle.alog_policy.specs.Port.{Rounds, PassMade, IsOneLoss, SeatCounted, PortDid}
 use Rattle.alog_policy.specs.Rounds.{entries_by}
 use Rattle.alog_policy.specs.Together.{entries_by-append}
 use Rattle.alog_policy.specs.declared.port.Port.{Port}
 
--- a pass that has seen more has seen no smaller positions
-seen_rises : {T : Type 0} (k m : Known T no_note) (made : List (Entry T no_note)) → Made k m made
-    → (next_seen k ≤ next_seen m) × (front_seen k ≤ front_seen m)
-seen_rises {T} k m made is =
-    let P : ℕ → Type 0 = λ f. (next_seen k ≤ (left_by (start {T = T} f) m.seen).next)
-    × (front_seen k ≤ (left_by (start {T = T} f) m.seen).front) in
-    subst P (sym is.first) (rises_prefix k.first k.seen m.seen is.seen)
-
--- what was read later was read since
-read_later : {T : Type 0} (k m : Known T no_note) → (next_seen k ≤ next_seen m) × (front_seen k ≤ front_seen m)
-    → (e : Event T) → IsReadSince m e → IsReadSince k e
-read_later k m rises (Claim t x) read = tt
-read_later k m rises (Write t) read = tt
-read_later k m rises (Grab t) read = tt
-read_later k m rises (Take t x) read = tt
-read_later k m rises (Full t) read = omega (arith, rises.0, read)
-read_later k m rises (Front t) read = omega (arith, rises.1, read)
-read_later k m rises (Empty t) read = omega (arith, rises.1, read)
-read_later k m rises (Idle t) read = omega (arith, rises.1, read)
-read_later k m rises (PushBusy t) read = omega (arith, rises.0, read)
-read_later k m rises (PopBusy t) read = omega (arith, rises.1, read)
-read_later k m rises Spent read = tt
+-- rounds, and then further ones
+rounds_then : {T : Type 0} (a b c : Known T no_note) (es fs : List (Event T)) → Rounds a es b → Rounds b fs c → Rounds a (es ++ fs) c
+rounds_then {T} a b c es fs first Rounds.none =
+    subst (λ (l : List (Event T)). Rounds a l b) (sym (append-nil es)) first
+rounds_then {T} a b c es fs first (Rounds.one {es = gs} {mid = m} e before read answered) =
+    subst (λ (l : List (Event T)). Rounds a l c) (append_assoc es gs (e ∷ []))
+    (Rounds.one e (rounds_then a b m es gs first before) read answered)
+rounds_then {T} a b c es fs first (Rounds.two {es = gs} {mid = m} d e before read also answered) =
+    subst (λ (l : List (Event T)). Rounds a l c) (append_assoc es gs (d ∷ e ∷ []))
+    (Rounds.two d e (rounds_then a b m es gs first before) read also answered)
 
 pub pass_together : {T : Type 0} (a b c : PassView T no_note) (es fs : List (Event T)) → PassMade a es b → PassMade b fs c
     → PassMade a (es ++ fs) c
@@ -51,9 +38,7 @@ pass_together {T} a b c es fs first then =
       made = subst M (sym (entries_by-append a.known.actor es fs))
           (made_more a.known b.known c.known (entries_by a.known.actor es) (entries_by a.known.actor fs) first.made
           (subst N first.made.actor then.made));
-      read = each_append (IsReadSince a.known) es fs first.read
-          (each_of (IsReadSince b.known) (IsReadSince a.known) fs
-          (read_later a.known b.known (seen_rises a.known b.known (entries_by a.known.actor es) first.made)) then.read);
+      rounds = rounds_then a.known b.known c.known es fs first.rounds then.rounds;
     }
 
 pub seat_together : (a b c : SeatView) (k l m n : ℕ) → SeatCounted a k l b → SeatCounted b m n c

@@ -41,13 +41,12 @@ impl<T: Drop, L: Limit<T>> Outlet for Port<'_, T, L> {
     }
 
     fn overrun_once(&mut self) -> Result<u64, PopError> {
-        match self.ring.pop_once(self.pass) {
-            Ok((ticket, _)) => {
-                self.book.overran(self.seat);
-                Ok(ticket)
-            }
-            Err(error) => Err(error),
-        }
+        let (ticket, _) = match self.ring.pop_once(self.pass) {
+            Ok(popped) => popped,
+            Err(error) => return Err(error),
+        };
+        self.book.overran(self.seat);
+        Ok(ticket)
     }
 
     fn count_discarded(&mut self) {
