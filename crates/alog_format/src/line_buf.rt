@@ -2,6 +2,7 @@ ghost use Rattle.std.specs.Prelude.{◌≡◌, ◌+◌, ◌≤◌, ◌↔◌, []
 
 use crate::block::{Bytes, Deed, Start, part, reunite};
 use std::alloc::{AllocError, Global};
+use std::fmt;
 use std::marker::Model;
 use thiserror::Error;
 
@@ -33,6 +34,15 @@ impl Model for LineBuf {
 
     ghost invariant = { λ b. (b.len ≤ b.limit) × (b.limit ≤ length b.bytes.items)
         × (b.start.at ≡ b.bytes.start) × (b.deed.start ≡ b.bytes.start) × (b.deed.len ≡ length b.bytes.items) };
+}
+
+impl fmt::Debug for LineBuf {
+    fn fmt<W: fmt::Write>(&self, f: &mut fmt::Formatter<W>) -> fmt::Result {
+        f.debug_struct("LineBuf")
+            .field("len", &self.len)
+            .field("capacity", &self.limit)
+            .finish_non_exhaustive()
+    }
 }
 
 impl Drop for LineBuf {

@@ -12,6 +12,7 @@ use crate::turn::Turn;
 use crate::view::{Done, Law, LockedValue, View};
 use atomic_table::{Refused, Seat, Table};
 use std::alloc::{AllocFailed, Global};
+use std::fmt;
 use std::marker::Model;
 use std::snapshot::Snapshot;
 use thiserror::Error;
@@ -44,6 +45,12 @@ impl<T: Turn> Model for Lane<T> {
     ghost Value = { LaneId T };
 
     ghost view = { λ l. record { table = l.table.shared.table_id; first = l.table.shared.key.value } };
+}
+
+impl<T: Turn> fmt::Debug for Lane<T> {
+    fn fmt<W: fmt::Write>(&self, f: &mut fmt::Formatter<W>) -> fmt::Result {
+        f.debug_struct("Lane").finish_non_exhaustive()
+    }
 }
 
 impl<T: Turn> Lane<T> {

@@ -1,8 +1,10 @@
 -- The message that a logger is given the fields of, and whether it can be made.
-use Rattle.std.specs.Prelude.{ℕ, ℤ, ◌≤◌, List, length, Option}
+use Rattle.std.specs.Prelude.{ℕ, ℤ, ◌<◌, ◌≤◌, List, length, Option}
 use Rattle.alog_msg.specs.Message.{source_of, HasLongField}
 use Rattle.alog_msg.specs.declared.level.Level.{Level}
 use Rattle.alog_msg.specs.declared.message.Message.{Message}
+use Rattle.alog_msg.specs.declared.message.MessageError.{MessageError}
+use Rattle.alog_msg.specs.declared.message.MessageError.TheVariants as message
 use Rattle.alog_msg.specs.declared.source.SourceRef.{SourceRef}
 use Rattle.alog_registry.specs.declared.given.MessageRef.{MessageRef}
 
@@ -26,3 +28,9 @@ IsWithin limit text source = (length text ≤ limit) × ¬ HasLongField source
 
 abbrev pub IsTooLongField : ℕ → List ℕ → Option SourceRef → Type 0
 IsTooLongField limit text source = (length text ≤ limit) × HasLongField source
+
+-- when a message with this text and this source is refused so
+abbrev pub IsReason : ℕ → List ℕ → Option SourceRef → MessageError → Type 0
+IsReason limit text source message.TextTooLong = limit < length text
+IsReason limit text source message.FieldTooLong = IsTooLongField limit text source
+IsReason limit text source message.OutOfMemory = IsWithin limit text source

@@ -8,6 +8,7 @@ use crate::level_word::LevelWord;
 use crate::logger::{Logger, Spec};
 use crate::lookup::number_of;
 use alog_msg::Level;
+use std::fmt;
 use std::marker::Model;
 
 /// Loggers by number and by name. Their levels may be read and set by any thread; contracts see the loggers, and of the
@@ -28,6 +29,14 @@ impl Model for Loggers {
     ghost view = { λ l. l.loggers.items };
 
     ghost invariant = { λ l. IsShared l.loggers.items (vec_len l.levels) };
+}
+
+impl fmt::Debug for Loggers {
+    fn fmt<W: fmt::Write>(&self, f: &mut fmt::Formatter<W>) -> fmt::Result {
+        f.debug_struct("Loggers")
+            .field("loggers", &self.loggers)
+            .finish_non_exhaustive()
+    }
 }
 
 impl Loggers {

@@ -1,10 +1,10 @@
 //! What a logger does with a message: it is filtered, or posted, and kept for a backtrace.
-ghost use Rattle.std.specs.Prelude.{◌≡◌, ◌⊎◌, ◌≤◌, ◌<◌, length, None, Some, IsSome, OnErr, IfOk, IsOk, IsErrOf};
+ghost use Rattle.std.specs.Prelude.{◌≡◌, ◌⊎◌, ◌≤◌, ◌<◌, length, None, Some, IsSome, OnErr, IfOk, IsOk, IfErr};
 ghost use Rattle.alog_msg.specs.declared.limits.TheConstants.{TEXT_LIMIT_MIN, TEXT_LIMIT_MAX};
 ghost use Rattle.alog_msg.specs.declared.item.Item.TheVariants.{Flush};
 ghost use Rattle.alog_policy.specs.Progress.{without_waiting};
 ghost use Rattle.alog_registry.specs.ItemOutlet.{PostsItemNow};
-ghost use Rattle.alog_registry.specs.Given.{message_of, message_with, IsWithin, IsTooLongField};
+ghost use Rattle.alog_registry.specs.Given.{message_of, message_with, IsReason, IsWithin};
 ghost use Rattle.alog_registry.specs.Keep.{KeptOr};
 ghost use Rattle.alog_registry.specs.Listed.{spec_at};
 ghost use Rattle.alog_registry.specs.declared.logger.Spec.{Spec};
@@ -69,9 +69,7 @@ impl Loggers {
             (message_with number level time thread text.now source.entry) outlet.old keeper.old r outlet.new keeper.new) }
         ensures within { (s : Spec) → spec_at self.now number ≡ Some s
             → IfOk result (λ r. IsUnread s r ⊎ IsWithin text_limit text.now source.entry) }
-        ensures text_too_long { IsErrOf result MessageError.TextTooLong → text_limit < length text.now }
-        ensures field_too_long { IsErrOf result MessageError.FieldTooLong → IsTooLongField text_limit text.now source.entry }
-        ensures out_of_memory { IsErrOf result MessageError.OutOfMemory → IsWithin text_limit text.now source.entry }
+        ensures reason { IfErr result (IsReason text_limit text.now source.entry) }
         ensures err { OnErr result ((outlet.new ≡ outlet.old) × (keeper.new ≡ keeper.old)) }
         ensures ready { O.is_ready outlet.new × K.is_ready keeper.new }
         ensures outlet { (m : Message) → O.admits outlet.old m → O.admits outlet.new m }
@@ -85,7 +83,34 @@ impl Loggers {
             text,
             source,
         };
-        let (Some(spec), Some(own)) = (self.spec(number), self.level(number)) else {
+        self.log_ref_now(alloc, outlet, keeper, text_limit, given)
+    }
+
+    /// The same, by the fields that are lent together.
+    pub fn log_ref_now<O: ItemOutlet, K: Keep>(
+        &self,
+        alloc: Global,
+        outlet: &mut O,
+        keeper: &mut K,
+        text_limit: usize,
+        given: MessageRef<'_>,
+    ) -> Result<LogReply, MessageError>
+        requires known { given.logger < length self.now }
+        requires limit { (TEXT_LIMIT_MIN ≤ text_limit) × (text_limit ≤ TEXT_LIMIT_MAX) }
+        requires outlet { O.is_ready outlet.old × AdmitsShort O.admits text_limit outlet.old }
+        requires keeper { K.is_ready keeper.old × AdmitsShort K.admits text_limit keeper.old }
+        ensures logs { (s : Spec) → spec_at self.now given.entry.logger ≡ Some s
+            → IfOk result (λ r. Logs O.did K.keeps K.passes (without_waiting s.policy) s (message_of given.entry)
+            outlet.old keeper.old r outlet.new keeper.new) }
+        ensures within { (s : Spec) → spec_at self.now given.entry.logger ≡ Some s
+            → IfOk result (λ r. IsUnread s r ⊎ IsWithin text_limit given.entry.text.now given.entry.source) }
+        ensures reason { IfErr result (IsReason text_limit given.entry.text.now given.entry.source) }
+        ensures err { OnErr result ((outlet.new ≡ outlet.old) × (keeper.new ≡ keeper.old)) }
+        ensures ready { O.is_ready outlet.new × K.is_ready keeper.new }
+        ensures outlet { (m : Message) → O.admits outlet.old m → O.admits outlet.new m }
+        ensures keeper { (m : Message) → K.admits keeper.old m → K.admits keeper.new m }
+    {
+        let (Some(spec), Some(own)) = (self.spec(given.logger), self.level(given.logger)) else {
             unreachable!()
         };
         let policy = spec.policy;
@@ -128,9 +153,7 @@ fn bring_now<O: ItemOutlet>(
     requires ready { O.is_ready outlet.old × AdmitsShort O.admits text_limit outlet.old }
     ensures brought { IfOk result (λ r. IsBrought O.did own (without_waiting policy) kept (message_of given.entry) outlet.old r outlet.new) }
     ensures within { IfOk result (λ r. IsLogged r → IsWithin text_limit given.entry.text.now given.entry.source) }
-    ensures text_too_long { IsErrOf result MessageError.TextTooLong → text_limit < length given.entry.text.now }
-    ensures field_too_long { IsErrOf result MessageError.FieldTooLong → IsTooLongField text_limit given.entry.text.now given.entry.source }
-    ensures out_of_memory { IsErrOf result MessageError.OutOfMemory → IsWithin text_limit given.entry.text.now given.entry.source }
+    ensures reason { IfErr result (IsReason text_limit given.entry.text.now given.entry.source) }
     ensures err { OnErr result (outlet.new ≡ outlet.old) }
     ensures unread { IsBelow given.entry.level own → IsOk result }
     ensures ready { O.is_ready outlet.new }
@@ -165,9 +188,7 @@ fn bring_and_keep_now<O: ItemOutlet, K: Keep>(
     ensures brought { IfOk result (λ r. IsBrought O.did own (without_waiting policy) (kept_by r) (message_of given.entry) outlet.old r outlet.new) }
     ensures kept { IfOk result (λ r. KeptOr K.keeps K.passes (kept_by r) keeper.old (message_of given.entry) keeper.new) }
     ensures within { IfOk result (λ _. IsWithin text_limit given.entry.text.now given.entry.source) }
-    ensures text_too_long { IsErrOf result MessageError.TextTooLong → text_limit < length given.entry.text.now }
-    ensures field_too_long { IsErrOf result MessageError.FieldTooLong → IsTooLongField text_limit given.entry.text.now given.entry.source }
-    ensures out_of_memory { IsErrOf result MessageError.OutOfMemory → IsWithin text_limit given.entry.text.now given.entry.source }
+    ensures reason { IfErr result (IsReason text_limit given.entry.text.now given.entry.source) }
     ensures err { OnErr result ((outlet.new ≡ outlet.old) × (keeper.new ≡ keeper.old)) }
     ensures ready { O.is_ready outlet.new × K.is_ready keeper.new }
     ensures outlet { (m : Message) → O.admits outlet.old m → O.admits outlet.new m }
@@ -197,9 +218,7 @@ pub(crate) fn admit<O: ItemOutlet>(
     requires empty { hand.old ≡ None }
     ensures made { IfOk result (λ _. IsMade O.did O.is_fit O.shows own (message_of given.entry) outlet.old hand.new outlet.new) }
     ensures within { IfOk result (λ _. IsSome hand.new → IsWithin text_limit given.entry.text.now given.entry.source) }
-    ensures text_too_long { IsErrOf result MessageError.TextTooLong → text_limit < length given.entry.text.now }
-    ensures field_too_long { IsErrOf result MessageError.FieldTooLong → IsTooLongField text_limit given.entry.text.now given.entry.source }
-    ensures out_of_memory { IsErrOf result MessageError.OutOfMemory → IsWithin text_limit given.entry.text.now given.entry.source }
+    ensures reason { IfErr result (IsReason text_limit given.entry.text.now given.entry.source) }
     ensures err { OnErr result (outlet.new ≡ outlet.old) }
     ensures outlet { (m : Message) → O.admits outlet.old m → O.admits outlet.new m }
     ensures unread { IsBelow given.entry.level own → IsOk result }

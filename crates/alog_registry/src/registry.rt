@@ -11,6 +11,7 @@ use crate::lookup::{is_taken, number_of};
 use crate::{KEPT_MAX, LOGGERS_MAX};
 use alog_msg::{LOGGER_NAME_MAX, Level, Text};
 use std::alloc::{AllocError, AllocFailed, Global};
+use std::fmt;
 use std::marker::Model;
 
 /// Loggers by number and by name, and the level of each. A logger's number is its place, from 0, in the order in which they
@@ -30,6 +31,15 @@ impl Model for Registry {
     ghost view = { λ r. record { loggers = r.loggers.items; levels = r.levels.items } };
 
     ghost invariant = { λ r. IsListing r.loggers.items r.levels.items };
+}
+
+impl fmt::Debug for Registry {
+    fn fmt<W: fmt::Write>(&self, f: &mut fmt::Formatter<W>) -> fmt::Result {
+        f.debug_struct("Registry")
+            .field("loggers", &self.loggers)
+            .field("levels", &self.levels)
+            .finish_non_exhaustive()
+    }
 }
 
 impl Registry {

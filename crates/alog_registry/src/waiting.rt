@@ -1,11 +1,11 @@
 //! Logs that wait for room and for the lock of a backtrace, and dumps that wait for that lock.
-ghost use Rattle.std.specs.Prelude.{◌≡◌, ◌⊎◌, ◌≤◌, ◌<◌, length, true, Some, OnErr, IfOk, IsOk, IsErrOf};
+ghost use Rattle.std.specs.Prelude.{◌≡◌, ◌⊎◌, ◌≤◌, ◌<◌, length, true, Some, OnErr, IfOk, IsOk, IfErr};
 ghost use Rattle.alog_msg.specs.declared.limits.TheConstants.{TEXT_LIMIT_MIN, TEXT_LIMIT_MAX};
 ghost use Rattle.alog_msg.specs.declared.message.Message.{Message};
 ghost use Rattle.alog_policy.specs.Progress.{without_waiting};
 ghost use Rattle.alog_registry.specs.Backtrace.{Room};
 ghost use Rattle.alog_registry.specs.Dumping.{PostsEach, posted_of};
-ghost use Rattle.alog_registry.specs.Given.{message_of, message_with, IsWithin, IsTooLongField};
+ghost use Rattle.alog_registry.specs.Given.{message_of, message_with, IsReason, IsWithin};
 ghost use Rattle.alog_registry.specs.LaneKeeper.{IsSeated, HasList, KeepsByTurn, DumpsByTurn, NeverPasses};
 ghost use Rattle.alog_registry.specs.Limit.{AdmitsShort, IsShort};
 ghost use Rattle.alog_registry.specs.Listed.{spec_at};
@@ -53,9 +53,7 @@ impl Loggers {
             (message_with number level time thread text.now source.entry) outlet.old keeper.old r outlet.new keeper.new) }
         ensures within { (s : Spec) → spec_at self.now number ≡ Some s
             → IfOk result (λ r. IsUnread s r ⊎ IsWithin text_limit text.now source.entry) }
-        ensures text_too_long { IsErrOf result MessageError.TextTooLong → text_limit < length text.now }
-        ensures field_too_long { IsErrOf result MessageError.FieldTooLong → IsTooLongField text_limit text.now source.entry }
-        ensures out_of_memory { IsErrOf result MessageError.OutOfMemory → IsWithin text_limit text.now source.entry }
+        ensures reason { IfErr result (IsReason text_limit text.now source.entry) }
         ensures err { OnErr result ((outlet.new ≡ outlet.old) × (keeper.new ≡ keeper.old)) }
         ensures ready { O.is_ready outlet.new × IsSeated keeper.new }
         ensures list { HasList keeper.old → HasList keeper.new }
@@ -70,7 +68,36 @@ impl Loggers {
             text,
             source,
         };
-        let (Some(spec), Some(own)) = (self.spec(number), self.level(number)) else {
+        self.log_ref(rt, alloc, outlet, keeper, text_limit, given)
+    }
+
+    /// The same, by the fields that are lent together.
+    pub fn log_ref<O: WaitingItemOutlet>(
+        &self,
+        rt: &(impl Wait + Clock),
+        alloc: Global,
+        outlet: &mut O,
+        keeper: &mut LaneKeeper<'_>,
+        text_limit: usize,
+        given: MessageRef<'_>,
+    ) -> Result<LogReply, MessageError>
+        requires known { given.logger < length self.now }
+        requires limit { (TEXT_LIMIT_MIN ≤ text_limit) × (text_limit ≤ TEXT_LIMIT_MAX) }
+        requires outlet { O.is_ready outlet.old × AdmitsShort O.admits text_limit outlet.old }
+        requires keeper { IsSeated keeper.old × (text_limit ≤ keeper.old.lane.now.first.limit) }
+        ensures logs { (s : Spec) → spec_at self.now given.entry.logger ≡ Some s
+            → IfOk result (λ r. Logs O.did KeepsByTurn NeverPasses s.policy s (message_of given.entry)
+            outlet.old keeper.old r outlet.new keeper.new) }
+        ensures within { (s : Spec) → spec_at self.now given.entry.logger ≡ Some s
+            → IfOk result (λ r. IsUnread s r ⊎ IsWithin text_limit given.entry.text.now given.entry.source) }
+        ensures reason { IfErr result (IsReason text_limit given.entry.text.now given.entry.source) }
+        ensures err { OnErr result ((outlet.new ≡ outlet.old) × (keeper.new ≡ keeper.old)) }
+        ensures ready { O.is_ready outlet.new × IsSeated keeper.new }
+        ensures list { HasList keeper.old → HasList keeper.new }
+        ensures outlet { (m : Message) → O.admits outlet.old m → O.admits outlet.new m }
+        ensures lane { keeper.new.lane ≡ keeper.old.lane }
+    {
+        let (Some(spec), Some(own)) = (self.spec(given.logger), self.level(given.logger)) else {
             unreachable!()
         };
         let policy = spec.policy;
@@ -140,9 +167,7 @@ fn bring<O: WaitingItemOutlet>(
     requires ready { O.is_ready outlet.old × AdmitsShort O.admits text_limit outlet.old }
     ensures brought { IfOk result (λ r. IsBrought O.did own policy kept (message_of given.entry) outlet.old r outlet.new) }
     ensures within { IfOk result (λ r. IsLogged r → IsWithin text_limit given.entry.text.now given.entry.source) }
-    ensures text_too_long { IsErrOf result MessageError.TextTooLong → text_limit < length given.entry.text.now }
-    ensures field_too_long { IsErrOf result MessageError.FieldTooLong → IsTooLongField text_limit given.entry.text.now given.entry.source }
-    ensures out_of_memory { IsErrOf result MessageError.OutOfMemory → IsWithin text_limit given.entry.text.now given.entry.source }
+    ensures reason { IfErr result (IsReason text_limit given.entry.text.now given.entry.source) }
     ensures err { OnErr result (outlet.new ≡ outlet.old) }
     ensures unread { IsBelow given.entry.level own → IsOk result }
     ensures ready { O.is_ready outlet.new }
@@ -176,9 +201,7 @@ fn bring_and_keep<O: WaitingItemOutlet>(
     ensures brought { IfOk result (λ r. IsBrought O.did own policy true (message_of given.entry) outlet.old r outlet.new) }
     ensures kept { IfOk result (λ _. KeepsByTurn keeper.old (message_of given.entry) keeper.new) }
     ensures within { IfOk result (λ _. IsWithin text_limit given.entry.text.now given.entry.source) }
-    ensures text_too_long { IsErrOf result MessageError.TextTooLong → text_limit < length given.entry.text.now }
-    ensures field_too_long { IsErrOf result MessageError.FieldTooLong → IsTooLongField text_limit given.entry.text.now given.entry.source }
-    ensures out_of_memory { IsErrOf result MessageError.OutOfMemory → IsWithin text_limit given.entry.text.now given.entry.source }
+    ensures reason { IfErr result (IsReason text_limit given.entry.text.now given.entry.source) }
     ensures err { OnErr result ((outlet.new ≡ outlet.old) × (keeper.new ≡ keeper.old)) }
     ensures ready { O.is_ready outlet.new × IsSeated keeper.new }
     ensures list { HasList keeper.old → HasList keeper.new }
