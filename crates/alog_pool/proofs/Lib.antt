@@ -19,5 +19,8 @@ pub mod Served
 pub mod Closed
 pub mod Totalled
 pub mod Held
+pub mod Posted
+pub mod Workers
 pub mod OneWorker
+pub mod Logged
 pub mod Opening

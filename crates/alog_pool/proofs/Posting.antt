@@ -50,7 +50,7 @@ round_claims a (Overran f t y) es = refl
 round_claims a (PopBeaten f t) es = refl
 round_claims a (Waited f) es = refl
 
-rounds_claim : (a : ℕ) (rs : List (Round Item)) (es : List (Event Item))
+pub rounds_claim : (a : ℕ) (rs : List (Round Item)) (es : List (Event Item))
     → claims (entries_by a (events_of_rounds rs ++ es)) ≡ claims (entries_by a es)
 rounds_claim a [] es = refl
 rounds_claim a (r ∷ rs) es =

@@ -49,7 +49,7 @@ above_works t ((u, Text m) ∷ ps) all = (all.0, above_works t ps all.1)
 above_works t ((u, Flush n) ∷ ps) all = (all.0, above_works t ps all.1)
 above_works t ((u, Stop) ∷ ps) all = above_works t ps all.1
 
-rising_works : (ps : List (ℕ × Item)) → IsRising (map (λ (p : ℕ × Item). p.0) ps) → IsRising (work_tickets ps)
+pub rising_works : (ps : List (ℕ × Item)) → IsRising (map (λ (p : ℕ × Item). p.0) ps) → IsRising (work_tickets ps)
 rising_works [] all = tt
 rising_works ((u, Text m) ∷ ps) all = (above_works u ps all.0, rising_works ps all.1)
 rising_works ((u, Flush n) ∷ ps) all = (above_works u ps all.0, rising_works ps all.1)

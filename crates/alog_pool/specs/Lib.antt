@@ -16,4 +16,6 @@ pub mod Back
 pub mod Rows
 pub mod Collected
 pub mod Report
+pub mod Posted
 pub mod OneWorker
+pub mod Workers

@@ -1,5 +1,5 @@
 //! A producer's place at a backtrace.
-ghost use Rattle.std.specs.Prelude.{◌≡◌, ◌⊎◌, ◌≤◌, ◌<◌, length, Some, IfOk, OnErr, IsErrOf};
+ghost use Rattle.std.specs.Prelude.{◌≡◌, ◌⊎◌, ◌≤◌, ◌<◌, length, Some, IfOk, OnErr, IfErr};
 ghost use Rattle.alog_lane.specs.Seats.{first_known};
 ghost use Rattle.alog_msg.specs.declared.limits.TheConstants.{TEXT_LIMIT_MIN, TEXT_LIMIT_MAX};
 ghost use Rattle.alog_policy.specs.Port.{IsFit, PortDid};
@@ -9,17 +9,17 @@ ghost use Rattle.alog_pool.specs.Lending.{LendsAlike};
 ghost use Rattle.alog_pool.specs.Places.{IsBacktraceSeatPart, IsSpareOf};
 ghost use Rattle.alog_registry.specs.Backtrace.{Room, room_for};
 ghost use Rattle.alog_registry.specs.Dumping.{PostsEach, posted_of};
-ghost use Rattle.alog_registry.specs.Given.{message_with, IsWithin, IsTooLongField};
+ghost use Rattle.alog_registry.specs.Given.{message_of, IsReason, IsWithin};
 ghost use Rattle.alog_registry.specs.LaneKeeper.{DumpsByTurn, KeepsByTurn, NeverPasses, Passes};
 ghost use Rattle.alog_registry.specs.Listed.{spec_at};
 ghost use Rattle.alog_registry.specs.Logging.{Logs, IsUnread};
 ghost use Rattle.alog_registry.specs.declared.logger.Spec.{Spec};
 
 use alog_lane::{Lane, LaneSeat};
-use alog_msg::{Item, Level, MessageError, SourceRef};
+use alog_msg::{Item, MessageError};
 use alog_policy::{Outcome, Port};
 use alog_registry::{
-    Backtrace, BacktraceScratch, Dumped, LaneKeeper, LogReply, Loggers, TextLimit,
+    Backtrace, BacktraceScratch, Dumped, LaneKeeper, LogReply, Loggers, MessageRef, TextLimit,
 };
 use std::alloc::{AllocError, Global};
 use std::marker::Model;
@@ -125,25 +125,16 @@ impl BacktraceSeat {
         alloc: Global,
         loggers: &Loggers,
         port: &mut Port<'_, Item, TextLimit>,
-        number: u32,
-        level: Level,
-        time: i64,
-        thread: u64,
-        text: &str,
-        source: Option<SourceRef<'_>>,
+        given: MessageRef<'_>,
     ) -> Result<LogReply, MessageError>
-        requires known { number < length loggers.now }
+        requires known { given.logger < length loggers.now }
         requires fit { IsFit port.old × (port.old.ring.now.limit.most ≡ self.old.lane.first.limit) }
-        ensures logs { (s : Spec) → spec_at loggers.now number ≡ Some s
+        ensures logs { (s : Spec) → spec_at loggers.now given.entry.logger ≡ Some s
             → IfOk result (λ r. Keeps self.old self.new (λ k l. Logs PortDid KeepsByTurn NeverPasses s.policy s
-            (message_with number level time thread text.now source.entry) port.old k r port.new l)) }
-        ensures within { (s : Spec) → spec_at loggers.now number ≡ Some s
-            → IfOk result (λ r. IsUnread s r ⊎ IsWithin self.old.lane.first.limit text.now source.entry) }
-        ensures text_too_long { IsErrOf result MessageError.TextTooLong → self.old.lane.first.limit < length text.now }
-        ensures field_too_long { IsErrOf result MessageError.FieldTooLong
-            → IsTooLongField self.old.lane.first.limit text.now source.entry }
-        ensures out_of_memory { IsErrOf result MessageError.OutOfMemory
-            → IsWithin self.old.lane.first.limit text.now source.entry }
+            (message_of given.entry) port.old k r port.new l)) }
+        ensures within { (s : Spec) → spec_at loggers.now given.entry.logger ≡ Some s
+            → IfOk result (λ r. IsUnread s r ⊎ IsWithin self.old.lane.first.limit given.entry.text.now given.entry.source) }
+        ensures reason { IfErr result (IsReason self.old.lane.first.limit given.entry.text.now given.entry.source) }
         ensures err { OnErr result ((self.new ≡ self.old) × (port.new ≡ port.old)) }
         ensures lane { self.new.lane ≡ self.old.lane }
         ensures port { IsFit port.new × LendsAlike port.old port.new }
@@ -153,19 +144,7 @@ impl BacktraceSeat {
             seat: &mut self.seat,
             scratch: &mut self.scratch,
         };
-        loggers.log(
-            rt,
-            alloc,
-            port,
-            &mut keeper,
-            self.text_limit,
-            number,
-            level,
-            time,
-            thread,
-            text,
-            source,
-        )
+        loggers.log_ref(rt, alloc, port, &mut keeper, self.text_limit, given)
     }
 
     /// Logs a message, as `Loggers::log_now` does, with this place as its keeper.
@@ -174,25 +153,16 @@ impl BacktraceSeat {
         alloc: Global,
         loggers: &Loggers,
         port: &mut Port<'_, Item, TextLimit>,
-        number: u32,
-        level: Level,
-        time: i64,
-        thread: u64,
-        text: &str,
-        source: Option<SourceRef<'_>>,
+        given: MessageRef<'_>,
     ) -> Result<LogReply, MessageError>
-        requires known { number < length loggers.now }
+        requires known { given.logger < length loggers.now }
         requires fit { IsFit port.old × (port.old.ring.now.limit.most ≡ self.old.lane.first.limit) }
-        ensures logs { (s : Spec) → spec_at loggers.now number ≡ Some s
+        ensures logs { (s : Spec) → spec_at loggers.now given.entry.logger ≡ Some s
             → IfOk result (λ r. Keeps self.old self.new (λ k l. Logs PortDid KeepsByTurn Passes (without_waiting s.policy) s
-            (message_with number level time thread text.now source.entry) port.old k r port.new l)) }
-        ensures within { (s : Spec) → spec_at loggers.now number ≡ Some s
-            → IfOk result (λ r. IsUnread s r ⊎ IsWithin self.old.lane.first.limit text.now source.entry) }
-        ensures text_too_long { IsErrOf result MessageError.TextTooLong → self.old.lane.first.limit < length text.now }
-        ensures field_too_long { IsErrOf result MessageError.FieldTooLong
-            → IsTooLongField self.old.lane.first.limit text.now source.entry }
-        ensures out_of_memory { IsErrOf result MessageError.OutOfMemory
-            → IsWithin self.old.lane.first.limit text.now source.entry }
+            (message_of given.entry) port.old k r port.new l)) }
+        ensures within { (s : Spec) → spec_at loggers.now given.entry.logger ≡ Some s
+            → IfOk result (λ r. IsUnread s r ⊎ IsWithin self.old.lane.first.limit given.entry.text.now given.entry.source) }
+        ensures reason { IfErr result (IsReason self.old.lane.first.limit given.entry.text.now given.entry.source) }
         ensures err { OnErr result ((self.new ≡ self.old) × (port.new ≡ port.old)) }
         ensures lane { self.new.lane ≡ self.old.lane }
         ensures port { IsFit port.new × LendsAlike port.old port.new }
@@ -202,18 +172,7 @@ impl BacktraceSeat {
             seat: &mut self.seat,
             scratch: &mut self.scratch,
         };
-        loggers.log_now(
-            alloc,
-            port,
-            &mut keeper,
-            self.text_limit,
-            number,
-            level,
-            time,
-            thread,
-            text,
-            source,
-        )
+        loggers.log_ref_now(alloc, port, &mut keeper, self.text_limit, given)
     }
 
     /// Posts what was kept, as `Loggers::dump_shared` does, with this place as its keeper.

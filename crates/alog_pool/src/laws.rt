@@ -1,7 +1,9 @@
-//! What is true of all passes of a ring together, and of a pool of one worker.
+//! What is true of all passes of a ring together, and of pools that have ended.
 ghost use Rattle.alog_pool.specs.Ending.{NoWorkIsLeft};
 ghost use Rattle.alog_pool.specs.OneWorker.{OneWorkerWritesInOrder};
+ghost use Rattle.alog_pool.specs.Posted.{PostedLogsPutTheirTextIn};
 ghost use Rattle.alog_pool.specs.Whole.{MembersBalance};
+ghost use Rattle.alog_pool.specs.Workers.{WorkersWriteWhatWasPosted};
 
 use alog_sink::Store;
 
@@ -17,6 +19,22 @@ pub fn members_balance<T, N>()
 /// It does nothing: its contract is the law.
 pub fn no_work_is_left()
     ensures { NoWorkIsLeft }
+{}
+
+/// A log, with waiting or without, that answered that its message was posted under a ticket put exactly this text in, under that ticket,
+/// as the last of its producer's own. It took nothing out, unless its policy is to overrun the oldest.
+/// It does nothing: its contract is the law.
+pub fn posted_logs_put_their_text_in()
+    ensures { PostedLogsPutTheirTextIn }
+{}
+
+/// Where a pool has ended, whatever the number of its workers: each handled some of the texts and flushes that were posted and not
+/// overrun, under rising tickets, and all together each of them once. Each sink was given exactly the turns that are due for them, in the
+/// order in which its lock was got, each worker's in the order of its tickets. Where none of them met a fault, over a store that tells its
+/// files, it holds exactly the lines of their texts in that order, behind what it held before.
+/// It does nothing: its contract is the law.
+pub fn workers_write_what_was_posted<S: Store>()
+    ensures { WorkersWriteWhatWasPosted S.tells S.files S.failures }
 {}
 
 /// Where a pool of one worker has ended: each sink was given exactly the turns that are due for what was posted and not overrun, in the

@@ -1,5 +1,5 @@
 //! A producer: what a request thread logs with.
-ghost use Rattle.std.specs.Prelude.{◌≡◌, ◌⊎◌, ◌≤◌, ◌<◌, length, Some, OnErr, IfOk, IsErrOf};
+ghost use Rattle.std.specs.Prelude.{◌≡◌, ◌⊎◌, ◌≤◌, ◌<◌, length, Some, OnErr, IfOk, IfErr};
 ghost use Rattle.alog_msg.specs.declared.item.Item.TheVariants.{Flush};
 ghost use Rattle.alog_policy.specs.Port.{PortDid};
 ghost use Rattle.alog_policy.specs.Progress.{without_waiting};
@@ -8,7 +8,7 @@ ghost use Rattle.alog_pool.specs.Producer.{IsPortOf, IsSame, Lent};
 ghost use Rattle.alog_registry.specs.Backtrace.{Room};
 ghost use Rattle.alog_registry.specs.ItemOutlet.{PostsItemNow};
 ghost use Rattle.alog_registry.specs.Dumping.{PostsEach, posted_of};
-ghost use Rattle.alog_registry.specs.Given.{message_with, IsWithin, IsTooLongField};
+ghost use Rattle.alog_registry.specs.Given.{message_with, IsReason, IsWithin};
 ghost use Rattle.alog_registry.specs.LaneKeeper.{DumpsByTurn, KeepsByTurn, NeverPasses, Passes};
 ghost use Rattle.alog_registry.specs.Listed.{spec_at};
 ghost use Rattle.alog_registry.specs.Logging.{Logs, IsUnread};
@@ -19,7 +19,7 @@ use crate::backtrace_seat::BacktraceSeat;
 use crate::shared::Shared;
 use alog_msg::{Item, Level, MessageError, SourceRef};
 use alog_policy::{BookSeat, Outcome, Port};
-use alog_registry::{LogReply, Loggers};
+use alog_registry::{LogReply, Loggers, MessageRef};
 use alog_ring::Pass;
 use std::alloc::{AllocError, Global};
 use std::fmt;
@@ -103,33 +103,27 @@ impl Producer {
             (message_with number level time self.old.number text.now source.entry) p k r q l)) }
         ensures within { (s : Spec) → spec_at self.old.shared.loggers number ≡ Some s
             → IfOk result (λ r. IsUnread s r ⊎ IsWithin self.old.limit text.now source.entry) }
-        ensures text_too_long { IsErrOf result MessageError.TextTooLong → self.old.limit < length text.now }
-        ensures field_too_long { IsErrOf result MessageError.FieldTooLong → IsTooLongField self.old.limit text.now source.entry }
-        ensures out_of_memory { IsErrOf result MessageError.OutOfMemory → IsWithin self.old.limit text.now source.entry }
+        ensures reason { IfErr result (IsReason self.old.limit text.now source.entry) }
         ensures err { OnErr result (self.new ≡ self.old) }
         ensures same { IsSame self.old self.new }
     {
         let shared: &Shared = &self.shared;
-        let thread = self.number;
         let mut port = Port {
             ring: &shared.ring,
             pass: &mut self.pass,
             book: &shared.book,
             seat: &mut self.losses,
         };
-        let backtrace_seat = &mut self.backtrace_seats[number as usize];
-        backtrace_seat.log(
-            rt,
-            alloc,
-            &shared.loggers,
-            &mut port,
-            number,
+        let given = MessageRef {
+            logger: number,
             level,
             time,
-            thread,
+            thread: self.number,
             text,
             source,
-        )
+        };
+        let backtrace_seat = &mut self.backtrace_seats[number as usize];
+        backtrace_seat.log(rt, alloc, &shared.loggers, &mut port, given)
     }
 
     /// Logs a message to the logger of this number, as `Loggers::log_now` does: it never waits.
@@ -148,32 +142,27 @@ impl Producer {
             (message_with number level time self.old.number text.now source.entry) p k r q l)) }
         ensures within { (s : Spec) → spec_at self.old.shared.loggers number ≡ Some s
             → IfOk result (λ r. IsUnread s r ⊎ IsWithin self.old.limit text.now source.entry) }
-        ensures text_too_long { IsErrOf result MessageError.TextTooLong → self.old.limit < length text.now }
-        ensures field_too_long { IsErrOf result MessageError.FieldTooLong → IsTooLongField self.old.limit text.now source.entry }
-        ensures out_of_memory { IsErrOf result MessageError.OutOfMemory → IsWithin self.old.limit text.now source.entry }
+        ensures reason { IfErr result (IsReason self.old.limit text.now source.entry) }
         ensures err { OnErr result (self.new ≡ self.old) }
         ensures same { IsSame self.old self.new }
     {
         let shared: &Shared = &self.shared;
-        let thread = self.number;
         let mut port = Port {
             ring: &shared.ring,
             pass: &mut self.pass,
             book: &shared.book,
             seat: &mut self.losses,
         };
-        let backtrace_seat = &mut self.backtrace_seats[number as usize];
-        backtrace_seat.log_now(
-            alloc,
-            &shared.loggers,
-            &mut port,
-            number,
+        let given = MessageRef {
+            logger: number,
             level,
             time,
-            thread,
+            thread: self.number,
             text,
             source,
-        )
+        };
+        let backtrace_seat = &mut self.backtrace_seats[number as usize];
+        backtrace_seat.log_now(alloc, &shared.loggers, &mut port, given)
     }
 
     /// Posts a flush of the logger of this number, as `Loggers::flush` does: it takes no memory and never waits.

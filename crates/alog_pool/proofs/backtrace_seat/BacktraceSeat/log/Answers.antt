@@ -1,6 +1,5 @@
 use Rattle.std.proofs.Common.{◌≡◌, ◌⊎◌, Bor, Some, refl, sym, ap, subst, ◌∙◌}
 use Rattle.std.specs.Prelude.{IfOk}
-use Rattle.std.proofs.lemmas.Int.{to_z-of_z}
 use Rattle.alog_lane.specs.Calls.{LaneId}
 use Rattle.alog_pool.specs.BacktraceSeat.{BacktraceSeatView}
 use Rattle.alog_pool.proofs.Producing.{log_leaves, keeps_log}
@@ -14,36 +13,35 @@ use Rattle.alog_pool.proofs.backtrace_seat.BacktraceSeat.log.Goals as goal
 
 pub shape_of-self-inside : goal.shape_of-self-inside
 shape_of-self-inside g c =
-    let left = log_leaves c.args.loggers.now c.args.number _ c.args.port.now _ c.log.result c.log.new.outlet c.log.new.keeper
-    c.requires.known c.log.ensures.logs c.log.ensures.err in
+    let left = log_leaves c.args.loggers.now c.args.given.logger _ c.args.port.now _ c.log_ref.result c.log_ref.new.outlet c.log_ref.new.keeper
+    c.requires.known c.log_ref.ensures.logs c.log_ref.ensures.err in
     sym left.keeper.scratch
 
 pub shape_of-self-inside-2 : goal.shape_of-self-inside-2
 shape_of-self-inside-2 g c =
-    let left = log_leaves c.args.loggers.now c.args.number _ c.args.port.now _ c.log.result c.log.new.outlet c.log.new.keeper
-    c.requires.known c.log.ensures.logs c.log.ensures.err in
+    let left = log_leaves c.args.loggers.now c.args.given.logger _ c.args.port.now _ c.log_ref.result c.log_ref.new.outlet c.log_ref.new.keeper
+    c.requires.known c.log_ref.ensures.logs c.log_ref.ensures.err in
     sym left.keeper.seat
 
 pub returns-clause-logs : goal.returns-clause-logs
 returns-clause-logs g c = λ s e.
-    let logs = simp (to_z-of_z, c.ranges.time) at c.log.ensures.logs in
-    keeps_log NeverPasses s.policy s _ c.args.port.now c.log.new.outlet _ c.log.new.keeper c.args.self.now _ c.log.result (
+    keeps_log NeverPasses s.policy s _ c.args.port.now c.log_ref.new.outlet _ c.log_ref.new.keeper c.args.self.now _ c.log_ref.result (
       c.deref.ensures ∙ ap (λ (v : BacktraceSeatView). v.lane) c.self.view_is,
       ap (λ (v : BacktraceSeatView). v.seat) c.self.view_is,
       ap (λ (v : BacktraceSeatView). v.scratch) c.self.view_is,
     )
-    (ap (λ (b : Bor (LaneId Room)). b.now) c.log.ensures.lane ∙ c.deref.ensures, refl, refl)
-    (logs s e)
+    (ap (λ (b : Bor (LaneId Room)). b.now) c.log_ref.ensures.lane ∙ c.deref.ensures, refl, refl)
+    (c.log_ref.ensures.logs s e)
 
 pub returns-clause-within : goal.returns-clause-within
 returns-clause-within g c =
     let same : c.self.inside.text_limit ≡ c.args.self.now.lane.first.limit =
     sym c.self.invariant.room.1 ∙ ap (λ (v : BacktraceSeatView). v.lane.first.limit) c.self.view_is in
-    subst (λ n. (s : Spec) → spec_at c.args.loggers.now c.args.number ≡ Some s
-    → IfOk c.log.result (λ r. IsUnread s r ⊎ IsWithin n c.args.text.now c.args.source)) same c.log.ensures.within
+    subst (λ n. (s : Spec) → spec_at c.args.loggers.now c.args.given.logger ≡ Some s
+    → IfOk c.log_ref.result (λ r. IsUnread s r ⊎ IsWithin n c.args.given.text.now c.args.given.source)) same c.log_ref.ensures.within
 
 pub returns-clause-port : goal.returns-clause-port
 returns-clause-port g c =
-    let left = log_leaves c.args.loggers.now c.args.number _ c.args.port.now _ c.log.result c.log.new.outlet c.log.new.keeper
-    c.requires.known c.log.ensures.logs c.log.ensures.err in
-    (c.log.ensures.ready.0.0, left.port)
+    let left = log_leaves c.args.loggers.now c.args.given.logger _ c.args.port.now _ c.log_ref.result c.log_ref.new.outlet c.log_ref.new.keeper
+    c.requires.known c.log_ref.ensures.logs c.log_ref.ensures.err in
+    (c.log_ref.ensures.ready.0.0, left.port)

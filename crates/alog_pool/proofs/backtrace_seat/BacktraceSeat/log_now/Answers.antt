@@ -1,6 +1,5 @@
 use Rattle.std.proofs.Common.{◌≡◌, ◌⊎◌, Bor, Some, refl, sym, ap, subst, ◌∙◌}
 use Rattle.std.specs.Prelude.{IfOk}
-use Rattle.std.proofs.lemmas.Int.{to_z-of_z}
 use Rattle.std.specs.Arc.{arc_value}
 use Rattle.alog_lane.specs.Calls.{LaneId}
 use Rattle.alog_policy.specs.Progress.{without_waiting}
@@ -16,46 +15,45 @@ use Rattle.alog_pool.proofs.backtrace_seat.BacktraceSeat.log_now.Goals as goal
 
 pub shape_of-self-inside : goal.shape_of-self-inside
 shape_of-self-inside c =
-    let left = log_now_leaves (λ (s : Spec). without_waiting s.policy) c.args.loggers.now c.args.number _ c.args.port.now _
-    c.log_now.result c.log_now.new.outlet c.log_now.new.keeper c.requires.known c.log_now.ensures.logs c.log_now.ensures.err in
+    let left = log_now_leaves (λ (s : Spec). without_waiting s.policy) c.args.loggers.now c.args.given.logger _ c.args.port.now _
+    c.log_ref_now.result c.log_ref_now.new.outlet c.log_ref_now.new.keeper c.requires.known c.log_ref_now.ensures.logs c.log_ref_now.ensures.err in
     sym left.keeper.scratch
 
 pub shape_of-self-inside-2 : goal.shape_of-self-inside-2
 shape_of-self-inside-2 c =
-    let left = log_now_leaves (λ (s : Spec). without_waiting s.policy) c.args.loggers.now c.args.number _ c.args.port.now _
-    c.log_now.result c.log_now.new.outlet c.log_now.new.keeper c.requires.known c.log_now.ensures.logs c.log_now.ensures.err in
+    let left = log_now_leaves (λ (s : Spec). without_waiting s.policy) c.args.loggers.now c.args.given.logger _ c.args.port.now _
+    c.log_ref_now.result c.log_ref_now.new.outlet c.log_ref_now.new.keeper c.requires.known c.log_ref_now.ensures.logs c.log_ref_now.ensures.err in
     sym left.keeper.seat
 
 pub invariant_of-self : goal.invariant_of-self
 invariant_of-self c =
     let i = c.self.inside in
-    let left = log_now_leaves (λ (s : Spec). without_waiting s.policy) c.args.loggers.now c.args.number _ c.args.port.now _
-    c.log_now.result c.log_now.new.outlet c.log_now.new.keeper c.requires.known c.log_now.ensures.logs c.log_now.ensures.err in
-    still_seated i.most i.text_limit (arc_value i.lane) i.seat i.scratch _ c.log_now.new.keeper c.self.invariant c.deref.ensures refl
-    left.keeper left.list c.log_now.ensures.ready.1
+    let left = log_now_leaves (λ (s : Spec). without_waiting s.policy) c.args.loggers.now c.args.given.logger _ c.args.port.now _
+    c.log_ref_now.result c.log_ref_now.new.outlet c.log_ref_now.new.keeper c.requires.known c.log_ref_now.ensures.logs c.log_ref_now.ensures.err in
+    still_seated i.most i.text_limit (arc_value i.lane) i.seat i.scratch _ c.log_ref_now.new.keeper c.self.invariant c.deref.ensures refl
+    left.keeper left.list c.log_ref_now.ensures.ready.1
 
 pub returns-clause-logs : goal.returns-clause-logs
 returns-clause-logs c = λ s e.
-    let left = log_now_leaves (λ (s : Spec). without_waiting s.policy) c.args.loggers.now c.args.number _ c.args.port.now _
-    c.log_now.result c.log_now.new.outlet c.log_now.new.keeper c.requires.known c.log_now.ensures.logs c.log_now.ensures.err in
-    let logs = simp (to_z-of_z, c.ranges.time) at c.log_now.ensures.logs in
-    keeps_log Passes (without_waiting s.policy) s _ c.args.port.now c.log_now.new.outlet _ c.log_now.new.keeper c.args.self.now _ c.log_now.result (
+    let left = log_now_leaves (λ (s : Spec). without_waiting s.policy) c.args.loggers.now c.args.given.logger _ c.args.port.now _
+    c.log_ref_now.result c.log_ref_now.new.outlet c.log_ref_now.new.keeper c.requires.known c.log_ref_now.ensures.logs c.log_ref_now.ensures.err in
+    keeps_log Passes (without_waiting s.policy) s _ c.args.port.now c.log_ref_now.new.outlet _ c.log_ref_now.new.keeper c.args.self.now _ c.log_ref_now.result (
       c.deref.ensures ∙ ap (λ (v : BacktraceSeatView). v.lane) c.self.view_is,
       ap (λ (v : BacktraceSeatView). v.seat) c.self.view_is,
       ap (λ (v : BacktraceSeatView). v.scratch) c.self.view_is,
     )
     (ap (λ (b : Bor (LaneId Room)). b.now) left.keeper.lane ∙ c.deref.ensures, refl, refl)
-    (logs s e)
+    (c.log_ref_now.ensures.logs s e)
 
 pub returns-clause-within : goal.returns-clause-within
 returns-clause-within c =
     let same : c.self.inside.text_limit ≡ c.args.self.now.lane.first.limit =
     sym c.self.invariant.room.1 ∙ ap (λ (v : BacktraceSeatView). v.lane.first.limit) c.self.view_is in
-    subst (λ n. (s : Spec) → spec_at c.args.loggers.now c.args.number ≡ Some s
-    → IfOk c.log_now.result (λ r. IsUnread s r ⊎ IsWithin n c.args.text.now c.args.source)) same c.log_now.ensures.within
+    subst (λ n. (s : Spec) → spec_at c.args.loggers.now c.args.given.logger ≡ Some s
+    → IfOk c.log_ref_now.result (λ r. IsUnread s r ⊎ IsWithin n c.args.given.text.now c.args.given.source)) same c.log_ref_now.ensures.within
 
 pub returns-clause-port : goal.returns-clause-port
 returns-clause-port c =
-    let left = log_now_leaves (λ (s : Spec). without_waiting s.policy) c.args.loggers.now c.args.number _ c.args.port.now _
-    c.log_now.result c.log_now.new.outlet c.log_now.new.keeper c.requires.known c.log_now.ensures.logs c.log_now.ensures.err in
-    (c.log_now.ensures.ready.0.0, left.port)
+    let left = log_now_leaves (λ (s : Spec). without_waiting s.policy) c.args.loggers.now c.args.given.logger _ c.args.port.now _
+    c.log_ref_now.result c.log_ref_now.new.outlet c.log_ref_now.new.keeper c.requires.known c.log_ref_now.ensures.logs c.log_ref_now.ensures.err in
+    (c.log_ref_now.ensures.ready.0.0, left.port)
