@@ -4,5 +4,6 @@ mod Homes
 mod Finding
 mod Refusing
 mod Saying
+mod Telling
 pub mod Making
 pub mod Suiting

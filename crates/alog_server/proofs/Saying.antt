@@ -1,6 +1,6 @@
 -- What a client's call did, by what its producer's did.
-use Rattle.std.proofs.Common.{◌≡◌, ◌⊎◌, ◌<◌, ℕ, ℤ, List, length, Option, Some, Result, Ok, Err, refl}
-use Rattle.std.specs.Prelude.{IfOk, OnErr, Vec}
+use Rattle.std.proofs.Common.{◌≡◌, ◌⊎◌, ℕ, ℤ, List, Option, Some, Result, Ok, Err, refl}
+use Rattle.std.specs.Prelude.{IfOk, IfErr, OnErr, Vec}
 use Rattle.std.specs.declared.alloc.AllocError.{AllocError}
 use Rattle.std.specs.declared.alloc.Global.{Global}
 use Rattle.alog_msg.specs.declared.level.Level.{Level}
@@ -13,7 +13,8 @@ use Rattle.alog_policy.specs.declared.policy.Outcome.{Outcome}
 use Rattle.alog_pool.specs.Producer.{ProducerView, IsSame, Lent}
 use Rattle.alog_registry.specs.Backtrace.{Room}
 use Rattle.alog_registry.specs.Dumping.{PostsEach, posted_of}
-use Rattle.alog_registry.specs.Given.{message_with, IsWithin, IsTooLongField}
+use Rattle.alog_registry.specs.Given.{message_with, IsWithin}
+use Rattle.alog_registry.specs.Given as given
 use Rattle.alog_registry.specs.LaneKeeper.{DumpsByTurn}
 use Rattle.alog_registry.specs.Listed.{spec_at}
 use Rattle.alog_registry.specs.Logging.{IsUnread}
@@ -25,30 +26,23 @@ use Rattle.alog_server.specs.Says.{How, LogsSo, IsReason, SaysAt, DumpsAt}
 abbrev Answer : Type 0
 Answer = Result LogReply MessageError
 
-abbrev IsRefused : Answer → MessageError → Type 0
-IsRefused r why = r ≡ Err why
-
-reason : (limit : ℕ) (text : List ℕ) (source : Option SourceRef) (e : MessageError)
-    → (IsRefused (Err e) message.TextTooLong → limit < length text)
-    → (IsRefused (Err e) message.FieldTooLong → IsTooLongField limit text source)
-    → (IsRefused (Err e) message.OutOfMemory → IsWithin limit text source) → IsReason limit text source (told e)
-reason limit text source message.TextTooLong long field memory = long refl
-reason limit text source message.FieldTooLong long field memory = field refl
-reason limit text source message.OutOfMemory long field memory = memory refl
+reason : (limit : ℕ) (text : List ℕ) (source : Option SourceRef) (e : MessageError) → given.IsReason limit text source e
+    → IsReason limit text source (told e)
+reason limit text source message.TextTooLong why = why
+reason limit text source message.FieldTooLong why = why
+reason limit text source message.OutOfMemory why = why
 
 pub said : (time : ℤ) (how : How) (number : ℕ) (level : Level) (text : List ℕ) (source : Option SourceRef) (old new : ProducerView)
     (r : Answer)
     → ((s : Spec) → spec_at old.shared.loggers number ≡ Some s → IfOk r (λ reply. Lent old new number
     (λ p k q l. LogsSo how s (message_with number level time old.number text source) p k reply q l)))
     → ((s : Spec) → spec_at old.shared.loggers number ≡ Some s → IfOk r (λ reply. IsUnread s reply ⊎ IsWithin old.limit text source))
-    → (IsRefused r message.TextTooLong → old.limit < length text)
-    → (IsRefused r message.FieldTooLong → IsTooLongField old.limit text source)
-    → (IsRefused r message.OutOfMemory → IsWithin old.limit text source)
+    → IfErr r (given.IsReason old.limit text source)
     → OnErr r (new ≡ old) → IsSame old new → SaysAt time how number level text source old (answer_of r) new
-said time how number level text source old new (Ok reply) logs within long field memory left same =
+said time how number level text source old new (Ok reply) logs within why left same =
     record { logs = logs; within = within; same = same }
-said time how number level text source old new (Err e) logs within long field memory left same =
-    (left, reason old.limit text source e long field memory)
+said time how number level text source old new (Err e) logs within why left same =
+    (left, reason old.limit text source e why)
 
 pub dumped : (time : ℤ) (number : ℕ) (old new : ProducerView) (r : Result (Vec (Outcome (Unit {0})) Global) AllocError)
     → ((s : Spec) → spec_at old.shared.loggers number ≡ Some s → IfOk r (λ v. Lent old new number (λ p k q l. (d : Room) × DumpsByTurn k d l

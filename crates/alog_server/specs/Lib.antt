@@ -5,5 +5,6 @@ pub mod Reasons
 pub mod Running
 pub mod Says
 pub mod Setting
+pub mod SinkEnds
 pub mod Starting
 pub mod Stores

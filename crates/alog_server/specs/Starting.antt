@@ -7,9 +7,11 @@ use Rattle.alog_pool.specs.Pool.{PoolView, Starts}
 use Rattle.alog_pool.specs.declared.setup.Setup.{Setup}
 use Rattle.alog_sink.specs.Files.{Files}
 use Rattle.alog_server.specs.Setting.{IsSetupOf}
+use Rattle.alog_server.specs.SinkEnds.{TellsSinks}
 use Rattle.alog_server.specs.Stores.{IsNew}
 use Rattle.alog_server.specs.declared.error.StartError.{StartError}
 use Rattle.alog_server.specs.declared.error.StartError.TheVariants as start
+use Rattle.alog_server.specs.declared.sink_end.SinkEnd.{SinkEnd}
 
 -- the reason that this fault of a document is
 abbrev pub IsOfFault : ConfigFault → StartError → Type 0
@@ -30,16 +32,18 @@ IsReasonFor document start.Store = (c : Config) × Reads document (Ok c)
 IsReasonFor document start.OutOfMemory = Unit {0}
 
 module _ {S : Type 0} (tells : Bool) (files : S → Files) (failures : S → ℕ) where
-  -- The pool was started with what the configuration gives over these stores, and tells no tickets.
-  pub record IsServerOf (c : Config) (stores : List S) (pool : PoolView S) : Type 0 where
+  -- The pool was started with what the configuration gives over these stores, and tells no tickets; the sinks are those of the
+  -- configuration.
+  pub record IsServerOf (c : Config) (stores : List S) (pool : PoolView S) (sinks : List SinkEnd) : Type 0 where
     pub setup : Setup S
     pub given : IsSetupOf tells files failures c stores 0 setup
     pub starts : Starts setup pool
+    pub told : TellsSinks c sinks
 
   -- It was started with what the document says, over new stores.
-  pub record IsServerOn (document : List ℕ) (pool : PoolView S) : Type 0 where
+  pub record IsServerOn (document : List ℕ) (pool : PoolView S) (sinks : List SinkEnd) : Type 0 where
     pub config : Config
     pub reads : Reads document (Ok config)
     pub stores : List S
     pub fresh : All (IsNew tells files failures) stores
-    pub server : IsServerOf config stores pool
+    pub server : IsServerOf config stores pool sinks

@@ -8,6 +8,7 @@ use crate::home::Home;
 use crate::logger::Logger;
 use alog_pool::Producer;
 use std::alloc::Global;
+use std::fmt;
 use std::marker::{Model, PhantomData};
 
 /// What a thread of a server logs with. `calls.rt` has its calls. Contracts see it as its producer. Like that it is no `Drop`.
@@ -26,6 +27,14 @@ impl<H: Home> Model for Client<H> {
     ghost view = { λ c. c.producer };
 
     ghost invariant = { λ c. H.is_home c.producer.shared × (c.producer.shared.loggers ≡ H.loggers) };
+}
+
+impl<H: Home> fmt::Debug for Client<H> {
+    fn fmt<W: fmt::Write>(&self, f: &mut fmt::Formatter<W>) -> fmt::Result {
+        f.debug_struct("Client")
+            .field("producer", &self.producer)
+            .finish_non_exhaustive()
+    }
 }
 
 impl<H: Home> Client<H> {

@@ -14,7 +14,7 @@
 //! `Server::run` picks it (`specs/Homes.antt`). A client's calls are those of `alog_pool::Producer` (`specs/Says.antt`).
 //!
 //! Read `home.rt`, `logger.rt`, `client.rt` and `calls.rt` (what a thread logs with), `work.rt`, `seats.rt` (the clients of all
-//! threads) and `server.rt`; then `opening.rt` over `setup.rt`, `producers.rt` and `folders.rt`, and `error.rt`.
+//! threads), `sink_end.rt` (what is told of each sink) and `server.rt`; then `opening.rt` over `setup.rt`, `producers.rt` and `folders.rt`, and `error.rt`.
 #![tactic(auto)]
 
 mod calls;
@@ -28,6 +28,7 @@ mod producers;
 mod seats;
 mod server;
 mod setup;
+mod sink_end;
 mod work;
 
 pub use client::Client;
@@ -39,6 +40,7 @@ pub use opening::start;
 pub use producers::make;
 pub use server::{Ran, Server};
 pub use setup::setup_of;
+pub use sink_end::SinkEnd;
 pub use work::Work;
 
 /// The most threads of a server.

@@ -18,7 +18,7 @@ pub fn start<R: Folders + Threads + Wait + Clock + Clone + Drop + Send + 'static
     document: &[u8],
     folder: &str,
 ) -> Result<Server<R::Folder>, StartError>
-    ensures started { IfOk result (λ s. IsServerOn R.Folder.tells R.Folder.files R.Folder.failures document.now s.pool) }
+    ensures started { IfOk result (λ s. IsServerOn R.Folder.tells R.Folder.files R.Folder.failures document.now s.pool s.sinks.items) }
     ensures refused { IfErr result (IsReasonFor document.now) }
 {
     let config = match read(alloc, document) {

@@ -5,6 +5,7 @@ ghost use Rattle.alog_config.specs.Built.{HasFailed};
 ghost use Rattle.alog_config.specs.Sinks.{is_leaf};
 ghost use Rattle.alog_server.specs.Ends.{AllEnd, IsToldOf, TellsError};
 ghost use Rattle.alog_server.specs.Running.{AreBad, HasThreads, Runs, Works};
+ghost use Rattle.alog_server.specs.SinkEnds.{AreWithFaults};
 ghost use Rattle.alog_server.specs.Starting.{IsOfStores, IsServerOf};
 ghost use Rattle.alog_server.specs.declared.TheConstants.{THREADS_MAX};
 
@@ -13,11 +14,13 @@ use crate::error::{RunError, StartError};
 use crate::producers::make;
 use crate::seats::{Ended, run_all};
 use crate::setup::setup_of;
+use crate::sink_end::{SinkEnd, ends_of, with_faults};
 use crate::work::Work;
 use alog_config::Config;
 use alog_pool::{OpenGate, Pool, Producer, Report};
 use alog_sink::Store;
 use std::alloc::Global;
+use std::fmt;
 use std::marker::Brand;
 use std::sync::Wait;
 use std::thread::Threads;
@@ -27,7 +30,19 @@ use std::time::Clock;
 pub struct Server<S: Store> {
     alloc: Global,
     pub(crate) pool: Pool<S>,
+    /// The sinks of the pool, without faults. They are there before it starts, so that its end takes no memory.
+    pub(crate) sinks: Vec<SinkEnd>,
     pub ghost fresh: { pool.made ≡ 0 },
+    pub ghost each: { length sinks.items ≡ length pool.sink_seats },
+}
+
+impl<S: Store> fmt::Debug for Server<S> {
+    fn fmt<W: fmt::Write>(&self, f: &mut fmt::Formatter<W>) -> fmt::Result {
+        f.debug_struct("Server")
+            .field("pool", &self.pool)
+            .field("sinks", &self.sinks)
+            .finish_non_exhaustive()
+    }
 }
 
 /// What a run answers.
@@ -35,8 +50,20 @@ pub struct Server<S: Store> {
 pub struct Ran<S: Store, E> {
     /// What became of all messages, and the sinks.
     pub report: Report<S>,
+    /// The sinks of the report, by their names: those of the configuration that are no fan's member, in their order.
+    pub sinks: Vec<SinkEnd>,
     /// Why work ended early: of the first thread, by number, where it did.
     pub error: Option<E>,
+}
+
+impl<S: Store, E: fmt::Debug> fmt::Debug for Ran<S, E> {
+    fn fmt<W: fmt::Write>(&self, f: &mut fmt::Formatter<W>) -> fmt::Result {
+        f.debug_struct("Ran")
+            .field("report", &self.report)
+            .field("sinks", &self.sinks)
+            .field("error", &self.error)
+            .finish()
+    }
 }
 
 impl<S: Store + Drop + Send + 'static> Server<S> {
@@ -48,13 +75,14 @@ impl<S: Store + Drop + Send + 'static> Server<S> {
         stores: Vec<S>,
     ) -> Result<Server<S>, StartError>
         requires { length stores.items ≡ count_by is_leaf config.now.sinks.items }
-        ensures started { IfOk result (λ s. IsServerOf S.tells S.files S.failures config.now stores.items s.pool) }
+        ensures started { IfOk result (λ s. IsServerOf S.tells S.files S.failures config.now stores.items s.pool s.sinks.items) }
         ensures refused { IfErr result IsOfStores }
         ensures failed { IsErrOf result StartError.Store → Any (HasFailed S.failures) stores.items }
     {
+        let sinks = ends_of(alloc, config)?;
         let setup = setup_of(alloc, config, stores, 0)?;
         match Pool::start(rt, alloc, setup, OpenGate) {
-            Ok(pool) => Ok(Server { alloc, pool }),
+            Ok(pool) => Ok(Server { alloc, pool, sinks }),
             Err(_) => Err(StartError::OutOfMemory),
         }
     }
@@ -70,16 +98,21 @@ impl<S: Store + Drop + Send + 'static> Server<S> {
     ) -> Result<Ran<S, W::Error>, RunError>
         ensures bad_threads { IsErrOf result RunError.BadThreads ↔ AreBad threads }
         ensures runs { IfOk result (λ r. Runs S.tells S.files S.failures self.pool threads r.report) }
+        ensures sinks { IfOk result (λ r. AreWithFaults self.sinks.items r.report.faults.items r.sinks.items) }
         ensures error { IfOk result (λ r. TellsError (W.ends work.now) threads r.error) }
     {
-        let Server { alloc, mut pool } = self;
+        let Server {
+            alloc,
+            mut pool,
+            sinks,
+        } = self;
         if threads < 1 || threads > THREADS_MAX {
             end_unused(rt, alloc, pool);
             return Err(RunError::BadThreads);
         }
         let (producers, ended) = work_with(rt, alloc, &mut pool, threads, work);
         match pool.shutdown(rt, producers) {
-            Ok(report) => ended.with(report),
+            Ok(report) => ended.with(report, sinks),
             Err(_) => unreachable!(),
         }
     }
@@ -100,18 +133,27 @@ fn end_unused<R: Threads + Wait + Clock, S: Store + Drop + Send + 'static>(
 }
 
 impl<E: Drop> Ended<E> {
-    /// What a run answers whose pool ended with this report.
-    fn with<S: Store + Drop>(self, report: Report<S>) -> Result<Ran<S, E>, RunError>
+    /// What a run answers whose pool, with these sinks, ended with this report.
+    fn with<S: Store + Drop>(
+        self,
+        report: Report<S>,
+        sinks: Vec<SinkEnd>,
+    ) -> Result<Ran<S, E>, RunError>
+        requires { length sinks.items ≡ length report.faults.items }
         ensures ran { IfOk result (λ r. (r.report ≡ report) × HasThreads self × IsToldOf self r.error) }
+        ensures sinks { IfOk result (λ r. AreWithFaults sinks.items r.report.faults.items r.sinks.items) }
         ensures threads { IsErrOf result RunError.BadThreads → ⊥ }
     {
+        let sinks = with_faults(sinks, report.faults.as_slice());
         match self {
             Ended::Done => Ok(Ran {
                 report,
+                sinks,
                 error: None,
             }),
             Ended::Early(error) => Ok(Ran {
                 report,
+                sinks,
                 error: Some(error),
             }),
             Ended::OutOfMemory => Err(RunError::OutOfMemory),

@@ -8,7 +8,7 @@ use std::{fs, io};
 use test_runs::{Host, SHORT, SMALL, folder, lines_in};
 
 /// A thread that logs this text to this logger, so many times.
-struct Talk {
+pub(crate) struct Talk {
     logger: &'static str,
     text: &'static str,
     messages: usize,
@@ -31,19 +31,23 @@ impl<R: Wait + Clock> Work<R> for Talk {
     }
 }
 
-const HELLO: Talk = Talk {
+pub(crate) const HELLO: Talk = Talk {
     logger: "net",
     text: "hello",
     messages: 100,
 };
 
 /// Starts a server. What `start` promises is told to no test by it.
-fn started<R: Host>(rt: &R, document: &str, folder: &str) -> Result<Server<R::Folder>, StartError> {
+pub(crate) fn started<R: Host>(
+    rt: &R,
+    document: &str,
+    folder: &str,
+) -> Result<Server<R::Folder>, StartError> {
     start(rt, rt.alloc(), document.as_bytes(), folder)
 }
 
 /// Lets so many threads do this work. What `Server::run` promises is told to no test by it.
-fn ran<R: Host>(
+pub(crate) fn ran<R: Host>(
     rt: &R,
     server: Server<R::Folder>,
     threads: usize,

@@ -18,5 +18,5 @@ returns g c =
     c.self.view_is
     (subst (λ (q : Result LogReply LogError). SaysAt c.args.time AtOnce n c.args.level c.args.text.now None old q new)
     (sym c.answer_of.ensures)
-    (said c.args.time AtOnce n c.args.level c.args.text.now None old new c.log_now-answer.result logs does.within does.text_too_long
-    does.field_too_long does.out_of_memory does.err does.same))
+    (said c.args.time AtOnce n c.args.level c.args.text.now None old new c.log_now-answer.result logs does.within does.reason
+    does.err does.same))

@@ -1,10 +1,12 @@
 use Rattle.std.proofs.Common.{refl, sym, subst, ◌∙◌, arith}
 use Rattle.std.proofs.lemmas.Result.{IfOk-weaker}
+use Rattle.alog_pool.specs.Pool.{lanes_of}
 use Rattle.alog_pool.specs.Report.{Ends}
 use Rattle.alog_pool.specs.declared.report.Report.{Report}
 use Rattle.alog_pool.specs.declared.shared.Shared.{Shared}
 use Rattle.alog_server.proofs.Ending.{told}
 use Rattle.alog_server.proofs.Making.{makes_count, makes_shared}
+use Rattle.alog_server.proofs.Telling.{closed_count, made_count}
 use Rattle.alog_server.proofs.server.Server.run.Goals as goal
 use Rattle.alog_server.specs.Making.{AreOf}
 
@@ -13,6 +15,15 @@ shutdown-requires-clause-own g c κs within =
     let run = c.work_with-producers.ensures.works in
     let shared = makes_shared c.args.self.pool c.work_with-producers.new.pool run.begun run.makes in
     subst (λ (s : Shared). AreOf s c.work_with-producers.result.0.items) (sym shared.0) run.own
+
+pub with-requires : goal.with-requires
+with-requires g c =
+    let run = c.work_with-producers.ensures.works in
+    let new = c.work_with-producers.new.pool in
+    let r = c.in-Ok.report in
+    c.args.self.each
+    ∙ sym (closed_count g.S.Store.tells g.S.Store.files g.S.Store.failures (lanes_of new.sink_seats) _ r.sinks.items r.faults.items
+    c.in-Ok.ensures.ends.sinks ∙ made_count c.args.self.pool new run.begun run.makes)
 
 pub unreachable-requires : goal.unreachable-requires
 unreachable-requires g c =

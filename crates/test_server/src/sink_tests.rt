@@ -1,0 +1,74 @@
+//! What a run tells of its sinks.
+use crate::server_tests::{HELLO, ran, started};
+use alog_server::{LogError, Ran, RunError, SinkEnd};
+use alog_sink::Store;
+use std::{fs, io};
+use test_runs::{Host, folder};
+
+/// Two sinks for each message: a file that is a folder, and a fan of two files.
+const FAULTY: &str = "queue = 8\n\n[[sink]]\nname = \"a\"\nkind = \"memory\"\nfile = \"a.log\"\n\n\
+                      [[sink]]\nname = \"lost\"\nkind = \"memory\"\nfile = \"lost.log\"\nlevel = \"info\"\n\n\
+                      [[sink]]\nname = \"b\"\nkind = \"daily\"\nfile = \"b.log\"\n\n\
+                      [[sink]]\nname = \"both\"\nkind = \"fan\"\nof = [\"b\", \"a\"]\n\n\
+                      [[logger]]\nname = \"net\"\nsinks = [\"both\", \"lost\"]\n";
+
+/// A sink by its name, its faults and its files.
+type Row = (&'static str, u64, &'static [&'static str]);
+
+/// What is told of the sinks where so many messages were logged to each: those that are no fan's member, in the order of the
+/// configuration.
+const TOLD: [Row; 2] = [
+    ("lost", 300, &["lost.log"]),
+    ("both", 0, &["b.log", "a.log"]),
+];
+
+/// Whether a sink has these files.
+fn has_files(sink: &SinkEnd, files: &[&str]) -> bool {
+    sink.files.len() == files.len()
+        && sink
+            .files
+            .as_slice()
+            .iter()
+            .zip(files)
+            .all(|(own, file)| own.as_str() == *file)
+}
+
+/// Whether it is this sink.
+fn is_row(sink: &SinkEnd, (name, faults, files): &Row) -> bool {
+    sink.name.as_str() == *name && sink.faults == *faults && has_files(sink, files)
+}
+
+/// Whether these are those sinks.
+fn are_rows(sinks: &[SinkEnd], rows: &[Row]) -> bool {
+    for (i, row) in rows.iter().enumerate() {
+        match sinks.get(i) {
+            Some(sink) if is_row(sink, row) => {}
+            _ => return false,
+        }
+    }
+    sinks.len() == rows.len()
+}
+
+/// Whether a run tells these sinks.
+fn tells<S: Store + Drop>(ran: Result<Ran<S, LogError>, RunError>, rows: &[Row]) -> bool {
+    match ran {
+        Ok(ran) => are_rows(ran.sinks.as_slice(), rows),
+        Err(_) => false,
+    }
+}
+
+/// Whether a run of three threads tells these sinks.
+fn runs<R: Host>(rt: &R, folder: &str, rows: &[Row]) -> bool {
+    match started(rt, FAULTY, folder) {
+        Ok(server) => tells(ran(rt, server, 3, &HELLO), rows),
+        Err(_) => false,
+    }
+}
+
+#[test]
+fn sinks_are_told_with_their_faults_and_files(rt: HostRuntime) -> io::Result<()> {
+    let folder = folder(&rt)?;
+    fs::create_dir(&rt, folder.join(rt.alloc(), "lost.log")?)?;
+    assert!(rt; runs(&rt, folder.as_str(), &TOLD));
+    fs::remove_dir_all(&rt, folder.as_str())
+}
