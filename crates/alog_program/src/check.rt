@@ -2,9 +2,9 @@
 ghost use Rattle.alog_program.specs.Checks.{Checks, ChecksFile};
 
 use crate::configuration::{read_document, refuse};
-use crate::program::{fail, write_out};
+use crate::ended::fail_to_write;
+use crate::program::write_out;
 use alog_config::read;
-use alog_replay::ReplayError;
 use std::alloc::Global;
 use std::io::Write;
 use std::rt::Files;
@@ -31,7 +31,7 @@ fn check<O: Write, E: Write>(alloc: Global, document: &[u8], output: &mut O, err
     match read(alloc, document) {
         Ok(_) => match write_out(output, b"ok\n") {
             Ok(()) => 0,
-            Err(_) => fail(ReplayError::WriteFault, errors),
+            Err(error) => fail_to_write(&error, errors),
         },
         Err(fault) => refuse(alloc, document, fault, errors),
     }

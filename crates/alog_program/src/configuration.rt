@@ -40,22 +40,16 @@ pub(crate) fn refuse<E: Write>(
 {
     let number = fault.number();
     let _ = match fault {
+        ConfigFault::OutOfMemory => return fail(ReplayError::OutOfMemory, errors),
+        ConfigFault::NotToml => writeln!(errors, "alog: refused {number}"),
         ConfigFault::Broken { place, .. } => match place {
             Place::Top => writeln!(errors, "alog: refused {number} in top"),
             Place::Sink(i) => writeln!(errors, "alog: refused {number} in sink {i}"),
             Place::Logger(i) => writeln!(errors, "alog: refused {number} in logger {i}"),
         },
-        ConfigFault::NotToml | ConfigFault::OutOfMemory => {
-            writeln!(errors, "alog: refused {number}")
-        }
     };
-    match fault {
-        ConfigFault::OutOfMemory => 4,
-        ConfigFault::NotToml | ConfigFault::Broken { .. } => {
-            say_why(alloc, document, fault, errors);
-            2
-        }
-    }
+    say_why(alloc, document, fault, errors);
+    2
 }
 
 /// Writes the line that says what a person has to mend. Where there is no memory for it, what is refused is said alone,

@@ -3,8 +3,9 @@
 //! `program.rt` has `run`: the whole program over any reader and two writers, which answers the exit status. `words.rt` reads the
 //! command line into a request (`request.rt`): `command.rt` has the commands and their help for `clap`, and `options.rt` and
 //! `load_options.rt` read the values that it found. `line.rt` makes the line of `alog format`, `check.rt`, `replay_config.rt` and
-//! `load.rt` (with `progress.rt`) do what begins with the configuration of a file, and `status.rt` says which status and which line
-//! on standard error each fault has. `arguments.rt` collects the words that the system gave, for `main` in the crate `alog`. The
+//! `load.rt` (with `progress.rt`) do what begins with the configuration of a file, and `status.rt` says which status and which number
+//! each fault has; `ended.rt` says why a replay ended early, by what `traced.rt` remembers of its script and its output, and
+//! `script_words.rt` which word of a refused line is wrong. `arguments.rt` collects the words that the system gave, for `main` in the crate `alog`. The
 //! tests are in the crate `test_program`.
 #![tactic(auto)]
 
@@ -12,6 +13,7 @@ mod arguments;
 mod check;
 mod command;
 mod configuration;
+mod ended;
 mod line;
 mod load;
 mod load_options;
@@ -20,9 +22,12 @@ mod program;
 mod progress;
 mod replay_config;
 mod request;
+mod script_words;
+mod sinks;
 mod status;
 mod stores;
 mod totals;
+mod traced;
 mod words;
 
 pub use arguments::{ArgumentsError, collect_words};

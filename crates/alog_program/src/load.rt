@@ -8,16 +8,16 @@ ghost use Rattle.alog_program.specs.Status.{load_status_of};
 ghost use Rattle.alog_server.specs.Stores.{IsNew};
 
 use crate::configuration::{read_document, refuse};
-use crate::program::fail;
+use crate::ended::fail_to_write;
 use crate::progress::{Progress, Screen};
 use crate::request::LoadRequest;
+use crate::sinks::{is_unwritable, sink_name};
 use crate::status::{load_number_of, load_status_of};
 use crate::stores::memory_stores;
 use crate::totals::write_totals;
 use alog_config::{Config, leaves, read};
 use alog_load::{LOAD_MESSAGES_MAX, LOAD_PRODUCERS_MAX, LoadError, load};
 use alog_pool::Report;
-use alog_replay::ReplayError;
 use alog_server::{Folders, folder_stores};
 use alog_sink::{MemStore, Store};
 use std::alloc::AllocError;
@@ -80,7 +80,7 @@ where
             Err(_) => refuse_load(LoadError::OutOfMemory, errors),
         },
         Some(path) => {
-            if lacks_folder(rt, path, request, errors) {
+            if lacks_folder(rt, path, &config, request, errors) {
                 return 3;
             }
             match folder_stores(rt, alloc, path, count) {
@@ -121,15 +121,17 @@ where
         rt.clear();
     }
     match made {
-        Ok(report) => tell(report, output, errors),
+        Ok(report) => tell(report, config, output, errors),
         Err(fault) => refuse_asked(fault, request, errors),
     }
 }
 
-/// Whether a load by numbers within their bounds cannot write to this folder, which is said then.
-fn lacks_folder<R: Files, E: Write>(
+/// Whether a load by numbers within their bounds cannot write to this folder, or to a file of a sink that is there, which is said
+/// then.
+fn lacks_folder<R: AllocGlobal + Files, E: Write>(
     rt: &R,
     path: &str,
+    config: &Config,
     request: &LoadRequest<'_>,
     errors: &mut E,
 ) -> bool
@@ -139,7 +141,7 @@ fn lacks_folder<R: Files, E: Write>(
         return false;
     }
     match fs::metadata(rt, path) {
-        Ok(found) if found.is_dir() => false,
+        Ok(found) if found.is_dir() => is_unwritable(rt, path, config, errors),
         Ok(_) => {
             let _ = writeln!(errors, "alog: {path} is no folder");
             true
@@ -164,6 +166,7 @@ fn is_out_of_bounds(request: &LoadRequest<'_>) -> bool
 /// Brings all lines to the stores, and writes the totals of a load; behind them, that a store failed, where one did.
 fn tell<S: Store + Drop, O: Write, E: Write>(
     report: Report<S>,
+    config: &Config,
     output: &mut O,
     errors: &mut E,
 ) -> u8
@@ -180,10 +183,10 @@ fn tell<S: Store + Drop, O: Write, E: Write>(
         Ok(()) if is_whole && is_kept => 0,
         Ok(()) => {
             let status = refuse_load(LoadError::Store, errors);
-            say_faults(report.faults.as_slice(), is_kept, errors);
+            say_faults(&mut report, config, errors);
             status
         }
-        Err(_) => fail(ReplayError::WriteFault, errors),
+        Err(error) => fail_to_write(&error, errors),
     }
 }
 
@@ -198,15 +201,23 @@ fn refuse_asked<E: Write>(fault: LoadError, request: &LoadRequest<'_>, errors: &
     status
 }
 
-/// Says at which sinks turns failed, and how many, and whether the last flush failed.
-fn say_faults<E: Write>(faults: &[u64], is_kept: bool, errors: &mut E) {
-    for (sink, number) in faults.iter().enumerate() {
+/// Says at which sinks turns failed, and how many, and at which the last flush failed.
+fn say_faults<S: Store + Drop, E: Write>(report: &mut Report<S>, config: &Config, errors: &mut E) {
+    let faults = report.faults.iter();
+    for (sink, number) in faults.enumerate() {
         if *number > 0 {
-            let _ = writeln!(errors, "alog: sink {sink}: {number} turns failed");
+            let name = sink_name(config, sink);
+            let _ = writeln!(errors, "alog: sink {sink}, {name}: {number} turns failed");
         }
     }
-    if !is_kept {
-        let _ = writeln!(errors, "alog: at the end a file could not be flushed");
+    for (sink, it) in report.sinks.iter_mut().enumerate() {
+        if it.flush().is_err() {
+            let name = sink_name(config, sink);
+            let _ = writeln!(
+                errors,
+                "alog: sink {sink}, {name}: its lines are not all in its file"
+            );
+        }
     }
 }
 

@@ -13,17 +13,20 @@ ghost use Rattle.alog_program.specs.Words.{AsksReplay, IsAskedFor};
 
 use crate::arguments::ArgumentsError;
 use crate::check::check_command;
+use crate::ended::{end_replay, fail_to_write};
 use crate::line::line_of;
 use crate::load::load_command;
 use crate::progress::Screen;
 use crate::replay_config::replay_config_command;
 use crate::request::{LineRequest, Request};
 use crate::status::{number_of, status_of};
+use crate::traced::{TracedReader, TracedWriter};
 use crate::words::{WordsError, read};
 use alog_replay::{ReplayError, replay};
 use alog_server::Folders;
 use alog_sink::{MemStore, Store};
 use clap::error::ErrorKind;
+use core::mem::replace_with;
 use std::alloc::Global;
 use std::convert::AsStr;
 use std::io;
@@ -139,7 +142,7 @@ fn format_command<O: Write, E: Write>(
     };
     match write_out(output, line.as_slice()) {
         Ok(()) => 0,
-        Err(_) => fail(ReplayError::WriteFault, errors),
+        Err(error) => fail_to_write(&error, errors),
     }
 }
 
@@ -161,24 +164,68 @@ fn replay_command<I: Read, O: Write, E: Write>(
     ensures status { result ≤ 4 }
     ensures replays { Replays result (I.remaining input.old) (I.remaining input.new) (O.contents output.old) (O.contents output.new) }
 {
-    match replay(alloc, input, output) {
+    let (status, _output) = replace_with(input, output, |input, output| {
+        replay_read(alloc, input, output, errors)
+    });
+    status
+}
+
+/// The same with the reader itself, which is given back, with the status and the writer.
+fn replay_read<'a, I: Read, O: Write, E: Write>(
+    alloc: Global,
+    input: I,
+    output: &'a mut O,
+    errors: &mut E,
+) -> (I, (u8, &'a mut O))
+    ensures status { result.1.0 ≤ 4 }
+    ensures same_writer { result.1.1.ghost_name ≡ output.entry.ghost_name }
+    ensures replays { Replays result.1.0 (I.remaining input) (I.remaining result.0) (O.contents output.old) (O.contents result.1.1.now) }
+{
+    let script = TracedReader::new(alloc, input);
+    let (status, script) = replace_with(output, script, |output, script| {
+        replay_traced(alloc, script, output, errors)
+    });
+    (script.input, (status, output))
+}
+
+/// The same with the writer itself too, and a reader that remembers.
+fn replay_traced<I: Read, O: Write, E: Write>(
+    alloc: Global,
+    script: TracedReader<I>,
+    output: O,
+    errors: &mut E,
+) -> (O, (u8, TracedReader<I>))
+    ensures status { result.1.0 ≤ 4 }
+    ensures replays { Replays result.1.0 (I.remaining script.input) (I.remaining result.1.1.input) (O.contents output) (O.contents result.0) }
+{
+    let mut script = script;
+    let mut printed = TracedWriter::new(output);
+    let status = replay_told(alloc, &mut script, &mut printed, errors);
+    (printed.output, (status, script))
+}
+
+/// The same, through a reader and a writer that remember.
+fn replay_told<I: Read, O: Write, E: Write>(
+    alloc: Global,
+    script: &mut TracedReader<I>,
+    printed: &mut TracedWriter<O>,
+    errors: &mut E,
+) -> u8
+    ensures status { result ≤ 4 }
+    ensures replays { Replays result (I.remaining script.old.input) (I.remaining script.new.input) (O.contents printed.old.output) (O.contents printed.new.output) }
+{
+    match replay(alloc, script, printed) {
         Ok(_) => 0,
-        Err(fault) => fail(fault, errors),
+        Err(fault) => end_replay(alloc, fault, script, printed, None, errors),
     }
 }
 
-/// Writes the lines of a fault, its number and what it is, and answers its status.
+/// Writes the lines of a fault that is no line's, its number and what it is, and answers its status.
 pub(crate) fn fail<E: Write>(fault: ReplayError, errors: &mut E) -> u8
     ensures { result ≡ status_of fault }
 {
     let number = number_of(fault);
-    let _ = match fault {
-        ReplayError::LineRefused { line } => writeln!(
-            errors,
-            "alog: refused {number} at line {line}\nalog: no command of this form may stand there"
-        ),
-        _ => writeln!(errors, "alog: refused {number}\nalog: {fault}"),
-    };
+    let _ = writeln!(errors, "alog: refused {number}\nalog: {fault}");
     status_of(fault)
 }
 
@@ -192,6 +239,6 @@ fn help<O: Write, E: Write>(text: &clap::Error, output: &mut O, errors: &mut E) 
     };
     match written {
         Ok(()) => 0,
-        Err(_) => fail(ReplayError::WriteFault, errors),
+        Err(error) => fail_to_write(&error, errors),
     }
 }

@@ -41,7 +41,7 @@ fn ends_so<R: Host>(rt: &R, how: (bool, usize), said: (u8, &str)) -> bool {
 
 #[test]
 fn a_reader_failing(rt: HostRuntime) {
-    let unread = "alog: refused 34\nalog: the script could not be read\n";
+    let unread = "alog: refused 34\nalog: the script could not be read: broken pipe\n";
     assert!(rt; ends_so(&rt, (false, PRINTED.len()), (0, "")));
     assert!(rt; ends_so(&rt, (true, PRINTED.len()), (3, unread)));
 }

@@ -1,6 +1,7 @@
 //! `alog load` to the files of a folder, on the whole program.
 use crate::load_tests::THREE;
 use std::alloc::Global;
+use std::os::unix::fs::symlink;
 use std::path::PathBuf;
 use std::{fs, io};
 use test_runs::{Host, SMALL, Said, Scratch, folder, lines_in, removed, says, written};
@@ -115,18 +116,24 @@ fn each_line_of_many_is_in_its_file(rt: HostRuntime) -> io::Result<()> {
     Ok(())
 }
 
-/// What is said where no turn at the sink could write its line.
-const FAILED: &str = "alog: refused 22\nalog: a store failed\nalog: sink 0: 3 turns failed";
+/// One that flushes each message.
+const FLUSHING: &str =
+    "[[sink]]\nname = \"lines\"\nkind = \"memory\"\nfile = \"out\"\npattern = \"%n %L %v\"\n\n\
+                        [[logger]]\nname = \"net\"\nsinks = [\"lines\"]\nflush_on = \"info\"\n";
 
-/// A folder has the name of the file that is to be written.
-fn taken(rt: &HostRuntime, room: &Room) -> io::Result<()> {
-    fs::create_dir(rt, room.folder.join(rt.alloc(), "out")?)
+/// What is said where the first line could not be flushed: nothing is done by a broken sink.
+const FAILED: &str = "alog: refused 22\nalog: a store failed\nalog: sink 0, lines: 5 turns failed\n\
+                      alog: sink 0, lines: its lines are not all in its file\n";
+
+/// The system takes no byte that is written to the file.
+fn filled(rt: &HostRuntime, room: &Room) -> io::Result<()> {
+    symlink(rt, "/dev/full", room.folder.join(rt.alloc(), "out")?)
 }
 
 #[test]
 fn a_fault_stands_behind_the_totals(rt: HostRuntime) -> io::Result<()> {
-    let room = Room::new(&rt, SMALL)?;
-    taken(&rt, &room)?;
+    let room = Room::new(&rt, FLUSHING)?;
+    filled(&rt, &room)?;
     assert!(rt; loads_to(&rt, room.places(), FOR_THREE, Said::fault(THREE, FAILED)));
     fs::remove_dir_all(&rt, room.folder.as_str())
 }
@@ -139,17 +146,35 @@ fn refuses<R: Host>(rt: &R, (file, to): (&str, &str), (front, end): (&str, &str)
     }
 }
 
-/// Whether a load is refused to a folder that is absent, and to its own file.
-fn refuses_both<R: Host>(rt: &R, file: &str, absent: &str) -> bool {
+/// Whether a load is refused to a folder that is absent, to one in which no file can be made, and to its own file.
+fn refuses_each<R: Host>(rt: &R, file: &str, absent: &str) -> bool {
     let unwritable = ("alog: no files can be written to ", ": ");
     let no_folder = ("alog: ", " is no folder\n");
-    refuses(rt, (file, absent), unwritable) && refuses(rt, (file, file), no_folder)
+    refuses(rt, (file, absent), unwritable)
+        && refuses(rt, (file, "/proc"), unwritable)
+        && refuses(rt, (file, file), no_folder)
 }
 
 #[test]
 fn a_folder_that_is_none_is_refused_at_the_start(rt: HostRuntime) -> io::Result<()> {
     let absent = rt.scratch("absent")?;
     let path = written(&rt, SMALL)?;
-    assert!(rt; refuses_both(&rt, path.as_str(), absent.as_str()));
+    assert!(rt; refuses_each(&rt, path.as_str(), absent.as_str()));
     removed(&rt, path)
+}
+
+/// A folder has the name of the file that is to be written.
+fn taken(rt: &HostRuntime, room: &Room) -> io::Result<()> {
+    fs::create_dir(rt, room.folder.join(rt.alloc(), "out")?)
+}
+
+/// What stands before and behind the name of the folder where that file cannot be written.
+const NO_FILE: (&str, &str) = ("alog: ", "/out cannot be written: ");
+
+#[test]
+fn a_file_that_is_a_folder_is_refused_at_the_start(rt: HostRuntime) -> io::Result<()> {
+    let room = Room::new(&rt, SMALL)?;
+    taken(&rt, &room)?;
+    assert!(rt; refuses(&rt, room.places(), NO_FILE));
+    fs::remove_dir_all(&rt, room.folder.as_str())
 }

@@ -202,72 +202,146 @@ fn scripts_without_a_command(rt: HostRuntime) {
     }
 }
 
-/// Scripts whose first line is refused: queues that are none, and what wants a queue.
-const FIRST_LINES: [&str; 10] = [
-    "ring 3 0\n",
-    "ring 0 0",
-    "ring 1 0",
-    "ring 131072 0",
-    "ring 2 4611686018427387904",
-    "ring 2 18446744073709551616",
-    "cells\nring 2 0",
-    "push 1 a",
-    "post 1 block a",
-    "counts",
-];
-
-/// Scripts whose second line is refused: misspelt commands, and actors in no call.
-const SECOND_LINES: [&str; 15] = [
-    "ring 2 0\nfold 1",
-    "ring 2 0\npost 1 a",
-    "ring 2 0\npost 1 drop a",
-    "ring 2 0\npost 64 block a",
-    "ring 2 0\ncounts 1",
-    "ring 2 0\npop",
-    "ring 2 0\npop 64",
-    "ring 2 0\npush 64 a",
-    "ring 2 0\npop +1",
-    "ring 2 0\npop  1",
-    "ring 2 0\npop 1 ",
-    "ring 2 0\npop 1\r\n",
-    "ring 2 0\ncells \n",
-    "ring 2 0\nstep 1",
-    "ring 2 0\nrun 1",
-];
-
-/// Scripts whose third line is refused: too few or too many steps, and actors in a call.
-const THIRD_LINES: [&str; 6] = [
-    "ring 2 0\npop 1\nstep 1 0",
-    "ring 2 0\npop 1\nstep 1 513",
-    "ring 2 0\npop 1\npush 1 a",
-    "ring 2 0\npop 1\nwork 1",
-    "ring 2 0\npop 1\npost 1 block a",
-    "ring 2 0\npost 1 block a\npop 1",
+/// Scripts of which a line is refused, and what is said of it.
+const REFUSED: [(&str, &str); 32] = [
+    // Queues that are none, and what wants a queue.
+    (
+        "ring 3 0\n",
+        "alog: refused 33 at line 1\nalog: word 2, \"3\": there may stand a power of two, 2 to 65536\n",
+    ),
+    (
+        "ring 0 0",
+        "alog: refused 33 at line 1\nalog: word 2, \"0\": there may stand a power of two, 2 to 65536\n",
+    ),
+    (
+        "ring 1 0",
+        "alog: refused 33 at line 1\nalog: word 2, \"1\": there may stand a power of two, 2 to 65536\n",
+    ),
+    (
+        "ring 131072 0",
+        "alog: refused 33 at line 1\nalog: word 2, \"131072\": there may stand a power of two, 2 to 65536\n",
+    ),
+    (
+        "ring 2 4611686018427387904",
+        "alog: refused 33 at line 1\nalog: word 3, \"4611686018427387904\": there may stand a ticket, 0 to 4611686018427387903\n",
+    ),
+    (
+        "ring 2 18446744073709551616",
+        "alog: refused 33 at line 1\nalog: word 3, \"18446744073709551616\": there may stand a ticket, 0 to 4611686018427387903\n",
+    ),
+    (
+        "cells\nring 2 0",
+        "alog: refused 33 at line 1\nalog: no queue is open: ring has to stand before\n",
+    ),
+    (
+        "push 1 a",
+        "alog: refused 33 at line 1\nalog: the actor is in a call, or no queue is open\n",
+    ),
+    (
+        "post 1 block a",
+        "alog: refused 33 at line 1\nalog: the actor is in a call, or no queue is open\n",
+    ),
+    (
+        "counts",
+        "alog: refused 33 at line 1\nalog: no queue is open: ring has to stand before\n",
+    ),
+    // Misspelt commands, and actors in no call.
+    (
+        "ring 2 0\nfold 1",
+        "alog: refused 33 at line 2\nalog: word 1, \"fold\": there may stand ring, push, pop, post, work, step, run, cells or counts\n",
+    ),
+    (
+        "ring 2 0\npost 1 a",
+        "alog: refused 33 at line 2\nalog: word 3, \"a\": there may stand block, overrun_oldest or discard_new\n",
+    ),
+    (
+        "ring 2 0\npost 1 drop a",
+        "alog: refused 33 at line 2\nalog: word 3, \"drop\": there may stand block, overrun_oldest or discard_new\n",
+    ),
+    (
+        "ring 2 0\npost 64 block a",
+        "alog: refused 33 at line 2\nalog: word 2, \"64\": there may stand an actor, 0 to 63\n",
+    ),
+    (
+        "ring 2 0\ncounts 1",
+        "alog: refused 33 at line 2\nalog: word 2, \"1\": there may stand nothing\n",
+    ),
+    (
+        "ring 2 0\npop",
+        "alog: refused 33 at line 2\nalog: word 2 is missing: there may stand an actor, 0 to 63\n",
+    ),
+    (
+        "ring 2 0\npop 64",
+        "alog: refused 33 at line 2\nalog: word 2, \"64\": there may stand an actor, 0 to 63\n",
+    ),
+    (
+        "ring 2 0\npush 64 a",
+        "alog: refused 33 at line 2\nalog: word 2, \"64\": there may stand an actor, 0 to 63\n",
+    ),
+    (
+        "ring 2 0\npop +1",
+        "alog: refused 33 at line 2\nalog: word 2, \"+1\": there may stand an actor, 0 to 63\n",
+    ),
+    (
+        "ring 2 0\npop  1",
+        "alog: refused 33 at line 2\nalog: word 2, \"\": there may stand an actor, 0 to 63\n",
+    ),
+    (
+        "ring 2 0\npop 1 ",
+        "alog: refused 33 at line 2\nalog: word 3, \"\": there may stand nothing\n",
+    ),
+    (
+        "ring 2 0\npop 1\r\n",
+        "alog: refused 33 at line 2\nalog: word 2, \"1\\r\": there may stand an actor, 0 to 63\n",
+    ),
+    (
+        "ring 2 0\ncells \n",
+        "alog: refused 33 at line 2\nalog: word 2, \"\": there may stand nothing\n",
+    ),
+    (
+        "ring 2 0\nstep 1",
+        "alog: refused 33 at line 2\nalog: the actor is in no call, or its call ends before all these steps\n",
+    ),
+    (
+        "ring 2 0\nrun 1",
+        "alog: refused 33 at line 2\nalog: the actor is in no call, or its call ends before all these steps\n",
+    ),
+    // Too few or too many steps, and actors in a call.
+    (
+        "ring 2 0\npop 1\nstep 1 0",
+        "alog: refused 33 at line 3\nalog: word 3, \"0\": there may stand a number of steps, 1 to 512\n",
+    ),
+    (
+        "ring 2 0\npop 1\nstep 1 513",
+        "alog: refused 33 at line 3\nalog: word 3, \"513\": there may stand a number of steps, 1 to 512\n",
+    ),
+    (
+        "ring 2 0\npop 1\npush 1 a",
+        "alog: refused 33 at line 3\nalog: the actor is in a call, or no queue is open\n",
+    ),
+    (
+        "ring 2 0\npop 1\nwork 1",
+        "alog: refused 33 at line 3\nalog: the actor is in a call, or no queue is open\n",
+    ),
+    (
+        "ring 2 0\npop 1\npost 1 block a",
+        "alog: refused 33 at line 3\nalog: the actor is in a call, or no queue is open\n",
+    ),
+    (
+        "ring 2 0\npost 1 block a\npop 1",
+        "alog: refused 33 at line 3\nalog: the actor is in a call, or no queue is open\n",
+    ),
+    // A second queue.
+    (
+        "\n#\nring 2 0\nring 2 0",
+        "alog: refused 33 at line 4\nalog: the queue is open: ring may stand before all other commands alone\n",
+    ),
 ];
 
 #[test]
 fn refused_lines(rt: HostRuntime) {
-    for (scripts, error) in [
-        (
-            FIRST_LINES.as_slice(),
-            "alog: refused 33 at line 1\nalog: no command of this form may stand there\n",
-        ),
-        (
-            SECOND_LINES.as_slice(),
-            "alog: refused 33 at line 2\nalog: no command of this form may stand there\n",
-        ),
-        (
-            THIRD_LINES.as_slice(),
-            "alog: refused 33 at line 3\nalog: no command of this form may stand there\n",
-        ),
-        (
-            ["\n#\nring 2 0\nring 2 0"].as_slice(),
-            "alog: refused 33 at line 4\nalog: no command of this form may stand there\n",
-        ),
-    ] {
-        for script in scripts {
-            assert!(rt; replays(&rt, script, Said::refused("", error)), "{script}");
-        }
+    for (script, error) in &REFUSED {
+        assert!(rt; replays(&rt, script, Said::refused("", error)), "{script}");
     }
 }
 
@@ -278,13 +352,13 @@ fn printed_before_a_refused_line(rt: HostRuntime) {
         (
             "ring 2 0\npush 1 a\nstep 1 6\npop 2\n",
             "1 claim 0\n1 write 0\n",
-            "alog: refused 33 at line 3\nalog: no command of this form may stand there\n",
+            "alog: refused 33 at line 3\nalog: the actor is in no call, or its call ends before all these steps\n",
         ),
         // A worker that owes its turn is in its call still, and the file is not printed.
         (
             "ring 2 0\npush 1 a\nrun 1\nwork 2\nstep 2 4\nwork 2",
             "1 claim 0\n1 write 0\n2 grab 0\n2 take 0 a\n",
-            "alog: refused 33 at line 6\nalog: no command of this form may stand there\n",
+            "alog: refused 33 at line 6\nalog: the actor is in a call, or no queue is open\n",
         ),
     ] {
         assert!(rt;
@@ -297,8 +371,8 @@ fn printed_before_a_refused_line(rt: HostRuntime) {
 #[test]
 fn long_lines(rt: HostRuntime) -> Result<(), Fail> {
     let (first, second) = (
-        "alog: refused 33 at line 1\nalog: no command of this form may stand there\n",
-        "alog: refused 33 at line 2\nalog: no command of this form may stand there\n",
+        "alog: refused 33 at line 1\nalog: the line has more than 16384 bytes\n",
+        "alog: refused 33 at line 2\nalog: the text has 2049 bytes: it may have at most 2048\n",
     );
     for (front, letters, said) in [
         ("#", 16_383, Said::done("")),
@@ -319,7 +393,7 @@ fn long_lines(rt: HostRuntime) -> Result<(), Fail> {
 fn a_line_that_is_no_text(rt: HostRuntime) {
     let said = Said::refused(
         "",
-        "alog: refused 33 at line 2\nalog: no command of this form may stand there\n",
+        "alog: refused 33 at line 2\nalog: the line is no text in UTF-8\n",
     );
     assert!(rt; says(&rt, WORDS.as_slice(), b"ring 2 0\n#\xff\n", said));
 }
@@ -336,7 +410,7 @@ fn one_byte_at_a_time(rt: HostRuntime) {
         (
             true,
             3,
-            "alog: refused 34\nalog: the script could not be read\n",
+            "alog: refused 34\nalog: the script could not be read: broken pipe\n",
         ),
     ] {
         let course = Course {
@@ -351,6 +425,9 @@ fn one_byte_at_a_time(rt: HostRuntime) {
     }
 }
 
+/// What is said where a writer takes no more.
+const FULL: &str = "alog: refused 35\nalog: the output could not be written: write zero\n";
+
 #[test]
 fn each_write_failing(rt: HostRuntime) {
     for room in 0..PRINTED.len() {
@@ -363,7 +440,8 @@ fn each_write_failing(rt: HostRuntime) {
                 room,
                 writer_fails,
             };
-            assert!(rt; ends(&rt, course, 3, UNWRITTEN), "at {room} bytes");
+            let error = if writer_fails { UNWRITTEN } else { FULL };
+            assert!(rt; ends(&rt, course, 3, error), "at {room} bytes");
         }
     }
 }

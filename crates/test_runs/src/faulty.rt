@@ -5,7 +5,8 @@ use std::io;
 use std::io::{Error, ErrorKind, Read, Write};
 
 /// What is said where a write fails.
-pub const UNWRITTEN: &str = "alog: refused 35\nalog: the output could not be written\n";
+pub const UNWRITTEN: &str =
+    "alog: refused 35\nalog: the output could not be written: broken pipe\n";
 
 /// A text of this many letters, after a front.
 pub fn long(alloc: Global, front: &str, letters: usize) -> Result<String, AllocError> {
