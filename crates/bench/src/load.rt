@@ -26,7 +26,6 @@ use alog_server::Folders;
 use alog_sink::MemStore;
 use anyhow::Result;
 use std::alloc::Global;
-use std::process::Abort;
 use std::rt::Clock;
 use std::sync::Wait;
 use std::thread::Threads;
@@ -35,17 +34,7 @@ use std::time::CpuClock;
 /// Makes the run that is asked for, over a store of its own.
 fn run_case<R>(rt: &R, case: &Case<'_>) -> Result<Run>
 where
-    R: Threads
-        + Wait
-        + Clock
-        + Abort
-        + Folders
-        + AllocGlobal
-        + Clone
-        + Drop
-        + Send
-        + Sync
-        + 'static,
+    R: Threads + Wait + Clock + Folders + AllocGlobal + Clone + Drop + Send + Sync + 'static,
 {
     let alloc = rt.alloc();
     match case.target {
@@ -65,7 +54,7 @@ fn folder<R: Folders>(rt: &R, alloc: Global, path: &str) -> Result<R::Folder> {
 /// Measures what these words ask for.
 pub fn measure<R>(rt: &R, words: &[String]) -> Result<()>
 where
-    R: Threads + Wait + Clock + Abort + CpuClock + Folders + Print + AllocGlobal,
+    R: Threads + Wait + Clock + CpuClock + Folders + Print + AllocGlobal,
     R: Clone + Drop + Send + Sync + 'static,
 {
     match words {

@@ -27,7 +27,6 @@ mod threads;
 use alog_server::Folders;
 use anyhow::Result;
 use std::env;
-use std::process::Abort;
 use std::rt::{Clock, Files};
 use std::sync::Wait;
 use std::thread::Threads;
@@ -44,7 +43,7 @@ fn main(rt: HostRuntime) -> Result<()> {
 /// Measures the part of this name as the words say.
 fn measure<R>(rt: &R, part: &str, words: &[String]) -> Result<()>
 where
-    R: Threads + Wait + Clock + Abort + CpuClock + Files + Folders + Print + AllocGlobal,
+    R: Threads + Wait + Clock + CpuClock + Files + Folders + Print + AllocGlobal,
     R: Clone + Drop + Send + Sync + 'static,
 {
     match part {

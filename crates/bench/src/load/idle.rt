@@ -5,7 +5,6 @@ use crate::load::null_store::NullStore;
 use crate::load::run::ended;
 use crate::load::start::started;
 use anyhow::Result;
-use std::process::Abort;
 use std::rt::Clock;
 use std::sync::Wait;
 use std::thread;
@@ -16,17 +15,7 @@ use std::time::{CpuClock, Duration};
 /// in which nothing is logged.
 pub fn print_idle<R>(rt: &R, workers: u32, seconds: u32) -> Result<()>
 where
-    R: Threads
-        + Wait
-        + Clock
-        + Abort
-        + CpuClock
-        + Print
-        + AllocGlobal
-        + Clone
-        + Drop
-        + Send
-        + 'static,
+    R: Threads + Wait + Clock + CpuClock + Print + AllocGlobal + Clone + Drop + Send + 'static,
 {
     let pool = started(rt, rt.alloc(), b"%v", NullStore, workers as usize)?;
     let before = rt.process_cpu_time();

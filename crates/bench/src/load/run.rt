@@ -1,5 +1,5 @@
 //! A run, and what it prints.
-ghost use Rattle.std.specs.Prelude.{◌≡◌, ◌<◌, ◌≤◌, [], All, length, vec_capacity};
+ghost use Rattle.std.specs.Prelude.{◌≡◌, ◌+◌, ◌<◌, ◌≤◌, [], All, length, vec_capacity};
 ghost use Rattle.std.specs.List.{AllByRecursion};
 ghost use Rattle.alog_pool.specs.declared.shared.Shared.{Shared};
 
@@ -10,7 +10,6 @@ use alog_pool::{Pool, Producer, Report};
 use alog_sink::Store;
 use anyhow::{Result, anyhow, ensure};
 use std::alloc::Global;
-use std::process::Abort;
 use std::rt::Clock;
 use std::sync::Wait;
 use std::thread::Threads;
@@ -35,6 +34,7 @@ fn add_tasks<S: Store + Drop + Send + 'static>(
 ) -> Result<()>
     requires room { (tasks.old.items ≡ []) × (case.now.producers ≤ vec_capacity tasks.old) }
     ensures pool { pool.new.shared ≡ pool.old.shared }
+    ensures made { pool.new.made ≡ pool.old.made + length tasks.new.items }
     ensures each { All (λ t. t.producer.shared ≡ pool.old.shared) tasks.new.items }
     ensures few { length tasks.new.items ≤ case.now.producers }
 {
@@ -75,7 +75,8 @@ fn do_by_threads<R: Threads + Wait + Clock + Sync>(rt: &R, alloc: Global, tasks:
 /// Takes the producers of tasks back, with all their times, and says whether each log was done.
 fn take_back(tasks: Vec<Task>, producers: &mut Vec<Producer>, times: &mut Vec<u64>) -> bool
     requires room { (producers.old.items ≡ []) × (length tasks.items ≤ vec_capacity producers.old) }
-    ensures { (s : Shared) → All (λ t. t.producer.shared ≡ s) tasks.items → All (λ p. p.shared ≡ s) producers.new.items }
+    ensures own { (s : Shared) → All (λ t. t.producer.shared ≡ s) tasks.items → All (λ p. p.shared ≡ s) producers.new.items }
+    ensures count { length producers.new.items ≡ length tasks.items }
 {
     let mut all = true;
     let mut rest = tasks.into_iter();
@@ -104,8 +105,9 @@ where
     S: Store + Drop + Send + 'static,
     R: Threads + Wait + Clock + Sync,
     requires some { 0 < length pool.old.shared.loggers }
-    ensures pool { pool.new.shared ≡ pool.old.shared }
-    ensures own { AllByRecursion (λ p. p.shared ≡ pool.old.shared) result.0.items }
+    requires fresh { pool.old.made ≡ 0 }
+    ensures own { AllByRecursion (λ p. p.shared ≡ pool.new.shared) result.0.items }
+    ensures all { length result.0.items ≡ pool.new.made }
 {
     let mut producers = Vec::new(alloc);
     let mut tasks = Vec::new(alloc);
@@ -135,16 +137,17 @@ fn begun(
     Ok((start?, times))
 }
 
-/// Ends the pool with its producers.
+/// Ends the pool with all its producers.
 pub fn ended<S, R>(rt: &R, pool: Pool<S>, producers: Vec<Producer>) -> Report<S>
 where
     S: Store + Drop + Send + 'static,
-    R: Threads + Wait + Clock + Abort,
+    R: Threads + Wait + Clock,
     requires own { AllByRecursion (λ p. p.shared ≡ pool.shared) producers.items }
+    requires all { length producers.items ≡ pool.made }
 {
     match pool.shutdown(rt, producers) {
         Ok(report) => report,
-        Err(_) => panic!(rt; "a producer is out"),
+        Err(_) => unreachable!(),
     }
 }
 
@@ -166,7 +169,7 @@ fn is_whole<S: Store>(report: &Report<S>, case: &Case<'_>) -> bool {
 pub fn run_on<S, R>(rt: &R, store: S, case: &Case<'_>) -> Result<Run>
 where
     S: Store + Drop + Send + 'static,
-    R: Threads + Wait + Clock + Abort + AllocGlobal + Clone + Drop + Send + Sync + 'static,
+    R: Threads + Wait + Clock + AllocGlobal + Clone + Drop + Send + Sync + 'static,
 {
     let alloc = rt.alloc();
     let mut pool = started(rt, alloc, case.pattern, store, 1)?;

@@ -87,7 +87,8 @@ pub fn started<S, R>(
 where
     S: Store + Drop + Send + 'static,
     R: Threads + Wait + Clock + Clone + Drop + Send + 'static,
-    ensures { IfOk result (λ p. length p.shared.loggers ≡ 1) }
+    ensures one { IfOk result (λ p. length p.shared.loggers ≡ 1) }
+    ensures fresh { IfOk result (λ p. p.made ≡ 0) }
 {
     let setup = setup(alloc, pattern, store, workers)?;
     Ok(Pool::start(rt, alloc, setup, OpenGate)?)
