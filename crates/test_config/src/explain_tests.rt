@@ -12,7 +12,7 @@ fn in_words(rt: &(impl Abort + AllocGlobal), document: &str, fault: ConfigFault)
 }
 
 /// What is said of a document, which is refused.
-fn told(rt: &(impl Abort + AllocGlobal), document: &str) -> String {
+pub(crate) fn told(rt: &(impl Abort + AllocGlobal), document: &str) -> String {
     match read(rt.alloc(), document.as_bytes()).err() {
         Some(fault) => in_words(rt, document, fault),
         None => panic!(rt; "not refused"),
@@ -20,7 +20,7 @@ fn told(rt: &(impl Abort + AllocGlobal), document: &str) -> String {
 }
 
 /// This is the text.
-fn is_text(rt: &impl Abort, text: &str, want: &str) {
+pub(crate) fn is_text(rt: &impl Abort, text: &str, want: &str) {
     assert!(rt; text == want, "{text}");
 }
 

@@ -4,6 +4,7 @@ use crate::sinks::{
     writes,
 };
 use alog_format::OFFSET_MAX;
+use alog_pattern::Pattern;
 use alog_sink::{FuseStore, MemStore, OpenError, Sink, SinkError, Store, StoreError, Taken};
 use std::alloc::Global;
 use std::process::Abort;
@@ -31,6 +32,35 @@ fn a_daily_sink(rt: HostRuntime) -> Result<(), Fail> {
         &[
             ("day_2024-02-29.log", "last of February\n"),
             ("day_2024-03-01.log", "first of March\nlate\n"),
+        ],
+    );
+    Ok(())
+}
+
+// The line before is the one that the sink wrote last, in whatever file it is, and a late message is one too.
+#[test]
+fn time_since_a_line_of_the_day_before(rt: HostRuntime) -> Result<(), Fail> {
+    let alloc = rt.alloc();
+    let mut face = face(alloc, 0)?;
+    face.pattern = Pattern::compile(alloc, b"%i %v", 64)?;
+    let store = MemStore::new(alloc);
+    let Ok(mut sink) = Sink::daily(alloc, face, store, "day.log", 0, 0, 0) else {
+        return Err(OpenError::OutOfMemory.into());
+    };
+    for (time, text) in [
+        (1_709_251_199_999_999_000, "a"),
+        (1_709_251_200_000_001_999, "b"),
+        (1_709_247_600_000_000_000, "late"),
+        (1_709_247_600_000_007_999, "c"),
+    ] {
+        writes(&rt, &mut sink, time, text);
+    }
+    has_only(
+        &rt,
+        sink.store(),
+        &[
+            ("day_2024-02-29.log", "0 a\n"),
+            ("day_2024-03-01.log", "2 b\n0 late\n7 c\n"),
         ],
     );
     Ok(())

@@ -408,6 +408,16 @@ fn tells_the_error(rt: HostRuntime) {
     assert!(rt; text.as_str() == "the line buffer has no room");
 }
 
+#[test]
+fn what_is_printed_of_a_line_buffer(rt: HostRuntime) {
+    let mut line = buffer(&rt, 8);
+    puts(&rt, &mut line, "abc", true, "abc");
+    let Ok(text) = format!(in rt.alloc(); "{line:?}") else {
+        panic!(rt; "no memory")
+    };
+    assert!(rt; text.as_str() == "LineBuf { len: 3, capacity: 8, .. }");
+}
+
 /// What crosses threads.
 fn crosses<T: Send + Sync>(_value: &T) {}
 

@@ -173,6 +173,35 @@ fn each_logger_has_its_level(rt: HostRuntime) {
     );
 }
 
+// The next item of the ring is a flush of this logger.
+fn takes_flush(rt: &impl Abort, ring: &Ring<Item>, pass: &mut Pass<Item>, number: u32)
+    requires { IsPassOf ring.now pass.old }
+    ensures { IsPassOf ring.now pass.new }
+{
+    assert!(rt; matches!(ring.pop_once(pass), Ok((_, Item::Flush(found))) if found == number));
+}
+
+// The largest ring but one: each logger's flush names that logger.
+#[test]
+fn flushes_of_two_loggers(rt: HostRuntime) {
+    let alloc = rt.alloc();
+    let loggers = two(&rt, alloc);
+    let (ring, mut pass) = ring_of(&rt, alloc, 32_768);
+    let (book, mut losses) = new_book(&rt, alloc);
+    let mut other = ring.split(&mut pass, 1);
+    let mut port = Port {
+        ring: &ring,
+        pass: &mut pass,
+        book: &book,
+        seat: &mut losses,
+    };
+    let flushes = (loggers.flush(&mut port, 1), loggers.flush(&mut port, 0));
+    is_outcome(&rt, &flushes.0, &posted(0));
+    is_outcome(&rt, &flushes.1, &posted(1));
+    takes_flush(&rt, &ring, &mut other, 1);
+    takes_flush(&rt, &ring, &mut other, 0);
+}
+
 // The next item of the ring is this text.
 fn takes(rt: &impl Abort, ring: &Ring<Item>, pass: &mut Pass<Item>, text: &str)
     requires { IsPassOf ring.now pass.old }

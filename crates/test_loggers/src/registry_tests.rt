@@ -8,7 +8,7 @@ use alog_registry::{
     AddError, Backtrace, BacktraceError, BacktraceItem, BacktraceReply, BacktraceScratch, Dumped,
     Loggers, RefusedSpec, Registry, SinkDeed, SinkTurn, Spec,
 };
-use std::alloc::Global;
+use std::alloc::{AllocError, Global};
 use std::process::Abort;
 use std::test::Fail;
 use std::thread::{self, Threads};
@@ -80,6 +80,8 @@ fn loggers_by_name(rt: HostRuntime) {
 
 const LONGEST: &str = "0123456789abcdef0123456789abcdef0123456789abcdef0123456789abcdef";
 
+const NEXT_TO_LONGEST: &str = "0123456789abcdef0123456789abcdef0123456789abcdef0123456789abcde";
+
 const TOO_LONG: &str = "0123456789abcdef0123456789abcdef0123456789abcdef0123456789abcdef!";
 
 #[test]
@@ -96,6 +98,8 @@ fn refusals_in_order(rt: HostRuntime) {
     finds(&rt, &registry, "db", None);
     adds(&rt, rt.alloc(), &mut registry, LONGEST, 4_096, 1);
     finds(&rt, &registry, LONGEST, Some(1));
+    adds(&rt, rt.alloc(), &mut registry, NEXT_TO_LONGEST, 4_095, 2);
+    finds(&rt, &registry, NEXT_TO_LONGEST, Some(2));
 }
 
 // The logger of this number is added, with its number as its name.
@@ -159,6 +163,30 @@ fn are_as_added(rt: &impl Abort, loggers: &Loggers) {
     };
     assert!(rt; first.level == Level::Info && first.backtrace == 2);
     assert!(rt; loggers.find("db") == Some(1) && loggers.find("b").is_none());
+}
+
+// It is printed so.
+fn is_printed(rt: &impl Abort, text: Result<String, AllocError>, wanted: &str) {
+    match text {
+        Ok(text) => assert!(rt; text.as_str() == wanted, "{text}"),
+        Err(_) => panic!(rt; "there is memory"),
+    }
+}
+
+#[test]
+fn what_is_printed_of_loggers(rt: HostRuntime) {
+    let mut registry = Registry::new(rt.alloc());
+    adds(&rt, rt.alloc(), &mut registry, "net", 2, 0);
+    sets_added(&rt, &mut registry, 0, Level::Off, true);
+    let wanted =
+        "Registry { loggers: [Logger { name: Text { kept: Short(\"net\") }, spec: Spec { level: Info, policy: Block, \
+        flush_on: Error, backtrace: 2, sinks: [3, 1] } }], levels: [Off], .. }";
+    is_printed(&rt, format!(in rt.alloc(); "{registry:?}"), wanted);
+    let loggers = frozen(&rt, rt.alloc(), registry);
+    let wanted =
+        "Loggers { loggers: [Logger { name: Text { kept: Short(\"net\") }, spec: Spec { level: Info, policy: Block, \
+        flush_on: Error, backtrace: 2, sinks: [3, 1] } }], .. }";
+    is_printed(&rt, format!(in rt.alloc(); "{loggers:?}"), wanted);
 }
 
 #[test]
@@ -298,6 +326,36 @@ fn limits_of_a_backtrace(rt: HostRuntime) -> Result<(), Fail> {
         assert!(rt; most_of(rt.alloc(), most) == wanted, "{most}");
     }
     assert!(rt; keeps_nothing(rt.alloc())?);
+    Ok(())
+}
+
+// Whether a backtrace that is to keep so many gives all of them, oldest first, of one more text than that.
+fn dumps_many(alloc: Global, most: usize) -> Result<bool, Fail> {
+    let mut backtrace = Backtrace::new(alloc, most)?;
+    for number in 0..=most {
+        let text = format!(in alloc; "{number}")?;
+        keeps(alloc, &mut backtrace, text.as_str())?;
+    }
+    let mut list = dumped(alloc, &mut backtrace)?;
+    are_numbered(alloc, &mut list, most)
+}
+
+// Whether a list has the texts 1 to this one, and nothing else.
+fn are_numbered(alloc: Global, list: &mut Dumped, most: usize) -> Result<bool, Fail> {
+    for number in 1..=most {
+        let text = format!(in alloc; "{number}")?;
+        if !is_text(list.take_oldest(), text.as_str()) {
+            return Ok(false);
+        }
+    }
+    Ok(list.is_empty())
+}
+
+#[test]
+fn large_dumps(rt: HostRuntime) -> Result<(), Fail> {
+    for most in [63, 255, 256, 4_095, 4_096] {
+        assert!(rt; dumps_many(rt.alloc(), most)?, "{most}");
+    }
     Ok(())
 }
 

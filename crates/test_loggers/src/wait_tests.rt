@@ -5,8 +5,9 @@ ghost use Rattle.alog_registry.specs.LaneKeeper.{IsSeated, HasList};
 
 use crate::log_tests::{TEXT_LIMIT, are_posted, one, posted};
 use crate::port_tests::{new_book, ring_of};
+use crate::refusal_tests::letters;
 use alog_lane::Lane;
-use alog_msg::{Item, Level, TEXT_LIMIT_MAX};
+use alog_msg::{Item, Level, MessageError, TEXT_LIMIT_MAX};
 use alog_policy::{Outcome, Policy, Port, Why};
 use alog_registry::{Backtrace, BacktraceScratch, Dumped, LaneKeeper, LogReply, Loggers};
 use std::alloc::Global;
@@ -158,4 +159,86 @@ fn logs_with_waiting(rt: HostRuntime) -> Result<(), Fail> {
     dumps_nothing(&rt, &loggers, alloc, &mut port, &mut keeper);
     log_and_dump(&rt, &loggers, alloc, &mut port, &mut keeper)?;
     dump_to_a_full_queue(&rt, &loggers, alloc, &mut port, &mut keeper)
+}
+
+// A log with waiting answers so.
+fn answers<R: Wait + Clock + Abort>(
+    rt: &R,
+    loggers: &Loggers,
+    alloc: Global,
+    port: &mut Port<'_, Item>,
+    keeper: &mut LaneKeeper<'_>,
+    level: Level,
+    text: &str,
+    wanted: Result<LogReply, MessageError>,
+)
+    requires known { 0 < length loggers.now }
+    requires fit { IsFit port.old }
+    requires seated { IsSeated keeper.old }
+    requires limit { TEXT_LIMIT_MIN ≤ keeper.old.lane.now.first.limit }
+    ensures fit { IsFit port.new }
+    ensures seated { IsSeated keeper.new × (keeper.new.lane ≡ keeper.old.lane) }
+{
+    let found = loggers.log(
+        rt, alloc, port, keeper, TEXT_LIMIT, 0, level, 0, 1, text, None,
+    );
+    assert!(rt; found == wanted);
+}
+
+// A message was below this level, and not kept.
+fn below(level: Level) -> Result<LogReply, MessageError> {
+    Ok(LogReply::Filtered { level, kept: false })
+}
+
+// A logger that keeps nothing does not look at a long text below its level, also where that was set since, and tells the level that it
+// read; a long text that is not below it is refused.
+fn looks_at_none_below<R: Wait + Clock + Abort>(
+    rt: &R,
+    bare: &Loggers,
+    alloc: Global,
+    port: &mut Port<'_, Item>,
+    keeper: &mut LaneKeeper<'_>,
+    long: &str,
+)
+    requires known { 0 < length bare.now }
+    requires fit { IsFit port.old }
+    requires seated { IsSeated keeper.old }
+    requires limit { TEXT_LIMIT_MIN ≤ keeper.old.lane.now.first.limit }
+{
+    let (info, critical) = (below(Level::Info), below(Level::Critical));
+    let refused = Err(MessageError::TextTooLong);
+    answers(rt, bare, alloc, port, keeper, Level::Debug, long, info);
+    answers(rt, bare, alloc, port, keeper, Level::Info, long, refused);
+    assert!(rt; bare.set_level(0, Level::Critical));
+    answers(rt, bare, alloc, port, keeper, Level::Error, long, critical);
+}
+
+#[test]
+fn long_texts_below_the_level(rt: HostRuntime) -> Result<(), Fail> {
+    let alloc = rt.alloc();
+    let long = letters(alloc, 65)?;
+    let mut scratch = BacktraceScratch {
+        message: None,
+        list: None,
+    };
+    let (lane, mut seat) = match Lane::new(alloc, Backtrace::new(alloc, 0)?) {
+        Ok(made) => made,
+        Err(_) => panic!(rt; "there is memory"),
+    };
+    let loggers = one(&rt, alloc, Policy::Block, 0);
+    let (ring, mut pass) = ring_of(&rt, alloc, 8);
+    let (book, mut losses) = new_book(&rt, alloc);
+    let mut port = Port {
+        ring: &ring,
+        pass: &mut pass,
+        book: &book,
+        seat: &mut losses,
+    };
+    let mut keeper = LaneKeeper {
+        lane: &lane,
+        seat: &mut seat,
+        scratch: &mut scratch,
+    };
+    looks_at_none_below(&rt, &loggers, alloc, &mut port, &mut keeper, long.as_str());
+    Ok(())
 }

@@ -118,6 +118,14 @@ fn tells_the_errors(rt: HostRuntime) -> Result<(), Fail> {
     Ok(())
 }
 
+#[test]
+fn what_is_printed_of_a_lane(rt: HostRuntime) -> Result<(), Fail> {
+    let (lane, seat) = Lane::new(rt.alloc(), Sum(0))?;
+    says(&rt, format!(in rt.alloc(); "{lane:?}"), "Lane { .. }");
+    closes(&rt, lane, seat, Sum(0));
+    Ok(())
+}
+
 // A lane that took no turn gives back the value that it was made with: its contracts say so.
 fn closed_at_once(alloc: Global, value: Sum) -> Result<Option<Sum>, AllocError>
     ensures { IfOk result (λ v. v ≡ Some value) }

@@ -181,11 +181,13 @@ fn a_lone_port_posts(rt: HostRuntime) {
         9,
         posted(2, 1),
     );
-    has_lost(&rt, &book, &mut seat, losses(1, 1));
+    let (over, third) = (Policy::OverrunOldest, posted(3, 1));
+    goes(&rt, &ring, &mut pass, &book, &mut seat, over, 10, third);
+    has_lost(&rt, &book, &mut seat, losses(2, 1));
     let (book, mut seat) = stays(&rt, book, seat);
     book.join(&mut seat, other);
-    closes(&rt, book, seat, losses(1, 1));
-    leaves(&rt, ring, pass, &[(1, 8), (2, 9)]);
+    closes(&rt, book, seat, losses(2, 1));
+    leaves(&rt, ring, pass, &[(2, 9), (3, 10)]);
 }
 
 // One post on a ring, whose losses a book counts.

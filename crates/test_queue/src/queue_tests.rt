@@ -128,6 +128,7 @@ fn sizes_and_first_tickets(rt: HostRuntime) {
         (1, Some(WorldError::BadSize)),
         (2, None),
         (3, Some(WorldError::BadSize)),
+        (32_768, None),
         (65_536, None),
         (131_072, Some(WorldError::BadSize)),
     ];

@@ -18,6 +18,7 @@ fn takes_sizes_and_first_tickets(rt: HostRuntime) {
         (3, 1 << 62, Some(NewError::BadSize)),
         (2, 1 << 62, Some(NewError::BadFirst)),
         (2, (1 << 62) - 1, None),
+        (32_768, 0, None),
         (65_536, 0, None),
     ] {
         assert!(rt; Ring::<u64>::new(rt.alloc(), places, first).err() == refused);

@@ -1,6 +1,7 @@
 //! Sinks whose store fails: what they answer then and from then on, and what their files have.
 use crate::sinks::{
-    Deed, Fused, Kept, Named, Plan, Row, answered, fan_of_two, has_just, members_leave, store_of,
+    Answer, Deed, Fused, Kept, Named, Plan, Row, answered, fan_of_two, has_just, members_leave,
+    store_of,
 };
 use crate::stores::{Marking, Noting};
 use alog_msg::Level;
@@ -141,40 +142,198 @@ const ROTATIONS: [Fault<'_>; 6] = [
     ),
 ];
 
+/// How four texts and a flush end where the text of this number is the first that is not written.
+const FIRST_OF_FOUR: &[Deed<'_>] = &[
+    Deed::Fails("aaaaa"),
+    Deed::IsBroken("bbbbb"),
+    Deed::IsBroken("ccccc"),
+    Deed::IsBroken("ddddd"),
+    Deed::Flushes(Err(SinkError::Broken)),
+];
+
+const SECOND_OF_FOUR: &[Deed<'_>] = &[
+    Deed::Writes("aaaaa"),
+    Deed::Fails("bbbbb"),
+    Deed::IsBroken("ccccc"),
+    Deed::IsBroken("ddddd"),
+    Deed::Flushes(Err(SinkError::Broken)),
+];
+
+const THIRD_OF_FOUR: &[Deed<'_>] = &[
+    Deed::Writes("aaaaa"),
+    Deed::Writes("bbbbb"),
+    Deed::Fails("ccccc"),
+    Deed::IsBroken("ddddd"),
+    Deed::Flushes(Err(SinkError::Broken)),
+];
+
+const LAST_OF_FOUR: &[Deed<'_>] = &[
+    Deed::Writes("aaaaa"),
+    Deed::Writes("bbbbb"),
+    Deed::Writes("ccccc"),
+    Deed::Fails("ddddd"),
+    Deed::Flushes(Err(SinkError::Broken)),
+];
+
+const FLUSH_OF_FOUR: &[Deed<'_>] = &[
+    Deed::Writes("aaaaa"),
+    Deed::Writes("bbbbb"),
+    Deed::Writes("ccccc"),
+    Deed::Writes("ddddd"),
+    Deed::Flushes(Err(SinkError::Store)),
+];
+
+const NONE_OF_FOUR: &[Deed<'_>] = &[
+    Deed::Writes("aaaaa"),
+    Deed::Writes("bbbbb"),
+    Deed::Writes("ccccc"),
+    Deed::Writes("ddddd"),
+    Deed::Flushes(Ok(())),
+];
+
+/// What the four texts leave where no call before the flush fails.
+const FOUR: Named<'_> = &[
+    ("log.txt", b"ddddd\n"),
+    ("log.1.txt", b"ccccc\n"),
+    ("log.2.txt", b"bbbbb\n"),
+];
+
+/// Each call behind the one that opens, of four texts over two further files: a file that makes way is first in the second place, and
+/// nothing is in the first until the next call.
+const CALLS_OF_FOUR: [Fault<'_>; 12] = [
+    (1, 2, FIRST_OF_FOUR, &[("log.txt", b"aa")]),
+    (2, 2, SECOND_OF_FOUR, &[("log.txt", b"aaaaa\n")]),
+    (3, 2, SECOND_OF_FOUR, &[("log.txt", b"aaaaa\n")]),
+    (
+        4,
+        2,
+        SECOND_OF_FOUR,
+        &[("log.txt", b"bb"), ("log.1.txt", b"aaaaa\n")],
+    ),
+    (
+        5,
+        2,
+        THIRD_OF_FOUR,
+        &[("log.txt", b"bbbbb\n"), ("log.1.txt", b"aaaaa\n")],
+    ),
+    (
+        6,
+        0,
+        THIRD_OF_FOUR,
+        &[("log.txt", b"bbbbb\n"), ("log.2.txt", b"aaaaa\n")],
+    ),
+    (
+        7,
+        2,
+        THIRD_OF_FOUR,
+        &[
+            ("log.txt", b"cc"),
+            ("log.1.txt", b"bbbbb\n"),
+            ("log.2.txt", b"aaaaa\n"),
+        ],
+    ),
+    (
+        8,
+        2,
+        LAST_OF_FOUR,
+        &[
+            ("log.txt", b"ccccc\n"),
+            ("log.1.txt", b"bbbbb\n"),
+            ("log.2.txt", b"aaaaa\n"),
+        ],
+    ),
+    (
+        9,
+        2,
+        LAST_OF_FOUR,
+        &[("log.txt", b"ccccc\n"), ("log.2.txt", b"bbbbb\n")],
+    ),
+    (
+        10,
+        2,
+        LAST_OF_FOUR,
+        &[
+            ("log.txt", b"dd"),
+            ("log.1.txt", b"ccccc\n"),
+            ("log.2.txt", b"bbbbb\n"),
+        ],
+    ),
+    (11, 2, FLUSH_OF_FOUR, FOUR),
+    (12, 2, NONE_OF_FOUR, FOUR),
+];
+
 #[test]
 fn rotating_sinks_whose_store_fails(rt: HostRuntime) -> Result<(), Fail> {
-    for (i, fault) in ROTATIONS.iter().enumerate() {
-        let plan = Plan::rotating("log", 10, 1);
-        assert!(rt; holds(rt.alloc(), plan, *fault)?, "row {i}");
+    let (one, two) = (
+        Plan::rotating("log", 10, 1),
+        Plan::rotating("log.txt", 10, 2),
+    );
+    for (plan, faults) in [(one, &ROTATIONS[..]), (two, &CALLS_OF_FOUR[..])] {
+        for (i, fault) in faults.iter().enumerate() {
+            assert!(rt; holds(rt.alloc(), plan, *fault)?, "{}, row {i}", plan.file);
+        }
     }
     Ok(())
 }
 
-/// A fan of two members whose stores fail after so many calls, one of them after the first, and what each leaves.
-const FANS: [(u64, u64, [Named<'_>; 2]); 3] = [
-    (1, 9, [&[("log", b"a\n")], &[("log", b"a\nb\nc\n")]]),
-    (9, 1, [&[("log", b"a\nb\nc\n")], &[("log", b"a\n")]]),
-    (1, 1, [&[("log", b"a\n")], &[("log", b"a\n")]]),
+/// The texts of a fan, of level error, which each of its two members writes by one call, and what a member has that wrote so many.
+const TEXTS: [&str; 3] = ["a", "b", "c"];
+
+const LINES: [Named<'_>; 4] = [
+    &[("log", b"")],
+    &[("log", b"a\n")],
+    &[("log", b"a\nb\n")],
+    &[("log", b"a\nb\nc\n")],
 ];
 
-const ERRORS: [Deed<'_>; 4] = [
-    Deed::Gives(Level::Error, "a", Ok(Taken::Written)),
-    Deed::Gives(Level::Error, "b", Err(SinkError::Store)),
-    Deed::Gives(Level::Error, "c", Err(SinkError::Broken)),
-    Deed::Flushes(Err(SinkError::Broken)),
-];
+/// What a member answers at its call of this number whose store fails at that one.
+fn answer_at(call: usize, fails: usize) -> Answer {
+    if call < fails {
+        Ok(Taken::Written)
+    } else if call == fails {
+        Err(SinkError::Store)
+    } else {
+        Err(SinkError::Broken)
+    }
+}
 
-/// Whether the members of a fan whose stores fail after so many calls leave these files.
-fn of_fan(alloc: Global, one: u64, two: u64, files: &[Named<'_>]) -> Result<bool, Fail> {
-    let mut fan = fan_of_two(alloc, fuse(alloc, one, 0), fuse(alloc, two, 0))?;
-    let count = answered(alloc, &mut fan, &ERRORS)?;
-    Ok(count == ERRORS.len() && members_leave(&fan, files))
+/// What a fan answers whose members' stores fail at these calls: the first fault.
+fn first_at(call: usize, one: usize, two: usize) -> Answer {
+    answer_at(call, one)?;
+    answer_at(call, two)
+}
+
+/// The first call of a fan of two members that is not answered so, of three texts and a flush, and whether each member has the lines
+/// before its own fault.
+fn called(alloc: Global, one: usize, two: usize) -> Result<(Option<usize>, bool), Fail> {
+    let mut fan = fan_of_two(
+        alloc,
+        fuse(alloc, one as u64, 0),
+        fuse(alloc, two as u64, 0),
+    )?;
+    let mut deeds = [Deed::Flushes(first_at(3, one, two).map(|_| ())); 4];
+    for (i, text) in TEXTS.iter().enumerate() {
+        deeds[i] = Deed::Gives(Level::Error, text, first_at(i, one, two));
+    }
+    let count = answered(alloc, &mut fan, &deeds)?;
+    let wrong = if count < deeds.len() {
+        Some(count)
+    } else {
+        None
+    };
+    Ok((
+        wrong,
+        members_leave(&fan, &[LINES[one.min(3)], LINES[two.min(3)]]),
+    ))
 }
 
 #[test]
-fn a_fan_with_a_fault(rt: HostRuntime) -> Result<(), Fail> {
-    for (one, two, files) in &FANS {
-        assert!(rt; of_fan(rt.alloc(), *one, *two, files)?, "{one}, {two}");
+fn each_call_of_a_fan_failing(rt: HostRuntime) -> Result<(), Fail> {
+    for one in 0..5 {
+        for two in 0..5 {
+            let found = called(rt.alloc(), one, two)?;
+            assert!(rt; found == (None, true), "{one}, {two}: {found:?}");
+        }
     }
     Ok(())
 }

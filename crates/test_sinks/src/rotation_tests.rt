@@ -98,6 +98,36 @@ const LEAVES: [Leaves<'_>; 10] = [
     ),
 ];
 
+/// A name of 64 bytes, and the first and the last of a thousand further files.
+const LONGEST: &str = "0123456789abcdef0123456789abcdef0123456789abcdef0123456789ab.txt";
+
+const FIRST_OF_LONGEST: &str = "0123456789abcdef0123456789abcdef0123456789abcdef0123456789ab.1.txt";
+
+const LAST_OF_LONGEST: &str =
+    "0123456789abcdef0123456789abcdef0123456789abcdef0123456789ab.1000.txt";
+
+/// Whether a sink with that name and a thousand further files is opened over a base and the last file but one, and rotates.
+fn rotates_the_longest(alloc: Global) -> Result<bool, Fail> {
+    let next_to_last = "0123456789abcdef0123456789abcdef0123456789abcdef0123456789ab.999.txt";
+    let store = store_of(alloc, &[(LONGEST, b"base"), (next_to_last, b"old")])?;
+    let row = Row {
+        plan: Plan::rotating(LONGEST, 10, 1_000),
+        deeds: &[Deed::Writes("aaaaaaa")],
+        files: &[
+            (LONGEST, b"aaaaaaa\n"),
+            (FIRST_OF_LONGEST, b"base"),
+            (LAST_OF_LONGEST, b"old"),
+        ],
+    };
+    row.holds(alloc, store)
+}
+
+#[test]
+fn a_thousand_files_with_the_longest_name(rt: HostRuntime) -> Result<(), Fail> {
+    assert!(rt; rotates_the_longest(rt.alloc())?);
+    Ok(())
+}
+
 /// Whether a row holds.
 fn holds(alloc: Global, row: Leaves<'_>) -> Result<bool, Fail> {
     let (opening, max_files, deeds, files) = row;

@@ -160,7 +160,41 @@ const ASIDE: Row<'_> = Row {
     count: 1,
 };
 
-const ROWS: [Row<'_>; 5] = [BUFFERS, AGAIN, OPEN, ABSENT, ASIDE];
+/// Three names of 64 bytes that differ in their last byte or their first one.
+const LONG: &str = "0123456789abcdef0123456789abcdef0123456789abcdef0123456789abcdef";
+
+const LONG_END: &str = "0123456789abcdef0123456789abcdef0123456789abcdef0123456789abcdeg";
+
+const LONG_FRONT: &str = "1123456789abcdef0123456789abcdef0123456789abcdef0123456789abcdef";
+
+/// Files with long names are open beside one another, and each is flushed, renamed and removed alone.
+const LONG_NAMES: Row<'_> = Row {
+    name: "long",
+    before: &[],
+    sessions: &[&[
+        Step::Calls(Call::Appends(LONG, b"one\n", true)),
+        Step::Calls(Call::Appends(LONG_END, b"two\n", true)),
+        Step::Calls(Call::Appends(LONG_FRONT, b"three\n", true)),
+        Step::HasOpen(3),
+        Step::Calls(Call::Flushes(LONG_END, true)),
+        Step::Has(LONG, Some(b"")),
+        Step::Has(LONG_END, Some(b"two\n")),
+        Step::Has(LONG_FRONT, Some(b"")),
+        Step::Calls(Call::Removes(LONG_END, true)),
+        Step::HasOpen(2),
+        Step::Calls(Call::Appends(LONG, b"four\n", true)),
+        Step::Calls(Call::Renames(LONG_FRONT, LONG_END, true)),
+        Step::HasOpen(1),
+    ]],
+    after: &[
+        (LONG, Some(b"one\nfour\n")),
+        (LONG_END, Some(b"three\n")),
+        (LONG_FRONT, None),
+    ],
+    count: 2,
+};
+
+const ROWS: [Row<'_>; 6] = [BUFFERS, AGAIN, OPEN, ABSENT, ASIDE, LONG_NAMES];
 
 #[test]
 fn files_that_are_left(rt: HostRuntime) -> Result<(), Fail> {

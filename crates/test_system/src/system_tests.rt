@@ -166,6 +166,44 @@ name = \"net\"
 sinks = [\"out\"]
 ";
 
+const TWO: &str = "queue = 32768
+[[sink]]
+name = \"out\"
+kind = \"memory\"
+pattern = \"%n %L %v\"
+[[logger]]
+name = \"net\"
+sinks = [\"out\"]
+[[logger]]
+name = \"db\"
+sinks = [\"out\"]
+backtrace = 4096
+";
+
+// A log of the second logger.
+fn of_second(level: Level, text: &str) -> Deed<'_> {
+    Deed::Log {
+        time: 0,
+        logger: 1,
+        level,
+        text,
+    }
+}
+
+#[test]
+fn the_last_actor_and_the_second_logger(rt: HostRuntime) {
+    let mut it = Trial::of_a_configuration(&rt, TWO);
+    it.finds(&rt, "db", 1);
+    let flushed = " 63 claim 0; 63 write 0; 63 posted 0 overran 0;";
+    it.tells(&rt, 63, Deed::Flush { logger: 1 }, flushed);
+    let logged = " 63 claim 1; 63 write 1; 63 posted 1 overran 0; 63 kept;";
+    it.tells(&rt, 63, of_second(Level::Info, "x"), logged);
+    let worked = " 63 grab 0; 63 take 0 flush 1; 63 flush 0 0;";
+    it.tells(&rt, 63, Deed::Work, worked);
+    it.does(&rt, 62, Deed::Work);
+    it.file_is(&rt, b"db I x\n");
+}
+
 #[test]
 fn of_a_configuration(rt: HostRuntime) {
     let mut it = Trial::of_a_configuration(&rt, ONE);

@@ -1,0 +1,13 @@
+//! The limits of a configuration, and of what is built of one, by their numbers.
+ghost use Rattle.std.specs.Prelude.{◌≡◌};
+ghost use Rattle.alog_config.specs.declared.TheConstants.{NAMES_MAX, TABLES_MAX};
+ghost use Rattle.alog_registry.specs.declared.TheConstants.{KEPT_MAX, LOGGERS_MAX};
+
+/// An array has at most 256 tables, and a list of sinks 16 names; there are at most 256 loggers, and a backtrace keeps at most 4,096
+/// messages. It does nothing: its contract is the law, and a changed constant breaks it.
+pub fn limits_of_configurations()
+    ensures tables { TABLES_MAX ≡ 256 }
+    ensures names { NAMES_MAX ≡ 16 }
+    ensures loggers { LOGGERS_MAX ≡ 256 }
+    ensures kept { KEPT_MAX ≡ 4096 }
+{}
