@@ -181,6 +181,12 @@ def badly_laid_out(crates):
     return faults
 
 
+def aborting(crates):
+    """Returns what is said of each crate, but those of tests, that names the handle by which a function may end the process: the gate refuses it."""
+    files = (it for crate in crates if not os.path.basename(crate).startswith("test_") for it in glob.glob(f"{crate}/src/**/*.rt", recursive=True))
+    return [f"{it} names Abort, which tests alone may have" for it in files if re.search(r"\bAbort\b", text_of(it))]
+
+
 def text_of(file):
     with open(file, encoding="utf-8") as it:
         return it.read()
@@ -195,7 +201,7 @@ def applies():
     crates = sorted(glob.glob("crates/*"))
     counts = [(crate, len(edits_in(f"{crate}/must-fail"))) for crate in crates]
     many = [f"{crate}/must-fail has {count} edits: at most {MOST_EDITS} stand there, the others in {crate}/wrong" for crate, count in counts if count > MOST_EDITS]
-    return tell(many + stale(crates) + badly_laid_out(crates) + untested())
+    return tell(many + stale(crates) + badly_laid_out(crates) + aborting(crates) + untested())
 
 
 def one_by_one(crate, room, edits):
