@@ -12,7 +12,7 @@ use std::process::Abort;
 use std::test::Fail;
 
 // So many letters.
-pub(crate) fn letters(alloc: Global, count: usize) -> Result<String, Fail> {
+fn letters(alloc: Global, count: usize) -> Result<String, Fail> {
     let mut text = String::new(alloc);
     for _ in 0..count {
         text.push('a')?;

@@ -5,7 +5,6 @@ ghost use Rattle.alog_registry.specs.LaneKeeper.{IsSeated, HasList};
 
 use crate::log_tests::{TEXT_LIMIT, are_posted, one, posted};
 use crate::port_tests::{new_book, ring_of};
-use crate::refusal_tests::letters;
 use alog_lane::Lane;
 use alog_msg::{Item, Level, MessageError, TEXT_LIMIT_MAX};
 use alog_policy::{Outcome, Policy, Port, Why};
@@ -185,6 +184,9 @@ fn answers<R: Wait + Clock + Abort>(
     assert!(rt; found == wanted);
 }
 
+/// A text of 65 bytes, where 64 are the most.
+const LONG: &str = "0123456789abcdef0123456789abcdef0123456789abcdef0123456789abcdef!";
+
 // A message was below this level, and not kept.
 fn below(level: Level) -> Result<LogReply, MessageError> {
     Ok(LogReply::Filtered { level, kept: false })
@@ -213,32 +215,52 @@ fn looks_at_none_below<R: Wait + Clock + Abort>(
     answers(rt, bare, alloc, port, keeper, Level::Error, long, critical);
 }
 
-#[test]
-fn long_texts_below_the_level(rt: HostRuntime) -> Result<(), Fail> {
-    let alloc = rt.alloc();
-    let long = letters(alloc, 65)?;
-    let mut scratch = BacktraceScratch {
-        message: None,
-        list: None,
-    };
-    let (lane, mut seat) = match Lane::new(alloc, Backtrace::new(alloc, 0)?) {
-        Ok(made) => made,
-        Err(_) => panic!(rt; "there is memory"),
-    };
-    let loggers = one(&rt, alloc, Policy::Block, 0);
-    let (ring, mut pass) = ring_of(&rt, alloc, 8);
-    let (book, mut losses) = new_book(&rt, alloc);
+// The same on a new ring.
+fn below_on_a_ring<R: Wait + Clock + Abort>(
+    rt: &R,
+    bare: &Loggers,
+    alloc: Global,
+    keeper: &mut LaneKeeper<'_>,
+)
+    requires known { 0 < length bare.now }
+    requires seated { IsSeated keeper.old }
+    requires limit { TEXT_LIMIT_MIN ≤ keeper.old.lane.now.first.limit }
+{
+    let (ring, mut pass) = ring_of(rt, alloc, 8);
+    let (book, mut losses) = new_book(rt, alloc);
     let mut port = Port {
         ring: &ring,
         pass: &mut pass,
         book: &book,
         seat: &mut losses,
     };
+    looks_at_none_below(rt, bare, alloc, &mut port, keeper, LONG);
+}
+
+// And with a new backtrace that keeps nothing.
+fn below_on_a_lane<R: Wait + Clock + Abort>(rt: &R, bare: &Loggers, alloc: Global)
+    requires { 0 < length bare.now }
+{
+    let Ok(none) = Backtrace::new(alloc, 0) else {
+        panic!(rt; "there is memory")
+    };
+    let Ok((lane, mut seat)) = Lane::new(alloc, none) else {
+        panic!(rt; "there is memory")
+    };
+    let mut scratch = BacktraceScratch {
+        message: None,
+        list: None,
+    };
     let mut keeper = LaneKeeper {
         lane: &lane,
         seat: &mut seat,
         scratch: &mut scratch,
     };
-    looks_at_none_below(&rt, &loggers, alloc, &mut port, &mut keeper, long.as_str());
-    Ok(())
+    below_on_a_ring(rt, bare, alloc, &mut keeper);
+}
+
+#[test]
+fn long_texts_below_the_level(rt: HostRuntime) {
+    let bare = one(&rt, rt.alloc(), Policy::Block, 0);
+    below_on_a_lane(&rt, &bare, rt.alloc());
 }
