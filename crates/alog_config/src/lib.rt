@@ -42,7 +42,7 @@ pub use explaining::explain;
 pub use fault::{ConfigFault, Place, RULES, Rule};
 pub use names::NameList;
 pub use reading::read;
-pub use sinks::leaves;
+pub use sinks::{is_member, leaves};
 
 /// There are no more sinks than this, and no more loggers.
 pub const TABLES_MAX: usize = 256;

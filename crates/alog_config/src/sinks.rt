@@ -52,8 +52,9 @@ fn is_fan_name(sinks: &[SinkConfig], name: &str) -> bool
         .any(|sink| sink.is_fan() && sink.name.as_str() == name)
 }
 
-/// Whether a fan has the sink of this name as a member.
-pub(crate) fn is_member(sinks: &[SinkConfig], name: &str) -> bool
+/// Whether a fan among these has the sink of this name as a member: such a sink is no sink of its own for loggers. The test
+/// `leaves_of_sinks` of `test_config` shows it.
+pub fn is_member(sinks: &[SinkConfig], name: &str) -> bool
     ensures { IsTrue result ↔ IsMember sinks.now name.now }
 {
     sinks.iter().any(|sink| sink.has_member(name))

@@ -1,11 +1,9 @@
 //! What is wrong with a line of a script that is refused, in words.
 use alog_config::Config;
-use alog_core::TICKET_END;
+use alog_core::{ACTORS, TICKET_END};
 use alog_msg::{DEFAULT_TEXT_LIMIT, Level};
+use alog_replay::{SCRIPT_LINE_MAX, STEPS_MAX};
 use std::alloc::{AllocError, Global};
-
-/// The most bytes of a line.
-const LINE_MAX: usize = 16_384;
 
 /// A word of a command.
 #[derive(Clone, Copy, PartialEq, Eq, Drop)]
@@ -123,8 +121,8 @@ impl Word {
         match self {
             Word::Size => is_size(text),
             Word::Ticket => is_number(text, 0, TICKET_END - 1),
-            Word::Actor => is_number(text, 0, 63),
-            Word::Count => is_number(text, 1, 512),
+            Word::Actor => is_number(text, 0, ACTORS as u64 - 1),
+            Word::Count => is_number(text, 1, u64::from(STEPS_MAX)),
             Word::Time => is_time(text),
             Word::Policy => matches!(text, "block" | "overrun_oldest" | "discard_new"),
             Word::Logger => is_logger(config, text),
@@ -156,7 +154,7 @@ pub(crate) fn why_refused(
     line: &[u8],
     config: Option<&Config>,
 ) -> Result<String, AllocError> {
-    if line.len() > LINE_MAX {
+    if line.len() > SCRIPT_LINE_MAX {
         return String::from_str(alloc, "the line has more than 16384 bytes");
     }
     let Ok(line) = str::from_utf8(line) else {
@@ -189,7 +187,7 @@ fn first_wrong(
         let number = i.saturating_add(2);
         let Some(text) = rest else {
             if matches!(word, Word::Text | Word::Count) {
-                return wrong_state(alloc, name);
+                return wrong_state(alloc, name, config.is_some());
             }
             let allowed = word.allowed();
             return format!(in alloc; "word {number} is missing: there may stand {allowed}");
@@ -205,7 +203,7 @@ fn first_wrong(
     }
     match rest {
         Some(more) => wrong_word(alloc, form.len().saturating_add(2), more, "nothing"),
-        None => wrong_state(alloc, name),
+        None => wrong_state(alloc, name, config.is_some()),
     }
 }
 
@@ -256,15 +254,16 @@ fn wrong_text(
         let len = text.len();
         return format!(in alloc; "the text has {len} bytes: it may have at most {limit}");
     }
-    wrong_state(alloc, name)
+    wrong_state(alloc, name, config.is_some())
 }
 
 /// That a command whose words may stand there comes at a wrong time.
-fn wrong_state(alloc: Global, name: &str) -> Result<String, AllocError> {
+fn wrong_state(alloc: Global, name: &str, is_configured: bool) -> Result<String, AllocError> {
     let why = match name {
+        "step" | "run" => "the actor is in no call, or its call ends before all these steps",
+        _ if is_configured => "the actor is in a call",
         "ring" => "the queue is open: ring may stand before all other commands alone",
         "cells" | "counts" => "no queue is open: ring has to stand before",
-        "step" | "run" => "the actor is in no call, or its call ends before all these steps",
         _ => "the actor is in a call, or no queue is open",
     };
     String::from_str(alloc, why)

@@ -1,5 +1,5 @@
 //! The sinks of a configuration by number, and whether their files can be written.
-use alog_config::{Config, SinkKind, Upkeep};
+use alog_config::{Config, SinkKind, Upkeep, is_member};
 use std::fs::{self, OpenOptions};
 use std::io;
 use std::io::{ErrorKind, Write};
@@ -13,7 +13,7 @@ const PROBE: &str = ".probe.replaced";
 pub(crate) fn sink_name(config: &Config, number: usize) -> &str {
     let mut left = number;
     for sink in &config.sinks {
-        if is_member(config, sink.name.as_str()) {
+        if is_member(config.sinks.as_slice(), sink.name.as_str()) {
             continue;
         }
         if left == 0 {
@@ -22,14 +22,6 @@ pub(crate) fn sink_name(config: &Config, number: usize) -> &str {
         left = left.saturating_sub(1);
     }
     ""
-}
-
-/// Whether the sink of this name is a member of a fan.
-fn is_member(config: &Config, name: &str) -> bool {
-    config.sinks.iter().any(|sink| match &sink.kind {
-        SinkKind::Fan { of } => of.contains(name),
-        SinkKind::Lines { .. } => false,
-    })
 }
 
 /// Whether the system refuses a new file in this folder, or to append to a file of a sink that is there, which is said then. The files

@@ -42,6 +42,7 @@ pub use command::{Act, Actor, TextRef};
 pub use configured::Configured;
 pub use entry::{one_command, one_entry};
 pub use error::{LineError, ReplayError};
+pub use limits::{SCRIPT_LINE_MAX, STEPS_MAX};
 pub use of_config::replay_config;
 pub use places::Place;
 pub use player::{one_text, play, replay, tells_something};

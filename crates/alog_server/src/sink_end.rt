@@ -1,11 +1,11 @@
 //! What a run tells of each sink.
-ghost use Rattle.std.specs.Prelude.{◌≡◌, ◌↔◌, ◌<◌, None, IfOk, IfSome, IsTrue, OnOk, length, vec_capacity, vec_len};
+ghost use Rattle.std.specs.Prelude.{◌≡◌, ◌↔◌, ◌<◌, None, IfOk, IfSome, OnOk, length, vec_capacity, vec_len};
 ghost use Rattle.std.specs.List.{Any};
 ghost use Rattle.alog_config.specs.Built.{EachIs};
-ghost use Rattle.alog_config.specs.Sinks.{HasMember, IsMember};
+ghost use Rattle.alog_config.specs.Sinks.{IsMember};
 ghost use Rattle.alog_server.specs.SinkEnds.{AreFilesOf, AreWithFaults, HasLines, IsEndOf, IsFileOf, LacksLines, TellsNext, TellsSinks};
 
-use alog_config::{Config, NameList, SinkConfig, SinkKind};
+use alog_config::{Config, NameList, SinkConfig, SinkKind, is_member};
 use alog_msg::Text;
 use std::alloc::{AllocError, Global};
 
@@ -65,23 +65,6 @@ fn add(
     let end = SinkEnd::of(alloc, sinks, sink)?;
     ends.push_reserved(end);
     Ok(())
-}
-
-/// Whether a fan has the sink of this name as a member.
-fn is_member(sinks: &[SinkConfig], name: &str) -> bool
-    ensures { IsTrue result ↔ IsMember sinks.now name.now }
-{
-    sinks.iter().any(|sink| has_member(sink, name))
-}
-
-/// Whether it is a fan that has the sink of this name as a member.
-fn has_member(sink: &SinkConfig, name: &str) -> bool
-    ensures { IsTrue result ↔ HasMember name.now sink.now }
-{
-    match &sink.kind {
-        SinkKind::Lines { .. } => false,
-        SinkKind::Fan { of } => of.contains(name),
-    }
 }
 
 /// The files of a sink of this kind among these.

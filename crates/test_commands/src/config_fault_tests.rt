@@ -5,8 +5,7 @@ use test_runs::{Host, SHORT, SMALL, Said, long, replays_with, says};
 const LONG: &str =
     "alog: refused 33 at line 1\nalog: the text has 65 bytes: it may have at most 64\n";
 
-const IN_A_CALL: &str =
-    "alog: refused 33 at line 2\nalog: the actor is in a call, or no queue is open\n";
+const IN_A_CALL: &str = "alog: refused 33 at line 2\nalog: the actor is in a call\n";
 
 const IN_NO_CALL: &str =
     "alog: refused 33 at line 2\nalog: the actor is in no call, or its call ends before all these steps\n";

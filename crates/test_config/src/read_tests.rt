@@ -1,7 +1,8 @@
 //! Worked configurations and refusals, and the order of rules and places.
 use crate::documents::{LOGGER, SINK, config, gives, outcome};
 use alog_config::{
-    Config, ConfigFault, NameList, Place, RULES, Rule, SinkConfig, SinkKind, Upkeep, leaves,
+    Config, ConfigFault, NameList, Place, RULES, Rule, SinkConfig, SinkKind, Upkeep, is_member,
+    leaves,
 };
 use alog_format::Zone;
 use alog_msg::Level;
@@ -390,9 +391,18 @@ fn needs(rt: &(impl Abort + AllocGlobal), parts: &[&str], stores: usize) {
     assert_eq!(rt; needed, stores);
 }
 
+/// Of the sinks of all kinds those two alone that the fan has are members, and no other name is one.
+fn has_two_members(rt: &(impl Abort + AllocGlobal)) {
+    let config = config(rt, &[ALL_SINKS]);
+    let sinks = config.sinks.as_slice();
+    assert!(rt; is_member(sinks, "d") && is_member(sinks, "r"));
+    assert!(rt; !is_member(sinks, "e") && !is_member(sinks, "both") && !is_member(sinks, ""));
+}
+
 #[test]
 fn leaves_of_sinks(rt: HostRuntime) {
     needs(&rt, &[ALL_SINKS], 3);
     needs(&rt, &[SINK, LOGGER], 1);
     has_out_alone(&rt, &one_name(&rt, "out"));
+    has_two_members(&rt);
 }
