@@ -24,6 +24,9 @@ pub(crate) const DISCARDED: usize = 32;
 
 const WORDS: usize = 48;
 
+// They lie so far apart: a changed constant is refused here.
+const _: () = prove!(OVERRUN >= 16 && DISCARDED - OVERRUN >= 16 && WORDS - DISCARDED >= 16);
+
 /// Losses, counted by any number of threads. The tests `counts_losses` and `two_threads_add` show it.
 #[derive(Drop)]
 pub struct LossBook {

@@ -13,3 +13,10 @@ pub(crate) const FRONT: usize = 4 * APART;
 
 /// The word of the first place's sequence. Those of the further places follow, each `APART` words on.
 pub(crate) const SEQUENCES: usize = 6 * APART;
+
+// A line has 64 bytes, and the words lie two lines apart that shall: a changed constant is refused here.
+const _: () = prove!(APART * size_of::<u64>() == 64);
+
+const _: () = prove!(
+    NEXT >= 2 * APART && FRONT - NEXT >= 2 * APART && SEQUENCES - FRONT >= 2 * APART
+);
