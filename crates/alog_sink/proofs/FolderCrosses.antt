@@ -3,6 +3,8 @@ use denote.RattleType.{RattleType}
 use denote.Param.Send.{IsSend, sendable, struct_send, recorded_send}
 use denote.Struct.Declared.{shape}
 use Rattle.std.proofs.Crossing.{crosses, Vec-send}
+use Rattle.std.specs.contracts.io.Error as Error
+use Rattle.std.specs.contracts.option.Option as Option
 use Rattle.alog_sink.proofs.Crosses.{sink_send}
 use Rattle.alog_sink.specs.contracts.folder_store.FolderStore as FolderStore
 use Rattle.alog_sink.specs.contracts.folder_store.Folder as Folder
@@ -15,9 +17,16 @@ kept_send F f = search (sendable, crosses, Vec-send) depth 20
 folder_send : (R F D : RattleType) → IsSend R → IsSend F → IsSend (Folder.the_field R F D).row
 folder_send R F D r f = search (sendable, crosses, Vec-send, kept_send) depth 20
 
+error_send : IsSend Error.the_row
+error_send = recorded_send Error.the_field.row _ _ Error.the_type.to_one (struct_send (shape Error.the_type)
+    (search sendable, (search sendable, (search sendable, (search sendable, (search sendable depth 60, tt))))))
+
+reason_send : IsSend (Option.the_field Error.the_row).row
+reason_send = search (sendable, error_send) depth 20
+
 pub folder_store_send : (R F D : RattleType) → IsSend R → IsSend F → IsSend (FolderStore.the_row R F D)
 folder_store_send R F D r f = recorded_send (FolderStore.the_field R F D).row _ _ (FolderStore.the_type R F D).to_one (struct_send
-    (shape (FolderStore.the_type R F D)) (folder_send R F D r f, (search sendable, tt)))
+    (shape (FolderStore.the_type R F D)) (folder_send R F D r f, (search sendable, (reason_send, tt))))
 
 pub folder_sink_send : (R F D : RattleType) → IsSend R → IsSend F → IsSend (Sink.the_row (FolderStore.the_row R F D))
 folder_sink_send R F D r f = sink_send (FolderStore.the_row R F D) (folder_store_send R F D r f)

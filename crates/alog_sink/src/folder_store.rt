@@ -1,5 +1,6 @@
 //! Files of a folder.
 ghost use Rattle.std.specs.Prelude.{◌≡◌, ◌<◌, IfOk, length};
+ghost use Rattle.alog_sink.specs.Calls.{Counts};
 
 use crate::store::{Store, StoreError, counted};
 use std::alloc::{AllocError, Global};
@@ -21,7 +22,8 @@ const ASIDE: (&str, &str) = (".", ".replaced");
 /// until it is renamed or removed. Its buffer is written when it is full, before a rename to or from its name, a removal
 /// and a size, at a flush, and when the store is dropped, which tells no failure. A call fails where the system refuses
 /// what it asks, a write of the buffer among it, where memory is wanting, and where a name leads out of the folder or is of
-/// the form `.X.replaced`. What could not be written stays in the buffer, and the next call on that file tries it again.
+/// the form `.X.replaced`; why the last one that failed did is kept. What could not be written stays in the buffer, and the next
+/// call on that file tries it again.
 ///
 /// The system may change files as it likes, so this store does not tell what it holds. A rename to `X` sets aside what had
 /// that name, as `.X.replaced`, and removes it when the file has its new name: some file systems, ext4 among them, write a
@@ -31,6 +33,7 @@ const ASIDE: (&str, &str) = (".", ".replaced");
 pub struct FolderStore<R: Files> {
     folder: Folder<R>,
     failures: u64,
+    reason: Option<io::Error>,
 }
 
 impl<R: Files + Drop> FolderStore<R> {
@@ -48,7 +51,20 @@ impl<R: Files + Drop> FolderStore<R> {
                 open,
             },
             failures: 0,
+            reason: None,
         })
+    }
+}
+
+impl<R: Files> FolderStore<R> {
+    /// A call's answer. Why it failed, where it did, is kept.
+    fn told<T>(&mut self, answer: io::Result<T>) -> Result<T, StoreError>
+        ensures { Counts self.old.failures self.new.failures result }
+    {
+        if let Err(error) = &answer {
+            self.reason = Some(*error);
+        }
+        counted(answer, &mut self.failures)
     }
 }
 
@@ -231,22 +247,31 @@ impl<R: Files> Store for FolderStore<R> {
     ghost failures = { λ s. s.failures };
 
     fn append(&mut self, name: &str, bytes: &[u8]) -> Result<(), StoreError> {
-        counted(self.folder.append(name, bytes), &mut self.failures)
+        let answer = self.folder.append(name, bytes);
+        self.told(answer)
     }
 
     fn rename(&mut self, from: &str, to: &str) -> Result<(), StoreError> {
-        counted(self.folder.rename(from, to), &mut self.failures)
+        let answer = self.folder.rename(from, to);
+        self.told(answer)
     }
 
     fn remove(&mut self, name: &str) -> Result<(), StoreError> {
-        counted(self.folder.remove(name), &mut self.failures)
+        let answer = self.folder.remove(name);
+        self.told(answer)
     }
 
     fn size(&mut self, name: &str) -> Result<Option<u64>, StoreError> {
-        counted(self.folder.size(name), &mut self.failures)
+        let answer = self.folder.size(name);
+        self.told(answer)
     }
 
     fn flush(&mut self, name: &str) -> Result<(), StoreError> {
-        counted(self.folder.write_out(name), &mut self.failures)
+        let answer = self.folder.write_out(name);
+        self.told(answer)
+    }
+
+    fn reason(&self) -> Option<io::Error> {
+        self.reason
     }
 }

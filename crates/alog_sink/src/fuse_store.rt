@@ -3,6 +3,7 @@ ghost use Rattle.std.specs.Prelude.{◌≡◌, ◌↔◌, IsTrue};
 ghost use Rattle.alog_sink.specs.Fuse.{burnt};
 
 use crate::store::{Store, StoreError};
+use std::io;
 
 /// A store that passes its calls on to another, but for one, which it fails.
 ///
@@ -172,5 +173,9 @@ impl<S: Store> Store for FuseStore<S> {
             return Err(StoreError);
         }
         self.store.flush(name)
+    }
+
+    fn reason(&self) -> Option<io::Error> {
+        self.store.reason()
     }
 }

@@ -9,6 +9,7 @@ use crate::leaf::{Leaf, SinkError, Taken};
 use crate::store::Store;
 use alog_format::LineBuf;
 use alog_msg::Message;
+use std::io;
 
 /// A sink: one that writes lines to files of a store, or a fan of such.
 #[derive(Debug, Drop)]
@@ -85,4 +86,25 @@ impl<S: Store> Sink<S> {
             Sink::Fan(fan) => fan.members(),
         }
     }
+
+    /// Why the last call of its store that failed did, where the system said so; of a fan, of the first member of which that is
+    /// known. Nothing is claimed of it. The test `a_fault_stands_behind_the_totals` of
+    /// `test_commands` shows it.
+    pub fn reason(&self) -> Option<io::Error> {
+        match self {
+            Sink::Leaf(leaf) => leaf.store().reason(),
+            Sink::Fan(fan) => reason_of(fan.members()),
+        }
+    }
+}
+
+/// The first reason of these.
+fn reason_of<S: Store>(members: &[Leaf<S>]) -> Option<io::Error> {
+    for member in members {
+        let reason = member.store().reason();
+        if reason.is_some() {
+            return reason;
+        }
+    }
+    None
 }

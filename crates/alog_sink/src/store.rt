@@ -2,6 +2,7 @@
 ghost use Rattle.std.specs.Prelude.{◌≡◌, IfOk, Ok, is_ok};
 ghost use Rattle.alog_sink.specs.Calls.{Counts};
 
+use std::io;
 use thiserror::Error;
 
 /// A call of a store failed. What it left is the store's law.
@@ -57,6 +58,11 @@ pub trait Store {
     fn flush(&mut self, name: &str) -> Result<(), StoreError>
         ensures same { tells ≡ true → AreSame (files self.old) (files self.new) }
         ensures counted { Counts (failures self.old) (failures self.new) result };
+
+    /// Why the last call that failed did, where the system said so. Nothing is claimed of it.
+    fn reason(&self) -> Option<io::Error> {
+        None
+    }
 }
 
 /// A store's answer to what it was answered itself. A failure is counted.
