@@ -7,7 +7,7 @@ use Rattle.std.proofs.lemmas.List.{length-map}
 use Rattle.std.proofs.lemmas.List.Elements.{All-from_recursion}
 use Rattle.std.proofs.lemmas.Option.{slice_get-map, slice_get_read, slice_get_within}
 use Rattle.alog_config.specs.Built.{Built, EachIs, ArePicked, IsBuiltAs, IsFaceOf, IsLeafOf, IsLoggerOf, IsNamed, IsPart, IsPlace}
-use Rattle.alog_config.specs.Fits.{LoggerFits, SinkSuits, Suits}
+use Rattle.alog_config.specs.Fits.{LoggerFits}
 use Rattle.alog_config.specs.Sound.{IsSound, IsSoundKind, AreSoundSinks, AreSoundLoggers}
 use Rattle.alog_config.specs.Values.{IsPattern}
 use Rattle.alog_config.specs.declared.config.Config.{Config}
@@ -24,7 +24,9 @@ use Rattle.alog_pattern.specs.Length.{longest_line}
 use Rattle.alog_pattern.specs.declared.patterns.TheConstants.{LINE_MAX}
 use Rattle.alog_registry.specs.declared.logger.Logger.{Logger}
 use Rattle.alog_sink.specs.Files.{Files}
+use Rattle.alog_sink.specs.Lines.{FaceSuits}
 use Rattle.alog_sink.specs.Opened.{leaves_of}
+use Rattle.alog_sink.specs.Sinks.{Suits}
 use Rattle.alog_sink.specs.Turn.{LeafView}
 use Rattle.alog_sink.specs.declared.face.Face.{Face}
 use Rattle.alog_sink.specs.declared.sink.Sink.{Sink}
@@ -54,13 +56,13 @@ each_place P (x ∷ xs) h = (h 0 x refl, each_place P xs (λ n y e. h (suc n) y 
 module _ {S : Type 0} (tells : Bool) (files : S → Files) (failures : S → ℕ) (c : Config) (stores : List S) where
   -- a sink's lines suit the limit of the configuration, in a buffer for the longest line of any pattern
   leaf_suits : (level : Level) (file pattern : List ℕ) (upkeep : Upkeep) (store : S) (sink : Sink S) (l : LeafView S) → IsPattern c.text pattern
-      → IsLeafOf tells files failures c level file pattern upkeep store sink → sink ≡ Leaf l → Suits c.text LINE_MAX l.face
+      → IsLeafOf tells files failures c level file pattern upkeep store sink → sink ≡ Leaf l → FaceSuits c.text LINE_MAX l.face
   leaf_suits level file pattern upkeep store sink l h leaf is =
       let same : leaf.opened.leaf ≡ l = (let both : Leaf leaf.opened.leaf ≡ Leaf l = sym leaf.opened.is ∙ is in cc) in
       let face : l.face ≡ leaf.face = ap (λ (x : LeafView S). x.face) (sym same) ∙ leaf.opened.same in
-      subst (λ (f : Face). Suits c.text LINE_MAX f) (sym face) (face_suits leaf.face leaf.is)
+      subst (λ (f : Face). FaceSuits c.text LINE_MAX f) (sym face) (face_suits leaf.face leaf.is)
     where
-      face_suits : (f : Face) → IsFaceOf c level pattern f → Suits c.text LINE_MAX f
+      face_suits : (f : Face) → IsFaceOf c level pattern f → FaceSuits c.text LINE_MAX f
       face_suits f is =
           let limit = is.limit in
           let short : (LINE_MAX < longest f.pattern → ⊥) =
@@ -68,7 +70,7 @@ module _ {S : Type 0} (tells : Bool) (files : S → Files) (failures : S → ℕ
           (omega (arith, limit), omega (arith, short))
 
   built_leaf : (parts : List (Part S)) (n : ℕ) (level : Level) (k : SinkKind) (sink : Sink S) (l : LeafView S) → KindFits c.text k
-      → IsBuiltAs tells files failures c stores parts n level k sink → sink ≡ Leaf l → Suits c.text LINE_MAX l.face
+      → IsBuiltAs tells files failures c stores parts n level k sink → sink ≡ Leaf l → FaceSuits c.text LINE_MAX l.face
   built_leaf parts n level (kinds.Lines file pattern upkeep) sink l fits h is =
       leaf_suits level file pattern upkeep h.0 sink l fits h.2 is
   built_leaf parts n level (kinds.Fan of) sink l fits h is =
@@ -83,16 +85,16 @@ module _ {S : Type 0} (tells : Bool) (files : S → Files) (failures : S → ℕ
         (ap (λ (ss : List SinkConfig). slice_get ss n) (sym of)
         ∙ (slice_get-map (λ (q : Part S). q.config.now) parts n ∙ ap (option_map (λ (q : Part S). q.config.now)) there))
 
-    leaf_at : (n : ℕ) (p : Part S) → slice_get parts n ≡ Some p → (l : LeafView S) → p.sink ≡ Leaf l → Suits c.text LINE_MAX l.face
+    leaf_at : (n : ℕ) (p : Part S) → slice_get parts n ≡ Some p → (l : LeafView S) → p.sink ≡ Leaf l → FaceSuits c.text LINE_MAX l.face
     leaf_at n p there l is = built_leaf parts n p.config.now.level p.config.now.kind p.sink l (fits_at n p there) (each n p there) is
 
     -- the leaves among the members of a fan
-    member_suits : (name : List ℕ) (sink : Sink S) (l : LeafView S) → IsNamed parts name sink → sink ≡ Leaf l → Suits c.text LINE_MAX l.face
+    member_suits : (name : List ℕ) (sink : Sink S) (l : LeafView S) → IsNamed parts name sink → sink ≡ Leaf l → FaceSuits c.text LINE_MAX l.face
     member_suits name sink l h is =
         leaf_at h.0 h.1 (slice_get_read parts (length parts) h.0 h.1 refl h.2 (sym h.3)) l (h.4.1 ∙ is)
 
     members_suit : (of : List (List ℕ)) (members : List (Sink S)) → EachIs (IsNamed parts) of members
-        → AllByRecursion (λ (l : LeafView S). Suits c.text LINE_MAX l.face) (leaves_of members)
+        → AllByRecursion (λ (l : LeafView S). FaceSuits c.text LINE_MAX l.face) (leaves_of members)
     members_suit [] [] h = tt
     members_suit (name ∷ of) (Leaf l ∷ members) h = (member_suits name (Leaf l) l h.0 refl, members_suit of members h.1)
     members_suit (name ∷ of) (Fan f ∷ members) h = members_suit of members h.1
@@ -100,16 +102,16 @@ module _ {S : Type 0} (tells : Bool) (files : S → Files) (failures : S → ℕ
     members_suit (name ∷ of) [] h = absurd h
 
     built_suits : (n : ℕ) (level : Level) (k : SinkKind) (sink : Sink S) → KindFits c.text k
-        → IsBuiltAs tells files failures c stores parts n level k sink → SinkSuits c.text LINE_MAX sink
+        → IsBuiltAs tells files failures c stores parts n level k sink → Suits c.text LINE_MAX sink
     built_suits n level (kinds.Lines file pattern upkeep) sink fits h =
-        subst (λ (s : Sink S). SinkSuits c.text LINE_MAX s) (sym h.2.opened.is)
+        subst (λ (s : Sink S). Suits c.text LINE_MAX s) (sym h.2.opened.is)
         (leaf_suits level file pattern upkeep h.0 sink h.2.opened.leaf fits h.2 h.2.opened.is)
     built_suits n level (kinds.Fan of) sink fits h =
-        subst (λ (s : Sink S). SinkSuits c.text LINE_MAX s) (sym h.2)
-        (All-from_recursion (λ (l : LeafView S). Suits c.text LINE_MAX l.face) (leaves_of h.0) (members_suit of h.0 h.1))
+        subst (λ (s : Sink S). Suits c.text LINE_MAX s) (sym h.2)
+        (All-from_recursion (λ (l : LeafView S). FaceSuits c.text LINE_MAX l.face) (leaves_of h.0) (members_suit of h.0 h.1))
 
-    parts_suit : AllByRecursion (λ (p : Part S). SinkSuits c.text LINE_MAX p.sink) parts
-    parts_suit = each_place (λ (p : Part S). SinkSuits c.text LINE_MAX p.sink) parts
+    parts_suit : AllByRecursion (λ (p : Part S). Suits c.text LINE_MAX p.sink) parts
+    parts_suit = each_place (λ (p : Part S). Suits c.text LINE_MAX p.sink) parts
         (λ n p there. built_suits n p.config.now.level p.config.now.kind p.sink (fits_at n p there) (each n p there))
 
 picked_too : {X : Type 0} (P IsSuch : X → Type 0) (xs picked : List X) → ArePicked IsSuch xs picked → AllByRecursion P xs → AllByRecursion P picked
@@ -160,9 +162,9 @@ module _ {S : Type 0} (tells : Bool) (files : S → Files) (failures : S → ℕ
       (loggers_fit b.tops c.sinks.items [] c.loggers.items loggers sound.each_logger b.loggers))
 
   -- and each sink suits the texts
-  pub each_suits : All (λ (s : Sink S). SinkSuits c.text LINE_MAX s) sinks
+  pub each_suits : All (λ (s : Sink S). Suits c.text LINE_MAX s) sinks
   each_suits =
-      let IsSuch : Sink S → Type 0 = λ s. SinkSuits c.text LINE_MAX s in
+      let IsSuch : Sink S → Type 0 = λ s. Suits c.text LINE_MAX s in
       subst (λ (all : List (Sink S)). All IsSuch all) (sym b.sinks)
       (All-from_recursion IsSuch (map (λ (p : Part S). p.sink) b.tops)
       (mapped_too IsSuch (λ (p : Part S). p.sink) b.tops

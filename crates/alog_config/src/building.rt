@@ -2,10 +2,11 @@
 ghost use Rattle.std.specs.Prelude.{◌≡◌, [], ◌∷◌, ◌++◌, IfOk, IsErrOf, OnOk, count_by, length};
 ghost use Rattle.std.specs.List.{All, Any};
 ghost use Rattle.alog_config.specs.Built.{Built, EachIs, HasFailed, IsLoggerOf};
-ghost use Rattle.alog_config.specs.Fits.{LoggerFits, SinkSuits};
+ghost use Rattle.alog_config.specs.Fits.{LoggerFits};
 ghost use Rattle.alog_config.specs.Parts.{AreBuilt, Makes, MayLog, MayMake};
 ghost use Rattle.alog_config.specs.Sinks.{is_leaf};
 ghost use Rattle.alog_pattern.specs.declared.patterns.TheConstants.{LINE_MAX};
+ghost use Rattle.alog_sink.specs.Sinks.{Suits};
 
 use crate::config::{Config, LoggerConfig, SinkConfig, SinkKind};
 use crate::opening::{face_of, opened};
@@ -52,7 +53,7 @@ pub fn build<S: Store + Drop>(
     ensures built { IfOk result (λ b. Built S.tells S.files S.failures config.now stores.items b.0 b.1.items) }
     // Each logger's sinks are there, and each sink takes the texts of the configuration, in lines that a buffer of `LINE_MAX` holds.
     ensures fits { IfOk result (λ b. All (LoggerFits (length b.1.items)) b.0) }
-    ensures suits { IfOk result (λ b. All (λ s. SinkSuits config.now.text LINE_MAX s) b.1.items) }
+    ensures suits { IfOk result (λ b. All (λ s. Suits config.now.text LINE_MAX s) b.1.items) }
     ensures failed { IsErrOf result BuildError.Store → Any (HasFailed S.failures) stores.items }
 {
     let parts = parts_of(alloc, config, stores)?;

@@ -1,26 +1,25 @@
-pub mod Moves
-pub mod Turning
-pub mod Deeds
-pub mod Worked
-pub mod Sums
-pub mod Leaving
-pub mod Ended
-pub mod Posting
-pub mod Producing
-pub mod Sharing
-pub mod Parts
-pub mod Crosses
-pub mod Hiring
-pub mod FirstParts
-pub mod Back
-pub mod Halting
-pub mod Rows
-pub mod Served
-pub mod Closed
-pub mod Totalled
-pub mod Held
-pub mod Posted
-pub mod Workers
-pub mod OneWorker
-pub mod Logged
-pub mod Opening
+mod Moves
+mod Turning
+mod Deeds
+mod Worked
+mod Sums
+mod Leaving
+mod Ended
+mod Posting
+mod Producing
+pub mod SharedSharing
+mod Parts
+pub mod SharedCrosses
+mod Hiring
+mod FirstParts
+pub mod SharedBack
+mod Halting
+mod Rows
+mod Served
+mod Closed
+mod Totalled
+mod Held
+mod Posted
+mod Workers
+mod OneWorker
+mod Logged

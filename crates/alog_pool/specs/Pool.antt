@@ -6,8 +6,9 @@ use Rattle.alog_lane.specs.Calls.{LaneId}
 use Rattle.alog_lane.specs.declared.seat.TheConstants.{ALL_PARTS as ALL_SEATS}
 use Rattle.alog_msg.specs.declared.item.Item.{Item}
 use Rattle.alog_msg.specs.declared.limits.TheConstants.{TEXT_LIMIT_MIN, TEXT_LIMIT_MAX}
+use Rattle.alog_pattern.specs.declared.patterns.TheConstants.{LINE_MAX}
 use Rattle.alog_policy.specs.BookCalls as book
-use Rattle.alog_pool.specs.SinkSeat.{SinkSeatView, Suits}
+use Rattle.alog_pool.specs.SinkSeat.{SinkSeatView}
 use Rattle.alog_pool.specs.BacktraceSeat.{BacktraceSeatView}
 use Rattle.alog_pool.specs.Producer.{ProducerView, AreBacktraceSeats}
 use Rattle.alog_pool.specs.Working.{IsAtWork, IsFresh, numbers_of}
@@ -23,6 +24,7 @@ use Rattle.alog_ring.specs.declared.TheConstants.{ALL_PARTS}
 use Rattle.alog_registry.specs.Backtrace.{Room, room_for}
 use Rattle.alog_registry.specs.declared.limit.TextLimit.{TextLimit}
 use Rattle.alog_registry.specs.declared.logger.Logger.{Logger}
+use Rattle.alog_sink.specs.Sinks.{Suits}
 use Rattle.alog_sink.specs.declared.sink.Sink.{Sink}
 
 -- What is seen of a pool: what all of its threads share, its own pass of the ring, its own seat of the loss book, its own place
@@ -105,7 +107,7 @@ module _ {S : Type 0} where
   -- the text limit is one that a queue may have, and each sink writes any text of it
   pub record Fits (setup : Setup S) : Type 0 where
     pub limits : (TEXT_LIMIT_MIN ≤ setup.text_limit) × (setup.text_limit ≤ TEXT_LIMIT_MAX)
-    pub sinks : AllByRecursion (Suits setup.text_limit) setup.sinks.items
+    pub sinks : AllByRecursion (Suits setup.text_limit LINE_MAX) setup.sinks.items
 
   -- the backtraces of its loggers, empty
   abbrev pub rooms_of : Setup S → List Room

@@ -7,10 +7,8 @@ use Rattle.alog_lane.specs.Seats.{Member}
 use Rattle.alog_lane.specs.Turns.{Turned}
 use Rattle.alog_msg.specs.declared.item.Item.{Item}
 use Rattle.alog_msg.specs.declared.item.Item.TheVariants.{Text, Flush, Stop}
-use Rattle.alog_msg.specs.declared.message.Message.{Message}
-use Rattle.alog_pattern.specs.declared.patterns.TheConstants.{LINE_MAX}
 use Rattle.alog_sink.specs.Files.{Files}
-use Rattle.alog_sink.specs.Sinks.{MayTake, Turns}
+use Rattle.alog_sink.specs.Sinks.{Turns}
 use Rattle.alog_sink.specs.declared.leaf.SinkError.{SinkError}
 use Rattle.alog_sink.specs.declared.sink.Sink.{Sink}
 use Rattle.alog_sink.specs.declared.turn.Served.{Served}
@@ -18,10 +16,6 @@ use Rattle.alog_sink.specs.declared.turn.Served.{Served}
 -- what a turn on a sink answers
 abbrev pub Answer : Type 0
 Answer = Result Served SinkError
-
--- the sink writes each text of at most so many bytes with a buffer for the longest line
-abbrev pub Suits : {S : Type 0} → ℕ → Sink S → Type 0
-Suits limit sink = (m : Message) → length m.text ≤ limit → MayTake sink m LINE_MAX
 
 -- What is seen of a place: the lane, the seat, the faults that were answered, and the most bytes of a text.
 pub record SinkSeatView (S : Type 0) : Type 0 where

@@ -6,8 +6,8 @@ ghost use Rattle.alog_core.specs.World.{is_size};
 ghost use Rattle.alog_lane.specs.Seats.{first_known as first_seat};
 ghost use Rattle.alog_lane.specs.declared.seat.TheConstants.{ALL_PARTS as ALL_SEATS};
 ghost use Rattle.alog_msg.specs.declared.limits.TheConstants.{TEXT_LIMIT_MIN, TEXT_LIMIT_MAX};
+ghost use Rattle.alog_pattern.specs.declared.patterns.TheConstants.{LINE_MAX};
 ghost use Rattle.alog_policy.specs.BookCalls.{IsSeatOf};
-ghost use Rattle.alog_pool.specs.SinkSeat.{Suits};
 ghost use Rattle.alog_pool.specs.BacktraceSeat.{BacktraceSeatView};
 ghost use Rattle.alog_pool.specs.Places.{AreSpare, Each2, Each3, IsFirst, IsBacktraceSeatOf, IsPart};
 ghost use Rattle.alog_pool.specs.Pool.{Begins, Fits, HasQueue, AreParts, Staffs, Stands, Crews, Hires, lanes_of};
@@ -15,6 +15,7 @@ ghost use Rattle.alog_pool.specs.Room.{HasRoom};
 ghost use Rattle.alog_pool.specs.Working.{HasWorked, IsAtWork, numbers_of};
 ghost use Rattle.alog_pool.specs.declared.pool.TheConstants.{WORKERS_MAX};
 ghost use Rattle.alog_ring.specs.Known.{IsPassOf, first_known};
+ghost use Rattle.alog_sink.specs.Sinks.{Suits};
 
 use crate::backtrace_seat::BacktraceSeat;
 use crate::gate::Gate;
@@ -281,7 +282,7 @@ fn sink_seats_of<S: Store + Drop>(
     sinks: Vec<Sink<S>>,
     text_limit: usize,
 ) -> Result<Vec<SinkSeat<S>>, AllocError>
-    requires { AllByRecursion (Suits text_limit) sinks.items }
+    requires { AllByRecursion (Suits text_limit LINE_MAX) sinks.items }
     ensures { IfOk result (λ v. Each2 (IsFirst text_limit) sinks.items v.items) }
 {
     let mut sink_seats = Vec::with_capacity(alloc, sinks.len())?;

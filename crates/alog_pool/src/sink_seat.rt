@@ -4,9 +4,9 @@ ghost use Rattle.alog_lane.specs.Calls.{Closes};
 ghost use Rattle.alog_lane.specs.Seats.{IsJoined};
 ghost use Rattle.alog_lane.specs.declared.seat.TheConstants.{ALL_PARTS};
 ghost use Rattle.alog_pattern.specs.declared.patterns.TheConstants.{LINE_MAX};
-ghost use Rattle.alog_pool.specs.SinkSeat.{IsServable, Serves, Suits, fault_in};
+ghost use Rattle.alog_pool.specs.SinkSeat.{IsServable, Serves, fault_in};
 ghost use Rattle.alog_pool.specs.Places.{IsFirst, IsPart};
-ghost use Rattle.alog_sink.specs.Sinks.{Turns};
+ghost use Rattle.alog_sink.specs.Sinks.{Suits, Turns};
 
 use crate::alone::alone;
 use alog_format::LineBuf;
@@ -31,13 +31,15 @@ impl<S: Store> Model for SinkSeat<S> {
     ghost use Rattle.std.specs.Prelude.{◌≡◌};
     ghost use Rattle.std.specs.Arc.{arc_value};
     ghost use Rattle.alog_lane.specs.Calls.{IsSeatOf};
-    ghost use Rattle.alog_pool.specs.SinkSeat.{SinkSeatView, Suits};
+    ghost use Rattle.alog_pattern.specs.declared.patterns.TheConstants.{LINE_MAX};
+    ghost use Rattle.alog_pool.specs.SinkSeat.{SinkSeatView};
+    ghost use Rattle.alog_sink.specs.Sinks.{Suits};
 
     ghost Value = { SinkSeatView S };
 
     ghost view = { λ b. record { lane = arc_value b.lane; seat = b.seat; faults = b.faults; limit = b.text_limit } };
 
-    ghost invariant = { λ b. IsSeatOf (arc_value b.lane) b.seat × Suits b.text_limit (arc_value b.lane).first };
+    ghost invariant = { λ b. IsSeatOf (arc_value b.lane) b.seat × Suits b.text_limit LINE_MAX (arc_value b.lane).first };
 }
 
 impl<S: Store> SinkSeat<S> {
@@ -70,7 +72,7 @@ impl<S: Store + Drop> SinkSeat<S> {
         sink: Sink<S>,
         text_limit: usize,
     ) -> Result<SinkSeat<S>, AllocError>
-        requires { Suits text_limit sink }
+        requires { Suits text_limit LINE_MAX sink }
         ensures { IfOk result (λ b. IsFirst text_limit sink b) }
     {
         let Ok((lane, seat)) = Lane::new(alloc, sink) else {

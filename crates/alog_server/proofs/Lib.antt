@@ -5,5 +5,4 @@ mod Finding
 mod Refusing
 mod Saying
 mod Telling
-pub mod Making
-pub mod Suiting
+pub mod SharedMaking

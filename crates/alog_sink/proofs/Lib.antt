@@ -23,6 +23,7 @@ pub mod Turns
 pub mod Fans
 pub mod Opens
 pub mod Keeps
+pub mod SharedSuits
 pub mod Crosses
 pub mod LaneRuns
 pub mod FolderCrosses

@@ -33,6 +33,10 @@ IsLineOf face previous m bytes = IsLine face.context face.pattern.items (name_of
 abbrev pub MayWrite : Face → Message → ℕ → Type 0
 MayWrite face m capacity = (length m.text ≤ face.pattern.text_limit) × (longest face.pattern ≤ capacity)
 
+-- a face writes each text of at most so many bytes into a buffer of this capacity
+abbrev pub FaceSuits : ℕ → ℕ → Face → Type 0
+FaceSuits limit capacity face = (limit ≤ face.pattern.text_limit) × (longest face.pattern ≤ capacity)
+
 -- a line, and the date and time of day that a clock showed at its message's time
 pub record Written : Type 0 where
   pub at : DateTime

@@ -1,22 +1,32 @@
 -- The turns of sinks of both kinds.
 use Rattle.std.specs.Prelude.{◌≡◌, ◌⊎◌, ℕ, Bool, true, false, Result, Ok, Err}
+use Rattle.std.specs.List.{All}
 use Rattle.alog_format.specs.Buffer.{Buffer}
 use Rattle.alog_msg.specs.declared.item.Item.{Item}
 use Rattle.alog_msg.specs.declared.item.Item.TheVariants.{Text, Flush, Stop}
 use Rattle.alog_msg.specs.declared.message.Message.{Message}
 use Rattle.alog_sink.specs.Files.{Files}
-use Rattle.alog_sink.specs.Lines.{MayWrite, admits}
-use Rattle.alog_sink.specs.Turn.{Answer, Takes, Flushes, FanTakes, FanFlushes, MayGive}
+use Rattle.alog_sink.specs.Lines.{FaceSuits, MayWrite, admits}
+use Rattle.alog_sink.specs.Turn.{Answer, Takes, Flushes, FanTakes, FanFlushes}
+use Rattle.alog_sink.specs.declared.face.Face.{Face}
 use Rattle.alog_sink.specs.declared.leaf.SinkError.{SinkError}
 use Rattle.alog_sink.specs.declared.turn.Served.{Served}
 use Rattle.alog_sink.specs.declared.turn.Served.TheVariants.{Flushed, Taken as Took}
 use Rattle.alog_sink.specs.declared.sink.Sink.{Sink}
 use Rattle.alog_sink.specs.declared.sink.Sink.TheVariants.{Leaf, Fan}
 
+-- each face of a sink is such: its own, or those of a fan's members
+abbrev pub EachFace : {S : Type 0} → (Face → Type 0) → Sink S → Type 0
+EachFace IsSuch (Leaf l) = IsSuch l.face
+EachFace IsSuch (Fan f) = All (λ l. IsSuch l.face) f.members
+
 -- a sink may be given the message with a buffer of this capacity
 abbrev pub MayTake : {S : Type 0} → Sink S → Message → ℕ → Type 0
-MayTake (Leaf l) m capacity = MayWrite l.face m capacity
-MayTake (Fan f) m capacity = MayGive f.members m capacity
+MayTake sink m capacity = EachFace (λ face. MayWrite face m capacity) sink
+
+-- a sink writes each text of at most so many bytes into a buffer of this capacity
+abbrev pub Suits : {S : Type 0} → ℕ → ℕ → Sink S → Type 0
+Suits limit capacity sink = EachFace (FaceSuits limit capacity) sink
 
 -- a sink writes no line of the message: it does not pass the level, or a sink that is no fan is broken
 abbrev pub IsIdle : {S : Type 0} → Sink S → Message → Type 0

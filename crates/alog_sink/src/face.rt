@@ -7,7 +7,7 @@ ghost use Rattle.alog_sink.specs.Lines.{name_of};
 
 use alog_format::{Context, Formatter, LineBuf, Zone};
 use alog_msg::{LOGGER_NAME_MAX, Level, Message, Text};
-use alog_pattern::Pattern;
+use alog_pattern::{LINE_MAX, Pattern};
 use std::alloc::{AllocError, Global};
 use std::marker::Model;
 use thiserror::Error;
@@ -120,11 +120,13 @@ impl Model for Scribe {
 }
 
 impl Scribe {
-    ghost use Rattle.alog_sink.specs.Lines.{admits, MayWrite, IsLineOf};
+    ghost use Rattle.alog_sink.specs.Lines.{admits, FaceSuits, MayWrite, IsLineOf};
 
     pub(crate) fn new(face: Face) -> Scribe
-        ensures { result ≡ face }
+        ensures face { result ≡ face }
+        ensures suits { FaceSuits face.pattern.text_limit LINE_MAX result }
     {
+        prove!(face.pattern.longest() <= LINE_MAX);
         let Face {
             level,
             pattern,

@@ -1,6 +1,7 @@
 //! A sink of one store.
 ghost use Rattle.std.specs.Prelude.{◌≡◌, ◌↔◌, ◌⊎◌, IsTrue, true, false, None};
-ghost use Rattle.alog_sink.specs.Lines.{MayWrite, admits};
+ghost use Rattle.alog_pattern.specs.declared.patterns.TheConstants.{LINE_MAX};
+ghost use Rattle.alog_sink.specs.Lines.{FaceSuits, MayWrite, admits};
 ghost use Rattle.alog_sink.specs.Turn.{Takes, Flushes};
 
 use crate::face::{Face, Scribe};
@@ -55,7 +56,8 @@ impl<S> Model for Leaf<S> {
 impl<S: Store> Leaf<S> {
     /// A sink that was given nothing.
     pub(crate) fn open(face: Face, target: Target, store: S) -> Leaf<S>
-        ensures { result ≡ record { face = face; target = target; store = store; broken = false; previous = None } }
+        ensures opened { result ≡ record { face = face; target = target; store = store; broken = false; previous = None } }
+        ensures suits { FaceSuits face.pattern.text_limit LINE_MAX result.face }
     {
         Leaf {
             face: Scribe::new(face),

@@ -1,10 +1,12 @@
 //! How sinks are opened.
-ghost use Rattle.std.specs.Prelude.{◌≡◌, ◌≢◌, ◌↔◌, ◌⊎◌, Some, true, IfOk, IfErr, IfSome, IsErrAnd, IsTrue, [], ◌≤◌, length, vec_capacity, vec_len, ◌<◌, ◌++◌, ◌∷◌};
+ghost use Rattle.std.specs.Prelude.{All, ◌≡◌, ℕ, ◌≢◌, ◌↔◌, ◌⊎◌, Some, true, IfOk, IfErr, IfSome, IsErrAnd, IsTrue, [], ◌≤◌, length, vec_capacity, vec_len, ◌<◌, ◌++◌, ◌∷◌};
+ghost use Rattle.alog_pattern.specs.declared.patterns.TheConstants.{LINE_MAX};
 ghost use Rattle.alog_sink.specs.Names.{IsFileName};
 ghost use Rattle.alog_sink.specs.Files.{AreSame};
 ghost use Rattle.alog_sink.specs.Refused.{AreBadDays, AreBadLimits, FailsAs, IsNewDaily, IsRotating};
 ghost use Rattle.alog_sink.specs.DailyFiles.{change_at};
 ghost use Rattle.alog_sink.specs.Opened.{AreNoMembers, Opened, leaves_of, store_of};
+ghost use Rattle.alog_sink.specs.Sinks.{Suits};
 
 use crate::FAN_MAX;
 use crate::daily_files::{DailyFiles, HOUR_MAX, MINUTE_MAX};
@@ -84,6 +86,7 @@ impl<S: Store + Drop> Sink<S> {
     pub fn memory(alloc: Global, face: Face, store: S, file: &str) -> Result<Sink<S>, Unopened<S>>
         ensures opened { IfOk result (λ s. Opened S.tells S.files face
             (λ t. t ≡ Target.Memory (record { file = file.now })) (S.files store) s) }
+        ensures suits { IfOk result (λ s. Suits face.pattern.text_limit LINE_MAX s) }
         ensures store { IfOk result (λ s. store_of s ≡ Some store) }
         ensures bad_name { IsErrAnd result (λ e. e.error ≡ OpenError.BadName) ↔ (¬ IsFileName file.now) }
         ensures refusals { IfErr result (λ e. (e.error ≡ OpenError.BadName) ⊎ (e.error ≡ OpenError.OutOfMemory)) }
@@ -121,6 +124,7 @@ impl<S: Store + Drop> Sink<S> {
     ) -> Result<Sink<S>, Unopened<S>>
         ensures opened { IfOk result (λ s. Opened S.tells S.files face
             (IsRotating (record { file = file.now; max_size = max_size; max_files = max_files })) (S.files store) s) }
+        ensures suits { IfOk result (λ s. Suits face.pattern.text_limit LINE_MAX s) }
         ensures bad_limit { IsErrAnd result (λ e. e.error ≡ OpenError.BadLimit) ↔ AreBadLimits max_size max_files }
         ensures bad_name { IsErrAnd result (λ e. e.error ≡ OpenError.BadName)
             ↔ ((¬ AreBadLimits max_size max_files) × (¬ IsFileName file.now)) }
@@ -172,6 +176,7 @@ impl<S: Store + Drop> Sink<S> {
     ) -> Result<Sink<S>, Unopened<S>>
         ensures opened { IfOk result (λ s. Opened S.tells S.files face
             (IsNewDaily (record { file = file.now; change = change_at hour minute; max_files = max_files })) (S.files store) s) }
+        ensures suits { IfOk result (λ s. Suits face.pattern.text_limit LINE_MAX s) }
         ensures store { IfOk result (λ s. store_of s ≡ Some store) }
         ensures bad_limit { IsErrAnd result (λ e. e.error ≡ OpenError.BadLimit) ↔ AreBadDays hour minute max_files }
         ensures bad_name { IsErrAnd result (λ e. e.error ≡ OpenError.BadName)
@@ -209,6 +214,7 @@ impl<S: Store + Drop> Sink<S> {
     /// The refusals are `BadLimit`, and then `OutOfMemory`.
     pub fn fan(alloc: Global, level: Level, members: Vec<Sink<S>>) -> Result<Sink<S>, NoFan<S>>
         ensures made { IfOk result (λ s. s ≡ Sink.Fan (record { level = level; members = leaves_of members.items })) }
+        ensures suits { IfOk result (λ s. (limit capacity : ℕ) → All (λ m. Suits limit capacity m) members.items → Suits limit capacity s) }
         ensures bad_limit { IsErrAnd result (λ e. e.error ≡ OpenError.BadLimit) ↔ AreNoMembers members.items }
         ensures refusals { IfErr result (λ e. (e.error ≡ OpenError.BadLimit) ⊎ (e.error ≡ OpenError.OutOfMemory)) }
         ensures back { IfErr result (λ e. e.members ≡ members) }

@@ -1,7 +1,6 @@
 -- The sinks of a system, and a worker's turn on one.
 use Rattle.std.specs.Prelude.{◌≡◌, ℕ, ◌≤◌, Bool, List, length, slice_get, slice_set, Some, Result, Ok, Err}
 use Rattle.std.specs.List.{All}
-pub use Rattle.alog_config.specs.Fits.{Suits, SinkSuits}
 use Rattle.alog_msg.specs.declared.item.Item.{Item}
 use Rattle.alog_msg.specs.declared.item.Item.TheVariants as item
 use Rattle.alog_msg.specs.declared.message.Message.{Message}
@@ -11,7 +10,7 @@ use Rattle.alog_registry.specs.declared.work.SinkDeed.{SinkDeed}
 use Rattle.alog_registry.specs.declared.work.SinkDeed.TheVariants as deed
 use Rattle.alog_registry.specs.declared.work.SinkTurn.{SinkTurn}
 use Rattle.alog_sink.specs.Files.{Files}
-use Rattle.alog_sink.specs.Sinks.{MayTake, SinkTakes, SinkFlushes}
+use Rattle.alog_sink.specs.Sinks.{MayTake, SinkTakes, SinkFlushes, Suits}
 use Rattle.alog_sink.specs.Turn.{Answer}
 use Rattle.alog_sink.specs.declared.leaf.SinkError.{SinkError}
 use Rattle.alog_sink.specs.declared.leaf.Taken.TheVariants as taken
@@ -28,7 +27,7 @@ pub record OutputsView (S : Type 0) : Type 0 where
 pub record AllSuit {S : Type 0} (limit capacity : ℕ) (all : List (Sink S)) : Type 0 where
   pub least : TEXT_LIMIT_MIN ≤ limit
   pub most : limit ≤ TEXT_LIMIT_MAX
-  pub each : All (λ s. SinkSuits limit capacity s) all
+  pub each : All (λ s. Suits limit capacity s) all
 
 -- each suits a buffer that holds the longest line of any pattern
 abbrev pub AreSuited : {S : Type 0} → ℕ → List (Sink S) → Type 0

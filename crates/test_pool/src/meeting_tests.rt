@@ -1,8 +1,9 @@
 //! A pool whose sinks wait for each other.
 ghost use Rattle.std.specs.Prelude.{◌≡◌, IfOk};
 ghost use Rattle.std.specs.List.{AllByRecursion};
-ghost use Rattle.alog_pool.specs.SinkSeat.{Suits};
+ghost use Rattle.alog_pattern.specs.declared.patterns.TheConstants.{LINE_MAX};
 ghost use Rattle.alog_pool.specs.Pool.{Fits};
+ghost use Rattle.alog_sink.specs.Sinks.{Suits};
 ghost use Rattle.test_pool.specs.declared.sinks.TheConstants.{TEXT_LIMIT};
 
 use crate::sinks::{TEXT_LIMIT, face, sink};
@@ -115,7 +116,7 @@ fn store(called: Arc<AtomicBool>, waits: bool, line: &'static [u8]) -> Meeting {
 
 // A sink over a store that waits, and one over a store that it waits for.
 fn sinks(alloc: Global) -> Result<Vec<Sink<Meeting>>, AllocError>
-    ensures { IfOk result (λ v. AllByRecursion (Suits TEXT_LIMIT) v.items) }
+    ensures { IfOk result (λ v. AllByRecursion (Suits TEXT_LIMIT LINE_MAX) v.items) }
 {
     let called = Arc::new(alloc, AtomicBool::new(false))?;
     let waiting = store(Arc::try_clone(&called)?, true, b"a\n");

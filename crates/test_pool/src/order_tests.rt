@@ -2,8 +2,9 @@
 //! lines at the sinks of its logger, in the logger's order, and then the flushes in the same.
 ghost use Rattle.std.specs.Prelude.{◌≡◌, IfOk};
 ghost use Rattle.std.specs.List.{AllByRecursion};
-ghost use Rattle.alog_pool.specs.SinkSeat.{Suits};
+ghost use Rattle.alog_pattern.specs.declared.patterns.TheConstants.{LINE_MAX};
 ghost use Rattle.alog_pool.specs.Pool.{Fits};
+ghost use Rattle.alog_sink.specs.Sinks.{Suits};
 ghost use Rattle.test_pool.specs.declared.sinks.TheConstants.{TEXT_LIMIT};
 
 use crate::gates::{HoldsFirst, has_begun, holds_until, lowered, open};
@@ -93,7 +94,7 @@ impl Store for Scribe {
 
 /// Two sinks over stores with one clock.
 fn sinks(alloc: Global) -> Result<Vec<Sink<Scribe>>, AllocError>
-    ensures { IfOk result (λ v. AllByRecursion (Suits TEXT_LIMIT) v.items) }
+    ensures { IfOk result (λ v. AllByRecursion (Suits TEXT_LIMIT LINE_MAX) v.items) }
 {
     let clock = Arc::new(alloc, AtomicU64::new(0))?;
     let first = Scribe {

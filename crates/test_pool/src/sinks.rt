@@ -1,6 +1,7 @@
 //! A sink in memory, whose lines are the texts.
 ghost use Rattle.std.specs.Prelude.{◌≡◌, IfOk};
-ghost use Rattle.alog_pool.specs.SinkSeat.{Suits};
+ghost use Rattle.alog_pattern.specs.declared.patterns.TheConstants.{LINE_MAX};
+ghost use Rattle.alog_sink.specs.Sinks.{Suits};
 ghost use Rattle.test_pool.specs.declared.sinks.TheConstants.{TEXT_LIMIT};
 
 use alog_format::{Context, Zone};
@@ -33,9 +34,8 @@ pub fn face(alloc: Global) -> Result<Face, AllocError>
 /// A sink over this store, whose lines go to the file `log`.
 pub fn sink<S: Store + Drop>(alloc: Global, face: Face, store: S) -> Result<Sink<S>, AllocError>
     requires { face.pattern.text_limit ≡ TEXT_LIMIT }
-    ensures { IfOk result (Suits TEXT_LIMIT) }
+    ensures { IfOk result (Suits TEXT_LIMIT LINE_MAX) }
 {
-    let _longest = face.pattern.longest();
     let Ok(sink) = Sink::memory(alloc, face, store, "log") else {
         return Err(AllocError);
     };

@@ -2,8 +2,9 @@
 //! straight line of calls.
 ghost use Rattle.std.specs.Prelude.{◌≡◌, [], ◌∷◌, ◌++◌, IfOk};
 ghost use Rattle.std.specs.List.{AllByRecursion};
-ghost use Rattle.alog_pool.specs.SinkSeat.{Suits};
+ghost use Rattle.alog_pattern.specs.declared.patterns.TheConstants.{LINE_MAX};
 ghost use Rattle.alog_pool.specs.Pool.{Fits};
+ghost use Rattle.alog_sink.specs.Sinks.{Suits};
 ghost use Rattle.test_pool.specs.declared.sinks.TheConstants.{TEXT_LIMIT};
 
 use crate::sinks::{TEXT_LIMIT, face, sink};
@@ -90,7 +91,7 @@ pub fn loggers(alloc: Global, plan: Plan, routes: &[&[u32]]) -> Result<Loggers, 
 
 /// Sinks over stores of which each fails the call of such a number, of an append when it has three bytes.
 fn sinks(alloc: Global, fuses: &[u64]) -> Result<Vec<Sink<Files>>, AllocError>
-    ensures { IfOk result (λ v. AllByRecursion (Suits TEXT_LIMIT) v.items) }
+    ensures { IfOk result (λ v. AllByRecursion (Suits TEXT_LIMIT LINE_MAX) v.items) }
 {
     let mut sinks = Vec::new(alloc);
     for fuse in fuses {

@@ -1,7 +1,8 @@
 //! Systems with one logger and one sink, or why there is none.
-ghost use Rattle.std.specs.Prelude.{◌≤◌, IfOk};
+ghost use Rattle.std.specs.Prelude.{◌≡◌, ◌≤◌, IfOk};
 ghost use Rattle.std.specs.List.{All};
-ghost use Rattle.alog_system.specs.Outputs.{Suits, SinkSuits};
+ghost use Rattle.alog_pattern.specs.declared.patterns.TheConstants.{LINE_MAX};
+ghost use Rattle.alog_sink.specs.Sinks.{Suits};
 ghost use Rattle.alog_system.specs.Within.{LoggerFits};
 
 use alog_config::read;
@@ -18,12 +19,11 @@ use std::test::Fail;
 const TEXT_LIMIT: usize = 64;
 
 fn face(alloc: Global) -> Result<Face, Fail>
-    ensures { IfOk result (λ f. Suits TEXT_LIMIT 65536 f) }
+    ensures { IfOk result (λ f. f.pattern.text_limit ≡ TEXT_LIMIT) }
 {
     let mut names = Names::new(alloc);
     names.push(alloc, "net")?;
     let pattern = Pattern::compile(alloc, b"%n %L %v", TEXT_LIMIT)?;
-    let _ = pattern.longest();
     Ok(Face {
         level: Level::Trace,
         pattern,
@@ -36,7 +36,7 @@ fn face(alloc: Global) -> Result<Face, Fail>
 }
 
 fn memory(alloc: Global) -> Result<Sink<MemStore>, Fail>
-    ensures { IfOk result (λ s. SinkSuits TEXT_LIMIT 65536 s) }
+    ensures { IfOk result (λ s. Suits TEXT_LIMIT LINE_MAX s) }
 {
     match Sink::memory(alloc, face(alloc)?, MemStore::new(alloc), "out") {
         Ok(sink) => Ok(sink),

@@ -1,7 +1,8 @@
 //! The pool of a run.
 ghost use Rattle.std.specs.Prelude.{◌≡◌, ◌<◌, length, IfOk};
-ghost use Rattle.alog_pool.specs.SinkSeat.{Suits};
+ghost use Rattle.alog_pattern.specs.declared.patterns.TheConstants.{LINE_MAX};
 ghost use Rattle.alog_pool.specs.Pool.{Fits};
+ghost use Rattle.alog_sink.specs.Sinks.{Suits};
 ghost use Rattle.bench.specs.declared.lines.TheConstants.{TEXT_LIMIT};
 
 use crate::lines::{NAME, TEXT_LIMIT};
@@ -23,9 +24,8 @@ const QUEUE: usize = 8_192;
 /// A sink that appends its lines to one file.
 fn sink<S: Store + Drop>(alloc: Global, face: Face, store: S) -> Result<Sink<S>>
     requires { face.pattern.text_limit ≡ TEXT_LIMIT }
-    ensures { IfOk result (λ s. Suits TEXT_LIMIT s) }
+    ensures { IfOk result (λ s. Suits TEXT_LIMIT LINE_MAX s) }
 {
-    let _longest = face.pattern.longest();
     match Sink::memory(alloc, face, store, FILE) {
         Ok(sink) => Ok(sink),
         Err(refused) => Err(refused.error.into()),

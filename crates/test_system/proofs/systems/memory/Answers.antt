@@ -1,11 +1,7 @@
-use Rattle.std.proofs.Common.{sym, subst}
-use Rattle.alog_sink.specs.declared.face.Face.{Face}
-use Rattle.alog_system.specs.Outputs.{Suits, SinkSuits}
-use Rattle.test_system.specs.declared.systems.TheConstants.{TEXT_LIMIT}
+use Rattle.std.proofs.Common.{subst}
+use Rattle.alog_pattern.specs.declared.patterns.TheConstants.{LINE_MAX}
+use Rattle.alog_sink.specs.Sinks.{Suits}
 use Rattle.test_system.proofs.systems.memory.Goals as goal
 
 pub returns-in-Ok : goal.returns-in-Ok
-returns-in-Ok c =
-    let opened = c.in-Ok.ensures.opened in
-    subst (λ s. SinkSuits TEXT_LIMIT 65536 s) (sym opened.is)
-    (subst (λ (f : Face). Suits TEXT_LIMIT 65536 f) (sym opened.same) c.in_ok-face.ensures)
+returns-in-Ok c = subst (λ n. Suits n LINE_MAX c.in-Ok.sink) c.in_ok-face.ensures c.in-Ok.ensures.suits
