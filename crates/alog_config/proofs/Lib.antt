@@ -1,12 +1,12 @@
-pub mod Spelling
-pub mod Firsts
-pub mod Arrays
-pub mod Runs
-pub mod Sounding
-pub mod Picking
-pub mod Parting
-pub mod Handing
-pub mod Taking
-pub mod Fitting
-pub mod Told
-pub mod Others
+mod Spelling
+mod Firsts
+mod Arrays
+mod Runs
+mod Sounding
+pub mod SharedPicking
+mod Parting
+mod Handing
+mod Taking
+mod Fitting
+mod Told
+mod Others

@@ -13,9 +13,9 @@ use Rattle.alog_config.specs.Built.{ArePicked, EachIs, IsBuiltAs, IsLeafOf, IsNa
 use Rattle.alog_config.specs.Parts.{AnyBuiltFan, AreAllKnown, AreBuilt, IsPartName, MakesFan, TakesOut}
 use Rattle.alog_config.specs.Sinks.{AnyFan, AnyMember, AnyUnknown, HandsTo, HasMember, IsFan, IsFanKind, IsMember, IsSinkName, is_leaf}
 use Rattle.alog_config.specs.Sound.{AreSoundLoggers, AreSoundSinks, IsSoundKind, IsSoundLogger, IsSoundSink}
-use Rattle.alog_config.proofs.Picking.{Apart, Has, any_has, apart_of_map, at_more, each_is_if, has_any, has_if, has_left}
-use Rattle.alog_config.proofs.Picking.{has_mapped, has_of_map, has_parts, has_right, picked_has, picked_iff, picked_in, picked_more, picked_without}
-use Rattle.alog_config.proofs.Picking.{split_at, take_one_more}
+use Rattle.alog_config.proofs.SharedPicking.{Apart, Has, any_has, apart_of_map, at_more, each_is_if, has_any, has_if, has_left}
+use Rattle.alog_config.proofs.SharedPicking.{has_mapped, has_of_map, has_parts, has_right, picked_has, picked_iff, picked_in, picked_more, picked_without}
+use Rattle.alog_config.proofs.SharedPicking.{split_at, take_one_more}
 use Rattle.alog_msg.specs.declared.level.Level.{Level}
 use Rattle.alog_sink.specs.Files.{Files}
 use Rattle.alog_sink.specs.Opened.{IsFan as IsBuiltFan}

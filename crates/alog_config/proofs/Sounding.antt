@@ -35,7 +35,7 @@ use Rattle.alog_pattern.specs.Scan.{items_of}
 use Rattle.alog_pattern.specs.declared.flags.Flag.TheVariants.{Default}
 use Rattle.alog_pattern.specs.declared.items.Item.{Item}
 use Rattle.alog_pattern.specs.declared.items.Item.TheVariants.{Flag}
-use Rattle.alog_pattern.proofs.Readings.{line_within}
+use Rattle.alog_pattern.proofs.SharedReadings.{line_within}
 use Rattle.alog_registry.specs.declared.TheConstants.{KEPT_MAX}
 use Rattle.alog_sink.specs.Names.{IsFileName}
 use Rattle.toml.specs.Data.{Data, Members}

@@ -8,7 +8,7 @@ use Rattle.alog_config.specs.Built.{EachIs, IsLoggerOf, IsPlace}
 use Rattle.alog_config.specs.Parts.{AnyBuiltFan, IsPartName, TakesOut}
 use Rattle.alog_config.specs.declared.config.LoggerConfig.{LoggerConfig}
 use Rattle.alog_config.proofs.Parting.{name_of}
-use Rattle.alog_config.proofs.Picking.{Has, any_has, has_any, has_got, has_if}
+use Rattle.alog_config.proofs.SharedPicking.{Has, any_has, has_any, has_got, has_if}
 use Rattle.alog_registry.specs.Listed.{name_at}
 use Rattle.alog_registry.specs.declared.logger.Logger.{Logger}
 use Rattle.alog_sink.specs.Opened.{IsFan}

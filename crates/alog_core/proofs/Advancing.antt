@@ -15,13 +15,13 @@ use Rattle.alog_core.specs.declared.said.Said.{Said}
 use Rattle.alog_core.specs.declared.said.Said.TheVariants as said
 use Rattle.alog_core.specs.declared.table.Held.{Held}
 use Rattle.alog_core.specs.declared.table.Table.{Table}
-use Rattle.alog_core.proofs.Cells.{at_same, cell_of-append_same, HasCell-marked}
+use Rattle.alog_core.proofs.SharedCells.{at_same, cell_of-append_same, HasCell-marked}
 use Rattle.std.proofs.lemmas.List.{get_or_read}
 use Rattle.alog_core.proofs.Looks.{PushLooks, push_looks, PopLooks, pop_looks}
 use Rattle.alog_core.proofs.Reading.{settles}
-use Rattle.alog_core.proofs.Rising.{cell_of-without_same}
-use Rattle.alog_core.proofs.Sizes.{size_facts}
-use Rattle.alog_core.proofs.Sound.{next_is_unlisted, sound_after}
+use Rattle.alog_core.proofs.SharedRising.{cell_of-without_same}
+use Rattle.alog_core.proofs.SharedSizes.{size_facts}
+use Rattle.alog_core.proofs.SharedSound.{next_is_unlisted, sound_after}
 use Rattle.alog_core.proofs.Turns.{Turn, turn_claim, turn_mark, turn_take, by_place_turn, turned}
 
 -- a step by what its move is

@@ -1,22 +1,22 @@
-pub mod Cells
-pub mod Rising
-pub mod Sound
-pub mod Histories
-pub mod Accounts
-pub mod Tickets
-pub mod Items
-pub mod Grabs
-pub mod Laps
-pub mod Reading
-pub mod Turns
-pub mod Looks
-pub mod Advancing
-pub mod Starting
-pub mod Moves
-pub mod Steps
-pub mod Others
-pub mod Reached
-pub mod Calls
-pub mod Fronts
-pub mod Runs
-pub mod Sizes
+pub mod SharedCells
+pub mod SharedRising
+pub mod SharedSound
+pub mod SharedHistories
+pub mod SharedAccounts
+pub mod SharedTickets
+pub mod SharedItems
+pub mod SharedGrabs
+mod Laps
+mod Reading
+mod Turns
+mod Looks
+mod Advancing
+mod Starting
+mod Moves
+mod Steps
+mod Others
+pub mod SharedReached
+pub mod SharedCalls
+pub mod SharedFronts
+pub mod SharedRuns
+pub mod SharedSizes

@@ -9,8 +9,8 @@ use Rattle.alog_core.specs.declared.round.Round.{Round}
 use Rattle.alog_core.specs.declared.round.Round.TheVariants as round
 use Rattle.alog_core.specs.declared.mark.Mark.{Mark}
 use Rattle.alog_core.specs.declared.mark.Mark.TheVariants.{Claimed, Written, Emptying}
-use Rattle.alog_core.proofs.Cells.{cell_of-append_other, cell_of-marked_other, cell_of-without_other}
-use Rattle.alog_core.proofs.Sound.{next_is_unlisted}
+use Rattle.alog_core.proofs.SharedCells.{cell_of-append_other, cell_of-marked_other, cell_of-without_other}
+use Rattle.alog_core.proofs.SharedSound.{next_is_unlisted}
 
 -- another actor's event leaves what actor b relies on
 pub record Keeps {T : Type 0} (n : ℕ) (q new : Queue T) (b : ℕ) : Type 0 where

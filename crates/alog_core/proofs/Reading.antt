@@ -14,10 +14,10 @@ use Rattle.std.specs.Option.{option_map}
 use Rattle.std.proofs.lemmas.List.{append-nil, map-append}
 use Rattle.alog_core.specs.World.{shown}
 use Rattle.alog_core.specs.declared.said.CellView.{CellView}
-use Rattle.alog_core.proofs.Cells.{at_same, at_other, ticket_of_cell}
+use Rattle.alog_core.proofs.SharedCells.{at_same, at_other, ticket_of_cell}
 use Rattle.alog_core.proofs.Laps.{same_or_not}
 use Rattle.alog_core.proofs.Moves.{queue_is}
-use Rattle.alog_core.proofs.Rising.{bounds_of_rising, unlisted_below, rises_from_lower, rises_to_higher}
+use Rattle.alog_core.proofs.SharedRising.{bounds_of_rising, unlisted_below, rises_from_lower, rises_to_higher}
 
 -- cells that rise within k tickets are those that a look-up finds, ticket by ticket
 pub read_cells : {T : Type 0} (read : ℕ → Option (Cell T)) (low k : ℕ) (cs : List (Cell T)) → Rises low cs (low + k)

@@ -12,9 +12,9 @@ use Rattle.alog_core.specs.declared.round.Round.{Round}
 use Rattle.alog_core.specs.declared.round.Round.TheVariants as round
 use Rattle.alog_core.specs.declared.mark.Mark.{Mark}
 use Rattle.alog_core.specs.declared.mark.Mark.TheVariants.{Claimed, Written, Emptying}
-use Rattle.alog_core.proofs.Cells.{on_test, ticket_of_cell, cell_of-append_same, HasCell-marked}
-use Rattle.alog_core.proofs.Rising.{listed_within}
-use Rattle.alog_core.proofs.Sound.{next_is_unlisted}
+use Rattle.alog_core.proofs.SharedCells.{on_test, ticket_of_cell, cell_of-append_same, HasCell-marked}
+use Rattle.alog_core.proofs.SharedRising.{listed_within}
+use Rattle.alog_core.proofs.SharedSound.{next_is_unlisted}
 
 -- a test by its two cases
 pub on_either : {X : Type 0} (P : X → Type 0) (b : Bool) (x y : X) → (b ≡ true → P x) → (b ≡ false → P y) → P (cond b x y)

@@ -5,9 +5,9 @@ use native.Mathlib.Nat.{add-mod_right}
 use Rattle.alog_core.specs.Queue.{Cell, Queue, cell_of, marked, without, IsRoom, IsSound}
 use Rattle.alog_core.specs.Words.{IsByPlace}
 use Rattle.alog_core.specs.declared.mark.Mark.{Mark}
-use Rattle.alog_core.proofs.Cells.{cell_of-append_other, cell_of-marked_other, cell_of-without_other}
+use Rattle.alog_core.proofs.SharedCells.{cell_of-append_other, cell_of-marked_other, cell_of-without_other}
 use Rattle.alog_core.proofs.Laps.{same_or_not, near_apart, far_apart}
-use Rattle.alog_core.proofs.Rising.{listed_within}
+use Rattle.alog_core.proofs.SharedRising.{listed_within}
 
 -- Only the look-up of t changes.
 pub record Turn {T : Type 0} (n t : ℕ) (q r : Queue T) : Type 0 where

@@ -13,7 +13,7 @@ use Rattle.alog_pattern.specs.declared.flags.Flag.TheVariants as flags
 use Rattle.alog_pattern.specs.Flag.{greatest_len, ignores_padding}
 use Rattle.alog_pattern.specs.Length.{item_len, padded_len}
 use Rattle.alog_pattern.specs.Padding.{pad, padded}
-use Rattle.alog_pattern.proofs.PaddedLength.{length-pad}
+use Rattle.alog_pattern.proofs.SharedPaddedLength.{length-pad}
 use Rattle.alog_format.specs.Buffer.{Buffer, appended}
 use Rattle.alog_format.specs.Line.{IsShowable, item_text}
 use Rattle.alog_format.specs.Text.{Shown, flag_text, of_source}

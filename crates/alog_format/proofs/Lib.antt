@@ -1,15 +1,15 @@
-pub mod Blocks
-pub mod Parted
-pub mod Clips
-pub mod Crosses
-pub mod FirstItems
-pub mod Gaps
-pub mod ItemTexts
-pub mod Moves
-pub mod Offsets
-pub mod OneLine
-pub mod PaddedTexts
-pub mod Seconds
+mod Blocks
+mod Parted
+mod Clips
+pub mod SharedCrosses
+mod FirstItems
+mod Gaps
+mod ItemTexts
+mod Moves
+pub mod SharedOffsets
+mod OneLine
+mod PaddedTexts
+mod Seconds
 pub mod Shared
-pub mod Steps
-pub mod TextLengths
+mod Steps
+mod TextLengths

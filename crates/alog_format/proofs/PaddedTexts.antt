@@ -7,7 +7,7 @@ use Rattle.std.proofs.lemmas.List.{take_all, take_at, drop_at}
 use Rattle.alog_pattern.specs.declared.items.Padding.{Padding}
 use Rattle.alog_pattern.specs.declared.items.Side.{Side}
 use Rattle.alog_pattern.specs.Padding.{pad}
-use Rattle.alog_pattern.proofs.PaddedLength.{length-pad}
+use Rattle.alog_pattern.proofs.SharedPaddedLength.{length-pad}
 use Rattle.alog_format.specs.Buffer.{Buffer, appended}
 use Rattle.alog_format.specs.Clip.{clipped, HasEnd, limit_of, padded_from}
 

@@ -12,9 +12,9 @@ use Rattle.alog_lane.specs.Roster.{Stage, Idle, Working, members_by, members_at}
 use Rattle.alog_lane.specs.Turns.{Turned, Leads}
 use Rattle.alog_lane.specs.Rule.{LaneSight, Ruled}
 use Rattle.alog_lane.specs.Calls.{Closes}
-use Rattle.alog_lane.proofs.Lists.{same_or_not, one_value}
-use Rattle.alog_lane.proofs.Rosters.{others_have_none, seen_whole, all_members}
-use Rattle.alog_lane.proofs.Knowing.{has_parts}
+use Rattle.alog_lane.proofs.SharedLists.{same_or_not, one_value}
+use Rattle.alog_lane.proofs.SharedRosters.{others_have_none, seen_whole, all_members}
+use Rattle.alog_lane.proofs.SharedKnowing.{has_parts}
 
 module _ {T I S R : Type 0} (turns : T → S → I → R → T → S → Type 0) (may : T → I → S → Type 0) (first : T) where
   abbrev View : Type 0

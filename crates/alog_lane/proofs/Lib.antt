@@ -1,11 +1,11 @@
-pub mod Lists
-pub mod Rosters
-pub mod Knowing
-pub mod Dividing
-pub mod Joining
-pub mod Steps
-pub mod Parting
-pub mod Closing
-pub mod Turning
-pub mod Sharing
-pub mod Crosses
+pub mod SharedLists
+pub mod SharedRosters
+pub mod SharedKnowing
+pub mod SharedDividing
+pub mod SharedJoining
+pub mod SharedSteps
+mod Parting
+mod Closing
+mod Turning
+mod Sharing
+pub mod SharedCrosses

@@ -10,10 +10,10 @@ use Rattle.alog_lane.specs.Roster.{Stage, Idle, Fresh, Joined, Working, Gone, ke
 use Rattle.alog_lane.specs.Roster.{given_part, taking_in, gone}
 use Rattle.alog_lane.specs.Turns.{Turned}
 use Rattle.alog_lane.specs.Rule.{LaneSight, Ruled}
-use Rattle.alog_lane.proofs.Lists.{same_or_not, one_value, at_end}
-use Rattle.alog_lane.proofs.Steps.{lock_stays}
-use Rattle.alog_lane.proofs.Dividing.{agrees_split}
-use Rattle.alog_lane.proofs.Joining.{agrees_join}
+use Rattle.alog_lane.proofs.SharedLists.{same_or_not, one_value, at_end}
+use Rattle.alog_lane.proofs.SharedSteps.{lock_stays}
+use Rattle.alog_lane.proofs.SharedDividing.{agrees_split}
+use Rattle.alog_lane.proofs.SharedJoining.{agrees_join}
 
 module _ {T I S R : Type 0} (turns : T → S → I → R → T → S → Type 0) (may : T → I → S → Type 0) (first : T) where
   abbrev View : Type 0

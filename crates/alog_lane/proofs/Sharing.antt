@@ -7,8 +7,8 @@ use Rattle.alog_lane.specs.Roster.{Stage, Joined, taking_in, given_part}
 use Rattle.alog_lane.specs.Turns.{Turned}
 use Rattle.alog_lane.specs.Rule.{LaneSight, Ruled}
 use Rattle.alog_lane.specs.Plays.{was_named, saw_both}
-use Rattle.alog_lane.proofs.Knowing.{old_members}
-use Rattle.alog_lane.proofs.Steps.{names, sees_both}
+use Rattle.alog_lane.proofs.SharedKnowing.{old_members}
+use Rattle.alog_lane.proofs.SharedSteps.{names, sees_both}
 
 module _ {T I S R : Type 0} (turns : T → S → I → R → T → S → Type 0) (may : T → I → S → Type 0) (first : T) (slots id : ℕ) where
   abbrev View : Type 0

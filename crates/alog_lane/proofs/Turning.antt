@@ -11,8 +11,8 @@ use Rattle.alog_lane.specs.Turns.{Turned, Turns, Leads}
 use Rattle.alog_lane.specs.Rule.{LaneSight, Keeps, index_after, Ruled}
 use Rattle.alog_lane.specs.Plays.{Got, Took, GaveBack, gave_back, last_is}
 use Rattle.alog_lane.specs.Calls.{TakesTurn}
-use Rattle.alog_lane.proofs.Lists.{prefix_longer}
-use Rattle.alog_lane.proofs.Steps.{gives_back, index_more, leads_more}
+use Rattle.alog_lane.proofs.SharedLists.{prefix_longer}
+use Rattle.alog_lane.proofs.SharedSteps.{gives_back, index_more, leads_more}
 
 -- one first value
 pub same_first : {A : Type 0} (a b : A) → Some a ≡ Some b → a ≡ b

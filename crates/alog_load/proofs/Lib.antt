@@ -1,4 +1,4 @@
-pub mod Building
-pub mod Crosses
-pub mod Going
-pub mod Making
+mod Building
+mod Crosses
+mod Going
+mod Making

@@ -1,1 +1,1 @@
-pub mod Crosses
+pub mod SharedCrosses

@@ -1,3 +1,3 @@
-pub mod Begun
-pub mod PaddedLength
-pub mod Readings
+mod Begun
+pub mod SharedPaddedLength
+pub mod SharedReadings

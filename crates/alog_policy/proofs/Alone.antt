@@ -7,10 +7,10 @@ use Rattle.alog_core.specs.Queue.{Cell, Queue, Claim, Full, Front, Empty, Idle, 
 use Rattle.alog_core.specs.Round.{Move, move_of, goes_on, makes, ends, taking, is_blocked, is_claimed, after_event}
 use Rattle.alog_core.specs.declared.round.Round.{Round}
 use Rattle.alog_core.specs.declared.round.Round.TheVariants as round
-use Rattle.alog_core.proofs.Cells.{on_test}
+use Rattle.alog_core.proofs.SharedCells.{on_test}
 use Rattle.alog_policy.specs.Desk.{event_of}
 use Rattle.alog_policy.specs.DeskOutlet.{IsUnbeaten}
-use Rattle.alog_policy.proofs.StepKinds.{either}
+use Rattle.alog_policy.proofs.SharedStepKinds.{either}
 
 -- the ticket that the round read is still the next one, or the front
 abbrev pub IsCurrent : {T : Type 0} → Queue T → Round T → Type 0

@@ -9,9 +9,9 @@ use Rattle.atomic_table.specs.Table.{State, Final, Seen}
 use Rattle.alog_lane.specs.declared.seat.TheConstants.{ALL_PARTS}
 use Rattle.alog_lane.specs.Seats.{Entry, Member, members_of, IsAmong, AreExact, IsFaithful, IsWhole}
 use Rattle.alog_lane.specs.Roster.{Idle, members_at}
-use Rattle.alog_lane.proofs.Lists.{found}
-use Rattle.alog_lane.proofs.Rosters.{all_members}
-use Rattle.alog_lane.proofs.Knowing.{by_stage}
+use Rattle.alog_lane.proofs.SharedLists.{found}
+use Rattle.alog_lane.proofs.SharedRosters.{all_members}
+use Rattle.alog_lane.proofs.SharedKnowing.{by_stage}
 use Rattle.alog_policy.specs.declared.counts.Counts.{Counts}
 use Rattle.alog_policy.specs.declared.loss_book.TheConstants.{OVERRUN, DISCARDED}
 use Rattle.alog_policy.specs.BookAdds.{Add, items_of, posts_of, overrun_after, discarded_after}

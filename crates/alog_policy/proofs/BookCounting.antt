@@ -2,7 +2,7 @@
 use Rattle.std.proofs.Common.{ℕ, [], ◌∙◌}
 use Rattle.atomic_table.specs.Table.{Me}
 use Rattle.alog_lane.specs.Seats.{IsFaithful}
-use Rattle.alog_lane.proofs.Knowing.{made_then}
+use Rattle.alog_lane.proofs.SharedKnowing.{made_then}
 use Rattle.alog_policy.specs.declared.loss_book.TheConstants.{OVERRUN, DISCARDED}
 use Rattle.alog_policy.specs.BookCalls.{AreCounted}
 use Rattle.alog_policy.specs.BookRule.{BookSight}

@@ -14,12 +14,12 @@ use Rattle.alog_lane.specs.declared.seat.TheConstants.{ALL_PARTS}
 use Rattle.alog_lane.specs.Seats.{Entry, Member, own_of, members_of, IsFaithful, AreExact, having_seen}
 use Rattle.alog_lane.specs.Roster.{Stage, Idle, Fresh, Joined, members_at, kept_part, given_part, taking_in, gone, first_sight}
 use Rattle.alog_lane.specs.Plays.{standing, was_named, saw_both}
-use Rattle.alog_lane.proofs.Lists.{sum_with_last}
-use Rattle.alog_lane.proofs.Rosters.{IsLook, agrees_step, agrees_look, agrees_first, seen_whole}
-use Rattle.alog_lane.proofs.Knowing.{by_stage, looks_at_all, look_of_all, its_entry, with_entry, its_step, its_made}
-use Rattle.alog_lane.proofs.Knowing.{named, look_of_named, named_is_told, seeing_both, look_of_both, both_is_told, old_members}
-use Rattle.alog_lane.proofs.Dividing.{agrees_split}
-use Rattle.alog_lane.proofs.Joining.{agrees_join}
+use Rattle.alog_lane.proofs.SharedLists.{sum_with_last}
+use Rattle.alog_lane.proofs.SharedRosters.{IsLook, agrees_step, agrees_look, agrees_first, seen_whole}
+use Rattle.alog_lane.proofs.SharedKnowing.{by_stage, looks_at_all, look_of_all, its_entry, with_entry, its_step, its_made}
+use Rattle.alog_lane.proofs.SharedKnowing.{named, look_of_named, named_is_told, seeing_both, look_of_both, both_is_told, old_members}
+use Rattle.alog_lane.proofs.SharedDividing.{agrees_split}
+use Rattle.alog_lane.proofs.SharedJoining.{agrees_join}
 use Rattle.alog_policy.specs.declared.loss_book.TheConstants.{OVERRUN, DISCARDED}
 use Rattle.alog_policy.specs.BookAdds.{Add, Overran, Discarded, items_of, posts_of, items_in, posts_in, overrun_after, discarded_after}
 use Rattle.alog_policy.specs.BookRule.{BookSight, Tells, Ruled}

@@ -3,7 +3,7 @@ use Rattle.std.proofs.Common.{◌≡◌, ◌≢◌, ℕ, ◌+◌, cond, List, []
 use Rattle.std.specs.List.{AllByRecursion, sum_by}
 use Rattle.std.proofs.lemmas.List.Sums.{sum_by-cons}
 use Rattle.alog_lane.specs.Seats.{Entry, Member, own_of, IsAmong, AreDistinct, AreExact}
-use Rattle.alog_lane.proofs.Lists.{on_test}
+use Rattle.alog_lane.proofs.SharedLists.{on_test}
 
 module _ {D : Type 0} (f : Entry D → ℕ) where
   abbrev pub own_sum : List (Member D) → ℕ

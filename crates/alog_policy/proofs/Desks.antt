@@ -10,7 +10,7 @@ use Rattle.alog_core.specs.declared.round.Round.{Round}
 use Rattle.alog_core.specs.declared.round.Round.TheVariants as round
 use Rattle.alog_core.specs.declared.said.Said.{Said}
 use Rattle.alog_core.specs.declared.said.Said.TheVariants as said
-use Rattle.alog_core.proofs.Cells.{on_test}
+use Rattle.alog_core.proofs.SharedCells.{on_test}
 use Rattle.alog_policy.specs.Progress.{IsKept}
 use Rattle.alog_policy.specs.Desk.{DeskView, post_of, Follows, Stays, Ends, Leads, follows, call_of, hand_of, turn_to}
 use Rattle.alog_policy.specs.DeskInside.{IsPushing, IsPopping, FitsRound, Fits, IsKeptDesk}
@@ -21,9 +21,9 @@ use Rattle.alog_policy.specs.declared.progress.Side.{Side}
 use Rattle.alog_policy.specs.declared.progress.Side.TheVariants.{Push, Pop}
 use Rattle.alog_policy.specs.declared.progress.Progress.{Progress}
 use Rattle.alog_policy.specs.declared.progress.Lost.{Lost}
-use Rattle.alog_policy.proofs.StepKinds.{PushHas, PopSeeks, Kind, IsIdle, Pushes, Claims, FindsFull, PushIsBusy, IsSpent, Writes}
-use Rattle.alog_policy.proofs.StepKinds.{Pops, Grabs, FindsFront, FindsEmpty, FindsIdle, PopIsBusy, Takes, brought_push}
-use Rattle.alog_policy.proofs.StepKinds.{brought_pop}
+use Rattle.alog_policy.proofs.SharedStepKinds.{PushHas, PopSeeks, Kind, IsIdle, Pushes, Claims, FindsFull, PushIsBusy, IsSpent, Writes}
+use Rattle.alog_policy.proofs.SharedStepKinds.{Pops, Grabs, FindsFront, FindsEmpty, FindsIdle, PopIsBusy, Takes, brought_push}
+use Rattle.alog_policy.proofs.SharedStepKinds.{brought_pop}
 
 -- a desk in which one actor's round and post were set
 pub kept_set : {T : Type 0} (d e : DeskView T) (a : ℕ) (r : Round T) (p : Option (Post T)) → IsKeptDesk d → a < ACTORS

@@ -1,7 +1,7 @@
 -- What is true of a post under way stays true.
 use Rattle.std.proofs.Common.{◌≡◌, ℕ, ◌+◌, ◌<◌, ◌≤◌, cond, Ok, Err, refl, sym, subst, arith}
 use Rattle.std.specs.Prelude.{IfOk}
-use Rattle.alog_core.proofs.Cells.{on_test}
+use Rattle.alog_core.proofs.SharedCells.{on_test}
 use Rattle.alog_policy.specs.Progress.{IsKept, begun, lost, pushing, with_take, counting, again_under, again}
 use Rattle.alog_policy.specs.Progress.{full_under, after_full, after_take}
 use Rattle.alog_policy.specs.declared.TheConstants.{ROUNDS_MAX}

@@ -1,20 +1,20 @@
-pub mod Posts
-pub mod Keeping
-pub mod Working
-pub mod Leading
-pub mod Way
-pub mod StepKinds
-pub mod Alone
-pub mod Desks
-pub mod Turns
-pub mod DeskSteps
-pub mod Making
-pub mod Cutting
-pub mod Running
-pub mod Losses
-pub mod BookSteps
-pub mod BookCounting
-pub mod BookSums
-pub mod BookClosing
-pub mod Ports
-pub mod Crosses
+mod Posts
+mod Keeping
+mod Working
+mod Leading
+mod Way
+pub mod SharedStepKinds
+mod Alone
+mod Desks
+mod Turns
+pub mod SharedDeskSteps
+pub mod SharedMaking
+mod Cutting
+pub mod SharedRunning
+mod Losses
+mod BookSteps
+mod BookCounting
+mod BookSums
+mod BookClosing
+mod Ports
+pub mod SharedCrosses

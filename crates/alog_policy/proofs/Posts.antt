@@ -3,8 +3,8 @@ use Rattle.std.proofs.Common.{◌≡◌, ℕ, ◌+◌, ◌<◌, cond, Ok, Err, L
 use Rattle.std.proofs.Common.{refl, sym, ap, subst, ◌∙◌, arith, zero-add, add_assoc, append_assoc, append-nil, length-append}
 use Rattle.std.specs.List.{AllByRecursion}
 use Rattle.alog_core.specs.Queue.{Event, Full}
-use Rattle.alog_core.proofs.Cells.{on_test}
-use Rattle.alog_ring.proofs.Lists.{each_append}
+use Rattle.alog_core.proofs.SharedCells.{on_test}
+use Rattle.alog_ring.proofs.SharedLists.{each_append}
 use Rattle.alog_policy.specs.Post.{Round, Waited, events_of_round, IsRoundUnder, End}
 use Rattle.alog_policy.specs.Post.{NoRoom, OutOfRounds, events_of_end, IsEndUnder, outcome_of}
 use Rattle.alog_policy.specs.Post.{counted, events_of_rounds, take_in, takes_in, IsPost, Part, Pushing, Popping}

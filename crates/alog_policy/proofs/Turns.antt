@@ -26,8 +26,8 @@ use Rattle.alog_policy.specs.declared.progress.Progress.{Progress}
 use Rattle.alog_policy.specs.declared.progress.Lost.{Lost}
 use Rattle.alog_policy.proofs.Posts.{part_agrees, end_agrees, again_agrees, take_agrees, full_agrees}
 use Rattle.alog_policy.proofs.Keeping.{kept_again, kept_full, kept_take}
-use Rattle.alog_policy.proofs.StepKinds.{PushHas, PopSeeks, Kind, IsIdle, Pushes, Claims, FindsFull, PushIsBusy, IsSpent, Writes}
-use Rattle.alog_policy.proofs.StepKinds.{Pops, Grabs, FindsFront, FindsEmpty, FindsIdle, PopIsBusy, Takes}
+use Rattle.alog_policy.proofs.SharedStepKinds.{PushHas, PopSeeks, Kind, IsIdle, Pushes, Claims, FindsFull, PushIsBusy, IsSpent, Writes}
+use Rattle.alog_policy.proofs.SharedStepKinds.{Pops, Grabs, FindsFront, FindsEmpty, FindsIdle, PopIsBusy, Takes}
 use Rattle.alog_policy.proofs.Desks.{push_side, pop_side, fits_push, fits_pop, saying, push_says, pop_says, says, turn_led_fits}
 
 -- The post of an actor fits its round after the step too.

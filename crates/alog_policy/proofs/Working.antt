@@ -1,7 +1,7 @@
 -- A post that never waits comes to an end: there is less and less work left.
 use Rattle.std.proofs.Common.{◌≡◌, ◌≢◌, ◌+◌, ◌-◌, ◌*◌, ◌<◌, cond, Result, Ok, Err, refl, ap, arith}
 use Rattle.std.specs.Prelude.{IfOk}
-use Rattle.alog_core.proofs.Cells.{on_test}
+use Rattle.alog_core.proofs.SharedCells.{on_test}
 use Rattle.alog_policy.specs.Progress.{lost, pushing, counting, again_under, again, full_under, after_full, after_take}
 use Rattle.alog_policy.specs.Progress.{half, work, with_take}
 use Rattle.alog_policy.specs.declared.TheConstants.{ROUNDS_MAX}

@@ -6,10 +6,10 @@ use Rattle.alog_core.specs.History.{Entry}
 use Rattle.alog_ring.specs.Known.{Known, PassView}
 use Rattle.alog_ring.specs.Kinds.{no_note}
 use Rattle.alog_ring.specs.Made.{Made}
-use Rattle.alog_ring.proofs.Calling.{made_more}
+use Rattle.alog_ring.proofs.SharedCalling.{made_more}
 use Rattle.alog_lane.specs.Seats as lane
-use Rattle.alog_lane.proofs.Knowing.{made_then}
-use Rattle.alog_lane.proofs.Lists.{each_append}
+use Rattle.alog_lane.proofs.SharedKnowing.{made_then}
+use Rattle.alog_lane.proofs.SharedLists.{each_append}
 use Rattle.alog_policy.specs.BookAdds.{Add, items_of, posts_of}
 use Rattle.alog_policy.specs.BookCalls.{SeatView}
 use Rattle.alog_policy.specs.Port.{Rounds, PassMade, IsOneLoss, SeatCounted, PortDid}

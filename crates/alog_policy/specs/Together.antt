@@ -4,8 +4,8 @@ use Rattle.alog_core.specs.Queue.{Event}
 use Rattle.alog_core.specs.History.{Entry}
 use Rattle.alog_core.specs.Run.{GoesOn}
 use Rattle.alog_core.specs.World.{Machine}
-use Rattle.alog_core.proofs.Fronts.{goes_further}
-use Rattle.alog_lane.proofs.Lists.{each_append}
+use Rattle.alog_core.proofs.SharedFronts.{goes_further}
+use Rattle.alog_lane.proofs.SharedLists.{each_append}
 use Rattle.alog_policy.specs.Desk.{DeskView, one_more}
 use Rattle.alog_policy.specs.DeskOutlet.{more, with_losses, IsUnbeaten, DeskDid}
 use Rattle.alog_policy.specs.Rounds.{entries_by, Makes}

@@ -16,7 +16,7 @@ use Rattle.alog_pool.specs.Places.{Each3}
 use Rattle.alog_pool.specs.Pool.{IsUnused, lanes_of}
 use Rattle.alog_pool.specs.Report.{AreClosed, IsClosed}
 use Rattle.alog_pool.specs.Rows.{heads, tails}
-use Rattle.alog_pool.proofs.Back.{sum_mod}
+use Rattle.alog_pool.proofs.SharedBack.{sum_mod}
 use Rattle.alog_sink.specs.Files.{Files}
 use Rattle.alog_sink.specs.Sinks.{Turns}
 use Rattle.alog_sink.specs.declared.sink.Sink.{Sink}

@@ -5,7 +5,7 @@ use Rattle.std.specs.Prelude.{slice_index_or, slice_get}
 use Rattle.std.proofs.lemmas.List.{map-append}
 use Rattle.std.proofs.lemmas.Option.{slice_get-map}
 use Rattle.std.proofs.Math.Nat.{mod-add-mod}
-use Rattle.alog_core.proofs.Cells.{on_test, at_same, at_other}
+use Rattle.alog_core.proofs.SharedCells.{on_test, at_same, at_other}
 use Rattle.alog_format.specs.Buffer.{Buffer}
 use Rattle.alog_lane.specs.Seats.{Entry}
 use Rattle.alog_lane.specs.Turns.{Turned}

@@ -6,9 +6,9 @@ use mathlib.Core.List.{IsPrefix}
 use Rattle.std.proofs.lemmas.List.Sums.{sum_by-cons, sum_by-append}
 use Rattle.alog_core.specs.Accounts.{got_by, claims, takes, weigh, claimed, taken}
 use Rattle.alog_core.specs.History.{Entry, own_of}
-use Rattle.alog_core.proofs.Accounts.{weigh-append, accounts_balance}
-use Rattle.alog_core.proofs.Cells.{on_test}
-use Rattle.alog_core.proofs.Histories.{own_of-append}
+use Rattle.alog_core.proofs.SharedAccounts.{weigh-append, accounts_balance}
+use Rattle.alog_core.proofs.SharedCells.{on_test}
+use Rattle.alog_core.proofs.SharedHistories.{own_of-append}
 use Rattle.alog_lane.specs.Seats as lane
 use Rattle.alog_msg.specs.declared.item.Item.{Item}
 use Rattle.alog_msg.specs.declared.item.Item.TheVariants.{Text, Flush, Stop}
@@ -24,7 +24,7 @@ use Rattle.alog_ring.specs.Kinds.{no_note}
 use Rattle.alog_ring.specs.Known.{Known, Member, members_of, IsAmong, AreDistinct}
 use Rattle.alog_ring.specs.Made.{AreExact, IsFaithful, Made}
 use Rattle.alog_ring.specs.Share.{IsWhole, Joins}
-use Rattle.alog_ring.proofs.Lists.{each_of, each_of_two, each_append, prefix_same, prefix_through}
+use Rattle.alog_ring.proofs.SharedLists.{each_of, each_of_two, each_append, prefix_same, prefix_through}
 
 abbrev Deed : Type 0
 Deed = Entry Item no_note

@@ -8,7 +8,7 @@ use Rattle.alog_msg.specs.declared.item.Item.TheVariants.{Stop}
 use Rattle.alog_pool.specs.Accounts.{Moved, work, of_work}
 use Rattle.alog_pool.specs.Stops.{AreStops, DidPost, IsSpent, PutsStops, SawSpent}
 use Rattle.alog_pool.proofs.Moves.{answer_moved, busy_pushes, moved_more, not_moved, pushed_moved}
-use Rattle.alog_pool.proofs.Sharing.{all_more}
+use Rattle.alog_pool.proofs.SharedSharing.{all_more}
 use Rattle.alog_ring.specs.Calls.{by}
 use Rattle.alog_ring.specs.Kinds.{no_note}
 use Rattle.alog_ring.specs.Known.{Known}

@@ -13,7 +13,7 @@ use Rattle.alog_msg.specs.declared.message.Message.{Message}
 use Rattle.alog_pool.specs.SinkSeat.{Answer, fault_in}
 use Rattle.alog_pool.specs.Deeds.{faults_in, told}
 use Rattle.alog_pool.specs.OneWorker.{HoldsMore, texts_in}
-use Rattle.alog_sink.proofs.LaneRuns.{fan_writes, leaf_writes}
+use Rattle.alog_sink.proofs.SharedLaneRuns.{fan_writes, leaf_writes}
 use Rattle.alog_sink.specs.Files.{Files}
 use Rattle.alog_sink.specs.LaneRuns.{AreServed, texts_of, with_text}
 use Rattle.alog_sink.specs.Sinks.{Turns}

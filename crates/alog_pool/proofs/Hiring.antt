@@ -6,13 +6,13 @@ use Rattle.std.specs.List.{AllByRecursion, range_with_len}
 use Rattle.alog_core.specs.Accounts.{claims, takes, grabbed, handed_out, taken}
 use Rattle.alog_core.specs.History.{Entry}
 use Rattle.alog_core.specs.World.{is_size}
-use Rattle.alog_core.proofs.Sizes.{size_facts}
+use Rattle.alog_core.proofs.SharedSizes.{size_facts}
 use Rattle.alog_msg.specs.declared.item.Item.{Item}
 use Rattle.alog_pool.specs.Accounts.{of_work, work_tickets}
 use Rattle.alog_pool.specs.SinkSeat.{SinkSeatView, places_of}
 use Rattle.alog_pool.specs.Working.{AreLimited, IsFresh, IsWorkOf, numbers_of}
 use Rattle.alog_pool.specs.declared.worker.Worker.{Worker}
-use Rattle.alog_pool.proofs.Back.{map_more}
+use Rattle.alog_pool.proofs.SharedBack.{map_more}
 use Rattle.alog_ring.specs.Kinds.{no_note}
 use Rattle.alog_ring.specs.Known.{Known, PassView}
 use Rattle.alog_ring.specs.Made.{IsFaithful}

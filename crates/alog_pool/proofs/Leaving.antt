@@ -8,10 +8,10 @@ use Rattle.alog_core.specs.History.{Entry, left_by, own_of, IsLegal, IsLegalFrom
 use Rattle.alog_core.specs.Queue.{Cell, Queue, Event, Claim, Write, Grab, Take, Full, Front, Empty, Idle, PushBusy, PopBusy, Spent, start, last}
 use Rattle.alog_core.specs.Queue.{cell_of, Allows, after, IsListed, IsSound}
 use Rattle.alog_core.specs.declared.mark.Mark.TheVariants.{Written}
-use Rattle.alog_core.proofs.Cells.{on_test}
-use Rattle.alog_core.proofs.Histories.{legal_first, legal_second, sound_by_history}
-use Rattle.alog_core.proofs.Items.{tickets_keep_their_items}
-use Rattle.alog_core.proofs.Sound.{sound_start, sound_after}
+use Rattle.alog_core.proofs.SharedCells.{on_test}
+use Rattle.alog_core.proofs.SharedHistories.{legal_first, legal_second, sound_by_history}
+use Rattle.alog_core.proofs.SharedItems.{tickets_keep_their_items}
+use Rattle.alog_core.proofs.SharedSound.{sound_start, sound_after}
 use Rattle.alog_msg.specs.declared.item.Item.{Item}
 use Rattle.alog_msg.specs.declared.item.Item.TheVariants.{Text, Flush, Stop}
 use Rattle.alog_pool.specs.Accounts.{work, of_work, stop, of_stops, SawEnd}
@@ -22,7 +22,7 @@ use Rattle.alog_pool.proofs.Sums.{members_balance}
 use Rattle.alog_ring.specs.Kinds.{no_note}
 use Rattle.alog_ring.specs.Known.{Member, members_of}
 use Rattle.alog_ring.specs.Made.{AreExact}
-use Rattle.alog_ring.proofs.Stepping.{rises_after, rises_left}
+use Rattle.alog_ring.proofs.SharedStepping.{rises_after, rises_left}
 
 abbrev Deed : Type 0
 Deed = Entry Item no_note

@@ -23,3 +23,4 @@ mod Posted
 mod Workers
 mod OneWorker
 mod Logged
+pub mod SharedOpening

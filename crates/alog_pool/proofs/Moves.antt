@@ -15,8 +15,8 @@ use Rattle.alog_ring.specs.Made.{IsFaithful}
 use Rattle.alog_ring.specs.Waits.{BusyPops, BusyPushes, PoppedAtLast, PopRefusedAtLast}
 use Rattle.alog_ring.specs.declared.pop.PopError.{PopError}
 use Rattle.alog_ring.specs.declared.pop.PopError.TheVariants as pop
-use Rattle.alog_ring.proofs.Calling.{made_more}
-use Rattle.alog_ring.proofs.Lists.{prefix_same}
+use Rattle.alog_ring.proofs.SharedCalling.{made_more}
+use Rattle.alog_ring.proofs.SharedLists.{prefix_same}
 
 module _ {T N : Type 0} where
   pub claims-append : (h g : List (Entry T N)) → claims (h ++ g) ≡ claims h ++ claims g

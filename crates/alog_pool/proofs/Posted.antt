@@ -9,10 +9,10 @@ use Rattle.std.proofs.lemmas.List.Sums.{sum_by-cons, sum_by-append}
 use Rattle.alog_core.specs.Accounts.{put_by, got_by, claims, takes, issued, weigh, claimed, taken}
 use Rattle.alog_core.specs.History.{Entry, own_of, IsLegalFrom}
 use Rattle.alog_core.specs.Queue.{Queue, Event, Claim, Write, Grab, Take, Full, Front, Empty, Idle, PushBusy, PopBusy, Spent, Allows, after, start}
-use Rattle.alog_core.proofs.Accounts.{accounts_balance, weigh-append}
-use Rattle.alog_core.proofs.Cells.{on_test}
-use Rattle.alog_core.proofs.Items.{tickets_keep_their_items}
-use Rattle.alog_core.proofs.Tickets.{times, times_contained, issued_once}
+use Rattle.alog_core.proofs.SharedAccounts.{accounts_balance, weigh-append}
+use Rattle.alog_core.proofs.SharedCells.{on_test}
+use Rattle.alog_core.proofs.SharedItems.{tickets_keep_their_items}
+use Rattle.alog_core.proofs.SharedTickets.{times, times_contained, issued_once}
 use Rattle.alog_msg.specs.declared.item.Item.{Item}
 use Rattle.alog_msg.specs.declared.item.Item.TheVariants.{Text, Flush, Stop}
 use Rattle.alog_pool.specs.Accounts.{work_tickets}
@@ -24,14 +24,14 @@ use Rattle.alog_pool.specs.Report.{AllCameOut, IsRising}
 use Rattle.alog_pool.specs.Stops.{AreStops}
 use Rattle.alog_pool.specs.Workers.{together}
 use Rattle.alog_pool.specs.declared.worker.Worker.{Worker}
-use Rattle.alog_pool.proofs.Back.{sum_of_map}
+use Rattle.alog_pool.proofs.SharedBack.{sum_of_map}
 use Rattle.alog_pool.proofs.Sums.{whole_taken}
 use Rattle.alog_registry.specs.declared.logger.Logger.{Logger}
 use Rattle.alog_ring.specs.Kinds.{no_note}
 use Rattle.alog_ring.specs.Known.{Member, Known, members_of, IsAmong}
 use Rattle.alog_ring.specs.Made.{AreExact}
 use Rattle.alog_ring.specs.Share.{IsWhole}
-use Rattle.alog_ring.proofs.Stepping.{rises_after}
+use Rattle.alog_ring.proofs.SharedStepping.{rises_after}
 
 abbrev Deed : Type 0
 Deed = Entry Item no_note

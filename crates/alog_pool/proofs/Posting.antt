@@ -4,7 +4,7 @@ use Rattle.std.proofs.lemmas.List.Sums.{sum_by-append}
 use Rattle.alog_core.specs.Accounts.{got_by, claims, takes, weigh, claimed, taken}
 use Rattle.alog_core.specs.History.{Entry}
 use Rattle.alog_core.specs.Queue.{Event, Claim, Write, Grab, Take, Full, Front, Empty, Idle, PushBusy, PopBusy, Spent}
-use Rattle.alog_core.proofs.Accounts.{weigh-append}
+use Rattle.alog_core.proofs.SharedAccounts.{weigh-append}
 use Rattle.alog_lane.specs.Seats as lane
 use Rattle.alog_msg.specs.declared.item.Item.{Item}
 use Rattle.alog_policy.specs.BookAdds.{Add, items_of, items_in}

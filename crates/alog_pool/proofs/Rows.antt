@@ -11,7 +11,7 @@ use Rattle.alog_pool.specs.Collected.{HasPlacesBack, HaveBack, TakesBack}
 use Rattle.alog_pool.specs.Places.{Each2, Each3, IsSameLane}
 use Rattle.alog_pool.specs.Pool.{IsNew, IsUnused, lanes_of}
 use Rattle.alog_pool.specs.Rows.{heads, tails}
-use Rattle.alog_pool.proofs.Back.{map_more, seats_start, seats_one, sum_more}
+use Rattle.alog_pool.proofs.SharedBack.{map_more, seats_start, seats_one, sum_more}
 
 module _ {A : Type 0} where
   pub heads_more : (rows : List (List A)) (x : A) (xs : List A) → heads (rows ++ (x ∷ xs) ∷ []) ≡ heads rows ++ x ∷ []

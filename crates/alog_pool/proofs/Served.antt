@@ -6,7 +6,7 @@ use Rattle.std.specs.List.{AllByRecursion, AllPairs}
 use Rattle.std.specs.Arc.{arc_value}
 use Rattle.alog_core.specs.Accounts.{takes, grabbed, handed_out}
 use Rattle.alog_core.specs.History.{Entry, own_of}
-use Rattle.alog_core.proofs.Grabs.{an_actors_tickets_rise}
+use Rattle.alog_core.proofs.SharedGrabs.{an_actors_tickets_rise}
 use Rattle.alog_format.specs.Buffer.{Buffer}
 use Rattle.alog_lane.specs.Calls.{LaneId}
 use Rattle.alog_lane.specs.Seats as lane

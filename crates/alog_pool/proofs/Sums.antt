@@ -5,8 +5,8 @@ use Rattle.std.proofs.lemmas.List.Sums.{sum_by-cons}
 use Rattle.alog_core.specs.Accounts.{put_by, got_by, claims, takes, weigh, claimed, taken, listed}
 use Rattle.alog_core.specs.History.{Entry, own_of, left_by}
 use Rattle.alog_core.specs.Queue.{start}
-use Rattle.alog_core.proofs.Accounts.{weigh-append, accounts_balance}
-use Rattle.alog_core.proofs.Cells.{on_test}
+use Rattle.alog_core.proofs.SharedAccounts.{weigh-append, accounts_balance}
+use Rattle.alog_core.proofs.SharedCells.{on_test}
 use Rattle.alog_ring.specs.Known.{Member, Known, members_of, IsAmong, AreDistinct}
 use Rattle.alog_ring.specs.Made.{AreExact}
 use Rattle.alog_ring.specs.Share.{IsWhole}

@@ -22,7 +22,7 @@ use Rattle.alog_pool.specs.Whole.{claimed_among, taken_among}
 use Rattle.alog_pool.specs.Working.{HasWorked}
 use Rattle.alog_pool.specs.declared.worker.Worker.{Worker}
 use Rattle.alog_pool.specs.declared.report.Totals.{Totals}
-use Rattle.alog_pool.proofs.Back.{sum_mod, sum_of_map}
+use Rattle.alog_pool.proofs.SharedBack.{sum_mod, sum_of_map}
 use Rattle.alog_pool.proofs.Ended.{all_came_out, ending_moved, ending_starts, overrun_or_handled}
 use Rattle.alog_pool.proofs.Halting.{no_work_in_stops}
 use Rattle.alog_pool.proofs.Served.{all_handled, one_ended, put_nothing}
@@ -30,7 +30,7 @@ use Rattle.alog_pool.proofs.Worked.{moved_gots, moved_puts}
 use Rattle.alog_ring.specs.Kinds.{no_note}
 use Rattle.alog_ring.specs.Known.{Known, Member}
 use Rattle.alog_ring.specs.Share.{IsWhole}
-use Rattle.alog_ring.proofs.Lists.{prefix_through}
+use Rattle.alog_ring.proofs.SharedLists.{prefix_through}
 
 abbrev Deed : Type 0
 Deed = Entry Item no_note

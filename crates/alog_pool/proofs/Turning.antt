@@ -5,7 +5,7 @@ use Rattle.alog_format.specs.Buffer.{Buffer}
 use Rattle.alog_lane.specs.Calls.{TakesTurn}
 use Rattle.alog_lane.specs.Seats.{Known}
 use Rattle.alog_lane.specs.Turns.{Turned}
-use Rattle.alog_lane.proofs.Steps.{its_turn}
+use Rattle.alog_lane.proofs.SharedSteps.{its_turn}
 use Rattle.alog_msg.specs.declared.item.Item.{Item}
 use Rattle.alog_msg.specs.declared.item.Item.TheVariants.{Text, Flush, Stop}
 use Rattle.alog_pool.specs.SinkSeat.{Answer, SinkSeatView, Place, place_of, places_of, IsServable, AreServable, Serves}

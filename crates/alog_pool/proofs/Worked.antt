@@ -4,7 +4,7 @@ use Rattle.std.proofs.lemmas.List.{length-take}
 use Rattle.std.proofs.Math.Nat.{mod-add-mod}
 use Rattle.alog_core.specs.History.{Entry}
 use Rattle.alog_core.specs.Accounts.{claims, takes, grabbed, weigh, taken}
-use Rattle.alog_core.proofs.Accounts.{weigh-append}
+use Rattle.alog_core.proofs.SharedAccounts.{weigh-append}
 use Rattle.alog_msg.specs.declared.item.Item.{Item}
 use Rattle.alog_msg.specs.declared.item.Item.TheVariants.{Text, Flush, Stop}
 use Rattle.alog_pool.specs.Accounts.{of_work, of_stops, work_tickets, Moved}

@@ -4,7 +4,7 @@ use Rattle.std.specs.List.{AllByRecursion, sum_by}
 use Rattle.std.proofs.lemmas.List.{length-map}
 use Rattle.std.proofs.lemmas.List.Sums.{sum_by-cons}
 use Rattle.alog_core.specs.Accounts.{claims, takes}
-use Rattle.alog_core.proofs.Cells.{on_test}
+use Rattle.alog_core.proofs.SharedCells.{on_test}
 use Rattle.alog_format.specs.Buffer.{Buffer}
 use Rattle.alog_lane.specs.Calls.{LaneId}
 use Rattle.alog_lane.specs.Seats.{AreDistinct, AreExact, IsAmong, Member, own_of}
@@ -21,7 +21,7 @@ use Rattle.alog_pool.specs.Report.{AreClosed, HasServed, IsClosed, IsRising, Mad
 use Rattle.alog_pool.specs.Rows.{heads, tails}
 use Rattle.alog_pool.specs.Workers.{AllWrite, AreAllWritten, IsMerged, IsNext, WorkersWriteWhatWasPosted}
 use Rattle.alog_pool.specs.declared.worker.Worker.{Worker}
-use Rattle.alog_pool.proofs.Back.{sum_of_map}
+use Rattle.alog_pool.proofs.SharedBack.{sum_of_map}
 use Rattle.alog_pool.proofs.Held.{Turn, texts_held}
 use Rattle.alog_pool.proofs.Posted.{posted, work_by, work_dues, work_tickets_are}
 use Rattle.alog_pool.proofs.Served.{rising_works}

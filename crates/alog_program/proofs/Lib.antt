@@ -1,4 +1,4 @@
-pub mod Statuses
-pub mod Commands
-pub mod CommandLines
-pub mod Loading
+mod Statuses
+mod Commands
+mod CommandLines
+mod Loading

@@ -1,5 +1,5 @@
-pub mod Listing
-pub mod Keeping
-pub mod Posting
-pub mod Dumps
-pub mod Crosses
+mod Listing
+mod Keeping
+mod Posting
+mod Dumps
+pub mod SharedCrosses

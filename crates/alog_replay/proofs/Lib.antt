@@ -1,22 +1,22 @@
-pub mod CutLemmas
-pub mod FormLemmas
-pub mod LineLemmas
-pub mod PieceLemmas
-pub mod KnownBytes
-pub mod KnownLemmas
-pub mod EntryLemmas
-pub mod Duties
-pub mod PlainLemmas
-pub mod Numbers
-pub mod Fitting
-pub mod Acting
-pub mod Stepping
-pub mod Turning
-pub mod Opening
-pub mod Writing
-pub mod Going
-pub mod Holding
-pub mod Telling
-pub mod Endings
-pub mod Placing
-pub mod Staging
+mod CutLemmas
+mod FormLemmas
+mod LineLemmas
+mod PieceLemmas
+mod KnownBytes
+mod KnownLemmas
+mod EntryLemmas
+mod Duties
+mod PlainLemmas
+mod Numbers
+mod Fitting
+mod Acting
+mod Stepping
+mod Turning
+mod Opening
+mod Writing
+mod Going
+mod Holding
+mod Telling
+mod Endings
+mod Placing
+mod Staging

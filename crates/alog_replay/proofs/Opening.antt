@@ -9,7 +9,7 @@ use Rattle.alog_pattern.specs.Scan.{items_of}
 use Rattle.alog_pattern.specs.declared.flags.Flag.TheVariants.{Text}
 use Rattle.alog_pattern.specs.declared.items.Item.{Item}
 use Rattle.alog_pattern.specs.declared.items.Item.TheVariants.{Flag}
-use Rattle.alog_pattern.proofs.Readings.{only_reading}
+use Rattle.alog_pattern.proofs.SharedReadings.{only_reading}
 use Rattle.alog_sink.specs.Files.{Files}
 use Rattle.alog_sink.specs.Opened.{Opened}
 use Rattle.alog_sink.specs.declared.face.Face.{Face}

@@ -9,19 +9,19 @@ use Rattle.alog_core.specs.declared.mark.Mark.TheVariants.{Claimed, Written, Emp
 use Rattle.alog_core.specs.Queue.{Cell, Queue, Event, Claim, Write, Grab, Take, last, cell_of, HasCell, IsRoom, Allows, after}
 use Rattle.alog_core.specs.Queue.{IsSound}
 use Rattle.alog_core.specs.History.{Entry, latest, Follows, StandsFor}
-use Rattle.alog_core.proofs.Cells.{cell_of-append_same, cell_of-marked_same}
-use Rattle.alog_core.proofs.Rising.{cell_of-without_same}
-use Rattle.alog_core.proofs.Histories.{stands_after}
-use Rattle.alog_core.proofs.Sound.{next_is_unlisted, sound_after}
+use Rattle.alog_core.proofs.SharedCells.{cell_of-append_same, cell_of-marked_same}
+use Rattle.alog_core.proofs.SharedRising.{cell_of-without_same}
+use Rattle.alog_core.proofs.SharedHistories.{stands_after}
+use Rattle.alog_core.proofs.SharedSound.{next_is_unlisted, sound_after}
 use Rattle.alog_ring.specs.declared.words.TheConstants.{NEXT, FRONT, SEQUENCES, APART}
 use Rattle.alog_ring.specs.Made.{entry, Adds}
 use Rattle.alog_ring.specs.Sight.{Stage, Idle, Writing, Reading, Sight}
 use Rattle.alog_ring.specs.Rule.{IsAtWork, Staged, seq_of, ShowsCell, Shown, Ruled}
-use Rattle.alog_ring.proofs.Lists.{not_both}
+use Rattle.alog_ring.proofs.SharedLists.{not_both}
 use Rattle.alog_ring.proofs.Telling.{grown}
 use Rattle.alog_ring.proofs.Turning.{Turn, within, turn_claim, turn_write, turn_grab, turn_take, staged_turn}
 use Rattle.alog_ring.proofs.Showing.{shown_turn}
-use Rattle.alog_ring.proofs.Stepping.{PlaceKind, one_of, sound_now, made, kept}
+use Rattle.alog_ring.proofs.SharedStepping.{PlaceKind, one_of, sound_now, made, kept}
 
 module _ {S T N : Type 0} (kind : PlaceKind S T N) (n f : ℕ) (s : State S (Sight T N))
     (r : Ruled kind.has kind.spare n f s) (a : ℕ) (v : Sight T N) (at : get_elem? s.views a ≡ maybe.some v)

@@ -4,8 +4,8 @@ use Rattle.std.specs.List.{AllByRecursion}
 use Rattle.std.proofs.lemmas.List.{append-nil, length-append}
 use mathlib.Core.List.{IsPrefix}
 use Rattle.alog_core.specs.History.{Entry, own_of}
-use Rattle.alog_core.proofs.Cells.{at_same}
-use Rattle.alog_core.proofs.Histories.{own_of-append}
+use Rattle.alog_core.proofs.SharedCells.{at_same}
+use Rattle.alog_core.proofs.SharedHistories.{own_of-append}
 use Rattle.alog_ring.specs.Known.{Member, Known, members_of, IsAmong}
 use Rattle.alog_ring.specs.Kinds.{no_note}
 use Rattle.alog_ring.specs.Made.{AreExact, IsFaithful, Made}

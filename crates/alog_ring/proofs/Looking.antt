@@ -9,11 +9,11 @@ use Rattle.alog_core.specs.declared.mark.Mark.{Mark}
 use Rattle.alog_core.specs.declared.mark.Mark.TheVariants.{Claimed, Written, Emptying}
 use Rattle.alog_core.specs.Queue.{Cell, Queue, cell_of, HasCell, IsListed, IsBlocked, IsRoom, IsWritten, IsUnwritten, IsSound}
 use Rattle.alog_core.specs.History.{Entry}
-use Rattle.alog_core.proofs.Cells.{ticket_of_cell}
-use Rattle.alog_core.proofs.Rising.{unlisted_below}
+use Rattle.alog_core.proofs.SharedCells.{ticket_of_cell}
+use Rattle.alog_core.proofs.SharedRising.{unlisted_below}
 use Rattle.alog_ring.specs.declared.words.TheConstants.{SEQUENCES, APART}
 use Rattle.alog_ring.specs.Rule.{seq_of, ShowsCell, Shown}
-use Rattle.alog_ring.proofs.Lists.{not_both, same_or_not}
+use Rattle.alog_ring.proofs.SharedLists.{not_both, same_or_not}
 
 pub on_option : {A : Type 0} (o : Option A) → (o ≡ None) ⊎ ((a : A) × (o ≡ Some a))
 on_option None = inl refl

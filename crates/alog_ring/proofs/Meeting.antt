@@ -12,8 +12,8 @@ use Rattle.atomic_table.specs.Table.{State, Me, keeps, Allows}
 use Rattle.alog_core.specs.declared.mark.Mark.TheVariants.{Claimed, Written, Emptying}
 use Rattle.alog_core.specs.Queue.{Cell, Queue, start, cell_of}
 use Rattle.alog_core.specs.History.{Entry, IsLegal, left_by, own_of, StandsFor}
-use Rattle.alog_core.proofs.Cells.{on_test, at_same}
-use Rattle.alog_core.proofs.Histories.{own_of-append, legal_before}
+use Rattle.alog_core.proofs.SharedCells.{on_test, at_same}
+use Rattle.alog_core.proofs.SharedHistories.{own_of-append, legal_before}
 use Rattle.alog_ring.specs.declared.words.TheConstants.{NEXT}
 use Rattle.alog_ring.specs.declared.TheConstants.{ALL_PARTS}
 use Rattle.alog_ring.specs.Known.{Member, Known, IsAmong, AreDistinct, members_of}
@@ -22,12 +22,12 @@ use Rattle.alog_ring.specs.Share.{having_seen, IsLonger}
 use Rattle.alog_ring.specs.Sight.{Stage, Idle, Fresh, Joined, Writing, Reading, Sight}
 use Rattle.alog_ring.specs.Seats.{IsExactIn, gone, was_named, saw_both, saw_all}
 use Rattle.alog_ring.specs.Rule.{parts_of, IsAtWork, HasEntries, Knows, Ruled}
-use Rattle.alog_ring.proofs.Lists.{same_or_not, one_value, prefix_same, prefix_longer, each_of_two, sum_changed, sum_of_two}
+use Rattle.alog_ring.proofs.SharedLists.{same_or_not, one_value, prefix_same, prefix_longer, each_of_two, sum_changed, sum_of_two}
 use Rattle.alog_ring.proofs.Telling.{members_distinct, grown, told_more}
 use Rattle.alog_ring.proofs.Turning.{IsFree, staged_on}
 use Rattle.alog_ring.proofs.Showing.{shown_on}
 use Rattle.alog_ring.proofs.Looking.{on_mark, has_cell}
-use Rattle.alog_ring.proofs.Stepping.{PlaceKind, none_of, sound_now, knows_now, looks}
+use Rattle.alog_ring.proofs.SharedStepping.{PlaceKind, none_of, sound_now, knows_now, looks}
 
 no_more : {A : Type 0} (l : List A) → length l ≡ 0 → l ≡ []
 no_more [] e = refl

@@ -15,7 +15,7 @@ use Rattle.alog_ring.specs.Rule.{seq_of, Ruled}
 use Rattle.alog_ring.specs.Limit.{AreHeld, Keeps}
 use Rattle.alog_ring.proofs.Limits.{allowed_in, weaker}
 use Rattle.alog_ring.proofs.Meeting.{names_itself, sees_both, sees_all}
-use Rattle.alog_ring.proofs.Stepping.{PlaceKind}
+use Rattle.alog_ring.proofs.SharedStepping.{PlaceKind}
 use Rattle.alog_ring.proofs.Steps.{sees_next, sees_free, claims, writes, sees_front, sees_full, sees_end, grabs, takes_out}
 
 abbrev pub option_kind : (T : Type 0) → PlaceKind (Option T) T no_note

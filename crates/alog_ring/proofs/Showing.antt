@@ -10,7 +10,7 @@ use Rattle.alog_core.specs.Queue.{Cell, Queue, last, cell_of, IsRoom, IsSound}
 use Rattle.alog_core.specs.History.{Entry}
 use Rattle.alog_ring.specs.declared.words.TheConstants.{NEXT, FRONT, SEQUENCES, APART}
 use Rattle.alog_ring.specs.Rule.{seq_of, ShowsCell, Shown}
-use Rattle.alog_ring.proofs.Lists.{same_or_not}
+use Rattle.alog_ring.proofs.SharedLists.{same_or_not}
 use Rattle.alog_ring.proofs.Turning.{Turn, within}
 
 -- two tickets less than n apart have two places, and so have those less than 2 n apart but for n

@@ -8,13 +8,13 @@ use mathlib.Core.Option as maybe
 use lib.ListN.{get_elem?}
 use Rattle.atomic_table.specs.Table.{opening}
 use Rattle.alog_core.specs.Queue.{last, start}
-use Rattle.alog_core.proofs.Histories.{stands_start}
+use Rattle.alog_core.proofs.SharedHistories.{stands_start}
 use Rattle.alog_ring.specs.Known.{AreDistinct}
 use Rattle.alog_ring.specs.Kinds.{no_note, some_value, no_value}
 use Rattle.alog_ring.specs.Sight.{Sight, first_sight}
 use Rattle.alog_ring.specs.Rule.{seq_of, word_count, Knows, HasEntries, Ruled}
 use Rattle.alog_ring.specs.Board.{AreFirstWords, Masks}
-use Rattle.alog_ring.proofs.Lists.{same_or_not, prefix_same}
+use Rattle.alog_ring.proofs.SharedLists.{same_or_not, prefix_same}
 use Rattle.alog_ring.proofs.Showing.{near_apart}
 
 -- what the mask of a power of two keeps is the remainder

@@ -16,11 +16,11 @@ use Rattle.alog_ring.specs.Made.{entry}
 use Rattle.alog_ring.specs.Sight.{Stage, Idle, SawNext, SawFree, Writing, SawFront, SawFull, Reading, SawUnwritten, Sight}
 use Rattle.alog_ring.specs.Plays.{saw_next, saw_free, claimed, wrote, saw_front, saw_full, saw_end, grabbed, took}
 use Rattle.alog_ring.specs.Rule.{IsAtWork, seq_of, Ruled}
-use Rattle.alog_ring.proofs.Lists.{same_or_not}
+use Rattle.alog_ring.proofs.SharedLists.{same_or_not}
 use Rattle.alog_ring.proofs.Turning.{IsFree}
 use Rattle.alog_ring.proofs.Looking.{push_look, pop_look}
 use Rattle.alog_ring.proofs.Telling.{grown}
-use Rattle.alog_ring.proofs.Stepping.{PlaceKind, sound_now, knows_now, seen_behind, looks, latest_now, last_made, tells, refuses}
+use Rattle.alog_ring.proofs.SharedStepping.{PlaceKind, sound_now, knows_now, seen_behind, looks, latest_now, last_made, tells, refuses}
 use Rattle.alog_ring.proofs.Acting.{claim_step, write_step, grab_step, take_step}
 
 -- the stages at which a seat has no cell

@@ -8,12 +8,12 @@ use mathlib.Core.List.{IsPrefix}
 use lib.ListN.{get_elem?}
 use Rattle.atomic_table.proofs.Lists.{at_set, set_else, set_here}
 use Rattle.alog_core.specs.History.{Entry, own_of}
-use Rattle.alog_core.proofs.Histories.{own_of-append}
+use Rattle.alog_core.proofs.SharedHistories.{own_of-append}
 use Rattle.alog_ring.specs.Known.{Member, Known, IsAmong, AreDistinct, members_of}
 use Rattle.alog_ring.specs.Made.{AreExact}
 use Rattle.alog_ring.specs.Sight.{Sight}
 use Rattle.alog_ring.specs.Rule.{parts_of, IsRetired, IsTakenIn, HasEntries, Told}
-use Rattle.alog_ring.proofs.Lists.{same_or_not, inside, one_value, prefix_same, prefix_longer, each_of, each_of_two, sum_changed}
+use Rattle.alog_ring.proofs.SharedLists.{same_or_not, inside, one_value, prefix_same, prefix_longer, each_of, each_of_two, sum_changed}
 
 module _ {T N : Type 0} where
   -- these entries are the actor's

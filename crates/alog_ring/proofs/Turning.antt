@@ -7,14 +7,14 @@ use Rattle.atomic_table.proofs.Lists.{at_set, set_else, set_here}
 use Rattle.alog_core.specs.declared.mark.Mark.TheVariants.{Claimed, Written, Emptying}
 use Rattle.alog_core.specs.Queue.{Cell, Queue, Claim, Write, Grab, Take, cell_of, HasCell, IsRoom, IsWritten, IsSound, after}
 use Rattle.alog_core.specs.History.{Entry}
-use Rattle.alog_core.proofs.Cells.{cell_of-append_other, cell_of-marked_other, cell_of-without_other}
-use Rattle.alog_core.proofs.Rising.{listed_within}
-use Rattle.alog_core.proofs.Sound.{next_is_unlisted}
+use Rattle.alog_core.proofs.SharedCells.{cell_of-append_other, cell_of-marked_other, cell_of-without_other}
+use Rattle.alog_core.proofs.SharedRising.{listed_within}
+use Rattle.alog_core.proofs.SharedSound.{next_is_unlisted}
 use Rattle.alog_ring.specs.Known.{Known}
 use Rattle.alog_ring.specs.Sight.{Stage, Idle, Fresh, SawNext, SawFree, Writing, SawFront, SawFull, Reading, SawUnwritten, Joined}
 use Rattle.alog_ring.specs.Sight.{Lent, Gone, Sight}
 use Rattle.alog_ring.specs.Rule.{Knows, Staged}
-use Rattle.alog_ring.proofs.Lists.{not_both, same_or_not, inside, one_value, prefix_longer}
+use Rattle.alog_ring.proofs.SharedLists.{not_both, same_or_not, inside, one_value, prefix_longer}
 
 -- a cell's ticket lies in the last n
 pub within : {T : Type 0} (n : ℕ) (q : Queue T) (t : ℕ) (c : Cell T) → IsSound n q → cell_of t q.cells ≡ Some c

@@ -3,7 +3,7 @@ use denote.RattleType.{RattleType}
 use denote.Param.Send.{IsSend, sendable, view_send, struct_send, recorded_send}
 use denote.Struct.Declared.{shape}
 use Rattle.std.proofs.Crossing.{crosses}
-use Rattle.alog_pool.proofs.Crosses.{producer_send}
+use Rattle.alog_pool.proofs.SharedCrosses.{producer_send}
 use Rattle.alog_server.specs.declared.home.Home.{Ghosts}
 use Rattle.alog_server.specs.contracts.client.Client as Client
 use Rattle.alog_server.specs.contracts.client.Client.TheInside as Inside

@@ -1,8 +1,9 @@
 mod Crosses
-pub mod Ending
+pub mod SharedEnding
 mod Homes
 mod Finding
 mod Refusing
 mod Saying
 mod Telling
 pub mod SharedMaking
+mod Suiting

@@ -3,7 +3,7 @@ use Rattle.std.proofs.Common.{◌≡◌, ◌⊎◌, ◌<◌, ◌≤◌, ◌+◌,
 use Rattle.std.proofs.Common.{append_assoc, refl, sym, ap, subst, ◌∙◌}
 use Rattle.std.specs.Prelude.{slice_index_or}
 use Rattle.std.proofs.lemmas.List.{length-map}
-use Rattle.alog_config.proofs.Picking.{each_is_long, each_is_more, has_any, has_at, has_left, picked_more}
+use Rattle.alog_config.proofs.SharedPicking.{each_is_long, each_is_more, has_any, has_at, has_left, picked_more}
 use Rattle.alog_config.specs.Built.{ArePicked, Built, EachIs}
 use Rattle.alog_config.specs.Sinks.{IsFan, IsFanKind, IsFanName, IsMember, IsSinkName}
 use Rattle.alog_config.specs.Sound.{AreSoundSinks, IsSoundKind}

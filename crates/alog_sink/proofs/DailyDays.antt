@@ -13,7 +13,7 @@ use Rattle.jiff_core.proofs.DateTimeLemmas.{civil_nanos_injective, civil_nanos-p
 use Rattle.jiff_core.proofs.MarchLemmas.{day_count-early}
 use Rattle.jiff_core.proofs.SignedLemmas.{signed_arith, back_small}
 use Rattle.jiff.specs.Words.{civil_nanos, epoch_day}
-use Rattle.alog_format.proofs.Offsets.{offset_near}
+use Rattle.alog_format.proofs.SharedOffsets.{offset_near}
 use Rattle.alog_format.specs.Civil.{IsZone, day_at, second_at, local_nanos}
 use Rattle.alog_format.specs.declared.context.Zone.{Zone}
 use Rattle.alog_sink.specs.DailyFiles.{date_of, period_of}

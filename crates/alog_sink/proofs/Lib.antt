@@ -18,12 +18,12 @@ mod DailyOn
 mod DailyLine
 mod Targets
 mod Fronts
-pub mod OneFiles
-pub mod Turns
-pub mod Fans
-pub mod Opens
-pub mod Keeps
+mod OneFiles
+mod Turns
+mod Fans
+mod Opens
+pub mod SharedKeeps
 pub mod SharedSuits
-pub mod Crosses
-pub mod LaneRuns
-pub mod FolderCrosses
+pub mod SharedCrosses
+pub mod SharedLaneRuns
+pub mod SharedFolderCrosses

@@ -20,7 +20,7 @@ use Rattle.alog_policy.specs.declared.policy.Policy.{Policy}
 use Rattle.alog_policy.specs.declared.post.Post.{Post}
 use Rattle.alog_policy.specs.declared.progress.Side.{Side}
 use Rattle.alog_policy.specs.declared.progress.Side.TheVariants.{Push, Pop}
-use Rattle.alog_policy.proofs.StepKinds.{either}
+use Rattle.alog_policy.proofs.SharedStepKinds.{either}
 use Rattle.alog_system.specs.Within.{HasOnly, HandHasOnly, SaidHasOnly, MachineHas, DeskHas}
 
 module _ {T : Type 0} (P : T → Type 0) where

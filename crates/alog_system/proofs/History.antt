@@ -7,7 +7,7 @@ use Rattle.alog_core.specs.Staged.{IsReached}
 use Rattle.alog_core.specs.World.{Machine, is_idle, next_move, round_of, stepped, told}
 use Rattle.alog_core.specs.declared.TheConstants.{ACTORS}
 use Rattle.alog_core.specs.declared.round.Round.TheVariants as round
-use Rattle.alog_core.proofs.Fronts.{goes_same, goes_began, goes_step, goes_further}
+use Rattle.alog_core.proofs.SharedFronts.{goes_same, goes_began, goes_step, goes_further}
 use Rattle.alog_msg.specs.declared.item.Item.{Item}
 use Rattle.alog_msg.specs.declared.item.Item.TheVariants as item
 use Rattle.alog_msg.specs.declared.message.Message.{Message}
@@ -18,7 +18,7 @@ use Rattle.alog_policy.specs.declared.policy.Policy.{Policy}
 use Rattle.alog_policy.specs.declared.policy.Outcome.{Outcome}
 use Rattle.alog_policy.specs.declared.post.Post.{Post}
 use Rattle.alog_policy.specs.declared.post.Stepped.{Stepped as DeskStepped}
-use Rattle.alog_policy.proofs.DeskSteps.{turn_goes}
+use Rattle.alog_policy.proofs.SharedDeskSteps.{turn_goes}
 use Rattle.alog_sink.specs.Files.{Files}
 use Rattle.alog_system.specs.Begin.{is_below, logging, posting_unless}
 use Rattle.alog_system.specs.Roster.{emptied, level_at, policy_at}

@@ -1,8 +1,8 @@
-pub mod Desks
-pub mod Rooms
-pub mod Suits
-pub mod Parts
-pub mod Steps
+mod Desks
+mod Rooms
+mod Suits
+mod Parts
+mod Steps
 mod RunAnswers
 mod RunCases
 mod RunGoes

@@ -20,7 +20,7 @@ use Rattle.alog_policy.specs.Runs.{Call, CallMade, called, ToPop, ToPost, StepMa
 use Rattle.alog_policy.specs.declared.policy.Policy.{Policy}
 use Rattle.alog_policy.specs.declared.policy.Outcome.{Outcome}
 use Rattle.alog_policy.specs.declared.post.Post.{Post}
-use Rattle.alog_policy.proofs.StepKinds.{either}
+use Rattle.alog_policy.proofs.SharedStepKinds.{either}
 use Rattle.alog_registry.specs.Listed.{spec_at}
 use Rattle.alog_registry.specs.declared.logger.Logger.{Logger}
 use Rattle.alog_system.specs.Acts.{Did, InQueue, Keeping, Emptying, logger_of, turns_by}

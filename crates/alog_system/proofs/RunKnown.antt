@@ -8,7 +8,7 @@ use Rattle.alog_core.specs.World.{is_size, is_idle, round_of}
 use Rattle.alog_core.specs.declared.TheConstants.{ACTORS}
 use Rattle.alog_core.specs.declared.round.Round.{Round}
 use Rattle.alog_core.specs.declared.round.Round.TheVariants as round
-use Rattle.alog_core.proofs.Cells.{on_test}
+use Rattle.alog_core.proofs.SharedCells.{on_test}
 use Rattle.alog_msg.specs.declared.item.Item.{Item}
 use Rattle.alog_msg.specs.declared.item.Item.TheVariants.{Text, Flush}
 use Rattle.alog_msg.specs.declared.level.Level.{Level}

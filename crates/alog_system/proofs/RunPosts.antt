@@ -12,8 +12,8 @@ use Rattle.alog_policy.specs.Runs.{Call, CallMade, ToPush, ToPop, ToPost, StepMa
 use Rattle.alog_policy.specs.declared.counts.Counts.{Counts}
 use Rattle.alog_policy.specs.declared.policy.Outcome.{Outcome}
 use Rattle.alog_policy.specs.declared.post.Post.{Post}
-use Rattle.alog_policy.proofs.Making.{idle_is}
-use Rattle.alog_policy.proofs.Running.{runs_are_cut}
+use Rattle.alog_policy.proofs.SharedMaking.{idle_is}
+use Rattle.alog_policy.proofs.SharedRunning.{runs_are_cut}
 use Rattle.alog_system.specs.Asked.{posts_in}
 
 -- the actors' rounds of a desk stay as many

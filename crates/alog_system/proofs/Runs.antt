@@ -4,13 +4,13 @@ use Rattle.std.specs.List.{Contains}
 use Rattle.alog_core.specs.Queue.{Queue, IsListed}
 use Rattle.alog_core.specs.Accounts.{issued, handed_out}
 use Rattle.alog_core.specs.History.{Entry, StandsFor}
-use Rattle.alog_core.proofs.Histories.{reached_states_are_sound}
-use Rattle.alog_core.proofs.Items.{tickets_keep_their_items}
-use Rattle.alog_core.proofs.Sizes.{size_facts}
-use Rattle.alog_core.proofs.Tickets.{no_ticket_is_handed_out_twice, tickets_are_handed_out_or_listed}
+use Rattle.alog_core.proofs.SharedHistories.{reached_states_are_sound}
+use Rattle.alog_core.proofs.SharedItems.{tickets_keep_their_items}
+use Rattle.alog_core.proofs.SharedSizes.{size_facts}
+use Rattle.alog_core.proofs.SharedTickets.{no_ticket_is_handed_out_twice, tickets_are_handed_out_or_listed}
 use Rattle.alog_msg.specs.declared.item.Item.{Item}
 use Rattle.alog_policy.specs.Runs.{entries_made}
-use Rattle.alog_policy.proofs.Running.{runs_are_cut}
+use Rattle.alog_policy.proofs.SharedRunning.{runs_are_cut}
 use Rattle.alog_sink.specs.Files.{Files}
 use Rattle.alog_system.specs.Acts.{steps_in, queue_steps}
 use Rattle.alog_system.specs.Runs.{SystemRuns}

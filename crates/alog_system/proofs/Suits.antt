@@ -25,7 +25,7 @@ use Rattle.alog_system.specs.Outputs.{AllSuit, DoesTurn}
 use Rattle.alog_system.specs.Roster.{RosterView, logger_of, turns_by, turns_for}
 use Rattle.alog_system.specs.Within.{LoggerFits}
 use Rattle.alog_system.specs.declared.stepped.Turn.{Turn}
-use Rattle.alog_policy.proofs.StepKinds.{either}
+use Rattle.alog_policy.proofs.SharedStepKinds.{either}
 
 module _ (limit capacity : ℕ) where
   module _ {S : Type 0} (tells : Bool) (files : S → Files) (failures : S → ℕ) where

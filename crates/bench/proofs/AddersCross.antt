@@ -3,7 +3,7 @@ use denote.Builtin.{u64, unit}
 use denote.Param.Send.{IsSend, IsSync, sendable}
 use Rattle.alog_lane.specs.contracts.seat.LaneSeat as LaneSeat
 use Rattle.alog_lane.specs.contracts.lane.Lane as Lane
-use Rattle.alog_lane.proofs.Crosses.{seat_send, lane_sync}
+use Rattle.alog_lane.proofs.SharedCrosses.{seat_send, lane_sync}
 use Rattle.bench.specs.contracts.lane.adder.Total as Total
 use Rattle.bench.specs.contracts.lane.adder.TotalTurn.TheImpl.{ghosts}
 

@@ -3,7 +3,7 @@ use denote.Builtin.{u64}
 use denote.Param.Send.{IsSend, sendable, struct_send, recorded_send}
 use denote.Struct.Declared.{shape}
 use Rattle.std.proofs.Crossing.{Vec-send}
-use Rattle.alog_pool.proofs.Crosses.{producer_send}
+use Rattle.alog_pool.proofs.SharedCrosses.{producer_send}
 use Rattle.bench.specs.contracts.load.work.Task as Task
 
 pub task_send : IsSend Task.the_row

@@ -1,1 +1,1 @@
-pub mod OneText
+mod OneText

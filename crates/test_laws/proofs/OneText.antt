@@ -5,7 +5,7 @@ use Rattle.std.specs.Prelude.{ℤ, IfOk, Option, Result, Ok, slice_get}
 use Rattle.std.specs.List.{AllByRecursion}
 use Rattle.alog_core.specs.Accounts.{claims, takes}
 use Rattle.alog_core.specs.History.{Entry}
-use Rattle.alog_core.proofs.Cells.{on_test}
+use Rattle.alog_core.proofs.SharedCells.{on_test}
 use Rattle.alog_lane.specs.Calls.{LaneId}
 use Rattle.alog_msg.specs.declared.item.Item.{Item}
 use Rattle.alog_msg.specs.declared.item.Item.TheVariants.{Flush, Stop, Text}

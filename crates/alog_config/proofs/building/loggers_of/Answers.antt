@@ -4,7 +4,7 @@ use Rattle.alog_config.specs.Built.{EachIs, IsLoggerOf, IsPlace}
 use Rattle.alog_config.specs.Parts.{AreAllKnown}
 use Rattle.alog_config.specs.declared.config.LoggerConfig.{LoggerConfig}
 use Rattle.alog_config.proofs.Parting.{take_long}
-use Rattle.alog_config.proofs.Picking.{Has, each_is_long, each_is_more, has_any, take_one_more}
+use Rattle.alog_config.proofs.SharedPicking.{Has, each_is_long, each_is_more, has_any, take_one_more}
 use Rattle.alog_config.proofs.Taking.{taken_earlier}
 use Rattle.alog_registry.specs.Listed.{RegistryView}
 use Rattle.alog_config.proofs.building.loggers_of.Goals as goal

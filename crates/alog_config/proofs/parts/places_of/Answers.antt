@@ -2,7 +2,7 @@ use Rattle.std.proofs.Common.{length, take, refl, sym, subst, arith}
 use Rattle.std.proofs.lemmas.Option.{slice_get_read}
 use Rattle.alog_config.specs.Built.{IsPlace}
 use Rattle.alog_config.specs.Parts.{IsPartName}
-use Rattle.alog_config.proofs.Picking.{each_is_more, take_one_more}
+use Rattle.alog_config.proofs.SharedPicking.{each_is_more, take_one_more}
 use Rattle.alog_config.proofs.parts.places_of.Goals as goal
 
 pub unreachable-requires : goal.unreachable-requires

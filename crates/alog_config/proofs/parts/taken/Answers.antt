@@ -3,7 +3,7 @@ use Rattle.std.proofs.lemmas.Option.{slice_get_read}
 use Rattle.alog_config.specs.Built.{IsPlace}
 use Rattle.alog_config.specs.Parts.{IsPartName}
 use Rattle.alog_config.specs.declared.parts.Part.{Part}
-use Rattle.alog_config.proofs.Picking.{take_one_more}
+use Rattle.alog_config.proofs.SharedPicking.{take_one_more}
 use Rattle.alog_config.proofs.Taking.{still_there, takes_more}
 use Rattle.alog_config.proofs.parts.taken.Goals as goal
 

@@ -1,5 +1,5 @@
 use Rattle.alog_format.specs.Civil.{IsRuleOf}
-use Rattle.alog_format.proofs.Offsets.{is_rule}
+use Rattle.alog_format.proofs.SharedOffsets.{is_rule}
 use Rattle.alog_config.proofs.Spelling.{none_is_none, spelled_not}
 use Rattle.alog_config.proofs.values.zone_at.Goals as goal
 

@@ -1,4 +1,4 @@
-use Rattle.alog_core.proofs.Accounts.{accounts_balance}
+use Rattle.alog_core.proofs.SharedAccounts.{accounts_balance}
 use Rattle.alog_core.proofs.laws.accounts_balance.Goals as goal
 
 pub returns : goal.returns

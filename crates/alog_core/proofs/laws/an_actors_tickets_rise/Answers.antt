@@ -1,4 +1,4 @@
-use Rattle.alog_core.proofs.Grabs.{an_actors_tickets_rise}
+use Rattle.alog_core.proofs.SharedGrabs.{an_actors_tickets_rise}
 use Rattle.alog_core.proofs.laws.an_actors_tickets_rise.Goals as goal
 
 pub returns : goal.returns

@@ -1,4 +1,4 @@
-use Rattle.alog_core.proofs.Tickets.{no_ticket_is_handed_out_twice}
+use Rattle.alog_core.proofs.SharedTickets.{no_ticket_is_handed_out_twice}
 use Rattle.alog_core.proofs.laws.no_ticket_is_handed_out_twice.Goals as goal
 
 pub returns : goal.returns

@@ -1,4 +1,4 @@
-use Rattle.alog_core.proofs.Histories.{reached_states_are_sound}
+use Rattle.alog_core.proofs.SharedHistories.{reached_states_are_sound}
 use Rattle.alog_core.proofs.laws.reached_states_are_sound.Goals as goal
 
 pub returns : goal.returns

@@ -1,4 +1,4 @@
-use Rattle.alog_core.proofs.Items.{takes_follow_their_claims}
+use Rattle.alog_core.proofs.SharedItems.{takes_follow_their_claims}
 use Rattle.alog_core.proofs.laws.takes_follow_their_claims.Goals as goal
 
 pub returns : goal.returns

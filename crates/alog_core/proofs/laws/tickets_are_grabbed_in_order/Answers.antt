@@ -1,4 +1,4 @@
-use Rattle.alog_core.proofs.Grabs.{tickets_are_grabbed_in_order}
+use Rattle.alog_core.proofs.SharedGrabs.{tickets_are_grabbed_in_order}
 use Rattle.alog_core.proofs.laws.tickets_are_grabbed_in_order.Goals as goal
 
 pub returns : goal.returns

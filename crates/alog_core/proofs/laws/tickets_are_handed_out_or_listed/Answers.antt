@@ -1,4 +1,4 @@
-use Rattle.alog_core.proofs.Tickets.{tickets_are_handed_out_or_listed}
+use Rattle.alog_core.proofs.SharedTickets.{tickets_are_handed_out_or_listed}
 use Rattle.alog_core.proofs.laws.tickets_are_handed_out_or_listed.Goals as goal
 
 pub returns : goal.returns

@@ -1,4 +1,4 @@
-use Rattle.alog_core.proofs.Tickets.{tickets_are_issued_in_order}
+use Rattle.alog_core.proofs.SharedTickets.{tickets_are_issued_in_order}
 use Rattle.alog_core.proofs.laws.tickets_are_issued_in_order.Goals as goal
 
 pub returns : goal.returns

@@ -1,4 +1,4 @@
-use Rattle.alog_core.proofs.Items.{tickets_keep_their_items}
+use Rattle.alog_core.proofs.SharedItems.{tickets_keep_their_items}
 use Rattle.alog_core.proofs.laws.tickets_keep_their_items.Goals as goal
 
 pub returns : goal.returns

@@ -1,7 +1,7 @@
 use Rattle.std.proofs.Common.{◌+◌, ◌-◌, set, refl, ap, arith}
 use Rattle.alog_core.specs.Table.{places_of, queue_in}
 use Rattle.alog_core.proofs.Advancing.{writes}
-use Rattle.alog_core.proofs.Rising.{listed_within}
+use Rattle.alog_core.proofs.SharedRising.{listed_within}
 use Rattle.alog_core.proofs.play.write.Goals as goal
 
 pub overflow_add-ticket : goal.overflow_add-ticket

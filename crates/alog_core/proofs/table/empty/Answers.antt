@@ -6,8 +6,8 @@ use Rattle.alog_core.specs.Table.{AreHeld, queue_in, Shows}
 use Rattle.alog_core.specs.declared.table.Held.{Held}
 use Rattle.alog_core.specs.declared.table.Table.{Table}
 use Rattle.alog_core.proofs.Reading.{settles}
-use Rattle.alog_core.proofs.Sizes.{size_facts}
-use Rattle.alog_core.proofs.Sound.{sound_start}
+use Rattle.alog_core.proofs.SharedSizes.{size_facts}
+use Rattle.alog_core.proofs.SharedSound.{sound_start}
 use Rattle.alog_core.proofs.Starting.{first_sequences, first_slots}
 use Rattle.alog_core.proofs.table.empty.Goals as goal
 

@@ -1,6 +1,6 @@
 use Rattle.std.proofs.Common.{◌≡◌, ℕ, ◌+◌, ◌-◌, ◌%◌, ◌<◌, ◌≤◌, List, set, sym, ap, subst, ◌∙◌, arith, length-set}
 use Rattle.std.specs.Prelude.{slice_index}
-use Rattle.alog_core.proofs.Sizes.{size_facts}
+use Rattle.alog_core.proofs.SharedSizes.{size_facts}
 use Rattle.alog_core.proofs.Starting.{sequences_more}
 use Rattle.alog_core.proofs.table.first_sequences.Goals as goal
 

@@ -1,4 +1,4 @@
-use Rattle.alog_core.proofs.Sizes.{mask_is}
+use Rattle.alog_core.proofs.SharedSizes.{mask_is}
 use Rattle.alog_core.proofs.table.place_of.Goals as goal
 
 pub returns : goal.returns

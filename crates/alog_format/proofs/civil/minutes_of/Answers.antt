@@ -1,7 +1,7 @@
 use Rattle.std.proofs.Common.{pos, int_div, arith, FitsSigned, w16, w32, rules}
 use Rattle.std.proofs.lemmas.Int.{quot_fits, to_z-of_z}
 use Rattle.jiff_core.proofs.SignedLemmas.{signed_arith}
-use Rattle.alog_format.proofs.Offsets.{minutes_fit}
+use Rattle.alog_format.proofs.SharedOffsets.{minutes_fit}
 use Rattle.alog_format.proofs.civil.minutes_of.Goals as goal
 
 pub returns : goal.returns

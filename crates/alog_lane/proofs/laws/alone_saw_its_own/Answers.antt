@@ -1,4 +1,4 @@
-use Rattle.alog_lane.proofs.Lists.{alone_saw_its_own}
+use Rattle.alog_lane.proofs.SharedLists.{alone_saw_its_own}
 use Rattle.alog_lane.proofs.laws.alone_saw_its_own.Goals as goal
 
 pub returns : goal.returns

@@ -5,7 +5,7 @@ use Rattle.alog_load.specs.Load.{HasServed}
 use Rattle.alog_pool.specs.Places.{Each2}
 use Rattle.alog_pool.specs.declared.shared.Shared.{Shared}
 use Rattle.alog_registry.specs.declared.logger.Logger.{Logger}
-use Rattle.alog_server.proofs.Making.{makes_count, makes_shared}
+use Rattle.alog_server.proofs.SharedMaking.{makes_count, makes_shared}
 use Rattle.alog_server.specs.Making.{AreOf}
 
 pub run_all-back-requires-clause-loggers : goal.run_all-back-requires-clause-loggers

@@ -7,7 +7,7 @@ use Rattle.alog_load.proofs.Crosses.{load_seat_send}
 use Rattle.alog_load.proofs.Going.{each_of}
 use Rattle.alog_load.proofs.producers.go_all.Goals as goal
 use Rattle.alog_pool.specs.Places.{Each2}
-use Rattle.alog_server.proofs.Ending.{refill}
+use Rattle.alog_server.proofs.SharedEnding.{refill}
 
 pub for_each_mut-requires-send-T : goal.for_each_mut-requires-send-T
 for_each_mut-requires-send-T g c κs within = search (sendable, load_seat_send) depth 9

@@ -1,13 +1,13 @@
 use Rattle.std.proofs.Common.{◌≡◌, true, false, List, [], ◌∷◌, ◌++◌, length, length-append, append_assoc, sym, ap, subst, ◌∙◌, arith}
 use Rattle.std.proofs.lemmas.List.{length-map}
 use Rattle.std.specs.Vec.Iter.{into_iter_items}
-use Rattle.alog_core.proofs.Calls.{no_more}
+use Rattle.alog_core.proofs.SharedCalls.{no_more}
 use Rattle.alog_load.proofs.Going.{at_more, producers_at}
 use Rattle.alog_load.specs.Producers.{AreDone}
 use Rattle.alog_load.specs.declared.load_seat.LoadSeat.{LoadSeat}
 use Rattle.alog_load.proofs.producers.rise_all.Goals.{then-all, else-all}
 use Rattle.alog_load.proofs.producers.rise_all.Goals as goal
-use Rattle.alog_pool.proofs.Sharing.{all_more}
+use Rattle.alog_pool.proofs.SharedSharing.{all_more}
 use Rattle.alog_pool.specs.Producer.{ProducerView}
 
 pub loop-seat-init : goal.loop-seat-init

@@ -6,7 +6,7 @@ use Rattle.alog_load.specs.declared.load_seat.LoadSeat.{LoadSeat}
 use Rattle.alog_load.proofs.producers.run_all.Goals as goal
 use Rattle.alog_pool.specs.Places.{Each2}
 use Rattle.alog_pool.specs.Producer.{ProducerView}
-use Rattle.alog_server.proofs.Making.{makes_shared}
+use Rattle.alog_server.proofs.SharedMaking.{makes_shared}
 use Rattle.alog_server.specs.Making.{AreOf}
 
 pub returns-then-not-seat_all : goal.returns-then-not-seat_all

@@ -1,7 +1,7 @@
 use Rattle.std.proofs.Common.{false, List, [], ◌∷◌, length, length-append, refl, sym, ap, subst, ◌∙◌, arith}
 use Rattle.alog_load.proofs.Going.{at_more, producers_at}
 use Rattle.alog_load.specs.declared.load_seat.LoadSeat.{LoadSeat}
-use Rattle.alog_server.proofs.Making.{makes_more}
+use Rattle.alog_server.proofs.SharedMaking.{makes_more}
 use Rattle.alog_load.proofs.producers.seat_all.Goals as goal
 use Rattle.alog_server.specs.Making.{MakesAll}
 use Rattle.alog_pool.specs.Pool.{PoolView}

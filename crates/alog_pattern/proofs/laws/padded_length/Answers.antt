@@ -1,4 +1,4 @@
-use Rattle.alog_pattern.proofs.PaddedLength.{length-pad}
+use Rattle.alog_pattern.proofs.SharedPaddedLength.{length-pad}
 use Rattle.alog_pattern.proofs.laws.padded_length.Goals as goal
 
 pub returns : goal.returns

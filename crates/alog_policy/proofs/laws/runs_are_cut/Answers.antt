@@ -1,4 +1,4 @@
-use Rattle.alog_policy.proofs.Running.{runs_are_cut}
+use Rattle.alog_policy.proofs.SharedRunning.{runs_are_cut}
 use Rattle.alog_policy.proofs.laws.runs_are_cut.Goals as goal
 
 pub returns : goal.returns

@@ -2,7 +2,7 @@ use Rattle.std.proofs.Common.{◌≡◌, ◌≢◌, Option, Result, refl, sym, a
 use Rattle.std.proofs.Common.{[], ◌∷◌}
 use Rattle.std.specs.Prelude.{IsSome, IfSome}
 use Rattle.alog_core.specs.Queue.{Claim, Write}
-use Rattle.alog_ring.proofs.Calling.{value_there, of_value, for_value}
+use Rattle.alog_ring.proofs.SharedCalling.{value_there, of_value, for_value}
 use Rattle.alog_policy.specs.Outlet.{Leads, PostsNow}
 use Rattle.alog_policy.specs.Progress.{begun, without_waiting}
 use Rattle.alog_policy.specs.declared.policy.Policy.{Policy}

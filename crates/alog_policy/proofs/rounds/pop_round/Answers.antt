@@ -1,6 +1,6 @@
 use Rattle.std.proofs.Common.{◌<◌, length, arith}
 use Rattle.alog_core.specs.World.{round_of}
-use Rattle.alog_policy.proofs.Making.{pop_of, pop_next, pop_result, idle_is, round_begins_pop}
+use Rattle.alog_policy.proofs.SharedMaking.{pop_of, pop_next, pop_result, idle_is, round_begins_pop}
 use Rattle.alog_policy.proofs.rounds.pop_round.Goals as goal
 
 pub pop_answer-requires : goal.pop_answer-requires

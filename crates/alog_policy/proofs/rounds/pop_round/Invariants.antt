@@ -1,6 +1,6 @@
 use Rattle.alog_core.specs.World.{round_of}
-use Rattle.alog_policy.proofs.StepKinds.{steps_left}
-use Rattle.alog_policy.proofs.Making.{InPop, RoundSoFar}
+use Rattle.alog_policy.proofs.SharedStepKinds.{steps_left}
+use Rattle.alog_policy.proofs.SharedMaking.{InPop, RoundSoFar}
 use Rattle.alog_policy.proofs.rounds.pop_round.Given as goal
 
 abbrev pub invariant-loop-said : goal.invariant-loop-said

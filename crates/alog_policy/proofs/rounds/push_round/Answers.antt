@@ -1,6 +1,6 @@
 use Rattle.std.proofs.Common.{◌<◌, length, arith}
 use Rattle.alog_core.specs.World.{round_of}
-use Rattle.alog_policy.proofs.Making.{push_of, push_next, push_result, idle_is, round_begins_push}
+use Rattle.alog_policy.proofs.SharedMaking.{push_of, push_next, push_result, idle_is, round_begins_push}
 use Rattle.alog_policy.proofs.rounds.push_round.Goals as goal
 
 pub push_answer-requires : goal.push_answer-requires

@@ -2,7 +2,7 @@ use Rattle.std.proofs.Common.{Option, [], ◌∷◌, refl, sym, subst, ◌∙◌
 use Rattle.std.specs.Prelude.{IsSome, IfSome}
 use Rattle.alog_core.specs.Queue.{Claim, Write}
 use Rattle.alog_ring.specs.declared.push.PushError.{PushError}
-use Rattle.alog_ring.proofs.Calling.{value_there, of_value, for_value}
+use Rattle.alog_ring.proofs.SharedCalling.{value_there, of_value, for_value}
 use Rattle.alog_policy.specs.Outlet.{PushRefused, Posts}
 use Rattle.alog_policy.specs.Progress.{begun, lost}
 use Rattle.alog_policy.specs.declared.policy.Outcome.TheVariants.{Posted, Discarded}

@@ -1,6 +1,6 @@
 use Rattle.std.proofs.Common.{◌≤◌, length, vec_capacity}
 use Rattle.alog_pool.specs.Places.{IsBacktraceSeatPart}
-use Rattle.alog_pool.proofs.Sharing.{Sharing}
+use Rattle.alog_pool.proofs.SharedSharing.{Sharing}
 use Rattle.alog_pool.proofs.pool.share_backtrace_seats.Given as goal
 
 abbrev pub invariant-loop-spare : goal.invariant-loop-spare

@@ -2,7 +2,7 @@ use Rattle.std.proofs.Common.{◌≡◌, ◌+◌, suc, List, [], ◌∷◌, ◌+
 use Rattle.std.proofs.lemmas.Option.{slice_get_read}
 use Rattle.alog_pool.specs.Places.{IsSpareOf}
 use Rattle.alog_pool.specs.declared.backtrace_seat.Spare.{Spare}
-use Rattle.alog_pool.proofs.Sharing.{Matching, match_one, match_all, matched_length, matched_within}
+use Rattle.alog_pool.proofs.SharedSharing.{Matching, match_one, match_all, matched_length, matched_within}
 use Rattle.alog_pool.proofs.pool.spares_of.Goals as goal
 
 pub push_reserved-requires : goal.push_reserved-requires

@@ -1,6 +1,6 @@
 use Rattle.std.proofs.Common.{◌≤◌, length, vec_capacity}
 use Rattle.alog_pool.specs.Places.{IsSpareOf}
-use Rattle.alog_pool.proofs.Sharing.{Matching}
+use Rattle.alog_pool.proofs.SharedSharing.{Matching}
 use Rattle.alog_pool.proofs.pool.spares_of.Given as goal
 
 abbrev pub invariant-loop-backtrace_seat : goal.invariant-loop-backtrace_seat

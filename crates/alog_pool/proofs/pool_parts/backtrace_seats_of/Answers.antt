@@ -2,7 +2,7 @@ use Rattle.std.proofs.Common.{◌≡◌, ◌+◌, suc, List, [], ◌∷◌, ◌+
 use Rattle.alog_pool.specs.BacktraceSeat.{BacktraceSeatView}
 use Rattle.alog_pool.specs.Places.{IsBacktraceSeatOf}
 use Rattle.alog_pool.proofs.FirstParts.{found_by}
-use Rattle.alog_pool.proofs.Sharing.{Matching, match_all, match_one, matched_length}
+use Rattle.alog_pool.proofs.SharedSharing.{Matching, match_all, match_one, matched_length}
 use Rattle.alog_pool.proofs.pool_parts.backtrace_seats_of.Goals as goal
 use Rattle.alog_registry.specs.Backtrace.{room_for}
 use Rattle.alog_registry.specs.declared.logger.Spec.{Spec}

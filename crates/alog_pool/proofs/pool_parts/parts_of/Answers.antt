@@ -1,7 +1,7 @@
 use Rattle.std.proofs.Common.{◌≡◌, ◌<◌, ◌+◌, suc, List, [], ◌∷◌, ◌++◌, length, slice_set, sym, subst, arith}
 use Rattle.alog_pool.specs.SinkSeat.{SinkSeatView}
 use Rattle.alog_pool.specs.Places.{IsPart}
-use Rattle.alog_pool.proofs.Sharing.{Sharing, share_one, share_all, shared_lengths, shared_rest, shared_within}
+use Rattle.alog_pool.proofs.SharedSharing.{Sharing, share_one, share_all, shared_lengths, shared_rest, shared_within}
 use Rattle.alog_pool.proofs.pool_parts.parts_of.Goals as goal
 
 pub split-requires : goal.split-requires

@@ -1,6 +1,6 @@
 use Rattle.std.proofs.Common.{◌≡◌, ◌≤◌, length, vec_capacity}
 use Rattle.alog_pool.specs.Places.{IsPart}
-use Rattle.alog_pool.proofs.Sharing.{Sharing}
+use Rattle.alog_pool.proofs.SharedSharing.{Sharing}
 use Rattle.alog_pool.proofs.pool_parts.parts_of.Given as goal
 
 abbrev pub invariant-loop-place : goal.invariant-loop-place

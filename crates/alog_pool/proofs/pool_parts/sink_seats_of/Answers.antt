@@ -1,9 +1,9 @@
 use Rattle.std.proofs.Common.{◌++◌, ◌∷◌, [], List, length, length-append, ap, sym, subst, ◌∙◌, arith}
 use Rattle.std.specs.Vec.Iter.{into_iter_items}
-use Rattle.alog_core.proofs.Calls.{given_front, all_given}
+use Rattle.alog_core.proofs.SharedCalls.{given_front, all_given}
 use Rattle.alog_pool.specs.SinkSeat.{SinkSeatView}
 use Rattle.alog_pool.specs.Places.{Each2, IsFirst}
-use Rattle.alog_pool.proofs.Sharing.{each2_length, each2_more}
+use Rattle.alog_pool.proofs.SharedSharing.{each2_length, each2_more}
 use Rattle.alog_pool.proofs.pool_parts.sink_seats_of.Goals as goal
 use Rattle.alog_sink.specs.declared.sink.Sink.{Sink}
 

@@ -1,13 +1,13 @@
 use Rattle.std.proofs.Common.{◌≡◌, List, [], ◌∷◌, ◌++◌, length, length-append, ap, sym, subst, ◌∙◌, arith}
 use Rattle.std.specs.List.{AllByRecursion}
 use Rattle.std.specs.Vec.Iter.{into_iter_items}
-use Rattle.alog_core.proofs.Calls.{given_front}
+use Rattle.alog_core.proofs.SharedCalls.{given_front}
 use Rattle.alog_lane.specs.declared.seat.TheConstants.{ALL_PARTS}
 use Rattle.alog_pool.specs.SinkSeat.{SinkSeatView}
 use Rattle.alog_pool.specs.Collected.{IsClosing}
 use Rattle.alog_pool.specs.Places.{Each3}
 use Rattle.alog_pool.proofs.Parts.{each3_lengths}
-use Rattle.alog_pool.proofs.Sharing.{all_next, each3_more}
+use Rattle.alog_pool.proofs.SharedSharing.{all_next, each3_more}
 use Rattle.alog_pool.proofs.shutdown.close_sink_seats.Goals as goal
 
 pub push_reserved-requires : goal.push_reserved-requires

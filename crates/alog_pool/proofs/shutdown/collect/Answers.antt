@@ -5,7 +5,7 @@ use Rattle.std.specs.List.{AllByRecursion}
 use Rattle.std.specs.Vec.Iter.{into_iter_items}
 use Rattle.std.specs.declared.alloc.Global.{Global}
 use Rattle.std.specs.declared.thread.PromisedHandle.{PromisedHandle}
-use Rattle.alog_core.proofs.Calls.{given_front}
+use Rattle.alog_core.proofs.SharedCalls.{given_front}
 use Rattle.alog_msg.specs.declared.item.Item.{Item}
 use Rattle.alog_pool.specs.Back.{HasBack, worker_member}
 use Rattle.alog_pool.specs.SinkSeat.{SinkSeatView}
@@ -16,9 +16,9 @@ use Rattle.alog_pool.specs.Working.{HasWorked}
 use Rattle.alog_pool.specs.declared.worker.Worker.{Worker}
 use Rattle.alog_pool.specs.declared.shared.Shared.{Shared}
 use Rattle.alog_pool.specs.declared.works.Works.{Works}
-use Rattle.alog_pool.proofs.Back.{back_starts, back_one, map_more, sum_more}
+use Rattle.alog_pool.proofs.SharedBack.{back_starts, back_one, map_more, sum_more}
 use Rattle.alog_pool.proofs.Rows.{each_lane, ones, place_lanes, rows_lanes, rows_more, rows_start}
-use Rattle.alog_pool.proofs.Sharing.{all_map_next, each2_length, each2_more}
+use Rattle.alog_pool.proofs.SharedSharing.{all_map_next, each2_length, each2_more}
 use Rattle.alog_pool.proofs.shutdown.collect.Goals as goal
 use Rattle.alog_ring.specs.Kinds.{no_note}
 use Rattle.alog_ring.specs.Known.{IsPassOf, Member}

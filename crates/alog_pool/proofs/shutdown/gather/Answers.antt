@@ -5,8 +5,8 @@ use Rattle.alog_lane.specs.Seats as lane
 use Rattle.alog_msg.specs.declared.item.Item.{Item}
 use Rattle.alog_policy.specs.BookAdds.{Add}
 use Rattle.alog_policy.specs.BookCalls as book
-use Rattle.alog_pool.proofs.Back.{back_one, map_more, seats_one}
-use Rattle.alog_pool.proofs.Sharing.{all_more}
+use Rattle.alog_pool.proofs.SharedBack.{back_one, map_more, seats_one}
+use Rattle.alog_pool.proofs.SharedSharing.{all_more}
 use Rattle.alog_pool.specs.Back.{HasBack, HasSeatsBack, loss_member, pass_member}
 use Rattle.alog_pool.specs.Lending.{IsAccountOf}
 use Rattle.alog_pool.specs.Producer.{ProducerView}

@@ -1,11 +1,11 @@
 use Rattle.std.proofs.Common.{◌≡◌, suc, List, [], ◌∷◌, ◌++◌, length, length-append, slice_set, ap, sym, subst, ◌∙◌, arith}
 use Rattle.std.specs.Prelude.{slice_index_or}
 use Rattle.std.specs.Vec.Iter.{into_iter_items}
-use Rattle.alog_core.proofs.Calls.{given_front, all_given}
+use Rattle.alog_core.proofs.SharedCalls.{given_front, all_given}
 use Rattle.alog_pool.specs.SinkSeat.{SinkSeatView}
 use Rattle.alog_pool.specs.Collected.{TakesBack}
 use Rattle.alog_pool.specs.Places.{Each2, Each3, IsSameLane}
-use Rattle.alog_pool.proofs.Sharing.{Sharing, each2_length, matched_next, next_low, share_one, share_all, shared_lengths}
+use Rattle.alog_pool.proofs.SharedSharing.{Sharing, each2_length, matched_next, next_low, share_one, share_all, shared_lengths}
 use Rattle.alog_pool.proofs.shutdown.take_all_back.Goals as goal
 
 pub index_mut-requires : goal.index_mut-requires

@@ -1,6 +1,6 @@
 use Rattle.std.proofs.Common.{◌≡◌, length}
 use Rattle.alog_pool.specs.Collected.{TakesBack}
-use Rattle.alog_pool.proofs.Sharing.{Sharing}
+use Rattle.alog_pool.proofs.SharedSharing.{Sharing}
 use Rattle.alog_pool.proofs.shutdown.take_all_back.Given as goal
 
 abbrev pub invariant-loop-place : goal.invariant-loop-place

@@ -1,5 +1,5 @@
 use Rattle.std.proofs.Common.{ℕ, ◌+◌, ◌<◌, ◌≤◌, List, ◌∙◌, arith, get_or-set_other, length-set}
-use Rattle.alog_core.proofs.Sizes.{size_facts}
+use Rattle.alog_core.proofs.SharedSizes.{size_facts}
 use Rattle.alog_ring.specs.declared.words.TheConstants.{NEXT, FRONT}
 use Rattle.alog_ring.specs.Rule.{seq_of}
 use Rattle.alog_ring.proofs.Starting.{words_more}

@@ -1,5 +1,5 @@
 use Rattle.std.proofs.Common.{List, [], ◌∷◌, length, length-append, refl, sym, ap, subst, ◌∙◌, arith}
-use Rattle.alog_server.proofs.Making.{makes_more}
+use Rattle.alog_server.proofs.SharedMaking.{makes_more}
 use Rattle.alog_server.proofs.producers.make.Goals as goal
 use Rattle.alog_server.specs.Making.{MakesAll}
 use Rattle.alog_pool.specs.Pool.{PoolView}

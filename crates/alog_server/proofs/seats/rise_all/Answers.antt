@@ -3,13 +3,13 @@ use Rattle.std.specs.Prelude.{Option}
 use Rattle.std.specs.List.{AllByRecursion}
 use Rattle.std.specs.Option.{option_or}
 use Rattle.std.specs.Vec.Iter.{into_iter_items}
-use Rattle.alog_core.proofs.Calls.{no_more}
-use Rattle.alog_pool.proofs.Back.{map_more}
-use Rattle.alog_pool.proofs.Sharing.{all_more}
+use Rattle.alog_core.proofs.SharedCalls.{no_more}
+use Rattle.alog_pool.proofs.SharedBack.{map_more}
+use Rattle.alog_pool.proofs.SharedSharing.{all_more}
 use Rattle.alog_pool.specs.Producer.{ProducerView}
 use Rattle.alog_server.specs.Ends.{first_error}
 use Rattle.alog_server.specs.declared.seats.Seat.{Seat}
-use Rattle.alog_server.proofs.Ending.{first_more}
+use Rattle.alog_server.proofs.SharedEnding.{first_more}
 use Rattle.alog_server.proofs.seats.rise_all.Goals as goal
 
 pub push_reserved-requires : goal.push_reserved-requires

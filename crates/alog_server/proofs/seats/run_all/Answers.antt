@@ -3,7 +3,7 @@ use Rattle.std.specs.Prelude.{None, Some}
 use Rattle.std.proofs.lemmas.List.{length-map}
 use Rattle.alog_server.specs.Ends.{TellsError}
 use Rattle.alog_server.specs.declared.seats.Seat.{Seat}
-use Rattle.alog_server.proofs.Ending.{tells}
+use Rattle.alog_server.proofs.SharedEnding.{tells}
 use Rattle.alog_server.proofs.seats.run_all.Goals as goal
 
 pub returns-in-None-clause-ends : goal.returns-in-None-clause-ends

@@ -6,7 +6,7 @@ use Rattle.std.specs.Prelude.{slice_index_or}
 use Rattle.alog_server.specs.Ends.{EachEnds, EndsSo}
 use Rattle.alog_server.specs.declared.seats.Seat.{Seat}
 use Rattle.alog_server.proofs.Crosses.{seat_send}
-use Rattle.alog_server.proofs.Ending.{each_ends, refill}
+use Rattle.alog_server.proofs.SharedEnding.{each_ends, refill}
 use Rattle.alog_server.proofs.seats.work_all.Lts.{arg-2-1}
 use Rattle.alog_server.proofs.seats.work_all.Goals as goal
 

@@ -1,7 +1,7 @@
 use Rattle.std.proofs.Common.{◌≡◌, ◌<◌, length, refl, subst, arith}
 use Rattle.alog_server.specs.Ends.{AllEnd}
 use Rattle.alog_server.proofs.Homes.{at_home, of_home}
-use Rattle.alog_server.proofs.Making.{makes_shared}
+use Rattle.alog_server.proofs.SharedMaking.{makes_shared}
 use Rattle.alog_server.proofs.server.work_with.Goals as goal
 
 pub returns-then-not-make-clause-works : goal.returns-then-not-make-clause-works

@@ -2,7 +2,7 @@ use Rattle.std.proofs.Common.{List, [], length, take, refl, sym, subst, arith}
 use Rattle.std.proofs.lemmas.Option.{slice_get_read}
 use Rattle.alog_config.specs.Sound.{AreSoundSinks}
 use Rattle.alog_config.specs.declared.config.SinkConfig.{SinkConfig}
-use Rattle.alog_config.proofs.Picking.{take_one_more}
+use Rattle.alog_config.proofs.SharedPicking.{take_one_more}
 use Rattle.alog_server.specs.SinkEnds.{TellsEach}
 use Rattle.alog_server.proofs.Telling.{each_writes, next_few, take_past, told_more}
 use Rattle.alog_server.proofs.sink_end.ends_of.Goals as goal

@@ -1,6 +1,6 @@
 use Rattle.std.proofs.Common.{ℕ, List, [], ◌∷◌, ◌++◌, length, take, refl, sym, subst}
 use Rattle.std.proofs.lemmas.Option.{slice_get_read}
-use Rattle.alog_config.proofs.Picking.{each_is_more, take_one_more}
+use Rattle.alog_config.proofs.SharedPicking.{each_is_more, take_one_more}
 use Rattle.alog_config.specs.Built.{EachIs}
 use Rattle.alog_server.specs.SinkEnds.{HasLines, IsFileOf}
 use Rattle.alog_server.proofs.sink_end.files_named.Goals as goal

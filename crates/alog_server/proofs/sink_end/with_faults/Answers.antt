@@ -1,7 +1,7 @@
 use Rattle.std.proofs.Common.{◌≡◌, ◌+◌, ◌<◌, ℕ, suc, List, length, slice_set, take, refl, sym, ap, subst, ◌∙◌, arith}
 use Rattle.std.proofs.Math.Seq.{take-length}
 use Rattle.std.specs.Prelude.{slice_index_or}
-use Rattle.alog_pool.proofs.Sharing.{Sharing, share_all, share_one, shared_lengths, shared_within}
+use Rattle.alog_pool.proofs.SharedSharing.{Sharing, share_all, share_one, shared_lengths, shared_within}
 use Rattle.alog_pool.specs.Places.{Each3}
 use Rattle.alog_server.specs.SinkEnds.{IsWithFaults}
 use Rattle.alog_server.specs.declared.sink_end.SinkEnd.{SinkEnd}

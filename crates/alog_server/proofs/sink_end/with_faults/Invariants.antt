@@ -1,5 +1,5 @@
 use Rattle.std.proofs.Common.{take}
-use Rattle.alog_pool.proofs.Sharing.{Sharing}
+use Rattle.alog_pool.proofs.SharedSharing.{Sharing}
 use Rattle.alog_server.specs.SinkEnds.{IsWithFaults}
 use Rattle.alog_server.proofs.sink_end.with_faults.Given as goal
 

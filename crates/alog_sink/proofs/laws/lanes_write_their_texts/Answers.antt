@@ -1,4 +1,4 @@
-use Rattle.alog_sink.proofs.LaneRuns.{leaf_writes, fan_writes}
+use Rattle.alog_sink.proofs.SharedLaneRuns.{leaf_writes, fan_writes}
 use Rattle.alog_sink.proofs.laws.lanes_write_their_texts.Goals as goal
 
 pub returns-clause-leaf : goal.returns-clause-leaf

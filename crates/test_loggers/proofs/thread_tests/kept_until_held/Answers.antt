@@ -1,10 +1,10 @@
 use denote.Param.Send.{IsSend, IsSync, sendable, recorded_send, struct_send, param_send}
 use denote.Struct.Declared.{shape}
 use Rattle.std.proofs.Crossing.{crosses}
-use Rattle.alog_lane.proofs.Crosses.{seat_send, lane_sync}
+use Rattle.alog_lane.proofs.SharedCrosses.{seat_send, lane_sync}
 use Rattle.alog_lane.specs.contracts.lane.Lane as Lane
 use Rattle.alog_lane.specs.contracts.seat.LaneSeat as LaneSeat
-use Rattle.alog_registry.proofs.Crosses.{backtrace_send}
+use Rattle.alog_registry.proofs.SharedCrosses.{backtrace_send}
 use Rattle.alog_registry.specs.contracts.backtrace.Backtrace as Backtrace
 use Rattle.alog_registry.specs.contracts.turn.BacktraceItem as Item
 use Rattle.alog_registry.specs.contracts.turn.BacktraceReply as Reply

@@ -2,10 +2,10 @@ use Rattle.std.proofs.Common.{◌≡◌, ◌<◌, ◌∙◌, ℕ, suc, List, [],
 use Rattle.std.specs.Prelude.{slice_index_or}
 use Rattle.std.specs.List.{AllByRecursion}
 use denote.Param.Send.{sendable}
-use Rattle.alog_pool.proofs.Crosses.{producer_send}
+use Rattle.alog_pool.proofs.SharedCrosses.{producer_send}
 use Rattle.alog_pool.specs.Producer.{ProducerView}
 use Rattle.alog_pool.specs.declared.shared.Shared.{Shared}
-use Rattle.alog_server.proofs.Ending.{refill}
+use Rattle.alog_server.proofs.SharedEnding.{refill}
 use Rattle.test_pool.proofs.thread_tests.talk_all.Goals as goal
 
 -- where each producer is of the pool that the one before it at its place was of, all are of it

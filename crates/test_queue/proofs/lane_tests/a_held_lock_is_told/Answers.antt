@@ -6,7 +6,7 @@ use Rattle.test_queue.specs.contracts.lane_tests.Slow as Slow
 use Rattle.test_queue.specs.contracts.lane_tests.SlowTurn.TheImpl.{ghosts}
 use Rattle.alog_lane.specs.contracts.seat.LaneSeat as LaneSeat
 use Rattle.alog_lane.specs.contracts.lane.Lane as Lane
-use Rattle.alog_lane.proofs.Crosses.{seat_send, lane_sync}
+use Rattle.alog_lane.proofs.SharedCrosses.{seat_send, lane_sync}
 use Rattle.test_queue.proofs.lane_tests.a_held_lock_is_told.Goals as goal
 
 flags_send : IsSend Flags.the_row

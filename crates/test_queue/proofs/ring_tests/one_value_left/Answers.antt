@@ -4,7 +4,7 @@ use Rattle.alog_ring.specs.Known.{Known}
 use Rattle.alog_ring.specs.Kinds.{no_note}
 use Rattle.alog_ring.specs.Calls.{Pushed}
 use Rattle.alog_ring.specs.Refused.{PushRefused}
-use Rattle.alog_ring.proofs.Alone.{below_last, refused_alone, pushed_alone}
+use Rattle.alog_ring.proofs.SharedAlone.{below_last, refused_alone, pushed_alone}
 use Rattle.test_queue.proofs.ring_tests.one_value_left.Goals as goal
 
 pub unreachable-requires-in-Err : goal.unreachable-requires-in-Err

@@ -4,13 +4,13 @@ use denote.Struct.Declared.{shape}
 use Rattle.std.proofs.Crossing.{crosses, Vec-send}
 use Rattle.std.specs.contracts.result.Result as Result
 use Rattle.alog_format.specs.contracts.line_buf.LineBuf as LineBuf
-use Rattle.alog_lane.proofs.Crosses.{seat_send, lane_sync}
+use Rattle.alog_lane.proofs.SharedCrosses.{seat_send, lane_sync}
 use Rattle.alog_lane.specs.contracts.lane.Lane as Lane
 use Rattle.alog_lane.specs.contracts.seat.LaneSeat as LaneSeat
 use Rattle.alog_msg.specs.contracts.item.Item as Item
-use Rattle.alog_msg.proofs.Crosses.{source_send, text_send}
+use Rattle.alog_msg.proofs.SharedCrosses.{source_send, text_send}
 use Rattle.alog_msg.specs.contracts.message.Message as Message
-use Rattle.alog_sink.proofs.Crosses.{sink_send, store_send, line_send}
+use Rattle.alog_sink.proofs.SharedCrosses.{sink_send, store_send, line_send}
 use Rattle.alog_sink.specs.contracts.leaf.SinkError as SinkError
 use Rattle.alog_sink.specs.contracts.sink.Sink as Sink
 use Rattle.alog_sink.specs.contracts.turn.Served as Served

@@ -3,9 +3,9 @@ use Rattle.alog_core.specs.Queue.{Event, Allows}
 use Rattle.alog_core.specs.World.{is_size, Machine, next_move, stepped}
 use Rattle.alog_core.specs.Run.{GoesOn, HasItsCell, entries_of_step}
 use Rattle.alog_core.specs.Staged.{IsReached}
-use Rattle.alog_core.proofs.Reached.{kept, taken_round, table_of, staged_in, stepped_in, reached_stepped, fine_step}
-use Rattle.alog_core.proofs.Fronts.{goes_step}
-use Rattle.alog_core.proofs.Runs.{has_its_cell}
+use Rattle.alog_core.proofs.SharedReached.{kept, taken_round, table_of, staged_in, stepped_in, reached_stepped, fine_step}
+use Rattle.alog_core.proofs.SharedFronts.{goes_step}
+use Rattle.alog_core.proofs.SharedRuns.{has_its_cell}
 use Rattle.alog_core.proofs.world.World.advance.Goals as goal
 
 pub advance-said-requires-clause-table : goal.advance-said-requires-clause-table

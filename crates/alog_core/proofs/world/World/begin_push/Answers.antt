@@ -2,8 +2,8 @@ use Rattle.std.proofs.Common.{[], refl, subst}
 use Rattle.alog_core.specs.World.{Machine, began}
 use Rattle.alog_core.specs.Run.{GoesOn}
 use Rattle.alog_core.specs.declared.round.Round.TheVariants as round
-use Rattle.alog_core.proofs.Fronts.{goes_began}
-use Rattle.alog_core.proofs.Reached.{kept, reached_began}
+use Rattle.alog_core.proofs.SharedFronts.{goes_began}
+use Rattle.alog_core.proofs.SharedReached.{kept, reached_began}
 use Rattle.alog_core.proofs.world.World.begin_push.Goals as goal
 
 pub invariant_of-self : goal.invariant_of-self

@@ -3,8 +3,8 @@ use Rattle.alog_core.specs.World.{fresh}
 use Rattle.alog_core.specs.declared.TheConstants.{ACTORS}
 use Rattle.alog_core.specs.declared.round.Round.{Round}
 use Rattle.alog_core.specs.declared.round.Round.TheVariants as round
-use Rattle.alog_core.proofs.Fronts.{goes_nowhere, leads_start}
-use Rattle.alog_core.proofs.Reached.{kept}
+use Rattle.alog_core.proofs.SharedFronts.{goes_nowhere, leads_start}
+use Rattle.alog_core.proofs.SharedReached.{kept}
 use Rattle.alog_core.proofs.world.World.new.Goals as goal
 
 pub returns-clause-history : goal.returns-clause-history

@@ -3,8 +3,8 @@ use Rattle.std.specs.Vec.Iter.{into_iter_items}
 use Rattle.alog_core.specs.World.{Machine, reply_to, after_call, replies_to, after_calls}
 use Rattle.alog_core.specs.Run.{GoesOn, entries_of_run, TellAll}
 use Rattle.alog_core.specs.declared.said.Answer.{Answer}
-use Rattle.alog_core.proofs.Calls.{given_front, after_calls_last, replies_to_last, length-replies_to, all_given}
-use Rattle.alog_core.proofs.Runs.{run_goes_on, tell_all, each_has_its_cell}
+use Rattle.alog_core.proofs.SharedCalls.{given_front, after_calls_last, replies_to_last, length-replies_to, all_given}
+use Rattle.alog_core.proofs.SharedRuns.{run_goes_on, tell_all, each_has_its_cell}
 use Rattle.alog_core.proofs.world.World.run.Goals as goal
 
 pub push_reserved-requires : goal.push_reserved-requires

@@ -3,7 +3,7 @@ use Rattle.atomic_table.specs.Table.{opening}
 use Rattle.alog_lane.specs.declared.view.LockedValue.{LockedValue}
 use Rattle.alog_lane.specs.Roster.{first_sight}
 use Rattle.alog_lane.specs.Rule.{Ruled}
-use Rattle.alog_lane.proofs.Steps.{starts}
+use Rattle.alog_lane.proofs.SharedSteps.{starts}
 use Rattle.alog_lane.proofs.lane.Lane.new.Goals as goal
 
 pub new-requires : goal.new-requires

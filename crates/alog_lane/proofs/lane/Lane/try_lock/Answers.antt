@@ -1,5 +1,5 @@
 use Rattle.std.proofs.Common.{sym, ap, ◌∙◌, arith}
-use Rattle.alog_lane.proofs.Steps.{tries}
+use Rattle.alog_lane.proofs.SharedSteps.{tries}
 use Rattle.alog_lane.proofs.lane.Lane.try_lock.Goals as goal
 
 pub compare_exchange-requires : goal.compare_exchange-requires

@@ -1,7 +1,7 @@
 -- The lengths and the items are those of the plain program, whose reading is the only one.
 use Rattle.std.proofs.Common.{refl, arith}
 use Rattle.std.proofs.lemmas.Result.{err_from_is_err_and}
-use Rattle.alog_pattern.proofs.Readings.{has_reading, line_exceeds, line_within}
+use Rattle.alog_pattern.proofs.SharedReadings.{has_reading, line_exceeds, line_within}
 use Rattle.alog_pattern.proofs.patterns.Pattern.compile.Goals as goal
 
 pub returns-then-longest-gt-LINE_MAX-clause-line_too_long :

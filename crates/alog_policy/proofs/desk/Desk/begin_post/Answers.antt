@@ -4,7 +4,7 @@ use Rattle.alog_policy.specs.DeskInside.{desk_in}
 use Rattle.alog_policy.specs.Progress.{begun}
 use Rattle.alog_policy.specs.declared.post.Post.{Post}
 use Rattle.alog_policy.specs.declared.progress.Progress.{Progress}
-use Rattle.alog_policy.proofs.DeskSteps.{post_begins}
+use Rattle.alog_policy.proofs.SharedDeskSteps.{post_begins}
 use Rattle.alog_policy.proofs.desk.Desk.begin_post.Goals as goal
 
 pub invariant_of-self-2 : goal.invariant_of-self-2

@@ -2,7 +2,7 @@ use Rattle.std.proofs.Common.{◌≡◌, None, replicate, refl, ap, ◌∙◌, a
 use Rattle.alog_core.specs.declared.TheConstants.{ACTORS}
 use Rattle.alog_policy.specs.Desk.{DeskView}
 use Rattle.alog_policy.specs.DeskInside.{desk_in}
-use Rattle.alog_policy.proofs.DeskSteps.{kept_fresh, desk_is}
+use Rattle.alog_policy.proofs.SharedDeskSteps.{kept_fresh, desk_is}
 use Rattle.alog_policy.proofs.desk.Desk.new.Goals as goal
 
 pub returns-clause-made : goal.returns-clause-made

@@ -12,8 +12,8 @@ use Rattle.alog_policy.specs.declared.policy.Outcome.{Outcome}
 use Rattle.alog_policy.specs.declared.post.Post.{Post}
 use Rattle.alog_policy.proofs.Desks.{kept_set}
 use Rattle.alog_policy.proofs.Losses.{turn_counts}
-use Rattle.alog_policy.proofs.DeskSteps.{post_read, turn_is, turn, may_go_on, kept_after, post_goes_on, stepped_after, told_after}
-use Rattle.alog_policy.proofs.DeskSteps.{history_after}
+use Rattle.alog_policy.proofs.SharedDeskSteps.{post_read, turn_is, turn, may_go_on, kept_after, post_goes_on, stepped_after, told_after}
+use Rattle.alog_policy.proofs.SharedDeskSteps.{history_after}
 use Rattle.alog_policy.proofs.desk.Desk.step.Goals as goal
 
 pub invariant_of-self-in-None : goal.invariant_of-self-in-None

@@ -9,7 +9,7 @@ use Rattle.std.proofs.Crossing.{Arc-send}
 use Rattle.std.specs.contracts.alloc.Global as Global
 use Rattle.std.specs.contracts.impls.GlobalAllocator.TheImpl.{ghosts as alloc_ghosts}
 use Rattle.std.specs.contracts.sync.Arc as Arc
-use Rattle.alog_pool.proofs.Crosses.{worker_send}
+use Rattle.alog_pool.proofs.SharedCrosses.{worker_send}
 use Rattle.alog_pool.proofs.pool_parts.PoolParts.hire.Lts.{arg-8-2, arg-8-3}
 use Rattle.alog_pool.proofs.pool_parts.PoolParts.hire.Goals as goal
 use Rattle.alog_pool.specs.Pool.{Hires}

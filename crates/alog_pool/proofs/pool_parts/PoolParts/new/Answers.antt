@@ -1,6 +1,6 @@
 use Rattle.std.proofs.Common.{◌≤◌, List, length, ap, refl, sym, subst, ◌∙◌, arith}
 use Rattle.alog_pool.proofs.FirstParts.{first_lanes, first_limits, first_parts, first_unused, backtrace_seats_idle, backtrace_seats_kept, backtrace_seats_parts, backtrace_seats_rooms}
-use Rattle.alog_pool.proofs.Sharing.{each2_length}
+use Rattle.alog_pool.proofs.SharedSharing.{each2_length}
 use Rattle.alog_pool.specs.Places.{IsBacktraceSeatOf}
 use Rattle.alog_pool.proofs.pool_parts.PoolParts.new.Goals as goal
 use Rattle.alog_registry.specs.declared.limit.TextLimit.{TextLimit}

@@ -5,7 +5,7 @@ use Rattle.alog_ring.specs.Board.{Fills}
 use Rattle.alog_ring.specs.Rule.{seq_of}
 use Rattle.alog_ring.proofs.Limits.{none_held, one_held}
 use Rattle.alog_ring.proofs.Places.{claim_may, write_may}
-use Rattle.alog_ring.proofs.Calling.{filling_stage, filling_place, fills, value_there, of_value, for_value}
+use Rattle.alog_ring.proofs.SharedCalling.{filling_stage, filling_place, fills, value_there, of_value, for_value}
 use Rattle.alog_ring.proofs.board.Board.claim_and_fill.Goals as goal
 
 pub compare_exchange_with-found-requires : goal.compare_exchange_with-found-requires

@@ -7,7 +7,7 @@ use Rattle.alog_ring.specs.Board.{Empties}
 use Rattle.alog_ring.specs.Limit.{IsAdmitted}
 use Rattle.alog_ring.proofs.Limits.{none_held, one_held, held_first}
 use Rattle.alog_ring.proofs.Places.{grab_may, take_may}
-use Rattle.alog_ring.proofs.Calling.{emptying_stage, emptying_place, emptied_value, empties}
+use Rattle.alog_ring.proofs.SharedCalling.{emptying_stage, emptying_place, emptied_value, empties}
 use Rattle.alog_ring.proofs.board.Board.grab_and_empty.Goals as goal
 
 pub compare_exchange_with-found-requires : goal.compare_exchange_with-found-requires

@@ -4,8 +4,8 @@ use Rattle.alog_pool.specs.Pool.{lanes_of}
 use Rattle.alog_pool.specs.Report.{Ends}
 use Rattle.alog_pool.specs.declared.report.Report.{Report}
 use Rattle.alog_pool.specs.declared.shared.Shared.{Shared}
-use Rattle.alog_server.proofs.Ending.{told}
-use Rattle.alog_server.proofs.Making.{makes_count, makes_shared}
+use Rattle.alog_server.proofs.SharedEnding.{told}
+use Rattle.alog_server.proofs.SharedMaking.{makes_count, makes_shared}
 use Rattle.alog_server.proofs.Telling.{closed_count, made_count}
 use Rattle.alog_server.proofs.server.Server.run.Goals as goal
 use Rattle.alog_server.specs.Making.{AreOf}

@@ -1,4 +1,4 @@
-use Rattle.alog_sink.proofs.Keeps.{take_may, flush_may}
+use Rattle.alog_sink.proofs.SharedKeeps.{take_may, flush_may}
 use Rattle.alog_sink.proofs.turn.SinkTurn.turn.Goals as goal
 
 pub returns-in_err-take-in-Text-clause-keeps : goal.returns-in_err-take-in-Text-clause-keeps

@@ -4,7 +4,7 @@ use Rattle.std.specs.List.{All}
 use Rattle.std.specs.Prelude.{slice_index_or}
 use denote.Param.Send.{sendable}
 use Rattle.alog_pool.specs.declared.shared.Shared.{Shared}
-use Rattle.alog_server.proofs.Ending.{refill}
+use Rattle.alog_server.proofs.SharedEnding.{refill}
 use Rattle.bench.specs.declared.load.work.Task.{Task}
 use Rattle.bench.proofs.TasksCross.{task_send}
 use Rattle.bench.proofs.load.run.do_by_threads.Goals as goal

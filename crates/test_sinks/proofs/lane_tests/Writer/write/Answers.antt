@@ -2,7 +2,7 @@ use Rattle.std.proofs.Common.{sym, subst}
 use Rattle.alog_format.specs.Buffer.{Buffer}
 use Rattle.alog_msg.specs.declared.item.Item.{Item}
 use Rattle.alog_sink.specs.Sinks.{MayTurn}
-use Rattle.alog_sink.proofs.Keeps.{took_again}
+use Rattle.alog_sink.proofs.SharedKeeps.{took_again}
 use Rattle.test_sinks.proofs.lane_tests.Writer.write.Goals as goal
 
 pub returns-in-Ok-clause-turn : goal.returns-in-Ok-clause-turn

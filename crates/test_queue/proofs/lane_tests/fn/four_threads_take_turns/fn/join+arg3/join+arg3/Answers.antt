@@ -4,7 +4,7 @@ use Rattle.test_queue.specs.contracts.lane_tests.Sum as Sum
 use Rattle.test_queue.specs.contracts.lane_tests.SumTurn.TheImpl.{ghosts}
 use Rattle.alog_lane.specs.contracts.seat.LaneSeat as LaneSeat
 use Rattle.alog_lane.specs.contracts.lane.Lane as Lane
-use Rattle.alog_lane.proofs.Crosses.{seat_send, lane_sync}
+use Rattle.alog_lane.proofs.SharedCrosses.{seat_send, lane_sync}
 use Rattle.test_queue.proofs.lane_tests.fn.four_threads_take_turns.fn.join+arg3.join+arg3.Goals as goal
 
 its_seat : IsSend (LaneSeat.the_row Sum.the_row u64 u64 unit ghosts)

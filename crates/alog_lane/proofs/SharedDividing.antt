@@ -11,9 +11,9 @@ use Rattle.alog_lane.specs.declared.seat.TheConstants.{ALL_PARTS}
 use Rattle.alog_lane.specs.Seats.{Entry, Member, own_of, members_of, IsAmong, AreDistinct, AreExact}
 use Rattle.alog_lane.specs.Roster.{Stage, Idle, Fresh, Joined, Sight, members_by, members_at, parts_of, Agrees, kept_part}
 use Rattle.alog_lane.specs.Roster.{given_part}
-use Rattle.alog_lane.proofs.Lists.{same_or_not, inside, one_value, at_end, sum_changed}
-use Rattle.alog_lane.proofs.Lists.{sum_with_last}
-use Rattle.alog_lane.proofs.Rosters.{empty_or_not}
+use Rattle.alog_lane.proofs.SharedLists.{same_or_not, inside, one_value, at_end, sum_changed}
+use Rattle.alog_lane.proofs.SharedLists.{sum_with_last}
+use Rattle.alog_lane.proofs.SharedRosters.{empty_or_not}
 
 module _ {K D W : Type 0} where
   -- a seat is cut in two, and the new seat has made nothing yet

@@ -15,7 +15,7 @@ use Rattle.alog_core.specs.declared.table.Table.{Table}
 use Rattle.alog_core.specs.Staged.{IsStaged, IsReached}
 use Rattle.alog_core.specs.declared.round.Round.{Round}
 use Rattle.alog_core.specs.declared.round.Round.TheVariants as round
-use Rattle.alog_core.proofs.Sound.{sound_after}
+use Rattle.alog_core.proofs.SharedSound.{sound_after}
 use Rattle.alog_core.proofs.Steps.{IsFine, fine_move}
 use Rattle.alog_core.proofs.Others.{issued_step, others_staged}
 

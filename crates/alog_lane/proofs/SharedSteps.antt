@@ -19,11 +19,11 @@ use Rattle.alog_lane.specs.Calls.{TakesTurn}
 use Rattle.alog_lane.specs.Turns.{Turned, Turns, Leads}
 use Rattle.alog_lane.specs.Rule.{LaneSight, index_after, Keeps, Reaches, IsFree, IsHeld, Ruled}
 use Rattle.alog_lane.specs.Plays.{standing, was_named, saw_both, tried, GaveBack}
-use Rattle.alog_lane.proofs.Lists.{same_or_not, inside, one_value, prefix_same, at_end}
-use Rattle.alog_lane.proofs.Rosters.{IsLook, agrees_step, agrees_look, agrees_first}
-use Rattle.alog_lane.proofs.Rosters.{others_have_none, seen_whole}
-use Rattle.alog_lane.proofs.Knowing.{by_stage, has_parts, its_key, looks_at_all, with_entry, its_step, its_made, named, look_of_named}
-use Rattle.alog_lane.proofs.Knowing.{named_is_told, seeing_both, look_of_both, both_is_told}
+use Rattle.alog_lane.proofs.SharedLists.{same_or_not, inside, one_value, prefix_same, at_end}
+use Rattle.alog_lane.proofs.SharedRosters.{IsLook, agrees_step, agrees_look, agrees_first}
+use Rattle.alog_lane.proofs.SharedRosters.{others_have_none, seen_whole}
+use Rattle.alog_lane.proofs.SharedKnowing.{by_stage, has_parts, its_key, looks_at_all, with_entry, its_step, its_made, named, look_of_named}
+use Rattle.alog_lane.proofs.SharedKnowing.{named_is_told, seeing_both, look_of_both, both_is_told}
 
 module _ {T I S R : Type 0} (turns : T → S → I → R → T → S → Type 0) where
   -- one more turn

@@ -15,19 +15,19 @@ use Rattle.alog_core.specs.declared.round.Round.{Round}
 use Rattle.alog_core.specs.declared.round.Round.TheVariants as round
 use Rattle.alog_core.specs.declared.said.Said.{Said}
 use Rattle.alog_core.specs.declared.said.Said.TheVariants as said
-use Rattle.alog_core.proofs.Fronts.{goes_further}
+use Rattle.alog_core.proofs.SharedFronts.{goes_further}
 use Rattle.alog_ring.specs.declared.push.PushError.{PushError}
 use Rattle.alog_ring.specs.declared.push.PushError.TheVariants as push
 use Rattle.alog_ring.specs.declared.pop.PopError.{PopError}
 use Rattle.alog_ring.specs.declared.pop.PopError.TheVariants as pop
-use Rattle.alog_lane.proofs.Lists.{each_append}
+use Rattle.alog_lane.proofs.SharedLists.{each_append}
 use Rattle.alog_policy.specs.Desk.{event_of}
 use Rattle.alog_policy.specs.DeskOutlet.{IsUnbeaten}
 use Rattle.alog_policy.specs.Rounds.{entries_by, Makes, PushRoundRefused, PopRoundRefused, IsOfPush, IsOfPop, push_answer, pop_answer}
 use Rattle.alog_policy.specs.Together.{entries_by-append}
 use Rattle.alog_policy.proofs.Alone.{IsCurrent, stays_current}
-use Rattle.alog_policy.proofs.StepKinds.{PushHas, PopSeeks, Kind, IsIdle, Pushes, Claims, FindsFull, PushIsBusy, IsSpent, Writes}
-use Rattle.alog_policy.proofs.StepKinds.{Pops, Grabs, FindsFront, FindsEmpty, FindsIdle, PopIsBusy, Takes, kind_of, steps_left}
+use Rattle.alog_policy.proofs.SharedStepKinds.{PushHas, PopSeeks, Kind, IsIdle, Pushes, Claims, FindsFull, PushIsBusy, IsSpent, Writes}
+use Rattle.alog_policy.proofs.SharedStepKinds.{Pops, Grabs, FindsFront, FindsEmpty, FindsIdle, PopIsBusy, Takes, kind_of, steps_left}
 use Rattle.alog_policy.proofs.Desks.{saying, push_says, pop_says, says, round_set}
 
 entries_by-event : {T : Type 0} (a : ℕ) (o : Option (Event T)) → entries_by a (event_of o) ≡ entries_of a tt o

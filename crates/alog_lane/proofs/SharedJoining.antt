@@ -10,9 +10,9 @@ use Rattle.alog_lane.specs.declared.seat.TheConstants.{ALL_PARTS}
 use Rattle.alog_lane.specs.Seats.{Entry, Member, own_of, members_of, IsAmong, AreDistinct, AreExact}
 use Rattle.alog_lane.specs.Roster.{Stage, Idle, Joined, Sight, members_by, members_at, parts_of, Agrees}
 use Rattle.alog_lane.specs.Roster.{taking_in, gone}
-use Rattle.alog_lane.proofs.Lists.{same_or_not, inside, one_value, each_append, sum_changed}
-use Rattle.alog_lane.proofs.Lists.{among_first, among_second}
-use Rattle.alog_lane.proofs.Lists.{among_either, distinct_append}
+use Rattle.alog_lane.proofs.SharedLists.{same_or_not, inside, one_value, each_append, sum_changed}
+use Rattle.alog_lane.proofs.SharedLists.{among_first, among_second}
+use Rattle.alog_lane.proofs.SharedLists.{among_either, distinct_append}
 
 module _ {K D W : Type 0} where
   -- a seat takes in another, with its parts and members

@@ -11,9 +11,9 @@ use Rattle.alog_lane.specs.Seats.{Entry, Member, Known, own_of, members_of, IsAm
 use Rattle.alog_lane.specs.Seats.{with_other}
 use Rattle.alog_lane.specs.Roster.{Stage, Idle, Fresh, Joined, Sight, members_by, members_at, parts_of, Agrees, gone}
 use Rattle.alog_lane.specs.Plays.{standing, was_named, saw_both}
-use Rattle.alog_lane.proofs.Lists.{same_or_not, prefix_same, prefix_longer, own_of-append, own_of_one, own_of_other}
-use Rattle.alog_lane.proofs.Lists.{at_most, longer_of, exact_between, exact_apart, each_of, each_append}
-use Rattle.alog_lane.proofs.Rosters.{IsStep, IsLook}
+use Rattle.alog_lane.proofs.SharedLists.{same_or_not, prefix_same, prefix_longer, own_of-append, own_of_one, own_of_other}
+use Rattle.alog_lane.proofs.SharedLists.{at_most, longer_of, exact_between, exact_apart, each_of, each_append}
+use Rattle.alog_lane.proofs.SharedRosters.{IsStep, IsLook}
 
 first_empty : {A : Type 0} (l m : List A) → l ++ m ≡ [] → l ≡ []
 first_empty [] m e = refl

@@ -15,9 +15,9 @@ use Rattle.alog_core.specs.declared.round.Round.TheVariants as round
 use Rattle.alog_core.specs.declared.said.Call.{Call}
 use Rattle.alog_core.specs.declared.said.Call.TheVariants as call
 use Rattle.alog_core.specs.declared.said.Answer.TheVariants as answer
-use Rattle.alog_core.proofs.Fronts.{goes_same, goes_began, goes_step, goes_further}
+use Rattle.alog_core.proofs.SharedFronts.{goes_same, goes_began, goes_step, goes_further}
 use Rattle.alog_core.proofs.Steps.{on_either, less_from_test}
-use Rattle.alog_core.proofs.Reached.{reached_began, reached_stepped}
+use Rattle.alog_core.proofs.SharedReached.{reached_began, reached_stepped}
 
 -- a test by its two cases, wherever it stands
 on_result : (P : Bool → Type 0) (b : Bool) → (b ≡ true → P true) → (b ≡ false → P false) → P b

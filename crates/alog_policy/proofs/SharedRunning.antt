@@ -13,12 +13,12 @@ use Rattle.alog_core.specs.World.{entries_of}
 use Rattle.alog_core.specs.declared.TheConstants.{ACTORS}
 use Rattle.alog_core.specs.declared.round.Round.{Round}
 use Rattle.alog_core.specs.declared.round.Round.TheVariants as round
-use Rattle.alog_core.proofs.Cells.{on_test}
-use Rattle.alog_core.proofs.Fronts.{goes_began, goes_step, leads_start}
-use Rattle.alog_core.proofs.Reached.{reached_began, reached_stepped}
-use Rattle.alog_core.proofs.Runs.{has_its_cell}
-use Rattle.alog_core.proofs.Sizes.{size_facts}
-use Rattle.alog_core.proofs.Sound.{sound_start}
+use Rattle.alog_core.proofs.SharedCells.{on_test}
+use Rattle.alog_core.proofs.SharedFronts.{goes_began, goes_step, leads_start}
+use Rattle.alog_core.proofs.SharedReached.{reached_began, reached_stepped}
+use Rattle.alog_core.proofs.SharedRuns.{has_its_cell}
+use Rattle.alog_core.proofs.SharedSizes.{size_facts}
+use Rattle.alog_core.proofs.SharedSound.{sound_start}
 use Rattle.alog_policy.specs.Progress.{begun}
 use Rattle.alog_policy.specs.Desk.{DeskView, fresh_desk, post_of, call_began, post_began, Follows, Stays, Ends, Leads, follows}
 use Rattle.alog_policy.specs.Desk.{value_in, with_said, turn_to, turn_of, answer_of, after_step, event_of, call_of}
@@ -35,12 +35,12 @@ use Rattle.alog_policy.specs.declared.policy.Outcome.{Outcome}
 use Rattle.alog_policy.specs.declared.post.Post.{Post}
 use Rattle.alog_policy.specs.declared.progress.Side.{Side}
 use Rattle.alog_policy.specs.declared.progress.Side.TheVariants as side
-use Rattle.alog_policy.proofs.StepKinds.{Kind}
+use Rattle.alog_policy.proofs.SharedStepKinds.{Kind}
 use Rattle.alog_policy.proofs.Losses.{turn_counts}
 use Rattle.alog_policy.proofs.Desks.{kept_set, has_value, round_set}
 use Rattle.alog_policy.proofs.Turns.{turn_comes}
-use Rattle.alog_policy.proofs.DeskSteps.{post_begins, kept_fresh, kept_after, rounds_after, turn_goes}
-use Rattle.alog_policy.proofs.Making.{idle_is, kind_here}
+use Rattle.alog_policy.proofs.SharedDeskSteps.{post_begins, kept_fresh, kept_after, rounds_after, turn_goes}
+use Rattle.alog_policy.proofs.SharedMaking.{idle_is, kind_here}
 use Rattle.alog_policy.proofs.Cutting.{plain_cut, post_cut, begins_cut, post_begins_cut, ended_leaves}
 
 -- lists of steps taken from the back

@@ -10,7 +10,7 @@ use Rattle.alog_core.specs.Queue.{Spent, start}
 use Rattle.alog_core.specs.Queue.{Allows, after}
 use Rattle.alog_core.specs.History.{Entry, left_by, own_of, IsLegalFrom}
 use Rattle.alog_core.specs.Accounts.{grabbed_by, grabbed, handed_out, TicketsAreGrabbedInOrder, AnActorsTicketsRise}
-use Rattle.alog_core.proofs.Cells.{on_test}
+use Rattle.alog_core.proofs.SharedCells.{on_test}
 
 -- these grabs are of the tickets from low on, each once, up to high
 record Grabs (low : ℕ) (us : List ℕ) (high : ℕ) : Type 0 where

@@ -11,7 +11,7 @@ use Rattle.alog_ring.specs.Kinds.{no_note}
 use Rattle.alog_ring.specs.Known.{Known, Member}
 use Rattle.alog_ring.specs.Made.{IsFaithful}
 use Rattle.alog_ring.specs.Share.{Joins}
-use Rattle.alog_ring.proofs.Lists.{prefix_same, prefix_through}
+use Rattle.alog_ring.proofs.SharedLists.{prefix_same, prefix_through}
 
 pub map_more : {A B : Type 0} (f : A → B) (xs : List A) (x : A) → map f (xs ++ x ∷ []) ≡ map f xs ++ f x ∷ []
 map_more f [] x = refl

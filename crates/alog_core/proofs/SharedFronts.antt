@@ -15,9 +15,9 @@ use Rattle.alog_core.specs.Staged.{IsReached}
 use Rattle.alog_core.specs.declared.TheConstants.{ACTORS}
 use Rattle.alog_core.specs.declared.round.Round.{Round}
 use Rattle.alog_core.specs.declared.round.Round.TheVariants as round
-use Rattle.alog_core.proofs.Histories.{stands_start, stands_step, latest_own, latest_other}
+use Rattle.alog_core.proofs.SharedHistories.{stands_start, stands_step, latest_own, latest_other}
 use Rattle.alog_core.proofs.Steps.{on_either}
-use Rattle.alog_core.proofs.Reached.{fine_step}
+use Rattle.alog_core.proofs.SharedReached.{fine_step}
 
 -- what a move says follows the event o before it, and where it leaves its actor before the last look, it was a front
 record KeepsFronts {T : Type 0} (o : Option (Event T)) (m : Move T) : Type 0 where

@@ -7,7 +7,7 @@ use Rattle.alog_core.specs.History.{Entry, left_by, IsLegalFrom}
 use Rattle.alog_core.specs.Accounts.{put_by, got_by, claims, takes, held, weigh, claimed, taken, listed, AccountsBalance}
 use Rattle.alog_core.specs.declared.mark.Mark.{Mark}
 use Rattle.alog_core.specs.declared.mark.Mark.TheVariants.{Claimed, Written, Emptying}
-use Rattle.alog_core.proofs.Cells.{on_test, remarked}
+use Rattle.alog_core.proofs.SharedCells.{on_test, remarked}
 
 pub weigh-append : {T : Type 0} (w : ℕ → T → ℕ) (ps qs : List (ℕ × T)) → weigh w (ps ++ qs) ≡ weigh w ps + weigh w qs
 weigh-append w [] qs = omega arith

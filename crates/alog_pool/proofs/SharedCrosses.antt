@@ -9,13 +9,13 @@ use Rattle.std.specs.contracts.impls.GlobalAllocator.TheImpl.{ghosts as alloc_gh
 use Rattle.std.specs.contracts.result.Result as Result
 use Rattle.std.specs.contracts.sync.Arc as Arc
 use Rattle.alog_format.specs.contracts.line_buf.LineBuf as LineBuf
-use Rattle.alog_lane.proofs.Crosses.{seat_send, lane_send, lane_sync}
+use Rattle.alog_lane.proofs.SharedCrosses.{seat_send, lane_send, lane_sync}
 use Rattle.alog_lane.specs.contracts.lane.Lane as Lane
 use Rattle.alog_lane.specs.contracts.seat.LaneSeat as LaneSeat
-use Rattle.alog_msg.proofs.Crosses.{item_send, item_sync}
+use Rattle.alog_msg.proofs.SharedCrosses.{item_send, item_sync}
 use Rattle.alog_msg.specs.contracts.item.Item as Item
-use Rattle.alog_policy.proofs.Crosses.{book_seat_send, book_send, book_sync}
-use Rattle.alog_registry.proofs.Crosses.{backtrace_send, loggers_send, loggers_sync, scratch_send}
+use Rattle.alog_policy.proofs.SharedCrosses.{book_seat_send, book_send, book_sync}
+use Rattle.alog_registry.proofs.SharedCrosses.{backtrace_send, loggers_send, loggers_sync, scratch_send}
 use Rattle.alog_registry.specs.contracts.backtrace.Backtrace as Backtrace
 use Rattle.alog_registry.specs.contracts.limit.TextLimit as TextLimit
 use Rattle.alog_registry.specs.contracts.limit.TextLimitLimitItem.TheImpl.{ghosts as limit_ghosts}
@@ -23,8 +23,8 @@ use Rattle.alog_registry.specs.contracts.turn.BacktraceItem as KeepItem
 use Rattle.alog_registry.specs.contracts.turn.BacktraceReply as KeepReply
 use Rattle.alog_registry.specs.contracts.turn.BacktraceScratch as Scratch
 use Rattle.alog_registry.specs.contracts.turn.BacktraceTurn.TheImpl.{ghosts as keep_ghosts}
-use Rattle.alog_ring.proofs.Crosses.{pass_send, ring_send, ring_sync}
-use Rattle.alog_sink.proofs.Crosses.{line_send, sink_send}
+use Rattle.alog_ring.proofs.SharedCrosses.{pass_send, ring_send, ring_sync}
+use Rattle.alog_sink.proofs.SharedCrosses.{line_send, sink_send}
 use Rattle.alog_sink.specs.contracts.leaf.SinkError as SinkError
 use Rattle.alog_sink.specs.contracts.sink.Sink as Sink
 use Rattle.alog_sink.specs.contracts.turn.Served as Served

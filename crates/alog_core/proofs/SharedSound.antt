@@ -6,10 +6,10 @@ use Rattle.alog_core.specs.Queue.{Cell, Queue, Event, Claim, Write, Grab, Take, 
 use Rattle.alog_core.specs.Queue.{Spent, start}
 use Rattle.alog_core.specs.Queue.{cell_of, marked, without, IsListed, HasCell, IsRoom, Rises, IsSound, Allows, after}
 use Rattle.alog_core.specs.declared.mark.Mark.TheVariants.{Claimed, Written, Emptying}
-use Rattle.alog_core.proofs.Cells.{remarked, cell_of-append_listed, cell_of-append_other, cell_of-append_same}
-use Rattle.alog_core.proofs.Cells.{cell_of-marked_same, cell_of-marked_other, cell_of-without_other}
-use Rattle.alog_core.proofs.Rising.{length-rising, listed_within, unlisted_above, rises_above_unlisted, rises-append}
-use Rattle.alog_core.proofs.Rising.{rises-marked, rises-without, cell_of-without_same}
+use Rattle.alog_core.proofs.SharedCells.{remarked, cell_of-append_listed, cell_of-append_other, cell_of-append_same}
+use Rattle.alog_core.proofs.SharedCells.{cell_of-marked_same, cell_of-marked_other, cell_of-without_other}
+use Rattle.alog_core.proofs.SharedRising.{length-rising, listed_within, unlisted_above, rises_above_unlisted, rises-append}
+use Rattle.alog_core.proofs.SharedRising.{rises-marked, rises-without, cell_of-without_same}
 
 pub sound_start : {T : Type 0} (n f : ℕ) → IsSound n (start {T = T} f)
 sound_start n f = record {

@@ -7,8 +7,8 @@ use Rattle.alog_core.specs.Round.{after_event}
 use Rattle.alog_core.specs.World.{entries_of}
 use Rattle.alog_core.specs.History.{Entry, left_by, IsLegalFrom, IsLegal, own_of, last_event, latest, Follows, AllFollow, StandsFor}
 use Rattle.alog_core.specs.History.{ReachedStatesAreSound}
-use Rattle.alog_core.proofs.Cells.{on_test, at_same, at_other}
-use Rattle.alog_core.proofs.Sound.{sound_start, sound_after, length-sound}
+use Rattle.alog_core.proofs.SharedCells.{on_test, at_same, at_other}
+use Rattle.alog_core.proofs.SharedSound.{sound_start, sound_after, length-sound}
 
 -- what two histories leave, one after the other
 pub left_by-append : {T N : Type 0} (q : Queue T) (h g : List (Entry T N)) → left_by q (h ++ g) ≡ left_by (left_by q h) g

@@ -6,7 +6,7 @@ use Rattle.std.proofs.lemmas.Bool.Decides.{leb_tells}
 use Rattle.alog_core.specs.Queue.{Cell, last, start}
 use Rattle.alog_core.specs.History.{Entry, IsLegalFrom, IsLegal, left_by, own_of}
 use Rattle.alog_core.specs.declared.mark.Mark.TheVariants.{Claimed, Written}
-use Rattle.alog_core.proofs.Cells.{at_same}
+use Rattle.alog_core.proofs.SharedCells.{at_same}
 use Rattle.alog_ring.specs.Known.{Member, Known, IsAmong, first_known}
 use Rattle.alog_ring.specs.Kinds.{no_note}
 use Rattle.alog_ring.specs.Made.{Made}

@@ -11,9 +11,9 @@ use Rattle.alog_lane.specs.declared.seat.TheConstants.{ALL_PARTS}
 use Rattle.alog_lane.specs.Seats.{Entry, Member, own_of, IsAmong, AreDistinct, AreExact}
 use Rattle.alog_lane.specs.Roster.{Stage, Idle, Joined, Sight, members_at, parts_of, Agrees}
 use Rattle.alog_lane.specs.Roster.{gone, first_sight}
-use Rattle.alog_lane.proofs.Lists.{same_or_not, on_test, inside, one_value, at_end, prefix_longer, sum_changed}
-use Rattle.alog_lane.proofs.Lists.{sum_of_two, own_of-append, all_seats, none_after}
-use Rattle.alog_lane.proofs.Lists.{exact_apart}
+use Rattle.alog_lane.proofs.SharedLists.{same_or_not, on_test, inside, one_value, at_end, prefix_longer, sum_changed}
+use Rattle.alog_lane.proofs.SharedLists.{sum_of_two, own_of-append, all_seats, none_after}
+use Rattle.alog_lane.proofs.SharedLists.{exact_apart}
 
 pub empty_or_not : {A : Type 0} (l : List A) → (l ≡ []) ⊎ (l ≢ [])
 empty_or_not [] = inl refl

@@ -12,12 +12,12 @@ use Rattle.alog_core.specs.Queue as queue
 use Rattle.alog_core.specs.Queue.{Queue, Event, Claim, Write, Grab, Take, Full, Front, Empty, PushBusy, PopBusy, Spent, start}
 use Rattle.alog_core.specs.Queue.{Allows, after, IsSound}
 use Rattle.alog_core.specs.History.{Entry, IsLegal, left_by, own_of, last_event, latest, Follows, StandsFor}
-use Rattle.alog_core.proofs.Cells.{at_same, at_other}
-use Rattle.alog_core.proofs.Histories.{left_by-append, latest_own, stands_after, stands_sound}
+use Rattle.alog_core.proofs.SharedCells.{at_same, at_other}
+use Rattle.alog_core.proofs.SharedHistories.{left_by-append, latest_own, stands_after, stands_sound}
 use Rattle.alog_ring.specs.Made.{AreExact, Made, next_seen, front_seen, entry, Adds}
 use Rattle.alog_ring.specs.Sight.{Stage, Idle, Sight}
 use Rattle.alog_ring.specs.Rule.{IsAtWork, Knows, Staged, Shown, Ruled}
-use Rattle.alog_ring.proofs.Lists.{prefix_longer}
+use Rattle.alog_ring.proofs.SharedLists.{prefix_longer}
 use Rattle.alog_ring.proofs.Telling.{AreOf, grown, grows_now, faithful_now, told_more, members_distinct}
 use Rattle.alog_ring.proofs.Turning.{IsFree, staged_on}
 use Rattle.alog_ring.proofs.Showing.{shown_on}

@@ -2,7 +2,7 @@
 use Rattle.std.proofs.Common.{◌≡◌, ◌≢◌, ℕ, ◌+◌, ◌<◌, ◌≤◌, cond, None, Some, List, [], ◌∷◌, ◌++◌, length, refl, ◌∙◌, arith}
 use Rattle.alog_core.specs.Queue.{Cell, cell_of, marked, without, Rises}
 use Rattle.alog_core.specs.declared.mark.Mark.{Mark}
-use Rattle.alog_core.proofs.Cells.{on_test, at_other, remarked}
+use Rattle.alog_core.proofs.SharedCells.{on_test, at_other, remarked}
 
 pub bounds_of_rising : {T : Type 0} (low : ℕ) (cs : List (Cell T)) (high : ℕ) → Rises low cs high → low ≤ high
 bounds_of_rising low [] high r = r

@@ -21,12 +21,12 @@ use Rattle.indexmap.specs.contracts.map.IndexMap.TheInside as MapInside
 use Rattle.circular_buffer.proofs.Crosses.{Cells-send, Deed-send}
 use Rattle.circular_buffer.specs.contracts.heap.HeapCircularBuffer as Dates
 use Rattle.circular_buffer.specs.contracts.heap.HeapCircularBuffer.TheInside as DatesInside
-use Rattle.alog_format.proofs.Crosses.{bytes-send, deed-send, context_field_send}
+use Rattle.alog_format.proofs.SharedCrosses.{bytes-send, deed-send, context_field_send}
 use Rattle.alog_format.specs.contracts.formatter.Formatter as Formatter
 use Rattle.alog_format.specs.contracts.formatter.Formatter.TheInside as FormatterInside
 use Rattle.alog_format.specs.contracts.line_buf.LineBuf as LineBuf
 use Rattle.alog_format.specs.contracts.line_buf.LineBuf.TheInside as LineInside
-use Rattle.alog_msg.proofs.Crosses.{text_send}
+use Rattle.alog_msg.proofs.SharedCrosses.{text_send}
 use Rattle.alog_pattern.specs.contracts.items.Item as Item
 use Rattle.alog_pattern.specs.contracts.items.Padding as Padding
 use Rattle.alog_pattern.specs.contracts.patterns.Pattern as Pattern

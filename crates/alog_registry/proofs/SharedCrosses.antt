@@ -6,7 +6,7 @@ use Rattle.std.specs.contracts.impls.GlobalAllocator.TheImpl.{ghosts as alloc_gh
 use Rattle.circular_buffer.proofs.Crosses.{Cells-send, Deed-send}
 use Rattle.circular_buffer.specs.contracts.heap.HeapCircularBuffer as Messages
 use Rattle.circular_buffer.specs.contracts.heap.HeapCircularBuffer.TheInside as MessagesInside
-use Rattle.alog_msg.proofs.Crosses.{message_send, text_send, text_sync}
+use Rattle.alog_msg.proofs.SharedCrosses.{message_send, text_send, text_sync}
 use Rattle.alog_msg.specs.contracts.message.Message as Message
 use Rattle.alog_registry.specs.contracts.backtrace.Backtrace as Backtrace
 use Rattle.alog_registry.specs.contracts.backtrace.Backtrace.TheInside as BacktraceInside

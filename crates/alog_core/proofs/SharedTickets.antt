@@ -11,8 +11,8 @@ use Rattle.alog_core.specs.Queue.{cell_of, IsListed, Allows, after}
 use Rattle.alog_core.specs.History.{Entry, left_by, IsLegalFrom, IsLegal}
 use Rattle.alog_core.specs.Accounts.{put_by, claims, takes, weigh, listed, issued, handed_out}
 use Rattle.alog_core.specs.Accounts.{TicketsAreIssuedInOrder, NoTicketIsHandedOutTwice, TicketsAreHandedOutOrListed}
-use Rattle.alog_core.proofs.Cells.{on_test}
-use Rattle.alog_core.proofs.Accounts.{accounts_balance}
+use Rattle.alog_core.proofs.SharedCells.{on_test}
+use Rattle.alog_core.proofs.SharedAccounts.{accounts_balance}
 
 -- these claims are of the tickets from low on, each once, up to high
 record Issues {T : Type 0} (low : ℕ) (ps : List (ℕ × T)) (high : ℕ) : Type 0 where

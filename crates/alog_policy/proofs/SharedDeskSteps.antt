@@ -11,7 +11,7 @@ use Rattle.alog_core.specs.declared.round.Round.{Round}
 use Rattle.alog_core.specs.declared.round.Round.TheVariants as round
 use Rattle.alog_core.specs.declared.said.Said.{Said}
 use Rattle.alog_core.specs.declared.mark.Mark.TheVariants.{Emptying}
-use Rattle.alog_core.proofs.Fronts.{goes_same, goes_began, goes_further}
+use Rattle.alog_core.proofs.SharedFronts.{goes_same, goes_began, goes_further}
 use Rattle.alog_policy.specs.Post.{Pushing, IsPost}
 use Rattle.alog_policy.specs.Progress.{IsSoFar, begun}
 use Rattle.alog_policy.specs.Desk.{DeskView, fresh_desk, post_of, Follows, Stays, Ends, Leads, follows, value_in, with_said, Turn}
@@ -28,7 +28,7 @@ use Rattle.alog_policy.specs.declared.progress.Side.{Side}
 use Rattle.alog_policy.specs.declared.progress.Side.TheVariants.{Push, Pop}
 use Rattle.alog_policy.proofs.Posts.{begun_agrees}
 use Rattle.alog_policy.proofs.Keeping.{kept_begun}
-use Rattle.alog_policy.proofs.StepKinds.{Kind, kind_of}
+use Rattle.alog_policy.proofs.SharedStepKinds.{Kind, kind_of}
 use Rattle.alog_policy.proofs.Desks.{kept_set, has_value, led_is_idle, round_set, turn_rounds}
 use Rattle.alog_policy.proofs.Turns.{turn_fits, turn_comes, CameTo}
 

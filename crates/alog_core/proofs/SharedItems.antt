@@ -9,10 +9,10 @@ use Rattle.alog_core.specs.History.{Entry, left_by, IsLegalFrom}
 use Rattle.alog_core.specs.Accounts.{put_by, got_by, claims, takes, held}
 use Rattle.alog_core.specs.Accounts.{TicketsKeepTheirItems, TakesFollowTheirClaims}
 use Rattle.alog_core.specs.declared.mark.Mark.TheVariants.{Claimed, Written, Emptying}
-use Rattle.alog_core.proofs.Cells.{on_test}
-use Rattle.alog_core.proofs.Histories.{legal_second}
-use Rattle.alog_core.proofs.Accounts.{held-marked}
-use Rattle.alog_core.proofs.Tickets.{times, times_contained, issued_once}
+use Rattle.alog_core.proofs.SharedCells.{on_test}
+use Rattle.alog_core.proofs.SharedHistories.{legal_second}
+use Rattle.alog_core.proofs.SharedAccounts.{held-marked}
+use Rattle.alog_core.proofs.SharedTickets.{times, times_contained, issued_once}
 
 -- a list of one more
 contains_first : {X : Type 0} (x : X) (xs : List X) → Contains (x ∷ xs) x
