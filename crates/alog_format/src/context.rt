@@ -45,7 +45,9 @@ impl Zone {
         }
     }
 
-    /// Seconds east of UTC at a time in nanoseconds since the epoch.
+    /// Seconds east of UTC at a time in nanoseconds since the epoch. It is asked for at each line, so a fixed offset is told in
+    /// place and a rule is asked behind a call.
+    #[inline(always)]
     pub(crate) fn offset_seconds(&self, time: i64) -> i32
         requires { IsZone self.now }
         ensures value { result ≡ offset_seconds self.now time }
@@ -59,6 +61,7 @@ impl Zone {
 }
 
 /// Seconds east of UTC by a rule.
+#[inline(never)]
 fn rule_offset(rule: &TimeZone, time: i64) -> i32
     ensures value { result ≡ (offset_at rule.now time).seconds }
     ensures near { IsOffsetSeconds result }
