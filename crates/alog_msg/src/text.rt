@@ -4,6 +4,7 @@ ghost use Rattle.alog_msg.specs.Text.{bytes_of};
 use crate::limits::SHORT_TEXT_MAX;
 use arrayvec::ArrayString;
 use std::alloc::{AllocError, Global};
+use std::fmt;
 use std::marker::Model;
 
 /// The text of a message or of a field of it, in UTF-8. Contracts see it as the list of its bytes.
@@ -14,14 +15,13 @@ use std::marker::Model;
 /// assert!(rt; text.as_str() == "né");
 /// ```
 /// The tests `text_of_a_string` and `copies_of_short_and_long_texts` run it.
-#[derive(Debug)]
 pub struct Text {
     kept: Kept,
 }
 
 /// Where the bytes of a text are: a short one, as most messages have, lies in the value itself. So it takes no memory, and it
 /// goes through a queue with its message.
-#[derive(Debug, Drop)]
+#[derive(Drop)]
 enum Kept {
     Short(ArrayString<SHORT_TEXT_MAX>),
     Long(String),
@@ -41,6 +41,13 @@ impl Drop for Text {
     fn drop(self) {
         let Text { kept } = self;
         drop(kept);
+    }
+}
+
+// As a `str` is: what matters is the text, and not where it lies.
+impl fmt::Debug for Text {
+    fn fmt<W: fmt::Write>(&self, f: &mut fmt::Formatter<W>) -> fmt::Result {
+        fmt::Debug::fmt(self.as_str(), f)
     }
 }
 

@@ -1,5 +1,6 @@
 //! Levels, texts, messages with their limits and copies, and items.
 use alog_msg::{Item, Level, Message, MessageError, SHORT_TEXT_MAX, Source, SourceRef, Text};
+use std::alloc::{AllocError, Global};
 use std::process::Abort;
 
 const TEXT_LIMIT: usize = 64;
@@ -75,6 +76,33 @@ fn text_of_a_string(rt: HostRuntime) {
         let text = Text::from_string(string);
         assert!(rt; (text.len(), text.is_empty()) == (len, len == 0));
         assert!(rt; text.as_bytes() == bytes.as_bytes());
+    }
+}
+
+/// What is printed of a short text and of one that lies in memory.
+fn printed(alloc: Global, text: &str) -> Result<(String, String), AllocError> {
+    let short = Text::copy_of(alloc, text)?;
+    let long = Text::from_string(String::from_str(alloc, text)?);
+    Ok((
+        format!(in alloc; "{short:?}")?,
+        format!(in alloc; "{long:?}")?,
+    ))
+}
+
+#[test]
+fn texts_are_printed_as_they_read(rt: HostRuntime) {
+    for (text, wanted) in [
+        ("né", "\"né\""),
+        ("", "\"\""),
+        ("say \"a\"\n", "\"say \\\"a\\\"\\n\""),
+    ] {
+        let Ok((short, long)) = printed(rt.alloc(), text) else {
+            panic!(rt; "no memory")
+        };
+        assert!(rt;
+            (short.as_str(), long.as_str()) == (wanted, wanted),
+            "{short}, {long}"
+        );
     }
 }
 

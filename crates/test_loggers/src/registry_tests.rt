@@ -179,12 +179,12 @@ fn what_is_printed_of_loggers(rt: HostRuntime) {
     adds(&rt, rt.alloc(), &mut registry, "net", 2, 0);
     sets_added(&rt, &mut registry, 0, Level::Off, true);
     let wanted =
-        "Registry { loggers: [Logger { name: Text { kept: Short(\"net\") }, spec: Spec { level: Info, policy: Block, \
+        "Registry { loggers: [Logger { name: \"net\", spec: Spec { level: Info, policy: Block, \
         flush_on: Error, backtrace: 2, sinks: [3, 1] } }], levels: [Off], .. }";
     is_printed(&rt, format!(in rt.alloc(); "{registry:?}"), wanted);
     let loggers = frozen(&rt, rt.alloc(), registry);
     let wanted =
-        "Loggers { loggers: [Logger { name: Text { kept: Short(\"net\") }, spec: Spec { level: Info, policy: Block, \
+        "Loggers { loggers: [Logger { name: \"net\", spec: Spec { level: Info, policy: Block, \
         flush_on: Error, backtrace: 2, sinks: [3, 1] } }], .. }";
     is_printed(&rt, format!(in rt.alloc(); "{loggers:?}"), wanted);
 }

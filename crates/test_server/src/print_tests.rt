@@ -40,11 +40,11 @@ fn printed<R: Host>(rt: &R, folder: &str) -> Result<String, AllocError> {
 
 /// What is to be printed, as derived implementations print it.
 const PRINTED: &str =
-    "Server { pool: Pool { workers: 1, producers: 0, .. }, sinks: [SinkEnd { name: Text { kept: Short(\"out\") }, \
-    faults: 0, files: NameList { texts: [Text { kept: Short(\"out\") }] } }], .. }\n\
+    "Server { pool: Pool { workers: 1, producers: 0, .. }, sinks: [SinkEnd { name: \"out\", faults: 0, \
+    files: NameList { texts: [\"out\"] } }], .. }\n\
     Ok(Ran { report: Report { totals: Totals { asked: 0, posted: 0, discarded: 0, overrun: 0, handled: 0 }, tickets: [[]], \
-    faults: [0], .. }, sinks: [SinkEnd { name: Text { kept: Short(\"out\") }, faults: 0, \
-    files: NameList { texts: [Text { kept: Short(\"out\") }] } }], \
+    faults: [0], .. }, sinks: [SinkEnd { name: \"out\", faults: 0, \
+    files: NameList { texts: [\"out\"] } }], \
     error: Some(\"Client { producer: Producer { number: 0, .. }, .. }, Logger { number: 0, .. }\") })";
 
 #[test]
