@@ -14,6 +14,7 @@ use Rattle.alog_core.proofs.SharedRising.{cell_of-without_same}
 use Rattle.alog_core.proofs.SharedHistories.{stands_after}
 use Rattle.alog_core.proofs.SharedSound.{next_is_unlisted, sound_after}
 use Rattle.alog_ring.specs.declared.words.TheConstants.{NEXT, FRONT, SEQUENCES, APART}
+use Rattle.alog_ring.specs.Kinds.{PlaceKind}
 use Rattle.alog_ring.specs.Made.{entry, Adds}
 use Rattle.alog_ring.specs.Sight.{Stage, Idle, Writing, Reading, Sight}
 use Rattle.alog_ring.specs.Rule.{IsAtWork, Staged, seq_of, ShowsCell, Shown, Ruled}
@@ -21,10 +22,10 @@ use Rattle.alog_ring.proofs.SharedLists.{not_both}
 use Rattle.alog_ring.proofs.Telling.{grown}
 use Rattle.alog_ring.proofs.Turning.{Turn, within, turn_claim, turn_write, turn_grab, turn_take, staged_turn}
 use Rattle.alog_ring.proofs.Showing.{shown_turn}
-use Rattle.alog_ring.proofs.SharedStepping.{PlaceKind, one_of, sound_now, made, kept}
+use Rattle.alog_ring.proofs.Stepping.{one_of, sound_now, made, kept}
 
-module _ {S T N : Type 0} (kind : PlaceKind S T N) (n f : ℕ) (s : State S (Sight T N))
-    (r : Ruled kind.has kind.spare n f s) (a : ℕ) (v : Sight T N) (at : get_elem? s.views a ≡ maybe.some v)
+module _ {S T N : Type 0} (kind : PlaceKind S T N) (firsts : List S) (n f : ℕ) (s : State S (Sight T N))
+    (r : Ruled kind.has (kind.spare firsts) n f s) (a : ℕ) (v : Sight T N) (at : get_elem? s.views a ≡ maybe.some v)
     (work : IsAtWork a v.known) where
   -- the view after an event
   abbrev pub acting : N → Event T → Stage T N → Sight T N
@@ -36,19 +37,19 @@ module _ {S T N : Type 0} (kind : PlaceKind S T N) (n f : ℕ) (s : State S (Sig
   -- the rule after it, and what it tells
   abbrev pub Acted : N → Event T → Stage T N → List ℕ → List (maybe.Option S) → Type 0
   Acted note e stage words homes =
-      Ruled kind.has kind.spare n f (record { words = words; homes = homes; views = set s.views a (acting note e stage) })
+      Ruled kind.has (kind.spare firsts) n f (record { words = words; homes = homes; views = set s.views a (acting note e stage) })
       × Adds note v.known (acting note e stage).known e
 
   some_places : 1 ≤ n
   some_places = let two : 2 ≤ n = r.two in omega arith
 
   sound_next : (e : Event T) → Allows n r.queue a e → IsSound n (after r.queue a e)
-  sound_next e may = sound_after n r.queue a e some_places (sound_now kind n f s r a v at) may
+  sound_next e may = sound_after n r.queue a e some_places (sound_now kind firsts n f s r a v at) may
 
   acted : (note : N) (e : Event T) (stage : Stage T N) (words : List ℕ) (homes : List (maybe.Option S))
       → Allows n r.queue a e → Follows (latest a r.history) e
       → Staged n (longer note e) (after r.queue a e) (set s.views a (acting note e stage))
-      → Shown kind.has kind.spare n (longer note e) (after r.queue a e) words homes → Acted note e stage words homes
+      → Shown kind.has (kind.spare firsts) n (longer note e) (after r.queue a e) words homes → Acted note e stage words homes
   acted note e stage words homes may follows staged shown =
       let x : Entry T N = entry note v.known e
       in let A : ℕ → Type 0 = λ b. Allows n r.queue b e
@@ -58,9 +59,9 @@ module _ {S T N : Type 0} (kind : PlaceKind S T N) (n f : ℕ) (s : State S (Sig
       subst P work.0
       (stands_after n f r.history r.queue x r.stands (subst A (sym work.0) may) (subst F (sym work.0) follows))
       in (
-        kept kind n f s r a v at work (x ∷ []) (one_of a x work.0) stage
+        kept kind firsts n f s r a v at work (x ∷ []) (one_of a x work.0) stage
             (after r.queue a e) words homes stands staged shown,
-        (made kind n f s r a v at work (x ∷ []) (one_of a x work.0) stage (after r.queue a e) stands, (r.history, refl)),
+        (made kind firsts n f s r a v at work (x ∷ []) (one_of a x work.0) stage (after r.queue a e) stands, (r.history, refl)),
       )
 
   -- the words beside the one that is written
@@ -74,7 +75,7 @@ module _ {S T N : Type 0} (kind : PlaceKind S T N) (n f : ℕ) (s : State S (Sig
   pub claim_step : (x : T) → IsRoom n r.queue.next r.queue.cells → r.queue.next < last
       → ((p : ℕ) (y : T) → v.stage ≡ Writing p y → r.queue.next ≡ p)
       → ((p : ℕ) (y : T) → v.stage ≡ Reading p y → r.queue.next ≡ p)
-      → ((y : S) × (get_elem? s.homes (r.queue.next % n) ≡ maybe.some (maybe.some y)) × kind.spare n r.history r.queue.next y)
+      → ((y : S) × (get_elem? s.homes (r.queue.next % n) ≡ maybe.some (maybe.some y)) × kind.spare firsts n r.history r.queue.next y)
       × Acted kind.blank (Claim r.queue.next x) (Writing r.queue.next x) (set s.words NEXT (r.queue.next + 1))
       (set s.homes (r.queue.next % n) maybe.none)
   claim_step x room low not_writing not_reading =
@@ -82,7 +83,7 @@ module _ {S T N : Type 0} (kind : PlaceKind S T N) (n f : ℕ) (s : State S (Sig
       in let t : ℕ = q.next
       in let e : Event T = Claim t x
       in let q' : Queue T = after q a e
-      in let sound : IsSound n q = sound_now kind n f s r a v at
+      in let sound : IsSound n q = sound_now kind firsts n f s r a v at
       in let turn : Turn n a t q q' = turn_claim n a q sound x some_places
       in let may : Allows n q a e = (refl, low, room)
       in let new : Cell T = record { ticket = t; mark = Claimed; item = x; actor = a }
@@ -95,7 +96,7 @@ module _ {S T N : Type 0} (kind : PlaceKind S T N) (n f : ℕ) (s : State S (Sig
       get_or-set_other s.words NEXT (i * APART + SEQUENCES) (t + 1) 0 (λ z. omega arith)
       in let W : Cell T → Type 0 =
       λ c.
-      ShowsCell kind.has kind.spare t (get_or words (seq_of n t) 0)
+      ShowsCell kind.has (kind.spare firsts) t (get_or words (seq_of n t) 0)
       (get_elem? (set s.homes (t % n) maybe.none) (t % n)) c.item c.mark
       in (
         old.1,
@@ -121,7 +122,7 @@ module _ {S T N : Type 0} (kind : PlaceKind S T N) (n f : ℕ) (s : State S (Sig
                     actor = b;
                   } = cc in let m : Claimed ≡ Emptying = ap (λ (c : Cell T). c.mark) same in cc);
             }))
-            (shown_turn kind.has kind.spare n a t q q' r.history (longer kind.blank e) s.words words s.homes
+            (shown_turn kind.has (kind.spare firsts) n a t q q' r.history (longer kind.blank e) s.words words s.homes
             (set s.homes (t % n) maybe.none) (sound_next e may) turn (omega arith) r.shown
             (record {
               wide = length-set s.words NEXT (t + 1);
@@ -136,7 +137,7 @@ module _ {S T N : Type 0} (kind : PlaceKind S T N) (n f : ℕ) (s : State S (Sig
                   let same : new ≡ c = cc in subst W same (other (t % n) ∙ old.0);
               free_here = λ none. not_both none has;
               spare_else =
-                  λ u _. kind.stays n r.history (entry kind.blank v.known e) u (λ z y is. cc);
+                  λ u _. kind.stays firsts n r.history (entry kind.blank v.known e) u (λ z y is. cc);
             })),
       )
 
@@ -146,7 +147,7 @@ module _ {S T N : Type 0} (kind : PlaceKind S T N) (n f : ℕ) (s : State S (Sig
       let q : Queue T = r.queue
       in let e : Event T = Write t
       in let q' : Queue T = after q a e
-      in let sound : IsSound n q = sound_now kind n f s r a v at
+      in let sound : IsSound n q = sound_now kind firsts n f s r a v at
       in let turn : Turn n a t q q' = turn_write n a q sound t x old
       in let may : Allows n q a e = (x, old)
       in let was : Cell T = record { ticket = t; mark = Claimed; item = x; actor = a }
@@ -157,7 +158,7 @@ module _ {S T N : Type 0} (kind : PlaceKind S T N) (n f : ℕ) (s : State S (Sig
       in let homes : List (maybe.Option S) = set s.homes (t % n) (maybe.some y)
       in let W : Cell T → Type 0 =
       λ c.
-      ShowsCell kind.has kind.spare t (get_or words (seq_of n t) 0) (get_elem? homes (t % n)) c.item c.mark
+      ShowsCell kind.has (kind.spare firsts) t (get_or words (seq_of n t) 0) (get_elem? homes (t % n)) c.item c.mark
       in acted kind.blank e Idle words homes may tt
       (staged_turn n a t q q' turn r.history (entry kind.blank v.known e ∷ []) s.views v
       (acting kind.blank e Idle) at r.staged work
@@ -173,7 +174,7 @@ module _ {S T N : Type 0} (kind : PlaceKind S T N) (n f : ℕ) (s : State S (Sig
             absurd (let same : new ≡ record { ticket = t; mark = Emptying; item = y; actor = b } = cc in
             let m : Written ≡ Emptying = ap (λ (c : Cell T). c.mark) same in cc);
       }))
-      (shown_turn kind.has kind.spare n a t q q' r.history (longer kind.blank e) s.words words s.homes homes
+      (shown_turn kind.has (kind.spare firsts) n a t q q' r.history (longer kind.blank e) s.words words s.homes homes
       (sound_next e may) turn below.1 r.shown
       (record {
         wide = length-set s.words (seq_of n t) (t + 1);
@@ -194,7 +195,7 @@ module _ {S T N : Type 0} (kind : PlaceKind S T N) (n f : ℕ) (s : State S (Sig
             );
         free_here = λ none. not_both none has;
         spare_else =
-            λ u _. kind.stays n r.history (entry kind.blank v.known e) u (λ z y is. cc);
+            λ u _. kind.stays firsts n r.history (entry kind.blank v.known e) u (λ z y is. cc);
       }))
 
   pub grab_step : (x : T) (b : ℕ) → HasCell r.queue.cells r.queue.front Written x b
@@ -208,7 +209,7 @@ module _ {S T N : Type 0} (kind : PlaceKind S T N) (n f : ℕ) (s : State S (Sig
       in let t : ℕ = q.front
       in let e : Event T = Grab t
       in let q' : Queue T = after q a e
-      in let sound : IsSound n q = sound_now kind n f s r a v at
+      in let sound : IsSound n q = sound_now kind firsts n f s r a v at
       in let turn : Turn n a t q q' = turn_grab n a q sound x b old
       in let may : Allows n q a e = (refl, (x, b, old))
       in let was : Cell T = record { ticket = t; mark = Written; item = x; actor = b }
@@ -224,7 +225,7 @@ module _ {S T N : Type 0} (kind : PlaceKind S T N) (n f : ℕ) (s : State S (Sig
       get_or-set_other s.words FRONT (i * APART + SEQUENCES) (t + 1) 0 (λ z. omega arith)
       in let W : Cell T → Type 0 =
       λ c.
-      ShowsCell kind.has kind.spare t (get_or words (seq_of n t) 0)
+      ShowsCell kind.has (kind.spare firsts) t (get_or words (seq_of n t) 0)
       (get_elem? (set s.homes (t % n) maybe.none) (t % n)) c.item c.mark
       in (
         before.1,
@@ -241,7 +242,7 @@ module _ {S T N : Type 0} (kind : PlaceKind S T N) (n f : ℕ) (s : State S (Sig
                   let same : new ≡ record { ticket = t; mark = Emptying; item = y; actor = j } = cc in
                   (sym (ap (λ (c : Cell T). c.actor) same), ap (λ (c : Cell T). Reading t c.item) same);
             }))
-            (shown_turn kind.has kind.spare n a t q q' r.history (longer kind.blank e) s.words words s.homes
+            (shown_turn kind.has (kind.spare firsts) n a t q q' r.history (longer kind.blank e) s.words words s.homes
             (set s.homes (t % n) maybe.none) (sound_next e may) turn below.1 r.shown
             (record {
               wide = length-set s.words FRONT (t + 1);
@@ -258,7 +259,7 @@ module _ {S T N : Type 0} (kind : PlaceKind S T N) (n f : ℕ) (s : State S (Sig
                   let same : new ≡ c = cc in subst W same (other (t % n) ∙ before.0);
               free_here = λ none. not_both none has;
               spare_else =
-                  λ u _. kind.stays n r.history (entry kind.blank v.known e) u (λ z y is. cc);
+                  λ u _. kind.stays firsts n r.history (entry kind.blank v.known e) u (λ z y is. cc);
             })),
       )
 
@@ -268,7 +269,7 @@ module _ {S T N : Type 0} (kind : PlaceKind S T N) (n f : ℕ) (s : State S (Sig
       let q : Queue T = r.queue
       in let e : Event T = Take t x
       in let q' : Queue T = after q a e
-      in let sound : IsSound n q = sound_now kind n f s r a v at
+      in let sound : IsSound n q = sound_now kind firsts n f s r a v at
       in let turn : Turn n a t q q' = turn_take n a q sound t x old
       in let may : Allows n q a e = old
       in let was : Cell T = record { ticket = t; mark = Emptying; item = x; actor = a }
@@ -286,7 +287,7 @@ module _ {S T N : Type 0} (kind : PlaceKind S T N) (n f : ℕ) (s : State S (Sig
         now_read =
             λ y b h. not_both gone h;
       }))
-      (shown_turn kind.has kind.spare n a t q q' r.history (longer note e) s.words words s.homes homes
+      (shown_turn kind.has (kind.spare firsts) n a t q q' r.history (longer note e) s.words words s.homes homes
       (sound_next e may) turn below.1 r.shown (record {
         wide = length-set s.words (seq_of n t) (t + n);
         places = length-set s.homes (t % n) (maybe.some y);
@@ -306,10 +307,10 @@ module _ {S T N : Type 0} (kind : PlaceKind S T N) (n f : ℕ) (s : State S (Sig
           (
             y,
             set_here s.homes (t % n) (maybe.some y) (place_in t),
-            kind.comes n r.history (entry note v.known e) t x refl y brought,
+            kind.comes firsts n r.history (entry note v.known e) t x refl y brought,
           ),
         );
         spare_else = λ u apart.
-            kind.stays n r.history (entry note v.known e) u
+            kind.stays firsts n r.history (entry note v.known e) u
             (λ z y is same. let w : t ≡ z = cc in apart (sym same ∙ ap (λ (k : ℕ). k + n) (sym w)));
       }))

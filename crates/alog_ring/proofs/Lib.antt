@@ -1,20 +1,21 @@
-pub mod SharedLists
-mod Telling
-mod Turning
-mod Showing
-mod Looking
-pub mod SharedStepping
-mod Acting
-mod Steps
-mod Limits
-mod Places
-pub mod SharedCalling
-mod Starting
-mod Splitting
-mod Joining
-mod Meeting
-mod Closing
-mod Ending
-pub mod SharedAlone
-mod Waiting
-pub mod SharedCrosses
+pub mod Lists
+pub mod Telling
+pub mod Turning
+pub mod Showing
+pub mod Looking
+pub mod Stepping
+pub mod Acting
+pub mod Steps
+pub mod Limits
+pub mod Places
+pub mod Calling
+pub mod Starting
+pub mod Splitting
+pub mod Joining
+pub mod Meeting
+pub mod Closing
+pub mod Taking
+pub mod Ending
+pub mod Alone
+pub mod Waiting
+pub mod Crosses

@@ -16,6 +16,7 @@ use Rattle.alog_core.proofs.SharedCells.{on_test, at_same}
 use Rattle.alog_core.proofs.SharedHistories.{own_of-append, legal_before}
 use Rattle.alog_ring.specs.declared.words.TheConstants.{NEXT}
 use Rattle.alog_ring.specs.declared.TheConstants.{ALL_PARTS}
+use Rattle.alog_ring.specs.Kinds.{PlaceKind}
 use Rattle.alog_ring.specs.Known.{Member, Known, IsAmong, AreDistinct, members_of}
 use Rattle.alog_ring.specs.Made.{AreExact}
 use Rattle.alog_ring.specs.Share.{having_seen, IsLonger}
@@ -27,7 +28,7 @@ use Rattle.alog_ring.proofs.Telling.{members_distinct, grown, told_more}
 use Rattle.alog_ring.proofs.Turning.{IsFree, staged_on}
 use Rattle.alog_ring.proofs.Showing.{shown_on}
 use Rattle.alog_ring.proofs.Looking.{on_mark, has_cell}
-use Rattle.alog_ring.proofs.SharedStepping.{PlaceKind, none_of, sound_now, knows_now, looks}
+use Rattle.alog_ring.proofs.Stepping.{none_of, sound_now, knows_now, looks}
 
 no_more : {A : Type 0} (l : List A) → length l ≡ 0 → l ≡ []
 no_more [] e = refl
@@ -118,17 +119,17 @@ record SeesMore {T N : Type 0} (v w : Known T N) (h : List (Entry T N)) : Type 0
   pub own : w.own ≡ v.own
   pub seen : IsPrefix w.seen h
 
-module _ {S T N : Type 0} (kind : PlaceKind S T N) (n f : ℕ) (s : State S (Sight T N))
-    (r : Ruled kind.has kind.spare n f s) (a : ℕ) (v : Sight T N) (at : get_elem? s.views a ≡ some v)
+module _ {S T N : Type 0} (kind : PlaceKind S T N) (firsts : List S) (n f : ℕ) (s : State S (Sight T N))
+    (r : Ruled kind.has (kind.spare firsts) n f s) (a : ℕ) (v : Sight T N) (at : get_elem? s.views a ≡ some v)
     (live : 0 < v.known.parts) where
   -- the view changes, and nothing else
   seen_anew : (i : ℕ) (w : Sight T N) → IsFree v.stage → SeesMore v.known w.known r.history
       → Knows n (r.history ++ []) r.queue a w.known w.stage
-      → Ruled kind.has kind.spare n f
+      → Ruled kind.has (kind.spare firsts) n f
       (record { words = set s.words i (get_or s.words i 0); homes = s.homes; views = set s.views a w })
   seen_anew i w free more knows =
       let P : List ℕ → Type 0 =
-      λ ws. Ruled kind.has kind.spare n f (record { words = ws; homes = s.homes; views = set s.views a w })
+      λ ws. Ruled kind.has (kind.spare firsts) n f (record { words = ws; homes = s.homes; views = set s.views a w })
       in let Q : List (Entry T N) → Type 0 = λ h. StandsFor n f h r.queue
       in subst P (sym (set-get_or s.words i 0)) (record {
         history = r.history ++ [];
@@ -145,9 +146,9 @@ module _ {S T N : Type 0} (kind : PlaceKind S T N) (n f : ℕ) (s : State S (Sig
               own = more.own ∙ sym (append-nil v.known.own);
               seen = prefix_longer w.known.seen r.history [] more.seen;
             });
-        staged = staged_on n a r.queue r.history [] s.views v w (sound_now kind n f s r a v at) at r.staged knows free;
-        shown = shown_on kind.has kind.spare n r.queue r.history (r.history ++ []) s.words s.homes
-            (λ t z is. let P : List (Entry T N) → Type 0 = λ h. kind.spare n h t z in subst P (sym (append-nil r.history)) is) r.shown;
+        staged = staged_on n a r.queue r.history [] s.views v w (sound_now kind firsts n f s r a v at) at r.staged knows free;
+        shown = shown_on kind.has (kind.spare firsts) n r.queue r.history (r.history ++ []) s.words s.homes
+            (λ t z is. let P : List (Entry T N) → Type 0 = λ h. kind.spare firsts n h t z in subst P (sym (append-nil r.history)) is) r.shown;
       })
 
   -- a beginning of the history is legal
@@ -159,10 +160,10 @@ module _ {S T N : Type 0} (kind : PlaceKind S T N) (n f : ℕ) (s : State S (Sig
       in subst Q (sym (r.told.places a v at live))
       (subst R (sym (r.told.first a v at live)) (legal_before n f p is.0 (subst P (sym is.1) r.stands.legal)))
 
-module _ {S T N : Type 0} (kind : PlaceKind S T N) (n f slots id : ℕ) (me : Me S (Sight T N))
+module _ {S T N : Type 0} (kind : PlaceKind S T N) (firsts : List S) (n f slots id : ℕ) (me : Me S (Sight T N))
     (live : 0 < me.0.known.parts) where
   pub names_itself : me.0.stage ≡ Fresh → me.0.known.own ≡ [] → me.0.known.joined ≡ []
-      → Allows (λ (s : State S (Sight T N)). Ruled kind.has kind.spare n f s) slots id me NEXT (λ y. y)
+      → Allows (λ (s : State S (Sight T N)). Ruled kind.has (kind.spare firsts) n f s) slots id me NEXT (λ y. y)
       (λ y m. was_named me m)
   names_itself fresh none alone s r wide at _ =
       let k : Known T N = me.0.known
@@ -191,13 +192,13 @@ module _ {S T N : Type 0} (kind : PlaceKind S T N) (n f slots id : ℕ) (me : Me
         w,
         keeps,
         tt,
-        seen_anew kind n f s r id me.0 at live NEXT w free
+        seen_anew kind firsts n f s r id me.0 at live NEXT w free
             (record { places = refl; first = refl; parts = refl; joined = refl; own = refl; seen = seen }) (refl, live),
         (
           id,
           refl,
           record {
-            legal = legal_prefix kind n f s r id me.0 at live k.seen seen;
+            legal = legal_prefix kind firsts n f s r id me.0 at live k.seen seen;
             own = none
                 ∙ sym (no_more (own_of id k.seen) (omega arith));
             joined = subst E (sym alone) tt;
@@ -210,11 +211,11 @@ module _ {S T N : Type 0} (kind : PlaceKind S T N) (n f slots id : ℕ) (me : Me
       )
 
   pub sees_both : (t : List (Entry T N)) → me.0.stage ≡ Joined t
-      → Allows (λ (s : State S (Sight T N)). Ruled kind.has kind.spare n f s) slots id me NEXT (λ y. y)
+      → Allows (λ (s : State S (Sight T N)). Ruled kind.has (kind.spare firsts) n f s) slots id me NEXT (λ y. y)
       (λ y m. saw_both t me m)
   sees_both t stage s r wide at _ =
       let k : Known T N = me.0.known
-      in let knows : IsAtWork id k × IsPrefix t r.history = knows_now kind n f s r id me.0 at (Joined t) stage
+      in let knows : IsAtWork id k × IsPrefix t r.history = knows_now kind firsts n f s r id me.0 at (Joined t) stage
       in let found = longer_of k.seen t r.history (r.told.seen id me.0 at) knows.1
       in let h : List (Entry T N) = found.0
       in let w : Sight T N = record { stage = Idle; known = having_seen k h }
@@ -226,13 +227,13 @@ module _ {S T N : Type 0} (kind : PlaceKind S T N) (n f slots id : ℕ) (me : Me
         w,
         keeps,
         tt,
-        seen_anew kind n f s r id me.0 at live NEXT w free
+        seen_anew kind firsts n f s r id me.0 at live NEXT w free
             (record { places = refl; first = refl; parts = refl; joined = refl; own = refl; seen = found.2 }) knows.0,
         (
           h,
           found.1,
           refl,
-          legal_prefix kind n f s r id me.0 at live h found.2,
+          legal_prefix kind firsts n f s r id me.0 at live h found.2,
           exact_between k.seen t h r.history found.1 found.2 (members_of k) (own, has.joined),
           members_distinct n f id r.history s.views me.0 r.told at live knows.0.0,
           (let most : k.parts ≤ sum_by parts_of s.views = has_at_most s.views id me.0 at in omega (arith, r.told.whole)),
@@ -241,7 +242,7 @@ module _ {S T N : Type 0} (kind : PlaceKind S T N) (n f slots id : ℕ) (me : Me
       )
 
   -- with all parts the pass is alone
-  module _ (s : State S (Sight T N)) (r : Ruled kind.has kind.spare n f s) (at : get_elem? s.views id ≡ some me.0)
+  module _ (s : State S (Sight T N)) (r : Ruled kind.has (kind.spare firsts) n f s) (at : get_elem? s.views id ≡ some me.0)
       (idle : me.0.stage ≡ Idle) (all : me.0.known.parts ≡ ALL_PARTS) where
     others_have_none : (b : ℕ) (u : Sight T N) → b ≢ id → get_elem? s.views b ≡ some u → u.known.parts ≡ 0
     others_have_none b u apart e = let two : parts_of me.0 + parts_of u ≤ sum_by parts_of s.views =
@@ -315,14 +316,14 @@ module _ {S T N : Type 0} (kind : PlaceKind S T N) (n f slots id : ℕ) (me : Me
         ]
 
   pub sees_all : me.0.stage ≡ Idle
-      → Allows (λ (s : State S (Sight T N)). Ruled kind.has kind.spare n f s) slots id me NEXT (λ y. y)
+      → Allows (λ (s : State S (Sight T N)). Ruled kind.has (kind.spare firsts) n f s) slots id me NEXT (λ y. y)
       (λ y m. saw_all me m)
   sees_all idle s r wide at _ =
       let k : Known T N = me.0.known
-      in let work : IsAtWork id k = knows_now kind n f s r id me.0 at Idle idle
+      in let work : IsAtWork id k = knows_now kind firsts n f s r id me.0 at Idle idle
       in let F : Stage T N → Type 0 = λ z. IsFree z
       in let free : IsFree me.0.stage = subst F (sym idle) ((λ p x e. cc), (λ p x e. cc))
-      in let done = looks kind n f s r id me.0 at NEXT work free Idle work
+      in let done = looks kind firsts n f s r id me.0 at NEXT work free Idle work
       in let H : List (Entry T N) → Type 0 =
       λ h. AllByRecursion (λ (x : Entry T N). (x.actor ≡ k.actor) ⊎ IsAmong x.actor k.joined) h
       in let left : left_by (start k.first) (r.history ++ []) ≡ r.queue =

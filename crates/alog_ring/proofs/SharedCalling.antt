@@ -1,16 +1,16 @@
 -- What the calls' steps tell, put together.
 use Rattle.std.proofs.Common.{◌≡◌, ℕ, ◌%◌, Option, None, Some, List, [], ◌∷◌, ◌++◌, refl, sym, ap, subst, ◌∙◌, append_assoc}
 use Rattle.std.specs.Prelude.{IsSome, IfSome}
-use mathlib.Core.Option.{some}
+use mathlib.Core.Option.{some, some-injective}
 use Rattle.atomic_table.specs.Table.{Me, step, rest}
 use Rattle.alog_core.specs.Queue.{Event, Claim, Grab}
 use Rattle.alog_core.specs.History.{Entry}
 use Rattle.alog_ring.specs.declared.words.TheConstants.{NEXT, FRONT}
 use Rattle.alog_ring.specs.Known.{Known}
-use Rattle.alog_ring.specs.Kinds.{no_note, some_value, no_value}
+use Rattle.alog_ring.specs.Kinds.{PlaceKind}
 use Rattle.alog_ring.specs.Made.{Made, EndsWith, entry, Adds}
 use Rattle.alog_ring.specs.Sight.{Writing, Reading, Sight}
-use Rattle.alog_ring.specs.Plays.{Acts, claimed, wrote, grabbed, took}
+use Rattle.alog_ring.specs.Plays.{claimed, wrote, grabbed, took}
 use Rattle.alog_ring.specs.Board.{Fills, Empties}
 use Rattle.alog_ring.proofs.SharedLists.{prefix_through}
 
@@ -48,75 +48,79 @@ of_value P o x is holds = let Q : Option _ → Type 0 = λ r. IfSome r P in subs
 pub for_value : {T : Type 0} (P : T → Type 0) (o : Option T) (x : T) → o ≡ Some x → P x → IfSome o P
 for_value P o x is holds = let Q : Option _ → Type 0 = λ r. IfSome r P in subst Q (sym is) holds
 
--- A push: after the exchange of the position, the seat has the place; the item goes into it, and the sequence is stored.
-module _ {T : Type 0} (slots t new place found n : ℕ) (said : Option T) (value : T) (is : said ≡ Some value)
-    (old mid put : Me (Option T) (Sight T no_note))
-    (told : claimed tt some_value no_value (step slots NEXT t new (some said)) old found mid) (hit : found ≡ t)
-    (filled : put ≡ (mid.0, (place, said) ∷ rest mid.1)) (at : place ≡ t % n) where
-  did : (y : Option T) × (x : T) × (some said ≡ some y) × (y ≡ Some x) × Acts tt old mid (Claim found x) (Writing found x)
-      × ((z : Option T) × (mid.1 ≡ (found % slots, z) ∷ old.1) × (z ≡ None))
-  did = told.0 hit
+-- A push: after the exchange of the position, the seat has the place; what was brought goes into it, and the sequence is stored.
+module _ {S T N : Type 0} (kind : PlaceKind S T N) (firsts : List S) (slots t new place found n : ℕ) (said back : S)
+    (old mid put : Me S (Sight T N))
+    (told : claimed kind.blank kind.has (kind.spare firsts) (step slots NEXT t new (some said)) old found mid)
+    (hit : found ≡ t) (before : mid.1 ≡ (place, back) ∷ rest mid.1) (filled : put ≡ (mid.0, (place, said) ∷ rest mid.1))
+    (at : place ≡ t % n) where
+  abbrev pub filled_item : T
+  filled_item = (told.0 hit).1
 
-  item : did.1 ≡ value
-  unfolding did
-  item =
-      let both : some said ≡ some (told.0 hit).0 = (told.0 hit).2
-      in let lies : (told.0 hit).0 ≡ Some (told.0 hit).1 = (told.0 hit).3
-      in cc
+  pub filled_has : kind.has said filled_item
+  filled_has =
+      let same : (told.0 hit).0 ≡ said = sym (some-injective said (told.0 hit).0 (told.0 hit).2) in
+      subst (λ (y : S). kind.has y filled_item) same (told.0 hit).3
 
-  pub filling_stage : put.0.stage ≡ Writing t value
-  unfolding did
-  filling_stage = ap (λ (m : Me (Option T) (Sight T no_note)). m.0.stage) filled ∙ (told.0 hit).4.1
-      ∙ (λ i. Writing (hit i) (item i))
+  pub filling_stage : put.0.stage ≡ Writing t filled_item
+  filling_stage = ap (λ (m : Me S (Sight T N)). m.0.stage) filled ∙ (told.0 hit).4.1 ∙ (λ i. Writing (hit i) filled_item)
 
-  pub filling_place : put.1 ≡ (t % n, Some value) ∷ old.1
-  filling_place = ap (λ (m : Me (Option T) (Sight T no_note)). m.1) filled
-      ∙ (λ i. (at i, is i) ∷ ap rest (told.0 hit).5.1 i)
+  pub filling_place : put.1 ≡ (t % n, said) ∷ old.1
+  filling_place = ap (λ (m : Me S (Sight T N)). m.1) filled ∙ (λ i. (at i, said) ∷ ap rest (told.0 hit).5.1 i)
 
-  pub fills : (last : Me (Option T) (Sight T no_note)) → wrote tt t put last → Fills old last t value
-  unfolding did
+  pub fills : (last : Me S (Sight T N)) → wrote kind.blank t put last → Fills kind firsts old last t said back
   fills last done =
-      let claim : Adds tt old.0.known mid.0.known (Claim found (told.0 hit).1) = (told.0 hit).4.0
-      in let P : ℕ → Type 0 = λ z. Adds tt old.0.known mid.0.known (Claim z (told.0 hit).1)
-      in let Q : T → Type 0 = λ z. Adds tt old.0.known mid.0.known (Claim t z)
-      in let R : Known T no_note → Type 0 = λ z. Adds tt old.0.known z (Claim t value)
-      in (
-        put.0.known,
-        subst R (sym (ap (λ (m : Me (Option T) (Sight T no_note)). m.0.known) filled)) (subst Q item (subst P hit claim)),
-        done.0.0,
-        done.0.1,
-        done.1 ∙ ap rest filling_place,
-      )
+      let claim : Adds kind.blank old.0.known mid.0.known (Claim found filled_item) = (told.0 hit).4.0
+      in let P : ℕ → Type 0 = λ z. Adds kind.blank old.0.known mid.0.known (Claim z filled_item)
+      in let both : (place, back) ∷ rest mid.1 ≡ (found % slots, (told.0 hit).5.0) ∷ old.1 = sym before ∙ (told.0 hit).5.1
+      in let pair : ◌≡◌ {A = ℕ × S} (place, back) (found % slots, (told.0 hit).5.0) = cc
+      in let same : back ≡ (told.0 hit).5.0 = ap (λ (z : ℕ × S). z.1) pair
+      in let W : S → Type 0 = λ y. kind.spare firsts mid.0.known.places mid.0.known.seen found y
+      in let V : ℕ → Type 0 = λ z. kind.spare firsts mid.0.known.places mid.0.known.seen z back
+      in let A : Known T N → Type 0 = λ k. Adds kind.blank old.0.known k (Claim t filled_item)
+      in let B : Known T N → Type 0 = λ k. kind.spare firsts k.places k.seen t back
+      in let known : mid.0.known ≡ put.0.known = sym (ap (λ (m : Me S (Sight T N)). m.0.known) filled)
+      in record {
+        item = filled_item;
+        has = filled_has;
+        claimed = put.0.known;
+        claims = subst A known (subst P hit claim);
+        writes = done.0.0;
+        spare = subst B known (subst V hit (subst W (sym same) (told.0 hit).5.2));
+        idle = done.0.1;
+        home = done.1 ∙ ap rest filling_place;
+      }
 
--- A pop: after the exchange of the position, the seat has the place; the item comes out of it, and the sequence is stored.
-module _ {T : Type 0} (slots t new place found n : ℕ) (said : Option T) (old mid out : Me (Option T) (Sight T no_note))
-    (told : grabbed tt some_value (step slots FRONT t new (some said)) old found mid) (hit : found ≡ t)
-    (emptied : out ≡ (mid.0, (place, None) ∷ rest mid.1)) (at : place ≡ t % n) where
+-- A pop: after the exchange of the position, the seat has the place; its item comes out, and the sequence is stored.
+module _ {S T N : Type 0} (kind : PlaceKind S T N) (slots t new place found n : ℕ) (said brought got : S)
+    (old mid out : Me S (Sight T N))
+    (told : grabbed kind.blank kind.has (step slots FRONT t new (some said)) old found mid) (hit : found ≡ t)
+    (before : mid.1 ≡ (place, got) ∷ rest mid.1) (emptied : out ≡ (mid.0, (place, brought) ∷ rest mid.1)) (at : place ≡ t % n) where
   pub emptying_stage : out.0.stage ≡ Reading t (told.0 hit).0
-  emptying_stage = ap (λ (m : Me (Option T) (Sight T no_note)). m.0.stage) emptied ∙ (told.0 hit).1.1
-      ∙ (λ i. Reading (hit i) (told.0 hit).0)
+  emptying_stage = ap (λ (m : Me S (Sight T N)). m.0.stage) emptied ∙ (told.0 hit).1.1 ∙ (λ i. Reading (hit i) (told.0 hit).0)
 
-  pub emptying_place : out.1 ≡ (t % n, None) ∷ old.1
-  emptying_place = ap (λ (m : Me (Option T) (Sight T no_note)). m.1) emptied
-      ∙ (λ i. (at i, None) ∷ ap rest (told.0 hit).2.1 i)
+  pub emptying_place : out.1 ≡ (t % n, brought) ∷ old.1
+  emptying_place = ap (λ (m : Me S (Sight T N)). m.1) emptied ∙ (λ i. (at i, brought) ∷ ap rest (told.0 hit).2.1 i)
 
-  pub empties : (last : Me (Option T) (Sight T no_note)) → took tt t (told.0 hit).0 out last
-      → Empties old last t (told.0 hit).0
-  empties last done =
-      let grab : Adds tt old.0.known mid.0.known (Grab found) = (told.0 hit).1.0
-      in let P : ℕ → Type 0 = λ z. Adds tt old.0.known mid.0.known (Grab z)
-      in let R : Known T no_note → Type 0 = λ z. Adds tt old.0.known z (Grab t)
-      in (
-        out.0.known,
-        subst R (sym (ap (λ (m : Me (Option T) (Sight T no_note)). m.0.known) emptied)) (subst P hit grab),
-        done.0.0,
-        done.0.1,
-        done.1 ∙ ap rest emptying_place,
-      )
-
-  -- what came out of the place
-  pub emptied_value : (got : Option T) → mid.1 ≡ (place, got) ∷ rest mid.1 → got ≡ Some (told.0 hit).0
-  emptied_value got has =
-      let both : (place, got) ∷ rest mid.1 ≡ (found % slots, (told.0 hit).2.0) ∷ old.1 = sym has ∙ (told.0 hit).2.1
-      in let pair : ◌≡◌ {A = ℕ × Option T} (place, got) (found % slots, (told.0 hit).2.0) = cc
-      in ap (λ (z : ℕ × Option T). z.1) pair ∙ (told.0 hit).2.2
+  pub empties : (last : Me S (Sight T N)) (note : N) → kind.brings note brought → took note t (told.0 hit).0 out last
+      → Empties kind old last t brought got
+  empties last note brings done =
+      let grab : Adds kind.blank old.0.known mid.0.known (Grab found) = (told.0 hit).1.0
+      in let P : ℕ → Type 0 = λ z. Adds kind.blank old.0.known mid.0.known (Grab z)
+      in let both : (place, got) ∷ rest mid.1 ≡ (found % slots, (told.0 hit).2.0) ∷ old.1 = sym before ∙ (told.0 hit).2.1
+      in let pair : ◌≡◌ {A = ℕ × S} (place, got) (found % slots, (told.0 hit).2.0) = cc
+      in let same : got ≡ (told.0 hit).2.0 = ap (λ (z : ℕ × S). z.1) pair
+      in let H : S → Type 0 = λ y. kind.has y (told.0 hit).0
+      in let A : Known T N → Type 0 = λ k. Adds kind.blank old.0.known k (Grab t)
+      in let known : mid.0.known ≡ out.0.known = sym (ap (λ (m : Me S (Sight T N)). m.0.known) emptied)
+      in record {
+        item = (told.0 hit).0;
+        has = subst H (sym same) (told.0 hit).2.2;
+        note = note;
+        brings = brings;
+        grabbed = out.0.known;
+        grabs = subst A known (subst P hit grab);
+        takes = done.0.0;
+        idle = done.0.1;
+        home = done.1 ∙ ap rest emptying_place;
+      }

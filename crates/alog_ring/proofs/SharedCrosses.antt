@@ -9,8 +9,13 @@ use Rattle.atomic_table.proofs.owned.Table.TheSendSync.{the_field_send as table_
 use Rattle.std.specs.contracts.option.Option as Option
 use Rattle.std.specs.contracts.alloc.Global as Global
 use Rattle.std.specs.contracts.impls.GlobalAllocator.TheImpl.{ghosts as alloc_ghosts}
+use Rattle.alog_ring.specs.declared.kind.Kind.{Ghosts as KindGhosts}
 use Rattle.alog_ring.specs.declared.limit.Limit.{Ghosts}
 use Rattle.alog_ring.specs.contracts.board.Board as Board
+use Rattle.alog_ring.specs.contracts.kind.Plain as Plain
+use Rattle.alog_ring.specs.contracts.kind.PlainKindOptionUnit.TheImpl as PlainKind
+use Rattle.alog_ring.specs.contracts.limit.IfThere as IfThere
+use Rattle.alog_ring.specs.contracts.limit.IfThereLimitOption.TheImpl as Places
 use Rattle.alog_ring.specs.contracts.pass.Pass as Pass
 use Rattle.alog_ring.specs.contracts.pass.Pass.TheInside as PassInside
 use Rattle.alog_ring.specs.contracts.ring.Ring as Ring
@@ -18,7 +23,7 @@ use Rattle.alog_ring.specs.contracts.ring.Ring.TheInside as RingInside
 use Rattle.alog_ring.specs.contracts.view.View as View
 use Rattle.alog_ring.specs.contracts.view.Shape as Shape
 use Rattle.alog_ring.specs.contracts.view.Law as Law
-use Rattle.alog_ring.specs.contracts.view.LawTableRuleOptionViewUnitShape.TheImpl as LawRule
+use Rattle.alog_ring.specs.contracts.view.LawTableRuleViewShape.TheImpl as LawRule
 
 number_send : IsSend u64
 number_send = search sendable
@@ -29,38 +34,51 @@ number_sync = search sendable
 option_send : (T : RattleType) → IsSend T → IsSend (Option.the_row T)
 option_send T t = search sendable depth 9
 
-module _ (T : RattleType) where
-  pass_inside_send : IsSend T → IsSend (PassInside.the_row T)
-  pass_inside_send t = recorded_send (PassInside.the_field T).row _ _ (PassInside.the_type T).to_one (struct_send
-      (shape (PassInside.the_type T)) (table_seat_send (Option.the_row T) (View.the_row T unit) (option_send T t), (number_send, tt)))
+module _ (T S N : RattleType) where
+  pass_inside_send : IsSend S → IsSend (PassInside.the_row T S N)
+  pass_inside_send s = recorded_send (PassInside.the_field T S N).row _ _ (PassInside.the_type T S N).to_one (struct_send
+      (shape (PassInside.the_type T S N)) (table_seat_send S (View.the_row T N) s, (number_send, tt)))
 
-  pub pass_send : IsSend T → IsSend (Pass.the_row T)
-  pass_send t = view_send _ _ _ _ _ (pass_inside_send t)
+  any_pass_send : IsSend S → IsSend (Pass.the_row T S N)
+  any_pass_send s = view_send _ _ _ _ _ (pass_inside_send s)
 
-module _ (T L : RattleType) (g : Ghosts L.Denot T.Denot) where
-  board_send : IsSend T → IsSend (Board.the_field T L g).row
-  board_send t = struct_send
-      (shape (Board.the_type T L g)) (
-        table_field_send (Option.the_row T) (View.the_row T unit) (Shape.the_row L) Law.the_row
-            Global.the_row (LawRule.ghosts T L g LawRule.no_dict) alloc_ghosts (option_send T t) heap_send frees,
+-- a pass of a `Ring`
+pub pass_send : (T : RattleType) → IsSend T → IsSend (Pass.the_row T (Option.the_row T) unit)
+pass_send T t = any_pass_send T (Option.the_row T) unit (option_send T t)
+
+module _ (S T N K L : RattleType) (k : KindGhosts K.Denot S.Denot T.Denot N.Denot) (g : Ghosts L.Denot S.Denot) where
+  board_send : IsSend S → IsSend (Board.the_field S T N K L k g).row
+  board_send s = struct_send
+      (shape (Board.the_type S T N K L k g)) (
+        table_field_send S (View.the_row T N) (Shape.the_row S L) (Law.the_row K)
+            Global.the_row (LawRule.ghosts S T N K L k LawRule.no_dict g LawRule.no_dict) alloc_ghosts s heap_send frees,
         (number_send, tt),
       )
 
-  board_sync : IsSend T → IsSync (Board.the_field T L g).row
-  board_sync t = struct_sync
-      (shape (Board.the_type T L g)) (
-        table_field_sync (Option.the_row T) (View.the_row T unit) (Shape.the_row L) Law.the_row
-            Global.the_row (LawRule.ghosts T L g LawRule.no_dict) alloc_ghosts (option_send T t) heap_send heap_sync frees,
+  board_sync : IsSend S → IsSync (Board.the_field S T N K L k g).row
+  board_sync s = struct_sync
+      (shape (Board.the_type S T N K L k g)) (
+        table_field_sync S (View.the_row T N) (Shape.the_row S L) (Law.the_row K)
+            Global.the_row (LawRule.ghosts S T N K L k LawRule.no_dict g LawRule.no_dict) alloc_ghosts s heap_send heap_sync frees,
         (number_sync, tt),
       )
 
+module _ (T L : RattleType) (g : Ghosts L.Denot T.Denot) where
   ring_inside_send : IsSend T → IsSend (RingInside.the_row T L g)
   ring_inside_send t = recorded_send (RingInside.the_field T L g).row _ _ (RingInside.the_type T L g).to_one (struct_send
-      (shape (RingInside.the_type T L g)) (board_send t, (search (sendable, Vec-send) depth 12, tt)))
+      (shape (RingInside.the_type T L g)) (
+        board_send (Option.the_row T) T unit Plain.the_row (IfThere.the_row L) (PlainKind.ghosts T)
+            (Places.ghosts T L g Places.no_dict) (option_send T t),
+        (search (sendable, Vec-send) depth 12, tt),
+      ))
 
   ring_inside_sync : IsSend T → IsSync T → IsSync (RingInside.the_row T L g)
   ring_inside_sync t s = recorded_sync (RingInside.the_field T L g).row _ _ (RingInside.the_type T L g).to_one (struct_sync
-      (shape (RingInside.the_type T L g)) (board_sync t, (search (sendable, Vec-sync) depth 12, tt)))
+      (shape (RingInside.the_type T L g)) (
+        board_sync (Option.the_row T) T unit Plain.the_row (IfThere.the_row L) (PlainKind.ghosts T)
+            (Places.ghosts T L g Places.no_dict) (option_send T t),
+        (search (sendable, Vec-sync) depth 12, tt),
+      ))
 
   pub ring_send : IsSend T → IsSend (Ring.the_row T L g)
   ring_send t = view_send _ _ _ _ _ (ring_inside_send t)

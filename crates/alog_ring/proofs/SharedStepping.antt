@@ -1,5 +1,5 @@
 -- How a step of a seat keeps the rule, put together from the history, the stages, and the words and places.
-use Rattle.std.proofs.Common.{◌≡◌, ◌≢◌, ℕ, ◌+◌, ◌<◌, ◌≤◌, Option, Some, None, List, [], ◌∷◌, ◌++◌, set, get_or, refl, sym, ap}
+use Rattle.std.proofs.Common.{◌≡◌, ◌≢◌, ℕ, ◌<◌, ◌≤◌, Option, Some, None, List, [], ◌∷◌, ◌++◌, set, get_or, refl, sym, ap}
 use Rattle.std.proofs.Common.{subst, ◌∙◌, arith}
 use Rattle.std.proofs.lemmas.List.{append-nil}
 use mathlib.Core.Option as maybe
@@ -12,8 +12,9 @@ use Rattle.alog_core.specs.Queue as queue
 use Rattle.alog_core.specs.Queue.{Queue, Event, Claim, Write, Grab, Take, Full, Front, Empty, PushBusy, PopBusy, Spent, start}
 use Rattle.alog_core.specs.Queue.{Allows, after, IsSound}
 use Rattle.alog_core.specs.History.{Entry, IsLegal, left_by, own_of, last_event, latest, Follows, StandsFor}
-use Rattle.alog_core.proofs.SharedCells.{at_same, at_other}
-use Rattle.alog_core.proofs.SharedHistories.{left_by-append, latest_own, stands_after, stands_sound}
+use Rattle.alog_core.proofs.Cells.{at_same, at_other}
+use Rattle.alog_core.proofs.Histories.{left_by-append, latest_own, stands_after, stands_sound}
+use Rattle.alog_ring.specs.Kinds.{PlaceKind}
 use Rattle.alog_ring.specs.Made.{AreExact, Made, next_seen, front_seen, entry, Adds}
 use Rattle.alog_ring.specs.Sight.{Stage, Idle, Sight}
 use Rattle.alog_ring.specs.Rule.{IsAtWork, Knows, Staged, Shown, Ruled}
@@ -21,19 +22,6 @@ use Rattle.alog_ring.proofs.SharedLists.{prefix_longer}
 use Rattle.alog_ring.proofs.Telling.{AreOf, grown, grows_now, faithful_now, told_more, members_distinct}
 use Rattle.alog_ring.proofs.Turning.{IsFree, staged_on}
 use Rattle.alog_ring.proofs.Showing.{shown_on}
-
--- What lies in the places: an item in a place, the place that a note brings, the note of all other events, and what
--- lies in a free place, which only the Take of the ticket a lap before changes.
-pub record PlaceKind (S T N : Type 0) : Type 1 where
-  pub has : S → T → Type 0
-  pub brings : N → S → Type 0
-  pub once : (a b : N) (y : S) → brings a y → brings b y → a ≡ b
-  pub blank : N
-  pub spare : ℕ → List (Entry T N) → ℕ → S → Type 0
-  pub stays : (n : ℕ) (h : List (Entry T N)) (x : Entry T N) (t : ℕ) → ((u : ℕ) (y : T) → x.event ≡ Take u y → u + n ≢ t)
-      → (z : S) → spare n h t z → spare n (h ++ x ∷ []) t z
-  pub comes : (n : ℕ) (h : List (Entry T N)) (x : Entry T N) (u : ℕ) (y : T) → x.event ≡ Take u y
-      → (z : S) → brings x.note z → spare n (h ++ x ∷ []) (u + n) z
 
 -- positions only rise
 pub rises_after : {T : Type 0} (q : Queue T) (a : ℕ) (e : Event T) → (q.next ≤ (after q a e).next)
@@ -79,8 +67,8 @@ one_of a x same = record {
 pub none_of : {T N : Type 0} (a : ℕ) → AreOf {T = T} {N = N} a []
 none_of a = record { all = refl; others = λ b apart. refl }
 
-module _ {S T N : Type 0} (kind : PlaceKind S T N) (n f : ℕ) (s : State S (Sight T N))
-    (r : Ruled kind.has kind.spare n f s) (a : ℕ) (v : Sight T N) (at : get_elem? s.views a ≡ some v) where
+module _ {S T N : Type 0} (kind : PlaceKind S T N) (firsts : List S) (n f : ℕ) (s : State S (Sight T N))
+    (r : Ruled kind.has (kind.spare firsts) n f s) (a : ℕ) (v : Sight T N) (at : get_elem? s.views a ≡ some v) where
   pub sound_now : IsSound n r.queue
   sound_now = stands_sound n f r.history r.queue (let two : 2 ≤ n = r.two in omega arith) r.stands
 
@@ -127,8 +115,8 @@ module _ {S T N : Type 0} (kind : PlaceKind S T N) (n f : ℕ) (s : State S (Sig
 
     pub kept : (q : Queue T) (words : List ℕ) (homes : List (maybe.Option S)) → StandsFor n f (r.history ++ more) q
         → Staged n (r.history ++ more) q (set s.views a stepping)
-        → Shown kind.has kind.spare n (r.history ++ more) q words homes
-        → Ruled kind.has kind.spare n f (record { words = words; homes = homes; views = set s.views a stepping })
+        → Shown kind.has (kind.spare firsts) n (r.history ++ more) q words homes
+        → Ruled kind.has (kind.spare firsts) n f (record { words = words; homes = homes; views = set s.views a stepping })
     kept q words homes stands staged shown = record {
       history = r.history ++ more;
       queue = q;
@@ -141,23 +129,23 @@ module _ {S T N : Type 0} (kind : PlaceKind S T N) (n f : ℕ) (s : State S (Sig
 
     -- a step that changes neither the queue nor a word nor a place
     pub kept_still : (i : ℕ) → IsFree v.stage → StandsFor n f (r.history ++ more) r.queue
-        → ((t : ℕ) (z : S) → kind.spare n r.history t z → kind.spare n (r.history ++ more) t z)
+        → ((t : ℕ) (z : S) → kind.spare firsts n r.history t z → kind.spare firsts n (r.history ++ more) t z)
         → Knows n (r.history ++ more) r.queue a (grown v.known r.history more) stage
-        → Ruled kind.has kind.spare n f
+        → Ruled kind.has (kind.spare firsts) n f
         (record { words = set s.words i (get_or s.words i 0); homes = s.homes; views = set s.views a stepping })
     kept_still i free stands same knows =
         let P : List ℕ → Type 0 =
         λ ws.
-        Ruled kind.has kind.spare n f (record { words = ws; homes = s.homes; views = set s.views a stepping })
+        Ruled kind.has (kind.spare firsts) n f (record { words = ws; homes = s.homes; views = set s.views a stepping })
         in subst P (sym (set-get_or s.words i 0))
         (kept r.queue s.words s.homes stands
         (staged_on n a r.queue r.history more s.views v stepping sound_now at r.staged knows free)
-        (shown_on kind.has kind.spare n r.queue r.history (r.history ++ more) s.words s.homes same r.shown))
+        (shown_on kind.has (kind.spare firsts) n r.queue r.history (r.history ++ more) s.words s.homes same r.shown))
 
   -- the seat only looks
   pub looks : (i : ℕ) → IsAtWork a v.known → IsFree v.stage → (stage : Stage T N)
       → Knows n (r.history ++ []) r.queue a (grown v.known r.history []) stage
-      → Ruled kind.has kind.spare n f
+      → Ruled kind.has (kind.spare firsts) n f
       (record {
         words = set s.words i (get_or s.words i 0);
         homes = s.homes;
@@ -169,7 +157,7 @@ module _ {S T N : Type 0} (kind : PlaceKind S T N) (n f : ℕ) (s : State S (Sig
       in let stands : StandsFor n f (r.history ++ []) r.queue = subst P (sym (append-nil r.history)) r.stands
       in (
         kept_still work [] (none_of a) stage i free stands
-            (λ t z is. let P : List (Entry T N) → Type 0 = λ h. kind.spare n h t z in subst P (sym (append-nil r.history)) is) knows,
+            (λ t z is. let P : List (Entry T N) → Type 0 = λ h. kind.spare firsts n h t z in subst P (sym (append-nil r.history)) is) knows,
         made work [] (none_of a) stage r.queue stands,
       )
 
@@ -188,7 +176,7 @@ module _ {S T N : Type 0} (kind : PlaceKind S T N) (n f : ℕ) (s : State S (Sig
   -- the rule after a refusal that a load at this word told, and what it tells
   abbrev pub Refused : ℕ → Stage T N → Event T → Type 0
   Refused i stage e =
-      Ruled kind.has kind.spare n f
+      Ruled kind.has (kind.spare firsts) n f
       (record {
         words = set s.words i (get_or s.words i 0);
         homes = s.homes;
@@ -214,7 +202,7 @@ module _ {S T N : Type 0} (kind : PlaceKind S T N) (n f : ℕ) (s : State S (Sig
       (stands_after n f r.history r.queue x r.stands (subst A (sym work.0) may) (subst F (sym work.0) follows))
       in (
         kept_still work (x ∷ []) (one_of a x work.0) stage i free stands
-            (λ t. kind.stays n r.history x t (λ u y is. absurd (no_take u y is))) knows,
+            (λ t. kind.stays firsts n r.history x t (λ u y is. absurd (no_take u y is))) knows,
         (made work (x ∷ []) (one_of a x work.0) stage r.queue stands, (r.history, refl)),
       )
 

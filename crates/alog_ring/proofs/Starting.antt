@@ -1,16 +1,16 @@
 -- An empty ring keeps the rule.
-use Rattle.std.proofs.Common.{◌≡◌, ◌≢◌, ℕ, zero, suc, ◌+◌, ◌-◌, ◌%◌, ◌^◌, ◌<◌, ◌≤◌, None, List, [], ◌∷◌, set, length}
+use Rattle.std.proofs.Common.{◌≡◌, ◌≢◌, ℕ, zero, suc, ◌+◌, ◌-◌, ◌%◌, ◌^◌, ◌<◌, ◌≤◌, Option, None, List, [], ◌∷◌, set, length}
 use Rattle.std.proofs.Common.{get_or, map, replicate, bit_and, refl, sym, ap, subst, ◌∙◌, inl, inr, arith, get_or-set_other}
 use Rattle.std.proofs.Common.{get_or-set_same, mod-lt}
 use Rattle.std.proofs.lemmas.Nat.{and_mask}
 use Rattle.std.specs.Int.{IsPowerOfTwo}
 use mathlib.Core.Option as maybe
-use lib.ListN.{get_elem?}
+use lib.ListN.{get_elem?, length-map}
 use Rattle.atomic_table.specs.Table.{opening}
 use Rattle.alog_core.specs.Queue.{last, start}
 use Rattle.alog_core.proofs.SharedHistories.{stands_start}
 use Rattle.alog_ring.specs.Known.{AreDistinct}
-use Rattle.alog_ring.specs.Kinds.{no_note, some_value, no_value}
+use Rattle.alog_ring.specs.Kinds.{PlaceKind, plain_kind}
 use Rattle.alog_ring.specs.Sight.{Sight, first_sight}
 use Rattle.alog_ring.specs.Rule.{seq_of, word_count, Knows, HasEntries, Ruled}
 use Rattle.alog_ring.specs.Board.{AreFirstWords, Masks}
@@ -43,20 +43,32 @@ words_more n f t row two low high wide before u from to =
           in get_or-set_other row (seq_of n t) (seq_of n u) t 0 (λ e. apart (omega arith)) ∙ before u from (omega arith)
     ]
 
-same_place : {A : Type 0} (x : A) (n i : ℕ) → i < n
-    → get_elem? (map maybe.some (replicate n x)) i ≡ maybe.some (maybe.some x)
+same_place : {A : Type 0} (x : A) (n i : ℕ) → i < n → get_elem? (replicate n x) i ≡ maybe.some x
 same_place x zero i low = absurd (omega arith)
 same_place x (suc n) zero low = refl
 same_place x (suc n) (suc i) low = same_place x n i (omega arith)
 
-all_places : {A : Type 0} (x : A) (n : ℕ) → length (map maybe.some (replicate n x)) ≡ n
-all_places x zero = refl
-all_places x (suc n) = ap suc (all_places x n)
+-- each place is at home
+at_home : {A : Type 0} (xs : List A) (i : ℕ) (y : A) → get_elem? xs i ≡ maybe.some y
+    → get_elem? (map maybe.some xs) i ≡ maybe.some (maybe.some y)
+at_home {A} [] i y is = absurd (maybe.some-ne-none y (sym is))
+at_home {A} (x ∷ xs) zero y is = ap (λ (z : A). maybe.some (maybe.some z)) (maybe.some-injective x y is)
+at_home {A} (x ∷ xs) (suc i) y is = at_home xs i y is
 
-pub starts : {T : Type 0} (n f : ℕ) (words : List ℕ) → 2 ≤ n → f < last → AreFirstWords n f words
-    → Ruled {T = T} some_value no_value n f (opening words (replicate n None) (first_sight n f))
-starts {T} n f words two low are =
-    let one : (a : ℕ) (v : Sight T no_note) → get_elem? (first_sight {T = T} {N = no_note} n f ∷ []) a ≡ maybe.some v
+-- what lies in the places at first is the spare for each of the first tickets
+abbrev pub AreFirst : {S T N : Type 0} → PlaceKind S T N → List S → List S → ℕ → ℕ → Type 0
+AreFirst kind firsts places n f = (t : ℕ) → f ≤ t → t < f + n
+    → (y : _) × (get_elem? places (t % n) ≡ maybe.some y) × kind.spare firsts n [] t y
+
+pub none_first : {T : Type 0} (firsts : List (Option T)) (n f : ℕ) → 1 ≤ n
+    → AreFirst (plain_kind T) firsts (replicate n None) n f
+none_first firsts n f some t from to = (None, same_place None n (t % n) (mod-lt t some), refl)
+
+pub starts : {S T N : Type 0} (kind : PlaceKind S T N) (firsts places : List S) (n f : ℕ) (words : List ℕ) → 2 ≤ n → f < last
+    → AreFirstWords n f words → length places ≡ n → AreFirst kind firsts places n f
+    → Ruled kind.has (kind.spare firsts) n f (opening words places (first_sight n f))
+starts {S} {T} {N} kind firsts places n f words two low are all lie =
+    let one : (a : ℕ) (v : Sight T N) → get_elem? (first_sight {T = T} {N = N} n f ∷ []) a ≡ maybe.some v
     → (a ≡ 0) × (first_sight n f ≡ v) = only
     in record {
       history = [];
@@ -64,14 +76,14 @@ starts {T} n f words two low are =
       two = two;
       stands = stands_start n f;
       told = record {
-        places = λ a v e _. ap (λ (x : Sight T no_note). x.known.places) (sym (one a v e).1);
-        first = λ a v e _. ap (λ (x : Sight T no_note). x.known.first) (sym (one a v e).1);
-        seen = λ a v e. let P : Sight T no_note → Type 0 = λ x. mathlib.Core.List.IsPrefix x.known.seen [] in
+        places = λ a v e _. ap (λ (x : Sight T N). x.known.places) (sym (one a v e).1);
+        first = λ a v e _. ap (λ (x : Sight T N). x.known.first) (sym (one a v e).1);
+        seen = λ a v e. let P : Sight T N → Type 0 = λ x. mathlib.Core.List.IsPrefix x.known.seen [] in
             subst P (one a v e).1 (prefix_same []);
-        entries = λ a v e _. let P : Sight T no_note → Type 0 = λ x. HasEntries [] (first_sight n f ∷ []) a x.known in
+        entries = λ a v e _. let P : Sight T N → Type 0 = λ x. HasEntries [] (first_sight n f ∷ []) a x.known in
             subst P (one a v e).1 (record { own = refl; joined = tt; retired = tt });
         without = λ a v e _. inl refl;
-        distinct = λ a v e _. let P : Sight T no_note → Type 0 = λ x. AreDistinct x.known.joined in
+        distinct = λ a v e _. let P : Sight T N → Type 0 = λ x. AreDistinct x.known.joined in
             subst P (one a v e).1 tt;
         once = λ a v e _ b w g _ apart c _ _. apart ((one b w g).0 ∙ sym (one a v e).0);
         unborn = λ a _. refl;
@@ -80,24 +92,24 @@ starts {T} n f words two low are =
       staged = record {
         knows =
             λ a v e.
-            let P : Sight T no_note → Type 0 = λ x. Knows n [] (start f) a x.known x.stage
+            let P : Sight T N → Type 0 = λ x. Knows n [] (start f) a x.known x.stage
             in subst P (one a v e).1 (sym (one a v e).0, omega arith);
         writers = λ t x a has. absurd (cc);
         readers = λ t x a has. absurd (cc);
       };
       shown = record {
         wide = are.count;
-        places = all_places None n;
+        places = length-map places maybe.some ∙ all;
         next = are.next;
         front = are.front;
         bounded = omega arith;
         cells = λ t c has. absurd (cc);
         free = λ t from to _.
-            (are.sequences t from to, (None, same_place None n (t % n) (mod-lt t (let some : 0 < n = omega arith in some)), refl));
+            (are.sequences t from to, ((lie t from to).0, at_home places (t % n) (lie t from to).0 (lie t from to).1, (lie t from to).2));
       };
     }
   where
-    only : (a : ℕ) (v : Sight T no_note) → get_elem? (first_sight {T = T} {N = no_note} n f ∷ []) a ≡ maybe.some v
+    only : (a : ℕ) (v : Sight T N) → get_elem? (first_sight {T = T} {N = N} n f ∷ []) a ≡ maybe.some v
         → (a ≡ 0) × (first_sight n f ≡ v)
     only zero v e = (refl, maybe.some-injective (first_sight n f) v e)
     only (suc a) v e = absurd (maybe.some-ne-none v (sym e))

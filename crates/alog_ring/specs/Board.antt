@@ -1,19 +1,19 @@
 -- The words and the places of a ring, and what is left in the places at its end.
-use Rattle.std.specs.Prelude.{◌≡◌, ℕ, zero, suc, ◌+◌, ◌%◌, ◌<◌, ◌≤◌, [], ◌∷◌, List, map, length, slice_index, Option, Some, None}
+use Rattle.std.specs.Prelude.{◌≡◌, ℕ, zero, suc, ◌+◌, ◌%◌, ◌<◌, ◌≤◌, [], ◌∷◌, List, length, slice_index, Option, Some, None}
 use Rattle.std.specs.Prelude.{bit_and}
 use mathlib.Core.Option as maybe
 use mathlib.Core.List.{IsPrefix}
 use lib.ListN.{get_elem?}
 use Rattle.atomic_table.specs.Table.{Me}
-use Rattle.alog_core.specs.Queue.{Cell, Claim, Write, Grab, Take, start}
+use Rattle.alog_core.specs.Queue.{Cell, Claim, Write, Grab, Take, last, start}
 use Rattle.alog_core.specs.History.{Entry, left_by}
 use Rattle.alog_ring.specs.declared.words.TheConstants.{NEXT, FRONT}
 use Rattle.alog_ring.specs.Known.{Known}
 use Rattle.alog_ring.specs.Made.{Adds}
-use Rattle.alog_ring.specs.Share.{having_seen, IsWhole, ticket_and_item}
+use Rattle.alog_ring.specs.Share.{having_seen, IsWhole}
 use Rattle.alog_ring.specs.Sight.{Sight, Idle}
 use Rattle.alog_ring.specs.Rule.{seq_of, word_count}
-use Rattle.alog_ring.specs.Kinds.{no_note}
+use Rattle.alog_ring.specs.Kinds.{PlaceKind}
 
 -- The words of an empty ring: both positions, and the sequence of each place, which is the least ticket of the place.
 pub record AreFirstWords (n f : ℕ) (words : List ℕ) : Type 0 where
@@ -26,31 +26,60 @@ pub record AreFirstWords (n f : ℕ) (words : List ℕ) : Type 0 where
 abbrev pub Masks : ℕ → Type 0
 Masks mask = (t : ℕ) → bit_and t mask ≡ t % (mask + 1)
 
-module _ {T : Type 0} where
-  -- the seat claimed the ticket and wrote it, with this value
-  abbrev pub Fills : Me (Option T) (Sight T no_note) → Me (Option T) (Sight T no_note) → ℕ → T → Type 0
-  Fills m m' t x =
-      (k : Known T no_note) × Adds tt m.0.known k (Claim t x) × Adds tt k m'.0.known (Write t)
-      × (m'.0.stage ≡ Idle) × (m'.1 ≡ m.1)
+module _ {S T N : Type 0} (kind : PlaceKind S T N) where
+  -- The seat claimed the ticket and wrote it, with the item of the place that it brought, and has what lay there, which is
+  -- the spare for the ticket after the claim.
+  pub record Fills (firsts : List S) (m m' : Me S (Sight T N)) (t : ℕ) (brought back : S) : Type 0 where
+    pub item : T
+    pub has : kind.has brought item
+    pub claimed : Known T N
+    pub claims : Adds kind.blank m.0.known claimed (Claim t item)
+    pub writes : Adds kind.blank claimed m'.0.known (Write t)
+    pub spare : kind.spare firsts claimed.places claimed.seen t back
+    pub idle : m'.0.stage ≡ Idle
+    pub home : m'.1 ≡ m.1
 
-  -- the seat grabbed the ticket and took this value
-  abbrev pub Empties : Me (Option T) (Sight T no_note) → Me (Option T) (Sight T no_note) → ℕ → T → Type 0
-  Empties m m' t x =
-      (k : Known T no_note) × Adds tt m.0.known k (Grab t) × Adds tt k m'.0.known (Take t x)
-      × (m'.0.stage ≡ Idle) × (m'.1 ≡ m.1)
+  -- The seat grabbed the ticket and took its item, with a note of what it brought, and has the place of that item.
+  pub record Empties (m m' : Me S (Sight T N)) (t : ℕ) (brought got : S) : Type 0 where
+    pub item : T
+    pub has : kind.has got item
+    pub note : N
+    pub brings : kind.brings note brought
+    pub grabbed : Known T N
+    pub grabs : Adds kind.blank m.0.known grabbed (Grab t)
+    pub takes : Adds note grabbed m'.0.known (Take t item)
+    pub idle : m'.0.stage ≡ Idle
+    pub home : m'.1 ≡ m.1
 
-  -- The table's history at its end: the pass that has all parts is whole in it, and these are all cells that it leaves.
-  pub record Leaves (k : Known T no_note) (left : List (ℕ × T)) : Type 0 where
-    pub history : List (Entry T no_note)
+-- cells of all tickets from this one on
+abbrev pub AreInRow : {T : Type 0} → ℕ → List (Cell T) → Type 0
+AreInRow t [] = Unit {0}
+AreInRow t (c ∷ cs) = (c.ticket ≡ t) × AreInRow (t + 1) cs
+
+module _ {S T N : Type 0} (kind : PlaceKind S T N) (firsts : List S) (admits : S → Type 0) where
+  -- this is so of what lies in the place of the ticket, which is admitted
+  abbrev pub LiesAt : List S → ℕ → ℕ → (S → Type 0) → Type 0
+  LiesAt places n t P = (y : S) × (get_elem? places (t % n) ≡ maybe.some y) × admits y × P y
+
+  -- The cells are those of the tickets from the front one on, their items lie in their places, and in the other places lie
+  -- the spares for the tickets to come.
+  pub record LieIn (h : List (Entry T N)) (places : List S) (front n : ℕ) (cells : List (Cell T)) : Type 0 where
+    pub in_row : AreInRow front cells
+    pub few : length cells ≤ n
+    pub items : (i : ℕ) (c : Cell T) → get_elem? cells i ≡ maybe.some c
+        → LiesAt places n (front + i) (λ y. kind.has y c.item)
+    pub spares : (i : ℕ) → length cells ≤ i → i < n
+        → LiesAt places n (front + i) (λ y. kind.spare firsts n h (front + i) y)
+
+  -- The table's history at its end: the pass that has all parts is whole in it, and what it leaves lies in the places.
+  pub record Leaves (k : Known T N) (n : ℕ) (places : List S) (front : ℕ) : Type 0 where
+    pub history : List (Entry T N)
     pub seen : IsPrefix k.seen history
     pub whole : IsWhole (having_seen k history)
-    pub cells : left ≡ map ticket_and_item (left_by (start k.first) history).cells
+    pub bounded : front ≤ last
+    pub lie : LieIn history places front n (left_by (start k.first) history).cells
 
-  -- cells of all tickets from this one on
-  abbrev pub AreInRow : ℕ → List (Cell T) → Type 0
-  AreInRow t [] = Unit {0}
-  AreInRow t (c ∷ cs) = (c.ticket ≡ t) × AreInRow (t + 1) cs
-
+module _ {T : Type 0} where
   -- the value of the i-th cell
   abbrev pub value_at : List (Cell T) → ℕ → Option T
   value_at [] i = None
@@ -58,7 +87,7 @@ module _ {T : Type 0} where
   value_at (c ∷ cs) (suc i) = value_at cs i
 
   -- The cells lie in n places from that of their first ticket on, and the further places are empty.
-  pub record LieIn (places : List (Option T)) (first n : ℕ) (cells : List (Cell T)) : Type 0 where
+  pub record AreValues (places : List (Option T)) (first n : ℕ) (cells : List (Cell T)) : Type 0 where
     pub in_row : AreInRow first cells
     pub few : length cells ≤ n
     pub values : (i : ℕ) → i < n → get_elem? places ((first + i) % n) ≡ maybe.some (value_at cells i)

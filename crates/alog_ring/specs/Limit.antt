@@ -1,27 +1,23 @@
--- The values of a ring that keep to a limit.
-use Rattle.std.specs.Prelude.{◌≡◌, ℕ, List, Option, Some, None}
+-- The places of a ring that keep to a limit.
+use Rattle.std.specs.Prelude.{◌≡◌, ℕ, List}
 use Rattle.std.specs.List.{AllByRecursion}
 use mathlib.Core.Option as maybe
 use lib.ListN.{get_elem?}
 use Rattle.atomic_table.specs.Table.{State}
-use Rattle.alog_ring.specs.Kinds.{no_note, some_value, no_value}
+use Rattle.alog_ring.specs.Kinds.{PlaceKind}
 use Rattle.alog_ring.specs.Rule.{Ruled}
 use Rattle.alog_ring.specs.Sight.{Sight}
 
-module _ {T : Type 0} (admits : T → Type 0) where
-  -- a place is empty, or has a value that is admitted
-  abbrev pub IsAdmitted : Option T → Type 0
-  IsAdmitted None = Unit {0}
-  IsAdmitted (Some x) = admits x
+module _ {S : Type 0} (admits : S → Type 0) where
+  -- each place at home, and each that a seat holds
+  abbrev pub AreAtHome : List (maybe.Option S) → Type 0
+  AreAtHome homes = (k : ℕ) (place : S) → get_elem? homes k ≡ maybe.some (maybe.some place) → admits place
 
-  -- each value at home, and each that a seat holds
-  abbrev pub AreAtHome : List (maybe.Option (Option T)) → Type 0
-  AreAtHome homes = (k : ℕ) (place : Option T) → get_elem? homes k ≡ maybe.some (maybe.some place) → IsAdmitted place
+  abbrev pub AreHeld : List (ℕ × S) → Type 0
+  AreHeld held = AllByRecursion (λ (p : ℕ × S). admits p.1) held
 
-  abbrev pub AreHeld : List (ℕ × Option T) → Type 0
-  AreHeld held = AllByRecursion (λ (p : ℕ × Option T). IsAdmitted p.1) held
-
-  -- The rule of a ring whose values keep to a limit.
-  pub record Keeps (n f : ℕ) (s : State (Option T) (Sight T no_note)) : Type 0 where
-    pub ruled : Ruled some_value no_value n f s
-    pub values : AreAtHome s.homes
+-- The rule of a ring whose places keep to a limit.
+pub record Keeps {S T N : Type 0} (kind : PlaceKind S T N) (firsts : List S) (admits : S → Type 0) (n f : ℕ)
+    (s : State S (Sight T N)) : Type 0 where
+  pub ruled : Ruled kind.has (kind.spare firsts) n f s
+  pub values : AreAtHome admits s.homes

@@ -2,21 +2,21 @@
 ghost use Rattle.std.specs.Prelude.{◌≡◌, ◌+◌, ◌<◌, ◌≤◌, ◌↔◌, [], List, map, IsOk, IfOk, IfErr, vec_capacity};
 ghost use Rattle.std.specs.List.{AllByRecursion};
 ghost use Rattle.std.specs.Mem.Slots.{slots_items, slots_len, IsFull};
-ghost use Rattle.alog_core.specs.Queue.{Cell, last};
+ghost use Rattle.alog_core.specs.Queue.{Cell, last, start};
+ghost use Rattle.alog_core.specs.History.{left_by};
 ghost use Rattle.alog_core.specs.declared.TheConstants.{PLACES_MAX};
 ghost use Rattle.alog_ring.specs.Known.{IsPassOf};
-ghost use Rattle.alog_ring.specs.Share.{Closes, ticket_and_item};
-ghost use Rattle.alog_ring.specs.Sight.{Idle};
-ghost use Rattle.alog_ring.specs.Board.{Leaves, LieIn, Masks};
+ghost use Rattle.alog_ring.specs.Share.{Closes, IsWhole, ticket_and_item};
+ghost use Rattle.alog_ring.specs.Board.{AreValues, LieIn, Masks};
 
 use crate::ALL_PARTS;
 use crate::board::Board;
+use crate::kind::Kind;
 use crate::limit::{Limit, NoLimit};
 use crate::pass::Pass;
 use crate::ring::Ring;
-use crate::view::View;
 use crate::words::FRONT;
-use atomic_table::{Closed, Seat};
+use atomic_table::Closed;
 use std::alloc::Global;
 use std::fmt;
 use thiserror::Error;
@@ -39,7 +39,7 @@ fn take_out<T>(
     requires places { IsFull closed.slots × (slots_len closed.slots ≡ mask + 1) }
     requires sizes { (mask < PLACES_MAX) × (first ≤ last) × Masks mask }
     requires room { (left.items ≡ []) × (mask + 1 ≤ vec_capacity left) }
-    ensures { (cells : List (Cell T)) → LieIn (slots_items closed.slots) first (mask + 1) cells → result.items ≡ map ticket_and_item cells }
+    ensures { (cells : List (Cell T)) → AreValues (slots_items closed.slots) first (mask + 1) cells → result.items ≡ map ticket_and_item cells }
 {
     for i in 0..mask + 1 {
         let ticket = first + i;
@@ -52,19 +52,22 @@ fn take_out<T>(
     left
 }
 
-impl<T, L: Limit<T>> Board<T, L> {
-    fn close(self, seat: Seat<Option<T>, View<T, ()>>, left: Vec<(u64, T)>) -> Vec<(u64, T)>
-        requires table { seat.table_id ≡ self.table.shared.table_id }
-        requires stage { seat.me.0.stage ≡ Idle }
-        requires all { seat.me.0.known.parts ≡ ALL_PARTS }
-        requires room { (left.items ≡ []) × (self.mask + 1 ≤ vec_capacity left) }
-        ensures left { Leaves seat.me.0.known result.items }
-        ensures limit { AllByRecursion (λ p. L.admits self.table.shared.key.limit p.1) result.items }
+impl<S, T, N, K: Kind<S, T, N>, L: Limit<S>> Board<S, T, N, K, L> {
+    /// Ends the table, and answers what lies in its places, with the front ticket.
+    fn close(self, pass: Pass<T, S, N>) -> (Closed<S, Global>, u64)
+        requires table { pass.table ≡ self.table.shared.table_id }
+        requires all { pass.known.parts ≡ ALL_PARTS }
+        ensures full { IsFull result.0.slots × (slots_len result.0.slots ≡ self.mask + 1) }
+        ensures front { result.1 ≤ last }
+        ensures whole { IsWhole pass.known }
+        ensures lie { LieIn K.kind self.table.shared.key.firsts.value.items (L.admits self.table.shared.key.limit) pass.known.seen
+            (slots_items result.0.slots) result.1 (self.mask + 1) (left_by (start pass.known.first) pass.known.seen).cells }
     {
-        let Board { table, mask } = self;
+        let Board { table, mask: _ } = self;
+        let Pass { seat, parts: _ } = pass;
         let closed = table.close_with(seat);
-        let first = closed.word(FRONT);
-        take_out(closed, left, first, mask)
+        let front = closed.word(FRONT);
+        (closed, front)
     }
 }
 
@@ -85,8 +88,9 @@ impl<T, L: Limit<T>> Ring<T, L> {
             return Err(PassesOut { ring: self, pass });
         }
         let Ring { board, left } = self;
-        let Pass { seat, parts: _ } = pass;
-        Ok(board.close(seat, left))
+        let mask = board.mask;
+        let (closed, front) = board.close(pass);
+        Ok(take_out(closed, left, front, mask))
     }
 }
 
@@ -96,7 +100,7 @@ impl<T, L: Limit<T>> fmt::Debug for Ring<T, L> {
     }
 }
 
-impl<T> fmt::Debug for Pass<T> {
+impl<T, S, N> fmt::Debug for Pass<T, S, N> {
     fn fmt<W: fmt::Write>(&self, f: &mut fmt::Formatter<W>) -> fmt::Result {
         f.pad("Pass { .. }")
     }

@@ -10,13 +10,14 @@
 //! Contracts see no word of it. They speak of the queue of `alog_core`: one history for all threads, of which a pass
 //! has seen a beginning, and in which it knows exactly its own entries. Read in `specs/` what is promised: `Known` (what
 //! a pass knows), `Made` and `Calls`, `Refused`, `Waits` (what a push and a pop say), `Share` (split, join, meet,
-//! is_whole, close). The other files there (`Sight`, `Plays`, `Seats`, `Rule`, `Board`) are for the proofs, as are
+//! is_whole, close). The other files there (`Kinds`, `Sight`, `Plays`, `Seats`, `Rule`, `Limit`, `Board`) are for the proofs, as are
 //! `board.rt` (each step on the words and places), `words.rt`, `view.rt` and `plays.rt`.
 #![tactic(auto)]
 
 mod board;
 mod close;
 mod gate;
+mod kind;
 mod limit;
 mod pass;
 mod plays;

@@ -13,3 +13,15 @@ pub struct NoLimit;
 impl<T> Limit<T> for NoLimit {
     ghost admits = { λ limit x. Unit {0} };
 }
+
+/// What the places of a `Ring` keep to: a place is empty, or its value keeps to the limit.
+#[derive(Drop)]
+pub struct IfThere<L> {
+    pub limit: L,
+}
+
+impl<T, L: Limit<T>> Limit<Option<T>> for IfThere<L> {
+    ghost use Rattle.std.specs.Prelude.{IfSome};
+
+    ghost admits = { λ l place. IfSome place (L.admits l.limit) };
+}

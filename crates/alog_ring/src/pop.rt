@@ -98,7 +98,7 @@ impl<T, L: Limit<T>> Ring<T, L> {
             }
             return Err(PopError::Empty { next });
         }
-        if sequence > next + 1 || !board.grab_and_empty::<Brand, G>(seat, next, hand, gate) {
+        if sequence > next + 1 || !board.grab_and_swap::<Brand, G>(seat, next, hand, gate) {
             return Err(PopError::Busy { seen: next });
         }
         Ok(next)

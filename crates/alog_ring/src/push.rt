@@ -10,6 +10,7 @@ use crate::limit::Limit;
 use crate::pass::Pass;
 use crate::ring::Ring;
 use alog_core::TICKET_END;
+use std::marker::Brand;
 use thiserror::Error;
 
 /// Why a push did not go through: the value comes back. The tests `a_ring_of_two` and `the_last_ticket_of_all` show it.
@@ -108,18 +109,19 @@ impl<T, L: Limit<T>> Ring<T, L> {
         ensures refused { IfErr result (λ e. PushRefused pass.old.known pass.new.known (tt {0}) e) }
         ensures left { IfErr result (λ e. hand.new ≡ hand.old) }
     {
+        let board = &self.board;
         let seat = &mut pass.seat;
         gate.before(1);
-        let next = self.board.see_next(seat);
+        let next = board.see_next(seat);
         if next == TICKET_END {
             return Err(PushError::Spent { value: () });
         }
         gate.before(2);
-        let sequence = self.board.see_free(seat, next);
+        let sequence = board.see_free(seat, next);
         if sequence < next {
             return Err(PushError::Full { value: (), next });
         }
-        if sequence > next || !self.board.claim_and_fill(seat, next, hand, gate) {
+        if sequence > next || !board.claim_and_swap::<Brand, G>(seat, next, hand, gate) {
             return Err(PushError::Busy {
                 value: (),
                 seen: next,

@@ -5,7 +5,7 @@ ghost use Rattle.alog_core.specs.World.{is_size};
 ghost use Rattle.alog_ring.specs.Known.{first_known, IsPassOf};
 
 use crate::ALL_PARTS;
-use crate::board::Board;
+use crate::board::{PlainBoard, vacant_board};
 use crate::limit::{Limit, NoLimit};
 use crate::pass::Pass;
 use alog_core::{TICKET_END, is_size};
@@ -30,7 +30,7 @@ pub enum NewError {
 /// Its values may keep to a limit, which is fixed when it is made.
 #[derive(Drop)]
 pub struct Ring<T, L: Limit<T> = NoLimit> {
-    pub(crate) board: Board<T, L>,
+    pub(crate) board: PlainBoard<T, L>,
     // Room for what `close` answers.
     pub(crate) left: Vec<(u64, T)>,
 }
@@ -45,7 +45,7 @@ impl<T, L: Limit<T>> Model for Ring<T, L> {
       table = r.board.table.shared.table_id;
       places = r.board.mask + 1;
       first = r.board.table.shared.key.first;
-      limit = r.board.table.shared.key.limit;
+      limit = r.board.table.shared.key.limit.limit;
     } };
 
     ghost invariant = { λ r. (r.left.items ≡ []) × (r.board.mask + 1 ≤ vec_capacity r.left) };
@@ -90,7 +90,7 @@ impl<T, L: Limit<T> + Drop> Ring<T, L> {
         let Ok(left) = Vec::with_capacity(alloc, places) else {
             return Err(NewError::OutOfMemory);
         };
-        match Board::new(alloc, places, first, limit) {
+        match vacant_board(alloc, places, first, limit) {
             Ok((board, seat)) => Ok((
                 Ring { board, left },
                 Pass {

@@ -8,6 +8,7 @@ ghost use Rattle.alog_ring.specs.Seats.{kept_part, lent_note, taking_in, reading
 
 use crate::ALL_PARTS;
 use crate::board::Board;
+use crate::kind::Kind;
 use crate::limit::Limit;
 use crate::pass::Pass;
 use crate::plays::{Amount, Cut, Lend, Names, ReadNote, SeeAll, SeeBoth, TakeIn};
@@ -17,9 +18,9 @@ use crate::words::NEXT;
 use atomic_table::Seat;
 use std::marker::Brand;
 
-impl<T, L: Limit<T>> Board<T, L> {
+impl<S, T, N, K: Kind<S, T, N>, L: Limit<S>> Board<S, T, N, K, L> {
     /// Gives `parts` parts of the seat away, to a new pass.
-    fn cut<A: Amount>(&self, seat: &mut Seat<Option<T>, View<T, ()>>, parts: u64) -> Pass<T>
+    fn cut<A: Amount>(&self, seat: &mut Seat<S, View<T, N>>, parts: u64) -> Pass<T, S, N>
         requires amount { parts ≡ A.parts }
         requires table { seat.old.table_id ≡ self.now.table.shared.table_id }
         requires stage { seat.old.me.0.stage ≡ Idle }
@@ -37,7 +38,7 @@ impl<T, L: Limit<T>> Board<T, L> {
     }
 
     /// Takes the other's parts and members in.
-    fn take_in(&self, seat: &mut Seat<Option<T>, View<T, ()>>, other: Seat<Option<T>, View<T, ()>>)
+    fn take_in(&self, seat: &mut Seat<S, View<T, N>>, other: Seat<S, View<T, N>>)
         requires table { (seat.old.table_id ≡ self.now.table.shared.table_id) × (other.table_id ≡ self.now.table.shared.table_id) }
         requires stage { (seat.old.me.0.stage ≡ Idle) × (other.me.0.stage ≡ Idle) }
         requires some { (0 < seat.old.me.0.known.parts) × (0 < other.me.0.known.parts) }
@@ -50,7 +51,7 @@ impl<T, L: Limit<T>> Board<T, L> {
     }
 
     /// Shows what one seat has seen to another, by a note without parts.
-    fn show(&self, from: &mut Seat<Option<T>, View<T, ()>>, to: &mut Seat<Option<T>, View<T, ()>>)
+    fn show(&self, from: &mut Seat<S, View<T, N>>, to: &mut Seat<S, View<T, N>>)
         requires table { (from.old.table_id ≡ self.now.table.shared.table_id) × (to.old.table_id ≡ self.now.table.shared.table_id) }
         requires stage { (from.old.me.0.stage ≡ Idle) × (to.old.me.0.stage ≡ Idle) }
         requires some { (0 < from.old.me.0.known.parts) × (0 < to.old.me.0.known.parts) }
@@ -65,7 +66,7 @@ impl<T, L: Limit<T>> Board<T, L> {
     }
 
     /// Sees the whole history.
-    fn look(&self, seat: &mut Seat<Option<T>, View<T, ()>>)
+    fn look(&self, seat: &mut Seat<S, View<T, N>>)
         requires table { seat.old.table_id ≡ self.now.table.shared.table_id }
         requires stage { seat.old.me.0.stage ≡ Idle }
         requires some { 0 < seat.old.me.0.known.parts }
@@ -74,6 +75,52 @@ impl<T, L: Limit<T>> Board<T, L> {
         ensures all { saw_all seat.old.me seat.new.me }
     {
         self.table.shared.load::<SeeAll>(seat, NEXT);
+    }
+
+    /// Splits a pass: the new one gets `parts` of its parts.
+    pub(crate) fn split(&self, pass: &mut Pass<T, S, N>, parts: u64) -> Pass<T, S, N>
+        requires table { pass.old.table ≡ self.now.table.shared.table_id }
+        requires some { 0 < parts }
+        requires fewer { parts < pass.old.known.parts }
+        ensures split { Splits pass.old pass.new result parts }
+    {
+        let given = self.cut::<Brand>(&mut pass.seat, parts);
+        pass.parts -= parts;
+        given
+    }
+
+    /// Joins the other pass into the first.
+    pub(crate) fn join(&self, pass: &mut Pass<T, S, N>, other: Pass<T, S, N>)
+        requires table { (pass.old.table ≡ self.now.table.shared.table_id) × (other.table ≡ self.now.table.shared.table_id) }
+        ensures table { pass.new.table ≡ pass.old.table }
+        ensures joined { Joins pass.old.known other.known pass.new.known }
+    {
+        let Pass { seat, parts } = other;
+        self.take_in(&mut pass.seat, seat);
+        pass.parts += parts;
+    }
+
+    /// Tells the second pass what the first has seen.
+    pub(crate) fn meet(&self, first: &mut Pass<T, S, N>, second: &mut Pass<T, S, N>)
+        requires table { (first.old.table ≡ self.now.table.shared.table_id) × (second.old.table ≡ self.now.table.shared.table_id) }
+        ensures first { first.new ≡ first.old }
+        ensures table { second.new.table ≡ second.old.table }
+        ensures met { Meets second.old.known first.old.known second.new.known }
+    {
+        self.show(&mut first.seat, &mut second.seat);
+    }
+
+    /// Looks at everything, and asks whether the pass has all parts.
+    pub(crate) fn is_whole(&self, pass: &mut Pass<T, S, N>) -> bool
+        requires { pass.old.table ≡ self.now.table.shared.table_id }
+        ensures table { pass.new.table ≡ pass.old.table }
+        ensures looks { Made pass.old.known pass.new.known [] }
+        ensures parts { IsTrue result ↔ (pass.old.known.parts ≡ ALL_PARTS) }
+        ensures whole { IsTrue result → IsWhole pass.new.known }
+        ensures same { IsTrue result → (pass.new.known ≡ pass.old.known) }
+    {
+        self.look(&mut pass.seat);
+        pass.parts == ALL_PARTS
     }
 }
 
@@ -88,9 +135,7 @@ impl<T, L: Limit<T>> Ring<T, L> {
         ensures ring { IsPassOf self.now pass.new × IsPassOf self.now result }
         ensures split { Splits pass.old pass.new result parts }
     {
-        let given = self.board.cut::<Brand>(&mut pass.seat, parts);
-        pass.parts -= parts;
-        given
+        self.board.split(pass, parts)
     }
 
     /// Takes back the pass of a thread that has ended: its parts, its own entries, and those of its members.
@@ -102,9 +147,7 @@ impl<T, L: Limit<T>> Ring<T, L> {
         ensures ring { IsPassOf self.now pass.new }
         ensures joined { Joins pass.old.known other.known pass.new.known }
     {
-        let Pass { seat, parts } = other;
-        self.board.take_in(&mut pass.seat, seat);
-        pass.parts += parts;
+        self.board.join(pass, other);
     }
 
     /// Tells the second pass what the first has seen, so that what one saw is a beginning of what the other saw.
@@ -117,7 +160,7 @@ impl<T, L: Limit<T>> Ring<T, L> {
         ensures ring { IsPassOf self.now second.new }
         ensures met { Meets second.old.known first.old.known second.new.known }
     {
-        self.board.show(&mut first.seat, &mut second.seat);
+        self.board.meet(first, second);
     }
 
     /// Asks whether each other pass was joined into this one, which has all parts then.
@@ -133,7 +176,6 @@ impl<T, L: Limit<T>> Ring<T, L> {
         ensures whole { IsTrue result → IsWhole pass.new.known }
         ensures same { IsTrue result → (pass.new.known ≡ pass.old.known) }
     {
-        self.board.look(&mut pass.seat);
-        pass.parts == ALL_PARTS
+        self.board.is_whole(pass)
     }
 }

@@ -3,7 +3,7 @@ use Rattle.std.proofs.Common.{vec_capacity, sym, ap, subst, ◌∙◌, arith}
 use lib.ListN.{get_elem?}
 use mathlib.Core.Option as maybe
 use Rattle.std.specs.Mem.Slots.{slots_items, slots_filled, slots_len, slots_counts}
-use Rattle.alog_ring.proofs.Closing.{HasTaken, taken_none, takes_value, takes_nothing, all_taken, none_filled}
+use Rattle.alog_ring.proofs.Taking.{HasTaken, taken_none, takes_value, takes_nothing, all_taken, none_filled}
 use Rattle.alog_ring.proofs.close.take_out.Goals as goal
 use Rattle.alog_ring.proofs.close.take_out.Goals.{in-Some, in-None}
 

@@ -1,6 +1,6 @@
 use Rattle.std.proofs.Common.{◌≡◌, ◌+◌, ◌≤◌, vec_capacity}
 use Rattle.std.specs.Mem.Slots.{slots_items, slots_filled, slots_len}
-use Rattle.alog_ring.proofs.Closing.{HasTaken}
+use Rattle.alog_ring.proofs.Taking.{HasTaken}
 use Rattle.alog_ring.proofs.close.take_out.Given as goal
 
 abbrev pub invariant-loop-i : goal.invariant-loop-i

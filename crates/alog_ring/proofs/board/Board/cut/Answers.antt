@@ -1,5 +1,4 @@
 use Rattle.std.proofs.Common.{ℕ, ◌<◌, refl, sym, ap, subst, ◌∙◌, inl, arith}
-use Rattle.alog_ring.specs.Kinds.{some_value, no_value}
 use Rattle.alog_ring.specs.Sight.{Fresh}
 use Rattle.alog_ring.specs.Seats.{kept_part, given_part}
 use Rattle.alog_ring.proofs.Splitting.{splits}
@@ -14,12 +13,12 @@ split_seat-given-requires g c =
     in (
       c.requires.table,
       omega (arith, sized.0),
-      splits_in (g.L.Limit.admits c.args.self.now.table.shared.key.limit) c.args.self.now.table.shared.key.places c.args.self.now.table.shared.key.first c.args.seat.now.id
+      splits_in g.K.Kind.kind c.args.self.now.table.shared.key.firsts.value.items (g.L.Limit.admits c.args.self.now.table.shared.key.limit) c.args.self.now.table.shared.key.places c.args.self.now.table.shared.key.first c.args.seat.now.id
           c.args.seat.now.me.0 (kept_part g.A.Amount.parts c.args.seat.now.me.0)
           (given_part g.A.Amount.parts c.args.seat.now.me.0)
           (splits c.args.self.now.table.shared.key.places c.args.self.now.table.shared.key.first c.args.seat.now.id
           c.args.seat.now.me.0 g.A.Amount.parts Fresh (subst F c.requires.amount c.requires.fewer)
-          (inl refl) c.requires.stage some_value no_value),
+          (inl refl) c.requires.stage g.K.Kind.kind.has (g.K.Kind.kind.spare c.args.self.now.table.shared.key.firsts.value.items)),
     )
 
 pub load-requires : goal.load-requires
@@ -30,7 +29,7 @@ load-requires g c =
     in (
       c.split_seat-given.ensures.3 ∙ c.requires.table,
       omega (arith, sized.0),
-      name_may (g.L.Limit.admits c.args.self.now.table.shared.key.limit) c.args.self.now.table.shared.key.places c.args.self.now.table.shared.key.first
+      name_may g.K.Kind.kind c.args.self.now.table.shared.key.firsts.value.items (g.L.Limit.admits c.args.self.now.table.shared.key.limit) c.args.self.now.table.shared.key.places c.args.self.now.table.shared.key.first
           c.args.self.now.table.shared.table_id.slots c.split_seat-given.result.id c.split_seat-given.result.me
           (none_held (g.L.Limit.admits c.args.self.now.table.shared.key.limit) c.split_seat-given.result.me.1 (ap (λ m. m.1) is))
           (subst P (sym (ap (λ m. m.0.known.parts) is)) (subst P c.requires.amount c.requires.some))

@@ -9,7 +9,7 @@ load-requires g c =
     in (
       c.requires.table,
       omega (arith, sized.0),
-      see_end_may (g.L.Limit.admits c.args.self.now.table.shared.key.limit) c.args.self.now.table.shared.key.places c.args.self.now.table.shared.key.first
+      see_end_may g.K.Kind.kind c.args.self.now.table.shared.key.firsts.value.items (g.L.Limit.admits c.args.self.now.table.shared.key.limit) c.args.self.now.table.shared.key.places c.args.self.now.table.shared.key.first
           c.args.self.now.table.shared.table_id.slots c.args.seat.now.id c.args.seat.now.me
           (none_held (g.L.Limit.admits c.args.self.now.table.shared.key.limit) c.args.seat.now.me.1 c.requires.home) c.args.ticket
           c.requires.stage,

@@ -15,7 +15,7 @@ load-requires g c =
     in (
       c.requires.table,
       omega (arith, sized.0, c.place_of.ensures.within),
-      see_free_may (g.L.Limit.admits c.args.self.now.table.shared.key.limit) n c.args.self.now.table.shared.key.first c.args.self.now.table.shared.table_id.slots c.args.seat.now.id
+      see_free_may g.K.Kind.kind c.args.self.now.table.shared.key.firsts.value.items (g.L.Limit.admits c.args.self.now.table.shared.key.limit) n c.args.self.now.table.shared.key.first c.args.self.now.table.shared.table_id.slots c.args.seat.now.id
           c.args.seat.now.me
           (none_held (g.L.Limit.admits c.args.self.now.table.shared.key.limit) c.args.seat.now.me.1 c.requires.home) (c.place_of.result * APART + SEQUENCES) t word c.requires.stage,
     )

@@ -1,5 +1,4 @@
 use Rattle.std.proofs.Common.{ℕ, ◌<◌, sym, ap, subst, ◌∙◌, arith}
-use Rattle.alog_ring.specs.Kinds.{some_value, no_value}
 use Rattle.alog_ring.specs.Seats.{taking_in, gone}
 use Rattle.alog_ring.proofs.Joining.{joins}
 use Rattle.alog_ring.proofs.Limits.{none_held, joins_in}
@@ -14,10 +13,10 @@ join_seat-requires g c =
       c.requires.table.1,
       c.requires.home.1,
       omega (arith, sized.0),
-      joins_in (g.L.Limit.admits c.args.self.now.table.shared.key.limit) c.args.self.now.table.shared.key.places c.args.self.now.table.shared.key.first
+      joins_in g.K.Kind.kind c.args.self.now.table.shared.key.firsts.value.items (g.L.Limit.admits c.args.self.now.table.shared.key.limit) c.args.self.now.table.shared.key.places c.args.self.now.table.shared.key.first
           c.args.seat.now.id c.args.seat.now.me.0 c.args.other.id c.args.other.me.0
           (taking_in c.args.seat.now.me.0 c.args.other.me.0) gone
-          (joins some_value no_value c.args.self.now.table.shared.key.places c.args.self.now.table.shared.key.first
+          (joins g.K.Kind.kind.has (g.K.Kind.kind.spare c.args.self.now.table.shared.key.firsts.value.items) c.args.self.now.table.shared.key.places c.args.self.now.table.shared.key.first
           c.args.seat.now.id c.args.other.id c.args.seat.now.me.0 c.args.other.me.0 c.requires.stage.0 c.requires.some.0
           c.requires.stage.1 c.requires.some.1),
     )
@@ -30,7 +29,7 @@ load-requires g c =
     in (
       c.join_seat.ensures.0 ∙ c.requires.table.0,
       omega (arith, sized.0),
-      see_both_may (g.L.Limit.admits c.args.self.now.table.shared.key.limit) c.args.self.now.table.shared.key.places c.args.self.now.table.shared.key.first
+      see_both_may g.K.Kind.kind c.args.self.now.table.shared.key.firsts.value.items (g.L.Limit.admits c.args.self.now.table.shared.key.limit) c.args.self.now.table.shared.key.places c.args.self.now.table.shared.key.first
           c.args.self.now.table.shared.table_id.slots c.join_seat.new.seat.id c.join_seat.new.seat.me
           (none_held (g.L.Limit.admits c.args.self.now.table.shared.key.limit) c.join_seat.new.seat.me.1 (ap (λ m. m.1) is ∙ c.requires.home.0))
           c.args.other.me.0.known.seen (subst P (sym (ap (λ m. m.0.known.parts) is)) (omega (arith, c.requires.some.0)))

@@ -2,7 +2,7 @@ use Rattle.std.proofs.Common.{◌≡◌, sym, ap, ◌∙◌}
 use Rattle.std.proofs.lemmas.Bool.{eqb-true}
 use Rattle.alog_ring.specs.declared.TheConstants.{ALL_PARTS}
 use Rattle.alog_ring.proofs.Ending.{looked_again}
-use Rattle.alog_ring.proofs.ring.Ring.is_whole.Goals as goal
+use Rattle.alog_ring.proofs.board.Board.is_whole.Goals as goal
 
 pub returns-clause-same : goal.returns-clause-same
 returns-clause-same g c t =

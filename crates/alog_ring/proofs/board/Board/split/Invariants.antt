@@ -1,4 +1,4 @@
-use Rattle.alog_ring.proofs.ring.Ring.split.Given as goal
+use Rattle.alog_ring.proofs.board.Board.split.Given as goal
 
 abbrev pub ghosts-cut : goal.ghosts-cut
 ghosts-cut g a = record { parts = a.parts }

@@ -1,20 +1,26 @@
-use Rattle.std.proofs.Common.{ℕ, ◌≡◌, ◌+◌, ◌-◌, ◌≤◌, List, subst, sym, ap, ◌∙◌, refl, arith}
+use Rattle.std.proofs.Common.{ℕ, ◌≡◌, ◌+◌, ◌-◌, ◌≤◌, None, List, [], replicate, subst, sym, ap, ◌∙◌, refl, arith}
+use Rattle.std.proofs.lemmas.List.{length-replicate}
+use Rattle.std.specs.Prelude.{IfSome}
 use Rattle.alog_core.specs.declared.TheConstants.{PLACES_MAX}
-use Rattle.alog_core.proofs.SharedSizes.{size_facts}
+use Rattle.alog_core.proofs.Sizes.{size_facts}
+use Rattle.alog_ring.specs.Kinds.{plain_kind}
 use Rattle.alog_ring.specs.Rule.{word_count}
 use Rattle.alog_ring.specs.Board.{AreFirstWords}
-use Rattle.alog_ring.proofs.Limits.{none_at_home}
-use Rattle.alog_ring.proofs.Starting.{masks, starts}
-use Rattle.alog_ring.proofs.board.Board.new.Goals as goal
+use Rattle.alog_ring.proofs.Limits.{at_home, none_admitted}
+use Rattle.alog_ring.proofs.Starting.{masks, starts, none_first}
+use Rattle.alog_ring.proofs.board.vacant_board.Goals as goal
 
 pub vacant-requires : goal.vacant-requires
 vacant-requires g c =
     let P : List ℕ → Type 0 = λ w. AreFirstWords c.args.places c.args.first w
+    in let n : ℕ = c.args.places
+    in let two : 2 ≤ n = (size_facts c.args.places c.requires.size).1
     in record {
-      ruled = starts c.args.places c.args.first c.as_slice.result.now
-          (size_facts c.args.places c.requires.size).1 c.requires.first
-          (subst P (sym c.as_slice.ensures.value) c.in_ok-words.ensures);
-      values = none_at_home (g.L.Limit.admits c.args.limit) c.args.places;
+      ruled = starts (plain_kind g.row.T.Denot) [] (replicate n None) n c.args.first c.as_slice.result.now two c.requires.first
+          (subst P (sym c.as_slice.ensures.value) c.in_ok-words.ensures) (length-replicate n None)
+          (none_first [] n c.args.first (omega arith));
+      values = at_home (λ place. IfSome place (g.L.Limit.admits c.args.limit)) (replicate n None)
+          (none_admitted (g.L.Limit.admits c.args.limit) n);
     }
 
 pub invariant_of-result : goal.invariant_of-result
