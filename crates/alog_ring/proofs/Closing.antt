@@ -9,10 +9,10 @@ use Rattle.alog_core.specs.declared.mark.Mark.{Mark}
 use Rattle.alog_core.specs.declared.mark.Mark.TheVariants.{Written, Emptying}
 use Rattle.alog_core.specs.Queue.{Cell, Queue, last, start, cell_of, IsListed, IsRoom, IsSound, Rises}
 use Rattle.alog_core.specs.History.{left_by, own_of}
-use Rattle.alog_core.proofs.SharedCells.{at_same, at_other}
-use Rattle.alog_core.proofs.SharedRising.{bounds_of_rising, listed_within, unlisted_below}
-use Rattle.alog_core.proofs.SharedSound.{length-sound}
-use Rattle.alog_ring.specs.declared.words.TheConstants.{FRONT}
+use Rattle.alog_core.proofs.Cells.{at_same, at_other}
+use Rattle.alog_core.proofs.Rising.{bounds_of_rising, listed_within, unlisted_below}
+use Rattle.alog_core.proofs.Sound.{length-sound}
+use Rattle.alog_ring.specs.declared.words.TheConstants.{NEXT, FRONT}
 use Rattle.alog_ring.specs.declared.TheConstants.{ALL_PARTS}
 use Rattle.alog_ring.specs.Known.{Known, IsAmong}
 use Rattle.alog_ring.specs.Kinds.{PlaceKind}
@@ -76,6 +76,16 @@ none_behind first (d ∷ cs) (suc i) row le =
     in at_other d.ticket (first + suc i) (Some d) (cell_of (first + suc i) cs) apart
     ∙ ap (λ (z : ℕ). cell_of z cs) e ∙ none_behind (first + 1) cs i row.1 (omega arith)
 
+-- cells in row, below a ticket, are no more than fit
+row_below : {T : Type 0} (first low : ℕ) (cs : List (Cell T)) (high : ℕ) → AreInRow first cs → Rises low cs high → first ≤ high
+    → first + length cs ≤ high
+row_below first low [] high row rises le = omega arith
+row_below first low (c ∷ cs) high row rises le =
+    let below : c.ticket + 1 ≤ high = bounds_of_rising (c.ticket + 1) cs high rises.1
+    in let more : first + 1 + length cs ≤ high =
+    row_below (first + 1) (c.ticket + 1) cs high row.1 rises.1 (omega (arith, row.0))
+    in omega (arith, more)
+
 module _ {S T N : Type 0} (kind : PlaceKind S T N) (firsts : List S) (admits : S → Type 0) where
   -- The table of a ring at its end, where one pass, in no call, has all parts.
   pub record AtEnd (n f : ℕ) (v : Sight T N) (words : List ℕ) (places : List S) : Type 0 where
@@ -108,20 +118,36 @@ module _ {S T N : Type 0} {kind : PlaceKind S T N} {firsts : List S} {admits : S
         | inr lt ↦ let wrong : Written ≡ Emptying = sym (written t c is) ∙ (sound.emptied t c is).1 lt.1 in absurd (cc)
       ]
 
-  pub first_is_front : (first : ℕ) → get_elem? words FRONT ≡ maybe.some first → first ≡ queue.front
+  first_is_front : (first : ℕ) → get_elem? words FRONT ≡ maybe.some first → first ≡ queue.front
   first_is_front first at =
       sym (found words FRONT first 0 at) ∙ ap (λ (l : List ℕ). get_or l FRONT 0) (sym end.fin.2) ∙ rule.shown.front
 
-  front_bounded : queue.front ≤ last
-  front_bounded = let ordered : queue.front ≤ queue.next = sound.ordered in
-      let bounded : queue.next ≤ last = rule.shown.bounded in omega arith
+  next_is_next : (next : ℕ) → get_elem? words NEXT ≡ maybe.some next → next ≡ queue.next
+  next_is_next next at =
+      sym (found words NEXT next 0 at) ∙ ap (λ (l : List ℕ). get_or l NEXT 0) (sym end.fin.2) ∙ rule.shown.next
+
+  all_in_row : AreInRow queue.front queue.cells
+  all_in_row = in_row queue.front (queue.next - n) queue.cells queue.next sound.rising from_front sound.listed
+
+  count : queue.front + length queue.cells ≡ queue.next
+  count =
+      let q : Queue T = queue
+      in let ordered : q.front ≤ q.next = sound.ordered
+      in let below : q.front + length q.cells ≤ q.next =
+      row_below q.front (q.next - n) q.cells q.next all_in_row sound.rising ordered
+      in let none : cell_of (q.front + length q.cells) q.cells ≡ None =
+      none_behind q.front q.cells (length q.cells) all_in_row (omega arith)
+      in elim (leb_tells q.next (q.front + length q.cells)) [
+        | inl le ↦ let all : q.next ≤ q.front + length q.cells = le.1 in omega (arith, below, all)
+        | inr lt ↦ let here : IsListed (q.front + length q.cells) q.cells =
+            sound.listed (q.front + length q.cells) (omega arith) lt.1 in not_both none here.1
+      ]
 
   lie_in : LieIn kind firsts admits rule.history places queue.front n queue.cells
   lie_in =
       let q : Queue T = queue
       in let ordered : q.front ≤ q.next = sound.ordered
-      in let row : AreInRow q.front q.cells =
-      in_row q.front (q.next - n) q.cells q.next sound.rising from_front sound.listed
+      in let row : AreInRow q.front q.cells = all_in_row
       in record {
         in_row = row;
         few = length-sound n q sound;
@@ -156,8 +182,9 @@ module _ {S T N : Type 0} {kind : PlaceKind S T N} {firsts : List S} {admits : S
             in (lies.1.0, end.fin.4 (t % n) lies.1.0 lies.1.1, end.fin.1.0.values (t % n) lies.1.0 lies.1.1, lies.1.2);
       }
 
-  pub leaves : (front : ℕ) → get_elem? words FRONT ≡ maybe.some front → Leaves kind firsts admits v.known n places front
-  leaves front at =
+  pub leaves : (front next : ℕ) → get_elem? words FRONT ≡ maybe.some front → get_elem? words NEXT ≡ maybe.some next
+      → Leaves kind firsts admits v.known n places front next
+  leaves front next at at_next =
       let k : Known T N = v.known
       in let r : Ruled kind.has (kind.spare firsts) n f end.fin.0 = rule
       in let K : Stage T N → Type 0 = λ z. Knows n r.history r.queue end.id k z
@@ -165,9 +192,16 @@ module _ {S T N : Type 0} {kind : PlaceKind S T N} {firsts : List S} {admits : S
       in let has : HasEntries r.history end.fin.0.views end.id k = r.told.entries end.id v end.fin.1.1 live
       in let left_is : left_by (start k.first) r.history ≡ r.queue =
       ap (λ (z : ℕ). left_by (start z) r.history) (r.told.first end.id v end.fin.1.1 live) ∙ r.stands.queue
-      in let L : Queue T → ℕ → Type 0 = λ q z. LieIn kind firsts admits r.history places z n q.cells
+      in let L : Queue T → ℕ → ℕ → Type 0 =
+      λ q z e. (z ≡ q.front) × (e ≡ q.next) × (e ≤ last) × (z + length q.cells ≡ e)
+      × LieIn kind firsts admits r.history places z n q.cells
+      in let bounded : r.queue.next ≤ last = r.shown.bounded
+      in let in_queue : L r.queue r.queue.front r.queue.next = (refl, refl, bounded, count, lie_in)
+      in let lies : L (left_by (start k.first) r.history) front next =
+      subst (λ (q : Queue T). L q front next) (sym left_is)
+      (subst (λ (z : ℕ). L r.queue z next) (sym (first_is_front front at))
+      (subst (λ (e : ℕ). L r.queue r.queue.front e) (sym (next_is_next next at_next)) in_queue))
       in let W : Queue T → Type 0 = λ q. (t : ℕ) (c : Cell T) → cell_of t q.cells ≡ Some c → c.mark ≡ Written
-      in let is : front ≡ r.queue.front = first_is_front front at
       in record {
         history = r.history;
         seen = r.told.seen end.id v end.fin.1.1;
@@ -187,6 +221,5 @@ module _ {S T N : Type 0} {kind : PlaceKind S T N} {firsts : List S} {admits : S
               ]);
           written = subst W (sym left_is) written;
         };
-        bounded = subst (λ (z : ℕ). z ≤ last) (sym is) front_bounded;
-        lie = subst (λ (q : Queue T). L q front) (sym left_is) (subst (λ (z : ℕ). L r.queue z) (sym is) lie_in);
+        left = record { front_is = lies.0; next_is = lies.1; bounded = lies.2; count = lies.3; lie = lies.4 };
       }

@@ -1,21 +1,20 @@
 -- With all parts the pass had seen the whole history: nobody else made an entry after that.
-use Rattle.std.proofs.Common.{◌≡◌, ℕ, suc, ◌+◌, ◌≤◌, List, [], ◌∷◌, ◌++◌, length, refl, sym, ap, subst, ◌∙◌, inl, inr, arith}
+use Rattle.std.proofs.Common.{◌≡◌, ℕ, suc, ◌+◌, List, [], ◌∷◌, ◌++◌, length, refl, sym, ap, subst, ◌∙◌, inl, inr, arith}
 use Rattle.std.specs.List.{AllByRecursion}
 use Rattle.std.proofs.lemmas.List.{append-nil, length-append}
 use mathlib.Core.Option as maybe
 use mathlib.Core.List.{IsPrefix}
 use lib.ListN.{get_elem?}
-use Rattle.alog_core.specs.Queue.{last, start}
-use Rattle.alog_core.specs.History.{Entry, left_by, own_of}
+use Rattle.alog_core.specs.History.{Entry, own_of}
 use Rattle.alog_core.proofs.Cells.{at_same}
 use Rattle.alog_core.proofs.Histories.{own_of-append}
-use Rattle.alog_ring.specs.declared.words.TheConstants.{FRONT}
+use Rattle.alog_ring.specs.declared.words.TheConstants.{NEXT, FRONT}
 use Rattle.alog_ring.specs.Known.{Member, Known, members_of, IsAmong}
 use Rattle.alog_ring.specs.Kinds.{PlaceKind}
 use Rattle.alog_ring.specs.Made.{AreExact, IsFaithful, Made}
 use Rattle.alog_ring.specs.Share.{having_seen, IsWhole}
 use Rattle.alog_ring.specs.Sight.{Sight}
-use Rattle.alog_ring.specs.Board.{Leaves, LieIn}
+use Rattle.alog_ring.specs.Board.{Leaves, LeftBy}
 use Rattle.alog_ring.proofs.Closing.{AtEnd, leaves}
 
 module _ {T N : Type 0} where
@@ -81,31 +80,17 @@ module _ {T N : Type 0} where
       in let seen : new.seen ≡ old.seen = whole_was_seen old new.seen faithful made.seen (subst W same whole)
       in same ∙ ap (λ (l : List (Entry T N)). having_seen old l) seen
 
--- what the table's history leaves is what the history that the pass has seen leaves
-module _ {S T N : Type 0} {kind : PlaceKind S T N} {firsts : List S} {admits : S → Type 0} (k : Known T N) (n front : ℕ)
-    (places : List S) (faithful : IsFaithful k) (leaves : Leaves kind firsts admits k n places front) where
-  all_seen : leaves.history ≡ k.seen
-  all_seen = whole_was_seen k leaves.history faithful leaves.seen leaves.whole
-
-  whole_seen : IsWhole k
-  whole_seen = let W : List (Entry T N) → Type 0 = λ h. IsWhole (having_seen k h) in subst W all_seen leaves.whole
-
-  lie_seen : LieIn kind firsts admits k.seen places front n (left_by (start k.first) k.seen).cells
-  lie_seen =
-      let L : List (Entry T N) → Type 0 =
-      λ h. LieIn kind firsts admits h places front n (left_by (start k.first) h).cells
-      in subst L all_seen leaves.lie
-
--- what a table tells at its end, of the pass with which it was closed
+-- what a table tells at its end, of the pass with which it was closed: the table's history is what the pass has seen
 pub ends : {S T N : Type 0} {kind : PlaceKind S T N} {firsts : List S} {admits : S → Type 0} {n f : ℕ} {v : Sight T N}
-    {words : List ℕ} {places : List S} → AtEnd kind firsts admits n f v words places → (k : Known T N) (m front : ℕ)
+    {words : List ℕ} {places : List S} → AtEnd kind firsts admits n f v words places → (k : Known T N) (m front next : ℕ)
     → v.known ≡ k → n ≡ m → IsFaithful v.known → get_elem? words FRONT ≡ maybe.some front
-    → IsWhole k × (front ≤ last)
-    × LieIn kind firsts admits k.seen places front m (left_by (start k.first) k.seen).cells
-ends {S} {T} {N} {kind} {firsts} {admits} {n} {f} {v} {words} {places} end k m front is count faithful at =
-    let left : Leaves kind firsts admits v.known n places front = leaves end front at
-    in let P : Known T N → ℕ → Type 0 = λ z i. IsWhole z × (front ≤ last)
-    × LieIn kind firsts admits z.seen places front i (left_by (start z.first) z.seen).cells
+    → get_elem? words NEXT ≡ maybe.some next
+    → IsWhole k × LeftBy kind firsts admits k k.seen m places front next
+ends {S} {T} {N} {kind} {firsts} {admits} {n} {f} {v} {words} {places} end k m front next is count faithful at at_next =
+    let left : Leaves kind firsts admits v.known n places front next = leaves end front next at at_next
+    in let seen : left.history ≡ v.known.seen = whole_was_seen v.known left.history faithful left.seen left.whole
+    in let H : List (Entry T N) → Type 0 = λ h. IsWhole (having_seen v.known h)
+    × LeftBy kind firsts admits v.known h n places front next
+    in let P : Known T N → ℕ → Type 0 = λ z i. IsWhole z × LeftBy kind firsts admits z z.seen i places front next
     in subst (λ (z : Known T N). P z m) is
-    (subst (λ (i : ℕ). P v.known i) count
-    (whole_seen v.known n front places faithful left, left.bounded, lie_seen v.known n front places faithful left))
+    (subst (λ (i : ℕ). P v.known i) count (subst H seen (left.whole, left.left)))

@@ -9,12 +9,15 @@ pub mod Steps
 pub mod Limits
 pub mod Places
 pub mod Calling
+pub mod Sparing
 pub mod Starting
 pub mod Splitting
 pub mod Joining
 pub mod Meeting
 pub mod Closing
 pub mod Taking
+pub mod SwapTaking
+pub mod SwapClosing
 pub mod Ending
 pub mod Alone
 pub mod Waiting

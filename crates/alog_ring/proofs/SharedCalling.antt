@@ -3,16 +3,16 @@ use Rattle.std.proofs.Common.{◌≡◌, ℕ, ◌%◌, Option, None, Some, List,
 use Rattle.std.specs.Prelude.{IsSome, IfSome}
 use mathlib.Core.Option.{some, some-injective}
 use Rattle.atomic_table.specs.Table.{Me, step, rest}
-use Rattle.alog_core.specs.Queue.{Event, Claim, Grab}
+use Rattle.alog_core.specs.Queue.{Event, Claim, Write, Grab, Take}
 use Rattle.alog_core.specs.History.{Entry}
 use Rattle.alog_ring.specs.declared.words.TheConstants.{NEXT, FRONT}
 use Rattle.alog_ring.specs.Known.{Known}
 use Rattle.alog_ring.specs.Kinds.{PlaceKind}
 use Rattle.alog_ring.specs.Made.{Made, EndsWith, entry, Adds}
-use Rattle.alog_ring.specs.Sight.{Writing, Reading, Sight}
+use Rattle.alog_ring.specs.Sight.{Idle, Writing, Reading, Sight}
 use Rattle.alog_ring.specs.Plays.{claimed, wrote, grabbed, took}
-use Rattle.alog_ring.specs.Board.{Fills, Empties}
-use Rattle.alog_ring.proofs.SharedLists.{prefix_through}
+use Rattle.alog_ring.specs.Board.{Empties}
+use Rattle.alog_ring.proofs.Lists.{prefix_through}
 
 module _ {T N : Type 0} where
   -- what was made, and then made more
@@ -48,6 +48,16 @@ of_value P o x is holds = let Q : Option _ → Type 0 = λ r. IfSome r P in subs
 pub for_value : {T : Type 0} (P : T → Type 0) (o : Option T) (x : T) → o ≡ Some x → P x → IfSome o P
 for_value P o x is holds = let Q : Option _ → Type 0 = λ r. IfSome r P in subst Q (sym is) holds
 
+module _ {S T N : Type 0} (kind : PlaceKind S T N) where
+  -- The two entries of a push: the claim, after which what lay in the place is the spare for the ticket, and the write.
+  pub record Filled (firsts : List S) (old new : Known T N) (t : ℕ) (brought back : S) : Type 0 where
+    pub item : T
+    pub has : kind.has brought item
+    pub claimed : Known T N
+    pub claims : Adds kind.blank old claimed (Claim t item)
+    pub writes : Adds kind.blank claimed new (Write t)
+    pub spare : kind.spare firsts claimed.places claimed.seen t back
+
 -- A push: after the exchange of the position, the seat has the place; what was brought goes into it, and the sequence is stored.
 module _ {S T N : Type 0} (kind : PlaceKind S T N) (firsts : List S) (slots t new place found n : ℕ) (said back : S)
     (old mid put : Me S (Sight T N))
@@ -68,7 +78,8 @@ module _ {S T N : Type 0} (kind : PlaceKind S T N) (firsts : List S) (slots t ne
   pub filling_place : put.1 ≡ (t % n, said) ∷ old.1
   filling_place = ap (λ (m : Me S (Sight T N)). m.1) filled ∙ (λ i. (at i, said) ∷ ap rest (told.0 hit).5.1 i)
 
-  pub fills : (last : Me S (Sight T N)) → wrote kind.blank t put last → Fills kind firsts old last t said back
+  pub fills : (last : Me S (Sight T N)) → wrote kind.blank t put last
+      → Filled kind firsts old.0.known last.0.known t said back × (last.0.stage ≡ Idle) × (last.1 ≡ old.1)
   fills last done =
       let claim : Adds kind.blank old.0.known mid.0.known (Claim found filled_item) = (told.0 hit).4.0
       in let P : ℕ → Type 0 = λ z. Adds kind.blank old.0.known mid.0.known (Claim z filled_item)
@@ -80,16 +91,18 @@ module _ {S T N : Type 0} (kind : PlaceKind S T N) (firsts : List S) (slots t ne
       in let A : Known T N → Type 0 = λ k. Adds kind.blank old.0.known k (Claim t filled_item)
       in let B : Known T N → Type 0 = λ k. kind.spare firsts k.places k.seen t back
       in let known : mid.0.known ≡ put.0.known = sym (ap (λ (m : Me S (Sight T N)). m.0.known) filled)
-      in record {
-        item = filled_item;
-        has = filled_has;
-        claimed = put.0.known;
-        claims = subst A known (subst P hit claim);
-        writes = done.0.0;
-        spare = subst B known (subst V hit (subst W (sym same) (told.0 hit).5.2));
-        idle = done.0.1;
-        home = done.1 ∙ ap rest filling_place;
-      }
+      in (
+        record {
+          item = filled_item;
+          has = filled_has;
+          claimed = put.0.known;
+          claims = subst A known (subst P hit claim);
+          writes = done.0.0;
+          spare = subst B known (subst V hit (subst W (sym same) (told.0 hit).5.2));
+        },
+        done.0.1,
+        done.1 ∙ ap rest filling_place,
+      )
 
 -- A pop: after the exchange of the position, the seat has the place; its item comes out, and the sequence is stored.
 module _ {S T N : Type 0} (kind : PlaceKind S T N) (slots t new place found n : ℕ) (said brought got : S)
@@ -113,14 +126,15 @@ module _ {S T N : Type 0} (kind : PlaceKind S T N) (slots t new place found n : 
       in let H : S → Type 0 = λ y. kind.has y (told.0 hit).0
       in let A : Known T N → Type 0 = λ k. Adds kind.blank old.0.known k (Grab t)
       in let known : mid.0.known ≡ out.0.known = sym (ap (λ (m : Me S (Sight T N)). m.0.known) emptied)
-      in record {
-        item = (told.0 hit).0;
-        has = subst H (sym same) (told.0 hit).2.2;
-        note = note;
-        brings = brings;
-        grabbed = out.0.known;
-        grabs = subst A known (subst P hit grab);
-        takes = done.0.0;
-        idle = done.0.1;
-        home = done.1 ∙ ap rest emptying_place;
-      }
+      in (
+        record {
+          item = (told.0 hit).0;
+          has = subst H (sym same) (told.0 hit).2.2;
+          note = note;
+          brings = brings;
+          popped = adds_after note old.0.known out.0.known last.0.known (entry kind.blank old.0.known (Grab t) ∷ [])
+              (Take t (told.0 hit).0) (subst A known (subst P hit grab)).0 done.0.0;
+        },
+        done.0.1,
+        done.1 ∙ ap rest emptying_place,
+      )

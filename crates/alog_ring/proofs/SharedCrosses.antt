@@ -18,6 +18,11 @@ use Rattle.alog_ring.specs.contracts.limit.IfThere as IfThere
 use Rattle.alog_ring.specs.contracts.limit.IfThereLimitOption.TheImpl as Places
 use Rattle.alog_ring.specs.contracts.pass.Pass as Pass
 use Rattle.alog_ring.specs.contracts.pass.Pass.TheInside as PassInside
+use Rattle.alog_ring.specs.declared.kind.Shows.{Ghosts as ShowsGhosts}
+use Rattle.alog_ring.specs.contracts.kind.Swap as Swap
+use Rattle.alog_ring.specs.contracts.kind.SwapKindOption.TheImpl as SwapKind
+use Rattle.alog_ring.specs.contracts.swap_ring.SwapRing as SwapRing
+use Rattle.alog_ring.specs.contracts.swap_ring.SwapRing.TheInside as SwapInside
 use Rattle.alog_ring.specs.contracts.ring.Ring as Ring
 use Rattle.alog_ring.specs.contracts.ring.Ring.TheInside as RingInside
 use Rattle.alog_ring.specs.contracts.view.View as View
@@ -85,3 +90,30 @@ module _ (T L : RattleType) (g : Ghosts L.Denot T.Denot) where
 
   pub ring_sync : IsSend T → IsSync T → IsSync (Ring.the_row T L g)
   ring_sync t s = view_sync _ _ _ _ _ (ring_inside_sync t s)
+
+-- a pass of a `SwapRing`
+pub swap_pass_send : (B T : RattleType) → IsSend B → IsSend (Pass.the_row T B (Option.the_row B))
+swap_pass_send B T b = any_pass_send T B (Option.the_row B) b
+
+module _ (B T W L : RattleType) (w : ShowsGhosts W.Denot B.Denot T.Denot) (g : Ghosts L.Denot B.Denot) where
+  swap_inside_send : IsSend B → IsSend (SwapInside.the_row B T W L w g)
+  swap_inside_send b = recorded_send (SwapInside.the_field B T W L w g).row _ _ (SwapInside.the_type B T W L w g).to_one (struct_send
+      (shape (SwapInside.the_type B T W L w g)) (
+        board_send B T (Option.the_row B) (Swap.the_row W) L
+            (SwapKind.ghosts B T W w SwapKind.no_dict) g b,
+        (search (sendable, Vec-send) depth 12, (search (sendable, Vec-send) depth 12, tt)),
+      ))
+
+  swap_inside_sync : IsSend B → IsSync B → IsSync (SwapInside.the_row B T W L w g)
+  swap_inside_sync b s = recorded_sync (SwapInside.the_field B T W L w g).row _ _ (SwapInside.the_type B T W L w g).to_one (struct_sync
+      (shape (SwapInside.the_type B T W L w g)) (
+        board_sync B T (Option.the_row B) (Swap.the_row W) L
+            (SwapKind.ghosts B T W w SwapKind.no_dict) g b,
+        (search (sendable, Vec-sync) depth 12, (search (sendable, Vec-sync) depth 12, tt)),
+      ))
+
+  pub swap_ring_send : IsSend B → IsSend (SwapRing.the_row B T W L w g)
+  swap_ring_send b = view_send _ _ _ _ _ (swap_inside_send b)
+
+  pub swap_ring_sync : IsSend B → IsSync B → IsSync (SwapRing.the_row B T W L w g)
+  swap_ring_sync b s = view_sync _ _ _ _ _ (swap_inside_sync b s)

@@ -1,6 +1,6 @@
 -- Lists read by `get_elem?`, prefixes, and sums over the views.
 use Rattle.std.proofs.Common.{◌≡◌, ◌≢◌, ℕ, zero, suc, ◌+◌, ◌<◌, ◌≤◌, ◌⊎◌, List, [], ◌∷◌, ◌++◌, length, get_or, set, sym, ap, ◌∙◌}
-use Rattle.std.proofs.Common.{inl, inr, append_assoc, arith, Option, Some, None}
+use Rattle.std.proofs.Common.{refl, inl, inr, append_assoc, arith, Option, Some, None}
 use Rattle.std.specs.List.{AllByRecursion, sum_by}
 use Rattle.std.proofs.lemmas.List.{append-nil}
 use Rattle.std.proofs.lemmas.Bool.Decides.{eqb_tells}
@@ -71,3 +71,13 @@ module _ {A : Type 0} where
   pub sum_with_last : (f : A → ℕ) (l : List A) (a : A) → sum_by f (l ++ a ∷ []) ≡ sum_by f l + f a
   sum_with_last f l a = let e : sum_by f (a ∷ []) ≡ f a = omega arith in sum_by-append f l (a ∷ [])
       ∙ ap (λ (n : ℕ). sum_by f l + n) e
+
+-- a list has an i-th item, or ends before it
+pub at_or_past : {A : Type 0} (xs : List A) (i : ℕ) → ((x : A) × (get_elem? xs i ≡ some x)) ⊎ (length xs ≤ i)
+at_or_past [] i = inr (omega arith)
+at_or_past (x ∷ xs) zero = inl (x, refl)
+at_or_past (x ∷ xs) (suc i) =
+    elim (at_or_past xs i) [
+      | inl at ↦ inl at
+      | inr past ↦ inr (omega arith)
+    ]

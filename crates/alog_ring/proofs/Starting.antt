@@ -10,11 +10,11 @@ use Rattle.atomic_table.specs.Table.{opening}
 use Rattle.alog_core.specs.Queue.{last, start}
 use Rattle.alog_core.proofs.SharedHistories.{stands_start}
 use Rattle.alog_ring.specs.Known.{AreDistinct}
-use Rattle.alog_ring.specs.Kinds.{PlaceKind, plain_kind}
+use Rattle.alog_ring.specs.Kinds.{PlaceKind, plain_kind, swap_kind}
 use Rattle.alog_ring.specs.Sight.{Sight, first_sight}
 use Rattle.alog_ring.specs.Rule.{seq_of, word_count, Knows, HasEntries, Ruled}
 use Rattle.alog_ring.specs.Board.{AreFirstWords, Masks}
-use Rattle.alog_ring.proofs.SharedLists.{same_or_not, prefix_same}
+use Rattle.alog_ring.proofs.Lists.{same_or_not, at_or_past, prefix_same}
 use Rattle.alog_ring.proofs.Showing.{near_apart}
 
 -- what the mask of a power of two keeps is the remainder
@@ -63,6 +63,15 @@ AreFirst kind firsts places n f = (t : ℕ) → f ≤ t → t < f + n
 pub none_first : {T : Type 0} (firsts : List (Option T)) (n f : ℕ) → 1 ≤ n
     → AreFirst (plain_kind T) firsts (replicate n None) n f
 none_first firsts n f some t from to = (None, same_place None n (t % n) (mod-lt t some), refl)
+
+pub spares_first : {B T : Type 0} (shows : B → T) (spares : List B) (n f : ℕ) → 1 ≤ n → length spares ≡ n
+    → AreFirst (swap_kind shows) spares spares n f
+spares_first shows spares n f some all t from to =
+    let place : t % n < n = mod-lt t some
+    in elim (at_or_past spares (t % n)) [
+      | inl at ↦ (at.0, at.1, inr ((λ u e. refl), at.1))
+      | inr past ↦ absurd (omega arith)
+    ]
 
 pub starts : {S T N : Type 0} (kind : PlaceKind S T N) (firsts places : List S) (n f : ℕ) (words : List ℕ) → 2 ≤ n → f < last
     → AreFirstWords n f words → length places ≡ n → AreFirst kind firsts places n f

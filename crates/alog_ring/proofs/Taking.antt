@@ -1,5 +1,5 @@
 -- How what lies in the places of a closed `Ring` is taken out.
-use Rattle.std.proofs.Common.{◌≡◌, ◌≢◌, ℕ, zero, suc, ◌+◌, ◌-◌, ◌%◌, ◌<◌, ◌≤◌, ◌⊎◌, Bool, true, false, Option, Some, None, List}
+use Rattle.std.proofs.Common.{◌≡◌, ◌≢◌, ℕ, zero, suc, ◌+◌, ◌-◌, ◌%◌, ◌<◌, ◌≤◌, Bool, true, false, Option, Some, None, List}
 use Rattle.std.proofs.Common.{[], ◌∷◌, ◌++◌, map, set, length, get_or, refl, sym, ap, subst, ◌∙◌, inl, inr, arith, add-one}
 use Rattle.std.proofs.Common.{length-set, get_or-set_other, get_or-set_same, mod-lt}
 use Rattle.std.specs.Prelude.{IfSome}
@@ -13,7 +13,7 @@ use Rattle.alog_core.specs.History.{Entry}
 use Rattle.alog_ring.specs.Kinds.{no_note, plain_kind}
 use Rattle.alog_ring.specs.Share.{ticket_and_item}
 use Rattle.alog_ring.specs.Board.{AreInRow, value_at, AreValues, LieIn}
-use Rattle.alog_ring.proofs.Lists.{same_or_not}
+use Rattle.alog_ring.proofs.Lists.{same_or_not, at_or_past}
 use Rattle.alog_ring.proofs.Showing.{near_apart}
 use Rattle.alog_ring.proofs.Looking.{lap}
 
@@ -155,16 +155,6 @@ module _ {T : Type 0} where
             lap first k first n some lt.1 (omega arith)
             in at on.0 on.1 on.2 (on.3 ∙ small)
       ]
-
--- a list has an i-th item, or ends before it
-at_or_past : {A : Type 0} (xs : List A) (i : ℕ) → ((x : A) × (get_elem? xs i ≡ maybe.some x)) ⊎ (length xs ≤ i)
-at_or_past [] i = inr (omega arith)
-at_or_past (x ∷ xs) zero = inl (x, refl)
-at_or_past (x ∷ xs) (suc i) =
-    elim (at_or_past xs i) [
-      | inl at ↦ inl at
-      | inr past ↦ inr (omega arith)
-    ]
 
 module _ {T : Type 0} where
   value_some : (cs : List (Cell T)) (i : ℕ) (c : Cell T) → get_elem? cs i ≡ maybe.some c → value_at cs i ≡ Some c.item

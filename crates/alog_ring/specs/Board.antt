@@ -5,11 +5,11 @@ use mathlib.Core.Option as maybe
 use mathlib.Core.List.{IsPrefix}
 use lib.ListN.{get_elem?}
 use Rattle.atomic_table.specs.Table.{Me}
-use Rattle.alog_core.specs.Queue.{Cell, Claim, Write, Grab, Take, last, start}
+use Rattle.alog_core.specs.Queue.{Cell, last, start}
 use Rattle.alog_core.specs.History.{Entry, left_by}
 use Rattle.alog_ring.specs.declared.words.TheConstants.{NEXT, FRONT}
 use Rattle.alog_ring.specs.Known.{Known}
-use Rattle.alog_ring.specs.Made.{Adds}
+use Rattle.alog_ring.specs.Calls.{PushedAs, PoppedAs}
 use Rattle.alog_ring.specs.Share.{having_seen, IsWhole}
 use Rattle.alog_ring.specs.Sight.{Sight, Idle}
 use Rattle.alog_ring.specs.Rule.{seq_of, word_count}
@@ -27,29 +27,29 @@ abbrev pub Masks : ℕ → Type 0
 Masks mask = (t : ℕ) → bit_and t mask ≡ t % (mask + 1)
 
 module _ {S T N : Type 0} (kind : PlaceKind S T N) where
-  -- The seat claimed the ticket and wrote it, with the item of the place that it brought, and has what lay there, which is
-  -- the spare for the ticket after the claim.
-  pub record Fills (firsts : List S) (m m' : Me S (Sight T N)) (t : ℕ) (brought back : S) : Type 0 where
+  -- The pass claimed and wrote the ticket, with the item of what it brought, and has what lay in the ticket's place, which is
+  -- the spare for it.
+  pub record SwapsIn (firsts : List S) (old new : Known T N) (t : ℕ) (brought back : S) : Type 0 where
     pub item : T
     pub has : kind.has brought item
-    pub claimed : Known T N
-    pub claims : Adds kind.blank m.0.known claimed (Claim t item)
-    pub writes : Adds kind.blank claimed m'.0.known (Write t)
-    pub spare : kind.spare firsts claimed.places claimed.seen t back
-    pub idle : m'.0.stage ≡ Idle
-    pub home : m'.1 ≡ m.1
+    pub pushed : PushedAs kind.blank old new t item
+    pub spare : kind.spare firsts new.places new.seen t back
 
-  -- The seat grabbed the ticket and took its item, with a note of what it brought, and has the place of that item.
-  pub record Empties (m m' : Me S (Sight T N)) (t : ℕ) (brought got : S) : Type 0 where
+  -- The pass grabbed the ticket and took its item, with a note of what it brought, and has what lay in the ticket's place,
+  -- which has that item.
+  pub record SwapsOut (old new : Known T N) (t : ℕ) (brought got : S) : Type 0 where
     pub item : T
     pub has : kind.has got item
     pub note : N
     pub brings : kind.brings note brought
-    pub grabbed : Known T N
-    pub grabs : Adds kind.blank m.0.known grabbed (Grab t)
-    pub takes : Adds note grabbed m'.0.known (Take t item)
-    pub idle : m'.0.stage ≡ Idle
-    pub home : m'.1 ≡ m.1
+    pub popped : PoppedAs kind.blank note old new t item
+
+  -- the same of a seat, whose round is over then
+  abbrev pub Fills : List S → Me S (Sight T N) → Me S (Sight T N) → ℕ → S → S → Type 0
+  Fills firsts m m' t brought back = SwapsIn firsts m.0.known m'.0.known t brought back × (m'.0.stage ≡ Idle) × (m'.1 ≡ m.1)
+
+  abbrev pub Empties : Me S (Sight T N) → Me S (Sight T N) → ℕ → S → S → Type 0
+  Empties m m' t brought got = SwapsOut m.0.known m'.0.known t brought got × (m'.0.stage ≡ Idle) × (m'.1 ≡ m.1)
 
 -- cells of all tickets from this one on
 abbrev pub AreInRow : {T : Type 0} → ℕ → List (Cell T) → Type 0
@@ -71,13 +71,21 @@ module _ {S T N : Type 0} (kind : PlaceKind S T N) (firsts : List S) (admits : S
     pub spares : (i : ℕ) → length cells ≤ i → i < n
         → LiesAt places n (front + i) (λ y. kind.spare firsts n h (front + i) y)
 
+  -- What a history leaves, as it lies in the places at the end: so many cells as there are tickets from the front one to the
+  -- next, and the spares.
+  pub record LeftBy (k : Known T N) (h : List (Entry T N)) (n : ℕ) (places : List S) (front next : ℕ) : Type 0 where
+    pub front_is : front ≡ (left_by (start k.first) h).front
+    pub next_is : next ≡ (left_by (start k.first) h).next
+    pub bounded : next ≤ last
+    pub count : front + length (left_by (start k.first) h).cells ≡ next
+    pub lie : LieIn h places front n (left_by (start k.first) h).cells
+
   -- The table's history at its end: the pass that has all parts is whole in it, and what it leaves lies in the places.
-  pub record Leaves (k : Known T N) (n : ℕ) (places : List S) (front : ℕ) : Type 0 where
+  pub record Leaves (k : Known T N) (n : ℕ) (places : List S) (front next : ℕ) : Type 0 where
     pub history : List (Entry T N)
     pub seen : IsPrefix k.seen history
     pub whole : IsWhole (having_seen k history)
-    pub bounded : front ≤ last
-    pub lie : LieIn history places front n (left_by (start k.first) history).cells
+    pub left : LeftBy k history n places front next
 
 module _ {T : Type 0} where
   -- the value of the i-th cell

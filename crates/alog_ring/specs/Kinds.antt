@@ -1,7 +1,10 @@
 -- What lies in the places of a ring.
 use Rattle.std.specs.Prelude.{◌≡◌, ◌≢◌, ℕ, ◌+◌, List, [], ◌∷◌, ◌++◌, Option, Some, None, refl}
+use Rattle.std.proofs.Common.{sym, ◌∙◌}
 use Rattle.alog_core.specs.Queue.{Take}
 use Rattle.alog_core.specs.History.{Entry}
+use Rattle.alog_ring.specs.Spares.{IsSpare}
+use Rattle.alog_ring.specs.Noting.{spare_stays, spare_comes}
 
 -- A kind of place: what lies in a place `has` an item where a cell is written there, the note of a Take tells what it `brings`
 -- to the place, and all other events have the `blank` note. What lies in a free place is the `spare` for its ticket, after a
@@ -30,4 +33,16 @@ plain_kind T = record {
   spare = λ firsts n h t y. y ≡ None;
   stays = λ firsts n h x t _ z is. is;
   comes = λ firsts n h x u y _ z is. is;
+}
+
+-- The places of a `SwapRing`: always a value, which shows its item. The note of a Take is what it brought.
+abbrev pub swap_kind : {B T : Type 0} → (B → T) → PlaceKind B T (Option B)
+swap_kind shows = record {
+  has = λ y x. shows y ≡ x;
+  brings = λ note y. note ≡ Some y;
+  once = λ a b y one other. one ∙ sym other;
+  blank = None;
+  spare = IsSpare;
+  stays = λ firsts n h x t apart z is. spare_stays firsts n h x t apart z is;
+  comes = λ firsts n h x u y is z brought. spare_comes firsts n h x u y is z brought;
 }

@@ -1,9 +1,13 @@
 pub mod Known
+pub mod Spares
+pub mod Noting
 pub mod Kinds
 pub mod Made
 pub mod Calls
 pub mod Refused
 pub mod Waits
+pub mod Swaps
+pub mod Taken
 pub mod Share
 pub mod Sight
 pub mod Plays

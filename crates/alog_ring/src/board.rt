@@ -1,5 +1,6 @@
 //! The table of a ring of any kind of place, and the steps of a push and of a pop on it.
-ghost use Rattle.std.specs.Prelude.{◌≡◌, ℕ, ◌+◌, ◌%◌, ◌<◌, ◌≤◌, [], ◌∷◌, true, false, None, IfOk};
+ghost use Rattle.std.specs.Prelude.{◌≡◌, ℕ, ◌+◌, ◌%◌, ◌<◌, ◌≤◌, [], ◌∷◌, true, false, length, None, IfOk, IfErr};
+ghost use Rattle.std.specs.List.{AllByRecursion};
 ghost use Rattle.atomic_table.specs.Table.{rest};
 ghost use Rattle.alog_core.specs.Queue.{last, PushBusy, PopBusy};
 ghost use Rattle.alog_core.specs.World.{is_size};
@@ -10,14 +11,14 @@ ghost use Rattle.alog_ring.specs.Rule.{word_count};
 ghost use Rattle.alog_ring.specs.Board.{AreFirstWords, Masks, Fills, Empties};
 
 use crate::gate::StepGate;
-use crate::kind::{Kind, Plain};
+use crate::kind::{Kind, Plain, Shows, Swap};
 use crate::limit::{IfThere, Limit};
 use crate::plays::{
     Claims, Grabs, Picks, SeeEnd, SeeFree, SeeFront, SeeFull, SeeNext, Takes, Writes,
 };
 use crate::view::{Law, Shape, View};
 use crate::words::{APART, FRONT, NEXT, SEQUENCES};
-use atomic_table::{Seat, Table};
+use atomic_table::{Refused, Seat, Table};
 use std::alloc::{AllocError, Global};
 use std::mem;
 use std::snapshot::Snapshot;
@@ -36,6 +37,9 @@ pub(crate) struct Board<S, T, N, K: Kind<S, T, N>, L: Limit<S>> {
 
 /// The table of a `Ring`.
 pub(crate) type PlainBoard<T, L> = Board<Option<T>, T, (), Plain, IfThere<L>>;
+
+/// The table of a `SwapRing`.
+pub(crate) type SwapBoard<B, T, W, L> = Board<B, T, Option<B>, Swap<W>, L>;
 
 /// Lets an empty hand go.
 pub(crate) fn let_go<T>(hand: Option<T>)
@@ -89,6 +93,43 @@ where
     let (table, seat) = Table::vacant(alloc, words.as_slice(), places, &shape)?;
     let mask = places as u64 - 1;
     Ok((Board { table, mask }, seat))
+}
+
+/// The table of a `SwapRing`, in whose places the spares lie, and its first seat; or the spares, where memory is refused.
+pub(crate) fn laid_board<B, T, W: Shows<B, T>, L: Limit<B>>(
+    alloc: Global,
+    places: usize,
+    first: u64,
+    spares: Vec<B>,
+    limit: L,
+) -> Result<(SwapBoard<B, T, W, L>, Seat<B, View<T, Option<B>>>), Vec<B>>
+where
+    L: Drop,
+    requires size { is_size places ≡ true }
+    requires spares { length spares.items ≡ places }
+    requires first { first < last }
+    requires limit { AllByRecursion (L.admits limit) spares.items }
+    ensures back { IfErr result (λ e. e.items ≡ spares.items) }
+    ensures board { IfOk result (λ r. (r.0.mask + 1 ≡ places) × (r.0.table.shared.key.first ≡ first)
+        × (r.0.table.shared.key.limit ≡ limit) × (r.0.table.shared.key.firsts.value.items ≡ spares.items)) }
+    ensures seat { IfOk result (λ r. (r.1.table_id ≡ r.0.table.shared.table_id) × (r.1.me ≡ (first_sight places first, []))) }
+{
+    let Ok(words) = first_words(alloc, places, first) else {
+        return Err(spares);
+    };
+    let shape = Shape {
+        places: places as u64,
+        first,
+        firsts: Snapshot::of(&spares),
+        limit,
+    };
+    match Table::new(alloc, words.as_slice(), spares, &shape) {
+        Ok((table, seat)) => {
+            let mask = places as u64 - 1;
+            Ok((Board { table, mask }, seat))
+        }
+        Err(Refused { slots }) => Err(slots),
+    }
 }
 
 impl<S, T, N, K: Kind<S, T, N>, L: Limit<S>> Board<S, T, N, K, L> {
@@ -154,6 +195,7 @@ impl<S, T, N, K: Kind<S, T, N>, L: Limit<S>> Board<S, T, N, K, L> {
         requires stage { seat.old.me.0.stage ≡ SawFree ticket }
         requires home { seat.old.me.1 ≡ [] }
         requires below { ticket < last }
+        requires places { 1 ≤ seat.old.me.0.known.places }
         requires there { (x : T) × K.kind.has hand.old x }
         requires admitted { L.admits self.now.table.shared.key.limit hand.old }
         ensures table { seat.new.table_id ≡ seat.old.table_id }

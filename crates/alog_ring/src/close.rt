@@ -2,12 +2,11 @@
 ghost use Rattle.std.specs.Prelude.{◌≡◌, ◌+◌, ◌<◌, ◌≤◌, ◌↔◌, [], List, map, IsOk, IfOk, IfErr, vec_capacity};
 ghost use Rattle.std.specs.List.{AllByRecursion};
 ghost use Rattle.std.specs.Mem.Slots.{slots_items, slots_len, IsFull};
-ghost use Rattle.alog_core.specs.Queue.{Cell, last, start};
-ghost use Rattle.alog_core.specs.History.{left_by};
+ghost use Rattle.alog_core.specs.Queue.{Cell, last};
 ghost use Rattle.alog_core.specs.declared.TheConstants.{PLACES_MAX};
 ghost use Rattle.alog_ring.specs.Known.{IsPassOf};
 ghost use Rattle.alog_ring.specs.Share.{Closes, IsWhole, ticket_and_item};
-ghost use Rattle.alog_ring.specs.Board.{AreValues, LieIn, Masks};
+ghost use Rattle.alog_ring.specs.Board.{AreValues, LeftBy, Masks};
 
 use crate::ALL_PARTS;
 use crate::board::Board;
@@ -15,7 +14,7 @@ use crate::kind::Kind;
 use crate::limit::{Limit, NoLimit};
 use crate::pass::Pass;
 use crate::ring::Ring;
-use crate::words::FRONT;
+use crate::words::{FRONT, NEXT};
 use atomic_table::Closed;
 use std::alloc::Global;
 use std::fmt;
@@ -52,22 +51,33 @@ fn take_out<T>(
     left
 }
 
+/// The places of a ring at its end, with the front and the next ticket.
+pub(crate) struct Ended<S> {
+    pub(crate) closed: Closed<S, Global>,
+    pub(crate) front: u64,
+    pub(crate) next: u64,
+}
+
 impl<S, T, N, K: Kind<S, T, N>, L: Limit<S>> Board<S, T, N, K, L> {
-    /// Ends the table, and answers what lies in its places, with the front ticket.
-    fn close(self, pass: Pass<T, S, N>) -> (Closed<S, Global>, u64)
+    /// Ends the table, and answers what lies in its places.
+    pub(crate) fn close(self, pass: Pass<T, S, N>) -> Ended<S>
         requires table { pass.table ≡ self.table.shared.table_id }
         requires all { pass.known.parts ≡ ALL_PARTS }
-        ensures full { IsFull result.0.slots × (slots_len result.0.slots ≡ self.mask + 1) }
-        ensures front { result.1 ≤ last }
+        ensures full { IsFull result.closed.slots × (slots_len result.closed.slots ≡ self.mask + 1) }
         ensures whole { IsWhole pass.known }
-        ensures lie { LieIn K.kind self.table.shared.key.firsts.value.items (L.admits self.table.shared.key.limit) pass.known.seen
-            (slots_items result.0.slots) result.1 (self.mask + 1) (left_by (start pass.known.first) pass.known.seen).cells }
+        ensures left { LeftBy K.kind self.table.shared.key.firsts.value.items (L.admits self.table.shared.key.limit) pass.known
+            pass.known.seen (self.mask + 1) (slots_items result.closed.slots) result.front result.next }
     {
         let Board { table, mask: _ } = self;
         let Pass { seat, parts: _ } = pass;
         let closed = table.close_with(seat);
         let front = closed.word(FRONT);
-        (closed, front)
+        let next = closed.word(NEXT);
+        Ended {
+            closed,
+            front,
+            next,
+        }
     }
 }
 
@@ -89,7 +99,11 @@ impl<T, L: Limit<T>> Ring<T, L> {
         }
         let Ring { board, left } = self;
         let mask = board.mask;
-        let (closed, front) = board.close(pass);
+        let Ended {
+            closed,
+            front,
+            next: _,
+        } = board.close(pass);
         Ok(take_out(closed, left, front, mask))
     }
 }

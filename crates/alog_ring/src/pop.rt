@@ -85,22 +85,6 @@ impl<T, L: Limit<T>> Ring<T, L> {
         ensures none { IfErr result (λ e. hand.new ≡ None) }
         ensures refused { IfErr result (λ e. PopRefused pass.old.known pass.new.known e) }
     {
-        let board = &self.board;
-        let seat = &mut pass.seat;
-        gate.before(1);
-        let next = board.see_front(seat);
-        gate.before(2);
-        let sequence = board.see_full(seat, next);
-        if sequence < next + 1 {
-            gate.before(5);
-            if board.see_end(seat, next) == next {
-                return Err(PopError::Idle { next });
-            }
-            return Err(PopError::Empty { next });
-        }
-        if sequence > next + 1 || !board.grab_and_swap::<Brand, G>(seat, next, hand, gate) {
-            return Err(PopError::Busy { seen: next });
-        }
-        Ok(next)
+        self.board.pop_round::<Brand, G>(pass, hand, gate)
     }
 }

@@ -9,7 +9,6 @@ use crate::gate::{OpenSteps, StepGate};
 use crate::limit::Limit;
 use crate::pass::Pass;
 use crate::ring::Ring;
-use alog_core::TICKET_END;
 use std::marker::Brand;
 use thiserror::Error;
 
@@ -109,24 +108,6 @@ impl<T, L: Limit<T>> Ring<T, L> {
         ensures refused { IfErr result (λ e. PushRefused pass.old.known pass.new.known (tt {0}) e) }
         ensures left { IfErr result (λ e. hand.new ≡ hand.old) }
     {
-        let board = &self.board;
-        let seat = &mut pass.seat;
-        gate.before(1);
-        let next = board.see_next(seat);
-        if next == TICKET_END {
-            return Err(PushError::Spent { value: () });
-        }
-        gate.before(2);
-        let sequence = board.see_free(seat, next);
-        if sequence < next {
-            return Err(PushError::Full { value: (), next });
-        }
-        if sequence > next || !board.claim_and_swap::<Brand, G>(seat, next, hand, gate) {
-            return Err(PushError::Busy {
-                value: (),
-                seen: next,
-            });
-        }
-        Ok(next)
+        self.board.push_round::<Brand, G>(pass, hand, gate)
     }
 }

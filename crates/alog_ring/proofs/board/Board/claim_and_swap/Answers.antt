@@ -5,6 +5,7 @@ use Rattle.alog_ring.specs.Rule.{seq_of}
 use Rattle.alog_ring.proofs.Limits.{none_held, one_held, held_first}
 use Rattle.alog_ring.proofs.Places.{claim_may, write_may}
 use Rattle.alog_ring.proofs.Calling.{filled_has, filling_stage, filling_place, fills}
+use Rattle.alog_ring.proofs.Sparing.{swaps_in}
 use Rattle.alog_ring.proofs.board.Board.claim_and_swap.Goals as goal
 
 pub compare_exchange_with-found-requires : goal.compare_exchange_with-found-requires
@@ -73,10 +74,16 @@ returns-clause-filled g c _ =
     in let hit = c.if-found-ticket.false
     in let stage = filling_stage kind g.P.Picks.firsts slots t (t + 1) c.place_of-place.result c.compare_exchange_with-found.result n
     c.args.hand.now c.swap.new.hand c.args.seat.now.me mid out told hit c.swap.ensures.before c.swap.ensures.after place
+    in let did = fills kind g.P.Picks.firsts slots t (t + 1) c.place_of-place.result c.compare_exchange_with-found.result n
+    c.args.hand.now c.swap.new.hand c.args.seat.now.me mid out told hit c.swap.ensures.before c.swap.ensures.after place
+    c.store.new.seat.me (c.store.ensures.2 t (told.0 hit).1 stage)
     in (
-      fills kind g.P.Picks.firsts slots t (t + 1) c.place_of-place.result c.compare_exchange_with-found.result n c.args.hand.now
-          c.swap.new.hand c.args.seat.now.me mid out told hit c.swap.ensures.before c.swap.ensures.after place c.store.new.seat.me
-          (c.store.ensures.2 t (told.0 hit).1 stage),
+      (
+        swaps_in kind g.P.Picks.firsts c.args.seat.now.me.0.known c.store.new.seat.me.0.known t c.args.hand.now c.swap.new.hand
+            c.requires.places did.0,
+        did.1,
+        did.2,
+      ),
       held_first g.P.Picks.admits mid.1 c.place_of-place.result c.swap.new.hand c.swap.ensures.before
           c.compare_exchange_with-found.ensures.2.1,
     )

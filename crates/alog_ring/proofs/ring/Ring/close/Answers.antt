@@ -16,7 +16,7 @@ returns-clause-left g c =
       whole = c.close-closed.ensures.whole;
       cells = c.take_out.ensures cells
           (are_values board.table.shared.key.firsts.value.items (g.L.Limit.admits board.table.shared.key.limit.limit) k.seen
-          (slots_items c.close-closed.result.0.slots) c.close-closed.result.1 (board.mask + 1) cells c.close-closed.ensures.lie);
+          (slots_items c.close-closed.result.closed.slots) c.close-closed.result.front (board.mask + 1) cells c.close-closed.ensures.left.lie);
     }
 
 pub returns-clause-limit : goal.returns-clause-limit
@@ -24,13 +24,13 @@ returns-clause-limit g c =
     let board = c.self.inside.board
     in let k = c.args.pass.known
     in let cells = (left_by (start k.first) k.seen).cells
-    in let lie = c.close-closed.ensures.lie
-    in let places = slots_items c.close-closed.result.0.slots
+    in let lie = c.close-closed.ensures.left.lie
+    in let places = slots_items c.close-closed.result.closed.slots
     in let is = c.take_out.ensures cells
     (are_values board.table.shared.key.firsts.value.items (g.L.Limit.admits board.table.shared.key.limit.limit) k.seen
-    places c.close-closed.result.1 (board.mask + 1) cells lie)
+    places c.close-closed.result.front (board.mask + 1) cells lie)
     in subst (λ (r : RingId g.row.L.Denot). AllByRecursion (λ (p : ℕ × g.row.T.Denot). g.L.Limit.admits r.limit p.1) c.take_out.result.items)
     c.self.view_is
     (subst (AllByRecursion (λ (p : ℕ × g.row.T.Denot). g.L.Limit.admits board.table.shared.key.limit.limit p.1)) (sym is)
     (values_admitted board.table.shared.key.firsts.value.items (g.L.Limit.admits board.table.shared.key.limit.limit) k.seen places
-    c.close-closed.result.1 (board.mask + 1) cells lie))
+    c.close-closed.result.front (board.mask + 1) cells lie))
