@@ -26,11 +26,13 @@ use Rattle.alog_pool.proofs.SharedBack.{sum_mod, sum_of_map}
 use Rattle.alog_pool.proofs.Ended.{all_came_out, ending_moved, ending_starts, overrun_or_handled}
 use Rattle.alog_pool.proofs.Halting.{no_work_in_stops}
 use Rattle.alog_pool.proofs.Served.{all_handled, one_ended, put_nothing}
+use Rattle.alog_pool.proofs.Sharing.{each2_length}
 use Rattle.alog_pool.proofs.Worked.{moved_gots, moved_puts}
 use Rattle.alog_ring.specs.Kinds.{no_note}
 use Rattle.alog_ring.specs.Known.{Known, Member}
 use Rattle.alog_ring.specs.Share.{IsWhole}
-use Rattle.alog_ring.proofs.SharedLists.{prefix_through}
+use Rattle.alog_ring.specs.declared.TheConstants.{ALL_PARTS}
+use Rattle.alog_ring.proofs.Lists.{prefix_through}
 
 abbrev Deed : Type 0
 Deed = Entry Item no_note
@@ -132,6 +134,14 @@ module _ {S : Type 0} (a j k l : Known Item no_note) (producers : List ProducerV
       let first : length made_by ≡ length producers = length-map producers pass_member in
       let second : length workers ≡ length crew = length-map crew (λ (h : Worker S). worker_member h) in
       omega (arith, one, two, three, first, second)
+
+  -- where no fewer came back than were made, just as many did: more would have brought more parts than all
+  pub all_came_back : (made : ℕ) → a.parts + (made + length starts) ≡ ALL_PARTS → made ≤ length producers → l.parts ≤ ALL_PARTS
+      → length producers ≡ made
+  all_came_back made before enough most =
+      let all = all_parts in
+      let many = each2_length HasWorked starts crew worked in
+      omega (arith, all, many, before, enough, most)
 
   module _ (whole : IsWhole l) (places : 1 ≤ l.places) where
     pub out : AllCameOut producers crew

@@ -1,5 +1,5 @@
 //! The end of a pool.
-ghost use Rattle.std.specs.Prelude.{◌≡◌, ◌≢◌, ◌↔◌, ◌≤◌, ℕ, [], length, map, vec_capacity, IfOk, IfErr, IsErr};
+ghost use Rattle.std.specs.Prelude.{◌≡◌, ◌↔◌, ◌≤◌, ◌<◌, ℕ, [], length, map, vec_capacity, IfOk, IfErr, IsErr};
 ghost use Rattle.std.specs.Arc.{arc_value};
 ghost use Rattle.std.specs.List.{AllByRecursion};
 ghost use Rattle.alog_lane.specs.declared.seat.TheConstants.{ALL_PARTS as ALL_SEATS};
@@ -34,18 +34,20 @@ impl<S: Store + Drop + Send + 'static> Pool<S> {
     /// Ends the pool, when its producers have come back: it tells its workers to stop, waits until each has handled what it took,
     /// and answers what became of all messages. It takes no memory.
     ///
-    /// Where not as many producers come back as were made, nothing is done, and pool and producers come back.
+    /// Where fewer producers come back than were made, nothing is done, and pool and producers come back. More can not come back: each
+    /// brings a part of the queue, and there are no more parts than all.
     pub fn shutdown<R: Threads + Wait + Clock>(
         self,
         rt: &R,
         producers: Vec<Producer>,
     ) -> Result<Report<S>, ProducersOut<S>>
         requires own { AllByRecursion (λ p. p.shared ≡ self.shared) producers.items }
-        ensures out { IsErr result ↔ (length producers.items ≢ self.made) }
+        ensures out { IsErr result ↔ (length producers.items < self.made) }
         ensures back { IfErr result (λ e. (e.pool ≡ self) × (e.producers ≡ producers)) }
+        ensures all { IfOk result (λ _. length producers.items ≡ self.made) }
         ensures ends { IfOk result (λ r. Ends S.tells S.files S.failures self producers.items r) }
     {
-        if producers.len() as u64 != self.made {
+        if (producers.len() as u64) < self.made {
             return Err(ProducersOut {
                 pool: self,
                 producers,

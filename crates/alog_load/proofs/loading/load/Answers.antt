@@ -31,7 +31,8 @@ unreachable-requires-in-Err g c =
     let count = makes_count c.in-Ok.pool c.run_all-back.new.pool run.begun run.makes in
     let none = c.in-Ok.ensures.started.made in
     let many = run.many in
-    c.in-Err.ensures.out.0 refl (omega (arith, count, none, many))
+    let fewer = c.in-Err.ensures.out.0 refl in
+    omega (arith, fewer, count, none, many)
 
 pub returns-in-Ok-shutdown-clause-loads : goal.returns-in-Ok-shutdown-clause-loads
 returns-in-Ok-shutdown-clause-loads g c =

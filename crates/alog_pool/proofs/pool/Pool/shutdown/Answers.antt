@@ -3,6 +3,7 @@ use Rattle.std.proofs.lemmas.List.{length-map}
 use Rattle.std.specs.Arc.{arc_value}
 use Rattle.std.specs.List.{AllByRecursion}
 use Rattle.std.specs.declared.thread.PromisedHandle.{PromisedHandle}
+use Rattle.alog_pool.specs.Back.{loss_member}
 use Rattle.alog_pool.specs.SinkSeat.{SinkSeatView}
 use Rattle.alog_pool.specs.Pool.{Begins, PoolView, lanes_of}
 use Rattle.alog_pool.specs.Report.{Ends}
@@ -15,8 +16,8 @@ use Rattle.alog_pool.specs.declared.works.Works.{Works}
 use Rattle.alog_pool.proofs.Closed.{all_back, all_closed}
 use Rattle.alog_pool.proofs.Rows.{rows_lanes}
 use Rattle.alog_pool.proofs.Served.{all_served, rows_counted, rows_even, same_numbers}
-use Rattle.alog_pool.proofs.SharedSharing.{each2_length}
-use Rattle.alog_pool.proofs.Totalled.{all_parts, members, only_stops, out, took_none, totals}
+use Rattle.alog_pool.proofs.Sharing.{each2_length}
+use Rattle.alog_pool.proofs.Totalled.{all_came_back, all_parts, members, only_stops, out, took_none, totals}
 use Rattle.alog_pool.proofs.pool.Pool.shutdown.Goals as goal
 use Rattle.alog_core.specs.Accounts.{claims}
 use Rattle.alog_ring.specs.Known.{IsPassOf}
@@ -32,6 +33,25 @@ collect-handled-requires-clause-began g c κs within =
       subst (λ (s : Shared). AllByRecursion (Begins s (lanes_of inside.sink_seats.items) inside.tickets_max) starts)
           (sym c.deref-3.ensures) c.self.invariant.0.began,
     )
+
+pub close_book-lost-requires-clause-all : goal.close_book-lost-requires-clause-all
+close_book-lost-requires-clause-all g c =
+    let S = g.row.S.Denot in
+    let inside = c.self.inside in
+    let pool = c.self.invariant.0 in
+    let left = pool.left in
+    let starts : List (Worker S) = map (λ (h : PromisedHandle (Worker S) (Works S)). h.promise.start.value) inside.workers.items in
+    let producers = c.args.producers.items in
+    let collected = c.collect-handled.ensures.collects in
+    let test = c.if-len-self.false in
+    let enough : inside.made ≤ length producers = omega (arith, test, c.len.ensures, c.args.producers.ok.0) in
+    let same = all_came_back inside.pass.known c.gather.new.pass.known c.post_stops.new.pass.known c.collect-handled.new.pass.known producers
+    starts collected.crew c.len-2.result left.pass_unused.0 left.pass_unused.1 c.gather.ensures.passes c.gather.ensures.accounts
+    c.post_stops.ensures.stops collected.passes collected.worked pool.some inside.made left.pass_parts enough c.is_whole-whole.ensures.most in
+    let back = c.gather.ensures.seats.parts in
+    let many = length-map producers loss_member in
+    let seats = left.losses_parts in
+    omega (arith, same, back, many, seats)
 
 pub close_sink_seats-requires-clause-all : goal.close_sink_seats-requires-clause-all
 close_sink_seats-requires-clause-all g c =
@@ -96,7 +116,8 @@ returns-clause-ends g c =
     let left_parts = left.pass_parts in
     let parts : l.parts ≡ ALL_PARTS =
     (let all = all_parts a j k l producers starts crew count own none gather accounts stops collected.passes collected.worked pool.some in
-    omega (arith, all, many, made, left_parts, c.len.ensures, c.args.producers.ok.0)) in
+    let most = c.is_whole-whole.ensures.most in
+    omega (arith, all, many, made, left_parts, most, c.len.ensures, c.args.producers.ok.0)) in
     let yes = c.is_whole-whole.ensures.parts.1 parts in
     let whole : IsWhole l = subst IsWhole (c.is_whole-whole.ensures.same yes) (c.is_whole-whole.ensures.whole yes) in
     let ring = subst (λ (s : Shared). IsPassOf s.ring c.collect-handled.new.pass) c.deref-3.ensures c.collect-handled.ensures.ring in
@@ -133,3 +154,19 @@ returns-clause-ends g c =
           c.close_sink_seats.ensures left.sink_seats_unused
           (rows_counted shared (lanes_of inside.sink_seats.items) inside.tickets_max starts crew pool.began collected.worked);
     })
+
+pub returns-clause-all : goal.returns-clause-all
+returns-clause-all g c =
+    let S = g.row.S.Denot in
+    let inside = c.self.inside in
+    let pool = c.self.invariant.0 in
+    let left = pool.left in
+    let starts : List (Worker S) = map (λ (h : PromisedHandle (Worker S) (Works S)). h.promise.start.value) inside.workers.items in
+    let producers = c.args.producers.items in
+    let collected = c.collect-handled.ensures.collects in
+    let test = c.if-len-self.false in
+    let enough : inside.made ≤ length producers = omega (arith, test, c.len.ensures, c.args.producers.ok.0) in
+    let same = all_came_back inside.pass.known c.gather.new.pass.known c.post_stops.new.pass.known c.collect-handled.new.pass.known producers
+    starts collected.crew c.len-2.result left.pass_unused.0 left.pass_unused.1 c.gather.ensures.passes c.gather.ensures.accounts
+    c.post_stops.ensures.stops collected.passes collected.worked pool.some inside.made left.pass_parts enough c.is_whole-whole.ensures.most in
+    same ∙ ap (λ (v : PoolView S). v.made) c.self.view_is

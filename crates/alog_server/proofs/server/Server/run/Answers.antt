@@ -31,7 +31,8 @@ unreachable-requires g c =
     let count = makes_count c.args.self.pool c.work_with-producers.new.pool run.begun run.makes in
     let none = c.args.self.fresh in
     let many = run.many in
-    c.in-Err.ensures.out.0 refl (omega (arith, count, none, many))
+    let fewer = c.in-Err.ensures.out.0 refl in
+    omega (arith, fewer, count, none, many)
 
 pub returns-clause-runs : goal.returns-clause-runs
 returns-clause-runs g c =
