@@ -1,5 +1,5 @@
 -- Stores that are handed out, and what is made of all parts.
-use Rattle.std.proofs.Common.{◌≡◌, ◌+◌, ◌<◌, ℕ, zero, suc, Bool, true, false, cond, inr, List, [], ◌∷◌, ◌++◌, length, take, drop, map, slice_get}
+use Rattle.std.proofs.Common.{◌≡◌, ◌+◌, ◌<◌, ℕ, zero, suc, Bool, true, false, cond, inl, inr, List, [], ◌∷◌, ◌++◌, length, take, drop, map, slice_get}
 use Rattle.std.proofs.Common.{Result, Ok, Err, IfOk, Some, count_by, refl, sym, ap, subst, ◌∙◌, arith, length-drop}
 use Rattle.std.proofs.Math.Seq.{take-length}
 use Rattle.std.proofs.lemmas.List.Sums.{sum_by-append}
@@ -66,6 +66,14 @@ has_dropped P (suc k) (x ∷ xs) h = inr (has_dropped P k xs h)
 pub any_dropped : {A : Type 0} (P : A → Type 0) (k : ℕ) (xs ys : List A) → ys ≡ drop k xs → Any P ys → Any P xs
 any_dropped {A} P k xs ys e h =
     has_any P xs (has_dropped P k xs (subst (λ (zs : List A). Has P zs) e (any_has P ys h)))
+
+has_at : {A : Type 0} (P : A → Type 0) (i : ℕ) (xs : List A) (x : A) → slice_get xs i ≡ Some x → P x → Has P xs
+has_at P i [] x e p = absurd (cc e)
+has_at P zero (y ∷ xs) x e p = let same : y ≡ x = cc in inl (subst P (sym same) p)
+has_at P (suc i) (y ∷ xs) x e p = inr (has_at P i xs x e p)
+
+pub any_at : {A : Type 0} (P : A → Type 0) (i : ℕ) (xs : List A) (x : A) → slice_get xs i ≡ Some x → P x → Any P xs
+any_at P i xs x e p = has_any P xs (has_at P i xs x e p)
 
 -- what is known of a value in two ways
 pub if_ok_both : {T E : Type 0} (r : Result T E) (P Q R : T → Type 0) → ((t : T) → P t → Q t → R t) → IfOk r P → IfOk r Q → IfOk r R

@@ -4,6 +4,8 @@ use Rattle.std.specs.List.{Any}
 use Rattle.alog_config.specs.declared.config.SinkConfig.{SinkConfig}
 use Rattle.alog_config.specs.declared.config.SinkKind.{SinkKind}
 use Rattle.alog_config.specs.declared.config.SinkKind.TheVariants.{Lines, Fan}
+use Rattle.alog_config.specs.declared.config.Upkeep.{Upkeep}
+use Rattle.alog_config.specs.declared.config.Upkeep.TheVariants as upkeeps
 
 abbrev pub IsFanKind : SinkKind → Type 0
 IsFanKind (Lines file pattern upkeep) = ⊥
@@ -58,3 +60,16 @@ is_lines (Fan of) = false
 
 abbrev pub is_leaf : SinkConfig → Bool
 is_leaf sink = is_lines sink.kind
+
+-- its file is rotated by its size, for which its store is asked when it is opened
+abbrev pub IsBySize : Upkeep → Type 0
+IsBySize upkeeps.Never = ⊥
+IsBySize (upkeeps.BySize max_size max_files) = Unit {0}
+IsBySize (upkeeps.Daily hour minute max_files) = ⊥
+
+abbrev pub RotatesKind : SinkKind → Type 0
+RotatesKind (Lines file pattern upkeep) = IsBySize upkeep
+RotatesKind (Fan of) = ⊥
+
+abbrev pub Rotates : SinkConfig → Type 0
+Rotates sink = RotatesKind sink.kind

@@ -4,7 +4,7 @@ ghost use Rattle.std.specs.List.{All, Any};
 ghost use Rattle.alog_config.specs.Built.{Built, EachIs, HasFailed, IsLoggerOf};
 ghost use Rattle.alog_config.specs.Fits.{LoggerFits};
 ghost use Rattle.alog_config.specs.Parts.{AreBuilt, Makes, MayLog, MayMake};
-ghost use Rattle.alog_config.specs.Sinks.{is_leaf};
+ghost use Rattle.alog_config.specs.Sinks.{Rotates, is_leaf};
 ghost use Rattle.alog_pattern.specs.declared.patterns.TheConstants.{LINE_MAX};
 ghost use Rattle.alog_sink.specs.Sinks.{Suits};
 
@@ -23,7 +23,7 @@ pub enum BuildError {
     /// A growth was refused.
     #[error("out of memory")]
     OutOfMemory,
-    /// A store failed.
+    /// A store failed, which a sink that rotates its file had asked for a size.
     #[error("a store failed")]
     Store,
 }
@@ -55,6 +55,7 @@ pub fn build<S: Store + Drop>(
     ensures fits { IfOk result (λ b. All (LoggerFits (length b.1.items)) b.0) }
     ensures suits { IfOk result (λ b. All (λ s. Suits config.now.text LINE_MAX s) b.1.items) }
     ensures failed { IsErrOf result BuildError.Store → Any (HasFailed S.failures) stores.items }
+    ensures rotates { IsErrOf result BuildError.Store → Any Rotates config.now.sinks.items }
 {
     let parts = parts_of(alloc, config, stores)?;
     let loggers = loggers_of(alloc, &config.loggers, parts.as_slice())?;
@@ -71,6 +72,7 @@ fn parts_of<'c, S: Store + Drop>(
     requires { length stores.items ≡ count_by is_leaf config.now.sinks.items }
     ensures built { IfOk result (λ v. AreBuilt S.tells S.files S.failures config.now stores.items (length config.now.sinks.items) v.items) }
     ensures failed { IsErrOf result BuildError.Store → Any (HasFailed S.failures) stores.items }
+    ensures rotates { IsErrOf result BuildError.Store → Any Rotates config.now.sinks.items }
 {
     let mut stores = VecDeque::from_vec(stores);
     let mut parts = Vec::new(alloc);
@@ -109,6 +111,7 @@ fn made<S: Store + Drop>(
     ensures made { IfOk result (λ s. Makes S.tells S.files S.failures config.now sink.now.level sink.now.kind stores.old.items parts.old.items
         s stores.new.items parts.new.items) }
     ensures failed { IsErrOf result BuildError.Store → Any (HasFailed S.failures) stores.old.items }
+    ensures rotates { IsErrOf result BuildError.Store → Rotates sink.now }
 {
     match &sink.kind {
         SinkKind::Lines {

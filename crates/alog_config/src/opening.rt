@@ -1,6 +1,7 @@
 //! Opening the sinks that have a store of their own.
 ghost use Rattle.std.specs.Prelude.{◌≡◌, ◌↔◌, ◌⊎◌, IfOk, IsErrOf, map};
 ghost use Rattle.alog_config.specs.Built.{HasFailed, IsFaceOf, IsOver, IsTargetOf};
+ghost use Rattle.alog_config.specs.Sinks.{IsBySize};
 ghost use Rattle.alog_config.specs.Sound.{IsSoundUpkeep};
 ghost use Rattle.alog_config.specs.Values.{IsPattern};
 ghost use Rattle.alog_sink.specs.Names.{IsFileName};
@@ -68,6 +69,7 @@ pub(crate) fn opened<S: Store + Drop>(
     ensures opened { IfOk result (Opened S.tells S.files face (IsTargetOf file.now upkeep) (S.files store)) }
     ensures over { IfOk result (λ s. IsOver S.tells S.files S.failures upkeep store (store_of s)) }
     ensures failed { IsErrOf result BuildError.Store → HasFailed S.failures store }
+    ensures rotates { IsErrOf result BuildError.Store → IsBySize upkeep }
 {
     match upkeep {
         Upkeep::Never => match Sink::memory(alloc, face, store, file) {
