@@ -47,6 +47,12 @@ pub enum StartError {
         /// What `alog check` says of it: the number of the refusal, the place, and what a person has to mend.
         text: String,
     },
+    /// The files of the sinks cannot be written to the folder.
+    #[error("{text}")]
+    Unwritable {
+        /// Which path it is, and what the system said of it.
+        text: String,
+    },
     /// A store failed when its sink was opened.
     #[error("a store failed")]
     Store,

@@ -14,7 +14,8 @@
 //! `Server::run` picks it (`specs/Homes.antt`). A client's calls are those of `alog_pool::Producer` (`specs/Says.antt`).
 //!
 //! Read `home.rt`, `logger.rt`, `client.rt` and `calls.rt` (what a thread logs with), `work.rt`, `seats.rt` (the clients of all
-//! threads), `sink_end.rt` (what is told of each sink) and `server.rt`; then `opening.rt` over `setup.rt`, `producers.rt` and `folders.rt`, and `error.rt`.
+//! threads), `sink_end.rt` (what is told of each sink) and `server.rt`; then `opening.rt` over `writable.rt` (what keeps files
+//! from being written to a folder), `setup.rt`, `producers.rt` and `folders.rt`, and `error.rt`.
 #![tactic(auto)]
 
 mod calls;
@@ -30,6 +31,7 @@ mod server;
 mod setup;
 mod sink_end;
 mod work;
+mod writable;
 
 pub use client::Client;
 pub use error::{LogError, RunError, StartError};
@@ -42,6 +44,7 @@ pub use server::{Ran, Server};
 pub use setup::setup_of;
 pub use sink_end::SinkEnd;
 pub use work::Work;
+pub use writable::unwritable;
 
 /// The most threads of a server.
 pub const THREADS_MAX: usize = 4_096;

@@ -5,14 +5,17 @@ ghost use Rattle.alog_server.specs.Starting.{IsServerOn, IsOfFault, IsReasonFor}
 use crate::error::StartError;
 use crate::folders::{Folders, folder_stores};
 use crate::server::Server;
+use crate::writable::unwritable;
 use alog_config::{ConfigFault, Place, explain, leaves, read};
 use std::alloc::{AllocError, Global};
+use std::rt::Files;
 use std::sync::Wait;
 use std::thread::Threads;
 use std::time::Clock;
 
-/// Starts a server of the configuration that is in this document, with the files of its sinks in this folder, which has to be there.
-pub fn start<R: Folders + Threads + Wait + Clock + Clone + Drop + Send + 'static>(
+/// Starts a server of the configuration that is in this document, with the files of its sinks in this folder, which has to be there
+/// and to take them: that is looked at first.
+pub fn start<R: Files + Folders + Threads + Wait + Clock + Clone + Drop + Send + 'static>(
     rt: &R,
     alloc: Global,
     document: &[u8],
@@ -25,6 +28,9 @@ pub fn start<R: Folders + Threads + Wait + Clock + Clone + Drop + Send + 'static
         Ok(config) => config,
         Err(fault) => return Err(refused(alloc, document, fault)),
     };
+    if let Some(text) = unwritable(rt, alloc, folder, &config)? {
+        return Err(StartError::Unwritable { text });
+    }
     let stores = folder_stores(rt, alloc, folder, leaves(&config))?;
     Server::over(rt, alloc, &config, stores)
 }

@@ -76,8 +76,8 @@ impl<S: Store + Drop + Send + 'static> Server<S> {
     ) -> Result<Server<S>, StartError>
         requires { length stores.items ≡ count_by is_leaf config.now.sinks.items }
         ensures started { IfOk result (λ s. IsServerOf S.tells S.files S.failures config.now stores.items s.pool s.sinks.items) }
-        ensures refused { IfErr result IsOfStores }
         ensures failed { IsErrOf result StartError.Store → Any (HasFailed S.failures) stores.items }
+        ensures refused { IfErr result (IsOfStores config.now) }
     {
         let sinks = ends_of(alloc, config)?;
         let setup = setup_of(alloc, config, stores, 0)?;

@@ -2,23 +2,24 @@
 use crate::server_tests::{HELLO, ran, started};
 use alog_server::{LogError, Ran, RunError, SinkEnd};
 use alog_sink::Store;
+use std::os::unix::fs::symlink;
 use std::{fs, io};
 use test_runs::{Host, folder};
 
-/// Two sinks for each message: a file that is a folder, and a fan of two files.
+/// Two sinks for each message, both flushed behind it: a file to which nothing can be written, and a fan of two files.
 const FAULTY: &str = "queue = 8\n\n[[sink]]\nname = \"a\"\nkind = \"memory\"\nfile = \"a.log\"\n\n\
                       [[sink]]\nname = \"lost\"\nkind = \"memory\"\nfile = \"lost.log\"\nlevel = \"info\"\n\n\
                       [[sink]]\nname = \"b\"\nkind = \"daily\"\nfile = \"b.log\"\n\n\
                       [[sink]]\nname = \"both\"\nkind = \"fan\"\nof = [\"b\", \"a\"]\n\n\
-                      [[logger]]\nname = \"net\"\nsinks = [\"both\", \"lost\"]\n";
+                      [[logger]]\nname = \"net\"\nsinks = [\"both\", \"lost\"]\nflush_on = \"info\"\n";
 
 /// A sink by its name, its faults and its files.
 type Row = (&'static str, u64, &'static [&'static str]);
 
-/// What is told of the sinks where so many messages were logged to each: those that are no fan's member, in the order of the
-/// configuration.
+/// What is told of the sinks where three hundred messages were logged to each: those that are no fan's member, in the order of the
+/// configuration. The first line waits in its buffer, and fails at its flush.
 const TOLD: [Row; 2] = [
-    ("lost", 300, &["lost.log"]),
+    ("lost", 599, &["lost.log"]),
     ("both", 0, &["b.log", "a.log"]),
 ];
 
@@ -68,7 +69,7 @@ fn runs<R: Host>(rt: &R, folder: &str, rows: &[Row]) -> bool {
 #[test]
 fn sinks_are_told_with_their_faults_and_files(rt: HostRuntime) -> io::Result<()> {
     let folder = folder(&rt)?;
-    fs::create_dir(&rt, folder.join(rt.alloc(), "lost.log")?)?;
+    symlink(&rt, "/dev/full", folder.join(rt.alloc(), "lost.log")?)?;
     assert!(rt; runs(&rt, folder.as_str(), &TOLD));
     fs::remove_dir_all(&rt, folder.as_str())
 }

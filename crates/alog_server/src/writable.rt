@@ -1,0 +1,89 @@
+//! Whether the files of a configuration can be written to a folder.
+use alog_config::{Config, SinkKind, Upkeep};
+use std::alloc::{AllocError, Global};
+use std::fs::{self, OpenOptions};
+use std::io::{self, ErrorKind};
+use std::path::Path;
+use std::rt::Files;
+
+/// A file that is made and removed in a folder to see whether one can be. No sink has a file of such a name.
+const PROBE: &str = ".probe.replaced";
+
+/// What keeps the files of a configuration from being written to a folder, in words, where something does.
+///
+/// The folder is not there, is none, or takes no new file; or a file that is there already cannot be opened, as a folder of its name.
+/// To see whether the folder takes files, one is made there and removed. The files of daily sinks have names by dates, so the folder
+/// alone is looked at for them. The test `what_cannot_be_written_is_refused_at_the_start` of `test_server` shows it.
+pub fn unwritable<R: Files>(
+    rt: &R,
+    alloc: Global,
+    folder: &str,
+    config: &Config,
+) -> Result<Option<String>, AllocError> {
+    match fs::metadata(rt, folder) {
+        Ok(found) if found.is_dir() => {}
+        Ok(_) => return Ok(Some(format!(in alloc; "{folder} is no folder")?)),
+        Err(error) => return takes_none(alloc, folder, error),
+    }
+    if let Err(error) = takes_files(rt, alloc, folder) {
+        return takes_none(alloc, folder, error);
+    }
+    for sink in &config.sinks {
+        let Some(file) = lasting_file(&sink.kind) else {
+            continue;
+        };
+        if let Err(error) = takes_lines(rt, alloc, folder, file) {
+            let text = format!(in alloc; "{folder}/{file} cannot be written: {error}")?;
+            return told(text, error);
+        }
+    }
+    Ok(None)
+}
+
+/// What is said of a folder that takes no files, for this reason.
+fn takes_none(alloc: Global, folder: &str, error: io::Error) -> Result<Option<String>, AllocError> {
+    let text = format!(in alloc; "no files can be written to {folder}: {error}")?;
+    told(text, error)
+}
+
+/// The words of an error, unless it is want of memory.
+fn told(text: String, error: io::Error) -> Result<Option<String>, AllocError> {
+    if error.kind() == ErrorKind::OutOfMemory {
+        return Err(AllocError);
+    }
+    Ok(Some(text))
+}
+
+/// The file of a sink that writes to one of the same name on all days.
+fn lasting_file(kind: &SinkKind) -> Option<&str> {
+    match kind {
+        SinkKind::Lines { file, upkeep, .. } if !matches!(upkeep, Upkeep::Daily { .. }) => {
+            Some(file.as_str())
+        }
+        SinkKind::Lines { .. } | SinkKind::Fan { .. } => None,
+    }
+}
+
+/// Whether a file can be made in this folder.
+fn takes_files<R: Files>(rt: &R, alloc: Global, folder: &str) -> io::Result<()> {
+    let path = Path::new(folder).join(alloc, PROBE)?;
+    let made = OpenOptions::new()
+        .write(true)
+        .create_new(true)
+        .open(rt, path.as_str());
+    match made {
+        Ok(_) => fs::remove_file(rt, path.as_str()),
+        Err(error) if error.kind() == ErrorKind::AlreadyExists => Ok(()),
+        Err(error) => Err(error),
+    }
+}
+
+/// Whether lines can be appended to this file of a folder, where it is there.
+fn takes_lines<R: Files>(rt: &R, alloc: Global, folder: &str, file: &str) -> io::Result<()> {
+    let path = Path::new(folder).join(alloc, file)?;
+    match OpenOptions::new().append(true).open(rt, path) {
+        Ok(_) => Ok(()),
+        Err(error) if error.kind() == ErrorKind::NotFound => Ok(()),
+        Err(error) => Err(error),
+    }
+}
