@@ -11,18 +11,17 @@ use crate::configuration::{read_document, refuse};
 use crate::ended::fail_to_write;
 use crate::progress::{Progress, Screen};
 use crate::request::LoadRequest;
-use crate::sinks::{is_unwritable, sink_name};
+use crate::sinks::say_faults;
 use crate::status::{load_number_of, load_status_of};
 use crate::stores::memory_stores;
 use crate::totals::write_totals;
 use alog_config::{Config, leaves, read};
 use alog_load::{LOAD_MESSAGES_MAX, LOAD_PRODUCERS_MAX, LoadError, load};
 use alog_pool::Report;
-use alog_server::{Folders, folder_stores};
+use alog_server::{Folders, folder_stores, unwritable};
 use alog_sink::{MemStore, Store};
 use std::alloc::AllocError;
-use std::fs;
-use std::io::{ErrorKind, Write};
+use std::io::Write;
 use std::rt::Files;
 use std::sync::Wait;
 use std::thread::Threads;
@@ -127,7 +126,7 @@ where
 }
 
 /// Whether a load by numbers within their bounds cannot write to this folder, or to a file of a sink that is there, which is said
-/// then.
+/// then. Want of memory is told by the load.
 fn lacks_folder<R: AllocGlobal + Files, E: Write>(
     rt: &R,
     path: &str,
@@ -140,17 +139,12 @@ fn lacks_folder<R: AllocGlobal + Files, E: Write>(
     if is_out_of_bounds(request) {
         return false;
     }
-    match fs::metadata(rt, path) {
-        Ok(found) if found.is_dir() => is_unwritable(rt, path, config, errors),
-        Ok(_) => {
-            let _ = writeln!(errors, "alog: {path} is no folder");
+    match unwritable(rt, rt.alloc(), path, config) {
+        Ok(Some(why)) => {
+            let _ = writeln!(errors, "alog: {why}");
             true
         }
-        Err(error) if error.kind() == ErrorKind::OutOfMemory => false,
-        Err(error) => {
-            let _ = writeln!(errors, "alog: no files can be written to {path}: {error}");
-            true
-        }
+        Ok(None) | Err(_) => false,
     }
 }
 
@@ -199,26 +193,6 @@ fn refuse_asked<E: Write>(fault: LoadError, request: &LoadRequest<'_>, errors: &
         say_bounds(request, errors);
     }
     status
-}
-
-/// Says at which sinks turns failed, and how many, and at which the last flush failed.
-fn say_faults<S: Store + Drop, E: Write>(report: &mut Report<S>, config: &Config, errors: &mut E) {
-    let faults = report.faults.iter();
-    for (sink, number) in faults.enumerate() {
-        if *number > 0 {
-            let name = sink_name(config, sink);
-            let _ = writeln!(errors, "alog: sink {sink}, {name}: {number} turns failed");
-        }
-    }
-    for (sink, it) in report.sinks.iter_mut().enumerate() {
-        if it.flush().is_err() {
-            let name = sink_name(config, sink);
-            let _ = writeln!(
-                errors,
-                "alog: sink {sink}, {name}: its lines are not all in its file"
-            );
-        }
-    }
 }
 
 /// Says which of a load's numbers is out of its bounds.

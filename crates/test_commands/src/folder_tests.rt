@@ -121,9 +121,10 @@ const FLUSHING: &str =
     "[[sink]]\nname = \"lines\"\nkind = \"memory\"\nfile = \"out\"\npattern = \"%n %L %v\"\n\n\
                         [[logger]]\nname = \"net\"\nsinks = [\"lines\"]\nflush_on = \"info\"\n";
 
-/// What is said where the first line could not be flushed: nothing is done by a broken sink.
-const FAILED: &str = "alog: refused 22\nalog: a store failed\nalog: sink 0, lines: 5 turns failed\n\
-                      alog: sink 0, lines: its lines are not all in its file\n";
+/// What is said where the first line could not be flushed, and why: nothing is done by a broken sink.
+const FAILED: &str = "alog: refused 22\nalog: a store failed\n\
+                      alog: sink 0, lines: 5 turns failed: No space left on device (os error 28)\n\
+                      alog: sink 0, lines: its lines are not all in its file: No space left on device (os error 28)\n";
 
 /// The system takes no byte that is written to the file.
 fn filled(rt: &HostRuntime, room: &Room) -> io::Result<()> {
@@ -146,6 +147,10 @@ fn refuses<R: Host>(rt: &R, (file, to): (&str, &str), (front, end): (&str, &str)
     }
 }
 
+/// One sink, whose files have names by dates.
+const DAILY: &str =
+    "[[sink]]\nname = \"out\"\nkind = \"daily\"\nfile = \"out\"\n\n[[logger]]\nname = \"net\"\nsinks = [\"out\"]\n";
+
 /// Whether a load is refused to a folder that is absent, to one in which no file can be made, and to its own file.
 fn refuses_each<R: Host>(rt: &R, file: &str, absent: &str) -> bool {
     let unwritable = ("alog: no files can be written to ", ": ");
@@ -158,9 +163,15 @@ fn refuses_each<R: Host>(rt: &R, file: &str, absent: &str) -> bool {
 #[test]
 fn a_folder_that_is_none_is_refused_at_the_start(rt: HostRuntime) -> io::Result<()> {
     let absent = rt.scratch("absent")?;
-    let path = written(&rt, SMALL)?;
-    assert!(rt; refuses_each(&rt, path.as_str(), absent.as_str()));
-    removed(&rt, path)
+    for document in [SMALL, DAILY] {
+        let path = written(&rt, document)?;
+        assert!(rt;
+            refuses_each(&rt, path.as_str(), absent.as_str()),
+            "{document}"
+        );
+        removed(&rt, path)?;
+    }
+    Ok(())
 }
 
 /// A folder has the name of the file that is to be written.
