@@ -1,1 +1,2 @@
+mod LastLine
 mod OneText

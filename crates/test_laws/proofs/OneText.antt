@@ -39,6 +39,7 @@ use Rattle.alog_ring.specs.Kinds.{no_note}
 use Rattle.alog_sink.specs.Files.{Files}
 use Rattle.alog_sink.specs.declared.sink.Sink.{Sink}
 use Rattle.test_laws.specs.Written.{HoldsAt}
+use Rattle.test_laws.proofs.LastLine.{ends_with}
 
 abbrev Given : Type 0
 Given = ℕ × Item
@@ -144,7 +145,8 @@ module _ {S : Type 0} (tells : Bool) (files : S → Files) (failures : S → ℕ
       let same : n + 0 ≡ n = omega arith in
       let it = subst (λ (j : ℕ). IsWritten tells files failures l.first k 0 (dues_on j dues)) same
       (written_at 0 n lanes r.sinks.items r.faults.items dues l k 0 written at to none) in
-      subst (λ (ms : List Message). HoldsMore files l.first k ms) good.0 (it.holds tell refl good.1)
+      let holds = subst (λ (ms : List Message). HoldsMore files l.first k ms) good.0 (it.holds tell refl good.1) in
+      (holds, ends_with tells files failures l.first k m it.history it.leads holds)
 
   -- a pool that made one producer, which logged once
   pub logged_alone : OneWorkerWritesInOrder tells files failures → PostedLogsPutTheirTextIn → (before pool : PoolView S) (q p : ProducerView)

@@ -53,7 +53,8 @@ fn end<R: Threads + Wait + Clock, S: Store + Drop + Send + 'static>(
 
 /// Logs one message in a pool that made no producer yet, and ends the pool: its report, or `None` where memory is wanting or the
 /// message was not posted. In a pool of one worker whose logger waits for room and writes to one sink, where no turn on that sink met a
-/// fault and its store tells its files, the sink holds exactly that message behind what it held.
+/// fault and its store tells its files, the sink holds exactly that message behind what it held; and where it is a memory sink whose level the message passes, its file ends with
+/// that message's line.
 pub fn log_alone<R: Threads + Wait + Clock, S: Store + Drop + Send + 'static>(
     rt: &R,
     alloc: Global,
