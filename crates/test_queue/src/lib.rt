@@ -4,10 +4,9 @@
 //! They are here, and not in those crates, since a crate with tests is proved twice. Read `queue_tests.rt` and `memory_tests.rt` (the stepped queue),
 //! `plain.rt` (the queue as a plain program, over a list of cells) with `words_tests.rt` (it beside the real one, on 1,000
 //! schedules); `ring_tests.rt`, `crossing_tests.rt` and
-//! `step_tests.rt` (the running ring, its values from thread to thread, and what is met beside a push or a pop that is held);
-//! `swap_ring_tests.rt`; `lane_tests.rt`;
-//! `desk_tests.rt` (posts on the stepped queue), `outlet_tests.rt`, `book_tests.rt` (the loss book) and `port_tests.rt` (posts on a
-//! running ring).
+//! `step_tests.rt` (the running ring, its values from thread to thread, and what is met beside a push or a pop that is held); `lane_tests.rt`;
+//! `desk_tests.rt` (posts on the stepped queue), `outlet_tests.rt`, `book_tests.rt` (the loss book), `port_tests.rt` (posts on a
+//! running ring) and `room_wait_tests.rt` (how long a post waits for room); `limits.rt` has the limits by their numbers.
 #![tactic(auto)]
 
 #[cfg(test)]
@@ -18,6 +17,7 @@ mod crossing_tests;
 mod desk_tests;
 #[cfg(test)]
 mod lane_tests;
+mod limits;
 #[cfg(test)]
 mod memory_tests;
 #[cfg(test)]
@@ -31,8 +31,12 @@ mod queue_tests;
 #[cfg(test)]
 mod ring_tests;
 #[cfg(test)]
+mod room_wait_tests;
+#[cfg(test)]
 mod step_tests;
 #[cfg(test)]
 mod swap_ring_tests;
 #[cfg(test)]
 mod words_tests;
+
+pub use limits::limits_of_queues;
