@@ -2,11 +2,14 @@
 //!
 //! They are here, and not in `alog_registry`, since a crate with tests is proved twice. Read `registry_tests.rt` (loggers by name,
 //! their levels, backtraces and work), `log_tests.rt` (logs, flushes and dumps on a lent desk), `refusal_tests.rt`, `port_tests.rt`
-//! (the same on a running ring), `wait_tests.rt` (with waiting) and `thread_tests.rt` (a backtrace under a lock, by two threads).
+//! (the same on a running ring), `wait_tests.rt` (with waiting), `thread_tests.rt` (a backtrace under a lock, by two threads) and
+//! `memory_tests.rt` (what a filtered text costs).
 #![tactic(auto)]
 
 #[cfg(test)]
 mod log_tests;
+#[cfg(test)]
+mod memory_tests;
 #[cfg(test)]
 mod port_tests;
 #[cfg(test)]

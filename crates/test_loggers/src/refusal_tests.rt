@@ -47,7 +47,7 @@ fn refuses<O: ItemOutlet>(
 }
 
 // A logger that keeps nothing does not look at a message below its level.
-fn looks_at_none_below<O: ItemOutlet>(
+pub(crate) fn looks_at_none_below<O: ItemOutlet>(
     rt: &impl Abort,
     bare: &Loggers,
     alloc: Global,

@@ -221,6 +221,7 @@ fn below_on_a_ring<R: Wait + Clock + Abort>(
     bare: &Loggers,
     alloc: Global,
     keeper: &mut LaneKeeper<'_>,
+    long: &str,
 )
     requires known { 0 < length bare.now }
     requires seated { IsSeated keeper.old }
@@ -234,11 +235,16 @@ fn below_on_a_ring<R: Wait + Clock + Abort>(
         book: &book,
         seat: &mut losses,
     };
-    looks_at_none_below(rt, bare, alloc, &mut port, keeper, LONG);
+    looks_at_none_below(rt, bare, alloc, &mut port, keeper, long);
 }
 
 // And with a new backtrace that keeps nothing.
-fn below_on_a_lane<R: Wait + Clock + Abort>(rt: &R, bare: &Loggers, alloc: Global)
+pub(crate) fn below_on_a_lane<R: Wait + Clock + Abort>(
+    rt: &R,
+    bare: &Loggers,
+    alloc: Global,
+    long: &str,
+)
     requires { 0 < length bare.now }
 {
     let Ok(none) = Backtrace::new(alloc, 0) else {
@@ -256,11 +262,11 @@ fn below_on_a_lane<R: Wait + Clock + Abort>(rt: &R, bare: &Loggers, alloc: Globa
         seat: &mut seat,
         scratch: &mut scratch,
     };
-    below_on_a_ring(rt, bare, alloc, &mut keeper);
+    below_on_a_ring(rt, bare, alloc, &mut keeper, long);
 }
 
 #[test]
 fn long_texts_below_the_level(rt: HostRuntime) {
     let bare = one(&rt, rt.alloc(), Policy::Block, 0);
-    below_on_a_lane(&rt, &bare, rt.alloc());
+    below_on_a_lane(&rt, &bare, rt.alloc(), LONG);
 }
