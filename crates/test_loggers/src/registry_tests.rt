@@ -1,7 +1,9 @@
-ghost use Rattle.std.specs.Prelude.{IfOk};
+ghost use Rattle.std.specs.Prelude.{◌≡◌, IfOk};
+ghost use Rattle.alog_lane.specs.Calls.{IsSeatOf};
+ghost use Rattle.alog_registry.specs.Backtrace.{room_for};
 ghost use Rattle.alog_registry.specs.Limit.{IsShort};
 
-use alog_lane::Lane;
+use alog_lane::{Lane, LaneSeat};
 use alog_msg::{Item, Level, Message, MessageError, TEXT_LIMIT_MAX};
 use alog_policy::Policy;
 use alog_registry::{
@@ -359,26 +361,55 @@ fn large_dumps(rt: HostRuntime) -> Result<(), Fail> {
     Ok(())
 }
 
+// The first turn takes the message out of its scratch, and keeps it.
+fn keeps_first(lane: &Lane<Backtrace>, seat: &mut LaneSeat<Backtrace>, message: Message) -> bool
+    requires seat { IsSeatOf lane.now seat.old }
+    requires short { IsShort lane.now.first.limit message }
+    ensures { IsSeatOf lane.now seat.new }
+{
+    let mut scratch = BacktraceScratch {
+        message: Some(message),
+        list: None,
+    };
+    let kept = lane.turn_once(seat, 0, &BacktraceItem::Keep, &mut scratch);
+    matches!(kept, Ok((0, BacktraceReply::Kept))) && scratch.message.is_none()
+}
+
+// The second turn takes the list out of its scratch, and gives it back with the one text that was kept.
+fn dumps_second(
+    lane: &Lane<Backtrace>,
+    seat: &mut LaneSeat<Backtrace>,
+    list: Dumped,
+    text: &str,
+) -> bool
+    requires seat { IsSeatOf lane.now seat.old }
+    requires list { list ≡ room_for lane.now.first.most lane.now.first.limit }
+    ensures { IsSeatOf lane.now seat.new }
+{
+    let mut scratch = BacktraceScratch {
+        message: None,
+        list: Some(list),
+    };
+    match lane.turn_once(seat, 0, &BacktraceItem::Dump, &mut scratch) {
+        Ok((1, BacktraceReply::Dumped(mut list))) => {
+            is_text(list.take_oldest(), text) && scratch.list.is_none()
+        }
+        _ => false,
+    }
+}
+
 #[test]
 fn turns_of_a_backtrace(rt: HostRuntime) -> Result<(), Fail> {
     let alloc = rt.alloc();
-    let (lane, mut seat) = match Lane::new(alloc, Backtrace::new(alloc, 1)?) {
+    let message = debug(alloc, "m1")?;
+    let list = Dumped::new(alloc, 1, TEXT_LIMIT_MAX)?;
+    let backtrace = Backtrace::new(alloc, 1)?;
+    let (lane, mut seat) = match Lane::new(alloc, backtrace) {
         Ok(made) => made,
         Err(_) => panic!(rt; "there is memory"),
     };
-    let mut scratch = BacktraceScratch {
-        message: Some(debug(alloc, "m1")?),
-        list: None,
-    };
-    let kept = lane.turn_once(&mut seat, 0, &BacktraceItem::Keep, &mut scratch);
-    assert!(rt; matches!(kept, Ok((0, BacktraceReply::Kept))));
-    assert!(rt; scratch.message.is_none());
-    scratch.list = Some(Dumped::new(alloc, 1, TEXT_LIMIT_MAX)?);
-    match lane.turn_once(&mut seat, 0, &BacktraceItem::Dump, &mut scratch) {
-        Ok((1, BacktraceReply::Dumped(mut list))) => assert!(rt; is_text(list.take_oldest(), "m1")),
-        _ => panic!(rt; "the lock is free"),
-    }
-    assert!(rt; scratch.list.is_none());
+    assert!(rt; keeps_first(&lane, &mut seat, message));
+    assert!(rt; dumps_second(&lane, &mut seat, list, "m1"));
     match lane.close(seat) {
         Ok(backtrace) => assert!(rt; backtrace.is_empty()),
         Err(_) => panic!(rt; "no seat is out"),

@@ -1,6 +1,7 @@
 //! A backtrace under a lock, with which two threads keep messages, and one meets the lock while the other has it.
 ghost use Rattle.std.specs.Prelude.{◌≡◌, ◌≤◌, ◌↔◌, IfSome, IsTrue};
 ghost use Rattle.alog_lane.specs.Calls.{IsSeatOf};
+ghost use Rattle.alog_registry.specs.Backtrace.{room_for};
 ghost use Rattle.alog_registry.specs.Limit.{IsShort};
 ghost use Rattle.test_loggers.specs.declared.log_tests.TheConstants.{TEXT_LIMIT};
 
@@ -31,6 +32,16 @@ struct Keeping {
 }
 
 impl Keeping {
+    fn new(seat: LaneSeat<Backtrace>, messages: Vec<Message>) -> Keeping
+        ensures { result.seat ≡ seat }
+    {
+        Keeping {
+            seat,
+            messages,
+            kept: 0,
+        }
+    }
+
     /// Keeps each of its messages, where the lock is free.
     fn keep_all(self, lane: &Lane<Backtrace>) -> Keeping
         requires { IsSeatOf lane.now self.seat × (TEXT_LIMIT ≤ lane.now.first.limit) }
@@ -182,50 +193,67 @@ fn are_in_order(list: &mut Dumped) -> bool {
     list.is_empty()
 }
 
+/// What two threads work with after both kept their messages.
+fn kept_by_two(
+    rt: &impl Threads,
+    lane: &Lane<Backtrace>,
+    one: Keeping,
+    two: Keeping,
+) -> (Keeping, Keeping)
+    requires { IsSeatOf lane.now one.seat × IsSeatOf lane.now two.seat × (TEXT_LIMIT ≤ lane.now.first.limit) }
+    ensures { IsSeatOf lane.now result.0.seat × IsSeatOf lane.now result.1.seat }
+{
+    thread::join(
+        rt,
+        || -> Keeping
+            requires { IsSeatOf lane.now one.seat × (TEXT_LIMIT ≤ lane.now.first.limit) }
+            ensures { IsSeatOf lane.entry.now result.seat }
+        { one.keep_all(lane) },
+        || -> Keeping
+            requires { IsSeatOf lane.now two.seat × (TEXT_LIMIT ≤ lane.now.first.limit) }
+            ensures { IsSeatOf lane.entry.now result.seat }
+        { two.keep_all(lane) },
+    )
+}
+
+/// Whether the turn after so many that kept a message dumps the last of them, those of each thread in order.
+fn dumps_in_order(
+    lane: &Lane<Backtrace>,
+    seat: &mut LaneSeat<Backtrace>,
+    list: Dumped,
+    kept: usize,
+) -> bool
+    requires seat { IsSeatOf lane.now seat.old }
+    requires list { list ≡ room_for lane.now.first.most lane.now.first.limit }
+{
+    let mut scratch = BacktraceScratch {
+        message: None,
+        list: Some(list),
+    };
+    match lane.turn_once(seat, 0, &BacktraceItem::Dump, &mut scratch) {
+        Ok((index, BacktraceReply::Dumped(mut list))) => {
+            index == kept as u64 && list.len() == kept.min(ROOM) && are_in_order(&mut list)
+        }
+        Ok((_, BacktraceReply::Kept)) | Err(_) => false,
+    }
+}
+
 #[test]
 fn two_threads_keep(rt: HostRuntime) -> Result<(), Fail> {
     let alloc = rt.alloc();
+    let list = Dumped::new(alloc, ROOM, TEXT_LIMIT_MAX)?;
+    let first = messages_of(alloc, 1)?;
+    let second = messages_of(alloc, 2)?;
     let Ok((lane, mut seat)) = Lane::new(alloc, Backtrace::new(alloc, ROOM)?) else {
         return Err(AllocError.into());
     };
-    let mut scratch = BacktraceScratch {
-        message: None,
-        list: Some(Dumped::new(alloc, ROOM, TEXT_LIMIT_MAX)?),
-    };
-    let (first, second) = (messages_of(alloc, 1)?, messages_of(alloc, 2)?);
-    let one = Keeping {
-        seat: lane.split(&mut seat, 1),
-        messages: first,
-        kept: 0,
-    };
-    let two = Keeping {
-        seat: lane.split(&mut seat, 1),
-        messages: second,
-        kept: 0,
-    };
-    let shared = &lane;
-    let (one, two) = thread::join(
-        &rt,
-        || -> Keeping
-            requires { IsSeatOf shared.now one.seat × (TEXT_LIMIT ≤ shared.now.first.limit) }
-            ensures { IsSeatOf shared.entry.now result.seat }
-        { one.keep_all(shared) },
-        || -> Keeping
-            requires { IsSeatOf shared.now two.seat × (TEXT_LIMIT ≤ shared.now.first.limit) }
-            ensures { IsSeatOf shared.entry.now result.seat }
-        { two.keep_all(shared) },
-    );
+    let one = Keeping::new(lane.split(&mut seat, 1), first);
+    let two = Keeping::new(lane.split(&mut seat, 1), second);
+    let (one, two) = kept_by_two(&rt, &lane, one, two);
     let kept = one.kept.saturating_add(two.kept);
     lane.join(&mut seat, one.seat);
     lane.join(&mut seat, two.seat);
-    match lane.turn_once(&mut seat, 0, &BacktraceItem::Dump, &mut scratch) {
-        Ok((index, BacktraceReply::Dumped(mut list))) => {
-            assert_eq!(rt; index, kept as u64);
-            assert_eq!(rt; list.len(), kept.min(ROOM));
-            assert!(rt; are_in_order(&mut list));
-        }
-        Ok((_, BacktraceReply::Kept)) | Err(_) => panic!(rt; "it is dumped"),
-    }
+    assert!(rt; dumps_in_order(&lane, &mut seat, list, kept));
     Ok(())
 }
 

@@ -130,16 +130,36 @@ fn dumps_nothing<R: Wait + Clock + Abort>(
     are_posted(rt, none, &[]);
 }
 
+// All three, one after another.
+fn log_dump_and_fill<R: Wait + Clock + Abort>(
+    rt: &R,
+    loggers: &Loggers,
+    alloc: Global,
+    port: &mut Port<'_, Item>,
+    keeper: &mut LaneKeeper<'_>,
+) -> Result<(), Fail>
+    requires known { 0 < length loggers.now }
+    requires fit { IsFit port.old }
+    requires seated { IsSeated keeper.old × HasList keeper.old }
+    requires limit { TEXT_LIMIT_MIN ≤ keeper.old.lane.now.first.limit }
+{
+    dumps_nothing(rt, loggers, alloc, port, keeper);
+    log_and_dump(rt, loggers, alloc, port, keeper)?;
+    dump_to_a_full_queue(rt, loggers, alloc, port, keeper)
+}
+
 #[test]
 fn logs_with_waiting(rt: HostRuntime) -> Result<(), Fail> {
     let alloc = rt.alloc();
-    let mut scratch = BacktraceScratch {
-        message: None,
-        list: Some(Dumped::new(alloc, 2, TEXT_LIMIT_MAX)?),
-    };
-    let (lane, mut seat) = match Lane::new(alloc, Backtrace::new(alloc, 2)?) {
+    let list = Dumped::new(alloc, 2, TEXT_LIMIT_MAX)?;
+    let backtrace = Backtrace::new(alloc, 2)?;
+    let (lane, mut seat) = match Lane::new(alloc, backtrace) {
         Ok(made) => made,
         Err(_) => panic!(rt; "there is memory"),
+    };
+    let mut scratch = BacktraceScratch {
+        message: None,
+        list: Some(list),
     };
     let loggers = one(&rt, alloc, Policy::Block, 2);
     let (ring, mut pass) = ring_of(&rt, alloc, 8);
@@ -155,9 +175,7 @@ fn logs_with_waiting(rt: HostRuntime) -> Result<(), Fail> {
         seat: &mut seat,
         scratch: &mut scratch,
     };
-    dumps_nothing(&rt, &loggers, alloc, &mut port, &mut keeper);
-    log_and_dump(&rt, &loggers, alloc, &mut port, &mut keeper)?;
-    dump_to_a_full_queue(&rt, &loggers, alloc, &mut port, &mut keeper)
+    log_dump_and_fill(&rt, &loggers, alloc, &mut port, &mut keeper)
 }
 
 // A log with waiting answers so.

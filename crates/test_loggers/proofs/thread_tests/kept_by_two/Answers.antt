@@ -1,4 +1,4 @@
-use denote.Param.Send.{IsSend, IsSync, sendable, recorded_send, struct_send}
+use denote.Param.Send.{IsSend, IsSync, sendable, recorded_send, struct_send, param_send}
 use denote.Struct.Declared.{shape}
 use Rattle.std.proofs.Crossing.{Vec-send}
 use Rattle.alog_lane.proofs.SharedCrosses.{seat_send, lane_sync}
@@ -12,7 +12,8 @@ use Rattle.alog_registry.specs.contracts.turn.BacktraceReply as Reply
 use Rattle.alog_registry.specs.contracts.turn.BacktraceScratch as Scratch
 use Rattle.alog_registry.specs.contracts.turn.BacktraceTurn.TheImpl as Turn
 use Rattle.test_loggers.specs.contracts.thread_tests.Keeping as Keeping
-use Rattle.test_loggers.proofs.thread_tests.two_threads_keep.Goals as goal
+use Rattle.test_loggers.proofs.thread_tests.kept_by_two.Lts.{arg-0-1}
+use Rattle.test_loggers.proofs.thread_tests.kept_by_two.Goals as goal
 
 its_seat : IsSend (LaneSeat.the_row Backtrace.the_row Item.the_row Reply.the_row Scratch.the_row Turn.ghosts)
 its_seat = seat_send Backtrace.the_row Item.the_row Reply.the_row Scratch.the_row Turn.ghosts backtrace_send
@@ -24,8 +25,9 @@ its_keeping : IsSend Keeping.the_row
 its_keeping = recorded_send (Keeping.the_field).row _ _ (Keeping.the_type).to_one (struct_send (shape Keeping.the_type)
     (its_seat, (search (sendable, Vec-send, message_send) depth 9, (search sendable, tt))))
 
-pub join-one-requires-send-F : goal.join-one-requires-send-F
-join-one-requires-send-F g c κs = search (sendable, its_keeping, its_lane) depth 9
+pub join-requires-send-F : goal.join-requires-send-F
+join-requires-send-F g c κs within =
+    param_send 1 (arg-0-1 g.row.rt g.rt.laws g.rt.Threads-dict κs) (search (sendable, its_keeping, its_lane) depth 12)
 
-pub join-one-requires-send-A : goal.join-one-requires-send-A
-join-one-requires-send-A g c κs = search (sendable, its_keeping) depth 7
+pub join-requires-send-A : goal.join-requires-send-A
+join-requires-send-A g c κs = search (sendable, its_keeping) depth 7
