@@ -205,19 +205,21 @@ def applies():
 
 
 def one_by_one(crate, room, edits):
-    """Tries edits of a crate each alone, as the gate does with those of must-fail, and returns how many are refused."""
+    """Tries edits of a crate each alone, as the gate does with those of must-fail, and returns how many are refused, and how many of them
+    only since a proof file names what the edit took away, which says little of a contract."""
     must_fail = f"{room}/crates/{crate}/must-fail"
     shutil.rmtree(must_fail, ignore_errors=True)
     os.mkdir(must_fail)
     for edit in edits:
         shutil.copy(edit, must_fail)
     ran = subprocess.Popen(["rt", "must-fail", crate], cwd=room, stdout=subprocess.PIPE, stderr=subprocess.STDOUT, text=True, errors="replace")
-    refused = 0
+    refused = by_names = 0
     for line in ran.stdout:
         print(line.replace("must-fail ", "wrong ", 1), end="", flush=True)
         refused += ": refused, as it must be" in line
+        by_names += ": refused, as it must be (only because a proof file names" in line
     ran.wait()
-    return refused
+    return refused, by_names
 
 
 def wrong(names):
@@ -228,7 +230,7 @@ def wrong(names):
         return 2
     if tell(stale(f"crates/{it}" for it in names or crates)):
         return 1
-    refused, others = 0, []
+    refused, by_names, others = 0, 0, []
     with tempfile.TemporaryDirectory(prefix="alog-wrong-") as room:
         shutil.copytree("crates", f"{room}/crates", symlinks=True)
         for it in ("crates.txt", "HANDLES"):
@@ -240,11 +242,13 @@ def wrong(names):
             alone = [it for it in edits if it not in together]
             refused += len(together)
             if alone:
-                count = one_by_one(crate, room, alone)
+                count, named = one_by_one(crate, room, alone)
                 refused += count
+                by_names += named
             if count != len(alone):
                 others.append(crate)
-    print(f"{refused} wrong bodies refused" + (f"; not all of {' '.join(others)}" if others else ""))
+    names = f", {by_names} of them only since a proof file names what the edit took away" if by_names else ""
+    print(f"{refused} wrong bodies refused{names}" + (f"; not all of {' '.join(others)}" if others else ""))
     return 1 if others else 0
 
 

@@ -6,6 +6,10 @@ import subprocess
 
 HEADER = re.compile(r"^\s*(?:pub(?:\([a-z]+\))? )?(?:const )?(?:unsafe )?fn (\w+)")
 VERDICT = re.compile(r"^fn ([^ ]+): (.*)$")
+# a goal of a function that is not proved; what is said of a function's proof files, and what is said where they name what is gone
+UNPROVED = re.compile(r"^note: (src/[^:]+):(\d+):\d+: it is not proved", re.MULTILINE)
+PROOF_ERROR = re.compile(r"^(?:\./)?proofs/(\S+)/[^/:]+\.antt:\d+:\d+: error: (.*)$", re.MULTILINE)
+GONE = re.compile(r"has no field|is not in scope|has no `|was not admitted")
 
 
 def pairs_of(edit):
@@ -104,6 +108,24 @@ def refused_by(printed, crate):
     return [it[1].split("::") for it in verdicts if it and it[1].startswith(f"{crate}::") and is_refusal(it[2])]
 
 
+def unproved_in(crate, room, printed):
+    """Returns the module, owner and name of each function of which a check says that a goal is not proved."""
+    found = set()
+    for path, line in UNPROVED.findall(printed):
+        with open(f"{room}/{path}", encoding="utf-8") as it:
+            front = "\n".join(it.read().split("\n")[: int(line)])
+        it = function_at(front, len(front))
+        if it:
+            found.add((module_of(crate, path), *it))
+    return found
+
+
+def is_by_names(path, function, printed, unproved):
+    """Whether a function is refused only since its proof files name a step that the edit renamed or took away, which says nothing of its clauses."""
+    said = [words for folder, words in PROOF_ERROR.findall(printed) if folder == "/".join(path[1:])]
+    return bool(said) and all(GONE.search(it) for it in said) and function not in unproved
+
+
 def is_at(path, function):
     """Whether a path is that of a function: a method's names its type, and the trait behind it, and not the file."""
     module, (type_name, trait), name = function
@@ -122,28 +144,35 @@ def turn(room, edit):
             it.write(text.replace(old, new))
 
 
-def checked(room, members):
-    """Turns the functions of a round in a crate's folder, and returns what a check of it prints."""
+def checked(crate, room, members):
+    """Turns the functions of a round in a crate's folder, and returns what a check of it prints, and the functions of which a goal is not proved."""
     kept = f"{room}/src-as-it-was"
     shutil.copytree(f"{room}/src", kept)
     try:
         for edit, _ in members:
             turn(room, edit)
         ran = subprocess.run(["rt", "check"], cwd=room, stdout=subprocess.PIPE, stderr=subprocess.STDOUT, text=True, errors="replace")
+        unproved = unproved_in(crate, room, ran.stdout)
     finally:
         shutil.rmtree(f"{room}/src")
         os.rename(kept, f"{room}/src")
-    return ran.stdout
+    return ran.stdout, unproved
 
 
 def refused_in(crate, room, members):
-    """Returns the edits of a round that are refused. Where one of them does not compile there is no verdict on any, and each half is a round."""
-    printed = checked(room, members)
+    """Returns the edits of a round that are refused by a clause. Where one of them does not compile there is no verdict on any, and each half is a round.
+
+    What is refused only by the names of a stored proof is left: it is tried alone, and `rt must-fail` says so."""
+    printed, unproved = checked(crate, room, members)
     if len(members) > 1 and not any(VERDICT.match(line) for line in printed.split("\n")):
         half = len(members) // 2
         return refused_in(crate, room, members[:half]) + refused_in(crate, room, members[half:])
     refused = refused_by(printed, crate)
-    return [edit for edit, functions in members if any(is_at(path, it) for it in functions for path in refused)]
+    return [
+        edit
+        for edit, functions in members
+        if any(is_at(path, it) and not is_by_names(path, it, printed, unproved) for it in functions for path in refused)
+    ]
 
 
 def refused_of(crate, room, edits):
