@@ -1,8 +1,8 @@
 """Proves and builds a program and all that it stands on, as many crates side by side as there are processors: build.py PROGRAM.
 
 `rt run` alone builds one crate after another. Here each crate is proved in a room of its own, which has it and, built before, what it
-stands on. The crates with the longest way before them come first, the first of them with two jobs at least, and one that is alone
-gets all processors. What is built comes back into the crates' folders, so that `rt` there goes on from it. On a terminal a line shows
+stands on. The one with the longest way before it gets a job for each processor; the others fill, with half as many each and behind
+it, what it leaves idle where it reads, links, or has few functions left. What is built comes back into the crates' folders, so that `rt` there goes on from it. On a terminal a line shows
 which crates are being proved and how many are left. The status is 0, or 1 where a crate failed, of which what was said is printed.
 """
 import concurrent.futures as futures
@@ -76,13 +76,13 @@ def bring_back(room, crate):
             os.replace(made, to)
 
 
-def prove(crate, rows, rooms, jobs):
-    """Proves and builds one crate with so many jobs, and returns the status and what was said."""
+def prove(crate, rows, rooms, jobs, behind):
+    """Proves and builds one crate with so many jobs, so far behind others, and returns the status and what was said."""
     room = tempfile.mkdtemp(prefix=f"{crate}-", dir=rooms)
     furnish(room, crate, rows)
     is_program = os.path.exists(f"crates/{crate}/src/main.rt")
-    words = ["rt", "run", "--jobs", str(jobs), "--", "--version"] if is_program else ["rt", "lib", "--jobs", str(jobs)]
-    ran = subprocess.run(words, cwd=f"{room}/crates/{crate}", stdin=subprocess.DEVNULL, stdout=subprocess.PIPE, stderr=subprocess.STDOUT, text=True, errors="replace")
+    words = ["run", "--jobs", str(jobs), "--", "--version"] if is_program else ["lib", "--jobs", str(jobs)]
+    ran = subprocess.run(["nice", "-n", str(behind), "rt", *words], cwd=f"{room}/crates/{crate}", stdin=subprocess.DEVNULL, stdout=subprocess.PIPE, stderr=subprocess.STDOUT, text=True, errors="replace")
     bring_back(room, crate)
     shutil.rmtree(room, ignore_errors=True)
     return ran.returncode, ran.stdout
@@ -109,19 +109,17 @@ def build(program):
     with tempfile.TemporaryDirectory(prefix="rooms-", dir=f"crates/{program}/out") as rooms, futures.ThreadPoolExecutor(lanes) as pool:
         rooms = os.path.abspath(rooms)
         while left or running:
-            ready = [it for it in left if below(it, rows) <= done]
-            for at, crate in enumerate(ready):
-                idle = lanes - sum(jobs for _, jobs in running.values())
-                spare = (memory() if running else 10**12) - FIRST_JOB
-                if idle < 1 or spare < 0:
+            for crate in [it for it in left if below(it, rows) <= done]:
+                spare = memory() - FIRST_JOB
+                if running and (len(running) > lanes // 2 or spare < 0):
                     break
-                wanted = max(idle // (len(ready) - at), 1 if at else 2)
-                jobs = max(1, min(4, wanted, 1 + int(spare // NEXT_JOB)))
+                is_first = all(way[crate] >= way[it] for it in running.values())
+                jobs = min(lanes if is_first else max(1, lanes // 2), 1 + max(0, spare // NEXT_JOB))
                 left.remove(crate)
-                running[pool.submit(prove, crate, rows, rooms, jobs)] = crate, jobs
-            show(len(left) + len(running), [it for it, _ in running.values()])
+                running[pool.submit(prove, crate, rows, rooms, jobs, 0 if is_first else 5)] = crate
+            show(len(left) + len(running), running.values())
             for it in futures.wait(running, return_when=futures.FIRST_COMPLETED).done:
-                crate, _ = running.pop(it)
+                crate = running.pop(it)
                 status, said = it.result()
                 if status:
                     print(said[-8000:], flush=True)
