@@ -23,4 +23,3 @@ mod Posted
 mod Workers
 mod OneWorker
 mod Logged
-pub mod SharedOpening

@@ -26,13 +26,13 @@ use Rattle.alog_pool.proofs.SharedBack.{sum_mod, sum_of_map}
 use Rattle.alog_pool.proofs.Ended.{all_came_out, ending_moved, ending_starts, overrun_or_handled}
 use Rattle.alog_pool.proofs.Halting.{no_work_in_stops}
 use Rattle.alog_pool.proofs.Served.{all_handled, one_ended, put_nothing}
-use Rattle.alog_pool.proofs.Sharing.{each2_length}
+use Rattle.alog_pool.proofs.SharedSharing.{each2_length}
 use Rattle.alog_pool.proofs.Worked.{moved_gots, moved_puts}
 use Rattle.alog_ring.specs.Kinds.{no_note}
 use Rattle.alog_ring.specs.Known.{Known, Member}
 use Rattle.alog_ring.specs.Share.{IsWhole}
 use Rattle.alog_ring.specs.declared.TheConstants.{ALL_PARTS}
-use Rattle.alog_ring.proofs.Lists.{prefix_through}
+use Rattle.alog_ring.proofs.SharedLists.{prefix_through}
 
 abbrev Deed : Type 0
 Deed = Entry Item no_note

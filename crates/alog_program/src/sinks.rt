@@ -1,5 +1,5 @@
 //! The sinks of a configuration by number, and what is said of those at which a load failed.
-use alog_config::{Config, SinkKind};
+use alog_config::{Config, is_member};
 use alog_pool::Report;
 use alog_sink::{Sink, Store};
 use std::io::Write;
@@ -17,14 +17,6 @@ fn sink_name(config: &Config, number: usize) -> &str {
         left = left.saturating_sub(1);
     }
     ""
-}
-
-/// Whether the sink of this name is a member of a fan.
-fn is_member(config: &Config, name: &str) -> bool {
-    config.sinks.iter().any(|sink| match &sink.kind {
-        SinkKind::Fan { of } => of.contains(name),
-        SinkKind::Lines { .. } => false,
-    })
 }
 
 /// Says at which sinks turns failed, and how many, and at which the last flush failed; behind it, why, where the system said so.

@@ -22,7 +22,7 @@ use Rattle.alog_ring.proofs.SharedLists.{not_both}
 use Rattle.alog_ring.proofs.Telling.{grown}
 use Rattle.alog_ring.proofs.Turning.{Turn, within, turn_claim, turn_write, turn_grab, turn_take, staged_turn}
 use Rattle.alog_ring.proofs.Showing.{shown_turn}
-use Rattle.alog_ring.proofs.Stepping.{one_of, sound_now, made, kept}
+use Rattle.alog_ring.proofs.SharedStepping.{one_of, sound_now, made, kept}
 
 module _ {S T N : Type 0} (kind : PlaceKind S T N) (firsts : List S) (n f : ℕ) (s : State S (Sight T N))
     (r : Ruled kind.has (kind.spare firsts) n f s) (a : ℕ) (v : Sight T N) (at : get_elem? s.views a ≡ maybe.some v)

@@ -6,8 +6,8 @@ use mathlib.Core.Option as maybe
 use mathlib.Core.List.{IsPrefix}
 use lib.ListN.{get_elem?}
 use Rattle.alog_core.specs.History.{Entry, own_of}
-use Rattle.alog_core.proofs.Cells.{at_same}
-use Rattle.alog_core.proofs.Histories.{own_of-append}
+use Rattle.alog_core.proofs.SharedCells.{at_same}
+use Rattle.alog_core.proofs.SharedHistories.{own_of-append}
 use Rattle.alog_ring.specs.declared.words.TheConstants.{NEXT, FRONT}
 use Rattle.alog_ring.specs.Known.{Member, Known, members_of, IsAmong}
 use Rattle.alog_ring.specs.Kinds.{PlaceKind}

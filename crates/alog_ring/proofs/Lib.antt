@@ -1,24 +1,24 @@
-pub mod Lists
-pub mod Telling
-pub mod Turning
-pub mod Showing
-pub mod Looking
-pub mod Stepping
-pub mod Acting
-pub mod Steps
-pub mod Limits
-pub mod Places
-pub mod Calling
-pub mod Sparing
-pub mod Starting
-pub mod Splitting
-pub mod Joining
-pub mod Meeting
-pub mod Closing
-pub mod Taking
-pub mod SwapTaking
-pub mod SwapClosing
-pub mod Ending
-pub mod Alone
-pub mod Waiting
-pub mod Crosses
+pub mod SharedLists
+mod Telling
+mod Turning
+mod Showing
+mod Looking
+pub mod SharedStepping
+mod Acting
+mod Steps
+mod Limits
+mod Places
+pub mod SharedCalling
+mod Sparing
+mod Starting
+mod Splitting
+mod Joining
+mod Meeting
+mod Closing
+mod Taking
+mod SwapTaking
+mod SwapClosing
+mod Ending
+pub mod SharedAlone
+mod Waiting
+pub mod SharedCrosses

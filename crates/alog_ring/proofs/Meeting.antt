@@ -28,7 +28,7 @@ use Rattle.alog_ring.proofs.Telling.{members_distinct, grown, told_more}
 use Rattle.alog_ring.proofs.Turning.{IsFree, staged_on}
 use Rattle.alog_ring.proofs.Showing.{shown_on}
 use Rattle.alog_ring.proofs.Looking.{on_mark, has_cell}
-use Rattle.alog_ring.proofs.Stepping.{none_of, sound_now, knows_now, looks}
+use Rattle.alog_ring.proofs.SharedStepping.{none_of, sound_now, knows_now, looks}
 
 no_more : {A : Type 0} (l : List A) → length l ≡ 0 → l ≡ []
 no_more [] e = refl

@@ -12,7 +12,7 @@ use Rattle.alog_ring.specs.Made.{Made, EndsWith, entry, Adds}
 use Rattle.alog_ring.specs.Sight.{Idle, Writing, Reading, Sight}
 use Rattle.alog_ring.specs.Plays.{claimed, wrote, grabbed, took}
 use Rattle.alog_ring.specs.Board.{Empties}
-use Rattle.alog_ring.proofs.Lists.{prefix_through}
+use Rattle.alog_ring.proofs.SharedLists.{prefix_through}
 
 module _ {T N : Type 0} where
   -- what was made, and then made more

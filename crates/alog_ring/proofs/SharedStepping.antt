@@ -12,8 +12,8 @@ use Rattle.alog_core.specs.Queue as queue
 use Rattle.alog_core.specs.Queue.{Queue, Event, Claim, Write, Grab, Take, Full, Front, Empty, PushBusy, PopBusy, Spent, start}
 use Rattle.alog_core.specs.Queue.{Allows, after, IsSound}
 use Rattle.alog_core.specs.History.{Entry, IsLegal, left_by, own_of, last_event, latest, Follows, StandsFor}
-use Rattle.alog_core.proofs.Cells.{at_same, at_other}
-use Rattle.alog_core.proofs.Histories.{left_by-append, latest_own, stands_after, stands_sound}
+use Rattle.alog_core.proofs.SharedCells.{at_same, at_other}
+use Rattle.alog_core.proofs.SharedHistories.{left_by-append, latest_own, stands_after, stands_sound}
 use Rattle.alog_ring.specs.Kinds.{PlaceKind}
 use Rattle.alog_ring.specs.Made.{AreExact, Made, next_seen, front_seen, entry, Adds}
 use Rattle.alog_ring.specs.Sight.{Stage, Idle, Sight}

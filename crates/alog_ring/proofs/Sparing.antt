@@ -6,14 +6,14 @@ use Rattle.alog_core.specs.Queue as queue
 use Rattle.alog_core.specs.Queue.{Queue, Event, Claim, Write, Grab, Take, Full, Front, Empty, PushBusy, PopBusy, Spent, start}
 use Rattle.alog_core.specs.Queue.{Allows, after, cell_of}
 use Rattle.alog_core.specs.History.{Entry, IsLegal, IsLegalFrom, left_by}
-use Rattle.alog_core.proofs.Cells.{cell_of-append_other, cell_of-marked_other, cell_of-without_other}
-use Rattle.alog_core.proofs.Histories.{left_by-append, legal_second, last_is_allowed}
+use Rattle.alog_core.proofs.SharedCells.{cell_of-append_other, cell_of-marked_other, cell_of-without_other}
+use Rattle.alog_core.proofs.SharedHistories.{left_by-append, legal_second, last_is_allowed}
 use Rattle.alog_ring.specs.Kinds.{PlaceKind}
 use Rattle.alog_ring.specs.Known.{Known}
 use Rattle.alog_ring.specs.Made.{entry}
 use Rattle.alog_ring.specs.Board.{SwapsIn}
-use Rattle.alog_ring.proofs.Calling.{adds_after, Filled}
-use Rattle.alog_ring.proofs.Lists.{same_or_not, not_both}
+use Rattle.alog_ring.proofs.SharedCalling.{adds_after, Filled}
+use Rattle.alog_ring.proofs.SharedLists.{same_or_not, not_both}
 
 -- a ticket that was claimed before, and has no cell any more
 abbrev pub IsGone : {T : Type 0} → ℕ → Queue T → Type 0

@@ -14,7 +14,7 @@ use Rattle.alog_ring.specs.Kinds.{PlaceKind, plain_kind, swap_kind}
 use Rattle.alog_ring.specs.Sight.{Sight, first_sight}
 use Rattle.alog_ring.specs.Rule.{seq_of, word_count, Knows, HasEntries, Ruled}
 use Rattle.alog_ring.specs.Board.{AreFirstWords, Masks}
-use Rattle.alog_ring.proofs.Lists.{same_or_not, at_or_past, prefix_same}
+use Rattle.alog_ring.proofs.SharedLists.{same_or_not, at_or_past, prefix_same}
 use Rattle.alog_ring.proofs.Showing.{near_apart}
 
 -- what the mask of a power of two keeps is the remainder

@@ -21,7 +21,7 @@ use Rattle.alog_ring.proofs.SharedLists.{same_or_not}
 use Rattle.alog_ring.proofs.Turning.{IsFree}
 use Rattle.alog_ring.proofs.Looking.{push_look, pop_look}
 use Rattle.alog_ring.proofs.Telling.{grown}
-use Rattle.alog_ring.proofs.Stepping.{sound_now, knows_now, seen_behind, looks, latest_now, last_made, tells, refuses}
+use Rattle.alog_ring.proofs.SharedStepping.{sound_now, knows_now, seen_behind, looks, latest_now, last_made, tells, refuses}
 use Rattle.alog_ring.proofs.Acting.{claim_step, write_step, grab_step, take_step}
 
 -- the stages at which a seat has no cell

@@ -15,7 +15,7 @@ use Rattle.alog_ring.specs.Share.{ticket_and_item}
 use Rattle.alog_ring.specs.Board.{AreInRow}
 use Rattle.alog_ring.specs.Swaps.{ComesAt, AreSpares}
 use Rattle.alog_ring.specs.Taken.{LiesFor, AreOf}
-use Rattle.alog_ring.proofs.Lists.{same_or_not, each_append}
+use Rattle.alog_ring.proofs.SharedLists.{same_or_not, each_append}
 use Rattle.alog_ring.proofs.Showing.{near_apart}
 
 -- Which places were emptied when the tickets below this one were taken out.

@@ -3,7 +3,7 @@ use Rattle.std.proofs.Common.{◌≡◌, ◌≢◌, ℕ, ◌+◌, Option, None, 
 use Rattle.alog_core.specs.Queue as queue
 use Rattle.alog_core.specs.Queue.{Event, Claim, Write, Grab, Take, Full, Front, Empty, PushBusy, PopBusy, Spent}
 use Rattle.alog_core.specs.History.{Entry}
-use Rattle.alog_core.proofs.Cells.{at_same, at_other}
+use Rattle.alog_core.proofs.SharedCells.{at_same, at_other}
 use Rattle.alog_ring.specs.Spares.{or_else, note_at, note_of, IsSpare}
 
 or_none : {N : Type 0} (o : Option N) → or_else o None ≡ o

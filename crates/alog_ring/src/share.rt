@@ -115,6 +115,7 @@ impl<S, T, N, K: Kind<S, T, N>, L: Limit<S>> Board<S, T, N, K, L> {
         requires { pass.old.table ≡ self.now.table.shared.table_id }
         ensures table { pass.new.table ≡ pass.old.table }
         ensures looks { Made pass.old.known pass.new.known [] }
+        ensures most { pass.old.known.parts ≤ ALL_PARTS }
         ensures parts { IsTrue result ↔ (pass.old.known.parts ≡ ALL_PARTS) }
         ensures whole { IsTrue result → IsWhole pass.new.known }
         ensures same { IsTrue result → (pass.new.known ≡ pass.old.known) }

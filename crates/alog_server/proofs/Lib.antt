@@ -6,4 +6,3 @@ mod Refusing
 mod Saying
 mod Telling
 pub mod SharedMaking
-mod Suiting

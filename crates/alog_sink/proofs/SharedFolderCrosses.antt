@@ -3,6 +3,8 @@ use denote.RattleType.{RattleType}
 use denote.Param.Send.{IsSend, sendable, struct_send, recorded_send}
 use denote.Struct.Declared.{shape}
 use Rattle.std.proofs.Crossing.{crosses, Vec-send}
+use Rattle.std.specs.contracts.io.Error as Error
+use Rattle.std.specs.contracts.option.Option as Option
 use Rattle.alog_sink.proofs.SharedCrosses.{sink_send}
 use Rattle.alog_sink.specs.contracts.folder_store.FolderStore as FolderStore
 use Rattle.alog_sink.specs.contracts.folder_store.Folder as Folder

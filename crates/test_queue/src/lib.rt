@@ -4,7 +4,8 @@
 //! They are here, and not in those crates, since a crate with tests is proved twice. Read `queue_tests.rt` and `memory_tests.rt` (the stepped queue),
 //! `plain.rt` (the queue as a plain program, over a list of cells) with `words_tests.rt` (it beside the real one, on 1,000
 //! schedules); `ring_tests.rt`, `crossing_tests.rt` and
-//! `step_tests.rt` (the running ring, its values from thread to thread, and what is met beside a push or a pop that is held); `lane_tests.rt`;
+//! `step_tests.rt` (the running ring, its values from thread to thread, and what is met beside a push or a pop that is held);
+//! `swap_ring_tests.rt`; `lane_tests.rt`;
 //! `desk_tests.rt` (posts on the stepped queue), `outlet_tests.rt`, `book_tests.rt` (the loss book), `port_tests.rt` (posts on a
 //! running ring) and `room_wait_tests.rt` (how long a post waits for room); `limits.rt` has the limits by their numbers.
 #![tactic(auto)]

@@ -1,6 +1,6 @@
 use Rattle.std.proofs.Common.{ℕ, ◌≡◌, ◌+◌, ◌-◌, ◌≤◌, List, subst, sym, ap, ◌∙◌, refl, arith}
 use Rattle.alog_core.specs.declared.TheConstants.{PLACES_MAX}
-use Rattle.alog_core.proofs.Sizes.{size_facts}
+use Rattle.alog_core.proofs.SharedSizes.{size_facts}
 use Rattle.alog_ring.specs.Kinds.{swap_kind}
 use Rattle.alog_ring.specs.Rule.{word_count}
 use Rattle.alog_ring.specs.Board.{AreFirstWords}

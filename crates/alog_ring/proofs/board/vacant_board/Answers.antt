@@ -2,7 +2,7 @@ use Rattle.std.proofs.Common.{ℕ, ◌≡◌, ◌+◌, ◌-◌, ◌≤◌, None,
 use Rattle.std.proofs.lemmas.List.{length-replicate}
 use Rattle.std.specs.Prelude.{IfSome}
 use Rattle.alog_core.specs.declared.TheConstants.{PLACES_MAX}
-use Rattle.alog_core.proofs.Sizes.{size_facts}
+use Rattle.alog_core.proofs.SharedSizes.{size_facts}
 use Rattle.alog_ring.specs.Kinds.{plain_kind}
 use Rattle.alog_ring.specs.Rule.{word_count}
 use Rattle.alog_ring.specs.Board.{AreFirstWords}

@@ -16,7 +16,7 @@ use Rattle.alog_pool.specs.declared.works.Works.{Works}
 use Rattle.alog_pool.proofs.Closed.{all_back, all_closed}
 use Rattle.alog_pool.proofs.Rows.{rows_lanes}
 use Rattle.alog_pool.proofs.Served.{all_served, rows_counted, rows_even, same_numbers}
-use Rattle.alog_pool.proofs.Sharing.{each2_length}
+use Rattle.alog_pool.proofs.SharedSharing.{each2_length}
 use Rattle.alog_pool.proofs.Totalled.{all_came_back, all_parts, members, only_stops, out, took_none, totals}
 use Rattle.alog_pool.proofs.pool.Pool.shutdown.Goals as goal
 use Rattle.alog_core.specs.Accounts.{claims}

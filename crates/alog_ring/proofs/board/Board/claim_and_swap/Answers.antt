@@ -4,7 +4,7 @@ use Rattle.alog_ring.specs.declared.words.TheConstants.{SEQUENCES, APART}
 use Rattle.alog_ring.specs.Rule.{seq_of}
 use Rattle.alog_ring.proofs.Limits.{none_held, one_held, held_first}
 use Rattle.alog_ring.proofs.Places.{claim_may, write_may}
-use Rattle.alog_ring.proofs.Calling.{filled_has, filling_stage, filling_place, fills}
+use Rattle.alog_ring.proofs.SharedCalling.{filled_has, filling_stage, filling_place, fills}
 use Rattle.alog_ring.proofs.Sparing.{swaps_in}
 use Rattle.alog_ring.proofs.board.Board.claim_and_swap.Goals as goal
 

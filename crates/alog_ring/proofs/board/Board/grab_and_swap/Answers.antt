@@ -4,7 +4,7 @@ use Rattle.alog_ring.specs.declared.words.TheConstants.{SEQUENCES, APART}
 use Rattle.alog_ring.specs.Rule.{seq_of}
 use Rattle.alog_ring.proofs.Limits.{none_held, one_held, held_first}
 use Rattle.alog_ring.proofs.Places.{grab_may, take_may}
-use Rattle.alog_ring.proofs.Calling.{emptying_stage, emptying_place, empties}
+use Rattle.alog_ring.proofs.SharedCalling.{emptying_stage, emptying_place, empties}
 use Rattle.alog_ring.proofs.board.Board.grab_and_swap.Goals as goal
 
 pub compare_exchange_with-found-requires : goal.compare_exchange_with-found-requires

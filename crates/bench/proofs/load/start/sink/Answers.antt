@@ -1,6 +1,6 @@
 use Rattle.std.proofs.Common.{subst}
 use Rattle.alog_pattern.specs.declared.patterns.TheConstants.{LINE_MAX}
-use Rattle.alog_pool.proofs.SharedOpening.{opened_suits}
+use Rattle.alog_sink.specs.Sinks.{Suits}
 use Rattle.bench.proofs.load.start.sink.Goals as goal
 
 pub returns-in-Ok : goal.returns-in-Ok
