@@ -3,7 +3,7 @@
 gate.py run FILE WORD..   runs a command, and writes to FILE, each minute and at its end, what it and each prover below it have used
 gate.py times FILE        prints the processor seconds of the last gate by crate and phase, beside the budget
 gate.py applies           says which wrong bodies no longer apply, which crates have more edits than the gate tries or a file
-                          that is not laid out, and which files of examples/ the tests of alog do not have
+                          that is not laid out, and which files of examples/ and rows/ the tests of alog do not have
 gate.py wrong [NAME..]    tries the wrong bodies of these crates, or of all, on a copy of the repository: many at once, each in a
                           function of its own (rounds.py), and alone what was not refused so
 gate.py planted           tries the bodies that no contract refuses, crates/NAME/planted, on a copy: a test of that crate must fail
@@ -21,12 +21,15 @@ import time
 
 sys.dont_write_bytecode = True
 import rounds
+from rows import bytes_of, is_repeated, is_spelt, literals, of_bytes
 
 # processor seconds: of all of alog, of a crate's proof with its tests, of its edits
 BUDGET, SHARE, EDITS_SHARE = 12_500, 600, 400
 MOST_EDITS = 12
 PHASES = ("proof", "tests", "edits")
 TICKS = os.sysconf("SC_CLK_TCK")
+# of rows/, what no test has: it is held by `check memory` and `check io` alone, which run the program on it
+UNTESTED = ["rows/load_by_eight_workers.args", "rows/load_by_eight_workers.txt", "rows/refused_no_utf8.err", "rows/refused_sink_of_a_fan.err"]
 
 
 def stat_of(pid):
@@ -162,11 +165,38 @@ def stale(crates):
 
 
 def untested():
-    """Returns what is said of each file of examples/ that the tests of alog do not have byte for byte."""
-    with open("crates/test_runs/src/examples.rt", encoding="utf-8") as it:
-        tests = it.read()
-    files = sorted(glob.glob("examples/*"))
-    return [f"{it} is not in the tests of alog" for it in files if f'r#"{text_of(it)}"#;' not in tests]
+    """Returns what is said of each file of examples/ that the tests of alog do not have byte for byte, and of each of rows/ whose text
+    no test spells."""
+    tests = text_of("crates/test_runs/src/examples.rt")
+    faults = [it for it in sorted(glob.glob("examples/*")) if f'r#"{text_of(it)}"#;' not in tests]
+    texts = literals(sorted(glob.glob("crates/test_*/src/*.rt")))
+    faults += [it for it in sorted(glob.glob("rows/*")) if it not in UNTESTED and not is_tested(it, texts, set(texts))]
+    return [f"{it} is not in the tests of alog" for it in faults]
+
+
+def is_tested(file, texts, parts):
+    """Whether the text of a file of a row is spelt by the tests, which have these texts in this order: of standard error the words behind
+    the number."""
+    text = of_bytes(bytes_of(file))
+    if file.endswith(".args"):
+        return are_words(["alog", *text.split("\n")[:-1]], texts, parts)
+    if file.endswith(".err"):
+        said = text.split("\n", 1)[1]
+        words = said.removesuffix("\n").split("\n")[-1].removeprefix("alog: ")
+        return are_spelt([said, words], parts)
+    return are_spelt([text, text.removesuffix("\n")], parts)
+
+
+def are_words(words, texts, parts):
+    """Whether a test has these words in a row, or those of a line each by itself: an option by its value."""
+    if any(texts[at : at + len(words)] == words for at in range(len(texts))):
+        return True
+    return words[1] == "format" and all(are_spelt([it, it.partition("=")[2]] if it.startswith("--") else [it], parts) for it in words[2:])
+
+
+def are_spelt(texts, parts):
+    """Whether one of these texts is spelt by these parts."""
+    return any(is_spelt(it, parts) or is_repeated(it, parts) for it in texts)
 
 
 def badly_laid_out(crates):

@@ -2,7 +2,8 @@
 
 Each cut of a small configuration, and each of its bytes replaced by zero and by sixteen others; and 100,000 scripts and documents of a
 fixed generator. Whatever comes in, the program ends within ten seconds by an answer or by a refusal that docs/FORMATS.md lists: by a
-status of its table, with lines of its forms, each file as long as is told. It prints how many of each there were.
+status of its table, with lines of its forms, each file as long as is told. It prints how many of each there were. At last come loads to
+hostile folders (folders.py).
 """
 import collections
 import concurrent.futures as futures
@@ -12,6 +13,9 @@ import re
 import subprocess
 import sys
 import tempfile
+
+sys.dont_write_bytecode = True
+from folders import folders
 
 PROGRAM = os.path.abspath("crates/alog/out/alog")
 SMALL = b'queue = 8\n[[sink]]\nname = "out"\nkind = "memory"\npattern = "%n %L %v"\n[[logger]]\nname = "net"\nsinks = ["out"]\n'
@@ -177,6 +181,7 @@ def inputs(chance, room):
         sweep("scripts", lambda it: of_script(it, None), scripts(chance, SCRIPTS, plain_call, rings)),
         sweep("scripts with a configuration", lambda it: of_script(it, config), scripts(chance, CONFIGURED, configured_call, lambda it: [])),
         sweep("documents", check, documents(chance, DOCUMENTS)),
+        folders(PROGRAM, room),
     ]
 
 

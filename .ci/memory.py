@@ -1,24 +1,35 @@
-"""Makes each allocation of the proved and built program fail in turn, on the scripts and configurations of examples/; each
-allocation and each start of a thread of a small load; and those of the tests that bear any one of them failing.
+"""Makes each allocation of the proved and built program fail in turn, on the rows of rows/ and the scripts and configurations of
+examples/; each allocation and each start of a thread of loads; and those of the tests that bear any one of them failing.
 
-Where one fails, the program must end with status 4, its one line on standard error, and a front of what it prints otherwise; or
-with status 0 and what it prints otherwise, in which a line of a sink may be a fault. A load prints nothing with status 4, and with
-status 3 it prints all that it prints otherwise, and its one line on standard error: then a sink had no memory for a line. A test
-must pass. What has threads is run so many times for each failure, since threads go on in another order each time. Needs a C
-compiler, `cc`, beside `rt`.
+Where one fails, the program must end with status 4, its one line on standard error, and a front of what it prints otherwise; or as
+it ends otherwise, but that from some line on each turn of one sink is a fault, or that a refusal is told by its number and general words
+alone. A load prints nothing with status 4, and with status 3 it prints all that it prints otherwise, and its one line on standard error:
+then a sink had no memory for a line. A test must pass. What has threads is run so many times for each failure, since threads go on in
+another order each time. It says how many allocations of which row it tried, and which rows it did not. Needs a C compiler, `cc`,
+beside `rt`.
 """
 import collections
 import glob
 import os
+import re
 import subprocess
 import sys
 import tempfile
 
+sys.dont_write_bytecode = True
+from rows import Row, rows
+
 PROGRAM = "crates/alog/out/alog"
 REFUSED, STORE_FAILED = b"alog: refused 1\nalog: out of memory\n", b"alog: refused 22\nalog: a store failed\n"
+# a turn of a sink, and how its line begins where it is a fault
+TURN, FAULT = re.compile(rb"^(\d+) (?:line|below|flush) "), rb"\1 fault "
+# what is said of a refusal where there is no memory for the words of its own
+GENERAL = [b"alog: %s\n" % it for it in (
+    b"no command of this form may stand there", b"the document is not TOML", b"a key that is not known here",
+    b"a value that its key can not have", b"a key is missing", b"the name is taken", b"no sink has this name",
+)]
 # a small load, and what it prints
-LOAD = ["load", "examples/one_file.toml", "--producers", "2", "--messages", "3"]
-TOTALS = b"asked 6\nposted 6\ndiscarded 0\noverrun 0\nhandled 6\n"
+LOAD = Row("load", ["load", "examples/one_file.toml", "--producers", "2", "--messages", "3"], b"", b"asked 6\nposted 6\ndiscarded 0\noverrun 0\nhandled 6\n", 0, b"")
 # the tests that bear it, by their crates, and how many times what has threads is run for one failure
 TESTS = [("test_pool", "memory_tests::want_of_memory")]
 TIMES = 10
@@ -27,83 +38,113 @@ KINDS = {"FAIL_ALLOC": "allocations", "FAIL_THREAD": "starts of threads"}
 
 
 def cases():
-    """Returns the words, the standard input and the whole output of each run."""
-    for script in sorted(glob.glob("examples/*.alog")):
-        base = script.removesuffix(".alog")
-        config = ["--config", f"{base}.toml"] if os.path.exists(f"{base}.toml") else []
-        yield ["replay", *config], bytes_of(script), bytes_of(f"{base}.txt")
+    """Returns the rows of both folders, and a check of each configuration of examples/, by the names that are printed."""
+    for folder in ("rows", "examples"):
+        yield from ((f"{folder}/{it.name}", it) for it in rows(folder))
     for config in sorted(glob.glob("examples/*.toml")):
-        yield ["check", config], b"", b"ok\n"
-
-
-def bytes_of(file):
-    with open(file, "rb") as it:
-        return it.read()
+        yield config, Row(config, ["check", config], b"", b"ok\n", 0, b"")
+    yield "a small load", LOAD
 
 
 def run(room, words, given, kind, number):
     """Runs a program so that the call of this kind and number fails; returns what it did, and how many calls of the kind it made."""
     env = {**os.environ, "LD_PRELOAD": f"{room}/fail_alloc.so", kind: str(number), "ALLOCS": f"{room}/calls"}
     ran = subprocess.run(words, input=given, capture_output=True, env=env, timeout=60)
-    made, started = map(int, bytes_of(f"{room}/calls").split())
+    with open(f"{room}/calls", "rb") as it:
+        made, started = map(int, it.read().split())
     return ran, made if kind == "FAIL_ALLOC" else started
 
 
-def outcome(ran, whole):
+def outcome(ran, row):
     """Returns in words what came of a run, or None where it is none of what may come."""
-    if ran.returncode == 4 and whole.startswith(ran.stdout) and ran.stderr == REFUSED:
+    if (ran.returncode, ran.stderr) == (4, REFUSED) and row.printed.startswith(ran.stdout):
         return "no memory"
-    if ran.returncode == 0 and not ran.stderr:
-        if ran.stdout == whole:
-            return "nothing"
-        return "a fault" if b" fault " in ran.stdout else None
-    return None
+    if ran.returncode != row.status:
+        return None
+    if ran.stderr == row.errors:
+        return "nothing" if ran.stdout == row.printed else "a fault" if is_faulted(ran.stdout, row.printed) else None
+    return "general words" if ran.stdout == row.printed and is_general(ran.stderr, row.errors) else None
 
 
-def load_outcome(ran, whole):
+def is_faulted(found, whole):
+    """Whether these are the lines of a script but for turns that are faults, one at least; of the files behind them nothing is asked."""
+    found, whole = (it.partition(b"\n== ")[0].rstrip(b"\n").split(b"\n") for it in (found, whole))
+    are_told = all(it in (line, TURN.sub(FAULT, line)) for it, line in zip(found, whole))
+    return are_told and len(found) == len(whole) and found != whole
+
+
+def is_general(found, wanted):
+    """Whether a refusal is told as wanted, but by general words."""
+    head, _, words = found.partition(b"\nalog: ")
+    return wanted.startswith(head + b"\n") and b"alog: " + words in GENERAL
+
+
+def load_outcome(ran, row):
     """Returns in words what came of a load, or None where it is none of what may come."""
-    if ran.returncode == 3 and ran.stdout == whole and ran.stderr.startswith(STORE_FAILED):
+    if ran.returncode == 3 and ran.stdout == row.printed and ran.stderr.startswith(STORE_FAILED):
         return "a fault"
     found = ran.returncode, ran.stdout, ran.stderr
-    return {(4, b"", REFUSED): "no memory", (0, whole, b""): "nothing"}.get(found)
+    return {(4, b"", REFUSED): "no memory", (0, row.printed, b""): "nothing"}.get(found)
 
 
-def test_outcome(ran, whole):
+def test_outcome(ran, row):
     """Returns in words that a test passed, or None."""
-    return "passed" if ran.returncode == 0 and whole in ran.stdout else None
+    return "nothing" if ran.returncode == 0 and row.printed in ran.stdout else None
 
 
-def sweep(room, name, words, given, whole, judge, kind="FAIL_ALLOC", times=1):
-    """Makes each call of this kind that a program makes fail in turn, tells what came of it, and returns whether all is well."""
+def sweep(room, name, row, judge, kind="FAIL_ALLOC", times=1):
+    """Makes each call of this kind that a program makes fail in turn, and tells what came of it. Returns how many calls that were, and
+    whether all is well: None where the program says otherwise though nothing fails, and so nothing was tried."""
     found, bad, number = collections.Counter(), [], 1
+    if judge(run(room, row.words, row.given, kind, 0)[0], row) != "nothing":
+        return 0, None
     while True:
-        runs = [run(room, words, given, kind, number) for _ in range(times)]
+        runs = [run(room, row.words, row.given, kind, number) for _ in range(times)]
         if number > max(made for _, made in runs):
             break
-        came = [judge(ran, whole) for ran, _ in runs]
+        came = [judge(ran, row) for ran, _ in runs]
         found.update(came)
         bad += [number] * (None in came)
         number += 1
     told = ", ".join(f"{count} {came}" for came, count in sorted(found.items(), key=str) if came)
     each = f", {times} times each" if times > 1 else ""
     print(f"memory: {name}: {number - 1} {KINDS[kind]}{each}: {told}" + (f"; wrong at {bad}" if bad else ""), flush=True)
-    return not bad
+    return number - 1, not bad
+
+
+def sweep_cases(room):
+    """Sweeps each case; a load with threads for both kinds of calls. Returns by name what came of each sweep."""
+    found = {}
+    for name, row in cases():
+        has_threads = row.words[0] == "load" and row.status == 0
+        it = row._replace(words=[f"./{PROGRAM}", *row.words])
+        for kind in KINDS if has_threads else ["FAIL_ALLOC"]:
+            judge, times = (load_outcome, TIMES) if has_threads else (outcome, 1)
+            found[name, kind] = sweep(room, name, it, judge, kind, times)
+    return found
+
+
+def sweep_tests(room):
+    """Sweeps each test that bears a failure. Returns by name what came of each sweep."""
+    found = {}
+    for crate, test in TESTS:
+        subprocess.run(["rt", "test"], cwd=f"crates/{crate}", stdout=subprocess.DEVNULL, check=True)
+        row = Row(test, [f"crates/{crate}/out/{crate}_tests", test], b"", b"test result: ok", 0, b"")
+        for kind in KINDS:
+            found[f"{crate} {test}", kind] = sweep(room, f"{crate} {test}", row, test_outcome, kind, TIMES)
+    return found
 
 
 def main():
     subprocess.run(["./alog", "check", "examples/one_file.toml"], stdout=subprocess.DEVNULL, check=True)
     with tempfile.TemporaryDirectory(prefix="alog-memory-") as room:
         subprocess.run(["cc", "-shared", "-fPIC", "-O1", "-o", f"{room}/fail_alloc.so", ".ci/fail_alloc.c", "-ldl"], check=True)
-        program = f"./{PROGRAM}"
-        well = [sweep(room, f"alog {' '.join(words)}", [program, *words], given, whole, outcome) for words, given, whole in cases()]
-        for kind in KINDS:
-            well.append(sweep(room, f"alog {' '.join(LOAD)}", [program, *LOAD], b"", TOTALS, load_outcome, kind, TIMES))
-        for crate, test in TESTS:
-            subprocess.run(["rt", "test"], cwd=f"crates/{crate}", stdout=subprocess.DEVNULL, check=True)
-            words = [f"crates/{crate}/out/{crate}_tests", test]
-            for kind in KINDS:
-                well.append(sweep(room, f"{crate} {test}", words, b"", b"test result: ok", test_outcome, kind, TIMES))
-    return 0 if all(well) else 1
+        found = {**sweep_cases(room), **sweep_tests(room)}
+    untried = sorted({name for (name, _), (_, well) in found.items() if well is None})
+    tried = {name for name, _ in found} - set(untried)
+    counts = ", ".join(f"{sum(count for (_, it), (count, _) in found.items() if it == kind)} {KINDS[kind]}" for kind in KINDS)
+    print(f"memory: {len(tried)} rows, {counts}; not tried, since they say otherwise where nothing fails: {', '.join(untried) or 'none'}")
+    return 0 if all(well for _, well in found.values()) else 1
 
 
 if __name__ == "__main__":
