@@ -2,14 +2,15 @@
 
 Each cut of a small configuration, and each of its bytes replaced by zero and by sixteen others; and 100,000 scripts and documents of a
 fixed generator. Whatever comes in, the program ends within ten seconds by an answer or by a refusal that docs/FORMATS.md lists: by a
-status of its table, with lines of its forms, each file as long as is told. It prints how many of each there were. At last come loads to
-hostile folders (folders.py).
+status of its table, with lines of its forms, each file as long as is told. It prints how many of each there were. At last come
+streams that cannot be read or written, or have no end, and loads to hostile folders (folders.py).
 """
 import collections
 import concurrent.futures as futures
 import os
 import random
 import re
+import resource
 import subprocess
 import sys
 import tempfile
@@ -31,6 +32,23 @@ LINE = re.compile(rb"(?:%s|%s|cells(?: \d+:(?:claimed|written|emptying))*|overru
 FILE = re.compile(rb"== %s (\d+)\n" % TEXT)
 REFUSED_CONFIG = re.compile(rb"alog: refused (28|(?:24|29|30|31|32)(?= in ))(?: in (?:top|sink \d+|logger \d+))?\nalog: [^\n]+\n")
 REFUSED_LINE = re.compile(rb"alog: refused 33 at line (\d+)\nalog: [^\n]+\n")
+
+
+# what is read and written that no one should: the words, standard input, standard output, the status and how standard error begins
+STREAMS = [
+    (["replay"], "/", "/dev/null", 3, b"alog: refused 34\n"),
+    (["replay"], "rows/text.alog", "/dev/full", 3, b"alog: refused 35\n"),
+    (["replay", "--config", "rows/hello.toml"], "rows/hello.alog", "/dev/full", 3, b"alog: refused 35\n"),
+    (["replay"], "/dev/zero", "/dev/null", 2, b"alog: refused 33 at line 1\n"),
+    (["format", "%v", "x"], "/dev/null", "/dev/full", 3, b"alog: refused 35\n"),
+    (["load", "rows/load.toml"], "/dev/null", "/dev/full", 3, b"alog: refused 35\n"),
+    (["check", "rows/load.toml"], "/dev/null", "/dev/full", 3, b"alog: refused 35\n"),
+    (["--help"], "/dev/null", "/dev/full", 3, b"alog: refused 35\n"),
+    (["check", "/"], "/dev/null", "/dev/null", 3, b"alog: / cannot be read: "),
+    (["check", "/dev/zero"], "/dev/null", "/dev/null", 4, b"alog: refused 1\n"),
+]
+# with so much memory, in bytes
+MEMORY = 1 << 30
 
 
 def ran(words, given=b"", cwd=None):
@@ -151,6 +169,19 @@ def documents(chance, count):
         yield spoilt(chance, b"\n".join(lines), 0.2)
 
 
+def streams():
+    """Runs the program on each of the streams, tells of which it ended otherwise, and returns whether all is well."""
+    bad, limit = [], lambda: resource.setrlimit(resource.RLIMIT_AS, (MEMORY, MEMORY))
+    for words, given, taken, status, errors in STREAMS:
+        source, target = os.open(given, os.O_RDONLY), os.open(taken, os.O_WRONLY)
+        it = subprocess.run([PROGRAM, *words], stdin=source, stdout=target, stderr=subprocess.PIPE, preexec_fn=limit, timeout=60)
+        os.close(source)
+        os.close(target)
+        bad += [] if it.returncode == status and it.stderr.startswith(errors) else [" ".join([*words, "<", given, ">", taken])]
+    print(f"hostile: streams: {len(STREAMS)}" + (f"; wrong: {', '.join(bad)}" if bad else ", each as listed"), flush=True)
+    return not bad
+
+
 def sweep(name, judge, cases):
     """Judges each case, on all processors, tells what came of them, and returns whether all is well."""
     found, bad = collections.Counter(), []
@@ -181,6 +212,7 @@ def inputs(chance, room):
         sweep("scripts", lambda it: of_script(it, None), scripts(chance, SCRIPTS, plain_call, rings)),
         sweep("scripts with a configuration", lambda it: of_script(it, config), scripts(chance, CONFIGURED, configured_call, lambda it: [])),
         sweep("documents", check, documents(chance, DOCUMENTS)),
+        streams(),
         folders(PROGRAM, room),
     ]
 
