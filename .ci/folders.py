@@ -18,6 +18,8 @@ FEW_FILES = TABLES + b'kind = "rotating"\nfile = "a.log"\nmax_size = 3000\nmax_f
 MANY_FILES = TABLES + b'kind = "rotating"\nfile = "a.log"\nmax_size = 3000\nmax_files = 200\n'
 LONGEST = TABLES + b'kind = "rotating"\nmax_size = 30\nmax_files = 9\nfile = "'
 DAY = "day_1970-01-01.log"
+# so many messages that a load of them goes on for a while
+MANY = 1_000_000
 NOBODY = ["setpriv", "--reuid=65534", "--regid=65534", "--clear-groups"]
 
 FAULT = re.compile(rb"alog: refused 22\nalog: a store failed\n((?:alog: sink 0, out: (?:\d+ turns failed|its lines are not all in its file): [^\n]+\n){1,2})")
@@ -151,25 +153,25 @@ def a_full_device(place):
 
 def a_folder_that_is_removed(place):
     """The folder goes while lines are written to a file of it."""
-    ran = subprocess.Popen(place.words(1_000_000), stdout=subprocess.PIPE, stderr=subprocess.PIPE)
+    ran = subprocess.Popen(place.words(MANY), stdout=subprocess.PIPE, stderr=subprocess.PIPE)
     while not os.path.exists(place.path("out")) and ran.poll() is None:
         time.sleep(0.001)
     shutil.rmtree(place.folder)
     was_running = ran.poll() is None
     printed, errors = ran.communicate(timeout=600)
-    return was_running and is_whole(Loaded(ran.returncode, printed, errors), 1_000_000) and not os.path.exists(place.folder)
+    return was_running and is_whole(Loaded(ran.returncode, printed, errors), MANY) and not os.path.exists(place.folder)
 
 
 def a_folder_that_is_removed_between_files(place):
-    """The folder goes while files of it are renamed and made."""
-    ran = subprocess.Popen(place.words(1_000_000), stdout=subprocess.PIPE, stderr=subprocess.PIPE)
+    """The folder goes while files of it are renamed and made: one that is open has the rest of the lines, or one cannot be made."""
+    ran = subprocess.Popen(place.words(MANY), stdout=subprocess.PIPE, stderr=subprocess.PIPE)
     while not os.path.exists(place.path("a.1.log")) and ran.poll() is None:
         time.sleep(0.001)
     os.rename(place.folder, f"{place.folder}.gone")
     was_running = ran.poll() is None
     printed, errors = ran.communicate(timeout=600)
     it = Loaded(ran.returncode, printed, errors)
-    return was_running and (is_whole(it, 1_000_000) or is_fault(it, b"No such file or directory (os error 2)", 1_000_000)) and not os.path.exists(place.folder)
+    return was_running and (is_whole(it, MANY) or is_fault(it, b"No such file or directory (os error 2)", MANY)) and not os.path.exists(place.folder)
 
 
 def four_thousand_files(place):
