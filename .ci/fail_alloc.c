@@ -9,11 +9,13 @@
 #include <stdlib.h>
 
 static atomic_long allocations, starts;
+/* what is told at the end takes memory itself, which is there */
+static atomic_int is_told;
 
 static int fails(atomic_long *count, const char *name)
 {
     const char *number = getenv(name);
-    return atomic_fetch_add(count, 1) + 1 == (number ? atol(number) : 0);
+    return !is_told && atomic_fetch_add(count, 1) + 1 == (number ? atol(number) : 0);
 }
 
 void *malloc(size_t size)
@@ -60,6 +62,7 @@ static void tell(void)
 {
     long made = allocations, started = starts;
     const char *name = getenv("ALLOCS");
+    is_told = 1;
     FILE *file = name ? fopen(name, "w") : NULL;
     if (file) {
         fprintf(file, "%ld %ld\n", made, started);

@@ -9,6 +9,7 @@ another order each time. It says how many allocations of which row it tried, and
 beside `rt`.
 """
 import collections
+import concurrent.futures as futures
 import glob
 import os
 import re
@@ -17,7 +18,7 @@ import sys
 import tempfile
 
 sys.dont_write_bytecode = True
-from rows import Row, rows
+from rows import Row, bytes_of, rows
 
 PROGRAM = "crates/alog/out/alog"
 REFUSED, STORE_FAILED = b"alog: refused 1\nalog: out of memory\n", b"alog: refused 22\nalog: a store failed\n"
@@ -49,10 +50,11 @@ def cases():
 
 def run(room, words, given, kind, number):
     """Runs a program so that the call of this kind and number fails; returns what it did, and how many calls of the kind it made."""
-    env = {**os.environ, "LD_PRELOAD": f"{room}/fail_alloc.so", kind: str(number), "ALLOCS": f"{room}/calls"}
+    calls = tempfile.mktemp(dir=room)
+    env = {**os.environ, "LD_PRELOAD": f"{room}/fail_alloc.so", kind: str(number), "ALLOCS": calls}
     ran = subprocess.run(words, input=given, capture_output=True, env=env, timeout=60)
-    with open(f"{room}/calls", "rb") as it:
-        made, started = map(int, it.read().split())
+    made, started = map(int, bytes_of(calls).split())
+    os.remove(calls)
     return ran, made if kind == "FAIL_ALLOC" else started
 
 
@@ -114,15 +116,16 @@ def sweep(room, name, row, judge, kind="FAIL_ALLOC", times=1):
 
 
 def sweep_cases(room):
-    """Sweeps each case; a load with threads for both kinds of calls. Returns by name what came of each sweep."""
-    found = {}
-    for name, row in cases():
-        has_threads = row.words[0] == "load" and row.status == 0
-        it = row._replace(words=[f"./{PROGRAM}", *row.words])
-        for kind in KINDS if has_threads else ["FAIL_ALLOC"]:
-            judge, times = (load_outcome, TIMES) if has_threads else (outcome, 1)
-            found[name, kind] = sweep(room, name, it, judge, kind, times)
-    return found
+    """Sweeps each case, on all processors; a load with threads for both kinds of calls. Returns by name what came of each sweep."""
+    started = {}
+    with futures.ThreadPoolExecutor(os.cpu_count()) as pool:
+        for name, row in cases():
+            has_threads = row.words[0] == "load" and row.status == 0
+            it = row._replace(words=[f"./{PROGRAM}", *row.words])
+            for kind in KINDS if has_threads else ["FAIL_ALLOC"]:
+                judge, times = (load_outcome, TIMES) if has_threads else (outcome, 1)
+                started[name, kind] = pool.submit(sweep, room, name, it, judge, kind, times)
+    return {key: it.result() for key, it in started.items()}
 
 
 def sweep_tests(room):
