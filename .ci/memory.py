@@ -31,9 +31,15 @@ GENERAL = [b"alog: %s\n" % it for it in (
 )]
 # a small load, and what it prints
 LOAD = Row("load", ["load", "examples/one_file.toml", "--producers", "2", "--messages", "3"], b"", b"asked 6\nposted 6\ndiscarded 0\noverrun 0\nhandled 6\n", 0, b"")
-# the tests that bear it, by their crates, and how many times what has threads is run for one failure
-TESTS = [("test_pool", "memory_tests::want_of_memory")]
-TIMES = 10
+# the tests that bear it, by their crates, of which the first is built where it is not, and the others are tried where they are; how many
+# times what has threads is run for one failure, and how many runs it has at most, if that is not fewer than once for each
+TESTS = {
+    "test_pool": ["memory_tests::want_of_memory"], "test_queue": ["memory_tests::want_of_memory"],
+    "test_config": ["memory_tests::want_of_memory", "memory_tests::want_of_memory_for_a_refusal"],
+    "test_scripts": ["config_fault_tests::want_of_memory_for_a_script"],
+}
+BUILT = "test_pool"
+TIMES, MOST_RUNS = 10, 6_000
 # what fails, and what it is called
 KINDS = {"FAIL_ALLOC": "allocations", "FAIL_THREAD": "starts of threads"}
 
@@ -49,12 +55,16 @@ def cases():
 
 
 def run(room, words, given, kind, number):
-    """Runs a program so that the call of this kind and number fails; returns what it did, and how many calls of the kind it made."""
+    """Runs a program so that the call of this kind and number fails; returns what it did, and how many calls of the kind it made: that
+    many at least, where it was ended before it could tell."""
     calls = tempfile.mktemp(dir=room)
     env = {**os.environ, "LD_PRELOAD": f"{room}/fail_alloc.so", kind: str(number), "ALLOCS": calls}
     ran = subprocess.run(words, input=given, capture_output=True, env=env, timeout=60)
-    made, started = map(int, bytes_of(calls).split())
+    told = bytes_of(calls)
+    if told is None:
+        return ran, number
     os.remove(calls)
+    made, started = map(int, told.split())
     return ran, made if kind == "FAIL_ALLOC" else started
 
 
@@ -99,11 +109,13 @@ def sweep(room, name, row, judge, kind="FAIL_ALLOC", times=1):
     """Makes each call of this kind that a program makes fail in turn, and tells what came of it. Returns how many calls that were, and
     whether all is well: None where the program says otherwise though nothing fails, and so nothing was tried."""
     found, bad, number = collections.Counter(), [], 1
-    if judge(run(room, row.words, row.given, kind, 0)[0], row) != "nothing":
+    ran, made = run(room, row.words, row.given, kind, 0)
+    if judge(ran, row) != "nothing":
         return 0, None
+    times = min(times, max(1, MOST_RUNS // max(1, made)))
     while True:
         runs = [run(room, row.words, row.given, kind, number) for _ in range(times)]
-        if number > max(made for _, made in runs):
+        if number > max(made for _, made in runs) or number > 2 * made:
             break
         came = [judge(ran, row) for ran, _ in runs]
         found.update(came)
@@ -128,26 +140,40 @@ def sweep_cases(room):
     return {key: it.result() for key, it in started.items()}
 
 
+def is_built(crate):
+    """Whether the tests of a crate are built, of what its sources and those of all others are now."""
+    program = f"crates/{crate}/out/{crate}_tests"
+    files = (it for part in ("src", "specs", "proofs") for it in glob.iglob(f"crates/*/{part}/**/*", recursive=True))
+    return os.path.exists(program) and all(os.path.getmtime(it) <= os.path.getmtime(program) for it in files)
+
+
 def sweep_tests(room):
-    """Sweeps each test that bears a failure. Returns by name what came of each sweep."""
-    found = {}
-    for crate, test in TESTS:
-        subprocess.run(["rt", "test"], cwd=f"crates/{crate}", stdout=subprocess.DEVNULL, check=True)
-        row = Row(test, [f"crates/{crate}/out/{crate}_tests", test], b"", b"test result: ok", 0, b"")
-        for kind in KINDS:
-            found[f"{crate} {test}", kind] = sweep(room, f"{crate} {test}", row, test_outcome, kind, TIMES)
-    return found
+    """Sweeps each test that bears a failure. Returns by name what came of each sweep, and which crates have tests that are not built."""
+    found, unbuilt = {}, []
+    for crate, tests in TESTS.items():
+        if not is_built(crate) and crate != BUILT:
+            unbuilt.append(crate)
+            continue
+        if crate == BUILT:
+            subprocess.run(["rt", "test"], cwd=f"crates/{crate}", stdout=subprocess.DEVNULL, check=True)
+        for test in tests:
+            row = Row(test, [f"crates/{crate}/out/{crate}_tests", test], b"", b"test result: ok", 0, b"")
+            for kind in KINDS if crate == BUILT else ["FAIL_ALLOC"]:
+                found[f"{crate} {test}", kind] = sweep(room, f"{crate} {test}", row, test_outcome, kind, TIMES if crate == BUILT else 1)
+    return found, unbuilt
 
 
 def main():
     subprocess.run(["./alog", "check", "examples/one_file.toml"], stdout=subprocess.DEVNULL, check=True)
     with tempfile.TemporaryDirectory(prefix="alog-memory-") as room:
         subprocess.run(["cc", "-shared", "-fPIC", "-O1", "-o", f"{room}/fail_alloc.so", ".ci/fail_alloc.c", "-ldl"], check=True)
-        found = {**sweep_cases(room), **sweep_tests(room)}
+        tests, unbuilt = sweep_tests(room)
+        found = {**sweep_cases(room), **tests}
     untried = sorted({name for (name, _), (_, well) in found.items() if well is None})
     tried = {name for name, _ in found} - set(untried)
     counts = ", ".join(f"{sum(count for (_, it), (count, _) in found.items() if it == kind)} {KINDS[kind]}" for kind in KINDS)
-    print(f"memory: {len(tried)} rows, {counts}; not tried, since they say otherwise where nothing fails: {', '.join(untried) or 'none'}")
+    print(f"memory: {len(tried)} rows and tests, {counts}")
+    print(f"memory: not tried, since they say otherwise where nothing fails: {', '.join(untried) or 'none'}; since they are not built: {', '.join(unbuilt) or 'none'}")
     return 0 if all(well for _, well in found.values()) else 1
 
 
