@@ -8,7 +8,6 @@ import os
 import re
 import shutil
 import subprocess
-import threading
 import time
 
 TABLES = b'[[logger]]\nname = "net"\nsinks = ["out"]\n[[sink]]\nname = "out"\npattern = "%v"\n'
@@ -25,6 +24,9 @@ NOBODY = ["setpriv", "--reuid=65534", "--regid=65534", "--clear-groups"] if os.g
 FAULT = re.compile(rb"alog: refused 22\nalog: a store failed\n((?:alog: sink 0, out: (?:\d+ turns failed|its lines are not all in its file): [^\n]+\n){1,2})")
 # how each refusal of a start begins
 NO_FILE, NO_FOLDER = "alog: %s/%s cannot be written: ", "alog: no files can be written to %s: "
+# the file by which a folder is held, and what is said where it cannot be
+LOCK = ".alog.lock"
+IN_USE, NO_LOCK = f"alog: %s is in use: another alog holds %s/{LOCK}\n", f"alog: %s/{LOCK} cannot be locked: "
 
 Loaded = collections.namedtuple("Loaded", "status printed errors")
 
@@ -66,8 +68,8 @@ class Place:
         return Loaded(ran.returncode, ran.stdout, ran.stderr)
 
     def others(self, own):
-        """Returns what is in the folder, and what each has, but the files of sinks."""
-        return {it: self.seen(it) for it in os.listdir(self.folder) if not re.fullmatch(own, it)}
+        """Returns what is in the folder, and what each has, but the files of sinks and the folder's lock."""
+        return {it: self.seen(it) for it in os.listdir(self.folder) if not re.fullmatch(own, it) and it != LOCK}
 
     def seen(self, name):
         path = self.path(name)
@@ -207,34 +209,44 @@ def a_link_that_is_renamed(place):
     return is_told and os.path.islink(place.path("a.1.log")) and place.read("a.1.log").startswith(b"kept\n") and not os.path.islink(place.path("a.log"))
 
 
-def loads_at_once(place, messages):
-    """Makes two loads of so many messages to one folder at once, and returns what came of them."""
-    made, words = [], place.words(messages)
-    def load():
-        ran = subprocess.run(words, capture_output=True, timeout=600)
-        made.append(Loaded(ran.returncode, ran.stdout, ran.stderr))
-    threads = [threading.Thread(target=load) for _ in range(2)]
-    for it in threads:
-        it.start()
-    for it in threads:
-        it.join()
-    return made
+def is_alone(place, first):
+    """Whether a load that begins when another has made this file is refused, and the other is told as whole."""
+    ran = subprocess.Popen(place.words(MANY), stdout=subprocess.PIPE, stderr=subprocess.PIPE)
+    while not os.path.exists(place.path(first)) and ran.poll() is None:
+        time.sleep(0.001)
+    second, was_running = place.load(), ran.poll() is None
+    printed, errors = ran.communicate(timeout=600)
+    is_told = is_refused(second, IN_USE % (place.folder, place.folder)) and is_whole(Loaded(ran.returncode, printed, errors), MANY)
+    return was_running and is_told
 
 
-def two_loads_at_once(place):
-    """Both write whole lines to one file."""
-    made = loads_at_once(place, 20_000)
-    return all(is_whole(it, 20_000) for it in made) and sorted(place.read("out").splitlines()) == sorted(lines(20_000) * 2)
+def a_second_load(place):
+    """It is refused, and each line of the first is in the file once; when that has ended the folder is free."""
+    return is_alone(place, "out") and place.read("out").splitlines() == lines(MANY) and is_whole(place.load())
 
 
-def two_loads_that_rotate(place):
-    """Both rename the files of one sink: no line is torn."""
-    made = loads_at_once(place, 20_000)
-    names = [it for it in os.listdir(place.folder) if re.fullmatch(r"a(\.\d+)?\.log", it)]
-    found = [line for it in names for line in place.read(it).splitlines()]
-    are_told = all(is_whole(it, 20_000) or is_fault(it, b"(os error 2)", 20_000) for it in made)
-    print(f"hostile: two loads that rotate: {len(found)} of 40000 lines are there, in {len(names)} files")
-    return are_told and set(found) <= set(lines(20_000))
+def a_second_load_to_files_that_make_way(place):
+    """The files have the last lines of the first load, and nothing else."""
+    if not is_alone(place, "a.1.log"):
+        return False
+    names = ["a.log", *(f"a.{number}.log" for number in range(1, 201))]
+    found = [line for it in reversed(names) for line in place.read(it).splitlines()]
+    return found == lines(MANY)[-len(found) :]
+
+
+def a_load_that_was_killed(place):
+    """What it held is free again."""
+    ran = subprocess.Popen(place.words(MANY), stdout=subprocess.PIPE, stderr=subprocess.PIPE)
+    while not os.path.exists(place.path("out")) and ran.poll() is None:
+        time.sleep(0.001)
+    ran.kill()
+    ran.communicate()
+    return ran.returncode != 0 and is_whole(place.load())
+
+
+def a_lock_that_is_a_folder(place):
+    os.mkdir(place.path(LOCK))
+    return is_refused(place.load(), NO_LOCK % place.folder) and not os.path.exists(place.path("out"))
 
 
 CASES = [
@@ -242,7 +254,8 @@ CASES = [
     (a_link_to_nowhere, MEMORY), (a_link_to_a_file_that_is_absent, MEMORY), (a_link_to_itself, MEMORY), (a_link_that_is_renamed, ROTATING),
     (a_file_without_permission, MEMORY), (a_folder_without_permission, MEMORY), (a_full_device, MEMORY), (a_pipe_that_nobody_reads, MEMORY),
     (a_folder_that_is_removed, MEMORY), (a_folder_that_is_removed_between_files, FEW_FILES), (four_thousand_files, MEMORY),
-    (the_longest_names, MEMORY), (what_stood_there, MEMORY), (two_loads_at_once, MEMORY), (two_loads_that_rotate, MANY_FILES),
+    (the_longest_names, MEMORY), (what_stood_there, MEMORY), (a_second_load, MEMORY), (a_second_load_to_files_that_make_way, MANY_FILES),
+    (a_load_that_was_killed, MEMORY), (a_lock_that_is_a_folder, MEMORY),
 ]
 
 

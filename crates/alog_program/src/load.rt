@@ -18,7 +18,7 @@ use crate::totals::write_totals;
 use alog_config::{Config, leaves, read};
 use alog_load::{LOAD_MESSAGES_MAX, LOAD_PRODUCERS_MAX, LoadError, load};
 use alog_pool::Report;
-use alog_server::{Folders, folder_stores, unwritable};
+use alog_server::{Folders, Hold, folder_stores, hold_folder};
 use alog_sink::{MemStore, Store};
 use std::alloc::AllocError;
 use std::io::Write;
@@ -79,7 +79,8 @@ where
             Err(_) => refuse_load(LoadError::OutOfMemory, errors),
         },
         Some(path) => {
-            if lacks_folder(rt, path, &config, request, errors) {
+            let mut lock = None;
+            if lacks_folder(rt, path, &config, request, &mut lock, errors) {
                 return 3;
             }
             match folder_stores(rt, alloc, path, count) {
@@ -125,13 +126,14 @@ where
     }
 }
 
-/// Whether a load by numbers within their bounds cannot write to this folder, or to a file of a sink that is there, which is said
-/// then. Want of memory is told by the load.
-fn lacks_folder<R: AllocGlobal + Files, E: Write>(
+/// Whether a load by numbers within their bounds cannot write to this folder, or to a file of a sink that is there, or another alog
+/// holds it, which is said then. Else it is held. Want of memory is told by the load.
+fn lacks_folder<R: AllocGlobal + Files + Folders, E: Write>(
     rt: &R,
     path: &str,
     config: &Config,
     request: &LoadRequest<'_>,
+    lock: &mut Option<R::Lock>,
     errors: &mut E,
 ) -> bool
     ensures { IsTrue result → ¬ AreBad request.now.producers request.now.messages }
@@ -139,12 +141,16 @@ fn lacks_folder<R: AllocGlobal + Files, E: Write>(
     if is_out_of_bounds(request) {
         return false;
     }
-    match unwritable(rt, rt.alloc(), path, config) {
-        Ok(Some(why)) => {
+    match hold_folder(rt, rt.alloc(), path, config) {
+        Ok(Hold::Refused(why)) => {
             let _ = writeln!(errors, "alog: {why}");
             true
         }
-        Ok(None) | Err(_) => false,
+        Ok(Hold::Held(held)) => {
+            *lock = Some(held);
+            false
+        }
+        Err(_) => false,
     }
 }
 

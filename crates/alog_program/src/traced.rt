@@ -1,12 +1,10 @@
 //! A reader and a writer that remember what is to be said of a script that ends early.
 ghost use Rattle.std.specs.Prelude.{◌≡◌};
 
+use alog_replay::SCRIPT_LINE_MAX;
 use std::alloc::Global;
 use std::io;
 use std::io::{ErrorKind, Read, Write};
-
-/// So many bytes are kept of the beginning of a line, which has no more unless it is refused.
-const FRONT_MAX: usize = 16_384;
 
 /// What is remembered behind an error, which is no fault where the call is made again.
 fn kept(error: &io::Error, before: Option<ErrorKind>) -> Option<ErrorKind> {
@@ -17,7 +15,7 @@ fn kept(error: &io::Error, before: Option<ErrorKind>) -> Option<ErrorKind> {
 }
 
 /// A reader that keeps what its last read gave, with the beginning of the line that goes on there, and why a read failed.
-/// Where there is no memory it keeps less.
+/// A line is kept up to its limit, beyond which it is refused. Where there was no memory to keep what was read, no line is told any more.
 #[derive(Drop)]
 pub(crate) struct TracedReader<I> {
     pub(crate) input: I,
@@ -25,6 +23,8 @@ pub(crate) struct TracedReader<I> {
     before: u64,
     front: Vec<u8>,
     last: Vec<u8>,
+    /// Whether something of what was read could not be kept.
+    lost: bool,
     pub(crate) fault: Option<ErrorKind>,
 }
 
@@ -37,6 +37,7 @@ impl<I> TracedReader<I> {
             before: 0,
             front: Vec::new(alloc),
             last: Vec::new(alloc),
+            lost: false,
             fault: None,
         }
     }
@@ -49,22 +50,26 @@ impl<I> TracedReader<I> {
             before,
             front,
             last,
+            lost,
             ..
         } = self;
         for byte in last.iter() {
             if *byte == b'\n' {
                 front.clear();
                 *before = before.wrapping_add(1);
-            } else if front.len() < FRONT_MAX {
-                let _ = front.push(*byte);
+            } else if front.len() < SCRIPT_LINE_MAX {
+                *lost |= front.push(*byte).is_err();
             }
         }
         last.clear();
-        let _ = last.extend_from_slice(bytes);
+        *lost |= last.extend_from_slice(bytes).is_err();
     }
 
-    /// The line of this number, from 1, without its newline, if it is kept.
+    /// The line of this number, from 1, without its newline, if it is kept, which it is not where memory was wanting.
     pub(crate) fn line(&self, alloc: Global, number: u64) -> Option<Vec<u8>> {
+        if self.lost {
+            return None;
+        }
         let skipped = number.checked_sub(self.before)?.checked_sub(1)?;
         let mut line = Vec::new(alloc);
         let mut at = 0u64;

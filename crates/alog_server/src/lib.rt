@@ -44,7 +44,7 @@ pub use server::{Ran, Server};
 pub use setup::setup_of;
 pub use sink_end::SinkEnd;
 pub use work::Work;
-pub use writable::unwritable;
+pub use writable::{Hold, hold_folder};
 
 /// The most threads of a server.
 pub const THREADS_MAX: usize = 4_096;

@@ -5,7 +5,7 @@ ghost use Rattle.alog_server.specs.Starting.{IsServerOn, IsOfFault, IsReasonFor}
 use crate::error::StartError;
 use crate::folders::{Folders, folder_stores};
 use crate::server::Server;
-use crate::writable::unwritable;
+use crate::writable::{Hold, hold_folder};
 use alog_config::{ConfigFault, Place, explain, leaves, read};
 use std::alloc::{AllocError, Global};
 use std::rt::Files;
@@ -14,13 +14,13 @@ use std::thread::Threads;
 use std::time::Clock;
 
 /// Starts a server of the configuration that is in this document, with the files of its sinks in this folder, which has to be there
-/// and to take them: that is looked at first.
+/// and to take them: that is looked at first. The folder is held until the server's run is over: no other server or load gets it.
 pub fn start<R: Files + Folders + Threads + Wait + Clock + Clone + Drop + Send + 'static>(
     rt: &R,
     alloc: Global,
     document: &[u8],
     folder: &str,
-) -> Result<Server<R::Folder>, StartError>
+) -> Result<Server<R::Folder, R::Lock>, StartError>
     ensures started { IfOk result (λ s. IsServerOn R.Folder.tells R.Folder.files R.Folder.failures document.now s.pool s.sinks.items) }
     ensures refused { IfErr result (IsReasonFor document.now) }
 {
@@ -28,11 +28,12 @@ pub fn start<R: Files + Folders + Threads + Wait + Clock + Clone + Drop + Send +
         Ok(config) => config,
         Err(fault) => return Err(refused(alloc, document, fault)),
     };
-    if let Some(text) = unwritable(rt, alloc, folder, &config)? {
-        return Err(StartError::Unwritable { text });
-    }
+    let lock = match hold_folder(rt, alloc, folder, &config)? {
+        Hold::Held(lock) => lock,
+        Hold::Refused(text) => return Err(StartError::Unwritable { text }),
+    };
     let stores = folder_stores(rt, alloc, folder, leaves(&config))?;
-    Server::over(rt, alloc, &config, stores)
+    Server::holding(rt, alloc, &config, stores, lock)
 }
 
 /// Why a server is not started of a document that has this fault.

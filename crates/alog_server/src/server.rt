@@ -26,17 +26,19 @@ use std::sync::Wait;
 use std::thread::Threads;
 use std::time::Clock;
 
-/// A pool that made no producer yet. It is no `Drop`: a way out of a function that does not end it by `run` does not compile.
-pub struct Server<S: Store> {
+/// A pool that made no producer yet, and what is held for it, as the lock of a folder, until its run is over. It is no `Drop`: a way
+/// out of a function that does not end it by `run` does not compile.
+pub struct Server<S: Store, L = ()> {
     alloc: Global,
     pub(crate) pool: Pool<S>,
     /// The sinks of the pool, without faults. They are there before it starts, so that its end takes no memory.
     pub(crate) sinks: Vec<SinkEnd>,
+    lock: L,
     pub ghost fresh: { pool.made ≡ 0 },
     pub ghost each: { length sinks.items ≡ length pool.sink_seats },
 }
 
-impl<S: Store> fmt::Debug for Server<S> {
+impl<S: Store, L> fmt::Debug for Server<S, L> {
     fn fmt<W: fmt::Write>(&self, f: &mut fmt::Formatter<W>) -> fmt::Result {
         f.debug_struct("Server")
             .field("pool", &self.pool)
@@ -79,10 +81,33 @@ impl<S: Store + Drop + Send + 'static> Server<S> {
         ensures failed { IsErrOf result StartError.Store → Any (HasFailed S.failures) stores.items }
         ensures refused { IfErr result (IsOfStores config.now) }
     {
+        Server::holding(rt, alloc, config, stores, ())
+    }
+}
+
+impl<S: Store + Drop + Send + 'static, L: Drop> Server<S, L> {
+    /// The same, with what is held until its run is over, or the start is refused.
+    pub(crate) fn holding<R: Threads + Wait + Clock + Clone + Drop + Send + 'static>(
+        rt: &R,
+        alloc: Global,
+        config: &Config,
+        stores: Vec<S>,
+        lock: L,
+    ) -> Result<Server<S, L>, StartError>
+        requires { length stores.items ≡ count_by is_leaf config.now.sinks.items }
+        ensures started { IfOk result (λ s. IsServerOf S.tells S.files S.failures config.now stores.items s.pool s.sinks.items) }
+        ensures failed { IsErrOf result StartError.Store → Any (HasFailed S.failures) stores.items }
+        ensures refused { IfErr result (IsOfStores config.now) }
+    {
         let sinks = ends_of(alloc, config)?;
         let setup = setup_of(alloc, config, stores, 0)?;
         match Pool::start(rt, alloc, setup, OpenGate) {
-            Ok(pool) => Ok(Server { alloc, pool, sinks }),
+            Ok(pool) => Ok(Server {
+                alloc,
+                pool,
+                sinks,
+                lock,
+            }),
             Err(_) => Err(StartError::OutOfMemory),
         }
     }
@@ -105,6 +130,7 @@ impl<S: Store + Drop + Send + 'static> Server<S> {
             alloc,
             mut pool,
             sinks,
+            lock: _held,
         } = self;
         if threads < 1 || threads > THREADS_MAX {
             end_unused(rt, alloc, pool);

@@ -1,4 +1,5 @@
-//! Whether the files of a configuration can be written to a folder.
+//! Whether the files of a configuration can be written to a folder, which is held for them.
+use crate::folders::{Folders, LOCK};
 use alog_config::{Config, SinkKind, Upkeep};
 use std::alloc::{AllocError, Global};
 use std::fs::{self, OpenOptions};
@@ -9,12 +10,50 @@ use std::rt::Files;
 /// A file that is made and removed in a folder to see whether one can be. No sink has a file of such a name.
 const PROBE: &str = ".probe.replaced";
 
-/// What keeps the files of a configuration from being written to a folder, in words, where something does.
+/// What came of asking for a folder.
+#[derive(Drop)]
+pub enum Hold<L> {
+    /// It takes the files, and is held for them until this is dropped.
+    Held(L),
+    /// It does not, or another holds it: this says why.
+    Refused(String),
+}
+
+/// Looks whether the files of a configuration can be written to a folder, and holds it for them, so that no two write there at once.
 ///
-/// The folder is not there, is none, or takes no new file; or a file that is there already cannot be opened, as a folder of its name.
-/// To see whether the folder takes files, one is made there and removed. The files of daily sinks have names by dates, so the folder
-/// alone is looked at for them. The test `what_cannot_be_written_is_refused_at_the_start` of `test_server` shows it.
-pub fn unwritable<R: Files>(
+/// It is refused where the folder is not there, is none, or takes no new file; where a file that is there already cannot be opened, as
+/// a folder of its name; and where another alog holds it, or another server of this process. To see whether the folder takes files,
+/// one is made there and removed. The files of daily sinks have names by dates, so the folder alone is looked at for them. The tests
+/// `what_cannot_be_written_is_refused_at_the_start` and `a_folder_is_held_by_one_server` of `test_server` show it.
+pub fn hold_folder<R: Files + Folders>(
+    rt: &R,
+    alloc: Global,
+    folder: &str,
+    config: &Config,
+) -> Result<Hold<R::Lock>, AllocError> {
+    if let Some(text) = unwritable(rt, alloc, folder, config)? {
+        return Ok(Hold::Refused(text));
+    }
+    match rt.hold(alloc, folder) {
+        Ok(lock) => Ok(Hold::Held(lock)),
+        Err(error) => not_held(alloc, folder, error),
+    }
+}
+
+/// Why a folder could not be held, by the error of its lock.
+fn not_held<L>(alloc: Global, folder: &str, error: io::Error) -> Result<Hold<L>, AllocError> {
+    let text = match error.kind() {
+        ErrorKind::OutOfMemory => return Err(AllocError),
+        ErrorKind::WouldBlock => {
+            format!(in alloc; "{folder} is in use: another alog holds {folder}/{LOCK}")?
+        }
+        _ => format!(in alloc; "{folder}/{LOCK} cannot be locked: {error}")?,
+    };
+    Ok(Hold::Refused(text))
+}
+
+/// What keeps the files of a configuration from being written to a folder, in words, where something does.
+fn unwritable<R: Files>(
     rt: &R,
     alloc: Global,
     folder: &str,
@@ -32,6 +71,11 @@ pub fn unwritable<R: Files>(
         let Some(file) = lasting_file(&sink.kind) else {
             continue;
         };
+        if file == LOCK {
+            return Ok(Some(format!(in alloc;
+                "{folder}/{file} is the lock of the folder, and can be no file of a sink"
+            )?));
+        }
         if let Err(error) = takes_lines(rt, alloc, folder, file) {
             let text = format!(in alloc; "{folder}/{file} cannot be written: {error}")?;
             return told(text, error);

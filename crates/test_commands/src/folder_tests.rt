@@ -52,9 +52,19 @@ fn loads_twice<R: Host>(rt: &R, places: (&str, &str)) -> bool {
         && loads_to(rt, places, FOR_ONE, Said::done(ONE))
 }
 
+/// Whether a load to a folder that another holds is refused.
+fn is_refused_while_held<R: Host>(rt: &R, places: (&str, &str)) -> bool {
+    let in_use = ("alog: ", " is in use: another alog holds ");
+    match rt.hold(rt.alloc(), places.1) {
+        Ok(_held) => refuses(rt, places, in_use),
+        Err(_) => false,
+    }
+}
+
 #[test]
 fn files_of_a_folder(rt: HostRuntime) -> io::Result<()> {
     let room = Room::new(&rt, SMALL)?;
+    assert!(rt; is_refused_while_held(&rt, room.places()));
     assert!(rt; loads_twice(&rt, room.places()));
     let lines = lines_in(&rt, &room.folder)?;
     assert!(rt; lines.as_str() == "net I 0 0\nnet I 0 1\nnet I 0 2\nnet I 0 0\n");

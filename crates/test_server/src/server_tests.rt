@@ -42,14 +42,14 @@ pub(crate) fn started<R: Host>(
     rt: &R,
     document: &str,
     folder: &str,
-) -> Result<Server<R::Folder>, StartError> {
+) -> Result<Server<R::Folder, R::Lock>, StartError> {
     start(rt, rt.alloc(), document.as_bytes(), folder)
 }
 
 /// Lets so many threads do this work. What `Server::run` promises is told to no test by it.
 pub(crate) fn ran<R: Host>(
     rt: &R,
-    server: Server<R::Folder>,
+    server: Server<R::Folder, R::Lock>,
     threads: usize,
     work: &Talk,
 ) -> Result<Ran<R::Folder, LogError>, RunError> {

@@ -23,11 +23,13 @@ impl<R> Work<R> for Late {
 }
 
 /// Runs so many threads of it: the third is the first that ends early.
-pub fn told_of_works<R: Threads + Wait + Clock + Sync, S: Store + Drop + Send + 'static>(
+pub fn told_of_works<R, S: Store + Drop + Send + 'static, L: Drop>(
     rt: &R,
-    server: Server<S>,
+    server: Server<S, L>,
     threads: usize,
 ) -> Result<Ran<S, usize>, RunError>
+where
+    R: Threads + Wait + Clock + Sync,
     ensures more { IfOk result (λ r. 2 < threads → r.error ≡ Some 2) }
     ensures two { IfOk result (λ r. threads ≤ 2 → r.error ≡ None) }
 {

@@ -89,6 +89,35 @@ fn is_started<R: Host>(rt: &R, folder: &str) -> bool {
     }
 }
 
+/// One sink, whose file would be that by which the folder is held.
+const ON_THE_LOCK: &str =
+    "[[sink]]\nname = \"out\"\nkind = \"memory\"\nfile = \".alog.lock\"\n\n[[logger]]\nname = \"net\"\nsinks = [\"out\"]\n";
+
+/// Whether a folder is refused to a server while another has it, and no longer when that one has run; and always to a sink that would
+/// write to its lock.
+fn is_held_by_one<R: Host>(rt: &R, folder: &str) -> bool {
+    let in_use = ("", " is in use: another alog holds ");
+    let on_the_lock = ("", "/.alog.lock is the lock of the folder");
+    match started(rt, SMALL, folder) {
+        Ok(server) => {
+            let is_refused = refuses(rt, (SMALL, folder), in_use);
+            let is_run = ran(rt, server, 1, &HELLO).is_ok();
+            is_run
+                && is_refused
+                && is_started(rt, folder)
+                && refuses(rt, (ON_THE_LOCK, folder), on_the_lock)
+        }
+        Err(_) => false,
+    }
+}
+
+#[test]
+fn a_folder_is_held_by_one_server(rt: HostRuntime) -> io::Result<()> {
+    let folder = folder(&rt)?;
+    assert!(rt; is_held_by_one(&rt, folder.as_str()));
+    fs::remove_dir_all(&rt, folder.as_str())
+}
+
 #[test]
 fn what_is_no_obstacle_is_passed_over(rt: HostRuntime) -> io::Result<()> {
     let folder = no_obstacles(&rt)?;

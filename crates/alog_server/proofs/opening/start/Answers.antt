@@ -9,15 +9,15 @@ use Rattle.alog_server.proofs.opening.start.Goals as goal
 pub returns-clause-started : goal.returns-clause-started
 returns-clause-started g c =
     let reads = subst (λ (r : Result Config ConfigFault). Reads c.args.document.now r) c.in-Ok.is c.read.ensures in
-    IfOk-weaker c.over.result _ _ (λ s h. record {
+    IfOk-weaker c.holding.result _ _ (λ s h. record {
       config = c.in-Ok.config;
       reads = reads;
       stores = c.in_ok-stores.stores.items;
       fresh = c.in_ok-stores.ensures.fresh;
       server = h;
-    }) c.over.ensures.started
+    }) c.holding.ensures.started
 
 pub returns-clause-refused : goal.returns-clause-refused
 returns-clause-refused g c =
     let reads = subst (λ (r : Result Config ConfigFault). Reads c.args.document.now r) c.in-Ok.is c.read.ensures in
-    MatchResult-weaker c.over.result c.over.ensures.refused (λ s h. h) (λ e h. of_stores c.args.document.now c.in-Ok.config reads e h)
+    MatchResult-weaker c.holding.result c.holding.ensures.refused (λ s h. h) (λ e h. of_stores c.args.document.now c.in-Ok.config reads e h)

@@ -1,6 +1,6 @@
 use Rattle.std.proofs.Common.{◌∙◌}
 use Rattle.alog_server.proofs.Telling.{started_count, told_count}
-use Rattle.alog_server.proofs.server.Server.over.Goals as goal
+use Rattle.alog_server.proofs.server.Server.holding.Goals as goal
 
 pub invariant_of-result : goal.invariant_of-result
 invariant_of-result g c =
