@@ -223,11 +223,13 @@ impl<B, T, W: Shows<B, T>, L: Limit<B>> SwapRing<B, T, W, L> {
 
     /// Asks whether each other pass was joined into this one, which has all parts then.
     ///
-    /// No other is left then, and what this one had seen is the whole history. The test `a_swap_ring_of_two` shows it.
+    /// No other is left then, and what this one had seen is the whole history. No pass has more parts than all. The test
+    /// `a_swap_ring_of_two` shows it.
     pub fn is_whole(&self, pass: &mut SwapPass<B, T>) -> bool
         requires { IsPassOf self.now.ring pass.old }
         ensures ring { IsPassOf self.now.ring pass.new }
         ensures looks { Made pass.old.known pass.new.known [] }
+        ensures most { pass.old.known.parts ≤ ALL_PARTS }
         ensures parts { IsTrue result ↔ (pass.old.known.parts ≡ ALL_PARTS) }
         ensures whole { IsTrue result → IsWhole pass.new.known }
         ensures same { IsTrue result → (pass.new.known ≡ pass.old.known) }
