@@ -34,7 +34,8 @@ LOAD = Row("load", ["load", "examples/one_file.toml", "--producers", "2", "--mes
 # the tests that bear it, by their crates, of which the first is built where it is not, and the others are tried where they are; how many
 # times what has threads is run for one failure, and how many runs it has at most, if that is not fewer than once for each
 TESTS = {
-    "test_pool": ["memory_tests::want_of_memory"], "test_queue": ["memory_tests::want_of_memory"],
+    "test_pool": ["memory_tests::want_of_memory"],
+    "test_queue": ["memory_tests::want_of_memory", "memory_tests::want_of_memory_for_a_swap_ring"],
     "test_config": ["memory_tests::want_of_memory", "memory_tests::want_of_memory_for_a_refusal"],
     "test_scripts": ["config_fault_tests::want_of_memory_for_a_script"],
 }

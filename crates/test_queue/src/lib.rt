@@ -1,11 +1,11 @@
 //! Tests of the bounded queue, and of what is posted to it, over the public surface of `alog_core`, `alog_ring`, `alog_lane` and
 //! `alog_policy`.
 //!
-//! They are here, and not in those crates, since a crate with tests is proved twice. Read `queue_tests.rt` and `memory_tests.rt` (the stepped queue),
+//! They are here, and not in those crates, since a crate with tests is proved twice. Read `queue_tests.rt` (the stepped queue), `memory_tests.rt` (want of memory),
 //! `plain.rt` (the queue as a plain program, over a list of cells) with `words_tests.rt` (it beside the real one, on 1,000
 //! schedules); `ring_tests.rt`, `crossing_tests.rt` and
 //! `step_tests.rt` (the running ring, its values from thread to thread, and what is met beside a push or a pop that is held);
-//! `swap_ring_tests.rt`; `lane_tests.rt`;
+//! `swap_ring_tests.rt` and `swap_crossing_tests.rt` (the swap ring); `lane_tests.rt`;
 //! `desk_tests.rt` (posts on the stepped queue), `outlet_tests.rt`, `book_tests.rt` (the loss book), `port_tests.rt` (posts on a
 //! running ring) and `room_wait_tests.rt` (how long a post waits for room); `limits.rt` has the limits by their numbers.
 #![tactic(auto)]
@@ -35,6 +35,8 @@ mod ring_tests;
 mod room_wait_tests;
 #[cfg(test)]
 mod step_tests;
+#[cfg(test)]
+mod swap_crossing_tests;
 #[cfg(test)]
 mod swap_ring_tests;
 #[cfg(test)]

@@ -1,6 +1,9 @@
-//! Want of memory of the stepped queue.
+//! Want of memory of the stepped queue, and where a swap ring is made.
+ghost use Rattle.alog_ring.specs.Known.{IsPassOf};
+
 use crate::queue_tests::{pops, pushes, world};
 use alog_core::{Mark, World};
+use alog_ring::{NewError, SwapNewError, SwapPass, SwapRing};
 use std::alloc::{AllocError, Global};
 use std::process::Abort;
 
@@ -51,4 +54,55 @@ fn want_of_memory(rt: HostRuntime) {
         shows_its_words(&rt, rt.alloc(), &world, &mut wanting);
     }
     pops(&rt, &mut world, 2, 5, 10);
+}
+
+// Two spares, where memory may be wanting once.
+fn spares_at_last(rt: &impl Abort, alloc: Global, wanting: &mut bool) -> Vec<u64> {
+    if let Ok(spares) = vec![in alloc; 100, 101] {
+        return spares;
+    }
+    is_wanting(rt, wanting);
+    match vec![in alloc; 100, 101] {
+        Ok(spares) => spares,
+        Err(_) => panic!(rt; "twice"),
+    }
+}
+
+// A swap ring of two places with these spares, where memory may be wanting once: the spares come back then.
+fn swap_ring_at_last(
+    rt: &impl Abort,
+    alloc: Global,
+    spares: Vec<u64>,
+    wanting: &mut bool,
+) -> (SwapRing<u64>, SwapPass<u64>)
+    ensures { IsPassOf result.0.ring result.1 }
+{
+    let spares = match SwapRing::<u64>::new(alloc, 2, 5, spares) {
+        Ok(made) => return made,
+        Err(SwapNewError { why, spares }) => {
+            assert!(rt; why == NewError::OutOfMemory && spares.as_slice() == [100, 101].as_slice());
+            spares
+        }
+    };
+    is_wanting(rt, wanting);
+    match SwapRing::<u64>::new(alloc, 2, 5, spares) {
+        Ok(made) => made,
+        Err(_) => panic!(rt; "twice"),
+    }
+}
+
+// Where memory is wanting once as a swap ring is made, its spares come back, and it is made of them.
+#[test]
+fn want_of_memory_for_a_swap_ring(rt: HostRuntime) {
+    let mut wanting = false;
+    let spares = spares_at_last(&rt, rt.alloc(), &mut wanting);
+    let (ring, mut pass) = swap_ring_at_last(&rt, rt.alloc(), spares, &mut wanting);
+    assert!(rt; matches!(ring.push_swap(&mut pass, 7), Ok((5, 101))));
+    assert!(rt; matches!(ring.pop_swap(&mut pass, 102), Ok((5, 7))));
+    match ring.close(pass) {
+        Ok((cells, spares)) => {
+            assert!(rt; cells.is_empty() && spares.as_slice() == [100, 102].as_slice());
+        }
+        Err(_) => panic!(rt; "no pass is out"),
+    }
 }
