@@ -1,9 +1,10 @@
 """Proves and builds a program and all that it stands on, as many crates side by side as there are processors: build.py PROGRAM.
 
 `rt run` alone builds one crate after another. Here each crate is proved in a room of its own, which has it and, built before, what it
-stands on. The one with the longest way before it gets a job for each processor; the others fill, with half as many each and behind
-it, what it leaves idle where it reads, links, or has few functions left. What is built comes back into the crates' folders, so that `rt` there goes on from it. On a terminal a line shows
-which crates are being proved and how many are left. The status is 0, or 1 where a crate failed, of which what was said is printed.
+stands on. Each gets a job for each processor, if there is memory for them; the one with the longest way before it goes before all
+others, which fill, in this order, what is idle where it reads, links, or has few functions left. What is built comes back into the
+crates' folders, so that `rt` there goes on from it. On a terminal a line shows which crates are being proved and how many are left; on
+standard output each crate says when it stood. The status is 0, or 1 where a crate failed, of which what was said is printed.
 """
 import concurrent.futures as futures
 import os
@@ -11,6 +12,7 @@ import shutil
 import subprocess
 import sys
 import tempfile
+import time
 
 sys.dont_write_bytecode = True
 from changed import listed, lowest_first
@@ -18,6 +20,8 @@ from changed import listed, lowest_first
 PARTS = ("src", "specs", "proofs")
 # what a check takes, in bytes: its first job, and each further one
 FIRST_JOB, NEXT_JOB = 3_000_000_000, 1_000_000_000
+# how much nicer a crate is for each one that goes before it
+BEHIND = 5
 
 
 def below(crate, rows):
@@ -105,18 +109,19 @@ def build(program):
     crates = {program, *below(program, rows)}
     way, lanes = ways(crates, rows), len(os.sched_getaffinity(0))
     left, running, done = sorted(crates, key=lambda it: -way[it]), {}, set()
+    start = time.monotonic()
     os.makedirs(f"crates/{program}/out", exist_ok=True)
     with tempfile.TemporaryDirectory(prefix="rooms-", dir=f"crates/{program}/out") as rooms, futures.ThreadPoolExecutor(lanes) as pool:
         rooms = os.path.abspath(rooms)
         while left or running:
             for crate in [it for it in left if below(it, rows) <= done]:
                 spare = memory() - FIRST_JOB
-                if running and (len(running) > lanes // 2 or spare < 0):
+                if running and (len(running) == lanes or spare < 0):
                     break
-                is_first = all(way[crate] >= way[it] for it in running.values())
-                jobs = min(lanes if is_first else max(1, lanes // 2), 1 + max(0, spare // NEXT_JOB))
+                before = sum(way[crate] < way[it] for it in running.values())
+                jobs = min(lanes, 1 + max(0, spare // NEXT_JOB))
                 left.remove(crate)
-                running[pool.submit(prove, crate, rows, rooms, jobs, 0 if is_first else 5)] = crate
+                running[pool.submit(prove, crate, rows, rooms, jobs, BEHIND * before)] = crate
             show(len(left) + len(running), running.values())
             for it in futures.wait(running, return_when=futures.FIRST_COMPLETED).done:
                 crate = running.pop(it)
@@ -126,6 +131,7 @@ def build(program):
                     print(f"{crate} failed")
                     return 1
                 done.add(crate)
+                print(f"{crate} stood after {time.monotonic() - start:.0f} seconds", flush=True)
     show(0, [])
     return 0
 
