@@ -1,7 +1,7 @@
 //! Pushes and pops of a swap ring.
 ghost use Rattle.std.specs.Prelude.{◌≡◌, None, IfOk, IfErr};
 ghost use Rattle.alog_ring.specs.Known.{IsPassOf};
-ghost use Rattle.alog_ring.specs.Refused.{PushRefusedAs};
+ghost use Rattle.alog_ring.specs.Refused.{PushRefusedAs, PopRefusedAs};
 ghost use Rattle.alog_ring.specs.Swaps.{PushedFor, PoppedFor, SwapPopRefused};
 
 use crate::gate::OpenSteps;
@@ -41,9 +41,8 @@ impl<B, T, W: Shows<B, T>, L: Limit<B>> SwapRing<B, T, W, L> {
         ensures limit { IfOk result (λ r. L.admits self.now.ring.limit r.1) }
         ensures refused { IfErr result (λ e. PushRefusedAs None pass.old.known pass.new.known value e) }
     {
-        let board = &self.board;
         let mut hand = value;
-        match board.push_round::<Brand, OpenSteps>(pass, &mut hand, &OpenSteps) {
+        match self.push_swap_from(pass, &mut hand) {
             Ok(ticket) => Ok((ticket, hand)),
             Err(PushError::Full { value: (), next }) => Err(PushError::Full { value: hand, next }),
             Err(PushError::Busy { value: (), seen }) => Err(PushError::Busy { value: hand, seen }),
@@ -64,13 +63,52 @@ impl<B, T, W: Shows<B, T>, L: Limit<B>> SwapRing<B, T, W, L> {
         ensures limit { IfOk result (λ r. L.admits self.now.ring.limit r.1) }
         ensures refused { IfErr result (λ e. SwapPopRefused pass.old.known pass.new.known spare e) }
     {
-        let board = &self.board;
         let mut hand = spare;
-        match board.pop_round::<Brand, OpenSteps>(pass, &mut hand, &OpenSteps) {
+        match self.pop_swap_into(pass, &mut hand) {
             Ok(ticket) => Ok((ticket, hand)),
             Err(PopError::Empty { next }) => Err(SwapPopError::Empty { next, spare: hand }),
             Err(PopError::Idle { next }) => Err(SwapPopError::Idle { next, spare: hand }),
             Err(PopError::Busy { seen }) => Err(SwapPopError::Busy { seen, spare: hand }),
         }
+    }
+
+    /// Puts the value that lies in the hand into the ring if that goes at once, and answers its ticket: the spare of its place lies
+    /// in the hand then.
+    ///
+    /// It is `push_swap` for a large value, which is moved once. A refused push leaves it in the hand. The test
+    /// `a_hand_is_swapped` shows it.
+    pub fn push_swap_from(
+        &self,
+        pass: &mut SwapPass<B, T>,
+        hand: &mut B,
+    ) -> Result<u64, PushError<()>>
+        requires ring { IsPassOf self.now.ring pass.old }
+        requires limit { L.admits self.now.ring.limit hand.old }
+        ensures ring { IsPassOf self.now.ring pass.new }
+        ensures pushed { IfOk result (λ t. PushedFor W.shows self.now.firsts pass.old.known pass.new.known t hand.old hand.new) }
+        ensures limit { L.admits self.now.ring.limit hand.new }
+        ensures refused { IfErr result (λ e. PushRefusedAs None pass.old.known pass.new.known (tt {0}) e) }
+        ensures left { IfErr result (λ e. hand.new ≡ hand.old) }
+    {
+        self.board
+            .push_round::<Brand, OpenSteps>(pass, hand, &OpenSteps)
+    }
+
+    /// Takes the front value out of the ring if that goes at once, and answers its ticket: what lay in the hand lies in its place
+    /// then, and the value in the hand.
+    ///
+    /// It is `pop_swap` for large values, which are moved once. A refused pop leaves the spare in the hand. The test
+    /// `a_hand_is_swapped` shows it.
+    pub fn pop_swap_into(&self, pass: &mut SwapPass<B, T>, hand: &mut B) -> Result<u64, PopError>
+        requires ring { IsPassOf self.now.ring pass.old }
+        requires limit { L.admits self.now.ring.limit hand.old }
+        ensures ring { IsPassOf self.now.ring pass.new }
+        ensures popped { IfOk result (λ t. PoppedFor W.shows pass.old.known pass.new.known t hand.old hand.new) }
+        ensures limit { L.admits self.now.ring.limit hand.new }
+        ensures refused { IfErr result (λ e. PopRefusedAs None pass.old.known pass.new.known e) }
+        ensures left { IfErr result (λ e. hand.new ≡ hand.old) }
+    {
+        self.board
+            .pop_round::<Brand, OpenSteps>(pass, hand, &OpenSteps)
     }
 }

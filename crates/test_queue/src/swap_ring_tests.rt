@@ -195,6 +195,52 @@ fn an_untouched_swap_ring_gives_its_spares_back(rt: HostRuntime) -> Result<(), F
     Ok(())
 }
 
+// A push of what lies in the hand, which has the spare then.
+fn hand_in(
+    rt: &impl Abort,
+    ring: &SwapRing<u64>,
+    pass: &mut SwapPass<u64>,
+    hand: &mut u64,
+    wanted: Option<u64>,
+)
+    requires { IsPassOf ring.now.ring pass.old }
+    ensures { IsPassOf ring.now.ring pass.new }
+{
+    assert!(rt; ring.push_swap_from(pass, hand).ok() == wanted);
+}
+
+// A pop that brings what lies in the hand, which has the value then.
+fn hand_out(
+    rt: &impl Abort,
+    ring: &SwapRing<u64>,
+    pass: &mut SwapPass<u64>,
+    hand: &mut u64,
+    wanted: Option<u64>,
+)
+    requires { IsPassOf ring.now.ring pass.old }
+    ensures { IsPassOf ring.now.ring pass.new }
+{
+    assert!(rt; ring.pop_swap_into(pass, hand).ok() == wanted);
+}
+
+#[test]
+fn a_hand_is_swapped(rt: HostRuntime) -> Result<(), Fail> {
+    let spares = vec![in rt.alloc(); 100, 101]?;
+    let (ring, mut pass) = swap_ring_of(&rt, 2, 5, spares, rt.alloc());
+    let mut hand = 7;
+    hand_out(&rt, &ring, &mut pass, &mut hand, None);
+    hand_in(&rt, &ring, &mut pass, &mut hand, Some(5));
+    assert!(rt; hand == 101);
+    hand_in(&rt, &ring, &mut pass, &mut hand, Some(6));
+    assert!(rt; hand == 100);
+    hand_in(&rt, &ring, &mut pass, &mut hand, None);
+    assert!(rt; hand == 100);
+    hand_out(&rt, &ring, &mut pass, &mut hand, Some(5));
+    assert!(rt; hand == 7);
+    leaves(&rt, ring, pass, &[(6, 101)], &[100]);
+    Ok(())
+}
+
 // Numbers of one digit.
 #[derive(Clone, Copy, Drop)]
 struct Small;

@@ -1,4 +1,4 @@
-use Rattle.alog_ring.proofs.swap_ring.SwapRing.pop_swap.Given as goal
+use Rattle.alog_ring.proofs.swap_ring.SwapRing.pop_swap_into.Given as goal
 
 abbrev pub ghosts-pop_round : goal.ghosts-pop_round
 ghosts-pop_round g a = record {

@@ -1,4 +1,4 @@
-use Rattle.alog_ring.proofs.swap_ring.SwapRing.push_swap.Given as goal
+use Rattle.alog_ring.proofs.swap_ring.SwapRing.push_swap_from.Given as goal
 
 abbrev pub ghosts-push_round : goal.ghosts-push_round
 ghosts-push_round g a = record {
