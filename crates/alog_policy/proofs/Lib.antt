@@ -17,4 +17,6 @@ mod BookCounting
 mod BookSums
 mod BookClosing
 mod Ports
+mod SwapPorts
+pub mod SharedSwapPosts
 pub mod SharedCrosses

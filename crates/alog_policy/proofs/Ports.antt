@@ -100,24 +100,24 @@ module _ {T L : Type 0} (a b : Port T L) (fit : IsFit a) where
           → IfOk r (λ t. IfSome hand (Pushed a.pass.now.known b.pass.now.known t))
           → IfOk r (λ t. IfSome hand (λ x. PortDid a (Claim t x ∷ Write t ∷ []) 0 0 b))
       push_done None (Ok t) pushed = tt
-      push_done (Some x) (Ok t) pushed = did (Claim t x ∷ Write t ∷ []) pushed.0 (Rounds.two (Claim t x) (Write t) Rounds.none tt tt pushed)
+      push_done (Some x) (Ok t) pushed = did (Claim t x ∷ Write t ∷ []) pushed.0 (Rounds.two (Claim t x) (Write t) Rounds.none tt tt (tt, tt, pushed))
       push_done hand (Err e) pushed = tt
 
       pub push_refused : {V : Type 0} (x : V) (r : Result ℕ (PushError V))
           → IfErr r (λ e. ring.PushRefused a.pass.now.known b.pass.now.known x e)
           → IfErr r (λ e. outlet.PushRefused PortDid IsFit a x e b)
       push_refused x (Ok t) is = tt
-      push_refused x (Err (Full back next)) is = (is.0, refused (queue.Full next ∷ []) is.2.0 (Rounds.one (queue.Full next) Rounds.none is.1 is.2))
-      push_refused x (Err (Busy back seen)) is = (is.0, refused (queue.PushBusy seen ∷ []) is.2.0 (Rounds.one (queue.PushBusy seen) Rounds.none is.1 is.2))
-      push_refused x (Err (Spent back)) is = (is.0, refused (queue.Spent ∷ []) is.1.0 (Rounds.one queue.Spent Rounds.none tt is.1))
+      push_refused x (Err (Full back next)) is = (is.0, refused (queue.Full next ∷ []) is.2.0 (Rounds.one (queue.Full next) Rounds.none is.1 (tt, is.2)))
+      push_refused x (Err (Busy back seen)) is = (is.0, refused (queue.PushBusy seen ∷ []) is.2.0 (Rounds.one (queue.PushBusy seen) Rounds.none is.1 (tt, is.2)))
+      push_refused x (Err (Spent back)) is = (is.0, refused (queue.Spent ∷ []) is.1.0 (Rounds.one queue.Spent Rounds.none tt (tt, is.1)))
 
       pub pop_refused : (e : PopError) → ring.PopRefused a.pass.now.known b.pass.now.known e
           → outlet.PopRefused PortDid IsFit a e b
       pop_refused (pop.Empty next) is =
-          refused (queue.Front next ∷ queue.Empty next ∷ []) is.1.0 (Rounds.two (queue.Front next) (queue.Empty next) Rounds.none is.0 is.0 is.1)
+          refused (queue.Front next ∷ queue.Empty next ∷ []) is.1.0 (Rounds.two (queue.Front next) (queue.Empty next) Rounds.none is.0 is.0 (tt, tt, is.1))
       pop_refused (pop.Idle next) is =
-          refused (queue.Front next ∷ queue.Idle next ∷ []) is.1.0 (Rounds.two (queue.Front next) (queue.Idle next) Rounds.none is.0 is.0 is.1)
-      pop_refused (pop.Busy seen) is = refused (queue.PopBusy seen ∷ []) is.1.0 (Rounds.one (queue.PopBusy seen) Rounds.none is.0 is.1)
+          refused (queue.Front next ∷ queue.Idle next ∷ []) is.1.0 (Rounds.two (queue.Front next) (queue.Idle next) Rounds.none is.0 is.0 (tt, tt, is.1))
+      pop_refused (pop.Busy seen) is = refused (queue.PopBusy seen ∷ []) is.1.0 (Rounds.one (queue.PopBusy seen) Rounds.none is.0 (tt, is.1))
 
     pub overran : (t : ℕ) (y : T) → Popped a.pass.now.known b.pass.now.known t y → IsSeatOf a.book.now b.seat.now
         → Adds a.seat.now.known b.seat.now.known (Overran 1) → outlet.Overran PortDid IsFit a t b
@@ -127,6 +127,6 @@ module _ {T L : Type 0} (a b : Port T L) (fit : IsFit a) where
           book = book_is;
           pass_lent = pass_is;
           seat_lent = lent;
-          pass = inr (pass_made (Grab t ∷ Take t y ∷ []) popped.0 (Rounds.two (Grab t) (Take t y) Rounds.none tt tt popped));
+          pass = inr (pass_made (Grab t ∷ Take t y ∷ []) popped.0 (Rounds.two (Grab t) (Take t y) Rounds.none tt tt (tt, tt, popped)));
           seat = inr (counted_overran a.book.now a.seat.now b.seat.now fit.1 seat adds);
         } in ((y, d), fit_still (Grab t ∷ Take t y ∷ []) 1 0 d)

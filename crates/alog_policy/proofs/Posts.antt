@@ -5,18 +5,19 @@ use Rattle.std.specs.List.{AllByRecursion}
 use Rattle.alog_core.specs.Queue.{Event, Full}
 use Rattle.alog_core.proofs.SharedCells.{on_test}
 use Rattle.alog_ring.proofs.SharedLists.{each_append}
-use Rattle.alog_policy.specs.Post.{Round, Waited, events_of_round, IsRoundUnder, End}
+use Rattle.alog_policy.specs.Post.{Round, PushBeaten, Overran, PopBeaten, Waited, events_of_round, IsRoundUnder, End}
 use Rattle.alog_policy.specs.Post.{NoRoom, OutOfRounds, events_of_end, IsEndUnder, outcome_of}
-use Rattle.alog_policy.specs.Post.{counted, events_of_rounds, take_in, takes_in, IsPost, Part, Pushing, Popping}
+use Rattle.alog_policy.specs.Post.{counted, events_of_rounds, take_in, takes_in, write_in, writes_in, IsPost, Part, Pushing, Popping}
 use Rattle.alog_policy.specs.Post.{events_of_part, IsPartUnder, IsUnderWay}
 use Rattle.alog_policy.specs.Progress.{begun, lost, pushing, again_under, again, full_under}
-use Rattle.alog_policy.specs.Progress.{after_full, after_take, IsSoFar, Agrees}
+use Rattle.alog_policy.specs.Progress.{after_full, after_take, IsFresh, IsSoFar, Agrees}
 use Rattle.alog_policy.specs.declared.TheConstants.{ROUNDS_MAX}
 use Rattle.alog_policy.specs.declared.policy.Policy.{Policy}
 use Rattle.alog_policy.specs.declared.policy.Policy.TheVariants.{Block, OverrunOldest, DiscardNew}
 use Rattle.alog_policy.specs.declared.policy.Why.TheVariants as why
 use Rattle.alog_policy.specs.declared.policy.Outcome.TheVariants.{Discarded}
 use Rattle.alog_policy.specs.declared.progress.Side.{Side}
+use Rattle.alog_policy.specs.declared.progress.Side.TheVariants.{Push, Pop}
 use Rattle.alog_policy.specs.declared.progress.Progress.{Progress}
 
 events_of_rounds-last : {T : Type 0} (rs : List (Round T)) (r : Round T)
@@ -30,6 +31,28 @@ pub takes_in-append : {T : Type 0} (es fs : List (Event T)) → takes_in (es ++ 
 takes_in-append [] fs = sym (zero-add (takes_in fs))
 takes_in-append (e ∷ es) fs =
     ap (λ n. take_in e + n) (takes_in-append es fs) ∙ sym (add_assoc (take_in e) (takes_in es) (takes_in fs))
+
+pub writes_in-append : {T : Type 0} (es fs : List (Event T)) → writes_in (es ++ fs) ≡ writes_in es + writes_in fs
+writes_in-append [] fs = sym (zero-add (writes_in fs))
+writes_in-append (e ∷ es) fs =
+    ap (λ n. write_in e + n) (writes_in-append es fs) ∙ sym (add_assoc (write_in e) (writes_in es) (writes_in fs))
+
+round_writes_nothing : {T : Type 0} (r : Round T) → writes_in (events_of_round r) ≡ 0
+round_writes_nothing (PushBeaten t) = refl
+round_writes_nothing (Overran f t y) = refl
+round_writes_nothing (PopBeaten f t) = refl
+round_writes_nothing (Waited f) = refl
+
+-- no round that goes on writes anything
+pub rounds_write_nothing : {T : Type 0} (rs : List (Round T)) → writes_in (events_of_rounds rs) ≡ 0
+rounds_write_nothing [] = refl
+rounds_write_nothing (r ∷ rs) = writes_in-append (events_of_round r) (events_of_rounds rs)
+    ∙ (λ i. round_writes_nothing r i + rounds_write_nothing rs i)
+
+-- nor does a round of which only the push was made
+pub fresh_writes_nothing : {T : Type 0} (x : T) (s : Side) (b : Part) → IsFresh s b → writes_in (events_of_part x b) ≡ 0
+fresh_writes_nothing {T} x Push b is = ap (λ (p : Part). writes_in (events_of_part x p)) is
+fresh_writes_nothing {T} x Pop b is = ap (λ (p : Part). writes_in (events_of_part x p)) is.1
 
 -- what comes behind rounds and the part of one, as the rounds and the whole of that one
 joined : {T : Type 0} (es rs part made whole : List (Event T)) → es ≡ rs ++ part → part ++ made ≡ whole

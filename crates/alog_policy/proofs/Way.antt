@@ -3,7 +3,8 @@ use Rattle.std.proofs.Common.{◌≡◌, ◌≢◌, ℕ, ◌+◌, ◌⊎◌, inl
 use Rattle.std.proofs.Common.{add-zero, append-nil}
 use Rattle.std.specs.Prelude.{IsSome}
 use Rattle.alog_core.specs.Queue.{Event, Claim, Write}
-use Rattle.alog_policy.specs.Post.{IsPost, Part, Pushing, takes_in, End, Wrote, OutOfTickets, NoRoom, NothingToTake, AllGrabbed}
+use Rattle.alog_policy.specs.Post.{IsPost, Part, Pushing, takes_in, writes_in, events_of_rounds, events_of_part}
+use Rattle.alog_policy.specs.Post.{End, Wrote, OutOfTickets, NoRoom, NothingToTake, AllGrabbed}
 use Rattle.alog_policy.specs.Post.{OutOfRounds, outcome_of, overran_in}
 use Rattle.alog_policy.specs.Progress.{IsKept, IsFresh, IsSoFar, without_waiting, begun}
 use Rattle.alog_policy.specs.Outlet.{Doing, Posts, Leads, with_value, left_in, IsLeft, IsPostedOrSpent}
@@ -14,7 +15,7 @@ use Rattle.alog_policy.specs.declared.policy.Outcome.TheVariants.{Posted, Discar
 use Rattle.alog_policy.specs.declared.progress.Side.TheVariants.{Push}
 use Rattle.alog_policy.specs.declared.progress.Progress.{Progress}
 use Rattle.alog_policy.specs.declared.progress.Lost.{Lost}
-use Rattle.alog_policy.proofs.Posts.{end_agrees, begun_agrees, takes_in-append}
+use Rattle.alog_policy.proofs.Posts.{end_agrees, begun_agrees, takes_in-append, writes_in-append, rounds_write_nothing, fresh_writes_nothing}
 use Rattle.alog_policy.proofs.Keeping.{kept_begun}
 use Rattle.alog_policy.proofs.Leading.{fresh_push}
 
@@ -141,12 +142,20 @@ leads_told {S} {T} {V} did fit x v g old new told next told_next f h leads =
     subst (λ (s : S). Leads did fit x v g old s told_next) (sym f)
     (subst (λ (r : Result Progress Lost). Leads did fit x v g old new r) (sym h) leads)
 
+-- nothing is written as long as a post goes on
+pub nothing_written : {T : Type 0} (g : Progress) (x : T) (part : Part) (es : List (Event T)) → IsFresh g.side part
+    → IsSoFar g x part es → writes_in es ≡ 0
+nothing_written {T} g x part es fresh way =
+    ap (λ (fs : List (Event T)). writes_in fs) way.events_are
+    ∙ (writes_in-append (events_of_rounds way.rounds) (events_of_part x part)
+    ∙ (λ i. rounds_write_nothing way.rounds i + fresh_writes_nothing x g.side part fresh i))
+
 -- what was admitted first is admitted still
 pub stays_admitted : {S T V : Type 0} (did : Doing S T) (admits : S → V → Type 0)
-    → ((a b : S) (v : V) (es : List (Event T)) (k l : ℕ) → did a es k l b → admits a v → admits b v)
-    → (a b : S) (v : V) (es : List (Event T)) → DidSoFar did a es b → admits a v → admits b v
-stays_admitted did admits still a b v es (inl none) is = subst (λ s. admits s v) none.1 is
-stays_admitted did admits still a b v es (inr done) is = still a b v es (takes_in es) 0 done is
+    → ((a b : S) (v : V) (es : List (Event T)) (k l : ℕ) → writes_in es ≡ 0 → did a es k l b → admits a v → admits b v)
+    → (a b : S) (v : V) (es : List (Event T)) → writes_in es ≡ 0 → DidSoFar did a es b → admits a v → admits b v
+stays_admitted did admits still a b v es quiet (inl none) is = subst (λ s. admits s v) none.1 is
+stays_admitted did admits still a b v es quiet (inr done) is = still a b v es (takes_in es) 0 quiet done is
 
 with_value-outcome : {V : Type 0} (v : V) (k : ℕ) (e : End) → with_value v (outcome_of (tt {0}) k e) ≡ outcome_of v k e
 with_value-outcome v k (Wrote t) = refl

@@ -15,3 +15,5 @@ pub mod BookRule
 pub mod BookPlays
 pub mod Port
 pub mod PortTogether
+pub mod SwapPort
+pub mod SwapTogether

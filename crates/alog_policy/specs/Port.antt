@@ -3,10 +3,9 @@
 use Rattle.std.specs.Prelude.{◌≡◌, ◌≤◌, ◌⊎◌, ℕ, List, [], ◌∷◌, ◌++◌}
 use Rattle.std.specs.List.{AllByRecursion}
 use Rattle.alog_core.specs.Queue.{Event, Claim, Write, Grab, Take, Full, Front, Empty, Idle, PushBusy, PopBusy, Spent}
-use Rattle.alog_ring.specs.Calls.{Answered, by}
 use Rattle.alog_ring.specs.Known.{Known, IsPassOf, PassView}
 use Rattle.alog_ring.specs.Kinds.{no_note}
-use Rattle.alog_ring.specs.Made.{Made, EndsWith, next_seen, front_seen}
+use Rattle.alog_ring.specs.Made.{Made, EndsWith, entry, Adds, next_seen, front_seen}
 use Rattle.alog_lane.specs.Seats as lane
 use Rattle.alog_policy.specs.BookAdds.{Add, Overran, Discarded, items_in, posts_in}
 use Rattle.alog_policy.specs.BookCalls.{IsSeatOf, SeatView}
@@ -16,12 +15,17 @@ use Rattle.alog_policy.specs.declared.policy.Policy.{Policy}
 use Rattle.alog_policy.specs.declared.policy.Outcome.{Outcome}
 use Rattle.alog_policy.specs.declared.port.Port.{Port}
 
--- the pass made these two events and nothing else, and what it has seen ends with the second
-abbrev pub AnsweredBoth : {T : Type 0} → Known T no_note → Known T no_note → Event T → Event T → Type 0
-AnsweredBoth old new d e = Made old new (by old d ∷ by old e ∷ []) × EndsWith new (by old e)
+-- the pass made an entry of this event and nothing else, and what it has seen ends with it
+abbrev pub AnswersOne : {T N : Type 0} → Known T N → Known T N → Event T → Type 0
+AnswersOne {T} {N} old new e = (note : N) × Adds note old new e
+
+-- the pass made an entry of each of these two events and nothing else, and what it has seen ends with the second
+abbrev pub AnswersBoth : {T N : Type 0} → Known T N → Known T N → Event T → Event T → Type 0
+AnswersBoth {T} {N} old new d e = (first second : N)
+    × (Made old new (entry first old d ∷ entry second old e ∷ []) × EndsWith new (entry second old e))
 
 -- a refusal tells of a ticket that was read since the pass knew this
-abbrev pub IsReadSince : {T : Type 0} → Known T no_note → Event T → Type 0
+abbrev pub IsReadSince : {T N : Type 0} → Known T N → Event T → Type 0
 IsReadSince k (Claim t x) = Unit {0}
 IsReadSince k (Write t) = Unit {0}
 IsReadSince k (Grab t) = Unit {0}
@@ -35,13 +39,13 @@ IsReadSince k (PopBusy t) = front_seen k ≤ t
 IsReadSince k Spent = Unit {0}
 
 -- Rounds of a pass, one after another, that made these events: each made one or two, each refusal is of a ticket that was read since its
--- own round began, and what the pass had seen behind a round ends with the round's last event.
-pub data Rounds {T : Type 0} (old : Known T no_note) : List (Event T) → Known T no_note → Type 0 where
+-- own round began, and what the pass had seen behind a round ends with the round's last event. Of notes it says nothing.
+pub data Rounds {T N : Type 0} (old : Known T N) : List (Event T) → Known T N → Type 0 where
   none : Rounds old [] old
-  one : {es : List (Event T)} {mid new : Known T no_note} (e : Event T) → Rounds old es mid → IsReadSince mid e → Answered mid new e
+  one : {es : List (Event T)} {mid new : Known T N} (e : Event T) → Rounds old es mid → IsReadSince mid e → AnswersOne mid new e
       → Rounds old (es ++ e ∷ []) new
-  two : {es : List (Event T)} {mid new : Known T no_note} (d e : Event T) → Rounds old es mid → IsReadSince mid d → IsReadSince mid e
-      → AnsweredBoth mid new d e → Rounds old (es ++ d ∷ e ∷ []) new
+  two : {es : List (Event T)} {mid new : Known T N} (d e : Event T) → Rounds old es mid → IsReadSince mid d → IsReadSince mid e
+      → AnswersBoth mid new d e → Rounds old (es ++ d ∷ e ∷ []) new
 
 -- The pass made exactly these events, in this order, in rounds.
 pub record PassMade {T : Type 0} (old : PassView T no_note) (es : List (Event T)) (new : PassView T no_note) : Type 0 where

@@ -18,13 +18,13 @@ use Rattle.alog_policy.specs.Together.{entries_by-append}
 use Rattle.alog_policy.specs.declared.port.Port.{Port}
 
 -- rounds, and then further ones
-rounds_then : {T : Type 0} (a b c : Known T no_note) (es fs : List (Event T)) → Rounds a es b → Rounds b fs c → Rounds a (es ++ fs) c
-rounds_then {T} a b c es fs first Rounds.none =
+pub rounds_then : {T N : Type 0} (a b c : Known T N) (es fs : List (Event T)) → Rounds a es b → Rounds b fs c → Rounds a (es ++ fs) c
+rounds_then {T} {N} a b c es fs first Rounds.none =
     subst (λ (l : List (Event T)). Rounds a l b) (sym (append-nil es)) first
-rounds_then {T} a b c es fs first (Rounds.one {es = gs} {mid = m} e before read answered) =
+rounds_then {T} {N} a b c es fs first (Rounds.one {es = gs} {mid = m} e before read answered) =
     subst (λ (l : List (Event T)). Rounds a l c) (append_assoc es gs (e ∷ []))
     (Rounds.one e (rounds_then a b m es gs first before) read answered)
-rounds_then {T} a b c es fs first (Rounds.two {es = gs} {mid = m} d e before read also answered) =
+rounds_then {T} {N} a b c es fs first (Rounds.two {es = gs} {mid = m} d e before read also answered) =
     subst (λ (l : List (Event T)). Rounds a l c) (append_assoc es gs (d ∷ e ∷ []))
     (Rounds.two d e (rounds_then a b m es gs first before) read also answered)
 

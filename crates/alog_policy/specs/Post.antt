@@ -107,6 +107,25 @@ abbrev pub takes_in : {T : Type 0} → List (Event T) → ℕ
 takes_in [] = 0
 takes_in (e ∷ es) = take_in e + takes_in es
 
+-- one for a write
+abbrev pub write_in : {T : Type 0} → Event T → ℕ
+write_in (Claim t x) = 0
+write_in (Write t) = 1
+write_in (Grab t) = 0
+write_in (Take t x) = 0
+write_in (Full t) = 0
+write_in (Front t) = 0
+write_in (Empty t) = 0
+write_in (Idle t) = 0
+write_in (PushBusy t) = 0
+write_in (PopBusy t) = 0
+write_in Spent = 0
+
+-- how many of these events are writes
+abbrev pub writes_in : {T : Type 0} → List (Event T) → ℕ
+writes_in [] = 0
+writes_in (e ∷ es) = write_in e + writes_in es
+
 -- These events are one post under this policy: it brought v, of which a cell shows the item x, and ended with this outcome.
 pub record IsPost {T V : Type 0} (p : Policy) (x : T) (v : V) (events : List (Event T)) (outcome : Outcome V) : Type 0 where
   pub rounds : List (Round T)

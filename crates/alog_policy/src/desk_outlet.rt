@@ -74,7 +74,7 @@ impl<T: Drop> Outlet for DeskOutlet<'_, T> {
           (subst (λ x. DeskDid x b.desk.now fs m n c.desk.now) first.0 then.2),
     ) };
 
-    ghost still = { λ a b v es k l done is. tt };
+    ghost still = { λ a b v es k l none done is. tt };
 }
 
 impl<T: Drop> Desk<T> {

@@ -3,15 +3,15 @@
 //! `post_now` makes a post that never waits, on any `Outlet`, and answers its `Outcome`. A `Desk` is the stepped queue of
 //! `alog_core` whose actors also make posts, one atomic step at a time, and which counts what they lose; `Desk::outlet`
 //! lends it to one actor for posts that are made at once. A `LossBook` counts losses for any number of threads, and a
-//! `Port` posts on a running ring; `post_wait` waits there under `Block`, as does `post_from`. The tests `overruns_the_oldest`, `posts_at_once`
-//! and `a_lone_port_posts` of `test_queue` are examples.
+//! `Port` posts on a running ring, a `SwapPort` on a swap ring; `post_wait` waits there under `Block`, as does `post_from`. The tests
+//! `overruns_the_oldest`, `posts_at_once`, `a_lone_port_posts` and `a_swap_port_posts` of `test_queue` are examples.
 //!
 //! What a post is, is told by its actor's events alone: rounds that go on, and then one end. Read `specs/Post.antt` for that
 //! definition, `specs/Progress.antt` for the same as a machine, `specs/Outlet.antt` for what an outlet promises,
 //! `specs/Desk.antt` for the desk, and `specs/Runs.antt` for what is true of whole runs; then `policy.rt`, `progress.rt`,
 //! `outlet.rt` and `posting.rt` (`post_now`), `desk.rt` with `following.rt` (what follows in a post after a step of it),
-//! and `desk_outlet.rt` with `rounds.rt` (rounds whose steps are made at once); `port.rt` with `specs/Port.antt`, and
-//! `waiting.rt` (`post_wait`) with `room_wait.rt` (how it waits).
+//! and `desk_outlet.rt` with `rounds.rt` (rounds whose steps are made at once); `port.rt` with `specs/Port.antt`,
+//! `swap_port.rt` with `specs/SwapPort.antt`, and `waiting.rt` (`post_wait`) with `room_wait.rt` (how it waits).
 //!
 //! Of the loss book contracts see one history of adds, each with its seat; what `counts` and `close` answer are sums of
 //! such histories. Read `specs/BookAdds.antt` and `specs/BookCalls.antt`, then `loss_book.rt` (a book, adds and counts),
@@ -38,6 +38,7 @@ mod posting;
 mod progress;
 mod room_wait;
 mod rounds;
+mod swap_port;
 mod waiting;
 
 pub use alog_lane::ALL_PARTS;
@@ -48,13 +49,14 @@ pub use desk::Desk;
 pub use desk_outlet::DeskOutlet;
 pub use laws::runs_are_cut;
 pub use loss_book::LossBook;
-pub use outlet::Outlet;
+pub use outlet::{Outlet, RoomyOutlet};
 pub use policy::{Outcome, Policy, Why};
 pub use port::Port;
 pub use post::{Post, Stepped};
 pub use posting::post_now;
 pub use progress::{Lost, Progress, Side};
 pub use room_wait::RoomWait;
+pub use swap_port::SwapPort;
 pub use waiting::{post_from, post_wait};
 
 /// A post that does not block ends after so many rounds that went on.

@@ -12,6 +12,7 @@ pub trait Outlet {
     ghost use Rattle.std.specs.Prelude.{◌≡◌, ◌+◌, ℕ, List, [], ◌∷◌, ◌++◌, None, IsSome, IfSome, IfOk, IfErr, OnOk};
     ghost use Rattle.alog_core.specs.Queue.{Event, Claim, Write};
     ghost use Rattle.alog_policy.specs.Outlet.{PushRefused, Overran, PopRefused};
+    ghost use Rattle.alog_policy.specs.Post.{writes_in};
 
     /// What a post brings.
     type Value;
@@ -57,7 +58,14 @@ pub trait Outlet {
     ghost together: { (a b c : Self) (es fs : List (Event Self.Item)) (k l m n : ℕ) → did a es k l b → did b fs m n c
         → did a (es ++ fs) (k + m) (l + n) c };
 
-    // What is admitted stays so.
-    ghost still: { (a b : Self) (v : Self.Value) (es : List (Event Self.Item)) (k l : ℕ) → did a es k l b → admits a v
-        → admits b v };
+    // What is admitted stays so until something is written.
+    ghost still: { (a b : Self) (v : Self.Value) (es : List (Event Self.Item)) (k l : ℕ) → writes_in es ≡ 0 → did a es k l b
+        → admits a v → admits b v };
+}
+
+/// An outlet whose queue has places, by whose number a post waits for room: `post_wait` is written once, for any of them. `Port` is
+/// one.
+pub trait RoomyOutlet: Outlet {
+    /// How many places the queue has.
+    fn places(&self) -> usize;
 }

@@ -1,7 +1,7 @@
 //! A port: posts on a running ring, with a loss book.
 use crate::book_seat::BookSeat;
 use crate::loss_book::LossBook;
-use crate::outlet::Outlet;
+use crate::outlet::{Outlet, RoomyOutlet};
 use alog_ring::{Limit, NoLimit, Pass, PopError, PushError, Ring};
 
 /// What a thread posts with on a running ring: it lends the ring, a pass of it, a loss book and a seat of that. Contracts
@@ -55,5 +55,11 @@ impl<T: Drop, L: Limit<T>> Outlet for Port<'_, T, L> {
 
     ghost together = { port_together };
 
-    ghost still = { λ a b x es k l done is. subst (λ r. L.admits r.now.limit x) (sym done.ring) is };
+    ghost still = { λ a b x es k l none done is. subst (λ r. L.admits r.now.limit x) (sym done.ring) is };
+}
+
+impl<T: Drop, L: Limit<T>> RoomyOutlet for Port<'_, T, L> {
+    fn places(&self) -> usize {
+        self.ring.places()
+    }
 }

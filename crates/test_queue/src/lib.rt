@@ -7,7 +7,7 @@
 //! `step_tests.rt` (the running ring, its values from thread to thread, and what is met beside a push or a pop that is held);
 //! `swap_ring_tests.rt` and `swap_crossing_tests.rt` (the swap ring); `lane_tests.rt`;
 //! `desk_tests.rt` (posts on the stepped queue), `outlet_tests.rt`, `book_tests.rt` (the loss book), `port_tests.rt` (posts on a
-//! running ring) and `room_wait_tests.rt` (how long a post waits for room); `limits.rt` has the limits by their numbers.
+//! running ring), `swap_port_tests.rt` (on a swap ring) and `room_wait_tests.rt` (how long a post waits for room); `limits.rt` has the limits by their numbers.
 #![tactic(auto)]
 
 #[cfg(test)]
@@ -37,6 +37,8 @@ mod room_wait_tests;
 mod step_tests;
 #[cfg(test)]
 mod swap_crossing_tests;
+#[cfg(test)]
+mod swap_port_tests;
 #[cfg(test)]
 mod swap_ring_tests;
 #[cfg(test)]

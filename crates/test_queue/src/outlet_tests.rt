@@ -44,7 +44,7 @@ impl Outlet for Outrun {
 
     ghost together = { λ a b c es fs k l m n first then. tt };
 
-    ghost still = { λ a b v es k l done is. tt };
+    ghost still = { λ a b v es k l none done is. tt };
 }
 
 // What a post of 7 ends with, and how many pushes, pops and discarded posts the outlet then counted.

@@ -11,7 +11,7 @@ use std::process::Abort;
 use std::test::Fail;
 
 // A swap ring with these spares, and its first pass.
-fn swap_ring_of(
+pub(crate) fn swap_ring_of(
     rt: &impl Abort,
     places: usize,
     first: u64,
@@ -104,7 +104,7 @@ fn stays(
 }
 
 // No pass is out, and these cells and spares are left in the ring.
-fn leaves(
+pub(crate) fn leaves(
     rt: &impl Abort,
     ring: SwapRing<u64>,
     pass: SwapPass<u64>,

@@ -10,7 +10,7 @@ use Rattle.alog_policy.specs.declared.policy.Policy.TheVariants.{Block}
 use Rattle.alog_policy.specs.declared.policy.Outcome.TheVariants.{Posted, Discarded}
 use Rattle.alog_policy.specs.declared.progress.Progress.{Progress}
 use Rattle.alog_policy.specs.declared.progress.Lost.{Lost}
-use Rattle.alog_policy.proofs.Way.{posting_begins, posting_goes_on, posting_is_lost, posting_wrote, never_block, leads_told, stays_admitted}
+use Rattle.alog_policy.proofs.Way.{posting_begins, posting_goes_on, posting_is_lost, posting_wrote, never_block, leads_told, stays_admitted, nothing_written}
 use Rattle.alog_policy.proofs.posting.post_at_once.Goals as goal
 use Rattle.alog_policy.proofs.posting.post_at_once.Goals.{in-Push+in-Err, in-Pop}
 
@@ -149,7 +149,8 @@ push-requires g c =
       there = let P : Option _ → Type 0 = λ h. IsSome h in subst P (sym c.loop-progress.invariant.hand) c.requires.there;
       admitted = let P : Option _ → Type 0 = λ h. IfSome h (o.admits now) in
           subst P (sym (c.loop-progress.invariant.hand ∙ there.1))
-          (stays_admitted o.did o.admits g.met.O.Outlet.still c.args.outlet.now now v posting.events posting.done
+          (stays_admitted o.did o.admits g.met.O.Outlet.still c.args.outlet.now now v posting.events
+          (nothing_written c.loop-progress.progress (o.shows v) posting.part posting.events posting.fresh posting.way) posting.done
           (of_value (o.admits c.args.outlet.now) c.args.hand.now v there.1 c.requires.admitted));
       side = c.in-Push.is;
       kept = posting.kept;

@@ -9,7 +9,7 @@ use Rattle.alog_policy.specs.declared.policy.Outcome.TheVariants.{Posted, Discar
 use Rattle.alog_policy.specs.declared.policy.Policy.TheVariants.{Block}
 use Rattle.alog_policy.specs.declared.policy.Why.TheVariants.{Spent}
 use Rattle.alog_policy.proofs.Leading.{full_leads, push_busy_leads, spent_leads}
-use Rattle.alog_policy.proofs.Way.{posting_begins, posting_goes_on, posting_is_lost, posting_wrote, stays_admitted}
+use Rattle.alog_policy.proofs.Way.{posting_begins, posting_goes_on, posting_is_lost, posting_wrote, stays_admitted, nothing_written}
 use Rattle.alog_policy.proofs.waiting.post_blocking.Goals as goal
 
 pub loop-init : goal.loop-init
@@ -33,7 +33,8 @@ push_from-requires g c =
       there = let P : Option _ → Type 0 = λ h. IsSome h in subst P (sym c.loop.invariant.hand) c.requires.there;
       admitted = let P : Option _ → Type 0 = λ h. IfSome h (o.admits c.loop.outlet) in
           subst P (sym (c.loop.invariant.hand ∙ there.1))
-          (stays_admitted o.did o.admits g.met.O.Outlet.still c.args.outlet.now c.loop.outlet v now.events now.done
+          (stays_admitted o.did o.admits g.met.O.Outlet.still c.args.outlet.now c.loop.outlet v now.events
+          (nothing_written (begun Block) (o.shows v) now.part now.events now.fresh now.way) now.done
           (of_value (o.admits c.args.outlet.now) c.args.hand.now v there.1 c.requires.admitted));
     }
 
