@@ -23,7 +23,7 @@ mod Turns
 mod Fans
 mod Opens
 pub mod SharedKeeps
-pub mod SharedSuits
+mod FanSuits
 pub mod SharedCrosses
 pub mod SharedLaneRuns
 pub mod SharedFolderCrosses

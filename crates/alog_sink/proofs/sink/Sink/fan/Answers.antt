@@ -4,7 +4,7 @@ use Rattle.alog_sink.specs.Lines.{FaceSuits}
 use Rattle.alog_sink.specs.Opened.{AreNoMembers}
 use Rattle.alog_sink.specs.Turn.{FanView, LeafView}
 use Rattle.alog_sink.specs.declared.sink.Sink.{Sink}
-use Rattle.alog_sink.proofs.SharedSuits.{leaves_suit}
+use Rattle.alog_sink.proofs.FanSuits.{leaves_suit}
 use Rattle.alog_sink.proofs.sink.Sink.fan.Goals as goal
 
 pub returns-clause-suits : goal.returns-clause-suits
