@@ -109,9 +109,9 @@ first_texts s at is n bytes same first =
     first.2 ∙ ap (λ (a : Civil). flat_map (second_text a) (take n is)) (sym same) ∙ sym (they_last s (take n is) first.1)
 
 -- and what such a line begins with may be remembered
-pub are_first : (s : Shown) (at : Civil) (is : List Item) (n : ℕ) (bytes : List ℕ) → s.at ≡ at → n ≤ length is → Last (take n is)
+pub are_first : (s : Shown) {at : Civil} (is : List Item) (n : ℕ) {bytes : List ℕ} → s.at ≡ at → n ≤ length is → Last (take n is)
     → bytes ≡ flat_map (item_text s) (take n is) → AreFirst is at n bytes
-are_first s at is n bytes same within last written =
+are_first s is n same within last written =
     (within, last, written ∙ they_last s (take n is) last ∙ ap (λ (a : Civil). flat_map (second_text a) (take n is)) same)
 
 -- what was written behind the bytes of a buffer
@@ -133,10 +133,10 @@ pub rest_is : (is : List Item) (n : ℕ) → take (length is - n) (drop n is) �
 rest_is is n = take_all (length is - n) (drop n is) (omega (arith, length-drop n is))
 
 -- there is room for a remembered text, and for what is left behind it
-pub first_room : (limit : ℕ) (s : Shown) → IsShowable limit s → (is : List Item) (n : ℕ) (bytes : List ℕ) (len cap : ℕ)
+pub first_room : {limit : ℕ} {s : Shown} → IsShowable limit s → (is : List Item) (n : ℕ) {bytes : List ℕ} (len cap : ℕ)
     → bytes ≡ flat_map (item_text s) (take n is) → len + (sum_by (item_len limit) is + 1) ≤ cap
     → len + length bytes + sum_by (item_len limit) (drop n is) < cap
-first_room limit s h is n bytes len cap written room =
+first_room {limit} {s} h is n len cap written room =
     omega (arith, ap length written, texts_len limit s h (take n is), sum_by-take-drop (item_len limit) is n)
 
 pub both_written : (old mid new : Buffer) (xs ys : List ℕ) → mid ≡ appended old xs → new ≡ appended mid ys → new ≡ appended old (xs ++ ys)

@@ -69,10 +69,10 @@ pub is_kept : (b new : Buffer) (p : Padding) (text : List ℕ) (end : ℕ)
     → new ≡ appended b (kept p.width p.cut text)
 is_kept b new p text end room e w = w ∙ ap (λ n. clipped b n text) e ∙ kept_by b p.width p.side p.cut text room
 
-pub kept_fits : (b new : Buffer) (p : Padding) (text : List ℕ) (start width : ℕ)
+pub kept_fits : (b : Buffer) {new : Buffer} (p : Padding) (text : List ℕ) {start width : ℕ}
     → length b.bytes + length (pad p.width p.side p.cut text) ≤ b.capacity → start ≡ length b.bytes → width ≡ p.width
     → new ≡ appended b (kept p.width p.cut text) → start + max width (length new.bytes - start) ≤ new.capacity
-kept_fits b new p text start width room e f w =
+kept_fits b {new} p text room e f w =
     let whole = kept_len p.width p.side p.cut text in
     let bytes : length new.bytes ≡ length b.bytes + length (kept p.width p.cut text) = ap (λ (x : Buffer). length x.bytes) w
     ∙ length-append b.bytes (kept p.width p.cut text) in
@@ -93,10 +93,10 @@ from_start b width side text =
     ∙ ap (λ (l : List ℕ). record b { bytes = b.bytes ++ pad width side false l }) back
 
 -- and then padded
-pub padded_is : (b new out : Buffer) (p : Padding) (text : List ℕ) (start width : ℕ) → start ≡ length b.bytes → width ≡ p.width
+pub padded_is : (b : Buffer) {new out : Buffer} (p : Padding) (text : List ℕ) {start width : ℕ} → start ≡ length b.bytes → width ≡ p.width
     → new ≡ appended b (kept p.width p.cut text) → out ≡ padded_from new start width p.side
     → out ≡ appended b (pad p.width p.side p.cut text)
-padded_is b new out p text start width e f w last =
+padded_is b p text {start} {width} e f w last =
     last ∙ ap (λ (x : Buffer). padded_from x start width p.side) w
     ∙ ap (λ n. padded_from (appended b (kept p.width p.cut text)) n width p.side) e
     ∙ ap (λ n. padded_from (appended b (kept p.width p.cut text)) (length b.bytes) n p.side) f

@@ -41,11 +41,11 @@ seconds_are offset time number at shown is =
     omega (arith, signed_arith)
 
 -- any time in that second
-pub shown_in : (zone : Zone) (time number : ℤ) (at : DateTime) (civil : Civil) (n : ℕ)
+pub shown_in : (zone : Zone) (time : ℤ) {number : ℤ} (at : DateTime) {civil : Civil} (n : ℕ)
     → civil_seconds at ≡ number +ℤ offset_seconds zone time
     → civil ≡ with_nanosecond civil.nanosecond (fields (offset_seconds zone time) at) → number ≡ int_div_euclid time (pos 1_000_000_000) → pos n ≡ int_rem_euclid time (pos 1_000_000_000)
     → IsShownAt zone time (with_nanosecond n civil)
-shown_in zone time number at civil n in_second is second rest =
+shown_in zone time at n in_second is second rest =
     let small : n < 1_000_000_000 = omega (arith, signed_arith) in
     let other = with_subsec n small at in
     let a = civil_nanos-civil_seconds other in

@@ -21,7 +21,7 @@ pad-requires-clause-fits c =
     let new = c.write_flag.new.line in
     let w = is_kept c.args.line.now new c.args.padding text c.end_of-end.result c.requires c.end_of-end.ensures
     c.write_flag.ensures.written in
-    kept_fits c.args.line.now new c.args.padding text c.len-start.result c.from.result c.requires c.len-start.ensures c.from.ensures w
+    kept_fits c.args.line.now c.args.padding text c.requires c.len-start.ensures c.from.ensures w
 
 pub returns : goal.returns
 returns c =
@@ -29,5 +29,4 @@ returns c =
     let new = c.write_flag.new.line in
     let w = is_kept c.args.line.now new c.args.padding text c.end_of-end.result c.requires c.end_of-end.ensures
     c.write_flag.ensures.written in
-    padded_is c.args.line.now new c.pad.new.line c.args.padding text c.len-start.result c.from.result c.len-start.ensures
-    c.from.ensures w c.pad.ensures
+    padded_is c.args.line.now c.args.padding text c.len-start.ensures c.from.ensures w c.pad.ensures

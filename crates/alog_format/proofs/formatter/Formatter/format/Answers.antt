@@ -27,7 +27,7 @@ put-requires c =
     let room : length old.bytes + longest p ≤ old.capacity = subst (λ (q : Compiled). length old.bytes + longest q ≤ old.capacity) (sym pattern) c.requires.room in
     let text : length c.args.message.now.text ≤ p.text_limit = subst (λ (q : Compiled). length c.args.message.now.text ≤ q.text_limit) (sym pattern) c.requires.text in
     let showable : IsShowable p.text_limit s = search rules in
-    let fits = first_room p.text_limit s showable p.items i.count i.first.items (length old.bytes) old.capacity texts room in
+    let fits = first_room showable p.items i.count (length old.bytes) old.capacity texts room in
     rw (c.turn_to.ensures.line, c.as_slice.ensures.value) (omega (arith, fits))
 
 pub write_items-requires-clause-room : goal.write_items-requires-clause-room
@@ -42,7 +42,7 @@ write_items-requires-clause-room c =
     let room : length old.bytes + longest p ≤ old.capacity = subst (λ (q : Compiled). length old.bytes + longest q ≤ old.capacity) (sym pattern) c.requires.room in
     let text : length c.args.message.now.text ≤ p.text_limit = subst (λ (q : Compiled). length c.args.message.now.text ≤ q.text_limit) (sym pattern) c.requires.text in
     let showable : IsShowable p.text_limit s = search rules in
-    let fits = first_room p.text_limit s showable p.items i.count i.first.items (length old.bytes) old.capacity texts room in
+    let fits = first_room showable p.items i.count (length old.bytes) old.capacity texts room in
     let put : c.put.new.line ≡ appended old i.first.items =
     c.put.ensures ∙ ap (λ (b : Buffer). appended b c.as_slice.result.now) c.turn_to.ensures.line ∙ ap (appended old) c.as_slice.ensures.value in
     let rest : take (length c.items.result.now - i.count) (drop i.count c.items.result.now) ≡ drop i.count p.items =

@@ -45,7 +45,7 @@ invariant_of-self c =
             let bytes : c.try_extend_from_slice.new.self.items ≡ flat_map (item_text s) (take count is) =
             added ∙ (ap (λ (l : List ℕ). l ++ more) c.clear.ensures ∙ texts) in
             subst (λ (n : ℕ). AreFirst is i.civil n c.try_extend_from_slice.new.self.items) (sym w.self-is)
-            (are_first s i.civil is count c.try_extend_from_slice.new.self.items c.facts_of-facts.ensures.at within last bytes)
+            (are_first s is count c.facts_of-facts.ensures.at within last bytes)
         | in-Err w ↦
             subst (λ (n : ℕ). AreFirst is i.civil n c.try_extend_from_slice.new.self.items) (sym w.self-is)
             (omega arith, (λ k d short. absurd (omega arith)), ap (λ v. v.items) w.in-Err.ensures.err ∙ c.clear.ensures)

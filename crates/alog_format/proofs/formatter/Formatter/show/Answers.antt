@@ -99,4 +99,4 @@ returns-clause-shown c =
     let seconds : civil_seconds i.at ≡ i.second +ℤ offset_seconds c.args.zone.now c.args.time = k.in_second ∙ ap (λ (o : ℤ). i.second +ℤ o) offset in
     let shows : i.civil ≡ with_nanosecond i.civil.nanosecond (fields (offset_seconds c.args.zone.now c.args.time) i.at) =
     k.shows ∙ ap (λ (o : ℤ). with_nanosecond i.civil.nanosecond (fields o i.at)) offset in
-    shown_in c.args.zone.now c.args.time i.second i.at i.civil c.unsigned_abs.result seconds shows (k.second_is ∙ divided) rest
+    shown_in c.args.zone.now c.args.time i.at c.unsigned_abs.result seconds shows (k.second_is ∙ divided) rest
