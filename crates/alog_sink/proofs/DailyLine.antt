@@ -72,11 +72,11 @@ module _ {A E : Type 0} (d : Days) (entry : Entry) (name line : List ℕ) (is_na
           (one_failed (deeds_of d entry) [] (Append name line) old mid new at
           (subst (λ s. OnErr s (LeavesFront name line mid new)) e failed))
 
-pub line_stands : {A E : Type 0} (d next : Days) (w : Written) → next ≡ with_entry d (entry_of d.limits w) → pos 0 ≤ℤ w.at.date.year
-    → (opening : Files) (ws : List Written) (old new : Files) (r : Result A E) → Does (deeds_of d (entry_of d.limits w)) old new r
+pub line_stands : {A E : Type 0} {d next : Days} (w : Written) → next ≡ with_entry d (entry_of d.limits w) → pos 0 ≤ℤ w.at.date.year
+    → {opening : Files} {ws : List Written} {old new : Files} {r : Result A E} → Does (deeds_of d (entry_of d.limits w)) old new r
     → StandsFor d opening ws old → OnOk r (StandsFor next opening (ws ++ w ∷ []) new)
-line_stands d next w is year opening ws old new (Ok x) does s =
+line_stands {d} w is year {opening} {ws} {old} {new} {r = Ok x} does s =
     subst (λ e. StandsFor e opening (ws ++ w ∷ []) new) (sym is)
     (days_alike (with_entry d (entry_of d.limits w)) opening (ws ++ w ∷ []) (all_done (deeds_of d (entry_of d.limits w)) old) new does.done
     (stands_more d opening ws old w year s))
-line_stands d next w is year opening ws old new (Err x) does s = tt
+line_stands w is year {r = Err x} does s = tt

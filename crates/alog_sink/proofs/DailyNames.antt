@@ -125,10 +125,10 @@ is_last_of : (names : List (List ℕ)) (name : List ℕ) → Contains names name
 is_last_of [] name h e = absurd (no_name [] name refl h)
 is_last_of (n ∷ names) name h e = ap (λ x. bytes_eq x name) e ∙ test_same name
 
-pub comes_directly : (limits : DayLimits) (entries : List Entry) (segments : List Segment) (w : Written) → pos 0 ≤ℤ w.at.date.year
+pub comes_directly : (limits : DayLimits) {entries : List Entry} {segments : List Segment} (w : Written) → pos 0 ≤ℤ w.at.date.year
     → AreSegments entries segments → All (IsOf limits) entries → opens entries (entry_of limits w) ≡ true
     → Contains (opened_names segments) (entry_of limits w).name → is_last (entry_of limits w).name (opened_names segments) ≡ true
-comes_directly limits entries segments w year cut all early has = elim (latest limits entries segments cut all) [
+comes_directly limits {entries} {segments} w year cut all early has = elim (latest limits entries segments cut all) [
   | inl empty ↦ absurd (no_name (opened_names segments) (entry_of limits w).name empty has)
   | inr l ↦
       let b = l.before (entry_of limits w).name has in

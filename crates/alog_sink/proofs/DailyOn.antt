@@ -47,8 +47,7 @@ module _ (d : Days) (opening : Files) (ws : List Written) (files : Files) (w : W
   directly : opens entries entry ≡ true → Contains s.opened entry.name → is_last entry.name s.opened ≡ true
   directly early has =
       subst (λ names. is_last entry.name names ≡ true) s.daily.opened
-      (comes_directly d.limits entries s.daily.segments w year s.daily.cut all_of early
-      (subst (λ names. Contains names entry.name) (sym s.daily.opened) has))
+      (comes_directly d.limits w year s.daily.cut all_of early (subst (λ names. Contains names entry.name) (sym s.daily.opened) has))
 
   daily : IsDaily max (names_after s.opened entries entry) opening (entries ++ entry ∷ [])
       (all_done (day_deeds max s.opened entries entry) files)

@@ -120,14 +120,14 @@ first_of file n (x ∷ dates) oldest full first =
     ap (λ b. cond b (Remove (get_or names (length names - suc n) []) ∷ []) []) (test_less n (length names) (omega arith))
     ∙ (ap (λ k. Remove (get_or names k []) ∷ []) place ∙ ap (λ d. Remove (dated file d) ∷ []) is)
 
-pub way_does : {A E : Type 0} (file : List ℕ) (max : ℕ) (dates : List Date) (oldest : Date) (name : List ℕ) → max ≢ 0
-    → length dates ≡ names_known max → slice_get dates 0 ≡ Some oldest → name ≡ dated file oldest → (old new : Files) (r : Result A E)
+pub way_does : {A E : Type 0} (file : List ℕ) {max : ℕ} (dates : List Date) {oldest : Date} {name : List ℕ} → max ≢ 0
+    → length dates ≡ names_known max → slice_get dates 0 ≡ Some oldest → name ≡ dated file oldest → {old new : Files} {r : Result A E}
     → OnOk r (AreSame (removed name old) new) → OnErr r (AreSame old new)
     → Does (makes_way max (map (dated file) dates)) old new r
-way_does file zero dates oldest name some full first is old new r done failed = absurd (some refl)
-way_does file (suc n) dates oldest name some full first is old new r done failed =
+way_does file {max = zero} dates some full first is done failed = absurd (some refl)
+way_does file {max = suc n} dates {oldest} {name} some full first is {old} {new} {r} done failed =
     subst (λ deeds. Does deeds old new r) (sym (first_of file n dates oldest full first ∙ ap (λ m. Remove m ∷ []) (sym is)))
-    (removed_only name name 0 refl refl old new r done failed)
+    (removed_only {file = name} {name = name} {n = 0} refl refl {old = old} {new = new} {r = r} done failed)
 
 pub test_is : (a b : ℕ) → eqb a b ≡ true → a ≡ b
 test_is a b h = grind (arith, nat_tests)

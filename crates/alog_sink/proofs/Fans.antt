@@ -33,10 +33,10 @@ pub record SoFar {L A : Type 0} (Does : L → Result A SinkError → L → Type 
 
 module _ {L A : Type 0} (Does : L → Result A SinkError → L → Type 0) (done : A) (old new : List L) where
   -- the next member has its turn
-  pub one_more : (i : ℕ) (answer given : Result A SinkError) (o n : L) → length new ≡ length old → i < length new
+  pub one_more : {i : ℕ} {answer given : Result A SinkError} {o n : L} → length new ≡ length old → i < length new
       → o ≡ get_or new i o → SoFar Does done i old new answer → Does o given n
       → SoFar Does done (i + 1) old (set new i n) (or_fault answer given)
-  one_more i answer given o n same lt at so it =
+  one_more {i} {given} {o} {n} same lt at so it =
       let lt' : i < length old = omega arith
       in let both : o ∷ drop (i + 1) new ≡ get_or old i o ∷ drop (i + 1) old =
       ap (λ x. x ∷ drop (i + 1) new) at ∙ sym (drop_more new i o lt) ∙ so.rest ∙ drop_more old i o lt'

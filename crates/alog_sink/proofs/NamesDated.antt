@@ -39,16 +39,17 @@ dated_names_differ name a b is is' e =
     (append_cancel_right (stem name ++ date_text a) (stem name ++ date_text b) (extension name) e))
 
 -- what was written into a text with room
-pub pushed : {E : Type 0} (r : Result (Unit {0}) E) (old text new : List ℕ) (count room after : ℕ)
+pub pushed : {E : Type 0} (r : Result (Unit {0}) E) (old text : List ℕ) {new : List ℕ} (count room : ℕ) {after : ℕ}
     → (count + length text ≤ room → IsOk r) → count + length text ≤ room → new ≡ cond (is_ok r) (old ++ text) old
     → after ≡ cond (is_ok r) (count + length text) count → (new ≡ old ++ text) × (after ≡ count + length text)
-pushed (Ok _) old text new count room after succeeds fits is counted = (is, counted)
-pushed (Err e) old text new count room after succeeds fits is counted = absurd (let e = succeeds fits in cc)
+pushed (Ok _) old text count room succeeds fits is counted = (is, counted)
+pushed (Err e) old text count room succeeds fits is counted = absurd (let e = succeeds fits in cc)
 
 -- the three parts, one after another
-pub three_parts : (name front middle back first second third : List ℕ) (date : Date) → front ≡ stem name → middle ≡ date_text date
+pub three_parts : (name : List ℕ) {front middle back first second third : List ℕ} (date : Date) → front ≡ stem name
+    → middle ≡ date_text date
     → back ≡ extension name → first ≡ [] ++ front → second ≡ first ++ middle → third ≡ second ++ back → third ≡ dated name date
-three_parts name front middle back first second third date f m b e1 e2 e3 =
+three_parts name {middle} {back} date f m b e1 e2 e3 =
     e3 ∙ (ap (λ xs. xs ++ back) (e2 ∙ (ap (λ xs. xs ++ middle) (e1 ∙ f) ∙ ap (λ xs. stem name ++ xs) m))
     ∙ ap (λ xs. stem name ++ date_text date ++ xs) b)
 

@@ -12,10 +12,11 @@ use Rattle.alog_sink.specs.declared.sink.Sink.{Sink}
 use Rattle.alog_sink.specs.declared.sink.Sink.TheVariants.{Leaf, Fan}
 use Rattle.alog_sink.specs.declared.target.Target.{Target}
 
-pub opened : {S : Type 0} (tells : Bool) (files : S → Files) (face : Face) (IsSuch : Target → Type 0) (opening : Files) (target : Target)
-    (store : S) (leaf : LeafView S) → leaf ≡ record { face = face; target = target; store = store; broken = false; previous = None } → IsSuch target
+pub opened : {S : Type 0} {tells : Bool} (files : S → Files) {face : Face} (IsSuch : Target → Type 0) {opening : Files} {target : Target}
+    {store : S} {leaf : LeafView S} → leaf ≡ record { face = face; target = target; store = store; broken = false; previous = None }
+    → IsSuch target
     → (tells ≡ true → IsKept target opening [] (files store)) → Opened tells files face IsSuch opening (Leaf leaf)
-opened {S} tells files face IsSuch opening target store leaf is such kept =
+opened {S} {tells} files {face} IsSuch {opening} {target} {store} {leaf} is such kept =
     let v : LeafView S = record { face = face; target = target; store = store; broken = false; previous = None }
     in let P : LeafView S → Type 0 = λ l. Opened tells files face IsSuch opening (Leaf l)
     in subst P (sym is) (record {

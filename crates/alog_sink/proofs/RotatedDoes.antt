@@ -73,9 +73,9 @@ module _ {A E : Type 0} (deeds : List Deed) (old new : Files) where
   does_err r e is broken = subst (λ x. Does deeds old new x) (sym is) (record { done = tt; failed = broken })
 
 -- a call whose failure is counted, after calls that did not fail
-pub counts_err : {A B E : Type 0} (r : Result A E) (e : E) → r ≡ Err e → (e' : E) (old mid new : ℕ) → mid ≡ old
+pub counts_err : {A B E : Type 0} {r : Result A E} {e : E} → r ≡ Err e → {e' : E} {old mid new : ℕ} → mid ≡ old
     → Counts {A = B} {E = E} mid new (Err e') → Counts old new r
-counts_err {A} {B} {E} r e is e' old mid new same counts =
+counts_err {A} {B} {E} {e} is {old} {new} same counts =
     subst (λ x. Counts old new x) (sym is) (subst (λ m. Counts {A = A} {E = E} m new (Err e)) same
     (record { done = tt; failed = counts.failed }))
 
@@ -127,11 +127,11 @@ renames_begin file n some old =
     subst (λ left. HasDone (gives_up file n) left old old) (gives_up_is file n some) (nothing_done (gives_up file n) old)
 
 -- the only file is removed
-pub removed_only : {A E : Type 0} (file name : List ℕ) (n : ℕ) → n ≡ 0 → name ≡ file → (old new : Files) (r : Result A E)
+pub removed_only : {A E : Type 0} {file name : List ℕ} {n : ℕ} → n ≡ 0 → name ≡ file → {old new : Files} {r : Result A E}
     → OnOk r (AreSame (removed name old) new) → OnErr r (AreSame old new) → Does (gives_up file n) old new r
-removed_only {A} {E} file name n none e old new (Ok x) done failed =
+removed_only {A} {E} {file} none e {old} {new} {r = Ok x} done failed =
     subst (λ m. Does {A = A} {E = E} (gives_up file m) old new (Ok x)) (sym none)
     (does_ok (Remove file ∷ []) old new x (subst (λ f. AreSame (removed f old) new) e done))
-removed_only {A} {E} file name n none e old new (Err x) done failed =
+removed_only {A} {E} {file} none e {old} {new} {r = Err x} done failed =
     subst (λ m. Does {A = A} {E = E} (gives_up file m) old new (Err x)) (sym none) (does_err (Remove file ∷ []) old new (Err x) x refl
     (one_failed (Remove file ∷ []) [] (Remove file) old old new (nothing_done (Remove file ∷ []) old) failed))

@@ -123,12 +123,12 @@ fronts (x ∷ xs) (y ∷ ys) us vs e =
 
 module _ (max : ℕ) where
   -- a run cannot go on past where another of the same pieces ends
-  too_long : (run other : Run) (runs : List Run) (q : List ℕ) (qs tail : List (List ℕ)) → 1 ≤ length run
+  too_long : (run : Run) {other : Run} (runs : List Run) {q : List ℕ} (qs tail : List (List ℕ)) → 1 ≤ length run
       → All (IsRun max) runs → IsFull max run runs → IsRun max other → other ≡ run ++ q ∷ qs → flat runs ≡ q ∷ qs ++ tail → ⊥
-  too_long run other [] q qs tail some each full is e f = absurd (cc)
-  too_long run other ([] ∷ runs) q qs tail some each full is e f =
+  too_long run [] qs tail some each full is e f = absurd (cc)
+  too_long run ([] ∷ runs) qs tail some each full is e f =
       let one = (All-head (IsRun max) [] runs each).some in absurd (omega arith)
-  too_long run other ((piece ∷ pieces) ∷ runs) q qs tail some each full is e f =
+  too_long run {other} ((piece ∷ pieces) ∷ runs) {q} qs tail some each full is e f =
       let same : piece ≡ q = cc in
       let long : 1 < length other = omega (arith, ap length e, length-append run (q ∷ qs)) in
       let less = is.fits long in
@@ -150,8 +150,8 @@ module _ (max : ℕ) where
         | inl w ↦ let same = same_runs runs others rest full.1 rest' full'.1 w.1 in
             ap (λ r. r ∷ others) w.0 ∙ ap (λ rs. run ∷ rs) same
         | inr v ↦ elim v [
-          | inl w ↦ absurd (too_long run other runs w.0 w.1 (flat others) is.some rest full.0 is' w.2 w.3)
-          | inr w ↦ absurd (too_long other run others w.0 w.1 (flat runs) is'.some rest' full'.0 is w.2 w.3)
+          | inl w ↦ absurd (too_long run runs w.1 (flat others) is.some rest full.0 is' w.2 w.3)
+          | inr w ↦ absurd (too_long other others w.1 (flat runs) is'.some rest' full'.0 is w.2 w.3)
         ]
       ]
 

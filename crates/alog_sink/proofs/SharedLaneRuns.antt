@@ -52,25 +52,25 @@ module _ {S : Type 0} (tells : Bool) (files : S → Files) (failures : S → ℕ
   abbrev Turned' : Sink S → Buffer → Item → Reply → Sink S → Buffer → Type 0
   Turned' = Turns tells files failures
 
-  took : (o n : LeafView S) (m : Message) (a : Answer) (r : Reply) (opening : Files) (ms : List Message)
+  took : {o n : LeafView S} {m : Message} {a : Answer} {r : Reply} {opening : Files} {ms : List Message}
       → Takes tells files failures o m a n → r ≡ as_taken a → is_ok r ≡ true → StandsFor files o opening ms
       → StandsFor files n opening (ms ++ m ∷ [])
-  took o n m (Ok taken) r opening ms takes same ok stood = takes.stands told opening ms stood
-  took o n m (Err e) r opening ms takes same ok stood = no_fault e r same ok
+  took {a = Ok taken} {opening} {ms} takes same ok stood = takes.stands told opening ms stood
+  took {a = Err e} {r} takes same ok stood = no_fault e r same ok
 
-  flushed : (o n : LeafView S) (a : Result Unit SinkError) (r : Reply) (opening : Files) (ms : List Message)
+  flushed : {o n : LeafView S} {a : Result Unit SinkError} {r : Reply} {opening : Files} {ms : List Message}
       → Flushes tells files failures o a n → r ≡ as_flushed a → is_ok r ≡ true → StandsFor files o opening ms
       → StandsFor files n opening (ms ++ [])
-  flushed o n (Ok u) r opening ms does same ok stood =
+  flushed {n} {a = Ok u} {opening} {ms} does same ok stood =
       subst (λ xs. StandsFor files n opening xs) (sym (append-nil ms)) (does.stands told opening ms stood)
-  flushed o n (Err e) r opening ms does same ok stood = no_fault e r same ok
+  flushed {a = Err e} {r} does same ok stood = no_fault e r same ok
 
-  one_turn : (o n : LeafView S) (line after : Buffer) (i : Item) (r : Reply) (opening : Files) (ms : List Message)
+  one_turn : {o n : LeafView S} (line after : Buffer) (i : Item) (r : Reply) {opening : Files} {ms : List Message}
       → Turned' (Leaf o) line i r (Leaf n) after → is_ok r ≡ true → StandsFor files o opening ms
       → StandsFor files n opening (ms ++ with_text i [])
-  one_turn o n line after (Text m) r opening ms turn ok stood = took o n m turn.0 r opening ms turn.1 turn.2 ok stood
-  one_turn o n line after (Flush logger) r opening ms turn ok stood = flushed o n turn.0 r opening ms turn.1 turn.2 ok stood
-  one_turn o n line after Stop r opening ms turn ok stood = absurd turn
+  one_turn {o} {n} line after (Text m) r {opening} {ms} turn ok stood = took turn.1 turn.2 ok stood
+  one_turn {o} {n} line after (Flush logger) r {opening} {ms} turn ok stood = flushed turn.1 turn.2 ok stood
+  one_turn line after Stop r turn ok stood = absurd turn
 
   -- a turn leaves a sink of the same kind
   no_fan : {A : Type 0} (o : LeafView S) (n : FanView S) (line after : Buffer) (i : Item) (r : Reply) → Turned' (Leaf o) line i r (Fan n) after → A
@@ -101,7 +101,7 @@ module _ {S : Type 0} (tells : Bool) (files : S → Files) (failures : S → ℕ
           → StandsFor files n opening (ms ++ texts_of (x ∷ h))
       at then (Leaf p) turn rest =
           subst (λ xs. StandsFor files n opening xs) (text_first x.deed.item ms (texts_of h))
-          (then p rest (one_turn o p x.deed.before x.deed.after x.deed.item x.deed.reply opening ms turn (All-head Ok' x h served) stood))
+          (then p rest (one_turn {n = p} x.deed.before x.deed.after x.deed.item x.deed.reply turn (All-head Ok' x h served) stood))
       at then (Fan p) turn rest = no_fan o p x.deed.before x.deed.after x.deed.item x.deed.reply turn
 
   -- each member does so, where none met a fault
@@ -145,11 +145,11 @@ module _ {S : Type 0} (tells : Bool) (files : S → Files) (failures : S → ℕ
   not_grown [] (s ∷ stood) all = absurd all
   not_grown (l ∷ ls) [] all = absurd all
 
-  fan_took : (o n : FanView S) (m : Message) (a : Answer) (r : Reply) (stood : List Stood) → FanTakes tells files failures o m a n
+  fan_took : {o n : FanView S} {m : Message} {a : Answer} {r : Reply} (stood : List Stood) → FanTakes tells files failures o m a n
       → r ≡ as_taken a → is_ok r ≡ true → AllStand files o.members stood
       → AllStand files n.members (map (grown (λ ms. ms ++ admitted o.level (m ∷ []))) stood)
-  fan_took o n m (Err e) r stood takes same ok all = no_fault e r same ok
-  fan_took o n m (Ok taken) r stood takes same ok all = at (admits o.level m.level) refl
+  fan_took {a = Err e} {r} stood takes same ok all = no_fault e r same ok
+  fan_took {o} {n} {m} {a = Ok taken} stood takes same ok all = at (admits o.level m.level) refl
     where
       at : (b : Bool) → admits o.level m.level ≡ b → AllStand files n.members (map (grown (λ ms. ms ++ cond b (m ∷ []) [])) stood)
       at false e = subst (λ (f : FanView S). AllStand files f.members (map (grown (λ ms. ms ++ [])) stood)) (sym (takes.below e).1)
@@ -160,10 +160,10 @@ module _ {S : Type 0} (tells : Bool) (files : S → Files) (failures : S → ℕ
           (λ p q a opening ms takes stood. takes.stands told opening ms stood) o.members given.0 n.members stood given.1
           (ap (λ (x : Answer). is_ok x) (sym given.2)) all
 
-  fan_flushed : (o n : FanView S) (a : Result Unit SinkError) (r : Reply) (stood : List Stood) → FanFlushes tells files failures o a n
+  fan_flushed : {o n : FanView S} {a : Result Unit SinkError} {r : Reply} (stood : List Stood) → FanFlushes tells files failures o a n
       → r ≡ as_flushed a → is_ok r ≡ true → AllStand files o.members stood → AllStand files n.members (map (grown (λ ms. ms ++ [])) stood)
-  fan_flushed o n (Err e) r stood does same ok all = no_fault e r same ok
-  fan_flushed o n (Ok u) r stood does same ok all =
+  fan_flushed {a = Err e} {r} stood does same ok all = no_fault e r same ok
+  fan_flushed {o} {n} {a = Ok u} stood does same ok all =
       each_stands tt (Flushes tells files failures) (λ ms. ms ++ [])
       (λ p q a opening ms does stood. subst (λ xs. StandsFor files q opening xs) (sym (append-nil ms)) (does.stands told opening ms stood))
       o.members does.answers n.members stood does.given (ap (λ (x : Result Unit SinkError). is_ok x) (sym does.first)) all
@@ -171,8 +171,8 @@ module _ {S : Type 0} (tells : Bool) (files : S → Files) (failures : S → ℕ
   fan_turn : (o n : FanView S) (line after : Buffer) (i : Item) (r : Reply) (stood : List Stood) → Turned' (Fan o) line i r (Fan n) after
       → is_ok r ≡ true → AllStand files o.members stood
       → AllStand files n.members (map (grown (λ ms. ms ++ admitted o.level (with_text i []))) stood)
-  fan_turn o n line after (Text m) r stood turn ok all = fan_took o n m turn.0 r stood turn.1 turn.2 ok all
-  fan_turn o n line after (Flush logger) r stood turn ok all = fan_flushed o n turn.0 r stood turn.1 turn.2 ok all
+  fan_turn o n line after (Text m) r stood turn ok all = fan_took stood turn.1 turn.2 ok all
+  fan_turn o n line after (Flush logger) r stood turn ok all = fan_flushed stood turn.1 turn.2 ok all
   fan_turn o n line after Stop r stood turn ok all = absurd turn
 
   fan_level : (o n : FanView S) (line after : Buffer) (i : Item) (r : Reply) → Turned' (Fan o) line i r (Fan n) after → n.level ≡ o.level

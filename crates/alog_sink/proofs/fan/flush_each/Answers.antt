@@ -14,5 +14,4 @@ loop-i-preserved g c =
     let new = c.flush-given.new.self in
     let here : Does d c.flush-given.result new = subst (λ o. Does o c.flush-given.result new) (sym c.index-members-i.is) c.flush-given.ensures in
     subst (λ a. SoFar Does tt (i + 1) old (set c.loop-i.members i new) a) (sym c.or_fault-answer.ensures)
-    (one_more Does tt old c.loop-i.members i c.loop-i.answer c.flush-given.result d new (omega arith) (omega arith)
-    c.index-members-i.is c.loop-i.invariant here)
+    (one_more Does tt old c.loop-i.members (omega arith) (omega arith) c.index-members-i.is c.loop-i.invariant here)

@@ -29,7 +29,6 @@ loop-i-preserved g c =
     let new = c.take-given.new.self in
     let here : Does d c.take-given.result new = subst (λ o. Does o c.take-given.result new) (sym c.index-members-i.is) c.take-given.ensures.takes in (
       subst (λ a. SoFar Does Written (i + 1) old (set c.loop-i.members i new) a) (sym c.or_fault-answer.ensures)
-          (one_more Does Written old c.loop-i.members i c.loop-i.answer c.take-given.result d new (omega arith) (omega arith)
-          c.index-members-i.is c.loop-i.invariant.0 here),
+          (one_more Does Written old c.loop-i.members (omega arith) (omega arith) c.index-members-i.is c.loop-i.invariant.0 here),
       c.take-given.ensures.capacity ∙ c.loop-i.invariant.1,
     )

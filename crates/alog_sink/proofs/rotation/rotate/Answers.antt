@@ -7,10 +7,10 @@ use Rattle.alog_sink.proofs.rotation.rotate.Goals as goal
 
 pub returns-then-names-eq1-clause-deeds : goal.returns-then-names-eq1-clause-deeds
 returns-then-names-eq1-clause-deeds g c = λ tells.
-    removed_only (base_name (map string_bytes c.args.names.now)) c.as_str.result.now (length c.args.names.now - 1) (omega arith)
+    removed_only {n = length c.args.names.now - 1} (omega arith)
     (c.as_str.ensures.value ∙ (name_at (base_name (map string_bytes c.args.names.now)) c.args.names.now c.requires.numbered 0
     c.index-names-0.result (omega arith) c.index-names-0.is))
-    (g.S.Store.files c.args.store.now) (g.S.Store.files c.remove.new.self) c.remove.result
+    {old = g.S.Store.files c.args.store.now} {new = g.S.Store.files c.remove.new.self} {r = c.remove.result}
     (c.remove.ensures.done tells) (c.remove.ensures.failed tells)
 
 pub loop-i-init : goal.loop-i-init
@@ -57,8 +57,7 @@ returns-in_err-rename-clause-deeds g c = λ tells.
 pub returns-in_err-rename-clause-counted : goal.returns-in_err-rename-clause-counted
 returns-in_err-rename-clause-counted g c =
     let p = err_from_is_err_and c.from_residual.result c.from_residual.ensures.1 in
-    counts_err c.from_residual.result p.0 p.1 c.in_err-rename.field-0.0 (g.S.Store.failures c.args.store.now)
-    (g.S.Store.failures c.loop-i.store) (g.S.Store.failures c.rename.new.self) c.loop-i.invariant.counted c.in_err-rename.ensures.counted
+    counts_err p.1 c.loop-i.invariant.counted c.in_err-rename.ensures.counted
 
 pub returns-clause-deeds : goal.returns-clause-deeds
 returns-clause-deeds g c = λ tells.

@@ -18,7 +18,6 @@ returns-clause-does g c = λ tells.
     ap (λ f. dated f c.in-Some.field-0.now) c.as_str.ensures ∙ ap (dated i.file) c.in-Some.oldest-is in
     subst (λ (d : Days). Does (makes_way d.limits.max_files d.names) (g.S.Store.files c.args.store.now)
     (g.S.Store.files c.remove.new.self) c.remove.result) c.self.view_is
-    (way_does i.file i.max_files i.dates.items c.in-Some.oldest c.as_str-2.result.now (search rules) full
-    (sym c.front.ensures ∙ first) (c.as_str-2.ensures.value ∙ (c.write_dated.ensures.name ∙ named))
-    (g.S.Store.files c.args.store.now) (g.S.Store.files c.remove.new.self) c.remove.result (c.remove.ensures.done tells)
-    (c.remove.ensures.failed tells))
+    (way_does i.file {max = i.max_files} i.dates.items (search rules) full (sym c.front.ensures ∙ first)
+    (c.as_str-2.ensures.value ∙ (c.write_dated.ensures.name ∙ named)) {old = g.S.Store.files c.args.store.now}
+    {new = g.S.Store.files c.remove.new.self} {r = c.remove.result} (c.remove.ensures.done tells) (c.remove.ensures.failed tells))

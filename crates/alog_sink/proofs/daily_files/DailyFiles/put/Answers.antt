@@ -28,6 +28,4 @@ returns-clause-does g c = λ tells w shown line.
 pub returns-clause-kept : goal.returns-clause-kept
 returns-clause-kept g c = λ tells opening ws w shown line stands.
     let d = c.args.self.now in
-    line_stands d c.begin.new.self w (c.in_ok-begin.ensures.begun w shown) (c.begin.ensures.year w shown) opening ws
-    (g.S.Store.files c.args.store.now) (g.S.Store.files c.append.new.self) c.append.result
-    (returns-clause-does g c tells w shown line) stands
+    line_stands w (c.in_ok-begin.ensures.begun w shown) (c.begin.ensures.year w shown) (returns-clause-does g c tells w shown line) stands

@@ -14,5 +14,5 @@ returns-in-Ok-clause-opened g c =
       max_files = c.args.max_files;
     } in
     let files = g.S.Store.files c.args.store in
-    opened g.S.Store.tells g.S.Store.files c.args.face (IsNewDaily limits) files (Daily c.in-Ok.daily_files) c.args.store c.open-in-Ok.result
-    c.open-in-Ok.ensures.opened c.in-Ok.ensures (λ t. subst (λ (d : Days). StandsFor d files [] files) (sym c.in-Ok.ensures) (begins limits files))
+    opened {tells = g.S.Store.tells} g.S.Store.files (IsNewDaily limits) {opening = files} c.open-in-Ok.ensures.opened c.in-Ok.ensures
+    (λ t. subst (λ (d : Days). StandsFor d files [] files) (sym c.in-Ok.ensures) (begins limits files))

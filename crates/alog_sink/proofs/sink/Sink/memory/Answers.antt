@@ -8,5 +8,5 @@ pub returns-in-Ok-clause-opened : goal.returns-in-Ok-clause-opened
 returns-in-Ok-clause-opened g c =
     let store = c.args.store in
     let its : Target = Memory (record { file = c.args.file.now }) in
-    opened g.S.Store.tells g.S.Store.files c.args.face (λ t. t ≡ its) (g.S.Store.files store) its store c.open.result (c.open.ensures.opened ∙ (let same = c.in-Ok.ensures in cc)) refl
-    (λ t n. refl)
+    opened {tells = g.S.Store.tells} g.S.Store.files (λ t. t ≡ its) {opening = g.S.Store.files store}
+    (c.open.ensures.opened ∙ (let same = c.in-Ok.ensures in cc)) refl (λ t n. refl)

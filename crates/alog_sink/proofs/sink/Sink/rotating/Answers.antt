@@ -7,5 +7,5 @@ use Rattle.alog_sink.proofs.sink.Sink.rotating.Goals as goal
 pub returns-in-Ok-clause-opened : goal.returns-in-Ok-clause-opened
 returns-in-Ok-clause-opened g c =
     let limits : Limits = record { file = c.args.file.now; max_size = c.args.max_size; max_files = c.args.max_files } in
-    opened g.S.Store.tells g.S.Store.files c.args.face (IsRotating limits) (g.S.Store.files c.args.store)
-    (Rotating c.in-Ok.rotation) c.open.new.store c.open-in-Ok.result c.open-in-Ok.ensures.opened c.in-Ok.ensures.limits c.in-Ok.ensures.stands
+    opened g.S.Store.files (IsRotating limits) {opening = g.S.Store.files c.args.store} c.open-in-Ok.ensures.opened c.in-Ok.ensures.limits
+    c.in-Ok.ensures.stands
