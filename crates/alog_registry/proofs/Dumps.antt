@@ -28,26 +28,27 @@ not_none b n e f z = let all : (n == 0) ≡ true = eq-eqb n 0 z in cc
 
 module _ {S : Type 0} (did : Doing S Item) (p : Policy) where
   -- one message more
-  pub posts_more : (ms : List Message) (a b c : S) (os : Outcomes) (m : Message) (o : Outcome (Unit {0})) → PostsEach did p ms a os b
+  pub posts_more : (ms : List Message) (a : S) {b c : S} (os : Outcomes) {m : Message} {o : Outcome (Unit {0})} → PostsEach did p ms a os b
       → PostsItem did p (Text m) b c o → PostsEach did p (ms ++ m ∷ []) a (os ++ o ∷ []) c
-  posts_more [] a b c [] m o e q = (c, subst (λ z. PostsItem did p (Text m) z c o) e q, refl)
-  posts_more [] a b c (o' ∷ os) m o h q = absurd h
-  posts_more (m' ∷ ms) a b c [] m o h q = absurd h
-  posts_more (m' ∷ ms) a b c (o' ∷ os) m o h q = (h.0, h.1, posts_more ms h.0 b c os m o h.2 q)
+  posts_more [] a {c} [] {m} {o} e q = (c, subst (λ z. PostsItem did p (Text m) z c o) e q, refl)
+  posts_more [] a (o' ∷ os) h q = absurd h
+  posts_more (m' ∷ ms) a [] h q = absurd h
+  posts_more (m' ∷ ms) a {b} {c} (o' ∷ os) {m} {o} h q = (h.0, h.1, posts_more ms h.0 os h.2 q)
 
   -- a dump: a marker, all messages, and a marker
-  pub dump_posts : (n : ℕ) (t : ℤ) (th : ℕ) (ms list : List Message) (start end : Message) (a b c d : S) (o o' : Outcome (Unit {0}))
-      (first os all : Outcomes) → length ms ≢ 0 → start ≡ marker n t th (codes "=== backtrace start ===")
+  pub dump_posts : {n : ℕ} {t : ℤ} {th : ℕ} {ms list : List Message} {start end : Message} {a b c d : S} {o o' : Outcome (Unit {0})}
+      {first : Outcomes} (os : Outcomes) {all : Outcomes} → length ms ≢ 0 → start ≡ marker n t th (codes "=== backtrace start ===")
       → end ≡ marker n t th (codes "=== backtrace end ===") → list ≡ ms → first ≡ o ∷ [] → all ≡ os ++ o' ∷ []
       → PostsItem did p (Text start) a b o
       → ((s : S) (before : List Message) → PostsEach did p before s first b → PostsEach did p (before ++ list) s os c)
       → PostsItem did p (Text end) c d o' → PostsEach did p (posted_of n t th ms) a all d
-  dump_posts n t th [] list start end a b c d o o' first os all some starts ends lists firsts alls q between r = absurd (some refl)
-  dump_posts n t th (m ∷ ms) list start end a b c d o o' first os all some starts ends lists firsts alls q between r =
+  dump_posts {ms = []} os some starts ends lists firsts alls q between r = absurd (some refl)
+  dump_posts {n} {t} {th} {ms = m ∷ ms} {list} {start} {end} {a} {b} {c} {d} {o'} {first} os
+      {all} some starts ends lists firsts alls q between r =
       let one : PostsEach did p (start ∷ []) a first b =
       subst (λ z. PostsEach did p (start ∷ []) a z b) (sym firsts) (b, q, refl) in
       let two : PostsEach did p (start ∷ list) a os c = between a (start ∷ []) one in
-      let three : PostsEach did p ((start ∷ list) ++ end ∷ []) a (os ++ o' ∷ []) d = posts_more (start ∷ list) a c d os end o' two r in
+      let three : PostsEach did p ((start ∷ list) ++ end ∷ []) a (os ++ o' ∷ []) d = posts_more (start ∷ list) a os two r in
       let P : Message → Message → List Message → Outcomes → Type 0 = λ x y zs ws. PostsEach did p (x ∷ zs ++ y ∷ []) a ws d in
       let M : List ℕ → Message = λ text. marker n t th text in
       subst (λ x. P x (M (codes "=== backtrace end ===")) (m ∷ ms) all) starts

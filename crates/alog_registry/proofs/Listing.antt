@@ -78,9 +78,9 @@ name_read ls i x within is =
     ap (λ (o : Option Logger). option_map (λ (l : Logger). l.name) o) (slice_get_read ls (length ls) i x refl within is)
 
 -- a name that stands at no number so far, and not at this one
-pub none_further : (ls : List Logger) (name : List ℕ) (i : ℕ) (x : Logger) → ((k : ℕ) → k < i → name_at ls k ≢ Some name)
+pub none_further : (ls : List Logger) {name : List ℕ} (i : ℕ) (x : Logger) → ((k : ℕ) → k < i → name_at ls k ≢ Some name)
     → name_at ls i ≡ Some x.name → x.name ≢ name → (k : ℕ) → k < i + 1 → name_at ls k ≢ Some name
-none_further ls name i x none at other k below e =
+none_further ls {name} i x none at other k below e =
     elim (cases_lt k i) [
       | inr h ↦
           let same : k ≡ i = omega arith in

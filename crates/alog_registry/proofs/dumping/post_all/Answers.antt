@@ -18,8 +18,8 @@ loop-message-preserved g c =
       posted = λ before s h.
           let now = c.loop-message.invariant.posted before s h in
           let gone = now.0 in
-          let all = posts_more o.did (without_waiting c.args.policy) (before ++ gone) s c.loop-message.outlet c.post.new.outlet
-          c.loop-message.outcomes.items m c.post.result now.2 c.post.ensures.post in (
+          let all = posts_more o.did (without_waiting c.args.policy) (before ++ gone) s c.loop-message.outcomes.items now.2
+          c.post.ensures.post in (
             gone ++ m ∷ [],
             taken_from c.args.list.now.messages gone left c.take_oldest.new.self.messages m now.1 c.in-Some.ensures.oldest rest,
             subst (λ ms. PostsEach o.did (without_waiting c.args.policy) ms s c.push_reserved.new.self.items c.post.new.outlet)

@@ -9,7 +9,5 @@ returns-clause-posted g c = λ n t th starts ends.
     let ms = a.list.now.messages in
     let some = not_none c.is_empty.result (length ms) c.is_empty.ensures c.if-is_empty.false in
     let first = c.push_reserved.ensures.items ∙ ap (λ (os : Outcomes). os ++ c.post.result ∷ []) c.requires.none in
-    dump_posts g.O.ItemOutlet.did (without_waiting a.policy) n t th ms ms a.start a.end a.outlet.now c.post.new.outlet c.post_all.new.outlet
-    c.post-2.new.outlet c.post.result c.post-2.result c.push_reserved.new.self.items
-    c.post_all.new.outcomes.items c.push_reserved-2.new.self.items some starts ends refl first
+    dump_posts g.O.ItemOutlet.did (without_waiting a.policy) {ms = ms} {list = ms} c.post_all.new.outcomes.items some starts ends refl first
     c.push_reserved-2.ensures.items c.post.ensures.post c.post_all.ensures.posted c.post-2.ensures.post

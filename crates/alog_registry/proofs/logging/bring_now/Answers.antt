@@ -10,7 +10,6 @@ returns-in-Some-clause-brought g c =
     let o = g.O.ItemOutlet in
     let a = c.args in
     let m = message_of a.given in
-    brought_by o.did g.met.O.ItemOutlet.together o.is_fit o.shows (without_waiting a.policy) a.kept a.own m a.outlet.now c.admit.new.outlet
-    c.post_now-outcome.new.self c.in-Some.value c.post_now-outcome.result
+    brought_by o.did g.met.O.ItemOutlet.together o.is_fit o.shows a.kept a.own m a.outlet.now
     (subst (λ h. IsMade o.did o.is_fit o.shows a.own m a.outlet.now h c.admit.new.outlet) c.in-Some.is c.in_ok-admit.ensures.made)
     c.post_now-outcome.ensures.post

@@ -17,7 +17,7 @@ loop-i-preserved c =
     let yes = c.has_name.ensures.1 e in
     let stays = c.if-has_name.false in
     cc in
-    none_further c.args.loggers.now c.args.name.now c.loop-i.i x c.loop-i.invariant at other
+    none_further c.args.loggers.now c.loop-i.i x c.loop-i.invariant at other
 
 pub returns : goal.returns
 returns c = missing c.args.loggers.now c.args.name.now (λ k below. c.loop-i.invariant k (omega arith))

@@ -8,6 +8,5 @@ use Rattle.alog_registry.proofs.loggers.Loggers.flush.Goals as goal
 pub returns-clause-post : goal.returns-clause-post
 returns-clause-post g c = λ s e.
     let o = g.O.ItemOutlet in
-    posted_by o.did g.met.O.ItemOutlet.together without_waiting c.in-Some.spec.now s (o.shows c.flush-value.result) (Flush c.args.number)
-    c.args.outlet.now c.flush-value.new.self c.post_now.new.self c.post_now.result (same_Some _ _ (c.in-Some.ensures.value ∙ e))
-    c.flush-value.ensures.made c.flush-value.ensures.fit.1 c.post_now.ensures.post
+    posted_by o.did g.met.O.ItemOutlet.together without_waiting (same_Some _ _ (c.in-Some.ensures.value ∙ e)) c.flush-value.ensures.made
+    c.flush-value.ensures.fit.1 c.post_now.ensures.post
