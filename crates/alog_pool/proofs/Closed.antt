@@ -70,10 +70,10 @@ module _ {S : Type 0} where
       )
 
   module _ (tells : Bool) (files : S → Files) (failures : S → ℕ) where
-    one_closed : (b c : SinkSeatView S) (column : List (SinkSeatView S)) (s : Sink S) (faults : ℕ) → HasPlacesBack b c column
+    one_closed : {b c : SinkSeatView S} {column : List (SinkSeatView S)} {s : Sink S} {faults : ℕ} → HasPlacesBack b c column
         → IsClosing tells files failures c s faults → IsUnused b → AllByRecursion IsCounted column
         → IsClosed tells files failures b.lane column s faults
-    one_closed b c column s faults back closing unused counted =
+    one_closed {c} {column} {s} back closing unused counted =
         let M : Type 0 = List (lane.Member (Turned Item Buffer Answer)) in
         let f : SinkSeatView S → lane.Member (Turned Item Buffer Answer) = λ p. seat_member p in
         record {
@@ -97,6 +97,6 @@ module _ {S : Type 0} where
     all_closed (b ∷ bs) (c ∷ cs) rows [] fs back closing unused counted = absurd closing
     all_closed (b ∷ bs) (c ∷ cs) rows (s ∷ ss) [] back closing unused counted = absurd closing
     all_closed (b ∷ bs) (c ∷ cs) rows (s ∷ ss) (f ∷ fs) back closing unused counted = (
-      one_closed b c (heads rows) s f back.0 closing.0 unused.0 (heads_all IsCounted rows counted),
+      one_closed back.0 closing.0 unused.0 (heads_all IsCounted rows counted),
       all_closed bs cs (tails rows) ss fs back.1 closing.1 unused.1 (tails_all IsCounted rows counted),
     )

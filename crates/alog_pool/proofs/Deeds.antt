@@ -57,10 +57,10 @@ take_whole (y ∷ ys) zero e = absurd (cc)
 take_whole {X} (y ∷ ys) (suc k) e = ap (λ (l : List X). y ∷ l) (take_whole ys k e)
 
 -- the turns of a work up to a place, and all of them
-pub dues_next : (o : Option Spec) (spec : Spec) (logger ticket : ℕ) (x : Item) (k : ℕ) (turn : SinkTurn) → Some spec ≡ o
+pub dues_next : {o : Option Spec} {spec : Spec} (logger ticket : ℕ) (x : Item) (k : ℕ) {turn : SinkTurn} → Some spec ≡ o
     → slice_get (turns_of spec ticket x) k ≡ Some turn
     → take (k + 1) (dues_by o logger ticket x) ≡ take k (dues_by o logger ticket x) ++ due_by logger x turn ∷ []
-dues_next o spec logger ticket x k turn is at =
+dues_next {spec} logger ticket x k {turn} is at =
     let f : SinkTurn → Due = λ t. due_by logger x t in
     let found : slice_get (map f (turns_of spec ticket x)) k ≡ Some (f turn) =
     slice_get-map f (turns_of spec ticket x) k ∙ ap (λ (z : Option SinkTurn). option_map f z) at in
@@ -140,21 +140,21 @@ module _ {S : Type 0} where
   past s (b ∷ bs) due high = (made_elsewhere s b due (λ e. omega (arith, e, high)), past (s + 1) bs due (omega (arith, high)))
 
   -- a turn on the sink of one of these places
-  one_at : (s i : ℕ) (bs : List (SinkSeatView S)) (c d : SinkSeatView S) (due : Due) → due.sink ≡ s + i → i < length bs
+  one_at : (s i : ℕ) (bs : List (SinkSeatView S)) {c : SinkSeatView S} (d : SinkSeatView S) (due : Due) → due.sink ≡ s + i → i < length bs
       → HasMade (slice_index_or bs i d) c ((due.tag, due.item) ∷ []) → HaveMade s bs (set bs i c) (due ∷ [])
-  one_at s i [] c d due is low made = absurd (omega (arith, low))
-  one_at s zero (b ∷ bs) c d due is low made = (
+  one_at s i [] d due is low made = absurd (omega (arith, low))
+  one_at s zero (b ∷ bs) {c} d due is low made = (
     subst (λ (l : List (ℕ × Item)). HasMade b c l) (sym (at_same due.sink s ((due.tag, due.item) ∷ []) [] (omega (arith, is)))) made,
     below (s + 1) bs due (omega (arith, is)),
   )
-  one_at s (suc i) (b ∷ bs) c d due is low made = (
+  one_at s (suc i) (b ∷ bs) {c} d due is low made = (
     made_elsewhere s b due (λ e. omega (arith, e, is)),
-    one_at (s + 1) i bs c d due (omega (arith, is)) (omega (arith, low)) made,
+    one_at (s + 1) i bs d due (omega (arith, is)) (omega (arith, low)) made,
   )
 
   pub have_one : (bs : List (SinkSeatView S)) (i tag : ℕ) (item : Item) (c d : SinkSeatView S) → i < length bs
       → HasMade (slice_index_or bs i d) c ((tag, item) ∷ []) → HaveMade 0 bs (set bs i c) (record { sink = i; tag = tag; item = item } ∷ [])
-  have_one bs i tag item c d low made = one_at 0 i bs c d (record { sink = i; tag = tag; item = item }) (omega arith) low made
+  have_one bs i tag item c d low made = one_at 0 i bs d (record { sink = i; tag = tag; item = item }) (omega arith) low made
 
   pub have_past : (bs : List (SinkSeatView S)) (i tag : ℕ) (item : Item) → length bs ≤ i
       → HaveMade 0 bs bs (record { sink = i; tag = tag; item = item } ∷ [])

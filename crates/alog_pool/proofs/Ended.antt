@@ -198,10 +198,10 @@ all_took j k workers w e none =
     omega (arith, mine, one, two)
 
 -- So at the end: what the producers put in, they took out themselves, or the workers did.
-pub all_came_out : (j k : Known Item no_note) (ended : HasEndedFrom j k) (w : ℕ → Item → ℕ) → HasGathered j → IsWhole k → 1 ≤ k.places
+pub all_came_out : {j k : Known Item no_note} (ended : HasEndedFrom j k) (w : ℕ → Item → ℕ) → HasGathered j → IsWhole k → 1 ≤ k.places
     → takes k.own ≡ [] → ((t : ℕ) → w t Stop ≡ 0)
     → claimed_among w j.joined ≡ taken_among w j.joined + taken_among w ended.workers
-all_came_out j k ended w gathered whole some none nothing =
+all_came_out {j} {k} ended w gathered whole some none nothing =
     sym (producers_put j k ended.workers w gathered.own ended.since nothing)
     ∙ no_work_is_left k w (is_end j k gathered ended whole some) nothing
     ∙ all_took j k ended.workers w ended.since none
@@ -263,11 +263,11 @@ counted_more (n ∷ ms) [] m s are one = absurd are
 counted_more (n ∷ ms) (r ∷ ss) m s are one = (are.0, counted_more ms ss m s are.1 one)
 
 -- What the producers posted of texts and flushes was counted as overrun by their seats, or the workers took it out.
-pub overrun_or_handled : (j k : Known Item no_note) (ended : HasEndedFrom j k) (seats : List (lane.Member Add)) → HasGathered j → IsWhole k
+pub overrun_or_handled : {j k : Known Item no_note} (ended : HasEndedFrom j k) (seats : List (lane.Member Add)) → HasGathered j → IsWhole k
     → 1 ≤ k.places → takes k.own ≡ [] → AreCounted j.joined seats
     → claimed_among of_work j.joined ≡ sum_by (λ (s : lane.Member Add). items_in s.own) seats + taken_among of_work ended.workers
-overrun_or_handled j k ended seats gathered whole some none counted =
-    all_came_out j k ended of_work gathered whole some none (λ t. refl)
+overrun_or_handled {j} {k} ended seats gathered whole some none counted =
+    all_came_out ended of_work gathered whole some none (λ t. refl)
     ∙ ap (λ n. n + taken_among of_work ended.workers)
     (sym (overran_work j k ended.workers gathered ended.since whole) ∙ sym (counted_sum j.joined seats counted))
 
@@ -295,9 +295,10 @@ pub gathered_producer : (j p l : Known Item no_note) (seat : lane.Known Add) →
 gathered_producer j p l seat gathered joins account = gathered_join j p l gathered joins (alone PutNoStop p account.joined account.no_stop)
 
 -- and its seat of the loss book to the pool's own
-pub counted_producer : (j p l : Known Item no_note) (s t u : lane.Known Add) → AreCounted j.joined s.joined → Joins j p l
+pub counted_producer : {j p l : Known Item no_note} (s : lane.Known Add) {t : lane.Known Add} (u : lane.Known Add)
+    → AreCounted j.joined s.joined → Joins j p l
     → lane.IsJoined s t u → IsAccountOf p t → AreCounted l.joined u.joined
-counted_producer j p l s t u counted joins joined account =
+counted_producer {j} {p} {l} s {t} u counted joins joined account =
     let m : One = record { actor = p.actor; own = p.own } in
     let n : lane.Member Add = record { seat = t.seat; own = t.own } in
     let one : l.joined ≡ j.joined ++ m ∷ [] =
@@ -332,9 +333,9 @@ ending_made j k l workers h e made none = record {
   no_claims = e.no_claims;
 }
 
-pub ending_moved : (j k l : Known Item no_note) (workers : List One) (puts gots : List (ℕ × Item)) → IsEndingFrom j k workers
+pub ending_moved : {j k l : Known Item no_note} {workers : List One} {puts gots : List (ℕ × Item)} → IsEndingFrom j k workers
     → Moved k l puts gots → weigh of_work puts ≡ 0 → IsEndingFrom j l workers
-ending_moved j k l workers puts gots e moved none =
+ending_moved {j} {k} {l} {workers} e moved none =
     ending_made j k l workers moved.entries e moved.made (ap (λ (ps : List (ℕ × Item)). weigh of_work ps) moved.puts_are ∙ none)
 
 -- a worker's pass comes back to it
@@ -352,6 +353,6 @@ ending_join j k p l workers e joins none = record {
   no_claims = each_append PutNothing workers (members_of p) e.no_claims none;
 }
 
-pub ending_worker : (j k p l : Known Item no_note) (workers : List One) → IsEndingFrom j k workers → Joins k p l → p.joined ≡ []
+pub ending_worker : {j k p l : Known Item no_note} {workers : List One} → IsEndingFrom j k workers → Joins k p l → p.joined ≡ []
     → claims p.own ≡ [] → IsEndingFrom j l (workers ++ members_of p)
-ending_worker j k p l workers e joins none puts = ending_join j k p l workers e joins (alone PutNothing p none puts)
+ending_worker {j} {k} {p} {l} {workers} e joins none puts = ending_join j k p l workers e joins (alone PutNothing p none puts)

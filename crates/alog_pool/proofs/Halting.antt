@@ -43,8 +43,8 @@ pushed_last old new t x pushed = busy_pushes old pushed.0 new ((t, x) ∷ []) pu
 
 -- tries, one behind the other
 pub did_more : (j k l : Known Item no_note) (posted : Bool) → Moved j k [] [] → DidPost k l posted → DidPost j l posted
-did_more j k l true before did = (did.0, moved_more j k l [] ((did.0, Stop) ∷ []) [] [] before did.1)
-did_more j k l false before did = (moved_more j k l [] [] [] [] before did.0, did.1)
+did_more j k l true before did = (did.0, moved_more before did.1)
+did_more j k l false before did = (moved_more before did.0, did.1)
 
 -- so many stops were put in
 pub record HasPut (old new : Known Item no_note) (count : ℕ) : Type 0 where
@@ -62,7 +62,7 @@ put_one j k l n t h m =
     let more : length (h.puts ++ (t, Stop) ∷ []) ≡ length h.puts + 1 = length-append h.puts ((t, Stop) ∷ []) in
     record {
       puts = h.puts ++ (t, Stop) ∷ [];
-      moved = moved_more j k l h.puts ((t, Stop) ∷ []) [] [] h.moved m;
+      moved = moved_more h.moved m;
       stops = all_more (λ (p : ℕ × Item). p.1 ≡ Stop) h.puts (t, Stop) h.stops refl;
       many = omega (arith, many, more);
     }
@@ -70,13 +70,13 @@ put_one j k l n t h m =
 pub put_all : (j k : Known Item no_note) (n : ℕ) → HasPut j k n → PutsStops j k n
 put_all j k n h = record { puts = h.puts; moved = h.moved; stops = h.stops; enough = inl h.many }
 
-pub put_last : (j k l : Known Item no_note) (n count : ℕ) → HasPut j k n → n < count → Moved k l [] [] → SawSpent l.own
+pub put_last : {j k l : Known Item no_note} {n count : ℕ} → HasPut j k n → n < count → Moved k l [] [] → SawSpent l.own
     → PutsStops j l count
-put_last j k l n count h few m saw =
+put_last {j} {k} {l} h few m saw =
     let many = h.many in
     record {
       puts = h.puts ++ [];
-      moved = moved_more j k l h.puts [] [] [] h.moved m;
+      moved = moved_more h.moved m;
       stops = subst AreStops (sym (append-nil h.puts)) h.stops;
       enough = inr ((let same = ap (λ (ps : List (ℕ × Item)). length ps) (append-nil h.puts) in omega (arith, same, many, few)), saw);
     }

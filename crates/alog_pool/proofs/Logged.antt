@@ -89,10 +89,10 @@ own_now u v es (inl same) =
     ∙ ap (λ (fs : List (Event Item)). u.known.own ++ entries_by u.known.actor fs) (sym same.0)
 own_now u v es (inr did) = did.made.own
 
-posted_text : (p : Policy) (m : Message) (t k : ℕ) (u v : PassView Item no_note) (w : Unit {0}) (es : List (Event Item))
+posted_text : {p : Policy} {m : Message} {t k : ℕ} {u v : PassView Item no_note} {w : Unit {0}} {es : List (Event Item)}
     → IsPost p (Text m) w es (Posted t k) → ((es ≡ []) × (v ≡ u)) ⊎ PassMade u es v
     → (claims v.known.own ≡ claims u.known.own ++ (t, Text m) ∷ []) × (p ≢ OverrunOldest → takes v.known.own ≡ takes u.known.own)
-posted_text p m t k u v w es post did =
+posted_text {p} {m} {t} {k} {u} {v} {w} {es} post did =
     let own = own_now u v es did in
     let made : List Deed = entries_by u.known.actor es in (
       ap (λ (h : List Deed). claims h) own ∙ claims-append u.known.own made
@@ -102,10 +102,10 @@ posted_text p m t k u v w es post did =
           ∙ append-nil (takes u.known.own),
     )
 
-of_posts : (old new : ProducerView) (p : Policy) (m : Message) (t k : ℕ) (a b : Port Item TextLimit) → IsPortOf old a → IsPortOf new b
+of_posts : {old new : ProducerView} {p : Policy} {m : Message} {t k : ℕ} {a b : Port Item TextLimit} → IsPortOf old a → IsPortOf new b
     → PostsItem PortDid p (Text m) a b (Posted t k) → PutsTextIn p old t m new
-of_posts old new p m t k a b lent left posts =
-    let did = posted_text p m t k a.pass.now b.pass.now _ posts.events posts.post posts.done.pass in
+of_posts {old} {p} {m} {t} {k} {a} {b} lent left posts =
+    let did = posted_text posts.post posts.done.pass in
     subst (λ (w : PassView Item no_note). (claims w.known.own ≡ claims old.pass.known.own ++ (t, Text m) ∷ [])
     × (p ≢ OverrunOldest → takes w.known.own ≡ takes old.pass.known.own)) left.pass
     (subst (λ (w : PassView Item no_note). (claims b.pass.now.known.own ≡ claims w.known.own ++ (t, Text m) ∷ [])
@@ -113,6 +113,6 @@ of_posts old new p m t k a b lent left posts =
 
 pub posted_logs_put_their_text_in : PostedLogsPutTheirTextIn
 posted_logs_put_their_text_in old new number p s m t k kept (inl is) =
-    of_posts old new p m t k is.port is.after is.lent is.left is.kept.called.0
+    of_posts is.lent is.left is.kept.called.0
 posted_logs_put_their_text_in old new number p s m t k kept (inr is) =
-    of_posts old new p m t k is.port is.after is.lent is.left is.kept.called.0
+    of_posts is.lent is.left is.kept.called.0

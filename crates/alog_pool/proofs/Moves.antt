@@ -39,9 +39,9 @@ pub tickets-append : {T : Type 0} (ps qs : List (ℕ × T)) → map (λ (p : ℕ
 tickets-append [] qs = refl
 tickets-append {T} (p ∷ ps) qs = ap (λ (l : List ℕ). p.0 ∷ l) (tickets-append ps qs)
 
-pub moved_more : (u v w : Known Item no_note) (p q g h : List (ℕ × Item)) → Moved u v p g → Moved v w q h
+pub moved_more : {u v w : Known Item no_note} {p q g h : List (ℕ × Item)} → Moved u v p g → Moved v w q h
     → Moved u w (p ++ q) (g ++ h)
-moved_more u v w p q g h a b = record {
+moved_more {u} {v} {w} {g} {h} a b = record {
   entries = a.entries ++ b.entries;
   made = made_more u v w a.entries b.entries a.made b.made;
   puts_are = claims-append a.entries b.entries ∙ (λ i. a.puts_are i ++ b.puts_are i);
@@ -78,7 +78,7 @@ busy_pops old u new g (BusyPops.more {mid} t before since answered) then =
       puts_are = refl;
       gots_are = refl;
       grabs_are = refl;
-    } in busy_pops old mid new g before (moved_more mid u new [] [] [] g one then)
+    } in busy_pops old mid new g before (moved_more one then)
 
 pub busy_pushes : (old mid new : Known Item no_note) (p : List (ℕ × Item)) → BusyPushes old mid → Moved mid new p []
     → Moved old new p []
@@ -90,7 +90,7 @@ busy_pushes old u new p (BusyPushes.more {mid} t before since answered) then =
       puts_are = refl;
       gots_are = refl;
       grabs_are = refl;
-    } in busy_pushes old mid new p before (moved_more mid u new [] p [] [] one then)
+    } in busy_pushes old mid new p before (moved_more one then)
 
 pub popped_moved : (old new : Known Item no_note) (t : ℕ) (x : Item) → Popped old new t x → Moved old new [] ((t, x) ∷ [])
 popped_moved old new t x popped = record {
@@ -156,11 +156,11 @@ pub popped_last : (old new : Known Item no_note) (t : ℕ) (x : Item) → Popped
 popped_last old new t x popped = busy_pops old popped.0 new ((t, x) ∷ []) popped.1 (popped_moved popped.0 new t x popped.2)
 
 -- what a pop into an empty hand found
-pub finds_there : (limit : ℕ) (u v w : Known Item no_note) (t : ℕ) (i : Option Item) → Moved u v [] [] → IsSome i
+pub finds_there : (limit : ℕ) {u v : Known Item no_note} (w : Known Item no_note) (t : ℕ) (i : Option Item) → Moved u v [] [] → IsSome i
     → IfSome i (PoppedAtLast v w t) → IfSome i (λ x. KeepsTo limit x) → Finds limit u w (Some t) i
-finds_there limit u v w t None before there popped keeps = absurd (cc)
-finds_there limit u v w t (Some x) before there popped keeps =
-    (moved_more u v w [] [] [] ((t, x) ∷ []) before (popped_last v w t x popped), keeps)
+finds_there limit w t None before there popped keeps = absurd (cc)
+finds_there limit {u} {v} w t (Some x) before there popped keeps =
+    (moved_more before (popped_last v w t x popped), keeps)
 
 pub finds_none : (limit : ℕ) (u w : Known Item no_note) (i : Option Item) → i ≡ None → Moved u w [] [] → SawEnd w.own
     → Finds limit u w None i

@@ -51,15 +51,15 @@ module _ {S : Type 0} (tells : Bool) (files : S → Files) (failures : S → ℕ
       let single : sum_by t (h ∷ []) ≡ t h + sum_by t [] = sum_by-cons t h [] in
       let works = work_weighs w (takes h.pass.known.own) nothing in omega (arith, all, single, works)
 
-  by_one : (pool : PoolView S) (producers : List ProducerView) (r : Report S) (crew : List (Worker S)) (end : Known Item no_note)
+  by_one : {pool : PoolView S} {producers : List ProducerView} {r : Report S} (crew : List (Worker S)) {end : Known Item no_note}
       → length crew ≡ 1 → AllByRecursion (HasServed pool.shared.loggers (lanes_of pool.sink_seats) pool.most) crew → IsWhole end
       → end.joined ≡ map pass_member producers ++ map (λ (h : Worker S). worker_member h) crew → AreStops (claims end.own)
       → AllCameOut producers crew
       → AreClosed tells files failures (lanes_of pool.sink_seats) (map (λ (h : Worker S). h.sink_seats.items) crew) r.sinks.items r.faults.items
       → WritesInOrder tells files failures pool producers r
-  by_one pool producers r [] end single served whole members stops out closed = absurd (omega (arith, single))
-  by_one pool producers r (h ∷ k ∷ hs) end single served whole members stops out closed = absurd (omega (arith, single))
-  by_one pool producers r (h ∷ []) end single served whole members stops out closed =
+  by_one [] single served whole members stops out closed = absurd (omega (arith, single))
+  by_one (h ∷ k ∷ hs) single served whole members stops out closed = absurd (omega (arith, single))
+  by_one {pool} {producers} {r} (h ∷ []) {end} single served whole members stops out closed =
       let loggers = pool.shared.loggers in
       let lanes = lanes_of pool.sink_seats in
       let dues : List Due = all_dues loggers (work_by h) in
@@ -78,4 +78,5 @@ module _ {S : Type 0} (tells : Bool) (files : S → Files) (failures : S → ℕ
 
   pub one_worker_writes_in_order : OneWorkerWritesInOrder tells files failures
   one_worker_writes_in_order pool producers r ends single =
-      by_one pool producers r ends.crew ends.end (ends.count ∙ single) ends.served ends.whole ends.members ends.stops.0 ends.out ends.sinks
+      by_one {pool = pool} {producers = producers} {r = r} ends.crew (ends.count ∙ single) ends.served ends.whole ends.members ends.stops.0
+      ends.out ends.sinks

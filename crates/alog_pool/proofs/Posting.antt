@@ -137,10 +137,10 @@ seat_added s t items posts (inr did) = record {
       ∙ ap (λ n. items_in s.known.own + n) did.item_sum;
 }
 
-pub account_after : (a b : Port Item TextLimit) (es : List (Event Item)) (items posts : ℕ) → PortDid a es items posts b
+pub account_after : {a b : Port Item TextLimit} {es : List (Event Item)} {items posts : ℕ} → PortDid a es items posts b
     → claimed of_stops (entries_by a.pass.now.known.actor es) ≡ 0 → items ≡ takes_in es
     → IsAccountOf a.pass.now.known a.seat.now.known → IsAccountOf b.pass.now.known b.seat.now.known
-account_after a b es items posts did none takes old =
+account_after {a} {b} {es} {items} {posts} did none takes old =
     let pass = pass_added a.pass.now b.pass.now es none did.pass in
     let seat = seat_added a.seat.now b.seat.now items posts did.seat in
     record {

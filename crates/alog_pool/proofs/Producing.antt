@@ -54,8 +54,8 @@ posts_port p x a b o none posts = record {
   pass = posts.done.pass_lent;
   seat = posts.done.seat_lent;
   account =
-      account_after a b posts.events (overran_in o) (discards_in o) posts.done
-      (post_stops p x tt posts.events o posts.post a.pass.now.known.actor none) (post_takes p x tt posts.events o posts.post);
+      account_after posts.done (post_stops p x tt posts.events o posts.post a.pass.now.known.actor none)
+      (post_takes p x tt posts.events o posts.post);
 }
 
 then_port : (a b c : Queueing) → LendsAlike a b → LendsAlike b c → LendsAlike a c
@@ -102,21 +102,21 @@ pub record LeavesLent (a : Queueing) (k : LaneKeeper) (b : Queueing) (l : LaneKe
   pub keeper : LendsSame k l
   pub list : l.scratch.now.list ≡ k.scratch.now.list
 
-logs_waiting : (p : Policy) (s : Spec) (m : Message) (a : Queueing) (k : LaneKeeper) (r : LogReply) (b : Queueing) (l : LaneKeeper)
+logs_waiting : (p : Policy) (s : Spec) (m : Message) {a : Queueing} {k : LaneKeeper} (r : LogReply) {b : Queueing} {l : LaneKeeper}
     → Logs PortDid KeepsByTurn NeverPasses p s m a k r b l → LeavesLent a k b l
-logs_waiting p s m a k (Filtered level kept) b l is =
+logs_waiting p s m {a} {k} (Filtered level kept) {b} {l} is =
     let c = copy_waiting (copy_of s m) kept k l is.2 in
     record { port = same_port a b is.1; keeper = c.0; list = c.1 }
-logs_waiting p s m a k (Logged o kept) b l is =
+logs_waiting p s m {a} {k} (Logged o kept) {b} {l} is =
     let c = copy_waiting (copy_of s m) kept k l is.1 in
     record { port = posts_port p _ a b o refl is.0; keeper = c.0; list = c.1 }
 
-logs_now : (p : Policy) (s : Spec) (m : Message) (a : Queueing) (k : LaneKeeper) (r : LogReply) (b : Queueing) (l : LaneKeeper)
+logs_now : (p : Policy) (s : Spec) (m : Message) {a : Queueing} {k : LaneKeeper} (r : LogReply) {b : Queueing} {l : LaneKeeper}
     → Logs PortDid KeepsByTurn Passes p s m a k r b l → LeavesLent a k b l
-logs_now p s m a k (Filtered level kept) b l is =
+logs_now p s m {a} {k} (Filtered level kept) {b} {l} is =
     let c = copy_now (copy_of s m) kept k l is.2 in
     record { port = same_port a b is.1; keeper = c.0; list = c.1 }
-logs_now p s m a k (Logged o kept) b l is =
+logs_now p s m {a} {k} (Logged o kept) {b} {l} is =
     let c = copy_now (copy_of s m) kept k l is.1 in
     record { port = posts_port p _ a b o refl is.0; keeper = c.0; list = c.1 }
 
@@ -130,39 +130,40 @@ has_spec (x ∷ ls) zero low = (x.spec, refl)
 has_spec (x ∷ ls) (suc n) low = has_spec ls n (omega (arith, low))
 
 -- whatever a log with waiting answered
-pub log_leaves : (ls : List Logger) (n : ℕ) (m : Message) (a : Queueing) (k : LaneKeeper)
-    (r : Result LogReply MessageError) (b : Queueing) (l : LaneKeeper) → n < length ls
+pub log_leaves : (ls : List Logger) (n : ℕ) (m : Message) {a : Queueing} {k : LaneKeeper}
+    (r : Result LogReply MessageError) {b : Queueing} {l : LaneKeeper} → n < length ls
     → ((s : Spec) → spec_at ls n ≡ Some s → IfOk r (λ x. Logs PortDid KeepsByTurn NeverPasses s.policy s m a k x b l))
     → OnErr r ((b ≡ a) × (l ≡ k)) → LeavesLent a k b l
-log_leaves ls n m a k (Ok x) b l low ok err = let s = has_spec ls n low in logs_waiting s.0.policy s.0 m a k x b l (ok s.0 s.1)
-log_leaves ls n m a k (Err e) b l low ok err = nothing_done a k b l err.0 err.1
+log_leaves ls n m {a} {k} (Ok x) {b} {l} low ok err =
+    let s = has_spec ls n low in logs_waiting s.0.policy s.0 m {a = a} {k = k} x {b = b} {l = l} (ok s.0 s.1)
+log_leaves ls n m {a} {k} (Err e) {b} {l} low ok err = nothing_done a k b l err.0 err.1
 
 -- whatever a log without waiting answered
-pub log_now_leaves : (policy_of : Spec → Policy) (ls : List Logger) (n : ℕ) (m : Message) (a : Queueing) (k : LaneKeeper)
-    (r : Result LogReply MessageError) (b : Queueing) (l : LaneKeeper) → n < length ls
+pub log_now_leaves : (policy_of : Spec → Policy) (ls : List Logger) (n : ℕ) (m : Message) {a : Queueing} {k : LaneKeeper}
+    (r : Result LogReply MessageError) {b : Queueing} {l : LaneKeeper} → n < length ls
     → ((s : Spec) → spec_at ls n ≡ Some s → IfOk r (λ x. Logs PortDid KeepsByTurn Passes (policy_of s) s m a k x b l))
     → OnErr r ((b ≡ a) × (l ≡ k)) → LeavesLent a k b l
-log_now_leaves policy_of ls n m a k (Ok x) b l low ok err =
-    let s = has_spec ls n low in logs_now (policy_of s.0) s.0 m a k x b l (ok s.0 s.1)
-log_now_leaves policy_of ls n m a k (Err e) b l low ok err = nothing_done a k b l err.0 err.1
+log_now_leaves policy_of ls n m {a} {k} (Ok x) {b} {l} low ok err =
+    let s = has_spec ls n low in logs_now (policy_of s.0) s.0 m {a = a} {k = k} x {b = b} {l = l} (ok s.0 s.1)
+log_now_leaves policy_of ls n m {a} {k} (Err e) {b} {l} low ok err = nothing_done a k b l err.0 err.1
 
 -- whatever a dump answered
-pub dump_leaves : {X E : Type 0} (items : X → List (Outcome (Unit {0}))) (ls : List Logger) (n : ℕ) (t : ℤ) (th : ℕ) (a : Queueing)
-    (k : LaneKeeper) (r : Result X E) (b : Queueing) (l : LaneKeeper) → n < length ls
+pub dump_leaves : {X E : Type 0} (items : X → List (Outcome (Unit {0}))) (ls : List Logger) (n : ℕ) (t : ℤ) (th : ℕ) {a : Queueing}
+    {k : LaneKeeper} (r : Result X E) {b : Queueing} {l : LaneKeeper} → n < length ls
     → ((s : Spec) → spec_at ls n ≡ Some s → IfOk r (λ v. (d : Room) × DumpsByTurn k d l
     × PostsEach PortDid (without_waiting s.policy) (posted_of n t th d.messages) a (items v) b))
     → OnErr r ((b ≡ a) × (l ≡ k)) → LendsAlike a b × LendsSame k l
-dump_leaves items ls n t th a k (Ok v) b l low ok err =
+dump_leaves items ls n t th {a} (Ok v) {b} low ok err =
     let s = has_spec ls n low in
     let is = ok s.0 s.1 in
     (each_port (without_waiting s.0.policy) (posted_of n t th is.0.messages) a b (items v) is.2, is.1.lends)
-dump_leaves items ls n t th a k (Err e) b l low ok err = (same_port a b err.0, (same_keeper k l err.1).0)
+dump_leaves items ls n t th {a} {k} (Err e) {b} {l} low ok err = (same_port a b err.0, (same_keeper k l err.1).0)
 
 -- a place after a call of its keeper
-pub still_seated : (most limit : ℕ) (lane : LaneId Room) (seat : LaneSeatView) (scratch : BacktraceScratch) (k l : LaneKeeper)
+pub still_seated : {most limit : ℕ} {lane : LaneId Room} {seat : LaneSeatView} {scratch : BacktraceScratch} {k l : LaneKeeper}
     → IsBacktraceSeat most limit lane seat scratch → k.lane.now ≡ lane → k.scratch.now ≡ scratch → LendsSame k l
     → l.scratch.now.list ≡ k.scratch.now.list → IsSeated l → IsBacktraceSeat most limit lane l.seat.now l.scratch.now
-still_seated most limit lane seat scratch k l old at was same list seated =
+still_seated {lane} {l} old at was same list seated =
     let there : l.lane.now ≡ lane = ap (λ (b : Bor (LaneId Room)). b.now) same.lane ∙ at in
     record {
       seat_is = subst (λ (x : LaneId Room). IsSeatOf x l.seat.now) there seated;
@@ -178,11 +179,12 @@ module _ (passes : LaneKeeper → LaneKeeper → Type 0) (p : Policy) (s : Spec)
   keeps_log a b k l v w (Ok x) lent left logs = record { keeper = k; after = l; lent = lent; left = left; called = logs }
   keeps_log a b k l v w (Err e) lent left logs = logs
 
-  pub lent_log : {E : Type 0} (old new : ProducerView) (n : ℕ) (a b : Queueing) (k l : BacktraceSeatView) (r : Result LogReply E) → IsPortOf old a
+  pub lent_log : {E : Type 0} {old new : ProducerView} (n : ℕ) {a b : Queueing} {k : BacktraceSeatView} (l : BacktraceSeatView)
+      (r : Result LogReply E) → IsPortOf old a
       → IsPortOf new b → slice_get old.backtrace_seats n ≡ Some k → new.backtrace_seats ≡ slice_set old.backtrace_seats n l
       → IfOk r (λ x. Keeps k l (λ y z. Logs PortDid KeepsByTurn passes p s m a y x b z))
       → IfOk r (λ x. Lent old new n (λ c y d z. Logs PortDid KeepsByTurn passes p s m c y x d z))
-  lent_log old new n a b k l (Ok x) lent left found others kept = record {
+  lent_log n {a} {b} {k} l (Ok x) lent left found others kept = record {
     port = a;
     after = b;
     lent = lent;
@@ -193,7 +195,7 @@ module _ (passes : LaneKeeper → LaneKeeper → Type 0) (p : Policy) (s : Spec)
     others = others;
     kept = kept;
   }
-  lent_log old new n a b k l (Err e) lent left found others kept = kept
+  lent_log n l (Err e) lent left found others kept = kept
 
 module _ {X : Type 0} (items : X → List (Outcome (Unit {0}))) (p : Policy) (n : ℕ) (t : ℤ) (th : ℕ) where
   abbrev pub Dumped : Queueing → X → Queueing → LaneKeeper → LaneKeeper → Type 0
@@ -204,11 +206,12 @@ module _ {X : Type 0} (items : X → List (Outcome (Unit {0}))) (p : Policy) (n 
   keeps_dump a b k l v w (Ok x) lent left did = record { keeper = k; after = l; lent = lent; left = left; called = did }
   keeps_dump a b k l v w (Err e) lent left did = did
 
-  pub lent_dump : {E : Type 0} (old new : ProducerView) (at : ℕ) (a b : Queueing) (k l : BacktraceSeatView) (r : Result X E) → IsPortOf old a
+  pub lent_dump : {E : Type 0} {old new : ProducerView} (at : ℕ) {a b : Queueing} {k : BacktraceSeatView} (l : BacktraceSeatView)
+      (r : Result X E) → IsPortOf old a
       → IsPortOf new b → slice_get old.backtrace_seats at ≡ Some k → new.backtrace_seats ≡ slice_set old.backtrace_seats at l
       → IfOk r (λ x. Keeps k l (λ y z. Dumped a x b y z))
       → IfOk r (λ x. Lent old new at (λ c y d z. Dumped c x d y z))
-  lent_dump old new at a b k l (Ok x) lent left found others kept = record {
+  lent_dump at {a} {b} {k} l (Ok x) lent left found others kept = record {
     port = a;
     after = b;
     lent = lent;
@@ -219,13 +222,14 @@ module _ {X : Type 0} (items : X → List (Outcome (Unit {0}))) (p : Policy) (n 
     others = others;
     kept = kept;
   }
-  lent_dump old new at a b k l (Err e) lent left found others kept = kept
+  lent_dump at l (Err e) lent left found others kept = kept
 
 -- a producer after a post on its port
-pub still_producer : (shared : Shared) (p : PassView Item no_note) (losses : SeatView) (backtrace_seats : List BacktraceSeatView) (limit : ℕ)
-    (a b : Queueing) → IsProducer shared p losses backtrace_seats limit → a.ring.now ≡ shared.ring → a.book.now ≡ shared.book
+pub still_producer : {shared : Shared} {p : PassView Item no_note} {losses : SeatView} {backtrace_seats : List BacktraceSeatView}
+    {limit : ℕ}
+    {a b : Queueing} → IsProducer shared p losses backtrace_seats limit → a.ring.now ≡ shared.ring → a.book.now ≡ shared.book
     → a.pass.now ≡ p → a.seat.now ≡ losses → LendsAlike a b → IsFit b → IsProducer shared b.pass.now b.seat.now backtrace_seats limit
-still_producer shared p losses backtrace_seats limit a b old ring book pass seat alike fit =
+still_producer {losses} {a} {b} old ring book pass seat alike fit =
     let R : RingId TextLimit → Type 0 = λ r. IsPassOf r b.pass.now in
     let B : BookId → Type 0 = λ k. IsBookSeatOf k b.seat.now in
     let mine : IsAccountOf a.pass.now.known a.seat.now.known =

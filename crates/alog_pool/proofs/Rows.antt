@@ -44,7 +44,7 @@ module _ {S : Type 0} where
         lane = takes.lane ∙ back.lane;
         seats = subst (λ (ms : List (lane.Member (Turned Item Buffer Answer))). HasSeatsBack b.seat.known d.seat.known ms)
             (sym (map_more f column w))
-            (seats_one b.seat.known c.seat.known w.seat.known d.seat.known (map f column) back.seats takes.joined one.1 one.0);
+            (seats_one w.seat.known {l = d.seat.known} back.seats takes.joined one.1 one.0);
         faults = takes.faults ∙ sum_more (λ (p : SinkSeatView S). p.faults) column w c.faults back.faults;
       }
 

@@ -66,9 +66,9 @@ back_starts k faithful = record {
   faithful = faithful;
 }
 
-pub back_one : (j k p l : Known Item no_note) (ms : List (Member Item no_note)) → HasBack j k ms → Joins k p l → p.joined ≡ []
+pub back_one : {j k p l : Known Item no_note} {ms : List (Member Item no_note)} → HasBack j k ms → Joins k p l → p.joined ≡ []
     → p.parts ≡ 1 → HasBack j l (ms ++ record { actor = p.actor; own = p.own } ∷ [])
-back_one j k p l ms b joins none one =
+back_one {j} {k} {p} {l} {ms} b joins none one =
     let m : Member Item no_note = record { actor = p.actor; own = p.own } in
     let parts : l.parts ≡ k.parts + p.parts = ap (λ (z : Known Item no_note). z.parts) joins.known in
     let few = b.parts in
@@ -88,9 +88,10 @@ module _ {D : Type 0} where
   pub seats_start : (k : lane.Known D) → HasSeatsBack k k []
   seats_start k = record { own = refl; joined = sym (append-nil k.joined); parts = omega arith }
 
-  pub seats_one : (j k p l : lane.Known D) (ms : List (lane.Member D)) → HasSeatsBack j k ms → lane.IsJoined k p l → p.joined ≡ []
+  pub seats_one : {j k : lane.Known D} (p : lane.Known D) {l : lane.Known D} {ms : List (lane.Member D)} → HasSeatsBack j k ms
+      → lane.IsJoined k p l → p.joined ≡ []
       → p.parts ≡ 1 → HasSeatsBack j l (ms ++ record { seat = p.seat; own = p.own } ∷ [])
-  seats_one j k p l ms b joined none one =
+  seats_one {j} {k} p {l} {ms} b joined none one =
       let m : lane.Member D = record { seat = p.seat; own = p.own } in
       let parts : l.parts ≡ k.parts + p.parts = ap (λ (z : lane.Known D). z.parts) joined.known in
       let few = b.parts in

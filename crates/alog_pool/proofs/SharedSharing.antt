@@ -47,15 +47,15 @@ module _ {A C : Type 0} (R : A → A → C → Type 0) where
   Sharing (suc i) (x ∷ xs) [] given = ⊥
   Sharing (suc i) (x ∷ xs) (y ∷ ys) [] = ⊥
 
-  pub share_one : (i : ℕ) (old new : List A) (given : List C) (d b : A) (c : C) → i < length new → R (slice_index_or new i d) b c
+  pub share_one : (i : ℕ) (old new : List A) (given : List C) (d : A) {b : A} {c : C} → i < length new → R (slice_index_or new i d) b c
       → Sharing i old new given → Sharing (suc i) old (slice_set new i b) (given ++ c ∷ [])
-  share_one i old [] given d b c low r m = absurd (omega (arith, low))
-  share_one zero old (y ∷ ys) given d b c low r m =
+  share_one i old [] given d low r m = absurd (omega (arith, low))
+  share_one zero old (y ∷ ys) given d {b} {c} low r m =
       subst (λ (o : List A). Sharing 1 o (b ∷ ys) (given ++ c ∷ [])) m.0
       (subst (λ (l : List C). Sharing 1 (y ∷ ys) (b ∷ ys) (l ++ c ∷ [])) (sym m.1) (r, (refl, refl)))
-  share_one (suc i) [] (y ∷ ys) given d b c low r m = absurd m
-  share_one (suc i) (x ∷ xs) (y ∷ ys) [] d b c low r m = absurd m
-  share_one (suc i) (x ∷ xs) (y ∷ ys) (z ∷ zs) d b c low r m = (m.0, share_one i xs ys zs d b c (omega (arith, low)) r m.1)
+  share_one (suc i) [] (y ∷ ys) given d low r m = absurd m
+  share_one (suc i) (x ∷ xs) (y ∷ ys) [] d low r m = absurd m
+  share_one (suc i) (x ∷ xs) (y ∷ ys) (z ∷ zs) d {b} {c} low r m = (m.0, share_one i xs ys zs d (omega (arith, low)) r m.1)
 
   pub share_all : (old new : List A) (given : List C) → Sharing (length old) old new given → Each3 R old new given
   share_all [] new given m =
@@ -106,16 +106,16 @@ module _ {A B : Type 0} (R : A → B → Type 0) where
   each2_length (z ∷ xs) (w ∷ ys) each = λ k. suc (each2_length xs ys each.1 k)
 
   -- what holds of the next item and of what is still as it was
-  pub matched_next : {C : Type 0} (Q : A → A → C → Type 0) (ys : List B) (x : B) (zs : List B) (old new : List A) (given : List C) (d : A)
+  pub matched_next : {C : Type 0} (Q : A → A → C → Type 0) (ys : List B) {x : B} (zs : List B) (old new : List A) (given : List C) (d : A)
       → Each2 R old (ys ++ x ∷ zs) → Sharing Q (length ys) old new given → R (slice_index_or new (length ys) d) x
-  matched_next Q [] x zs [] new given d each m = absurd each
-  matched_next Q [] x zs (a ∷ old) [] given d each m = absurd (cc m.0)
-  matched_next Q [] x zs (a ∷ old) (b ∷ new) given d each m =
+  matched_next Q [] zs [] new given d each m = absurd each
+  matched_next Q [] zs (a ∷ old) [] given d each m = absurd (cc m.0)
+  matched_next Q [] {x} zs (a ∷ old) (b ∷ new) given d each m =
       let same : b ≡ a = cc m.0 in subst (λ c. R c x) (sym same) each.0
-  matched_next Q (y ∷ ys) x zs [] new given d each m = absurd each
-  matched_next Q (y ∷ ys) x zs (a ∷ old) [] given d each m = absurd m
-  matched_next Q (y ∷ ys) x zs (a ∷ old) (b ∷ new) [] d each m = absurd m
-  matched_next Q (y ∷ ys) x zs (a ∷ old) (b ∷ new) (c ∷ given) d each m = matched_next Q ys x zs old new given d each.1 m.1
+  matched_next Q (y ∷ ys) zs [] new given d each m = absurd each
+  matched_next Q (y ∷ ys) zs (a ∷ old) [] given d each m = absurd m
+  matched_next Q (y ∷ ys) zs (a ∷ old) (b ∷ new) [] d each m = absurd m
+  matched_next Q (y ∷ ys) {x} zs (a ∷ old) (b ∷ new) (c ∷ given) d each m = matched_next Q ys {x = x} zs old new given d each.1 m.1
 
   pub next_low : {C : Type 0} (Q : A → A → C → Type 0) (ys : List B) (x : B) (zs : List B) (old new : List A) (given : List C)
       → Each2 R old (ys ++ x ∷ zs) → Sharing Q (length ys) old new given → length ys < length new
@@ -147,11 +147,11 @@ pub all_map_next : {A B : Type 0} (f : A → B) (P : B → Type 0) (xs : List A)
 all_map_next f P [] x zs all = all.0
 all_map_next f P (y ∷ xs) x zs all = all_map_next f P xs x zs all.1
 
-pub each3_more : {A B C : Type 0} (R : A → B → C → Type 0) (xs : List A) (ys : List B) (zs : List C) (x : A) (y : B) (z : C)
+pub each3_more : {A B C : Type 0} (R : A → B → C → Type 0) (xs : List A) (ys : List B) (zs : List C) {x : A} {y : B} {z : C}
     → Each3 R xs ys zs → R x y z → Each3 R (xs ++ x ∷ []) (ys ++ y ∷ []) (zs ++ z ∷ [])
-each3_more R [] [] [] x y z each r = (r, tt)
-each3_more R [] [] (c ∷ zs) x y z each r = absurd each
-each3_more R [] (b ∷ ys) zs x y z each r = absurd each
-each3_more R (a ∷ xs) [] zs x y z each r = absurd each
-each3_more R (a ∷ xs) (b ∷ ys) [] x y z each r = absurd each
-each3_more R (a ∷ xs) (b ∷ ys) (c ∷ zs) x y z each r = (each.0, each3_more R xs ys zs x y z each.1 r)
+each3_more R [] [] [] each r = (r, tt)
+each3_more R [] [] (c ∷ zs) each r = absurd each
+each3_more R [] (b ∷ ys) zs each r = absurd each
+each3_more R (a ∷ xs) [] zs each r = absurd each
+each3_more R (a ∷ xs) (b ∷ ys) [] each r = absurd each
+each3_more R (a ∷ xs) (b ∷ ys) (c ∷ zs) {x} {y} {z} each r = (each.0, each3_more R xs ys zs each.1 r)

@@ -90,7 +90,7 @@ module _ {S : Type 0} (a j k l : Known Item no_note) (producers : List ProducerV
   }
 
   posted : IsEndingFrom j k []
-  posted = ending_moved j j k [] stops.puts [] (ending_starts j) stops.moved (no_work_in_stops stops.puts stops.stops)
+  posted = ending_moved (ending_starts j) stops.moved (no_work_in_stops stops.puts stops.stops)
 
   ended : HasEndedFrom j l
   ended = record {
@@ -150,7 +150,7 @@ module _ {S : Type 0} (a j k l : Known Item no_note) (producers : List ProducerV
         let c : One → ℕ = λ m. claimed w m.own in
         let t : One → ℕ = λ m. taken w m.own in
         let all : claimed_among w j.joined ≡ taken_among w j.joined + taken_among w workers =
-        all_came_out j l ended w gathered whole places took_none nothing in
+        all_came_out ended w gathered whole places took_none nothing in
         let put : claimed_among w j.joined ≡ sum_by (λ (p : ProducerView). c (pass_member p)) producers =
         ap (λ (ms : List One). sum_by c ms) gathered_are ∙ sum_of_map pass_member c producers in
         let got : taken_among w j.joined ≡ sum_by (λ (p : ProducerView). t (pass_member p)) producers =
@@ -170,7 +170,7 @@ module _ {S : Type 0} (a j k l : Known Item no_note) (producers : List ProducerV
         let counts : AreCounted j.joined seats =
         subst (λ (ms : List One). AreCounted ms seats) (sym gathered_are) (counted producers accounts) in
         let all : claimed_among of_work j.joined ≡ sum_by f seats + taken_among of_work workers =
-        overrun_or_handled j l ended seats gathered whole places took_none counts in
+        overrun_or_handled ended seats gathered whole places took_none counts in
         let put : claimed_among of_work j.joined ≡ sum_by put_in producers =
         ap (λ (ms : List One). sum_by c ms) gathered_are ∙ sum_of_map pass_member c producers in
         let lost : sum_by f seats ≡ sum_by took_out producers =

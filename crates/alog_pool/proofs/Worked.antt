@@ -59,10 +59,10 @@ no_stop t (Flush n) other = refl
 no_stop t Stop other = absurd (other refl)
 
 -- the account after a move that took these
-pub work_after : (most : ℕ) (k l : Known Item no_note) (g : List (ℕ × Item)) (tickets : List ℕ) (handled : ℕ) (ts : List ℕ) (hs : ℕ)
+pub work_after : {most : ℕ} {k l : Known Item no_note} {g : List (ℕ × Item)} {tickets : List ℕ} {handled : ℕ} {ts : List ℕ} {hs : ℕ}
     → IsWorkOf most k ts hs → Moved k l [] g → tickets ≡ take most (work_tickets (takes k.own ++ g))
     → handled ≡ weigh of_work (takes k.own ++ g) % 2 ^ 64 → IsWorkOf most l tickets handled
-work_after most k l g tickets handled ts hs w m tickets_are handled_is =
+work_after {most} {k} {l} {g} w m tickets_are handled_is =
     let gots : takes l.own ≡ takes k.own ++ g = moved_gots k l [] g m in
     record {
       faithful = m.made.faithful;
@@ -84,19 +84,19 @@ pub took_nothing : (most : ℕ) (k l : Known Item no_note) (ts : List ℕ) (hs :
     → Moved k l [] [] → IsWorkOf most l ts hs × (taken of_stops l.own ≡ 0)
 took_nothing most k l ts hs w none m =
     let same : takes k.own ++ [] ≡ takes k.own = append-nil (takes k.own) in (
-      work_after most k l [] ts hs ts hs w m (w.tickets_are ∙ ap (λ (q : List (ℕ × Item)). take most (work_tickets q)) (sym same))
+      work_after w m (w.tickets_are ∙ ap (λ (q : List (ℕ × Item)). take most (work_tickets q)) (sym same))
           (w.handled_is ∙ ap (λ (q : List (ℕ × Item)). weigh of_work q % 2 ^ 64) (sym same)),
       (let s = stops_after k l [] m in omega (arith, s, none)),
     )
 
 -- it took a text or a flush
-pub took_work : (most : ℕ) (k l : Known Item no_note) (t : ℕ) (x : Item) (ts : List ℕ) (hs : ℕ) → IsWorkOf most k ts hs
+pub took_work : {most : ℕ} {k l : Known Item no_note} {t : ℕ} {x : Item} {ts : List ℕ} {hs : ℕ} → IsWorkOf most k ts hs
     → taken of_stops k.own ≡ 0 → Moved k l [] ((t, x) ∷ []) → x ≢ Stop
     → IsWorkOf most l (take most (ts ++ t ∷ [])) ((hs + 1) % 2 ^ 64) × (taken of_stops l.own ≡ 0)
-took_work most k l t x ts hs w none m other =
+took_work {most} {k} {l} {t} {x} {ts} {hs} w none m other =
     let one : weigh of_work (takes k.own ++ (t, x) ∷ []) ≡ weigh of_work (takes k.own) + 1 =
     weigh-append of_work (takes k.own) ((t, x) ∷ []) ∙ ap (λ n. weigh of_work (takes k.own) + n) (one_work t x other) in (
-      work_after most k l ((t, x) ∷ []) (take most (ts ++ t ∷ [])) ((hs + 1) % 2 ^ 64) ts hs w m
+      work_after w m
           (ap (λ (q : List ℕ). take most (q ++ t ∷ [])) w.tickets_are ∙ take_take most (work_tickets (takes k.own)) (t ∷ [])
           ∙ ap (λ (q : List ℕ). take most (work_tickets (takes k.own) ++ q)) (sym (one_ticket t x other))
           ∙ ap (λ (q : List ℕ). take most q) (sym (work_tickets-append (takes k.own) ((t, x) ∷ []))))
@@ -105,17 +105,15 @@ took_work most k l t x ts hs w none m other =
     )
 
 -- it took a stop
-pub took_stop : (most : ℕ) (k l : Known Item no_note) (t : ℕ) (x : Item) (ts : List ℕ) (hs : ℕ) → IsWorkOf most k ts hs
+pub took_stop : {most : ℕ} {k l : Known Item no_note} {t : ℕ} {x : Item} {ts : List ℕ} {hs : ℕ} → IsWorkOf most k ts hs
     → taken of_stops k.own ≡ 0 → Moved k l [] ((t, x) ∷ []) → x ≡ Stop → IsWorkOf most l ts hs × (taken of_stops l.own ≡ 1)
-took_stop most k l t x ts hs w none moved is =
+took_stop {most} {k} {l} {t} {ts} {hs} w none moved is =
     let m : Moved k l [] ((t, Stop) ∷ []) = subst (λ (z : Item). Moved k l [] ((t, z) ∷ [])) is moved in
     let more : work_tickets (takes k.own ++ (t, Stop) ∷ []) ≡ work_tickets (takes k.own) =
     work_tickets-append (takes k.own) ((t, Stop) ∷ []) ∙ append-nil (work_tickets (takes k.own)) in
     let same : weigh of_work (takes k.own ++ (t, Stop) ∷ []) ≡ weigh of_work (takes k.own) =
     (let a = weigh-append of_work (takes k.own) ((t, Stop) ∷ []) in omega (arith, a)) in (
-      work_after most k l ((t, Stop) ∷ []) ts hs ts hs w m
-          (w.tickets_are ∙ ap (λ (q : List ℕ). take most q) (sym more))
-          (w.handled_is ∙ ap (λ n. n % 2 ^ 64) (sym same)),
+      work_after w m (w.tickets_are ∙ ap (λ (q : List ℕ). take most q) (sym more)) (w.handled_is ∙ ap (λ n. n % 2 ^ 64) (sym same)),
       (let s = stops_after k l ((t, Stop) ∷ []) m in omega (arith, s, none)),
     )
 

@@ -31,8 +31,9 @@ split-requires-clause-of c =
     let s = c.loop-spare.invariant.0 in
     let made = (shared_lengths IsBacktraceSeatPart (length yielded) c.args.backtrace_seats.now.items new c.loop-spare.given.items s).1 in
     let at : length yielded ≡ c.len-place.result = omega (arith, made, c.len-place.ensures, c.loop-spare.given.ok.0) in
-    let one = matched_next IsSpareOf IsBacktraceSeatPart yielded c.in-Some.spare _ c.args.backtrace_seats.now.items new c.loop-spare.given.items
-    c.index_mut.result.now (subst (λ (l : List Spare). Each2 IsSpareOf c.args.backtrace_seats.now.items l) all c.requires.spares) s in
+    let one = matched_next IsSpareOf IsBacktraceSeatPart yielded {x = c.in-Some.spare} _ c.args.backtrace_seats.now.items new
+    c.loop-spare.given.items c.index_mut.result.now
+    (subst (λ (l : List Spare). Each2 IsSpareOf c.args.backtrace_seats.now.items l) all c.requires.spares) s in
     subst (λ (k : BacktraceSeatView). IsSpareOf k c.in-Some.spare) (sym c.index_mut.ensures.value)
     (subst (λ n. IsSpareOf (slice_index_or new n c.index_mut.result.now) c.in-Some.spare) at one)
 
@@ -86,7 +87,7 @@ loop-spare-preserved c =
           (slice_set new c.len-place.result c.split.new.self) l) (sym c.push_reserved.ensures.items)
           (subst (λ n. Sharing IsBacktraceSeatPart n old (slice_set new c.len-place.result c.split.new.self) (given ++ c.split.result ∷ [])) next
           (subst (λ n. Sharing IsBacktraceSeatPart (suc (length yielded)) old (slice_set new n c.split.new.self) (given ++ c.split.result ∷ [])) at
-          (share_one IsBacktraceSeatPart (length yielded) old new given c.index_mut.result.now c.split.new.self c.split.result low gave s))),
+          (share_one IsBacktraceSeatPart (length yielded) old new given c.index_mut.result.now low gave s))),
       omega (arith, room, c.push_reserved.ensures.capacity),
     )
 

@@ -46,7 +46,7 @@ loop-place-preserved g c =
     record {
       shared = subst (λ (l : List B). Sharing IsPart (i + 1) old (slice_set new i c.split.new.self) l) (sym c.push_reserved.ensures.items)
           (subst (λ n. Sharing IsPart n old (slice_set new i c.split.new.self) (given ++ c.in_ok-split.field-0 ∷ [])) next
-          (share_one IsPart i old new given c.index_mut.result.now c.split.new.self c.in_ok-split.field-0 (omega (arith, long, below, end)) gave s));
+          (share_one IsPart i old new given c.index_mut.result.now (omega (arith, long, below, end)) gave s));
       end = end;
       room = omega (arith, room, c.push_reserved.ensures.capacity);
     }

@@ -53,8 +53,8 @@ loop-sink_seat-preserved g c =
     record {
       each = subst (λ l. Each3 R yielded l faults) (sym c.push_reserved-in-loop-sink_seat.ensures.items)
           (subst (λ l. Each3 R yielded (c.loop-sink_seat.sinks.items ++ c.close.result ∷ []) l) (sym c.push_reserved.ensures.items)
-          (each3_more R c.loop-sink_seat.yielded c.loop-sink_seat.sinks.items c.loop-sink_seat.faults.items c.in-Some.sink_seat c.close.result
-          c.sink_seat.inside.faults c.loop-sink_seat.invariant.each one));
+          (each3_more R c.loop-sink_seat.yielded c.loop-sink_seat.sinks.items c.loop-sink_seat.faults.items c.loop-sink_seat.invariant.each
+          one));
       faults_room = omega (arith, faults_room, c.push_reserved.ensures.capacity);
       sinks_room = omega (arith, sinks_room, c.push_reserved-in-loop-sink_seat.ensures.capacity);
     }

@@ -106,9 +106,7 @@ loop-worker-preserved g c =
             (each2_more HasWorked (map f yielded) crew (f c.in-Some.worker) worker collected.worked c.join-own.ensures);
         passes = subst (λ (l : List M). HasBack c.args.pass.now.known c.join.new.pass.known l)
             (sym (map_more (λ (h : Worker S). worker_member h) crew worker))
-            (back_one c.args.pass.now.known c.loop-worker.pass.known worker.pass.known c.join.new.pass.known
-            (map (λ (h : Worker S). worker_member h) crew) collected.passes c.join.ensures.joined c.join-own.ensures.work.joined
-            c.join-own.ensures.work.parts);
+            (back_one collected.passes c.join.ensures.joined c.join-own.ensures.work.joined c.join-own.ensures.work.parts);
         places = subst (λ (l : List (List (SinkSeatView S))). HaveBack c.args.sink_seats.now.items c.take_all_back.new.sink_seats.items l)
             (sym (map_more (λ (h : Worker S). h.sink_seats.items) crew worker))
             (rows_more c.args.sink_seats.now.items c.loop-worker.sink_seats.items c.take_all_back.new.sink_seats.items worker.sink_seats.items

@@ -61,13 +61,11 @@ loop-producer-preserved c =
       passes = subst (λ (ms : List (Member Item no_note)). HasBack c.args.pass.now.known passes ms) (sym (map_more pass_member i.done p))
           (subst (λ (q : ProducerView). HasBack c.args.pass.now.known passes (map pass_member i.done ++ pass_member q ∷ []))
           c.producer.view_is
-          (back_one c.args.pass.now.known c.loop-producer.pass.known inside.pass.known passes (map pass_member i.done) i.passes
-          c.join.ensures.joined account.joined account.parts));
+          (back_one i.passes c.join.ensures.joined account.joined account.parts));
       seats = subst (λ (ms : List (lane.Member Add)). HasSeatsBack c.args.losses.now.known seats ms) (sym (map_more loss_member i.done p))
           (subst (λ (q : ProducerView). HasSeatsBack c.args.losses.now.known seats (map loss_member i.done ++ loss_member q ∷ []))
           c.producer.view_is
-          (seats_one c.args.losses.now.known c.loop-producer.losses.known inside.losses.known seats (map loss_member i.done) i.seats
-          c.join-in-Some.ensures.joined account.seat_joined account.seat_parts));
+          (seats_one inside.losses.known {l = seats} i.seats c.join-in-Some.ensures.joined account.seat_joined account.seat_parts));
       accounts = all_more (λ (q : ProducerView). IsAccountOf q.pass.known q.losses.known) i.done p i.accounts
           (subst (λ (q : ProducerView). IsAccountOf q.pass.known q.losses.known) c.producer.view_is account);
     }

@@ -28,8 +28,9 @@ take_back-requires g c =
     let front = given_front c.into_iter-place-iterator.result yielded c.loop-place.place-iterator c.loop-place.yielded_by in
     let all = sym c.into_iter-place-iterator.ensures.into_iter_gives.0 ∙ front ∙ ap (λ (l : List B). yielded ++ l) c.in-Some.ensures.steps.0 in
     let new = c.loop-place.sink_seats.items in
-    let one = matched_next IsSameLane TakesBack yielded c.in-Some.place _ c.args.sink_seats.now.items new yielded
-    c.index_mut.result.now (subst (λ (l : List B). Each2 IsSameLane c.args.sink_seats.now.items l) all c.requires) c.loop-place.invariant.0 in
+    let one = matched_next IsSameLane TakesBack yielded {x = c.in-Some.place} _ c.args.sink_seats.now.items new yielded
+    c.index_mut.result.now (subst (λ (l : List B). Each2 IsSameLane c.args.sink_seats.now.items l) all c.requires)
+    c.loop-place.invariant.0 in
     subst (λ (b : B). c.in-Some.place.lane ≡ b.lane) (sym c.index_mut.ensures.value)
     (subst (λ n. c.in-Some.place.lane ≡ (slice_index_or new n c.index_mut.result.now).lane) (sym c.loop-place.invariant.1) one)
 
@@ -58,7 +59,7 @@ loop-place-preserved g c =
     (subst (λ (b : B). TakesBack b c.take_back.new.self place) c.index_mut.ensures.value took) in (
       subst (λ n. Sharing TakesBack n old (slice_set new c.loop-place.number c.take_back.new.self) (yielded ++ place ∷ [])) next
           (subst (λ n. Sharing TakesBack (suc (length yielded)) old (slice_set new n c.take_back.new.self) (yielded ++ place ∷ [])) at
-          (share_one TakesBack (length yielded) old new yielded c.index_mut.result.now c.take_back.new.self place low gave s)),
+          (share_one TakesBack (length yielded) old new yielded c.index_mut.result.now low gave s)),
       omega (arith, next, at),
     )
 

@@ -9,4 +9,4 @@ pub returns-in-Some-try_stop-clause-did : goal.returns-in-Some-try_stop-clause-d
 returns-in-Some-try_stop-clause-did g c = did_more _ _ _ c.in-Some-try_stop.posted c.loop.invariant.1 c.in-Some-try_stop.ensures.tried
 
 pub loop-preserved : goal.loop-preserved
-loop-preserved g c = (c.try_stop.ensures.ring, moved_more _ _ _ _ _ _ _ c.loop.invariant.1 c.in_default.ensures.tried)
+loop-preserved g c = (c.try_stop.ensures.ring, moved_more c.loop.invariant.1 c.in_default.ensures.tried)

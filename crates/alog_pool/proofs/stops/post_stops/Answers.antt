@@ -15,7 +15,7 @@ post_stop-requires-clause-faithful g c = c.loop-posted.invariant.1.moved.made.fa
 pub returns-then-not-post_stop-clause-stops : goal.returns-then-not-post_stop-clause-stops
 returns-then-not-post_stop-clause-stops g c =
     let did = c.if-not-post_stop.ensures.did in
-    put_last _ _ _ c.loop-posted._posted c.args.count c.loop-posted.invariant.1 c.loop-posted-test.true did.0 did.1
+    put_last {count = c.args.count} c.loop-posted.invariant.1 c.loop-posted-test.true did.0 did.1
 
 pub loop-posted-preserved : goal.loop-posted-preserved
 loop-posted-preserved g c =

@@ -50,7 +50,7 @@ loop-place-preserved g c =
       places = c.serve_at.ensures.places ∙ c.loop-place.invariant.places;
       line = c.serve_at.ensures.line;
       turns = subst (λ (l : List Due). HaveMade 0 c.args.sink_seats.now.items c.serve_at.new.sink_seats.items l)
-          (sym (dues_next _ c.in-Some.spec.now c.args.logger c.args.ticket c.args.item.now c.loop-place.place turn
-          c.in-Some.ensures.value (sym c.in-Some-turn_of_work.ensures)))
+          (sym (dues_next c.args.logger c.args.ticket c.args.item.now c.loop-place.place c.in-Some.ensures.value
+          (sym c.in-Some-turn_of_work.ensures)))
           (have_then 0 c.args.sink_seats.now.items c.loop-place.sink_seats.items c.serve_at.new.sink_seats.items _ _ c.loop-place.invariant.turns next);
     }

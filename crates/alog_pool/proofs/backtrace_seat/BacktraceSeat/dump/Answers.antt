@@ -9,14 +9,14 @@ use Rattle.alog_pool.proofs.backtrace_seat.BacktraceSeat.dump.Goals as goal
 
 pub shape_of-self-inside : goal.shape_of-self-inside
 shape_of-self-inside g c =
-    let left = dump_leaves (λ v. v.items) c.args.loggers.now c.args.number _ _ c.args.port.now _ c.dump_shared.result
-    c.dump_shared.new.outlet c.dump_shared.new.keeper c.requires.known c.dump_shared.ensures.dumped c.dump_shared.ensures.err in
+    let left = dump_leaves (λ v. v.items) c.args.loggers.now c.args.number _ _ {a = c.args.port.now} c.dump_shared.result
+    {b = c.dump_shared.new.outlet} {l = c.dump_shared.new.keeper} c.requires.known c.dump_shared.ensures.dumped c.dump_shared.ensures.err in
     sym left.1.scratch
 
 pub shape_of-self-inside-2 : goal.shape_of-self-inside-2
 shape_of-self-inside-2 g c =
-    let left = dump_leaves (λ v. v.items) c.args.loggers.now c.args.number _ _ c.args.port.now _ c.dump_shared.result
-    c.dump_shared.new.outlet c.dump_shared.new.keeper c.requires.known c.dump_shared.ensures.dumped c.dump_shared.ensures.err in
+    let left = dump_leaves (λ v. v.items) c.args.loggers.now c.args.number _ _ {a = c.args.port.now} c.dump_shared.result
+    {b = c.dump_shared.new.outlet} {l = c.dump_shared.new.keeper} c.requires.known c.dump_shared.ensures.dumped c.dump_shared.ensures.err in
     sym left.1.seat
 
 pub returns-clause-dumped : goal.returns-clause-dumped
@@ -33,6 +33,6 @@ returns-clause-dumped g c = λ s e.
 
 pub returns-clause-port : goal.returns-clause-port
 returns-clause-port g c =
-    let left = dump_leaves (λ v. v.items) c.args.loggers.now c.args.number _ _ c.args.port.now _ c.dump_shared.result
-    c.dump_shared.new.outlet c.dump_shared.new.keeper c.requires.known c.dump_shared.ensures.dumped c.dump_shared.ensures.err in
+    let left = dump_leaves (λ v. v.items) c.args.loggers.now c.args.number _ _ {a = c.args.port.now} c.dump_shared.result
+    {b = c.dump_shared.new.outlet} {l = c.dump_shared.new.keeper} c.requires.known c.dump_shared.ensures.dumped c.dump_shared.ensures.err in
     (c.dump_shared.ensures.ready.0.0, left.0)

@@ -13,14 +13,14 @@ use Rattle.alog_pool.proofs.backtrace_seat.BacktraceSeat.log.Goals as goal
 
 pub shape_of-self-inside : goal.shape_of-self-inside
 shape_of-self-inside g c =
-    let left = log_leaves c.args.loggers.now c.args.given.logger _ c.args.port.now _ c.log_ref.result c.log_ref.new.outlet c.log_ref.new.keeper
-    c.requires.known c.log_ref.ensures.logs c.log_ref.ensures.err in
+    let left = log_leaves c.args.loggers.now c.args.given.logger _ {a = c.args.port.now} c.log_ref.result {b = c.log_ref.new.outlet}
+    {l = c.log_ref.new.keeper} c.requires.known c.log_ref.ensures.logs c.log_ref.ensures.err in
     sym left.keeper.scratch
 
 pub shape_of-self-inside-2 : goal.shape_of-self-inside-2
 shape_of-self-inside-2 g c =
-    let left = log_leaves c.args.loggers.now c.args.given.logger _ c.args.port.now _ c.log_ref.result c.log_ref.new.outlet c.log_ref.new.keeper
-    c.requires.known c.log_ref.ensures.logs c.log_ref.ensures.err in
+    let left = log_leaves c.args.loggers.now c.args.given.logger _ {a = c.args.port.now} c.log_ref.result {b = c.log_ref.new.outlet}
+    {l = c.log_ref.new.keeper} c.requires.known c.log_ref.ensures.logs c.log_ref.ensures.err in
     sym left.keeper.seat
 
 pub returns-clause-logs : goal.returns-clause-logs
@@ -42,6 +42,6 @@ returns-clause-within g c =
 
 pub returns-clause-port : goal.returns-clause-port
 returns-clause-port g c =
-    let left = log_leaves c.args.loggers.now c.args.given.logger _ c.args.port.now _ c.log_ref.result c.log_ref.new.outlet c.log_ref.new.keeper
-    c.requires.known c.log_ref.ensures.logs c.log_ref.ensures.err in
+    let left = log_leaves c.args.loggers.now c.args.given.logger _ {a = c.args.port.now} c.log_ref.result {b = c.log_ref.new.outlet}
+    {l = c.log_ref.new.keeper} c.requires.known c.log_ref.ensures.logs c.log_ref.ensures.err in
     (c.log_ref.ensures.ready.0.0, left.port)

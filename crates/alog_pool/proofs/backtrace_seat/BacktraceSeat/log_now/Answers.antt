@@ -15,28 +15,31 @@ use Rattle.alog_pool.proofs.backtrace_seat.BacktraceSeat.log_now.Goals as goal
 
 pub shape_of-self-inside : goal.shape_of-self-inside
 shape_of-self-inside c =
-    let left = log_now_leaves (λ (s : Spec). without_waiting s.policy) c.args.loggers.now c.args.given.logger _ c.args.port.now _
-    c.log_ref_now.result c.log_ref_now.new.outlet c.log_ref_now.new.keeper c.requires.known c.log_ref_now.ensures.logs c.log_ref_now.ensures.err in
+    let left = log_now_leaves (λ (s : Spec). without_waiting s.policy) c.args.loggers.now c.args.given.logger _ {a = c.args.port.now}
+    c.log_ref_now.result {b = c.log_ref_now.new.outlet} {l = c.log_ref_now.new.keeper} c.requires.known c.log_ref_now.ensures.logs
+    c.log_ref_now.ensures.err in
     sym left.keeper.scratch
 
 pub shape_of-self-inside-2 : goal.shape_of-self-inside-2
 shape_of-self-inside-2 c =
-    let left = log_now_leaves (λ (s : Spec). without_waiting s.policy) c.args.loggers.now c.args.given.logger _ c.args.port.now _
-    c.log_ref_now.result c.log_ref_now.new.outlet c.log_ref_now.new.keeper c.requires.known c.log_ref_now.ensures.logs c.log_ref_now.ensures.err in
+    let left = log_now_leaves (λ (s : Spec). without_waiting s.policy) c.args.loggers.now c.args.given.logger _ {a = c.args.port.now}
+    c.log_ref_now.result {b = c.log_ref_now.new.outlet} {l = c.log_ref_now.new.keeper} c.requires.known c.log_ref_now.ensures.logs
+    c.log_ref_now.ensures.err in
     sym left.keeper.seat
 
 pub invariant_of-self : goal.invariant_of-self
 invariant_of-self c =
     let i = c.self.inside in
-    let left = log_now_leaves (λ (s : Spec). without_waiting s.policy) c.args.loggers.now c.args.given.logger _ c.args.port.now _
-    c.log_ref_now.result c.log_ref_now.new.outlet c.log_ref_now.new.keeper c.requires.known c.log_ref_now.ensures.logs c.log_ref_now.ensures.err in
-    still_seated i.most i.text_limit (arc_value i.lane) i.seat i.scratch _ c.log_ref_now.new.keeper c.self.invariant c.deref.ensures refl
-    left.keeper left.list c.log_ref_now.ensures.ready.1
+    let left = log_now_leaves (λ (s : Spec). without_waiting s.policy) c.args.loggers.now c.args.given.logger _ {a = c.args.port.now}
+    c.log_ref_now.result {b = c.log_ref_now.new.outlet} {l = c.log_ref_now.new.keeper} c.requires.known c.log_ref_now.ensures.logs
+    c.log_ref_now.ensures.err in
+    still_seated c.self.invariant c.deref.ensures refl left.keeper left.list c.log_ref_now.ensures.ready.1
 
 pub returns-clause-logs : goal.returns-clause-logs
 returns-clause-logs c = λ s e.
-    let left = log_now_leaves (λ (s : Spec). without_waiting s.policy) c.args.loggers.now c.args.given.logger _ c.args.port.now _
-    c.log_ref_now.result c.log_ref_now.new.outlet c.log_ref_now.new.keeper c.requires.known c.log_ref_now.ensures.logs c.log_ref_now.ensures.err in
+    let left = log_now_leaves (λ (s : Spec). without_waiting s.policy) c.args.loggers.now c.args.given.logger _ {a = c.args.port.now}
+    c.log_ref_now.result {b = c.log_ref_now.new.outlet} {l = c.log_ref_now.new.keeper} c.requires.known c.log_ref_now.ensures.logs
+    c.log_ref_now.ensures.err in
     keeps_log Passes (without_waiting s.policy) s _ c.args.port.now c.log_ref_now.new.outlet _ c.log_ref_now.new.keeper c.args.self.now _ c.log_ref_now.result (
       c.deref.ensures ∙ ap (λ (v : BacktraceSeatView). v.lane) c.self.view_is,
       ap (λ (v : BacktraceSeatView). v.seat) c.self.view_is,
@@ -54,6 +57,7 @@ returns-clause-within c =
 
 pub returns-clause-port : goal.returns-clause-port
 returns-clause-port c =
-    let left = log_now_leaves (λ (s : Spec). without_waiting s.policy) c.args.loggers.now c.args.given.logger _ c.args.port.now _
-    c.log_ref_now.result c.log_ref_now.new.outlet c.log_ref_now.new.keeper c.requires.known c.log_ref_now.ensures.logs c.log_ref_now.ensures.err in
+    let left = log_now_leaves (λ (s : Spec). without_waiting s.policy) c.args.loggers.now c.args.given.logger _ {a = c.args.port.now}
+    c.log_ref_now.result {b = c.log_ref_now.new.outlet} {l = c.log_ref_now.new.keeper} c.requires.known c.log_ref_now.ensures.logs
+    c.log_ref_now.ensures.err in
     (c.log_ref_now.ensures.ready.0.0, left.port)

@@ -45,7 +45,8 @@ returns-clause-dumped g c =
     → IfOk c.dump.result (λ x. Lent w new c.args.number (λ p k q l. (d : Room) × DumpsByTurn k d l
     × PostsEach PortDid (without_waiting s.policy) (posted_of c.args.number c.args.time w.number d.messages) p x.items q)) in
     subst P c.self.view_is (λ s e.
-    lent_dump (λ x. x.items) (without_waiting s.policy) c.args.number c.args.time i.number v new c.args.number _ c.dump.new.port place c.dump.new.self c.dump.result
+    lent_dump (λ x. x.items) (without_waiting s.policy) c.args.number c.args.time i.number {old = v} c.args.number c.dump.new.self
+    c.dump.result
     (record {
       ring = ap (λ (x : Shared). x.ring) c.deref-shared.ensures;
       book = ap (λ (x : Shared). x.book) c.deref-shared.ensures;

@@ -37,9 +37,8 @@ invariant_of-self c =
     (sym (ap (λ (x : Shared). x.loggers) c.deref-shared.ensures ∙ ap (λ (w : ProducerView). w.shared.loggers) c.self.view_is)) c.requires.known in
     let s = has_spec c.deref-shared.result.now.loggers c.args.number known in
     let alike = posts_port _ _ _ c.flush.new.outlet c.flush.result refl (c.flush.ensures.post s.0 s.1) in
-    still_producer (arc_value i.shared) i.pass i.losses i.backtrace_seats.items i.text_limit _ c.flush.new.outlet c.self.invariant
-    (ap (λ (x : Shared). x.ring) c.deref-shared.ensures) (ap (λ (x : Shared). x.book) c.deref-shared.ensures) refl refl alike
-    c.flush.ensures.ready.0
+    still_producer c.self.invariant (ap (λ (x : Shared). x.ring) c.deref-shared.ensures)
+    (ap (λ (x : Shared). x.book) c.deref-shared.ensures) refl refl alike c.flush.ensures.ready.0
 
 pub returns-clause-post : goal.returns-clause-post
 returns-clause-post c =

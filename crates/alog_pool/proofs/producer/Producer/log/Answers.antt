@@ -45,7 +45,7 @@ returns-clause-logs g c =
     → IfOk c.log.result (λ r. Lent w new c.args.number (λ p k q l. Logs PortDid KeepsByTurn NeverPasses s.policy s
     (message_with c.args.number c.args.level c.args.time w.number c.args.text.now c.args.source) p k r q l)) in
     subst P c.self.view_is (λ s e.
-    lent_log NeverPasses s.policy s _ v new c.args.number _ c.log.new.port place c.log.new.self c.log.result
+    lent_log NeverPasses s.policy s _ {old = v} c.args.number c.log.new.self c.log.result
     (record {
       ring = ap (λ (x : Shared). x.ring) c.deref-shared.ensures;
       book = ap (λ (x : Shared). x.book) c.deref-shared.ensures;

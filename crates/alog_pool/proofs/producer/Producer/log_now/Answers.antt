@@ -46,7 +46,7 @@ returns-clause-logs c =
     → IfOk c.log_now.result (λ r. Lent w new c.args.number (λ p k q l. Logs PortDid KeepsByTurn Passes (without_waiting s.policy) s
     (message_with c.args.number c.args.level c.args.time w.number c.args.text.now c.args.source) p k r q l)) in
     subst P c.self.view_is (λ s e.
-    lent_log Passes (without_waiting s.policy) s _ v new c.args.number _ c.log_now.new.port place c.log_now.new.self c.log_now.result
+    lent_log Passes (without_waiting s.policy) s _ {old = v} c.args.number c.log_now.new.self c.log_now.result
     (record {
       ring = ap (λ (x : Shared). x.ring) c.deref-shared.ensures;
       book = ap (λ (x : Shared). x.book) c.deref-shared.ensures;

@@ -67,7 +67,7 @@ returns-then-is_stop g c = λ start at_work turned.
     let found : Finds limit c.args.self.now.pass.known c.take_waiting.new.pass.known (Some t) (Some x) =
     subst (λ o. Finds limit c.args.self.now.pass.known c.take_waiting.new.pass.known (Some t) o) c.in-Some-taken.is
     c.in-Some.ensures.finds in
-    let w = took_stop _ _ _ _ _ _ _ at_work.work at_work.stops found.0 (c.if-is_stop.ensures.0 refl) in
+    let w = took_stop at_work.work at_work.stops found.0 (c.if-is_stop.ensures.0 refl) in
     record {
       number = at_work.number;
       ring = subst (λ (s : Shared). IsPassOf s.ring c.take_waiting.new.pass) (c.deref.ensures ∙ at_work.shared) c.take_waiting.ensures.ring;
@@ -92,8 +92,7 @@ returns g c = λ start at_work turned.
     let found : Finds limit old.pass.known c.take_waiting.new.pass.known (Some t) (Some x) =
     subst (λ o. Finds limit old.pass.known c.take_waiting.new.pass.known (Some t) o) c.in-Some-taken.is
     c.in-Some.ensures.finds in
-    let w = took_work _ _ _ _ _ _ _ at_work.work at_work.stops found.0
-    (λ is. let e : false ≡ true = c.if-is_stop.ensures.1 is in cc) in (
+    let w = took_work at_work.work at_work.stops found.0 (λ is. let e : false ≡ true = c.if-is_stop.ensures.1 is in cc) in (
       record {
         shared = at_work.shared;
         ring = subst (λ (s : Shared). IsPassOf s.ring c.take_waiting.new.pass) (c.deref.ensures ∙ at_work.shared)
