@@ -11,8 +11,8 @@ use Rattle.alog_replay.specs.Plain.{plain}
 use Rattle.alog_replay.specs.Script.{RefusedAt, WritesText, WritesFront, WasRead}
 use Rattle.alog_replay.specs.declared.error.ReplayError.{ReplayError}
 use Rattle.alog_replay.specs.declared.error.ReplayError.TheVariants.{LineRefused, ReadFault, WriteFault, OutOfMemory}
+use Rattle.alog_replay.specs.Rows.{row_of}
 use Rattle.alog_sink.specs.Files.{Files}
-use Rattle.alog_sink.specs.Memory.{listing}
 use Rattle.alog_sink.specs.declared.mem_store.MemStore.{MemStore}
 
 -- the status of refused input is that of a refused line alone
@@ -58,9 +58,9 @@ replays_fault fault status remaining left old new e refused front =
 pub replays_on_fault : (tells : Bool) (files : MemStore → Files) (failures : MemStore → ℕ) (c : Config) (fault : ReplayError) (status : ℕ)
     (remaining left old new : Option (List ℕ)) → status ≡ status_of fault
     → ((line : ℕ) → fault ≡ LineRefused line → IfSome remaining (λ script. OnStage tells files failures c (λ s. WritesText
-    (configured tells files failures listing) s script (RefusedAt line) old new)))
+    (configured tells files failures row_of) s script (RefusedAt line) old new)))
     → Keeps old new ⊎ OnStage tells files failures c (λ s. WasRead remaining left (λ read. WritesFront
-    (configured tells files failures listing) s read old new))
+    (configured tells files failures row_of) s read old new))
     → ReplaysOn tells files failures c status remaining left old new
 replays_on_fault tells files failures c fault status remaining left old new e refused front =
     record {
@@ -68,8 +68,8 @@ replays_on_fault tells files failures c fault status remaining left old new e re
       whole = λ h. absurd (not_zero fault (sym e ∙ h));
       refused = λ h.
           let at = refused_line fault status e h in
-          if_some_weaker remaining (λ script. OnStage tells files failures c (λ s. WritesText (configured tells files failures listing) s script
+          if_some_weaker remaining (λ script. OnStage tells files failures c (λ s. WritesText (configured tells files failures row_of) s script
           (RefusedAt at.0) old new)) (λ script. (line : ℕ) × OnStage tells files failures c (λ s. WritesText
-          (configured tells files failures listing) s script (RefusedAt line) old new)) (λ script w. (at.0, w)) (refused at.0 at.1);
+          (configured tells files failures row_of) s script (RefusedAt line) old new)) (λ script w. (at.0, w)) (refused at.0 at.1);
       front = λ h. front;
     }

@@ -7,8 +7,8 @@ use Rattle.alog_replay.specs.Configured.{configured}
 use Rattle.alog_replay.specs.OfConfig.{OnStage}
 use Rattle.alog_replay.specs.Plain.{plain}
 use Rattle.alog_replay.specs.Script.{Whole, RefusedAt, WritesText, WritesFront, WasRead}
+use Rattle.alog_replay.specs.Rows.{row_of}
 use Rattle.alog_sink.specs.Files.{Files}
-use Rattle.alog_sink.specs.Memory.{listing}
 use Rattle.alog_sink.specs.declared.mem_store.MemStore.{MemStore}
 use Rattle.alog_program.specs.Documents.{IsNoConfiguration}
 
@@ -30,11 +30,11 @@ module _ (tells : Bool) (files : MemStore → Files) (failures : MemStore → �
   pub record ReplaysOn (c : Config) (status : ℕ) (remaining left old new : Option (List ℕ)) : Type 0 where
     pub understood : status ≢ 1
     pub whole : status ≡ 0 → IfSome remaining (λ script. (n : ℕ) × OnStage tells files failures c (λ s.
-        WritesText (configured tells files failures listing) s script (λ text. Whole text n) old new))
+        WritesText (configured tells files failures row_of) s script (λ text. Whole text n) old new))
     pub refused : status ≡ 2 → IfSome remaining (λ script. (line : ℕ) × OnStage tells files failures c (λ s.
-        WritesText (configured tells files failures listing) s script (RefusedAt line) old new))
+        WritesText (configured tells files failures row_of) s script (RefusedAt line) old new))
     pub front : 3 ≤ status → Keeps old new ⊎ OnStage tells files failures c (λ s. WasRead remaining left (λ read.
-        WritesFront (configured tells files failures listing) s read old new))
+        WritesFront (configured tells files failures row_of) s read old new))
 
   -- With a document: it is no configuration, or there was no memory to read one, and then nothing else was done; or the
   -- script was replayed on the configuration that it is.

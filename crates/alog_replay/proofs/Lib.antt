@@ -18,5 +18,8 @@ mod Going
 mod Holding
 mod Telling
 mod Endings
+mod Rows
+mod WholeLines
+mod Faultless
 mod Placing
 mod Staging

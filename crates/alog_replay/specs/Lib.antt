@@ -12,8 +12,10 @@ pub mod MemorySink
 pub mod Texts
 pub mod Session
 pub mod Plain
+pub mod Rows
 pub mod Refusing
 pub mod Configured
+pub mod Faultless
 pub mod OfConfig
 pub mod Goes
 pub mod Error

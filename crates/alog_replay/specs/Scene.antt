@@ -19,6 +19,16 @@ pub record Scene (S : Type 0) : Type 1 where
   -- the files as they are printed at the end
   pub files : S → List ℕ
 
+-- the scene where a step is one of these
+abbrev pub with_steps : {S : Type 0} → Scene S → (S → ℕ → List ℕ → S → Type 0) → Scene S
+with_steps scene Steps = record {
+  is_free = scene.is_free;
+  may_do = scene.may_do;
+  Does = scene.Does;
+  Steps = Steps;
+  files = scene.files;
+}
+
 -- A command was carried out, with what it printed and the stage after it; or it was refused, with what had been printed.
 pub data Played (S : Type 0) : Type 0 where
   Done : (text : List ℕ) (stage : S) → Played S

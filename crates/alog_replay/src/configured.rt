@@ -7,10 +7,10 @@ ghost use Rattle.alog_system.specs.Roster.{level_at};
 ghost use Rattle.alog_system.specs.Step.{SystemSteps};
 ghost use Rattle.alog_system.specs.System.{duty_of, is_free, item_of};
 ghost use Rattle.alog_replay.specs.Configured.{Stage, with_system, number_in, is_fit, may_do, after_act, store_at, store_in, listed_text, stored_text, places_text};
+ghost use Rattle.alog_replay.specs.Rows.{row_of};
 ghost use Rattle.alog_replay.specs.Scene.{Prints};
 ghost use Rattle.alog_replay.specs.Texts.{cells_line, counts_text};
 ghost use Rattle.alog_replay.specs.declared.command.Act.TheVariants as act;
-ghost use Rattle.alog_sink.specs.Memory.{listing};
 
 use crate::command::{Act, Actor, TextRef};
 use crate::error::LineError;
@@ -243,7 +243,7 @@ fn print_listed(
     sink: &str,
     store: &MemStore,
 ) -> Result<(), AllocError>
-    ensures { OnOk result (out.new.items ≡ out.old.items ++ listed_text sink.now (listing store.now)) }
+    ensures { OnOk result (out.new.items ≡ out.old.items ++ listed_text sink.now (row_of store.now)) }
 {
     for (file, bytes) in store.files().iter() {
         print_file(alloc, out, sink, file.as_str(), bytes.as_slice())?;
@@ -258,7 +258,7 @@ fn print_stored(
     sink: &str,
     store: Option<&MemStore>,
 ) -> Result<(), AllocError>
-    ensures { OnOk result (out.new.items ≡ out.old.items ++ stored_text listing sink.now (option_copied store.entry)) }
+    ensures { OnOk result (out.new.items ≡ out.old.items ++ stored_text row_of sink.now (option_copied store.entry)) }
 {
     match store {
         Some(store) => print_listed(alloc, out, sink, store),
@@ -273,7 +273,7 @@ fn print_places(
     system: &System<MemStore>,
     places: &[Place<'_>],
 ) -> Result<(), AllocError>
-    ensures { OnOk result (out.new.items ≡ out.old.items ++ places_text listing system.now places.now) }
+    ensures { OnOk result (out.new.items ≡ out.old.items ++ places_text row_of system.now places.now) }
 {
     for place in places {
         print_stored(alloc, out, place.name.as_str(), store_at(system, place))?;
@@ -284,9 +284,9 @@ fn print_places(
 impl Playable for Configured<'_, MemStore> {
     ghost use Rattle.alog_replay.specs.Configured.{configured};
     ghost use Rattle.alog_replay.specs.Goes.{configured_goes_on};
-    ghost use Rattle.alog_sink.specs.Memory.{listing};
+    ghost use Rattle.alog_replay.specs.Rows.{row_of};
 
-    ghost scene = { configured ⟦<MemStore as Store>⟧.tells ⟦<MemStore as Store>⟧.files ⟦<MemStore as Store>⟧.failures listing };
+    ghost scene = { configured ⟦<MemStore as Store>⟧.tells ⟦<MemStore as Store>⟧.files ⟦<MemStore as Store>⟧.failures row_of };
 
     fn is_free(&self, actor: Actor) -> bool {
         self.system.is_free(u32::from(actor.number()))
@@ -331,5 +331,5 @@ impl Playable for Configured<'_, MemStore> {
         print_places(alloc, out, &self.system, &self.places)
     }
 
-    ghost goes_on = { configured_goes_on ⟦<MemStore as Store>⟧.tells ⟦<MemStore as Store>⟧.files ⟦<MemStore as Store>⟧.failures listing };
+    ghost goes_on = { configured_goes_on ⟦<MemStore as Store>⟧.tells ⟦<MemStore as Store>⟧.files ⟦<MemStore as Store>⟧.failures row_of };
 }

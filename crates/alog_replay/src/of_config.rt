@@ -2,9 +2,10 @@
 ghost use Rattle.std.specs.Prelude.{◌≡◌, ◌⊎◌, ℕ, IfOk, IfErr, IfSome, OnErr};
 ghost use Rattle.std.specs.Io.KnownBytes.{Keeps};
 ghost use Rattle.alog_replay.specs.Configured.{configured};
+ghost use Rattle.alog_replay.specs.Faultless.{FaultsAreTold};
 ghost use Rattle.alog_replay.specs.OfConfig.{IsStageOf, OnStage};
+ghost use Rattle.alog_replay.specs.Rows.{HasOneRow, row_of};
 ghost use Rattle.alog_replay.specs.Script.{Whole, RefusedAt, WritesText, WritesFront, WasRead};
-ghost use Rattle.alog_sink.specs.Memory.{listing};
 
 use crate::configured::Configured;
 use crate::error::ReplayError;
@@ -43,18 +44,30 @@ pub fn replay_config<R: Read, W: Write>(
 ) -> Result<u64, ReplayError>
     ensures whole { IfOk result (λ n. IfSome (R.remaining reader.old) (λ script.
         OnStage ⟦<MemStore as Store>⟧.tells ⟦<MemStore as Store>⟧.files ⟦<MemStore as Store>⟧.failures config.now (λ s.
-        WritesText (configured ⟦<MemStore as Store>⟧.tells ⟦<MemStore as Store>⟧.files ⟦<MemStore as Store>⟧.failures listing)
+        WritesText (configured ⟦<MemStore as Store>⟧.tells ⟦<MemStore as Store>⟧.files ⟦<MemStore as Store>⟧.failures row_of)
         s script (λ text. Whole text n) (W.contents writer.old) (W.contents writer.new)))) }
     ensures refused { IfErr result (λ e. (line : ℕ) → e ≡ ReplayError.LineRefused line → IfSome (R.remaining reader.old) (λ script.
         OnStage ⟦<MemStore as Store>⟧.tells ⟦<MemStore as Store>⟧.files ⟦<MemStore as Store>⟧.failures config.now (λ s.
-        WritesText (configured ⟦<MemStore as Store>⟧.tells ⟦<MemStore as Store>⟧.files ⟦<MemStore as Store>⟧.failures listing)
+        WritesText (configured ⟦<MemStore as Store>⟧.tells ⟦<MemStore as Store>⟧.files ⟦<MemStore as Store>⟧.failures row_of)
         s script (RefusedAt line) (W.contents writer.old) (W.contents writer.new)))) }
     ensures front { OnErr result (Keeps (W.contents writer.old) (W.contents writer.new)
         ⊎ OnStage ⟦<MemStore as Store>⟧.tells ⟦<MemStore as Store>⟧.files ⟦<MemStore as Store>⟧.failures config.now (λ s.
         WasRead (R.remaining reader.old) (R.remaining reader.new) (λ read.
-        WritesFront (configured ⟦<MemStore as Store>⟧.tells ⟦<MemStore as Store>⟧.files ⟦<MemStore as Store>⟧.failures listing)
+        WritesFront (configured ⟦<MemStore as Store>⟧.tells ⟦<MemStore as Store>⟧.files ⟦<MemStore as Store>⟧.failures row_of)
         s read (W.contents writer.old) (W.contents writer.new)))) }
 {
     let mut stage = staged(alloc, config)?;
     play(alloc, &mut stage, reader, writer)
 }
+
+/// The files of a store in memory are printed as a row whose names rise, and no other such row has these files: what is printed
+/// depends on the files alone. It does nothing: its contract is the law.
+pub fn one_row()
+    ensures { HasOneRow ⟦<MemStore as Store>⟧.files row_of }
+{}
+
+/// What a script with a configuration tells in a text without a line that says a fault, it tells where no store fails. It does
+/// nothing: its contract is the law.
+pub fn faults_are_told()
+    ensures { FaultsAreTold ⟦<MemStore as Store>⟧.tells ⟦<MemStore as Store>⟧.files ⟦<MemStore as Store>⟧.failures row_of }
+{}

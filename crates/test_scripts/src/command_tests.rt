@@ -1,6 +1,6 @@
 //! Which lines are commands, and which of them.
 use crate::scripts::{plays, refused, replays};
-use alog_replay::{one_command, one_entry, one_text};
+use alog_replay::{faults_are_told, one_command, one_entry, one_row, one_text};
 use std::process::Abort;
 use std::test::Fail;
 
@@ -74,6 +74,8 @@ fn commands(rt: HostRuntime) {
     one_command();
     one_entry();
     one_text();
+    one_row();
+    faults_are_told();
 }
 
 /// Lines that are no commands, where the actor 2 is in a call and the others are in none.
