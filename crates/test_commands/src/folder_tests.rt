@@ -46,9 +46,10 @@ const FOR_THREE: (&str, &str) = ("--producers=1", "--messages=3");
 /// What a load of one message says.
 const ONE: &str = "asked 1\nposted 1\ndiscarded 0\noverrun 0\nhandled 1\n";
 
-/// Whether two loads to a folder say what they have written.
+/// Whether a load to a folder is refused while another holds it, and two loads say what they have written when it is free.
 fn loads_twice<R: Host>(rt: &R, places: (&str, &str)) -> bool {
-    loads_to(rt, places, FOR_THREE, Said::done(THREE))
+    is_refused_while_held(rt, places)
+        && loads_to(rt, places, FOR_THREE, Said::done(THREE))
         && loads_to(rt, places, FOR_ONE, Said::done(ONE))
 }
 
@@ -64,7 +65,6 @@ fn is_refused_while_held<R: Host>(rt: &R, places: (&str, &str)) -> bool {
 #[test]
 fn files_of_a_folder(rt: HostRuntime) -> io::Result<()> {
     let room = Room::new(&rt, SMALL)?;
-    assert!(rt; is_refused_while_held(&rt, room.places()));
     assert!(rt; loads_twice(&rt, room.places()));
     let lines = lines_in(&rt, &room.folder)?;
     assert!(rt; lines.as_str() == "net I 0 0\nnet I 0 1\nnet I 0 2\nnet I 0 0\n");
