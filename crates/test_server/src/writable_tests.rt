@@ -1,6 +1,7 @@
 //! Starts that are refused since no lines can be written.
 use crate::server_tests::{HELLO, ran, started};
-use alog_server::StartError;
+use alog_server::{LogError, Ran, RunError, Server, StartError};
+use alog_sink::Store;
 use std::os::unix::fs::symlink;
 use std::path::PathBuf;
 use std::{fs, io};
@@ -15,19 +16,41 @@ const ROTATING: &str =
     "queue = 8\n\n[[sink]]\nname = \"out\"\nkind = \"rotating\"\nfile = \"out\"\nmax_size = 100\nmax_files = 2\n\n\
                         [[logger]]\nname = \"net\"\nsinks = [\"out\"]\n";
 
-/// Whether no server of this document is started over this folder, for a reason that begins so, names it and ends or goes on so. One
-/// that is started has to be ended.
-fn refuses<R: Host>(rt: &R, (document, to): (&str, &str), (front, end): (&str, &str)) -> bool {
+/// Whether this run went well.
+fn is_well<S: Store + Drop>(ran: Result<Ran<S, LogError>, RunError>) -> bool {
+    ran.is_ok()
+}
+
+/// Whether a server runs, with one thread.
+fn runs<R: Host>(rt: &R, server: Server<R::Folder, R::Lock>) -> bool {
+    is_well(ran(rt, server, 1, &HELLO))
+}
+
+/// Why no server of this document is started over this folder, where that cannot be written. One that is started has to be ended.
+fn refusal<R: Host>(rt: &R, document: &str, to: &str) -> Option<String> {
     match started(rt, document, to) {
         Ok(server) => {
-            drop(ran(rt, server, 1, &HELLO));
-            false
+            runs(rt, server);
+            None
         }
-        Err(StartError::Unwritable { text }) => match text.as_str().strip_prefix(front) {
-            Some(rest) => rest.strip_prefix(to).is_some_and(|it| it.starts_with(end)),
-            None => false,
-        },
-        Err(_) => false,
+        Err(StartError::Unwritable { text }) => Some(text),
+        Err(_) => None,
+    }
+}
+
+/// Whether this begins so, names the folder and ends or goes on so.
+fn names(text: &str, folder: &str, (front, end): (&str, &str)) -> bool {
+    let rest = text
+        .strip_prefix(front)
+        .and_then(|it| it.strip_prefix(folder));
+    rest.is_some_and(|it| it.starts_with(end))
+}
+
+/// Whether no server of this document is started over this folder, for a reason that begins so, names it and ends or goes on so.
+fn refuses<R: Host>(rt: &R, (document, to): (&str, &str), words: (&str, &str)) -> bool {
+    match refusal(rt, document, to) {
+        Some(text) => names(text.as_str(), to, words),
+        None => false,
     }
 }
 
@@ -84,7 +107,7 @@ fn no_obstacles(rt: &HostRuntime) -> io::Result<PathBuf> {
 /// Whether a server of a daily sink is started over this folder, and ends.
 fn is_started<R: Host>(rt: &R, folder: &str) -> bool {
     match started(rt, DAILY, folder) {
-        Ok(server) => ran(rt, server, 1, &HELLO).is_ok(),
+        Ok(server) => runs(rt, server),
         Err(_) => false,
     }
 }
@@ -93,20 +116,17 @@ fn is_started<R: Host>(rt: &R, folder: &str) -> bool {
 const ON_THE_LOCK: &str =
     "[[sink]]\nname = \"out\"\nkind = \"memory\"\nfile = \".alog.lock\"\n\n[[logger]]\nname = \"net\"\nsinks = [\"out\"]\n";
 
-/// Whether a folder is refused to a server while another has it, and no longer when that one has run; and always to a sink that would
-/// write to its lock.
-fn is_held_by_one<R: Host>(rt: &R, folder: &str) -> bool {
+/// Whether a server runs after its folder was refused to another.
+fn keeps<R: Host>(rt: &R, server: Server<R::Folder, R::Lock>, folder: &str) -> bool {
     let in_use = ("", " is in use: another alog holds ");
-    let on_the_lock = ("", "/.alog.lock is the lock of the folder");
+    let is_refused = refuses(rt, (SMALL, folder), in_use);
+    runs(rt, server) && is_refused
+}
+
+/// Whether the server that is started over a folder does so.
+fn holds<R: Host>(rt: &R, folder: &str) -> bool {
     match started(rt, SMALL, folder) {
-        Ok(server) => {
-            let is_refused = refuses(rt, (SMALL, folder), in_use);
-            let is_run = ran(rt, server, 1, &HELLO).is_ok();
-            is_run
-                && is_refused
-                && is_started(rt, folder)
-                && refuses(rt, (ON_THE_LOCK, folder), on_the_lock)
-        }
+        Ok(server) => keeps(rt, server, folder),
         Err(_) => false,
     }
 }
@@ -114,7 +134,9 @@ fn is_held_by_one<R: Host>(rt: &R, folder: &str) -> bool {
 #[test]
 fn a_folder_is_held_by_one_server(rt: HostRuntime) -> io::Result<()> {
     let folder = folder(&rt)?;
-    assert!(rt; is_held_by_one(&rt, folder.as_str()));
+    let on_the_lock = ("", "/.alog.lock is the lock of the folder");
+    assert!(rt; holds(&rt, folder.as_str()) && is_started(&rt, folder.as_str()));
+    assert!(rt; refuses(&rt, (ON_THE_LOCK, folder.as_str()), on_the_lock));
     fs::remove_dir_all(&rt, folder.as_str())
 }
 
