@@ -27,9 +27,9 @@ length_of_map f (x ∷ xs) = ap suc (length_of_map f xs)
 
 -- where an item does not pass, the items are not all of the type
 pub not_all : {X Y : Type 0} (f : X → Data) (g : Y → Data) (pass : Data → Bool) → ((y : Y) → pass (g y) ≡ true)
-    → (xs : List X) (i : ℕ) (x : X) → i < length xs → x ≡ get_or xs i x → pass (f x) ≡ false
+    → (xs : List X) (i : ℕ) {x : X} → i < length xs → x ≡ get_or xs i x → pass (f x) ≡ false
     → (ys : List Y) → ¬ (map f xs ≡ map g ys)
-not_all f g pass each xs i x h e fails ys same =
+not_all f g pass each xs i {x} h e fails ys same =
     let here : get_or (map f xs) i (f x) ≡ f x = get_of_map f xs i x h e in
     let there : get_or (map g ys) i (f x) ≡ f x = subst (λ ds. get_or ds i (f x) ≡ f x) same here in
     let long : i < length (map g ys) = subst (λ ds. i < length ds) same (rw (length_of_map f xs) h) in

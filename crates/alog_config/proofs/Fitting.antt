@@ -55,9 +55,10 @@ each_place P (x ∷ xs) h = (h 0 x refl, each_place P xs (λ n y e. h (suc n) y 
 
 module _ {S : Type 0} (tells : Bool) (files : S → Files) (failures : S → ℕ) (c : Config) (stores : List S) where
   -- a sink's lines suit the limit of the configuration, in a buffer for the longest line of any pattern
-  leaf_suits : (level : Level) (file pattern : List ℕ) (upkeep : Upkeep) (store : S) (sink : Sink S) (l : LeafView S) → IsPattern c.text pattern
+  leaf_suits : {level : Level} {file pattern : List ℕ} {upkeep : Upkeep} {store : S} {sink : Sink S} {l : LeafView S}
+      → IsPattern c.text pattern
       → IsLeafOf tells files failures c level file pattern upkeep store sink → sink ≡ Leaf l → FaceSuits c.text LINE_MAX l.face
-  leaf_suits level file pattern upkeep store sink l h leaf is =
+  leaf_suits {level} {pattern} {l} h leaf is =
       let same : leaf.opened.leaf ≡ l = (let both : Leaf leaf.opened.leaf ≡ Leaf l = sym leaf.opened.is ∙ is in cc) in
       let face : l.face ≡ leaf.face = ap (λ (x : LeafView S). x.face) (sym same) ∙ leaf.opened.same in
       subst (λ (f : Face). FaceSuits c.text LINE_MAX f) (sym face) (face_suits leaf.face leaf.is)
@@ -69,11 +70,11 @@ module _ {S : Type 0} (tells : Bool) (files : S → Files) (failures : S → ℕ
           λ more. h.1 (f.pattern.items, is.items, subst (λ k. LINE_MAX < longest_line k f.pattern.items) limit more) in
           (omega (arith, limit), omega (arith, short))
 
-  built_leaf : (parts : List (Part S)) (n : ℕ) (level : Level) (k : SinkKind) (sink : Sink S) (l : LeafView S) → KindFits c.text k
+  built_leaf : (parts : List (Part S)) (n : ℕ) (level : Level) (k : SinkKind) {sink : Sink S} {l : LeafView S} → KindFits c.text k
       → IsBuiltAs tells files failures c stores parts n level k sink → sink ≡ Leaf l → FaceSuits c.text LINE_MAX l.face
-  built_leaf parts n level (kinds.Lines file pattern upkeep) sink l fits h is =
-      leaf_suits level file pattern upkeep h.0 sink l fits h.2 is
-  built_leaf parts n level (kinds.Fan of) sink l fits h is =
+  built_leaf parts n level (kinds.Lines file pattern upkeep) {sink} {l} fits h is =
+      leaf_suits fits h.2 is
+  built_leaf parts n level (kinds.Fan of) {l} fits h is =
       absurd (let both : Leaf l ≡ Fan (record { level = level; members = leaves_of h.0 }) = sym is ∙ h.2 in cc)
 
   module _ (parts : List (Part S)) (sound : AreSoundSinks c.text [] c.sinks.items)
@@ -86,7 +87,7 @@ module _ {S : Type 0} (tells : Bool) (files : S → Files) (failures : S → ℕ
         ∙ (slice_get-map (λ (q : Part S). q.config.now) parts n ∙ ap (option_map (λ (q : Part S). q.config.now)) there))
 
     leaf_at : (n : ℕ) (p : Part S) → slice_get parts n ≡ Some p → (l : LeafView S) → p.sink ≡ Leaf l → FaceSuits c.text LINE_MAX l.face
-    leaf_at n p there l is = built_leaf parts n p.config.now.level p.config.now.kind p.sink l (fits_at n p there) (each n p there) is
+    leaf_at n p there l is = built_leaf parts n p.config.now.level p.config.now.kind (fits_at n p there) (each n p there) is
 
     -- the leaves among the members of a fan
     member_suits : (name : List ℕ) (sink : Sink S) (l : LeafView S) → IsNamed parts name sink → sink ≡ Leaf l → FaceSuits c.text LINE_MAX l.face
@@ -105,7 +106,7 @@ module _ {S : Type 0} (tells : Bool) (files : S → Files) (failures : S → ℕ
         → IsBuiltAs tells files failures c stores parts n level k sink → Suits c.text LINE_MAX sink
     built_suits n level (kinds.Lines file pattern upkeep) sink fits h =
         subst (λ (s : Sink S). Suits c.text LINE_MAX s) (sym h.2.opened.is)
-        (leaf_suits level file pattern upkeep h.0 sink h.2.opened.leaf fits h.2 h.2.opened.is)
+        (leaf_suits fits h.2 h.2.opened.is)
     built_suits n level (kinds.Fan of) sink fits h =
         subst (λ (s : Sink S). Suits c.text LINE_MAX s) (sym h.2)
         (All-from_recursion (λ (l : LeafView S). FaceSuits c.text LINE_MAX l.face) (leaves_of h.0) (members_suit of h.0 h.1))

@@ -123,58 +123,61 @@ module _ {S : Type 0} (tells : Bool) (files : S → Files) (failures : S → ℕ
       }
 
   -- the next sink may be made
-  may_make_kind : (c : Config) (stores here : List S) (i : ℕ) (left : List (Part S)) (s : SinkConfig) (k : SinkKind)
+  may_make_kind : {c : Config} {stores here : List S} {i : ℕ} {left : List (Part S)} {s : SinkConfig} {k : SinkKind}
       → AreBuilt tells files failures c stores i left → slice_get c.sinks.items i ≡ Some s → s.kind ≡ k
       → IsSoundKind c.text (take i c.sinks.items) k → length stores ≡ count_by is_leaf c.sinks.items
       → here ≡ drop (count_by is_leaf (take i c.sinks.items)) stores → MayMake c.text k here left
-  may_make_kind c stores here i left s (kinds.Lines file pattern upkeep) b at kind sound long e =
+  may_make_kind {c} {stores} {i} {s} {k = kinds.Lines file pattern upkeep} b at kind sound long e =
       let leaf : is_leaf s ≡ true = ap is_lines kind in
       let more = count_before c.sinks.items i s at leaf in
       let rest = ap (λ (xs : List S). length xs) e ∙ length-drop (count_by is_leaf (take i c.sinks.items)) stores in
       (sound.0, sound.2, sound.3, omega (arith, more, rest, long))
-  may_make_kind c stores here i left s (kinds.Fan of) b at kind sound long e = (
+  may_make_kind {c} {stores} {i} {left} {k = kinds.Fan of} b at kind sound long e = (
     all_known tells files failures c stores i left of b sound.1 sound.3,
     sound.0,
     no_built_fan tells files failures c stores i left of b sound.2,
   )
 
-  pub may_make : (c : Config) (stores here : List S) (i : ℕ) (left : List (Part S)) (s : SinkConfig)
+  pub may_make : {c : Config} {stores here : List S} {i : ℕ} {left : List (Part S)} {s : SinkConfig}
       → AreSoundSinks c.text [] c.sinks.items → AreBuilt tells files failures c stores i left → slice_get c.sinks.items i ≡ Some s
       → length stores ≡ count_by is_leaf c.sinks.items → here ≡ drop (count_by is_leaf (take i c.sinks.items)) stores
       → MayMake c.text s.kind here left
-  may_make c stores here i left s sound b at long e =
-      may_make_kind c stores here i left s s.kind b at refl (sound_at c.text c.sinks.items i s sound at).kind long e
+  may_make {c} {stores} {here} {i} {left} {s} sound b at long e =
+      may_make_kind {k = s.kind} b at refl (sound_at c.text c.sinks.items i s sound at).kind long e
 
   -- the next sink was made
-  pub next_left : (c : Config) (stores here rest : List S) (i : ℕ) (left after : List (Part S)) (s : SinkConfig) (sink : Sink S) (k : SinkKind)
+  pub next_left : (c : Config) (stores : List S) {here rest : List S} (i : ℕ) (left after : List (Part S)) {s : SinkConfig} (sink : Sink S)
+      {k : SinkKind}
       → slice_get c.sinks.items i ≡ Some s → s.kind ≡ k → here ≡ drop (count_by is_leaf (take i c.sinks.items)) stores
       → Makes tells files failures c s.level k here left sink rest after
       → rest ≡ drop (count_by is_leaf (take (i + 1) c.sinks.items)) stores
-  next_left c stores here rest i left after s sink (kinds.Lines file pattern upkeep) at kind e made =
+  next_left c stores {rest} i left after {s} sink {k = kinds.Lines file pattern upkeep} at kind e made =
       let next = next_store stores (count_by is_leaf (take i c.sinks.items)) made.0 rest (sym e ∙ made.1) in
       let count = count_more c.sinks.items i s true at (ap is_lines kind) in
       sym next.1 ∙ ap (λ n. drop n stores) (sym count)
-  next_left c stores here rest i left after s sink (kinds.Fan of) at kind e made =
+  next_left c stores i left after {s} sink {k = kinds.Fan of} at kind e made =
       let before = count_by is_leaf (take i c.sinks.items) in
       let count = count_more c.sinks.items i s false at (ap is_lines kind) in
       let none : before + 0 ≡ before = omega arith in
       made.0 ∙ (e ∙ ap (λ n. drop n stores) (sym (count ∙ none)))
 
-  next_kind : (c : Config) (stores here rest : List S) (i : ℕ) (left after : List (Part S)) (s : SinkConfig) (p : Part S) (k : SinkKind)
+  next_kind : {c : Config} {stores here : List S} (rest : List S) {i : ℕ} {left : List (Part S)} (after : List (Part S)) {s : SinkConfig}
+      (p : Part S) {k : SinkKind}
       → AreSoundSinks c.text [] c.sinks.items → AreBuilt tells files failures c stores i left → slice_get c.sinks.items i ≡ Some s
       → config_of p ≡ s → s.kind ≡ k → here ≡ drop (count_by is_leaf (take i c.sinks.items)) stores
       → Makes tells files failures c s.level k here left p.sink rest after → AreBuilt tells files failures c stores (i + 1) (after ++ p ∷ [])
-  next_kind c stores here rest i left after s p (kinds.Lines file pattern upkeep) sound b at same kind e made =
+  next_kind {c} {stores} rest {i} {left} after {s} p {k = kinds.Lines file pattern upkeep} sound b at same kind e made =
       let next = next_store stores (count_by is_leaf (take i c.sinks.items)) made.0 rest (sym e ∙ made.1) in
       subst (λ (ps : List (Part S)). AreBuilt tells files failures c stores (i + 1) (ps ++ p ∷ [])) (sym made.2)
-      (next_leaf tells files failures c stores i left s p file pattern upkeep made.0 sound b at same kind next.0 made.3)
-  next_kind c stores here rest i left after s p (kinds.Fan of) sound b at same kind e made =
-      next_fan tells files failures c stores i left after s p of sound b at same kind made.1
+      (next_leaf tells files failures p sound b at same kind next.0 made.3)
+  next_kind {c} {stores} rest {i} {left} after {s} p {k = kinds.Fan of} sound b at same kind e made =
+      next_fan tells files failures after p sound b at same kind made.1
 
-  pub next_made : (c : Config) (stores here rest : List S) (i : ℕ) (left after : List (Part S)) (s : SinkConfig) (p : Part S)
+  pub next_made : {c : Config} {stores here : List S} (rest : List S) {i : ℕ} {left : List (Part S)} (after : List (Part S))
+      {s : SinkConfig} (p : Part S)
       → AreSoundSinks c.text [] c.sinks.items → AreBuilt tells files failures c stores i left → slice_get c.sinks.items i ≡ Some s
       → config_of p ≡ s → here ≡ drop (count_by is_leaf (take i c.sinks.items)) stores
       → Makes tells files failures c s.level s.kind here left p.sink rest after
       → AreBuilt tells files failures c stores (i + 1) (after ++ p ∷ [])
-  next_made c stores here rest i left after s p sound b at same e made =
-      next_kind c stores here rest i left after s p s.kind sound b at same refl e made
+  next_made {c} {stores} {here} rest {i} {left} after {s} p sound b at same e made =
+      next_kind rest after p {k = s.kind} sound b at same refl e made

@@ -141,7 +141,7 @@ picked_taken P all parts [] (m ∷ ms) left apart h t = absurd t
 picked_taken P all parts (n ∷ ns) [] left apart h t = absurd t
 picked_taken {S} P all parts (n ∷ ns) (m ∷ ms) left apart h t =
     let P' : Part S → Type 0 = λ a. P a × (¬ (name_of a ≡ name_of t.1)) in
-    let one = picked_without P name_of all parts t.0 t.1 apart h t.2 in
+    let one = picked_without P name_of all parts t.0 apart h t.2 in
     let rest = picked_taken P' all (remove parts t.0) ns ms left apart one t.5 in
     picked_iff (λ a. P' a × (¬ Has (λ x. x ≡ name_of a) ns)) (λ a. P a × (¬ Has (λ x. x ≡ name_of a) (n ∷ ns))) all left
     (λ a. (
@@ -158,8 +158,8 @@ taken_are P all parts [] (m ∷ ms) left apart h t = absurd t
 taken_are P all parts (n ∷ ns) [] left apart h t = absurd t
 taken_are {S} P all parts (n ∷ ns) (m ∷ ms) left apart h t =
     let Q : Part S → Type 0 = λ a. (name_of a ≡ n) × (a.sink ≡ m) in
-    let there = picked_in P Q all parts t.0 t.1 h t.2 (t.3, t.4) in
-    let one = picked_without P name_of all parts t.0 t.1 apart h t.2 in (
+    let there = picked_in P Q all parts t.0 h t.2 (t.3, t.4) in
+    let one = picked_without P name_of all parts t.0 apart h t.2 in (
       has_any Q all there.0,
       taken_are (λ a. P a × (¬ (name_of a ≡ name_of t.1))) all (remove parts t.0) ns ms left apart one t.5,
     )
@@ -217,13 +217,13 @@ module _ {S : Type 0} (tells : Bool) (files : S → Files) (failures : S → ℕ
       apart_of_map config_of sink_name b.parts (subst (λ (xs : List SinkConfig). Apart sink_name xs) (sym b.of) apart)
 
   -- the next part
-  pub next_part : (c : Config) (stores : List S) (i : ℕ) (left rest : List (Part S)) (s : SinkConfig) (p : Part S)
+  pub next_part : {c : Config} {stores : List S} {i : ℕ} {left : List (Part S)} (rest : List (Part S)) {s : SinkConfig} (p : Part S)
       → AreSoundSinks c.text [] c.sinks.items
       → (b : AreBuilt tells files failures c stores i left) → slice_get c.sinks.items i ≡ Some s → config_of p ≡ s
       → IsBuiltAs tells files failures c stores b.parts i s.level s.kind p.sink
       → ArePicked (λ (a : Part S). ¬ IsMember (take i c.sinks.items ++ s ∷ []) (name_of a)) b.parts rest
       → AreBuilt tells files failures c stores (i + 1) (rest ++ p ∷ [])
-  next_part c stores i left rest s p sound b at same made picked =
+  next_part {c} {stores} {i} rest {s} p sound b at same made picked =
       let all = c.sinks.items in
       let parts = b.parts in
       let more : take (i + 1) all ≡ take i all ++ s ∷ [] = take_one_more all i s at in
@@ -254,14 +254,14 @@ module _ {S : Type 0} (tells : Bool) (files : S → Files) (failures : S → ℕ
   no_part c stores = record { parts = []; of = refl; each = λ n p e. absurd (cc e); picked = refl }
 
   -- a sink over a store of its own
-  pub next_leaf : (c : Config) (stores : List S) (i : ℕ) (left : List (Part S)) (s : SinkConfig) (p : Part S)
-      (file pattern : List ℕ) (upkeep : Upkeep) (store : S)
+  pub next_leaf : {c : Config} {stores : List S} {i : ℕ} {left : List (Part S)} {s : SinkConfig} (p : Part S)
+      {file pattern : List ℕ} {upkeep : Upkeep} {store : S}
       → AreSoundSinks c.text [] c.sinks.items → AreBuilt tells files failures c stores i left → slice_get c.sinks.items i ≡ Some s
       → config_of p ≡ s
       → s.kind ≡ kinds.Lines file pattern upkeep → slice_get stores (count_by is_leaf (take i c.sinks.items)) ≡ Some store
       → IsLeafOf tells files failures c s.level file pattern upkeep store p.sink
       → AreBuilt tells files failures c stores (i + 1) (left ++ p ∷ [])
-  next_leaf c stores i left s p file pattern upkeep store sound b at same kind mine leaf =
+  next_leaf {c} {stores} {i} {left} {s} p {store} sound b at same kind mine leaf =
       let before = take i c.sinks.items in
       let made = subst (λ (k : SinkKind). IsBuiltAs tells files failures c stores b.parts i s.level k p.sink) (sym kind)
       (store, mine, leaf) in
@@ -273,14 +273,15 @@ module _ {S : Type 0} (tells : Bool) (files : S → Files) (failures : S → ℕ
         λ never m. never ((member_more before s (name_of a)).1 (inl m)),
       ))
       b.picked in
-      next_part c stores i left left s p sound b at same made picked
+      next_part left p sound b at same made picked
 
   -- a fan
-  pub next_fan : (c : Config) (stores : List S) (i : ℕ) (left rest : List (Part S)) (s : SinkConfig) (p : Part S) (of : List (List ℕ))
+  pub next_fan : {c : Config} {stores : List S} {i : ℕ} {left : List (Part S)} (rest : List (Part S)) {s : SinkConfig} (p : Part S)
+      {of : List (List ℕ)}
       → AreSoundSinks c.text [] c.sinks.items → AreBuilt tells files failures c stores i left → slice_get c.sinks.items i ≡ Some s
       → config_of p ≡ s → s.kind ≡ kinds.Fan of → MakesFan left s.level of p.sink rest
       → AreBuilt tells files failures c stores (i + 1) (rest ++ p ∷ [])
-  next_fan c stores i left rest s p of sound b at same kind makes =
+  next_fan {c} {stores} {i} {left} rest {s} p {of} sound b at same kind makes =
       let before = take i c.sinks.items in
       let apart = parts_apart c stores i left s sound b at in
       let P : Part S → Type 0 = λ a. ¬ IsMember before (name_of a) in
@@ -296,7 +297,7 @@ module _ {S : Type 0} (tells : Bool) (files : S → Files) (failures : S → ℕ
         λ never. (λ m. never ((member_more before s (name_of a)).1 (inl m)), λ m. never ((member_more before s (name_of a)).1 (inr (hands (name_of a) m)))),
       ))
       (picked_taken P b.parts left of makes.0 rest apart b.picked makes.1) in
-      next_part c stores i left rest s p sound b at same made picked
+      next_part rest p sound b at same made picked
 
   -- what names of sinks that are never members find among the parts
   pub all_known : (c : Config) (stores : List S) (i : ℕ) (left : List (Part S)) (names : List (List ℕ))

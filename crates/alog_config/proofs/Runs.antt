@@ -63,32 +63,32 @@ seen_at f (y ∷ xs) zero x h e = ap (λ (z : _). Some (f z)) (sym e)
 seen_at f (y ∷ xs) (suc i) x h e = seen_at f xs i x (omega arith) e
 
 -- the next table: what it says, or its fault
-pub sinks_step : (limit : ℕ) (ts : List Members) (i : ℕ) (ss : List SinkConfig) (t : Members) (s : SinkConfig)
+pub sinks_step : {limit : ℕ} (ts : List Members) (i : ℕ) {ss : List SinkConfig} {t : Members} {s : SinkConfig}
     → AreSinks limit [] (take i ts) ss
     → slice_get ts i ≡ Some t → IsSink limit ss t s → AreSinks limit [] (take (i + 1) ts) (ss ++ s ∷ [])
-sinks_step limit ts i ss t s h at is =
+sinks_step {limit} ts i {ss} {t} {s} h at is =
     subst (λ (us : List Members). AreSinks limit [] us (ss ++ s ∷ [])) (sym (take_more ts i t at)) (sinks_more limit []
     (take i ts) ss t s h is)
 
-pub loggers_step : (sinks : List SinkConfig) (ts : List Members) (i : ℕ) (ls : List LoggerConfig) (t : Members) (l : LoggerConfig)
+pub loggers_step : {sinks : List SinkConfig} (ts : List Members) (i : ℕ) {ls : List LoggerConfig} {t : Members} {l : LoggerConfig}
     → AreLoggers sinks [] (take i ts) ls → slice_get ts i ≡ Some t → IsLogger sinks ls t l
     → AreLoggers sinks [] (take (i + 1) ts) (ls ++ l ∷ [])
-loggers_step sinks ts i ls t l h at is =
+loggers_step {sinks} ts i {ls} {t} {l} h at is =
     subst (λ (us : List Members). AreLoggers sinks [] us (ls ++ l ∷ [])) (sym (take_more ts i t at)) (loggers_more sinks []
     (take i ts) ls t l h is)
 
-pub sinks_refused : (limit : ℕ) (ts : List Members) (i : ℕ) (ss : List SinkConfig) (t : Members) (fault : TableFault)
+pub sinks_refused : (limit : ℕ) (ts : List Members) (i : ℕ) (ss : List SinkConfig) {t : Members} (fault : TableFault)
     → AreSinks limit [] (take i ts) ss → slice_get ts i ≡ Some t
     → IsTableAnswer (IsSink limit ss t) (IsRefusedSink limit ss t) (Err fault) → IsSinksFault limit ts (fault_at (places.Sink i) fault)
-sinks_refused limit ts i ss t (Broken rule) h at broken = record { earlier = ss; before = h; t = t; at = at; refused = broken }
-sinks_refused limit ts i ss t OutOfMemory h at broken = tt
+sinks_refused limit ts i ss {t} (Broken rule) h at broken = record { earlier = ss; before = h; t = t; at = at; refused = broken }
+sinks_refused limit ts i ss OutOfMemory h at broken = tt
 
-pub loggers_refused : (sinks : List SinkConfig) (ts : List Members) (i : ℕ) (ls : List LoggerConfig) (t : Members) (fault : TableFault)
+pub loggers_refused : (sinks : List SinkConfig) (ts : List Members) (i : ℕ) (ls : List LoggerConfig) {t : Members} (fault : TableFault)
     → AreLoggers sinks [] (take i ts) ls → slice_get ts i ≡ Some t
     → IsTableAnswer (IsLogger sinks ls t) (IsRefusedLogger sinks ls t) (Err fault)
     → IsLoggersFault sinks ts (fault_at (places.Logger i) fault)
-loggers_refused sinks ts i ls t (Broken rule) h at broken = record { earlier = ls; before = h; t = t; at = at; refused = broken }
-loggers_refused sinks ts i ls t OutOfMemory h at broken = tt
+loggers_refused sinks ts i ls {t} (Broken rule) h at broken = record { earlier = ls; before = h; t = t; at = at; refused = broken }
+loggers_refused sinks ts i ls OutOfMemory h at broken = tt
 
 -- the tables that the top has
 pub tables_had : (f : Field LentTables) (v : LentTables) → f ≡ Given v → Has f (tables_in v)
@@ -113,14 +113,14 @@ sink_fault t f v w (faults.Broken rule (places.Sink i)) top h =
     record { fields = f; sink_tables = tables_in v; logger_tables = tables_in w; top = top; refused = h }
 sink_fault t f v w (faults.Broken rule (places.Logger i)) top h = absurd h
 
-pub logger_fault : (t : Members) (f : TopFields) (v w : LentTables) (sinks : List SinkConfig) (fault : ConfigFault)
+pub logger_fault : {t : Members} {f : TopFields} (v w : LentTables) (sinks : List SinkConfig) (fault : ConfigFault)
     → IsTop t f (tables_in v) (tables_in w) → AreSinks (limit_of f) [] (tables_in v) sinks → IsLoggersFault sinks (tables_in w) fault
     → IsAnswer t (Err fault)
-logger_fault t f v w sinks faults.NotToml top are h = absurd h
-logger_fault t f v w sinks faults.OutOfMemory top are h = tt
-logger_fault t f v w sinks (faults.Broken rule places.Top) top are h = absurd h
-logger_fault t f v w sinks (faults.Broken rule (places.Sink i)) top are h = absurd h
-logger_fault t f v w sinks (faults.Broken rule (places.Logger i)) top are h =
+logger_fault v w sinks faults.NotToml top are h = absurd h
+logger_fault v w sinks faults.OutOfMemory top are h = tt
+logger_fault v w sinks (faults.Broken rule places.Top) top are h = absurd h
+logger_fault v w sinks (faults.Broken rule (places.Sink i)) top are h = absurd h
+logger_fault {f} v w sinks (faults.Broken rule (places.Logger i)) top are h =
     record { fields = f; sink_tables = tables_in v; logger_tables = tables_in w; top = top; sinks = sinks; are = are; refused = h }
 
 -- what is read of a document whose table is this

@@ -80,45 +80,45 @@ picked_apart P key name (a ∷ all) picked never (inl h) =
 picked_apart P key name (a ∷ all) picked never (inr h) = inr (λ q. h.0 q.0, picked_apart P key name all picked (λ x. never (inr x)) h.1)
 
 -- a picked item is one of them, and such
-pub picked_in : {A : Type 0} (P Q : A → Type 0) (all picked : List A) (k : ℕ) (p : A) → ArePicked P all picked → slice_get picked k ≡ Some p
+pub picked_in : {A : Type 0} (P Q : A → Type 0) (all picked : List A) (k : ℕ) {p : A} → ArePicked P all picked → slice_get picked k ≡ Some p
     → Q p → Has Q all × P p
-picked_in P Q [] [] k p h e q = absurd (cc e)
-picked_in P Q [] (b ∷ bs) k p h e q = absurd (cc h)
-picked_in P Q (a ∷ all) picked k p (inr h) e q = let r = picked_in P Q all picked k p h.1 e q in (inr r.0, r.1)
-picked_in P Q (a ∷ all) [] k p (inl h) e q = absurd (cc e)
-picked_in P Q (a ∷ all) (b ∷ bs) zero p (inl h) e q =
+picked_in P Q [] [] k h e q = absurd (cc e)
+picked_in P Q [] (b ∷ bs) k h e q = absurd (cc h)
+picked_in P Q (a ∷ all) picked k {p} (inr h) e q = let r = picked_in P Q all picked k h.1 e q in (inr r.0, r.1)
+picked_in P Q (a ∷ all) [] k (inl h) e q = absurd (cc e)
+picked_in P Q (a ∷ all) (b ∷ bs) zero {p} (inl h) e q =
     let head = h.2 in
     let same : a ≡ p = cc in
     (inl (subst Q (sym same) q), subst P same h.1)
-picked_in {A} P Q (a ∷ all) (b ∷ bs) (suc k) p (inl h) e q =
+picked_in {A} P Q (a ∷ all) (b ∷ bs) (suc k) {p} (inl h) e q =
     let cons = h.2 in
     let tails : h.0 ≡ bs = cc in
-    let r = picked_in P Q all bs k p (subst (λ (xs : List A). ArePicked P all xs) tails h.3) e q in
+    let r = picked_in P Q all bs k (subst (λ (xs : List A). ArePicked P all xs) tails h.3) e q in
     (inr r.0, r.1)
 
 -- Where keys are apart, one item leaves what is picked, and no other is of its key.
-pub picked_without : {A : Type 0} (P : A → Type 0) (key : A → List ℕ) (all picked : List A) (k : ℕ) (p : A) → Apart key all
+pub picked_without : {A : Type 0} (P : A → Type 0) (key : A → List ℕ) (all picked : List A) (k : ℕ) {p : A} → Apart key all
     → ArePicked P all picked → slice_get picked k ≡ Some p → ArePicked (λ a. P a × (¬ (key a ≡ key p))) all (remove picked k)
-picked_without P key [] [] k p apart h e = absurd (cc e)
-picked_without P key [] (b ∷ bs) k p apart h e = absurd (cc h)
-picked_without P key (a ∷ all) picked k p apart (inr h) e =
-    inr (λ q. h.0 q.0, picked_without P key all picked k p apart.1 h.1 e)
-picked_without P key (a ∷ all) [] k p apart (inl h) e = absurd (cc e)
-picked_without {A} P key (a ∷ all) (b ∷ bs) zero p apart (inl h) e =
+picked_without P key [] [] k apart h e = absurd (cc e)
+picked_without P key [] (b ∷ bs) k apart h e = absurd (cc h)
+picked_without P key (a ∷ all) picked k {p} apart (inr h) e =
+    inr (λ q. h.0 q.0, picked_without P key all picked k apart.1 h.1 e)
+picked_without P key (a ∷ all) [] k apart (inl h) e = absurd (cc e)
+picked_without {A} P key (a ∷ all) (b ∷ bs) zero {p} apart (inl h) e =
     let cons = h.2 in
     let same : a ≡ p = cc in
     let tails : h.0 ≡ bs = cc in
     let here = subst (λ (xs : List A). ArePicked P all xs) tails h.3 in
     let none : ¬ Has (λ x. key x ≡ key p) all = subst (λ x. ¬ Has (λ y. key y ≡ key x) all) same apart.0 in
     inr (λ q. q.1 (ap key same), picked_apart P key (key p) all bs none here)
-picked_without {A} P key (a ∷ all) (b ∷ bs) (suc k) p apart (inl h) e =
+picked_without {A} P key (a ∷ all) (b ∷ bs) (suc k) {p} apart (inl h) e =
     let cons = h.2 in
     let tails : h.0 ≡ bs = cc in
     let heads : b ≡ a = cc in
     let here = subst (λ (xs : List A). ArePicked P all xs) tails h.3 in
-    let there = picked_in P (λ x. key x ≡ key p) all bs k p here e refl in
+    let there = picked_in P (λ x. key x ≡ key p) all bs k here e refl in
     let differ : ¬ (key a ≡ key p) = λ same. apart.0 (subst (λ n. Has (λ x. key x ≡ n) all) (sym same) there.0) in
-    inl (remove bs k, (h.1, differ), ap (λ x. x ∷ remove bs k) heads, picked_without P key all bs k p apart.1 here e)
+    inl (remove bs k, (h.1, differ), ap (λ x. x ∷ remove bs k) heads, picked_without P key all bs k apart.1 here e)
 
 -- an item of a key is picked, if each such item is
 pub picked_has : {A : Type 0} (P Q : A → Type 0) (all picked : List A) → ((a : A) → Q a → P a) → ArePicked P all picked → Has Q all → Has Q picked

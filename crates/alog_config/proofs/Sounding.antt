@@ -133,16 +133,16 @@ upkeep_sound limit t f (upkeeps.Daily hour minute max_files) are says = (
   rw says.3 (number_or_zero 0 1000 _ f.max_files are.max_files),
 )
 
-kind_sound : (limit : ℕ) (earlier : List SinkConfig) (t : Members) (f : SinkFields) (k : SinkKind) → IsTextLimit limit
+kind_sound : {limit : ℕ} (earlier : List SinkConfig) {t : Members} {f : SinkFields} (k : SinkKind) → IsTextLimit limit
     → AreSinkFields limit t f → AllKept (SinkBreaks earlier f) → SaysKind f k → IsSoundKind limit earlier k
-kind_sound limit earlier t f (sinks.Lines file pattern upkeep) limited are kept says =
+kind_sound {limit} earlier {t} {f} (sinks.Lines file pattern upkeep) limited are kept says =
     let bad : ¬ IsBadFile earlier (Some file) = λ h. kept.bad (inr (inl (subst (IsBadFile earlier) (sym says.0) h))) in (
       file_name_held file (λ never. bad (inl never)),
       λ h. bad (inr h),
       subst (λ p. IsPattern limit p) (sym says.1) (pattern_sound limit _ f.pattern limited are.pattern),
       upkeep_sound limit t f upkeep are says.2,
     )
-kind_sound limit earlier t f (sinks.Fan of) limited are kept says =
+kind_sound earlier {f} (sinks.Fan of) limited are kept says =
     let r = given_reads IsNameList _ f.of of are.of says.1 in
     let bad : ¬ AreBadMembers earlier (Given of) = λ h. kept.bad (inr (inr (subst (AreBadMembers earlier) (sym says.1) h))) in (
       r.1.1,
@@ -163,7 +163,7 @@ sink_sound limit earlier t s limited h =
       some = rw said.0 said.1;
       short = rw said.0 said.2;
       free = λ taken. kept.taken (subst (IsTakenName earlier) (sym h.says.name) taken);
-      kind = kind_sound limit earlier t f s.kind limited h.are kept h.says.kind;
+      kind = kind_sound earlier s.kind limited h.are kept h.says.kind;
     }
 
 pub logger_sound : (ss : List SinkConfig) (earlier : List LoggerConfig) (t : Members) (l : LoggerConfig) → IsLogger ss earlier t l
@@ -257,10 +257,10 @@ top_kept t f queue workers are places threads =
     }
 
 -- what is read keeps the rules
-pub top_sound : (t : Members) (f : TopFields) (v w : LentTables) (limit : ℕ) (zone : Zone) (ss : List SinkConfig) (ls : List LoggerConfig)
+pub top_sound : {t : Members} {f : TopFields} {v w : LentTables} {limit : ℕ} {zone : Zone} {ss : List SinkConfig} {ls : List LoggerConfig}
     → AreTopFields t f → f.sinks ≡ Given v → f.loggers ≡ Given w → limit ≡ limit_of f → zone ≡ zone_of f
     → AreSinks limit [] (tables_in v) ss → AreLoggers ss [] (tables_in w) ls → IsSound limit zone ss ls
-top_sound t f v w limit zone ss ls are has_sinks has_loggers limited clock sinks_are loggers_are =
+top_sound {f} {v} {w} {limit} {ss} {ls} are has_sinks has_loggers limited clock sinks_are loggers_are =
     let in_limit = subst IsTextLimit (sym limited) (text_sound _ f.text are.text) in
     let sinks_keep = sinks_sound limit [] (tables_in v) ss in_limit sinks_are in
     let loggers_keep = loggers_sound ss [] (tables_in w) ls loggers_are in

@@ -30,10 +30,10 @@ place_name {S} parts name k p e place =
     let here : Some (name_of p) ≡ Some name = subst (λ o. option_map (λ (q : Part S). name_of q) o ≡ Some name) e place in cc
 
 pub takes_more : {S : Type 0} (parts : List (Part S)) (names : List (List ℕ)) (sinks : List (Sink S)) (left : List (Part S)) (name : List ℕ)
-    (k : ℕ) (p : Part S)
+    (k : ℕ) {p : Part S}
     → TakesOut parts names sinks left → k < length left → p ≡ get_or left k p → IsPlace left name k
     → TakesOut parts (names ++ name ∷ []) (sinks ++ p.sink ∷ []) (remove left k)
-takes_more parts names sinks left name k p t within is place =
+takes_more parts names sinks left name k {p} t within is place =
     let e = slice_get_read left (length left) k p refl within is in
     subst (λ n. TakesOut parts (names ++ n ∷ []) (sinks ++ p.sink ∷ []) (remove left k)) (place_name left name k p e place)
     (takes_one parts names sinks left k p t e)
@@ -67,10 +67,10 @@ in_front (n ∷ ns) (suc i) name (inr has) =
     let r = in_front ns i name has in
     let low = r.1 in let within = r.2 in (suc r.0, omega (arith, low), omega (arith, within), r.3)
 
-pub still_there : {S : Type 0} (parts : List (Part S)) (names : List (List ℕ)) (i : ℕ) (name : List ℕ) (sinks : List (Sink S))
+pub still_there : {S : Type 0} (parts : List (Part S)) (names : List (List ℕ)) (i : ℕ) {name : List ℕ} (sinks : List (Sink S))
     (left : List (Part S)) → AllPairs (λ a b. ¬ (a ≡ b)) names → i < length names → get_or names i name ≡ name
     → TakesOut parts (take i names) sinks left → IsPartName parts name → IsPartName left name
-still_there {S} parts names i name sinks left apart within here t has =
+still_there {S} parts names i {name} sinks left apart within here t has =
     let other : ¬ Has (λ n. n ≡ name) (take i names) = λ x.
     let r = in_front names i name x in
     apart r.0 i name r.1 within (r.3 ∙ sym here) in

@@ -15,8 +15,8 @@ made-requires g c =
     let s = c.said-item.result in
     let here = slice_get_read items (length items) i s refl c.loop-said-test.true c.said-item.is in
     let at = subst (λ (ss : List SinkConfig). slice_get ss i ≡ Some s) c.deref-said-items.ensures.value here in
-    may_make g.S.Store.tells g.S.Store.files g.S.Store.failures config c.args.stores.items c.loop-said.stores.items i c.loop-said.parts.items s
-    config.sound.each_sink c.loop-said.invariant.built at c.requires c.loop-said.invariant.left
+    may_make g.S.Store.tells g.S.Store.files g.S.Store.failures config.sound.each_sink c.loop-said.invariant.built at c.requires
+    c.loop-said.invariant.left
 
 pub returns-in-Err-clause-failed : goal.returns-in-Err-clause-failed
 returns-in-Err-clause-failed g c = λ e.
@@ -43,10 +43,9 @@ loop-said-preserved g c =
     let here = slice_get_read items (length items) i s refl c.loop-said-test.true c.said-item.is in
     let at = subst (λ (ss : List SinkConfig). slice_get ss i ≡ Some s) c.deref-said-items.ensures.value here in
     record {
-      built = rw (c.in_ok-add.ensures) (next_made g.S.Store.tells g.S.Store.files g.S.Store.failures config c.args.stores.items
-          c.loop-said.stores.items c.made.new.stores.items i c.loop-said.parts.items c.made.new.parts.items s _ config.sound.each_sink
-          c.loop-said.invariant.built at refl c.loop-said.invariant.left c.in-Ok.ensures.made);
-      left = next_left g.S.Store.tells g.S.Store.files g.S.Store.failures config c.args.stores.items c.loop-said.stores.items
-          c.made.new.stores.items i c.loop-said.parts.items c.made.new.parts.items s c.in-Ok.sink s.kind at refl c.loop-said.invariant.left
-          c.in-Ok.ensures.made;
+      built = rw (c.in_ok-add.ensures) (next_made g.S.Store.tells g.S.Store.files g.S.Store.failures c.made.new.stores.items
+          c.made.new.parts.items _ config.sound.each_sink c.loop-said.invariant.built at refl c.loop-said.invariant.left
+          c.in-Ok.ensures.made);
+      left = next_left g.S.Store.tells g.S.Store.files g.S.Store.failures config c.args.stores.items {rest = c.made.new.stores.items} i
+          c.loop-said.parts.items c.made.new.parts.items c.in-Ok.sink {k = s.kind} at refl c.loop-said.invariant.left c.in-Ok.ensures.made;
     }

@@ -9,5 +9,5 @@ use Rattle.alog_config.proofs.lists.texts_of.Goals as goal
 pub returns-in_default : goal.returns-in_default
 returns-in_default c =
     let fails : is_some (as_str (view c.item-item.result)) ≡ false = grind (arith, common_steps) in
-    not_all view string (λ d. is_some (as_str d)) (λ s. refl) c.args.items.now c.loop-item.item-index c.item-item.result
-    c.loop-item-test.true c.item-item.is fails
+    not_all view string (λ d. is_some (as_str d)) (λ s. refl) c.args.items.now c.loop-item.item-index c.loop-item-test.true c.item-item.is
+    fails

@@ -22,7 +22,7 @@ unreachable-requires g c =
       name,
       c.loop-name-test.true,
       sym c.name-item.is,
-      λ has. gone (still_there c.args.parts.now.items names i name c.loop-name.sinks.items left c.requires.apart c.loop-name-test.true
+      λ has. gone (still_there c.args.parts.now.items names i c.loop-name.sinks.items left c.requires.apart c.loop-name-test.true
           (sym c.name-item.is) c.loop-name.invariant.taken has),
     )
 
@@ -46,6 +46,6 @@ loop-name-preserved g c =
       count = omega (arith, old, len);
       room = omega (arith, capacity, room);
       taken = rw (take_one_more names i name here, c.push_reserved.ensures.items, c.remove-sink.ensures.items)
-          (takes_more c.args.parts.now.items (take i names) c.loop-name.sinks.items left name k p c.loop-name.invariant.taken within
+          (takes_more c.args.parts.now.items (take i names) c.loop-name.sinks.items left name k c.loop-name.invariant.taken within
           c.remove-sink.ensures.value place);
     }

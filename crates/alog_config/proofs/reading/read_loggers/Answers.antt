@@ -20,7 +20,7 @@ returns-in-Err-clause-refused c =
     (holds x)) (Err c.in-Err.fault))
     c.as_slice.ensures.value told in
     subst (IsLoggersFault c.args.sinks.now ts) (sym c.at.ensures)
-    (loggers_refused c.args.sinks.now ts c.loop-i.i c.loop-i.loggers.items (holds x) c.in-Err.fault c.loop-i.invariant at here)
+    (loggers_refused c.args.sinks.now ts c.loop-i.i c.loop-i.loggers.items c.in-Err.fault c.loop-i.invariant at here)
 
 pub loop-i-preserved : goal.loop-i-preserved
 loop-i-preserved c =
@@ -31,4 +31,4 @@ loop-i-preserved c =
     let told = rw c.in-Ok.is at c.read_logger.ensures in
     let here = subst (λ (ss : List LoggerConfig). IsLogger c.args.sinks.now ss (holds x) c.in-Ok.logger) c.as_slice.ensures.value told in
     let grown : c.push.new.self.items ≡ c.loop-i.loggers.items ++ c.in-Ok.logger ∷ [] = grind (arith, common_steps) in
-    rw grown (loggers_step c.args.sinks.now ts c.loop-i.i c.loop-i.loggers.items (holds x) c.in-Ok.logger c.loop-i.invariant at here)
+    rw grown (loggers_step ts c.loop-i.i c.loop-i.invariant at here)

@@ -20,7 +20,7 @@ returns-in-Err-clause-refused c =
     (Err c.in-Err.fault))
     c.as_slice.ensures.value told in
     subst (IsSinksFault c.args.limit ts) (sym c.at.ensures)
-    (sinks_refused c.args.limit ts c.loop-i.i c.loop-i.sinks.items (holds x) c.in-Err.fault c.loop-i.invariant at here)
+    (sinks_refused c.args.limit ts c.loop-i.i c.loop-i.sinks.items c.in-Err.fault c.loop-i.invariant at here)
 
 pub loop-i-preserved : goal.loop-i-preserved
 loop-i-preserved c =
@@ -31,4 +31,4 @@ loop-i-preserved c =
     let told = rw c.in-Ok.is at c.read_sink.ensures in
     let here = subst (λ (ss : List SinkConfig). IsSink c.args.limit ss (holds x) c.in-Ok.sink) c.as_slice.ensures.value told in
     let grown : c.push.new.self.items ≡ c.loop-i.sinks.items ++ c.in-Ok.sink ∷ [] = grind (arith, common_steps) in
-    rw grown (sinks_step c.args.limit ts c.loop-i.i c.loop-i.sinks.items (holds x) c.in-Ok.sink c.loop-i.invariant at here)
+    rw grown (sinks_step ts c.loop-i.i c.loop-i.invariant at here)

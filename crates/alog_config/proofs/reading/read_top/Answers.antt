@@ -39,7 +39,7 @@ returns-in-Err-read_loggers c =
     let told = subst (λ (bs : List (Bor (BTreeMap (String Global) Value))). IsLoggersFault c.as_slice-3.result.now (map holds bs) fault)
     c.as_slice-2.ensures.value c.in-Err-read_loggers.ensures.refused in
     let known = subst (λ (ss : List SinkConfig). IsLoggersFault ss (tables_in w) fault) c.as_slice-3.ensures.value told in
-    logger_fault t f v w sinks fault top are known
+    logger_fault v w sinks fault top are known
 
 pub invariant_of-result : goal.invariant_of-result
 invariant_of-result c =
@@ -57,8 +57,8 @@ invariant_of-result c =
     let known = subst (λ (ss : List SinkConfig). AreLoggers ss [] (tables_in w) loggers) c.as_slice-3.ensures.value told in
     record {
       top = top_kept t f _ _ c.in-Ok.ensures c.or.ensures c.or-2.ensures;
-      sound = top_sound t f v w c.or-text.result c.clock_of.result sinks loggers c.in-Ok.ensures c.in-Given-Given.is-0 c.in-Given-Given.is-1
-          c.or-text.ensures c.clock_of.ensures said known;
+      sound = top_sound {ss = sinks} {ls = loggers} c.in-Ok.ensures c.in-Given-Given.is-0 c.in-Given-Given.is-1 c.or-text.ensures
+          c.clock_of.ensures said known;
     }
 
 pub returns : goal.returns
