@@ -32,16 +32,16 @@ reason limit text source message.TextTooLong why = why
 reason limit text source message.FieldTooLong why = why
 reason limit text source message.OutOfMemory why = why
 
-pub said : (time : ℤ) (how : How) (number : ℕ) (level : Level) (text : List ℕ) (source : Option SourceRef) (old new : ProducerView)
+pub said : (time : ℤ) (how : How) (number : ℕ) (level : Level) (text : List ℕ) (source : Option SourceRef) {old new : ProducerView}
     (r : Answer)
     → ((s : Spec) → spec_at old.shared.loggers number ≡ Some s → IfOk r (λ reply. Lent old new number
     (λ p k q l. LogsSo how s (message_with number level time old.number text source) p k reply q l)))
     → ((s : Spec) → spec_at old.shared.loggers number ≡ Some s → IfOk r (λ reply. IsUnread s reply ⊎ IsWithin old.limit text source))
     → IfErr r (given.IsReason old.limit text source)
     → OnErr r (new ≡ old) → IsSame old new → SaysAt time how number level text source old (answer_of r) new
-said time how number level text source old new (Ok reply) logs within why left same =
+said time how number level text source (Ok reply) logs within why left same =
     record { logs = logs; within = within; same = same }
-said time how number level text source old new (Err e) logs within why left same =
+said time how number level text source {old} (Err e) logs within why left same =
     (left, reason old.limit text source e why)
 
 pub dumped : (time : ℤ) (number : ℕ) (old new : ProducerView) (r : Result (Vec (Outcome (Unit {0})) Global) AllocError)

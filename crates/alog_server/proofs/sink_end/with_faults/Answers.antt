@@ -27,7 +27,7 @@ loop-number-preserved c =
     subst (λ n. Sharing IsWithFaults n old (slice_set now i told) (take (i + 1) faults)) next
     (subst (λ (l : List ℕ). Sharing IsWithFaults (suc i) old (slice_set now i told) l)
     (sym (take_next faults i 0 (omega (arith, long, low, each))))
-    (share_one IsWithFaults i old now (take i faults) own told v low here c.loop-number.invariant))
+    (share_one IsWithFaults i old now (take i faults) own low here c.loop-number.invariant))
 
 pub returns : goal.returns
 returns c =

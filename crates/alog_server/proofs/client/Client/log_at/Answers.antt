@@ -18,5 +18,5 @@ returns g c =
     c.self.view_is
     (subst (λ (q : Result LogReply LogError). SaysAt c.args.time Waiting n c.args.level c.args.text.now c.args.source old q new)
     (sym c.answer_of.ensures)
-    (said c.args.time Waiting n c.args.level c.args.text.now c.args.source old new c.log-answer.result logs does.within does.reason
-    does.err does.same))
+    (said c.args.time Waiting n c.args.level c.args.text.now c.args.source c.log-answer.result logs does.within does.reason does.err
+    does.same))

@@ -18,5 +18,4 @@ returns g c =
     c.self.view_is
     (subst (λ (q : Result LogReply LogError). SaysAt c.args.time AtOnce n c.args.level c.args.text.now None old q new)
     (sym c.answer_of.ensures)
-    (said c.args.time AtOnce n c.args.level c.args.text.now None old new c.log_now-answer.result logs does.within does.reason
-    does.err does.same))
+    (said c.args.time AtOnce n c.args.level c.args.text.now None c.log_now-answer.result logs does.within does.reason does.err does.same))
