@@ -16,7 +16,7 @@ use Rattle.alog_policy.specs.Port.{PortDid}
 use Rattle.alog_policy.specs.declared.policy.Outcome.TheVariants.{Posted}
 use Rattle.alog_policy.specs.declared.policy.Policy.TheVariants.{Block, OverrunOldest}
 use Rattle.alog_pool.specs.Deeds.{Due, all_dues, due_by, dues_by, dues_on}
-use Rattle.alog_pool.specs.OneWorker.{AreWritten, HoldsMore, IsWritten, OneWorkerWritesInOrder, texts_in}
+use Rattle.alog_pool.specs.OneWorker.{AreWritten, HoldsMore, IsWritten, OneWorkerWritesInOrder, WritesInOrder, texts_in}
 use Rattle.alog_pool.specs.Pool.{Makes, PoolView, lanes_of}
 use Rattle.alog_pool.specs.Posted.{ArePosted, IsOverrun, IsPutIn, PostedLogsPutTheirTextIn, tickets_of}
 use Rattle.alog_pool.specs.Producer.{ProducerView, Lent}
@@ -110,31 +110,37 @@ module _ (m : Message) (t n : ℕ) where
       subst (λ (o : Option Spec). IsGood (dues_on n (dues_by o m.logger t (Text m) ++ []))) (sym found) good
 
 module _ {S : Type 0} (tells : Bool) (files : S → Files) (failures : S → ℕ) where
+  -- the lane, the sink and the count of faults of one number
+  record StandAt (n : ℕ) (ls : List (LaneId (Sink S))) (ks : List (Sink S)) (fs : List ℕ)
+      (l : LaneId (Sink S)) (k : Sink S) (f : ℕ) : Type 0 where
+    lane : slice_get ls n ≡ Some l
+    sink : slice_get ks n ≡ Some k
+    faults : slice_get fs n ≡ Some f
+
   -- the sink of a number among those that were written
-  written_at : (s n : ℕ) (ls : List (LaneId (Sink S))) (ks : List (Sink S)) (fs : List ℕ) (dues : List Due) (l : LaneId (Sink S)) (k : Sink S) (f : ℕ)
-      → AreWritten tells files failures s ls ks fs dues → slice_get ls n ≡ Some l → slice_get ks n ≡ Some k → slice_get fs n ≡ Some f
+  written_at : (s n : ℕ) (ls : List (LaneId (Sink S))) (ks : List (Sink S)) (fs : List ℕ) (dues : List Due)
+      {l : LaneId (Sink S)} {k : Sink S} {f : ℕ} → AreWritten tells files failures s ls ks fs dues → StandAt n ls ks fs l k f
       → IsWritten tells files failures l.first k f (dues_on (n + s) dues)
-  written_at s n [] ks fs dues l k f all one two three = absurd (cc one)
-  written_at s n (x ∷ ls) [] fs dues l k f all one two three = absurd all
-  written_at s n (x ∷ ls) (y ∷ ks) [] dues l k f all one two three = absurd all
-  written_at s zero (x ∷ ls) (y ∷ ks) (z ∷ fs) dues l k f all one two three =
-      let a : x ≡ l = cc one in
-      let b : y ≡ k = cc two in
-      let c : z ≡ f = cc three in
+  written_at s n [] ks fs dues all at = absurd (let lane = at.lane in cc)
+  written_at s n (x ∷ ls) [] fs dues all at = absurd all
+  written_at s n (x ∷ ls) (y ∷ ks) [] dues all at = absurd all
+  written_at s zero (x ∷ ls) (y ∷ ks) (z ∷ fs) dues {l} {k} {f} all at =
+      let a : x ≡ l = let lane = at.lane in cc in
+      let b : y ≡ k = let sink = at.sink in cc in
+      let c : z ≡ f = let faults = at.faults in cc in
       let here : s ≡ 0 + s = omega arith in
       subst (λ (v : LaneId (Sink S) × Sink S × ℕ × ℕ). IsWritten tells files failures v.0.first v.1 v.2 (dues_on v.3 dues))
       (λ i. (a i, b i, c i, here i)) all.0
-  written_at s (suc n) (x ∷ ls) (y ∷ ks) (z ∷ fs) dues l k f all one two three =
+  written_at s (suc n) (x ∷ ls) (y ∷ ks) (z ∷ fs) dues {l} {k} {f} all at =
       let next : n + (s + 1) ≡ suc n + s = omega arith in
-      subst (λ (j : ℕ). IsWritten tells files failures l.first k f (dues_on j dues)) next
-      (written_at (s + 1) n ls ks fs dues l k f all.1 one two three)
+      let further : StandAt n ls ks fs l k f = record { lane = at.lane; sink = at.sink; faults = at.faults } in
+      subst (λ (j : ℕ). IsWritten tells files failures l.first k f (dues_on j dues)) next (written_at (s + 1) n ls ks fs dues all.1 further)
 
-  pub alone : OneWorkerWritesInOrder tells files failures → (pool : PoolView S) (p : ProducerView) (r : Report S) (t : ℕ) (m : Message)
-      (s : Spec) (n : ℕ) → Ends tells files failures pool (p ∷ []) r → length pool.crew ≡ 1 → claims p.pass.known.own ≡ (t, Text m) ∷ []
+  pub alone : {pool : PoolView S} {p : ProducerView} {r : Report S} {t : ℕ} {m : Message} {s : Spec} {n : ℕ}
+      → WritesInOrder tells files failures pool (p ∷ []) r → claims p.pass.known.own ≡ (t, Text m) ∷ []
       → takes p.pass.known.own ≡ [] → spec_at pool.shared.loggers m.logger ≡ Some s → s.sinks.items ≡ n ∷ [] → tells ≡ true
       → slice_get r.faults.items n ≡ Some 0 → HoldsAt files n (lanes_of pool.sink_seats) r.sinks.items m
-  alone law pool p r t m s n ends single puts took found sinks tell none l k at to =
-      let w = law pool (p ∷ []) r ends single in
+  alone {pool} {p} {r} {t} {m} {s} {n} w puts took found sinks tell none l k at to =
       let loggers = pool.shared.loggers in
       let lanes = lanes_of pool.sink_seats in
       let items : w.items ≡ (t, Text m) ∷ [] = posted_alone p t m puts took w.items w.rise w.are in
@@ -144,39 +150,55 @@ module _ {S : Type 0} (tells : Bool) (files : S → Files) (failures : S → ℕ
       let dues : List Due = all_dues loggers ((t, Text m) ∷ []) in
       let same : n + 0 ≡ n = omega arith in
       let it = subst (λ (j : ℕ). IsWritten tells files failures l.first k 0 (dues_on j dues)) same
-      (written_at 0 n lanes r.sinks.items r.faults.items dues l k 0 written at to none) in
+      (written_at 0 n lanes r.sinks.items r.faults.items dues written (record { lane = at; sink = to; faults = none })) in
       let holds = subst (λ (ms : List Message). HoldsMore files l.first k ms) good.0 (it.holds tell refl good.1) in
       (holds, ends_with tells files failures l.first k m it.history it.leads holds)
 
-  -- a pool that made one producer, which logged once
-  pub logged_alone : OneWorkerWritesInOrder tells files failures → PostedLogsPutTheirTextIn → (before pool : PoolView S) (q p : ProducerView)
-      (producers : List ProducerView) (reply : Result LogReply MessageError) (number : ℕ) (level : Level) (time : ℤ) (text : List ℕ) (r : Report S)
-      → Makes before pool q → before.made ≡ 0
-      → ((s : Spec) → spec_at q.shared.loggers number ≡ Some s
-      → IfOk reply (λ x. Lent q p number (λ a k b l. Logs PortDid KeepsByTurn NeverPasses s.policy s
-      (message_with number level time q.number text None) a k x b l)))
-      → producers ≡ p ∷ [] → Ends tells files failures pool producers r
-      → (t k : ℕ) × (kept : Bool) × (reply ≡ Ok (Logged (Posted t k) kept))
-      → length before.crew ≡ 1 → tells ≡ true → (s : Spec) (n : ℕ) → spec_at before.shared.loggers number ≡ Some s → s.policy ≡ Block
-      → s.sinks.items ≡ n ∷ [] → slice_get r.faults.items n ≡ Some 0
+  -- a pool that made one producer, which logged once, and was ended
+  pub record LoggedOnce (before : PoolView S) (number : ℕ) (level : Level) (time : ℤ) (text : List ℕ) (r : Report S) : Type 0 where
+    pub pool : PoolView S
+    pub made : ProducerView
+    pub last : ProducerView
+    pub producers : List ProducerView
+    pub reply : Result LogReply MessageError
+    pub makes : Makes before pool made
+    pub new : before.made ≡ 0
+    pub logs : (s : Spec) → spec_at made.shared.loggers number ≡ Some s
+        → IfOk reply (λ x. Lent made last number (λ a k b l. Logs PortDid KeepsByTurn NeverPasses s.policy s
+        (message_with number level time made.number text None) a k x b l))
+    pub all : producers ≡ last ∷ []
+    pub ends : Ends tells files failures pool producers r
+    pub posted : (t k : ℕ) × (kept : Bool) × (reply ≡ Ok (Logged (Posted t k) kept))
+
+  -- the logger of a number waits for room, and writes to one sink
+  pub record WritesToOne (loggers : List Logger) (number n : ℕ) : Type 0 where
+    pub spec : Spec
+    pub found : spec_at loggers number ≡ Some spec
+    pub waits : spec.policy ≡ Block
+    pub sinks : spec.sinks.items ≡ n ∷ []
+
+  pub logged_alone : OneWorkerWritesInOrder tells files failures → PostedLogsPutTheirTextIn → {before : PoolView S} {number : ℕ} {level : Level}
+      {time : ℤ} {text : List ℕ} {r : Report S} → LoggedOnce before number level time text r → length before.crew ≡ 1 → tells ≡ true
+      → {n : ℕ} → WritesToOne before.shared.loggers number n → slice_get r.faults.items n ≡ Some 0
       → HoldsAt files n (lanes_of before.sink_seats) r.sinks.items (message_with number level time 0 text None)
-  logged_alone law texts before pool q p producers reply number level time text r makes new logs all ends posted single tell s n found waits sinks none =
-      let m : Message = message_with number level time q.number text None in
-      let t = posted.0 in
-      let here : spec_at q.shared.loggers number ≡ Some s =
-      subst (λ (v : Shared). spec_at v.loggers number ≡ Some s) (sym makes.shared) found in
+  logged_alone law texts {number} {level} {time} {text} {r} once single tell {n} logger none =
+      let s = logger.spec in
+      let m : Message = message_with number level time once.made.number text None in
+      let t = once.posted.0 in
+      let here : spec_at once.made.shared.loggers number ≡ Some s =
+      subst (λ (v : Shared). spec_at v.loggers number ≡ Some s) (sym once.makes.shared) logger.found in
       let at : Result LogReply MessageError → Type 0 = λ o.
-      IfOk o (λ x. Lent q p number (λ a k b l. Logs PortDid KeepsByTurn NeverPasses s.policy s m a k x b l)) in
-      let lent = subst at posted.3 (logs s here) in
-      let put = texts q p number s.policy s m t posted.1 posted.2 (inl lent) in
-      let puts = put.0 ∙ ap (λ (h : List (Entry Item no_note)). claims h ++ (t, Text m) ∷ []) makes.entries.0 in
-      let took = put.1 (λ over. let bad : Block ≡ OverrunOldest = sym waits ∙ over in absurd (cc bad))
-      ∙ ap (λ (h : List (Entry Item no_note)). takes h) makes.entries.0 in
-      let crew : length pool.crew ≡ 1 = ap (λ (hs : List (Worker S)). length hs) makes.same.3 ∙ single in
-      let there : spec_at pool.shared.loggers number ≡ Some s =
-      subst (λ (v : Shared). spec_at v.loggers number ≡ Some s) (sym makes.same.0) found in
-      let ended = subst (λ (ps : List ProducerView). Ends tells files failures pool ps r) all ends in
-      let holds = alone law pool p r t m s n ended crew puts took there sinks tell none in
-      let zero : q.number ≡ 0 = makes.number ∙ new in
+      IfOk o (λ x. Lent once.made once.last number (λ a k b l. Logs PortDid KeepsByTurn NeverPasses s.policy s m a k x b l)) in
+      let lent = subst at once.posted.3 (once.logs s here) in
+      let put = texts once.made once.last number s.policy s m t once.posted.1 once.posted.2 (inl lent) in
+      let puts = put.0 ∙ ap (λ (h : List (Entry Item no_note)). claims h ++ (t, Text m) ∷ []) once.makes.entries.0 in
+      let took = put.1 (λ over. let bad : Block ≡ OverrunOldest = sym logger.waits ∙ over in absurd (cc bad))
+      ∙ ap (λ (h : List (Entry Item no_note)). takes h) once.makes.entries.0 in
+      let crew : length once.pool.crew ≡ 1 = ap (λ (hs : List (Worker S)). length hs) once.makes.same.3 ∙ single in
+      let there : spec_at once.pool.shared.loggers number ≡ Some s =
+      subst (λ (v : Shared). spec_at v.loggers number ≡ Some s) (sym once.makes.same.0) logger.found in
+      let ended = subst (λ (ps : List ProducerView). Ends tells files failures once.pool ps r) once.all once.ends in
+      let holds = alone (law once.pool (once.last ∷ []) r ended crew) puts took there logger.sinks tell none in
+      let zero : once.made.number ≡ 0 = once.makes.number ∙ once.new in
       subst (λ (v : List (LaneId (Sink S)) × ℕ). HoldsAt files n v.0 r.sinks.items (message_with number level time v.1 text None))
-      (λ i. (makes.lanes i, zero i)) holds
+      (λ i. (once.makes.lanes i, zero i)) holds
