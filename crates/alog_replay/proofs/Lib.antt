@@ -19,6 +19,11 @@ mod Holding
 mod Telling
 mod Endings
 mod Rows
+mod KeptOnce
+mod AlikeSinks
+mod AlikeStages
+mod Beginning
+mod Agreeing
 mod WholeLines
 mod Faultless
 mod Placing

@@ -183,3 +183,8 @@ module _ {Y Z : Type 0} where
 
   pub listed_in_order : (es : List (String Y × Vec ℕ Z)) (row : Row) → AreInOrder es → entries_of es ≡ row → row ≡ in_order row
   listed_in_order es row h e = sym (rises_in_order row (subst Rises e (entries_rise es h)))
+
+  pub same_row : (es fs : List (String Y × Vec ℕ Z)) → AreSame (files_in es) (files_in fs) → in_order (entries_of es) ≡ in_order (entries_of fs)
+  same_row es fs h =
+      one_row (in_order (entries_of es)) (in_order (entries_of fs)) (in_order_rises (entries_of es)) (in_order_rises (entries_of fs))
+      (λ name. row_has es name ∙ (sym (h name) ∙ sym (row_has fs name)))

@@ -17,5 +17,6 @@ pub mod Refusing
 pub mod Configured
 pub mod Faultless
 pub mod OfConfig
+pub mod OneText
 pub mod Goes
 pub mod Error

@@ -43,7 +43,7 @@ pub use configured::Configured;
 pub use entry::{one_command, one_entry};
 pub use error::{LineError, ReplayError};
 pub use limits::{SCRIPT_LINE_MAX, STEPS_MAX};
-pub use of_config::{faults_are_told, one_row, replay_config};
+pub use of_config::{faults_are_told, one_row, one_text_of_config, replay_config};
 pub use places::Place;
 pub use player::{one_text, play, replay, tells_something};
 pub use scene::Playable;

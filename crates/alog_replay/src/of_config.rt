@@ -4,6 +4,7 @@ ghost use Rattle.std.specs.Io.KnownBytes.{Keeps};
 ghost use Rattle.alog_replay.specs.Configured.{configured};
 ghost use Rattle.alog_replay.specs.Faultless.{FaultsAreTold};
 ghost use Rattle.alog_replay.specs.OfConfig.{IsStageOf, OnStage};
+ghost use Rattle.alog_replay.specs.OneText.{OneTextOfConfig};
 ghost use Rattle.alog_replay.specs.Rows.{HasOneRow, row_of};
 ghost use Rattle.alog_replay.specs.Script.{Whole, RefusedAt, WritesText, WritesFront, WasRead};
 
@@ -12,7 +13,8 @@ use crate::error::ReplayError;
 use crate::leaves::{names_of, places_of, tops_of};
 use crate::player::play;
 use alog_config::Config;
-use alog_sink::{MemStore, Store};
+use alog_format::one_line;
+use alog_sink::{MemStore, Store, pieces_have_one_cut};
 use alog_system::System;
 use std::alloc::{AllocError, Global};
 use std::io::{Read, Write};
@@ -71,3 +73,12 @@ pub fn one_row()
 pub fn faults_are_told()
     ensures { FaultsAreTold ⟦<MemStore as Store>⟧.tells ⟦<MemStore as Store>⟧.files ⟦<MemStore as Store>⟧.failures row_of }
 {}
+
+/// From a stage of a configuration a script where no store fails tells one thing at most. Its contract is the law; it calls the laws
+/// that this one stands on, which do nothing.
+pub fn one_text_of_config()
+    ensures { OneTextOfConfig ⟦<MemStore as Store>⟧.tells ⟦<MemStore as Store>⟧.files ⟦<MemStore as Store>⟧.failures row_of }
+{
+    one_line();
+    pieces_have_one_cut();
+}

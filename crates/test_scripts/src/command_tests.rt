@@ -1,6 +1,6 @@
 //! Which lines are commands, and which of them.
 use crate::scripts::{plays, refused, replays};
-use alog_replay::{faults_are_told, one_command, one_entry, one_row, one_text};
+use alog_replay::{faults_are_told, one_command, one_entry, one_row, one_text, one_text_of_config};
 use std::process::Abort;
 use std::test::Fail;
 
@@ -76,6 +76,7 @@ fn commands(rt: HostRuntime) {
     one_text();
     one_row();
     faults_are_told();
+    one_text_of_config();
 }
 
 /// Lines that are no commands, where the actor 2 is in a call and the others are in none.

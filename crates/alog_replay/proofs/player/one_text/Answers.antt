@@ -3,7 +3,8 @@ use Rattle.alog_replay.specs.Plain.{plain, plain_goes_on}
 use Rattle.alog_replay.proofs.PlainLemmas.{plain_is_certain}
 use Rattle.alog_replay.specs.Lines.{lines_of}
 use Rattle.alog_replay.proofs.Holding.{lines_may}
-use Rattle.alog_replay.proofs.Going.{some_script, one_script}
+use Rattle.alog_replay.proofs.Agreeing.{one_script}
+use Rattle.alog_replay.proofs.Going.{some_script}
 use Rattle.alog_replay.proofs.player.one_text.Goals as goal
 
 pub returns : goal.returns
