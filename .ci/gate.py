@@ -29,7 +29,7 @@ MOST_EDITS = 12
 PHASES = ("proof", "tests", "edits")
 TICKS = os.sysconf("SC_CLK_TCK")
 # of rows/, what no test has: it is held by `check memory` and `check io` alone, which run the program on it
-UNTESTED = ["rows/load_by_eight_workers.args", "rows/load_by_eight_workers.txt", "rows/refused_no_utf8.err", "rows/refused_sink_of_a_fan.err"]
+UNTESTED = ["rows/refused_no_utf8.err"]
 
 
 def stat_of(pid):

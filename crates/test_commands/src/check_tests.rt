@@ -28,7 +28,7 @@ pub(crate) const NO_TOML: (&str, &str) = (
 );
 
 /// Documents that are no configurations, as a whole, at their top, or in a sink or a logger, and what is said of each.
-pub(crate) const NO_CONFIGURATIONS: [(&str, &str); 8] = [
+pub(crate) const NO_CONFIGURATIONS: [(&str, &str); 9] = [
     (
         "",
         "alog: refused 31 in top\nalog: sink: a key is missing; it may have 1 to 256 tables\n",
@@ -64,6 +64,11 @@ pub(crate) const NO_CONFIGURATIONS: [(&str, &str); 8] = [
         "alog: refused 30 in sink 1\nalog: file: a value that its key can not have; \
          it may have 1 to 64 bytes, not . or .., without a slash or a zero byte, and not the file of an earlier sink; \
          where a memory sink has none, its name stands for it\n",
+    ),
+    (
+        "[[sink]]\nname = \"out\"\nkind = \"memory\"\n[[sink]]\nname = \"f\"\nkind = \"fan\"\nof = [\"out\"]\n[[logger]]\nname = \"net\"\nsinks = [\"out\"]\n",
+        "alog: refused 30 in logger 0\nalog: sinks = [\"out\"]: a value that its key can not have; \
+         it may have 1 to 16 names of sinks, none twice, none a member of a fan\n",
     ),
 ];
 

@@ -15,46 +15,63 @@ const NO_TOTALS: &str = "asked 0\nposted 0\ndiscarded 0\noverrun 0\nhandled 0\n"
 
 pub(crate) const THREE: &str = "asked 3\nposted 3\ndiscarded 0\noverrun 0\nhandled 3\n";
 
-/// Loads of the small configuration, and which totals each prints.
-const TOTALS: &[(&[&str], &str)] = &[
-    (
-        &["alog", "load", "FILE", "--producers=4", "--messages=100"],
-        "asked 400\nposted 400\ndiscarded 0\noverrun 0\nhandled 400\n",
-    ),
-    (
-        &["alog", "load", "FILE", "--producers", "2"],
-        "asked 200\nposted 200\ndiscarded 0\noverrun 0\nhandled 200\n",
-    ),
-    (
-        &["alog", "load", "FILE", "--producers=64", "--messages=1"],
-        "asked 64\nposted 64\ndiscarded 0\noverrun 0\nhandled 64\n",
-    ),
-    (&["alog", "load", "FILE", "--messages", "3"], THREE),
-    (
-        &["alog", "load", "FILE", "--producers=2", "--messages=0"],
-        NO_TOTALS,
-    ),
-    (
-        &["alog", "load", "FILE"],
-        "asked 100\nposted 100\ndiscarded 0\noverrun 0\nhandled 100\n",
-    ),
-];
-
-#[test]
-fn totals(rt: HostRuntime) {
-    for (words, printed) in TOTALS {
-        assert!(rt; loads(&rt, SMALL, words, Said::done(printed)), "{printed}");
-    }
-}
+/// The small configuration with eight workers.
+const EIGHT_WORKERS: &str =
+    "queue = 8\nworkers = 8\n\n[[sink]]\nname = \"out\"\nkind = \"memory\"\npattern = \"%n %L %v\"\n\n\
+                             [[logger]]\nname = \"net\"\nsinks = [\"out\"]\n";
 
 /// One whose logger lets no message through that a load logs.
 const QUIET: &str = "[[sink]]\nname = \"out\"\nkind = \"memory\"\n\n\
                      [[logger]]\nname = \"net\"\nlevel = \"error\"\nsinks = [\"out\"]\n";
 
+/// Loads of configurations, and which totals each prints: messages below the level are not counted.
+const TOTALS: &[(&str, &[&str], &str)] = &[
+    (
+        SMALL,
+        &["alog", "load", "FILE", "--producers=4", "--messages=100"],
+        "asked 400\nposted 400\ndiscarded 0\noverrun 0\nhandled 400\n",
+    ),
+    (
+        SMALL,
+        &["alog", "load", "FILE", "--producers", "2"],
+        "asked 200\nposted 200\ndiscarded 0\noverrun 0\nhandled 200\n",
+    ),
+    (
+        SMALL,
+        &["alog", "load", "FILE", "--producers=64", "--messages=1"],
+        "asked 64\nposted 64\ndiscarded 0\noverrun 0\nhandled 64\n",
+    ),
+    (SMALL, &["alog", "load", "FILE", "--messages", "3"], THREE),
+    (
+        SMALL,
+        &["alog", "load", "FILE", "--producers=2", "--messages=0"],
+        NO_TOTALS,
+    ),
+    (
+        SMALL,
+        &["alog", "load", "FILE"],
+        "asked 100\nposted 100\ndiscarded 0\noverrun 0\nhandled 100\n",
+    ),
+    (
+        EIGHT_WORKERS,
+        &["alog", "load", "FILE", "--producers=4", "--messages=1000"],
+        "asked 4000\nposted 4000\ndiscarded 0\noverrun 0\nhandled 4000\n",
+    ),
+    (
+        QUIET,
+        &["alog", "load", "FILE", "--producers=2", "--messages=5"],
+        NO_TOTALS,
+    ),
+];
+
 #[test]
-fn messages_below_the_level_are_not_counted(rt: HostRuntime) {
-    let words = ["alog", "load", "FILE", "--producers=2", "--messages=5"];
-    assert!(rt; loads(&rt, QUIET, words.as_slice(), Said::done(NO_TOTALS)));
+fn totals(rt: HostRuntime) {
+    for (document, words, printed) in TOTALS {
+        assert!(rt;
+            loads(&rt, document, words, Said::done(printed)),
+            "{printed}"
+        );
+    }
 }
 
 /// Loads with numbers that cannot be read or are out of their bounds, and what is said of each.
