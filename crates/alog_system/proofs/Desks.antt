@@ -183,20 +183,19 @@ module _ {T : Type 0} (P : T → Type 0) where
   hand_has Push v h = tt
   hand_has Pop v h = h
 
-  turn_has : (m : Machine T) (a : ℕ) (p : Post T) (c : Counts) (v : Option T) (f : Follows) → MachineHas P m → HasOnly P p.hand
+  turn_has : {m : Machine T} (a : ℕ) (p : Post T) (c : Counts) (v : Option T) (f : Follows) → MachineHas P m → HasOnly P p.hand
       → HasOnly P v → MachineHas P (turn_to m a p c v f).world × HandHasOnly P (turn_to m a p c v f).post
-  turn_has m a p c v Stays h k l = (h, k)
-  turn_has m a p c v (Ends t) h k l = (h, tt)
-  turn_has m a p c v (Leads (Ok g)) h k l = (began_has m a (call_of g.side v) (call_has g.side v l) h, hand_has g.side v l)
-  turn_has m a p c v (Leads (Err x)) h k l = (h, tt)
+  turn_has a p c v Stays h k l = (h, k)
+  turn_has a p c v (Ends t) h k l = (h, tt)
+  turn_has {m} a p c v (Leads (Ok g)) h k l = (began_has m a (call_of g.side v) (call_has g.side v l) h, hand_has g.side v l)
+  turn_has a p c v (Leads (Err x)) h k l = (h, tt)
 
   after_step_has : (d : DeskView T) (a : ℕ) (p : Option (Post T)) → DeskHas P d → HandHasOnly P p → DeskHas P (after_step d a p)
   after_step_has d a None h k = record { world = stepped_has d.world a h.world; posts = h.posts }
   after_step_has d a (Some p) h k =
       let s = told d.world a in
       let v = value_has p.hand s k (told_has d.world a h.world) in
-      let turn = turn_has (stepped d.world a) a p (with_said d.counts s) (value_in p.hand s) (follows p.progress s)
-      (stepped_has d.world a h.world) k v in
+      let turn = turn_has a p (with_said d.counts s) (value_in p.hand s) (follows p.progress s) (stepped_has d.world a h.world) k v in
       record { world = turn.0; posts = All-set (λ q. HandHasOnly P q) d.posts a _ turn.1 h.posts }
 
   post_has : (d : DeskView T) (a : ℕ) → DeskHas P d → HandHasOnly P (post_of d a)

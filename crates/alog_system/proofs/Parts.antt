@@ -86,10 +86,11 @@ fresh_within places limit loggers sinks all = record {
 pub few_kept : (count : ℕ) (loggers : List Logger) → All (LoggerFits count) loggers → All (λ l. backtrace_of l ≤ KEPT_MAX) loggers
 few_kept count loggers all = All-weaker (LoggerFits count) (λ l. backtrace_of l ≤ KEPT_MAX) (λ l h. h.backtrace) loggers all
 
-pub made_fresh : {S : Type 0} (v : SystemView S) (places limit n : ℕ) (loggers : List Logger) (sinks : List (Sink S)) → v.desk ≡ fresh_desk places 0
+pub made_fresh : {S : Type 0} {v : SystemView S} {places limit n : ℕ} {loggers : List Logger} {sinks : List (Sink S)}
+    → v.desk ≡ fresh_desk places 0
     → v.duties ≡ replicate n Free → n ≡ ACTORS → v.roster ≡ fresh_roster loggers → v.outputs ≡ record { sinks = sinks; text_limit = limit }
     → v ≡ fresh_system places limit loggers sinks
-made_fresh {S} v places limit n loggers sinks desk duties all roster outputs =
+made_fresh {S} {v} {places} {loggers} desk duties all roster outputs =
     ap (λ (d : DeskView Item). let r : SystemView S = record { desk = d; duties = v.duties; roster = v.roster; outputs = v.outputs } in r) desk
     ∙ (ap (λ (ds : List Duty). let r : SystemView S = record { desk = fresh_desk places 0; duties = ds; roster = v.roster; outputs = v.outputs } in r)
     (duties ∙ ap (λ k. replicate k Free) all)

@@ -37,22 +37,22 @@ module _ {S : Type 0} (tells : Bool) (files : S → Files) (failures : S → ℕ
         → is_idle (round_of w.desk.world a) ≡ true → duty_of w a ≡ Serves t i done → slice_get (turns_for w.roster t i) done ≡ Some turn → Turns tells files failures w.outputs turn i said outputs
         → told ≡ Turned said → u ≡ with_duty (with_outputs w outputs) a (Serves t i (done + 1)) → Case w a told u (OnSink turn i)
 
-  turn_case : (w : SystemView S) (a : ℕ) (told : Stepped) (u : SystemView S) (said : Turn) (d : Duty) → d ≡ duty_of w a
+  turn_case : {w : SystemView S} {a : ℕ} {told : Stepped} {u : SystemView S} {said : Turn} {d : Duty} → d ≡ duty_of w a
       → is_idle (round_of w.desk.world a) ≡ true → told ≡ Turned said → TurnSteps tells files failures w a d said u
       → Case w a told u (turn_of w.roster d)
-  turn_case w a told u said Free is idle same h = absurd h
-  turn_case w a told u said (Keeps m) is idle same h = kept m idle (sym is) (same ∙ ap Turned h.0) h.1
-  turn_case w a told u said (Dumps d) is idle same h = dumped d idle (sym is) (same ∙ ap Turned h.0) h.1
-  turn_case w a told u said (Posts p ms) is idle same h = absurd h
-  turn_case w a told u said Works is idle same h = absurd h
-  turn_case w a told u said (Serves t i done) is idle same h =
+  turn_case {d = Free} is idle same h = absurd h
+  turn_case {d = Keeps m} is idle same h = kept m idle (sym is) (same ∙ ap Turned h.0) h.1
+  turn_case {d = Dumps d} is idle same h = dumped d idle (sym is) (same ∙ ap Turned h.0) h.1
+  turn_case {d = Posts p ms} is idle same h = absurd h
+  turn_case {d = Works} is idle same h = absurd h
+  turn_case {w} {a} {told} {u} {said} {d = Serves t i done} is idle same h =
       subst (λ (o : Option SinkTurn). Case w a told u (on_sink o i)) (sym h.next)
       (served t i done h.turn h.outputs said idle (sym is) h.next h.makes same h.after)
 
   step_case : (w : SystemView S) (a : ℕ) (told : Stepped) (u : SystemView S) (b : Bool) → is_idle (round_of w.desk.world a) ≡ b
       → MatchBool b (TurnTold tells files failures w a told u) (RoundSteps w a told u)
       → Case w a told u (cond b (turn_of w.roster (duty_of w a)) (InQueue (step_of w.desk a)))
-  step_case w a told u true idle h = turn_case w a told u h.0 (duty_of w a) refl idle h.1 h.2
+  step_case w a told u true idle h = turn_case {w = w} {a = a} {u = u} {d = duty_of w a} refl idle h.1 h.2
   step_case w a told u false busy h = queued busy h.0 h.1
 
   pub case_of : (w : SystemView S) (a : ℕ) (told : Stepped) (u : SystemView S) → SystemSteps tells files failures w a told u

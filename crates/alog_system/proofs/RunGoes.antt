@@ -209,11 +209,11 @@ pub record Goes {S : Type 0} (n : ℕ) (ls : List Logger) (calls : List (CallMad
 
 module _ {S : Type 0} (n : ℕ) (size : is_size n ≡ true) (ls : List Logger) (a : ℕ) (lt : a < ACTORS) where
   -- nothing is begun, and the actor is in no round
-  pub rests_goes : (calls : List (CallMade Item)) (steps : List (StepMade Item)) (u : SystemView S) (d : Duty)
-      (left more : List (Call Item)) (owed asks made : List Did) → Plays (fresh_desk n 0) calls steps u.desk
+  pub rests_goes : {calls : List (CallMade Item)} {steps : List (StepMade Item)} {u : SystemView S} {d : Duty}
+      {left more : List (Call Item)} {owed asks made : List Did} → Plays (fresh_desk n 0) calls steps u.desk
       → is_idle (round_of u.desk.world a) ≡ true → duty_of u a ≡ d → calls_left d ≡ [] → left ++ more ≡ [] → owed ++ asks ≡ made ++ turns_left ls d
       → Goes n ls calls steps a left more owed asks made u
-  rests_goes calls steps u d left more owed asks made plays idle is none no_calls even = record {
+  rests_goes {calls} {steps} {u} {d} {made} plays idle is none no_calls even = record {
     now = calls;
     plays = plays;
     new = [];
@@ -225,12 +225,12 @@ module _ {S : Type 0} (n : ℕ) (size : is_size n ≡ true) (ls : List Logger) (
   }
 
   -- a post begins
-  pub post_goes : (calls : List (CallMade Item)) (steps : List (StepMade Item)) (v : SystemView S) (p : Policy) (i : Item) (d : Duty)
-      (left more : List (Call Item)) (owed asks made : List Did) → Plays (fresh_desk n 0) calls steps v.desk
+  pub post_goes : {calls : List (CallMade Item)} {steps : List (StepMade Item)} (v : SystemView S) (p : Policy) (i : Item) (d : Duty)
+      {left more : List (Call Item)} {owed asks made : List Did} → Plays (fresh_desk n 0) calls steps v.desk
       → is_idle (round_of v.desk.world a) ≡ true → a < length v.duties → IsBeside d → left ++ more ≡ ToPost p i ∷ calls_left d
       → owed ++ asks ≡ made ++ turns_left ls d
       → Goes n ls calls steps a left more owed asks made (with_duty (with_desk v (post_began v.desk a p i)) a d)
-  post_goes calls steps v p i d left more owed asks made plays idle there beside calls_even even =
+  post_goes {calls} {steps} v p i d {made} plays idle there beside calls_even even =
       let u : SystemView S = with_duty (with_desk v (post_began v.desk a p i)) a d in
       let c : CallMade Item = called a (ToPost p i) in
       let more_plays : Plays (fresh_desk n 0) (calls ++ c ∷ []) steps u.desk = posts a p i plays lt idle in
@@ -278,14 +278,16 @@ module _ {S : Type 0} (n : ℕ) (size : is_size n ≡ true) (ls : List Logger) (
       }
 
   -- the next post of a dump begins, if one is left
-  pub posting_goes : (calls : List (CallMade Item)) (steps : List (StepMade Item)) (v : SystemView S) (p : Policy) (ms : List Message)
-      (left more : List (Call Item)) (owed asks made : List Did) → Plays (fresh_desk n 0) calls steps v.desk
+  pub posting_goes : {calls : List (CallMade Item)} {steps : List (StepMade Item)} (v : SystemView S) (p : Policy) (ms : List Message)
+      {left more : List (Call Item)} {owed asks made : List Did} → Plays (fresh_desk n 0) calls steps v.desk
       → is_idle (round_of v.desk.world a) ≡ true → a < length v.duties → left ++ more ≡ posts_of p ms → owed ++ asks ≡ made ++ []
       → Goes n ls calls steps a left more owed asks made (posting v a p ms)
-  posting_goes calls steps v p [] left more owed asks made plays idle there calls_even even =
-      rests_goes calls steps (with_duty v a Free) Free left more owed asks made plays idle (set_duty v a Free there) refl calls_even even
-  posting_goes calls steps v p (m ∷ ms) left more owed asks made plays idle there calls_even even =
-      post_goes calls steps v p (Text m) (Posts p ms) left more owed asks made plays idle there tt calls_even even
+  posting_goes {calls} {steps} v p [] {left} {more} {owed} {asks} {made} plays idle there calls_even even =
+      rests_goes {u = with_duty v a Free} {left = left} {more = more} {owed = owed} {asks = asks} {made = made} plays idle
+      (set_duty v a Free there) refl calls_even even
+  posting_goes {calls} {steps} v p (m ∷ ms) {left} {more} {owed} {asks} {made} plays idle there calls_even even =
+      post_goes v p (Text m) (Posts p ms) {left = left} {more = more} {owed = owed} {asks = asks} {made = made} plays idle there tt
+      calls_even even
 
   -- a step of a round: of a work's pop
   module _ (calls : List (CallMade Item)) (steps : List (StepMade Item)) (w : SystemView S) (plays : Plays (fresh_desk n 0) calls steps w.desk)
@@ -378,16 +380,17 @@ module _ {S : Type 0} (n : ℕ) (size : is_size n ≡ true) (ls : List Logger) (
     post_ends : (p : Post Item) (o : Outcome Item) (d : Duty) → post_of w.desk a ≡ Some p → (desk_told w.desk a).outcome ≡ Some o
         → duty_of w a ≡ d → IsBeside d → EndsAs d
     post_ends p o Free there_is out is beside =
-        rests_goes calls more_steps after Free [] [] [] (turns_by_step ls (InQueue (step_of w.desk a))) [] stepped_on (ended o out) is refl refl (no_turns p there_is)
+        rests_goes {u = after} {left = []} {more = []} {owed = []} {asks = turns_by_step ls (InQueue (step_of w.desk a))} {made = []}
+        stepped_on (ended o out) is refl refl (no_turns p there_is)
     post_ends p o (Keeps m) there_is out is beside =
-        rests_goes calls more_steps after (Keeps m) [] [] (Keeping m ∷ []) (turns_by_step ls (InQueue (step_of w.desk a))) [] stepped_on (ended o out) is refl refl
-        (ap (λ (xs : List Did). Keeping m ∷ xs) (no_turns p there_is))
+        rests_goes {u = after} {left = []} {more = []} {owed = Keeping m ∷ []} {asks = turns_by_step ls (InQueue (step_of w.desk a))}
+        {made = []} stepped_on (ended o out) is refl refl (ap (λ (xs : List Did). Keeping m ∷ xs) (no_turns p there_is))
     post_ends p o (Dumps d) there_is out is beside = absurd beside
     post_ends p o (Posts q ms) there_is out is beside =
         subst (λ (x : Option (Outcome Item)). Goes n ls calls more_steps a (posts_of q ms) [] [] (turns_by_step ls (InQueue (step_of w.desk a))) [] (posting_on after a q ms x))
         (sym out)
-        (posting_goes calls more_steps after q ms (posts_of q ms) [] [] (turns_by_step ls (InQueue (step_of w.desk a))) [] stepped_on (ended o out) there
-        (append-nil (posts_of q ms)) (no_turns p there_is))
+        (posting_goes after q ms {left = posts_of q ms} {more = []} {owed = []} {asks = turns_by_step ls (InQueue (step_of w.desk a))}
+        {made = []} stepped_on (ended o out) there (append-nil (posts_of q ms)) (no_turns p there_is))
     post_ends p o Works there_is out is beside = absurd beside
     post_ends p o (Serves t i done) there_is out is beside = absurd beside
 

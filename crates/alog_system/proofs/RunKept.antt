@@ -132,11 +132,12 @@ module _ {S : Type 0} where
   kept_messages ls run v h n = h.keeps n ∙ ap (λ k. last_of k (kept_since n [] (steps_in run))) (h.mosts n)
 
 module _ {S : Type 0} (tells : Bool) (files : S → Files) (failures : S → ℕ) where
-  keeps_case : (n : ℕ) (xs : List Message) (w u : SystemView S) (a : ℕ) (said : Stepped) (did : Did) → Case tells files failures w a said u did
+  keeps_case : (n : ℕ) (xs : List Message) {w u : SystemView S} {a : ℕ} {said : Stepped} {did : Did}
+      → Case tells files failures w a said u did
       → Keeps (kept_at w.roster n) xs → Keeps (kept_at u.roster n) (kept_by n xs did)
-  keeps_case n xs w u a said did (queued busy same after) h =
+  keeps_case n xs {w} {a} (queued busy same after) h =
       subst (λ (r : RosterView). Keeps (kept_at r n) xs) (sym (ap (λ (v : SystemView S). v.roster) after ∙ (after_round_same w a).roster)) h
-  keeps_case n xs w u a said did (kept m idle was same after) h =
+  keeps_case n xs {w} (kept m idle was same after) h =
       subst (λ (v : SystemView S). Keeps (kept_at v.roster n) (cond (m.logger == n) (xs ++ m ∷ []) xs)) (sym after)
       (on_test (λ b. Keeps (kept_at (keeping w.roster m) n) (cond b (xs ++ m ∷ []) xs)) m.logger n
       (λ mine.
@@ -145,7 +146,7 @@ module _ {S : Type 0} (tells : Bool) (files : S → Files) (failures : S → ℕ
       (keeps_more (kept_at w.roster m.logger) xs m (subst (λ k. Keeps (kept_at w.roster k) xs) (sym mine) h))))
       (λ other.
       subst (λ (r : Room). Keeps r xs) (sym (room_other w.roster m.logger n (kept_with (kept_at w.roster m.logger) m) (λ e. other (sym e)))) h))
-  keeps_case n xs w u a said did (dumped d idle was same after) h =
+  keeps_case n xs {w} {u} {a} (dumped d idle was same after) h =
       let after_is : u.roster ≡ emptied w.roster d.logger =
       ap (λ (v : SystemView S). v.roster) after
       ∙ (posting_same (with_roster w (emptied w.roster d.logger)) a (policy_at w.roster d.logger) (dumped_by w d)).roster in
@@ -156,7 +157,7 @@ module _ {S : Type 0} (tells : Bool) (files : S → Files) (failures : S → ℕ
       (room_set w.roster d.logger (empty_of (kept_at w.roster d.logger)) [] (sym (nothing_last (kept_at w.roster d.logger).most))))
       (λ other.
       subst (λ (r : Room). Keeps r xs) (sym (room_other w.roster d.logger n (empty_of (kept_at w.roster d.logger)) (λ e. other (sym e)))) h))
-  keeps_case n xs w u a said did (served t i done turn outputs x idle was next makes same after) h =
+  keeps_case n xs (served t i done turn outputs x idle was next makes same after) h =
       subst (λ (v : SystemView S). Keeps (kept_at v.roster n) xs) (sym after) h
 
   fresh_keeps : (loggers : List Logger) (n : ℕ) → Keeps (get_or (map room_of loggers) n (room 0)) []
@@ -192,9 +193,9 @@ module _ {S : Type 0} (tells : Bool) (files : S → Files) (failures : S → ℕ
   alike_case w u a said did (served t i done turn outputs x idle was next makes same after) =
       record { loggers = ap (λ (v : SystemView S). v.roster.loggers) after; levels = ap (λ (v : SystemView S). v.roster.levels) after }
 
-  is_kept_case : (ls : List Logger) (xs : List Act) (w u : SystemView S) (a : ℕ) (said : Stepped) (did : Did)
+  is_kept_case : {ls : List Logger} {xs : List Act} {w u : SystemView S} {a : ℕ} {said : Stepped} {did : Did}
       → Case tells files failures w a said u did → IsKept ls xs w → IsKept ls (xs ++ MakesStep (record { actor = a; did = did; told = said }) ∷ []) u
-  is_kept_case ls xs w u a said did case h =
+  is_kept_case {ls} {xs} {w} {u} {a} {said} {did} case h =
       let same = alike_case w u a said did case in
       let m : Made = record { actor = a; did = did; told = said } in
       record {
@@ -204,7 +205,7 @@ module _ {S : Type 0} (tells : Bool) (files : S → Files) (failures : S → ℕ
         keeps = λ n.
             subst (λ (ms : List Message). Keeps (kept_at u.roster n) ms)
             (sym (ap (kept_since n []) (steps_made xs m) ∙ since_last n [] m (steps_in xs)))
-            (keeps_case n (kept_since n [] (steps_in xs)) w u a said did case (h.keeps n));
+            (keeps_case n (kept_since n [] (steps_in xs)) case (h.keeps n));
       }
 
   -- so it is after each run
@@ -228,7 +229,7 @@ module _ {S : Type 0} (tells : Bool) (files : S → Files) (failures : S → ℕ
             (subst (λ (r : RosterView). Keeps (kept_at r n) (kept_since n [] (steps_in xs))) (sym is) (h.keeps n));
       }
   is_kept k limit loggers first run v (steps {run = xs} {w = w} {u = u} a said leads lt h) =
-      is_kept_case loggers xs w u a said (did_by w a) (case_of tells files failures w a said u h) (is_kept k limit loggers first xs w leads)
+      is_kept_case (case_of tells files failures w a said u h) (is_kept k limit loggers first xs w leads)
   is_kept k limit loggers first run v (sets {run = xs} {w = w} j level leads) =
       let h = is_kept k limit loggers first xs w leads in
       record {

@@ -203,16 +203,20 @@ module _ {S : Type 0} (n : ℕ) (size : is_size n ≡ true) (ls : List Logger) w
         → Opens (cond below [] (ToPost p (Text m) ∷ [])) (cond unkept [] (Keeping m ∷ []))
         (with_duty (posting_unless below w a m) a (cond unkept Free (Keeps m)))
     log_goes m p true true is =
-        rests_goes n size ls a lt h.calls (queue_steps (steps_in run)) (with_duty w a Free) Free [] [] [] [] [] h.plays idle (set_duty w a Free there) refl refl refl
+        rests_goes n size ls a lt {u = with_duty w a Free} {left = []} {more = []} {owed = []} {asks = []} {made = []}
+        h.plays idle (set_duty w a Free there) refl refl refl
     log_goes m p true false is =
-        rests_goes n size ls a lt h.calls (queue_steps (steps_in run)) (with_duty w a (Keeps m)) (Keeps m) [] [] [] (Keeping m ∷ []) [] h.plays idle
-        (set_duty w a (Keeps m) there) refl refl refl
+        rests_goes n size ls a lt {u = with_duty w a (Keeps m)} {left = []} {more = []} {owed = []} {asks = Keeping m ∷ []} {made = []}
+        h.plays idle (set_duty w a (Keeps m) there) refl refl refl
     log_goes m p false true is =
         subst (λ (q : Policy). Opens (ToPost q (Text m) ∷ []) [] (with_duty (posting_unless false w a m) a Free)) (sym is)
-        (post_goes n size ls a lt h.calls (queue_steps (steps_in run)) w (policy_at w.roster m.logger) (Text m) Free [] (ToPost (policy_at w.roster m.logger) (Text m) ∷ []) [] [] [] h.plays idle there tt refl refl)
+        (post_goes n size ls a lt w (policy_at w.roster m.logger) (Text m) Free {left = []}
+        {more = ToPost (policy_at w.roster m.logger) (Text m) ∷ []} {owed = []} {asks = []} {made = []} h.plays idle there tt refl refl)
     log_goes m p false false is =
         subst (λ (q : Policy). Opens (ToPost q (Text m) ∷ []) (Keeping m ∷ []) (with_duty (posting_unless false w a m) a (Keeps m))) (sym is)
-        (post_goes n size ls a lt h.calls (queue_steps (steps_in run)) w (policy_at w.roster m.logger) (Text m) (Keeps m) [] (ToPost (policy_at w.roster m.logger) (Text m) ∷ []) [] (Keeping m ∷ []) [] h.plays idle there tt refl refl)
+        (post_goes n size ls a lt w (policy_at w.roster m.logger) (Text m) (Keeps m) {left = []}
+        {more = ToPost (policy_at w.roster m.logger) (Text m) ∷ []} {owed = []} {asks = Keeping m ∷ []} {made = []} h.plays idle there tt
+        refl refl)
 
     policy_is : (k : ℕ) → policy ls k ≡ policy_at w.roster k
     policy_is k = ap (λ (l : List Logger). policy_in (spec_at l k)) (sym kept_so.loggers)
@@ -233,10 +237,12 @@ module _ {S : Type 0} (n : ℕ) (size : is_size n ≡ true) (ls : List Logger) w
         (log_goes m (policy ls k) (is_below level (level_at w.roster k)) (backtrace_at w.roster k == 0) (policy_is k)))
     deed_goes (deed.Flush k) =
         subst (λ (q : Policy). Opens (ToPost q (Flush k) ∷ []) [] (begun w a (deed.Flush k))) (sym (policy_is k))
-        (post_goes n size ls a lt h.calls (queue_steps (steps_in run)) w (policy_at w.roster k) (Flush k) Free [] (ToPost (policy_at w.roster k) (Flush k) ∷ []) [] [] [] h.plays idle there tt refl refl)
+        (post_goes n size ls a lt w (policy_at w.roster k) (Flush k) Free {left = []} {more = ToPost (policy_at w.roster k) (Flush k) ∷ []}
+        {owed = []} {asks = []} {made = []} h.plays idle there tt refl refl)
     deed_goes (deed.Dump time k) =
         let d : Duty = Dumps (record { logger = k; time = time; thread = a; most = backtrace_at w.roster k }) in
-        rests_goes n size ls a lt h.calls (queue_steps (steps_in run)) (with_duty w a d) d [] [] [] (Emptying k time a ∷ []) [] h.plays idle (set_duty w a d there) refl refl refl
+        rests_goes n size ls a lt {u = with_duty w a d} {left = []} {more = []} {owed = []} {asks = Emptying k time a ∷ []} {made = []}
+        h.plays idle (set_duty w a d there) refl refl refl
     deed_goes deed.Work = pop_begins n size ls a lt h.calls (queue_steps (steps_in run)) w h.plays idle there in_rounds
 
   known_begun : (run : List Act) (w : SystemView S) (a : ℕ) (d : Deed) → Known run w → IsKept ls run w → MayBegin w a d
@@ -272,8 +278,8 @@ module _ {S : Type 0} (n : ℕ) (size : is_size n ≡ true) (ls : List Logger) w
           subst (λ (d : Duty). Leaves (Keeping m) (queue_steps (steps_in run) ++ []) d) (sym was)
           (subst (λ (ss : List (StepMade Item)). Leaves (Keeping m) ss (Keeps m)) (sym (append-nil (queue_steps (steps_in run))))
           (subst (λ (x : SystemView S). Goes n ls h.calls (queue_steps (steps_in run)) a [] [] (Keeping m ∷ []) [] (Keeping m ∷ []) x) (sym after)
-          (rests_goes n size ls a lt h.calls (queue_steps (steps_in run)) (with_duty v a Free) Free [] [] (Keeping m ∷ []) [] (Keeping m ∷ []) h.plays idle
-          (set_duty v a Free (let all = h.many in omega (arith, all, lt))) refl refl refl)))
+          (rests_goes n size ls a lt {u = with_duty v a Free} {left = []} {more = []} {owed = Keeping m ∷ []} {asks = []}
+          {made = Keeping m ∷ []} h.plays idle (set_duty v a Free (let all = h.many in omega (arith, all, lt))) refl refl refl)))
       step_goes said did (dumped d idle was same after) =
           let v : SystemView S = with_roster w (emptied w.roster d.logger) in
           let k = d.logger in
@@ -284,8 +290,8 @@ module _ {S : Type 0} (n : ℕ) (size : is_size n ≡ true) (ls : List Logger) w
           subst (λ (e : Duty). Leaves x (queue_steps (steps_in run) ++ []) e) (sym was)
           (subst (λ (ss : List (StepMade Item)). Leaves x ss (Dumps d)) (sym (append-nil (queue_steps (steps_in run))))
           (subst (λ (y : SystemView S). Goes n ls h.calls (queue_steps (steps_in run)) a [] (calls_by_step ls run x) (x ∷ []) [] (x ∷ []) y) (sym after)
-          (posting_goes n size ls a lt h.calls (queue_steps (steps_in run)) v (policy_at w.roster k) (dumped_by w d) [] (calls_by_step ls run x) (x ∷ []) [] (x ∷ []) h.plays idle
-          (let all = h.many in omega (arith, all, lt)) asked refl)))
+          (posting_goes n size ls a lt v (policy_at w.roster k) (dumped_by w d) {left = []} {more = calls_by_step ls run x} {owed = x ∷ []}
+          {asks = []} {made = x ∷ []} h.plays idle (let all = h.many in omega (arith, all, lt)) asked refl)))
       step_goes said did (served t i done turn outputs told idle was next makes same after) =
           let x : Did = OnSink turn i in
           let all : List SinkTurn = turns_by (spec_at ls (logger_of i)) t i in
@@ -298,15 +304,15 @@ module _ {S : Type 0} (n : ℕ) (size : is_size n ≡ true) (ls : List Logger) w
           subst (λ (e : Duty). Leaves x (queue_steps (steps_in run) ++ []) e) (sym was)
           (subst (λ (ss : List (StepMade Item)). Leaves x ss (Serves t i done)) (sym (append-nil (queue_steps (steps_in run))))
           (subst (λ (y : SystemView S). Goes n ls h.calls (queue_steps (steps_in run)) a [] [] (on_sinks i (drop done all)) [] (x ∷ []) y) (sym after)
-          (rests_goes n size ls a lt h.calls (queue_steps (steps_in run)) (with_duty v a d) d [] [] (on_sinks i (drop done all)) [] (x ∷ []) h.plays idle
-          (set_duty v a d (let many = h.many in omega (arith, many, lt))) refl refl even)))
+          (rests_goes n size ls a lt {u = with_duty v a d} {left = []} {more = []} {owed = on_sinks i (drop done all)} {asks = []}
+          {made = x ∷ []} h.plays idle (set_duty v a d (let many = h.many in omega (arith, many, lt))) refl refl even)))
 
-    known_step : (run : List Act) (w u : SystemView S) (a : ℕ) (said : Stepped) (did : Did) → Known run w → IsKept ls run w → a < ACTORS
+    known_step : {run : List Act} {w u : SystemView S} {a : ℕ} {said : Stepped} {did : Did} → Known run w → IsKept ls run w → a < ACTORS
         → Case tells files failures w a said u did → Known (run ++ MakesStep (record { actor = a; did = did; told = said }) ∷ []) u
-    known_step run w u a said did h kept_so lt case =
+    known_step {run} {w} {u} {a} {said} {did} h kept_so lt case =
         let m : Made = record { actor = a; did = did; told = said } in
         known_after run w u h (MakesStep m) a lt (calls_by_step ls run did) (turns_by_step ls did) (beside did) (step_brings ls run m)
-        (mine_case tells files failures w u a said did case) (queue_steps (steps_in run) ++ in_queue did) (step_goes run w u h kept_so a lt said did case)
+        (mine_case case) (queue_steps (steps_in run) ++ in_queue did) (step_goes run w u h kept_so a lt said did case)
         (ap queue_steps (steps_made run m) ∙ queue_last m (steps_in run))
 
     known_start : (limit : ℕ) (first : List (Sink S)) → Known [] (fresh_system n limit ls first)
@@ -330,7 +336,7 @@ module _ {S : Type 0} (n : ℕ) (size : is_size n ≡ true) (ls : List Logger) w
     known limit first run v (begins {run = xs} {w = w} a d leads may) =
         known_begun xs w a d (known limit first xs w leads) (is_kept tells files failures n limit ls first xs w leads) may
     known limit first run v (steps {run = xs} {w = w} {u = u} a said leads lt h) =
-        known_step xs w u a said (did_by w a) (known limit first xs w leads) (is_kept tells files failures n limit ls first xs w leads) lt
+        known_step (known limit first xs w leads) (is_kept tells files failures n limit ls first xs w leads) lt
         (case_of tells files failures w a said u h)
     known limit first run v (sets {run = xs} {w = w} k level leads) =
         let h = known limit first xs w leads in

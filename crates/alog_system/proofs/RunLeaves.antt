@@ -113,16 +113,17 @@ module _ {S : Type 0} (tells : Bool) (files : S → Files) (failures : S → ℕ
   stays_has s l none fine (inr b) = inr (still_broken s l l b refl)
 
   -- a text that is given to it
-  pub takes_has : (s : Stood) (m : Message) (o n : LeafView S) (a : Answer) → handed sink (given_in k x.did) ≡ m ∷ [] → (IsFailed a → IsFaultOn k x.told)
+  pub takes_has : {s : Stood} {m : Message} {o n : LeafView S} {a : Answer} → handed sink (given_in k x.did) ≡ m ∷ [] →
+      (IsFailed a → IsFaultOn k x.told)
       → ((IsFailed a → ⊥) → MeetsNone sink k made → MeetsNone sink k more) → Takes tells files failures o m a n → Has made s o → Has more s n
-  takes_has s m o n (Ok t) given fault fine takes (inl h) =
+  takes_has {s} {n} {a = Ok t} given fault fine takes (inl h) =
       inl (record {
         stands = subst (λ (ms : List Message). StandsFor files n s.0 ms)
             (sym (stood_more s ∙ ap (λ (ms : List Message). (s.1 ++ handed sink (given_to k made)) ++ ms) given))
             (takes.stands told s.0 (s.1 ++ handed sink (given_to k made)) h.stands);
         fine = fine (λ f. f) h.fine;
       })
-  takes_has s m o n (Err errors.Store) given fault fine takes (inl h) =
+  takes_has {o} {n} {a = Err errors.Store} given fault fine takes (inl h) =
       let b = takes.breaks told refl in
       inr (record {
         before = made;
@@ -136,17 +137,18 @@ module _ {S : Type 0} (tells : Bool) (files : S → Files) (failures : S → ℕ
         front = subst (λ (ms : List Message). HasFront files o ms (files n.store)) (sym given) (b.0, b.1, b.2);
         broken = takes.failed refl;
       })
-  takes_has s m o n (Err errors.Broken) given fault fine takes (inl h) = absurd (not_both o.broken (takes.broken.0 refl).1 h.stands.whole)
-  takes_has s m o n a given fault fine takes (inr b) = inr (still_broken s o n b (same (admits o.face.level m.level) refl))
+  takes_has {o} {a = Err errors.Broken} given fault fine takes (inl h) = absurd (not_both o.broken (takes.broken.0 refl).1 h.stands.whole)
+  takes_has {s} {m} {o} {n} given fault fine takes (inr b) = inr (still_broken s o n b (same (admits o.face.level m.level) refl))
     where
       same : (v : Bool) → admits o.face.level m.level ≡ v → n ≡ o
       same true e = takes.nothing (inr (takes.broken.1 (e, b.broken)))
       same false e = takes.nothing (inl (takes.below.1 e))
 
   -- a flush
-  pub flushes_has : (s : Stood) (o n : LeafView S) (a : Result Unit SinkError) → handed sink (given_in k x.did) ≡ [] → (IsFailed a → IsFaultOn k x.told)
+  pub flushes_has : {s : Stood} {o n : LeafView S} {a : Result Unit SinkError} → handed sink (given_in k x.did) ≡ [] →
+      (IsFailed a → IsFaultOn k x.told)
       → ((IsFailed a → ⊥) → MeetsNone sink k made → MeetsNone sink k more) → Flushes tells files failures o a n → Has made s o → Has more s n
-  flushes_has s o n (Ok u) none fault fine does (inl h) =
+  flushes_has {s} {n} {a = Ok u} none fault fine does (inl h) =
       inl (record {
         stands = subst (λ (ms : List Message). StandsFor files n s.0 ms)
             (sym (stood_more s
@@ -154,7 +156,7 @@ module _ {S : Type 0} (tells : Bool) (files : S → Files) (failures : S → ℕ
             (does.stands told s.0 (s.1 ++ handed sink (given_to k made)) h.stands);
         fine = fine (λ f. f) h.fine;
       })
-  flushes_has s o n (Err errors.Store) none fault fine does (inl h) =
+  flushes_has {o} {n} {a = Err errors.Store} none fault fine does (inl h) =
       inr (record {
         before = made;
         turn = x;
@@ -167,8 +169,8 @@ module _ {S : Type 0} (tells : Bool) (files : S → Files) (failures : S → ℕ
         front = subst (λ (ms : List Message). HasFront files o ms (files n.store)) (sym none) (does.same told);
         broken = does.failed refl;
       })
-  flushes_has s o n (Err errors.Broken) none fault fine does (inl h) = absurd (not_both o.broken (does.broken.0 refl) h.stands.whole)
-  flushes_has s o n a none fault fine does (inr b) = inr (still_broken s o n b (does.nothing (does.broken.1 b.broken)))
+  flushes_has {o} {a = Err errors.Broken} none fault fine does (inl h) = absurd (not_both o.broken (does.broken.0 refl) h.stands.whole)
+  flushes_has {s} {o} {n} none fault fine does (inr b) = inr (still_broken s o n b (does.nothing (does.broken.1 b.broken)))
 
   abbrev pub Each : List Made → List Stood → List (LeafView S) → Type 0
   Each ms stood ls = EachStands files sink k ms stood ls

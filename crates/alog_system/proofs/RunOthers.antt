@@ -133,18 +133,18 @@ module _ {S : Type 0} where
       let w : SystemView S = with_desk v (call_began v.desk a round.Pop) in
       mine_then a (with_duty w a Works) w v (mine_duty a w Works) (mine_pop a v)
 
-  pub mine_case : (tells : Bool) (files : S → Files) (failures : S → ℕ) (w u : SystemView S) (a : ℕ) (said : Stepped) (did : Did)
+  pub mine_case : {tells : Bool} {files : S → Files} {failures : S → ℕ} {w u : SystemView S} {a : ℕ} {said : Stepped} {did : Did}
       → Case tells files failures w a said u did → IsMine a u w
-  mine_case tells files failures w u a said did (queued busy same after) =
+  mine_case {w} {a} (queued busy same after) =
       let v : SystemView S = with_desk w (desk_stepped w.desk a) in
       subst (λ (x : SystemView S). IsMine a x w) (sym after)
       (mine_then a (after_round w a) v w (mine_follows a v (duty_of w a) (desk_told w.desk a)) (mine_step a w))
-  mine_case tells files failures w u a said did (kept m idle was same after) =
+  mine_case {w} {a} (kept m idle was same after) =
       let h = mine_duty a (with_roster w (keeping w.roster m)) Free in
       subst (λ (x : SystemView S). IsMine a x w) (sym after) (record { many = h.many; duties = h.duties; posts = h.posts; rounds = h.rounds })
-  mine_case tells files failures w u a said did (dumped d idle was same after) =
+  mine_case {w} {a} (dumped d idle was same after) =
       let h = mine_posting a (with_roster w (emptied w.roster d.logger)) (policy_at w.roster d.logger) (dumped_by w d) in
       subst (λ (x : SystemView S). IsMine a x w) (sym after) (record { many = h.many; duties = h.duties; posts = h.posts; rounds = h.rounds })
-  mine_case tells files failures w u a said did (served t i done turn outputs x idle was next makes same after) =
+  mine_case {w} {a} (served t i done turn outputs x idle was next makes same after) =
       let h = mine_duty a w (Serves t i (done + 1)) in
       subst (λ (x : SystemView S). IsMine a x w) (sym after) (record { many = h.many; duties = h.duties; posts = h.posts; rounds = h.rounds })

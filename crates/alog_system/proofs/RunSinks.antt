@@ -70,14 +70,22 @@ is_alike (Fan f) = refl
 
 module _ {S : Type 0} (tells : Bool) (files : S → Files) (failures : S → ℕ) (told : tells ≡ true) where
   -- a sink after a text that it was given, and after a flush
-  text_has : (sink o n : Sink S) (k : ℕ) (made : List Made) (x : Made) (m : Message) (a : Answer) (stood : List Stood) → given_in k x.did ≡ m ∷ []
+  text_has : (sink o n : Sink S) (k : ℕ) (made : List Made) (x : Made) {m : Message} (a : Answer) (stood : List Stood)
+      → given_in k x.did ≡ m ∷ []
       → (IsFailed a → IsFaultOn k x.told) → ((IsFailed a → ⊥) → IsFaultOn k x.told → ⊥) → SinkTakes tells files failures o m a n → IsAlike sink o
       → EachStands files sink k made stood (leaves o) → IsAlike sink n × EachStands files sink k (made ++ x ∷ []) stood (leaves n)
-  text_has (Leaf l) (Leaf o) (Leaf n) k made x m a (s ∷ []) given fault fine takes alike all =
-      (tt, (takes_has tells files failures told (Leaf l) k made x s m o n a given fault (λ served h. fine_more k made x h (fine served)) takes all.0, tt))
-  text_has (Leaf l) (Leaf o) (Leaf n) k made x m a [] given fault fine takes alike all = absurd all
-  text_has (Leaf l) (Leaf o) (Leaf n) k made x m a (s ∷ r ∷ stood) given fault fine takes alike all = absurd all.1
-  text_has (Fan f) (Fan o) (Fan n) k made x m a stood given fault fine takes alike all = (takes.level ∙ alike, at (admits o.level m.level) refl)
+  text_has (Leaf l) (Leaf o) (Leaf n) k made x {m} a (s ∷ []) given fault fine takes alike all = (
+    tt,
+    (
+      takes_has tells files failures told (Leaf l) k made x given fault
+          (λ served h. fine_more k made x h (fine served)) takes all.0,
+      tt,
+    ),
+  )
+  text_has (Leaf l) (Leaf o) (Leaf n) k made x a [] given fault fine takes alike all = absurd all
+  text_has (Leaf l) (Leaf o) (Leaf n) k made x a (s ∷ r ∷ stood) given fault fine takes alike all = absurd all.1
+  text_has (Fan f) (Fan o) (Fan n) k made x {m} a stood given fault fine takes alike all =
+      (takes.level ∙ alike, at (admits o.level m.level) refl)
     where
       level : Level → Bool
       level l = admits l m.level
@@ -91,28 +99,35 @@ module _ {S : Type 0} (tells : Bool) (files : S → Files) (failures : S → ℕ
       at true e =
           let h = takes.given e in
           each_has tells files failures told (Fan f) k made x (λ p c q. Takes tells files failures p m c q)
-          (λ s p q c failed does has. takes_has tells files failures told (Fan f) k made x s m p q c (given_is true e) failed (λ served none. tt) does has)
+          (λ s p q c failed does has. takes_has tells files failures told (Fan f) k made x (given_is true e) failed (λ served none. tt)
+          does has)
           o.members h.0 n.members stood h.1 (λ failed. fault (subst IsFailed (sym h.2) (failed_first Written h.0 failed))) all
       at false e =
           subst (λ (g : FanView S). EachStands files (Fan f) k (made ++ x ∷ []) stood g.members) (sym (takes.below e).1)
           (each_stays tells files failures told (Fan f) k made x stood o.members (given_is false e) (λ none. tt) all)
-  text_has (Leaf l) (Leaf o) (Fan n) k made x m a stood given fault fine takes alike all = absurd takes
-  text_has (Leaf l) (Fan o) n k made x m a stood given fault fine takes alike all = absurd alike
-  text_has (Fan f) (Fan o) (Leaf n) k made x m a stood given fault fine takes alike all = absurd takes
-  text_has (Fan f) (Leaf o) n k made x m a stood given fault fine takes alike all = absurd alike
+  text_has (Leaf l) (Leaf o) (Fan n) k made x a stood given fault fine takes alike all = absurd takes
+  text_has (Leaf l) (Fan o) n k made x a stood given fault fine takes alike all = absurd alike
+  text_has (Fan f) (Fan o) (Leaf n) k made x a stood given fault fine takes alike all = absurd takes
+  text_has (Fan f) (Leaf o) n k made x a stood given fault fine takes alike all = absurd alike
 
   flush_has : (sink o n : Sink S) (k : ℕ) (made : List Made) (x : Made) (a : Result Unit SinkError) (stood : List Stood) → given_in k x.did ≡ []
       → (IsFailed a → IsFaultOn k x.told) → ((IsFailed a → ⊥) → IsFaultOn k x.told → ⊥) → SinkFlushes tells files failures o a n → IsAlike sink o
       → EachStands files sink k made stood (leaves o) → IsAlike sink n × EachStands files sink k (made ++ x ∷ []) stood (leaves n)
-  flush_has (Leaf l) (Leaf o) (Leaf n) k made x a (s ∷ []) given fault fine does alike all =
-      (tt, (flushes_has tells files failures told (Leaf l) k made x s o n a given fault (λ served h. fine_more k made x h (fine served)) does all.0, tt))
+  flush_has (Leaf l) (Leaf o) (Leaf n) k made x a (s ∷ []) given fault fine does alike all = (
+    tt,
+    (
+      flushes_has tells files failures told (Leaf l) k made x given fault
+          (λ served h. fine_more k made x h (fine served)) does all.0,
+      tt,
+    ),
+  )
   flush_has (Leaf l) (Leaf o) (Leaf n) k made x a [] given fault fine does alike all = absurd all
   flush_has (Leaf l) (Leaf o) (Leaf n) k made x a (s ∷ r ∷ stood) given fault fine does alike all = absurd all.1
   flush_has (Fan f) (Fan o) (Fan n) k made x a stood given fault fine does alike all =
       let none : handed (Fan f) (given_in k x.did) ≡ [] = ap (λ (ms : List Message). admitted f.level ms) given in (
         does.level ∙ alike,
         each_has tells files failures told (Fan f) k made x (Flushes tells files failures)
-            (λ s p q c failed flushes has. flushes_has tells files failures told (Fan f) k made x s p q c none failed (λ served h. tt) flushes has)
+            (λ s p q c failed flushes has. flushes_has tells files failures told (Fan f) k made x none failed (λ served h. tt) flushes has)
             o.members does.answers n.members stood does.given (λ failed. fault (subst IsFailed (sym does.first) (failed_first tt does.answers failed))) all,
       )
   flush_has (Leaf l) (Leaf o) (Fan n) k made x a stood given fault fine does alike all = absurd does
@@ -145,7 +160,7 @@ module _ {S : Type 0} (tells : Bool) (files : S → Files) (failures : S → ℕ
         → said ≡ told_of_text t answer → Turned
     text_turned m answer given takes same =
         let h = text_fault t answer in
-        text_has sink o n t.sink made (turn_made a t i said) m answer stood given
+        text_has sink o n t.sink made (turn_made a t i said) answer stood given
         (λ failed. subst (λ (y : Turn). IsFaultOn t.sink (stepped.Turned y)) (sym same) (h.0 failed))
         (λ served fault. h.1 served (subst (λ (y : Turn). IsFaultOn t.sink (stepped.Turned y)) same fault)) takes alike all
 
@@ -182,10 +197,10 @@ module _ {S : Type 0} (tells : Bool) (files : S → Files) (failures : S → ℕ
   fine_sink (Leaf l) k made x fine h = fine_more k made x h fine
   fine_sink (Fan f) k made x fine h = tt
 
-  stays_else : (k : ℕ) (made : List Made) (x : Made) (now after : List (Sink S)) (old : Sink S) (stood : List Stood)
+  stays_else : {k : ℕ} {made : List Made} (x : Made) {now after : List (Sink S)} {old : Sink S} {stood : List Stood}
       → slice_get after k ≡ slice_get now k → given_in k x.did ≡ [] → (IsFaultOn k x.told → ⊥) → Stays k made now old stood
       → Stays k (made ++ x ∷ []) after old stood
-  stays_else k made x now after old stood same given fine h = record {
+  stays_else {k} {made} x {old} {stood} same given fine h = record {
     new = h.new;
     there = same ∙ h.there;
     alike = h.alike;
@@ -194,9 +209,10 @@ module _ {S : Type 0} (tells : Bool) (files : S → Files) (failures : S → ℕ
   }
 
   -- a turn on it
-  stays_turned : (made : List Made) (a : ℕ) (t : SinkTurn) (i : Item) (said : Turn) (w next : OutputsView S) (old : Sink S) (stood : List Stood)
+  stays_turned : {made : List Made} (a : ℕ) {t : SinkTurn} {i : Item} {said : Turn} {w next : OutputsView S} {old : Sink S}
+      {stood : List Stood}
       → Turns tells files failures w t i said next → Stays t.sink made w.sinks old stood → Stays t.sink (made ++ turn_made a t i said ∷ []) next.sinks old stood
-  stays_turned made a t i said w next old stood turn h =
+  stays_turned {made} a {t} {i} {said} {w} {old} {stood} turn h =
       let found : turn.before ≡ h.new = some_same turn.before h.new (slice_get w.sinks t.sink) turn.there h.there in
       let given : given_in t.sink (OnSink t i) ≡ text_in t.deed i =
       on_test (λ b. cond b (text_in t.deed i) [] ≡ text_in t.deed i) t.sink t.sink (λ _. refl) (λ other. absurd (other refl)) in
@@ -219,15 +235,15 @@ module _ {S : Type 0} (tells : Bool) (files : S → Files) (failures : S → ℕ
   flush_other t (Ok u) k other f = f
   flush_other t (Err e) k other f = other f
 
-  other_fault : (t : SinkTurn) (d : SinkDeed) (i : Item) (o n : Sink S) (said : Turn) (k : ℕ) → DoesTurn tells files failures t d i o said n
+  other_fault : (t : SinkTurn) (d : SinkDeed) (i : Item) (o n : Sink S) (said : Turn) {k : ℕ} → DoesTurn tells files failures t d i o said n
       → (t.sink ≡ k → ⊥) → IsFaultOn k (stepped.Turned said) → ⊥
-  other_fault t sink_deed.Take (item.Text m) o n said k does other fault =
+  other_fault t sink_deed.Take (item.Text m) o n said {k} does other fault =
       text_other t does.0 k other (subst (λ (y : Turn). IsFaultOn k (stepped.Turned y)) does.2 fault)
-  other_fault t sink_deed.Take (item.Flush j) o n said k does other fault =
+  other_fault t sink_deed.Take (item.Flush j) o n said {k} does other fault =
       flush_other t does.0 k other (subst (λ (y : Turn). IsFaultOn k (stepped.Turned y)) does.2 fault)
-  other_fault t sink_deed.Take item.Stop o n said k does other fault =
+  other_fault t sink_deed.Take item.Stop o n said {k} does other fault =
       flush_other t does.0 k other (subst (λ (y : Turn). IsFaultOn k (stepped.Turned y)) does.2 fault)
-  other_fault t sink_deed.Flush i o n said k does other fault =
+  other_fault t sink_deed.Flush i o n said {k} does other fault =
       flush_other t does.0 k other (subst (λ (y : Turn). IsFaultOn k (stepped.Turned y)) does.2 fault)
 
   -- nor is a step of the queue
@@ -252,34 +268,35 @@ module _ {S : Type 0} (tells : Bool) (files : S → Files) (failures : S → ℕ
   round_fine k Works s f = work_fine k s s.said f
   round_fine k (Serves t i done) s f = f
 
-  stays_case : (k : ℕ) (made : List Made) (w u : SystemView S) (a : ℕ) (x : Stepped) (did : Did) (old : Sink S) (stood : List Stood)
+  stays_case : {k : ℕ} {made : List Made} {w u : SystemView S} {a : ℕ} {x : Stepped} {did : Did} {old : Sink S} {stood : List Stood}
       → Case tells files failures w a x u did → Stays k made w.outputs.sinks old stood
       → Stays k (made ++ record { actor = a; did = did; told = x } ∷ []) u.outputs.sinks old stood
-  stays_case k made w u a x did old stood (queued busy same after) h =
-      stays_else k made (record { actor = a; did = did; told = x }) w.outputs.sinks u.outputs.sinks old stood
-      (ap (λ (v : SystemView S). slice_get v.outputs.sinks k) after ∙ ap (λ (o : OutputsView S). slice_get o.sinks k) (after_round_same w a).outputs) refl
-      (λ f. round_fine k (duty_of w a) (desk_told w.desk a) (subst (λ (y : Stepped). IsFaultOn k y) same f)) h
-  stays_case k made w u a x did old stood (kept m idle was same after) h =
-      stays_else k made (record { actor = a; did = did; told = x }) w.outputs.sinks u.outputs.sinks old stood
+  stays_case {k} {made} {w} {u} {a} {x} {did} {old} {stood} (queued busy same after) h =
+      stays_else (record { actor = a; did = did; told = x }) {after = u.outputs.sinks}
+      (ap (λ (v : SystemView S). slice_get v.outputs.sinks k) after ∙ ap (λ (o : OutputsView S). slice_get o.sinks k)
+      (after_round_same w a).outputs)
+      refl (λ f. round_fine k (duty_of w a) (desk_told w.desk a) (subst (λ (y : Stepped). IsFaultOn k y) same f)) h
+  stays_case {k} {made} {w} {u} {a} {x} {did} {old} {stood} (kept m idle was same after) h =
+      stays_else (record { actor = a; did = did; told = x }) {after = u.outputs.sinks}
       (ap (λ (v : SystemView S). slice_get v.outputs.sinks k) after) refl (λ f. subst (λ (y : Stepped). IsFaultOn k y) same f) h
-  stays_case k made w u a x did old stood (dumped d idle was same after) h =
-      stays_else k made (record { actor = a; did = did; told = x }) w.outputs.sinks u.outputs.sinks old stood
+  stays_case {k} {made} {w} {u} {a} {x} {did} {old} {stood} (dumped d idle was same after) h =
+      stays_else (record { actor = a; did = did; told = x }) {after = u.outputs.sinks}
       (ap (λ (v : SystemView S). slice_get v.outputs.sinks k) after
       ∙ ap (λ (o : OutputsView S). slice_get o.sinks k)
       (posting_same (with_roster w (emptied w.roster d.logger)) a (policy_at w.roster d.logger) (dumped_by w d)).outputs) refl
       (λ f. subst (λ (y : Stepped). IsFaultOn k y) same f) h
-  stays_case k made w u a x did old stood (served t i done turn outputs said idle was next makes same after) h =
+  stays_case {k} {made} {w} {a} {x} {did} {old} {stood} (served t i done turn outputs said idle was next makes same after) h =
       subst (λ (v : SystemView S). Stays k (made ++ record { actor = a; did = did; told = x } ∷ []) v.outputs.sinks old stood) (sym after)
       (subst (λ (y : Stepped). Stays k (made ++ record { actor = a; did = OnSink turn i; told = y } ∷ []) outputs.sinks old stood) (sym same)
       (on_test (λ _. Stays k (made ++ turn_made a turn i said ∷ []) outputs.sinks old stood) turn.sink k
       (λ mine.
       subst (λ j. Stays j (made ++ turn_made a turn i said ∷ []) outputs.sinks old stood) mine
-      (stays_turned made a turn i said w.outputs outputs old stood makes (subst (λ j. Stays j made w.outputs.sinks old stood) (sym mine) h)))
+      (stays_turned a makes (subst (λ j. Stays j made w.outputs.sinks old stood) (sym mine) h)))
       (λ other.
-      stays_else k made (turn_made a turn i said) w.outputs.sinks outputs.sinks old stood
+      stays_else (turn_made a turn i said) {after = outputs.sinks}
       (ap (λ (o : OutputsView S). slice_get o.sinks k) makes.others ∙ get_set_other w.outputs.sinks turn.sink k makes.after other)
       (if_other turn.sink k (text_in turn.deed i) (λ e. other (sym e)))
-      (other_fault turn turn.deed i makes.before makes.after said k makes.turn other) h)))
+      (other_fault turn turn.deed i makes.before makes.after said makes.turn other) h)))
 
   each_start : (k : ℕ) (old : Sink S) (stood : List Stood) (ls : List (LeafView S)) → AllStand files ls stood → EachStands files old k [] stood ls
   each_start k old [] [] all = tt
@@ -307,7 +324,7 @@ module _ {S : Type 0} (tells : Bool) (files : S → Files) (failures : S → ℕ
         (subst (λ (o : OutputsView S). Stays k (steps_in xs) o.sinks old stood) (sym (begun_outputs w a d)) (stays xs w leads))
     stays run v (steps {run = xs} {w = w} {u = u} a x leads lt h) =
         subst (λ (made : List Made). Stays k made u.outputs.sinks old stood) (sym (steps_made xs (made_by w a x)))
-        (stays_case k (steps_in xs) w u a x (did_by w a) old stood (case_of tells files failures w a x u h) (stays xs w leads))
+        (stays_case (case_of tells files failures w a x u h) (stays xs w leads))
     stays run v (sets {run = xs} {w = w} j level leads) =
         subst (λ (made : List Made). Stays k made w.outputs.sinks old stood) (sym (steps_set xs j level)) (stays xs w leads)
 

@@ -49,9 +49,9 @@ module _ {S : Type 0} where
   RoundBy v a duty s told new =
       (told ≡ told_in_round duty s) × (new ≡ follows (with_desk v (desk_stepped v.desk a)) a duty s)
 
-  round_by : (v mid taken : SystemView S) (a : ℕ) (s : DeskStepped Item) (duty : Duty) (told : Stepped) (new : SystemView S)
+  round_by : {v mid taken : SystemView S} {a : ℕ} {s : DeskStepped Item} {duty : Duty} {told : Stepped} {new : SystemView S}
       → Moved v mid taken a s duty → RoundBy v a duty s told new → RoundSteps v a told new
-  round_by v mid taken a s duty told new m h =
+  round_by {v} {a} {duty} {told} {new} m h =
       let was : duty ≡ duty_of v a = m.was ∙ ap (λ (w : SystemView S). duty_of w a) m.moved in
       subst (λ (d : Duty). RoundBy v a d (desk_told v.desk a) told new) was (subst (λ (t : DeskStepped Item). RoundBy v a duty t told new) m.told h)
 
@@ -64,7 +64,7 @@ module _ {S : Type 0} where
       → told ≡ told_of_work s s.said → d ≡ work_after s.said → new ≡ with_duty taken a d → RoundSteps v a told new
   works_round {v} {mid} {taken} {new} {a} {s} {told} {d} m t e n =
       let moved = with_desk v (desk_stepped v.desk a) in
-      round_by v mid taken a s Works told new m
+      round_by {told = told} {new = new} m
       (t, n ∙ (ap (λ (w : SystemView S). with_duty w a d) (freed v mid taken a s Works m) ∙ (twice moved a Free d ∙ ap (with_duty moved a) e)))
 
   stays : (v : SystemView S) (a : ℕ) (s : DeskStepped Item) (duty : Duty) → (duty ≡ Works → ⊥)
@@ -77,9 +77,10 @@ module _ {S : Type 0} where
   stays v a s Works n k = absurd (n refl)
   stays v a s (Serves t i done) n k = (refl, refl)
 
-  back : (v mid taken new : SystemView S) (a : ℕ) (s : DeskStepped Item) (duty : Duty) → Moved v mid taken a s duty → new ≡ with_duty taken a duty
+  back : {v mid taken new : SystemView S} {a : ℕ} {s : DeskStepped Item} {duty : Duty} → Moved v mid taken a s duty
+      → new ≡ with_duty taken a duty
       → new ≡ with_desk v (desk_stepped v.desk a)
-  back v mid taken new a s duty m n =
+  back {v} {mid} {taken} {a} {s} {duty} m n =
       let moved = with_desk v (desk_stepped v.desk a) in
       n ∙ (ap (λ (w : SystemView S). with_duty w a duty) (freed v mid taken a s duty m)
       ∙ again moved a duty (m.was ∙ ap (λ (w : SystemView S). duty_of w a) m.moved))
@@ -90,7 +91,7 @@ module _ {S : Type 0} where
       → RoundSteps v a (Round s) new
   same_round {v} {mid} {taken} {new} {a} {s} {duty} m n k e =
       let h = stays v a s duty n k in
-      round_by v mid taken a s duty (Round s) new m (h.0, back v mid taken new a s duty m e ∙ h.1)
+      round_by {told = Round s} {new = new} m (h.0, back m e ∙ h.1)
 
   ended_posts : (v : SystemView S) (a : ℕ) (p : Policy) (ms : List Message) (o : Option (Outcome Item)) → is_some o ≡ true
       → posting_on v a p ms o ≡ posting v a p ms
@@ -107,7 +108,7 @@ module _ {S : Type 0} where
       → Moved v mid taken a s (Posts p ms) → is_some s.outcome ≡ true → new ≡ posting taken a p ms → RoundSteps v a (Round s) new
   next_round {v} {mid} {taken} {new} {a} {s} {p} {ms} m e n =
       let moved = with_desk v (desk_stepped v.desk a) in
-      round_by v mid taken a s (Posts p ms) (Round s) new m (
+      round_by {told = Round s} {new = new} m (
         refl,
         n ∙ (ap (λ (w : SystemView S). posting w a p ms) (freed v mid taken a s (Posts p ms) m)
             ∙ (posting_over moved a Free p ms ∙ sym (ended_posts moved a p ms s.outcome e))),
@@ -117,16 +118,16 @@ module _ {S : Type 0} where
       → Moved v mid taken a s (Posts p ms) → is_some s.outcome ≡ false → new ≡ with_duty taken a (Posts p ms) → RoundSteps v a (Round s) new
   going_round {v} {mid} {taken} {new} {a} {s} {p} {ms} m e n =
       let moved = with_desk v (desk_stepped v.desk a) in
-      round_by v mid taken a s (Posts p ms) (Round s) new m
-      (refl, back v mid taken new a s (Posts p ms) m n ∙ sym (going_posts moved a p ms s.outcome e))
+      round_by {told = Round s} {new = new} m (refl, back m n ∙ sym (going_posts moved a p ms s.outcome e))
 
   module _ (tells : Bool) (files : S → Files) (failures : S → ℕ) where
     -- the turn of a dump
-    pub dump_turn : (v taken new : SystemView S) (a : ℕ) (d : DumpView) (told : Turn) → Dumps d ≡ duty_of v a → taken ≡ with_duty v a Free
+    pub dump_turn : (v : SystemView S) {taken new : SystemView S} (a : ℕ) {d : DumpView} {told : Turn} → Dumps d ≡ duty_of v a
+        → taken ≡ with_duty v a Free
         → told ≡ Dumped (length (kept_at taken.roster d.logger).messages)
         → new ≡ posting (with_roster taken (emptied taken.roster d.logger)) a (policy_at taken.roster d.logger) (dumped_by taken d)
         → TurnSteps tells files failures v a (duty_of v a) told new
-    dump_turn v taken new a d told was free t n =
+    dump_turn v {new} a {d} {told} was free t n =
         let room = with_roster v (emptied v.roster d.logger) in
         let there : new ≡ posting (with_duty room a Free) a (policy_at v.roster d.logger) (dumped_by v d) =
         subst (λ (w : SystemView S). new ≡ posting (with_roster w (emptied w.roster d.logger)) a (policy_at w.roster d.logger) (dumped_by w d)) free n in
@@ -146,9 +147,10 @@ module _ {S : Type 0} where
     }
 
     -- a worker's turn
-    pub serve_turn : (v taken new : SystemView S) (a t : ℕ) (i : Item) (done : ℕ) (told : Turn) → Serves t i done ≡ duty_of v a
+    pub serve_turn : (v : SystemView S) {taken new : SystemView S} {a t : ℕ} {i : Item} {done : ℕ} {told : Turn}
+        → Serves t i done ≡ duty_of v a
         → taken ≡ with_duty v a Free → ServesOn tells files failures taken a t i done told new
         → TurnSteps tells files failures v a (duty_of v a) told new
-    serve_turn v taken new a t i done told was free h =
+    serve_turn v {new} {a} {t} {i} {done} {told} was free h =
         subst (λ (e : Duty). TurnSteps tells files failures v a e told new) was
         (serves_over v new a t i done told (subst (λ (w : SystemView S). ServesOn tells files failures w a t i done told new) free h))

@@ -45,10 +45,11 @@ module _ (limit capacity : ℕ) where
     suits_after t deed.Flush i o told n h s = flushes o h.0 n h.1 s
 
     -- and of all sinks, where one of them had a turn
-    pub all_suit : (cap : ℕ) (all : List (Sink S)) (k : ℕ) (o n : Sink S) (t : SinkTurn) (i : Item) (told : Turn) → cap ≡ capacity
+    pub all_suit : {cap : ℕ} {all : List (Sink S)} (k : ℕ) {o : Sink S} (n : Sink S) (t : SinkTurn) (i : Item) (told : Turn)
+        → cap ≡ capacity
         → AllSuit limit capacity all → o ≡ get_or all k o → k < length all → DoesTurn tells files failures t t.deed i o told n
         → AllSuit limit cap (set all k n)
-    all_suit cap all k o n t i told e a is lt h =
+    all_suit {all} k {o} n t i told e a is lt h =
         let old : Suits limit capacity o = subst IsSuited (sym is) (All-get_or IsSuited all k o lt a.each) in
         let new = suits_after t t.deed i o told n h old in
         subst (λ c. AllSuit limit c (set all k n)) (sym e)

@@ -7,9 +7,9 @@ use Rattle.alog_system.proofs.outputs.Outputs.turn.Goals as goal
 pub invariant_of-self : goal.invariant_of-self
 invariant_of-self g c =
     let i = c.self.inside in
-    all_suit i.text_limit i.line.capacity g.S.Store.tells g.S.Store.files g.S.Store.failures c.make.new.line.capacity i.sinks.items
-    c.args.turn.sink c.index_mut.result.now c.make.new.sink c.args.turn c.args.item.now c.make.result c.make.ensures.capacity
-    c.self.invariant c.index_mut.ensures.value (subst (λ (v : OutputsView g.row.S.Denot). c.args.turn.sink < length v.sinks) (sym c.self.view_is) c.requires.known) c.make.ensures.turn
+    all_suit i.text_limit i.line.capacity g.S.Store.tells g.S.Store.files g.S.Store.failures c.args.turn.sink c.make.new.sink c.args.turn
+    c.args.item.now c.make.result c.make.ensures.capacity c.self.invariant c.index_mut.ensures.value
+    (subst (λ (v : OutputsView g.row.S.Denot). c.args.turn.sink < length v.sinks) (sym c.self.view_is) c.requires.known) c.make.ensures.turn
 
 pub returns : goal.returns
 returns g c =
