@@ -6,7 +6,7 @@ ghost use Rattle.alog_system.specs.Begin.{begun, filtered_by, filtering, logging
 ghost use Rattle.alog_system.specs.Roster.{level_at};
 ghost use Rattle.alog_system.specs.Step.{SystemSteps};
 ghost use Rattle.alog_system.specs.System.{duty_of, is_free, item_of};
-ghost use Rattle.alog_replay.specs.Configured.{Stage, with_system, number_in, is_fit, may_do, after_act, store_at, store_in, listed_text, stored_text, places_text};
+ghost use Rattle.alog_replay.specs.Configured.{Stage, with_system, number_in, is_fit, may_do, after_act, store_at, store_in, listed_text, stored_text, places_text, told_text};
 ghost use Rattle.alog_replay.specs.Rows.{row_of};
 ghost use Rattle.alog_replay.specs.Scene.{Prints};
 ghost use Rattle.alog_replay.specs.Texts.{cells_line, counts_text};
@@ -217,6 +217,20 @@ fn held_by(system: &System<MemStore>, actor: Actor) -> Option<&Item>
     system.taken(u32::from(actor.number()))
 }
 
+/// Prints a step that this system has made.
+fn print_step(
+    out: &mut String,
+    actor: Actor,
+    names: &[TextRef<'_>],
+    system: &System<MemStore>,
+    told: Stepped,
+) -> Result<(), AllocError>
+    ensures { OnOk result (string_bytes out.new
+        ≡ string_bytes out.old ++ told_text names.now actor (item_of (duty_of system.now actor)) told) }
+{
+    print_told(out, actor.number(), names, held_by(system, actor), &told)
+}
+
 /// The store of a leaf.
 fn store_at<'s>(system: &'s System<MemStore>, place: &Place<'_>) -> Option<&'s MemStore>
     ensures { option_copied result ≡ store_at system.now place.now }
@@ -323,8 +337,7 @@ impl Playable for Configured<'_, MemStore> {
 
     fn step(&mut self, actor: Actor, out: &mut String) -> Result<(), LineError> {
         let told = step_of(&mut self.system, actor)?;
-        let held = held_by(&self.system, actor);
-        Ok(print_told(out, actor.number(), &self.names, held, &told)?)
+        Ok(print_step(out, actor, &self.names, &self.system, told)?)
     }
 
     fn print_files(&self, alloc: Global, out: &mut Vec<u8>) -> Result<(), AllocError> {

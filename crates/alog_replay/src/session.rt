@@ -20,7 +20,7 @@ use crate::memory::MemorySink;
 use crate::print::{print_cells, print_counts, print_memory_turn, print_stepped};
 use crate::pushed::Pushed;
 use alog_core::{ACTORS, Said};
-use alog_policy::{Desk, Policy};
+use alog_policy::{Desk, Policy, Stepped};
 use alog_sink::Store;
 use std::alloc::{AllocError, Global};
 use std::marker::Model;
@@ -217,9 +217,21 @@ impl<S: Store + Drop> Session<S> {
         ensures cause { IfErr result (λ e. e ≡ LineError.OutOfMemory) }
     {
         let stepped = self.desk.step(u32::from(actor.number()))?;
-        print_stepped(out, actor.number(), &stepped)?;
-        Ok(stepped.said)
+        Ok(print_step(out, actor, stepped)?)
     }
+}
+
+/// Prints a step of an actor, and answers what it said.
+fn print_step(
+    out: &mut String,
+    actor: Actor,
+    stepped: Stepped<Pushed>,
+) -> Result<Said<Pushed>, AllocError>
+    ensures printed { OnOk result (string_bytes out.new ≡ string_bytes out.old ++ stepped_text shown_message actor stepped) }
+    ensures said { IfOk result (λ said. said ≡ stepped.said) }
+{
+    print_stepped(out, actor.number(), &stepped)?;
+    Ok(stepped.said)
 }
 
 /// What a worker owes after a step of its pop.
