@@ -22,7 +22,11 @@ mod Rows
 mod KeptOnce
 mod AlikeSinks
 mod AlikeStages
+mod AlikeLoggers
+mod Pairing
+mod LoggersOf
 mod Beginning
+mod TwoStages
 mod Agreeing
 mod WholeLines
 mod Faultless

@@ -7,9 +7,9 @@ use Rattle.alog_replay.specs.Faultless.{faultless}
 use Rattle.alog_replay.specs.OfConfig.{IsStageOf}
 use Rattle.alog_replay.specs.Script.{Told, ScriptTells}
 
--- from a stage of a configuration a script tells one thing at most where no store fails
+-- from any two stages of one configuration a script tells the same where no store fails
 abbrev pub OneTextOfConfig : {S : Type 0} (tells : Bool) (files : S → Files) (failures : S → ℕ) → (S → List (List ℕ × List ℕ)) → Type 0
 OneTextOfConfig {S} tells files failures listing =
-    (c : Config) (s : Stage S) (script : List ℕ) (t u : Told) → IsStageOf tells files failures c s
-    → ScriptTells (faultless tells files failures listing) s script t → ScriptTells (faultless tells files failures listing) s script u
+    (c : Config) (s r : Stage S) (script : List ℕ) (t u : Told) → IsStageOf tells files failures c s → IsStageOf tells files failures c r
+    → ScriptTells (faultless tells files failures listing) s script t → ScriptTells (faultless tells files failures listing) r script u
     → t ≡ u

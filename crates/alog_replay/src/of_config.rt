@@ -14,6 +14,7 @@ use crate::leaves::{names_of, places_of, tops_of};
 use crate::player::play;
 use alog_config::Config;
 use alog_format::one_line;
+use alog_pattern::one_reading;
 use alog_sink::{MemStore, Store, pieces_have_one_cut};
 use alog_system::System;
 use std::alloc::{AllocError, Global};
@@ -74,11 +75,13 @@ pub fn faults_are_told()
     ensures { FaultsAreTold ⟦<MemStore as Store>⟧.tells ⟦<MemStore as Store>⟧.files ⟦<MemStore as Store>⟧.failures row_of }
 {}
 
-/// From a stage of a configuration a script where no store fails tells one thing at most. Its contract is the law; it calls the laws
-/// that this one stands on, which do nothing.
+/// From any two stages of one configuration a script where no store fails tells the same: two replays of one script with one
+/// configuration, in which no store fails, have one text. Its contract is the law; it calls the laws that this one stands on, which
+/// do nothing.
 pub fn one_text_of_config()
     ensures { OneTextOfConfig ⟦<MemStore as Store>⟧.tells ⟦<MemStore as Store>⟧.files ⟦<MemStore as Store>⟧.failures row_of }
 {
     one_line();
+    one_reading();
     pieces_have_one_cut();
 }
