@@ -129,7 +129,7 @@ with_target (Rotating i) (Rotating j) (Rotating k) (Daily l) h g f = absurd f
 with_target (Daily i) (Daily j) (Daily k) (Memory l) h g f = absurd f
 with_target (Daily i) (Daily j) (Daily k) (Rotating l) h g f = absurd f
 
-pub itself : (t : Target) → IsSameTarget t t
+itself : (t : Target) → IsSameTarget t t
 itself (Memory j) = refl
 itself (Rotating r) = refl
 itself (Daily d) = refl
