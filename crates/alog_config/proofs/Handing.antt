@@ -1,17 +1,19 @@
 -- Stores that are handed out, and what is made of all parts.
-use Rattle.std.proofs.Common.{◌≡◌, ◌+◌, ◌<◌, ℕ, zero, suc, Bool, true, false, cond, inl, inr, List, [], ◌∷◌, ◌++◌, length, take, drop, map, slice_get}
+use Rattle.std.proofs.Common.{◌≡◌, ◌+◌, ◌<◌, ℕ, zero, suc, Bool, true, false, cond, inr, List, [], ◌∷◌, ◌++◌, length, take, drop, map, slice_get}
 use Rattle.std.proofs.Common.{Result, Ok, Err, IfOk, Some, count_by, refl, sym, ap, subst, ◌∙◌, arith, length-drop}
 use Rattle.std.proofs.Math.Seq.{take-length}
 use Rattle.std.proofs.lemmas.List.Sums.{sum_by-append}
 use Rattle.std.specs.List.{Any}
+use Rattle.alog_config.specs.declared.building.BuildError.{BuildError}
+use Rattle.alog_config.specs.declared.building.BuildError.TheVariants as faults
 use Rattle.alog_config.specs.declared.config.Config.{Config}
 use Rattle.alog_config.specs.declared.config.SinkConfig.{SinkConfig}
 use Rattle.alog_config.specs.declared.config.SinkKind.{SinkKind}
 use Rattle.alog_config.specs.declared.config.SinkKind.TheVariants as kinds
 use Rattle.alog_config.specs.declared.parts.Part.{Part}
-use Rattle.alog_config.specs.Built.{ArePicked, Built, EachIs, IsLoggerOf}
+use Rattle.alog_config.specs.Built.{ArePicked, Built, EachIs, IsLoggerOf, IsOfNumber, IsOfRotating, IsStoreFault}
 use Rattle.alog_config.specs.Parts.{AreBuilt, Makes, MayLog, MayMake}
-use Rattle.alog_config.specs.Sinks.{AnyMember, AnyUnknown, IsMember, is_leaf, is_lines}
+use Rattle.alog_config.specs.Sinks.{AnyMember, AnyUnknown, IsMember, Rotates, is_leaf, is_lines}
 use Rattle.alog_config.specs.Sound.{AreSoundSinks, IsSound, IsSoundKind}
 use Rattle.alog_config.proofs.Parting.{all_known, config_of, length_mapped, logger_sound_at, name_of, next_fan, next_leaf, no_built_fan, sound_at}
 use Rattle.alog_config.proofs.SharedPicking.{Has, any_has, has_any, picked_short, split_at, take_one_more}
@@ -67,13 +69,11 @@ pub any_dropped : {A : Type 0} (P : A → Type 0) (k : ℕ) (xs ys : List A) →
 any_dropped {A} P k xs ys e h =
     has_any P xs (has_dropped P k xs (subst (λ (zs : List A). Has P zs) e (any_has P ys h)))
 
-has_at : {A : Type 0} (P : A → Type 0) (i : ℕ) (xs : List A) (x : A) → slice_get xs i ≡ Some x → P x → Has P xs
-has_at P i [] x e p = absurd (cc e)
-has_at P zero (y ∷ xs) x e p = let same : y ≡ x = cc in inl (subst P (sym same) p)
-has_at P (suc i) (y ∷ xs) x e p = inr (has_at P i xs x e p)
-
-pub any_at : {A : Type 0} (P : A → Type 0) (i : ℕ) (xs : List A) (x : A) → slice_get xs i ≡ Some x → P x → Any P xs
-any_at P i xs x e p = has_any P xs (has_at P i xs x e p)
+-- a fault of the sink of this number among these is that of one that rotates
+pub of_rotating : (sinks : List SinkConfig) (number : ℕ) (s : SinkConfig) (b : BuildError) → slice_get sinks number ≡ Some s
+    → IsOfNumber number b → (IsStoreFault b → Rotates s) → IsOfRotating sinks b
+of_rotating sinks number s faults.OutOfMemory at own rotates = tt
+of_rotating sinks number s (faults.Store sink reason) at own rotates = (s, rw own at, rotates tt)
 
 -- what is known of a value in two ways
 pub if_ok_both : {T E : Type 0} (r : Result T E) (P Q R : T → Type 0) → ((t : T) → P t → Q t → R t) → IfOk r P → IfOk r Q → IfOk r R

@@ -1,14 +1,17 @@
 -- What is built of a configuration over stores: the loggers that it names, and the sinks.
 use Rattle.std.specs.Prelude.{◌≡◌, ◌⊎◌, ◌+◌, ◌<◌, ℕ, Bool, List, [], ◌∷◌, map, take, slice_get, count_by, Option, Some, option_map, IfSome}
 use Rattle.std.specs.List.{Any}
+use Rattle.alog_config.specs.declared.building.BuildError.{BuildError}
+use Rattle.alog_config.specs.declared.building.BuildError.TheVariants as faults
 use Rattle.alog_config.specs.declared.config.Config.{Config}
 use Rattle.alog_config.specs.declared.config.LoggerConfig.{LoggerConfig}
+use Rattle.alog_config.specs.declared.config.SinkConfig.{SinkConfig}
 use Rattle.alog_config.specs.declared.config.SinkKind.{SinkKind}
 use Rattle.alog_config.specs.declared.config.SinkKind.TheVariants as kinds
 use Rattle.alog_config.specs.declared.config.Upkeep.{Upkeep}
 use Rattle.alog_config.specs.declared.config.Upkeep.TheVariants as upkeeps
 use Rattle.alog_config.specs.declared.parts.Part.{Part}
-use Rattle.alog_config.specs.Sinks.{IsMember, is_leaf}
+use Rattle.alog_config.specs.Sinks.{IsMember, Rotates, is_leaf}
 use Rattle.alog_msg.specs.declared.level.Level.{Level}
 use Rattle.alog_pattern.specs.Grammar.{IsReading}
 use Rattle.alog_registry.specs.declared.logger.Logger.{Logger}
@@ -68,6 +71,21 @@ pub record IsLoggerOf {S : Type 0} (tops : List (Part S)) (l : LoggerConfig) (lo
   pub flush_on : logger.spec.flush_on ≡ l.flush_on
   pub backtrace : logger.spec.backtrace ≡ l.backtrace
   pub sinks : EachIs (IsPlace tops) l.sinks logger.spec.sinks.items
+
+-- a store failed when its sink was opened
+abbrev pub IsStoreFault : BuildError → Type 0
+IsStoreFault (faults.Store sink reason) = Unit {0}
+IsStoreFault faults.OutOfMemory = ⊥
+
+-- and then the sink has this number
+abbrev pub IsOfNumber : ℕ → BuildError → Type 0
+IsOfNumber number (faults.Store sink reason) = sink ≡ number
+IsOfNumber number faults.OutOfMemory = Unit {0}
+
+-- and then the sink of the number that is told, among these, rotates its file by size
+abbrev pub IsOfRotating : List SinkConfig → BuildError → Type 0
+IsOfRotating sinks (faults.Store sink reason) = (s : SinkConfig) × (slice_get sinks sink ≡ Some s) × Rotates s
+IsOfRotating sinks faults.OutOfMemory = Unit {0}
 
 -- A store failed, where it counts its failures.
 abbrev pub HasFailed : {S : Type 0} → (S → ℕ) → S → Type 0

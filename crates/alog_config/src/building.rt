@@ -1,7 +1,7 @@
 //! Building what a configuration names.
-ghost use Rattle.std.specs.Prelude.{◌≡◌, [], ◌∷◌, ◌++◌, IfOk, IsErrOf, OnOk, count_by, length};
+ghost use Rattle.std.specs.Prelude.{◌≡◌, [], ◌∷◌, ◌++◌, IfErr, IfOk, IsErrAnd, OnOk, count_by, length};
 ghost use Rattle.std.specs.List.{All, Any};
-ghost use Rattle.alog_config.specs.Built.{Built, EachIs, HasFailed, IsLoggerOf};
+ghost use Rattle.alog_config.specs.Built.{Built, EachIs, HasFailed, IsLoggerOf, IsOfNumber, IsOfRotating, IsStoreFault};
 ghost use Rattle.alog_config.specs.Fits.{LoggerFits};
 ghost use Rattle.alog_config.specs.Parts.{AreBuilt, Makes, MayLog, MayMake};
 ghost use Rattle.alog_config.specs.Sinks.{Rotates, is_leaf};
@@ -15,17 +15,23 @@ use alog_registry::{AddError, Loggers, Registry, Spec};
 use alog_sink::{Sink, Store};
 use std::alloc::{AllocError, Global};
 use std::collections::VecDeque;
+use std::io;
 use thiserror::Error;
 
 /// Why nothing was built. The test `a_store_that_fails` of `test_config` shows one.
-#[derive(Clone, Copy, Debug, PartialEq, Eq, Drop, Error)]
+#[derive(Clone, Copy, Debug, Drop, Error)]
 pub enum BuildError {
     /// A growth was refused.
     #[error("out of memory")]
     OutOfMemory,
     /// A store failed, which a sink that rotates its file had asked for a size.
     #[error("a store failed")]
-    Store,
+    Store {
+        /// The sink's number in the configuration, from 0.
+        sink: usize,
+        /// What the system said of the store's call, where it did.
+        reason: Option<io::Error>,
+    },
 }
 
 impl From<AllocError> for BuildError {
@@ -54,8 +60,8 @@ pub fn build<S: Store + Drop>(
     // Each logger's sinks are there, and each sink takes the texts of the configuration, in lines that a buffer of `LINE_MAX` holds.
     ensures fits { IfOk result (λ b. All (LoggerFits (length b.1.items)) b.0) }
     ensures suits { IfOk result (λ b. All (λ s. Suits config.now.text LINE_MAX s) b.1.items) }
-    ensures failed { IsErrOf result BuildError.Store → Any (HasFailed S.failures) stores.items }
-    ensures rotates { IsErrOf result BuildError.Store → Any Rotates config.now.sinks.items }
+    ensures failed { IsErrAnd result IsStoreFault → Any (HasFailed S.failures) stores.items }
+    ensures rotates { IfErr result (IsOfRotating config.now.sinks.items) }
 {
     let parts = parts_of(alloc, config, stores)?;
     let loggers = loggers_of(alloc, &config.loggers, parts.as_slice())?;
@@ -71,13 +77,14 @@ fn parts_of<'c, S: Store + Drop>(
 ) -> Result<Vec<Part<'c, S>>, BuildError>
     requires { length stores.items ≡ count_by is_leaf config.now.sinks.items }
     ensures built { IfOk result (λ v. AreBuilt S.tells S.files S.failures config.now stores.items (length config.now.sinks.items) v.items) }
-    ensures failed { IsErrOf result BuildError.Store → Any (HasFailed S.failures) stores.items }
-    ensures rotates { IsErrOf result BuildError.Store → Any Rotates config.now.sinks.items }
+    ensures failed { IsErrAnd result IsStoreFault → Any (HasFailed S.failures) stores.items }
+    ensures rotates { IfErr result (IsOfRotating config.now.sinks.items) }
 {
     let mut stores = VecDeque::from_vec(stores);
     let mut parts = Vec::new(alloc);
-    for said in &config.sinks {
-        let sink = match made(alloc, config, said, &mut stores, &mut parts) {
+    let sinks = config.sinks.as_slice();
+    for (number, said) in sinks.iter().enumerate() {
+        let sink = match made(alloc, config, said, number, &mut stores, &mut parts) {
             Ok(sink) => sink,
             Err(error) => return Err(error),
         };
@@ -99,19 +106,21 @@ fn add<'c, S: Store + Drop>(
     }
 }
 
-/// Makes the next sink, of the next store or of the parts that it names.
+/// Makes the next sink, whose number this is, of the next store or of the parts that it names.
 fn made<S: Store + Drop>(
     alloc: Global,
     config: &Config,
     sink: &SinkConfig,
+    number: usize,
     stores: &mut VecDeque<S>,
     parts: &mut Vec<Part<'_, S>>,
 ) -> Result<Sink<S>, BuildError>
     requires { MayMake config.now.text sink.now.kind stores.old.items parts.old.items }
     ensures made { IfOk result (λ s. Makes S.tells S.files S.failures config.now sink.now.level sink.now.kind stores.old.items parts.old.items
         s stores.new.items parts.new.items) }
-    ensures failed { IsErrOf result BuildError.Store → Any (HasFailed S.failures) stores.old.items }
-    ensures rotates { IsErrOf result BuildError.Store → Rotates sink.now }
+    ensures failed { IsErrAnd result IsStoreFault → Any (HasFailed S.failures) stores.old.items }
+    ensures rotates { IsErrAnd result IsStoreFault → Rotates sink.now }
+    ensures number { IfErr result (IsOfNumber number) }
 {
     match &sink.kind {
         SinkKind::Lines {
@@ -123,7 +132,7 @@ fn made<S: Store + Drop>(
                 unreachable!();
             };
             let face = face_of(alloc, config, sink.level, pattern.as_str())?;
-            opened(alloc, face, file.as_str(), *upkeep, store)
+            opened(alloc, face, file.as_str(), *upkeep, number, store)
         }
         SinkKind::Fan { of } => Ok(fan_of(alloc, sink.level, parts, of.as_slice())?),
     }

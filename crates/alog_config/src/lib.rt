@@ -3,7 +3,7 @@
 //! `read` gives the `Config` that a document says, or its first fault: the top is looked at first, then the sinks in
 //! their order, then the loggers; within one table the rules in the order of `RULES`. `leaves` tells how many stores the
 //! sinks of a configuration need, and `build` makes its loggers and sinks over them. `explain` says in words what a person has
-//! to mend in a document that `read` refuses.
+//! to mend in a document that `read` refuses, and `explain_unopened` which sink `build` could not open.
 //!
 //! Read `config.rt` with `names.rt` (what a configuration is), `fault.rt` (what is refused); `specs/Values.antt` with
 //! `field.rt`, `values.rt` and `lists.rt` (what one key may hold); `specs/Keys.antt` with `keys.rt`, and
@@ -41,6 +41,7 @@ pub use config::{Config, LoggerConfig, SinkConfig, SinkKind, Upkeep};
 pub use explaining::explain;
 pub use fault::{ConfigFault, Place, RULES, Rule};
 pub use names::NameList;
+pub use opening::explain_unopened;
 pub use reading::read;
 pub use sinks::{is_member, leaves};
 

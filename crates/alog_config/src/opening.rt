@@ -1,6 +1,6 @@
 //! Opening the sinks that have a store of their own.
-ghost use Rattle.std.specs.Prelude.{◌≡◌, ◌↔◌, ◌⊎◌, IfOk, IsErrOf, map};
-ghost use Rattle.alog_config.specs.Built.{HasFailed, IsFaceOf, IsOver, IsTargetOf};
+ghost use Rattle.std.specs.Prelude.{◌≡◌, ◌↔◌, ◌⊎◌, IfErr, IfOk, IsErrAnd, map};
+ghost use Rattle.alog_config.specs.Built.{HasFailed, IsFaceOf, IsOfNumber, IsOver, IsStoreFault, IsTargetOf};
 ghost use Rattle.alog_config.specs.Sinks.{IsBySize};
 ghost use Rattle.alog_config.specs.Sound.{IsSoundUpkeep};
 ghost use Rattle.alog_config.specs.Values.{IsPattern};
@@ -14,6 +14,7 @@ use alog_msg::Level;
 use alog_pattern::{Pattern, PatternError};
 use alog_sink::{Face, NameError, Names, OpenError, Sink, Store, Unopened};
 use std::alloc::{AllocError, Global};
+use std::io;
 
 /// The names of the loggers, by number.
 fn logger_names(alloc: Global, config: &Config) -> Result<Names, AllocError>
@@ -56,32 +57,34 @@ pub(crate) fn face_of(
     })
 }
 
-/// Opens a sink of this face, file and upkeep over a store.
+/// Opens a sink of this face, file and upkeep over a store. The number is its own in the configuration.
 pub(crate) fn opened<S: Store + Drop>(
     alloc: Global,
     face: Face,
     file: &str,
     upkeep: Upkeep,
+    number: usize,
     store: S,
 ) -> Result<Sink<S>, BuildError>
     requires name { IsFileName file.now }
     requires upkeep { IsSoundUpkeep upkeep }
     ensures opened { IfOk result (Opened S.tells S.files face (IsTargetOf file.now upkeep) (S.files store)) }
     ensures over { IfOk result (λ s. IsOver S.tells S.files S.failures upkeep store (store_of s)) }
-    ensures failed { IsErrOf result BuildError.Store → HasFailed S.failures store }
-    ensures rotates { IsErrOf result BuildError.Store → IsBySize upkeep }
+    ensures failed { IsErrAnd result IsStoreFault → HasFailed S.failures store }
+    ensures rotates { IsErrAnd result IsStoreFault → IsBySize upkeep }
+    ensures number { IfErr result (IsOfNumber number) }
 {
     match upkeep {
         Upkeep::Never => match Sink::memory(alloc, face, store, file) {
             Ok(sink) => Ok(sink),
-            Err(unopened) => Err(why(unopened)),
+            Err(unopened) => Err(why(number, unopened)),
         },
         Upkeep::BySize {
             max_size,
             max_files,
         } => match Sink::rotating(alloc, face, store, file, max_size, max_files) {
             Ok(sink) => Ok(sink),
-            Err(unopened) => Err(why(unopened)),
+            Err(unopened) => Err(why(number, unopened)),
         },
         Upkeep::Daily {
             hour,
@@ -89,19 +92,43 @@ pub(crate) fn opened<S: Store + Drop>(
             max_files,
         } => match Sink::daily(alloc, face, store, file, hour, minute, max_files) {
             Ok(sink) => Ok(sink),
-            Err(unopened) => Err(why(unopened)),
+            Err(unopened) => Err(why(number, unopened)),
         },
     }
 }
 
-/// Why a sink of a sound configuration was not opened.
-fn why<S: Store + Drop>(unopened: Unopened<S>) -> BuildError
+/// Why the sink of this number of a sound configuration was not opened.
+fn why<S: Store + Drop>(number: usize, unopened: Unopened<S>) -> BuildError
     requires { (unopened.error ≡ OpenError.OutOfMemory) ⊎ (unopened.error ≡ OpenError.Store) }
-    ensures { (result ≡ BuildError.Store) ↔ (unopened.error ≡ OpenError.Store) }
+    ensures store { IsStoreFault result ↔ (unopened.error ≡ OpenError.Store) }
+    ensures number { IsOfNumber number result }
 {
     match unopened.error {
         OpenError::OutOfMemory => BuildError::OutOfMemory,
-        OpenError::Store => BuildError::Store,
+        OpenError::Store => BuildError::Store {
+            sink: number,
+            reason: unopened.store.reason(),
+        },
         OpenError::BadLimit | OpenError::BadName => unreachable!(),
+    }
+}
+
+/// Says in one line which sink could not be opened since its store failed, as `BuildError::Store` tells it, and what the system said
+/// of the store's call, where it did. The test `a_store_that_fails` of `test_config` shows it.
+pub fn explain_unopened(
+    alloc: Global,
+    config: &Config,
+    sink: usize,
+    reason: Option<io::Error>,
+) -> Result<String, AllocError> {
+    let name = match config.sinks.get(sink) {
+        Some(said) => said.name.as_str(),
+        None => "",
+    };
+    match reason {
+        Some(reason) => {
+            format!(in alloc; "sink {sink}, {name}: the size of its file cannot be read: {reason}")
+        }
+        None => format!(in alloc; "sink {sink}, {name}: the size of its file cannot be read"),
     }
 }

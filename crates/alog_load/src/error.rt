@@ -1,17 +1,23 @@
 //! Why a load has no report.
 use alog_config::BuildError;
 use std::alloc::AllocError;
+use std::io;
 use thiserror::Error;
 
 /// Why a load has no report. What was written to the stores stands, and a pool that was started was ended.
-#[derive(Clone, Copy, Debug, PartialEq, Eq, Drop, Error)]
+#[derive(Clone, Copy, Debug, Drop, Error)]
 pub enum LoadError {
     /// This is looked at before anything else.
     #[error("the producers are not from 1 to 64, or the messages are over 1,000,000")]
     BadValue,
     /// A store failed when its sink was opened.
     #[error("a store failed")]
-    Store,
+    Store {
+        /// The sink's number in the configuration, from 0.
+        sink: usize,
+        /// What the system said of the store's call, where it did.
+        reason: Option<io::Error>,
+    },
     /// There was no memory, or a thread could not be started.
     #[error("out of memory")]
     OutOfMemory,
@@ -36,7 +42,7 @@ impl From<BuildError> for LoadError {
     fn from(error: BuildError) -> LoadError {
         match error {
             BuildError::OutOfMemory => LoadError::OutOfMemory,
-            BuildError::Store => LoadError::Store,
+            BuildError::Store { sink, reason } => LoadError::Store { sink, reason },
         }
     }
 }

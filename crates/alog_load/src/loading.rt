@@ -1,9 +1,9 @@
 //! A whole load.
-ghost use Rattle.std.specs.Prelude.{◌≡◌, ◌↔◌, IfOk, IsErrOf, count_by, length};
+ghost use Rattle.std.specs.Prelude.{◌≡◌, ◌↔◌, IfErr, IfOk, IsErrAnd, IsErrOf, count_by, length};
 ghost use Rattle.std.specs.List.{Any};
 ghost use Rattle.alog_config.specs.Built.{HasFailed};
-ghost use Rattle.alog_config.specs.Sinks.{Rotates, is_leaf};
-ghost use Rattle.alog_load.specs.Load.{AreBad, Loads};
+ghost use Rattle.alog_config.specs.Sinks.{is_leaf};
+ghost use Rattle.alog_load.specs.Load.{AreBad, NamesRotating, IsStoreRefusal, Loads};
 
 use crate::error::LoadError;
 use crate::producers::run_all;
@@ -41,8 +41,8 @@ pub fn load<
 ) -> Result<Report<S>, LoadError>
     requires { length stores.items ≡ count_by is_leaf config.now.sinks.items }
     ensures bad_value { IsErrOf result LoadError.BadValue ↔ AreBad producers messages }
-    ensures failed { IsErrOf result LoadError.Store → Any (HasFailed S.failures) stores.items }
-    ensures rotates { IsErrOf result LoadError.Store → Any Rotates config.now.sinks.items }
+    ensures failed { IsErrAnd result IsStoreRefusal → Any (HasFailed S.failures) stores.items }
+    ensures rotates { IfErr result (NamesRotating config.now.sinks.items) }
     ensures loads { IfOk result (λ r. Loads S.tells S.files S.failures config.now stores.items producers messages r) }
 {
     if producers < 1 || producers > LOAD_PRODUCERS_MAX || messages > LOAD_MESSAGES_MAX {

@@ -77,13 +77,13 @@ module _ {S : Type 0} (tells : Bool) (files : S → Files) (failures : S → ℕ
     due = λ are. inl e;
     others = omega (arith, e);
   }
-  loads_fault Store status old e bad = record {
+  loads_fault (Store sink reason) status old e bad = record {
     done = λ zero. absurd (omega (arith, e, zero));
     bad = λ one. absurd (omega (arith, e, one));
     accepted = λ two. omega (arith, e, two);
     fault = λ three. inl (Keeps-refl old);
     unwritten = λ four. Keeps-refl old;
-    due = λ are. let no : IsErrOf {T = Report S} (Err Store) BadValue = bad.1 are in absurd (cc);
+    due = λ are. let no : IsErrOf {T = Report S} (Err (Store sink reason)) BadValue = bad.1 are in absurd (cc);
     others = omega (arith, e);
   }
   loads_fault OutOfMemory status old e bad = no_memory status old e

@@ -20,10 +20,10 @@ number_of OutOfMemory = 1
 -- the same of a load
 abbrev pub load_status_of : LoadError → ℕ
 load_status_of load.BadValue = 1
-load_status_of load.Store = 3
+load_status_of (load.Store sink reason) = 3
 load_status_of load.OutOfMemory = 4
 
 abbrev pub load_number_of : LoadError → ℕ
 load_number_of load.OutOfMemory = 1
 load_number_of load.BadValue = 20
-load_number_of load.Store = 22
+load_number_of (load.Store sink reason) = 22

@@ -15,13 +15,13 @@ use crate::sinks::say_faults;
 use crate::status::{load_number_of, load_status_of};
 use crate::stores::memory_stores;
 use crate::totals::write_totals;
-use alog_config::{Config, leaves, read};
+use alog_config::{Config, explain_unopened, leaves, read};
 use alog_load::{LOAD_MESSAGES_MAX, LOAD_PRODUCERS_MAX, LoadError, load};
 use alog_pool::Report;
 use alog_server::{Folders, Hold, folder_stores, hold_folder};
 use alog_sink::{MemStore, Store};
-use std::alloc::AllocError;
-use std::io::Write;
+use std::alloc::{AllocError, Global};
+use std::io::{self, Write};
 use std::rt::Files;
 use std::sync::Wait;
 use std::thread::Threads;
@@ -122,7 +122,7 @@ where
     }
     match made {
         Ok(report) => tell(report, config, output, errors),
-        Err(fault) => refuse_asked(fault, request, errors),
+        Err(fault) => refuse_asked(rt.alloc(), fault, config, request, errors),
     }
 }
 
@@ -182,7 +182,7 @@ fn tell<S: Store + Drop, O: Write, E: Write>(
     match write_totals(output, report.totals) {
         Ok(()) if is_whole && is_kept => 0,
         Ok(()) => {
-            let status = refuse_load(LoadError::Store, errors);
+            let status = refuse_store(errors);
             say_faults(&mut report, config, errors);
             status
         }
@@ -190,15 +190,36 @@ fn tell<S: Store + Drop, O: Write, E: Write>(
     }
 }
 
-/// Writes the lines of a fault of the load that was asked for, and answers its status.
-fn refuse_asked<E: Write>(fault: LoadError, request: &LoadRequest<'_>, errors: &mut E) -> u8
+/// Writes the lines of a fault of the load that was asked for, of this configuration, and answers its status.
+fn refuse_asked<E: Write>(
+    alloc: Global,
+    fault: LoadError,
+    config: &Config,
+    request: &LoadRequest<'_>,
+    errors: &mut E,
+) -> u8
     ensures { result ≡ load_status_of fault }
 {
     let status = refuse_load(fault, errors);
-    if fault == LoadError::BadValue {
-        say_bounds(request, errors);
+    match fault {
+        LoadError::BadValue => say_bounds(request, errors),
+        LoadError::Store { sink, reason } => say_unopened(alloc, config, sink, reason, errors),
+        LoadError::OutOfMemory => {}
     }
     status
+}
+
+/// Says which sink could not be opened, and what the system said of it. Where there is no memory for the words, nothing is said.
+fn say_unopened<E: Write>(
+    alloc: Global,
+    config: &Config,
+    sink: usize,
+    reason: Option<io::Error>,
+    errors: &mut E,
+) {
+    if let Ok(text) = explain_unopened(alloc, config, sink, reason) {
+        let _ = writeln!(errors, "alog: {text}");
+    }
 }
 
 /// Says which of a load's numbers is out of its bounds.
@@ -229,4 +250,12 @@ fn refuse_load<E: Write>(fault: LoadError, errors: &mut E) -> u8
         _ => writeln!(errors, "alog: refused {number}\nalog: {fault}"),
     };
     load_status_of(fault)
+}
+
+/// Writes the lines of a load that was made, at which a store failed, and answers its status.
+fn refuse_store<E: Write>(errors: &mut E) -> u8
+    ensures { result ≡ 3 }
+{
+    let _ = writeln!(errors, "alog: refused 22\nalog: a store failed");
+    3
 }

@@ -35,7 +35,7 @@ pub fn load_status_of(fault: LoadError) -> u8
 {
     match fault {
         LoadError::BadValue => 1,
-        LoadError::Store => 3,
+        LoadError::Store { .. } => 3,
         LoadError::OutOfMemory => 4,
     }
 }
@@ -47,6 +47,6 @@ pub fn load_number_of(fault: LoadError) -> u8
     match fault {
         LoadError::OutOfMemory => 1,
         LoadError::BadValue => 20,
-        LoadError::Store => 22,
+        LoadError::Store { .. } => 22,
     }
 }

@@ -2,8 +2,8 @@
 use Rattle.std.specs.Prelude.{Result, Ok, Err, Vec}
 use Rattle.std.specs.declared.alloc.Global.{Global}
 use Rattle.std.specs.declared.alloc.AllocError.{AllocError}
+use Rattle.alog_config.specs.Built.{IsStoreFault}
 use Rattle.alog_config.specs.declared.building.BuildError.{BuildError}
-use Rattle.alog_config.specs.declared.building.BuildError.TheVariants as built
 use Rattle.alog_msg.specs.declared.message.MessageError.{MessageError}
 use Rattle.alog_msg.specs.declared.message.MessageError.TheVariants as message
 use Rattle.alog_policy.specs.declared.policy.Outcome.{Outcome}
@@ -19,10 +19,19 @@ told message.TextTooLong = log.TextTooLong
 told message.FieldTooLong = log.FieldTooLong
 told message.OutOfMemory = log.OutOfMemory
 
--- and as a start does
-abbrev pub built_told : BuildError → StartError
-built_told built.OutOfMemory = start.OutOfMemory
-built_told built.Store = start.Store
+-- a store failed when its sink was opened, as a start tells it
+abbrev pub IsStoreRefusal : StartError → Type 0
+IsStoreRefusal (start.Config fault text) = ⊥
+IsStoreRefusal (start.Unwritable text) = ⊥
+IsStoreRefusal (start.Store text) = Unit {0}
+IsStoreRefusal start.OutOfMemory = ⊥
+
+-- why nothing was built, as a start tells it, or that there was no memory to tell it
+abbrev pub IsBuildTold : BuildError → StartError → Type 0
+IsBuildTold b (start.Config fault text) = ⊥
+IsBuildTold b (start.Unwritable text) = ⊥
+IsBuildTold b (start.Store text) = IsStoreFault b
+IsBuildTold b start.OutOfMemory = Unit {0}
 
 -- the same answer to a log
 abbrev pub answer_of : Result LogReply MessageError → Result LogReply LogError

@@ -19,21 +19,21 @@ use Rattle.alog_server.specs.declared.sink_end.SinkEnd.{SinkEnd}
 abbrev pub IsOfFault : ConfigFault → StartError → Type 0
 IsOfFault fault (start.Config own text) = own ≡ fault
 IsOfFault fault (start.Unwritable text) = ⊥
-IsOfFault fault start.Store = ⊥
+IsOfFault fault (start.Store text) = ⊥
 IsOfFault fault start.OutOfMemory = Unit {0}
 
 -- a reason that is neither the document's nor the folder's: a store failed only where a sink rotates its file
 abbrev pub IsOfStores : Config → StartError → Type 0
 IsOfStores c (start.Config fault text) = ⊥
 IsOfStores c (start.Unwritable text) = ⊥
-IsOfStores c start.Store = Any Rotates c.sinks.items
+IsOfStores c (start.Store text) = Any Rotates c.sinks.items
 IsOfStores c start.OutOfMemory = Unit {0}
 
 -- when a start over this document is refused so
 abbrev pub IsReasonFor : List ℕ → StartError → Type 0
 IsReasonFor document (start.Config fault text) = Reads document (Err fault)
 IsReasonFor document (start.Unwritable text) = (c : Config) × Reads document (Ok c)
-IsReasonFor document start.Store = (c : Config) × Reads document (Ok c) × Any Rotates c.sinks.items
+IsReasonFor document (start.Store text) = (c : Config) × Reads document (Ok c) × Any Rotates c.sinks.items
 IsReasonFor document start.OutOfMemory = Unit {0}
 
 module _ {S : Type 0} (tells : Bool) (files : S → Files) (failures : S → ℕ) where

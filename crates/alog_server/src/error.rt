@@ -1,5 +1,5 @@
 //! Why a message was not logged, a server not started, and why it did not run.
-use alog_config::{BuildError, ConfigFault};
+use alog_config::ConfigFault;
 use alog_msg::MessageError;
 use std::alloc::AllocError;
 use thiserror::Error;
@@ -54,8 +54,11 @@ pub enum StartError {
         text: String,
     },
     /// A store failed when its sink was opened.
-    #[error("a store failed")]
-    Store,
+    #[error("{text}")]
+    Store {
+        /// Which sink it is, and what the system said of the store's call.
+        text: String,
+    },
     /// There was no memory, or a thread could not be started.
     #[error("out of memory")]
     OutOfMemory,
@@ -69,20 +72,6 @@ impl From<AllocError> for StartError {
 
     fn from(_error: AllocError) -> StartError {
         StartError::OutOfMemory
-    }
-}
-
-impl From<BuildError> for StartError {
-    ghost use Rattle.std.specs.Prelude.{◌≡◌};
-    ghost use Rattle.alog_server.specs.Reasons.{built_told};
-
-    ghost from_gives = { λ b e. e ≡ built_told b };
-
-    fn from(error: BuildError) -> StartError {
-        match error {
-            BuildError::OutOfMemory => StartError::OutOfMemory,
-            BuildError::Store => StartError::Store,
-        }
     }
 }
 

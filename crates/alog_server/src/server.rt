@@ -1,9 +1,10 @@
 //! A server's pool, and a run of its threads.
-ghost use Rattle.std.specs.Prelude.{◌≡◌, ◌↔◌, ◌≤◌, IfOk, IfErr, IsErrOf, count_by, length};
+ghost use Rattle.std.specs.Prelude.{◌≡◌, ◌↔◌, ◌≤◌, IfOk, IfErr, IsErrAnd, IsErrOf, count_by, length};
 ghost use Rattle.std.specs.List.{Any};
 ghost use Rattle.alog_config.specs.Built.{HasFailed};
 ghost use Rattle.alog_config.specs.Sinks.{is_leaf};
 ghost use Rattle.alog_server.specs.Ends.{AllEnd, IsToldOf, TellsError};
+ghost use Rattle.alog_server.specs.Reasons.{IsStoreRefusal};
 ghost use Rattle.alog_server.specs.Running.{AreBad, HasThreads, Runs, Works};
 ghost use Rattle.alog_server.specs.SinkEnds.{AreWithFaults};
 ghost use Rattle.alog_server.specs.Starting.{IsOfStores, IsServerOf};
@@ -13,7 +14,7 @@ use crate::THREADS_MAX;
 use crate::error::{RunError, StartError};
 use crate::producers::make;
 use crate::seats::{Ended, run_all};
-use crate::setup::setup_of;
+use crate::setup::setup_for;
 use crate::sink_end::{SinkEnd, ends_of, with_faults};
 use crate::work::Work;
 use alog_config::Config;
@@ -78,7 +79,7 @@ impl<S: Store + Drop + Send + 'static> Server<S> {
     ) -> Result<Server<S>, StartError>
         requires { length stores.items ≡ count_by is_leaf config.now.sinks.items }
         ensures started { IfOk result (λ s. IsServerOf S.tells S.files S.failures config.now stores.items s.pool s.sinks.items) }
-        ensures failed { IsErrOf result StartError.Store → Any (HasFailed S.failures) stores.items }
+        ensures failed { IsErrAnd result IsStoreRefusal → Any (HasFailed S.failures) stores.items }
         ensures refused { IfErr result (IsOfStores config.now) }
     {
         Server::holding(rt, alloc, config, stores, ())
@@ -96,11 +97,11 @@ impl<S: Store + Drop + Send + 'static, L: Drop> Server<S, L> {
     ) -> Result<Server<S, L>, StartError>
         requires { length stores.items ≡ count_by is_leaf config.now.sinks.items }
         ensures started { IfOk result (λ s. IsServerOf S.tells S.files S.failures config.now stores.items s.pool s.sinks.items) }
-        ensures failed { IsErrOf result StartError.Store → Any (HasFailed S.failures) stores.items }
+        ensures failed { IsErrAnd result IsStoreRefusal → Any (HasFailed S.failures) stores.items }
         ensures refused { IfErr result (IsOfStores config.now) }
     {
         let sinks = ends_of(alloc, config)?;
-        let setup = setup_of(alloc, config, stores, 0)?;
+        let setup = setup_for(alloc, config, stores)?;
         match Pool::start(rt, alloc, setup, OpenGate) {
             Ok(pool) => Ok(Server {
                 alloc,

@@ -1,15 +1,18 @@
 //! What a configuration gives to start a pool with.
-ghost use Rattle.std.specs.Prelude.{◌≡◌, IfOk, IsErrOf, count_by, length};
+ghost use Rattle.std.specs.Prelude.{◌≡◌, IfErr, IfOk, IsErrAnd, count_by, length};
 ghost use Rattle.std.specs.List.{Any};
-ghost use Rattle.alog_config.specs.Built.{HasFailed};
-ghost use Rattle.alog_config.specs.Sinks.{Rotates, is_leaf};
+ghost use Rattle.alog_config.specs.Built.{HasFailed, IsOfRotating, IsStoreFault};
+ghost use Rattle.alog_config.specs.Sinks.{is_leaf};
 ghost use Rattle.alog_pool.specs.Pool.{Fits};
+ghost use Rattle.alog_server.specs.Reasons.{IsBuildTold, IsStoreRefusal};
 ghost use Rattle.alog_server.specs.Setting.{IsSetupOf};
+ghost use Rattle.alog_server.specs.Starting.{IsOfStores};
 
-use alog_config::{BuildError, Config, build};
+use crate::error::StartError;
+use alog_config::{BuildError, Config, build, explain_unopened};
 use alog_pool::Setup;
 use alog_sink::Store;
-use std::alloc::Global;
+use std::alloc::{AllocError, Global};
 
 /// What the configuration gives, over these stores, for a pool whose report tells so many tickets of each worker. The first ticket
 /// is 0. There are as many stores as `alog_config::leaves` tells. The test `one_list_of_tickets` shows it.
@@ -22,8 +25,8 @@ pub fn setup_of<S: Store + Drop>(
     requires { length stores.items ≡ count_by is_leaf config.now.sinks.items }
     ensures given { IfOk result (λ s. IsSetupOf S.tells S.files S.failures config.now stores.items tickets_max s) }
     ensures fits { IfOk result (λ s. Fits s) }
-    ensures failed { IsErrOf result BuildError.Store → Any (HasFailed S.failures) stores.items }
-    ensures rotates { IsErrOf result BuildError.Store → Any Rotates config.now.sinks.items }
+    ensures failed { IsErrAnd result IsStoreFault → Any (HasFailed S.failures) stores.items }
+    ensures rotates { IfErr result (IsOfRotating config.now.sinks.items) }
 {
     let (loggers, sinks) = build(alloc, config, stores)?;
     Ok(Setup {
@@ -35,4 +38,35 @@ pub fn setup_of<S: Store + Drop>(
         loggers,
         sinks,
     })
+}
+
+/// What the configuration gives for the pool of a server, whose report tells no tickets, or why there is none.
+pub(crate) fn setup_for<S: Store + Drop>(
+    alloc: Global,
+    config: &Config,
+    stores: Vec<S>,
+) -> Result<Setup<S>, StartError>
+    requires { length stores.items ≡ count_by is_leaf config.now.sinks.items }
+    ensures given { IfOk result (λ s. IsSetupOf S.tells S.files S.failures config.now stores.items 0 s) }
+    ensures fits { IfOk result (λ s. Fits s) }
+    ensures failed { IsErrAnd result IsStoreRefusal → Any (HasFailed S.failures) stores.items }
+    ensures refused { IfErr result (IsOfStores config.now) }
+{
+    match setup_of(alloc, config, stores, 0) {
+        Ok(setup) => Ok(setup),
+        Err(error) => Err(unbuilt(alloc, config, error)),
+    }
+}
+
+/// Why a server is not started whose sinks were not built.
+fn unbuilt(alloc: Global, config: &Config, error: BuildError) -> StartError
+    ensures { IsBuildTold error result }
+{
+    match error {
+        BuildError::OutOfMemory => StartError::OutOfMemory,
+        BuildError::Store { sink, reason } => match explain_unopened(alloc, config, sink, reason) {
+            Ok(text) => StartError::Store { text },
+            Err(AllocError) => StartError::OutOfMemory,
+        },
+    }
 }

@@ -3,7 +3,7 @@ use crate::building::{
     built, built_over, finds, gives, has, has_members, has_sinks, logs_to, member_has,
 };
 use crate::documents::config;
-use alog_config::BuildError;
+use alog_config::{BuildError, explain_unopened};
 use alog_msg::Level;
 use alog_policy::Policy;
 use alog_registry::Loggers;
@@ -215,25 +215,73 @@ fn a_fan_between_sinks(rt: HostRuntime) {
     member_has(&rt, &sinks, (1, 1), b'0', "a.log", "t\nt\n");
 }
 
-/// Two stores, of which the first fails its call number `k`, and the second its call number 9.
-fn fuses(rt: &(impl Abort + AllocGlobal), k: u64) -> Vec<FuseStore<MemStore>> {
+const TWO_ROTATING: &str = "
+[[sink]]
+name = \"all\"
+kind = \"rotating\"
+file = \"all.log\"
+max_size = 100
+max_files = 1
+
+[[sink]]
+name = \"own\"
+kind = \"rotating\"
+file = \"own.log\"
+max_size = 100
+max_files = 1
+
+[[logger]]
+name = \"app\"
+sinks = [\"all\", \"own\"]
+";
+
+/// Two stores, which fail their calls of these numbers.
+fn fuses(rt: &(impl Abort + AllocGlobal), numbers: [u64; 2]) -> Vec<FuseStore<MemStore>> {
     let mut stores = Vec::new(rt.alloc());
-    for calls in [k, 9] {
+    for calls in numbers {
         let store = FuseStore::new(MemStore::new(rt.alloc()), calls, 0);
         assert!(rt; stores.push(store).is_ok());
     }
     stores
 }
 
-/// What is built over them: how many sinks.
-fn with_fuse(rt: &(impl Abort + AllocGlobal), k: u64) -> Result<usize, BuildError> {
-    let config = config(rt, &[DAILY_ERRORS]);
-    built_over(rt, &config, fuses(rt, k)).map(|(_, sinks)| sinks.len())
+/// What is said where a store fails as its sink is opened, or none where both sinks are built.
+fn with_fuses(rt: &(impl Abort + AllocGlobal), numbers: [u64; 2]) -> Option<String> {
+    let config = config(rt, &[TWO_ROTATING]);
+    let (sink, reason) = match built_over(rt, &config, fuses(rt, numbers)) {
+        Ok((_, sinks)) => {
+            assert_eq!(rt; sinks.len(), 2);
+            return None;
+        }
+        Err(BuildError::Store { sink, reason }) => (sink, reason),
+        Err(BuildError::OutOfMemory) => panic!(rt; "no memory"),
+    };
+    match explain_unopened(rt.alloc(), &config, sink, reason) {
+        Ok(text) => Some(text),
+        Err(_) => panic!(rt; "no memory"),
+    }
+}
+
+/// Whether this is said, where these calls fail.
+fn is_said(rt: &(impl Abort + AllocGlobal), numbers: [u64; 2], words: &str) -> bool {
+    with_fuses(rt, numbers).is_some_and(|text| text.as_str() == words)
 }
 
 #[test]
 fn a_store_that_fails(rt: HostRuntime) {
-    for (k, want) in [(0, Err(BuildError::Store)), (1, Ok(2))] {
-        assert_eq!(rt; with_fuse(&rt, k), want);
-    }
+    assert!(rt;
+        is_said(
+            &rt,
+            [0, 9],
+            "sink 0, all: the size of its file cannot be read"
+        )
+    );
+    assert!(rt;
+        is_said(
+            &rt,
+            [9, 0],
+            "sink 1, own: the size of its file cannot be read"
+        )
+    );
+    assert!(rt; with_fuses(&rt, [1, 1]).is_none());
 }

@@ -1,6 +1,7 @@
 //! Starts that are refused since no lines can be written.
 use crate::server_tests::{HELLO, ran, started};
-use alog_server::{LogError, Ran, RunError, Server, StartError};
+use alog_config::{leaves, read};
+use alog_server::{LogError, Ran, RunError, Server, StartError, folder_stores};
 use alog_sink::Store;
 use std::os::unix::fs::symlink;
 use std::path::PathBuf;
@@ -144,5 +145,47 @@ fn a_folder_is_held_by_one_server(rt: HostRuntime) -> io::Result<()> {
 fn what_is_no_obstacle_is_passed_over(rt: HostRuntime) -> io::Result<()> {
     let folder = no_obstacles(&rt)?;
     assert!(rt; is_started(&rt, folder.as_str()));
+    fs::remove_dir_all(&rt, folder.as_str())
+}
+
+/// Lets one thread log to a server that holds no folder. What `Server::run` promises is told to no test by it.
+fn ran_over<R: Host>(
+    rt: &R,
+    server: Server<R::Folder>,
+) -> Result<Ran<R::Folder, LogError>, RunError> {
+    server.run(rt, 1, &HELLO)
+}
+
+/// What is said where no server of this document is started over the stores of this folder, since a store failed.
+fn unopened<R: Host>(rt: &R, document: &str, folder: &str) -> Option<String> {
+    let config = read(rt.alloc(), document.as_bytes()).ok()?;
+    let stores = folder_stores(rt, rt.alloc(), folder, leaves(&config)).ok()?;
+    match Server::over(rt, rt.alloc(), &config, stores) {
+        Ok(server) => {
+            is_well(ran_over(rt, server));
+            None
+        }
+        Err(StartError::Store { text }) => Some(text),
+        Err(_) => None,
+    }
+}
+
+/// What is said of a file that is a link to itself.
+const LOOPS: &str =
+    "sink 0, out: the size of its file cannot be read: Too many levels of symbolic links (os error 40)";
+
+/// Whether this is said where the file of the first sink is a link to itself.
+fn is_said<R: Host>(rt: &R, folder: &str) -> bool {
+    unopened(rt, ROTATING, folder).is_some_and(|text| text.as_str() == LOOPS)
+}
+
+#[test]
+fn a_sink_that_cannot_be_opened_is_told(rt: HostRuntime) -> io::Result<()> {
+    let folder = folder(&rt)?;
+    assert!(rt; unopened(&rt, ROTATING, folder.as_str()).is_none());
+    let file = folder.join(rt.alloc(), "out")?;
+    fs::remove_file(&rt, file.as_str())?;
+    symlink(&rt, "out", file.as_str())?;
+    assert!(rt; is_said(&rt, folder.as_str()));
     fs::remove_dir_all(&rt, folder.as_str())
 }
