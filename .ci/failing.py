@@ -36,6 +36,9 @@ UNWRITTEN = re.compile(rb"alog: refused 35\nalog: the output could not be writte
 NO_FILE = re.compile(rb"alog: [^\n]+ cannot be (?:read|written): " + WHY)
 NO_FOLDER = re.compile(rb"alog: no files can be written to [^\n]+: " + WHY)
 STORE_FAILED = b"alog: refused 22\nalog: a store failed\n"
+UNOPENED = re.compile(STORE_FAILED + rb"(?:alog: sink \d+, [^\n]*: the size of its file cannot be read: " + WHY + rb")?")
+LOCK = ".alog.lock"
+NO_LOCK = re.compile(rb"alog: [^\n]+/\.alog\.lock cannot be locked: " + WHY)
 SINK_FAILED = re.compile(STORE_FAILED + rb"(?:alog: sink \d+, [^\n]*: (?:\d+ turns failed|its lines are not all in its file): " + WHY + rb")+")
 
 # a load of a sink that rotates, its totals, and its lines
@@ -115,9 +118,9 @@ def in_words(counts):
 
 
 def lines_in(folder):
-    """Returns the lines of the files of a folder, the oldest first, and the names of what else is there."""
+    """Returns the lines of the files of a folder, the oldest first, and the names of what else is there, but its lock."""
     lines = b"".join(bytes_of(f"{folder}/{it}") or b"" for it in FILES)
-    return lines, sorted(set(os.listdir(folder)) - set(FILES))
+    return lines, sorted(set(os.listdir(folder)) - {*FILES, LOCK})
 
 
 def folder_outcome(ran, kind, how, descriptor, lines, others):
@@ -131,7 +134,7 @@ def folder_outcome(ran, kind, how, descriptor, lines, others):
         return "told" if is_whole and TOTALS.startswith(ran.stdout) and (UNWRITTEN.fullmatch(ran.stderr) or descriptor == 2) else None
     if found == (3, TOTALS) and SINK_FAILED.fullmatch(ran.stderr) and is_front:
         return "a fault"
-    is_refused = NO_FILE.fullmatch(ran.stderr) or NO_FOLDER.fullmatch(ran.stderr) or ran.stderr == STORE_FAILED
+    is_refused = any(it.fullmatch(ran.stderr) for it in (NO_FILE, NO_FOLDER, NO_LOCK, UNOPENED))
     return "refused" if found == (3, b"") and is_refused and not lines else None
 
 
