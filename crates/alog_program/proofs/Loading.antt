@@ -1,5 +1,5 @@
 -- What a load that has no report leaves, and what holds whether there is a folder or not.
-use Rattle.std.proofs.Common.{◌≡◌, ◌↔◌, ℕ, Bool, Option, Some, None, List, codes, inl, inr, refl, sym, subst, arith}
+use Rattle.std.proofs.Common.{◌≡◌, ◌↔◌, ◌⊎◌, ℕ, Bool, Option, Some, None, List, codes, inl, inr, refl, sym, subst, arith}
 use Rattle.std.specs.Prelude.{Err, IsErrOf, MatchOption}
 use Rattle.std.proofs.KnownBytes.{Keeps-refl}
 use Rattle.std.specs.Io.KnownBytes.{Keeps}
@@ -54,7 +54,7 @@ module _ {S : Type 0} (tells : Bool) (files : S → Files) (failures : S → ℕ
   }
 
   -- where there is no folder to write to, for a load by numbers within their bounds, nothing is written
-  pub no_folder : (old : Option (List ℕ)) → ¬ AreBad r.producers r.messages → LoadsOn tells files failures c r 3 old old
+  no_folder : (old : Option (List ℕ)) → ¬ AreBad r.producers r.messages → LoadsOn tells files failures c r 3 old old
   no_folder old within = record {
     done = λ zero. absurd (omega (arith, zero));
     bad = λ one. absurd (omega (arith, one));
@@ -64,6 +64,12 @@ module _ {S : Type 0} (tells : Bool) (files : S → Files) (failures : S → ℕ
     due = λ are. absurd (within are);
     others = omega arith;
   }
+
+  -- where no folder is held for such a load, or there is no memory to ask for it, nothing is written
+  pub folder_refused : (status : ℕ) (old : Option (List ℕ))
+      → (status ≡ load_status_of OutOfMemory) ⊎ ((status ≡ 3) × (¬ AreBad r.producers r.messages)) → LoadsOn tells files failures c r status old old
+  folder_refused status old (inl none) = no_memory status old none
+  folder_refused status old (inr lacks) = subst (λ s. LoadsOn tells files failures c r s old old) (sym lacks.0) (no_folder old lacks.1)
 
   -- a load by numbers that are out of their bounds is refused as such, and no other
   pub loads_fault : (fault : LoadError) (status : ℕ) (old : Option (List ℕ)) → status ≡ load_status_of fault

@@ -236,8 +236,8 @@ P logs to the logger whose number is P modulo how many there are. Its messages a
 message I has the text `P I`, the level info, and the time I in nanoseconds since 1970 UTC. When all are
 logged, the workers handle what is left in the queue, and the files are brought to where they are kept.
 
-Five lines are printed, each number modulo 2^64. They count texts, and the flushes that come of flush_on;
-a message below its logger's level is not counted:
+Five lines are printed, each number modulo 2^64. They count texts; the flushes that come of
+flush_on, and a message below its logger's level, are not counted:
 
   asked N                       posted or discarded
   posted N                      put into the queue: overrun or handled
@@ -246,10 +246,11 @@ a message below its logger's level is not counted:
   handled N                     taken out of the queue by a worker, and given to the sinks
 
 Without --folder the files of the sinks are kept in memory. With it they are files of the folder DIR, which
-has to be there; lines are written behind what a file has.
+has to be there, and is held by one load or server at a time; lines are written behind what a file has.
 
 Exit status: 0 done, 1 a wrong command line, or a number of producers or messages that is out of its bounds,
-2 a refused configuration, 3 a file that cannot be read, a store that failed or a write fault, 4 no memory.
+2 a refused configuration, 3 a file that cannot be read, a folder that takes no files or is held by another,
+a store that failed or a write fault, 4 no memory.
 A fault prints `alog: refused N` on standard error: 1 no memory, 20 a number that is out of its bounds, 22 a
 store that failed, 35 a write fault. Where a store failed in the course of the load, 22 stands behind the
 five lines. Of a file that is no configuration it says what `alog check` says, and there is no load.";

@@ -1,5 +1,5 @@
 //! `alog load`: a load through the loggers and sinks of a configuration.
-ghost use Rattle.std.specs.Prelude.{◌≡◌, ◌↔◌, ◌⊎◌, IsTrue, All, MatchOption, count_by, length};
+ghost use Rattle.std.specs.Prelude.{◌≡◌, ◌↔◌, ◌⊎◌, IfSome, IsTrue, All, MatchOption, count_by, length};
 ghost use Rattle.std.specs.Io.KnownBytes.{Appends};
 ghost use Rattle.alog_config.specs.Sinks.{is_leaf};
 ghost use Rattle.alog_load.specs.Load.{AreBad};
@@ -80,8 +80,8 @@ where
         },
         Some(path) => {
             let mut lock = None;
-            if lacks_folder(rt, path, &config, request, &mut lock, errors) {
-                return 3;
+            if let Some(status) = refused_folder(rt, path, &config, request, &mut lock, errors) {
+                return status;
             }
             match folder_stores(rt, alloc, path, count) {
                 Ok(stores) => load_over(rt, &config, stores, request, output, errors),
@@ -126,31 +126,32 @@ where
     }
 }
 
-/// Whether a load by numbers within their bounds cannot write to this folder, or to a file of a sink that is there, or another alog
-/// holds it, which is said then. Else it is held. Want of memory is told by the load.
-fn lacks_folder<R: AllocGlobal + Files + Folders, E: Write>(
+/// Holds this folder for a load by numbers within their bounds. Where its files cannot be written, or another alog holds it, or there is
+/// no memory to ask, that is said, and the answer is the status.
+fn refused_folder<R: AllocGlobal + Files + Folders, E: Write>(
     rt: &R,
     path: &str,
     config: &Config,
     request: &LoadRequest<'_>,
     lock: &mut Option<R::Lock>,
     errors: &mut E,
-) -> bool
-    ensures { IsTrue result → ¬ AreBad request.now.producers request.now.messages }
+) -> Option<u8>
+    ensures { IfSome result (λ s. (s ≡ load_status_of LoadError.OutOfMemory)
+        ⊎ ((s ≡ 3) × (¬ AreBad request.now.producers request.now.messages))) }
 {
     if is_out_of_bounds(request) {
-        return false;
+        return None;
     }
     match hold_folder(rt, rt.alloc(), path, config) {
-        Ok(Hold::Refused(why)) => {
-            let _ = writeln!(errors, "alog: {why}");
-            true
-        }
         Ok(Hold::Held(held)) => {
             *lock = Some(held);
-            false
+            None
         }
-        Err(_) => false,
+        Ok(Hold::Refused(why)) => {
+            let _ = writeln!(errors, "alog: {why}");
+            Some(3)
+        }
+        Err(_) => Some(refuse_load(LoadError::OutOfMemory, errors)),
     }
 }
 
