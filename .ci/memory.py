@@ -3,10 +3,10 @@ examples/; each allocation and each start of a thread of loads; and those of the
 
 Where one fails, the program must end with status 4, its one line on standard error, and a front of what it prints otherwise; or as
 it ends otherwise, but that from some line on each turn of one sink is a fault, or that a refusal is told by its number and general words
-alone. A load prints nothing with status 4, and with status 3 it prints all that it prints otherwise, and its one line on standard error:
-then a sink had no memory for a line. A test must pass. What has threads is run so many times for each failure, since threads go on in
-another order each time. It says how many allocations of which row it tried, and which rows it did not. Needs a C compiler, `cc`,
-beside `rt`.
+alone. A load prints nothing with status 4, or with status 3 where there was no memory to open a sink; else with status 3 it prints all
+that it prints otherwise, and its one line on standard error: then a sink had no memory for a line. A test must pass. What has threads is
+run so many times for each failure, since threads go on in another order each time. It says how many allocations of which row it tried,
+and which rows it did not. Needs a C compiler, `cc`, beside `rt`.
 """
 import collections
 import concurrent.futures as futures
@@ -22,6 +22,8 @@ from rows import Row, bytes_of, rows
 
 PROGRAM = "crates/alog/out/alog"
 REFUSED, STORE_FAILED = b"alog: refused 1\nalog: out of memory\n", b"alog: refused 22\nalog: a store failed\n"
+# what is said of a sink that could not be opened, since there was no memory to ask its store
+UNOPENED = re.compile(STORE_FAILED + rb"alog: sink \d+, [^\n]+: the size of its file cannot be read: out of memory\n")
 # a turn of a sink, and how its line begins where it is a fault
 TURN, FAULT = re.compile(rb"^(\d+) (?:line|below|flush) "), rb"\1 fault "
 # what is said of a refusal where there is no memory for the words of its own
@@ -46,13 +48,15 @@ KINDS = {"FAIL_ALLOC": "allocations", "FAIL_THREAD": "starts of threads"}
 
 
 def cases():
-    """Returns the rows of both folders, and a check of each configuration that a script of examples/ has, by the names that are printed."""
+    """Returns the rows of both folders, a check of each configuration that a script of examples/ has, and small loads, by the names that
+    are printed. FOLDER stands for a folder."""
     for folder in ("rows", "examples"):
         yield from ((f"{folder}/{it.name}", it) for it in rows(folder))
     for config in sorted(glob.glob("examples/*.toml")):
         if os.path.exists(config.removesuffix("toml") + "alog"):
             yield config, Row(config, ["check", config], b"", b"ok\n", 0, b"")
     yield "a small load", LOAD
+    yield "a small load to a folder", LOAD._replace(words=[*LOAD.words, "--folder", "FOLDER"])
 
 
 def run(room, words, given, kind, number):
@@ -97,6 +101,8 @@ def load_outcome(ran, row):
     """Returns in words what came of a load, or None where it is none of what may come."""
     if ran.returncode == 3 and ran.stdout == row.printed and ran.stderr.startswith(STORE_FAILED):
         return "a fault"
+    if (ran.returncode, ran.stdout) == (3, b"") and UNOPENED.fullmatch(ran.stderr):
+        return "a sink that is not opened"
     found = ran.returncode, ran.stdout, ran.stderr
     return {(4, b"", REFUSED): "no memory", (0, row.printed, b""): "nothing"}.get(found)
 
@@ -134,8 +140,9 @@ def sweep_cases(room):
     with futures.ThreadPoolExecutor(os.cpu_count()) as pool:
         for name, row in cases():
             has_threads = row.words[0] == "load" and row.status == 0
-            it = row._replace(words=[f"./{PROGRAM}", *row.words])
             for kind in KINDS if has_threads else ["FAIL_ALLOC"]:
+                os.makedirs(f"{room}/{kind}", exist_ok=True)
+                it = row._replace(words=[f"./{PROGRAM}", *(f"{room}/{kind}" if word == "FOLDER" else word for word in row.words)])
                 judge, times = (load_outcome, TIMES) if has_threads else (outcome, 1)
                 started[name, kind] = pool.submit(sweep, room, name, it, judge, kind, times)
     return {key: it.result() for key, it in started.items()}
