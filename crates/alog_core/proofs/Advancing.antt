@@ -25,10 +25,10 @@ use Rattle.alog_core.proofs.SharedSound.{next_is_unlisted, sound_after}
 use Rattle.alog_core.proofs.Turns.{Turn, turn_claim, turn_mark, turn_take, by_place_turn, turned}
 
 -- a step by what its move is
-pub advances : {T : Type 0} (old new : Table T) (a : ℕ) (r : Round T) (answer : Said T × Round T) (m : Move T)
+pub advances : {T : Type 0} {old new : Table T} {a : ℕ} {r : Round T} {answer : Said T × Round T} {m : Move T}
     → move_of (places_of old) (queue_in old) r ≡ m → answer.0 ≡ said_of (brought r) m.event → answer.1 ≡ m.round
     → queue_in new ≡ after_event (queue_in old) a m.event → new.mask ≡ old.mask → Shows new → Advances old new a r answer
-advances {T} old new a r answer m is said round queue mask shows =
+advances {T} {old} {a} {r} is said round queue mask shows =
     record {
       said = said ∙ ap (λ (k : Move T). said_of (brought r) k.event) (sym is);
       round = round ∙ ap (λ (k : Move T). k.round) (sym is);
@@ -98,21 +98,20 @@ module _ {T : Type 0} (old new : Table T) (is : IsTable old) (a : ℕ) (mask : n
       is.shows.sequences.places.free p (omega (arith, at)) (omega (arith, at, two)) staged.2
       in let s : AreSequences n r old.sequences.items = record {
         count = is.shows.sequences.count;
-        places = turned n p q r c (λ i. get_or old.sequences.items i 0) (λ i. get_or old.sequences.items i 0)
-            (λ t d. sequence_by t d.mark) (λ t. t) (sound_next e may) turn has is.shows.sequences.places (λ i _. refl) free;
+        places = turned (λ i. get_or old.sequences.items i 0) (λ i. get_or old.sequences.items i 0) (λ t d. sequence_by t d.mark)
+            (sound_next e may) turn has is.shows.sequences.places (λ i _. refl, free);
       }
       in let d : AreHeld n r (set old.slots.items (p % n) (Some (held x a))) = record {
         count = length-set old.slots.items (p % n) (Some (held x a)) ∙ is.shows.slots.count;
-        places = turned n p q r c (λ i. get_or old.slots.items i None)
-            (λ i. get_or (set old.slots.items (p % n) (Some (held x a))) i None)
-            (λ t d. Some (held d.item d.actor)) (λ t. None) (sound_next e may) turn has is.shows.slots.places
-            (slot_else p (Some (held x a))) (slot_here p (Some (held x a)));
+        places = turned (λ i. get_or old.slots.items i None) (λ i. get_or (set old.slots.items (p % n) (Some (held x a))) i None)
+            (λ t d. Some (held d.item d.actor)) (sound_next e may) turn has is.shows.slots.places
+            (slot_else p (Some (held x a)), slot_here p (Some (held x a)));
       }
       in let S : List ℕ → Type 0 = λ k. AreSequences n r k
       in let D : List (Option (Held T)) → Type 0 = λ k. AreHeld n r k
       in let done = moved e may (next ∙ ap (λ k. k + 1) (sym at)) front (subst S (sym sequences) s, subst D (sym slots) d)
-      in advances old new a (round.PushFree p x) (said.Claim p, round.PushClaimed p)
-      (makes e (round.PushClaimed p)) (at_same q.next p _ _ at) refl refl done.0 mask done.1
+      in advances {old = old} {a = a} {r = round.PushFree p x} {answer = (said.Claim p, round.PushClaimed p)} (at_same q.next p _ _ at) refl
+      refl done.0 mask done.1
 
   pub writes : (p : ℕ) → IsStaged n q a (round.PushClaimed p) → new.next ≡ old.next → new.front ≡ old.front
       → new.sequences.items ≡ set old.sequences.items (p % n) (p + 1) → new.slots.items ≡ old.slots.items
@@ -129,21 +128,20 @@ module _ {T : Type 0} (old new : Table T) (is : IsTable old) (a : ℕ) (mask : n
       in let there : get_or old.slots.items (p % n) None ≡ Some (held x a) = is.shows.slots.places.cells p was staged.1
       in let s : AreSequences n r (set old.sequences.items (p % n) (p + 1)) = record {
         count = length-set old.sequences.items (p % n) (p + 1) ∙ is.shows.sequences.count;
-        places = turned n p q r c (λ i. get_or old.sequences.items i 0)
-            (λ i. get_or (set old.sequences.items (p % n) (p + 1)) i 0)
-            (λ t d. sequence_by t d.mark) (λ t. t) (sound_next e may) turn has is.shows.sequences.places
-            (sequence_else p (p + 1)) (sequence_here p (p + 1));
+        places = turned (λ i. get_or old.sequences.items i 0) (λ i. get_or (set old.sequences.items (p % n) (p + 1)) i 0)
+            (λ t d. sequence_by t d.mark) (sound_next e may) turn has is.shows.sequences.places
+            (sequence_else p (p + 1), sequence_here p (p + 1));
       }
       in let d : AreHeld n r old.slots.items = record {
         count = is.shows.slots.count;
-        places = turned n p q r c (λ i. get_or old.slots.items i None) (λ i. get_or old.slots.items i None)
-            (λ t d. Some (held d.item d.actor)) (λ t. None) (sound_next e may) turn has is.shows.slots.places
-            (λ i _. refl) there;
+        places = turned (λ i. get_or old.slots.items i None) (λ i. get_or old.slots.items i None) (λ t d. Some (held d.item d.actor))
+            (sound_next e may) turn has is.shows.slots.places (λ i _. refl, there);
       }
       in let S : List ℕ → Type 0 = λ k. AreSequences n r k
       in let D : List (Option (Held T)) → Type 0 = λ k. AreHeld n r k
       in let done = moved e may next front (subst S (sym sequences) s, subst D (sym slots) d)
-      in advances old new a (round.PushClaimed p) (said.Write p, round.Idle) (ends e) refl refl refl done.0 mask done.1
+      in advances {old = old} {a = a} {r = round.PushClaimed p} {answer = (said.Write p, round.Idle)} {m = ends e} refl refl refl
+      done.0 mask done.1
 
   pub grabs : (p : ℕ) → IsStaged n q a (round.PopReady p) → old.front ≡ p → new.next ≡ old.next → new.front ≡ p + 1
       → new.sequences.items ≡ old.sequences.items
@@ -165,23 +163,21 @@ module _ {T : Type 0} (old new : Table T) (is : IsTable old) (a : ℕ) (mask : n
       in let one_more : get_or old.sequences.items (p % n) 0 ≡ p + 1 = is.shows.sequences.places.cells p was written.2
       in let s : AreSequences n r old.sequences.items = record {
         count = is.shows.sequences.count;
-        places = turned n p q r c (λ i. get_or old.sequences.items i 0) (λ i. get_or old.sequences.items i 0)
-            (λ t d. sequence_by t d.mark) (λ t. t) (sound_next e may) turn has is.shows.sequences.places (λ i _. refl)
-            one_more;
+        places = turned (λ i. get_or old.sequences.items i 0) (λ i. get_or old.sequences.items i 0) (λ t d. sequence_by t d.mark)
+            (sound_next e may) turn has is.shows.sequences.places (λ i _. refl, one_more);
       }
       in let d : AreHeld n r (set old.slots.items (p % n) (Some (held x a))) = record {
         count = length-set old.slots.items (p % n) (Some (held x a)) ∙ is.shows.slots.count;
-        places = turned n p q r c (λ i. get_or old.slots.items i None)
-            (λ i. get_or (set old.slots.items (p % n) (Some (held x a))) i None)
-            (λ t d. Some (held d.item d.actor)) (λ t. None) (sound_next e may) turn has is.shows.slots.places
-            (slot_else p (Some (held x a))) (slot_here p (Some (held x a)));
+        places = turned (λ i. get_or old.slots.items i None) (λ i. get_or (set old.slots.items (p % n) (Some (held x a))) i None)
+            (λ t d. Some (held d.item d.actor)) (sound_next e may) turn has is.shows.slots.places
+            (slot_else p (Some (held x a)), slot_here p (Some (held x a)));
       }
       in let S : List ℕ → Type 0 = λ k. AreSequences n r k
       in let D : List (Option (Held T)) → Type 0 = λ k. AreHeld n r k
       in let done = moved e may next (front ∙ ap (λ k. k + 1) (sym at))
       (subst S (sym sequences) s, subst D (sym (slots (held x written.1) there)) d)
-      in advances old new a (round.PopReady p) (said.Grab p, round.PopGrabbed p)
-      (makes e (round.PopGrabbed p)) (at_same q.front p _ _ at) refl refl done.0 mask done.1
+      in advances {old = old} {a = a} {r = round.PopReady p} {answer = (said.Grab p, round.PopGrabbed p)} (at_same q.front p _ _ at) refl
+      refl done.0 mask done.1
 
   pub takes : (p : ℕ) (x : T) → HasCell q.cells p Emptying x a → new.next ≡ old.next → new.front ≡ old.front
       → new.sequences.items ≡ set old.sequences.items (p % n) (p + n)
@@ -195,27 +191,29 @@ module _ {T : Type 0} (old new : Table T) (is : IsTable old) (a : ℕ) (mask : n
       in let turn : Turn n p q r = turn_take n q p was is.sound cell
       in let s : AreSequences n r (set old.sequences.items (p % n) (p + n)) = record {
         count = length-set old.sequences.items (p % n) (p + n) ∙ is.shows.sequences.count;
-        places = by_place_turn n p q r (λ i. get_or old.sequences.items i 0)
-            (λ i. get_or (set old.sequences.items (p % n) (p + n)) i 0)
+        places = by_place_turn (λ i. get_or old.sequences.items i 0) (λ i. get_or (set old.sequences.items (p % n) (p + n)) i 0)
             (λ t d. sequence_by t d.mark) (λ t. t) (sound_next e cell) turn is.shows.sequences.places
-            (sequence_else p (p + n))
-            (λ d some. let bad : None ≡ Some d = sym none ∙ some in absurd (cc))
-            (λ _. sequence_here p (p + n));
+            (record {
+              others = sequence_else p (p + n);
+              here = λ d some. let bad : None ≡ Some d = sym none ∙ some in absurd (cc);
+              gone = λ _. sequence_here p (p + n);
+            });
       }
       in let d : AreHeld n r (set old.slots.items (p % n) None) = record {
         count = length-set old.slots.items (p % n) None ∙ is.shows.slots.count;
-        places = by_place_turn n p q r (λ i. get_or old.slots.items i None)
-            (λ i. get_or (set old.slots.items (p % n) None) i None)
+        places = by_place_turn (λ i. get_or old.slots.items i None) (λ i. get_or (set old.slots.items (p % n) None) i None)
             (λ t d. Some (held d.item d.actor)) (λ t. None) (sound_next e cell) turn is.shows.slots.places
-            (slot_else p None)
-            (λ d some. let bad : None ≡ Some d = sym none ∙ some in absurd (cc))
-            (λ _. slot_here p None);
+            (record {
+              others = slot_else p None;
+              here = λ d some. let bad : None ≡ Some d = sym none ∙ some in absurd (cc);
+              gone = λ _. slot_here p None;
+            });
       }
       in let S : List ℕ → Type 0 = λ k. AreSequences n r k
       in let D : List (Option (Held T)) → Type 0 = λ k. AreHeld n r k
       in let done = moved e cell next front (subst S (sym sequences) s, subst D (sym slots) d)
-      in advances old new a (round.PopGrabbed p) (said.Take p x, round.Idle) (ends e)
-      (ap (λ o. taking p o) cell) refl refl done.0 mask done.1
+      in advances {old = old} {a = a} {r = round.PopGrabbed p} {answer = (said.Take p x, round.Idle)} (ap (λ o. taking p o) cell) refl refl
+      done.0 mask done.1
 
 -- a step that only reads
 module _ {T : Type 0} (t : Table T) (is : IsTable t) (a p i s : ℕ) (place : i ≡ p % places_of t)
@@ -223,7 +221,7 @@ module _ {T : Type 0} (t : Table T) (is : IsTable t) (a p i s : ℕ) (place : i 
   stays : (r : Round T) (answer : Said T × Round T) (m : Move T) → move_of (places_of t) (queue_in t) r ≡ m
       → answer.0 ≡ said_of (brought r) m.event → answer.1 ≡ m.round → queue_in t ≡ after_event (queue_in t) a m.event
       → Advances t t a r answer
-  stays r answer m move said round same = advances t t a r answer m move said round same refl is.shows
+  stays r answer m move said round same = advances {old = t} {a = a} {r = r} {answer = answer} move said round same refl is.shows
 
   sequence : s ≡ get_or t.sequences.items (p % places_of t) 0
   sequence =

@@ -47,32 +47,32 @@ keeps_same n q b =
     }
 
 -- a cell of another ticket is not changed by a mark
-other_mark : {T : Type 0} (cs : List (Cell T)) (t p : ℕ) (m : Mark) (a : ℕ) (mark : Mark) (x : T) (b : ℕ) → t ≢ p
+other_mark : {T : Type 0} (cs : List (Cell T)) {t p : ℕ} (m : Mark) (a : ℕ) {mark : Mark} {x : T} {b : ℕ} → t ≢ p
     → HasCell cs p mark x b → HasCell (marked t m a cs) p mark x b
-other_mark cs t p m a mark x b other h = cell_of-marked_other p t m a cs other ∙ h
+other_mark cs {t} {p} m a other h = cell_of-marked_other p t m a cs other ∙ h
 
 -- two look-ups of one ticket find one cell, so one mark and one actor
 same_cell : {T : Type 0} (cs : List (Cell T)) (t p : ℕ) (c d : Cell T) → t ≡ p → cell_of t cs ≡ Some c
     → cell_of p cs ≡ Some d → c ≡ d
 same_cell {T} cs t p c d e h g = let moved = subst (λ (u : ℕ). cell_of u cs ≡ Some c) e h in cc
 
-same_mark : {T : Type 0} (cs : List (Cell T)) (t p : ℕ) (m k : Mark) (x y : T) (a b : ℕ) → t ≡ p → HasCell cs t m x a
+same_mark : {T : Type 0} (cs : List (Cell T)) {t p : ℕ} {m k : Mark} {x y : T} {a b : ℕ} → t ≡ p → HasCell cs t m x a
     → HasCell cs p k y b → m ≡ k
-same_mark {T} cs t p m k x y a b e h g =
+same_mark {T} cs {t} {p} {m} {k} {x} {y} {a} {b} e h g =
     ap (λ (c : Cell T). c.mark)
     (same_cell cs t p (record { ticket = t; mark = m; item = x; actor = a })
     (record { ticket = p; mark = k; item = y; actor = b }) e h g)
 
-same_actor : {T : Type 0} (cs : List (Cell T)) (t p : ℕ) (m k : Mark) (x y : T) (a b : ℕ) → t ≡ p → HasCell cs t m x a
+same_actor : {T : Type 0} (cs : List (Cell T)) {t p : ℕ} {m k : Mark} {x y : T} {a b : ℕ} → t ≡ p → HasCell cs t m x a
     → HasCell cs p k y b → a ≡ b
-same_actor {T} cs t p m k x y a b e h g =
+same_actor {T} cs {t} {p} {m} {k} {x} {y} {a} {b} e h g =
     ap (λ (c : Cell T). c.actor)
     (same_cell cs t p (record { ticket = t; mark = m; item = x; actor = a })
     (record { ticket = p; mark = k; item = y; actor = b }) e h g)
 
-keeps_claim : {T : Type 0} (n : ℕ) (q : Queue T) (a b t : ℕ) (y : T) → 1 ≤ n → IsSound n q → t ≡ q.next
+keeps_claim : {T : Type 0} {n : ℕ} {q : Queue T} (a : ℕ) {b t : ℕ} (y : T) → 1 ≤ n → IsSound n q → t ≡ q.next
     → Keeps n q (after q a (Claim t y)) b
-keeps_claim {T} n q a b t y some s is =
+keeps_claim {T} {n} {q} a {b} {t} y some s is =
     let c : Cell T = record { ticket = t; mark = Claimed; item = y; actor = a } in
     let none : cell_of t q.cells ≡ None = next_is_unlisted n q t s (omega (arith, is)) in
     let stays : (p : ℕ) (m : Mark) (x : T) (w : ℕ) → HasCell q.cells p m x w → HasCell (q.cells ++ c ∷ []) p m x w =
@@ -90,9 +90,9 @@ keeps_claim {T} n q a b t y some s is =
     }
 
 -- a mark leaves a free place free
-room_marked : {T : Type 0} (n p t : ℕ) (m : Mark) (a : ℕ) (cs : List (Cell T)) (k : Mark) (x : T) (w : ℕ)
+room_marked : {T : Type 0} (n : ℕ) {p t : ℕ} (m : Mark) (a : ℕ) (cs : List (Cell T)) {k : Mark} {x : T} {w : ℕ}
     → HasCell cs t k x w → IsRoom n p cs → IsRoom n p (marked t m a cs)
-room_marked n p t m a cs k x w h r u e =
+room_marked n {t} m a cs {k} {x} {w} h r u e =
     cell_of-marked_other u t m a cs
     (λ same. let bad = r u e in let good = subst (λ (v : ℕ). HasCell cs v k x w) same h in absurd (cc)) ∙ r u e
 
@@ -102,18 +102,15 @@ keeps_write {T} n q a b t y other h =
     record {
       next = omega arith;
       front = omega arith;
-      room = λ p le r. room_marked n p t Written a q.cells Claimed y a h r;
+      room = λ p le r. room_marked n Written a q.cells h r;
       claimed = λ p x g.
-          other_mark q.cells t p Written a Claimed x b
-          (λ e. absurd (other (same_actor q.cells t p Claimed Claimed y x a b e h g))) g;
+          other_mark q.cells {t = t} Written a (λ e. absurd (other (same_actor q.cells e h g))) g;
       emptying = λ p x g.
-          other_mark q.cells t p Written a Emptying x b
-          (λ e. let bad = same_mark q.cells t p Claimed Emptying y x a b e h g in absurd (cc)) g;
+          other_mark q.cells {t = t} Written a (λ e. let bad = same_mark q.cells e h g in absurd (cc)) g;
       written = λ p e le w. (
         w.0,
         w.1,
-        other_mark q.cells t p Written a Written w.0 w.1
-            (λ e. let bad = same_mark q.cells t p Claimed Written y w.0 a w.1 e h w.2 in absurd (cc)) w.2,
+        other_mark q.cells {t = t} Written a (λ e. let bad = same_mark q.cells e h w.2 in absurd (cc)) w.2,
       );
     }
 
@@ -123,13 +120,11 @@ keeps_grab {T} n q a b t y w h =
     record {
       next = omega arith;
       front = omega arith;
-      room = λ p le r. room_marked n p t Emptying a q.cells Written y w h r;
+      room = λ p le r. room_marked n Emptying a q.cells h r;
       claimed = λ p x g.
-          other_mark q.cells t p Emptying a Claimed x b
-          (λ e. let bad = same_mark q.cells t p Written Claimed y x w b e h g in absurd (cc)) g;
+          other_mark q.cells {t = t} Emptying a (λ e. let bad = same_mark q.cells e h g in absurd (cc)) g;
       emptying = λ p x g.
-          other_mark q.cells t p Emptying a Emptying x b
-          (λ e. let bad = same_mark q.cells t p Written Emptying y x w b e h g in absurd (cc)) g;
+          other_mark q.cells {t = t} Emptying a (λ e. let bad = same_mark q.cells e h g in absurd (cc)) g;
       written = λ p e le v. absurd (omega (arith, e, le));
     }
 
@@ -146,30 +141,30 @@ keeps_take {T} n q a b t y other h =
           (λ same. let bad = r u e in let good = subst (λ (v : ℕ). HasCell q.cells v Emptying y a) same h in absurd (cc))
           ∙ r u e;
       claimed = λ p x g.
-          stays p Claimed x b (λ e. let bad = same_mark q.cells t p Emptying Claimed y x a b e h g in absurd (cc)) g;
+          stays p Claimed x b (λ e. let bad = same_mark q.cells e h g in absurd (cc)) g;
       emptying = λ p x g.
-          stays p Emptying x b (λ e. absurd (other (same_actor q.cells t p Emptying Emptying y x a b e h g))) g;
+          stays p Emptying x b (λ e. absurd (other (same_actor q.cells e h g))) g;
       written = λ p e le w. (
         w.0,
         w.1,
         stays p Written w.0 w.1
-            (λ e. let bad = same_mark q.cells t p Emptying Written y w.0 a w.1 e h w.2 in absurd (cc)) w.2,
+            (λ e. let bad = same_mark q.cells e h w.2 in absurd (cc)) w.2,
       );
     }
 
-keeps_after : {T : Type 0} (n : ℕ) (q : Queue T) (a b : ℕ) (e : Event T) → 1 ≤ n → IsSound n q → a ≢ b → Allows n q a e
+keeps_after : {T : Type 0} {n : ℕ} {q : Queue T} {a b : ℕ} (e : Event T) → 1 ≤ n → IsSound n q → a ≢ b → Allows n q a e
     → Keeps n q (after q a e) b
-keeps_after n q a b (Claim t x) some s other may = keeps_claim n q a b t x some s may.0
-keeps_after n q a b (Write t) some s other may = keeps_write n q a b t may.0 other may.1
-keeps_after n q a b (Grab t) some s other may = keeps_grab n q a b t may.1.0 may.1.1 may.1.2
-keeps_after n q a b (Take t x) some s other may = keeps_take n q a b t x other may
-keeps_after n q a b (Full t) some s other may = keeps_same n q b
-keeps_after n q a b (Front t) some s other may = keeps_same n q b
-keeps_after n q a b (Empty t) some s other may = keeps_same n q b
-keeps_after n q a b (Idle t) some s other may = keeps_same n q b
-keeps_after n q a b (PushBusy t) some s other may = keeps_same n q b
-keeps_after n q a b (PopBusy t) some s other may = keeps_same n q b
-keeps_after n q a b Spent some s other may = keeps_same n q b
+keeps_after {n} {q} {a} {b} (Claim t x) some s other may = keeps_claim a {b = b} x some s may.0
+keeps_after {n} {q} {a} {b} (Write t) some s other may = keeps_write n q a b t may.0 other may.1
+keeps_after {n} {q} {a} {b} (Grab t) some s other may = keeps_grab n q a b t may.1.0 may.1.1 may.1.2
+keeps_after {n} {q} {a} {b} (Take t x) some s other may = keeps_take n q a b t x other may
+keeps_after {n} {q} {b} (Full t) some s other may = keeps_same n q b
+keeps_after {n} {q} {b} (Front t) some s other may = keeps_same n q b
+keeps_after {n} {q} {b} (Empty t) some s other may = keeps_same n q b
+keeps_after {n} {q} {b} (Idle t) some s other may = keeps_same n q b
+keeps_after {n} {q} {b} (PushBusy t) some s other may = keeps_same n q b
+keeps_after {n} {q} {b} (PopBusy t) some s other may = keeps_same n q b
+keeps_after {n} {q} {b} Spent some s other may = keeps_same n q b
 
 -- no position passes the last
 issued_after : {T : Type 0} (n : ℕ) (q : Queue T) (a : ℕ) (e : Event T) → q.next ≤ last → Allows n q a e
@@ -191,8 +186,8 @@ pub issued_step : {T : Type 0} (n : ℕ) (q : Queue T) (a : ℕ) (o : Option (Ev
 issued_step n q a None most may = most
 issued_step n q a (Some e) most may = issued_after n q a e most (may e refl)
 
-pub others_staged : {T : Type 0} (n : ℕ) (q : Queue T) (a b : ℕ) (o : Option (Event T)) (r : Round T) → 1 ≤ n → IsSound n q
+pub others_staged : {T : Type 0} {n : ℕ} {q : Queue T} {a b : ℕ} {o : Option (Event T)} (r : Round T) → 1 ≤ n → IsSound n q
     → a ≢ b → ((e : Event T) → o ≡ Some e → Allows n q a e) → IsStaged n q b r → IsStaged n (after_event q a o) b r
-others_staged n q a b None r some s other may st = st
-others_staged n q a b (Some e) r some s other may st =
-    keeps_staged n q (after q a e) b r (keeps_after n q a b e some s other (may e refl)) st
+others_staged {o = None} r some s other may st = st
+others_staged {n} {q} {a} {b} {o = Some e} r some s other may st =
+    keeps_staged n q (after q a e) b r (keeps_after e some s other (may e refl)) st

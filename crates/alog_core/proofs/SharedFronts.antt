@@ -75,9 +75,9 @@ keeps_move n q (round.PopFronted t) o was =
     (λ _. ends_keeps o (Empty t) (was t refl))
 
 -- a round is another actor's, or it is the one that was set
-round_set : {T : Type 0} (m : Machine T) (a b : ℕ) (r s : Round T) → length m.rounds ≡ ACTORS → a < ACTORS
+round_set : {T : Type 0} (m : Machine T) {a b : ℕ} {r s : Round T} → length m.rounds ≡ ACTORS → a < ACTORS
     → get_or (set m.rounds a r) b round.Idle ≡ s → (a ≡ b → r ≡ s → ⊥) → round_of m b ≡ s
-round_set {T} m a b r s all lt is apart =
+round_set {T} m {a} {b} {r} {s} all lt is apart =
     let at : a < length m.rounds = omega (arith, all, lt) in
     elim (eqb_tells a b) [
       | inl here ↦
@@ -117,7 +117,7 @@ pub goes_began : {T N : Type 0} (m : Machine T) (a : ℕ) (r : Round T) → leng
     → ((p : ℕ) → r ≢ round.PopFronted p) → GoesOn {N = N} m [] (began m a r)
 goes_began m a r all lt other =
     goes_nowhere m (began m a r) refl refl
-    (λ b p is. round_set m a b r (round.PopFronted p) all lt is (λ _ e. other p e))
+    (λ b p is. round_set m {a = a} {b = b} {r = r} all lt is (λ _ e. other p e))
 
 -- a step's event is its actor's last, and leaves the others'
 latest_after : {T N : Type 0} (a b : ℕ) (note : N) (h : List (Entry T N)) (o : Option (Event T)) → a ≢ b
@@ -126,11 +126,11 @@ latest_after b c note h None other = ap (λ g. latest c g) (append-nil h)
 latest_after a b note h (Some e) other = latest_other b h (record { actor = a; event = e; note = note }) other
 
 -- after the front that it found, an actor is before its last look
-own_front : {T : Type 0} (m : Machine T) (a b p : ℕ) (h : List (Entry T (Unit {0}))) (move : Move T)
+own_front : {T : Type 0} (m : Machine T) {a b p : ℕ} (h : List (Entry T (Unit {0}))) (move : Move T)
     → ((p : ℕ) → move.round ≡ round.PopFronted p → move.event ≡ Some (Front p)) → a ≡ b → length m.rounds ≡ ACTORS → a < ACTORS
     → get_or (set m.rounds a move.round) b round.Idle ≡ round.PopFronted p
     → latest b (h ++ entries_of a tt move.event) ≡ Some (Front p)
-own_front {T} m a b p h move fronts here all lt is =
+own_front {T} m {a} {b} {p} h move fronts here all lt is =
     let at : a < length m.rounds = omega (arith, all, lt) in
     let P : ℕ → Type 0 = λ u. get_or (set m.rounds a move.round) u round.Idle ≡ round.PopFronted p in
     let front : move.event ≡ Some (Front p) =
@@ -143,14 +143,14 @@ goes_step {T} m a reached lt f h leads =
     let move : Move T = next_move m a in
     let says : KeepsFronts (latest a h) move = keeps_move m.places m.queue (round_of m a) (latest a h) (leads.fronts a) in
     record {
-      stands = stands_step m.places f h m.queue a tt move.event leads.stands (fine_step m a reached lt).allowed says.follows;
+      stands = stands_step a tt leads.stands (fine_step m a reached lt).allowed says.follows;
       fronts = λ b p is.
           elim (eqb_tells a b) [
-            | inl here ↦ own_front m a b p h move says.fronts here.1 reached.actors lt is
+            | inl here ↦ own_front m h move says.fronts here.1 reached.actors lt is
             | inr other ↦
                 latest_after a b tt h move.event other.1
                 ∙ leads.fronts b p
-                (round_set m a b move.round (round.PopFronted p) reached.actors lt is (λ e _. other.1 e))
+                (round_set m {a = a} {b = b} {r = move.round} reached.actors lt is (λ e _. other.1 e))
           ];
     }
 

@@ -124,11 +124,11 @@ reached_states_are_sound T N n f h some legal =
     (s, length-sound n (left_by (start f) h) s)
 
 -- a history goes on with a step that is an event, and stays where it is none
-pub stands_step : {T N : Type 0} (n f : ℕ) (h : List (Entry T N)) (q : Queue T) (a : ℕ) (note : N) (o : Option (Event T))
+pub stands_step : {T N : Type 0} {n f : ℕ} {h : List (Entry T N)} {q : Queue T} (a : ℕ) (note : N) {o : Option (Event T)}
     → StandsFor n f h q → ((e : Event T) → o ≡ Some e → Allows n q a e)
     → ((e : Event T) → o ≡ Some e → Follows (latest a h) e)
     → StandsFor n f (h ++ entries_of a note o) (after_event q a o)
-stands_step {T} {N} n f h q a note None s may follows =
+stands_step {T} {N} {n} {f} {h} {q} a note {o = None} s may follows =
     subst (λ (g : List (Entry T N)). StandsFor n f g q) (sym (append-nil h)) s
-stands_step n f h q a note (Some e) s may follows =
+stands_step {n} {f} {h} {q} a note {o = Some e} s may follows =
     stands_after n f h q (record { actor = a; event = e; note = note }) s (may e refl) (follows e refl)

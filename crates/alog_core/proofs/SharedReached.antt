@@ -19,11 +19,15 @@ use Rattle.alog_core.proofs.SharedSound.{sound_after}
 use Rattle.alog_core.proofs.Steps.{IsFine, fine_move}
 use Rattle.alog_core.proofs.Others.{issued_step, others_staged}
 
+-- each actor's round is one that may be there
+abbrev pub EachStaged : {T : Type 0} → ℕ → Queue T → List (Round T) → Type 0
+EachStaged n q rounds = (b : ℕ) → b < ACTORS → IsStaged n q b (get_or rounds b round.Idle)
+
 -- a fact of each actor's round, where one round is replaced
-staged_set : {T : Type 0} (n : ℕ) (q : Queue T) (rounds : List (Round T)) (a : ℕ) (r : Round T) → length rounds ≡ ACTORS
+staged_set : {T : Type 0} (n : ℕ) (q : Queue T) (rounds : List (Round T)) {a : ℕ} (r : Round T) → length rounds ≡ ACTORS
     → a < ACTORS → IsStaged n q a r → ((b : ℕ) → a ≢ b → b < ACTORS → IsStaged n q b (get_or rounds b round.Idle))
-    → (b : ℕ) → b < ACTORS → IsStaged n q b (get_or (set rounds a r) b round.Idle)
-staged_set {T} n q rounds a r all lt st others b below =
+    → EachStaged n q (set rounds a r)
+staged_set {T} n q rounds {a} r all lt st others = λ b below.
     elim (eqb_tells a b) [
       | inl h ↦
           let P : ℕ → Type 0 = λ u. IsStaged n q u (get_or (set rounds a r) u round.Idle) in
@@ -45,7 +49,7 @@ reached_began m a r h lt st =
       sound = h.sound;
       issued = h.issued;
       actors = length-set m.rounds a r ∙ h.actors;
-      staged = staged_set m.places m.queue m.rounds a r h.actors lt st (λ b _ below. h.staged b below);
+      staged = staged_set m.places m.queue m.rounds {a = a} r h.actors lt st (λ b _ below. h.staged b below);
     }
 
 sound_step : {T : Type 0} (n : ℕ) (q : Queue T) (a : ℕ) (o : Option (Event T)) → 1 ≤ n → IsSound n q
@@ -65,9 +69,9 @@ reached_stepped m a h lt =
       sound = sound_step m.places m.queue a e h.small h.sound fine.allowed;
       issued = issued_step m.places m.queue a e h.issued fine.allowed;
       actors = length-set m.rounds a (next_move m a).round ∙ h.actors;
-      staged = staged_set m.places (after_event m.queue a e) m.rounds a (next_move m a).round h.actors lt fine.staged
+      staged = staged_set m.places (after_event m.queue a e) m.rounds {a = a} (next_move m a).round h.actors lt fine.staged
           (λ b other below.
-          others_staged m.places m.queue a b e (round_of m b) h.small h.sound other fine.allowed (h.staged b below));
+          others_staged (round_of m b) h.small h.sound other fine.allowed (h.staged b below));
     }
 
 -- the machine that a table and rounds keep
@@ -95,10 +99,10 @@ machine_is {T} m k e f g =
     ap (λ n. M n m.queue m.rounds) e ∙ (ap (λ q. M k.places q m.rounds) f ∙ ap (λ rs. M k.places k.queue rs) g)
 
 -- after the table's step, with the actor's new round in place, the machine is stepped
-pub stepped_in : {T : Type 0} (t new : Table T) (rounds : List (Round T)) (a : ℕ) (spare r : Round T)
-    (answer : Said T × Round T) → r ≡ get_or rounds a round.Idle → Advances t new a r answer
+pub stepped_in : {T : Type 0} {t new : Table T} (rounds : List (Round T)) {a : ℕ} (spare : Round T) {r : Round T}
+    {answer : Said T × Round T} → r ≡ get_or rounds a round.Idle → Advances t new a r answer
     → kept new (set (set rounds a spare) a answer.1) ≡ stepped (kept t rounds) a
-stepped_in {T} t new rounds a spare r answer e adv =
+stepped_in {T} {t} {new} rounds {a} spare {answer} e adv =
     let made : Advances t new a (get_or rounds a round.Idle) answer =
     subst (λ (s : Round T). Advances t new a s answer) e adv in
     machine_is

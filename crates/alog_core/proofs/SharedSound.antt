@@ -41,9 +41,9 @@ room_rises {T} n next cs some room r =
       | inr h ↦ let e : next - n ≡ next + 1 - n = omega (arith, h.1) in subst P e r
     ]
 
-pub sound_claim : {T : Type 0} (n : ℕ) (q : Queue T) (a t : ℕ) (x : T) → 1 ≤ n → IsSound n q → t ≡ q.next
+pub sound_claim : {T : Type 0} {n : ℕ} {q : Queue T} (a : ℕ) {t : ℕ} (x : T) → 1 ≤ n → IsSound n q → t ≡ q.next
     → IsRoom n t q.cells → IsSound n (after q a (Claim t x))
-sound_claim {T} n q a t x some s is room =
+sound_claim {T} {n} {q} a {t} x some s is room =
     let c : Cell T = record { ticket = t; mark = Claimed; item = x; actor = a }
     in let none : cell_of t q.cells ≡ None = next_is_unlisted n q t s (omega arith)
     in let R : ℕ → Type 0 = λ v. IsRoom n v q.cells
@@ -107,9 +107,9 @@ sound_write {T} n q a t x b s has =
           ];
     }
 
-pub sound_grab : {T : Type 0} (n : ℕ) (q : Queue T) (a t : ℕ) (x : T) (b : ℕ) → IsSound n q → t ≡ q.front
+pub sound_grab : {T : Type 0} {n : ℕ} {q : Queue T} (a : ℕ) {t : ℕ} {x : T} {b : ℕ} → IsSound n q → t ≡ q.front
     → HasCell q.cells t Written x b → IsSound n (after q a (Grab t))
-sound_grab {T} n q a t x b s is has =
+sound_grab {T} {n} {q} a {t} {x} {b} s is has =
     let c : Cell T = record { ticket = t; mark = Written; item = x; actor = b }
     in let in_bounds : (q.next - n ≤ t) × (t < q.next) = listed_within t (q.next - n) q.cells q.next c s.rising has
     in record {
@@ -165,9 +165,9 @@ sound_take {T} n q a t x b s has =
 -- each allowed event keeps the facts of reached states
 pub sound_after : {T : Type 0} (n : ℕ) (q : Queue T) (a : ℕ) (e : Event T) → 1 ≤ n → IsSound n q → Allows n q a e
     → IsSound n (after q a e)
-sound_after n q a (Claim t x) some s may = sound_claim n q a t x some s may.0 may.2
+sound_after n q a (Claim t x) some s may = sound_claim a x some s may.0 may.2
 sound_after n q a (Write t) some s may = sound_write n q a t may.0 a s may.1
-sound_after n q a (Grab t) some s may = sound_grab n q a t may.1.0 may.1.1 s may.0 may.1.2
+sound_after n q a (Grab t) some s may = sound_grab a s may.0 may.1.2
 sound_after n q a (Take t x) some s may = sound_take n q a t x a s may
 sound_after n q a (Full t) some s may = s
 sound_after n q a (Front t) some s may = s

@@ -6,11 +6,14 @@ use Rattle.alog_core.specs.Words.{AreSequences}
 use Rattle.alog_core.specs.Table.{AreHeld}
 use Rattle.alog_core.proofs.Laps.{same_or_not, near_apart}
 
+-- from f up to t each ticket stands in its place
+abbrev pub Sequenced : (n f t : ℕ) → List ℕ → Type 0
+Sequenced n f t row = (u : ℕ) → f ≤ u → u < t → get_or row (u % n) 0 ≡ u
+
 -- a sequence is written: the others stay
-pub sequences_more : (n f t : ℕ) (row : List ℕ) → 2 ≤ n → f ≤ t → t < f + n → length row ≡ n
-    → ((u : ℕ) → f ≤ u → u < t → get_or row (u % n) 0 ≡ u)
-    → (u : ℕ) → f ≤ u → u < t + 1 → get_or (set row (t % n) t) (u % n) 0 ≡ u
-sequences_more n f t row two low high wide before u from to =
+pub sequences_more : {n f t : ℕ} (row : List ℕ) → 2 ≤ n → f ≤ t → t < f + n → length row ≡ n → Sequenced n f t row
+    → Sequenced n f (t + 1) (set row (t % n) t)
+sequences_more {n} {f} {t} row two low high wide before = λ u from to.
     let some : 0 < n = omega arith
     in let place : t % n < n = mod-lt t some
     in elim (same_or_not t u) [
@@ -22,7 +25,7 @@ sequences_more n f t row two low high wide before u from to =
     ]
 
 pub first_sequences : {T : Type 0} (n f : ℕ) (row : List ℕ) → length row ≡ n
-    → ((u : ℕ) → f ≤ u → u < f + n → get_or row (u % n) 0 ≡ u) → AreSequences {T = T} n (start f) row
+    → Sequenced n f (f + n) row → AreSequences {T = T} n (start f) row
 first_sequences n f row wide each = record {
   count = wide;
   places = record { cells = λ t c has. absurd (cc); free = λ t from to _. each t from to };

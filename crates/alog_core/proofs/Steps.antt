@@ -177,9 +177,9 @@ fine_push_read n q a p x s le below =
     (λ late. fine_ends n q a (PushBusy p) (less_from_test p q.next (and_first _ _ late)))
     (λ _. fine_goes_on n q a (round.PushFree p x) (le, below, room_from_test n p q.cells h)))
 
-fine_push_free : {T : Type 0} (n : ℕ) (q : Queue T) (a p : ℕ) (x : T) → IsSound n q → p ≤ q.next → p < last
+fine_push_free : {T : Type 0} {n : ℕ} {q : Queue T} {a p : ℕ} (x : T) → IsSound n q → p ≤ q.next → p < last
     → IsRoom n p q.cells → IsFine n q a (move_of n q (round.PushFree p x))
-fine_push_free {T} n q a p x s le below room =
+fine_push_free {T} {n} {q} {a} {p} x s le below room =
     on_either
     (IsFine n q a)
     (q.next == p)
@@ -260,7 +260,7 @@ pub fine_move : {T : Type 0} (n : ℕ) (q : Queue T) (a : ℕ) (r : Round T) →
 fine_move n q a round.Idle s most st = fine_goes_on n q a round.Idle tt
 fine_move n q a (round.Push x) s most st = fine_push n q a x most
 fine_move n q a (round.PushRead p x) s most st = fine_push_read n q a p x s st.0 st.1
-fine_move n q a (round.PushFree p x) s most st = fine_push_free n q a p x s st.0 st.1 st.2
+fine_move n q a (round.PushFree p x) s most st = fine_push_free {a = a} x s st.0 st.1 st.2
 fine_move n q a (round.PushClaimed p) s most st = fine_ends n q a (Write p) st
 fine_move n q a round.Pop s most st = fine_goes_on n q a (round.PopRead q.front) (omega arith)
 fine_move n q a (round.PopRead p) s most st = fine_pop_read n q a p s st

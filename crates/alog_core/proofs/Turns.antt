@@ -48,30 +48,34 @@ module _ {T : Type 0} (n : ℕ) (q : Queue T) where
     }
 
 -- the ticket's place shows what became of it, and the other places show what they did
-pub by_place_turn : {T X : Type 0} (n t : ℕ) (q r : Queue T) (at at' : ℕ → X) (of_cell : ℕ → Cell T → X)
+pub record Turned {T X : Type 0} (n t : ℕ) (r : Queue T) (at at' : ℕ → X) (of_cell : ℕ → Cell T → X) (waiting : ℕ → X) : Type 0 where
+  pub others : (i : ℕ) → i ≢ t % n → at' i ≡ at i
+  pub here : (c : Cell T) → cell_of t r.cells ≡ Some c → at' (t % n) ≡ of_cell t c
+  pub gone : cell_of t r.cells ≡ None → at' (t % n) ≡ waiting (t + n)
+
+pub by_place_turn : {T X : Type 0} {n t : ℕ} {q r : Queue T} (at at' : ℕ → X) (of_cell : ℕ → Cell T → X)
     (waiting : ℕ → X)
-    → IsSound n r → Turn n t q r → IsByPlace n q at of_cell waiting → ((i : ℕ) → i ≢ t % n → at' i ≡ at i)
-    → ((c : Cell T) → cell_of t r.cells ≡ Some c → at' (t % n) ≡ of_cell t c)
-    → (cell_of t r.cells ≡ None → at' (t % n) ≡ waiting (t + n)) → IsByPlace n r at' of_cell waiting
-by_place_turn {T} n t q r at at' of_cell waiting sound turn old others here gone = record {
+    → IsSound n r → Turn n t q r → IsByPlace n q at of_cell waiting → Turned n t r at at' of_cell waiting
+    → IsByPlace n r at' of_cell waiting
+by_place_turn {T} {n} {t} {q} {r} at at' of_cell waiting sound turn old shows = record {
   cells =
       λ u c is.
       elim (same_or_not t u) [
         | inl same ↦
             let P : ℕ → Type 0 = λ z. (d : Cell T) → cell_of z r.cells ≡ Some d → at' (z % n) ≡ of_cell z d
-            in subst P same here c is
+            in subst P same shows.here c is
         | inr apart ↦
             let w : (r.next - n ≤ u) × (u < r.next) = listed_within u (r.next - n) r.cells r.next c sound.rising is
             in let places_apart : u % n ≢ t % n =
             near_apart n t u apart (omega (arith, w.0, turn.below)) (omega (arith, w.1, turn.near))
-            in others (u % n) places_apart ∙ old.cells u c (sym (turn.others u apart) ∙ is)
+            in shows.others (u % n) places_apart ∙ old.cells u c (sym (turn.others u apart) ∙ is)
       ];
   free =
       λ u from to room.
       elim (same_or_not u (t + n)) [
         | inl same ↦
             let place : u % n ≡ t % n = ap (λ (z : ℕ). z % n) same ∙ add-mod_right t n
-            in ap at' place ∙ gone (room t (sym same)) ∙ ap waiting (sym same)
+            in ap at' place ∙ shows.gone (room t (sym same)) ∙ ap waiting (sym same)
         | inr other ↦
             let places_apart : u % n ≢ t % n =
             far_apart n t u other (omega (arith, turn.below)) (omega (arith, turn.near))
@@ -80,16 +84,20 @@ by_place_turn {T} n t q r at at' of_cell waiting sound turn old others here gone
             elim turn.next [ inl e ↦ omega (arith, e) | inr e ↦ omega (arith, e.0, e.1) ]
             in let old_room : IsRoom n u q.cells = λ v e. let apart : t ≢ v = λ z.
             other (sym e ∙ ap (λ (y : ℕ). y + n) (sym z)) in sym (turn.others v apart) ∙ room v e
-            in others (u % n) places_apart ∙ old.free u from_q to_q old_room
+            in shows.others (u % n) places_apart ∙ old.free u from_q to_q old_room
       ];
 }
 
 -- what shows of a ticket that has a cell after the event
-pub turned : {T X : Type 0} (n t : ℕ) (q r : Queue T) (c : Cell T) (at at' : ℕ → X) (of_cell : ℕ → Cell T → X)
-    (waiting : ℕ → X)
+pub turned : {T X : Type 0} {n t : ℕ} {q r : Queue T} {c : Cell T} (at at' : ℕ → X) (of_cell : ℕ → Cell T → X)
+    {waiting : ℕ → X}
     → IsSound n r → Turn n t q r → cell_of t r.cells ≡ Some c → IsByPlace n q at of_cell waiting
-    → ((i : ℕ) → i ≢ t % n → at' i ≡ at i) → at' (t % n) ≡ of_cell t c → IsByPlace n r at' of_cell waiting
-turned {T} n t q r c at at' of_cell waiting sound turn has old others here =
-    by_place_turn n t q r at at' of_cell waiting sound turn old others
-    (λ d is. let same : c ≡ d = cc in let P : Cell T → Type 0 = λ z. at' (t % n) ≡ of_cell t z in subst P same here)
-    (λ none. let bad : None ≡ Some c = sym none ∙ has in absurd (cc))
+    → ((i : ℕ) → i ≢ t % n → at' i ≡ at i) × (at' (t % n) ≡ of_cell t c) → IsByPlace n r at' of_cell waiting
+turned {T} {n} {t} {q} {r} {c} at at' of_cell {waiting} sound turn has old shows =
+    by_place_turn at at' of_cell waiting sound turn old
+    (record {
+      others = shows.0;
+      here =
+          λ d is. let same : c ≡ d = cc in let P : Cell T → Type 0 = λ z. at' (t % n) ≡ of_cell t z in subst P same shows.1;
+      gone = λ none. let bad : None ≡ Some c = sym none ∙ has in absurd (cc);
+    })

@@ -24,11 +24,11 @@ module _ {T I S R : Type 0} (turns : T → S → I → R → T → S → Type 0)
   Deed = Turned I S R
 
   -- the end of a lane: the seat has all parts
-  pub closes : (id : ℕ) (v : View) (words : List ℕ) (slots : List (LockedValue T I R S))
+  pub closes : (id : ℕ) (v : View) {words : List ℕ} (slots : List (LockedValue T I R S))
       → Final (Seen (λ (s : State (LockedValue T I R S) View). Ruled turns may first s) id v) words slots → v.stage ≡ Idle
       → v.known.parts ≡ ALL_PARTS → IsFaithful v.known
-      → (c : LockedValue T I R S) → get_elem? slots 0 ≡ some c → Closes turns first v.known c.value
-  closes id v words slots final idle all faithful c slot =
+      → {c : LockedValue T I R S} → get_elem? slots 0 ≡ some c → Closes turns first v.known c.value
+  closes id v slots final idle all faithful {c} slot =
       let s : State (LockedValue T I R S) View = final.0
       in let r : Ruled turns may first s = final.1.0
       in let at : get_elem? s.views id ≡ some v = final.1.1

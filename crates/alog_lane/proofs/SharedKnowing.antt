@@ -203,8 +203,8 @@ module _ {K D W : Type 0} (key : K) (h : List (Entry D)) (views : List
     pub both_is_told : {S : Type 0} (out : List (ℕ × S)) → saw_both g (v, out) (seeing_both, out)
     both_is_told out =
         let found = longer_of v.known.seen g h (agrees.seen id v at) (agrees.other id v at g stage)
-        in let exact : AreExact (members_of v.known) longest = exact_between v.known.seen g longest h found.1 found.2
-        (members_of v.known) (members_exact mine_joined) old
+        in let exact : AreExact (members_of v.known) longest = exact_between h found.1 found.2 (members_of v.known)
+        (members_exact mine_joined) old
         in (
           longest,
           found.1,

@@ -84,9 +84,9 @@ module _ {A : Type 0} where
   sum_with_last f l a = let e : sum_by f (a ∷ []) ≡ f a = omega arith in sum_by-append f l (a ∷ []) ∙ ap (λ (n : ℕ). sum_by f l + n) e
 
   -- two terms are parts of the sum
-  pub sum_of_two : (f : A → ℕ) (l : List A) (i j : ℕ) (a b nothing : A) → f nothing ≡ 0 → get_elem? l i ≡ some a
+  pub sum_of_two : (f : A → ℕ) (l : List A) {i j : ℕ} (a b : A) {nothing : A} → f nothing ≡ 0 → get_elem? l i ≡ some a
       → get_elem? l j ≡ some b → j ≢ i → f a + f b ≤ sum_by f l
-  sum_of_two f l i j a b nothing none e g apart =
+  sum_of_two f l {i} {j} a b {nothing} none e g apart =
       let first : sum_by f (set l i nothing) + f a ≡ sum_by f l + f nothing = sum_changed f l i a nothing e
       in let second : sum_by f (set (set l i nothing) j nothing) + f b ≡ sum_by f (set l i nothing) + f nothing = sum_changed f
       (set l i nothing) j b nothing (set_else l i j nothing apart ∙ g)
@@ -132,8 +132,9 @@ module _ {D : Type 0} where
       in no_more (own_of a more) (omega arith)
 
   -- own entries that are exact in a beginning and in the whole are exact between them
-  between : (a : ℕ) (u p h own : List (Entry D)) → IsPrefix u p → IsPrefix p h → own ≡ own_of a u → own ≡ own_of a h → own ≡ own_of a p
-  between a u p h own first second low high =
+  between : (a : ℕ) (u p h : List (Entry D)) {own : List (Entry D)} → IsPrefix u p → IsPrefix p h → own ≡ own_of a u → own ≡ own_of a h
+      → own ≡ own_of a p
+  between a u p h {own} first second low high =
       let P : List (Entry D) = own_of a p
       in let Y : List (Entry D) = own_of a second.0
       in let X : List (Entry D) = own_of a first.0
@@ -144,15 +145,14 @@ module _ {D : Type 0} where
       in let none : Y ≡ [] = no_more Y (omega arith)
       in high ∙ whole ∙ ap (λ l. P ++ l) none ∙ append-nil P
 
-  pub exact_between : (u s p h : List (Entry D)) → IsLonger u s p → IsPrefix p h → (l : List (Member D)) → AreExact l h
+  pub exact_between : {u s p : List (Entry D)} (h : List (Entry D)) → IsLonger u s p → IsPrefix p h → (l : List (Member D)) → AreExact l h
       → AllByRecursion (λ (c : Member D). (c.own ≡ own_of c.seat u) ⊎ (c.own ≡ own_of c.seat s)) l → AreExact l p
-  exact_between u s p h longer below l exact either =
+  exact_between {u} {s} {p} h longer below l exact either =
       each_of_two (λ (c : Member D). c.own ≡ own_of c.seat h) (λ (c : Member D). (c.own ≡ own_of c.seat u)
       ⊎ (c.own ≡ own_of c.seat s)) (λ (c : Member D). c.own ≡ own_of c.seat p) l
       (λ (c : Member D) high low. elim low [
-        | inl e ↦ between c.seat u p h c.own longer.first below e high
-        | inr e ↦ between c.seat
-            s p h c.own longer.second below e high
+        | inl e ↦ between c.seat u p h longer.first below e high
+        | inr e ↦ between c.seat s p h longer.second below e high
       ])
       exact either
 

@@ -151,9 +151,9 @@ module _ {K D W : Type 0} where
     pub seen : IsPrefix w.known.seen h
     pub other : (s : List (Entry D)) → w.stage ≡ Joined s → IsPrefix s h
 
-  pub agrees_look : (key : K) (h : List (Entry D)) (views : List (Sight K D W)) (a : ℕ) (v w : Sight K D W) → Agrees key h views
+  pub agrees_look : {key : K} {h : List (Entry D)} {views : List (Sight K D W)} {a : ℕ} {v w : Sight K D W} → Agrees key h views
       → get_elem? views a ≡ some v → IsLook h a v w → Agrees key h (set views a w)
-  agrees_look key h views a v w agrees at look =
+  agrees_look {key} {h} {views} {a} {v} {w} agrees at look =
       let P : List (Entry D) → Type 0 = λ g. Agrees key g (set views a w)
       in let X : List (Member D) → Type 0 = λ l. AreExact l (h ++ [])
       in let Y : List (Member D) → Type 0 = λ l. AreDistinct l
@@ -203,8 +203,8 @@ module _ {K D W : Type 0} where
       (Sight K D W)) (a : ℕ) (v : Sight K D W) (agrees : Agrees key h views) (at : get_elem? views a ≡ some v)
       (all : v.known.parts ≡ ALL_PARTS) where
     pub others_have_none : (b : ℕ) (u : Sight K D W) → b ≢ a → get_elem? views b ≡ some u → u.known.parts ≡ 0
-    others_have_none b u apart e = let two : parts_of v + parts_of u ≤ sum_by parts_of views = sum_of_two parts_of views a b v u
-        gone refl at e apart in let sum : sum_by parts_of views ≡ ALL_PARTS = agrees.whole in omega arith
+    others_have_none b u apart e = let two : parts_of v + parts_of u ≤ sum_by parts_of views = sum_of_two parts_of views v u
+        {nothing = gone} refl at e apart in let sum : sum_by parts_of views ≡ ALL_PARTS = agrees.whole in omega arith
 
     all_mine : (c : ℕ) → own_of c h ≢ [] → IsAmong c (members_at a v)
     all_mine c some_own =

@@ -148,7 +148,7 @@ module _ {T I S R : Type 0} (turns : T → S → I → R → T → S → Type 0)
         let P : List ℕ → Type 0 = λ ws. Ruled turns may first (record { words = ws; homes = s.homes; views = set s.views id w })
         in subst P (sym (set-get_or s.words i 0)) (record {
           history = r.history;
-          agrees = agrees_look first r.history s.views id v w r.agrees at look;
+          agrees = agrees_look r.agrees at look;
           words = r.words;
           homes = r.homes;
           lock = lock_stays r.history s.words s.homes s.views (set s.views id w) back_set forth_set r.lock;
@@ -174,7 +174,7 @@ module _ {T I S R : Type 0} (turns : T → S → I → R → T → S → Type 0)
                 record {
                   history = r.history;
                   agrees =
-                      agrees_look first r.history s.views id me.0 w r.agrees at (record {
+                      agrees_look {a = id} {v = me.0} {w = w} r.agrees at (record {
                         key = refl;
                         parts = refl;
                         members = sym mine;
@@ -247,11 +247,11 @@ module _ {T I S R : Type 0} (turns : T → S → I → R → T → S → Type 0)
         ]
 
     -- the store of the lock word, after a turn
-    pub gives_back : (x : T) (c : LockedValue T I R S) (t : Turned I S R) (more : List (ℕ × LockedValue T I R S)) → me.0.stage ≡ Working x
+    pub gives_back : {x : T} {c : LockedValue T I R S} (t : Turned I S R) {more : List (ℕ × LockedValue T I R S)} → me.0.stage ≡ Working x
         → me.1 ≡ (0, c) ∷ more → Turns turns x t c.value → Keeps may x c.value
         → c.turns ≡ index_after (me.0.known.seen ++ record { seat = me.0.known.seat; deed = t } ∷ [])
         → Allows (λ (s : State (LockedValue T I R S) View). Ruled turns may first s) slots id me 0 (λ _. 0) (λ _ m. GaveBack t me m)
-    gives_back x c t more stage has turn keeping number s r wide at _ =
+    gives_back {x} {c} t stage has turn keeping number s r wide at _ =
         let mine : members_at id me.0 ≡ members_of me.0.known = by_stage id me.0 (Working x) stage
         in let k : Known Deed = me.0.known
         in let e : Entry Deed = record { seat = k.seat; deed = t }

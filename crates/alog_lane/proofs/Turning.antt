@@ -56,8 +56,7 @@ module _ {T I S R : Type 0} (turns : T → S → I → R → T → S → Type 0)
       in let count : took.new.turns ≡ index_after (m2.0.known.seen ++ its ∷ []) =
       took.count ∙ ap (λ (n : ℕ). (n + 1) % 2 ^ 64) (sym took.index_is ∙ ap (λ (c : Slot). c.turns) found ∙ got.count
       ∙ ap (λ (h : List (Entry (Turned I S R))). index_after h) seen) ∙ index_more m2.0.known.seen its
-      in let go = gives_back turns may first slots id m2 got.locked.value took.new deed [] stage took.is turn_found
-      (subst K found took.keeps) count s r wide at fits
+      in let go = gives_back turns may first slots id m2 deed stage took.is turn_found (subst K found took.keeps) count s r wide at fits
       in (
         go.0,
         go.1,

@@ -46,11 +46,11 @@ module _ {S T N : Type 0} (kind : PlaceKind S T N) (firsts : List S) (n f : ℕ)
   sound_next : (e : Event T) → Allows n r.queue a e → IsSound n (after r.queue a e)
   sound_next e may = sound_after n r.queue a e some_places (sound_now kind firsts n f s r a v at) may
 
-  acted : (note : N) (e : Event T) (stage : Stage T N) (words : List ℕ) (homes : List (maybe.Option S))
+  acted : {note : N} {e : Event T} (stage : Stage T N) {words : List ℕ} {homes : List (maybe.Option S)}
       → Allows n r.queue a e → Follows (latest a r.history) e
       → Staged n (longer note e) (after r.queue a e) (set s.views a (acting note e stage))
       → Shown kind.has (kind.spare firsts) n (longer note e) (after r.queue a e) words homes → Acted note e stage words homes
-  acted note e stage words homes may follows staged shown =
+  acted {note} {e} stage {words} {homes} may follows staged shown =
       let x : Entry T N = entry note v.known e
       in let A : ℕ → Type 0 = λ b. Allows n r.queue b e
       in let F : ℕ → Type 0 = λ b. Follows (latest b r.history) e
@@ -100,7 +100,7 @@ module _ {S T N : Type 0} (kind : PlaceKind S T N) (firsts : List S) (n f : ℕ)
       (get_elem? (set s.homes (t % n) maybe.none) (t % n)) c.item c.mark
       in (
         old.1,
-        acted kind.blank e (Writing t x) words (set s.homes (t % n) maybe.none) may tt
+        acted {note = kind.blank} {e = e} (Writing t x) may tt
             (staged_turn n a t q q' turn r.history (entry kind.blank v.known e ∷ []) s.views v
             (acting kind.blank e (Writing t x)) at r.staged (work, has)
             (record {
@@ -122,8 +122,8 @@ module _ {S T N : Type 0} (kind : PlaceKind S T N) (firsts : List S) (n f : ℕ)
                     actor = b;
                   } = cc in let m : Claimed ≡ Emptying = ap (λ (c : Cell T). c.mark) same in cc);
             }))
-            (shown_turn kind.has (kind.spare firsts) n a t q q' r.history (longer kind.blank e) s.words words s.homes
-            (set s.homes (t % n) maybe.none) (sound_next e may) turn (omega arith) r.shown
+            (shown_turn kind.has (kind.spare firsts) {h' = longer kind.blank e} {words' = words}
+            {homes' = set s.homes (t % n) maybe.none} (sound_next e may) turn (omega arith) r.shown
             (record {
               wide = length-set s.words NEXT (t + 1);
               places = length-set s.homes (t % n) maybe.none;
@@ -159,7 +159,7 @@ module _ {S T N : Type 0} (kind : PlaceKind S T N) (firsts : List S) (n f : ℕ)
       in let W : Cell T → Type 0 =
       λ c.
       ShowsCell kind.has (kind.spare firsts) t (get_or words (seq_of n t) 0) (get_elem? homes (t % n)) c.item c.mark
-      in acted kind.blank e Idle words homes may tt
+      in acted {note = kind.blank} {e = e} Idle may tt
       (staged_turn n a t q q' turn r.history (entry kind.blank v.known e ∷ []) s.views v
       (acting kind.blank e Idle) at r.staged work
       (record {
@@ -174,7 +174,7 @@ module _ {S T N : Type 0} (kind : PlaceKind S T N) (firsts : List S) (n f : ℕ)
             absurd (let same : new ≡ record { ticket = t; mark = Emptying; item = y; actor = b } = cc in
             let m : Written ≡ Emptying = ap (λ (c : Cell T). c.mark) same in cc);
       }))
-      (shown_turn kind.has (kind.spare firsts) n a t q q' r.history (longer kind.blank e) s.words words s.homes homes
+      (shown_turn kind.has (kind.spare firsts) {h' = longer kind.blank e} {words' = words} {homes' = homes}
       (sound_next e may) turn below.1 r.shown
       (record {
         wide = length-set s.words (seq_of n t) (t + 1);
@@ -229,7 +229,7 @@ module _ {S T N : Type 0} (kind : PlaceKind S T N) (firsts : List S) (n f : ℕ)
       (get_elem? (set s.homes (t % n) maybe.none) (t % n)) c.item c.mark
       in (
         before.1,
-        acted kind.blank e (Reading t x) words (set s.homes (t % n) maybe.none) may tt
+        acted {note = kind.blank} {e = e} (Reading t x) may tt
             (staged_turn n a t q q' turn r.history (entry kind.blank v.known e ∷ []) s.views v
             (acting kind.blank e (Reading t x)) at r.staged (work, has)
             (record {
@@ -242,8 +242,8 @@ module _ {S T N : Type 0} (kind : PlaceKind S T N) (firsts : List S) (n f : ℕ)
                   let same : new ≡ record { ticket = t; mark = Emptying; item = y; actor = j } = cc in
                   (sym (ap (λ (c : Cell T). c.actor) same), ap (λ (c : Cell T). Reading t c.item) same);
             }))
-            (shown_turn kind.has (kind.spare firsts) n a t q q' r.history (longer kind.blank e) s.words words s.homes
-            (set s.homes (t % n) maybe.none) (sound_next e may) turn below.1 r.shown
+            (shown_turn kind.has (kind.spare firsts) {h' = longer kind.blank e} {words' = words}
+            {homes' = set s.homes (t % n) maybe.none} (sound_next e may) turn below.1 r.shown
             (record {
               wide = length-set s.words FRONT (t + 1);
               places = length-set s.homes (t % n) maybe.none;
@@ -277,7 +277,7 @@ module _ {S T N : Type 0} (kind : PlaceKind S T N) (firsts : List S) (n f : ℕ)
       in let below : (q.next - n ≤ t) × (t < q.next) = within n q t was sound old
       in let words : List ℕ = set s.words (seq_of n t) (t + n)
       in let homes : List (maybe.Option S) = set s.homes (t % n) (maybe.some y)
-      in acted note e Idle words homes may tt
+      in acted {note = note} {e = e} Idle may tt
       (staged_turn n a t q q' turn r.history (entry note v.known e ∷ []) s.views v (acting note e Idle) at r.staged work
       (record {
         left_write = λ p y is. absurd (let wrong : Reading t x ≡ Writing p y = sym stage ∙ is in cc);
@@ -287,7 +287,7 @@ module _ {S T N : Type 0} (kind : PlaceKind S T N) (firsts : List S) (n f : ℕ)
         now_read =
             λ y b h. not_both gone h;
       }))
-      (shown_turn kind.has (kind.spare firsts) n a t q q' r.history (longer note e) s.words words s.homes homes
+      (shown_turn kind.has (kind.spare firsts) {h' = longer note e} {words' = words} {homes' = homes}
       (sound_next e may) turn below.1 r.shown (record {
         wide = length-set s.words (seq_of n t) (t + n);
         places = length-set s.homes (t % n) (maybe.some y);

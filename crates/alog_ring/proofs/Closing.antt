@@ -210,7 +210,7 @@ module _ {S T N : Type 0} {kind : PlaceKind S T N} {firsts : List S} {admits : S
             legal = legal_prefix kind firsts n f end.fin.0 r end.id v end.fin.1.1 live r.history (prefix_same r.history);
             own = has.own ∙ ap (λ (z : ℕ). own_of z r.history) (sym work.0);
             joined = has.joined;
-            distinct = members_distinct n f end.id r.history end.fin.0.views v r.told end.fin.1.1 live work.0;
+            distinct = members_distinct v r.told end.fin.1.1 live work.0;
           };
           actors =
               all_actors (λ b. (b ≡ k.actor) ⊎ IsAmong b k.joined) r.history

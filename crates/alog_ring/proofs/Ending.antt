@@ -82,11 +82,11 @@ module _ {T N : Type 0} where
 
 -- what a table tells at its end, of the pass with which it was closed: the table's history is what the pass has seen
 pub ends : {S T N : Type 0} {kind : PlaceKind S T N} {firsts : List S} {admits : S → Type 0} {n f : ℕ} {v : Sight T N}
-    {words : List ℕ} {places : List S} → AtEnd kind firsts admits n f v words places → (k : Known T N) (m front next : ℕ)
+    {words : List ℕ} {places : List S} → AtEnd kind firsts admits n f v words places → {k : Known T N} {m front next : ℕ}
     → v.known ≡ k → n ≡ m → IsFaithful v.known → get_elem? words FRONT ≡ maybe.some front
     → get_elem? words NEXT ≡ maybe.some next
     → IsWhole k × LeftBy kind firsts admits k k.seen m places front next
-ends {S} {T} {N} {kind} {firsts} {admits} {n} {f} {v} {words} {places} end k m front next is count faithful at at_next =
+ends {S} {T} {N} {kind} {firsts} {admits} {n} {f} {v} {words} {places} end {m} {front} {next} is count faithful at at_next =
     let left : Leaves kind firsts admits v.known n places front next = leaves end front next at at_next
     in let seen : left.history ≡ v.known.seen = whole_was_seen v.known left.history faithful left.seen left.whole
     in let H : List (Entry T N) → Type 0 = λ h. IsWhole (having_seen v.known h)

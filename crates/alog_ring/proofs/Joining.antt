@@ -282,7 +282,7 @@ module _ {T N : Type 0} where
         ]
         in let distinct_both : AreDistinct both.known.joined =
         distinct_append v.known.joined (members_of w.known) (r.told.distinct a v at live)
-        (members_distinct n f o r.history s.views w r.told at_other other_live other_work.0) cross
+        (members_distinct w r.told at_other other_live other_work.0) cross
         in let against_both : (j : ℕ) (x : Sight T N) → j ≢ a → j ≢ o → get_elem? s.views j ≡ some x → 0 < x.known.parts
         → (c : ℕ) → IsAmong c both.known.joined → ¬ IsAmong c x.known.joined =
         λ j x not_a not_o g some_parts c is in_x.

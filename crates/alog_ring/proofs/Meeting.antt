@@ -59,9 +59,9 @@ module _ {T N : Type 0} where
       ]
 
   -- a member that is exact in a beginning and in the whole is exact between them
-  between : (a : ℕ) (u p h own : List (Entry T N)) → IsPrefix u p → IsPrefix p h → own ≡ own_of a u → own ≡ own_of a h
+  between : (a : ℕ) (u p h : List (Entry T N)) {own : List (Entry T N)} → IsPrefix u p → IsPrefix p h → own ≡ own_of a u → own ≡ own_of a h
       → own ≡ own_of a p
-  between a u p h own first second low high =
+  between a u p h {own} first second low high =
       let P : List (Entry T N) = own_of a p
       in let Y : List (Entry T N) = own_of a second.0
       in let X : List (Entry T N) = own_of a first.0
@@ -72,15 +72,15 @@ module _ {T N : Type 0} where
       in let none : Y ≡ [] = no_more Y (omega arith)
       in high ∙ whole ∙ ap (λ l. P ++ l) none ∙ append-nil P
 
-  exact_between : (u s p h : List (Entry T N)) → IsLonger u s p → IsPrefix p h → (l : List (Member T N)) → AreExact l h
+  exact_between : {u s p : List (Entry T N)} (h : List (Entry T N)) → IsLonger u s p → IsPrefix p h → (l : List (Member T N)) → AreExact l h
       → AllByRecursion (IsExactIn u s) l → AreExact l p
-  exact_between u s p h longer below l exact either =
+  exact_between {u} {s} {p} h longer below l exact either =
       each_of_two (λ (c : Member T N). c.own ≡ own_of c.actor h) (IsExactIn u s)
       (λ (c : Member T N). c.own ≡ own_of c.actor p) l
       (λ (c : Member T N) high low.
       elim low [
-        | inl e ↦ between c.actor u p h c.own longer.first below e high
-        | inr e ↦ between c.actor s p h c.own longer.second below e high
+        | inl e ↦ between c.actor u p h longer.first below e high
+        | inr e ↦ between c.actor s p h longer.second below e high
       ])
       exact either
 
@@ -146,7 +146,7 @@ module _ {S T N : Type 0} (kind : PlaceKind S T N) (firsts : List S) (n f : ℕ)
               own = more.own ∙ sym (append-nil v.known.own);
               seen = prefix_longer w.known.seen r.history [] more.seen;
             });
-        staged = staged_on n a r.queue r.history [] s.views v w (sound_now kind firsts n f s r a v at) at r.staged knows free;
+        staged = staged_on a [] w (sound_now kind firsts n f s r a v at) at r.staged knows free;
         shown = shown_on kind.has (kind.spare firsts) n r.queue r.history (r.history ++ []) s.words s.homes
             (λ t z is. let P : List (Entry T N) → Type 0 = λ h. kind.spare firsts n h t z in subst P (sym (append-nil r.history)) is) r.shown;
       })
@@ -234,8 +234,8 @@ module _ {S T N : Type 0} (kind : PlaceKind S T N) (firsts : List S) (n f slots 
           found.1,
           refl,
           legal_prefix kind firsts n f s r id me.0 at live h found.2,
-          exact_between k.seen t h r.history found.1 found.2 (members_of k) (own, has.joined),
-          members_distinct n f id r.history s.views me.0 r.told at live knows.0.0,
+          exact_between r.history found.1 found.2 (members_of k) (own, has.joined),
+          members_distinct me.0 r.told at live knows.0.0,
           (let most : k.parts ≤ sum_by parts_of s.views = has_at_most s.views id me.0 at in omega (arith, r.told.whole)),
           refl,
         ),
@@ -246,7 +246,7 @@ module _ {S T N : Type 0} (kind : PlaceKind S T N) (firsts : List S) (n f slots 
       (idle : me.0.stage ≡ Idle) (all : me.0.known.parts ≡ ALL_PARTS) where
     others_have_none : (b : ℕ) (u : Sight T N) → b ≢ id → get_elem? s.views b ≡ some u → u.known.parts ≡ 0
     others_have_none b u apart e = let two : parts_of me.0 + parts_of u ≤ sum_by parts_of s.views =
-        sum_of_two parts_of s.views id b me.0 u (gone {T = T} {N = N}) refl at e apart in omega (arith, r.told.whole)
+        sum_of_two parts_of s.views me.0 u {nothing = gone {T = T} {N = N}} refl at e apart in omega (arith, r.told.whole)
 
     pub actors_now : (b : ℕ) → own_of b r.history ≢ [] → (b ≡ id) ⊎ IsAmong b me.0.known.joined
     actors_now b some_own =

@@ -1,5 +1,5 @@
 -- The steps on the places of a ring, at the words that the code names.
-use Rattle.std.proofs.Common.{◌≡◌, ℕ, ◌+◌, ◌%◌, ◌<◌, eqb, List, [], ◌∷◌, sym, ap, subst, ◌∙◌}
+use Rattle.std.proofs.Common.{◌≡◌, ℕ, ◌+◌, ◌%◌, ◌<◌, eqb, List, [], ◌∷◌, refl, sym, ap, subst, ◌∙◌}
 use mathlib.Core.Option.{some}
 use prog.Atomic.{either}
 use Rattle.atomic_table.specs.Table.{State, Me, step, carried_after, Allows}
@@ -61,24 +61,24 @@ module _ {S T N : Type 0} (kind : PlaceKind S T N) (firsts : List S) (admits : S
       (kept_in (seq_of n t) (λ y. y) (λ y m. saw_free kind.blank t me y m) (sees_free kind firsts n f slots id me t stage)))
 
   -- the claim, as what picks the first places and the limit knows them
-  pub claim_may : (known : List S) (more : S → Type 0) → known ≡ firsts → ((y : S) → admits y → more y) → (t new : ℕ) (said : S)
-      → ((x : T) × kind.has said x) → me.0.stage ≡ SawFree t → new ≡ t + 1 → t < last
-      → Allows Holds slots id me NEXT (λ y. either (eqb y t) new y)
-      (λ y m. claimed kind.blank kind.has (kind.spare known) (step slots NEXT t new (some said)) me y m × AreHeld more m.1)
-  claim_may known more same is t new said there stage next low =
+  pub claim_may : {known : List S} (more : S → Type 0) → known ≡ firsts → ((y : S) → admits y → more y) → (t : ℕ) (said : S)
+      → ((x : T) × kind.has said x) → me.0.stage ≡ SawFree t → t < last
+      → Allows Holds slots id me NEXT (λ y. either (eqb y t) (t + 1) y)
+      (λ y m. claimed kind.blank kind.has (kind.spare known) (step slots NEXT t (t + 1) (some said)) me y m × AreHeld more m.1)
+  claim_may more same is t said there stage low =
       let A : List S → Type 0 = λ z.
-      Allows Holds slots id me NEXT (λ y. either (eqb y t) new y)
-      (λ y m. claimed kind.blank kind.has (kind.spare z) (step slots NEXT t new (some said)) me y m × AreHeld more m.1)
+      Allows Holds slots id me NEXT (λ y. either (eqb y t) (t + 1) y)
+      (λ y m. claimed kind.blank kind.has (kind.spare z) (step slots NEXT t (t + 1) (some said)) me y m × AreHeld more m.1)
       in subst A (sym same)
-      (taking_in more is NEXT (λ y. either (eqb y t) new y)
-      (λ y m. claimed kind.blank kind.has (kind.spare firsts) (step slots NEXT t new (some said)) me y m)
-      (claims kind firsts n f slots id me t new there.0 said there.1 stage next low))
+      (taking_in more is NEXT (λ y. either (eqb y t) (t + 1) y)
+      (λ y m. claimed kind.blank kind.has (kind.spare firsts) (step slots NEXT t (t + 1) (some said)) me y m)
+      (claims kind firsts n f slots id me t (t + 1) there.0 said there.1 stage refl low))
 
-  pub write_may : (i t new : ℕ) (x : T) (y : S) (more : List (ℕ × S)) → kind.has y x → i ≡ seq_of n t → new ≡ t + 1
+  pub write_may : {i : ℕ} (t : ℕ) {new : ℕ} (x : T) {y : S} {more : List (ℕ × S)} → kind.has y x → i ≡ seq_of n t → new ≡ t + 1
       → me.0.stage ≡ Writing t x → me.1 ≡ (t % n, y) ∷ more
       → Allows Holds slots id me i (λ _. new)
       (λ _ m. (u : ℕ) (z : T) → me.0.stage ≡ Writing u z → wrote kind.blank u me m)
-  write_may i t new x y more lies is next stage has =
+  write_may {i} t x {y} {more} lies is next stage has =
       let A : ℕ → Type 0 = λ k.
       Allows Holds slots id me i (λ _. k) (λ _ m. (u : ℕ) (z : T) → me.0.stage ≡ Writing u z → wrote kind.blank u me m)
       in subst A (sym next)
@@ -128,10 +128,10 @@ module _ {S T N : Type 0} (kind : PlaceKind S T N) (firsts : List S) (admits : S
   TookAll m = (u : ℕ) (z : T) (j : ℕ) (b : S) (l : List (ℕ × S)) (a : N) → me.0.stage ≡ Reading u z → me.1 ≡ (j, b) ∷ l
       → kind.brings a b → took a u z me m
 
-  pub take_may : (i t new : ℕ) (x : T) (y : S) (note : N) (more : List (ℕ × S)) → kind.brings note y → i ≡ seq_of n t
+  pub take_may : {i : ℕ} (t : ℕ) {new : ℕ} (x : T) {y : S} (note : N) {more : List (ℕ × S)} → kind.brings note y → i ≡ seq_of n t
       → new ≡ t + n → me.0.stage ≡ Reading t x → me.1 ≡ (t % n, y) ∷ more
       → Allows Holds slots id me i (λ _. new) (λ _ m. TookAll m)
-  take_may i t new x y note more brings is next stage has =
+  take_may {i} t x {y} note {more} brings is next stage has =
       let A : ℕ → Type 0 = λ w. Allows Holds slots id me i (λ _. w) (λ _ m. TookAll m)
       in subst A (sym next)
       (at_word i t (λ _. t + n) (λ _ m. TookAll m) is

@@ -60,9 +60,9 @@ module _ {A : Type 0} where
       let at : get_or l i a ≡ a = found l i a a e
       in ap (λ (x : A). sum_by f (set l i b) + f x) (sym at) ∙ sum_by-set f l i b a (inside l i a e)
 
-  pub sum_of_two : (f : A → ℕ) (l : List A) (i j : ℕ) (a b nothing : A) → f nothing ≡ 0 → get_elem? l i ≡ some a
+  pub sum_of_two : (f : A → ℕ) (l : List A) {i j : ℕ} (a b : A) {nothing : A} → f nothing ≡ 0 → get_elem? l i ≡ some a
       → get_elem? l j ≡ some b → j ≢ i → f a + f b ≤ sum_by f l
-  sum_of_two f l i j a b nothing none e g apart =
+  sum_of_two f l {i} {j} a b {nothing} none e g apart =
       let first : sum_by f (set l i nothing) + f a ≡ sum_by f l + f nothing = sum_changed f l i a nothing e
       in let second : sum_by f (set (set l i nothing) j nothing) + f b ≡ sum_by f (set l i nothing) + f nothing =
       sum_changed f (set l i nothing) j b nothing (set_else l i j nothing apart ∙ g)

@@ -96,7 +96,7 @@ module _ {S T N : Type 0} (kind : PlaceKind S T N) (firsts : List S) (n f : ℕ)
         in let Q : ℕ → Type 0 = λ z. IsLegal n z (r.history ++ more)
         in let R : ℕ → Type 0 = λ z. v.known.own ++ more ≡ own_of z (r.history ++ more)
         in let now : (v.known.own ++ more ≡ own_of a (r.history ++ more)) × AreExact v.known.joined (r.history ++ more) =
-        faithful_now n f a r.history more s.views v r.told at work.1 of
+        faithful_now v r.told at work.1 of
         in record {
           places = refl;
           first = refl;
@@ -109,7 +109,7 @@ module _ {S T N : Type 0} (kind : PlaceKind S T N) (firsts : List S) (n f : ℕ)
             legal = subst P (sym (r.told.places a v at work.1)) (subst Q (sym (r.told.first a v at work.1)) stands.legal);
             own = subst R (sym work.0) now.0;
             joined = now.1;
-            distinct = members_distinct n f a r.history s.views v r.told at work.1 work.0;
+            distinct = members_distinct v r.told at work.1 work.0;
           };
         }
 
@@ -139,7 +139,7 @@ module _ {S T N : Type 0} (kind : PlaceKind S T N) (firsts : List S) (n f : ℕ)
         Ruled kind.has (kind.spare firsts) n f (record { words = ws; homes = s.homes; views = set s.views a stepping })
         in subst P (sym (set-get_or s.words i 0))
         (kept r.queue s.words s.homes stands
-        (staged_on n a r.queue r.history more s.views v stepping sound_now at r.staged knows free)
+        (staged_on a more stepping sound_now at r.staged knows free)
         (shown_on kind.has (kind.spare firsts) n r.queue r.history (r.history ++ more) s.words s.homes same r.shown))
 
   -- the seat only looks
@@ -170,7 +170,7 @@ module _ {S T N : Type 0} (kind : PlaceKind S T N) (firsts : List S) (n f : ℕ)
   last_made work note e =
       let x : Entry T N = entry note v.known e
       in ap (λ (l : List (Entry T N)). last_event None l)
-      (faithful_now n f a r.history (x ∷ []) s.views v r.told at work.1 (one_of a x work.0)).0
+      (faithful_now v r.told at work.1 (one_of a x work.0)).0
       ∙ latest_own a r.history x work.0
 
   -- the rule after a refusal that a load at this word told, and what it tells
@@ -185,29 +185,32 @@ module _ {S T N : Type 0} (kind : PlaceKind S T N) (firsts : List S) (n f : ℕ)
       })
       × Adds kind.blank v.known (grown v.known r.history (entry kind.blank v.known e ∷ [])) e
 
+  -- an event that changes nothing, and is no take
+  abbrev pub IsStill : Event T → Type 0
+  IsStill e = (after r.queue a e ≡ r.queue) × ((u : ℕ) (y : T) → e ≢ Take u y)
+
   -- the seat tells a refusal, which changes nothing, and stands at this stage then
-  pub tells : (i : ℕ) → IsAtWork a v.known → IsFree v.stage → (stage : Stage T N) (e : Event T) → Allows n r.queue a e
-      → Follows (latest a r.history) e → after r.queue a e ≡ r.queue → ((u : ℕ) (y : T) → e ≢ Take u y)
+  pub tells : (i : ℕ) → IsAtWork a v.known → IsFree v.stage → (stage : Stage T N) {e : Event T} → Allows n r.queue a e
+      → Follows (latest a r.history) e → IsStill e
       → Knows n (r.history ++ entry kind.blank v.known e ∷ []) r.queue a
       (grown v.known r.history (entry kind.blank v.known e ∷ [])) stage
       → Refused i stage e
-  tells i work free stage e may follows still no_take knows =
+  tells i work free stage {e} may follows still knows =
       let x : Entry T N = entry kind.blank v.known e
       in let P : Queue T → Type 0 = λ q. StandsFor n f (r.history ++ x ∷ []) q
       in let A : ℕ → Type 0 = λ b. Allows n r.queue b e
       in let B : ℕ → Type 0 = λ b. after r.queue b e ≡ r.queue
       in let F : ℕ → Type 0 = λ b. Follows (latest b r.history) e
       in let stands : StandsFor n f (r.history ++ x ∷ []) r.queue =
-      subst P (subst B (sym work.0) still)
+      subst P (subst B (sym work.0) still.0)
       (stands_after n f r.history r.queue x r.stands (subst A (sym work.0) may) (subst F (sym work.0) follows))
       in (
         kept_still work (x ∷ []) (one_of a x work.0) stage i free stands
-            (λ t. kind.stays firsts n r.history x t (λ u y is. absurd (no_take u y is))) knows,
+            (λ t. kind.stays firsts n r.history x t (λ u y is. absurd (still.1 u y is))) knows,
         (made work (x ∷ []) (one_of a x work.0) stage r.queue stands, (r.history, refl)),
       )
 
   -- the seat ends its round with a refusal
   pub refuses : (i : ℕ) → IsAtWork a v.known → IsFree v.stage → (e : Event T) → Allows n r.queue a e
-      → Follows (latest a r.history) e → after r.queue a e ≡ r.queue → ((u : ℕ) (y : T) → e ≢ Take u y)
-      → Refused i Idle e
-  refuses i work free e may follows still no_take = tells i work free Idle e may follows still no_take work
+      → Follows (latest a r.history) e → IsStill e → Refused i Idle e
+  refuses i work free e may follows still = tells i work free Idle may follows still work

@@ -46,11 +46,11 @@ module _ {S T N : Type 0} (has : S → T → Type 0) (spare : ℕ → List (Entr
         × ((y : S) × (get_elem? homes' (t % n) ≡ some (some y)) × spare n h' (t + n) y)
     pub spare_else : (u : ℕ) → u ≢ t + n → (y : S) → spare n h u y → spare n h' u y
 
-  pub shown_turn : (n a t : ℕ) (q r : Queue T) (h h' : List (Entry T N)) (words words' : List ℕ)
-      (homes homes' : List (Option S))
+  pub shown_turn : {n a t : ℕ} {q r : Queue T} {h h' : List (Entry T N)} {words words' : List ℕ}
+      {homes homes' : List (Option S)}
       → IsSound n r → Turn n a t q r → t < r.next → Shown has spare n h q words homes
       → Turned n t r h h' words words' homes homes' → Shown has spare n h' r words' homes'
-  shown_turn n a t q r h h' words words' homes homes' sound turn below shown turned = record {
+  shown_turn {n} {t} {q} {r} {h'} {words} {words'} {homes'} sound turn below shown turned = record {
     wide = turned.wide ∙ shown.wide;
     places = turned.places ∙ shown.places;
     next = turned.next;

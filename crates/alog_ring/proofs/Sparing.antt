@@ -48,17 +48,17 @@ gone_after n u a q Spent may gone = gone
 
 module _ {S T N : Type 0} (kind : PlaceKind S T N) (firsts : List S) where
   -- the spare for a ticket, the one a lap before which is gone, stays
-  spare_kept : (n t : ℕ) (q : Queue T) (h more : List (Entry T N)) (y : S) → IsLegalFrom n q more
+  spare_kept : (n : ℕ) {t : ℕ} (q : Queue T) (h more : List (Entry T N)) (y : S) → IsLegalFrom n q more
       → ((u : ℕ) → u + n ≡ t → IsGone u q) → kind.spare firsts n h t y → kind.spare firsts n (h ++ more) t y
-  spare_kept n t q h [] y legal gone is =
+  spare_kept n {t} q h [] y legal gone is =
       subst (λ (l : List (Entry T N)). kind.spare firsts n l t y) (sym (append-nil h)) is
-  spare_kept n t q h (x ∷ more) y legal gone is =
+  spare_kept n {t} q h (x ∷ more) y legal gone is =
       let no_take : (u : ℕ) (z : T) → x.event ≡ Take u z → u + n ≢ t =
       λ u z take apart. let may : Allows n q x.actor (Take u z) = subst (Allows n q x.actor) take legal.0 in
       not_both (gone u apart).0 may
       in let now : kind.spare firsts n (h ++ x ∷ []) t y = kind.stays firsts n h x t no_take y is
       in subst (λ (l : List (Entry T N)). kind.spare firsts n l t y) (append_assoc h (x ∷ []) more)
-      (spare_kept n t (after q x.actor x.event) (h ++ x ∷ []) more y legal.1
+      (spare_kept n {t = t} (after q x.actor x.event) (h ++ x ∷ []) more y legal.1
       (λ u e. gone_after n u x.actor q x.event legal.0 (gone u e)) now)
 
   -- what was swapped with a place, as the pass knows it
@@ -91,7 +91,7 @@ module _ {S T N : Type 0} (kind : PlaceKind S T N) (firsts : List S) where
       (cell_of-append_other u q.cells _ apart ∙ may.2 u e, (let low : u < q.next + 1 = omega (arith, may.0, some_places) in low))
       in let spare : kind.spare firsts n new.seen t back =
       subst (λ (l : List (Entry T N)). kind.spare firsts n l t back) is
-      (spare_kept n t now k.seen more back (legal_second n (start k.first) k.seen more all) gone did.spare)
+      (spare_kept n now k.seen more back (legal_second n (start k.first) k.seen more all) gone did.spare)
       in record {
         item = did.item;
         has = did.has;

@@ -28,11 +28,14 @@ masks n mask power is up t =
     in let S : ℕ → Type 0 = λ k. P mask k
     in subst S up (subst R (sym is) at_n)
 
+-- from f up to t each ticket stands in its word
+abbrev pub Sequenced : (n f t : ℕ) → List ℕ → Type 0
+Sequenced n f t row = (u : ℕ) → f ≤ u → u < t → get_or row (seq_of n u) 0 ≡ u
+
 -- a sequence is written: the others stay
-pub words_more : (n f t : ℕ) (row : List ℕ) → 2 ≤ n → f ≤ t → t < f + n → length row ≡ word_count n
-    → ((u : ℕ) → f ≤ u → u < t → get_or row (seq_of n u) 0 ≡ u)
-    → (u : ℕ) → f ≤ u → u < t + 1 → get_or (set row (seq_of n t) t) (seq_of n u) 0 ≡ u
-words_more n f t row two low high wide before u from to =
+pub words_more : {n f t : ℕ} (row : List ℕ) → 2 ≤ n → f ≤ t → t < f + n → length row ≡ word_count n → Sequenced n f t row
+    → Sequenced n f (t + 1) (set row (seq_of n t) t)
+words_more {n} {f} {t} row two low high wide before = λ u from to.
     let some : 0 < n = omega arith
     in let place : t % n < n = mod-lt t some
     in elim (same_or_not t u) [
@@ -73,10 +76,10 @@ spares_first shows spares n f some all t from to =
       | inr past ↦ absurd (omega arith)
     ]
 
-pub starts : {S T N : Type 0} (kind : PlaceKind S T N) (firsts places : List S) (n f : ℕ) (words : List ℕ) → 2 ≤ n → f < last
+pub starts : {S T N : Type 0} (kind : PlaceKind S T N) (firsts places : List S) {n f : ℕ} {words : List ℕ} → 2 ≤ n → f < last
     → AreFirstWords n f words → length places ≡ n → AreFirst kind firsts places n f
     → Ruled kind.has (kind.spare firsts) n f (opening words places (first_sight n f))
-starts {S} {T} {N} kind firsts places n f words two low are all lie =
+starts {S} {T} {N} kind firsts places {n} {f} two low are all lie =
     let one : (a : ℕ) (v : Sight T N) → get_elem? (first_sight {T = T} {N = N} n f ∷ []) a ≡ maybe.some v
     → (a ≡ 0) × (first_sight n f ≡ v) = only
     in record {

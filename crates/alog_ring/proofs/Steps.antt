@@ -66,7 +66,7 @@ module _ {S T N : Type 0} (kind : PlaceKind S T N) (firsts : List S) (n f : ℕ)
       in let bounded : r.queue.next ≤ last = r.shown.bounded
       in elim (same_or_not y last) [
         | inl end ↦
-            let done = refuses kind firsts n f s r id me.0 at NEXT work free Spent (sym is ∙ end) tt refl (λ u x e. cc)
+            let done = refuses kind firsts n f s r id me.0 at NEXT work free Spent (sym is ∙ end) tt (refl, λ u x e. cc)
             in (
               record { stage = Idle; known = grown me.0.known r.history (entry kind.blank me.0.known Spent ∷ []) },
               keeps,
@@ -108,7 +108,7 @@ module _ {S T N : Type 0} (kind : PlaceKind S T N) (firsts : List S) (n f : ℕ)
             elim more [
               | inl full ↦
                   let low : y < t = full.0
-                  in let done = refuses kind firsts n f s r id me.0 at i knows.0 free (Full t) (full.1, full.2) tt refl (λ u x e. cc)
+                  in let done = refuses kind firsts n f s r id me.0 at i knows.0 free (Full t) (full.1, full.2) tt (refl, λ u x e. cc)
                   in (
                     record
                         { stage = Idle; known = grown me.0.known r.history (entry kind.blank me.0.known (Full t) ∷ []) },
@@ -119,7 +119,7 @@ module _ {S T N : Type 0} (kind : PlaceKind S T N) (firsts : List S) (n f : ℕ)
                   )
               | inr busy ↦
                   let high : t < y = busy.0
-                  in let done = refuses kind firsts n f s r id me.0 at i knows.0 free (PushBusy t) busy.1 tt refl (λ u x e. cc)
+                  in let done = refuses kind firsts n f s r id me.0 at i knows.0 free (PushBusy t) busy.1 tt (refl, λ u x e. cc)
                   in (
                     record {
                       stage = Idle;
@@ -176,8 +176,8 @@ module _ {S T N : Type 0} (kind : PlaceKind S T N) (firsts : List S) (n f : ℕ)
                   let low : y < t + 1 = unwritten.0
                   in let x : Entry T N = entry kind.blank me.0.known (Front t)
                   in let done =
-                  tells kind firsts n f s r id me.0 at i knows.0 free (SawUnwritten t) (Front t) (unwritten.1, unwritten.2) tt refl
-                  (λ u z e. cc) (knows.0, knows.1, last_made kind firsts n f s r id me.0 at knows.0 kind.blank (Front t))
+                  tells kind firsts n f s r id me.0 at i knows.0 free (SawUnwritten t) {e = Front t} (unwritten.1, unwritten.2) tt
+                  (refl, λ u z e. cc) (knows.0, knows.1, last_made kind firsts n f s r id me.0 at knows.0 kind.blank (Front t))
                   in (
                     record { stage = SawUnwritten t; known = grown me.0.known r.history (x ∷ []) },
                     keeps,
@@ -187,7 +187,7 @@ module _ {S T N : Type 0} (kind : PlaceKind S T N) (firsts : List S) (n f : ℕ)
                   )
               | inr busy ↦
                   let high : t + 1 < y = busy.0
-                  in let done = refuses kind firsts n f s r id me.0 at i knows.0 free (PopBusy t) busy.1 tt refl (λ u x e. cc)
+                  in let done = refuses kind firsts n f s r id me.0 at i knows.0 free (PopBusy t) busy.1 tt (refl, λ u x e. cc)
                   in (
                     record
                         { stage = Idle; known = grown me.0.known r.history (entry kind.blank me.0.known (PopBusy t) ∷ []) },
@@ -214,7 +214,7 @@ module _ {S T N : Type 0} (kind : PlaceKind S T N) (firsts : List S) (n f : ℕ)
       in elim (same_or_not y t) [
         | inl one ↦
             let ends : (t ≡ r.queue.next) × (t ≡ r.queue.front) = (sym one ∙ is, omega (arith, is, knows.1))
-            in let done = refuses kind firsts n f s r id me.0 at NEXT knows.0 free (queue.Idle t) ends follows refl (λ u x e. cc)
+            in let done = refuses kind firsts n f s r id me.0 at NEXT knows.0 free (queue.Idle t) ends follows (refl, λ u x e. cc)
             in (
               record
                   { stage = Idle; known = grown me.0.known r.history (entry kind.blank me.0.known (queue.Idle t) ∷ []) },
@@ -225,7 +225,7 @@ module _ {S T N : Type 0} (kind : PlaceKind S T N) (firsts : List S) (n f : ℕ)
             )
         | inr more ↦
             let past : t < r.queue.next = omega (arith, is)
-            in let done = refuses kind firsts n f s r id me.0 at NEXT knows.0 free (Empty t) past follows refl (λ u x e. cc)
+            in let done = refuses kind firsts n f s r id me.0 at NEXT knows.0 free (Empty t) past follows (refl, λ u x e. cc)
             in (
               record { stage = Idle; known = grown me.0.known r.history (entry kind.blank me.0.known (Empty t) ∷ []) },
               keeps,
@@ -284,7 +284,7 @@ module _ {S T N : Type 0} (kind : PlaceKind S T N) (firsts : List S) (n f : ℕ)
       (λ miss.
       let done =
       refuses kind firsts n f s r id me.0 at NEXT knows.0 free (PushBusy t)
-      (let l : t < q.next = omega (arith, knows.1) in l) tt refl (λ u z e. cc)
+      (let l : t < q.next = omega (arith, knows.1) in l) tt (refl, λ u z e. cc)
       in (
         record { stage = Idle; known = grown me.0.known r.history (entry kind.blank me.0.known (PushBusy t) ∷ []) },
         keeps,
@@ -346,7 +346,7 @@ module _ {S T N : Type 0} (kind : PlaceKind S T N) (firsts : List S) (n f : ℕ)
       (λ miss.
       let done =
       refuses kind firsts n f s r id me.0 at FRONT knows.0 free (PopBusy t)
-      (let l : t < q.front = omega (arith, knows.1) in l) tt refl (λ u z e. cc)
+      (let l : t < q.front = omega (arith, knows.1) in l) tt (refl, λ u z e. cc)
       in (
         record { stage = Idle; known = grown me.0.known r.history (entry kind.blank me.0.known (PopBusy t) ∷ []) },
         keeps,

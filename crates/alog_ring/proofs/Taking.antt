@@ -64,10 +64,10 @@ module _ {T : Type 0} where
     pub few : length left ≤ i
     pub cells : (cs : List (Cell T)) → AreValues before first n cs → left ≡ firsts cs i
 
-  pub taken_none : (n first : ℕ) (items : List (Option T)) (filled : List Bool) (left : List (ℕ × T)) → 1 ≤ n
+  pub taken_none : {n first : ℕ} {items : List (Option T)} {filled : List Bool} {left : List (ℕ × T)} → 1 ≤ n
       → length filled ≡ n → ((k : ℕ) → k < n → get_or filled k false ≡ true) → left ≡ []
       → HasTaken n first 0 items items filled left
-  taken_none n first items filled left some count full none = record {
+  taken_none {n} {first} some count full none = record {
     same = refl;
     count = count;
     taken = λ j low. absurd (omega arith);
@@ -134,14 +134,14 @@ module _ {T : Type 0} where
           in subst P (sym (add-one i)) (has.cells cs lie ∙ sym (firsts_more cs i (here_is cs None is lie)));
     }
 
-  pub all_taken : (n first : ℕ) (before now : List (Option T)) (filled : List Bool) (left : List (ℕ × T))
-      → HasTaken n first n before now filled left → (cs : List (Cell T)) → AreValues before first n cs
+  pub all_taken : {n first : ℕ} {before now : List (Option T)} {filled : List Bool} {left : List (ℕ × T)}
+      → HasTaken n first n before now filled left → {cs : List (Cell T)} → AreValues before first n cs
       → left ≡ map ticket_and_item cs
-  all_taken n first before now filled left has cs lie = has.cells cs lie ∙ firsts_all cs n lie.few
+  all_taken {n} has {cs} lie = has.cells cs lie ∙ firsts_all cs n lie.few
 
-  pub none_filled : (n first : ℕ) (before now : List (Option T)) (filled : List Bool) (left : List (ℕ × T)) → 1 ≤ n
+  pub none_filled : {n first : ℕ} {before now : List (Option T)} {filled : List Bool} {left : List (ℕ × T)} → 1 ≤ n
       → HasTaken n first n before now filled left → (k : ℕ) → k < n → get_or filled k false ≡ false
-  none_filled n first before now filled left some has k low =
+  none_filled {n} {first} {filled} some has k low =
       let small : k % n ≡ k = native.Mathlib.Nat.mod-eq_of_lt low
       in let at : (t : ℕ) → first ≤ t → t < first + n → t % n ≡ k → get_or filled k false ≡ false =
       λ t from to place.

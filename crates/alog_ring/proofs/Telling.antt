@@ -43,9 +43,9 @@ module _ {T N : Type 0} where
       in elim is [ inl e ↦ subst P (sym e) all.0 | inr more ↦ among_retired views b cs all.1 more ]
 
   -- a pass and those joined into it are each another actor
-  pub members_distinct : (n f a : ℕ) (h : List (Entry T N)) (views : List (Sight T N)) (v : Sight T N) → Told n f h views
+  pub members_distinct : {n f a : ℕ} {h : List (Entry T N)} {views : List (Sight T N)} (v : Sight T N) → Told n f h views
       → get_elem? views a ≡ some v → 0 < v.known.parts → v.known.actor ≡ a → AreDistinct (members_of v.known)
-  members_distinct n f a h views v told at live named = (
+  members_distinct {a} {views} v told at live named = (
     (λ is. retired_apart views a v.known.actor v at live
         (among_retired views v.known.actor v.known.joined (told.entries a v at live).retired is) named),
     told.distinct a v at live,
@@ -214,10 +214,10 @@ module _ {T N : Type 0} where
         seen = prefix_same (h ++ more);
       }
 
-  pub faithful_now : (n f a : ℕ) (h more : List (Entry T N)) (views : List (Sight T N)) (v : Sight T N) → Told n f h views
+  pub faithful_now : {n f a : ℕ} {h more : List (Entry T N)} {views : List (Sight T N)} (v : Sight T N) → Told n f h views
       → get_elem? views a ≡ some v → 0 < v.known.parts → AreOf a more
       → (v.known.own ++ more ≡ own_of a (h ++ more)) × AreExact v.known.joined (h ++ more)
-  faithful_now n f a h more views v told at live of =
+  faithful_now {a} {h} {more} {views} v told at live of =
       let has : HasEntries h views a v.known = told.entries a v at live
       in (
         (λ i. has.own i ++ sym of.all i)

@@ -242,10 +242,11 @@ module _ {T N : Type 0} where
   abbrev pub IsFree : Stage T N → Type 0
   IsFree s = ((p : ℕ) (x : T) → s ≢ Writing p x) × ((p : ℕ) (x : T) → s ≢ Reading p x)
 
-  pub staged_on : (n a : ℕ) (q : Queue T) (h more : List (Entry T N)) (views : List (Sight T N)) (v w : Sight T N)
+  pub staged_on : {n : ℕ} (a : ℕ) {q : Queue T} {h : List (Entry T N)} (more : List (Entry T N)) {views : List (Sight T N)}
+      {v : Sight T N} (w : Sight T N)
       → IsSound n q → get_elem? views a ≡ some v → Staged n h q views → Knows n (h ++ more) q a w.known w.stage
       → IsFree v.stage → Staged n (h ++ more) q (set views a w)
-  staged_on n a q h more views v w sound at staged mine free =
+  staged_on {n} a {q} {h} more {views} {v} w sound at staged mine free =
       let none : cell_of q.next q.cells ≡ None = next_is_unlisted n q q.next sound (omega arith)
       in staged_turn n a q.next q q (turn_none n a q sound) h more views v w at staged mine
       (record {

@@ -11,11 +11,11 @@ use Rattle.alog_core.proofs.SharedSound.{sound_start}
 use Rattle.alog_core.proofs.Starting.{first_sequences, first_slots}
 use Rattle.alog_core.proofs.table.empty.Goals as goal
 
-starts : {T : Type 0} (t : Table T) (n f : ℕ) → t.mask ≡ n - 1 → 2 ≤ n → t.next ≡ f → t.front ≡ f
+starts : {T : Type 0} {t : Table T} {n f : ℕ} → t.mask ≡ n - 1 → 2 ≤ n → t.next ≡ f → t.front ≡ f
     → length t.sequences.items ≡ n
     → ((u : ℕ) → f ≤ u → u < f + n → slice_index t.sequences.items (u % n) ≡ u) → t.slots.items ≡ replicate n None
     → (queue_in t ≡ start f) × Shows t
-starts {T} t n f mask two next front wide tickets empty =
+starts {T} {t} {n} {f} mask two next front wide tickets empty =
     let up : n ≡ t.mask + 1 = omega (arith, mask, two)
     in let A : ℕ → Type 0 = λ k. AreSequences {T = T} k (start f) t.sequences.items
     in let H : ℕ → Type 0 = λ k. AreHeld {T = T} k (start f) t.slots.items
@@ -34,10 +34,10 @@ returns-clause-queue g c =
       sequences = c.in_ok-first_sequences.field-0;
       slots = c.in_ok-no_items.field-0;
     }
-    in (starts t n f refl (size_facts n c.requires.size).1 refl refl c.in_ok-first_sequences.ensures.count
+    in (starts {t = t} {f = f} refl (size_facts n c.requires.size).1 refl refl c.in_ok-first_sequences.ensures.count
     c.in_ok-first_sequences.ensures.tickets c.in_ok-no_items.ensures).0
 
 pub returns-clause-shows : goal.returns-clause-shows
 returns-clause-shows g c =
-    (starts _ c.args.places c.args.first refl (size_facts c.args.places c.requires.size).1 refl refl
-    c.in_ok-first_sequences.ensures.count c.in_ok-first_sequences.ensures.tickets c.in_ok-no_items.ensures).1
+    (starts {f = c.args.first} refl (size_facts c.args.places c.requires.size).1 refl refl c.in_ok-first_sequences.ensures.count
+    c.in_ok-first_sequences.ensures.tickets c.in_ok-no_items.ensures).1

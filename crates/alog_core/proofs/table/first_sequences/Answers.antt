@@ -17,6 +17,6 @@ loop-ticket-preserved c =
     in record {
       count = length-set row c.place_of.result t ∙ c.loop-ticket.invariant.count;
       tickets = subst P (sym place)
-          (sequences_more n c.args.first t row two c.loop-ticket.auto.ticket c.loop-ticket-test.true
-          c.loop-ticket.invariant.count c.loop-ticket.invariant.tickets);
+          (sequences_more row two c.loop-ticket.auto.ticket c.loop-ticket-test.true c.loop-ticket.invariant.count
+          c.loop-ticket.invariant.tickets);
     }

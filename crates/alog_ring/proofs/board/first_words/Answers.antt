@@ -18,5 +18,5 @@ loop-ticket-preserved c =
       length-set filled (seq_of n t) t ∙ inv.0,
       get_or-set_other filled (seq_of n t) NEXT t 0 (λ e. omega arith) ∙ inv.1,
       get_or-set_other filled (seq_of n t) FRONT t 0 (λ e. omega arith) ∙ inv.2,
-      words_more n c.args.first t filled two low high inv.0 inv.3,
+      words_more filled two low high inv.0 inv.3,
     )

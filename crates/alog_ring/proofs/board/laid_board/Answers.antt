@@ -16,7 +16,7 @@ new-requires g c =
     in let spares = c.args.spares.items
     in let Q : List g.row.B.Denot → Type 0 = λ fs. AreFirst (swap_kind g.W.Shows.shows) fs spares n c.args.first
     in record {
-      ruled = starts (swap_kind g.W.Shows.shows) c.of.result.value.items spares n c.args.first c.as_slice.result.now two
+      ruled = starts (swap_kind g.W.Shows.shows) c.of.result.value.items spares two
           c.requires.first (subst P (sym c.as_slice.ensures.value) c.in-Ok.ensures) c.requires.spares
           (subst Q (ap (λ v. v.items) (sym c.of.ensures))
           (spares_first g.W.Shows.shows spares n c.args.first (omega arith) c.requires.spares));

@@ -16,7 +16,7 @@ vacant-requires g c =
     in let n : ℕ = c.args.places
     in let two : 2 ≤ n = (size_facts c.args.places c.requires.size).1
     in record {
-      ruled = starts (plain_kind g.row.T.Denot) [] (replicate n None) n c.args.first c.as_slice.result.now two c.requires.first
+      ruled = starts (plain_kind g.row.T.Denot) [] (replicate n None) two c.requires.first
           (subst P (sym c.as_slice.ensures.value) c.in_ok-words.ensures) (length-replicate n None)
           (none_first [] n c.args.first (omega arith));
       values = at_home (λ place. IfSome place (g.L.Limit.admits c.args.limit)) (replicate n None)

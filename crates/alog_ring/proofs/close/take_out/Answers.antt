@@ -13,7 +13,7 @@ loop-i-init g c =
     in let slots = c.args.closed.slots
     in let len : slots_len slots ≡ n = c.requires.places.1
     in (
-      taken_none n c.args.first (slots_items slots) (slots_filled slots) c.args.left.items (omega arith)
+      taken_none {first = c.args.first} {items = slots_items slots} {filled = slots_filled slots} (omega arith)
           (sym (slots_counts slots).1 ∙ len) (λ k low. c.requires.places.0 k (omega arith) (omega arith)) c.requires.room.0,
       len,
       c.requires.room.1,
@@ -82,8 +82,7 @@ free-requires g c =
     HasTaken n c.args.first z (slots_items c.args.closed.slots) (slots_items c.loop-i.closed.slots)
     (slots_filled c.loop-i.closed.slots) c.loop-i.left.items
     in λ k low.
-    none_filled n c.args.first (slots_items c.args.closed.slots) (slots_items c.loop-i.closed.slots)
-    (slots_filled c.loop-i.closed.slots) c.loop-i.left.items (omega arith) (subst H end inv.0) k (omega (arith, inv.1))
+    none_filled (omega arith) (subst H end inv.0) k (omega (arith, inv.1))
 
 pub returns : goal.returns
 returns g c =
@@ -95,5 +94,4 @@ returns g c =
     HasTaken n c.args.first z (slots_items c.args.closed.slots) (slots_items c.loop-i.closed.slots)
     (slots_filled c.loop-i.closed.slots) c.loop-i.left.items
     in λ cells lie.
-    all_taken n c.args.first (slots_items c.args.closed.slots) (slots_items c.loop-i.closed.slots)
-    (slots_filled c.loop-i.closed.slots) c.loop-i.left.items (subst H end inv.0) cells lie
+    all_taken (subst H end inv.0) lie

@@ -28,8 +28,7 @@ invariant_of-self g c =
     let is = taken_round rounds c.args.actor c.index_mut.result.now c.replace-round.result lt c.index_mut.ensures.value
     c.replace-round.ensures.value in
     let after =
-    stepped_in c.self.inside.table c.advance-said.new.table rounds c.args.actor c.replace-round.new.dest
-    c.replace-round.result c.advance-said.result is c.advance-said.ensures in
+    stepped_in rounds c.replace-round.new.dest is c.advance-said.ensures in
     record {
       size = ap (λ k. is_size (k + 1)) c.advance-said.ensures.mask ∙ c.self.invariant.size;
       reached = subst IsReached (sym after)
@@ -43,8 +42,7 @@ returns-clause-stepped g c =
     let lt : c.args.actor < length rounds = omega (arith, c.self.invariant.reached.actors, c.requires) in
     let is = taken_round rounds c.args.actor c.index_mut.result.now c.replace-round.result lt c.index_mut.ensures.value
     c.replace-round.ensures.value in
-    stepped_in c.self.inside.table c.advance-said.new.table rounds c.args.actor c.replace-round.new.dest
-    c.replace-round.result c.advance-said.result is c.advance-said.ensures
+    stepped_in rounds c.replace-round.new.dest is c.advance-said.ensures
     ∙ ap (λ m. stepped m c.args.actor) c.self.view_is
 
 pub returns-clause-allowed : goal.returns-clause-allowed

@@ -16,5 +16,5 @@ returns-clause-value g c =
     in let K : Known D → Type 0 = λ k. Closes g.T.Turn.turns c.self.inside.table.shared.key.value k c.take-value.result.value
     in subst F (ap (λ l. l.first) c.self.view_is)
     (subst K known (closes g.T.Turn.turns g.T.Turn.may_turn c.self.inside.table.shared.key.value seat.id seat.me.0
-    (slots_items closed.words) (slots_items closed.slots) c.close_with-closed.ensures.values.2 c.seat.invariant.0
-    (sym c.seat.invariant.2 ∙ c.if-seat-ne-ALL_PARTS.false) c.seat.invariant.5 c.take-value.result c.take-value.ensures.value))
+    (slots_items closed.slots) c.close_with-closed.ensures.values.2 c.seat.invariant.0
+    (sym c.seat.invariant.2 ∙ c.if-seat-ne-ALL_PARTS.false) c.seat.invariant.5 {c = c.take-value.result} c.take-value.ensures.value))

@@ -17,9 +17,8 @@ compare_exchange_with-found-requires g c =
       c.requires.table,
       omega (arith, sized.0),
       claim_may g.K.Kind.kind key.firsts.value.items admits key.places key.first c.args.self.now.table.shared.table_id.slots
-          c.args.seat.now.id c.args.seat.now.me (none_held admits c.args.seat.now.me.1 c.requires.home) g.P.Picks.firsts
-          g.P.Picks.admits c.requires.firsts c.requires.limit c.args.ticket (c.args.ticket + 1) c.args.hand.now c.requires.there
-          c.requires.stage refl c.requires.below,
+          c.args.seat.now.id c.args.seat.now.me (none_held admits c.args.seat.now.me.1 c.requires.home) g.P.Picks.admits c.requires.firsts
+          c.requires.limit c.args.ticket c.args.hand.now c.requires.there c.requires.stage c.requires.below,
     )
 
 pub swap-requires-clause-out : goal.swap-requires-clause-out
@@ -55,9 +54,8 @@ store-requires g c =
       c.swap.ensures.same.0 ∙ c.compare_exchange_with-found.ensures.0 ∙ c.requires.table,
       omega (arith, sized.0, c.place_of-place.ensures.within),
       write_may kind key.firsts.value.items admits n key.first slots c.swap.new.seat.id out
-          (one_held admits out.1 (t % n) c.args.hand.now (has ∙ (λ i. (t % n, c.args.hand.now) ∷ c.requires.home i)) c.requires.admitted)
-          (c.place_of-place.result * APART + SEQUENCES) t (t + 1) (told.0 hit).1 c.args.hand.now c.args.seat.now.me.1 lies word refl
-          stage has,
+          (one_held admits out.1 (t % n) c.args.hand.now (has ∙ (λ i. (t % n, c.args.hand.now) ∷ c.requires.home i)) c.requires.admitted) t
+          {new = t + 1} (told.0 hit).1 lies word refl stage has,
     )
 
 pub returns-clause-filled : goal.returns-clause-filled

@@ -15,8 +15,8 @@ returns-clause-whole g c =
       idle = c.pass.invariant.0;
       all = ap (λ p. p.known.parts) c.pass.view_is ∙ c.requires.all;
     }
-    in (ends end c.args.pass.known (c.args.self.mask + 1) c.word-front.result c.word-next.result (ap (λ p. p.known) c.pass.view_is)
-    c.args.self.sized.2 c.pass.invariant.5 c.word-front.ensures c.word-next.ensures).0
+    in (ends end {front = c.word-front.result} {next = c.word-next.result} (ap (λ p. p.known) c.pass.view_is) c.args.self.sized.2
+    c.pass.invariant.5 c.word-front.ensures c.word-next.ensures).0
 
 pub returns-clause-left : goal.returns-clause-left
 returns-clause-left g c =
@@ -29,5 +29,5 @@ returns-clause-left g c =
       idle = c.pass.invariant.0;
       all = ap (λ p. p.known.parts) c.pass.view_is ∙ c.requires.all;
     }
-    in (ends end c.args.pass.known (c.args.self.mask + 1) c.word-front.result c.word-next.result (ap (λ p. p.known) c.pass.view_is)
-    c.args.self.sized.2 c.pass.invariant.5 c.word-front.ensures c.word-next.ensures).1
+    in (ends end {front = c.word-front.result} {next = c.word-next.result} (ap (λ p. p.known) c.pass.view_is) c.args.self.sized.2
+    c.pass.invariant.5 c.word-front.ensures c.word-next.ensures).1

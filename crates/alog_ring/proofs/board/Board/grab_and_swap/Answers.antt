@@ -52,9 +52,8 @@ store-requires g c =
       c.swap.ensures.same.0 ∙ c.compare_exchange_with-found.ensures.0 ∙ c.requires.table,
       omega (arith, sized.0, c.place_of-place.ensures.within),
       take_may kind key.firsts.value.items admits n key.first slots c.swap.new.seat.id out
-          (one_held admits out.1 (t % n) brought (has ∙ (λ i. (t % n, brought) ∷ c.requires.home i)) c.requires.admitted)
-          (c.place_of-place.result * APART + SEQUENCES) t (t + (c.args.self.now.mask + 1)) (told.0 hit).0 brought
-          c.requires.brought.0 c.args.seat.now.me.1 c.requires.brought.1 word (ap (λ (z : ℕ). t + z) (sym sized.2)) stage has,
+          (one_held admits out.1 (t % n) brought (has ∙ (λ i. (t % n, brought) ∷ c.requires.home i)) c.requires.admitted) t (told.0 hit).0
+          c.requires.brought.0 c.requires.brought.1 word (ap (λ (z : ℕ). t + z) (sym sized.2)) stage has,
     )
 
 pub returns-clause-emptied : goal.returns-clause-emptied
