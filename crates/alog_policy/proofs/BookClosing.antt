@@ -21,10 +21,10 @@ use Rattle.alog_policy.proofs.BookSteps.{saw_all}
 use Rattle.alog_policy.proofs.BookSums.{sum_of_all}
 
 -- the seat has all parts
-pub closes : (id : ℕ) (v : BookSight) (words : List ℕ) (slots : List (Unit {0})) → Final (Seen Ruled id v) words slots
-    → v.stage ≡ Idle → v.known.parts ≡ ALL_PARTS → IsFaithful v.known → (c : Counts)
-    → get_elem? words OVERRUN ≡ some c.overrun → get_elem? words DISCARDED ≡ some c.discarded → Closes v.known c
-closes id v words slots final idle all faithful c items posts =
+pub closes : (id : ℕ) (v : BookSight) {words : List ℕ} (slots : List (Unit {0})) → Final (Seen Ruled id v) words slots
+    → v.stage ≡ Idle → v.known.parts ≡ ALL_PARTS → IsFaithful v.known → {c : Counts}
+    → (get_elem? words OVERRUN ≡ some c.overrun) × (get_elem? words DISCARDED ≡ some c.discarded) → Closes v.known c
+closes id v {words} slots final idle all faithful {c} counted =
     let s : State (Unit {0}) BookSight = final.0
     in let r : Ruled s = final.1.0
     in let at : get_elem? s.views id ≡ some v = final.1.1
@@ -39,10 +39,10 @@ closes id v words slots final idle all faithful c items posts =
     in record {
       faithful = faithful;
       whole = whole;
-      overrun = word OVERRUN c.overrun items ∙ r.words.overrun ∙ ap (λ h. overrun_after h) (sym seen)
+      overrun = word OVERRUN c.overrun counted.0 ∙ r.words.overrun ∙ ap (λ h. overrun_after h) (sym seen)
           ∙ ap (λ (n : ℕ). n % 2 ^ 64)
           (sum_of_all (λ (x : Entry Add). items_of x.deed) (members_of v.known) v.known.seen exact faithful.distinct whole);
-      discarded = word DISCARDED c.discarded posts ∙ r.words.discarded ∙ ap (λ h. discarded_after h) (sym seen)
+      discarded = word DISCARDED c.discarded counted.1 ∙ r.words.discarded ∙ ap (λ h. discarded_after h) (sym seen)
           ∙ ap (λ (n : ℕ). n % 2 ^ 64)
           (sum_of_all (λ (x : Entry Add). posts_of x.deed) (members_of v.known) v.known.seen exact faithful.distinct whole);
     }

@@ -86,7 +86,7 @@ look_keeps : (s : State (Unit {0}) BookSight) (id : ℕ) (v w : BookSight) → g
 look_keeps s id v w at i r look =
     let P : List ℕ → Type 0 = λ ws. Ruled (record { words = ws; homes = s.homes; views = set s.views id w })
     in subst P (sym (set-get_or s.words i 0))
-    (record { history = r.history; agrees = agrees_look tt r.history s.views id v w r.agrees at look; words = r.words })
+    (record { history = r.history; agrees = agrees_look r.agrees at look; words = r.words })
 
 -- a seat with all parts has seen the whole history
 pub saw_all : (s : State (Unit {0}) BookSight) (r : Ruled s) (id : ℕ) (v : BookSight) → get_elem? s.views id ≡ some v
@@ -174,10 +174,10 @@ module _ (slots id : ℕ) (me : Me (Unit {0}) BookSight) where
       )
 
 -- a seat that has just taken in another sees what both had seen
-pub sees_both : (slots id i : ℕ) (me : Me (Unit {0}) BookSight) (v w : BookSight) (out : List (ℕ × Unit {0}))
+pub sees_both : {slots : ℕ} (id i : ℕ) {me : Me (Unit {0}) BookSight} (v w : BookSight) {out : List (ℕ × Unit {0})}
     → me ≡ (taking_in v w, out) → IsFaithful v.known → IsFaithful w.known
     → Allows Ruled slots id me i (λ n. n) (λ n m. (h : List (Entry Add)) → me.0.stage ≡ Joined h → saw_both h me m)
-sees_both slots id i me v w out is first second =
+sees_both {slots} id i v w {out} is first second =
     let P : Me (Unit {0}) BookSight → Type 0 = λ m0. Allows Ruled slots id m0 i (λ n. n)
     (λ n m. (h : List (Entry Add)) → m0.0.stage ≡ Joined h → saw_both h m0 m)
     in subst P (sym is)

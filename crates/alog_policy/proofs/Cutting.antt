@@ -213,11 +213,12 @@ plain_cut {T} r m cs es os busy kind c =
     ]
 
 -- a post goes on, or is whole
-pub post_cut : {T : Type 0} (q : Policy) (x : T) (cs : List (Call T)) (es fs : List (Event T)) (os : List (Outcome T))
-    (ended current : List (Call T)) (whole rest : List (Event T)) (o : Option (Post T)) (r : Round T) (out : Option (Outcome T))
+pub post_cut : {T : Type 0} {q : Policy} {x : T} {cs : List (Call T)} {es : List (Event T)} (fs : List (Event T)) {os : List (Outcome T)}
+    {ended current : List (Call T)} {whole : List (Event T)} (rest : List (Event T)) {o : Option (Post T)} {r : Round T}
+    {out : Option (Outcome T)}
     → cs ≡ ended ++ current → current ≡ ToPost q x ∷ [] → es ≡ whole ++ rest → AreWhole ended whole os
     → CameTo q x (rest ++ fs) o r out → (out ≢ None → r ≡ round.Idle) → IsCut o r cs (es ++ fs) (os ++ outcome_in out)
-post_cut {T} q x cs es fs os ended current whole rest o r None order call cut calls came idle =
+post_cut {T} {q} {x} {es} fs {os} {ended} {current} {whole} rest {r} {out = None} order call cut calls came idle =
     record {
       ended = ended;
       current = current;
@@ -234,7 +235,7 @@ post_cut {T} q x cs es fs os ended current whole rest o r None order call cut ca
         call ∙ ap (λ (p : Policy). let c : Call T = ToPost p x in c ∷ []) (sym came.under),
       );
     }
-post_cut {T} q x cs es fs os ended current whole rest o r (Some out) order call cut calls came idle =
+post_cut {T} {q} {x} {cs} {es} fs {ended} {current} {whole} rest {r} {out = Some out} order call cut calls came idle =
     let here : r ≡ round.Idle = idle (λ bad. cc) in
     record {
       ended = ended ++ ToPost q x ∷ [];
@@ -248,9 +249,9 @@ post_cut {T} q x cs es fs os ended current whole rest o r (Some out) order call 
     }
 
 -- a call begins, where there was none
-pub begins_cut : {T : Type 0} (o : Option (Post T)) (r : Round T) (c : Call T) (cs : List (Call T)) (es : List (Event T))
-    (os : List (Outcome T)) → o ≡ None → IsCut o round.Idle cs es os → IsBegun r (c ∷ []) [] → IsCut None r (cs ++ c ∷ []) es os
-begins_cut {T} o r c cs es os no_post was begun =
+pub begins_cut : {T : Type 0} {o : Option (Post T)} {r : Round T} (c : Call T) {cs : List (Call T)} {es : List (Event T)}
+    {os : List (Outcome T)} → o ≡ None → IsCut o round.Idle cs es os → IsBegun r (c ∷ []) [] → IsCut None r (cs ++ c ∷ []) es os
+begins_cut {T} c {cs} no_post was begun =
     let none = subst (λ (p : Option (Post T)). IsUnderWayIn p round.Idle was.current was.rest) no_post was.begun in
     record {
       ended = was.ended;
@@ -263,11 +264,11 @@ begins_cut {T} o r c cs es os no_post was begun =
       begun = begun;
     }
 
-pub post_begins_cut : {T : Type 0} (o : Option (Post T)) (p : Post T) (q : Policy) (x : T) (b : Part) (r : Round T)
-    (cs : List (Call T)) (es : List (Event T)) (os : List (Outcome T)) → o ≡ None → IsCut o round.Idle cs es os
+pub post_begins_cut : {T : Type 0} {o : Option (Post T)} {p : Post T} {q : Policy} {x : T} {b : Part} {r : Round T}
+    {cs : List (Call T)} {es : List (Event T)} {os : List (Outcome T)} → o ≡ None → IsCut o round.Idle cs es os
     → p.progress.policy ≡ q → IsAt x p.hand p.progress.side r b → IsSoFar p.progress x b []
     → IsCut (Some p) r (cs ++ ToPost q x ∷ []) es os
-post_begins_cut {T} o p q x b r cs es os no_post was under at so_far =
+post_begins_cut {T} {q} {x} {b} {cs} no_post was under at so_far =
     let none = subst (λ (k : Option (Post T)). IsUnderWayIn k round.Idle was.current was.rest) no_post was.begun in
     record {
       ended = was.ended;

@@ -1,6 +1,7 @@
 -- What a desk keeps, and what a step of a post needs.
 use Rattle.std.proofs.Common.{◌≡◌, ℕ, ◌<◌, Option, None, Some, Result, Ok, Err, List, length}
 use Rattle.std.proofs.Common.{refl, sym, ap, subst, ◌∙◌, arith, get_or, set, get_or-set_same, get_or-set_other, set-set, length-set}
+use Rattle.std.proofs.lemmas.List.{set-get_or}
 use Rattle.std.specs.Prelude.{IfOk}
 use Rattle.alog_core.specs.Queue.{Event, Claim, Write, Grab, Take, Full, Front, Empty, Idle, PushBusy, PopBusy, Spent}
 use Rattle.alog_core.specs.Round.{Move}
@@ -26,9 +27,9 @@ use Rattle.alog_policy.proofs.SharedStepKinds.{Pops, Grabs, FindsFront, FindsEmp
 use Rattle.alog_policy.proofs.SharedStepKinds.{brought_pop}
 
 -- a desk in which one actor's round and post were set
-pub kept_set : {T : Type 0} (d e : DeskView T) (a : ℕ) (r : Round T) (p : Option (Post T)) → IsKeptDesk d → a < ACTORS
+pub kept_set : {T : Type 0} {d e : DeskView T} (a : ℕ) (r : Round T) (p : Option (Post T)) → IsKeptDesk d → a < ACTORS
     → Fits p r → e.world.rounds ≡ set d.world.rounds a r → e.posts ≡ set d.posts a p → IsKeptDesk e
-kept_set {T} d e a r p kept lt fits rounds posts =
+kept_set {T} {d} {e} a r p kept lt fits rounds posts =
     let in_rounds : a < length d.world.rounds = omega (arith, lt, kept.actors) in
     let in_posts : a < length d.posts = omega (arith, lt, kept.posts) in
     let at : (b : ℕ) → b < ACTORS → Fits (post_of e b) (round_of e.world b) =
@@ -198,19 +199,11 @@ turn_led_fits {T} w a p c x (Ok g) lt kept =
     (sym (get_or-set_same w.rounds a (call_of g.side (Some x)) round.Idle lt)) (led_fits g x g.side refl kept)
 turn_led_fits w a p c x (Err l) lt kept = tt
 
--- the rounds that a turn leaves: those before the step, with the actor's
-pub turn_rounds : {T : Type 0} (w : Machine T) (rs : List (Round T)) (r : Round T) (a : ℕ) (p : Post T) (c : Counts)
-    (v : Option T) (f : Follows) → a < length rs → w.rounds ≡ set rs a r
-    → (turn_to w a p c v f).world.rounds ≡ set rs a (round_of (turn_to w a p c v f).world a)
-turn_rounds {T} w rs r a p c v Stays lt e =
-    e ∙ ap (λ (s : Round T). set rs a s) (sym (round_set w rs a r lt e))
-turn_rounds {T} w rs r a p c v (Ends t) lt e =
-    e ∙ ap (λ (s : Round T). set rs a s) (sym (round_set w rs a r lt e))
-turn_rounds {T} w rs r a p c v (Leads (Ok g)) lt e =
-    let s : Round T = call_of g.side v in
-    let rounds : set w.rounds a s ≡ set rs a s = ap (λ (ss : List (Round T)). set ss a s) e ∙ set-set rs a r s in
-    rounds
-    ∙ ap (λ (u : Round T). set rs a u)
-    (sym (ap (λ (ss : List (Round T)). get_or ss a round.Idle) rounds ∙ get_or-set_same rs a s round.Idle lt))
-turn_rounds {T} w rs r a p c v (Leads (Err l)) lt e =
-    e ∙ ap (λ (s : Round T). set rs a s) (sym (round_set w rs a r lt e))
+-- the rounds that a turn leaves: those before it, with the actor's
+pub turn_rounds : {T : Type 0} (w : Machine T) (a : ℕ) (p : Post T) (c : Counts) (v : Option T) (f : Follows) → a < length w.rounds
+    → (turn_to w a p c v f).world.rounds ≡ set w.rounds a (round_of (turn_to w a p c v f).world a)
+turn_rounds w a p c v Stays lt = sym (set-get_or w.rounds a round.Idle)
+turn_rounds w a p c v (Ends t) lt = sym (set-get_or w.rounds a round.Idle)
+turn_rounds {T} w a p c v (Leads (Ok g)) lt =
+    ap (λ (u : Round T). set w.rounds a u) (sym (get_or-set_same w.rounds a (call_of g.side v) round.Idle lt))
+turn_rounds w a p c v (Leads (Err l)) lt = sym (set-get_or w.rounds a round.Idle)

@@ -28,19 +28,19 @@ fresh_pop Pop b e h = h
 module _ {S T V : Type 0} (did : Doing S T) (fit : S → Type 0) (x : T) (v : V) (g : Progress) (old new : S)
     (kept : IsKept g) where
   -- from the events made, and how they agree with whatever the post was
-  leads : (next next' : Result Progress Lost) (made : List (Event T)) → next ≡ next' → did old made (takes_in made) 0 new
+  leads : {next next' : Result Progress Lost} {made : List (Event T)} → next ≡ next' → did old made (takes_in made) 0 new
       → fit new → IfOk next' IsKept
       → (g.policy ≢ Block → IfOk next' (λ h. work h < work g))
       → ((b : Part) (es : List (Event T)) → IsFresh g.side b → IsSoFar g x b es → Agrees g.policy x v (es ++ made) next')
       → Leads did fit x v g old new next
-  leads next next' made e done ready keeps less agrees =
+  leads {made} e done ready keeps less agrees =
       subst (λ (r : Result Progress Lost). Leads did fit x v g old new r) (sym e)
       (record { made = made; done = done; ready = ready; kept = keeps; less = less; agrees = agrees })
 
   pub full_leads : (next : Result Progress Lost) (f : ℕ) → g.side ≡ Push → next ≡ after_full g
       → Refused did fit old (Full f ∷ []) new → Leads did fit x v g old new next
   full_leads next f side e h =
-      leads next (after_full g) (Full f ∷ []) e h.0 h.1 (kept_full g kept)
+      leads e h.0 h.1 (kept_full g kept)
       (λ not. less_full g not side kept.within)
       (λ b es fresh way.
       full_agrees g x v es f (subst (λ (p : Part). IsSoFar g x p es) (fresh_push g.side b side fresh) way))
@@ -48,16 +48,16 @@ module _ {S T V : Type 0} (did : Doing S T) (fit : S → Type 0) (x : T) (v : V)
   pub push_busy_leads : (next : Result Progress Lost) (t : ℕ) → g.side ≡ Push → next ≡ again g
       → Refused did fit old (PushBusy t ∷ []) new → Leads did fit x v g old new next
   push_busy_leads next t side e h =
-      leads next (again g) (PushBusy t ∷ []) e h.0 h.1 (kept_again g kept)
+      leads e h.0 h.1 (kept_again g kept)
       (λ not. less_again g not kept.within)
       (λ b es fresh way.
-      again_agrees g x v Pushing es (PushBusy t ∷ []) (PushBeaten t)
-      (subst (λ (p : Part). IsSoFar g x p es) (fresh_push g.side b side fresh) way) tt refl refl)
+      again_agrees g v (PushBusy t ∷ []) (PushBeaten t) (subst (λ (p : Part). IsSoFar g x p es) (fresh_push g.side b side fresh) way) tt
+      refl refl)
 
   pub spent_leads : (l : Lost) → g.side ≡ Push → l ≡ lost g why.Spent → Refused did fit old (Spent ∷ []) new
       → Leads did fit x v g old new (Err l)
   spent_leads l side e h =
-      leads (Err l) (Err (lost g why.Spent)) (Spent ∷ []) (ap Err e) h.0 h.1 tt
+      leads (ap Err e) h.0 h.1 tt
       (λ _. tt)
       (λ b es fresh way.
       end_agrees g.policy x g.rounds g.overran Pushing es (Spent ∷ [])
@@ -73,26 +73,26 @@ module _ {S T V : Type 0} (did : Doing S T) (fit : S → Type 0) (x : T) (v : V)
       → Overran did fit old t new → Leads did fit x v g old new next
   overran_leads next t side e h =
       let y = h.0.0 in
-      leads next (after_take g) (Grab t ∷ Take t y ∷ []) e h.0.1 h.1 (kept_take g kept side)
+      leads e h.0.1 h.1 (kept_take g kept side)
       (λ not. less_take g not kept.within)
       (λ b es fresh way.
       let at = pop_way b es side fresh way in
-      take_agrees g x v (Popping at.0) es (Grab t ∷ Take t y ∷ []) (post.Overran at.0 t y) at.1 (kept.pops side) refl refl)
+      take_agrees g v (Grab t ∷ Take t y ∷ []) (post.Overran at.0 t y) at.1 (kept.pops side) refl refl)
 
   pub pop_busy_leads : (next : Result Progress Lost) (t : ℕ) → g.side ≡ Pop → next ≡ again g
       → Refused did fit old (PopBusy t ∷ []) new → Leads did fit x v g old new next
   pop_busy_leads next t side e h =
-      leads next (again g) (PopBusy t ∷ []) e h.0 h.1 (kept_again g kept)
+      leads e h.0 h.1 (kept_again g kept)
       (λ not. less_again g not kept.within)
       (λ b es fresh way.
       let at = pop_way b es side fresh way in
-      again_agrees g x v (Popping at.0) es (PopBusy t ∷ []) (PopBeaten at.0 t) at.1 (kept.pops side) refl refl)
+      again_agrees g v (PopBusy t ∷ []) (PopBeaten at.0 t) at.1 (kept.pops side) refl refl)
 
   -- the pop found nothing to take
   pub empty_leads : (l : Lost) (t : ℕ) → g.side ≡ Pop → l ≡ lost g why.Stalled
       → Refused did fit old (Front t ∷ Empty t ∷ []) new → Leads did fit x v g old new (Err l)
   empty_leads l t side e h =
-      leads (Err l) (Err (lost g why.Stalled)) (Front t ∷ Empty t ∷ []) (ap Err e) h.0 h.1 tt
+      leads (ap Err e) h.0 h.1 tt
       (λ _. tt)
       (λ b es fresh way.
       let at = pop_way b es side fresh way in
@@ -102,7 +102,7 @@ module _ {S T V : Type 0} (did : Doing S T) (fit : S → Type 0) (x : T) (v : V)
   pub idle_leads : (l : Lost) (t : ℕ) → g.side ≡ Pop → l ≡ lost g why.Stalled
       → Refused did fit old (Front t ∷ Idle t ∷ []) new → Leads did fit x v g old new (Err l)
   idle_leads l t side e h =
-      leads (Err l) (Err (lost g why.Stalled)) (Front t ∷ Idle t ∷ []) (ap Err e) h.0 h.1 tt
+      leads (ap Err e) h.0 h.1 tt
       (λ _. tt)
       (λ b es fresh way.
       let at = pop_way b es side fresh way in

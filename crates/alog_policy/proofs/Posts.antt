@@ -137,13 +137,14 @@ module _ {T : Type 0} (p : Policy) (x : T) (k o : ℕ) (part : Part) (es made : 
       }
 
 -- the same, by the policy
-again_agrees_under : {T V : Type 0} (p : Policy) (x : T) (v : V) (s : Side) (k o : ℕ) (part : Part) (es made : List (Event T))
+again_agrees_under : {T V : Type 0} {p : Policy} {x : T} (v : V) (s : Side) {k o : ℕ} {part : Part} {es : List (Event T)}
+    (made : List (Event T))
     (r : Round T) → IsUnderWay p x k o part es → IsRoundUnder p r → events_of_part x part ++ made ≡ events_of_round r
     → Agrees p x v (es ++ made)
     (again_under p (record { policy = p; side = s; rounds = k; overran = o + takes_in made }))
-again_agrees_under Block x v s k o part es made r way under whole =
+again_agrees_under {p = Block} {x} v s {k} {o} {part} {es} made r way under whole =
     (refl, (Pushing, refl, under_way_again Block x k o part es made way r k under whole way.count way.within))
-again_agrees_under {T} {V} OverrunOldest x v s k o part es made r way under whole =
+again_agrees_under {T} {V} {p = OverrunOldest} {x} v s {k} {o} {part} {es} made r way under whole =
     let g : Progress = record { policy = OverrunOldest; side = s; rounds = k; overran = o + takes_in made } in
     let count : k + 1 ≡ counted OverrunOldest (length way.rounds + 1) = ap (λ n. n + 1) way.count in
     let le = way.within in
@@ -157,7 +158,7 @@ again_agrees_under {T} {V} OverrunOldest x v s k o part es made r way under whol
         under_way_again OverrunOldest x k o part es made way r (k + 1) under whole count (omega (arith, le, other)),
       ),
     ))
-again_agrees_under {T} {V} DiscardNew x v s k o part es made r way under whole =
+again_agrees_under {T} {V} {p = DiscardNew} {x} v s {k} {o} {part} {es} made r way under whole =
     let g : Progress = record { policy = DiscardNew; side = s; rounds = k; overran = o + takes_in made } in
     let count : k + 1 ≡ counted DiscardNew (length way.rounds + 1) = ap (λ n. n + 1) way.count in
     let le = way.within in
@@ -176,41 +177,40 @@ add_none : (n m : ℕ) → m ≡ 0 → n + m ≡ n
 add_none n m e = omega (arith, e)
 
 -- a round that goes on without a loss
-pub again_agrees : {T V : Type 0} (g : Progress) (x : T) (v : V) (part : Part) (es made : List (Event T)) (r : Round T)
+pub again_agrees : {T V : Type 0} (g : Progress) {x : T} (v : V) {part : Part} {es : List (Event T)} (made : List (Event T)) (r : Round T)
     → IsSoFar g x part es → IsRoundUnder g.policy r → events_of_part x part ++ made ≡ events_of_round r → takes_in made ≡ 0
     → Agrees g.policy x v (es ++ made) (again g)
-again_agrees {T} {V} g x v part es made r way under whole none =
+again_agrees {T} {V} g {x} v {part} {es} made r way under whole none =
     let same : g.overran + takes_in made ≡ g.overran = add_none g.overran (takes_in made) none in
     subst
     (λ n. Agrees g.policy x v (es ++ made)
     (again_under g.policy (record { policy = g.policy; side = g.side; rounds = g.rounds; overran = n }))) same
-    (again_agrees_under g.policy x v g.side g.rounds g.overran part es made r way under whole)
+    (again_agrees_under v g.side made r way under whole)
 
 -- a round that took the oldest item out
-pub take_agrees : {T V : Type 0} (g : Progress) (x : T) (v : V) (part : Part) (es made : List (Event T)) (r : Round T)
+pub take_agrees : {T V : Type 0} (g : Progress) {x : T} (v : V) {part : Part} {es : List (Event T)} (made : List (Event T)) (r : Round T)
     → IsSoFar g x part es → IsRoundUnder g.policy r → events_of_part x part ++ made ≡ events_of_round r → takes_in made ≡ 1
     → Agrees g.policy x v (es ++ made) (after_take g)
-take_agrees {T} {V} g x v part es made r way under whole one =
+take_agrees {T} {V} g {x} v {part} {es} made r way under whole one =
     subst
     (λ n. Agrees g.policy x v (es ++ made)
     (again_under g.policy (record { policy = g.policy; side = g.side; rounds = g.rounds; overran = g.overran + n }))) one
-    (again_agrees_under g.policy x v g.side g.rounds g.overran part es made r way under whole)
+    (again_agrees_under v g.side made r way under whole)
 
-full_agrees_under : {T V : Type 0} (p q : Policy) (s : Side) (x : T) (v : V) (k o : ℕ) (es : List (Event T)) (f : ℕ) → p ≡ q
+full_agrees_under : {T V : Type 0} {p q : Policy} (s : Side) {x : T} (v : V) {k o : ℕ} {es : List (Event T)} (f : ℕ) → p ≡ q
     → IsUnderWay p x k o Pushing es
     → Agrees p x v (es ++ Full f ∷ []) (full_under q (record { policy = p; side = s; rounds = k; overran = o }))
-full_agrees_under p Block s x v k o es f is way =
-    again_agrees (record { policy = p; side = s; rounds = k; overran = o }) x v Pushing es (Full f ∷ []) (Waited f) way is
-    refl refl
-full_agrees_under p OverrunOldest s x v k o es f is way =
+full_agrees_under {p} {q = Block} s {x} v {k} {o} {es} f is way =
+    again_agrees (record { policy = p; side = s; rounds = k; overran = o }) v (Full f ∷ []) (Waited f) way is refl refl
+full_agrees_under {p} {q = OverrunOldest} s {x} v {k} {o} {es} f is way =
     (refl, (Popping f, (f, refl), part_agrees p x k o Pushing es (Full f ∷ []) way (Popping f) is refl refl))
-full_agrees_under p DiscardNew s x v k o es f is way =
+full_agrees_under {p} {q = DiscardNew} s {x} v {k} {o} {es} f is way =
     end_agrees p x k o Pushing es (Full f ∷ []) way v (NoRoom f) (way.within, is) refl refl
 
 -- a push that found the queue full
 pub full_agrees : {T V : Type 0} (g : Progress) (x : T) (v : V) (es : List (Event T)) (f : ℕ) → IsSoFar g x Pushing es
     → Agrees g.policy x v (es ++ Full f ∷ []) (after_full g)
-full_agrees g x v es f way = full_agrees_under g.policy g.policy g.side x v g.rounds g.overran es f refl way
+full_agrees g x v es f way = full_agrees_under {q = g.policy} g.side v f refl way
 
 -- before the first round
 pub begun_agrees : {T : Type 0} (p : Policy) (x : T) → IsSoFar (begun p) x Pushing []

@@ -1,6 +1,6 @@
 -- A step of a desk whose actor is in a post.
 use Rattle.std.proofs.Common.{◌≡◌, ◌≢◌, ℕ, ◌<◌, Option, None, Some, Ok, Err, List, [], ◌++◌, length}
-use Rattle.std.proofs.Common.{refl, sym, ap, subst, ◌∙◌, arith, get_or, set, length-set, get_or-set_same, append-nil}
+use Rattle.std.proofs.Common.{refl, sym, ap, subst, ◌∙◌, arith, get_or, set, length-set, get_or-set_same, set-set, append-nil}
 use Rattle.std.proofs.lemmas.List.{get_or_read, get_or-replicate, length-replicate}
 use Rattle.alog_core.specs.Queue.{Event}
 use Rattle.alog_core.specs.History.{Entry}
@@ -33,14 +33,14 @@ use Rattle.alog_policy.proofs.Desks.{kept_set, has_value, led_is_idle, round_set
 use Rattle.alog_policy.proofs.Turns.{turn_fits, turn_comes, CameTo}
 
 -- the post that was taken out is the actor's
-pub post_read : {T : Type 0} (ps : List (Option (Post T))) (a : ℕ) (lent taken : Option (Post T)) (p : Post T)
+pub post_read : {T : Type 0} (ps : List (Option (Post T))) (a : ℕ) {lent taken : Option (Post T)} {p : Post T}
     → a < length ps → lent ≡ get_or ps a lent → taken ≡ lent → taken ≡ Some p → get_or ps a None ≡ Some p
-post_read ps a lent taken p lt e f g = sym (get_or_read ps a lent lt e None) ∙ (sym f ∙ g)
+post_read ps a {lent} lt e f g = sym (get_or_read ps a lent lt e None) ∙ (sym f ∙ g)
 
 -- a turn by its parts
-pub turn_is : {T : Type 0} (v w : Machine T) (a : ℕ) (p : Post T) (c : Counts) (s t : Said T) → v ≡ w → s ≡ t
+pub turn_is : {T : Type 0} {v w : Machine T} (a : ℕ) (p : Post T) (c : Counts) {s t : Said T} → v ≡ w → s ≡ t
     → turn_of v a p c s ≡ turn_of w a p c t
-turn_is {T} v w a p c s t e f =
+turn_is {T} {w} a p c {s} e f =
     ap (λ (m : Machine T). turn_of m a p c s) e ∙ ap (λ (u : Said T). turn_of w a p c u) f
 
 stepped_is : {T : Type 0} (s : Stepped T) (x : Said T) (o : Option (Outcome T)) → s.said ≡ x → s.outcome ≡ o
@@ -77,20 +77,20 @@ turn_goes w a p c v (Ends t) all lt = goes_same w
 turn_goes w a p c v (Leads (Ok g)) all lt = goes_began w a (call_of g.side v) all lt (begins_no_look g.side v)
 turn_goes w a p c v (Leads (Err l)) all lt = goes_same w
 
-continues_from : {T : Type 0} (e : DeskView T) (a : ℕ) (q r : Policy) (x : T) (fs : List (Event T)) (o : Option (Post T))
-    (s : Round T) (out : Option (Outcome T)) → q ≡ r → post_of e a ≡ o → round_of e.world a ≡ s → CameTo q x fs o s out
+continues_from : {T : Type 0} (e : DeskView T) (a : ℕ) {q r : Policy} (x : T) (fs : List (Event T)) {o : Option (Post T)}
+    {s : Round T} (out : Option (Outcome T)) → q ≡ r → (post_of e a ≡ o) × (round_of e.world a ≡ s) → CameTo q x fs o s out
     → Continues e a r x fs out
-continues_from {T} e a q r x fs o s None same there here came =
+continues_from {T} e a x fs None same there came =
     record {
       post = came.post;
-      there = there ∙ came.there;
+      there = there.0 ∙ came.there;
       under = came.under ∙ same;
       part = came.part;
-      at = subst (λ (u : Round T). IsAt x came.post.hand came.post.progress.side u came.part) (sym here) came.at;
+      at = subst (λ (u : Round T). IsAt x came.post.hand came.post.progress.side u came.part) (sym there.1) came.at;
       so_far = came.so_far;
     }
-continues_from {T} e a q r x fs o s (Some out) same there here came =
-    (subst (λ k. IsPost k x x fs out) same came.0, there ∙ came.1)
+continues_from {T} e a x fs (Some out) same there came =
+    (subst (λ k. IsPost k x x fs out) same came.0, there.0 ∙ came.1)
 
 module _ {T : Type 0} (d : DeskView T) (a : ℕ) (p : Post T) (kept : IsKeptDesk d) (lt : a < ACTORS)
     (there : post_of d a ≡ Some p) (cell : HasItsCell d.world a) where
@@ -129,12 +129,13 @@ module _ {T : Type 0} (d : DeskView T) (a : ℕ) (p : Post T) (kept : IsKeptDesk
 
   pub rounds_after : turn.world.rounds ≡ set d.world.rounds a (round_of turn.world a)
   rounds_after =
-      turn_rounds left d.world.rounds (next_move d.world a).round a p (with_said d.counts (told d.world a))
-      (value_in p.hand (told d.world a)) (follows p.progress (told d.world a)) in_rounds refl
+      turn_rounds left a p (with_said d.counts (told d.world a)) (value_in p.hand (told d.world a))
+      (follows p.progress (told d.world a)) in_left
+      ∙ set-set d.world.rounds a (next_move d.world a).round (round_of turn.world a)
 
   pub kept_after : (e : DeskView T) → e.world ≡ turn.world → e.posts ≡ set d.posts a turn.post → IsKeptDesk e
   kept_after e world posts =
-      kept_set d e a (round_of turn.world a) turn.post kept lt
+      kept_set {e = e} a (round_of turn.world a) turn.post kept lt
       (turn_fits left a p d.counts (round_of d.world a) (next_move d.world a) fits.0 in_left here kind fits.1)
       (ap (λ (w : Machine T). w.rounds) world ∙ rounds_after) posts
 
@@ -151,8 +152,8 @@ module _ {T : Type 0} (d : DeskView T) (a : ℕ) (p : Post T) (kept : IsKeptDesk
       let came =
       turn_comes left a p d.counts x es in_left (round_of d.world a) (next_move d.world a) posting.part here fits.0 at way kind in
       subst (λ (w : Option (Outcome T)). Continues e a q x (es ++ event_of (next_move d.world a).event) w) (sym outcome)
-      (continues_from e a p.progress.policy q x (es ++ event_of (next_move d.world a).event) turn.post
-      (round_of turn.world a) turn.outcome under post (ap (λ (w : Machine T). round_of w a) world) came)
+      (continues_from e a x (es ++ event_of (next_move d.world a).event) turn.outcome under
+      (post, ap (λ (w : Machine T). round_of w a) world) came)
 
   pub stepped_after : (e : DeskView T) → e.world ≡ turn.world → e.posts ≡ set d.posts a turn.post
       → e.counts ≡ turn.counts → e ≡ desk_stepped d a
@@ -188,10 +189,10 @@ kept_fresh {T} d n f e =
     })
 
 -- a post that has begun
-pub post_begins : {T : Type 0} (d e : DeskView T) (a : ℕ) (p : Policy) (x : T) → IsKeptDesk d → a < ACTORS
+pub post_begins : {T : Type 0} {d e : DeskView T} {a : ℕ} {p : Policy} {x : T} → IsKeptDesk d → a < ACTORS
     → e.world ≡ began d.world a (round.Push x) → e.posts ≡ set d.posts a (Some (record { progress = begun p; hand = None }))
     → IsKeptDesk e × IsPosting e a p x []
-post_begins {T} d e a p x kept lt world posts =
+post_begins {T} {d} {e} {a} {p} {x} kept lt world posts =
     let post : Post T = record { progress = begun p; hand = None } in
     let rounds : e.world.rounds ≡ set d.world.rounds a (round.Push x) = ap (λ (w : Machine T). w.rounds) world in
     let in_rounds : a < length d.world.rounds = omega (arith, lt, kept.actors) in
@@ -199,7 +200,7 @@ post_begins {T} d e a p x kept lt world posts =
     let there : post_of e a ≡ Some post =
     ap (λ (ps : List (Option (Post T))). get_or ps a None) posts ∙ get_or-set_same d.posts a (Some post) None in_posts in
     let here : round_of e.world a ≡ round.Push x = round_set e.world d.world.rounds a (round.Push x) in_rounds rounds in (
-      kept_set d e a (round.Push x) (Some post) kept lt (kept_begun p, (refl, refl)) rounds posts,
+      kept_set {e = e} a (round.Push x) (Some post) kept lt (kept_begun p, (refl, refl)) rounds posts,
       record {
         post = post;
         there = there;

@@ -356,12 +356,12 @@ pub record NextStep {T A : Type 0} (in_round : Round T → List (Event T) → Ty
   pub stops : (b : A) → answer ≡ Some b → round_of old a ≡ round.Idle
       → (es : List (Event T)) × ends b es × Makes a old es new × AllByRecursion IsUnbeaten es
 
-next_step : {T A : Type 0} (in_round : Round T → List (Event T) → Type 0) (ends : A → List (Event T) → Type 0) (a : ℕ)
-    (old now new : Machine T) (answer : Option A) (of : Type 0) → a < length old.rounds
+next_step : {T A : Type 0} {in_round : Round T → List (Event T) → Type 0} {ends : A → List (Event T) → Type 0} {a : ℕ}
+    {old now new : Machine T} {answer : Option A} {of : Type 0} → a < length old.rounds
     → (far : RoundSoFar in_round a old now)
     → RoundGoes in_round ends (round_of now a) (next_move now a) far.events of (next_move now a).event answer
     → new ≡ stepped now a → GoesOn now (entries_of_step now a) new → NextStep in_round ends a old now new answer
-next_step {T} {A} in_round ends a old now new answer of lt far step e goes =
+next_step {T} {A} {in_round} {a} {old} {now} {new} lt far step e goes =
     let made = made_step a old lt far.events now new far.made e goes in
     let es = far.events ++ event_of (next_move now a).event in
     let old_rounds : length now.rounds ≡ length old.rounds =
@@ -404,8 +404,7 @@ module _ {T : Type 0} (a : ℕ) (old now new : Machine T) (lt : a < length old.r
   push_next x s answer far says is =
       let same = is ∙ ap (λ (t : Said T). push_answer t) says in
       subst (λ (o : Option (Result ℕ (PushError T))). NextStep (InPush x) (PushEnds x) a old now new o) (sym same)
-      (next_step (InPush x) (PushEnds x) a old now new (push_answer (told now a)) (IsOfPush (told now a)) lt far
-      (push_goes x (round_of now a) (next_move now a) far.events (kind_here now a cell) far.stage) e goes)
+      (next_step lt far (push_goes x (round_of now a) (next_move now a) far.events (kind_here now a cell) far.stage) e goes)
 
   pub pop_of : (s : Said T) → RoundSoFar InPop a old now → s ≡ told now a → IsOfPop s
   pop_of s far says =
@@ -417,23 +416,22 @@ module _ {T : Type 0} (a : ℕ) (old now new : Machine T) (lt : a < length old.r
   pop_next s answer far says is =
       let same = is ∙ ap (λ (t : Said T). pop_answer t) says in
       subst (λ (o : Option (Result (ℕ × T) PopError)). NextStep InPop PopEnds a old now new o) (sym same)
-      (next_step InPop PopEnds a old now new (pop_answer (told now a)) (IsOfPop (told now a)) lt far
-      (pop_goes (round_of now a) (next_move now a) far.events (kind_here now a cell) far.stage) e goes)
+      (next_step lt far (pop_goes (round_of now a) (next_move now a) far.events (kind_here now a cell) far.stage) e goes)
 
 -- what a round that stopped is, by its answer
 made_as : {T : Type 0} (a : ℕ) (old new : Machine T) (es fs : List (Event T)) → es ≡ fs → Makes a old es new
     → Makes a old fs new
 made_as {T} a old new es fs e made = subst (λ (gs : List (Event T)). Makes a old gs new) e made
 
-pub push_result : {T : Type 0} (a : ℕ) (old new : Machine T) (x : T) (b : Result ℕ (PushError T)) (es : List (Event T))
+pub push_result : {T : Type 0} {a : ℕ} {old new : Machine T} (x : T) (b : Result ℕ (PushError T)) {es : List (Event T)}
     → PushEnds x b es → Makes a old es new → AllByRecursion IsUnbeaten es
     → IfOk b (λ t. Makes a old (Claim t x ∷ Write t ∷ []) new) × IfErr b (λ e. PushRoundRefused a old x e new)
-push_result a old new x (Ok t) es e made un = (made_as a old new es (Claim t x ∷ Write t ∷ []) e made, tt)
-push_result a old new x (Err (push.Full back next)) es e made un =
+push_result {a} {old} {new} x (Ok t) {es} e made un = (made_as a old new es (Claim t x ∷ Write t ∷ []) e made, tt)
+push_result {a} {old} {new} x (Err (push.Full back next)) {es} e made un =
     (tt, (e.0, made_as a old new es (Full next ∷ []) e.1 made))
-push_result {T} a old new x (Err (push.Busy back seen)) es e made un =
+push_result {T} x (Err (push.Busy back seen)) e made un =
     (tt, (subst (λ (gs : List (Event T)). AllByRecursion IsUnbeaten gs) e.1 un).0)
-push_result a old new x (Err (push.Spent back)) es e made un = (tt, (e.0, made_as a old new es (Spent ∷ []) e.1 made))
+push_result {a} {old} {new} x (Err (push.Spent back)) {es} e made un = (tt, (e.0, made_as a old new es (Spent ∷ []) e.1 made))
 
 pub pop_result : {T : Type 0} (a : ℕ) (old new : Machine T) (b : Result (ℕ × T) PopError) (es : List (Event T))
     → PopEnds b es → Makes a old es new → AllByRecursion IsUnbeaten es

@@ -119,9 +119,9 @@ CutOf e calls steps b =
     IsCut (post_of e b) (round_of e.world b) (calls_made b calls) (events_made b steps) (outcomes_made b steps)
 
 -- an actor whose post and round are as they were
-same_cut : {T : Type 0} (o p : Option (Post T)) (r s : Round T) (cs ds : List (Call T)) (es fs : List (Event T))
-    (os us : List (Outcome T)) → p ≡ o → s ≡ r → ds ≡ cs → fs ≡ es → us ≡ os → IsCut o r cs es os → IsCut p s ds fs us
-same_cut {T} o p r s cs ds es fs os us e f d g h c =
+same_cut : {T : Type 0} {o p : Option (Post T)} {r s : Round T} {cs ds : List (Call T)} {es fs : List (Event T)}
+    {os us : List (Outcome T)} → p ≡ o → s ≡ r → ds ≡ cs → fs ≡ es → us ≡ os → IsCut o r cs es os → IsCut p s ds fs us
+same_cut {T} {o} {r} {s} {cs} {ds} {es} {fs} {us} e f d g h c =
     subst (λ (q : Option (Post T)). IsCut q s ds fs us) (sym e)
     (subst (λ (t : Round T). IsCut o t ds fs us) (sym f)
     (subst (λ (ks : List (Call T)). IsCut o r ks fs us) (sym d)
@@ -155,7 +155,7 @@ after_start {T} n f size below =
         places = refl;
         history = leads_start n f;
         actors = λ a lt.
-            same_cut None (post_of (fresh_desk n f) a) round.Idle (round_of (fresh n f) a) [] [] [] [] [] []
+            same_cut {cs = []} {ds = []} {es = []} {fs = []} {os = []} {us = []}
             (get_or-replicate ACTORS a None None lt) (get_or-replicate ACTORS a round.Idle round.Idle lt) refl refl refl
             (record {
               ended = [];
@@ -199,8 +199,8 @@ module _ {T : Type 0} (n f : ℕ) (calls : List (CallMade T)) (steps : List (Ste
       let in_rounds : a < length e.world.rounds = omega (arith, lt, after.kept.actors) in
       record {
         reached = reached_began e.world a r after.reached lt staged;
-        kept = kept_set e new a r (post_of e a) after.kept lt (subst (λ (o : Option (Post T)). Fits o r) (sym no_post) tt)
-            refl same_posts;
+        kept = kept_set {e = new} a r (post_of e a) after.kept lt (subst (λ (o : Option (Post T)). Fits o r) (sym no_post) tt) refl
+            same_posts;
         run = record {
           places = after.run.places;
           history = leads_still f (entries_made steps) e.world new.world
@@ -209,16 +209,14 @@ module _ {T : Type 0} (n f : ℕ) (calls : List (CallMade T)) (steps : List (Ste
               on_test (λ _. CutOf new more steps b) b a
               (λ same.
               let none : post_of e b ≡ None = ap (λ k. post_of e k) same ∙ no_post in
-              same_cut None (post_of e b) r (round_of new.world b) (calls_made b calls ++ c ∷ []) (calls_made b more)
-              (events_made b steps) (events_made b steps) (outcomes_made b steps) (outcomes_made b steps) none
+              same_cut
+              {fs = events_made b steps} {us = outcomes_made b steps} none
               (ap (λ k. round_of new.world k) same ∙ round_set new.world e.world.rounds a r in_rounds refl)
               (my_call a b c calls same) refl refl
-              (begins_cut (post_of e b) r c (calls_made b calls) (events_made b steps) (outcomes_made b steps) none
-              (idle_cut b below same before) begun))
+              (begins_cut {r = r} c none (idle_cut b below same before) begun))
               (λ other.
-              same_cut (post_of e b) (post_of e b) (round_of e.world b) (round_of new.world b) (calls_made b calls)
-              (calls_made b more) (events_made b steps) (events_made b steps) (outcomes_made b steps) (outcomes_made b steps)
-              refl (get_or-set_other e.world.rounds a b r round.Idle other) (others_call a b c calls other) refl refl
+              same_cut {p = post_of e b} {fs = events_made b steps} {us = outcomes_made b steps} refl
+              (get_or-set_other e.world.rounds a b r round.Idle other) (others_call a b c calls other) refl refl
               (after.run.actors b below));
           counts = after.run.counts;
         };
@@ -233,7 +231,7 @@ module _ {T : Type 0} (n f : ℕ) (calls : List (CallMade T)) (steps : List (Ste
       let more : List (CallMade T) = calls ++ called a c ∷ [] in
       let before : round_of e.world a ≡ round.Idle = idle_is (round_of e.world a) idle in
       let no_post : post_of e a ≡ None = fits_idle (post_of e a) (round_of e.world a) before (after.kept.fit a lt) in
-      let both = post_begins e new a p x after.kept lt refl refl in
+      let both = post_begins {e = new} {a = a} {p = p} {x = x} after.kept lt refl refl in
       let posting = both.1 in
       record {
         reached = reached_began e.world a (round.Push x) after.reached lt tt;
@@ -245,16 +243,14 @@ module _ {T : Type 0} (n f : ℕ) (calls : List (CallMade T)) (steps : List (Ste
           actors = λ b below.
               on_test (λ _. CutOf new more steps b) b a
               (λ same.
-              same_cut (Some posting.post) (post_of new b) (round_of new.world a) (round_of new.world b)
-              (calls_made b calls ++ c ∷ []) (calls_made b more) (events_made b steps) (events_made b steps)
-              (outcomes_made b steps) (outcomes_made b steps) (ap (λ k. post_of new k) same ∙ posting.there)
+              same_cut
+              {fs = events_made b steps}
+              {us = outcomes_made b steps} (ap (λ k. post_of new k) same ∙ posting.there)
               (ap (λ k. round_of new.world k) same) (my_call a b c calls same) refl refl
-              (post_begins_cut (post_of e b) posting.post p x posting.part (round_of new.world a) (calls_made b calls)
-              (events_made b steps) (outcomes_made b steps) (ap (λ k. post_of e k) same ∙ no_post)
+              (post_begins_cut {p = posting.post} {r = round_of new.world a} (ap (λ k. post_of e k) same ∙ no_post)
               (idle_cut b below same before) posting.under posting.at posting.so_far))
               (λ other.
-              same_cut (post_of e b) (post_of new b) (round_of e.world b) (round_of new.world b) (calls_made b calls)
-              (calls_made b more) (events_made b steps) (events_made b steps) (outcomes_made b steps) (outcomes_made b steps)
+              same_cut {fs = events_made b steps} {us = outcomes_made b steps}
               (get_or-set_other e.posts a b (Some (record { progress = begun p; hand = None })) None other)
               (get_or-set_other e.world.rounds a b (round.Push x) round.Idle other) (others_call a b c calls other) refl refl
               (after.run.actors b below));
@@ -329,9 +325,9 @@ module _ {T : Type 0} (n f : ℕ) (calls : List (CallMade T)) (steps : List (Ste
   others_cut : (new : DeskView T) (s : StepMade T) (b : ℕ) → s.actor ≡ a → b ≢ a → post_of new b ≡ post_of e b
       → round_of new.world b ≡ round_of e.world b → CutOf e calls steps b → CutOf new calls (steps ++ s ∷ []) b
   others_cut new s b actor other post here c =
-      same_cut (post_of e b) (post_of new b) (round_of e.world b) (round_of new.world b) (calls_made b calls)
-      (calls_made b calls) (events_made b steps) (events_made b (steps ++ s ∷ [])) (outcomes_made b steps)
-      (outcomes_made b (steps ++ s ∷ [])) post here refl
+      same_cut
+      {ds = calls_made b calls}
+      post here refl
       (events_made-last s b steps
       ∙ (ap (λ (xs : List (Event T)). events_made b steps ++ xs)
       (ap (λ k. cond (k == b) (event_of s.event) []) actor ∙ not_mine a b (event_of s.event) other)
@@ -342,15 +338,13 @@ module _ {T : Type 0} (n f : ℕ) (calls : List (CallMade T)) (steps : List (Ste
       ∙ append-nil (outcomes_made b steps)))
       c
 
-  my_cut : (new : DeskView T) (s : StepMade T) (b : ℕ) (o : Option (Post T)) (r : Round T) → s.actor ≡ a → b ≡ a
+  my_cut : (new : DeskView T) (s : StepMade T) {b : ℕ} {o : Option (Post T)} {r : Round T} → s.actor ≡ a → b ≡ a
       → post_of new a ≡ o → round_of new.world a ≡ r
       → IsCut o r (calls_made a calls) (events_made a steps ++ event_of s.event) (outcomes_made a steps ++ outcome_in s.outcome)
       → CutOf new calls (steps ++ s ∷ []) b
-  my_cut new s b o r actor same post here c =
+  my_cut new s {o} {r} actor same post here c =
       subst (λ k. CutOf new calls (steps ++ s ∷ []) k) (sym same)
-      (same_cut o (post_of new a) r (round_of new.world a) (calls_made a calls) (calls_made a calls)
-      (events_made a steps ++ event_of s.event)
-      (events_made a (steps ++ s ∷ [])) (outcomes_made a steps ++ outcome_in s.outcome) (outcomes_made a (steps ++ s ∷ []))
+      (same_cut {ds = calls_made a calls}
       post here refl
       (events_made-last s a steps
       ∙ ap (λ (xs : List (Event T)). events_made a steps ++ xs)
@@ -368,8 +362,7 @@ module _ {T : Type 0} (n f : ℕ) (calls : List (CallMade T)) (steps : List (Ste
       let posts : e.posts ≡ set e.posts a (post_of e a) = sym (set-get_or e.posts a None) in
       record {
         reached = reached_stepped e.world a after.reached lt;
-        kept = kept_set e new a r (post_of e a) after.kept lt (subst (λ (o : Option (Post T)). Fits o r) (sym no_post) tt)
-            refl posts;
+        kept = kept_set {e = new} a r (post_of e a) after.kept lt (subst (λ (o : Option (Post T)). Fits o r) (sym no_post) tt) refl posts;
         run = record {
           places = after.run.places;
           history = led (made_by None) refl refl;
@@ -380,7 +373,7 @@ module _ {T : Type 0} (n f : ℕ) (calls : List (CallMade T)) (steps : List (Ste
               subst
               (λ (o : Option (Post T)). IsCut o (round_of e.world a) (calls_made a calls) (events_made a steps) (outcomes_made a steps))
               no_post (after.run.actors a lt) in
-              my_cut new (made_by None) b None r refl same no_post (round_set new.world e.world.rounds a r in_rounds refl)
+              my_cut new (made_by None) refl same no_post (round_set new.world e.world.rounds a r in_rounds refl)
               (subst
               (λ (os : List (Outcome T)).
               IsCut None r (calls_made a calls) (events_made a steps ++ event_of (next_move e.world a).event) os)
@@ -429,11 +422,9 @@ module _ {T : Type 0} (n f : ℕ) (calls : List (CallMade T)) (steps : List (Ste
               let begun = subst (λ (o : Option (Post T)). IsUnderWayIn o r mine.current mine.rest) there mine.begun in
               let came =
               turn_comes w a p e.counts begun.0 mine.rest in_left r m begun.1 here fits.0 begun.2 begun.3 kind in
-              my_cut new (made_by (Some p)) b t.post (round_of t.world a) refl same
+              my_cut new (made_by (Some p)) refl same
               (get_or-set_same e.posts a t.post None in_posts) refl
-              (post_cut p.progress.policy begun.0 (calls_made a calls) (events_made a steps) (event_of m.event)
-              (outcomes_made a steps) mine.ended mine.current mine.whole mine.rest t.post (round_of t.world a) t.outcome mine.order
-              begun.4 mine.cut mine.calls came
+              (post_cut {q = p.progress.policy} {x = begun.0} (event_of m.event) mine.rest {o = t.post} mine.order begun.4 mine.cut mine.calls came
               (ended_leaves w a p e.counts r m kind fits.1 here)))
               (λ other.
               others_cut new (made_by (Some p)) b refl other (get_or-set_other e.posts a b t.post None other)

@@ -107,18 +107,18 @@ at_pop x h s (round.PopReady t) b has at = at
 at_pop x h s (round.PopGrabbed t) b has at = absurd has
 at_pop x h s (round.PopFronted t) b has at = absurd has
 
-push_at : {T : Type 0} (x : T) (h : Option T) (s : Side) (r : Round T) (b : Part) → PushHas x r → s ≡ Push → h ≡ None
+push_at : {T : Type 0} (x : T) {h : Option T} {s : Side} (r : Round T) {b : Part} → PushHas x r → s ≡ Push → h ≡ None
     → b ≡ Pushing → IsAt x h s r b
-push_at x h s round.Idle b has side none part = absurd has
-push_at x h s (round.Push z) b has side none part = (side, none, has, part)
-push_at x h s (round.PushRead t z) b has side none part = (side, none, has, part)
-push_at x h s (round.PushFree t z) b has side none part = (side, none, has, part)
-push_at x h s (round.PushClaimed t) b has side none part = absurd has
-push_at x h s round.Pop b has side none part = absurd has
-push_at x h s (round.PopRead t) b has side none part = absurd has
-push_at x h s (round.PopReady t) b has side none part = absurd has
-push_at x h s (round.PopGrabbed t) b has side none part = absurd has
-push_at x h s (round.PopFronted t) b has side none part = absurd has
+push_at x round.Idle has side none part = absurd has
+push_at x (round.Push z) has side none part = (side, none, has, part)
+push_at x (round.PushRead t z) has side none part = (side, none, has, part)
+push_at x (round.PushFree t z) has side none part = (side, none, has, part)
+push_at x (round.PushClaimed t) has side none part = absurd has
+push_at x round.Pop has side none part = absurd has
+push_at x (round.PopRead t) has side none part = absurd has
+push_at x (round.PopReady t) has side none part = absurd has
+push_at x (round.PopGrabbed t) has side none part = absurd has
+push_at x (round.PopFronted t) has side none part = absurd has
 
 pop_at : {T : Type 0} (x : T) (h : Option T) (s : Side) (r : Round T) (b : Part) → PopSeeks r
     → (s ≡ Pop) × (h ≡ Some x) × ((f : ℕ) × (b ≡ Popping f)) → IsAt x h s r b
@@ -209,7 +209,7 @@ module _ {T : Type 0} (w : Machine T) (a : ℕ) (p : Post T) (c : Counts) (x : T
     pushes y h n =
         let k = at_push x y p.hand p.progress.side r b h at in
         stays_at b (es ++ [])
-        (push_at x p.hand p.progress.side m.round b (subst (λ (z : T). PushHas z m.round) k.2 n) k.0 k.1 k.3) same_events
+        (push_at x m.round (subst (λ (z : T). PushHas z m.round) k.2 n) k.0 k.1 k.3) same_events
 
     claims : (y : T) (t : ℕ) → PushHas y r → m.round ≡ round.PushClaimed t → After (said.Claim t) (Some (Claim t y))
     claims y t h n =
@@ -231,7 +231,7 @@ module _ {T : Type 0} (w : Machine T) (a : ℕ) (p : Post T) (c : Counts) (x : T
         let k = at_push x y p.hand p.progress.side r b h at in
         subst (λ (z : T). After (said.Busy t (Some z)) (Some (PushBusy t))) (sym k.2)
         (led_comes c (again p.progress) (es ++ PushBusy t ∷ [])
-        (again_agrees p.progress x x Pushing es (PushBusy t ∷ []) (PushBeaten t) (way_at Pushing k.3) tt refl refl))
+        (again_agrees p.progress x (PushBusy t ∷ []) (PushBeaten t) (way_at Pushing k.3) tt refl refl))
 
     is_spent : (y : T) → PushHas y r → After (said.Spent (Some y)) (Some Spent)
     is_spent y h =
@@ -294,16 +294,14 @@ module _ {T : Type 0} (w : Machine T) (a : ℕ) (p : Post T) (c : Counts) (x : T
         let k = at_pop x p.hand p.progress.side r b h at in
         let f = k.2.0 in
         led_hand_comes c (again p.progress) (es ++ PopBusy t ∷ []) k.1
-        (again_agrees p.progress x x (Popping f) es (PopBusy t ∷ []) (PopBeaten f t) (way_at (Popping f) k.2.1)
-        (kept.pops k.0) refl refl)
+        (again_agrees p.progress x (PopBusy t ∷ []) (PopBeaten f t) (way_at (Popping f) k.2.1) (kept.pops k.0) refl refl)
 
     takes : (t : ℕ) (y : T) → r ≡ round.PopGrabbed t → After (said.Take t y) (Some (Take t y))
     takes t y h =
         let k = subst (λ (u : Round T). IsAt x p.hand p.progress.side u b) h at in
         let f = k.2.0 in
         led_hand_comes (with_said c (said.Take t y)) (after_take p.progress) (es ++ Take t y ∷ []) k.1
-        (take_agrees p.progress x x (Grabbed f t) es (Take t y ∷ []) (post.Overran f t y) (way_at (Grabbed f t) k.2.1)
-        (kept.pops k.0) refl refl)
+        (take_agrees p.progress x (Take t y ∷ []) (post.Overran f t y) (way_at (Grabbed f t) k.2.1) (kept.pops k.0) refl refl)
 
     -- whatever kind of step it was
     pub turn_comes : Kind T r m → After (saying r m) m.event

@@ -58,12 +58,12 @@ overran_takes : {T V : Type 0} (p : Policy) (x : T) (v : V) (es : List (Event T)
 overran_takes {T} {V} p x v es o post =
     sym (ap (λ (r : Outcome V). overran_in r) post.outcome_is ∙ overran_in-outcome v (takes_in es) post.end)
 
-done_more : {S T : Type 0} (did : Doing S T) (one : AreTogether did) (a b c : S) (es fs : List (Event T))
+done_more : {S T : Type 0} (did : Doing S T) (one : AreTogether did) {a b c : S} {es fs : List (Event T)}
     → DidSoFar did a es b → did b fs (takes_in fs) 0 c → did a (es ++ fs) (takes_in (es ++ fs)) 0 c
-done_more {S} {T} did one a b c es fs (inl h) then =
+done_more {S} {T} did one {a} {c} {fs} (inl h) then =
     subst (λ (gs : List (Event T)). did a (gs ++ fs) (takes_in (gs ++ fs)) 0 c) (sym h.0)
     (subst (λ (s : S). did s fs (takes_in fs) 0 c) (sym h.1) then)
-done_more {S} {T} did one a b c es fs (inr h) then =
+done_more {S} {T} did one {a} {b} {c} {es} {fs} (inr h) then =
     subst (λ n. did a (es ++ fs) n 0 c) (sym (takes_in-append es fs))
     (one a b c es fs (takes_in es) 0 (takes_in fs) 0 h then)
 
@@ -95,7 +95,7 @@ module _ {S T V : Type 0} (did : Doing S T) (fit : S → Type 0) (one : AreToget
           events = posting.events ++ leads.made;
           fresh = agrees.1.1;
           way = agrees.1.2;
-          done = inr (done_more did one first now new posting.events leads.made posting.done leads.done);
+          done = inr (done_more did one posting.done leads.done);
         }
 
     pub posting_is_lost : (l : Lost) (final : S) → Leads did fit x v g now new (Err l) → did new [] 0 1 final
@@ -107,7 +107,7 @@ module _ {S T V : Type 0} (did : Doing S T) (fit : S → Type 0) (one : AreToget
         subst (λ (q : Policy). IsPost q x v events (Discarded v l.why l.overran)) posting.policy agrees in
         let all : did first (events ++ []) (takes_in events + 0) 1 final =
         one first new final events [] (takes_in events) 0 0 1
-        (done_more did one first now new posting.events leads.made posting.done leads.done) counted in
+        (done_more did one posting.done leads.done) counted in
         record {
           events = events;
           post = post;
@@ -131,14 +131,14 @@ module _ {S T V : Type 0} (did : Doing S T) (fit : S → Type 0) (one : AreToget
           post = post;
           done = subst (λ n. did first events n 0 new)
               (overran_takes p x v events (Posted t g.overran) post)
-              (done_more did one first now new posting.events made posting.done wrote);
+              (done_more did one posting.done wrote);
         }
 
 -- the same lead, where the outlet and what follows are told by other names
-pub leads_told : {S T V : Type 0} (did : Doing S T) (fit : S → Type 0) (x : T) (v : V) (g : Progress)
-    (old new told : S) (next told_next : Result Progress Lost) → told ≡ new → told_next ≡ next
+pub leads_told : {S T V : Type 0} {did : Doing S T} {fit : S → Type 0} {x : T} {v : V} {g : Progress}
+    {old new told : S} {next told_next : Result Progress Lost} → told ≡ new → told_next ≡ next
     → Leads did fit x v g old new next → Leads did fit x v g old told told_next
-leads_told {S} {T} {V} did fit x v g old new told next told_next f h leads =
+leads_told {S} {T} {V} {did} {fit} {x} {v} {g} {old} {new} {told_next} f h leads =
     subst (λ (s : S). Leads did fit x v g old s told_next) (sym f)
     (subst (λ (r : Result Progress Lost). Leads did fit x v g old new r) (sym h) leads)
 
@@ -153,9 +153,9 @@ nothing_written {T} g x part es fresh way =
 -- what was admitted first is admitted still
 pub stays_admitted : {S T V : Type 0} (did : Doing S T) (admits : S → V → Type 0)
     → ((a b : S) (v : V) (es : List (Event T)) (k l : ℕ) → writes_in es ≡ 0 → did a es k l b → admits a v → admits b v)
-    → (a b : S) (v : V) (es : List (Event T)) → writes_in es ≡ 0 → DidSoFar did a es b → admits a v → admits b v
-stays_admitted did admits still a b v es quiet (inl none) is = subst (λ s. admits s v) none.1 is
-stays_admitted did admits still a b v es quiet (inr done) is = still a b v es (takes_in es) 0 quiet done is
+    → (a : S) {b : S} {v : V} {es : List (Event T)} → writes_in es ≡ 0 → DidSoFar did a es b → admits a v → admits b v
+stays_admitted did admits still a {v} quiet (inl none) is = subst (λ s. admits s v) none.1 is
+stays_admitted did admits still a {b} {v} {es} quiet (inr done) is = still a b v es (takes_in es) 0 quiet done is
 
 with_value-outcome : {V : Type 0} (v : V) (k : ℕ) (e : End) → with_value v (outcome_of (tt {0}) k e) ≡ outcome_of v k e
 with_value-outcome v k (Wrote t) = refl

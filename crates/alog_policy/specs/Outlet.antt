@@ -32,7 +32,7 @@ module _ {S T : Type 0} (did : Doing S T) (fit : S → Type 0) where
   PushRefused old v (Busy back seen) new = (back ≡ v) × Refused old (queue.PushBusy seen ∷ []) new
   PushRefused old v (Spent back) new = (back ≡ v) × Refused old (queue.Spent ∷ []) new
 
-  -- a pop took the oldest item out and dropped it, which was counted as one loss
+  -- a pop took the oldest item out, which was counted as one loss
   abbrev pub Overran : S → ℕ → S → Type 0
   Overran old t new = ((y : T) × did old (Grab t ∷ Take t y ∷ []) 1 0 new) × fit new
 

@@ -79,8 +79,3 @@ pub record PortDid {T L : Type 0} (old : Port T L) (es : List (Event T)) (items 
   pub seat_lent : new.seat.ghost_name ≡ old.seat.ghost_name
   pub pass : ((es ≡ []) × (new.pass.now ≡ old.pass.now)) ⊎ PassMade old.pass.now es new.pass.now
   pub seat : ((items ≡ 0) × (posts ≡ 0) × (new.seat.now ≡ old.seat.now)) ⊎ SeatCounted old.seat.now items posts new.seat.now
-
--- A post of x on a port, which hands back v if it is discarded: the pass's events were one post under this policy by the
--- definition, and the seat's adds its losses.
-abbrev pub PostsOn : {T L V : Type 0} → Policy → T → V → Port T L → Port T L → Outcome V → Type 0
-PostsOn p x v old new outcome = Posts PortDid p x v old new outcome

@@ -35,7 +35,8 @@ module _ {B : Type 0} (admits : B → Type 0) where
   abbrev pub HandDid : {T : Type 0} → Option B → List (Event T) → Option B → Type 0
   HandDid old es new = ((writes_in es ≡ 0) × (new ≡ old)) ⊎ ((0 < writes_in es) × IsThere new)
 
-  -- what a post leaves in the hand: where it was posted, the block that lay in its place, and else what was there
+  -- what a post leaves in the hand: a block that keeps to the limit where it was posted (the one that lay in its place, of
+  -- which this says no more), and else what was there
   abbrev pub HandLeft : {V : Type 0} → Option B → Outcome V → Option B → Type 0
   HandLeft old (Posted t k) new = IsThere new
   HandLeft old (Discarded v w k) new = new ≡ old
@@ -59,7 +60,7 @@ module _ {B T W L : Type 0} (admits : L → B → Type 0) where
   IsSwapFit p = IsPassOf p.ring.now.ring p.pass.now × IsSeatOf p.book.now p.seat.now
       × IsThere (admits p.ring.now.ring.limit) p.spare.now
 
-  -- the same, and where the port wrote its hand has the block that lay in the place
+  -- the same, and where the port wrote a block is in its hand that keeps to the limit
   abbrev pub SwapPortDid : SwapPort B T W L → List (Event T) → ℕ → ℕ → SwapPort B T W L → Type 0
   SwapPortDid old es items posts new = SwapDid old es items posts new
       × HandDid (admits old.ring.now.ring.limit) old.hand.now es new.hand.now

@@ -2,7 +2,8 @@
 use alog_ring::{PopError, PushError};
 
 /// Where posts go: an actor's own access to a queue, with a count of what is lost. What a post carries is the outlet's
-/// own matter, as is how it is posted; `post_now` is written once, for any outlet. `DeskOutlet` is one.
+/// own matter, as is how it is posted; `post_now` is written once, for any outlet. `DeskOutlet`, `Port` and `SwapPort` are
+/// three.
 ///
 /// `did` is what the outlet tells of itself: between two states, its actor made exactly these events in the history of
 /// its queue, in this order, and exactly so many overrun items and so many discarded posts were counted. `shows` is what
@@ -40,9 +41,10 @@ pub trait Outlet {
         ensures left { IfErr result (λ e. hand.new ≡ hand.old) }
         ensures fit { OnOk result (is_fit self.new) };
 
-    /// Makes one round of a pop: takes the oldest item out if that goes at once, drops it and counts it as overrun, and
-    /// answers its ticket. A refusal is one event where another pop was faster, and else two: the front was not written, and
-    /// then it was claimed, or no ticket was there. Nothing is counted then. It never waits and takes no memory.
+    /// Makes one round of a pop: takes the oldest item out if that goes at once, counts it as overrun, and answers its ticket. A
+    /// `Port` drops the item; a `SwapPort` keeps the block that it lay in, to be written anew. A refusal is one event where
+    /// another pop was faster, and else two: the front was not written, and then it was claimed, or no ticket was there. Nothing
+    /// is counted then. It never waits and takes no memory.
     fn overrun_once(&mut self) -> Result<u64, PopError>
         requires { is_fit self.old }
         ensures overran { IfOk result (λ t. Overran did is_fit self.old t self.new) }
@@ -63,8 +65,8 @@ pub trait Outlet {
         → admits a v → admits b v };
 }
 
-/// An outlet whose queue has places, by whose number a post waits for room: `post_wait` is written once, for any of them. `Port` is
-/// one.
+/// An outlet whose queue has places, by whose number a post waits for room: `post_wait` is written once, for any of them.
+/// `Port` and `SwapPort` are two.
 pub trait RoomyOutlet: Outlet {
     /// How many places the queue has.
     fn places(&self) -> usize;

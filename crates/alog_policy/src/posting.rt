@@ -14,7 +14,7 @@ use alog_ring::{PopError, PushError};
 /// `DiscardNew`, and it takes no memory.
 ///
 /// It makes at most 64 rounds. A round is a push and, under `OverrunOldest` where that found the queue full, a pop of the
-/// oldest item, which is dropped. A discarded value is handed back. Losses are counted by the outlet: each item at its
+/// oldest item, which is lost. A discarded value is handed back. Losses are counted by the outlet: each item at its
 /// take, a discarded post at its end. The test `posts_at_once` shows it.
 #[inline]
 pub fn post_now<O: Outlet>(outlet: &mut O, policy: Policy, value: O::Value) -> Outcome<O::Value>

@@ -42,11 +42,9 @@ loop-progress-smaller g c =
     let next : Leads o.did o.is_fit (o.shows v) (tt {0}) before now c.match-progress.outlet c.match-progress.next =
     elim c.match-progress.branch [
       | in-Push+in-Err w ↦
-          leads_told o.did o.is_fit (o.shows v) (tt {0}) before now w.push.new.outlet c.match-progress.outlet
-          w.in-Err.next c.match-progress.next w.outlet-is w.next-is (w.in-Err.ensures.refused (o.shows v))
+          leads_told w.outlet-is w.next-is (w.in-Err.ensures.refused (o.shows v))
       | in-Pop w ↦
-          leads_told o.did o.is_fit (o.shows v) (tt {0}) before now w.make_room-next.new.outlet c.match-progress.outlet
-          w.make_room-next.result c.match-progress.next w.outlet-is w.next-is (w.make_room-next.ensures (o.shows v))
+          leads_told w.outlet-is w.next-is (w.make_room-next.ensures (o.shows v))
     ]
     in
     let led = subst (λ (r : Result Progress Lost). Leads o.did o.is_fit (o.shows v) (tt {0}) before now c.match-progress.outlet r)
@@ -67,11 +65,9 @@ loop-progress-preserved g c =
           let next : Leads o.did o.is_fit (o.shows v) (tt {0}) before now c.match-progress.outlet c.match-progress.next =
           elim c.match-progress.branch [
             | in-Push+in-Err w ↦
-                leads_told o.did o.is_fit (o.shows v) (tt {0}) before now w.push.new.outlet c.match-progress.outlet
-                w.in-Err.next c.match-progress.next w.outlet-is w.next-is (w.in-Err.ensures.refused (o.shows v))
+                leads_told w.outlet-is w.next-is (w.in-Err.ensures.refused (o.shows v))
             | in-Pop w ↦
-                leads_told o.did o.is_fit (o.shows v) (tt {0}) before now w.make_room-next.new.outlet c.match-progress.outlet
-                w.make_room-next.result c.match-progress.next w.outlet-is w.next-is (w.make_room-next.ensures (o.shows v))
+                leads_told w.outlet-is w.next-is (w.make_room-next.ensures (o.shows v))
           ]
           in
           let led = subst (λ (r : Result Progress Lost). Leads o.did o.is_fit (o.shows v) (tt {0}) before now c.match-progress.outlet r)
@@ -91,11 +87,9 @@ returns-in-Err-next-clause-post g c =
     let next : Leads o.did o.is_fit (o.shows v) (tt {0}) before now c.match-progress.outlet c.match-progress.next =
     elim c.match-progress.branch [
       | in-Push+in-Err w ↦
-          leads_told o.did o.is_fit (o.shows v) (tt {0}) before now w.push.new.outlet c.match-progress.outlet
-          w.in-Err.next c.match-progress.next w.outlet-is w.next-is (w.in-Err.ensures.refused (o.shows v))
+          leads_told w.outlet-is w.next-is (w.in-Err.ensures.refused (o.shows v))
       | in-Pop w ↦
-          leads_told o.did o.is_fit (o.shows v) (tt {0}) before now w.make_room-next.new.outlet c.match-progress.outlet
-          w.make_room-next.result c.match-progress.next w.outlet-is w.next-is (w.make_room-next.ensures (o.shows v))
+          leads_told w.outlet-is w.next-is (w.make_room-next.ensures (o.shows v))
     ]
     in
     let led = subst (λ (r : Result Progress Lost). Leads o.did o.is_fit (o.shows v) (tt {0}) before now c.match-progress.outlet r)
@@ -127,11 +121,9 @@ count_discarded-requires g c =
     let next : Leads o.did o.is_fit (o.shows v) (tt {0}) before now c.match-progress.outlet c.match-progress.next =
     elim c.match-progress.branch [
       | in-Push+in-Err w ↦
-          leads_told o.did o.is_fit (o.shows v) (tt {0}) before now w.push.new.outlet c.match-progress.outlet
-          w.in-Err.next c.match-progress.next w.outlet-is w.next-is (w.in-Err.ensures.refused (o.shows v))
+          leads_told w.outlet-is w.next-is (w.in-Err.ensures.refused (o.shows v))
       | in-Pop w ↦
-          leads_told o.did o.is_fit (o.shows v) (tt {0}) before now w.make_room-next.new.outlet c.match-progress.outlet
-          w.make_room-next.result c.match-progress.next w.outlet-is w.next-is (w.make_room-next.ensures (o.shows v))
+          leads_told w.outlet-is w.next-is (w.make_room-next.ensures (o.shows v))
     ]
     in
     next.ready
@@ -149,7 +141,7 @@ push-requires g c =
       there = let P : Option _ → Type 0 = λ h. IsSome h in subst P (sym c.loop-progress.invariant.hand) c.requires.there;
       admitted = let P : Option _ → Type 0 = λ h. IfSome h (o.admits now) in
           subst P (sym (c.loop-progress.invariant.hand ∙ there.1))
-          (stays_admitted o.did o.admits g.met.O.Outlet.still c.args.outlet.now now v posting.events
+          (stays_admitted o.did o.admits g.met.O.Outlet.still c.args.outlet.now
           (nothing_written c.loop-progress.progress (o.shows v) posting.part posting.events posting.fresh posting.way) posting.done
           (of_value (o.admits c.args.outlet.now) c.args.hand.now v there.1 c.requires.admitted));
       side = c.in-Push.is;

@@ -24,7 +24,7 @@ returns-in-Some-clause-pushed g c =
     let next = push_next a old now new lt said.cell said.stepped said.history c.args.item c.in-Ok-step.said c.push_answer.result
     c.loop-said.invariant said.said c.push_answer.ensures in
     let stop = next.stops c.in-Some.answer c.in-Some.is (idle_is (round_of old a) c.requires.idle) in
-    (push_result a old new c.args.item c.in-Some.answer stop.0 stop.1 stop.2 stop.3).0
+    (push_result c.args.item c.in-Some.answer stop.1 stop.2 stop.3).0
 
 pub returns-in-Some-clause-refused : goal.returns-in-Some-clause-refused
 returns-in-Some-clause-refused g c =
@@ -37,7 +37,7 @@ returns-in-Some-clause-refused g c =
     let next = push_next a old now new lt said.cell said.stepped said.history c.args.item c.in-Ok-step.said c.push_answer.result
     c.loop-said.invariant said.said c.push_answer.ensures in
     let stop = next.stops c.in-Some.answer c.in-Some.is (idle_is (round_of old a) c.requires.idle) in
-    (push_result a old new c.args.item c.in-Some.answer stop.0 stop.1 stop.2 stop.3).1
+    (push_result c.args.item c.in-Some.answer stop.1 stop.2 stop.3).1
 
 pub loop-said-preserved : goal.loop-said-preserved
 loop-said-preserved g c =

@@ -33,7 +33,7 @@ push_from-requires g c =
       there = let P : Option _ → Type 0 = λ h. IsSome h in subst P (sym c.loop.invariant.hand) c.requires.there;
       admitted = let P : Option _ → Type 0 = λ h. IfSome h (o.admits c.loop.outlet) in
           subst P (sym (c.loop.invariant.hand ∙ there.1))
-          (stays_admitted o.did o.admits g.met.O.Outlet.still c.args.outlet.now c.loop.outlet v now.events
+          (stays_admitted o.did o.admits g.met.O.Outlet.still c.args.outlet.now
           (nothing_written (begun Block) (o.shows v) now.part now.events now.fresh now.way) now.done
           (of_value (o.admits c.args.outlet.now) c.args.hand.now v there.1 c.requires.admitted));
     }

@@ -20,7 +20,7 @@ invariant_of-self-2 g c =
     in
     let same : Some post ≡ Some (record { progress = begun c.args.policy; hand = None }) =
     ap (λ (h : Progress). Some (let q : Post g.row.T.Denot = record { progress = h; hand = None } in q)) c.new.ensures in
-    let both = post_begins d e c.args.actor c.args.policy c.args.value c.self.invariant
+    let both = post_begins {e = e} {a = c.args.actor} {p = c.args.policy} {x = c.args.value} c.self.invariant
     (c.in_ok-begin_push.ensures.begins.0 refl).0 c.in_ok-begin_push.ensures.began
     (ap (λ (o : Option (Post g.row.T.Denot)). set c.self.inside.posts.items c.args.actor o) same) in
     both.0
@@ -38,7 +38,7 @@ returns-clause-post g c =
     in
     let same : Some post ≡ Some (record { progress = begun c.args.policy; hand = None }) =
     ap (λ (h : Progress). Some (let q : Post g.row.T.Denot = record { progress = h; hand = None } in q)) c.new.ensures in
-    let both = post_begins d e c.args.actor c.args.policy c.args.value c.self.invariant
+    let both = post_begins {e = e} {a = c.args.actor} {p = c.args.policy} {x = c.args.value} c.self.invariant
     (c.in_ok-begin_push.ensures.begins.0 refl).0 c.in_ok-begin_push.ensures.began
     (ap (λ (o : Option (Post g.row.T.Denot)). set c.self.inside.posts.items c.args.actor o) same) in
     both.1

@@ -26,8 +26,7 @@ invariant_of-self-in-None g c =
     let lt : a < ACTORS = omega arith in
     let e : DeskView g.row.T.Denot =
     record { world = c.step.new.self; posts = set i.posts.items a c.take.new.self; counts = i.counts } in
-    kept_set d e a (next_move d.world a).round None c.self.invariant lt tt
-    (ap (λ (w : Machine g.row.T.Denot). w.rounds) said.stepped)
+    kept_set {e = e} a (next_move d.world a).round None c.self.invariant lt tt (ap (λ (w : Machine g.row.T.Denot). w.rounds) said.stepped)
     (ap (λ (o : Option (Post g.row.T.Denot)). set i.posts.items a o) c.take.ensures.after)
 
 pub go_on-stepped-requires : goal.go_on-stepped-requires
@@ -41,8 +40,7 @@ go_on-stepped-requires g c =
     let lt : a < ACTORS = omega arith in
     let in_posts : a < length i.posts.items = omega (arith, lt, c.self.invariant.posts) in
     let there : post_of d a ≡ Some p =
-    post_read i.posts.items a c.index_mut.result.now c.take.result p in_posts c.index_mut.ensures.value c.take.ensures.value
-    c.in-Some.is in
+    post_read i.posts.items a in_posts c.index_mut.ensures.value c.take.ensures.value c.in-Some.is in
     subst (λ (m : Machine g.row.T.Denot). MayGoOn m a p c.in_ok-said.said) (sym said.stepped)
     (subst (λ (s : Said g.row.T.Denot). MayGoOn (stepped d.world a) a p s) (sym said.said)
     (may_go_on d a p c.self.invariant lt there said.cell))
@@ -58,9 +56,8 @@ invariant_of-self-in-Some g c =
     let lt : a < ACTORS = omega arith in
     let in_posts : a < length i.posts.items = omega (arith, lt, c.self.invariant.posts) in
     let there : post_of d a ≡ Some p =
-    post_read i.posts.items a c.index_mut.result.now c.take.result p in_posts c.index_mut.ensures.value c.take.ensures.value
-    c.in-Some.is in
-    let turned = turn_is c.step.new.self (stepped d.world a) a p i.counts c.in_ok-said.said (told d.world a) said.stepped said.said in
+    post_read i.posts.items a in_posts c.index_mut.ensures.value c.take.ensures.value c.in-Some.is in
+    let turned = turn_is a p i.counts said.stepped said.said in
     let went = c.go_on-stepped.ensures in
     let world = went.world ∙ ap (λ (t : Turn g.row.T.Denot). t.world) turned in
     let after = went.post ∙ ap (λ (t : Turn g.row.T.Denot). t.post) turned in
@@ -88,9 +85,8 @@ returns-in-Some-clause-told g c =
     let lt : a < ACTORS = omega arith in
     let in_posts : a < length i.posts.items = omega (arith, lt, c.self.invariant.posts) in
     let there : post_of d a ≡ Some p =
-    post_read i.posts.items a c.index_mut.result.now c.take.result p in_posts c.index_mut.ensures.value c.take.ensures.value
-    c.in-Some.is in
-    let turned = turn_is c.step.new.self (stepped d.world a) a p i.counts c.in_ok-said.said (told d.world a) said.stepped said.said in
+    post_read i.posts.items a in_posts c.index_mut.ensures.value c.take.ensures.value c.in-Some.is in
+    let turned = turn_is a p i.counts said.stepped said.said in
     let went = c.go_on-stepped.ensures in
     let world = went.world ∙ ap (λ (t : Turn g.row.T.Denot). t.world) turned in
     let after = went.post ∙ ap (λ (t : Turn g.row.T.Denot). t.post) turned in
@@ -120,9 +116,8 @@ returns-in-Some-clause-stepped g c =
     let lt : a < ACTORS = omega arith in
     let in_posts : a < length i.posts.items = omega (arith, lt, c.self.invariant.posts) in
     let there : post_of d a ≡ Some p =
-    post_read i.posts.items a c.index_mut.result.now c.take.result p in_posts c.index_mut.ensures.value c.take.ensures.value
-    c.in-Some.is in
-    let turned = turn_is c.step.new.self (stepped d.world a) a p i.counts c.in_ok-said.said (told d.world a) said.stepped said.said in
+    post_read i.posts.items a in_posts c.index_mut.ensures.value c.take.ensures.value c.in-Some.is in
+    let turned = turn_is a p i.counts said.stepped said.said in
     let went = c.go_on-stepped.ensures in
     let world = went.world ∙ ap (λ (t : Turn g.row.T.Denot). t.world) turned in
     let after = went.post ∙ ap (λ (t : Turn g.row.T.Denot). t.post) turned in
@@ -152,9 +147,8 @@ returns-in-Some-clause-history g c =
     let lt : a < ACTORS = omega arith in
     let in_posts : a < length i.posts.items = omega (arith, lt, c.self.invariant.posts) in
     let there : post_of d a ≡ Some p =
-    post_read i.posts.items a c.index_mut.result.now c.take.result p in_posts c.index_mut.ensures.value c.take.ensures.value
-    c.in-Some.is in
-    let turned = turn_is c.step.new.self (stepped d.world a) a p i.counts c.in_ok-said.said (told d.world a) said.stepped said.said in
+    post_read i.posts.items a in_posts c.index_mut.ensures.value c.take.ensures.value c.in-Some.is in
+    let turned = turn_is a p i.counts said.stepped said.said in
     let went = c.go_on-stepped.ensures in
     let world = went.world ∙ ap (λ (t : Turn g.row.T.Denot). t.world) turned in
     let after = went.post ∙ ap (λ (t : Turn g.row.T.Denot). t.post) turned in
@@ -185,9 +179,8 @@ returns-in-Some-clause-post g c =
     let lt : a < ACTORS = omega arith in
     let in_posts : a < length i.posts.items = omega (arith, lt, c.self.invariant.posts) in
     let there : post_of d a ≡ Some p =
-    post_read i.posts.items a c.index_mut.result.now c.take.result p in_posts c.index_mut.ensures.value c.take.ensures.value
-    c.in-Some.is in
-    let turned = turn_is c.step.new.self (stepped d.world a) a p i.counts c.in_ok-said.said (told d.world a) said.stepped said.said in
+    post_read i.posts.items a in_posts c.index_mut.ensures.value c.take.ensures.value c.in-Some.is in
+    let turned = turn_is a p i.counts said.stepped said.said in
     let went = c.go_on-stepped.ensures in
     let world = went.world ∙ ap (λ (t : Turn g.row.T.Denot). t.world) turned in
     let after = went.post ∙ ap (λ (t : Turn g.row.T.Denot). t.post) turned in
@@ -217,9 +210,8 @@ returns-in-Some-clause-counts g c =
     let lt : a < ACTORS = omega arith in
     let in_posts : a < length i.posts.items = omega (arith, lt, c.self.invariant.posts) in
     let there : post_of d a ≡ Some p =
-    post_read i.posts.items a c.index_mut.result.now c.take.result p in_posts c.index_mut.ensures.value c.take.ensures.value
-    c.in-Some.is in
-    let turned = turn_is c.step.new.self (stepped d.world a) a p i.counts c.in_ok-said.said (told d.world a) said.stepped said.said in
+    post_read i.posts.items a in_posts c.index_mut.ensures.value c.take.ensures.value c.in-Some.is in
+    let turned = turn_is a p i.counts said.stepped said.said in
     let went = c.go_on-stepped.ensures in
     let world = went.world ∙ ap (λ (t : Turn g.row.T.Denot). t.world) turned in
     let after = went.post ∙ ap (λ (t : Turn g.row.T.Denot). t.post) turned in

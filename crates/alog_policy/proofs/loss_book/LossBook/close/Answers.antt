@@ -14,6 +14,5 @@ returns-clause-sums c =
     in let counts : Counts = record { overrun = c.word.result; discarded = c.word-2.result }
     in let K : Known Add → Type 0 = λ k. Closes k counts
     in subst K (ap (λ s. s.known) c.seat.view_is)
-    (closes seat.id seat.me.0 (slots_items closed.words) (slots_items closed.slots) c.close_with-closed.ensures.values.2
-    c.seat.invariant.0 (sym c.seat.invariant.2 ∙ c.if-seat-ne-ALL_PARTS.false) c.seat.invariant.5 counts c.word.ensures
-    c.word-2.ensures)
+    (closes seat.id seat.me.0 (slots_items closed.slots) c.close_with-closed.ensures.values.2 c.seat.invariant.0
+    (sym c.seat.invariant.2 ∙ c.if-seat-ne-ALL_PARTS.false) c.seat.invariant.5 {c = counts} (c.word.ensures, c.word-2.ensures))

@@ -19,6 +19,6 @@ pub load-requires : goal.load-requires
 load-requires c = (
   c.join_seat.ensures.0 ∙ c.requires.table.0 ∙ ap (λ b. b.table) (sym c.self.view_is),
   omega (arith, c.self.inside.sized.0),
-  sees_both c.self.inside.table.shared.table_id.slots c.join_seat.new.seat.id OVERRUN c.join_seat.new.seat.me c.args.own.now.me.0
-      c.args.other.me.0 _ c.join_seat.ensures.2 c.requires.faithful.0 c.requires.faithful.1,
+  sees_both {slots = c.self.inside.table.shared.table_id.slots} c.join_seat.new.seat.id OVERRUN c.args.own.now.me.0 c.args.other.me.0
+      c.join_seat.ensures.2 c.requires.faithful.0 c.requires.faithful.1,
 )
