@@ -1,7 +1,7 @@
 ghost use Rattle.std.specs.Prelude.{◌≡◌, ◌≤◌, IfOk, length};
 
 use crate::limits::{FILE_MAX, FUNCTION_MAX};
-use crate::text::Text;
+use arrayvec::ArrayString;
 use std::alloc::{AllocError, Global};
 use std::marker::Model;
 
@@ -16,30 +16,26 @@ pub struct SourceRef<'a> {
 /// The place in a program that a message comes from: a file of at most 256 bytes, a line, and a function of at
 /// most 128 bytes. File and function may be empty. The test `source_at_its_limits` shows it.
 ///
-/// It is one pointer, so that a message, which moves through a queue, fits a line of the cache with or without it.
+/// It is one pointer, so that an item, with a short text in it, has 120 bytes with or without it.
 #[derive(Debug, Drop)]
 pub struct Source {
     place: Box<Place>,
 }
 
-/// What a source says.
+/// What a source says, with room for any other source.
 #[derive(Debug, Drop)]
 struct Place {
-    file: Text,
+    file: ArrayString<FILE_MAX>,
     line: u32,
-    function: Text,
+    function: ArrayString<FUNCTION_MAX>,
 }
 
 impl Model for Source {
-    ghost use Rattle.std.specs.Prelude.{◌≤◌, length};
     ghost use Rattle.alog_msg.specs.Source.{SourceFields};
-    ghost use Rattle.alog_msg.specs.declared.limits.TheConstants.{FILE_MAX, FUNCTION_MAX};
 
     ghost Value = { SourceFields };
 
-    ghost view = { λ s. record { file = s.place.value.file; line = s.place.value.line; function = s.place.value.function } };
-
-    ghost invariant = { λ s. (length s.place.value.file ≤ FILE_MAX) × (length s.place.value.function ≤ FUNCTION_MAX) };
+    ghost view = { λ s. record { file = s.place.value.file.bytes; line = s.place.value.line; function = s.place.value.function.bytes } };
 }
 
 impl Source {
@@ -51,14 +47,35 @@ impl Source {
         requires function_fits { length source.function.now ≤ FUNCTION_MAX }
         ensures { IfOk result (λ s. s ≡ fields_of source.entry) }
     {
+        let mut copy = Source::blank(alloc)?;
+        copy.write(source);
+        Ok(copy)
+    }
+
+    /// A source that says nothing yet. To write it takes no memory.
+    pub(crate) fn blank(alloc: Global) -> Result<Source, AllocError> {
         let place = Place {
-            file: Text::copy_of(alloc, source.file)?,
-            line: source.line,
-            function: Text::copy_of(alloc, source.function)?,
+            file: ArrayString::new(),
+            line: 0,
+            function: ArrayString::new(),
         };
         Ok(Source {
             place: Box::new(alloc, place)?,
         })
+    }
+
+    /// Writes another source over it.
+    pub(crate) fn write(&mut self, source: SourceRef<'_>)
+        requires file_fits { length source.file.now ≤ FILE_MAX }
+        requires function_fits { length source.function.now ≤ FUNCTION_MAX }
+        ensures { self.new ≡ fields_of source.entry }
+    {
+        let place = &mut *self.place;
+        place.file.clear();
+        place.file.push_str(source.file);
+        place.line = source.line;
+        place.function.clear();
+        place.function.push_str(source.function);
     }
 
     /// Lends what it says, for a copy.
