@@ -3,3 +3,4 @@ mod Keeping
 mod Posting
 mod Dumps
 pub mod SharedCrosses
+mod BlockPosts

@@ -9,3 +9,4 @@ pub mod LaneKeeper
 pub mod ItemOutlet
 pub mod Logging
 pub mod Dumping
+pub mod BlockPort

@@ -42,10 +42,10 @@ IsUnread spec (reply.Logged outcome kept) = ⊥
 
 -- What was made of a message before anything is done, by the level that was read: nothing where it is below that level, and else the
 -- value of the text.
-module _ {S V : Type 0} (did : Doing S Item) (fit : S → V → Type 0) (shows : V → Item) where
+module _ {S V : Type 0} (did : Doing S Item) (fit : S → V → Type 0) (shows : S → V → Item) where
   abbrev pub IsMade : Level → Message → S → Option V → S → Type 0
   IsMade own m old None new = IsBelow m.level own × (new ≡ old)
-  IsMade own m old (Some v) new = ¬ IsBelow m.level own × (shows v ≡ Text m) × fit new v × did old [] 0 0 new
+  IsMade own m old (Some v) new = ¬ IsBelow m.level own × (shows new v ≡ Text m) × fit new v × did old [] 0 0 new
 
 -- What is answered of a message before it is kept, by the level that was read: where it is below that level, which is told, it was
 -- not posted, and else the text that is exactly this message was posted under this policy. The answer says this of its being kept.

@@ -13,9 +13,9 @@ use std::time::Clock;
 /// An outlet whose cells show items. A post is made in two steps: its value is made, and then it is posted.
 ///
 /// `did` tells of two states of the outlet which events its actor made between them, and how many losses were counted; `shows`
-/// is the item that a cell of the queue shows of a value. `is_ready` is what the making of a value asks of the outlet, `admits`
-/// what it asks of a message, and `is_fit` what a post asks of outlet and value. Nothing here waits, and only `text` may take
-/// memory.
+/// is the item that a cell of the queue shows of a value that was made, which may lie in the outlet. `is_ready` is what the making
+/// of a value asks of the outlet, `admits` what it asks of a message, and `is_fit` what a post asks of outlet and value. Nothing
+/// here waits. Only `text` may take memory, and it answers want of it only where `wants_memory` holds.
 pub trait ItemOutlet {
     ghost use Rattle.std.specs.Prelude.{◌≡◌, ◌↔◌, ◌≤◌, ◌<◌, ◌+◌, ℕ, List, [], ◌++◌, length, IfOk, OnOk, OnErr, IsErrOf};
     ghost use Rattle.alog_core.specs.Queue.{Event};
@@ -30,7 +30,7 @@ pub trait ItemOutlet {
     /// What a post brings.
     type Value: Drop;
 
-    ghost shows: { Self.Value → Item };
+    ghost shows: { Self → Self.Value → Item };
 
     ghost is_ready: { Self → Type 0 };
 
@@ -39,6 +39,8 @@ pub trait ItemOutlet {
     ghost is_fit: { Self → Self.Value → Type 0 };
 
     ghost did: { Self → List (Event Item) → ℕ → ℕ → Self → Type 0 };
+
+    ghost wants_memory: { Type 0 };
 
     /// Makes the value of a text of these fields. A text limit is 64 to 8,192 bytes. A refusal, which is one of
     /// `Message::new`, leaves the outlet as it was.
@@ -51,32 +53,33 @@ pub trait ItemOutlet {
         requires ready { is_ready self.old }
         requires limit { (TEXT_LIMIT_MIN ≤ text_limit) × (text_limit ≤ TEXT_LIMIT_MAX) }
         requires admitted { AdmitsShort admits text_limit self.old }
-        ensures made { IfOk result (λ v. shows v ≡ Text (message_of given.entry)) }
+        ensures made { IfOk result (λ v. shows self.new v ≡ Text (message_of given.entry)) }
         ensures fit { IfOk result (λ v. is_fit self.new v × did self.old [] 0 0 self.new) }
         ensures text_too_long { IsErrOf result MessageError.TextTooLong ↔ (text_limit < length given.entry.text.now) }
         ensures field_too_long { IsErrOf result MessageError.FieldTooLong
             ↔ IsTooLongField text_limit given.entry.text.now given.entry.source }
         ensures out_of_memory { IsErrOf result MessageError.OutOfMemory
             → IsWithin text_limit given.entry.text.now given.entry.source }
+        ensures memory { IsErrOf result MessageError.OutOfMemory → wants_memory }
         ensures err { OnErr result (self.new ≡ self.old) };
 
     /// Makes the value of a text that is this message.
     fn message(&mut self, message: Message) -> Self::Value
         requires ready { is_ready self.old }
         requires admitted { admits self.old message }
-        ensures made { shows result ≡ Text message }
+        ensures made { shows self.new result ≡ Text message }
         ensures fit { is_fit self.new result × did self.old [] 0 0 self.new };
 
     /// Makes the value of a flush of the logger of this number.
     fn flush(&mut self, number: u32) -> Self::Value
         requires { is_ready self.old }
-        ensures made { shows result ≡ Flush number }
+        ensures made { shows self.new result ≡ Flush number }
         ensures fit { is_fit self.new result × did self.old [] 0 0 self.new };
 
     /// Posts the value, as `alog_policy::post_now` does. Nothing is handed back of a discarded one.
     fn post_now(&mut self, policy: Policy, value: Self::Value) -> Outcome<()>
         requires { is_fit self.old value }
-        ensures post { PostsItemNow did policy (shows value) self.old self.new result }
+        ensures post { PostsItemNow did policy (shows self.old value) self.old self.new result }
         ensures ready { is_ready self.new };
 
     // What was done first and what was done then are one.
@@ -103,7 +106,7 @@ pub trait WaitingItemOutlet: ItemOutlet {
     ) -> Outcome<()>
         requires there { IsSome hand.old }
         requires fit { IfSome hand.old (λ v. Self.is_fit self.old v) }
-        ensures post { IfSome hand.old (λ v. PostsItem Self.did policy (Self.shows v) self.old self.new result) }
+        ensures post { IfSome hand.old (λ v. PostsItem Self.did policy (Self.shows self.old v) self.old self.new result) }
         ensures left { hand.new ≡ left_in result hand.old }
         ensures ready { Self.is_ready self.new };
 }
@@ -117,7 +120,7 @@ impl ItemOutlet for DeskOutlet<'_, Item> {
 
     type Value = Item;
 
-    ghost shows = { λ x. x };
+    ghost shows = { λ o x. x };
 
     ghost is_ready = { λ o. IsFree o.desk.now o.actor };
 
@@ -127,6 +130,8 @@ impl ItemOutlet for DeskOutlet<'_, Item> {
 
     ghost did = { λ o es k l p. (p.actor ≡ o.actor) × (p.desk.ghost_name ≡ o.desk.ghost_name)
         × DeskDid o.actor o.desk.now es k l p.desk.now };
+
+    ghost wants_memory = { Unit {0} };
 
     fn text(
         &mut self,
@@ -169,7 +174,7 @@ impl<L: Limit<Item>> ItemOutlet for Port<'_, Item, L> {
 
     type Value = Item;
 
-    ghost shows = { λ x. x };
+    ghost shows = { λ o x. x };
 
     ghost is_ready = { λ p. IsFit p × ((n : ℕ) → L.admits p.ring.now.limit (Flush n)) };
 
@@ -178,6 +183,8 @@ impl<L: Limit<Item>> ItemOutlet for Port<'_, Item, L> {
     ghost is_fit = { λ p x. IsFit p × ((n : ℕ) → L.admits p.ring.now.limit (Flush n)) × L.admits p.ring.now.limit x };
 
     ghost did = { PortDid };
+
+    ghost wants_memory = { Unit {0} };
 
     fn text(
         &mut self,

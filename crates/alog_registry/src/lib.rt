@@ -8,13 +8,15 @@
 //!
 //! Read `logger.rt` (a logger and its `Spec`), `registry.rt` and `loggers.rt` with `specs/Listed.antt` (numbers and names);
 //! `backtrace.rt` and `dumped.rt` with `specs/Backtrace.antt`, `turn.rt` with `specs/Turn.antt`; `work.rt` with
-//! `specs/Work.antt`. Then what is done with a message: `given.rt` with `specs/Given.antt`, `item_outlet.rt` with `specs/ItemOutlet.antt` (how
-//! a post's value is made), `keep.rt` with `specs/Keep.antt` and `LaneKeeper.antt` (who keeps messages), `logging.rt` with
-//! `specs/Logging.antt`, `dumping.rt` with `specs/Dumping.antt`, and `waiting.rt`, which does both with waiting. Below them are
-//! `lookup.rt` (a number by a name) and `level_word.rt`.
+//! `specs/Work.antt`. Then what is done with a message: `given.rt` with `specs/Given.antt`, `item_outlet.rt` with
+//! `specs/ItemOutlet.antt` (how a post's value is made), `block_port.rt` (the same of blocks, without memory), `keep.rt` with
+//! `specs/Keep.antt` and `LaneKeeper.antt` (who keeps messages), `logging.rt` with `specs/Logging.antt`, `dumping.rt` with
+//! `specs/Dumping.antt`, and `waiting.rt`, which does both with waiting. Below them are `lookup.rt` (a number by a name) and
+//! `level_word.rt`.
 #![tactic(auto)]
 
 mod backtrace;
+mod block_port;
 mod dumped;
 mod dumping;
 mod error;
@@ -33,6 +35,7 @@ mod waiting;
 mod work;
 
 pub use backtrace::{Backtrace, BacktraceError};
+pub use block_port::{BlockPort, Contents, InHand};
 pub use dumped::Dumped;
 pub use error::{AddError, RefusedSpec};
 pub use given::MessageRef;

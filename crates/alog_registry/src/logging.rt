@@ -1,5 +1,5 @@
 //! What a logger does with a message: it is filtered, or posted, and kept for a backtrace.
-ghost use Rattle.std.specs.Prelude.{◌≡◌, ◌⊎◌, ◌≤◌, ◌<◌, length, None, Some, IsSome, OnErr, IfOk, IsOk, IfErr};
+ghost use Rattle.std.specs.Prelude.{◌≡◌, ◌≢◌, ◌⊎◌, ◌≤◌, ◌<◌, length, None, Some, IsSome, OnErr, IfOk, IsOk, IfErr, IsErrOf};
 ghost use Rattle.alog_msg.specs.declared.limits.TheConstants.{TEXT_LIMIT_MIN, TEXT_LIMIT_MAX};
 ghost use Rattle.alog_msg.specs.declared.item.Item.TheVariants.{Flush};
 ghost use Rattle.alog_policy.specs.Progress.{without_waiting};
@@ -44,6 +44,7 @@ impl Loggers {
     /// logger's level it is posted under the logger's policy, and if the logger has a backtrace it is kept. It never waits.
     ///
     /// The level is read first. What is below it, where there is no backtrace, takes no memory, and its text is not looked at.
+    /// Without a backtrace memory is wanted only by an outlet that takes some for a text.
     /// Otherwise all that is needed is made before anything is done, and a refusal, which is one of `Message::new`, leaves
     /// everything as it was. A text limit is 64 to 8,192 bytes; by condition outlet and keeper take texts of the limit. The
     /// tests `logs_at_once` and `a_ring_of_short_texts` show it.
@@ -70,6 +71,8 @@ impl Loggers {
         ensures within { (s : Spec) → spec_at self.now number ≡ Some s
             → IfOk result (λ r. IsUnread s r ⊎ IsWithin text_limit text.now source.entry) }
         ensures reason { IfErr result (IsReason text_limit text.now source.entry) }
+        ensures memory { (s : Spec) → spec_at self.now number ≡ Some s → IsErrOf result MessageError.OutOfMemory
+            → O.wants_memory ⊎ (s.backtrace ≢ 0) }
         ensures err { OnErr result ((outlet.new ≡ outlet.old) × (keeper.new ≡ keeper.old)) }
         ensures ready { O.is_ready outlet.new × K.is_ready keeper.new }
         ensures outlet { (m : Message) → O.admits outlet.old m → O.admits outlet.new m }
@@ -105,6 +108,8 @@ impl Loggers {
         ensures within { (s : Spec) → spec_at self.now given.entry.logger ≡ Some s
             → IfOk result (λ r. IsUnread s r ⊎ IsWithin text_limit given.entry.text.now given.entry.source) }
         ensures reason { IfErr result (IsReason text_limit given.entry.text.now given.entry.source) }
+        ensures memory { (s : Spec) → spec_at self.now given.entry.logger ≡ Some s → IsErrOf result MessageError.OutOfMemory
+            → O.wants_memory ⊎ (s.backtrace ≢ 0) }
         ensures err { OnErr result ((outlet.new ≡ outlet.old) × (keeper.new ≡ keeper.old)) }
         ensures ready { O.is_ready outlet.new × K.is_ready keeper.new }
         ensures outlet { (m : Message) → O.admits outlet.old m → O.admits outlet.new m }
@@ -155,6 +160,7 @@ fn bring_now<O: ItemOutlet>(
     ensures within { IfOk result (λ r. IsLogged r → IsWithin text_limit given.entry.text.now given.entry.source) }
     ensures reason { IfErr result (IsReason text_limit given.entry.text.now given.entry.source) }
     ensures err { OnErr result (outlet.new ≡ outlet.old) }
+    ensures memory { IsErrOf result MessageError.OutOfMemory → O.wants_memory }
     ensures unread { IsBelow given.entry.level own → IsOk result }
     ensures ready { O.is_ready outlet.new }
     ensures outlet { (m : Message) → O.admits outlet.old m → O.admits outlet.new m }
@@ -220,6 +226,7 @@ pub(crate) fn admit<O: ItemOutlet>(
     ensures within { IfOk result (λ _. IsSome hand.new → IsWithin text_limit given.entry.text.now given.entry.source) }
     ensures reason { IfErr result (IsReason text_limit given.entry.text.now given.entry.source) }
     ensures err { OnErr result (outlet.new ≡ outlet.old) }
+    ensures memory { IsErrOf result MessageError.OutOfMemory → O.wants_memory }
     ensures outlet { (m : Message) → O.admits outlet.old m → O.admits outlet.new m }
     ensures unread { IsBelow given.entry.level own → IsOk result }
 {

@@ -1,5 +1,5 @@
 //! Logs that wait for room and for the lock of a backtrace, and dumps that wait for that lock.
-ghost use Rattle.std.specs.Prelude.{◌≡◌, ◌⊎◌, ◌≤◌, ◌<◌, length, true, Some, OnErr, IfOk, IsOk, IfErr};
+ghost use Rattle.std.specs.Prelude.{◌≡◌, ◌≢◌, ◌⊎◌, ◌≤◌, ◌<◌, length, true, Some, OnErr, IfOk, IsOk, IfErr, IsErrOf};
 ghost use Rattle.alog_msg.specs.declared.limits.TheConstants.{TEXT_LIMIT_MIN, TEXT_LIMIT_MAX};
 ghost use Rattle.alog_msg.specs.declared.message.Message.{Message};
 ghost use Rattle.alog_policy.specs.Progress.{without_waiting};
@@ -54,6 +54,8 @@ impl Loggers {
         ensures within { (s : Spec) → spec_at self.now number ≡ Some s
             → IfOk result (λ r. IsUnread s r ⊎ IsWithin text_limit text.now source.entry) }
         ensures reason { IfErr result (IsReason text_limit text.now source.entry) }
+        ensures memory { (s : Spec) → spec_at self.now number ≡ Some s → IsErrOf result MessageError.OutOfMemory
+            → O.wants_memory ⊎ (s.backtrace ≢ 0) }
         ensures err { OnErr result ((outlet.new ≡ outlet.old) × (keeper.new ≡ keeper.old)) }
         ensures ready { O.is_ready outlet.new × IsSeated keeper.new }
         ensures list { HasList keeper.old → HasList keeper.new }
@@ -91,6 +93,8 @@ impl Loggers {
         ensures within { (s : Spec) → spec_at self.now given.entry.logger ≡ Some s
             → IfOk result (λ r. IsUnread s r ⊎ IsWithin text_limit given.entry.text.now given.entry.source) }
         ensures reason { IfErr result (IsReason text_limit given.entry.text.now given.entry.source) }
+        ensures memory { (s : Spec) → spec_at self.now given.entry.logger ≡ Some s → IsErrOf result MessageError.OutOfMemory
+            → O.wants_memory ⊎ (s.backtrace ≢ 0) }
         ensures err { OnErr result ((outlet.new ≡ outlet.old) × (keeper.new ≡ keeper.old)) }
         ensures ready { O.is_ready outlet.new × IsSeated keeper.new }
         ensures list { HasList keeper.old → HasList keeper.new }
@@ -169,6 +173,7 @@ fn bring<O: WaitingItemOutlet>(
     ensures within { IfOk result (λ r. IsLogged r → IsWithin text_limit given.entry.text.now given.entry.source) }
     ensures reason { IfErr result (IsReason text_limit given.entry.text.now given.entry.source) }
     ensures err { OnErr result (outlet.new ≡ outlet.old) }
+    ensures memory { IsErrOf result MessageError.OutOfMemory → O.wants_memory }
     ensures unread { IsBelow given.entry.level own → IsOk result }
     ensures ready { O.is_ready outlet.new }
     ensures outlet { (m : Message) → O.admits outlet.old m → O.admits outlet.new m }

@@ -1,12 +1,16 @@
-ghost use Rattle.std.specs.Prelude.{◌<◌, length};
+ghost use Rattle.std.specs.Prelude.{◌≡◌, ◌<◌, length};
+ghost use Rattle.alog_msg.specs.declared.limits.TheConstants.{TEXT_LIMIT_MAX};
+ghost use Rattle.alog_registry.specs.Backtrace.{room_for};
 ghost use Rattle.alog_registry.specs.Limit.{AdmitsShort};
 ghost use Rattle.test_loggers.specs.declared.log_tests.TheConstants.{TEXT_LIMIT};
 
+use alog_core::WorldError;
 use alog_lane::Lane;
 use alog_msg::{Item, Level, Message, MessageError, SourceRef};
 use alog_policy::{Desk, Outcome, Policy, Stepped, Why};
 use alog_registry::{
-    Backtrace, BacktraceScratch, ItemOutlet, Keep, LaneKeeper, LogReply, Loggers, Registry, Spec,
+    AddError, Backtrace, BacktraceError, BacktraceScratch, ItemOutlet, Keep, LaneKeeper, LogReply,
+    Loggers, RefusedSpec, Registry, Spec,
 };
 use std::alloc::{AllocError, Global};
 use std::process::Abort;
@@ -14,12 +18,26 @@ use std::test::Fail;
 
 pub(crate) const TEXT_LIMIT: usize = 64;
 
+// The number of a logger that was added, if it was.
+pub(crate) fn number_of(rt: &impl Abort, added: Result<u32, RefusedSpec>) -> Option<u32> {
+    match added {
+        Ok(number) => Some(number),
+        Err(
+            RefusedSpec {
+                fault: AddError::OutOfMemory,
+                ..
+            },
+        ) => panic!(rt; "out of memory"),
+        Err(_) => None,
+    }
+}
+
 // One logger `net`, as level info.
 pub(crate) fn one(rt: &impl Abort, alloc: Global, policy: Policy, backtrace: usize) -> Loggers
     ensures { 0 < length result }
 {
     let Ok(sinks) = Vec::from_slice(alloc, &[0]) else {
-        panic!(rt; "there is memory")
+        panic!(rt; "out of memory")
     };
     let spec = Spec {
         level: Level::Info,
@@ -29,13 +47,13 @@ pub(crate) fn one(rt: &impl Abort, alloc: Global, policy: Policy, backtrace: usi
         sinks,
     };
     let mut registry = Registry::new(alloc);
-    let added = registry.add("net", spec).is_ok();
+    let added = number_of(rt, registry.add("net", spec)).is_some();
     match registry.freeze(alloc) {
         Ok(loggers) => {
             assert!(rt; added && loggers.spec(0).is_some());
             loggers
         }
-        Err(_) => panic!(rt; "there is memory"),
+        Err(_) => panic!(rt; "out of memory"),
     }
 }
 
@@ -43,7 +61,19 @@ pub(crate) fn one(rt: &impl Abort, alloc: Global, policy: Policy, backtrace: usi
 pub(crate) fn desk_of(rt: &impl Abort, alloc: Global, places: usize) -> Desk<Item> {
     match Desk::new(alloc, places, 0) {
         Ok(desk) => desk,
+        Err(WorldError::OutOfMemory) => panic!(rt; "out of memory"),
         Err(_) => panic!(rt; "no desk of {places} places"),
+    }
+}
+
+// A backtrace that keeps so many.
+pub(crate) fn backtrace_of(rt: &impl Abort, alloc: Global, most: usize) -> Backtrace
+    ensures { result ≡ room_for most TEXT_LIMIT_MAX }
+{
+    match Backtrace::new(alloc, most) {
+        Ok(backtrace) => backtrace,
+        Err(BacktraceError::OutOfMemory) => panic!(rt; "out of memory"),
+        Err(BacktraceError::BadLimit) => panic!(rt; "no backtrace of {most}"),
     }
 }
 
@@ -98,6 +128,16 @@ pub(crate) fn filtered(kept: bool) -> Result<LogReply, MessageError> {
     Ok(LogReply::Filtered { level, kept })
 }
 
+// A log answered this.
+pub(crate) fn is_reply(
+    rt: &impl Abort,
+    reply: Result<LogReply, MessageError>,
+    wanted: Result<LogReply, MessageError>,
+) {
+    assert!(rt; reply != Err(MessageError::OutOfMemory), "out of memory");
+    assert!(rt; reply == wanted);
+}
+
 // Logs by the first logger, which says that this came of it.
 pub(crate) fn tells<O: ItemOutlet, K: Keep>(
     rt: &impl Abort,
@@ -124,7 +164,7 @@ pub(crate) fn tells<O: ItemOutlet, K: Keep>(
     let found = loggers.log_now(
         alloc, outlet, keeper, TEXT_LIMIT, 0, level, time, thread, text, source,
     );
-    assert!(rt; found == wanted);
+    is_reply(rt, found, wanted);
 }
 
 // A pop takes a message of this level, time, thread and text.
@@ -172,7 +212,7 @@ pub(crate) fn are_posted(
 ) {
     match outcomes {
         Ok(outcomes) => assert!(rt; outcomes.as_slice() == wanted),
-        Err(_) => panic!(rt; "there is memory"),
+        Err(_) => panic!(rt; "out of memory"),
     }
 }
 
@@ -208,9 +248,7 @@ fn take_dumped(rt: &impl Abort, desk: &mut Desk<Item>) {
 fn keep_dump_and_flush(rt: &impl Abort, loggers: &Loggers, alloc: Global, desk: &mut Desk<Item>)
     requires { 0 < length loggers.now }
 {
-    let Ok(mut backtrace) = Backtrace::new(alloc, 2) else {
-        panic!(rt; "there is memory")
-    };
+    let mut backtrace = backtrace_of(rt, alloc, 2);
     let Ok(mut outlet) = desk.outlet(1) else {
         panic!(rt; "the actor is in no call")
     };
@@ -281,9 +319,7 @@ fn is_hello(item: &Item) -> bool {
 fn log_three(rt: &impl Abort, loggers: &Loggers, alloc: Global, desk: &mut Desk<Item>)
     requires { 0 < length loggers.now }
 {
-    let Ok(mut none) = Backtrace::new(alloc, 0) else {
-        panic!(rt; "there is memory")
-    };
+    let mut none = backtrace_of(rt, alloc, 0);
     let Ok(mut outlet) = desk.outlet(1) else {
         panic!(rt; "the actor is in no call")
     };
@@ -316,9 +352,7 @@ pub(crate) fn log_to_a_full<O: ItemOutlet>(
     requires known { 0 < length loggers.now }
     requires outlet { O.is_ready outlet.old × AdmitsShort O.admits TEXT_LIMIT outlet.old }
 {
-    let Ok(mut kept) = Backtrace::new(alloc, 4) else {
-        panic!(rt; "there is memory")
-    };
+    let mut kept = backtrace_of(rt, alloc, 4);
     let flushes = (loggers.flush(outlet, 0), loggers.flush(outlet, 0));
     is_outcome(rt, &flushes.0, &posted(0));
     is_outcome(rt, &flushes.1, &posted(1));
@@ -430,7 +464,7 @@ fn keepers_tell_what_they_kept(rt: HostRuntime) -> Result<(), Fail> {
     tells_whether_kept(&rt, alloc, &mut Forgetful, false);
     let (lane, mut seat) = match Lane::new(alloc, Backtrace::new(alloc, 2)?) {
         Ok(made) => made,
-        Err(_) => panic!(rt; "there is memory"),
+        Err(_) => panic!(rt; "out of memory"),
     };
     let mut scratch = BacktraceScratch {
         message: None,

@@ -5,12 +5,13 @@ ghost use Rattle.alog_policy.specs.Port.{IsFit};
 ghost use Rattle.alog_ring.specs.Known.{IsPassOf, first_known};
 
 use crate::log_tests::{
-    TEXT_LIMIT, discarded, dump_twice, is_outcome, keep_three, log_to_a_full, one, overran, posted,
+    TEXT_LIMIT, backtrace_of, discarded, dump_twice, is_outcome, is_reply, keep_three,
+    log_to_a_full, number_of, one, overran, posted,
 };
-use alog_msg::{Item, Level, Message, MessageError};
+use alog_msg::{Item, Level, Message};
 use alog_policy::{BookSeat, LossBook, Outcome, Policy, Port};
 use alog_registry::{Backtrace, LogReply, Loggers, Registry, Spec, TextLimit};
-use alog_ring::{Pass, Ring};
+use alog_ring::{NewError, Pass, Ring};
 use std::alloc::Global;
 use std::process::Abort;
 use std::test::Fail;
@@ -31,14 +32,14 @@ fn two(rt: &impl Abort, alloc: Global) -> Loggers
     ensures { 1 < length result }
 {
     let mut registry = Registry::new(alloc);
-    let net = registry.add("net", plain(alloc, Level::Info)).is_ok();
-    let disk = registry.add("disk", plain(alloc, Level::Error)).is_ok();
+    let net = number_of(rt, registry.add("net", plain(alloc, Level::Info))).is_some();
+    let disk = number_of(rt, registry.add("disk", plain(alloc, Level::Error))).is_some();
     match registry.freeze(alloc) {
         Ok(loggers) => {
             assert!(rt; net && disk && loggers.spec(1).is_some());
             loggers
         }
-        Err(_) => panic!(rt; "there is memory"),
+        Err(_) => panic!(rt; "out of memory"),
     }
 }
 
@@ -49,6 +50,7 @@ pub(crate) fn ring_of(rt: &impl Abort, alloc: Global, places: usize) -> (Ring<It
 {
     match Ring::new(alloc, places, 0) {
         Ok(made) => made,
+        Err(NewError::OutOfMemory) => panic!(rt; "out of memory"),
         Err(_) => panic!(rt; "no ring of {places} places"),
     }
 }
@@ -59,7 +61,7 @@ pub(crate) fn new_book(rt: &impl Abort, alloc: Global) -> (LossBook, BookSeat)
 {
     match LossBook::new(alloc) {
         Ok(made) => made,
-        Err(_) => panic!(rt; "there is memory"),
+        Err(_) => panic!(rt; "out of memory"),
     }
 }
 
@@ -77,13 +79,11 @@ fn says(
     requires fit { IsFit port.old }
     ensures fit { IsFit port.new }
 {
-    let Ok(mut none) = Backtrace::new(alloc, 0) else {
-        panic!(rt; "there is memory")
-    };
+    let mut none = backtrace_of(rt, alloc, 0);
     let reply = loggers.log_now(
         alloc, port, &mut none, TEXT_LIMIT, number, level, 0, 1, "", None,
     );
-    assert!(rt; reply == Ok(wanted));
+    is_reply(rt, reply, Ok(wanted));
 }
 
 fn filtered(level: Level) -> LogReply {
@@ -289,11 +289,6 @@ fn takes_short(rt: &impl Abort, ring: &Ring<Item, TextLimit>, pass: &mut Pass<It
     }
 }
 
-// What a log answered.
-fn is_reply(rt: &impl Abort, reply: Result<LogReply, MessageError>, wanted: LogReply) {
-    assert!(rt; reply == Ok(wanted));
-}
-
 #[test]
 fn a_ring_of_short_texts(rt: HostRuntime) -> Result<(), Fail> {
     let alloc = rt.alloc();
@@ -325,10 +320,10 @@ fn a_ring_of_short_texts(rt: HostRuntime) -> Result<(), Fail> {
     is_reply(
         &rt,
         reply,
-        LogReply::Logged {
+        Ok(LogReply::Logged {
             outcome,
             kept: true,
-        },
+        }),
     );
     takes_short(&rt, &ring, &mut other, "m1");
     Ok(())

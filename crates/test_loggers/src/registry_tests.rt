@@ -3,6 +3,7 @@ ghost use Rattle.alog_lane.specs.Calls.{IsSeatOf};
 ghost use Rattle.alog_registry.specs.Backtrace.{room_for};
 ghost use Rattle.alog_registry.specs.Limit.{IsShort};
 
+use crate::log_tests::number_of;
 use alog_lane::{Lane, LaneSeat};
 use alog_msg::{Item, Level, Message, MessageError, TEXT_LIMIT_MAX};
 use alog_policy::Policy;
@@ -17,7 +18,7 @@ use std::thread::{self, Threads};
 
 fn spec(rt: &impl Abort, alloc: Global, backtrace: usize) -> Spec {
     let Ok(sinks) = Vec::from_slice(alloc, &[3, 1]) else {
-        panic!(rt; "there is memory")
+        panic!(rt; "out of memory")
     };
     Spec {
         level: Level::Info,
@@ -37,7 +38,7 @@ fn adds(
     backtrace: usize,
     number: u32,
 ) {
-    let added = registry.add(name, spec(rt, alloc, backtrace)).ok();
+    let added = number_of(rt, registry.add(name, spec(rt, alloc, backtrace)));
     assert!(rt; added == Some(number), "{name}");
 }
 
@@ -108,7 +109,7 @@ fn refusals_in_order(rt: HostRuntime) {
 fn adds_by_number(rt: &impl Abort, alloc: Global, registry: &mut Registry, number: u32) {
     match format!(in alloc; "{number}") {
         Ok(name) => adds(rt, alloc, registry, name.as_str(), 0, number),
-        Err(_) => panic!(rt; "there is memory"),
+        Err(_) => panic!(rt; "out of memory"),
     }
 }
 
@@ -127,7 +128,7 @@ fn no_257th_logger(rt: HostRuntime) {
 fn frozen(rt: &impl Abort, alloc: Global, registry: Registry) -> Loggers {
     match registry.freeze(alloc) {
         Ok(loggers) => loggers,
-        Err(_) => panic!(rt; "there is memory"),
+        Err(_) => panic!(rt; "out of memory"),
     }
 }
 
@@ -171,7 +172,7 @@ fn are_as_added(rt: &impl Abort, loggers: &Loggers) {
 fn is_printed(rt: &impl Abort, text: Result<String, AllocError>, wanted: &str) {
     match text {
         Ok(text) => assert!(rt; text.as_str() == wanted, "{text}"),
-        Err(_) => panic!(rt; "there is memory"),
+        Err(_) => panic!(rt; "out of memory"),
     }
 }
 
@@ -311,6 +312,13 @@ fn most_of(alloc: Global, most: usize) -> Result<usize, BacktraceError> {
     Ok(Backtrace::new(alloc, most)?.most())
 }
 
+// A backtrace that is to keep so many keeps that many at most, or is refused so.
+fn has_most(rt: &impl Abort, alloc: Global, most: usize, wanted: Result<usize, BacktraceError>) {
+    let found = most_of(alloc, most);
+    assert!(rt; found != Err(BacktraceError::OutOfMemory), "out of memory");
+    assert!(rt; found == wanted, "{most}");
+}
+
 // Whether a backtrace that is to keep nothing does so.
 fn keeps_nothing(alloc: Global) -> Result<bool, Fail> {
     let mut none = Backtrace::new(alloc, 0)?;
@@ -325,7 +333,7 @@ fn limits_of_a_backtrace(rt: HostRuntime) -> Result<(), Fail> {
         (4_096, Ok(4_096)),
         (2, Ok(2)),
     ] {
-        assert!(rt; most_of(rt.alloc(), most) == wanted, "{most}");
+        has_most(&rt, rt.alloc(), most, wanted);
     }
     assert!(rt; keeps_nothing(rt.alloc())?);
     Ok(())
@@ -406,7 +414,7 @@ fn turns_of_a_backtrace(rt: HostRuntime) -> Result<(), Fail> {
     let backtrace = Backtrace::new(alloc, 1)?;
     let (lane, mut seat) = match Lane::new(alloc, backtrace) {
         Ok(made) => made,
-        Err(_) => panic!(rt; "there is memory"),
+        Err(_) => panic!(rt; "out of memory"),
     };
     assert!(rt; keeps_first(&lane, &mut seat, message));
     assert!(rt; dumps_second(&lane, &mut seat, list, "m1"));
@@ -429,8 +437,10 @@ fn text_turns(
     from: usize,
     turns: &[Option<SinkTurn>],
 ) {
-    let Ok(message) = message(alloc, level, "text") else {
-        panic!(rt; "there is memory")
+    let message = match message(alloc, level, "text") {
+        Ok(message) => message,
+        Err(MessageError::OutOfMemory) => panic!(rt; "out of memory"),
+        Err(_) => panic!(rt; "no message"),
     };
     item_turns(rt, alloc, &Item::Text(message), from, turns);
 }

@@ -3,7 +3,7 @@ ghost use Rattle.alog_msg.specs.declared.limits.TheConstants.{TEXT_LIMIT_MIN};
 ghost use Rattle.alog_policy.specs.Port.{IsFit};
 ghost use Rattle.alog_registry.specs.LaneKeeper.{IsSeated, HasList};
 
-use crate::log_tests::{TEXT_LIMIT, are_posted, one, posted};
+use crate::log_tests::{TEXT_LIMIT, are_posted, backtrace_of, is_reply, one, posted};
 use crate::port_tests::{new_book, ring_of};
 use alog_lane::Lane;
 use alog_msg::{Item, Level, MessageError, TEXT_LIMIT_MAX};
@@ -155,7 +155,7 @@ fn logs_with_waiting(rt: HostRuntime) -> Result<(), Fail> {
     let backtrace = Backtrace::new(alloc, 2)?;
     let (lane, mut seat) = match Lane::new(alloc, backtrace) {
         Ok(made) => made,
-        Err(_) => panic!(rt; "there is memory"),
+        Err(_) => panic!(rt; "out of memory"),
     };
     let mut scratch = BacktraceScratch {
         message: None,
@@ -199,7 +199,7 @@ fn answers<R: Wait + Clock + Abort>(
     let found = loggers.log(
         rt, alloc, port, keeper, TEXT_LIMIT, 0, level, 0, 1, text, None,
     );
-    assert!(rt; found == wanted);
+    is_reply(rt, found, wanted);
 }
 
 /// A text of 65 bytes, where 64 are the most.
@@ -265,11 +265,9 @@ pub(crate) fn below_on_a_lane<R: Wait + Clock + Abort>(
 )
     requires { 0 < length bare.now }
 {
-    let Ok(none) = Backtrace::new(alloc, 0) else {
-        panic!(rt; "there is memory")
-    };
+    let none = backtrace_of(rt, alloc, 0);
     let Ok((lane, mut seat)) = Lane::new(alloc, none) else {
-        panic!(rt; "there is memory")
+        panic!(rt; "out of memory")
     };
     let mut scratch = BacktraceScratch {
         message: None,

@@ -1,0 +1,148 @@
+//! Logs, flushes and dumps on a running ring of blocks.
+ghost use Rattle.std.specs.Prelude.{◌≡◌, IfOk};
+ghost use Rattle.std.specs.List.{AllByRecursion};
+ghost use Rattle.alog_registry.specs.Limit.{HoldsTo};
+ghost use Rattle.alog_ring.specs.Known.{IsPassOf, first_known};
+ghost use Rattle.test_loggers.specs.declared.log_tests.TheConstants.{TEXT_LIMIT};
+
+use crate::log_tests::{
+    TEXT_LIMIT, discarded, dump_twice, is_outcome, keep_three, log_to_a_full, one, overran, posted,
+};
+use crate::port_tests::new_book;
+use alog_msg::{Block, Item};
+use alog_policy::{Outcome, Policy};
+use alog_registry::{Backtrace, BlockPort, Contents, TextLimit};
+use alog_ring::{NewError, SwapNewError, SwapPass, SwapRing};
+use std::alloc::{AllocError, Global};
+use std::process::Abort;
+use std::test::Fail;
+
+type Blocks = SwapRing<Block, Item, Contents, TextLimit>;
+
+// So many blocks for texts of 64 bytes.
+fn blocks(alloc: Global, count: usize) -> Result<Vec<Block>, AllocError>
+    ensures { IfOk result (λ v. AllByRecursion (HoldsTo (record { most = TEXT_LIMIT })) v.items) }
+{
+    let mut blocks = Vec::new(alloc);
+    for _ in 0..count {
+        blocks.push(Block::new(alloc, TEXT_LIMIT)?)?;
+    }
+    Ok(blocks)
+}
+
+// A ring of so many blocks, and its first pass.
+fn ring_of(rt: &impl Abort, alloc: Global, places: usize) -> (Blocks, SwapPass<Block, Item>)
+    ensures ring { IsPassOf result.0.ring result.1 }
+    ensures first { result.1.known ≡ first_known places 0 }
+    ensures limit { result.0.ring.limit ≡ record { most = TEXT_LIMIT } }
+{
+    let Ok(blocks) = blocks(alloc, places) else {
+        panic!(rt; "out of memory")
+    };
+    let limit = TextLimit { most: TEXT_LIMIT };
+    match SwapRing::limited(alloc, places, 0, blocks, limit) {
+        Ok(made) => made,
+        Err(
+            SwapNewError {
+                why: NewError::OutOfMemory,
+                ..
+            },
+        ) => panic!(rt; "out of memory"),
+        Err(_) => panic!(rt; "no ring of {places} places"),
+    }
+}
+
+// The next item of the ring is this text: it lies in the spare then.
+fn takes(
+    rt: &impl Abort,
+    ring: &Blocks,
+    pass: &mut SwapPass<Block, Item>,
+    spare: &mut Block,
+    text: &str,
+)
+    requires ring { IsPassOf ring.now.ring pass.old }
+    requires spare { HoldsTo ring.now.ring.limit spare.old }
+    ensures ring { IsPassOf ring.now.ring pass.new }
+    ensures spare { HoldsTo ring.now.ring.limit spare.new }
+{
+    let is_taken = ring.pop_swap_into(pass, spare).is_ok();
+    let is = match spare.item() {
+        Item::Text(message) => message.text.as_str() == text,
+        Item::Flush(_) | Item::Stop => text == "",
+    };
+    assert!(rt; is_taken && is, "{text}");
+}
+
+// What a dump of the last two posted is taken, and then a flush.
+fn take_dumped(rt: &impl Abort, ring: &Blocks, pass: &mut SwapPass<Block, Item>, spare: &mut Block)
+    requires ring { IsPassOf ring.now.ring pass.old }
+    requires spare { HoldsTo ring.now.ring.limit spare.old }
+{
+    takes(rt, ring, pass, spare, "=== backtrace start ===");
+    takes(rt, ring, pass, spare, "m2");
+    takes(rt, ring, pass, spare, "m3");
+    takes(rt, ring, pass, spare, "=== backtrace end ===");
+    takes(rt, ring, pass, spare, "");
+    assert!(rt; matches!(spare.item(), Item::Flush(0)));
+}
+
+#[test]
+fn logs_on_blocks(rt: HostRuntime) -> Result<(), Fail> {
+    let alloc = rt.alloc();
+    let mut backtrace = Backtrace::limited(alloc, 2, TEXT_LIMIT)?;
+    let loggers = one(&rt, alloc, Policy::Block, 2);
+    let (ring, mut pass) = ring_of(&rt, alloc, 8);
+    let (book, mut losses) = new_book(&rt, alloc);
+    let mut other = ring.split(&mut pass, 1);
+    let mut hand = Some(Block::new(alloc, TEXT_LIMIT)?);
+    let mut spare = Some(Block::new(alloc, TEXT_LIMIT)?);
+    let mut taken = Block::new(alloc, TEXT_LIMIT)?;
+    let mut port = BlockPort {
+        ring: &ring,
+        pass: &mut pass,
+        book: &book,
+        seat: &mut losses,
+        hand: &mut hand,
+        spare: &mut spare,
+    };
+    keep_three(&rt, &loggers, alloc, &mut port, &mut backtrace);
+    assert!(rt; backtrace.text_limit() == TEXT_LIMIT);
+    dump_twice(&rt, &loggers, alloc, &mut port, &mut backtrace);
+    let flushed = loggers.flush(&mut port, 0);
+    is_outcome(&rt, &flushed, &posted(4));
+    assert!(rt; hand.is_some() && spare.is_some());
+    take_dumped(&rt, &ring, &mut other, &mut taken);
+    Ok(())
+}
+
+// How a log goes under this policy where the ring is full: a block is in the hand afterwards, and a spare is there.
+fn when_full(
+    rt: &impl Abort,
+    alloc: Global,
+    policy: Policy,
+    outcome: Outcome<()>,
+) -> Result<(), Fail> {
+    let loggers = one(rt, alloc, policy, 4);
+    let (ring, mut pass) = ring_of(rt, alloc, 2);
+    let (book, mut losses) = new_book(rt, alloc);
+    let mut hand = Some(Block::new(alloc, TEXT_LIMIT)?);
+    let mut spare = Some(Block::new(alloc, TEXT_LIMIT)?);
+    let mut port = BlockPort {
+        ring: &ring,
+        pass: &mut pass,
+        book: &book,
+        seat: &mut losses,
+        hand: &mut hand,
+        spare: &mut spare,
+    };
+    log_to_a_full(rt, &loggers, alloc, &mut port, outcome);
+    assert!(rt; hand.is_some() && spare.is_some());
+    Ok(())
+}
+
+#[test]
+fn policies_of_a_full_ring_of_blocks(rt: HostRuntime) -> Result<(), Fail> {
+    when_full(&rt, rt.alloc(), Policy::DiscardNew, discarded())?;
+    when_full(&rt, rt.alloc(), Policy::Block, discarded())?;
+    when_full(&rt, rt.alloc(), Policy::OverrunOldest, overran())
+}
