@@ -12,7 +12,7 @@ use Rattle.alog_load.specs.declared.load_task.LoadTask.{LoadTask}
 use Rattle.alog_load.specs.declared.error.LoadError.{LoadError}
 use Rattle.alog_load.specs.declared.error.LoadError.TheVariants as refused
 use Rattle.alog_msg.specs.declared.level.Level.TheVariants.{Info}
-use Rattle.alog_policy.specs.Port.{PortDid}
+use Rattle.alog_policy.specs.SwapPort.{SwapDid}
 use Rattle.alog_pool.specs.Places.{Each2}
 use Rattle.alog_pool.specs.Pool.{PoolView, Starts}
 use Rattle.alog_pool.specs.Producer.{ProducerView, IsSame, Lent}
@@ -65,7 +65,7 @@ pub record LogsMessage (logger i : ℕ) (old new : ProducerView) : Type 0 where
   pub spec : Spec
   pub found : spec_at old.shared.loggers logger ≡ Some spec
   pub reply : LogReply
-  pub log : Lent old new logger (λ p k q l. Logs PortDid KeepsByTurn NeverPasses spec.policy spec
+  pub log : Lent old new logger (λ p k q l. Logs SwapDid KeepsByTurn NeverPasses spec.policy spec
       (message_with logger Info (pos i) old.number (text_of old.number i) None) p k reply q l)
   pub same : IsSame old new
 

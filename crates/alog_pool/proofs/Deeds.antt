@@ -21,7 +21,7 @@ use Rattle.alog_registry.specs.declared.logger.Logger.{Logger}
 use Rattle.alog_registry.specs.declared.logger.Spec.{Spec}
 use Rattle.alog_registry.specs.declared.work.SinkTurn.{SinkTurn}
 use Rattle.alog_ring.specs.Known.{Known}
-use Rattle.alog_ring.specs.Kinds.{no_note}
+use Rattle.alog_registry.specs.BlockPort.{block_note}
 use Rattle.alog_sink.specs.Files.{Files}
 
 abbrev Deed : Type 0
@@ -177,11 +177,11 @@ module _ {S : Type 0} where
       (subst (λ (l : List Due). HaveMade 0 cs ds l) (sym (append-nil (dues_of loggers t x))) more))
 
 -- the items of a worker's takes since it began
-pub took_more : (k l m : Known Item no_note) (gots g : List (ℕ × Item)) → takes l.own ≡ takes k.own ++ gots → Moved l m [] g
+pub took_more : (k l m : Known Item block_note) (gots g : List (ℕ × Item)) → takes l.own ≡ takes k.own ++ gots → Moved l m [] g
     → takes m.own ≡ takes k.own ++ (gots ++ g)
 took_more k l m gots g took moved = moved_gots l m [] g moved ∙ ap (λ (q : List (ℕ × Item)). q ++ g) took
     ∙ append_assoc (takes k.own) gots g
 
-pub took_no_more : (k l m : Known Item no_note) (gots : List (ℕ × Item)) → takes l.own ≡ takes k.own ++ gots → Moved l m [] []
+pub took_no_more : (k l m : Known Item block_note) (gots : List (ℕ × Item)) → takes l.own ≡ takes k.own ++ gots → Moved l m [] []
     → takes m.own ≡ takes k.own ++ gots
 took_no_more k l m gots took moved = moved_gots l m [] [] moved ∙ append-nil (takes l.own) ∙ took

@@ -2,7 +2,6 @@
 -- producers put in, they or the workers took out.
 use Rattle.std.proofs.Common.{◌≡◌, ℕ, ◌+◌, ◌≤◌, cond, List, [], ◌∷◌, ◌++◌, refl, sym, ap, subst, ◌∙◌, append_assoc, append-nil, inl, inr, arith}
 use Rattle.std.specs.List.{AllByRecursion, sum_by}
-use mathlib.Core.List.{IsPrefix}
 use Rattle.std.proofs.lemmas.List.Sums.{sum_by-cons, sum_by-append}
 use Rattle.alog_core.specs.Accounts.{got_by, claims, takes, weigh, claimed, taken}
 use Rattle.alog_core.specs.History.{Entry, own_of}
@@ -16,21 +15,20 @@ use Rattle.alog_policy.specs.BookAdds.{Add, items_in}
 use Rattle.alog_pool.specs.Accounts.{of_all, of_work, of_stops, Moved}
 use Rattle.alog_pool.specs.Ended.{PutNoStop, PutNothing, HasGathered, IsEndingFrom, HasEndedFrom, AreCounted}
 use Rattle.alog_pool.specs.Ending.{HasEndedAmong, IsEnd}
-use Rattle.alog_pool.specs.Lending.{IsAccountOf}
 use Rattle.alog_pool.specs.Whole.{claimed_among, taken_among, claimed_by, taken_by}
 use Rattle.alog_pool.proofs.Leaving.{none_weighs, stops_weigh_nothing, no_work_is_left}
 use Rattle.alog_pool.proofs.Sums.{claimed-append, claimed_by_actors}
-use Rattle.alog_ring.specs.Kinds.{no_note}
-use Rattle.alog_ring.specs.Known.{Known, Member, members_of, IsAmong, AreDistinct}
-use Rattle.alog_ring.specs.Made.{AreExact, IsFaithful, Made}
-use Rattle.alog_ring.specs.Share.{IsWhole, Joins}
+use Rattle.alog_registry.specs.BlockPort.{block_note}
+use Rattle.alog_ring.specs.Known.{Known, Member, IsAmong, AreDistinct}
+use Rattle.alog_ring.specs.Made.{AreExact, Made}
+use Rattle.alog_ring.specs.Share.{IsWhole}
 use Rattle.alog_ring.proofs.SharedLists.{each_of, each_of_two, each_append, prefix_same, prefix_through}
 
 abbrev Deed : Type 0
-Deed = Entry Item no_note
+Deed = Entry Item block_note
 
 abbrev One : Type 0
-One = Member Item no_note
+One = Member Item block_note
 
 module _ {A : Type 0} where
   each_first : (P : A → Type 0) (l m : List A) → AllByRecursion P (l ++ m) → AllByRecursion P l
@@ -132,7 +130,7 @@ ended_first [] ns ended = absurd ended
 ended_first (m ∷ ms) ns (inl is) = inl is
 ended_first (m ∷ ms) ns (inr ended) = inr (ended_first ms ns ended)
 
-stands_at_end : (j k : Known Item no_note) (workers : List One) (e : IsEndingFrom j k workers) → IsWhole k
+stands_at_end : (j k : Known Item block_note) (workers : List One) (e : IsEndingFrom j k workers) → IsWhole k
     → Stands j.actor (j.own ++ e.stops) (j.joined ++ workers) (j.seen ++ e.seen.0)
 stands_at_end j k workers e whole =
     let same : ◌≡◌ {A = ℕ × List Deed × List One × List Deed} (k.actor, k.own, k.joined, k.seen)
@@ -146,13 +144,13 @@ stands_at_end j k workers e whole =
     } in
     subst (λ (z : ℕ × List Deed × List One × List Deed). Stands z.0 z.1 z.2 z.3) same now
 
-no_stop_before : (j k : Known Item no_note) (workers : List One) → HasGathered j → IsEndingFrom j k workers → IsWhole k
+no_stop_before : (j k : Known Item block_note) (workers : List One) → HasGathered j → IsEndingFrom j k workers → IsWhole k
     → claimed of_stops j.seen ≡ 0
 no_stop_before j k workers gathered e whole =
     no_stop j.actor j.own e.stops j.joined workers j.seen e.seen.0 (stands_at_end j k workers e whole) gathered.faithful.own
     gathered.faithful.joined gathered.own e.no_claims gathered.members
 
-pub is_end : (j k : Known Item no_note) → HasGathered j → HasEndedFrom j k → IsWhole k → 1 ≤ k.places → IsEnd k
+pub is_end : (j k : Known Item block_note) → HasGathered j → HasEndedFrom j k → IsWhole k → 1 ≤ k.places → IsEnd k
 is_end j k gathered ended whole some =
     let e = ended.since in
     record {
@@ -172,7 +170,7 @@ no_work_weighs : (w : ℕ → Item → ℕ) (h : List Deed) → ((t : ℕ) → w
 no_work_weighs w h nothing none = stops_weigh_nothing w (claims h) nothing (λ p c. none_weighs of_work (claims h) p none c)
 
 -- By whatever weight that gives nothing to stops: the members put in what the producers did.
-pub producers_put : (j k : Known Item no_note) (workers : List One) (w : ℕ → Item → ℕ) → claims j.own ≡ [] → IsEndingFrom j k workers
+pub producers_put : (j k : Known Item block_note) (workers : List One) (w : ℕ → Item → ℕ) → claims j.own ≡ [] → IsEndingFrom j k workers
     → ((t : ℕ) → w t Stop ≡ 0) → claimed_by w k ≡ claimed_among w j.joined
 producers_put j k workers w none e nothing =
     let f : One → ℕ = λ m. claimed w m.own in
@@ -187,7 +185,7 @@ producers_put j k workers w none e nothing =
     omega (arith, mine, one, two, silent)
 
 -- By whatever weight: where the pool's own pass took nothing, the members took out what the producers and the workers did.
-pub all_took : (j k : Known Item no_note) (workers : List One) (w : ℕ → Item → ℕ) → IsEndingFrom j k workers → takes k.own ≡ []
+pub all_took : (j k : Known Item block_note) (workers : List One) (w : ℕ → Item → ℕ) → IsEndingFrom j k workers → takes k.own ≡ []
     → taken_by w k ≡ taken_among w j.joined + taken_among w workers
 all_took j k workers w e none =
     let f : One → ℕ = λ m. taken w m.own in
@@ -198,7 +196,7 @@ all_took j k workers w e none =
     omega (arith, mine, one, two)
 
 -- So at the end: what the producers put in, they took out themselves, or the workers did.
-pub all_came_out : {j k : Known Item no_note} (ended : HasEndedFrom j k) (w : ℕ → Item → ℕ) → HasGathered j → IsWhole k → 1 ≤ k.places
+pub all_came_out : {j k : Known Item block_note} (ended : HasEndedFrom j k) (w : ℕ → Item → ℕ) → HasGathered j → IsWhole k → 1 ≤ k.places
     → takes k.own ≡ [] → ((t : ℕ) → w t Stop ≡ 0)
     → claimed_among w j.joined ≡ taken_among w j.joined + taken_among w ended.workers
 all_came_out {j} {k} ended w gathered whole some none nothing =
@@ -231,11 +229,11 @@ sums_alike f g (m ∷ ms) same =
     omega (arith, one, two, same.0, sums_alike f g ms same.1)
 
 -- So what the producers took out, and counted as overrun, were texts and flushes.
-pub overran_work : (j k : Known Item no_note) (workers : List One) → HasGathered j → IsEndingFrom j k workers → IsWhole k
+pub overran_work : (j k : Known Item block_note) (workers : List One) → HasGathered j → IsEndingFrom j k workers → IsWhole k
     → taken_among of_all j.joined ≡ taken_among of_work j.joined
 overran_work j k workers gathered e whole =
     let none = no_stop_before j k workers gathered e whole in
-    let balance = accounts_balance Item no_note j.places j.first j.seen of_stops gathered.faithful.legal in
+    let balance = accounts_balance Item block_note j.places j.first j.seen of_stops gathered.faithful.legal in
     sums_alike (λ m. taken of_all m.own) (λ m. taken of_work m.own) j.joined
     (each_of (λ (m : One). m.own ≡ own_of m.actor j.seen) (λ (m : One). taken of_all m.own ≡ taken of_work m.own) j.joined
     (λ m is.
@@ -255,15 +253,9 @@ counted_sum (m ∷ ms) (s ∷ ss) are =
     let two : sum_by g (m ∷ ms) ≡ g m + sum_by g ms = sum_by-cons g m ms in
     omega (arith, one, two, are.0, counted_sum ms ss are.1)
 
-pub counted_more : (ms : List One) (ss : List (lane.Member Add)) (m : One) (s : lane.Member Add) → AreCounted ms ss
-    → items_in s.own ≡ taken of_all m.own → AreCounted (ms ++ m ∷ []) (ss ++ s ∷ [])
-counted_more [] [] m s are one = (one, tt)
-counted_more [] (r ∷ ss) m s are one = absurd are
-counted_more (n ∷ ms) [] m s are one = absurd are
-counted_more (n ∷ ms) (r ∷ ss) m s are one = (are.0, counted_more ms ss m s are.1 one)
-
 -- What the producers posted of texts and flushes was counted as overrun by their seats, or the workers took it out.
-pub overrun_or_handled : {j k : Known Item no_note} (ended : HasEndedFrom j k) (seats : List (lane.Member Add)) → HasGathered j → IsWhole k
+pub overrun_or_handled : {j k : Known Item block_note} (ended : HasEndedFrom j k) (seats : List (lane.Member Add)) → HasGathered j
+    → IsWhole k
     → 1 ≤ k.places → takes k.own ≡ [] → AreCounted j.joined seats
     → claimed_among of_work j.joined ≡ sum_by (λ (s : lane.Member Add). items_in s.own) seats + taken_among of_work ended.workers
 overrun_or_handled {j} {k} ended seats gathered whole some none counted =
@@ -271,45 +263,8 @@ overrun_or_handled {j} {k} ended seats gathered whole some none counted =
     ∙ ap (λ n. n + taken_among of_work ended.workers)
     (sym (overran_work j k ended.workers gathered ended.since whole) ∙ sym (counted_sum j.joined seats counted))
 
--- How a pool comes there, call by call. A producer's pass, with nothing joined into it, comes back to the pool's own.
-pub alone : (P : One → Type 0) (k : Known Item no_note) → k.joined ≡ [] → P (record { actor = k.actor; own = k.own })
-    → AllByRecursion P (members_of k)
-alone P k none is = (is, subst (λ (ms : List One). AllByRecursion P ms) (sym none) tt)
-
-pub gathered_starts : (j : Known Item no_note) → IsFaithful j → j.own ≡ [] → j.joined ≡ [] → HasGathered j
-gathered_starts j faithful own joined = record {
-  faithful = faithful;
-  own = ap (λ (h : List Deed). claims h) own;
-  members = subst (λ (ms : List One). AllByRecursion PutNoStop ms) (sym joined) tt;
-}
-
-pub gathered_join : (j p l : Known Item no_note) → HasGathered j → Joins j p l → AllByRecursion PutNoStop (members_of p) → HasGathered l
-gathered_join j p l gathered joins none = record {
-  faithful = joins.faithful;
-  own = ap (λ (k : Known Item no_note). claims k.own) joins.known ∙ gathered.own;
-  members = subst (λ (k : Known Item no_note). AllByRecursion PutNoStop k.joined) (sym joins.known)
-      (each_append PutNoStop j.joined (members_of p) gathered.members none);
-}
-
-pub gathered_producer : (j p l : Known Item no_note) (seat : lane.Known Add) → HasGathered j → Joins j p l → IsAccountOf p seat → HasGathered l
-gathered_producer j p l seat gathered joins account = gathered_join j p l gathered joins (alone PutNoStop p account.joined account.no_stop)
-
--- and its seat of the loss book to the pool's own
-pub counted_producer : {j p l : Known Item no_note} (s : lane.Known Add) {t : lane.Known Add} (u : lane.Known Add)
-    → AreCounted j.joined s.joined → Joins j p l
-    → lane.IsJoined s t u → IsAccountOf p t → AreCounted l.joined u.joined
-counted_producer {j} {p} {l} s {t} u counted joins joined account =
-    let m : One = record { actor = p.actor; own = p.own } in
-    let n : lane.Member Add = record { seat = t.seat; own = t.own } in
-    let one : l.joined ≡ j.joined ++ m ∷ [] =
-    ap (λ (z : Known Item no_note). z.joined) joins.known ∙ ap (λ (ms : List One). j.joined ++ m ∷ ms) account.joined in
-    let two : u.joined ≡ s.joined ++ n ∷ [] =
-    ap (λ (z : lane.Known Add). z.joined) joined.known ∙ ap (λ (ns : List (lane.Member Add)). s.joined ++ n ∷ ns) account.seat_joined in
-    subst (λ (z : List One × List (lane.Member Add)). AreCounted z.0 z.1) (λ i. (sym one i, sym two i))
-    (counted_more j.joined s.joined m n counted account.counted)
-
--- from there on
-pub ending_starts : (j : Known Item no_note) → IsEndingFrom j j []
+-- How a pool comes to its end, call by call.
+pub ending_starts : (j : Known Item block_note) → IsEndingFrom j j []
 ending_starts j = record {
   actor = refl;
   seen = prefix_same j.seen;
@@ -321,7 +276,7 @@ ending_starts j = record {
 }
 
 -- the pool's pass puts in stops, or looks
-pub ending_made : (j k l : Known Item no_note) (workers : List One) (h : List Deed) → IsEndingFrom j k workers → Made k l h
+pub ending_made : (j k l : Known Item block_note) (workers : List One) (h : List Deed) → IsEndingFrom j k workers → Made k l h
     → claimed of_work h ≡ 0 → IsEndingFrom j l workers
 ending_made j k l workers h e made none = record {
   actor = made.actor ∙ e.actor;
@@ -333,26 +288,7 @@ ending_made j k l workers h e made none = record {
   no_claims = e.no_claims;
 }
 
-pub ending_moved : {j k l : Known Item no_note} {workers : List One} {puts gots : List (ℕ × Item)} → IsEndingFrom j k workers
+pub ending_moved : {j k l : Known Item block_note} {workers : List One} {puts gots : List (ℕ × Item)} → IsEndingFrom j k workers
     → Moved k l puts gots → weigh of_work puts ≡ 0 → IsEndingFrom j l workers
 ending_moved {j} {k} {l} {workers} e moved none =
     ending_made j k l workers moved.entries e moved.made (ap (λ (ps : List (ℕ × Item)). weigh of_work ps) moved.puts_are ∙ none)
-
--- a worker's pass comes back to it
-pub ending_join : (j k p l : Known Item no_note) (workers : List One) → IsEndingFrom j k workers → Joins k p l
-    → AllByRecursion PutNothing (members_of p) → IsEndingFrom j l (workers ++ members_of p)
-ending_join j k p l workers e joins none = record {
-  actor = ap (λ (z : Known Item no_note). z.actor) joins.known ∙ e.actor;
-  seen = subst (λ (z : Known Item no_note). IsPrefix j.seen z.seen) (sym joins.known)
-      (prefix_through j.seen k.seen joins.seen e.seen joins.longer.first);
-  stops = e.stops;
-  own = ap (λ (z : Known Item no_note). z.own) joins.known ∙ e.own;
-  only_stops = e.only_stops;
-  joined = ap (λ (z : Known Item no_note). z.joined) joins.known ∙ ap (λ (ms : List One). ms ++ members_of p) e.joined
-      ∙ append_assoc j.joined workers (members_of p);
-  no_claims = each_append PutNothing workers (members_of p) e.no_claims none;
-}
-
-pub ending_worker : {j k p l : Known Item no_note} {workers : List One} → IsEndingFrom j k workers → Joins k p l → p.joined ≡ []
-    → claims p.own ≡ [] → IsEndingFrom j l (workers ++ members_of p)
-ending_worker {j} {k} {p} {l} {workers} e joins none puts = ending_join j k p l workers e joins (alone PutNothing p none puts)

@@ -7,56 +7,49 @@ use Rattle.alog_msg.specs.declared.item.Item.{Item}
 use Rattle.alog_msg.specs.declared.item.Item.TheVariants.{Stop}
 use Rattle.alog_pool.specs.Accounts.{Moved, work, of_work}
 use Rattle.alog_pool.specs.Stops.{AreStops, DidPost, IsSpent, PutsStops, SawSpent}
-use Rattle.alog_pool.proofs.Moves.{answer_moved, busy_pushes, moved_more, not_moved, pushed_moved}
+use Rattle.alog_pool.proofs.Moves.{answer_moved, moved_more, not_moved}
 use Rattle.alog_pool.proofs.SharedSharing.{all_more}
-use Rattle.alog_ring.specs.Calls.{by}
-use Rattle.alog_ring.specs.Kinds.{no_note}
+use Rattle.std.specs.Prelude.{None}
+use Rattle.alog_registry.specs.BlockPort.{block_note}
 use Rattle.alog_ring.specs.Known.{Known}
-use Rattle.alog_ring.specs.Made.{IsFaithful}
-use Rattle.alog_ring.specs.Waits.{PushedAtLast, PushRefusedAtLast}
+use Rattle.alog_ring.specs.Made.{IsFaithful, entry}
+use Rattle.alog_ring.specs.Refused.{PushRefusedAs}
 use Rattle.alog_ring.specs.declared.push.PushError.{PushError}
 use Rattle.alog_ring.specs.declared.push.PushError.TheVariants as push
 
 -- a push that was refused moves nothing
-pub refused_idles : (old new : Known Item no_note) (x : Item) (e : PushError Item) → PushRefusedAtLast old new x e → Moved old new [] []
-refused_idles old new x (push.Full v n) refused =
-    busy_pushes old refused.1.0 new [] refused.1.1 (answer_moved refused.1.0 new (queue.Full n) refl refl refl refused.1.2.2)
-refused_idles old new x (push.Busy v s) refused = absurd refused.0
-refused_idles old new x (push.Spent v) refused =
-    busy_pushes old refused.1.0 new [] refused.1.1 (answer_moved refused.1.0 new queue.Spent refl refl refl refused.1.2.1)
+pub refused_idles : (old new : Known Item block_note) (e : PushError (Unit {0})) → PushRefusedAs None old new (tt {0}) e → Moved old new [] []
+refused_idles old new (push.Full v n) refused = answer_moved old new (queue.Full n) refl refl refl refused.2
+refused_idles old new (push.Busy v s) refused = answer_moved old new (queue.PushBusy s) refl refl refl refused.2
+refused_idles old new (push.Spent v) refused = answer_moved old new queue.Spent refl refl refl refused.1
 
-saw_spent : (h : List (Entry Item no_note)) (x : Entry Item no_note) → x.event ≡ queue.Spent → SawSpent (h ++ x ∷ [])
+saw_spent : (h : List (Entry Item block_note)) (x : Entry Item block_note) → x.event ≡ queue.Spent → SawSpent (h ++ x ∷ [])
 saw_spent [] x is = inl is
 saw_spent (y ∷ h) x is = inr (saw_spent h x is)
 
-pub refused_spent : (old new : Known Item no_note) (x : Item) (e : PushError Item) → IsSpent e → PushRefusedAtLast old new x e
+pub refused_spent : (old new : Known Item block_note) (e : PushError (Unit {0})) → IsSpent e → PushRefusedAs None old new (tt {0}) e
     → SawSpent new.own
-refused_spent old new x (push.Full v n) is refused = absurd is
-refused_spent old new x (push.Busy v s) is refused = absurd is
-refused_spent old new x (push.Spent v) is refused =
-    let mid : Known Item no_note = refused.1.0 in
-    subst SawSpent (sym refused.1.2.1.0.own) (saw_spent mid.own (by mid queue.Spent) refl)
-
--- what a push put in
-pub pushed_last : (old new : Known Item no_note) (t : ℕ) (x : Item) → PushedAtLast old new t x → Moved old new ((t, x) ∷ []) []
-pushed_last old new t x pushed = busy_pushes old pushed.0 new ((t, x) ∷ []) pushed.1 (pushed_moved pushed.0 new t x pushed.2)
+refused_spent old new (push.Full v n) is refused = absurd is
+refused_spent old new (push.Busy v s) is refused = absurd is
+refused_spent old new (push.Spent v) is refused =
+    subst SawSpent (sym refused.1.0.own) (saw_spent old.own (entry None old queue.Spent) refl)
 
 -- tries, one behind the other
-pub did_more : (j k l : Known Item no_note) (posted : Bool) → Moved j k [] [] → DidPost k l posted → DidPost j l posted
+pub did_more : (j k l : Known Item block_note) (posted : Bool) → Moved j k [] [] → DidPost k l posted → DidPost j l posted
 did_more j k l true before did = (did.0, moved_more before did.1)
 did_more j k l false before did = (moved_more before did.0, did.1)
 
 -- so many stops were put in
-pub record HasPut (old new : Known Item no_note) (count : ℕ) : Type 0 where
+pub record HasPut (old new : Known Item block_note) (count : ℕ) : Type 0 where
   pub puts : List (ℕ × Item)
   pub moved : Moved old new puts []
   pub stops : AreStops puts
   pub many : length puts ≡ count
 
-pub put_none : (k : Known Item no_note) → IsFaithful k → HasPut k k 0
+pub put_none : (k : Known Item block_note) → IsFaithful k → HasPut k k 0
 put_none k faithful = record { puts = []; moved = not_moved k faithful; stops = tt; many = refl }
 
-pub put_one : (j k l : Known Item no_note) (n : ℕ) (t : ℕ) → HasPut j k n → Moved k l ((t, Stop) ∷ []) [] → HasPut j l (n + 1)
+pub put_one : (j k l : Known Item block_note) (n : ℕ) (t : ℕ) → HasPut j k n → Moved k l ((t, Stop) ∷ []) [] → HasPut j l (n + 1)
 put_one j k l n t h m =
     let many = h.many in
     let more : length (h.puts ++ (t, Stop) ∷ []) ≡ length h.puts + 1 = length-append h.puts ((t, Stop) ∷ []) in
@@ -67,10 +60,10 @@ put_one j k l n t h m =
       many = omega (arith, many, more);
     }
 
-pub put_all : (j k : Known Item no_note) (n : ℕ) → HasPut j k n → PutsStops j k n
+pub put_all : (j k : Known Item block_note) (n : ℕ) → HasPut j k n → PutsStops j k n
 put_all j k n h = record { puts = h.puts; moved = h.moved; stops = h.stops; enough = inl h.many }
 
-pub put_last : {j k l : Known Item no_note} {n count : ℕ} → HasPut j k n → n < count → Moved k l [] [] → SawSpent l.own
+pub put_last : {j k l : Known Item block_note} {n count : ℕ} → HasPut j k n → n < count → Moved k l [] [] → SawSpent l.own
     → PutsStops j l count
 put_last {j} {k} {l} h few m saw =
     let many = h.many in

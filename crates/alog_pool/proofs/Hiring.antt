@@ -13,7 +13,7 @@ use Rattle.alog_pool.specs.SinkSeat.{SinkSeatView, places_of}
 use Rattle.alog_pool.specs.Working.{AreLimited, IsFresh, IsWorkOf, numbers_of}
 use Rattle.alog_pool.specs.declared.worker.Worker.{Worker}
 use Rattle.alog_pool.proofs.SharedBack.{map_more}
-use Rattle.alog_ring.specs.Kinds.{no_note}
+use Rattle.alog_registry.specs.BlockPort.{block_note}
 use Rattle.alog_ring.specs.Known.{Known, PassView}
 use Rattle.alog_ring.specs.Made.{IsFaithful}
 use Rattle.alog_ring.specs.Share.{Splits}
@@ -23,9 +23,9 @@ nothing_taken zero = refl
 nothing_taken (suc n) = refl
 
 -- nothing was taken, and nothing recorded
-pub fresh_work : (most : ℕ) (k : Known Item no_note) → IsFresh k → IsWorkOf most k [] 0
+pub fresh_work : (most : ℕ) (k : Known Item block_note) → IsFresh k → IsWorkOf most k [] 0
 fresh_work most k f =
-    let H : Type 0 = List (Entry Item no_note) in
+    let H : Type 0 = List (Entry Item block_note) in
     record {
       faithful = f.faithful;
       parts = f.parts;
@@ -37,14 +37,14 @@ fresh_work most k f =
     }
 
 -- the pass that was split off begins
-pub fresh_part : (old new given : PassView Item no_note) → Splits old new given 1 → IsFresh given.known
+pub fresh_part : (old new given : PassView Item block_note) → Splits old new given 1 → IsFresh given.known
 fresh_part old new given s =
-    let known = ap (λ (p : PassView Item no_note). p.known) s.new_pass in
+    let known = ap (λ (p : PassView Item block_note). p.known) s.new_pass in
     record {
       faithful = s.faithful;
-      parts = ap (λ (k : Known Item no_note). k.parts) known;
-      joined = ap (λ (k : Known Item no_note). k.joined) known;
-      own = ap (λ (k : Known Item no_note). k.own) known;
+      parts = ap (λ (k : Known Item block_note). k.parts) known;
+      joined = ap (λ (k : Known Item block_note). k.joined) known;
+      own = ap (λ (k : Known Item block_note). k.own) known;
     }
 
 -- places of the pool's text limit
@@ -54,19 +54,19 @@ limited most limit [] same all = tt
 limited most limit (b ∷ bs) same all = (all.0 ∙ sym same, limited most limit bs same all.1)
 
 -- what the pool has left of its pass
-pub one_less : (old new given : PassView Item no_note) (n all : ℕ) → Splits old new given 1 → 1 ≤ old.known.parts
+pub one_less : (old new given : PassView Item block_note) (n all : ℕ) → Splits old new given 1 → 1 ≤ old.known.parts
     → old.known.parts + n ≡ all → new.known.parts + (n + 1) ≡ all
 one_less old new given n all s some is =
-    let kept = ap (λ (p : PassView Item no_note). p.known.parts) s.kept in omega (arith, kept, some, is)
+    let kept = ap (λ (p : PassView Item block_note). p.known.parts) s.kept in omega (arith, kept, some, is)
 
-pub still_own : (old new given : PassView Item no_note) → Splits old new given 1
+pub still_own : (old new given : PassView Item block_note) → Splits old new given 1
     → (new.known.own ≡ old.known.own) × (new.known.joined ≡ old.known.joined)
 still_own old new given s =
-    (ap (λ (p : PassView Item no_note). p.known.own) s.kept, ap (λ (p : PassView Item no_note). p.known.joined) s.kept)
+    (ap (λ (p : PassView Item block_note). p.known.own) s.kept, ap (λ (p : PassView Item block_note). p.known.joined) s.kept)
 
-pub kept_faithful : (old new given : PassView Item no_note) → Splits old new given 1 → IsFaithful old.known → IsFaithful new.known
+pub kept_faithful : (old new given : PassView Item block_note) → Splits old new given 1 → IsFaithful old.known → IsFaithful new.known
 kept_faithful old new given s faithful =
-    subst (λ (p : PassView Item no_note). IsFaithful p.known) (sym s.kept)
+    subst (λ (p : PassView Item block_note). IsFaithful p.known) (sym s.kept)
     (record { legal = faithful.legal; own = faithful.own; joined = faithful.joined; distinct = faithful.distinct })
 
 -- a size is at least one

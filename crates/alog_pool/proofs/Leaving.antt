@@ -19,13 +19,13 @@ use Rattle.alog_pool.specs.Ending.{NoWorkIsLeft, HasEndedAmong}
 use Rattle.alog_pool.specs.Working.{HasEnded}
 use Rattle.alog_pool.proofs.Moves.{claims-append}
 use Rattle.alog_pool.proofs.Sums.{members_balance}
-use Rattle.alog_ring.specs.Kinds.{no_note}
+use Rattle.alog_registry.specs.BlockPort.{block_note}
 use Rattle.alog_ring.specs.Known.{Member, members_of}
 use Rattle.alog_ring.specs.Made.{AreExact}
 use Rattle.alog_ring.proofs.SharedStepping.{rises_after, rises_left}
 
 abbrev Deed : Type 0
-Deed = Entry Item no_note
+Deed = Entry Item block_note
 
 -- what one event put in, and took out
 put_above : (n : ℕ) (q : Queue Item) (a : ℕ) (e : Event Item) (p : ℕ × Item) → Allows n q a e → Contains (put_by e) p
@@ -195,7 +195,7 @@ module _ (n f : ℕ) (before later : List Deed) (some : 1 ≤ n) (legal : IsLega
   stop_reached : (t : ℕ) → Contains (takes seen) (t, Stop) → Reached
   stop_reached t c =
       let below = takes_below n (start f) seen (t, Stop) some (sound_start n f) legal.0 c in
-      let put = (tickets_keep_their_items Item no_note n f seen t Stop legal (inl c)).0 in
+      let put = (tickets_keep_their_items Item block_note n f seen t Stop legal (inl c)).0 in
       elim (claimed_in (t, Stop) put) [
         | inl early ↦ absurd (omega (arith, none_weighs of_stops (claims before) (t, Stop) no_stop early))
         | inr late ↦
@@ -213,7 +213,7 @@ module _ (n f : ℕ) (before later : List Deed) (some : 1 ≤ n) (legal : IsLega
   ended_reached own a is (inr saw) =
       inr (end_reached n (start f) seen legal.0 (own_saw a seen (subst SawEnd is saw.1)))
 
-  among_reached : (ms : List (Member Item no_note)) → AreExact ms seen → HasEndedAmong ms → Reached
+  among_reached : (ms : List (Member Item block_note)) → AreExact ms seen → HasEndedAmong ms → Reached
   among_reached [] exact ended = absurd ended
   among_reached (m ∷ ms) exact (inl ended) = ended_reached m.own m.actor exact.0 ended
   among_reached (m ∷ ms) exact (inr ended) = among_reached ms exact.1 ended
@@ -221,7 +221,7 @@ module _ (n f : ℕ) (before later : List Deed) (some : 1 ≤ n) (legal : IsLega
   left_is_stop : Reached → ((t : ℕ) (c : Cell Item) → cell_of t end.cells ≡ Some c → c.mark ≡ Written) → (p : ℕ × Item)
       → Contains (held end.cells) p → work p.1 ≡ 0
   left_is_stop reached written p c =
-      let put = (tickets_keep_their_items Item no_note n f seen p.0 p.1 legal (inr c)).0 in
+      let put = (tickets_keep_their_items Item block_note n f seen p.0 p.1 legal (inr c)).0 in
       let cell = held_listed (left_by (start f) seen).cells p c in
       let mark = written p.0 cell.0 cell.1 in
       let sound = sound_by_history n f seen some legal in
@@ -240,7 +240,7 @@ module _ (n f : ℕ) (before later : List Deed) (some : 1 ≤ n) (legal : IsLega
             ]
       ]
 
-  pub nothing_left : (ms : List (Member Item no_note)) → AreExact ms seen → HasEndedAmong ms
+  pub nothing_left : (ms : List (Member Item block_note)) → AreExact ms seen → HasEndedAmong ms
       → ((t : ℕ) (c : Cell Item) → cell_of t end.cells ≡ Some c → c.mark ≡ Written)
       → (w : ℕ → Item → ℕ) → ((t : ℕ) → w t Stop ≡ 0) → listed w end.cells ≡ 0
   nothing_left ms exact ended written w nothing =
@@ -259,5 +259,5 @@ no_work_is_left k w end nothing =
     let none : listed w (left_by (start k.first) k.seen).cells ≡ 0 = subst V (sym end.seen)
     (nothing_left k.places k.first end.before end.later end.some legal end.no_stop end.only_stops (members_of k) exact end.ended
     written w nothing) in
-    let balance = members_balance Item no_note k w whole in
+    let balance = members_balance Item block_note k w whole in
     omega (arith, balance, none)

@@ -1,5 +1,5 @@
 -- What a log that was posted added to its producer's own entries.
-use Rattle.std.proofs.Common.{◌≡◌, ◌≢◌, ◌⊎◌, ℕ, Bool, List, [], ◌∷◌, ◌++◌, refl, sym, ap, subst, ◌∙◌, append_assoc, append-nil, inl, inr}
+use Rattle.std.proofs.Common.{◌≡◌, ◌≢◌, ◌⊎◌, ℕ, List, [], ◌∷◌, ◌++◌, refl, sym, ap, subst, ◌∙◌, append_assoc, append-nil, inl, inr}
 use Rattle.std.specs.List.{AllByRecursion}
 use Rattle.alog_core.specs.Accounts.{claims, takes}
 use Rattle.alog_core.specs.History.{Entry}
@@ -7,7 +7,7 @@ use Rattle.alog_core.specs.Queue.{Event}
 use Rattle.alog_msg.specs.declared.item.Item.{Item}
 use Rattle.alog_msg.specs.declared.item.Item.TheVariants.{Text}
 use Rattle.alog_msg.specs.declared.message.Message.{Message}
-use Rattle.alog_policy.specs.Port.{PassMade, PortDid}
+use Rattle.alog_policy.specs.SwapPort.{AreBy, SwapMade, SwapDid}
 use Rattle.alog_policy.specs.Post.{Round, PushBeaten, Overran, PopBeaten, Waited, events_of_round, events_of_rounds, IsRoundUnder}
 use Rattle.alog_policy.specs.Post.{End, Wrote, OutOfTickets, NoRoom, NothingToTake, AllGrabbed, OutOfRounds, events_of_end, outcome_of, IsPost, takes_in}
 use Rattle.alog_policy.specs.Rounds.{entries_by}
@@ -15,22 +15,16 @@ use Rattle.alog_policy.specs.declared.policy.Outcome.{Outcome}
 use Rattle.alog_policy.specs.declared.policy.Outcome.TheVariants.{Posted}
 use Rattle.alog_policy.specs.declared.policy.Policy.{Policy}
 use Rattle.alog_policy.specs.declared.policy.Policy.TheVariants.{OverrunOldest}
-use Rattle.alog_policy.specs.declared.port.Port.{Port}
 use Rattle.alog_pool.specs.Posted.{PostedLogsPutTheirTextIn, PutsTextIn}
-use Rattle.alog_pool.specs.Producer.{ProducerView, IsPortOf, Lent}
+use Rattle.alog_pool.specs.Producer.{ProducerView, IsPortOf}
 use Rattle.alog_pool.proofs.Moves.{claims-append, takes-append}
-use Rattle.alog_pool.proofs.Posting.{rounds_claim}
+use Rattle.alog_pool.proofs.Posting.{rounds_claim, claims_by, takes_by}
 use Rattle.alog_registry.specs.ItemOutlet.{PostsItem}
-use Rattle.alog_registry.specs.LaneKeeper.{KeepsByTurn, NeverPasses, Passes}
-use Rattle.alog_registry.specs.Logging.{Logs}
-use Rattle.alog_registry.specs.declared.limit.TextLimit.{TextLimit}
-use Rattle.alog_registry.specs.declared.logger.Spec.{Spec}
-use Rattle.alog_registry.specs.declared.logging.LogReply.TheVariants.{Logged}
-use Rattle.alog_ring.specs.Kinds.{no_note}
+use Rattle.alog_registry.specs.BlockPort.{BlockPort, block_note}
 use Rattle.alog_ring.specs.Known.{PassView}
 
 abbrev Deed : Type 0
-Deed = Entry Item no_note
+Deed = Entry Item block_note
 
 abbrev Told : Type 0
 Told = Outcome (Unit {0})
@@ -81,34 +75,40 @@ post_put p a t k x v es post =
     ap (λ (fs : List (Event Item)). claims (entries_by a fs)) post.events_are
     ∙ rounds_claim a post.rounds (events_of_end x post.end) ∙ end_puts a t k (takes_in es) x v post.end post.outcome_is
 
--- what a pass has of its own when it made these events, or none
-own_now : (u v : PassView Item no_note) (es : List (Event Item)) → ((es ≡ []) × (v ≡ u)) ⊎ PassMade u es v
-    → v.known.own ≡ u.known.own ++ entries_by u.known.actor es
+-- what a pass made that made these events, or none
+own_now : (u v : PassView Item block_note) (es : List (Event Item)) → ((es ≡ []) × (v ≡ u)) ⊎ SwapMade u es v
+    → (made : List Deed) × AreBy u.known.actor es made × (v.known.own ≡ u.known.own ++ made)
 own_now u v es (inl same) =
-    ap (λ (w : PassView Item no_note). w.known.own) same.1 ∙ sym (append-nil u.known.own)
-    ∙ ap (λ (fs : List (Event Item)). u.known.own ++ entries_by u.known.actor fs) (sym same.0)
-own_now u v es (inr did) = did.made.own
+    let none : List Deed = [] in (
+      none,
+      subst (λ (fs : List (Event Item)). AreBy u.known.actor fs none) (sym same.0) tt,
+      ap (λ (w : PassView Item block_note). w.known.own) same.1 ∙ sym (append-nil u.known.own),
+    )
+own_now u v es (inr did) = (did.entries, did.by, did.made.own)
 
-posted_text : {p : Policy} {m : Message} {t k : ℕ} {u v : PassView Item no_note} {w : Unit {0}} {es : List (Event Item)}
-    → IsPost p (Text m) w es (Posted t k) → ((es ≡ []) × (v ≡ u)) ⊎ PassMade u es v
+posted_text : {p : Policy} {m : Message} {t k : ℕ} {u v : PassView Item block_note} {w : Unit {0}} {es : List (Event Item)}
+    → IsPost p (Text m) w es (Posted t k) → ((es ≡ []) × (v ≡ u)) ⊎ SwapMade u es v
     → (claims v.known.own ≡ claims u.known.own ++ (t, Text m) ∷ []) × (p ≢ OverrunOldest → takes v.known.own ≡ takes u.known.own)
 posted_text {p} {m} {t} {k} {u} {v} {w} {es} post did =
-    let own = own_now u v es did in
-    let made : List Deed = entries_by u.known.actor es in (
-      ap (λ (h : List Deed). claims h) own ∙ claims-append u.known.own made
-          ∙ ap (λ (ps : List (ℕ × Item)). claims u.known.own ++ ps) (post_put p u.known.actor t k (Text m) w es post),
-      λ never. ap (λ (h : List Deed). takes h) own ∙ takes-append u.known.own made
-          ∙ ap (λ (ps : List (ℕ × Item)). takes u.known.own ++ ps) (post_took p u.known.actor (Text m) never es w (Posted t k) post)
+    let all = own_now u v es did in
+    let made : List Deed = all.0 in
+    let a : ℕ = u.known.actor in (
+      ap (λ (h : List Deed). claims h) all.2 ∙ claims-append u.known.own made
+          ∙ ap (λ (ps : List (ℕ × Item)). claims u.known.own ++ ps)
+          (claims_by a es made all.1 ∙ post_put p a t k (Text m) w es post),
+      λ never. ap (λ (h : List Deed). takes h) all.2 ∙ takes-append u.known.own made
+          ∙ ap (λ (ps : List (ℕ × Item)). takes u.known.own ++ ps)
+          (takes_by a es made all.1 ∙ post_took p a (Text m) never es w (Posted t k) post)
           ∙ append-nil (takes u.known.own),
     )
 
-of_posts : {old new : ProducerView} {p : Policy} {m : Message} {t k : ℕ} {a b : Port Item TextLimit} → IsPortOf old a → IsPortOf new b
-    → PostsItem PortDid p (Text m) a b (Posted t k) → PutsTextIn p old t m new
+of_posts : {old new : ProducerView} {p : Policy} {m : Message} {t k : ℕ} {a b : BlockPort} → IsPortOf old a → IsPortOf new b
+    → PostsItem SwapDid p (Text m) a b (Posted t k) → PutsTextIn p old t m new
 of_posts {old} {p} {m} {t} {k} {a} {b} lent left posts =
     let did = posted_text posts.post posts.done.pass in
-    subst (λ (w : PassView Item no_note). (claims w.known.own ≡ claims old.pass.known.own ++ (t, Text m) ∷ [])
+    subst (λ (w : PassView Item block_note). (claims w.known.own ≡ claims old.pass.known.own ++ (t, Text m) ∷ [])
     × (p ≢ OverrunOldest → takes w.known.own ≡ takes old.pass.known.own)) left.pass
-    (subst (λ (w : PassView Item no_note). (claims b.pass.now.known.own ≡ claims w.known.own ++ (t, Text m) ∷ [])
+    (subst (λ (w : PassView Item block_note). (claims b.pass.now.known.own ≡ claims w.known.own ++ (t, Text m) ∷ [])
     × (p ≢ OverrunOldest → takes b.pass.now.known.own ≡ takes w.known.own)) lent.pass did)
 
 pub posted_logs_put_their_text_in : PostedLogsPutTheirTextIn

@@ -1,18 +1,18 @@
 -- What a pass put in and took out, over several calls.
 use Rattle.std.proofs.Common.{◌≡◌, ℕ, List, [], ◌∷◌, ◌++◌, map, refl, sym, ap, subst, ◌∙◌, append_assoc, append-nil, inl, inr}
-use Rattle.alog_core.specs.Queue.{Event, PushBusy, PopBusy, Grab, Take, Claim, Write, Front, Empty, Idle, last}
+use Rattle.alog_core.specs.Queue.{Event, PopBusy, Grab, Take, Claim, Write, Front, Empty, Idle, last}
 use Rattle.alog_core.specs.History.{Entry}
 use Rattle.alog_core.specs.Accounts.{put_by, got_by, grabbed_by, claims, takes, grabbed}
 use Rattle.alog_msg.specs.declared.item.Item.{Item}
-use Rattle.std.specs.Prelude.{Option, None, Some, IsSome, IfSome}
+use Rattle.std.specs.Prelude.{None, Some}
 use Rattle.alog_pool.specs.Accounts.{Moved, SawEnd}
 use Rattle.alog_pool.specs.Working.{Finds}
 use Rattle.alog_registry.specs.Limit.{KeepsTo}
-use Rattle.alog_ring.specs.Calls.{by, Answered, FoundUnwritten, Popped, Pushed}
+use Rattle.alog_ring.specs.Calls.{AnsweredAs, FoundUnwrittenAs, PoppedAs, PushedAs}
 use Rattle.alog_ring.specs.Known.{Known}
-use Rattle.alog_ring.specs.Kinds.{no_note}
-use Rattle.alog_ring.specs.Made.{IsFaithful}
-use Rattle.alog_ring.specs.Waits.{BusyPops, BusyPushes, PoppedAtLast, PopRefusedAtLast}
+use Rattle.alog_registry.specs.BlockPort.{block_note}
+use Rattle.alog_ring.specs.Made.{IsFaithful, entry}
+use Rattle.alog_ring.specs.Refused.{PopRefusedAs}
 use Rattle.alog_ring.specs.declared.pop.PopError.{PopError}
 use Rattle.alog_ring.specs.declared.pop.PopError.TheVariants as pop
 use Rattle.alog_ring.proofs.SharedCalling.{made_more}
@@ -39,7 +39,7 @@ pub tickets-append : {T : Type 0} (ps qs : List (ℕ × T)) → map (λ (p : ℕ
 tickets-append [] qs = refl
 tickets-append {T} (p ∷ ps) qs = ap (λ (l : List ℕ). p.0 ∷ l) (tickets-append ps qs)
 
-pub moved_more : {u v w : Known Item no_note} {p q g h : List (ℕ × Item)} → Moved u v p g → Moved v w q h
+pub moved_more : {u v w : Known Item block_note} {p q g h : List (ℕ × Item)} → Moved u v p g → Moved v w q h
     → Moved u w (p ++ q) (g ++ h)
 moved_more {u} {v} {w} {g} {h} a b = record {
   entries = a.entries ++ b.entries;
@@ -49,7 +49,7 @@ moved_more {u} {v} {w} {g} {h} a b = record {
   grabs_are = grabbed-append a.entries b.entries ∙ (λ i. a.grabs_are i ++ b.grabs_are i) ∙ sym (tickets-append g h);
 }
 
-pub not_moved : (k : Known Item no_note) → IsFaithful k → Moved k k [] []
+pub not_moved : (k : Known Item block_note) → IsFaithful k → Moved k k [] []
 not_moved k faithful = record {
   entries = [];
   made = record {
@@ -67,43 +67,19 @@ not_moved k faithful = record {
   grabs_are = refl;
 }
 
--- busy rounds before a call
-pub busy_pops : (old mid new : Known Item no_note) (g : List (ℕ × Item)) → BusyPops old mid → Moved mid new [] g
-    → Moved old new [] g
-busy_pops old u new g BusyPops.none then = then
-busy_pops old u new g (BusyPops.more {mid} t before since answered) then =
-    let one : Moved mid u [] [] = record {
-      entries = by mid (PopBusy t) ∷ [];
-      made = answered.0;
-      puts_are = refl;
-      gots_are = refl;
-      grabs_are = refl;
-    } in busy_pops old mid new g before (moved_more one then)
-
-pub busy_pushes : (old mid new : Known Item no_note) (p : List (ℕ × Item)) → BusyPushes old mid → Moved mid new p []
-    → Moved old new p []
-busy_pushes old u new p BusyPushes.none then = then
-busy_pushes old u new p (BusyPushes.more {mid} t before since answered) then =
-    let one : Moved mid u [] [] = record {
-      entries = by mid (PushBusy t) ∷ [];
-      made = answered.0;
-      puts_are = refl;
-      gots_are = refl;
-      grabs_are = refl;
-    } in busy_pushes old mid new p before (moved_more one then)
-
-pub popped_moved : (old new : Known Item no_note) (t : ℕ) (x : Item) → Popped old new t x → Moved old new [] ((t, x) ∷ [])
-popped_moved old new t x popped = record {
-  entries = by old (Grab t) ∷ by old (Take t x) ∷ [];
+pub popped_moved : (old new : Known Item block_note) (note : block_note) (t : ℕ) (x : Item) → PoppedAs None note old new t x
+    → Moved old new [] ((t, x) ∷ [])
+popped_moved old new note t x popped = record {
+  entries = entry None old (Grab t) ∷ entry note old (Take t x) ∷ [];
   made = popped.0;
   puts_are = refl;
   gots_are = refl;
   grabs_are = refl;
 }
 
-pub pushed_moved : (old new : Known Item no_note) (t : ℕ) (x : Item) → Pushed old new t x → Moved old new ((t, x) ∷ []) []
+pub pushed_moved : (old new : Known Item block_note) (t : ℕ) (x : Item) → PushedAs None old new t x → Moved old new ((t, x) ∷ []) []
 pushed_moved old new t x pushed = record {
-  entries = by old (Claim t x) ∷ by old (Write t) ∷ [];
+  entries = entry None old (Claim t x) ∷ entry None old (Write t) ∷ [];
   made = pushed.0;
   puts_are = refl;
   gots_are = refl;
@@ -111,10 +87,10 @@ pushed_moved old new t x pushed = record {
 }
 
 -- an answer that moves nothing
-pub answer_moved : (old new : Known Item no_note) (e : Event Item) → put_by e ≡ [] → got_by e ≡ [] → grabbed_by e ≡ []
-    → Answered old new e → Moved old new [] []
+pub answer_moved : (old new : Known Item block_note) (e : Event Item) → put_by e ≡ [] → got_by e ≡ [] → grabbed_by e ≡ []
+    → AnsweredAs None old new e → Moved old new [] []
 answer_moved old new e puts gots grabs answered = record {
-  entries = by old e ∷ [];
+  entries = entry None old e ∷ [];
   made = answered.0;
   puts_are = ap (λ (l : List (ℕ × Item)). l ++ []) puts;
   gots_are = ap (λ (l : List (ℕ × Item)). l ++ []) gots;
@@ -122,10 +98,10 @@ answer_moved old new e puts gots grabs answered = record {
 }
 
 -- and what a pop answers that found the front unwritten
-unwritten_moved : (old new : Known Item no_note) (t : ℕ) (e : Event Item) → put_by e ≡ [] → got_by e ≡ [] → grabbed_by e ≡ []
-    → FoundUnwritten old new t e → Moved old new [] []
+unwritten_moved : (old new : Known Item block_note) (t : ℕ) (e : Event Item) → put_by e ≡ [] → got_by e ≡ [] → grabbed_by e ≡ []
+    → FoundUnwrittenAs None old new t e → Moved old new [] []
 unwritten_moved old new t e puts gots grabs found = record {
-  entries = by old (Front t) ∷ by old e ∷ [];
+  entries = entry None old (Front t) ∷ entry None old e ∷ [];
   made = found.0;
   puts_are = ap (λ (l : List (ℕ × Item)). l ++ []) puts;
   gots_are = ap (λ (l : List (ℕ × Item)). l ++ []) gots;
@@ -133,41 +109,23 @@ unwritten_moved old new t e puts gots grabs found = record {
 }
 
 -- an answer behind other entries
-saw_behind : (h g : List (Entry Item no_note)) → SawEnd g → SawEnd (h ++ g)
+saw_behind : (h g : List (Entry Item block_note)) → SawEnd g → SawEnd (h ++ g)
 saw_behind [] g saw = saw
 saw_behind (y ∷ h) g saw = inr (saw_behind h g saw)
 
 -- a pop that was refused moves nothing
-pub refused_moved : (old new : Known Item no_note) (e : PopError) → PopRefusedAtLast old new e → Moved old new [] []
-refused_moved old new (pop.Empty n) refused =
-    busy_pops old refused.1.0 new [] refused.1.1 (unwritten_moved refused.1.0 new n (Empty n) refl refl refl refused.1.2.1)
-refused_moved old new (pop.Idle n) refused =
-    busy_pops old refused.1.0 new [] refused.1.1 (unwritten_moved refused.1.0 new n (Idle n) refl refl refl refused.1.2.1)
-refused_moved old new (pop.Busy s) refused = absurd refused.0
+pub refused_moved : (old new : Known Item block_note) (e : PopError) → PopRefusedAs None old new e → Moved old new [] []
+refused_moved old new (pop.Empty n) refused = unwritten_moved old new n (Empty n) refl refl refl refused.1
+refused_moved old new (pop.Idle n) refused = unwritten_moved old new n (Idle n) refl refl refl refused.1
+refused_moved old new (pop.Busy s) refused = answer_moved old new (PopBusy s) refl refl refl refused.1
 
-pub refused_last : (old new : Known Item no_note) (e : PopError) → e ≡ pop.Idle last → PopRefusedAtLast old new e → SawEnd new.own
+pub refused_last : (old new : Known Item block_note) (e : PopError) → e ≡ pop.Idle last → PopRefusedAs None old new e → SawEnd new.own
 refused_last old new e is refused =
-    let end : PopRefusedAtLast old new (pop.Idle last) = subst (λ (z : PopError). PopRefusedAtLast old new z) is refused in
-    let mid : Known Item no_note = end.1.0 in
-    subst SawEnd (sym end.1.2.1.0.own) (saw_behind mid.own (by mid (Front last) ∷ by mid (Idle last) ∷ []) (inr (inl refl)))
+    let end : PopRefusedAs None old new (pop.Idle last) = subst (λ (z : PopError). PopRefusedAs None old new z) is refused in
+    subst SawEnd (sym end.1.0.own) (saw_behind old.own (entry None old (Front last) ∷ entry None old (Idle last) ∷ []) (inr (inl refl)))
 
--- what a pop took
-pub popped_last : (old new : Known Item no_note) (t : ℕ) (x : Item) → PoppedAtLast old new t x → Moved old new [] ((t, x) ∷ [])
-popped_last old new t x popped = busy_pops old popped.0 new ((t, x) ∷ []) popped.1 (popped_moved popped.0 new t x popped.2)
-
--- what a pop into an empty hand found
-pub finds_there : (limit : ℕ) {u v : Known Item no_note} (w : Known Item no_note) (t : ℕ) (i : Option Item) → Moved u v [] [] → IsSome i
-    → IfSome i (PoppedAtLast v w t) → IfSome i (λ x. KeepsTo limit x) → Finds limit u w (Some t) i
-finds_there limit w t None before there popped keeps = absurd (cc)
-finds_there limit {u} {v} w t (Some x) before there popped keeps =
-    (moved_more before (popped_last v w t x popped), keeps)
-
-pub finds_none : (limit : ℕ) (u w : Known Item no_note) (i : Option Item) → i ≡ None → Moved u w [] [] → SawEnd w.own
-    → Finds limit u w None i
-finds_none limit u w i none moved end =
-    let P : Option Item → Type 0 = λ o. Finds limit u w None o in subst P (sym none) (moved, end)
-
-pub found_none : (limit : ℕ) (u w : Known Item no_note) (i : Option Item) → Finds limit u w None i
-    → Moved u w [] [] × SawEnd w.own
-found_none limit u w None found = found
-found_none limit u w (Some x) found = absurd found
+-- what a pop found, after others that found nothing
+pub finds_there : (limit : ℕ) {u v w : Known Item block_note} {note : block_note} (t : ℕ) (x : Item) → Moved u v [] []
+    → PoppedAs None note v w t x → KeepsTo limit x → Finds limit u w (Some t) x
+finds_there limit {u} {v} {w} {note} t x before popped keeps =
+    (moved_more before (popped_moved v w note t x popped), keeps)

@@ -19,7 +19,7 @@ use Rattle.alog_pool.specs.declared.worker.Worker.{Worker}
 use Rattle.alog_pool.specs.declared.report.Report.{Report}
 use Rattle.alog_pool.proofs.Posted.{posted, work_by, work_weighs}
 use Rattle.alog_pool.proofs.Workers.{closed_all, merged_alone, put_nothing, rows_made, works_rise}
-use Rattle.alog_ring.specs.Kinds.{no_note}
+use Rattle.alog_registry.specs.BlockPort.{block_note}
 use Rattle.alog_ring.specs.Known.{Known}
 use Rattle.alog_ring.specs.Share.{IsWhole}
 use Rattle.alog_sink.specs.Files.{Files}
@@ -51,7 +51,7 @@ module _ {S : Type 0} (tells : Bool) (files : S → Files) (failures : S → ℕ
       let single : sum_by t (h ∷ []) ≡ t h + sum_by t [] = sum_by-cons t h [] in
       let works = work_weighs w (takes h.pass.known.own) nothing in omega (arith, all, single, works)
 
-  by_one : {pool : PoolView S} {producers : List ProducerView} {r : Report S} (crew : List (Worker S)) {end : Known Item no_note}
+  by_one : {pool : PoolView S} {producers : List ProducerView} {r : Report S} (crew : List (Worker S)) {end : Known Item block_note}
       → length crew ≡ 1 → AllByRecursion (HasServed pool.shared.loggers (lanes_of pool.sink_seats) pool.most) crew → IsWhole end
       → end.joined ≡ map pass_member producers ++ map (λ (h : Worker S). worker_member h) crew → AreStops (claims end.own)
       → AllCameOut producers crew
@@ -78,5 +78,4 @@ module _ {S : Type 0} (tells : Bool) (files : S → Files) (failures : S → ℕ
 
   pub one_worker_writes_in_order : OneWorkerWritesInOrder tells files failures
   one_worker_writes_in_order pool producers r ends single =
-      by_one {pool = pool} {producers = producers} {r = r} ends.crew (ends.count ∙ single) ends.served ends.whole ends.members ends.stops.0
-      ends.out ends.sinks
+      by_one {pool = pool} {producers = producers} {r = r} ends.crew (ends.count ∙ single) ends.served ends.whole ends.members ends.stops.0 ends.out ends.sinks

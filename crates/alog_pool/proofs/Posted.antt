@@ -1,5 +1,5 @@
 -- What the producers of a pool posted and none of them overran is what its workers took.
-use Rattle.std.proofs.Common.{◌≡◌, ◌≢◌, ◌⊎◌, ℕ, zero, suc, ◌+◌, ◌<◌, ◌≤◌, ◌==◌, cond, List, [], ◌∷◌, ◌++◌, map, length, All, AllPairs, Contains}
+use Rattle.std.proofs.Common.{◌≡◌, ◌≢◌, ◌⊎◌, ℕ, zero, suc, ◌+◌, ◌<◌, ◌≤◌, ◌==◌, cond, List, [], ◌∷◌, ◌++◌, map, All, AllPairs, Contains}
 use Rattle.std.proofs.Common.{inl, inr, refl, sym, ap, subst, ◌∙◌, arith}
 use Rattle.std.specs.List.{AllByRecursion, sum_by}
 use Rattle.std.proofs.lemmas.Bool.Decides.{leb_tells}
@@ -27,17 +27,17 @@ use Rattle.alog_pool.specs.declared.worker.Worker.{Worker}
 use Rattle.alog_pool.proofs.SharedBack.{sum_of_map}
 use Rattle.alog_pool.proofs.Sums.{whole_taken}
 use Rattle.alog_registry.specs.declared.logger.Logger.{Logger}
-use Rattle.alog_ring.specs.Kinds.{no_note}
+use Rattle.alog_registry.specs.BlockPort.{block_note}
 use Rattle.alog_ring.specs.Known.{Member, Known, members_of, IsAmong}
 use Rattle.alog_ring.specs.Made.{AreExact}
 use Rattle.alog_ring.specs.Share.{IsWhole}
 use Rattle.alog_ring.proofs.SharedStepping.{rises_after}
 
 abbrev Deed : Type 0
-Deed = Entry Item no_note
+Deed = Entry Item block_note
 
 abbrev One : Type 0
-One = Member Item no_note
+One = Member Item block_note
 
 abbrev Given : Type 0
 Given = ℕ × Item
@@ -347,7 +347,7 @@ module _ {S : Type 0} where
       let parts = weigh-append w (work_by h) (together (map work_by hs)) in
       let first = work_weighs_less w (takes h.pass.known.own) in omega (arith, whole, parts, first, weigh_together w hs)
 
-module _ {S : Type 0} (producers : List ProducerView) (crew : List (Worker S)) (end : Known Item no_note) (whole : IsWhole end)
+module _ {S : Type 0} (producers : List ProducerView) (crew : List (Worker S)) (end : Known Item block_note) (whole : IsWhole end)
     (members : end.joined ≡ map pass_member producers ++ map (λ (h : Worker S). worker_member h) crew)
     (stops : AreStops (claims end.own)) (idle : AllByRecursion (λ (h : Worker S). claims h.pass.known.own ≡ []) crew)
     (out : AllCameOut producers crew) where
@@ -429,7 +429,7 @@ module _ {S : Type 0} (producers : List ProducerView) (crew : List (Worker S)) (
       let theirs : sum_by f made_by ≡ sum_by (λ (p : ProducerView). f (pass_member p)) producers = sum_of_map pass_member f producers in
       let works : sum_by f workers ≡ sum_by (λ (h : Worker S). f (worker_member h)) crew =
       sum_of_map (λ (h : Worker S). worker_member h) f crew in
-      let balance = accounts_balance Item no_note end.places end.first end.seen (one t) whole.faithful.legal in
+      let balance = accounts_balance Item block_note end.places end.first end.seen (one t) whole.faithful.legal in
       let once = issued_once end.places end.first end.seen t whole.faithful.legal in
       omega (arith, all, first, same, parts, theirs, works, balance, once, weigh_one t (claims end.seen))
 
@@ -446,7 +446,7 @@ module _ {S : Type 0} (producers : List ProducerView) (crew : List (Worker S)) (
   -- the item under a ticket that was put in is the one that was taken
   same_item : (t : ℕ) (x y : Item) → Contains (takes end.seen) (t, x) → Contains (claims end.seen) (t, y) → x ≡ y
   same_item t x y got put =
-      sym ((tickets_keep_their_items Item no_note end.places end.first end.seen t x whole.faithful.legal (inl got)).1 y put)
+      sym ((tickets_keep_their_items Item block_note end.places end.first end.seen t x whole.faithful.legal (inl got)).1 y put)
 
   came_out : (i : Given) → i.1 ≢ Stop → IsPutIn producers i → ¬ IsOverrun producers i → Contains (together (map work_by crew)) i
   came_out i work put kept =
@@ -477,7 +477,7 @@ module _ {S : Type 0} (producers : List ProducerView) (crew : List (Worker S)) (
       let h = of_together work_by crew i c in
       let is = work_of (takes h.0.pass.known.own) i h.2 in
       let got = took_seen h.0 i h.1 is.0 in
-      let claim = (tickets_keep_their_items Item no_note end.places end.first end.seen i.0 i.1 whole.faithful.legal (inl got)).0 in
+      let claim = (tickets_keep_their_items Item block_note end.places end.first end.seen i.0 i.1 whole.faithful.legal (inl got)).0 in
       (is.1, seen_put i is.1 claim, never_both h.0 i h.1 is.0)
 
   pub posted : ArePosted producers (together (map work_by crew))

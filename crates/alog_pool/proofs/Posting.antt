@@ -1,7 +1,7 @@
 -- What a post adds to a producer's account: it puts no stop in, and its losses are the items that it takes.
 use Rattle.std.proofs.Common.{◌≡◌, ◌⊎◌, ℕ, ◌+◌, List, [], ◌∷◌, ◌++◌, refl, ap, ◌∙◌, append_assoc, inl, inr, arith}
 use Rattle.std.proofs.lemmas.List.Sums.{sum_by-append}
-use Rattle.alog_core.specs.Accounts.{got_by, claims, takes, weigh, claimed, taken}
+use Rattle.alog_core.specs.Accounts.{put_by, got_by, claims, takes, weigh, claimed, taken}
 use Rattle.alog_core.specs.History.{Entry}
 use Rattle.alog_core.specs.Queue.{Event, Claim, Write, Grab, Take, Full, Front, Empty, Idle, PushBusy, PopBusy, Spent}
 use Rattle.alog_core.proofs.SharedAccounts.{weigh-append}
@@ -9,7 +9,8 @@ use Rattle.alog_lane.specs.Seats as lane
 use Rattle.alog_msg.specs.declared.item.Item.{Item}
 use Rattle.alog_policy.specs.BookAdds.{Add, items_of, items_in}
 use Rattle.alog_policy.specs.BookCalls.{SeatView}
-use Rattle.alog_policy.specs.Port.{PassMade, SeatCounted, PortDid}
+use Rattle.alog_policy.specs.Port.{SeatCounted}
+use Rattle.alog_policy.specs.SwapPort.{AreBy, SwapMade, SwapDid}
 use Rattle.alog_policy.specs.Post.{Round, PushBeaten, Overran, PopBeaten, Waited, events_of_round, events_of_rounds}
 use Rattle.alog_policy.specs.Post.{End, Wrote, OutOfTickets, NoRoom, NothingToTake, AllGrabbed, OutOfRounds, events_of_end}
 use Rattle.alog_policy.specs.Post.{outcome_of}
@@ -17,12 +18,10 @@ use Rattle.alog_policy.specs.Post.{IsPost, take_in, takes_in, overran_in}
 use Rattle.alog_policy.specs.Rounds.{entries_by}
 use Rattle.alog_policy.specs.declared.policy.Outcome.{Outcome}
 use Rattle.alog_policy.specs.declared.policy.Policy.{Policy}
-use Rattle.alog_policy.specs.declared.port.Port.{Port}
 use Rattle.alog_pool.specs.Accounts.{of_all, stop, of_stops}
 use Rattle.alog_pool.specs.Lending.{IsAccountOf}
 use Rattle.alog_pool.proofs.Sums.{claimed-append, taken-append}
-use Rattle.alog_registry.specs.declared.limit.TextLimit.{TextLimit}
-use Rattle.alog_ring.specs.Kinds.{no_note}
+use Rattle.alog_registry.specs.BlockPort.{BlockPort, block_note}
 use Rattle.alog_ring.specs.Known.{Known, PassView}
 
 -- what events take, as entries
@@ -42,6 +41,19 @@ one_take Spent = refl
 taken_by_events : (a : ℕ) (es : List (Event Item)) → taken of_all (entries_by a es) ≡ takes_in es
 taken_by_events a [] = refl
 taken_by_events a (e ∷ es) = weigh-append of_all (got_by e) (takes (entries_by a es)) ∙ (λ i. one_take e i + taken_by_events a es i)
+
+-- what entries put in and took is told by their events, whatever their notes
+pub claims_by : {N : Type 0} (a : ℕ) (es : List (Event Item)) (xs : List (Entry Item N)) → AreBy a es xs → claims xs ≡ claims (entries_by a es)
+claims_by a [] [] by = refl
+claims_by a [] (x ∷ xs) by = absurd by
+claims_by a (e ∷ es) [] by = absurd by
+claims_by a (e ∷ es) (x ∷ xs) by = λ i. put_by (by.1 i) ++ claims_by a es xs by.2 i
+
+pub takes_by : {N : Type 0} (a : ℕ) (es : List (Event Item)) (xs : List (Entry Item N)) → AreBy a es xs → takes xs ≡ takes (entries_by a es)
+takes_by a [] [] by = refl
+takes_by a [] (x ∷ xs) by = absurd by
+takes_by a (e ∷ es) [] by = absurd by
+takes_by a (e ∷ es) (x ∷ xs) by = λ i. got_by (by.1 i) ++ takes_by a es xs by.2 i
 
 -- rounds put nothing in, and the end of a post puts its item in
 round_claims : (a : ℕ) (r : Round Item) (es : List (Event Item)) → claims (entries_by a (events_of_round r ++ es)) ≡ claims (entries_by a es)
@@ -84,7 +96,7 @@ module _ {V : Type 0} (p : Policy) (x : Item) (v : V) (es : List (Event Item)) (
   post_takes = ap (λ (q : Outcome V). overran_in q) post.outcome_is ∙ overran_is v (takes_in es) post.end
 
 -- what a port's pass and its seat did
-record PassAdded (k l : Known Item no_note) (n : ℕ) : Type 0 where
+record PassAdded (k l : Known Item block_note) (n : ℕ) : Type 0 where
   parts : l.parts ≡ k.parts
   joined : l.joined ≡ k.joined
   stops : claimed of_stops l.own ≡ claimed of_stops k.own
@@ -95,28 +107,32 @@ record SeatAdded (k l : lane.Known Add) (n : ℕ) : Type 0 where
   joined : l.joined ≡ k.joined
   items : items_in l.own ≡ items_in k.own + n
 
-pass_added : (p q : PassView Item no_note) (es : List (Event Item)) → claimed of_stops (entries_by p.known.actor es) ≡ 0
-    → ((es ≡ []) × (q ≡ p)) ⊎ PassMade p es q → PassAdded p.known q.known (takes_in es)
+pass_added : (p q : PassView Item block_note) (es : List (Event Item)) → claimed of_stops (entries_by p.known.actor es) ≡ 0
+    → ((es ≡ []) × (q ≡ p)) ⊎ SwapMade p es q → PassAdded p.known q.known (takes_in es)
 pass_added p q es none (inl same) =
     let nothing : takes_in es ≡ 0 = ap (λ (fs : List (Event Item)). takes_in fs) same.0 in
-    let took : taken of_all q.known.own ≡ taken of_all p.known.own = ap (λ (v : PassView Item no_note). taken of_all v.known.own) same.1 in
+    let took : taken of_all q.known.own ≡ taken of_all p.known.own = ap (λ (v : PassView Item block_note). taken of_all v.known.own) same.1 in
     record {
-      parts = ap (λ (v : PassView Item no_note). v.known.parts) same.1;
-      joined = ap (λ (v : PassView Item no_note). v.known.joined) same.1;
-      stops = ap (λ (v : PassView Item no_note). claimed of_stops v.known.own) same.1;
+      parts = ap (λ (v : PassView Item block_note). v.known.parts) same.1;
+      joined = ap (λ (v : PassView Item block_note). v.known.joined) same.1;
+      stops = ap (λ (v : PassView Item block_note). claimed of_stops v.known.own) same.1;
       took = omega (arith, nothing, took);
     }
 pass_added p q es none (inr did) =
-    let made : List (Entry Item no_note) = entries_by p.known.actor es in
+    let made : List (Entry Item block_note) = did.entries in
+    let puts : claimed of_stops made ≡ claimed of_stops (entries_by p.known.actor es) =
+    ap (λ (ps : List (ℕ × Item)). weigh of_stops ps) (claims_by p.known.actor es made did.by) in
+    let gots : taken of_all made ≡ takes_in es =
+    ap (λ (ps : List (ℕ × Item)). weigh of_all ps) (takes_by p.known.actor es made did.by) ∙ taken_by_events p.known.actor es in
     let put : claimed of_stops q.known.own ≡ claimed of_stops p.known.own + claimed of_stops made =
-    ap (λ (h : List (Entry Item no_note)). claimed of_stops h) did.made.own ∙ claimed-append of_stops p.known.own made in
+    ap (λ (h : List (Entry Item block_note)). claimed of_stops h) did.made.own ∙ claimed-append of_stops p.known.own made in
     let took : taken of_all q.known.own ≡ taken of_all p.known.own + taken of_all made =
-    ap (λ (h : List (Entry Item no_note)). taken of_all h) did.made.own ∙ taken-append of_all p.known.own made in
+    ap (λ (h : List (Entry Item block_note)). taken of_all h) did.made.own ∙ taken-append of_all p.known.own made in
     record {
       parts = did.made.parts;
       joined = did.made.joined;
-      stops = omega (arith, put, none);
-      took = took ∙ ap (λ n. taken of_all p.known.own + n) (taken_by_events p.known.actor es);
+      stops = omega (arith, put, puts, none);
+      took = took ∙ ap (λ n. taken of_all p.known.own + n) gots;
     }
 
 seat_added : (s t : SeatView) (items posts : ℕ) → ((items ≡ 0) × (posts ≡ 0) × (t ≡ s)) ⊎ SeatCounted s items posts t
@@ -137,7 +153,7 @@ seat_added s t items posts (inr did) = record {
       ∙ ap (λ n. items_in s.known.own + n) did.item_sum;
 }
 
-pub account_after : {a b : Port Item TextLimit} {es : List (Event Item)} {items posts : ℕ} → PortDid a es items posts b
+pub account_after : {a b : BlockPort} {es : List (Event Item)} {items posts : ℕ} → SwapDid a es items posts b
     → claimed of_stops (entries_by a.pass.now.known.actor es) ≡ 0 → items ≡ takes_in es
     → IsAccountOf a.pass.now.known a.seat.now.known → IsAccountOf b.pass.now.known b.seat.now.known
 account_after {a} {b} {es} {items} {posts} did none takes old =
@@ -153,16 +169,16 @@ account_after {a} {b} {es} {items} {posts} did none takes old =
     }
 
 -- a pass and a seat of one part that did nothing
-pub new_account : (k : Known Item no_note) (l : lane.Known Add) → k.parts ≡ 1 → k.joined ≡ [] → k.own ≡ []
+pub new_account : (k : Known Item block_note) (l : lane.Known Add) → k.parts ≡ 1 → k.joined ≡ [] → k.own ≡ []
     → l.parts ≡ 1 → l.joined ≡ [] → l.own ≡ [] → IsAccountOf k l
 new_account k l parts joined own seat_parts seat_joined seat_own =
     let items : items_in l.own ≡ 0 = ap (λ (h : List (lane.Entry Add)). items_in h) seat_own in
-    let took : taken of_all k.own ≡ 0 = ap (λ (h : List (Entry Item no_note)). taken of_all h) own in
+    let took : taken of_all k.own ≡ 0 = ap (λ (h : List (Entry Item block_note)). taken of_all h) own in
     record {
       parts = parts;
       joined = joined;
       seat_parts = seat_parts;
       seat_joined = seat_joined;
-      no_stop = ap (λ (h : List (Entry Item no_note)). claimed of_stops h) own;
+      no_stop = ap (λ (h : List (Entry Item block_note)). claimed of_stops h) own;
       counted = omega (arith, items, took);
     }

@@ -1,27 +1,28 @@
 -- What a call of `Loggers` leaves of what a producer lends it.
 use Rattle.std.proofs.Common.{◌≡◌, ℕ, ℤ, zero, suc, ◌<◌, Bor, Bool, true, false, Some, None, Option, Result, Ok, Err, List, [], ◌∷◌, length, refl, sym, ap, subst, ◌∙◌, arith}
 use Rattle.std.specs.Prelude.{slice_get, slice_set, slice_index_or, IfOk, OnErr}
+use Rattle.alog_msg.specs.Block.{BlockFields}
 use Rattle.alog_msg.specs.declared.item.Item.{Item}
 use Rattle.alog_msg.specs.declared.message.Message.{Message}
 use Rattle.alog_msg.specs.declared.message.MessageError.{MessageError}
 use Rattle.alog_policy.specs.BookCalls.{BookId, SeatView, IsSeatOf as IsBookSeatOf}
-use Rattle.alog_policy.specs.Port.{IsFit, PortDid}
+use Rattle.alog_policy.specs.SwapPort.{IsThere, SwapDid}
 use Rattle.alog_policy.specs.Post.{overran_in, discards_in}
 use Rattle.alog_policy.specs.Progress.{without_waiting}
 use Rattle.alog_policy.specs.declared.policy.Outcome.{Outcome}
 use Rattle.alog_policy.specs.declared.policy.Policy.{Policy}
-use Rattle.alog_policy.specs.declared.port.Port.{Port}
 use Rattle.alog_lane.specs.Calls.{LaneId, IsSeatOf}
 use Rattle.alog_pool.specs.Accounts.{stop}
 use Rattle.alog_pool.specs.BacktraceSeat.{BacktraceSeatView, LaneSeatView, IsBacktraceSeat, IsKeeperOf, Keeps}
 use Rattle.alog_pool.specs.Lending.{IsAccountOf, LendsAlike}
-use Rattle.alog_pool.specs.Producer.{ProducerView, AreBacktraceSeats, IsProducer, IsPortOf, Lent}
+use Rattle.alog_pool.specs.Producer.{ProducerView, AreBacktraceSeats, HasBlocks, IsProducer, IsPortOf, Lent}
 use Rattle.alog_pool.specs.declared.shared.Shared.{Shared}
 use Rattle.alog_pool.proofs.Posting.{post_stops, post_takes, account_after}
 use Rattle.alog_registry.specs.ItemOutlet.{PostsItem}
 use Rattle.alog_registry.specs.Backtrace.{Room}
 use Rattle.alog_registry.specs.Dumping.{PostsEach, posted_of}
 use Rattle.alog_registry.specs.LaneKeeper.{IsSeated, LendsSame, KeepsByTurn, DumpsByTurn, NeverPasses, Passes}
+use Rattle.alog_registry.specs.Limit.{HoldsTo}
 use Rattle.alog_registry.specs.Listed.{spec_at}
 use Rattle.alog_registry.specs.Logging.{KeepsCopy, Logs, copy_of}
 use Rattle.alog_registry.specs.declared.turn.BacktraceScratch.{BacktraceScratch}
@@ -31,11 +32,12 @@ use Rattle.alog_registry.specs.declared.logger.Logger.{Logger}
 use Rattle.alog_registry.specs.declared.logger.Spec.{Spec}
 use Rattle.alog_registry.specs.declared.logging.LogReply.{LogReply}
 use Rattle.alog_registry.specs.declared.logging.LogReply.TheVariants.{Filtered, Logged}
-use Rattle.alog_ring.specs.Kinds.{no_note}
-use Rattle.alog_ring.specs.Known.{PassView, RingId, IsPassOf}
+use Rattle.alog_registry.specs.BlockPort.{BlockPort, IsReadyPort, block_note}
+use Rattle.alog_ring.specs.Known.{PassView, IsPassOf}
+use Rattle.alog_ring.specs.Swaps.{SwapId}
 
 abbrev pub Queueing : Type 0
-Queueing = Port Item TextLimit
+Queueing = BlockPort
 
 same_port : (a b : Queueing) → b ≡ a → LendsAlike a b
 same_port a b e = record {
@@ -43,16 +45,20 @@ same_port a b e = record {
   book = ap (λ (p : Queueing). p.book) e;
   pass = ap (λ (p : Queueing). p.pass.ghost_name) e;
   seat = ap (λ (p : Queueing). p.seat.ghost_name) e;
+  hand = ap (λ (p : Queueing). p.hand.ghost_name) e;
+  spare = ap (λ (p : Queueing). p.spare.ghost_name) e;
   account = λ is. subst (λ (p : Queueing). IsAccountOf p.pass.now.known p.seat.now.known) (sym e) is;
 }
 
-pub posts_port : (p : Policy) (x : Item) (a b : Queueing) (o : Outcome (Unit {0})) → stop x ≡ 0 → PostsItem PortDid p x a b o
+pub posts_port : (p : Policy) (x : Item) (a b : Queueing) (o : Outcome (Unit {0})) → stop x ≡ 0 → PostsItem SwapDid p x a b o
     → LendsAlike a b
 posts_port p x a b o none posts = record {
   ring = posts.done.ring;
   book = posts.done.book;
   pass = posts.done.pass_lent;
   seat = posts.done.seat_lent;
+  hand = posts.done.hand_lent;
+  spare = posts.done.spare_lent;
   account =
       account_after posts.done (post_stops p x tt posts.events o posts.post a.pass.now.known.actor none)
       (post_takes p x tt posts.events o posts.post);
@@ -64,10 +70,12 @@ then_port a b c one two = record {
   book = two.book ∙ one.book;
   pass = two.pass ∙ one.pass;
   seat = two.seat ∙ one.seat;
+  hand = two.hand ∙ one.hand;
+  spare = two.spare ∙ one.spare;
   account = λ is. two.account (one.account is);
 }
 
-pub each_port : (p : Policy) (ms : List Message) (a b : Queueing) (os : List (Outcome (Unit {0}))) → PostsEach PortDid p ms a os b
+pub each_port : (p : Policy) (ms : List Message) (a b : Queueing) (os : List (Outcome (Unit {0}))) → PostsEach SwapDid p ms a os b
     → LendsAlike a b
 each_port p [] a b [] e = same_port a b e
 each_port p [] a b (o ∷ os) e = absurd e
@@ -103,7 +111,7 @@ pub record LeavesLent (a : Queueing) (k : LaneKeeper) (b : Queueing) (l : LaneKe
   pub list : l.scratch.now.list ≡ k.scratch.now.list
 
 logs_waiting : (p : Policy) (s : Spec) (m : Message) {a : Queueing} {k : LaneKeeper} (r : LogReply) {b : Queueing} {l : LaneKeeper}
-    → Logs PortDid KeepsByTurn NeverPasses p s m a k r b l → LeavesLent a k b l
+    → Logs SwapDid KeepsByTurn NeverPasses p s m a k r b l → LeavesLent a k b l
 logs_waiting p s m {a} {k} (Filtered level kept) {b} {l} is =
     let c = copy_waiting (copy_of s m) kept k l is.2 in
     record { port = same_port a b is.1; keeper = c.0; list = c.1 }
@@ -112,7 +120,7 @@ logs_waiting p s m {a} {k} (Logged o kept) {b} {l} is =
     record { port = posts_port p _ a b o refl is.0; keeper = c.0; list = c.1 }
 
 logs_now : (p : Policy) (s : Spec) (m : Message) {a : Queueing} {k : LaneKeeper} (r : LogReply) {b : Queueing} {l : LaneKeeper}
-    → Logs PortDid KeepsByTurn Passes p s m a k r b l → LeavesLent a k b l
+    → Logs SwapDid KeepsByTurn Passes p s m a k r b l → LeavesLent a k b l
 logs_now p s m {a} {k} (Filtered level kept) {b} {l} is =
     let c = copy_now (copy_of s m) kept k l is.2 in
     record { port = same_port a b is.1; keeper = c.0; list = c.1 }
@@ -132,16 +140,15 @@ has_spec (x ∷ ls) (suc n) low = has_spec ls n (omega (arith, low))
 -- whatever a log with waiting answered
 pub log_leaves : (ls : List Logger) (n : ℕ) (m : Message) {a : Queueing} {k : LaneKeeper}
     (r : Result LogReply MessageError) {b : Queueing} {l : LaneKeeper} → n < length ls
-    → ((s : Spec) → spec_at ls n ≡ Some s → IfOk r (λ x. Logs PortDid KeepsByTurn NeverPasses s.policy s m a k x b l))
+    → ((s : Spec) → spec_at ls n ≡ Some s → IfOk r (λ x. Logs SwapDid KeepsByTurn NeverPasses s.policy s m a k x b l))
     → OnErr r ((b ≡ a) × (l ≡ k)) → LeavesLent a k b l
-log_leaves ls n m {a} {k} (Ok x) {b} {l} low ok err =
-    let s = has_spec ls n low in logs_waiting s.0.policy s.0 m {a = a} {k = k} x {b = b} {l = l} (ok s.0 s.1)
+log_leaves ls n m {a} {k} (Ok x) {b} {l} low ok err = let s = has_spec ls n low in logs_waiting s.0.policy s.0 m {a = a} {k = k} x {b = b} {l = l} (ok s.0 s.1)
 log_leaves ls n m {a} {k} (Err e) {b} {l} low ok err = nothing_done a k b l err.0 err.1
 
 -- whatever a log without waiting answered
 pub log_now_leaves : (policy_of : Spec → Policy) (ls : List Logger) (n : ℕ) (m : Message) {a : Queueing} {k : LaneKeeper}
     (r : Result LogReply MessageError) {b : Queueing} {l : LaneKeeper} → n < length ls
-    → ((s : Spec) → spec_at ls n ≡ Some s → IfOk r (λ x. Logs PortDid KeepsByTurn Passes (policy_of s) s m a k x b l))
+    → ((s : Spec) → spec_at ls n ≡ Some s → IfOk r (λ x. Logs SwapDid KeepsByTurn Passes (policy_of s) s m a k x b l))
     → OnErr r ((b ≡ a) × (l ≡ k)) → LeavesLent a k b l
 log_now_leaves policy_of ls n m {a} {k} (Ok x) {b} {l} low ok err =
     let s = has_spec ls n low in logs_now (policy_of s.0) s.0 m {a = a} {k = k} x {b = b} {l = l} (ok s.0 s.1)
@@ -151,7 +158,7 @@ log_now_leaves policy_of ls n m {a} {k} (Err e) {b} {l} low ok err = nothing_don
 pub dump_leaves : {X E : Type 0} (items : X → List (Outcome (Unit {0}))) (ls : List Logger) (n : ℕ) (t : ℤ) (th : ℕ) {a : Queueing}
     {k : LaneKeeper} (r : Result X E) {b : Queueing} {l : LaneKeeper} → n < length ls
     → ((s : Spec) → spec_at ls n ≡ Some s → IfOk r (λ v. (d : Room) × DumpsByTurn k d l
-    × PostsEach PortDid (without_waiting s.policy) (posted_of n t th d.messages) a (items v) b))
+    × PostsEach SwapDid (without_waiting s.policy) (posted_of n t th d.messages) a (items v) b))
     → OnErr r ((b ≡ a) × (l ≡ k)) → LendsAlike a b × LendsSame k l
 dump_leaves items ls n t th {a} (Ok v) {b} low ok err =
     let s = has_spec ls n low in
@@ -174,16 +181,16 @@ still_seated {lane} {l} old at was same list seated =
 
 module _ (passes : LaneKeeper → LaneKeeper → Type 0) (p : Policy) (s : Spec) (m : Message) where
   pub keeps_log : {E : Type 0} (a b : Queueing) (k l : LaneKeeper) (v w : BacktraceSeatView) (r : Result LogReply E) → IsKeeperOf v k → IsKeeperOf w l
-      → IfOk r (λ x. Logs PortDid KeepsByTurn passes p s m a k x b l)
-      → IfOk r (λ x. Keeps v w (λ y z. Logs PortDid KeepsByTurn passes p s m a y x b z))
+      → IfOk r (λ x. Logs SwapDid KeepsByTurn passes p s m a k x b l)
+      → IfOk r (λ x. Keeps v w (λ y z. Logs SwapDid KeepsByTurn passes p s m a y x b z))
   keeps_log a b k l v w (Ok x) lent left logs = record { keeper = k; after = l; lent = lent; left = left; called = logs }
   keeps_log a b k l v w (Err e) lent left logs = logs
 
   pub lent_log : {E : Type 0} {old new : ProducerView} (n : ℕ) {a b : Queueing} {k : BacktraceSeatView} (l : BacktraceSeatView)
       (r : Result LogReply E) → IsPortOf old a
       → IsPortOf new b → slice_get old.backtrace_seats n ≡ Some k → new.backtrace_seats ≡ slice_set old.backtrace_seats n l
-      → IfOk r (λ x. Keeps k l (λ y z. Logs PortDid KeepsByTurn passes p s m a y x b z))
-      → IfOk r (λ x. Lent old new n (λ c y d z. Logs PortDid KeepsByTurn passes p s m c y x d z))
+      → IfOk r (λ x. Keeps k l (λ y z. Logs SwapDid KeepsByTurn passes p s m a y x b z))
+      → IfOk r (λ x. Lent old new n (λ c y d z. Logs SwapDid KeepsByTurn passes p s m c y x d z))
   lent_log n {a} {b} {k} l (Ok x) lent left found others kept = record {
     port = a;
     after = b;
@@ -199,7 +206,7 @@ module _ (passes : LaneKeeper → LaneKeeper → Type 0) (p : Policy) (s : Spec)
 
 module _ {X : Type 0} (items : X → List (Outcome (Unit {0}))) (p : Policy) (n : ℕ) (t : ℤ) (th : ℕ) where
   abbrev pub Dumped : Queueing → X → Queueing → LaneKeeper → LaneKeeper → Type 0
-  Dumped a v b k l = (d : Room) × DumpsByTurn k d l × PostsEach PortDid p (posted_of n t th d.messages) a (items v) b
+  Dumped a v b k l = (d : Room) × DumpsByTurn k d l × PostsEach SwapDid p (posted_of n t th d.messages) a (items v) b
 
   pub keeps_dump : {E : Type 0} (a b : Queueing) (k l : LaneKeeper) (v w : BacktraceSeatView) (r : Result X E) → IsKeeperOf v k → IsKeeperOf w l
       → IfOk r (λ x. Dumped a x b k l) → IfOk r (λ x. Keeps v w (λ y z. Dumped a x b y z))
@@ -225,19 +232,19 @@ module _ {X : Type 0} (items : X → List (Outcome (Unit {0}))) (p : Policy) (n 
   lent_dump at l (Err e) lent left found others kept = kept
 
 -- a producer after a post on its port
-pub still_producer : {shared : Shared} {p : PassView Item no_note} {losses : SeatView} {backtrace_seats : List BacktraceSeatView}
+pub still_producer : {shared : Shared} {p : PassView Item block_note} {losses : SeatView} {backtrace_seats : List BacktraceSeatView}
     {limit : ℕ}
     {a b : Queueing} → IsProducer shared p losses backtrace_seats limit → a.ring.now ≡ shared.ring → a.book.now ≡ shared.book
-    → a.pass.now ≡ p → a.seat.now ≡ losses → LendsAlike a b → IsFit b → IsProducer shared b.pass.now b.seat.now backtrace_seats limit
+    → a.pass.now ≡ p → a.seat.now ≡ losses → LendsAlike a b → IsReadyPort b → IsProducer shared b.pass.now b.seat.now backtrace_seats limit
 still_producer {losses} {a} {b} old ring book pass seat alike fit =
-    let R : RingId TextLimit → Type 0 = λ r. IsPassOf r b.pass.now in
+    let R : SwapId TextLimit BlockFields → Type 0 = λ r. IsPassOf r.ring b.pass.now in
     let B : BookId → Type 0 = λ k. IsBookSeatOf k b.seat.now in
     let mine : IsAccountOf a.pass.now.known a.seat.now.known =
     subst (λ (s : SeatView). IsAccountOf a.pass.now.known s.known) (sym seat)
-    (subst (λ (v : PassView Item no_note). IsAccountOf v.known losses.known) (sym pass) old.account) in
+    (subst (λ (v : PassView Item block_note). IsAccountOf v.known losses.known) (sym pass) old.account) in
     record {
-      pass = subst R (ap (λ (x : Bor (RingId TextLimit)). x.now) alike.ring ∙ ring) fit.0;
-      losses_are = subst B (ap (λ (x : Bor BookId). x.now) alike.book ∙ book) fit.1;
+      pass = subst R (ap (λ (x : Bor (SwapId TextLimit BlockFields)). x.now) alike.ring ∙ ring) fit.0.0;
+      losses_are = subst B (ap (λ (x : Bor BookId). x.now) alike.book ∙ book) fit.0.1;
       each = old.each;
       kept = old.kept;
       queued = old.queued;
@@ -245,11 +252,19 @@ still_producer {losses} {a} {b} old ring book pass seat alike fit =
       account = alike.account mine;
     }
 
+-- and its blocks
+pub still_blocks : (shared : Shared) (a b : Queueing) → a.ring.now ≡ shared.ring → LendsAlike a b → IsReadyPort b
+    → HasBlocks shared b.hand.now b.spare.now
+still_blocks shared a b ring alike ready =
+    let P : SwapId TextLimit BlockFields → Type 0 =
+    λ r. IsThere (HoldsTo r.ring.limit) b.hand.now × IsThere (HoldsTo r.ring.limit) b.spare.now in
+    subst P (ap (λ (x : Bor (SwapId TextLimit BlockFields)). x.now) alike.ring ∙ ring) (ready.1, ready.0.2)
+
 -- the port of a producer after it
 pub port_after : (v : ProducerView) (a b : Queueing) → a.ring.now ≡ v.shared.ring → a.book.now ≡ v.shared.book → LendsAlike a b
     → b.pass.now ≡ v.pass → b.seat.now ≡ v.losses → IsPortOf v b
 port_after v a b ring book alike pass losses = record {
-  ring = ap (λ (x : Bor (RingId TextLimit)). x.now) alike.ring ∙ ring;
+  ring = ap (λ (x : Bor (SwapId TextLimit BlockFields)). x.now) alike.ring ∙ ring;
   book = ap (λ (x : Bor BookId). x.now) alike.book ∙ book;
   pass = pass;
   losses = losses;

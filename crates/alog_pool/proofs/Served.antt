@@ -26,7 +26,7 @@ use Rattle.alog_pool.specs.Working.{HasWorked, IsWorkOf, numbers_of}
 use Rattle.alog_pool.specs.declared.worker.Worker.{Worker}
 use Rattle.alog_pool.specs.declared.shared.Shared.{Shared}
 use Rattle.alog_pool.proofs.Rows.{place_lanes}
-use Rattle.alog_ring.specs.Kinds.{no_note}
+use Rattle.alog_registry.specs.BlockPort.{block_note}
 use Rattle.alog_ring.specs.Known.{Known}
 use Rattle.alog_sink.specs.declared.sink.Sink.{Sink}
 
@@ -66,16 +66,16 @@ rising_taken (suc n) [] all = tt
 rising_taken (suc n) (t ∷ ts) all = (above_taken t n ts all.0, rising_taken n ts all.1)
 
 -- the tickets that a worker took rise, and so do those that it recorded
-pub takes_rise : (most : ℕ) (k : Known Item no_note) (ts : List ℕ) (hs : ℕ) → IsWorkOf most k ts hs → IsRising (handed_out k.own)
+pub takes_rise : (most : ℕ) (k : Known Item block_note) (ts : List ℕ) (hs : ℕ) → IsWorkOf most k ts hs → IsRising (handed_out k.own)
 takes_rise most k ts hs w =
-    let H : Type 0 = List (Entry Item no_note) in
+    let H : Type 0 = List (Entry Item block_note) in
     let own : k.own ≡ own_of k.actor k.seen = w.faithful.own in
     let in_order : grabbed (own_of k.actor k.seen) ≡ handed_out (own_of k.actor k.seen) ++ [] =
     subst (λ (h : H). grabbed h ≡ handed_out h ++ []) own (w.grabs ∙ sym (append-nil (handed_out k.own))) in
-    let rise = (an_actors_tickets_rise Item no_note k.places k.first k.seen k.actor w.faithful.legal).1 [] in_order in
+    let rise = (an_actors_tickets_rise Item block_note k.places k.first k.seen k.actor w.faithful.legal).1 [] in_order in
     rising (handed_out k.own) (subst (λ (h : H). AllPairs (λ t u. t < u) (handed_out h)) (sym own) rise)
 
-tickets_rise : (most : ℕ) (k : Known Item no_note) (ts : List ℕ) (hs : ℕ) → IsWorkOf most k ts hs → IsRising ts
+tickets_rise : (most : ℕ) (k : Known Item block_note) (ts : List ℕ) (hs : ℕ) → IsWorkOf most k ts hs → IsRising ts
 tickets_rise most k ts hs w =
     subst (λ (l : List ℕ). IsRising l) (sym w.tickets_are)
     (rising_taken most (work_tickets (takes k.own)) (rising_works (takes k.own) (takes_rise most k ts hs w)))
@@ -108,7 +108,7 @@ module _ {S : Type 0} where
   module _ (shared : Shared) (lanes : List (LaneId (Sink S))) (most : ℕ) where
     served_one : (h k : Worker S) → Begins shared lanes most h → HasWorked h k → HasServed shared.loggers lanes most k
     served_one h k b w =
-        let none : takes h.pass.known.own ≡ [] = ap (λ (l : List (Entry Item no_note)). takes l) b.fresh.own in
+        let none : takes h.pass.known.own ≡ [] = ap (λ (l : List (Entry Item block_note)). takes l) b.fresh.own in
         let gots : takes k.pass.known.own ≡ w.turns.gots =
         w.turns.took ∙ ap (λ (l : List (ℕ × Item)). l ++ w.turns.gots) none in
         let dues : all_dues (arc_value h.shared).loggers w.turns.gots ≡ all_dues shared.loggers (takes k.pass.known.own) =

@@ -7,7 +7,7 @@ use Rattle.std.proofs.lemmas.List.Sums.{sum_by-cons, sum_by-append}
 use Rattle.alog_lane.specs.Seats as lane
 use Rattle.alog_msg.specs.declared.item.Item.{Item}
 use Rattle.alog_pool.specs.Back.{HasBack, HasSeatsBack}
-use Rattle.alog_ring.specs.Kinds.{no_note}
+use Rattle.alog_registry.specs.BlockPort.{block_note}
 use Rattle.alog_ring.specs.Known.{Known, Member}
 use Rattle.alog_ring.specs.Made.{IsFaithful}
 use Rattle.alog_ring.specs.Share.{Joins}
@@ -56,7 +56,7 @@ sum_mod f g (x ∷ xs) all =
     ∙ mod-add-mod (g x) (2 ^ 64) (sum_by g xs)
     ∙ ap (λ k. k % 2 ^ 64) two
 
-pub back_starts : (k : Known Item no_note) → IsFaithful k → HasBack k k []
+pub back_starts : (k : Known Item block_note) → IsFaithful k → HasBack k k []
 back_starts k faithful = record {
   actor = refl;
   own = refl;
@@ -66,20 +66,20 @@ back_starts k faithful = record {
   faithful = faithful;
 }
 
-pub back_one : {j k p l : Known Item no_note} {ms : List (Member Item no_note)} → HasBack j k ms → Joins k p l → p.joined ≡ []
+pub back_one : {j k p l : Known Item block_note} {ms : List (Member Item block_note)} → HasBack j k ms → Joins k p l → p.joined ≡ []
     → p.parts ≡ 1 → HasBack j l (ms ++ record { actor = p.actor; own = p.own } ∷ [])
 back_one {j} {k} {p} {l} {ms} b joins none one =
-    let m : Member Item no_note = record { actor = p.actor; own = p.own } in
-    let parts : l.parts ≡ k.parts + p.parts = ap (λ (z : Known Item no_note). z.parts) joins.known in
+    let m : Member Item block_note = record { actor = p.actor; own = p.own } in
+    let parts : l.parts ≡ k.parts + p.parts = ap (λ (z : Known Item block_note). z.parts) joins.known in
     let few = b.parts in
     let more : length (ms ++ m ∷ []) ≡ length ms + 1 = length-append ms (m ∷ []) in
     record {
-      actor = ap (λ (z : Known Item no_note). z.actor) joins.known ∙ b.actor;
-      own = ap (λ (z : Known Item no_note). z.own) joins.known ∙ b.own;
-      joined = ap (λ (z : Known Item no_note). z.joined) joins.known
+      actor = ap (λ (z : Known Item block_note). z.actor) joins.known ∙ b.actor;
+      own = ap (λ (z : Known Item block_note). z.own) joins.known ∙ b.own;
+      joined = ap (λ (z : Known Item block_note). z.joined) joins.known
           ∙ (λ i. b.joined i ++ m ∷ none i) ∙ append_assoc j.joined ms (m ∷ []);
       parts = omega (arith, parts, few, one, more);
-      seen = subst (λ (z : Known Item no_note). IsPrefix j.seen z.seen) (sym joins.known)
+      seen = subst (λ (z : Known Item block_note). IsPrefix j.seen z.seen) (sym joins.known)
           (prefix_through j.seen k.seen joins.seen b.seen joins.longer.first);
       faithful = joins.faithful;
     }

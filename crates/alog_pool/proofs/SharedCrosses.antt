@@ -6,24 +6,28 @@ use denote.Struct.Declared.{shape}
 use Rattle.std.proofs.Crossing.{Vec-send, Arc-send}
 use Rattle.std.specs.contracts.alloc.Global as Global
 use Rattle.std.specs.contracts.impls.GlobalAllocator.TheImpl.{ghosts as alloc_ghosts}
+use Rattle.std.specs.contracts.option.Option as Option
 use Rattle.std.specs.contracts.result.Result as Result
 use Rattle.std.specs.contracts.sync.Arc as Arc
 use Rattle.alog_format.specs.contracts.line_buf.LineBuf as LineBuf
 use Rattle.alog_lane.proofs.SharedCrosses.{seat_send, lane_send, lane_sync}
 use Rattle.alog_lane.specs.contracts.lane.Lane as Lane
 use Rattle.alog_lane.specs.contracts.seat.LaneSeat as LaneSeat
-use Rattle.alog_msg.proofs.SharedCrosses.{item_send, item_sync}
+use Rattle.alog_msg.proofs.SharedCrosses.{block_send, block_sync}
+use Rattle.alog_msg.specs.contracts.block.Block as Block
 use Rattle.alog_msg.specs.contracts.item.Item as Item
 use Rattle.alog_policy.proofs.SharedCrosses.{book_seat_send, book_send, book_sync}
 use Rattle.alog_registry.proofs.SharedCrosses.{backtrace_send, loggers_send, loggers_sync, scratch_send}
 use Rattle.alog_registry.specs.contracts.backtrace.Backtrace as Backtrace
 use Rattle.alog_registry.specs.contracts.limit.TextLimit as TextLimit
-use Rattle.alog_registry.specs.contracts.limit.TextLimitLimitItem.TheImpl.{ghosts as limit_ghosts}
+use Rattle.alog_registry.specs.contracts.limit.TextLimitLimitBlock.TheImpl.{ghosts as limit_ghosts}
+use Rattle.alog_registry.specs.contracts.block_port.Contents as Contents
+use Rattle.alog_registry.specs.contracts.block_port.ContentsShowsBlockItem.TheImpl.{ghosts as shows_ghosts}
 use Rattle.alog_registry.specs.contracts.turn.BacktraceItem as KeepItem
 use Rattle.alog_registry.specs.contracts.turn.BacktraceReply as KeepReply
 use Rattle.alog_registry.specs.contracts.turn.BacktraceScratch as Scratch
 use Rattle.alog_registry.specs.contracts.turn.BacktraceTurn.TheImpl.{ghosts as keep_ghosts}
-use Rattle.alog_ring.proofs.SharedCrosses.{pass_send, ring_send, ring_sync}
+use Rattle.alog_ring.proofs.SharedCrosses.{swap_pass_send, swap_ring_send, swap_ring_sync}
 use Rattle.alog_sink.proofs.SharedCrosses.{line_send, sink_send}
 use Rattle.alog_sink.specs.contracts.leaf.SinkError as SinkError
 use Rattle.alog_sink.specs.contracts.sink.Sink as Sink
@@ -41,13 +45,13 @@ use Rattle.alog_pool.specs.contracts.shared.Shared as Shared
 
 pub shared_send : IsSend Shared.the_row
 shared_send = recorded_send (Shared.the_field).row _ _ (Shared.the_type).to_one (struct_send (shape Shared.the_type) (
-  ring_send Item.the_row TextLimit.the_row limit_ghosts item_send,
+  swap_ring_send Block.the_row Item.the_row Contents.the_row TextLimit.the_row shows_ghosts limit_ghosts block_send,
   (book_send, (loggers_send, tt)),
 ))
 
 pub shared_sync : IsSync Shared.the_row
 shared_sync = recorded_sync (Shared.the_field).row _ _ (Shared.the_type).to_one (struct_sync (shape Shared.the_type) (
-  ring_sync Item.the_row TextLimit.the_row limit_ghosts item_send item_sync,
+  swap_ring_sync Block.the_row Item.the_row Contents.the_row TextLimit.the_row shows_ghosts limit_ghosts block_send block_sync,
   (book_sync, (loggers_sync, tt)),
 ))
 
@@ -72,11 +76,23 @@ backtrace_seat_inside_send = recorded_send (BacktraceSeatInside.the_field).row _
 pub backtrace_seat_send : IsSend BacktraceSeat.the_row
 backtrace_seat_send = view_send _ _ _ _ _ backtrace_seat_inside_send
 
+option_block_send : IsSend (Option.the_field Block.the_row).row
+option_block_send = search (sendable, block_send) depth 9
+
 producer_inside_send : IsSend ProducerInside.the_row
 producer_inside_send = recorded_send (ProducerInside.the_field).row _ _ (ProducerInside.the_type).to_one (struct_send
     (shape ProducerInside.the_type) (
       arc_shared_send,
-      (pass_send Item.the_row item_send, (book_seat_send, (Vec-send BacktraceSeat.the_row backtrace_seat_send, (search sendable, (search sendable, tt))))),
+      (
+        swap_pass_send Block.the_row Item.the_row block_send,
+        (
+          option_block_send,
+          (
+            option_block_send,
+            (book_seat_send, (Vec-send BacktraceSeat.the_row backtrace_seat_send, (search sendable, (search sendable, tt)))),
+          ),
+        ),
+      ),
     ))
 
 pub producer_send : IsSend Producer.the_row
@@ -109,18 +125,21 @@ module _ (S : RattleType) (g : Ghosts S.Denot) where
       (shape (Worker.the_type S g)) (
         arc_shared_send,
         (
-          pass_send Item.the_row item_send,
+          swap_pass_send Block.the_row Item.the_row block_send,
           (
-            Vec-send (SinkSeat.the_row S g) (sink_seat_send s),
+            block_send,
             (
-              line_send,
+              Vec-send (SinkSeat.the_row S g) (sink_seat_send s),
               (
-                search sendable,
+                line_send,
                 (
                   search sendable,
                   (
-                    Vec-send u64 (search sendable),
-                    (search sendable, (search sendable, tt)),
+                    search sendable,
+                    (
+                      Vec-send u64 (search sendable),
+                      (search sendable, (search sendable, tt)),
+                    ),
                   ),
                 ),
               ),

@@ -28,17 +28,17 @@ use Rattle.alog_pool.proofs.Halting.{no_work_in_stops}
 use Rattle.alog_pool.proofs.Served.{all_handled, one_ended, put_nothing}
 use Rattle.alog_pool.proofs.SharedSharing.{each2_length}
 use Rattle.alog_pool.proofs.Worked.{moved_gots, moved_puts}
-use Rattle.alog_ring.specs.Kinds.{no_note}
+use Rattle.alog_registry.specs.BlockPort.{block_note}
 use Rattle.alog_ring.specs.Known.{Known, Member}
 use Rattle.alog_ring.specs.Share.{IsWhole}
 use Rattle.alog_ring.specs.declared.TheConstants.{ALL_PARTS}
 use Rattle.alog_ring.proofs.SharedLists.{prefix_through}
 
 abbrev Deed : Type 0
-Deed = Entry Item no_note
+Deed = Entry Item block_note
 
 abbrev One : Type 0
-One = Member Item no_note
+One = Member Item block_note
 
 no_stops : (ps : List ProducerView) → AreAccounts ps → AllByRecursion PutNoStop (map pass_member ps)
 no_stops [] all = tt
@@ -66,7 +66,7 @@ two_mods a b m n first second =
     ∙ ap (λ k. (k + m) % 2 ^ 64) second ∙ mod-add-mod n (2 ^ 64) m ∙ ap (λ k. k % 2 ^ 64) back
 
 -- The pool's pass before any came back, then when the producers had, when stops were posted, and when the workers had come back.
-module _ {S : Type 0} (a j k l : Known Item no_note) (producers : List ProducerView) (starts crew : List (Worker S)) (count : ℕ)
+module _ {S : Type 0} (a j k l : Known Item block_note) (producers : List ProducerView) (starts crew : List (Worker S)) (count : ℕ)
     (own : a.own ≡ []) (none : a.joined ≡ []) (gather : HasBack a j (map pass_member producers)) (accounts : AreAccounts producers)
     (stops : PutsStops j k count) (collect : HasBack k l (map (λ (h : Worker S). worker_member h) crew))
     (worked : Each2 HasWorked starts crew) (some : 1 ≤ length starts) where

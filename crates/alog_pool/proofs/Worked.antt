@@ -14,20 +14,20 @@ use Rattle.alog_pool.proofs.Moves.{claims-append, takes-append, grabbed-append, 
 use Rattle.alog_pool.proofs.Turning.{flush_servable}
 use Rattle.alog_registry.specs.Limit.{KeepsTo}
 use Rattle.alog_ring.specs.Known.{Known}
-use Rattle.alog_ring.specs.Kinds.{no_note}
+use Rattle.alog_registry.specs.BlockPort.{block_note}
 
 -- what a pass put in and took out, after a move
-pub moved_puts : (k l : Known Item no_note) (p g : List (ℕ × Item)) → Moved k l p g → claims l.own ≡ claims k.own ++ p
-moved_puts k l p g m = ap (λ (h : List (Entry Item no_note)). claims h) m.made.own ∙ claims-append k.own m.entries
+pub moved_puts : (k l : Known Item block_note) (p g : List (ℕ × Item)) → Moved k l p g → claims l.own ≡ claims k.own ++ p
+moved_puts k l p g m = ap (λ (h : List (Entry Item block_note)). claims h) m.made.own ∙ claims-append k.own m.entries
     ∙ ap (λ (q : List (ℕ × Item)). claims k.own ++ q) m.puts_are
 
-pub moved_gots : (k l : Known Item no_note) (p g : List (ℕ × Item)) → Moved k l p g → takes l.own ≡ takes k.own ++ g
-moved_gots k l p g m = ap (λ (h : List (Entry Item no_note)). takes h) m.made.own ∙ takes-append k.own m.entries
+pub moved_gots : (k l : Known Item block_note) (p g : List (ℕ × Item)) → Moved k l p g → takes l.own ≡ takes k.own ++ g
+moved_gots k l p g m = ap (λ (h : List (Entry Item block_note)). takes h) m.made.own ∙ takes-append k.own m.entries
     ∙ ap (λ (q : List (ℕ × Item)). takes k.own ++ q) m.gots_are
 
-pub moved_grabs : (k l : Known Item no_note) (p g : List (ℕ × Item)) → Moved k l p g
+pub moved_grabs : (k l : Known Item block_note) (p g : List (ℕ × Item)) → Moved k l p g
     → grabbed l.own ≡ grabbed k.own ++ map (λ (q : ℕ × Item). q.0) g
-moved_grabs k l p g m = ap (λ (h : List (Entry Item no_note)). grabbed h) m.made.own ∙ grabbed-append k.own m.entries
+moved_grabs k l p g m = ap (λ (h : List (Entry Item block_note)). grabbed h) m.made.own ∙ grabbed-append k.own m.entries
     ∙ ap (λ (q : List ℕ). grabbed k.own ++ q) m.grabs_are
 
 -- the first of a list that had its first taken already
@@ -59,7 +59,7 @@ no_stop t (Flush n) other = refl
 no_stop t Stop other = absurd (other refl)
 
 -- the account after a move that took these
-pub work_after : {most : ℕ} {k l : Known Item no_note} {g : List (ℕ × Item)} {tickets : List ℕ} {handled : ℕ} {ts : List ℕ} {hs : ℕ}
+pub work_after : {most : ℕ} {k l : Known Item block_note} {g : List (ℕ × Item)} {tickets : List ℕ} {handled : ℕ} {ts : List ℕ} {hs : ℕ}
     → IsWorkOf most k ts hs → Moved k l [] g → tickets ≡ take most (work_tickets (takes k.own ++ g))
     → handled ≡ weigh of_work (takes k.own ++ g) % 2 ^ 64 → IsWorkOf most l tickets handled
 work_after {most} {k} {l} {g} w m tickets_are handled_is =
@@ -75,12 +75,12 @@ work_after {most} {k} {l} {g} w m tickets_are handled_is =
       handled_is = handled_is ∙ ap (λ (q : List (ℕ × Item)). weigh of_work q % 2 ^ 64) (sym gots);
     }
 
-stops_after : (k l : Known Item no_note) (g : List (ℕ × Item)) → Moved k l [] g
+stops_after : (k l : Known Item block_note) (g : List (ℕ × Item)) → Moved k l [] g
     → taken of_stops l.own ≡ taken of_stops k.own + weigh of_stops g
 stops_after k l g m = ap (λ (q : List (ℕ × Item)). weigh of_stops q) (moved_gots k l [] g m) ∙ weigh-append of_stops (takes k.own) g
 
 -- it took nothing
-pub took_nothing : (most : ℕ) (k l : Known Item no_note) (ts : List ℕ) (hs : ℕ) → IsWorkOf most k ts hs → taken of_stops k.own ≡ 0
+pub took_nothing : (most : ℕ) (k l : Known Item block_note) (ts : List ℕ) (hs : ℕ) → IsWorkOf most k ts hs → taken of_stops k.own ≡ 0
     → Moved k l [] [] → IsWorkOf most l ts hs × (taken of_stops l.own ≡ 0)
 took_nothing most k l ts hs w none m =
     let same : takes k.own ++ [] ≡ takes k.own = append-nil (takes k.own) in (
@@ -90,7 +90,7 @@ took_nothing most k l ts hs w none m =
     )
 
 -- it took a text or a flush
-pub took_work : {most : ℕ} {k l : Known Item no_note} {t : ℕ} {x : Item} {ts : List ℕ} {hs : ℕ} → IsWorkOf most k ts hs
+pub took_work : {most : ℕ} {k l : Known Item block_note} {t : ℕ} {x : Item} {ts : List ℕ} {hs : ℕ} → IsWorkOf most k ts hs
     → taken of_stops k.own ≡ 0 → Moved k l [] ((t, x) ∷ []) → x ≢ Stop
     → IsWorkOf most l (take most (ts ++ t ∷ [])) ((hs + 1) % 2 ^ 64) × (taken of_stops l.own ≡ 0)
 took_work {most} {k} {l} {t} {x} {ts} {hs} w none m other =
@@ -105,7 +105,7 @@ took_work {most} {k} {l} {t} {x} {ts} {hs} w none m other =
     )
 
 -- it took a stop
-pub took_stop : {most : ℕ} {k l : Known Item no_note} {t : ℕ} {x : Item} {ts : List ℕ} {hs : ℕ} → IsWorkOf most k ts hs
+pub took_stop : {most : ℕ} {k l : Known Item block_note} {t : ℕ} {x : Item} {ts : List ℕ} {hs : ℕ} → IsWorkOf most k ts hs
     → taken of_stops k.own ≡ 0 → Moved k l [] ((t, x) ∷ []) → x ≡ Stop → IsWorkOf most l ts hs × (taken of_stops l.own ≡ 1)
 took_stop {most} {k} {l} {t} {ts} {hs} w none moved is =
     let m : Moved k l [] ((t, Stop) ∷ []) = subst (λ (z : Item). Moved k l [] ((t, z) ∷ [])) is moved in
@@ -118,7 +118,7 @@ took_stop {most} {k} {l} {t} {ts} {hs} w none moved is =
     )
 
 -- no more tickets than are asked for
-pub few_tickets : (most : ℕ) (k : Known Item no_note) (ts : List ℕ) (hs : ℕ) → IsWorkOf most k ts hs → length ts ≤ most
+pub few_tickets : (most : ℕ) (k : Known Item block_note) (ts : List ℕ) (hs : ℕ) → IsWorkOf most k ts hs → length ts ≤ most
 few_tickets most k ts hs w =
     let e : length ts ≡ length (take most (work_tickets (takes k.own))) = ap (λ (l : List ℕ). length l) w.tickets_are in
     let f = length-take most (work_tickets (takes k.own)) in omega (arith, e, f)

@@ -1,5 +1,5 @@
 -- A pool of any number of workers: the turns on a sink are those of all workers, merged.
-use Rattle.std.proofs.Common.{◌≡◌, ◌⊎◌, ℕ, ◌+◌, ◌%◌, ◌^◌, Bool, cond, List, [], ◌∷◌, ◌++◌, map, take, length, inl, inr, refl, sym, ap, subst, ◌∙◌, arith}
+use Rattle.std.proofs.Common.{◌≡◌, ◌⊎◌, ℕ, ◌+◌, ◌%◌, ◌^◌, Bool, cond, List, [], ◌∷◌, map, take, inl, inr, refl, sym, ap, subst, ◌∙◌, arith}
 use Rattle.std.specs.List.{AllByRecursion, sum_by}
 use Rattle.std.proofs.lemmas.List.{length-map}
 use Rattle.std.proofs.lemmas.List.Sums.{sum_by-cons}
@@ -19,7 +19,7 @@ use Rattle.alog_pool.specs.Pool.{lanes_of}
 use Rattle.alog_pool.specs.Posted.{tickets_of}
 use Rattle.alog_pool.specs.Report.{AreClosed, HasServed, IsClosed, IsRising, MadeAll}
 use Rattle.alog_pool.specs.Rows.{heads, tails}
-use Rattle.alog_pool.specs.Workers.{AllWrite, AreAllWritten, IsMerged, IsNext, WorkersWriteWhatWasPosted}
+use Rattle.alog_pool.specs.Workers.{AreAllWritten, IsMerged, IsNext, WorkersWriteWhatWasPosted}
 use Rattle.alog_pool.specs.declared.worker.Worker.{Worker}
 use Rattle.alog_pool.proofs.SharedBack.{sum_of_map}
 use Rattle.alog_pool.proofs.Held.{Turn, texts_held}

@@ -6,7 +6,7 @@ use Rattle.alog_core.specs.Accounts.{claims, takes, grabbed}
 use Rattle.alog_msg.specs.declared.item.Item.{Item}
 use Rattle.alog_msg.specs.declared.item.Item.TheVariants.{Text, Flush, Stop}
 use Rattle.alog_ring.specs.Known.{Known}
-use Rattle.alog_ring.specs.Kinds.{no_note}
+use Rattle.alog_registry.specs.BlockPort.{block_note}
 use Rattle.alog_ring.specs.Made.{Made}
 
 -- Weights of tickets and items: each counts one, each text and flush does, each stop does.
@@ -36,14 +36,14 @@ work_tickets (p ∷ ps) = if work p.1 == 1 then p.0 ∷ work_tickets ps else wor
 
 -- The pass made entries, by which it put in exactly these tickets and items, and took out exactly these, each of which it took
 -- before it grabbed the next.
-pub record Moved (old new : Known Item no_note) (puts gots : List (ℕ × Item)) : Type 0 where
-  pub entries : List (Entry Item no_note)
+pub record Moved (old new : Known Item block_note) (puts gots : List (ℕ × Item)) : Type 0 where
+  pub entries : List (Entry Item block_note)
   pub made : Made old new entries
   pub puts_are : claims entries ≡ puts
   pub gots_are : takes entries ≡ gots
   pub grabs_are : grabbed entries ≡ map (λ p. p.0) gots
 
 -- among these entries is an answer that no ticket is left
-abbrev pub SawEnd : List (Entry Item no_note) → Type 0
+abbrev pub SawEnd : List (Entry Item block_note) → Type 0
 SawEnd [] = ⊥
 SawEnd (x ∷ h) = (x.event ≡ Idle last) ⊎ SawEnd h

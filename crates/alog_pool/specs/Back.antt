@@ -11,18 +11,18 @@ use Rattle.alog_pool.specs.SinkSeat.{Answer, SinkSeatView}
 use Rattle.alog_pool.specs.Lending.{IsAccountOf}
 use Rattle.alog_pool.specs.Producer.{ProducerView}
 use Rattle.alog_pool.specs.declared.worker.Worker.{Worker}
-use Rattle.alog_ring.specs.Kinds.{no_note}
+use Rattle.alog_registry.specs.BlockPort.{block_note}
 use Rattle.alog_ring.specs.Known.{Known, Member}
 use Rattle.alog_ring.specs.Made.{IsFaithful}
 
 -- what a pool gets back: a producer's pass and its seat of the loss book, a worker's pass, and a place's seat
-abbrev pub pass_member : ProducerView → Member Item no_note
+abbrev pub pass_member : ProducerView → Member Item block_note
 pass_member p = record { actor = p.pass.known.actor; own = p.pass.known.own }
 
 abbrev pub loss_member : ProducerView → lane.Member Add
 loss_member p = record { seat = p.losses.known.seat; own = p.losses.known.own }
 
-abbrev pub worker_member : {S : Type 0} → Worker S → Member Item no_note
+abbrev pub worker_member : {S : Type 0} → Worker S → Member Item block_note
 worker_member h = record { actor = h.pass.known.actor; own = h.pass.known.own }
 
 abbrev pub seat_member : {S : Type 0} → SinkSeatView S → lane.Member (Turned Item Buffer Answer)
@@ -33,7 +33,7 @@ abbrev pub AreAccounts : List ProducerView → Type 0
 AreAccounts producers = AllByRecursion (λ (p : ProducerView). IsAccountOf p.pass.known p.losses.known) producers
 
 -- These members came back to the pass, each with one part. It made nothing itself.
-pub record HasBack (old new : Known Item no_note) (members : List (Member Item no_note)) : Type 0 where
+pub record HasBack (old new : Known Item block_note) (members : List (Member Item block_note)) : Type 0 where
   pub actor : new.actor ≡ old.actor
   pub own : new.own ≡ old.own
   pub joined : new.joined ≡ old.joined ++ members

@@ -11,7 +11,7 @@ use Rattle.alog_pool.specs.Places.{Each2}
 use Rattle.alog_pool.specs.Rows.{heads, tails}
 use Rattle.alog_pool.specs.Working.{HasWorked}
 use Rattle.alog_pool.specs.declared.worker.Worker.{Worker}
-use Rattle.alog_ring.specs.Kinds.{no_note}
+use Rattle.alog_registry.specs.BlockPort.{block_note}
 use Rattle.alog_ring.specs.Known.{Known}
 use Rattle.alog_sink.specs.Files.{Files}
 use Rattle.alog_sink.specs.Sinks.{Turns}
@@ -38,7 +38,7 @@ HaveBack _ _ rows = ⊥
 
 -- The workers that began with these workers came back: the pass has their passes, the places have theirs, their tickets are listed, and
 -- what they handled is summed.
-pub record Collects {S : Type 0} (starts : List (Worker S)) (old new : Known Item no_note) (sink_seats back : List (SinkSeatView S))
+pub record Collects {S : Type 0} (starts : List (Worker S)) (old new : Known Item block_note) (sink_seats back : List (SinkSeatView S))
     (tickets : List (Vec ℕ Global)) (handled : ℕ) : Type 0 where
   pub crew : List (Worker S)
   pub worked : Each2 HasWorked starts crew

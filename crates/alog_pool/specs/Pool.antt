@@ -17,11 +17,12 @@ use Rattle.alog_pool.specs.declared.worker.Worker.{Worker}
 use Rattle.alog_pool.specs.declared.pool.TheConstants.{WORKERS_MAX, PRODUCERS_MAX}
 use Rattle.alog_pool.specs.declared.setup.Setup.{Setup}
 use Rattle.alog_pool.specs.declared.shared.Shared.{Shared}
-use Rattle.alog_ring.specs.Kinds.{no_note}
+use Rattle.alog_registry.specs.BlockPort.{block_note}
 use Rattle.alog_ring.specs.Known.{PassView, IsPassOf, RingId, first_known}
 use Rattle.alog_ring.specs.Made.{IsFaithful}
 use Rattle.alog_ring.specs.declared.TheConstants.{ALL_PARTS}
 use Rattle.alog_registry.specs.Backtrace.{Room, room_for}
+use Rattle.alog_registry.specs.Limit.{HoldsTo}
 use Rattle.alog_registry.specs.declared.limit.TextLimit.{TextLimit}
 use Rattle.alog_registry.specs.declared.logger.Logger.{Logger}
 use Rattle.alog_sink.specs.Sinks.{Suits}
@@ -32,7 +33,7 @@ use Rattle.alog_sink.specs.declared.sink.Sink.{Sink}
 -- tells, and what its workers began with.
 pub record PoolView (S : Type 0) : Type 0 where
   pub shared : Shared
-  pub pass : PassView Item no_note
+  pub pass : PassView Item block_note
   pub losses : book.SeatView
   pub sink_seats : List (SinkSeatView S)
   pub backtrace_seats : List BacktraceSeatView
@@ -66,11 +67,11 @@ pub record IsIdleSeat (k : BacktraceSeatView) : Type 0 where
 
 -- Where so many producers were made, and so many workers hired, each of which got one part of all that it uses: the parts that
 -- are left, and those, are all. The pool itself made nothing with its own.
-pub record HasLeft {S : Type 0} (shared : Shared) (pass : PassView Item no_note) (losses : book.SeatView)
+pub record HasLeft {S : Type 0} (shared : Shared) (pass : PassView Item block_note) (losses : book.SeatView)
     (sink_seats : List (SinkSeatView S)) (backtrace_seats : List BacktraceSeatView) (made hired limit : ℕ) : Type 0 where
-  pub pass_is : IsPassOf shared.ring pass
+  pub pass_is : IsPassOf shared.ring.ring pass
   pub pass_faithful : IsFaithful pass.known
-  pub some_places : 1 ≤ shared.ring.places
+  pub some_places : 1 ≤ shared.ring.ring.places
   pub pass_parts : pass.known.parts + (made + hired) ≡ ALL_PARTS
   pub losses_are : book.IsSeatOf shared.book losses
   pub losses_parts : losses.known.parts + made ≡ ALL_SEATS
@@ -79,7 +80,7 @@ pub record HasLeft {S : Type 0} (shared : Shared) (pass : PassView Item no_note)
   pub backtrace_seat_parts : AllByRecursion (λ (k : BacktraceSeatView). k.seat.known.parts + made ≡ ALL_SEATS) backtrace_seats
   pub each : length backtrace_seats ≡ length shared.loggers
   pub kept : AreBacktraceSeats limit backtrace_seats
-  pub queued : shared.ring.limit.most ≡ limit
+  pub queued : shared.ring.ring.limit.most ≡ limit
   pub limits : (TEXT_LIMIT_MIN ≤ limit) × (limit ≤ TEXT_LIMIT_MAX)
   pub few : (made ≤ PRODUCERS_MAX) × (hired ≤ WORKERS_MAX)
   pub pass_unused : (pass.known.own ≡ []) × (pass.known.joined ≡ [])
@@ -97,7 +98,7 @@ pub record Begins {S : Type 0} (shared : Shared) (lanes : List (LaneId (Sink S))
   pub seats : AllByRecursion IsNew h.sink_seats.items
 
 -- There is a worker, and each began so.
-pub record IsPool {S : Type 0} (shared : Shared) (pass : PassView Item no_note) (losses : book.SeatView)
+pub record IsPool {S : Type 0} (shared : Shared) (pass : PassView Item block_note) (losses : book.SeatView)
     (sink_seats : List (SinkSeatView S)) (backtrace_seats : List BacktraceSeatView) (made limit most : ℕ) (crew : List (Worker S)) : Type 0 where
   pub left : HasLeft shared pass losses sink_seats backtrace_seats made (length crew) limit
   pub some : 1 ≤ length crew
@@ -117,18 +118,23 @@ module _ {S : Type 0} where
   abbrev pub HasWorkers : Setup S → Type 0
   HasWorkers setup = (1 ≤ setup.workers) × (setup.workers ≤ WORKERS_MAX)
 
-  -- what is left of a parts when so many workers are hired
+  -- what is left of the parts when so many workers are hired
   abbrev pub Stands : ℕ → PoolParts S → Type 0
   Stands n g = HasLeft (arc_value g.shared) g.pass g.losses g.sink_seats.items g.backtrace_seats.items 0 n g.text_limit
 
-  -- the parts's pass is one of its queue
+  -- the pass is one of the queue
   abbrev pub HasQueue : PoolParts S → Type 0
-  HasQueue g = IsPassOf (arc_value g.shared).ring g.pass × IsFaithful g.pass.known
+  HasQueue g = IsPassOf (arc_value g.shared).ring.ring g.pass × IsFaithful g.pass.known
+
+  -- and its block is one of its queue
+  abbrev pub HasBlock : PoolParts S → Type 0
+  HasBlock g = HoldsTo (arc_value g.shared).ring.ring.limit g.block
 
   -- The parts of a pool over this ring: its loggers are those of the setup, and its places are first ones at the sinks, in order.
   pub record AreParts (setup : Setup S) (ring : RingId TextLimit) (g : PoolParts S) : Type 0 where
     pub stands : Stands 0 g
-    pub ring_is : (arc_value g.shared).ring ≡ ring
+    pub block : HasBlock g
+    pub ring_is : (arc_value g.shared).ring.ring ≡ ring
     pub loggers : (arc_value g.shared).loggers ≡ setup.loggers
     pub pass : g.pass.known ≡ first_known ring.places ring.first
     pub sinks : map (λ (l : LaneId (Sink S)). l.first) (lanes_of g.sink_seats.items) ≡ setup.sinks.items
@@ -137,7 +143,7 @@ module _ {S : Type 0} where
     pub most : g.tickets_max ≡ setup.tickets_max
     pub limit : g.text_limit ≡ setup.text_limit
 
-  -- A worker was hired: it begins with a part of all that it uses, and the parts stands without those.
+  -- A worker was hired: it begins with a part of all that it uses, and the parts stand without those.
   pub record Hires (n : ℕ) (old new : PoolParts S) (h : Worker S) : Type 0 where
     pub stands : Stands (n + 1) new
     pub shared : arc_value new.shared ≡ arc_value old.shared
@@ -146,7 +152,7 @@ module _ {S : Type 0} where
     pub kept : (new.tickets_max ≡ old.tickets_max) × (new.text_limit ≡ old.text_limit) × (new.workers ≡ old.workers)
     pub begins : Begins (arc_value old.shared) (lanes_of old.sink_seats.items) old.tickets_max h
 
-  -- All its workers were hired, numbered from 0 on, and the parts stands without their parts.
+  -- All its workers were hired, numbered from 0 on, and the parts stand without theirs.
   pub record Crews (old new : PoolParts S) (crew : List (Worker S)) : Type 0 where
     pub stands : Stands (length crew) new
     pub shared : arc_value new.shared ≡ arc_value old.shared
@@ -157,7 +163,7 @@ module _ {S : Type 0} where
     pub all : length crew ≡ old.workers
     pub numbers : numbers_of crew ≡ range_with_len 0 old.workers
 
-  -- The pool stands on this parts, with as many workers as it wants, numbered from 0 on, and made no producer.
+  -- The pool stands on these parts, with as many workers as it wants, numbered from 0 on, and made no producer.
   pub record Staffs (g : PoolParts S) (p : PoolView S) : Type 0 where
     pub shared : p.shared ≡ arc_value g.shared
     pub lanes : lanes_of p.sink_seats ≡ lanes_of g.sink_seats.items
@@ -171,7 +177,7 @@ module _ {S : Type 0} where
   -- A pool of this setup: its queue is as large and begins at the ticket that were asked for, its loggers and its sinks are those that
   -- it was given, in their order, as many workers work for it, numbered from 0 on, and it made no producer.
   pub record Starts (setup : Setup S) (p : PoolView S) : Type 0 where
-    pub queue : (p.shared.ring.places ≡ setup.queue) × (p.shared.ring.first ≡ setup.first)
+    pub queue : (p.shared.ring.ring.places ≡ setup.queue) × (p.shared.ring.ring.first ≡ setup.first)
     pub loggers : p.shared.loggers ≡ setup.loggers
     pub sinks : map (λ (l : LaneId (Sink S)). l.first) (lanes_of p.sink_seats) ≡ setup.sinks.items
     pub rooms : map (λ (k : BacktraceSeatView). k.lane.first) p.backtrace_seats ≡ rooms_of setup

@@ -5,7 +5,7 @@ use Rattle.alog_core.specs.Accounts.{claims, issued, takes}
 use Rattle.alog_msg.specs.declared.item.Item.{Item}
 use Rattle.alog_msg.specs.declared.item.Item.TheVariants.{Stop, Text}
 use Rattle.alog_msg.specs.declared.message.Message.{Message}
-use Rattle.alog_policy.specs.Port.{PortDid}
+use Rattle.alog_policy.specs.SwapPort.{SwapDid}
 use Rattle.alog_policy.specs.declared.policy.Outcome.TheVariants.{Posted}
 use Rattle.alog_policy.specs.declared.policy.Policy.{Policy}
 use Rattle.alog_policy.specs.declared.policy.Policy.TheVariants.{OverrunOldest}
@@ -43,6 +43,6 @@ PutsTextIn p old t m new = (claims new.pass.known.own ≡ claims old.pass.known.
 -- A log, with waiting or without, that answered that its message was posted under a ticket put exactly this text in, under that ticket.
 abbrev pub PostedLogsPutTheirTextIn : Type 0
 PostedLogsPutTheirTextIn = (old new : ProducerView) (number : ℕ) (p : Policy) (s : Spec) (m : Message) (t k : ℕ) (kept : Bool)
-    → Lent old new number (λ a y b z. Logs PortDid KeepsByTurn NeverPasses p s m a y (Logged (Posted t k) kept) b z)
-    ⊎ Lent old new number (λ a y b z. Logs PortDid KeepsByTurn Passes p s m a y (Logged (Posted t k) kept) b z)
+    → Lent old new number (λ a y b z. Logs SwapDid KeepsByTurn NeverPasses p s m a y (Logged (Posted t k) kept) b z)
+    ⊎ Lent old new number (λ a y b z. Logs SwapDid KeepsByTurn Passes p s m a y (Logged (Posted t k) kept) b z)
     → PutsTextIn p old t m new

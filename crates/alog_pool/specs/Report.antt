@@ -24,7 +24,7 @@ use Rattle.alog_pool.specs.declared.worker.Worker.{Worker}
 use Rattle.alog_pool.specs.declared.report.Report.{Report}
 use Rattle.alog_pool.specs.declared.report.Totals.{Totals}
 use Rattle.alog_registry.specs.declared.logger.Logger.{Logger}
-use Rattle.alog_ring.specs.Kinds.{no_note}
+use Rattle.alog_registry.specs.BlockPort.{block_note}
 use Rattle.alog_ring.specs.Known.{Known}
 use Rattle.alog_ring.specs.Share.{IsWhole}
 use Rattle.alog_sink.specs.Files.{Files}
@@ -113,9 +113,9 @@ module _ {S : Type 0} (tells : Bool) (files : S → Files) (failures : S → ℕ
     pub count : length crew ≡ length pool.crew
     pub numbers : numbers_of crew ≡ numbers_of pool.crew
     pub served : AllByRecursion (HasServed pool.shared.loggers (lanes_of pool.sink_seats) pool.most) crew
-    pub end : Known Item no_note
+    pub end : Known Item block_note
     pub whole : IsWhole end
-    pub ring : (end.places ≡ pool.shared.ring.places) × (end.first ≡ pool.shared.ring.first)
+    pub ring : (end.places ≡ pool.shared.ring.ring.places) × (end.first ≡ pool.shared.ring.ring.first)
     pub members : end.joined ≡ map pass_member producers ++ map (λ (h : Worker S). worker_member h) crew
     pub stops : AreStops (claims end.own) × AreEnough (length pool.crew) (claims end.own) end.own
     pub took_none : takes end.own ≡ []

@@ -10,21 +10,19 @@ use Rattle.alog_pool.specs.Accounts.{of_work, of_stops, work_tickets, Moved, Saw
 use Rattle.alog_pool.specs.SinkSeat.{Place, places_of}
 use Rattle.alog_pool.specs.Deeds.{HaveMade, all_dues}
 use Rattle.alog_pool.specs.declared.worker.Worker.{Worker}
-use Rattle.alog_registry.specs.Limit.{KeepsTo}
+use Rattle.alog_registry.specs.Limit.{KeepsTo, HoldsTo}
 use Rattle.alog_ring.specs.Known.{Known, IsPassOf}
-use Rattle.alog_ring.specs.Kinds.{no_note}
+use Rattle.alog_registry.specs.BlockPort.{block_note}
 use Rattle.alog_ring.specs.Made.{IsFaithful}
 
 -- what a worker that looks for an item finds: it took this item under this ticket, or no ticket is left
-abbrev pub Finds : ℕ → Known Item no_note → Known Item no_note → Option ℕ → Option Item → Type 0
-Finds limit old new None None = Moved old new [] [] × SawEnd new.own
-Finds limit old new None (Some x) = ⊥
-Finds limit old new (Some t) None = ⊥
-Finds limit old new (Some t) (Some x) = Moved old new [] ((t, x) ∷ []) × KeepsTo limit x
+abbrev pub Finds : ℕ → Known Item block_note → Known Item block_note → Option ℕ → Item → Type 0
+Finds limit old new None x = Moved old new [] [] × SawEnd new.own
+Finds limit old new (Some t) x = Moved old new [] ((t, x) ∷ []) × KeepsTo limit x
 
 -- A worker's account: it has one part and put nothing in. It recorded the tickets of its first texts and flushes, at most so many,
 -- and counted its texts and flushes modulo 2^64.
-pub record IsWorkOf (most : ℕ) (k : Known Item no_note) (tickets : List ℕ) (handled : ℕ) : Type 0 where
+pub record IsWorkOf (most : ℕ) (k : Known Item block_note) (tickets : List ℕ) (handled : ℕ) : Type 0 where
   pub faithful : IsFaithful k
   pub parts : k.parts ≡ 1
   pub joined : k.joined ≡ []
@@ -34,11 +32,11 @@ pub record IsWorkOf (most : ℕ) (k : Known Item no_note) (tickets : List ℕ) (
   pub handled_is : handled ≡ taken of_work k.own % 2 ^ 64
 
 -- The worker ended at its first stop, or where no ticket was left.
-abbrev pub HasEnded : List (Entry Item no_note) → Type 0
+abbrev pub HasEnded : List (Entry Item block_note) → Type 0
 HasEnded own = (taken of_stops own ≡ 1) ⊎ ((taken of_stops own ≡ 0) × SawEnd own)
 
 -- the pass of a worker that begins: it has one part, and made nothing
-pub record IsFresh (k : Known Item no_note) : Type 0 where
+pub record IsFresh (k : Known Item block_note) : Type 0 where
   pub faithful : IsFaithful k
   pub parts : k.parts ≡ 1
   pub joined : k.joined ≡ []
@@ -55,15 +53,16 @@ numbers_of {S} crew = map (λ (h : Worker S). h.number) crew
 -- A worker at work, which began with the first of these workers: it has taken no stop yet.
 pub record IsAtWork {S : Type 0} (start now : Worker S) : Type 0 where
   pub shared : arc_value now.shared ≡ arc_value start.shared
-  pub ring : IsPassOf (arc_value start.shared).ring now.pass
+  pub ring : IsPassOf (arc_value start.shared).ring.ring now.pass
   pub work : IsWorkOf start.most now.pass.known now.tickets.items now.handled
   pub stops : taken of_stops now.pass.known.own ≡ 0
   pub most : now.most ≡ start.most
   pub number : now.number ≡ start.number
   pub room : start.most ≤ vec_capacity now.tickets
   pub line : now.line.capacity ≡ LINE_MAX
+  pub block : HoldsTo (arc_value start.shared).ring.ring.limit now.block
   pub places : places_of now.sink_seats.items ≡ places_of start.sink_seats.items
-  pub limits : AreLimited (arc_value start.shared).ring.limit.most (places_of start.sink_seats.items)
+  pub limits : AreLimited (arc_value start.shared).ring.ring.limit.most (places_of start.sink_seats.items)
 
 -- What a worker made, since it began with the first of these workers: it took these items, and at each of its places its seat made
 -- exactly the turns that were due for them on that sink, in their order.
@@ -75,7 +74,7 @@ pub record HasTurned {S : Type 0} (start now : Worker S) : Type 0 where
 -- What became of a worker.
 pub record HasWorked {S : Type 0} (start end : Worker S) : Type 0 where
   pub number : end.number ≡ start.number
-  pub ring : IsPassOf (arc_value start.shared).ring end.pass
+  pub ring : IsPassOf (arc_value start.shared).ring.ring end.pass
   pub work : IsWorkOf start.most end.pass.known end.tickets.items end.handled
   pub ended : HasEnded end.pass.known.own
   pub turns : HasTurned start end

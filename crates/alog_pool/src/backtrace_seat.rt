@@ -1,13 +1,14 @@
 //! A producer's place at a backtrace.
-ghost use Rattle.std.specs.Prelude.{◌≡◌, ◌⊎◌, ◌≤◌, ◌<◌, length, Some, IfOk, OnErr, IfErr};
+ghost use Rattle.std.specs.Prelude.{◌≡◌, ◌≢◌, ◌⊎◌, ◌≤◌, ◌<◌, length, Some, IfOk, OnErr, IfErr, IsErrOf};
 ghost use Rattle.alog_lane.specs.Seats.{first_known};
 ghost use Rattle.alog_msg.specs.declared.limits.TheConstants.{TEXT_LIMIT_MIN, TEXT_LIMIT_MAX};
-ghost use Rattle.alog_policy.specs.Port.{IsFit, PortDid};
+ghost use Rattle.alog_policy.specs.SwapPort.{SwapDid};
 ghost use Rattle.alog_policy.specs.Progress.{without_waiting};
 ghost use Rattle.alog_pool.specs.BacktraceSeat.{Keeps, empty_scratch};
 ghost use Rattle.alog_pool.specs.Lending.{LendsAlike};
 ghost use Rattle.alog_pool.specs.Places.{IsBacktraceSeatPart, IsSpareOf};
 ghost use Rattle.alog_registry.specs.Backtrace.{Room, room_for};
+ghost use Rattle.alog_registry.specs.BlockPort.{IsReadyPort};
 ghost use Rattle.alog_registry.specs.Dumping.{PostsEach, posted_of};
 ghost use Rattle.alog_registry.specs.Given.{message_of, IsReason, IsWithin};
 ghost use Rattle.alog_registry.specs.LaneKeeper.{DumpsByTurn, KeepsByTurn, NeverPasses, Passes};
@@ -16,10 +17,10 @@ ghost use Rattle.alog_registry.specs.Logging.{Logs, IsUnread};
 ghost use Rattle.alog_registry.specs.declared.logger.Spec.{Spec};
 
 use alog_lane::{Lane, LaneSeat};
-use alog_msg::{Item, MessageError};
-use alog_policy::{Outcome, Port};
+use alog_msg::MessageError;
+use alog_policy::Outcome;
 use alog_registry::{
-    Backtrace, BacktraceScratch, Dumped, LaneKeeper, LogReply, Loggers, MessageRef, TextLimit,
+    Backtrace, BacktraceScratch, BlockPort, Dumped, LaneKeeper, LogReply, Loggers, MessageRef,
 };
 use std::alloc::{AllocError, Global};
 use std::marker::Model;
@@ -124,26 +125,24 @@ impl BacktraceSeat {
         rt: &(impl Wait + Clock),
         alloc: Global,
         loggers: &Loggers,
-        port: &mut Port<'_, Item, TextLimit>,
+        port: &mut BlockPort<'_>,
         given: MessageRef<'_>,
     ) -> Result<LogReply, MessageError>
         requires known { given.logger < length loggers.now }
-        requires fit { IsFit port.old × (port.old.ring.now.limit.most ≡ self.old.lane.first.limit) }
+        requires fit { IsReadyPort port.old × (port.old.ring.now.ring.limit.most ≡ self.old.lane.first.limit) }
         ensures logs { (s : Spec) → spec_at loggers.now given.entry.logger ≡ Some s
-            → IfOk result (λ r. Keeps self.old self.new (λ k l. Logs PortDid KeepsByTurn NeverPasses s.policy s
+            → IfOk result (λ r. Keeps self.old self.new (λ k l. Logs SwapDid KeepsByTurn NeverPasses s.policy s
             (message_of given.entry) port.old k r port.new l)) }
         ensures within { (s : Spec) → spec_at loggers.now given.entry.logger ≡ Some s
             → IfOk result (λ r. IsUnread s r ⊎ IsWithin self.old.lane.first.limit given.entry.text.now given.entry.source) }
         ensures reason { IfErr result (IsReason self.old.lane.first.limit given.entry.text.now given.entry.source) }
+        ensures memory { (s : Spec) → spec_at loggers.now given.entry.logger ≡ Some s → IsErrOf result MessageError.OutOfMemory
+            → s.backtrace ≢ 0 }
         ensures err { OnErr result ((self.new ≡ self.old) × (port.new ≡ port.old)) }
         ensures lane { self.new.lane ≡ self.old.lane }
-        ensures port { IsFit port.new × LendsAlike port.old port.new }
+        ensures port { IsReadyPort port.new × LendsAlike port.old port.new }
     {
-        let mut keeper = LaneKeeper {
-            lane: &self.lane,
-            seat: &mut self.seat,
-            scratch: &mut self.scratch,
-        };
+        let mut keeper = keeper(&self.lane, &mut self.seat, &mut self.scratch);
         loggers.log_ref(rt, alloc, port, &mut keeper, self.text_limit, given)
     }
 
@@ -152,26 +151,24 @@ impl BacktraceSeat {
         &mut self,
         alloc: Global,
         loggers: &Loggers,
-        port: &mut Port<'_, Item, TextLimit>,
+        port: &mut BlockPort<'_>,
         given: MessageRef<'_>,
     ) -> Result<LogReply, MessageError>
         requires known { given.logger < length loggers.now }
-        requires fit { IsFit port.old × (port.old.ring.now.limit.most ≡ self.old.lane.first.limit) }
+        requires fit { IsReadyPort port.old × (port.old.ring.now.ring.limit.most ≡ self.old.lane.first.limit) }
         ensures logs { (s : Spec) → spec_at loggers.now given.entry.logger ≡ Some s
-            → IfOk result (λ r. Keeps self.old self.new (λ k l. Logs PortDid KeepsByTurn Passes (without_waiting s.policy) s
+            → IfOk result (λ r. Keeps self.old self.new (λ k l. Logs SwapDid KeepsByTurn Passes (without_waiting s.policy) s
             (message_of given.entry) port.old k r port.new l)) }
         ensures within { (s : Spec) → spec_at loggers.now given.entry.logger ≡ Some s
             → IfOk result (λ r. IsUnread s r ⊎ IsWithin self.old.lane.first.limit given.entry.text.now given.entry.source) }
         ensures reason { IfErr result (IsReason self.old.lane.first.limit given.entry.text.now given.entry.source) }
+        ensures memory { (s : Spec) → spec_at loggers.now given.entry.logger ≡ Some s → IsErrOf result MessageError.OutOfMemory
+            → s.backtrace ≢ 0 }
         ensures err { OnErr result ((self.new ≡ self.old) × (port.new ≡ port.old)) }
         ensures lane { self.new.lane ≡ self.old.lane }
-        ensures port { IsFit port.new × LendsAlike port.old port.new }
+        ensures port { IsReadyPort port.new × LendsAlike port.old port.new }
     {
-        let mut keeper = LaneKeeper {
-            lane: &self.lane,
-            seat: &mut self.seat,
-            scratch: &mut self.scratch,
-        };
+        let mut keeper = keeper(&self.lane, &mut self.seat, &mut self.scratch);
         loggers.log_ref_now(alloc, port, &mut keeper, self.text_limit, given)
     }
 
@@ -181,26 +178,39 @@ impl BacktraceSeat {
         rt: &impl Wait,
         alloc: Global,
         loggers: &Loggers,
-        port: &mut Port<'_, Item, TextLimit>,
+        port: &mut BlockPort<'_>,
         number: u32,
         time: i64,
         thread: u64,
     ) -> Result<Vec<Outcome<()>>, AllocError>
         requires known { number < length loggers.now }
-        requires fit { IsFit port.old × (port.old.ring.now.limit.most ≡ self.old.lane.first.limit) }
+        requires fit { IsReadyPort port.old × (port.old.ring.now.ring.limit.most ≡ self.old.lane.first.limit) }
         ensures dumped { (s : Spec) → spec_at loggers.now number ≡ Some s
             → IfOk result (λ v. Keeps self.old self.new (λ k l. (d : Room) × DumpsByTurn k d l
-            × PostsEach PortDid (without_waiting s.policy) (posted_of number time thread d.messages) port.old v.items port.new)) }
+            × PostsEach SwapDid (without_waiting s.policy) (posted_of number time thread d.messages) port.old v.items port.new)) }
         ensures err { OnErr result ((self.new ≡ self.old) × (port.new ≡ port.old)) }
         ensures lane { self.new.lane ≡ self.old.lane }
-        ensures port { IsFit port.new × LendsAlike port.old port.new }
+        ensures port { IsReadyPort port.new × LendsAlike port.old port.new }
     {
-        let mut keeper = LaneKeeper {
-            lane: &self.lane,
-            seat: &mut self.seat,
-            scratch: &mut self.scratch,
-        };
+        let mut keeper = keeper(&self.lane, &mut self.seat, &mut self.scratch);
         loggers.dump_shared(rt, alloc, port, &mut keeper, number, time, thread)
+    }
+}
+
+/// The keeper that takes turns at this lane by this seat.
+fn keeper<'a>(
+    lane: &'a Lane<Backtrace>,
+    seat: &'a mut LaneSeat<Backtrace>,
+    scratch: &'a mut BacktraceScratch,
+) -> LaneKeeper<'a>
+    ensures lane { result.lane.now ≡ lane.now }
+    ensures seat { (result.seat.ghost_name ≡ seat.entry.ghost_name) × (result.seat.now ≡ seat.old) }
+    ensures scratch { (result.scratch.ghost_name ≡ scratch.entry.ghost_name) × (result.scratch.now ≡ scratch.old) }
+{
+    LaneKeeper {
+        lane,
+        seat,
+        scratch,
     }
 }
 

@@ -37,6 +37,8 @@ pub struct ItemWait {
     nap: u64,
     longest: u64,
     backoff: Backoff,
+    /// Spins after pops that another was faster at.
+    beaten: Backoff,
 }
 
 impl ItemWait {
@@ -48,16 +50,17 @@ impl ItemWait {
             nap: FIRST_NAP,
             longest: LONGEST_NAP.saturating_mul(workers as u64),
             backoff: Backoff::new(),
+            beaten: Backoff::new(),
         }
     }
 
-    /// Lets so much time pass as is right after a pop that took nothing: longer each time where nothing is there, and hardly
-    /// any where an item is on its way, or where another pop was faster.
+    /// Lets so much time pass as is right after a pop that took nothing: longer each time where nothing is there or another pop
+    /// was faster, and hardly any where an item is on its way.
     pub fn after(&mut self, clock: &impl Clock, error: PopError) {
         match error {
             PopError::Idle { next: _ } => self.rest(clock),
             PopError::Empty { next: _ } => self.look_again(),
-            PopError::Busy { seen: _ } => {}
+            PopError::Busy { seen: _ } => self.beaten.spin(),
         }
     }
 

@@ -1,7 +1,8 @@
 //! A pool: workers on threads of their own pop items with waiting, and make the turns that each item asks for; request threads
-//! log with a producer.
+//! log with a producer. The queue is a swap ring of blocks, which are made at the start and with each producer and go round from
+//! then on: a post swaps its block for the one in its place, and a pop brings the block of the item before.
 //!
-//! A `Worker` is what one worker works with: a pass of the ring, a place at each sink under its lock, a line buffer. `Worker::work`
+//! A `Worker` is what one worker works with: a pass of the ring, a block, a place at each sink under its lock, a line buffer. `Worker::work`
 //! handles items until the first stop, or until no ticket is left, and says in terms of the pass's own entries what was taken
 //! (`specs/Working.antt`, over `specs/Accounts.antt`): nothing was put in, the recorded tickets are the first ones of its texts
 //! and flushes, their number is counted, and it ended at its first stop or at the end of tickets. At each place the seat's own
@@ -9,9 +10,9 @@
 //! the place's faults count those of them that were answered by one (`specs/Deeds.antt`); `SinkSeat` says of one turn what it is
 //! (`specs/SinkSeat.antt`).
 //!
-//! A `Producer` has a pass of the ring, a seat of the loss book and a place at the backtrace of each logger (`BacktraceSeat`). Each of
-//! its calls is one of `Loggers` on what it lends (`specs/Producer.antt`, `BacktraceSeat.antt`). The law `no_work_is_left` says that no
-//! text is left where workers have ended (`specs/Ending.antt`).
+//! A `Producer` has a pass of the ring, two blocks, a seat of the loss book and a place at the backtrace of each logger
+//! (`BacktraceSeat`). Each of its calls is one of `Loggers` on what it lends (`specs/Producer.antt`, `BacktraceSeat.antt`). The law
+//! `no_work_is_left` says that no text is left where workers have ended (`specs/Ending.antt`).
 //!
 //! `Pool::start` makes a `PoolParts`, which is all but the workers, and hires them one by one: each gets a part of the pool's pass and
 //! a part of its place at each sink, and promises what `Worker::work` does (`Works`). `Pool::producer` gives parts away as well. What
@@ -51,6 +52,6 @@ pub use pool::{PRODUCERS_MAX, Pool, WORKERS_MAX};
 pub use producer::Producer;
 pub use report::{Report, Totals};
 pub use setup::Setup;
-pub use shared::Shared;
+pub use shared::{Queue, QueuePass, Shared};
 pub use sink_seat::SinkSeat;
 pub use worker::Worker;

@@ -3,8 +3,11 @@ ghost use Rattle.std.specs.Prelude.{◌≡◌, ◌↔◌, ◌≤◌, ◌<◌, []
 ghost use Rattle.std.specs.List.{AllByRecursion};
 ghost use Rattle.alog_core.specs.Queue.{last};
 ghost use Rattle.alog_core.specs.World.{is_size};
+ghost use Rattle.alog_msg.specs.declared.limits.TheConstants.{TEXT_LIMIT_MIN, TEXT_LIMIT_MAX};
+ghost use Rattle.alog_msg.specs.declared.item.Item.TheVariants.{Stop};
 ghost use Rattle.alog_pool.specs.Places.{Each2, Each3, IsBacktraceSeatPart, IsSpareOf};
 ghost use Rattle.alog_pool.specs.Pool.{Fits, HasWorkers, AreParts, Makes, Staffs, Starts};
+ghost use Rattle.alog_registry.specs.Limit.{HoldsTo};
 ghost use Rattle.alog_pool.specs.declared.pool_parts.PoolParts.{PoolParts};
 ghost use Rattle.alog_pool.specs.declared.pool.TheConstants.{PRODUCERS_MAX};
 ghost use Rattle.alog_ring.specs.Known.{IsPassOf, first_known};
@@ -16,12 +19,13 @@ use crate::pool_parts::{PoolParts, WorkerHandle};
 use crate::producer::Producer;
 use crate::report::Blank;
 use crate::setup::Setup;
-use crate::shared::Shared;
+use crate::shared::{Queue, QueuePass, Shared};
 use crate::sink_seat::SinkSeat;
-use alog_msg::Item;
+use alog_core::{TICKET_END, is_size};
+use alog_msg::Block;
 use alog_policy::BookSeat;
 use alog_registry::{Loggers, TextLimit};
-use alog_ring::{NewError, Pass, Ring};
+use alog_ring::SwapRing;
 use alog_sink::Store;
 use std::alloc::{AllocError, Global};
 use std::fmt;
@@ -43,7 +47,9 @@ pub const PRODUCERS_MAX: u64 = 4_096;
 pub struct Pool<S: Store> {
     pub(crate) alloc: Global,
     pub(crate) shared: Arc<Shared>,
-    pub(crate) pass: Pass<Item>,
+    pub(crate) pass: QueuePass,
+    /// What its stops are written into.
+    pub(crate) block: Block,
     pub(crate) losses: BookSeat,
     pub(crate) sink_seats: Vec<SinkSeat<S>>,
     pub(crate) backtrace_seats: Vec<BacktraceSeat>,
@@ -59,6 +65,7 @@ impl<S: Store> Model for Pool<S> {
     ghost use Rattle.std.specs.Arc.{arc_value};
     ghost use Rattle.alog_pool.specs.Pool.{PoolView, IsPool};
     ghost use Rattle.alog_pool.specs.Room.{HasRoom};
+    ghost use Rattle.alog_registry.specs.Limit.{HoldsTo};
 
     ghost Value = { PoolView S };
 
@@ -75,7 +82,8 @@ impl<S: Store> Model for Pool<S> {
     } };
 
     ghost invariant = { λ p. IsPool (arc_value p.shared) p.pass p.losses p.sink_seats.items p.backtrace_seats.items p.made p.text_limit p.tickets_max
-        (map (λ h. h.promise.start.value) p.workers.items) × HasRoom (length p.workers.items) (length p.sink_seats.items) p.blank };
+        (map (λ h. h.promise.start.value) p.workers.items) × HasRoom (length p.workers.items) (length p.sink_seats.items) p.blank
+        × HoldsTo (arc_value p.shared).ring.ring.limit p.block };
 }
 
 impl<S: Store> fmt::Debug for Pool<S> {
@@ -90,7 +98,8 @@ impl<S: Store> fmt::Debug for Pool<S> {
 impl<S: Store + Drop + Send + 'static> Pool<S> {
     /// Starts so many workers, over a new queue and these loggers and sinks, with the gate round each text that they handle.
     ///
-    /// The reasons for a refusal are looked at in the order of `StartError`; what was handed over is dropped then.
+    /// The reasons for a refusal are looked at in the order of `StartError`; what was handed over is dropped then. Among the memory
+    /// that it takes is a block for each place of the queue and for each worker, and one for its stops.
     pub fn start<
         R: Threads + Wait + Clock + Clone + Drop + Send + 'static,
         G: Gate + Send + Sync + Drop + 'static,
@@ -119,7 +128,8 @@ impl<S: Store + Drop + Send + 'static> Pool<S> {
         &self.shared.loggers
     }
 
-    /// A producer for a request thread. Its number is how many were made before it.
+    /// A producer for a request thread. Its number is how many were made before it. It takes memory: two blocks that go round by its
+    /// posts, and a list for the backtrace of each logger.
     pub fn producer(&mut self) -> Result<Producer, ProducerError>
         ensures too_many { IsErrOf result ProducerError.TooMany ↔ (PRODUCERS_MAX ≤ self.old.made) }
         ensures made { IfOk result (λ p. Makes self.old self.new p) }
@@ -137,9 +147,14 @@ impl<S: Store + Drop + Send + 'static> Pool<S> {
         let Ok(mut backtrace_seats) = Vec::with_capacity(self.alloc, spares.len()) else {
             return Err(ProducerError::OutOfMemory);
         };
+        let Ok((hand, spare)) = two_blocks(self.alloc, self.text_limit) else {
+            return Err(ProducerError::OutOfMemory);
+        };
         share_backtrace_seats(&mut self.backtrace_seats, spares, &mut backtrace_seats);
         let producer = Producer {
             pass: shared.ring.split(&mut self.pass, 1),
+            hand: Some(hand),
+            spare: Some(spare),
             losses: shared.book.split(&mut self.losses, 1),
             shared,
             backtrace_seats,
@@ -157,21 +172,51 @@ fn queue_of(
     places: usize,
     first: u64,
     text_limit: usize,
-) -> Result<(Ring<Item, TextLimit>, Pass<Item>), StartError>
+) -> Result<(Queue, QueuePass), StartError>
+    requires limit { (TEXT_LIMIT_MIN ≤ text_limit) × (text_limit ≤ TEXT_LIMIT_MAX) }
     ensures workers { ¬ IsErrOf result StartError.BadWorkers }
     ensures bad_size { IsErrOf result StartError.BadSize ↔ (is_size places ≡ false) }
     ensures bad_first { IsErrOf result StartError.BadFirst ↔ ((is_size places ≡ true) × (last ≤ first)) }
-    ensures shape { IfOk result (λ r. (r.0.places ≡ places) × (r.0.first ≡ first) × (r.0.limit.most ≡ text_limit)) }
-    ensures ring { IfOk result (λ r. IsPassOf r.0 r.1) }
+    ensures shape { IfOk result (λ r. (r.0.ring.places ≡ places) × (r.0.ring.first ≡ first) × (r.0.ring.limit.most ≡ text_limit)) }
+    ensures ring { IfOk result (λ r. IsPassOf r.0.ring r.1) }
     ensures first { IfOk result (λ r. r.1.known ≡ first_known places first) }
 {
-    let limit = TextLimit { most: text_limit };
-    match Ring::limited(alloc, places, first, limit) {
-        Ok(made) => Ok(made),
-        Err(NewError::BadSize) => Err(StartError::BadSize),
-        Err(NewError::BadFirst) => Err(StartError::BadFirst),
-        Err(NewError::OutOfMemory) => Err(StartError::OutOfMemory),
+    if !is_size(places) {
+        return Err(StartError::BadSize);
     }
+    if first >= TICKET_END {
+        return Err(StartError::BadFirst);
+    }
+    let Ok(blocks) = blocks_of(alloc, places, text_limit) else {
+        return Err(StartError::OutOfMemory);
+    };
+    let limit = TextLimit { most: text_limit };
+    match SwapRing::limited(alloc, places, first, blocks, limit) {
+        Ok(made) => Ok(made),
+        Err(_) => Err(StartError::OutOfMemory),
+    }
+}
+
+/// So many blocks for texts of this limit.
+fn blocks_of(alloc: Global, count: usize, text_limit: usize) -> Result<Vec<Block>, AllocError>
+    requires { (TEXT_LIMIT_MIN ≤ text_limit) × (text_limit ≤ TEXT_LIMIT_MAX) }
+    ensures each { IfOk result (λ v. AllByRecursion (HoldsTo (record { most = text_limit })) v.items) }
+    ensures count { IfOk result (λ v. length v.items ≡ count) }
+{
+    let mut blocks = Vec::with_capacity(alloc, count)?;
+    for _made in 0..count {
+        blocks.push_reserved(Block::new(alloc, text_limit)?);
+    }
+    Ok(blocks)
+}
+
+/// The blocks of a producer.
+fn two_blocks(alloc: Global, text_limit: usize) -> Result<(Block, Block), AllocError>
+    requires { (TEXT_LIMIT_MIN ≤ text_limit) × (text_limit ≤ TEXT_LIMIT_MAX) }
+    ensures { IfOk result (λ r. (r.0.limit ≡ text_limit) × (r.0.item ≡ Stop) × (r.1.limit ≡ text_limit) × (r.1.item ≡ Stop)) }
+{
+    let hand = Block::new(alloc, text_limit)?;
+    Ok((hand, Block::new(alloc, text_limit)?))
 }
 
 /// Starts the workers of a pool over this queue.
@@ -183,16 +228,16 @@ fn start_workers<
     rt: &R,
     alloc: Global,
     setup: Setup<S>,
-    ring: Ring<Item, TextLimit>,
-    pass: Pass<Item>,
+    ring: Queue,
+    pass: QueuePass,
     gate: G,
 ) -> Result<Pool<S>, AllocError>
     requires fits { Fits setup }
     requires workers { HasWorkers setup }
-    requires ring { IsPassOf ring pass × (ring.limit.most ≡ setup.text_limit) }
-    requires pass { pass.known ≡ first_known ring.places ring.first }
-    requires places { 1 ≤ ring.places }
-    ensures { IfOk result (λ p. (g : PoolParts S) × AreParts setup ring g × Staffs g p) }
+    requires ring { IsPassOf ring.ring pass × (ring.ring.limit.most ≡ setup.text_limit) }
+    requires pass { pass.known ≡ first_known ring.ring.places ring.ring.first }
+    requires places { 1 ≤ ring.ring.places }
+    ensures { IfOk result (λ p. (g : PoolParts S) × AreParts setup ring.ring g × Staffs g p) }
 {
     PoolParts::new(alloc, setup, ring, pass)?.staff(rt, gate)
 }

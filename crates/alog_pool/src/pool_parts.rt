@@ -1,5 +1,5 @@
 //! What a pool stands on before it has workers.
-ghost use Rattle.std.specs.Prelude.{◌≡◌, ◌≤◌, ◌<◌, ◌+◌, ℕ, [], length, map, IfOk};
+ghost use Rattle.std.specs.Prelude.{◌≡◌, ◌≤◌, ◌<◌, ◌+◌, ℕ, [], length, map, IfOk, OnOk};
 ghost use Rattle.std.specs.Arc.{arc_value};
 ghost use Rattle.std.specs.List.{AllByRecursion, range_with_len};
 ghost use Rattle.alog_core.specs.World.{is_size};
@@ -10,7 +10,7 @@ ghost use Rattle.alog_pattern.specs.declared.patterns.TheConstants.{LINE_MAX};
 ghost use Rattle.alog_policy.specs.BookCalls.{IsSeatOf};
 ghost use Rattle.alog_pool.specs.BacktraceSeat.{BacktraceSeatView};
 ghost use Rattle.alog_pool.specs.Places.{AreSpare, Each2, Each3, IsFirst, IsBacktraceSeatOf, IsPart};
-ghost use Rattle.alog_pool.specs.Pool.{Begins, Fits, HasQueue, AreParts, Staffs, Stands, Crews, Hires, lanes_of};
+ghost use Rattle.alog_pool.specs.Pool.{Begins, Fits, HasBlock, HasQueue, AreParts, Staffs, Stands, Crews, Hires, lanes_of};
 ghost use Rattle.alog_pool.specs.Room.{HasRoom};
 ghost use Rattle.alog_pool.specs.Working.{HasWorked, IsAtWork, numbers_of};
 ghost use Rattle.alog_pool.specs.declared.pool.TheConstants.{WORKERS_MAX};
@@ -22,17 +22,16 @@ use crate::gate::Gate;
 use crate::pool::Pool;
 use crate::report::Blank;
 use crate::setup::Setup;
-use crate::shared::Shared;
+use crate::shared::{Queue, QueuePass, Shared};
 use crate::sink_seat::SinkSeat;
 use crate::stops::post_stops;
 use crate::worker::Worker;
 use crate::works::{Works, work_alone};
 use alog_format::LineBuf;
-use alog_msg::Item;
+use alog_msg::Block;
 use alog_pattern::LINE_MAX;
 use alog_policy::{BookSeat, LossBook};
-use alog_registry::{Loggers, TextLimit};
-use alog_ring::{Pass, Ring};
+use alog_registry::Loggers;
 use alog_sink::{Sink, Store};
 use std::alloc::{AllocError, Global};
 use std::snapshot::Snapshot;
@@ -48,7 +47,9 @@ pub(crate) type WorkerHandle<S> = PromisedHandle<Worker<S>, Works<S>>;
 pub(crate) struct PoolParts<S: Store> {
     pub(crate) alloc: Global,
     pub(crate) shared: Arc<Shared>,
-    pub(crate) pass: Pass<Item>,
+    pub(crate) pass: QueuePass,
+    /// What its stops are written into.
+    pub(crate) block: Block,
     pub(crate) losses: BookSeat,
     pub(crate) sink_seats: Vec<SinkSeat<S>>,
     pub(crate) backtrace_seats: Vec<BacktraceSeat>,
@@ -62,14 +63,14 @@ impl<S: Store + Drop + Send + 'static> PoolParts<S> {
     pub(crate) fn new(
         alloc: Global,
         setup: Setup<S>,
-        ring: Ring<Item, TextLimit>,
-        pass: Pass<Item>,
+        ring: Queue,
+        pass: QueuePass,
     ) -> Result<PoolParts<S>, AllocError>
         requires fits { Fits setup }
-        requires ring { IsPassOf ring pass × (ring.limit.most ≡ setup.text_limit) }
-        requires pass { pass.known ≡ first_known ring.places ring.first }
-        requires places { 1 ≤ ring.places }
-        ensures { IfOk result (λ g. AreParts setup ring g) }
+        requires ring { IsPassOf ring.ring pass × (ring.ring.limit.most ≡ setup.text_limit) }
+        requires pass { pass.known ≡ first_known ring.ring.places ring.ring.first }
+        requires places { 1 ≤ ring.ring.places }
+        ensures { IfOk result (λ g. AreParts setup ring.ring g) }
     {
         let Setup {
             text_limit,
@@ -79,13 +80,15 @@ impl<S: Store + Drop + Send + 'static> PoolParts<S> {
             workers,
             ..
         } = setup;
-        let backtrace_seats = backtrace_seats_of(alloc, &loggers, text_limit)?;
         let (shared, losses) = shared_of(alloc, ring, loggers)?;
+        let backtrace_seats = backtrace_seats_of(alloc, &shared.loggers, text_limit)?;
         let sink_seats = sink_seats_of(alloc, sinks, text_limit)?;
+        let block = Block::new(alloc, text_limit)?;
         Ok(PoolParts {
             alloc,
             shared,
             pass,
+            block,
             losses,
             sink_seats,
             backtrace_seats,
@@ -101,6 +104,7 @@ impl<S: Store + Drop + Send + 'static> PoolParts<S> {
         G: Gate + Send + Sync + Drop + 'static,
     >(self, rt: &R, gate: G) -> Result<Pool<S>, AllocError>
         requires stands { Stands 0 self }
+        requires block { HasBlock self }
         requires workers { (1 ≤ self.workers) × (self.workers ≤ WORKERS_MAX) }
         ensures { IfOk result (λ p. Staffs self p) }
     {
@@ -117,9 +121,11 @@ impl<S: Store + Drop + Send + 'static> PoolParts<S> {
         G: Gate + Send + Sync + Drop + 'static,
     >(&mut self, rt: &R, gate: G) -> Result<(Vec<WorkerHandle<S>>, Blank<S>), AllocError>
         requires stands { Stands 0 self.old }
+        requires block { HasBlock self.old }
         requires workers { self.old.workers ≤ WORKERS_MAX }
         ensures crew { IfOk result (λ r. Crews self.old self.new (map (λ h. h.promise.start.value) r.0.items)) }
         ensures room { IfOk result (λ r. HasRoom (length r.0.items) (length self.new.sink_seats.items) r.1) }
+        ensures block { OnOk result (HasBlock self.new) }
     {
         let Ok(gate) = Arc::new(self.alloc, gate) else {
             return Err(AllocError);
@@ -135,15 +141,23 @@ impl<S: Store + Drop + Send + 'static> PoolParts<S> {
         G: Gate + Send + Sync + Drop + 'static,
     >(&mut self, rt: &R, gate: &Arc<G>) -> Result<Vec<WorkerHandle<S>>, AllocError>
         requires stands { Stands 0 self.old }
+        requires block { HasBlock self.old }
         requires workers { self.old.workers ≤ WORKERS_MAX }
-        ensures { IfOk result (λ v. Crews self.old self.new (map (λ h. h.promise.start.value) v.items)) }
+        ensures crew { IfOk result (λ v. Crews self.old self.new (map (λ h. h.promise.start.value) v.items)) }
+        ensures block { OnOk result (HasBlock self.new) }
     {
         let mut workers = Vec::with_capacity(self.alloc, self.workers)?;
         for number in 0..self.workers {
             match self.hire(rt, gate, number as u32) {
                 Ok(worker) => workers.push_reserved(worker),
                 Err(AllocError) => {
-                    post_stops(rt, &self.shared.ring, &mut self.pass, workers.len());
+                    post_stops(
+                        rt,
+                        &self.shared.ring,
+                        &mut self.pass,
+                        &mut self.block,
+                        workers.len(),
+                    );
                     return Err(AllocError);
                 }
             }
@@ -154,6 +168,7 @@ impl<S: Store + Drop + Send + 'static> PoolParts<S> {
     /// The pool with these workers.
     fn with(self, workers: Vec<WorkerHandle<S>>, blank: Blank<S>) -> Pool<S>
         requires stands { Stands (length workers.items) self }
+        requires block { HasBlock self }
         requires each { AllByRecursion (Begins (arc_value self.shared) (lanes_of self.sink_seats.items) self.tickets_max)
             (map (λ h. h.promise.start.value) workers.items) }
         requires all { (1 ≤ self.workers) × (length workers.items ≡ self.workers) }
@@ -165,6 +180,7 @@ impl<S: Store + Drop + Send + 'static> PoolParts<S> {
             alloc,
             shared,
             pass,
+            block,
             losses,
             sink_seats,
             backtrace_seats,
@@ -176,6 +192,7 @@ impl<S: Store + Drop + Send + 'static> PoolParts<S> {
             alloc,
             shared,
             pass,
+            block,
             losses,
             sink_seats,
             backtrace_seats,
@@ -193,46 +210,38 @@ impl<S: Store + Drop + Send + 'static> PoolParts<S> {
         G: Gate + Send + Sync + Drop + 'static,
     >(&mut self, rt: &R, gate: &Arc<G>, number: u32) -> Result<WorkerHandle<S>, AllocError>
         requires stands { (n : ℕ) × Stands n self.old × (n < WORKERS_MAX) }
+        requires block { HasBlock self.old }
         requires workers { self.old.workers ≤ WORKERS_MAX }
         ensures hires { (n : ℕ) → Stands n self.old → n < WORKERS_MAX → IfOk result (λ h. Hires n self.old self.new h.promise.start.value) }
         ensures number { IfOk result (λ h. h.promise.start.value.number ≡ number) }
         ensures queue { HasQueue self.new }
+        ensures block { HasBlock self.new }
     {
         let (own, gate) = both_for_one(rt, gate)?;
         let worker = self.worker(number)?;
-        let promise = Works {
-            start: Snapshot::of(&worker),
-        };
-        let handle = thread::spawn_with(
-            rt,
-            promise,
-            move || -> Worker<S>
-                requires { IsAtWork worker worker }
-                ensures { HasWorked worker result }
-            { work_alone(own, gate, worker) },
-        );
-        match handle {
-            Ok(handle) => Ok(handle),
-            Err(_) => Err(AllocError),
-        }
+        set_to_work(rt, own, gate, worker)
     }
 
     /// What one more worker works with.
     fn worker(&mut self, number: u32) -> Result<Worker<S>, AllocError>
         requires stands { (n : ℕ) × Stands n self.old × (n < WORKERS_MAX) }
+        requires block { HasBlock self.old }
         requires workers { self.old.workers ≤ WORKERS_MAX }
         ensures hires { (n : ℕ) → Stands n self.old → n < WORKERS_MAX → IfOk result (λ h. Hires n self.old self.new h) }
         ensures number { IfOk result (λ h. h.number ≡ number) }
         ensures queue { HasQueue self.new }
+        ensures block { HasBlock self.new }
     {
         let shared = Arc::try_clone(&self.shared)?;
         let line = LineBuf::new(self.alloc, LINE_MAX)?;
         let tickets = Vec::with_capacity(self.alloc, self.tickets_max)?;
+        let block = Block::new(self.alloc, self.text_limit)?;
         let sink_seats = parts_of(self.alloc, &mut self.sink_seats)?;
         let pass = self.shared.ring.split(&mut self.pass, 1);
         Ok(Worker {
             shared,
             pass,
+            block,
             sink_seats,
             line,
             number,
@@ -241,6 +250,32 @@ impl<S: Store + Drop + Send + 'static> PoolParts<S> {
             most: self.tickets_max,
             handled: 0,
         })
+    }
+}
+
+/// Starts this worker, on a thread of its own.
+fn set_to_work<
+    S: Store + Drop + Send + 'static,
+    R: Threads + Wait + Clock + Clone + Drop + Send + 'static,
+    G: Gate + Send + Sync + Drop + 'static,
+>(rt: &R, own: R, gate: Arc<G>, worker: Worker<S>) -> Result<WorkerHandle<S>, AllocError>
+    requires at_work { IsAtWork worker worker }
+    ensures { IfOk result (λ h. h.promise.start.value ≡ worker) }
+{
+    let promise = Works {
+        start: Snapshot::of(&worker),
+    };
+    let handle = thread::spawn_with(
+        rt,
+        promise,
+        move || -> Worker<S>
+            requires { IsAtWork worker worker }
+            ensures { HasWorked worker result }
+        { work_alone(own, gate, worker) },
+    );
+    match handle {
+        Ok(handle) => Ok(handle),
+        Err(_) => Err(AllocError),
     }
 }
 
@@ -256,7 +291,7 @@ fn both_for_one<R: Clone + Drop, G: Drop>(
 /// What all threads of a pool over this queue share, and the first seat of its loss book.
 fn shared_of(
     alloc: Global,
-    ring: Ring<Item, TextLimit>,
+    ring: Queue,
     loggers: Loggers,
 ) -> Result<(Arc<Shared>, BookSeat), AllocError>
     ensures ring { IfOk result (λ r. (arc_value r.0).ring ≡ ring) }

@@ -1,26 +1,24 @@
 //! A producer: what a request thread logs with.
-ghost use Rattle.std.specs.Prelude.{◌≡◌, ◌⊎◌, ◌≤◌, ◌<◌, length, Some, OnErr, IfOk, IfErr};
+ghost use Rattle.std.specs.Prelude.{◌≡◌, ◌≢◌, ◌⊎◌, ◌≤◌, ◌<◌, length, Some, OnErr, IfOk, IfErr, IsErrOf};
 ghost use Rattle.alog_msg.specs.declared.item.Item.TheVariants.{Flush};
-ghost use Rattle.alog_policy.specs.Port.{PortDid};
+ghost use Rattle.alog_policy.specs.SwapPort.{SwapDid};
 ghost use Rattle.alog_policy.specs.Progress.{without_waiting};
-ghost use Rattle.alog_policy.specs.declared.port.Port.{Port};
 ghost use Rattle.alog_pool.specs.Producer.{IsPortOf, IsSame, Lent};
 ghost use Rattle.alog_registry.specs.Backtrace.{Room};
+ghost use Rattle.alog_registry.specs.BlockPort.{BlockPort};
 ghost use Rattle.alog_registry.specs.ItemOutlet.{PostsItemNow};
 ghost use Rattle.alog_registry.specs.Dumping.{PostsEach, posted_of};
 ghost use Rattle.alog_registry.specs.Given.{message_with, IsReason, IsWithin};
 ghost use Rattle.alog_registry.specs.LaneKeeper.{DumpsByTurn, KeepsByTurn, NeverPasses, Passes};
 ghost use Rattle.alog_registry.specs.Listed.{spec_at};
 ghost use Rattle.alog_registry.specs.Logging.{Logs, IsUnread};
-ghost use Rattle.alog_registry.specs.declared.limit.TextLimit.{TextLimit};
 ghost use Rattle.alog_registry.specs.declared.logger.Spec.{Spec};
 
 use crate::backtrace_seat::BacktraceSeat;
-use crate::shared::Shared;
-use alog_msg::{Item, Level, MessageError, SourceRef};
-use alog_policy::{BookSeat, Outcome, Port};
-use alog_registry::{LogReply, Loggers, MessageRef};
-use alog_ring::Pass;
+use crate::shared::{QueuePass, Shared};
+use alog_msg::{Block, Level, MessageError, SourceRef};
+use alog_policy::{BookSeat, Outcome};
+use alog_registry::{BlockPort, LogReply, Loggers, MessageRef};
 use std::alloc::{AllocError, Global};
 use std::fmt;
 use std::marker::Model;
@@ -34,7 +32,10 @@ use std::time::Clock;
 /// thread gets it by reference, as by `std::thread::for_each_mut`, since what a thread gives back has to be `Drop`.
 pub struct Producer {
     pub(crate) shared: Arc<Shared>,
-    pub(crate) pass: Pass<Item>,
+    pub(crate) pass: QueuePass,
+    /// The block that its next message is written into, and the one that its next pop brings.
+    pub(crate) hand: Option<Block>,
+    pub(crate) spare: Option<Block>,
     /// Its seat of the loss book.
     pub(crate) losses: BookSeat,
     /// Its place at the backtrace of each logger.
@@ -46,7 +47,7 @@ pub struct Producer {
 
 impl Model for Producer {
     ghost use Rattle.std.specs.Arc.{arc_value};
-    ghost use Rattle.alog_pool.specs.Producer.{ProducerView, IsProducer};
+    ghost use Rattle.alog_pool.specs.Producer.{ProducerView, IsProducer, HasBlocks};
 
     ghost Value = { ProducerView };
 
@@ -59,7 +60,8 @@ impl Model for Producer {
       limit = p.text_limit;
     } };
 
-    ghost invariant = { λ p. IsProducer (arc_value p.shared) p.pass p.losses p.backtrace_seats.items p.text_limit };
+    ghost invariant = { λ p. IsProducer (arc_value p.shared) p.pass p.losses p.backtrace_seats.items p.text_limit
+        × HasBlocks (arc_value p.shared) p.hand p.spare };
 }
 
 impl fmt::Debug for Producer {
@@ -86,7 +88,7 @@ impl Producer {
     }
 
     /// Logs a message to the logger of this number, as `Loggers::log` does: under `Block` it waits for room, and where the
-    /// logger has a backtrace it waits for its lock.
+    /// logger has a backtrace it waits for its lock. The copy for a backtrace takes memory, and nothing else does.
     pub fn log(
         &mut self,
         rt: &(impl Wait + Clock),
@@ -99,20 +101,24 @@ impl Producer {
     ) -> Result<LogReply, MessageError>
         requires known { number < length self.old.shared.loggers }
         ensures logs { (s : Spec) → spec_at self.old.shared.loggers number ≡ Some s
-            → IfOk result (λ r. Lent self.old self.new number (λ p k q l. Logs PortDid KeepsByTurn NeverPasses s.policy s
+            → IfOk result (λ r. Lent self.old self.new number (λ p k q l. Logs SwapDid KeepsByTurn NeverPasses s.policy s
             (message_with number level time self.old.number text.now source.entry) p k r q l)) }
         ensures within { (s : Spec) → spec_at self.old.shared.loggers number ≡ Some s
             → IfOk result (λ r. IsUnread s r ⊎ IsWithin self.old.limit text.now source.entry) }
         ensures reason { IfErr result (IsReason self.old.limit text.now source.entry) }
+        ensures memory { (s : Spec) → spec_at self.old.shared.loggers number ≡ Some s → IsErrOf result MessageError.OutOfMemory
+            → s.backtrace ≢ 0 }
         ensures err { OnErr result (self.new ≡ self.old) }
         ensures same { IsSame self.old self.new }
     {
         let shared: &Shared = &self.shared;
-        let mut port = Port {
+        let mut port = BlockPort {
             ring: &shared.ring,
             pass: &mut self.pass,
             book: &shared.book,
             seat: &mut self.losses,
+            hand: &mut self.hand,
+            spare: &mut self.spare,
         };
         let given = MessageRef {
             logger: number,
@@ -126,7 +132,8 @@ impl Producer {
         backtrace_seat.log(rt, alloc, &shared.loggers, &mut port, given)
     }
 
-    /// Logs a message to the logger of this number, as `Loggers::log_now` does: it never waits.
+    /// Logs a message to the logger of this number, as `Loggers::log_now` does: it never waits. The copy for a backtrace takes
+    /// memory, and nothing else does.
     pub fn log_now(
         &mut self,
         alloc: Global,
@@ -138,20 +145,24 @@ impl Producer {
     ) -> Result<LogReply, MessageError>
         requires known { number < length self.old.shared.loggers }
         ensures logs { (s : Spec) → spec_at self.old.shared.loggers number ≡ Some s
-            → IfOk result (λ r. Lent self.old self.new number (λ p k q l. Logs PortDid KeepsByTurn Passes (without_waiting s.policy) s
+            → IfOk result (λ r. Lent self.old self.new number (λ p k q l. Logs SwapDid KeepsByTurn Passes (without_waiting s.policy) s
             (message_with number level time self.old.number text.now source.entry) p k r q l)) }
         ensures within { (s : Spec) → spec_at self.old.shared.loggers number ≡ Some s
             → IfOk result (λ r. IsUnread s r ⊎ IsWithin self.old.limit text.now source.entry) }
         ensures reason { IfErr result (IsReason self.old.limit text.now source.entry) }
+        ensures memory { (s : Spec) → spec_at self.old.shared.loggers number ≡ Some s → IsErrOf result MessageError.OutOfMemory
+            → s.backtrace ≢ 0 }
         ensures err { OnErr result (self.new ≡ self.old) }
         ensures same { IsSame self.old self.new }
     {
         let shared: &Shared = &self.shared;
-        let mut port = Port {
+        let mut port = BlockPort {
             ring: &shared.ring,
             pass: &mut self.pass,
             book: &shared.book,
             seat: &mut self.losses,
+            hand: &mut self.hand,
+            spare: &mut self.spare,
         };
         let given = MessageRef {
             logger: number,
@@ -169,22 +180,24 @@ impl Producer {
     pub fn flush(&mut self, number: u32) -> Outcome<()>
         requires known { number < length self.old.shared.loggers }
         ensures post { (s : Spec) → spec_at self.old.shared.loggers number ≡ Some s
-            → (p q : Port Item TextLimit) × IsPortOf self.old p × IsPortOf self.new q
-            × PostsItemNow PortDid s.policy (Flush number) p q result }
+            → (p q : BlockPort) × IsPortOf self.old p × IsPortOf self.new q
+            × PostsItemNow SwapDid s.policy (Flush number) p q result }
         ensures same { IsSame self.old self.new × (self.new.backtrace_seats ≡ self.old.backtrace_seats) }
     {
         let shared: &Shared = &self.shared;
-        let mut port = Port {
+        let mut port = BlockPort {
             ring: &shared.ring,
             pass: &mut self.pass,
             book: &shared.book,
             seat: &mut self.losses,
+            hand: &mut self.hand,
+            spare: &mut self.spare,
         };
         shared.loggers.flush(&mut port, number)
     }
 
     /// Posts what the backtrace of the logger of this number kept, as `Loggers::dump_shared` does: it waits for the lock of the
-    /// backtrace, and its posts never wait.
+    /// backtrace, and its posts never wait. Memory is taken for the outcomes alone.
     pub fn dump_backtrace(
         &mut self,
         rt: &impl Wait,
@@ -195,17 +208,19 @@ impl Producer {
         requires known { number < length self.old.shared.loggers }
         ensures dumped { (s : Spec) → spec_at self.old.shared.loggers number ≡ Some s
             → IfOk result (λ v. Lent self.old self.new number (λ p k q l. (d : Room) × DumpsByTurn k d l
-            × PostsEach PortDid (without_waiting s.policy) (posted_of number time self.old.number d.messages) p v.items q)) }
+            × PostsEach SwapDid (without_waiting s.policy) (posted_of number time self.old.number d.messages) p v.items q)) }
         ensures err { OnErr result (self.new ≡ self.old) }
         ensures same { IsSame self.old self.new }
     {
         let shared: &Shared = &self.shared;
         let thread = self.number;
-        let mut port = Port {
+        let mut port = BlockPort {
             ring: &shared.ring,
             pass: &mut self.pass,
             book: &shared.book,
             seat: &mut self.losses,
+            hand: &mut self.hand,
+            spare: &mut self.spare,
         };
         let backtrace_seat = &mut self.backtrace_seats[number as usize];
         backtrace_seat.dump(rt, alloc, &shared.loggers, &mut port, number, time, thread)

@@ -18,13 +18,11 @@ use crate::pool::Pool;
 use crate::pool_parts::WorkerHandle;
 use crate::producer::Producer;
 use crate::report::{Blank, Report, Totals};
-use crate::shared::Shared;
+use crate::shared::{QueuePass, Shared};
 use crate::sink_seat::SinkSeat;
 use crate::stops::post_stops;
 use crate::worker::Worker;
-use alog_msg::Item;
 use alog_policy::{BookSeat, Counts};
-use alog_ring::Pass;
 use alog_sink::{Sink, Store};
 use std::sync::{Arc, Wait};
 use std::thread::Threads;
@@ -57,6 +55,7 @@ impl<S: Store + Drop + Send + 'static> Pool<S> {
             alloc: _,
             shared,
             mut pass,
+            mut block,
             mut losses,
             mut sink_seats,
             backtrace_seats: _,
@@ -72,7 +71,7 @@ impl<S: Store + Drop + Send + 'static> Pool<S> {
             mut sinks,
         } = blank;
         gather(&shared, &mut pass, &mut losses, producers);
-        post_stops(rt, &shared.ring, &mut pass, workers.len());
+        post_stops(rt, &shared.ring, &mut pass, &mut block, workers.len());
         let handled = collect(
             rt,
             &shared,
@@ -94,12 +93,12 @@ impl<S: Store + Drop + Send + 'static> Pool<S> {
 }
 
 /// Takes each producer's pass and seat back.
-fn gather(shared: &Shared, pass: &mut Pass<Item>, losses: &mut BookSeat, producers: Vec<Producer>)
-    requires ring { IsPassOf shared.now.ring pass.old }
+fn gather(shared: &Shared, pass: &mut QueuePass, losses: &mut BookSeat, producers: Vec<Producer>)
+    requires ring { IsPassOf shared.now.ring.ring pass.old }
     requires book { book.IsSeatOf shared.now.book losses.old }
     requires faithful { IsFaithful pass.old.known }
     requires own { AllByRecursion (λ p. p.shared ≡ shared.now) producers.items }
-    ensures ring { IsPassOf shared.now.ring pass.new }
+    ensures ring { IsPassOf shared.now.ring.ring pass.new }
     ensures book { book.IsSeatOf shared.now.book losses.new }
     ensures passes { HasBack pass.old.known pass.new.known (map pass_member producers.items) }
     ensures seats { HasSeatsBack losses.old.known losses.new.known (map loss_member producers.items) }
@@ -110,6 +109,8 @@ fn gather(shared: &Shared, pass: &mut Pass<Item>, losses: &mut BookSeat, produce
         let Producer {
             shared: _,
             pass: own,
+            hand: _,
+            spare: _,
             losses: seat,
             backtrace_seats: _,
             number: _,
@@ -126,18 +127,18 @@ fn gather(shared: &Shared, pass: &mut Pass<Item>, losses: &mut BookSeat, produce
 fn collect<R: Threads, S: Store + Drop + Send + 'static>(
     rt: &R,
     shared: &Shared,
-    pass: &mut Pass<Item>,
+    pass: &mut QueuePass,
     sink_seats: &mut Vec<SinkSeat<S>>,
     workers: Vec<WorkerHandle<S>>,
     tickets: &mut Vec<Vec<u64>>,
 ) -> u64
-    requires ring { IsPassOf shared.now.ring pass.old }
+    requires ring { IsPassOf shared.now.ring.ring pass.old }
     requires faithful { IsFaithful pass.old.known }
     requires unused { AllByRecursion IsUnused sink_seats.old.items }
     requires began { (most : ℕ) × AllByRecursion (Begins shared.now (lanes_of sink_seats.old.items) most)
         (map (λ h. h.promise.start.value) workers.items) }
     requires room { (tickets.old.items ≡ []) × (length workers.items ≤ vec_capacity tickets.old) }
-    ensures ring { IsPassOf shared.now.ring pass.new }
+    ensures ring { IsPassOf shared.now.ring.ring pass.new }
     ensures collects { Collects (map (λ h. h.promise.start.value) workers.items) pass.old.known pass.new.known
         sink_seats.old.items sink_seats.new.items tickets.new.items result }
 {
@@ -146,6 +147,7 @@ fn collect<R: Threads, S: Store + Drop + Send + 'static>(
         let Worker {
             shared: _,
             pass: own,
+            block: _,
             sink_seats: places,
             line: _,
             number: _,

@@ -1,11 +1,12 @@
 //! A worker.
-ghost use Rattle.std.specs.Prelude.{◌≡◌, ◌↔◌, ◌≤◌, ◌∷◌, ◌++◌, [], None, IsTrue, take, length, vec_capacity};
+ghost use Rattle.std.specs.Prelude.{◌≡◌, ◌↔◌, ◌≤◌, ◌∷◌, ◌++◌, [], IsTrue, take, length, vec_capacity};
 ghost use Rattle.alog_core.specs.Queue.{last};
 ghost use Rattle.alog_msg.specs.declared.item.Item.TheVariants.{Stop};
 ghost use Rattle.alog_pattern.specs.declared.patterns.TheConstants.{LINE_MAX};
 ghost use Rattle.alog_pool.specs.SinkSeat.{AreServable, places_of};
 ghost use Rattle.alog_pool.specs.Deeds.{Due, HaveMade, dues_by, dues_of};
 ghost use Rattle.alog_pool.specs.Working.{Finds, GoesOn, HasTurned, HasWorked, IsAtWork};
+ghost use Rattle.alog_registry.specs.Limit.{HoldsTo};
 ghost use Rattle.alog_registry.specs.Listed.{spec_at};
 ghost use Rattle.alog_ring.specs.Known.{IsPassOf};
 ghost use Rattle.alog_ring.specs.Made.{IsFaithful};
@@ -13,13 +14,13 @@ ghost use Rattle.alog_ring.specs.declared.pop.PopError.TheVariants.{Idle};
 
 use crate::gate::Gate;
 use crate::item_wait::ItemWait;
-use crate::shared::Shared;
+use crate::shared::{QueuePass, Shared};
 use crate::sink_seat::SinkSeat;
 use alog_core::TICKET_END;
 use alog_format::LineBuf;
-use alog_msg::Item;
+use alog_msg::{Block, Item};
 use alog_registry::{Loggers, SinkDeed};
-use alog_ring::{Pass, PopError};
+use alog_ring::PopError;
 use alog_sink::Store;
 use std::sync::{Arc, Wait};
 use std::time::Clock;
@@ -28,7 +29,9 @@ use std::time::Clock;
 #[derive(Drop)]
 pub struct Worker<S: Store> {
     pub shared: Arc<Shared>,
-    pub pass: Pass<Item>,
+    pub pass: QueuePass,
+    /// It holds what the worker took last, and its next pop brings it.
+    pub block: Block,
     pub sink_seats: Vec<SinkSeat<S>>,
     pub line: LineBuf,
     pub number: u32,
@@ -62,13 +65,16 @@ impl<S: Store> Worker<S> {
         requires { (start : Worker S) × IsAtWork start self.old }
         ensures { (start : Worker S) → IsAtWork start self.old → HasTurned start self.old → GoesOn start self.new result }
     {
-        let mut taken = None;
-        let Some(ticket) = take_waiting(rt, &self.shared, &mut self.pass, self.workers, &mut taken)
-        else {
+        let Some(ticket) = take_waiting(
+            rt,
+            &self.shared,
+            &mut self.pass,
+            self.workers,
+            &mut self.block,
+        ) else {
             return false;
         };
-        let Some(item) = &taken else { unreachable!() };
-        if is_stop(item) {
+        if is_stop(self.block.item()) {
             return false;
         }
         self.handled = self.handled.wrapping_add(1);
@@ -78,6 +84,7 @@ impl<S: Store> Worker<S> {
             sink_seats,
             line,
             number,
+            block,
             ..
         } = self;
         handle(
@@ -88,9 +95,8 @@ impl<S: Store> Worker<S> {
             sink_seats,
             line,
             ticket,
-            item,
+            block.item(),
         );
-        let_go(taken);
         true
     }
 }
@@ -188,27 +194,25 @@ fn serve_at<S: Store>(
     }
 }
 
-/// Drops what was taken. A drop of its own in each place would split what follows by the kinds of items.
-fn let_go(_taken: Option<Item>) {}
-
-/// Takes the next item into the empty hand as soon as there is one, and answers its ticket; or none, where no ticket is left and
-/// none will come.
+/// Takes the next item as soon as there is one, and answers its ticket: it lies in the block then, and what lay there in the item's
+/// place. Or none, where no ticket is left and none will come.
 fn take_waiting<R: Wait + Clock>(
     rt: &R,
     shared: &Shared,
-    pass: &mut Pass<Item>,
+    pass: &mut QueuePass,
     workers: u32,
-    taken: &mut Option<Item>,
+    block: &mut Block,
 ) -> Option<u64>
-    requires ring { IsPassOf shared.now.ring pass.old }
+    requires ring { IsPassOf shared.now.ring.ring pass.old }
     requires faithful { IsFaithful pass.old.known }
-    requires empty { taken.old ≡ None }
-    ensures ring { IsPassOf shared.now.ring pass.new }
-    ensures finds { Finds shared.now.ring.limit.most pass.old.known pass.new.known result taken.new }
+    requires block { HoldsTo shared.now.ring.ring.limit block.old }
+    ensures ring { IsPassOf shared.now.ring.ring pass.new }
+    ensures block { HoldsTo shared.now.ring.ring.limit block.new }
+    ensures finds { Finds shared.now.ring.ring.limit.most pass.old.known pass.new.known result block.new.item }
 {
     let mut pause = ItemWait::new(workers);
     for _ in rt.forever() {
-        match shared.ring.pop_into(rt, pass, taken) {
+        match shared.ring.pop_swap_into(pass, block) {
             Ok(ticket) => return Some(ticket),
             Err(error) => {
                 if is_end(error) {

@@ -12,7 +12,7 @@ use Rattle.alog_msg.specs.declared.item.Item.TheVariants.{Flush, Stop, Text}
 use Rattle.alog_msg.specs.declared.level.Level.{Level}
 use Rattle.alog_msg.specs.declared.message.Message.{Message}
 use Rattle.alog_msg.specs.declared.message.MessageError.{MessageError}
-use Rattle.alog_policy.specs.Port.{PortDid}
+use Rattle.alog_policy.specs.SwapPort.{SwapDid}
 use Rattle.alog_policy.specs.declared.policy.Outcome.TheVariants.{Posted}
 use Rattle.alog_policy.specs.declared.policy.Policy.TheVariants.{Block, OverrunOldest}
 use Rattle.alog_pool.specs.Deeds.{Due, all_dues, due_by, dues_by, dues_on}
@@ -35,7 +35,7 @@ use Rattle.alog_registry.specs.declared.logging.LogReply.{LogReply}
 use Rattle.alog_registry.specs.declared.logging.LogReply.TheVariants.{Logged}
 use Rattle.alog_registry.specs.declared.work.SinkDeed.TheVariants as deed
 use Rattle.alog_registry.specs.declared.work.SinkTurn.{SinkTurn}
-use Rattle.alog_ring.specs.Kinds.{no_note}
+use Rattle.alog_registry.specs.BlockPort.{block_note}
 use Rattle.alog_sink.specs.Files.{Files}
 use Rattle.alog_sink.specs.declared.sink.Sink.{Sink}
 use Rattle.test_laws.specs.Written.{HoldsAt}
@@ -164,7 +164,7 @@ module _ {S : Type 0} (tells : Bool) (files : S → Files) (failures : S → ℕ
     pub makes : Makes before pool made
     pub new : before.made ≡ 0
     pub logs : (s : Spec) → spec_at made.shared.loggers number ≡ Some s
-        → IfOk reply (λ x. Lent made last number (λ a k b l. Logs PortDid KeepsByTurn NeverPasses s.policy s
+        → IfOk reply (λ x. Lent made last number (λ a k b l. Logs SwapDid KeepsByTurn NeverPasses s.policy s
         (message_with number level time made.number text None) a k x b l))
     pub all : producers ≡ last ∷ []
     pub ends : Ends tells files failures pool producers r
@@ -188,12 +188,12 @@ module _ {S : Type 0} (tells : Bool) (files : S → Files) (failures : S → ℕ
       let here : spec_at once.made.shared.loggers number ≡ Some s =
       subst (λ (v : Shared). spec_at v.loggers number ≡ Some s) (sym once.makes.shared) logger.found in
       let at : Result LogReply MessageError → Type 0 = λ o.
-      IfOk o (λ x. Lent once.made once.last number (λ a k b l. Logs PortDid KeepsByTurn NeverPasses s.policy s m a k x b l)) in
+      IfOk o (λ x. Lent once.made once.last number (λ a k b l. Logs SwapDid KeepsByTurn NeverPasses s.policy s m a k x b l)) in
       let lent = subst at once.posted.3 (once.logs s here) in
       let put = texts once.made once.last number s.policy s m t once.posted.1 once.posted.2 (inl lent) in
-      let puts = put.0 ∙ ap (λ (h : List (Entry Item no_note)). claims h ++ (t, Text m) ∷ []) once.makes.entries.0 in
+      let puts = put.0 ∙ ap (λ (h : List (Entry Item block_note)). claims h ++ (t, Text m) ∷ []) once.makes.entries.0 in
       let took = put.1 (λ over. let bad : Block ≡ OverrunOldest = sym logger.waits ∙ over in absurd (cc bad))
-      ∙ ap (λ (h : List (Entry Item no_note)). takes h) once.makes.entries.0 in
+      ∙ ap (λ (h : List (Entry Item block_note)). takes h) once.makes.entries.0 in
       let crew : length once.pool.crew ≡ 1 = ap (λ (hs : List (Worker S)). length hs) once.makes.same.3 ∙ single in
       let there : spec_at once.pool.shared.loggers number ≡ Some s =
       subst (λ (v : Shared). spec_at v.loggers number ≡ Some s) (sym once.makes.same.0) logger.found in

@@ -70,7 +70,7 @@ fn says_five(
     rt: &(impl Abort + Wait + Clock),
     alloc: Global,
     flags: &Flags,
-    trial: &mut Trial,
+    trial: &mut Trial<Files>,
     fourth: Outcome<()>,
     fifth: Outcome<()>,
 ) {
@@ -140,7 +140,7 @@ fn says_three_now(
     rt: &(impl Abort + Wait + Clock),
     alloc: Global,
     flags: &Flags,
-    trial: &mut Trial,
+    trial: &mut Trial<Files>,
     last: Outcome<()>,
 ) {
     trial.say(rt, alloc, 0, "a");

@@ -5,7 +5,8 @@
 //! `reports.rt` (what is wanted of replies and reports). Then `worker_tests.rt` (a worker alone), `wait_tests.rt` (how it waits),
 //! `producer_tests.rt`, `pool_tests.rt` and `shutdown_tests.rt`; `gates.rt` (a gate that holds a worker), `gate_tests.rt` and `order_tests.rt` (which
 //! turn comes before which); `meeting_tests.rt` (sinks that wait for each other), `thread_tests.rt` (producers on threads of their
-//! own) and `memory_tests.rt` (want of memory); last `load_tests.rt` (loads of small configurations).
+//! own), `memory_tests.rt` (want of memory) and `reserved_tests.rt` (that posting takes none); last `load_tests.rt` (loads of small
+//! configurations).
 #![tactic(auto)]
 
 #[cfg(test)]
@@ -26,6 +27,8 @@ mod pool_tests;
 mod producer_tests;
 #[cfg(test)]
 mod reports;
+#[cfg(test)]
+mod reserved_tests;
 #[cfg(test)]
 mod shutdown_tests;
 #[cfg(test)]

@@ -14,7 +14,7 @@ use std::sync::{Arc, Wait};
 use std::thread::{self, Threads};
 use std::time::Clock;
 
-/// What is logged, which takes memory of its own.
+/// What is logged: its copy for the backtrace takes memory of its own.
 const TEXT: &str = "a request of more than sixty-four bytes, which do not lie in a message";
 
 /// The lines of a whole run, and how often each stands there: three texts are logged, and two of them dumped between two others.
@@ -86,7 +86,7 @@ fn shares(rt: &impl Abort, alloc: Global) -> (Arc<u8>, Arc<u8>) {
 fn pool_again<R: Abort + Threads + Wait + Clock + Clone + Drop + Send + 'static>(
     rt: &R,
     alloc: Global,
-) -> Trial {
+) -> Trial<Files> {
     let (shared, other) = shares(rt, alloc);
     let Ok(setup) = setup_again(alloc) else {
         panic!(rt; "no memory")

@@ -112,19 +112,6 @@ fn the_last_ticket_of_a_pool(rt: HostRuntime) {
     has(&rt, &report, 0, b"a\n");
 }
 
-// One ticket is left behind the only text: one of two workers is stopped by it, and the other ends at the end of all tickets.
-#[test]
-fn one_ticket_for_two_stops(rt: HostRuntime) {
-    let alloc = rt.alloc();
-    let first = (1 << 62) - 2;
-    let setup = setup_of(alloc, of(2, first, 2), &[&[0]], &[NEVER]);
-    let mut trial = Trial::start(&rt, alloc, setup, OpenGate, 1);
-    is_told(&rt, trial.log(&rt, alloc, 0, 0, "a"), logged(posted(first)));
-    let report = trial.end(&rt);
-    has_totals(&rt, &report, 1, 0, 0);
-    has(&rt, &report, 0, b"a\n");
-}
-
 // A pool makes 4,096 producers, and no further one. Its only ticket is used up, so that its worker ends; at the end all producers
 // come back.
 #[test]

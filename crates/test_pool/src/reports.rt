@@ -5,6 +5,7 @@ use alog_msg::Level;
 use alog_policy::Outcome;
 use alog_pool::Report;
 use alog_registry::LogReply;
+use alog_sink::Store;
 use std::process::Abort;
 
 /// Posted under this ticket.
@@ -33,7 +34,7 @@ pub fn is_told(rt: &impl Abort, reply: LogReply, wanted: LogReply) {
 /// So many texts and flushes were asked, of which so many were discarded and overrun.
 pub fn has_totals(
     rt: &impl Abort,
-    report: &Report<Files>,
+    report: &Report<impl Store>,
     asked: u64,
     discarded: u64,
     overrun: u64,

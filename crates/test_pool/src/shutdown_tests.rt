@@ -93,7 +93,12 @@ fn text(rt: &impl Abort, alloc: Global, who: usize, number: usize) -> String {
 }
 
 // Four producers log in turn, so many messages in all, while the workers take them.
-fn talk_in_turn(rt: &(impl Abort + Wait + Clock), alloc: Global, trial: &mut Trial, count: usize) {
+fn talk_in_turn(
+    rt: &(impl Abort + Wait + Clock),
+    alloc: Global,
+    trial: &mut Trial<Files>,
+    count: usize,
+) {
     for number in 0..count {
         let who = number % 4;
         let line = text(rt, alloc, who, number);

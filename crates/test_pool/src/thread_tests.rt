@@ -148,9 +148,9 @@ fn talk_all<R: Abort + Threads + Wait + Clock + Sync>(
 fn talk<R: Abort + Threads + Wait + Clock + Sync>(
     rt: &R,
     alloc: Global,
-    trial: Trial,
+    trial: Trial<Files>,
     told: &Told,
-) -> Trial {
+) -> Trial<Files> {
     let Trial {
         pool,
         mut producers,

@@ -8,11 +8,11 @@ ghost use Rattle.alog_sink.specs.Sinks.{Suits};
 ghost use Rattle.test_pool.specs.declared.sinks.TheConstants.{TEXT_LIMIT};
 
 use crate::sinks::{TEXT_LIMIT, face, sink};
-use alog_msg::{Level, MessageError};
+use alog_msg::{Level, MessageError, SourceRef};
 use alog_policy::{Outcome, Policy};
-use alog_pool::{Gate, Pool, Producer, ProducerError, ProducersOut, Report, Setup};
+use alog_pool::{Gate, Pool, Producer, ProducerError, ProducersOut, Report, Setup, StartError};
 use alog_registry::{LogReply, Loggers, Registry, Spec};
-use alog_sink::{FuseStore, MemStore, Sink};
+use alog_sink::{FuseStore, MemStore, Sink, Store};
 use std::alloc::{AllocError, Global};
 use std::marker::Model;
 use std::process::Abort;
@@ -51,12 +51,12 @@ pub const PLAIN: Plan = Plan {
 };
 
 /// A pool and its producers.
-pub struct Trial {
-    pub pool: Pool<Files>,
+pub struct Trial<S: Store> {
+    pub pool: Pool<S>,
     pub producers: Vec<Producer>,
 }
 
-impl Model for Trial {
+impl<S: Store> Model for Trial<S> {
     ghost use Rattle.std.specs.Prelude.{◌≡◌, ℕ, length};
     ghost use Rattle.std.specs.List.{AllByRecursion};
 
@@ -125,7 +125,7 @@ pub fn setup_of(
 }
 
 /// Its next producer. Where memory was wanting, it is made again.
-fn next(rt: &impl Abort, pool: &mut Pool<Files>) -> Producer
+fn next<S: Store + Drop + Send + 'static>(rt: &impl Abort, pool: &mut Pool<S>) -> Producer
     ensures pool { pool.new.shared ≡ pool.old.shared }
     ensures producer { result.shared ≡ pool.old.shared }
 {
@@ -163,7 +163,12 @@ fn add(rt: &impl Abort, all: &mut Vec<Producer>, producer: Producer)
 }
 
 /// So many producers of this pool, which made none yet.
-fn made(rt: &impl Abort, alloc: Global, pool: &mut Pool<Files>, count: usize) -> Vec<Producer>
+fn made<S: Store + Drop + Send + 'static>(
+    rt: &impl Abort,
+    alloc: Global,
+    pool: &mut Pool<S>,
+    count: usize,
+) -> Vec<Producer>
     ensures pool { pool.new.shared ≡ pool.old.shared }
     ensures producers { AllByRecursion (λ p. p.shared ≡ pool.old.shared) result.items }
 {
@@ -176,7 +181,7 @@ fn made(rt: &impl Abort, alloc: Global, pool: &mut Pool<Files>, count: usize) ->
     all
 }
 
-impl Trial {
+impl<S: Store + Drop + Send + 'static> Trial<S> {
     /// Starts a pool of this setup, and makes so many producers.
     pub fn start<
         R: Abort + Threads + Wait + Clock + Clone + Drop + Send + 'static,
@@ -184,23 +189,24 @@ impl Trial {
     >(
         rt: &R,
         alloc: Global,
-        setup: Result<Setup<Files>, AllocError>,
+        setup: Result<Setup<S>, AllocError>,
         gate: G,
         producers: usize,
-    ) -> Trial
+    ) -> Trial<S>
         requires { IfOk setup Fits }
     {
         let Ok(setup) = setup else {
-            panic!(rt; "no memory")
+            panic!(rt; "out of memory")
         };
         match Pool::start(rt, alloc, setup, gate) {
             Ok(pool) => Trial::of(rt, alloc, pool, producers),
+            Err(StartError::OutOfMemory) => panic!(rt; "out of memory"),
             Err(_) => panic!(rt; "no pool"),
         }
     }
 
     /// Tries this pool with so many producers.
-    pub fn of(rt: &impl Abort, alloc: Global, pool: Pool<Files>, producers: usize) -> Trial {
+    pub fn of(rt: &impl Abort, alloc: Global, pool: Pool<S>, producers: usize) -> Trial<S> {
         let mut pool = pool;
         let producers = made(rt, alloc, &mut pool, producers);
         Trial { pool, producers }
@@ -276,6 +282,22 @@ impl Trial {
         self.log(rt, alloc, number, 0, text);
     }
 
+    /// It logs it, of level info, to the first logger, with where it comes from, and is not asked again where memory was wanting.
+    pub fn log_once(
+        &mut self,
+        rt: &(impl Abort + Wait + Clock),
+        alloc: Global,
+        number: usize,
+        text: &str,
+        source: Option<SourceRef<'_>>,
+    ) {
+        assert!(rt; number < self.producers.len());
+        let producer = &mut self.producers[number];
+        assert!(rt; producer.loggers().len() > 0);
+        let answer = producer.log(rt, alloc, 0, Level::Info, 0, text, source);
+        assert!(rt; answer.is_ok());
+    }
+
     /// It posts a flush of the first logger, under this ticket.
     pub fn flush(&mut self, rt: &impl Abort, number: usize, ticket: u64) {
         assert!(rt; number < self.producers.len());
@@ -314,7 +336,7 @@ impl Trial {
     }
 
     /// Ends the pool.
-    pub fn end(self, rt: &(impl Abort + Threads + Wait + Clock)) -> Report<Files> {
+    pub fn end(self, rt: &(impl Abort + Threads + Wait + Clock)) -> Report<S> {
         let Trial { pool, producers } = self;
         match pool.shutdown(rt, producers) {
             Ok(report) => report,
@@ -323,7 +345,7 @@ impl Trial {
     }
 
     /// Ends the pool when its last producer is back: while that is out, pool and producers come back as they were.
-    pub fn end_late(self, rt: &(impl Abort + Threads + Wait + Clock)) -> Report<Files> {
+    pub fn end_late(self, rt: &(impl Abort + Threads + Wait + Clock)) -> Report<S> {
         let Trial {
             pool,
             mut producers,
@@ -345,7 +367,7 @@ impl Trial {
     }
 
     /// Ends the pool, which makes no producer more.
-    pub fn end_full(self, rt: &(impl Abort + Threads + Wait + Clock)) -> Report<Files> {
+    pub fn end_full(self, rt: &(impl Abort + Threads + Wait + Clock)) -> Report<S> {
         let Trial {
             mut pool,
             producers,

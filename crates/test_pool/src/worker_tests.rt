@@ -1,6 +1,7 @@
 //! A worker alone, on the thread of the test. It has no place at a sink: what a worker writes, tests of pools show.
 ghost use Rattle.std.specs.Prelude.{◌≡◌, IfOk};
 ghost use Rattle.std.specs.Arc.{arc_value};
+ghost use Rattle.alog_registry.specs.Limit.{HoldsTo};
 ghost use Rattle.alog_pattern.specs.declared.patterns.TheConstants.{LINE_MAX};
 ghost use Rattle.alog_pool.specs.Working.{IsAtWork, IsFresh};
 ghost use Rattle.test_pool.specs.declared.sinks.TheConstants.{TEXT_LIMIT};
@@ -9,68 +10,92 @@ ghost use Rattle.alog_ring.specs.Known.{IsPassOf};
 use crate::sinks::TEXT_LIMIT;
 use crate::trial::{PLAIN, loggers};
 use alog_format::LineBuf;
-use alog_msg::{Item, Level, Message};
+use alog_msg::{Block, Item, Level};
 use alog_pattern::LINE_MAX;
 use alog_policy::LossBook;
-use alog_pool::{OpenGate, Shared, Worker};
+use alog_pool::{OpenGate, Queue, QueuePass, Shared, Worker};
 use alog_registry::{Loggers, TextLimit};
-use alog_ring::{Pass, Ring};
+use alog_ring::SwapRing;
 use alog_sink::MemStore;
 use std::alloc::Global;
 use std::process::Abort;
-use std::sync::{Arc, Wait};
+use std::sync::Arc;
 use std::test::Fail;
-use std::time::Clock;
 
-// A queue of this worker's pool.
-type Queue = Ring<Item, TextLimit>;
-
-// Posts this text, under this ticket.
-fn post(
-    rt: &(impl Abort + Wait + Clock),
-    alloc: Global,
-    ring: &Queue,
-    pass: &mut Pass<Item>,
-    text: &str,
-    ticket: u64,
-)
-    requires ring { IsPassOf ring.now pass.old }
-    requires limit { ring.now.limit.most ≡ TEXT_LIMIT }
-    ensures { IsPassOf ring.now pass.new }
+// A block for texts of the limit.
+fn block(rt: &impl Abort, alloc: Global) -> Block
+    ensures { HoldsTo (record { most = TEXT_LIMIT }) result }
 {
-    let Ok(text) = Message::new(alloc, TEXT_LIMIT, 0, Level::Info, 0, 1, text, None) else {
-        panic!(rt; "no memory")
-    };
+    match Block::new(alloc, TEXT_LIMIT) {
+        Ok(block) => block,
+        Err(_) => panic!(rt; "no memory"),
+    }
+}
+
+// Posts what is in the hand, under this ticket.
+fn post(rt: &impl Abort, ring: &Queue, pass: &mut QueuePass, hand: &mut Block, ticket: u64)
+    requires ring { IsPassOf ring.now.ring pass.old }
+    requires hand { HoldsTo ring.now.ring.limit hand.old }
+    ensures ring { IsPassOf ring.now.ring pass.new }
+    ensures hand { HoldsTo ring.now.ring.limit hand.new }
+{
     assert!(rt;
-        ring.push(rt, pass, Item::Text(text))
+        ring.push_swap_from(pass, hand)
             .is_ok_and(|found| found == ticket)
     );
 }
 
-// Posts a text, a stop, and a text behind it.
-fn post_all(rt: &(impl Abort + Wait + Clock), alloc: Global, ring: &Queue, pass: &mut Pass<Item>)
-    requires ring { IsPassOf ring.now pass.old }
-    requires limit { ring.now.limit.most ≡ TEXT_LIMIT }
-    ensures { IsPassOf ring.now pass.new }
+// Posts this text, under this ticket.
+fn post_text(
+    rt: &impl Abort,
+    ring: &Queue,
+    pass: &mut QueuePass,
+    hand: &mut Block,
+    text: &str,
+    ticket: u64,
+)
+    requires ring { IsPassOf ring.now.ring pass.old }
+    requires hand { HoldsTo ring.now.ring.limit hand.old }
+    ensures ring { IsPassOf ring.now.ring pass.new }
+    ensures hand { HoldsTo ring.now.ring.limit hand.new }
 {
-    post(rt, alloc, ring, pass, "a", 0);
-    assert!(rt; matches!(ring.push(rt, pass, Item::Stop), Ok(1)));
-    post(rt, alloc, ring, pass, "b", 2);
+    let written = hand.write(0, Level::Info, 0, 1, text, None).is_ok();
+    assert!(rt; written);
+    post(rt, ring, pass, hand, ticket);
+}
+
+// Posts a text, a stop, and a text behind it.
+fn post_all(rt: &impl Abort, alloc: Global, ring: &Queue, pass: &mut QueuePass)
+    requires ring { IsPassOf ring.now.ring pass.old }
+    requires limit { ring.now.ring.limit ≡ record { most = TEXT_LIMIT } }
+    ensures { IsPassOf ring.now.ring pass.new }
+{
+    let mut hand = block(rt, alloc);
+    post_text(rt, ring, pass, &mut hand, "a", 0);
+    hand.write_stop();
+    post(rt, ring, pass, &mut hand, 1);
+    post_text(rt, ring, pass, &mut hand, "b", 2);
 }
 
 // A queue with those, a worker's pass of it, and another.
-fn queue(rt: &(impl Abort + Wait + Clock), alloc: Global) -> (Queue, Pass<Item>, Pass<Item>)
-    ensures ring { IsPassOf result.0 result.1 × (result.0.limit.most ≡ TEXT_LIMIT) }
-    ensures fresh { IsFresh result.1.known }
-    ensures other { IsPassOf result.0 result.2 }
+fn queue(rt: &impl Abort, alloc: Global) -> Result<(Queue, QueuePass, QueuePass), Fail>
+    ensures ring { IfOk result (λ r. IsPassOf r.0.ring r.1 × (r.0.ring.limit ≡ record { most = TEXT_LIMIT })) }
+    ensures fresh { IfOk result (λ r. IsFresh r.1.known) }
+    ensures other { IfOk result (λ r. IsPassOf r.0.ring r.2) }
 {
     let limit = TextLimit { most: TEXT_LIMIT };
-    let Ok((ring, mut first)) = Ring::limited(alloc, 4, 0, limit) else {
+    let blocks = vec![in alloc;
+        block(rt, alloc),
+        block(rt, alloc),
+        block(rt, alloc),
+        block(rt, alloc),
+    ]?;
+    let Ok((ring, mut first)) = SwapRing::limited(alloc, 4, 0, blocks, limit) else {
         panic!(rt; "no memory")
     };
     let pass = ring.split(&mut first, 1);
     post_all(rt, alloc, &ring, &mut first);
-    (ring, pass, first)
+    Ok((ring, pass, first))
 }
 
 // What this queue's worker shares with the rest of its pool.
@@ -92,14 +117,21 @@ fn shared(rt: &impl Abort, alloc: Global, ring: Queue, loggers: Loggers) -> Arc<
 }
 
 // A worker without a place, of a pool of one.
-fn worker(alloc: Global, shared: Arc<Shared>, pass: Pass<Item>) -> Result<Worker<MemStore>, Fail>
-    requires ring { IsPassOf (arc_value shared).ring pass }
+fn worker(
+    rt: &impl Abort,
+    alloc: Global,
+    shared: Arc<Shared>,
+    pass: QueuePass,
+) -> Result<Worker<MemStore>, Fail>
+    requires ring { IsPassOf (arc_value shared).ring.ring pass }
+    requires limit { (arc_value shared).ring.ring.limit ≡ record { most = TEXT_LIMIT } }
     requires fresh { IsFresh pass.known }
     ensures { IfOk result (λ h. IsAtWork h h) }
 {
     Ok(Worker {
         shared,
         pass,
+        block: block(rt, alloc),
         sink_seats: Vec::new(alloc),
         line: LineBuf::new(alloc, LINE_MAX)?,
         number: 0,
@@ -111,24 +143,27 @@ fn worker(alloc: Global, shared: Arc<Shared>, pass: Pass<Item>) -> Result<Worker
 }
 
 // The next item of the queue is the text behind the stop.
-fn has_the_last(rt: &(impl Abort + Wait + Clock), ring: &Queue, pass: &mut Pass<Item>)
-    requires { IsPassOf ring.now pass.old }
+fn has_the_last(rt: &impl Abort, ring: &Queue, pass: &mut QueuePass, spare: &mut Block)
+    requires ring { IsPassOf ring.now.ring pass.old }
+    requires spare { HoldsTo ring.now.ring.limit spare.old }
 {
-    match ring.pop_once(pass) {
-        Ok((2, Item::Text(message))) => assert!(rt; message.text.as_str() == "b"),
-        _ => panic!(rt; "another item"),
+    assert!(rt; ring.pop_swap_into(pass, spare) == Ok(2));
+    match spare.item() {
+        Item::Text(message) => assert!(rt; message.text.as_str() == "b"),
+        Item::Flush(_) | Item::Stop => panic!(rt; "another item"),
     }
 }
 
 #[test]
 fn a_worker_ends_at_its_stop(rt: HostRuntime) -> Result<(), Fail> {
     let alloc = rt.alloc();
-    let (ring, pass, mut other) = queue(&rt, alloc);
+    let (ring, pass, mut other) = queue(&rt, alloc)?;
+    let mut spare = block(&rt, alloc);
     let shared = shared(&rt, alloc, ring, loggers(alloc, PLAIN, &[&[0]])?);
     let same = Arc::try_clone(&shared)?;
-    let worker = worker(alloc, shared, pass)?.work(&rt, &OpenGate);
+    let worker = worker(&rt, alloc, shared, pass)?.work(&rt, &OpenGate);
     assert_eq!(rt; worker.handled, 1);
     assert!(rt; worker.tickets.as_slice() == [0].as_slice());
-    has_the_last(&rt, &same.ring, &mut other);
+    has_the_last(&rt, &same.ring, &mut other, &mut spare);
     Ok(())
 }

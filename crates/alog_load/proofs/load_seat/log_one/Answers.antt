@@ -4,7 +4,7 @@ use Rattle.alog_load.proofs.Making.{spec_there}
 use Rattle.alog_load.specs.Load.{text_of}
 use Rattle.alog_load.proofs.load_seat.log_one.Goals as goal
 use Rattle.alog_msg.specs.declared.level.Level.TheVariants.{Info}
-use Rattle.alog_policy.specs.Port.{PortDid}
+use Rattle.alog_policy.specs.SwapPort.{SwapDid}
 use Rattle.alog_pool.specs.Producer.{Lent}
 use Rattle.alog_registry.specs.Given.{message_with}
 use Rattle.alog_registry.specs.LaneKeeper.{KeepsByTurn, NeverPasses}
@@ -20,10 +20,10 @@ returns-in-Ok-log-clause-logged g c = λ _.
       spec = s.0;
       found = s.1;
       reply = c.in-Ok-log.field-0;
-      log = subst (λ (z : ℤ). Lent old c.log.new.self c.args.logger (λ p k q l. Logs PortDid KeepsByTurn NeverPasses s.0.policy s.0
+      log = subst (λ (z : ℤ). Lent old c.log.new.self c.args.logger (λ p k q l. Logs SwapDid KeepsByTurn NeverPasses s.0.policy s.0
           (message_with c.args.logger Info z old.number (text_of old.number c.args.i) None) p k c.in-Ok-log.field-0 q l))
           c.requires.time
-          (subst (λ (t : List ℕ). Lent old c.log.new.self c.args.logger (λ p k q l. Logs PortDid KeepsByTurn NeverPasses s.0.policy s.0
+          (subst (λ (t : List ℕ). Lent old c.log.new.self c.args.logger (λ p k q l. Logs SwapDid KeepsByTurn NeverPasses s.0.policy s.0
           (message_with c.args.logger Info c.args.time old.number t None) p k c.in-Ok-log.field-0 q l)) text
           (simp (to_z-of_z, c.ranges.time) at (c.in-Ok-log.ensures.logs s.0 s.1)));
       same = c.log.ensures.same;

@@ -20,7 +20,7 @@ use Rattle.alog_pool.proofs.SharedBack.{back_starts, back_one, map_more, sum_mor
 use Rattle.alog_pool.proofs.Rows.{each_lane, ones, place_lanes, rows_lanes, rows_more, rows_start}
 use Rattle.alog_pool.proofs.SharedSharing.{all_map_next, each2_length, each2_more}
 use Rattle.alog_pool.proofs.shutdown.collect.Goals as goal
-use Rattle.alog_ring.specs.Kinds.{no_note}
+use Rattle.alog_registry.specs.BlockPort.{block_note}
 use Rattle.alog_ring.specs.Known.{IsPassOf, Member}
 
 pub loop-worker-init : goal.loop-worker-init
@@ -47,7 +47,7 @@ join-requires-clause-other g c =
     let f : W → Worker S = λ h. h.promise.start.value in
     let P : Worker S → Type 0 = Begins c.args.shared.now (lanes_of c.args.sink_seats.now.items) c.requires.began.0 in
     let begins = all_map_next f P yielded c.in-Some.worker _ (subst (λ (l : List W). AllByRecursion P (map f l)) all c.requires.began.1) in
-    subst (λ (s : Shared). IsPassOf s.ring c.join-own.result.pass) begins.shares c.join-own.ensures.ring
+    subst (λ (s : Shared). IsPassOf s.ring.ring c.join-own.result.pass) begins.shares c.join-own.ensures.ring
 
 pub take_all_back-requires : goal.take_all_back-requires
 take_all_back-requires g c =
@@ -95,18 +95,18 @@ loop-worker-preserved g c =
     let collected = c.loop-worker.invariant.collects in
     let crew = collected.crew in
     let worker = c.join-own.result in
-    let M : Type 0 = Member Item no_note in
+    let M : Type 0 = Member Item block_note in
     let V : Type 0 = Vec ℕ Global in
     let room = c.loop-worker.invariant.room in
     record {
-      ring = c.join.ensures.ring;
+      ring = c.join-in-loop-worker.ensures.ring;
       collects = record {
         crew = crew ++ worker ∷ [];
         worked = subst (λ (l : List (Worker S)). Each2 HasWorked l (crew ++ worker ∷ [])) (sym (map_more f yielded c.in-Some.worker))
             (each2_more HasWorked (map f yielded) crew (f c.in-Some.worker) worker collected.worked c.join-own.ensures);
-        passes = subst (λ (l : List M). HasBack c.args.pass.now.known c.join.new.pass.known l)
+        passes = subst (λ (l : List M). HasBack c.args.pass.now.known c.join-in-loop-worker.new.pass.known l)
             (sym (map_more (λ (h : Worker S). worker_member h) crew worker))
-            (back_one collected.passes c.join.ensures.joined c.join-own.ensures.work.joined c.join-own.ensures.work.parts);
+            (back_one collected.passes c.join-in-loop-worker.ensures.joined c.join-own.ensures.work.joined c.join-own.ensures.work.parts);
         places = subst (λ (l : List (List (SinkSeatView S))). HaveBack c.args.sink_seats.now.items c.take_all_back.new.sink_seats.items l)
             (sym (map_more (λ (h : Worker S). h.sink_seats.items) crew worker))
             (rows_more c.args.sink_seats.now.items c.loop-worker.sink_seats.items c.take_all_back.new.sink_seats.items worker.sink_seats.items

@@ -13,7 +13,7 @@ abbrev pub invariant-loop-producer : goal.invariant-loop-producer
 invariant-loop-producer l = record {
   done : List ProducerView;
   front : l.fn.producers.items ≡ done ++ into_iter_items l.rest;
-  ring : IsPassOf l.shared.ring l.pass;
+  ring : IsPassOf l.shared.ring.ring l.pass;
   book : IsSeatOf l.shared.book l.losses;
   passes : HasBack l.fn.pass.known l.pass.known (map pass_member done);
   seats : HasSeatsBack l.fn.losses.known l.losses.known (map loss_member done);

@@ -15,22 +15,22 @@ pub shape_of-self-inside : goal.shape_of-self-inside
 shape_of-self-inside g c =
     let left = log_leaves c.args.loggers.now c.args.given.logger _ {a = c.args.port.now} c.log_ref.result {b = c.log_ref.new.outlet}
     {l = c.log_ref.new.keeper} c.requires.known c.log_ref.ensures.logs c.log_ref.ensures.err in
-    sym left.keeper.scratch
+    sym (left.keeper.scratch ∙ c.keeper-keeper.ensures.scratch.0)
 
 pub shape_of-self-inside-2 : goal.shape_of-self-inside-2
 shape_of-self-inside-2 g c =
     let left = log_leaves c.args.loggers.now c.args.given.logger _ {a = c.args.port.now} c.log_ref.result {b = c.log_ref.new.outlet}
     {l = c.log_ref.new.keeper} c.requires.known c.log_ref.ensures.logs c.log_ref.ensures.err in
-    sym left.keeper.seat
+    sym (left.keeper.seat ∙ c.keeper-keeper.ensures.seat.0)
 
 pub returns-clause-logs : goal.returns-clause-logs
 returns-clause-logs g c = λ s e.
     keeps_log NeverPasses s.policy s _ c.args.port.now c.log_ref.new.outlet _ c.log_ref.new.keeper c.args.self.now _ c.log_ref.result (
-      c.deref.ensures ∙ ap (λ (v : BacktraceSeatView). v.lane) c.self.view_is,
-      ap (λ (v : BacktraceSeatView). v.seat) c.self.view_is,
-      ap (λ (v : BacktraceSeatView). v.scratch) c.self.view_is,
+      c.keeper-keeper.ensures.lane ∙ c.deref.ensures ∙ ap (λ (v : BacktraceSeatView). v.lane) c.self.view_is,
+      c.keeper-keeper.ensures.seat.1 ∙ ap (λ (v : BacktraceSeatView). v.seat) c.self.view_is,
+      c.keeper-keeper.ensures.scratch.1 ∙ ap (λ (v : BacktraceSeatView). v.scratch) c.self.view_is,
     )
-    (ap (λ (b : Bor (LaneId Room)). b.now) c.log_ref.ensures.lane ∙ c.deref.ensures, refl, refl)
+    (ap (λ (b : Bor (LaneId Room)). b.now) c.log_ref.ensures.lane ∙ c.keeper-keeper.ensures.lane ∙ c.deref.ensures, refl, refl)
     (c.log_ref.ensures.logs s e)
 
 pub returns-clause-within : goal.returns-clause-within
@@ -44,4 +44,4 @@ pub returns-clause-port : goal.returns-clause-port
 returns-clause-port g c =
     let left = log_leaves c.args.loggers.now c.args.given.logger _ {a = c.args.port.now} c.log_ref.result {b = c.log_ref.new.outlet}
     {l = c.log_ref.new.keeper} c.requires.known c.log_ref.ensures.logs c.log_ref.ensures.err in
-    (c.log_ref.ensures.ready.0.0, left.port)
+    (c.log_ref.ensures.ready.0, left.port)

@@ -18,14 +18,14 @@ shape_of-self-inside c =
     let left = log_now_leaves (λ (s : Spec). without_waiting s.policy) c.args.loggers.now c.args.given.logger _ {a = c.args.port.now}
     c.log_ref_now.result {b = c.log_ref_now.new.outlet} {l = c.log_ref_now.new.keeper} c.requires.known c.log_ref_now.ensures.logs
     c.log_ref_now.ensures.err in
-    sym left.keeper.scratch
+    sym (left.keeper.scratch ∙ c.keeper-keeper.ensures.scratch.0)
 
 pub shape_of-self-inside-2 : goal.shape_of-self-inside-2
 shape_of-self-inside-2 c =
     let left = log_now_leaves (λ (s : Spec). without_waiting s.policy) c.args.loggers.now c.args.given.logger _ {a = c.args.port.now}
     c.log_ref_now.result {b = c.log_ref_now.new.outlet} {l = c.log_ref_now.new.keeper} c.requires.known c.log_ref_now.ensures.logs
     c.log_ref_now.ensures.err in
-    sym left.keeper.seat
+    sym (left.keeper.seat ∙ c.keeper-keeper.ensures.seat.0)
 
 pub invariant_of-self : goal.invariant_of-self
 invariant_of-self c =
@@ -33,7 +33,8 @@ invariant_of-self c =
     let left = log_now_leaves (λ (s : Spec). without_waiting s.policy) c.args.loggers.now c.args.given.logger _ {a = c.args.port.now}
     c.log_ref_now.result {b = c.log_ref_now.new.outlet} {l = c.log_ref_now.new.keeper} c.requires.known c.log_ref_now.ensures.logs
     c.log_ref_now.ensures.err in
-    still_seated c.self.invariant c.deref.ensures refl left.keeper left.list c.log_ref_now.ensures.ready.1
+    still_seated c.self.invariant (c.keeper-keeper.ensures.lane ∙ c.deref.ensures) c.keeper-keeper.ensures.scratch.1 left.keeper left.list
+    c.log_ref_now.ensures.ready.1
 
 pub returns-clause-logs : goal.returns-clause-logs
 returns-clause-logs c = λ s e.
@@ -41,11 +42,11 @@ returns-clause-logs c = λ s e.
     c.log_ref_now.result {b = c.log_ref_now.new.outlet} {l = c.log_ref_now.new.keeper} c.requires.known c.log_ref_now.ensures.logs
     c.log_ref_now.ensures.err in
     keeps_log Passes (without_waiting s.policy) s _ c.args.port.now c.log_ref_now.new.outlet _ c.log_ref_now.new.keeper c.args.self.now _ c.log_ref_now.result (
-      c.deref.ensures ∙ ap (λ (v : BacktraceSeatView). v.lane) c.self.view_is,
-      ap (λ (v : BacktraceSeatView). v.seat) c.self.view_is,
-      ap (λ (v : BacktraceSeatView). v.scratch) c.self.view_is,
+      c.keeper-keeper.ensures.lane ∙ c.deref.ensures ∙ ap (λ (v : BacktraceSeatView). v.lane) c.self.view_is,
+      c.keeper-keeper.ensures.seat.1 ∙ ap (λ (v : BacktraceSeatView). v.seat) c.self.view_is,
+      c.keeper-keeper.ensures.scratch.1 ∙ ap (λ (v : BacktraceSeatView). v.scratch) c.self.view_is,
     )
-    (ap (λ (b : Bor (LaneId Room)). b.now) left.keeper.lane ∙ c.deref.ensures, refl, refl)
+    (ap (λ (b : Bor (LaneId Room)). b.now) left.keeper.lane ∙ c.keeper-keeper.ensures.lane ∙ c.deref.ensures, refl, refl)
     (c.log_ref_now.ensures.logs s e)
 
 pub returns-clause-within : goal.returns-clause-within
@@ -60,4 +61,4 @@ returns-clause-port c =
     let left = log_now_leaves (λ (s : Spec). without_waiting s.policy) c.args.loggers.now c.args.given.logger _ {a = c.args.port.now}
     c.log_ref_now.result {b = c.log_ref_now.new.outlet} {l = c.log_ref_now.new.keeper} c.requires.known c.log_ref_now.ensures.logs
     c.log_ref_now.ensures.err in
-    (c.log_ref_now.ensures.ready.0.0, left.port)
+    (c.log_ref_now.ensures.ready.0, left.port)

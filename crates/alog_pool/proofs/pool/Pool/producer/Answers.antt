@@ -1,4 +1,4 @@
-use Rattle.std.proofs.Common.{◌+◌, length, map, ap, refl, sym, subst, ◌∙◌, arith}
+use Rattle.std.proofs.Common.{◌≡◌, ◌+◌, length, map, ap, refl, sym, subst, ◌∙◌, arith}
 use Rattle.std.specs.Arc.{arc_value}
 use Rattle.std.specs.declared.thread.PromisedHandle.{PromisedHandle}
 use Rattle.alog_pool.specs.Pool.{Makes, PoolView}
@@ -12,6 +12,7 @@ use Rattle.alog_pool.proofs.Parts.{each3_lengths, backtrace_seat_parts_left, bac
 use Rattle.alog_pool.proofs.Posting.{new_account}
 use Rattle.alog_pool.proofs.pool.Pool.producer.Goals as goal
 use Rattle.alog_policy.specs.BookCalls.{IsSeatOf}
+use Rattle.alog_registry.specs.Limit.{KeepsTo}
 use Rattle.alog_ring.specs.Known.{IsPassOf}
 use Rattle.alog_ring.specs.declared.TheConstants.{ALL_PARTS}
 
@@ -25,16 +26,24 @@ invariant_of-producer g c =
     let each = c.share_backtrace_seats.ensures in
     let fresh = fresh_part inside.pass c.split.new.pass c.split.result c.split.ensures.split in
     let seat = c.split-2.ensures.split.new_seat in
-    record {
-      pass = subst (λ (s : Shared). IsPassOf s.ring c.split.result) c.deref-2.ensures c.split.ensures.ring.1;
-      losses_are = subst (λ (s : Shared). IsSeatOf s.book c.split-2.result) c.deref-3.ensures c.split-2.ensures.seat.1;
-      each = (each3_lengths IsBacktraceSeatPart old new given each).1 ∙ left.each ∙ ap (λ (s : Shared). length s.loggers) (sym c.in-Ok.ensures);
-      kept = (backtrace_seats_limits inside.text_limit old new given each left.kept).1;
-      queued = ap (λ (s : Shared). s.ring.limit.most) c.in-Ok.ensures ∙ left.queued;
-      limits = left.limits;
-      account = new_account c.split.result.known c.split-2.result.known fresh.parts fresh.joined fresh.own (ap (λ k. k.parts) seat)
-          (ap (λ k. k.joined) seat) (ap (λ k. k.own) seat);
-    }
+    let blocks = c.in-Ok-two_blocks.ensures in
+    let limit : (arc_value c.in-Ok.shared).ring.ring.limit.most ≡ inside.text_limit =
+    ap (λ (s : Shared). s.ring.ring.limit.most) c.in-Ok.ensures ∙ left.queued in (
+      record {
+        pass = subst (λ (s : Shared). IsPassOf s.ring.ring c.split.result) c.deref-2.ensures c.split.ensures.ring.1;
+        losses_are = subst (λ (s : Shared). IsSeatOf s.book c.split-2.result) c.deref-3.ensures c.split-2.ensures.seat.1;
+        each = (each3_lengths IsBacktraceSeatPart old new given each).1 ∙ left.each ∙ ap (λ (s : Shared). length s.loggers) (sym c.in-Ok.ensures);
+        kept = (backtrace_seats_limits inside.text_limit old new given each left.kept).1;
+        queued = ap (λ (s : Shared). s.ring.ring.limit.most) c.in-Ok.ensures ∙ left.queued;
+        limits = left.limits;
+        account = new_account c.split.result.known c.split-2.result.known fresh.parts fresh.joined fresh.own (ap (λ k. k.parts) seat)
+            (ap (λ k. k.joined) seat) (ap (λ k. k.own) seat);
+      },
+      (
+        (refl, (blocks.0 ∙ sym limit, subst (λ x. KeepsTo (arc_value c.in-Ok.shared).ring.ring.limit.most x) (sym blocks.1) tt)),
+        (refl, (blocks.2 ∙ sym limit, subst (λ x. KeepsTo (arc_value c.in-Ok.shared).ring.ring.limit.most x) (sym blocks.3) tt)),
+      ),
+    )
 
 pub invariant_of-self : goal.invariant_of-self
 invariant_of-self g c =
@@ -54,7 +63,7 @@ invariant_of-self g c =
     let less = one_less inside.pass c.split.new.pass c.split.result _ ALL_PARTS c.split.ensures.split (omega (arith, more, hired, parts)) parts in (
       record {
         left = record {
-          pass_is = subst (λ (s : Shared). IsPassOf s.ring c.split.new.pass) (c.deref-2.ensures ∙ c.in-Ok.ensures) c.split.ensures.ring.0;
+          pass_is = subst (λ (s : Shared). IsPassOf s.ring.ring c.split.new.pass) (c.deref-2.ensures ∙ c.in-Ok.ensures) c.split.ensures.ring.0;
           pass_faithful = kept_faithful inside.pass c.split.new.pass c.split.result c.split.ensures.split left.pass_faithful;
           some_places = left.some_places;
           pass_parts = omega (arith, less);
@@ -77,6 +86,7 @@ invariant_of-self g c =
         began = c.self.invariant.0.began;
       },
       c.self.invariant.1,
+      c.self.invariant.2,
     )
 
 pub returns-clause-made : goal.returns-clause-made

@@ -120,7 +120,7 @@ returns-clause-ends g c =
     omega (arith, all, many, made, left_parts, most, c.len.ensures, c.args.producers.ok.0)) in
     let yes = c.is_whole-whole.ensures.parts.1 parts in
     let whole : IsWhole l = subst IsWhole (c.is_whole-whole.ensures.same yes) (c.is_whole-whole.ensures.whole yes) in
-    let ring = subst (λ (s : Shared). IsPassOf s.ring c.collect-handled.new.pass) c.deref-3.ensures c.collect-handled.ensures.ring in
+    let ring = subst (λ (s : Shared). IsPassOf s.ring.ring c.collect-handled.new.pass) c.deref-3.ensures c.collect-handled.ensures.ring in
     let places : 1 ≤ l.places = subst (λ n. 1 ≤ n) (sym ring.places) left.some_places in
     let every : count ≡ length starts =
     (let long = length-map inside.workers.items (λ (h : PromisedHandle (Worker S) (Works S)). h.promise.start.value) in

@@ -12,7 +12,7 @@ returns-in-Ok-clause-started g c =
     let parts = c.in-Ok.ensures.1 in
     let staffed = c.in-Ok.ensures.2 in
     let shape = c.in_ok-ring.ensures.shape in
-    let ring = ap (λ (s : Shared). s.ring) staffed.shared ∙ parts.ring_is in
+    let ring = ap (λ (s : Shared). s.ring.ring) staffed.shared ∙ parts.ring_is in
     record {
       queue = (ap (λ r. r.places) ring ∙ shape.0, ap (λ r. r.first) ring ∙ shape.1);
       loggers = ap (λ (s : Shared). s.loggers) staffed.shared ∙ parts.loggers;

@@ -29,6 +29,7 @@ loop-number-preserved g c =
     let told = c.in-Ok.ensures.number in
     record {
       stands = h.stands;
+      block = c.in-Ok.ensures.block;
       shared = h.shared ∙ i.shared;
       lanes = h.lanes ∙ i.lanes;
       backtrace_seats = h.backtrace_seats ∙ i.backtrace_seats;
@@ -47,8 +48,8 @@ loop-number-preserved g c =
       room = omega (arith, room, c.push_reserved.ensures.capacity);
     }
 
-pub returns : goal.returns
-returns g c =
+pub returns-clause-crew : goal.returns-clause-crew
+returns-clause-crew g c =
     let i = c.loop-number.invariant in
     let self = c.args.self.now in
     let workers = c.loop-number.workers.items in

@@ -1,13 +1,14 @@
 use Rattle.std.proofs.Common.{◌≡◌, ◌≤◌, length, map, vec_capacity}
 use Rattle.std.specs.Arc.{arc_value}
 use Rattle.std.specs.List.{AllByRecursion, range_with_len}
-use Rattle.alog_pool.specs.Pool.{Begins, Stands, lanes_of}
+use Rattle.alog_pool.specs.Pool.{Begins, HasBlock, Stands, lanes_of}
 use Rattle.alog_pool.specs.Working.{numbers_of}
 use Rattle.alog_pool.proofs.pool_parts.PoolParts.crew.Given as goal
 
 abbrev pub invariant-loop-number : goal.invariant-loop-number
 invariant-loop-number g l = record {
   stands : Stands l.number l.self;
+  block : HasBlock l.self;
   shared : arc_value l.self.shared ≡ arc_value l.fn.self.shared;
   lanes : lanes_of l.self.sink_seats.items ≡ lanes_of l.fn.self.sink_seats.items;
   backtrace_seats : l.self.backtrace_seats.items ≡ l.fn.self.backtrace_seats.items;

@@ -1,52 +1,28 @@
-use denote.Exit.{no}
-use denote.Param.{param}
-use denote.Param.Send.{IsSend, sendable, arg_send, param_send, recorded_send, struct_send}
-use denote.RattleType.{RattleType}
-use denote.Struct.Declared.{shape}
-use denote.Struct.Tuple.{field_at, type_at}
-use Rattle.std.proofs.Common.{rules, List, [], ◌∷◌, ap, sym, subst, ◌∙◌}
-use Rattle.std.proofs.Crossing.{Arc-send}
-use Rattle.std.specs.contracts.alloc.Global as Global
-use Rattle.std.specs.contracts.impls.GlobalAllocator.TheImpl.{ghosts as alloc_ghosts}
-use Rattle.std.specs.contracts.sync.Arc as Arc
-use Rattle.alog_pool.proofs.SharedCrosses.{worker_send}
-use Rattle.alog_pool.proofs.pool_parts.PoolParts.hire.Lts.{arg-8-2, arg-8-3}
-use Rattle.alog_pool.proofs.pool_parts.PoolParts.hire.Goals as goal
+use Rattle.std.proofs.Common.{◌≡◌, ap, sym, subst, ◌∙◌}
+use Rattle.std.proofs.lemmas.Result.{IfOk-weaker}
+use Rattle.std.specs.declared.thread.PromisedHandle.{PromisedHandle}
 use Rattle.alog_pool.specs.Pool.{Hires}
-use Rattle.alog_pool.specs.Working.{IsAtWork}
-use Rattle.alog_pool.specs.contracts.worker.Worker as Worker
-use Rattle.alog_pool.specs.declared.worker.Worker.{Worker as WorkerIs}
+use Rattle.alog_pool.specs.declared.worker.Worker.{Worker}
+use Rattle.alog_pool.specs.declared.works.Works.{Works}
+use Rattle.alog_pool.proofs.pool_parts.PoolParts.hire.Goals as goal
 
-pub spawn_with-handle-requires-send-F : goal.spawn_with-handle-requires-send-F
-spawn_with-handle-requires-send-F g c κs within =
-    let own : IsSend (param 1 g.row.R) = c.type_bounds.send-R in
-    let gate = Arc-send (param 2 g.row.G) c.type_bounds.send-G c.type_bounds.sync-G in
-    let worker = worker_send (param 0 g.row.S) g.S.Store c.type_bounds.send-S in
-    let kept : List RattleType = param 1 g.row.R ∷ Arc.the_row (param 2 g.row.G) Global.the_row alloc_ghosts
-    ∷ Worker.the_row (param 0 g.row.S) g.S.Store ∷ [] in
-    param_send 2 (arg-8-2 g.row.S g.row.R g.row.G g.S.laws g.R.laws g.G.laws g.S.Store g.S.Store-dict g.S.Destruct-dict
-    g.R.Threads g.R.Threads-dict g.R.Wait g.R.Wait-dict g.R.Clock g.R.Clock-dict g.R.Clone g.R.Clone-dict g.G.Gate g.G.Gate-dict
-    g.R.Destruct-dict g.G.Destruct-dict κs) (arg_send _ no _ (recorded_send (field_at _ kept).row _ _ (type_at _ kept).to_one
-    (struct_send (shape (type_at _ kept)) (own, (gate, (worker, tt))))))
-
-pub spawn_with-handle-requires-send-T : goal.spawn_with-handle-requires-send-T
-spawn_with-handle-requires-send-T g c κs within =
-    param_send 3 (arg-8-3 g.row.S g.row.R g.row.G g.S.laws g.R.laws g.G.laws g.S.Store g.S.Store-dict g.S.Destruct-dict
-    g.R.Threads g.R.Threads-dict g.R.Wait g.R.Wait-dict g.R.Clock g.R.Clock-dict g.R.Clone g.R.Clone-dict g.G.Gate g.G.Gate-dict
-    g.R.Destruct-dict g.G.Destruct-dict κs) (search (sendable, worker_send) depth 9)
-
-pub spawn_with-handle-requires-clause-runs : goal.spawn_with-handle-requires-clause-runs
-spawn_with-handle-requires-clause-runs g c =
+pub set_to_work-requires-clause-at_work : goal.set_to_work-requires-clause-at_work
+set_to_work-requires-clause-at_work g c κs within =
     let s = c.requires.stands in
-    let worker = c.in_ok-worker.worker in
-    let works : IsAtWork worker worker = (c.in_ok-worker.ensures.hires s.0 s.1 s.2).begins.at_work in
-    search (rules, works)
+    (c.in_ok-worker.ensures.hires s.0 s.1 s.2).begins.at_work
 
-pub returns-in-Ok-clause-hires : goal.returns-in-Ok-clause-hires
-returns-in-Ok-clause-hires g c = λ n stands few.
-    subst (λ (h : WorkerIs g.row.S.Denot). Hires n c.args.self.now c.worker.new.self h)
-    (sym (ap (λ p. p.start.value) c.in-Ok.ensures.ok ∙ c.of.ensures)) (c.in_ok-worker.ensures.hires n stands few)
+pub returns-clause-hires : goal.returns-clause-hires
+returns-clause-hires g c = λ n stands few.
+    let S = g.row.S.Denot in
+    IfOk-weaker c.set_to_work.result (λ (h : PromisedHandle (Worker S) (Works S)). h.promise.start.value ≡ c.in_ok-worker.worker)
+    (λ h. Hires n c.args.self.now c.worker.new.self h.promise.start.value)
+    (λ h same. subst (λ (w : Worker S). Hires n c.args.self.now c.worker.new.self w) (sym same) (c.in_ok-worker.ensures.hires n stands few))
+    c.set_to_work.ensures
 
-pub returns-in-Ok-clause-number : goal.returns-in-Ok-clause-number
-returns-in-Ok-clause-number g c =
-    ap (λ (h : WorkerIs g.row.S.Denot). h.number) (ap (λ p. p.start.value) c.in-Ok.ensures.ok ∙ c.of.ensures) ∙ c.in_ok-worker.ensures.number
+pub returns-clause-number : goal.returns-clause-number
+returns-clause-number g c =
+    let S = g.row.S.Denot in
+    IfOk-weaker c.set_to_work.result (λ (h : PromisedHandle (Worker S) (Works S)). h.promise.start.value ≡ c.in_ok-worker.worker)
+    (λ h. h.promise.start.value.number ≡ c.args.number)
+    (λ h same. ap (λ (w : Worker S). w.number) same ∙ c.in_ok-worker.ensures.number)
+    c.set_to_work.ensures

@@ -7,7 +7,7 @@ use Rattle.alog_pool.proofs.pool_parts.PoolParts.hire_all.Goals as goal
 pub returns-clause-room : goal.returns-clause-room
 returns-clause-room g c =
     let S = g.row.S.Denot in
-    let crew = c.in_ok-workers.ensures in
+    let crew = c.in_ok-workers.ensures.crew in
     let self = c.args.self.now in
     let parts = c.crew.new.self in
     let all = crew.all in

@@ -9,7 +9,9 @@ use Rattle.alog_pool.specs.declared.shared.Shared.{Shared}
 use Rattle.alog_pool.proofs.Hiring.{fresh_part, fresh_work, kept_faithful, limited, one_less, still_own}
 use Rattle.alog_pool.proofs.Parts.{sink_seat_limits, sink_seat_parts_left, given_new, same_lanes, still_unused}
 use Rattle.alog_pool.proofs.pool_parts.PoolParts.worker.Goals as goal
-use Rattle.alog_ring.specs.Kinds.{no_note}
+use Rattle.alog_msg.specs.Block.{BlockFields}
+use Rattle.alog_registry.specs.BlockPort.{block_note}
+use Rattle.alog_registry.specs.Limit.{HoldsTo}
 use Rattle.alog_ring.specs.Known.{IsPassOf}
 use Rattle.alog_ring.specs.declared.TheConstants.{ALL_PARTS}
 
@@ -26,8 +28,8 @@ returns-clause-hires g c = λ n stands few.
     let limits = sink_seat_limits now.text_limit old new given each stands.sink_seat_limits in
     let fresh = fresh_part now.pass c.split-pass.new.pass c.split-pass.result split in
     let parts = stands.pass_parts in
-    let ring = subst (λ (s : Shared). IsPassOf s.ring c.split-pass.new.pass) c.deref.ensures c.split-pass.ensures.ring.0 in
-    let given_ring = subst (λ (s : Shared). IsPassOf s.ring c.split-pass.result) c.deref.ensures c.split-pass.ensures.ring.1 in
+    let ring = subst (λ (s : Shared). IsPassOf s.ring.ring c.split-pass.new.pass) c.deref.ensures c.split-pass.ensures.ring.0 in
+    let given_ring = subst (λ (s : Shared). IsPassOf s.ring.ring c.split-pass.result) c.deref.ensures c.split-pass.ensures.ring.1 in
     let left = one_less now.pass c.split-pass.new.pass c.split-pass.result n ALL_PARTS split (omega (arith, few, parts)) (omega (arith, parts)) in
     record {
       stands = record {
@@ -57,16 +59,18 @@ returns-clause-hires g c = λ n stands few.
       begins = record {
         at_work = record {
           shared = refl;
-          ring = subst (λ (s : Shared). IsPassOf s.ring c.split-pass.result) (sym c.in_ok-shared.ensures) given_ring;
+          ring = subst (λ (s : Shared). IsPassOf s.ring.ring c.split-pass.result) (sym c.in_ok-shared.ensures) given_ring;
           work = subst (λ l. IsWorkOf now.tickets_max c.split-pass.result.known l 0) (sym c.in_ok-tickets.ensures.items)
               (fresh_work now.tickets_max c.split-pass.result.known fresh);
-          stops = ap (λ (h : List (Entry Item no_note)). taken of_stops h) fresh.own;
+          stops = ap (λ (h : List (Entry Item block_note)). taken of_stops h) fresh.own;
           most = refl;
           number = refl;
           room = c.in_ok-tickets.ensures.capacity;
           line = c.in_ok-line.ensures.capacity;
+          block = subst (λ (b : BlockFields). HoldsTo (arc_value c.in_ok-shared.shared).ring.ring.limit b) (sym c.in_ok-block.ensures)
+              (sym (ap (λ (s : Shared). s.ring.ring.limit.most) c.in_ok-shared.ensures ∙ stands.queued), tt);
           places = refl;
-          limits = limited _ now.text_limit given (ap (λ (s : Shared). s.ring.limit.most) c.in_ok-shared.ensures ∙ stands.queued) limits.1;
+          limits = limited _ now.text_limit given (ap (λ (s : Shared). s.ring.ring.limit.most) c.in_ok-shared.ensures ∙ stands.queued) limits.1;
         };
         fresh = fresh;
         shares = c.in_ok-shared.ensures;
@@ -81,6 +85,6 @@ returns-clause-queue g c =
     let stands = c.requires.stands.1 in
     let now = c.args.self.now in
     let split = c.split-pass.ensures.split in (
-      subst (λ (s : Shared). IsPassOf s.ring c.split-pass.new.pass) c.deref.ensures c.split-pass.ensures.ring.0,
+      subst (λ (s : Shared). IsPassOf s.ring.ring c.split-pass.new.pass) c.deref.ensures c.split-pass.ensures.ring.0,
       kept_faithful now.pass c.split-pass.new.pass c.split-pass.result split stands.pass_faithful,
     )

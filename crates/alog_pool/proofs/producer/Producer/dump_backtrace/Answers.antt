@@ -3,7 +3,7 @@ use Rattle.std.specs.Prelude.{IfOk, slice_get, slice_set}
 use Rattle.std.specs.Arc.{arc_value}
 use Rattle.std.proofs.lemmas.Int.{to_z-of_z}
 use Rattle.std.proofs.lemmas.Option.{slice_get_read}
-use Rattle.alog_policy.specs.Port.{PortDid}
+use Rattle.alog_policy.specs.SwapPort.{SwapDid}
 use Rattle.alog_policy.specs.Progress.{without_waiting}
 use Rattle.alog_pool.specs.Producer.{ProducerView, Lent}
 use Rattle.alog_pool.specs.declared.shared.Shared.{Shared}
@@ -28,7 +28,7 @@ returns-clause-dumped g c =
     } in
     let known : c.args.number < length v.shared.loggers =
     subst (λ (w : ProducerView). c.args.number < length w.shared.loggers) (sym c.self.view_is) c.requires.known in
-    let low : c.args.number < length i.backtrace_seats.items = omega (arith, known, c.self.invariant.each) in
+    let low : c.args.number < length i.backtrace_seats.items = omega (arith, known, c.self.invariant.0.each) in
     let place = c.index_mut-backtrace_seat.result.now in
     let found : slice_get i.backtrace_seats.items c.args.number ≡ Some place =
     slice_get_read i.backtrace_seats.items (length i.backtrace_seats.items) c.args.number place refl low c.index_mut-backtrace_seat.ensures.value in
@@ -43,10 +43,9 @@ returns-clause-dumped g c =
     } in
     let P : ProducerView → Type 0 = λ w. (s : Spec) → spec_at w.shared.loggers c.args.number ≡ Some s
     → IfOk c.dump.result (λ x. Lent w new c.args.number (λ p k q l. (d : Room) × DumpsByTurn k d l
-    × PostsEach PortDid (without_waiting s.policy) (posted_of c.args.number c.args.time w.number d.messages) p x.items q)) in
+    × PostsEach SwapDid (without_waiting s.policy) (posted_of c.args.number c.args.time w.number d.messages) p x.items q)) in
     subst P c.self.view_is (λ s e.
-    lent_dump (λ x. x.items) (without_waiting s.policy) c.args.number c.args.time i.number {old = v} c.args.number c.dump.new.self
-    c.dump.result
+    lent_dump (λ x. x.items) (without_waiting s.policy) c.args.number c.args.time i.number {old = v} c.args.number c.dump.new.self c.dump.result
     (record {
       ring = ap (λ (x : Shared). x.ring) c.deref-shared.ensures;
       book = ap (λ (x : Shared). x.book) c.deref-shared.ensures;

@@ -1,10 +1,10 @@
 use Rattle.std.proofs.Common.{◌≡◌, ◌<◌, Some, List, length, refl, sym, ap, subst, ◌∙◌}
 use Rattle.std.specs.Arc.{arc_value}
 use Rattle.alog_msg.specs.declared.item.Item.TheVariants.{Flush}
-use Rattle.alog_policy.specs.Port.{PortDid}
+use Rattle.alog_policy.specs.SwapPort.{SwapDid}
 use Rattle.alog_pool.specs.Producer.{ProducerView, IsPortOf}
 use Rattle.alog_pool.specs.declared.shared.Shared.{Shared}
-use Rattle.alog_pool.proofs.Producing.{Queueing, posts_port, has_spec, still_producer, port_after}
+use Rattle.alog_pool.proofs.Producing.{Queueing, posts_port, has_spec, still_blocks, still_producer, port_after}
 use Rattle.alog_registry.specs.ItemOutlet.{PostsItemNow}
 use Rattle.alog_registry.specs.Listed.{spec_at}
 use Rattle.alog_registry.specs.declared.logger.Logger.{Logger}
@@ -18,10 +18,28 @@ shape_of-self-inside c =
     (sym (ap (λ (x : Shared). x.loggers) c.deref-shared.ensures ∙ ap (λ (w : ProducerView). w.shared.loggers) c.self.view_is)) c.requires.known in
     let s = has_spec c.deref-shared.result.now.loggers c.args.number known in
     let alike = posts_port _ _ _ c.flush.new.outlet c.flush.result refl (c.flush.ensures.post s.0 s.1) in
-    sym alike.seat
+    sym alike.spare
 
 pub shape_of-self-inside-2 : goal.shape_of-self-inside-2
 shape_of-self-inside-2 c =
+    let known : c.args.number < length c.deref-shared.result.now.loggers =
+    subst (λ (l : List Logger). c.args.number < length l)
+    (sym (ap (λ (x : Shared). x.loggers) c.deref-shared.ensures ∙ ap (λ (w : ProducerView). w.shared.loggers) c.self.view_is)) c.requires.known in
+    let s = has_spec c.deref-shared.result.now.loggers c.args.number known in
+    let alike = posts_port _ _ _ c.flush.new.outlet c.flush.result refl (c.flush.ensures.post s.0 s.1) in
+    sym alike.hand
+
+pub shape_of-self-inside-3 : goal.shape_of-self-inside-3
+shape_of-self-inside-3 c =
+    let known : c.args.number < length c.deref-shared.result.now.loggers =
+    subst (λ (l : List Logger). c.args.number < length l)
+    (sym (ap (λ (x : Shared). x.loggers) c.deref-shared.ensures ∙ ap (λ (w : ProducerView). w.shared.loggers) c.self.view_is)) c.requires.known in
+    let s = has_spec c.deref-shared.result.now.loggers c.args.number known in
+    let alike = posts_port _ _ _ c.flush.new.outlet c.flush.result refl (c.flush.ensures.post s.0 s.1) in
+    sym alike.seat
+
+pub shape_of-self-inside-4 : goal.shape_of-self-inside-4
+shape_of-self-inside-4 c =
     let known : c.args.number < length c.deref-shared.result.now.loggers =
     subst (λ (l : List Logger). c.args.number < length l)
     (sym (ap (λ (x : Shared). x.loggers) c.deref-shared.ensures ∙ ap (λ (w : ProducerView). w.shared.loggers) c.self.view_is)) c.requires.known in
@@ -37,8 +55,10 @@ invariant_of-self c =
     (sym (ap (λ (x : Shared). x.loggers) c.deref-shared.ensures ∙ ap (λ (w : ProducerView). w.shared.loggers) c.self.view_is)) c.requires.known in
     let s = has_spec c.deref-shared.result.now.loggers c.args.number known in
     let alike = posts_port _ _ _ c.flush.new.outlet c.flush.result refl (c.flush.ensures.post s.0 s.1) in
-    still_producer c.self.invariant (ap (λ (x : Shared). x.ring) c.deref-shared.ensures)
-    (ap (λ (x : Shared). x.book) c.deref-shared.ensures) refl refl alike c.flush.ensures.ready.0
+    let ring = ap (λ (x : Shared). x.ring) c.deref-shared.ensures in (
+      still_producer c.self.invariant.0 ring (ap (λ (x : Shared). x.book) c.deref-shared.ensures) refl refl alike c.flush.ensures.ready,
+      still_blocks (arc_value i.shared) _ c.flush.new.outlet ring alike c.flush.ensures.ready,
+    )
 
 pub returns-clause-post : goal.returns-clause-post
 returns-clause-post c =
@@ -60,7 +80,7 @@ returns-clause-post c =
       limit = i.text_limit;
     } in
     let P : ProducerView → Type 0 = λ w. (s : Spec) → spec_at w.shared.loggers c.args.number ≡ Some s
-    → (p q : Queueing) × IsPortOf w p × IsPortOf new q × PostsItemNow PortDid s.policy (Flush c.args.number) p q c.flush.result in
+    → (p q : Queueing) × IsPortOf w p × IsPortOf new q × PostsItemNow SwapDid s.policy (Flush c.args.number) p q c.flush.result in
     subst P c.self.view_is (λ s e.
     let post = c.flush.ensures.post s (ap (λ (x : Shared). spec_at x.loggers c.args.number) c.deref-shared.ensures ∙ e) in
     let alike = posts_port _ _ _ c.flush.new.outlet c.flush.result refl post in (

@@ -3,7 +3,7 @@ use Rattle.std.specs.Prelude.{IfOk, slice_get, slice_set}
 use Rattle.std.specs.Arc.{arc_value}
 use Rattle.std.proofs.lemmas.Int.{to_z-of_z}
 use Rattle.std.proofs.lemmas.Option.{slice_get_read}
-use Rattle.alog_policy.specs.Port.{PortDid}
+use Rattle.alog_policy.specs.SwapPort.{SwapDid}
 use Rattle.alog_pool.specs.BacktraceSeat.{BacktraceSeatView}
 use Rattle.alog_pool.specs.Producer.{ProducerView, Lent}
 use Rattle.alog_pool.specs.declared.shared.Shared.{Shared}
@@ -28,7 +28,7 @@ returns-clause-logs g c =
     } in
     let known : c.args.number < length v.shared.loggers =
     subst (λ (w : ProducerView). c.args.number < length w.shared.loggers) (sym c.self.view_is) c.requires.known in
-    let low : c.args.number < length i.backtrace_seats.items = omega (arith, known, c.self.invariant.each) in
+    let low : c.args.number < length i.backtrace_seats.items = omega (arith, known, c.self.invariant.0.each) in
     let place = c.index_mut-backtrace_seat.result.now in
     let found : slice_get i.backtrace_seats.items c.args.number ≡ Some place =
     slice_get_read i.backtrace_seats.items (length i.backtrace_seats.items) c.args.number place refl low c.index_mut-backtrace_seat.ensures.value in
@@ -42,7 +42,7 @@ returns-clause-logs g c =
       limit = i.text_limit;
     } in
     let P : ProducerView → Type 0 = λ w. (s : Spec) → spec_at w.shared.loggers c.args.number ≡ Some s
-    → IfOk c.log.result (λ r. Lent w new c.args.number (λ p k q l. Logs PortDid KeepsByTurn NeverPasses s.policy s
+    → IfOk c.log.result (λ r. Lent w new c.args.number (λ p k q l. Logs SwapDid KeepsByTurn NeverPasses s.policy s
     (message_with c.args.number c.args.level c.args.time w.number c.args.text.now c.args.source) p k r q l)) in
     subst P c.self.view_is (λ s e.
     lent_log NeverPasses s.policy s _ {old = v} c.args.number c.log.new.self c.log.result
@@ -69,11 +69,11 @@ returns-clause-within g c =
     } in
     let known : c.args.number < length v.shared.loggers =
     subst (λ (w : ProducerView). c.args.number < length w.shared.loggers) (sym c.self.view_is) c.requires.known in
-    let low : c.args.number < length i.backtrace_seats.items = omega (arith, known, c.self.invariant.each) in
+    let low : c.args.number < length i.backtrace_seats.items = omega (arith, known, c.self.invariant.0.each) in
     let place = c.index_mut-backtrace_seat.result.now in
     let limit : place.lane.first.limit ≡ v.limit =
     ap (λ (k : BacktraceSeatView). k.lane.first.limit) c.index_mut-backtrace_seat.ensures.value
-    ∙ kept_at i.text_limit i.backtrace_seats.items c.args.number place low c.self.invariant.kept in
+    ∙ kept_at i.text_limit i.backtrace_seats.items c.args.number place low c.self.invariant.0.kept in
     let P : ProducerView → Type 0 = λ w. (s : Spec) → spec_at w.shared.loggers c.args.number ≡ Some s
     → IfOk c.log.result (λ r. IsUnread s r ⊎ IsWithin w.limit c.args.text.now c.args.source) in
     subst P c.self.view_is (λ s e.

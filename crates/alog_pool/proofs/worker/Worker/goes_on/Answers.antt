@@ -1,23 +1,28 @@
-use Rattle.std.proofs.Common.{Some, ◌≡◌, ◌≤◌, ◌+◌, ◌%◌, ◌^◌, true, false, ◌∷◌, ◌++◌, [], take, length, vec_capacity, ℕ, List, refl, sym, subst, ap, ◌∙◌, inl, inr}
+use Rattle.std.proofs.Common.{◌≡◌, ◌≤◌, ◌+◌, ◌%◌, ◌^◌, true, false, ◌∷◌, ◌++◌, [], take, length, vec_capacity, ℕ, List, refl, sym, subst, ap, ◌∙◌, inl, inr}
 use Rattle.std.specs.Arc.{arc_value}
-use Rattle.alog_pool.specs.SinkSeat.{AreServable}
+use Rattle.alog_msg.specs.declared.item.Item.{Item}
+use Rattle.alog_pool.specs.SinkSeat.{AreServable, places_of}
 use Rattle.alog_pool.specs.Deeds.{HaveMade, dues_of}
 use Rattle.alog_pool.proofs.Deeds.{made_for, made_for_stop, took_more, took_no_more}
 use Rattle.alog_pool.specs.declared.shared.Shared.{Shared}
 use Rattle.alog_pool.proofs.Worked.{took_nothing, took_work, took_stop, few_tickets, all_servable}
-use Rattle.alog_pool.specs.Working.{IsWorkOf, Finds}
-use Rattle.alog_pool.proofs.Moves.{found_none}
-use Rattle.alog_registry.specs.Limit.{KeepsTo}
+use Rattle.alog_pool.specs.Working.{IsWorkOf}
+use Rattle.alog_registry.specs.Limit.{KeepsTo, HoldsTo}
 use Rattle.alog_ring.specs.Known.{IsPassOf}
 use Rattle.alog_pool.proofs.worker.Worker.goes_on.Goals as goal
 
 pub take_waiting-requires-clause-ring : goal.take_waiting-requires-clause-ring
 take_waiting-requires-clause-ring g c =
     let at_work = c.requires.1 in
-    subst (λ (s : Shared). IsPassOf s.ring c.args.self.now.pass) (sym (c.deref.ensures ∙ at_work.shared)) at_work.ring
+    subst (λ (s : Shared). IsPassOf s.ring.ring c.args.self.now.pass) (sym (c.deref.ensures ∙ at_work.shared)) at_work.ring
 
 pub take_waiting-requires-clause-faithful : goal.take_waiting-requires-clause-faithful
 take_waiting-requires-clause-faithful g c = c.requires.1.work.faithful
+
+pub take_waiting-requires-clause-block : goal.take_waiting-requires-clause-block
+take_waiting-requires-clause-block g c =
+    let at_work = c.requires.1 in
+    subst (λ (s : Shared). HoldsTo s.ring.ring.limit c.args.self.now.block) (sym (c.deref.ensures ∙ at_work.shared)) at_work.block
 
 pub note-requires-clause-room : goal.note-requires-clause-room
 note-requires-clause-room g c =
@@ -31,24 +36,22 @@ note-requires-clause-few g c =
 
 pub handle-requires-clause-servable : goal.handle-requires-clause-servable
 handle-requires-clause-servable g c =
-    let limit = c.deref.result.now.ring.limit.most in
     let t = c.in-Some.ticket in
-    let x = c.in-Some-taken.item in
-    let found : Finds limit c.args.self.now.pass.known c.take_waiting.new.pass.known (Some t) (Some x) =
-    subst (λ o. Finds limit c.args.self.now.pass.known c.take_waiting.new.pass.known (Some t) o) c.in-Some-taken.is
-    c.in-Some.ensures.finds in
+    let x = c.take_waiting.new.block.item in
+    let found = c.in-Some.ensures.finds in
     let at_work = c.requires.1 in
-    let keeps = subst (λ (s : Shared). KeepsTo s.ring.limit.most x) (c.deref.ensures ∙ at_work.shared) found.1 in
-    subst (λ (ps : _). AreServable x ps) (sym at_work.places)
-    (all_servable _ x _ at_work.limits keeps (λ is. let e : false ≡ true = c.if-is_stop.ensures.1 is in cc))
+    let keeps = subst (λ (s : Shared). KeepsTo s.ring.ring.limit.most x) (c.deref.ensures ∙ at_work.shared) found.1 in
+    let fits = all_servable _ x _ at_work.limits keeps (λ is. let e : false ≡ true = c.if-is_stop.ensures.1 (c.item.ensures ∙ is) in cc) in
+    subst (λ (y : Item). AreServable y (places_of c.args.self.now.sink_seats.items)) (sym c.item-2.ensures)
+    (subst (λ (ps : _). AreServable x ps) (sym at_work.places) fits)
 
 pub returns-in_default : goal.returns-in_default
 returns-in_default g c = λ start at_work turned.
-    let ended = found_none c.deref.result.now.ring.limit.most _ _ _ c.in_default.ensures.finds in
+    let ended = c.in_default.ensures.finds in
     let w = took_nothing _ _ _ _ _ at_work.work at_work.stops ended.0 in
     record {
       number = at_work.number;
-      ring = subst (λ (s : Shared). IsPassOf s.ring c.take_waiting.new.pass) (c.deref.ensures ∙ at_work.shared) c.take_waiting.ensures.ring;
+      ring = subst (λ (s : Shared). IsPassOf s.ring.ring c.take_waiting.new.pass) (c.deref.ensures ∙ at_work.shared) c.take_waiting.ensures.ring;
       work = w.0;
       ended = inr (w.1, ended.1);
       turns = record {
@@ -61,16 +64,14 @@ returns-in_default g c = λ start at_work turned.
 
 pub returns-then-is_stop : goal.returns-then-is_stop
 returns-then-is_stop g c = λ start at_work turned.
-    let limit = c.deref.result.now.ring.limit.most in
     let t = c.in-Some.ticket in
-    let x = c.in-Some-taken.item in
-    let found : Finds limit c.args.self.now.pass.known c.take_waiting.new.pass.known (Some t) (Some x) =
-    subst (λ o. Finds limit c.args.self.now.pass.known c.take_waiting.new.pass.known (Some t) o) c.in-Some-taken.is
-    c.in-Some.ensures.finds in
-    let w = took_stop at_work.work at_work.stops found.0 (c.if-is_stop.ensures.0 refl) in
+    let x = c.take_waiting.new.block.item in
+    let found = c.in-Some.ensures.finds in
+    let is = sym c.item.ensures ∙ c.if-is_stop.ensures.0 refl in
+    let w = took_stop at_work.work at_work.stops found.0 is in
     record {
       number = at_work.number;
-      ring = subst (λ (s : Shared). IsPassOf s.ring c.take_waiting.new.pass) (c.deref.ensures ∙ at_work.shared) c.take_waiting.ensures.ring;
+      ring = subst (λ (s : Shared). IsPassOf s.ring.ring c.take_waiting.new.pass) (c.deref.ensures ∙ at_work.shared) c.take_waiting.ensures.ring;
       work = w.0;
       ended = inl w.1;
       turns = record {
@@ -78,24 +79,22 @@ returns-then-is_stop g c = λ start at_work turned.
         took = took_more start.pass.known c.args.self.now.pass.known c.take_waiting.new.pass.known turned.gots ((t, x) ∷ []) turned.took
             found.0;
         turns = made_for_stop (arc_value start.shared).loggers start.sink_seats.items c.args.self.now.sink_seats.items turned.gots t x
-            (c.if-is_stop.ensures.0 refl) turned.turns;
+            is turned.turns;
       };
       places = at_work.places;
     }
 
 pub returns : goal.returns
 returns g c = λ start at_work turned.
-    let limit = c.deref.result.now.ring.limit.most in
     let t = c.in-Some.ticket in
-    let x = c.in-Some-taken.item in
+    let x = c.take_waiting.new.block.item in
     let old = c.args.self.now in
-    let found : Finds limit old.pass.known c.take_waiting.new.pass.known (Some t) (Some x) =
-    subst (λ o. Finds limit old.pass.known c.take_waiting.new.pass.known (Some t) o) c.in-Some-taken.is
-    c.in-Some.ensures.finds in
-    let w = took_work at_work.work at_work.stops found.0 (λ is. let e : false ≡ true = c.if-is_stop.ensures.1 is in cc) in (
+    let found = c.in-Some.ensures.finds in
+    let w = took_work at_work.work at_work.stops found.0
+    (λ is. let e : false ≡ true = c.if-is_stop.ensures.1 (c.item.ensures ∙ is) in cc) in (
       record {
         shared = at_work.shared;
-        ring = subst (λ (s : Shared). IsPassOf s.ring c.take_waiting.new.pass) (c.deref.ensures ∙ at_work.shared)
+        ring = subst (λ (s : Shared). IsPassOf s.ring.ring c.take_waiting.new.pass) (c.deref.ensures ∙ at_work.shared)
             c.take_waiting.ensures.ring;
         work = subst (λ (ts : List ℕ). IsWorkOf start.most c.take_waiting.new.pass.known ts ((old.handled + 1) % 2 ^ 64))
             (sym (c.note.ensures.noted ∙ ap (λ n. take n (old.tickets.items ++ t ∷ [])) at_work.most)) w.0;
@@ -104,6 +103,8 @@ returns g c = λ start at_work turned.
         number = at_work.number;
         room = subst (λ n. start.most ≤ n) (sym c.note.ensures.room) at_work.room;
         line = c.handle.ensures.line;
+        block = subst (λ (s : Shared). HoldsTo s.ring.ring.limit c.take_waiting.new.block) (c.deref.ensures ∙ at_work.shared)
+            c.take_waiting.ensures.block;
         places = c.handle.ensures.places ∙ at_work.places;
         limits = at_work.limits;
       },
@@ -111,7 +112,7 @@ returns g c = λ start at_work turned.
         gots = turned.gots ++ (t, x) ∷ [];
         took = took_more start.pass.known old.pass.known c.take_waiting.new.pass.known turned.gots ((t, x) ∷ []) turned.took found.0;
         turns = made_for (arc_value start.shared).loggers start.sink_seats.items old.sink_seats.items c.handle.new.sink_seats.items turned.gots t x
-            turned.turns (subst (λ (s : Shared). HaveMade 0 old.sink_seats.items c.handle.new.sink_seats.items (dues_of s.loggers t x))
-            (c.deref-2.ensures ∙ at_work.shared) c.handle.ensures.turns);
+            turned.turns (subst (λ (z : Shared × Item). HaveMade 0 old.sink_seats.items c.handle.new.sink_seats.items (dues_of z.0.loggers t z.1))
+            (λ i. ((c.deref-2.ensures ∙ at_work.shared) i, c.item-2.ensures i)) c.handle.ensures.turns);
       },
     )
