@@ -1,15 +1,15 @@
 -- The calls of a client: each is one of its producer's, with the time that the clock told.
-use Rattle.std.specs.Prelude.{◌≡◌, ◌<◌, ◌⊎◌, ℕ, ℤ, List, length, Option, Some, Result, Ok, Err}
+use Rattle.std.specs.Prelude.{◌≡◌, ◌≢◌, ◌<◌, ◌⊎◌, ℕ, ℤ, List, length, Option, Some, Result, Ok, Err}
 use Rattle.std.specs.declared.alloc.Global.{Global}
 use Rattle.std.specs.Prelude.{Vec}
 use Rattle.alog_msg.specs.declared.item.Item.TheVariants.{Flush}
 use Rattle.alog_msg.specs.declared.level.Level.{Level}
 use Rattle.alog_msg.specs.declared.message.Message.{Message}
 use Rattle.alog_msg.specs.declared.source.SourceRef.{SourceRef}
-use Rattle.alog_policy.specs.Port.{PortDid}
+use Rattle.alog_policy.specs.SwapPort.{SwapDid}
 use Rattle.alog_policy.specs.Progress.{without_waiting}
 use Rattle.alog_policy.specs.declared.policy.Outcome.{Outcome}
-use Rattle.alog_policy.specs.declared.port.Port.{Port}
+use Rattle.alog_registry.specs.BlockPort.{BlockPort}
 use Rattle.alog_pool.specs.Producer.{ProducerView, IsPortOf, IsSame, Lent}
 use Rattle.alog_registry.specs.Backtrace.{Room}
 use Rattle.alog_registry.specs.ItemOutlet.{PostsItemNow}
@@ -19,10 +19,8 @@ use Rattle.alog_registry.specs.LaneKeeper.{DumpsByTurn, KeepsByTurn, NeverPasses
 use Rattle.alog_registry.specs.Listed.{spec_at}
 use Rattle.alog_registry.specs.Logging.{Logs, IsUnread}
 use Rattle.alog_registry.specs.declared.keep.LaneKeeper.{LaneKeeper}
-use Rattle.alog_registry.specs.declared.limit.TextLimit.{TextLimit}
 use Rattle.alog_registry.specs.declared.logger.Spec.{Spec}
 use Rattle.alog_registry.specs.declared.logging.LogReply.{LogReply}
-use Rattle.alog_msg.specs.declared.item.Item.{Item}
 use Rattle.alog_server.specs.declared.error.LogError.{LogError}
 use Rattle.alog_server.specs.declared.error.LogError.TheVariants as log
 
@@ -32,9 +30,9 @@ pub data How : Type 0 where
   AtOnce : How
 
 -- what a logger of this spec does with a message that is logged so
-abbrev pub LogsSo : How → Spec → Message → Port Item TextLimit → LaneKeeper → LogReply → Port Item TextLimit → LaneKeeper → Type 0
-LogsSo Waiting s m p k reply q l = Logs PortDid KeepsByTurn NeverPasses s.policy s m p k reply q l
-LogsSo AtOnce s m p k reply q l = Logs PortDid KeepsByTurn Passes (without_waiting s.policy) s m p k reply q l
+abbrev pub LogsSo : How → Spec → Message → BlockPort → LaneKeeper → LogReply → BlockPort → LaneKeeper → Type 0
+LogsSo Waiting s m p k reply q l = Logs SwapDid KeepsByTurn NeverPasses s.policy s m p k reply q l
+LogsSo AtOnce s m p k reply q l = Logs SwapDid KeepsByTurn Passes (without_waiting s.policy) s m p k reply q l
 
 -- The producer logged the message with these fields and its own number to the logger of this number, which answered so.
 pub record HasLogged (time : ℤ) (how : How) (number : ℕ) (level : Level) (text : List ℕ) (source : Option SourceRef) (old : ProducerView)
@@ -52,20 +50,24 @@ IsReason limit text source log.TextTooLong = limit < length text
 IsReason limit text source log.FieldTooLong = IsTooLongField limit text source
 IsReason limit text source log.OutOfMemory = IsWithin limit text source
 
+-- want of memory comes only where the logger has a backtrace
+abbrev pub WantsForBacktrace : ℕ → ProducerView → LogError → Type 0
+WantsForBacktrace number old e = e ≡ log.OutOfMemory → (s : Spec) → spec_at old.shared.loggers number ≡ Some s → s.backtrace ≢ 0
+
 -- The message with these fields was logged, or refused with nothing done.
 abbrev pub SaysAt : ℤ → How → ℕ → Level → List ℕ → Option SourceRef → ProducerView → Result LogReply LogError → ProducerView → Type 0
 SaysAt time how number level text source old (Ok reply) new = HasLogged time how number level text source old reply new
-SaysAt time how number level text source old (Err e) new = (new ≡ old) × IsReason old.limit text source e
+SaysAt time how number level text source old (Err e) new = (new ≡ old) × IsReason old.limit text source e × WantsForBacktrace number old e
 
 -- the same with the time that the clock told
 abbrev pub Says : How → ℕ → Level → List ℕ → Option SourceRef → ProducerView → Result LogReply LogError → ProducerView → Type 0
 Says how number level text source old (Ok reply) new = (time : ℤ) × HasLogged time how number level text source old reply new
-Says how number level text source old (Err e) new = (new ≡ old) × IsReason old.limit text source e
+Says how number level text source old (Err e) new = (new ≡ old) × IsReason old.limit text source e × WantsForBacktrace number old e
 
 -- The producer posted a flush of the logger of this number, which ended so.
 pub record Flushes (number : ℕ) (old : ProducerView) (outcome : Outcome (Unit {0})) (new : ProducerView) : Type 0 where
   pub post : (s : Spec) → spec_at old.shared.loggers number ≡ Some s
-      → (p q : Port Item TextLimit) × IsPortOf old p × IsPortOf new q × PostsItemNow PortDid s.policy (Flush number) p q outcome
+      → (p q : BlockPort) × IsPortOf old p × IsPortOf new q × PostsItemNow SwapDid s.policy (Flush number) p q outcome
   pub same : IsSame old new
   pub backtrace_seats : new.backtrace_seats ≡ old.backtrace_seats
 
@@ -73,7 +75,7 @@ pub record Flushes (number : ℕ) (old : ProducerView) (outcome : Outcome (Unit 
 -- with one outcome.
 pub record HasDumped (time : ℤ) (number : ℕ) (old : ProducerView) (outcomes : List (Outcome (Unit {0}))) (new : ProducerView) : Type 0 where
   pub dumped : (s : Spec) → spec_at old.shared.loggers number ≡ Some s → Lent old new number (λ p k q l. (d : Room) × DumpsByTurn k d l
-      × PostsEach PortDid (without_waiting s.policy) (posted_of number time old.number d.messages) p outcomes q)
+      × PostsEach SwapDid (without_waiting s.policy) (posted_of number time old.number d.messages) p outcomes q)
   pub same : IsSame old new
 
 -- That was done, or nothing.

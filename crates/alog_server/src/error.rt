@@ -37,7 +37,7 @@ impl From<MessageError> for LogError {
     }
 }
 
-/// Why no server was started. No worker is left then; what was written to the files stands.
+/// Why no server was started. No worker is left then, and no line was given to a file.
 #[derive(Debug, Drop, Error)]
 pub enum StartError {
     /// The document is no configuration.
@@ -75,7 +75,7 @@ impl From<AllocError> for StartError {
     }
 }
 
-/// Why no work was done. The pool was ended.
+/// Why no work was done, or what it was is not told. The pool was ended, and the buffers of its files are written.
 #[derive(Clone, Copy, Debug, PartialEq, Eq, Drop, Error)]
 pub enum RunError {
     #[error("the threads are not from 1 to 4,096")]

@@ -2,7 +2,8 @@
 //!
 //! `start` reads a configuration, opens the files of a folder and starts a pool. `Server::run` gives each of so many threads a
 //! `Client`, lets it do its `Work`, and ends the pool when all threads are done: no producer can be lost, and whatever happens on the
-//! way, no worker is left waiting. A program that does so needs no clause and no proof.
+//! way, no worker is left waiting. What a file's buffer holds then is written when the answer is dropped, and the folder is let go
+//! behind it. A program that does so needs no clause and no proof.
 //!
 //! ```text
 //! let server = alog_server::start(&rt, alloc, &document, "logs")?;

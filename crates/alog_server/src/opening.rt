@@ -14,7 +14,8 @@ use std::thread::Threads;
 use std::time::Clock;
 
 /// Starts a server of the configuration that is in this document, with the files of its sinks in this folder, which has to be there
-/// and to take them: that is looked at first. The folder is held until the server's run is over: no other server or load gets it.
+/// and to take them: that is looked at first. The folder is held until what the server's run answers is dropped, when the last buffers of
+/// its files are written: no other server or load gets it before.
 pub fn start<R: Files + Folders + Threads + Wait + Clock + Clone + Drop + Send + 'static>(
     rt: &R,
     alloc: Global,

@@ -27,8 +27,8 @@ use std::sync::Wait;
 use std::thread::Threads;
 use std::time::Clock;
 
-/// A pool that made no producer yet, and what is held for it, as the lock of a folder, until its run is over. It is no `Drop`: a way
-/// out of a function that does not end it by `run` does not compile.
+/// A pool that made no producer yet, and what is held for it, as the lock of a folder, until what its run answers is dropped. It is no
+/// `Drop`: a way out of a function that does not end it by `run` does not compile.
 pub struct Server<S: Store, L = ()> {
     alloc: Global,
     pub(crate) pool: Pool<S>,
@@ -48,24 +48,27 @@ impl<S: Store, L> fmt::Debug for Server<S, L> {
     }
 }
 
-/// What a run answers.
+/// What a run answers. The stores of the report write what they still hold when it is dropped, and what was held for the pool, as the
+/// lock of a folder, is let go behind them.
 #[derive(Drop)]
-pub struct Ran<S: Store, E> {
+pub struct Ran<S: Store, E, L = ()> {
     /// What became of all messages, and the sinks.
     pub report: Report<S>,
     /// The sinks of the report, by their names: those of the configuration that are no fan's member, in their order.
     pub sinks: Vec<SinkEnd>,
     /// Why work ended early: of the first thread, by number, where it did.
     pub error: Option<E>,
+    /// It is the last field, since fields are dropped in their order.
+    lock: L,
 }
 
-impl<S: Store, E: fmt::Debug> fmt::Debug for Ran<S, E> {
+impl<S: Store, E: fmt::Debug, L> fmt::Debug for Ran<S, E, L> {
     fn fmt<W: fmt::Write>(&self, f: &mut fmt::Formatter<W>) -> fmt::Result {
         f.debug_struct("Ran")
             .field("report", &self.report)
             .field("sinks", &self.sinks)
             .field("error", &self.error)
-            .finish()
+            .finish_non_exhaustive()
     }
 }
 
@@ -87,7 +90,7 @@ impl<S: Store + Drop + Send + 'static> Server<S> {
 }
 
 impl<S: Store + Drop + Send + 'static, L: Drop> Server<S, L> {
-    /// The same, with what is held until its run is over, or the start is refused.
+    /// The same, with what is held until what its run answers is dropped, or the start is refused.
     pub(crate) fn holding<R: Threads + Wait + Clock + Clone + Drop + Send + 'static>(
         rt: &R,
         alloc: Global,
@@ -114,14 +117,14 @@ impl<S: Store + Drop + Send + 'static, L: Drop> Server<S, L> {
     }
 
     /// Lets so many threads, 1 to 4,096, do their work, each with a client of its own, and ends the pool when all are done. Each has a
-    /// thread of its own, as far as the system gives threads. What the clients logged is written then, and the pool is ended
-    /// whatever is answered.
+    /// thread of its own, as far as the system gives threads. What the clients logged is given to the stores then, and the pool is ended
+    /// whatever is answered. What a store holds back, as the buffer of a file, it writes when the answer is dropped.
     pub fn run<R: Threads + Wait + Clock + Sync, W: Work<R> + Sync>(
         self,
         rt: &R,
         threads: usize,
         work: &W,
-    ) -> Result<Ran<S, W::Error>, RunError>
+    ) -> Result<Ran<S, W::Error, L>, RunError>
         ensures bad_threads { IsErrOf result RunError.BadThreads ↔ AreBad threads }
         ensures runs { IfOk result (λ r. Runs S.tells S.files S.failures self.pool threads r.report) }
         ensures sinks { IfOk result (λ r. AreWithFaults self.sinks.items r.report.faults.items r.sinks.items) }
@@ -131,7 +134,7 @@ impl<S: Store + Drop + Send + 'static, L: Drop> Server<S, L> {
             alloc,
             mut pool,
             sinks,
-            lock: _held,
+            lock,
         } = self;
         if threads < 1 || threads > THREADS_MAX {
             end_unused(rt, alloc, pool);
@@ -139,7 +142,7 @@ impl<S: Store + Drop + Send + 'static, L: Drop> Server<S, L> {
         }
         let (producers, ended) = work_with(rt, alloc, &mut pool, threads, work);
         match pool.shutdown(rt, producers) {
-            Ok(report) => ended.with(report, sinks),
+            Ok(report) => ended.with(lock, report, sinks),
             Err(_) => unreachable!(),
         }
     }
@@ -160,12 +163,14 @@ fn end_unused<R: Threads + Wait + Clock, S: Store + Drop + Send + 'static>(
 }
 
 impl<E: Drop> Ended<E> {
-    /// What a run answers whose pool, with these sinks, ended with this report.
-    fn with<S: Store + Drop>(
+    /// What a run answers whose pool, for which this was held, ended with this report, and these sinks. Where there is no answer the report
+    /// is dropped, and then the lock.
+    fn with<S: Store + Drop, L: Drop>(
         self,
+        lock: L,
         report: Report<S>,
         sinks: Vec<SinkEnd>,
-    ) -> Result<Ran<S, E>, RunError>
+    ) -> Result<Ran<S, E, L>, RunError>
         requires { length sinks.items ≡ length report.faults.items }
         ensures ran { IfOk result (λ r. (r.report ≡ report) × HasThreads self × IsToldOf self r.error) }
         ensures sinks { IfOk result (λ r. AreWithFaults sinks.items r.report.faults.items r.sinks.items) }
@@ -177,11 +182,13 @@ impl<E: Drop> Ended<E> {
                 report,
                 sinks,
                 error: None,
+                lock,
             }),
             Ended::Early(error) => Ok(Ran {
                 report,
                 sinks,
                 error: Some(error),
+                lock,
             }),
             Ended::OutOfMemory => Err(RunError::OutOfMemory),
         }

@@ -13,7 +13,7 @@ const PROBE: &str = ".probe.replaced";
 /// What came of asking for a folder.
 #[derive(Drop)]
 pub enum Hold<L> {
-    /// It takes the files, and is held for them until this is dropped.
+    /// It takes the files, and is held for them until this is dropped: behind the stores, whose buffers are written when they are dropped.
     Held(L),
     /// It does not, or another holds it: this says why.
     Refused(String),

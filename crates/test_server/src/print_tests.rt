@@ -45,7 +45,7 @@ const PRINTED: &str =
     Ok(Ran { report: Report { totals: Totals { asked: 0, posted: 0, discarded: 0, overrun: 0, handled: 0 }, tickets: [[]], \
     faults: [0], .. }, sinks: [SinkEnd { name: \"out\", faults: 0, \
     files: NameList { texts: [\"out\"] } }], \
-    error: Some(\"Client { producer: Producer { number: 0, .. }, .. }, Logger { number: 0, .. }\") })";
+    error: Some(\"Client { producer: Producer { number: 0, .. }, .. }, Logger { number: 0, .. }\"), .. })";
 
 #[test]
 fn what_is_printed_of_a_server(rt: HostRuntime) -> io::Result<()> {

@@ -52,13 +52,13 @@ pub(crate) fn ran<R: Host>(
     server: Server<R::Folder, R::Lock>,
     threads: usize,
     work: &Talk,
-) -> Result<Ran<R::Folder, LogError>, RunError> {
+) -> Result<Ran<R::Folder, LogError, R::Lock>, RunError> {
     server.run(rt, threads, work)
 }
 
 /// Whether a run says that it handled so many messages, and why a work ended early.
-fn tells<S: Store + Drop>(
-    ran: Result<Ran<S, LogError>, RunError>,
+fn tells<S: Store + Drop, L: Drop>(
+    ran: Result<Ran<S, LogError, L>, RunError>,
     (messages, early): (u64, Option<LogError>),
 ) -> bool {
     match ran {
@@ -132,7 +132,7 @@ fn works_that_end_early_end_the_pool_all_the_same(rt: HostRuntime) -> io::Result
 }
 
 /// Whether a run was refused for the number of its threads.
-fn has_bad_threads<S: Store + Drop>(ran: Result<Ran<S, LogError>, RunError>) -> bool {
+fn has_bad_threads<S: Store + Drop, L: Drop>(ran: Result<Ran<S, LogError, L>, RunError>) -> bool {
     matches!(ran, Err(RunError::BadThreads))
 }
 

@@ -51,7 +51,10 @@ fn are_rows(sinks: &[SinkEnd], rows: &[Row]) -> bool {
 }
 
 /// Whether a run tells these sinks.
-fn tells<S: Store + Drop>(ran: Result<Ran<S, LogError>, RunError>, rows: &[Row]) -> bool {
+fn tells<S: Store + Drop, L: Drop>(
+    ran: Result<Ran<S, LogError, L>, RunError>,
+    rows: &[Row],
+) -> bool {
     match ran {
         Ok(ran) => are_rows(ran.sinks.as_slice(), rows),
         Err(_) => false,

@@ -27,7 +27,7 @@ pub fn told_of_works<R, S: Store + Drop + Send + 'static, L: Drop>(
     rt: &R,
     server: Server<S, L>,
     threads: usize,
-) -> Result<Ran<S, usize>, RunError>
+) -> Result<Ran<S, usize, L>, RunError>
 where
     R: Threads + Wait + Clock + Sync,
     ensures more { IfOk result (λ r. 2 < threads → r.error ≡ Some 2) }

@@ -18,7 +18,7 @@ const ROTATING: &str =
                         [[logger]]\nname = \"net\"\nsinks = [\"out\"]\n";
 
 /// Whether this run went well.
-fn is_well<S: Store + Drop>(ran: Result<Ran<S, LogError>, RunError>) -> bool {
+fn is_well<S: Store + Drop, L: Drop>(ran: Result<Ran<S, LogError, L>, RunError>) -> bool {
     ran.is_ok()
 }
 
@@ -117,11 +117,14 @@ fn is_started<R: Host>(rt: &R, folder: &str) -> bool {
 const ON_THE_LOCK: &str =
     "[[sink]]\nname = \"out\"\nkind = \"memory\"\nfile = \".alog.lock\"\n\n[[logger]]\nname = \"net\"\nsinks = [\"out\"]\n";
 
-/// Whether a server runs after its folder was refused to another.
+/// Whether a server runs after its folder was refused to another, and keeps it until what its run answers is dropped: the buffers of its
+/// files are written then.
 fn keeps<R: Host>(rt: &R, server: Server<R::Folder, R::Lock>, folder: &str) -> bool {
     let in_use = ("", " is in use: another alog holds ");
     let is_refused = refuses(rt, (SMALL, folder), in_use);
-    runs(rt, server) && is_refused
+    let ran = ran(rt, server, 1, &HELLO);
+    let is_refused_still = refuses(rt, (SMALL, folder), in_use);
+    is_well(ran) && is_refused && is_refused_still
 }
 
 /// Whether the server that is started over a folder does so.
