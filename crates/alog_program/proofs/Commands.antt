@@ -5,9 +5,9 @@ use Rattle.clap.specs.declared.builder.arg.Arg.{Arg}
 use Rattle.clap.specs.declared.builder.command.Command.{Command}
 use Rattle.alog_program.specs.CommandLine.{StandsFor}
 
-pub argument_added : (old new : Command) (a : Arg) (app : App) (rule : Rule) → AddsArg old a new → a.global ≡ false → rule_of a ≡ rule
+pub argument_added : (old new : Command) (a : Arg) {app : App} {rule : Rule} → AddsArg old a new → a.global ≡ false → rule_of a ≡ rule
     → StandsFor old app → StandsFor new (with_rule app rule)
-argument_added old new a app rule adds local is was = (adds.shape local ∙ ap₂ with_rule was.0 is, rw (adds.globals, was.1, local) refl)
+argument_added old new a adds local is was = (adds.shape local ∙ ap₂ with_rule was.0 is, rw (adds.globals, was.1, local) refl)
 
 pub command_added : (old sub new : Command) (app own : App) → AddsSubcommand old sub new → StandsFor old app → StandsFor sub own
     → StandsFor new (with_subcommand app own.top)

@@ -35,10 +35,10 @@ match_map None A A2 B B2 a b m = a m
 match_map (Some x) A A2 B B2 a b m = b x m
 
 -- the same of a value that is another's
-pub match_across : {T U : Type 0} (f : T → U) (o : Option T) (p : Option U) (A A2 : Type 0) (B : T → Type 0) (B2 : U → Type 0)
+pub match_across : {T U : Type 0} (f : T → U) (o : Option T) {p : Option U} {A A2 : Type 0} (B : T → Type 0) (B2 : U → Type 0)
     → option_map f o ≡ p → (A → A2) → ((x : T) → B x → B2 (f x)) → MatchOption o A B → MatchOption p A2 B2
-match_across f None p A A2 B B2 is a b m = subst (λ q. MatchOption q A2 B2) is (a m)
-match_across f (Some x) p A A2 B B2 is a b m = subst (λ q. MatchOption q A2 B2) is (b x m)
+match_across f None {A = A} {A2 = A2} B B2 is a b m = subst (λ q. MatchOption q A2 B2) is (a m)
+match_across f (Some x) {A = A} {A2 = A2} B B2 is a b m = subst (λ q. MatchOption q A2 B2) is (b x m)
 
 module _ {S : Type 0} (tells : Bool) (files : S → Files) (failures : S → ℕ) (c : Config) (r : LoadRequest) where
   -- where there is no memory, nothing is written
@@ -107,15 +107,15 @@ module _ {S F : Type 0} (tells : Bool) (files : S → Files) (failures : S → �
       → MatchOption r.folder (LoadsFile tells files failures r status old new) (λ _. LoadsFile tells2 files2 failures2 r status old new)
       → Loads2 others
   load_made words rows others r one other asks made =
-      subst Loads2 (one_row (codes "load") words rows others one other) (match_across (λ f. f.now) r.folder (folder_in rows)
-      (LoadsFile tells files failures r status old new) (LoadsBy tells files failures (values_in rows) status old new)
+      subst Loads2 (one_row (codes "load") words rows others one other) (match_across (λ f. f.now) r.folder
+      {A = LoadsFile tells files failures r status old new} {A2 = LoadsBy tells files failures (values_in rows) status old new}
       (λ _. LoadsFile tells2 files2 failures2 r status old new) (λ _. LoadsBy tells2 files2 failures2 (values_in rows) status old new)
       asks.folder (λ l. inl (r, asks, l)) (λ x l. inl (r, asks, l)) made)
 
   -- a value was refused
-  pub load_unread : (words : List Text) (rows others : List Row) (fault : LoadValueError) → Names (codes "load") words rows
+  pub load_unread : (words : List Text) {rows others : List Row} {fault : LoadValueError} → Names (codes "load") words rows
       → Names (codes "load") words others → IsFirstUnread (values_in rows) fault → status ≡ 1 → Keeps old new → Loads2 others
-  load_unread words rows others fault one other unread is kept =
+  load_unread words {rows} {others} {fault} one other unread is kept =
       subst Loads2 (one_row (codes "load") words rows others one other) (match_both (folder_in rows)
       (LoadsBy tells files failures (values_in rows) status old new)
       (λ _. LoadsBy tells2 files2 failures2 (values_in rows) status old new)

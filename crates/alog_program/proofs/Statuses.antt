@@ -40,10 +40,10 @@ not_one WriteFault h = absurd (omega arith)
 not_one OutOfMemory h = absurd (omega arith)
 
 -- what a replay that ended by a fault leaves is what its status says
-pub replays_fault : (fault : ReplayError) (status : ℕ) (remaining left old new : Option (List ℕ)) → status ≡ status_of fault
+pub replays_fault : {fault : ReplayError} {status : ℕ} {remaining left old new : Option (List ℕ)} → status ≡ status_of fault
     → ((line : ℕ) → fault ≡ LineRefused line → IfSome remaining (λ script. WritesText (plain true) None script (RefusedAt line) old new))
     → WasRead remaining left (λ read. WritesFront (plain true) None read old new) → Replays status remaining left old new
-replays_fault fault status remaining left old new e refused front =
+replays_fault {fault} {status} {remaining} {old} {new} e refused front =
     record {
       understood = λ h. not_one fault (sym e ∙ h);
       whole = λ h. absurd (not_zero fault (sym e ∙ h));
@@ -55,14 +55,14 @@ replays_fault fault status remaining left old new e refused front =
     }
 
 -- the same on a stage of a configuration
-pub replays_on_fault : (tells : Bool) (files : MemStore → Files) (failures : MemStore → ℕ) (c : Config) (fault : ReplayError) (status : ℕ)
-    (remaining left old new : Option (List ℕ)) → status ≡ status_of fault
+pub replays_on_fault : {tells : Bool} {files : MemStore → Files} {failures : MemStore → ℕ} {c : Config} {fault : ReplayError} {status : ℕ}
+    {remaining left old new : Option (List ℕ)} → status ≡ status_of fault
     → ((line : ℕ) → fault ≡ LineRefused line → IfSome remaining (λ script. OnStage tells files failures c (λ s. WritesText
     (configured tells files failures row_of) s script (RefusedAt line) old new)))
     → Keeps old new ⊎ OnStage tells files failures c (λ s. WasRead remaining left (λ read. WritesFront
     (configured tells files failures row_of) s read old new))
     → ReplaysOn tells files failures c status remaining left old new
-replays_on_fault tells files failures c fault status remaining left old new e refused front =
+replays_on_fault {tells} {files} {failures} {c} {fault} {status} {remaining} {old} {new} e refused front =
     record {
       understood = λ h. not_one fault (sym e ∙ h);
       whole = λ h. absurd (not_zero fault (sym e ∙ h));

@@ -37,74 +37,75 @@ module _ {S : Type 0} (scene : Scene S) (R : S → S → Type 0) (agrees : Agree
   both_are : (p q a b : Played S) → p ≡ a → q ≡ b → Same a b → Same p q
   both_are p q a b h g s = subst (λ (x : Played S). Same x q) (sym h) (subst (λ (y : Played S). Same a y) (sym g) s)
 
-  step_or : (ended : S → Played S) → ((s t : S) → R s t → Same (ended s) (ended t)) → (a : ℕ) (s t : S) (Rest : S → Played S → Type 0)
-      → ((s t : S) (p q : Played S) → R s t → Rest s p → Rest t q → Same p q) → R s t → (b c : Bool) → b ≡ c → (p q : Played S)
+  step_or : (ended : S → Played S) → ((s t : S) → R s t → Same (ended s) (ended t)) → (a : ℕ) (s : S) {t : S} (Rest : S → Played S → Type 0)
+      → ((s t : S) (p q : Played S) → R s t → Rest s p → Rest t q → Same p q) → R s t → {b c : Bool} → b ≡ c → (p q : Played S)
       → WhereTrue b (p ≡ ended s) (StepThen scene a s Rest p) → WhereTrue c (q ≡ ended t) (StepThen scene a t Rest q) → Same p q
-  step_or ended ends a s t Rest rest r true true e p q h g = both_are p q (ended s) (ended t) h g (ends s t r)
-  step_or ended ends a s t Rest rest r true false e p q h g = absurd (false≢true (sym e))
-  step_or ended ends a s t Rest rest r false true e p q h g = absurd (false≢true e)
-  step_or ended ends a s t Rest rest r false false e p q h g =
+  step_or ended ends a s {t} Rest rest r {b = true} {c = true} e p q h g = both_are p q (ended s) (ended t) h g (ends s t r)
+  step_or ended ends a s Rest rest r {b = true} {c = false} e p q h g = absurd (false≢true (sym e))
+  step_or ended ends a s Rest rest r {b = false} {c = true} e p q h g = absurd (false≢true e)
+  step_or ended ends a s {t} Rest rest r {b = false} {c = false} e p q h g =
       let step = agrees.steps s t a h.0 g.0 h.1 g.1 r h.3 g.3 in
       both_are p q (behind h.0 h.2) (behind g.0 g.2) h.5 g.5 (along h.0 g.0 h.2 g.2 step.0 (rest h.1 g.1 h.2 g.2 step.1 h.4 g.4))
 
-  made : (ended : S → Played S) → ((s t : S) → R s t → Same (ended s) (ended t)) → (k a : ℕ) (s t : S) (p q : Played S) → R s t
+  made : (ended : S → Played S) → ((s t : S) → R s t → Same (ended s) (ended t)) → (k a : ℕ) (s : S) {t : S} (p q : Played S) → R s t
       → Makes scene ended k a s p → Makes scene ended k a t q → Same p q
   unfolding Makes
-  made ended ends zero a s t p q r h g = both_are p q (Done [] s) (Done [] t) h g (refl, r)
-  made ended ends (suc k) a s t p q r h g =
-      step_or ended ends a s t (λ u x. Makes scene ended k a u x) (λ u v x y. made ended ends k a u v x y) r (scene.is_free s a)
-      (scene.is_free t a) (agrees.free s t a r) p q h g
+  made ended ends zero a s {t} p q r h g = both_are p q (Done [] s) (Done [] t) h g (refl, r)
+  made ended ends (suc k) a s {t} p q r h g =
+      step_or ended ends a s (λ u x. Makes scene ended k a u x) (λ u v x y. made ended ends k a u {t = v} x y) r (agrees.free s t a r) p q h
+      g
 
   abbrev ActDone : S → Act → Played S → Type 0
   ActDone s act p = (text : List ℕ) × (next : S) × scene.Does s act text next × (p ≡ Done text next)
 
-  acted : (s t : S) (act : Act) (p q : Played S) → R s t → (b c : Bool) → b ≡ c → WhereTrue b (ActDone s act p) (p ≡ Refused [])
+  acted : {s t : S} (act : Act) (p q : Played S) → R s t → {b c : Bool} → b ≡ c → WhereTrue b (ActDone s act p) (p ≡ Refused [])
       → WhereTrue c (ActDone t act q) (q ≡ Refused []) → Same p q
-  acted s t act p q r true true e h g =
+  acted {s} {t} act p q r {b = true} {c = true} e h g =
       both_are p q (Done h.0 h.1) (Done g.0 g.1) h.3 g.3 (agrees.does s t act h.0 g.0 h.1 g.1 r h.2 g.2)
-  acted s t act p q r true false e h g = absurd (false≢true (sym e))
-  acted s t act p q r false true e h g = absurd (false≢true e)
-  acted s t act p q r false false e h g = both_are p q (Refused []) (Refused []) h g refl
+  acted act p q r {b = true} {c = false} e h g = absurd (false≢true (sym e))
+  acted act p q r {b = false} {c = true} e h g = absurd (false≢true e)
+  acted act p q r {b = false} {c = false} e h g = both_are p q (Refused []) (Refused []) h g refl
 
-  ran : (s t : S) (a : ℕ) (p q : Played S) → R s t → (b c : Bool) → b ≡ c
+  ran : {s t : S} (a : ℕ) (p q : Played S) → R s t → {b c : Bool} → b ≡ c
       → WhereTrue b (p ≡ Refused []) (Makes scene done STEPS_MAX a s p)
       → WhereTrue c (q ≡ Refused []) (Makes scene done STEPS_MAX a t q) → Same p q
-  ran s t a p q r true true e h g = both_are p q (Refused []) (Refused []) h g refl
-  ran s t a p q r true false e h g = absurd (false≢true (sym e))
-  ran s t a p q r false true e h g = absurd (false≢true e)
-  ran s t a p q r false false e h g = made done (λ u v k. (refl, k)) STEPS_MAX a s t p q r h g
+  ran a p q r {b = true} {c = true} e h g = both_are p q (Refused []) (Refused []) h g refl
+  ran a p q r {b = true} {c = false} e h g = absurd (false≢true (sym e))
+  ran a p q r {b = false} {c = true} e h g = absurd (false≢true e)
+  ran {s} {t} a p q r {b = false} {c = false} e h g = made done (λ u v k. (refl, k)) STEPS_MAX a s p q r h g
 
   played : (s t : S) (command : Command) (p q : Played S) → R s t → Plays scene s command p → Plays scene t command q → Same p q
-  played s t (Acts act) p q r h g = acted s t act p q r (scene.may_do s act) (scene.may_do t act) (agrees.may s t act r) h g
-  played s t (Step a count) p q r h g = made refused (λ u v k. refl) count a s t p q r h g
-  played s t (Run a) p q r h g = ran s t a p q r (scene.is_free s a) (scene.is_free t a) (agrees.free s t a r) h g
+  played s t (Acts act) p q r h g = acted act p q r (agrees.may s t act r) h g
+  played s t (Step a count) p q r h g = made refused (λ u v k. refl) count a s p q r h g
+  played s t (Run a) p q r h g = ran a p q r (agrees.free s t a r) h g
 
   rest_told : (n : ℕ) (p q : Played S) (Rest : S → Told → Type 0) → ((s t : S) (x y : Told) → R s t → Rest s x → Rest t y → x ≡ y)
-      → (x y : Told) → Same p q → TellsPlayed n p Rest x → TellsPlayed n q Rest y → x ≡ y
-  rest_told n (Done a s) (Done b t) Rest rest x y same h g =
+      → (x : Told) {y : Told} → Same p q → TellsPlayed n p Rest x → TellsPlayed n q Rest y → x ≡ y
+  rest_told n (Done a s) (Done b t) Rest rest x same h g =
       h.2 ∙ (ap (λ z. told_behind z h.0) same.0 ∙ (ap (told_behind b) (rest s t h.0 g.0 same.1 h.1 g.1) ∙ sym g.2))
-  rest_told n (Refused a) (Refused b) Rest rest x y same h g = h ∙ (ap (RefusedAt (n + 1)) same ∙ sym g)
-  rest_told n (Done a s) (Refused b) Rest rest x y same h g = absurd same
-  rest_told n (Refused a) (Done b t) Rest rest x y same h g = absurd same
+  rest_told n (Refused a) (Refused b) Rest rest x same h g = h ∙ (ap (RefusedAt (n + 1)) same ∙ sym g)
+  rest_told n (Done a s) (Refused b) Rest rest x same h g = absurd same
+  rest_told n (Refused a) (Done b t) Rest rest x same h g = absurd same
 
-  line_told : (s t : S) (n : ℕ) (e : Entry) (Rest : S → Told → Type 0) → ((s t : S) (x y : Told) → R s t → Rest s x → Rest t y → x ≡ y)
-      → (x y : Told) → R s t → TellsLine scene s n e Rest x → TellsLine scene t n e Rest y → x ≡ y
-  line_told s t n Skipped Rest rest x y r h g = rest s t x y r h g
-  line_told s t n (Does command) Rest rest x y r h g =
-      rest_told n h.0 g.0 Rest rest x y (played s t command h.0 g.0 r h.1 g.1) h.2 g.2
-  line_told s t n entry.Refused Rest rest x y r h g = h ∙ sym g
+  line_told : (s : S) {t : S} (n : ℕ) (e : Entry) (Rest : S → Told → Type 0) →
+      ((s t : S) (x y : Told) → R s t → Rest s x → Rest t y → x ≡ y)
+      → (x : Told) {y : Told} → R s t → TellsLine scene s n e Rest x → TellsLine scene t n e Rest y → x ≡ y
+  line_told s {t} n Skipped Rest rest x {y} r h g = rest s t x y r h g
+  line_told s {t} n (Does command) Rest rest x {y} r h g =
+      rest_told n h.0 g.0 Rest rest x {y = y} (played s t command h.0 g.0 r h.1 g.1) h.2 g.2
+  line_told s n entry.Refused Rest rest x r h g = h ∙ sym g
 
-  lines_told : (lines : List (List ℕ)) (s t : S) (n : ℕ) (x y : Told) → R s t → Tells scene s n lines x → Tells scene t n lines y → x ≡ y
+  lines_told : (lines : List (List ℕ)) {s t : S} (n : ℕ) {x y : Told} → R s t → Tells scene s n lines x → Tells scene t n lines y → x ≡ y
   unfolding Tells
-  lines_told [] s t n x y r h g = h ∙ (ap (λ text. Whole text n) (agrees.files s t r) ∙ sym g)
-  lines_told (line ∷ lines) s t n x y r h g =
+  lines_told [] {s} {t} n r h g = h ∙ (ap (λ text. Whole text n) (agrees.files s t r) ∙ sym g)
+  lines_told (line ∷ lines) {s} {t} n {x} {y} r h g =
       let Rest : S → Told → Type 0 = λ next v. Tells scene next (n + 1) lines v in
       let same : g.0 ≡ h.0 = same_entry line g.0 h.0 g.1 h.1 in
-      line_told s t n h.0 Rest (λ u v a b k. lines_told lines u v (n + 1) a b k) x y r h.2
+      line_told s n h.0 Rest (λ u v a b k. lines_told lines (n + 1) {x = a} {y = b} k) x {y = y} r h.2
       (subst (λ (e : Entry). TellsLine scene t n e Rest y) same g.2)
 
   pub agree_on : (script : List ℕ) (s t : S) (x y : Told) → R s t → ScriptTells scene s script x → ScriptTells scene t script y → x ≡ y
-  agree_on script s t x y r h g = lines_told (lines_of script) s t 0 x y r h g
+  agree_on script s t x y r h g = lines_told (lines_of script) 0 {x = x} {y = y} r h g
 
 -- a script tells one thing alone on a scene of which each relation does
 pub one_script : {S : Type 0} (scene : Scene S) → IsCertain scene → (s : S) (script : List ℕ) (t u : Told) → ScriptTells scene s script t

@@ -320,10 +320,10 @@ module _ {S : Type 0} (tells : Bool) (files : S → Files) (failures : S → ℕ
         stages = subst (λ z. AlikeStages files u (by_loggers v z)) own alike;
       }
 
-  does_agree : (s t : Stage S) (act : Act) (x y : List ℕ) (u v : Stage S) → AgreeingStages files s t
+  does_agree : {s t : Stage S} (act : Act) {x y : List ℕ} {u v : Stage S} → AgreeingStages files s t
       → (x ≡ (after_act s act).0) × (u ≡ (after_act s act).1) → (y ≡ (after_act t act).0) × (v ≡ (after_act t act).1)
       → (x ≡ y) × AgreeingStages files u v
-  does_agree s t act x y u v r h g =
+  does_agree {s} {t} act {x} {y} {u} {v} r h g =
       let ls = s.system.roster.loggers in
       let does = base.does s (by_loggers t ls) act x y u (by_loggers v ls) r.stages h
       (g.0 ∙ sym (said_by t ls r.loggers act), ap (λ (z : Stage S). by_loggers z ls) g.1 ∙ sym (act_by t ls r.loggers act)) in (
@@ -331,9 +331,9 @@ module _ {S : Type 0} (tells : Bool) (files : S → Files) (failures : S → ℕ
         still ls t.system.roster.loggers u v r.loggers (ap (λ (z : Stage S). z.system.roster.loggers) g.1 ∙ act_stays t act) does.1,
       )
 
-  steps_agree : (s t : Stage S) (a : ℕ) (x y : List ℕ) (u v : Stage S) → AgreeingStages files s t → StepsWell tells files failures s a x u
+  steps_agree : {s t : Stage S} {a : ℕ} {x y : List ℕ} {u v : Stage S} → AgreeingStages files s t → StepsWell tells files failures s a x u
       → StepsWell tells files failures t a y v → (x ≡ y) × AgreeingStages files u v
-  steps_agree s t a x y u v r h g =
+  steps_agree {s} {t} {a} {x} {y} {u} {v} r h g =
       let ls = s.system.roster.loggers in
       let step = base.steps s (by_loggers t ls) a x y u (by_loggers v ls) r.stages h
       (well_by t ls r.loggers tells files failures v a y g) in
@@ -345,7 +345,7 @@ module _ {S : Type 0} (tells : Bool) (files : S → Files) (failures : S → ℕ
         base.free s (by_loggers t s.system.roster.loggers) a r.stages ∙ free_by t.system s.system.roster.loggers r.loggers a;
     may = λ s t act r.
         base.may s (by_loggers t s.system.roster.loggers) act r.stages ∙ may_by t s.system.roster.loggers r.loggers act;
-    does = does_agree;
-    steps = steps_agree;
+    does = λ s t act x y u v. does_agree {s = s} {t = t} act {x = x} {y = y} {u = u} {v = v};
+    steps = λ s t a x y u v. steps_agree {s = s} {t = t} {a = a} {x = x} {y = y} {u = u} {v = v};
     files = λ s t r. base.files s (by_loggers t s.system.roster.loggers) r.stages;
   }

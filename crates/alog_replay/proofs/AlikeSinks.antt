@@ -97,7 +97,7 @@ same_kept law (Rotating r) (Rotating s) opening ws us files others t l h g =
 same_kept law (Daily d) (Daily e) opening ws us files others t l h g =
     let limits = subst (λ (m : DayLimits). IsDaily m.max_files g.opened opening (entries_of m us) others) t g.daily in
     let entries = subst (λ (es : List Entry). IsDaily d.limits.max_files g.opened opening es others) (sym (same_entries d.limits ws us l)) limits in
-    daily_once d.limits.max_files h.opened g.opened opening (entries_of d.limits ws) files others h.daily entries
+    daily_once h.daily entries
 same_kept law (Memory j) (Rotating s) opening ws us files others t l h g = absurd t
 same_kept law (Memory j) (Daily e) opening ws us files others t l h g = absurd t
 same_kept law (Rotating r) (Memory k) opening ws us files others t l h g = absurd t
@@ -197,9 +197,9 @@ module _ {S : Type 0} (files : S → Files) where
 
   module _ (tells : Bool) (tell : tells ≡ true) (failures : S → ℕ) where
     -- a text, and a flush, that no store fails
-    taken : (l k m n : LeafView S) (x : Message) (a b : Taken) → AlikeLeaves l k → Takes tells files failures l x (Ok a) m
+    taken : {l k m n : LeafView S} {x : Message} {a b : Taken} → AlikeLeaves l k → Takes tells files failures l x (Ok a) m
         → Takes tells files failures k x (Ok b) n → AlikeLeaves m n
-    taken l k m n x a b h f g = record {
+    taken {l} {k} {m} {n} {x} h f g = record {
       face = g.face ∙ (h.face ∙ sym f.face);
       target = with_target l.target k.target m.target n.target h.target f.target g.target;
       opening = h.opening;
@@ -208,24 +208,24 @@ module _ {S : Type 0} (files : S → Files) where
       other = g.stands tell h.opening h.given h.other;
     }
 
-    below_or_not : (l k m n : LeafView S) (x : Message) (a b : Taken) → AlikeLeaves l k → Takes tells files failures l x (Ok a) m
+    below_or_not : {l k m n : LeafView S} {x : Message} {a b : Taken} → AlikeLeaves l k → Takes tells files failures l x (Ok a) m
         → Takes tells files failures k x (Ok b) n → a ≡ b
-    below_or_not l k m n x Below Below h f g = refl
-    below_or_not l k m n x Wrote Wrote h f g = refl
-    below_or_not l k m n x Below Wrote h f g =
+    below_or_not {a = Below} {b = Below} h f g = refl
+    below_or_not {a = Wrote} {b = Wrote} h f g = refl
+    below_or_not {x} {a = Below} {b = Wrote} h f g =
         let under = ap (λ (face : Face). admits face.level x.level) h.face ∙ f.below.0 refl in absurd (let e = g.below.1 under in cc)
-    below_or_not l k m n x Wrote Below h f g =
+    below_or_not {x} {a = Wrote} {b = Below} h f g =
         let under = ap (λ (face : Face). admits face.level x.level) (sym h.face) ∙ g.below.0 refl in absurd (let e = f.below.1 under in cc)
 
-    pub leaf_takes : (l k m n : LeafView S) (x : Message) (a b : Answer) → AlikeLeaves l k → Takes tells files failures l x a m
+    pub leaf_takes : {l k m n : LeafView S} {x : Message} {a b : Answer} → AlikeLeaves l k → Takes tells files failures l x a m
         → Takes tells files failures k x b n → IsOk a → IsOk b → (a ≡ b) × AlikeLeaves m n
-    leaf_takes l k m n x (Ok a) (Ok b) h f g p q = (ap Ok (below_or_not l k m n x a b h f g), taken l k m n x a b h f g)
-    leaf_takes l k m n x (Ok a) (Err e) h f g p q = absurd q
-    leaf_takes l k m n x (Err e) b h f g p q = absurd p
+    leaf_takes {l} {k} {m} {n} {x} {a = Ok a} {b = Ok b} h f g p q = (ap Ok (below_or_not h f g), taken h f g)
+    leaf_takes {a = Ok a} {b = Err e} h f g p q = absurd q
+    leaf_takes {a = Err e} h f g p q = absurd p
 
-    leaf_flushes : (l k m n : LeafView S) (a b : Result Unit SinkError) → AlikeLeaves l k → Flushes tells files failures l a m
+    leaf_flushes : {l k m n : LeafView S} {a b : Result Unit SinkError} → AlikeLeaves l k → Flushes tells files failures l a m
         → Flushes tells files failures k b n → IsOk a → IsOk b → (a ≡ b) × AlikeLeaves m n
-    leaf_flushes l k m n (Ok a) (Ok b) h f g p q = (
+    leaf_flushes {l} {k} {m} {n} {a = Ok a} {b = Ok b} h f g p q = (
       refl,
       record {
         face = g.face ∙ (h.face ∙ sym f.face);
@@ -236,8 +236,8 @@ module _ {S : Type 0} (files : S → Files) where
         other = g.stands tell h.opening h.given h.other;
       },
     )
-    leaf_flushes l k m n (Ok a) (Err e) h f g p q = absurd q
-    leaf_flushes l k m n (Err e) b h f g p q = absurd p
+    leaf_flushes {a = Ok a} {b = Err e} h f g p q = absurd q
+    leaf_flushes {a = Err e} h f g p q = absurd p
 
     -- where the first fault is none, each answer is well
     first_well : {A : Type 0} (done : A) (a : Result A SinkError) (answers : List (Result A SinkError)) → IsOk (first_fault done (a ∷ answers))
@@ -270,82 +270,82 @@ module _ {S : Type 0} (files : S → Files) where
         subst (λ (z : List (LeafView S)). AllLeaves z ns) (sym x.5) (subst (λ (z : List (LeafView S)). AllLeaves (x.2 ∷ x.3) z) (sym y.5) all)
 
     -- a fan
-    fan_takes_by : (f k m n : FanView S) (x : Message) (a b : Answer) → k.level ≡ f.level → AllLeaves f.members k.members
-        → FanTakes tells files failures f x a m → FanTakes tells files failures k x b n → IsOk a → IsOk b → (v : Bool)
+    fan_takes_by : {f k m n : FanView S} {x : Message} {a b : Answer} → k.level ≡ f.level → AllLeaves f.members k.members
+        → FanTakes tells files failures f x a m → FanTakes tells files failures k x b n → IsOk a → IsOk b → {v : Bool}
         → admits f.level x.level ≡ v → (a ≡ b) × (n.level ≡ m.level) × AllLeaves m.members n.members
-    fan_takes_by f k m n x a b level all one other p q false e =
+    fan_takes_by {f} {m} {n} {x} level all one other p q {v = false} e =
         let s = one.below e in
         let t = other.below (ap (λ l. admits l x.level) level ∙ e) in
         let whole : AllLeaves m.members n.members =
         subst (λ (z : FanView S). AllLeaves z.members n.members) (sym s.1) (subst (λ (z : FanView S). AllLeaves f.members z.members) (sym t.1) all) in
         (s.0 ∙ sym t.0, other.level ∙ (level ∙ sym one.level), whole)
-    fan_takes_by f k m n x a b level all one other p q true e =
+    fan_takes_by {f} {k} {m} {n} {x} level all one other p q {v = true} e =
         let s = one.given e in
         let t = other.given (ap (λ l. admits l x.level) level ∙ e) in
         let i = subst IsOk s.2 p in
         let j = subst IsOk t.2 q in (
           (s.2 ∙ first_done Wrote s.0 i) ∙ sym (t.2 ∙ first_done Wrote t.0 j),
           other.level ∙ (level ∙ sym one.level),
-          all_do Wrote (λ o c u. Takes tells files failures o x c u) (λ l k m n c d h f g. leaf_takes l k m n x c d h f g) f.members k.members
+          all_do Wrote (λ o c u. Takes tells files failures o x c u) (λ l k m n c d h f g. leaf_takes h f g) f.members k.members
               m.members n.members s.0 t.0 all s.1 t.1 i j,
         )
 
-    fan_flushes : (f k m n : FanView S) (a b : Result Unit SinkError) → k.level ≡ f.level → AllLeaves f.members k.members
+    fan_flushes : {f k m n : FanView S} {a b : Result Unit SinkError} → k.level ≡ f.level → AllLeaves f.members k.members
         → FanFlushes tells files failures f a m → FanFlushes tells files failures k b n → IsOk a → IsOk b
         → (a ≡ b) × (n.level ≡ m.level) × AllLeaves m.members n.members
-    fan_flushes f k m n a b level all one other p q =
+    fan_flushes {f} {k} {m} {n} level all one other p q =
         let i = subst IsOk one.first p in
         let j = subst IsOk other.first q in (
           (one.first ∙ first_done tt one.answers i) ∙ sym (other.first ∙ first_done tt other.answers j),
           other.level ∙ (level ∙ sym one.level),
-          all_do tt (Flushes tells files failures) leaf_flushes f.members k.members m.members n.members one.answers other.answers all one.given
-              other.given i j,
+          all_do tt (Flushes tells files failures) (λ l k m n c d h f g. leaf_flushes h f g) f.members k.members m.members n.members
+              one.answers other.answers all one.given other.given i j,
         )
 
     -- a sink
-    sink_takes : (o k m n : Sink S) (x : Message) (a b : Answer) → AlikeSinks o k → SinkTakes tells files failures o x a m
+    sink_takes : (o k m n : Sink S) (x : Message) {a b : Answer} → AlikeSinks o k → SinkTakes tells files failures o x a m
         → SinkTakes tells files failures k x b n → IsOk a → IsOk b → (a ≡ b) × AlikeSinks m n
-    sink_takes (Leaf o) (Leaf k) (Leaf m) (Leaf n) x a b h f g p q = leaf_takes o k m n x a b h f g p q
-    sink_takes (Fan o) (Fan k) (Fan m) (Fan n) x a b h f g p q =
-        let r = fan_takes_by o k m n x a b h.0 h.1 f g p q (admits o.level x.level) refl in (r.0, (r.1, r.2))
-    sink_takes (Leaf o) (Fan k) m n x a b h f g p q = absurd h
-    sink_takes (Fan o) (Leaf k) m n x a b h f g p q = absurd h
-    sink_takes (Leaf o) (Leaf k) (Fan m) n x a b h f g p q = absurd f
-    sink_takes (Leaf o) (Leaf k) (Leaf m) (Fan n) x a b h f g p q = absurd g
-    sink_takes (Fan o) (Fan k) (Leaf m) n x a b h f g p q = absurd f
-    sink_takes (Fan o) (Fan k) (Fan m) (Leaf n) x a b h f g p q = absurd g
+    sink_takes (Leaf o) (Leaf k) (Leaf m) (Leaf n) x {a} {b} h f g p q = leaf_takes h f g p q
+    sink_takes (Fan o) (Fan k) (Fan m) (Fan n) x {a} {b} h f g p q =
+        let r = fan_takes_by h.0 h.1 f g p q {v = admits o.level x.level} refl in (r.0, (r.1, r.2))
+    sink_takes (Leaf o) (Fan k) m n x h f g p q = absurd h
+    sink_takes (Fan o) (Leaf k) m n x h f g p q = absurd h
+    sink_takes (Leaf o) (Leaf k) (Fan m) n x h f g p q = absurd f
+    sink_takes (Leaf o) (Leaf k) (Leaf m) (Fan n) x h f g p q = absurd g
+    sink_takes (Fan o) (Fan k) (Leaf m) n x h f g p q = absurd f
+    sink_takes (Fan o) (Fan k) (Fan m) (Leaf n) x h f g p q = absurd g
 
-    sink_flushes : (o k m n : Sink S) (a b : Result Unit SinkError) → AlikeSinks o k → SinkFlushes tells files failures o a m
+    sink_flushes : (o k m n : Sink S) {a b : Result Unit SinkError} → AlikeSinks o k → SinkFlushes tells files failures o a m
         → SinkFlushes tells files failures k b n → IsOk a → IsOk b → (a ≡ b) × AlikeSinks m n
-    sink_flushes (Leaf o) (Leaf k) (Leaf m) (Leaf n) a b h f g p q = leaf_flushes o k m n a b h f g p q
-    sink_flushes (Fan o) (Fan k) (Fan m) (Fan n) a b h f g p q =
-        let r = fan_flushes o k m n a b h.0 h.1 f g p q in (r.0, (r.1, r.2))
-    sink_flushes (Leaf o) (Fan k) m n a b h f g p q = absurd h
-    sink_flushes (Fan o) (Leaf k) m n a b h f g p q = absurd h
-    sink_flushes (Leaf o) (Leaf k) (Fan m) n a b h f g p q = absurd f
-    sink_flushes (Leaf o) (Leaf k) (Leaf m) (Fan n) a b h f g p q = absurd g
-    sink_flushes (Fan o) (Fan k) (Leaf m) n a b h f g p q = absurd f
-    sink_flushes (Fan o) (Fan k) (Fan m) (Leaf n) a b h f g p q = absurd g
+    sink_flushes (Leaf o) (Leaf k) (Leaf m) (Leaf n) {a} {b} h f g p q = leaf_flushes h f g p q
+    sink_flushes (Fan o) (Fan k) (Fan m) (Fan n) {a} {b} h f g p q =
+        let r = fan_flushes h.0 h.1 f g p q in (r.0, (r.1, r.2))
+    sink_flushes (Leaf o) (Fan k) m n h f g p q = absurd h
+    sink_flushes (Fan o) (Leaf k) m n h f g p q = absurd h
+    sink_flushes (Leaf o) (Leaf k) (Fan m) n h f g p q = absurd f
+    sink_flushes (Leaf o) (Leaf k) (Leaf m) (Fan n) h f g p q = absurd g
+    sink_flushes (Fan o) (Fan k) (Leaf m) n h f g p q = absurd f
+    sink_flushes (Fan o) (Fan k) (Fan m) (Leaf n) h f g p q = absurd g
 
-    text_turn : (t : SinkTurn) (m : Message) (o k n u : Sink S) (x y : Turn) → AlikeSinks o k → TextTurn tells files failures t m o x n
+    text_turn : (t : SinkTurn) (m : Message) (o k n u : Sink S) {x y : Turn} → AlikeSinks o k → TextTurn tells files failures t m o x n
         → TextTurn tells files failures t m k y u → IsWell x → IsWell y → (x ≡ y) × AlikeSinks n u
-    text_turn t m o k n u x y h f g p q =
-        let r = sink_takes o k n u m f.0 g.0 h f.1 g.1 (well_text t f.0 (subst IsWell f.2 p)) (well_text t g.0 (subst IsWell g.2 q)) in
+    text_turn t m o k n u h f g p q =
+        let r = sink_takes o k n u m {a = f.0} {b = g.0} h f.1 g.1 (well_text t f.0 (subst IsWell f.2 p)) (well_text t g.0 (subst IsWell g.2 q)) in
         (f.2 ∙ (ap (told_of_text t) r.0 ∙ sym g.2), r.1)
 
-    flush_turn : (t : SinkTurn) (o k n u : Sink S) (x y : Turn) → AlikeSinks o k → FlushTurn tells files failures t o x n
+    flush_turn : (t : SinkTurn) (o k n u : Sink S) {x y : Turn} → AlikeSinks o k → FlushTurn tells files failures t o x n
         → FlushTurn tells files failures t k y u → IsWell x → IsWell y → (x ≡ y) × AlikeSinks n u
-    flush_turn t o k n u x y h f g p q =
-        let r = sink_flushes o k n u f.0 g.0 h f.1 g.1 (well_flush t f.0 (subst IsWell f.2 p)) (well_flush t g.0 (subst IsWell g.2 q)) in
+    flush_turn t o k n u h f g p q =
+        let r = sink_flushes o k n u {a = f.0} {b = g.0} h f.1 g.1 (well_flush t f.0 (subst IsWell f.2 p)) (well_flush t g.0 (subst IsWell g.2 q)) in
         (f.2 ∙ (ap (told_of_flush t) r.0 ∙ sym g.2), r.1)
 
-    pub same_turn : (t : SinkTurn) (d : SinkDeed) (i : Item) (o k n u : Sink S) (x y : Turn) → AlikeSinks o k
+    pub same_turn : (t : SinkTurn) (d : SinkDeed) (i : Item) (o k n u : Sink S) {x y : Turn} → AlikeSinks o k
         → DoesTurn tells files failures t d i o x n → DoesTurn tells files failures t d i k y u → IsWell x → IsWell y
         → (x ≡ y) × AlikeSinks n u
-    same_turn t deed.Take (item.Text m) o k n u x y h f g p q = text_turn t m o k n u x y h f g p q
-    same_turn t deed.Take (item.Flush l) o k n u x y h f g p q = flush_turn t o k n u x y h f g p q
-    same_turn t deed.Take item.Stop o k n u x y h f g p q = flush_turn t o k n u x y h f g p q
-    same_turn t deed.Flush i o k n u x y h f g p q = flush_turn t o k n u x y h f g p q
+    same_turn t deed.Take (item.Text m) o k n u {x} {y} h f g p q = text_turn t m o k n u h f g p q
+    same_turn t deed.Take (item.Flush l) o k n u {x} {y} h f g p q = flush_turn t o k n u h f g p q
+    same_turn t deed.Take item.Stop o k n u {x} {y} h f g p q = flush_turn t o k n u h f g p q
+    same_turn t deed.Flush i o k n u {x} {y} h f g p q = flush_turn t o k n u h f g p q
 
   -- the sinks of a number
   pub alike_at : (ls ks : List (Sink S)) (n : ℕ) (x y : Sink S) → AllSinks ls ks → slice_get ls n ≡ Some x → slice_get ks n ≡ Some y

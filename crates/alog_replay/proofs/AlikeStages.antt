@@ -169,10 +169,10 @@ module _ {S : Type 0} (files : S → Files) where
   stay_alike v new after o outs keeps is = (o, is, subst (λ (z : OutputsView S). AlikeOutputs z o) (sym keeps) outs)
 
   module _ (tells : Bool) (tell : tells ≡ true) (failures : S → ℕ) where
-    served_alike : (v new after : SystemView S) (o : OutputsView S) (a t : ℕ) (i : Item) (done : ℕ) (x y : Turn) → AlikeOutputs v.outputs o
+    served_alike : {v new after : SystemView S} {o : OutputsView S} {a t : ℕ} {i : Item} {done : ℕ} {x y : Turn} → AlikeOutputs v.outputs o
         → ServesOn tells files failures v a t i done x new → ServesOn tells files failures (with_outputs v o) a t i done y after → IsWell x
         → IsWell y → (x ≡ y) × AlikeSystems new after
-    served_alike v new after o a t i done x y outs h g p q =
+    served_alike {v} {new} {o} {i} {x} {y} outs h g p q =
         let turns : g.turn ≡ h.turn = same_Some g.turn h.turn (sym g.next ∙ h.next) in
         let there : slice_get o.sinks h.turn.sink ≡ Some g.makes.before =
         subst (λ (u : SinkTurn). slice_get o.sinks u.sink ≡ Some g.makes.before) turns g.makes.there in
@@ -180,8 +180,8 @@ module _ {S : Type 0} (files : S → Files) where
         let others : g.outputs ≡ record { sinks = slice_set o.sinks h.turn.sink g.makes.after; text_limit = o.text_limit } =
         subst (λ (u : SinkTurn). g.outputs ≡ record { sinks = slice_set o.sinks u.sink g.makes.after; text_limit = o.text_limit }) turns g.makes.others in
         let before = alike_at files v.outputs.sinks o.sinks h.turn.sink h.makes.before g.makes.before outs.1 h.makes.there there in
-        let r = same_turn files tells tell failures h.turn h.turn.deed i h.makes.before g.makes.before h.makes.after g.makes.after x y before
-        h.makes.turn does p q in
+        let r = same_turn files tells tell failures h.turn h.turn.deed i h.makes.before g.makes.before h.makes.after g.makes.after {x = x}
+        {y = y} before h.makes.turn does p q in
         let set = alike_set files v.outputs.sinks o.sinks h.turn.sink h.makes.after g.makes.after outs.1 r.1 in
         let whole : AlikeOutputs h.outputs g.outputs =
         subst (λ (z : OutputsView S). AlikeOutputs z g.outputs) (sym h.makes.others)
@@ -195,33 +195,35 @@ module _ {S : Type 0} (files : S → Files) where
           ),
         )
 
-    turn_alike : (v new after : SystemView S) (o : OutputsView S) (a : ℕ) (d : Duty) (x y : Turn) → AlikeOutputs v.outputs o
+    turn_alike : (v new : SystemView S) {after : SystemView S} (o : OutputsView S) (a : ℕ) (d : Duty) {x y : Turn}
+        → AlikeOutputs v.outputs o
         → TurnSteps tells files failures v a d x new → TurnSteps tells files failures (with_outputs v o) a d y after → IsWell x → IsWell y
         → (x ≡ y) × AlikeSystems new after
-    turn_alike v new after o a duty.Free x y outs h g p q = absurd h
-    turn_alike v new after o a (duty.Keeps m) x y outs h g p q = (
+    turn_alike v new o a duty.Free outs h g p q = absurd h
+    turn_alike v new {after} o a (duty.Keeps m) outs h g p q = (
       h.0 ∙ sym g.0,
       stay_alike v new after o outs (ap (λ (z : SystemView S). z.outputs) h.1) (g.1 ∙ ap (λ (z : SystemView S). with_outputs z o) (sym h.1)),
     )
-    turn_alike v new after o a (duty.Dumps d) x y outs h g p q =
+    turn_alike v new {after} o a (duty.Dumps d) outs h g p q =
         let w = with_roster v (emptied v.roster d.logger) in
         let policy = policy_at v.roster d.logger in (
           h.0 ∙ sym g.0,
           stay_alike v new after o outs (ap (λ (z : SystemView S). z.outputs) h.1 ∙ posting_keeps w o a policy (dumped_by v d))
               (g.1 ∙ (posting_with w o a policy (dumped_by v d) ∙ ap (λ (z : SystemView S). with_outputs z o) (sym h.1))),
         )
-    turn_alike v new after o a (duty.Posts policy ms) x y outs h g p q = absurd h
-    turn_alike v new after o a duty.Works x y outs h g p q = absurd h
-    turn_alike v new after o a (duty.Serves t i done) x y outs h g p q = served_alike v new after o a t i done x y outs h g p q
+    turn_alike v new o a (duty.Posts policy ms) outs h g p q = absurd h
+    turn_alike v new o a duty.Works outs h g p q = absurd h
+    turn_alike v new {after} o a (duty.Serves t i done) {x} {y} outs h g p q = served_alike outs h g p q
 
-    step_alike : (v new after : SystemView S) (o : OutputsView S) (a : ℕ) (x y : Stepped) → AlikeOutputs v.outputs o → (b : Bool)
+    step_alike : (v new : SystemView S) {after : SystemView S} (o : OutputsView S) (a : ℕ) {x y : Stepped} → AlikeOutputs v.outputs o →
+        (b : Bool)
         → MatchBool b (TurnTold tells files failures v a x new) (RoundSteps v a x new)
         → MatchBool b (TurnTold tells files failures (with_outputs v o) a y after) (RoundSteps (with_outputs v o) a y after) → HasNoFault x
         → HasNoFault y → (x ≡ y) × AlikeSystems new after
-    step_alike v new after o a x y outs true h g p q =
-        let r = turn_alike v new after o a (duty_of v a) h.0 g.0 outs h.2 g.2 (subst HasNoFault h.1 p) (subst HasNoFault g.1 q) in
+    step_alike v new {after} o a outs true h g p q =
+        let r = turn_alike v new {after = after} o a (duty_of v a) {x = h.0} {y = g.0} outs h.2 g.2 (subst HasNoFault h.1 p) (subst HasNoFault g.1 q) in
         (h.1 ∙ (ap Turned r.0 ∙ sym g.1), r.1)
-    step_alike v new after o a x y outs false h g p q =
+    step_alike v new {after} o a outs false h g p q =
         let w = with_desk v (desk_stepped v.desk a) in
         let said = desk_told v.desk a in (
           h.0 ∙ sym g.0,
@@ -230,42 +232,44 @@ module _ {S : Type 0} (files : S → Files) where
         )
 
     -- an actor whose turn comes has a sink for it
-    has_sink : (v new : SystemView S) (a : ℕ) (x : Stepped) (t : ℕ) (i : Item) (done : ℕ) (b : Bool) → b ≡ true → duty_of v a ≡ duty.Serves t i done
+    has_sink : (v new : SystemView S) (a : ℕ) (x : Stepped) {t : ℕ} {i : Item} {done : ℕ} {b : Bool} → b ≡ true
+        → duty_of v a ≡ duty.Serves t i done
         → MatchBool b (TurnTold tells files failures v a x new) (RoundSteps v a x new)
         → (turn : SinkTurn) × (before : Sink S) × (slice_get (turns_for v.roster t i) done ≡ Some turn)
         × (slice_get v.outputs.sinks turn.sink ≡ Some before)
-    has_sink v new a x t i done false e d h = absurd (false≢true e)
-    has_sink v new a x t i done true e d h =
+    has_sink v new a x {b = false} e d h = absurd (false≢true e)
+    has_sink v new a x {b = true} e d h =
         let on = subst (λ (z : Duty). TurnSteps tells files failures v a z h.0 new) d h.2 in (on.turn, on.makes.before, on.next, on.makes.there)
 
-    not_there : (v w new : SystemView S) (a : ℕ) (x : Stepped) → SystemSteps tells files failures v a x new → HasNoSink w a
+    not_there : (v : SystemView S) {w : SystemView S} (new : SystemView S) {a : ℕ} (x : Stepped)
+        → SystemSteps tells files failures v a x new → HasNoSink w a
         → w.desk ≡ v.desk → w.duties ≡ v.duties → w.roster ≡ v.roster
         → ((n : ℕ) (z : Sink S) → slice_get v.outputs.sinks n ≡ Some z → (y : Sink S) × (slice_get w.outputs.sinks n ≡ Some y)) → ⊥
-    not_there v w new a x steps lacks desk duties roster both =
+    not_there v {w} new {a} x steps lacks desk duties roster both =
         let idle = ap (λ d. is_idle (round_of d.world a)) (sym desk) ∙ lacks.idle in
         let serves = ap (λ ds. slice_index_or ds a duty.Free) (sym duties) ∙ lacks.serves in
-        let sink = has_sink v new a x lacks.ticket lacks.item lacks.done (is_idle (round_of v.desk.world a)) idle serves steps in
+        let sink = has_sink v new a x idle serves steps in
         let next = ap (λ r. slice_get (turns_for r lacks.ticket lacks.item) lacks.done) roster ∙ sink.2 in
         let found = both sink.0.sink sink.1 sink.3 in
         none-some found.0 (sym lacks.none ∙ (ap (sink_of w) next ∙ found.1))
 
-    stage_step : (s u t : Stage S) (o : OutputsView S) (a : ℕ) (x y : List ℕ) → AlikeOutputs s.system.outputs o
+    stage_step : {s u t : Stage S} {o : OutputsView S} {a : ℕ} {x y : List ℕ} → AlikeOutputs s.system.outputs o
         → StepsWell tells files failures s a x u → StepsWell tells files failures (on s o) a y t → (x ≡ y) × AlikeStages u t
-    stage_step s u t o a x y outs (inl h) (inl g) =
-        let r = step_alike s.system u.system t.system o a h.0.told g.0.told outs (is_idle (round_of s.system.desk.world a)) h.0.steps g.0.steps h.1 g.1 in
+    stage_step {s} {u} {t} {o} {a} outs (inl h) (inl g) =
+        let r = step_alike s.system u.system {after = t.system} o a {x = h.0.told} {y = g.0.told} outs (is_idle (round_of s.system.desk.world a)) h.0.steps g.0.steps h.1 g.1 in
         let duty : duty_of t.system a ≡ duty_of u.system a = ap (λ (z : SystemView S). duty_of z a) r.1.1 in
         let same : told_text s.names a (item_of (duty_of u.system a)) h.0.told ≡ told_text s.names a (item_of (duty_of t.system a)) g.0.told =
         ap (λ z. told_text s.names a (item_of (duty_of u.system a)) z) r.0 ∙ ap (λ z. told_text s.names a (item_of z) g.0.told) (sym duty) in
         let stage : t ≡ on u r.1.0 =
         g.0.rest ∙ (ap (with_system s) r.1.1 ∙ ap (λ (z : Stage S). on z r.1.0) (sym h.0.rest)) in
         (h.0.printed ∙ (same ∙ sym g.0.printed), (r.1.0, stage, r.1.2))
-    stage_step s u t o a x y outs (inl h) (inr g) =
-        absurd (not_there s.system (with_outputs s.system o) u.system a h.0.told h.0.steps g.0 refl refl refl
+    stage_step {s} {u} {o} {a} outs (inl h) (inr g) =
+        absurd (not_there s.system u.system h.0.told h.0.steps g.0 refl refl refl
         (λ n z e. both_there files s.system.outputs.sinks o.sinks n z outs.1 e))
-    stage_step s u t o a x y outs (inr h) (inl g) =
-        absurd (not_there (with_outputs s.system o) s.system t.system a g.0.told g.0.steps h.0 refl refl refl
+    stage_step {s} {t} {o} {a} outs (inr h) (inl g) =
+        absurd (not_there (with_outputs s.system o) t.system g.0.told g.0.steps h.0 refl refl refl
         (λ n z e. both_back files s.system.outputs.sinks o.sinks n z outs.1 e))
-    stage_step s u t o a x y outs (inr h) (inr g) =
+    stage_step {u} {t} {o} outs (inr h) (inr g) =
         let is : t ≡ on u o = g.2 ∙ ap (λ (z : Stage S). on z o) (sym h.2) in
         (h.1 ∙ sym g.1, (o, is, subst (λ (z : Stage S). AlikeOutputs z.system.outputs o) (sym h.2) outs))
 
@@ -323,10 +327,10 @@ module _ {S : Type 0} (files : S → Files) where
       limited s o Cells e = refl
       limited s o Counts e = refl
 
-      act_alike : (s t : Stage S) (act : Act) (x y : List ℕ) (u v : Stage S) → AlikeStages s t
+      act_alike : (s : Stage S) {t : Stage S} (act : Act) {x y : List ℕ} {u v : Stage S} → AlikeStages s t
           → (x ≡ (after_act s act).0) × (u ≡ (after_act s act).1) → (y ≡ (after_act t act).0) × (v ≡ (after_act t act).1)
           → (x ≡ y) × AlikeStages u v
-      act_alike s t act x y u v r h g =
+      act_alike s act {u} {v} r h g =
           let text = act_text s r.0 act in
           let to = ap (λ (z : Stage S). (after_act z act).0) r.1 in
           let is : v ≡ on u r.0 =
@@ -340,6 +344,6 @@ module _ {S : Type 0} (files : S → Files) where
         may = λ s t act r. limited s r.0 act r.2.0 ∙ ap (λ (z : Stage S). may_do z act) (sym r.1);
         does = act_alike;
         steps = λ s t a x y u v r h g.
-            stage_step s u v r.0 a x y r.2 h (subst (λ (z : Stage S). StepsWell tells files failures z a y v) r.1 g);
+            stage_step r.2 h (subst (λ (z : Stage S). StepsWell tells files failures z a y v) r.1 g);
         files = λ s t r. all_text s.system r.0 r.2 s.places ∙ ap (λ (z : Stage S). places_text listing z.system z.places) (sym r.1);
       }

@@ -1,16 +1,15 @@
 -- What an actor owes, step by step.
-use Rattle.std.proofs.Common.{◌≡◌, ℕ, true, Bool, List, ◌++◌, sym, ap, subst, ◌∙◌, refl}
+use Rattle.std.proofs.Common.{◌≡◌, ℕ, true, List, ◌++◌, sym, ap, subst, ◌∙◌, refl}
 use Rattle.std.proofs.lemmas.List.{set-set}
 use Rattle.alog_core.specs.declared.said.Said.{Said}
 use Rattle.alog_msg.specs.declared.message.Message.{Message}
 use Rattle.alog_policy.specs.Desk.{desk_told, desk_stepped}
-use Rattle.alog_replay.specs.Memory.{MemoryFile, Turns}
 use Rattle.alog_replay.specs.Scene.{Prints}
-use Rattle.alog_replay.specs.Session.{Stage, duty_of, with_duty, with_desk, with_memory, work_after, shown_message, memory_turn_text}
+use Rattle.alog_replay.specs.Session.{Stage, duty_of, with_duty, with_desk, work_after, shown_message}
 use Rattle.alog_replay.specs.Session.{StepsBy, Steps}
 use Rattle.alog_replay.specs.Texts.{stepped_text}
 use Rattle.alog_replay.specs.declared.duty.Duty.{Duty}
-use Rattle.alog_replay.specs.declared.duty.Duty.TheVariants.{Free, Works, Owes}
+use Rattle.alog_replay.specs.declared.duty.Duty.TheVariants.{Free, Works}
 
 -- a duty was taken out, and a round made a step
 pub record HasMoved (s taken moved : Stage) (a : ℕ) (duty : Duty) (old new : List ℕ) : Type 0 where
@@ -28,14 +27,6 @@ printed_by : (s taken : Stage) (a : ℕ) (old new : List ℕ) → taken ≡ with
     → new ≡ old ++ stepped_text shown_message a (desk_told taken.desk a) → new ≡ old ++ stepped_text shown_message a (desk_told s.desk a)
 printed_by s taken a old new out p = subst (λ (t : Stage). new ≡ old ++ stepped_text shown_message a (desk_told t.desk a)) out p
 
--- a round that owes nothing
-pub free_stepped : {s taken moved : Stage} {a : ℕ} {old new : List ℕ} → HasMoved s taken moved a Free old new
-    → Prints old new (λ text. Steps true s a text moved)
-free_stepped {s} {taken} {moved} {a} {old} {new} h =
-    let text = stepped_text shown_message a (desk_told s.desk a) in
-    let next = moved_by s taken moved a h.out h.moved_on in
-    (text, subst (λ d. StepsBy true s a d text moved) h.owed (refl, next), printed_by s taken a old new h.out h.printed)
-
 -- the pop of a worker, which then owes what it took
 pub works_stepped : {s taken moved after : Stage} {a : ℕ} {what : Said Message} {duty : Duty} {old new : List ℕ}
     → HasMoved s taken moved a Works old new → what ≡ (desk_told taken.desk a).said → duty ≡ work_after what → after ≡ with_duty moved a duty
@@ -51,14 +42,3 @@ works_stepped {s} {taken} {moved} {after} {a} {what} {duty} {old} {new} h said o
     in_place ∙ (ap (λ (t : Stage). with_duty t a duty) (moved_by s taken moved a h.out h.moved_on)
     ∙ (ap (λ d. with_duty (with_duty went a Free) a d) due ∙ twice)) in
     (text, subst (λ d. StepsBy true s a d text after) h.owed (refl, next), printed_by s taken a old new h.out h.printed)
-
--- a turn of the memory file
-pub turn_stepped : (s taken v after : Stage) (a t : ℕ) (m : Message) (written : Bool) (memory : MemoryFile) (old new : List ℕ)
-    → Owes t m ≡ duty_of s a → taken ≡ with_duty s a Free → v ≡ taken → Turns true v.memory m.text written memory
-    → after ≡ with_memory v memory → new ≡ old ++ memory_turn_text a t written → Prints old new (λ text. Steps true s a text after)
-turn_stepped s taken v after a t m written memory old new owed out is turns next printed =
-    let text = memory_turn_text a t written in
-    let whole = is ∙ out in
-    let here = subst (λ (u : Stage). Turns true u.memory m.text written memory) whole turns in
-    let then : after ≡ with_duty (with_memory s memory) a Free = next ∙ ap (λ (u : Stage). with_memory u memory) whole in
-    (text, subst (λ d. StepsBy true s a d text after) owed (written, memory, here, refl, then), printed)

@@ -61,10 +61,10 @@ module _ {S : Type 0} (scene : Scene S) where
   Front from new script left = (read : List ℕ) × (script ≡ read ++ left) × WritesFront scene from.stage read from.held new
 
   -- this much of the rest was read, and tells this
-  front_at : {script rest : List ℕ} {new : Option (List ℕ)} (from to : Point S) (x left : List ℕ) (t : Told)
+  front_at : {script rest : List ℕ} {new : Option (List ℕ)} {from to : Point S} (x left : List ℕ) (t : Told)
       → Progress scene from to script rest → rest ≡ x ++ left
       → Tells scene to.stage to.count (lines_of x) t → WritesFrontOf (text_of t) to.held new → Front from new script left
-  front_at {script} {rest} {new} from to x left t p e h w = (
+  front_at {script} {rest} {new} {from} {to} x left t p e h w = (
     p.read ++ x,
     p.split ∙ (ap (λ xs. p.read ++ xs) e ∙ sym (append_assoc p.read x left)),
     record {
@@ -75,11 +75,11 @@ module _ {S : Type 0} (scene : Scene S) where
   )
 
   -- all of the rest tells this
-  whole_text : {script rest : List ℕ} (from to : Point S) (new : Option (List ℕ)) (ended : List ℕ → Told) (more : List ℕ)
+  whole_text : {script rest : List ℕ} {from to : Point S} {new : Option (List ℕ)} (ended : List ℕ → Told) (more : List ℕ)
       → ((text : List ℕ) → told_behind text (ended more) ≡ ended (text ++ more))
       → Tells scene to.stage to.count (lines_of rest) (ended more) → Appends to.held new more
       → Progress scene from to script rest → WritesText scene from.stage script ended from.held new
-  whole_text {script} {rest} from to new ended more same h a p =
+  whole_text {script} {rest} {from} {to} {new} ended more same h a p =
       record {
         text = p.text ++ more;
         tells = subst (λ (xs : List ℕ). ScriptTells scene from.stage xs (ended (p.text ++ more))) (sym p.split)
@@ -103,7 +103,7 @@ module _ {S : Type 0} (scene : Scene S) where
   end_whole from to after new line h f a =
       at_line from to after (λ rest left. IsNextLine found.End rest line left)
       (λ s. WritesText scene from.stage s (λ text. Whole text to.count) from.held new)
-      (λ script rest left p k. whole_text from to new (λ text. Whole text to.count) (scene.files to.stage) (λ text. refl)
+      (λ script rest left p k. whole_text {new = new} (λ text. Whole text to.count) (scene.files to.stage) (λ text. refl)
       (subst (λ (xs : List ℕ). Tells scene to.stage to.count (lines_of xs) (Whole (scene.files to.stage) to.count)) (sym k.0)
       (no_lines scene to.stage to.count)) a p) h f
 
@@ -114,7 +114,7 @@ module _ {S : Type 0} (scene : Scene S) where
   too_long_refused from to after line h f =
       at_line from to after (λ rest left. IsNextLine found.TooLong rest line left)
       (λ s. WritesText scene from.stage s (RefusedAt (to.count + 1)) from.held to.held)
-      (λ script rest left p k. whole_text from to to.held (RefusedAt (to.count + 1)) [] (λ text. refl)
+      (λ script rest left p k. whole_text {new = to.held} (RefusedAt (to.count + 1)) [] (λ text. refl)
       (too_long_told scene to.stage to.count rest k.1) (appends_nothing to.held) p) h f
 
   -- the next line is refused
@@ -124,7 +124,7 @@ module _ {S : Type 0} (scene : Scene S) where
   line_refused from to after new line h f w =
       at_line from to after (λ rest left. TakesLine rest line left)
       (λ s. WritesText scene from.stage s (RefusedAt (to.count + 1)) from.held new)
-      (λ script rest left p k. whole_text from to new (RefusedAt (to.count + 1)) w.text (λ text. refl)
+      (λ script rest left p k. whole_text {new = new} (RefusedAt (to.count + 1)) w.text (λ text. refl)
       (subst (λ (ls : List (List ℕ)). Tells scene to.stage to.count ls (RefusedAt (to.count + 1) w.text)) (sym k.lines)
       (refused_told scene to.stage to.count line w.text (lines_of left) w.refused)) w.writes p) h f
 
@@ -136,12 +136,12 @@ module _ {S : Type 0} (scene : Scene S) where
       known_then from.rest to.rest left (λ script rest. Progress scene from to script rest) Q (Front from new) both h f
 
   -- the files, or a front of them, were written at the end
-  pub finish_front : (from to : Point S) (left new : Option (List ℕ)) (pending line : List ℕ) → HasTold scene from to
+  pub finish_front : (from to : Point S) (left : Option (List ℕ)) {new : Option (List ℕ)} (pending line : List ℕ) → HasTold scene from to
       → FindsLine found.End to.rest (prepend_known pending left) line → WritesFrontOf (scene.files to.stage) to.held new
       → HasFront from left new
-  finish_front from to left new pending line h f w =
+  finish_front from to left {new} pending line h f w =
       at_place from to left new (λ rest xs. IsNextLine found.End rest line (pending ++ xs))
-      (λ script rest xs p k. front_at from to [] xs (Whole (scene.files to.stage) to.count) p (k.0
+      (λ script rest xs p k. front_at [] xs (Whole (scene.files to.stage) to.count) p (k.0
       ∙ sym (none_after pending xs k.3)) (no_lines scene to.stage to.count) w)
       h (known_pending to.rest left pending (λ rest xs. IsNextLine found.End rest line xs) f)
 
@@ -153,17 +153,17 @@ module _ {S : Type 0} (scene : Scene S) where
         at_place from to left to.held IsRead
         (λ script rest xs p k.
         let t = some_told scene goes (lines_of k.0) to.stage to.count in
-        front_at from to k.0 xs t.0 p k.1 t.1 (nothing_of (text_of t.0) to.held to.held (appends_nothing to.held))) h r
+        front_at k.0 xs t.0 p k.1 t.1 (nothing_of (text_of t.0) to.held to.held (appends_nothing to.held))) h r
 
     -- what was read of the rest is a line and these bytes
-    line_read : {script rest line : List ℕ} {new : Option (List ℕ)} (from to : Point S) (pending xs : List ℕ)
+    line_read : {script rest line : List ℕ} {new : Option (List ℕ)} {from to : Point S} (pending xs : List ℕ)
         → Progress scene from to script rest
         → TakesLine rest line (pending ++ xs) → (t : Told) → Tells scene to.stage to.count (line ∷ lines_of pending) t
         → WritesFrontOf (text_of t) to.held new
         → Front from new script xs
-    line_read {script} {rest} from to pending xs p k t h w =
+    line_read {script} {rest} {from} {to} pending xs p k t h w =
         let split : rest ≡ (k.taken ++ pending) ++ xs = k.whole ∙ sym (append_assoc k.taken pending xs) in
-        front_at from to (k.taken ++ pending) xs t p split
+        front_at (k.taken ++ pending) xs t p split
         (subst (λ (ls : List (List ℕ)). Tells scene to.stage to.count ls t) (sym (k.fronts pending xs refl)) h) w
 
     printed_read : {script rest line : List ℕ} (from to : Point S) (pending xs : List ℕ) (new : Option (List ℕ))
@@ -172,21 +172,21 @@ module _ {S : Type 0} (scene : Scene S) where
     printed_read {script} {rest} {line} from to pending xs new p k w =
         elim w [
           | inl a ↦ let t = some_told scene goes (line ∷ lines_of pending) to.stage to.count in
-              line_read from to pending xs p k t.0 t.1 (nothing_of (text_of t.0) to.held new a)
+              line_read pending xs p k t.0 t.1 (nothing_of (text_of t.0) to.held new a)
           | inr d ↦ elim d.1 [
             | inl e ↦ let t = some_told scene goes (lines_of pending) e.0 (to.count + 1) in
-                line_read from to pending xs p k (told_behind d.0 t.0)
+                line_read pending xs p k (told_behind d.0 t.0)
                 (done_told scene to.stage e.0 to.count line d.0 (lines_of pending) t.0 e.1 t.1) (front_longer d.0 t.0 to.held new d.2)
-            | inr e ↦ line_read from to pending xs p k (RefusedAt (to.count + 1) d.0)
+            | inr e ↦ line_read pending xs p k (RefusedAt (to.count + 1) d.0)
                 (refused_told scene to.stage to.count line d.0 (lines_of pending) e) d.2
           ]
         ]
 
     -- the next line, or a front of what it printed, was written
-    pub line_front : (from to : Point S) (left new : Option (List ℕ)) (pending line : List ℕ) → HasTold scene from to
+    pub line_front : (from to : Point S) (left : Option (List ℕ)) {new : Option (List ℕ)} (pending line : List ℕ) → HasTold scene from to
         → FindsLine found.Found to.rest (prepend_known pending left) line → WritesLineFront scene to.stage line to.held new
         → HasFront from left new
-    line_front from to left new pending line h f w =
+    line_front from to left {new} pending line h f w =
         at_place from to left new (λ rest xs. TakesLine rest line (pending ++ xs))
         (λ script rest xs p k. printed_read from to pending xs new p k w)
         h (known_pending to.rest left pending (λ rest xs. TakesLine rest line xs) f)

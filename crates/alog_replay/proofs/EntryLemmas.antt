@@ -32,29 +32,11 @@ row_of_line line name rest command cut s =
 pub one_command_lem : OneCommand
 one_command_lem line c d s t = one_of_row (row_named rows s.0) s.1 c d s.3 (row_of_line line s.0 s.1 d s.2 t)
 
--- a line whose first word is a row's name spells that row's command, or none
-pub by_row : {name text : List ℕ} {row : Row} (line : List ℕ) (rest : Option (List ℕ)) (g : Given row.form) → IsCut line name rest
-    → name ≡ text
-    → row_named rows text ≡ Some row → SpellsForm row.form rest g
-    → (command : Command) → (Some (row.command g) ≡ Some command) ↔ Spells line command
-by_row {name} {text} {row} line rest g cut e found h =
-    let is : row_named rows name ≡ Some row = ap (row_named rows) e ∙ found in
-    let spelled : Spells line (row.command g) = (name, rest, cut, subst (λ r. SpellsRow r rest (row.command g)) (sym is) (g, h, refl)) in
-    one_of (Spells line) (row.command g) spelled (λ d s. one_command_lem line (row.command g) d spelled s)
-
+-- a line whose first word names no row spells nothing
 pub by_no_row : {r : Option Command} (line name : List ℕ) (rest : Option (List ℕ)) → IsCut line name rest → r ≡ None
     → ((command : Command) → SpellsRow (row_named rows name) rest command → ⊥)
     → (command : Command) → (r ≡ Some command) ↔ Spells line command
 by_no_row {r} line name rest cut e other = none_of (Spells line) r e (λ command s. other command (row_of_line line name rest command cut s))
-
-pub by_none_given : {name text : List ℕ} {row : Row} {r : Option Command} (line : List ℕ) (rest : Option (List ℕ)) → IsCut line name rest
-    → name ≡ text
-    → row_named rows text ≡ Some row → r ≡ None → ((g : Given row.form) → SpellsForm row.form rest g → ⊥)
-    → (command : Command) → (r ≡ Some command) ↔ Spells line command
-by_none_given {name} {text} {row} line rest cut e found none other =
-    by_no_row line name rest cut none
-    (λ command s. let h : SpellsRow (Some row) rest command = subst (λ x. SpellsRow x rest command) (ap (row_named rows) e
-    ∙ found) s in other h.0 h.1)
 
 -- a line whose first word is a row's name spells what that row's arguments spell
 pub by_found : {name text : List ℕ} {row : Row} {r : Option Command} (line : List ℕ) (rest : Option (List ℕ)) → IsCut line name rest

@@ -108,15 +108,15 @@ module _ {S : Type 0} (scene : Scene S) (Well : S → ℕ → List ℕ → S →
   played s (Step a count) p h = made refused nothing_refused count a s p h
   played s (Run a) p h = ran s a p (scene.is_free s a) h
 
-  told_rest : (P : Type 0) (n : ℕ) (p : Played S) (One Two : S → Told → Type 0) (t : Told)
+  told_rest : {P : Type 0} (n : ℕ) (p : Played S) (One Two : S → Told → Type 0) (t : Told)
       → ((s : S) (u : Told) → One s u → Or (Two s u) (text_of u)) → Prints P p → TellsPlayed n p One t
       → Or (P × TellsPlayed n p Two t) (text_of t)
   unfolding text_in
-  told_rest P n (Done text s) One Two t rest w h =
+  told_rest {P = P} n (Done text s) One Two t rest w h =
       let is : text_of t ≡ text ++ text_of h.0 = ap text_of h.2 ∙ text_behind text h.0 in
       let R : Type 0 = P × TellsPlayed n (Done text s) Two t in
       subst (Or R) (sym is) (both text (text_of h.0) w.0 w.1 (rest s h.0 h.1) (λ x two. (x, (h.0, two, h.2))))
-  told_rest P n (Refused text) One Two t rest w h =
+  told_rest {P = P} n (Refused text) One Two t rest w h =
       let R : Type 0 = P × (t ≡ RefusedAt (n + 1) text) in
       subst (Or R) (sym (ap text_of h)) (then text (λ x. (x, h)) w.1)
 
@@ -125,7 +125,7 @@ module _ {S : Type 0} (scene : Scene S) (Well : S → ℕ → List ℕ → S →
   told_line s n Skipped One Two t rest h = rest s t h
   told_line s n (Does command) One Two t rest h =
       then (text_of t) (λ x. (h.0, x.0, x.1))
-      (told_rest (Plays well s command h.0) n h.0 One Two t rest (played s command h.0 h.1) h.2)
+      (told_rest n h.0 One Two t rest (played s command h.0 h.1) h.2)
   told_line s n entry.Refused One Two t rest h = inl h
 
   all_told : (lines : List (List ℕ)) (s : S) (n : ℕ) (t : Told) → Tells scene s n lines t → Or (Tells well s n lines t) (text_of t)

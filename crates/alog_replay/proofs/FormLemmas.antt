@@ -190,10 +190,10 @@ pub spelled : {rest : Option (List ℕ)} {r : List ℕ} (word : Word) (form : Fo
     (more : Given form) → rest ≡ Some r → IsCut r w t → SpellsWord word w v → SpellsForm form t more → SpellsForm (Then word form) rest (v, more)
 spelled {rest} {r} word form w t v more e cut p q = (w, t, e ∙ ap Some cut.0, p, q)
 
-pub is_then : {rest : Option (List ℕ)} {r : List ℕ} (word : Word) (form : Form) (w : List ℕ) (t : Option (List ℕ)) (v : Value word)
-    (more : Given form) → rest ≡ Some r → IsCut r w t → SpellsWord word w v → SpellsForm form t more → (h : Given (Then word form))
+pub is_then : {rest : Option (List ℕ)} {r : List ℕ} (word : Word) (form : Form) (w : List ℕ) (t : Option (List ℕ)) {v : Value word}
+    {more : Given form} → rest ≡ Some r → IsCut r w t → SpellsWord word w v → SpellsForm form t more → (h : Given (Then word form))
     → (Some (v, more) ≡ Some h) ↔ SpellsForm (Then word form) rest h
-is_then {rest} {r} word form w t v more e cut p q =
+is_then {rest} {r} word form w t {v} {more} e cut p q =
     is_given (Then word form) rest (v, more) (spelled word form w t v more e cut p q)
 
 -- what is made of what is given

@@ -79,17 +79,18 @@ are_from _ _ (gone_on entries segments last e d o) =
     ∙ (ap (extended e.line) (sym (are_from entries (segments ++ last ∷ []) d)) ∙ extended_last e.line segments last)))
 
 -- files by days
-pub daily_once : (max : ℕ) (names more : List (List ℕ)) (opening : Files) (entries : List Entry) (files others : Files)
+pub daily_once : {max : ℕ} {names more : List (List ℕ)} {opening : Files} {entries : List Entry} {files others : Files}
     → IsDaily max names opening entries files → IsDaily max more opening entries others → AreSame files others
-daily_once max names more opening entries files others h g name =
+daily_once {max} {names} {more} {opening} {entries} {files} {others} h g name =
     let cut : g.segments ≡ h.segments = are_from entries g.segments g.cut ∙ sym (are_from entries h.segments h.cut) in
     let same : names ≡ more = sym h.opened ∙ (ap opened_names (sym cut) ∙ g.opened) in
-    daily_at max names more opening entries files others h g name cut same
+    daily_at files others h g {name = name} cut same
   where
-    daily_at : (max : ℕ) (names more : List (List ℕ)) (opening : Files) (entries : List Entry) (files others : Files)
-        (h : IsDaily max names opening entries files) (g : IsDaily max more opening entries others) (name : List ℕ) → g.segments ≡ h.segments
+    daily_at : {max : ℕ} {names more : List (List ℕ)} {opening : Files} {entries : List Entry} (files others : Files)
+        (h : IsDaily max names opening entries files) (g : IsDaily max more opening entries others) {name : List ℕ}
+        → g.segments ≡ h.segments
         → names ≡ more → others name ≡ files name
-    daily_at max names more opening entries files others h g name cut same =
+    daily_at {max} {names} {more} {opening} files others h g {name} cut same =
         let over : Contains (kept_names max names) name → Contains (kept_names max more) name =
         subst (λ (ns : List (List ℕ)). Contains (kept_names max ns) name) same in
         let back : Contains (kept_names max more) name → Contains (kept_names max names) name =

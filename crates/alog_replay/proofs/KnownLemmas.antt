@@ -63,12 +63,12 @@ finds_at_end s (b ∷ line) u e fits answer a =
     let found : answer ≡ next.Found = a ∙ ap (λ t. cond t next.End next.Found) (eqb-suc-zero (length line)) in
     rw found (takes_last s (b ∷ line) u (omega arith) e fits)
 
-pub finds_last : (script after : Option (List ℕ)) (line : List ℕ) (answer : Line) → IsUnbroken line → Consumes script after line
+pub finds_last : (script after : Option (List ℕ)) (line : List ℕ) {answer : Line} → IsUnbroken line → Consumes script after line
     → IsAtEnd after → length line ≤ SCRIPT_LINE_MAX
     → answer ≡ (if length line == 0 then next.End else next.Found) → FindsLine answer script after line
-finds_last None after line answer u h end fits a = tt
-finds_last (Some s) None line answer u h end fits a = absurd h
-finds_last (Some s) (Some xs) line answer u h end fits a =
+finds_last None after line u h end fits a = tt
+finds_last (Some s) None line u h end fits a = absurd h
+finds_last (Some s) (Some xs) line {answer} u h end fits a =
     let whole : s ≡ line = h ∙ (ap (λ t. line ++ t) end ∙ append-nil line) in
     rw end (finds_at_end s line u whole fits answer a)
 

@@ -33,19 +33,19 @@ named : (loggers : List Logger) (name : List ℕ) (k : ℕ) → number_of logger
 named [] name k e = absurd (cc)
 named (l ∷ loggers) name k e = named_by l loggers name k (bytes_eq l.name name) refl e (named loggers name)
 
-unnamed_by : (l : Logger) (loggers : List Logger) (name : List ℕ) (n : ℕ) (b : Bool) → bytes_eq l.name name ≡ b
+unnamed_by : (l : Logger) (loggers : List Logger) {name : List ℕ} (n : ℕ) {b : Bool} → bytes_eq l.name name ≡ b
     → (if b then Some 0 else option_map suc (number_of loggers name)) ≡ None
     → ((m : ℕ) → number_of loggers name ≡ None → name_at loggers m ≡ Some name → ⊥) → name_at (l ∷ loggers) n ≡ Some name → ⊥
-unnamed_by l loggers name n true same e rest h = absurd (cc)
-unnamed_by l loggers name zero false other e rest h =
+unnamed_by l loggers n {b = true} same e rest h = absurd (cc)
+unnamed_by l loggers {name} zero {b = false} other e rest h =
     let one : l.name ≡ name = cc in
     false≢true (sym other ∙ (bytes_eq-Decides l.name name).1 one)
-unnamed_by l loggers name (suc m) false other e rest h = rest m (none_after (number_of loggers name) e) h
+unnamed_by l loggers {name} (suc m) {b = false} other e rest h = rest m (none_after (number_of loggers name) e) h
 
 -- where none is found, none has it
 unnamed : (loggers : List Logger) (name : List ℕ) (n : ℕ) → number_of loggers name ≡ None → name_at loggers n ≡ Some name → ⊥
 unnamed [] name n e h = absurd (cc)
-unnamed (l ∷ loggers) name n e h = unnamed_by l loggers name n (bytes_eq l.name name) refl e (λ m. unnamed loggers name m) h
+unnamed (l ∷ loggers) name n e h = unnamed_by l loggers n {b = bytes_eq l.name name} refl e (λ m. unnamed loggers name m) h
 
 found_by : (loggers : List Logger) (name : List ℕ) (found o : Option ℕ)
     → ((n : ℕ) → (found ≡ Some n) ↔ (name_at loggers n ≡ Some name)) → number_of loggers name ≡ o → found ≡ o

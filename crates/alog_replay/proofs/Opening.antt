@@ -32,11 +32,11 @@ text_items = refl
 pub text_alone : (items : List Item) → IsReading (37 ∷ 118 ∷ []) items → items ≡ Flag Text None ∷ []
 text_alone items reading = only_reading (37 ∷ 118 ∷ []) items reading ∙ text_items
 
-pub opened_sink : {S : Type 0} (tells : Bool) (files : S → Files) (face : Face) (opening : Files) (sink : Sink S) (capacity : ℕ)
+pub opened_sink : {S : Type 0} {tells : Bool} {files : S → Files} {face : Face} {opening : Files} {sink : Sink S} {capacity : ℕ}
     → tells ≡ true → Opened tells files face (λ t. t ≡ Memory (record { file = memory_name })) opening sink → face.level ≡ Trace
     → IsReading (37 ∷ 118 ∷ []) face.pattern.items → face.pattern.text_limit ≡ DEFAULT_TEXT_LIMIT
     → longest face.pattern ≡ capacity → IsMemorySink tells sink capacity
-opened_sink {S} tells files face opening sink capacity tells_all o level reading limit room =
+opened_sink {S} {tells} {face} {capacity} tells_all o level reading limit room =
     let same = o.same in
     subst (λ (s : Sink S). IsMemorySink tells s capacity) (sym o.is) (record {
       tells_all = tells_all;
@@ -50,10 +50,10 @@ opened_sink {S} tells files face opening sink capacity tells_all o level reading
 abbrev pub stage_of : DeskView Message → List Duty → MemoryFile → Stage
 stage_of desk duties memory = record { desk = desk; duties = duties; memory = memory }
 
-pub opened_stage : (desk : DeskView Message) (duties : List Duty) (memory : MemoryFile) (n places first : ℕ)
+pub opened_stage : {desk : DeskView Message} {duties : List Duty} {memory : MemoryFile} {n places first : ℕ}
     → desk ≡ fresh_desk places first → duties ≡ replicate n Free → n ≡ ACTORS → memory ≡ no_file
     → stage_of desk duties memory ≡ opened places first
-opened_stage desk duties memory n places first w d e m =
+opened_stage {duties} {memory} {places} {first} w d e m =
     ap (λ x. stage_of x duties memory) w
     ∙ (ap (λ x. stage_of (fresh_desk places first) x memory) (d ∙ ap (λ (k : ℕ). replicate k Free) e)
     ∙ ap (λ x. stage_of (fresh_desk places first) (replicate ACTORS Free) x) m)

@@ -33,21 +33,21 @@ place_in_leaf tops name (Lines file pattern upkeep) h = refl
 place_in_leaf tops name (Fan of) h = absurd (h tt)
 
 -- the place of a sink that is no fan, by the number of the sink that holds it
-pub placed : (tops : List (Bor SinkConfig)) (s : SinkConfig) (name : List ℕ) (fan : Bool) (found given : Option ℕ) → fan ≡ false
+pub placed : (tops : List (Bor SinkConfig)) (s : SinkConfig) {name : List ℕ} {fan : Bool} {found given : Option ℕ} → fan ≡ false
     → IsTrue fan ↔ IsFan s → name ≡ s.name → found ≡ position (λ (t : Bor SinkConfig). holds name t.now) tops → found ≡ given
     → place_of (map (λ (t : Bor SinkConfig). t.now) tops) s ≡ option_map (place_at (map (λ (t : Bor SinkConfig). t.now) tops) name) given
-placed tops s name fan found given off is named e was =
+placed tops s {name} {fan} {given} off is named e was =
     let all = map (λ (t : Bor SinkConfig). t.now) tops in
     let number : position (holds name) all ≡ given = position_of_map (holds name) (λ (t : Bor SinkConfig). t.now) tops ∙ (sym e ∙ was) in
     let P : List ℕ → Type 0 = λ n. place_of all s ≡ option_map (place_at all n) (position (holds n) all) in
     subst P (sym named) (place_in_leaf all s.name s.kind (no_fan fan (IsFan s) off is)) ∙ ap (option_map (place_at all name)) number
 
 -- the place in the sink of this number
-pub placed_at : (tops : List (Bor SinkConfig)) (text name : List ℕ) (p : Bor SinkConfig → Bool) (n : ℕ) (top : Bor SinkConfig)
-    (member : Option ℕ) → text ≡ name → Some n ≡ position p tops
+pub placed_at : (tops : List (Bor SinkConfig)) {text name : List ℕ} (p : Bor SinkConfig → Bool) {n : ℕ} {top : Bor SinkConfig}
+    {member : Option ℕ} → text ≡ name → Some n ≡ position p tops
     → top ≡ get_or tops n top → member ≡ member_in name top.now.kind
     → record { name = text; sink = n; member = member } ≡ place_at (map (λ (t : Bor SinkConfig). t.now) tops) name n
-placed_at tops text name p n top member same found is e =
+placed_at tops {name} p {n} {top} {member} same found is e =
     let within = (position-Some p tops n top (sym found)).0 in
     let got = slice_get-map (λ (t : Bor SinkConfig). t.now) tops n ∙ ap (option_map (λ (t : Bor SinkConfig). t.now)) (slice_get_read tops (length tops) n top refl within is) in
     let fan : Option SinkConfig → Option ℕ = option_and_then (λ (s : SinkConfig). member_in name s.kind) in

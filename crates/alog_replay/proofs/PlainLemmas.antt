@@ -16,11 +16,11 @@ one_turn old text true true t u h g = (refl, h.1 ∙ sym g.1)
 one_turn old text false q t u h g = absurd (let e = h.0 in cc)
 one_turn old text true false t u h g = absurd (let e = g.0 in cc)
 
-one_step : (s : Stage) (a : ℕ) (d : Duty) (x y : List ℕ) (t u : Stage) → StepsBy false s a d x t → StepsBy false s a d y u
+one_step : (s : Stage) (a : ℕ) (d : Duty) {x y : List ℕ} {t u : Stage} → StepsBy false s a d x t → StepsBy false s a d y u
     → (x ≡ y) × (t ≡ u)
-one_step s a Free x y t u h g = (h.0 ∙ sym g.0, h.1 ∙ sym g.1)
-one_step s a Works x y t u h g = (h.0 ∙ sym g.0, h.1 ∙ sym g.1)
-one_step s a (Owes n m) x y t u h g =
+one_step s a Free h g = (h.0 ∙ sym g.0, h.1 ∙ sym g.1)
+one_step s a Works h g = (h.0 ∙ sym g.0, h.1 ∙ sym g.1)
+one_step s a (Owes n m) h g =
     let same = one_turn s.memory m.text h.0 g.0 h.1 g.1 h.2 g.2 in
     (h.3 ∙ (ap (memory_turn_text a n) same.0 ∙ sym g.3), h.4 ∙ (ap (λ f. with_duty (with_memory s f) a Free) same.1 ∙ sym g.4))
 
@@ -28,7 +28,7 @@ one_step_in : (s : Option Stage) (a : ℕ) (x y : List ℕ) (t u : Option Stage)
     → (x ≡ y) × (t ≡ u)
 one_step_in None a x y t u h g = (h.0 ∙ sym g.0, h.1 ∙ sym g.1)
 one_step_in (Some s) a x y t u h g =
-    let same = one_step s a (duty_of s a) x y h.0 g.0 h.1 g.1 in
+    let same = one_step s a (duty_of s a) {x = x} {y = y} {t = h.0} {u = g.0} h.1 g.1 in
     (same.0, h.2 ∙ (ap Some same.1 ∙ sym g.2))
 
 pub plain_is_certain : IsCertain (plain false)

@@ -110,26 +110,26 @@ behind_first true x y z w e h = absurd (false≢true (sym e))
 behind_first false x y z w e h = h
 
 rest_same_by : (f g : File) (r s : Row) (name : List ℕ) → f.0 ≡ g.0 → AreAbove f.0 r → AreAbove g.0 s
-    → files_of (f ∷ r) name ≡ files_of (g ∷ s) name → (b : Bool) → bytes_eq name f.0 ≡ b → files_of r name ≡ files_of s name
-rest_same_by f g r s name e h k all true is =
+    → files_of (f ∷ r) name ≡ files_of (g ∷ s) name → {b : Bool} → bytes_eq name f.0 ≡ b → files_of r name ≡ files_of s name
+rest_same_by f g r s name e h k all {b = true} is =
     let here : name ≡ f.0 = (bytes_decides name f.0).0 is in
     absent name r (subst (λ (n : List ℕ). AreAbove n r) (sym here) h)
     ∙ sym (absent name s (subst (λ (n : List ℕ). AreAbove n s) (sym (here ∙ e)) k))
-rest_same_by f g r s name e h k all false is =
+rest_same_by f g r s name e h k all {b = false} is =
     behind_first (bytes_eq name f.0) (Some f.1) (Some g.1) (files_of r name) (files_of s name) is
     (all ∙ ap (λ n. if bytes_eq name n then Some g.1 else files_of s name) (sym e))
 
-one_first : (o : Ordering) (f g : File) (r s : Row) → name_cmp f.0 g.0 ≡ o → Rises (f ∷ r) → Rises (g ∷ s)
+one_first : {o : Ordering} {f g : File} {r s : Row} → name_cmp f.0 g.0 ≡ o → Rises (f ∷ r) → Rises (g ∷ s)
     → ((name : List ℕ) → files_of (f ∷ r) name ≡ files_of (g ∷ s) name)
     → (((name : List ℕ) → files_of r name ≡ files_of s name) → r ≡ s) → f ∷ r ≡ g ∷ s
-one_first Less f g r s e h k all rest =
+one_first {o = Less} {f} {g} {r} {s} e h k all rest =
     absurd (none-some f.1 (sym (absent f.0 (g ∷ s) (e, all_above f.0 g.0 s e k.0)) ∙ (sym (all f.0) ∙ first_of f r)))
-one_first Equal f g r s e h k all rest =
+one_first {o = Equal} {f} {g} {r} {s} e h k all rest =
     let names = same_name f.0 g.0 e in
     let bytes : f.1 ≡ g.1 = same_Some f.1 g.1 (sym (first_of f r) ∙ (all f.0 ∙ (ap (files_of (g ∷ s)) names ∙ first_of g s))) in
-    let tail = rest (λ name. rest_same_by f g r s name names h.0 k.0 (all name) (bytes_eq name f.0) refl) in
+    let tail = rest (λ name. rest_same_by f g r s name names h.0 k.0 (all name) {b = bytes_eq name f.0} refl) in
     ap (λ n. (n, f.1) ∷ r) names ∙ (ap (λ x. (g.0, x) ∷ r) bytes ∙ ap (λ l. g ∷ l) tail)
-one_first Greater f g r s e h k all rest =
+one_first {o = Greater} {f} {g} {r} {s} e h k all rest =
     let low = above f.0 g.0 e in
     absurd (none-some g.1 (sym (absent g.0 (f ∷ r) (low, all_above g.0 f.0 r low h.0)) ∙ (all g.0 ∙ first_of g s)))
 
@@ -137,7 +137,7 @@ pub one_row : (r s : Row) → Rises r → Rises s → ((name : List ℕ) → fil
 one_row [] [] h k all = refl
 one_row [] (g ∷ s) h k all = absurd (none-some g.1 (all g.0 ∙ first_of g s))
 one_row (f ∷ r) [] h k all = absurd (none-some f.1 (sym (all f.0) ∙ first_of f r))
-one_row (f ∷ r) (g ∷ s) h k all = one_first (name_cmp f.0 g.0) f g r s refl h k all (one_row r s h.1 k.1)
+one_row (f ∷ r) (g ∷ s) h k all = one_first {o = name_cmp f.0 g.0} {f = f} {g = g} refl h k all (one_row r s h.1 k.1)
 
 -- The files of a store in memory.
 looked_up : {Z : Type 0} (b : Bool) (v : Vec ℕ Z) (o : Option (Vec ℕ Z))

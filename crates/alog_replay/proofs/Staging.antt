@@ -16,16 +16,16 @@ pub names_from : (tops : List (Bor SinkConfig)) (all : List SinkConfig) (names :
 names_from tops all names are e =
     e ∙ (sym (map-map (λ (s : SinkConfig). s.name) (λ (s : Bor SinkConfig). s.now) tops) ∙ ap (map (λ (s : SinkConfig). s.name)) are)
 
-known_on : {S : Type 0} (tells : Bool) (files : S → Files) (failures : S → ℕ) (c : Config) (s : Stage S)
+known_on : {S : Type 0} {tells : Bool} {files : S → Files} {failures : S → ℕ} {c : Config} {s : Stage S}
     → IsStageOf tells files failures c s → (o : Option (List ℕ)) (P : List ℕ → Stage S → Type 0) → IfSome o (λ x. P x s)
     → IfSome o (λ x. OnStage tells files failures c (P x))
-known_on tells files failures c s is None P h = h
-known_on tells files failures c s is (Some x) P h = (s, is, h)
+known_on is None P h = h
+known_on {s} is (Some x) P h = (s, is, h)
 
 -- where a line is refused
-pub refused_on : {S : Type 0} (tells : Bool) (files : S → Files) (failures : S → ℕ) (c : Config) (s : Stage S)
+pub refused_on : {S : Type 0} {tells : Bool} {files : S → Files} {failures : S → ℕ} {c : Config} {s : Stage S}
     → IsStageOf tells files failures c s → (o : Option (List ℕ)) (r : Result ℕ ReplayError) (P : ℕ → List ℕ → Stage S → Type 0)
     → IfErr r (λ e. (line : ℕ) → e ≡ fault.LineRefused line → IfSome o (λ x. P line x s))
     → IfErr r (λ e. (line : ℕ) → e ≡ fault.LineRefused line → IfSome o (λ x. OnStage tells files failures c (P line x)))
-refused_on tells files failures c s is o (Ok n) P h = h
-refused_on tells files failures c s is o (Err e) P h = λ line at. known_on tells files failures c s is o (P line) (h line at)
+refused_on is o (Ok n) P h = h
+refused_on {tells} {files} {failures} {c} {s} is o (Err e) P h = λ line at. known_on is o (P line) (h line at)

@@ -66,15 +66,16 @@ module _ {S : Type 0} (scene : Scene S) where
         (subst (λ (n : ℕ). Tells scene from.stage n (lines_of x) t) first h);
   })
 
-  entry_told : (s next : S) (n : ℕ) (e : Entry) (text : List ℕ) (rest : S → Told → Type 0) (u : Told) → EntryDone scene s e [] text next
+  entry_told : (s : S) {next : S} (n : ℕ) (e : Entry) (text : List ℕ) (rest : S → Told → Type 0) {u : Told}
+      → EntryDone scene s e [] text next
       → rest next u
       → TellsLine scene s n e rest (told_behind text u)
-  entry_told s next n Skipped text rest u d h =
+  entry_told s n Skipped text rest {u} d h =
       let same : u ≡ told_behind text u = sym (ap (λ x. told_behind x u) d.1 ∙ behind_nothing u) in
       subst (λ (t : Told). rest s t) same (subst (λ (t : S). rest t u) d.0 h)
-  entry_told s next n (Does command) text rest u d h =
+  entry_told s {next} n (Does command) text rest {u} d h =
       subst (λ (x : List ℕ). TellsLine scene s n (Does command) rest (told_behind x u)) (sym d.2) (Done d.0 next, d.1, (u, h, refl))
-  entry_told s next n entry.Refused text rest u d h = absurd d
+  entry_told s n entry.Refused text rest d h = absurd d
 
   entry_refused : (s : S) (n : ℕ) (e : Entry) (text : List ℕ) (rest : S → Told → Type 0) → EntryRefused scene s e [] text
       → TellsLine scene s n e rest (RefusedAt (n + 1) text)
@@ -88,7 +89,7 @@ module _ {S : Type 0} (scene : Scene S) where
       → Tells scene next (n + 1) lines u
       → Tells scene s n (line ∷ lines) (told_behind text u)
   unfolding Tells
-  done_told s next n line text lines u d h = (d.0, d.1, entry_told s next n d.0 text (λ t v. Tells scene t (n + 1) lines v) u d.2 h)
+  done_told s next n line text lines u d h = (d.0, d.1, entry_told s n d.0 text (λ t v. Tells scene t (n + 1) lines v) d.2 h)
 
   -- and where it was refused
   pub refused_told : (s : S) (n : ℕ) (line text : List ℕ) (lines : List (List ℕ)) → LineRefused scene s line [] text

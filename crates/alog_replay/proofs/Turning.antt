@@ -61,12 +61,12 @@ same_memory (Rotating r) e = absurd e
 same_memory (Daily d) e = absurd e
 
 -- one append broke off
-one_append : (name bytes : List ℕ) (old new : Files) (before : List Deed) (failed : Deed) (after : List Deed)
+one_append : (name : List ℕ) {bytes : List ℕ} (old new : Files) (before : List Deed) (failed : Deed) (after : List Deed)
     → Append name bytes ∷ [] ≡ before ++ failed ∷ after → Fails failed (all_done before old) new → LeavesFront name bytes old new
-one_append name bytes old new [] failed after e leaves =
+one_append name {bytes} old new [] failed after e leaves =
     let same : failed ≡ Append name bytes = cc in subst (λ d. Fails d old new) same leaves
-one_append name bytes old new (d ∷ []) failed after e leaves = absurd cc
-one_append name bytes old new (d ∷ x ∷ ds) failed after e leaves = absurd cc
+one_append name old new (d ∷ []) failed after e leaves = absurd cc
+one_append name old new (d ∷ x ∷ ds) failed after e leaves = absurd cc
 
 front_left : (old new : Files) (bytes text : List ℕ) → bytes ≡ line text → LeavesFront memory_name bytes old new
     → HasFront (line text) (old memory_name) (new memory_name)
@@ -111,7 +111,7 @@ module _ {S : Type 0} (tells : Bool) (files : S → Files) (failures : S → ℕ
         let broke = takes.breaks is.tells_all refl in
         let w = broke.0 in
         let b = subst (λ t. BreaksOff (deeds_of t w) (files o.store) (files n.store)) is.target broke.2 in
-        let left = one_append memory_name w.line (files o.store) (files n.store) b.before b.failed b.after b.are b.leaves in (
+        let left = one_append memory_name {bytes = w.line} (files o.store) (files n.store) b.before b.failed b.after b.are b.leaves in (
           refl,
           takes.failed refl,
           where_false o.broken _ _ (whole (Err errors.Store) takes (λ e. cc))

@@ -30,9 +30,9 @@ stage_is {S} tells files failures c s is =
     ∙ (ap (λ ns. stage_of (fresh_system c.queue c.text is.system.loggers is.system.sinks) ns s.places) is.names
     ∙ ap (stage_of (fresh_system c.queue c.text is.system.loggers is.system.sinks) (names_of c)) is.places)
 
-pub begins_agree : {S : Type 0} → OneReading → (tells : Bool) → tells ≡ true → (files : S → Files) (failures : S → ℕ) (c : Config)
-    (s r : Stage S) → IsStageOf tells files failures c s → IsStageOf tells files failures c r → AgreeingStages files s r
-begins_agree {S} law tells tell files failures c s r h g =
+pub begins_agree : {S : Type 0} → OneReading → {tells : Bool} → tells ≡ true → {files : S → Files} {failures : S → ℕ} {c : Config}
+    {s r : Stage S} → IsStageOf tells files failures c s → IsStageOf tells files failures c r → AgreeingStages files s r
+begins_agree {S} law {tells} tell {files} {failures} {c} {s} {r} h g =
     let v = h.system in
     let w = g.system in
     let sinks = sinks_alike law tells tell files failures c v.stores w.stores v.loggers w.loggers v.sinks w.sinks v.empty

@@ -24,10 +24,10 @@ use std::io::{Read, Write};
 fn staged(alloc: Global, config: &Config) -> Result<Configured<'_, MemStore>, AllocError>
     ensures { IfOk result (IsStageOf ⟦<MemStore as Store>⟧.tells ⟦<MemStore as Store>⟧.files ⟦<MemStore as Store>⟧.failures config.now) }
 {
-    let system = System::new(alloc, config)?;
     let tops = tops_of(alloc, config)?;
     let names = names_of(alloc, tops.as_slice())?;
     let places = places_of(alloc, config, tops.as_slice())?;
+    let system = System::new(alloc, config)?;
     Ok(Configured::of(system, names, places))
 }
 

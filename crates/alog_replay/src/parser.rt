@@ -5,7 +5,7 @@ ghost use Rattle.alog_replay.specs.Command.{SpellsNumber, SpellsActor, SpellsTim
 ghost use Rattle.alog_replay.specs.Command.{Given, Number, AnActor, Time, APolicy, ALevel, AName, NoArgument, AText, ACount, Only, Then, log_form};
 ghost use Rattle.alog_replay.specs.Cut.{IsCut};
 ghost use Rattle.alog_replay.specs.declared.command.Command.{Command};
-ghost use Rattle.alog_replay.specs.declared.command.Command.TheVariants.{Acts};
+ghost use Rattle.alog_replay.specs.declared.command.Command.TheVariants.{Acts, Run, Step};
 ghost use Rattle.alog_replay.specs.declared.command.Act.TheVariants as act;
 ghost use Rattle.alog_policy.specs.declared.policy.Policy.{Policy};
 
@@ -27,22 +27,10 @@ pub fn parse(line: &str) -> Option<Command<'_>>
 {
     let (name, rest) = cut(line);
     match name {
-        "ring" => {
-            let (size, first) = two_numbers(rest)?;
-            Some(Command::Acts(Act::Ring { size, first }))
-        }
-        "push" => {
-            let (actor, text) = actor_and_text(rest)?;
-            Some(Command::Acts(Act::Push { actor, text }))
-        }
-        "pop" => {
-            let actor = actor_alone(rest)?;
-            Some(Command::Acts(Act::Pop { actor }))
-        }
-        "work" => {
-            let actor = actor_alone(rest)?;
-            Some(Command::Acts(Act::Work { actor }))
-        }
+        "ring" => ring(rest),
+        "push" => push(rest),
+        "pop" => pop(rest),
+        "work" => work(rest),
         "post" => post(rest),
         "log" => log(rest),
         "flush" => flush(rest),
@@ -50,14 +38,8 @@ pub fn parse(line: &str) -> Option<Command<'_>>
         "level" => level(rest),
         "cells" => alone(rest, Act::Cells),
         "counts" => alone(rest, Act::Counts),
-        "step" => {
-            let (actor, count) = actor_and_count(rest)?;
-            Some(Command::Step { actor, count })
-        }
-        "run" => {
-            let actor = actor_alone(rest)?;
-            Some(Command::Run { actor })
-        }
+        "step" => step(rest),
+        "run" => run(rest),
         _ => None,
     }
 }
@@ -253,6 +235,48 @@ fn time_and_name(rest: Option<&str>) -> Option<(i64, TextRef<'_>)>
     let time = time(word)?;
     let name = name_alone(more)?;
     Some((time, name))
+}
+
+fn ring(rest: Option<&str>) -> Option<Command<'_>>
+    ensures { (command : Command) → (result ≡ Some command) ↔ ((g : Given (Then Number (Only Number))) × SpellsForm (Then Number (Only Number)) (option_copied rest.entry) g × (Acts (act.Ring g.0 g.1) ≡ command)) }
+{
+    let (size, first) = two_numbers(rest)?;
+    Some(Command::Acts(Act::Ring { size, first }))
+}
+
+fn push(rest: Option<&str>) -> Option<Command<'_>>
+    ensures { (command : Command) → (result ≡ Some command) ↔ ((g : Given (Then AnActor AText)) × SpellsForm (Then AnActor AText) (option_copied rest.entry) g × (Acts (act.Push g.0 g.1) ≡ command)) }
+{
+    let (actor, text) = actor_and_text(rest)?;
+    Some(Command::Acts(Act::Push { actor, text }))
+}
+
+fn pop(rest: Option<&str>) -> Option<Command<'_>>
+    ensures { (command : Command) → (result ≡ Some command) ↔ ((g : Given (Only AnActor)) × SpellsForm (Only AnActor) (option_copied rest.entry) g × (Acts (act.Pop g) ≡ command)) }
+{
+    let actor = actor_alone(rest)?;
+    Some(Command::Acts(Act::Pop { actor }))
+}
+
+fn work(rest: Option<&str>) -> Option<Command<'_>>
+    ensures { (command : Command) → (result ≡ Some command) ↔ ((g : Given (Only AnActor)) × SpellsForm (Only AnActor) (option_copied rest.entry) g × (Acts (act.Work g) ≡ command)) }
+{
+    let actor = actor_alone(rest)?;
+    Some(Command::Acts(Act::Work { actor }))
+}
+
+fn step(rest: Option<&str>) -> Option<Command<'_>>
+    ensures { (command : Command) → (result ≡ Some command) ↔ ((g : Given (Then AnActor ACount)) × SpellsForm (Then AnActor ACount) (option_copied rest.entry) g × (Step g.0 g.1 ≡ command)) }
+{
+    let (actor, count) = actor_and_count(rest)?;
+    Some(Command::Step { actor, count })
+}
+
+fn run(rest: Option<&str>) -> Option<Command<'_>>
+    ensures { (command : Command) → (result ≡ Some command) ↔ ((g : Given (Only AnActor)) × SpellsForm (Only AnActor) (option_copied rest.entry) g × (Run g ≡ command)) }
+{
+    let actor = actor_alone(rest)?;
+    Some(Command::Run { actor })
 }
 
 fn post(rest: Option<&str>) -> Option<Command<'_>>

@@ -2,7 +2,7 @@
 ghost use Rattle.std.specs.Prelude.{◌≡◌, ◌++◌, ◌∷◌, OnOk, string_bytes};
 ghost use Rattle.std.specs.Option.{option_map};
 ghost use Rattle.alog_replay.specs.Session.{memory_turn_text, memory_file_text};
-ghost use Rattle.alog_replay.specs.Texts.{said_text, stepped_text, take_line, outcome_text, why_name};
+ghost use Rattle.alog_replay.specs.Texts.{said_text, stepped_text, take_line, ticket_line, outcome_text, why_name};
 ghost use Rattle.alog_replay.specs.Texts.{turn_text, mark_name, file_text, cells_line, counts_text};
 
 use crate::memory::NAME;
@@ -69,16 +69,23 @@ fn print_said<T: Shows>(out: &mut String, actor: u8, said: &Said<T>) -> Result<(
 {
     match said {
         Said::Nothing | Said::Front(_) => Ok(()),
-        Said::Claim(ticket) => writeln!(out, "{actor} claim {ticket}"),
-        Said::Write(ticket) => writeln!(out, "{actor} write {ticket}"),
-        Said::Full(ticket, _) => writeln!(out, "{actor} full {ticket}"),
-        Said::Grab(ticket) => writeln!(out, "{actor} grab {ticket}"),
+        Said::Claim(ticket) => print_ticket(out, actor, "claim", *ticket),
+        Said::Write(ticket) => print_ticket(out, actor, "write", *ticket),
+        Said::Full(ticket, _) => print_ticket(out, actor, "full", *ticket),
+        Said::Grab(ticket) => print_ticket(out, actor, "grab", *ticket),
         Said::Take(ticket, item) => print_take(out, actor, *ticket, item),
-        Said::Empty(ticket) => writeln!(out, "{actor} empty {ticket}"),
-        Said::Idle(ticket) => writeln!(out, "{actor} idle {ticket}"),
-        Said::Busy(ticket, _) => writeln!(out, "{actor} busy {ticket}"),
+        Said::Empty(ticket) => print_ticket(out, actor, "empty", *ticket),
+        Said::Idle(ticket) => print_ticket(out, actor, "idle", *ticket),
+        Said::Busy(ticket, _) => print_ticket(out, actor, "busy", *ticket),
         Said::Spent(_) => writeln!(out, "{actor} spent"),
     }
+}
+
+/// Prints the line of an event at a ticket.
+fn print_ticket(out: &mut String, actor: u8, what: &str, ticket: u64) -> Result<(), AllocError>
+    ensures { OnOk result (string_bytes out.new ≡ string_bytes out.old ++ ticket_line actor what.now ticket) }
+{
+    writeln!(out, "{actor} {what} {ticket}")
 }
 
 /// Prints the line of a take.

@@ -1,14 +1,14 @@
 //! A queue under a script: the stepped queue with posts, what its actors owe, and the sink of its memory file.
-ghost use Rattle.std.specs.Prelude.{◌≡◌, ◌↔◌, ◌++◌, true, false, nat_lt, ◌&&◌, Some};
+ghost use Rattle.std.specs.Prelude.{◌≡◌, ◌↔◌, ◌++◌, Bool, true, false, nat_lt, ◌&&◌, Some};
 ghost use Rattle.std.specs.Prelude.{IfOk, IfErr, IsErr, OnOk, IsErrOf, string_bytes};
 ghost use Rattle.alog_core.specs.Queue.{last};
 ghost use Rattle.alog_core.specs.World.{is_size, is_idle, round_of};
 ghost use Rattle.alog_core.specs.declared.said.Said.{Said};
 ghost use Rattle.alog_policy.specs.Desk.{desk_told, desk_stepped};
 ghost use Rattle.alog_sink.specs.Files.{AreSame, no_files};
-ghost use Rattle.alog_replay.specs.Memory.{memory_name};
+ghost use Rattle.alog_replay.specs.Memory.{MemoryFile, Turns, memory_name};
 ghost use Rattle.alog_replay.specs.Session.{opened, is_free, may_push, pushing, popping, posting, duty_of, with_duty};
-ghost use Rattle.alog_replay.specs.Session.{with_desk, shown_message, work_after, Steps, cells_text};
+ghost use Rattle.alog_replay.specs.Session.{with_desk, with_memory, memory_turn_text, shown_message, work_after, Steps, cells_text};
 ghost use Rattle.alog_replay.specs.Texts.{stepped_text};
 ghost use Rattle.alog_replay.specs.Scene.{Prints};
 ghost use Rattle.alog_replay.specs.Plain.{plain};
@@ -144,11 +144,24 @@ impl<S: Store + Drop> Session<S> {
                 self.owe(actor, owed(said));
                 Ok(())
             }
-            Duty::Owes { ticket, pushed } => {
-                let written = self.memory.take(&pushed);
-                Ok(print_memory_turn(out, actor.number(), ticket, written)?)
-            }
+            Duty::Owes { ticket, pushed } => Ok(self.settle(actor, ticket, &pushed, out)?),
         }
+    }
+
+    /// The memory file takes its turn with what an actor took, which is printed.
+    fn settle(
+        &mut self,
+        actor: Actor,
+        ticket: u64,
+        pushed: &Pushed,
+        out: &mut String,
+    ) -> Result<(), AllocError>
+        ensures { OnOk result ((written : Bool) × (memory : MemoryFile)
+            × Turns true self.old.memory pushed.now.text written memory × (self.new ≡ with_memory self.old memory)
+            × (string_bytes out.new ≡ string_bytes out.old ++ memory_turn_text actor ticket written)) }
+    {
+        let written = self.memory.take(pushed);
+        print_memory_turn(out, actor.number(), ticket, written)
     }
 
     /// Carries out an act where the queue is open.

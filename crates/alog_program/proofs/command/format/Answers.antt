@@ -8,10 +8,10 @@ pub returns : goal.returns
 returns c =
     let l0 : StandsFor c.long_about.result (new_app (codes "format")) =
     (rw (c.long_about.ensures, c.about.ensures) c.new.ensures.app, rw (c.long_about.ensures, c.about.ensures) c.new.ensures.local) in
-    let l1 = argument_added _ _ _ _ _ c.in_ok-arg.ensures c.argument.ensures.global c.argument.ensures.rule l0 in
-    let l2 = argument_added _ _ _ _ _ c.in_ok-arg-2.ensures c.argument-2.ensures.global c.argument-2.ensures.rule l1 in
-    let l3 = argument_added _ _ _ _ _ c.in_ok-arg-3.ensures c.option.ensures.global c.option.ensures.rule l2 in
-    let l4 = argument_added _ _ _ _ _ c.in_ok-arg-4.ensures c.option-2.ensures.global c.option-2.ensures.rule l3 in
-    let l5 = argument_added _ _ _ _ _ c.in_ok-arg-5.ensures c.option-3.ensures.global c.option-3.ensures.rule l4 in
-    let l6 = argument_added _ _ _ _ _ c.in_ok-command.ensures c.option-4.ensures.global c.option-4.ensures.rule l5 in
+    let l1 = argument_added _ _ _ c.in_ok-arg.ensures c.argument.ensures.global c.argument.ensures.rule l0 in
+    let l2 = argument_added _ _ _ c.in_ok-arg-2.ensures c.argument-2.ensures.global c.argument-2.ensures.rule l1 in
+    let l3 = argument_added _ _ _ c.in_ok-arg-3.ensures c.option.ensures.global c.option.ensures.rule l2 in
+    let l4 = argument_added _ _ _ c.in_ok-arg-4.ensures c.option-2.ensures.global c.option-2.ensures.rule l3 in
+    let l5 = argument_added _ _ _ c.in_ok-arg-5.ensures c.option-3.ensures.global c.option-3.ensures.rule l4 in
+    let l6 = argument_added _ _ _ c.in_ok-command.ensures c.option-4.ensures.global c.option-4.ensures.rule l5 in
     c.with_origin.ensures _ l6

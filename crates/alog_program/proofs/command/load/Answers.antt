@@ -9,7 +9,7 @@ pub returns : goal.returns
 returns c =
     let l0 : StandsFor c.long_about.result (new_app (codes "load")) =
     (rw (c.long_about.ensures, c.about.ensures) c.new.ensures.app, rw (c.long_about.ensures, c.about.ensures) c.new.ensures.local) in
-    let l1 = argument_added _ _ _ _ _ c.in_ok-arg.ensures c.argument.ensures.global c.argument.ensures.rule l0 in
-    let l2 = argument_added _ _ _ _ _ c.in_ok-arg-2.ensures c.option.ensures.global c.option.ensures.rule l1 in
-    let l3 = argument_added _ _ _ _ _ c.in_ok-arg-3.ensures c.option-2.ensures.global c.option-2.ensures.rule l2 in
-    IfOk-weaker c.arg-4.result _ _ (λ command adds. argument_added _ _ _ _ _ adds c.option-3.ensures.global c.option-3.ensures.rule l3) c.arg-4.ensures
+    let l1 = argument_added _ _ _ c.in_ok-arg.ensures c.argument.ensures.global c.argument.ensures.rule l0 in
+    let l2 = argument_added _ _ _ c.in_ok-arg-2.ensures c.option.ensures.global c.option.ensures.rule l1 in
+    let l3 = argument_added _ _ _ c.in_ok-arg-3.ensures c.option-2.ensures.global c.option-2.ensures.rule l2 in
+    IfOk-weaker c.arg-4.result _ _ (λ command adds. argument_added _ _ _ adds c.option-3.ensures.global c.option-3.ensures.rule l3) c.arg-4.ensures

@@ -9,4 +9,4 @@ pub returns : goal.returns
 returns c =
     let l0 : StandsFor c.long_about.result (new_app (codes "replay")) =
     (rw (c.long_about.ensures, c.about.ensures) c.new.ensures.app, rw (c.long_about.ensures, c.about.ensures) c.new.ensures.local) in
-    IfOk-weaker c.arg.result _ _ (λ command adds. argument_added _ _ _ _ _ adds c.option.ensures.global c.option.ensures.rule l0) c.arg.ensures
+    IfOk-weaker c.arg.result _ _ (λ command adds. argument_added _ _ _ adds c.option.ensures.global c.option.ensures.rule l0) c.arg.ensures

@@ -259,7 +259,7 @@ returns-in-Err-LoadValue-clause-loads g c =
     let words : List Text = map g.S.AsStr.text c.args.words.now in
     let refused = subst (IsRefusedBy words) c.in-Err-LoadValue.field-0-is c.in-Err-LoadValue.ensures.refused in
     let old = g.O.Write.contents c.args.output.now in
-    load_unread _ _ _ _ _ _ 1 old old words refused.0 rows c.in-Err-LoadValue.fault refused.1.1 asks.1 refused.2 refl (Keeps-refl old)
+    load_unread _ _ _ _ _ _ 1 old old words refused.1.1 asks.1 refused.2 refl (Keeps-refl old)
 
 pub returns-in-Err-Clap-clause-loads : goal.returns-in-Err-Clap-clause-loads
 returns-in-Err-Clap-clause-loads g c =

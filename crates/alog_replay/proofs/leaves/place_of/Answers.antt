@@ -7,9 +7,9 @@ use Rattle.alog_replay.proofs.leaves.place_of.Goals as goal
 pub returns-in_err-number : goal.returns-in_err-number
 returns-in_err-number c =
     c.from_residual.ensures
-    ∙ sym (placed c.args.tops.now c.args.sink.now c.as_str-name.result.now c.is_fan.result c.number_of.result None c.if-is_fan.false c.is_fan.ensures c.as_str-name.ensures c.number_of.ensures c.in_err-number.was)
+    ∙ sym (placed c.args.tops.now c.args.sink.now c.if-is_fan.false c.is_fan.ensures c.as_str-name.ensures c.number_of.ensures c.in_err-number.was)
 
 pub returns : goal.returns
 returns c =
-    ap Some (placed_at c.args.tops.now c.new.result c.as_str-name.result.now (λ (t : Bor SinkConfig). holds c.as_str-name.result.now t.now) c.in_ok-number.number c.index-tops-number.result c.member_in.result c.new.ensures c.in_ok-number.ensures c.index-tops-number.is c.member_in.ensures)
-    ∙ sym (placed c.args.tops.now c.args.sink.now c.as_str-name.result.now c.is_fan.result c.number_of.result (Some c.in_ok-number.number) c.if-is_fan.false c.is_fan.ensures c.as_str-name.ensures c.number_of.ensures c.in_ok-number.was)
+    ap Some (placed_at c.args.tops.now (λ (t : Bor SinkConfig). holds c.as_str-name.result.now t.now) c.new.ensures c.in_ok-number.ensures c.index-tops-number.is c.member_in.ensures)
+    ∙ sym (placed c.args.tops.now c.args.sink.now c.if-is_fan.false c.is_fan.ensures c.as_str-name.ensures c.number_of.ensures c.in_ok-number.was)

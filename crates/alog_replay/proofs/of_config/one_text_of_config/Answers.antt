@@ -15,4 +15,4 @@ returns c config s r script t u is other =
     (loggers_agree true (files-value).it (failures-value).it row_of
     (stages_agree (files-value).it true refl (failures-value).it row_of (λ x y h. same_row x.files y.files h) c.one_line.ensures
     c.pieces_have_one_cut.ensures))
-    script s r t u (begins_agree c.one_reading.ensures true refl (files-value).it (failures-value).it config s r is other)
+    script s r t u (begins_agree c.one_reading.ensures refl is other)

@@ -8,7 +8,7 @@ use Rattle.alog_replay.proofs.of_config.replay_config.Goals as goal
 
 pub returns-clause-refused : goal.returns-clause-refused
 returns-clause-refused g c =
-    refused_on true (files-value).it (failures-value).it c.args.config.now c.in_ok-stage.stage c.in_ok-stage.ensures
+    refused_on c.in_ok-stage.ensures
     (g.R.Read.remaining c.args.reader.now) c.play.result
     (λ line script s. WritesText (configured true (files-value).it (failures-value).it row_of) s script (RefusedAt line)
     (g.W.Write.contents c.args.writer.now) (g.W.Write.contents c.play.new.writer))

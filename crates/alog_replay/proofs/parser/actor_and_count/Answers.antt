@@ -15,4 +15,4 @@ returns-in_err-count c = none_of _ _ c.from_residual-in_err-count.ensures (λ gi
     none-some _ ((c.in_err-count.ensures given.1).1 (parts AnActor ACount _ _ given (ap option_copied c.in_ok-rest.was) c.cut.ensures h).1))
 
 pub returns : goal.returns
-returns c = is_then AnActor ACount _ _ _ _ (ap option_copied c.in_ok-rest.was) c.cut.ensures ((c.in_ok-actor.ensures _).0 refl) ((c.in_ok-count.ensures _).0 refl)
+returns c = is_then AnActor ACount _ _ (ap option_copied c.in_ok-rest.was) c.cut.ensures ((c.in_ok-actor.ensures _).0 refl) ((c.in_ok-count.ensures _).0 refl)

@@ -11,4 +11,4 @@ returns-in_err-more c = none_of _ _ c.from_residual-in_err-more.ensures (λ give
     none-some _ ((c.in_err-more.ensures given.1).1 (parts AName (Then ALevel AText) _ _ given (ap option_copied c.in_ok-rest.was) c.cut.ensures h).1))
 
 pub returns : goal.returns
-returns c = is_then AName (Then ALevel AText) _ _ _ _ (ap option_copied c.in_ok-rest.was) c.cut.ensures (sym c.new.ensures, c.cut.ensures.1) ((c.in_ok-more.ensures _).0 refl)
+returns c = is_then AName (Then ALevel AText) _ _ (ap option_copied c.in_ok-rest.was) c.cut.ensures (sym c.new.ensures, c.cut.ensures.1) ((c.in_ok-more.ensures _).0 refl)

@@ -1,47 +1,23 @@
 use Rattle.std.proofs.Common.{refl}
-use Rattle.std.proofs.lemmas.Option.{none-some}
 use Rattle.alog_replay.specs.Command.{row_named}
-use Rattle.alog_replay.proofs.EntryLemmas.{by_row, by_found, by_no_row, by_none_given, no_row}
+use Rattle.alog_replay.proofs.EntryLemmas.{by_found, by_no_row, no_row}
 use Rattle.alog_replay.proofs.parser.parse.Goals as goal
 
-pub returns-in_err-size-in-ring : goal.returns-in_err-size-in-ring
+pub returns-in-ring : goal.returns-in-ring
 unfolding row_named
-returns-in_err-size-in-ring c =
-    by_none_given _ _ c.cut.ensures c.in-ring.is refl c.from_residual.ensures (λ g h. none-some _ ((c.in_err-size-in-ring.ensures g).1 h))
+returns-in-ring c = by_found _ _ c.cut.ensures c.in-ring.is refl c.ring.ensures
 
-pub returns-in_ok-size-in-ring : goal.returns-in_ok-size-in-ring
+pub returns-in-push : goal.returns-in-push
 unfolding row_named
-returns-in_ok-size-in-ring c = by_row _ _ _ c.cut.ensures c.in-ring.is refl ((c.in_ok-size-in-ring.ensures _).0 refl)
+returns-in-push c = by_found _ _ c.cut.ensures c.in-push.is refl c.push.ensures
 
-pub returns-in_err-actor-in-push : goal.returns-in_err-actor-in-push
+pub returns-in-pop : goal.returns-in-pop
 unfolding row_named
-returns-in_err-actor-in-push c =
-    by_none_given _ _ c.cut.ensures c.in-push.is refl c.from_residual-in_err-actor-in-push.ensures
-    (λ g h. none-some _ ((c.in_err-actor-in-push.ensures g).1 h))
+returns-in-pop c = by_found _ _ c.cut.ensures c.in-pop.is refl c.pop.ensures
 
-pub returns-in_ok-actor-in-push : goal.returns-in_ok-actor-in-push
+pub returns-in-work : goal.returns-in-work
 unfolding row_named
-returns-in_ok-actor-in-push c = by_row _ _ _ c.cut.ensures c.in-push.is refl ((c.in_ok-actor-in-push.ensures _).0 refl)
-
-pub returns-in_err-actor-in-pop : goal.returns-in_err-actor-in-pop
-unfolding row_named
-returns-in_err-actor-in-pop c =
-    by_none_given _ _ c.cut.ensures c.in-pop.is refl c.from_residual-in_err-actor-in-pop.ensures
-    (λ g h. none-some _ ((c.in_err-actor-in-pop.ensures g).1 h))
-
-pub returns-in_ok-actor-in-pop : goal.returns-in_ok-actor-in-pop
-unfolding row_named
-returns-in_ok-actor-in-pop c = by_row _ _ _ c.cut.ensures c.in-pop.is refl ((c.in_ok-actor-in-pop.ensures _).0 refl)
-
-pub returns-in_err-actor-in-work : goal.returns-in_err-actor-in-work
-unfolding row_named
-returns-in_err-actor-in-work c =
-    by_none_given _ _ c.cut.ensures c.in-work.is refl c.from_residual-in_err-actor-in-work.ensures
-    (λ g h. none-some _ ((c.in_err-actor-in-work.ensures g).1 h))
-
-pub returns-in_ok-actor-in-work : goal.returns-in_ok-actor-in-work
-unfolding row_named
-returns-in_ok-actor-in-work c = by_row _ _ _ c.cut.ensures c.in-work.is refl ((c.in_ok-actor-in-work.ensures _).0 refl)
+returns-in-work c = by_found _ _ c.cut.ensures c.in-work.is refl c.work.ensures
 
 pub returns-in-post : goal.returns-in-post
 unfolding row_named
@@ -71,25 +47,13 @@ pub returns-in-counts : goal.returns-in-counts
 unfolding row_named
 returns-in-counts c = by_found _ _ c.cut.ensures c.in-counts.is refl c.alone-in-counts.ensures
 
-pub returns-in_err-actor-in-step : goal.returns-in_err-actor-in-step
+pub returns-in-step : goal.returns-in-step
 unfolding row_named
-returns-in_err-actor-in-step c =
-    by_none_given _ _ c.cut.ensures c.in-step.is refl c.from_residual-in_err-actor-in-step.ensures
-    (λ g h. none-some _ ((c.in_err-actor-in-step.ensures g).1 h))
+returns-in-step c = by_found _ _ c.cut.ensures c.in-step.is refl c.step.ensures
 
-pub returns-in_ok-actor-in-step : goal.returns-in_ok-actor-in-step
+pub returns-in-run : goal.returns-in-run
 unfolding row_named
-returns-in_ok-actor-in-step c = by_row _ _ _ c.cut.ensures c.in-step.is refl ((c.in_ok-actor-in-step.ensures _).0 refl)
-
-pub returns-in_err-actor-in-run : goal.returns-in_err-actor-in-run
-unfolding row_named
-returns-in_err-actor-in-run c =
-    by_none_given _ _ c.cut.ensures c.in-run.is refl c.from_residual-in_err-actor-in-run.ensures
-    (λ g h. none-some _ ((c.in_err-actor-in-run.ensures g).1 h))
-
-pub returns-in_ok-actor-in-run : goal.returns-in_ok-actor-in-run
-unfolding row_named
-returns-in_ok-actor-in-run c = by_row _ _ _ c.cut.ensures c.in-run.is refl ((c.in_ok-actor-in-run.ensures _).0 refl)
+returns-in-run c = by_found _ _ c.cut.ensures c.in-run.is refl c.run.ensures
 
 pub returns-in_default : goal.returns-in_default
 returns-in_default c =

@@ -11,4 +11,4 @@ returns-in_err-policy c = none_of _ _ c.from_residual-in_err-policy.ensures (λ 
     none-some _ ((c.in_err-policy.ensures given.0).1 (parts APolicy AText _ _ given (ap option_copied c.in_ok-rest.was) c.cut.ensures h).0))
 
 pub returns : goal.returns
-returns c = is_then APolicy AText _ _ _ _ (ap option_copied c.in_ok-rest.was) c.cut.ensures ((c.in_ok-policy.ensures _).0 refl) c.text_or_empty-text.ensures
+returns c = is_then APolicy AText _ _ (ap option_copied c.in_ok-rest.was) c.cut.ensures ((c.in_ok-policy.ensures _).0 refl) c.text_or_empty-text.ensures

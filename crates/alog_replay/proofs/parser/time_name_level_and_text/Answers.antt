@@ -17,4 +17,4 @@ returns-in_err-more c = none_of _ _ c.from_residual-in_err-more.ensures (λ give
 pub returns : goal.returns
 returns c =
     let fits : SFits w64 c.in_ok-time.time = search rules in
-    rw (to_z-of_z fits) (is_then Time (Then AName (Then ALevel AText)) _ _ _ _ (ap option_copied c.in_ok-rest.was) c.cut.ensures ((c.in_ok-time.ensures _).0 refl) ((c.in_ok-more.ensures _).0 refl))
+    rw (to_z-of_z fits) (is_then Time (Then AName (Then ALevel AText)) _ _ (ap option_copied c.in_ok-rest.was) c.cut.ensures ((c.in_ok-time.ensures _).0 refl) ((c.in_ok-more.ensures _).0 refl))

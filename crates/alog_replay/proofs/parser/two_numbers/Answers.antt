@@ -15,4 +15,4 @@ returns-in_err-second c = none_of _ _ c.from_residual-in_err-second.ensures (λ 
     none-some _ ((c.in_err-second.ensures given.1).1 (parts Number (Only Number) _ _ given (ap option_copied c.in_ok-rest.was) c.cut.ensures h).1))
 
 pub returns : goal.returns
-returns c = is_then Number (Only Number) _ _ _ _ (ap option_copied c.in_ok-rest.was) c.cut.ensures ((c.in_ok-first.ensures.spelled _).0 refl) ((c.in_ok-second.ensures _).0 refl)
+returns c = is_then Number (Only Number) _ _ (ap option_copied c.in_ok-rest.was) c.cut.ensures ((c.in_ok-first.ensures.spelled _).0 refl) ((c.in_ok-second.ensures _).0 refl)

@@ -69,8 +69,7 @@ returns-in_err-finish-in-End-clause-front g c =
     let lines = c.next_line.new.self in
     let found = rw c.in-End.is at c.in_ok-next_line.ensures.found in
     on_any_err c.from_residual-in_err-finish-in-End.result
-    (finish_front scene from at left (contents c.finish.new.writer) lines.pending lines.line c.lines.invariant.told found
-    c.in_err-finish-in-End.ensures.front.1)
+    (finish_front scene from at left lines.pending lines.line c.lines.invariant.told found c.in_err-finish-in-End.ensures.front.1)
 
 pub returns-in-End-clause-whole : goal.returns-in-End-clause-whole
 returns-in-End-clause-whole g c =
@@ -136,4 +135,4 @@ returns-in_err-play_and_write-clause-front g c =
     let wrote = subst (λ (line : List ℕ). WritesLineFront scene at.stage line at.held held) c.line.ensures.value
     c.in_err-play_and_write.ensures.front in
     on_any_err c.from_residual-in_err-play_and_write.result
-    (line_front scene g.met.S.Playable.goes_on from at left held lines.pending lines.line c.lines.invariant.told found wrote)
+    (line_front scene g.met.S.Playable.goes_on from at left lines.pending lines.line c.lines.invariant.told found wrote)

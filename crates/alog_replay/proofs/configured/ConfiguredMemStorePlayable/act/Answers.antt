@@ -9,9 +9,8 @@ pub returns-in-Log-clause-done : goal.returns-in-Log-clause-done
 returns-in-Log-clause-done c =
     let fits : SFits w64 c.in-Log.time = search rules in
     rw c.in-Log.is
-    (logged c.log.result (string_bytes c.args.out.now) (string_bytes c.log.new.out) c.args.self.now c.log.new.self c.in-Log.actor _
-    c.in-Log.time c.in-Log.level c.as_str-logger.result.now c.in-Log.logger c.as_str-text.result.now c.in-Log.text (to_z-of_z fits)
-    c.as_str-logger.ensures c.as_str-text.ensures c.log.ensures.printed c.log.ensures.begun)
+    (logged c.log.result (string_bytes c.args.out.now) (string_bytes c.log.new.out) c.args.self.now c.log.new.self c.in-Log.actor
+    c.in-Log.level (to_z-of_z fits) c.as_str-logger.ensures c.as_str-text.ensures c.log.ensures.printed c.log.ensures.begun)
 
 pub returns-in-Flush-clause-done : goal.returns-in-Flush-clause-done
 returns-in-Flush-clause-done c =
@@ -22,8 +21,7 @@ returns-in-Dump-clause-done c =
     let fits : SFits w64 c.in-Dump.time = search rules in
     rw c.in-Dump.is
     (quietly _ (string_bytes c.args.out.now) _ _
-    (dumped c.dump.result c.args.self.now c.dump.new.self c.in-Dump.actor _ c.in-Dump.time c.as_str-in-Dump.result.now c.in-Dump.logger
-    (to_z-of_z fits) c.as_str-in-Dump.ensures c.dump.ensures.begun))
+    (dumped c.dump.result c.args.self.now c.dump.new.self c.in-Dump.actor (to_z-of_z fits) c.as_str-in-Dump.ensures c.dump.ensures.begun))
 
 pub returns-in-Level-clause-done : goal.returns-in-Level-clause-done
 returns-in-Level-clause-done c =

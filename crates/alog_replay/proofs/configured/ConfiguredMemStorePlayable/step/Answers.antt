@@ -14,5 +14,5 @@ returns-clause-done c =
     let told = c.in_ok-told.told in
     let printed = subst (λ (names : List (List ℕ)). after ≡ before ++ told_text names c.args.actor held told) c.deref.ensures.value
     c.in_ok-print_step.ensures in
-    told_step true (files-value).it (failures-value).it c.self.inside.system c.self.inside.names.items c.self.inside.places.items c.args.self.now
-    c.args.actor told system held before after c.self.view_is c.in_ok-told.ensures.steps refl printed
+    told_step true (files-value).it (failures-value).it c.args.actor told system {held = held} before c.self.view_is
+    c.in_ok-told.ensures.steps refl printed

@@ -29,5 +29,5 @@ returns-in-End-clause-found g c =
     (takes_whole (g.R.Read.remaining c.loop-self.reader) c.loop-self.self c.take_piece.new.self moved) in
     let kept = consumes_same script between after (line ++ pending) c.fill.new.self.line taken c.in_ok-fill.ensures.rest grown in
     let unbroken = subst IsUnbroken (sym grown) (unbroken-append line pending c.loop-self.invariant.0 moved.2) in
-    finds_last script after c.fill.new.self.line _ unbroken kept (c.in_ok-fill.ensures.end c.in-End.is)
+    finds_last script after c.fill.new.self.line unbroken kept (c.in_ok-fill.ensures.end c.in-End.is)
     (rw c.in_ok-fill.ensures.line c.in-Whole.ensures.fits) c.last.ensures

@@ -9,5 +9,4 @@ returns-clause-opened g c =
     let all : c.loop.counter ≡ ACTORS = omega (arith, c.loop-test.false, c.loop.auto.counter-end) in
     let none = c.requires.empty memory_name in
     let memory = c.in_ok-memory.ensures ∙ ap (λ b. let m : MemoryFile = record { bytes = b; broken = false } in m) none in
-    opened_stage c.in_ok-desk.desk c.loop.duties.items c.in_ok-memory.memory c.loop.counter c.args.places c.args.first
-    c.in_ok-desk.ensures.made c.loop.invariant.items all memory
+    opened_stage c.in_ok-desk.ensures.made c.loop.invariant.items all memory
