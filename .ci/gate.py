@@ -28,8 +28,6 @@ BUDGET, SHARE, EDITS_SHARE = 12_500, 600, 400
 MOST_EDITS = 12
 PHASES = ("proof", "tests", "edits")
 TICKS = os.sysconf("SC_CLK_TCK")
-# of rows/, what no test has: it is held by `check memory` and `check io` alone, which run the program on it
-UNTESTED = ["rows/refused_no_utf8.err"]
 
 
 def stat_of(pid):
@@ -170,7 +168,7 @@ def untested():
     tests = text_of("crates/test_runs/src/examples.rt")
     faults = [it for it in sorted(glob.glob("examples/*")) if f'r#"{text_of(it)}"#;' not in tests]
     texts = literals(sorted(glob.glob("crates/test_*/src/*.rt")))
-    faults += [it for it in sorted(glob.glob("rows/*")) if it not in UNTESTED and not is_tested(it, texts, set(texts))]
+    faults += [it for it in sorted(glob.glob("rows/*")) if not is_tested(it, texts, set(texts))]
     return [f"{it} is not in the tests of alog" for it in faults]
 
 

@@ -1,12 +1,15 @@
 """Makes each allocation of the proved and built program fail in turn, on the rows of rows/ and the scripts and configurations of
-examples/; each allocation and each start of a thread of loads; and those of the tests that bear any one of them failing.
+examples/; each allocation and each start of a thread of loads; and those of the tests that show calls. With the word `build` it proves
+and builds those tests first, where they are not.
 
 Where one fails, the program must end with status 4, its one line on standard error, and a front of what it prints otherwise; or as
 it ends otherwise, but that from some line on each turn of one sink is a fault, or that a refusal is told by its number and general words
 alone. A load prints nothing with status 4, or with status 3 where there was no memory to open a sink; else with status 3 it prints all
-that it prints otherwise, and its one line on standard error: then a sink had no memory for a line. A test must pass. What has threads is
-run so many times for each failure, since threads go on in another order each time. It says how many allocations of which row it tried,
-and which rows it did not. Needs a C compiler, `cc`, beside `rt`.
+that it prints otherwise, and its one line on standard error: then a sink had no memory for a line. A test must pass, or end by an error
+or a message that says want of memory, or a fault of a store, and nothing else: so a wrong answer is seen. Of a test that makes many
+allocations each of the first is tried, and so many spread over the others. What has threads is run so many times for each failure, since
+threads go on in another order each time, and a test with threads is not tried but for two of pools. It says how many allocations of
+which row it tried, and which rows it did not. Needs a C compiler, `cc`, beside `rt`.
 """
 import collections
 import concurrent.futures as futures
@@ -33,16 +36,26 @@ GENERAL = [b"alog: %s\n" % it for it in (
 )]
 # a small load, and what it prints
 LOAD = Row("load", ["load", "examples/one_file.toml", "--producers", "2", "--messages", "3"], b"", b"asked 6\nposted 6\ndiscarded 0\noverrun 0\nhandled 6\n", 0, b"")
-# the tests that bear it, by their crates, of which the first is built where it is not, and the others are tried where they are; how many
-# times what has threads is run for one failure, and how many runs it has at most, if that is not fewer than once for each
-TESTS = {
-    "test_pool": ["memory_tests::want_of_memory"],
+# the crates whose tests show calls: each is tried where it is built
+CRATES = ["test_lines", "test_daily", "test_stores", "test_sinks", "test_queue", "test_loggers", "test_scripts", "test_config", "test_system"]
+# those of their tests that must pass whatever fails
+PASSING = {
     "test_queue": ["memory_tests::want_of_memory", "memory_tests::want_of_memory_for_a_swap_ring"],
     "test_config": ["memory_tests::want_of_memory", "memory_tests::want_of_memory_for_a_refusal"],
     "test_scripts": ["config_fault_tests::want_of_memory_for_a_script"],
 }
+# the tests with threads, of a crate that is built where it is not: whether each must pass, or may say want of memory until all its
+# producers are made
 BUILT = "test_pool"
+POOLS = {"memory_tests::want_of_memory": True, "reserved_tests::posting_takes_no_memory": False}
+# how a test says want of memory and nothing else, and how a fault of a store: by its error or by the message of its end
+FAILED = rb"\nthe test failed: its result gives status 1\n"
+WANTING = re.compile(rb"error: [^\n]*\b(?:OutOfMemory|AllocError|AllocFailed)\b[^\n]*" + FAILED + rb"|out of memory\n")
+FAULTED = re.compile(rb"error: Store(?:Error)?" + FAILED + rb"|the store failed\n")
+# how many times what has threads is run for one failure, and how many runs it has at most, if that is not fewer than once for each
 TIMES, MOST_RUNS = 10, 6_000
+# how many of the first allocations of a test are tried, and how many spread over the others
+FIRST, SPREAD = 300, 100
 # what fails, and what it is called
 KINDS = {"FAIL_ALLOC": "allocations", "FAIL_THREAD": "starts of threads"}
 
@@ -62,15 +75,20 @@ def cases():
 def run(room, words, given, kind, number):
     """Runs a program so that the call of this kind and number fails; returns what it did, and how many calls of the kind it made: that
     many at least, where it was ended before it could tell."""
+    ran, counts = run_counted(room, words, given, kind, number)
+    return ran, counts[kind] if counts else number
+
+
+def run_counted(room, words, given, kind, number):
+    """The same, with how many calls of each kind it made, or None where it was ended before it could tell."""
     calls = tempfile.mktemp(dir=room)
-    env = {**os.environ, "LD_PRELOAD": f"{room}/fail_alloc.so", kind: str(number), "ALLOCS": calls}
+    env = {**os.environ, "LD_PRELOAD": f"{room}/fail_alloc.so", kind: str(number), "ALLOCS": calls, "TMPDIR": room}
     ran = subprocess.run(words, input=given, capture_output=True, env=env, timeout=60)
     told = bytes_of(calls)
     if told is None:
-        return ran, number
+        return ran, None
     os.remove(calls)
-    made, started = map(int, told.split())
-    return ran, made if kind == "FAIL_ALLOC" else started
+    return ran, dict(zip(KINDS, map(int, told.split())))
 
 
 def outcome(ran, row):
@@ -107,9 +125,15 @@ def load_outcome(ran, row):
     return {(4, b"", REFUSED): "no memory", (0, row.printed, b""): "nothing"}.get(found)
 
 
-def test_outcome(ran, row):
+def pass_outcome(ran, row):
     """Returns in words that a test passed, or None."""
     return "nothing" if ran.returncode == 0 and row.printed in ran.stdout else None
+
+
+def test_outcome(ran, row):
+    """Returns in words what came of a test, or None where it is none of what may come."""
+    said = [word for word, form in (("no memory", WANTING), ("a fault", FAULTED)) if ran.returncode and form.fullmatch(ran.stderr)]
+    return said[0] if said else pass_outcome(ran, row)
 
 
 def sweep(room, name, row, judge, kind="FAIL_ALLOC", times=1):
@@ -148,42 +172,105 @@ def sweep_cases(room):
     return {key: it.result() for key, it in started.items()}
 
 
+def sweep_test(room, name, row, judge):
+    """Sweeps a test without threads: each of its first allocations, and so many of the others. Returns as a sweep does, and no count where
+    it has threads."""
+    ran, counts = run_counted(room, row.words, row.given, "FAIL_ALLOC", 0)
+    if judge(ran, row) != "nothing" or not counts:
+        return 0, None
+    if counts["FAIL_THREAD"]:
+        return None, True
+    made = counts["FAIL_ALLOC"]
+    numbers = [*range(1, min(made, FIRST) + 1), *range(FIRST + 1, made + 1, max(1, (made - FIRST) // SPREAD))]
+    came = [(number, judge(run(room, row.words, row.given, "FAIL_ALLOC", number)[0], row)) for number in numbers]
+    found = collections.Counter(it for _, it in came if it)
+    bad = [number for number, it in came if not it]
+    told = ", ".join(f"{count} {it}" for it, count in sorted(found.items()))
+    of = f" of {made}" if len(numbers) < made else ""
+    print(f"memory: {name}: {len(numbers)}{of} allocations: {told}" + (f"; wrong at {bad}" if bad else ""), flush=True)
+    return len(numbers), not bad
+
+
+def stands_on():
+    """Returns by its name the crates that a crate stands on, as crates.txt has them."""
+    lines = [it.split(":") for it in open("crates.txt", encoding="utf-8").read().splitlines() if it[:1] not in ("#", "")]
+    return {head.split()[0]: tail.split() for head, tail in lines}
+
+
 def is_built(crate):
-    """Whether the tests of a crate are built, of what its sources and those of all others are now."""
+    """Whether the tests of a crate are built, of what its sources and those of the crates below it are now."""
     program = f"crates/{crate}/out/{crate}_tests"
-    files = (it for part in ("src", "specs", "proofs") for it in glob.iglob(f"crates/*/{part}/**/*", recursive=True))
+    below = stands_on()
+    needed, waiting = set(), [crate]
+    while waiting:
+        it = waiting.pop()
+        if it in below and it not in needed:
+            needed.add(it)
+            waiting += below[it]
+    files = (file for it in needed for part in ("src", "specs", "proofs") for file in glob.iglob(f"crates/{it}/{part}/**/*", recursive=True))
     return os.path.exists(program) and all(os.path.getmtime(it) <= os.path.getmtime(program) for it in files)
 
 
-def sweep_tests(room):
-    """Sweeps each test that bears a failure. Returns by name what came of each sweep, and which crates have tests that are not built."""
-    found, unbuilt = {}, []
-    for crate, tests in TESTS.items():
-        if not is_built(crate) and crate != BUILT:
-            unbuilt.append(crate)
-            continue
-        if crate == BUILT:
-            subprocess.run(["rt", "test"], cwd=f"crates/{crate}", stdout=subprocess.DEVNULL, check=True)
-        for test in tests:
-            row = Row(test, [f"crates/{crate}/out/{crate}_tests", test], b"", b"test result: ok", 0, b"")
-            for kind in KINDS if crate == BUILT else ["FAIL_ALLOC"]:
-                found[f"{crate} {test}", kind] = sweep(room, f"{crate} {test}", row, test_outcome, kind, TIMES if crate == BUILT else 1)
-    return found, unbuilt
+def build(crate):
+    """Proves and builds the tests of a crate."""
+    subprocess.run(["rt", "test"], cwd=f"crates/{crate}", stdout=subprocess.DEVNULL, check=True)
 
 
-def main():
+def tests_of(crate):
+    """Returns the rows of the tests of a built crate, by their names."""
+    program = f"crates/{crate}/out/{crate}_tests"
+    listed = subprocess.run([program, "--list"], capture_output=True, check=True, text=True).stdout.split("\n")
+    names = [it.removesuffix(": test") for it in listed if it.endswith(": test")]
+    return {name: Row(name, [program, name], b"", b"test result: ok", 0, b"") for name in names}
+
+
+def sweep_tests(room, builds):
+    """Sweeps the tests. Returns by name what came of each sweep, the tests with threads, and the crates whose tests are not built."""
+    started, unbuilt = {}, []
+    with futures.ThreadPoolExecutor(os.cpu_count()) as pool:
+        for crate in CRATES:
+            if builds and not is_built(crate):
+                build(crate)
+            if not is_built(crate):
+                unbuilt.append(crate)
+                continue
+            for name, row in tests_of(crate).items():
+                judge = pass_outcome if name in PASSING.get(crate, []) else test_outcome
+                started[f"{crate} {name}", "FAIL_ALLOC"] = pool.submit(sweep_test, room, f"{crate} {name}", row, judge)
+    found = {key: it.result() for key, it in started.items()}
+    threaded = [name for (name, _), (count, _) in found.items() if count is None]
+    return {key: it for key, it in found.items() if it[0] is not None}, threaded, unbuilt
+
+
+def sweep_pools(room):
+    """Sweeps the tests of pools. Returns by name what came of each sweep."""
+    build(BUILT)
+    found, rows_of = {}, tests_of(BUILT)
+    for name, must_pass in POOLS.items():
+        judge = pass_outcome if must_pass else test_outcome
+        for kind in KINDS:
+            found[f"{BUILT} {name}", kind] = sweep(room, f"{BUILT} {name}", rows_of[name], judge, kind, TIMES)
+    return found
+
+
+def main(words):
+    if words not in ([], ["build"]):
+        print("usage: ./check memory [build]")
+        return 2
     subprocess.run(["./alog", "check", "examples/one_file.toml"], stdout=subprocess.DEVNULL, check=True)
     with tempfile.TemporaryDirectory(prefix="alog-memory-") as room:
         subprocess.run(["cc", "-shared", "-fPIC", "-O1", "-o", f"{room}/fail_alloc.so", ".ci/fail_alloc.c", "-ldl"], check=True)
-        tests, unbuilt = sweep_tests(room)
-        found = {**sweep_cases(room), **tests}
+        tests, threaded, unbuilt = sweep_tests(room, bool(words))
+        found = {**sweep_cases(room), **sweep_pools(room), **tests}
     untried = sorted({name for (name, _), (_, well) in found.items() if well is None})
     tried = {name for name, _ in found} - set(untried)
     counts = ", ".join(f"{sum(count for (_, it), (count, _) in found.items() if it == kind)} {KINDS[kind]}" for kind in KINDS)
     print(f"memory: {len(tried)} rows and tests, {counts}")
-    print(f"memory: not tried, since they say otherwise where nothing fails: {', '.join(untried) or 'none'}; since they are not built: {', '.join(unbuilt) or 'none'}")
+    whys = {"they say otherwise where nothing fails": untried, "they have threads": threaded, "they are not built": unbuilt}
+    for why, names in whys.items():
+        print(f"memory: not tried, since {why}: {', '.join(names) or 'none'}")
     return 0 if all(well for _, well in found.values()) else 1
 
 
 if __name__ == "__main__":
-    sys.exit(main())
+    sys.exit(main(sys.argv[1:]))

@@ -1,7 +1,8 @@
-//! Files that cannot be read, on the whole program: `alog check`, and `alog replay --config`, which then reads nothing of the script.
+//! Files that cannot be read, or not as text, on the whole program: `alog check`, and `alog replay --config`, which then reads nothing of
+//! the script.
 use crate::check_tests::CHECK;
-use std::io;
-use test_runs::{Host, REPLAY, Said, Scratch, run, says_on};
+use std::{fs, io};
+use test_runs::{Host, REPLAY, Said, Scratch, removed, run, says_on};
 
 /// Whether a run on these words, in which `FILE` stands for this file, says that it cannot be read, and not what its input is.
 fn is_unread<R: Host>(rt: &R, words: &[&'static str], file: &str) -> bool {
@@ -37,4 +38,19 @@ fn reads_nothing<R: Host>(rt: &R) -> bool {
 #[test]
 fn a_script_is_not_read_where_there_is_no_configuration(rt: HostRuntime) {
     assert!(rt; reads_nothing(&rt));
+}
+
+/// Whether a configuration in this file is refused since it is no text.
+fn is_no_text<R: Host>(rt: &R, words: &[&'static str], file: &str) -> bool {
+    let error = "alog: refused 28\nalog: the document is not TOML: line 2: invalid UTF-8\n";
+    says_on(rt, file, words, b"", Said::refused("", error))
+}
+
+#[test]
+fn a_configuration_that_is_no_text(rt: HostRuntime) -> io::Result<()> {
+    let path = rt.scratch("no_text")?;
+    fs::write(&rt, path.as_str(), b"[[sink]]\nname = \"\xff\"\n")?;
+    assert!(rt; is_no_text(&rt, CHECK, path.as_str()));
+    assert!(rt; is_no_text(&rt, REPLAY, path.as_str()));
+    removed(&rt, path)
 }

@@ -240,7 +240,7 @@ fn fuses(rt: &(impl Abort + AllocGlobal), numbers: [u64; 2]) -> Vec<FuseStore<Me
     let mut stores = Vec::new(rt.alloc());
     for calls in numbers {
         let store = FuseStore::new(MemStore::new(rt.alloc()), calls, 0);
-        assert!(rt; stores.push(store).is_ok());
+        assert!(rt; stores.push(store).is_ok(), "out of memory");
     }
     stores
 }
@@ -254,11 +254,11 @@ fn with_fuses(rt: &(impl Abort + AllocGlobal), numbers: [u64; 2]) -> Option<Stri
             return None;
         }
         Err(BuildError::Store { sink, reason }) => (sink, reason),
-        Err(BuildError::OutOfMemory) => panic!(rt; "no memory"),
+        Err(BuildError::OutOfMemory) => panic!(rt; "out of memory"),
     };
     match explain_unopened(rt.alloc(), &config, sink, reason) {
         Ok(text) => Some(text),
-        Err(_) => panic!(rt; "no memory"),
+        Err(_) => panic!(rt; "out of memory"),
     }
 }
 

@@ -4,7 +4,7 @@
 use crate::documents::config;
 use alog_config::{BuildError, Config, build, leaves};
 use alog_format::LineBuf;
-use alog_msg::{Level, Message};
+use alog_msg::{Level, Message, MessageError};
 use alog_registry::Loggers;
 use alog_sink::{MemStore, Sink, SinkError, Store, Taken};
 use std::alloc::{AllocError, Global};
@@ -38,11 +38,12 @@ pub fn built_over<S: Store + Drop>(
 /// What is built of a configuration over files in memory.
 pub fn built_of(rt: &(impl Abort + AllocGlobal), config: &Config) -> Built {
     let Ok(stores) = stores(rt.alloc(), config) else {
-        panic!(rt; "no memory")
+        panic!(rt; "out of memory")
     };
     match built_over(rt, config, stores) {
         Ok(built) => built,
-        Err(_) => panic!(rt; "not built"),
+        Err(BuildError::OutOfMemory) => panic!(rt; "out of memory"),
+        Err(BuildError::Store { .. }) => panic!(rt; "not built"),
     }
 }
 
@@ -78,7 +79,7 @@ fn answer_to<S: Store>(
     logger: u32,
     text: &str,
 ) -> Result<Taken, SinkError> {
-    let Ok(message) = Message::new(
+    let message = match Message::new(
         rt.alloc(),
         2_048,
         logger,
@@ -87,17 +88,20 @@ fn answer_to<S: Store>(
         1,
         text,
         None,
-    ) else {
-        panic!(rt; "no message of {text}")
+    ) {
+        Ok(message) => message,
+        Err(MessageError::OutOfMemory) => panic!(rt; "out of memory"),
+        Err(_) => panic!(rt; "no message of {text}"),
     };
     let Ok(mut line) = LineBuf::new(rt.alloc(), 4_096) else {
-        panic!(rt; "no buffer")
+        panic!(rt; "out of memory")
     };
     assert!(rt; sink.may_take(&message, &line), "{text}");
     sink.take(&message, &mut line)
 }
 
-/// The sink at this place is given a text of this level by the logger of this number, and does this.
+/// The sink at this place is given a text of this level by the logger of this number, and does this. Where its store fails the test ends
+/// with these words alone: files in memory fail for want of it.
 pub fn gives(
     rt: &(impl Abort + AllocGlobal),
     sinks: &mut Vec<Sink<MemStore>>,
@@ -111,6 +115,7 @@ pub fn gives(
         panic!(rt; "no sink {at}")
     };
     let answer = answer_to(rt, sink, level, logger, text);
+    assert!(rt; answer != Err(SinkError::Store), "the store failed");
     assert!(rt; answer == Ok(wanted), "{text} at {at}: {answer:?}");
 }
 

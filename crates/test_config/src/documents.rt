@@ -11,7 +11,7 @@ pub const LOGGER: &str = "[[logger]]\nname = \"net\"\nsinks = [\"out\"]\n";
 
 /// Appends a part to a document.
 pub fn put(rt: &impl Abort, document: &mut String, part: &str) {
-    assert!(rt; document.push_str(part).is_ok());
+    assert!(rt; document.push_str(part).is_ok(), "out of memory");
 }
 
 /// Appends a number between two parts.
@@ -24,7 +24,7 @@ pub fn put_number(
 ) {
     match format!(in rt.alloc(); "{before}{number}{behind}") {
         Ok(part) => put(rt, document, part.as_str()),
-        Err(_) => panic!(rt; "no memory"),
+        Err(_) => panic!(rt; "out of memory"),
     }
 }
 
@@ -55,7 +55,7 @@ fn numbered(rt: &impl Abort, fault: ConfigFault) -> (u8, Place) {
     match fault {
         ConfigFault::NotToml => (28, Place::Top),
         ConfigFault::Broken { rule, place } => (rule.number(), place),
-        ConfigFault::OutOfMemory => panic!(rt; "no memory"),
+        ConfigFault::OutOfMemory => panic!(rt; "out of memory"),
     }
 }
 
@@ -84,6 +84,7 @@ pub fn config(rt: &(impl Abort + AllocGlobal), parts: &[&str]) -> Config {
     let document = joined(rt, parts);
     match read(rt.alloc(), document.as_bytes()) {
         Ok(config) => config,
+        Err(ConfigFault::OutOfMemory) => panic!(rt; "out of memory"),
         Err(_) => panic!(rt; "no configuration"),
     }
 }

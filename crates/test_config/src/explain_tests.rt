@@ -7,13 +7,14 @@ use std::process::Abort;
 fn in_words(rt: &(impl Abort + AllocGlobal), document: &str, fault: ConfigFault) -> String {
     match explain(rt.alloc(), document.as_bytes(), fault) {
         Ok(text) => text,
-        Err(_) => panic!(rt; "no memory"),
+        Err(_) => panic!(rt; "out of memory"),
     }
 }
 
 /// What is said of a document, which is refused.
 pub(crate) fn told(rt: &(impl Abort + AllocGlobal), document: &str) -> String {
     match read(rt.alloc(), document.as_bytes()).err() {
+        Some(ConfigFault::OutOfMemory) => panic!(rt; "out of memory"),
         Some(fault) => in_words(rt, document, fault),
         None => panic!(rt; "not refused"),
     }
@@ -153,7 +154,7 @@ fn long_values_in_words(rt: HostRuntime) {
 fn by_rule(rt: &(impl Abort + AllocGlobal), fault: ConfigFault) -> String {
     match fault.to_string(rt.alloc()) {
         Ok(text) => text,
-        Err(_) => panic!(rt; "no memory"),
+        Err(_) => panic!(rt; "out of memory"),
     }
 }
 

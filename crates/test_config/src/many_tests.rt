@@ -153,7 +153,7 @@ fn lines_drawn(rt: &(impl Abort + AllocGlobal), draws: &mut Draws) -> String {
 fn copy(rt: &(impl Abort + AllocGlobal), bytes: &[u8]) -> Vec<u8> {
     match Vec::from_slice(rt.alloc(), bytes) {
         Ok(copy) => copy,
-        Err(_) => panic!(rt; "no memory"),
+        Err(_) => panic!(rt; "out of memory"),
     }
 }
 

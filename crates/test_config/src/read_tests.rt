@@ -376,7 +376,7 @@ fn rules_in_order(rt: HostRuntime) {
 /// A list of one name.
 fn one_name(rt: &(impl Abort + AllocGlobal), name: &str) -> NameList {
     let mut names = NameList::new(rt.alloc());
-    assert!(rt; names.push(rt.alloc(), name).is_ok());
+    assert!(rt; names.push(rt.alloc(), name).is_ok(), "out of memory");
     names
 }
 

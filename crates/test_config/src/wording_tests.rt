@@ -43,7 +43,7 @@ fn says(
     let text = told(rt, document.as_str());
     match format!(in rt.alloc(); "{shown}: {rule}; {before} {allowed}") {
         Ok(want) => is_text(rt, text.as_str(), want.as_str()),
-        Err(_) => panic!(rt; "no memory"),
+        Err(_) => panic!(rt; "out of memory"),
     }
 }
 
@@ -305,7 +305,7 @@ fn tells_its_line(rt: &(impl Abort + AllocGlobal), before: usize) {
     let line = before.saturating_add(1);
     match format!(in rt.alloc(); "the document is not TOML: line {line}: invalid string") {
         Ok(want) => is_text(rt, text.as_str(), want.as_str()),
-        Err(_) => panic!(rt; "no memory"),
+        Err(_) => panic!(rt; "out of memory"),
     }
 }
 

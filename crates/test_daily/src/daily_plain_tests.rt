@@ -1,16 +1,10 @@
 //! The definition of files by days as a plain program, beside what a daily sink does, on all short lists of times.
+use crate::sinks::{HOUR, PLAIN, Plan, START, face, opened_as, writes};
 use crate::{Moment, period_of};
-use alog_format::{Context, LineBuf, Zone};
-use alog_msg::{Level, Message};
-use alog_pattern::Pattern;
-use alog_sink::{Face, MemStore, Names, Sink};
+use alog_sink::{MemStore, Sink};
 use std::alloc::{AllocError, Global};
 use std::process::Abort;
 use std::test::Fail;
-
-const HOUR: i64 = 3_600_000_000_000;
-
-const START: i64 = 1_709_078_400_000_000_000;
 
 const NAMES: [&str; 3] = ["d_2024-02-28", "d_2024-02-29", "d_2024-03-01"];
 
@@ -84,57 +78,60 @@ fn file_of(
     Ok(Some(file))
 }
 
-// The sink's store after these moments.
+// A sink after these moments.
 fn kept(
-    alloc: Global,
-    moments: &[Moment],
-    change: u8,
-    max_files: usize,
-) -> Result<Option<Sink<MemStore>>, Fail> {
-    let face = Face {
-        level: Level::Info,
-        pattern: Pattern::compile(alloc, b"%v", 64)?,
-        context: Context {
-            zone: Zone::Fixed(0),
-            process: 7,
-        },
-        names: Names::new(alloc),
-    };
-    let store = MemStore::new(alloc).with(NAMES[1], b"old\n")?;
-    let Ok(mut sink) = Sink::daily(alloc, face, store, "d", u32::from(change), 0, max_files) else {
-        return Ok(None);
-    };
-    let mut line = LineBuf::new(alloc, 256)?;
-    for (moment, text) in moments.iter().zip(["a", "b", "c", "d"]) {
-        let time = START.saturating_add(hours(*moment).saturating_mul(HOUR));
-        let message = Message::new(alloc, 64, 0, Level::Info, time, 1, text, None)?;
-        if !sink.may_take(&message, &line) || sink.take(&message, &mut line).is_err() {
-            return Ok(None);
-        }
-    }
-    Ok(Some(sink))
-}
-
-// Gives these moments to a sink, and looks at each file.
-fn looks_right(
     rt: &(impl Abort + AllocGlobal),
     moments: &[Moment],
     change: u8,
     max_files: usize,
+) -> Result<Sink<MemStore>, Fail> {
+    let face = face(rt.alloc(), 0)?;
+    let store = MemStore::new(rt.alloc()).with(NAMES[1], b"old\n")?;
+    let plan = Plan {
+        hour: u32::from(change),
+        max_files,
+        ..PLAIN
+    };
+    let mut sink = opened_as(rt.alloc(), face, store, "d", plan)?;
+    for (moment, text) in moments.iter().zip(["a", "b", "c", "d"]) {
+        let time = START.saturating_add(hours(*moment).saturating_mul(HOUR));
+        writes(rt, &mut sink, time, text);
+    }
+    Ok(sink)
+}
+
+// Each file of the store after these moments is right.
+fn are_right(
+    rt: &(impl Abort + AllocGlobal),
+    store: &MemStore,
+    moments: &[Moment],
+    change: u8,
+    max_files: usize,
 ) -> Result<(), Fail> {
-    let sink = kept(rt.alloc(), moments, change, max_files)?;
-    let store = sink.as_ref().and_then(|sink| sink.store());
-    assert!(rt; store.is_some(), "no sink");
     for (day, name) in [0u8, 1, 2].iter().zip(NAMES) {
         let before = if *day == 1 { Some(&b"old\n"[..]) } else { None };
         let right = file_of(rt.alloc(), moments, change, max_files, *day, before)?;
-        let is = store.and_then(|store| store.files().get(name));
+        let is = store.files().get(name);
         assert!(rt;
             is.map(|file| file.as_slice()) == right.as_ref().map(|file| file.as_slice()),
             "{name} at {change}, {max_files}"
         );
     }
     Ok(())
+}
+
+// Gives these moments to a sink, and looks at its files.
+fn looks_right(
+    rt: &(impl Abort + AllocGlobal),
+    moments: &[Moment],
+    change: u8,
+    max_files: usize,
+) -> Result<(), Fail> {
+    let sink = kept(rt, moments, change, max_files)?;
+    match sink.store() {
+        Some(store) => are_right(rt, store, moments, change, max_files),
+        None => panic!(rt; "no store"),
+    }
 }
 
 #[test]

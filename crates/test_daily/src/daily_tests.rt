@@ -1,23 +1,18 @@
 //! Daily sinks: which file each line goes to, which files are kept, and stores that fail.
 use crate::sinks::{
-    DAY, MINUTE, PLAIN, Plan, START, answer_to, face, files, flushes, gives, has_only, opened,
-    writes,
+    DAY, MINUTE, PLAIN, Plan, START, answer_to, face, files, flushes, fuse, gives, has_only,
+    opened, opened_as, writes,
 };
 use alog_format::OFFSET_MAX;
 use alog_pattern::Pattern;
-use alog_sink::{FuseStore, MemStore, OpenError, Sink, SinkError, Store, StoreError, Taken};
+use alog_sink::{MemStore, OpenError, Sink, SinkError, Store, StoreError, Taken};
 use std::alloc::Global;
 use std::process::Abort;
 use std::test::Fail;
 
 #[test]
 fn a_daily_sink(rt: HostRuntime) -> Result<(), Fail> {
-    let alloc = rt.alloc();
-    let face = face(alloc, 0)?;
-    let store = MemStore::new(alloc);
-    let Ok(mut sink) = Sink::daily(alloc, face, store, "day.log", 0, 0, 0) else {
-        return Err(OpenError::OutOfMemory.into());
-    };
+    let mut sink = opened(rt.alloc(), MemStore::new(rt.alloc()), PLAIN)?;
     writes(
         &rt,
         &mut sink,
@@ -43,10 +38,7 @@ fn time_since_a_line_of_the_day_before(rt: HostRuntime) -> Result<(), Fail> {
     let alloc = rt.alloc();
     let mut face = face(alloc, 0)?;
     face.pattern = Pattern::compile(alloc, b"%i %v", 64)?;
-    let store = MemStore::new(alloc);
-    let Ok(mut sink) = Sink::daily(alloc, face, store, "day.log", 0, 0, 0) else {
-        return Err(OpenError::OutOfMemory.into());
-    };
+    let mut sink = opened_as(alloc, face, MemStore::new(alloc), "day.log", PLAIN)?;
     for (time, text) in [
         (1_709_251_199_999_999_000, "a"),
         (1_709_251_200_000_001_999, "b"),
@@ -71,10 +63,7 @@ fn time_since_a_line_of_the_day_before(rt: HostRuntime) -> Result<(), Fail> {
 fn a_name_that_begins_with_a_dot(rt: HostRuntime) -> Result<(), Fail> {
     let alloc = rt.alloc();
     let face = face(alloc, 0)?;
-    let store = MemStore::new(alloc);
-    let Ok(mut sink) = Sink::daily(alloc, face, store, ".hidden", 0, 0, 0) else {
-        return Err(OpenError::OutOfMemory.into());
-    };
+    let mut sink = opened_as(alloc, face, MemStore::new(alloc), ".hidden", PLAIN)?;
     writes(&rt, &mut sink, 1_709_251_199_999_999_999, "a");
     has_only(&rt, sink.store(), &[(".hidden_2024-02-29", "a\n")]);
     Ok(())
@@ -224,6 +213,7 @@ fn refuses(
         Ok(_) => None,
         Err(refused) => Some(refused.error),
     };
+    assert!(rt; found != Some(OpenError::OutOfMemory), "out of memory");
     assert!(rt; found == error, "{hour}:{minute} {max_files} {name}");
     Ok(())
 }
@@ -240,16 +230,15 @@ fn refused_daily_sinks(rt: HostRuntime) -> Result<(), Fail> {
 // Two days within one file, and a flush, where the call `k` fails and passes two bytes of an append: what is left in the
 // one file, and what a further flush answers.
 fn fused(rt: &(impl Abort + AllocGlobal), k: u64, file: &str, text: &str) -> Result<(), Fail> {
-    let store = FuseStore::new(MemStore::new(rt.alloc()), k, 2);
     let plan = Plan {
         max_files: 1,
         ..PLAIN
     };
-    let mut sink = opened(rt.alloc(), store, plan)?;
+    let mut sink = opened(rt.alloc(), fuse(rt.alloc(), k, 2), plan)?;
     gives(rt, &mut sink, START, "aaa", where_it_fails(k, 0, 0));
     gives(rt, &mut sink, START + DAY, "bbb", where_it_fails(k, 1, 2));
     flushes(rt, &mut sink, where_it_fails(k, 3, 3).map(|_| ()));
-    has_only(rt, files(&sink), &[(file, text)]);
+    has_only(rt, files(rt, &sink), &[(file, text)]);
     let after = if k < 4 {
         Err(SinkError::Broken)
     } else {
@@ -279,12 +268,98 @@ fn each_call_of_a_day_failing(rt: HostRuntime) -> Result<(), Fail> {
     fused(&rt, 9, "day_2024-02-29.log", "bbb\n")
 }
 
+// What a sink is given: a time, a text, and the first and the last call of its store that it makes for it.
+type Given<'a> = (i64, &'a str, u64, u64);
+
+// What the files have where the call of this number fails and passes two bytes of an append.
+type Left<'a> = &'a [(&'a str, &'a str)];
+
+// Each call of a sink by this plan failing, and the one behind the last, which is its flush.
+fn each_call(
+    rt: &(impl Abort + AllocGlobal),
+    plan: Plan,
+    given: &[Given<'_>],
+    flush: u64,
+    left: &[Left<'_>],
+) -> Result<(), Fail> {
+    for (call, files_left) in left.iter().enumerate() {
+        let call = call as u64;
+        let mut sink = opened(rt.alloc(), fuse(rt.alloc(), call, 2), plan)?;
+        for (time, text, first, last) in given {
+            let wanted = where_it_fails(call, *first, *last);
+            gives(rt, &mut sink, *time, text, wanted);
+        }
+        flushes(
+            rt,
+            &mut sink,
+            where_it_fails(call, flush, flush).map(|_| ()),
+        );
+        has_only(rt, files(rt, &sink), files_left);
+    }
+    Ok(())
+}
+
+const TWO_DAYS: [Given<'_>; 3] = [
+    (1_709_251_199_999_999_999, "aaa", 0, 0),
+    (1_709_251_200_000_000_000, "bbb", 1, 1),
+    (1_709_247_600_000_000_000, "ccc", 2, 2),
+];
+
+const LEFT_OF_TWO_DAYS: [Left<'_>; 5] = [
+    &[("day_2024-02-29.log", "aa")],
+    &[
+        ("day_2024-02-29.log", "aaa\n"),
+        ("day_2024-03-01.log", "bb"),
+    ],
+    &[
+        ("day_2024-02-29.log", "aaa\n"),
+        ("day_2024-03-01.log", "bbb\ncc"),
+    ],
+    BOTH_DAYS,
+    BOTH_DAYS,
+];
+
+const BOTH_DAYS: Left<'_> = &[
+    ("day_2024-02-29.log", "aaa\n"),
+    ("day_2024-03-01.log", "bbb\nccc\n"),
+];
+
+#[test]
+fn each_call_of_two_days_failing(rt: HostRuntime) -> Result<(), Fail> {
+    each_call(&rt, PLAIN, &TWO_DAYS, 3, &LEFT_OF_TWO_DAYS)
+}
+
+const MAKING_WAY: [Given<'_>; 3] = [
+    (1_709_269_200_000_000_000, "aaa", 0, 0),
+    (1_709_276_400_000_000_000, "bbb", 1, 1),
+    (1_709_362_800_000_000_000, "ccc", 2, 3),
+];
+
+// The file that makes way is removed before the next one is made.
+const LEFT_OF_MAKING_WAY: [Left<'_>; 6] = [
+    &[("day_2024-03-01.log", "aa")],
+    &[("day_2024-03-01.log", "aaa\nbb")],
+    &[("day_2024-03-01.log", "aaa\nbbb\n")],
+    &[("day_2024-03-02.log", "cc")],
+    &[("day_2024-03-02.log", "ccc\n")],
+    &[("day_2024-03-02.log", "ccc\n")],
+];
+
+#[test]
+fn each_call_of_a_file_that_makes_way_failing(rt: HostRuntime) -> Result<(), Fail> {
+    let plan = Plan {
+        hour: 6,
+        max_files: 1,
+        ..PLAIN
+    };
+    each_call(&rt, plan, &MAKING_WAY, 4, &LEFT_OF_MAKING_WAY)
+}
+
 // A line is cut off after so many bytes.
 fn part_of_a_line(rt: &(impl Abort + AllocGlobal), part: usize) -> Result<(), Fail> {
-    let store = FuseStore::new(MemStore::new(rt.alloc()), 0, part);
-    let mut sink = opened(rt.alloc(), store, PLAIN)?;
+    let mut sink = opened(rt.alloc(), fuse(rt.alloc(), 0, part), PLAIN)?;
     gives(rt, &mut sink, START, "abc", Err(SinkError::Store));
-    let found = files(&sink).and_then(|store| store.files().get("day_2024-02-28.log"));
+    let found = files(rt, &sink).and_then(|store| store.files().get("day_2024-02-28.log"));
     let bytes = found.map_or(&[][..], |file| file.as_slice());
     assert!(rt; b"abc\n".iter().take(part).eq(bytes.iter()), "{part}");
     gives(rt, &mut sink, START, "abc", Err(SinkError::Broken));

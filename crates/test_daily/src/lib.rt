@@ -1,6 +1,6 @@
 //! Tests of daily sinks over the public surface of `alog_sink`.
 //!
-//! They are here, and not in `alog_sink`, since a crate with tests is proved twice. Read `sinks.rt` (what the tests share)
+//! They are here, and not in `alog_sink`, since a crate with tests is proved twice. Read `sinks.rt` and `stores.rt` (what the tests share)
 //! and `daily_tests.rt` (which file each line goes to, which files are kept, stores that fail), `zone_tests.rt`
 //! (days by rules), then `period.rt` and `daily_plain_tests.rt` (the definition as a plain program, beside what a daily
 //! sink does).
@@ -13,6 +13,8 @@ mod daily_tests;
 mod period;
 #[cfg(test)]
 mod sinks;
+#[cfg(test)]
+mod stores;
 #[cfg(test)]
 mod zone_tests;
 

@@ -1,8 +1,9 @@
 //! What the tests of daily sinks share: sinks by a plan, and calls of them with the answer wanted.
 //!
 //! A call of these in a test is one step of its proof, which no branch follows: so a test of many calls stays cheap.
+use crate::stores::Noting;
 use alog_format::{Context, LineBuf, OFFSET_MAX, Zone};
-use alog_msg::{Level, Message};
+use alog_msg::{Level, Message, MessageError};
 use alog_pattern::Pattern;
 use alog_sink::{Face, FuseStore, MemStore, Names, Sink, SinkError, Store, Taken};
 use std::alloc::Global;
@@ -48,14 +49,24 @@ pub fn face(alloc: Global, offset: i16) -> Result<Face, Fail> {
 
 // The sink, or the refusal as an error of the test.
 pub fn opened<S: Store + Drop>(alloc: Global, store: S, plan: Plan) -> Result<Sink<S>, Fail> {
-    let face = face(alloc, plan.offset)?;
+    opened_as(alloc, face(alloc, plan.offset)?, store, "day.log", plan)
+}
+
+// The same of another face and another name.
+pub fn opened_as<S: Store + Drop>(
+    alloc: Global,
+    face: Face,
+    store: S,
+    name: &str,
+    plan: Plan,
+) -> Result<Sink<S>, Fail> {
     let Plan {
         hour,
         minute,
         max_files,
         ..
     } = plan;
-    match Sink::daily(alloc, face, store, "day.log", hour, minute, max_files) {
+    match Sink::daily(alloc, face, store, name, hour, minute, max_files) {
         Ok(sink) => Ok(sink),
         Err(unopened) => Err(unopened.error.into()),
     }
@@ -68,17 +79,20 @@ pub fn answer_to<S: Store>(
     time: i64,
     text: &str,
 ) -> Result<Taken, SinkError> {
-    let Ok(message) = Message::new(rt.alloc(), 64, 0, Level::Info, time, 1, text, None) else {
-        panic!(rt; "no message of {text}")
+    let message = match Message::new(rt.alloc(), 64, 0, Level::Info, time, 1, text, None) {
+        Ok(message) => message,
+        Err(MessageError::OutOfMemory) => panic!(rt; "out of memory"),
+        Err(_) => panic!(rt; "no message of {text}"),
     };
     let Ok(mut line) = LineBuf::new(rt.alloc(), 1_024) else {
-        panic!(rt; "no buffer")
+        panic!(rt; "out of memory")
     };
     assert!(rt; sink.may_take(&message, &line), "{text}");
     sink.take(&message, &mut line)
 }
 
-// Gives a text of a time to a sink, which answers this.
+// Gives a text of a time to a sink, which answers this. Where its store fails and is not to, the test ends with these words alone:
+// files in memory fail for want of it.
 pub fn gives<S: Store>(
     rt: &(impl Abort + AllocGlobal),
     sink: &mut Sink<S>,
@@ -87,6 +101,8 @@ pub fn gives<S: Store>(
     wanted: Result<Taken, SinkError>,
 ) {
     let answer = answer_to(rt, sink, time, text);
+    let is_faulted = answer == Err(SinkError::Store) && answer != wanted;
+    assert!(rt; !is_faulted, "the store failed");
     assert!(rt; answer == wanted, "{text}: {answer:?}");
 }
 
@@ -119,7 +135,18 @@ pub fn has_only(rt: &impl Abort, store: Option<&MemStore>, files: &[(&str, &str)
     }
 }
 
-// The files of the sink's store behind its fuse, or none of a fan.
-pub fn files(sink: &Sink<FuseStore<MemStore>>) -> Option<&MemStore> {
-    sink.store().map(|fuse| fuse.store())
+// A store that fails the call after so many, and passes so many bytes of an append.
+pub fn fuse(alloc: Global, calls: u64, part: usize) -> FuseStore<Noting> {
+    let files = Noting {
+        files: MemStore::new(alloc),
+        has_failed: false,
+    };
+    FuseStore::new(files, calls, part)
+}
+
+// The files of the sink's store behind its fuse, or none of a fan. The test ends here where there was no memory for them.
+pub fn files<'a>(rt: &impl Abort, sink: &'a Sink<FuseStore<Noting>>) -> Option<&'a MemStore> {
+    let noting = sink.store().map(|fuse| fuse.store())?;
+    assert!(rt; !noting.has_failed, "the store failed");
+    Some(&noting.files)
 }

@@ -1,7 +1,7 @@
 //! Lines and line buffers.
 use crate::pattern_tests::{LIMIT, compiled};
 use alog_format::{Context, LineBuf, NoRoomError, Zone, clock_time, format};
-use alog_msg::{Level, Message, SourceRef};
+use alog_msg::{Level, Message, MessageError, SourceRef};
 use alog_pattern::Pattern;
 use std::process::Abort;
 
@@ -57,6 +57,7 @@ pub fn message(rt: &(impl Abort + AllocGlobal), said: Said<'_>) -> Message {
     } = said;
     match Message::new(rt.alloc(), LIMIT, 0, level, time, 5, text, source) {
         Ok(message) => message,
+        Err(MessageError::OutOfMemory) => panic!(rt; "out of memory"),
         Err(_) => panic!(rt; "no message"),
     }
 }
@@ -64,7 +65,7 @@ pub fn message(rt: &(impl Abort + AllocGlobal), said: Said<'_>) -> Message {
 pub fn buffer(rt: &(impl Abort + AllocGlobal), capacity: usize) -> LineBuf {
     match LineBuf::new(rt.alloc(), capacity) {
         Ok(line) => line,
-        Err(_) => panic!(rt; "no memory"),
+        Err(_) => panic!(rt; "out of memory"),
     }
 }
 
@@ -358,7 +359,7 @@ fn has_no_room_at_all(rt: HostRuntime) {
 fn row(rt: &(impl Abort + AllocGlobal)) -> Vec<u8> {
     let mut bytes = Vec::new(rt.alloc());
     for i in 0u32..1_000 {
-        assert!(rt; bytes.push((i % 251) as u8).is_ok());
+        assert!(rt; bytes.push((i % 251) as u8).is_ok(), "out of memory");
     }
     bytes
 }
@@ -403,7 +404,7 @@ fn writes_lines_one_behind_another(rt: HostRuntime) {
 #[test]
 fn tells_the_error(rt: HostRuntime) {
     let Ok(text) = format!(in rt.alloc(); "{NoRoomError}") else {
-        panic!(rt; "no memory")
+        panic!(rt; "out of memory")
     };
     assert!(rt; text.as_str() == "the line buffer has no room");
 }
@@ -413,7 +414,7 @@ fn what_is_printed_of_a_line_buffer(rt: HostRuntime) {
     let mut line = buffer(&rt, 8);
     puts(&rt, &mut line, "abc", true, "abc");
     let Ok(text) = format!(in rt.alloc(); "{line:?}") else {
-        panic!(rt; "no memory")
+        panic!(rt; "out of memory")
     };
     assert!(rt; text.as_str() == "LineBuf { len: 3, capacity: 8, .. }");
 }

@@ -18,6 +18,7 @@ fn made(
 fn message(rt: &(impl Abort + AllocGlobal), text: &str, source: Option<SourceRef<'_>>) -> Message {
     match made(rt, text, source) {
         Ok(message) => message,
+        Err(MessageError::OutOfMemory) => panic!(rt; "out of memory"),
         Err(_) => panic!(rt; "no message"),
     }
 }
@@ -31,6 +32,7 @@ fn is_refused(
 ) {
     match made(rt, text, source) {
         Ok(_) => panic!(rt; "no error"),
+        Err(MessageError::OutOfMemory) => panic!(rt; "out of memory"),
         Err(found) => assert!(rt; found == error),
     }
 }
@@ -68,25 +70,20 @@ fn other_names_of_levels(rt: HostRuntime) {
 }
 
 #[test]
-fn text_of_a_string(rt: HostRuntime) {
+fn text_with_its_bytes(rt: HostRuntime) {
     for (bytes, len) in [("né", 3), ("", 0)] {
-        let Ok(string) = String::from_str(rt.alloc(), bytes) else {
-            panic!(rt; "no memory")
+        let Ok(text) = Text::copy_of(rt.alloc(), bytes) else {
+            panic!(rt; "out of memory")
         };
-        let text = Text::from_string(string);
         assert!(rt; (text.len(), text.is_empty()) == (len, len == 0));
         assert!(rt; text.as_bytes() == bytes.as_bytes());
     }
 }
 
-/// What is printed of a short text and of one that lies in memory.
-fn printed(alloc: Global, text: &str) -> Result<(String, String), AllocError> {
-    let short = Text::copy_of(alloc, text)?;
-    let long = Text::from_string(String::from_str(alloc, text)?);
-    Ok((
-        format!(in alloc; "{short:?}")?,
-        format!(in alloc; "{long:?}")?,
-    ))
+/// What is printed of a text.
+fn printed(alloc: Global, text: &str) -> Result<String, AllocError> {
+    let text = Text::copy_of(alloc, text)?;
+    format!(in alloc; "{text:?}")
 }
 
 #[test]
@@ -95,14 +92,15 @@ fn texts_are_printed_as_they_read(rt: HostRuntime) {
         ("né", "\"né\""),
         ("", "\"\""),
         ("say \"a\"\n", "\"say \\\"a\\\"\\n\""),
+        (
+            "a text that is longer than sixty-four bytes, and says \"a\" and \"b\"\n",
+            "\"a text that is longer than sixty-four bytes, and says \\\"a\\\" and \\\"b\\\"\\n\"",
+        ),
     ] {
-        let Ok((short, long)) = printed(rt.alloc(), text) else {
-            panic!(rt; "no memory")
+        let Ok(found) = printed(rt.alloc(), text) else {
+            panic!(rt; "out of memory")
         };
-        assert!(rt;
-            (short.as_str(), long.as_str()) == (wanted, wanted),
-            "{short}, {long}"
-        );
+        assert!(rt; found.as_str() == wanted, "{found}");
     }
 }
 
@@ -138,7 +136,7 @@ fn has_the_source(rt: &impl Abort, message: &Message) {
 fn copy(rt: &(impl Abort + AllocGlobal), message: &Message) -> Message {
     match message.copy(rt.alloc()) {
         Ok(copy) => copy,
-        Err(_) => panic!(rt; "no memory"),
+        Err(_) => panic!(rt; "out of memory"),
     }
 }
 
@@ -168,22 +166,34 @@ fn is_copied(rt: &(impl Abort + AllocGlobal), count: usize) {
             assert!(rt; text.as_str() == letters.as_str());
             assert!(rt; text.as_bytes() == letters.as_bytes());
         }
-        Err(_) => panic!(rt; "no memory"),
+        Err(_) => panic!(rt; "out of memory"),
     }
 }
 
 #[test]
 fn copies_of_short_and_long_texts(rt: HostRuntime) {
-    for count in [0, 1, 63, SHORT_TEXT_MAX, SHORT_TEXT_MAX + 1, 8_192] {
+    for count in [
+        0,
+        1,
+        63,
+        SHORT_TEXT_MAX,
+        SHORT_TEXT_MAX + 1,
+        512,
+        513,
+        2_048,
+        2_049,
+        8_192,
+        8_193,
+    ] {
         is_copied(&rt, count);
     }
 }
 
 /// So many letters.
-fn letters(rt: &(impl Abort + AllocGlobal), count: usize) -> String {
+pub fn letters(rt: &(impl Abort + AllocGlobal), count: usize) -> String {
     let mut text = String::new(rt.alloc());
     for _ in 0..count {
-        assert!(rt; text.push('a').is_ok());
+        assert!(rt; text.push('a').is_ok(), "out of memory");
     }
     text
 }

@@ -18,7 +18,7 @@ fn pads(rt: &(impl Abort + AllocGlobal), width: usize, side: Side, sign: &str, l
     let line = format!(in rt.alloc(); "{}{text}{}|", &SPACES[..before], &SPACES[..behind]);
     match (pattern, line) {
         (Ok(pattern), Ok(line)) => check(rt, pattern.as_str(), &UTC, said, line.as_str()),
-        _ => panic!(rt; "no memory"),
+        _ => panic!(rt; "out of memory"),
     }
 }
 

@@ -7,6 +7,7 @@ pub const LIMIT: usize = 2048;
 pub fn compiled(rt: &(impl Abort + AllocGlobal), pattern: &[u8]) -> Pattern {
     match Pattern::compile(rt.alloc(), pattern, LIMIT) {
         Ok(pattern) => pattern,
+        Err(PatternError::OutOfMemory) => panic!(rt; "out of memory"),
         Err(_) => panic!(rt; "no pattern"),
     }
 }
@@ -22,6 +23,7 @@ fn spells(rt: &(impl Abort + AllocGlobal), pattern: &str, items: &[Item], longes
 fn is_refused(rt: &(impl Abort + AllocGlobal), pattern: &[u8], error: PatternError) {
     match Pattern::compile(rt.alloc(), pattern, LIMIT) {
         Ok(_) => panic!(rt; "no error"),
+        Err(PatternError::OutOfMemory) => panic!(rt; "out of memory"),
         Err(found) => assert!(rt; found == error),
     }
 }
@@ -119,7 +121,8 @@ fn counts_elapsed_times(rt: HostRuntime) {
 fn repeated(rt: &(impl Abort + AllocGlobal), spelling: &str, times: usize) -> Vec<u8> {
     let mut pattern = Vec::new(rt.alloc());
     for _ in 0..times {
-        assert!(rt; pattern.extend_from_slice(spelling.as_bytes()).is_ok());
+        let is_longer = pattern.extend_from_slice(spelling.as_bytes()).is_ok();
+        assert!(rt; is_longer, "out of memory");
     }
     pattern
 }
@@ -144,7 +147,7 @@ fn compiles_every_length(rt: HostRuntime) {
 fn says(rt: &(impl Abort + AllocGlobal), error: PatternError, text: &str) {
     match format!(in rt.alloc(); "{error}") {
         Ok(said) => assert!(rt; said.as_str() == text),
-        Err(_) => panic!(rt; "no memory"),
+        Err(_) => panic!(rt; "out of memory"),
     }
 }
 

@@ -49,7 +49,7 @@ fn is_told(rt: &impl Abort, alloc: Global, out: &SeatsOut) {
             let is = shown.as_str() == "not all seats are here";
             assert!(rt; is && debug.as_str() == "SeatsOut { .. }");
         }
-        _ => panic!(rt; "there is memory"),
+        _ => panic!(rt; "out of memory"),
     }
 }
 

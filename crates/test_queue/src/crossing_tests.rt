@@ -90,7 +90,7 @@ fn are_all_below(
 ) {
     match sorted(one, two) {
         Ok(all) => assert!(rt; all.iter().copied().eq(0..count)),
-        Err(_) => panic!(rt; "there is memory"),
+        Err(_) => panic!(rt; "out of memory"),
     }
 }
 

@@ -1,4 +1,4 @@
-ghost use Rattle.std.specs.Prelude.{◌≡◌, ℕ, List, [], ◌∷◌, IfSome, IfNone};
+ghost use Rattle.std.specs.Prelude.{◌≡◌, ℕ, List, [], ◌∷◌, IfSome, IfNone, IfOk};
 ghost use Rattle.alog_policy.specs.Runs.{StepMade, IsRun, called, ToPost};
 ghost use Rattle.alog_policy.specs.DeskOutlet.{IsFree, DeskDid};
 ghost use Rattle.alog_policy.specs.Outlet.{PostsNow};
@@ -14,6 +14,7 @@ use std::test::Fail;
 fn new_desk(rt: &impl Abort, alloc: Global, places: usize, first: u64) -> Desk<char> {
     match Desk::new(alloc, places, first) {
         Ok(desk) => desk,
+        Err(WorldError::OutOfMemory) => panic!(rt; "out of memory"),
         Err(_) => panic!(rt; "no desk of {places} places from {first}"),
     }
 }
@@ -167,7 +168,7 @@ fn stalls_at_idle(rt: HostRuntime) {
 // The cells of a desk are these.
 fn has_cells(rt: &impl Abort, alloc: Global, desk: &Desk<char>, wanted: &[(u64, Mark)]) {
     let Ok(cells) = desk.cells(alloc) else {
-        panic!(rt; "there is memory")
+        panic!(rt; "out of memory")
     };
     let shown = cells.iter().map(|cell| (cell.ticket, cell.mark));
     assert!(rt; shown.eq(wanted.iter().copied()));
@@ -255,7 +256,9 @@ fn sizes_and_first_tickets_of_a_desk(rt: HostRuntime) {
         (65_536, TICKET_END - 1, None),
     ] {
         let made = Desk::<char>::new(rt.alloc(), places, first);
-        assert!(rt; made.err() == refused, "{places}, {first}");
+        let found = made.err();
+        assert!(rt; found != Some(WorldError::OutOfMemory), "out of memory");
+        assert!(rt; found == refused, "{places}, {first}");
     }
 }
 
@@ -315,26 +318,25 @@ fn a_caller_knows_the_desk(rt: HostRuntime) -> Result<(), Fail> {
 }
 
 // What a caller knows of a run: a post begins on a new desk and makes a step.
-fn first_step(alloc: Global, value: u64) -> Option<Desk<u64>>
-    ensures { IfSome result (λ d. (steps : List (StepMade ℕ))
+fn first_step(alloc: Global, value: u64) -> Result<Desk<u64>, Fail>
+    ensures { IfOk result (λ d. (steps : List (StepMade ℕ))
         × IsRun 2 5 (called 1 (ToPost under.Block value) ∷ []) steps d) }
 {
-    let Ok(mut desk) = Desk::new(alloc, 2, 5) else {
-        return None;
-    };
+    let mut desk = Desk::new(alloc, 2, 5)?;
     let Ok(()) = desk.begin_post(1, Policy::Block, value) else {
-        return None;
+        return Err(Fail::new("no post begins"));
     };
     let Ok(_) = desk.step(1) else {
-        return None;
+        return Err(Fail::new("no step is made"));
     };
     runs_are_cut::<u64>();
-    Some(desk)
+    Ok(desk)
 }
 
 #[test]
-fn a_caller_knows_a_run(rt: HostRuntime) {
-    assert!(rt; first_step(rt.alloc(), 7).is_some());
+fn a_caller_knows_a_run(rt: HostRuntime) -> Result<(), Fail> {
+    first_step(rt.alloc(), 7)?;
+    Ok(())
 }
 
 // A post that is made at once, by actor 3, ends so.

@@ -90,7 +90,7 @@ fn a_lane_over_a_sum(rt: HostRuntime) -> Result<(), Fail> {
 fn says(rt: &impl Abort, shown: Result<String, AllocError>, wanted: &str) {
     match shown {
         Ok(shown) => assert!(rt; shown.as_str() == wanted),
-        Err(_) => panic!(rt; "there is memory"),
+        Err(_) => panic!(rt; "out of memory"),
     }
 }
 
@@ -190,6 +190,7 @@ fn take_two_turns<'a>(
     let mut scratch = Vec::new(alloc);
     let once = lane.turn_once(seat, 3, &8, &mut scratch);
     let waited = lane.turn(rt, seat, 4, &9, &mut scratch);
+    assert!(rt; scratch.len() == 2, "out of memory");
     assert!(rt; once == Ok((0, 8)) && waited == (1, 9));
     assert!(rt; scratch.as_slice() == [8, 9].as_slice());
 }

@@ -2,6 +2,7 @@
 ghost use Rattle.alog_ring.specs.Known.{IsPassOf};
 
 use crate::queue_tests::{pops, pushes, world};
+use crate::swap_ring_tests::{leaves, swaps_in, swaps_out};
 use alog_core::{Mark, World};
 use alog_ring::{NewError, SwapNewError, SwapPass, SwapRing};
 use std::alloc::{AllocError, Global};
@@ -97,12 +98,7 @@ fn want_of_memory_for_a_swap_ring(rt: HostRuntime) {
     let mut wanting = false;
     let spares = spares_at_last(&rt, rt.alloc(), &mut wanting);
     let (ring, mut pass) = swap_ring_at_last(&rt, rt.alloc(), spares, &mut wanting);
-    assert!(rt; matches!(ring.push_swap(&mut pass, 7), Ok((5, 101))));
-    assert!(rt; matches!(ring.pop_swap(&mut pass, 102), Ok((5, 7))));
-    match ring.close(pass) {
-        Ok((cells, spares)) => {
-            assert!(rt; cells.is_empty() && spares.as_slice() == [100, 102].as_slice());
-        }
-        Err(_) => panic!(rt; "no pass is out"),
-    }
+    swaps_in(&rt, &ring, &mut pass, 7, (5, 101));
+    swaps_out(&rt, &ring, &mut pass, 102, (5, 7));
+    leaves(&rt, ring, pass, &[], &[100, 102]);
 }

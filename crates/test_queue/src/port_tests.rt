@@ -8,7 +8,7 @@ use alog_policy::{
     BookSeat, Counts, LossBook, Outcome, Policy, Port, SeatsOut, Why, post_from, post_now,
     post_wait,
 };
-use alog_ring::{Pass, Ring};
+use alog_ring::{NewError, Pass, Ring};
 use std::alloc::Global;
 use std::process::Abort;
 use std::sync::Wait;
@@ -42,6 +42,7 @@ fn ring_of_two(rt: &impl Abort, alloc: Global, first: u64) -> (Ring<u64>, Pass<u
 {
     match Ring::new(alloc, 2, first) {
         Ok(made) => made,
+        Err(NewError::OutOfMemory) => panic!(rt; "out of memory"),
         Err(_) => panic!(rt; "no ring from {first}"),
     }
 }
@@ -53,7 +54,7 @@ pub(crate) fn new_book(rt: &impl Abort, alloc: Global) -> (LossBook, BookSeat)
 {
     match LossBook::new(alloc) {
         Ok(made) => made,
-        Err(_) => panic!(rt; "there is memory"),
+        Err(_) => panic!(rt; "out of memory"),
     }
 }
 

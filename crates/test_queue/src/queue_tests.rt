@@ -1,4 +1,4 @@
-ghost use Rattle.std.specs.Prelude.{◌≡◌, ◌≢◌, ◌<◌, ◌-◌, IfSome};
+ghost use Rattle.std.specs.Prelude.{◌≡◌, ◌≢◌, ◌<◌, ◌-◌, IfOk};
 ghost use Rattle.std.specs.List.{AllPairs, range_with_len};
 ghost use Rattle.alog_core.specs.History.{StandsFor};
 ghost use Rattle.alog_core.specs.Accounts.{issued, handed_out};
@@ -23,17 +23,15 @@ fn run_anew(
     places: usize,
     first: u64,
     calls: Vec<Call<u64>>,
-) -> Option<(World<u64>, Vec<Answer<u64>>)>
-    ensures stands { IfSome result (λ r. StandsFor places first (entries_of_run (fresh places first) calls.items) r.0.queue) }
-    ensures told { IfSome result (λ r. TellAll calls.items r.1.items (entries_of_run (fresh places first) calls.items)) }
+) -> Result<(World<u64>, Vec<Answer<u64>>), WorldError>
+    ensures stands { IfOk result (λ r. StandsFor places first (entries_of_run (fresh places first) calls.items) r.0.queue) }
+    ensures told { IfOk result (λ r. TellAll calls.items r.1.items (entries_of_run (fresh places first) calls.items)) }
 {
-    let Ok(mut world) = World::new(alloc, places, first) else {
-        return None;
-    };
+    let mut world = World::new(alloc, places, first)?;
     let Ok(answers) = world.run(alloc, calls) else {
-        return None;
+        return Err(WorldError::OutOfMemory);
     };
-    Some((world, answers))
+    Ok((world, answers))
 }
 
 /// A run of calls on a new queue: the tickets issued are those from the first on, and none is handed out twice.
@@ -42,21 +40,22 @@ fn run_counted(
     places: usize,
     first: u64,
     calls: Vec<Call<u64>>,
-) -> Option<World<u64>>
-    ensures in_order { IfSome result (λ w. issued (entries_of_run (fresh places first) calls.items)
+) -> Result<World<u64>, WorldError>
+    ensures in_order { IfOk result (λ w. issued (entries_of_run (fresh places first) calls.items)
         ≡ range_with_len first (w.queue.next - first)) }
-    ensures once { IfSome result (λ w. AllPairs (λ t u. t ≢ u) (handed_out (entries_of_run (fresh places first) calls.items))) }
+    ensures once { IfOk result (λ w. AllPairs (λ t u. t ≢ u) (handed_out (entries_of_run (fresh places first) calls.items))) }
 {
     let (world, _) = run_anew(alloc, places, first, calls)?;
     tickets_are_issued_in_order::<u64, ()>();
     no_ticket_is_handed_out_twice::<u64, ()>();
-    Some(world)
+    Ok(world)
 }
 
 /// A new queue.
 pub(crate) fn world(rt: &impl Abort, alloc: Global, places: usize, first: u64) -> World<u64> {
     match World::new(alloc, places, first) {
         Ok(world) => world,
+        Err(WorldError::OutOfMemory) => panic!(rt; "out of memory"),
         Err(_) => panic!(rt; "no queue of {places} places from {first}"),
     }
 }
@@ -115,10 +114,17 @@ pub(crate) fn pops(rt: &impl Abort, world: &mut World<u64>, actor: u32, ticket: 
 /// The cells of a queue are these.
 fn has_cells(rt: &impl Abort, alloc: Global, world: &World<u64>, wanted: &[(u64, Mark)]) {
     let Ok(cells) = world.cells(alloc) else {
-        panic!(rt; "there is memory")
+        panic!(rt; "out of memory")
     };
     let shown = cells.iter().map(|cell| (cell.ticket, cell.mark));
     assert!(rt; shown.eq(wanted.iter().copied()));
+}
+
+// There is no queue for this reason, or there is one.
+fn is_refused(rt: &impl Abort, made: Result<World<u64>, WorldError>, refused: Option<WorldError>) {
+    let found = made.err();
+    assert!(rt; found != Some(WorldError::OutOfMemory), "out of memory");
+    assert!(rt; found == refused, "{found:?} and not {refused:?}");
 }
 
 #[test]
@@ -134,7 +140,7 @@ fn sizes_and_first_tickets(rt: HostRuntime) {
     ];
     for (places, refused) in sizes {
         let made = World::<u64>::new(rt.alloc(), places, 0);
-        assert!(rt; made.err() == refused, "at {places} places");
+        is_refused(&rt, made, refused);
     }
     let firsts = [
         (2, LAST, None),
@@ -143,7 +149,7 @@ fn sizes_and_first_tickets(rt: HostRuntime) {
     ];
     for (places, first, refused) in firsts {
         let made = World::<u64>::new(rt.alloc(), places, first);
-        assert!(rt; made.err() == refused, "at {places} places from {first}");
+        is_refused(&rt, made, refused);
     }
 }
 
@@ -304,7 +310,7 @@ fn runs(
 ) {
     match world.run(alloc, calls) {
         Ok(answers) => assert!(rt; answers.as_slice() == wanted),
-        Err(_) => panic!(rt; "there is memory"),
+        Err(_) => panic!(rt; "out of memory"),
     }
 }
 
@@ -380,7 +386,7 @@ fn items_that_own_memory(rt: HostRuntime) -> Result<(), Fail> {
     let mut world = World::new(rt.alloc(), 2, 5)?;
     match world.run(rt.alloc(), calls) {
         Ok(answers) => assert!(rt; are_of_texts(answers.as_slice())),
-        Err(_) => panic!(rt; "there is memory"),
+        Err(_) => panic!(rt; "out of memory"),
     }
     Ok(())
 }
@@ -399,7 +405,7 @@ fn the_largest_queue(rt: HostRuntime) {
 // All places have a written cell, from ticket 0 on.
 fn all_are_written(rt: &impl Abort, alloc: Global, world: &World<u64>) {
     let Ok(cells) = world.cells(alloc) else {
-        panic!(rt; "there is memory")
+        panic!(rt; "out of memory")
     };
     let shown = cells.iter().map(|cell| (cell.ticket, cell.mark));
     assert!(rt; shown.eq((0..65_536).map(|ticket| (ticket, Mark::Written))));
@@ -433,9 +439,7 @@ fn all_are_taken(rt: &impl Abort, answers: &[Answer<u64>], items: u64) {
 #[test]
 fn a_run_of_hundreds_of_calls(rt: HostRuntime) -> Result<(), Fail> {
     let calls = pushes_and_pops(rt.alloc(), 100)?;
-    let Some((world, answers)) = run_anew(rt.alloc(), 2, 7, calls) else {
-        panic!(rt; "memory is there")
-    };
+    let (world, answers) = run_anew(rt.alloc(), 2, 7, calls)?;
     all_are_taken(&rt, answers.as_slice(), 100);
     has_cells(&rt, rt.alloc(), &world, &[]);
     Ok(())
@@ -462,9 +466,7 @@ fn tickets_of_a_run(rt: HostRuntime) -> Result<(), Fail> {
         Call::Step(1),
         Call::Step(1),
     ]?;
-    let Some(world) = run_counted(rt.alloc(), 2, 7, calls) else {
-        panic!(rt; "memory is there")
-    };
+    let world = run_counted(rt.alloc(), 2, 7, calls)?;
     has_cells(&rt, rt.alloc(), &world, &[(7, Mark::Claimed)]);
     Ok(())
 }

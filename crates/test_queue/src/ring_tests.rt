@@ -1,4 +1,4 @@
-ghost use Rattle.std.specs.Prelude.{◌≡◌, ◌<◌, None, [], ◌∷◌, IsSome, IfSome, IfNone};
+ghost use Rattle.std.specs.Prelude.{◌≡◌, ◌<◌, None, [], ◌∷◌, IsSome, IfSome, IfNone, IfOk};
 ghost use Rattle.alog_ring.specs.Known.{IsPassOf, first_known};
 
 use alog_ring::{ALL_PARTS, Limit, NewError, Pass, PassesOut, PopError, PushError, Ring};
@@ -21,7 +21,9 @@ fn takes_sizes_and_first_tickets(rt: HostRuntime) {
         (32_768, 0, None),
         (65_536, 0, None),
     ] {
-        assert!(rt; Ring::<u64>::new(rt.alloc(), places, first).err() == refused);
+        let found = Ring::<u64>::new(rt.alloc(), places, first).err();
+        assert!(rt; found != Some(NewError::OutOfMemory), "out of memory");
+        assert!(rt; found == refused, "{found:?} and not {refused:?}");
     }
 }
 
@@ -37,6 +39,7 @@ pub(crate) fn ring_of<T>(
 {
     match Ring::new(alloc, places, first) {
         Ok(made) => made,
+        Err(NewError::OutOfMemory) => panic!(rt; "out of memory"),
         Err(_) => panic!(rt; "no ring of {places} places from {first}"),
     }
 }
@@ -162,41 +165,42 @@ fn the_last_ticket_of_all(rt: HostRuntime) {
 }
 
 // A ring that is made and closed: nothing is left in it.
-fn made_and_closed(alloc: Global, places: usize, first: u64) -> Option<Vec<(u64, u64)>>
-    ensures { IfSome result (λ left. left.items ≡ []) }
+fn made_and_closed(alloc: Global, places: usize, first: u64) -> Result<Vec<(u64, u64)>, NewError>
+    ensures { IfOk result (λ left. left.items ≡ []) }
 {
-    let Ok((ring, pass)) = Ring::<u64>::new(alloc, places, first) else {
-        return None;
-    };
+    let (ring, pass) = Ring::<u64>::new(alloc, places, first)?;
     let Ok(left) = ring.close(pass) else {
         unreachable!()
     };
-    Some(left)
+    Ok(left)
 }
 
 // A ring into which a lone pass pushes one value: the push goes through, and exactly that value is left.
-fn one_value_left(alloc: Global, places: usize, first: u64, value: u64) -> Option<Vec<(u64, u64)>>
-    ensures { IfSome result (λ left. left.items ≡ (first, value) ∷ []) }
+fn one_value_left(
+    alloc: Global,
+    places: usize,
+    first: u64,
+    value: u64,
+) -> Result<Vec<(u64, u64)>, NewError>
+    ensures { IfOk result (λ left. left.items ≡ (first, value) ∷ []) }
 {
-    let Ok((ring, mut pass)) = Ring::<u64>::new(alloc, places, first) else {
-        return None;
-    };
+    let (ring, mut pass) = Ring::<u64>::new(alloc, places, first)?;
     let pushed = ring.push_once(&mut pass, value);
     let Ok(left) = ring.close(pass) else {
         unreachable!()
     };
     match pushed {
-        Ok(_) => Some(left),
+        Ok(_) => Ok(left),
         Err(_) => unreachable!(),
     }
 }
 
 #[test]
 fn a_lone_pass_closes_what_it_made(rt: HostRuntime) -> Result<(), Fail> {
-    let left = made_and_closed(rt.alloc(), 2, 7);
-    assert!(rt; left.is_some_and(|left| left.is_empty()));
-    let left = one_value_left(rt.alloc(), 2, 7, 40);
-    assert!(rt; left.is_some_and(|left| left.as_slice() == [(7, 40)].as_slice()));
+    let left = made_and_closed(rt.alloc(), 2, 7)?;
+    assert!(rt; left.is_empty());
+    let left = one_value_left(rt.alloc(), 2, 7, 40)?;
+    assert!(rt; left.as_slice() == [(7, 40)].as_slice());
     Ok(())
 }
 
@@ -334,7 +338,7 @@ fn push_text(
     ensures { IsPassOf ring.now pass.new }
 {
     let Ok(text) = String::from_str(alloc, text) else {
-        panic!(rt; "there is memory")
+        panic!(rt; "out of memory")
     };
     assert!(rt; ring.push_once(pass, text).is_ok());
 }
@@ -404,7 +408,7 @@ fn bring_small(rt: &impl Abort, ring: &Ring<u64, Small>, pass: &mut Pass<u64>)
 #[test]
 fn a_ring_of_small_numbers(rt: HostRuntime) {
     let Ok((ring, mut pass)) = Ring::limited(rt.alloc(), 2, 0, Small) else {
-        panic!(rt; "there is memory")
+        panic!(rt; "out of memory")
     };
     bring_small(&rt, &ring, &mut pass);
     leaves(&rt, ring, pass, &[(1, 3)]);

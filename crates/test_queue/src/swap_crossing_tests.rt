@@ -2,12 +2,13 @@
 ghost use Rattle.std.specs.Prelude.{◌≡◌};
 ghost use Rattle.alog_ring.specs.Known.{IsPassOf};
 
+use crate::swap_ring_tests::swap_ring_of;
 use alog_ring::{PushError, SwapPass, SwapPopError, SwapRing};
 use std::alloc::{AllocError, Global};
 use std::process::Abort;
 use std::sync::Wait;
 use std::test::Fail;
-use std::thread;
+use std::thread::{self, Threads};
 
 // How many values each thread brings, and the spares that are there: those that are brought, and behind them one for each place.
 const COUNT: u64 = 1_000;
@@ -123,15 +124,15 @@ fn sorted(
     two: Result<Vec<u64>, AllocError>,
 ) -> Vec<u64> {
     let (Ok(mut all), Ok(two)) = (one, two) else {
-        panic!(rt; "there is memory");
+        panic!(rt; "out of memory");
     };
     match all.extend_from_slice(two.as_slice()) {
         Ok(()) => {}
-        Err(_) => panic!(rt; "there is memory"),
+        Err(_) => panic!(rt; "out of memory"),
     }
     match all.sort() {
         Ok(()) => all,
-        Err(_) => panic!(rt; "there is memory"),
+        Err(_) => panic!(rt; "out of memory"),
     }
 }
 
@@ -146,16 +147,56 @@ fn are_spares(rt: &impl Abort, got: &[u64]) {
     assert!(rt; firsts.eq(FIRSTS..FIRSTS + PLACES));
 }
 
-#[test]
-fn two_threads_swap_in_and_two_swap_out(rt: HostRuntime) -> Result<(), Fail> {
-    let alloc = rt.alloc();
+// The spares that lie in the places at first.
+fn first_spares(alloc: Global) -> Result<Vec<u64>, AllocError> {
     let mut spares = Vec::new(alloc);
     for spare in FIRSTS..FIRSTS + PLACES {
         spares.push(spare)?;
     }
-    let Ok((ring, mut pass)) = SwapRing::<u64>::new(alloc, 8, (1 << 62) - 4000, spares) else {
-        panic!(rt; "there is memory");
-    };
+    Ok(spares)
+}
+
+// What both workers of one kind answer.
+type Both = (Result<Vec<u64>, AllocError>, Result<Vec<u64>, AllocError>);
+
+// Two threads bring the values, and answer their spares.
+fn swap_in_both(
+    rt: &(impl Threads + Wait + Sync),
+    alloc: Global,
+    one: Worker,
+    two: Worker,
+) -> Both {
+    thread::join(
+        rt,
+        || swap_all_in(rt, alloc, one, 0),
+        || swap_all_in(rt, alloc, two, COUNT),
+    )
+}
+
+// Two threads bring the spares, and answer their values.
+fn swap_out_both(
+    rt: &(impl Threads + Wait + Sync),
+    alloc: Global,
+    one: Worker,
+    two: Worker,
+) -> Both {
+    thread::join(
+        rt,
+        || swap_all_out(rt, alloc, one, BROUGHT),
+        || swap_all_out(rt, alloc, two, BROUGHT + COUNT),
+    )
+}
+
+// Each value was got once.
+fn are_values(rt: &impl Abort, got: &[u64]) {
+    assert!(rt; got.iter().copied().eq(0..2 * COUNT));
+}
+
+#[test]
+fn two_threads_swap_in_and_two_swap_out(rt: HostRuntime) -> Result<(), Fail> {
+    let alloc = rt.alloc();
+    let spares = first_spares(alloc)?;
+    let (ring, mut pass) = swap_ring_of(&rt, 8, (1 << 62) - 4000, spares, alloc);
     let ring = &ring;
     let second = Worker {
         ring,
@@ -172,23 +213,10 @@ fn two_threads_swap_in_and_two_swap_out(rt: HostRuntime) -> Result<(), Fail> {
     let first = Worker { ring, pass };
     let (spares, values) = thread::join(
         &rt,
-        || {
-            thread::join(
-                &rt,
-                || swap_all_in(&rt, alloc, first, 0),
-                || swap_all_in(&rt, alloc, second, COUNT),
-            )
-        },
-        || {
-            thread::join(
-                &rt,
-                || swap_all_out(&rt, alloc, third, BROUGHT),
-                || swap_all_out(&rt, alloc, fourth, BROUGHT + COUNT),
-            )
-        },
+        || swap_in_both(&rt, alloc, first, second),
+        || swap_out_both(&rt, alloc, third, fourth),
     );
-    let got = sorted(&rt, values.0, values.1);
-    assert!(rt; got.iter().copied().eq(0..2 * COUNT));
+    are_values(&rt, sorted(&rt, values.0, values.1).as_slice());
     are_spares(&rt, sorted(&rt, spares.0, spares.1).as_slice());
     Ok(())
 }

@@ -99,67 +99,51 @@ fn posts(
     assert!(rt; left == wanted);
 }
 
+// The places fill up, and one more is discarded.
+fn fill(
+    rt: &(impl Abort + Wait + Clock),
+    ring: &SwapRing<u64>,
+    pass: &mut SwapPass<u64>,
+    book: &LossBook,
+    seat: &mut BookSeat,
+)
+    requires { IsPassOf ring.now.ring pass.old × IsSeatOf book.now seat.old }
+    ensures { IsPassOf ring.now.ring pass.new × IsSeatOf book.now seat.new }
+{
+    let (block, new) = (Policy::Block, Policy::DiscardNew);
+    let first = posted(0, 0, 100, 50);
+    posts(rt, ring, pass, book, seat, block, waiting(7, 50), first);
+    let second = posted(1, 0, 101, 50);
+    posts(rt, ring, pass, book, seat, new, waiting(8, 50), second);
+    let full = lost(9, Why::Full, 50);
+    posts(rt, ring, pass, book, seat, new, at_once(9, 50), full);
+}
+
+// The two that are there are overrun.
+fn overrun(
+    rt: &(impl Abort + Wait + Clock),
+    ring: &SwapRing<u64>,
+    pass: &mut SwapPass<u64>,
+    book: &LossBook,
+    seat: &mut BookSeat,
+)
+    requires { IsPassOf ring.now.ring pass.old × IsSeatOf book.now seat.old }
+    ensures { IsPassOf ring.now.ring pass.new × IsSeatOf book.now seat.new }
+{
+    let over = Policy::OverrunOldest;
+    let third = posted(2, 1, 50, 7);
+    posts(rt, ring, pass, book, seat, over, waiting(9, 50), third);
+    let fourth = posted(3, 1, 51, 8);
+    posts(rt, ring, pass, book, seat, over, at_once(10, 51), fourth);
+}
+
 #[test]
 fn a_swap_port_posts(rt: HostRuntime) -> Result<(), Fail> {
     let spares = vec![in rt.alloc(); 100, 101]?;
     let (ring, mut pass) = swap_ring_of(&rt, 2, 0, spares, rt.alloc());
     let (book, mut seat) = new_book(&rt, rt.alloc());
-    let (block, over, new) = (Policy::Block, Policy::OverrunOldest, Policy::DiscardNew);
-    let first = posted(0, 0, 100, 50);
-    posts(
-        &rt,
-        &ring,
-        &mut pass,
-        &book,
-        &mut seat,
-        block,
-        waiting(7, 50),
-        first,
-    );
-    let second = posted(1, 0, 101, 50);
-    posts(
-        &rt,
-        &ring,
-        &mut pass,
-        &book,
-        &mut seat,
-        new,
-        waiting(8, 50),
-        second,
-    );
-    let full = lost(9, Why::Full, 50);
-    posts(
-        &rt,
-        &ring,
-        &mut pass,
-        &book,
-        &mut seat,
-        new,
-        at_once(9, 50),
-        full,
-    );
-    let third = posted(2, 1, 50, 7);
-    posts(
-        &rt,
-        &ring,
-        &mut pass,
-        &book,
-        &mut seat,
-        over,
-        waiting(9, 50),
-        third,
-    );
-    let fourth = posted(3, 1, 51, 8);
-    posts(
-        &rt,
-        &ring,
-        &mut pass,
-        &book,
-        &mut seat,
-        over,
-        at_once(10, 51),
-        fourth,
-    );
+    fill(&rt, &ring, &mut pass, &book, &mut seat);
+    overrun(&rt, &ring, &mut pass, &book, &mut seat);
     has_lost(&rt, &book, &mut seat, losses(2, 1));
     leaves(&rt, ring, pass, &[(2, 9), (3, 10)], &[]);
     Ok(())

@@ -23,12 +23,18 @@ pub(crate) fn swap_ring_of(
 {
     match SwapRing::<u64>::new(alloc, places, first, spares) {
         Ok(made) => made,
+        Err(
+            SwapNewError {
+                why: NewError::OutOfMemory,
+                ..
+            },
+        ) => panic!(rt; "out of memory"),
         Err(_) => panic!(rt; "no swap ring of {places} places from {first}"),
     }
 }
 
 // A push gets this ticket and this spare.
-fn swaps_in(
+pub(crate) fn swaps_in(
     rt: &impl Abort,
     ring: &SwapRing<u64>,
     pass: &mut SwapPass<u64>,
@@ -54,7 +60,7 @@ fn is_full(rt: &impl Abort, ring: &SwapRing<u64>, pass: &mut SwapPass<u64>, at: 
 }
 
 // A pop that brings this spare takes this value with this ticket.
-fn swaps_out(
+pub(crate) fn swaps_out(
     rt: &impl Abort,
     ring: &SwapRing<u64>,
     pass: &mut SwapPass<u64>,
@@ -146,7 +152,12 @@ fn a_swap_ring_takes_a_spare_for_each_place(rt: HostRuntime) -> Result<(), Fail>
     ] {
         let spares = Vec::from_elem(rt.alloc(), 100, count)?;
         let wanted = why.map(|why| (why, count));
-        assert!(rt; refused(places, first, spares, rt.alloc()) == wanted);
+        let found = refused(places, first, spares, rt.alloc());
+        assert!(rt;
+            found != Some((NewError::OutOfMemory, count)),
+            "out of memory"
+        );
+        assert!(rt; found == wanted);
     }
     Ok(())
 }
@@ -271,7 +282,7 @@ fn through(
 fn a_swap_ring_of_small_numbers(rt: HostRuntime) -> Result<(), Fail> {
     let spares = vec![in rt.alloc(); 1, 2]?;
     let Ok((ring, mut pass)) = SwapRing::limited(rt.alloc(), 2, 0, spares, Small) else {
-        panic!(rt; "there is memory")
+        panic!(rt; "out of memory")
     };
     assert!(rt; through(&ring, &mut pass, 9) == Some((1, 9)));
     assert!(rt; through(&ring, &mut pass, 3) == Some((2, 3)));

@@ -10,7 +10,7 @@ use std::test::Fail;
 fn has_words(rt: &impl Abort, alloc: Global, world: &World<u64>, wanted: &[u64]) {
     match world.words(alloc) {
         Ok(words) => assert!(rt; words.as_slice() == wanted),
-        Err(_) => panic!(rt; "there is memory"),
+        Err(_) => panic!(rt; "out of memory"),
     }
 }
 

@@ -1,9 +1,10 @@
 //! The lines of scripts, readers and writers, and stages without memory.
-use crate::scripts::{Answer, is_replayed, plain, refused, replays};
+use crate::scripts::{Answer, is_replayed, is_right, plain, refused, replays, room_for};
 use alog_replay::{Act, Actor, LineError, Playable, ReplayError, play};
 use std::alloc::{AllocError, Global};
 use std::io;
 use std::io::{Error, ErrorKind, Read, Write};
+use std::process::Abort;
 use std::test::Fail;
 
 // A reader of one byte at a time, which is interrupted before each byte.
@@ -106,13 +107,13 @@ fn lines_byte_by_byte(rt: HostRuntime) {
         bytes: b"ring 2 0\n\n# x\npop 2\nrun 2",
         interrupted: false,
     };
-    assert!(rt; is_replayed(rt.alloc(), &mut script, Ok(5), b"2 idle 0\n"));
+    assert!(rt; is_replayed(&rt, &mut script, Ok(5), b"2 idle 0\n"));
 }
 
 /// Whether a script ends by a read fault behind these bytes, and has printed this.
-fn is_read_fault(alloc: Global, bytes: &[u8], printed: &str) -> bool {
+fn is_read_fault<R: AllocGlobal + Abort>(rt: &R, bytes: &[u8], printed: &str) -> bool {
     let fault = Err(ReplayError::ReadFault);
-    is_replayed(alloc, &mut Fails(bytes), fault, printed.as_bytes())
+    is_replayed(rt, &mut Fails(bytes), fault, printed.as_bytes())
 }
 
 #[test]
@@ -124,7 +125,7 @@ fn no_files_at_a_read_fault(rt: HostRuntime) {
         (b"ring 2 0\npush 1 ".as_slice(), ""),
         (b"".as_slice(), ""),
     ] {
-        assert!(rt; is_read_fault(rt.alloc(), bytes, printed));
+        assert!(rt; is_read_fault(&rt, bytes, printed));
     }
 }
 
@@ -136,15 +137,19 @@ fn commented(alloc: Global, len: usize) -> Result<Vec<u8>, AllocError> {
 }
 
 /// Whether a script with a comment of so many bytes answers this.
-fn is_limit(alloc: Global, len: usize, answer: Answer) -> Result<bool, AllocError> {
-    let script = commented(alloc, len)?;
-    Ok(is_replayed(alloc, &mut script.as_slice(), answer, b""))
+fn is_limit<R: AllocGlobal + Abort>(
+    rt: &R,
+    len: usize,
+    answer: Answer,
+) -> Result<bool, AllocError> {
+    let script = commented(rt.alloc(), len)?;
+    Ok(is_replayed(rt, &mut script.as_slice(), answer, b""))
 }
 
 #[test]
 fn lines_at_their_limit(rt: HostRuntime) -> Result<(), Fail> {
     for (len, answer) in [(16_384, Ok(2)), (16_385, refused(1))] {
-        let is_limit = is_limit(rt.alloc(), len, answer)?;
+        let is_limit = is_limit(&rt, len, answer)?;
         assert!(rt; is_limit);
     }
     Ok(())
@@ -182,20 +187,26 @@ impl Write for Slow {
 }
 
 /// Whether the script is written whole to a writer that is interrupted, and answers this.
-fn is_written(alloc: Global, flush_fails: bool, answer: Answer) -> bool {
+fn is_written<R: AllocGlobal + Abort>(rt: &R, flush_fails: bool, answer: Answer) -> bool {
     let mut writer = Slow {
-        taken: Vec::new(alloc),
+        taken: room_for(rt, PRINTED.len()),
         interrupted: false,
         flush_fails,
     };
-    let found = plain(alloc, &mut SCRIPT.as_bytes(), &mut writer);
-    found == answer && writer.taken.as_slice() == PRINTED.as_bytes()
+    let found = plain(rt.alloc(), &mut SCRIPT.as_bytes(), &mut writer);
+    is_right(
+        rt,
+        found,
+        answer,
+        writer.taken.as_slice(),
+        PRINTED.as_bytes(),
+    )
 }
 
 #[test]
 fn interrupted_writes_and_a_flush_that_fails(rt: HostRuntime) {
     for (flush_fails, answer) in [(false, Ok(5)), (true, Err(ReplayError::WriteFault))] {
-        assert!(rt; is_written(rt.alloc(), flush_fails, answer));
+        assert!(rt; is_written(&rt, flush_fails, answer));
     }
 }
 

@@ -1,19 +1,17 @@
 //! Sinks whose store fails: what they answer then and from then on, and what their files have.
 use crate::sinks::{
     Answer, Deed, Fused, Kept, Named, Plan, Row, answered, fan_of_two, has_just, members_leave,
-    store_of,
+    notes, store_of,
 };
-use crate::stores::{Marking, Noting};
+use crate::stores::Noting;
 use alog_msg::Level;
-use alog_sink::{FuseStore, MemStore, OpenError, Sink, SinkError, Taken, Unopened};
+use alog_sink::{FuseStore, OpenError, SinkError, Taken, Unopened};
 use std::alloc::Global;
-use std::sync::Arc;
-use std::sync::atomic::{AtomicU64, Ordering};
 use std::test::Fail;
 
 /// A store that fails the call after so many, of an append when it has so many bytes.
 fn fuse(alloc: Global, calls: u64, part: usize) -> Fused {
-    FuseStore::new(MemStore::new(alloc), calls, part)
+    FuseStore::new(notes(alloc), calls, part)
 }
 
 /// After how many calls a store fails, how many bytes of an append it has then, and what a memory sink over it does and leaves.
@@ -276,6 +274,56 @@ fn rotating_sinks_whose_store_fails(rt: HostRuntime) -> Result<(), Fail> {
     Ok(())
 }
 
+/// A file that is there when its sink is opened, of nine bytes: a line of six more makes it way.
+const OLD: &[u8] = b"12345678\n";
+
+const OLD_STAYS: &[Deed<'_>] = &[
+    Deed::Fails("aaaaa"),
+    Deed::IsBroken("bbbbb"),
+    Deed::Flushes(Err(SinkError::Broken)),
+];
+
+const OLD_MAKES_WAY: &[Deed<'_>] = &[Deed::Writes("aaaaa"), Deed::Flushes(Err(SinkError::Store))];
+
+const OLD_MADE_WAY: &[Deed<'_>] = &[Deed::Writes("aaaaa"), Deed::Flushes(Ok(()))];
+
+/// Each call behind the one that opens, of a sink over that file.
+const CALLS_OVER_OLD: [Fault<'_>; 5] = [
+    (1, 2, OLD_STAYS, &[("log.txt", OLD)]),
+    (2, 2, OLD_STAYS, &[("log.txt", OLD)]),
+    (3, 2, OLD_STAYS, &[("log.txt", b"aa"), ("log.1.txt", OLD)]),
+    (
+        4,
+        2,
+        OLD_MAKES_WAY,
+        &[("log.txt", b"aaaaa\n"), ("log.1.txt", OLD)],
+    ),
+    (
+        5,
+        2,
+        OLD_MADE_WAY,
+        &[("log.txt", b"aaaaa\n"), ("log.1.txt", OLD)],
+    ),
+];
+
+#[test]
+fn rotating_sinks_over_a_file_that_is_there(rt: HostRuntime) -> Result<(), Fail> {
+    let alloc = rt.alloc();
+    for (i, (calls, part, deeds, files)) in CALLS_OVER_OLD.iter().enumerate() {
+        let old = Noting::new(alloc, store_of(alloc, &[("log.txt", OLD)])?);
+        let row = Row {
+            plan: Plan::rotating("log.txt", 10, 2),
+            deeds,
+            files,
+        };
+        assert!(rt;
+            row.holds(alloc, FuseStore::new(old, *calls, *part))?,
+            "row {i}"
+        );
+    }
+    Ok(())
+}
+
 /// The texts of a fan, of level error, which each of its two members writes by one call, and what a member has that wrote so many.
 const TEXTS: [&str; 3] = ["a", "b", "c"];
 
@@ -321,10 +369,8 @@ fn called(alloc: Global, one: usize, two: usize) -> Result<(Option<usize>, bool)
     } else {
         None
     };
-    Ok((
-        wrong,
-        members_leave(&fan, &[LINES[one.min(3)], LINES[two.min(3)]]),
-    ))
+    let are_left = members_leave(&fan, &[LINES[one.min(3)], LINES[two.min(3)]])?;
+    Ok((wrong, are_left))
 }
 
 #[test]
@@ -339,141 +385,41 @@ fn each_call_of_a_fan_failing(rt: HostRuntime) -> Result<(), Fail> {
 }
 
 /// The refusal of a rotating sink over a store of these files that fails at once.
-fn unopened(alloc: Global, opening: Named<'_>) -> Result<Option<Unopened<Fused>>, Fail> {
-    let store = FuseStore::new(store_of(alloc, opening)?, 0, 0);
-    Ok(Plan::rotating("log", 10, 1).open(alloc, store)?.err())
+fn unopened(
+    alloc: Global,
+    plan: Plan,
+    opening: Named<'_>,
+) -> Result<Option<Unopened<Fused>>, Fail> {
+    let store = FuseStore::new(Noting::new(alloc, store_of(alloc, opening)?), 0, 0);
+    Ok(plan.open(alloc, store)?.err())
 }
 
 /// Why it is refused, and whether it gives back what the store had.
-fn of_a_refusal(alloc: Global, opening: Named<'_>) -> Result<Option<(OpenError, bool)>, Fail> {
-    let refusal = unopened(alloc, opening)?;
+fn of_a_refusal(
+    alloc: Global,
+    plan: Plan,
+    opening: Named<'_>,
+) -> Result<Option<(OpenError, bool)>, Fail> {
+    let refusal = unopened(alloc, plan, opening)?;
     Ok(refusal.map(|it| (it.error, has_just(it.store.kept(), opening))))
 }
 
 #[test]
 fn a_rotating_sink_that_cannot_be_opened(rt: HostRuntime) -> Result<(), Fail> {
-    let refusal = of_a_refusal(rt.alloc(), &[("log", b"old\n")])?;
-    assert!(rt; refusal == Some((OpenError::Store, true)));
-    Ok(())
-}
-
-/// A store that notes which names are flushed.
-fn notes(alloc: Global) -> Noting {
-    Noting {
-        files: MemStore::new(alloc),
-        flushed: String::new(alloc),
-    }
-}
-
-/// Whether just these names were flushed of a sink's store.
-fn flushed(sink: &Sink<Noting>, names: &str) -> bool {
-    sink.store()
-        .is_some_and(|store| store.flushed.as_str() == names)
-}
-
-/// A sink, what is done with it, and which names were flushed then.
-type Flush<'a> = (Plan, &'a [Deed<'a>], &'a str);
-
-const ROTATING: Plan = Plan {
-    file: "log.txt",
-    limits: Some((10, 2)),
-    ..Plan::MEMORY
-};
-
-const FLUSHES: [Flush<'_>; 3] = [
-    (
-        Plan::MEMORY,
-        &[
-            Deed::Flushes(Ok(())),
-            Deed::Writes("a"),
-            Deed::Flushes(Ok(())),
-        ],
-        "log log ",
-    ),
-    (
-        ROTATING,
-        &[Deed::Writes("aaaaa"), Deed::Writes("bbbbb")],
-        "",
-    ),
-    (
-        ROTATING,
-        &[
-            Deed::Writes("aaaaa"),
-            Deed::Writes("bbbbb"),
-            Deed::Flushes(Ok(())),
-        ],
-        "log.txt ",
-    ),
-];
-
-/// Whether a sink answers these deeds as they say, and just these names were flushed then.
-fn does(
-    alloc: Global,
-    sink: &mut Sink<Noting>,
-    deeds: &[Deed<'_>],
-    names: &str,
-) -> Result<bool, Fail> {
-    let count = answered(alloc, sink, deeds)?;
-    Ok(count == deeds.len() && flushed(sink, names))
-}
-
-/// Whether a row holds.
-fn flushes(alloc: Global, flush: Flush<'_>) -> Result<bool, Fail> {
-    let (plan, deeds, names) = flush;
-    let mut sink = plan.opened(alloc, notes(alloc))?;
-    does(alloc, &mut sink, deeds, names)
-}
-
-#[test]
-fn a_flush_names_its_file(rt: HostRuntime) -> Result<(), Fail> {
-    for (i, flush) in FLUSHES.iter().enumerate() {
-        assert!(rt; flushes(rt.alloc(), *flush)?, "row {i}");
-    }
-    Ok(())
-}
-
-/// Whether a flush of a fan flushes the file of each member.
-fn flushes_each(alloc: Global) -> Result<bool, Fail> {
-    let mut fan = fan_of_two(alloc, notes(alloc), notes(alloc))?;
-    let count = answered(alloc, &mut fan, &[Deed::Flushes(Ok(()))])?;
-    let members = fan.members();
-    let are_flushed = members
-        .iter()
-        .all(|member| member.store().flushed.as_str() == "log ");
-    Ok(count == 1 && are_flushed && members.len() == 2)
-}
-
-#[test]
-fn a_flush_of_each_member(rt: HostRuntime) -> Result<(), Fail> {
-    assert!(rt; flushes_each(rt.alloc())?);
-    Ok(())
-}
-
-/// What two members of a fan noted in turn, the first with 1 and the second with 2, where the store of the first fails its call of
-/// this number; none where the fan answers other than the deeds say.
-fn marked(alloc: Global, fails: u64, deeds: &[Deed<'_>]) -> Result<Option<u64>, Fail> {
-    let marks = Arc::new(alloc, AtomicU64::new(0))?;
-    let one = marking(Arc::try_clone(&marks)?, 1, fails);
-    let two = marking(Arc::try_clone(&marks)?, 2, u64::MAX);
-    let mut fan = fan_of_two(alloc, one, two)?;
-    let count = answered(alloc, &mut fan, deeds)?;
-    Ok((count == deeds.len()).then_some(marks.load(Ordering::SeqCst)))
-}
-
-fn marking(marks: Arc<AtomicU64>, digit: u64, fails: u64) -> FuseStore<Marking> {
-    FuseStore::new(Marking { marks, digit }, fails, 0)
-}
-
-// Each line and each flush goes to the first member first, and a fault of its flush does not keep the second from its own.
-#[test]
-fn a_fan_serves_its_members_in_order(rt: HostRuntime) -> Result<(), Fail> {
-    let deeds = [
-        Deed::Gives(Level::Error, "x", Ok(Taken::Written)),
-        Deed::Flushes(Ok(())),
+    let (one, two) = (
+        Plan::rotating("log", 10, 1),
+        Plan::rotating("log.txt", 10, 2),
+    );
+    let openings: [(Plan, Named<'_>); 3] = [
+        (one, &[("log", b"old\n")]),
+        (two, &[]),
+        (two, &[("log.txt", OLD)]),
     ];
-    let in_order = marked(rt.alloc(), u64::MAX, deeds.as_slice())?;
-    let failed = [Deed::Flushes(Err(SinkError::Store))];
-    let behind_a_fault = marked(rt.alloc(), 0, failed.as_slice())?;
-    assert!(rt; (in_order, behind_a_fault) == (Some(1212), Some(2)));
+    for (plan, opening) in openings {
+        let refusal = of_a_refusal(rt.alloc(), plan, opening)?;
+        let is_wanting = matches!(refusal, Some((OpenError::OutOfMemory, _)));
+        assert!(rt; !is_wanting, "out of memory");
+        assert!(rt; refusal == Some((OpenError::Store, true)));
+    }
     Ok(())
 }

@@ -159,7 +159,7 @@ fn lane_over<S: Store + Drop>(
     assert!(rt; may_turn(&sink, one) && may_turn(&sink, two));
     match Lane::new(alloc, sink) {
         Ok(made) => made,
-        Err(_) => panic!(rt; "no memory"),
+        Err(_) => panic!(rt; "out of memory"),
     }
 }
 
@@ -221,6 +221,7 @@ fn write_and_flush(
 {
     let (mut seat, Draft { text, mut line }) = (seat, given);
     let taken = lane.turn_once(&mut seat, 5, &text, &mut line);
+    assert!(rt; taken != Ok((0, Err(SinkError::Store))), "the store failed");
     assert!(rt; taken == Ok((0, Ok(Served::Taken(Taken::Written)))));
     let flushed = lane.turn_once(&mut seat, 6, &Item::Flush(0), &mut line);
     assert!(rt; flushed == Ok((1, Ok(Served::Flushed))));
@@ -237,7 +238,7 @@ fn a_lane_over_a_sink(rt: HostRuntime) -> Result<(), Fail> {
     let sink = Plan::MEMORY.opened(alloc, MemStore::new(alloc))?;
     let (lane, seat) = lane_over(&rt, alloc, sink, &draft, &draft);
     let sink = write_and_flush(&rt, lane, seat, draft);
-    assert!(rt; leaves(&sink, &[("log", b"a\n")]));
+    assert!(rt; leaves(&sink, &[("log", b"a\n")])?);
     Ok(())
 }
 

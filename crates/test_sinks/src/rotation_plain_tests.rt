@@ -2,7 +2,7 @@
 //!
 //! The pieces of a list are the bytes of the base that a sink opens, and the lines that it then writes. The plain program tells
 //! by places in the list what each file has, and takes no memory.
-use crate::sinks::{Plan, given};
+use crate::sinks::{Plan, gives};
 use alog_msg::Level;
 use alog_sink::{MemStore, Sink, Taken};
 use std::alloc::Global;
@@ -244,7 +244,7 @@ impl Case<'_> {
 /// Gives a sink the lines of a list, all pieces but the first. Whether it wrote each.
 fn writes(alloc: Global, sink: &mut Sink<MemStore>, pieces: &[&str]) -> Result<bool, Fail> {
     for text in pieces.iter().skip(1) {
-        if given(alloc, sink, Level::Info, text)? != Some(Ok(Taken::Written)) {
+        if !gives(alloc, sink, Level::Info, text, Ok(Taken::Written))? {
             return Ok(false);
         }
     }

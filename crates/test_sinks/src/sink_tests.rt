@@ -29,18 +29,21 @@ fn names_by_number(rt: HostRuntime) -> Result<(), Fail> {
 }
 
 /// How a name is taken, and whether the names then have it.
-fn pushed(alloc: Global, name: &str) -> (Result<(), NameError>, bool) {
+fn pushed(alloc: Global, name: &str) -> Result<(Result<(), NameError>, bool), NameError> {
     let mut names = Names::new(alloc);
-    let pushed = names.push(alloc, name);
-    (pushed, names.get(0) == name)
+    match names.push(alloc, name) {
+        Err(NameError::OutOfMemory) => Err(NameError::OutOfMemory),
+        pushed => Ok((pushed, names.get(0) == name)),
+    }
 }
 
 #[test]
-fn names_of_64_bytes(rt: HostRuntime) {
+fn names_of_64_bytes(rt: HostRuntime) -> Result<(), Fail> {
     let longest = "nnnnnnnnnnnnnnnnnnnnnnnnnnnnnnnnnnnnnnnnnnnnnnnnnnnnnnnnnnnnnnnn";
     let longer = "nnnnnnnnnnnnnnnnnnnnnnnnnnnnnnnnnnnnnnnnnnnnnnnnnnnnnnnnnnnnnnnnn";
-    assert!(rt; pushed(rt.alloc(), longest) == (Ok(()), true));
-    assert!(rt; pushed(rt.alloc(), longer) == (Err(NameError::NameTooLong), false));
+    assert!(rt; pushed(rt.alloc(), longest)? == (Ok(()), true));
+    assert!(rt; pushed(rt.alloc(), longer)? == (Err(NameError::NameTooLong), false));
+    Ok(())
 }
 
 /// The files that a sink opens, and what it does and leaves.
@@ -183,7 +186,7 @@ fn elapses_for_each(alloc: Global) -> Result<bool, Fail> {
     let mut fan = fan_of_plan(alloc, plan, MemStore::new(alloc), MemStore::new(alloc))?;
     let count = answered(alloc, &mut fan, &FOUR_TIMES)?;
     let files: [Named<'_>; 2] = [&[("log", b"0\n5\n2\n1\n")], &[("log", b"0\n3\n")]];
-    Ok(count == FOUR_TIMES.len() && members_leave(&fan, &files))
+    Ok(count == FOUR_TIMES.len() && members_leave(&fan, &files)?)
 }
 
 #[test]
@@ -212,7 +215,7 @@ fn gives_to_each(alloc: Global) -> Result<bool, Fail> {
     let count = answered(alloc, &mut fan, &TWO)?;
     let is_fan = fan.store().is_none() && fan.is_fan();
     let files: [Named<'_>; 2] = [&[("log", b"a\nb\n")], &[("log", b"b\n")]];
-    Ok(count == TWO.len() && is_fan && members_leave(&fan, &files))
+    Ok(count == TWO.len() && is_fan && members_leave(&fan, &files)?)
 }
 
 #[test]
@@ -236,7 +239,10 @@ fn refusal<S: Store + Drop>(
     plan: Plan,
     store: S,
 ) -> Result<Option<OpenError>, Fail> {
-    Ok(error_of(plan.open(alloc, store)?))
+    match error_of(plan.open(alloc, store)?) {
+        Some(OpenError::OutOfMemory) => Err(OpenError::OutOfMemory.into()),
+        error => Ok(error),
+    }
 }
 
 /// A memory sink.
@@ -317,7 +323,12 @@ fn sizes_of_fans(rt: HostRuntime) -> Result<(), Fail> {
         (17, Err((OpenError::BadLimit, 17))),
     ] {
         let members = members(rt.alloc(), count)?;
-        assert!(rt; fan_of(rt.alloc(), members) == wanted, "{count}");
+        let found = fan_of(rt.alloc(), members);
+        assert!(rt;
+            found != Err((OpenError::OutOfMemory, count)),
+            "out of memory"
+        );
+        assert!(rt; found == wanted, "{count}");
     }
     Ok(())
 }

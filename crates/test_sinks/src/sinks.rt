@@ -15,33 +15,53 @@ pub const TEXT_LIMIT: usize = 64;
 /// Files by name.
 pub type Named<'a> = &'a [(&'a str, &'a [u8])];
 
+/// A store that notes which names are flushed.
+pub fn notes(alloc: Global) -> Noting {
+    Noting::new(alloc, MemStore::new(alloc))
+}
+
 /// What a call of a sink answers.
 pub type Answer = Result<Taken, SinkError>;
 
 /// A store that fails one call.
-pub type Fused = FuseStore<MemStore>;
+pub type Fused = FuseStore<Noting>;
 
 /// A store whose files a test can look at.
 pub trait Kept: Store + Drop {
     /// Its files.
     fn kept(&self) -> &MemStore;
+
+    /// Whether there was no memory for them, as far as no answer tells it.
+    fn has_failed(&self) -> bool;
 }
 
 impl Kept for MemStore {
     fn kept(&self) -> &MemStore {
         self
     }
+
+    fn has_failed(&self) -> bool {
+        false
+    }
 }
 
 impl Kept for Fused {
     fn kept(&self) -> &MemStore {
-        self.store()
+        &self.store().files
+    }
+
+    fn has_failed(&self) -> bool {
+        self.store().has_failed
     }
 }
 
 impl Kept for Noting {
     fn kept(&self) -> &MemStore {
         &self.files
+    }
+
+    fn has_failed(&self) -> bool {
+        self.has_failed
     }
 }
 
@@ -173,7 +193,7 @@ fn take<S: Store>(sink: &mut Sink<S>, message: &Message, line: &mut LineBuf) -> 
 }
 
 /// Gives one text of this level to a sink.
-pub fn given<S: Store>(
+fn given<S: Store>(
     alloc: Global,
     sink: &mut Sink<S>,
     level: Level,
@@ -196,6 +216,28 @@ fn given_at<S: Store>(
     Ok(take(sink, &message, &mut line))
 }
 
+/// Whether an answer is the wanted one. A fault of a store that is not wanted is an error of the test: so it may end where there is no
+/// memory for a file.
+fn is_wanted(found: Option<Answer>, wanted: Answer) -> Result<bool, Fail> {
+    match found {
+        Some(Err(SinkError::Store)) if wanted != Err(SinkError::Store) => {
+            Err(SinkError::Store.into())
+        }
+        found => Ok(found == Some(wanted)),
+    }
+}
+
+/// Whether a sink that is given one text of this level answers so.
+pub fn gives<S: Store>(
+    alloc: Global,
+    sink: &mut Sink<S>,
+    level: Level,
+    text: &str,
+    wanted: Answer,
+) -> Result<bool, Fail> {
+    is_wanted(given(alloc, sink, level, text)?, wanted)
+}
+
 /// Whether a sink answers a deed so.
 fn answers<S: Store>(alloc: Global, sink: &mut Sink<S>, deed: Deed<'_>) -> Result<bool, Fail> {
     let (level, text, wanted) = match deed {
@@ -204,11 +246,11 @@ fn answers<S: Store>(alloc: Global, sink: &mut Sink<S>, deed: Deed<'_>) -> Resul
         Deed::IsBroken(text) => (Level::Info, text, Err(SinkError::Broken)),
         Deed::Gives(level, text, wanted) => (level, text, wanted),
         Deed::At(level, time, wanted) => {
-            return Ok(given_at(alloc, sink, level, time)? == Some(wanted));
+            return is_wanted(given_at(alloc, sink, level, time)?, wanted);
         }
         Deed::Flushes(wanted) => return Ok(sink.flush() == wanted),
     };
-    Ok(given(alloc, sink, level, text)? == Some(wanted))
+    gives(alloc, sink, level, text, wanted)
 }
 
 /// How many of these deeds a sink answers as they say, up to the first that it does not.
@@ -241,23 +283,31 @@ pub fn has_just(store: &MemStore, files: Named<'_>) -> bool {
     store.files().len() == files.len()
 }
 
+/// Whether a store has these files, and no others. It is an error of the test where there was no memory for them.
+fn keeps<S: Kept>(store: &S, files: Named<'_>) -> Result<bool, SinkError> {
+    if store.has_failed() {
+        return Err(SinkError::Store);
+    }
+    Ok(has_just(store.kept(), files))
+}
+
 /// Whether the store of a sink has these files, and no others.
-pub fn leaves<S: Kept>(sink: &Sink<S>, files: Named<'_>) -> bool {
+pub fn leaves<S: Kept>(sink: &Sink<S>, files: Named<'_>) -> Result<bool, SinkError> {
     match sink.store() {
-        Some(store) => has_just(store.kept(), files),
-        None => false,
+        Some(store) => keeps(store, files),
+        None => Ok(false),
     }
 }
 
 /// Whether the stores of a fan's members have these files, and no others.
-pub fn members_leave<S: Kept>(fan: &Sink<S>, files: &[Named<'_>]) -> bool {
+pub fn members_leave<S: Kept>(fan: &Sink<S>, files: &[Named<'_>]) -> Result<bool, SinkError> {
     let members = fan.members();
     for (member, files) in members.iter().zip(files) {
-        if !has_just(member.store().kept(), files) {
-            return false;
+        if !keeps(member.store(), files)? {
+            return Ok(false);
         }
     }
-    members.len() == files.len()
+    Ok(members.len() == files.len())
 }
 
 /// A store of these files.
@@ -281,7 +331,7 @@ impl Row<'_> {
     /// Whether a sink answers and leaves what the row says.
     fn is_done<S: Kept>(&self, alloc: Global, sink: &mut Sink<S>) -> Result<bool, Fail> {
         let count = answered(alloc, sink, self.deeds)?;
-        Ok(count == self.deeds.len() && leaves(sink, self.files))
+        Ok(count == self.deeds.len() && leaves(sink, self.files)?)
     }
 
     /// Whether the sink of the row, over this store, does so.

@@ -1,5 +1,6 @@
 //! Stores that tests hand to sinks. Each meets the law of `Store`, as those of `alog_sink` do.
 use alog_sink::{MemStore, Store, StoreError};
+use std::alloc::Global;
 use std::sync::Arc;
 use std::sync::atomic::{AtomicU64, Ordering};
 use std::thread;
@@ -43,13 +44,26 @@ impl Store for Yielding {
     }
 }
 
-/// Files in memory that note which names were flushed. The test `a_flush_names_its_file` shows it.
+/// Files in memory that note which names were flushed, and whether there was no memory. The test `a_flush_names_its_file` shows it.
 #[derive(Debug, Drop)]
 pub struct Noting {
     /// the files
     pub files: MemStore,
     /// the names in the order of their flushes, each followed by a space
     pub flushed: String,
+    /// whether there was no memory for one of both: behind a fuse that is to fail the same call nobody else would tell
+    pub has_failed: bool,
+}
+
+impl Noting {
+    /// These files, of which nothing was flushed.
+    pub fn new(alloc: Global, files: MemStore) -> Noting {
+        Noting {
+            files,
+            flushed: String::new(alloc),
+            has_failed: false,
+        }
+    }
 }
 
 impl Store for Noting {
@@ -62,11 +76,15 @@ impl Store for Noting {
     ghost failures = { λ s. ⟦<MemStore as Store>⟧.failures s.files };
 
     fn append(&mut self, name: &str, bytes: &[u8]) -> Result<(), StoreError> {
-        self.files.append(name, bytes)
+        let answer = self.files.append(name, bytes);
+        self.has_failed |= answer.is_err();
+        answer
     }
 
     fn rename(&mut self, from: &str, to: &str) -> Result<(), StoreError> {
-        self.files.rename(from, to)
+        let answer = self.files.rename(from, to);
+        self.has_failed |= answer.is_err();
+        answer
     }
 
     fn remove(&mut self, name: &str) -> Result<(), StoreError> {
@@ -78,8 +96,8 @@ impl Store for Noting {
     }
 
     fn flush(&mut self, name: &str) -> Result<(), StoreError> {
-        drop(self.flushed.push_str(name));
-        drop(self.flushed.push_str(" "));
+        self.has_failed |= self.flushed.push_str(name).is_err();
+        self.has_failed |= self.flushed.push_str(" ").is_err();
         self.files.flush(name)
     }
 }

@@ -14,25 +14,38 @@ pub enum Call<'a> {
     Sizes(&'a str, Result<Option<u64>, StoreError>),
 }
 
-/// Whether a store answers a call so.
-pub fn answers<S: Store>(store: &mut S, call: Call<'_>) -> bool {
-    match call {
-        Call::Appends(name, bytes, is_done) => store.append(name, bytes).is_ok() == is_done,
-        Call::Renames(from, to, is_done) => store.rename(from, to).is_ok() == is_done,
-        Call::Removes(name, is_done) => store.remove(name).is_ok() == is_done,
-        Call::Flushes(name, is_done) => store.flush(name).is_ok() == is_done,
-        Call::Sizes(name, wanted) => store.size(name) == wanted,
+/// Whether that was done which is to be. A failure of what is to be done is an error of the test: so it may end where there is no
+/// memory.
+fn is_done(answer: Result<(), StoreError>, is_to_be: bool) -> Result<bool, StoreError> {
+    match answer {
+        Ok(()) => Ok(is_to_be),
+        Err(error) if is_to_be => Err(error),
+        Err(_) => Ok(true),
     }
 }
 
-/// The first of these calls that a store does not answer as it says.
-pub fn wrong<S: Store>(store: &mut S, calls: &[Call<'_>]) -> Option<usize> {
-    for (i, call) in calls.iter().enumerate() {
-        if !answers(store, *call) {
-            return Some(i);
+/// Whether a store answers a call so.
+pub fn answers<S: Store>(store: &mut S, call: Call<'_>) -> Result<bool, StoreError> {
+    match call {
+        Call::Appends(name, bytes, is_to_be) => is_done(store.append(name, bytes), is_to_be),
+        Call::Renames(from, to, is_to_be) => is_done(store.rename(from, to), is_to_be),
+        Call::Removes(name, is_to_be) => is_done(store.remove(name), is_to_be),
+        Call::Flushes(name, is_to_be) => is_done(store.flush(name), is_to_be),
+        Call::Sizes(name, wanted) => {
+            let found = store.size(name);
+            is_done(found.map(|_| ()), wanted.is_ok()).map(|is_right| is_right && found == wanted)
         }
     }
-    None
+}
+
+/// Whether a store answers each of these calls as it says.
+pub fn answers_all<S: Store>(store: &mut S, calls: &[Call<'_>]) -> Result<bool, StoreError> {
+    for call in calls {
+        if !answers(store, *call)? {
+            return Ok(false);
+        }
+    }
+    Ok(true)
 }
 
 /// Each call once, on a store with the file `a` of three bytes, and no other.

@@ -51,37 +51,42 @@ fn sink<S: Store + Drop>(alloc: Global, store: S, kind: Kind) -> Result<Sink<S>,
     }
 }
 
-/// Gives a message to a sink. The answer is none where the sink may not be given it.
-fn take<S: Store>(
+/// Whether a sink that is given a message answers so. A failure of its store that is not wanted is an error of the test: so it may end
+/// where there is no memory.
+fn takes<S: Store>(
     sink: &mut Sink<S>,
     message: &Message,
     line: &mut LineBuf,
-) -> Option<Result<Taken, SinkError>> {
-    if sink.may_take(message, line) {
-        Some(sink.take(message, line))
-    } else {
-        None
+    wanted: Result<Taken, SinkError>,
+) -> Result<bool, SinkError> {
+    if !sink.may_take(message, line) {
+        return Ok(false);
+    }
+    match sink.take(message, line) {
+        Err(SinkError::Store) if wanted != Err(SinkError::Store) => Err(SinkError::Store),
+        answer => Ok(answer == wanted),
     }
 }
 
-/// Gives a text of a time to a sink.
-fn given<S: Store>(
+/// Whether a sink that is given a text of a time answers so.
+fn gives<S: Store>(
     alloc: Global,
     sink: &mut Sink<S>,
     time: i64,
     text: &str,
-) -> Result<Option<Result<Taken, SinkError>>, Fail> {
+    wanted: Result<Taken, SinkError>,
+) -> Result<bool, Fail> {
     let message = Message::new(alloc, 64, 0, Level::Info, time, 1, text, None)?;
     let mut line = LineBuf::new(alloc, 1_024)?;
-    Ok(take(sink, &message, &mut line))
+    Ok(takes(sink, &message, &mut line, wanted)?)
 }
 
 /// Whether a sink whose file cannot be written takes a text, fails at a flush and is broken then.
 fn breaks<S: Store>(alloc: Global, sink: &mut Sink<S>) -> Result<bool, Fail> {
     Ok(
-        given(alloc, sink, 0, "one")? == Some(Ok(Taken::Written))
+        gives(alloc, sink, 0, "one", Ok(Taken::Written))?
             && sink.flush() == Err(SinkError::Store)
-            && given(alloc, sink, 0, "two")? == Some(Err(SinkError::Broken)),
+            && gives(alloc, sink, 0, "two", Err(SinkError::Broken))?,
     )
 }
 
@@ -112,7 +117,7 @@ const LINES: [&str; 6] = ["a", "bbbb", "ccccccccccc", "dd", "eee", "f"];
 fn writes_six<S: Store>(alloc: Global, sink: &mut Sink<S>) -> Result<bool, Fail> {
     for (line, text) in (0u8..6).zip(&LINES) {
         let time = START.saturating_add(i64::from(hour_of_line(line)) * HOUR);
-        if given(alloc, sink, time, text)? != Some(Ok(Taken::Written)) {
+        if !gives(alloc, sink, time, text, Ok(Taken::Written))? {
             return Ok(false);
         }
     }

@@ -2,7 +2,7 @@
 //! over a folder.
 //!
 //! They are here, and not in `alog_sink`, since a crate with tests is proved twice. Read `calls.rt` (calls of any store
-//! with the answer wanted, and each call once), `memory_tests.rt` (files in memory, and behind a fuse), `folder.rt` (what
+//! with the answer wanted, and each call once), `memory_tests.rt` (files in memory, and behind a fuse, with `stores.rt`), `folder.rt` (what
 //! the system has), `sessions.rt` (what is done in a folder, step by step), `folder_tests.rt` (files of a folder), then
 //! `hours.rt` and `folder_sink_tests.rt` (sinks over a folder, beside those over memory).
 #![tactic(auto)]
@@ -20,5 +20,7 @@ mod hours;
 mod memory_tests;
 #[cfg(test)]
 mod sessions;
+#[cfg(test)]
+mod stores;
 
 pub use hours::hour_of_line;

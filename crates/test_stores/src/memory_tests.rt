@@ -1,5 +1,6 @@
 //! Files in memory, and behind a fuse.
-use crate::calls::{Call, EACH, has_just, wrong};
+use crate::calls::{Call, EACH, answers_all, has_just};
+use crate::stores::Noting;
 use alog_sink::{Fuse, FuseStore, MemStore, StoreError};
 use std::alloc::Global;
 use std::test::Fail;
@@ -16,14 +17,14 @@ const LEFT: [(&str, &[u8]); 2] = [("b", b"abcde"), ("d", b"xy")];
 /// Whether each call once is answered by files in memory as it says, and leaves those.
 fn of_memory(alloc: Global) -> Result<bool, Fail> {
     let mut store = opened(alloc)?;
-    Ok(wrong(&mut store, &EACH).is_none() && has_just(&store, &LEFT))
+    Ok(answers_all(&mut store, &EACH)? && has_just(&store, &LEFT))
 }
 
 /// The same behind a fuse that does not burn.
 fn of_fuse(alloc: Global) -> Result<bool, Fail> {
     let mut store = FuseStore::new(opened(alloc)?, 100, 0);
     Ok(
-        wrong(&mut store, &EACH).is_none()
+        answers_all(&mut store, &EACH)?
             && has_just(store.store(), &LEFT)
             && has_just(&store.into_store(), &LEFT),
     )
@@ -56,10 +57,11 @@ fn has_names(store: &MemStore, names: &[&str]) -> bool {
 }
 
 #[test]
-fn names_in_order(rt: HostRuntime) {
+fn names_in_order(rt: HostRuntime) -> Result<(), Fail> {
     let mut store = MemStore::new(rt.alloc());
-    let wrong = wrong(&mut store, &NAMES);
-    assert!(rt; wrong.is_none() && has_names(&store, &["B", "a", "b", "b.2", "c"]));
+    let are_right = answers_all(&mut store, &NAMES)?;
+    assert!(rt; are_right && has_names(&store, &["B", "a", "b", "b.2", "c"]));
+    Ok(())
 }
 
 /// After how many calls a fuse burns, how many bytes of an append it passes on, and the calls; how far it has burnt then, and what
@@ -99,18 +101,35 @@ const BURNING: [Burning<'_>; 3] = [
     ),
 ];
 
+/// These files, of which it is noted whether a call of theirs fails.
+fn noting(files: MemStore) -> Noting {
+    Noting {
+        files,
+        has_failed: false,
+    }
+}
+
+/// Whether these files are just that. It is an error of the test where there was no memory for them.
+fn are_just(noting: &Noting, files: &[(&str, &[u8])]) -> Result<bool, StoreError> {
+    if noting.has_failed {
+        return Err(StoreError);
+    }
+    Ok(has_just(&noting.files, files))
+}
+
 /// Whether a row holds.
-fn burns(alloc: Global, row: &Burning<'_>) -> bool {
+fn burns(alloc: Global, row: &Burning<'_>) -> Result<bool, StoreError> {
     let (count, part, calls, fuse, files) = *row;
-    let mut store = FuseStore::new(MemStore::new(alloc), count, part);
-    wrong(&mut store, calls).is_none() && store.fuse == fuse && has_just(store.store(), files)
+    let mut store = FuseStore::new(noting(MemStore::new(alloc)), count, part);
+    Ok(answers_all(&mut store, calls)? && are_just(store.store(), files)? && store.fuse == fuse)
 }
 
 #[test]
-fn an_append_that_stops(rt: HostRuntime) {
+fn an_append_that_stops(rt: HostRuntime) -> Result<(), Fail> {
     for (i, row) in BURNING.iter().enumerate() {
-        assert!(rt; burns(rt.alloc(), row), "row {i}");
+        assert!(rt; burns(rt.alloc(), row)?, "row {i}");
     }
+    Ok(())
 }
 
 /// Which of five calls fails, the first four of which differ, what the size is said to be, and how many files are left.
@@ -136,7 +155,7 @@ fn fails_once(
         Call::Flushes("b", true),
     ];
     let mut store = FuseStore::new(opened(alloc)?, call, 0);
-    Ok(wrong(&mut store, &calls).is_none() && store.into_store().files().len() == left)
+    Ok(answers_all(&mut store, &calls)? && store.into_store().files().len() == left)
 }
 
 #[test]

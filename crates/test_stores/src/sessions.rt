@@ -62,7 +62,7 @@ fn goes(
     step: Step<'_>,
 ) -> Result<bool, Fail> {
     match step {
-        Step::Calls(call) => return Ok(answers(store, call)),
+        Step::Calls(call) => return Ok(answers(store, call)?),
         Step::Has(name, wanted) => return has(rt, path, name, wanted),
         Step::Counts(wanted) => return Ok(count(rt, path.as_str())? == wanted),
         Step::HasOpen(more) => {

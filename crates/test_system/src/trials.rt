@@ -9,8 +9,10 @@ use crate::telling::tell;
 use alog_core::StepError;
 use alog_msg::Level;
 use alog_sink::MemStore;
-use alog_system::{BeginError, Deed, System};
+use alog_system::{BeginError, Deed, Stepped, System, Turn};
+use std::alloc::Global;
 use std::process::Abort;
+use std::test::Fail;
 
 // More steps than any call here has.
 const ALL: u32 = 512;
@@ -37,6 +39,22 @@ pub fn log(level: Level, text: &str) -> Deed<'_> {
     }
 }
 
+// A deed began so.
+fn is_begun(
+    rt: &impl Abort,
+    found: Result<Option<Level>, BeginError>,
+    wanted: Result<Option<Level>, BeginError>,
+) {
+    assert!(rt; found != Err(BeginError::OutOfMemory), "out of memory");
+    assert!(rt; found == wanted, "{found:?}");
+}
+
+// No sink failed in a step. Files in memory fail for want of it, and the test ends so then.
+fn is_no_fault(rt: &impl Abort, stepped: &Stepped) {
+    let is_fault = matches!(stepped, Stepped::Turned(Turn::Fault { .. }));
+    assert!(rt; !is_fault, "the store failed");
+}
+
 #[derive(Drop)]
 pub struct Trial {
     system: System<MemStore>,
@@ -46,31 +64,25 @@ pub struct Trial {
 impl Trial {
     // A system of so many places, with one logger and one sink.
     pub fn new(
-        rt: &(impl Abort + AllocGlobal),
+        alloc: Global,
         places: usize,
         flush_on: Level,
         backtrace: usize,
-    ) -> Trial
+    ) -> Result<Trial, Fail>
         requires { backtrace ≤ 4096 }
     {
-        match small(rt.alloc(), places, flush_on, backtrace) {
-            Ok(system) => Trial {
-                system,
-                out: String::new(rt.alloc()),
-            },
-            Err(_) => panic!(rt; "no system"),
-        }
+        Ok(Trial {
+            system: small(alloc, places, flush_on, backtrace)?,
+            out: String::new(alloc),
+        })
     }
 
     // The system of a configuration.
-    pub fn of_a_configuration(rt: &(impl Abort + AllocGlobal), document: &str) -> Trial {
-        match configured(rt.alloc(), document.as_bytes()) {
-            Ok(system) => Trial {
-                system,
-                out: String::new(rt.alloc()),
-            },
-            Err(_) => panic!(rt; "no system"),
-        }
+    pub fn of_a_configuration(alloc: Global, document: &str) -> Result<Trial, Fail> {
+        Ok(Trial {
+            system: configured(alloc, document.as_bytes())?,
+            out: String::new(alloc),
+        })
     }
 
     // Begins a deed of a logger that there is, which answers so.
@@ -83,7 +95,7 @@ impl Trial {
     ) {
         assert!(rt; is_known(&self.system, deed));
         let found = self.system.begin(rt.alloc(), actor, deed);
-        assert!(rt; found == wanted, "{found:?}");
+        is_begun(rt, found, wanted);
     }
 
     // Makes so many steps of an actor, or all that its call has.
@@ -91,8 +103,9 @@ impl Trial {
         for _ in 0..count {
             match self.system.step(actor) {
                 Ok(stepped) => {
+                    is_no_fault(rt, &stepped);
                     let told = tell(&self.system, &mut self.out, actor, stepped);
-                    assert!(rt; told.is_ok());
+                    assert!(rt; told.is_ok(), "out of memory");
                 }
                 Err(_) => return,
             }
@@ -187,7 +200,7 @@ impl Trial {
     pub fn has_cells(&self, rt: &(impl Abort + AllocGlobal), wanted: usize) {
         match self.system.cells(rt.alloc()) {
             Ok(cells) => assert!(rt; cells.len() == wanted),
-            Err(_) => panic!(rt; "no memory"),
+            Err(_) => panic!(rt; "out of memory"),
         }
     }
 

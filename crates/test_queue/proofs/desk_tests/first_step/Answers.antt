@@ -15,14 +15,14 @@ not_true false h = refl
 pub returns : goal.returns
 unfolding ones
 returns c =
-    let d = c.in-Ok.desk in
+    let d = c.in_ok-desk.desk in
     let e = c.begin_post.new.self in
-    let began = c.in-Ok-begin_post.ensures in
+    let began = c.in-Ok.ensures in
     let stepped = c.in-Ok-step.ensures in
     let new : DeskView ℕ = fresh_desk 2 5 in
     let lt : 1 < ACTORS = omega arith in
     let calls : List (CallMade ℕ) = [] ++ called 1 (ToPost Block c.args.value) ∷ [] in
-    let first : Plays new [] [] d = subst (λ (k : DeskView ℕ). Plays new [] [] k) (sym c.in-Ok.ensures.made) starts in
+    let first : Plays new [] [] d = subst (λ (k : DeskView ℕ). Plays new [] [] k) (sym c.in_ok-desk.ensures.made) starts in
     let second : Plays new calls [] e =
     subst (λ (k : DeskView ℕ). Plays new calls [] k) (sym began.began)
     (posts 1 Block c.args.value first lt (began.begins.0 refl).1) in
