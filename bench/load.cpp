@@ -1,8 +1,8 @@
 // Does one run by spdlog's asynchronous logger: what a call of crates/bench with the word load does by alog_pool.
-//   run STORE PATTERN PRODUCERS rate     how many messages go in a second, from the first log to the last line written
-//   run STORE PATTERN PRODUCERS OFFERED  the 50th, 99th and 99.9th percentile of the nanoseconds that one log takes, where so many
-//                                        messages are offered in a second, or as many as go where that is 0
-//   idle WORKERS SECONDS                 the microseconds of a processor that a pool takes in a second in which nothing is logged
+//   run STORE PATTERN PRODUCERS LENGTH rate     how many messages go in a second, from the first log to the last line written
+//   run STORE PATTERN PRODUCERS LENGTH OFFERED  the 50th, 99th and 99.9th percentile of the nanoseconds that one log takes, where so
+//                                               many messages are offered in a second, or as many as go where that is 0
+//   idle WORKERS SECONDS                        the microseconds of a processor that a pool takes in a second in which nothing is logged
 #include <algorithm>
 #include <atomic>
 #include <chrono>
@@ -30,7 +30,20 @@ using Clock = std::chrono::steady_clock;
 constexpr std::size_t queue = 8192;
 constexpr int each = 250000;
 constexpr int offered_messages = 100000;
-const std::string text = "request 123 of client 12 served by worker 3 in 861 microseconds";
+const std::string sentence = "request 123 of client 12 served by worker 3 in 861 microseconds";
+
+// A text of so many bytes: the sentence, as often as there is room.
+std::string text_of(std::size_t length) {
+    if (length == 16) {
+        return "request 123 done";
+    }
+    std::string text = sentence;
+    while (text.size() < length) {
+        text += ", " + sentence;
+    }
+    text.resize(length);
+    return text;
+}
 
 // Formats each line, and gives it to no one.
 class null_sink : public spdlog::sinks::base_sink<std::mutex> {
@@ -73,16 +86,17 @@ class memory_sink : public spdlog::sinks::base_sink<std::mutex> {
 struct Order {
     int count;
     std::chrono::nanoseconds gap;
+    std::string text;
     bool timed;
 };
 
-void log_all(spdlog::logger &logger, int count) {
-    for (int i = 0; i < count; i++) {
-        logger.info(text);
+void log_all(spdlog::logger &logger, const Order &order) {
+    for (int i = 0; i < order.count; i++) {
+        logger.info(order.text);
     }
 }
 
-void log_timed(spdlog::logger &logger, Order order, std::vector<std::uint64_t> &times) {
+void log_timed(spdlog::logger &logger, const Order &order, std::vector<std::uint64_t> &times) {
     auto next = Clock::now();
     for (int i = 0; i < order.count; i++) {
         if (order.gap.count() > 0) {
@@ -92,7 +106,7 @@ void log_timed(spdlog::logger &logger, Order order, std::vector<std::uint64_t> &
             next += order.gap;
         }
         auto start = Clock::now();
-        logger.info(text);
+        logger.info(order.text);
         auto end = Clock::now();
         times.push_back(static_cast<std::uint64_t>((end - start).count()));
     }
@@ -108,8 +122,8 @@ std::shared_ptr<spdlog::logger> logger_on(const std::string &store) {
     return spdlog::create_async<spdlog::sinks::basic_file_sink_mt>("server", store + "/log.txt", true);
 }
 
-int run(const std::string &store, const std::string &pattern, int producers, const std::string &how) {
-    Order order{each, std::chrono::nanoseconds(0), how != "rate"};
+int run(const std::string &store, const std::string &pattern, int producers, std::size_t length, const std::string &how) {
+    Order order{each, std::chrono::nanoseconds(0), text_of(length), how != "rate"};
     const int offered = order.timed ? std::stoi(how) : 0;
     if (offered > 0) {
         order.count = offered_messages / producers;
@@ -131,7 +145,7 @@ int run(const std::string &store, const std::string &pattern, int producers, con
             if (order.timed) {
                 log_timed(*logger, order, times[i]);
             } else {
-                log_all(*logger, order.count);
+                log_all(*logger, order);
             }
         });
     }
@@ -172,8 +186,8 @@ int idle(std::size_t workers, int seconds) {
 
 int main(int argc, char **argv) {
     const std::vector<std::string> words(argv + 1, argv + argc);
-    if (words.size() == 5 && words[0] == "run") {
-        return run(words[1], words[2], std::stoi(words[3]), words[4]);
+    if (words.size() == 6 && words[0] == "run") {
+        return run(words[1], words[2], std::stoi(words[3]), std::stoul(words[4]), words[5]);
     }
     if (words.size() == 3 && words[0] == "idle") {
         return idle(std::stoul(words[1]), std::stoi(words[2]));

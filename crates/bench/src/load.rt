@@ -2,12 +2,14 @@
 //!
 //! A call of the program is one run, so that `bench/load` can run it and its peer in turn.
 //!
-//! - `run STORE PATTERN PRODUCERS rate` prints how many messages go in a second, from the first log to the last line written.
-//! - `run STORE PATTERN PRODUCERS OFFERED` prints the 50th, 99th and 99.9th percentile of the nanoseconds that one log takes,
-//!   where so many messages are offered in a second, or as many as go where that is 0.
+//! - `run STORE PATTERN PRODUCERS LENGTH rate` prints how many messages go in a second, from the first log to the last line
+//!   written.
+//! - `run STORE PATTERN PRODUCERS LENGTH OFFERED` prints the 50th, 99th and 99.9th percentile of the nanoseconds that one log
+//!   takes, where so many messages are offered in a second, or as many as go where that is 0.
 //! - `idle WORKERS SECONDS` prints the microseconds of a processor that a pool takes in a second in which nothing is logged.
 //!
-//! STORE is `null`, `memory` or the path of a folder, PATTERN `short` or `full`. Read `case.rt` (what is asked for), `start.rt`
+//! STORE is `null`, `memory` or the path of a folder, PATTERN `short` or `full`, LENGTH the bytes of each text: 16, 63, 200 or
+//! 1000. Read `case.rt` (what is asked for), `start.rt`
 //! (the pool of a run), `work.rt` (what a producer does), `run.rt` (a run and what it prints), `null_store.rt` and `idle.rt`.
 //! `bench/load.cpp` does the same by spdlog.
 mod case;
@@ -58,8 +60,8 @@ where
     R: Clone + Drop + Send + Sync + 'static,
 {
     match words {
-        [word, store, pattern, producers, how] if word.as_str() == "run" => {
-            let case = case_of(store, pattern, producers, how)?;
+        [word, store, pattern, producers, length, how] if word.as_str() == "run" => {
+            let case = case_of(store, pattern, producers, length, how)?;
             print_run(rt, &case, run_case(rt, &case)?)
         }
         [word, workers, seconds] if word.as_str() == "idle" => {

@@ -1,5 +1,5 @@
 //! What is asked for.
-use crate::lines::PATTERN;
+use crate::lines::{PATTERN, TEXT};
 use anyhow::{Context, Result, bail};
 
 /// The messages of each producer, where as many are logged as go.
@@ -9,6 +9,28 @@ const EACH: u32 = 250_000;
 const OFFERED: u32 = 100_000;
 
 const SHORT: &[u8] = b"%n %L %v";
+
+/// A text of 16 bytes.
+const SHORT_TEXT: &str = "request 123 done";
+
+/// A text of 200 bytes, as most logs have them.
+const MIDDLE_TEXT: &str =
+    "request 123 of client 12 served by worker 3 in 861 microseconds, request 123 of client 12 served by \
+    worker 3 in 861 microseconds, request 123 of client 12 served by worker 3 in 861 microseconds, reque";
+
+/// A text of 1,000 bytes.
+const LONG_TEXT: &str =
+    "request 123 of client 12 served by worker 3 in 861 microseconds, request 123 of client 12 served by \
+    worker 3 in 861 microseconds, request 123 of client 12 served by worker 3 in 861 microseconds, reque\
+    st 123 of client 12 served by worker 3 in 861 microseconds, request 123 of client 12 served by worke\
+    r 3 in 861 microseconds, request 123 of client 12 served by worker 3 in 861 microseconds, request 12\
+    3 of client 12 served by worker 3 in 861 microseconds, request 123 of client 12 served by worker 3 i\
+    n 861 microseconds, request 123 of client 12 served by worker 3 in 861 microseconds, request 123 of \
+    client 12 served by worker 3 in 861 microseconds, request 123 of client 12 served by worker 3 in 86\
+    1 microseconds, request 123 of client 12 served by worker 3 in 861 microseconds, request 123 of clie\
+    nt 12 served by worker 3 in 861 microseconds, request 123 of client 12 served by worker 3 in 861 mic\
+    roseconds, request 123 of client 12 served by worker 3 in 861 microseconds, request 123 of client 1\
+    2 ";
 
 /// Nanoseconds in a second.
 const SECOND: u64 = 1_000_000_000;
@@ -49,6 +71,8 @@ pub struct Case<'a> {
     pub target: Target<'a>,
     pub pattern: &'static [u8],
     pub producers: u32,
+    /// The text of each message.
+    pub text: &'static str,
     pub order: Order,
 }
 
@@ -65,7 +89,13 @@ pub fn number(word: &str) -> Result<u32> {
 }
 
 /// The run that these words ask for.
-pub fn case_of<'a>(store: &'a str, pattern: &str, producers: &str, how: &str) -> Result<Case<'a>> {
+pub fn case_of<'a>(
+    store: &'a str,
+    pattern: &str,
+    producers: &str,
+    length: &str,
+    how: &str,
+) -> Result<Case<'a>> {
     let target = match store {
         "null" => Target::Null,
         "memory" => Target::Memory,
@@ -77,6 +107,7 @@ pub fn case_of<'a>(store: &'a str, pattern: &str, producers: &str, how: &str) ->
         _ => bail!("no such pattern"),
     };
     let producers = number(producers)?;
+    let text = text_of(length)?;
     let order = match how {
         "rate" => Order {
             count: EACH,
@@ -89,23 +120,32 @@ pub fn case_of<'a>(store: &'a str, pattern: &str, producers: &str, how: &str) ->
         target,
         pattern,
         producers,
+        text,
         order,
     })
+}
+
+/// The text of so many bytes.
+fn text_of(length: &str) -> Result<&'static str> {
+    match length {
+        "16" => Ok(SHORT_TEXT),
+        "63" => Ok(TEXT),
+        "200" => Ok(MIDDLE_TEXT),
+        "1000" => Ok(LONG_TEXT),
+        _ => bail!("no text of this length"),
+    }
 }
 
 /// The order of each of so many producers that offer so many messages in a second, or as many as go where that is 0.
 fn timed(offered: u32, producers: u32) -> Order {
     let all = SECOND.saturating_mul(u64::from(producers));
-    match all.checked_div(u64::from(offered)) {
-        Some(gap) => Order {
-            count: OFFERED.checked_div(producers).unwrap_or(0),
-            gap,
-            figure: Figure::Times,
-        },
-        None => Order {
-            count: EACH,
-            gap: 0,
-            figure: Figure::Times,
-        },
+    let (count, gap) = match all.checked_div(u64::from(offered)) {
+        Some(gap) => (OFFERED.checked_div(producers).unwrap_or(0), gap),
+        None => (EACH, 0),
+    };
+    Order {
+        count,
+        gap,
+        figure: Figure::Times,
     }
 }

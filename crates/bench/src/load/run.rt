@@ -55,7 +55,12 @@ fn add_tasks<S: Store + Drop + Send + 'static>(
 }
 
 /// Lets each task be done on a thread of its own, until all are.
-fn do_by_threads<R: Threads + Wait + Clock + Sync>(rt: &R, alloc: Global, tasks: &mut Vec<Task>)
+fn do_by_threads<R: Threads + Wait + Clock + Sync>(
+    rt: &R,
+    alloc: Global,
+    text: &'static str,
+    tasks: &mut Vec<Task>,
+)
     requires each { All (λ t. 0 < length t.producer.shared.loggers) tasks.old.items }
     ensures count { length tasks.new.items ≡ length tasks.old.items }
     ensures each { (s : Shared) → All (λ t. t.producer.shared ≡ s) tasks.old.items → All (λ t. t.producer.shared ≡ s) tasks.new.items }
@@ -68,7 +73,7 @@ fn do_by_threads<R: Threads + Wait + Clock + Sync>(rt: &R, alloc: Global, tasks:
         &|_number, task: &mut Task|
             requires { 0 < length task.now.producer.shared.loggers }
             ensures { task.exit.now.producer.shared ≡ task.entry.now.producer.shared }
-        { carry_out(rt, alloc, task) },
+        { carry_out(rt, alloc, text, task) },
     );
 }
 
@@ -119,7 +124,7 @@ where
     }
     let made = add_tasks(alloc, pool, case, &mut tasks);
     let start = Instant::now(rt);
-    do_by_threads(rt, alloc, &mut tasks);
+    do_by_threads(rt, alloc, case.text, &mut tasks);
     let mut times = Vec::new(alloc);
     let all = take_back(tasks, &mut producers, &mut times);
     (producers, begun(made, start, all, times))

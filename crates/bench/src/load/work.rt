@@ -1,7 +1,6 @@
 //! What a producer does, which is what is timed.
 ghost use Rattle.std.specs.Prelude.{◌≡◌, ◌<◌, length};
 
-use crate::lines::TEXT;
 use crate::load::case::{Figure, Order};
 use alog_msg::Level;
 use alog_pool::Producer;
@@ -34,13 +33,19 @@ fn nanos<E: Drop>(reading: Result<Duration, E>) -> u64 {
 
 /// Logs a message with the time that it is, and counts a failure.
 #[inline(always)]
-fn log_one<R: Wait + Clock>(rt: &R, alloc: Global, producer: &mut Producer, failed: &mut u64)
+fn log_one<R: Wait + Clock>(
+    rt: &R,
+    alloc: Global,
+    producer: &mut Producer,
+    text: &str,
+    failed: &mut u64,
+)
     requires { 0 < length producer.old.shared.loggers }
     ensures { producer.new.shared ≡ producer.old.shared }
 {
     let time = i64::try_from(nanos(rt.since_1970())).unwrap_or(i64::MAX);
     if producer
-        .log(rt, alloc, 0, Level::Info, time, TEXT, None)
+        .log(rt, alloc, 0, Level::Info, time, text, None)
         .is_err()
     {
         *failed = failed.wrapping_add(1);
@@ -62,14 +67,15 @@ fn log_all<R: Wait + Clock>(
     rt: &R,
     alloc: Global,
     producer: &mut Producer,
-    count: u32,
+    order: Order,
+    text: &str,
     failed: &mut u64,
 )
     requires { 0 < length producer.old.shared.loggers }
     ensures { producer.new.shared ≡ producer.old.shared }
 {
-    for _ in 0..count {
-        log_one(rt, alloc, producer, failed);
+    for _ in 0..order.count {
+        log_one(rt, alloc, producer, text, failed);
     }
 }
 
@@ -79,6 +85,7 @@ fn log_timed<R: Wait + Clock>(
     alloc: Global,
     producer: &mut Producer,
     order: Order,
+    text: &str,
     times: &mut Vec<u64>,
     failed: &mut u64,
 )
@@ -92,7 +99,7 @@ fn log_timed<R: Wait + Clock>(
             next = next.wrapping_add(order.gap);
         }
         let start = nanos(rt.monotonic());
-        log_one(rt, alloc, producer, failed);
+        log_one(rt, alloc, producer, text, failed);
         let end = nanos(rt.monotonic());
         if times.push(end.saturating_sub(start)).is_err() {
             *failed = failed.wrapping_add(1);
@@ -101,7 +108,7 @@ fn log_timed<R: Wait + Clock>(
 }
 
 /// Does what the task says.
-pub fn carry_out<R: Wait + Clock>(rt: &R, alloc: Global, task: &mut Task)
+pub fn carry_out<R: Wait + Clock>(rt: &R, alloc: Global, text: &str, task: &mut Task)
     requires { 0 < length task.old.producer.shared.loggers }
     ensures { task.new.producer.shared ≡ task.old.producer.shared }
 {
@@ -112,7 +119,7 @@ pub fn carry_out<R: Wait + Clock>(rt: &R, alloc: Global, task: &mut Task)
         failed,
     } = task;
     match order.figure {
-        Figure::Rate => log_all(rt, alloc, producer, order.count, failed),
-        Figure::Times => log_timed(rt, alloc, producer, *order, times, failed),
+        Figure::Rate => log_all(rt, alloc, producer, *order, text, failed),
+        Figure::Times => log_timed(rt, alloc, producer, *order, text, times, failed),
     }
 }
