@@ -4,7 +4,7 @@ ghost use Rattle.std.specs.Prelude.{◌≡◌};
 ///
 /// A ticket here is a position that an earlier step of the round read. The tests `busy_push` and
 /// `busy_pop` step through the rounds of a push and of a pop.
-#[derive(Debug, Drop)]
+#[derive(Drop)]
 pub enum Round<T> {
     /// In no call.
     Idle,

@@ -12,14 +12,14 @@ use std::alloc::{AllocError, Global};
 
 /// What lies in a place while a ticket has it: the ticket's item, and its actor, who is the claimer, and from the grab on
 /// the taker.
-#[derive(Debug, Drop)]
+#[derive(Drop)]
 pub struct Held<T> {
     pub item: T,
     pub actor: u32,
 }
 
 /// The words and the places of a queue. The place of a ticket is the ticket modulo the number of places.
-#[derive(Debug, Drop)]
+#[derive(Drop)]
 pub struct Table<T> {
     /// What it keeps of a ticket is the ticket's place: one less than the number of places, a power of two.
     pub mask: u64,

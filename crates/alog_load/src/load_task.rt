@@ -3,7 +3,7 @@ ghost use Rattle.std.specs.Prelude.{◌≡◌, ◌≤◌};
 ghost use Rattle.alog_load.specs.Load.{load_task_of};
 
 /// What a producer is sent off for: so many messages to the logger of this number.
-#[derive(Clone, Copy, Debug, Drop)]
+#[derive(Clone, Copy, Drop)]
 pub(crate) struct LoadTask {
     pub(crate) logger: u32,
     pub(crate) messages: u64,

@@ -9,7 +9,7 @@ use clap::ArgMatches;
 use thiserror::Error;
 
 /// An option of `alog load` whose value is a number of 64 bits. They are read in this order.
-#[derive(Clone, Copy, Debug, PartialEq, Eq)]
+#[derive(Clone, Copy, Debug)]
 pub enum LoadOption {
     Producers,
     Messages,

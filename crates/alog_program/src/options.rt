@@ -17,7 +17,7 @@ use std::fmt::{Display, Formatter, Write};
 use thiserror::Error;
 
 /// An option of `alog format` whose value is read. They are read in this order.
-#[derive(Clone, Copy, Debug, PartialEq, Eq)]
+#[derive(Clone, Copy, Debug)]
 pub enum FormatOption {
     Time,
     Offset,
@@ -30,7 +30,7 @@ pub enum FormatOption {
 }
 
 /// What the value of an option may be.
-#[derive(Clone, Copy, Debug, PartialEq, Eq)]
+#[derive(Clone, Copy, Debug)]
 pub enum Allowed {
     /// A decimal number within these limits. A minus may stand first, and no plus.
     Signed { least: i64, most: i64 },

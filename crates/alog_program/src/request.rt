@@ -3,7 +3,7 @@ use alog_format::Context;
 use alog_msg::{Level, SourceRef};
 
 /// A line to be made of a message, by a pattern.
-#[derive(Clone, Copy, Debug)]
+#[derive(Clone, Copy)]
 pub struct LineRequest<'a> {
     pub pattern: &'a str,
     pub text: &'a str,
@@ -21,7 +21,7 @@ pub struct LineRequest<'a> {
 }
 
 /// A load to be made through the loggers and sinks of a configuration.
-#[derive(Clone, Copy, Debug)]
+#[derive(Clone, Copy)]
 pub struct LoadRequest<'a> {
     /// The path of the file that has the configuration.
     pub file: &'a str,
@@ -33,7 +33,7 @@ pub struct LoadRequest<'a> {
 }
 
 /// What the command line asks for.
-#[derive(Clone, Copy, Debug)]
+#[derive(Clone, Copy)]
 pub enum Request<'a> {
     /// `alog replay`: the script on standard input, without a configuration.
     Replay,

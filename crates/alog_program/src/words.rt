@@ -11,7 +11,7 @@ use std::alloc::{AllocError, Global};
 use std::convert::AsStr;
 
 /// Why a command line asks for nothing.
-#[derive(Debug, Drop)]
+#[derive(Drop)]
 pub enum WordsError<'a> {
     /// What `clap` says: help, the version, usage, or that there is no memory.
     Clap(Error),

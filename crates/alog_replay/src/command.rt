@@ -71,7 +71,7 @@ impl Actor {
 }
 
 /// What a line of a script asks for.
-#[derive(Debug, Drop)]
+#[derive(Drop)]
 pub enum Command<'a> {
     /// It is done at once, or begins a call.
     Acts(Act<'a>),

@@ -1,7 +1,7 @@
 use crate::pushed::Pushed;
 
 /// What an actor still does beside the steps of its round.
-#[derive(Debug, Drop)]
+#[derive(Drop)]
 pub enum Duty {
     /// Nothing.
     Free,

@@ -8,7 +8,7 @@ use crate::parser::parse;
 use std::str;
 
 /// What a line of a script is.
-#[derive(Debug, Drop)]
+#[derive(Drop)]
 pub enum Entry<'a> {
     /// An empty line, or one that begins with `#`.
     Skipped,

@@ -15,7 +15,7 @@ use thiserror::Error;
 pub struct ReadFault;
 
 /// What comes next in a script.
-#[derive(Clone, Copy, Debug, PartialEq, Eq)]
+#[derive(Clone, Copy)]
 pub enum Line {
     /// A line of at most `SCRIPT_LINE_MAX` bytes.
     Found,
@@ -26,7 +26,7 @@ pub enum Line {
 }
 
 // How far the pending bytes brought a line.
-#[derive(Clone, Copy, Debug, PartialEq, Eq)]
+#[derive(Clone, Copy)]
 enum Piece {
     // To its newline.
     Ended,
@@ -37,7 +37,7 @@ enum Piece {
 }
 
 // What one read brought.
-#[derive(Clone, Copy, Debug, PartialEq, Eq)]
+#[derive(Clone, Copy)]
 enum Fill {
     Bytes,
     Nothing,
@@ -48,7 +48,7 @@ enum Fill {
 ///
 /// Contracts see the line, the bytes that were read and are in no line yet, and how many reads are left. The reader is
 /// handed to each call, so that they tell what was read from what remains.
-#[derive(Debug, Drop)]
+#[derive(Drop)]
 pub struct LineReader {
     line: Vec<u8>,
     chunk: Vec<u8>,

@@ -9,7 +9,7 @@ use std::alloc::{AllocError, Global};
 use std::marker::Model;
 
 /// A message that an actor pushed, whose text keeps to `DEFAULT_TEXT_LIMIT`. Contracts see it as that message.
-#[derive(Debug, Drop)]
+#[derive(Drop)]
 pub struct Pushed {
     message: Message,
 }
