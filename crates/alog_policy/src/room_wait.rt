@@ -5,7 +5,7 @@ use std::time::{Clock, Duration};
 
 /// A post that finds no room spins so many steps of the backoff first: a place that gets free at once costs no call of the
 /// system.
-const SPINS: u32 = 4;
+const ROOM_SPINS: u32 = 4;
 
 /// Then it sleeps so many nanoseconds for each place of the queue, in which a worker makes some half of them free: the posts
 /// that come then need not wait. A post that looked again and again instead would take the words of the queue from the worker
@@ -13,7 +13,7 @@ const SPINS: u32 = 4;
 const NAP_PER_PLACE: u64 = 125;
 
 /// But at most so many nanoseconds.
-const LONGEST_NAP: u64 = 1_000_000;
+const ROOM_NAP_MAX: u64 = 1_000_000;
 
 /// What a post waits with until there is room: its own, from its first look on.
 ///
@@ -37,12 +37,12 @@ impl RoomWait {
 
     /// Waits a little where there was no room.
     pub fn wait(&mut self, clock: &impl Clock) {
-        if self.looks < SPINS {
+        if self.looks < ROOM_SPINS {
             self.looks += 1;
             self.backoff.spin();
         } else {
             let nap = NAP_PER_PLACE.saturating_mul(self.places as u64);
-            thread::sleep(clock, Duration::from_nanos(nap.min(LONGEST_NAP)));
+            thread::sleep(clock, Duration::from_nanos(nap.min(ROOM_NAP_MAX)));
         }
     }
 

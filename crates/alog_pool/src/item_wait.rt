@@ -11,7 +11,7 @@ const LOOKS: u32 = 100;
 
 /// A worker that finds the queue idle spins so many steps of the backoff first: an item that comes meanwhile costs no call of
 /// the system.
-const SPINS: u32 = 7;
+const ITEM_SPINS: u32 = 7;
 
 /// Then it yields so many times, which lets a producer on its processor get on.
 const YIELDS: u32 = 8;
@@ -21,7 +21,7 @@ const FIRST_NAP: u64 = 50;
 
 /// Each sleep is twice as long as the one before, up to so many microseconds for each worker of the pool, so that an idle pool
 /// wakes at most a thousand times a second, whatever its number of workers is.
-const LONGEST_NAP: u64 = 1_000;
+const ITEM_NAP_MAX: u64 = 1_000;
 
 /// How a thread that takes items waits: what a worker of a pool does after each pop that took nothing, from one item to the next.
 ///
@@ -48,7 +48,7 @@ impl ItemWait {
             looks: 0,
             rests: 0,
             nap: FIRST_NAP,
-            longest: LONGEST_NAP.saturating_mul(workers as u64),
+            longest: ITEM_NAP_MAX.saturating_mul(workers as u64),
             backoff: Backoff::new(),
             beaten: Backoff::new(),
         }
@@ -76,9 +76,9 @@ impl ItemWait {
     /// Nothing is there.
     fn rest(&mut self, clock: &impl Clock) {
         self.looks = 0;
-        if self.rests < SPINS {
+        if self.rests < ITEM_SPINS {
             self.backoff.spin();
-        } else if self.rests < SPINS + YIELDS {
+        } else if self.rests < ITEM_SPINS + YIELDS {
             thread::yield_now();
         } else {
             thread::sleep(clock, Duration::from_micros(self.nap));

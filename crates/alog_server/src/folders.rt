@@ -10,7 +10,7 @@ use std::path::Path;
 use std::rt::Files;
 
 /// The file of a folder by which the folder is held.
-pub(crate) const LOCK: &str = ".alog.lock";
+pub(crate) const LOCK_FILE: &str = ".alog.lock";
 
 /// What holds a folder and opens its stores, both of which may go to other threads.
 pub trait Folders {
@@ -57,7 +57,7 @@ where
     }
 
     fn hold(&self, alloc: Global, path: &str) -> io::Result<R::File> {
-        let path = Path::new(path).join(alloc, LOCK)?;
+        let path = Path::new(path).join(alloc, LOCK_FILE)?;
         let file = OpenOptions::new()
             .write(true)
             .create(true)

@@ -1,5 +1,5 @@
 //! Whether the files of a configuration can be written to a folder, which is held for them.
-use crate::folders::{Folders, LOCK};
+use crate::folders::{Folders, LOCK_FILE};
 use alog_config::{Config, SinkKind, Upkeep};
 use std::alloc::{AllocError, Global};
 use std::fs::{self, OpenOptions};
@@ -45,9 +45,9 @@ fn not_held<L>(alloc: Global, folder: &str, error: io::Error) -> Result<Hold<L>,
     let text = match error.kind() {
         ErrorKind::OutOfMemory => return Err(AllocError),
         ErrorKind::WouldBlock => {
-            format!(in alloc; "{folder} is in use: another alog holds {folder}/{LOCK}")?
+            format!(in alloc; "{folder} is in use: another alog holds {folder}/{LOCK_FILE}")?
         }
-        _ => format!(in alloc; "{folder}/{LOCK} cannot be locked: {error}")?,
+        _ => format!(in alloc; "{folder}/{LOCK_FILE} cannot be locked: {error}")?,
     };
     Ok(Hold::Refused(text))
 }
@@ -71,7 +71,7 @@ fn unwritable<R: Files>(
         let Some(file) = lasting_file(&sink.kind) else {
             continue;
         };
-        if file == LOCK {
+        if file == LOCK_FILE {
             return Ok(Some(format!(in alloc;
                 "{folder}/{file} is the lock of the folder, and can be no file of a sink"
             )?));
