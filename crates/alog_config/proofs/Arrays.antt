@@ -25,16 +25,22 @@ pub length_of_map : {X Y : Type 0} (f : X → Y) (xs : List X) → length (map f
 length_of_map f [] = refl
 length_of_map f (x ∷ xs) = ap suc (length_of_map f xs)
 
--- where an item does not pass, the items are not all of the type
-pub not_all : {X Y : Type 0} (f : X → Data) (g : Y → Data) (pass : Data → Bool) → ((y : Y) → pass (g y) ≡ true)
-    → (xs : List X) (i : ℕ) {x : X} → i < length xs → x ≡ get_or xs i x → pass (f x) ≡ false
-    → (ys : List Y) → ¬ (map f xs ≡ map g ys)
-not_all f g pass each xs i {x} h e fails ys same =
-    let here : get_or (map f xs) i (f x) ≡ f x = get_of_map f xs i x h e in
+-- an item that does not pass a test that all items of a type do
+pub record Fails {X Y : Type 0} (f : X → Data) (g : Y → Data) (pass : Data → Bool) (xs : List X) (i : ℕ) (x : X) : Type 0 where
+  pub each : (y : Y) → pass (g y) ≡ true
+  pub within : i < length xs
+  pub here : x ≡ get_or xs i x
+  pub fails : pass (f x) ≡ false
+
+-- so the items are not all of the type
+pub not_all : {X Y : Type 0} {f : X → Data} {g : Y → Data} {pass : Data → Bool} {xs : List X} {i : ℕ} {x : X}
+    → Fails f g pass xs i x → (ys : List Y) → ¬ (map f xs ≡ map g ys)
+not_all {f} {g} {pass} {xs} {i} {x} h ys same =
+    let here : get_or (map f xs) i (f x) ≡ f x = get_of_map f xs i x h.within h.here in
     let there : get_or (map g ys) i (f x) ≡ f x = subst (λ ds. get_or ds i (f x) ≡ f x) same here in
-    let long : i < length (map g ys) = subst (λ ds. i < length ds) same (rw (length_of_map f xs) h) in
-    let passes : pass (f x) ≡ true = subst (λ d. pass d ≡ true) there (each_passes g pass each ys i (f x) long) in
-    let clash : true ≡ false = sym passes ∙ fails in
+    let long : i < length (map g ys) = subst (λ ds. i < length ds) same (rw (length_of_map f xs) h.within) in
+    let passes : pass (f x) ≡ true = subst (λ d. pass d ≡ true) there (each_passes g pass h.each ys i (f x) long) in
+    let clash : true ≡ false = sym passes ∙ h.fails in
     absurd (cc)
 
 -- the data are the array that is read from them

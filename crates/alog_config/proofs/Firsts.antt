@@ -17,18 +17,24 @@ first_same (r ∷ rs) P Q found same h =
       | inr x ↦ inr (λ q. x.0 ((same r).1 q), first_same rs P Q found same x.1)
     ]
 
--- the first of five that were judged one by one
-pub judged : (b : Broken) (P : Rule → Type 0) (found : Option Rule) → (IsTrue b.unknown_key ↔ P UnknownKey)
-    → (IsTrue b.bad_value ↔ P BadValue)
-    → (IsTrue b.missing ↔ P Missing) → (IsTrue b.name_taken ↔ P NameTaken) → (IsTrue b.no_such_sink ↔ P NoSuchSink)
+-- each rule is marked as broken exactly where it is
+pub record Marks (b : Broken) (P : Rule → Type 0) : Type 0 where
+  pub unknown_key : IsTrue b.unknown_key ↔ P UnknownKey
+  pub bad_value : IsTrue b.bad_value ↔ P BadValue
+  pub missing : IsTrue b.missing ↔ P Missing
+  pub name_taken : IsTrue b.name_taken ↔ P NameTaken
+  pub no_such_sink : IsTrue b.no_such_sink ↔ P NoSuchSink
+
+-- so the first that is marked is the first that is broken
+pub first_marked : {b : Broken} {P : Rule → Type 0} (found : Option Rule) → Marks b P
     → IsFirst order (λ rule. IsTrue (has b rule)) found → IsFirst order P found
-judged b P found one two three four five h = first_same order (λ rule. IsTrue (has b rule)) P found (λ r. each r) h where
+first_marked {b} {P} found marks h = first_same order (λ rule. IsTrue (has b rule)) P found (λ r. each r) h where
   each : (r : Rule) → IsTrue (has b r) ↔ P r
-  each UnknownKey = one
-  each BadValue = two
-  each Missing = three
-  each NameTaken = four
-  each NoSuchSink = five
+  each UnknownKey = marks.unknown_key
+  each BadValue = marks.bad_value
+  each Missing = marks.missing
+  each NameTaken = marks.name_taken
+  each NoSuchSink = marks.no_such_sink
 
 -- a list of rules from one place on
 pub first_at : (rules : List Rule) (i : ℕ) (d : Rule) (P : Rule → Type 0) → i < length rules → P (get_or rules i d)

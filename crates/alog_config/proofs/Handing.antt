@@ -15,7 +15,7 @@ use Rattle.alog_config.specs.Built.{ArePicked, Built, EachIs, IsLoggerOf, IsOfNu
 use Rattle.alog_config.specs.Parts.{AreBuilt, Makes, MayLog, MayMake}
 use Rattle.alog_config.specs.Sinks.{AnyMember, AnyUnknown, IsMember, Rotates, is_leaf, is_lines}
 use Rattle.alog_config.specs.Sound.{AreSoundSinks, IsSound, IsSoundKind}
-use Rattle.alog_config.proofs.Parting.{all_known, config_of, length_mapped, logger_sound_at, name_of, next_fan, next_leaf, no_built_fan, sound_at}
+use Rattle.alog_config.proofs.Parting.{IsNext, all_known, config_of, length_mapped, logger_sound_at, name_of, next_fan, next_leaf, no_built_fan, sound_at}
 use Rattle.alog_config.proofs.SharedPicking.{Has, any_has, has_any, picked_short, split_at, take_one_more}
 use Rattle.alog_registry.specs.declared.logger.Logger.{Logger}
 use Rattle.alog_sink.specs.Files.{Files}
@@ -124,60 +124,56 @@ module _ {S : Type 0} (tells : Bool) (files : S → Files) (failures : S → ℕ
 
   -- the next sink may be made
   may_make_kind : {c : Config} {stores here : List S} {i : ℕ} {left : List (Part S)} {s : SinkConfig} {k : SinkKind}
-      → AreBuilt tells files failures c stores i left → slice_get c.sinks.items i ≡ Some s → s.kind ≡ k
+      → IsNext tells files failures c stores i left s → s.kind ≡ k
       → IsSoundKind c.text (take i c.sinks.items) k → length stores ≡ count_by is_leaf c.sinks.items
       → here ≡ drop (count_by is_leaf (take i c.sinks.items)) stores → MayMake c.text k here left
-  may_make_kind {c} {stores} {i} {s} {k = kinds.Lines file pattern upkeep} b at kind sound long e =
+  may_make_kind {c} {stores} {i} {s} {k = kinds.Lines file pattern upkeep} next kind sound long e =
       let leaf : is_leaf s ≡ true = ap is_lines kind in
-      let more = count_before c.sinks.items i s at leaf in
+      let more = count_before c.sinks.items i s next.at leaf in
       let rest = ap (λ (xs : List S). length xs) e ∙ length-drop (count_by is_leaf (take i c.sinks.items)) stores in
       (sound.0, sound.2, sound.3, omega (arith, more, rest, long))
-  may_make_kind {c} {stores} {i} {left} {k = kinds.Fan of} b at kind sound long e = (
-    all_known tells files failures c stores i left of b sound.1 sound.3,
+  may_make_kind {c} {stores} {i} {left} {k = kinds.Fan of} next kind sound long e = (
+    all_known tells files failures c stores i left of next.built sound.1 sound.3,
     sound.0,
-    no_built_fan tells files failures c stores i left of b sound.2,
+    no_built_fan tells files failures c stores i left of next.built sound.2,
   )
 
   pub may_make : {c : Config} {stores here : List S} {i : ℕ} {left : List (Part S)} {s : SinkConfig}
-      → AreSoundSinks c.text [] c.sinks.items → AreBuilt tells files failures c stores i left → slice_get c.sinks.items i ≡ Some s
+      → IsNext tells files failures c stores i left s
       → length stores ≡ count_by is_leaf c.sinks.items → here ≡ drop (count_by is_leaf (take i c.sinks.items)) stores
       → MayMake c.text s.kind here left
-  may_make {c} {stores} {here} {i} {left} {s} sound b at long e =
-      may_make_kind {k = s.kind} b at refl (sound_at c.text c.sinks.items i s sound at).kind long e
+  may_make {c} {i} {s} next long e =
+      may_make_kind {k = s.kind} next refl (sound_at c.text c.sinks.items i s next.sound next.at).kind long e
 
   -- the next sink was made
-  pub next_left : (c : Config) (stores : List S) {here rest : List S} (i : ℕ) (left after : List (Part S)) {s : SinkConfig} (sink : Sink S)
+  pub next_left : {c : Config} {stores here rest : List S} {i : ℕ} {left : List (Part S)} (after : List (Part S)) {s : SinkConfig} (sink : Sink S)
       {k : SinkKind}
-      → slice_get c.sinks.items i ≡ Some s → s.kind ≡ k → here ≡ drop (count_by is_leaf (take i c.sinks.items)) stores
+      → IsNext tells files failures c stores i left s → s.kind ≡ k → here ≡ drop (count_by is_leaf (take i c.sinks.items)) stores
       → Makes tells files failures c s.level k here left sink rest after
       → rest ≡ drop (count_by is_leaf (take (i + 1) c.sinks.items)) stores
-  next_left c stores {rest} i left after {s} sink {k = kinds.Lines file pattern upkeep} at kind e made =
-      let next = next_store stores (count_by is_leaf (take i c.sinks.items)) made.0 rest (sym e ∙ made.1) in
-      let count = count_more c.sinks.items i s true at (ap is_lines kind) in
-      sym next.1 ∙ ap (λ n. drop n stores) (sym count)
-  next_left c stores i left after {s} sink {k = kinds.Fan of} at kind e made =
+  next_left {c} {stores} {rest} {i} after {s} sink {k = kinds.Lines file pattern upkeep} next kind e made =
+      let store = next_store stores (count_by is_leaf (take i c.sinks.items)) made.0 rest (sym e ∙ made.1) in
+      let count = count_more c.sinks.items i s true next.at (ap is_lines kind) in
+      sym store.1 ∙ ap (λ n. drop n stores) (sym count)
+  next_left {c} {stores} {i} after {s} sink {k = kinds.Fan of} next kind e made =
       let before = count_by is_leaf (take i c.sinks.items) in
-      let count = count_more c.sinks.items i s false at (ap is_lines kind) in
+      let count = count_more c.sinks.items i s false next.at (ap is_lines kind) in
       let none : before + 0 ≡ before = omega arith in
       made.0 ∙ (e ∙ ap (λ n. drop n stores) (sym (count ∙ none)))
 
   next_kind : {c : Config} {stores here : List S} (rest : List S) {i : ℕ} {left : List (Part S)} (after : List (Part S)) {s : SinkConfig}
       (p : Part S) {k : SinkKind}
-      → AreSoundSinks c.text [] c.sinks.items → AreBuilt tells files failures c stores i left → slice_get c.sinks.items i ≡ Some s
-      → config_of p ≡ s → s.kind ≡ k → here ≡ drop (count_by is_leaf (take i c.sinks.items)) stores
+      → IsNext tells files failures c stores i left s → config_of p ≡ s → s.kind ≡ k → here ≡ drop (count_by is_leaf (take i c.sinks.items)) stores
       → Makes tells files failures c s.level k here left p.sink rest after → AreBuilt tells files failures c stores (i + 1) (after ++ p ∷ [])
-  next_kind {c} {stores} rest {i} {left} after {s} p {k = kinds.Lines file pattern upkeep} sound b at same kind e made =
-      let next = next_store stores (count_by is_leaf (take i c.sinks.items)) made.0 rest (sym e ∙ made.1) in
+  next_kind {c} {stores} rest {i} after p {k = kinds.Lines file pattern upkeep} next same kind e made =
+      let store = next_store stores (count_by is_leaf (take i c.sinks.items)) made.0 rest (sym e ∙ made.1) in
       subst (λ (ps : List (Part S)). AreBuilt tells files failures c stores (i + 1) (ps ++ p ∷ [])) (sym made.2)
-      (next_leaf tells files failures p sound b at same kind next.0 made.3)
-  next_kind {c} {stores} rest {i} {left} after {s} p {k = kinds.Fan of} sound b at same kind e made =
-      next_fan tells files failures after p sound b at same kind made.1
+      (next_leaf tells files failures p next same kind store.0 made.3)
+  next_kind rest after p {k = kinds.Fan of} next same kind e made = next_fan tells files failures after p next same kind made.1
 
   pub next_made : {c : Config} {stores here : List S} (rest : List S) {i : ℕ} {left : List (Part S)} (after : List (Part S))
       {s : SinkConfig} (p : Part S)
-      → AreSoundSinks c.text [] c.sinks.items → AreBuilt tells files failures c stores i left → slice_get c.sinks.items i ≡ Some s
-      → config_of p ≡ s → here ≡ drop (count_by is_leaf (take i c.sinks.items)) stores
+      → IsNext tells files failures c stores i left s → config_of p ≡ s → here ≡ drop (count_by is_leaf (take i c.sinks.items)) stores
       → Makes tells files failures c s.level s.kind here left p.sink rest after
       → AreBuilt tells files failures c stores (i + 1) (after ++ p ∷ [])
-  next_made {c} {stores} {here} rest {i} {left} after {s} p sound b at same e made =
-      next_kind rest after p {k = s.kind} sound b at same refl e made
+  next_made rest after {s} p next same e made = next_kind rest after p {k = s.kind} next same refl e made

@@ -16,7 +16,6 @@ use Rattle.alog_config.specs.Sound.{AreSoundLoggers, AreSoundSinks, IsSoundKind,
 use Rattle.alog_config.proofs.SharedPicking.{Apart, Has, any_has, apart_of_map, at_more, each_is_if, has_any, has_if, has_left}
 use Rattle.alog_config.proofs.SharedPicking.{has_mapped, has_of_map, has_parts, has_right, picked_has, picked_iff, picked_in, picked_more, picked_without}
 use Rattle.alog_config.proofs.SharedPicking.{split_at, take_one_more}
-use Rattle.alog_msg.specs.declared.level.Level.{Level}
 use Rattle.alog_sink.specs.Files.{Files}
 use Rattle.alog_sink.specs.Opened.{IsFan as IsBuiltFan}
 use Rattle.alog_sink.specs.declared.sink.Sink.{Sink}
@@ -129,20 +128,29 @@ member_more before s name = (
   ]),
 )
 
+-- of parts that have names of their own, those of which something holds are picked
+record ArePickedOf {S : Type 0} (P : Part S → Type 0) (all parts : List (Part S)) : Type 0 where
+  apart : Apart name_of all
+  picked : ArePicked P all parts
+
+-- without one of them
+without_one : {S : Type 0} {P : Part S → Type 0} {all parts : List (Part S)} (k : ℕ) (p : Part S) → ArePickedOf P all parts
+    → slice_get parts k ≡ Some p → ArePickedOf (λ a. P a × (¬ (name_of a ≡ name_of p))) all (remove parts k)
+without_one {P} {all} {parts} k p h at =
+    record { apart = h.apart; picked = picked_without P name_of all parts k h.apart h.picked at }
+
 -- what is left where sinks are taken out, and what they are
-pub picked_taken : {S : Type 0} (P : Part S → Type 0) (all parts : List (Part S)) (names : List (List ℕ)) (sinks : List (Sink S))
-    (left : List (Part S))
-    → Apart name_of all → ArePicked P all parts → TakesOut parts names sinks left
+picked_taken : {S : Type 0} {P : Part S → Type 0} {all parts : List (Part S)} (names : List (List ℕ)) (sinks : List (Sink S))
+    (left : List (Part S)) → ArePickedOf P all parts → TakesOut parts names sinks left
     → ArePicked (λ a. P a × (¬ Has (λ n. n ≡ name_of a) names)) all left
-picked_taken {S} P all parts [] [] left apart h t =
+picked_taken {S} {P} {all} {parts} [] [] left h t =
     subst (λ (xs : List (Part S)). ArePicked (λ a. P a × (¬ Has (λ n. n ≡ name_of a) [])) all xs) (sym t)
-    (picked_iff P (λ a. P a × (¬ Has (λ n. n ≡ name_of a) [])) all parts (λ a. (λ p. (p, λ x. x), λ q. q.0)) h)
-picked_taken P all parts [] (m ∷ ms) left apart h t = absurd t
-picked_taken P all parts (n ∷ ns) [] left apart h t = absurd t
-picked_taken {S} P all parts (n ∷ ns) (m ∷ ms) left apart h t =
+    (picked_iff P (λ a. P a × (¬ Has (λ n. n ≡ name_of a) [])) all parts (λ a. (λ p. (p, λ x. x), λ q. q.0)) h.picked)
+picked_taken [] (m ∷ ms) left h t = absurd t
+picked_taken (n ∷ ns) [] left h t = absurd t
+picked_taken {S} {P} {all} {parts} (n ∷ ns) (m ∷ ms) left h t =
     let P' : Part S → Type 0 = λ a. P a × (¬ (name_of a ≡ name_of t.1)) in
-    let one = picked_without P name_of all parts t.0 apart h t.2 in
-    let rest = picked_taken P' all (remove parts t.0) ns ms left apart one t.5 in
+    let rest = picked_taken ns ms left (without_one t.0 t.1 h t.2) t.5 in
     picked_iff (λ a. P' a × (¬ Has (λ x. x ≡ name_of a) ns)) (λ a. P a × (¬ Has (λ x. x ≡ name_of a) (n ∷ ns))) all left
     (λ a. (
       λ q. (q.0.0, λ has. elim has [ inl e ↦ q.0.1 (sym (t.3 ∙ e)) | inr r ↦ q.1 r ]),
@@ -150,19 +158,15 @@ picked_taken {S} P all parts (n ∷ ns) (m ∷ ms) left apart h t =
     ))
     rest
 
-pub taken_are : {S : Type 0} (P : Part S → Type 0) (all parts : List (Part S)) (names : List (List ℕ)) (sinks : List (Sink S))
-    (left : List (Part S))
-    → Apart name_of all → ArePicked P all parts → TakesOut parts names sinks left → EachIs (IsNamed all) names sinks
-taken_are P all parts [] [] left apart h t = tt
-taken_are P all parts [] (m ∷ ms) left apart h t = absurd t
-taken_are P all parts (n ∷ ns) [] left apart h t = absurd t
-taken_are {S} P all parts (n ∷ ns) (m ∷ ms) left apart h t =
+taken_are : {S : Type 0} {P : Part S → Type 0} {all parts : List (Part S)} (names : List (List ℕ)) (sinks : List (Sink S))
+    (left : List (Part S)) → ArePickedOf P all parts → TakesOut parts names sinks left → EachIs (IsNamed all) names sinks
+taken_are [] [] left h t = tt
+taken_are [] (m ∷ ms) left h t = absurd t
+taken_are (n ∷ ns) [] left h t = absurd t
+taken_are {S} {P} {all} {parts} (n ∷ ns) (m ∷ ms) left h t =
     let Q : Part S → Type 0 = λ a. (name_of a ≡ n) × (a.sink ≡ m) in
-    let there = picked_in P Q all parts t.0 h t.2 (t.3, t.4) in
-    let one = picked_without P name_of all parts t.0 apart h t.2 in (
-      has_any Q all there.0,
-      taken_are (λ a. P a × (¬ (name_of a ≡ name_of t.1))) all (remove parts t.0) ns ms left apart one t.5,
-    )
+    let there = picked_in P Q all parts t.0 h.picked t.2 (t.3, t.4) in
+    (has_any Q all there.0, taken_are ns ms left (without_one t.0 t.1 h t.2) t.5)
 
 -- what was built stays so with one part more
 pub named_more : {S : Type 0} (parts : List (Part S)) (p : Part S) (name : List ℕ) (sink : Sink S) → IsNamed parts name sink
@@ -197,39 +201,53 @@ has_each Q R (x ∷ xs) f (inl q) = inl (f zero x refl q)
 has_each Q R (x ∷ xs) f (inr h) = inr (has_each Q R xs (λ n y e. f (suc n) y e) h)
 
 module _ {S : Type 0} (tells : Bool) (files : S → Files) (failures : S → ℕ) where
-  built_more : (c : Config) (stores : List S) (parts : List (Part S)) (q : Part S) (n : ℕ) (level : Level) (k : SinkKind) (sink : Sink S)
-      → IsBuiltAs tells files failures c stores parts n level k sink
-      → IsBuiltAs tells files failures c stores (parts ++ q ∷ []) n level k sink
-  built_more c stores parts q n level (kinds.Lines file pattern upkeep) sink h = h
-  built_more c stores parts q n level (kinds.Fan of) sink h =
-      (h.0, each_is_if (IsNamed parts) (IsNamed (parts ++ q ∷ [])) of h.0 (λ name s x. named_more parts q name s x) h.1, h.2)
+  part_more : (c : Config) (stores : List S) (parts : List (Part S)) (q : Part S) (n : ℕ) (p : Part S)
+      → IsPart tells files failures c stores parts n p → IsPart tells files failures c stores (parts ++ q ∷ []) n p
+  part_more c stores parts q n p h = by_kind (config_of p).kind h
+    where
+      by_kind : (k : SinkKind) → IsBuiltAs tells files failures c stores parts n (config_of p).level k p.sink
+          → IsBuiltAs tells files failures c stores (parts ++ q ∷ []) n (config_of p).level k p.sink
+      by_kind (kinds.Lines file pattern upkeep) h = h
+      by_kind (kinds.Fan of) h =
+          (h.0, each_is_if (IsNamed parts) (IsNamed (parts ++ q ∷ [])) of h.0 (λ name s x. named_more parts q name s x) h.1, h.2)
 
   -- a part that is a fan was configured all one
-  fan_kind : (c : Config) (stores : List S) (parts : List (Part S)) (n : ℕ) (level : Level) (k : SinkKind) (sink : Sink S)
-      → IsBuiltAs tells files failures c stores parts n level k sink → IsBuiltFan sink → IsFanKind k
-  fan_kind c stores parts n level (kinds.Lines file pattern upkeep) sink h fan = subst IsBuiltFan h.2.opened.is fan
-  fan_kind c stores parts n level (kinds.Fan of) sink h fan = tt
+  fan_part : (c : Config) (stores : List S) (parts : List (Part S)) (n : ℕ) (p : Part S)
+      → IsPart tells files failures c stores parts n p → IsBuiltFan p.sink → IsFan (config_of p)
+  fan_part c stores parts n p h fan = by_kind (config_of p).kind h
+    where
+      by_kind : (k : SinkKind) → IsBuiltAs tells files failures c stores parts n (config_of p).level k p.sink → IsFanKind k
+      by_kind (kinds.Lines file pattern upkeep) h = subst IsBuiltFan h.2.opened.is fan
+      by_kind (kinds.Fan of) h = tt
 
-  parts_apart : (c : Config) (stores : List S) (i : ℕ) (left : List (Part S)) (s : SinkConfig) → AreSoundSinks c.text [] c.sinks.items
-      → (b : AreBuilt tells files failures c stores i left) → slice_get c.sinks.items i ≡ Some s → Apart name_of b.parts
-  parts_apart c stores i left s sound b at =
-      let apart = names_apart c.text [] (take i c.sinks.items) (sound_until c.text c.sinks.items i s sound at) in
-      apart_of_map config_of sink_name b.parts (subst (λ (xs : List SinkConfig). Apart sink_name xs) (sym b.of) apart)
+  -- A sink of a sound configuration, where the sinks in front of it are built, and what of these is no fan's member.
+  pub record IsNext (c : Config) (stores : List S) (i : ℕ) (left : List (Part S)) (s : SinkConfig) : Type 0 where
+    pub sound : AreSoundSinks c.text [] c.sinks.items
+    pub built : AreBuilt tells files failures c stores i left
+    pub at : slice_get c.sinks.items i ≡ Some s
+
+  parts_apart : {c : Config} {stores : List S} {i : ℕ} {left : List (Part S)} {s : SinkConfig} → (next : IsNext c stores i left s)
+      → Apart name_of next.built.parts
+  parts_apart {c} {i} {s} next =
+      let apart = names_apart c.text [] (take i c.sinks.items) (sound_until c.text c.sinks.items i s next.sound next.at) in
+      apart_of_map config_of sink_name next.built.parts (subst (λ (xs : List SinkConfig). Apart sink_name xs) (sym next.built.of) apart)
 
   -- the next part
   pub next_part : {c : Config} {stores : List S} {i : ℕ} {left : List (Part S)} (rest : List (Part S)) {s : SinkConfig} (p : Part S)
-      → AreSoundSinks c.text [] c.sinks.items
-      → (b : AreBuilt tells files failures c stores i left) → slice_get c.sinks.items i ≡ Some s → config_of p ≡ s
-      → IsBuiltAs tells files failures c stores b.parts i s.level s.kind p.sink
-      → ArePicked (λ (a : Part S). ¬ IsMember (take i c.sinks.items ++ s ∷ []) (name_of a)) b.parts rest
+      → (next : IsNext c stores i left s) → config_of p ≡ s
+      → IsBuiltAs tells files failures c stores next.built.parts i s.level s.kind p.sink
+      → ArePicked (λ (a : Part S). ¬ IsMember (take i c.sinks.items ++ s ∷ []) (name_of a)) next.built.parts rest
       → AreBuilt tells files failures c stores (i + 1) (rest ++ p ∷ [])
-  next_part {c} {stores} {i} rest {s} p sound b at same made picked =
+  next_part {c} {stores} {i} rest {s} p next same made picked =
+      let sound = next.sound in
+      let b = next.built in
+      let at = next.at in
       let all = c.sinks.items in
       let parts = b.parts in
       let more : take (i + 1) all ≡ take i all ++ s ∷ [] = take_one_more all i s at in
       let long : length parts ≡ i = sym (length_mapped config_of parts) ∙ (ap (λ (xs : List SinkConfig). length xs) b.of ∙ take_long all i s at) in
       let made_here = subst (λ (x : SinkConfig). IsBuiltAs tells files failures c stores parts i x.level x.kind p.sink) (sym same) made in
-      let own = built_more c stores parts p i (config_of p).level (config_of p).kind p.sink made_here in
+      let own = part_more c stores parts p i p made_here in
       let free = next_is_free c.text (take i all) s (sound_until c.text all i s sound at) (sound_at c.text all i s sound at) in
       let free_here = subst (λ (x : SinkConfig). ¬ IsMember (take i all ++ s ∷ []) x.name) (sym same) free in
       let whole = picked_more (λ (a : Part S). ¬ IsMember (take i all ++ s ∷ []) (name_of a)) parts rest p picked free_here in
@@ -239,7 +257,7 @@ module _ {S : Type 0} (tells : Bool) (files : S → Files) (failures : S → ℕ
             ∙ (ap (λ (xs : List SinkConfig). xs ++ config_of p ∷ []) b.of
             ∙ (ap (λ (x : SinkConfig). take i all ++ x ∷ []) same ∙ sym more));
         each = λ n q e. elim (at_more parts p q n e) [
-          | inl l ↦ built_more c stores parts p n q.config.now.level q.config.now.kind q.sink (b.each n q l)
+          | inl l ↦ part_more c stores parts p n q (b.each n q l)
           | inr r ↦
               let place : i ≡ n = sym (r.0 ∙ long) in
               let there = subst (λ m. IsPart tells files failures c stores (parts ++ p ∷ []) m p) place own in
@@ -256,12 +274,12 @@ module _ {S : Type 0} (tells : Bool) (files : S → Files) (failures : S → ℕ
   -- a sink over a store of its own
   pub next_leaf : {c : Config} {stores : List S} {i : ℕ} {left : List (Part S)} {s : SinkConfig} (p : Part S)
       {file pattern : List ℕ} {upkeep : Upkeep} {store : S}
-      → AreSoundSinks c.text [] c.sinks.items → AreBuilt tells files failures c stores i left → slice_get c.sinks.items i ≡ Some s
-      → config_of p ≡ s
+      → IsNext c stores i left s → config_of p ≡ s
       → s.kind ≡ kinds.Lines file pattern upkeep → slice_get stores (count_by is_leaf (take i c.sinks.items)) ≡ Some store
       → IsLeafOf tells files failures c s.level file pattern upkeep store p.sink
       → AreBuilt tells files failures c stores (i + 1) (left ++ p ∷ [])
-  next_leaf {c} {stores} {i} {left} {s} p {store} sound b at same kind mine leaf =
+  next_leaf {c} {stores} {i} {left} {s} p {store} next same kind mine leaf =
+      let b = next.built in
       let before = take i c.sinks.items in
       let made = subst (λ (k : SinkKind). IsBuiltAs tells files failures c stores b.parts i s.level k p.sink) (sym kind)
       (store, mine, leaf) in
@@ -273,19 +291,19 @@ module _ {S : Type 0} (tells : Bool) (files : S → Files) (failures : S → ℕ
         λ never m. never ((member_more before s (name_of a)).1 (inl m)),
       ))
       b.picked in
-      next_part left p sound b at same made picked
+      next_part left p next same made picked
 
   -- a fan
   pub next_fan : {c : Config} {stores : List S} {i : ℕ} {left : List (Part S)} (rest : List (Part S)) {s : SinkConfig} (p : Part S)
       {of : List (List ℕ)}
-      → AreSoundSinks c.text [] c.sinks.items → AreBuilt tells files failures c stores i left → slice_get c.sinks.items i ≡ Some s
-      → config_of p ≡ s → s.kind ≡ kinds.Fan of → MakesFan left s.level of p.sink rest
+      → IsNext c stores i left s → config_of p ≡ s → s.kind ≡ kinds.Fan of → MakesFan left s.level of p.sink rest
       → AreBuilt tells files failures c stores (i + 1) (rest ++ p ∷ [])
-  next_fan {c} {stores} {i} {left} rest {s} p {of} sound b at same kind makes =
+  next_fan {c} {stores} {i} {left} rest {s} p {of} next same kind makes =
+      let b = next.built in
       let before = take i c.sinks.items in
-      let apart = parts_apart c stores i left s sound b at in
       let P : Part S → Type 0 = λ a. ¬ IsMember before (name_of a) in
-      let members = taken_are P b.parts left of makes.0 rest apart b.picked makes.1 in
+      let tops : ArePickedOf P b.parts left = record { apart = parts_apart next; picked = b.picked } in
+      let members = taken_are of makes.0 rest tops makes.1 in
       let made = subst (λ (k : SinkKind). IsBuiltAs tells files failures c stores b.parts i s.level k p.sink) (sym kind)
       (makes.0, members, makes.2) in
       let handed : (name : List ℕ) → HasMember name s → Has (λ n. n ≡ name) of = λ name h. any_has (λ n. n ≡ name) of (subst (HandsTo name) kind h) in
@@ -296,8 +314,8 @@ module _ {S : Type 0} (tells : Bool) (files : S → Files) (failures : S → ℕ
         λ q m. elim ((member_more before s (name_of a)).0 m) [ inl l ↦ q.0 l | inr r ↦ q.1 (handed (name_of a) r) ],
         λ never. (λ m. never ((member_more before s (name_of a)).1 (inl m)), λ m. never ((member_more before s (name_of a)).1 (inr (hands (name_of a) m)))),
       ))
-      (picked_taken P b.parts left of makes.0 rest apart b.picked makes.1) in
-      next_part rest p sound b at same made picked
+      (picked_taken of makes.0 rest tops makes.1) in
+      next_part rest p next same made picked
 
   -- what names of sinks that are never members find among the parts
   pub all_known : (c : Config) (stores : List S) (i : ℕ) (left : List (Part S)) (names : List (List ℕ))
@@ -325,6 +343,6 @@ module _ {S : Type 0} (tells : Bool) (files : S → Files) (failures : S → ℕ
       let R : SinkConfig → Type 0 = λ s. IsFan s × (s.name ≡ name) in
       let back = picked_back (λ (a : Part S). ¬ IsMember before (name_of a)) Q b.parts left b.picked (any_has Q left x.4) in
       let found = has_each Q (λ p. R (config_of p)) b.parts
-      (λ n p e q. (fan_kind c stores b.parts n p.config.now.level p.config.now.kind p.sink (b.each n p e) q.1, q.0)) back in
+      (λ n p e q. (fan_part c stores b.parts n p (b.each n p e) q.1, q.0)) back in
       let named = subst (λ (xs : List SinkConfig). Has R xs) b.of (has_mapped config_of R b.parts found) in
       fans (x.0, x.1, x.2, x.3, has_any R before named)

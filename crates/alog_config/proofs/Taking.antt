@@ -29,13 +29,18 @@ place_name : {S : Type 0} (parts : List (Part S)) (name : List ℕ) (k : ℕ) (p
 place_name {S} parts name k p e place =
     let here : Some (name_of p) ≡ Some name = subst (λ o. option_map (λ (q : Part S). name_of q) o ≡ Some name) e place in cc
 
-pub takes_more : {S : Type 0} (parts : List (Part S)) (names : List (List ℕ)) (sinks : List (Sink S)) (left : List (Part S)) (name : List ℕ)
-    (k : ℕ) {p : Part S}
-    → TakesOut parts names sinks left → k < length left → p ≡ get_or left k p → IsPlace left name k
+-- a part of this name and place
+pub record IsAt {S : Type 0} (parts : List (Part S)) (name : List ℕ) (k : ℕ) (p : Part S) : Type 0 where
+  pub within : k < length parts
+  pub here : p ≡ get_or parts k p
+  pub place : IsPlace parts name k
+
+pub takes_more : {S : Type 0} (parts : List (Part S)) (names : List (List ℕ)) (sinks : List (Sink S)) {left : List (Part S)} {name : List ℕ}
+    {k : ℕ} {p : Part S} → TakesOut parts names sinks left → IsAt left name k p
     → TakesOut parts (names ++ name ∷ []) (sinks ++ p.sink ∷ []) (remove left k)
-takes_more parts names sinks left name k {p} t within is place =
-    let e = slice_get_read left (length left) k p refl within is in
-    subst (λ n. TakesOut parts (names ++ n ∷ []) (sinks ++ p.sink ∷ []) (remove left k)) (place_name left name k p e place)
+takes_more parts names sinks {left} {name} {k} {p} t at =
+    let e = slice_get_read left (length left) k p refl at.within at.here in
+    subst (λ n. TakesOut parts (names ++ n ∷ []) (sinks ++ p.sink ∷ []) (remove left k)) (place_name left name k p e at.place)
     (takes_one parts names sinks left k p t e)
 
 -- what is not taken out is still there
@@ -67,15 +72,18 @@ in_front (n ∷ ns) (suc i) name (inr has) =
     let r = in_front ns i name has in
     let low = r.1 in let within = r.2 in (suc r.0, omega (arith, low), omega (arith, within), r.3)
 
-pub still_there : {S : Type 0} (parts : List (Part S)) (names : List (List ℕ)) (i : ℕ) {name : List ℕ} (sinks : List (Sink S))
-    (left : List (Part S)) → AllPairs (λ a b. ¬ (a ≡ b)) names → i < length names → get_or names i name ≡ name
-    → TakesOut parts (take i names) sinks left → IsPartName parts name → IsPartName left name
-still_there {S} parts names i {name} sinks left apart within here t has =
-    let other : ¬ Has (λ n. n ≡ name) (take i names) = λ x.
+-- a name does not come again in front of its place
+pub not_in_front : (names : List (List ℕ)) (i : ℕ) {name : List ℕ} → AllPairs (λ a b. ¬ (a ≡ b)) names → i < length names
+    → get_or names i name ≡ name → ¬ Has (λ n. n ≡ name) (take i names)
+not_in_front names i {name} apart within here x =
     let r = in_front names i name x in
-    apart r.0 i name r.1 within (r.3 ∙ sym here) in
+    apart r.0 i name r.1 within (r.3 ∙ sym here)
+
+pub still_there : {S : Type 0} (parts : List (Part S)) (names : List (List ℕ)) (sinks : List (Sink S)) (left : List (Part S)) (name : List ℕ)
+    → ¬ Has (λ n. n ≡ name) names → TakesOut parts names sinks left → IsPartName parts name → IsPartName left name
+still_there {S} parts names sinks left name other t has =
     has_any (λ (q : Part S). name_of q ≡ name) left
-    (has_left_over parts (take i names) sinks left name other t (any_has (λ (q : Part S). name_of q ≡ name) parts has))
+    (has_left_over parts names sinks left name other t (any_has (λ (q : Part S). name_of q ≡ name) parts has))
 
 -- as many are taken out as names, and none is a fan where none of that name is
 pub takes_long : {S : Type 0} (parts : List (Part S)) (names : List (List ℕ)) (sinks : List (Sink S)) (left : List (Part S))

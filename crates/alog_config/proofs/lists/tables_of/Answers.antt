@@ -1,13 +1,19 @@
-use Rattle.std.proofs.Common.{◌≡◌, false, refl, arith}
+use Rattle.std.proofs.Common.{refl, arith}
 use Rattle.std.proofs.lemmas.Grind.{common_steps}
 use Rattle.std.specs.Option.{is_some}
 use Rattle.toml.specs.Data.{as_table, table}
 use Rattle.toml.specs.View.{view}
-use Rattle.alog_config.proofs.Arrays.{not_all}
+use Rattle.alog_config.proofs.Arrays.{Fails, not_all}
 use Rattle.alog_config.proofs.lists.tables_of.Goals as goal
 
 pub returns-in_default : goal.returns-in_default
 returns-in_default c =
-    let fails : is_some (as_table (view c.item-item.result)) ≡ false = grind (arith, common_steps) in
-    not_all view table (λ d. is_some (as_table d)) (λ s. refl) c.args.items.now c.loop-item.item-index c.loop-item-test.true c.item-item.is
-    fails
+    let no_table : Fails view table (λ d. is_some (as_table d)) c.args.items.now c.loop-item.item-index c.item-item.result =
+    record {
+      each = λ s. refl;
+      within = c.loop-item-test.true;
+      here = c.item-item.is;
+      fails = grind (arith, common_steps);
+    }
+    in
+    not_all no_table
