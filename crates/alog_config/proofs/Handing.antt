@@ -14,7 +14,7 @@ use Rattle.alog_config.specs.declared.parts.Part.{Part}
 use Rattle.alog_config.specs.Built.{ArePicked, Built, EachIs, IsLoggerOf, IsOfNumber, IsOfRotating, IsStoreFault}
 use Rattle.alog_config.specs.Parts.{AreBuilt, Makes, MayLog, MayMake}
 use Rattle.alog_config.specs.Sinks.{AnyMember, AnyUnknown, IsMember, Rotates, is_leaf, is_lines}
-use Rattle.alog_config.specs.Sound.{AreSoundSinks, IsSound, IsSoundKind}
+use Rattle.alog_config.specs.Sound.{IsSound, IsSoundKind}
 use Rattle.alog_config.proofs.Parting.{IsNext, all_known, config_of, length_mapped, logger_sound_at, name_of, next_fan, next_leaf, no_built_fan, sound_at}
 use Rattle.alog_config.proofs.SharedPicking.{Has, any_has, has_any, picked_short, split_at, take_one_more}
 use Rattle.alog_registry.specs.declared.logger.Logger.{Logger}
