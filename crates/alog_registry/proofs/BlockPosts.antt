@@ -59,20 +59,24 @@ module _ {W : Type 0} (p : Policy) (a b : SwapPort BlockFields Item W TextLimit)
     subst (λ r. IsThere (HoldsTo r.now.ring.limit) b.hand.now) (sym post.done.0.ring) (hand_left HoldsTo p x v a b (Posted t k) post),
   )
 
-  -- a block is in the port's hand, where what was not posted was put back
-  pub settled : (Q R : Type 0) (o : Outcome (Unit {0})) (given kept home : Option BlockFields)
-      → IsThere (HoldsTo a.ring.now.ring.limit) given → kept ≡ left_in o given
-      → IfSome given (λ y. Posts (SwapPortDid HoldsTo) p y.item (tt {0}) a b o)
-      → MatchOption kept ((home ≡ b.hand.now) × Q) (λ y. (home ≡ Some y) × R)
-      → IsThere (HoldsTo b.ring.now.ring.limit) home
-  settled Q R o None kept home there left post match = absurd (cc)
-  settled Q R (Posted t k) (Some y) kept home there left post match =
-      let M : Option BlockFields → Type 0 = λ h. MatchOption h ((home ≡ b.hand.now) × Q) (λ z. (home ≡ Some z) × R) in
-      let same = (subst M left match).0 in
-      subst (λ r. IsThere (HoldsTo r.now.ring.limit) home) (sym post.done.0.ring)
-      (subst (λ h. IsThere (HoldsTo a.ring.now.ring.limit) h) (sym same) (hand_left HoldsTo p y.item (tt {0}) a b (Posted t k) post))
-  settled Q R (Discarded u w k) (Some y) kept home there left post match =
-      let M : Option BlockFields → Type 0 = λ h. MatchOption h ((home ≡ b.hand.now) × Q) (λ z. (home ≡ Some z) × R) in
-      let same = (subst M left match).0 in
-      subst (λ r. IsThere (HoldsTo r.now.ring.limit) home) (sym post.done.0.ring)
-      (subst (λ h. IsThere (HoldsTo a.ring.now.ring.limit) h) (sym same) there)
+  -- A block was posted, and home came what was kept of it, or else what lies in the port's hand.
+  pub record Settles (o : Outcome (Unit {0})) (given kept home : Option BlockFields) (Q R : Type 0) : Type 0 where
+    pub there : IsThere (HoldsTo a.ring.now.ring.limit) given
+    pub left : kept ≡ left_in o given
+    pub post : IfSome given (λ y. Posts (SwapPortDid HoldsTo) p y.item (tt {0}) a b o)
+    pub comes : MatchOption kept ((home ≡ b.hand.now) × Q) (λ y. (home ≡ Some y) × R)
+
+  -- so a block came home
+  pub settled : {Q R : Type 0} (o : Outcome (Unit {0})) (given : Option BlockFields) {kept home : Option BlockFields}
+      → Settles o given kept home Q R → IsThere (HoldsTo b.ring.now.ring.limit) home
+  settled o None h = let there = h.there in absurd (cc)
+  settled {Q} {R} (Posted t k) (Some y) {home} h =
+      let M : Option BlockFields → Type 0 = λ k. MatchOption k ((home ≡ b.hand.now) × Q) (λ z. (home ≡ Some z) × R) in
+      let same = (subst M h.left h.comes).0 in
+      subst (λ r. IsThere (HoldsTo r.now.ring.limit) home) (sym h.post.done.0.ring)
+      (subst (λ h. IsThere (HoldsTo a.ring.now.ring.limit) h) (sym same) (hand_left HoldsTo p y.item (tt {0}) a b (Posted t k) h.post))
+  settled {Q} {R} (Discarded u w k) (Some y) {home} h =
+      let M : Option BlockFields → Type 0 = λ k. MatchOption k ((home ≡ b.hand.now) × Q) (λ z. (home ≡ Some z) × R) in
+      let same = (subst M h.left h.comes).0 in
+      subst (λ r. IsThere (HoldsTo r.now.ring.limit) home) (sym h.post.done.0.ring)
+      (subst (λ h. IsThere (HoldsTo a.ring.now.ring.limit) h) (sym same) h.there)

@@ -35,23 +35,35 @@ module _ {S : Type 0} (did : Doing S Item) (p : Policy) where
   posts_more (m' ∷ ms) a [] h q = absurd h
   posts_more (m' ∷ ms) a {b} {c} (o' ∷ os) {m} {o} h q = (h.0, h.1, posts_more ms h.0 os h.2 q)
 
-  -- a dump: a marker, all messages, and a marker
-  pub dump_posts : {n : ℕ} {t : ℤ} {th : ℕ} {ms list : List Message} {start end : Message} {a b c d : S} {o o' : Outcome (Unit {0})}
-      {first : Outcomes} (os : Outcomes) {all : Outcomes} → length ms ≢ 0 → start ≡ marker n t th (codes "=== backtrace start ===")
-      → end ≡ marker n t th (codes "=== backtrace end ===") → list ≡ ms → first ≡ o ∷ [] → all ≡ os ++ o' ∷ []
-      → PostsItem did p (Text start) a b o
-      → ((s : S) (before : List Message) → PostsEach did p before s first b → PostsEach did p (before ++ list) s os c)
-      → PostsItem did p (Text end) c d o' → PostsEach did p (posted_of n t th ms) a all d
-  dump_posts {ms = []} os some starts ends lists firsts alls q between r = absurd (some refl)
-  dump_posts {n} {t} {th} {ms = m ∷ ms} {list} {start} {end} {a} {b} {c} {d} {o'} {first} os
-      {all} some starts ends lists firsts alls q between r =
-      let one : PostsEach did p (start ∷ []) a first b =
-      subst (λ z. PostsEach did p (start ∷ []) a z b) (sym firsts) (b, q, refl) in
-      let two : PostsEach did p (start ∷ list) a os c = between a (start ∷ []) one in
-      let three : PostsEach did p ((start ∷ list) ++ end ∷ []) a (os ++ o' ∷ []) d = posts_more (start ∷ list) a os two r in
-      let P : Message → Message → List Message → Outcomes → Type 0 = λ x y zs ws. PostsEach did p (x ∷ zs ++ y ∷ []) a ws d in
-      let M : List ℕ → Message = λ text. marker n t th text in
-      subst (λ x. P x (M (codes "=== backtrace end ===")) (m ∷ ms) all) starts
-      (subst (λ y. P start y (m ∷ ms) all) ends
-      (subst (λ zs. P start end zs all) lists
-      (subst (λ ws. P start end list ws) (sym alls) three)))
+  -- A dump posts a marker, all messages, and a marker.
+  pub record PostsDump (n : ℕ) (t : ℤ) (th : ℕ) (ms : List Message) (a : S) (all : Outcomes) (d : S) : Type 0 where
+    pub start : Message
+    pub starts : start ≡ marker n t th (codes "=== backtrace start ===")
+    pub end : Message
+    pub ends : end ≡ marker n t th (codes "=== backtrace end ===")
+    pub first : Outcomes
+    pub outcome : Outcome (Unit {0})
+    pub first_is : first ≡ outcome ∷ []
+    pub more : Outcomes
+    pub last : Outcome (Unit {0})
+    pub all_is : all ≡ more ++ last ∷ []
+    pub b : S
+    pub c : S
+    pub opens : PostsItem did p (Text start) a b outcome
+    pub between : (s : S) (before : List Message) → PostsEach did p before s first b → PostsEach did p (before ++ ms) s more c
+    pub closes : PostsItem did p (Text end) c d last
+
+  -- so it posts what a dump is to post
+  pub dump_posts : {n : ℕ} {t : ℤ} {th : ℕ} {ms : List Message} {a : S} {all : Outcomes} {d : S} → length ms ≢ 0
+      → PostsDump n t th ms a all d → PostsEach did p (posted_of n t th ms) a all d
+  dump_posts {ms = []} some h = absurd (some refl)
+  dump_posts {n} {t} {th} {ms = m ∷ ms} {a} {all} {d} some h =
+      let list : List Message = m ∷ ms in
+      let one : PostsEach did p (h.start ∷ []) a h.first h.b =
+      subst (λ z. PostsEach did p (h.start ∷ []) a z h.b) (sym h.first_is) (h.b, h.opens, refl) in
+      let two : PostsEach did p (h.start ∷ list) a h.more h.c = h.between a (h.start ∷ []) one in
+      let three : PostsEach did p ((h.start ∷ list) ++ h.end ∷ []) a (h.more ++ h.last ∷ []) d =
+      posts_more (h.start ∷ list) a h.more two h.closes in
+      let P : Message → Message → Outcomes → Type 0 = λ x y ws. PostsEach did p (x ∷ list ++ y ∷ []) a ws d in
+      subst (λ x. P x (marker n t th (codes "=== backtrace end ===")) all) h.starts
+      (subst (λ y. P h.start y all) h.ends (subst (λ ws. P h.start h.end ws) (sym h.all_is) three))

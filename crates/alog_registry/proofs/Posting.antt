@@ -43,9 +43,21 @@ module _ {S : Type 0} (did : Doing S Item)
   brought_by fit shows {p} told own m a {b} {c} {v} {o} made q =
       (refl, made.0, subst (λ x. PostsItem did p x a c o) made.1 (made_and_posted p (shows b v) a b c o made.3 q))
 
-  -- the same of one that lies in a hand
-  pub brought_from : {V : Type 0} (fit : S → V → Type 0) (shows : S → V → Item) (p : Policy) (told : Bool) (own : Level) (m : Message)
-      (a b c : S) (hand : Option V) (o : Outcome (Unit {0})) → IsSome hand → IsMade did fit shows own m a hand b
-      → IfSome hand (λ v. PostsItem did p (shows b v) b c o) → IsBrought did own p told m a (Logged o told) c
-  brought_from fit shows p told own m a b c None o there made q = absurd (cc)
-  brought_from fit shows p told own m a b c (Some v) o there made q = brought_by fit shows told own m a made q
+  -- A value was made into a hand, and posted from there.
+  pub record FromHand {V : Type 0} (fit : S → V → Type 0) (shows : S → V → Item) (own : Level) (p : Policy) (m : Message) (a c : S)
+      (o : Outcome (Unit {0})) : Type 0 where
+    pub between : S
+    pub hand : Option V
+    pub there : IsSome hand
+    pub made : IsMade did fit shows own m a hand between
+    pub posted : IfSome hand (λ v. PostsItem did p (shows between v) between c o)
+
+  -- so a message was brought
+  pub brought_from : {V : Type 0} {fit : S → V → Type 0} {shows : S → V → Item} {own : Level} {p : Policy} (told : Bool) {m : Message} {a c : S}
+      {o : Outcome (Unit {0})} → FromHand fit shows own p m a c o → IsBrought did own p told m a (Logged o told) c
+  brought_from {V} {fit} {shows} {own} {p} told {m} {a} {c} {o} h = by_hand h.hand h.there h.made h.posted
+    where
+      by_hand : (hand : Option V) → IsSome hand → IsMade did fit shows own m a hand h.between
+          → IfSome hand (λ v. PostsItem did p (shows h.between v) h.between c o) → IsBrought did own p told m a (Logged o told) c
+      by_hand None there made q = absurd (cc)
+      by_hand (Some v) there made q = brought_by fit shows told own m a made q

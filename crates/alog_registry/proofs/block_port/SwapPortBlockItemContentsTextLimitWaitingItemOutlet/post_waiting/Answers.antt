@@ -14,7 +14,10 @@ returns-clause-ready g c =
     let ready = of_value (λ v. IsReadyPort port) c.args.hand.now told.0 told.1 c.requires.fit in
     let P : Option BlockFields → Type 0 = λ h. IsThere (HoldsTo port.ring.now.ring.limit) h in (
       c.post_from-outcome.ensures.fit,
-      settled c.args.policy _ c.post_from-outcome.new.outlet _ _ c.post_from-outcome.result c.take-block.result
-          c.post_from-outcome.new.hand c.settle.new.home (subst P (sym c.take-block.ensures.value) ready.1)
-          c.post_from-outcome.ensures.left c.post_from-outcome.ensures.post c.settle.ensures,
+      settled c.args.policy _ c.post_from-outcome.new.outlet c.post_from-outcome.result c.take-block.result (record {
+        there = subst P (sym c.take-block.ensures.value) ready.1;
+        left = c.post_from-outcome.ensures.left;
+        post = c.post_from-outcome.ensures.post;
+        comes = c.settle.ensures;
+      }),
     )
