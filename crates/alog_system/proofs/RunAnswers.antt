@@ -211,11 +211,12 @@ module _ {S : Type 0} (tells : Bool) (files : S → Files) (failures : S → ℕ
       ap (λ (o : OutputsView S). map (λ (s : Sink S). own_level s) o.sinks)
       (ap (λ (v : SystemView S). v.outputs) after
       ∙ (posting_same (with_roster w (emptied w.roster d.logger)) a (policy_at w.roster d.logger) (dumped_by w d)).outputs)
-  levels_case w u a x did (served t i done turn outputs said idle was next makes same after) =
-      ap (λ (v : SystemView S). map (λ (s : Sink S). own_level s) v.outputs.sinks) after
+  levels_case w u a x did (served turn i h) =
+      let makes = h.makes in
+      ap (λ (v : SystemView S). map (λ (s : Sink S). own_level s) v.outputs.sinks) h.after
       ∙ (ap (λ (o : OutputsView S). map (λ (s : Sink S). own_level s) o.sinks) makes.others
       ∙ map_set_same (λ (s : Sink S). own_level s) w.outputs.sinks turn.sink makes.before makes.after makes.there
-      (turn_told turn turn.deed i makes.before makes.after said makes.turn).1)
+      (turn_told turn turn.deed i makes.before makes.after h.said makes.turn).1)
 
   levels_stay : (n limit : ℕ) (ls : List Logger) (first : List (Sink S)) (run : List Act) (v : SystemView S)
       → Leads tells files failures (fresh_system n limit ls first) run v → SameLevels v.outputs.sinks first
@@ -274,16 +275,17 @@ module _ {S : Type 0} (tells : Bool) (files : S → Files) (failures : S → ℕ
           (ap (λ (ms : List Message). Dumped (length ms)) (kept_messages ls run w kept_so d.logger));
       place = has_posted idle;
     }
-    is_made u x did (served t i done turn outputs said idle was next makes same after) =
-        let told = turn_told turn turn.deed i makes.before makes.after said makes.turn in
+    is_made u x did (served turn i serving) =
+        let makes = serving.makes in
+        let told = turn_told turn turn.deed i makes.before makes.after serving.said makes.turn in
         let at : slice_get (map (λ (s : Sink S). own_level s) first) turn.sink ≡ Some (own_level makes.before) =
         ap (λ (l : List Level). slice_get l turn.sink) (sym levels)
         ∙ get_map (λ (s : Sink S). own_level s) w.outputs.sinks turn.sink makes.before makes.there in
         let found = map_get (λ (s : Sink S). own_level s) first turn.sink (own_level makes.before) at in
         record {
-          tells = subst (λ (y : Stepped). Tells ls first run y (OnSink turn i)) (sym same)
-              (found.0, found.1, subst (λ (l : Level). IsToldOf l turn turn.deed i said) (sym found.2) told.0);
-          place = has_posted idle;
+          tells = subst (λ (y : Stepped). Tells ls first run y (OnSink turn i)) (sym serving.same)
+              (found.0, found.1, subst (λ (l : Level). IsToldOf l turn turn.deed i serving.said) (sym found.2) told.0);
+          place = has_posted serving.idle;
         }
 
   -- each step answered what it was

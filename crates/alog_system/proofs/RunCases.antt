@@ -23,6 +23,19 @@ use Rattle.alog_system.specs.declared.stepped.Turn.{Turn}
 use Rattle.alog_system.specs.declared.stepped.Turn.TheVariants.{Kept, Dumped}
 
 module _ {S : Type 0} (tells : Bool) (files : S → Files) (failures : S → ℕ) where
+  -- What an actor that serves was at, and which turn on a sink it made.
+  pub record Serving (w : SystemView S) (a : ℕ) (told : Stepped) (u : SystemView S) (turn : SinkTurn) (i : Item) : Type 0 where
+    pub ticket : ℕ
+    pub done : ℕ
+    pub outputs : OutputsView S
+    pub said : Turn
+    pub idle : is_idle (round_of w.desk.world a) ≡ true
+    pub was : duty_of w a ≡ Serves ticket i done
+    pub next : slice_get (turns_for w.roster ticket i) done ≡ Some turn
+    pub makes : Turns tells files failures w.outputs turn i said outputs
+    pub same : told ≡ Turned said
+    pub after : u ≡ with_duty (with_outputs w outputs) a (Serves ticket i (done + 1))
+
   -- A step of the queue, a message that is kept, what was kept that is taken, or a turn on a sink.
   pub data Case (w : SystemView S) (a : ℕ) (told : Stepped) (u : SystemView S) : Did → Type 0 where
     queued : is_idle (round_of w.desk.world a) ≡ false → told ≡ told_in_round (duty_of w a) (desk_told w.desk a) → u ≡ after_round w a
@@ -33,9 +46,7 @@ module _ {S : Type 0} (tells : Bool) (files : S → Files) (failures : S → ℕ
         → told ≡ Turned (Dumped (length (kept_at w.roster d.logger).messages))
         → u ≡ posting (with_roster w (emptied w.roster d.logger)) a (policy_at w.roster d.logger) (dumped_by w d)
         → Case w a told u (Emptying d.logger d.time d.thread)
-    served : (t : ℕ) (i : Item) (done : ℕ) (turn : SinkTurn) (outputs : OutputsView S) (said : Turn)
-        → is_idle (round_of w.desk.world a) ≡ true → duty_of w a ≡ Serves t i done → slice_get (turns_for w.roster t i) done ≡ Some turn → Turns tells files failures w.outputs turn i said outputs
-        → told ≡ Turned said → u ≡ with_duty (with_outputs w outputs) a (Serves t i (done + 1)) → Case w a told u (OnSink turn i)
+    served : (turn : SinkTurn) (i : Item) → Serving w a told u turn i → Case w a told u (OnSink turn i)
 
   turn_case : {w : SystemView S} {a : ℕ} {told : Stepped} {u : SystemView S} {said : Turn} {d : Duty} → d ≡ duty_of w a
       → is_idle (round_of w.desk.world a) ≡ true → told ≡ Turned said → TurnSteps tells files failures w a d said u
@@ -47,7 +58,18 @@ module _ {S : Type 0} (tells : Bool) (files : S → Files) (failures : S → ℕ
   turn_case {d = Works} is idle same h = absurd h
   turn_case {w} {a} {told} {u} {said} {d = Serves t i done} is idle same h =
       subst (λ (o : Option SinkTurn). Case w a told u (on_sink o i)) (sym h.next)
-      (served t i done h.turn h.outputs said idle (sym is) h.next h.makes same h.after)
+      (served h.turn i (record {
+        ticket = t;
+        done = done;
+        outputs = h.outputs;
+        said = said;
+        idle = idle;
+        was = sym is;
+        next = h.next;
+        makes = h.makes;
+        same = same;
+        after = h.after;
+      }))
 
   step_case : (w : SystemView S) (a : ℕ) (told : Stepped) (u : SystemView S) (b : Bool) → is_idle (round_of w.desk.world a) ≡ b
       → MatchBool b (TurnTold tells files failures w a told u) (RoundSteps w a told u)

@@ -207,6 +207,12 @@ pub record Goes {S : Type 0} (n : ℕ) (ls : List Logger) (calls : List (CallMad
   pub turns_even : owed ++ asks ≡ made ++ turns_left ls (duty_of u a)
   pub stands : Stands u a
 
+-- An actor that is in no round, on a desk that these calls and steps led to.
+pub record MayCall {S : Type 0} (n : ℕ) (calls : List (CallMade Item)) (steps : List (StepMade Item)) (v : SystemView S) (a : ℕ) : Type 0 where
+  pub plays : Plays (fresh_desk n 0) calls steps v.desk
+  pub idle : is_idle (round_of v.desk.world a) ≡ true
+  pub there : a < length v.duties
+
 module _ {S : Type 0} (n : ℕ) (size : is_size n ≡ true) (ls : List Logger) (a : ℕ) (lt : a < ACTORS) where
   -- nothing is begun, and the actor is in no round
   pub rests_goes : {calls : List (CallMade Item)} {steps : List (StepMade Item)} {u : SystemView S} {d : Duty}
@@ -226,20 +232,19 @@ module _ {S : Type 0} (n : ℕ) (size : is_size n ≡ true) (ls : List Logger) (
 
   -- a post begins
   pub post_goes : {calls : List (CallMade Item)} {steps : List (StepMade Item)} (v : SystemView S) (p : Policy) (i : Item) (d : Duty)
-      {left more : List (Call Item)} {owed asks made : List Did} → Plays (fresh_desk n 0) calls steps v.desk
-      → is_idle (round_of v.desk.world a) ≡ true → a < length v.duties → IsBeside d → left ++ more ≡ ToPost p i ∷ calls_left d
-      → owed ++ asks ≡ made ++ turns_left ls d
+      {left more : List (Call Item)} {owed asks made : List Did} → MayCall n calls steps v a → IsBeside d
+      → left ++ more ≡ ToPost p i ∷ calls_left d → owed ++ asks ≡ made ++ turns_left ls d
       → Goes n ls calls steps a left more owed asks made (with_duty (with_desk v (post_began v.desk a p i)) a d)
-  post_goes {calls} {steps} v p i d {made} plays idle there beside calls_even even =
+  post_goes {calls} {steps} v p i d {made} may beside calls_even even =
       let u : SystemView S = with_duty (with_desk v (post_began v.desk a p i)) a d in
       let c : CallMade Item = called a (ToPost p i) in
-      let more_plays : Plays (fresh_desk n 0) (calls ++ c ∷ []) steps u.desk = posts a p i plays lt idle in
-      let none = none_where_idle n size calls steps v.desk plays a lt idle in
-      let even_so : posts_in (calls_made a calls) ≡ length (outcomes_made a steps) = ahead_of n size calls steps v.desk plays a lt None none in
+      let more_plays : Plays (fresh_desk n 0) (calls ++ c ∷ []) steps u.desk = posts a p i may.plays lt may.idle in
+      let none = none_where_idle n size calls steps v.desk may.plays a lt may.idle in
+      let even_so : posts_in (calls_made a calls) ≡ length (outcomes_made a steps) = ahead_of n size calls steps v.desk may.plays a lt None none in
       let one : posts_in (calls_made a calls ++ ToPost p i ∷ []) ≡ posts_in (calls_made a calls) + 1 =
       posts_append (calls_made a calls) (ToPost p i ∷ []) in
       let mine : calls_made a (calls ++ c ∷ []) ≡ calls_made a calls ++ ToPost p i ∷ [] = my_call a c calls refl in
-      let is : duty_of u a ≡ d = set_duty (with_desk v (post_began v.desk a p i)) a d there in
+      let is : duty_of u a ≡ d = set_duty (with_desk v (post_began v.desk a p i)) a d may.there in
       let ahead_now : posts_in (calls_made a (calls ++ c ∷ [])) ≡ length (outcomes_made a steps) + 1 =
       ap posts_in mine ∙ omega (arith, even_so, one) in
       let post = some_where_ahead n size (calls ++ c ∷ []) steps u.desk more_plays a lt ahead_now in
@@ -255,19 +260,19 @@ module _ {S : Type 0} (n : ℕ) (size : is_size n ≡ true) (ls : List Logger) (
       }
 
   -- a pop begins
-  pub pop_begins : (calls : List (CallMade Item)) (steps : List (StepMade Item)) (v : SystemView S) → Plays (fresh_desk n 0) calls steps v.desk
-      → is_idle (round_of v.desk.world a) ≡ true → a < length v.duties → a < length v.desk.world.rounds
+  pub pop_begins : (calls : List (CallMade Item)) (steps : List (StepMade Item)) (v : SystemView S) → MayCall n calls steps v a
+      → a < length v.desk.world.rounds
       → Goes n ls calls steps a [] (ToPop ∷ []) [] [] [] (with_duty (with_desk v (call_began v.desk a round.Pop)) a Works)
-  pop_begins calls steps v plays idle there in_rounds =
+  pop_begins calls steps v may in_rounds =
       let w : SystemView S = with_desk v (call_began v.desk a round.Pop) in
       let u : SystemView S = with_duty w a Works in
       let c : CallMade Item = called a ToPop in
-      let none = none_where_idle n size calls steps v.desk plays a lt idle in
-      let is : duty_of u a ≡ Works = set_duty w a Works there in
+      let none = none_where_idle n size calls steps v.desk may.plays a lt may.idle in
+      let is : duty_of u a ≡ Works = set_duty w a Works may.there in
       let here : round_of u.desk.world a ≡ round.Pop = get_or-set_same v.desk.world.rounds a round.Pop round.Idle in_rounds in
       record {
         now = calls ++ c ∷ [];
-        plays = pops a plays lt idle;
+        plays = pops a may.plays lt may.idle;
         new = ToPop ∷ [];
         mine = my_call a c calls refl;
         others = λ b other. others_call b c calls other;
@@ -279,15 +284,13 @@ module _ {S : Type 0} (n : ℕ) (size : is_size n ≡ true) (ls : List Logger) (
 
   -- the next post of a dump begins, if one is left
   pub posting_goes : {calls : List (CallMade Item)} {steps : List (StepMade Item)} (v : SystemView S) (p : Policy) (ms : List Message)
-      {left more : List (Call Item)} {owed asks made : List Did} → Plays (fresh_desk n 0) calls steps v.desk
-      → is_idle (round_of v.desk.world a) ≡ true → a < length v.duties → left ++ more ≡ posts_of p ms → owed ++ asks ≡ made ++ []
+      {left more : List (Call Item)} {owed asks made : List Did} → MayCall n calls steps v a → left ++ more ≡ posts_of p ms → owed ++ asks ≡ made ++ []
       → Goes n ls calls steps a left more owed asks made (posting v a p ms)
-  posting_goes {calls} {steps} v p [] {left} {more} {owed} {asks} {made} plays idle there calls_even even =
-      rests_goes {u = with_duty v a Free} {left = left} {more = more} {owed = owed} {asks = asks} {made = made} plays idle
-      (set_duty v a Free there) refl calls_even even
-  posting_goes {calls} {steps} v p (m ∷ ms) {left} {more} {owed} {asks} {made} plays idle there calls_even even =
-      post_goes v p (Text m) (Posts p ms) {left = left} {more = more} {owed = owed} {asks = asks} {made = made} plays idle there tt
-      calls_even even
+  posting_goes {calls} {steps} v p [] {left} {more} {owed} {asks} {made} may calls_even even =
+      rests_goes {u = with_duty v a Free} {left = left} {more = more} {owed = owed} {asks = asks} {made = made} may.plays may.idle
+      (set_duty v a Free may.there) refl calls_even even
+  posting_goes {calls} {steps} v p (m ∷ ms) {left} {more} {owed} {asks} {made} may calls_even even =
+      post_goes v p (Text m) (Posts p ms) {left = left} {more = more} {owed = owed} {asks = asks} {made = made} may tt calls_even even
 
   -- a step of a round: of a work's pop
   module _ (calls : List (CallMade Item)) (steps : List (StepMade Item)) (w : SystemView S) (plays : Plays (fresh_desk n 0) calls steps w.desk)
@@ -390,7 +393,7 @@ module _ {S : Type 0} (n : ℕ) (size : is_size n ≡ true) (ls : List Logger) (
         subst (λ (x : Option (Outcome Item)). Goes n ls calls more_steps a (posts_of q ms) [] [] (turns_by_step ls (InQueue (step_of w.desk a))) [] (posting_on after a q ms x))
         (sym out)
         (posting_goes after q ms {left = posts_of q ms} {more = []} {owed = []} {asks = turns_by_step ls (InQueue (step_of w.desk a))}
-        {made = []} stepped_on (ended o out) there (append-nil (posts_of q ms)) (no_turns p there_is))
+        {made = []} (record { plays = stepped_on; idle = ended o out; there = there }) (append-nil (posts_of q ms)) (no_turns p there_is))
     post_ends p o Works there_is out is beside = absurd beside
     post_ends p o (Serves t i done) there_is out is beside = absurd beside
 

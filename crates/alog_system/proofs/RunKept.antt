@@ -13,7 +13,7 @@ use Rattle.std.specs.Prelude.{slice_set}
 use Rattle.alog_system.specs.Begin.{begun}
 use Rattle.alog_system.specs.Roster.{RosterView, kept_at, keeping, emptied, policy_at, room, room_of, empty_of, with_room}
 use Rattle.alog_system.specs.Acts.{Did, Made, Act, BeginsDeed, MakesStep, SetsLevel, steps_in, first_level, levels_after, most, kept_by, kept_since, kept_after}
-use Rattle.alog_system.specs.Runs.{Leads, starts, begins, steps, sets, did_by}
+use Rattle.alog_system.specs.Runs.{Leads, starts, begins, steps, sets}
 use Rattle.alog_system.specs.Step.{dumped_by}
 use Rattle.alog_system.specs.System.{SystemView, fresh_system, with_roster}
 use Rattle.alog_system.specs.declared.stepped.Stepped.{Stepped}
@@ -157,8 +157,8 @@ module _ {S : Type 0} (tells : Bool) (files : S → Files) (failures : S → ℕ
       (room_set w.roster d.logger (empty_of (kept_at w.roster d.logger)) [] (sym (nothing_last (kept_at w.roster d.logger).most))))
       (λ other.
       subst (λ (r : Room). Keeps r xs) (sym (room_other w.roster d.logger n (empty_of (kept_at w.roster d.logger)) (λ e. other (sym e)))) h))
-  keeps_case n xs (served t i done turn outputs x idle was next makes same after) h =
-      subst (λ (v : SystemView S). Keeps (kept_at v.roster n) xs) (sym after) h
+  keeps_case n xs (served turn i s) h =
+      subst (λ (v : SystemView S). Keeps (kept_at v.roster n) xs) (sym s.after) h
 
   fresh_keeps : (loggers : List Logger) (n : ℕ) → Keeps (get_or (map room_of loggers) n (room 0)) []
   fresh_keeps [] n = refl
@@ -177,8 +177,8 @@ module _ {S : Type 0} (tells : Bool) (files : S → Files) (failures : S → ℕ
       (ap (λ (v : SystemView S). v.roster) after
       ∙ (posting_same (with_roster w (emptied w.roster d.logger)) a (policy_at w.roster d.logger) (dumped_by w d)).roster)
       ∙ most_set w.roster d.logger n (empty_of (kept_at w.roster d.logger)) refl
-  most_case n w u a said did (served t i done turn outputs x idle was next makes same after) =
-      ap (λ (v : SystemView S). (kept_at v.roster n).most) after
+  most_case n w u a said did (served turn i s) =
+      ap (λ (v : SystemView S). (kept_at v.roster n).most) s.after
 
   alike_case : (w u : SystemView S) (a : ℕ) (said : Stepped) (did : Did) → Case tells files failures w a said u did → IsAlike u.roster w.roster
   alike_case w u a said did (queued busy same after) =
@@ -190,8 +190,8 @@ module _ {S : Type 0} (tells : Bool) (files : S → Files) (failures : S → ℕ
       ap (λ (v : SystemView S). v.roster) after
       ∙ (posting_same (with_roster w (emptied w.roster d.logger)) a (policy_at w.roster d.logger) (dumped_by w d)).roster in
       record { loggers = ap (λ (x : RosterView). x.loggers) is; levels = ap (λ (x : RosterView). x.levels) is }
-  alike_case w u a said did (served t i done turn outputs x idle was next makes same after) =
-      record { loggers = ap (λ (v : SystemView S). v.roster.loggers) after; levels = ap (λ (v : SystemView S). v.roster.levels) after }
+  alike_case w u a said did (served turn i s) =
+      record { loggers = ap (λ (v : SystemView S). v.roster.loggers) s.after; levels = ap (λ (v : SystemView S). v.roster.levels) s.after }
 
   is_kept_case : {ls : List Logger} {xs : List Act} {w u : SystemView S} {a : ℕ} {said : Stepped} {did : Did}
       → Case tells files failures w a said u did → IsKept ls xs w → IsKept ls (xs ++ MakesStep (record { actor = a; did = did; told = said }) ∷ []) u

@@ -28,7 +28,7 @@ use Rattle.alog_system.specs.Acts.{Did, InQueue, OnSink, Keeping, Emptying, Made
 use Rattle.alog_system.specs.Asked.{message_by, posts_of, on_sinks, calls_by_deed, calls_by_step, calls_by, calls_asked, turns_by_deed, turns_by_step, turns_by_act, turns_asked, beside, turn_in, turns_made}
 use Rattle.alog_system.specs.Begin.{MayBegin, begun, posting_unless}
 use Rattle.alog_system.specs.Roster.{RosterView, turns_for, level_at, policy_at, backtrace_at, emptied, keeping}
-use Rattle.alog_system.specs.Runs.{Leads, starts, begins, steps, sets, did_by}
+use Rattle.alog_system.specs.Runs.{Leads, starts, begins, steps, sets}
 use Rattle.alog_system.specs.Step.{dumped_by}
 use Rattle.alog_system.specs.System.{SystemView, fresh_system, duty_of, is_free, owes, with_duty, with_outputs, with_roster}
 use Rattle.alog_system.specs.declared.deed.Deed.{Deed}
@@ -37,7 +37,7 @@ use Rattle.alog_system.specs.declared.duty.Duty.{Duty}
 use Rattle.alog_system.specs.declared.duty.Duty.TheVariants.{Free, Keeps, Dumps, Posts, Works, Serves}
 use Rattle.alog_system.specs.declared.stepped.Stepped.{Stepped}
 use Rattle.alog_system.proofs.RunCases.{Case, queued, kept, dumped, served, case_of}
-use Rattle.alog_system.proofs.RunGoes.{calls_left, turns_left, Stance, Stands, stands_rest, Goes, rests_goes, post_goes, pop_begins, posting_goes, round_goes}
+use Rattle.alog_system.proofs.RunGoes.{calls_left, turns_left, Stance, Stands, stands_rest, Goes, rests_goes, MayCall, post_goes, pop_begins, posting_goes, round_goes}
 use Rattle.alog_system.proofs.RunKept.{IsKept, is_kept, kept_messages}
 use Rattle.alog_system.proofs.RunLists.{along_last, flat_map_last, steps_begun, steps_made, steps_set, queue_last, if_mine, if_other, stays_even}
 use Rattle.alog_system.proofs.RunOthers.{set_duty, IsMine, mine_begun, mine_case}
@@ -196,6 +196,9 @@ module _ {S : Type 0} (n : ℕ) (size : is_size n ≡ true) (ls : List Logger) w
     in_rounds : a < length w.desk.world.rounds
     in_rounds = (let all = rounds_stay n 0 h.calls (queue_steps (steps_in run)) w.desk h.plays in omega (arith, all, lt))
 
+    may_call : MayCall n h.calls (queue_steps (steps_in run)) w a
+    may_call = record { plays = h.plays; idle = idle; there = there }
+
     abbrev Opens : List (Call Item) → List Did → SystemView S → Type 0
     Opens more asks u = Goes n ls h.calls (queue_steps (steps_in run)) a [] more [] asks [] u
 
@@ -211,12 +214,11 @@ module _ {S : Type 0} (n : ℕ) (size : is_size n ≡ true) (ls : List Logger) w
     log_goes m p false true is =
         subst (λ (q : Policy). Opens (ToPost q (Text m) ∷ []) [] (with_duty (posting_unless false w a m) a Free)) (sym is)
         (post_goes n size ls a lt w (policy_at w.roster m.logger) (Text m) Free {left = []}
-        {more = ToPost (policy_at w.roster m.logger) (Text m) ∷ []} {owed = []} {asks = []} {made = []} h.plays idle there tt refl refl)
+        {more = ToPost (policy_at w.roster m.logger) (Text m) ∷ []} {owed = []} {asks = []} {made = []} may_call tt refl refl)
     log_goes m p false false is =
         subst (λ (q : Policy). Opens (ToPost q (Text m) ∷ []) (Keeping m ∷ []) (with_duty (posting_unless false w a m) a (Keeps m))) (sym is)
         (post_goes n size ls a lt w (policy_at w.roster m.logger) (Text m) (Keeps m) {left = []}
-        {more = ToPost (policy_at w.roster m.logger) (Text m) ∷ []} {owed = []} {asks = Keeping m ∷ []} {made = []} h.plays idle there tt
-        refl refl)
+        {more = ToPost (policy_at w.roster m.logger) (Text m) ∷ []} {owed = []} {asks = Keeping m ∷ []} {made = []} may_call tt refl refl)
 
     policy_is : (k : ℕ) → policy ls k ≡ policy_at w.roster k
     policy_is k = ap (λ (l : List Logger). policy_in (spec_at l k)) (sym kept_so.loggers)
@@ -238,12 +240,12 @@ module _ {S : Type 0} (n : ℕ) (size : is_size n ≡ true) (ls : List Logger) w
     deed_goes (deed.Flush k) =
         subst (λ (q : Policy). Opens (ToPost q (Flush k) ∷ []) [] (begun w a (deed.Flush k))) (sym (policy_is k))
         (post_goes n size ls a lt w (policy_at w.roster k) (Flush k) Free {left = []} {more = ToPost (policy_at w.roster k) (Flush k) ∷ []}
-        {owed = []} {asks = []} {made = []} h.plays idle there tt refl refl)
+        {owed = []} {asks = []} {made = []} may_call tt refl refl)
     deed_goes (deed.Dump time k) =
         let d : Duty = Dumps (record { logger = k; time = time; thread = a; most = backtrace_at w.roster k }) in
         rests_goes n size ls a lt {u = with_duty w a d} {left = []} {more = []} {owed = []} {asks = Emptying k time a ∷ []} {made = []}
         h.plays idle (set_duty w a d there) refl refl refl
-    deed_goes deed.Work = pop_begins n size ls a lt h.calls (queue_steps (steps_in run)) w h.plays idle there in_rounds
+    deed_goes deed.Work = pop_begins n size ls a lt h.calls (queue_steps (steps_in run)) w may_call in_rounds
 
   known_begun : (run : List Act) (w : SystemView S) (a : ℕ) (d : Deed) → Known run w → IsKept ls run w → MayBegin w a d
       → Known (run ++ BeginsDeed a d ∷ []) (begun w a d)
@@ -291,21 +293,23 @@ module _ {S : Type 0} (n : ℕ) (size : is_size n ≡ true) (ls : List Logger) w
           (subst (λ (ss : List (StepMade Item)). Leaves x ss (Dumps d)) (sym (append-nil (queue_steps (steps_in run))))
           (subst (λ (y : SystemView S). Goes n ls h.calls (queue_steps (steps_in run)) a [] (calls_by_step ls run x) (x ∷ []) [] (x ∷ []) y) (sym after)
           (posting_goes n size ls a lt v (policy_at w.roster k) (dumped_by w d) {left = []} {more = calls_by_step ls run x} {owed = x ∷ []}
-          {asks = []} {made = x ∷ []} h.plays idle (let all = h.many in omega (arith, all, lt)) asked refl)))
-      step_goes said did (served t i done turn outputs told idle was next makes same after) =
+          {asks = []} {made = x ∷ []} (record { plays = h.plays; idle = idle; there = let all = h.many in omega (arith, all, lt) }) asked refl)))
+      step_goes said did (served turn i s) =
+          let t : ℕ = s.ticket in
+          let done : ℕ = s.done in
           let x : Did = OnSink turn i in
           let all : List SinkTurn = turns_by (spec_at ls (logger_of i)) t i in
           let first : slice_get all done ≡ Some turn =
-          ap (λ (l : List Logger). slice_get (turns_by (spec_at l (logger_of i)) t i) done) (sym kept_so.loggers) ∙ next in
+          ap (λ (l : List Logger). slice_get (turns_by (spec_at l (logger_of i)) t i) done) (sym kept_so.loggers) ∙ s.next in
           let even : on_sinks i (drop done all) ++ [] ≡ x ∷ on_sinks i (drop (done + 1) all) =
           append-nil (on_sinks i (drop done all)) ∙ ap (on_sinks i) (drop_next done all turn first) in
-          let v : SystemView S = with_outputs w outputs in
+          let v : SystemView S = with_outputs w s.outputs in
           let d : Duty = Serves t i (done + 1) in
-          subst (λ (e : Duty). Leaves x (queue_steps (steps_in run) ++ []) e) (sym was)
+          subst (λ (e : Duty). Leaves x (queue_steps (steps_in run) ++ []) e) (sym s.was)
           (subst (λ (ss : List (StepMade Item)). Leaves x ss (Serves t i done)) (sym (append-nil (queue_steps (steps_in run))))
-          (subst (λ (y : SystemView S). Goes n ls h.calls (queue_steps (steps_in run)) a [] [] (on_sinks i (drop done all)) [] (x ∷ []) y) (sym after)
+          (subst (λ (y : SystemView S). Goes n ls h.calls (queue_steps (steps_in run)) a [] [] (on_sinks i (drop done all)) [] (x ∷ []) y) (sym s.after)
           (rests_goes n size ls a lt {u = with_duty v a d} {left = []} {more = []} {owed = on_sinks i (drop done all)} {asks = []}
-          {made = x ∷ []} h.plays idle (set_duty v a d (let many = h.many in omega (arith, many, lt))) refl refl even)))
+          {made = x ∷ []} h.plays s.idle (set_duty v a d (let many = h.many in omega (arith, many, lt))) refl refl even)))
 
     known_step : {run : List Act} {w u : SystemView S} {a : ℕ} {said : Stepped} {did : Did} → Known run w → IsKept ls run w → a < ACTORS
         → Case tells files failures w a said u did → Known (run ++ MakesStep (record { actor = a; did = did; told = said }) ∷ []) u

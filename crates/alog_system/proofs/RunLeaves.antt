@@ -183,18 +183,18 @@ module _ {S : Type 0} (tells : Bool) (files : S → Files) (failures : S → ℕ
   each_stays (s ∷ stood) [] none fine all = absurd all
 
   -- each leaf has its turn, where a fault of one is told
-  pub each_has : {A : Type 0} (Does : LeafView S → Result A SinkError → LeafView S → Type 0)
+  pub each_has : {A : Type 0} {Does : LeafView S → Result A SinkError → LeafView S → Type 0}
       → ((s : Stood) (o n : LeafView S) (a : Result A SinkError) → (IsFailed a → IsFaultOn k x.told) → Does o a n → Has made s o → Has more s n)
       → (olds : List (LeafView S)) (answers : List (Result A SinkError)) (news : List (LeafView S)) (stood : List Stood)
       → EachDoes Does olds answers news → (HasFailed answers → IsFaultOn k x.told) → Each made stood olds → Each more stood news
-  each_has Does one [] [] [] [] each fault all = tt
-  each_has Does one (o ∷ os) (a ∷ answers) (n ∷ ns) (s ∷ stood) each fault all = (
+  each_has one [] [] [] [] each fault all = tt
+  each_has {Does} one (o ∷ os) (a ∷ answers) (n ∷ ns) (s ∷ stood) each fault all = (
     one s o n a (λ f. fault (failed_head a answers f)) each.0 all.0,
-    each_has Does one os answers ns stood each.1 (λ f. fault (failed_tail a answers f)) all.1,
+    each_has {Does = Does} one os answers ns stood each.1 (λ f. fault (failed_tail a answers f)) all.1,
   )
-  each_has Does one (o ∷ os) (a ∷ answers) (n ∷ ns) [] each fault all = absurd all
-  each_has Does one [] [] [] (s ∷ stood) each fault all = absurd all
-  each_has Does one [] (a ∷ answers) ns stood each fault all = absurd each
-  each_has Does one [] [] (n ∷ ns) stood each fault all = absurd each
-  each_has Does one (o ∷ os) [] ns stood each fault all = absurd each
-  each_has Does one (o ∷ os) (a ∷ answers) [] stood each fault all = absurd each
+  each_has one (o ∷ os) (a ∷ answers) (n ∷ ns) [] each fault all = absurd all
+  each_has one [] [] [] (s ∷ stood) each fault all = absurd all
+  each_has one [] (a ∷ answers) ns stood each fault all = absurd each
+  each_has one [] [] (n ∷ ns) stood each fault all = absurd each
+  each_has one (o ∷ os) [] ns stood each fault all = absurd each
+  each_has one (o ∷ os) (a ∷ answers) [] stood each fault all = absurd each

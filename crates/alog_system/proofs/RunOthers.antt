@@ -145,6 +145,6 @@ module _ {S : Type 0} where
   mine_case {w} {a} (dumped d idle was same after) =
       let h = mine_posting a (with_roster w (emptied w.roster d.logger)) (policy_at w.roster d.logger) (dumped_by w d) in
       subst (λ (x : SystemView S). IsMine a x w) (sym after) (record { many = h.many; duties = h.duties; posts = h.posts; rounds = h.rounds })
-  mine_case {w} {a} (served t i done turn outputs x idle was next makes same after) =
-      let h = mine_duty a w (Serves t i (done + 1)) in
-      subst (λ (x : SystemView S). IsMine a x w) (sym after) (record { many = h.many; duties = h.duties; posts = h.posts; rounds = h.rounds })
+  mine_case {w} {a} (served turn i s) =
+      let h = mine_duty a w (Serves s.ticket i (s.done + 1)) in
+      subst (λ (x : SystemView S). IsMine a x w) (sym s.after) (record { many = h.many; duties = h.duties; posts = h.posts; rounds = h.rounds })

@@ -29,7 +29,7 @@ use Rattle.alog_system.specs.Begin.{begun}
 use Rattle.alog_system.specs.Faults.{IsFaultOn, AreFine, leaves, handed, MeetsNone, EachStands, SinkStands, with_more, FineSinkStands}
 use Rattle.alog_system.specs.Outputs.{OutputsView, Turns, DoesTurn, told_of_text, told_of_flush}
 use Rattle.alog_system.specs.Roster.{emptied, policy_at}
-use Rattle.alog_system.specs.Runs.{Leads, starts, begins, steps, sets, made_by, did_by}
+use Rattle.alog_system.specs.Runs.{Leads, starts, begins, steps, sets, made_by}
 use Rattle.alog_system.specs.Step.{dumped_by, told_in_round, told_of_work}
 use Rattle.alog_system.specs.System.{SystemView, duty_of, fresh_system, with_roster}
 use Rattle.alog_system.specs.declared.duty.Duty.{Duty}
@@ -68,72 +68,84 @@ is_alike : {S : Type 0} (s : Sink S) → IsAlike s s
 is_alike (Leaf l) = tt
 is_alike (Fan f) = refl
 
+-- What a step tells of this sink: what it was given, and a fault exactly where the sink's answer is one.
+record TellsOf {A : Type 0} (k : ℕ) (x : Made) (ms : List Message) (a : Result A SinkError) : Type 0 where
+  pub given : given_in k x.did ≡ ms
+  pub fault : IsFailed a → IsFaultOn k x.told
+  pub fine : (IsFailed a → ⊥) → IsFaultOn k x.told → ⊥
+
 module _ {S : Type 0} (tells : Bool) (files : S → Files) (failures : S → ℕ) (told : tells ≡ true) where
+  -- This sink was the old one at first, and each of its leaves stands for what it was given since, or broke off.
+  record StandsFrom (k : ℕ) (made : List Made) (old : Sink S) (stood : List Stood) (now : Sink S) : Type 0 where
+    pub alike : IsAlike old now
+    pub each : EachStands files old k made stood (leaves now)
+
   -- a sink after a text that it was given, and after a flush
-  text_has : (sink o n : Sink S) (k : ℕ) (made : List Made) (x : Made) {m : Message} (a : Answer) (stood : List Stood)
-      → given_in k x.did ≡ m ∷ []
-      → (IsFailed a → IsFaultOn k x.told) → ((IsFailed a → ⊥) → IsFaultOn k x.told → ⊥) → SinkTakes tells files failures o m a n → IsAlike sink o
-      → EachStands files sink k made stood (leaves o) → IsAlike sink n × EachStands files sink k (made ++ x ∷ []) stood (leaves n)
-  text_has (Leaf l) (Leaf o) (Leaf n) k made x {m} a (s ∷ []) given fault fine takes alike all = (
-    tt,
-    (
-      takes_has tells files failures told (Leaf l) k made x given fault
-          (λ served h. fine_more k made x h (fine served)) takes all.0,
+  text_has : {k : ℕ} {made : List Made} {x : Made} {m : Message} {a : Answer} (sink o n : Sink S) (stood : List Stood)
+      → TellsOf k x (m ∷ []) a → SinkTakes tells files failures o m a n → StandsFrom k made sink stood o
+      → StandsFrom k (made ++ x ∷ []) sink stood n
+  text_has {k} {made} {x} (Leaf l) (Leaf o) (Leaf n) (s ∷ []) says takes h = record {
+    alike = tt;
+    each = (
+      takes_has tells files failures told (Leaf l) k made x says.given says.fault
+          (λ served none. fine_more k made x none (says.fine served)) takes h.each.0,
       tt,
-    ),
-  )
-  text_has (Leaf l) (Leaf o) (Leaf n) k made x a [] given fault fine takes alike all = absurd all
-  text_has (Leaf l) (Leaf o) (Leaf n) k made x a (s ∷ r ∷ stood) given fault fine takes alike all = absurd all.1
-  text_has (Fan f) (Fan o) (Fan n) k made x {m} a stood given fault fine takes alike all =
-      (takes.level ∙ alike, at (admits o.level m.level) refl)
+    );
+  }
+  text_has (Leaf l) (Leaf o) (Leaf n) [] says takes h = absurd h.each
+  text_has (Leaf l) (Leaf o) (Leaf n) (s ∷ r ∷ stood) says takes h = absurd h.each.1
+  text_has {k} {made} {x} {m} (Fan f) (Fan o) (Fan n) stood says takes h =
+      record { alike = takes.level ∙ h.alike; each = at (admits o.level m.level) refl }
     where
       level : Level → Bool
       level l = admits l m.level
 
       given_is : (b : Bool) → admits o.level m.level ≡ b → handed (Fan f) (given_in k x.did) ≡ cond b (m ∷ []) []
       given_is b e =
-          ap (λ (ms : List Message). admitted f.level ms) given
-          ∙ (ap (λ (l : Level). cond (admits l m.level) (m ∷ []) []) (sym alike) ∙ ap (λ v. cond v (m ∷ []) []) e)
+          ap (λ (ms : List Message). admitted f.level ms) says.given
+          ∙ (ap (λ (l : Level). cond (admits l m.level) (m ∷ []) []) (sym h.alike) ∙ ap (λ v. cond v (m ∷ []) []) e)
 
       at : (b : Bool) → admits o.level m.level ≡ b → EachStands files (Fan f) k (made ++ x ∷ []) stood n.members
       at true e =
-          let h = takes.given e in
-          each_has tells files failures told (Fan f) k made x (λ p c q. Takes tells files failures p m c q)
-          (λ s p q c failed does has. takes_has tells files failures told (Fan f) k made x (given_is true e) failed (λ served none. tt)
-          does has)
-          o.members h.0 n.members stood h.1 (λ failed. fault (subst IsFailed (sym h.2) (failed_first Written h.0 failed))) all
+          let does = takes.given e in
+          each_has tells files failures told (Fan f) k made x {Does = λ p c q. Takes tells files failures p m c q}
+          (λ s p q c failed takes_it has. takes_has tells files failures told (Fan f) k made x (given_is true e) failed (λ served none. tt)
+          takes_it has)
+          o.members does.0 n.members stood does.1 (λ failed. says.fault (subst IsFailed (sym does.2) (failed_first Written does.0 failed))) h.each
       at false e =
           subst (λ (g : FanView S). EachStands files (Fan f) k (made ++ x ∷ []) stood g.members) (sym (takes.below e).1)
-          (each_stays tells files failures told (Fan f) k made x stood o.members (given_is false e) (λ none. tt) all)
-  text_has (Leaf l) (Leaf o) (Fan n) k made x a stood given fault fine takes alike all = absurd takes
-  text_has (Leaf l) (Fan o) n k made x a stood given fault fine takes alike all = absurd alike
-  text_has (Fan f) (Fan o) (Leaf n) k made x a stood given fault fine takes alike all = absurd takes
-  text_has (Fan f) (Leaf o) n k made x a stood given fault fine takes alike all = absurd alike
+          (each_stays tells files failures told (Fan f) k made x stood o.members (given_is false e) (λ none. tt) h.each)
+  text_has (Leaf l) (Leaf o) (Fan n) stood says takes h = absurd takes
+  text_has (Leaf l) (Fan o) n stood says takes h = absurd h.alike
+  text_has (Fan f) (Fan o) (Leaf n) stood says takes h = absurd takes
+  text_has (Fan f) (Leaf o) n stood says takes h = absurd h.alike
 
-  flush_has : (sink o n : Sink S) (k : ℕ) (made : List Made) (x : Made) (a : Result Unit SinkError) (stood : List Stood) → given_in k x.did ≡ []
-      → (IsFailed a → IsFaultOn k x.told) → ((IsFailed a → ⊥) → IsFaultOn k x.told → ⊥) → SinkFlushes tells files failures o a n → IsAlike sink o
-      → EachStands files sink k made stood (leaves o) → IsAlike sink n × EachStands files sink k (made ++ x ∷ []) stood (leaves n)
-  flush_has (Leaf l) (Leaf o) (Leaf n) k made x a (s ∷ []) given fault fine does alike all = (
-    tt,
-    (
-      flushes_has tells files failures told (Leaf l) k made x given fault
-          (λ served h. fine_more k made x h (fine served)) does all.0,
+  flush_has : {k : ℕ} {made : List Made} {x : Made} {a : Result Unit SinkError} (sink o n : Sink S) (stood : List Stood)
+      → TellsOf k x [] a → SinkFlushes tells files failures o a n → StandsFrom k made sink stood o
+      → StandsFrom k (made ++ x ∷ []) sink stood n
+  flush_has {k} {made} {x} (Leaf l) (Leaf o) (Leaf n) (s ∷ []) says does h = record {
+    alike = tt;
+    each = (
+      flushes_has tells files failures told (Leaf l) k made x says.given says.fault
+          (λ served none. fine_more k made x none (says.fine served)) does h.each.0,
       tt,
-    ),
-  )
-  flush_has (Leaf l) (Leaf o) (Leaf n) k made x a [] given fault fine does alike all = absurd all
-  flush_has (Leaf l) (Leaf o) (Leaf n) k made x a (s ∷ r ∷ stood) given fault fine does alike all = absurd all.1
-  flush_has (Fan f) (Fan o) (Fan n) k made x a stood given fault fine does alike all =
-      let none : handed (Fan f) (given_in k x.did) ≡ [] = ap (λ (ms : List Message). admitted f.level ms) given in (
-        does.level ∙ alike,
-        each_has tells files failures told (Fan f) k made x (Flushes tells files failures)
+    );
+  }
+  flush_has (Leaf l) (Leaf o) (Leaf n) [] says does h = absurd h.each
+  flush_has (Leaf l) (Leaf o) (Leaf n) (s ∷ r ∷ stood) says does h = absurd h.each.1
+  flush_has {k} {made} {x} (Fan f) (Fan o) (Fan n) stood says does h =
+      let none : handed (Fan f) (given_in k x.did) ≡ [] = ap (λ (ms : List Message). admitted f.level ms) says.given in
+      record {
+        alike = does.level ∙ h.alike;
+        each = each_has tells files failures told (Fan f) k made x {Does = Flushes tells files failures}
             (λ s p q c failed flushes has. flushes_has tells files failures told (Fan f) k made x none failed (λ served h. tt) flushes has)
-            o.members does.answers n.members stood does.given (λ failed. fault (subst IsFailed (sym does.first) (failed_first tt does.answers failed))) all,
-      )
-  flush_has (Leaf l) (Leaf o) (Fan n) k made x a stood given fault fine does alike all = absurd does
-  flush_has (Leaf l) (Fan o) n k made x a stood given fault fine does alike all = absurd alike
-  flush_has (Fan f) (Fan o) (Leaf n) k made x a stood given fault fine does alike all = absurd does
-  flush_has (Fan f) (Leaf o) n k made x a stood given fault fine does alike all = absurd alike
+            o.members does.answers n.members stood does.given
+            (λ failed. says.fault (subst IsFailed (sym does.first) (failed_first tt does.answers failed))) h.each;
+      }
+  flush_has (Leaf l) (Leaf o) (Fan n) stood says does h = absurd does
+  flush_has (Leaf l) (Fan o) n stood says does h = absurd h.alike
+  flush_has (Fan f) (Fan o) (Leaf n) stood says does h = absurd does
+  flush_has (Fan f) (Leaf o) n stood says does h = absurd h.alike
 
   -- a fault of a turn is told as one, and nothing else is
   text_fault : (t : SinkTurn) (a : Answer) → (IsFailed a → IsFaultOn t.sink (stepped.Turned (told_of_text t a)))
@@ -150,47 +162,32 @@ module _ {S : Type 0} (tells : Bool) (files : S → Files) (failures : S → ℕ
   abbrev turn_made : ℕ → SinkTurn → Item → Turn → Made
   turn_made a t i said = record { actor = a; did = OnSink t i; told = stepped.Turned said }
 
-  -- a turn on the sink
-  module _ (sink o n : Sink S) (made : List Made) (a : ℕ) (t : SinkTurn) (i : Item) (said : Turn) (stood : List Stood) (alike : IsAlike sink o)
-      (all : EachStands files sink t.sink made stood (leaves o)) where
-    abbrev Turned : Type 0
-    Turned = IsAlike sink n × EachStands files sink t.sink (made ++ turn_made a t i said ∷ []) stood (leaves n)
+  -- so a turn tells of its sink what was answered
+  text_told : (a : ℕ) (t : SinkTurn) (i : Item) (said : Turn) {m : Message} (answer : Answer) → given_in t.sink (OnSink t i) ≡ m ∷ []
+      → said ≡ told_of_text t answer → TellsOf t.sink (turn_made a t i said) (m ∷ []) answer
+  text_told a t i said answer given same =
+      let h = text_fault t answer in
+      record {
+        given = given;
+        fault = λ failed. subst (λ (y : Turn). IsFaultOn t.sink (stepped.Turned y)) (sym same) (h.0 failed);
+        fine = λ served fault. h.1 served (subst (λ (y : Turn). IsFaultOn t.sink (stepped.Turned y)) same fault);
+      }
 
-    text_turned : (m : Message) (answer : Answer) → given_in t.sink (OnSink t i) ≡ m ∷ [] → SinkTakes tells files failures o m answer n
-        → said ≡ told_of_text t answer → Turned
-    text_turned m answer given takes same =
-        let h = text_fault t answer in
-        text_has sink o n t.sink made (turn_made a t i said) answer stood given
-        (λ failed. subst (λ (y : Turn). IsFaultOn t.sink (stepped.Turned y)) (sym same) (h.0 failed))
-        (λ served fault. h.1 served (subst (λ (y : Turn). IsFaultOn t.sink (stepped.Turned y)) same fault)) takes alike all
-
-    flush_turned : (answer : Result Unit SinkError) → given_in t.sink (OnSink t i) ≡ [] → SinkFlushes tells files failures o answer n
-        → said ≡ told_of_flush t answer → Turned
-    flush_turned answer given does same =
-        let h = flush_fault t answer in
-        flush_has sink o n t.sink made (turn_made a t i said) answer stood given
-        (λ failed. subst (λ (y : Turn). IsFaultOn t.sink (stepped.Turned y)) (sym same) (h.0 failed))
-        (λ served fault. h.1 served (subst (λ (y : Turn). IsFaultOn t.sink (stepped.Turned y)) same fault)) does alike all
-
-  -- by what the turn does with the item
-  turned : (sink o n : Sink S) (made : List Made) (a : ℕ) (t : SinkTurn) (d : SinkDeed) (i : Item) (said : Turn) (stood : List Stood) → IsAlike sink o
-      → EachStands files sink t.sink made stood (leaves o) → given_in t.sink (OnSink t i) ≡ text_in d i → DoesTurn tells files failures t d i o said n
-      → IsAlike sink n × EachStands files sink t.sink (made ++ turn_made a t i said ∷ []) stood (leaves n)
-  turned sink o n made a t sink_deed.Take (item.Text m) said stood alike all given does =
-      text_turned sink o n made a t (item.Text m) said stood alike all m does.0 given does.1 does.2
-  turned sink o n made a t sink_deed.Take (item.Flush j) said stood alike all given does =
-      flush_turned sink o n made a t (item.Flush j) said stood alike all does.0 given does.1 does.2
-  turned sink o n made a t sink_deed.Take item.Stop said stood alike all given does =
-      flush_turned sink o n made a t item.Stop said stood alike all does.0 given does.1 does.2
-  turned sink o n made a t sink_deed.Flush i said stood alike all given does =
-      flush_turned sink o n made a t i said stood alike all does.0 given does.1 does.2
+  flush_told : (a : ℕ) (t : SinkTurn) (i : Item) (said : Turn) (answer : Result Unit SinkError) → given_in t.sink (OnSink t i) ≡ []
+      → said ≡ told_of_flush t answer → TellsOf t.sink (turn_made a t i said) [] answer
+  flush_told a t i said answer given same =
+      let h = flush_fault t answer in
+      record {
+        given = given;
+        fault = λ failed. subst (λ (y : Turn). IsFaultOn t.sink (stepped.Turned y)) (sym same) (h.0 failed);
+        fine = λ served fault. h.1 served (subst (λ (y : Turn). IsFaultOn t.sink (stepped.Turned y)) same fault);
+      }
 
   -- What is known of the sink of this number, which was this at first.
   record Stays (k : ℕ) (made : List Made) (now : List (Sink S)) (old : Sink S) (stood : List Stood) : Type 0 where
     pub new : Sink S
     pub there : slice_get now k ≡ Some new
-    pub alike : IsAlike old new
-    pub each : EachStands files old k made stood (leaves new)
+    pub stands : StandsFrom k made old stood new
 
   -- a step that is no turn on it
   fine_sink : (s : Sink S) (k : ℕ) (made : List Made) (x : Made) → (IsFaultOn k x.told → ⊥) → MeetsNone s k made → MeetsNone s k (made ++ x ∷ [])
@@ -203,9 +200,11 @@ module _ {S : Type 0} (tells : Bool) (files : S → Files) (failures : S → ℕ
   stays_else {k} {made} x {old} {stood} same given fine h = record {
     new = h.new;
     there = same ∙ h.there;
-    alike = h.alike;
-    each = each_stays tells files failures told old k made x stood (leaves h.new)
-        (ap (λ (ms : List Message). handed old ms) given ∙ handed_none old) (fine_sink old k made x fine) h.each;
+    stands = record {
+      alike = h.stands.alike;
+      each = each_stays tells files failures told old k made x stood (leaves h.new)
+          (ap (λ (ms : List Message). handed old ms) given ∙ handed_none old) (fine_sink old k made x fine) h.stands.each;
+    };
   }
 
   -- a turn on it
@@ -213,17 +212,30 @@ module _ {S : Type 0} (tells : Bool) (files : S → Files) (failures : S → ℕ
       {stood : List Stood}
       → Turns tells files failures w t i said next → Stays t.sink made w.sinks old stood → Stays t.sink (made ++ turn_made a t i said ∷ []) next.sinks old stood
   stays_turned {made} a {t} {i} {said} {w} {old} {stood} turn h =
-      let found : turn.before ≡ h.new = some_same turn.before h.new (slice_get w.sinks t.sink) turn.there h.there in
       let given : given_in t.sink (OnSink t i) ≡ text_in t.deed i =
       on_test (λ b. cond b (text_in t.deed i) [] ≡ text_in t.deed i) t.sink t.sink (λ _. refl) (λ other. absurd (other refl)) in
-      let done = turned old turn.before turn.after made a t t.deed i said stood (subst (λ (s : Sink S). IsAlike old s) (sym found) h.alike)
-      (subst (λ (s : Sink S). EachStands files old t.sink made stood (leaves s)) (sym found) h.each) given turn.turn in
       record {
         new = turn.after;
         there = ap (λ (o : OutputsView S). slice_get o.sinks t.sink) turn.others ∙ get_set_same w.sinks t.sink turn.before turn.after turn.there;
-        alike = done.0;
-        each = done.1;
+        stands = by_deed t.deed i given turn.turn;
       }
+    where
+      before : StandsFrom t.sink made old stood turn.before
+      before =
+          subst (λ (s : Sink S). StandsFrom t.sink made old stood s)
+          (sym (some_same turn.before h.new (slice_get w.sinks t.sink) turn.there h.there)) h.stands
+
+      by_deed : (d : SinkDeed) (j : Item) → given_in t.sink (OnSink t i) ≡ text_in d j
+          → DoesTurn tells files failures t d j turn.before said turn.after
+          → StandsFrom t.sink (made ++ turn_made a t i said ∷ []) old stood turn.after
+      by_deed sink_deed.Take (item.Text m) given does =
+          text_has old turn.before turn.after stood (text_told a t i said does.0 given does.2) does.1 before
+      by_deed sink_deed.Take (item.Flush j) given does =
+          flush_has old turn.before turn.after stood (flush_told a t i said does.0 given does.2) does.1 before
+      by_deed sink_deed.Take item.Stop given does =
+          flush_has old turn.before turn.after stood (flush_told a t i said does.0 given does.2) does.1 before
+      by_deed sink_deed.Flush j given does =
+          flush_has old turn.before turn.after stood (flush_told a t i said does.0 given does.2) does.1 before
 
   -- a turn on another sink is no fault of this one
   text_other : (t : SinkTurn) (a : Answer) (k : ℕ) → (t.sink ≡ k → ⊥) → IsFaultOn k (stepped.Turned (told_of_text t a)) → ⊥
@@ -235,16 +247,20 @@ module _ {S : Type 0} (tells : Bool) (files : S → Files) (failures : S → ℕ
   flush_other t (Ok u) k other f = f
   flush_other t (Err e) k other f = other f
 
-  other_fault : (t : SinkTurn) (d : SinkDeed) (i : Item) (o n : Sink S) (said : Turn) {k : ℕ} → DoesTurn tells files failures t d i o said n
+  other_fault : {t : SinkTurn} {i : Item} {said : Turn} {w next : OutputsView S} {k : ℕ} → Turns tells files failures w t i said next
       → (t.sink ≡ k → ⊥) → IsFaultOn k (stepped.Turned said) → ⊥
-  other_fault t sink_deed.Take (item.Text m) o n said {k} does other fault =
-      text_other t does.0 k other (subst (λ (y : Turn). IsFaultOn k (stepped.Turned y)) does.2 fault)
-  other_fault t sink_deed.Take (item.Flush j) o n said {k} does other fault =
-      flush_other t does.0 k other (subst (λ (y : Turn). IsFaultOn k (stepped.Turned y)) does.2 fault)
-  other_fault t sink_deed.Take item.Stop o n said {k} does other fault =
-      flush_other t does.0 k other (subst (λ (y : Turn). IsFaultOn k (stepped.Turned y)) does.2 fault)
-  other_fault t sink_deed.Flush i o n said {k} does other fault =
-      flush_other t does.0 k other (subst (λ (y : Turn). IsFaultOn k (stepped.Turned y)) does.2 fault)
+  other_fault {t} {i} {said} {k} turn other = by_deed t.deed i turn.turn
+    where
+      by_deed : (d : SinkDeed) (j : Item) → DoesTurn tells files failures t d j turn.before said turn.after
+          → IsFaultOn k (stepped.Turned said) → ⊥
+      by_deed sink_deed.Take (item.Text m) does fault =
+          text_other t does.0 k other (subst (λ (y : Turn). IsFaultOn k (stepped.Turned y)) does.2 fault)
+      by_deed sink_deed.Take (item.Flush j) does fault =
+          flush_other t does.0 k other (subst (λ (y : Turn). IsFaultOn k (stepped.Turned y)) does.2 fault)
+      by_deed sink_deed.Take item.Stop does fault =
+          flush_other t does.0 k other (subst (λ (y : Turn). IsFaultOn k (stepped.Turned y)) does.2 fault)
+      by_deed sink_deed.Flush j does fault =
+          flush_other t does.0 k other (subst (λ (y : Turn). IsFaultOn k (stepped.Turned y)) does.2 fault)
 
   -- nor is a step of the queue
   work_fine : (k : ℕ) (s : DeskStepped Item) (x : Said Item) → IsFaultOn k (told_of_work s x) → ⊥
@@ -285,18 +301,17 @@ module _ {S : Type 0} (tells : Bool) (files : S → Files) (failures : S → ℕ
       ∙ ap (λ (o : OutputsView S). slice_get o.sinks k)
       (posting_same (with_roster w (emptied w.roster d.logger)) a (policy_at w.roster d.logger) (dumped_by w d)).outputs) refl
       (λ f. subst (λ (y : Stepped). IsFaultOn k y) same f) h
-  stays_case {k} {made} {w} {a} {x} {did} {old} {stood} (served t i done turn outputs said idle was next makes same after) h =
-      subst (λ (v : SystemView S). Stays k (made ++ record { actor = a; did = did; told = x } ∷ []) v.outputs.sinks old stood) (sym after)
-      (subst (λ (y : Stepped). Stays k (made ++ record { actor = a; did = OnSink turn i; told = y } ∷ []) outputs.sinks old stood) (sym same)
-      (on_test (λ _. Stays k (made ++ turn_made a turn i said ∷ []) outputs.sinks old stood) turn.sink k
+  stays_case {k} {made} {w} {a} {x} {did} {old} {stood} (served turn i s) h =
+      subst (λ (v : SystemView S). Stays k (made ++ record { actor = a; did = did; told = x } ∷ []) v.outputs.sinks old stood) (sym s.after)
+      (subst (λ (y : Stepped). Stays k (made ++ record { actor = a; did = OnSink turn i; told = y } ∷ []) s.outputs.sinks old stood) (sym s.same)
+      (on_test (λ _. Stays k (made ++ turn_made a turn i s.said ∷ []) s.outputs.sinks old stood) turn.sink k
       (λ mine.
-      subst (λ j. Stays j (made ++ turn_made a turn i said ∷ []) outputs.sinks old stood) mine
-      (stays_turned a makes (subst (λ j. Stays j made w.outputs.sinks old stood) (sym mine) h)))
+      subst (λ j. Stays j (made ++ turn_made a turn i s.said ∷ []) s.outputs.sinks old stood) mine
+      (stays_turned a s.makes (subst (λ j. Stays j made w.outputs.sinks old stood) (sym mine) h)))
       (λ other.
-      stays_else (turn_made a turn i said) {after = outputs.sinks}
-      (ap (λ (o : OutputsView S). slice_get o.sinks k) makes.others ∙ get_set_other w.outputs.sinks turn.sink k makes.after other)
-      (if_other turn.sink k (text_in turn.deed i) (λ e. other (sym e)))
-      (other_fault turn turn.deed i makes.before makes.after said makes.turn other) h)))
+      stays_else (turn_made a turn i s.said) {after = s.outputs.sinks}
+      (ap (λ (o : OutputsView S). slice_get o.sinks k) s.makes.others ∙ get_set_other w.outputs.sinks turn.sink k s.makes.after other)
+      (if_other turn.sink k (text_in turn.deed i) (λ e. other (sym e))) (other_fault s.makes other) h)))
 
   each_start : (k : ℕ) (old : Sink S) (stood : List Stood) (ls : List (LeafView S)) → AllStand files ls stood → EachStands files old k [] stood ls
   each_start k old [] [] all = tt
@@ -318,7 +333,11 @@ module _ {S : Type 0} (tells : Bool) (files : S → Files) (failures : S → ℕ
       (there : slice_get first k ≡ Some old) (all : AllStand files (leaves old) stood) where
     stays : (run : List Act) (v : SystemView S) → Leads tells files failures (fresh_system n limit loggers first) run v
         → Stays k (steps_in run) v.outputs.sinks old stood
-    stays run v starts = record { new = old; there = there; alike = is_alike old; each = each_start k old stood (leaves old) all }
+    stays run v starts = record {
+      new = old;
+      there = there;
+      stands = record { alike = is_alike old; each = each_start k old stood (leaves old) all };
+    }
     stays run v (begins {run = xs} {w = w} a d leads may) =
         subst (λ (made : List Made). Stays k made (begun w a d).outputs.sinks old stood) (sym (steps_begun xs a d))
         (subst (λ (o : OutputsView S). Stays k (steps_in xs) o.sinks old stood) (sym (begun_outputs w a d)) (stays xs w leads))
@@ -333,7 +352,7 @@ module _ {S : Type 0} (tells : Bool) (files : S → Files) (failures : S → ℕ
       → Leads tells files failures (fresh_system n limit loggers first) run v → SinkStands files (steps_in run) first v.outputs.sinks
   sinks_stand n limit loggers first run v leads k old stood there all =
       let h = stays n limit loggers first k old stood there all run v leads in
-      (h.new, h.there, h.each)
+      (h.new, h.there, h.stands.each)
 
   -- where no fault was told, none broke off
   each_fine : (k : ℕ) (old : Sink S) (made : List Made) (stood : List Stood) (ls : List (LeafView S)) → AreFine k made → EachStands files old k made stood ls

@@ -45,15 +45,13 @@ module _ (limit capacity : ℕ) where
     suits_after t deed.Flush i o told n h s = flushes o h.0 n h.1 s
 
     -- and of all sinks, where one of them had a turn
-    pub all_suit : {cap : ℕ} {all : List (Sink S)} (k : ℕ) {o : Sink S} (n : Sink S) (t : SinkTurn) (i : Item) (told : Turn)
-        → cap ≡ capacity
-        → AllSuit limit capacity all → o ≡ get_or all k o → k < length all → DoesTurn tells files failures t t.deed i o told n
-        → AllSuit limit cap (set all k n)
-    all_suit {all} k {o} n t i told e a is lt h =
-        let old : Suits limit capacity o = subst IsSuited (sym is) (All-get_or IsSuited all k o lt a.each) in
+    pub all_suit : {all : List (Sink S)} (t : SinkTurn) (i : Item) {o : Sink S} (told : Turn) (n : Sink S)
+        → AllSuit limit capacity all → o ≡ get_or all t.sink o → t.sink < length all → DoesTurn tells files failures t t.deed i o told n
+        → AllSuit limit capacity (set all t.sink n)
+    all_suit {all} t i {o} told n a is lt h =
+        let old : Suits limit capacity o = subst IsSuited (sym is) (All-get_or IsSuited all t.sink o lt a.each) in
         let new = suits_after t t.deed i o told n h old in
-        subst (λ c. AllSuit limit c (set all k n)) (sym e)
-        (record { least = a.least; most = a.most; each = All-set IsSuited all k n new a.each })
+        record { least = a.least; most = a.most; each = All-set IsSuited all t.sink n new a.each }
 
 -- The turns of a work are on the sinks of its logger, and not more than twice as many.
 pub turns_short : (spec : Spec) (ticket : ℕ) (i : Item) → length (turns_of spec ticket i) ≤ 2 * length spec.sinks.items
