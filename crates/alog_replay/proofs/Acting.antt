@@ -1,8 +1,7 @@
 -- Acts and steps on the scene of a script with a configuration.
-use Rattle.std.proofs.Common.{◌≡◌, ℕ, ℤ, Bool, Option, List, [], ◌++◌, Result, Ok, Err, inl, refl, sym, ap, subst, ◌∙◌}
+use Rattle.std.proofs.Common.{◌≡◌, ℕ, ℤ, Bool, List, [], ◌++◌, Result, Ok, Err, inl, refl, sym, ap, subst, ◌∙◌}
 use Rattle.std.specs.Prelude.{OnOk}
 use Rattle.std.proofs.lemmas.List.{append-nil}
-use Rattle.alog_msg.specs.declared.item.Item.{Item}
 use Rattle.alog_msg.specs.declared.level.Level.{Level as LogLevel}
 use Rattle.alog_sink.specs.Files.{Files}
 use Rattle.alog_system.specs.Step.{SystemSteps}
@@ -10,6 +9,7 @@ use Rattle.alog_system.specs.System.{SystemView, duty_of, item_of}
 use Rattle.alog_system.specs.declared.stepped.Stepped.{Stepped}
 use Rattle.alog_replay.specs.Configured.{Stage, StepsIn, after_act, told_text}
 use Rattle.alog_replay.specs.Scene.{Prints}
+use Rattle.alog_replay.specs.declared.command.Act.{Act}
 use Rattle.alog_replay.specs.declared.command.Act.TheVariants.{Dump, Log}
 use Rattle.alog_replay.specs.declared.places.Place.{Place}
 
@@ -19,20 +19,22 @@ pub quietly : {S T E : Type 0} (r : Result T E) (text : List ℕ) (s t : S) → 
 quietly (Ok y) text s t h = ([], (refl, h), sym (append-nil text))
 quietly (Err e) text s t h = tt
 
--- a log, of a time, a logger and a text that were read
-pub logged : {S T E : Type 0} (r : Result T E) (before after : List ℕ) (s next : Stage S) (a : ℕ) {heard time : ℤ} (level : LogLevel)
-    {from to read text : List ℕ} → heard ≡ time → from ≡ to → read ≡ text
-    → OnOk r (after ≡ before ++ (after_act s (Log a heard from level read)).0) → OnOk r (next ≡ (after_act s (Log a heard from level read)).1)
-    → OnOk r (Prints before after (λ x. (x ≡ (after_act s (Log a time to level text)).0) × (next ≡ (after_act s (Log a time to level text)).1)))
-logged (Err e) before after s next a level o n m h k = tt
-logged (Ok y) before after s next a {heard} {time} level {from} {to} {read} {text} o n m h k = (
-  (after_act s (Log a time to level text)).0,
-  (
-    refl,
-    k ∙ (ap (λ (z : ℤ). (after_act s (Log a z from level read)).1) o
-        ∙ (ap (λ (l : List ℕ). (after_act s (Log a time l level read)).1) n ∙ ap (λ (x : List ℕ). (after_act s (Log a time to level x)).1) m)),
-  ),
-  h ∙ ap (λ (l : List ℕ). before ++ (after_act s (Log a heard l level read)).0) n,
+-- a log of a time, a logger and a text that were read
+pub same_log : (a : ℕ) {heard time : ℤ} (level : LogLevel) {from to read text : List ℕ} → heard ≡ time → from ≡ to → read ≡ text
+    → Log a heard from level read ≡ Log a time to level text
+same_log a {time} level {from} {to} {read} o n m =
+    ap (λ (z : ℤ). Log a z from level read) o
+    ∙ (ap (λ (l : List ℕ). Log a time l level read) n ∙ ap (λ (x : List ℕ). Log a time to level x) m)
+
+-- an act that prints, of what was read
+pub printed : {S T E : Type 0} (r : Result T E) (before after : List ℕ) (s next : Stage S) {heard act : Act} → heard ≡ act
+    → OnOk r (after ≡ before ++ (after_act s heard).0) → OnOk r (next ≡ (after_act s heard).1)
+    → OnOk r (Prints before after (λ x. (x ≡ (after_act s act).0) × (next ≡ (after_act s act).1)))
+printed (Err e) before after s next same h k = tt
+printed (Ok y) before after s next {act} same h k = (
+  (after_act s act).0,
+  (refl, k ∙ ap (λ (x : Act). (after_act s x).1) same),
+  h ∙ ap (λ (x : Act). before ++ (after_act s x).0) same,
 )
 
 -- a dump, of a time and a logger that were read
@@ -42,19 +44,16 @@ dumped (Err e) s next a o n k = tt
 dumped (Ok y) s next a {time} {from} o n k =
     k ∙ (ap (λ (z : ℤ). (after_act s (Dump a z from)).1) o ∙ ap (λ (l : List ℕ). (after_act s (Dump a time l)).1) n)
 
--- a step of the system, printed
-pub told_step : {S : Type 0} (tells : Bool) (files : S → Files) (failures : S → ℕ) {v : SystemView S} {names : List (List ℕ)}
-    {places : List Place}
-    {s : Stage S} (a : ℕ) (told : Stepped) (next : SystemView S) {held : Option Item} (old : List ℕ) {new : List ℕ}
-    → record { system = v; names = names; places = places } ≡ s → SystemSteps tells files failures v a told next
-    → held ≡ item_of (duty_of next a) → new ≡ old ++ told_text names a held told
-    → Prints old new (λ text. StepsIn tells files failures s a text (record { system = next; names = names; places = places }))
-told_step {S} tells files failures {v} {names} {places} a told next old is steps h p =
-    let text = told_text names a (item_of (duty_of next a)) told in
-    let after : Stage S = record { system = next; names = names; places = places } in
-    let before : Stage S = record { system = v; names = names; places = places } in
-    let here : StepsIn tells files failures before a text after = inl (record { told = told; steps = steps; printed = refl; rest = refl }) in (
-      text,
-      subst (λ (t : Stage S). StepsIn tells files failures t a text after) is here,
-      p ∙ ap (λ (i : Option Item). old ++ told_text names a i told) h,
-    )
+module _ {S : Type 0} (tells : Bool) (files : S → Files) (failures : S → ℕ) where
+  -- a step of the system, printed
+  pub told_step : {v : SystemView S} {names : List (List ℕ)} {places : List Place} {s : Stage S} (a : ℕ) (told : Stepped)
+      (next : SystemView S) (old : List ℕ) {new : List ℕ}
+      → record { system = v; names = names; places = places } ≡ s → SystemSteps tells files failures v a told next
+      → new ≡ old ++ told_text names a (item_of (duty_of next a)) told
+      → Prints old new (λ text. StepsIn tells files failures s a text (record { system = next; names = names; places = places }))
+  told_step {v} {names} {places} a told next old is steps p =
+      let text = told_text names a (item_of (duty_of next a)) told in
+      let after : Stage S = record { system = next; names = names; places = places } in
+      let before : Stage S = record { system = v; names = names; places = places } in
+      let here : StepsIn tells files failures before a text after = inl (record { told = told; steps = steps; printed = refl; rest = refl }) in
+      (text, subst (λ (t : Stage S). StepsIn tells files failures t a text after) is here, p)

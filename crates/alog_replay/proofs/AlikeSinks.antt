@@ -84,26 +84,35 @@ same_entries limits (w ∷ ws) [] h = absurd h
 same_entries limits (w ∷ ws) (u ∷ us) h =
     ap (λ (e : Entry). e ∷ entries_of limits ws) (h.0.entry limits) ∙ ap (λ es. entry_of limits u ∷ es) (same_entries limits ws us h.1)
 
--- what each kind of target keeps of such lines
-same_kept : PiecesHaveOneCut → (a b : Target) (opening : Files) (ws us : List Written) (files others : Files) → IsSameTarget a b
-    → AreSameLines ws us → IsKept a opening ws files → IsKept b opening us others → AreSame files others
-same_kept law (Memory j) (Memory k) opening ws us files others t l h g = λ name.
-    g name ∙ (ap (λ f. one_file f.file opening (lines_of us) name) t
-    ∙ (ap (λ ls. one_file j.file opening ls name) (sym (same_lines ws us l)) ∙ sym (h name)))
-same_kept law (Rotating r) (Rotating s) opening ws us files others t l h g =
-    let lines = subst (λ (ls : List (List ℕ)). IsRotated s.limits opening ls others) (sym (same_lines ws us l)) g.rotated in
-    rotated_once law r.limits opening (lines_of ws) files others h.rotated
-    (subst (λ (m : Limits). IsRotated m opening (lines_of ws) others) t lines)
-same_kept law (Daily d) (Daily e) opening ws us files others t l h g =
-    let limits = subst (λ (m : DayLimits). IsDaily m.max_files g.opened opening (entries_of m us) others) t g.daily in
-    let entries = subst (λ (es : List Entry). IsDaily d.limits.max_files g.opened opening es others) (sym (same_entries d.limits ws us l)) limits in
-    daily_once h.daily entries
-same_kept law (Memory j) (Rotating s) opening ws us files others t l h g = absurd t
-same_kept law (Memory j) (Daily e) opening ws us files others t l h g = absurd t
-same_kept law (Rotating r) (Memory k) opening ws us files others t l h g = absurd t
-same_kept law (Rotating r) (Daily e) opening ws us files others t l h g = absurd t
-same_kept law (Daily d) (Memory k) opening ws us files others t l h g = absurd t
-same_kept law (Daily d) (Rotating s) opening ws us files others t l h g = absurd t
+-- What two targets keep of the same lines over the same files, at the same limits.
+record BothKept (a b : Target) (ws us : List Written) (files others : Files) : Type 0 where
+  target : IsSameTarget a b
+  lines : AreSameLines ws us
+  opening : Files
+  one : IsKept a opening ws files
+  other : IsKept b opening us others
+
+-- it is the same
+same_kept : PiecesHaveOneCut → (a b : Target) {ws us : List Written} {files others : Files} → BothKept a b ws us files others
+    → AreSame files others
+same_kept law (Memory j) (Memory k) {ws} {us} h = λ name.
+    h.other name ∙ (ap (λ f. one_file f.file h.opening (lines_of us) name) h.target
+    ∙ (ap (λ ls. one_file j.file h.opening ls name) (sym (same_lines ws us h.lines)) ∙ sym (h.one name)))
+same_kept law (Rotating r) (Rotating s) {ws} {us} {files} {others} h =
+    let lines = subst (λ (ls : List (List ℕ)). IsRotated s.limits h.opening ls others) (sym (same_lines ws us h.lines)) h.other.rotated in
+    rotated_once law r.limits h.opening (lines_of ws) files others h.one.rotated
+    (subst (λ (m : Limits). IsRotated m h.opening (lines_of ws) others) h.target lines)
+same_kept law (Daily d) (Daily e) {ws} {us} {files} {others} h =
+    let opened = h.other.opened in
+    let limits = subst (λ (m : DayLimits). IsDaily m.max_files opened h.opening (entries_of m us) others) h.target h.other.daily in
+    let entries = subst (λ (es : List Entry). IsDaily d.limits.max_files opened h.opening es others) (sym (same_entries d.limits ws us h.lines)) limits in
+    daily_once h.one.daily entries
+same_kept law (Memory j) (Rotating s) h = absurd h.target
+same_kept law (Memory j) (Daily e) h = absurd h.target
+same_kept law (Rotating r) (Memory k) h = absurd h.target
+same_kept law (Rotating r) (Daily e) h = absurd h.target
+same_kept law (Daily d) (Memory k) h = absurd h.target
+same_kept law (Daily d) (Rotating s) h = absurd h.target
 
 -- targets of the same files at the same limits
 with_target : (a b c d : Target) → IsSameTarget a b → IsSameTarget a c → IsSameTarget b d → IsSameTarget c d
@@ -163,6 +172,14 @@ well_flush : (t : SinkTurn) (a : Result Unit SinkError) → IsWell (told_of_flus
 well_flush t (Ok u) h = tt
 well_flush t (Err e) h = absurd h
 
+-- Two that are alike did the same, and neither failed.
+pub record BothDid {L A : Type 0} (Alike : L → L → Type 0) (Does : L → A → L → Type 0) (Well : A → Type 0) (l k m n : L) (a b : A) : Type 0 where
+  pub alike : Alike l k
+  pub one : Does l a m
+  pub other : Does k b n
+  pub one_well : Well a
+  pub other_well : Well b
+
 module _ {S : Type 0} (files : S → Files) where
   -- both stand for the same files and messages
   pub record AlikeLeaves (l k : LeafView S) : Type 0 where
@@ -192,8 +209,13 @@ module _ {S : Type 0} (files : S → Files) where
   pub same_files : OneLine → PiecesHaveOneCut → (l k : LeafView S) → AlikeLeaves l k → AreSame (files l.store) (files k.store)
   same_files lines cut l k h =
       let other : AreLines l.face h.given h.other.written = subst (λ (f : Face). AreLines f h.given h.other.written) h.face h.other.lines in
-      same_kept cut l.target k.target h.opening h.one.written h.other.written (files l.store) (files k.store) h.target
-      (same_written lines l.face None (admitted l.face.level h.given) h.one.written h.other.written h.one.lines other) h.one.kept h.other.kept
+      same_kept cut l.target k.target {ws = h.one.written} {us = h.other.written} (record {
+        target = h.target;
+        lines = same_written lines l.face None (admitted l.face.level h.given) h.one.written h.other.written h.one.lines other;
+        opening = h.opening;
+        one = h.one.kept;
+        other = h.other.kept;
+      })
 
   module _ (tells : Bool) (tell : tells ≡ true) (failures : S → ℕ) where
     -- a text, and a flush, that no store fails
@@ -217,27 +239,29 @@ module _ {S : Type 0} (files : S → Files) where
     below_or_not {x} {a = Wrote} {b = Below} h f g =
         let under = ap (λ (face : Face). admits face.level x.level) (sym h.face) ∙ g.below.0 refl in absurd (let e = f.below.1 under in cc)
 
-    pub leaf_takes : {l k m n : LeafView S} {x : Message} {a b : Answer} → AlikeLeaves l k → Takes tells files failures l x a m
-        → Takes tells files failures k x b n → IsOk a → IsOk b → (a ≡ b) × AlikeLeaves m n
-    leaf_takes {l} {k} {m} {n} {x} {a = Ok a} {b = Ok b} h f g p q = (ap Ok (below_or_not h f g), taken h f g)
-    leaf_takes {a = Ok a} {b = Err e} h f g p q = absurd q
-    leaf_takes {a = Err e} h f g p q = absurd p
+    leaf_takes : {l k m n : LeafView S} {x : Message} {a b : Answer}
+        → BothDid AlikeLeaves (λ o c u. Takes tells files failures o x c u) IsOk l k m n a b → (a ≡ b) × AlikeLeaves m n
+    leaf_takes {a = Ok a} {b = Ok b} h = (ap Ok (below_or_not h.alike h.one h.other), taken h.alike h.one h.other)
+    leaf_takes {a = Ok a} {b = Err e} h = absurd h.other_well
+    leaf_takes {a = Err e} h = absurd h.one_well
 
-    leaf_flushes : {l k m n : LeafView S} {a b : Result Unit SinkError} → AlikeLeaves l k → Flushes tells files failures l a m
-        → Flushes tells files failures k b n → IsOk a → IsOk b → (a ≡ b) × AlikeLeaves m n
-    leaf_flushes {l} {k} {m} {n} {a = Ok a} {b = Ok b} h f g p q = (
-      refl,
-      record {
-        face = g.face ∙ (h.face ∙ sym f.face);
-        target = with_target l.target k.target m.target n.target h.target (same_target l.target m.target f.target) (same_target k.target n.target g.target);
-        opening = h.opening;
-        given = h.given;
-        one = f.stands tell h.opening h.given h.one;
-        other = g.stands tell h.opening h.given h.other;
-      },
-    )
-    leaf_flushes {a = Ok a} {b = Err e} h f g p q = absurd q
-    leaf_flushes {a = Err e} h f g p q = absurd p
+    leaf_flushes : {l k m n : LeafView S} {a b : Result Unit SinkError}
+        → BothDid AlikeLeaves (λ o c u. Flushes tells files failures o c u) IsOk l k m n a b → (a ≡ b) × AlikeLeaves m n
+    leaf_flushes {l} {k} {m} {n} {a = Ok a} {b = Ok b} h =
+        let alike = h.alike in (
+          refl,
+          record {
+            face = h.other.face ∙ (alike.face ∙ sym h.one.face);
+            target = with_target l.target k.target m.target n.target alike.target (same_target l.target m.target h.one.target)
+                (same_target k.target n.target h.other.target);
+            opening = alike.opening;
+            given = alike.given;
+            one = h.one.stands tell alike.opening alike.given alike.one;
+            other = h.other.stands tell alike.opening alike.given alike.other;
+          },
+        )
+    leaf_flushes {a = Ok a} {b = Err e} h = absurd h.other_well
+    leaf_flushes {a = Err e} h = absurd h.one_well
 
     -- where the first fault is none, each answer is well
     first_well : {A : Type 0} (done : A) (a : Result A SinkError) (answers : List (Result A SinkError)) → IsOk (first_fault done (a ∷ answers))
@@ -251,22 +275,25 @@ module _ {S : Type 0} (files : S → Files) where
     first_done done (Ok a ∷ answers) h = first_done done answers h
     first_done done (Err e ∷ answers) h = absurd h
 
-    all_do : {A : Type 0} (done : A) (Does : LeafView S → Result A SinkError → LeafView S → Type 0)
-        → ((l k m n : LeafView S) (a b : Result A SinkError) → AlikeLeaves l k → Does l a m → Does k b n → IsOk a → IsOk b
-        → (a ≡ b) × AlikeLeaves m n) → (ls ks ms ns : List (LeafView S)) (cs bs : List (Result A SinkError)) → AllLeaves ls ks
-        → EachDoes Does ls cs ms → EachDoes Does ks bs ns → IsOk (first_fault done cs) → IsOk (first_fault done bs) → AllLeaves ms ns
-    all_do done Does one [] [] ms ns cs bs h f g p q =
-        subst (λ (z : List (LeafView S)). AllLeaves z ns) (sym (none_do Does cs ms f)) (subst (λ (z : List (LeafView S)). AllLeaves [] z) (sym (none_do Does bs ns g)) tt)
-    all_do done Does one [] (k ∷ ks) ms ns cs bs h f g p q = absurd h
-    all_do done Does one (l ∷ ls) [] ms ns cs bs h f g p q = absurd h
-    all_do {A} done Does one (l ∷ ls) (k ∷ ks) ms ns cs bs h f g p q =
-        let x = some_do Does l ls cs ms f in
-        let y = some_do Does k ks bs ns g in
-        let i = first_well done x.0 x.1 (subst (λ (z : List (Result A SinkError)). IsOk (first_fault done z)) x.4 p) in
-        let j = first_well done y.0 y.1 (subst (λ (z : List (Result A SinkError)). IsOk (first_fault done z)) y.4 q) in
-        let first = one l k x.2 y.2 x.0 y.0 h.0 x.6 y.6 i.0 j.0 in
-        let more = all_do done Does one ls ks x.3 y.3 x.1 y.1 h.1 x.7 y.7 i.1 j.1 in
-        let all : AllLeaves (x.2 ∷ x.3) (y.2 ∷ y.3) = (first.1, more) in
+    all_do : {A : Type 0} {Does : LeafView S → Result A SinkError → LeafView S → Type 0} (done : A)
+        → ((l k m n : LeafView S) (a b : Result A SinkError) → BothDid AlikeLeaves Does IsOk l k m n a b → (a ≡ b) × AlikeLeaves m n)
+        → (ls ks : List (LeafView S)) {ms ns : List (LeafView S)} {cs bs : List (Result A SinkError)}
+        → BothDid AllLeaves (EachDoes Does) (λ zs. IsOk (first_fault done zs)) ls ks ms ns cs bs → AllLeaves ms ns
+    all_do {Does} done each [] [] {ms} {ns} {cs} {bs} h =
+        subst (λ (z : List (LeafView S)). AllLeaves z ns) (sym (none_do Does cs ms h.one))
+        (subst (λ (z : List (LeafView S)). AllLeaves [] z) (sym (none_do Does bs ns h.other)) tt)
+    all_do done each [] (k ∷ ks) h = absurd h.alike
+    all_do done each (l ∷ ls) [] h = absurd h.alike
+    all_do {A} {Does} done each (l ∷ ls) (k ∷ ks) {ms} {ns} {cs} {bs} h =
+        let x = some_do Does l ls cs ms h.one in
+        let y = some_do Does k ks bs ns h.other in
+        let i = first_well done x.0 x.1 (subst (λ (z : List (Result A SinkError)). IsOk (first_fault done z)) x.4 h.one_well) in
+        let j = first_well done y.0 y.1 (subst (λ (z : List (Result A SinkError)). IsOk (first_fault done z)) y.4 h.other_well) in
+        let first : BothDid AlikeLeaves Does IsOk l k x.2 y.2 x.0 y.0 =
+        record { alike = h.alike.0; one = x.6; other = y.6; one_well = i.0; other_well = j.0 } in
+        let rest : BothDid AllLeaves (EachDoes Does) (λ zs. IsOk (first_fault done zs)) ls ks x.3 y.3 x.1 y.1 =
+        record { alike = h.alike.1; one = x.7; other = y.7; one_well = i.1; other_well = j.1 } in
+        let all : AllLeaves (x.2 ∷ x.3) (y.2 ∷ y.3) = ((each l k x.2 y.2 x.0 y.0 first).1, all_do {Does = Does} done each ls ks rest) in
         subst (λ (z : List (LeafView S)). AllLeaves z ns) (sym x.5) (subst (λ (z : List (LeafView S)). AllLeaves (x.2 ∷ x.3) z) (sym y.5) all)
 
     -- a fan
@@ -286,8 +313,9 @@ module _ {S : Type 0} (files : S → Files) where
         let j = subst IsOk t.2 q in (
           (s.2 ∙ first_done Wrote s.0 i) ∙ sym (t.2 ∙ first_done Wrote t.0 j),
           other.level ∙ (level ∙ sym one.level),
-          all_do Wrote (λ o c u. Takes tells files failures o x c u) (λ l k m n c d h f g. leaf_takes h f g) f.members k.members
-              m.members n.members s.0 t.0 all s.1 t.1 i j,
+          all_do {Does = λ o c u. Takes tells files failures o x c u} Wrote (λ l k m n c d h. leaf_takes h) f.members k.members
+              {ms = m.members} {ns = n.members} {cs = s.0} {bs = t.0}
+              (record { alike = all; one = s.1; other = t.1; one_well = i; other_well = j }),
         )
 
     fan_flushes : {f k m n : FanView S} {a b : Result Unit SinkError} → k.level ≡ f.level → AllLeaves f.members k.members
@@ -298,54 +326,74 @@ module _ {S : Type 0} (files : S → Files) where
         let j = subst IsOk other.first q in (
           (one.first ∙ first_done tt one.answers i) ∙ sym (other.first ∙ first_done tt other.answers j),
           other.level ∙ (level ∙ sym one.level),
-          all_do tt (Flushes tells files failures) (λ l k m n c d h f g. leaf_flushes h f g) f.members k.members m.members n.members
-              one.answers other.answers all one.given other.given i j,
+          all_do {Does = λ o c u. Flushes tells files failures o c u} tt (λ l k m n c d h. leaf_flushes h) f.members k.members
+              {ms = m.members} {ns = n.members} {cs = one.answers} {bs = other.answers}
+              (record { alike = all; one = one.given; other = other.given; one_well = i; other_well = j }),
         )
 
     -- a sink
-    sink_takes : (o k m n : Sink S) (x : Message) {a b : Answer} → AlikeSinks o k → SinkTakes tells files failures o x a m
-        → SinkTakes tells files failures k x b n → IsOk a → IsOk b → (a ≡ b) × AlikeSinks m n
-    sink_takes (Leaf o) (Leaf k) (Leaf m) (Leaf n) x {a} {b} h f g p q = leaf_takes h f g p q
-    sink_takes (Fan o) (Fan k) (Fan m) (Fan n) x {a} {b} h f g p q =
-        let r = fan_takes_by h.0 h.1 f g p q {v = admits o.level x.level} refl in (r.0, (r.1, r.2))
-    sink_takes (Leaf o) (Fan k) m n x h f g p q = absurd h
-    sink_takes (Fan o) (Leaf k) m n x h f g p q = absurd h
-    sink_takes (Leaf o) (Leaf k) (Fan m) n x h f g p q = absurd f
-    sink_takes (Leaf o) (Leaf k) (Leaf m) (Fan n) x h f g p q = absurd g
-    sink_takes (Fan o) (Fan k) (Leaf m) n x h f g p q = absurd f
-    sink_takes (Fan o) (Fan k) (Fan m) (Leaf n) x h f g p q = absurd g
+    sink_takes : (o k m n : Sink S) {x : Message} {a b : Answer}
+        → BothDid AlikeSinks (λ o c u. SinkTakes tells files failures o x c u) IsOk o k m n a b → (a ≡ b) × AlikeSinks m n
+    sink_takes (Leaf o) (Leaf k) (Leaf m) (Leaf n) {x} h =
+        leaf_takes {l = o} {k = k} {m = m} {n = n} {x = x}
+        (record { alike = h.alike; one = h.one; other = h.other; one_well = h.one_well; other_well = h.other_well })
+    sink_takes (Fan o) (Fan k) (Fan m) (Fan n) {x} h =
+        let r = fan_takes_by h.alike.0 h.alike.1 h.one h.other h.one_well h.other_well {v = admits o.level x.level} refl in (r.0, (r.1, r.2))
+    sink_takes (Leaf o) (Fan k) m n h = absurd h.alike
+    sink_takes (Fan o) (Leaf k) m n h = absurd h.alike
+    sink_takes (Leaf o) (Leaf k) (Fan m) n h = absurd h.one
+    sink_takes (Leaf o) (Leaf k) (Leaf m) (Fan n) h = absurd h.other
+    sink_takes (Fan o) (Fan k) (Leaf m) n h = absurd h.one
+    sink_takes (Fan o) (Fan k) (Fan m) (Leaf n) h = absurd h.other
 
-    sink_flushes : (o k m n : Sink S) {a b : Result Unit SinkError} → AlikeSinks o k → SinkFlushes tells files failures o a m
-        → SinkFlushes tells files failures k b n → IsOk a → IsOk b → (a ≡ b) × AlikeSinks m n
-    sink_flushes (Leaf o) (Leaf k) (Leaf m) (Leaf n) {a} {b} h f g p q = leaf_flushes h f g p q
-    sink_flushes (Fan o) (Fan k) (Fan m) (Fan n) {a} {b} h f g p q =
-        let r = fan_flushes h.0 h.1 f g p q in (r.0, (r.1, r.2))
-    sink_flushes (Leaf o) (Fan k) m n h f g p q = absurd h
-    sink_flushes (Fan o) (Leaf k) m n h f g p q = absurd h
-    sink_flushes (Leaf o) (Leaf k) (Fan m) n h f g p q = absurd f
-    sink_flushes (Leaf o) (Leaf k) (Leaf m) (Fan n) h f g p q = absurd g
-    sink_flushes (Fan o) (Fan k) (Leaf m) n h f g p q = absurd f
-    sink_flushes (Fan o) (Fan k) (Fan m) (Leaf n) h f g p q = absurd g
+    sink_flushes : (o k m n : Sink S) {a b : Result Unit SinkError}
+        → BothDid AlikeSinks (λ o c u. SinkFlushes tells files failures o c u) IsOk o k m n a b → (a ≡ b) × AlikeSinks m n
+    sink_flushes (Leaf o) (Leaf k) (Leaf m) (Leaf n) h =
+        leaf_flushes {l = o} {k = k} {m = m} {n = n}
+        (record { alike = h.alike; one = h.one; other = h.other; one_well = h.one_well; other_well = h.other_well })
+    sink_flushes (Fan o) (Fan k) (Fan m) (Fan n) h =
+        let r = fan_flushes h.alike.0 h.alike.1 h.one h.other h.one_well h.other_well in (r.0, (r.1, r.2))
+    sink_flushes (Leaf o) (Fan k) m n h = absurd h.alike
+    sink_flushes (Fan o) (Leaf k) m n h = absurd h.alike
+    sink_flushes (Leaf o) (Leaf k) (Fan m) n h = absurd h.one
+    sink_flushes (Leaf o) (Leaf k) (Leaf m) (Fan n) h = absurd h.other
+    sink_flushes (Fan o) (Fan k) (Leaf m) n h = absurd h.one
+    sink_flushes (Fan o) (Fan k) (Fan m) (Leaf n) h = absurd h.other
 
-    text_turn : (t : SinkTurn) (m : Message) (o k n u : Sink S) {x y : Turn} → AlikeSinks o k → TextTurn tells files failures t m o x n
-        → TextTurn tells files failures t m k y u → IsWell x → IsWell y → (x ≡ y) × AlikeSinks n u
-    text_turn t m o k n u h f g p q =
-        let r = sink_takes o k n u m {a = f.0} {b = g.0} h f.1 g.1 (well_text t f.0 (subst IsWell f.2 p)) (well_text t g.0 (subst IsWell g.2 q)) in
+    text_turn : (t : SinkTurn) (m : Message) {o k n u : Sink S} {x y : Turn}
+        → BothDid AlikeSinks (TextTurn tells files failures t m) IsWell o k n u x y → (x ≡ y) × AlikeSinks n u
+    text_turn t m {o} {k} {n} {u} h =
+        let f = h.one in
+        let g = h.other in
+        let r = sink_takes o k n u {x = m} {a = f.0} {b = g.0} (record {
+          alike = h.alike;
+          one = f.1;
+          other = g.1;
+          one_well = well_text t f.0 (subst IsWell f.2 h.one_well);
+          other_well = well_text t g.0 (subst IsWell g.2 h.other_well);
+        }) in
         (f.2 ∙ (ap (told_of_text t) r.0 ∙ sym g.2), r.1)
 
-    flush_turn : (t : SinkTurn) (o k n u : Sink S) {x y : Turn} → AlikeSinks o k → FlushTurn tells files failures t o x n
-        → FlushTurn tells files failures t k y u → IsWell x → IsWell y → (x ≡ y) × AlikeSinks n u
-    flush_turn t o k n u h f g p q =
-        let r = sink_flushes o k n u {a = f.0} {b = g.0} h f.1 g.1 (well_flush t f.0 (subst IsWell f.2 p)) (well_flush t g.0 (subst IsWell g.2 q)) in
+    flush_turn : (t : SinkTurn) {o k n u : Sink S} {x y : Turn}
+        → BothDid AlikeSinks (FlushTurn tells files failures t) IsWell o k n u x y → (x ≡ y) × AlikeSinks n u
+    flush_turn t {o} {k} {n} {u} h =
+        let f = h.one in
+        let g = h.other in
+        let r = sink_flushes o k n u {a = f.0} {b = g.0} (record {
+          alike = h.alike;
+          one = f.1;
+          other = g.1;
+          one_well = well_flush t f.0 (subst IsWell f.2 h.one_well);
+          other_well = well_flush t g.0 (subst IsWell g.2 h.other_well);
+        }) in
         (f.2 ∙ (ap (told_of_flush t) r.0 ∙ sym g.2), r.1)
 
-    pub same_turn : (t : SinkTurn) (d : SinkDeed) (i : Item) (o k n u : Sink S) {x y : Turn} → AlikeSinks o k
-        → DoesTurn tells files failures t d i o x n → DoesTurn tells files failures t d i k y u → IsWell x → IsWell y
-        → (x ≡ y) × AlikeSinks n u
-    same_turn t deed.Take (item.Text m) o k n u {x} {y} h f g p q = text_turn t m o k n u h f g p q
-    same_turn t deed.Take (item.Flush l) o k n u {x} {y} h f g p q = flush_turn t o k n u h f g p q
-    same_turn t deed.Take item.Stop o k n u {x} {y} h f g p q = flush_turn t o k n u h f g p q
-    same_turn t deed.Flush i o k n u {x} {y} h f g p q = flush_turn t o k n u h f g p q
+    pub same_turn : (t : SinkTurn) (d : SinkDeed) (i : Item) {o k n u : Sink S} {x y : Turn}
+        → BothDid AlikeSinks (DoesTurn tells files failures t d i) IsWell o k n u x y → (x ≡ y) × AlikeSinks n u
+    same_turn t deed.Take (item.Text m) h = text_turn t m h
+    same_turn t deed.Take (item.Flush l) h = flush_turn t h
+    same_turn t deed.Take item.Stop h = flush_turn t h
+    same_turn t deed.Flush i h = flush_turn t h
 
   -- the sinks of a number
   pub alike_at : (ls ks : List (Sink S)) (n : ℕ) (x y : Sink S) → AllSinks ls ks → slice_get ls n ≡ Some x → slice_get ks n ≡ Some y

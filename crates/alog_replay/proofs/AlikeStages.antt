@@ -37,7 +37,7 @@ use Rattle.alog_replay.specs.declared.command.Act.{Act}
 use Rattle.alog_replay.specs.declared.command.Act.TheVariants.{Ring, Push, Pop, Work, Post, Log, Flush, Dump, Level, Cells, Counts}
 use Rattle.alog_replay.specs.declared.places.Place.{Place}
 use Rattle.alog_replay.proofs.Agreeing.{Agrees}
-use Rattle.alog_replay.proofs.AlikeSinks.{AlikeLeaves, AlikeSinks, AllLeaves, AllSinks, OneLine, alike_at, alike_set, both_back, both_there, same_files, same_turn}
+use Rattle.alog_replay.proofs.AlikeSinks.{AlikeLeaves, AlikeSinks, AllLeaves, AllSinks, BothDid, OneLine, alike_at, alike_set, both_back, both_there, same_files, same_turn}
 
 -- What a system does, with other sinks.
 module _ {S : Type 0} (v : SystemView S) (o : OutputsView S) where
@@ -161,6 +161,9 @@ module _ {S : Type 0} (files : S → Files) where
   abbrev AlikeSystems : SystemView S → SystemView S → Type 0
   AlikeSystems v w = (o : OutputsView S) × (w ≡ with_outputs v o) × AlikeOutputs v.outputs o
 
+  abbrev AlikeIn : SystemView S → SystemView S → Type 0
+  AlikeIn v w = AlikeOutputs v.outputs w.outputs
+
   abbrev pub AlikeStages : Stage S → Stage S → Type 0
   AlikeStages s t = (o : OutputsView S) × (t ≡ on s o) × AlikeOutputs s.system.outputs o
 
@@ -180,8 +183,8 @@ module _ {S : Type 0} (files : S → Files) where
         let others : g.outputs ≡ record { sinks = slice_set o.sinks h.turn.sink g.makes.after; text_limit = o.text_limit } =
         subst (λ (u : SinkTurn). g.outputs ≡ record { sinks = slice_set o.sinks u.sink g.makes.after; text_limit = o.text_limit }) turns g.makes.others in
         let before = alike_at files v.outputs.sinks o.sinks h.turn.sink h.makes.before g.makes.before outs.1 h.makes.there there in
-        let r = same_turn files tells tell failures h.turn h.turn.deed i h.makes.before g.makes.before h.makes.after g.makes.after {x = x}
-        {y = y} before h.makes.turn does p q in
+        let r = same_turn files tells tell failures h.turn h.turn.deed i {x = x} {y = y}
+        (record { alike = before; one = h.makes.turn; other = does; one_well = p; other_well = q }) in
         let set = alike_set files v.outputs.sinks o.sinks h.turn.sink h.makes.after g.makes.after outs.1 r.1 in
         let whole : AlikeOutputs h.outputs g.outputs =
         subst (λ (z : OutputsView S). AlikeOutputs z g.outputs) (sym h.makes.others)
@@ -195,40 +198,47 @@ module _ {S : Type 0} (files : S → Files) where
           ),
         )
 
-    turn_alike : (v new : SystemView S) {after : SystemView S} (o : OutputsView S) (a : ℕ) (d : Duty) {x y : Turn}
-        → AlikeOutputs v.outputs o
-        → TurnSteps tells files failures v a d x new → TurnSteps tells files failures (with_outputs v o) a d y after → IsWell x → IsWell y
+    turn_alike : (v : SystemView S) (o : OutputsView S) (a : ℕ) (d : Duty) {new after : SystemView S} {x y : Turn}
+        → BothDid AlikeIn (λ w z n. TurnSteps tells files failures w a d z n) IsWell v (with_outputs v o) new after x y
         → (x ≡ y) × AlikeSystems new after
-    turn_alike v new o a duty.Free outs h g p q = absurd h
-    turn_alike v new {after} o a (duty.Keeps m) outs h g p q = (
-      h.0 ∙ sym g.0,
-      stay_alike v new after o outs (ap (λ (z : SystemView S). z.outputs) h.1) (g.1 ∙ ap (λ (z : SystemView S). with_outputs z o) (sym h.1)),
+    turn_alike v o a duty.Free h = absurd h.one
+    turn_alike v o a (duty.Keeps m) {new} {after} h = (
+      h.one.0 ∙ sym h.other.0,
+      stay_alike v new after o h.alike (ap (λ (z : SystemView S). z.outputs) h.one.1)
+          (h.other.1 ∙ ap (λ (z : SystemView S). with_outputs z o) (sym h.one.1)),
     )
-    turn_alike v new {after} o a (duty.Dumps d) outs h g p q =
+    turn_alike v o a (duty.Dumps d) {new} {after} h =
         let w = with_roster v (emptied v.roster d.logger) in
         let policy = policy_at v.roster d.logger in (
-          h.0 ∙ sym g.0,
-          stay_alike v new after o outs (ap (λ (z : SystemView S). z.outputs) h.1 ∙ posting_keeps w o a policy (dumped_by v d))
-              (g.1 ∙ (posting_with w o a policy (dumped_by v d) ∙ ap (λ (z : SystemView S). with_outputs z o) (sym h.1))),
+          h.one.0 ∙ sym h.other.0,
+          stay_alike v new after o h.alike (ap (λ (z : SystemView S). z.outputs) h.one.1 ∙ posting_keeps w o a policy (dumped_by v d))
+              (h.other.1 ∙ (posting_with w o a policy (dumped_by v d) ∙ ap (λ (z : SystemView S). with_outputs z o) (sym h.one.1))),
         )
-    turn_alike v new o a (duty.Posts policy ms) outs h g p q = absurd h
-    turn_alike v new o a duty.Works outs h g p q = absurd h
-    turn_alike v new {after} o a (duty.Serves t i done) {x} {y} outs h g p q = served_alike outs h g p q
+    turn_alike v o a (duty.Posts policy ms) h = absurd h.one
+    turn_alike v o a duty.Works h = absurd h.one
+    turn_alike v o a (duty.Serves t i done) h = served_alike h.alike h.one h.other h.one_well h.other_well
 
-    step_alike : (v new : SystemView S) {after : SystemView S} (o : OutputsView S) (a : ℕ) {x y : Stepped} → AlikeOutputs v.outputs o →
-        (b : Bool)
-        → MatchBool b (TurnTold tells files failures v a x new) (RoundSteps v a x new)
-        → MatchBool b (TurnTold tells files failures (with_outputs v o) a y after) (RoundSteps (with_outputs v o) a y after) → HasNoFault x
-        → HasNoFault y → (x ≡ y) × AlikeSystems new after
-    step_alike v new {after} o a outs true h g p q =
-        let r = turn_alike v new {after = after} o a (duty_of v a) {x = h.0} {y = g.0} outs h.2 g.2 (subst HasNoFault h.1 p) (subst HasNoFault g.1 q) in
-        (h.1 ∙ (ap Turned r.0 ∙ sym g.1), r.1)
-    step_alike v new {after} o a outs false h g p q =
+    step_alike : (v : SystemView S) (o : OutputsView S) (a : ℕ) (b : Bool) {new after : SystemView S} {x y : Stepped}
+        → BothDid AlikeIn (λ w z n. MatchBool b (TurnTold tells files failures w a z n) (RoundSteps w a z n)) HasNoFault v (with_outputs v o)
+        new after x y
+        → (x ≡ y) × AlikeSystems new after
+    step_alike v o a true {new} {after} h =
+        let f = h.one in
+        let g = h.other in
+        let r = turn_alike v o a (duty_of v a) {new = new} {after = after} {x = f.0} {y = g.0} (record {
+          alike = h.alike;
+          one = f.2;
+          other = g.2;
+          one_well = subst HasNoFault f.1 h.one_well;
+          other_well = subst HasNoFault g.1 h.other_well;
+        }) in
+        (f.1 ∙ (ap Turned r.0 ∙ sym g.1), r.1)
+    step_alike v o a false {new} {after} h =
         let w = with_desk v (desk_stepped v.desk a) in
         let said = desk_told v.desk a in (
-          h.0 ∙ sym g.0,
-          stay_alike v new after o outs (ap (λ (z : SystemView S). z.outputs) h.1 ∙ follows_keeps w o a (duty_of v a) said)
-              (g.1 ∙ (follows_with w o a (duty_of v a) said ∙ ap (λ (z : SystemView S). with_outputs z o) (sym h.1))),
+          h.one.0 ∙ sym h.other.0,
+          stay_alike v new after o h.alike (ap (λ (z : SystemView S). z.outputs) h.one.1 ∙ follows_keeps w o a (duty_of v a) said)
+              (h.other.1 ∙ (follows_with w o a (duty_of v a) said ∙ ap (λ (z : SystemView S). with_outputs z o) (sym h.one.1))),
         )
 
     -- an actor whose turn comes has a sink for it
@@ -242,21 +252,21 @@ module _ {S : Type 0} (files : S → Files) where
         let on = subst (λ (z : Duty). TurnSteps tells files failures v a z h.0 new) d h.2 in (on.turn, on.makes.before, on.next, on.makes.there)
 
     not_there : (v : SystemView S) {w : SystemView S} (new : SystemView S) {a : ℕ} (x : Stepped)
-        → SystemSteps tells files failures v a x new → HasNoSink w a
-        → w.desk ≡ v.desk → w.duties ≡ v.duties → w.roster ≡ v.roster
+        → SystemSteps tells files failures v a x new → HasNoSink w a → w ≡ with_outputs v w.outputs
         → ((n : ℕ) (z : Sink S) → slice_get v.outputs.sinks n ≡ Some z → (y : Sink S) × (slice_get w.outputs.sinks n ≡ Some y)) → ⊥
-    not_there v {w} new {a} x steps lacks desk duties roster both =
-        let idle = ap (λ d. is_idle (round_of d.world a)) (sym desk) ∙ lacks.idle in
-        let serves = ap (λ ds. slice_index_or ds a duty.Free) (sym duties) ∙ lacks.serves in
+    not_there v {w} new {a} x steps lacks same both =
+        let idle = ap (λ (z : SystemView S). is_idle (round_of z.desk.world a)) (sym same) ∙ lacks.idle in
+        let serves = ap (λ (z : SystemView S). slice_index_or z.duties a duty.Free) (sym same) ∙ lacks.serves in
         let sink = has_sink v new a x idle serves steps in
-        let next = ap (λ r. slice_get (turns_for r lacks.ticket lacks.item) lacks.done) roster ∙ sink.2 in
+        let next = ap (λ (z : SystemView S). slice_get (turns_for z.roster lacks.ticket lacks.item) lacks.done) same ∙ sink.2 in
         let found = both sink.0.sink sink.1 sink.3 in
         none-some found.0 (sym lacks.none ∙ (ap (sink_of w) next ∙ found.1))
 
     stage_step : {s u t : Stage S} {o : OutputsView S} {a : ℕ} {x y : List ℕ} → AlikeOutputs s.system.outputs o
         → StepsWell tells files failures s a x u → StepsWell tells files failures (on s o) a y t → (x ≡ y) × AlikeStages u t
     stage_step {s} {u} {t} {o} {a} outs (inl h) (inl g) =
-        let r = step_alike s.system u.system {after = t.system} o a {x = h.0.told} {y = g.0.told} outs (is_idle (round_of s.system.desk.world a)) h.0.steps g.0.steps h.1 g.1 in
+        let r = step_alike s.system o a (is_idle (round_of s.system.desk.world a)) {new = u.system} {after = t.system} {x = h.0.told} {y = g.0.told}
+        (record { alike = outs; one = h.0.steps; other = g.0.steps; one_well = h.1; other_well = g.1 }) in
         let duty : duty_of t.system a ≡ duty_of u.system a = ap (λ (z : SystemView S). duty_of z a) r.1.1 in
         let same : told_text s.names a (item_of (duty_of u.system a)) h.0.told ≡ told_text s.names a (item_of (duty_of t.system a)) g.0.told =
         ap (λ z. told_text s.names a (item_of (duty_of u.system a)) z) r.0 ∙ ap (λ z. told_text s.names a (item_of z) g.0.told) (sym duty) in
@@ -264,10 +274,10 @@ module _ {S : Type 0} (files : S → Files) where
         g.0.rest ∙ (ap (with_system s) r.1.1 ∙ ap (λ (z : Stage S). on z r.1.0) (sym h.0.rest)) in
         (h.0.printed ∙ (same ∙ sym g.0.printed), (r.1.0, stage, r.1.2))
     stage_step {s} {u} {o} {a} outs (inl h) (inr g) =
-        absurd (not_there s.system u.system h.0.told h.0.steps g.0 refl refl refl
+        absurd (not_there s.system u.system h.0.told h.0.steps g.0 refl
         (λ n z e. both_there files s.system.outputs.sinks o.sinks n z outs.1 e))
     stage_step {s} {t} {o} {a} outs (inr h) (inl g) =
-        absurd (not_there (with_outputs s.system o) t.system g.0.told g.0.steps h.0 refl refl refl
+        absurd (not_there (with_outputs s.system o) t.system g.0.told g.0.steps h.0 refl
         (λ n z e. both_back files s.system.outputs.sinks o.sinks n z outs.1 e))
     stage_step {u} {t} {o} outs (inr h) (inr g) =
         let is : t ≡ on u o = g.2 ∙ ap (λ (z : Stage S). on z o) (sym h.2) in

@@ -182,9 +182,12 @@ module _ {S : Type 0} (law : OneReading) (tells : Bool) (tell : tells ≡ true) 
       (λ n p q at to same.
       sink_pair n p.config.now.level p.config.now.kind p.sink q.sink (b.each n p at)
       (subst (λ (s : SinkConfig). IsBuiltAs tells files failures c others d.parts n s.level s.kind q.sink) (sym same) (d.each n q to))) in
-      picked_pairs (λ p q. (p.config.now ≡ q.config.now) × AlikeSinks files p.sink q.sink) (λ p. ¬ IsMember c.sinks.items p.config.now.name)
-      (λ p q r no. subst (λ (s : SinkConfig). ¬ IsMember c.sinks.items s.name) r.0 no)
-      (λ p q r no. subst (λ (s : SinkConfig). ¬ IsMember c.sinks.items s.name) (sym r.0) no)
+      picked_pairs {R = λ p q. (p.config.now ≡ q.config.now) × AlikeSinks files p.sink q.sink}
+      {P = λ p. ¬ IsMember c.sinks.items p.config.now.name}
+      (λ p q r. (
+        λ no. subst (λ (s : SinkConfig). ¬ IsMember c.sinks.items s.name) r.0 no,
+        λ no. subst (λ (s : SinkConfig). ¬ IsMember c.sinks.items s.name) (sym r.0) no,
+      ))
       b.parts d.parts b.tops d.tops parts b.picked d.picked
 
   pub sinks_alike : AllSinks files opened again
@@ -212,9 +215,10 @@ module _ {S : Type 0} (law : OneReading) (tells : Bool) (tell : tells ≡ true) 
     flush_on = h.flush_on ∙ sym g.flush_on;
     backtrace = h.backtrace ∙ sym g.backtrace;
     sinks = each_same x.spec.sinks.items y.spec.sinks.items
-        (each_both (IsPlace b.tops) (IsPlace d.tops) (λ i j. i ≡ j) same_place l.sinks x.spec.sinks.items y.spec.sinks.items
+        (each_both {P = IsPlace b.tops} {Q = IsPlace d.tops} {R = λ i j. i ≡ j} same_place l.sinks x.spec.sinks.items y.spec.sinks.items
         h.sinks g.sinks);
   }
 
   pub loggers_same : EachIs IsSameLogger made more
-  loggers_same = each_both (IsLoggerOf b.tops) (IsLoggerOf d.tops) IsSameLogger logger_pair c.loggers.items made more b.loggers d.loggers
+  loggers_same = each_both {P = IsLoggerOf b.tops} {Q = IsLoggerOf d.tops} {R = IsSameLogger} logger_pair c.loggers.items made more b.loggers
+      d.loggers

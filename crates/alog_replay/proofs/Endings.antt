@@ -94,7 +94,7 @@ module _ {S : Type 0} (scene : Scene S) where
       → WhereKnown to.rest after Q → IfSome from.rest R
   at_line from to after Q R both h f =
       known_first from.rest after R
-      (known_then from.rest to.rest after (λ script rest. Progress scene from to script rest) Q (λ script left. R script) both h f)
+      (known_then from.rest to.rest after {P = λ script rest. Progress scene from to script rest} {Q = Q} {R = λ script left. R script} both h f)
 
   -- the script is at its end
   pub end_whole : (from to : Point S) (after new : Option (List ℕ)) (line : List ℕ) → HasTold scene from to
@@ -133,7 +133,7 @@ module _ {S : Type 0} (scene : Scene S) where
       → ((script rest left : List ℕ) → Progress scene from to script rest → Q rest left → Front from new script left)
       → HasTold scene from to → WhereKnown to.rest left Q → HasFront from left new
   at_place from to left new Q both h f =
-      known_then from.rest to.rest left (λ script rest. Progress scene from to script rest) Q (Front from new) both h f
+      known_then from.rest to.rest left {P = λ script rest. Progress scene from to script rest} {Q = Q} {R = Front from new} both h f
 
   -- the files, or a front of them, were written at the end
   pub finish_front : (from to : Point S) (left : Option (List ℕ)) {new : Option (List ℕ)} (pending line : List ℕ) → HasTold scene from to

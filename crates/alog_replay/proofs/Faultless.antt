@@ -61,13 +61,17 @@ module _ {S : Type 0} (scene : Scene S) (Well : S → ℕ → List ℕ → S →
   abbrev Prints : Type 0 → Played S → Type 0
   Prints P p = AreWholeLines (text_in p) × Or P (text_in p)
 
-  made_or : (a : ℕ) (s : S) (p : Played S) (ended : S → Played S) (One Two : S → Played S → Type 0)
-      → ((t : S) → AreWholeLines (text_in (ended t))) → ((t : S) (q : Played S) → One t q → Prints (Two t q) q)
+  -- steps end in whole lines, and the rest of them prints these
+  record GoesOn (ended : S → Played S) (One Two : S → Played S → Type 0) : Type 0 where
+    ends : (t : S) → AreWholeLines (text_in (ended t))
+    rest : (t : S) (q : Played S) → One t q → Prints (Two t q) q
+
+  made_or : {ended : S → Played S} {One Two : S → Played S → Type 0} → GoesOn ended One Two → (a : ℕ) (s : S) (p : Played S)
       → (b : Bool) → WhereTrue b (p ≡ ended s) (StepThen scene a s One p) → Prints (WhereTrue b (p ≡ ended s) (StepThen well a s Two p)) p
-  made_or a s p ended One Two ends rest true h = (subst (λ (q : Played S). AreWholeLines (text_in q)) (sym h) (ends s), inl h)
-  made_or a s p ended One Two ends rest false h =
+  made_or on a s p true h = (subst (λ (q : Played S). AreWholeLines (text_in q)) (sym h) (on.ends s), inl h)
+  made_or {Two} on a s p false h =
       let step = steps s a h.0 h.1 h.3 in
-      let more = rest h.1 h.2 h.4 in
+      let more = on.rest h.1 h.2 h.4 in
       let is : text_in p ≡ h.0 ++ text_in h.2 = ap text_in h.5 ∙ in_behind h.0 h.2 in
       let R : Type 0 = StepThen well a s Two p in
       subst (λ (x : List ℕ). AreWholeLines x × Or R x) (sym is)
@@ -79,8 +83,9 @@ module _ {S : Type 0} (scene : Scene S) (Well : S → ℕ → List ℕ → S →
   made ended ends zero a s p h =
       (subst (λ (q : Played S). AreWholeLines (text_in q)) (sym h) (subst AreWholeLines (sym (in_done [] s)) no_line), inl h)
   made ended ends (suc k) a s p h =
-      made_or a s p ended (λ t q. Makes scene ended k a t q) (λ t q. Makes well ended k a t q) ends (λ t q m. made ended ends k a t q m)
-      (scene.is_free s a) h
+      let on : GoesOn ended (λ t q. Makes scene ended k a t q) (λ t q. Makes well ended k a t q) =
+      record { ends = ends; rest = λ t q m. made ended ends k a t q m } in
+      made_or on a s p (scene.is_free s a) h
 
   nothing_done : (s : S) → AreWholeLines (text_in (done s))
   unfolding text_in

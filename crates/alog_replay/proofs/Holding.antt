@@ -49,16 +49,19 @@ step_may (Some s) a text next h t =
     let step = step_by s a (duty_of s a) text t.0 h t.1 in
     ((t.0, step.0, t.2), subst Holds (sym t.2) step.1)
 
-made_or : (a : ℕ) (s : Option Stage) (p : Played (Option Stage)) (ended : Option Stage → Played (Option Stage))
-    (One Two : Option Stage → Played (Option Stage) → Type 0)
-    → ((t : Option Stage) → Holds t → HoldsAfter (ended t))
-    → ((t : Option Stage) (q : Played (Option Stage)) → Holds t → One t q → Two t q × HoldsAfter q) → Holds s
+-- where the store has not failed, it has not at the end of steps nor after the rest of them
+record HoldsOn (ended : Option Stage → Played (Option Stage)) (One Two : Option Stage → Played (Option Stage) → Type 0) : Type 0 where
+  ends : (t : Option Stage) → Holds t → HoldsAfter (ended t)
+  rest : (t : Option Stage) (q : Played (Option Stage)) → Holds t → One t q → Two t q × HoldsAfter q
+
+made_or : {ended : Option Stage → Played (Option Stage)} {One Two : Option Stage → Played (Option Stage) → Type 0}
+    → HoldsOn ended One Two → (a : ℕ) (s : Option Stage) (p : Played (Option Stage)) → Holds s
     → (b : Bool) → WhereTrue b (p ≡ ended s) (StepThen (plain false) a s One p)
     → WhereTrue b (p ≡ ended s) (StepThen (plain true) a s Two p) × HoldsAfter p
-made_or a s p ended One Two ends rest h true t = (t, subst HoldsAfter (sym t) (ends s h))
-made_or a s p ended One Two ends rest h false t =
+made_or on a s p h true t = (t, subst HoldsAfter (sym t) (on.ends s h))
+made_or on a s p h false t =
     let step = step_may s a t.0 t.1 h t.3 in
-    let after = rest t.1 t.2 step.1 t.4 in
+    let after = on.rest t.1 t.2 step.1 t.4 in
     ((t.0, t.1, t.2, step.0, after.0, t.5), subst HoldsAfter (sym t.5) (holds_behind t.0 t.2 after.1))
 
 made_may : (ended : Option Stage → Played (Option Stage)) → ((t : Option Stage) → Holds t → HoldsAfter (ended t)) → (k a : ℕ)
@@ -67,8 +70,9 @@ made_may : (ended : Option Stage → Played (Option Stage)) → ((t : Option Sta
 unfolding Makes
 made_may ended ends zero a s p h t = (t, subst HoldsAfter (sym t) h)
 made_may ended ends (suc k) a s p h t =
-    made_or a s p ended (λ u q. Makes (plain false) ended k a u q) (λ u q. Makes (plain true) ended k a u q) ends
-    (λ u q f m. made_may ended ends k a u q f m) h (is_free_in s a) t
+    let on : HoldsOn ended (λ u q. Makes (plain false) ended k a u q) (λ u q. Makes (plain true) ended k a u q) =
+    record { ends = ends; rest = λ u q f m. made_may ended ends k a u q f m } in
+    made_or on a s p h (is_free_in s a) t
 
 act_holds : (s : Option Stage) (act : Act) → Holds s → Holds (after_act s act).1
 act_holds None (Ring places first) h = refl
@@ -112,28 +116,29 @@ played_may s (Acts act) p h t = (t, act_may s act p h (may_do s act) t)
 played_may s (Step a count) p h t = made_may refused (λ u f. tt) count a s p h t
 played_may s (Run a) p h t = run_may s a p h (is_free_in s a) t
 
-rest_may : (n : ℕ) (p : Played (Option Stage)) (One Two : Option Stage → Told → Type 0) (t : Told)
-    → ((s : Option Stage) (u : Told) → Holds s → One s u → Two s u) → HoldsAfter p → TellsPlayed n p One t → TellsPlayed n p Two t
-rest_may n (Done text s) One Two t rest h u = (u.0, rest s u.0 h u.1, u.2)
-rest_may n (Refused text) One Two t rest h u = u
+-- what is told of the rest in one way may be told in the other
+record MayTell (One Two : Option Stage → Told → Type 0) : Type 0 where
+  may : (s : Option Stage) (u : Told) → Holds s → One s u → Two s u
 
-line_may : (s : Option Stage) (n : ℕ) (e : Entry) (One Two : Option Stage → Told → Type 0) (t : Told)
-    → ((s : Option Stage) (u : Told) → Holds s → One s u → Two s u) → Holds s
-    → TellsLine (plain false) s n e One t → TellsLine (plain true) s n e Two t
-line_may s n Skipped One Two t rest h u = rest s t h u
-line_may s n (Does command) One Two t rest h u =
+rest_may : {One Two : Option Stage → Told → Type 0} → MayTell One Two → (n : ℕ) (p : Played (Option Stage)) (t : Told)
+    → HoldsAfter p → TellsPlayed n p One t → TellsPlayed n p Two t
+rest_may rest n (Done text s) t h u = (u.0, rest.may s u.0 h u.1, u.2)
+rest_may rest n (Refused text) t h u = u
+
+line_may : {One Two : Option Stage → Told → Type 0} → MayTell One Two → (s : Option Stage) (n : ℕ) (e : Entry) (t : Told)
+    → Holds s → TellsLine (plain false) s n e One t → TellsLine (plain true) s n e Two t
+line_may rest s n Skipped t h u = rest.may s t h u
+line_may rest s n (Does command) t h u =
     let played = played_may s command u.0 h u.1 in
-    (u.0, played.0, rest_may n u.0 One Two t rest played.1 u.2)
-line_may s n entry.Refused One Two t rest h u = u
+    (u.0, played.0, rest_may rest n u.0 t played.1 u.2)
+line_may rest s n entry.Refused t h u = u
 
 -- what lines tell where the store never fails they may tell
 pub lines_may : (lines : List (List ℕ)) (s : Option Stage) (n : ℕ) (t : Told) → Holds s → Tells (plain false) s n lines t
     → Tells (plain true) s n lines t
 unfolding Tells
 lines_may [] s n t h u = u
-lines_may (line ∷ lines) s n t h u = (
-  u.0,
-  u.1,
-  line_may s n u.0 (λ next v. Tells (plain false) next (n + 1) lines v) (λ next v. Tells (plain true) next (n + 1) lines v) t
-      (λ next v f w. lines_may lines next (n + 1) v f w) h u.2,
-)
+lines_may (line ∷ lines) s n t h u =
+    let rest : MayTell (λ next v. Tells (plain false) next (n + 1) lines v) (λ next v. Tells (plain true) next (n + 1) lines v) =
+    record { may = λ next v f w. lines_may lines next (n + 1) v f w } in
+    (u.0, u.1, line_may rest s n u.0 t h u.2)

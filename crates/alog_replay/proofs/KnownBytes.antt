@@ -4,12 +4,12 @@ use Rattle.std.specs.Prelude.{IfSome}
 use Rattle.std.specs.Io.KnownBytes.{Consumes, prepend_known}
 use Rattle.alog_replay.specs.Known.{WhereKnown}
 
-pub known_then : (a b c : Option (List ℕ)) (P Q R : List ℕ → List ℕ → Type 0) → ((x y z : List ℕ) → P x y → Q y z → R x z)
+pub known_then : (a b c : Option (List ℕ)) {P Q R : List ℕ → List ℕ → Type 0} → ((x y z : List ℕ) → P x y → Q y z → R x z)
     → WhereKnown a b P → WhereKnown b c Q → WhereKnown a c R
-known_then None b c P Q R both p q = tt
-known_then (Some x) None c P Q R both p q = absurd p
-known_then (Some x) (Some y) None P Q R both p q = absurd q
-known_then (Some x) (Some y) (Some z) P Q R both p q = both x y z p q
+known_then None b c both p q = tt
+known_then (Some x) None c both p q = absurd p
+known_then (Some x) (Some y) None both p q = absurd q
+known_then (Some x) (Some y) (Some z) both p q = both x y z p q
 
 pub known_first : (a b : Option (List ℕ)) (Q : List ℕ → Type 0) → WhereKnown a b (λ x y. Q x) → IfSome a Q
 known_first None b Q h = tt

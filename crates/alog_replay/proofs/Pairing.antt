@@ -1,5 +1,5 @@
 -- Two lists that go together, what is picked of both, and items at the place of a name.
-use Rattle.std.proofs.Common.{◌≡◌, ℕ, zero, suc, Some, List, [], ◌∷◌, ◌++◌, map, inl, inr, refl, sym, ap, subst, ◌∙◌}
+use Rattle.std.proofs.Common.{◌≡◌, ◌↔◌, ℕ, zero, suc, Some, List, [], ◌∷◌, ◌++◌, map, inl, inr, refl, sym, ap, subst, ◌∙◌}
 use Rattle.std.specs.Prelude.{slice_get}
 use Rattle.std.specs.List.{AllByRecursion}
 use Rattle.std.specs.Option.{option_map}
@@ -88,29 +88,30 @@ pairs_of f g R (x ∷ xs) (y ∷ ys) e each =
     ((heads, each 0 x y refl refl heads), pairs_of f g R xs ys tails (λ n a b p q same. each (suc n) a b p q same))
 
 -- and so does what is picked of both
-pub picked_pairs : {A : Type 0} (R : A → A → Type 0) (P : A → Type 0) → ((x y : A) → R x y → P x → P y) → ((x y : A) → R x y → P y → P x)
+pub picked_pairs : {A : Type 0} {R : A → A → Type 0} {P : A → Type 0} → ((x y : A) → R x y → P x ↔ P y)
     → (xs ys ps qs : List A) → EachIs R xs ys → ArePicked P xs ps → ArePicked P ys qs → EachIs R ps qs
-picked_pairs {A} R P over back [] [] ps qs each h g =
+picked_pairs {A} {R} same [] [] ps qs each h g =
     subst (λ (z : List A). EachIs R z qs) (sym h) (subst (λ (z : List A). EachIs R [] z) (sym g) tt)
-picked_pairs R P over back [] (y ∷ ys) ps qs each h g = absurd each
-picked_pairs R P over back (x ∷ xs) [] ps qs each h g = absurd each
-picked_pairs {A} R P over back (x ∷ xs) (y ∷ ys) ps qs each (inl h) (inl g) =
-    let more : EachIs R (x ∷ h.0) (y ∷ g.0) = (each.0, picked_pairs R P over back xs ys h.0 g.0 each.1 h.3 g.3) in
+picked_pairs same [] (y ∷ ys) ps qs each h g = absurd each
+picked_pairs same (x ∷ xs) [] ps qs each h g = absurd each
+picked_pairs {A} {R} {P} same (x ∷ xs) (y ∷ ys) ps qs each (inl h) (inl g) =
+    let more : EachIs R (x ∷ h.0) (y ∷ g.0) = (each.0, picked_pairs {R = R} {P = P} same xs ys h.0 g.0 each.1 h.3 g.3) in
     subst (λ (z : List A). EachIs R z qs) (sym h.2) (subst (λ (z : List A). EachIs R (x ∷ h.0) z) (sym g.2) more)
-picked_pairs R P over back (x ∷ xs) (y ∷ ys) ps qs each (inl h) (inr g) = absurd (g.0 (over x y each.0 h.1))
-picked_pairs R P over back (x ∷ xs) (y ∷ ys) ps qs each (inr h) (inl g) = absurd (h.0 (back x y each.0 g.1))
-picked_pairs R P over back (x ∷ xs) (y ∷ ys) ps qs each (inr h) (inr g) = picked_pairs R P over back xs ys ps qs each.1 h.1 g.1
+picked_pairs same (x ∷ xs) (y ∷ ys) ps qs each (inl h) (inr g) = absurd (g.0 ((same x y each.0).0 h.1))
+picked_pairs same (x ∷ xs) (y ∷ ys) ps qs each (inr h) (inl g) = absurd (h.0 ((same x y each.0).1 g.1))
+picked_pairs {R} {P} same (x ∷ xs) (y ∷ ys) ps qs each (inr h) (inr g) = picked_pairs {R = R} {P = P} same xs ys ps qs each.1 h.1 g.1
 
 -- what both go with goes together
-pub each_both : {A B C : Type 0} (P : A → B → Type 0) (Q : A → C → Type 0) (R : B → C → Type 0)
+pub each_both : {A B C : Type 0} {P : A → B → Type 0} {Q : A → C → Type 0} {R : B → C → Type 0}
     → ((a : A) (b : B) (c : C) → P a b → Q a c → R b c) → (all : List A) (bs : List B) (cs : List C) → EachIs P all bs → EachIs Q all cs
     → EachIs R bs cs
-each_both P Q R both [] [] [] h g = tt
-each_both P Q R both [] [] (c ∷ cs) h g = absurd g
-each_both P Q R both [] (b ∷ bs) cs h g = absurd h
-each_both P Q R both (a ∷ all) [] cs h g = absurd h
-each_both P Q R both (a ∷ all) (b ∷ bs) [] h g = absurd g
-each_both P Q R both (a ∷ all) (b ∷ bs) (c ∷ cs) h g = (both a b c h.0 g.0, each_both P Q R both all bs cs h.1 g.1)
+each_both both [] [] [] h g = tt
+each_both both [] [] (c ∷ cs) h g = absurd g
+each_both both [] (b ∷ bs) cs h g = absurd h
+each_both both (a ∷ all) [] cs h g = absurd h
+each_both both (a ∷ all) (b ∷ bs) [] h g = absurd g
+each_both {P} {Q} {R} both (a ∷ all) (b ∷ bs) (c ∷ cs) h g =
+    (both a b c h.0 g.0, each_both {P = P} {Q = Q} {R = R} both all bs cs h.1 g.1)
 
 -- lists that go together have the same of what their items have the same
 pub each_map : {A B X : Type 0} (R : A → B → Type 0) (f : A → X) (g : B → X) → ((a : A) (b : B) → R a b → f a ≡ g b)

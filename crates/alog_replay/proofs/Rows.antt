@@ -42,15 +42,15 @@ rises_in_order [] h = refl
 rises_in_order (f ∷ row) h = ap (put_in f) (rises_in_order row h.1) ∙ put_first f row h.0
 
 -- and what is in order rises
-above_placed : (o : Ordering) (a : List ℕ) (f g : File) (row behind : Row) → name_cmp a f.0 ≡ Less → AreAbove a (g ∷ row)
-    → AreAbove a behind → AreAbove a (placed o f g row behind)
-above_placed Less a f g row behind e h m = (e, h)
-above_placed Equal a f g row behind e h m = (e, h.1)
-above_placed Greater a f g row behind e h m = (h.0, m)
-
 above_put : (a : List ℕ) (f : File) (row : Row) → name_cmp a f.0 ≡ Less → AreAbove a row → AreAbove a (put_in f row)
 above_put a f [] e h = (e, tt)
-above_put a f (g ∷ row) e h = above_placed (name_cmp f.0 g.0) a f g row (put_in f row) e h (above_put a f row e h.1)
+above_put a f (g ∷ row) e h =
+    let more = above_put a f row e h.1 in
+    elim (name_cmp f.0 g.0) as (λ o. AreAbove a (placed o f g row (put_in f row))) [
+      | Less ↦ (e, h)
+      | Equal ↦ (e, h.1)
+      | Greater ↦ (h.0, more)
+    ]
 
 rises_placed : (o : Ordering) (f g : File) (row : Row) → name_cmp f.0 g.0 ≡ o → Rises (g ∷ row) → Rises (put_in f row)
     → Rises (placed o f g row (put_in f row))
@@ -109,15 +109,22 @@ behind_first : (b : Bool) (x y z w : Option (List ℕ)) → b ≡ false → (if 
 behind_first true x y z w e h = absurd (false≢true (sym e))
 behind_first false x y z w e h = h
 
-rest_same_by : (f g : File) (r s : Row) (name : List ℕ) → f.0 ≡ g.0 → AreAbove f.0 r → AreAbove g.0 s
-    → files_of (f ∷ r) name ≡ files_of (g ∷ s) name → {b : Bool} → bytes_eq name f.0 ≡ b → files_of r name ≡ files_of s name
-rest_same_by f g r s name e h k all {b = true} is =
+-- rows that begin with the same name, rise and have the same files
+record BeginAlike (f g : File) (r s : Row) : Type 0 where
+  name : f.0 ≡ g.0
+  one : Rises (f ∷ r)
+  other : Rises (g ∷ s)
+  files : (n : List ℕ) → files_of (f ∷ r) n ≡ files_of (g ∷ s) n
+
+rest_same_by : {f g : File} {r s : Row} → BeginAlike f g r s → (name : List ℕ) {b : Bool} → bytes_eq name f.0 ≡ b
+    → files_of r name ≡ files_of s name
+rest_same_by {f} {g} {r} {s} alike name {b = true} is =
     let here : name ≡ f.0 = (bytes_decides name f.0).0 is in
-    absent name r (subst (λ (n : List ℕ). AreAbove n r) (sym here) h)
-    ∙ sym (absent name s (subst (λ (n : List ℕ). AreAbove n s) (sym (here ∙ e)) k))
-rest_same_by f g r s name e h k all {b = false} is =
+    absent name r (subst (λ (n : List ℕ). AreAbove n r) (sym here) alike.one.0)
+    ∙ sym (absent name s (subst (λ (n : List ℕ). AreAbove n s) (sym (here ∙ alike.name)) alike.other.0))
+rest_same_by {f} {g} {r} {s} alike name {b = false} is =
     behind_first (bytes_eq name f.0) (Some f.1) (Some g.1) (files_of r name) (files_of s name) is
-    (all ∙ ap (λ n. if bytes_eq name n then Some g.1 else files_of s name) (sym e))
+    (alike.files name ∙ ap (λ n. if bytes_eq name n then Some g.1 else files_of s name) (sym alike.name))
 
 one_first : {o : Ordering} {f g : File} {r s : Row} → name_cmp f.0 g.0 ≡ o → Rises (f ∷ r) → Rises (g ∷ s)
     → ((name : List ℕ) → files_of (f ∷ r) name ≡ files_of (g ∷ s) name)
@@ -127,7 +134,8 @@ one_first {o = Less} {f} {g} {r} {s} e h k all rest =
 one_first {o = Equal} {f} {g} {r} {s} e h k all rest =
     let names = same_name f.0 g.0 e in
     let bytes : f.1 ≡ g.1 = same_Some f.1 g.1 (sym (first_of f r) ∙ (all f.0 ∙ (ap (files_of (g ∷ s)) names ∙ first_of g s))) in
-    let tail = rest (λ name. rest_same_by f g r s name names h.0 k.0 (all name) {b = bytes_eq name f.0} refl) in
+    let alike : BeginAlike f g r s = record { name = names; one = h; other = k; files = all } in
+    let tail = rest (λ name. rest_same_by alike name {b = bytes_eq name f.0} refl) in
     ap (λ n. (n, f.1) ∷ r) names ∙ (ap (λ x. (g.0, x) ∷ r) bytes ∙ ap (λ l. g ∷ l) tail)
 one_first {o = Greater} {f} {g} {r} {s} e h k all rest =
     let low = above f.0 g.0 e in

@@ -77,16 +77,21 @@ pub made_till_refused : {S : Type 0} {Whole Rest : Played S → Type 0} {before 
     → IsRefused Whole before then
 made_till_refused {S} {Whole} m h p = (m.text, subst (λ t. Whole (Refused t)) (append-nil m.text) (m.goes_on (Refused []) h), p ∙ m.printed)
 
+-- An actor in a call made a step, which was printed.
+pub record StepMade {S : Type 0} (scene : Scene S) (actor : ℕ) (s next : S) (now then : List ℕ) : Type 0 where
+  pub called : scene.is_free s actor ≡ false
+  pub step : Prints now then (λ text. scene.Steps s actor text next)
+
 module _ {S : Type 0} (scene : Scene S) (ended : S → Played S) where
   -- one turn of a loop makes one of the steps that are left
-  pub next_made : {Whole : Played S → Type 0} {before now then : List ℕ} (n i actor : ℕ) (s next : S) → i < n
-      → scene.is_free s actor ≡ false
-      → Prints now then (λ text. scene.Steps s actor text next) → HasMade Whole (Makes scene ended (n - i) actor s) before now
+  pub next_made : {Whole : Played S → Type 0} {before now then : List ℕ} (n i : ℕ) {actor : ℕ} {s next : S} → i < n
+      → StepMade scene actor s next now then → HasMade Whole (Makes scene ended (n - i) actor s) before now
       → HasMade Whole (Makes scene ended (n - (i + 1)) actor next) before then
-  next_made n i actor s next some called step m =
+  next_made n i {actor} {s} {next} some one m =
+      let step = one.step in
       let less : n - (i + 1) ≡ n - i - 1 = omega arith in
       made_more (Makes scene ended (n - (i + 1)) actor next) step.0 m
-      (λ q h. one_made scene ended (n - i) actor s (behind step.0 q) (omega (arith, some)) called
+      (λ q h. one_made scene ended (n - i) actor s (behind step.0 q) (omega (arith, some)) one.called
       (step.0, next, q, step.1, subst (λ j. Makes scene ended j actor next q) less h, refl)) step.2
 
   -- the loop has made all

@@ -138,5 +138,5 @@ module _ {S : Type 0} (scene : Scene S) where
       → WritesLine scene mid.stage line to.stage mid.held to.held → HasTold from mid
       → FindsLine found.Found mid.rest to.rest line → HasTold from to
   told_line from mid to line one w h f =
-      known_then from.rest mid.rest to.rest (Progress from mid) (λ rest after. TakesLine rest line after) (Progress from to)
+      known_then from.rest mid.rest to.rest {P = Progress from mid} {Q = λ rest after. TakesLine rest line after} {R = Progress from to}
       (λ script rest after p k. progress_line from mid to one w p k) h f

@@ -1,14 +1,15 @@
 use Rattle.std.proofs.Common.{◌-◌, ◌<◌, sym, ◌∙◌, arith, string_bytes}
 use Rattle.alog_replay.specs.Scene.{done}
 use Rattle.alog_replay.specs.declared.limits.TheConstants.{STEPS_MAX}
-use Rattle.alog_replay.proofs.Stepping.{next_made, all_made, ended_before, made_all, ran}
+use Rattle.alog_replay.proofs.Stepping.{StepMade, next_made, all_made, ended_before, made_all, ran}
 use Rattle.alog_replay.proofs.player.run.Goals as goal
 
 pub loop-preserved : goal.loop-preserved
 loop-preserved g c =
-    let called = sym c.is_free-in-loop.ensures ∙ c.if-is_free-2.false in
-    next_made g.S.Playable.scene done STEPS_MAX c.loop.counter c.args.actor c.loop.stage c.step.new.self
-    c.loop-test.true called c.in_ok-step.ensures.done c.loop.invariant
+    let scene = g.S.Playable.scene in
+    let one : StepMade scene c.args.actor c.loop.stage c.step.new.self (string_bytes c.loop.out) (string_bytes c.step.new.out) =
+    record { called = sym c.is_free-in-loop.ensures ∙ c.if-is_free-2.false; step = c.in_ok-step.ensures.done } in
+    next_made scene done STEPS_MAX c.loop.counter c.loop-test.true one c.loop.invariant
 
 pub returns-after-loop-clause-done : goal.returns-after-loop-clause-done
 returns-after-loop-clause-done g c =

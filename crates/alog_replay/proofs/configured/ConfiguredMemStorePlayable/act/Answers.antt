@@ -1,5 +1,5 @@
 use Rattle.std.proofs.Common.{string_bytes, SFits, w64, to_z-of_z, rules}
-use Rattle.alog_replay.proofs.Acting.{dumped, logged, quietly}
+use Rattle.alog_replay.proofs.Acting.{dumped, printed, quietly, same_log}
 use Rattle.alog_replay.proofs.configured.ConfiguredMemStorePlayable.act.Goals as goal
 
 pub returns-in-Work-clause-done : goal.returns-in-Work-clause-done
@@ -9,8 +9,9 @@ pub returns-in-Log-clause-done : goal.returns-in-Log-clause-done
 returns-in-Log-clause-done c =
     let fits : SFits w64 c.in-Log.time = search rules in
     rw c.in-Log.is
-    (logged c.log.result (string_bytes c.args.out.now) (string_bytes c.log.new.out) c.args.self.now c.log.new.self c.in-Log.actor
-    c.in-Log.level (to_z-of_z fits) c.as_str-logger.ensures c.as_str-text.ensures c.log.ensures.printed c.log.ensures.begun)
+    (printed c.log.result (string_bytes c.args.out.now) (string_bytes c.log.new.out) c.args.self.now c.log.new.self
+    (same_log c.in-Log.actor c.in-Log.level (to_z-of_z fits) c.as_str-logger.ensures c.as_str-text.ensures) c.log.ensures.printed
+    c.log.ensures.begun)
 
 pub returns-in-Flush-clause-done : goal.returns-in-Flush-clause-done
 returns-in-Flush-clause-done c =

@@ -1,4 +1,4 @@
-use Rattle.std.proofs.Common.{◌≡◌, ℕ, List, ◌++◌, true, refl, subst, string_bytes}
+use Rattle.std.proofs.Common.{◌≡◌, ℕ, List, ◌++◌, true, subst, string_bytes}
 use Rattle.alog_sink.specs.contracts.mem_store.MemStoreStore.TheImpl.{files-value, failures-value}
 use Rattle.alog_system.specs.System.{duty_of, item_of}
 use Rattle.alog_replay.specs.Configured.{told_text}
@@ -14,5 +14,5 @@ returns-clause-done c =
     let told = c.in_ok-told.told in
     let printed = subst (λ (names : List (List ℕ)). after ≡ before ++ told_text names c.args.actor held told) c.deref.ensures.value
     c.in_ok-print_step.ensures in
-    told_step true (files-value).it (failures-value).it c.args.actor told system {held = held} before c.self.view_is
-    c.in_ok-told.ensures.steps refl printed
+    told_step true (files-value).it (failures-value).it c.args.actor told system before c.self.view_is c.in_ok-told.ensures.steps
+    printed
