@@ -10,12 +10,12 @@ use Rattle.std.proofs.lemmas.Slice.Eq.{bytes_eq-Decides}
 use Rattle.std.proofs.lemmas.Str.{IsUtf8-from_is_utf8, is_utf8-from_IsUtf8}
 use Rattle.alog_replay.specs.declared.limits.TheConstants.{SCRIPT_LINE_MAX}
 use Rattle.alog_replay.specs.Cut.{tail_of, IsCut}
-use Rattle.alog_replay.specs.Command.{Row, rows, row_named, Given, SpellsForm, SpellsRow, Spells}
+use Rattle.alog_replay.specs.Command.{Row, rows, row_named, SpellsRow, Spells}
 use Rattle.alog_replay.specs.Entry.{IsReadable, IsSkipped, IsEntry, OneCommand, OneEntry}
 use Rattle.alog_replay.specs.declared.command.Command.{Command}
 use Rattle.alog_replay.specs.declared.entry.Entry.{Entry}
 use Rattle.alog_replay.specs.declared.entry.Entry.TheVariants.{Skipped, Does, Refused}
-use Rattle.alog_replay.proofs.CutLemmas.{cut_of, cut_once, none_of, one_of}
+use Rattle.alog_replay.proofs.CutLemmas.{cut_of, cut_once, none_of}
 use Rattle.alog_replay.proofs.FormLemmas.{Decided, given_once, given_or_none}
 
 one_of_row : (row : Option Row) (rest : Option (List ℕ)) (c d : Command) → SpellsRow row rest c → SpellsRow row rest d → c ≡ d

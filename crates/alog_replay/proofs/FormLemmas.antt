@@ -186,15 +186,23 @@ is_given : (form : Form) (rest : Option (List ℕ)) (g : Given form) → SpellsF
     → (Some g ≡ Some h) ↔ SpellsForm form rest h
 is_given form rest g p = one_of (SpellsForm form rest) g p (λ h q. given_once form rest g h p q)
 
-pub spelled : {rest : Option (List ℕ)} {r : List ℕ} (word : Word) (form : Form) (w : List ℕ) (t : Option (List ℕ)) (v : Value word)
-    (more : Given form) → rest ≡ Some r → IsCut r w t → SpellsWord word w v → SpellsForm form t more → SpellsForm (Then word form) rest (v, more)
-spelled {rest} {r} word form w t v more e cut p q = (w, t, e ∙ ap Some cut.0, p, q)
+-- arguments begin with a word that spells this, and then there are these
+pub record BeginsWith (word : Word) (rest : Option (List ℕ)) (v : Value word) (then : Option (List ℕ)) : Type 0 where
+  pub first : List ℕ
+  pub cut : rest ≡ Some (first ++ tail_of then)
+  pub spells : SpellsWord word first v
 
-pub is_then : {rest : Option (List ℕ)} {r : List ℕ} (word : Word) (form : Form) (w : List ℕ) (t : Option (List ℕ)) {v : Value word}
-    {more : Given form} → rest ≡ Some r → IsCut r w t → SpellsWord word w v → SpellsForm form t more → (h : Given (Then word form))
-    → (Some (v, more) ≡ Some h) ↔ SpellsForm (Then word form) rest h
-is_then {rest} {r} word form w t {v} {more} e cut p q =
-    is_given (Then word form) rest (v, more) (spelled word form w t v more e cut p q)
+pub begins : {word : Word} {rest : Option (List ℕ)} {r : List ℕ} {v : Value word} (w : List ℕ) (t : Option (List ℕ)) → rest ≡ Some r
+    → IsCut r w t → SpellsWord word w v → BeginsWith word rest v t
+begins w t e cut p = record { first = w; cut = e ∙ ap Some cut.0; spells = p }
+
+pub spelled : {rest t : Option (List ℕ)} (word : Word) (form : Form) (v : Value word) (more : Given form) → BeginsWith word rest v t
+    → SpellsForm form t more → SpellsForm (Then word form) rest (v, more)
+spelled {t} word form v more b q = (b.first, t, b.cut, b.spells, q)
+
+pub is_then : {rest t : Option (List ℕ)} (word : Word) (form : Form) {v : Value word} {more : Given form} → BeginsWith word rest v t
+    → SpellsForm form t more → (h : Given (Then word form)) → (Some (v, more) ≡ Some h) ↔ SpellsForm (Then word form) rest h
+is_then {rest} {t} word form {v} {more} b q = is_given (Then word form) rest (v, more) (spelled {t = t} word form v more b q)
 
 -- what is made of what is given
 pub is_made : {X : Type 0} (form : Form) (make : Given form → X) (rest : Option (List ℕ)) (g : Given form) → SpellsForm form rest g
@@ -264,15 +272,24 @@ no_level w other n e Info (inr h) = h
 no_level w other n e Critical (inr h) = h
 no_level w other n e Off (inr h) = h
 
-no_row : {w : List ℕ} → (w ≡ codes "trace" → ⊥) → (w ≡ codes "debug" → ⊥) → (w ≡ codes "info" → ⊥) → (w ≡ codes "warning" → ⊥)
-    → (w ≡ codes "error" → ⊥) → (w ≡ codes "critical" → ⊥) → (w ≡ codes "off" → ⊥) → (level : Level) → w ≡ (row_of level).name → ⊥
-no_row t d i w e c o Trace h = t h
-no_row t d i w e c o Debug h = d h
-no_row t d i w e c o Info h = i h
-no_row t d i w e c o Warning h = w h
-no_row t d i w e c o Error h = e h
-no_row t d i w e c o Critical h = c h
-no_row t d i w e c o Off h = o h
+-- a word that is no name in the table of levels
+record IsNoName (w : List ℕ) : Type 0 where
+  trace : w ≡ codes "trace" → ⊥
+  debug : w ≡ codes "debug" → ⊥
+  info : w ≡ codes "info" → ⊥
+  warning : w ≡ codes "warning" → ⊥
+  error : w ≡ codes "error" → ⊥
+  critical : w ≡ codes "critical" → ⊥
+  off : w ≡ codes "off" → ⊥
+
+no_row : {w : List ℕ} → IsNoName w → (level : Level) → w ≡ (row_of level).name → ⊥
+no_row none Trace h = none.trace h
+no_row none Debug h = none.debug h
+no_row none Info h = none.info h
+no_row none Warning h = none.warning h
+no_row none Error h = none.error h
+no_row none Critical h = none.critical h
+no_row none Off h = none.off h
 
 level_or_none : (w : List ℕ) → Decided (Names w)
 level_or_none w =
@@ -284,7 +301,10 @@ level_or_none w =
     named_or w (codes "error") Error (λ e. inl e) (λ e.
     named_or w (codes "err") Error (λ e. inr e) (λ r.
     named_or w (codes "critical") Critical (λ e. inl e) (λ c.
-    named_or w (codes "off") Off (λ e. inl e) (λ o. inr (no_level w (no_row t d i g e c o) n r))))))))))
+    named_or w (codes "off") Off (λ e. inl e) (λ o.
+    let none : IsNoName w =
+    record { trace = t; debug = d; info = i; warning = g; error = e; critical = c; off = o } in
+    inr (no_level w (no_row none) n r))))))))))
 
 -- whether a word is a time
 no_time : (w : List ℕ) → ((n : ℕ) → SpellsNumber 0 (2 ^ 63 - 1) w n → ⊥)

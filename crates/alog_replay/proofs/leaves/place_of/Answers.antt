@@ -1,4 +1,4 @@
-use Rattle.std.proofs.Common.{Bor, None, Some, ap, sym, ◌∙◌}
+use Rattle.std.proofs.Common.{Bor, Some, ap, sym, ◌∙◌}
 use Rattle.alog_replay.specs.OfConfig.{holds}
 use Rattle.alog_config.specs.declared.config.SinkConfig.{SinkConfig}
 use Rattle.alog_replay.proofs.Placing.{placed, placed_at}

@@ -3,7 +3,7 @@ use Rattle.std.proofs.lemmas.Option.{none-some}
 use Rattle.std.specs.Option.{option_copied}
 use Rattle.alog_replay.specs.Command.{AnActor, ACount}
 use Rattle.alog_replay.proofs.CutLemmas.{none_of}
-use Rattle.alog_replay.proofs.FormLemmas.{parts, is_then}
+use Rattle.alog_replay.proofs.FormLemmas.{begins, parts, is_then}
 use Rattle.alog_replay.proofs.parser.actor_and_count.Goals as goal
 
 pub returns-in_err-actor : goal.returns-in_err-actor
@@ -15,4 +15,4 @@ returns-in_err-count c = none_of _ _ c.from_residual-in_err-count.ensures (λ gi
     none-some _ ((c.in_err-count.ensures given.1).1 (parts AnActor ACount _ _ given (ap option_copied c.in_ok-rest.was) c.cut.ensures h).1))
 
 pub returns : goal.returns
-returns c = is_then AnActor ACount _ _ (ap option_copied c.in_ok-rest.was) c.cut.ensures ((c.in_ok-actor.ensures _).0 refl) ((c.in_ok-count.ensures _).0 refl)
+returns c = is_then AnActor ACount (begins _ _ (ap option_copied c.in_ok-rest.was) c.cut.ensures ((c.in_ok-actor.ensures _).0 refl)) ((c.in_ok-count.ensures _).0 refl)

@@ -5,7 +5,7 @@ use Rattle.alog_replay.specs.Command.{AnActor, Time, AName, ALevel, AText, Then}
 use Rattle.alog_replay.specs.declared.command.Command.TheVariants.{Acts}
 use Rattle.alog_replay.specs.declared.command.Act.TheVariants.{Log}
 use Rattle.alog_replay.proofs.CutLemmas.{none_of}
-use Rattle.alog_replay.proofs.FormLemmas.{is_made, parts, spelled}
+use Rattle.alog_replay.proofs.FormLemmas.{begins, is_made, parts, spelled}
 use Rattle.alog_replay.proofs.parser.log.Goals as goal
 
 pub returns-in_err-actor : goal.returns-in_err-actor
@@ -20,4 +20,4 @@ pub returns : goal.returns
 returns c =
     let fits : SFits w64 c.in_ok-time.time = search rules in
     rw (to_z-of_z fits) (is_made (Then AnActor (Then Time (Then AName (Then ALevel AText)))) (λ g. Acts (Log g.0 g.1.0 g.1.1.0 g.1.1.1.0 g.1.1.1.1)) _ _
-    (spelled AnActor (Then Time (Then AName (Then ALevel AText))) _ _ _ _ (ap option_copied c.in_ok-rest.was) c.cut.ensures ((c.in_ok-actor.ensures _).0 refl) ((c.in_ok-time.ensures _).0 refl)))
+    (spelled AnActor (Then Time (Then AName (Then ALevel AText))) _ _ (begins _ _ (ap option_copied c.in_ok-rest.was) c.cut.ensures ((c.in_ok-actor.ensures _).0 refl)) ((c.in_ok-time.ensures _).0 refl)))

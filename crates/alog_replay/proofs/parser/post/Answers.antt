@@ -5,7 +5,7 @@ use Rattle.alog_replay.specs.Command.{AnActor, APolicy, AText, Then}
 use Rattle.alog_replay.specs.declared.command.Command.TheVariants.{Acts}
 use Rattle.alog_replay.specs.declared.command.Act.TheVariants.{Post}
 use Rattle.alog_replay.proofs.CutLemmas.{none_of}
-use Rattle.alog_replay.proofs.FormLemmas.{is_made, parts, spelled}
+use Rattle.alog_replay.proofs.FormLemmas.{begins, is_made, parts, spelled}
 use Rattle.alog_replay.proofs.parser.post.Goals as goal
 
 pub returns-in_err-actor : goal.returns-in_err-actor
@@ -19,4 +19,4 @@ returns-in_err-policy c = none_of _ _ c.from_residual-in_err-policy.ensures (λ 
 pub returns : goal.returns
 returns c =
     is_made (Then AnActor (Then APolicy AText)) (λ g. Acts (Post g.0 g.1.0 g.1.1)) _ _
-    (spelled AnActor (Then APolicy AText) _ _ _ _ (ap option_copied c.in_ok-rest.was) c.cut.ensures ((c.in_ok-actor.ensures _).0 refl) ((c.in_ok-policy.ensures _).0 refl))
+    (spelled AnActor (Then APolicy AText) _ _ (begins _ _ (ap option_copied c.in_ok-rest.was) c.cut.ensures ((c.in_ok-actor.ensures _).0 refl)) ((c.in_ok-policy.ensures _).0 refl))

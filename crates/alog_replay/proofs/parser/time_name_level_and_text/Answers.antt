@@ -3,7 +3,7 @@ use Rattle.std.proofs.lemmas.Option.{none-some}
 use Rattle.std.specs.Option.{option_copied}
 use Rattle.alog_replay.specs.Command.{Time, AName, ALevel, AText, Then}
 use Rattle.alog_replay.proofs.CutLemmas.{none_of}
-use Rattle.alog_replay.proofs.FormLemmas.{parts, is_then}
+use Rattle.alog_replay.proofs.FormLemmas.{begins, parts, is_then}
 use Rattle.alog_replay.proofs.parser.time_name_level_and_text.Goals as goal
 
 pub returns-in_err-time : goal.returns-in_err-time
@@ -17,4 +17,4 @@ returns-in_err-more c = none_of _ _ c.from_residual-in_err-more.ensures (λ give
 pub returns : goal.returns
 returns c =
     let fits : SFits w64 c.in_ok-time.time = search rules in
-    rw (to_z-of_z fits) (is_then Time (Then AName (Then ALevel AText)) _ _ (ap option_copied c.in_ok-rest.was) c.cut.ensures ((c.in_ok-time.ensures _).0 refl) ((c.in_ok-more.ensures _).0 refl))
+    rw (to_z-of_z fits) (is_then Time (Then AName (Then ALevel AText)) (begins _ _ (ap option_copied c.in_ok-rest.was) c.cut.ensures ((c.in_ok-time.ensures _).0 refl)) ((c.in_ok-more.ensures _).0 refl))
