@@ -50,6 +50,35 @@ fn days(alloc: Global, moments: &[Moment], change: u8) -> Result<Vec<u8>, AllocE
     Ok(days)
 }
 
+// Which of the days that were opened this one is, if it is one, and how many they are.
+fn place_of(
+    alloc: Global,
+    moments: &[Moment],
+    change: u8,
+    day: u8,
+) -> Result<(Option<usize>, usize), AllocError> {
+    let days = days(alloc, moments, change)?;
+    let place = days.iter().position(|opened| *opened == day);
+    Ok((place, days.len()))
+}
+
+// What the file of a day has that was opened, behind what was there before.
+fn lines_of(
+    alloc: Global,
+    moments: &[Moment],
+    change: u8,
+    day: u8,
+    before: &[u8],
+) -> Result<Vec<u8>, AllocError> {
+    let mut file = Vec::from_slice(alloc, before)?;
+    for (i, letter) in b"abcd".iter().take(moments.len()).enumerate() {
+        if day_of(moments, i, change) == Some(day) {
+            file.extend_from_slice(&[*letter, b'\n'])?;
+        }
+    }
+    Ok(file)
+}
+
 // What the file of a day has, where `before` was there.
 fn file_of(
     alloc: Global,
@@ -59,65 +88,91 @@ fn file_of(
     day: u8,
     before: Option<&[u8]>,
 ) -> Result<Option<Vec<u8>>, AllocError> {
-    let days = days(alloc, moments, change)?;
-    let Some(place) = days.iter().position(|opened| *opened == day) else {
+    let (place, count) = place_of(alloc, moments, change, day)?;
+    let Some(place) = place else {
         return match before {
             Some(bytes) => Ok(Some(Vec::from_slice(alloc, bytes)?)),
             None => Ok(None),
         };
     };
-    if max_files > 0 && place < days.len().saturating_sub(max_files) {
+    if max_files > 0 && place < count.saturating_sub(max_files) {
         return Ok(None);
     }
-    let mut file = Vec::from_slice(alloc, before.unwrap_or(b""))?;
-    for (i, letter) in b"abcd".iter().take(moments.len()).enumerate() {
-        if day_of(moments, i, change) == Some(day) {
-            file.extend_from_slice(&[*letter, b'\n'])?;
-        }
-    }
-    Ok(Some(file))
+    let before = before.unwrap_or(b"");
+    Ok(Some(lines_of(alloc, moments, change, day, before)?))
 }
 
-// A sink after these moments.
-fn kept(
-    rt: &(impl Abort + AllocGlobal),
-    moments: &[Moment],
-    change: u8,
-    max_files: usize,
-) -> Result<Sink<MemStore>, Fail> {
-    let face = face(rt.alloc(), 0)?;
-    let store = MemStore::new(rt.alloc()).with(NAMES[1], b"old\n")?;
+// A sink with a file of the second day.
+fn opening(alloc: Global, change: u8, max_files: usize) -> Result<Sink<MemStore>, Fail> {
+    let store = MemStore::new(alloc).with(NAMES[1], b"old\n")?;
     let plan = Plan {
         hour: u32::from(change),
         max_files,
         ..PLAIN
     };
-    let mut sink = opened_as(rt.alloc(), face, store, "d", plan)?;
-    for (moment, text) in moments.iter().zip(["a", "b", "c", "d"]) {
-        let time = START.saturating_add(hours(*moment).saturating_mul(HOUR));
-        writes(rt, &mut sink, time, text);
-    }
-    Ok(sink)
+    opened_as(alloc, face(alloc, 0)?, store, "d", plan)
 }
 
-// Each file of the store after these moments is right.
-fn are_right(
+// A sink is given these moments.
+fn writes_all(rt: &(impl Abort + AllocGlobal), sink: &mut Sink<MemStore>, moments: &[Moment]) {
+    for (moment, text) in moments.iter().zip(["a", "b", "c", "d"]) {
+        let time = START.saturating_add(hours(*moment).saturating_mul(HOUR));
+        writes(rt, sink, time, text);
+    }
+}
+
+// Whether a file has just that, or is not there where none is to be.
+fn is_file(found: Option<&Vec<u8>>, right: Option<&Vec<u8>>) -> bool {
+    match (found, right) {
+        (Some(found), Some(right)) => found.as_slice() == right.as_slice(),
+        (found, right) => found.is_none() && right.is_none(),
+    }
+}
+
+// Whether the file of a day is right in a store after these moments. The test ends here where there is no memory.
+fn is_right(
     rt: &(impl Abort + AllocGlobal),
     store: &MemStore,
     moments: &[Moment],
     change: u8,
     max_files: usize,
-) -> Result<(), Fail> {
-    for (day, name) in [0u8, 1, 2].iter().zip(NAMES) {
-        let before = if *day == 1 { Some(&b"old\n"[..]) } else { None };
-        let right = file_of(rt.alloc(), moments, change, max_files, *day, before)?;
-        let is = store.files().get(name);
-        assert!(rt;
-            is.map(|file| file.as_slice()) == right.as_ref().map(|file| file.as_slice()),
-            "{name} at {change}, {max_files}"
-        );
+    day: u8,
+    name: &str,
+) -> bool {
+    let before = if day == 1 { Some(&b"old\n"[..]) } else { None };
+    match file_of(rt.alloc(), moments, change, max_files, day, before) {
+        Ok(right) => is_file(store.files().get(name), right.as_ref()),
+        Err(_) => panic!(rt; "out of memory"),
     }
-    Ok(())
+}
+
+// Each file of the store after these moments is right.
+fn are_right(
+    rt: &(impl Abort + AllocGlobal),
+    store: Option<&MemStore>,
+    moments: &[Moment],
+    change: u8,
+    max_files: usize,
+) {
+    let Some(store) = store else {
+        panic!(rt; "no store")
+    };
+    for (day, name) in (0u8..3).zip(&NAMES) {
+        let is = is_right(rt, store, moments, change, max_files, day, name);
+        assert!(rt; is, "{name} at {change}, {max_files}");
+    }
+}
+
+// A sink is given these moments, and each of its files is right then.
+fn writes_right(
+    rt: &(impl Abort + AllocGlobal),
+    mut sink: Sink<MemStore>,
+    moments: &[Moment],
+    change: u8,
+    max_files: usize,
+) {
+    writes_all(rt, &mut sink, moments);
+    are_right(rt, sink.store(), moments, change, max_files);
 }
 
 // Gives these moments to a sink, and looks at its files.
@@ -127,26 +182,39 @@ fn looks_right(
     change: u8,
     max_files: usize,
 ) -> Result<(), Fail> {
-    let sink = kept(rt, moments, change, max_files)?;
-    match sink.store() {
-        Some(store) => are_right(rt, store, moments, change, max_files),
-        None => panic!(rt; "no store"),
+    let sink = opening(rt.alloc(), change, max_files)?;
+    writes_right(rt, sink, moments, change, max_files);
+    Ok(())
+}
+
+// The list of so many moments that has this number.
+fn moments_of(alloc: Global, count: usize, number: usize) -> Result<Vec<Moment>, AllocError> {
+    let mut moments = Vec::new(alloc);
+    let mut rest = number;
+    for _ in 0..count {
+        moments.push(MOMENTS[rest % 5])?;
+        rest /= 5;
     }
+    Ok(moments)
+}
+
+// At which hour days change, and how many files are kept.
+const CHANGES: [(u8, usize); 5] = [(0, 0), (0, 1), (6, 0), (6, 1), (6, 2)];
+
+// All sinks look right after these moments.
+fn all_look_right(rt: &(impl Abort + AllocGlobal), moments: &[Moment]) -> Result<(), Fail> {
+    for (change, max_files) in &CHANGES {
+        looks_right(rt, moments, *change, *max_files)?;
+    }
+    Ok(())
 }
 
 #[test]
 fn all_short_lists_of_times(rt: HostRuntime) -> Result<(), Fail> {
     for (count, lists) in [1, 5, 25, 125].iter().enumerate() {
-        for code in 0..*lists {
-            let mut moments = Vec::new(rt.alloc());
-            let mut code: usize = code;
-            for _ in 0..count {
-                moments.push(MOMENTS[code % 5])?;
-                code /= 5;
-            }
-            for (change, max_files) in [(0, 0), (0, 1), (6, 0), (6, 1), (6, 2)] {
-                looks_right(&rt, moments.as_slice(), change, max_files)?;
-            }
+        for number in 0..*lists {
+            let moments = moments_of(rt.alloc(), count, number)?;
+            all_look_right(&rt, moments.as_slice())?;
         }
     }
     Ok(())

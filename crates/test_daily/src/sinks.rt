@@ -72,23 +72,44 @@ pub fn opened_as<S: Store + Drop>(
     }
 }
 
-// What a sink answers to a text of a time. The test ends here where there is no memory, or the sink may not be given it.
+// A message of a text and a time. The test ends here where there is no memory.
+fn message_of(rt: &(impl Abort + AllocGlobal), time: i64, text: &str) -> Message {
+    match Message::new(rt.alloc(), 64, 0, Level::Info, time, 1, text, None) {
+        Ok(message) => message,
+        Err(MessageError::OutOfMemory) => panic!(rt; "out of memory"),
+        Err(_) => panic!(rt; "no message of {text}"),
+    }
+}
+
+// A buffer for a line. The test ends here where there is no memory.
+fn line_of(rt: &(impl Abort + AllocGlobal)) -> LineBuf {
+    match LineBuf::new(rt.alloc(), 1_024) {
+        Ok(line) => line,
+        Err(_) => panic!(rt; "out of memory"),
+    }
+}
+
+// What a sink answers to a message. The test ends here where it may not be given it.
+fn take<S: Store>(
+    rt: &impl Abort,
+    sink: &mut Sink<S>,
+    message: &Message,
+    line: &mut LineBuf,
+) -> Result<Taken, SinkError> {
+    assert!(rt; sink.may_take(message, line), "it may not be given it");
+    sink.take(message, line)
+}
+
+// What a sink answers to a text of a time.
 pub fn answer_to<S: Store>(
     rt: &(impl Abort + AllocGlobal),
     sink: &mut Sink<S>,
     time: i64,
     text: &str,
 ) -> Result<Taken, SinkError> {
-    let message = match Message::new(rt.alloc(), 64, 0, Level::Info, time, 1, text, None) {
-        Ok(message) => message,
-        Err(MessageError::OutOfMemory) => panic!(rt; "out of memory"),
-        Err(_) => panic!(rt; "no message of {text}"),
-    };
-    let Ok(mut line) = LineBuf::new(rt.alloc(), 1_024) else {
-        panic!(rt; "out of memory")
-    };
-    assert!(rt; sink.may_take(&message, &line), "{text}");
-    sink.take(&message, &mut line)
+    let message = message_of(rt, time, text);
+    let mut line = line_of(rt);
+    take(rt, sink, &message, &mut line)
 }
 
 // Gives a text of a time to a sink, which answers this. Where its store fails and is not to, the test ends with these words alone:
@@ -122,17 +143,61 @@ pub fn flushes<S: Store>(rt: &impl Abort, sink: &mut Sink<S>, wanted: Result<(),
     assert!(rt; answer == wanted, "{answer:?}");
 }
 
+// Whether a store has this file.
+fn has_file(store: &MemStore, name: &str, text: &str) -> bool {
+    match store.files().get(name) {
+        Some(file) => file.as_slice() == text.as_bytes(),
+        None => false,
+    }
+}
+
 // The store has exactly these files.
 pub fn has_only(rt: &impl Abort, store: Option<&MemStore>, files: &[(&str, &str)]) {
     let Some(store) = store else {
-        assert!(rt; false, "no store");
-        return;
+        panic!(rt; "no store")
     };
     assert_eq!(rt; store.files().len(), files.len());
     for (name, text) in files {
-        let found = store.files().get(*name).map(|file| file.as_slice());
-        assert!(rt; found == Some(text.as_bytes()), "{name}");
+        assert!(rt; has_file(store, name, text), "{name}");
     }
+}
+
+// A sink writes these texts, each so long after a time, and its store has exactly these files then.
+pub fn goes_on(
+    rt: &(impl Abort + AllocGlobal),
+    sink: &mut Sink<MemStore>,
+    after: i64,
+    said: &[(i64, &str)],
+    files: &[(&str, &str)],
+) {
+    for (at, text) in said {
+        writes(rt, sink, after.saturating_add(*at), text);
+    }
+    has_only(rt, sink.store(), files);
+}
+
+// The same of a sink that goes then: it is dropped here, where nothing else is alive.
+pub fn ends(
+    rt: &(impl Abort + AllocGlobal),
+    mut sink: Sink<MemStore>,
+    after: i64,
+    said: &[(i64, &str)],
+    files: &[(&str, &str)],
+) {
+    goes_on(rt, &mut sink, after, said, files);
+}
+
+// The same of a new sink by this plan.
+pub fn leaves(
+    rt: &(impl Abort + AllocGlobal),
+    plan: Plan,
+    after: i64,
+    said: &[(i64, &str)],
+    files: &[(&str, &str)],
+) -> Result<(), Fail> {
+    let sink = opened(rt.alloc(), MemStore::new(rt.alloc()), plan)?;
+    ends(rt, sink, after, said, files);
+    Ok(())
 }
 
 // A store that fails the call after so many, and passes so many bytes of an append.

@@ -1,13 +1,30 @@
 //! Files by days in zones with rules.
-use crate::sinks::{face, has_only, writes};
+use crate::sinks::{ends, face};
 use alog_format::{Context, Zone};
-use alog_sink::{MemStore, Sink};
+use alog_sink::{Face, MemStore, Sink};
 use std::process::Abort;
 use std::test::Fail;
 
 const BERLIN: &str = "CET-1CEST,M3.5.0,M10.5.0/3";
 
 const LORD_HOWE: &str = "<+1030>-10:30<+11>-11,M10.1.0,M4.1.0";
+
+// What lines show by a rule.
+fn by(rt: &impl Abort, rule: &str) -> Context {
+    match Zone::rule(rule) {
+        Some(zone) => Context { zone, process: 7 },
+        None => panic!(rt; "no rule: {rule}"),
+    }
+}
+
+// A face whose clock goes by a rule.
+fn face_by(rt: &(impl Abort + AllocGlobal), rule: &str) -> Result<Face, Fail> {
+    let context = by(rt, rule);
+    Ok(Face {
+        context,
+        ..face(rt.alloc(), 0)?
+    })
+}
 
 // Files by days of the name `day.log`, whose days change at an hour and a minute on a clock of the rule.
 fn opened(
@@ -16,11 +33,7 @@ fn opened(
     hour: u32,
     minute: u32,
 ) -> Result<Sink<MemStore>, Fail> {
-    let Some(zone) = Zone::rule(rule) else {
-        panic!(rt; "no rule: {rule}")
-    };
-    let mut face = face(rt.alloc(), 0)?;
-    face.context = Context { zone, process: 7 };
+    let face = face_by(rt, rule)?;
     let store = MemStore::new(rt.alloc());
     match Sink::daily(rt.alloc(), face, store, "day.log", hour, minute, 0) {
         Ok(sink) => Ok(sink),
@@ -122,11 +135,8 @@ const PLAYED: [Played<'static>; 5] = [
 fn days_by_rules(rt: HostRuntime) -> Result<(), Fail> {
     for played in &PLAYED {
         let (hour, minute) = played.change;
-        let mut sink = opened(&rt, played.rule, hour, minute)?;
-        for (time, text) in played.said {
-            writes(&rt, &mut sink, *time, text);
-        }
-        has_only(&rt, sink.store(), played.files);
+        let sink = opened(&rt, played.rule, hour, minute)?;
+        ends(&rt, sink, 0, played.said, played.files);
     }
     Ok(())
 }
