@@ -140,20 +140,53 @@ fn is_like(rt: &HostRuntime, path: &PathBuf, store: &MemStore, files: usize) -> 
     Ok(count(rt, path.as_str())? == files && store.files().len() == files)
 }
 
-/// Whether a sink over memory writes six lines, and leaves what is in the folder, so many files.
+/// A sink over memory, where a file was there at the start.
+fn over_memory(alloc: Global, kind: Kind) -> Result<Sink<MemStore>, Fail> {
+    let opening = MemStore::new(alloc).with("log.txt", b"old\n")?;
+    sink(alloc, opening, kind)
+}
+
+/// Whether a sink over memory has what is in the folder, so many files.
+fn has_the_same(
+    rt: &HostRuntime,
+    path: &PathBuf,
+    sink: &Sink<MemStore>,
+    files: usize,
+) -> Result<bool, Fail> {
+    match sink.store() {
+        Some(store) => is_like(rt, path, store, files),
+        None => Ok(false),
+    }
+}
+
+/// Whether a sink writes six lines, and has what is in the folder then, so many files.
+fn goes_on_the_same(
+    rt: &HostRuntime,
+    path: &PathBuf,
+    sink: &mut Sink<MemStore>,
+    files: usize,
+) -> Result<bool, Fail> {
+    Ok(writes_six(rt.alloc(), sink)? && has_the_same(rt, path, sink, files)?)
+}
+
+/// The same of a sink that goes then.
+fn ends_the_same(
+    rt: &HostRuntime,
+    path: &PathBuf,
+    mut sink: Sink<MemStore>,
+    files: usize,
+) -> Result<bool, Fail> {
+    goes_on_the_same(rt, path, &mut sink, files)
+}
+
+/// The same of a sink of this kind.
 fn leaves_the_same(
     rt: &HostRuntime,
     path: &PathBuf,
     kind: Kind,
     files: usize,
 ) -> Result<bool, Fail> {
-    let opening = MemStore::new(rt.alloc()).with("log.txt", b"old\n")?;
-    let mut sink = sink(rt.alloc(), opening, kind)?;
-    let is_written = writes_six(rt.alloc(), &mut sink)?;
-    match sink.store() {
-        Some(store) if is_written => is_like(rt, path, store, files),
-        _ => Ok(false),
-    }
+    ends_the_same(rt, path, over_memory(rt.alloc(), kind)?, files)
 }
 
 /// Kinds of sinks, and how many files they leave.

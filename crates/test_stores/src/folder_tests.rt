@@ -1,19 +1,26 @@
 //! Files of a folder: what the system has after each call, and what a call answers that the system refuses.
 use crate::calls::{Call, EACH, answers, answers_all};
-use crate::folder::{clear, count, found, has, has_all, open, scratch};
-use crate::sessions::{Before, Row, Step, holds, prepared};
+use crate::folder::{Folder, clear, count, found, has, has_all, open, scratch};
+use crate::sessions::{Before, prepared};
 use alog_sink::{FolderStore, Store, StoreError};
 use std::alloc::Global;
 use std::fs;
 use std::path::PathBuf;
 use std::test::Fail;
 
+/// Whether each call once is answered as it says, and leaves these two files.
+fn answers_each(rt: &HostRuntime, path: &PathBuf) -> Result<bool, Fail> {
+    Ok(
+        of_calls(rt, path, &EACH)?
+            && has_all(rt, path, &[("b", Some(b"abcde")), ("d", Some(b"xy"))])?
+            && count(rt, path.as_str())? == 2,
+    )
+}
+
 /// Each call once.
 fn of_each_call(rt: &HostRuntime) -> Result<bool, Fail> {
     let path = prepared(rt, "each", &[Before::File("a", "abc")])?;
-    let are_right = of_calls(rt, &path, &EACH)?
-        && has_all(rt, &path, &[("b", Some(b"abcde")), ("d", Some(b"xy"))])?
-        && count(rt, path.as_str())? == 2;
+    let are_right = answers_each(rt, &path)?;
     clear(rt, &path)?;
     Ok(are_right)
 }
@@ -30,186 +37,6 @@ fn each_call_in_a_folder(rt: HostRuntime) -> Result<(), Fail> {
     Ok(())
 }
 
-/// Bytes wait in the buffer until one of these calls on their file; other files keep theirs.
-const BUFFERS: Row<'_> = Row {
-    name: "buffer",
-    before: &[],
-    sessions: &[&[
-        Step::Calls(Call::Appends("flushed", b"one\n", true)),
-        Step::Has("flushed", Some(b"")),
-        Step::Calls(Call::Appends("asked", b"one\n", true)),
-        Step::Has("asked", Some(b"")),
-        Step::Calls(Call::Appends("moved", b"one\n", true)),
-        Step::Has("moved", Some(b"")),
-        Step::Calls(Call::Appends("replaced", b"one\n", true)),
-        Step::Has("replaced", Some(b"")),
-        Step::Calls(Call::Appends("removed", b"one\n", true)),
-        Step::Has("removed", Some(b"")),
-        Step::Calls(Call::Appends("kept", b"one\n", true)),
-        Step::Has("kept", Some(b"")),
-        Step::Calls(Call::Flushes("flushed", true)),
-        Step::Has("flushed", Some(b"one\n")),
-        Step::Calls(Call::Sizes("asked", Ok(Some(4)))),
-        Step::Has("asked", Some(b"one\n")),
-        Step::Calls(Call::Renames("moved", "new", true)),
-        Step::Has("moved", None),
-        Step::Has("new", Some(b"one\n")),
-        Step::Calls(Call::Renames("none", "replaced", true)),
-        Step::Has("replaced", Some(b"one\n")),
-        Step::Calls(Call::Removes("removed", true)),
-        Step::Has("removed", None),
-        Step::Has("kept", Some(b"")),
-    ]],
-    after: &[("kept", Some(b"one\n"))],
-    count: 5,
-};
-
-const AGAIN: Row<'_> = Row {
-    name: "again",
-    before: &[],
-    sessions: &[
-        &[Step::Calls(Call::Appends("log", b"one\n", true))],
-        &[
-            Step::Has("log", Some(b"one\n")),
-            Step::Calls(Call::Appends("log", b"two\n", true)),
-        ],
-        &[
-            Step::Has("log", Some(b"one\ntwo\n")),
-            Step::Calls(Call::Appends("log", b"three\n", true)),
-            Step::Calls(Call::Renames("log", "old", true)),
-            Step::Calls(Call::Appends("log", b"four\n", true)),
-            Step::Calls(Call::Appends("old", b"five\n", true)),
-            Step::Calls(Call::Removes("log", true)),
-            Step::Calls(Call::Appends("log", b"six\n", true)),
-        ],
-    ],
-    after: &[
-        ("old", Some(b"one\ntwo\nthree\nfive\n")),
-        ("log", Some(b"six\n")),
-    ],
-    count: 2,
-};
-
-/// A file is opened once, and stays open until it is renamed or removed, or the store is dropped.
-const OPEN: Row<'_> = Row {
-    name: "open",
-    before: &[],
-    sessions: &[&[
-        Step::Calls(Call::Appends("a", b"x", true)),
-        Step::Calls(Call::Flushes("a", true)),
-        Step::Calls(Call::Appends("b", b"x", true)),
-        Step::Calls(Call::Flushes("b", true)),
-        Step::Calls(Call::Appends("a", b"x", true)),
-        Step::Calls(Call::Flushes("a", true)),
-        Step::Calls(Call::Appends("c", b"x", true)),
-        Step::Calls(Call::Flushes("c", true)),
-        Step::Calls(Call::Appends("b", b"x", true)),
-        Step::Calls(Call::Flushes("b", true)),
-        Step::HasOpen(3),
-        Step::Calls(Call::Renames("a", "b", true)),
-        Step::HasOpen(1),
-        Step::Calls(Call::Appends("b", b"x", true)),
-        Step::Calls(Call::Removes("c", true)),
-        Step::HasOpen(1),
-    ]],
-    after: &[("b", Some(b"xxx"))],
-    count: 1,
-};
-
-const ABSENT: Row<'_> = Row {
-    name: "absent",
-    before: &[],
-    sessions: &[&[
-        Step::Leaves,
-        Step::Calls(Call::Appends("log", b"x", false)),
-        Step::Calls(Call::Appends("log", b"x", false)),
-        Step::Calls(Call::Sizes("log", Ok(None))),
-        Step::Calls(Call::Renames("log", "old", true)),
-        Step::Calls(Call::Removes("log", true)),
-        Step::Calls(Call::Flushes("log", true)),
-        Step::Comes,
-        Step::Calls(Call::Appends("log", b"x", true)),
-    ]],
-    after: &[("log", Some(b"x"))],
-    count: 1,
-};
-
-/// What an ended process left within a rename: the next one to that name removes it, whether there is a file or none.
-const ASIDE: Row<'_> = Row {
-    name: "aside",
-    before: &[
-        Before::File("a", "a"),
-        Before::File("b", "b"),
-        Before::File("c", "c"),
-        Before::File(".b.replaced", ".b.replaced"),
-        Before::File(".c.replaced", ".c.replaced"),
-    ],
-    sessions: &[&[
-        Step::Calls(Call::Renames("none", "c", true)),
-        Step::Has("c", Some(b"c")),
-        Step::Calls(Call::Renames("a", "b", true)),
-        Step::Has("b", Some(b"a")),
-        Step::Calls(Call::Renames("b", "d", true)),
-        Step::Has("d", Some(b"a")),
-        Step::Calls(Call::Renames("d", "d", true)),
-        Step::Has("d", Some(b"a")),
-        Step::Calls(Call::Removes("c", true)),
-        Step::Counts(1),
-    ]],
-    after: &[],
-    count: 1,
-};
-
-/// Three names of 64 bytes that differ in their last byte or their first one.
-const LONG: &str = "0123456789abcdef0123456789abcdef0123456789abcdef0123456789abcdef";
-
-const LONG_END: &str = "0123456789abcdef0123456789abcdef0123456789abcdef0123456789abcdeg";
-
-const LONG_FRONT: &str = "1123456789abcdef0123456789abcdef0123456789abcdef0123456789abcdef";
-
-/// Files with long names are open beside one another, and each is flushed, renamed and removed alone.
-const LONG_NAMES: Row<'_> = Row {
-    name: "long",
-    before: &[],
-    sessions: &[&[
-        Step::Calls(Call::Appends(LONG, b"one\n", true)),
-        Step::Calls(Call::Appends(LONG_END, b"two\n", true)),
-        Step::Calls(Call::Appends(LONG_FRONT, b"three\n", true)),
-        Step::HasOpen(3),
-        Step::Calls(Call::Flushes(LONG_END, true)),
-        Step::Has(LONG, Some(b"")),
-        Step::Has(LONG_END, Some(b"two\n")),
-        Step::Has(LONG_FRONT, Some(b"")),
-        Step::Calls(Call::Removes(LONG_END, true)),
-        Step::HasOpen(2),
-        Step::Calls(Call::Appends(LONG, b"four\n", true)),
-        Step::Calls(Call::Renames(LONG_FRONT, LONG_END, true)),
-        Step::HasOpen(1),
-    ]],
-    after: &[
-        (LONG, Some(b"one\nfour\n")),
-        (LONG_END, Some(b"three\n")),
-        (LONG_FRONT, None),
-    ],
-    count: 2,
-};
-
-#[test]
-fn files_that_are_left(rt: HostRuntime) -> Result<(), Fail> {
-    assert!(rt; holds(&rt, &BUFFERS)?, "buffers");
-    assert!(rt; holds(&rt, &AGAIN)?, "again");
-    assert!(rt; holds(&rt, &OPEN)?, "open");
-    Ok(())
-}
-
-#[test]
-fn files_of_other_names_that_are_left(rt: HostRuntime) -> Result<(), Fail> {
-    assert!(rt; holds(&rt, &ABSENT)?, "absent");
-    assert!(rt; holds(&rt, &ASIDE)?, "aside");
-    assert!(rt; holds(&rt, &LONG_NAMES)?, "long");
-    Ok(())
-}
-
 /// How many bytes a buffer holds.
 const FULL: usize = 65_536;
 
@@ -217,7 +44,33 @@ fn many(alloc: Global, count: usize) -> Result<Vec<u8>, Fail> {
     Ok(Vec::from_elem(alloc, b'x', count)?)
 }
 
-/// Whether just so many of these bytes are written before a flush, where they are appended in two parts.
+/// Appends these bytes to a store in two parts.
+fn appends_both<S: Store>(store: &mut S, all: &[u8], first: usize) -> Result<bool, StoreError> {
+    let parts = [
+        Call::Appends("log", all.get(..first).unwrap_or(&[]), true),
+        Call::Appends("log", all.get(first..).unwrap_or(&[]), true),
+    ];
+    answers_all(store, &parts)
+}
+
+/// Whether just so many of these bytes are written before a flush, where they are appended to a store in two parts.
+fn writes_both(
+    rt: &HostRuntime,
+    path: &PathBuf,
+    store: &mut Folder,
+    all: &[u8],
+    first: usize,
+    written: usize,
+) -> Result<bool, Fail> {
+    Ok(
+        appends_both(store, all, first)?
+            && has(rt, path, "log", all.get(..written))?
+            && answers(store, Call::Flushes("log", true))?
+            && has(rt, path, "log", Some(all))?,
+    )
+}
+
+/// The same of a store of its own.
 fn are_written(
     rt: &HostRuntime,
     path: &PathBuf,
@@ -226,17 +79,7 @@ fn are_written(
     written: usize,
 ) -> Result<bool, Fail> {
     let mut store = open(rt, path)?;
-    let parts = [
-        Call::Appends("log", all.get(..first).unwrap_or(&[]), true),
-        Call::Appends("log", all.get(first..).unwrap_or(&[]), true),
-    ];
-    let ends = [Call::Flushes("log", true)];
-    Ok(
-        answers_all(&mut store, &parts)?
-            && has(rt, path, "log", all.get(..written))?
-            && answers_all(&mut store, &ends)?
-            && has(rt, path, "log", Some(all))?,
-    )
+    writes_both(rt, path, &mut store, all, first, written)
 }
 
 /// The bytes of two appends, and how many of them are written before a flush.
@@ -311,19 +154,32 @@ const BELOW: [Call<'_>; 3] = [
     Call::Removes("below", false),
 ];
 
+/// Whether a store refuses all that.
+fn refuses_both<S: Store>(store: &mut S) -> Result<bool, StoreError> {
+    Ok(answers_all(store, &BELOW)? && refuses_names(store)?)
+}
+
 /// Whether all that is refused in a folder.
 fn refuses_all(rt: &HostRuntime, path: &PathBuf) -> Result<bool, Fail> {
     let mut store = open(rt, path)?;
-    Ok(answers_all(&mut store, &BELOW)? && refuses_names(&mut store)?)
+    Ok(refuses_both(&mut store)?)
 }
 
 /// Whether all that is refused, and leaves a file that cannot take its place as it was.
+fn refuses_and_leaves(rt: &HostRuntime, path: &PathBuf) -> Result<bool, Fail> {
+    Ok(
+        refuses_all(rt, path)?
+            && has(rt, path, "file", Some(b"kept"))?
+            && count(rt, path.as_str())? == 2,
+    )
+}
+
+/// A folder where a file is to be, and a file.
+const REFUSING: [Before<'_>; 2] = [Before::Folder("below"), Before::File("file", "kept")];
+
 fn of_refusals(rt: &HostRuntime) -> Result<bool, Fail> {
-    let before = [Before::Folder("below"), Before::File("file", "kept")];
-    let path = prepared(rt, "refused", &before)?;
-    let are_refused = refuses_all(rt, &path)?
-        && has(rt, &path, "file", Some(b"kept"))?
-        && count(rt, path.as_str())? == 2;
+    let path = prepared(rt, "refused", &REFUSING)?;
+    let are_refused = refuses_and_leaves(rt, &path)?;
     fs::remove_dir(rt, path.join(rt.alloc(), "below")?)?;
     clear(rt, &path)?;
     Ok(are_refused)
@@ -335,9 +191,8 @@ fn what_is_refused(rt: HostRuntime) -> Result<(), Fail> {
     Ok(())
 }
 
-/// Whether the calls are refused on files to which nothing can be written, but an append that stays in the buffer; other files can
-/// be written.
-fn refuses_each(rt: &HostRuntime, path: &PathBuf, bytes: &[u8]) -> Result<bool, Fail> {
+/// Whether the calls are refused on files to which nothing can be written, but an append that stays in the buffer.
+fn refuses_calls<S: Store>(store: &mut S, bytes: &[u8]) -> Result<bool, StoreError> {
     let calls = [
         Call::Appends("a", bytes, false),
         Call::Flushes("a", true),
@@ -352,12 +207,27 @@ fn refuses_each(rt: &HostRuntime, path: &PathBuf, bytes: &[u8]) -> Result<bool, 
         Call::Renames("f", "d", false),
         Call::Removes("e", false),
     ];
-    let mut store = open(rt, path)?;
+    answers_all(store, &calls)
+}
+
+/// Whether a store refuses all that, and other files can be written.
+fn writes_others(
+    rt: &HostRuntime,
+    path: &PathBuf,
+    store: &mut Folder,
+    bytes: &[u8],
+) -> Result<bool, Fail> {
     Ok(
-        answers_all(&mut store, &calls)?
+        refuses_calls(store, bytes)?
             && count(rt, path.as_str())? == 5
-            && answers(&mut store, Call::Appends("log", b"x", true))?,
+            && answers(store, Call::Appends("log", b"x", true))?,
     )
+}
+
+/// The same of a store of its own.
+fn refuses_each(rt: &HostRuntime, path: &PathBuf, bytes: &[u8]) -> Result<bool, Fail> {
+    let mut store = open(rt, path)?;
+    writes_others(rt, path, &mut store, bytes)
 }
 
 /// Files to which nothing can be written.

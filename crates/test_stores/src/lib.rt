@@ -3,7 +3,7 @@
 //!
 //! They are here, and not in `alog_sink`, since a crate with tests is proved twice. Read `calls.rt` (calls of any store
 //! with the answer wanted, and each call once), `memory_tests.rt` (files in memory, and behind a fuse, with `stores.rt`), `folder.rt` (what
-//! the system has), `sessions.rt` (what is done in a folder, step by step), `folder_tests.rt` (files of a folder), then
+//! the system has), `sessions.rt` (what is done in a folder, step by step), `left_tests.rt` (what is left then), `folder_tests.rt` (files of a folder), then
 //! `hours.rt` and `folder_sink_tests.rt` (sinks over a folder, beside those over memory).
 #![tactic(auto)]
 
@@ -16,6 +16,8 @@ mod folder_sink_tests;
 #[cfg(test)]
 mod folder_tests;
 mod hours;
+#[cfg(test)]
+mod left_tests;
 #[cfg(test)]
 mod memory_tests;
 #[cfg(test)]

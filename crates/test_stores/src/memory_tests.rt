@@ -1,7 +1,7 @@
 //! Files in memory, and behind a fuse.
 use crate::calls::{Call, EACH, answers_all, has_just};
 use crate::stores::Noting;
-use alog_sink::{Fuse, FuseStore, MemStore, StoreError};
+use alog_sink::{Fuse, FuseStore, MemStore, Store, StoreError};
 use std::alloc::Global;
 use std::test::Fail;
 
@@ -140,13 +140,12 @@ const FAILING: [(u64, Result<Option<u64>, StoreError>, usize); 4] = [
     (3, Ok(Some(3)), 1),
 ];
 
-/// Whether a store fails just that call, and leaves so many files.
-fn fails_once(
-    alloc: Global,
+/// Whether a store fails just that call.
+fn fails_at<S: Store>(
+    store: &mut S,
     call: u64,
     size: Result<Option<u64>, StoreError>,
-    left: usize,
-) -> Result<bool, Fail> {
+) -> Result<bool, StoreError> {
     let calls = [
         Call::Renames("a", "b", call != 0),
         Call::Flushes("b", call != 1),
@@ -154,8 +153,18 @@ fn fails_once(
         Call::Removes("b", call != 3),
         Call::Flushes("b", true),
     ];
+    answers_all(store, &calls)
+}
+
+/// The same of a store of its own, which leaves so many files.
+fn fails_once(
+    alloc: Global,
+    call: u64,
+    size: Result<Option<u64>, StoreError>,
+    left: usize,
+) -> Result<bool, Fail> {
     let mut store = FuseStore::new(opened(alloc)?, call, 0);
-    Ok(answers_all(&mut store, &calls)? && store.into_store().files().len() == left)
+    Ok(fails_at(&mut store, call, size)? && store.into_store().files().len() == left)
 }
 
 #[test]
