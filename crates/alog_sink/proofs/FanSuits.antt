@@ -6,7 +6,6 @@ use Rattle.alog_sink.specs.Lines.{FaceSuits}
 use Rattle.alog_sink.specs.Opened.{leaves_of}
 use Rattle.alog_sink.specs.Sinks.{Suits}
 use Rattle.alog_sink.specs.Turn.{LeafView}
-use Rattle.alog_sink.specs.declared.face.Face.{Face}
 use Rattle.alog_sink.specs.declared.sink.Sink.{Sink}
 use Rattle.alog_sink.specs.declared.sink.Sink.TheVariants.{Leaf, Fan}
 

@@ -1,5 +1,5 @@
 -- Names with a date.
-use Rattle.std.proofs.Common.{◌≡◌, ℕ, zero, suc, ◌+◌, ◌/◌, ◌%◌, ◌<◌, ◌≤◌, Result, Ok, Err, IsOk, is_ok, cond, length, List, [], ◌∷◌, ◌++◌}
+use Rattle.std.proofs.Common.{◌≡◌, ℕ, zero, suc, ◌+◌, ◌/◌, ◌%◌, ◌<◌, Result, Ok, Err, IsOk, is_ok, cond, length, List, [], ◌∷◌, ◌++◌}
 use Rattle.std.proofs.Common.{ap, ◌∙◌, arith}
 use Rattle.std.proofs.lemmas.Str.{IsUtf8-from_ascii}
 use Rattle.std.specs.Str.{IsUtf8, IsAscii}
@@ -39,11 +39,11 @@ dated_names_differ name a b is is' e =
     (append_cancel_right (stem name ++ date_text a) (stem name ++ date_text b) (extension name) e))
 
 -- what was written into a text with room
-pub pushed : {E : Type 0} (r : Result (Unit {0}) E) (old text : List ℕ) {new : List ℕ} (count room : ℕ) {after : ℕ}
-    → (count + length text ≤ room → IsOk r) → count + length text ≤ room → new ≡ cond (is_ok r) (old ++ text) old
-    → after ≡ cond (is_ok r) (count + length text) count → (new ≡ old ++ text) × (after ≡ count + length text)
-pushed (Ok _) old text count room succeeds fits is counted = (is, counted)
-pushed (Err e) old text count room succeeds fits is counted = absurd (let e = succeeds fits in cc)
+pub pushed : {E : Type 0} (r : Result (Unit {0}) E) (old text : List ℕ) {new : List ℕ} (count : ℕ) {after : ℕ} → IsOk r
+    → new ≡ cond (is_ok r) (old ++ text) old → after ≡ cond (is_ok r) (count + length text) count
+    → (new ≡ old ++ text) × (after ≡ count + length text)
+pushed (Ok _) old text count ok is counted = (is, counted)
+pushed (Err e) old text count ok is counted = absurd (cc)
 
 -- the three parts, one after another
 pub three_parts : (name : List ℕ) {front middle back first second third : List ℕ} (date : Date) → front ≡ stem name

@@ -61,8 +61,8 @@ append_does name bytes old new (Err e) done failed = record {
 }
 
 -- the same for a call that may have failed
-pub one_file_kept : {A E : Type 0} (file line : List ℕ) (opening old new : Files) (lines : List (List ℕ)) (answer : Result A E)
+pub one_file_kept : {A E : Type 0} (file line : List ℕ) (opening : Files) {old : Files} (new : Files) (lines : List (List ℕ)) (answer : Result A E)
     → OnOk answer (AreSame (appended file line old) new) → AreSame (one_file file opening lines) old
     → OnOk answer (AreSame (one_file file opening (lines ++ line ∷ [])) new)
-one_file_kept file line opening old new lines (Ok u) done was = one_file_grows file opening lines line old new was done
-one_file_kept file line opening old new lines (Err e) done was = tt
+one_file_kept file line opening {old} new lines (Ok u) done was = one_file_grows file opening lines line old new was done
+one_file_kept file line opening new lines (Err e) done was = tt

@@ -121,14 +121,26 @@ fronts (x ∷ xs) (y ∷ ys) us vs e =
       ]
     ]
 
+-- of the same pieces as a run and those behind it, another run takes more
+record TakesMore (run other : Run) (runs : List Run) : Type 0 where
+  piece : List ℕ
+  pieces : List (List ℕ)
+  tail : List (List ℕ)
+  longer : other ≡ run ++ piece ∷ pieces
+  behind : flat runs ≡ piece ∷ pieces ++ tail
+
 module _ (max : ℕ) where
   -- a run cannot go on past where another of the same pieces ends
-  too_long : (run : Run) {other : Run} (runs : List Run) {q : List ℕ} (qs tail : List (List ℕ)) → 1 ≤ length run
-      → All (IsRun max) runs → IsFull max run runs → IsRun max other → other ≡ run ++ q ∷ qs → flat runs ≡ q ∷ qs ++ tail → ⊥
-  too_long run [] qs tail some each full is e f = absurd (cc)
-  too_long run ([] ∷ runs) qs tail some each full is e f =
+  too_long : (run : Run) {other : Run} (runs : List Run) → 1 ≤ length run → All (IsRun max) runs → IsFull max run runs → IsRun max other
+      → TakesMore run other runs → ⊥
+  too_long run [] some each full is more = absurd (let f = more.behind in cc)
+  too_long run ([] ∷ runs) some each full is more =
       let one = (All-head (IsRun max) [] runs each).some in absurd (omega arith)
-  too_long run {other} ((piece ∷ pieces) ∷ runs) {q} qs tail some each full is e f =
+  too_long run {other} ((piece ∷ pieces) ∷ runs) some each full is more =
+      let q = more.piece in
+      let qs = more.pieces in
+      let e = more.longer in
+      let f = more.behind in
       let same : piece ≡ q = cc in
       let long : 1 < length other = omega (arith, ap length e, length-append run (q ∷ qs)) in
       let less = is.fits long in
@@ -150,8 +162,10 @@ module _ (max : ℕ) where
         | inl w ↦ let same = same_runs runs others rest full.1 rest' full'.1 w.1 in
             ap (λ r. r ∷ others) w.0 ∙ ap (λ rs. run ∷ rs) same
         | inr v ↦ elim v [
-          | inl w ↦ absurd (too_long run runs w.1 (flat others) is.some rest full.0 is' w.2 w.3)
-          | inr w ↦ absurd (too_long other others w.1 (flat runs) is'.some rest' full'.0 is w.2 w.3)
+          | inl w ↦ absurd (too_long run runs is.some rest full.0 is'
+              (record { piece = w.0; pieces = w.1; tail = flat others; longer = w.2; behind = w.3 }))
+          | inr w ↦ absurd (too_long other others is'.some rest' full'.0 is
+              (record { piece = w.0; pieces = w.1; tail = flat runs; longer = w.2; behind = w.3 }))
         ]
       ]
 

@@ -79,17 +79,16 @@ module _ {S : Type 0} where
         (b : Buffer) → MayTurn old i b → MayTurn new i b
     flush_may old new answer does = kept old new (λ IsSuch. flush_keeps IsSuch tells files failures old new answer does)
 
-    -- the same turn may be had again, with the buffer as the turn left it
-    pub may_again : (v w first : Sink S) (line after : Buffer) (i : Item) (r : Result Served SinkError) → Turns tells files failures v line i r w after
-        → MayTurn first i line → MayTurn first i after
-    may_again v w first line after (Text m) r turn may = subst (λ n. MayTake first m n) (sym turn.3) may
-    may_again v w first line after (Flush logger) r turn may = tt
-    may_again v w first line after Stop r turn may = may
-
-    -- the same after a turn under a lock
+    -- the same turn may be had again after a turn under a lock, with the buffer as the turn left it
     pub took_again : (first : Sink S) (old new : Known (Turned Item Buffer (Result Served SinkError)))
         (deed : Turned Item Buffer (Result Served SinkError)) (index : ℕ) → TakesTurn (Turns tells files failures) first old new deed index
         → MayTurn first deed.item deed.before → MayTurn first deed.item deed.after
     took_again first old new deed index took may =
-        let turn = its_turn (Turns tells files failures) first old new deed index took
-        in may_again turn.0 turn.1 first deed.before deed.after deed.item deed.reply turn.2 may
+        let turn = its_turn (Turns tells files failures) first old new deed index took in
+        again turn.0 turn.1 deed.item turn.2 may
+      where
+        again : (v w : Sink S) (i : Item) → Turns tells files failures v deed.before i deed.reply w deed.after → MayTurn first i deed.before
+            → MayTurn first i deed.after
+        again v w (Text m) turn may = subst (λ n. MayTake first m n) (sym turn.3) may
+        again v w (Flush logger) turn may = tt
+        again v w Stop turn may = may

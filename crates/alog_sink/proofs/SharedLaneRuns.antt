@@ -104,22 +104,33 @@ module _ {S : Type 0} (tells : Bool) (files : S → Files) (failures : S → ℕ
           (then p rest (one_turn {n = p} x.deed.before x.deed.after x.deed.item x.deed.reply turn (All-head Ok' x h served) stood))
       at then (Fan p) turn rest = no_fan o p x.deed.before x.deed.after x.deed.item x.deed.reply turn
 
-  -- each member does so, where none met a fault
-  each_stands : {A : Type 0} (done : A) (Does : LeafView S → Result A SinkError → LeafView S → Type 0) (more : List Message → List Message)
-      → ((o n : LeafView S) (a : A) (opening : Files) (ms : List Message) → Does o (Ok a) n → StandsFor files o opening ms
-      → StandsFor files n opening (more ms)) → (olds : List (LeafView S)) (answers : List (Result A SinkError)) (news : List (LeafView S))
-      (stood : List Stood) → EachDoes Does olds answers news → is_ok (first_fault done answers) ≡ true → AllStand files olds stood
-      → AllStand files news (map (grown more) stood)
-  each_stands done Does more one [] [] [] [] each ok all = tt
-  each_stands done Does more one (o ∷ os) (Ok a ∷ answers) (n ∷ ns) (s ∷ stood) each ok all =
-      (one o n a s.0 s.1 each.0 all.0, each_stands done Does more one os answers ns stood each.1 ok all.1)
-  each_stands done Does more one (o ∷ os) (Err e ∷ answers) (n ∷ ns) (s ∷ stood) each ok all = absurd (cc)
-  each_stands done Does more one (o ∷ os) (a ∷ answers) (n ∷ ns) [] each ok all = absurd all
-  each_stands done Does more one [] [] [] (s ∷ stood) each ok all = absurd all
-  each_stands done Does more one [] (a ∷ answers) ns stood each ok all = absurd each
-  each_stands done Does more one [] [] (n ∷ ns) stood each ok all = absurd each
-  each_stands done Does more one (o ∷ os) [] ns stood each ok all = absurd each
-  each_stands done Does more one (o ∷ os) (a ∷ answers) [] stood each ok all = absurd each
+  -- a leaf that did so stands for more
+  record Grows {A : Type 0} (Does : LeafView S → Result A SinkError → LeafView S → Type 0) (more : List Message → List Message) : Type 0 where
+    grows : (o n : LeafView S) (a : A) (opening : Files) (ms : List Message) → Does o (Ok a) n → StandsFor files o opening ms
+        → StandsFor files n opening (more ms)
+
+  -- each member did so, and none met a fault
+  record AllDid {A : Type 0} (done : A) (Does : LeafView S → Result A SinkError → LeafView S → Type 0) (olds : List (LeafView S))
+      (answers : List (Result A SinkError)) (news : List (LeafView S)) : Type 0 where
+    each : EachDoes Does olds answers news
+    ok : is_ok (first_fault done answers) ≡ true
+
+  -- so each stands for more
+  each_stands : {A : Type 0} {done : A} {Does : LeafView S → Result A SinkError → LeafView S → Type 0} {more : List Message → List Message}
+      → Grows Does more → (olds : List (LeafView S)) (answers : List (Result A SinkError)) (news : List (LeafView S))
+      (stood : List Stood) → AllDid done Does olds answers news → AllStand files olds stood → AllStand files news (map (grown more) stood)
+  each_stands one [] [] [] [] did all = tt
+  each_stands {done} one (o ∷ os) (Ok a ∷ answers) (n ∷ ns) (s ∷ stood) did all = (
+    one.grows o n a s.0 s.1 did.each.0 all.0,
+    each_stands {done = done} one os answers ns stood (record { each = did.each.1; ok = did.ok }) all.1,
+  )
+  each_stands one (o ∷ os) (Err e ∷ answers) (n ∷ ns) (s ∷ stood) did all = absurd (let ok = did.ok in cc)
+  each_stands one (o ∷ os) (a ∷ answers) (n ∷ ns) [] did all = absurd all
+  each_stands one [] [] [] (s ∷ stood) did all = absurd all
+  each_stands one [] (a ∷ answers) ns stood did all = absurd did.each
+  each_stands one [] [] (n ∷ ns) stood did all = absurd did.each
+  each_stands one (o ∷ os) [] ns stood did all = absurd did.each
+  each_stands one (o ∷ os) (a ∷ answers) [] stood did all = absurd did.each
 
   -- what more is stood for, said otherwise
   grown_same : (more same : List Message → List Message) → ((ms : List Message) → more ms ≡ same ms) → (leaves : List (LeafView S))
@@ -155,25 +166,33 @@ module _ {S : Type 0} (tells : Bool) (files : S → Files) (failures : S → ℕ
       at false e = subst (λ (f : FanView S). AllStand files f.members (map (grown (λ ms. ms ++ [])) stood)) (sym (takes.below e).1)
           (not_grown o.members stood all)
       at true e =
-          let given = takes.given e
-          in each_stands Written (λ p a q. Takes tells files failures p m a q) (λ ms. ms ++ m ∷ [])
-          (λ p q a opening ms takes stood. takes.stands told opening ms stood) o.members given.0 n.members stood given.1
-          (ap (λ (x : Answer). is_ok x) (sym given.2)) all
+          let given = takes.given e in
+          let one : Grows (λ p a q. Takes tells files failures p m a q) (λ ms. ms ++ m ∷ []) =
+          record { grows = λ p q a opening ms takes stood. takes.stands told opening ms stood } in
+          each_stands {done = Written} one o.members given.0 n.members stood
+          (record { each = given.1; ok = ap (λ (x : Answer). is_ok x) (sym given.2) }) all
 
   fan_flushed : {o n : FanView S} {a : Result Unit SinkError} {r : Reply} (stood : List Stood) → FanFlushes tells files failures o a n
       → r ≡ as_flushed a → is_ok r ≡ true → AllStand files o.members stood → AllStand files n.members (map (grown (λ ms. ms ++ [])) stood)
   fan_flushed {a = Err e} {r} stood does same ok all = no_fault e r same ok
   fan_flushed {o} {n} {a = Ok u} stood does same ok all =
-      each_stands tt (Flushes tells files failures) (λ ms. ms ++ [])
-      (λ p q a opening ms does stood. subst (λ xs. StandsFor files q opening xs) (sym (append-nil ms)) (does.stands told opening ms stood))
-      o.members does.answers n.members stood does.given (ap (λ (x : Result Unit SinkError). is_ok x) (sym does.first)) all
+      let one : Grows (λ p a q. Flushes tells files failures p a q) (λ ms. ms ++ []) = record {
+        grows = λ p q a opening ms does stood.
+            subst (λ xs. StandsFor files q opening xs) (sym (append-nil ms)) (does.stands told opening ms stood);
+      } in
+      each_stands {done = tt} one o.members does.answers n.members stood
+      (record { each = does.given; ok = ap (λ (x : Result Unit SinkError). is_ok x) (sym does.first) }) all
 
-  fan_turn : (o n : FanView S) (line after : Buffer) (i : Item) (r : Reply) (stood : List Stood) → Turned' (Fan o) line i r (Fan n) after
-      → is_ok r ≡ true → AllStand files o.members stood
-      → AllStand files n.members (map (grown (λ ms. ms ++ admitted o.level (with_text i []))) stood)
-  fan_turn o n line after (Text m) r stood turn ok all = fan_took stood turn.1 turn.2 ok all
-  fan_turn o n line after (Flush logger) r stood turn ok all = fan_flushed stood turn.1 turn.2 ok all
-  fan_turn o n line after Stop r stood turn ok all = absurd turn
+  fan_turn : (o n : FanView S) (deed : Turned Item Buffer Reply) (stood : List Stood)
+      → Turned' (Fan o) deed.before deed.item deed.reply (Fan n) deed.after → is_ok deed.reply ≡ true → AllStand files o.members stood
+      → AllStand files n.members (map (grown (λ ms. ms ++ admitted o.level (with_text deed.item []))) stood)
+  fan_turn o n deed stood turn ok all = by_item deed.item turn
+    where
+      by_item : (i : Item) → Turned' (Fan o) deed.before i deed.reply (Fan n) deed.after
+          → AllStand files n.members (map (grown (λ ms. ms ++ admitted o.level (with_text i []))) stood)
+      by_item (Text m) turn = fan_took stood turn.1 turn.2 ok all
+      by_item (Flush logger) turn = fan_flushed stood turn.1 turn.2 ok all
+      by_item Stop turn = absurd turn
 
   fan_level : (o n : FanView S) (line after : Buffer) (i : Item) (r : Reply) → Turned' (Fan o) line i r (Fan n) after → n.level ≡ o.level
   fan_level o n line after (Text m) r turn = turn.1.level
@@ -202,7 +221,7 @@ module _ {S : Type 0} (tells : Bool) (files : S → Files) (failures : S → ℕ
       at then (Fan p) turn rest =
           let behind : List Message → List Message = λ ms. ms ++ admitted p.level (texts_of h)
           in let level : p.level ≡ o.level = fan_level o p x.deed.before x.deed.after x.deed.item x.deed.reply turn
-          in let first = fan_turn o p x.deed.before x.deed.after x.deed.item x.deed.reply stood turn (All-head Ok' x h served) all
+          in let first = fan_turn o p x.deed stood turn (All-head Ok' x h served) all
           in grown_same (λ ms. behind (more ms)) (λ ms. ms ++ admitted o.level (texts_of (x ∷ h)))
           (λ ms. ap (λ l. more ms ++ admitted l (texts_of h)) level ∙ pass_first o.level x.deed.item ms (texts_of h))
           n.members stood (grown_twice more behind n.members stood (then p rest first))

@@ -6,17 +6,15 @@ use Rattle.alog_msg.specs.declared.level.Level.{Level}
 use Rattle.alog_msg.specs.declared.message.Message.{Message}
 use Rattle.alog_sink.specs.Calls.{Counts}
 use Rattle.alog_sink.specs.Deeds.{Does}
-use Rattle.alog_sink.specs.Files.{Files, AreSame}
+use Rattle.alog_sink.specs.Files.{Files}
 use Rattle.alog_sink.specs.Kept.{IsKept, IsSameTarget, deeds_of}
-use Rattle.alog_sink.specs.Lines.{Written, IsShownTo, IsWrittenOf, IsLineOf, AreWrittenOf, admits, admitted, last_time, lines_of}
-use Rattle.alog_sink.specs.Turn.{Answer, LeafView, StandsFor, Takes}
+use Rattle.alog_sink.specs.Lines.{Written, IsShownTo, IsWrittenOf, IsLineOf, AreWrittenOf, admits, admitted, last_time}
+use Rattle.alog_sink.specs.Turn.{Answer, LeafView, Takes}
 use Rattle.alog_sink.specs.declared.face.Face.{Face}
 use Rattle.alog_sink.specs.declared.target.Target.{Target}
 use Rattle.alog_sink.specs.declared.target.Target.TheVariants.{Memory, Rotating, Daily}
 use Rattle.alog_sink.specs.declared.leaf.SinkError.TheVariants as errors
 use Rattle.alog_sink.specs.declared.leaf.Taken.TheVariants.{Below, Written as Wrote}
-use Rattle.alog_sink.proofs.DailyOn.{days_alike}
-use Rattle.alog_sink.proofs.RotatedOn.{stands_alike}
 
 -- a message more, which is taken or not
 admitted_more : (own : Level) (ms : List Message) (m : Message) (b : Bool) → admits own m.level ≡ b
@@ -57,25 +55,6 @@ failed_now : (answer : Answer) → answer ≡ Err errors.Store → (answer ≡ O
 failed_now answer is (inl e) = cc
 failed_now answer is (inr e) = cc
 
--- what is kept depends on the files by name alone
-pub kept_alike : (t : Target) (opening : Files) (ws : List Written) (old new : Files) → AreSame old new → IsKept t opening ws old
-    → IsKept t opening ws new
-kept_alike (Memory j) opening ws old new same kept = λ n. same n ∙ kept n
-kept_alike (Rotating r) opening ws old new same kept = stands_alike r opening (lines_of ws) old new same kept
-kept_alike (Daily d) opening ws old new same kept = days_alike d opening ws old new same kept
-
--- a sink stands for the same over the same files
-pub stands_on : {S : Type 0} (files : S → Files) (old : LeafView S) (after : S) (opening : Files) (ms : List Message)
-    → AreSame (files old.store) (files after) → StandsFor files old opening ms
-    → StandsFor files (record { face = old.face; target = old.target; store = after; broken = old.broken; previous = old.previous }) opening ms
-stands_on files old after opening ms same s = record {
-  whole = s.whole;
-  written = s.written;
-  lines = s.lines;
-  kept = kept_alike old.target opening s.written (files old.store) (files after) same s.kept;
-  previous = s.previous;
-}
-
 module _ {S : Type 0} (tells : Bool) (files : S → Files) (failures : S → ℕ) where
   module _ (old : LeafView S) (m : Message) where
     pub takes_below : admits old.face.level m.level ≡ false → Takes tells files failures old m (Ok Below) old
@@ -102,23 +81,6 @@ module _ {S : Type 0} (tells : Bool) (files : S → Files) (failures : S → ℕ
       where
         not_more : (ms : List Message) → admitted old.face.level (ms ++ m ∷ []) ≡ admitted old.face.level ms
         not_more ms = admitted_more old.face.level ms m false e ∙ append-nil (admitted old.face.level ms)
-
-    pub takes_broken : admits old.face.level m.level ≡ true → old.broken ≡ true
-        → Takes tells files failures old m (Err errors.Broken) old
-    takes_broken e broken = record {
-      below = (λ x. absurd (cc), λ x. absurd (cc));
-      broken = (λ _. (e, broken), λ _. refl);
-      nothing = λ _. refl;
-      face = refl;
-      target = same_target old.target;
-      wrote = λ x. absurd (cc);
-      failed = λ x. absurd (cc);
-      rose = λ x. absurd (cc);
-      stayed = tt;
-      stands = λ t o ms s. tt;
-      writes = λ t x. absurd (cc);
-      breaks = λ t x. absurd (cc);
-    }
 
   module _ (old : LeafView S) (next : Target) (after : S) (m : Message) (w : Written) (whole : old.broken ≡ false)
       (e : admits old.face.level m.level ≡ true) (is : IsWrittenOf old.face old.previous m w) (same : IsSameTarget old.target next) where

@@ -12,19 +12,16 @@ returns-clause-name c = elim c.match-from_utf8.branch [
       let eleven : length c.date_text-text.result ≡ 11 = ap length c.date_text-text.ensures in
       let long : length w.in-Ok.text.now ≡ 11 = ap length text ∙ eleven in
       let a = pushed c.push_str.result (string_bytes c.clear.new.self) c.split_at.result.0.now
-      (string_len c.clear.new.self) (string_capacity c.clear.new.self)
-      c.push_str.ensures.succeeds (omega (
+      (string_len c.clear.new.self) (c.push_str.ensures.succeeds (omega (
         arith,
         c.clear.ensures.len,
         c.clear.ensures.capacity,
         c.split_at.ensures.front_len,
         c.split_at.ensures.back_len,
-      ))
+      )))
       c.push_str.ensures.bytes c.push_str.ensures.len in
       let b = pushed w.push_str-in-Ok.result (string_bytes c.push_str.new.self) w.in-Ok.text.now
-      (string_len c.push_str.new.self) (string_capacity c.push_str.new.self)
-      w.push_str-in-Ok.ensures.succeeds
-      (omega (
+      (string_len c.push_str.new.self) (w.push_str-in-Ok.ensures.succeeds (omega (
         arith,
         a.1,
         long,
@@ -33,12 +30,10 @@ returns-clause-name c = elim c.match-from_utf8.branch [
         c.clear.ensures.capacity,
         c.split_at.ensures.front_len,
         c.split_at.ensures.back_len,
-      ))
+      )))
       w.push_str-in-Ok.ensures.bytes w.push_str-in-Ok.ensures.len in
       let d = pushed c.push_str-2.result (string_bytes c.match-from_utf8.into) c.split_at.result.1.now
-      (string_len c.match-from_utf8.into) (string_capacity c.match-from_utf8.into)
-      c.push_str-2.ensures.succeeds
-      (omega (
+      (string_len c.match-from_utf8.into) (c.push_str-2.ensures.succeeds (omega (
         arith,
         a.1,
         b.1,
@@ -51,7 +46,7 @@ returns-clause-name c = elim c.match-from_utf8.branch [
         c.clear.ensures.capacity,
         c.split_at.ensures.front_len,
         c.split_at.ensures.back_len,
-      ))
+      )))
       c.push_str-2.ensures.bytes c.push_str-2.ensures.len in
       three_parts c.args.name.now c.args.date (c.split_at.ensures.front ∙ c.extension_at.ensures.before) (text ∙ c.date_text-text.ensures)
       (c.split_at.ensures.back ∙ c.extension_at.ensures.after) (a.0 ∙ ap (λ xs. xs ++ c.split_at.result.0.now) c.clear.ensures.bytes)

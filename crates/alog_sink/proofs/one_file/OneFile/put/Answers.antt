@@ -11,4 +11,4 @@ returns-clause-kept g c tells opening lines =
     let line = c.args.line.now in
     let P : List ℕ → Type 0 = λ f. AreSame (one_file f opening lines) old
     → OnOk c.append.result (AreSame (one_file f opening (lines ++ line ∷ [])) new) in
-    subst P c.as_str.ensures (one_file_kept c.as_str.result.now line opening old new lines c.append.result (c.append.ensures.done tells))
+    subst P c.as_str.ensures (one_file_kept c.as_str.result.now line opening {old = old} new lines c.append.result (c.append.ensures.done tells))

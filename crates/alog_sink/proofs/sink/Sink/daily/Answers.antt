@@ -1,7 +1,6 @@
 use Rattle.std.proofs.Common.{[], sym, subst}
 use Rattle.alog_sink.specs.DailyFiles.{DayLimits, Days, StandsFor, change_at}
 use Rattle.alog_sink.specs.Refused.{IsNewDaily}
-use Rattle.alog_sink.specs.declared.target.Target.TheVariants.{Daily}
 use Rattle.alog_sink.proofs.DailyOn.{begins}
 use Rattle.alog_sink.proofs.Opens.{opened}
 use Rattle.alog_sink.proofs.sink.Sink.daily.Goals as goal

@@ -1,6 +1,5 @@
 use Rattle.alog_sink.specs.Rotation.{Limits}
 use Rattle.alog_sink.specs.Refused.{IsRotating}
-use Rattle.alog_sink.specs.declared.target.Target.TheVariants.{Rotating}
 use Rattle.alog_sink.proofs.Opens.{opened}
 use Rattle.alog_sink.proofs.sink.Sink.rotating.Goals as goal
 
