@@ -42,13 +42,6 @@ apart_more ls x apart free m n name p q =
       ]
     ]
 
-pub listing_of_none : (levels : List Level) → levels ≡ [] → IsListing [] levels
-listing_of_none levels e = record {
-  each = ap length e;
-  few = omega arith;
-  apart = λ m n name p q. absurd (cc p);
-}
-
 pub listing_more : (ls : List Logger) (levels : List Level) (x : Logger) (level : Level) → IsListing ls levels → ¬ IsTaken ls x.name
     → length ls < LOGGERS_MAX → IsListing (ls ++ x ∷ []) (levels ++ level ∷ [])
 listing_more ls levels x level old free room = record {
