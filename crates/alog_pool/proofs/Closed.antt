@@ -85,18 +85,24 @@ module _ {S : Type 0} where
               ∙ sum_mod (λ (p : SinkSeatView S). p.faults) (λ (p : SinkSeatView S). faults_in p.seat.known.own) column counted;
         }
 
+    -- The places of the workers came back to places that were never used, and each fault at them was counted.
+    pub record CameBack (bs cs : List (SinkSeatView S)) (rows : List (List (SinkSeatView S))) : Type 0 where
+      pub back : HaveBack bs cs rows
+      pub unused : AllByRecursion IsUnused bs
+      pub counted : AllByRecursion (λ (row : List (SinkSeatView S)). AllByRecursion IsCounted row) rows
+
     pub all_closed : (bs cs : List (SinkSeatView S)) (rows : List (List (SinkSeatView S))) (sinks : List (Sink S)) (faults : List ℕ)
-        → HaveBack bs cs rows → Each3 (IsClosing tells files failures) cs sinks faults → AllByRecursion IsUnused bs
-        → AllByRecursion (λ (row : List (SinkSeatView S)). AllByRecursion IsCounted row) rows
+        → CameBack bs cs rows → Each3 (IsClosing tells files failures) cs sinks faults
         → AreClosed tells files failures (lanes_of bs) rows sinks faults
-    all_closed [] [] rows [] [] back closing unused counted = tt
-    all_closed [] [] rows [] (f ∷ fs) back closing unused counted = absurd closing
-    all_closed [] [] rows (s ∷ ss) fs back closing unused counted = absurd closing
-    all_closed [] (c ∷ cs) rows ss fs back closing unused counted = absurd back
-    all_closed (b ∷ bs) [] rows ss fs back closing unused counted = absurd back
-    all_closed (b ∷ bs) (c ∷ cs) rows [] fs back closing unused counted = absurd closing
-    all_closed (b ∷ bs) (c ∷ cs) rows (s ∷ ss) [] back closing unused counted = absurd closing
-    all_closed (b ∷ bs) (c ∷ cs) rows (s ∷ ss) (f ∷ fs) back closing unused counted = (
-      one_closed back.0 closing.0 unused.0 (heads_all IsCounted rows counted),
-      all_closed bs cs (tails rows) ss fs back.1 closing.1 unused.1 (tails_all IsCounted rows counted),
+    all_closed [] [] rows [] [] all closing = tt
+    all_closed [] [] rows [] (f ∷ fs) all closing = absurd closing
+    all_closed [] [] rows (s ∷ ss) fs all closing = absurd closing
+    all_closed [] (c ∷ cs) rows ss fs all closing = absurd all.back
+    all_closed (b ∷ bs) [] rows ss fs all closing = absurd all.back
+    all_closed (b ∷ bs) (c ∷ cs) rows [] fs all closing = absurd closing
+    all_closed (b ∷ bs) (c ∷ cs) rows (s ∷ ss) [] all closing = absurd closing
+    all_closed (b ∷ bs) (c ∷ cs) rows (s ∷ ss) (f ∷ fs) all closing = (
+      one_closed all.back.0 closing.0 all.unused.0 (heads_all IsCounted rows all.counted),
+      all_closed bs cs (tails rows) ss fs
+          (record { back = all.back.1; unused = all.unused.1; counted = tails_all IsCounted rows all.counted }) closing.1,
     )

@@ -168,13 +168,13 @@ module _ {S : Type 0} where
       (subst (λ (l : List Due). HaveMade 0 bs cs l) (sym (all_dues-append loggers gots ((t, Stop) ∷ [])))
       (have_then 0 bs cs cs (all_dues loggers gots) [] made (have_none 0 cs)))
 
-  pub made_for : (loggers : List Logger) (bs cs ds : List (SinkSeatView S)) (gots : List (ℕ × Item)) (t : ℕ) (x : Item)
-      → HaveMade 0 bs cs (all_dues loggers gots) → HaveMade 0 cs ds (dues_of loggers t x)
-      → HaveMade 0 bs ds (all_dues loggers (gots ++ (t, x) ∷ []))
-  made_for loggers bs cs ds gots t x made more =
-      subst (λ (l : List Due). HaveMade 0 bs ds l) (sym (all_dues-append loggers gots ((t, x) ∷ [])))
-      (have_then 0 bs cs ds (all_dues loggers gots) (all_dues loggers ((t, x) ∷ [])) made
-      (subst (λ (l : List Due). HaveMade 0 cs ds l) (sym (append-nil (dues_of loggers t x))) more))
+  pub made_for : (loggers : List Logger) (bs cs ds : List (SinkSeatView S)) (gots : List (ℕ × Item)) (got : ℕ × Item)
+      → HaveMade 0 bs cs (all_dues loggers gots) → HaveMade 0 cs ds (dues_of loggers got.0 got.1)
+      → HaveMade 0 bs ds (all_dues loggers (gots ++ got ∷ []))
+  made_for loggers bs cs ds gots got made more =
+      subst (λ (l : List Due). HaveMade 0 bs ds l) (sym (all_dues-append loggers gots (got ∷ [])))
+      (have_then 0 bs cs ds (all_dues loggers gots) (all_dues loggers (got ∷ [])) made
+      (subst (λ (l : List Due). HaveMade 0 cs ds l) (sym (append-nil (dues_of loggers got.0 got.1))) more))
 
 -- the items of a worker's takes since it began
 pub took_more : (k l m : Known Item block_note) (gots g : List (ℕ × Item)) → takes l.own ≡ takes k.own ++ gots → Moved l m [] g

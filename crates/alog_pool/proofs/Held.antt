@@ -100,8 +100,8 @@ module _ {S : Type 0} (tells : Bool) (files : S → Files) (failures : S → ℕ
   more_held tell (Leaf o) (Fan n) h leads served = leaf_stays o n h leads
   more_held tell (Fan o) (Leaf n) h leads served = fan_stays o n h leads
 
-  pub texts_held : (first last : Sink S) (h : List Turn) {f : ℕ} {turns : List (ℕ × Item)} → Leads Given first h last → told h ≡ turns
-      → f ≡ faults_in h % 2 ^ 64 → tells ≡ true → f ≡ 0 → length turns < 2 ^ 64 → HoldsMore files first last (texts_in turns)
-  texts_held first last h {f} {turns} leads same counted tell none few =
-      subst (λ (ms : List Message). HoldsMore files first last ms) (texts_told h ∙ ap texts_in same)
-      (more_held tell first last h leads (are_served h f turns same counted none few))
+  pub texts_held : (first last : Sink S) (h : List Turn) {f : ℕ} → Leads Given first h last → f ≡ faults_in h % 2 ^ 64 → tells ≡ true
+      → f ≡ 0 → length (told h) < 2 ^ 64 → HoldsMore files first last (texts_in (told h))
+  texts_held first last h {f} leads counted tell none few =
+      subst (λ (ms : List Message). HoldsMore files first last ms) (texts_told h)
+      (more_held tell first last h leads (are_served h f (told h) refl counted none few))

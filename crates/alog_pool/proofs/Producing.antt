@@ -7,7 +7,6 @@ use Rattle.alog_msg.specs.declared.message.Message.{Message}
 use Rattle.alog_msg.specs.declared.message.MessageError.{MessageError}
 use Rattle.alog_policy.specs.BookCalls.{BookId, SeatView, IsSeatOf as IsBookSeatOf}
 use Rattle.alog_policy.specs.SwapPort.{IsThere, SwapDid}
-use Rattle.alog_policy.specs.Post.{overran_in, discards_in}
 use Rattle.alog_policy.specs.Progress.{without_waiting}
 use Rattle.alog_policy.specs.declared.policy.Outcome.{Outcome}
 use Rattle.alog_policy.specs.declared.policy.Policy.{Policy}
@@ -155,16 +154,16 @@ log_now_leaves policy_of ls n m {a} {k} (Ok x) {b} {l} low ok err =
 log_now_leaves policy_of ls n m {a} {k} (Err e) {b} {l} low ok err = nothing_done a k b l err.0 err.1
 
 -- whatever a dump answered
-pub dump_leaves : {X E : Type 0} (items : X → List (Outcome (Unit {0}))) (ls : List Logger) (n : ℕ) (t : ℤ) (th : ℕ) {a : Queueing}
-    {k : LaneKeeper} (r : Result X E) {b : Queueing} {l : LaneKeeper} → n < length ls
+pub dump_leaves : {X E : Type 0} (items : X → List (Outcome (Unit {0}))) (ls : List Logger) (n : ℕ) (messages : Room → List Message)
+    {a : Queueing} {k : LaneKeeper} (r : Result X E) {b : Queueing} {l : LaneKeeper} → n < length ls
     → ((s : Spec) → spec_at ls n ≡ Some s → IfOk r (λ v. (d : Room) × DumpsByTurn k d l
-    × PostsEach SwapDid (without_waiting s.policy) (posted_of n t th d.messages) a (items v) b))
+    × PostsEach SwapDid (without_waiting s.policy) (messages d) a (items v) b))
     → OnErr r ((b ≡ a) × (l ≡ k)) → LendsAlike a b × LendsSame k l
-dump_leaves items ls n t th {a} (Ok v) {b} low ok err =
+dump_leaves items ls n messages {a} (Ok v) {b} low ok err =
     let s = has_spec ls n low in
     let is = ok s.0 s.1 in
-    (each_port (without_waiting s.0.policy) (posted_of n t th is.0.messages) a b (items v) is.2, is.1.lends)
-dump_leaves items ls n t th {a} {k} (Err e) {b} {l} low ok err = (same_port a b err.0, (same_keeper k l err.1).0)
+    (each_port (without_waiting s.0.policy) (messages is.0) a b (items v) is.2, is.1.lends)
+dump_leaves items ls n messages {a} {k} (Err e) {b} {l} low ok err = (same_port a b err.0, (same_keeper k l err.1).0)
 
 -- a place after a call of its keeper
 pub still_seated : {most limit : ℕ} {lane : LaneId Room} {seat : LaneSeatView} {scratch : BacktraceScratch} {k l : LaneKeeper}
@@ -179,12 +178,17 @@ still_seated {lane} {l} old at was same list seated =
       limits = old.limits;
     }
 
+-- a keeper before and after a call, and the place that it lends then
+pub record LendsPlace (k l : LaneKeeper) (v w : BacktraceSeatView) : Type 0 where
+  pub lent : IsKeeperOf v k
+  pub left : IsKeeperOf w l
+
 module _ (passes : LaneKeeper → LaneKeeper → Type 0) (p : Policy) (s : Spec) (m : Message) where
-  pub keeps_log : {E : Type 0} (a b : Queueing) (k l : LaneKeeper) (v w : BacktraceSeatView) (r : Result LogReply E) → IsKeeperOf v k → IsKeeperOf w l
+  pub keeps_log : {E : Type 0} (a b : Queueing) {k l : LaneKeeper} {v w : BacktraceSeatView} (r : Result LogReply E) → LendsPlace k l v w
       → IfOk r (λ x. Logs SwapDid KeepsByTurn passes p s m a k x b l)
       → IfOk r (λ x. Keeps v w (λ y z. Logs SwapDid KeepsByTurn passes p s m a y x b z))
-  keeps_log a b k l v w (Ok x) lent left logs = record { keeper = k; after = l; lent = lent; left = left; called = logs }
-  keeps_log a b k l v w (Err e) lent left logs = logs
+  keeps_log a b {k} {l} (Ok x) lends logs = record { keeper = k; after = l; lent = lends.lent; left = lends.left; called = logs }
+  keeps_log a b (Err e) lends logs = logs
 
   pub lent_log : {E : Type 0} {old new : ProducerView} (n : ℕ) {a b : Queueing} {k : BacktraceSeatView} (l : BacktraceSeatView)
       (r : Result LogReply E) → IsPortOf old a
@@ -208,10 +212,10 @@ module _ {X : Type 0} (items : X → List (Outcome (Unit {0}))) (p : Policy) (n 
   abbrev pub Dumped : Queueing → X → Queueing → LaneKeeper → LaneKeeper → Type 0
   Dumped a v b k l = (d : Room) × DumpsByTurn k d l × PostsEach SwapDid p (posted_of n t th d.messages) a (items v) b
 
-  pub keeps_dump : {E : Type 0} (a b : Queueing) (k l : LaneKeeper) (v w : BacktraceSeatView) (r : Result X E) → IsKeeperOf v k → IsKeeperOf w l
+  pub keeps_dump : {E : Type 0} (a b : Queueing) {k l : LaneKeeper} {v w : BacktraceSeatView} (r : Result X E) → LendsPlace k l v w
       → IfOk r (λ x. Dumped a x b k l) → IfOk r (λ x. Keeps v w (λ y z. Dumped a x b y z))
-  keeps_dump a b k l v w (Ok x) lent left did = record { keeper = k; after = l; lent = lent; left = left; called = did }
-  keeps_dump a b k l v w (Err e) lent left did = did
+  keeps_dump a b {k} {l} (Ok x) lends did = record { keeper = k; after = l; lent = lends.lent; left = lends.left; called = did }
+  keeps_dump a b (Err e) lends did = did
 
   pub lent_dump : {E : Type 0} {old new : ProducerView} (at : ℕ) {a b : Queueing} {k : BacktraceSeatView} (l : BacktraceSeatView)
       (r : Result X E) → IsPortOf old a

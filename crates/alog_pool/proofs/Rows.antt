@@ -1,5 +1,5 @@
 -- Places that come back, worker by worker.
-use Rattle.std.proofs.Common.{◌≡◌, List, [], ◌∷◌, ◌++◌, map, refl, sym, ap, subst, ◌∙◌}
+use Rattle.std.proofs.Common.{◌≡◌, List, [], ◌∷◌, ◌++◌, refl, sym, ap, subst, ◌∙◌}
 use Rattle.std.specs.List.{AllByRecursion}
 use Rattle.alog_format.specs.Buffer.{Buffer}
 use Rattle.alog_lane.specs.Seats as lane

@@ -189,7 +189,7 @@ module _ {S : Type 0} (tells : Bool) (files : S → Files) (failures : S → ℕ
           turns_are = refl;
           leads = c.closes.leads;
           faults_are = counted;
-          holds = texts_held tells files failures l.first k h {turns = told h} c.closes.leads refl counted;
+          holds = texts_held tells files failures l.first k h c.closes.leads counted;
         },
       )
 

@@ -25,6 +25,21 @@ use std::marker::Model;
 use std::sync::{Arc, Wait};
 use std::time::Clock;
 
+/// A producer's port. It borrows some of the producer's fields, so that the others can be used beside it; a function would
+/// borrow all.
+macro_rules! port_of {
+    ($producer:ident, $shared:ident) => {
+        BlockPort {
+            ring: &$shared.ring,
+            pass: &mut $producer.pass,
+            book: &$shared.book,
+            seat: &mut $producer.losses,
+            hand: &mut $producer.hand,
+            spare: &mut $producer.spare,
+        }
+    };
+}
+
 /// What a request thread logs with: each has a producer of its own, which its pool made. No lock is round it. Its number is the
 /// thread number of its messages.
 ///
@@ -112,14 +127,7 @@ impl Producer {
         ensures same { IsSame self.old self.new }
     {
         let shared: &Shared = &self.shared;
-        let mut port = BlockPort {
-            ring: &shared.ring,
-            pass: &mut self.pass,
-            book: &shared.book,
-            seat: &mut self.losses,
-            hand: &mut self.hand,
-            spare: &mut self.spare,
-        };
+        let mut port = port_of!(self, shared);
         let given = MessageRef {
             logger: number,
             level,
@@ -156,14 +164,7 @@ impl Producer {
         ensures same { IsSame self.old self.new }
     {
         let shared: &Shared = &self.shared;
-        let mut port = BlockPort {
-            ring: &shared.ring,
-            pass: &mut self.pass,
-            book: &shared.book,
-            seat: &mut self.losses,
-            hand: &mut self.hand,
-            spare: &mut self.spare,
-        };
+        let mut port = port_of!(self, shared);
         let given = MessageRef {
             logger: number,
             level,
@@ -185,14 +186,7 @@ impl Producer {
         ensures same { IsSame self.old self.new × (self.new.backtrace_seats ≡ self.old.backtrace_seats) }
     {
         let shared: &Shared = &self.shared;
-        let mut port = BlockPort {
-            ring: &shared.ring,
-            pass: &mut self.pass,
-            book: &shared.book,
-            seat: &mut self.losses,
-            hand: &mut self.hand,
-            spare: &mut self.spare,
-        };
+        let mut port = port_of!(self, shared);
         shared.loggers.flush(&mut port, number)
     }
 
@@ -214,14 +208,7 @@ impl Producer {
     {
         let shared: &Shared = &self.shared;
         let thread = self.number;
-        let mut port = BlockPort {
-            ring: &shared.ring,
-            pass: &mut self.pass,
-            book: &shared.book,
-            seat: &mut self.losses,
-            hand: &mut self.hand,
-            spare: &mut self.spare,
-        };
+        let mut port = port_of!(self, shared);
         let backtrace_seat = &mut self.backtrace_seats[number as usize];
         backtrace_seat.dump(rt, alloc, &shared.loggers, &mut port, number, time, thread)
     }

@@ -1,4 +1,4 @@
-use Rattle.std.proofs.Common.{Some, [], refl}
+use Rattle.std.proofs.Common.{refl}
 use Rattle.alog_pool.proofs.Moves.{moved_more, not_moved, refused_moved, refused_last, finds_there}
 use Rattle.alog_pool.proofs.worker.take_waiting.Goals as goal
 

@@ -9,30 +9,32 @@ use Rattle.alog_pool.proofs.backtrace_seat.BacktraceSeat.dump.Goals as goal
 
 pub shape_of-self-inside : goal.shape_of-self-inside
 shape_of-self-inside g c =
-    let left = dump_leaves (λ v. v.items) c.args.loggers.now c.args.number _ _ {a = c.args.port.now} c.dump_shared.result
+    let left = dump_leaves (λ v. v.items) c.args.loggers.now c.args.number _ {a = c.args.port.now} c.dump_shared.result
     {b = c.dump_shared.new.outlet} {l = c.dump_shared.new.keeper} c.requires.known c.dump_shared.ensures.dumped c.dump_shared.ensures.err in
     sym (left.1.scratch ∙ c.keeper-keeper.ensures.scratch.0)
 
 pub shape_of-self-inside-2 : goal.shape_of-self-inside-2
 shape_of-self-inside-2 g c =
-    let left = dump_leaves (λ v. v.items) c.args.loggers.now c.args.number _ _ {a = c.args.port.now} c.dump_shared.result
+    let left = dump_leaves (λ v. v.items) c.args.loggers.now c.args.number _ {a = c.args.port.now} c.dump_shared.result
     {b = c.dump_shared.new.outlet} {l = c.dump_shared.new.keeper} c.requires.known c.dump_shared.ensures.dumped c.dump_shared.ensures.err in
     sym (left.1.seat ∙ c.keeper-keeper.ensures.seat.0)
 
 pub returns-clause-dumped : goal.returns-clause-dumped
 returns-clause-dumped g c = λ s e.
     let dumped = simp (to_z-of_z, c.ranges.time) at c.dump_shared.ensures.dumped in
-    keeps_dump (λ v. v.items) (without_waiting s.policy) c.args.number c.args.time c.args.thread c.args.port.now c.dump_shared.new.outlet _ c.dump_shared.new.keeper
-    c.args.self.now _ c.dump_shared.result (
-      c.keeper-keeper.ensures.lane ∙ c.deref.ensures ∙ ap (λ (v : BacktraceSeatView). v.lane) c.self.view_is,
-      c.keeper-keeper.ensures.seat.1 ∙ ap (λ (v : BacktraceSeatView). v.seat) c.self.view_is,
-      c.keeper-keeper.ensures.scratch.1 ∙ ap (λ (v : BacktraceSeatView). v.scratch) c.self.view_is,
-    )
-    (ap (λ (b : Bor (LaneId Room)). b.now) c.dump_shared.ensures.lane ∙ c.keeper-keeper.ensures.lane ∙ c.deref.ensures, refl, refl)
+    keeps_dump (λ v. v.items) (without_waiting s.policy) c.args.number c.args.time c.args.thread c.args.port.now c.dump_shared.new.outlet
+    {l = c.dump_shared.new.keeper} {v = c.args.self.now} c.dump_shared.result (record {
+      lent = (
+        c.keeper-keeper.ensures.lane ∙ c.deref.ensures ∙ ap (λ (v : BacktraceSeatView). v.lane) c.self.view_is,
+        c.keeper-keeper.ensures.seat.1 ∙ ap (λ (v : BacktraceSeatView). v.seat) c.self.view_is,
+        c.keeper-keeper.ensures.scratch.1 ∙ ap (λ (v : BacktraceSeatView). v.scratch) c.self.view_is,
+      );
+      left = (ap (λ (b : Bor (LaneId Room)). b.now) c.dump_shared.ensures.lane ∙ c.keeper-keeper.ensures.lane ∙ c.deref.ensures, refl, refl);
+    })
     (dumped s e)
 
 pub returns-clause-port : goal.returns-clause-port
 returns-clause-port g c =
-    let left = dump_leaves (λ v. v.items) c.args.loggers.now c.args.number _ _ {a = c.args.port.now} c.dump_shared.result
+    let left = dump_leaves (λ v. v.items) c.args.loggers.now c.args.number _ {a = c.args.port.now} c.dump_shared.result
     {b = c.dump_shared.new.outlet} {l = c.dump_shared.new.keeper} c.requires.known c.dump_shared.ensures.dumped c.dump_shared.ensures.err in
     (c.dump_shared.ensures.ready.0, left.0)

@@ -25,12 +25,15 @@ shape_of-self-inside-2 g c =
 
 pub returns-clause-logs : goal.returns-clause-logs
 returns-clause-logs g c = λ s e.
-    keeps_log NeverPasses s.policy s _ c.args.port.now c.log_ref.new.outlet _ c.log_ref.new.keeper c.args.self.now _ c.log_ref.result (
-      c.keeper-keeper.ensures.lane ∙ c.deref.ensures ∙ ap (λ (v : BacktraceSeatView). v.lane) c.self.view_is,
-      c.keeper-keeper.ensures.seat.1 ∙ ap (λ (v : BacktraceSeatView). v.seat) c.self.view_is,
-      c.keeper-keeper.ensures.scratch.1 ∙ ap (λ (v : BacktraceSeatView). v.scratch) c.self.view_is,
-    )
-    (ap (λ (b : Bor (LaneId Room)). b.now) c.log_ref.ensures.lane ∙ c.keeper-keeper.ensures.lane ∙ c.deref.ensures, refl, refl)
+    keeps_log NeverPasses s.policy s _ c.args.port.now c.log_ref.new.outlet {l = c.log_ref.new.keeper} {v = c.args.self.now}
+    c.log_ref.result (record {
+      lent = (
+        c.keeper-keeper.ensures.lane ∙ c.deref.ensures ∙ ap (λ (v : BacktraceSeatView). v.lane) c.self.view_is,
+        c.keeper-keeper.ensures.seat.1 ∙ ap (λ (v : BacktraceSeatView). v.seat) c.self.view_is,
+        c.keeper-keeper.ensures.scratch.1 ∙ ap (λ (v : BacktraceSeatView). v.scratch) c.self.view_is,
+      );
+      left = (ap (λ (b : Bor (LaneId Room)). b.now) c.log_ref.ensures.lane ∙ c.keeper-keeper.ensures.lane ∙ c.deref.ensures, refl, refl);
+    })
     (c.log_ref.ensures.logs s e)
 
 pub returns-clause-within : goal.returns-clause-within

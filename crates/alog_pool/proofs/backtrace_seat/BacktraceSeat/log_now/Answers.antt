@@ -1,6 +1,5 @@
 use Rattle.std.proofs.Common.{◌≡◌, ◌⊎◌, Bor, Some, refl, sym, ap, subst, ◌∙◌}
 use Rattle.std.specs.Prelude.{IfOk}
-use Rattle.std.specs.Arc.{arc_value}
 use Rattle.alog_lane.specs.Calls.{LaneId}
 use Rattle.alog_policy.specs.Progress.{without_waiting}
 use Rattle.alog_pool.specs.BacktraceSeat.{BacktraceSeatView}
@@ -41,12 +40,15 @@ returns-clause-logs c = λ s e.
     let left = log_now_leaves (λ (s : Spec). without_waiting s.policy) c.args.loggers.now c.args.given.logger _ {a = c.args.port.now}
     c.log_ref_now.result {b = c.log_ref_now.new.outlet} {l = c.log_ref_now.new.keeper} c.requires.known c.log_ref_now.ensures.logs
     c.log_ref_now.ensures.err in
-    keeps_log Passes (without_waiting s.policy) s _ c.args.port.now c.log_ref_now.new.outlet _ c.log_ref_now.new.keeper c.args.self.now _ c.log_ref_now.result (
-      c.keeper-keeper.ensures.lane ∙ c.deref.ensures ∙ ap (λ (v : BacktraceSeatView). v.lane) c.self.view_is,
-      c.keeper-keeper.ensures.seat.1 ∙ ap (λ (v : BacktraceSeatView). v.seat) c.self.view_is,
-      c.keeper-keeper.ensures.scratch.1 ∙ ap (λ (v : BacktraceSeatView). v.scratch) c.self.view_is,
-    )
-    (ap (λ (b : Bor (LaneId Room)). b.now) left.keeper.lane ∙ c.keeper-keeper.ensures.lane ∙ c.deref.ensures, refl, refl)
+    keeps_log Passes (without_waiting s.policy) s _ c.args.port.now c.log_ref_now.new.outlet {l = c.log_ref_now.new.keeper}
+    {v = c.args.self.now} c.log_ref_now.result (record {
+      lent = (
+        c.keeper-keeper.ensures.lane ∙ c.deref.ensures ∙ ap (λ (v : BacktraceSeatView). v.lane) c.self.view_is,
+        c.keeper-keeper.ensures.seat.1 ∙ ap (λ (v : BacktraceSeatView). v.seat) c.self.view_is,
+        c.keeper-keeper.ensures.scratch.1 ∙ ap (λ (v : BacktraceSeatView). v.scratch) c.self.view_is,
+      );
+      left = (ap (λ (b : Bor (LaneId Room)). b.now) left.keeper.lane ∙ c.keeper-keeper.ensures.lane ∙ c.deref.ensures, refl, refl);
+    })
     (c.log_ref_now.ensures.logs s e)
 
 pub returns-clause-within : goal.returns-clause-within

@@ -150,9 +150,12 @@ returns-clause-ends g c =
           left.losses_unused.0 left.losses_unused.1 c.gather.ensures.seats c.close_book-lost.ensures collected.handled_is c.of.ensures;
       tickets = collected.tickets_are;
       sinks = all_closed g.S.Store.tells g.S.Store.files g.S.Store.failures inside.sink_seats.items c.collect-handled.new.sink_seats.items
-          (map (λ (h : Worker S). h.sink_seats.items) crew) c.close_sink_seats.new.sinks.items c.close_sink_seats.new.faults.items collected.places
-          c.close_sink_seats.ensures left.sink_seats_unused
-          (rows_counted shared (lanes_of inside.sink_seats.items) inside.tickets_max starts crew pool.began collected.worked);
+          (map (λ (h : Worker S). h.sink_seats.items) crew) c.close_sink_seats.new.sinks.items c.close_sink_seats.new.faults.items (record {
+            back = collected.places;
+            unused = left.sink_seats_unused;
+            counted = rows_counted shared (lanes_of inside.sink_seats.items) inside.tickets_max starts crew pool.began collected.worked;
+          })
+          c.close_sink_seats.ensures;
     })
 
 pub returns-clause-all : goal.returns-clause-all

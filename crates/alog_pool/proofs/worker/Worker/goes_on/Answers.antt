@@ -111,7 +111,7 @@ returns g c = λ start at_work turned.
       record {
         gots = turned.gots ++ (t, x) ∷ [];
         took = took_more start.pass.known old.pass.known c.take_waiting.new.pass.known turned.gots ((t, x) ∷ []) turned.took found.0;
-        turns = made_for (arc_value start.shared).loggers start.sink_seats.items old.sink_seats.items c.handle.new.sink_seats.items turned.gots t x
+        turns = made_for (arc_value start.shared).loggers start.sink_seats.items old.sink_seats.items c.handle.new.sink_seats.items turned.gots (t, x)
             turned.turns (subst (λ (z : Shared × Item). HaveMade 0 old.sink_seats.items c.handle.new.sink_seats.items (dues_of z.0.loggers t z.1))
             (λ i. ((c.deref-2.ensures ∙ at_work.shared) i, c.item-2.ensures i)) c.handle.ensures.turns);
       },
