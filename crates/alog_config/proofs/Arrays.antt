@@ -87,11 +87,7 @@ pub same_tables : (xs ys : List Members) → map table xs ≡ map table ys → x
 same_tables xs ys e = sym (back_of_map table members_in (λ x. refl) xs) ∙ ap (map members_in) e
     ∙ back_of_map table members_in (λ x. refl) ys
 
--- an array is a list of names, or it is none
-pub names_given : (d : Data) (ds : List Data) (texts : List (List ℕ)) → d ≡ array (items_of ds) → ds ≡ map string texts → AreNames texts
-    → IsNameList d texts
-names_given d ds texts is e are = (subst (λ (vs : List Data). d ≡ array (items_of vs)) e is, are)
-
+-- an array that is no list of names
 pub no_texts : (d : Data) (ds : List Data) → d ≡ array (items_of ds) → IsTexts ds None → (names : List (List ℕ)) → ¬ IsNameList d names
 no_texts d ds is none names h = none names (same_values ds (map string names) (sym is ∙ h.0))
 
@@ -101,11 +97,7 @@ no_names d ds texts is e bad names h =
     let same : texts ≡ names = same_texts texts names (sym e ∙ same_values ds (map string names) (sym is ∙ h.0)) in
     bad (subst AreNames (sym same) h.1)
 
--- an array is one of tables, or it is none
-pub tables_given : (d : Data) (ds : List Data) (v : LentTables) → d ≡ array (items_of ds) → ds ≡ map table (tables_in v)
-    → length (tables_in v) ≤ TABLES_MAX → IsTableArray d v
-tables_given d ds v is e few = (subst (λ (vs : List Data). d ≡ array (items_of vs)) e is, few)
-
+-- an array that is none of tables
 pub no_tables : (d : Data) (ds : List Data) → d ≡ array (items_of ds) → AreLent ds None → (v : LentTables) → ¬ IsTableArray d v
 no_tables d ds is none v h = none (tables_in v) (same_values ds (map table (tables_in v)) (sym is ∙ h.0))
 

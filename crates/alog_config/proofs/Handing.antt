@@ -54,12 +54,6 @@ next_store {S} (s ∷ ss) (suc k) store rest e =
     let next : suc k + 1 ≡ suc (k + 1) = omega arith in
     (r.0, ap (λ n. drop n (s ∷ ss)) next ∙ r.1)
 
-pub some_store : {S : Type 0} (stores left : List S) (k : ℕ) → left ≡ drop k stores → k < length stores → left ≡ drop 1 left → ⊥
-some_store {S} stores left k e within same =
-    let all = ap (λ (xs : List S). length xs) e ∙ length-drop k stores in
-    let none = ap (λ (xs : List S). length xs) same ∙ length-drop 1 left in
-    omega (arith, all, none, within)
-
 has_dropped : {A : Type 0} (P : A → Type 0) (k : ℕ) (xs : List A) → Has P (drop k xs) → Has P xs
 has_dropped P zero xs h = h
 has_dropped P (suc k) [] h = h

@@ -267,10 +267,6 @@ module _ {S : Type 0} (tells : Bool) (files : S → Files) (failures : S → ℕ
             (sym more) whole;
       }
 
-  -- nothing is built yet
-  pub no_part : (c : Config) (stores : List S) → AreBuilt tells files failures c stores 0 []
-  no_part c stores = record { parts = []; of = refl; each = λ n p e. absurd (cc e); picked = refl }
-
   -- a sink over a store of its own
   pub next_leaf : {c : Config} {stores : List S} {i : ℕ} {left : List (Part S)} {s : SinkConfig} (p : Part S)
       {file pattern : List ℕ} {upkeep : Upkeep} {store : S}

@@ -3,15 +3,11 @@ use Rattle.std.proofs.Common.{◌≡◌, ℕ, zero, suc, ◌+◌, ◌<◌, List,
 use Rattle.std.proofs.Common.{None, slice_get, refl, sym, ap, subst, ◌∙◌, arith, append_assoc, append-nil}
 use Rattle.alog_config.specs.declared.config.LoggerConfig.{LoggerConfig}
 use Rattle.alog_config.specs.declared.config.SinkConfig.{SinkConfig}
-use Rattle.std.specs.declared.result.Result.TheVariants.{Ok, Err}
+use Rattle.std.specs.declared.result.Result.TheVariants.{Err}
 use Rattle.alog_config.specs.Fields.{AreTopFields}
 use Rattle.alog_config.specs.Meaning.{AreLoggers, AreSinks, Has, IsAnswer, IsLogger, IsLoggersFault, IsRefusedLogger}
-use Rattle.alog_config.specs.Meaning.{IsRefusedSink, IsSink, IsSinksFault, IsTableAnswer, IsTop, Reads, fault_at}
+use Rattle.alog_config.specs.Meaning.{IsRefusedSink, IsSink, IsSinksFault, IsTableAnswer, IsTop, fault_at}
 use Rattle.alog_config.specs.Meaning.{limit_of}
-use Rattle.alog_config.specs.declared.config.Config.{Config}
-use Rattle.std.specs.Str.{IsUtf8}
-use Rattle.std.specs.declared.result.Result.{Result}
-use Rattle.toml.specs.Parse.{parse_document}
 use Rattle.alog_config.specs.Rules.{IsFirst, TopBreaks, order}
 use Rattle.alog_config.specs.Values.{LentTables, tables_in}
 use Rattle.alog_config.specs.declared.fault.ConfigFault.{ConfigFault}
@@ -122,12 +118,3 @@ logger_fault v w sinks (faults.Broken rule places.Top) top are h = absurd h
 logger_fault v w sinks (faults.Broken rule (places.Sink i)) top are h = absurd h
 logger_fault {f} v w sinks (faults.Broken rule (places.Logger i)) top are h =
     record { fields = f; sink_tables = tables_in v; logger_tables = tables_in w; top = top; sinks = sinks; are = are; refused = h }
-
--- what is read of a document whose table is this
-pub reads_table : (document : List ℕ) (t : Members) (answer : Result Config ConfigFault) → IsUtf8 document
-    → parse_document document ≡ Some t
-    → IsAnswer t answer → Reads document answer
-reads_table document t (Ok c) utf8 is h = (utf8, (t, is, h))
-reads_table document t (Err faults.NotToml) utf8 is h = absurd h
-reads_table document t (Err faults.OutOfMemory) utf8 is h = tt
-reads_table document t (Err (faults.Broken rule place)) utf8 is h = (utf8, (t, is, h))
