@@ -13,7 +13,7 @@ use Rattle.alog_core.specs.declared.round.Round.{Round}
 use Rattle.alog_core.specs.declared.round.Round.TheVariants as round
 use Rattle.alog_core.specs.declared.said.Said.{Said}
 use Rattle.alog_core.specs.declared.said.Said.TheVariants as said
-use Rattle.alog_policy.specs.Desk.{DeskView, fresh_desk, post_of, call_began, post_began, Follows, Stays, Ends, Leads, follows, value_in, or_else}
+use Rattle.alog_policy.specs.Desk.{DeskView, fresh_desk, post_of, post_began, Follows, Stays, Ends, Leads, follows, value_in, or_else}
 use Rattle.alog_policy.specs.Desk.{said_in_post, with_said, call_of, hand_of, turn_to, turn_of, desk_told, desk_stepped, after_step, answer_of}
 use Rattle.alog_policy.specs.declared.counts.Counts.{Counts}
 use Rattle.alog_policy.specs.declared.policy.Policy.{Policy}
@@ -214,9 +214,6 @@ module _ {T : Type 0} (P : T → Type 0) where
   answer_short d a h = answer_has d a (post_of d a) h
 
   -- after a call has begun
-  pub call_began_has : (d : DeskView T) (a : ℕ) (r : Round T) → HasOnly P (brought r) → DeskHas P d → DeskHas P (call_began d a r)
-  call_began_has d a r h k = record { world = began_has d.world a r h k.world; posts = k.posts }
-
   pub post_began_has : (d : DeskView T) (a : ℕ) (p : Policy) (x : T) → P x → DeskHas P d → DeskHas P (post_began d a p x)
   post_began_has d a p x h k =
       record { world = began_has d.world a (round.Push x) h k.world; posts = All-set (λ q. HandHasOnly P q) d.posts a _ tt k.posts }

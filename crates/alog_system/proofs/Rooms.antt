@@ -1,6 +1,6 @@
 -- What loggers keep.
 use Rattle.std.proofs.Common.{◌≡◌, ◌<◌, ℕ, List, [], ◌∷◌, length, map, refl, sym, ap, ◌∙◌, get_or, set, arith}
-use Rattle.std.proofs.Common.{length-set, ◌+◌, ◌++◌, take, drop, zero, suc, Option, Some}
+use Rattle.std.proofs.Common.{◌+◌, ◌++◌, take, drop, zero, suc, Option, Some}
 use Rattle.std.specs.Prelude.{unwrap_or}
 use Rattle.std.proofs.Math.Seq.{map-set_same}
 use Rattle.alog_msg.specs.declared.level.Level.{Level}
@@ -18,11 +18,6 @@ pub same_rooms : (loggers : List Logger) (levels : List Level) (kept : List Room
     → empty_of other ≡ empty_of (get_or kept n (room 0)) → IsRoster loggers levels kept → IsRoster loggers levels (set kept n other)
 same_rooms loggers levels kept n other e r =
     record { each = r.each; rooms = map-set_same empty_of kept n other (room 0) e ∙ r.rooms }
-
--- another level in its place
-pub same_levels : (loggers : List Logger) (levels : List Level) (kept : List Room) (n : ℕ) (level : Level)
-    → IsRoster loggers levels kept → IsRoster loggers (set levels n level) kept
-same_levels loggers levels kept n level r = record { each = length-set levels n level ∙ r.each; rooms = r.rooms }
 
 -- where a list is made element by element of the specs of loggers
 pub more_made : {X : Type 0} (f : Spec → X) (loggers : List Logger) (i : ℕ) (s : Spec) → spec_at loggers i ≡ Some s

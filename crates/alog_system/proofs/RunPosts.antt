@@ -93,10 +93,6 @@ module _ {T : Type 0} where
       let all : posts_in cs ≡ posts_in h.ended + posts_in h.current = ap posts_in h.order ∙ posts_append h.ended h.current in
       omega (arith, whole, current, all)
 
-  none_by : (o : Option (Post T)) (many ended : ℕ) → Ahead o many ended → many ≡ ended → o ≡ None
-  none_by None many ended h e = refl
-  none_by (Some p) many ended h e = absurd (omega (arith, h, e))
-
   some_by : (o : Option (Post T)) (many ended : ℕ) → Ahead o many ended → many ≡ ended + 1 → (p : Post T) × (o ≡ Some p)
   some_by None many ended h e = absurd (omega (arith, h, e))
   some_by (Some p) many ended h e = (p, refl)
@@ -122,9 +118,6 @@ module _ {T : Type 0} where
     none_where_idle idle =
         none_idle (post_of d a) (round_of d.world a) (calls_made a calls) (events_made a steps) (outcomes_made a steps)
         (idle_is (round_of d.world a) idle) cut
-
-    pub none_where_even : posts_in (calls_made a calls) ≡ length (outcomes_made a steps) → post_of d a ≡ None
-    none_where_even even = none_by (post_of d a) (posts_in (calls_made a calls)) (length (outcomes_made a steps)) (ahead_of (post_of d a) refl) even
 
     pub some_where_ahead : posts_in (calls_made a calls) ≡ length (outcomes_made a steps) + 1 → (p : Post T) × (post_of d a ≡ Some p)
     some_where_ahead more = some_by (post_of d a) (posts_in (calls_made a calls)) (length (outcomes_made a steps)) (ahead_of (post_of d a) refl) more

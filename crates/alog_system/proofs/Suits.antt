@@ -1,11 +1,10 @@
 -- A sink that suits the text limit does so after each turn, too.
-use Rattle.std.proofs.Common.{◌≡◌, ◌<◌, ◌≤◌, ℕ, Bool, Some, List, [], ◌∷◌, length, Result, sym, subst, get_or, set, arith}
-use Rattle.std.proofs.Common.{zero, suc, cond, Option, None, ◌*◌}
+use Rattle.std.proofs.Common.{◌≡◌, ◌<◌, ℕ, Bool, Some, List, [], ◌∷◌, length, Result, sym, subst, get_or, set}
+use Rattle.std.proofs.Common.{zero, suc, cond, Option, None}
 use Rattle.std.specs.Prelude.{slice_get, IfSome}
 use Rattle.std.specs.Option.{option_map}
 use Rattle.std.specs.List.{All}
 use Rattle.std.proofs.lemmas.List.Elements.{All-nil, All-head, All-tail, All-set, All-get_or, All-map, All-append}
-use Rattle.std.proofs.lemmas.List.{length-map, length-append}
 use Rattle.std.proofs.lemmas.Option.{get_or_from_slice_get, slice_get_within}
 use Rattle.alog_msg.specs.declared.item.Item.{Item}
 use Rattle.alog_msg.specs.declared.item.Item.TheVariants as item
@@ -53,19 +52,7 @@ module _ (limit capacity : ℕ) where
         let new = suits_after t t.deed i o told n h old in
         record { least = a.least; most = a.most; each = All-set IsSuited all t.sink n new a.each }
 
--- The turns of a work are on the sinks of its logger, and not more than twice as many.
-pub turns_short : (spec : Spec) (ticket : ℕ) (i : Item) → length (turns_of spec ticket i) ≤ 2 * length spec.sinks.items
-turns_short spec ticket (item.Text m) =
-    let n = length spec.sinks.items in
-    let on : (d : SinkDeed) → length (turns_on spec.sinks.items ticket d) ≡ n = λ d. length-map spec.sinks.items _ in
-    let due = is_flush_due spec m.level in
-    let more : List SinkTurn = cond due (turns_on spec.sinks.items ticket deed.Flush) [] in
-    let bound : length more ≤ n =
-    either (λ (ts : List SinkTurn). length ts ≤ n) due (turns_on spec.sinks.items ticket deed.Flush) [] (omega (arith, on deed.Flush)) (omega arith) in
-    omega (arith, length-append (turns_on spec.sinks.items ticket deed.Take) more, on deed.Take, bound)
-turns_short spec ticket (item.Flush n) = omega (arith, length-map spec.sinks.items (λ (s : ℕ). let t : SinkTurn = record { sink = s; tag = ticket; deed = deed.Flush } in t))
-turns_short spec ticket item.Stop = omega arith
-
+-- The turns of a work are on the sinks of its logger.
 turns_in : (count : ℕ) (spec : Spec) (ticket : ℕ) (d : SinkDeed) → All (λ s. s < count) spec.sinks.items
     → All (λ (t : SinkTurn). t.sink < count) (turns_on spec.sinks.items ticket d)
 turns_in count spec ticket d all = All-map (λ (t : SinkTurn). t.sink < count) _ spec.sinks.items all
