@@ -6,6 +6,7 @@ pub mod LineError
 pub mod Line
 pub mod Options
 pub mod LoadOptions
+pub mod PipeOptions
 pub mod CommandLine
 pub mod Formats
 pub mod Checks

@@ -2,9 +2,9 @@
 ghost use Rattle.std.specs.Prelude.{◌≡◌, IfOk, Some, false};
 ghost use Rattle.clap.specs.Words.{App, app_of, rule_of, with_subcommand};
 ghost use Rattle.clap.specs.declared.builder.texts.Texts.TheVariants.{One};
-ghost use Rattle.alog_program.specs.CommandLine.{StandsFor, alog_app, argument_of, check_app, format_app, load_app, option_of, origin_options, replay_app, with_rules};
+ghost use Rattle.alog_program.specs.CommandLine.{StandsFor, alog_app, argument_of, check_app, flag_of, format_app, load_app, needed_option_of, option_of, origin_options, pipe_app, replay_app, with_rules};
 
-use clap::{Arg, Command};
+use clap::{Arg, ArgAction, Command};
 use std::alloc::{AllocError, Global};
 
 /// The program's command line.
@@ -18,7 +18,8 @@ pub(crate) fn alog<'a>(alloc: Global) -> Result<Command<'a>, AllocError>
     let command = with(command, replay(alloc))?;
     let command = with(command, format(alloc))?;
     let command = with(command, check(alloc))?;
-    with(command, load(alloc))
+    let command = with(command, load(alloc))?;
+    with(command, pipe(alloc))
 }
 
 /// The command with this one below it, if this one could be made.
@@ -96,6 +97,20 @@ fn load<'a>(alloc: Global) -> Result<Command<'a>, AllocError>
         .arg(option(alloc, "folder", "DIR", FOLDER_HELP))
 }
 
+/// The command `alog pipe`.
+fn pipe<'a>(alloc: Global) -> Result<Command<'a>, AllocError>
+    ensures { IfOk result (λ command. StandsFor command pipe_app) }
+{
+    Command::new(alloc, "pipe")
+        .about("Log each line of standard input")
+        .long_about(PIPE_HELP)
+        .arg(argument(alloc, "CONFIG", "The configuration, in TOML"))?
+        .arg(needed_option(alloc, "folder", "DIR", PIPE_FOLDER_HELP))?
+        .arg(option(alloc, "logger", "NAME", LOGGER_HELP))?
+        .arg(option(alloc, "level", "L", LEVEL_HELP))?
+        .arg(flag(alloc, "totals", TOTALS_HELP))
+}
+
 /// An argument that is needed.
 fn argument<'a>(alloc: Global, name: &'a str, help: &'a str) -> Arg<'a>
     ensures rule { rule_of result ≡ argument_of name.entry.now }
@@ -115,6 +130,28 @@ fn option<'a>(alloc: Global, name: &'a str, value: &'a str, help: &'a str) -> Ar
     Arg::new(alloc, name)
         .long(name)
         .value_name(value)
+        .help(help)
+}
+
+/// An option with a value that is needed.
+fn needed_option<'a>(alloc: Global, name: &'a str, value: &'a str, help: &'a str) -> Arg<'a>
+    ensures rule { rule_of result ≡ needed_option_of name.entry.now }
+    ensures global { result.global ≡ false }
+    ensures value { result.val_names ≡ One value.entry }
+    ensures help { result.help ≡ Some help.entry }
+{
+    option(alloc, name, value, help).required(true)
+}
+
+/// An option without a value.
+fn flag<'a>(alloc: Global, name: &'a str, help: &'a str) -> Arg<'a>
+    ensures rule { rule_of result ≡ flag_of name.entry.now }
+    ensures global { result.global ≡ false }
+    ensures help { result.help ≡ Some help.entry }
+{
+    Arg::new(alloc, name)
+        .long(name)
+        .action(ArgAction::SetTrue)
         .help(help)
 }
 
@@ -254,3 +291,36 @@ a store that failed or a write fault, 4 no memory.
 A fault prints `alog: refused N` on standard error: 1 no memory, 20 a number that is out of its bounds, 22 a
 store that failed, 35 a write fault. Where a store failed in the course of the load, 22 stands behind the
 five lines. Of a file that is no configuration it says what `alog check` says, and there is no load.";
+
+const PIPE_FOLDER_HELP: &str = "The folder for the files of the sinks";
+
+const LOGGER_HELP: &str = "The name of the logger [the first]";
+
+const TOTALS_HELP: &str = "Print the totals on standard output, and not on standard error";
+
+const PIPE_HELP: &str = "Log each line of standard input, up to its end.
+
+CONFIG is a configuration, of which `alog check --help` has the keys. Each line is logged to the logger, at the
+level and at the time at which it was read; the last line may lack its newline. What is not UTF-8 becomes
+U+FFFD, and a line that is longer than the text limit goes in pieces, cut before a character that does not fit.
+
+Under the policy block a line waits for room in the queue. Under the others none waits, and where one is
+refused, the log has a line in its place as soon as there is room again: `N lines are missing here`.
+
+The files of the sinks are files of the folder DIR, which has to be there, and is held by one pipe, load or
+server at a time; lines are written behind what a file has. To let a service end, close its output: with
+`trap '' INT TERM` before it a pipe goes on to the end of its input.
+
+At the end it prints, on standard error:
+
+  lines N                       read
+  bytes N                       of their texts
+  mended N                      U+FFFD for what is not UTF-8
+  cut N                         cuts of lines that were too long
+  missing N                     lines or pieces that were refused
+
+and behind them the five totals that `alog load --help` has.
+
+Exit status: 0 each line was handled, but for those that the policy lost, 1 a wrong command line or a logger
+that is not there, 2 a refused configuration, 3 a file that cannot be read, a folder that takes no files or is
+held by another, a read fault, a store that failed or a write fault, 4 no memory.";

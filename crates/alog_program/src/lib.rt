@@ -3,7 +3,7 @@
 //! `program.rt` has `run`: the whole program over any reader and two writers, which answers the exit status. `words.rt` reads the
 //! command line into a request (`request.rt`): `command.rt` has the commands and their help for `clap`, and `options.rt` and
 //! `load_options.rt` read the values that it found. `line.rt` makes the line of `alog format`, `check.rt`, `replay_config.rt` and
-//! `load.rt` (with `progress.rt`) do what begins with the configuration of a file, and `status.rt` says which status and which number
+//! `load.rt` (with `progress.rt`) and `pipe.rt` (with `pipe_options.rt`) do what begins with the configuration of a file, and `status.rt` says which status and which number
 //! each fault has; `ended.rt` says why a replay ended early, by what `traced.rt` remembers of its script and its output, and
 //! `script_words.rt` which word of a refused line is wrong. `arguments.rt` collects the words that the system gave, for `main` in the crate `alog`. The
 //! tests are in the crate `test_program`.
@@ -18,6 +18,8 @@ mod line;
 mod load;
 mod load_options;
 mod options;
+mod pipe;
+mod pipe_options;
 mod program;
 mod progress;
 mod replay_config;

@@ -211,7 +211,7 @@ fn refuse_asked<E: Write>(
 }
 
 /// Says which sink could not be opened, and what the system said of it. Where there is no memory for the words, nothing is said.
-fn say_unopened<E: Write>(
+pub(crate) fn say_unopened<E: Write>(
     alloc: Global,
     config: &Config,
     sink: usize,
@@ -242,7 +242,7 @@ fn say_bounds<E: Write>(request: &LoadRequest<'_>, errors: &mut E) {
 }
 
 /// Writes the lines of a load's fault, its number and what it is, and answers its status.
-fn refuse_load<E: Write>(fault: LoadError, errors: &mut E) -> u8
+pub(crate) fn refuse_load<E: Write>(fault: LoadError, errors: &mut E) -> u8
     ensures { result ≡ load_status_of fault }
 {
     let number = load_number_of(fault);
@@ -254,7 +254,7 @@ fn refuse_load<E: Write>(fault: LoadError, errors: &mut E) -> u8
 }
 
 /// Writes the lines of a load that was made, at which a store failed, and answers its status.
-fn refuse_store<E: Write>(errors: &mut E) -> u8
+pub(crate) fn refuse_store<E: Write>(errors: &mut E) -> u8
     ensures { result ≡ 3 }
 {
     let _ = writeln!(errors, "alog: refused 22\nalog: a store failed");

@@ -239,7 +239,7 @@ fn unsigned<'a>(
 }
 
 /// The level, or `info` where it is not given.
-fn level<'a>(matches: &ArgMatches<'a>) -> Result<Level, ValueError<'a>>
+pub(crate) fn level<'a>(matches: &ArgMatches<'a>) -> Result<Level, ValueError<'a>>
     ensures read { IfOk result (IsLevel (value_of matches.now (codes "level"))) }
     ensures allowed { IfOk result (λ _. IsAllowed (value_of matches.now) FormatOption.Level) }
     ensures refused { IfErr result (Refuses (value_of matches.now) FormatOption.Level) }

@@ -16,6 +16,7 @@ use crate::check::check_command;
 use crate::ended::{end_replay, fail_to_write};
 use crate::line::line_of;
 use crate::load::load_command;
+use crate::pipe::pipe_command;
 use crate::progress::Screen;
 use crate::replay_config::replay_config_command;
 use crate::request::{LineRequest, Request};
@@ -43,8 +44,8 @@ use std::time::Clock;
 /// `alog replay` replays the script of `input`, as `alog_replay::replay` does, or with `--config` on the configuration of
 /// a file, as `replay_config` does; where that file has none, nothing is read of the script and nothing is written on
 /// `output`. `alog format` writes the line that its arguments ask for. `alog load` makes a load, as `alog_load::load` does,
-/// and writes its totals; while it goes on, a terminal that standard error goes to shows how many messages were handled. No other
-/// command starts threads.
+/// and writes its totals; while it goes on, a terminal that standard error goes to shows how many messages were handled. `alog pipe`
+/// logs the lines of `input`, as `alog_pipe::pipe` does, and writes its totals. No other command starts threads.
 pub fn run<R, S: AsStr, I: Read, O: Write, E: Write>(
     rt: &R,
     words: &[S],
@@ -78,6 +79,7 @@ where
         Ok(Request::Format(request)) => format_command(rt.alloc(), &request, output, errors),
         Ok(Request::Check(file)) => check_command(rt, file, output, errors),
         Ok(Request::Load(request)) => load_command(rt, &request, output, errors),
+        Ok(Request::Pipe(request)) => pipe_command(rt, &request, input, output, errors),
         Err(WordsError::Value(fault)) => {
             let _ = writeln!(errors, "alog: {fault}");
             1

@@ -32,6 +32,20 @@ pub struct LoadRequest<'a> {
     pub folder: Option<&'a str>,
 }
 
+/// Lines of standard input to be logged through the loggers and sinks of a configuration.
+#[derive(Clone, Copy, Debug)]
+pub struct PipeRequest<'a> {
+    /// The path of the file that has the configuration.
+    pub file: &'a str,
+    /// The folder for the files of the sinks.
+    pub folder: &'a str,
+    /// The name of the logger, which is the first where there is none.
+    pub logger: Option<&'a str>,
+    pub level: Level,
+    /// Whether the totals go to standard output, and not to standard error.
+    pub totals: bool,
+}
+
 /// What the command line asks for.
 #[derive(Clone, Copy)]
 pub enum Request<'a> {
@@ -45,4 +59,6 @@ pub enum Request<'a> {
     Check(&'a str),
     /// `alog load`: a load.
     Load(LoadRequest<'a>),
+    /// `alog pipe`: the lines of standard input.
+    Pipe(PipeRequest<'a>),
 }

@@ -5,6 +5,7 @@ ghost use Rattle.alog_program.specs.CommandLine.{Asks, IsRefusedBy};
 use crate::command::alog;
 use crate::load_options::{LoadValueError, load_request};
 use crate::options::{ValueError, line_request, text};
+use crate::pipe_options::pipe_request;
 use crate::request::Request;
 use clap::Error;
 use std::alloc::{AllocError, Global};
@@ -15,7 +16,7 @@ use std::convert::AsStr;
 pub enum WordsError<'a> {
     /// What `clap` says: help, the version, usage, or that there is no memory.
     Clap(Error),
-    /// The value of an option of `alog format` is refused.
+    /// The value of an option of `alog format` is refused, or of the option `--level` of `alog pipe`.
     Value(ValueError<'a>),
     /// The value of an option of `alog load` is refused.
     LoadValue(LoadValueError<'a>),
@@ -80,6 +81,9 @@ pub fn read<'a, S: AsStr>(alloc: Global, words: &'a [S]) -> Result<Request<'a>, 
     }
     if let Some(load) = matches.subcommand_matches("load") {
         return Ok(Request::Load(load_request(load)?));
+    }
+    if let Some(pipe) = matches.subcommand_matches("pipe") {
+        return Ok(Request::Pipe(pipe_request(pipe)?));
     }
     match matches.subcommand_matches("check") {
         Some(check) => Ok(Request::Check(text(check, "FILE"))),

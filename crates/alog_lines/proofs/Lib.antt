@@ -1,0 +1,8 @@
+mod LineLemmas
+mod WindowLemmas
+mod CharLemmas
+mod PieceLemmas
+mod BuildLemmas
+mod FillLemmas
+mod CutLemmas
+mod LawLemmas

@@ -1,0 +1,41 @@
+-- What a cutter of lines holds, and what each call of it does.
+use Rattle.std.specs.Prelude.{◌≡◌, ◌≤◌, ◌<◌, ℕ, Bool, true, List, [], ◌∷◌, ◌++◌, length}
+use Rattle.alog_lines.specs.Lines.{IsUnbroken}
+use Rattle.alog_lines.specs.Pieces.{Piece, pieces_of}
+use Rattle.alog_lines.specs.declared.cutter.Cut.{Cut}
+
+-- The most bytes of a text, the bytes that were read and are in no piece yet, the text that was found last, and whether the reader was
+-- found at its end.
+pub record Cutting : Type 0 where
+  pub limit : ℕ
+  pub pending : List ℕ
+  pub text : List ℕ
+  pub ended : Bool
+
+-- these bytes may still come: none where the reader is at its end
+abbrev pub MayCome : Cutting → List ℕ → Type 0
+MayCome s more = s.ended ≡ true → more ≡ []
+
+-- the piece that a cut found
+abbrev pub piece_of : Cutting → Cut → Piece
+piece_of s cut = record { text = s.text; mended = cut.mended; ends = cut.ends }
+
+-- The piece was taken from the front of what is pending: whatever may still come, it is the first of the pieces, and what is pending
+-- now has the others.
+pub record Takes (old new : Cutting) (piece : Piece) : Type 0 where
+  pub taken : List ℕ
+  pub whole : old.pending ≡ taken ++ new.pending
+  pub some : 0 < length taken
+  pub fits : length piece.text ≤ old.limit
+  pub first : (more : List ℕ) → MayCome old more
+      → pieces_of old.limit (old.pending ++ more) ≡ piece ∷ pieces_of old.limit (new.pending ++ more)
+
+-- No piece can be told yet: no newline is pending, and no more than a text holds; at the end of the reader nothing is.
+pub record LacksPiece (s : Cutting) : Type 0 where
+  pub unbroken : IsUnbroken s.pending
+  pub few : length s.pending ≤ s.limit
+  pub none : s.ended ≡ true → s.pending ≡ []
+
+-- the same limit, and the reader no nearer to its end
+abbrev pub IsSame : Cutting → Cutting → Type 0
+IsSame old new = (new.limit ≡ old.limit) × (new.ended ≡ old.ended)

@@ -1,0 +1,7 @@
+pub mod Lines
+pub mod Pieces
+pub mod Window
+pub mod Cutting
+pub mod Front
+pub mod Building
+pub mod Laws

@@ -1,0 +1,11 @@
+-- The bytes of a window, and the room behind them.
+use Rattle.std.specs.Prelude.{ℕ, ◌-◌, List, slice_range, vec_len}
+use Rattle.alog_lines.specs.declared.window.Window.{Window}
+
+-- what was read and is in no piece yet
+abbrev pub held : Window → List ℕ
+held w = slice_range w.bytes.items w.start w.end
+
+-- how many bytes fit behind it
+abbrev pub room : Window → ℕ
+room w = vec_len w.bytes - w.end

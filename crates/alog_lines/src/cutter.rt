@@ -1,0 +1,247 @@
+//! What cuts the bytes of a reader into pieces of lines.
+ghost use Rattle.std.specs.Prelude.{◌≡◌, ◌≤◌, None, [], IfOk, IfSome, OnErr, IsUtf8, length, take, false, true};
+ghost use Rattle.std.specs.Io.KnownBytes.{Consumes, IsAtEnd, prepend_known};
+ghost use Rattle.alog_lines.specs.Building.{Builds, piece_built};
+ghost use Rattle.alog_lines.specs.Cutting.{IsSame, LacksPiece, Takes, piece_of};
+ghost use Rattle.alog_lines.specs.Front.{Begins};
+ghost use Rattle.alog_lines.specs.declared.cutter.TheConstants.{TEXT_LEAST, TEXT_MOST};
+
+use crate::build::{Built, build};
+use crate::front::{Front, front_of};
+use crate::window::Window;
+use std::alloc::{AllocError, Global};
+use std::io::{self, ErrorKind, Read};
+use std::marker::Model;
+use std::str;
+
+/// Each read has room for so many bytes at least.
+pub const CHUNK: usize = 65_536;
+
+/// The least limit on the bytes of a text: each character fits.
+pub const TEXT_LEAST: usize = 4;
+
+/// The greatest.
+pub const TEXT_MOST: usize = 65_536;
+
+/// What was found in the bytes that were read: a line, or a piece of one that is too long for a text.
+#[derive(Clone, Copy, Debug, PartialEq, Eq)]
+pub struct Cut {
+    /// Whether its line ends with it.
+    pub ends: bool,
+    /// How many U+FFFD in it stand for what is no character in UTF-8.
+    pub mended: usize,
+}
+
+/// What one read brought.
+#[derive(Clone, Copy, Debug, PartialEq, Eq)]
+pub enum Fill {
+    /// Bytes.
+    Bytes,
+    /// Nothing: it was interrupted, or more is pending than a text has, and nothing was read.
+    Nothing,
+    /// Nothing: the reader is at its end. It is read no more.
+    End,
+}
+
+/// Cuts what a reader gives into the pieces of its lines.
+///
+/// Contracts see the limit on a text, the bytes that were read and are in no piece yet, the text that was found last, and whether the reader
+/// was found at its end. The reader is handed to each read, so that they tell what was read from what remains.
+///
+/// ```text
+/// let mut lines = LineCutter::new(alloc, 2_048)?;
+/// while lines.fill(&mut input)? != Fill::End {
+///     while let Some(_) = lines.next() {
+///         println!(rt; "{}", lines.text())?;
+///     }
+/// }
+/// // The last line, where it has no newline.
+/// while let Some(_) = lines.next() { .. }
+/// ```
+#[derive(Debug, Drop)]
+pub struct LineCutter {
+    window: Window,
+    /// A text that is not as it was read. Its room is that of the longest.
+    built: String,
+    /// Whether the text that was found last is that one. Otherwise it lies in the window, from `start` to `end`.
+    is_built: bool,
+    start: usize,
+    end: usize,
+    limit: usize,
+    ended: bool,
+}
+
+impl Model for LineCutter {
+    ghost use Rattle.std.specs.Prelude.{◌≡◌, ◌+◌, ◌≤◌, IsUtf8, if◌then◌else◌, slice_range, vec_len};
+    ghost use Rattle.std.specs.String.{string_bytes, string_capacity};
+    ghost use Rattle.alog_lines.specs.Cutting.{Cutting};
+    ghost use Rattle.alog_lines.specs.Window.{held};
+    ghost use Rattle.alog_lines.specs.declared.cutter.TheConstants.{CHUNK, TEXT_LEAST, TEXT_MOST};
+
+    ghost Value = { Cutting };
+
+    ghost view = { λ c. record {
+      limit = c.limit;
+      pending = held c.window;
+      text = if c.is_built then string_bytes c.built else slice_range c.window.bytes.items c.start c.end;
+      ended = c.ended;
+    } };
+
+    ghost invariant = { λ c. (TEXT_LEAST ≤ c.limit) × (c.limit ≤ TEXT_MOST) × (vec_len c.window.bytes ≡ CHUNK + c.limit)
+        × (c.limit ≤ string_capacity c.built) × (c.start ≤ c.end) × (c.end ≤ vec_len c.window.bytes)
+        × ∥ IsUtf8 (slice_range c.window.bytes.items c.start c.end) ∥₁ };
+}
+
+impl LineCutter {
+    /// A cutter that has read nothing, of texts of at most so many bytes, 4 to 65,536. No other call takes memory.
+    pub fn new(alloc: Global, limit: usize) -> Result<LineCutter, AllocError>
+        requires { (TEXT_LEAST ≤ limit) × (limit ≤ TEXT_MOST) }
+        ensures { IfOk result (λ c. c ≡ record { limit = limit; pending = []; text = []; ended = false }) }
+    {
+        Ok(LineCutter {
+            window: Window::new(alloc, CHUNK + limit)?,
+            built: String::with_capacity(alloc, limit)?,
+            is_built: true,
+            start: 0,
+            end: 0,
+            limit,
+            ended: false,
+        })
+    }
+
+    /// The text that `next` found last. After a `fill` that read it is empty.
+    pub fn text(&self) -> &str
+        ensures { result.now ≡ self.now.text }
+    {
+        if self.is_built {
+            return self.built.as_str();
+        }
+        // What was found there was looked at: it is UTF-8.
+        unsafe { str::from_utf8_unchecked(self.window.part(self.start, self.end)) }
+    }
+
+    /// Reads once. Where more is pending than a text has, `next` is to be called first, and nothing is read. An error of the reader
+    /// leaves what is pending, and a later call reads on.
+    pub fn fill<R: Read>(&mut self, reader: &mut R) -> io::Result<Fill>
+        ensures rest { Consumes (prepend_known self.old.pending (R.remaining reader.old))
+            (prepend_known self.new.pending (R.remaining reader.new)) [] }
+        ensures end { IfOk result (λ fill. fill ≡ Fill.End → self.new.ended ≡ true) }
+        ensures ended { self.old.ended ≡ false → self.new.ended ≡ true → IsAtEnd (R.remaining reader.new) }
+        ensures stays { self.old.ended ≡ true → self.new ≡ self.old }
+        ensures limit { self.new.limit ≡ self.old.limit }
+        ensures err { OnErr result (self.new.pending ≡ self.old.pending) }
+    {
+        if self.ended {
+            return Ok(Fill::End);
+        }
+        if self.window.as_slice().len() > self.limit {
+            return Ok(Fill::Nothing);
+        }
+        self.forget();
+        self.window.move_to_front();
+        match self.window.read_from(reader) {
+            Ok(0) => {
+                self.ended = true;
+                Ok(Fill::End)
+            }
+            Ok(_) => Ok(Fill::Bytes),
+            Err(error) if error.kind() == ErrorKind::Interrupted => Ok(Fill::Nothing),
+            Err(error) => Err(error),
+        }
+    }
+
+    /// The next piece of what was read, which `text` then lends. There is none where more has to be read first, or nothing is left.
+    pub fn next(&mut self) -> Option<Cut>
+        ensures found { IfSome result (λ cut. Takes self.old self.new (piece_of self.new cut)) }
+        ensures none { result ≡ None → LacksPiece self.old × (self.new ≡ self.old) }
+        ensures same { IsSame self.old self.new }
+    {
+        match front_of(self.window.as_slice(), self.limit, self.ended) {
+            Front::Line { len, newline } => Some(self.take_line(len, newline)),
+            Front::Long => Some(self.take_long()),
+            Front::Part => None,
+        }
+    }
+
+    /// Makes the text empty.
+    fn forget(&mut self)
+        ensures { self.new ≡ record self.old { text = [] } }
+    {
+        self.built.clear();
+        self.is_built = true;
+        self.start = 0;
+        self.end = 0;
+    }
+
+    /// Takes the line that the pending bytes begin with, or its first piece.
+    fn take_line(&mut self, len: usize, newline: usize) -> Cut
+        requires { Begins self.old.pending self.old.limit self.old.ended (Front.Line len newline) }
+        ensures takes { Takes self.old self.new (piece_of self.new result) }
+        ensures same { IsSame self.old self.new }
+    {
+        match str::from_utf8(&self.window.as_slice()[..len]) {
+            Ok(_) => self.lend_line(len, newline),
+            Err(_) => self.build_line(len, newline),
+        }
+    }
+
+    /// Takes that line as it was read, which is in UTF-8.
+    fn lend_line(&mut self, len: usize, newline: usize) -> Cut
+        requires line { Begins self.old.pending self.old.limit self.old.ended (Front.Line len newline) }
+        requires text { IsUtf8 (take len self.old.pending) }
+        ensures takes { Takes self.old self.new (piece_of self.new result) }
+        ensures same { IsSame self.old self.new }
+    {
+        self.is_built = false;
+        self.start = self.window.start;
+        self.end = self.start + len;
+        self.window.consume(len + newline);
+        Cut {
+            ends: true,
+            mended: 0,
+        }
+    }
+
+    /// Takes the first piece of that line, which is built.
+    fn build_line(&mut self, len: usize, newline: usize) -> Cut
+        requires { Begins self.old.pending self.old.limit self.old.ended (Front.Line len newline) }
+        ensures takes { Takes self.old self.new (piece_of self.new result) }
+        ensures same { IsSame self.old self.new }
+    {
+        let Built { taken, mended } = self.build_first(len);
+        if taken == len {
+            self.window.consume(len + newline);
+            return Cut { ends: true, mended };
+        }
+        self.window.consume(taken);
+        Cut {
+            ends: false,
+            mended,
+        }
+    }
+
+    /// Takes the first piece of a line that is too long for a text.
+    fn take_long(&mut self) -> Cut
+        requires { Begins self.old.pending self.old.limit self.old.ended Front.Long }
+        ensures takes { Takes self.old self.new (piece_of self.new result) }
+        ensures same { IsSame self.old self.new }
+    {
+        let Built { taken, mended } = self.build_first(self.limit + 1);
+        self.window.consume(taken);
+        Cut {
+            ends: false,
+            mended,
+        }
+    }
+
+    /// Builds the first piece of a line that begins with so many pending bytes, which stay.
+    fn build_first(&mut self, len: usize) -> Built
+        requires { len ≤ length self.old.pending }
+        ensures builds { Builds self.old.limit (take len self.old.pending) result.taken (piece_built self.new.text result) }
+        ensures pending { self.new.pending ≡ self.old.pending }
+        ensures same { IsSame self.old self.new }
+    {
+        self.is_built = true;
+        build(&self.window.as_slice()[..len], self.limit, &mut self.built)
+    }
+}

@@ -1,0 +1,18 @@
+//! Pipes: the lines of a reader, logged one by one.
+//!
+//! `pipe` builds what a configuration names (`alog_server::setup_of`), starts a pool of it, and makes one producer, with which the thread
+//! of its caller logs each piece of each line (`alog_lines`) that the reader gives: at the time of the read that brought it, to one
+//! logger, at one level. Behind the pieces of a read it posts a flush. When the reader is at its end, or failed, the pool is ended.
+//!
+//! Under `block` a piece waits for room. Under the other policies none does; a piece that is refused is counted, and before the next one
+//! is posted a line at level warning says how many are missing there. What `overrun_oldest` took out of the queue is in the report alone.
+//!
+//! Read `piping.rt`, `pump.rt`, `counts.rt`.
+#![tactic(auto)]
+
+mod counts;
+mod piping;
+mod pump;
+
+pub use counts::Counts;
+pub use piping::{Piped, pipe};
