@@ -7,9 +7,9 @@ use Rattle.std.proofs.lemmas.List.{append-nil, drop-append-le, drop_all}
 use Rattle.bstr.specs.Utf8.{Decoded, decoded}
 use Rattle.bstr.proofs.lemmas.PieceLemmas.{piece-bounds, size-within}
 use Rattle.alog_lines.specs.Building.{Adds, Builds, IsFull}
-use Rattle.alog_lines.specs.Pieces.{Piece, nothing, with_char, ending, chars_in, pieces_behind, pieces_in}
+use Rattle.alog_lines.specs.Pieces.{Piece, nothing, with_char, chars_in, pieces_behind, pieces_in}
 use Rattle.alog_lines.specs.declared.cutter.TheConstants.{TEXT_LEAST}
-use Rattle.alog_lines.proofs.CharLemmas.{chars_in-step, chars_in-nil, decoded-front, decoded-short, width, length-with_char, width-most, width-none, size-width}
+use Rattle.alog_lines.proofs.CharLemmas.{chars_in-step, chars_in-nil, decoded-front, decoded-short, length-with_char, width-most, size-width}
 use Rattle.alog_lines.proofs.PieceLemmas.{behind-nil, behind-fits, behind-next}
 
 -- what may follow the bytes of a line: nothing, or anything where they are more than a text has

@@ -6,7 +6,7 @@ use Rattle.std.specs.Option.{unwrap_or}
 use Rattle.std.proofs.lemmas.Bool.{and_parts, cases_lt, cases_eq}
 use Rattle.std.proofs.lemmas.List.{drop_at, get_or_append_left}
 use lib.Utf8.{scalars}
-use Rattle.bstr.specs.Utf8.{Decoded, bad, good, decoded, decoded_by, second, continues, replacement, pieces}
+use Rattle.bstr.specs.Utf8.{Decoded, bad, good, decoded, decoded_by, second, continues, replacement}
 use Rattle.bstr.proofs.lemmas.EncodeLemmas.{decoded-encode}
 use Rattle.bstr.proofs.lemmas.PieceLemmas.{by-shape, decoded_by-cut, pieces-nil, pieces-step, value-4, value-7, value-10}
 use Rattle.bstr.proofs.lemmas.SoundLemmas.{SpellsChar-decoded}

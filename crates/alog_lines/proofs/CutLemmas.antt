@@ -1,13 +1,13 @@
 -- A piece that is taken from the front of what is pending.
-use Rattle.std.proofs.Common.{◌≡◌, ◌≢◌, ◌+◌, ◌-◌, ◌<◌, ◌≤◌, ℕ, zero, suc, Bool, true, List, [], ◌∷◌, ◌++◌, length, length-append, length-drop, length-take-le, take, drop, drop-drop, IsUtf8, refl}
+use Rattle.std.proofs.Common.{◌≡◌, ◌≢◌, ◌+◌, ◌-◌, ◌<◌, ◌≤◌, ℕ, zero, suc, Bool, true, false, List, [], ◌∷◌, ◌++◌, length, length-drop, length-take-le, take, drop, drop-drop, IsUtf8}
 use Rattle.std.proofs.Common.{sym, ap, subst, ◌∙◌, arith, append_assoc, take-append-drop, take_all}
 use Rattle.std.specs.List.{flat_map}
 use Rattle.std.proofs.lemmas.List.{append-nil, drop-append-le, drop-take, drop_all}
 use Rattle.alog_lines.specs.Building.{Builds}
-use Rattle.alog_lines.specs.Cutting.{Cutting, MayCome, Takes}
+use Rattle.alog_lines.specs.Cutting.{Cutting, Takes}
 use Rattle.alog_lines.specs.Front.{Begins, IsLine}
 use Rattle.alog_lines.specs.Lines.{lines_of, IsUnbroken}
-use Rattle.alog_lines.specs.Pieces.{Piece, ending, pieces_in, pieces_of}
+use Rattle.alog_lines.specs.Pieces.{Piece, pieces_in, pieces_of}
 use Rattle.alog_lines.specs.declared.front.Front.TheVariants as front
 use Rattle.alog_lines.proofs.LineLemmas.{first_in, lines_of-nil, others_in, unbroken-drop}
 use Rattle.alog_lines.proofs.PieceLemmas.{of_begun, of_last, of_line, short_line}
@@ -85,9 +85,12 @@ module _ (old new : Cutting) (len newline : ℕ) (begins : Begins old.pending ol
       (omega (arith, size, begins.1)) some_byte rest)
 
   -- a line that was built
-  pub takes_built : (piece : Piece) → Builds old.limit line len piece → new.pending ≡ drop (len + newline) old.pending
-      → Takes old new (ending piece)
-  takes_built piece b rest = alone (ending piece) (b.all (sym size)) b.fits some_byte rest
+  pub takes_built : (text built : List ℕ) (mended : ℕ) → text ≡ built
+      → Builds old.limit line len (record { text = built; mended = mended; ends = false })
+      → new.pending ≡ drop (len + newline) old.pending → Takes old new (record { text = text; mended = mended; ends = true })
+  takes_built text built mended is b rest =
+      subst (λ (t : List ℕ). Takes old new (record { text = t; mended = mended; ends = true })) (sym is)
+      (alone (record { text = built; mended = mended; ends = true }) (b.all (sym size)) b.fits some_byte rest)
 
   -- the first piece of it
   pub takes_part : (taken : ℕ) (piece : Piece) → Builds old.limit line taken piece → taken ≢ len → new.pending ≡ drop taken old.pending

@@ -1,22 +1,21 @@
 -- What is true of the pieces of each line.
-use Rattle.std.proofs.Common.{◌≡◌, ◌+◌, ◌<◌, ◌≤◌, ℕ, zero, suc, Bool, true, false, cond, List, [], ◌∷◌, ◌++◌, length, length-drop, map, drop, Some, None, IsUtf8, encode_utf8, encode_utf8_all, refl}
+use Rattle.std.proofs.Common.{◌≡◌, ◌<◌, ◌≤◌, ℕ, zero, suc, false, cond, List, [], ◌∷◌, ◌++◌, length, length-drop, map, drop, Some, None, IsUtf8, encode_utf8, encode_utf8_all, refl}
 use Rattle.std.proofs.Common.{sym, ap, subst, ◌∙◌, arith, append_assoc, count_by, ⊎_elim}
 use Rattle.std.specs.Prelude.{Option}
 use Rattle.std.specs.Char.{IsScalar}
 use Rattle.std.specs.List.{AllByRecursion, flat_map}
-use Rattle.std.specs.Str.Lossy.{utf8_lossy}
 use Rattle.std.proofs.lemmas.Bool.{cases_lt}
 use Rattle.std.proofs.lemmas.List.Sums.{sum_by-append, sum_by-cons}
 use Rattle.std.proofs.lemmas.Str.{IsUtf8-append, IsUtf8-encode, IsUtf8-nil}
-use Rattle.bstr.specs.Utf8.{Decoded, decoded, lossy_chars, or_replacement, pieces, replacement}
+use Rattle.bstr.specs.Utf8.{Decoded, decoded, or_replacement, pieces, replacement}
 use Rattle.bstr.proofs.lemmas.LossyLemmas.{lossy_chars-utf8_lossy}
 use Rattle.bstr.proofs.lemmas.PieceLemmas.{piece-bounds}
 use Rattle.bstr.proofs.lemmas.SoundLemmas.{SpellsChar-decoded}
 use Rattle.alog_lines.specs.Laws.{LinesEndOnce, PiecesAreTheLine, PiecesFit, ShortLinesAreWhole}
 use Rattle.alog_lines.specs.Lines.{lines_of}
-use Rattle.alog_lines.specs.Pieces.{Piece, chars_in, ending, nothing, pieces_behind, pieces_in, pieces_of, with_char}
+use Rattle.alog_lines.specs.Pieces.{Piece, chars_in, nothing, pieces_behind, pieces_in, with_char}
 use Rattle.alog_lines.specs.declared.cutter.TheConstants.{TEXT_LEAST}
-use Rattle.alog_lines.proofs.CharLemmas.{chars_in-nil, chars_in-step, length-with_char, width, width-most}
+use Rattle.alog_lines.proofs.CharLemmas.{chars_in-nil, chars_in-step, length-with_char, width-most}
 use Rattle.alog_lines.proofs.PieceLemmas.{behind-fits, behind-next, behind-nil, short_line}
 
 -- the text of a character, or of what is none

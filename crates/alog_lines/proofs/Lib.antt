@@ -3,6 +3,5 @@ mod WindowLemmas
 mod CharLemmas
 mod PieceLemmas
 mod BuildLemmas
-mod FillLemmas
 mod CutLemmas
 mod LawLemmas

@@ -1,15 +1,13 @@
 -- The pieces of a line, one character after another.
-use Rattle.std.proofs.Common.{◌≡◌, ◌+◌, ◌<◌, ◌≤◌, ℕ, Bool, true, false, cond, List, [], ◌∷◌, ◌++◌, length, length-append, map, drop, Some, None, IsUtf8, encode_utf8, encode_utf8_all, refl}
+use Rattle.std.proofs.Common.{◌≡◌, ◌+◌, ◌<◌, ◌≤◌, ℕ, true, false, List, [], ◌∷◌, ◌++◌, length, length-append, map, Some, IsUtf8, encode_utf8, encode_utf8_all, refl}
 use Rattle.std.proofs.Common.{sym, ap, subst, ◌∙◌, arith, append_assoc}
 use Rattle.std.specs.Prelude.{Option, nat_le}
 use Rattle.std.specs.List.{flat_map}
 use Rattle.std.proofs.lemmas.Bool.{cond-true, cond-false}
 use Rattle.std.proofs.lemmas.Bool.Decides.{nat_tests}
 use Rattle.std.proofs.lemmas.List.{append-nil}
-use lib.Utf8.{scalars}
-use Rattle.bstr.specs.Utf8.{replacement}
 use Rattle.alog_lines.specs.Lines.{lines_of, IsUnbroken}
-use Rattle.alog_lines.specs.Pieces.{Piece, nothing, with_char, ending, chars_in, pieces_behind, pieces_in, pieces_of}
+use Rattle.alog_lines.specs.Pieces.{Piece, nothing, with_char, ending, pieces_behind, pieces_in, pieces_of}
 use Rattle.alog_lines.proofs.CharLemmas.{chars_in-encode}
 use Rattle.alog_lines.proofs.LineLemmas.{line_then, line_begun, last_line, first_in, others_in}
 

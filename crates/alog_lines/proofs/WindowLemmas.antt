@@ -3,7 +3,9 @@ use Rattle.std.proofs.Common.{◌≡◌, ℕ, ◌+◌, ◌-◌, ◌≤◌, List,
 use Rattle.std.specs.Prelude.{slice_range}
 use Rattle.std.proofs.lemmas.List.{append-nil, take_at, drop_at, take-append-le, drop-append-le, drop-take, drop-drop, length-take-le, length-drop, take-take}
 use borrow.Rule.Slice.PartMut.{put_mid, post_of}
-use lib.Seq.{take-add}
+use lib.Seq.{paste, take-add}
+use Rattle.std.proofs.lemmas.List.Edits.{take-paste}
+use Rattle.std.specs.List.{copy_within}
 
 -- bytes that were written behind those that are held are held too
 pub grown : (xs ys : List ℕ) (start end k n : ℕ) → start ≤ end → end ≤ length xs → n ≤ length ys
@@ -40,3 +42,13 @@ pub front_part : (xs : List ℕ) (start end len : ℕ) → start + len ≤ end
 front_part xs start end len inside =
     let back : start + len - start ≡ len = omega arith in
     ap (λ k. take k (drop start xs)) back ∙ sym (take-take len (end - start) (drop start xs) (omega arith))
+
+-- they are the same at the front of the room
+pub moved : (xs : List ℕ) (start end : ℕ) → start ≤ end → end ≤ length xs
+    → slice_range (copy_within xs start end 0) 0 (end - start) ≡ slice_range xs start end
+moved xs start end ordered within =
+    let len = end - start in
+    let same : len ≡ 0 + len = omega arith in
+    let whole : len - 0 ≡ len = omega arith in
+    let fits : len ≤ length (drop start xs) = omega (arith, length-drop start xs) in
+    ap (λ k. take k (paste xs 0 (drop start xs) len)) (whole ∙ same) ∙ take-paste xs 0 (drop start xs) len (omega arith) fits

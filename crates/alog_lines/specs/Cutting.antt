@@ -1,8 +1,12 @@
 -- What a cutter of lines holds, and what each call of it does.
-use Rattle.std.specs.Prelude.{◌≡◌, ◌≤◌, ◌<◌, ℕ, Bool, true, List, [], ◌∷◌, ◌++◌, length}
+use Rattle.std.specs.Io.KnownBytes.{IsAtEnd}
+use Rattle.std.specs.Prelude.{◌≡◌, ◌≤◌, ◌<◌, ℕ, Bool, true, false, List, [], ◌∷◌, ◌++◌, Option, length}
 use Rattle.alog_lines.specs.Lines.{IsUnbroken}
 use Rattle.alog_lines.specs.Pieces.{Piece, pieces_of}
+use Rattle.alog_lines.specs.Window.{Came}
 use Rattle.alog_lines.specs.declared.cutter.Cut.{Cut}
+use Rattle.alog_lines.specs.declared.cutter.Fill.{Fill}
+use Rattle.alog_lines.specs.declared.cutter.Fill.TheVariants as fill
 
 -- The most bytes of a text, the bytes that were read and are in no piece yet, the text that was found last, and whether the reader was
 -- found at its end.
@@ -35,6 +39,18 @@ pub record LacksPiece (s : Cutting) : Type 0 where
   pub unbroken : IsUnbroken s.pending
   pub few : length s.pending ≤ s.limit
   pub none : s.ended ≡ true → s.pending ≡ []
+
+-- What a reader gave came behind what was pending, and its end is where it has nothing left.
+pub record Reads (before after : Option (List ℕ)) (old new : Cutting) : Type 0 where
+  pub came : Came before after old.pending new.pending
+  pub end : old.ended ≡ false → new.ended ≡ true → IsAtEnd after
+  pub limit : new.limit ≡ old.limit
+
+-- what an answer says of the read: bytes came, or none did, and the reader is at its end or is not found there
+abbrev pub Brings : Fill → Cutting → Cutting → Type 0
+Brings fill.Bytes old new = (length old.pending < length new.pending) × (new.ended ≡ false)
+Brings fill.Nothing old new = (new.pending ≡ old.pending) × (new.ended ≡ false)
+Brings fill.End old new = (new.pending ≡ old.pending) × (new.ended ≡ true)
 
 -- the same limit, and the reader no nearer to its end
 abbrev pub IsSame : Cutting → Cutting → Type 0

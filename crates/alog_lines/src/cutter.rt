@@ -1,8 +1,7 @@
 //! What cuts the bytes of a reader into pieces of lines.
-ghost use Rattle.std.specs.Prelude.{◌≡◌, ◌≤◌, None, [], IfOk, IfSome, OnErr, IsUtf8, length, take, false, true};
-ghost use Rattle.std.specs.Io.KnownBytes.{Consumes, IsAtEnd, prepend_known};
+ghost use Rattle.std.specs.Prelude.{◌≡◌, ◌≤◌, ◌<◌, None, [], Ok, IfOk, IfSome, OnErr, IsUtf8, length, take, false, true};
 ghost use Rattle.alog_lines.specs.Building.{Builds, piece_built};
-ghost use Rattle.alog_lines.specs.Cutting.{IsSame, LacksPiece, Takes, piece_of};
+ghost use Rattle.alog_lines.specs.Cutting.{Brings, IsSame, LacksPiece, Reads, Takes, piece_of};
 ghost use Rattle.alog_lines.specs.Front.{Begins};
 ghost use Rattle.alog_lines.specs.declared.cutter.TheConstants.{TEXT_LEAST, TEXT_MOST};
 
@@ -10,7 +9,7 @@ use crate::build::{Built, build};
 use crate::front::{Front, front_of};
 use crate::window::Window;
 use std::alloc::{AllocError, Global};
-use std::io::{self, ErrorKind, Read};
+use std::io::{self, Read};
 use std::marker::Model;
 use std::str;
 
@@ -123,13 +122,11 @@ impl LineCutter {
     /// Reads once. Where more is pending than a text has, `next` is to be called first, and nothing is read. An error of the reader
     /// leaves what is pending, and a later call reads on.
     pub fn fill<R: Read>(&mut self, reader: &mut R) -> io::Result<Fill>
-        ensures rest { Consumes (prepend_known self.old.pending (R.remaining reader.old))
-            (prepend_known self.new.pending (R.remaining reader.new)) [] }
-        ensures end { IfOk result (λ fill. fill ≡ Fill.End → self.new.ended ≡ true) }
-        ensures ended { self.old.ended ≡ false → self.new.ended ≡ true → IsAtEnd (R.remaining reader.new) }
-        ensures stays { self.old.ended ≡ true → self.new ≡ self.old }
-        ensures limit { self.new.limit ≡ self.old.limit }
-        ensures err { OnErr result (self.new.pending ≡ self.old.pending) }
+        ensures read { Reads (R.remaining reader.old) (R.remaining reader.new) self.old self.new }
+        ensures brings { IfOk result (λ fill. Brings fill self.old self.new) }
+        ensures err { OnErr result ((self.new.pending ≡ self.old.pending) × (self.new.ended ≡ false)) }
+        ensures again { self.old.ended ≡ true → (result ≡ Ok Fill.End) × (self.new ≡ self.old) }
+        ensures full { self.old.ended ≡ false → self.old.limit < length self.old.pending → (result ≡ Ok Fill.Nothing) × (self.new ≡ self.old) }
     {
         if self.ended {
             return Ok(Fill::End);
@@ -137,17 +134,13 @@ impl LineCutter {
         if self.window.as_slice().len() > self.limit {
             return Ok(Fill::Nothing);
         }
-        self.forget();
-        self.window.move_to_front();
-        match self.window.read_from(reader) {
-            Ok(0) => {
-                self.ended = true;
-                Ok(Fill::End)
-            }
-            Ok(_) => Ok(Fill::Bytes),
-            Err(error) if error.kind() == ErrorKind::Interrupted => Ok(Fill::Nothing),
-            Err(error) => Err(error),
-        }
+        self.built.clear();
+        self.is_built = true;
+        self.start = 0;
+        self.end = 0;
+        let fill = self.window.refill(reader)?;
+        self.ended = fill == Fill::End;
+        Ok(fill)
     }
 
     /// The next piece of what was read, which `text` then lends. There is none where more has to be read first, or nothing is left.
@@ -161,16 +154,6 @@ impl LineCutter {
             Front::Long => Some(self.take_long()),
             Front::Part => None,
         }
-    }
-
-    /// Makes the text empty.
-    fn forget(&mut self)
-        ensures { self.new ≡ record self.old { text = [] } }
-    {
-        self.built.clear();
-        self.is_built = true;
-        self.start = 0;
-        self.end = 0;
     }
 
     /// Takes the line that the pending bytes begin with, or its first piece.

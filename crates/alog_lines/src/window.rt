@@ -1,9 +1,10 @@
 //! The bytes that were read.
-ghost use Rattle.std.specs.Prelude.{◌≡◌, ◌+◌, ◌≤◌, ◌<◌, ℕ, List, [], ◌++◌, length, drop, slice_range, vec_len, IfOk, OnErr};
+ghost use Rattle.std.specs.Prelude.{◌≡◌, ◌≢◌, ◌+◌, ◌≤◌, ◌<◌, ℕ, List, [], ◌++◌, length, drop, slice_range, vec_len, IfOk, OnErr};
 ghost use Rattle.std.specs.Io.KnownBytes.{Consumes, IsAtEnd, Keeps};
 
+use crate::cutter::Fill;
 use std::alloc::{AllocError, Global};
-use std::io::{self, Read};
+use std::io::{self, ErrorKind, Read};
 
 /// Bytes that were read, in a room that stays.
 #[derive(Debug, Drop)]
@@ -17,7 +18,7 @@ pub(crate) struct Window {
 }
 
 impl Window {
-    ghost use Rattle.alog_lines.specs.Window.{held, room};
+    ghost use Rattle.alog_lines.specs.Window.{Came, held, room};
 
     /// An empty window with room for so many bytes.
     pub(crate) fn new(alloc: Global, size: usize) -> Result<Window, AllocError>
@@ -64,9 +65,28 @@ impl Window {
         ensures size { vec_len self.new.bytes ≡ vec_len self.old.bytes }
     {
         let (start, end) = (self.start, self.end);
-        self.bytes.copy_within(start..end, 0);
+        self.bytes.as_mut_slice().copy_within(start..end, 0);
         self.start = 0;
         self.end = end - start;
+    }
+
+    /// Reads once, behind what is held, which moves to the front.
+    pub(crate) fn refill<R: Read>(&mut self, reader: &mut R) -> io::Result<Fill>
+        requires { length (held self.old) < vec_len self.old.bytes }
+        ensures came { Came (R.remaining reader.old) (R.remaining reader.new) (held self.old) (held self.new) }
+        ensures some { IfOk result (λ fill. fill ≡ Fill.Bytes → length (held self.old) < length (held self.new)) }
+        ensures none { IfOk result (λ fill. fill ≢ Fill.Bytes → held self.new ≡ held self.old) }
+        ensures end { IfOk result (λ fill. fill ≡ Fill.End → IsAtEnd (R.remaining reader.new)) }
+        ensures err { OnErr result (held self.new ≡ held self.old) }
+        ensures size { vec_len self.new.bytes ≡ vec_len self.old.bytes }
+    {
+        self.move_to_front();
+        match self.read_from(reader) {
+            Ok(0) => Ok(Fill::End),
+            Ok(_) => Ok(Fill::Bytes),
+            Err(error) if error.kind() == ErrorKind::Interrupted => Ok(Fill::Nothing),
+            Err(error) => Err(error),
+        }
     }
 
     /// Reads once, behind what is held, and answers how many bytes came.

@@ -1,4 +1,4 @@
-use Rattle.std.proofs.Common.{◌≡◌, ◌+◌, ◌-◌, ◌≤◌, length, take, ap, sym, ◌∙◌, arith, rules}
+use Rattle.std.proofs.Common.{◌+◌, ◌-◌, ◌≤◌, ◌++◌, length, take, ap, sym, ◌∙◌, rules}
 use Rattle.std.specs.Prelude.{slice_range}
 use Rattle.std.proofs.lemmas.List.{with_items_is, places}
 use Rattle.std.proofs.lemmas.Result.{err_from_is_err_and}
@@ -19,7 +19,7 @@ returns-clause-read g c =
       take n got,
       sym bound.1,
       ap (λ xs. slice_range xs w.start (w.end + n)) whole ∙ grown all got w.start w.end (length all - w.end) n w.ordered within bound.0
-          ∙ ap (λ xs. slice_range xs w.start w.end) c.as_mut_slice.ensures.value,
+          ∙ ap (λ xs. slice_range xs w.start w.end ++ take n got) c.as_mut_slice.ensures.value,
       c.in_ok-count.ensures.bytes.0,
     )
 
