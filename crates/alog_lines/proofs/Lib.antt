@@ -5,3 +5,4 @@ mod PieceLemmas
 mod BuildLemmas
 mod CutLemmas
 mod LawLemmas
+pub mod SharedCutting

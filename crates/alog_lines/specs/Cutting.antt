@@ -55,3 +55,11 @@ Brings fill.End old new = (new.pending ≡ old.pending) × (new.ended ≡ true)
 -- the same limit, and the reader no nearer to its end
 abbrev pub IsSame : Cutting → Cutting → Type 0
 IsSame old new = (new.limit ≡ old.limit) × (new.ended ≡ old.ended)
+
+-- Of these bytes the pieces so far were found: the others are those of what is pending, which is the last of the bytes, and of what may
+-- still come.
+pub record HasCut (limit : ℕ) (bytes : List ℕ) (pieces : List Piece) (s : Cutting) : Type 0 where
+  pub taken : List ℕ
+  pub whole : bytes ≡ taken ++ s.pending
+  pub same : s.limit ≡ limit
+  pub others : (more : List ℕ) → MayCome s more → pieces_of limit (bytes ++ more) ≡ pieces ++ pieces_of limit (s.pending ++ more)
