@@ -1,4 +1,7 @@
 //! What is counted of a pipe.
+ghost use Rattle.std.specs.Prelude.{◌≡◌};
+ghost use Rattle.alog_pipe.specs.Counted.{with_piece};
+
 use alog_lines::Cut;
 
 /// What a pipe read, modulo 2^64.
@@ -12,25 +15,26 @@ pub struct Counts {
     pub mended: u64,
     /// How often a line was cut, since it was too long for a text.
     pub cut: u64,
-    /// Pieces of lines that were not posted. In place of each row of them the log has a line that says how many they are.
-    pub missing: u64,
 }
 
 impl Counts {
     /// Nothing.
-    pub(crate) fn new() -> Counts {
+    pub(crate) fn new() -> Counts
+        ensures { result ≡ record { lines = 0; bytes = 0; mended = 0; cut = 0 } }
+    {
         Counts {
             lines: 0,
             bytes: 0,
             mended: 0,
             cut: 0,
-            missing: 0,
         }
     }
 
-    /// Counts a piece, whose text has so many bytes.
-    pub(crate) fn see(&mut self, cut: Cut, len: usize) {
-        self.bytes = self.bytes.wrapping_add(len as u64);
+    /// Counts a piece, of which this was found and this is the text.
+    pub(crate) fn see(&mut self, cut: Cut, text: &str)
+        ensures { self.new ≡ with_piece self.old (record { text = text.now; mended = cut.mended; ends = cut.ends }) }
+    {
+        self.bytes = self.bytes.wrapping_add(text.len() as u64);
         self.mended = self.mended.wrapping_add(cut.mended as u64);
         if cut.ends {
             self.lines = self.lines.wrapping_add(1);

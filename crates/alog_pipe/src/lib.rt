@@ -7,10 +7,13 @@
 //! Under `block` a piece waits for room. Under the other policies none does; a piece that is refused is counted, and before the next one
 //! is posted a line at level warning says how many are missing there. What `overrun_oldest` took out of the queue is in the report alone.
 //!
-//! Read `piping.rt`, `pump.rt`, `counts.rt`.
+//! `specs/Piped.antt` says what was logged of what the reader gave, `specs/Logged.antt` what becomes of each piece.
+//!
+//! Read `piping.rt`, `pump.rt`, `piece_log.rt`, `counts.rt`.
 #![tactic(auto)]
 
 mod counts;
+mod piece_log;
 mod piping;
 mod pump;
 

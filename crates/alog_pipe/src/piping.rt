@@ -1,9 +1,13 @@
 //! A whole pipe.
-ghost use Rattle.std.specs.Prelude.{◌≡◌, ◌<◌, count_by, length};
+ghost use Rattle.std.specs.Prelude.{◌≡◌, ◌<◌, IfOk, count_by, length};
+ghost use Rattle.std.specs.List.{AllByRecursion};
 ghost use Rattle.alog_config.specs.Sinks.{is_leaf};
+ghost use Rattle.alog_pipe.specs.Pipes.{Pipes};
+ghost use Rattle.alog_pool.specs.Report.{Ends};
 
 use crate::counts::Counts;
-use crate::pump::Pump;
+use crate::piece_log::PieceLog;
+use crate::pump::pump_all;
 use alog_config::{BuildError, Config};
 use alog_lines::LineCutter;
 use alog_msg::Level;
@@ -22,6 +26,9 @@ pub struct Piped<S: Store> {
     /// What became of all messages, and the sinks.
     pub report: Report<S>,
     pub counts: Counts,
+    /// How many pieces of lines are missing, modulo 2^64: they were not posted, or there was no memory for their copies. In place of
+    /// each row of them the log has a line that says how many they are.
+    pub missing: u64,
     /// Why the reader could not be read to its end, where it could not.
     pub fault: Option<io::Error>,
 }
@@ -43,41 +50,45 @@ where
     I: Read,
     requires many { length stores.items ≡ count_by is_leaf config.now.sinks.items }
     requires known { logger < length config.now.loggers.items }
+    ensures { IfOk result (λ p. Pipes S.tells S.files S.failures config.now stores.items logger level (I.remaining input.old)
+        (I.remaining input.new) p) }
 {
     let lines = LineCutter::new(alloc, config.text)?;
-    let back = Vec::with_capacity(alloc, 1)?;
     let setup = setup_of(alloc, config, stores, 0)?;
     let mut pool = match Pool::start(rt, alloc, setup, OpenGate) {
         Ok(pool) => pool,
         Err(StartError::OutOfMemory) => return Err(BuildError::OutOfMemory),
         Err(StartError::BadWorkers | StartError::BadSize | StartError::BadFirst) => unreachable!(),
     };
+    let Ok(mut back) = Vec::with_capacity(alloc, 1) else {
+        end(rt, pool, Vec::new(alloc));
+        return Err(BuildError::OutOfMemory);
+    };
     let Ok(producer) = pool.producer() else {
         end(rt, pool, back);
         return Err(BuildError::OutOfMemory);
     };
-    let mut pump = Pump {
+    let log = PieceLog {
         producer,
-        lines,
         logger,
         level,
-        time: 0,
-        counts: Counts::new(),
         hole: 0,
+        missing: 0,
     };
-    let fault = pump.run(rt, alloc, input);
-    pump.finish(rt, alloc);
-    let Pump {
+    let (log, counts, fault) = pump_all(rt, alloc, lines, log, input);
+    let PieceLog {
         producer,
-        counts,
-        ..
-    } = pump;
-    let mut back = back;
+        logger: _,
+        level: _,
+        hole: _,
+        missing,
+    } = log;
     back.push_reserved(producer);
     let report = end(rt, pool, back);
     Ok(Piped {
         report,
         counts,
+        missing,
         fault,
     })
 }
@@ -87,7 +98,11 @@ fn end<R: Threads + Wait + Clock, S: Store + Drop + Send + 'static>(
     rt: &R,
     pool: Pool<S>,
     producers: Vec<Producer>,
-) -> Report<S> {
+) -> Report<S>
+    requires own { AllByRecursion (λ p. p.shared ≡ pool.shared) producers.items }
+    requires all { length producers.items ≡ pool.made }
+    ensures { Ends S.tells S.files S.failures pool producers.items result }
+{
     match pool.shutdown(rt, producers) {
         Ok(report) => report,
         Err(_) => unreachable!(),

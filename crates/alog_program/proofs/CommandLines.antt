@@ -91,7 +91,7 @@ replay_names_no command other words rows asks is =
     × List Row)). unwrap_or (option_map (λ p. p.0) o) []) (sym entered ∙ is) in
     other (sym (ap (λ (t : Text). slice_index t 0) names))
 
--- the words `alog replay` name no `format`, no `check` and no `load`, and are refused for want of memory alone
+-- the words `alog replay` name no other command, and are refused for want of memory alone
 pub replay_no_format : (words : List Text) (rows : List Row) → AsksReplay words → Names (codes "format") words rows → ⊥
 replay_no_format = replay_names_no (codes "format") (λ same. apart (slice_index (codes "format") 0) 102 114 refl (λ e. omega arith) same)
 
@@ -100,6 +100,9 @@ replay_no_check = replay_names_no (codes "check") (λ same. apart (slice_index (
 
 pub replay_no_load : (words : List Text) (rows : List Row) → AsksReplay words → Names (codes "load") words rows → ⊥
 replay_no_load = replay_names_no (codes "load") (λ same. apart (slice_index (codes "load") 0) 108 114 refl (λ e. omega arith) same)
+
+pub replay_no_pipe : (words : List Text) (rows : List Row) → AsksReplay words → Names (codes "pipe") words rows → ⊥
+replay_no_pipe = replay_names_no (codes "pipe") (λ same. apart (slice_index (codes "pipe") 0) 112 114 refl (λ e. omega arith) same)
 
 -- words that name one command name no other
 pub one_command : (words : List Text) (command other : Text) (rows others : List Row) → slice_index command 0 ≢ slice_index other 0
@@ -143,6 +146,30 @@ pub load_is_no_replay : (words : List Text) (rows others : List Row) → Names (
 load_is_no_replay words rows others =
     one_command words (codes "load") (codes "replay") rows others (λ same. apart
     (slice_index (codes "load") 0) 108 114 refl (λ e. omega arith) (same ∙ refl))
+
+pub pipe_is_no_format : (words : List Text) (rows others : List Row) → Names (codes "pipe") words rows
+    → Names (codes "format") words others → ⊥
+pipe_is_no_format words rows others =
+    one_command words (codes "pipe") (codes "format") rows others (λ same. apart
+    (slice_index (codes "pipe") 0) 112 102 refl (λ e. omega arith) (same ∙ refl))
+
+pub pipe_is_no_check : (words : List Text) (rows others : List Row) → Names (codes "pipe") words rows
+    → Names (codes "check") words others → ⊥
+pipe_is_no_check words rows others =
+    one_command words (codes "pipe") (codes "check") rows others (λ same. apart
+    (slice_index (codes "pipe") 0) 112 99 refl (λ e. omega arith) (same ∙ refl))
+
+pub pipe_is_no_replay : (words : List Text) (rows others : List Row) → Names (codes "pipe") words rows
+    → Names (codes "replay") words others → ⊥
+pipe_is_no_replay words rows others =
+    one_command words (codes "pipe") (codes "replay") rows others (λ same. apart
+    (slice_index (codes "pipe") 0) 112 114 refl (λ e. omega arith) (same ∙ refl))
+
+pub pipe_is_no_load : (words : List Text) (rows others : List Row) → Names (codes "pipe") words rows
+    → Names (codes "load") words others → ⊥
+pipe_is_no_load words rows others =
+    one_command words (codes "pipe") (codes "load") rows others (λ same. apart
+    (slice_index (codes "pipe") 0) 112 108 refl (λ e. omega arith) (same ∙ refl))
 
 -- words without a fault are refused for want of memory alone
 pub lacks_memory : (words : List Text) (error : Error) → fault_of alog_app words ≡ [] → HasKind (fault_of alog_app words) error

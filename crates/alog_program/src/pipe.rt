@@ -166,15 +166,16 @@ fn tell<S: Store + Drop, O: Write, E: Write>(
     let Piped {
         report,
         counts,
+        missing,
         fault,
     } = piped;
     let mut report = report;
     let is_kept = brings_all(&mut report);
     let totals = report.totals;
     let written = if to_output {
-        write_all_totals(output, counts, totals)
+        write_all_totals(output, counts, missing, totals)
     } else {
-        write_all_totals(errors, counts, totals)
+        write_all_totals(errors, counts, missing, totals)
     };
     if let Err(error) = written {
         return fail_to_write(&error, errors);
@@ -203,13 +204,17 @@ fn brings_all<S: Store>(report: &mut Report<S>) -> bool {
 }
 
 /// Writes what a pipe read and the five totals, a line each, and flushes.
-fn write_all_totals<O: Write>(output: &mut O, counts: Counts, totals: Totals) -> io::Result<()> {
+fn write_all_totals<O: Write>(
+    output: &mut O,
+    counts: Counts,
+    missing: u64,
+    totals: Totals,
+) -> io::Result<()> {
     let Counts {
         lines,
         bytes,
         mended,
         cut,
-        missing,
     } = counts;
     write!(
         output,

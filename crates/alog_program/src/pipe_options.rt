@@ -17,6 +17,6 @@ pub(crate) fn pipe_request<'a>(matches: &ArgMatches<'a>) -> Result<PipeRequest<'
         folder: text(matches, "folder"),
         logger: matches.get_str("logger"),
         level: level(matches)?,
-        totals: matches.get_flag("totals"),
+        totals: matches!(matches.get_str("totals"), Some("true")),
     })
 }

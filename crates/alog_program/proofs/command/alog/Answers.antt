@@ -15,4 +15,5 @@ returns c =
     c.in_ok-command.ensures _ _ top c.replay.ensures in
     let two : StandsFor c.in_ok-command-2.command _ = c.in_ok-command-2.ensures _ _ one c.format.ensures in
     let three : StandsFor c.in_ok-command-3.command _ = c.in_ok-command-3.ensures _ _ two c.check.ensures in
-    IfOk-weaker c.with-4.result _ _ (λ command stands. stands.0) (c.with-4.ensures _ _ three c.load.ensures)
+    let four : StandsFor c.in_ok-command-4.command _ = c.in_ok-command-4.ensures _ _ three c.load.ensures in
+    IfOk-weaker c.with-5.result _ _ (λ command stands. stands.0) (c.with-5.ensures _ _ four c.pipe.ensures)

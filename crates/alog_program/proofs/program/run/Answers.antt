@@ -4,6 +4,7 @@ use Rattle.alog_program.specs.CommandLine.{config_in, values_in, Asks, IsRefused
 use Rattle.alog_program.specs.Formats.{Formats}
 use Rattle.alog_program.proofs.CommandLines.{one_row, replay_lacks_memory, replay_no_format, replay_no_check, replay_no_config, replay_no_load, format_is_no_check}
 use Rattle.alog_program.proofs.CommandLines.{format_is_no_replay, check_is_no_replay, load_is_no_check, load_is_no_format, load_is_no_replay, not_both, lacks_memory}
+use Rattle.alog_program.proofs.CommandLines.{pipe_is_no_check, pipe_is_no_format, pipe_is_no_load, pipe_is_no_replay, replay_no_pipe}
 use Rattle.alog_program.proofs.Loading.{load_made, load_unasked, load_unread}
 use Rattle.std.proofs.KnownBytes.{Keeps-refl}
 use Rattle.alog_program.proofs.program.run.Goals as goal
@@ -35,7 +36,7 @@ returns-in-Err-Value-clause-replays g c =
     λ asks.
     let words : List Text = map g.S.AsStr.text c.args.words.now in
     let refused = subst (IsRefusedBy words) c.in-Err-Value.field-0-is c.in-Err-Value.ensures.refused in
-    absurd (replay_no_format words refused.0 asks refused.1.1)
+    elim refused.1 [ inl format ↦ absurd (replay_no_format words refused.0 asks format.0.1) | inr pipe ↦ absurd (replay_no_pipe words refused.0 asks pipe.0.1) ]
 
 pub returns-in-Err-Clap-clause-replays : goal.returns-in-Err-Clap-clause-replays
 returns-in-Err-Clap-clause-replays g c =
@@ -84,7 +85,7 @@ returns-in-Err-Value-clause-checks g c =
     λ rows asks.
     let words : List Text = map g.S.AsStr.text c.args.words.now in
     let refused = subst (IsRefusedBy words) c.in-Err-Value.field-0-is c.in-Err-Value.ensures.refused in
-    absurd (format_is_no_check words refused.0 rows refused.1.1 asks.1)
+    elim refused.1 [ inl format ↦ absurd (format_is_no_check words refused.0 rows format.0.1 asks.1) | inr pipe ↦ absurd (pipe_is_no_check words refused.0 rows pipe.0.1 asks.1) ]
 
 pub returns-in-Err-Clap-clause-checks : goal.returns-in-Err-Clap-clause-checks
 returns-in-Err-Clap-clause-checks g c =
@@ -99,7 +100,7 @@ returns-in-Ok-Replay-clause-configured g c =
     λ rows asks.
     let words : List Text = map g.S.AsStr.text c.args.words.now in
     let asked = subst (Asks words) c.in-Ok-Replay.field-0-is c.in-Ok-Replay.ensures.asked in
-    absurd (not_both (config_in rows) (asked.4 rows asks.0.1) asks.1)
+    absurd (not_both (config_in rows) (asked.5 rows asks.0.1) asks.1)
 
 pub returns-in-Ok-ReplayConfig-clause-replays : goal.returns-in-Ok-ReplayConfig-clause-replays
 returns-in-Ok-ReplayConfig-clause-replays g c =
@@ -144,7 +145,7 @@ returns-in-Err-Value-clause-configured g c =
     λ rows asks.
     let words : List Text = map g.S.AsStr.text c.args.words.now in
     let refused = subst (IsRefusedBy words) c.in-Err-Value.field-0-is c.in-Err-Value.ensures.refused in
-    absurd (format_is_no_replay words refused.0 rows refused.1.1 asks.0.1)
+    elim refused.1 [ inl format ↦ absurd (format_is_no_replay words refused.0 rows format.0.1 asks.0.1) | inr pipe ↦ absurd (pipe_is_no_replay words refused.0 rows pipe.0.1 asks.0.1) ]
 
 pub returns-in-Err-Clap-clause-configured : goal.returns-in-Err-Clap-clause-configured
 returns-in-Err-Clap-clause-configured g c =
@@ -236,7 +237,7 @@ returns-in-Err-Value-clause-loads g c =
     λ rows asks.
     let words : List Text = map g.S.AsStr.text c.args.words.now in
     let refused = subst (IsRefusedBy words) c.in-Err-Value.field-0-is c.in-Err-Value.ensures.refused in
-    absurd (load_is_no_format words rows refused.0 asks.1 refused.1.1)
+    elim refused.1 [ inl format ↦ absurd (load_is_no_format words rows refused.0 asks.1 format.0.1) | inr pipe ↦ absurd (pipe_is_no_load words refused.0 rows pipe.0.1 asks.1) ]
 
 pub returns-in-Ok-Replay-clause-loads : goal.returns-in-Ok-Replay-clause-loads
 returns-in-Ok-Replay-clause-loads g c =
@@ -269,3 +270,38 @@ returns-in-Err-Clap-clause-loads g c =
     let four : c.explain.result ≡ 4 = c.explain.ensures.memory.1 memory in
     load_unasked _ _ _ _ _ _ c.explain.result (g.O.Write.contents c.args.output.now) (g.O.Write.contents c.explain.new.output) rows four
     (c.explain.ensures.unwritten (inr four))
+
+pub returns-in-Ok-Pipe-clause-replays : goal.returns-in-Ok-Pipe-clause-replays
+returns-in-Ok-Pipe-clause-replays g c =
+    λ asks.
+    let words : List Text = map g.S.AsStr.text c.args.words.now in
+    let asked = subst (Asks words) c.in-Ok-Pipe.field-0-is c.in-Ok-Pipe.ensures.asked in
+    absurd (replay_no_pipe words asked.0 asks asked.1.1)
+
+pub returns-in-Ok-Pipe-clause-configured : goal.returns-in-Ok-Pipe-clause-configured
+returns-in-Ok-Pipe-clause-configured g c =
+    λ rows asks.
+    let words : List Text = map g.S.AsStr.text c.args.words.now in
+    let asked = subst (Asks words) c.in-Ok-Pipe.field-0-is c.in-Ok-Pipe.ensures.asked in
+    absurd (pipe_is_no_replay words asked.0 rows asked.1.1 asks.0.1)
+
+pub returns-in-Ok-Pipe-clause-formats : goal.returns-in-Ok-Pipe-clause-formats
+returns-in-Ok-Pipe-clause-formats g c =
+    λ rows asks.
+    let words : List Text = map g.S.AsStr.text c.args.words.now in
+    let asked = subst (Asks words) c.in-Ok-Pipe.field-0-is c.in-Ok-Pipe.ensures.asked in
+    absurd (pipe_is_no_format words asked.0 rows asked.1.1 asks.1)
+
+pub returns-in-Ok-Pipe-clause-checks : goal.returns-in-Ok-Pipe-clause-checks
+returns-in-Ok-Pipe-clause-checks g c =
+    λ rows asks.
+    let words : List Text = map g.S.AsStr.text c.args.words.now in
+    let asked = subst (Asks words) c.in-Ok-Pipe.field-0-is c.in-Ok-Pipe.ensures.asked in
+    absurd (pipe_is_no_check words asked.0 rows asked.1.1 asks.1)
+
+pub returns-in-Ok-Pipe-clause-loads : goal.returns-in-Ok-Pipe-clause-loads
+returns-in-Ok-Pipe-clause-loads g c =
+    λ rows asks.
+    let words : List Text = map g.S.AsStr.text c.args.words.now in
+    let asked = subst (Asks words) c.in-Ok-Pipe.field-0-is c.in-Ok-Pipe.ensures.asked in
+    absurd (pipe_is_no_load words asked.0 rows asked.1.1 asks.1)

@@ -1,9 +1,11 @@
-use Rattle.std.proofs.Common.{codes, map, ◌≡◌, ◌∙◌, ap, refl, sym, subst, List, None, true, false}
+use Rattle.std.proofs.Common.{codes, map, ◌≡◌, ◌∙◌, ap, refl, sym, subst, List, None, true, false, inl, inr}
 use Rattle.std.specs.Prelude.{IsNone, is_some}
 use Rattle.clap.specs.Words.{Text, Row, app_of, found_of, rows_of}
 use Rattle.alog_program.specs.CommandLine.{IsRefusedBy, config_in}
 use Rattle.alog_program.specs.LoadOptions.{AsksForLoad, IsFirstUnread}
-use Rattle.alog_program.specs.Options.{Values, AsksFor, IsFirstRefused, text_of}
+use Rattle.alog_program.specs.Options.{Values, AsksFor, IsFirstRefused, Refuses, text_of}
+use Rattle.alog_program.specs.PipeOptions.{AsksForPipe}
+use Rattle.alog_program.specs.declared.options.FormatOption.TheVariants as option
 use Rattle.alog_program.specs.declared.words.WordsError.TheVariants.{Clap, LoadValue, Value}
 use Rattle.alog_program.proofs.CommandLines.{error_is, has_kind, names_command, names_no_command, no_fault, one_row, values_are}
 use Rattle.alog_program.proofs.words.read.Goals as goal
@@ -26,12 +28,14 @@ returns-in_err-line_request-clause-refused g c =
     let fault = c.in_err-line_request.field-0.0 in
     error_is c.from_residual-in_err-line_request.result (Value fault) (IsRefusedBy words) c.from_residual-in_err-line_request.ensures.1 (
       rows,
-      (
-        no_fault app is words c.in_ok-matches.ensures.kinds,
-        names_command app is words (codes "format") c.in_ok-matches.matches rows c.in_ok-matches.ensures.matches
-            (c.in-Some.ensures.found.0 refl) c.in-Some.ensures.rows,
+      inl (
+        (
+          no_fault app is words c.in_ok-matches.ensures.kinds,
+          names_command app is words (codes "format") c.in_ok-matches.matches rows c.in_ok-matches.ensures.matches
+              (c.in-Some.ensures.found.0 refl) c.in-Some.ensures.rows,
+        ),
+        subst (λ (v : Values). IsFirstRefused v fault) (values_are m) c.in_err-line_request.ensures.refused,
       ),
-      subst (λ (v : Values). IsFirstRefused v fault) (values_are m) c.in_err-line_request.ensures.refused,
     )
 
 pub returns-in-Some-clause-asked : goal.returns-in-Some-clause-asked
@@ -100,18 +104,54 @@ returns-in-Some-subcommand_matches-2-clause-asked g c =
       subst (λ (v : Values). AsksForLoad v c.in_ok-load_request.field-0) (values_are m) c.in_ok-load_request.ensures.asked,
     )
 
+pub returns-in_err-pipe_request-clause-refused : goal.returns-in_err-pipe_request-clause-refused
+returns-in_err-pipe_request-clause-refused g c =
+    let words : List Text = map g.S.AsStr.text c.args.words.now in
+    let app = app_of c.in_ok-alog.field-0 in
+    let is = c.in_ok-alog.ensures in
+    let m = c.in-Some-subcommand_matches-3.pipe.now in
+    let rows : List Row = rows_of (found_of m) in
+    let fault = c.in_err-pipe_request.field-0.0 in
+    error_is c.from_residual-in_err-pipe_request.result (Value fault) (IsRefusedBy words) c.from_residual-in_err-pipe_request.ensures.1 (
+      rows,
+      inr (
+        (
+          no_fault app is words c.in_ok-matches.ensures.kinds,
+          names_command app is words (codes "pipe") c.in_ok-matches.matches rows c.in_ok-matches.ensures.matches
+              (c.in-Some-subcommand_matches-3.ensures.found.0 refl) c.in-Some-subcommand_matches-3.ensures.rows,
+        ),
+        subst (λ (v : Values). Refuses v option.Level fault) (values_are m) c.in_err-pipe_request.ensures.refused,
+      ),
+    )
+
 pub returns-in-Some-subcommand_matches-3-clause-asked : goal.returns-in-Some-subcommand_matches-3-clause-asked
 returns-in-Some-subcommand_matches-3-clause-asked g c =
     let words : List Text = map g.S.AsStr.text c.args.words.now in
     let app = app_of c.in_ok-alog.field-0 in
     let is = c.in_ok-alog.ensures in
-    let m = c.in-Some-subcommand_matches-3.check.now in
+    let m = c.in-Some-subcommand_matches-3.pipe.now in
+    let rows : List Row = rows_of (found_of m) in (
+      rows,
+      (
+        no_fault app is words c.in_ok-matches.ensures.kinds,
+        names_command app is words (codes "pipe") c.in_ok-matches.matches rows c.in_ok-matches.ensures.matches
+            (c.in-Some-subcommand_matches-3.ensures.found.0 refl) c.in-Some-subcommand_matches-3.ensures.rows,
+      ),
+      subst (λ (v : Values). AsksForPipe v c.in_ok-pipe_request.field-0) (values_are m) c.in_ok-pipe_request.ensures.asked,
+    )
+
+pub returns-in-Some-subcommand_matches-4-clause-asked : goal.returns-in-Some-subcommand_matches-4-clause-asked
+returns-in-Some-subcommand_matches-4-clause-asked g c =
+    let words : List Text = map g.S.AsStr.text c.args.words.now in
+    let app = app_of c.in_ok-alog.field-0 in
+    let is = c.in_ok-alog.ensures in
+    let m = c.in-Some-subcommand_matches-4.check.now in
     let rows : List Row = rows_of (found_of m) in (
       rows,
       (
         no_fault app is words c.in_ok-matches.ensures.kinds,
         names_command app is words (codes "check") c.in_ok-matches.matches rows c.in_ok-matches.ensures.matches
-            (c.in-Some-subcommand_matches-3.ensures.found.0 refl) c.in-Some-subcommand_matches-3.ensures.rows,
+            (c.in-Some-subcommand_matches-4.ensures.found.0 refl) c.in-Some-subcommand_matches-4.ensures.rows,
       ),
       c.text.ensures ∙ ap (λ (v : Values). text_of v (codes "FILE")) (values_are m),
     )
@@ -128,6 +168,8 @@ returns-clause-asked g c =
           (λ name. let bad : false ≡ true = c.in-None.ensures.found.1 name in cc) named,
       λ rows named. names_no_command app is words (codes "load") c.in_ok-matches.matches rows c.in_ok-matches.ensures.matches
           (λ name. let bad : false ≡ true = c.in_default-subcommand_matches-2.ensures.found.1 name in cc) named,
+      λ rows named. names_no_command app is words (codes "pipe") c.in_ok-matches.matches rows c.in_ok-matches.ensures.matches
+          (λ name. let bad : false ≡ true = c.in_default-subcommand_matches-3.ensures.found.1 name in cc) named,
       λ rows named. elim c.match-subcommand_matches-2.branch [
         | in-Some-subcommand_matches+in_default-get_str w ↦
             let m = w.in-Some-subcommand_matches.replay.now in

@@ -1,0 +1,2 @@
+mod Logging
+mod Pumping

@@ -1,0 +1,75 @@
+-- What becomes of one piece, and of the line that says that some are missing.
+use Rattle.std.proofs.Common.{◌≡◌, ◌≢◌, ◌⊎◌, ◌<◌, ◌≤◌, ℕ, zero, suc, ℤ, Bool, true, false, List, [], ◌∷◌, ◌++◌, length, None, Some, refl, sym, ap, subst, ◌∙◌, arith, inl, inr}
+use Rattle.alog_msg.specs.declared.message.MessageError.{MessageError}
+use Rattle.alog_msg.specs.declared.message.MessageError.TheVariants as message
+use Rattle.alog_pipe.specs.Logged.{IsReady, KeepsPiece, LogsFound, LogsPiece, LogsPieceAt, LogsText, LosesPiece, Tells, by, is_kept, missed_by}
+use Rattle.alog_pipe.specs.declared.piece_log.PieceLog.{PieceLog}
+use Rattle.alog_pipe.specs.declared.piece_log.Told.TheVariants as told
+use Rattle.alog_pool.specs.Producer.{ProducerView, IsSame}
+use Rattle.alog_pool.specs.declared.shared.Shared.{Shared}
+use Rattle.alog_registry.specs.Given.{IsReason}
+use Rattle.alog_registry.specs.Listed.{spec_at}
+use Rattle.alog_registry.specs.declared.logger.Logger.{Logger}
+use Rattle.alog_registry.specs.declared.logger.Spec.{Spec}
+use Rattle.alog_registry.specs.declared.logging.LogReply.{LogReply}
+
+-- there is a logger of each number
+pub spec_there : (ls : List Logger) (n : ℕ) → n < length ls → (s : Spec) × (spec_at ls n ≡ Some s)
+spec_there [] n below = absurd (omega (arith, below))
+spec_there (l ∷ ls) zero below = (l.spec, refl)
+spec_there (l ∷ ls) (suc n) below = spec_there ls n (omega (arith, below))
+
+-- a text that is short enough, and has no source, is refused for want of memory alone
+pub wants_memory : (limit : ℕ) (text : List ℕ) (e : MessageError) → length text ≤ limit → IsReason limit text None e → e ≡ message.OutOfMemory
+wants_memory limit text message.TextTooLong short is = absurd (omega (arith, short, is))
+wants_memory limit text message.FieldTooLong short is = absurd is.1
+wants_memory limit text message.OutOfMemory short is = refl
+
+pub same_on : {a b c : ProducerView} → IsSame a b → IsSame b c → IsSame a c
+same_on s t = record { shared = t.shared ∙ s.shared; number = t.number ∙ s.number; limit = t.limit ∙ s.limit }
+
+pub same_as : (a : ProducerView) → IsSame a a
+same_as a = record { shared = refl; number = refl; limit = refl }
+
+-- it stays ready
+pub ready_on : {limit : ℕ} (old new : PieceLog) → IsReady limit old → new.logger ≡ old.logger → IsSame old.producer new.producer → IsReady limit new
+ready_on {limit} old new h logger same =
+    let loggers : length new.producer.shared.loggers ≡ length old.producer.shared.loggers =
+    ap (λ (s : Shared). length s.loggers) same.shared in
+    let most = same.limit in
+    (omega (arith, h.0, logger, loggers), omega (arith, h.1, most))
+
+-- a piece that was answered
+pub found_of : (time : ℤ) (text : List ℕ) (log : PieceLog) (p : ProducerView) (answer : LogReply) (kept : Bool) → kept ≡ is_kept answer
+    → LogsText log.logger log.level time text answer log.producer p → LogsFound time text kept log (by p log)
+found_of time text log p answer true is t = ((answer, t, sym is), refl)
+found_of time text log p answer false is t = (inl (answer, t, sym is), refl)
+
+module _ {time : ℤ} {text : List ℕ} {old mid found : PieceLog} (tells : Tells time told.All old mid) (before : IsSame old.producer mid.producer)
+    (after : IsSame mid.producer found.producer) where
+  pub kept_piece : LogsFound time text true mid found → LogsPiece time text old found
+  kept_piece h = record { mid = mid; logged = inl (tells, inl h); same = same_on before after }
+
+  pub lost_piece : {new : PieceLog} → LogsFound time text false mid found → new ≡ missed_by found.producer found → LogsPiece time text old new
+  lost_piece h is =
+      subst (LogsPiece time text old) (sym (is ∙ ap (missed_by found.producer) h.1))
+      (record { mid = mid; logged = inl (tells, inr (h.0, refl)); same = same_on before after })
+
+-- the same logger
+pub told_logger : {time : ℤ} {old mid : PieceLog} → Tells time told.All old mid → mid.logger ≡ old.logger
+told_logger (inl h) = ap (λ (l : PieceLog). l.logger) h.1
+told_logger (inr h) = ap (λ (l : PieceLog). l.logger) h.2
+
+piece_kept : {time : ℤ} {text : List ℕ} {mid new : PieceLog}
+    → ((KeepsPiece time text mid new.producer × (new ≡ by new.producer mid)) ⊎ (LosesPiece time text mid new.producer × (new ≡ missed_by new.producer mid)))
+    → new.logger ≡ mid.logger
+piece_kept (inl h) = ap (λ (l : PieceLog). l.logger) h.1
+piece_kept (inr h) = ap (λ (l : PieceLog). l.logger) h.1
+
+untold_logger : {time : ℤ} {old mid : PieceLog} → (Tells time told.NoRoom old mid ⊎ Tells time told.NoMemory old mid) → mid.logger ≡ old.logger
+untold_logger (inl h) = ap (λ (l : PieceLog). l.logger) h.2
+untold_logger (inr h) = ap (λ (l : PieceLog). l.logger) h.1
+
+pub piece_logger : {time : ℤ} {text : List ℕ} {old mid new : PieceLog} → LogsPieceAt time text old mid new → new.logger ≡ old.logger
+piece_logger (inl h) = piece_kept h.1 ∙ told_logger h.0
+piece_logger (inr h) = ap (λ (l : PieceLog). l.logger) h.1 ∙ untold_logger h.0

@@ -1,0 +1,176 @@
+-- Pieces that are found and logged one after the other.
+use Rattle.std.proofs.Common.{◌≡◌, ◌+◌, ◌<◌, ◌≤◌, ℕ, zero, suc, ℤ, Bool, true, false, List, [], ◌∷◌, ◌++◌, length, length-append, Option, None, Some, refl, sym, ap, subst, ◌∙◌, arith, append_assoc}
+use Rattle.std.specs.Io.KnownBytes.{Consumes, IsAtEnd}
+use Rattle.std.specs.List.{flat_map, fold}
+use Rattle.std.proofs.lemmas.List.{append-nil}
+use Rattle.alog_lines.proofs.SharedCutting.{begins, ends_whole, reads_on, takes_on}
+use Rattle.alog_lines.specs.Cutting.{Cutting, HasCut, IsSame as IsSameCut, LacksPiece, Reads, Takes}
+use Rattle.alog_lines.specs.Lines.{IsUnbroken}
+use Rattle.alog_lines.specs.Pieces.{Piece}
+use Rattle.alog_pipe.specs.Counted.{counted, with_piece}
+use Rattle.alog_pipe.specs.InTurn.{InTurn}
+use Rattle.alog_pipe.proofs.Logging.{piece_logger}
+use Rattle.alog_pipe.specs.Piped.{LogsAll, LogsRead, Pumps, PumpsRead, TakesAll, all_of}
+use Rattle.alog_pipe.specs.declared.counts.Counts.{Counts}
+use Rattle.alog_pipe.specs.declared.piece_log.PieceLog.{PieceLog}
+use Rattle.alog_pipe.specs.declared.pump.Pump.{Pump}
+
+-- one more
+pub one_more : {A S : Type 0} (step : A → S → S → Type 0) (xs : List A) (x : A) (s m t : S) → InTurn step xs s m → step x m t
+    → InTurn step (xs ++ x ∷ []) s t
+one_more {A} {S} step [] x s m t all last = (t, subst (λ (o : S). step x o t) all last, refl)
+one_more step (y ∷ xs) x s m t all last = (all.0, all.1, one_more step xs x all.0 m t all.2 last)
+
+pub counted_more : (ps : List Piece) (p : Piece) (c : Counts) → counted (ps ++ p ∷ []) c ≡ with_piece (counted ps c) p
+counted_more [] p c = refl
+counted_more (q ∷ ps) p c = counted_more ps p (with_piece c q)
+
+pub counted_all : (ps qs : List Piece) (c : Counts) → counted (ps ++ qs) c ≡ counted qs (counted ps c)
+counted_all [] qs c = refl
+counted_all (p ∷ ps) qs c = counted_all ps qs (with_piece c p)
+
+pub all_more : (reads : List (List Piece)) (ps : List Piece) → all_of (reads ++ ps ∷ []) ≡ all_of reads ++ ps
+all_more [] ps = append-nil ps
+all_more (qs ∷ reads) ps = ap (λ l. qs ++ l) (all_more reads ps) ∙ sym (append_assoc qs (all_of reads) ps)
+
+-- the pieces that were taken follow those before
+pub takes_all : {limit : ℕ} {bytes : List ℕ} {before : List Piece} (ps : List Piece) (old new : Cutting) → HasCut limit bytes before old
+    → TakesAll ps old new → HasCut limit bytes (before ++ ps) new
+takes_all {limit} {bytes} {before} [] old new h same =
+    subst (λ (l : List Piece). HasCut limit bytes l new) (sym (append-nil before))
+    (subst (λ (s : Cutting). HasCut limit bytes before s) (sym same) h)
+takes_all {limit} {bytes} {before} (p ∷ ps) old new h all =
+    subst (λ (l : List Piece). HasCut limit bytes l new) (append_assoc before (p ∷ []) ps)
+    (takes_all ps all.0 new (takes_on h all.1.0 all.1.1) all.2)
+
+-- the limit stays, and the reader is no nearer to its end
+pub takes_same : (ps : List Piece) (old new : Cutting) → TakesAll ps old new → IsSameCut old new
+takes_same [] old new same = (ap (λ (s : Cutting). s.limit) same, ap (λ (s : Cutting). s.ended) same)
+takes_same (p ∷ ps) old new all =
+    let rest = takes_same ps all.0 new all.2 in (rest.0 ∙ all.1.1.0, rest.1 ∙ all.1.1.1)
+
+-- fewer bytes are pending
+pub takes_fewer : {p : Piece} {old new : Cutting} → Takes old new p → length new.pending < length old.pending
+takes_fewer {p} {old} {new} t =
+    let size = ap length t.whole ∙ length-append t.taken new.pending in
+    let some = t.some in omega (arith, size, some)
+
+-- what was read at first, and then
+pub consumes_on : (a b c : Option (List ℕ)) (xs ys : List ℕ) → Consumes a b xs → Consumes b c ys → Consumes a c (xs ++ ys)
+consumes_on None b c xs ys first then = tt
+consumes_on (Some x) None c xs ys first then = absurd first
+consumes_on (Some x) (Some y) None xs ys first then = absurd then
+consumes_on (Some x) (Some y) (Some z) xs ys first then = first ∙ ap (λ t. xs ++ t) then ∙ sym (append_assoc xs ys z)
+
+nothing_taken : (known : Option (List ℕ)) → Consumes known known []
+nothing_taken None = tt
+nothing_taken (Some x) = refl
+
+-- the logger stays
+pub logs_logger : (time : ℤ) (ps : List Piece) (old new : PieceLog) → LogsAll time ps old new → new.logger ≡ old.logger
+logs_logger time [] old new same = ap (λ (l : PieceLog). l.logger) same
+logs_logger time (p ∷ ps) old new all = logs_logger time ps all.0 new all.2 ∙ piece_logger all.1.logged
+
+pub read_logger : {ps : List Piece} {old new : PieceLog} → LogsRead ps old new → new.logger ≡ old.logger
+read_logger {ps} {old} {new} r = ap (λ (l : PieceLog). l.logger) r.flushed.rest ∙ logs_logger r.time ps old r.mid r.logged
+
+pub reads_logger : (reads : List (List Piece)) (old new : PieceLog) → InTurn LogsRead reads old new → new.logger ≡ old.logger
+reads_logger [] old new same = ap (λ (l : PieceLog). l.logger) same
+reads_logger (ps ∷ reads) old new all = reads_logger reads all.0 new all.2 ∙ read_logger all.1
+
+-- where nothing came, no piece is left
+pub lacks_on : {old new : Cutting} → LacksPiece old → new.pending ≡ old.pending → new.limit ≡ old.limit → new.ended ≡ false → LacksPiece new
+lacks_on {old} {new} h pending limit ended =
+    let few = h.few in
+    let size = ap length pending in
+    record {
+      unbroken = subst IsUnbroken (sym pending) h.unbroken;
+      few = omega (arith, few, size, limit);
+      none = λ e. let wrong : false ≡ true = sym ended ∙ e in absurd (cc wrong);
+    }
+
+-- What a pump has done: the reader gave some bytes, and what was logged are the pieces that were found of them.
+pub record HasPumped (limit : ℕ) (before after : Option (List ℕ)) (old new : Pump) : Type 0 where
+  pub bytes : List ℕ
+  pub taken : Consumes before after bytes
+  pub reads : List (List Piece)
+  pub logged : InTurn LogsRead reads old.log new.log
+  pub found : HasCut limit bytes (all_of reads) new.lines
+  pub left : LacksPiece new.lines
+  pub counted_is : new.counts ≡ counted (all_of reads) old.counts
+
+module _ {limit : ℕ} {before after last : Option (List ℕ)} {old mid : Pump} (h : HasPumped limit before after old mid) {lines : Cutting}
+    (read : Reads after last mid.lines lines) (reading : mid.lines.ended ≡ false) where
+  stays : mid.lines.ended ≡ true → lines ≡ mid.lines
+  stays e = let wrong : false ≡ true = sym reading ∙ e in absurd (cc wrong)
+
+  -- a read brought nothing
+  pub nothing_came : lines.pending ≡ mid.lines.pending → lines.ended ≡ false → HasPumped limit before last old (record mid { lines = lines })
+  nothing_came pending ended = record {
+    bytes = h.bytes ++ read.came.bytes;
+    taken = consumes_on before after last h.bytes read.came.bytes h.taken read.came.taken;
+    reads = h.reads;
+    logged = h.logged;
+    found = reads_on h.found read stays;
+    left = lacks_on h.left pending read.limit ended;
+    counted_is = h.counted_is;
+  }
+
+  -- what a read brought was logged
+  pub some_came : {new : Pump} → PumpsRead (record mid { lines = lines }) new → HasPumped limit before last old new
+  some_came {new} p = record {
+    bytes = h.bytes ++ read.came.bytes;
+    taken = consumes_on before after last h.bytes read.came.bytes h.taken read.came.taken;
+    reads = h.reads ++ p.pieces ∷ [];
+    logged = one_more LogsRead h.reads p.pieces old.log mid.log new.log h.logged p.logged;
+    found = subst (λ (ps : List Piece). HasCut limit (h.bytes ++ read.came.bytes) ps new.lines) (sym (all_more h.reads p.pieces))
+        (takes_all p.pieces lines new.lines (reads_on h.found read stays) p.taken);
+    left = p.left;
+    counted_is = p.counted_is ∙ ap (counted p.pieces) h.counted_is ∙ sym (counted_all (all_of h.reads) p.pieces old.counts)
+        ∙ ap (λ (ps : List Piece). counted ps old.counts) (sym (all_more h.reads p.pieces));
+  }
+
+-- nothing was read
+pub starts : (limit : ℕ) (before : Option (List ℕ)) (p : Pump) → p.lines.limit ≡ limit → p.lines.pending ≡ [] → p.lines.ended ≡ false
+    → HasPumped limit before before p p
+starts limit before p same none reading = record {
+  bytes = [];
+  taken = nothing_taken before;
+  reads = [];
+  logged = refl;
+  found = begins limit p.lines same none;
+  left = record {
+    unbroken = subst IsUnbroken (sym none) tt;
+    few = (let size = ap length none in omega (arith, size));
+    none = λ e. none;
+  };
+  counted_is = refl;
+}
+
+-- where the reader is at its end, it is all of what it gave
+pub at_end : {limit : ℕ} {before after : Option (List ℕ)} {old new : Pump} → HasPumped limit before after old new → new.lines.ended ≡ true
+    → IsAtEnd after → Pumps limit before after true old new
+at_end h ended end = record {
+  bytes = h.bytes;
+  taken = h.taken;
+  reads = h.reads;
+  logged = h.logged;
+  found = h.found;
+  left = h.left;
+  end = λ _. (end, ends_whole h.found h.left ended);
+  counted_is = h.counted_is;
+}
+
+-- and else a front
+pub not_at_end : {limit : ℕ} {before after : Option (List ℕ)} {old new : Pump} → HasPumped limit before after old new
+    → Pumps limit before after false old new
+not_at_end h = record {
+  bytes = h.bytes;
+  taken = h.taken;
+  reads = h.reads;
+  logged = h.logged;
+  found = h.found;
+  left = h.left;
+  end = λ e. let wrong : false ≡ true = e in absurd (cc wrong);
+  counted_is = h.counted_is;
+}

@@ -1,0 +1,22 @@
+use Rattle.std.proofs.Common.{refl}
+use Rattle.alog_pipe.proofs.Logging.{spec_there}
+use Rattle.alog_pipe.proofs.piece_log.PieceLog.flush.Goals as goal
+
+pub returns : goal.returns
+returns c =
+    let old = c.args.self.now in
+    let s = spec_there old.producer.shared.loggers old.logger c.requires.0 in
+    let post = c.flush.ensures.post s.0 s.1 in
+    record {
+      spec = s.0;
+      found = s.1;
+      outcome = c.flush.result;
+      port = post.0;
+      after = post.1;
+      lent = post.2;
+      left = post.3;
+      post = post.4;
+      others = c.flush.ensures.same.1;
+      same = c.flush.ensures.same.0;
+      rest = refl;
+    }

@@ -1,0 +1,5 @@
+pub mod InTurn
+pub mod Logged
+pub mod Counted
+pub mod Piped
+pub mod Pipes

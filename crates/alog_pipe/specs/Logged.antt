@@ -1,0 +1,117 @@
+-- What becomes of pieces of lines that are logged, and what says that some are missing.
+use Rattle.std.specs.Prelude.{◌≡◌, ◌≢◌, ◌⊎◌, ◌+◌, ◌-◌, ◌^◌, ◌%◌, ◌≤◌, ◌<◌, ℕ, zero, suc, ℤ, Bool, true, false, List, ◌++◌, length, None, Some, codes, min}
+use Rattle.std.specs.Fmt.{decimal}
+use Rattle.alog_msg.specs.declared.item.Item.TheVariants.{Flush}
+use Rattle.alog_msg.specs.declared.level.Level.{Level}
+use Rattle.alog_msg.specs.declared.level.Level.TheVariants.{Warning}
+use Rattle.alog_pipe.specs.declared.piece_log.PieceLog.{PieceLog}
+use Rattle.alog_pipe.specs.declared.piece_log.Told.{Told}
+use Rattle.alog_pipe.specs.declared.piece_log.Told.TheVariants as told
+use Rattle.alog_policy.specs.SwapPort.{SwapDid}
+use Rattle.alog_policy.specs.declared.policy.Outcome.{Outcome}
+use Rattle.alog_policy.specs.declared.policy.Outcome.TheVariants.{Posted, Discarded}
+use Rattle.alog_pool.specs.Producer.{ProducerView, IsPortOf, IsSame, Lent}
+use Rattle.alog_registry.specs.BlockPort.{BlockPort}
+use Rattle.alog_registry.specs.Given.{message_with}
+use Rattle.alog_registry.specs.ItemOutlet.{PostsItemNow}
+use Rattle.alog_registry.specs.LaneKeeper.{KeepsByTurn, NeverPasses}
+use Rattle.alog_registry.specs.Listed.{spec_at}
+use Rattle.alog_registry.specs.Logging.{Logs}
+use Rattle.alog_registry.specs.declared.logger.Spec.{Spec}
+use Rattle.alog_registry.specs.declared.logging.LogReply.{LogReply}
+use Rattle.alog_registry.specs.declared.logging.LogReply.TheVariants as reply
+
+-- The producer logged this text to the logger of this number, at this level and time, and was answered so.
+pub record LogsText (logger : ℕ) (level : Level) (time : ℤ) (text : List ℕ) (answer : LogReply) (old new : ProducerView) : Type 0 where
+  pub spec : Spec
+  pub found : spec_at old.shared.loggers logger ≡ Some spec
+  pub log : Lent old new logger (λ p k q l. Logs SwapDid KeepsByTurn NeverPasses spec.policy spec
+      (message_with logger level time old.number text None) p k answer q l)
+
+-- nothing of a text that was answered so is missing: it was posted, or it is below the logger's level
+abbrev pub is_kept : LogReply → Bool
+is_kept (reply.Filtered level kept) = true
+is_kept (reply.Logged (Posted ticket overran) kept) = true
+is_kept (reply.Logged (Discarded value why overran) kept) = false
+
+-- a text was logged, and it is kept or it is not
+abbrev pub Brings : ℕ → Level → ℤ → List ℕ → Bool → ProducerView → ProducerView → Type 0
+Brings logger level time text kept old new =
+    (answer : LogReply) × LogsText logger level time text answer old new × (is_kept answer ≡ kept)
+
+-- nothing was logged: the logger keeps copies for a backtrace, and there was no memory for one
+abbrev pub LacksMemory : ℕ → ProducerView → ProducerView → Type 0
+LacksMemory logger old new =
+    (new ≡ old) × ((spec : Spec) × (spec_at old.shared.loggers logger ≡ Some spec) × (spec.backtrace ≢ 0))
+
+-- the line that says that so many are missing
+abbrev pub hole_text : ℕ → List ℕ
+hole_text n = decimal n ++ codes " lines are missing here"
+
+-- with its producer as it is now; where besides all is said that is missing; where one more is missing
+abbrev pub by : ProducerView → PieceLog → PieceLog
+by p log = record log { producer = p }
+
+abbrev pub told_by : ProducerView → PieceLog → PieceLog
+told_by p log = record log { producer = p; hole = 0 }
+
+abbrev pub missed_by : ProducerView → PieceLog → PieceLog
+missed_by p log = record log { producer = p; hole = min (log.hole + 1) (2 ^ 64 - 1); missing = (log.missing + 1) % 2 ^ 64 }
+
+-- the logger is one of the producer's, which takes texts of so many bytes
+abbrev pub IsReady : ℕ → PieceLog → Type 0
+IsReady limit log = (log.logger < length log.producer.shared.loggers) × (limit ≤ log.producer.limit)
+
+-- a piece was logged, and it is kept; it is not
+abbrev pub KeepsPiece : ℤ → List ℕ → PieceLog → ProducerView → Type 0
+KeepsPiece time text log p = Brings log.logger log.level time text true log.producer p
+
+abbrev pub LosesPiece : ℤ → List ℕ → PieceLog → ProducerView → Type 0
+LosesPiece time text log p = Brings log.logger log.level time text false log.producer p ⊎ LacksMemory log.logger log.producer p
+
+-- the line that says how many are missing was logged, and it is kept; there was no room for it
+abbrev pub TellsHole : ℤ → PieceLog → ProducerView → Type 0
+TellsHole time log p = Brings log.logger Warning time (hole_text log.hole) true log.producer p
+
+abbrev pub HasNoRoom : ℤ → PieceLog → ProducerView → Type 0
+HasNoRoom time log p = Brings log.logger Warning time (hole_text log.hole) false log.producer p
+
+-- what was done for that line
+abbrev pub Tells : ℤ → Told → PieceLog → PieceLog → Type 0
+Tells time told.All old new =
+    ((old.hole ≡ 0) × (new ≡ old)) ⊎ ((0 < old.hole) × TellsHole time old new.producer × (new ≡ told_by new.producer old))
+Tells time told.NoRoom old new = (0 < old.hole) × HasNoRoom time old new.producer × (new ≡ by new.producer old)
+Tells time told.NoMemory old new = (0 < old.hole) × (new ≡ old)
+
+-- what was done for a piece where all is said that is missing before it
+abbrev pub LogsFound : ℤ → List ℕ → Bool → PieceLog → PieceLog → Type 0
+LogsFound time text true old new = KeepsPiece time text old new.producer × (new ≡ by new.producer old)
+LogsFound time text false old new = LosesPiece time text old new.producer × (new ≡ by new.producer old)
+
+-- A piece was logged. Where some before it are missing, the line that says how many goes before it. The piece is kept, or it is missing
+-- too; it is missing, and nothing of it was logged, where that line is not kept.
+abbrev pub LogsPieceAt : ℤ → List ℕ → PieceLog → PieceLog → PieceLog → Type 0
+LogsPieceAt time text old mid new =
+    (Tells time told.All old mid
+    × ((KeepsPiece time text mid new.producer × (new ≡ by new.producer mid))
+    ⊎ (LosesPiece time text mid new.producer × (new ≡ missed_by new.producer mid))))
+    ⊎ ((Tells time told.NoRoom old mid ⊎ Tells time told.NoMemory old mid) × (new ≡ missed_by mid.producer mid))
+
+pub record LogsPiece (time : ℤ) (text : List ℕ) (old new : PieceLog) : Type 0 where
+  pub mid : PieceLog
+  pub logged : LogsPieceAt time text old mid new
+  pub same : IsSame old.producer new.producer
+
+-- a flush of the logger was posted, or there was no room for it
+pub record Flushes (old new : PieceLog) : Type 0 where
+  pub spec : Spec
+  pub found : spec_at old.producer.shared.loggers old.logger ≡ Some spec
+  pub outcome : Outcome (Unit {0})
+  pub port : BlockPort
+  pub after : BlockPort
+  pub lent : IsPortOf old.producer port
+  pub left : IsPortOf new.producer after
+  pub post : PostsItemNow SwapDid spec.policy (Flush old.logger) port after outcome
+  pub others : new.producer.backtrace_seats ≡ old.producer.backtrace_seats
+  pub same : IsSame old.producer new.producer
+  pub rest : new ≡ by new.producer old

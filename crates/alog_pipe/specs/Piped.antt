@@ -1,0 +1,87 @@
+-- What a pipe does with what its reader gives.
+use Rattle.std.specs.Prelude.{◌≡◌, ◌⊎◌, ℕ, zero, suc, ℤ, Bool, true, List, [], ◌∷◌, Option}
+use Rattle.std.specs.Io.KnownBytes.{Consumes, IsAtEnd}
+use Rattle.std.specs.List.{flat_map}
+use Rattle.alog_lines.specs.Cutting.{Cutting, HasCut, IsSame as IsSameCut, LacksPiece, Takes}
+use Rattle.alog_lines.specs.Pieces.{Piece, pieces_of}
+use Rattle.alog_pipe.specs.Counted.{counted}
+use Rattle.alog_pipe.specs.InTurn.{InTurn}
+use Rattle.alog_pipe.specs.Logged.{Flushes, HasNoRoom, LogsPiece, Tells, by}
+use Rattle.alog_pipe.specs.declared.counts.Counts.{Counts}
+use Rattle.alog_pipe.specs.declared.piece_log.PieceLog.{PieceLog}
+use Rattle.alog_pipe.specs.declared.piece_log.Told.TheVariants as told
+use Rattle.alog_pipe.specs.declared.pump.Pump.{Pump}
+use Rattle.alog_pool.specs.Producer.{IsSame}
+
+-- the pieces of these reads
+abbrev pub all_of : List (List Piece) → List Piece
+all_of reads = flat_map (λ (ps : List Piece). ps) reads
+
+-- each piece was taken from the front of what was pending
+abbrev pub TakesAll : List Piece → Cutting → Cutting → Type 0
+TakesAll ps old new = InTurn (λ (p : Piece) s t. Takes s t p × IsSameCut s t) ps old new
+
+-- each was logged, at one time
+abbrev pub LogsAll : ℤ → List Piece → PieceLog → PieceLog → Type 0
+LogsAll time ps old new = InTurn (λ (p : Piece) s t. LogsPiece time p.text s t) ps old new
+
+-- The pieces of one read: each was logged at one time, and behind them a flush was posted.
+pub record LogsRead (ps : List Piece) (old new : PieceLog) : Type 0 where
+  pub time : ℤ
+  pub mid : PieceLog
+  pub logged : LogsAll time ps old mid
+  pub flushed : Flushes mid new
+
+-- What was pending was logged at this time: no piece is left, and each was counted.
+pub record PumpsAll (time : ℤ) (old new : Pump) : Type 0 where
+  pub pieces : List Piece
+  pub taken : TakesAll pieces old.lines new.lines
+  pub left : LacksPiece new.lines
+  pub logged : LogsAll time pieces old.log new.log
+  pub counted_is : new.counts ≡ counted pieces old.counts
+
+-- What a read brought was: at some time, and with a flush behind it.
+pub record PumpsRead (old new : Pump) : Type 0 where
+  pub pieces : List Piece
+  pub taken : TakesAll pieces old.lines new.lines
+  pub left : LacksPiece new.lines
+  pub logged : LogsRead pieces old.log new.log
+  pub counted_is : new.counts ≡ counted pieces old.counts
+
+-- The reader gave some bytes. What was logged are their pieces, in their order, each once, read by read: all of them where the reader is
+-- at its end, and else those that were found, with the others still pending. Each was counted.
+pub record Pumps (limit : ℕ) (before after : Option (List ℕ)) (all : Bool) (old new : Pump) : Type 0 where
+  pub bytes : List ℕ
+  pub taken : Consumes before after bytes
+  pub reads : List (List Piece)
+  pub logged : InTurn LogsRead reads old.log new.log
+  pub found : HasCut limit bytes (all_of reads) new.lines
+  pub left : LacksPiece new.lines
+  pub end : all ≡ true → IsAtEnd after × (all_of reads ≡ pieces_of limit bytes)
+  pub counted_is : new.counts ≡ counted (all_of reads) old.counts
+
+-- So often there was no room for the line that says how many pieces are missing.
+abbrev pub Naps : ℕ → ℤ → PieceLog → PieceLog → Type 0
+Naps zero time old new = new ≡ old
+Naps (suc n) time old new =
+    (mid : PieceLog) × Naps n time old mid × HasNoRoom time mid new.producer × (new ≡ by new.producer mid)
+
+-- Then it was logged and kept, or there was no memory for it; or none was missing.
+pub record Finishes (time : ℤ) (old new : PieceLog) : Type 0 where
+  pub tries : ℕ
+  pub mid : PieceLog
+  pub naps : Naps tries time old mid
+  pub last : Tells time told.All mid new ⊎ Tells time told.NoMemory mid new
+
+-- All of it: what the reader gave was logged, and then the line that says what is missing.
+pub record PumpsOut (limit : ℕ) (before after : Option (List ℕ)) (log new : PieceLog) (counts : Counts)
+    (all : Bool) : Type 0 where
+  pub start : Pump
+  pub last : Pump
+  pub log_is : start.log ≡ log
+  pub counts_are : start.counts ≡ record { lines = 0; bytes = 0; mended = 0; cut = 0 }
+  pub pumps : Pumps limit before after all start last
+  pub counted_are : counts ≡ last.counts
+  pub time : ℤ
+  pub finished : Finishes time last.log new
+  pub same : IsSame log.producer new.producer

@@ -1,0 +1,141 @@
+//! What a pipe logs with.
+ghost use Rattle.std.specs.Prelude.{◌≡◌, ◌≤◌, length};
+ghost use Rattle.alog_pipe.specs.Logged.{Flushes, IsReady, LogsFound, LogsPiece, Tells, is_kept, missed_by};
+ghost use Rattle.alog_pipe.specs.Piped.{Finishes};
+ghost use Rattle.alog_pool.specs.Producer.{IsSame};
+
+use alog_msg::Level;
+use alog_policy::Outcome;
+use alog_pool::Producer;
+use alog_registry::LogReply;
+use std::alloc::Global;
+use std::sync::Wait;
+use std::thread;
+use std::time::{Clock, Duration};
+
+/// How many milliseconds the end waits for room for the line that says what is missing, from one try to the next.
+const NAP_MILLIS: u64 = 1;
+
+/// Whether the log says what is missing.
+#[derive(Clone, Copy, Debug, PartialEq, Eq)]
+pub(crate) enum Told {
+    All,
+    /// There was no room in the queue for the line that says it.
+    NoRoom,
+    /// There was no memory for it.
+    NoMemory,
+}
+
+/// Logs pieces of lines to one logger, at one level, and in place of those that are missing a line that says how many they are.
+pub(crate) struct PieceLog {
+    pub(crate) producer: Producer,
+    /// The logger's number.
+    pub(crate) logger: u32,
+    pub(crate) level: Level,
+    /// How many of the last pieces are missing, which no line of the log says yet.
+    pub(crate) hole: u64,
+    /// How many are missing in all, modulo 2^64.
+    pub(crate) missing: u64,
+}
+
+impl PieceLog {
+    /// Logs a piece. Where pieces before it are missing, the line that says so goes before it; where that line is not kept, the piece is
+    /// missing too.
+    pub(crate) fn log<R: Wait + Clock>(&mut self, rt: &R, alloc: Global, time: i64, text: &str)
+        requires { IsReady (length text.now) self.old }
+        ensures { LogsPiece time text.now self.old self.new }
+    {
+        match self.tell_hole(rt, alloc, time) {
+            Told::All => {
+                if !self.log_found(rt, alloc, time, text) {
+                    self.miss();
+                }
+            }
+            Told::NoRoom | Told::NoMemory => self.miss(),
+        }
+    }
+
+    /// Posts a flush of the logger. Where there is no room for it under its policy, nothing is flushed.
+    pub(crate) fn flush(&mut self)
+        requires { IsReady 0 self.old }
+        ensures { Flushes self.old self.new }
+    {
+        let _ = self.producer.flush(self.logger);
+    }
+
+    /// Waits until the log says what is missing, unless there is no memory to say it.
+    pub(crate) fn finish<R: Wait + Clock>(&mut self, rt: &R, alloc: Global, time: i64)
+        requires { IsReady 0 self.old }
+        ensures finished { Finishes time self.old self.new }
+        ensures same { IsSame self.old.producer self.new.producer }
+    {
+        for _ in rt.forever() {
+            match self.tell_hole(rt, alloc, time) {
+                Told::NoRoom => thread::sleep(rt, Duration::from_millis(NAP_MILLIS)),
+                Told::All | Told::NoMemory => return,
+            }
+        }
+        unreachable!()
+    }
+
+    /// Counts a piece that is missing.
+    fn miss(&mut self)
+        ensures { self.new ≡ missed_by self.old.producer self.old }
+    {
+        self.hole = self.hole.saturating_add(1);
+        self.missing = self.missing.wrapping_add(1);
+    }
+
+    /// Logs a piece where all is said that is missing before it, and answers whether it is kept.
+    fn log_found<R: Wait + Clock>(
+        &mut self,
+        rt: &R,
+        alloc: Global,
+        time: i64,
+        text: &str,
+    ) -> bool
+        requires { IsReady (length text.now) self.old }
+        ensures found { LogsFound time text.now result self.old self.new }
+        ensures same { IsSame self.old.producer self.new.producer }
+    {
+        let (logger, level) = (self.logger, self.level);
+        match self.producer.log(rt, alloc, logger, level, time, text, None) {
+            Ok(reply) => is_kept(&reply),
+            Err(_) => false,
+        }
+    }
+
+    /// Logs the line that says how many pieces are missing, where some are.
+    fn tell_hole<R: Wait + Clock>(&mut self, rt: &R, alloc: Global, time: i64) -> Told
+        requires { IsReady 0 self.old }
+        ensures tells { Tells time result self.old self.new }
+        ensures same { IsSame self.old.producer self.new.producer }
+    {
+        let number = self.hole;
+        if number == 0 {
+            return Told::All;
+        }
+        let Ok(text) = format!(in alloc; "{number} lines are missing here") else {
+            return Told::NoMemory;
+        };
+        let (logger, level) = (self.logger, Level::Warning);
+        match self.producer.log(rt, alloc, logger, level, time, text.as_str(), None) {
+            Ok(reply) if is_kept(&reply) => {
+                self.hole = 0;
+                Told::All
+            }
+            Ok(_) => Told::NoRoom,
+            Err(_) => Told::NoMemory,
+        }
+    }
+}
+
+/// Whether nothing of a message is missing: it was posted, or is below the logger's level.
+fn is_kept(reply: &LogReply) -> bool
+    ensures { result ≡ is_kept reply.now }
+{
+    match reply {
+        LogReply::Filtered { .. } => true,
+        LogReply::Logged { outcome, .. } => matches!(outcome, Outcome::Posted { .. }),
+    }
+}
