@@ -8,7 +8,7 @@ use Rattle.bstr.specs.Utf8.{Decoded, decoded}
 use Rattle.bstr.proofs.lemmas.PieceLemmas.{piece-bounds, size-within}
 use Rattle.alog_lines.specs.Building.{Adds, Builds, IsFull}
 use Rattle.alog_lines.specs.Pieces.{Piece, nothing, with_char, chars_in, pieces_behind, pieces_in}
-use Rattle.alog_lines.specs.declared.cutter.TheConstants.{TEXT_LEAST}
+use Rattle.alog_lines.specs.declared.cutter.TheConstants.{TEXT_MIN}
 use Rattle.alog_lines.proofs.CharLemmas.{chars_in-step, chars_in-nil, decoded-front, decoded-short, length-with_char, width-most, size-width}
 use Rattle.alog_lines.proofs.PieceLemmas.{behind-nil, behind-fits, behind-next}
 
@@ -41,7 +41,7 @@ mended-with : (p : Piece) (c : Option ℕ) → (with_char p c).mended ≤ p.mend
 mended-with p (Some c) = omega arith
 mended-with p None = omega arith
 
-module _ (limit : ℕ) (bytes : List ℕ) (at : ℕ) (p : Piece) (w : Walks limit bytes at p) (least : TEXT_LEAST ≤ limit) (less : at < length bytes) where
+module _ (limit : ℕ) (bytes : List ℕ) (at : ℕ) (p : Piece) (w : Walks limit bytes at p) (least : TEXT_MIN ≤ limit) (less : at < length bytes) where
   abbrev rest : List ℕ
   rest = drop at bytes
 

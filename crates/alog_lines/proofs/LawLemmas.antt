@@ -14,7 +14,7 @@ use Rattle.bstr.proofs.lemmas.SoundLemmas.{SpellsChar-decoded}
 use Rattle.alog_lines.specs.Laws.{LinesEndOnce, PiecesAreTheLine, PiecesFit, ShortLinesAreWhole}
 use Rattle.alog_lines.specs.Lines.{lines_of}
 use Rattle.alog_lines.specs.Pieces.{Piece, chars_in, nothing, pieces_behind, pieces_in, with_char}
-use Rattle.alog_lines.specs.declared.cutter.TheConstants.{TEXT_LEAST}
+use Rattle.alog_lines.specs.declared.cutter.TheConstants.{TEXT_MIN}
 use Rattle.alog_lines.proofs.CharLemmas.{chars_in-nil, chars_in-step, length-with_char, width-most}
 use Rattle.alog_lines.proofs.PieceLemmas.{behind-fits, behind-next, behind-nil, short_line}
 
@@ -82,7 +82,7 @@ utf8-with : (p : Piece) (c : Option ℕ) → IsUtf8 p.text → IsChar c → IsUt
 utf8-with p (Some c) u h = IsUtf8-append p.text (encode_utf8 c) u (IsUtf8-encode c h)
 utf8-with p None u h = IsUtf8-append p.text (encode_utf8 replacement) u (IsUtf8-encode replacement (grind arith))
 
-module _ (limit : ℕ) (least : TEXT_LEAST ≤ limit) where
+module _ (limit : ℕ) (least : TEXT_MIN ≤ limit) where
   abbrev Fits : Piece → Type 0
   Fits p = IsUtf8 p.text × (length p.text ≤ limit)
 

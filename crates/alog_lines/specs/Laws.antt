@@ -5,7 +5,7 @@ use Rattle.std.specs.Str.{IsUtf8}
 use Rattle.std.specs.Str.Lossy.{utf8_lossy}
 use Rattle.alog_lines.specs.Lines.{lines_of}
 use Rattle.alog_lines.specs.Pieces.{Piece, pieces_in, pieces_of}
-use Rattle.alog_lines.specs.declared.cutter.TheConstants.{TEXT_LEAST}
+use Rattle.alog_lines.specs.declared.cutter.TheConstants.{TEXT_MIN}
 
 -- the texts of a line's pieces, one behind the other, are the line with U+FFFD for what is no character
 abbrev pub PiecesAreTheLine : Type 0
@@ -13,7 +13,7 @@ PiecesAreTheLine = (limit : ℕ) (line : List ℕ) → flat_map (λ (p : Piece).
 
 -- each is a text of at most so many bytes
 abbrev pub PiecesFit : Type 0
-PiecesFit = (limit : ℕ) (line : List ℕ) → TEXT_LEAST ≤ limit
+PiecesFit = (limit : ℕ) (line : List ℕ) → TEXT_MIN ≤ limit
     → AllByRecursion (λ (p : Piece). IsUtf8 p.text × (length p.text ≤ limit)) (pieces_in limit line)
 
 -- a short line in UTF-8 is one piece, of which nothing was mended

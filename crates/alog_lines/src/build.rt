@@ -2,7 +2,7 @@
 ghost use Rattle.std.specs.Prelude.{◌≡◌, ◌≤◌, ◌<◌, ◌+◌, ◌^◌, IsTrue, length};
 ghost use Rattle.std.specs.String.{string_bytes, string_capacity};
 ghost use Rattle.alog_lines.specs.Building.{Adds, Builds, IsFull, piece_built};
-ghost use Rattle.alog_lines.specs.declared.cutter.TheConstants.{TEXT_LEAST};
+ghost use Rattle.alog_lines.specs.declared.cutter.TheConstants.{TEXT_MIN};
 
 use bstr::decode_utf8;
 
@@ -18,7 +18,7 @@ pub(crate) struct Built {
 /// Writes the first piece of the line that begins with these bytes over a text. Where the line goes on behind them, they are more than
 /// a text has: what a part of a character at their end becomes does not fit then.
 pub(crate) fn build(bytes: &[u8], limit: usize, text: &mut String) -> Built
-    requires least { (TEXT_LEAST ≤ limit) × (limit < 2 ^ 32) }
+    requires least { (TEXT_MIN ≤ limit) × (limit < 2 ^ 32) }
     requires room { limit ≤ string_capacity text.old }
     ensures builds { Builds limit bytes.now result.taken (piece_built (string_bytes text.new) result) }
     ensures room { string_capacity text.old ≤ string_capacity text.new }

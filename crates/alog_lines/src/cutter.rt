@@ -3,7 +3,7 @@ ghost use Rattle.std.specs.Prelude.{◌≡◌, ◌≤◌, ◌<◌, None, [], Ok,
 ghost use Rattle.alog_lines.specs.Building.{Builds, piece_built};
 ghost use Rattle.alog_lines.specs.Cutting.{Brings, IsSame, LacksPiece, Reads, Takes, piece_of};
 ghost use Rattle.alog_lines.specs.Front.{Begins};
-ghost use Rattle.alog_lines.specs.declared.cutter.TheConstants.{TEXT_LEAST, TEXT_MOST};
+ghost use Rattle.alog_lines.specs.declared.cutter.TheConstants.{TEXT_MIN, TEXT_MAX};
 
 use crate::build::{Built, build};
 use crate::front::{Front, front_of};
@@ -17,10 +17,10 @@ use std::str;
 pub const CHUNK: usize = 65_536;
 
 /// The least limit on the bytes of a text: each character fits.
-pub const TEXT_LEAST: usize = 4;
+pub const TEXT_MIN: usize = 4;
 
 /// The greatest.
-pub const TEXT_MOST: usize = 65_536;
+pub const TEXT_MAX: usize = 65_536;
 
 /// What was found in the bytes that were read: a line, or a piece of one that is too long for a text.
 #[derive(Clone, Copy, Debug, PartialEq, Eq)]
@@ -75,7 +75,7 @@ impl Model for LineCutter {
     ghost use Rattle.std.specs.String.{string_bytes, string_capacity};
     ghost use Rattle.alog_lines.specs.Cutting.{Cutting};
     ghost use Rattle.alog_lines.specs.Window.{held};
-    ghost use Rattle.alog_lines.specs.declared.cutter.TheConstants.{CHUNK, TEXT_LEAST, TEXT_MOST};
+    ghost use Rattle.alog_lines.specs.declared.cutter.TheConstants.{CHUNK, TEXT_MIN, TEXT_MAX};
 
     ghost Value = { Cutting };
 
@@ -86,7 +86,7 @@ impl Model for LineCutter {
       ended = c.ended;
     } };
 
-    ghost invariant = { λ c. (TEXT_LEAST ≤ c.limit) × (c.limit ≤ TEXT_MOST) × (vec_len c.window.bytes ≡ CHUNK + c.limit)
+    ghost invariant = { λ c. (TEXT_MIN ≤ c.limit) × (c.limit ≤ TEXT_MAX) × (vec_len c.window.bytes ≡ CHUNK + c.limit)
         × (c.limit ≤ string_capacity c.built) × (c.start ≤ c.end) × (c.end ≤ vec_len c.window.bytes)
         × ∥ IsUtf8 (slice_range c.window.bytes.items c.start c.end) ∥₁ };
 }
@@ -94,7 +94,7 @@ impl Model for LineCutter {
 impl LineCutter {
     /// A cutter that has read nothing, of texts of at most so many bytes, 4 to 65,536. No other call takes memory.
     pub fn new(alloc: Global, limit: usize) -> Result<LineCutter, AllocError>
-        requires { (TEXT_LEAST ≤ limit) × (limit ≤ TEXT_MOST) }
+        requires { (TEXT_MIN ≤ limit) × (limit ≤ TEXT_MAX) }
         ensures { IfOk result (λ c. c ≡ record { limit = limit; pending = []; text = []; ended = false }) }
     {
         Ok(LineCutter {

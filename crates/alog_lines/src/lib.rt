@@ -17,4 +17,4 @@ mod front;
 pub mod laws;
 mod window;
 
-pub use cutter::{CHUNK, Cut, Fill, LineCutter, TEXT_LEAST, TEXT_MOST};
+pub use cutter::{CHUNK, Cut, Fill, LineCutter, TEXT_MAX, TEXT_MIN};

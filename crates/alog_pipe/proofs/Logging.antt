@@ -1,5 +1,5 @@
 -- What becomes of one piece, and of the line that says that some are missing.
-use Rattle.std.proofs.Common.{◌≡◌, ◌≢◌, ◌⊎◌, ◌<◌, ◌≤◌, ℕ, zero, suc, ℤ, Bool, true, false, List, [], ◌∷◌, ◌++◌, length, None, Some, refl, sym, ap, subst, ◌∙◌, arith, inl, inr}
+use Rattle.std.proofs.Common.{◌≡◌, ◌⊎◌, ◌<◌, ◌≤◌, ℕ, zero, suc, ℤ, Bool, true, false, List, [], ◌∷◌, length, None, Some, refl, sym, ap, subst, ◌∙◌, arith, inl, inr}
 use Rattle.alog_msg.specs.declared.message.MessageError.{MessageError}
 use Rattle.alog_msg.specs.declared.message.MessageError.TheVariants as message
 use Rattle.alog_pipe.specs.Logged.{IsReady, KeepsPiece, LogsFound, LogsPiece, LogsPieceAt, LogsText, LosesPiece, Tells, by, is_kept, missed_by}

@@ -1,5 +1,5 @@
 -- What is counted of pieces.
-use Rattle.std.specs.Prelude.{◌+◌, ◌^◌, ◌%◌, ℕ, List, length, fold, if◌then◌else◌}
+use Rattle.std.specs.Prelude.{◌+◌, ◌^◌, ◌%◌, List, length, fold, if◌then◌else◌}
 use Rattle.alog_lines.specs.Pieces.{Piece}
 use Rattle.alog_pipe.specs.declared.counts.Counts.{Counts}
 

@@ -1,5 +1,5 @@
 -- What becomes of pieces of lines that are logged, and what says that some are missing.
-use Rattle.std.specs.Prelude.{◌≡◌, ◌≢◌, ◌⊎◌, ◌+◌, ◌-◌, ◌^◌, ◌%◌, ◌≤◌, ◌<◌, ℕ, zero, suc, ℤ, Bool, true, false, List, ◌++◌, length, None, Some, codes, min}
+use Rattle.std.specs.Prelude.{◌≡◌, ◌≢◌, ◌⊎◌, ◌+◌, ◌-◌, ◌^◌, ◌%◌, ◌≤◌, ◌<◌, ℕ, ℤ, Bool, true, false, List, ◌++◌, length, None, Some, codes, min}
 use Rattle.std.specs.Fmt.{decimal}
 use Rattle.alog_msg.specs.declared.item.Item.TheVariants.{Flush}
 use Rattle.alog_msg.specs.declared.level.Level.{Level}

@@ -12,18 +12,23 @@ use Rattle.alog_pool.specs.declared.setup.Setup.{Setup}
 use Rattle.alog_server.specs.Setting.{IsSetupOf}
 use Rattle.alog_sink.specs.Files.{Files}
 
--- A pool of what the configuration gives was started, and made one producer, which logged what the reader gave to the logger of this
--- number at this level, and nothing else; with it the pool was ended.
 module _ {S : Type 0} (tells : Bool) (files : S → Files) (failures : S → ℕ) where
+  -- The pool made one producer, which logged what the reader gave to the logger of this number at this level, and nothing else; with it
+  -- the pool was ended.
+  pub record PipesThrough (limit : ℕ) (start : PoolView S) (logger : ℕ) (level : Level) (before after : Option (List ℕ)) (p : Piped S) : Type 0 where
+    pub begun : ProducerView
+    pub pool : PoolView S
+    pub makes : Makes start pool begun
+    pub log : PieceLog
+    pub pumps : PumpsOut limit before after (record { producer = begun; logger = logger; level = level; hole = 0; missing = 0 }) log p.counts
+        (is_none p.fault)
+    pub missing : p.missing ≡ log.missing
+    pub ends : Ends tells files failures pool (log.producer ∷ []) p.report
+
+  -- The pool is of what the configuration gives, and its texts are as long as those of its configuration.
   pub record Pipes (c : Config) (stores : List S) (logger : ℕ) (level : Level) (before after : Option (List ℕ)) (p : Piped S) : Type 0 where
     pub setup : Setup S
     pub given : IsSetupOf tells files failures c stores 0 setup
     pub start : PoolView S
     pub starts : Starts setup start
-    pub begun : ProducerView
-    pub pool : PoolView S
-    pub makes : Makes start pool begun
-    pub log : PieceLog
-    pub pumps : PumpsOut c.text before after (record { producer = begun; logger = logger; level = level; hole = 0; missing = 0 }) log p.counts (is_none p.fault)
-    pub missing : p.missing ≡ log.missing
-    pub ends : Ends tells files failures pool (log.producer ∷ []) p.report
+    pub through : PipesThrough c.text start logger level before after p

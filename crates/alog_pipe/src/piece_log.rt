@@ -87,19 +87,16 @@ impl PieceLog {
     }
 
     /// Logs a piece where all is said that is missing before it, and answers whether it is kept.
-    fn log_found<R: Wait + Clock>(
-        &mut self,
-        rt: &R,
-        alloc: Global,
-        time: i64,
-        text: &str,
-    ) -> bool
+    fn log_found<R: Wait + Clock>(&mut self, rt: &R, alloc: Global, time: i64, text: &str) -> bool
         requires { IsReady (length text.now) self.old }
         ensures found { LogsFound time text.now result self.old self.new }
         ensures same { IsSame self.old.producer self.new.producer }
     {
         let (logger, level) = (self.logger, self.level);
-        match self.producer.log(rt, alloc, logger, level, time, text, None) {
+        match self
+            .producer
+            .log(rt, alloc, logger, level, time, text, None)
+        {
             Ok(reply) => is_kept(&reply),
             Err(_) => false,
         }
@@ -119,7 +116,10 @@ impl PieceLog {
             return Told::NoMemory;
         };
         let (logger, level) = (self.logger, Level::Warning);
-        match self.producer.log(rt, alloc, logger, level, time, text.as_str(), None) {
+        match self
+            .producer
+            .log(rt, alloc, logger, level, time, text.as_str(), None)
+        {
             Ok(reply) if is_kept(&reply) => {
                 self.hole = 0;
                 Told::All

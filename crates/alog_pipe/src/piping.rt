@@ -1,8 +1,8 @@
 //! A whole pipe.
-ghost use Rattle.std.specs.Prelude.{◌≡◌, ◌<◌, IfOk, count_by, length};
+ghost use Rattle.std.specs.Prelude.{◌≡◌, ◌≤◌, ◌<◌, [], false, IfOk, count_by, length};
 ghost use Rattle.std.specs.List.{AllByRecursion};
 ghost use Rattle.alog_config.specs.Sinks.{is_leaf};
-ghost use Rattle.alog_pipe.specs.Pipes.{Pipes};
+ghost use Rattle.alog_pipe.specs.Pipes.{Pipes, PipesThrough};
 ghost use Rattle.alog_pool.specs.Report.{Ends};
 
 use crate::counts::Counts;
@@ -14,7 +14,7 @@ use alog_msg::Level;
 use alog_pool::{OpenGate, Pool, Producer, Report, StartError};
 use alog_server::setup_of;
 use alog_sink::Store;
-use std::alloc::Global;
+use std::alloc::{AllocError, Global};
 use std::io::{self, Read};
 use std::sync::Wait;
 use std::thread::Threads;
@@ -55,18 +55,41 @@ where
 {
     let lines = LineCutter::new(alloc, config.text)?;
     let setup = setup_of(alloc, config, stores, 0)?;
-    let mut pool = match Pool::start(rt, alloc, setup, OpenGate) {
+    let pool = match Pool::start(rt, alloc, setup, OpenGate) {
         Ok(pool) => pool,
         Err(StartError::OutOfMemory) => return Err(BuildError::OutOfMemory),
         Err(StartError::BadWorkers | StartError::BadSize | StartError::BadFirst) => unreachable!(),
     };
+    match pipe_through(rt, alloc, pool, lines, input, logger, level) {
+        Ok(piped) => Ok(piped),
+        Err(AllocError) => Err(BuildError::OutOfMemory),
+    }
+}
+
+/// Logs each line of a reader through this pool, which made no producer yet, and ends it.
+fn pipe_through<R: Threads + Wait + Clock, S: Store + Drop + Send + 'static, I: Read>(
+    rt: &R,
+    alloc: Global,
+    pool: Pool<S>,
+    lines: LineCutter,
+    input: &mut I,
+    logger: u32,
+    level: Level,
+) -> Result<Piped<S>, AllocError>
+    requires none { pool.made ≡ 0 }
+    requires ready { (logger < length pool.shared.loggers) × (lines.limit ≤ pool.limit) }
+    requires fresh { (lines.pending ≡ []) × (lines.ended ≡ false) }
+    ensures { IfOk result (λ p. PipesThrough S.tells S.files S.failures lines.limit pool logger level (I.remaining input.old)
+        (I.remaining input.new) p) }
+{
+    let mut pool = pool;
     let Ok(mut back) = Vec::with_capacity(alloc, 1) else {
         end(rt, pool, Vec::new(alloc));
-        return Err(BuildError::OutOfMemory);
+        return Err(AllocError);
     };
     let Ok(producer) = pool.producer() else {
         end(rt, pool, back);
-        return Err(BuildError::OutOfMemory);
+        return Err(AllocError);
     };
     let log = PieceLog {
         producer,

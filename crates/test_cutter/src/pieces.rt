@@ -1,6 +1,6 @@
 //! What is written of pieces, so that they can be looked at.
 ghost use Rattle.std.specs.Prelude.{◌≤◌};
-ghost use Rattle.alog_lines.specs.declared.cutter.TheConstants.{TEXT_LEAST, TEXT_MOST};
+ghost use Rattle.alog_lines.specs.declared.cutter.TheConstants.{TEXT_MIN, TEXT_MAX};
 
 use alog_lines::{Fill, LineCutter};
 use std::alloc::{AllocError, Global};
@@ -26,7 +26,7 @@ pub(crate) fn write_pending(lines: &mut LineCutter, out: &mut Vec<u8>) -> Result
 
 /// Writes so of all that a reader gives.
 pub(crate) fn written<R: Read>(alloc: Global, limit: usize, reader: &mut R) -> io::Result<Vec<u8>>
-    requires { (TEXT_LEAST ≤ limit) × (limit ≤ TEXT_MOST) }
+    requires { (TEXT_MIN ≤ limit) × (limit ≤ TEXT_MAX) }
 {
     let mut lines = LineCutter::new(alloc, limit)?;
     let mut out = Vec::new(alloc);

@@ -1,4 +1,3 @@
-use Rattle.std.proofs.Common.{refl, ◌∙◌, sym}
 use Rattle.std.proofs.lemmas.Int.{to_z-of_z}
 use Rattle.alog_pipe.proofs.Logging.{kept_piece, lost_piece}
 use Rattle.alog_pipe.proofs.piece_log.PieceLog.log.Goals as goal

@@ -1,6 +1,5 @@
-use Rattle.std.proofs.Common.{◌≡◌, [], ◌∷◌, ◌++◌, ℕ, List, length, sym, ap, subst, ◌∙◌, arith}
+use Rattle.std.proofs.Common.{◌≡◌, [], ◌∷◌, ◌++◌, ℕ, List, to_z, of_z, w64, length, sym, ap, subst, ◌∙◌, arith}
 use Rattle.alog_lines.specs.Cutting.{piece_of}
-use Rattle.alog_lines.specs.Pieces.{Piece}
 use Rattle.alog_pipe.specs.Counted.{with_piece}
 use Rattle.alog_pipe.specs.Logged.{LogsPiece}
 use Rattle.alog_pipe.specs.declared.counts.Counts.{Counts}
@@ -27,7 +26,7 @@ loop-cut-preserved g c =
       pieces = i.pieces ++ p ∷ [];
       taken = one_more _ i.pieces p _ _ _ i.taken (c.in-Some.ensures.found, c.in-Some.ensures.same);
       logged = one_more _ i.pieces p _ _ _ i.logged
-          (subst (λ (t : List ℕ). LogsPiece _ t c.loop-cut.self.log c.log.new.self) text c.log.ensures);
+          (subst (λ (t : List ℕ). LogsPiece (to_z w64 (of_z w64 c.args.time)) t c.loop-cut.self.log c.log.new.self) text c.log.ensures);
       counted_is = c.see.ensures
           ∙ ap (λ (t : List ℕ). with_piece c.loop-cut.self.counts (record { text = t; mended = cut.mended; ends = cut.ends })) text
           ∙ ap (λ (n : Counts). with_piece n p) i.counted_is ∙ sym (counted_more i.pieces p c.args.self.now.counts);

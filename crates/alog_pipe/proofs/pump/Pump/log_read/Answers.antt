@@ -1,4 +1,4 @@
-use Rattle.std.proofs.Common.{◌≤◌, arith}
+use Rattle.std.proofs.Common.{arith}
 use Rattle.alog_pipe.proofs.Logging.{ready_on}
 use Rattle.alog_pipe.proofs.Pumping.{logs_logger}
 use Rattle.alog_pipe.proofs.pump.Pump.log_read.Goals as goal

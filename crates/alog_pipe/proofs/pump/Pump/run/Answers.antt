@@ -38,7 +38,7 @@ pub returns-in-Ok-End-clause-pumps : goal.returns-in-Ok-End-clause-pumps
 returns-in-Ok-End-clause-pumps g c =
     let i = c.loop.invariant in
     let brings = rw c.in-Ok-End.field-0-is at c.in-Ok-End.ensures.brings in
-    let p = c.log_read.ensures.pumps in
+    let p = c.log_read-in-Ok-End.ensures.pumps in
     at_end (some_came i.pumped c.fill.ensures.read i.reading p) ((takes_same p.pieces _ _ p.taken).1 ∙ brings.1)
     (c.fill.ensures.read.end i.reading brings.1)
 
