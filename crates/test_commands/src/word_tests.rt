@@ -21,6 +21,7 @@ const ANSWERED: &[&[&str]] = &[
     &["alog", "replay", "--help"],
     &["alog", "format", "--help"],
     &["alog", "load", "--help"],
+    &["alog", "pipe", "--help"],
 ];
 
 /// Command lines that are wrong.
@@ -31,6 +32,8 @@ const WRONG: &[&[&str]] = &[
     &["alog", "replay", "file"],
     &["alog", "format", "%v"],
     &["alog", "load", "--folder=d"],
+    &["alog", "pipe", "c.toml"],
+    &["alog", "pipe", "c.toml", "--folder=d", "--level=loud"],
     &["alog", "loads", "c.toml"],
     &["alog", "format", "%v", "x", "y"],
     &["alog", "format", "%v", "x", "--after=0"],
