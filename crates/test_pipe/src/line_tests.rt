@@ -79,7 +79,9 @@ const SIZES: &[usize] = &[1, 3, 65_536];
 fn told(alloc: Global, row: &Row, size: usize) -> Result<String, AllocError> {
     let counts = row.counts;
     let all = row.pieces + row.came.len().div_ceil(size) + 1;
-    format!(in alloc; "{counts}missing 0\nasked {all}\nposted {all}\ndiscarded 0\noverrun 0\nhandled {all}\n")
+    format!(in alloc;
+        "{counts}missing 0\nasked {all}\nposted {all}\ndiscarded 0\noverrun 0\nhandled {all}\n"
+    )
 }
 
 /// Whether a pipe of a row is told so.
@@ -87,7 +89,13 @@ fn is_told<R: Host>(rt: &R, places: (&str, &str), row: &Row, size: usize) -> boo
     match told(rt.alloc(), row, size) {
         Ok(told) => {
             let mut input = Chunks::new(row.came, size);
-            pipes(rt, places, &["--totals"], &mut input, Said::done(told.as_str()))
+            pipes(
+                rt,
+                places,
+                &["--totals"],
+                &mut input,
+                Said::done(told.as_str()),
+            )
         }
         Err(_) => false,
     }

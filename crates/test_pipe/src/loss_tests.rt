@@ -5,7 +5,8 @@ use std::{io, str};
 use test_runs::{Host, run};
 
 /// A small queue, to which nobody waits.
-const LOSING: &str = "queue = 2\n\n[[sink]]\nname = \"out\"\nkind = \"memory\"\npattern = \"%v\"\n\n\
+const LOSING: &str =
+    "queue = 2\n\n[[sink]]\nname = \"out\"\nkind = \"memory\"\npattern = \"%v\"\n\n\
                       [[logger]]\nname = \"net\"\npolicy = \"discard_new\"\nsinks = [\"out\"]\n";
 
 /// How many lines are piped.
