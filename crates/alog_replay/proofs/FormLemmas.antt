@@ -30,9 +30,6 @@ abbrev pub Decided : {X : Type 0} → (X → Type 0) → Type 0
 Decided {X} P = ((x : X) × P x) ⊎ ((x : X) → P x → ⊥)
 
 -- digits have one value
-same_number : (least most : ℕ) (digits : List ℕ) (n m : ℕ) → SpellsNumber least most digits n → SpellsNumber least most digits m → n ≡ m
-same_number least most digits n m h g = sym h.1 ∙ g.1
-
 same_count : (t : Option (List ℕ)) (n m : ℕ) → SpellsCount t n → SpellsCount t m → n ≡ m
 same_count None n m h g = h ∙ sym g
 same_count (Some digits) n m h g = sym h.1 ∙ g.1

@@ -13,11 +13,6 @@ use Rattle.alog_replay.specs.declared.lines.Line.TheVariants as next
 use Rattle.alog_replay.specs.declared.lines.Piece.TheVariants as piece
 use Rattle.alog_replay.proofs.LineLemmas.{lines_of-nil, takes_ended, takes_last, begins_too_long, unbroken-append}
 
--- nothing was taken
-pub consumes_nothing : (known : Option (List ℕ)) → Consumes known known []
-consumes_nothing None = tt
-consumes_nothing (Some xs) = refl
-
 -- what is taken in two parts
 pub consumes_more : (old mid new : Option (List ℕ)) (line more : List ℕ) → Consumes old mid line → Consumes mid new more
     → Consumes old new (line ++ more)

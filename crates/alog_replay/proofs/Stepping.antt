@@ -20,10 +20,6 @@ pub true_or_not : (b : Bool) → (b ≡ true → ⊥) → b ≡ false
 true_or_not true h = absurd (h refl)
 true_or_not false h = refl
 
-pub false_or_not : (b : Bool) → (b ≡ false → ⊥) → b ≡ true
-false_or_not true h = refl
-false_or_not false h = absurd (h refl)
-
 module _ {S : Type 0} (scene : Scene S) (ended : S → Played S) where
   -- one step of those to come is made
   pub one_made : (k actor : ℕ) (s : S) (p : Played S) → 0 < k → scene.is_free s actor ≡ false

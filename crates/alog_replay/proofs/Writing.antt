@@ -1,5 +1,5 @@
 -- What a writer holds after several writes.
-use Rattle.std.proofs.Common.{◌≡◌, ℕ, ◌≤◌, List, [], ◌++◌, length, take, drop, Option, Some, None, refl, sym, ap, ◌∙◌}
+use Rattle.std.proofs.Common.{◌≡◌, ℕ, ◌≤◌, List, [], ◌++◌, length, take, drop, Option, Some, None, sym, ap, ◌∙◌}
 use Rattle.std.proofs.Common.{append_assoc, arith}
 use Rattle.std.proofs.lemmas.List.{append-nil, take-append-drop}
 use Rattle.std.proofs.lemmas.Grind.{common_steps}
@@ -21,19 +21,11 @@ appends_more (Some xs) None new bs cs h k = absurd h
 appends_more (Some xs) (Some ys) None bs cs h k = absurd k
 appends_more (Some xs) (Some ys) (Some zs) bs cs h k = k ∙ (ap (λ ws. ws ++ cs) h ∙ append_assoc xs bs cs)
 
-pub appends_is : (old new : Option (List ℕ)) (bs cs : List ℕ) → bs ≡ cs → Appends old new bs → Appends old new cs
-appends_is None new bs cs e h = tt
-appends_is (Some xs) None bs cs e h = absurd h
-appends_is (Some xs) (Some ys) bs cs e h = h ∙ ap (λ ws. xs ++ ws) e
-
 -- a front of the bytes is written, and this rest is not
 pub record HasWritten (old now : Option (List ℕ)) (bytes rest : List ℕ) : Type 0 where
   pub front : List ℕ
   pub split : bytes ≡ front ++ rest
   pub written : Appends old now front
-
-pub written_nothing : (old : Option (List ℕ)) (bytes : List ℕ) → HasWritten old old bytes bytes
-written_nothing old bytes = record { front = []; split = refl; written = appends_nothing old }
 
 pub written_more : {old now : Option (List ℕ)} {bytes rest after : List ℕ} (new : Option (List ℕ)) (n : ℕ) → HasWritten old now bytes rest
     → Appends now new (take n rest)
