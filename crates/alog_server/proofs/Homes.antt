@@ -3,7 +3,6 @@ use Rattle.std.proofs.Common.{◌≡◌, ◌<◌, ◌∙◌, List, [], ◌∷◌
 use Rattle.std.specs.List.{AllByRecursion}
 use Rattle.alog_pool.specs.Producer.{ProducerView}
 use Rattle.alog_pool.specs.declared.shared.Shared.{Shared}
-use Rattle.alog_registry.specs.declared.logger.Logger.{Logger}
 use Rattle.alog_server.specs.Homes.{IsAtHome, IsHomeOf, loggers_of}
 use Rattle.alog_server.specs.Making.{AreOf}
 
@@ -36,8 +35,3 @@ pub of_home : (s : Shared) (all back : List ProducerView) → 0 < length all →
     → AllByRecursion (λ (p : ProducerView). IsHomeOf all p.shared) back → AreOf s back
 of_home s all [] some own home = tt
 of_home s all (p ∷ back) some own home = (same_home s p.shared all some own home.0, of_home s all back some own home.1)
-
--- a producer that is the same one of the same pool stays at home
-pub stays_home : (is_home : Shared → Type 0) (loggers : List Logger) (old new : ProducerView) → new.shared ≡ old.shared
-    → IsAtHome is_home loggers old → IsAtHome is_home loggers new
-stays_home is_home loggers old new same home = subst (λ (s : Shared). is_home s × (s.loggers ≡ loggers)) (sym same) home

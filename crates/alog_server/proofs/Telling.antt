@@ -109,12 +109,6 @@ picked_count f P (a ∷ all) xs ys (inl h) (inr k) = absurd (k.0 h.1)
 picked_count f P (a ∷ all) xs ys (inr h) (inl k) = absurd (h.0 k.1)
 picked_count f P (a ∷ all) xs ys (inr h) (inr k) = picked_count f P all xs ys h.1 k.1
 
--- and so of what was made of those that were picked
-made_of_picked : {A B C : Type 0} (f : A → B) (g : A → C) (P : B → Type 0) (all xs : List A) {bs : List B} (ys : List B) {made : List C}
-    → map f all ≡ bs → made ≡ map g xs → ArePicked (λ a. P (f a)) all xs → ArePicked P bs ys → length ys ≡ length made
-made_of_picked {A} {B} f g P all xs ys of is h k =
-    sym (picked_count f P all xs ys h (subst (λ (l : List B). ArePicked P l ys) (sym of) k)) ∙ sym (ap length is ∙ length-map xs g)
-
 -- one item more
 pub take_next : (xs : List ℕ) (i d : ℕ) → i < length xs → take (i + 1) xs ≡ take i xs ++ slice_index_or xs i d ∷ []
 take_next [] i d low = absurd (omega (arith, low))
@@ -128,8 +122,10 @@ module _ {S : Type 0} (tells : Bool) (files : S → Files) (failures : S → ℕ
   pub told_count : (c : Config) (stores : List S) (loggers : List Logger) (sinks : List (Sink S)) (ends : List SinkEnd)
       → Built tells files failures c stores loggers sinks → TellsSinks c ends → length ends ≡ length sinks
   told_count c stores loggers sinks ends b told =
+      let IsTop : SinkConfig → Type 0 = λ s. ¬ IsMember c.sinks.items s.name in
+      let tops = subst (λ (l : List SinkConfig). ArePicked IsTop l told.0) (sym b.of) told.1 in
       each_is_long (IsEndOf c.sinks.items) told.0 ends told.2
-      ∙ made_of_picked _ _ (λ (s : SinkConfig). ¬ IsMember c.sinks.items s.name) b.parts b.tops told.0 b.of b.sinks b.picked told.1
+      ∙ sym (picked_count _ IsTop b.parts b.tops told.0 b.picked tops) ∙ sym (ap length b.sinks ∙ length-map b.tops _)
 
   -- a report has a number of faults for each sink
   pub closed_count : (lanes : List (LaneId (Sink S))) (rows : List (List (SinkSeatView S))) (sinks : List (Sink S)) (faults : List ℕ)
