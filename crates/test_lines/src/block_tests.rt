@@ -1,7 +1,7 @@
 //! Blocks: what they hold after each write, at each length of a text, and what is refused.
 ghost use Rattle.std.specs.Prelude.{◌≡◌, ◌≤◌};
 
-use crate::msg_tests::letters;
+use crate::msg_tests::{LONG_SOURCES, letters};
 use alog_msg::{Block, Item, Level, Message, Source, SourceRef, WriteError};
 use std::process::Abort;
 
@@ -76,38 +76,89 @@ fn holds(rt: &impl Abort, block: &Block, logger: u8, text: &str, source: Option<
     }
 }
 
+/// The message is written.
+fn writes(
+    rt: &impl Abort,
+    block: &mut Block,
+    logger: u8,
+    text: &str,
+    source: Option<SourceRef<'_>>,
+) {
+    assert!(rt; write(block, logger, text, source).is_ok());
+}
+
+/// The message is refused for this reason.
+fn refuses(
+    rt: &impl Abort,
+    block: &mut Block,
+    logger: u8,
+    text: &str,
+    source: Option<SourceRef<'_>>,
+    error: WriteError,
+) {
+    assert!(rt; write(block, logger, text, source) == Err(error));
+}
+
+/// The message is written, and the block holds it.
+fn keeps(
+    rt: &impl Abort,
+    block: &mut Block,
+    logger: u8,
+    text: &str,
+    source: Option<SourceRef<'_>>,
+) {
+    writes(rt, block, logger, text, source);
+    holds(rt, block, logger, text, source);
+}
+
+/// The block's limit is 64, and it holds a stop.
+fn is_stop(rt: &impl Abort, block: &Block) {
+    assert!(rt; block.limit() == 64);
+    assert!(rt; matches!(block.item(), Item::Stop));
+}
+
+/// The flush of a logger is written, and the block holds it.
+fn keeps_flush(rt: &impl Abort, block: &mut Block, logger: u32) {
+    block.write_flush(logger);
+    assert!(rt; matches!(block.item(), Item::Flush(found) if *found == logger));
+}
+
 #[test]
 fn items_of_a_block(rt: HostRuntime) {
     let mut block = block(&rt, 64);
-    assert!(rt; block.limit() == 64);
-    assert!(rt; matches!(block.item(), Item::Stop));
-    assert!(rt; write(&mut block, 7, "no route", Some(LOG)).is_ok());
-    holds(&rt, &block, 7, "no route", Some(LOG));
-    assert!(rt; write(&mut block, 8, "", None).is_ok());
-    holds(&rt, &block, 8, "", None);
-    block.write_flush(9);
-    assert!(rt; matches!(block.item(), Item::Flush(9)));
-    assert!(rt; write(&mut block, 3, "route", Some(OTHER)).is_ok());
-    holds(&rt, &block, 3, "route", Some(OTHER));
+    is_stop(&rt, &block);
+    keeps(&rt, &mut block, 7, "no route", Some(LOG));
+    keeps(&rt, &mut block, 8, "", None);
+    keeps_flush(&rt, &mut block, 9);
+    keeps(&rt, &mut block, 3, "route", Some(OTHER));
     block.write_stop();
-    assert!(rt; matches!(block.item(), Item::Stop));
-    assert!(rt; block.limit() == 64);
+    is_stop(&rt, &block);
 }
 
 /// The lengths at which a text lies elsewhere, and those beside them.
 const LENGTHS: [usize; 8] = [1, 64, 65, 512, 513, 2_048, 2_049, 8_192];
 
+/// Writes and checks a text with each source and without, after which another text follows.
+fn each_source(rt: &impl Abort, block: &mut Block, logger: u8, text: &str, following: &str) {
+    for source in [None, Some(LOG), Some(OTHER)] {
+        keeps(rt, block, logger, text, source);
+        keeps(rt, block, 99, following, Some(LOG));
+    }
+}
+
 /// Writes and checks a text of each length, after which a text of the first length follows.
 fn each_after(rt: &(impl Abort + AllocGlobal), block: &mut Block, text: &str) {
     for (len, logger) in LENGTHS.into_iter().zip(0..8) {
-        for source in [None, Some(LOG), Some(OTHER)] {
-            let other = letters(rt, len);
-            assert!(rt; write(block, logger, other.as_str(), source).is_ok());
-            holds(rt, block, logger, other.as_str(), source);
-            assert!(rt; write(block, 99, text, Some(LOG)).is_ok());
-            holds(rt, block, 99, text, Some(LOG));
-        }
+        let other = letters(rt, len);
+        each_source(rt, block, logger, other.as_str(), text);
     }
+}
+
+/// So many letters, and one more, which is another.
+fn letters_and_b(rt: &(impl Abort + AllocGlobal), count: usize) -> String {
+    let mut text = letters(rt, count);
+    assert!(rt; text.push('b').is_ok(), "out of memory");
+    text
 }
 
 /// Text after text, each of these lengths after each, in one block, with a source and without.
@@ -115,8 +166,7 @@ fn each_after(rt: &(impl Abort + AllocGlobal), block: &mut Block, text: &str) {
 fn texts_of_a_block(rt: HostRuntime) {
     let mut block = block(&rt, 8_192);
     for len in LENGTHS {
-        let mut text = letters(&rt, len - 1);
-        assert!(rt; text.push('b').is_ok(), "out of memory");
+        let text = letters_and_b(&rt, len - 1);
         each_after(&rt, &mut block, text.as_str());
     }
 }
@@ -129,48 +179,63 @@ fn is_refused(
     error: WriteError,
 ) {
     let mut block = block(rt, 64);
-    assert!(rt; write(&mut block, 7, "no route", Some(LOG)).is_ok());
-    assert!(rt; write(&mut block, 8, text, source) == Err(error));
+    writes(rt, &mut block, 7, "no route", Some(LOG));
+    refuses(rt, &mut block, 8, text, source, error);
     holds(rt, &block, 7, "no route", Some(LOG));
 }
 
+/// Three messages of a text are written, and after each a longer one is refused.
+fn keeps_to_its_limit(rt: &impl Abort, block: &mut Block, text: &str, long: &str) {
+    for logger in 0..3 {
+        writes(rt, block, logger, text, None);
+        refuses(rt, block, 99, long, None, WriteError::TextTooLong);
+        holds(rt, block, logger, text, None);
+    }
+}
+
+const LIMITS: [usize; 7] = [64, 65, 512, 513, 2_048, 2_049, 8_192];
+
 #[test]
 fn blocks_at_their_limit(rt: HostRuntime) {
-    for limit in [64, 65, 512, 513, 2_048, 2_049, 8_192] {
-        let mut block = block(&rt, limit);
+    for limit in LIMITS {
         let text = letters(&rt, limit);
         let long = letters(&rt, limit + 1);
-        for logger in 0..3 {
-            assert!(rt; write(&mut block, logger, text.as_str(), None).is_ok());
-            let refused = write(&mut block, 99, long.as_str(), None);
-            assert!(rt; refused == Err(WriteError::TextTooLong));
-            holds(&rt, &block, logger, text.as_str(), None);
-        }
+        let mut block = block(&rt, limit);
+        keeps_to_its_limit(&rt, &mut block, text.as_str(), long.as_str());
     }
+}
+
+/// A source with a file and a function of so many letters is kept, before another one and behind it.
+fn keeps_source(rt: &(impl Abort + AllocGlobal), file: usize, function: usize) {
+    let (file, function) = (letters(rt, file), letters(rt, function));
+    let lent = SourceRef {
+        file: file.as_str(),
+        line: 0,
+        function: function.as_str(),
+    };
+    let mut block = block(rt, 64);
+    keeps(rt, &mut block, 1, "", Some(lent));
+    keeps(rt, &mut block, 2, "", Some(OTHER));
+    keeps(rt, &mut block, 3, "", Some(lent));
+}
+
+/// A source with a file and a function of so many letters is refused, behind a text that is too long.
+fn refuses_source(rt: &(impl Abort + AllocGlobal), file: usize, function: usize) {
+    let (file, function) = (letters(rt, file), letters(rt, function));
+    let lent = SourceRef {
+        file: file.as_str(),
+        line: 0,
+        function: function.as_str(),
+    };
+    is_refused(rt, "", Some(lent), WriteError::FieldTooLong);
+    let long = letters(rt, 65);
+    is_refused(rt, long.as_str(), Some(lent), WriteError::TextTooLong);
 }
 
 #[test]
 fn sources_of_a_block_at_their_limits(rt: HostRuntime) {
-    let (file, long_file) = (letters(&rt, 256), letters(&rt, 257));
-    let (function, long_function) = (letters(&rt, 128), letters(&rt, 129));
-    let source = |file, function| SourceRef {
-        file,
-        line: 0,
-        function,
-    };
-    let at_limits = source(file.as_str(), function.as_str());
-    let mut block = block(&rt, 64);
-    for (logger, lent) in [(1, at_limits), (2, OTHER), (3, at_limits)] {
-        assert!(rt; write(&mut block, logger, "", Some(lent)).is_ok());
-        holds(&rt, &block, logger, "", Some(lent));
-    }
-    let long = letters(&rt, 65);
-    for too_long in [
-        source(long_file.as_str(), function.as_str()),
-        source(file.as_str(), long_function.as_str()),
-        source(long_file.as_str(), long_function.as_str()),
-    ] {
-        is_refused(&rt, "", Some(too_long), WriteError::FieldTooLong);
-        is_refused(&rt, long.as_str(), Some(too_long), WriteError::TextTooLong);
+    keeps_source(&rt, 256, 128);
+    for (file, function) in &LONG_SOURCES {
+        refuses_source(&rt, *file, *function);
     }
 }

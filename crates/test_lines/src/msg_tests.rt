@@ -14,12 +14,26 @@ fn made(
     Message::new(rt.alloc(), TEXT_LIMIT, 7, Level::Error, -5, 9, text, source)
 }
 
-/// A message of this text and source.
-fn message(rt: &(impl Abort + AllocGlobal), text: &str, source: Option<SourceRef<'_>>) -> Message {
-    match made(rt, text, source) {
+/// The message that was made.
+fn made_or_end(rt: &impl Abort, made: Result<Message, MessageError>) -> Message {
+    match made {
         Ok(message) => message,
         Err(MessageError::OutOfMemory) => panic!(rt; "out of memory"),
         Err(_) => panic!(rt; "no message"),
+    }
+}
+
+/// A message of this text and source.
+fn message(rt: &(impl Abort + AllocGlobal), text: &str, source: Option<SourceRef<'_>>) -> Message {
+    made_or_end(rt, made(rt, text, source))
+}
+
+/// No message was made, for this reason.
+fn refuses(rt: &impl Abort, made: Result<Message, MessageError>, error: MessageError) {
+    match made {
+        Ok(_) => panic!(rt; "no error"),
+        Err(MessageError::OutOfMemory) => panic!(rt; "out of memory"),
+        Err(found) => assert!(rt; found == error),
     }
 }
 
@@ -30,54 +44,64 @@ fn is_refused(
     source: Option<SourceRef<'_>>,
     error: MessageError,
 ) {
-    match made(rt, text, source) {
-        Ok(_) => panic!(rt; "no error"),
-        Err(MessageError::OutOfMemory) => panic!(rt; "out of memory"),
-        Err(found) => assert!(rt; found == error),
-    }
+    refuses(rt, made(rt, text, source), error);
 }
+
+/// Each level with its number, its name and its letter.
+const LEVELS: [(Level, u8, &str, &str); 7] = [
+    (Level::Trace, 0, "trace", "T"),
+    (Level::Debug, 1, "debug", "D"),
+    (Level::Info, 2, "info", "I"),
+    (Level::Warning, 3, "warning", "W"),
+    (Level::Error, 4, "error", "E"),
+    (Level::Critical, 5, "critical", "C"),
+    (Level::Off, 6, "off", "O"),
+];
 
 #[test]
 fn table_of_levels(rt: HostRuntime) {
-    for (level, number, name, short) in [
-        (Level::Trace, 0, "trace", "T"),
-        (Level::Debug, 1, "debug", "D"),
-        (Level::Info, 2, "info", "I"),
-        (Level::Warning, 3, "warning", "W"),
-        (Level::Error, 4, "error", "E"),
-        (Level::Critical, 5, "critical", "C"),
-        (Level::Off, 6, "off", "O"),
-    ] {
-        assert!(rt; level.number() == number);
-        assert!(rt; level.name() == name && level.short() == short);
-        assert!(rt; Level::read(name) == Some(level));
+    for (level, number, name, short) in &LEVELS {
+        assert!(rt; level.number() == *number);
+        assert!(rt; level.name() == *name && level.short() == *short);
+        assert!(rt; Level::read(name) == Some(*level));
     }
     assert!(rt; Level::Debug < Level::Info);
 }
 
+const OTHER_NAMES: [(&str, Option<Level>); 6] = [
+    ("warn", Some(Level::Warning)),
+    ("err", Some(Level::Error)),
+    ("Info", None),
+    ("T", None),
+    ("infos", None),
+    ("", None),
+];
+
 #[test]
 fn other_names_of_levels(rt: HostRuntime) {
-    for (name, level) in [
-        ("warn", Some(Level::Warning)),
-        ("err", Some(Level::Error)),
-        ("Info", None),
-        ("T", None),
-        ("infos", None),
-        ("", None),
-    ] {
-        assert!(rt; Level::read(name) == level, "{name}");
+    for (name, level) in &OTHER_NAMES {
+        assert!(rt; Level::read(name) == *level, "{name}");
     }
+}
+
+/// A copy of a text.
+fn text_of(rt: &(impl Abort + AllocGlobal), text: &str) -> Text {
+    match Text::copy_of(rt.alloc(), text) {
+        Ok(text) => text,
+        Err(_) => panic!(rt; "out of memory"),
+    }
+}
+
+/// The text has these bytes, which are so many.
+fn has_bytes(rt: &impl Abort, text: &Text, bytes: &str, len: usize) {
+    assert!(rt; (text.len(), text.is_empty()) == (len, len == 0));
+    assert!(rt; text.as_bytes() == bytes.as_bytes());
 }
 
 #[test]
 fn text_with_its_bytes(rt: HostRuntime) {
-    for (bytes, len) in [("né", 3), ("", 0)] {
-        let Ok(text) = Text::copy_of(rt.alloc(), bytes) else {
-            panic!(rt; "out of memory")
-        };
-        assert!(rt; (text.len(), text.is_empty()) == (len, len == 0));
-        assert!(rt; text.as_bytes() == bytes.as_bytes());
-    }
+    has_bytes(&rt, &text_of(&rt, "né"), "né", 3);
+    has_bytes(&rt, &text_of(&rt, ""), "", 0);
 }
 
 /// What is printed of a text.
@@ -86,21 +110,28 @@ fn printed(alloc: Global, text: &str) -> Result<String, AllocError> {
     format!(in alloc; "{text:?}")
 }
 
+/// This is printed of a text.
+fn prints(rt: &(impl Abort + AllocGlobal), text: &str, wanted: &str) {
+    match printed(rt.alloc(), text) {
+        Ok(found) => assert!(rt; found.as_str() == wanted, "{found}"),
+        Err(_) => panic!(rt; "out of memory"),
+    }
+}
+
+const PRINTED: [(&str, &str); 4] = [
+    ("né", "\"né\""),
+    ("", "\"\""),
+    ("say \"a\"\n", "\"say \\\"a\\\"\\n\""),
+    (
+        "a text that is longer than sixty-four bytes, and says \"a\" and \"b\"\n",
+        "\"a text that is longer than sixty-four bytes, and says \\\"a\\\" and \\\"b\\\"\\n\"",
+    ),
+];
+
 #[test]
 fn texts_are_printed_as_they_read(rt: HostRuntime) {
-    for (text, wanted) in [
-        ("né", "\"né\""),
-        ("", "\"\""),
-        ("say \"a\"\n", "\"say \\\"a\\\"\\n\""),
-        (
-            "a text that is longer than sixty-four bytes, and says \"a\" and \"b\"\n",
-            "\"a text that is longer than sixty-four bytes, and says \\\"a\\\" and \\\"b\\\"\\n\"",
-        ),
-    ] {
-        let Ok(found) = printed(rt.alloc(), text) else {
-            panic!(rt; "out of memory")
-        };
-        assert!(rt; found.as_str() == wanted, "{found}");
+    for (text, wanted) in &PRINTED {
+        prints(&rt, text, wanted);
     }
 }
 
@@ -160,32 +191,29 @@ fn copy_of_a_message(rt: HostRuntime) {
 /// A copy of so many letters has them.
 fn is_copied(rt: &(impl Abort + AllocGlobal), count: usize) {
     let letters = letters(rt, count);
-    match Text::copy_of(rt.alloc(), letters.as_str()) {
-        Ok(text) => {
-            assert!(rt; (text.len(), text.is_empty()) == (count, count == 0));
-            assert!(rt; text.as_str() == letters.as_str());
-            assert!(rt; text.as_bytes() == letters.as_bytes());
-        }
-        Err(_) => panic!(rt; "out of memory"),
-    }
+    let text = text_of(rt, letters.as_str());
+    has_bytes(rt, &text, letters.as_str(), count);
+    assert!(rt; text.as_str() == letters.as_str());
 }
+
+const COUNTS: [usize; 11] = [
+    0,
+    1,
+    63,
+    SHORT_TEXT_MAX,
+    SHORT_TEXT_MAX + 1,
+    512,
+    513,
+    2_048,
+    2_049,
+    8_192,
+    8_193,
+];
 
 #[test]
 fn copies_of_short_and_long_texts(rt: HostRuntime) {
-    for count in [
-        0,
-        1,
-        63,
-        SHORT_TEXT_MAX,
-        SHORT_TEXT_MAX + 1,
-        512,
-        513,
-        2_048,
-        2_049,
-        8_192,
-        8_193,
-    ] {
-        is_copied(&rt, count);
+    for count in &COUNTS {
+        is_copied(&rt, *count);
     }
 }
 
@@ -198,45 +226,76 @@ pub fn letters(rt: &(impl Abort + AllocGlobal), count: usize) -> String {
     text
 }
 
+/// A text of 65 letters is refused for its length, with this source and without.
+fn refuses_long_text(rt: &(impl Abort + AllocGlobal), source: Option<SourceRef<'_>>) {
+    let long = letters(rt, 65);
+    is_refused(rt, long.as_str(), source, MessageError::TextTooLong);
+}
+
 #[test]
 fn text_at_its_limit(rt: HostRuntime) {
     let text = letters(&rt, 64);
     assert!(rt; message(&rt, text.as_str(), None).text.len() == 64);
-    let long = letters(&rt, 65);
-    is_refused(&rt, long.as_str(), None, MessageError::TextTooLong);
+    refuses_long_text(&rt, None);
     let file = letters(&rt, 257);
     let source = SourceRef {
         file: file.as_str(),
         line: 0,
         function: "",
     };
-    is_refused(&rt, long.as_str(), Some(source), MessageError::TextTooLong);
+    refuses_long_text(&rt, Some(source));
+}
+
+/// How many letters the file and the function of a source have that is refused.
+pub const LONG_SOURCES: [(usize, usize); 3] = [(257, 128), (256, 129), (257, 129)];
+
+/// A message with a source of so many letters, or why there is none.
+fn made_at(
+    rt: &(impl Abort + AllocGlobal),
+    file: usize,
+    function: usize,
+) -> Result<Message, MessageError> {
+    let (file, function) = (letters(rt, file), letters(rt, function));
+    let source = SourceRef {
+        file: file.as_str(),
+        line: 0,
+        function: function.as_str(),
+    };
+    made(rt, "", Some(source))
 }
 
 #[test]
 fn source_at_its_limits(rt: HostRuntime) {
-    let (file, long_file) = (letters(&rt, 256), letters(&rt, 257));
-    let (function, long_function) = (letters(&rt, 128), letters(&rt, 129));
-    let source = |file, function| SourceRef {
-        file,
-        line: 0,
-        function,
-    };
-    let at_limits = source(file.as_str(), function.as_str());
-    assert!(rt; message(&rt, "", Some(at_limits)).source.is_some());
-    for long in [
-        source(long_file.as_str(), function.as_str()),
-        source(file.as_str(), long_function.as_str()),
-        source(long_file.as_str(), long_function.as_str()),
-    ] {
-        is_refused(&rt, "", Some(long), MessageError::FieldTooLong);
+    assert!(rt; made_or_end(&rt, made_at(&rt, 256, 128)).source.is_some());
+    for (file, function) in &LONG_SOURCES {
+        refuses(
+            &rt,
+            made_at(&rt, *file, *function),
+            MessageError::FieldTooLong,
+        );
     }
+}
+
+/// Whether an item is this text.
+fn is_text(item: Item, text: &str) -> bool {
+    match item {
+        Item::Text(message) => message.text.as_str() == text,
+        Item::Flush(_) | Item::Stop => false,
+    }
+}
+
+/// Whether an item is the flush of this logger.
+fn is_flush(item: Item, logger: u32) -> bool {
+    matches!(item, Item::Flush(found) if found == logger)
+}
+
+fn is_stop(item: Item) -> bool {
+    matches!(item, Item::Stop)
 }
 
 #[test]
 fn items_of_a_queue(rt: HostRuntime) {
     let item = Item::Text(message(&rt, "no route", None));
-    assert!(rt; matches!(&item, Item::Text(message) if message.text.as_str() == "no route"));
-    assert!(rt; matches!(Item::Flush(3), Item::Flush(3)));
-    assert!(rt; matches!(Item::Stop, Item::Stop));
+    assert!(rt; is_text(item, "no route"));
+    assert!(rt; is_flush(Item::Flush(3), 3) && is_stop(Item::Stop));
 }
