@@ -1,7 +1,7 @@
 //! Logs, flushes and dumps on a running ring of blocks.
-ghost use Rattle.std.specs.Prelude.{◌≡◌, IfOk};
+ghost use Rattle.std.specs.Prelude.{◌≡◌, ◌≤◌, ◌<◌, IfOk, length};
 ghost use Rattle.std.specs.List.{AllByRecursion};
-ghost use Rattle.alog_registry.specs.Limit.{HoldsTo};
+ghost use Rattle.alog_registry.specs.Limit.{AdmitsShort, HoldsTo};
 ghost use Rattle.alog_ring.specs.Known.{IsPassOf, first_known};
 ghost use Rattle.test_loggers.specs.declared.log_tests.TheConstants.{TEXT_LIMIT};
 
@@ -11,7 +11,7 @@ use crate::log_tests::{
 use crate::port_tests::new_book;
 use alog_msg::{Block, Item};
 use alog_policy::{Outcome, Policy};
-use alog_registry::{Backtrace, BlockPort, Contents, TextLimit};
+use alog_registry::{Backtrace, BlockPort, Contents, ItemOutlet, Loggers, TextLimit};
 use alog_ring::{NewError, SwapNewError, SwapPass, SwapRing};
 use std::alloc::{AllocError, Global};
 use std::process::Abort;
@@ -28,6 +28,16 @@ fn blocks(alloc: Global, count: usize) -> Result<Vec<Block>, AllocError>
         blocks.push(Block::new(alloc, TEXT_LIMIT)?)?;
     }
     Ok(blocks)
+}
+
+// A block for texts of 64 bytes. The test ends here where there is no memory.
+fn block_of(rt: &impl Abort, alloc: Global) -> Block
+    ensures { HoldsTo (record { most = TEXT_LIMIT }) result }
+{
+    match Block::new(alloc, TEXT_LIMIT) {
+        Ok(block) => block,
+        Err(_) => panic!(rt; "out of memory"),
+    }
 }
 
 // A ring of so many blocks, and its first pass.
@@ -74,16 +84,41 @@ fn takes(
 }
 
 // What a dump of the last two posted is taken, and then a flush.
-fn take_dumped(rt: &impl Abort, ring: &Blocks, pass: &mut SwapPass<Block, Item>, spare: &mut Block)
+fn take_dumped(rt: &impl Abort, alloc: Global, ring: &Blocks, pass: &mut SwapPass<Block, Item>)
     requires ring { IsPassOf ring.now.ring pass.old }
-    requires spare { HoldsTo ring.now.ring.limit spare.old }
+    requires limit { ring.now.ring.limit ≡ record { most = TEXT_LIMIT } }
 {
-    takes(rt, ring, pass, spare, "=== backtrace start ===");
-    takes(rt, ring, pass, spare, "m2");
-    takes(rt, ring, pass, spare, "m3");
-    takes(rt, ring, pass, spare, "=== backtrace end ===");
-    takes(rt, ring, pass, spare, "");
+    let mut spare = block_of(rt, alloc);
+    takes(rt, ring, pass, &mut spare, "=== backtrace start ===");
+    takes(rt, ring, pass, &mut spare, "m2");
+    takes(rt, ring, pass, &mut spare, "m3");
+    takes(rt, ring, pass, &mut spare, "=== backtrace end ===");
+    takes(rt, ring, pass, &mut spare, "");
     assert!(rt; matches!(spare.item(), Item::Flush(0)));
+}
+
+// Three messages are kept, the last two are dumped, and then a flush is posted.
+fn keep_dump_and_flush<O: ItemOutlet>(
+    rt: &impl Abort,
+    loggers: &Loggers,
+    alloc: Global,
+    outlet: &mut O,
+    backtrace: &mut Backtrace,
+)
+    requires known { 0 < length loggers.now }
+    requires outlet { O.is_ready outlet.old × AdmitsShort O.admits TEXT_LIMIT outlet.old }
+    requires backtrace { TEXT_LIMIT ≤ backtrace.old.limit }
+{
+    keep_three(rt, loggers, alloc, outlet, backtrace);
+    assert!(rt; backtrace.text_limit() == TEXT_LIMIT);
+    dump_twice(rt, loggers, alloc, outlet, backtrace);
+    let flushed = loggers.flush(outlet, 0);
+    is_outcome(rt, &flushed, &posted(4));
+}
+
+// A block is in the hand, and a spare is there.
+fn are_there(rt: &impl Abort, hand: &Option<Block>, spare: &Option<Block>) {
+    assert!(rt; hand.is_some() && spare.is_some());
 }
 
 #[test]
@@ -94,9 +129,8 @@ fn logs_on_blocks(rt: HostRuntime) -> Result<(), Fail> {
     let (ring, mut pass) = ring_of(&rt, alloc, 8);
     let (book, mut losses) = new_book(&rt, alloc);
     let mut other = ring.split(&mut pass, 1);
-    let mut hand = Some(Block::new(alloc, TEXT_LIMIT)?);
-    let mut spare = Some(Block::new(alloc, TEXT_LIMIT)?);
-    let mut taken = Block::new(alloc, TEXT_LIMIT)?;
+    let mut hand = Some(block_of(&rt, alloc));
+    let mut spare = Some(block_of(&rt, alloc));
     let mut port = BlockPort {
         ring: &ring,
         pass: &mut pass,
@@ -105,28 +139,19 @@ fn logs_on_blocks(rt: HostRuntime) -> Result<(), Fail> {
         hand: &mut hand,
         spare: &mut spare,
     };
-    keep_three(&rt, &loggers, alloc, &mut port, &mut backtrace);
-    assert!(rt; backtrace.text_limit() == TEXT_LIMIT);
-    dump_twice(&rt, &loggers, alloc, &mut port, &mut backtrace);
-    let flushed = loggers.flush(&mut port, 0);
-    is_outcome(&rt, &flushed, &posted(4));
-    assert!(rt; hand.is_some() && spare.is_some());
-    take_dumped(&rt, &ring, &mut other, &mut taken);
+    keep_dump_and_flush(&rt, &loggers, alloc, &mut port, &mut backtrace);
+    are_there(&rt, &hand, &spare);
+    take_dumped(&rt, alloc, &ring, &mut other);
     Ok(())
 }
 
 // How a log goes under this policy where the ring is full: a block is in the hand afterwards, and a spare is there.
-fn when_full(
-    rt: &impl Abort,
-    alloc: Global,
-    policy: Policy,
-    outcome: Outcome<()>,
-) -> Result<(), Fail> {
+fn when_full(rt: &impl Abort, alloc: Global, policy: Policy, outcome: Outcome<()>) {
     let loggers = one(rt, alloc, policy, 4);
     let (ring, mut pass) = ring_of(rt, alloc, 2);
     let (book, mut losses) = new_book(rt, alloc);
-    let mut hand = Some(Block::new(alloc, TEXT_LIMIT)?);
-    let mut spare = Some(Block::new(alloc, TEXT_LIMIT)?);
+    let mut hand = Some(block_of(rt, alloc));
+    let mut spare = Some(block_of(rt, alloc));
     let mut port = BlockPort {
         ring: &ring,
         pass: &mut pass,
@@ -136,13 +161,12 @@ fn when_full(
         spare: &mut spare,
     };
     log_to_a_full(rt, &loggers, alloc, &mut port, outcome);
-    assert!(rt; hand.is_some() && spare.is_some());
-    Ok(())
+    are_there(rt, &hand, &spare);
 }
 
 #[test]
-fn policies_of_a_full_ring_of_blocks(rt: HostRuntime) -> Result<(), Fail> {
-    when_full(&rt, rt.alloc(), Policy::DiscardNew, discarded())?;
-    when_full(&rt, rt.alloc(), Policy::Block, discarded())?;
-    when_full(&rt, rt.alloc(), Policy::OverrunOldest, overran())
+fn policies_of_a_full_ring_of_blocks(rt: HostRuntime) {
+    when_full(&rt, rt.alloc(), Policy::DiscardNew, discarded());
+    when_full(&rt, rt.alloc(), Policy::Block, discarded());
+    when_full(&rt, rt.alloc(), Policy::OverrunOldest, overran());
 }

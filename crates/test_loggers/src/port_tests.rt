@@ -181,6 +181,16 @@ fn takes_flush(rt: &impl Abort, ring: &Ring<Item>, pass: &mut Pass<Item>, number
     assert!(rt; matches!(ring.pop_once(pass), Ok((_, Item::Flush(found))) if found == number));
 }
 
+// Flushes of two loggers are posted.
+fn flush_two(rt: &impl Abort, loggers: &Loggers, port: &mut Port<'_, Item>)
+    requires known { 1 < length loggers.now }
+    requires fit { IsFit port.old }
+{
+    let flushes = (loggers.flush(port, 1), loggers.flush(port, 0));
+    is_outcome(rt, &flushes.0, &posted(0));
+    is_outcome(rt, &flushes.1, &posted(1));
+}
+
 // The largest ring but one: each logger's flush names that logger.
 #[test]
 fn flushes_of_two_loggers(rt: HostRuntime) {
@@ -195,9 +205,7 @@ fn flushes_of_two_loggers(rt: HostRuntime) {
         book: &book,
         seat: &mut losses,
     };
-    let flushes = (loggers.flush(&mut port, 1), loggers.flush(&mut port, 0));
-    is_outcome(&rt, &flushes.0, &posted(0));
-    is_outcome(&rt, &flushes.1, &posted(1));
+    flush_two(&rt, &loggers, &mut port);
     takes_flush(&rt, &ring, &mut other, 1);
     takes_flush(&rt, &ring, &mut other, 0);
 }
