@@ -1,11 +1,13 @@
 ghost use Rattle.std.specs.Prelude.{◌≡◌, ◌<◌, length};
 ghost use Rattle.alog_msg.specs.declared.limits.TheConstants.{TEXT_LIMIT_MAX};
+ghost use Rattle.alog_lane.specs.Calls.{IsSeatOf};
+ghost use Rattle.alog_lane.specs.Seats.{first_known};
 ghost use Rattle.alog_registry.specs.Backtrace.{room_for};
 ghost use Rattle.alog_registry.specs.Limit.{AdmitsShort};
 ghost use Rattle.test_loggers.specs.declared.log_tests.TheConstants.{TEXT_LIMIT};
 
 use alog_core::WorldError;
-use alog_lane::Lane;
+use alog_lane::{Lane, LaneSeat};
 use alog_msg::{Item, Level, Message, MessageError, SourceRef};
 use alog_policy::{Desk, Outcome, Policy, Stepped, Why};
 use alog_registry::{
@@ -66,6 +68,27 @@ pub(crate) fn desk_of(rt: &impl Abort, alloc: Global, places: usize) -> Desk<Ite
     }
 }
 
+// Ends the test where that is not so. A call of it is no way out of the function that makes it.
+pub(crate) fn is_so(rt: &impl Abort, is: bool) {
+    assert!(rt; is);
+}
+
+// A backtrace under a lock that keeps so many, and its first seat.
+pub(crate) fn lane_of(
+    rt: &impl Abort,
+    alloc: Global,
+    most: usize,
+) -> (Lane<Backtrace>, LaneSeat<Backtrace>)
+    ensures seat { IsSeatOf result.0 result.1 }
+    ensures known { result.1.known ≡ first_known }
+    ensures first { result.0.first ≡ room_for most TEXT_LIMIT_MAX }
+{
+    match Lane::new(alloc, backtrace_of(rt, alloc, most)) {
+        Ok(made) => made,
+        Err(_) => panic!(rt; "out of memory"),
+    }
+}
+
 // A backtrace that keeps so many.
 pub(crate) fn backtrace_of(rt: &impl Abort, alloc: Global, most: usize) -> Backtrace
     ensures { result ≡ room_for most TEXT_LIMIT_MAX }
@@ -81,14 +104,23 @@ pub(crate) fn posted(ticket: u64) -> Outcome<()> {
     Outcome::Posted { ticket, overran: 0 }
 }
 
+// What the next step of a pop takes, if it takes an item.
+fn taken(rt: &impl Abort, desk: &mut Desk<Item>) -> Option<Item> {
+    let Ok(Stepped { said, outcome: _ }) = desk.step(9) else {
+        panic!(rt; "the actor is in a call")
+    };
+    if let alog_core::Said::Take(_, item) = said {
+        Some(item)
+    } else {
+        None
+    }
+}
+
 // What the next pop of a whole desk takes.
 fn popped(rt: &impl Abort, desk: &mut Desk<Item>) -> Item {
     assert!(rt; desk.begin_pop(9).is_ok());
     for _ in 0..4 {
-        let Ok(Stepped { said, outcome: _ }) = desk.step(9) else {
-            panic!(rt; "the actor is in a call")
-        };
-        if let alog_core::Said::Take(_, item) = said {
+        if let Some(item) = taken(rt, desk) {
             return item;
         }
     }

@@ -60,16 +60,28 @@ fn below_on_a_desk(
     Ok(())
 }
 
+/// A long text takes little on a desk.
+fn takes_little(
+    rt: &impl Abort,
+    host: &HostRuntime,
+    bare: &Loggers,
+    desk: &mut Desk<Item>,
+    long: &str,
+) -> Result<(), Fail>
+    requires { 0 < length bare.now }
+{
+    let before = most_memory(host)?;
+    below_on_a_desk(rt, bare, host.alloc(), desk, long)?;
+    assert!(rt; had_little_more(host, before)?);
+    Ok(())
+}
+
 #[test]
 fn a_filtered_text_is_not_copied_at_once(rt: HostRuntime) -> Result<(), Fail> {
-    let alloc = rt.alloc();
-    let bare = one(&rt, alloc, Policy::Block, 0);
-    let mut desk = desk_of(&rt, alloc, 2);
-    let long = "0123456789abcdef".repeat(alloc, TIMES)?;
-    let before = most_memory(&rt)?;
-    below_on_a_desk(&rt, &bare, alloc, &mut desk, long.as_str())?;
-    assert!(rt; had_little_more(&rt, before)?);
-    Ok(())
+    let long = "0123456789abcdef".repeat(rt.alloc(), TIMES)?;
+    let bare = one(&rt, rt.alloc(), Policy::Block, 0);
+    let mut desk = desk_of(&rt, rt.alloc(), 2);
+    takes_little(&rt, &rt, &bare, &mut desk, long.as_str())
 }
 
 #[test]

@@ -102,6 +102,24 @@ fn sets(rt: &impl Abort, loggers: &Loggers, number: u32, level: Level) {
     assert!(rt; loggers.set_level(number, level));
 }
 
+// Each of two loggers says what its own level is, also where that is set.
+fn each_says(rt: &impl Abort, loggers: &Loggers, alloc: Global, port: &mut Port<'_, Item>)
+    requires known { 1 < length loggers.now }
+    requires fit { IsFit port.old }
+{
+    let (info, error, off) = (Level::Info, Level::Error, Level::Off);
+    let (trace, warning) = (Level::Trace, Level::Warning);
+    let (debug, critical) = (Level::Debug, Level::Critical);
+    says(rt, loggers, alloc, port, 0, trace, filtered(info));
+    says(rt, loggers, alloc, port, 0, warning, logged(0));
+    says(rt, loggers, alloc, port, 1, warning, filtered(error));
+    says(rt, loggers, alloc, port, 1, error, logged(1));
+    sets(rt, loggers, 1, off);
+    says(rt, loggers, alloc, port, 1, critical, filtered(off));
+    says(rt, loggers, alloc, port, 0, debug, filtered(info));
+    says(rt, loggers, alloc, port, 0, critical, logged(2));
+}
+
 #[test]
 fn each_logger_has_its_level(rt: HostRuntime) {
     let alloc = rt.alloc();
@@ -114,63 +132,7 @@ fn each_logger_has_its_level(rt: HostRuntime) {
         book: &book,
         seat: &mut losses,
     };
-    let (info, error, off) = (Level::Info, Level::Error, Level::Off);
-    says(
-        &rt,
-        &loggers,
-        alloc,
-        &mut port,
-        0,
-        Level::Trace,
-        filtered(info),
-    );
-    says(
-        &rt,
-        &loggers,
-        alloc,
-        &mut port,
-        0,
-        Level::Warning,
-        logged(0),
-    );
-    says(
-        &rt,
-        &loggers,
-        alloc,
-        &mut port,
-        1,
-        Level::Warning,
-        filtered(error),
-    );
-    says(&rt, &loggers, alloc, &mut port, 1, Level::Error, logged(1));
-    sets(&rt, &loggers, 1, off);
-    says(
-        &rt,
-        &loggers,
-        alloc,
-        &mut port,
-        1,
-        Level::Critical,
-        filtered(off),
-    );
-    says(
-        &rt,
-        &loggers,
-        alloc,
-        &mut port,
-        0,
-        Level::Debug,
-        filtered(info),
-    );
-    says(
-        &rt,
-        &loggers,
-        alloc,
-        &mut port,
-        0,
-        Level::Critical,
-        logged(2),
-    );
+    each_says(&rt, &loggers, alloc, &mut port);
 }
 
 // The next item of the ring is a flush of this logger.

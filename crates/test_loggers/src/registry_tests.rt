@@ -3,7 +3,7 @@ ghost use Rattle.alog_lane.specs.Calls.{IsSeatOf};
 ghost use Rattle.alog_registry.specs.Backtrace.{room_for};
 ghost use Rattle.alog_registry.specs.Limit.{IsShort};
 
-use crate::log_tests::number_of;
+use crate::log_tests::{is_so, lane_of, number_of};
 use alog_lane::{Lane, LaneSeat};
 use alog_msg::{Item, Level, Message, MessageError, TEXT_LIMIT_MAX};
 use alog_policy::Policy;
@@ -411,13 +411,9 @@ fn turns_of_a_backtrace(rt: HostRuntime) -> Result<(), Fail> {
     let alloc = rt.alloc();
     let message = debug(alloc, "m1")?;
     let list = Dumped::new(alloc, 1, TEXT_LIMIT_MAX)?;
-    let backtrace = Backtrace::new(alloc, 1)?;
-    let (lane, mut seat) = match Lane::new(alloc, backtrace) {
-        Ok(made) => made,
-        Err(_) => panic!(rt; "out of memory"),
-    };
-    assert!(rt; keeps_first(&lane, &mut seat, message));
-    assert!(rt; dumps_second(&lane, &mut seat, list, "m1"));
+    let (lane, mut seat) = lane_of(&rt, alloc, 1);
+    is_so(&rt, keeps_first(&lane, &mut seat, message));
+    is_so(&rt, dumps_second(&lane, &mut seat, list, "m1"));
     match lane.close(seat) {
         Ok(backtrace) => assert!(rt; backtrace.is_empty()),
         Err(_) => panic!(rt; "no seat is out"),

@@ -5,13 +5,13 @@ ghost use Rattle.alog_registry.specs.Backtrace.{room_for};
 ghost use Rattle.alog_registry.specs.Limit.{IsShort};
 ghost use Rattle.test_loggers.specs.declared.log_tests.TheConstants.{TEXT_LIMIT};
 
-use crate::log_tests::TEXT_LIMIT;
+use crate::log_tests::{TEXT_LIMIT, is_so, lane_of};
 use alog_lane::{Lane, LaneSeat};
 use alog_msg::{Level, Message, TEXT_LIMIT_MAX};
 use alog_registry::{
     Backtrace, BacktraceItem, BacktraceReply, BacktraceScratch, Dumped, Keep, LaneKeeper,
 };
-use std::alloc::{AllocError, Global};
+use std::alloc::Global;
 use std::mem;
 use std::sync::atomic::{AtomicBool, Ordering};
 use std::test::Fail;
@@ -244,16 +244,14 @@ fn two_threads_keep(rt: HostRuntime) -> Result<(), Fail> {
     let list = Dumped::new(alloc, ROOM, TEXT_LIMIT_MAX)?;
     let first = messages_of(alloc, 1)?;
     let second = messages_of(alloc, 2)?;
-    let Ok((lane, mut seat)) = Lane::new(alloc, Backtrace::new(alloc, ROOM)?) else {
-        return Err(AllocError.into());
-    };
+    let (lane, mut seat) = lane_of(&rt, alloc, ROOM);
     let one = Keeping::new(lane.split(&mut seat, 1), first);
     let two = Keeping::new(lane.split(&mut seat, 1), second);
     let (one, two) = kept_by_two(&rt, &lane, one, two);
     let kept = one.kept.saturating_add(two.kept);
     lane.join(&mut seat, one.seat);
     lane.join(&mut seat, two.seat);
-    assert!(rt; dumps_in_order(&lane, &mut seat, list, kept));
+    is_so(&rt, dumps_in_order(&lane, &mut seat, list, kept));
     Ok(())
 }
 
@@ -281,27 +279,38 @@ fn kept_until_held(
     )
 }
 
+/// Whether the turn after so many that kept a message dumps: what was not kept made no turn.
+fn dumps_after(
+    lane: &Lane<Backtrace>,
+    seat: &mut LaneSeat<Backtrace>,
+    list: Dumped,
+    kept: u64,
+) -> bool
+    requires seat { IsSeatOf lane.now seat.old }
+    requires list { list ≡ room_for lane.now.first.most lane.now.first.limit }
+{
+    let mut scratch = BacktraceScratch {
+        message: None,
+        list: Some(list),
+    };
+    match lane.turn_once(seat, 0, &BacktraceItem::Dump, &mut scratch) {
+        Ok((index, BacktraceReply::Dumped(_))) => index == kept,
+        Ok((_, BacktraceReply::Kept)) | Err(_) => false,
+    }
+}
+
 #[test]
 fn a_lock_that_is_held(rt: HostRuntime) -> Result<(), Fail> {
     let alloc = rt.alloc();
-    let Ok((lane, mut seat)) = Lane::new(alloc, Backtrace::new(alloc, ROOM)?) else {
-        return Err(AllocError.into());
-    };
-    let mut scratch = BacktraceScratch {
-        message: None,
-        list: Some(Dumped::new(alloc, ROOM, TEXT_LIMIT_MAX)?),
-    };
+    let list = Dumped::new(alloc, ROOM, TEXT_LIMIT_MAX)?;
+    let (lane, mut seat) = lane_of(&rt, alloc, ROOM);
     let one = Meeting::new(alloc, lane.split(&mut seat, 1));
     let two = Meeting::new(alloc, lane.split(&mut seat, 1));
     let (one, two) = kept_until_held(&rt, &lane, one, two);
-    assert!(rt; one.met || two.met);
+    is_so(&rt, one.met || two.met);
     let kept = one.kept.saturating_add(two.kept);
     lane.join(&mut seat, one.seat);
     lane.join(&mut seat, two.seat);
-    // What was not kept made no turn.
-    match lane.turn_once(&mut seat, 0, &BacktraceItem::Dump, &mut scratch) {
-        Ok((index, BacktraceReply::Dumped(_))) => assert_eq!(rt; index, kept),
-        Ok((_, BacktraceReply::Kept)) | Err(_) => panic!(rt; "it is dumped"),
-    }
+    is_so(&rt, dumps_after(&lane, &mut seat, list, kept));
     Ok(())
 }

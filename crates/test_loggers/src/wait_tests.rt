@@ -3,20 +3,20 @@ ghost use Rattle.alog_msg.specs.declared.limits.TheConstants.{TEXT_LIMIT_MIN};
 ghost use Rattle.alog_policy.specs.Port.{IsFit};
 ghost use Rattle.alog_registry.specs.LaneKeeper.{IsSeated, HasList};
 
-use crate::log_tests::{TEXT_LIMIT, are_posted, backtrace_of, is_reply, one, posted};
+use crate::log_tests::{TEXT_LIMIT, are_posted, backtrace_of, is_reply, lane_of, one, posted};
 use crate::port_tests::{new_book, ring_of};
 use alog_lane::Lane;
 use alog_msg::{Item, Level, MessageError, TEXT_LIMIT_MAX};
 use alog_policy::{Outcome, Policy, Port, Why};
-use alog_registry::{Backtrace, BacktraceScratch, Dumped, LaneKeeper, LogReply, Loggers};
-use std::alloc::Global;
+use alog_registry::{BacktraceScratch, Dumped, LaneKeeper, LogReply, Loggers};
+use std::alloc::{AllocError, Global};
 use std::process::Abort;
 use std::sync::Wait;
 use std::test::Fail;
 use std::time::Clock;
 
-// Logs a message with waiting, and answers whether that became of it.
-fn said<R: Wait + Clock>(
+// A log with waiting answers so, where the keeper has a list.
+fn says<R: Wait + Clock + Abort>(
     rt: &R,
     loggers: &Loggers,
     alloc: Global,
@@ -24,7 +24,8 @@ fn said<R: Wait + Clock>(
     keeper: &mut LaneKeeper<'_>,
     level: Level,
     text: &str,
-) -> Result<LogReply, Fail>
+    wanted: LogReply,
+)
     requires known { 0 < length loggers.now }
     requires fit { IsFit port.old }
     requires seated { IsSeated keeper.old × HasList keeper.old }
@@ -32,9 +33,26 @@ fn said<R: Wait + Clock>(
     ensures fit { IsFit port.new }
     ensures seated { IsSeated keeper.new × HasList keeper.new × (keeper.new.lane ≡ keeper.old.lane) }
 {
-    Ok(loggers.log(
+    let found = loggers.log(
         rt, alloc, port, keeper, TEXT_LIMIT, 0, level, 0, 1, text, None,
-    )?)
+    );
+    is_reply(rt, found, Ok(wanted));
+}
+
+// A message was posted first, and kept.
+fn logged() -> LogReply {
+    LogReply::Logged {
+        outcome: posted(0),
+        kept: true,
+    }
+}
+
+// A message was below level info, and kept.
+fn kept() -> LogReply {
+    LogReply::Filtered {
+        level: Level::Info,
+        kept: true,
+    }
 }
 
 // One message is logged, two are kept, and the last two of the three are dumped.
@@ -44,7 +62,7 @@ fn log_and_dump<R: Wait + Clock + Abort>(
     alloc: Global,
     port: &mut Port<'_, Item>,
     keeper: &mut LaneKeeper<'_>,
-) -> Result<(), Fail>
+)
     requires known { 0 < length loggers.now }
     requires fit { IsFit port.old }
     requires seated { IsSeated keeper.old × HasList keeper.old }
@@ -52,30 +70,12 @@ fn log_and_dump<R: Wait + Clock + Abort>(
     ensures fit { IsFit port.new }
     ensures seated { IsSeated keeper.new × HasList keeper.new × (keeper.new.lane ≡ keeper.old.lane) }
 {
-    let logged = LogReply::Logged {
-        outcome: posted(0),
-        kept: true,
-    };
-    let kept = LogReply::Filtered {
-        level: Level::Info,
-        kept: true,
-    };
-    assert_eq!(rt;
-        said(rt, loggers, alloc, port, keeper, Level::Info, "m1")?,
-        logged
-    );
-    assert_eq!(rt;
-        said(rt, loggers, alloc, port, keeper, Level::Debug, "m2")?,
-        kept
-    );
-    assert_eq!(rt;
-        said(rt, loggers, alloc, port, keeper, Level::Debug, "m3")?,
-        kept
-    );
-    let outcomes = loggers.dump_shared(rt, alloc, port, keeper, 0, 5, 7)?;
-    let all = [posted(1), posted(2), posted(3), posted(4)];
-    assert_eq!(rt; outcomes.as_slice(), all.as_slice());
-    Ok(())
+    let (info, debug) = (Level::Info, Level::Debug);
+    says(rt, loggers, alloc, port, keeper, info, "m1", logged());
+    says(rt, loggers, alloc, port, keeper, debug, "m2", kept());
+    says(rt, loggers, alloc, port, keeper, debug, "m3", kept());
+    let outcomes = loggers.dump_shared(rt, alloc, port, keeper, 0, 5, 7);
+    are_posted(rt, outcomes, &[posted(1), posted(2), posted(3), posted(4)]);
 }
 
 // Whether the post found no room.
@@ -90,6 +90,49 @@ fn is_full(outcome: &Outcome<()>) -> bool {
     )
 }
 
+// A message is logged, whatever becomes of it.
+fn logs<R: Wait + Clock + Abort>(
+    rt: &R,
+    loggers: &Loggers,
+    alloc: Global,
+    port: &mut Port<'_, Item>,
+    keeper: &mut LaneKeeper<'_>,
+    text: &str,
+)
+    requires known { 0 < length loggers.now }
+    requires fit { IsFit port.old }
+    requires seated { IsSeated keeper.old × HasList keeper.old }
+    requires limit { TEXT_LIMIT_MIN ≤ keeper.old.lane.now.first.limit }
+    ensures fit { IsFit port.new }
+    ensures seated { IsSeated keeper.new × HasList keeper.new × (keeper.new.lane ≡ keeper.old.lane) }
+{
+    match loggers.log(
+        rt,
+        alloc,
+        port,
+        keeper,
+        TEXT_LIMIT,
+        0,
+        Level::Info,
+        0,
+        1,
+        text,
+        None,
+    ) {
+        Ok(_) => {}
+        Err(MessageError::OutOfMemory) => panic!(rt; "out of memory"),
+        Err(_) => panic!(rt; "no message of {text}"),
+    }
+}
+
+// None of the four posts of a dump found room.
+fn are_full(rt: &impl Abort, outcomes: Result<Vec<Outcome<()>>, AllocError>) {
+    match outcomes {
+        Ok(outcomes) => assert!(rt; outcomes.len() == 4 && outcomes.iter().all(is_full)),
+        Err(_) => panic!(rt; "out of memory"),
+    }
+}
+
 // Three more messages fill the queue, and the last two are dumped: no post of the dump waits for room, and none finds any.
 fn dump_to_a_full_queue<R: Wait + Clock + Abort>(
     rt: &R,
@@ -97,18 +140,17 @@ fn dump_to_a_full_queue<R: Wait + Clock + Abort>(
     alloc: Global,
     port: &mut Port<'_, Item>,
     keeper: &mut LaneKeeper<'_>,
-) -> Result<(), Fail>
+)
     requires known { 0 < length loggers.now }
     requires fit { IsFit port.old }
     requires seated { IsSeated keeper.old × HasList keeper.old }
     requires limit { TEXT_LIMIT_MIN ≤ keeper.old.lane.now.first.limit }
 {
-    said(rt, loggers, alloc, port, keeper, Level::Info, "m4")?;
-    said(rt, loggers, alloc, port, keeper, Level::Info, "m5")?;
-    said(rt, loggers, alloc, port, keeper, Level::Info, "m6")?;
-    let outcomes = loggers.dump_shared(rt, alloc, port, keeper, 0, 5, 7)?;
-    assert!(rt; outcomes.len() == 4 && outcomes.iter().all(is_full));
-    Ok(())
+    logs(rt, loggers, alloc, port, keeper, "m4");
+    logs(rt, loggers, alloc, port, keeper, "m5");
+    logs(rt, loggers, alloc, port, keeper, "m6");
+    let outcomes = loggers.dump_shared(rt, alloc, port, keeper, 0, 5, 7);
+    are_full(rt, outcomes);
 }
 
 // No dump is made of what was not kept.
@@ -137,26 +179,22 @@ fn log_dump_and_fill<R: Wait + Clock + Abort>(
     alloc: Global,
     port: &mut Port<'_, Item>,
     keeper: &mut LaneKeeper<'_>,
-) -> Result<(), Fail>
+)
     requires known { 0 < length loggers.now }
     requires fit { IsFit port.old }
     requires seated { IsSeated keeper.old × HasList keeper.old }
     requires limit { TEXT_LIMIT_MIN ≤ keeper.old.lane.now.first.limit }
 {
     dumps_nothing(rt, loggers, alloc, port, keeper);
-    log_and_dump(rt, loggers, alloc, port, keeper)?;
-    dump_to_a_full_queue(rt, loggers, alloc, port, keeper)
+    log_and_dump(rt, loggers, alloc, port, keeper);
+    dump_to_a_full_queue(rt, loggers, alloc, port, keeper);
 }
 
 #[test]
 fn logs_with_waiting(rt: HostRuntime) -> Result<(), Fail> {
     let alloc = rt.alloc();
     let list = Dumped::new(alloc, 2, TEXT_LIMIT_MAX)?;
-    let backtrace = Backtrace::new(alloc, 2)?;
-    let (lane, mut seat) = match Lane::new(alloc, backtrace) {
-        Ok(made) => made,
-        Err(_) => panic!(rt; "out of memory"),
-    };
+    let (lane, mut seat) = lane_of(&rt, alloc, 2);
     let mut scratch = BacktraceScratch {
         message: None,
         list: Some(list),
@@ -175,7 +213,8 @@ fn logs_with_waiting(rt: HostRuntime) -> Result<(), Fail> {
         seat: &mut seat,
         scratch: &mut scratch,
     };
-    log_dump_and_fill(&rt, &loggers, alloc, &mut port, &mut keeper)
+    log_dump_and_fill(&rt, &loggers, alloc, &mut port, &mut keeper);
+    Ok(())
 }
 
 // A log with waiting answers so.
