@@ -1,5 +1,6 @@
 //! A whole pipe.
-ghost use Rattle.std.specs.Prelude.{◌≡◌, ◌≤◌, ◌<◌, [], false, IfOk, count_by, length};
+ghost use Rattle.std.specs.Prelude.{◌≡◌, ◌≤◌, ◌<◌, [], false, IfOk, OnErr, count_by, length};
+ghost use Rattle.std.specs.Io.KnownBytes.{Keeps};
 ghost use Rattle.std.specs.List.{AllByRecursion};
 ghost use Rattle.alog_config.specs.Sinks.{is_leaf};
 ghost use Rattle.alog_pipe.specs.Pipes.{Pipes, PipesThrough};
@@ -34,7 +35,7 @@ pub struct Piped<S: Store> {
 }
 
 /// Logs each line of a reader to the logger of this number, at this level, through a pool of this configuration over these stores, and
-/// ends the pool. There are as many stores as `alog_config::leaves` tells.
+/// ends the pool. There are as many stores as `alog_config::leaves` tells. Where it fails nothing was read.
 pub fn pipe<R, S, I>(
     rt: &R,
     alloc: Global,
@@ -50,8 +51,9 @@ where
     I: Read,
     requires many { length stores.items ≡ count_by is_leaf config.now.sinks.items }
     requires known { logger < length config.now.loggers.items }
-    ensures { IfOk result (λ p. Pipes S.tells S.files S.failures config.now stores.items logger level (I.remaining input.old)
+    ensures piped { IfOk result (λ p. Pipes S.tells S.files S.failures config.now stores.items logger level (I.remaining input.old)
         (I.remaining input.new) p) }
+    ensures unread { OnErr result (Keeps (I.remaining input.old) (I.remaining input.new)) }
 {
     let lines = LineCutter::new(alloc, config.text)?;
     let setup = setup_of(alloc, config, stores, 0)?;
@@ -79,8 +81,9 @@ fn pipe_through<R: Threads + Wait + Clock, S: Store + Drop + Send + 'static, I: 
     requires none { pool.made ≡ 0 }
     requires ready { (logger < length pool.shared.loggers) × (lines.limit ≤ pool.limit) }
     requires fresh { (lines.pending ≡ []) × (lines.ended ≡ false) }
-    ensures { IfOk result (λ p. PipesThrough S.tells S.files S.failures lines.limit pool logger level (I.remaining input.old)
+    ensures piped { IfOk result (λ p. PipesThrough S.tells S.files S.failures lines.limit pool logger level (I.remaining input.old)
         (I.remaining input.new) p) }
+    ensures unread { OnErr result (Keeps (I.remaining input.old) (I.remaining input.new)) }
 {
     let mut pool = pool;
     let Ok(mut back) = Vec::with_capacity(alloc, 1) else {

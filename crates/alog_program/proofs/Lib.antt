@@ -2,3 +2,4 @@ mod Statuses
 mod Commands
 mod CommandLines
 mod Loading
+mod Piping

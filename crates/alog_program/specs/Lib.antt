@@ -11,3 +11,4 @@ pub mod CommandLine
 pub mod Formats
 pub mod Checks
 pub mod Loaded
+pub mod Piped

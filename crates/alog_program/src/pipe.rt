@@ -1,7 +1,12 @@
 //! `alog pipe`: the lines of standard input through the loggers and sinks of a configuration.
-ghost use Rattle.std.specs.Prelude.{◌≡◌, ◌≤◌, ◌<◌, ◌⊎◌, IfSome, count_by, length};
-ghost use Rattle.std.specs.Io.KnownBytes.{Keeps};
+ghost use Rattle.std.specs.Prelude.{◌≡◌, ◌≤◌, ◌<◌, ◌⊎◌, All, IsNone, OnOk, count_by, length, true, false, Some, None};
+ghost use Rattle.std.specs.Io.KnownBytes.{Appends, Keeps};
+ghost use Rattle.std.specs.List.{position};
+ghost use Rattle.std.specs.Option.{option_map};
 ghost use Rattle.alog_config.specs.Sinks.{is_leaf};
+ghost use Rattle.alog_server.specs.Stores.{IsNew};
+ghost use Rattle.alog_program.specs.Loaded.{HasNoFault};
+ghost use Rattle.alog_program.specs.Piped.{PipesDocument, PipesFile, PipesOn, is_asked, logger_in, name_in, told_text};
 
 use crate::configuration::{read_document, refuse};
 use crate::ended::fail_to_write;
@@ -9,7 +14,7 @@ use crate::load::{refuse_load, refuse_store, say_unopened};
 use crate::request::PipeRequest;
 use crate::sinks::say_faults;
 use crate::totals::write_totals;
-use alog_config::{BuildError, Config, leaves, read};
+use alog_config::{BuildError, Config, LoggerConfig, leaves, read};
 use alog_load::LoadError;
 use alog_pipe::{Counts, Piped, pipe};
 use alog_pool::{Report, Totals};
@@ -32,20 +37,37 @@ pub(crate) fn pipe_command<R, I: Read, O: Write, E: Write>(
 where
     R: AllocGlobal + Files + Folders + Threads + Wait + Clock,
     R: Clone + Drop + Send + Sync + 'static,
-    ensures status { result ≤ 4 }
-    ensures usage { result ≡ 1 → Keeps (O.contents output.old) (O.contents output.new) }
+    ensures { PipesFile R.Folder.tells R.Folder.files R.Folder.failures request.now result
+        (I.remaining input.old) (I.remaining input.new) (O.contents output.old) (O.contents output.new) }
 {
-    let document = match read_document(rt, request.file, errors) {
-        Ok(document) => document,
-        Err(status) => return status,
-    };
-    match read(rt.alloc(), document.as_slice()) {
-        Ok(config) => pipe_with(rt, &config, request, input, output, errors),
-        Err(fault) => refuse(rt.alloc(), document.as_slice(), fault, errors),
+    match read_document(rt, request.file, errors) {
+        Ok(document) => pipe_document(rt, document.as_slice(), request, input, output, errors),
+        Err(status) => status,
     }
 }
 
-/// Logs the lines through this configuration, or says which logger is not there.
+/// Logs the lines through the configuration of a document, or says what is wrong with the document.
+fn pipe_document<R, I: Read, O: Write, E: Write>(
+    rt: &R,
+    document: &[u8],
+    request: &PipeRequest<'_>,
+    input: &mut I,
+    output: &mut O,
+    errors: &mut E,
+) -> u8
+where
+    R: AllocGlobal + Files + Folders + Threads + Wait + Clock,
+    R: Clone + Drop + Send + Sync + 'static,
+    ensures { PipesDocument R.Folder.tells R.Folder.files R.Folder.failures document.now request.now result
+        (I.remaining input.old) (I.remaining input.new) (O.contents output.old) (O.contents output.new) }
+{
+    match read(rt.alloc(), document) {
+        Ok(config) => pipe_with(rt, &config, request, input, output, errors),
+        Err(fault) => refuse(rt.alloc(), document, fault, errors),
+    }
+}
+
+/// Logs the lines through this configuration, or says that it has no logger that is asked for.
 fn pipe_with<R, I: Read, O: Write, E: Write>(
     rt: &R,
     config: &Config,
@@ -57,8 +79,8 @@ fn pipe_with<R, I: Read, O: Write, E: Write>(
 where
     R: AllocGlobal + Files + Folders + Threads + Wait + Clock,
     R: Clone + Drop + Send + Sync + 'static,
-    ensures status { result ≤ 4 }
-    ensures usage { result ≡ 1 → Keeps (O.contents output.old) (O.contents output.new) }
+    ensures { PipesOn R.Folder.tells R.Folder.files R.Folder.failures config.now request.now result
+        (I.remaining input.old) (I.remaining input.new) (O.contents output.old) (O.contents output.new) }
 {
     match logger_of(config, request.logger) {
         Some(logger) => pipe_to(rt, config, request, logger, input, output, errors),
@@ -74,21 +96,25 @@ where
     }
 }
 
-/// The number of the logger of this name, or of the first where none is asked for.
-fn logger_of(config: &Config, name: Option<&str>) -> Option<u32>
-    ensures { IfSome result (λ number. number < length config.now.loggers.items) }
+/// Whether this logger is asked for: by its name, or any.
+fn is_asked(logger: &LoggerConfig, name: Option<&str>) -> bool
+    ensures { result ≡ is_asked (option_map (λ n. n.now) name.entry) logger.now }
 {
-    let place = match name {
-        None => Some(0),
-        Some(name) => config
-            .loggers
-            .iter()
-            .position(|logger| logger.name.as_str() == name),
-    };
-    match place {
-        Some(place) if place < config.loggers.len() => u32::try_from(place).ok(),
-        _ => None,
+    match name {
+        None => true,
+        Some(name) => logger.name.as_str() == name,
     }
+}
+
+/// The number of the first logger that is asked for.
+fn logger_of(config: &Config, name: Option<&str>) -> Option<usize>
+    ensures { result ≡ logger_in config.now (option_map (λ n. n.now) name.entry) }
+{
+    config
+        .loggers
+        .as_slice()
+        .iter()
+        .position(|logger| is_asked(logger, name))
 }
 
 /// Logs the lines to the logger of this number, over the files of the folder, which is held for them.
@@ -96,7 +122,7 @@ fn pipe_to<R, I: Read, O: Write, E: Write>(
     rt: &R,
     config: &Config,
     request: &PipeRequest<'_>,
-    logger: u32,
+    logger: usize,
     input: &mut I,
     output: &mut O,
     errors: &mut E,
@@ -104,9 +130,9 @@ fn pipe_to<R, I: Read, O: Write, E: Write>(
 where
     R: AllocGlobal + Files + Folders + Threads + Wait + Clock,
     R: Clone + Drop + Send + Sync + 'static,
-    requires known { logger < length config.now.loggers.items }
-    ensures status { (2 ≤ result) ⊎ (result ≡ 0) }
-    ensures most { result ≤ 4 }
+    requires named { logger_in config.now (name_in request.now) ≡ Some logger }
+    ensures { PipesOn R.Folder.tells R.Folder.files R.Folder.failures config.now request.now result
+        (I.remaining input.old) (I.remaining input.new) (O.contents output.old) (O.contents output.new) }
 {
     let alloc = rt.alloc();
     let _lock = match hold_folder(rt, alloc, request.folder, config) {
@@ -129,7 +155,7 @@ fn pipe_over<R, S: Store + Drop + Send + 'static, I: Read, O: Write, E: Write>(
     config: &Config,
     stores: Vec<S>,
     request: &PipeRequest<'_>,
-    logger: u32,
+    logger: usize,
     input: &mut I,
     output: &mut O,
     errors: &mut E,
@@ -137,11 +163,12 @@ fn pipe_over<R, S: Store + Drop + Send + 'static, I: Read, O: Write, E: Write>(
 where
     R: AllocGlobal + Threads + Wait + Clock + Clone + Drop + Send + Sync + 'static,
     requires many { length stores.items ≡ count_by is_leaf config.now.sinks.items }
-    requires known { logger < length config.now.loggers.items }
-    ensures status { (2 ≤ result) ⊎ (result ≡ 0) }
-    ensures most { result ≤ 4 }
+    requires fresh { All (IsNew S.tells S.files S.failures) stores.items }
+    requires named { logger_in config.now (name_in request.now) ≡ Some logger }
+    ensures { PipesOn S.tells S.files S.failures config.now request.now result
+        (I.remaining input.old) (I.remaining input.new) (O.contents output.old) (O.contents output.new) }
 {
-    let level = request.level;
+    let (logger, level) = (logger as u32, request.level);
     match pipe(rt, rt.alloc(), config, stores, input, logger, level) {
         Ok(piped) => tell(piped, config, request.totals, output, errors),
         Err(BuildError::OutOfMemory) => refuse_load(LoadError::OutOfMemory, errors),
@@ -161,7 +188,11 @@ fn tell<S: Store + Drop, O: Write, E: Write>(
     output: &mut O,
     errors: &mut E,
 ) -> u8
-    ensures { (result ≡ 0) ⊎ (result ≡ 3) }
+    ensures status { (result ≡ 0) ⊎ (result ≡ 3) }
+    ensures done { result ≡ 0 → HasNoFault piped.report × IsNone piped.fault }
+    ensures told { result ≡ 0 → to_output ≡ true
+        → Appends (O.contents output.old) (O.contents output.new) (told_text piped.counts piped.missing piped.report.totals) }
+    ensures untold { to_output ≡ false → Keeps (O.contents output.old) (O.contents output.new) }
 {
     let Piped {
         report,
@@ -170,17 +201,18 @@ fn tell<S: Store + Drop, O: Write, E: Write>(
         fault,
     } = piped;
     let mut report = report;
+    let is_whole = report.faults.iter().all(|number| *number == 0);
     let is_kept = brings_all(&mut report);
     let totals = report.totals;
     let written = if to_output {
-        write_all_totals(output, counts, missing, totals)
+        write_told(output, counts, missing, totals)
     } else {
-        write_all_totals(errors, counts, missing, totals)
+        write_told(errors, counts, missing, totals)
     };
     if let Err(error) = written {
         return fail_to_write(&error, errors);
     }
-    if !is_kept {
+    if !(is_whole && is_kept) {
         let status = refuse_store(errors);
         say_faults(&mut report, config, errors);
         return status;
@@ -194,22 +226,26 @@ fn tell<S: Store + Drop, O: Write, E: Write>(
     }
 }
 
-/// Brings all lines to the stores, and answers whether nothing failed.
-fn brings_all<S: Store>(report: &mut Report<S>) -> bool {
-    let mut is_kept = report.faults.iter().all(|number| *number == 0);
+/// Brings all lines to the stores, and answers whether none failed.
+fn brings_all<S: Store>(report: &mut Report<S>) -> bool
+    ensures { report.new.totals ≡ report.old.totals }
+{
+    let mut is_kept = true;
     for sink in report.sinks.iter_mut() {
         is_kept = sink.flush().is_ok() && is_kept;
     }
     is_kept
 }
 
-/// Writes what a pipe read and the five totals, a line each, and flushes.
-fn write_all_totals<O: Write>(
+/// Writes what a pipe read, what is missing and the five totals, a line each, and flushes.
+fn write_told<O: Write>(
     output: &mut O,
     counts: Counts,
     missing: u64,
     totals: Totals,
-) -> io::Result<()> {
+) -> io::Result<()>
+    ensures { OnOk result (Appends (O.contents output.old) (O.contents output.new) (told_text counts missing totals)) }
+{
     let Counts {
         lines,
         bytes,

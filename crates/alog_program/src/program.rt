@@ -3,10 +3,11 @@ ghost use Rattle.std.specs.Prelude.{◌≡◌, ◌≤◌, ◌⊎◌, ◌↔◌, 
 ghost use Rattle.std.specs.Io.KnownBytes.{Appends, Keeps};
 ghost use Rattle.clap.specs.Words.{Row, kind_of};
 ghost use Rattle.alog_program.specs.Checks.{ChecksFile};
-ghost use Rattle.alog_program.specs.CommandLine.{AsksCheck, AsksFormat, AsksLoad, AsksReplayConfig, folder_in, values_in};
+ghost use Rattle.alog_program.specs.CommandLine.{AsksCheck, AsksFormat, AsksLoad, AsksPipe, AsksReplayConfig, folder_in, values_in};
 ghost use Rattle.alog_program.specs.Formats.{Formats};
 ghost use Rattle.alog_program.specs.Line.{WritesLineOf, IsRefused};
 ghost use Rattle.alog_program.specs.Loaded.{LoadsBy};
+ghost use Rattle.alog_program.specs.Piped.{PipesBy};
 ghost use Rattle.alog_program.specs.Replays.{Replays, ReplaysFile};
 ghost use Rattle.alog_program.specs.Status.{status_of};
 ghost use Rattle.alog_program.specs.Words.{AsksReplay, IsAskedFor};
@@ -72,6 +73,8 @@ where
         (values_in rows) result (O.contents output.old) (O.contents output.new))
         (λ _. LoadsBy R.Folder.tells R.Folder.files
         R.Folder.failures (values_in rows) result (O.contents output.old) (O.contents output.new)) }
+    ensures pipes { (rows : List Row) → AsksPipe (map S.text words.now) rows → PipesBy R.Folder.tells R.Folder.files R.Folder.failures
+        (values_in rows) result (I.remaining input.old) (I.remaining input.new) (O.contents output.old) (O.contents output.new) }
 {
     match read(rt.alloc(), words) {
         Ok(Request::Replay) => replay_command(rt.alloc(), input, output, errors),

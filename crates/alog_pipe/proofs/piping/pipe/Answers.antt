@@ -18,8 +18,8 @@ pipe_through-requires-clause-ready g c κs within =
     let most = started.limit ∙ given.limit in
     (omega (arith, c.requires.known, long, same), omega (arith, limit, most))
 
-pub returns-in-Ok-pipe_through : goal.returns-in-Ok-pipe_through
-returns-in-Ok-pipe_through g c =
+pub returns-in-Ok-pipe_through-clause-piped : goal.returns-in-Ok-pipe_through-clause-piped
+returns-in-Ok-pipe_through-clause-piped g c =
     let limit = ap (λ (s : Cutting). s.limit) c.in_ok-lines.ensures in
     record {
       setup = c.in_ok-setup.setup;
@@ -27,5 +27,5 @@ returns-in-Ok-pipe_through g c =
       start = c.in-Ok.pool;
       starts = c.in-Ok.ensures.started;
       through = subst (λ n. PipesThrough g.S.Store.tells g.S.Store.files g.S.Store.failures n c.in-Ok.pool c.args.logger c.args.level
-          (g.I.Read.remaining c.args.input.now) (g.I.Read.remaining c.pipe_through.new.input) c.in-Ok-pipe_through.piped) limit c.in-Ok-pipe_through.ensures;
+          (g.I.Read.remaining c.args.input.now) (g.I.Read.remaining c.pipe_through.new.input) c.in-Ok-pipe_through.piped) limit c.in-Ok-pipe_through.ensures.piped;
     }

@@ -11,8 +11,8 @@ pump_all-log-requires-clause-ready g c =
     let most = made.limit in
     (omega (arith, c.requires.ready.0, loggers), omega (arith, c.requires.ready.1, most))
 
-pub returns : goal.returns
-returns g c =
+pub returns-clause-piped : goal.returns-clause-piped
+returns-clause-piped g c =
     let back = c.push_reserved.ensures.items
     ∙ ap (λ (l : List ProducerView). l ++ c.pump_all-log.result.0.producer ∷ []) c.in-Ok.ensures.items in
     record {

@@ -6,6 +6,7 @@ use Rattle.alog_program.proofs.CommandLines.{one_row, replay_lacks_memory, repla
 use Rattle.alog_program.proofs.CommandLines.{format_is_no_replay, check_is_no_replay, load_is_no_check, load_is_no_format, load_is_no_replay, not_both, lacks_memory}
 use Rattle.alog_program.proofs.CommandLines.{pipe_is_no_check, pipe_is_no_format, pipe_is_no_load, pipe_is_no_replay, replay_no_pipe}
 use Rattle.alog_program.proofs.Loading.{load_made, load_unasked, load_unread}
+use Rattle.alog_program.proofs.Piping.{pipe_made, pipe_refused}
 use Rattle.std.proofs.KnownBytes.{Keeps-refl}
 use Rattle.alog_program.proofs.program.run.Goals as goal
 
@@ -305,3 +306,75 @@ returns-in-Ok-Pipe-clause-loads g c =
     let words : List Text = map g.S.AsStr.text c.args.words.now in
     let asked = subst (Asks words) c.in-Ok-Pipe.field-0-is c.in-Ok-Pipe.ensures.asked in
     absurd (pipe_is_no_load words asked.0 rows asked.1.1 asks.1)
+
+pub returns-in-Ok-Replay-clause-pipes : goal.returns-in-Ok-Replay-clause-pipes
+returns-in-Ok-Replay-clause-pipes g c =
+    λ rows asks.
+    let words : List Text = map g.S.AsStr.text c.args.words.now in
+    let asked = subst (Asks words) c.in-Ok-Replay.field-0-is c.in-Ok-Replay.ensures.asked in
+    absurd (asked.4 rows asks.1)
+
+pub returns-in-Ok-ReplayConfig-clause-pipes : goal.returns-in-Ok-ReplayConfig-clause-pipes
+returns-in-Ok-ReplayConfig-clause-pipes g c =
+    λ rows asks.
+    let words : List Text = map g.S.AsStr.text c.args.words.now in
+    let asked = subst (Asks words) c.in-Ok-ReplayConfig.field-0-is c.in-Ok-ReplayConfig.ensures.asked in
+    absurd (pipe_is_no_replay words rows asked.0 asks.1 asked.1.1)
+
+pub returns-in-Ok-Format-clause-pipes : goal.returns-in-Ok-Format-clause-pipes
+returns-in-Ok-Format-clause-pipes g c =
+    λ rows asks.
+    let words : List Text = map g.S.AsStr.text c.args.words.now in
+    let asked = subst (Asks words) c.in-Ok-Format.field-0-is c.in-Ok-Format.ensures.asked in
+    absurd (pipe_is_no_format words rows asked.0 asks.1 asked.1.1)
+
+pub returns-in-Ok-Check-clause-pipes : goal.returns-in-Ok-Check-clause-pipes
+returns-in-Ok-Check-clause-pipes g c =
+    λ rows asks.
+    let words : List Text = map g.S.AsStr.text c.args.words.now in
+    let asked = subst (Asks words) c.in-Ok-Check.field-0-is c.in-Ok-Check.ensures.asked in
+    absurd (pipe_is_no_check words rows asked.0 asks.1 asked.1.1)
+
+pub returns-in-Ok-Load-clause-pipes : goal.returns-in-Ok-Load-clause-pipes
+returns-in-Ok-Load-clause-pipes g c =
+    λ rows asks.
+    let words : List Text = map g.S.AsStr.text c.args.words.now in
+    let asked = subst (Asks words) c.in-Ok-Load.field-0-is c.in-Ok-Load.ensures.asked in
+    absurd (pipe_is_no_load words rows asked.0 asks.1 asked.1.1)
+
+pub returns-in-Err-LoadValue-clause-pipes : goal.returns-in-Err-LoadValue-clause-pipes
+returns-in-Err-LoadValue-clause-pipes g c =
+    λ rows asks.
+    let words : List Text = map g.S.AsStr.text c.args.words.now in
+    let refused = subst (IsRefusedBy words) c.in-Err-LoadValue.field-0-is c.in-Err-LoadValue.ensures.refused in
+    absurd (pipe_is_no_load words rows refused.0 asks.1 refused.1.1)
+
+pub returns-in-Ok-Pipe-clause-pipes : goal.returns-in-Ok-Pipe-clause-pipes
+returns-in-Ok-Pipe-clause-pipes g c =
+    λ rows asks.
+    let words : List Text = map g.S.AsStr.text c.args.words.now in
+    let asked = subst (Asks words) c.in-Ok-Pipe.field-0-is c.in-Ok-Pipe.ensures.asked in
+    pipe_made _ _ _ c.pipe_command.result (g.I.Read.remaining c.args.input.now) (g.I.Read.remaining c.pipe_command.new.input)
+    (g.O.Write.contents c.args.output.now) (g.O.Write.contents c.pipe_command.new.output) words asked.0 rows c.in-Ok-Pipe.request
+    asked.1.1 asks.1 asked.2 c.pipe_command.ensures
+
+pub returns-in-Err-Value-clause-pipes : goal.returns-in-Err-Value-clause-pipes
+returns-in-Err-Value-clause-pipes g c =
+    λ rows asks.
+    let words : List Text = map g.S.AsStr.text c.args.words.now in
+    let refused = subst (IsRefusedBy words) c.in-Err-Value.field-0-is c.in-Err-Value.ensures.refused in
+    let before = g.I.Read.remaining c.args.input.now in
+    let old = g.O.Write.contents c.args.output.now in
+    elim refused.1 [
+      | inl format ↦ absurd (pipe_is_no_format words rows refused.0 asks.1 format.0.1)
+      | inr pipe ↦ pipe_refused _ _ _ 1 before before old old words c.in-Err-Value.fault pipe.0.1 asks.1 pipe.1 refl
+          (Keeps-refl before, Keeps-refl old)
+    ]
+
+pub returns-in-Err-Clap-clause-pipes : goal.returns-in-Err-Clap-clause-pipes
+returns-in-Err-Clap-clause-pipes g c =
+    λ rows asks.
+    let words : List Text = map g.S.AsStr.text c.args.words.now in
+    let memory = lacks_memory words c.in-Err-Clap.error asks.0 (subst (IsRefusedBy words) c.in-Err-Clap.field-0-is c.in-Err-Clap.ensures.refused) in
+    let four : c.explain.result ≡ 4 = c.explain.ensures.memory.1 memory in
+    inr (inr (four, (Keeps-refl (g.I.Read.remaining c.args.input.now), c.explain.ensures.unwritten (inr four))))
