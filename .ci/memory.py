@@ -244,7 +244,8 @@ def sweep_tests(room, builds):
 
 def sweep_pools(room):
     """Sweeps the tests of pools. Returns by name what came of each sweep."""
-    build(BUILT)
+    if not is_built(BUILT):
+        build(BUILT)
     found, rows_of = {}, tests_of(BUILT)
     for name, must_pass in POOLS.items():
         judge = pass_outcome if must_pass else test_outcome
