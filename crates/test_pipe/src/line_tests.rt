@@ -75,10 +75,19 @@ const ROWS: &[Row] = &[
 /// How many bytes come at a time.
 const SIZES: &[usize] = &[1, 3, 65_536];
 
+/// How many reads bring so many bytes, so many at a time.
+fn reads(len: usize, size: usize) -> usize {
+    len.saturating_add(size.saturating_sub(1))
+        .checked_div(size)
+        .unwrap_or(0)
+}
+
 /// What is told of a row: each read posts a flush behind its pieces, and so does the end.
 fn told(alloc: Global, row: &Row, size: usize) -> Result<String, AllocError> {
     let counts = row.counts;
-    let all = row.pieces + row.came.len().div_ceil(size) + 1;
+    let all = reads(row.came.len(), size)
+        .saturating_add(row.pieces)
+        .saturating_add(1);
     format!(in alloc;
         "{counts}missing 0\nasked {all}\nposted {all}\ndiscarded 0\noverrun 0\nhandled {all}\n"
     )

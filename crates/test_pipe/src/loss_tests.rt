@@ -38,18 +38,22 @@ fn number_behind(printed: &[u8], word: &str) -> Option<usize> {
         .find_map(|line| line.strip_prefix(word)?.parse::<usize>().ok())
 }
 
-/// How many of the lines a file has and how many it says are missing, if each of both stands where it belongs: behind the lines so far,
-/// kept or missing, comes the one of the next number, or a line that says how many are missing from there on.
-fn kept_and_missing(file: &[u8]) -> Option<(usize, usize)> {
-    let (mut kept, mut missing) = (0, 0);
+/// How many of the lines a file has, and how many it accounts for, if each stands where it belongs: behind those so far, kept or missing,
+/// comes the one of the next number, or a line that says how many are missing from there on.
+fn kept_and_told(file: &[u8]) -> Option<(usize, usize)> {
+    let (mut kept, mut next) = (0_usize, 0_usize);
     for line in str::from_utf8(file).ok()?.lines() {
-        match line.strip_suffix(" lines are missing here") {
-            Some(number) => missing += number.parse::<usize>().ok()?,
-            None if line.parse::<usize>().ok()? == kept + missing => kept += 1,
+        let told = match line.strip_suffix(" lines are missing here") {
+            Some(number) => number.parse::<usize>().ok()?,
+            None if line.parse::<usize>().ok()? == next => {
+                kept = kept.saturating_add(1);
+                1
+            }
             None => return None,
-        }
+        };
+        next = next.saturating_add(told);
     }
-    Some((kept, missing))
+    Some((kept, next))
 }
 
 #[test]
@@ -59,9 +63,8 @@ fn the_log_says_where_how_many_lines_are_missing(rt: HostRuntime) -> io::Result<
     let printed = piped(&rt, room.places(), lines.as_bytes());
     let missing = printed.and_then(|it| number_behind(it.as_slice(), "missing "));
     let file = room.lines(&rt)?;
-    let found = kept_and_missing(file.as_slice());
-    assert!(rt; found.is_some_and(|(kept, _)| kept > 0));
-    assert!(rt; found.is_some_and(|(kept, missing)| kept + missing == LINES));
-    assert!(rt; found.map(|(_, missing)| missing) == missing);
+    let found = kept_and_told(file.as_slice());
+    assert!(rt; found.is_some_and(|(kept, told)| kept > 0 && told == LINES));
+    assert!(rt; found.and_then(|(kept, _)| LINES.checked_sub(kept)) == missing);
     room.leave(&rt)
 }
