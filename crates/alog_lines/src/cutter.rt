@@ -13,7 +13,7 @@ use std::io::{self, Read};
 use std::marker::Model;
 use std::str;
 
-/// Each read has room for so many bytes at least.
+/// Each read is given room for so many bytes at least. A test of `test_cutter` shows it, and no clause.
 pub const CHUNK: usize = 65_536;
 
 /// The least limit on the bytes of a text: each character fits.
@@ -108,7 +108,7 @@ impl LineCutter {
         })
     }
 
-    /// The text that `next` found last. After a `fill` that read it is empty.
+    /// The text that `next` found last. A `fill` that asks the reader leaves it empty, whatever the reader answers; a test shows it, and no clause.
     pub fn text(&self) -> &str
         ensures { result.now ≡ self.now.text }
     {

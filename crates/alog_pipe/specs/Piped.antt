@@ -13,7 +13,7 @@ use Rattle.alog_pipe.specs.declared.piece_log.Told.TheVariants as told
 use Rattle.alog_pipe.specs.declared.pump.Pump.{Pump}
 use Rattle.alog_pool.specs.Producer.{IsSame}
 
--- the pieces of these reads
+-- the pieces of these groups
 abbrev pub all_of : List (List Piece) → List Piece
 all_of reads = flat_map (λ (ps : List Piece). ps) reads
 
@@ -25,7 +25,7 @@ TakesAll ps old new = InTurn (λ (p : Piece) s t. Takes s t p × IsSameCut s t) 
 abbrev pub LogsAll : ℤ → List Piece → PieceLog → PieceLog → Type 0
 LogsAll time ps old new = InTurn (λ (p : Piece) s t. LogsPiece time p.text s t) ps old new
 
--- The pieces of one read: each was logged at one time, and behind them a flush was posted.
+-- A group of pieces: each was logged at one time, and behind them a flush was posted. Nothing says that it is what one read brought.
 pub record LogsRead (ps : List Piece) (old new : PieceLog) : Type 0 where
   pub time : ℤ
   pub mid : PieceLog
@@ -40,7 +40,7 @@ pub record PumpsAll (time : ℤ) (old new : Pump) : Type 0 where
   pub logged : LogsAll time pieces old.log new.log
   pub counted_is : new.counts ≡ counted pieces old.counts
 
--- What a read brought was: at some time, and with a flush behind it.
+-- What was pending was logged as one group: at some time, and with a flush behind it.
 pub record PumpsRead (old new : Pump) : Type 0 where
   pub pieces : List Piece
   pub taken : TakesAll pieces old.lines new.lines
@@ -48,8 +48,9 @@ pub record PumpsRead (old new : Pump) : Type 0 where
   pub logged : LogsRead pieces old.log new.log
   pub counted_is : new.counts ≡ counted pieces old.counts
 
--- The reader gave some bytes. What was logged are their pieces, in their order, each once, read by read: all of them where the reader is
--- at its end, and else those that were found, with the others still pending. Each was counted.
+-- The reader gave some bytes. What was logged are their pieces, in their order, each once, in groups, of which nothing says that each is
+-- what one read brought: all of them where the reader is at its end, and else those that were found, with the others still pending. Each
+-- was counted.
 pub record Pumps (limit : ℕ) (before after : Option (List ℕ)) (all : Bool) (old new : Pump) : Type 0 where
   pub bytes : List ℕ
   pub taken : Consumes before after bytes

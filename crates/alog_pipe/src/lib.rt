@@ -1,7 +1,7 @@
 //! Pipes: the lines of a reader, logged one by one.
 //!
 //! `pipe` builds what a configuration names (`alog_server::setup_of`), starts a pool of it, and makes one producer, with which the thread
-//! of its caller logs each piece of each line (`alog_lines`) that the reader gives: at the time of the read that brought it, to one
+//! of its caller logs each piece of each line (`alog_lines`) that the reader gives: at the time of the read that brought its end, to one
 //! logger, at one level. Behind the pieces of a read it posts a flush. When the reader is at its end, or failed, the pool is ended.
 //!
 //! Under `block` a piece waits for room. Under the other policies none does; a piece that is refused is counted, and before the next one

@@ -27,8 +27,9 @@ pub struct Piped<S: Store> {
     /// What became of all messages, and the sinks.
     pub report: Report<S>,
     pub counts: Counts,
-    /// How many pieces of lines are missing, modulo 2^64: they were not posted, or there was no memory for their copies. In place of
-    /// each row of them the log has a line that says how many they are.
+    /// How many pieces of lines are missing, modulo 2^64: their posts were discarded, or there was no memory for their copies, or the
+    /// line that says what is missing before them was not kept, and then they were not posted. Such a line is posted before the next
+    /// piece, or at the end, unless there is no memory to write it; where it is below the level of the logger or of a sink, no file has it.
     pub missing: u64,
     /// Why the reader could not be read to its end, where it could not.
     pub fault: Option<io::Error>,

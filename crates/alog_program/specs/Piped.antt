@@ -54,9 +54,9 @@ module _ {S : Type 0} (tells : Bool) (files : S → Files) (failures : S → ℕ
     pub named : logger_in c (name_in r) ≡ Some logger
     pub pipes : Pipes tells files failures c stores logger r.level before after p
 
-  -- By the exit status, of a configuration: all was read and logged, no fault was counted, and the lines were written where they were asked
-  -- for; or no logger is the one that is asked for, or there was no memory, and nothing was read or written; or a store or the folder
-  -- failed at first, and nothing was, or all of it was done, and a store, the reader or a write failed.
+  -- By the exit status, of a configuration. At 0 all was read and logged, no fault was counted, and the lines were written where they were
+  -- asked for. At 1 no logger is the one that is asked for, and at 4, for whatever reason, there is no pipe: at both nothing was read or
+  -- written. At 3 nothing was either, or a pipe was made; why it is 3 is not said.
   pub record PipesOn (c : Config) (r : PipeRequest) (status : ℕ) (before after old new : Option (List ℕ)) : Type 0 where
     pub done : status ≡ 0 → (p : Piped S) × IsPipeOf c r before after p × HasNoFault p.report × IsNone p.fault
         × (r.totals ≡ true → Appends old new (told_text p.counts p.missing p.report.totals)) × (r.totals ≡ false → Keeps old new)
@@ -74,13 +74,15 @@ module _ {S : Type 0} (tells : Bool) (files : S → Files) (failures : S → ℕ
       ((status ≡ 2) × IsNoConfiguration document × IsUntouched before after old new) ⊎ ((status ≡ 4) × IsUntouched before after old new)
       ⊎ ((c : Config) × Reads document (Ok c) × PipesOn c r status before after old new)
 
-  -- The same of a file, by the bytes that were read of it; or it could not be read, or there was no memory.
+  -- The same of a file, by some bytes, those that were read of it; or the status is 3 or 4, for whatever reason, and nothing was read of
+  -- the lines or written.
   abbrev pub PipesFile : PipeRequest → ℕ → (before after old new : Option (List ℕ)) → Type 0
   PipesFile r status before after old new =
       ((document : List ℕ) × PipesDocument document r status before after old new)
       ⊎ (((status ≡ 3) ⊎ (status ≡ 4)) × IsUntouched before after old new)
 
-  -- The same by the values of the command line: the pipe that they ask for, or its level is refused, or there was no memory to read them.
+  -- The same by the values of the command line: the pipe that they ask for, or its level is refused, or the status is 4, for whatever
+  -- reason.
   abbrev pub PipesBy : Values → ℕ → (before after old new : Option (List ℕ)) → Type 0
   PipesBy values status before after old new =
       ((r : PipeRequest) × AsksForPipe values r × PipesFile r status before after old new)

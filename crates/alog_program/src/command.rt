@@ -283,7 +283,7 @@ flush_on, and a message below its logger's level, are not counted:
   handled N                     taken out of the queue by a worker, and given to the sinks
 
 Without --folder the files of the sinks are kept in memory. With it they are files of the folder DIR, which
-has to be there, and is held by one load or server at a time; lines are written behind what a file has.
+has to be there, and is held by one load, pipe or server at a time; lines are written behind what a file has.
 
 Exit status: 0 done, 1 a wrong command line, or a number of producers or messages that is out of its bounds,
 2 a refused configuration, 3 a file that cannot be read, a folder that takes no files or is held by another,
@@ -301,11 +301,13 @@ const TOTALS_HELP: &str = "Print the totals on standard output, and not on stand
 const PIPE_HELP: &str = "Log each line of standard input, up to its end.
 
 CONFIG is a configuration, of which `alog check --help` has the keys. Each line is logged to the logger, at the
-level and at the time at which it was read; the last line may lack its newline. What is not UTF-8 becomes
-U+FFFD, and a line that is longer than the text limit goes in pieces, cut before a character that does not fit.
+level and at the time of the read that brought its end; the last line may lack its newline. What is not UTF-8
+becomes U+FFFD, and a line that is longer than the text limit goes in pieces, cut before a character that does
+not fit. Behind what each read brought a flush is posted.
 
-Under the policy block a line waits for room in the queue. Under the others none waits, and where one is
-refused, the log has a line in its place as soon as there is room again: `N lines are missing here`.
+Under the policy block a line waits for room in the queue. Under the others none waits. Where lines are refused,
+the log has a line at level warning in their place, before the next line that it takes or at the end:
+`N lines are missing here`. Of what overrun_oldest takes out of the queue it says nothing.
 
 The files of the sinks are files of the folder DIR, which has to be there, and is held by one pipe, load or
 server at a time; lines are written behind what a file has. To let a service end, close its output: with
@@ -317,10 +319,11 @@ At the end it prints, on standard error:
   bytes N                       of their texts
   mended N                      U+FFFD for what is not UTF-8
   cut N                         cuts of lines that were too long
-  missing N                     lines or pieces that were refused
+  missing N                     lines or pieces that were refused, or had no memory for a copy
 
-and behind them the five totals that `alog load --help` has.
+and behind them the five totals that `alog load --help` has. Here they count flushes, and the lines that say
+what is missing, too. A line below the logger's level counts in the first four numbers alone.
 
-Exit status: 0 each line was handled, but for those that the policy lost, 1 a wrong command line or a logger
-that is not there, 2 a refused configuration, 3 a file that cannot be read, a folder that takes no files or is
-held by another, a read fault, a store that failed or a write fault, 4 no memory.";
+Exit status: 0 all was read, no store failed and the files were flushed, whatever the policy lost, 1 a wrong
+command line or a logger that is not there, 2 a refused configuration, 3 a file that cannot be read, a folder
+that takes no files or is held by another, a read fault, a store that failed or a write fault, 4 no memory.";

@@ -5,8 +5,9 @@
 //! `load_options.rt` read the values that it found. `line.rt` makes the line of `alog format`, `check.rt`, `replay_config.rt` and
 //! `load.rt` (with `progress.rt`) and `pipe.rt` (with `pipe_options.rt`) do what begins with the configuration of a file, and `status.rt` says which status and which number
 //! each fault has; `ended.rt` says why a replay ended early, by what `traced.rt` remembers of its script and its output, and
-//! `script_words.rt` which word of a refused line is wrong. `arguments.rt` collects the words that the system gave, for `main` in the crate `alog`. The
-//! tests are in the crate `test_program`.
+//! `script_words.rt` which word of a refused line is wrong. `arguments.rt` collects the words that the system gave, for `main` in the crate `alog`.
+//!
+//! The tests are in the crates `test_program` (scripts), `test_pipe` (pipes) and `test_commands` (the other commands, and what is refused).
 #![tactic(auto)]
 
 mod arguments;

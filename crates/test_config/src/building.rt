@@ -71,7 +71,36 @@ pub fn logs_to(rt: &impl Abort, loggers: &Loggers, number: u32, sinks: &[u32]) {
     }
 }
 
-/// What a sink answers to a text of this level, posted by the logger of this number at one second past 1970.
+/// A text of this level, posted by the logger of this number at one second past 1970.
+fn message_of(rt: &(impl Abort + AllocGlobal), level: Level, logger: u32, text: &str) -> Message {
+    let time = 1_000_000_000;
+    match Message::new(rt.alloc(), 2_048, logger, level, time, 1, text, None) {
+        Ok(message) => message,
+        Err(MessageError::OutOfMemory) => panic!(rt; "out of memory"),
+        Err(_) => panic!(rt; "no message of {text}"),
+    }
+}
+
+/// A buffer for a line.
+fn line_of(rt: &(impl Abort + AllocGlobal)) -> LineBuf {
+    match LineBuf::new(rt.alloc(), 4_096) {
+        Ok(line) => line,
+        Err(_) => panic!(rt; "out of memory"),
+    }
+}
+
+/// What a sink answers to a message, which it may be given.
+fn take<S: Store>(
+    rt: &impl Abort,
+    sink: &mut Sink<S>,
+    message: &Message,
+    line: &mut LineBuf,
+) -> Result<Taken, SinkError> {
+    assert!(rt; sink.may_take(message, line), "it may not be given it");
+    sink.take(message, line)
+}
+
+/// What a sink answers to a text of this level, posted by the logger of this number.
 fn answer_to<S: Store>(
     rt: &(impl Abort + AllocGlobal),
     sink: &mut Sink<S>,
@@ -79,25 +108,9 @@ fn answer_to<S: Store>(
     logger: u32,
     text: &str,
 ) -> Result<Taken, SinkError> {
-    let message = match Message::new(
-        rt.alloc(),
-        2_048,
-        logger,
-        level,
-        1_000_000_000,
-        1,
-        text,
-        None,
-    ) {
-        Ok(message) => message,
-        Err(MessageError::OutOfMemory) => panic!(rt; "out of memory"),
-        Err(_) => panic!(rt; "no message of {text}"),
-    };
-    let Ok(mut line) = LineBuf::new(rt.alloc(), 4_096) else {
-        panic!(rt; "out of memory")
-    };
-    assert!(rt; sink.may_take(&message, &line), "{text}");
-    sink.take(&message, &mut line)
+    let message = message_of(rt, level, logger, text);
+    let mut line = line_of(rt);
+    take(rt, sink, &message, &mut line)
 }
 
 /// The sink at this place is given a text of this level by the logger of this number, and does this. Where its store fails the test ends

@@ -1,6 +1,6 @@
 //! Bytes in chunks, and faults of a reader.
 use crate::pieces::{LIMIT, is_written, write_pending, written};
-use crate::readers::{Halting, Trickle};
+use crate::readers::{Halting, Noting, Trickle};
 use alog_lines::{Fill, LineCutter};
 use std::alloc::Global;
 use std::test::Fail;
@@ -89,5 +89,43 @@ fn is_held_back(alloc: Global) -> Result<bool, Fail> {
 fn reads_no_more_than_it_has_room_for(rt: HostRuntime) -> Result<(), Fail> {
     let is_held_back = is_held_back(rt.alloc())?;
     assert!(rt; is_held_back);
+    Ok(())
+}
+
+/// Whether no text is lent behind a read, be the last one mended or as it was read.
+fn is_cleared(alloc: Global) -> Result<bool, Fail> {
+    let mut lines = LineCutter::new(alloc, LIMIT)?;
+    let mut out = Vec::new(alloc);
+    let mut is_cleared = true;
+    for bytes in [b"a\xff\n".as_slice(), b"one\n", b""] {
+        let mut reader = bytes;
+        lines.fill(&mut reader)?;
+        is_cleared = is_cleared && lines.text().is_empty();
+        write_pending(&mut lines, &mut out)?;
+    }
+    Ok(is_cleared && out.as_slice() == "a\u{fffd}1.one0.".as_bytes())
+}
+
+#[test]
+fn no_text_is_lent_behind_a_read(rt: HostRuntime) -> Result<(), Fail> {
+    let is_cleared = is_cleared(rt.alloc())?;
+    assert!(rt; is_cleared);
+    Ok(())
+}
+
+/// The least room that reads of so many bytes are given, of short texts and of the longest.
+fn least_room(alloc: Global, size: usize) -> Result<usize, Fail> {
+    let (mut short, mut long) = (Noting::of(size), Noting::of(size));
+    written(alloc, LIMIT, &mut short)?;
+    written(alloc, 65_536, &mut long)?;
+    Ok(short.least.min(long.least))
+}
+
+#[test]
+fn each_read_has_room_for_65536_bytes(rt: HostRuntime) -> Result<(), Fail> {
+    for size in [65, 4_096, 65_535, 300_000] {
+        let least = least_room(rt.alloc(), size)?;
+        assert!(rt; 65_536 <= least && least < usize::MAX, "{size}");
+    }
     Ok(())
 }

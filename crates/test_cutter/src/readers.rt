@@ -56,3 +56,32 @@ impl Read for Halting<'_> {
         given.read(buf)
     }
 }
+
+/// Gives 300,000 bytes of one line, and notes the least room that it is given.
+#[derive(Drop)]
+pub(crate) struct Noting {
+    left: usize,
+    size: usize,
+    pub(crate) least: usize,
+}
+
+impl Noting {
+    /// One that gives at most so many bytes a read.
+    pub(crate) fn of(size: usize) -> Noting {
+        Noting {
+            left: 300_000,
+            size,
+            least: usize::MAX,
+        }
+    }
+}
+
+impl Read for Noting {
+    fn read(&mut self, buf: &mut [u8]) -> io::Result<usize> {
+        self.least = self.least.min(buf.len());
+        let count = self.left.min(self.size).min(buf.len());
+        buf[..count].fill(b'a');
+        self.left -= count;
+        Ok(count)
+    }
+}

@@ -4,7 +4,7 @@ use std::io;
 use test_runs::{Host, SMALL, Said};
 
 /// What is said of two lines that came in one read.
-const TWO: &str =
+pub const TWO: &str =
     "lines 2\nbytes 6\nmended 0\ncut 0\nmissing 0\nasked 4\nposted 4\ndiscarded 0\noverrun 0\nhandled 4\n";
 
 /// The same without the flush of an end, and that the end was none.

@@ -5,7 +5,7 @@ use crate::sinks::{
 };
 use crate::stores::Noting;
 use alog_msg::Level;
-use alog_sink::{FuseStore, OpenError, SinkError, Taken, Unopened};
+use alog_sink::{FuseStore, OpenError, Sink, SinkError, Taken, Unopened};
 use std::alloc::Global;
 use std::test::Fail;
 
@@ -351,26 +351,42 @@ fn first_at(call: usize, one: usize, two: usize) -> Answer {
     answer_at(call, two)
 }
 
-/// The first call of a fan of two members that is not answered so, of three texts and a flush, and whether each member has the lines
-/// before its own fault.
-fn called(alloc: Global, one: usize, two: usize) -> Result<(Option<usize>, bool), Fail> {
-    let mut fan = fan_of_two(
-        alloc,
-        fuse(alloc, one as u64, 0),
-        fuse(alloc, two as u64, 0),
-    )?;
+/// The first call of a fan of two members that is not answered so, of three texts and a flush.
+fn first_wrong(
+    alloc: Global,
+    fan: &mut Sink<Fused>,
+    one: usize,
+    two: usize,
+) -> Result<Option<usize>, Fail> {
     let mut deeds = [Deed::Flushes(first_at(3, one, two).map(|_| ())); 4];
     for (i, text) in TEXTS.iter().enumerate() {
         deeds[i] = Deed::Gives(Level::Error, text, first_at(i, one, two));
     }
-    let count = answered(alloc, &mut fan, &deeds)?;
-    let wrong = if count < deeds.len() {
-        Some(count)
+    let count = answered(alloc, fan, &deeds)?;
+    if count < deeds.len() {
+        Ok(Some(count))
     } else {
-        None
-    };
+        Ok(None)
+    }
+}
+
+/// That, and whether each member of the fan, which goes then, has the lines before its own fault.
+fn ends(
+    alloc: Global,
+    mut fan: Sink<Fused>,
+    one: usize,
+    two: usize,
+) -> Result<(Option<usize>, bool), Fail> {
+    let wrong = first_wrong(alloc, &mut fan, one, two)?;
     let are_left = members_leave(&fan, &[LINES[one.min(3)], LINES[two.min(3)]])?;
     Ok((wrong, are_left))
+}
+
+/// The same of a fan whose members' stores fail at these calls.
+fn called(alloc: Global, one: usize, two: usize) -> Result<(Option<usize>, bool), Fail> {
+    let first = fuse(alloc, one as u64, 0);
+    let second = fuse(alloc, two as u64, 0);
+    ends(alloc, fan_of_two(alloc, first, second)?, one, two)
 }
 
 #[test]

@@ -70,11 +70,20 @@ fn does(
     Ok(count == deeds.len() && flushed(sink, names)?)
 }
 
+/// The same of a sink that goes then.
+fn ends(
+    alloc: Global,
+    mut sink: Sink<Noting>,
+    deeds: &[Deed<'_>],
+    names: &str,
+) -> Result<bool, Fail> {
+    does(alloc, &mut sink, deeds, names)
+}
+
 /// Whether a row holds.
 fn flushes(alloc: Global, flush: Flush<'_>) -> Result<bool, Fail> {
     let (plan, deeds, names) = flush;
-    let mut sink = plan.opened(alloc, notes(alloc))?;
-    does(alloc, &mut sink, deeds, names)
+    ends(alloc, plan.opened(alloc, notes(alloc))?, deeds, names)
 }
 
 #[test]
@@ -97,10 +106,18 @@ fn members_flushed(fan: &Sink<Noting>, names: &str) -> Result<bool, SinkError> {
 }
 
 /// Whether a flush of a fan flushes the file of each member.
+fn flushes_both(alloc: Global, fan: &mut Sink<Noting>) -> Result<bool, Fail> {
+    let count = answered(alloc, fan, &[Deed::Flushes(Ok(()))])?;
+    Ok(count == 1 && members_flushed(fan, "log ")?)
+}
+
+/// The same of a fan that goes then.
+fn ends_flushed(alloc: Global, mut fan: Sink<Noting>) -> Result<bool, Fail> {
+    flushes_both(alloc, &mut fan)
+}
+
 fn flushes_each(alloc: Global) -> Result<bool, Fail> {
-    let mut fan = fan_of_two(alloc, notes(alloc), notes(alloc))?;
-    let count = answered(alloc, &mut fan, &[Deed::Flushes(Ok(()))])?;
-    Ok(count == 1 && members_flushed(&fan, "log ")?)
+    ends_flushed(alloc, fan_of_two(alloc, notes(alloc), notes(alloc))?)
 }
 
 #[test]
@@ -109,15 +126,32 @@ fn a_flush_of_each_member(rt: HostRuntime) -> Result<(), Fail> {
     Ok(())
 }
 
-/// What two members of a fan noted in turn, the first with 1 and the second with 2, where the store of the first fails its call of
-/// this number; none where the fan answers other than the deeds say.
+/// Whether a fan answers as the deeds say.
+fn answers_so(
+    alloc: Global,
+    mut fan: Sink<FuseStore<Marking>>,
+    deeds: &[Deed<'_>],
+) -> Result<bool, Fail> {
+    Ok(answered(alloc, &mut fan, deeds)? == deeds.len())
+}
+
+/// A fan of two members that note in turn, the first with 1 and the second with 2, where the store of the first fails its call of
+/// this number.
+fn fan_that_marks(
+    alloc: Global,
+    marks: &Arc<AtomicU64>,
+    fails: u64,
+) -> Result<Sink<FuseStore<Marking>>, Fail> {
+    let one = marking(Arc::try_clone(marks)?, 1, fails);
+    let two = marking(Arc::try_clone(marks)?, 2, u64::MAX);
+    fan_of_two(alloc, one, two)
+}
+
+/// What its members noted; none where the fan answers other than the deeds say.
 fn marked(alloc: Global, fails: u64, deeds: &[Deed<'_>]) -> Result<Option<u64>, Fail> {
     let marks = Arc::new(alloc, AtomicU64::new(0))?;
-    let one = marking(Arc::try_clone(&marks)?, 1, fails);
-    let two = marking(Arc::try_clone(&marks)?, 2, u64::MAX);
-    let mut fan = fan_of_two(alloc, one, two)?;
-    let count = answered(alloc, &mut fan, deeds)?;
-    Ok((count == deeds.len()).then_some(marks.load(Ordering::SeqCst)))
+    let is_answered = answers_so(alloc, fan_that_marks(alloc, &marks, fails)?, deeds)?;
+    Ok(is_answered.then_some(marks.load(Ordering::SeqCst)))
 }
 
 fn marking(marks: Arc<AtomicU64>, digit: u64, fails: u64) -> FuseStore<Marking> {

@@ -1,7 +1,5 @@
 //! Sinks of each kind, by what they leave in their files, and those that are refused.
-use crate::sinks::{
-    Deed, Named, Plan, Row, answered, fan_of_plan, fan_of_two, members_leave, store_of,
-};
+use crate::sinks::{Deed, Named, Plan, Row, fan_does, fan_of_plan, fan_of_two, store_of};
 use alog_msg::Level;
 use alog_sink::{
     FuseStore, MemStore, NameError, Names, NoFan, OpenError, Sink, Store, Taken, Unopened,
@@ -177,16 +175,22 @@ const FOUR_TIMES: [Deed<'_>; 4] = [
     Deed::At(Level::Error, 18, Ok(Taken::Written)),
 ];
 
-/// Whether each member of a fan counts from the line before of its own.
+const FILES_OF_FOUR_TIMES: [Named<'_>; 2] = [&[("log", b"0\n5\n2\n1\n")], &[("log", b"0\n3\n")]];
+
+/// Whether a fan of two takes texts of four times, and each member counts from the line before of its own.
+fn goes_on(alloc: Global, mut fan: Sink<MemStore>) -> Result<bool, Fail> {
+    fan_does(alloc, &mut fan, &FOUR_TIMES, &FILES_OF_FOUR_TIMES)
+}
+
 fn elapses_for_each(alloc: Global) -> Result<bool, Fail> {
     let plan = Plan {
         pattern: b"%u",
         ..Plan::MEMORY
     };
-    let mut fan = fan_of_plan(alloc, plan, MemStore::new(alloc), MemStore::new(alloc))?;
-    let count = answered(alloc, &mut fan, &FOUR_TIMES)?;
-    let files: [Named<'_>; 2] = [&[("log", b"0\n5\n2\n1\n")], &[("log", b"0\n3\n")]];
-    Ok(count == FOUR_TIMES.len() && members_leave(&fan, &files)?)
+    goes_on(
+        alloc,
+        fan_of_plan(alloc, plan, MemStore::new(alloc), MemStore::new(alloc))?,
+    )
 }
 
 #[test]
@@ -209,13 +213,19 @@ const TWO: [Deed<'_>; 3] = [
     Deed::Flushes(Ok(())),
 ];
 
-/// Whether a fan gives what it is given to each member that is to have it.
-fn gives_to_each(alloc: Global) -> Result<bool, Fail> {
-    let mut fan = fan_of_two(alloc, MemStore::new(alloc), MemStore::new(alloc))?;
-    let count = answered(alloc, &mut fan, &TWO)?;
+const FILES_OF_TWO: [Named<'_>; 2] = [&[("log", b"a\nb\n")], &[("log", b"b\n")]];
+
+/// Whether a sink is a fan, and gives what it is given to each member that is to have it.
+fn is_fan_of_two(alloc: Global, mut fan: Sink<MemStore>) -> Result<bool, Fail> {
     let is_fan = fan.store().is_none() && fan.is_fan();
-    let files: [Named<'_>; 2] = [&[("log", b"a\nb\n")], &[("log", b"b\n")]];
-    Ok(count == TWO.len() && is_fan && members_leave(&fan, &files)?)
+    Ok(fan_does(alloc, &mut fan, &TWO, &FILES_OF_TWO)? && is_fan)
+}
+
+fn gives_to_each(alloc: Global) -> Result<bool, Fail> {
+    is_fan_of_two(
+        alloc,
+        fan_of_two(alloc, MemStore::new(alloc), MemStore::new(alloc))?,
+    )
 }
 
 #[test]

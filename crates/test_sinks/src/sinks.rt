@@ -7,7 +7,7 @@ use alog_format::{Context, LineBuf, Zone};
 use alog_msg::{Level, Message};
 use alog_pattern::Pattern;
 use alog_sink::{Face, FuseStore, MemStore, Names, Sink, SinkError, Store, Taken, Unopened};
-use std::alloc::Global;
+use std::alloc::{AllocError, Global};
 use std::test::Fail;
 
 pub const TEXT_LIMIT: usize = 64;
@@ -146,6 +146,26 @@ pub fn fan_of_two<S: Store + Drop>(alloc: Global, one: S, two: S) -> Result<Sink
     fan_of_plan(alloc, Plan::MEMORY, one, two)
 }
 
+/// Two sinks, as members.
+fn members_of<S: Drop>(
+    alloc: Global,
+    one: Sink<S>,
+    two: Sink<S>,
+) -> Result<Vec<Sink<S>>, AllocError> {
+    let mut members = Vec::with_capacity(alloc, 2)?;
+    members.push_reserved(one);
+    members.push_reserved(two);
+    Ok(members)
+}
+
+/// A fan of these members, or its refusal as an error of the test.
+fn fan_of<S: Store + Drop>(alloc: Global, members: Vec<Sink<S>>) -> Result<Sink<S>, Fail> {
+    match Sink::fan(alloc, Level::Trace, members) {
+        Ok(fan) => Ok(fan),
+        Err(refused) => Err(refused.error.into()),
+    }
+}
+
 /// A fan of a sink of this plan, and of one of the same for level error.
 pub fn fan_of_plan<S: Store + Drop>(
     alloc: Global,
@@ -157,13 +177,9 @@ pub fn fan_of_plan<S: Store + Drop>(
         level: Level::Error,
         ..plan
     };
-    let mut members = Vec::with_capacity(alloc, 2)?;
-    members.push_reserved(plan.opened(alloc, one)?);
-    members.push_reserved(errors.opened(alloc, two)?);
-    match Sink::fan(alloc, Level::Trace, members) {
-        Ok(fan) => Ok(fan),
-        Err(refused) => Err(refused.error.into()),
-    }
+    let one = plan.opened(alloc, one)?;
+    let two = errors.opened(alloc, two)?;
+    fan_of(alloc, members_of(alloc, one, two)?)
 }
 
 /// What is done with a sink, and what it answers. Texts are of level info where no other is named.
@@ -310,6 +326,17 @@ pub fn members_leave<S: Kept>(fan: &Sink<S>, files: &[Named<'_>]) -> Result<bool
     Ok(members.len() == files.len())
 }
 
+/// Whether a fan answers these deeds as they say, and its members leave these files.
+pub fn fan_does<S: Kept>(
+    alloc: Global,
+    fan: &mut Sink<S>,
+    deeds: &[Deed<'_>],
+    files: &[Named<'_>],
+) -> Result<bool, Fail> {
+    let count = answered(alloc, fan, deeds)?;
+    Ok(count == deeds.len() && members_leave(fan, files)?)
+}
+
 /// A store of these files.
 pub fn store_of(alloc: Global, files: Named<'_>) -> Result<MemStore, Fail> {
     let mut store = MemStore::new(alloc);
@@ -334,9 +361,13 @@ impl Row<'_> {
         Ok(count == self.deeds.len() && leaves(sink, self.files)?)
     }
 
+    /// The same of a sink that goes then: it is dropped here, where nothing else is alive.
+    fn is_ended<S: Kept>(&self, alloc: Global, mut sink: Sink<S>) -> Result<bool, Fail> {
+        self.is_done(alloc, &mut sink)
+    }
+
     /// Whether the sink of the row, over this store, does so.
     pub fn holds<S: Kept>(&self, alloc: Global, store: S) -> Result<bool, Fail> {
-        let mut sink = self.plan.opened(alloc, store)?;
-        self.is_done(alloc, &mut sink)
+        self.is_ended(alloc, self.plan.opened(alloc, store)?)
     }
 }
