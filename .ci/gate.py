@@ -2,8 +2,8 @@
 
 gate.py run FILE WORD..   runs a command, and writes to FILE, each minute and at its end, what it and each prover below it have used
 gate.py times FILE        prints the processor seconds of the last gate by crate and phase, beside the budget
-gate.py applies           says which wrong bodies no longer apply, which crates have more edits than the gate tries or a file
-                          that is not laid out, and which files of examples/ and rows/ the tests of alog do not have
+gate.py applies           says which wrong bodies no longer apply, and which crates have more edits than the gate tries or a file
+                          that is not laid out
 gate.py wrong [NAME..]    tries the wrong bodies of these crates, or of all, on a copy of the repository: many at once, each in a
                           function of its own (rounds.py), and alone what was not refused so
 gate.py planted           tries the bodies that no contract refuses, crates/NAME/planted, on a copy: a test of that crate must fail
@@ -21,7 +21,6 @@ import time
 
 sys.dont_write_bytecode = True
 import rounds
-from rows import bytes_of, is_repeated, is_spelt, literals, of_bytes
 
 # processor seconds: of all of alog, of a crate's proof with its tests, of its edits
 BUDGET, SHARE, EDITS_SHARE = 12_500, 600, 400
@@ -162,41 +161,6 @@ def stale(crates):
     return [f"{edit}: {why}" for edit, why in edits if why]
 
 
-def untested():
-    """Returns what is said of each file of examples/ that the tests of alog do not have byte for byte, and of each of rows/ whose text
-    no test spells."""
-    tests = text_of("crates/test_runs/src/examples.rt")
-    faults = [it for it in sorted(glob.glob("examples/*")) if f'r#"{text_of(it)}"#;' not in tests]
-    texts = literals(sorted(glob.glob("crates/test_*/src/*.rt")))
-    faults += [it for it in sorted(glob.glob("rows/*")) if not is_tested(it, texts, set(texts))]
-    return [f"{it} is not in the tests of alog" for it in faults]
-
-
-def is_tested(file, texts, parts):
-    """Whether the text of a file of a row is spelt by the tests, which have these texts in this order: of standard error the words behind
-    the number."""
-    text = of_bytes(bytes_of(file))
-    if file.endswith(".args"):
-        return are_words(["alog", *text.split("\n")[:-1]], texts, parts)
-    if file.endswith(".err"):
-        said = text.split("\n", 1)[1]
-        words = said.removesuffix("\n").split("\n")[-1].removeprefix("alog: ")
-        return are_spelt([said, words], parts)
-    return are_spelt([text, text.removesuffix("\n")], parts)
-
-
-def are_words(words, texts, parts):
-    """Whether a test has these words in a row, or those of a line each by itself: an option by its value."""
-    if any(texts[at : at + len(words)] == words for at in range(len(texts))):
-        return True
-    return words[1] == "format" and all(are_spelt([it, it.partition("=")[2]] if it.startswith("--") else [it], parts) for it in words[2:])
-
-
-def are_spelt(texts, parts):
-    """Whether one of these texts is spelt by these parts."""
-    return any(is_spelt(it, parts) or is_repeated(it, parts) for it in texts)
-
-
 def badly_laid_out(crates):
     """Returns what is said of each crate with a file that `rt fmt` would change: the gate proves nothing of such a crate."""
     rattle = os.path.join(os.path.dirname(os.path.realpath(shutil.which("rt"))), "rattle")
@@ -229,7 +193,7 @@ def applies():
     crates = sorted(glob.glob("crates/*"))
     counts = [(crate, len(edits_in(f"{crate}/must-fail"))) for crate in crates]
     many = [f"{crate}/must-fail has {count} edits: at most {MOST_EDITS} stand there, the others in {crate}/wrong" for crate, count in counts if count > MOST_EDITS]
-    return tell(many + stale(crates) + badly_laid_out(crates) + aborting(crates) + untested())
+    return tell(many + stale(crates) + badly_laid_out(crates) + aborting(crates))
 
 
 def one_by_one(crate, room, edits):

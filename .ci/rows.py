@@ -1,4 +1,4 @@
-"""The rows of rows/ and of examples/: what the program is run on, and what it must then say; and which texts the tests have.
+"""The rows of rows/ and of examples/: what the program is run on, and what it must then say.
 
 NAME.alog is a script, replayed with the configuration NAME.toml where that is there. NAME.args has the words of another command, one a
 line, in which FILE stands for NAME.toml. A NAME.toml with neither is checked. NAME.txt is what is printed: nothing where it is not
@@ -7,16 +7,8 @@ there. NAME.err has the status in its first line and standard error behind it: 0
 import collections
 import glob
 import os
-import re
 
 Row = collections.namedtuple("Row", "name words given printed status errors")
-
-# a literal of a test: raw, plain or of bytes, of one letter, or a number
-LITERAL = re.compile(r"""r#"(?P<raw>.*?)"#|b?"(?P<text>(?:[^"\\]|\\.)*)"|'(?P<letter>[^'\\]|\\.)'|\b(?P<number>\d[\d_]*)\b""", re.S)
-COMMENT = re.compile(r"^\s*//.*$", re.M)
-ESCAPES = {"n": "\n", "r": "\r", "t": "\t", "0": "\0", '"': '"', "'": "'", "\\": "\\"}
-# parts of texts that a test puts together have so many letters at least
-LEAST = 6
 
 
 def rows(folder):
@@ -51,65 +43,6 @@ def bytes_of(file):
         return None
 
 
-def literals(files):
-    """Returns the literals of these sources as texts, in their order."""
-    found = []
-    for file in files:
-        with open(file, encoding="utf-8") as it:
-            source = COMMENT.sub("", it.read())
-        found += [value_of(it) for it in LITERAL.finditer(source)]
-    return found
-
-
-def value_of(literal):
-    """Returns the text of a literal."""
-    if literal["raw"] is not None:
-        return literal["raw"]
-    if literal["number"]:
-        return literal["number"].replace("_", "")
-    text = literal["text"] if literal["text"] is not None else literal["letter"]
-    text = re.sub(r"\\\n\s*", "", text)
-    return re.sub(r"\\(?:u\{(\w+)\}|x(\w\w)|(.))", unescaped, text)
-
-
-def unescaped(escape):
-    """Returns the letter that an escape spells; that of a byte beyond ASCII is the byte's, as `of_bytes` has it."""
-    point, byte, letter = escape.groups()
-    if letter:
-        return ESCAPES[letter]
-    return chr(int(point, 16)) if point else bytes([int(byte, 16)]).decode(errors="surrogateescape")
-
-
 def of_bytes(data):
     """Returns bytes as a text, also where they are none."""
     return data.decode(errors="surrogateescape")
-
-
-def is_spelt(text, parts):
-    """Whether a text is one of these, or some of them, each of a few letters at least, one behind the other."""
-    if text in parts:
-        return True
-    longer, ends = [it for it in parts if len(it) >= LEAST], {0}
-    for at in range(len(text)):
-        if at in ends:
-            ends |= {at + len(it) for it in longer if text.startswith(it, at)}
-    return len(text) in ends
-
-
-def is_repeated(text, parts):
-    """Whether a text is one of these many times, between two others: so do tests make long ones. The part may have the number of the
-    time, from 0, where it has `{i}`."""
-    fronts, backs = [it for it in parts if text.startswith(it)], [it for it in parts if text.endswith(it)]
-    cores = {text[len(front) : len(text) - len(back)] for front in fronts for back in backs if len(front) + len(back) < len(text)}
-    return any(is_row(core, part) for core in cores for part in parts if part)
-
-
-def is_row(text, part):
-    """Whether a text is this part again and again, with the number of each time where the part has `{i}`."""
-    at = number = 0
-    while at < len(text):
-        now = part.replace("{i}", str(number))
-        if not text.startswith(now, at):
-            return False
-        at, number = at + len(now), number + 1
-    return True

@@ -53,7 +53,11 @@ fn many_lines_that_come_byte_by_byte(rt: HostRuntime) -> io::Result<()> {
     assert!(rt; bytes.len() == MANY_BYTES);
     let mut input = Chunks::new(bytes.as_bytes(), 1);
     let ran = room.pipe(&rt, &["--totals"], &mut input)?;
-    let found = [ran.number("lines "), ran.number("bytes "), ran.number("missing ")];
+    let found = [
+        ran.number("lines "),
+        ran.number("bytes "),
+        ran.number("missing "),
+    ];
     assert!(rt; found == [Some(MANY), Some(MANY_BYTES - MANY), Some(0)]);
     let lines = room.lines(&rt)?;
     assert!(rt; lines.as_slice() == bytes.as_bytes());

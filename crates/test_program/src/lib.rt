@@ -1,15 +1,21 @@
-//! Tests of scripts and of the line of progress over the public surface of `alog_program`.
+//! Tests of the program over the public surface of `alog_program`: what no run of the built program shows.
 //!
-//! They are here, and not there, since a crate with tests is proved twice. A run is made by `test_runs`. Read `script_tests.rt`
-//! (`alog replay`), `config_tests.rt` (`alog replay --config`), `progress_tests.rt` and `example_tests.rt` (the scripts of
-//! `examples/`).
+//! What the program says on which words and which input, the sessions of `sessions/` and the rows of `rows/` show, on the program that
+//! was built. Here are readers and writers that fail at each byte, want of memory, words that the system cannot give, a folder that
+//! another holds, and the line of progress by a clock of the test's own. A run is made by `test_runs`. Read `disturbed_tests.rt`
+//! (scripts with a configuration), `script_tests.rt` (scripts alone), `writer_tests.rt` (the other commands), `word_tests.rt`, `held_tests.rt` and
+//! `progress_tests.rt`.
 #![tactic(auto)]
 
 #[cfg(test)]
-mod config_tests;
+mod disturbed_tests;
 #[cfg(test)]
-mod example_tests;
+mod held_tests;
 #[cfg(test)]
 mod progress_tests;
 #[cfg(test)]
 mod script_tests;
+#[cfg(test)]
+mod word_tests;
+#[cfg(test)]
+mod writer_tests;

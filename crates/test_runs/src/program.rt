@@ -1,9 +1,7 @@
 //! One run of the whole program, and whether it said what it was to say.
-use crate::files::{Scratch, written};
+use crate::files::Scratch;
 use alog_program::Screen;
 use alog_server::Folders;
-use std::alloc::{AllocError, Global};
-use std::fs;
 use std::io::{Read, Write};
 use std::rt::Files;
 use std::sync::Wait;
@@ -80,15 +78,6 @@ impl<'a> Said<'a> {
         }
     }
 
-    /// The input is refused, behind what was printed.
-    pub fn refused(printed: &'a str, error: &'a str) -> Said<'a> {
-        Said {
-            status: 2,
-            printed,
-            error,
-        }
-    }
-
     /// There is a fault, behind what was printed.
     pub fn fault(printed: &'a str, error: &'a str) -> Said<'a> {
         Said {
@@ -113,56 +102,4 @@ pub fn says<R: Host>(rt: &R, words: &[&str], input: &[u8], said: Said<'_>) -> bo
     let status = run(rt, words, &mut input, &mut output, &mut errors);
     let is_printed = output.as_slice() == said.printed.as_bytes();
     status == said.status && is_printed && is_error(errors.as_slice(), said.error)
-}
-
-/// These words, with this file where `FILE` stands.
-fn placed<'a>(
-    alloc: Global,
-    words: &[&'static str],
-    file: &'a str,
-) -> Result<Vec<&'a str>, AllocError> {
-    let mut placed = Vec::new(alloc);
-    for word in words {
-        placed.push(if *word == "FILE" { file } else { *word })?;
-    }
-    Ok(placed)
-}
-
-/// Whether the program says this on these words, in which `FILE` stands for this file.
-pub fn says_on<R: Host>(
-    rt: &R,
-    file: &str,
-    words: &[&'static str],
-    input: &[u8],
-    said: Said<'_>,
-) -> bool {
-    match placed(rt.alloc(), words, file) {
-        Ok(words) => says(rt, words.as_slice(), input, said),
-        Err(_) => false,
-    }
-}
-
-/// Whether it does so where `FILE` stands for a file that has this document.
-pub fn says_with<R: Host>(
-    rt: &R,
-    document: &str,
-    words: &[&'static str],
-    input: &[u8],
-    said: Said<'_>,
-) -> bool {
-    match written(rt, document) {
-        Ok(path) => {
-            let is_said = says_on(rt, path.as_str(), words, input, said);
-            fs::remove_file(rt, path.as_str()).is_ok() && is_said
-        }
-        Err(_) => false,
-    }
-}
-
-/// `alog replay` with the configuration of a file.
-pub const REPLAY: &[&str] = &["alog", "replay", "--config", "FILE"];
-
-/// Whether a script with this configuration says this.
-pub fn replays_with<R: Host>(rt: &R, document: &str, script: &str, said: Said<'_>) -> bool {
-    says_with(rt, document, REPLAY, script.as_bytes(), said)
 }

@@ -1,55 +1,9 @@
-//! Command lines on the whole program, and the words that the system gives.
+//! The words that the system gives, and those that it cannot give.
 use alog_program::{ArgumentsError, collect_words, refuse_arguments};
 use std::alloc::Global;
 use std::env::{Env, FillError};
 use std::test::Fail;
-use test_runs::{Host, long, run};
-
-/// What a run on these words answers, without input: its status, and whether it printed, and said something on standard error.
-fn ran<R: Host>(rt: &R, words: &[&str]) -> (u8, bool, bool) {
-    let mut input = b"".as_slice();
-    let mut output = Vec::new(rt.alloc());
-    let mut errors = Vec::new(rt.alloc());
-    let status = run(rt, words, &mut input, &mut output, &mut errors);
-    (status, !output.is_empty(), !errors.is_empty())
-}
-
-/// Command lines that are answered by a text.
-const ANSWERED: &[&[&str]] = &[
-    &["alog", "--help"],
-    &["alog", "--version"],
-    &["alog", "replay", "--help"],
-    &["alog", "format", "--help"],
-    &["alog", "load", "--help"],
-    &["alog", "pipe", "--help"],
-];
-
-/// Command lines that are wrong.
-const WRONG: &[&[&str]] = &[
-    &["alog"],
-    &["alog", "play"],
-    &["alog", "format"],
-    &["alog", "replay", "file"],
-    &["alog", "format", "%v"],
-    &["alog", "load", "--folder=d"],
-    &["alog", "pipe", "c.toml"],
-    &["alog", "pipe", "c.toml", "--folder=d", "--level=loud"],
-    &["alog", "loads", "c.toml"],
-    &["alog", "format", "%v", "x", "y"],
-    &["alog", "format", "%v", "x", "--after=0"],
-    &["alog", "format", "%v", "--time", "-1"],
-];
-
-#[test]
-fn command_lines(rt: HostRuntime) {
-    for words in ANSWERED {
-        assert!(rt; ran(&rt, words) == (0, true, false), "{words:?}");
-    }
-    for words in WRONG {
-        assert!(rt; ran(&rt, words) == (1, false, true), "{words:?}");
-    }
-    assert!(rt; ran(&rt, &["alog", "replay"]) == (0, false, false));
-}
+use test_runs::long;
 
 /// The words that it has, as bytes. It is asked for nothing else.
 #[derive(Drop)]

@@ -1,5 +1,4 @@
 //! `alog replay --config` on the whole program where its reader or its writer fails, or memory is wanting.
-use crate::check_tests::NO_TOML;
 use std::alloc::{AllocError, Global};
 use std::path::PathBuf;
 use std::{fs, io};
@@ -55,6 +54,12 @@ fn each_write_failing(rt: HostRuntime) {
         );
     }
 }
+
+/// A document that is not TOML, and what is said of it.
+const NO_TOML: (&str, &str) = (
+    "queue = \"8",
+    "alog: refused 28\nalog: the document is not TOML: line 1: invalid string\n",
+);
 
 /// Whether a file that has no configuration is refused so where the script cannot be read either.
 fn refuses_first<R: Host>(rt: &R, file: &str, error: &str) -> bool {

@@ -1,0 +1,151 @@
+"""Runs the built program as users do: the sessions of sessions/, the rows of rows/ and examples/, and what README and docs/ show; prints
+what differs from what is wanted, and how many passed and failed.
+
+NAME.session has commands and what each answers. A line says by its first sign what it is:
+
+# a remark
+@ FILE      a file of this name is made, with the lines `| ..` that follow
+$ COMMAND   a command of the shell, in which `alog` is the program
+< LINE      a line of its standard input
+<+ LINE     the same without a newline behind it
+> LINE      a line of its standard output
+! LINE      a line of its standard error
+!~ TEXT     the line that standard error begins with begins so, and nothing is said of the rest
+= STATUS    its status, where that is not 0
+
+A session runs in a folder of its own, which is empty at its start, and its commands one after the other. Rows are as rows.py says. A
+document shows commands in fenced blocks whose first line begins with `$ `, behind each what is seen of it on a terminal; they run one after
+the other in a folder that has examples/, and where the document has /tmp/logs they have a folder there.
+"""
+import collections
+import concurrent.futures as futures
+import glob
+import os
+import re
+import subprocess
+import sys
+import tempfile
+
+sys.dont_write_bytecode = True
+from rows import bytes_of, of_bytes, rows
+
+PROGRAM = os.path.abspath("crates/alog/out/alog")
+SECONDS = 60
+
+
+class Command:
+    """A command of a session, and what it is to answer."""
+
+    def __init__(self, words, place):
+        self.words, self.place = words, place
+        self.given = self.printed = self.said = b""
+        self.begins, self.status = None, 0
+
+    def fault_of(self, ran):
+        """Returns what differs from what is wanted, if anything does."""
+        found = [("status", ran.returncode, self.status), ("standard output", ran.stdout, self.printed)]
+        if self.begins is None:
+            found.append(("standard error", ran.stderr, self.said))
+        elif not ran.stderr.startswith(self.begins):
+            found.append(("standard error", ran.stderr, self.begins))
+        return next((f"{what} is {is_!r}, and is to be {wanted!r}" for what, is_, wanted in found if is_ != wanted), None)
+
+
+def parts_of(file):
+    """Returns the files and commands of a session, in their order: a file by its name and bytes."""
+    found = []
+    for number, line in enumerate(bytes_of(file).split(b"\n"), 1):
+        sign, _, rest = line.partition(b" ")
+        if sign == b"@":
+            found.append([rest.decode(), b""])
+        elif sign == b"|":
+            found[-1][1] += rest + b"\n"
+        elif sign == b"$":
+            found.append(Command(rest.decode(), f"{file}:{number}"))
+        elif sign in (b"<", b"<+"):
+            found[-1].given += rest + (b"\n" if sign == b"<" else b"")
+        elif sign == b">":
+            found[-1].printed += rest + b"\n"
+        elif sign == b"!":
+            found[-1].said += rest + b"\n"
+        elif sign == b"!~":
+            found[-1].begins = rest
+        elif sign == b"=":
+            found[-1].status = int(rest)
+        elif line and sign != b"#":
+            raise SystemExit(f"{file}:{number}: no line of a session begins so")
+    return found
+
+
+def play(file, bin):
+    """Plays a session, with the program in the folder `bin`; returns how many commands did what they are to do, and what the others did."""
+    passed, faults = 0, []
+    env = {**os.environ, "PATH": f"{bin}:{os.environ['PATH']}"}
+    with tempfile.TemporaryDirectory(prefix="alog-session-") as room:
+        for it in parts_of(file):
+            if isinstance(it, list):
+                with open(f"{room}/{it[0]}", "wb") as made:
+                    made.write(it[1])
+                continue
+            fault = it.fault_of(subprocess.run(["sh", "-c", it.words], input=it.given, capture_output=True, cwd=room, env=env, timeout=SECONDS))
+            passed += fault is None
+            faults += [] if fault is None else [f"{it.place}: {it.words}: {fault}"]
+    return passed, faults
+
+
+def play_rows(folder):
+    """Runs the program on the rows of a folder; returns the same of them."""
+    passed, faults = 0, []
+    for row in rows(folder):
+        ran = subprocess.run([PROGRAM, *row.words], input=row.given, capture_output=True, timeout=SECONDS)
+        is_well = (ran.returncode, ran.stdout, ran.stderr) == (row.status, row.printed, row.errors)
+        passed += is_well
+        if not is_well:
+            faults.append(f"{folder}/{row.name}: {ran.returncode}, {of_bytes(ran.stdout)!r} and {of_bytes(ran.stderr)!r}")
+    return passed, faults
+
+
+def shown_in(document):
+    """Returns the commands that a document shows, each with what is seen of it."""
+    found = []
+    for block in re.findall(r"(?ms)^```\n(\$ .*?)^```$", of_bytes(bytes_of(document))):
+        for each in re.split(r"(?m)^\$ ", block)[1:]:
+            command, _, seen = each.partition("\n")
+            found.append((command, seen))
+    return found
+
+
+def play_document(document, bin):
+    """Runs what a document shows; returns the same of it."""
+    passed, faults = 0, []
+    env = {**os.environ, "PATH": f"{bin}:{os.environ['PATH']}"}
+    with tempfile.TemporaryDirectory(prefix="alog-document-") as room:
+        os.symlink(os.path.abspath("examples"), f"{room}/examples")
+        for command, wanted in shown_in(document):
+            words = command.replace("./alog", "alog").replace("/tmp/logs", f"{room}/logs")
+            ran = subprocess.run(["sh", "-c", words], stdin=subprocess.DEVNULL, stdout=subprocess.PIPE, stderr=subprocess.STDOUT, cwd=room, env=env, timeout=SECONDS)
+            seen = of_bytes(ran.stdout).replace(f"{room}/logs", "/tmp/logs")
+            passed += seen == wanted
+            faults += [] if seen == wanted else [f"{document}: {command}: is {seen!r}, and is to be {wanted!r}"]
+    return passed, faults
+
+
+def main():
+    if not os.path.exists(PROGRAM):
+        print(f"sessions: {PROGRAM} is not built\n0 passed, 1 failed")
+        return 1
+    with tempfile.TemporaryDirectory(prefix="alog-bin-") as bin, futures.ThreadPoolExecutor(os.cpu_count()) as pool:
+        os.symlink(PROGRAM, f"{bin}/alog")
+        all_of = [pool.submit(play, it, bin) for it in sorted(glob.glob("sessions/*.session"))]
+        all_of += [pool.submit(play_rows, it) for it in ("rows", "examples")]
+        all_of += [pool.submit(play_document, it, bin) for it in ("README.md", *sorted(glob.glob("docs/*.md")))]
+        found = [it.result() for it in all_of]
+    for fault in (fault for _, faults in found for fault in faults):
+        print(f"session {fault}")
+    failed = sum(len(faults) for _, faults in found)
+    print(f"{sum(passed for passed, _ in found)} passed, {failed} failed")
+    return 1 if failed else 0
+
+
+if __name__ == "__main__":
+    sys.exit(main())
