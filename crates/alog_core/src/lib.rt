@@ -14,7 +14,7 @@
 #![tactic(auto)]
 
 mod error;
-mod laws;
+pub mod laws;
 mod mark;
 mod play;
 mod round;
@@ -23,11 +23,6 @@ mod table;
 mod world;
 
 pub use error::{BeginError, Refused, StepError, WorldError};
-pub use laws::{
-    accounts_balance, an_actors_tickets_rise, no_ticket_is_handed_out_twice,
-    reached_states_are_sound, takes_follow_their_claims, tickets_are_grabbed_in_order,
-    tickets_are_handed_out_or_listed, tickets_are_issued_in_order, tickets_keep_their_items,
-};
 pub use mark::Mark;
 pub use round::Round;
 pub use said::{Answer, Call, CellView, Said};

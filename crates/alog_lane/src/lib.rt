@@ -13,7 +13,7 @@
 
 mod close;
 mod lane;
-mod laws;
+pub mod laws;
 mod plays;
 mod seat;
 mod share;
@@ -23,6 +23,5 @@ mod wait;
 
 pub use close::SeatsOut;
 pub use lane::{Held, Lane};
-pub use laws::alone_saw_its_own;
 pub use seat::{ALL_PARTS, LaneSeat};
 pub use turn::Turn;

@@ -11,11 +11,10 @@
 
 mod flags;
 mod items;
-mod laws;
+pub mod laws;
 mod patterns;
 mod scan;
 
 pub use flags::Flag;
 pub use items::{Item, Padding, Side, WIDTH_MAX};
-pub use laws::{one_reading, padded_length};
 pub use patterns::{LINE_MAX, PATTERN_MAX, Pattern, PatternError};

@@ -21,7 +21,7 @@ mod face;
 mod fan;
 mod folder_store;
 mod fuse_store;
-mod laws;
+pub mod laws;
 mod leaf;
 mod mem_store;
 mod names;
@@ -38,10 +38,6 @@ pub use face::{Face, NameError, Names};
 pub use fan::Fan;
 pub use folder_store::FolderStore;
 pub use fuse_store::{Fuse, FuseStore};
-pub use laws::{
-    dated_names_differ, days_go_on, lanes_write_their_texts, numbered_names_differ,
-    pieces_have_one_cut,
-};
 pub use leaf::{Leaf, SinkError, Taken};
 pub use mem_store::MemStore;
 pub use names::is_file_name;

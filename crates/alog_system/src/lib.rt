@@ -18,7 +18,7 @@ mod deed;
 mod dump;
 mod duty;
 mod error;
-mod laws;
+pub mod laws;
 mod outputs;
 mod roster;
 mod stepped;
@@ -26,6 +26,5 @@ mod system;
 
 pub use deed::Deed;
 pub use error::{BeginError, SystemError};
-pub use laws::runs_of_a_system;
 pub use stepped::{Stepped, Turn};
 pub use system::System;

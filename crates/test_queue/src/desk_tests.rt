@@ -5,7 +5,8 @@ ghost use Rattle.alog_policy.specs.Outlet.{PostsNow};
 ghost use Rattle.alog_policy.specs.declared.policy.Policy.TheVariants as under;
 
 use alog_core::{BeginError, Mark, Said, StepError, TICKET_END, WorldError};
-use alog_policy::{Counts, Desk, Outcome, Policy, Stepped, Why, post_now, runs_are_cut};
+use alog_policy::laws::runs_are_cut;
+use alog_policy::{Counts, Desk, Outcome, Policy, Stepped, Why, post_now};
 use std::alloc::Global;
 use std::process::Abort;
 use std::test::Fail;

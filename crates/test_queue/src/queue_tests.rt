@@ -5,11 +5,13 @@ ghost use Rattle.alog_core.specs.Accounts.{issued, handed_out};
 ghost use Rattle.alog_core.specs.World.{fresh};
 ghost use Rattle.alog_core.specs.Run.{entries_of_run, TellAll};
 
-use alog_core::{
-    Answer, BeginError, Call, Mark, PLACES_MAX, Refused, Said, StepError, World, WorldError,
+use alog_core::laws::{
     accounts_balance, an_actors_tickets_rise, no_ticket_is_handed_out_twice,
     reached_states_are_sound, takes_follow_their_claims, tickets_are_grabbed_in_order,
     tickets_are_handed_out_or_listed, tickets_are_issued_in_order, tickets_keep_their_items,
+};
+use alog_core::{
+    Answer, BeginError, Call, Mark, PLACES_MAX, Refused, Said, StepError, World, WorldError,
 };
 use std::alloc::{AllocError, Global};
 use std::process::Abort;

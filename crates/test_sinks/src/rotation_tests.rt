@@ -1,8 +1,7 @@
 //! Files that are rotated, by what a sink leaves in them; names of files; and what is true of definitions.
 use crate::sinks::{Deed, Named, Plan, Row, store_of};
-use alog_sink::{
-    dated_names_differ, days_go_on, is_file_name, numbered_names_differ, pieces_have_one_cut,
-};
+use alog_sink::is_file_name;
+use alog_sink::laws::{dated_names_differ, days_go_on, numbered_names_differ, pieces_have_one_cut};
 use std::alloc::Global;
 use std::test::Fail;
 

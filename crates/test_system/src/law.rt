@@ -15,7 +15,8 @@ ghost use Rattle.alog_system.specs.declared.stepped.Stepped.{Stepped};
 use alog_msg::Level;
 use alog_registry::Loggers;
 use alog_sink::{Sink, Store};
-use alog_system::{Deed, System, runs_of_a_system};
+use alog_system::laws::runs_of_a_system;
+use alog_system::{Deed, System};
 use std::alloc::Global;
 
 /// Whether an actor began this deed, 0 to 63.

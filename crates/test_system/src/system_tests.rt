@@ -4,7 +4,8 @@ use crate::trials::{Trial, log};
 use alog_core::StepError;
 use alog_msg::Level;
 use alog_sink::MemStore;
-use alog_system::{BeginError, Deed, SystemError, runs_of_a_system};
+use alog_system::laws::runs_of_a_system;
+use alog_system::{BeginError, Deed, SystemError};
 use std::process::Abort;
 use std::test::Fail;
 
