@@ -1,11 +1,12 @@
-"""Makes each read and each write of the proved and built program fail in turn, on the rows of rows/; and each call on a file in a load to
-a folder.
+"""Makes each read and each write of the proved and built program fail in turn, on the rows of rows/; and each call on a file in a load and
+in a pipe to a folder.
 
 On a row a read or a write fails, takes one byte, or is interrupted, and a write takes no byte; and where each takes one byte, each fails
 at each byte of the input and of what is printed. Where the script cannot be read, or the output not be written, the program must end with
 status 3, the two lines of its refusal and a front of what it prints otherwise; where a configuration cannot be read, with status 3 and
 one line that names it; where standard error cannot be written, with its status. Whatever is short or interrupted changes nothing. In a
-load to a folder what fails must be told, by status 3 and lines of their forms, and the files have a front of the lines, in their order.
+load or a pipe to a folder what fails must be told, by status 3 and lines of their forms, and the files have a front of the lines, in their
+order; a pipe's input is read in part, and a pipe that ends early tells what it read.
 Needs a C compiler, `cc`.
 """
 import collections
@@ -46,6 +47,12 @@ CONFIG = b'queue = 8\n[[sink]]\nname = "out"\nkind = "rotating"\nfile = "a.log"\
 TOTALS = b"asked 40\nposted 40\ndiscarded 0\noverrun 0\nhandled 40\n"
 LINES = b"".join(b"0 %d\n" % number for number in range(40))
 FILES = [f"a.{number}.log" for number in range(9, 0, -1)] + ["a.log"]
+# what a pipe of these lines says where it reads them all, and what of any front: a flush is posted behind each read, and at the end
+PIPED = re.compile(rb"lines 40\nbytes %d\nmended 0\ncut 0\nmissing 0\nasked (\d+)\nposted \1\ndiscarded 0\noverrun 0\nhandled \1\n" % (len(LINES) - 40))
+PIPED_FRONT = re.compile(rb"lines \d+\nbytes \d+\nmended 0\ncut 0\nmissing 0\nasked (\d+)\nposted \1\ndiscarded 0\noverrun 0\nhandled \1\n")
+NO_INPUT = re.compile(rb"alog: standard input cannot be read: " + WHY)
+# the commands that are tried on a folder: their first word, what more words they have, and what they are given
+COMMANDS = {"load": (["--messages=40"], b""), "pipe": (["--totals"], LINES)}
 
 
 def run(words, given, room, kind, number, how, by_bytes=False):
@@ -98,7 +105,7 @@ def sweep_row(row, room, kind, how, by_bytes):
 def sweep_rows(room, pool):
     """Sweeps each row in all ways, tells of each what was tried, and returns how many calls that were, and whether all is well."""
     ways = [(kind, how, False) for kind in WAYS for how in WAYS[kind]] + [(kind, errno.EIO, True) for kind in WAYS]
-    started = {row.name: [(*way, pool.submit(sweep_row, row, room, *way)) for way in ways] for row in rows("rows")}
+    started = {row.name: [(*way, pool.submit(sweep_row, row, room, *way)) for way in ways] for row in rows("rows") if "FOLDER" not in row.words}
     counts, well = collections.Counter(), True
     for name, each in started.items():
         found, calls, bad = collections.Counter(), collections.Counter(), []
@@ -138,17 +145,39 @@ def folder_outcome(ran, kind, how, descriptor, lines, others):
     return "refused" if found == (3, b"") and is_refused and not lines else None
 
 
-def sweep_folder(room, kind, how):
-    """Makes each call of this kind of a load to a folder fail so. Returns how many there were, what came, and where all was not well."""
+def pipe_outcome(ran, kind, how, descriptor, lines, others):
+    """Returns in words what came of a pipe to a folder, or None where it is none of what may come."""
+    is_whole, is_front = lines == LINES, LINES.startswith(lines)
+    if others and (kind, others) != ("unlink", [".probe.replaced"]):
+        return None
+    if ran.returncode == 0 and PIPED.fullmatch(ran.stdout) and not ran.stderr and is_whole:
+        return "nothing"
+    if kind == "write" and descriptor in (1, 2) and ran.returncode in (0, 3):
+        return "told" if is_whole and (UNWRITTEN.fullmatch(ran.stderr) or descriptor == 2) else None
+    is_told = ran.returncode == 3 and PIPED_FRONT.fullmatch(ran.stdout) and is_front
+    if is_told and SINK_FAILED.fullmatch(ran.stderr):
+        return "a fault"
+    if is_told and kind == "read" and descriptor == 0 and NO_INPUT.fullmatch(ran.stderr):
+        return "a front"
+    is_refused = any(it.fullmatch(ran.stderr) for it in (NO_FILE, NO_FOLDER, NO_LOCK, UNOPENED))
+    return "refused" if (ran.returncode, ran.stdout) == (3, b"") and is_refused and not lines else None
+
+
+OUTCOMES = {"load": folder_outcome, "pipe": pipe_outcome}
+
+
+def sweep_folder(room, command, kind, how):
+    """Makes each call of this kind of a command on a folder fail so. Returns how many there were, what came, and where all was not well."""
     found, bad = collections.Counter(), []
+    more, given = COMMANDS[command]
     with tempfile.TemporaryDirectory(dir=room) as place:
         with open(f"{place}/it.toml", "wb") as it:
             it.write(CONFIG)
         for number in itertools.count(1):
             folder = tempfile.mkdtemp(dir=place)
-            words = ["load", f"{place}/it.toml", "--messages=40", "--folder", folder]
-            ran, descriptor = run(words, b"", room, kind, number, how)
-            came = folder_outcome(ran, kind, how, descriptor, *lines_in(folder))
+            words = [command, f"{place}/it.toml", *more, "--folder", folder]
+            ran, descriptor = run(words, given, room, kind, number, how)
+            came = OUTCOMES[command](ran, kind, how, descriptor, *lines_in(folder))
             bad += [number] * (came is None)
             if descriptor is None:
                 return number - 1, found, bad
@@ -156,14 +185,15 @@ def sweep_folder(room, kind, how):
 
 
 def sweep_folders(room, pool):
-    """Sweeps a load to a folder for each kind of call and each way to fail. Returns how many calls that were, and whether all is well."""
-    started = [(kind, how, pool.submit(sweep_folder, room, kind, how)) for kind in FILE_WAYS for how in FILE_WAYS[kind]]
+    """Sweeps each command on a folder for each kind of call and each way to fail. Returns how many calls that were, and whether all is well."""
+    ways = [(command, kind, how) for command in COMMANDS for kind in FILE_WAYS for how in FILE_WAYS[kind]]
+    started = [(*way, pool.submit(sweep_folder, room, *way)) for way in ways]
     counts, well = collections.Counter(), True
-    for kind, how, it in started:
+    for command, kind, how, it in started:
         tried, found, bad = it.result()
         name = {NONE: "no byte", SHORT: "one byte"}.get(how) or errno.errorcode[how]
-        print(f"io: a load to a folder: {tried} {kind}, {name}: {in_words(found)}" + (f"; wrong at {bad}" if bad else ""), flush=True)
-        counts[f"calls of {kind} of the load to a folder"] += tried
+        print(f"io: a {command} to a folder: {tried} {kind}, {name}: {in_words(found)}" + (f"; wrong at {bad}" if bad else ""), flush=True)
+        counts[f"calls of {kind} of the {command} to a folder"] += tried
         well &= not bad
     return counts, well
 

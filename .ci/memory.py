@@ -163,10 +163,10 @@ def sweep_cases(room):
     started = {}
     with futures.ThreadPoolExecutor(os.cpu_count()) as pool:
         for name, row in cases():
-            has_threads = row.words[0] == "load" and row.status == 0
+            has_threads = row.words[0] in ("load", "pipe") and row.status == 0
             for kind in KINDS if has_threads else ["FAIL_ALLOC"]:
-                os.makedirs(f"{room}/{kind}", exist_ok=True)
-                it = row._replace(words=[f"./{PROGRAM}", *(f"{room}/{kind}" if word == "FOLDER" else word for word in row.words)])
+                folder = tempfile.mkdtemp(dir=room)
+                it = row._replace(words=[f"./{PROGRAM}", *(folder if word == "FOLDER" else word for word in row.words)])
                 judge, times = (load_outcome, TIMES) if has_threads else (outcome, 1)
                 started[name, kind] = pool.submit(sweep, room, name, it, judge, kind, times)
     return {key: it.result() for key, it in started.items()}

@@ -1,7 +1,7 @@
 """The rows of rows/ and of examples/: what the program is run on, and what it must then say.
 
 NAME.alog is a script, replayed with the configuration NAME.toml where that is there. NAME.args has the words of another command, one a
-line, in which FILE stands for NAME.toml. A NAME.toml with neither is checked. NAME.txt is what is printed: nothing where it is not
+line, in which FILE stands for NAME.toml and FOLDER for a new folder, and NAME.in what it reads. A NAME.toml with neither is checked. NAME.txt is what is printed: nothing where it is not
 there. NAME.err has the status in its first line and standard error behind it: 0 and nothing where it is not there.
 """
 import collections
@@ -31,7 +31,7 @@ def row(base):
     printed = bytes_of(f"{base}.txt")
     if printed is None:
         printed = b"ok\n" if words[0] == "check" and status == b"0" else b""
-    return Row(os.path.basename(base), words, script or b"", printed, int(status), errors)
+    return Row(os.path.basename(base), words, script or bytes_of(f"{base}.in") or b"", printed, int(status), errors)
 
 
 def bytes_of(file):

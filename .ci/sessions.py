@@ -97,7 +97,9 @@ def play_rows(folder):
     """Runs the program on the rows of a folder; returns the same of them."""
     passed, faults = 0, []
     for row in rows(folder):
-        ran = subprocess.run([PROGRAM, *row.words], input=row.given, capture_output=True, timeout=SECONDS)
+        with tempfile.TemporaryDirectory(prefix="alog-row-") as room:
+            words = [room if it == "FOLDER" else it for it in row.words]
+            ran = subprocess.run([PROGRAM, *words], input=row.given, capture_output=True, timeout=SECONDS)
         is_well = (ran.returncode, ran.stdout, ran.stderr) == (row.status, row.printed, row.errors)
         passed += is_well
         if not is_well:
