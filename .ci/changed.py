@@ -1,8 +1,9 @@
 """`./check changed [COMMIT]`: proves and tests, over the work that this clone keeps, what changed since a commit and what stands on it.
 
 For each crate whose files changed since COMMIT (the one that .gate names as passed, else that of main), and for each above it, lowest
-first: the layout, its proof, its tests and its program, run as the gate runs them (in an empty folder, as nobody); and the edits of
-must-fail/ of those whose own files changed. It is no gate: it trusts what is kept in out/. The last line is 'N passed, M failed'.
+first: the layout, its proof, its tests and its program, run as the gate runs them (in an empty folder, as nobody); the edits of
+must-fail/ of those whose own files changed; and, where `alog` was built, its sessions. It is no gate: it trusts what is kept in out/. The
+last line is 'N passed, M failed'.
 """
 import os
 import re
@@ -129,6 +130,12 @@ def steps(crate, home, is_own):
         yield "edits", ran.returncode == 0, ran.stdout
 
 
+def sessions():
+    """Yields what came of the sessions, as the steps of a crate do."""
+    ran = told(sys.executable, ".ci/sessions.py")
+    yield "sessions", ran.returncode == 0, ran.stdout
+
+
 def main(words):
     with open("crates.txt") as it:
         rows = listed(it.read())
@@ -137,9 +144,10 @@ def main(words):
     names = lowest_first(with_those_above(own, rows), rows)
     print(f"since {commit}: {len(own)} crates changed, {len(names) - len(own)} more stand on them: {' '.join(names)}", flush=True)
     good, bad = 0, []
-    for crate in names:
+    tried = [(crate, steps(crate, f"crates/{crate}", crate in own)) for crate in names]
+    for crate, each in tried + [("alog", sessions())] * ("alog" in names):
         began = time.monotonic()
-        for what, well, said in steps(crate, f"crates/{crate}", crate in own):
+        for what, well, said in each:
             print(f"{crate}: {what} {'passed' if well else 'FAILED'} ({time.monotonic() - began:.0f} s)", flush=True)
             began = time.monotonic()
             good += well
