@@ -16,7 +16,7 @@ $ COMMAND   a command of the shell, in which `alog` is the program
 A session runs in a folder of its own, which is empty at its start, and its commands one after the other. Rows are as rows.py says. A
 document shows commands in fenced blocks whose first line begins with `$ `, behind each what is seen of it on a terminal; they run one after
 the other in a folder that has examples/, and where the document has /tmp/logs they have a folder there. A program that a document shows
-whole is that of the example, word for word.
+whole is that of the example but for what stands above it, word for word.
 """
 import collections
 import concurrent.futures as futures
@@ -123,7 +123,8 @@ def shown_in(document):
 def play_document(document, bin):
     """Runs what a document shows; returns the same of it."""
     whole = [it for it in re.findall(r"(?ms)^```rust\n(.*?)^```$", of_bytes(bytes_of(document))) if it.startswith("#![tactic(auto)]")]
-    faults = [f"{document}: the program is not that of {EXAMPLE}" for it in whole if it != of_bytes(bytes_of(EXAMPLE))]
+    example = re.sub(r"\A(?://!.*\n)+", "", of_bytes(bytes_of(EXAMPLE)))
+    faults = [f"{document}: the program is not that of {EXAMPLE}" for it in whole if it != example]
     passed = len(whole) - len(faults)
     env = {**os.environ, "PATH": f"{bin}:{os.environ['PATH']}"}
     with tempfile.TemporaryDirectory(prefix="alog-document-") as room:
