@@ -3,7 +3,7 @@ use Rattle.std.proofs.Common.{◌≡◌, ◌≢◌, ℕ, ◌+◌, ◌-◌, ◌%�
 use Rattle.std.proofs.Common.{set, refl, sym, ap, subst, ◌∙◌, arith, length-set, get_or-set_other, get_or-set_same, mod-lt, inl, inr}
 use Rattle.alog_core.specs.Queue.{Cell, Queue, Event, Claim, Write, Grab, Take, Allows, after, cell_of, HasCell}
 use Rattle.alog_core.specs.Queue.{IsSound}
-use Rattle.alog_core.specs.Round.{Move, move_of, after_event, makes, ends, taking}
+use Rattle.alog_core.specs.Round.{Move, move_of, after_event, ends, taking}
 use Rattle.alog_core.specs.Staged.{IsStaged}
 use Rattle.alog_core.specs.Words.{sequence_by, AreSequences}
 use Rattle.alog_core.specs.World.{brought, said_of}

@@ -6,7 +6,7 @@ pub mod SharedAccounts
 pub mod SharedTickets
 pub mod SharedItems
 pub mod SharedGrabs
-mod Laps
+pub mod SharedLaps
 mod Reading
 mod Turns
 mod Looks

@@ -11,7 +11,7 @@ use Rattle.alog_core.specs.declared.mark.Mark.{Mark}
 use Rattle.alog_core.specs.declared.mark.Mark.TheVariants.{Claimed, Written, Emptying}
 use Rattle.alog_core.specs.declared.round.Round.TheVariants as round
 use Rattle.alog_core.proofs.SharedCells.{on_test}
-use Rattle.alog_core.proofs.Laps.{one_lap, lap}
+use Rattle.alog_core.proofs.SharedLaps.{one_lap, lap}
 use Rattle.alog_core.proofs.Steps.{Absent, IsClaimed, IsThere, IsEmptying, found, blocked_from_test, room_from_test}
 
 eq_yes : (a b : ℕ) → a ≡ b → (a == b) ≡ true

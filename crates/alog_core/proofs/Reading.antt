@@ -1,5 +1,5 @@
 -- The queue is read back from the words and places that stand for it.
-use Rattle.std.proofs.Common.{◌≡◌, ℕ, zero, suc, ◌+◌, ◌-◌, ◌%◌, ◌<◌, ◌≤◌, ◌⊎◌, ◌↔◌, ltb, cond, Option, None, Some}
+use Rattle.std.proofs.Common.{◌≡◌, ℕ, zero, suc, ◌+◌, ◌-◌, ◌%◌, ◌<◌, ◌≤◌, ◌↔◌, ltb, cond, Option, None, Some}
 use Rattle.std.proofs.Common.{List, [], ◌∷◌, ◌++◌, map, get_or, inl, inr, refl, sym, ap, subst, ◌∙◌, arith}
 use Rattle.std.proofs.lemmas.Bool.Decides.{leb_tells}
 use native.Mathlib.Nat.{add-mod_right}
@@ -14,8 +14,8 @@ use Rattle.std.specs.Option.{option_map}
 use Rattle.std.proofs.lemmas.List.{append-nil, map-append}
 use Rattle.alog_core.specs.World.{shown}
 use Rattle.alog_core.specs.declared.said.CellView.{CellView}
-use Rattle.alog_core.proofs.SharedCells.{at_same, at_other, ticket_of_cell}
-use Rattle.alog_core.proofs.Laps.{same_or_not}
+use Rattle.alog_core.proofs.SharedCells.{on_option, at_same, at_other, ticket_of_cell}
+use Rattle.alog_core.proofs.SharedLaps.{same_or_not}
 use Rattle.alog_core.proofs.Moves.{queue_is}
 use Rattle.alog_core.proofs.SharedRising.{bounds_of_rising, unlisted_below, rises_from_lower, rises_to_higher}
 
@@ -49,10 +49,6 @@ read_cells {T} read low (suc k) (c ∷ cs) rises same =
           ∙ read_cells read (low + 1) k (c ∷ cs) (omega (arith, rises.0), rest)
           (λ u from to. same u (omega arith) (omega arith))
     ]
-
-pub on_option : {A : Type 0} (o : Option A) → (o ≡ None) ⊎ ((a : A) × (o ≡ Some a))
-on_option None = inl refl
-on_option (Some a) = inr (a, refl)
 
 -- the sequence of a listed ticket and the front tell its mark
 mark_is : (front t : ℕ) (m : Mark) → (m ≡ Emptying) ↔ (t < front) → mark_by front t (sequence_by t m) ≡ m

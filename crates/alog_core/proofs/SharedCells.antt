@@ -1,5 +1,5 @@
 -- What the look-up of a ticket sees in a changed list of cells.
-use Rattle.std.proofs.Common.{◌≡◌, ◌≢◌, ℕ, ◌==◌, Bool, true, false, cond, None, Some, List, [], ◌∷◌, ◌++◌, inl, inr, refl, sym}
+use Rattle.std.proofs.Common.{◌≡◌, ◌≢◌, ◌⊎◌, ℕ, ◌==◌, Bool, true, false, cond, Option, None, Some, List, [], ◌∷◌, ◌++◌, inl, inr, refl, sym}
 use Rattle.std.proofs.Common.{ap, subst, ◌∙◌}
 use Rattle.std.proofs.lemmas.Bool.Decides.{eqb_tells}
 use Rattle.alog_core.specs.Queue.{Cell, cell_of, marked, without, HasCell}
@@ -9,6 +9,11 @@ use Rattle.alog_core.specs.declared.mark.Mark.{Mark}
 pub on_test : (P : Bool → Type 0) (a b : ℕ) → (a ≡ b → P true) → (a ≢ b → P false) → P (a == b)
 on_test P a b same other =
     elim (eqb_tells a b) [ inl h ↦ subst P (sym h.0) (same h.1) | inr h ↦ subst P (sym h.0) (other h.1) ]
+
+-- a look-up finds nothing, or something
+pub on_option : {A : Type 0} (o : Option A) → (o ≡ None) ⊎ ((a : A) × (o ≡ Some a))
+on_option None = inl refl
+on_option (Some a) = inr (a, refl)
 
 -- a test that comes out true, and one that comes out false
 pub at_same : {X : Type 0} (a b : ℕ) (x y : X) → a ≡ b → cond (a == b) x y ≡ x

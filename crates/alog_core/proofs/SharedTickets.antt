@@ -75,7 +75,7 @@ contained_times t (u ∷ us) h =
     h
 
 -- a list in which no ticket stands twice
-none_by_times : (t : ℕ) (us : List ℕ) → times t us ≡ 0 → All (λ u. t ≢ u) us
+pub none_by_times : (t : ℕ) (us : List ℕ) → times t us ≡ 0 → All (λ u. t ≢ u) us
 none_by_times t [] h = All-nil (λ u. t ≢ u)
 none_by_times t (u ∷ us) h =
     on_test
@@ -86,7 +86,7 @@ none_by_times t (u ∷ us) h =
     (λ other none. All-cons (λ v. t ≢ v) u us (λ e. other (sym e)) (none_by_times t us (omega (arith, none))))
     h
 
-apart_by_times : (us : List ℕ) → ((t : ℕ) → times t us ≤ 1) → AllPairs (λ t u. t ≢ u) us
+pub apart_by_times : (us : List ℕ) → ((t : ℕ) → times t us ≤ 1) → AllPairs (λ t u. t ≢ u) us
 apart_by_times [] once = λ i j d less within. absurd (omega (arith, within))
 apart_by_times (u ∷ us) once =
     let first : times u us ≡ 0 =

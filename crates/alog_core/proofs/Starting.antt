@@ -4,7 +4,7 @@ use Rattle.std.proofs.Common.{refl, ap, ◌∙◌, inl, inr, subst, arith, get_o
 use Rattle.alog_core.specs.Queue.{start}
 use Rattle.alog_core.specs.Words.{AreSequences}
 use Rattle.alog_core.specs.Table.{AreHeld}
-use Rattle.alog_core.proofs.Laps.{same_or_not, near_apart}
+use Rattle.alog_core.proofs.SharedLaps.{same_or_not, near_apart}
 
 -- from f up to t each ticket stands in its place
 abbrev pub Sequenced : (n f t : ℕ) → List ℕ → Type 0

@@ -6,7 +6,7 @@ use Rattle.alog_core.specs.Queue.{Cell, Queue, cell_of, marked, without, IsRoom,
 use Rattle.alog_core.specs.Words.{IsByPlace}
 use Rattle.alog_core.specs.declared.mark.Mark.{Mark}
 use Rattle.alog_core.proofs.SharedCells.{cell_of-append_other, cell_of-marked_other, cell_of-without_other}
-use Rattle.alog_core.proofs.Laps.{same_or_not, near_apart, far_apart}
+use Rattle.alog_core.proofs.SharedLaps.{same_or_not, near_apart, far_apart}
 use Rattle.alog_core.proofs.SharedRising.{listed_within}
 
 -- Only the look-up of t changes.

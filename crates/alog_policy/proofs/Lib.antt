@@ -2,6 +2,7 @@ mod Posts
 mod Keeping
 mod Working
 mod Leading
+pub mod SharedLosses
 mod Way
 pub mod SharedStepKinds
 mod Alone

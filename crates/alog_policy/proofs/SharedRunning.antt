@@ -60,7 +60,7 @@ module _ {T : Type 0} (s : StepMade T) where
       ∙ sym (append_assoc (cond (r.actor == b) (event_of r.event) []) (events_made b ss)
       (cond (s.actor == b) (event_of s.event) []))
 
-  outcomes_made-last : (b : ℕ) (ss : List (StepMade T))
+  pub outcomes_made-last : (b : ℕ) (ss : List (StepMade T))
       → outcomes_made b (ss ++ s ∷ []) ≡ outcomes_made b ss ++ cond (s.actor == b) (outcome_in s.outcome) []
   outcomes_made-last b [] = append-nil (cond (s.actor == b) (outcome_in s.outcome) [])
   outcomes_made-last b (r ∷ ss) =
@@ -76,7 +76,7 @@ module _ {T : Type 0} (s : StepMade T) where
   discards_made-last [] = omega arith
   discards_made-last (r ∷ ss) = let more = discards_made-last ss in omega (arith, more)
 
-calls_made-last : {T : Type 0} (c : CallMade T) (b : ℕ) (cs : List (CallMade T))
+pub calls_made-last : {T : Type 0} (c : CallMade T) (b : ℕ) (cs : List (CallMade T))
     → calls_made b (cs ++ c ∷ []) ≡ calls_made b cs ++ cond (c.actor == b) (c.call ∷ []) []
 calls_made-last c b [] = append-nil (cond (c.actor == b) (c.call ∷ []) [])
 calls_made-last {T} c b (d ∷ cs) =
@@ -84,11 +84,11 @@ calls_made-last {T} c b (d ∷ cs) =
     ∙ sym (append_assoc (cond (d.actor == b) (d.call ∷ []) []) (calls_made b cs) (cond (c.actor == b) (c.call ∷ []) []))
 
 -- an actor that did nothing, and the one that did
-not_mine : {T : Type 0} (a b : ℕ) (xs : List T) → b ≢ a → cond (a == b) xs [] ≡ []
+pub not_mine : {T : Type 0} (a b : ℕ) (xs : List T) → b ≢ a → cond (a == b) xs [] ≡ []
 not_mine {T} a b xs other =
     on_test (λ t. cond t xs [] ≡ []) a b (λ e. absurd (other (sym e))) (λ _. refl)
 
-mine_is : {T : Type 0} (a b : ℕ) (xs : List T) → b ≡ a → cond (a == b) xs [] ≡ xs
+pub mine_is : {T : Type 0} (a b : ℕ) (xs : List T) → b ≡ a → cond (a == b) xs [] ≡ xs
 mine_is {T} a b xs same = on_test (λ t. cond t xs [] ≡ xs) a b (λ _. refl) (λ other. absurd (other (sym same)))
 
 -- one more call of an actor, and what it is for another

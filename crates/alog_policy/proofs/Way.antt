@@ -5,7 +5,7 @@ use Rattle.std.specs.Prelude.{IsSome}
 use Rattle.alog_core.specs.Queue.{Event, Claim, Write}
 use Rattle.alog_policy.specs.Post.{IsPost, Part, Pushing, takes_in, writes_in, events_of_rounds, events_of_part}
 use Rattle.alog_policy.specs.Post.{End, Wrote, OutOfTickets, NoRoom, NothingToTake, AllGrabbed}
-use Rattle.alog_policy.specs.Post.{OutOfRounds, outcome_of, overran_in}
+use Rattle.alog_policy.specs.Post.{OutOfRounds, outcome_of}
 use Rattle.alog_policy.specs.Progress.{IsKept, IsFresh, IsSoFar, without_waiting, begun}
 use Rattle.alog_policy.specs.Outlet.{Doing, Posts, Leads, with_value, left_in, IsLeft, IsPostedOrSpent}
 use Rattle.alog_policy.specs.declared.policy.Policy.{Policy}
@@ -18,6 +18,7 @@ use Rattle.alog_policy.specs.declared.progress.Lost.{Lost}
 use Rattle.alog_policy.proofs.Posts.{end_agrees, begun_agrees, takes_in-append, writes_in-append, rounds_write_nothing, fresh_writes_nothing}
 use Rattle.alog_policy.proofs.Keeping.{kept_begun}
 use Rattle.alog_policy.proofs.Leading.{fresh_push}
+use Rattle.alog_policy.proofs.SharedLosses.{overran_takes}
 
 pub never_block : (p : Policy) → without_waiting p ≢ Block
 never_block Block h = absurd (cc)
@@ -44,19 +45,6 @@ pub record IsPosting {S T V : Type 0} (did : Doing S T) (fit : S → Type 0) (p 
   pub fresh : IsFresh g.side part
   pub way : IsSoFar g x part events
   pub done : DidSoFar did first events now
-
-overran_in-outcome : {V : Type 0} (v : V) (k : ℕ) (e : End) → overran_in (outcome_of v k e) ≡ k
-overran_in-outcome v k (Wrote t) = refl
-overran_in-outcome v k OutOfTickets = refl
-overran_in-outcome v k (NoRoom f) = refl
-overran_in-outcome v k (NothingToTake f t) = refl
-overran_in-outcome v k (AllGrabbed f t) = refl
-overran_in-outcome v k OutOfRounds = refl
-
-overran_takes : {T V : Type 0} (p : Policy) (x : T) (v : V) (es : List (Event T)) (o : Outcome V) → IsPost p x v es o
-    → takes_in es ≡ overran_in o
-overran_takes {T} {V} p x v es o post =
-    sym (ap (λ (r : Outcome V). overran_in r) post.outcome_is ∙ overran_in-outcome v (takes_in es) post.end)
 
 done_more : {S T : Type 0} (did : Doing S T) (one : AreTogether did) {a b c : S} {es fs : List (Event T)}
     → DidSoFar did a es b → did b fs (takes_in fs) 0 c → did a (es ++ fs) (takes_in (es ++ fs)) 0 c

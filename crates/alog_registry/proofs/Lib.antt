@@ -1,3 +1,4 @@
+pub mod SharedListing
 mod Listing
 mod Keeping
 mod Posting

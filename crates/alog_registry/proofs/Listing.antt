@@ -9,12 +9,7 @@ use Rattle.alog_msg.specs.declared.level.Level.{Level}
 use Rattle.alog_registry.specs.declared.TheConstants.{LOGGERS_MAX}
 use Rattle.alog_registry.specs.declared.logger.Logger.{Logger}
 use Rattle.alog_registry.specs.Listed.{name_at, IsTaken, AreApart, IsListing}
-
--- a number that has a name is one of the list
-pub named_within : (ls : List Logger) (n : ℕ) (name : List ℕ) → name_at ls n ≡ Some name → n < length ls
-named_within [] n name e = absurd (cc e)
-named_within (l ∷ ls) zero name e = omega arith
-named_within (l ∷ ls) (suc n) name e = let h : n < length ls = named_within ls n name e in omega arith
+use Rattle.alog_registry.proofs.SharedListing.{named_within}
 
 -- the name of a number at a list with one logger more: an earlier one, or the last
 pub named_more : (ls : List Logger) (x : Logger) (n : ℕ) (name : List ℕ) → name_at (ls ++ x ∷ []) n ≡ Some name

@@ -9,7 +9,7 @@ use Rattle.alog_core.specs.declared.mark.Mark.{Mark}
 use Rattle.alog_core.specs.declared.mark.Mark.TheVariants.{Written, Emptying}
 use Rattle.alog_core.specs.Queue.{Cell, Queue, last, start, cell_of, IsListed, IsRoom, IsSound, Rises}
 use Rattle.alog_core.specs.History.{left_by, own_of}
-use Rattle.alog_core.proofs.SharedCells.{at_same, at_other}
+use Rattle.alog_core.proofs.SharedCells.{at_same, at_other, on_option}
 use Rattle.alog_core.proofs.SharedRising.{bounds_of_rising, listed_within, unlisted_below}
 use Rattle.alog_core.proofs.SharedSound.{length-sound}
 use Rattle.alog_ring.specs.declared.words.TheConstants.{NEXT, FRONT}
@@ -20,8 +20,8 @@ use Rattle.alog_ring.specs.Sight.{Stage, Idle, Sight}
 use Rattle.alog_ring.specs.Rule.{IsAtWork, HasEntries, Knows, seq_of, ShowsCell, Ruled}
 use Rattle.alog_ring.specs.Limit.{Keeps}
 use Rattle.alog_ring.specs.Board.{Leaves, AreInRow, LieIn}
-use Rattle.alog_ring.proofs.SharedLists.{not_both, same_or_not, found, prefix_same}
-use Rattle.alog_ring.proofs.Looking.{on_option}
+use Rattle.alog_core.proofs.SharedLaps.{same_or_not}
+use Rattle.alog_ring.proofs.SharedLists.{not_both, found, prefix_same}
 use Rattle.alog_ring.proofs.Telling.{members_distinct}
 use Rattle.alog_ring.proofs.SharedStepping.{sound_now}
 use Rattle.alog_ring.proofs.Meeting.{all_actors, legal_prefix, actors_now, written_now}

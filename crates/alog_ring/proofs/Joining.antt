@@ -13,7 +13,8 @@ use Rattle.alog_ring.specs.Known.{Member, IsAmong, AreDistinct, members_of}
 use Rattle.alog_ring.specs.Sight.{Stage, Idle, Lent, Writing, Reading, Sight}
 use Rattle.alog_ring.specs.Seats.{taking_in, reading_note, gone}
 use Rattle.alog_ring.specs.Rule.{parts_of, IsAtWork, IsRetired, IsTakenIn, HasEntries, Knows, Told, Staged, Ruled}
-use Rattle.alog_ring.proofs.SharedLists.{same_or_not, inside, one_value, each_of, each_append, sum_changed}
+use Rattle.alog_core.proofs.SharedLaps.{same_or_not}
+use Rattle.alog_ring.proofs.SharedLists.{inside, one_value, each_of, each_append, sum_changed}
 use Rattle.alog_ring.proofs.Telling.{retired_apart, among_retired, members_distinct}
 
 module _ {T N : Type 0} where

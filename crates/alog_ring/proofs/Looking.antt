@@ -1,5 +1,5 @@
 -- What the sequence of a ticket's place tells of the queue.
-use Rattle.std.proofs.Common.{◌≡◌, ◌≢◌, ℕ, zero, suc, ◌+◌, ◌-◌, ◌*◌, ◌%◌, ◌<◌, ◌≤◌, ◌⊎◌, Option, List, get_or, Some, None, refl}
+use Rattle.std.proofs.Common.{◌≡◌, ◌≢◌, ℕ, ◌+◌, ◌-◌, ◌*◌, ◌%◌, ◌<◌, ◌≤◌, ◌⊎◌, List, get_or, Some, None, refl}
 use Rattle.std.proofs.Common.{sym, ap, subst, ◌∙◌, inl, inr, arith}
 use mathlib.Core.Option as maybe
 use native.Mathlib.Nat.{add-mod_right}
@@ -9,15 +9,12 @@ use Rattle.alog_core.specs.declared.mark.Mark.{Mark}
 use Rattle.alog_core.specs.declared.mark.Mark.TheVariants.{Claimed, Written, Emptying}
 use Rattle.alog_core.specs.Queue.{Cell, Queue, cell_of, HasCell, IsListed, IsBlocked, IsRoom, IsWritten, IsUnwritten, IsSound}
 use Rattle.alog_core.specs.History.{Entry}
-use Rattle.alog_core.proofs.SharedCells.{ticket_of_cell}
+use Rattle.alog_core.proofs.SharedCells.{on_option, ticket_of_cell}
+use Rattle.alog_core.proofs.SharedLaps.{lap, same_or_not}
 use Rattle.alog_core.proofs.SharedRising.{unlisted_below}
 use Rattle.alog_ring.specs.declared.words.TheConstants.{SEQUENCES, APART}
 use Rattle.alog_ring.specs.Rule.{seq_of, ShowsCell, Shown}
-use Rattle.alog_ring.proofs.SharedLists.{not_both, same_or_not}
-
-pub on_option : {A : Type 0} (o : Option A) → (o ≡ None) ⊎ ((a : A) × (o ≡ Some a))
-on_option None = inl refl
-on_option (Some a) = inr (a, refl)
+use Rattle.alog_ring.proofs.SharedLists.{not_both}
 
 pub on_mark : (m : Mark) → (m ≡ Claimed) ⊎ ((m ≡ Written) ⊎ (m ≡ Emptying))
 on_mark Claimed = inl refl
@@ -35,19 +32,6 @@ room_or_blocked {T} n p cs =
             | inr some ↦ inr (p - n, omega (arith, le.1), some)
           ]
       | inr lt ↦ inl (λ u e. absurd (omega (arith, lt.1)))
-    ]
-
--- a lap further on there is a ticket of the same place that may be the next one there
-pub lap : (d p next n : ℕ) → 1 ≤ n → p < next → next ≤ p + d → (t : ℕ) × (next ≤ t) × (t < next + n) × (t % n ≡ p % n)
-    × (p + n ≤ t)
-lap zero p next n some a b = absurd (omega arith)
-lap (suc d) p next n some a b =
-    elim (leb_tells next (p + n)) [
-      | inl le ↦ (p + n, le.1, omega arith, add-mod_right p n, omega arith)
-      | inr lt ↦
-          let more : (t : ℕ) × (next ≤ t) × (t < next + n) × (t % n ≡ (p + n) % n) × (p + n + n ≤ t) =
-          lap d (p + n) next n some lt.1 (omega arith)
-          in (more.0, more.1, more.2, more.3 ∙ add-mod_right p n, omega (arith, more.4))
     ]
 
 -- the cell that a look-up finds, written out

@@ -23,7 +23,8 @@ use Rattle.alog_ring.specs.Share.{having_seen, IsLonger}
 use Rattle.alog_ring.specs.Sight.{Stage, Idle, Fresh, Joined, Writing, Reading, Sight}
 use Rattle.alog_ring.specs.Seats.{IsExactIn, gone, was_named, saw_both, saw_all}
 use Rattle.alog_ring.specs.Rule.{parts_of, IsAtWork, HasEntries, Knows, Ruled}
-use Rattle.alog_ring.proofs.SharedLists.{same_or_not, one_value, prefix_same, prefix_longer, each_of_two, sum_changed, sum_of_two}
+use Rattle.alog_core.proofs.SharedLaps.{same_or_not}
+use Rattle.alog_ring.proofs.SharedLists.{one_value, prefix_same, prefix_longer, each_of_two, sum_changed, sum_of_two}
 use Rattle.alog_ring.proofs.Telling.{members_distinct, grown, told_more}
 use Rattle.alog_ring.proofs.Turning.{IsFree, staged_on}
 use Rattle.alog_ring.proofs.Showing.{shown_on}

@@ -4,29 +4,12 @@ use Rattle.std.proofs.Common.{inl, inr, arith}
 use mathlib.Core.Option.{Option, some}
 use native.Mathlib.Nat.{add-mod_right}
 use lib.ListN.{get_elem?}
-use Rattle.atomic_table.proofs.Lists.{one_turn}
-use Rattle.std.proofs.lemmas.Bool.Decides.{leb_tells}
 use Rattle.alog_core.specs.Queue.{Cell, Queue, last, cell_of, IsRoom, IsSound}
 use Rattle.alog_core.specs.History.{Entry}
+use Rattle.alog_core.proofs.SharedLaps.{near_apart, far_apart, same_or_not}
 use Rattle.alog_ring.specs.declared.words.TheConstants.{NEXT, FRONT, SEQUENCES, APART}
 use Rattle.alog_ring.specs.Rule.{seq_of, ShowsCell, Shown}
-use Rattle.alog_ring.proofs.SharedLists.{same_or_not}
 use Rattle.alog_ring.proofs.Turning.{Turn, within}
-
--- two tickets less than n apart have two places, and so have those less than 2 n apart but for n
-pub near_apart : (n t u : ℕ) → t ≢ u → t < u + n → u < t + n → u % n ≢ t % n
-near_apart n t u apart a b same =
-    elim (leb_tells t u) [
-      | inl le ↦ apart (one_turn t u n le.1 b (sym same))
-      | inr lt ↦ apart (sym (one_turn u t n (omega (arith, lt.1)) a same))
-    ]
-
-pub far_apart : (n t u : ℕ) → u ≢ t + n → t < u → u < t + n + n → u % n ≢ t % n
-far_apart n t u apart a b same =
-    elim (leb_tells (t + n) u) [
-      | inl le ↦ apart (sym (one_turn (t + n) u n le.1 b (add-mod_right t n ∙ sym same)))
-      | inr lt ↦ let e : t ≡ u = one_turn t u n (omega arith) (omega (arith, lt.1)) (sym same) in omega arith
-    ]
 
 module _ {S T N : Type 0} (has : S → T → Type 0) (spare : ℕ → List (Entry T N) → ℕ → S → Type 0) where
   -- what a turn of ticket t does to the words and the places

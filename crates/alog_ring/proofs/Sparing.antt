@@ -13,7 +13,8 @@ use Rattle.alog_ring.specs.Known.{Known}
 use Rattle.alog_ring.specs.Made.{entry}
 use Rattle.alog_ring.specs.Board.{SwapsIn}
 use Rattle.alog_ring.proofs.SharedCalling.{adds_after, Filled}
-use Rattle.alog_ring.proofs.SharedLists.{same_or_not, not_both}
+use Rattle.alog_core.proofs.SharedLaps.{same_or_not}
+use Rattle.alog_ring.proofs.SharedLists.{not_both}
 
 -- a ticket that was claimed before, and has no cell any more
 abbrev pub IsGone : {T : Type 0} → ℕ → Queue T → Type 0

@@ -14,7 +14,8 @@ use Rattle.alog_ring.specs.Known.{Member, IsAmong, AreDistinct}
 use Rattle.alog_ring.specs.Share.{with_fewer, apart_from}
 use Rattle.alog_ring.specs.Sight.{Stage, Idle, Fresh, Lent, Writing, Reading, Sight}
 use Rattle.alog_ring.specs.Rule.{parts_of, IsAtWork, IsRetired, IsTakenIn, HasEntries, Knows, Told, Staged, Ruled}
-use Rattle.alog_ring.proofs.SharedLists.{same_or_not, inside, one_value, each_of, sum_changed, sum_with_last}
+use Rattle.alog_core.proofs.SharedLaps.{same_or_not}
+use Rattle.alog_ring.proofs.SharedLists.{inside, one_value, each_of, sum_changed, sum_with_last}
 use Rattle.alog_ring.proofs.Telling.{retired_apart}
 
 pub at_end : {A : Type 0} (l : List A) (a b : A) (j : ℕ) → get_elem? (l ++ a ∷ []) j ≡ some b

@@ -14,8 +14,8 @@ use Rattle.alog_ring.specs.Kinds.{PlaceKind, plain_kind, swap_kind}
 use Rattle.alog_ring.specs.Sight.{Sight, first_sight}
 use Rattle.alog_ring.specs.Rule.{seq_of, word_count, Knows, HasEntries, Ruled}
 use Rattle.alog_ring.specs.Board.{AreFirstWords, Masks}
-use Rattle.alog_ring.proofs.SharedLists.{same_or_not, at_or_past, prefix_same}
-use Rattle.alog_ring.proofs.Showing.{near_apart}
+use Rattle.alog_ring.proofs.SharedLists.{at_or_past, prefix_same}
+use Rattle.alog_core.proofs.SharedLaps.{near_apart, same_or_not}
 
 -- what the mask of a power of two keeps is the remainder
 pub masks : (n mask : ℕ) → IsPowerOfTwo n → mask ≡ n - 1 → n ≡ mask + 1 → Masks mask

@@ -17,7 +17,7 @@ use Rattle.alog_ring.specs.Made.{entry}
 use Rattle.alog_ring.specs.Sight.{Stage, Idle, SawNext, SawFree, Writing, SawFront, SawFull, Reading, SawUnwritten, Sight}
 use Rattle.alog_ring.specs.Plays.{saw_next, saw_free, claimed, wrote, saw_front, saw_full, saw_end, grabbed, took}
 use Rattle.alog_ring.specs.Rule.{IsAtWork, seq_of, Ruled}
-use Rattle.alog_ring.proofs.SharedLists.{same_or_not}
+use Rattle.alog_core.proofs.SharedLaps.{same_or_not}
 use Rattle.alog_ring.proofs.Turning.{IsFree}
 use Rattle.alog_ring.proofs.Looking.{push_look, pop_look}
 use Rattle.alog_ring.proofs.Telling.{grown}

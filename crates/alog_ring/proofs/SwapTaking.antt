@@ -15,8 +15,8 @@ use Rattle.alog_ring.specs.Share.{ticket_and_item}
 use Rattle.alog_ring.specs.Board.{AreInRow}
 use Rattle.alog_ring.specs.Swaps.{ComesAt, AreSpares}
 use Rattle.alog_ring.specs.Taken.{LiesFor, AreOf}
-use Rattle.alog_ring.proofs.SharedLists.{same_or_not, each_append}
-use Rattle.alog_ring.proofs.Showing.{near_apart}
+use Rattle.alog_ring.proofs.SharedLists.{each_append}
+use Rattle.alog_core.proofs.SharedLaps.{near_apart, same_or_not}
 
 -- Which places were emptied when the tickets below this one were taken out.
 pub record Emptied (n front at : ℕ) (filled : List Bool) : Type 0 where

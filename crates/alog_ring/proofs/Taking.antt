@@ -13,9 +13,8 @@ use Rattle.alog_core.specs.History.{Entry}
 use Rattle.alog_ring.specs.Kinds.{no_note, plain_kind}
 use Rattle.alog_ring.specs.Share.{ticket_and_item}
 use Rattle.alog_ring.specs.Board.{AreInRow, value_at, AreValues, LieIn}
-use Rattle.alog_ring.proofs.SharedLists.{same_or_not, at_or_past}
-use Rattle.alog_ring.proofs.Showing.{near_apart}
-use Rattle.alog_ring.proofs.Looking.{lap}
+use Rattle.alog_ring.proofs.SharedLists.{at_or_past}
+use Rattle.alog_core.proofs.SharedLaps.{near_apart, lap, same_or_not}
 
 module _ {T : Type 0} where
   -- the first i cells, as tickets and items

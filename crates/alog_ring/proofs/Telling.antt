@@ -13,7 +13,8 @@ use Rattle.alog_ring.specs.Known.{Member, Known, IsAmong, AreDistinct, members_o
 use Rattle.alog_ring.specs.Made.{AreExact}
 use Rattle.alog_ring.specs.Sight.{Sight}
 use Rattle.alog_ring.specs.Rule.{parts_of, IsRetired, IsTakenIn, HasEntries, Told}
-use Rattle.alog_ring.proofs.SharedLists.{same_or_not, inside, one_value, prefix_same, prefix_longer, each_of, each_of_two, sum_changed}
+use Rattle.alog_core.proofs.SharedLaps.{same_or_not}
+use Rattle.alog_ring.proofs.SharedLists.{inside, one_value, prefix_same, prefix_longer, each_of, each_of_two, sum_changed}
 
 module _ {T N : Type 0} where
   -- these entries are the actor's

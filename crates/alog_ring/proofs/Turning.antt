@@ -14,7 +14,8 @@ use Rattle.alog_ring.specs.Known.{Known}
 use Rattle.alog_ring.specs.Sight.{Stage, Idle, Fresh, SawNext, SawFree, Writing, SawFront, SawFull, Reading, SawUnwritten, Joined}
 use Rattle.alog_ring.specs.Sight.{Lent, Gone, Sight}
 use Rattle.alog_ring.specs.Rule.{Knows, Staged}
-use Rattle.alog_ring.proofs.SharedLists.{not_both, same_or_not, inside, one_value, prefix_longer}
+use Rattle.alog_core.proofs.SharedLaps.{same_or_not}
+use Rattle.alog_ring.proofs.SharedLists.{not_both, inside, one_value, prefix_longer}
 
 -- a cell's ticket lies in the last n
 pub within : {T : Type 0} (n : ℕ) (q : Queue T) (t : ℕ) (c : Cell T) → IsSound n q → cell_of t q.cells ≡ Some c

@@ -6,7 +6,7 @@ use Rattle.std.proofs.Math.Seq.{drop-nil}
 use Rattle.std.specs.Str.{bytes_eq}
 use Rattle.std.proofs.lemmas.Bool.{cases_lt}
 use Rattle.std.proofs.lemmas.Bool.Decides.{nat_tests}
-use Rattle.std.proofs.lemmas.List.{get_or-drop, drop-append-le, length-drop}
+use Rattle.std.proofs.lemmas.List.{drop-drop, get_or-drop, drop-append-le, length-drop}
 use Rattle.circular_buffer.specs.Buffer.{keep_last}
 use Rattle.alog_sink.specs.Daily.{last_name, is_last, with_name}
 use Rattle.alog_sink.specs.DailyDeeds.{makes_way}
@@ -28,11 +28,6 @@ keep_all n xs less = ap (λ k. drop k xs) (none (length xs) n less)
 pub length_kept : {X : Type 0} (n : ℕ) (xs : List X) → length (keep_last n xs) ≡ length xs - (length xs - n)
 length_kept n xs = length-drop (length xs - n) xs
 
-drop_twice : {X : Type 0} (k j : ℕ) (xs : List X) → drop j (drop k xs) ≡ drop (k + j) xs
-drop_twice zero j xs = ap (λ n. drop n xs) (let z : j ≡ 0 + j = omega arith in z)
-drop_twice (suc k) j [] = drop-nil j ∙ sym (drop-nil (suc k + j))
-drop_twice (suc k) j (x ∷ xs) = drop_twice k j xs ∙ sym (ap (λ n. drop n (x ∷ xs)) (let e : suc k + j ≡ suc (k + j) = omega arith in e))
-
 -- of the last n and more the last n are those of all and more
 pub kept_more : {X : Type 0} (n : ℕ) (xs ys : List X) → keep_last n (keep_last n xs ++ ys) ≡ keep_last n (xs ++ ys)
 kept_more n xs ys =
@@ -40,7 +35,7 @@ kept_more n xs ys =
     let front : drop k (xs ++ ys) ≡ drop k xs ++ ys = drop-append-le k xs ys (omega arith) in
     let j = length (drop k xs ++ ys) - n in
     ap (drop j) (sym front)
-    ∙ (drop_twice k j (xs ++ ys) ∙ ap (λ m. drop m (xs ++ ys))
+    ∙ (drop-drop j k (xs ++ ys) ∙ ap (λ m. drop m (xs ++ ys))
     (omega (arith, length-append (drop k xs) ys, length-drop k xs, length-append xs ys)))
 
 pub kept_twice : {X : Type 0} (n : ℕ) (xs : List X) → keep_last n (keep_last n xs) ≡ keep_last n xs

@@ -18,6 +18,7 @@ mod DailyOn
 mod DailyLine
 mod Targets
 mod Fronts
+pub mod SharedOneFiles
 mod OneFiles
 mod Turns
 mod Fans

@@ -1,31 +1,14 @@
 -- A one_file with one line more.
 use Rattle.std.proofs.Common.{◌≡◌, ℕ, Bool, true, false, cond, Some, List, [], ◌∷◌, ◌++◌, Result, Ok, Err, OnOk, OnErr, refl, sym, ap, ◌∙◌, append_assoc}
-use Rattle.std.proofs.lemmas.List.{append-nil}
 use Rattle.std.specs.Option.{unwrap_or}
 use Rattle.std.specs.Str.{bytes_eq}
-use Rattle.std.specs.Cmp.Lexicographic.{bytes_decides}
 use Rattle.alog_sink.specs.Calls.{LeavesFront}
 use Rattle.alog_sink.specs.Deeds.{Append, Does}
 use Rattle.alog_sink.specs.Files.{Files, AreSame, appended, bytes_of, with_file}
 use Rattle.alog_sink.specs.OneFile.{one_file, joined}
-use Rattle.alog_sink.specs.Lines.{Written, lines_of}
-
-pub lines_more : (ws : List Written) (w : Written) → lines_of (ws ++ w ∷ []) ≡ lines_of ws ++ w.line ∷ []
-lines_more [] w = refl
-lines_more (v ∷ ws) w = ap (λ ls. v.line ∷ ls) (lines_more ws w)
-
-joined_more : (lines : List (List ℕ)) (line : List ℕ) → joined (lines ++ line ∷ []) ≡ joined lines ++ line
-joined_more [] line = append-nil line
-joined_more (l ∷ lines) line = ap (λ bs. l ++ bs) (joined_more lines line) ∙ sym (append_assoc l (joined lines) line)
+use Rattle.alog_sink.proofs.SharedOneFiles.{joined_more, one_file_has}
 
 module _ (file : List ℕ) (opening : Files) where
-  itself : bytes_eq file file ≡ true
-  itself = (bytes_decides file file).1 refl
-
-  has : (lines : List (List ℕ)) → bytes_of (one_file file opening lines) file ≡ bytes_of opening file ++ joined lines
-  has [] = sym (append-nil (bytes_of opening file))
-  has (l ∷ lines) = ap (λ b. unwrap_or (cond b (Some (bytes_of opening file ++ joined (l ∷ lines))) (opening file)) []) itself
-
   other : (lines : List (List ℕ)) (n : List ℕ) → bytes_eq file n ≡ false → one_file file opening lines n ≡ opening n
   other [] n e = refl
   other (l ∷ lines) n e = ap (λ b. cond b (Some (bytes_of opening file ++ joined (l ∷ lines))) (opening n)) e
@@ -40,7 +23,7 @@ module _ (file : List ℕ) (opening : Files) where
   one_file_grows lines line old new was is n = is n ∙ at (bytes_eq file n) refl ∙ sym (ap (λ (f : Files). f n) (longer lines line))
     where
       bytes : bytes_of old file ++ line ≡ bytes_of opening file ++ joined (lines ++ line ∷ [])
-      bytes = ap (λ o. unwrap_or o [] ++ line) (was file) ∙ ap (λ bs. bs ++ line) (has lines)
+      bytes = ap (λ o. unwrap_or o [] ++ line) (was file) ∙ ap (λ bs. bs ++ line) (one_file_has file opening lines)
           ∙ append_assoc (bytes_of opening file) (joined lines) line
           ∙ ap (λ bs. bytes_of opening file ++ bs) (sym (joined_more lines line))
 

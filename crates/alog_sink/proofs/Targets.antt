@@ -3,7 +3,7 @@ use Rattle.std.proofs.Common.{◌≡◌, ℕ, List, [], ◌∷◌, ◌++◌, Res
 use Rattle.alog_sink.specs.Files.{Files}
 use Rattle.alog_sink.specs.Lines.{Written, lines_of}
 use Rattle.alog_sink.specs.RotationDeeds.{Rotating, StandsFor}
-use Rattle.alog_sink.proofs.OneFiles.{lines_more}
+use Rattle.alog_sink.proofs.SharedOneFiles.{lines_more}
 
 -- a rotation stands for the lines as it does for what was written
 pub rotated_more : {A E : Type 0} (r : Result A E) {old : Rotating} (new : Rotating) {line : List ℕ} {before : Files} (after : Files)

@@ -27,7 +27,7 @@ pub(crate) enum Target {
 
 impl Target {
     /// Brings the line of a message to the files; the zone is that of its dates.
-    #[tactic(auto, using(crate::proofs::OneFiles::lines_more))]
+    #[tactic(auto, using(crate::proofs::SharedOneFiles::lines_more))]
     pub(crate) fn put<S: Store>(
         &mut self,
         store: &mut S,
