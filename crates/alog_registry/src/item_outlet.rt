@@ -93,7 +93,8 @@ pub trait ItemOutlet {
 /// An outlet that carries items, and on which a post may wait for room.
 pub trait WaitingItemOutlet: ItemOutlet {
     ghost use Rattle.std.specs.Prelude.{◌≡◌, IsSome, IfSome};
-    ghost use Rattle.alog_policy.specs.Outlet.{left_in};
+    ghost use Rattle.alog_policy.specs.Outlet.{IsPostedOrSpent, left_in};
+    ghost use Rattle.alog_policy.specs.declared.policy.Policy.TheVariants as under;
     ghost use Rattle.alog_registry.specs.ItemOutlet.{PostsItem};
 
     /// Posts the value that lies in the hand, as `alog_policy::post_from` does: under `Block` it waits until there is room. A
@@ -108,6 +109,7 @@ pub trait WaitingItemOutlet: ItemOutlet {
         requires fit { IfSome hand.old (λ v. Self.is_fit self.old v) }
         ensures post { IfSome hand.old (λ v. PostsItem Self.did policy (Self.shows self.old v) self.old self.new result) }
         ensures left { hand.new ≡ left_in result hand.old }
+        ensures blocks { policy ≡ under.Block → IsPostedOrSpent result }
         ensures ready { Self.is_ready self.new };
 }
 

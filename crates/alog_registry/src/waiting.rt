@@ -1,11 +1,15 @@
-//! Logs that wait for room and for the lock of a backtrace, and dumps that wait for that lock.
+//! Logs that wait for room and for the lock of a backtrace, flushes that wait for room, and dumps that wait for that lock.
 ghost use Rattle.std.specs.Prelude.{◌≡◌, ◌≢◌, ◌⊎◌, ◌≤◌, ◌<◌, length, true, Some, OnErr, IfOk, IsOk, IfErr, IsErrOf};
 ghost use Rattle.alog_msg.specs.declared.limits.TheConstants.{TEXT_LIMIT_MIN, TEXT_LIMIT_MAX};
+ghost use Rattle.alog_msg.specs.declared.item.Item.TheVariants.{Flush};
 ghost use Rattle.alog_msg.specs.declared.message.Message.{Message};
+ghost use Rattle.alog_policy.specs.Outlet.{IsPostedOrSpent};
 ghost use Rattle.alog_policy.specs.Progress.{without_waiting};
+ghost use Rattle.alog_policy.specs.declared.policy.Policy.TheVariants as under;
 ghost use Rattle.alog_registry.specs.Backtrace.{Room};
 ghost use Rattle.alog_registry.specs.Dumping.{PostsEach, posted_of};
 ghost use Rattle.alog_registry.specs.Given.{message_of, message_with, IsReason, IsWithin};
+ghost use Rattle.alog_registry.specs.ItemOutlet.{PostsItem};
 ghost use Rattle.alog_registry.specs.LaneKeeper.{IsSeated, HasList, KeepsByTurn, DumpsByTurn, NeverPasses};
 ghost use Rattle.alog_registry.specs.Limit.{AdmitsShort, IsShort};
 ghost use Rattle.alog_registry.specs.Listed.{spec_at};
@@ -109,6 +113,32 @@ impl Loggers {
             return bring(rt, alloc, outlet, text_limit, own, policy, given, false);
         }
         bring_and_keep(rt, alloc, outlet, keeper, text_limit, own, policy, given)
+    }
+}
+
+impl Loggers {
+    /// Posts a flush of the logger of this number as `flush` does, but waits under `Block` until there is room, so that it is
+    /// discarded only where no ticket is left. It takes no memory. That it returns is not promised. The test `flushes_with_waiting`
+    /// shows it.
+    pub fn flush_wait<O: WaitingItemOutlet>(
+        &self,
+        rt: &(impl Wait + Clock),
+        outlet: &mut O,
+        number: u32,
+    ) -> Outcome<()>
+        requires known { number < length self.now }
+        requires ready { O.is_ready outlet.old }
+        ensures post { (s : Spec) → spec_at self.now number ≡ Some s
+            → PostsItem O.did s.policy (Flush number) outlet.old outlet.new result }
+        ensures blocks { (s : Spec) → spec_at self.now number ≡ Some s → s.policy ≡ under.Block → IsPostedOrSpent result }
+        ensures ready { O.is_ready outlet.new }
+        ensures outlet { (m : Message) → O.admits outlet.old m → O.admits outlet.new m }
+    {
+        let Some(spec) = self.spec(number) else {
+            unreachable!()
+        };
+        let mut hand = Some(outlet.flush(number));
+        outlet.post_waiting(rt, spec.policy, &mut hand)
     }
 }
 
