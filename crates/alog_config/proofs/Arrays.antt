@@ -2,6 +2,7 @@
 use Rattle.std.proofs.Common.{◌≡◌, ℕ, ◌<◌, zero, suc, List, [], ◌∷◌, Bool, true, false, length, get_or}
 use Rattle.std.proofs.Common.{map, Some, None, refl, sym, ap, subst, ◌∙◌, arith}
 use Rattle.std.proofs.Common.{◌≤◌}
+use Rattle.std.proofs.lemmas.List.{length-map}
 use Rattle.alog_config.specs.declared.TheConstants.{TABLES_MAX}
 use Rattle.alog_config.specs.Values.{AreLent, AreNames, IsNameList, IsTableArray, IsTexts, LentTables, tables_in}
 use Rattle.toml.specs.Data.{Data, Items, no_items, item, Members, no_members, as_array, string}
@@ -21,10 +22,6 @@ get_of_map f [] i x h e = absurd (omega arith)
 get_of_map f (y ∷ xs) zero x h e = ap f (sym e)
 get_of_map f (y ∷ xs) (suc i) x h e = get_of_map f xs i x (omega arith) e
 
-pub length_of_map : {X Y : Type 0} (f : X → Y) (xs : List X) → length (map f xs) ≡ length xs
-length_of_map f [] = refl
-length_of_map f (x ∷ xs) = ap suc (length_of_map f xs)
-
 -- an item that does not pass a test that all items of a type do
 pub record Fails {X Y : Type 0} (f : X → Data) (g : Y → Data) (pass : Data → Bool) (xs : List X) (i : ℕ) (x : X) : Type 0 where
   pub each : (y : Y) → pass (g y) ≡ true
@@ -38,7 +35,7 @@ pub not_all : {X Y : Type 0} {f : X → Data} {g : Y → Data} {pass : Data → 
 not_all {f} {g} {pass} {xs} {i} {x} h ys same =
     let here : get_or (map f xs) i (f x) ≡ f x = get_of_map f xs i x h.within h.here in
     let there : get_or (map g ys) i (f x) ≡ f x = subst (λ ds. get_or ds i (f x) ≡ f x) same here in
-    let long : i < length (map g ys) = subst (λ ds. i < length ds) same (rw (length_of_map f xs) h.within) in
+    let long : i < length (map g ys) = subst (λ ds. i < length ds) same (rw (length-map xs f) h.within) in
     let passes : pass (f x) ≡ true = subst (λ d. pass d ≡ true) there (each_passes g pass h.each ys i (f x) long) in
     let clash : true ≡ false = sym passes ∙ h.fails in
     absurd (cc)

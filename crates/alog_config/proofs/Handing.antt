@@ -2,6 +2,7 @@
 use Rattle.std.proofs.Common.{◌≡◌, ◌+◌, ◌<◌, ℕ, zero, suc, Bool, true, false, cond, inr, List, [], ◌∷◌, ◌++◌, length, take, drop, map, slice_get}
 use Rattle.std.proofs.Common.{Result, Ok, Err, IfOk, Some, count_by, refl, sym, ap, subst, ◌∙◌, arith, length-drop}
 use Rattle.std.proofs.Math.Seq.{take-length}
+use Rattle.std.proofs.lemmas.List.{length-map}
 use Rattle.std.proofs.lemmas.List.Sums.{sum_by-append}
 use Rattle.std.specs.List.{Any}
 use Rattle.alog_config.specs.declared.building.BuildError.{BuildError}
@@ -15,7 +16,7 @@ use Rattle.alog_config.specs.Built.{ArePicked, Built, EachIs, IsLoggerOf, IsOfNu
 use Rattle.alog_config.specs.Parts.{AreBuilt, Makes, MayLog, MayMake}
 use Rattle.alog_config.specs.Sinks.{AnyMember, AnyUnknown, IsMember, Rotates, is_leaf, is_lines}
 use Rattle.alog_config.specs.Sound.{IsSound, IsSoundKind}
-use Rattle.alog_config.proofs.Parting.{IsNext, all_known, config_of, length_mapped, logger_sound_at, name_of, next_fan, next_leaf, no_built_fan, sound_at}
+use Rattle.alog_config.proofs.Parting.{IsNext, all_known, config_of, logger_sound_at, name_of, next_fan, next_leaf, no_built_fan, sound_at}
 use Rattle.alog_config.proofs.SharedPicking.{Has, any_has, has_any, picked_short, split_at, take_one_more}
 use Rattle.alog_registry.specs.declared.logger.Logger.{Logger}
 use Rattle.alog_sink.specs.Files.{Files}
@@ -82,7 +83,7 @@ module _ {S : Type 0} (tells : Bool) (files : S → Files) (failures : S → ℕ
       let all = c.sinks.items in
       let whole : take (length all) all ≡ all = take-length all in
       let short = picked_short (λ (a : Part S). ¬ IsMember (take (length all) all) (name_of a)) b.parts left b.picked in
-      let mapped = length_mapped config_of b.parts in
+      let mapped = length-map b.parts config_of in
       let parts = ap (λ (xs : List SinkConfig). length xs) (b.of ∙ whole) in
       record {
         few_parts = let few = sound.few_sinks in omega (arith, short, mapped, parts, few);

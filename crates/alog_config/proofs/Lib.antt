@@ -4,6 +4,7 @@ mod Arrays
 mod Runs
 mod Sounding
 pub mod SharedPicking
+pub mod SharedApart
 mod Parting
 mod Handing
 mod Taking

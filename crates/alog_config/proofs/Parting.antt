@@ -1,7 +1,8 @@
 -- Parts of a configuration: what is built one sink after the other.
-use Rattle.std.proofs.Common.{◌≡◌, ◌⊎◌, ◌↔◌, ◌+◌, ℕ, zero, suc, Bool, List, [], ◌∷◌, ◌++◌, length, take, map, slice_get}
+use Rattle.std.proofs.Common.{◌≡◌, ◌⊎◌, ◌↔◌, ◌+◌, ℕ, zero, suc, Bool, List, [], ◌∷◌, ◌++◌, length, take, slice_get}
 use Rattle.std.proofs.Common.{Some, count_by, inl, inr, refl, sym, ap, subst, ◌∙◌, append_assoc, append-nil}
 use Rattle.std.specs.List.{remove}
+use Rattle.std.proofs.lemmas.List.{length-map, map-append}
 use Rattle.alog_config.specs.declared.config.Config.{Config}
 use Rattle.alog_config.specs.declared.config.LoggerConfig.{LoggerConfig}
 use Rattle.alog_config.specs.declared.config.SinkConfig.{SinkConfig}
@@ -13,8 +14,9 @@ use Rattle.alog_config.specs.Built.{ArePicked, EachIs, IsBuiltAs, IsLeafOf, IsNa
 use Rattle.alog_config.specs.Parts.{AnyBuiltFan, AreAllKnown, AreBuilt, IsPartName, MakesFan, TakesOut}
 use Rattle.alog_config.specs.Sinks.{AnyFan, AnyMember, AnyUnknown, HandsTo, HasMember, IsFan, IsFanKind, IsMember, IsSinkName, is_leaf}
 use Rattle.alog_config.specs.Sound.{AreSoundLoggers, AreSoundSinks, IsSoundKind, IsSoundLogger, IsSoundSink}
+use Rattle.alog_config.proofs.SharedApart.{names_apart}
 use Rattle.alog_config.proofs.SharedPicking.{Apart, Has, any_has, apart_of_map, at_more, each_is_if, has_any, has_if, has_left}
-use Rattle.alog_config.proofs.SharedPicking.{has_mapped, has_of_map, has_parts, has_right, picked_has, picked_iff, picked_in, picked_more, picked_without}
+use Rattle.alog_config.proofs.SharedPicking.{has_mapped, has_of_map, has_parts, has_right, picked_back, picked_has, picked_iff, picked_in, picked_more, picked_without}
 use Rattle.alog_config.proofs.SharedPicking.{split_at, take_one_more}
 use Rattle.alog_sink.specs.Files.{Files}
 use Rattle.alog_sink.specs.Opened.{IsFan as IsBuiltFan}
@@ -64,23 +66,6 @@ logger_sound_at sinks earlier (x ∷ ls) zero l h e =
 logger_sound_at sinks earlier (x ∷ ls) (suc i) l h e =
     subst (λ (es : List LoggerConfig). IsSoundLogger sinks es l) (append_assoc earlier (x ∷ []) (take i ls))
     (logger_sound_at sinks (earlier ++ x ∷ []) ls i l h.1 e)
-
--- no later sink has an earlier one's name
-none_earlier : (limit : ℕ) (earlier ss : List SinkConfig) (name : List ℕ) → AreSoundSinks limit earlier ss → Has (λ s. s.name ≡ name) ss
-    → ¬ Has (λ (s : SinkConfig). s.name ≡ name) earlier
-none_earlier limit earlier [] name h has before = has
-none_earlier limit earlier (s ∷ ss) name h (inl e) before =
-    h.0.free (subst (λ n. IsSinkName earlier n) (sym e) (has_any (λ (x : SinkConfig). x.name ≡ name) earlier before))
-none_earlier limit earlier (s ∷ ss) name h (inr has) before =
-    none_earlier limit (earlier ++ s ∷ []) ss name h.1 has (has_left (λ (x : SinkConfig). x.name ≡ name) earlier (s ∷ []) before)
-
-pub names_apart : (limit : ℕ) (earlier ss : List SinkConfig) → AreSoundSinks limit earlier ss → Apart sink_name ss
-names_apart limit earlier [] h = tt
-names_apart limit earlier (s ∷ ss) h = (
-  λ has. none_earlier limit (earlier ++ s ∷ []) ss s.name h.1 has
-      (has_right (λ (x : SinkConfig). x.name ≡ s.name) earlier (s ∷ []) (inl refl)),
-  names_apart limit (earlier ++ s ∷ []) ss h.1,
-)
 
 -- a member of a sound sink is an earlier sink
 member_earlier : (limit : ℕ) (earlier : List SinkConfig) (k : SinkKind) (name : List ℕ) → IsSoundKind limit earlier k → HandsTo name k
@@ -175,25 +160,10 @@ named_more {S} parts p name sink h =
     let Q : Part S → Type 0 = λ a. (name_of a ≡ name) × (a.sink ≡ sink) in
     has_any Q (parts ++ p ∷ []) (has_left Q parts (p ∷ []) (any_has Q parts h))
 
-pub length_mapped : {A B : Type 0} (f : A → B) (xs : List A) → length (map f xs) ≡ length xs
-length_mapped f [] = refl
-length_mapped f (x ∷ xs) = ap suc (length_mapped f xs)
-
-mapped_more : {A B : Type 0} (f : A → B) (xs : List A) (x : A) → map f (xs ++ x ∷ []) ≡ map f xs ++ f x ∷ []
-mapped_more f [] x = refl
-mapped_more {A} {B} f (y ∷ xs) x = ap (λ (zs : List B). f y ∷ zs) (mapped_more f xs x)
-
 pub take_long : {A : Type 0} (xs : List A) (i : ℕ) (x : A) → slice_get xs i ≡ Some x → length (take i xs) ≡ i
 take_long [] i x e = absurd (cc e)
 take_long (y ∷ ys) zero x e = refl
 take_long (y ∷ ys) (suc i) x e = ap suc (take_long ys i x e)
-
-picked_back : {A : Type 0} (P Q : A → Type 0) (all picked : List A) → ArePicked P all picked → Has Q picked → Has Q all
-picked_back {A} P Q [] picked h has = subst (λ (xs : List A). Has Q xs) h has
-picked_back {A} P Q (a ∷ all) picked (inl h) has =
-    let there : Q a ⊎ Has Q h.0 = subst (λ (xs : List A). Has Q xs) h.2 has in
-    elim there [ inl q ↦ inl q | inr r ↦ inr (picked_back P Q all h.0 h.3 r) ]
-picked_back P Q (a ∷ all) picked (inr h) has = inr (picked_back P Q all picked h.1 has)
 
 has_each : {A : Type 0} (Q R : A → Type 0) (xs : List A) → ((n : ℕ) (x : A) → slice_get xs n ≡ Some x → Q x → R x) → Has Q xs → Has R xs
 has_each Q R [] f h = h
@@ -245,7 +215,7 @@ module _ {S : Type 0} (tells : Bool) (files : S → Files) (failures : S → ℕ
       let all = c.sinks.items in
       let parts = b.parts in
       let more : take (i + 1) all ≡ take i all ++ s ∷ [] = take_one_more all i s at in
-      let long : length parts ≡ i = sym (length_mapped config_of parts) ∙ (ap (λ (xs : List SinkConfig). length xs) b.of ∙ take_long all i s at) in
+      let long : length parts ≡ i = sym (length-map parts config_of) ∙ (ap (λ (xs : List SinkConfig). length xs) b.of ∙ take_long all i s at) in
       let made_here = subst (λ (x : SinkConfig). IsBuiltAs tells files failures c stores parts i x.level x.kind p.sink) (sym same) made in
       let own = part_more c stores parts p i p made_here in
       let free = next_is_free c.text (take i all) s (sound_until c.text all i s sound at) (sound_at c.text all i s sound at) in
@@ -253,7 +223,7 @@ module _ {S : Type 0} (tells : Bool) (files : S → Files) (failures : S → ℕ
       let whole = picked_more (λ (a : Part S). ¬ IsMember (take i all ++ s ∷ []) (name_of a)) parts rest p picked free_here in
       record {
         parts = parts ++ p ∷ [];
-        of = mapped_more config_of parts p
+        of = map-append config_of parts (p ∷ [])
             ∙ (ap (λ (xs : List SinkConfig). xs ++ config_of p ∷ []) b.of
             ∙ (ap (λ (x : SinkConfig). take i all ++ x ∷ []) same ∙ sym more));
         each = λ n q e. elim (at_more parts p q n e) [

@@ -184,3 +184,11 @@ take_one_more {A} (y ∷ ys) zero x e = let same : y ≡ x = cc in ap (λ (z : A
 take_one_more {A} (y ∷ ys) (suc i) x e =
     let next : suc i + 1 ≡ suc (i + 1) = omega arith in
     ap (λ n. take n (y ∷ ys)) next ∙ ap (λ (zs : List A). y ∷ zs) (take_one_more ys i x e)
+
+-- what is so of one that was picked is so of one of all
+pub picked_back : {A : Type 0} (P Q : A → Type 0) (all picked : List A) → ArePicked P all picked → Has Q picked → Has Q all
+picked_back {A} P Q [] picked h has = subst (λ (xs : List A). Has Q xs) h has
+picked_back {A} P Q (a ∷ all) picked (inl h) has =
+    let there : Q a ⊎ Has Q h.0 = subst (λ (xs : List A). Has Q xs) h.2 has in
+    elim there [ inl q ↦ inl q | inr r ↦ inr (picked_back P Q all h.0 h.3 r) ]
+picked_back P Q (a ∷ all) picked (inr h) has = inr (picked_back P Q all picked h.1 has)

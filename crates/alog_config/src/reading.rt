@@ -12,7 +12,7 @@ use crate::fault::{ConfigFault, Place, Rule};
 use crate::field::Field;
 use crate::logger_fields::logger_fields;
 use crate::sink_fields::sink_fields;
-use crate::top::{TopFields, top_fault, top_fields};
+use crate::top::{top_fault, top_fields};
 use alog_format::Zone;
 use alog_msg::DEFAULT_TEXT_LIMIT;
 use std::alloc::{AllocError, Global};
@@ -69,22 +69,11 @@ fn read_top(alloc: Global, table: &Table) -> Result<Config, ConfigFault>
     if let Some(rule) = top_fault(&top) {
         return Err(ConfigFault::Broken { rule, place });
     }
-    let TopFields {
-        queue,
-        workers,
-        text,
-        offset,
-        zone,
-        process,
-        sinks,
-        loggers,
-        ..
-    } = top;
-    let (Field::Given(sinks), Field::Given(loggers)) = (sinks, loggers) else {
+    let (Field::Given(sinks), Field::Given(loggers)) = (top.sinks, top.loggers) else {
         let rule = Rule::Missing;
         return Err(ConfigFault::Broken { rule, place });
     };
-    let text = text.or(DEFAULT_TEXT_LIMIT as u32) as usize;
+    let text = top.text.or(DEFAULT_TEXT_LIMIT as u32) as usize;
     let sinks = match read_sinks(alloc, sinks.as_slice(), text) {
         Ok(sinks) => sinks,
         Err(fault) => return Err(fault),
@@ -94,11 +83,11 @@ fn read_top(alloc: Global, table: &Table) -> Result<Config, ConfigFault>
         Err(fault) => return Err(fault),
     };
     Ok(Config {
-        queue: queue.or(8_192) as usize,
-        workers: workers.or(1) as usize,
+        queue: top.queue.or(8_192) as usize,
+        workers: top.workers.or(1) as usize,
         text,
-        zone: clock_of(offset, zone),
-        process: process.or(0),
+        zone: clock_of(top.offset, top.zone),
+        process: top.process.or(0),
         sinks,
         loggers,
     })
