@@ -10,7 +10,7 @@ $ COMMAND   a command of the shell, in which `alog` is the program
 <+ LINE     the same without a newline behind it
 > LINE      a line of its standard output
 ! LINE      a line of its standard error
-!~ TEXT     the line that standard error begins with begins so, and nothing is said of the rest
+!~ TEXT     standard error begins so, is not empty, and nothing is said of the rest
 = STATUS    its status, where that is not 0
 
 A session runs in a folder of its own, which is empty at its start, and its commands one after the other. Rows are as rows.py says. A
@@ -49,7 +49,7 @@ class Command:
         found = [("status", ran.returncode, self.status), ("standard output", ran.stdout, self.printed)]
         if self.begins is None:
             found.append(("standard error", ran.stderr, self.said))
-        elif not ran.stderr.startswith(self.begins):
+        elif not ran.stderr or not ran.stderr.startswith(self.begins):
             found.append(("standard error", ran.stderr, self.begins))
         return next((f"{what} is {is_!r}, and is to be {wanted!r}" for what, is_, wanted in found if is_ != wanted), None)
 
