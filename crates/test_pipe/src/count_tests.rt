@@ -98,7 +98,10 @@ fn what_is_overrun_is_counted(rt: HostRuntime) -> io::Result<()> {
     let totals = totals_of(&room.pipe(&rt, &["--totals"], &mut input)?);
     let kept = kept_in(room.lines(&rt)?.as_slice());
     assert!(rt; totals.is_some_and(|totals| add_up(totals)));
-    assert!(rt; kept.zip(totals).is_some_and(|(kept, totals)| account(kept, totals)));
+    assert!(rt;
+        kept.zip(totals)
+            .is_some_and(|(kept, totals)| account(kept, totals))
+    );
     room.leave(&rt)
 }
 

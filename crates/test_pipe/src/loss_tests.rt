@@ -35,7 +35,9 @@ fn the_log_says_where_how_many_lines_are_missing(rt: HostRuntime) -> io::Result<
     let room = Room::new(&rt, LOSING)?;
     let lines = numbers(rt.alloc(), LINES)?;
     let mut input = Chunks::new(lines.as_bytes(), CHUNK);
-    let missing = room.pipe(&rt, &["--totals"], &mut input)?.number("missing ");
+    let missing = room
+        .pipe(&rt, &["--totals"], &mut input)?
+        .number("missing ");
     let file = room.lines(&rt)?;
     let found = kept_and_told(file.as_slice());
     assert!(rt; found.is_some_and(|(kept, told)| kept > 0 && told == LINES));

@@ -1,6 +1,6 @@
 //! What a pipe does while it reads.
 use crate::readers::{Asking, Interrupted, Timed};
-use crate::room::{Chunks, Room, numbers};
+use crate::room::{Chunks, Ran, Room, numbers};
 use std::{io, str};
 use test_runs::{SMALL, Said};
 
@@ -19,11 +19,9 @@ fn an_interruption_is_no_end_and_no_read(rt: HostRuntime) -> io::Result<()> {
     room.leave(&rt)
 }
 
-/// Whether the folder is held at each of three reads of a pipe.
-fn is_held(rt: &HostRuntime, room: &Room) -> io::Result<bool> {
-    let mut input = Asking::new(*rt, room.places().1, Chunks::new(b"one\ntwo\n", 4));
-    let ran = room.pipe(rt, &["--totals"], &mut input)?;
-    Ok(ran.number("lines ") == Some(2) && input.held == 3 && input.free == 0)
+/// Whether the folder was held at each of the three reads of a pipe.
+fn is_held(ran: &Ran, input: &Asking<'_>) -> bool {
+    ran.number("lines ") == Some(2) && input.held == 3 && input.free == 0
 }
 
 #[test]
@@ -31,8 +29,9 @@ fn the_folder_is_held_while_a_pipe_reads(rt: HostRuntime) -> io::Result<()> {
     let room = Room::new(&rt, SMALL)?;
     // The second pipe finds it free again.
     for _ in 0..2 {
-        let is_held = is_held(&rt, &room)?;
-        assert!(rt; is_held);
+        let mut input = Asking::new(rt, room.places().1, Chunks::new(b"one\ntwo\n", 4));
+        let ran = room.pipe(&rt, &["--totals"], &mut input)?;
+        assert!(rt; is_held(&ran, &input));
     }
     room.leave(&rt)
 }
@@ -53,7 +52,11 @@ fn many_lines_that_come_byte_by_byte(rt: HostRuntime) -> io::Result<()> {
     assert!(rt; bytes.len() == MANY_BYTES);
     let mut input = Chunks::new(bytes.as_bytes(), 1);
     let ran = room.pipe(&rt, &["--totals"], &mut input)?;
-    let found = [ran.number("lines "), ran.number("bytes "), ran.number("missing ")];
+    let found = [
+        ran.number("lines "),
+        ran.number("bytes "),
+        ran.number("missing "),
+    ];
     assert!(rt; found == [Some(MANY), Some(MANY_BYTES - MANY), Some(0)]);
     let lines = room.lines(&rt)?;
     assert!(rt; lines.as_slice() == bytes.as_bytes());
@@ -84,19 +87,13 @@ fn lie_between(file: &[u8], times: &[u64]) -> bool {
     lines.next().is_none()
 }
 
-/// Whether lines of which each comes in a read have the times of their reads.
-fn have_times(rt: &HostRuntime, room: &Room) -> io::Result<bool> {
-    let mut input = Timed::new(*rt, Chunks::new(b"one\ntwo\nsix\n", 4));
-    let ran = room.pipe(rt, &[], &mut input)?;
-    let lines = room.lines(rt)?;
-    let is_read = input.times.len() == 4;
-    Ok(is_read && ran.ends(0, "") && lie_between(lines.as_slice(), input.times.as_slice()))
-}
-
 #[test]
 fn a_line_has_the_time_of_its_read(rt: HostRuntime) -> io::Result<()> {
     let room = Room::new(&rt, TIMES)?;
-    let have_times = have_times(&rt, &room)?;
-    assert!(rt; have_times);
+    let mut input = Timed::new(rt, Chunks::new(b"one\ntwo\nsix\n", 4));
+    let ran = room.pipe(&rt, &[], &mut input)?;
+    let lines = room.lines(&rt)?;
+    assert!(rt; ran.ends(0, "") && input.times.len() == 4);
+    assert!(rt; lie_between(lines.as_slice(), input.times.as_slice()));
     room.leave(&rt)
 }

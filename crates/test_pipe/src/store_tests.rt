@@ -22,8 +22,7 @@ fn a_fault_of_a_store_stands_behind_the_totals(rt: HostRuntime) -> io::Result<()
 }
 
 /// What is said where a store failed, whenever it did.
-const FAILED_AT_SOME_TIME: &str =
-    "alog: refused 22\nalog: a store failed\nalog: sink 0, out: ";
+const FAILED_AT_SOME_TIME: &str = "alog: refused 22\nalog: a store failed\nalog: sink 0, out: ";
 
 /// The worker sleeps while more lines come at once than the queue takes. So the flushes behind them are discarded, but for once in some
 /// hundred runs, and what the end flushes is the one flush that fails.
