@@ -1,5 +1,5 @@
 //! What a pipe does while it reads.
-use crate::readers::{Asking, Interrupted, Timed};
+use crate::readers::{Asking, Following, Interrupted, Timed};
 use crate::room::{Chunks, Ran, Room, numbers};
 use std::{io, str};
 use test_runs::{SMALL, Said};
@@ -60,6 +60,28 @@ fn many_lines_that_come_byte_by_byte(rt: HostRuntime) -> io::Result<()> {
     assert!(rt; found == [Some(MANY), Some(MANY_BYTES - MANY), Some(0)]);
     let lines = room.lines(&rt)?;
     assert!(rt; lines.as_slice() == bytes.as_bytes());
+    room.leave(&rt)
+}
+
+/// A queue of two places, for whose room a pipe waits.
+const NARROW: &str =
+    "queue = 2\n\n[[sink]]\nname = \"out\"\nkind = \"memory\"\npattern = \"%v\"\n\n[[logger]]\nname = \"net\"\nsinks = [\"out\"]\n";
+
+/// Lines of which twelve bytes at a time are six, five and three.
+const FOURTEEN: &[u8] = b"1\n2\n3\n4\n5\n6\n7\n8\n9\n10\n11\n12\n13\n14\n";
+
+/// Whether the lines of each of three reads were in the file before the next read, of which the last found the end.
+fn is_followed(ran: &Ran, input: &Following<'_>) -> bool {
+    ran.number("discarded ") == Some(0) && input.reads == 4 && input.is_followed
+}
+
+#[test]
+fn the_lines_of_a_read_are_in_the_file_before_the_next(rt: HostRuntime) -> io::Result<()> {
+    let room = Room::new(&rt, NARROW)?;
+    let file = room.path(&rt, "out")?;
+    let mut input = Following::new(rt, file.as_str(), Chunks::new(FOURTEEN, 12));
+    let ran = room.pipe(&rt, &["--totals"], &mut input)?;
+    assert!(rt; is_followed(&ran, &input));
     room.leave(&rt)
 }
 

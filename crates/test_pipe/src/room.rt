@@ -71,6 +71,11 @@ impl Room {
         self.take(rt, "out")
     }
 
+    /// Where a file is.
+    pub fn path(&self, rt: &HostRuntime, name: &str) -> io::Result<PathBuf> {
+        Ok(self.folder.join(rt.alloc(), name)?)
+    }
+
     /// What a file has, which is then removed.
     pub fn take(&self, rt: &HostRuntime, name: &str) -> io::Result<Vec<u8>> {
         let file = self.folder.join(rt.alloc(), name)?;
