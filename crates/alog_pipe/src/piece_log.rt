@@ -55,12 +55,12 @@ impl PieceLog {
         }
     }
 
-    /// Posts a flush of the logger. Where there is no room for it under its policy, nothing is flushed.
-    pub(crate) fn flush(&mut self)
+    /// Posts a flush of the logger. Under `block` it waits for room; where there is none under another policy, nothing is flushed.
+    pub(crate) fn flush<R: Wait + Clock>(&mut self, rt: &R)
         requires { IsReady 0 self.old }
         ensures { Flushes self.old self.new }
     {
-        let _ = self.producer.flush(self.logger);
+        let _ = self.producer.flush_wait(rt, self.logger);
     }
 
     /// Waits until the log says what is missing, unless there is no memory to say it.

@@ -57,7 +57,7 @@ impl Pump {
         let time = time_of(rt).unwrap_or(self.time);
         self.time = time;
         self.log_pending(rt, alloc, time);
-        self.log.flush();
+        self.log.flush(rt);
     }
 
     /// Logs each piece of what was read, at this time.

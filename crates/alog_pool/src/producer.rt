@@ -1,12 +1,14 @@
 //! A producer: what a request thread logs with.
 ghost use Rattle.std.specs.Prelude.{◌≡◌, ◌≢◌, ◌⊎◌, ◌≤◌, ◌<◌, length, Some, OnErr, IfOk, IfErr, IsErrOf};
 ghost use Rattle.alog_msg.specs.declared.item.Item.TheVariants.{Flush};
+ghost use Rattle.alog_policy.specs.Outlet.{IsPostedOrSpent};
 ghost use Rattle.alog_policy.specs.SwapPort.{SwapDid};
 ghost use Rattle.alog_policy.specs.Progress.{without_waiting};
+ghost use Rattle.alog_policy.specs.declared.policy.Policy.TheVariants as under;
 ghost use Rattle.alog_pool.specs.Producer.{IsPortOf, IsSame, Lent};
 ghost use Rattle.alog_registry.specs.Backtrace.{Room};
 ghost use Rattle.alog_registry.specs.BlockPort.{BlockPort};
-ghost use Rattle.alog_registry.specs.ItemOutlet.{PostsItemNow};
+ghost use Rattle.alog_registry.specs.ItemOutlet.{PostsItem, PostsItemNow};
 ghost use Rattle.alog_registry.specs.Dumping.{PostsEach, posted_of};
 ghost use Rattle.alog_registry.specs.Given.{message_with, IsReason, IsWithin};
 ghost use Rattle.alog_registry.specs.LaneKeeper.{DumpsByTurn, KeepsByTurn, NeverPasses, Passes};
@@ -188,6 +190,22 @@ impl Producer {
         let shared: &Shared = &self.shared;
         let mut port = port_of!(self, shared);
         shared.loggers.flush(&mut port, number)
+    }
+
+    /// Posts a flush of the logger of this number, as `Loggers::flush_wait` does: under `Block` it waits for room, so that it is
+    /// discarded only where no ticket is left. It takes no memory.
+    pub fn flush_wait(&mut self, rt: &(impl Wait + Clock), number: u32) -> Outcome<()>
+        requires known { number < length self.old.shared.loggers }
+        ensures post { (s : Spec) → spec_at self.old.shared.loggers number ≡ Some s
+            → (p q : BlockPort) × IsPortOf self.old p × IsPortOf self.new q
+            × PostsItem SwapDid s.policy (Flush number) p q result }
+        ensures blocks { (s : Spec) → spec_at self.old.shared.loggers number ≡ Some s → s.policy ≡ under.Block
+            → IsPostedOrSpent result }
+        ensures same { IsSame self.old self.new × (self.new.backtrace_seats ≡ self.old.backtrace_seats) }
+    {
+        let shared: &Shared = &self.shared;
+        let mut port = port_of!(self, shared);
+        shared.loggers.flush_wait(rt, &mut port, number)
     }
 
     /// Posts what the backtrace of the logger of this number kept, as `Loggers::dump_shared` does: it waits for the lock of the

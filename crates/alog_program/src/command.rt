@@ -303,11 +303,12 @@ const PIPE_HELP: &str = "Log each line of standard input, up to its end.
 CONFIG is a configuration, of which `alog check --help` has the keys. Each line is logged to the logger, at the
 level and at the time of the read that brought its end; the last line may lack its newline. What is not UTF-8
 becomes U+FFFD, and a line that is longer than the text limit goes in pieces, cut before a character that does
-not fit. Behind what each read brought a flush is posted.
+not fit. Behind what each read brought a flush is posted, which writes its lines to the files.
 
-Under the policy block a line waits for room in the queue. Under the others none waits. Where lines are refused,
-the log has a line at level warning in their place, before the next line that it takes or at the end:
-`N lines are missing here`. Of what overrun_oldest takes out of the queue it says nothing.
+Under the policy block a line and a flush wait for room in the queue. Under the others none waits: where a flush
+is refused, its lines are in the files with the next one; where lines are refused, the log has a line at level
+warning in their place, before the next line that it takes or at the end: `N lines are missing here`. Of what
+overrun_oldest takes out of the queue it says nothing.
 
 The files of the sinks are files of the folder DIR, which has to be there, and is held by one pipe, load or
 server at a time; lines are written behind what a file has. To let a service end, close its output: with

@@ -9,10 +9,11 @@ use Rattle.alog_msg.specs.declared.source.SourceRef.{SourceRef}
 use Rattle.alog_policy.specs.SwapPort.{SwapDid}
 use Rattle.alog_policy.specs.Progress.{without_waiting}
 use Rattle.alog_policy.specs.declared.policy.Outcome.{Outcome}
+use Rattle.alog_policy.specs.declared.policy.Policy.{Policy}
 use Rattle.alog_registry.specs.BlockPort.{BlockPort}
 use Rattle.alog_pool.specs.Producer.{ProducerView, IsPortOf, IsSame, Lent}
 use Rattle.alog_registry.specs.Backtrace.{Room}
-use Rattle.alog_registry.specs.ItemOutlet.{PostsItemNow}
+use Rattle.alog_registry.specs.ItemOutlet.{PostsItem}
 use Rattle.alog_registry.specs.Dumping.{PostsEach, posted_of}
 use Rattle.alog_registry.specs.Given.{message_with, IsWithin, IsTooLongField}
 use Rattle.alog_registry.specs.LaneKeeper.{DumpsByTurn, KeepsByTurn, NeverPasses, Passes}
@@ -64,10 +65,15 @@ abbrev pub Says : How → ℕ → Level → List ℕ → Option SourceRef → Pr
 Says how number level text source old (Ok reply) new = (time : ℤ) × HasLogged time how number level text source old reply new
 Says how number level text source old (Err e) new = (new ≡ old) × IsReason old.limit text source e × WantsForBacktrace number old e
 
+-- the policy by which such a call posts where the logger's is this
+abbrev pub policy_of : How → Policy → Policy
+policy_of Waiting p = p
+policy_of AtOnce p = without_waiting p
+
 -- The producer posted a flush of the logger of this number, which ended so.
-pub record Flushes (number : ℕ) (old : ProducerView) (outcome : Outcome (Unit {0})) (new : ProducerView) : Type 0 where
+pub record Flushes (how : How) (number : ℕ) (old : ProducerView) (outcome : Outcome (Unit {0})) (new : ProducerView) : Type 0 where
   pub post : (s : Spec) → spec_at old.shared.loggers number ≡ Some s
-      → (p q : BlockPort) × IsPortOf old p × IsPortOf new q × PostsItemNow SwapDid s.policy (Flush number) p q outcome
+      → (p q : BlockPort) × IsPortOf old p × IsPortOf new q × PostsItem SwapDid (policy_of how s.policy) (Flush number) p q outcome
   pub same : IsSame old new
   pub backtrace_seats : new.backtrace_seats ≡ old.backtrace_seats
 

@@ -165,9 +165,17 @@ impl<H: Home> Client<H> {
 
     /// Posts a flush of the logger, as `alog_pool::Producer::flush` does: it takes no memory and never waits.
     pub fn flush(&mut self, logger: &Logger<H>) -> Outcome<()>
-        ensures { Flushes logger.now.number self.old result self.new }
+        ensures { Flushes AtOnce logger.now.number self.old result self.new }
     {
         self.producer.flush(logger.number)
+    }
+
+    /// Posts a flush of the logger, as `alog_pool::Producer::flush_wait` does: where the queue is full it waits under the policy
+    /// `block`, and it takes no memory.
+    pub fn flush_wait(&mut self, rt: &(impl Wait + Clock), logger: &Logger<H>) -> Outcome<()>
+        ensures { Flushes Waiting logger.now.number self.old result self.new }
+    {
+        self.producer.flush_wait(rt, logger.number)
     }
 
     /// Posts what the backtrace of the logger kept, oldest first, between two markers, as `alog_pool::Producer::dump_backtrace`

@@ -3,7 +3,10 @@ ghost use Rattle.alog_msg.specs.declared.limits.TheConstants.{TEXT_LIMIT_MIN};
 ghost use Rattle.alog_policy.specs.Port.{IsFit};
 ghost use Rattle.alog_registry.specs.LaneKeeper.{IsSeated, HasList};
 
-use crate::log_tests::{TEXT_LIMIT, are_posted, backtrace_of, is_reply, lane_of, one, posted};
+use crate::log_tests::{
+    TEXT_LIMIT, are_posted, backtrace_of, discarded, is_outcome, is_reply, lane_of, one, overran,
+    posted,
+};
 use crate::port_tests::{new_book, ring_of};
 use alog_lane::Lane;
 use alog_msg::{Item, Level, MessageError, TEXT_LIMIT_MAX};
@@ -215,6 +218,51 @@ fn logs_with_waiting(rt: HostRuntime) -> Result<(), Fail> {
     };
     log_dump_and_fill(&rt, &loggers, alloc, &mut port, &mut keeper);
     Ok(())
+}
+
+// Two flushes with waiting fill the ring, and a third one goes so.
+fn flush_thrice<R: Wait + Clock + Abort>(
+    rt: &R,
+    loggers: &Loggers,
+    port: &mut Port<'_, Item>,
+    third: Outcome<()>,
+)
+    requires known { 0 < length loggers.now }
+    requires fit { IsFit port.old }
+{
+    let flushes = (
+        loggers.flush_wait(rt, port, 0),
+        loggers.flush_wait(rt, port, 0),
+        loggers.flush_wait(rt, port, 0),
+    );
+    is_outcome(rt, &flushes.0, &posted(0));
+    is_outcome(rt, &flushes.1, &posted(1));
+    is_outcome(rt, &flushes.2, &third);
+}
+
+// How a flush with waiting goes under this policy, where the ring has two places and is full.
+fn flush_to_a_full<R: Wait + Clock + Abort>(
+    rt: &R,
+    alloc: Global,
+    policy: Policy,
+    outcome: Outcome<()>,
+) {
+    let loggers = one(rt, alloc, policy, 0);
+    let (ring, mut pass) = ring_of(rt, alloc, 2);
+    let (book, mut losses) = new_book(rt, alloc);
+    let mut port = Port {
+        ring: &ring,
+        pass: &mut pass,
+        book: &book,
+        seat: &mut losses,
+    };
+    flush_thrice(rt, &loggers, &mut port, outcome);
+}
+
+#[test]
+fn flushes_with_waiting(rt: HostRuntime) {
+    flush_to_a_full(&rt, rt.alloc(), Policy::DiscardNew, discarded());
+    flush_to_a_full(&rt, rt.alloc(), Policy::OverrunOldest, overran());
 }
 
 // A log with waiting answers so.

@@ -1,6 +1,6 @@
 //! What a pipe does while it reads.
-use crate::readers::{Asking, Interrupted, Timed};
-use crate::room::{Chunks, Room, numbers};
+use crate::readers::{Asking, Following, Interrupted, Timed};
+use crate::room::{Chunks, Ran, Room, numbers};
 use std::{io, str};
 use test_runs::{SMALL, Said};
 
@@ -19,11 +19,9 @@ fn an_interruption_is_no_end_and_no_read(rt: HostRuntime) -> io::Result<()> {
     room.leave(&rt)
 }
 
-/// Whether the folder is held at each of three reads of a pipe.
-fn is_held(rt: &HostRuntime, room: &Room) -> io::Result<bool> {
-    let mut input = Asking::new(*rt, room.places().1, Chunks::new(b"one\ntwo\n", 4));
-    let ran = room.pipe(rt, &["--totals"], &mut input)?;
-    Ok(ran.number("lines ") == Some(2) && input.held == 3 && input.free == 0)
+/// Whether the folder was held at each of the three reads of a pipe.
+fn is_held(ran: &Ran, input: &Asking<'_>) -> bool {
+    ran.number("lines ") == Some(2) && input.held == 3 && input.free == 0
 }
 
 #[test]
@@ -31,8 +29,9 @@ fn the_folder_is_held_while_a_pipe_reads(rt: HostRuntime) -> io::Result<()> {
     let room = Room::new(&rt, SMALL)?;
     // The second pipe finds it free again.
     for _ in 0..2 {
-        let is_held = is_held(&rt, &room)?;
-        assert!(rt; is_held);
+        let mut input = Asking::new(rt, room.places().1, Chunks::new(b"one\ntwo\n", 4));
+        let ran = room.pipe(&rt, &["--totals"], &mut input)?;
+        assert!(rt; is_held(&ran, &input));
     }
     room.leave(&rt)
 }
@@ -64,6 +63,28 @@ fn many_lines_that_come_byte_by_byte(rt: HostRuntime) -> io::Result<()> {
     room.leave(&rt)
 }
 
+/// A queue of two places, for whose room a pipe waits.
+const NARROW: &str =
+    "queue = 2\n\n[[sink]]\nname = \"out\"\nkind = \"memory\"\npattern = \"%v\"\n\n[[logger]]\nname = \"net\"\nsinks = [\"out\"]\n";
+
+/// Lines of which twelve bytes at a time are six, five and three.
+const FOURTEEN: &[u8] = b"1\n2\n3\n4\n5\n6\n7\n8\n9\n10\n11\n12\n13\n14\n";
+
+/// Whether the lines of each of three reads were in the file before the next read, of which the last found the end.
+fn is_followed(ran: &Ran, input: &Following<'_>) -> bool {
+    ran.number("discarded ") == Some(0) && input.reads == 4 && input.is_followed
+}
+
+#[test]
+fn the_lines_of_a_read_are_in_the_file_before_the_next(rt: HostRuntime) -> io::Result<()> {
+    let room = Room::new(&rt, NARROW)?;
+    let file = room.path(&rt, "out")?;
+    let mut input = Following::new(rt, file.as_str(), Chunks::new(FOURTEEN, 12));
+    let ran = room.pipe(&rt, &["--totals"], &mut input)?;
+    assert!(rt; is_followed(&ran, &input));
+    room.leave(&rt)
+}
+
 /// One file, with times in nanoseconds since 1970 UTC before the texts.
 const TIMES: &str =
     "[[sink]]\nname = \"out\"\nkind = \"memory\"\npattern = \"%E%F %v\"\n\n[[logger]]\nname = \"net\"\nsinks = [\"out\"]\n";
@@ -88,19 +109,13 @@ fn lie_between(file: &[u8], times: &[u64]) -> bool {
     lines.next().is_none()
 }
 
-/// Whether lines of which each comes in a read have the times of their reads.
-fn have_times(rt: &HostRuntime, room: &Room) -> io::Result<bool> {
-    let mut input = Timed::new(*rt, Chunks::new(b"one\ntwo\nsix\n", 4));
-    let ran = room.pipe(rt, &[], &mut input)?;
-    let lines = room.lines(rt)?;
-    let is_read = input.times.len() == 4;
-    Ok(is_read && ran.ends(0, "") && lie_between(lines.as_slice(), input.times.as_slice()))
-}
-
 #[test]
 fn a_line_has_the_time_of_its_read(rt: HostRuntime) -> io::Result<()> {
     let room = Room::new(&rt, TIMES)?;
-    let have_times = have_times(&rt, &room)?;
-    assert!(rt; have_times);
+    let mut input = Timed::new(rt, Chunks::new(b"one\ntwo\nsix\n", 4));
+    let ran = room.pipe(&rt, &[], &mut input)?;
+    let lines = room.lines(&rt)?;
+    assert!(rt; ran.ends(0, "") && input.times.len() == 4);
+    assert!(rt; lie_between(lines.as_slice(), input.times.as_slice()));
     room.leave(&rt)
 }

@@ -2,8 +2,8 @@
 use crate::room::Chunks;
 use alog_server::Folders;
 use std::io::{self, Error, ErrorKind, Read};
-use std::thread;
 use std::time::{Clock, Duration};
+use std::{fs, thread};
 
 /// Is interrupted before each read of another.
 #[derive(Drop)]
@@ -94,6 +94,58 @@ impl Read for Timed<'_> {
         let time = self.rt.since_1970()?.as_nanos();
         self.times.push(u64::try_from(time).unwrap_or(u64::MAX))?;
         self.chunks.read(buf)
+    }
+}
+
+/// How often a file is looked at.
+const LOOKS: u32 = 1_000_000;
+
+/// Waits, before it gives more, until a file has all that it gave, and nothing else.
+#[derive(Drop)]
+pub struct Following<'a> {
+    rt: HostRuntime,
+    file: &'a str,
+    chunks: Chunks<'a>,
+    given: Vec<u8>,
+    /// How often it was read, and whether the file had all of it each time.
+    pub reads: u32,
+    pub is_followed: bool,
+}
+
+impl<'a> Following<'a> {
+    pub fn new(rt: HostRuntime, file: &'a str, chunks: Chunks<'a>) -> Following<'a> {
+        Following {
+            rt,
+            file,
+            chunks,
+            given: Vec::new(rt.alloc()),
+            reads: 0,
+            is_followed: true,
+        }
+    }
+
+    /// Whether the file had it at one of so many looks, behind each of which other threads go on.
+    fn is_there(&self) -> bool {
+        for _ in 0..LOOKS {
+            let found = fs::read(&self.rt, self.file);
+            if found.is_ok_and(|bytes| bytes.as_slice() == self.given.as_slice()) {
+                return true;
+            }
+            thread::yield_now();
+        }
+        false
+    }
+}
+
+impl Read for Following<'_> {
+    fn read(&mut self, buf: &mut [u8]) -> io::Result<usize> {
+        self.reads = self.reads.saturating_add(1);
+        if !self.given.is_empty() && self.is_followed {
+            self.is_followed = self.is_there();
+        }
+        let count = self.chunks.read(buf)?;
+        self.given.extend_from_slice(&buf[..count])?;
+        Ok(count)
     }
 }
 

@@ -71,6 +71,11 @@ impl Room {
         self.take(rt, "out")
     }
 
+    /// Where a file is.
+    pub fn path(&self, rt: &HostRuntime, name: &str) -> io::Result<PathBuf> {
+        Ok(self.folder.join(rt.alloc(), name)?)
+    }
+
     /// What a file has, which is then removed.
     pub fn take(&self, rt: &HostRuntime, name: &str) -> io::Result<Vec<u8>> {
         let file = self.folder.join(rt.alloc(), name)?;
@@ -90,9 +95,8 @@ impl Room {
         symlink(rt, "/dev/full", self.folder.join(rt.alloc(), "out")?)
     }
 
-    /// Pipes what a reader gives into the folder, with these words more. Want of memory is an error. A test calls this, and no function
-    /// over any host: each such call is dear to prove.
-    pub fn pipe<I: Read>(&self, rt: &HostRuntime, more: &[&str], input: &mut I) -> io::Result<Ran> {
+    /// Pipes what a reader gives into the folder, with these words more. Want of memory is an error.
+    pub fn pipe<R: Host, I: Read>(&self, rt: &R, more: &[&str], input: &mut I) -> io::Result<Ran> {
         let ran = piped(rt, self.places(), more, input)?;
         if ran.status == NO_MEMORY {
             return Err(Error::from(ErrorKind::OutOfMemory));

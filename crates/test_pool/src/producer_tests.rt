@@ -25,6 +25,20 @@ fn a_producer_logs_and_flushes(rt: HostRuntime) {
     has(&rt, &report, 0, b"a\nb\n");
 }
 
+// In a queue of two places a hundred flushes find room one after another: each that finds none waits.
+#[test]
+fn flushes_wait_for_room(rt: HostRuntime) {
+    let alloc = rt.alloc();
+    let plan = Plan { queue: 2, ..PLAIN };
+    let setup = setup_of(alloc, plan, &[&[0]], &[NEVER]);
+    let mut trial = Trial::start(&rt, alloc, setup, OpenGate, 1);
+    for ticket in 0..100 {
+        trial.flush_wait(&rt, 0, ticket);
+    }
+    let report = trial.end(&rt);
+    has_totals(&rt, &report, 100, 0, 0);
+}
+
 // What a dump of two messages writes.
 const DUMPED: &[u8] = b"=== backtrace start ===\nm2\nm3\n=== backtrace end ===\n";
 

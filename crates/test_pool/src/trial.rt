@@ -306,6 +306,15 @@ impl<S: Store + Drop + Send + 'static> Trial<S> {
         assert!(rt; producer.flush(0) == Outcome::Posted { ticket, overran: 0 });
     }
 
+    /// It posts a flush of the first logger with waiting, under this ticket.
+    pub fn flush_wait(&mut self, rt: &(impl Abort + Wait + Clock), number: usize, ticket: u64) {
+        assert!(rt; number < self.producers.len());
+        let producer = &mut self.producers[number];
+        assert!(rt; producer.loggers().len() > 0);
+        let outcome = producer.flush_wait(rt, 0);
+        assert!(rt; outcome == Outcome::Posted { ticket, overran: 0 });
+    }
+
     /// It dumps the backtrace of the first logger, by so many posts. Where memory was wanting, it dumps it again.
     pub fn dump(
         &mut self,
