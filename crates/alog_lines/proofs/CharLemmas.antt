@@ -1,8 +1,7 @@
 -- The characters of bytes that others follow.
 use Rattle.std.proofs.Common.{◌≡◌, ◌+◌, ◌<◌, ◌≤◌, ℕ, true, List, [], ◌∷◌, ◌++◌, length, length-append, map, drop, slice_index, Some, None, encode_utf8, encode_utf8_all, refl}
 use Rattle.std.proofs.Common.{sym, ap, subst, ◌∙◌, arith, ⊎_elim}
-use Rattle.std.specs.Prelude.{Option, cond, is_none}
-use Rattle.std.specs.Option.{unwrap_or}
+use Rattle.std.specs.Prelude.{Option}
 use Rattle.std.proofs.lemmas.Bool.{and_parts, cases_lt, cases_eq}
 use Rattle.std.proofs.lemmas.List.{drop_at, get_or_append_left}
 use lib.Utf8.{scalars}
@@ -149,21 +148,3 @@ width_by bytes None is =
 
 pub size-width : (bytes : List ℕ) → (decoded bytes).size ≤ width (decoded bytes).char
 size-width bytes = width_by bytes (decoded bytes).char refl
-
--- the same in the words of `unwrap_or`
-pub text-or : (p : Piece) (c : Option ℕ) → (with_char p c).text ≡ p.text ++ encode_utf8 (unwrap_or c replacement)
-text-or p (Some c) = refl
-text-or p None = refl
-
-pub mended-or : (p : Piece) (c : Option ℕ) → (with_char p c).mended ≡ p.mended + cond (is_none c) 1 0
-mended-or p (Some c) = omega arith
-mended-or p None = refl
-
-ends-same : (p : Piece) (c : Option ℕ) → (with_char p c).ends ≡ p.ends
-ends-same p (Some c) = refl
-ends-same p None = refl
-
-pub piece_with : (p : Piece) (c : Option ℕ) (text : List ℕ) (mended : ℕ) → text ≡ p.text ++ encode_utf8 (unwrap_or c replacement)
-    → mended ≡ p.mended + cond (is_none c) 1 0 → record { text = text; mended = mended; ends = p.ends } ≡ with_char p c
-piece_with p c text mended text_is mended_is =
-    λ i. record { text = (text_is ∙ sym (text-or p c)) i; mended = (mended_is ∙ sym (mended-or p c)) i; ends = sym (ends-same p c) i }

@@ -1,5 +1,5 @@
 -- The first line of bytes, and those behind it.
-use Rattle.std.proofs.Common.{◌≡◌, ◌≢◌, ◌<◌, ℕ, zero, suc, List, [], ◌∷◌, ◌++◌, length, take, drop, Bool, true, false, cond, eqb, refl, ◌∙◌}
+use Rattle.std.proofs.Common.{◌≡◌, ◌≢◌, ◌<◌, ℕ, zero, suc, List, [], ◌∷◌, ◌++◌, length, drop, Bool, true, false, cond, eqb, refl, ◌∙◌}
 use Rattle.std.proofs.Common.{ap, arith}
 use Rattle.std.proofs.lemmas.Bool.{eqb-true}
 use Rattle.alog_lines.specs.Lines.{lines_of, begin_line, IsUnbroken}
@@ -53,11 +53,6 @@ line_begun (b ∷ c ∷ w) x h some =
     lines_of-cons b ((c ∷ w) ++ x) h.0 ∙ ap (begin_line b) (line_begun (c ∷ w) x h.1 (omega arith))
 
 -- fewer bytes of them have none either
-pub unbroken-take : (n : ℕ) (w : List ℕ) → IsUnbroken w → IsUnbroken (take n w)
-unbroken-take zero w h = tt
-unbroken-take (suc n) [] h = tt
-unbroken-take (suc n) (b ∷ w) h = (h.0, unbroken-take n w h.1)
-
 pub unbroken-drop : (n : ℕ) (w : List ℕ) → IsUnbroken w → IsUnbroken (drop n w)
 unbroken-drop zero w h = h
 unbroken-drop (suc n) [] h = tt

@@ -1,4 +1,2 @@
-mod Building
 mod Crosses
 mod Going
-mod Making

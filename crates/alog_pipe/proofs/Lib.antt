@@ -1,3 +1,2 @@
-mod Building
 mod Logging
 mod Pumping

@@ -1,5 +1,5 @@
 -- What becomes of one piece, and of the line that says that some are missing.
-use Rattle.std.proofs.Common.{◌≡◌, ◌⊎◌, ◌<◌, ◌≤◌, ℕ, zero, suc, ℤ, Bool, true, false, List, [], ◌∷◌, length, None, Some, refl, sym, ap, subst, ◌∙◌, arith, inl, inr}
+use Rattle.std.proofs.Common.{◌≡◌, ◌⊎◌, ◌≤◌, ℕ, ℤ, Bool, true, false, List, length, None, refl, sym, ap, subst, ◌∙◌, arith, inl, inr}
 use Rattle.alog_msg.specs.declared.message.MessageError.{MessageError}
 use Rattle.alog_msg.specs.declared.message.MessageError.TheVariants as message
 use Rattle.alog_pipe.specs.Logged.{IsReady, KeepsPiece, LogsFound, LogsPiece, LogsPieceAt, LogsText, LosesPiece, Tells, by, is_kept, missed_by}
@@ -8,16 +8,7 @@ use Rattle.alog_pipe.specs.declared.piece_log.Told.TheVariants as told
 use Rattle.alog_pool.specs.Producer.{ProducerView, IsSame}
 use Rattle.alog_pool.specs.declared.shared.Shared.{Shared}
 use Rattle.alog_registry.specs.Given.{IsReason}
-use Rattle.alog_registry.specs.Listed.{spec_at}
-use Rattle.alog_registry.specs.declared.logger.Logger.{Logger}
-use Rattle.alog_registry.specs.declared.logger.Spec.{Spec}
 use Rattle.alog_registry.specs.declared.logging.LogReply.{LogReply}
-
--- there is a logger of each number
-pub spec_there : (ls : List Logger) (n : ℕ) → n < length ls → (s : Spec) × (spec_at ls n ≡ Some s)
-spec_there [] n below = absurd (omega (arith, below))
-spec_there (l ∷ ls) zero below = (l.spec, refl)
-spec_there (l ∷ ls) (suc n) below = spec_there ls n (omega (arith, below))
 
 -- a text that is short enough, and has no source, is refused for want of memory alone
 pub wants_memory : (limit : ℕ) (text : List ℕ) (e : MessageError) → length text ≤ limit → IsReason limit text None e → e ≡ message.OutOfMemory

@@ -1,9 +1,9 @@
 -- Pieces that are found and logged one after the other.
-use Rattle.std.proofs.Common.{◌≡◌, ◌<◌, ℕ, ℤ, true, false, List, [], ◌∷◌, ◌++◌, length, length-append, Option, None, Some, refl, sym, ap, subst, ◌∙◌, arith, append_assoc}
+use Rattle.std.proofs.Common.{◌≡◌, ℕ, ℤ, true, false, List, [], ◌∷◌, ◌++◌, length, Option, None, Some, refl, sym, ap, subst, ◌∙◌, arith, append_assoc}
 use Rattle.std.specs.Io.KnownBytes.{Consumes, IsAtEnd}
 use Rattle.std.proofs.lemmas.List.{append-nil}
 use Rattle.alog_lines.proofs.SharedCutting.{begins, ends_whole, reads_on, takes_on}
-use Rattle.alog_lines.specs.Cutting.{Cutting, HasCut, IsSame as IsSameCut, LacksPiece, Reads, Takes}
+use Rattle.alog_lines.specs.Cutting.{Cutting, HasCut, IsSame as IsSameCut, LacksPiece, Reads}
 use Rattle.alog_lines.specs.Lines.{IsUnbroken}
 use Rattle.alog_lines.specs.Pieces.{Piece}
 use Rattle.alog_pipe.specs.Counted.{counted, with_piece}
@@ -47,12 +47,6 @@ pub takes_same : (ps : List Piece) (old new : Cutting) → TakesAll ps old new �
 takes_same [] old new same = (ap (λ (s : Cutting). s.limit) same, ap (λ (s : Cutting). s.ended) same)
 takes_same (p ∷ ps) old new all =
     let rest = takes_same ps all.0 new all.2 in (rest.0 ∙ all.1.1.0, rest.1 ∙ all.1.1.1)
-
--- fewer bytes are pending
-pub takes_fewer : {p : Piece} {old new : Cutting} → Takes old new p → length new.pending < length old.pending
-takes_fewer {p} {old} {new} t =
-    let size = ap length t.whole ∙ length-append t.taken new.pending in
-    let some = t.some in omega (arith, size, some)
 
 -- what was read at first, and then
 pub consumes_on : (a b c : Option (List ℕ)) (xs ys : List ℕ) → Consumes a b xs → Consumes b c ys → Consumes a c (xs ++ ys)

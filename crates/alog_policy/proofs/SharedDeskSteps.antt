@@ -56,14 +56,6 @@ desk_is {T} d w ps c e f g =
     ap (λ (m : Machine T). D m d.posts d.counts) e
     ∙ (ap (λ (qs : List (Option (Post T))). D w qs d.counts) f ∙ ap (λ (k : Counts). D w ps k) g)
 
--- a turn leaves the queue and its places as the step left them
-pub turn_queue : {T : Type 0} (w : Machine T) (a : ℕ) (p : Post T) (c : Counts) (v : Option T) (f : Follows)
-    → (turn_to w a p c v f).world.queue ≡ w.queue
-turn_queue w a p c v Stays = refl
-turn_queue w a p c v (Ends t) = refl
-turn_queue w a p c v (Leads (Ok g)) = refl
-turn_queue w a p c v (Leads (Err l)) = refl
-
 begins_no_look : {T : Type 0} (s : Side) (v : Option T) (t : ℕ) → call_of s v ≢ round.PopFronted t
 begins_no_look Push None t e = cc
 begins_no_look Push (Some x) t e = cc

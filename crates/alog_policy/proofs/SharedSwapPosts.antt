@@ -4,7 +4,7 @@ use Rattle.alog_core.specs.Queue.{Event}
 use Rattle.alog_policy.specs.Outlet.{Posts}
 use Rattle.alog_policy.specs.Post.{writes_in, events_of_rounds, events_of_end, outcome_of, takes_in, IsPost}
 use Rattle.alog_policy.specs.Post.{End, Wrote, OutOfTickets, NoRoom, NothingToTake, AllGrabbed, OutOfRounds}
-use Rattle.alog_policy.specs.SwapPort.{IsThere, HandDid, HandLeft, SwapDid, SwapPortDid}
+use Rattle.alog_policy.specs.SwapPort.{IsThere, HandDid, HandLeft, SwapPortDid}
 use Rattle.alog_policy.specs.declared.policy.Policy.{Policy}
 use Rattle.alog_policy.specs.declared.policy.Outcome.{Outcome}
 use Rattle.alog_policy.specs.declared.swap_port.SwapPort.{SwapPort}
@@ -48,7 +48,3 @@ module _ {B T W L V : Type 0} (admits : L → B → Type 0) (p : Policy) (x : T)
   -- what a post leaves in the hand
   pub hand_left : HandLeft (admits a.ring.now.ring.limit) a.hand.now o b.hand.now
   hand_left = post_leaves (admits a.ring.now.ring.limit) a.hand.now b.hand.now p x v post.events o post.post post.done.1
-
-  -- the same post, of whose blocks nothing is said
-  pub posted_at_all : Posts SwapDid p x v a b o
-  posted_at_all = record { events = post.events; post = post.post; done = post.done.0 }

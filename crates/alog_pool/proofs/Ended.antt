@@ -1,6 +1,6 @@
 -- A pool came to its end: no stop was put in before all producers had come back, and no text or flush after it. So what the
 -- producers put in, they or the workers took out.
-use Rattle.std.proofs.Common.{◌≡◌, ℕ, ◌+◌, ◌≤◌, cond, List, [], ◌∷◌, ◌++◌, refl, sym, ap, subst, ◌∙◌, append_assoc, append-nil, inl, inr, arith}
+use Rattle.std.proofs.Common.{◌≡◌, ℕ, ◌+◌, ◌≤◌, cond, List, [], ◌∷◌, ◌++◌, refl, sym, ap, subst, ◌∙◌, append_assoc, append-nil, inr, arith}
 use Rattle.std.specs.List.{AllByRecursion, sum_by}
 use Rattle.std.proofs.lemmas.List.Sums.{sum_by-cons, sum_by-append}
 use Rattle.alog_core.specs.Accounts.{got_by, claims, takes, weigh, claimed, taken}
@@ -124,11 +124,6 @@ module _ (a : ℕ) (own stops : List Deed) (producers workers : List One) (s t :
 pub ended_second : (ms ns : List One) → HasEndedAmong ns → HasEndedAmong (ms ++ ns)
 ended_second [] ns ended = ended
 ended_second (m ∷ ms) ns ended = inr (ended_second ms ns ended)
-
-pub ended_first : (ms ns : List One) → HasEndedAmong ms → HasEndedAmong (ms ++ ns)
-ended_first [] ns ended = absurd ended
-ended_first (m ∷ ms) ns (inl is) = inl is
-ended_first (m ∷ ms) ns (inr ended) = inr (ended_first ms ns ended)
 
 stands_at_end : (j k : Known Item block_note) (workers : List One) (e : IsEndingFrom j k workers) → IsWhole k
     → Stands j.actor (j.own ++ e.stops) (j.joined ++ workers) (j.seen ++ e.seen.0)

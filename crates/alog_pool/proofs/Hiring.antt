@@ -1,6 +1,6 @@
 -- A worker that begins.
 use Rattle.std.proofs.Common.{Bool, true, false, ◌≡◌, ◌≤◌, ℕ, zero, suc, ◌+◌, ◌%◌, ◌^◌, List, [], ◌∷◌, ◌++◌, map, take, refl, sym, ap, subst, ◌∙◌, arith}
-use Rattle.std.proofs.lemmas.List.{map-id}
+use Rattle.std.proofs.lemmas.List.{map-append, map-id}
 use Rattle.std.proofs.lemmas.List.FromFn.{map-range_with_len_more}
 use Rattle.std.specs.List.{AllByRecursion, range_with_len}
 use Rattle.alog_core.specs.Accounts.{claims, takes, grabbed, handed_out, taken}
@@ -12,7 +12,6 @@ use Rattle.alog_pool.specs.Accounts.{of_work, work_tickets}
 use Rattle.alog_pool.specs.SinkSeat.{SinkSeatView, places_of}
 use Rattle.alog_pool.specs.Working.{AreLimited, IsFresh, IsWorkOf, numbers_of}
 use Rattle.alog_pool.specs.declared.worker.Worker.{Worker}
-use Rattle.alog_pool.proofs.SharedBack.{map_more}
 use Rattle.alog_registry.specs.BlockPort.{block_note}
 use Rattle.alog_ring.specs.Known.{Known, PassView}
 use Rattle.alog_ring.specs.Made.{IsFaithful}
@@ -80,6 +79,6 @@ pub number_more : {S A : Type 0} (f : A → Worker S) (xs : List A) (a : A) (n :
 number_more {S} {A} f xs a n are next =
     let go : List ℕ → List ℕ = λ l. map (λ (i : ℕ). i) l in
     let longer : go (range_with_len 0 (n + 1)) ≡ go (range_with_len 0 n) ++ n ∷ [] = map-range_with_len_more (λ (i : ℕ). i) 0 n n (omega arith) in
-    ap (λ l. numbers_of l) (map_more f xs a) ∙ map_more (λ (h : Worker S). h.number) (map f xs) (f a)
+    ap (λ l. numbers_of l) (map-append f xs (a ∷ [])) ∙ map-append (λ (h : Worker S). h.number) (map f xs) (f a ∷ [])
     ∙ ap (λ l. l ++ (f a).number ∷ []) are ∙ ap (λ i. range_with_len 0 n ++ i ∷ []) next
     ∙ sym (sym (map-id (range_with_len 0 (n + 1))) ∙ longer ∙ ap (λ l. l ++ n ∷ []) (map-id (range_with_len 0 n)))

@@ -4,16 +4,11 @@ use Rattle.std.specs.List.{AllByRecursion}
 use Rattle.alog_lane.specs.declared.seat.TheConstants.{ALL_PARTS}
 use Rattle.alog_pool.specs.SinkSeat.{SinkSeatView}
 use Rattle.alog_pool.specs.BacktraceSeat.{BacktraceSeatView}
-use Rattle.alog_pool.specs.Places.{Each3, IsPart, IsBacktraceSeatPart, AreSpare}
+use Rattle.alog_pool.specs.Places.{Each3, IsPart, IsBacktraceSeatPart}
 use Rattle.alog_pool.specs.Pool.{IsIdleSeat, IsNew, IsUnused, backtrace_seat_lanes, lanes_of}
 use Rattle.alog_pool.specs.Producer.{AreBacktraceSeats}
 
 module _ {S : Type 0} where
-  pub are_spare : (n : ℕ) (bs : List (SinkSeatView S)) → n < 64
-      → AllByRecursion (λ (b : SinkSeatView S). b.seat.known.parts + n ≡ ALL_PARTS) bs → AreSpare bs
-  are_spare n [] few all = tt
-  are_spare n (b ∷ bs) few all = let one = all.0 in (omega (arith, few, one), are_spare n bs few all.1)
-
   pub sink_seat_parts_left : (n : ℕ) (old new given : List (SinkSeatView S)) → n < 64 → Each3 IsPart old new given
       → AllByRecursion (λ (b : SinkSeatView S). b.seat.known.parts + n ≡ ALL_PARTS) old
       → AllByRecursion (λ (b : SinkSeatView S). b.seat.known.parts + (n + 1) ≡ ALL_PARTS) new
@@ -81,12 +76,6 @@ module _ {S : Type 0} where
         },
         still_unused bs cs ds each.1 all.1,
       )
-
-pub backtrace_seats_spare : (n : ℕ) (ks : List BacktraceSeatView) → n < 4096
-    → AllByRecursion (λ (k : BacktraceSeatView). k.seat.known.parts + n ≡ ALL_PARTS) ks
-    → AllByRecursion (λ (k : BacktraceSeatView). 1 < k.seat.known.parts) ks
-backtrace_seats_spare n [] few all = tt
-backtrace_seats_spare n (k ∷ ks) few all = let one = all.0 in (omega (arith, few, one), backtrace_seats_spare n ks few all.1)
 
 pub backtrace_seat_parts_left : (n : ℕ) (old new given : List BacktraceSeatView) → n < 4096 → Each3 IsBacktraceSeatPart old new given
     → AllByRecursion (λ (k : BacktraceSeatView). k.seat.known.parts + n ≡ ALL_PARTS) old

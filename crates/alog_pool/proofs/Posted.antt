@@ -1,10 +1,9 @@
 -- What the producers of a pool posted and none of them overran is what its workers took.
-use Rattle.std.proofs.Common.{◌≡◌, ◌≢◌, ◌⊎◌, ℕ, zero, suc, ◌+◌, ◌<◌, ◌≤◌, ◌==◌, cond, List, [], ◌∷◌, ◌++◌, map, All, AllPairs, Contains}
+use Rattle.std.proofs.Common.{◌≡◌, ◌≢◌, ◌⊎◌, ℕ, zero, suc, ◌+◌, ◌<◌, ◌≤◌, ◌==◌, cond, List, [], ◌∷◌, ◌++◌, map, Contains}
 use Rattle.std.proofs.Common.{inl, inr, refl, sym, ap, subst, ◌∙◌, arith}
 use Rattle.std.specs.List.{AllByRecursion, sum_by}
 use Rattle.std.proofs.lemmas.Bool.Decides.{leb_tells}
-use Rattle.std.proofs.lemmas.List.Elements.{All-nil, All-cons, Contains-append_left, Contains-append_right, Contains-append_cases}
-use Rattle.std.proofs.lemmas.List.Kept.{AllPairs-cons}
+use Rattle.std.proofs.lemmas.List.Elements.{Contains-append_left, Contains-append_right, Contains-append_cases}
 use Rattle.std.proofs.lemmas.List.Sums.{sum_by-cons, sum_by-append}
 use Rattle.alog_core.specs.Accounts.{put_by, got_by, claims, takes, issued, weigh, claimed, taken}
 use Rattle.alog_core.specs.History.{Entry, own_of, IsLegalFrom}
@@ -12,7 +11,7 @@ use Rattle.alog_core.specs.Queue.{Queue, Event, Claim, Write, Grab, Take, Full, 
 use Rattle.alog_core.proofs.SharedAccounts.{accounts_balance, weigh-append}
 use Rattle.alog_core.proofs.SharedCells.{on_test}
 use Rattle.alog_core.proofs.SharedItems.{tickets_keep_their_items}
-use Rattle.alog_core.proofs.SharedTickets.{times, times_contained, issued_once}
+use Rattle.alog_core.proofs.SharedTickets.{times, times_contained, apart_by_times, issued_once}
 use Rattle.alog_msg.specs.declared.item.Item.{Item}
 use Rattle.alog_msg.specs.declared.item.Item.TheVariants.{Text, Flush, Stop}
 use Rattle.alog_pool.specs.Accounts.{work_tickets}
@@ -112,21 +111,6 @@ module _ {A B : Type 0} where
         | inl now ↦ (y, first_at y xs, now)
         | inr later ↦ let is = of_together f xs z later in (is.0, later_at is.0 y xs is.1, is.2)
       ]
-
--- tickets of which each stands once
-none_of : (t : ℕ) (us : List ℕ) → times t us ≡ 0 → All (λ u. t ≢ u) us
-none_of t [] h = All-nil (λ u. t ≢ u)
-none_of t (u ∷ us) h =
-    on_test (λ b. cond b 1 0 + times t us ≡ 0 → All (λ v. t ≢ v) (u ∷ us)) u t (λ _ bad. absurd (omega (arith, bad)))
-    (λ other none. All-cons (λ v. t ≢ v) u us (λ e. other (sym e)) (none_of t us (omega (arith, none)))) h
-
-apart : (us : List ℕ) → ((t : ℕ) → times t us ≤ 1) → AllPairs (λ t u. t ≢ u) us
-apart [] once = λ i j d less within. absurd (omega (arith, within))
-apart (u ∷ us) once =
-    let first : times u us ≡ 0 =
-    on_test (λ b. cond b 1 0 + times u us ≤ 1 → times u us ≡ 0) u u (λ _ h. omega (arith, h)) (λ other _. absurd (other refl))
-    (once u)
-    in AllPairs-cons (λ t v. t ≢ v) u us (none_of u us first) (apart us (λ t. omega (arith, once t)))
 
 -- the weight that counts one ticket, and that which counts it where it is no stop
 abbrev one : ℕ → ℕ → Item → ℕ
@@ -483,7 +467,7 @@ module _ {S : Type 0} (producers : List ProducerView) (crew : List (Worker S)) (
   pub posted : ArePosted producers (together (map work_by crew))
   posted = record {
     each = λ i. (λ c. was_put i c, λ is. came_out i is.0 is.1 is.2);
-    once = apart (tickets_of (together (map work_by crew)))
+    once = apart_by_times (tickets_of (together (map work_by crew)))
         (λ t.
         let once = taken_once t in
         let less = weigh_together (one t) crew in

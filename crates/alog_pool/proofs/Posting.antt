@@ -1,5 +1,5 @@
 -- What a post adds to a producer's account: it puts no stop in, and its losses are the items that it takes.
-use Rattle.std.proofs.Common.{◌≡◌, ◌⊎◌, ℕ, ◌+◌, List, [], ◌∷◌, ◌++◌, refl, ap, ◌∙◌, append_assoc, inl, inr, arith}
+use Rattle.std.proofs.Common.{◌≡◌, ◌⊎◌, ℕ, ◌+◌, List, [], ◌∷◌, ◌++◌, refl, sym, ap, ◌∙◌, append_assoc, inl, inr, arith}
 use Rattle.std.proofs.lemmas.List.Sums.{sum_by-append}
 use Rattle.alog_core.specs.Accounts.{put_by, got_by, claims, takes, weigh, claimed, taken}
 use Rattle.alog_core.specs.History.{Entry}
@@ -13,11 +13,11 @@ use Rattle.alog_policy.specs.Port.{SeatCounted}
 use Rattle.alog_policy.specs.SwapPort.{AreBy, SwapMade, SwapDid}
 use Rattle.alog_policy.specs.Post.{Round, PushBeaten, Overran, PopBeaten, Waited, events_of_round, events_of_rounds}
 use Rattle.alog_policy.specs.Post.{End, Wrote, OutOfTickets, NoRoom, NothingToTake, AllGrabbed, OutOfRounds, events_of_end}
-use Rattle.alog_policy.specs.Post.{outcome_of}
 use Rattle.alog_policy.specs.Post.{IsPost, take_in, takes_in, overran_in}
 use Rattle.alog_policy.specs.Rounds.{entries_by}
 use Rattle.alog_policy.specs.declared.policy.Outcome.{Outcome}
 use Rattle.alog_policy.specs.declared.policy.Policy.{Policy}
+use Rattle.alog_policy.proofs.SharedLosses.{overran_takes}
 use Rattle.alog_pool.specs.Accounts.{of_all, stop, of_stops}
 use Rattle.alog_pool.specs.Lending.{IsAccountOf}
 use Rattle.alog_pool.proofs.Sums.{claimed-append, taken-append}
@@ -77,14 +77,6 @@ end_stops a x (NothingToTake f t) none = refl
 end_stops a x (AllGrabbed f t) none = refl
 end_stops a x OutOfRounds none = refl
 
-overran_is : {V : Type 0} (v : V) (k : ℕ) (e : End) → overran_in (outcome_of v k e) ≡ k
-overran_is v k (Wrote t) = refl
-overran_is v k OutOfTickets = refl
-overran_is v k (NoRoom f) = refl
-overran_is v k (NothingToTake f t) = refl
-overran_is v k (AllGrabbed f t) = refl
-overran_is v k OutOfRounds = refl
-
 module _ {V : Type 0} (p : Policy) (x : Item) (v : V) (es : List (Event Item)) (o : Outcome V) (post : IsPost p x v es o) where
   pub post_stops : (a : ℕ) → stop x ≡ 0 → claimed of_stops (entries_by a es) ≡ 0
   post_stops a none =
@@ -93,7 +85,7 @@ module _ {V : Type 0} (p : Policy) (x : Item) (v : V) (es : List (Event Item)) (
       ∙ end_stops a x post.end none
 
   pub post_takes : overran_in o ≡ takes_in es
-  post_takes = ap (λ (q : Outcome V). overran_in q) post.outcome_is ∙ overran_is v (takes_in es) post.end
+  post_takes = sym (overran_takes p x v es o post)
 
 -- what a port's pass and its seat did
 record PassAdded (k l : Known Item block_note) (n : ℕ) : Type 0 where

@@ -32,6 +32,7 @@ use Rattle.alog_registry.specs.declared.logger.Spec.{Spec}
 use Rattle.alog_registry.specs.declared.logging.LogReply.{LogReply}
 use Rattle.alog_registry.specs.declared.logging.LogReply.TheVariants.{Filtered, Logged}
 use Rattle.alog_registry.specs.BlockPort.{BlockPort, IsReadyPort, block_note}
+use Rattle.alog_registry.proofs.SharedListing.{spec_there}
 use Rattle.alog_ring.specs.Known.{PassView, IsPassOf}
 use Rattle.alog_ring.specs.Swaps.{SwapId}
 
@@ -130,18 +131,12 @@ logs_now p s m {a} {k} (Logged o kept) {b} {l} is =
 nothing_done : (a : Queueing) (k : LaneKeeper) (b : Queueing) (l : LaneKeeper) → b ≡ a → l ≡ k → LeavesLent a k b l
 nothing_done a k b l e f = let s = same_keeper k l f in record { port = same_port a b e; keeper = s.0; list = s.1 }
 
--- a number that is one of the list has a spec
-pub has_spec : (ls : List Logger) (n : ℕ) → n < length ls → (s : Spec) × (spec_at ls n ≡ Some s)
-has_spec [] n low = absurd (omega (arith, low))
-has_spec (x ∷ ls) zero low = (x.spec, refl)
-has_spec (x ∷ ls) (suc n) low = has_spec ls n (omega (arith, low))
-
 -- whatever a log with waiting answered
 pub log_leaves : (ls : List Logger) (n : ℕ) (m : Message) {a : Queueing} {k : LaneKeeper}
     (r : Result LogReply MessageError) {b : Queueing} {l : LaneKeeper} → n < length ls
     → ((s : Spec) → spec_at ls n ≡ Some s → IfOk r (λ x. Logs SwapDid KeepsByTurn NeverPasses s.policy s m a k x b l))
     → OnErr r ((b ≡ a) × (l ≡ k)) → LeavesLent a k b l
-log_leaves ls n m {a} {k} (Ok x) {b} {l} low ok err = let s = has_spec ls n low in logs_waiting s.0.policy s.0 m {a = a} {k = k} x {b = b} {l = l} (ok s.0 s.1)
+log_leaves ls n m {a} {k} (Ok x) {b} {l} low ok err = let s = spec_there ls n low in logs_waiting s.0.policy s.0 m {a = a} {k = k} x {b = b} {l = l} (ok s.0 s.1)
 log_leaves ls n m {a} {k} (Err e) {b} {l} low ok err = nothing_done a k b l err.0 err.1
 
 -- whatever a log without waiting answered
@@ -150,7 +145,7 @@ pub log_now_leaves : (policy_of : Spec → Policy) (ls : List Logger) (n : ℕ) 
     → ((s : Spec) → spec_at ls n ≡ Some s → IfOk r (λ x. Logs SwapDid KeepsByTurn Passes (policy_of s) s m a k x b l))
     → OnErr r ((b ≡ a) × (l ≡ k)) → LeavesLent a k b l
 log_now_leaves policy_of ls n m {a} {k} (Ok x) {b} {l} low ok err =
-    let s = has_spec ls n low in logs_now (policy_of s.0) s.0 m {a = a} {k = k} x {b = b} {l = l} (ok s.0 s.1)
+    let s = spec_there ls n low in logs_now (policy_of s.0) s.0 m {a = a} {k = k} x {b = b} {l = l} (ok s.0 s.1)
 log_now_leaves policy_of ls n m {a} {k} (Err e) {b} {l} low ok err = nothing_done a k b l err.0 err.1
 
 -- whatever a dump answered
@@ -160,7 +155,7 @@ pub dump_leaves : {X E : Type 0} (items : X → List (Outcome (Unit {0}))) (ls :
     × PostsEach SwapDid (without_waiting s.policy) (messages d) a (items v) b))
     → OnErr r ((b ≡ a) × (l ≡ k)) → LendsAlike a b × LendsSame k l
 dump_leaves items ls n messages {a} (Ok v) {b} low ok err =
-    let s = has_spec ls n low in
+    let s = spec_there ls n low in
     let is = ok s.0 s.1 in
     (each_port (without_waiting s.0.policy) (messages is.0) a b (items v) is.2, is.1.lends)
 dump_leaves items ls n messages {a} {k} (Err e) {b} {l} low ok err = (same_port a b err.0, (same_keeper k l err.1).0)

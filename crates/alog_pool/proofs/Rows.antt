@@ -1,6 +1,7 @@
 -- Places that come back, worker by worker.
 use Rattle.std.proofs.Common.{◌≡◌, List, [], ◌∷◌, ◌++◌, refl, sym, ap, subst, ◌∙◌}
 use Rattle.std.specs.List.{AllByRecursion}
+use Rattle.std.proofs.lemmas.List.{map-append}
 use Rattle.alog_format.specs.Buffer.{Buffer}
 use Rattle.alog_lane.specs.Seats as lane
 use Rattle.alog_lane.specs.Turns.{Turned}
@@ -11,7 +12,7 @@ use Rattle.alog_pool.specs.Collected.{HasPlacesBack, HaveBack, TakesBack}
 use Rattle.alog_pool.specs.Places.{Each2, Each3, IsSameLane}
 use Rattle.alog_pool.specs.Pool.{IsNew, IsUnused, lanes_of}
 use Rattle.alog_pool.specs.Rows.{heads, tails}
-use Rattle.alog_pool.proofs.SharedBack.{map_more, seats_start, seats_one, sum_more}
+use Rattle.alog_pool.proofs.SharedBack.{seats_start, seats_one, sum_more}
 
 module _ {A : Type 0} where
   pub heads_more : (rows : List (List A)) (x : A) (xs : List A) → heads (rows ++ (x ∷ xs) ∷ []) ≡ heads rows ++ x ∷ []
@@ -43,7 +44,7 @@ module _ {S : Type 0} where
       record {
         lane = takes.lane ∙ back.lane;
         seats = subst (λ (ms : List (lane.Member (Turned Item Buffer Answer))). HasSeatsBack b.seat.known d.seat.known ms)
-            (sym (map_more f column w))
+            (sym (map-append f column (w ∷ [])))
             (seats_one w.seat.known {l = d.seat.known} back.seats takes.joined one.1 one.0);
         faults = takes.faults ∙ sum_more (λ (p : SinkSeatView S). p.faults) column w c.faults back.faults;
       }

@@ -13,20 +13,12 @@ use Rattle.alog_ring.specs.Made.{IsFaithful}
 use Rattle.alog_ring.specs.Share.{Joins}
 use Rattle.alog_ring.proofs.SharedLists.{prefix_same, prefix_through}
 
-pub map_more : {A B : Type 0} (f : A → B) (xs : List A) (x : A) → map f (xs ++ x ∷ []) ≡ map f xs ++ f x ∷ []
-map_more f [] x = refl
-map_more {A} {B} f (y ∷ xs) x = ap (λ (l : List B). f y ∷ l) (map_more f xs x)
-
 pub sum_of_map : {A B : Type 0} (f : A → B) (g : B → ℕ) (xs : List A) → sum_by g (map f xs) ≡ sum_by (λ x. g (f x)) xs
 sum_of_map f g [] = refl
 sum_of_map f g (x ∷ xs) =
     let one : sum_by g (f x ∷ map f xs) ≡ g (f x) + sum_by g (map f xs) = sum_by-cons g (f x) (map f xs) in
     let two : sum_by (λ y. g (f y)) (x ∷ xs) ≡ g (f x) + sum_by (λ y. g (f y)) xs = sum_by-cons (λ y. g (f y)) x xs in
     omega (arith, one, two, sum_of_map f g xs)
-
-pub map_map : {A B C : Type 0} (f : A → B) (g : B → C) (xs : List A) → map g (map f xs) ≡ map (λ x. g (f x)) xs
-map_map f g [] = refl
-map_map {A} {B} {C} f g (x ∷ xs) = ap (λ (l : List C). g (f x) ∷ l) (map_map f g xs)
 
 -- a sum modulo 2^64, with one more
 pub sum_more : {A : Type 0} (f : A → ℕ) (xs : List A) (x : A) (n : ℕ) → n ≡ sum_by f xs % 2 ^ 64

@@ -51,6 +51,16 @@ impl<S: Store + Drop + Send + 'static> Pool<S> {
                 producers,
             });
         }
+        Ok(self.end(rt, producers))
+    }
+
+    /// Ends the pool, whose producers have all come back.
+    fn end<R: Threads + Wait + Clock>(self, rt: &R, producers: Vec<Producer>) -> Report<S>
+        requires own { AllByRecursion (λ p. p.shared ≡ self.shared) producers.items }
+        requires enough { self.made ≤ length producers.items }
+        ensures all { length producers.items ≡ self.made }
+        ensures ends { Ends S.tells S.files S.failures self producers.items result }
+    {
         let Pool {
             alloc: _,
             shared,
@@ -83,12 +93,12 @@ impl<S: Store + Drop + Send + 'static> Pool<S> {
         let _whole = shared.ring.is_whole(&mut pass);
         let lost = close_book(rt, shared, losses);
         close_sink_seats(rt, sink_seats, &mut faults, &mut sinks);
-        Ok(Report {
+        Report {
             totals: Totals::of(lost, handled),
             tickets,
             faults,
             sinks,
-        })
+        }
     }
 }
 

@@ -35,8 +35,9 @@ use Rattle.alog_sink.specs.declared.target.Target.TheVariants as targets
 use Rattle.alog_system.specs.Named.{AreEmpty}
 use Rattle.alog_replay.proofs.AlikeSinks.{AlikeLeaves, AlikeSinks, AllLeaves, AllSinks}
 use Rattle.alog_replay.proofs.LoggersOf.{IsSameLogger}
+use Rattle.alog_config.proofs.SharedApart.{names_apart}
 use Rattle.alog_replay.proofs.Pairing.{all_at, apart_picked, each_both, each_map, each_same, key_at, mapped_at, one_place, pairs_of}
-use Rattle.alog_replay.proofs.Pairing.{picked_pairs, sinks_apart}
+use Rattle.alog_replay.proofs.Pairing.{picked_pairs}
 
 -- each string has one reading
 abbrev pub OneReading : Type 0
@@ -126,7 +127,7 @@ module _ {S : Type 0} (law : OneReading) (tells : Bool) (tell : tells ≡ true) 
       subst (λ (z : Sink S). AreAlone files z y) (sym o.is) (subst (λ (z : Sink S). AreAlone files (Leaf o.leaf) z) (sym p.is) alike)
 
   names_apart : Apart (λ (s : SinkConfig). s.name) c.sinks.items
-  names_apart = sinks_apart c.text [] c.sinks.items c.sound.each_sink
+  names_apart = names_apart c.text [] c.sinks.items c.sound.each_sink
 
   named_pair : (name : List ℕ) (x y : Sink S) → IsNamed b.parts name x → IsNamed d.parts name y → AreAlone files x y
   named_pair name x y h g =

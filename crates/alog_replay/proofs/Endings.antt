@@ -176,7 +176,7 @@ module _ {S : Type 0} (scene : Scene S) where
           | inr d ↦ elim d.1 [
             | inl e ↦ let t = some_told scene goes (lines_of pending) e.0 (to.count + 1) in
                 line_read pending xs p k (told_behind d.0 t.0)
-                (done_told scene to.stage e.0 to.count line d.0 (lines_of pending) t.0 e.1 t.1) (front_longer d.0 t.0 to.held new d.2)
+                (done_told scene to.count (lines_of pending) t.0 e.1 t.1) (front_longer d.0 t.0 to.held new d.2)
             | inr e ↦ line_read pending xs p k (RefusedAt (to.count + 1) d.0)
                 (refused_told scene to.stage to.count line d.0 (lines_of pending) e) d.2
           ]

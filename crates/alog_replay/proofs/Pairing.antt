@@ -1,14 +1,11 @@
 -- Two lists that go together, what is picked of both, and items at the place of a name.
-use Rattle.std.proofs.Common.{◌≡◌, ◌↔◌, ℕ, zero, suc, Some, List, [], ◌∷◌, ◌++◌, map, inl, inr, refl, sym, ap, subst, ◌∙◌}
+use Rattle.std.proofs.Common.{◌≡◌, ◌↔◌, ℕ, zero, suc, Some, List, [], ◌∷◌, map, inl, inr, refl, sym, ap, subst, ◌∙◌}
 use Rattle.std.specs.Prelude.{slice_get}
 use Rattle.std.specs.List.{AllByRecursion}
 use Rattle.std.specs.Option.{option_map}
 use Rattle.std.proofs.lemmas.Option.{none-some, same_Some}
 use Rattle.alog_config.specs.Built.{ArePicked, EachIs}
-use Rattle.alog_config.specs.Sinks.{IsSinkName}
-use Rattle.alog_config.specs.Sound.{AreSoundSinks}
-use Rattle.alog_config.specs.declared.config.SinkConfig.{SinkConfig}
-use Rattle.alog_config.proofs.SharedPicking.{Apart, Has, has_any, has_left, has_right}
+use Rattle.alog_config.proofs.SharedPicking.{Apart, Has, picked_back}
 
 -- what holds of each item holds of that at a place
 pub all_at : {A : Type 0} (P : A → Type 0) (xs : List A) (n : ℕ) (x : A) → AllByRecursion P xs → slice_get xs n ≡ Some x → P x
@@ -43,36 +40,13 @@ one_place key (x ∷ xs) (suc i) zero name h f g =
     absurd (h.0 (subst (λ n. Has (λ y. key y ≡ n) xs) (sym (same_Some (key x) name g)) (has_key key xs i name f)))
 one_place key (x ∷ xs) (suc i) (suc j) name h f g = ap suc (one_place key xs i j name h.1 f g)
 
--- the names of sinks are apart
-none_earlier : (limit : ℕ) (earlier ss : List SinkConfig) (name : List ℕ) → AreSoundSinks limit earlier ss → Has (λ s. s.name ≡ name) ss
-    → ¬ Has (λ (s : SinkConfig). s.name ≡ name) earlier
-none_earlier limit earlier [] name h has before = has
-none_earlier limit earlier (s ∷ ss) name h (inl e) before =
-    h.0.free (subst (λ n. IsSinkName earlier n) (sym e) (has_any (λ (x : SinkConfig). x.name ≡ name) earlier before))
-none_earlier limit earlier (s ∷ ss) name h (inr has) before =
-    none_earlier limit (earlier ++ s ∷ []) ss name h.1 has (has_left (λ (x : SinkConfig). x.name ≡ name) earlier (s ∷ []) before)
-
-pub sinks_apart : (limit : ℕ) (earlier ss : List SinkConfig) → AreSoundSinks limit earlier ss → Apart (λ (s : SinkConfig). s.name) ss
-sinks_apart limit earlier [] h = tt
-sinks_apart limit earlier (s ∷ ss) h = (
-  λ has. none_earlier limit (earlier ++ s ∷ []) ss s.name h.1 has
-      (has_right (λ (x : SinkConfig). x.name ≡ s.name) earlier (s ∷ []) (inl refl)),
-  sinks_apart limit (earlier ++ s ∷ []) ss h.1,
-)
-
 -- the keys of what is picked are apart, where those of all are
-picked_from : {A : Type 0} (P Q : A → Type 0) (all picked : List A) → ArePicked P all picked → Has Q picked → Has Q all
-picked_from {A} P Q [] picked h has = subst (λ (xs : List A). Has Q xs) h has
-picked_from {A} P Q (x ∷ all) picked (inl h) has =
-    elim (subst (λ (xs : List A). Has Q xs) h.2 has) [ inl q ↦ inl q | inr more ↦ inr (picked_from P Q all h.0 h.3 more) ]
-picked_from P Q (x ∷ all) picked (inr h) has = inr (picked_from P Q all picked h.1 has)
-
 pub apart_picked : {A : Type 0} (P : A → Type 0) (key : A → List ℕ) (all picked : List A) → ArePicked P all picked → Apart key all
     → Apart key picked
 apart_picked {A} P key [] picked h apart = subst (λ (xs : List A). Apart key xs) (sym h) tt
 apart_picked {A} P key (x ∷ all) picked (inl h) apart =
     subst (λ (xs : List A). Apart key xs) (sym h.2)
-    (λ has. apart.0 (picked_from P (λ y. key y ≡ key x) all h.0 h.3 has), apart_picked P key all h.0 h.3 apart.1)
+    (λ has. apart.0 (picked_back P (λ y. key y ≡ key x) all h.0 h.3 has), apart_picked P key all h.0 h.3 apart.1)
 apart_picked P key (x ∷ all) picked (inr h) apart = apart_picked P key all picked h.1 apart.1
 
 -- two lists of the same keys go together

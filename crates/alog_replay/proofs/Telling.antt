@@ -85,11 +85,11 @@ module _ {S : Type 0} (scene : Scene S) where
   entry_refused s n entry.Refused text rest d = ap (RefusedAt (n + 1)) d
 
   -- what a line and the lines after it tell, where the line was carried out
-  pub done_told : (s next : S) (n : ℕ) (line text : List ℕ) (lines : List (List ℕ)) (u : Told) → LineDone scene s line [] text next
+  pub done_told : {s next : S} (n : ℕ) {line text : List ℕ} (lines : List (List ℕ)) (u : Told) → LineDone scene s line [] text next
       → Tells scene next (n + 1) lines u
       → Tells scene s n (line ∷ lines) (told_behind text u)
   unfolding Tells
-  done_told s next n line text lines u d h = (d.0, d.1, entry_told s n d.0 text (λ t v. Tells scene t (n + 1) lines v) d.2 h)
+  done_told {s} n {line} {text} lines u d h = (d.0, d.1, entry_told s n d.0 text (λ t v. Tells scene t (n + 1) lines v) d.2 h)
 
   -- and where it was refused
   pub refused_told : (s : S) (n : ℕ) (line text : List ℕ) (lines : List (List ℕ)) → LineRefused scene s line [] text
@@ -125,7 +125,7 @@ module _ {S : Type 0} (scene : Scene S) where
         goes_on = λ x y t e h.
             let taken : rest ≡ (k.taken ++ x) ++ y = k.whole ∙ (ap (λ xs. k.taken ++ xs) e ∙ sym (append_assoc k.taken x y)) in
             let then = subst (λ (n : ℕ). Tells scene to.stage n (lines_of x) t) one h in
-            let next = done_told mid.stage to.stage mid.count line w.text (lines_of x) t w.done then in
+            let next = done_told mid.count (lines_of x) t w.done then in
             let line_told : Tells scene mid.stage mid.count (lines_of (k.taken ++ x)) (told_behind w.text t) =
             subst (λ (ls : List (List ℕ)). Tells scene mid.stage mid.count ls (told_behind w.text t)) (sym (k.fronts x y e)) next in
             let told = p.goes_on (k.taken ++ x) y (told_behind w.text t) taken line_told in

@@ -245,13 +245,17 @@ module _ {S : Type 0} (tells : Bool) (files : S → Files) (failures : S → ℕ
       with_duty (with_outputs v (record { sinks = slice_set v.outputs.sinks t.sink after; text_limit = v.outputs.text_limit })) a
       (Serves ticket i (done + 1))
 
-  served : (s : Stage S) (a ticket : ℕ) (i : Item) (done : ℕ) (t : SinkTurn) (sink : Sink S)
-      → is_idle (round_of s.system.desk.world a) ≡ true → duty_of s.system a ≡ Serves ticket i done
+  -- An actor in no round serves this item, and has made so many turns of it.
+  record IsServing (s : Stage S) (a ticket : ℕ) (i : Item) (done : ℕ) : Type 0 where
+    idle : is_idle (round_of s.system.desk.world a) ≡ true
+    serves : duty_of s.system a ≡ Serves ticket i done
+
+  served : {s : Stage S} {a ticket : ℕ} {i : Item} {done : ℕ} → IsServing s a ticket i done → (t : SinkTurn) (sink : Sink S)
       → slice_get (turns_for s.system.roster ticket i) done ≡ Some t → slice_get s.system.outputs.sinks t.sink ≡ Some sink
       → TurnsOrRefuses t t.deed i sink → SomeStep s a
-  served s a ticket i done t sink idle is next there (inl x) =
+  served {s} {a} {ticket} {i} {done} is t sink next there (inl x) =
       let v = s.system in
-      turned s a (Serves ticket i done) x.0 (with_sink v a ticket i done t x.1) idle is
+      turned s a (Serves ticket i done) x.0 (with_sink v a ticket i done t x.1) is.idle is.serves
       (record {
         turn = t;
         next = next;
@@ -259,16 +263,16 @@ module _ {S : Type 0} (tells : Bool) (files : S → Files) (failures : S → ℕ
         makes = record { before = sink; after = x.1; there = there; turn = x.2; others = refl };
         after = refl;
       })
-  served s a ticket i done t sink idle is next there (inr x) =
+  served {s} {a} {ticket} {i} {done} is t sink next there (inr x) =
       let v = s.system in
       let told : Turn = Fault t.tag t.sink in
       let after = with_sink v a ticket (item.Text x.0) done t x.1 in
       let refuses : Refuses v a told after = record {
-        idle = idle;
+        idle = is.idle;
         ticket = ticket;
         message = x.0;
         done = done;
-        serves = is ∙ ap (λ (j : Item). Serves ticket j done) x.2;
+        serves = is.serves ∙ ap (λ (j : Item). Serves ticket j done) x.2;
         turn = t;
         is = subst (λ (j : Item). slice_get (turns_for v.roster ticket j) done ≡ Some t) x.2 next;
         takes = x.3;
@@ -284,28 +288,25 @@ module _ {S : Type 0} (tells : Bool) (files : S → Files) (failures : S → ℕ
   nowhere : (s : Stage S) (a : ℕ) → HasNoSink s.system a → SomeStep s a
   nowhere s a h = ([], s, inr (inr (h, refl, refl)))
 
-  on_sink : (s : Stage S) (a ticket : ℕ) (i : Item) (done : ℕ) (t : SinkTurn) (o : Option (Sink S))
-      → is_idle (round_of s.system.desk.world a) ≡ true → duty_of s.system a ≡ Serves ticket i done
+  on_sink : {s : Stage S} {a ticket : ℕ} {i : Item} {done : ℕ} → IsServing s a ticket i done → (t : SinkTurn) (o : Option (Sink S))
       → slice_get (turns_for s.system.roster ticket i) done ≡ Some t → slice_get s.system.outputs.sinks t.sink ≡ o → SomeStep s a
-  on_sink s a ticket i done t None idle is next there =
+  on_sink {s} {a} {ticket} {i} {done} is t None next there =
       nowhere s a (record {
-        idle = idle;
+        idle = is.idle;
         ticket = ticket;
         item = i;
         done = done;
-        serves = is;
+        serves = is.serves;
         none = ap (sink_of s.system) next ∙ there;
       })
-  on_sink s a ticket i done t (Some sink) idle is next there =
-      served s a ticket i done t sink idle is next there (turns_or_refuses t t.deed i sink)
+  on_sink {i = i} is t (Some sink) next there = served is t sink next there (turns_or_refuses t t.deed i sink)
 
-  serving : (s : Stage S) (a ticket : ℕ) (i : Item) (done : ℕ) (o : Option SinkTurn)
-      → is_idle (round_of s.system.desk.world a) ≡ true → duty_of s.system a ≡ Serves ticket i done
+  serving : {s : Stage S} {a ticket : ℕ} {i : Item} {done : ℕ} → IsServing s a ticket i done → (o : Option SinkTurn)
       → slice_get (turns_for s.system.roster ticket i) done ≡ o → SomeStep s a
-  serving s a ticket i done None idle is next =
-      nowhere s a (record { idle = idle; ticket = ticket; item = i; done = done; serves = is; none = ap (sink_of s.system) next })
-  serving s a ticket i done (Some t) idle is next =
-      on_sink s a ticket i done t (slice_get s.system.outputs.sinks t.sink) idle is next refl
+  serving {s} {a} {ticket} {i} {done} is None next =
+      nowhere s a
+      (record { idle = is.idle; ticket = ticket; item = i; done = done; serves = is.serves; none = ap (sink_of s.system) next })
+  serving {s = s} is (Some t) next = on_sink is t (slice_get s.system.outputs.sinks t.sink) next refl
 
   -- a turn of an actor that is in a call, but in no round
   by_duty : (s : Stage S) (a : ℕ) (d : Duty) → is_idle (round_of s.system.desk.world a) ≡ true → duty_of s.system a ≡ d
@@ -319,7 +320,8 @@ module _ {S : Type 0} (tells : Bool) (files : S → Files) (failures : S → ℕ
       (posting (with_roster v (emptied v.roster d.logger)) a (policy_at v.roster d.logger) (dumped_by v d)) idle is (refl, refl)
   by_duty s a (Posts p ms) idle is h = absurd (false≢true h)
   by_duty s a Works idle is h = absurd (false≢true h)
-  by_duty s a (Serves t i done) idle is h = serving s a t i done (slice_get (turns_for s.system.roster t i) done) idle is refl
+  by_duty s a (Serves t i done) idle is h =
+      serving (record { idle = idle; serves = is }) (slice_get (turns_for s.system.roster t i) done) refl
 
   -- a step of a round
   in_round : (s : Stage S) (a : ℕ) → is_idle (round_of s.system.desk.world a) ≡ false → SomeStep s a

@@ -1,7 +1,6 @@
 mod Crosses
 pub mod SharedEnding
 mod Homes
-mod Finding
 mod Refusing
 mod Saying
 mod Telling

@@ -1,7 +1,8 @@
 -- What the loggers of a system keep after a run.
 use Rattle.std.proofs.Common.{◌≡◌, ◌≢◌, ◌⊎◌, ℕ, zero, suc, ◌+◌, ◌-◌, ◌<◌, ◌≤◌, ◌==◌, Bool, cond, List, [], ◌∷◌, ◌++◌, length, map, drop, get_or, set, refl, sym, ap, subst, ◌∙◌, arith, inl, inr}
 use Rattle.std.proofs.Common.{get_or-set_same, get_or-set_other}
-use Rattle.std.proofs.lemmas.List.{length-append, length-drop}
+use Rattle.std.proofs.Math.Seq.{drop-nil}
+use Rattle.std.proofs.lemmas.List.{drop-append-le, drop-drop, length-append, length-drop}
 use Rattle.alog_core.proofs.SharedCells.{on_test}
 use Rattle.alog_msg.specs.declared.level.Level.{Level}
 use Rattle.alog_msg.specs.declared.message.Message.{Message}
@@ -25,21 +26,6 @@ since_last : (n : ℕ) (before : List Message) (m : Made) (ms : List Made) → k
 since_last n before m [] = refl
 since_last n before m (x ∷ ms) = since_last n (kept_by n before x.did) m ms
 
-drop_nothing : {X : Type 0} (n : ℕ) → drop {A = X} n [] ≡ []
-drop_nothing zero = refl
-drop_nothing (suc n) = refl
-
--- the last of the last
-drop_more : {X : Type 0} (a b : ℕ) (xs : List X) → drop b (drop a xs) ≡ drop (a + b) xs
-drop_more zero b xs = (let same : b ≡ 0 + b = omega arith in ap (λ k. drop k xs) same)
-drop_more (suc a) b [] = drop_nothing b ∙ sym (drop_nothing (suc a + b))
-drop_more (suc a) b (x ∷ xs) = (let same : suc (a + b) ≡ suc a + b = omega arith in drop_more a b xs ∙ ap (λ k. drop k (x ∷ xs)) same)
-
-drop_front : {X : Type 0} (a : ℕ) (xs ys : List X) → a ≤ length xs → drop a (xs ++ ys) ≡ drop a xs ++ ys
-drop_front zero xs ys le = refl
-drop_front (suc a) [] ys le = absurd (omega (arith, le))
-drop_front (suc a) (x ∷ xs) ys le = drop_front a xs ys (omega (arith, le))
-
 last_again : (most : ℕ) (xs : List Message) (m : Message) → last_of most (last_of most xs ++ m ∷ []) ≡ last_of most (xs ++ m ∷ [])
 last_again most xs m =
     let k = length xs - most in
@@ -47,16 +33,16 @@ last_again most xs m =
     let short = length-drop k xs in
     let more = length-append (drop k xs) (m ∷ []) in
     let all = length-append xs (m ∷ []) in
-    let moved : drop k xs ++ m ∷ [] ≡ drop k (xs ++ m ∷ []) = sym (drop_front k xs (m ∷ []) le) in
+    let moved : drop k xs ++ m ∷ [] ≡ drop k (xs ++ m ∷ []) = sym (drop-append-le k xs (m ∷ []) le) in
     let steps : k + (length (drop k xs ++ m ∷ []) - most) ≡ length (xs ++ m ∷ []) - most = omega (arith, short, more, all) in
     ap (λ (ys : List Message). drop (length (drop k xs ++ m ∷ []) - most) ys) moved
-    ∙ (drop_more k (length (drop k xs ++ m ∷ []) - most) (xs ++ m ∷ []) ∙ ap (λ j. drop j (xs ++ m ∷ [])) steps)
+    ∙ (drop-drop (length (drop k xs ++ m ∷ []) - most) k (xs ++ m ∷ []) ∙ ap (λ j. drop j (xs ++ m ∷ [])) steps)
 
 keeps_more : (r : Room) (xs : List Message) (m : Message) → Keeps r xs → Keeps (kept_with r m) (xs ++ m ∷ [])
 keeps_more r xs m h = ap (λ (ys : List Message). last_of r.most (ys ++ m ∷ [])) h ∙ last_again r.most xs m
 
 nothing_last : (k : ℕ) → last_of k [] ≡ []
-nothing_last k = drop_nothing (0 - k)
+nothing_last k = drop-nil (0 - k)
 
 -- a place past the end keeps nothing, and so it is there at each time
 drop_past : {X : Type 0} (xs : List X) → drop (length xs) xs ≡ []

@@ -39,7 +39,8 @@ use Rattle.alog_system.specs.declared.stepped.Stepped.{Stepped}
 use Rattle.alog_system.proofs.RunCases.{Case, queued, kept, dumped, served, case_of}
 use Rattle.alog_system.proofs.RunGoes.{calls_left, turns_left, Stance, Stands, stands_rest, Goes, rests_goes, MayCall, post_goes, pop_begins, posting_goes, round_goes}
 use Rattle.alog_system.proofs.RunKept.{IsKept, is_kept, kept_messages}
-use Rattle.alog_system.proofs.RunLists.{along_last, flat_map_last, steps_begun, steps_made, steps_set, queue_last, if_mine, if_other, stays_even}
+use Rattle.alog_policy.proofs.SharedRunning.{mine_is, not_mine}
+use Rattle.alog_system.proofs.RunLists.{along_last, flat_map_last, steps_begun, steps_made, steps_set, queue_last, stays_even}
 use Rattle.alog_system.proofs.RunOthers.{set_duty, IsMine, mine_begun, mine_case}
 use Rattle.alog_system.proofs.RunPosts.{none_where_idle, rounds_stay}
 
@@ -89,10 +90,10 @@ record Brings (ls : List Logger) (run : List Act) (x : Act) (a : ℕ) (more : Li
 deed_brings : (ls : List Logger) (run : List Act) (a : ℕ) (d : Deed)
     → Brings ls run (BeginsDeed a d) a (calls_by_deed ls run a d) (turns_by_deed ls a d) []
 deed_brings ls run a d = record {
-  calls = if_mine a a (calls_by_deed ls run a d) refl;
-  no_calls = λ b other. if_other a b (calls_by_deed ls run b d) other;
-  turns = if_mine a a (turns_by_deed ls a d) refl;
-  no_turns = λ b other. if_other a b (turns_by_deed ls b d) other;
+  calls = mine_is a a (calls_by_deed ls run a d) refl;
+  no_calls = λ b other. not_mine a b (calls_by_deed ls run b d) other;
+  turns = mine_is a a (turns_by_deed ls a d) refl;
+  no_turns = λ b other. not_mine a b (turns_by_deed ls b d) other;
   makes = refl;
   none_made = λ b other. refl;
 }
@@ -100,12 +101,12 @@ deed_brings ls run a d = record {
 step_brings : (ls : List Logger) (run : List Act) (m : Made)
     → Brings ls run (MakesStep m) m.actor (calls_by_step ls run m.did) (turns_by_step ls m.did) (beside m.did)
 step_brings ls run m = record {
-  calls = if_mine m.actor m.actor (calls_by_step ls run m.did) refl;
-  no_calls = λ b other. if_other m.actor b (calls_by_step ls run m.did) other;
-  turns = if_mine m.actor m.actor (turns_by_step ls m.did) refl;
-  no_turns = λ b other. if_other m.actor b (turns_by_step ls m.did) other;
-  makes = if_mine m.actor m.actor (beside m.did) refl;
-  none_made = λ b other. if_other m.actor b (beside m.did) other;
+  calls = mine_is m.actor m.actor (calls_by_step ls run m.did) refl;
+  no_calls = λ b other. not_mine m.actor b (calls_by_step ls run m.did) other;
+  turns = mine_is m.actor m.actor (turns_by_step ls m.did) refl;
+  no_turns = λ b other. not_mine m.actor b (turns_by_step ls m.did) other;
+  makes = mine_is m.actor m.actor (beside m.did) refl;
+  none_made = λ b other. not_mine m.actor b (beside m.did) other;
 }
 
 module _ {S : Type 0} (n : ℕ) (size : is_size n ≡ true) (ls : List Logger) where

@@ -1,21 +1,16 @@
 -- Lists of acts, of calls and of steps, with one more.
-use Rattle.std.proofs.Common.{◌≡◌, ◌≢◌, ℕ, ◌==◌, cond, List, [], ◌∷◌, ◌++◌, refl, sym, ap, subst, ◌∙◌}
+use Rattle.std.proofs.Common.{◌≡◌, ◌≢◌, ℕ, List, [], ◌∷◌, ◌++◌, refl, sym, ap, subst, ◌∙◌}
 use Rattle.std.proofs.Common.{append_assoc, append-nil}
 use Rattle.std.proofs.lemmas.List.Concat.{flat_map-append}
-use Rattle.std.specs.List.{AllByRecursion, flat_map}
-use Rattle.alog_core.proofs.SharedCells.{on_test}
+use Rattle.std.specs.List.{flat_map}
 use Rattle.alog_msg.specs.declared.item.Item.{Item}
 use Rattle.alog_msg.specs.declared.level.Level.{Level}
 use Rattle.alog_policy.specs.Runs.{Call, CallMade, calls_made, StepMade, outcome_in, outcomes_made}
 use Rattle.alog_policy.specs.declared.policy.Outcome.{Outcome}
+use Rattle.alog_policy.proofs.SharedRunning.{calls_made-last, outcomes_made-last, mine_is, not_mine}
 use Rattle.alog_system.specs.Acts.{Made, Act, BeginsDeed, MakesStep, SetsLevel, step_in, steps_in, along, in_queue, queue_steps, levels_set}
 use Rattle.alog_system.specs.Runs.{StepIs, EachStep}
 use Rattle.alog_system.specs.declared.deed.Deed.{Deed}
-
--- what is so of each of a list and of one more
-pub all_more : {X : Type 0} (P : X → Type 0) (xs : List X) (x : X) → AllByRecursion P xs → P x → AllByRecursion P (xs ++ x ∷ [])
-all_more P [] x h p = (p, tt)
-all_more P (y ∷ xs) x h p = (h.0, all_more P xs x h.1 p)
 
 pub flat_map_last : {X A : Type 0} (f : X → List A) (xs : List X) (x : X) → flat_map f (xs ++ x ∷ []) ≡ flat_map f xs ++ f x
 flat_map_last {A = A} f xs x = flat_map-append f xs (x ∷ []) ∙ ap (λ (ys : List A). flat_map f xs ++ ys) (append-nil (f x))
@@ -59,39 +54,21 @@ levels_last levels (BeginsDeed a d ∷ run) x = levels_last levels run x
 levels_last levels (MakesStep m ∷ run) x = levels_last levels run x
 levels_last levels (SetsLevel n level ∷ run) x = levels_last _ run x
 
--- what is an actor's own, and what is another's
-pub if_mine : {X : Type 0} (a b : ℕ) (xs : List X) → a ≡ b → cond (a == b) xs [] ≡ xs
-if_mine a b xs same = on_test (λ t. cond t xs [] ≡ xs) a b (λ _. refl) (λ other. absurd (other same))
-
-pub if_other : {X : Type 0} (a b : ℕ) (xs : List X) → b ≢ a → cond (a == b) xs [] ≡ []
-if_other a b xs other = on_test (λ t. cond t xs [] ≡ []) a b (λ e. absurd (other (sym e))) (λ _. refl)
-
+-- one more call, and one more step
 module _ {T : Type 0} where
-  calls_last : (a : ℕ) (c : CallMade T) (cs : List (CallMade T)) → calls_made a (cs ++ c ∷ []) ≡ calls_made a cs ++ cond (c.actor == a) (c.call ∷ []) []
-  calls_last a c [] = append-nil (cond (c.actor == a) (c.call ∷ []) [])
-  calls_last a c (d ∷ cs) =
-      ap (λ (h : List (Call T)). cond (d.actor == a) (d.call ∷ []) [] ++ h) (calls_last a c cs)
-      ∙ sym (append_assoc (cond (d.actor == a) (d.call ∷ []) []) (calls_made a cs) (cond (c.actor == a) (c.call ∷ []) []))
-
   pub my_call : (a : ℕ) (c : CallMade T) (cs : List (CallMade T)) → c.actor ≡ a → calls_made a (cs ++ c ∷ []) ≡ calls_made a cs ++ c.call ∷ []
-  my_call a c cs same = calls_last a c cs ∙ ap (λ (h : List (Call T)). calls_made a cs ++ h) (if_mine c.actor a (c.call ∷ []) same)
+  my_call a c cs same = calls_made-last c a cs ∙ ap (λ (h : List (Call T)). calls_made a cs ++ h) (mine_is c.actor a (c.call ∷ []) (sym same))
 
   pub others_call : (b : ℕ) (c : CallMade T) (cs : List (CallMade T)) → b ≢ c.actor → calls_made b (cs ++ c ∷ []) ≡ calls_made b cs
   others_call b c cs other =
-      calls_last b c cs
-      ∙ (ap (λ (h : List (Call T)). calls_made b cs ++ h) (if_other c.actor b (c.call ∷ []) other) ∙ append-nil (calls_made b cs))
-
-  outcomes_last : (a : ℕ) (s : StepMade T) (ss : List (StepMade T))
-      → outcomes_made a (ss ++ s ∷ []) ≡ outcomes_made a ss ++ cond (s.actor == a) (outcome_in s.outcome) []
-  outcomes_last a s [] = append-nil (cond (s.actor == a) (outcome_in s.outcome) [])
-  outcomes_last a s (r ∷ ss) =
-      ap (λ (h : List (Outcome T)). cond (r.actor == a) (outcome_in r.outcome) [] ++ h) (outcomes_last a s ss)
-      ∙ sym (append_assoc (cond (r.actor == a) (outcome_in r.outcome) []) (outcomes_made a ss) (cond (s.actor == a) (outcome_in s.outcome) []))
+      calls_made-last c b cs
+      ∙ (ap (λ (h : List (Call T)). calls_made b cs ++ h) (not_mine c.actor b (c.call ∷ []) other) ∙ append-nil (calls_made b cs))
 
   pub my_outcome : (a : ℕ) (s : StepMade T) (ss : List (StepMade T)) → s.actor ≡ a
       → outcomes_made a (ss ++ s ∷ []) ≡ outcomes_made a ss ++ outcome_in s.outcome
   my_outcome a s ss same =
-      outcomes_last a s ss ∙ ap (λ (h : List (Outcome T)). outcomes_made a ss ++ h) (if_mine s.actor a (outcome_in s.outcome) same)
+      outcomes_made-last s a ss
+      ∙ ap (λ (h : List (Outcome T)). outcomes_made a ss ++ h) (mine_is s.actor a (outcome_in s.outcome) (sym same))
 
 -- what was asked is what was made and what is left, and stays so
 pub stays_even : {X : Type 0} (asked made left more now rest : List X) → asked ≡ made ++ left → left ++ more ≡ now ++ rest

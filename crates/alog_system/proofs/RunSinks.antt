@@ -39,7 +39,8 @@ use Rattle.alog_system.specs.declared.stepped.Stepped.TheVariants as stepped
 use Rattle.alog_system.specs.declared.stepped.Turn.{Turn}
 use Rattle.alog_system.proofs.RunCases.{Case, queued, kept, dumped, served, case_of}
 use Rattle.alog_system.proofs.RunLeaves.{fine_more, fine_not, handed_none, IsFailed, failed_first, takes_has, flushes_has, each_stays, each_has}
-use Rattle.alog_system.proofs.RunLists.{if_other, steps_begun, steps_made, steps_set}
+use Rattle.alog_policy.proofs.SharedRunning.{not_mine}
+use Rattle.alog_system.proofs.RunLists.{steps_begun, steps_made, steps_set}
 use Rattle.alog_system.proofs.RunSame.{begun_outputs, after_round_same, posting_same}
 
 -- what is found in a list after one of its places was set
@@ -311,7 +312,7 @@ module _ {S : Type 0} (tells : Bool) (files : S → Files) (failures : S → ℕ
       (λ other.
       stays_else (turn_made a turn i s.said) {after = s.outputs.sinks}
       (ap (λ (o : OutputsView S). slice_get o.sinks k) s.makes.others ∙ get_set_other w.outputs.sinks turn.sink k s.makes.after other)
-      (if_other turn.sink k (text_in turn.deed i) (λ e. other (sym e))) (other_fault s.makes other) h)))
+      (not_mine turn.sink k (text_in turn.deed i) (λ e. other (sym e))) (other_fault s.makes other) h)))
 
   each_start : (k : ℕ) (old : Sink S) (stood : List Stood) (ls : List (LeafView S)) → AllStand files ls stood → EachStands files old k [] stood ls
   each_start k old [] [] all = tt

@@ -1,9 +1,6 @@
 -- The last line of a memory sink's file.
-use Rattle.std.proofs.Common.{◌≡◌, ℕ, ℤ, Bool, true, false, cond, None, Some, Option, List, [], ◌∷◌, ◌++◌, Result, refl, sym, ap, subst, ◌∙◌, append_assoc}
-use Rattle.std.proofs.lemmas.List.{append-nil}
+use Rattle.std.proofs.Common.{◌≡◌, ℕ, ℤ, Bool, true, false, cond, None, Some, Option, List, [], ◌∷◌, ◌++◌, refl, sym, ap, subst, ◌∙◌, append_assoc}
 use Rattle.std.specs.Option.{unwrap_or}
-use Rattle.std.specs.Str.{bytes_eq}
-use Rattle.std.specs.Cmp.Lexicographic.{bytes_decides}
 use Rattle.alog_format.specs.Buffer.{Buffer}
 use Rattle.alog_lane.specs.Seats.{Entry}
 use Rattle.alog_lane.specs.Turns.{Turned, Leads}
@@ -17,6 +14,7 @@ use Rattle.alog_sink.specs.Files.{Files, bytes_of}
 use Rattle.alog_sink.specs.Kept.{IsKept, IsSameTarget}
 use Rattle.alog_sink.specs.Lines.{AreWrittenOf, IsWrittenOf, Written, admits, admitted, lines_of}
 use Rattle.alog_sink.specs.OneFile.{joined, one_file}
+use Rattle.alog_sink.proofs.SharedOneFiles.{joined_more, lines_more, one_file_has}
 use Rattle.alog_sink.specs.Sinks.{Turns}
 use Rattle.alog_sink.specs.Turn.{LeafView, StandsFor}
 use Rattle.alog_sink.specs.declared.face.Face.{Face}
@@ -63,27 +61,12 @@ written_last face previous (l ∷ ms) m (w ∷ ws) are =
     }
 
 -- the bytes of the one file behind these lines
-lines_last : (ws : List Written) (w : Written) → lines_of (ws ++ w ∷ []) ≡ lines_of ws ++ w.line ∷ []
-lines_last [] w = refl
-lines_last (v ∷ ws) w = ap (λ ls. v.line ∷ ls) (lines_last ws w)
-
-joined_last : (lines : List (List ℕ)) (line : List ℕ) → joined (lines ++ line ∷ []) ≡ joined lines ++ line
-joined_last [] line = append-nil line
-joined_last (l ∷ lines) line = ap (λ bs. l ++ bs) (joined_last lines line) ∙ sym (append_assoc l (joined lines) line)
-
 module _ (file : List ℕ) (opening : Files) where
-  itself : bytes_eq file file ≡ true
-  itself = (bytes_decides file file).1 refl
-
-  has : (lines : List (List ℕ)) → bytes_of (one_file file opening lines) file ≡ bytes_of opening file ++ joined lines
-  has [] = sym (append-nil (bytes_of opening file))
-  has (l ∷ lines) = ap (λ b. unwrap_or (cond b (Some (bytes_of opening file ++ joined (l ∷ lines))) (opening file)) []) itself
-
   file_last : (ws : List Written) (w : Written) (files : Files) → files file ≡ one_file file opening (lines_of (ws ++ w ∷ [])) file
       → bytes_of files file ≡ (bytes_of opening file ++ joined (lines_of ws)) ++ w.line
-  file_last ws w files are = ap (λ o. unwrap_or o []) are ∙ has (lines_of (ws ++ w ∷ []))
-      ∙ ap (λ ls. bytes_of opening file ++ joined ls) (lines_last ws w)
-      ∙ ap (λ bs. bytes_of opening file ++ bs) (joined_last (lines_of ws) w.line)
+  file_last ws w files are = ap (λ o. unwrap_or o []) are ∙ one_file_has file opening (lines_of (ws ++ w ∷ []))
+      ∙ ap (λ ls. bytes_of opening file ++ joined ls) (lines_more ws w)
+      ∙ ap (λ bs. bytes_of opening file ++ bs) (joined_more (lines_of ws) w.line)
       ∙ sym (append_assoc (bytes_of opening file) (joined (lines_of ws)) w.line)
 
 module _ {S : Type 0} (tells : Bool) (files : S → Files) (failures : S → ℕ) where

@@ -1,6 +1,6 @@
 use Rattle.std.proofs.Common.{◌≡◌, ℕ, ℤ, List, None, ap, subst, ◌∙◌}
 use Rattle.std.proofs.lemmas.Int.{to_z-of_z}
-use Rattle.alog_load.proofs.Making.{spec_there}
+use Rattle.alog_registry.proofs.SharedListing.{spec_there}
 use Rattle.alog_load.specs.Load.{text_of}
 use Rattle.alog_load.proofs.load_seat.log_one.Goals as goal
 use Rattle.alog_msg.specs.declared.level.Level.TheVariants.{Info}

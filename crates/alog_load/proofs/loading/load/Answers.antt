@@ -1,5 +1,6 @@
 use Rattle.std.proofs.Common.{◌≡◌, ℕ, List, length, refl, sym, ap, subst, arith}
-use Rattle.alog_load.proofs.Building.{built_length}
+use Rattle.alog_config.specs.Built.{IsLoggerOf}
+use Rattle.alog_config.proofs.SharedPicking.{each_is_long}
 use Rattle.alog_load.proofs.loading.load.Goals as goal
 use Rattle.alog_load.specs.Load.{HasServed}
 use Rattle.alog_pool.specs.Places.{Each2}
@@ -13,8 +14,7 @@ run_all-back-requires-clause-loggers g c κs within =
     let config = c.args.config.now in
     let setup = c.in_ok-setup.setup in
     let given = c.in_ok-setup.ensures.given in
-    let long = built_length g.S.Store.tells g.S.Store.files g.S.Store.failures config c.args.stores.items setup.loggers
-    setup.sinks.items given.built in
+    let long = each_is_long (IsLoggerOf given.built.tops) config.loggers.items setup.loggers given.built.loggers in
     let same = ap (λ (l : List Logger). length l) c.in-Ok.ensures.started.loggers in
     let few = config.sound.few_loggers in
     (omega (arith, long, same, c.len-loggers.ensures, config.loggers.ok.0), omega (arith, few, c.len-loggers.ensures, config.loggers.ok.0))

@@ -1,6 +1,7 @@
 use Rattle.std.proofs.Common.{List, length, ap, subst, ◌∙◌, arith}
 use Rattle.alog_lines.specs.Cutting.{Cutting}
-use Rattle.alog_pipe.proofs.Building.{built_length}
+use Rattle.alog_config.specs.Built.{IsLoggerOf}
+use Rattle.alog_config.proofs.SharedPicking.{each_is_long}
 use Rattle.alog_pipe.proofs.piping.pipe.Goals as goal
 use Rattle.alog_pipe.specs.Pipes.{PipesThrough}
 use Rattle.alog_registry.specs.declared.logger.Logger.{Logger}
@@ -11,8 +12,7 @@ pipe_through-requires-clause-ready g c κs within =
     let setup = c.in_ok-setup.setup in
     let given = c.in_ok-setup.ensures.given in
     let started = c.in-Ok.ensures.started in
-    let long = built_length g.S.Store.tells g.S.Store.files g.S.Store.failures config c.args.stores.items setup.loggers
-    setup.sinks.items given.built in
+    let long = each_is_long (IsLoggerOf given.built.tops) config.loggers.items setup.loggers given.built.loggers in
     let same = ap (λ (l : List Logger). length l) started.loggers in
     let limit = ap (λ (s : Cutting). s.limit) c.in_ok-lines.ensures in
     let most = started.limit ∙ given.limit in

@@ -1,5 +1,5 @@
 use Rattle.std.proofs.Common.{ℕ, List, [], ◌∷◌, ◌++◌, map, length, length-append, refl, ap, sym, subst, ◌∙◌, arith}
-use Rattle.std.proofs.lemmas.List.{length-map}
+use Rattle.std.proofs.lemmas.List.{map-append, length-map}
 use Rattle.std.specs.Prelude.{Vec}
 use Rattle.std.specs.List.{AllByRecursion}
 use Rattle.std.specs.Vec.Iter.{into_iter_items}
@@ -16,7 +16,7 @@ use Rattle.alog_pool.specs.Working.{HasWorked}
 use Rattle.alog_pool.specs.declared.worker.Worker.{Worker}
 use Rattle.alog_pool.specs.declared.shared.Shared.{Shared}
 use Rattle.alog_pool.specs.declared.works.Works.{Works}
-use Rattle.alog_pool.proofs.SharedBack.{back_starts, back_one, map_more, sum_more}
+use Rattle.alog_pool.proofs.SharedBack.{back_starts, back_one, sum_more}
 use Rattle.alog_pool.proofs.Rows.{each_lane, ones, place_lanes, rows_lanes, rows_more, rows_start}
 use Rattle.alog_pool.proofs.SharedSharing.{all_map_next, each2_length, each2_more}
 use Rattle.alog_pool.proofs.shutdown.collect.Goals as goal
@@ -102,20 +102,20 @@ loop-worker-preserved g c =
       ring = c.join-in-loop-worker.ensures.ring;
       collects = record {
         crew = crew ++ worker ∷ [];
-        worked = subst (λ (l : List (Worker S)). Each2 HasWorked l (crew ++ worker ∷ [])) (sym (map_more f yielded c.in-Some.worker))
+        worked = subst (λ (l : List (Worker S)). Each2 HasWorked l (crew ++ worker ∷ [])) (sym (map-append f yielded (c.in-Some.worker ∷ [])))
             (each2_more HasWorked (map f yielded) crew (f c.in-Some.worker) worker collected.worked c.join-own.ensures);
         passes = subst (λ (l : List M). HasBack c.args.pass.now.known c.join-in-loop-worker.new.pass.known l)
-            (sym (map_more (λ (h : Worker S). worker_member h) crew worker))
+            (sym (map-append (λ (h : Worker S). worker_member h) crew (worker ∷ [])))
             (back_one collected.passes c.join-in-loop-worker.ensures.joined c.join-own.ensures.work.joined c.join-own.ensures.work.parts);
         places = subst (λ (l : List (List (SinkSeatView S))). HaveBack c.args.sink_seats.now.items c.take_all_back.new.sink_seats.items l)
-            (sym (map_more (λ (h : Worker S). h.sink_seats.items) crew worker))
+            (sym (map-append (λ (h : Worker S). h.sink_seats.items) crew (worker ∷ [])))
             (rows_more c.args.sink_seats.now.items c.loop-worker.sink_seats.items c.take_all_back.new.sink_seats.items worker.sink_seats.items
             (map (λ (h : Worker S). h.sink_seats.items) crew) collected.places c.take_all_back.ensures
             (ones (f c.in-Some.worker).sink_seats.items worker.sink_seats.items c.join-own.ensures.places begins.seats));
         tickets_are = ap (λ (l : List V). map (λ (v : V). v.items) l) c.push_reserved.ensures.items
-            ∙ map_more (λ (v : V). v.items) c.loop-worker.tickets.items worker.tickets
+            ∙ map-append (λ (v : V). v.items) c.loop-worker.tickets.items (worker.tickets ∷ [])
             ∙ (λ i. collected.tickets_are i ++ worker.tickets.items ∷ [])
-            ∙ sym (map_more (λ (h : Worker S). h.tickets.items) crew worker);
+            ∙ sym (map-append (λ (h : Worker S). h.tickets.items) crew (worker ∷ []));
         handled_is = sum_more (λ (h : Worker S). h.handled) crew worker c.loop-worker.all collected.handled_is;
       };
       room = omega (arith, room, c.push_reserved.ensures.capacity);

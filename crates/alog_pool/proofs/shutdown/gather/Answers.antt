@@ -1,11 +1,12 @@
 use Rattle.std.proofs.Common.{◌≡◌, List, [], ◌∷◌, ◌++◌, map, append_assoc, sym, ap, subst, ◌∙◌}
 use Rattle.std.specs.List.{AllByRecursion}
 use Rattle.std.specs.Vec.Iter.{into_iter_items}
+use Rattle.std.proofs.lemmas.List.{map-append}
 use Rattle.alog_lane.specs.Seats as lane
 use Rattle.alog_msg.specs.declared.item.Item.{Item}
 use Rattle.alog_policy.specs.BookAdds.{Add}
 use Rattle.alog_policy.specs.BookCalls as book
-use Rattle.alog_pool.proofs.SharedBack.{back_one, back_starts, map_more, seats_one, seats_start}
+use Rattle.alog_pool.proofs.SharedBack.{back_one, back_starts, seats_one, seats_start}
 use Rattle.alog_pool.proofs.SharedSharing.{all_more}
 use Rattle.alog_pool.specs.Back.{HasBack, HasSeatsBack, loss_member, pass_member}
 use Rattle.alog_pool.specs.Lending.{IsAccountOf}
@@ -69,11 +70,11 @@ loop-producer-preserved c =
       front = i.front ∙ ap (λ (l : List ProducerView). i.done ++ l) c.in-Some.ensures.items ∙ sym (append_assoc i.done (p ∷ []) new);
       ring = c.join.ensures.ring;
       book = c.join-in-Some.ensures.seat;
-      passes = subst (λ (ms : List (Member Item block_note)). HasBack c.args.pass.now.known passes ms) (sym (map_more pass_member i.done p))
+      passes = subst (λ (ms : List (Member Item block_note)). HasBack c.args.pass.now.known passes ms) (sym (map-append pass_member i.done (p ∷ [])))
           (subst (λ (q : ProducerView). HasBack c.args.pass.now.known passes (map pass_member i.done ++ pass_member q ∷ []))
           c.producer.view_is
           (back_one i.passes c.join.ensures.joined account.joined account.parts));
-      seats = subst (λ (ms : List (lane.Member Add)). HasSeatsBack c.args.losses.now.known seats ms) (sym (map_more loss_member i.done p))
+      seats = subst (λ (ms : List (lane.Member Add)). HasSeatsBack c.args.losses.now.known seats ms) (sym (map-append loss_member i.done (p ∷ [])))
           (subst (λ (q : ProducerView). HasSeatsBack c.args.losses.now.known seats (map loss_member i.done ++ loss_member q ∷ []))
           c.producer.view_is
           (seats_one inside.losses.known {l = seats} i.seats c.join-in-Some.ensures.joined account.seat_joined account.seat_parts));

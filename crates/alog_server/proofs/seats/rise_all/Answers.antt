@@ -3,8 +3,8 @@ use Rattle.std.specs.Prelude.{Option}
 use Rattle.std.specs.List.{AllByRecursion}
 use Rattle.std.specs.Option.{option_or}
 use Rattle.std.specs.Vec.Iter.{into_iter_items}
+use Rattle.std.proofs.lemmas.List.{map-append}
 use Rattle.alog_core.proofs.SharedCalls.{no_more}
-use Rattle.alog_pool.proofs.SharedBack.{map_more}
 use Rattle.alog_pool.proofs.SharedSharing.{all_more}
 use Rattle.alog_pool.specs.Producer.{ProducerView}
 use Rattle.alog_server.specs.Ends.{first_error}
@@ -36,7 +36,7 @@ loop-seat-preserved g c =
       count = ap length c.push_reserved.ensures.items ∙ length-append c.loop-seat.back.items (p ∷ []) ∙ ap (λ (n : ℕ). n + 1) i.count
           ∙ sym (length-append i.up (seat ∷ []));
       first = c.or-first.ensures ∙ ap (λ (o : Option g.row.E.Denot). option_or o seat.error) i.first
-          ∙ sym (first_more (map error i.up) seat.error) ∙ ap first_error (sym (map_more error i.up seat));
+          ∙ sym (first_more (map error i.up) seat.error) ∙ ap first_error (sym (map-append error i.up (seat ∷ [])));
       room = subst (λ (n : ℕ). length c.args.seats.items ≤ n) (sym c.push_reserved.ensures.capacity) i.room;
     }
 

@@ -1,5 +1,5 @@
 use Rattle.std.proofs.Common.{refl}
-use Rattle.alog_pipe.proofs.Logging.{spec_there}
+use Rattle.alog_registry.proofs.SharedListing.{spec_there}
 use Rattle.alog_pipe.proofs.piece_log.PieceLog.flush.Goals as goal
 
 pub returns : goal.returns

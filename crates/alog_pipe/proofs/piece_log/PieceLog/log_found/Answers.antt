@@ -1,6 +1,7 @@
 use Rattle.std.proofs.Common.{refl, ap, inr, Err}
 use Rattle.std.proofs.lemmas.Int.{to_z-of_z}
-use Rattle.alog_pipe.proofs.Logging.{found_of, spec_there, wants_memory}
+use Rattle.alog_registry.proofs.SharedListing.{spec_there}
+use Rattle.alog_pipe.proofs.Logging.{found_of, wants_memory}
 use Rattle.alog_pipe.proofs.piece_log.PieceLog.log_found.Goals as goal
 
 pub returns-in-Ok-clause-found : goal.returns-in-Ok-clause-found

@@ -2,7 +2,7 @@ use Rattle.std.proofs.Common.{◌≡◌, ◌∙◌, List, ℕ, refl, sym, subst,
 use Rattle.std.proofs.lemmas.Int.{to_z-of_z}
 use Rattle.alog_msg.specs.declared.level.Level.TheVariants.{Warning}
 use Rattle.alog_pipe.specs.Logged.{LogsText, hole_text}
-use Rattle.alog_pipe.proofs.Logging.{spec_there}
+use Rattle.alog_registry.proofs.SharedListing.{spec_there}
 use Rattle.alog_pipe.proofs.piece_log.PieceLog.tell_hole.Goals as goal
 
 pub returns-in-Ok-log-clause-tells : goal.returns-in-Ok-log-clause-tells

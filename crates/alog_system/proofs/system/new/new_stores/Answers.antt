@@ -3,7 +3,7 @@ use Rattle.std.proofs.lemmas.List.{length-append}
 use Rattle.alog_sink.specs.Files.{AreSame, no_files}
 use Rattle.alog_sink.specs.contracts.mem_store.MemStoreStore.TheImpl.{files-value}
 use Rattle.alog_system.specs.Named.{AreEmpty}
-use Rattle.alog_system.proofs.RunLists.{all_more}
+use Rattle.alog_lane.proofs.SharedLists.{each_append}
 use Rattle.alog_system.proofs.system.new.new_stores.Goals as goal
 
 pub loop-preserved : goal.loop-preserved
@@ -15,5 +15,5 @@ loop-preserved c =
       many = ap length c.push_reserved.ensures.items ∙ omega (arith, more, many);
       room = c.push_reserved.ensures.capacity ∙ so.room;
       empty = subst (AreEmpty (files-value).it) (sym c.push_reserved.ensures.items)
-          (all_more (λ s. AreSame no_files ((files-value).it s)) c.loop.stores.items c.new.result so.empty c.new.ensures.files);
+          (each_append (λ s. AreSame no_files ((files-value).it s)) c.loop.stores.items (c.new.result ∷ []) so.empty (c.new.ensures.files, tt));
     }

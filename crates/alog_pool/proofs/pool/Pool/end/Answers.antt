@@ -18,7 +18,7 @@ use Rattle.alog_pool.proofs.Rows.{rows_lanes}
 use Rattle.alog_pool.proofs.Served.{all_served, rows_counted, rows_even, same_numbers}
 use Rattle.alog_pool.proofs.SharedSharing.{each2_length}
 use Rattle.alog_pool.proofs.Totalled.{all_came_back, all_parts, members, only_stops, out, took_none, totals}
-use Rattle.alog_pool.proofs.pool.Pool.shutdown.Goals as goal
+use Rattle.alog_pool.proofs.pool.Pool.end.Goals as goal
 use Rattle.alog_core.specs.Accounts.{claims}
 use Rattle.alog_ring.specs.Known.{IsPassOf}
 use Rattle.alog_ring.specs.Share.{IsWhole}
@@ -43,10 +43,9 @@ close_book-lost-requires-clause-all g c =
     let starts : List (Worker S) = map (λ (h : PromisedHandle (Worker S) (Works S)). h.promise.start.value) inside.workers.items in
     let producers = c.args.producers.items in
     let collected = c.collect-handled.ensures.collects in
-    let test = c.if-len-self.false in
-    let enough : inside.made ≤ length producers = omega (arith, test, c.len.ensures, c.args.producers.ok.0) in
+    let enough : inside.made ≤ length producers = subst (λ (v : PoolView S). v.made ≤ length producers) (sym c.self.view_is) c.requires.enough in
     let same = all_came_back inside.pass.known c.gather.new.pass.known c.post_stops.new.pass.known c.collect-handled.new.pass.known producers
-    starts collected.crew c.len-2.result left.pass_unused.0 left.pass_unused.1 c.gather.ensures.passes c.gather.ensures.accounts
+    starts collected.crew c.len.result left.pass_unused.0 left.pass_unused.1 c.gather.ensures.passes c.gather.ensures.accounts
     c.post_stops.ensures.stops collected.passes collected.worked pool.some inside.made left.pass_parts enough c.is_whole-whole.ensures.most in
     let back = c.gather.ensures.seats.parts in
     let many = length-map producers loss_member in
@@ -105,26 +104,26 @@ returns-clause-ends g c =
     let j = c.gather.new.pass.known in
     let k = c.post_stops.new.pass.known in
     let l = c.collect-handled.new.pass.known in
-    let count = c.len-2.result in
+    let count = c.len.result in
     let gather = c.gather.ensures.passes in
     let accounts = c.gather.ensures.accounts in
     let stops = c.post_stops.ensures.stops in
     let own = left.pass_unused.0 in
     let none = left.pass_unused.1 in
     let many = each2_length HasWorked starts crew collected.worked in
-    let made = c.if-len-self.false in
+    let made : inside.made ≤ length producers = subst (λ (v : PoolView S). v.made ≤ length producers) (sym c.self.view_is) c.requires.enough in
     let left_parts = left.pass_parts in
     let parts : l.parts ≡ ALL_PARTS =
     (let all = all_parts a j k l producers starts crew count own none gather accounts stops collected.passes collected.worked pool.some in
     let most = c.is_whole-whole.ensures.most in
-    omega (arith, all, many, made, left_parts, most, c.len.ensures, c.args.producers.ok.0)) in
+    omega (arith, all, many, made, left_parts, most)) in
     let yes = c.is_whole-whole.ensures.parts.1 parts in
     let whole : IsWhole l = subst IsWhole (c.is_whole-whole.ensures.same yes) (c.is_whole-whole.ensures.whole yes) in
     let ring = subst (λ (s : Shared). IsPassOf s.ring.ring c.collect-handled.new.pass) c.deref-3.ensures c.collect-handled.ensures.ring in
     let places : 1 ≤ l.places = subst (λ n. 1 ≤ n) (sym ring.places) left.some_places in
     let every : count ≡ length starts =
     (let long = length-map inside.workers.items (λ (h : PromisedHandle (Worker S) (Works S)). h.promise.start.value) in
-    omega (arith, long, c.len-2.ensures, inside.workers.ok.0)) in
+    omega (arith, long, c.len.ensures, inside.workers.ok.0)) in
     let halted = only_stops a j k l producers starts crew count own none gather accounts stops collected.passes collected.worked pool.some in
     let report : Report S = record {
       totals = c.of.result;
@@ -167,9 +166,8 @@ returns-clause-all g c =
     let starts : List (Worker S) = map (λ (h : PromisedHandle (Worker S) (Works S)). h.promise.start.value) inside.workers.items in
     let producers = c.args.producers.items in
     let collected = c.collect-handled.ensures.collects in
-    let test = c.if-len-self.false in
-    let enough : inside.made ≤ length producers = omega (arith, test, c.len.ensures, c.args.producers.ok.0) in
+    let enough : inside.made ≤ length producers = subst (λ (v : PoolView S). v.made ≤ length producers) (sym c.self.view_is) c.requires.enough in
     let same = all_came_back inside.pass.known c.gather.new.pass.known c.post_stops.new.pass.known c.collect-handled.new.pass.known producers
-    starts collected.crew c.len-2.result left.pass_unused.0 left.pass_unused.1 c.gather.ensures.passes c.gather.ensures.accounts
+    starts collected.crew c.len.result left.pass_unused.0 left.pass_unused.1 c.gather.ensures.passes c.gather.ensures.accounts
     c.post_stops.ensures.stops collected.passes collected.worked pool.some inside.made left.pass_parts enough c.is_whole-whole.ensures.most in
     same ∙ ap (λ (v : PoolView S). v.made) c.self.view_is
