@@ -121,26 +121,43 @@ fn are_there(rt: &impl Abort, hand: &Option<Block>, spare: &Option<Block>) {
     assert!(rt; hand.is_some() && spare.is_some());
 }
 
+// The same on a ring of blocks: a block is in the hand afterwards, and a spare is there.
+fn keep_on_blocks(
+    rt: &impl Abort,
+    loggers: &Loggers,
+    alloc: Global,
+    ring: &Blocks,
+    pass: &mut SwapPass<Block, Item>,
+    backtrace: &mut Backtrace,
+)
+    requires known { 0 < length loggers.now }
+    requires ring { IsPassOf ring.now.ring pass.old }
+    requires limit { ring.now.ring.limit ≡ record { most = TEXT_LIMIT } }
+    requires backtrace { TEXT_LIMIT ≤ backtrace.old.limit }
+{
+    let (book, mut losses) = new_book(rt, alloc);
+    let mut hand = Some(block_of(rt, alloc));
+    let mut spare = Some(block_of(rt, alloc));
+    let mut port = BlockPort {
+        ring,
+        pass,
+        book: &book,
+        seat: &mut losses,
+        hand: &mut hand,
+        spare: &mut spare,
+    };
+    keep_dump_and_flush(rt, loggers, alloc, &mut port, backtrace);
+    are_there(rt, &hand, &spare);
+}
+
 #[test]
 fn logs_on_blocks(rt: HostRuntime) -> Result<(), Fail> {
     let alloc = rt.alloc();
     let mut backtrace = Backtrace::limited(alloc, 2, TEXT_LIMIT)?;
     let loggers = one(&rt, alloc, Policy::Block, 2);
     let (ring, mut pass) = ring_of(&rt, alloc, 8);
-    let (book, mut losses) = new_book(&rt, alloc);
     let mut other = ring.split(&mut pass, 1);
-    let mut hand = Some(block_of(&rt, alloc));
-    let mut spare = Some(block_of(&rt, alloc));
-    let mut port = BlockPort {
-        ring: &ring,
-        pass: &mut pass,
-        book: &book,
-        seat: &mut losses,
-        hand: &mut hand,
-        spare: &mut spare,
-    };
-    keep_dump_and_flush(&rt, &loggers, alloc, &mut port, &mut backtrace);
-    are_there(&rt, &hand, &spare);
+    keep_on_blocks(&rt, &loggers, alloc, &ring, &mut pass, &mut backtrace);
     take_dumped(&rt, alloc, &ring, &mut other);
     Ok(())
 }
@@ -149,18 +166,34 @@ fn logs_on_blocks(rt: HostRuntime) -> Result<(), Fail> {
 fn when_full(rt: &impl Abort, alloc: Global, policy: Policy, outcome: Outcome<()>) {
     let loggers = one(rt, alloc, policy, 4);
     let (ring, mut pass) = ring_of(rt, alloc, 2);
+    log_to_full_blocks(rt, &loggers, alloc, &ring, &mut pass, outcome);
+}
+
+// The same on this ring of two places.
+fn log_to_full_blocks(
+    rt: &impl Abort,
+    loggers: &Loggers,
+    alloc: Global,
+    ring: &Blocks,
+    pass: &mut SwapPass<Block, Item>,
+    outcome: Outcome<()>,
+)
+    requires known { 0 < length loggers.now }
+    requires ring { IsPassOf ring.now.ring pass.old }
+    requires limit { ring.now.ring.limit ≡ record { most = TEXT_LIMIT } }
+{
     let (book, mut losses) = new_book(rt, alloc);
     let mut hand = Some(block_of(rt, alloc));
     let mut spare = Some(block_of(rt, alloc));
     let mut port = BlockPort {
-        ring: &ring,
-        pass: &mut pass,
+        ring,
+        pass,
         book: &book,
         seat: &mut losses,
         hand: &mut hand,
         spare: &mut spare,
     };
-    log_to_a_full(rt, &loggers, alloc, &mut port, outcome);
+    log_to_a_full(rt, loggers, alloc, &mut port, outcome);
     are_there(rt, &hand, &spare);
 }
 

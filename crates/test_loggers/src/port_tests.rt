@@ -3,10 +3,11 @@ ghost use Rattle.alog_registry.specs.Limit.{IsShort};
 ghost use Rattle.alog_policy.specs.BookCalls.{IsSeatOf};
 ghost use Rattle.alog_policy.specs.Port.{IsFit};
 ghost use Rattle.alog_ring.specs.Known.{IsPassOf, first_known};
+ghost use Rattle.test_loggers.specs.declared.log_tests.TheConstants.{TEXT_LIMIT};
 
 use crate::log_tests::{
-    TEXT_LIMIT, backtrace_of, discarded, dump_twice, is_outcome, is_reply, keep_three,
-    log_to_a_full, number_of, one, overran, posted,
+    TEXT_LIMIT, at_level, backtrace_of, discarded, dump_twice, is_outcome, is_reply, keep_three,
+    log_to_a_full, number_of, one, overran, posted, tells,
 };
 use alog_msg::{Item, Level, Message};
 use alog_policy::{BookSeat, LossBook, Outcome, Policy, Port};
@@ -195,26 +196,39 @@ fn take_dumped(rt: &impl Abort, ring: &Ring<Item>, pass: &mut Pass<Item>)
     assert!(rt; matches!(ring.pop_once(pass), Ok((4, Item::Flush(0)))));
 }
 
-#[test]
-fn a_port_logs_dumps_and_flushes(rt: HostRuntime) -> Result<(), Fail> {
-    let alloc = rt.alloc();
-    let mut backtrace = Backtrace::new(alloc, 2)?;
-    let loggers = one(&rt, alloc, Policy::Block, 2);
-    let (ring, mut pass) = ring_of(&rt, alloc, 8);
-    let (book, mut losses) = new_book(&rt, alloc);
-    let mut other = ring.split(&mut pass, 1);
+// Three messages are kept, the last two are dumped, and then a flush is posted.
+fn keep_dump_and_flush(
+    rt: &impl Abort,
+    loggers: &Loggers,
+    alloc: Global,
+    ring: &Ring<Item>,
+    pass: &mut Pass<Item>,
+)
+    requires known { 0 < length loggers.now }
+    requires ring { IsPassOf ring.now pass.old }
+{
+    let mut backtrace = backtrace_of(rt, alloc, 2);
+    let (book, mut losses) = new_book(rt, alloc);
     let mut port = Port {
-        ring: &ring,
-        pass: &mut pass,
+        ring,
+        pass,
         book: &book,
         seat: &mut losses,
     };
-    keep_three(&rt, &loggers, alloc, &mut port, &mut backtrace);
-    dump_twice(&rt, &loggers, alloc, &mut port, &mut backtrace);
+    keep_three(rt, loggers, alloc, &mut port, &mut backtrace);
+    dump_twice(rt, loggers, alloc, &mut port, &mut backtrace);
     let flushed = loggers.flush(&mut port, 0);
-    is_outcome(&rt, &flushed, &posted(4));
+    is_outcome(rt, &flushed, &posted(4));
+}
+
+#[test]
+fn a_port_logs_dumps_and_flushes(rt: HostRuntime) {
+    let alloc = rt.alloc();
+    let loggers = one(&rt, alloc, Policy::Block, 2);
+    let (ring, mut pass) = ring_of(&rt, alloc, 8);
+    let mut other = ring.split(&mut pass, 1);
+    keep_dump_and_flush(&rt, &loggers, alloc, &ring, &mut pass);
     take_dumped(&rt, &ring, &mut other);
-    Ok(())
 }
 
 // How a log goes under this policy where the ring is full.
@@ -259,6 +273,35 @@ fn takes_short(rt: &impl Abort, ring: &Ring<Item, TextLimit>, pass: &mut Pass<It
     }
 }
 
+// A message of a short text is posted to a ring of such, and kept.
+fn log_short(
+    rt: &impl Abort,
+    loggers: &Loggers,
+    alloc: Global,
+    ring: &Ring<Item, TextLimit>,
+    pass: &mut Pass<Item>,
+    backtrace: &mut Backtrace,
+)
+    requires known { 0 < length loggers.now }
+    requires ring { IsPassOf ring.now pass.old }
+    requires limit { ring.now.limit ≡ record { most = TEXT_LIMIT } }
+    requires backtrace { backtrace.old.limit ≡ TEXT_LIMIT }
+{
+    let (book, mut losses) = new_book(rt, alloc);
+    let mut port = Port {
+        ring,
+        pass,
+        book: &book,
+        seat: &mut losses,
+    };
+    let m1 = at_level(Level::Info, "m1");
+    let wanted = LogReply::Logged {
+        outcome: posted(0),
+        kept: true,
+    };
+    tells(rt, loggers, alloc, &mut port, backtrace, m1, Ok(wanted));
+}
+
 #[test]
 fn a_ring_of_short_texts(rt: HostRuntime) -> Result<(), Fail> {
     let alloc = rt.alloc();
@@ -266,35 +309,8 @@ fn a_ring_of_short_texts(rt: HostRuntime) -> Result<(), Fail> {
     let limit = TextLimit { most: TEXT_LIMIT };
     let (ring, mut pass) = Ring::limited(alloc, 4, 0, limit)?;
     let loggers = one(&rt, alloc, Policy::Block, 1);
-    let (book, mut losses) = new_book(&rt, alloc);
     let mut other = ring.split(&mut pass, 1);
-    let mut port = Port {
-        ring: &ring,
-        pass: &mut pass,
-        book: &book,
-        seat: &mut losses,
-    };
-    let reply = loggers.log_now(
-        alloc,
-        &mut port,
-        &mut backtrace,
-        TEXT_LIMIT,
-        0,
-        Level::Info,
-        0,
-        1,
-        "m1",
-        None,
-    );
-    let outcome = posted(0);
-    is_reply(
-        &rt,
-        reply,
-        Ok(LogReply::Logged {
-            outcome,
-            kept: true,
-        }),
-    );
+    log_short(&rt, &loggers, alloc, &ring, &mut pass, &mut backtrace);
     takes_short(&rt, &ring, &mut other, "m1");
     Ok(())
 }

@@ -216,6 +216,25 @@ fn kept_by_two(
     )
 }
 
+/// The same where both seats come back to this one, and how many messages they kept.
+fn keep_by_two(
+    rt: &impl Threads,
+    lane: &Lane<Backtrace>,
+    seat: &mut LaneSeat<Backtrace>,
+    one: Keeping,
+    two: Keeping,
+) -> usize
+    requires seats { IsSeatOf lane.now one.seat × IsSeatOf lane.now two.seat × IsSeatOf lane.now seat.old }
+    requires limit { TEXT_LIMIT ≤ lane.now.first.limit }
+    ensures { IsSeatOf lane.now seat.new }
+{
+    let (one, two) = kept_by_two(rt, lane, one, two);
+    let kept = one.kept.saturating_add(two.kept);
+    lane.join(seat, one.seat);
+    lane.join(seat, two.seat);
+    kept
+}
+
 /// Whether the turn after so many that kept a message dumps the last of them, those of each thread in order.
 fn dumps_in_order(
     lane: &Lane<Backtrace>,
@@ -241,16 +260,13 @@ fn dumps_in_order(
 #[test]
 fn two_threads_keep(rt: HostRuntime) -> Result<(), Fail> {
     let alloc = rt.alloc();
-    let list = Dumped::new(alloc, ROOM, TEXT_LIMIT_MAX)?;
     let first = messages_of(alloc, 1)?;
     let second = messages_of(alloc, 2)?;
+    let list = Dumped::new(alloc, ROOM, TEXT_LIMIT_MAX)?;
     let (lane, mut seat) = lane_of(&rt, alloc, ROOM);
     let one = Keeping::new(lane.split(&mut seat, 1), first);
     let two = Keeping::new(lane.split(&mut seat, 1), second);
-    let (one, two) = kept_by_two(&rt, &lane, one, two);
-    let kept = one.kept.saturating_add(two.kept);
-    lane.join(&mut seat, one.seat);
-    lane.join(&mut seat, two.seat);
+    let kept = keep_by_two(&rt, &lane, &mut seat, one, two);
     is_so(&rt, dumps_in_order(&lane, &mut seat, list, kept));
     Ok(())
 }

@@ -193,6 +193,28 @@ fn log_dump_and_fill<R: Wait + Clock + Abort>(
     dump_to_a_full_queue(rt, loggers, alloc, port, keeper);
 }
 
+// The same on a new ring.
+fn log_dump_and_fill_a_ring<R: Wait + Clock + Abort>(
+    rt: &R,
+    loggers: &Loggers,
+    alloc: Global,
+    keeper: &mut LaneKeeper<'_>,
+)
+    requires known { 0 < length loggers.now }
+    requires seated { IsSeated keeper.old × HasList keeper.old }
+    requires limit { TEXT_LIMIT_MIN ≤ keeper.old.lane.now.first.limit }
+{
+    let (ring, mut pass) = ring_of(rt, alloc, 8);
+    let (book, mut losses) = new_book(rt, alloc);
+    let mut port = Port {
+        ring: &ring,
+        pass: &mut pass,
+        book: &book,
+        seat: &mut losses,
+    };
+    log_dump_and_fill(rt, loggers, alloc, &mut port, keeper);
+}
+
 #[test]
 fn logs_with_waiting(rt: HostRuntime) -> Result<(), Fail> {
     let alloc = rt.alloc();
@@ -203,20 +225,12 @@ fn logs_with_waiting(rt: HostRuntime) -> Result<(), Fail> {
         list: Some(list),
     };
     let loggers = one(&rt, alloc, Policy::Block, 2);
-    let (ring, mut pass) = ring_of(&rt, alloc, 8);
-    let (book, mut losses) = new_book(&rt, alloc);
-    let mut port = Port {
-        ring: &ring,
-        pass: &mut pass,
-        book: &book,
-        seat: &mut losses,
-    };
     let mut keeper = LaneKeeper {
         lane: &lane,
         seat: &mut seat,
         scratch: &mut scratch,
     };
-    log_dump_and_fill(&rt, &loggers, alloc, &mut port, &mut keeper);
+    log_dump_and_fill_a_ring(&rt, &loggers, alloc, &mut keeper);
     Ok(())
 }
 
