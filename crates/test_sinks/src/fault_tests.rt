@@ -370,16 +370,26 @@ fn first_wrong(
     }
 }
 
-/// That, and whether each member of the fan, which goes then, has the lines before its own fault.
+/// That, and whether each member of the fan has the lines before its own fault.
+fn is_left(
+    alloc: Global,
+    fan: &mut Sink<Fused>,
+    one: usize,
+    two: usize,
+) -> Result<(Option<usize>, bool), Fail> {
+    let wrong = first_wrong(alloc, fan, one, two)?;
+    let are_left = members_leave(fan, &[LINES[one.min(3)], LINES[two.min(3)]])?;
+    Ok((wrong, are_left))
+}
+
+/// The same of a fan that goes then.
 fn ends(
     alloc: Global,
     mut fan: Sink<Fused>,
     one: usize,
     two: usize,
 ) -> Result<(Option<usize>, bool), Fail> {
-    let wrong = first_wrong(alloc, &mut fan, one, two)?;
-    let are_left = members_leave(&fan, &[LINES[one.min(3)], LINES[two.min(3)]])?;
-    Ok((wrong, are_left))
+    is_left(alloc, &mut fan, one, two)
 }
 
 /// The same of a fan whose members' stores fail at these calls.

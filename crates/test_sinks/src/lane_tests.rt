@@ -223,14 +223,43 @@ fn write_and_flush(
 {
     let (mut seat, Draft { text, mut line }) = (seat, given);
     let taken = lane.turn_once(&mut seat, 5, &text, &mut line);
-    assert!(rt; taken != Ok((0, Err(SinkError::Store))), "the store failed");
-    assert!(rt; taken == Ok((0, Ok(Served::Taken(Taken::Written)))));
+    answers(rt, taken, 0, Served::Taken(Taken::Written));
     let flushed = lane.turn_once(&mut seat, 6, &Item::Flush(0), &mut line);
-    assert!(rt; flushed == Ok((1, Ok(Served::Flushed))));
+    answers(rt, flushed, 1, Served::Flushed);
     match lane.close(seat) {
         Ok(sink) => sink,
         Err(_) => panic!(rt; "a seat is out"),
     }
+}
+
+// The turn of this index answered so.
+fn answers(
+    rt: &impl Abort,
+    turn: Result<(u64, Result<Served, SinkError>), Held>,
+    index: u64,
+    wanted: Served,
+) {
+    assert!(rt;
+        turn != Ok((index, Err(SinkError::Store))),
+        "the store failed"
+    );
+    assert!(rt; turn == Ok((index, Ok(wanted))));
+}
+
+// The same with a lane over this sink.
+fn write_on_a_lane(
+    rt: &impl Abort,
+    alloc: Global,
+    sink: Sink<MemStore>,
+    given: Draft,
+) -> Sink<MemStore> {
+    let (lane, seat) = lane_over(rt, alloc, sink, &given, &given);
+    write_and_flush(rt, lane, seat, given)
+}
+
+// Whether the sink, which goes then, leaves one line.
+fn leaves_a_line(sink: Sink<MemStore>) -> Result<bool, SinkError> {
+    leaves(&sink, &[("log", b"a\n")])
 }
 
 #[test]
@@ -238,9 +267,8 @@ fn a_lane_over_a_sink(rt: HostRuntime) -> Result<(), Fail> {
     let alloc = rt.alloc();
     let draft = draft_of(alloc, "a")?;
     let sink = Plan::MEMORY.opened(alloc, MemStore::new(alloc))?;
-    let (lane, seat) = lane_over(&rt, alloc, sink, &draft, &draft);
-    let sink = write_and_flush(&rt, lane, seat, draft);
-    assert!(rt; leaves(&sink, &[("log", b"a\n")])?);
+    let is_left = leaves_a_line(write_on_a_lane(&rt, alloc, sink, draft))?;
+    assert!(rt; is_left);
     Ok(())
 }
 

@@ -228,16 +228,27 @@ impl Case<'_> {
     /// Whether a rotating sink leaves what the definition says.
     fn holds(&self, alloc: Global) -> Result<bool, Fail> {
         let plan = Plan::rotating("log", self.max_size as u64, self.max_files);
-        let mut sink = plan.opened(alloc, self.opening(alloc)?)?;
-        let is_written = writes(alloc, &mut sink, self.pieces)?;
-        let store = sink.store();
-        Ok(
-            is_written
-                && store.is_some_and(|store| {
-                    self.the_cut()
-                        .is_some_and(|cuts| self.are_right(store, cuts))
-                }),
-        )
+        let sink = plan.opened(alloc, self.opening(alloc)?)?;
+        self.is_rotated(alloc, sink)
+    }
+
+    /// Whether a sink that writes the lines leaves what the definition says.
+    fn rotates(&self, alloc: Global, sink: &mut Sink<MemStore>) -> Result<bool, Fail> {
+        let is_written = writes(alloc, sink, self.pieces)?;
+        Ok(is_written && self.is_left(sink.store()))
+    }
+
+    /// The same of a sink that goes then.
+    fn is_rotated(&self, alloc: Global, mut sink: Sink<MemStore>) -> Result<bool, Fail> {
+        self.rotates(alloc, &mut sink)
+    }
+
+    /// Whether a store is there, and has what the definition says.
+    fn is_left(&self, store: Option<&MemStore>) -> bool {
+        match (store, self.the_cut()) {
+            (Some(store), Some(cuts)) => self.are_right(store, cuts),
+            _ => false,
+        }
     }
 }
 

@@ -216,9 +216,14 @@ const TWO: [Deed<'_>; 3] = [
 const FILES_OF_TWO: [Named<'_>; 2] = [&[("log", b"a\nb\n")], &[("log", b"b\n")]];
 
 /// Whether a sink is a fan, and gives what it is given to each member that is to have it.
-fn is_fan_of_two(alloc: Global, mut fan: Sink<MemStore>) -> Result<bool, Fail> {
+fn does_as_a_fan(alloc: Global, fan: &mut Sink<MemStore>) -> Result<bool, Fail> {
     let is_fan = fan.store().is_none() && fan.is_fan();
-    Ok(fan_does(alloc, &mut fan, &TWO, &FILES_OF_TWO)? && is_fan)
+    Ok(fan_does(alloc, fan, &TWO, &FILES_OF_TWO)? && is_fan)
+}
+
+/// The same of a fan that goes then.
+fn is_fan_of_two(alloc: Global, mut fan: Sink<MemStore>) -> Result<bool, Fail> {
+    does_as_a_fan(alloc, &mut fan)
 }
 
 fn gives_to_each(alloc: Global) -> Result<bool, Fail> {

@@ -178,7 +178,17 @@ pub fn fan_of_plan<S: Store + Drop>(
         ..plan
     };
     let one = plan.opened(alloc, one)?;
-    let two = errors.opened(alloc, two)?;
+    fan_with(alloc, one, errors, two)
+}
+
+/// A fan of this sink, and of one of this plan.
+fn fan_with<S: Store + Drop>(
+    alloc: Global,
+    one: Sink<S>,
+    plan: Plan,
+    two: S,
+) -> Result<Sink<S>, Fail> {
+    let two = plan.opened(alloc, two)?;
     fan_of(alloc, members_of(alloc, one, two)?)
 }
 
