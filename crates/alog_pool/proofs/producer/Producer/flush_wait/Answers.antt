@@ -6,7 +6,8 @@ use Rattle.alog_policy.specs.SwapPort.{SwapDid}
 use Rattle.alog_policy.specs.declared.policy.Policy.TheVariants as under
 use Rattle.alog_pool.specs.Producer.{ProducerView, IsPortOf}
 use Rattle.alog_pool.specs.declared.shared.Shared.{Shared}
-use Rattle.alog_pool.proofs.Producing.{Queueing, posts_port, has_spec, still_blocks, still_producer, port_after}
+use Rattle.alog_registry.proofs.SharedListing.{spec_there}
+use Rattle.alog_pool.proofs.Producing.{Queueing, posts_port, still_blocks, still_producer, port_after}
 use Rattle.alog_registry.specs.ItemOutlet.{PostsItem}
 use Rattle.alog_registry.specs.Listed.{spec_at}
 use Rattle.alog_registry.specs.declared.logger.Logger.{Logger}
@@ -18,7 +19,7 @@ shape_of-self-inside g c =
     let known : c.args.number < length c.deref-shared.result.now.loggers =
     subst (λ (l : List Logger). c.args.number < length l)
     (sym (ap (λ (x : Shared). x.loggers) c.deref-shared.ensures ∙ ap (λ (w : ProducerView). w.shared.loggers) c.self.view_is)) c.requires.known in
-    let s = has_spec c.deref-shared.result.now.loggers c.args.number known in
+    let s = spec_there c.deref-shared.result.now.loggers c.args.number known in
     let alike = posts_port _ _ _ c.flush_wait.new.outlet c.flush_wait.result refl (c.flush_wait.ensures.post s.0 s.1) in
     sym alike.spare
 
@@ -27,7 +28,7 @@ shape_of-self-inside-2 g c =
     let known : c.args.number < length c.deref-shared.result.now.loggers =
     subst (λ (l : List Logger). c.args.number < length l)
     (sym (ap (λ (x : Shared). x.loggers) c.deref-shared.ensures ∙ ap (λ (w : ProducerView). w.shared.loggers) c.self.view_is)) c.requires.known in
-    let s = has_spec c.deref-shared.result.now.loggers c.args.number known in
+    let s = spec_there c.deref-shared.result.now.loggers c.args.number known in
     let alike = posts_port _ _ _ c.flush_wait.new.outlet c.flush_wait.result refl (c.flush_wait.ensures.post s.0 s.1) in
     sym alike.hand
 
@@ -36,7 +37,7 @@ shape_of-self-inside-3 g c =
     let known : c.args.number < length c.deref-shared.result.now.loggers =
     subst (λ (l : List Logger). c.args.number < length l)
     (sym (ap (λ (x : Shared). x.loggers) c.deref-shared.ensures ∙ ap (λ (w : ProducerView). w.shared.loggers) c.self.view_is)) c.requires.known in
-    let s = has_spec c.deref-shared.result.now.loggers c.args.number known in
+    let s = spec_there c.deref-shared.result.now.loggers c.args.number known in
     let alike = posts_port _ _ _ c.flush_wait.new.outlet c.flush_wait.result refl (c.flush_wait.ensures.post s.0 s.1) in
     sym alike.seat
 
@@ -45,7 +46,7 @@ shape_of-self-inside-4 g c =
     let known : c.args.number < length c.deref-shared.result.now.loggers =
     subst (λ (l : List Logger). c.args.number < length l)
     (sym (ap (λ (x : Shared). x.loggers) c.deref-shared.ensures ∙ ap (λ (w : ProducerView). w.shared.loggers) c.self.view_is)) c.requires.known in
-    let s = has_spec c.deref-shared.result.now.loggers c.args.number known in
+    let s = spec_there c.deref-shared.result.now.loggers c.args.number known in
     let alike = posts_port _ _ _ c.flush_wait.new.outlet c.flush_wait.result refl (c.flush_wait.ensures.post s.0 s.1) in
     sym alike.pass
 
@@ -55,7 +56,7 @@ invariant_of-self g c =
     let known : c.args.number < length c.deref-shared.result.now.loggers =
     subst (λ (l : List Logger). c.args.number < length l)
     (sym (ap (λ (x : Shared). x.loggers) c.deref-shared.ensures ∙ ap (λ (w : ProducerView). w.shared.loggers) c.self.view_is)) c.requires.known in
-    let s = has_spec c.deref-shared.result.now.loggers c.args.number known in
+    let s = spec_there c.deref-shared.result.now.loggers c.args.number known in
     let alike = posts_port _ _ _ c.flush_wait.new.outlet c.flush_wait.result refl (c.flush_wait.ensures.post s.0 s.1) in
     let ring = ap (λ (x : Shared). x.ring) c.deref-shared.ensures in (
       still_producer c.self.invariant.0 ring (ap (λ (x : Shared). x.book) c.deref-shared.ensures) refl refl alike c.flush_wait.ensures.ready,
