@@ -3,7 +3,7 @@ use Rattle.alog_registry.proofs.SharedListing.{spec_there}
 use Rattle.alog_pipe.proofs.piece_log.PieceLog.flush.Goals as goal
 
 pub returns : goal.returns
-returns c =
+returns g c =
     let old = c.args.self.now in
     let s = spec_there old.producer.shared.loggers old.logger c.requires.0 in
     let post = c.flush_wait.ensures.post s.0 s.1 in
