@@ -126,8 +126,8 @@ module _ {S : Type 0} (law : OneReading) (tells : Bool) (tell : tells ≡ true) 
       } in
       subst (λ (z : Sink S). AreAlone files z y) (sym o.is) (subst (λ (z : Sink S). AreAlone files (Leaf o.leaf) z) (sym p.is) alike)
 
-  names_apart : Apart (λ (s : SinkConfig). s.name) c.sinks.items
-  names_apart = names_apart c.text [] c.sinks.items c.sound.each_sink
+  own_names : Apart (λ (s : SinkConfig). s.name) c.sinks.items
+  own_names = names_apart c.text [] c.sinks.items c.sound.each_sink
 
   named_pair : (name : List ℕ) (x y : Sink S) → IsNamed b.parts name x → IsNamed d.parts name y → AreAlone files x y
   named_pair name x y h g =
@@ -139,7 +139,7 @@ module _ {S : Type 0} (law : OneReading) (tells : Bool) (tell : tells ≡ true) 
       let other : slice_get c.sinks.items g.0 ≡ Some q.config.now = mapped_at (λ p. p.config.now) d.parts c.sinks.items d.of g.0 q to in
       let nm : SinkConfig → List ℕ = λ s. s.name in
       let same : h.0 ≡ g.0 =
-      one_place nm c.sinks.items h.0 g.0 name names_apart (ap (option_map nm) one ∙ ap Some h.4.0)
+      one_place nm c.sinks.items h.0 g.0 name own_names (ap (option_map nm) one ∙ ap Some h.4.0)
       (ap (option_map nm) other ∙ ap Some g.4.0) in
       let config : q.config.now ≡ p.config.now =
       same_Some q.config.now p.config.now (sym other ∙ (ap (slice_get c.sinks.items) (sym same) ∙ one)) in
@@ -200,7 +200,7 @@ module _ {S : Type 0} (law : OneReading) (tells : Bool) (tell : tells ≡ true) 
   same_place : (name : List ℕ) (i j : ℕ) → IsPlace b.tops name i → IsPlace d.tops name j → i ≡ j
   same_place name i j h g =
       let nm : SinkConfig → List ℕ = λ s. s.name in
-      let items = subst (λ (xs : List SinkConfig). Apart nm xs) (sym b.of) names_apart in
+      let items = subst (λ (xs : List SinkConfig). Apart nm xs) (sym b.of) own_names in
       let apart = apart_picked _ (λ p. p.config.now.name) b.parts b.tops b.picked (apart_of_map (λ p. p.config.now) nm b.parts items) in
       let names = each_map (λ p q. (p.config.now ≡ q.config.now) × AlikeSinks files p.sink q.sink) (λ p. p.config.now.name)
       (λ p. p.config.now.name) (λ p q r. ap nm r.0) b.tops d.tops tops_pair in
