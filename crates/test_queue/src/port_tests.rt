@@ -136,45 +136,54 @@ fn leaves(rt: &impl Abort, ring: Ring<u64>, pass: Pass<u64>, wanted: &[(u64, u64
     }
 }
 
-// Posts on a ring of two places: whether one may wait, the policy, the value, and its ticket with how many it overran; there is
-// none where the ring has no room.
-const POSTS: [(bool, Policy, u64, Option<(u64, u64)>); 5] = [
-    (true, Policy::Block, 7, Some((0, 0))),
-    (true, Policy::DiscardNew, 8, Some((1, 0))),
-    (false, Policy::DiscardNew, 9, None),
-    (true, Policy::OverrunOldest, 9, Some((2, 1))),
-    (false, Policy::OverrunOldest, 10, Some((3, 1))),
-];
-
-fn posts_each(
-    rt: &(impl Abort + Wait + Clock),
-    ring: &Ring<u64>,
-    pass: &mut Pass<u64>,
-    book: &LossBook,
-    seat: &mut BookSeat,
-)
-    requires { IsPassOf ring.now pass.old × IsSeatOf book.now seat.old }
-    ensures { IsPassOf ring.now pass.new × IsSeatOf book.now seat.new }
-{
-    for (may_wait, policy, value, end) in POSTS {
-        let wanted = match end {
-            Some((ticket, overran)) => posted(ticket, overran),
-            None => discarded(value, Why::Full),
-        };
-        if may_wait {
-            waits(rt, ring, pass, book, seat, policy, value, wanted);
-        } else {
-            goes(rt, ring, pass, book, seat, policy, value, wanted);
-        }
-    }
-}
-
 #[test]
 fn a_lone_port_posts(rt: HostRuntime) {
     let (ring, mut pass) = ring_of_two(&rt, rt.alloc(), 0);
     let (book, mut seat) = new_book(&rt, rt.alloc());
     let other = book.split(&mut seat, 1);
-    posts_each(&rt, &ring, &mut pass, &book, &mut seat);
+    waits(
+        &rt,
+        &ring,
+        &mut pass,
+        &book,
+        &mut seat,
+        Policy::Block,
+        7,
+        posted(0, 0),
+    );
+    waits(
+        &rt,
+        &ring,
+        &mut pass,
+        &book,
+        &mut seat,
+        Policy::DiscardNew,
+        8,
+        posted(1, 0),
+    );
+    let full = discarded(9, Why::Full);
+    goes(
+        &rt,
+        &ring,
+        &mut pass,
+        &book,
+        &mut seat,
+        Policy::DiscardNew,
+        9,
+        full,
+    );
+    waits(
+        &rt,
+        &ring,
+        &mut pass,
+        &book,
+        &mut seat,
+        Policy::OverrunOldest,
+        9,
+        posted(2, 1),
+    );
+    let (over, third) = (Policy::OverrunOldest, posted(3, 1));
+    goes(&rt, &ring, &mut pass, &book, &mut seat, over, 10, third);
     has_lost(&rt, &book, &mut seat, losses(2, 1));
     let (book, mut seat) = stays(&rt, book, seat);
     book.join(&mut seat, other);
@@ -228,34 +237,6 @@ fn hands(
     assert!(rt; (outcome, hand) == wanted);
 }
 
-// Posts out of a hand on a ring of two places: the policy, the value, and its ticket with how many it overran; where there is no
-// room, it stays in the hand.
-const HANDED: [(Policy, u64, Option<(u64, u64)>); 4] = [
-    (Policy::Block, 7, Some((0, 0))),
-    (Policy::DiscardNew, 8, Some((1, 0))),
-    (Policy::DiscardNew, 9, None),
-    (Policy::OverrunOldest, 9, Some((2, 1))),
-];
-
-fn hands_each(
-    rt: &(impl Abort + Wait + Clock),
-    ring: &Ring<u64>,
-    pass: &mut Pass<u64>,
-    book: &LossBook,
-    seat: &mut BookSeat,
-)
-    requires { IsPassOf ring.now pass.old × IsSeatOf book.now seat.old }
-    ensures { IsPassOf ring.now pass.new × IsSeatOf book.now seat.new }
-{
-    for (policy, value, end) in HANDED {
-        let wanted = match end {
-            Some((ticket, overran)) => (gone(ticket, overran), None),
-            None => (no_room(), Some(value)),
-        };
-        hands(rt, ring, pass, book, seat, policy, value, wanted);
-    }
-}
-
 fn no_room() -> Outcome<()> {
     Outcome::Discarded {
         value: (),
@@ -268,7 +249,47 @@ fn no_room() -> Outcome<()> {
 fn a_hand_keeps_what_is_discarded(rt: HostRuntime) {
     let (ring, mut pass) = ring_of_two(&rt, rt.alloc(), 0);
     let (book, mut seat) = new_book(&rt, rt.alloc());
-    hands_each(&rt, &ring, &mut pass, &book, &mut seat);
+    let (kept, over) = (Policy::DiscardNew, Policy::OverrunOldest);
+    hands(
+        &rt,
+        &ring,
+        &mut pass,
+        &book,
+        &mut seat,
+        Policy::Block,
+        7,
+        (gone(0, 0), None),
+    );
+    hands(
+        &rt,
+        &ring,
+        &mut pass,
+        &book,
+        &mut seat,
+        kept,
+        8,
+        (gone(1, 0), None),
+    );
+    hands(
+        &rt,
+        &ring,
+        &mut pass,
+        &book,
+        &mut seat,
+        kept,
+        9,
+        (no_room(), Some(9)),
+    );
+    hands(
+        &rt,
+        &ring,
+        &mut pass,
+        &book,
+        &mut seat,
+        over,
+        9,
+        (gone(2, 1), None),
+    );
     has_lost(&rt, &book, &mut seat, losses(1, 1));
 }
 
