@@ -135,16 +135,9 @@ impl<S: Store + Drop> Session<S> {
             return Err(LineError::Refused);
         }
         match self.take_duty(actor) {
-            Duty::Free => {
-                self.advance(actor, out)?;
-                Ok(())
-            }
-            Duty::Works => {
-                let said = self.advance(actor, out)?;
-                self.owe(actor, owed(said));
-                Ok(())
-            }
-            Duty::Owes { ticket, pushed } => Ok(self.settle(actor, ticket, &pushed, out)?),
+            Duty::Free => self.step_free(actor, out),
+            Duty::Works => self.step_worker(actor, out),
+            Duty::Owes { ticket, pushed } => self.settle(actor, ticket, &pushed, out),
         }
     }
 
@@ -155,13 +148,14 @@ impl<S: Store + Drop> Session<S> {
         ticket: u64,
         pushed: &Pushed,
         out: &mut String,
-    ) -> Result<(), AllocError>
-        ensures { OnOk result ((written : Bool) × (memory : MemoryFile)
+    ) -> Result<(), LineError>
+        ensures settled { OnOk result ((written : Bool) × (memory : MemoryFile)
             × Turns true self.old.memory pushed.now.text written memory × (self.new ≡ with_memory self.old memory)
             × (string_bytes out.new ≡ string_bytes out.old ++ memory_turn_text actor ticket written)) }
+        ensures cause { IfErr result (λ e. e ≡ LineError.OutOfMemory) }
     {
         let written = self.memory.take(pushed);
-        print_memory_turn(out, actor.number(), ticket, written)
+        Ok(print_memory_turn(out, actor.number(), ticket, written)?)
     }
 
     /// Carries out an act where the queue is open.
@@ -218,6 +212,32 @@ impl<S: Store + Drop> Session<S> {
         ensures { self.new ≡ with_duty self.old actor duty }
     {
         self.duties[usize::from(actor.number())] = duty;
+    }
+
+    /// The next step of a push, a post, or a pop by no worker.
+    fn step_free(&mut self, actor: Actor, out: &mut String) -> Result<(), LineError>
+        requires in_call { is_idle (round_of self.old.desk.world actor) ≡ false }
+        ensures stepped { OnOk result (self.new ≡ with_desk self.old (desk_stepped self.old.desk actor)) }
+        ensures printed { OnOk result (string_bytes out.new
+            ≡ string_bytes out.old ++ stepped_text shown_message actor (desk_told self.old.desk actor)) }
+        ensures cause { IfErr result (λ e. e ≡ LineError.OutOfMemory) }
+    {
+        self.advance(actor, out)?;
+        Ok(())
+    }
+
+    /// The next step of a worker's pop, and what it then owes.
+    fn step_worker(&mut self, actor: Actor, out: &mut String) -> Result<(), LineError>
+        requires in_call { is_idle (round_of self.old.desk.world actor) ≡ false }
+        ensures stepped { OnOk result (self.new ≡ with_duty (with_desk self.old (desk_stepped self.old.desk actor)) actor
+            (work_after (desk_told self.old.desk actor).said)) }
+        ensures printed { OnOk result (string_bytes out.new
+            ≡ string_bytes out.old ++ stepped_text shown_message actor (desk_told self.old.desk actor)) }
+        ensures cause { IfErr result (λ e. e ≡ LineError.OutOfMemory) }
+    {
+        let said = self.advance(actor, out)?;
+        self.owe(actor, owed(said));
+        Ok(())
     }
 
     /// The next step of a push, a pop or a post.
