@@ -1,12 +1,13 @@
 //! Starting a server: from the text of a configuration, over the files of a folder.
-ghost use Rattle.std.specs.Prelude.{IfOk, IfErr};
+ghost use Rattle.std.specs.Prelude.{ℕ, List, Ok, IfOk, IfErr};
+ghost use Rattle.alog_config.specs.Meaning.{Reads};
 ghost use Rattle.alog_server.specs.Starting.{IsServerOn, IsOfFault, IsReasonFor};
 
 use crate::error::StartError;
 use crate::folders::{Folders, folder_stores};
 use crate::server::Server;
 use crate::writable::{Hold, hold_folder};
-use alog_config::{ConfigFault, Place, explain, leaves, read};
+use alog_config::{Config, ConfigFault, Place, explain, leaves, read};
 use std::alloc::{AllocError, Global};
 use std::rt::Files;
 use std::sync::Wait;
@@ -25,16 +26,29 @@ pub fn start<R: Files + Folders + Threads + Wait + Clock + Clone + Drop + Send +
     ensures started { IfOk result (λ s. IsServerOn R.Folder.tells R.Folder.files R.Folder.failures document.now s.pool s.sinks.items) }
     ensures refused { IfErr result (IsReasonFor document.now) }
 {
-    let config = match read(alloc, document) {
-        Ok(config) => config,
-        Err(fault) => return Err(refused(alloc, document, fault)),
-    };
-    let lock = match hold_folder(rt, alloc, folder, &config)? {
+    match read(alloc, document) {
+        Ok(config) => start_with(rt, alloc, &config, folder),
+        Err(fault) => Err(refused(alloc, document, fault)),
+    }
+}
+
+/// The same of the configuration that a document has.
+fn start_with<R: Files + Folders + Threads + Wait + Clock + Clone + Drop + Send + 'static>(
+    rt: &R,
+    alloc: Global,
+    config: &Config,
+    folder: &str,
+) -> Result<Server<R::Folder, R::Lock>, StartError>
+    ensures started { (document : List ℕ) → Reads document (Ok config.now)
+        → IfOk result (λ s. IsServerOn R.Folder.tells R.Folder.files R.Folder.failures document s.pool s.sinks.items) }
+    ensures refused { (document : List ℕ) → Reads document (Ok config.now) → IfErr result (IsReasonFor document) }
+{
+    let lock = match hold_folder(rt, alloc, folder, config)? {
         Hold::Held(lock) => lock,
         Hold::Refused(text) => return Err(StartError::Unwritable { text }),
     };
-    let stores = folder_stores(rt, alloc, folder, leaves(&config))?;
-    Server::holding(rt, alloc, &config, stores, lock)
+    let stores = folder_stores(rt, alloc, folder, leaves(config))?;
+    Server::holding(rt, alloc, config, stores, lock)
 }
 
 /// Why a server is not started of a document that has this fault.

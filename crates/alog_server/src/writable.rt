@@ -59,29 +59,56 @@ fn unwritable<R: Files>(
     folder: &str,
     config: &Config,
 ) -> Result<Option<String>, AllocError> {
-    match fs::metadata(rt, folder) {
-        Ok(found) if found.is_dir() => {}
-        Ok(_) => return Ok(Some(format!(in alloc; "{folder} is no folder")?)),
-        Err(error) => return takes_none(alloc, folder, error),
-    }
-    if let Err(error) = takes_files(rt, alloc, folder) {
-        return takes_none(alloc, folder, error);
+    if let Some(text) = unwritable_folder(rt, alloc, folder)? {
+        return Ok(Some(text));
     }
     for sink in &config.sinks {
         let Some(file) = lasting_file(&sink.kind) else {
             continue;
         };
-        if file == LOCK_FILE {
-            return Ok(Some(format!(in alloc;
-                "{folder}/{file} is the lock of the folder, and can be no file of a sink"
-            )?));
-        }
-        if let Err(error) = takes_lines(rt, alloc, folder, file) {
-            let text = format!(in alloc; "{folder}/{file} cannot be written: {error}")?;
-            return told(text, error);
+        if let Some(text) = unwritable_file(rt, alloc, folder, file)? {
+            return Ok(Some(text));
         }
     }
     Ok(None)
+}
+
+/// What keeps new files from being made in a folder, in words, where something does.
+fn unwritable_folder<R: Files>(
+    rt: &R,
+    alloc: Global,
+    folder: &str,
+) -> Result<Option<String>, AllocError> {
+    match fs::metadata(rt, folder) {
+        Ok(found) if found.is_dir() => {}
+        Ok(_) => return Ok(Some(format!(in alloc; "{folder} is no folder")?)),
+        Err(error) => return takes_none(alloc, folder, error),
+    }
+    match takes_files(rt, alloc, folder) {
+        Ok(()) => Ok(None),
+        Err(error) => takes_none(alloc, folder, error),
+    }
+}
+
+/// What keeps this file of a sink from being written to a folder, in words, where something does.
+fn unwritable_file<R: Files>(
+    rt: &R,
+    alloc: Global,
+    folder: &str,
+    file: &str,
+) -> Result<Option<String>, AllocError> {
+    if file == LOCK_FILE {
+        return Ok(Some(format!(in alloc;
+            "{folder}/{file} is the lock of the folder, and can be no file of a sink"
+        )?));
+    }
+    match takes_lines(rt, alloc, folder, file) {
+        Ok(()) => Ok(None),
+        Err(error) => {
+            let text = format!(in alloc; "{folder}/{file} cannot be written: {error}")?;
+            told(text, error)
+        }
+    }
 }
 
 /// What is said of a folder that takes no files, for this reason.
