@@ -1,5 +1,9 @@
 //! The calls of a client. A message has the time of its call.
 ghost use Rattle.std.specs.Prelude.{◌≡◌, None, Some};
+ghost use Rattle.alog_policy.specs.Outlet.{IsPostedOrSpent};
+ghost use Rattle.alog_policy.specs.declared.policy.Policy.TheVariants as under;
+ghost use Rattle.alog_registry.specs.Listed.{spec_at};
+ghost use Rattle.alog_registry.specs.declared.logger.Spec.{Spec};
 ghost use Rattle.alog_server.specs.Reasons.{answer_of, outcomes_of};
 ghost use Rattle.alog_server.specs.Says.{Dumps, DumpsAt, Flushes, Says, SaysAt, Waiting, AtOnce};
 
@@ -171,9 +175,11 @@ impl<H: Home> Client<H> {
     }
 
     /// Posts a flush of the logger, as `alog_pool::Producer::flush_wait` does: where the queue is full it waits under the policy
-    /// `block`, and it takes no memory.
+    /// `block`, so that it is posted or no ticket is left, and it takes no memory.
     pub fn flush_wait(&mut self, rt: &(impl Wait + Clock), logger: &Logger<H>) -> Outcome<()>
-        ensures { Flushes Waiting logger.now.number self.old result self.new }
+        ensures post { Flushes Waiting logger.now.number self.old result self.new }
+        ensures blocks { (s : Spec) → spec_at self.old.shared.loggers logger.now.number ≡ Some s → s.policy ≡ under.Block
+            → IsPostedOrSpent result }
     {
         self.producer.flush_wait(rt, logger.number)
     }
