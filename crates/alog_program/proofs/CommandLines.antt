@@ -11,7 +11,7 @@ use Rattle.clap.specs.declared.error.kind.ErrorKind.TheVariants.{OutOfMemory}
 use Rattle.clap.specs.declared.parser.matches.ArgMatches.{ArgMatches}
 use Rattle.clap.proofs.OnLiterals.{clap_on_literals}
 use Rattle.clap.proofs.WalkLemmas.{first_value-rows}
-use Rattle.alog_program.specs.CommandLine.{alog_app, config_in, values_in, Names}
+use Rattle.alog_program.specs.CommandLine.{alog_app, config_in, values_in, AreMatchesOf, AsksCommand, Names}
 use Rattle.alog_program.specs.Options.{value_of}
 use Rattle.alog_program.specs.Words.{AsksReplay}
 
@@ -63,18 +63,17 @@ module _ (app : App) (e : app ≡ alog_app) (words : List Text) where
       → HasKind (fault_of alog_app words) error
   has_kind error kinds = subst (λ (a : App). HasKind (fault_of a words) error) e (kinds (ap is_simple_and_free e ∙ alog_is_free))
 
-  entered_is : (m : ArgMatches) → HasMatchesOf app words m → subcommand_rows_of m ≡ subcommand_of alog_app words
+  pub entered_is : (m : ArgMatches) → HasMatchesOf app words m → subcommand_rows_of m ≡ subcommand_of alog_app words
   entered_is m has = (has (ap is_simple e ∙ alog_is_simple)).1 ∙ ap (λ (a : App). subcommand_of a words) e
 
-  pub names_command : (command : Text) (m : ArgMatches) (rows : List Row) → HasMatchesOf app words m
-      → subcommand_name_of m ≡ Some command → option_map (λ p. p.1) (subcommand_rows_of m) ≡ Some rows → Names command words rows
-  names_command command m rows has name is =
-      sym (entered_is m has) ∙ pair_is (subcommand_rows_of m) command rows (sym (named m) ∙ name) is
+-- what the matches of words name, the words name
+module _ (words : List Text) (m : ArgMatches) (are : AreMatchesOf words m) (command : Text) where
+  pub names_command : (rows : List Row) → subcommand_name_of m ≡ Some command → option_map (λ p. p.1) (subcommand_rows_of m) ≡ Some rows
+      → AsksCommand command words rows
+  names_command rows name is = (are.0, sym are.1 ∙ pair_is (subcommand_rows_of m) command rows (sym (named m) ∙ name) is)
 
-  pub names_no_command : (command : Text) (m : ArgMatches) (rows : List Row) → HasMatchesOf app words m
-      → (subcommand_name_of m ≡ Some command → ⊥) → Names command words rows → ⊥
-  names_no_command command m rows has other is =
-      other (named m ∙ ap (option_map (λ (p : Text × List Row). p.0)) (entered_is m has ∙ is))
+  pub names_no_command : (rows : List Row) → (subcommand_name_of m ≡ Some command → ⊥) → Names command words rows → ⊥
+  names_no_command rows other is = other (named m ∙ ap (option_map (λ (p : Text × List Row). p.0)) (are.1 ∙ is))
 
 replay_has_no_fault : (words : List Text) → AsksReplay words → fault_of alog_app words ≡ []
 replay_has_no_fault words asks = subst (λ (w : List Text). fault_of alog_app w ≡ []) (sym asks.1) (replay_fault asks.0)

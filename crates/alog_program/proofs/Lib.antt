@@ -3,3 +3,4 @@ mod Commands
 mod CommandLines
 mod Loading
 mod Piping
+mod Making

@@ -1,10 +1,11 @@
 -- What command lines the program takes, in the words of `clap`, which defines what it makes of them.
 use Rattle.std.specs.Prelude.{◌≡◌, ◌⊎◌, List, [], ◌∷◌, Option, Some, IsNone, IsSome, codes, true, false}
 use Rattle.clap.specs.Words.{App, Row, Rule, Text, first_of, new_app, new_rule, with_rule, with_subcommand, subcommand_of, fault_of}
-use Rattle.clap.specs.Words.{HasKind, app_of}
+use Rattle.clap.specs.Words.{HasKind, app_of, subcommand_rows_of}
 use Rattle.clap.specs.declared.builder.action.ArgAction.TheVariants.{SetTrue}
 use Rattle.clap.specs.declared.builder.command.Command.TheViews.{out-Command}
 use Rattle.clap.specs.declared.builder.command.Command.{Command}
+use Rattle.clap.specs.declared.parser.matches.ArgMatches.{ArgMatches}
 use Rattle.alog_program.specs.LoadOptions.{AsksForLoad, IsFirstUnread}
 use Rattle.alog_program.specs.Options.{Values, AsksFor, IsFirstRefused, Refuses, text_of}
 use Rattle.alog_program.specs.PipeOptions.{AsksForPipe}
@@ -105,6 +106,10 @@ config_in rows = values_in rows (codes "config")
 -- the folder that `--folder` names, if it is given
 abbrev pub folder_in : List Row → Option Text
 folder_in rows = values_in rows (codes "folder")
+
+-- the words have no fault, and these are their matches
+abbrev pub AreMatchesOf : List Text → ArgMatches → Type 0
+AreMatchesOf words m = (fault_of alog_app words ≡ []) × (subcommand_rows_of m ≡ subcommand_of alog_app words)
 
 -- `alog replay --config`
 abbrev pub AsksReplayConfig : List Text → List Row → Type 0

@@ -12,3 +12,4 @@ pub mod Formats
 pub mod Checks
 pub mod Loaded
 pub mod Piped
+pub mod Made

@@ -67,27 +67,77 @@ where
         R.Folder.failures document.now request.now result
         (O.contents output.old) (O.contents output.new)) }
 {
-    let alloc = rt.alloc();
-    let config = match read(alloc, document) {
-        Ok(config) => config,
-        Err(fault) => return refuse(alloc, document, fault, errors),
-    };
-    let count = leaves(&config);
+    match read(rt.alloc(), document) {
+        Ok(config) => load_with(rt, &config, request, output, errors),
+        Err(fault) => refuse(rt.alloc(), document, fault, errors),
+    }
+}
+
+/// Makes the load of this configuration, over files of the folder that is asked for, or over stores in memory.
+fn load_with<R, O: Write, E: Write>(
+    rt: &R,
+    config: &Config,
+    request: &LoadRequest<'_>,
+    output: &mut O,
+    errors: &mut E,
+) -> u8
+where
+    R: AllocGlobal + Files + Folders + Screen + Threads + Wait + Clock,
+    R: Clone + Drop + Send + Sync + 'static,
+    ensures { MatchOption request.now.folder
+        (LoadsOn ⟦<MemStore as Store>⟧.tells ⟦<MemStore as Store>⟧.files ⟦<MemStore as Store>⟧.failures
+        config.now request.now result (O.contents output.old) (O.contents output.new))
+        (λ _. LoadsOn R.Folder.tells R.Folder.files
+        R.Folder.failures config.now request.now result
+        (O.contents output.old) (O.contents output.new)) }
+{
     match request.folder {
-        None => match memory_stores(alloc, count) {
-            Ok(stores) => load_over(rt, &config, stores, request, output, errors),
-            Err(_) => refuse_load(LoadError::OutOfMemory, errors),
-        },
-        Some(path) => {
-            let mut lock = None;
-            if let Some(status) = refused_folder(rt, path, &config, request, &mut lock, errors) {
-                return status;
-            }
-            match folder_stores(rt, alloc, path, count) {
-                Ok(stores) => load_over(rt, &config, stores, request, output, errors),
-                Err(_) => refuse_load(LoadError::OutOfMemory, errors),
-            }
-        }
+        None => load_in_memory(rt, config, request, output, errors),
+        Some(path) => load_to_folder(rt, path, config, request, output, errors),
+    }
+}
+
+/// Makes the load of this configuration over stores in memory.
+fn load_in_memory<R, O: Write, E: Write>(
+    rt: &R,
+    config: &Config,
+    request: &LoadRequest<'_>,
+    output: &mut O,
+    errors: &mut E,
+) -> u8
+where
+    R: AllocGlobal + Screen + Threads + Wait + Clock + Clone + Drop + Send + Sync + 'static,
+    ensures { LoadsOn ⟦<MemStore as Store>⟧.tells ⟦<MemStore as Store>⟧.files ⟦<MemStore as Store>⟧.failures
+        config.now request.now result (O.contents output.old) (O.contents output.new) }
+{
+    match memory_stores(rt.alloc(), leaves(config)) {
+        Ok(stores) => load_over(rt, config, stores, request, output, errors),
+        Err(_) => refuse_load(LoadError::OutOfMemory, errors),
+    }
+}
+
+/// Makes the load of this configuration over the files of this folder, which is held for them.
+fn load_to_folder<R, O: Write, E: Write>(
+    rt: &R,
+    path: &str,
+    config: &Config,
+    request: &LoadRequest<'_>,
+    output: &mut O,
+    errors: &mut E,
+) -> u8
+where
+    R: AllocGlobal + Files + Folders + Screen + Threads + Wait + Clock,
+    R: Clone + Drop + Send + Sync + 'static,
+    ensures { LoadsOn R.Folder.tells R.Folder.files R.Folder.failures
+        config.now request.now result (O.contents output.old) (O.contents output.new) }
+{
+    let mut lock = None;
+    if let Some(status) = refused_folder(rt, path, config, request, &mut lock, errors) {
+        return status;
+    }
+    match folder_stores(rt, rt.alloc(), path, leaves(config)) {
+        Ok(stores) => load_over(rt, config, stores, request, output, errors),
+        Err(_) => refuse_load(LoadError::OutOfMemory, errors),
     }
 }
 

@@ -1,5 +1,5 @@
 //! The values of the options of `alog format`.
-ghost use Rattle.std.specs.Prelude.{◌≡◌, ◌↔◌, IsNone, IfOk, IfErr, IfSome, MatchOption, Some, codes, neg_ℤ, pos, ◌≤ℤ◌};
+ghost use Rattle.std.specs.Prelude.{◌≡◌, ◌≤◌, ◌↔◌, IsNone, IfOk, IfErr, IfSome, MatchOption, Some, codes, neg_ℤ, pos, ◌≤ℤ◌};
 ghost use Rattle.std.specs.Str.Parse.{digits_value, signed_digits_value};
 ghost use Rattle.alog_format.specs.Civil.{IsZone};
 ghost use Rattle.alog_msg.specs.Level.{Names};
@@ -130,9 +130,8 @@ pub(crate) fn line_request<'a>(matches: &ArgMatches<'a>) -> Result<LineRequest<'
     let zone = zone(matches, offset)?;
     let level = level(matches)?;
     let thread = unsigned(matches, FormatOption::Thread, u64::MAX)?;
-    let most = u64::from(u32::MAX);
-    let process = unsigned(matches, FormatOption::Process, most)?;
-    let line = unsigned(matches, FormatOption::Line, most)?;
+    let process = unsigned_32(matches, FormatOption::Process)?;
+    let line = unsigned_32(matches, FormatOption::Line)?;
     let previous = previous(matches)?;
     Ok(LineRequest {
         pattern: text(matches, "PATTERN"),
@@ -141,11 +140,8 @@ pub(crate) fn line_request<'a>(matches: &ArgMatches<'a>) -> Result<LineRequest<'
         level,
         time,
         thread,
-        source: source(matches, line as u32),
-        context: Context {
-            zone,
-            process: process as u32,
-        },
+        source: source(matches, line),
+        context: Context { zone, process },
         previous,
     })
 }
@@ -229,6 +225,7 @@ fn unsigned<'a>(
     requires kind { allowed_of option ≡ Unsigned most }
     requires stands { MayStand (value_of matches.now) option }
     ensures read { IfOk result (λ number. IsNumber (value_of matches.now (name_of option)) number) }
+    ensures near { IfOk result (λ number. number ≤ most) }
     ensures allowed { IfOk result (λ _. IsAllowed (value_of matches.now) option) }
     ensures refused { IfErr result (Refuses (value_of matches.now) option) }
 {
@@ -236,6 +233,18 @@ fn unsigned<'a>(
         return Ok(0);
     };
     unsigned_number(text, most).ok_or(option.refuse(text))
+}
+
+/// The value of an unsigned option that may be as large as a `u32`, or 0 where it is not given.
+fn unsigned_32<'a>(matches: &ArgMatches<'a>, option: FormatOption) -> Result<u32, ValueError<'a>>
+    requires kind { allowed_of option ≡ Unsigned u32.MAX }
+    requires stands { MayStand (value_of matches.now) option }
+    ensures read { IfOk result (λ number. IsNumber (value_of matches.now (name_of option)) number) }
+    ensures allowed { IfOk result (λ _. IsAllowed (value_of matches.now) option) }
+    ensures refused { IfErr result (Refuses (value_of matches.now) option) }
+{
+    let number = unsigned(matches, option, u64::from(u32::MAX))?;
+    Ok(number as u32)
 }
 
 /// The level, or `info` where it is not given.

@@ -134,16 +134,33 @@ where
     ensures { PipesOn R.Folder.tells R.Folder.files R.Folder.failures config.now request.now result
         (I.remaining input.old) (I.remaining input.new) (O.contents output.old) (O.contents output.new) }
 {
-    let alloc = rt.alloc();
-    let _lock = match hold_folder(rt, alloc, request.folder, config) {
-        Ok(Hold::Held(lock)) => lock,
+    match hold_folder(rt, rt.alloc(), request.folder, config) {
+        Ok(Hold::Held(_lock)) => pipe_held(rt, config, request, logger, input, output, errors),
         Ok(Hold::Refused(why)) => {
             let _ = writeln!(errors, "alog: {why}");
-            return 3;
+            3
         }
-        Err(_) => return refuse_load(LoadError::OutOfMemory, errors),
-    };
-    match folder_stores(rt, alloc, request.folder, leaves(config)) {
+        Err(_) => refuse_load(LoadError::OutOfMemory, errors),
+    }
+}
+
+/// Logs the lines to the logger of this number, over the files of the folder that is held.
+fn pipe_held<R, I: Read, O: Write, E: Write>(
+    rt: &R,
+    config: &Config,
+    request: &PipeRequest<'_>,
+    logger: usize,
+    input: &mut I,
+    output: &mut O,
+    errors: &mut E,
+) -> u8
+where
+    R: AllocGlobal + Folders + Threads + Wait + Clock + Clone + Drop + Send + Sync + 'static,
+    requires named { logger_in config.now (name_in request.now) ≡ Some logger }
+    ensures { PipesOn R.Folder.tells R.Folder.files R.Folder.failures config.now request.now result
+        (I.remaining input.old) (I.remaining input.new) (O.contents output.old) (O.contents output.new) }
+{
+    match folder_stores(rt, rt.alloc(), request.folder, leaves(config)) {
         Ok(stores) => pipe_over(rt, config, stores, request, logger, input, output, errors),
         Err(_) => refuse_load(LoadError::OutOfMemory, errors),
     }
@@ -180,7 +197,7 @@ where
     }
 }
 
-/// Brings all lines to the stores, and writes what became of them; behind it, what failed.
+/// Tells what came of a pipe, which it then drops.
 fn tell<S: Store + Drop, O: Write, E: Write>(
     piped: Piped<S>,
     config: &Config,
@@ -194,16 +211,27 @@ fn tell<S: Store + Drop, O: Write, E: Write>(
         → Appends (O.contents output.old) (O.contents output.new) (told_text piped.counts piped.missing piped.report.totals) }
     ensures untold { to_output ≡ false → Keeps (O.contents output.old) (O.contents output.new) }
 {
-    let Piped {
-        report,
-        counts,
-        missing,
-        fault,
-    } = piped;
-    let mut report = report;
-    let is_whole = report.faults.iter().all(|number| *number == 0);
-    let is_kept = brings_all(&mut report);
-    let totals = report.totals;
+    let mut piped = piped;
+    conclude(&mut piped, config, to_output, output, errors)
+}
+
+/// Brings all lines to the stores, and writes what became of them; behind it, what failed.
+fn conclude<S: Store + Drop, O: Write, E: Write>(
+    piped: &mut Piped<S>,
+    config: &Config,
+    to_output: bool,
+    output: &mut O,
+    errors: &mut E,
+) -> u8
+    ensures status { (result ≡ 0) ⊎ (result ≡ 3) }
+    ensures done { result ≡ 0 → HasNoFault piped.old.report × IsNone piped.old.fault }
+    ensures told { result ≡ 0 → to_output ≡ true → Appends (O.contents output.old) (O.contents output.new)
+        (told_text piped.old.counts piped.old.missing piped.old.report.totals) }
+    ensures untold { to_output ≡ false → Keeps (O.contents output.old) (O.contents output.new) }
+{
+    let is_whole = piped.report.faults.iter().all(|number| *number == 0);
+    let is_kept = brings_all(&mut piped.report);
+    let (counts, missing, totals) = (piped.counts, piped.missing, piped.report.totals);
     let written = if to_output {
         write_told(output, counts, missing, totals)
     } else {
@@ -214,9 +242,17 @@ fn tell<S: Store + Drop, O: Write, E: Write>(
     }
     if !(is_whole && is_kept) {
         let status = refuse_store(errors);
-        say_faults(&mut report, config, errors);
+        say_faults(&mut piped.report, config, errors);
         return status;
     }
+    end_of_input(&piped.fault, errors)
+}
+
+/// The status of a pipe of which all else is well, by what ended its input early, which is said.
+fn end_of_input<E: Write>(fault: &Option<io::Error>, errors: &mut E) -> u8
+    ensures status { (result ≡ 0) ⊎ (result ≡ 3) }
+    ensures done { result ≡ 0 → IsNone fault.now }
+{
     match fault {
         None => 0,
         Some(error) => {

@@ -7,6 +7,7 @@ ghost use Rattle.alog_program.specs.CommandLine.{AsksCheck, AsksFormat, AsksLoad
 ghost use Rattle.alog_program.specs.Formats.{Formats};
 ghost use Rattle.alog_program.specs.Line.{WritesLineOf, IsRefused};
 ghost use Rattle.alog_program.specs.Loaded.{LoadsBy};
+ghost use Rattle.alog_program.specs.Made.{IsAnswerTo, Makes};
 ghost use Rattle.alog_program.specs.Piped.{PipesBy};
 ghost use Rattle.alog_program.specs.Replays.{Replays, ReplaysFile};
 ghost use Rattle.alog_program.specs.Status.{status_of};
@@ -77,21 +78,54 @@ where
         (values_in rows) result (I.remaining input.old) (I.remaining input.new) (O.contents output.old) (O.contents output.new) }
 {
     match read(rt.alloc(), words) {
-        Ok(Request::Replay) => replay_command(rt.alloc(), input, output, errors),
-        Ok(Request::ReplayConfig(file)) => replay_config_command(rt, file, input, output, errors),
-        Ok(Request::Format(request)) => format_command(rt.alloc(), &request, output, errors),
-        Ok(Request::Check(file)) => check_command(rt, file, output, errors),
-        Ok(Request::Load(request)) => load_command(rt, &request, output, errors),
-        Ok(Request::Pipe(request)) => pipe_command(rt, &request, input, output, errors),
-        Err(WordsError::Value(fault)) => {
+        Ok(request) => make(rt, &request, input, output, errors),
+        Err(error) => refuse_words(&error, output, errors),
+    }
+}
+
+/// Does what a command line asks for, and answers the exit status.
+fn make<R, I: Read, O: Write, E: Write>(
+    rt: &R,
+    request: &Request<'_>,
+    input: &mut I,
+    output: &mut O,
+    errors: &mut E,
+) -> u8
+where
+    R: AllocGlobal + Files + Folders + Screen + Threads + Wait + Clock,
+    R: Clone + Drop + Send + Sync + 'static,
+    ensures status { result ≤ 4 }
+    ensures usage { result ≡ 1 → Keeps (O.contents output.old) (O.contents output.new) }
+    ensures made { Makes ⟦<MemStore as Store>⟧.tells ⟦<MemStore as Store>⟧.files ⟦<MemStore as Store>⟧.failures
+        R.Folder.tells R.Folder.files R.Folder.failures request.now result
+        (I.remaining input.old) (I.remaining input.new) (O.contents output.old) (O.contents output.new) }
+{
+    match request {
+        Request::Replay => replay_command(rt.alloc(), input, output, errors),
+        Request::ReplayConfig(file) => replay_config_command(rt, *file, input, output, errors),
+        Request::Format(line) => format_command(rt.alloc(), line, output, errors),
+        Request::Check(file) => check_command(rt, *file, output, errors),
+        Request::Load(load) => load_command(rt, load, output, errors),
+        Request::Pipe(pipe) => pipe_command(rt, pipe, input, output, errors),
+    }
+}
+
+/// Says why a command line asks for nothing, or what it asks `clap` for, and answers the exit status.
+fn refuse_words<O: Write, E: Write>(error: &WordsError<'_>, output: &mut O, errors: &mut E) -> u8
+    ensures status { result ≤ 4 }
+    ensures usage { result ≡ 1 → Keeps (O.contents output.old) (O.contents output.new) }
+    ensures refused { IsAnswerTo error.now result (O.contents output.old) (O.contents output.new) }
+{
+    match error {
+        WordsError::Value(fault) => {
             let _ = writeln!(errors, "alog: {fault}");
             1
         }
-        Err(WordsError::LoadValue(fault)) => {
+        WordsError::LoadValue(fault) => {
             let _ = writeln!(errors, "alog: {fault}");
             1
         }
-        Err(WordsError::Clap(error)) => explain(&error, output, errors),
+        WordsError::Clap(error) => explain(error, output, errors),
     }
 }
 

@@ -25,6 +25,16 @@ pub(crate) fn say_faults<S: Store + Drop, E: Write>(
     config: &Config,
     errors: &mut E,
 ) {
+    say_turns(report, config, errors);
+    for (number, sink) in report.sinks.iter_mut().enumerate() {
+        if sink.flush().is_err() {
+            say_unkept(sink, number, config, errors);
+        }
+    }
+}
+
+/// Says at which sinks turns failed, and how many; behind it, why, where the system said so.
+fn say_turns<S: Store, E: Write>(report: &Report<S>, config: &Config, errors: &mut E) {
     for (number, count) in report.faults.iter().enumerate() {
         if *count > 0 {
             let name = sink_name(config, number);
@@ -32,16 +42,16 @@ pub(crate) fn say_faults<S: Store + Drop, E: Write>(
             say_reason(report.sinks.get(number), errors);
         }
     }
-    for (number, sink) in report.sinks.iter_mut().enumerate() {
-        if sink.flush().is_err() {
-            let name = sink_name(config, number);
-            let _ = write!(
-                errors,
-                "alog: sink {number}, {name}: its lines are not all in its file"
-            );
-            say_reason(Some(sink), errors);
-        }
-    }
+}
+
+/// Says that the last flush of the sink of this number failed; behind it, why, where the system said so.
+fn say_unkept<S: Store, E: Write>(sink: &Sink<S>, number: usize, config: &Config, errors: &mut E) {
+    let name = sink_name(config, number);
+    let _ = write!(
+        errors,
+        "alog: sink {number}, {name}: its lines are not all in its file"
+    );
+    say_reason(Some(sink), errors);
 }
 
 /// Ends a line by what the system said of the last call of a sink's store that failed, where it did.

@@ -1,13 +1,14 @@
 //! The command line.
-ghost use Rattle.std.specs.Prelude.{map, IfErr, IfOk};
-ghost use Rattle.alog_program.specs.CommandLine.{Asks, IsRefusedBy};
+ghost use Rattle.std.specs.Prelude.{List, map, IfErr, IfOk};
+ghost use Rattle.clap.specs.Words.{Text};
+ghost use Rattle.alog_program.specs.CommandLine.{AreMatchesOf, Asks, IsRefusedBy};
 
 use crate::command::alog;
 use crate::load_options::{LoadValueError, load_request};
 use crate::options::{ValueError, line_request, text};
 use crate::pipe_options::pipe_request;
 use crate::request::Request;
-use clap::Error;
+use clap::{ArgMatches, Error};
 use std::alloc::{AllocError, Global};
 use std::convert::AsStr;
 
@@ -71,6 +72,14 @@ pub fn read<'a, S: AsStr>(alloc: Global, words: &'a [S]) -> Result<Request<'a>, 
     ensures refused { IfErr result (IsRefusedBy (map S.text words.entry.now)) }
 {
     let matches = alog(alloc)?.try_get_matches_from(words)?;
+    request_of(&matches)
+}
+
+/// What the matches of words without a fault ask for.
+fn request_of<'a>(matches: &ArgMatches<'a>) -> Result<Request<'a>, WordsError<'a>>
+    ensures asked { (words : List Text) → AreMatchesOf words matches.now → IfOk result (Asks words) }
+    ensures refused { (words : List Text) → AreMatchesOf words matches.now → IfErr result (IsRefusedBy words) }
+{
     if let Some(format) = matches.subcommand_matches("format") {
         return Ok(Request::Format(line_request(format)?));
     }
