@@ -7,7 +7,7 @@ use std::alloc::{AllocError, Global};
 use std::process::Abort;
 use std::sync::Wait;
 use std::test::Fail;
-use std::thread;
+use std::thread::{self, Threads};
 
 // Pushes until the ring takes the value.
 fn push_until<T>(rt: &impl Wait, ring: &Ring<T>, pass: &mut Pass<T>, mut value: T) -> u64
@@ -122,6 +122,39 @@ fn two_threads_share_a_ring(rt: HostRuntime) -> Result<(), Fail> {
     Ok(())
 }
 
+// What both workers of one kind answer.
+type Both = (Result<Vec<u64>, AllocError>, Result<Vec<u64>, AllocError>);
+
+// Two threads push so many numbers each, from 0 on, and answer their tickets.
+fn push_both(
+    rt: &(impl Threads + Wait + Sync),
+    alloc: Global,
+    one: Worker<u64>,
+    two: Worker<u64>,
+    each: u64,
+) -> Both {
+    thread::join(
+        rt,
+        || push_all(rt, alloc, one, 0, each),
+        || push_all(rt, alloc, two, each, each.saturating_mul(2)),
+    )
+}
+
+// Two threads pop so many values each.
+fn pop_both(
+    rt: &(impl Threads + Wait + Sync),
+    alloc: Global,
+    one: Worker<u64>,
+    two: Worker<u64>,
+    each: u64,
+) -> Both {
+    thread::join(
+        rt,
+        || pop_all(rt, alloc, one, each),
+        || pop_all(rt, alloc, two, each),
+    )
+}
+
 #[test]
 fn two_threads_push(rt: HostRuntime) {
     let alloc = rt.alloc();
@@ -132,11 +165,7 @@ fn two_threads_push(rt: HostRuntime) {
         pass: ring.split(&mut pass, 1 << 31),
     };
     let worker = Worker { ring, pass };
-    let (one, two) = thread::join(
-        &rt,
-        || push_all(&rt, alloc, worker, 0, 500),
-        || push_all(&rt, alloc, other, 500, 1000),
-    );
+    let (one, two) = push_both(&rt, alloc, worker, other, 500);
     are_all_below(&rt, one, two, 1000);
 }
 
@@ -160,20 +189,8 @@ fn two_threads_push_and_two_pop(rt: HostRuntime) {
     let first = Worker { ring, pass };
     let (pushes, pops) = thread::join(
         &rt,
-        || {
-            thread::join(
-                &rt,
-                || push_all(&rt, alloc, first, 0, 1000),
-                || push_all(&rt, alloc, second, 1000, 2000),
-            )
-        },
-        || {
-            thread::join(
-                &rt,
-                || pop_all(&rt, alloc, third, 1000),
-                || pop_all(&rt, alloc, fourth, 1000),
-            )
-        },
+        || push_both(&rt, alloc, first, second, 1000),
+        || pop_both(&rt, alloc, third, fourth, 1000),
     );
     are_pushed(&rt, &[pushes.0.is_ok(), pushes.1.is_ok()]);
     are_all_below(&rt, pops.0, pops.1, 2000);

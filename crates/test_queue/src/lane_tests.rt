@@ -1,13 +1,14 @@
 ghost use Rattle.alog_lane.specs.Calls.{IsSeatOf};
 ghost use Rattle.std.specs.Prelude.{◌≡◌, ◌+◌, ◌%◌, ◌^◌, IfOk, Some};
 
+use crate::ring_tests::is_so;
 use alog_lane::{ALL_PARTS, Held, Lane, LaneSeat, SeatsOut, Turn};
 use std::alloc::{AllocError, Global};
 use std::process::Abort;
 use std::sync::atomic::{AtomicBool, AtomicU64, Ordering};
 use std::sync::{Arc, Wait};
 use std::test::Fail;
-use std::thread;
+use std::thread::{self, Threads};
 
 // A number to which each turn adds its item. It replies with the sum.
 #[derive(Debug, PartialEq, Eq, Drop)]
@@ -258,23 +259,35 @@ fn all_rose(rt: &impl Abort, threads: &[(bool, u64)]) {
     assert!(rt; sum == 20_000 * 39_999);
 }
 
+// Two threads add 1 so many times each.
+fn add_by_two(
+    rt: &impl Threads,
+    lane: &Lane<Sum>,
+    one: LaneSeat<Sum>,
+    two: LaneSeat<Sum>,
+    count: u64,
+) -> ((bool, u64), (bool, u64))
+    requires { IsSeatOf lane.now one × IsSeatOf lane.now two }
+{
+    thread::join(
+        rt,
+        ||
+            requires { IsSeatOf lane.now one }
+        { add_ones(lane, one, count) },
+        ||
+            requires { IsSeatOf lane.now two }
+        { add_ones(lane, two, count) },
+    )
+}
+
 #[test]
 fn two_threads_take_turns(rt: HostRuntime) -> Result<(), Fail> {
     let (lane, mut seat) = Lane::new(rt.alloc(), Sum(0))?;
-    let lane = &lane;
     let first = lane.split(&mut seat, 1);
     let second = lane.split(&mut seat, 1);
-    let (one, two) = thread::join(
-        &rt,
-        ||
-            requires { IsSeatOf lane.now first }
-        { add_ones(lane, first, 20_000) },
-        ||
-            requires { IsSeatOf lane.now second }
-        { add_ones(lane, second, 20_000) },
-    );
+    let (one, two) = add_by_two(&rt, &lane, first, second, 20_000);
     all_rose(&rt, &[one, two]);
-    adds(&rt, lane, &mut seat, 0, (40_000, 40_000));
+    adds(&rt, &lane, &mut seat, 0, (40_000, 40_000));
     Ok(())
 }
 
@@ -301,17 +314,7 @@ fn four_threads_take_turns(rt: HostRuntime) -> Result<(), Fail> {
                 { add_ones(lane, two, 10_000) },
                 ||
                     requires { IsSeatOf lane.now three × IsSeatOf lane.now four }
-                {
-                    thread::join(
-                        &rt,
-                        ||
-                            requires { IsSeatOf lane.now three }
-                        { add_ones(lane, three, 10_000) },
-                        ||
-                            requires { IsSeatOf lane.now four }
-                        { add_ones(lane, four, 10_000) },
-                    )
-                },
+                { add_by_two(&rt, lane, three, four, 10_000) },
             )
         },
     );
@@ -405,7 +408,7 @@ fn a_held_lock_is_told(rt: HostRuntime) -> Result<(), Fail> {
             requires { IsSeatOf lane.now second }
         { visit(&rt, lane, second, flags) },
     );
-    assert_eq!(rt; was_met, Ok((0, true)));
-    assert_eq!(rt; visit, (true, Err(Held), (1, true)));
+    is_so(&rt, was_met == Ok((0, true)));
+    is_so(&rt, visit == (true, Err(Held), (1, true)));
     Ok(())
 }

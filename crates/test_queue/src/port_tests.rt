@@ -136,54 +136,50 @@ fn leaves(rt: &impl Abort, ring: Ring<u64>, pass: Pass<u64>, wanted: &[(u64, u64
     }
 }
 
+// How a post of this value ends: with a ticket and so many overrun, or without room.
+fn ended(value: u64, end: Option<(u64, u64)>) -> Outcome<u64> {
+    match end {
+        Some((ticket, overran)) => posted(ticket, overran),
+        None => discarded(value, Why::Full),
+    }
+}
+
+// Posts on a ring of two places: whether one may wait, its policy, its value, and its ticket with how many it overran; there is none
+// where the ring has no room.
+const POSTS: [(bool, Policy, u64, Option<(u64, u64)>); 5] = [
+    (true, Policy::Block, 7, Some((0, 0))),
+    (true, Policy::DiscardNew, 8, Some((1, 0))),
+    (false, Policy::DiscardNew, 9, None),
+    (true, Policy::OverrunOldest, 9, Some((2, 1))),
+    (false, Policy::OverrunOldest, 10, Some((3, 1))),
+];
+
+fn post_each(
+    rt: &(impl Abort + Wait + Clock),
+    ring: &Ring<u64>,
+    pass: &mut Pass<u64>,
+    book: &LossBook,
+    seat: &mut BookSeat,
+)
+    requires { IsPassOf ring.now pass.old × IsSeatOf book.now seat.old }
+    ensures { IsPassOf ring.now pass.new × IsSeatOf book.now seat.new }
+{
+    for (may_wait, policy, value, end) in POSTS {
+        let wanted = ended(value, end);
+        if may_wait {
+            waits(rt, ring, pass, book, seat, policy, value, wanted);
+        } else {
+            goes(rt, ring, pass, book, seat, policy, value, wanted);
+        }
+    }
+}
+
 #[test]
 fn a_lone_port_posts(rt: HostRuntime) {
     let (ring, mut pass) = ring_of_two(&rt, rt.alloc(), 0);
     let (book, mut seat) = new_book(&rt, rt.alloc());
     let other = book.split(&mut seat, 1);
-    waits(
-        &rt,
-        &ring,
-        &mut pass,
-        &book,
-        &mut seat,
-        Policy::Block,
-        7,
-        posted(0, 0),
-    );
-    waits(
-        &rt,
-        &ring,
-        &mut pass,
-        &book,
-        &mut seat,
-        Policy::DiscardNew,
-        8,
-        posted(1, 0),
-    );
-    let full = discarded(9, Why::Full);
-    goes(
-        &rt,
-        &ring,
-        &mut pass,
-        &book,
-        &mut seat,
-        Policy::DiscardNew,
-        9,
-        full,
-    );
-    waits(
-        &rt,
-        &ring,
-        &mut pass,
-        &book,
-        &mut seat,
-        Policy::OverrunOldest,
-        9,
-        posted(2, 1),
-    );
-    let (over, third) = (Policy::OverrunOldest, posted(3, 1));
-    goes(&rt, &ring, &mut pass, &book, &mut seat, over, 10, third);
+    post_each(&rt, &ring, &mut pass, &book, &mut seat);
     has_lost(&rt, &book, &mut seat, losses(2, 1));
     let (book, mut seat) = stays(&rt, book, seat);
     book.join(&mut seat, other);
@@ -245,51 +241,43 @@ fn no_room() -> Outcome<()> {
     }
 }
 
+// How a post of this value out of a hand ends, and what is in the hand then.
+fn left(value: u64, end: Option<(u64, u64)>) -> (Outcome<()>, Option<u64>) {
+    match end {
+        Some((ticket, overran)) => (gone(ticket, overran), None),
+        None => (no_room(), Some(value)),
+    }
+}
+
+// Posts out of a hand on a ring of two places: the policy, the value, and its ticket with how many it overran; there is none where
+// the ring has no room.
+const HANDED: [(Policy, u64, Option<(u64, u64)>); 4] = [
+    (Policy::Block, 7, Some((0, 0))),
+    (Policy::DiscardNew, 8, Some((1, 0))),
+    (Policy::DiscardNew, 9, None),
+    (Policy::OverrunOldest, 9, Some((2, 1))),
+];
+
+fn hand_each(
+    rt: &(impl Abort + Wait + Clock),
+    ring: &Ring<u64>,
+    pass: &mut Pass<u64>,
+    book: &LossBook,
+    seat: &mut BookSeat,
+)
+    requires { IsPassOf ring.now pass.old × IsSeatOf book.now seat.old }
+    ensures { IsPassOf ring.now pass.new × IsSeatOf book.now seat.new }
+{
+    for (policy, value, end) in HANDED {
+        hands(rt, ring, pass, book, seat, policy, value, left(value, end));
+    }
+}
+
 #[test]
 fn a_hand_keeps_what_is_discarded(rt: HostRuntime) {
     let (ring, mut pass) = ring_of_two(&rt, rt.alloc(), 0);
     let (book, mut seat) = new_book(&rt, rt.alloc());
-    let (kept, over) = (Policy::DiscardNew, Policy::OverrunOldest);
-    hands(
-        &rt,
-        &ring,
-        &mut pass,
-        &book,
-        &mut seat,
-        Policy::Block,
-        7,
-        (gone(0, 0), None),
-    );
-    hands(
-        &rt,
-        &ring,
-        &mut pass,
-        &book,
-        &mut seat,
-        kept,
-        8,
-        (gone(1, 0), None),
-    );
-    hands(
-        &rt,
-        &ring,
-        &mut pass,
-        &book,
-        &mut seat,
-        kept,
-        9,
-        (no_room(), Some(9)),
-    );
-    hands(
-        &rt,
-        &ring,
-        &mut pass,
-        &book,
-        &mut seat,
-        over,
-        9,
-        (gone(2, 1), None),
-    );
+    hand_each(&rt, &ring, &mut pass, &book, &mut seat);
     has_lost(&rt, &book, &mut seat, losses(1, 1));
 }
 

@@ -352,20 +352,35 @@ fn calls_and_their_answers(rt: HostRuntime) -> Result<(), Fail> {
     Ok(())
 }
 
+// A push of this text.
+fn push_text(
+    alloc: Global,
+    calls: &mut Vec<Call<String>>,
+    actor: u32,
+    text: &str,
+) -> Result<(), AllocError> {
+    let text = String::from_str(alloc, text)?;
+    calls.push(Call::Push(actor, text))?;
+    Ok(())
+}
+
+// Four steps of the first actor.
+fn make_steps(calls: &mut Vec<Call<String>>) -> Result<(), AllocError> {
+    for _ in 0..4 {
+        calls.push(Call::Step(0))?;
+    }
+    Ok(())
+}
+
 // Calls of two actors whose items are texts.
 fn calls_of_texts(alloc: Global) -> Result<Vec<Call<String>>, AllocError> {
     let mut calls = Vec::new(alloc);
-    calls.push(Call::Push(0, String::from_str(alloc, "first")?))?;
-    calls.push(Call::Push(0, String::from_str(alloc, "refused")?))?;
-    for _ in 0..4 {
-        calls.push(Call::Step(0))?;
-    }
-    let left = String::from_str(alloc, "left in its round")?;
-    calls.push(Call::Push(1, left))?;
+    push_text(alloc, &mut calls, 0, "first")?;
+    push_text(alloc, &mut calls, 0, "refused")?;
+    make_steps(&mut calls)?;
+    push_text(alloc, &mut calls, 1, "left in its round")?;
     calls.push(Call::Pop(0))?;
-    for _ in 0..4 {
-        calls.push(Call::Step(0))?;
-    }
+    make_steps(&mut calls)?;
     Ok(calls)
 }
 

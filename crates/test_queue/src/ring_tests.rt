@@ -44,6 +44,11 @@ pub(crate) fn ring_of<T>(
     }
 }
 
+// Ends the test where that is not so. A call of it is no way out of the function that makes it.
+pub(crate) fn is_so(rt: &impl Abort, is: bool) {
+    assert!(rt; is);
+}
+
 // One round of a push gets this ticket.
 pub(crate) fn pushes(
     rt: &impl Abort,

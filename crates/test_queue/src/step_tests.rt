@@ -4,7 +4,7 @@ ghost use Rattle.alog_ring.specs.Known.{IsPassOf};
 ghost use Rattle.alog_policy.specs.BookCalls.{IsSeatOf};
 
 use crate::port_tests::{discarded, goes, has_lost, losses, new_book};
-use crate::ring_tests::{has_parts, is_full, leaves, pops, pushes, ring_of, stays};
+use crate::ring_tests::{has_parts, is_full, is_so, leaves, pops, pushes, ring_of, stays};
 use alog_policy::{BookSeat, LossBook, Policy, Why};
 use alog_ring::{ALL_PARTS, Pass, PopError, PushError, Ring, StepGate};
 use std::process::Abort;
@@ -79,6 +79,27 @@ fn is_raised(flag: &AtomicBool) -> bool {
     false
 }
 
+// The ticket of a push of 7 with waiting behind this gate, if it gets one.
+fn push_held(rt: &impl Wait, ring: &Ring<u64>, pass: &mut Pass<u64>, hold: &Hold) -> Option<u64>
+    requires { IsPassOf ring.now pass.old }
+    ensures { IsPassOf ring.now pass.new }
+{
+    ring.push_gated(rt, pass, 7, hold).ok()
+}
+
+// What a pop with waiting behind this gate answers.
+fn pop_held(
+    rt: &impl Wait,
+    ring: &Ring<u64>,
+    pass: &mut Pass<u64>,
+    hold: &Hold,
+) -> Result<(u64, u64), PopError>
+    requires { IsPassOf ring.now pass.old }
+    ensures { IsPassOf ring.now pass.new }
+{
+    ring.pop_gated(rt, pass, hold)
+}
+
 // A push with waiting gets a ticket, or does not, and these are its steps.
 fn push_tells(
     rt: &(impl Abort + Wait),
@@ -91,7 +112,7 @@ fn push_tells(
     ensures { IsPassOf ring.now pass.new }
 {
     let gate = Hold::before(0);
-    let was_taken = ring.push_gated(rt, pass, 7, &gate).is_ok();
+    let was_taken = push_held(rt, ring, pass, &gate).is_some();
     assert!(rt; was_taken == is_taken && gate.steps.load(Ordering::SeqCst) == steps);
 }
 
@@ -107,22 +128,44 @@ fn pop_tells(
     ensures { IsPassOf ring.now pass.new }
 {
     let gate = Hold::before(0);
-    let was_given = ring.pop_gated(rt, pass, &gate).is_ok();
+    let was_given = pop_held(rt, ring, pass, &gate).is_ok();
     assert!(rt; was_given == is_given && gate.steps.load(Ordering::SeqCst) == steps);
 }
 
+// Pushes and pops with waiting: whether one is a push, whether it gets a ticket or a value, and its steps.
+type Told = (bool, bool, u64);
+
+fn tell_each(rt: &(impl Abort + Wait), ring: &Ring<u64>, pass: &mut Pass<u64>, calls: &[Told])
+    requires { IsPassOf ring.now pass.old }
+    ensures { IsPassOf ring.now pass.new }
+{
+    for (is_push, is_done, steps) in calls {
+        if *is_push {
+            push_tells(rt, ring, pass, *is_done, *steps);
+        } else {
+            pop_tells(rt, ring, pass, *is_done, *steps);
+        }
+    }
+}
+
+// On a ring of two places that has two tickets left.
+const TO_THE_END: [Told; 5] = [
+    (false, false, 125),
+    (true, true, 1234),
+    (true, true, 1234),
+    (true, false, 1),
+    (false, true, 1234),
+];
+
+// On a new ring of two places.
+const TO_A_FULL: [Told; 3] = [(true, true, 1234), (true, true, 1234), (true, false, 12)];
+
 #[test]
 fn each_step_is_told(rt: HostRuntime) {
-    let (ring, mut pass) = ring_of(&rt, rt.alloc(), 2, (1 << 62) - 2);
-    pop_tells(&rt, &ring, &mut pass, false, 125);
-    push_tells(&rt, &ring, &mut pass, true, 1234);
-    push_tells(&rt, &ring, &mut pass, true, 1234);
-    push_tells(&rt, &ring, &mut pass, false, 1);
-    pop_tells(&rt, &ring, &mut pass, true, 1234);
-    let (ring, mut pass) = ring_of(&rt, rt.alloc(), 2, 0);
-    push_tells(&rt, &ring, &mut pass, true, 1234);
-    push_tells(&rt, &ring, &mut pass, true, 1234);
-    push_tells(&rt, &ring, &mut pass, false, 12);
+    for (first, calls) in [((1 << 62) - 2, &TO_THE_END[..]), (0, &TO_A_FULL[..])] {
+        let (ring, mut pass) = ring_of(&rt, rt.alloc(), 2, first);
+        tell_each(&rt, &ring, &mut pass, calls);
+    }
 }
 
 // No value is there, and none on its way.
@@ -155,13 +198,13 @@ fn a_held_push(rt: HostRuntime) {
     let hold = Hold::before(4);
     let (pushed, mut other) = thread::join(
         &rt,
-        || ring.push_gated(&rt, &mut pass, 7, &hold).ok(),
+        || push_held(&rt, ring, &mut pass, &hold),
         || -> Pass<u64>
             requires { IsPassOf ring.now other }
             ensures { IsPassOf ring.entry.now result }
         { beside_a_push(&rt, ring, other, &hold) },
     );
-    assert!(rt; pushed == Some(0));
+    is_so(&rt, pushed == Some(0));
     hold.went_on(&rt, 1234);
     pops(&rt, ring, &mut other, 0, 7);
     pops(&rt, ring, &mut other, 1, 8);
@@ -191,13 +234,13 @@ fn a_held_pop(rt: HostRuntime) {
     let hold = Hold::before(4);
     let (popped, mut other) = thread::join(
         &rt,
-        || ring.pop_gated(&rt, &mut pass, &hold).ok(),
+        || pop_held(&rt, ring, &mut pass, &hold),
         || -> Pass<u64>
             requires { IsPassOf ring.now other }
             ensures { IsPassOf ring.entry.now result }
         { beside_a_pop(&rt, ring, other, &hold) },
     );
-    assert!(rt; popped == Some((0, 7)));
+    is_so(&rt, popped == Ok((0, 7)));
     hold.went_on(&rt, 1234);
     pushes(&rt, ring, &mut other, 9, 2);
 }
@@ -219,10 +262,10 @@ fn a_beaten_push_begins_again(rt: HostRuntime) {
     let hold = Hold::before(3);
     let (pushed, ()) = thread::join(
         &rt,
-        || ring.push_gated(&rt, &mut pass, 7, &hold).ok(),
+        || push_held(&rt, &ring, &mut pass, &hold),
         || goes_before(&rt, &ring, &mut other, &hold),
     );
-    assert!(rt; pushed == Some(1));
+    is_so(&rt, pushed == Some(1));
     hold.went_on(&rt, 1_231_234);
 }
 
@@ -244,10 +287,10 @@ fn a_beaten_pop_begins_again(rt: HostRuntime) {
     let hold = Hold::before(3);
     let (popped, ()) = thread::join(
         &rt,
-        || ring.pop_gated(&rt, &mut pass, &hold).err(),
+        || pop_held(&rt, &ring, &mut pass, &hold),
         || takes_before(&rt, &ring, &mut other, &hold),
     );
-    assert!(rt; popped == Some(PopError::Idle { next: 1 }));
+    is_so(&rt, popped == Err(PopError::Idle { next: 1 }));
     hold.went_on(&rt, 123_125);
 }
 
@@ -283,13 +326,13 @@ fn posts_beside_a_held_push(rt: HostRuntime) {
     let hold = Hold::before(4);
     let (pushed, mut other) = thread::join(
         &rt,
-        || ring.push_gated(&rt, &mut pass, 7, &hold).ok(),
+        || push_held(&rt, ring, &mut pass, &hold),
         || -> Pass<u64>
             requires { IsPassOf ring.now other × IsSeatOf book.now seat }
             ensures { IsPassOf ring.entry.now result }
         { posts_beside(&rt, ring, other, book, seat, &hold) },
     );
-    assert!(rt; pushed == Some(0));
+    is_so(&rt, pushed == Some(0));
     hold.went_on(&rt, 1234);
     pops(&rt, ring, &mut other, 0, 7);
 }

@@ -22,22 +22,6 @@ struct Brought {
     is_waiting: bool,
 }
 
-fn at_once(value: u64, spare: u64) -> Brought {
-    Brought {
-        value,
-        spare,
-        is_waiting: false,
-    }
-}
-
-fn waiting(value: u64, spare: u64) -> Brought {
-    Brought {
-        value,
-        spare,
-        is_waiting: true,
-    }
-}
-
 /// How a post ends, and the hand and the spare then.
 #[derive(Debug, PartialEq, Drop)]
 struct Left {
@@ -99,28 +83,24 @@ fn posts(
     assert!(rt; left == wanted);
 }
 
-// The places fill up, and one more is discarded.
-fn fill(
-    rt: &(impl Abort + Wait + Clock),
-    ring: &SwapRing<u64>,
-    pass: &mut SwapPass<u64>,
-    book: &LossBook,
-    seat: &mut BookSeat,
-)
-    requires { IsPassOf ring.now.ring pass.old × IsSeatOf book.now seat.old }
-    ensures { IsPassOf ring.now.ring pass.new × IsSeatOf book.now seat.new }
-{
-    let (block, new) = (Policy::Block, Policy::DiscardNew);
-    let first = posted(0, 0, 100, 50);
-    posts(rt, ring, pass, book, seat, block, waiting(7, 50), first);
-    let second = posted(1, 0, 101, 50);
-    posts(rt, ring, pass, book, seat, new, waiting(8, 50), second);
-    let full = lost(9, Why::Full, 50);
-    posts(rt, ring, pass, book, seat, new, at_once(9, 50), full);
+// How a post ends that gets a ticket after so many overrun, with what is in the hand and for a spare then, or that finds no room.
+fn left_by(brought: Brought, end: Option<(u64, u64, u64, u64)>) -> Left {
+    match end {
+        Some((ticket, overran, hand, spare)) => posted(ticket, overran, hand, spare),
+        None => lost(brought.value, Why::Full, brought.spare),
+    }
 }
 
-// The two that are there are overrun.
-fn overrun(
+// Posts on a swap ring of two places: the policy, whether one may wait, its value and its spare, and how it ends.
+const ROWS: [(Policy, bool, (u64, u64), Option<(u64, u64, u64, u64)>); 5] = [
+    (Policy::Block, true, (7, 50), Some((0, 0, 100, 50))),
+    (Policy::DiscardNew, true, (8, 50), Some((1, 0, 101, 50))),
+    (Policy::DiscardNew, false, (9, 50), None),
+    (Policy::OverrunOldest, true, (9, 50), Some((2, 1, 50, 7))),
+    (Policy::OverrunOldest, false, (10, 51), Some((3, 1, 51, 8))),
+];
+
+fn post_each(
     rt: &(impl Abort + Wait + Clock),
     ring: &SwapRing<u64>,
     pass: &mut SwapPass<u64>,
@@ -130,11 +110,15 @@ fn overrun(
     requires { IsPassOf ring.now.ring pass.old × IsSeatOf book.now seat.old }
     ensures { IsPassOf ring.now.ring pass.new × IsSeatOf book.now seat.new }
 {
-    let over = Policy::OverrunOldest;
-    let third = posted(2, 1, 50, 7);
-    posts(rt, ring, pass, book, seat, over, waiting(9, 50), third);
-    let fourth = posted(3, 1, 51, 8);
-    posts(rt, ring, pass, book, seat, over, at_once(10, 51), fourth);
+    for (policy, is_waiting, (value, spare), end) in ROWS {
+        let brought = Brought {
+            value,
+            spare,
+            is_waiting,
+        };
+        let wanted = left_by(brought, end);
+        posts(rt, ring, pass, book, seat, policy, brought, wanted);
+    }
 }
 
 #[test]
@@ -142,50 +126,51 @@ fn a_swap_port_posts(rt: HostRuntime) -> Result<(), Fail> {
     let spares = vec![in rt.alloc(); 100, 101]?;
     let (ring, mut pass) = swap_ring_of(&rt, 2, 0, spares, rt.alloc());
     let (book, mut seat) = new_book(&rt, rt.alloc());
-    fill(&rt, &ring, &mut pass, &book, &mut seat);
-    overrun(&rt, &ring, &mut pass, &book, &mut seat);
+    post_each(&rt, &ring, &mut pass, &book, &mut seat);
     has_lost(&rt, &book, &mut seat, losses(2, 1));
     leaves(&rt, ring, pass, &[(2, 9), (3, 10)], &[]);
     Ok(())
+}
+
+// How a post ends at the last ticket, which it gets or not.
+fn left_at_last(brought: Brought, is_last: bool) -> Left {
+    if is_last {
+        posted(TICKET_END - 1, 0, 101, brought.spare)
+    } else {
+        lost(brought.value, Why::Spent, brought.spare)
+    }
+}
+
+// Posts from the last ticket on: whether one may wait, its value, and whether it gets that ticket.
+const AT_LAST: [(bool, u64, bool); 3] = [(false, 7, true), (false, 8, false), (true, 9, false)];
+
+fn post_at_last(
+    rt: &(impl Abort + Wait + Clock),
+    ring: &SwapRing<u64>,
+    pass: &mut SwapPass<u64>,
+    book: &LossBook,
+    seat: &mut BookSeat,
+    policy: Policy,
+)
+    requires { IsPassOf ring.now.ring pass.old × IsSeatOf book.now seat.old }
+    ensures { IsPassOf ring.now.ring pass.new × IsSeatOf book.now seat.new }
+{
+    for (is_waiting, value, is_last) in AT_LAST {
+        let brought = Brought {
+            value,
+            spare: 50,
+            is_waiting,
+        };
+        let wanted = left_at_last(brought, is_last);
+        posts(rt, ring, pass, book, seat, policy, brought, wanted);
+    }
 }
 
 // Under this policy the last ticket is given, and then none is left.
 fn is_spent(rt: &(impl Abort + Wait + Clock), policy: Policy, spares: Vec<u64>, alloc: Global) {
     let (ring, mut pass) = swap_ring_of(rt, 2, TICKET_END - 1, spares, alloc);
     let (book, mut seat) = new_book(rt, alloc);
-    let last = posted(TICKET_END - 1, 0, 101, 50);
-    posts(
-        rt,
-        &ring,
-        &mut pass,
-        &book,
-        &mut seat,
-        policy,
-        at_once(7, 50),
-        last,
-    );
-    let now = lost(8, Why::Spent, 50);
-    posts(
-        rt,
-        &ring,
-        &mut pass,
-        &book,
-        &mut seat,
-        policy,
-        at_once(8, 50),
-        now,
-    );
-    let then = lost(9, Why::Spent, 50);
-    posts(
-        rt,
-        &ring,
-        &mut pass,
-        &book,
-        &mut seat,
-        policy,
-        waiting(9, 50),
-        then,
-    );
+    post_at_last(rt, &ring, &mut pass, &book, &mut seat, policy);
     has_lost(rt, &book, &mut seat, losses(0, 2));
 }
 

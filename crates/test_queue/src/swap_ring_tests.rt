@@ -181,11 +181,16 @@ fn a_swap_ring_of_two(rt: HostRuntime) -> Result<(), Fail> {
     Ok(())
 }
 
+// The ring has so many places.
+fn has_places(rt: &impl Abort, ring: &SwapRing<u64>, places: usize) {
+    assert!(rt; ring.places() == places);
+}
+
 #[test]
 fn spares_go_round(rt: HostRuntime) -> Result<(), Fail> {
     let spares = vec![in rt.alloc(); 100, 101, 102, 103]?;
     let (ring, mut pass) = swap_ring_of(&rt, 4, 6, spares, rt.alloc());
-    assert!(rt; ring.places() == 4);
+    has_places(&rt, &ring, 4);
     is_idle(&rt, &ring, &mut pass, 6);
     swaps_in(&rt, &ring, &mut pass, 1, (6, 102));
     swaps_in(&rt, &ring, &mut pass, 2, (7, 103));
@@ -206,32 +211,34 @@ fn an_untouched_swap_ring_gives_its_spares_back(rt: HostRuntime) -> Result<(), F
     Ok(())
 }
 
-// A push of what lies in the hand, which has the spare then.
+// A push of what lies in the hand gets this ticket, if any, and leaves this in the hand: the spare, where it went through.
 fn hand_in(
     rt: &impl Abort,
     ring: &SwapRing<u64>,
     pass: &mut SwapPass<u64>,
     hand: &mut u64,
-    wanted: Option<u64>,
+    wanted: (Option<u64>, u64),
 )
     requires { IsPassOf ring.now.ring pass.old }
     ensures { IsPassOf ring.now.ring pass.new }
 {
-    assert!(rt; ring.push_swap_from(pass, hand).ok() == wanted);
+    let ticket = ring.push_swap_from(pass, hand).ok();
+    assert!(rt; (ticket, *hand) == wanted);
 }
 
-// A pop that brings what lies in the hand, which has the value then.
+// A pop that brings what lies in the hand gets this ticket, if any, and leaves this in the hand: the value, where there was one.
 fn hand_out(
     rt: &impl Abort,
     ring: &SwapRing<u64>,
     pass: &mut SwapPass<u64>,
     hand: &mut u64,
-    wanted: Option<u64>,
+    wanted: (Option<u64>, u64),
 )
     requires { IsPassOf ring.now.ring pass.old }
     ensures { IsPassOf ring.now.ring pass.new }
 {
-    assert!(rt; ring.pop_swap_into(pass, hand).ok() == wanted);
+    let ticket = ring.pop_swap_into(pass, hand).ok();
+    assert!(rt; (ticket, *hand) == wanted);
 }
 
 #[test]
@@ -239,15 +246,11 @@ fn a_hand_is_swapped(rt: HostRuntime) -> Result<(), Fail> {
     let spares = vec![in rt.alloc(); 100, 101]?;
     let (ring, mut pass) = swap_ring_of(&rt, 2, 5, spares, rt.alloc());
     let mut hand = 7;
-    hand_out(&rt, &ring, &mut pass, &mut hand, None);
-    hand_in(&rt, &ring, &mut pass, &mut hand, Some(5));
-    assert!(rt; hand == 101);
-    hand_in(&rt, &ring, &mut pass, &mut hand, Some(6));
-    assert!(rt; hand == 100);
-    hand_in(&rt, &ring, &mut pass, &mut hand, None);
-    assert!(rt; hand == 100);
-    hand_out(&rt, &ring, &mut pass, &mut hand, Some(5));
-    assert!(rt; hand == 7);
+    hand_out(&rt, &ring, &mut pass, &mut hand, (None, 7));
+    hand_in(&rt, &ring, &mut pass, &mut hand, (Some(5), 101));
+    hand_in(&rt, &ring, &mut pass, &mut hand, (Some(6), 100));
+    hand_in(&rt, &ring, &mut pass, &mut hand, (None, 100));
+    hand_out(&rt, &ring, &mut pass, &mut hand, (Some(5), 7));
     leaves(&rt, ring, pass, &[(6, 101)], &[100]);
     Ok(())
 }
@@ -278,13 +281,28 @@ fn through(
     Some((spare, out))
 }
 
+// A number goes through the ring, and is got with this spare.
+fn goes_through(
+    rt: &impl Abort,
+    ring: &SwapRing<u64, u64, Whole, Small>,
+    pass: &mut SwapPass<u64>,
+    value: u64,
+    spare: u64,
+)
+    requires ring { IsPassOf ring.now.ring pass.old }
+    requires small { value < 10 }
+    ensures { IsPassOf ring.now.ring pass.new }
+{
+    assert!(rt; through(ring, pass, value) == Some((spare, value)));
+}
+
 #[test]
 fn a_swap_ring_of_small_numbers(rt: HostRuntime) -> Result<(), Fail> {
     let spares = vec![in rt.alloc(); 1, 2]?;
     let Ok((ring, mut pass)) = SwapRing::limited(rt.alloc(), 2, 0, spares, Small) else {
         panic!(rt; "out of memory")
     };
-    assert!(rt; through(&ring, &mut pass, 9) == Some((1, 9)));
-    assert!(rt; through(&ring, &mut pass, 3) == Some((2, 3)));
+    goes_through(&rt, &ring, &mut pass, 9, 1);
+    goes_through(&rt, &ring, &mut pass, 3, 2);
     Ok(())
 }

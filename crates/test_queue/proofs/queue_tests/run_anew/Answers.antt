@@ -1,4 +1,4 @@
-use Rattle.std.proofs.Common.{ℕ, [], ap, sym, subst, ◌∙◌}
+use Rattle.std.proofs.Common.{ℕ, [], ap, subst, ◌∙◌}
 use Rattle.alog_core.specs.History.{StandsFor}
 use Rattle.alog_core.specs.World.{Machine, fresh}
 use Rattle.alog_core.specs.Run.{GoesOn, entries_of_run}

@@ -1,11 +1,12 @@
 use denote.Builtin.{u64, unit}
-use denote.Param.Send.{IsSend, IsSync, sendable}
+use denote.Param.Send.{IsSend, IsSync, sendable, param_send}
 use Rattle.test_queue.specs.contracts.lane_tests.Sum as Sum
 use Rattle.test_queue.specs.contracts.lane_tests.SumTurn.TheImpl.{ghosts}
 use Rattle.alog_lane.specs.contracts.seat.LaneSeat as LaneSeat
 use Rattle.alog_lane.specs.contracts.lane.Lane as Lane
 use Rattle.alog_lane.proofs.SharedCrosses.{seat_send, lane_sync}
-use Rattle.test_queue.proofs.lane_tests.fn.four_threads_take_turns.fn.join+arg3.join+arg3.Goals as goal
+use Rattle.test_queue.proofs.lane_tests.add_by_two.Lts.{arg-0-1}
+use Rattle.test_queue.proofs.lane_tests.add_by_two.Goals as goal
 
 its_seat : IsSend (LaneSeat.the_row Sum.the_row u64 u64 unit ghosts)
 its_seat = seat_send Sum.the_row u64 u64 unit ghosts (search sendable)
@@ -14,4 +15,5 @@ its_lane : IsSync (Lane.the_row Sum.the_row u64 u64 unit ghosts)
 its_lane = lane_sync Sum.the_row u64 u64 unit ghosts (search sendable)
 
 pub join-requires-send-F : goal.join-requires-send-F
-join-requires-send-F g c κs = search (sendable, its_seat, its_lane) depth 7
+join-requires-send-F g c κs within =
+    param_send 1 (arg-0-1 g.row.rt g.rt.laws g.rt.Threads-dict κs) (search (sendable, its_seat, its_lane) depth 12)
