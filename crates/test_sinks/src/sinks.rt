@@ -7,7 +7,7 @@ use alog_format::{Context, LineBuf, Zone};
 use alog_msg::{Level, Message};
 use alog_pattern::Pattern;
 use alog_sink::{Face, FuseStore, MemStore, Names, Sink, SinkError, Store, Taken, Unopened};
-use std::alloc::{AllocError, Global};
+use std::alloc::Global;
 use std::test::Fail;
 
 pub const TEXT_LIMIT: usize = 64;
@@ -146,16 +146,16 @@ pub fn fan_of_two<S: Store + Drop>(alloc: Global, one: S, two: S) -> Result<Sink
     fan_of_plan(alloc, Plan::MEMORY, one, two)
 }
 
-/// Two sinks, as members.
-fn members_of<S: Drop>(
+/// Opens a sink of this plan over this store as one more member.
+fn add_member<S: Store + Drop>(
     alloc: Global,
-    one: Sink<S>,
-    two: Sink<S>,
-) -> Result<Vec<Sink<S>>, AllocError> {
-    let mut members = Vec::with_capacity(alloc, 2)?;
-    members.push_reserved(one);
-    members.push_reserved(two);
-    Ok(members)
+    members: &mut Vec<Sink<S>>,
+    plan: Plan,
+    store: S,
+) -> Result<(), Fail> {
+    let sink = plan.opened(alloc, store)?;
+    members.push(sink)?;
+    Ok(())
 }
 
 /// A fan of these members, or its refusal as an error of the test.
@@ -177,19 +177,10 @@ pub fn fan_of_plan<S: Store + Drop>(
         level: Level::Error,
         ..plan
     };
-    let one = plan.opened(alloc, one)?;
-    fan_with(alloc, one, errors, two)
-}
-
-/// A fan of this sink, and of one of this plan.
-fn fan_with<S: Store + Drop>(
-    alloc: Global,
-    one: Sink<S>,
-    plan: Plan,
-    two: S,
-) -> Result<Sink<S>, Fail> {
-    let two = plan.opened(alloc, two)?;
-    fan_of(alloc, members_of(alloc, one, two)?)
+    let mut members = Vec::new(alloc);
+    add_member(alloc, &mut members, plan, one)?;
+    add_member(alloc, &mut members, errors, two)?;
+    fan_of(alloc, members)
 }
 
 /// What is done with a sink, and what it answers. Texts are of level info where no other is named.
