@@ -3,12 +3,12 @@ ghost use Rattle.std.specs.Prelude.{◌≡◌, ◌≤◌, ◌<◌, IfOk, length}
 ghost use Rattle.std.specs.List.{AllByRecursion};
 ghost use Rattle.alog_registry.specs.Limit.{AdmitsShort, HoldsTo};
 ghost use Rattle.alog_ring.specs.Known.{IsPassOf, first_known};
-ghost use Rattle.test_loggers.specs.declared.log_tests.TheConstants.{TEXT_LIMIT};
+ghost use Rattle.test_loggers.specs.declared.trial.TheConstants.{TEXT_LIMIT};
 
-use crate::log_tests::{
+use crate::port_tests::new_book;
+use crate::trial::{
     TEXT_LIMIT, discarded, dump_twice, is_outcome, keep_three, log_to_a_full, one, overran, posted,
 };
-use crate::port_tests::new_book;
 use alog_msg::{Block, Item};
 use alog_policy::{Outcome, Policy};
 use alog_registry::{Backtrace, BlockPort, Contents, ItemOutlet, Loggers, TextLimit};

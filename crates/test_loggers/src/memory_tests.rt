@@ -4,16 +4,18 @@
 //! nothing, and refused at it: whoever copied it would have had as many bytes more.
 ghost use Rattle.std.specs.Prelude.{◌<◌, length};
 
-use crate::log_tests::{at_level, desk_of, one};
 use crate::refusal_tests::looks_at_none_below;
+use crate::trial::{at_level, backtrace_of, desk_of, one};
 use crate::wait_tests::below_on_a_lane;
 use alog_msg::{Item, Level};
 use alog_policy::{Desk, Policy};
-use alog_registry::{Backtrace, Loggers};
+use alog_registry::Loggers;
 use std::alloc::Global;
 use std::fs;
 use std::process::Abort;
+use std::sync::Wait;
 use std::test::Fail;
+use std::time::Clock;
 
 /// Where the system tells it.
 const STATUS: &str = "/proc/self/status";
@@ -50,14 +52,15 @@ fn below_on_a_desk(
     alloc: Global,
     desk: &mut Desk<Item>,
     long: &str,
-) -> Result<(), Fail>
+)
     requires { 0 < length bare.now }
 {
-    let mut none = Backtrace::new(alloc, 0)?;
-    let mut outlet = desk.outlet(1)?;
+    let mut none = backtrace_of(rt, alloc, 0);
+    let Ok(mut outlet) = desk.outlet(1) else {
+        panic!(rt; "the actor is in no call")
+    };
     let long = at_level(Level::Debug, long);
     looks_at_none_below(rt, bare, alloc, &mut outlet, &mut none, long);
-    Ok(())
 }
 
 /// A long text takes little on a desk.
@@ -71,7 +74,7 @@ fn takes_little(
     requires { 0 < length bare.now }
 {
     let before = most_memory(host)?;
-    below_on_a_desk(rt, bare, host.alloc(), desk, long)?;
+    below_on_a_desk(rt, bare, host.alloc(), desk, long);
     assert!(rt; had_little_more(host, before)?);
     Ok(())
 }
@@ -84,13 +87,24 @@ fn a_filtered_text_is_not_copied_at_once(rt: HostRuntime) -> Result<(), Fail> {
     takes_little(&rt, &rt, &bare, &mut desk, long.as_str())
 }
 
+/// A long text takes little with waiting.
+fn takes_little_with_waiting<R: Wait + Clock + Abort>(
+    rt: &R,
+    host: &HostRuntime,
+    bare: &Loggers,
+    long: &str,
+) -> Result<(), Fail>
+    requires { 0 < length bare.now }
+{
+    let before = most_memory(host)?;
+    below_on_a_lane(rt, bare, host.alloc(), long);
+    assert!(rt; had_little_more(host, before)?);
+    Ok(())
+}
+
 #[test]
 fn a_filtered_text_is_not_copied_with_waiting(rt: HostRuntime) -> Result<(), Fail> {
-    let alloc = rt.alloc();
-    let bare = one(&rt, alloc, Policy::Block, 0);
-    let long = "0123456789abcdef".repeat(alloc, TIMES)?;
-    let before = most_memory(&rt)?;
-    below_on_a_lane(&rt, &bare, alloc, long.as_str());
-    assert!(rt; had_little_more(&rt, before)?);
-    Ok(())
+    let long = "0123456789abcdef".repeat(rt.alloc(), TIMES)?;
+    let bare = one(&rt, rt.alloc(), Policy::Block, 0);
+    takes_little_with_waiting(&rt, &rt, &bare, long.as_str())
 }

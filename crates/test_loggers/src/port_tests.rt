@@ -3,9 +3,9 @@ ghost use Rattle.alog_registry.specs.Limit.{IsShort};
 ghost use Rattle.alog_policy.specs.BookCalls.{IsSeatOf};
 ghost use Rattle.alog_policy.specs.Port.{IsFit};
 ghost use Rattle.alog_ring.specs.Known.{IsPassOf, first_known};
-ghost use Rattle.test_loggers.specs.declared.log_tests.TheConstants.{TEXT_LIMIT};
+ghost use Rattle.test_loggers.specs.declared.trial.TheConstants.{TEXT_LIMIT};
 
-use crate::log_tests::{
+use crate::trial::{
     TEXT_LIMIT, at_level, backtrace_of, discarded, dump_twice, is_outcome, is_reply, keep_three,
     log_to_a_full, number_of, one, overran, posted, tells,
 };

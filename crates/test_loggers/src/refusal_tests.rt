@@ -1,9 +1,9 @@
 //! Messages that a logger refuses, and what it leaves then.
 ghost use Rattle.std.specs.Prelude.{◌≤◌, ◌<◌, length};
 ghost use Rattle.alog_registry.specs.Limit.{AdmitsShort};
-ghost use Rattle.test_loggers.specs.declared.log_tests.TheConstants.{TEXT_LIMIT};
+ghost use Rattle.test_loggers.specs.declared.trial.TheConstants.{TEXT_LIMIT};
 
-use crate::log_tests::{TEXT_LIMIT, Words, at_level, desk_of, filtered, one, tells};
+use crate::trial::{TEXT_LIMIT, Words, at_level, backtrace_of, desk_of, filtered, one, tells};
 use alog_msg::{Item, Level, MessageError, SourceRef};
 use alog_policy::{Desk, Policy};
 use alog_registry::{Backtrace, ItemOutlet, Loggers};
@@ -76,15 +76,24 @@ fn log_refused(
     alloc: Global,
     desk: &mut Desk<Item>,
     long: Words<'_>,
-) -> Result<(), Fail>
+)
     requires { (0 < length loggers.now) × (0 < length bare.now) }
 {
-    let mut kept = Backtrace::new(alloc, 1)?;
-    let mut none = Backtrace::new(alloc, 0)?;
-    let mut outlet = desk.outlet(1)?;
+    let mut kept = backtrace_of(rt, alloc, 1);
+    let mut none = backtrace_of(rt, alloc, 0);
+    let Ok(mut outlet) = desk.outlet(1) else {
+        panic!(rt; "the actor is in no call")
+    };
     refuses(rt, loggers, alloc, &mut outlet, &mut kept, long);
     looks_at_none_below(rt, bare, alloc, &mut outlet, &mut none, long);
-    Ok(())
+}
+
+// The same with two such loggers, and on a new desk.
+fn refuse_on_a_desk(rt: &impl Abort, alloc: Global, long: Words<'_>) {
+    let loggers = one(rt, alloc, Policy::Block, 1);
+    let bare = one(rt, alloc, Policy::Block, 0);
+    let mut desk = desk_of(rt, alloc, 2);
+    log_refused(rt, &loggers, &bare, alloc, &mut desk, long);
 }
 
 #[test]
@@ -99,8 +108,6 @@ fn refused_messages(rt: HostRuntime) -> Result<(), Fail> {
         }),
         ..at_level(Level::Debug, text.as_str())
     };
-    let loggers = one(&rt, alloc, Policy::Block, 1);
-    let bare = one(&rt, alloc, Policy::Block, 0);
-    let mut desk = desk_of(&rt, alloc, 2);
-    log_refused(&rt, &loggers, &bare, alloc, &mut desk, long)
+    refuse_on_a_desk(&rt, alloc, long);
+    Ok(())
 }

@@ -3,7 +3,7 @@ ghost use Rattle.alog_lane.specs.Calls.{IsSeatOf};
 ghost use Rattle.alog_registry.specs.Backtrace.{room_for};
 ghost use Rattle.alog_registry.specs.Limit.{IsShort};
 
-use crate::log_tests::{is_so, lane_of, number_of};
+use crate::trial::{is_so, lane_of, number_of};
 use alog_lane::{Lane, LaneSeat};
 use alog_msg::{Item, Level, Message, MessageError, TEXT_LIMIT_MAX};
 use alog_policy::Policy;

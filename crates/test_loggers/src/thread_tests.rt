@@ -3,9 +3,9 @@ ghost use Rattle.std.specs.Prelude.{◌≡◌, ◌≤◌, ◌↔◌, IfSome, IsT
 ghost use Rattle.alog_lane.specs.Calls.{IsSeatOf};
 ghost use Rattle.alog_registry.specs.Backtrace.{room_for};
 ghost use Rattle.alog_registry.specs.Limit.{IsShort};
-ghost use Rattle.test_loggers.specs.declared.log_tests.TheConstants.{TEXT_LIMIT};
+ghost use Rattle.test_loggers.specs.declared.trial.TheConstants.{TEXT_LIMIT};
 
-use crate::log_tests::{TEXT_LIMIT, is_so, lane_of};
+use crate::trial::{TEXT_LIMIT, is_so, lane_of};
 use alog_lane::{Lane, LaneSeat};
 use alog_msg::{Level, Message, TEXT_LIMIT_MAX};
 use alog_registry::{

@@ -3,11 +3,11 @@ ghost use Rattle.alog_msg.specs.declared.limits.TheConstants.{TEXT_LIMIT_MIN};
 ghost use Rattle.alog_policy.specs.Port.{IsFit};
 ghost use Rattle.alog_registry.specs.LaneKeeper.{IsSeated, HasList};
 
-use crate::log_tests::{
+use crate::port_tests::{new_book, ring_of};
+use crate::trial::{
     TEXT_LIMIT, are_posted, backtrace_of, discarded, is_outcome, is_reply, lane_of, one, overran,
     posted,
 };
-use crate::port_tests::{new_book, ring_of};
 use alog_lane::Lane;
 use alog_msg::{Item, Level, MessageError, TEXT_LIMIT_MAX};
 use alog_policy::{Outcome, Policy, Port, Why};
