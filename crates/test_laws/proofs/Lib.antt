@@ -1,2 +1,11 @@
 mod LastLine
+mod Bounds
+mod Claims
+mod Dues
+mod Held
 mod OneText
+mod Posts
+mod Pieces
+mod Texts
+mod Opening
+mod PipedLines

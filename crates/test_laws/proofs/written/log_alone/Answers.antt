@@ -1,4 +1,4 @@
-use Rattle.std.proofs.Common.{◌≡◌, [], ◌∷◌, ◌++◌, refl, sym, ap, ◌∙◌}
+use Rattle.std.proofs.Common.{[], ◌∷◌, ◌++◌, ap, ◌∙◌}
 use Rattle.std.specs.Prelude.{List}
 use Rattle.std.proofs.lemmas.Int.{to_z-of_z}
 use Rattle.alog_pool.specs.Producer.{ProducerView}

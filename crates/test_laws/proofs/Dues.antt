@@ -1,0 +1,105 @@
+-- The turns that are due on the one sink of a logger for texts and flushes of it.
+use Rattle.std.proofs.Common.{◌≡◌, ◌≢◌, ℕ, ◌+◌, ◌≤◌, Bool, true, false, cond, Option, Some, List, [], ◌∷◌, ◌++◌, map, length, length-append}
+use Rattle.std.proofs.Common.{refl, sym, ap, subst, ◌∙◌, arith}
+use Rattle.std.specs.List.{AllByRecursion}
+use Rattle.alog_core.proofs.SharedCells.{on_test}
+use Rattle.alog_msg.specs.declared.item.Item.{Item}
+use Rattle.alog_msg.specs.declared.item.Item.TheVariants.{Flush, Stop, Text}
+use Rattle.alog_msg.specs.declared.message.Message.{Message}
+use Rattle.alog_pool.specs.Deeds.{Due, all_dues, due_by, dues_by, dues_of, dues_on}
+use Rattle.alog_pool.specs.OneWorker.{texts_in}
+use Rattle.alog_registry.specs.Listed.{spec_at}
+use Rattle.alog_registry.specs.Work.{is_flush_due, turns_on}
+use Rattle.alog_registry.specs.declared.logger.Logger.{Logger}
+use Rattle.alog_registry.specs.declared.logger.Spec.{Spec}
+use Rattle.alog_registry.specs.declared.work.SinkDeed.TheVariants as deed
+use Rattle.alog_registry.specs.declared.work.SinkTurn.{SinkTurn}
+use Rattle.alog_sink.specs.LaneRuns.{with_text}
+use Rattle.test_laws.proofs.Claims.{Given}
+
+-- a text of this logger, or a flush of it
+abbrev pub IsFor : ℕ → Item → Type 0
+IsFor logger (Text m) = m.logger ≡ logger
+IsFor logger (Flush k) = k ≡ logger
+IsFor logger Stop = ⊥
+
+no_stop : (logger : ℕ) (x : Item) → IsFor logger x → x ≢ Stop
+no_stop logger (Text m) is same = absurd (cc same)
+no_stop logger (Flush k) is same = absurd (cc same)
+no_stop logger Stop is same = is
+
+pub no_stops : (logger : ℕ) (items : List Given) → AllByRecursion (λ (i : Given). IsFor logger i.1) items
+    → AllByRecursion (λ (i : Given). i.1 ≢ Stop) items
+no_stops logger [] all = tt
+no_stops logger (i ∷ items) all = (no_stop logger i.1 all.0, no_stops logger items all.1)
+
+-- the texts of two lists, one behind the other
+with_more : (x : Item) (ms ns : List Message) → with_text x (ms ++ ns) ≡ with_text x ms ++ ns
+with_more (Text m) ms ns = refl
+with_more (Flush k) ms ns = refl
+with_more Stop ms ns = refl
+
+pub texts_more : (xs ys : List Given) → texts_in (xs ++ ys) ≡ texts_in xs ++ texts_in ys
+texts_more [] ys = refl
+texts_more (x ∷ xs) ys = ap (λ (ms : List Message). with_text x.1 ms) (texts_more xs ys) ∙ with_more x.1 (texts_in xs) (texts_in ys)
+
+module _ (loggers : List Logger) (logger n : ℕ) (s : Spec) (found : spec_at loggers logger ≡ Some s) (sinks : s.sinks.items ≡ n ∷ []) where
+  dues_more : (ds es : List Due) → dues_on n (ds ++ es) ≡ dues_on n ds ++ dues_on n es
+  dues_more [] es = refl
+  dues_more (d ∷ ds) es =
+      on_test (λ b. cond b ((d.tag, d.item) ∷ dues_on n (ds ++ es)) (dues_on n (ds ++ es))
+      ≡ cond b ((d.tag, d.item) ∷ dues_on n ds) (dues_on n ds) ++ dues_on n es) d.sink n
+      (λ _. ap (λ (l : List Given). (d.tag, d.item) ∷ l) (dues_more ds es))
+      (λ _. dues_more ds es)
+
+  -- turns that give the sink just this item's text, if it is one
+  abbrev IsGood : Item → List Given → Type 0
+  IsGood x turns = (texts_in turns ≡ with_text x []) × (length turns ≤ 2)
+
+  abbrev turns_at : ℕ → List ℕ → Bool → List SinkTurn
+  turns_at t sinks due = turns_on sinks t deed.Take ++ cond due (turns_on sinks t deed.Flush) []
+
+  good_text : (t : ℕ) (m : Message) (due : Bool)
+      → IsGood (Text m) (dues_on n (map (λ (u : SinkTurn). due_by m.logger (Text m) u) (turns_at t (n ∷ []) due)))
+  good_text t m true =
+      on_test (λ b. IsGood (Text m) (cond b ((t, Text m) ∷ cond b ((t, Flush m.logger) ∷ []) []) (cond b ((t, Flush m.logger) ∷ []) []))) n n
+      (λ _. (refl, omega arith)) (λ other. absurd (other refl))
+  good_text t m false =
+      on_test (λ b. IsGood (Text m) (cond b ((t, Text m) ∷ []) [])) n n (λ _. (refl, omega arith)) (λ other. absurd (other refl))
+
+  good_flush : (t k : ℕ) → IsGood (Flush k) (dues_on n (map (λ (u : SinkTurn). due_by k (Flush k) u) (turns_on (n ∷ []) t deed.Flush)))
+  good_flush t k =
+      on_test (λ b. IsGood (Flush k) (cond b ((t, Flush k) ∷ []) [])) n n (λ _. (refl, omega arith)) (λ other. absurd (other refl))
+
+  spec_of : (k : ℕ) → k ≡ logger → spec_at loggers k ≡ Some s
+  spec_of k is = subst (λ (j : ℕ). spec_at loggers j ≡ Some s) (sym is) found
+
+  good_item : (t : ℕ) (x : Item) → IsFor logger x → IsGood x (dues_on n (dues_of loggers t x))
+  good_item t (Text m) is =
+      let at : List ℕ → Type 0 = λ l.
+      IsGood (Text m) (dues_on n (map (λ (u : SinkTurn). due_by m.logger (Text m) u) (turns_at t l (is_flush_due s m.level)))) in
+      let good : at s.sinks.items = subst at (sym sinks) (good_text t m (is_flush_due s m.level)) in
+      subst (λ (o : Option Spec). IsGood (Text m) (dues_on n (dues_by o m.logger t (Text m)))) (sym (spec_of m.logger is)) good
+  good_item t (Flush k) is =
+      let at : List ℕ → Type 0 = λ l. IsGood (Flush k) (dues_on n (map (λ (u : SinkTurn). due_by k (Flush k) u) (turns_on l t deed.Flush))) in
+      let good : at s.sinks.items = subst at (sym sinks) (good_flush t k) in
+      subst (λ (o : Option Spec). IsGood (Flush k) (dues_on n (dues_by o k t (Flush k)))) (sym (spec_of k is)) good
+  good_item t Stop is = absurd is
+
+  -- for all of them it is given their texts, by at most two turns each
+  pub due_texts : (items : List Given) → AllByRecursion (λ (i : Given). IsFor logger i.1) items
+      → (texts_in (dues_on n (all_dues loggers items)) ≡ texts_in items)
+      × (length (dues_on n (all_dues loggers items)) ≤ length items + length items)
+  due_texts [] all = (refl, omega arith)
+  due_texts (i ∷ items) all =
+      let here = good_item i.0 i.1 all.0 in
+      let rest = due_texts items all.1 in
+      let now : List Given = dues_on n (dues_of loggers i.0 i.1) in
+      let then : List Given = dues_on n (all_dues loggers items) in
+      let parts : dues_on n (all_dues loggers (i ∷ items)) ≡ now ++ then = dues_more (dues_of loggers i.0 i.1) (all_dues loggers items) in
+      let long : length (dues_on n (all_dues loggers (i ∷ items))) ≡ length now + length then =
+      ap (λ (l : List Given). length l) parts ∙ length-append now then in (
+        ap (λ (l : List Given). texts_in l) parts ∙ texts_more now then ∙ (λ j. here.0 j ++ rest.0 j)
+            ∙ sym (with_more i.1 [] (texts_in items)),
+        omega (arith, long, here.1, rest.1),
+      )

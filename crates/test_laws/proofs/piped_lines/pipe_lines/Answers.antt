@@ -1,0 +1,7 @@
+use Rattle.test_laws.proofs.PipedLines.{lines_held, on_ok}
+use Rattle.test_laws.proofs.piped_lines.pipe_lines.Goals as goal
+
+pub returns-clause-held : goal.returns-clause-held
+returns-clause-held g c =
+    on_ok _ (λ p h n bytes f. lines_held g.S.Store.tells g.S.Store.files g.S.Store.failures h f c.one_worker_writes_in_order.ensures
+    c.short_lines_are_whole.ensures) c.pipe-piped.result

@@ -1,0 +1,137 @@
+-- What a sink holds of the lines that a pipe logged.
+use Rattle.std.specs.Prelude.{◌≡◌, ◌≤◌, ◌<◌, ◌^◌, ℕ, ℤ, Bool, true, Option, None, Some, is_none, List, [], ◌∷◌, ◌++◌, length, slice_get}
+use Rattle.std.proofs.Common.{inl, inr}
+use Rattle.std.specs.List.{AllByRecursion, concat, flat_map}
+use Rattle.std.specs.Str.{IsUtf8}
+use Rattle.alog_config.specs.Built.{EachIs}
+use Rattle.alog_config.specs.declared.config.Config.{Config}
+use Rattle.alog_lines.specs.Lines.{lines_of}
+use Rattle.alog_lines.specs.Pieces.{Piece, pieces_of}
+use Rattle.alog_msg.specs.declared.level.Level.{Level}
+use Rattle.alog_msg.specs.declared.message.Message.{Message}
+use Rattle.alog_pattern.specs.declared.flags.Flag.TheVariants.{Text}
+use Rattle.alog_pattern.specs.declared.items.Item.TheVariants.{Flag}
+use Rattle.alog_pipe.specs.InTurn.{InTurn}
+use Rattle.alog_pipe.specs.Logged.{LogsPiece, LogsPieceAt, by}
+use Rattle.alog_pipe.specs.Piped.{LogsRead}
+use Rattle.alog_pipe.specs.Pipes.{Pipes}
+use Rattle.alog_pipe.specs.declared.piping.Piped.{Piped}
+use Rattle.alog_pool.specs.OneWorker.{HoldsMore}
+use Rattle.alog_registry.specs.Given.{message_with}
+use Rattle.alog_registry.specs.Listed.{spec_at}
+use Rattle.alog_registry.specs.Logging.{IsLogged}
+use Rattle.alog_registry.specs.declared.logger.Spec.{Spec}
+use Rattle.alog_sink.specs.Files.{Files, bytes_of}
+use Rattle.alog_sink.specs.Lines.{admits}
+use Rattle.alog_sink.specs.Names.{numbered}
+use Rattle.alog_sink.specs.Rotation.{Limits, Run, kept}
+use Rattle.alog_sink.specs.Turn.{LeafView, StandsFor}
+use Rattle.alog_sink.specs.declared.sink.Sink.{Sink}
+use Rattle.alog_sink.specs.declared.sink.Sink.TheVariants.{Leaf}
+use Rattle.alog_sink.specs.declared.target.Target.{Target}
+use Rattle.alog_sink.specs.declared.target.Target.TheVariants.{Daily, Memory, Rotating}
+
+-- What a pipe logs with. Its crate has no name for others to call this type by: it is the one that `by` takes.
+abbrev pub second_of : {A B C : Type 0} → (A → B → C) → Type 0
+second_of {A} {B} {C} f = B
+
+abbrev pub PieceLog : Type 0
+PieceLog = second_of by
+
+-- a message of this logger and level, of the pool's first thread, with exactly this piece's text; its time is some
+abbrev pub IsOf : ℕ → Level → Piece → Message → Type 0
+IsOf logger level p m = (time : ℤ) × (m ≡ message_with logger level time 0 p.text None)
+
+-- a piece that is kept was posted, and so was not below the level that its logger had then
+abbrev pub PassesAt : (time : ℤ) (text : List ℕ) (old mid new : PieceLog) → LogsPieceAt time text old mid new → Type 0
+PassesAt time text old mid new (inl (told, inl keeps)) = IsLogged keeps.0.0
+PassesAt time text old mid new (inl (told, inr loses)) = Unit {0}
+PassesAt time text old mid new (inr missed) = Unit {0}
+
+-- each of these deeds, one after the other, is such
+abbrev pub Along : {A S : Type 0} (step : A → S → S → Type 0) (Is : (x : A) (s t : S) → step x s t → Type 0) (xs : List A) (s t : S)
+    → InTurn step xs s t → Type 0
+Along step Is [] s t done = Unit {0}
+Along step Is (x ∷ xs) s t done = Is x s done.0 done.1 × Along step Is xs done.0 t done.2
+
+abbrev pub PiecePasses : (time : ℤ) (p : Piece) (old new : PieceLog) → LogsPiece time p.text old new → Type 0
+PiecePasses time p old new l = PassesAt time p.text old l.mid new l.logged
+
+abbrev pub GroupPasses : (ps : List Piece) (old new : PieceLog) → LogsRead ps old new → Type 0
+GroupPasses ps old new r =
+    Along {A = Piece} {S = PieceLog} (λ (p : Piece) s t. LogsPiece r.time p.text s t) (PiecePasses r.time) ps old r.mid r.logged
+
+-- no piece that is kept was below the level that its logger had when it was logged
+abbrev pub AllPass : (reads : List (List Piece)) (old new : PieceLog) → InTurn LogsRead reads old new → Type 0
+AllPass reads old new logged = Along LogsRead GroupPasses reads old new logged
+
+-- the texts of these pieces, each with a newline
+abbrev pub text_lines : List Piece → List ℕ
+text_lines pieces = flat_map (λ (p : Piece). p.text ++ 10 ∷ []) pieces
+
+-- lines in UTF-8 of at most so many bytes, of which the last has its newline
+pub record AreTexts (limit : ℕ) (bytes : List ℕ) : Type 0 where
+  pub lines : AllByRecursion (λ (line : List ℕ). IsUtf8 line × (length line ≤ limit)) (lines_of bytes)
+  pub front : List ℕ
+  pub ends : bytes ≡ front ++ 10 ∷ []
+
+-- a sink that takes this level, and whose lines are the texts alone
+pub record IsPlain {S : Type 0} (level : Level) (leaf : LeafView S) : Type 0 where
+  pub takes : admits leaf.face.level level ≡ true
+  pub items : leaf.face.pattern.items ≡ Flag Text None ∷ []
+
+-- Files that are rotated are runs of bytes. These runs are, one behind the other, what the base had at first and then these bytes; the last
+-- one is in the base, and those before it are in the files by number, as far as they are kept.
+pub record AreRuns (limits : Limits) (opening now : Files) (bytes : List ℕ) : Type 0 where
+  pub runs : List Run
+  pub joined : concat (flat_map (λ (run : Run). run) runs) ≡ bytes_of opening limits.file ++ bytes
+  pub numbers : (i : ℕ) → i ≤ limits.max_files → now (numbered limits.file i) ≡ kept limits opening runs i
+
+-- These bytes came behind what was there: in the one file, or in the files that are rotated. Of files by days nothing is said here.
+abbrev pub HasBytes : Target → Files → Files → List ℕ → Type 0
+HasBytes (Memory j) opening now bytes = bytes_of now j.file ≡ bytes_of opening j.file ++ bytes
+HasBytes (Rotating r) opening now bytes = AreRuns r.limits opening now bytes
+HasBytes (Daily d) opening now bytes = Unit {0}
+
+module _ {S : Type 0} (files : S → Files) where
+  -- A sink was opened over one of these stores, and stands for that store's files and these messages: its files are what its kind makes of
+  -- the files that were there and of the messages' lines. Where these are the texts alone, they are these bytes.
+  pub record StandsOver (level : Level) (stores : List S) (messages : List Message) (bytes : List ℕ) (leaf : LeafView S) : Type 0 where
+    pub store : S
+    pub place : ℕ
+    pub store_is : slice_get stores place ≡ Some store
+    pub stands : StandsFor files leaf (files store) messages
+    pub plain : IsPlain level leaf → HasBytes leaf.target (files store) (files leaf.store) bytes
+
+  -- Of these sinks that of this number holds, behind what it held at first, exactly one message for each piece of these bytes, in their order.
+  -- If it is no fan it stands for them over one of these stores. The texts of the pieces are the bytes, where these are lines of texts.
+  pub record HoldsPieces (logger : ℕ) (level : Level) (n : ℕ) (stores : List S) (first last : List (Sink S)) (limit : ℕ) (bytes : List ℕ)
+      : Type 0 where
+    pub messages : List Message
+    pub each : EachIs (IsOf logger level) (pieces_of limit bytes) messages
+    pub old : Sink S
+    pub new : Sink S
+    pub old_is : slice_get first n ≡ Some old
+    pub new_is : slice_get last n ≡ Some new
+    pub holds : HoldsMore files old new messages
+    pub stands : (leaf : LeafView S) → new ≡ Leaf leaf → StandsOver level stores messages (text_lines (pieces_of limit bytes)) leaf
+    pub whole : AreTexts limit bytes → text_lines (pieces_of limit bytes) ≡ bytes
+
+module _ {S : Type 0} (tells : Bool) (files : S → Files) (failures : S → ℕ) where
+  -- A pipe, by this account of it, of a reader that had these bytes and was read to its end: through a pool of one worker, to a logger that
+  -- writes to the sink of this number alone, whose store tells its files, and where no turn met a fault. No piece is missing, nothing was
+  -- overrun, and no piece was below the level that the logger had when it was logged.
+  pub record FlowsTo (n : ℕ) (bytes : List ℕ) {c : Config} {stores : List S} {logger : ℕ} {level : Level} {before after : Option (List ℕ)}
+      {p : Piped S} (h : Pipes tells files failures c stores logger level before after p) : Type 0 where
+    pub had : before ≡ Some bytes
+    pub few : length (pieces_of c.text bytes) < 2 ^ 64
+    pub whole : is_none p.fault ≡ true
+    pub alone : c.workers ≡ 1
+    pub spec : Spec
+    pub found : spec_at h.setup.loggers logger ≡ Some spec
+    pub sinks : spec.sinks.items ≡ n ∷ []
+    pub told : tells ≡ true
+    pub faultless : slice_get p.report.faults.items n ≡ Some 0
+    pub none_missing : p.missing ≡ 0
+    pub none_overrun : p.report.totals.overrun ≡ 0
+    pub passes : AllPass h.through.pumps.pumps.reads h.through.pumps.start.log h.through.pumps.last.log h.through.pumps.pumps.logged

@@ -1,0 +1,50 @@
+//! From the lines of a reader to what a sink holds.
+ghost use Rattle.std.specs.Prelude.{◌≡◌, ◌<◌, ℕ, IfOk, List, count_by, length};
+ghost use Rattle.alog_config.specs.Sinks.{is_leaf};
+ghost use Rattle.alog_pipe.specs.Pipes.{Pipes};
+ghost use Rattle.test_laws.specs.PipedLines.{FlowsTo, HoldsPieces};
+
+use alog_config::{BuildError, Config};
+use alog_lines::laws::short_lines_are_whole;
+use alog_msg::Level;
+use alog_pipe::{Piped, pipe};
+use alog_pool::laws::one_worker_writes_in_order;
+use alog_sink::Store;
+use std::alloc::Global;
+use std::io::Read;
+use std::sync::Wait;
+use std::thread::Threads;
+use std::time::Clock;
+
+/// Logs each line of a reader, as `pipe` does, which answers for it. In a pool of one worker whose logger writes to one sink, where no turn on
+/// that sink met a fault and its store tells its files, where the reader came to its end, no piece of a line is missing or was below the
+/// logger's level, and nothing was overrun: the sink holds, behind what it held, exactly one message for each piece of the reader's lines,
+/// in their order, with their texts, of this logger and level. If it is no fan it was opened over one of the stores, and its files are those
+/// of that store with the lines of these messages. Where these are the texts alone, its file, or the runs of its files one behind the
+/// other, are what was there and then these texts; and where the reader's lines are short and in UTF-8, these are the reader's bytes.
+pub fn pipe_lines<R, S, I>(
+    rt: &R,
+    alloc: Global,
+    config: &Config,
+    stores: Vec<S>,
+    input: &mut I,
+    logger: u32,
+    level: Level,
+) -> Result<Piped<S>, BuildError>
+where
+    R: Threads + Wait + Clock + Clone + Drop + Send + 'static,
+    S: Store + Drop + Send + 'static,
+    I: Read,
+    requires many { length stores.items ≡ count_by is_leaf config.now.sinks.items }
+    requires known { logger < length config.now.loggers.items }
+    ensures piped { IfOk result (λ p. Pipes S.tells S.files S.failures config.now stores.items logger level (I.remaining input.old)
+        (I.remaining input.new) p) }
+    ensures held { IfOk result (λ p. (h : Pipes S.tells S.files S.failures config.now stores.items logger level (I.remaining input.old)
+        (I.remaining input.new) p) (n : ℕ) (bytes : List ℕ) → FlowsTo S.tells S.files S.failures n bytes h
+        → HoldsPieces S.files logger level n stores.items h.setup.sinks.items p.report.sinks.items config.now.text bytes) }
+{
+    let piped = pipe(rt, alloc, config, stores, input, logger, level);
+    one_worker_writes_in_order::<S>();
+    short_lines_are_whole();
+    piped
+}
