@@ -1,5 +1,5 @@
 -- What the one worker of a pool wrote of all that one producer put in.
-use Rattle.std.proofs.Common.{◌≡◌, ◌<◌, ◌≤◌, ◌^◌, ℕ, zero, suc, ◌+◌, Bool, true, Some, List, [], ◌∷◌, length, refl, subst, arith}
+use Rattle.std.proofs.Common.{◌≡◌, ◌<◌, ◌≤◌, ◌^◌, ℕ, zero, suc, ◌+◌, ◌==◌, Bool, true, Some, List, [], ◌∷◌, count_by, length, refl, subst, arith}
 use Rattle.std.specs.Prelude.{slice_get}
 use Rattle.std.specs.List.{AllByRecursion}
 use Rattle.alog_core.specs.Accounts.{claims, takes}
@@ -68,13 +68,13 @@ module _ {S : Type 0} (tells : Bool) (files : S → Files) (failures : S → ℕ
       }
 
   -- A pool of one worker was ended with one producer, which put in texts and flushes of one logger and nothing else, and took nothing out.
-  -- The logger writes to the sink of this number alone, whose store tells its files, and no turn there met a fault.
+  -- The sink of this number stands once among the logger's, its store tells its files, and no turn there met a fault.
   pub record EndsAlone (logger n : ℕ) (pool : PoolView S) (p : ProducerView) (r : Report S) : Type 0 where
     pub ends : Ends tells files failures pool (p ∷ []) r
     pub single : length pool.crew ≡ 1
     pub spec : Spec
     pub found : spec_at pool.shared.loggers logger ≡ Some spec
-    pub sinks : spec.sinks.items ≡ n ∷ []
+    pub once : count_by (λ (s : ℕ). s == n) spec.sinks.items ≡ 1
     pub own : AllByRecursion (λ (i : Given). IsFor logger i.1) (claims p.pass.known.own)
     pub took : takes p.pass.known.own ≡ []
     pub told : tells ≡ true
@@ -105,7 +105,7 @@ module _ {S : Type 0} (tells : Bool) (files : S → Files) (failures : S → ℕ
       let same : n + 0 ≡ n = omega arith in
       let it = subst (λ (j : ℕ). WrittenAt n lanes r.sinks.items 0 (dues_on j dues)) same
       (written_at 0 n lanes r.sinks.items r.faults.items dues written e.faultless) in
-      let due = due_texts loggers logger n e.spec e.found e.sinks all e.own in
+      let due = due_texts loggers logger n e.spec e.found e.once all e.own in
       let few = twice_few (length (dues_on n dues)) (length all) due.1 (few_claims tells files failures e.ends) in
       record {
         lane = it.lane;

@@ -1,5 +1,5 @@
 -- What a pool of one worker wrote of the one message that was logged.
-use Rattle.std.proofs.Common.{◌≡◌, ℕ, Bool, true, None, Some, List, [], ◌∷◌, ◌++◌, length, inl, refl, sym, ap, subst, ◌∙◌}
+use Rattle.std.proofs.Common.{◌≡◌, ℕ, ◌==◌, Bool, true, None, Some, List, [], ◌∷◌, ◌++◌, count_by, length, inl, refl, sym, ap, subst, ◌∙◌}
 use Rattle.std.specs.Prelude.{ℤ, IfOk, Result, Ok, slice_get}
 use Rattle.std.specs.List.{AllByRecursion}
 use Rattle.alog_core.specs.Accounts.{claims, takes}
@@ -34,7 +34,7 @@ use Rattle.alog_sink.specs.Files.{Files}
 use Rattle.alog_sink.specs.declared.sink.Sink.{Sink}
 use Rattle.test_laws.specs.Written.{EndsWith, HoldsAt}
 use Rattle.test_laws.proofs.Claims.{Given}
-use Rattle.test_laws.proofs.Dues.{IsFor}
+use Rattle.test_laws.proofs.Dues.{IsFor, once_alone}
 use Rattle.test_laws.proofs.Held.{EndsAlone, Held, texts_held}
 use Rattle.test_laws.proofs.LastLine.{ends_with}
 
@@ -96,7 +96,7 @@ module _ {S : Type 0} (tells : Bool) (files : S → Files) (failures : S → ℕ
         single = crew;
         spec = s;
         found = there;
-        sinks = logger.sinks;
+        once = ap (λ (is : List ℕ). count_by (λ (s : ℕ). s == n) is) logger.sinks ∙ once_alone n;
         own = subst (λ (is : List Given). AllByRecursion (λ (i : Given). IsFor number i.1) is) (sym puts) (refl, tt);
         took = took;
         told = tell;

@@ -84,7 +84,7 @@ module _ {S : Type 0} (tells : Bool) (files : S → Files) (failures : S → ℕ
       single = ap (λ (hs : List (Worker S)). length hs) h.through.makes.same.3 ∙ h.starts.crew ∙ h.given.workers ∙ f.alone;
       spec = f.spec;
       found = subst (λ (ls : List Logger). spec_at ls logger ≡ Some f.spec) (sym loggers_are) f.found;
-      sinks = f.sinks;
+      once = f.once;
       own = subst (λ (is : List Given). AllByRecursion (λ (i : Given). IsFor logger i.1) is) (sym puts_are) goes.own;
       took = took_none tells files failures h.through.ends f.none_overrun;
       told = f.told;

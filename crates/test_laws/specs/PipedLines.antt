@@ -1,5 +1,5 @@
 -- What a sink holds of the lines that a pipe logged.
-use Rattle.std.specs.Prelude.{◌≡◌, ◌≤◌, ◌<◌, ◌^◌, ℕ, ℤ, Bool, true, Option, None, Some, is_none, List, [], ◌∷◌, ◌++◌, length, slice_get}
+use Rattle.std.specs.Prelude.{◌≡◌, ◌≤◌, ◌<◌, ◌^◌, ◌==◌, ℕ, ℤ, Bool, true, Option, None, Some, is_none, List, [], ◌∷◌, ◌++◌, count_by, length, slice_get}
 use Rattle.std.proofs.Common.{inl, inr}
 use Rattle.std.specs.List.{AllByRecursion, concat, flat_map}
 use Rattle.std.specs.Str.{IsUtf8}
@@ -118,9 +118,9 @@ module _ {S : Type 0} (files : S → Files) where
     pub whole : AreTexts limit bytes → text_lines (pieces_of limit bytes) ≡ bytes
 
 module _ {S : Type 0} (tells : Bool) (files : S → Files) (failures : S → ℕ) where
-  -- A pipe, by this account of it, of a reader that had these bytes and was read to its end: through a pool of one worker, to a logger that
-  -- writes to the sink of this number alone, whose store tells its files, and where no turn met a fault. No piece is missing, nothing was
-  -- overrun, and no piece was below the level that the logger had when it was logged.
+  -- A pipe, by this account of it, of a reader that had these bytes and was read to its end: through a pool of one worker, to a logger
+  -- among whose sinks that of this number stands once. The store of that sink tells its files, and no turn there met a fault. No piece is
+  -- missing, nothing was overrun, and no piece was below the level that the logger had when it was logged.
   pub record FlowsTo (n : ℕ) (bytes : List ℕ) {c : Config} {stores : List S} {logger : ℕ} {level : Level} {before after : Option (List ℕ)}
       {p : Piped S} (h : Pipes tells files failures c stores logger level before after p) : Type 0 where
     pub had : before ≡ Some bytes
@@ -129,7 +129,7 @@ module _ {S : Type 0} (tells : Bool) (files : S → Files) (failures : S → ℕ
     pub alone : c.workers ≡ 1
     pub spec : Spec
     pub found : spec_at h.setup.loggers logger ≡ Some spec
-    pub sinks : spec.sinks.items ≡ n ∷ []
+    pub once : count_by (λ (s : ℕ). s == n) spec.sinks.items ≡ 1
     pub told : tells ≡ true
     pub faultless : slice_get p.report.faults.items n ≡ Some 0
     pub none_missing : p.missing ≡ 0
