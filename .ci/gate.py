@@ -6,7 +6,8 @@ gate.py applies           says which wrong bodies no longer apply, and which cra
                           that is not laid out
 gate.py wrong [NAME..]    tries the wrong bodies of these crates, or of all, on a copy of the repository: many at once, each in a
                           function of its own (rounds.py), and alone what was not refused so
-gate.py planted           tries the bodies that no contract refuses, crates/NAME/planted, on a copy: a test of that crate must fail
+gate.py planted           tries the bodies that no contract refuses, crates/NAME/planted, on a copy: a test of that crate must fail, or one of
+                          the sessions that lines `session: NAME` of the edit name
 """
 import glob
 import json
@@ -244,8 +245,39 @@ def wrong(names):
     return 1 if others else 0
 
 
+def tested(home):
+    """Tries the tests of a crate unproved, and returns which fail, and the last line of what was said."""
+    ran = subprocess.run(["rt", "try", "--test"], cwd=home, stdout=subprocess.PIPE, stderr=subprocess.STDOUT, text=True, errors="replace")
+    return re.findall(r"(?m)^test (\S+) \.\.\. FAILED", ran.stdout), ran.stdout.strip().splitlines()[-1:]
+
+
+def built_unproved(home):
+    """Builds the program of a crate unproved. `rt try` runs it once and removes it, so it gets another name while it is there."""
+    with tempfile.TemporaryDirectory(prefix="alog-try-", dir=home) as room:
+        ran = subprocess.Popen(["rt", "try", "--", "--version"], cwd=home, env={**os.environ, "TMPDIR": room}, stdin=subprocess.DEVNULL, stdout=subprocess.DEVNULL, stderr=subprocess.DEVNULL)
+        kept = f"{home}/program"
+        while ran.poll() is None:
+            for it in glob.glob(f"{room}/*/*/program*"):
+                if os.access(it, os.X_OK) and not os.path.exists(kept):
+                    os.link(it, kept)
+            time.sleep(0.01)
+        return kept if os.path.exists(kept) else None
+
+
+def played(home, sessions):
+    """Plays sessions on the program of a crate, built unproved, and returns which fail, and the last line of what was said."""
+    program = built_unproved(home)
+    if not program:
+        return [], ["it was not built"]
+    words = [sys.executable, ".ci/sessions.py", *sessions]
+    ran = subprocess.run(words, env={**os.environ, "ALOG": program}, stdout=subprocess.PIPE, stderr=subprocess.STDOUT, text=True, errors="replace")
+    os.remove(program)
+    return re.findall(r"(?m)^session sessions/(\w+\.session:\d+)", ran.stdout), ran.stdout.strip().splitlines()[-1:]
+
+
 def planted():
-    """Runs the tests of a crate on each of the bodies that they are to refuse, unproved, and tells which tests fail."""
+    """Tries each of the bodies that tests are to refuse, unproved, and tells which tests fail; of the program alog, which of the sessions that
+    the edit names."""
     let_through = []
     with tempfile.TemporaryDirectory(prefix="alog-planted-") as room:
         shutil.copytree("crates", f"{room}/crates", symlinks=True, ignore=shutil.ignore_patterns("out"))
@@ -255,12 +287,12 @@ def planted():
             home = f"{room}/{os.path.dirname(os.path.dirname(edit))}"
             kept = {f"{home}/{path}": text_of(f"{home}/{path}") for path, _, _ in rounds.pairs_of(edit)}
             rounds.turn(home, edit)
-            ran = subprocess.run(["rt", "try", "--test"], cwd=home, stdout=subprocess.PIPE, stderr=subprocess.STDOUT, text=True, errors="replace")
+            sessions = re.findall(r"(?m)^session: (\w+)$", text_of(edit))
+            failed, said = played(home, sessions) if sessions else tested(home)
             for file, text in kept.items():
                 with open(file, "w", encoding="utf-8") as it:
                     it.write(text)
-            failed = re.findall(r"(?m)^test (\S+) \.\.\. FAILED", ran.stdout)
-            came = f"refused by {', '.join(failed)}" if failed else f"NOT REFUSED: {ran.stdout.strip().splitlines()[-1:]}"
+            came = f"refused by {', '.join(failed)}" if failed else f"NOT REFUSED: {said}"
             print(f"planted {edit}: {came}", flush=True)
             let_through += [] if failed else [edit]
     return 1 if let_through else 0

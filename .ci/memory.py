@@ -37,12 +37,10 @@ GENERAL = [b"alog: %s\n" % it for it in (
 # a small load, and what it prints
 LOAD = Row("load", ["load", "examples/one_file.toml", "--producers", "2", "--messages", "3"], b"", b"asked 6\nposted 6\ndiscarded 0\noverrun 0\nhandled 6\n", 0, b"")
 # the crates whose tests show calls: each is tried where it is built
-CRATES = ["test_lines", "test_daily", "test_stores", "test_sinks", "test_queue", "test_loggers", "test_scripts", "test_config", "test_system"]
+CRATES = ["test_lines", "test_daily", "test_stores", "test_sinks", "test_queue", "test_loggers"]
 # those of their tests that must pass whatever fails
 PASSING = {
     "test_queue": ["memory_tests::want_of_memory", "memory_tests::want_of_memory_for_a_swap_ring"],
-    "test_config": ["memory_tests::want_of_memory", "memory_tests::want_of_memory_for_a_refusal"],
-    "test_scripts": ["config_fault_tests::want_of_memory_for_a_script"],
 }
 # the tests with threads, of a crate that is built where it is not: whether each must pass, or may say want of memory until all its
 # producers are made

@@ -1,5 +1,5 @@
 """Runs the built program as users do: the sessions of sessions/, the rows of rows/ and examples/, and what README and docs/ show; prints
-what differs from what is wanted, and how many passed and failed.
+what differs from what is wanted, and how many passed and failed. With names it plays those sessions alone. ALOG names another program.
 
 NAME.session has commands and what each answers. A line says by its first sign what it is:
 
@@ -30,7 +30,7 @@ import tempfile
 sys.dont_write_bytecode = True
 from rows import bytes_of, of_bytes, rows
 
-PROGRAM = os.path.abspath("crates/alog/out/alog")
+PROGRAM = os.path.abspath(os.environ.get("ALOG", "crates/alog/out/alog"))
 SECONDS = 60
 # the program that README shows whole
 EXAMPLE = "crates/example_server/src/main.rt"
@@ -138,15 +138,16 @@ def play_document(document, bin):
     return passed, faults
 
 
-def main():
+def main(names):
     if not os.path.exists(PROGRAM):
         print(f"sessions: {PROGRAM} is not built\n0 passed, 1 failed")
         return 1
     with tempfile.TemporaryDirectory(prefix="alog-bin-") as bin, futures.ThreadPoolExecutor(os.cpu_count()) as pool:
         os.symlink(PROGRAM, f"{bin}/alog")
-        all_of = [pool.submit(play, it, bin) for it in sorted(glob.glob("sessions/*.session"))]
-        all_of += [pool.submit(play_rows, it) for it in ("rows", "examples")]
-        all_of += [pool.submit(play_document, it, bin) for it in ("README.md", *sorted(glob.glob("docs/*.md")))]
+        all_of = [pool.submit(play, it, bin) for it in [f"sessions/{name}.session" for name in names] or sorted(glob.glob("sessions/*.session"))]
+        if not names:
+            all_of += [pool.submit(play_rows, it) for it in ("rows", "examples")]
+            all_of += [pool.submit(play_document, it, bin) for it in ("README.md", *sorted(glob.glob("docs/*.md")))]
         found = [it.result() for it in all_of]
     for fault in (fault for _, faults in found for fault in faults):
         print(f"session {fault}")
@@ -156,4 +157,4 @@ def main():
 
 
 if __name__ == "__main__":
-    sys.exit(main())
+    sys.exit(main(sys.argv[1:]))

@@ -18,7 +18,7 @@ use std::collections::VecDeque;
 use std::io;
 use thiserror::Error;
 
-/// Why nothing was built. The test `a_store_that_fails` of `test_config` shows one.
+/// Why nothing was built. The test `a_sink_that_cannot_be_opened_is_told` of `test_server` shows one.
 #[derive(Clone, Copy, Debug, Drop, Error)]
 pub enum BuildError {
     /// A growth was refused.
@@ -48,8 +48,8 @@ impl From<AllocError> for BuildError {
 /// Builds the loggers and the sinks that a configuration names, over stores in the order of the sinks that need one.
 ///
 /// The sinks are those that are no fan's member, in their order; a member is in its fan. A logger's sinks are told by their
-/// places among them. There are as many stores as `leaves` tells. After a refusal the stores are dropped. The test
-/// `one_file` of `test_config` shows it.
+/// places among them. There are as many stores as `leaves` tells. After a refusal the stores are dropped.
+/// `sessions/scripts_on_sinks.session` shows what becomes of lines.
 pub fn build<S: Store + Drop>(
     alloc: Global,
     config: &Config,

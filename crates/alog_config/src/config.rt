@@ -9,7 +9,7 @@ use alog_policy::Policy;
 
 /// A configuration that keeps every rule: how a logger is set up.
 ///
-/// The test `defaults` of `test_config` shows one.
+/// `examples/` has some.
 #[derive(Debug, Drop)]
 pub struct Config {
     /// Places of the queue: a power of two, 2 to 65,536.

@@ -25,7 +25,7 @@ const SHOWN_MAX: usize = 64;
 ///
 /// Of a value at most 64 bytes are shown, those before its first newline, and `..` stands for the rest. Where the document
 /// is no TOML, the line is told at which it is none, and why. A fault that is not the document's is told by its rule alone.
-/// The test `refusals_in_words` of `test_config` shows each.
+/// `sessions/words_of_refusals.session` shows each.
 pub fn explain(alloc: Global, document: &[u8], fault: ConfigFault) -> Result<String, AllocError> {
     match toml::table_from_slice(alloc, document) {
         Ok(table) => match fault {

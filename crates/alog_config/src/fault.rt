@@ -4,7 +4,7 @@ ghost use Rattle.alog_config.specs.Numbers.{number_of_fault, number_of_rule};
 
 use thiserror::Error;
 
-/// What a table of a configuration has to keep to. The test `rules_in_order` of `test_config` shows each.
+/// What a table of a configuration has to keep to. `sessions/rules.session` shows each.
 #[derive(Clone, Copy, Debug, PartialEq, Eq, Error)]
 pub enum Rule {
     /// The table, or a sink of its kind, has no such key.
@@ -24,7 +24,7 @@ pub enum Rule {
     NoSuchSink,
 }
 
-/// The rules in the order in which they are looked at within one table. The test `rules_in_order` of `test_config` shows it.
+/// The rules in the order in which they are looked at within one table. `sessions/rules.session` shows it.
 pub const RULES: [Rule; 5] = [
     Rule::UnknownKey,
     Rule::BadValue,
@@ -33,7 +33,7 @@ pub const RULES: [Rule; 5] = [
     Rule::NoSuchSink,
 ];
 
-/// Where in a configuration a rule is broken. The test `rules_in_order` of `test_config` shows each.
+/// Where in a configuration a rule is broken. `sessions/rules.session` shows each.
 #[derive(Clone, Copy, Debug, PartialEq, Eq)]
 pub enum Place {
     /// Outside of the sinks and the loggers.
@@ -44,7 +44,7 @@ pub enum Place {
     Logger(usize),
 }
 
-/// Why a configuration was not read. The test `worked_refusals` of `test_config` shows each.
+/// Why a configuration was not read. `sessions/rules.session` shows each.
 #[derive(Clone, Copy, Debug, PartialEq, Eq, Error)]
 pub enum ConfigFault {
     /// The document is no TOML, or not in UTF-8.

@@ -13,7 +13,8 @@
 //! each configuration); `specs/Built.antt` with `building.rt`, `opening.rt` and `parts.rt` (what is built of one);
 //! `specs/Culprits.antt` with `culprit.rt`, `words.rt` and `explaining.rt` (which key breaks a rule, and how that is told).
 //!
-//! The tests are in `test_config`.
+//! What documents give and how they are refused is shown on the built program, in `sessions/`: `keys`, `rules`, `words_of_refusals`,
+//! `many_tables` and `scripts_on_sinks`.
 #![tactic(auto)]
 
 mod broken;

@@ -6,7 +6,7 @@ use alog_msg::Text;
 use std::alloc::{AllocError, Global};
 use std::marker::Model;
 
-/// A list of names. Contracts see it as the list of them. The test `defaults` of `test_config` shows one.
+/// A list of names. Contracts see it as the list of them.
 #[derive(Debug, Drop)]
 pub struct NameList {
     texts: Vec<Text>,

@@ -114,7 +114,8 @@ fn why<S: Store + Drop>(number: usize, unopened: Unopened<S>) -> BuildError
 }
 
 /// Says in one line which sink could not be opened since its store failed, as `BuildError::Store` tells it, and what the system said
-/// of the store's call, where it did. The test `a_store_that_fails` of `test_config` shows it.
+/// of the store's call, where it did. The test `a_sink_that_cannot_be_opened_is_told` of
+/// `test_server` shows it.
 pub fn explain_unopened(
     alloc: Global,
     config: &Config,

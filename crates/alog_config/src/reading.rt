@@ -41,8 +41,8 @@ impl From<AllocError> for TableFault {
 ///
 /// Where the document is no TOML, that is the fault. Else the top is looked at first, then the sinks in their order, then
 /// the loggers in theirs, and within one table the rules in the order of `RULES`; the first fault counts, and is answered
-/// with its place. Want of memory may be answered at any point. The test `defaults` of `test_config` shows a
-/// configuration, and the test `worked_refusals` there the refusals.
+/// with its place. Want of memory may be answered at any point. `examples/` has
+/// configurations, and `sessions/rules.session` the refusals.
 pub fn read(alloc: Global, document: &[u8]) -> Result<Config, ConfigFault>
     ensures { Reads document.now result }
 {

@@ -52,8 +52,7 @@ fn is_fan_name(sinks: &[SinkConfig], name: &str) -> bool
         .any(|sink| sink.is_fan() && sink.name.as_str() == name)
 }
 
-/// Whether a fan among these has the sink of this name as a member: such a sink is no sink of its own for loggers. The test
-/// `leaves_of_sinks` of `test_config` shows it.
+/// Whether a fan among these has the sink of this name as a member: such a sink is no sink of its own for loggers.
 pub fn is_member(sinks: &[SinkConfig], name: &str) -> bool
     ensures { IsTrue result ↔ IsMember sinks.now name.now }
 {
@@ -88,8 +87,7 @@ pub(crate) fn any_member(sinks: &[SinkConfig], names: &[Text]) -> bool
     names.iter().any(|name| is_member(sinks, name.as_str()))
 }
 
-/// How many stores the sinks of a configuration need: one for each that is no fan. The test
-/// `leaves_of_sinks` of `test_config` shows it.
+/// How many stores the sinks of a configuration need: one for each that is no fan.
 pub fn leaves(config: &Config) -> usize
     ensures { result ≡ count_by is_leaf config.now.sinks.items }
 {

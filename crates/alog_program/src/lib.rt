@@ -3,11 +3,13 @@
 //! `program.rt` has `run`: the whole program over any reader and two writers, which answers the exit status. `words.rt` reads the
 //! command line into a request (`request.rt`): `command.rt` has the commands and their help for `clap`, and `options.rt` and
 //! `load_options.rt` read the values that it found. `line.rt` makes the line of `alog format`, `check.rt`, `replay_config.rt` and
-//! `load.rt` (with `progress.rt`) and `pipe.rt` (with `pipe_options.rt`) do what begins with the configuration of a file, and `status.rt` says which status and which number
-//! each fault has; `ended.rt` says why a replay ended early, by what `traced.rt` remembers of its script and its output, and
-//! `script_words.rt` which word of a refused line is wrong. `arguments.rt` collects the words that the system gave, for `main` in the crate `alog`.
+//! `load.rt` (with `progress.rt`) and `pipe.rt` (with `pipe_options.rt`) do what begins with the configuration of a file, and
+//! `status.rt` says which status and which number each fault has; `ended.rt` says why a replay ended early, by what `traced.rt`
+//! remembers of its script and its output, and `script_words.rt` which word of a refused line is wrong. `arguments.rt` collects the
+//! words that the system gave, for `main` in the crate `alog`.
 //!
-//! The tests are in the crates `test_program` (scripts), `test_pipe` (pipes) and `test_commands` (the other commands, and what is refused).
+//! What users see of it is tried on the built program, by `sessions/` and `.ci/sessions.py`; what no run of it shows is tested in the
+//! crate `test_program` (what fails beneath it, clocks).
 #![tactic(auto)]
 
 mod arguments;

@@ -26,7 +26,7 @@ use std::marker::Model;
 
 /// What a script with a configuration is played on: a stepped system, the names of its sinks, and where its leaves are.
 ///
-/// Contracts see it as the `Stage` of `specs/Configured.antt`. The test `a_flush_that_is_due` of `test_scripts` shows it.
+/// Contracts see it as the `Stage` of `specs/Configured.antt`.
 #[derive(Drop)]
 pub struct Configured<'c, S> {
     system: System<S>,

@@ -15,7 +15,7 @@
 //! Read the specs in that order, then `scene.rt` (the trait of what a script is played on), `player.rt` (which plays on
 //! any such thing, and has `replay` at its end); `plain.rt` and `session.rt` are the queue, `memory.rt` its sink, of which
 //! `specs/MemorySink.antt` says what it is, `lines.rt` the reader, `parser.rt` and `entry.rt` the lines, and `print.rt` has
-//! the texts of steps, cells and files. The tests are in the crate `test_scripts`.
+//! the texts of steps, cells and files. What scripts print, and which lines are refused, is shown on the built program: `rows/`, `sessions/`.
 #![tactic(auto)]
 
 mod command;

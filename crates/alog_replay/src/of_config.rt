@@ -39,7 +39,7 @@ fn staged(alloc: Global, config: &Config) -> Result<Configured<'_, MemStore>, Al
 /// (`specs/OfConfig.antt`) and the scene of `specs/Configured.antt`. Want of memory, refused lines and faults are as with `replay`;
 /// where there is no memory for the stage itself, nothing is written.
 ///
-/// The test `a_flush_that_is_due` of `test_scripts` shows a call.
+/// `sessions/scripts_on_sinks.session` has such scripts, and what they print.
 pub fn replay_config<R: Read, W: Write>(
     alloc: Global,
     config: &Config,

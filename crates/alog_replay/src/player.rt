@@ -198,7 +198,7 @@ pub fn play<S: Playable, R: Read, W: Write>(
 /// turn prints `fault`, and so does each later one. A refused line is the first one, and what was printed before it,
 /// and of it, is written. After any fault what is written is a front of what those bytes tell that were read.
 ///
-/// The test `scripts_and_what_they_print` of `test_scripts` shows calls, and `examples/` has scripts.
+/// `examples/` and `rows/` have scripts, and what they print.
 pub fn replay<R: Read, W: Write>(
     alloc: Global,
     reader: &mut R,

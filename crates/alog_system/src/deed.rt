@@ -1,6 +1,6 @@
 use alog_msg::Level;
 
-/// What an actor begins. Logger numbers are those of the system's loggers. The test `a_log_and_a_work` shows some.
+/// What an actor begins. Logger numbers are those of the system's loggers. `a_log_and_a_work` of `test_laws` shows some.
 #[derive(Clone, Copy, Debug)]
 pub enum Deed<'a> {
     /// A message is logged: posted, unless it is below its logger's level, and kept where its logger has a backtrace. Its thread is

@@ -6,7 +6,7 @@ use alog_msg::MessageError;
 use std::alloc::AllocError;
 use thiserror::Error;
 
-/// Why a deed did not begin; the reasons are looked at in this order. The test `refusals_in_order` shows it.
+/// Why a deed did not begin; the reasons are looked at in this order.
 #[derive(Clone, Copy, Debug, PartialEq, Eq, Drop, Error)]
 pub enum BeginError {
     /// Actors are 0 to 63.
@@ -44,7 +44,7 @@ impl From<MessageError> for BeginError {
     }
 }
 
-/// Why there is no system. The test `refused_systems` shows it.
+/// Why there is no system.
 #[derive(Clone, Copy, Debug, PartialEq, Eq, Drop, Error)]
 pub enum SystemError {
     /// The number of places is no power of two from 2 to 65,536.

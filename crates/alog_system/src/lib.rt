@@ -11,7 +11,8 @@
 //! `Asked.antt` (what that asks for) and `Faults.antt` (what sinks stand for), none of which says how a system is made.
 //!
 //! Then `system.rt` with `system/new.rt`, `begin.rt` and `step.rt`; below them `duty.rt`, `dump.rt`, `roster.rt` and `outputs.rt`.
-//! The tests that comments name here are in `test_system`.
+//! `test_laws` has a caller of the law (`a_log_and_a_work`); what steps tell is shown on the built program, by the scripts of `rows/` and
+//! `sessions/`.
 #![tactic(auto)]
 
 mod deed;

@@ -31,7 +31,7 @@ use std::mem;
 
 /// The stepped queue of items with its losses, the loggers with their levels and backtraces, and the sinks.
 ///
-/// Contracts see it as the `SystemView` of `specs/System.antt`. It stores no history. The test `a_log_and_a_work` shows it.
+/// Contracts see it as the `SystemView` of `specs/System.antt`. It stores no history. `a_log_and_a_work` of `test_laws` shows calls.
 #[derive(Drop)]
 pub struct System<S> {
     desk: Desk<Item>,

@@ -9,7 +9,6 @@ use std::alloc::{AllocError, Global};
 
 impl System<MemStore> {
     /// The system that a configuration names: its queue, its loggers and its sinks, each over a new store in memory.
-    /// The test `of_a_configuration` shows it.
     pub fn new(alloc: Global, config: &Config) -> Result<System<MemStore>, AllocError>
         ensures { IfOk result (λ s.
             IsSystemOf ⟦<MemStore as Store>⟧.tells ⟦<MemStore as Store>⟧.files ⟦<MemStore as Store>⟧.failures config.now s) }

@@ -1,7 +1,0 @@
-use Rattle.std.proofs.Common.{subst}
-use Rattle.alog_pattern.specs.declared.patterns.TheConstants.{LINE_MAX}
-use Rattle.alog_sink.specs.Sinks.{Suits}
-use Rattle.test_system.proofs.systems.memory.Goals as goal
-
-pub returns-in-Ok : goal.returns-in-Ok
-returns-in-Ok c = subst (λ n. Suits n LINE_MAX c.in-Ok.sink) c.in_ok-face.ensures c.in-Ok.ensures.suits
