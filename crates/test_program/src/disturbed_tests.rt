@@ -1,8 +1,8 @@
 //! `alog replay --config` on the whole program where its reader or its writer fails, or memory is wanting.
-use std::alloc::{AllocError, Global};
+use std::alloc::AllocError;
 use std::path::PathBuf;
 use std::{fs, io};
-use test_runs::{Course, Host, SMALL, Scratch, UNWRITTEN, ends, removed, run, written};
+use test_runs::{Course, Host, Ran, SMALL, Scratch, UNWRITTEN, ends, removed, written};
 
 const SCRIPT: &str = "log 1 0 net info a\nrun 1\nwork 2\nrun 2\n";
 
@@ -18,11 +18,13 @@ fn ends_on<R: Host>(
 ) -> bool {
     let course = Course {
         words: &["alog", "replay", "--config", file],
-        script: SCRIPT,
+        input: SCRIPT,
         printed: PRINTED,
+        interrupts: false,
         reader_fails,
         room,
         writer_fails: true,
+        flush_fails: false,
     };
     ends(rt, course, status, error)
 }
@@ -63,14 +65,9 @@ const NO_TOML: (&str, &str) = (
 
 /// Whether a file that has no configuration is refused so where the script cannot be read either.
 fn refuses_first<R: Host>(rt: &R, file: &str, error: &str) -> bool {
-    let course = Course {
-        words: &["alog", "replay", "--config", file],
-        script: "",
-        printed: "",
-        reader_fails: true,
-        room: 0,
-        writer_fails: true,
-    };
+    let words = ["alog", "replay", "--config", file];
+    let mut course = Course::of(words.as_slice(), 0);
+    course.reader_fails = true;
     ends(rt, course, 2, error)
 }
 
@@ -92,45 +89,36 @@ fn own_path(rt: &HostRuntime) -> io::Result<PathBuf> {
     }
 }
 
-/// A list with room for this many bytes, asked for again where memory was wanting.
-fn room(alloc: Global, bytes: usize) -> Result<Vec<u8>, AllocError> {
-    match Vec::with_capacity(alloc, bytes) {
-        Ok(room) => Ok(room),
-        Err(_) => Vec::with_capacity(alloc, bytes),
-    }
-}
+/// How much the script prints at most, and what is said on standard error.
+const ROOM: usize = 256;
 
-/// What a run answered, with what it printed and what it said on standard error.
-#[derive(Drop)]
-struct Ran {
-    status: u8,
-    printed: Vec<u8>,
-    errors: Vec<u8>,
-}
-
-/// Plays the script, over lists that have room for what it prints.
+/// Plays the script, and again where there was no memory before it began.
 fn played<R: Host>(rt: &R, file: &str) -> Result<Ran, AllocError> {
-    let mut printed = room(rt.alloc(), 256)?;
-    let mut errors = room(rt.alloc(), 256)?;
-    let words = ["alog", "replay", "--config", file];
-    let mut input = SCRIPT.as_bytes();
-    let status = run(rt, words.as_slice(), &mut input, &mut printed, &mut errors);
-    Ok(Ran {
-        status,
-        printed,
-        errors,
-    })
+    let course = Course {
+        words: &["alog", "replay", "--config", file],
+        input: SCRIPT,
+        printed: "",
+        interrupts: false,
+        reader_fails: false,
+        room: ROOM,
+        writer_fails: true,
+        flush_fails: false,
+    };
+    match course.run(rt) {
+        Ok(ran) => Ok(ran),
+        Err(_) => course.run(rt),
+    }
 }
 
 /// The script was played.
 fn is_played(ran: &Ran) -> bool {
-    let is_printed = ran.printed.as_slice() == PRINTED.as_bytes();
+    let is_printed = ran.output.taken.as_slice() == PRINTED.as_bytes();
     ran.status == 0 && is_printed && ran.errors.is_empty()
 }
 
 /// There was no memory.
 fn is_without_memory(ran: &Ran) -> bool {
-    let is_front = PRINTED.as_bytes().starts_with(ran.printed.as_slice());
+    let is_front = PRINTED.as_bytes().starts_with(ran.output.taken.as_slice());
     ran.status == 4
         && is_front
         && ran.errors.as_slice() == b"alog: refused 1\nalog: out of memory\n".as_slice()

@@ -20,11 +20,13 @@ fn one_byte_at_a_time(rt: HostRuntime) {
     ] {
         let course = Course {
             words: WORDS.as_slice(),
-            script: SCRIPT,
+            input: SCRIPT,
             printed: PRINTED,
+            interrupts: true,
             reader_fails,
             room: PRINTED.len(),
             writer_fails: true,
+            flush_fails: false,
         };
         assert!(rt; ends(&rt, course, status, error), "{status}");
     }
@@ -39,14 +41,25 @@ fn each_write_failing(rt: HostRuntime) {
         for writer_fails in [true, false] {
             let course = Course {
                 words: WORDS.as_slice(),
-                script: SCRIPT,
+                input: SCRIPT,
                 printed: PRINTED,
+                interrupts: false,
                 reader_fails: false,
                 room,
                 writer_fails,
+                flush_fails: false,
             };
             let error = if writer_fails { UNWRITTEN } else { FULL };
             assert!(rt; ends(&rt, course, 3, error), "at {room} bytes");
         }
     }
+}
+
+#[test]
+fn a_flush_failing(rt: HostRuntime) {
+    let mut course = Course::of(WORDS.as_slice(), PRINTED.len());
+    course.input = SCRIPT;
+    course.printed = PRINTED;
+    course.flush_fails = true;
+    assert!(rt; ends(&rt, course, 3, UNWRITTEN));
 }
