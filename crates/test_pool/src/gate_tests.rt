@@ -1,13 +1,15 @@
 //! Pools whose workers are held by a gate.
 use crate::gates::{Flags, has_begun, holder, holds_until, lowered, open};
-use crate::reports::{has, has_tickets, has_totals, is_told, logged, posted};
+use crate::reports::{has, has_tickets, has_totals};
+use crate::rows::{Deed, Told, do_all};
 use crate::trial::{Files, NEVER, PLAIN, Plan, Trial, setup_of};
 use alog_msg::Level;
-use alog_policy::{Outcome, Policy, Why};
+use alog_policy::Policy;
 use alog_pool::Report;
 use std::alloc::Global;
 use std::process::Abort;
 use std::sync::Wait;
+use std::thread::Threads;
 use std::time::Clock;
 
 // Of two workers, the one that was held has the first ticket, and the other these. It was let go on.
@@ -31,69 +33,44 @@ const BOTH: Plan = Plan {
     ..PLAIN
 };
 
-// While one worker is held before the first turn of its ticket, the other handles the one that comes later.
-#[test]
-fn a_held_ticket_is_written_last(rt: HostRuntime) {
-    let alloc = rt.alloc();
-    let flags = lowered(&rt, alloc);
-    let gate = holds_until(&rt, &flags, 1);
-    let setup = setup_of(alloc, BOTH, &[&[0]], &[NEVER]);
-    let mut trial = Trial::start(&rt, alloc, setup, gate, 1);
-    trial.say(&rt, alloc, 0, "a");
-    trial.say(&rt, alloc, 0, "b");
-    let report = trial.end(&rt);
-    has_totals(&rt, &report, 2, 0, 0);
-    has_one_held(&rt, &report, &flags, &[1]);
-    has(&rt, &report, 0, b"b\na\n");
-}
-
-// It handles all that come later.
-#[test]
-fn another_worker_goes_on(rt: HostRuntime) {
-    let alloc = rt.alloc();
-    let flags = lowered(&rt, alloc);
-    let gate = holds_until(&rt, &flags, 3);
-    let setup = setup_of(alloc, BOTH, &[&[0]], &[NEVER]);
-    let mut trial = Trial::start(&rt, alloc, setup, gate, 1);
-    trial.say(&rt, alloc, 0, "a");
-    trial.say(&rt, alloc, 0, "b");
-    trial.say(&rt, alloc, 0, "c");
-    trial.say(&rt, alloc, 0, "d");
-    let report = trial.end(&rt);
-    has_totals(&rt, &report, 4, 0, 0);
-    has_one_held(&rt, &report, &flags, &[1, 2, 3]);
-    has(&rt, &report, 0, b"b\nc\nd\na\n");
-}
-
-// Five texts are logged to a queue of two places, whose worker is held at the first. The last two are answered so.
-fn says_five(
+// They log these texts.
+fn say_each(
     rt: &(impl Abort + Wait + Clock),
     alloc: Global,
-    flags: &Flags,
     trial: &mut Trial<Files>,
-    fourth: Outcome<()>,
-    fifth: Outcome<()>,
+    texts: &[&str],
 ) {
-    trial.say(rt, alloc, 0, "a");
-    has_begun(rt, flags);
-    trial.say(rt, alloc, 0, "b");
-    trial.say(rt, alloc, 0, "c");
-    is_told(rt, trial.log(rt, alloc, 0, 0, "d"), logged(fourth));
-    is_told(rt, trial.log(rt, alloc, 0, 0, "e"), logged(fifth));
-    open(flags);
+    for text in texts {
+        trial.say(rt, alloc, 0, text);
+    }
 }
 
-// Posted under this ticket, when the oldest was taken out.
-fn overran(ticket: u64) -> Outcome<()> {
-    Outcome::Posted { ticket, overran: 1 }
+// One worker is held before the first turn of its ticket until this ticket was handled: the other one handles all that come later.
+fn goes_on<R>(rt: &R, alloc: Global, until: u64, texts: &[&str], others: &[u64], bytes: &[u8])
+where
+    R: Abort + Threads + Wait + Clock + Clone + Drop + Send + 'static,
+{
+    let flags = lowered(rt, alloc);
+    let gate = holds_until(rt, &flags, until);
+    let setup = setup_of(alloc, BOTH, &[&[0]], &[NEVER]);
+    let mut trial = Trial::start(rt, alloc, setup, gate, 1);
+    say_each(rt, alloc, &mut trial, texts);
+    let report = trial.end(rt);
+    has_totals(rt, &report, texts.len() as u64, 0, 0);
+    has_one_held(rt, &report, &flags, others);
+    has(rt, &report, 0, bytes);
 }
 
-// Discarded, since the queue was full.
-fn full() -> Outcome<()> {
-    Outcome::Discarded {
-        value: (),
-        why: Why::Full,
-        overran: 0,
+// Until which ticket a worker is held, the texts, the tickets of the other one, and the lines.
+const HELD: [(u64, &[&str], &[u64], &[u8]); 2] = [
+    (1, &["a", "b"], &[1], b"b\na\n"),
+    (3, &["a", "b", "c", "d"], &[1, 2, 3], b"b\nc\nd\na\n"),
+];
+
+#[test]
+fn a_held_ticket_is_written_last(rt: HostRuntime) {
+    for (until, texts, others, bytes) in HELD {
+        goes_on(&rt, rt.alloc(), until, texts, others, bytes);
     }
 }
 
@@ -106,75 +83,91 @@ fn narrow(policy: Policy) -> Plan {
     }
 }
 
-#[test]
-fn the_oldest_are_overrun(rt: HostRuntime) {
-    let alloc = rt.alloc();
-    let flags = lowered(&rt, alloc);
-    let gate = holds_until(&rt, &flags, 0);
-    let setup = setup_of(alloc, narrow(Policy::OverrunOldest), &[&[0]], &[NEVER]);
-    let mut trial = Trial::start(&rt, alloc, setup, gate, 1);
-    says_five(&rt, alloc, &flags, &mut trial, overran(3), overran(4));
-    let report = trial.end(&rt);
-    has_totals(&rt, &report, 5, 0, 2);
-    has_tickets(&rt, &report, 0, &[0, 3, 4]);
-    has(&rt, &report, 0, b"a\nd\ne\n");
-}
-
-#[test]
-fn the_new_are_discarded(rt: HostRuntime) {
-    let alloc = rt.alloc();
-    let flags = lowered(&rt, alloc);
-    let gate = holds_until(&rt, &flags, 0);
-    let setup = setup_of(alloc, narrow(Policy::DiscardNew), &[&[0]], &[NEVER]);
-    let mut trial = Trial::start(&rt, alloc, setup, gate, 1);
-    says_five(&rt, alloc, &flags, &mut trial, full(), full());
-    let report = trial.end(&rt);
-    has_totals(&rt, &report, 5, 2, 0);
-    has_tickets(&rt, &report, 0, &[0, 1, 2]);
-    has(&rt, &report, 0, b"a\nb\nc\n");
-}
-
-// A text is logged to a queue of two places, whose worker is held at it, and then three without waiting, of which the last is
-// answered so.
-fn says_three_now(
-    rt: &(impl Abort + Wait + Clock),
+// A text is logged to a queue of two places, whose worker is held at it until its producer has done this.
+fn is_full<R>(
+    rt: &R,
     alloc: Global,
-    flags: &Flags,
-    trial: &mut Trial<Files>,
-    last: Outcome<()>,
-) {
+    policy: Policy,
+    deeds: &[Deed<'_>],
+    totals: (u64, u64, u64),
+    tickets: &[u64],
+    bytes: &[u8],
+)
+where
+    R: Abort + Threads + Wait + Clock + Clone + Drop + Send + 'static,
+{
+    let flags = lowered(rt, alloc);
+    let gate = holds_until(rt, &flags, 0);
+    let setup = setup_of(alloc, narrow(policy), &[&[0]], &[NEVER]);
+    let mut trial = Trial::start(rt, alloc, setup, gate, 1);
     trial.say(rt, alloc, 0, "a");
-    has_begun(rt, flags);
-    let answers = [("b", posted(1)), ("c", posted(2)), ("d", last)];
-    for (text, outcome) in answers {
-        let reply = trial.log_now(rt, alloc, 0, Level::Info, text);
-        is_told(rt, reply, logged(outcome));
+    has_begun(rt, &flags);
+    do_all(rt, alloc, &mut trial, deeds);
+    open(&flags);
+    let report = trial.end(rt);
+    let (asked, discarded, overrun) = totals;
+    has_totals(rt, &report, asked, discarded, overrun);
+    has_tickets(rt, &report, 0, tickets);
+    has(rt, &report, 0, bytes);
+}
+
+// The policy, what is done where two texts find room, how many are asked, discarded and overrun, the tickets that are handled, and
+// the lines.
+type AtFull<'a> = (Policy, &'a [Deed<'a>], (u64, u64, u64), &'a [u64], &'a [u8]);
+
+const FULL: [AtFull<'_>; 4] = [
+    (
+        Policy::OverrunOldest,
+        &[
+            Deed::Logs(0, 0, Level::Info, "b", Told::Posted(1)),
+            Deed::Logs(0, 0, Level::Info, "c", Told::Posted(2)),
+            Deed::Logs(0, 0, Level::Info, "d", Told::Overran(3)),
+            Deed::Logs(0, 0, Level::Info, "e", Told::Overran(4)),
+        ],
+        (5, 0, 2),
+        &[0, 3, 4],
+        b"a\nd\ne\n",
+    ),
+    (
+        Policy::DiscardNew,
+        &[
+            Deed::Logs(0, 0, Level::Info, "b", Told::Posted(1)),
+            Deed::Logs(0, 0, Level::Info, "c", Told::Posted(2)),
+            Deed::Logs(0, 0, Level::Info, "d", Told::Full),
+            Deed::Logs(0, 0, Level::Info, "e", Told::Full),
+        ],
+        (5, 2, 0),
+        &[0, 1, 2],
+        b"a\nb\nc\n",
+    ),
+    // Without waiting.
+    (
+        Policy::OverrunOldest,
+        &[
+            Deed::LogsNow(0, Level::Info, "b", Told::Posted(1)),
+            Deed::LogsNow(0, Level::Info, "c", Told::Posted(2)),
+            Deed::LogsNow(0, Level::Info, "d", Told::Overran(3)),
+        ],
+        (4, 0, 1),
+        &[0, 2, 3],
+        b"a\nc\nd\n",
+    ),
+    (
+        Policy::DiscardNew,
+        &[
+            Deed::LogsNow(0, Level::Info, "b", Told::Posted(1)),
+            Deed::LogsNow(0, Level::Info, "c", Told::Posted(2)),
+            Deed::LogsNow(0, Level::Info, "d", Told::Full),
+        ],
+        (4, 1, 0),
+        &[0, 1, 2],
+        b"a\nb\nc\n",
+    ),
+];
+
+#[test]
+fn policies_of_a_full_queue(rt: HostRuntime) {
+    for (policy, deeds, totals, tickets, bytes) in FULL {
+        is_full(&rt, rt.alloc(), policy, deeds, totals, tickets, bytes);
     }
-    open(flags);
-}
-
-#[test]
-fn the_oldest_of_three_is_overrun(rt: HostRuntime) {
-    let alloc = rt.alloc();
-    let flags = lowered(&rt, alloc);
-    let gate = holds_until(&rt, &flags, 0);
-    let setup = setup_of(alloc, narrow(Policy::OverrunOldest), &[&[0]], &[NEVER]);
-    let mut trial = Trial::start(&rt, alloc, setup, gate, 1);
-    says_three_now(&rt, alloc, &flags, &mut trial, overran(3));
-    let report = trial.end(&rt);
-    has_totals(&rt, &report, 4, 0, 1);
-    has(&rt, &report, 0, b"a\nc\nd\n");
-}
-
-#[test]
-fn the_last_of_three_is_discarded(rt: HostRuntime) {
-    let alloc = rt.alloc();
-    let flags = lowered(&rt, alloc);
-    let gate = holds_until(&rt, &flags, 0);
-    let setup = setup_of(alloc, narrow(Policy::DiscardNew), &[&[0]], &[NEVER]);
-    let mut trial = Trial::start(&rt, alloc, setup, gate, 1);
-    says_three_now(&rt, alloc, &flags, &mut trial, full());
-    let report = trial.end(&rt);
-    has_totals(&rt, &report, 4, 1, 0);
-    has(&rt, &report, 0, b"a\nb\nc\n");
 }

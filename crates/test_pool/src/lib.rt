@@ -1,12 +1,13 @@
 //! Tests of pools and of loads over the public surface of `alog_pool` and `alog_load`.
 //!
 //! They are here, and not in those crates, since a crate with tests is proved twice. Read `sinks.rt` (a sink, and the limit of
-//! texts), `totals.rt` (what a pool has to report, as a plain program), `trial.rt` (a pool that is tried, with its producers) and
-//! `reports.rt` (what is wanted of replies and reports). Then `worker_tests.rt` (a worker alone), `wait_tests.rt` (how it waits),
-//! `producer_tests.rt`, `pool_tests.rt` and `shutdown_tests.rt`; `gates.rt` (a gate that holds a worker), `gate_tests.rt` and `order_tests.rt` (which
-//! turn comes before which); `meeting_tests.rt` (sinks that wait for each other), `thread_tests.rt` (producers on threads of their
-//! own), `memory_tests.rt` (want of memory) and `reserved_tests.rt` (that posting takes none); last `load_tests.rt` (loads of small
-//! configurations).
+//! texts), `totals.rt` (what a pool has to report, as a plain program), `trial.rt` (a pool that is tried, with its producers),
+//! `reports.rt` (what is wanted of replies and reports) and `rows.rt` (pools by rows). Then `worker_tests.rt` (a worker alone),
+//! `wait_tests.rt` (how it waits), `producer_tests.rt`, `pool_tests.rt` and `shutdown_tests.rt`; `gates.rt` (a gate that holds a
+//! worker), `gate_tests.rt` and `order_tests.rt` (which turn comes before which); `meeting_tests.rt` (sinks that wait for each
+//! other), `thread_tests.rt` (producers on threads of their own), `memory_tests.rt` (want of memory) and `reserved_tests.rt` (that
+//! posting takes none); last `load_tests.rt` (loads of small configurations). A test that calls a function over any host is dear,
+//! whatever it does: so what differs by numbers and texts alone stands in rows.
 #![tactic(auto)]
 
 #[cfg(test)]
@@ -29,6 +30,8 @@ mod producer_tests;
 mod reports;
 #[cfg(test)]
 mod reserved_tests;
+#[cfg(test)]
+mod rows;
 #[cfg(test)]
 mod shutdown_tests;
 #[cfg(test)]

@@ -156,16 +156,6 @@ name = \"net\"
 sinks = [\"out\"]
 ";
 
-// Eight lists of tickets, which rise and have together each of the 4,000 once.
-#[test]
-fn eight_lists_of_tickets(rt: HostRuntime) {
-    let alloc = rt.alloc();
-    let report = report_of(&rt, alloc, EIGHT_WORKERS, 4, 1_000);
-    has_totals(&rt, &report, 4_000, 0, 0);
-    has_each_ticket_once(&rt, alloc, &report, 8);
-    has_count(&rt, &report, 0, "out", 4_000);
-}
-
 // There are so many workers.
 fn has_workers(rt: &impl Abort, report: &Report<Files>, count: usize) {
     assert!(rt; report.tickets.len() == count);
@@ -177,57 +167,110 @@ fn has_one_of(rt: &impl Abort, report: &Report<Files>, place: usize, name: &str,
     assert!(rt; wanted.iter().any(|bytes| file == *bytes));
 }
 
+// Of one producer: a configuration, how many messages, and which lines the first sink's file of this name may have.
+const LINES: [(&str, u64, &str, &[&[u8]]); 2] = [
+    (
+        ONE_LOGGER,
+        3,
+        "out",
+        &[b"net I 0 0\nnet I 0 1\nnet I 0 2\n"],
+    ),
+    // The time is the number; two workers write in either order.
+    (
+        TWO_LOGGERS,
+        2,
+        "all",
+        &[
+            b"net 0 0 0000000000\nnet 0 1 0000000001\n",
+            b"net 0 1 0000000001\nnet 0 0 0000000000\n",
+        ],
+    ),
+];
+
 #[test]
 fn lines_of_one_producer(rt: HostRuntime) {
-    let report = report_of(&rt, rt.alloc(), ONE_LOGGER, 1, 3);
-    let lines = b"net I 0 0\nnet I 0 1\nnet I 0 2\n";
-    has_one_of(&rt, &report, 0, "out", &[lines]);
+    for (document, messages, name, wanted) in LINES {
+        let report = report_of(&rt, rt.alloc(), document, 1, messages);
+        has_totals(&rt, &report, messages, 0, 0);
+        has_one_of(&rt, &report, 0, name, wanted);
+    }
 }
 
-// The store of the sink at this place has no file.
-fn has_no_file(rt: &impl Abort, report: &Report<Files>, place: usize) {
-    let store = report.sinks.get(place).and_then(|sink| sink.store());
-    assert!(rt; store.is_some_and(|store| store.store().files().is_empty()));
-}
-
-#[test]
-fn no_messages(rt: HostRuntime) {
-    let report = report_of(&rt, rt.alloc(), ONE_LOGGER, 2, 0);
-    has_totals(&rt, &report, 0, 0, 0);
-    has_no_file(&rt, &report, 0);
-}
-
-// Two workers handled so many in all.
-fn two_workers_handled(rt: &impl Abort, report: &Report<Files>, count: usize) {
-    let [first, second] = report.tickets.as_slice() else {
-        panic!(rt; "there are two workers")
-    };
-    assert!(rt; first.len().saturating_add(second.len()) == count);
-}
-
-// The file of this name, in the sink at this place, has so many lines.
+// The store of the sink at this place has this file with so many lines, or no file where that is none.
 fn has_count(rt: &impl Abort, report: &Report<Files>, place: usize, name: &str, count: usize) {
+    let store = report.sinks.get(place).and_then(|sink| sink.store());
+    let files = if count > 0 { 1 } else { 0 };
+    assert!(rt; store.is_some_and(|store| store.store().files().len() == files));
     assert!(rt; count_of_lines(file_named(rt, report, place, name)) == count);
 }
 
-// The loggers are met in turn: of four producers two log to `net`, whose number is 0, one to `db` and one to `quiet`, which
-// filters all. What is filtered is not asked for.
-#[test]
-fn several_loggers_and_sinks(rt: HostRuntime) {
-    let report = report_of(&rt, rt.alloc(), TWO_LOGGERS, 4, 50);
-    has_totals(&rt, &report, 150, 0, 0);
-    two_workers_handled(&rt, &report, 150);
-    has_count(&rt, &report, 0, "all", 150);
-    has_count(&rt, &report, 1, "own.log", 100);
+// A load of so many producers, of so many messages each; how many of all are asked, by how many workers they are handled, and how
+// many lines each sink's file has.
+#[derive(Clone, Copy)]
+struct Loaded<'a> {
+    document: &'a str,
+    producers: u64,
+    messages: u64,
+    asked: u64,
+    workers: usize,
+    files: &'a [(&'a str, usize)],
+}
+
+const LOADS: [Loaded<'_>; 4] = [
+    Loaded {
+        document: EIGHT_WORKERS,
+        producers: 4,
+        messages: 1_000,
+        asked: 4_000,
+        workers: 8,
+        files: &[("out", 4_000)],
+    },
+    // The loggers are met in turn: of four producers two log to `net`, whose number is 0, one to `db` and one to `quiet`, which
+    // filters all. What is filtered is not asked for.
+    Loaded {
+        document: TWO_LOGGERS,
+        producers: 4,
+        messages: 50,
+        asked: 150,
+        workers: 2,
+        files: &[("all", 150), ("own.log", 100)],
+    },
+    // The most producers.
+    Loaded {
+        document: ONE_LOGGER,
+        producers: 64,
+        messages: 5,
+        asked: 320,
+        workers: 1,
+        files: &[("out", 320)],
+    },
+    // No messages.
+    Loaded {
+        document: ONE_LOGGER,
+        producers: 2,
+        messages: 0,
+        asked: 0,
+        workers: 1,
+        files: &[("out", 0)],
+    },
+];
+
+// The report of a load says so. The tickets of each worker rise, and all have together each that was handled once.
+fn is_told(rt: &impl Abort, alloc: Global, report: &Report<Files>, load: Loaded<'_>) {
+    has_totals(rt, report, load.asked, 0, 0);
+    has_each_ticket_once(rt, alloc, report, load.workers);
+    for (place, (name, count)) in load.files.iter().enumerate() {
+        has_count(rt, report, place, name, *count);
+    }
 }
 
 #[test]
-fn the_time_is_the_number(rt: HostRuntime) {
-    let report = report_of(&rt, rt.alloc(), TWO_LOGGERS, 1, 2);
-    has_totals(&rt, &report, 2, 0, 0);
-    let in_order = b"net 0 0 0000000000\nnet 0 1 0000000001\n";
-    let swapped = b"net 0 1 0000000001\nnet 0 0 0000000000\n";
-    has_one_of(&rt, &report, 0, "all", &[in_order, swapped]);
+fn loads_and_their_reports(rt: HostRuntime) {
+    let alloc = rt.alloc();
+    for load in &LOADS {
+        let report = report_of(&rt, alloc, load.document, load.producers, load.messages);
+        is_told(&rt, alloc, &report, *load);
+    }
 }
 
 // Why a load was refused.
@@ -246,29 +289,36 @@ fn numbers_out_of_bounds(rt: HostRuntime) {
     }
 }
 
-#[test]
-fn sixty_four_producers(rt: HostRuntime) {
-    let report = report_of(&rt, rt.alloc(), ONE_LOGGER, 64, 5);
-    has_totals(&rt, &report, 320, 0, 0);
+// A load whose last store fails is refused, or so many turns on its sink are answered by a fault.
+fn is_faulty(rt: &impl Abort, answer: Result<Report<Files>, LoadError>, faults: Option<u64>) {
+    match faults {
+        Some(faults) => {
+            let report = reported(rt, answer);
+            has_totals(rt, &report, 10, 0, 0);
+            has_faults(rt, &report, &[0, faults]);
+        }
+        None => {
+            let why = refusal(rt, answer);
+            assert!(rt;
+                matches!(
+                    why,
+                    LoadError::Store {
+                        sink: 1,
+                        reason: None
+                    }
+                )
+            );
+        }
+    }
 }
 
+// A store fails as its sink is opened, or at its fourth call.
 #[test]
 fn a_store_that_fails(rt: HostRuntime) {
-    let alloc = rt.alloc();
-    let unopened = answered(&rt, alloc, TWO_LOGGERS, 0, 1, 10);
-    let why = refusal(&rt, unopened);
-    assert!(rt;
-        matches!(
-            why,
-            LoadError::Store {
-                sink: 1,
-                reason: None
-            }
-        )
-    );
-    let report = reported(&rt, answered(&rt, alloc, TWO_LOGGERS, 3, 1, 10));
-    has_totals(&rt, &report, 10, 0, 0);
-    has_faults(&rt, &report, &[0, 8]);
+    for (call, faults) in [(0, None), (3, Some(8))] {
+        let answer = answered(&rt, rt.alloc(), TWO_LOGGERS, call, 1, 10);
+        is_faulty(&rt, answer, faults);
+    }
 }
 
 // What the workers of a load told their gate.

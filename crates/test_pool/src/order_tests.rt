@@ -244,49 +244,56 @@ fn calls<R: Abort + Threads + Wait + Clock + Clone + Drop + Send + 'static>(
     assert!(rt; count_calls(&report.sinks) == wanted.len());
 }
 
-#[test]
-fn all_lines_come_before_all_flushes(rt: HostRuntime) {
-    let wanted = [
-        At(0, Call::Append(b'a')),
-        At(1, Call::Append(b'a')),
-        At(0, Call::Flush),
-        At(1, Call::Flush),
-    ];
-    calls(&rt, rt.alloc(), &[(0, Level::Error, "a")], &wanted);
-}
+/// Texts, and the calls that they make.
+const ORDERS: [(&[Given<'_>], &[At]); 3] = [
+    // All lines come before all flushes.
+    (
+        &[(0, Level::Error, "a")],
+        &[
+            At(0, Call::Append(b'a')),
+            At(1, Call::Append(b'a')),
+            At(0, Call::Flush),
+            At(1, Call::Flush),
+        ],
+    ),
+    // Sinks come in the order of their logger.
+    (
+        &[(1, Level::Error, "a")],
+        &[
+            At(1, Call::Append(b'a')),
+            At(0, Call::Append(b'a')),
+            At(1, Call::Flush),
+            At(0, Call::Flush),
+        ],
+    ),
+    // A text comes behind the one before it.
+    (
+        &[
+            (0, Level::Info, "a"),
+            (0, Level::Error, "b"),
+            (1, Level::Error, "c"),
+            (0, Level::Info, "d"),
+        ],
+        &[
+            At(0, Call::Append(b'a')),
+            At(1, Call::Append(b'a')),
+            At(0, Call::Append(b'b')),
+            At(1, Call::Append(b'b')),
+            At(0, Call::Flush),
+            At(1, Call::Flush),
+            At(1, Call::Append(b'c')),
+            At(0, Call::Append(b'c')),
+            At(1, Call::Flush),
+            At(0, Call::Flush),
+            At(0, Call::Append(b'd')),
+            At(1, Call::Append(b'd')),
+        ],
+    ),
+];
 
 #[test]
-fn sinks_come_in_the_order_of_their_logger(rt: HostRuntime) {
-    let wanted = [
-        At(1, Call::Append(b'a')),
-        At(0, Call::Append(b'a')),
-        At(1, Call::Flush),
-        At(0, Call::Flush),
-    ];
-    calls(&rt, rt.alloc(), &[(1, Level::Error, "a")], &wanted);
-}
-
-#[test]
-fn a_text_comes_behind_the_one_before_it(rt: HostRuntime) {
-    let texts = [
-        (0, Level::Info, "a"),
-        (0, Level::Error, "b"),
-        (1, Level::Error, "c"),
-        (0, Level::Info, "d"),
-    ];
-    let wanted = [
-        At(0, Call::Append(b'a')),
-        At(1, Call::Append(b'a')),
-        At(0, Call::Append(b'b')),
-        At(1, Call::Append(b'b')),
-        At(0, Call::Flush),
-        At(1, Call::Flush),
-        At(1, Call::Append(b'c')),
-        At(0, Call::Append(b'c')),
-        At(1, Call::Flush),
-        At(0, Call::Flush),
-        At(0, Call::Append(b'd')),
-        At(1, Call::Append(b'd')),
-    ];
-    calls(&rt, rt.alloc(), &texts, &wanted);
+fn lines_and_flushes_are_in_order(rt: HostRuntime) {
+    for (texts, wanted) in ORDERS {
+        calls(&rt, rt.alloc(), texts, wanted);
+    }
 }

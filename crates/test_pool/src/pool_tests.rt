@@ -1,9 +1,9 @@
 //! A pool that is refused, and pools at their limits.
 use crate::reports::{has, has_totals, is_told, logged, posted};
+use crate::rows::{Deed, ONE, Row, Told, holds};
 use crate::trial::{NEVER, PLAIN, Plan, Trial, setup_of};
-use alog_policy::{Outcome, Why};
+use alog_msg::Level;
 use alog_pool::{OpenGate, PRODUCERS_MAX, Pool, StartError};
-use alog_registry::LogReply;
 use std::alloc::Global;
 use std::process::Abort;
 use std::sync::Wait;
@@ -38,78 +38,80 @@ fn is_refused<R: Abort + Threads + Wait + Clock + Clone + Drop + Send + 'static>
 
 #[test]
 fn refused_pools(rt: HostRuntime) -> Result<(), Fail> {
-    let alloc = rt.alloc();
-    is_refused(&rt, alloc, of(3, 1 << 62, 0), StartError::BadWorkers)?;
-    is_refused(&rt, alloc, of(2, 0, 65), StartError::BadWorkers)?;
-    is_refused(&rt, alloc, of(3, 1 << 62, 64), StartError::BadSize)?;
-    is_refused(&rt, alloc, of(2, 1 << 62, 1), StartError::BadFirst)
+    for (queue, first, workers, wanted) in [
+        (3, 1 << 62, 0, StartError::BadWorkers),
+        (2, 0, 65, StartError::BadWorkers),
+        (3, 1 << 62, 64, StartError::BadSize),
+        (2, 1 << 62, 1, StartError::BadFirst),
+    ] {
+        is_refused(&rt, rt.alloc(), of(queue, first, workers), wanted)?;
+    }
+    Ok(())
 }
 
-// Discarded, since no ticket is left.
-fn spent() -> LogReply {
-    logged(Outcome::Discarded {
-        value: (),
-        why: Why::Spent,
-        overran: 0,
-    })
-}
+// The last ticket of all.
+const LAST: u64 = (1 << 62) - 1;
 
-// The queue has two places and tickets for four texts, so the last two are posted only where a worker takes items. It ends when
-// no ticket is left.
+// Pools whose tickets come to their end.
+const SPENT: [Row<'_>; 3] = [
+    // The queue has two places and tickets for four texts, so the last two are posted only where a worker takes items. It ends when
+    // no ticket is left.
+    Row {
+        plan: Plan {
+            queue: 2,
+            first: LAST - 3,
+            ..PLAIN
+        },
+        producers: 2,
+        deeds: &[
+            Deed::Logs(0, 0, Level::Info, "a", Told::Posted(LAST - 3)),
+            Deed::Logs(1, 0, Level::Info, "b", Told::Posted(LAST - 2)),
+            Deed::Logs(0, 0, Level::Info, "c", Told::Posted(LAST - 1)),
+            Deed::Logs(1, 0, Level::Info, "d", Told::Posted(LAST)),
+            Deed::Logs(0, 0, Level::Info, "e", Told::Spent),
+        ],
+        totals: (5, 1),
+        tickets: &[LAST - 3, LAST - 2, LAST - 1, LAST],
+        files: &[b"a\nb\nc\nd\n"],
+        ..ONE
+    },
+    // The last two tickets: the text has one and a stop the other, at which one of two workers ends, and the other since no ticket
+    // is left.
+    Row {
+        plan: Plan {
+            queue: 2,
+            first: LAST - 1,
+            workers: 2,
+            ..PLAIN
+        },
+        deeds: &[Deed::Logs(0, 0, Level::Info, "a", Told::Posted(LAST - 1))],
+        totals: (1, 0),
+        files: &[b"a\n"],
+        ..ONE
+    },
+    // The last ticket: the next text is discarded, and the worker ends without a stop.
+    Row {
+        plan: Plan {
+            queue: 2,
+            first: LAST,
+            ..PLAIN
+        },
+        deeds: &[
+            Deed::Logs(0, 0, Level::Info, "a", Told::Posted(LAST)),
+            Deed::Logs(0, 0, Level::Info, "b", Told::Spent),
+        ],
+        totals: (2, 1),
+        tickets: &[LAST],
+        files: &[b"a\n"],
+        ..ONE
+    },
+];
+
 #[test]
-fn a_worker_makes_room(rt: HostRuntime) {
-    let alloc = rt.alloc();
-    let first = (1 << 62) - 4;
-    let setup = setup_of(alloc, of(2, first, 1), &[&[0]], &[NEVER]);
-    let mut trial = Trial::start(&rt, alloc, setup, OpenGate, 2);
-    is_told(&rt, trial.log(&rt, alloc, 0, 0, "a"), logged(posted(first)));
-    is_told(
-        &rt,
-        trial.log(&rt, alloc, 1, 0, "b"),
-        logged(posted(first + 1)),
-    );
-    is_told(
-        &rt,
-        trial.log(&rt, alloc, 0, 0, "c"),
-        logged(posted(first + 2)),
-    );
-    is_told(
-        &rt,
-        trial.log(&rt, alloc, 1, 0, "d"),
-        logged(posted(first + 3)),
-    );
-    is_told(&rt, trial.log(&rt, alloc, 0, 0, "e"), spent());
-    let report = trial.end(&rt);
-    has_totals(&rt, &report, 5, 1, 0);
-    has(&rt, &report, 0, b"a\nb\nc\nd\n");
-}
-
-// The last two tickets: the text has one and a stop the other, at which one of two workers ends, and the other since no ticket is
-// left.
-#[test]
-fn one_ends_at_a_stop_and_one_at_the_end(rt: HostRuntime) {
-    let alloc = rt.alloc();
-    let first = (1 << 62) - 2;
-    let setup = setup_of(alloc, of(2, first, 2), &[&[0]], &[NEVER]);
-    let mut trial = Trial::start(&rt, alloc, setup, OpenGate, 1);
-    is_told(&rt, trial.log(&rt, alloc, 0, 0, "a"), logged(posted(first)));
-    let report = trial.end(&rt);
-    has_totals(&rt, &report, 1, 0, 0);
-    has(&rt, &report, 0, b"a\n");
-}
-
-// The last ticket of all: the next text is discarded, and the worker ends without a stop.
-#[test]
-fn the_last_ticket_of_a_pool(rt: HostRuntime) {
-    let alloc = rt.alloc();
-    let last = (1 << 62) - 1;
-    let setup = setup_of(alloc, of(2, last, 1), &[&[0]], &[NEVER]);
-    let mut trial = Trial::start(&rt, alloc, setup, OpenGate, 1);
-    is_told(&rt, trial.log(&rt, alloc, 0, 0, "a"), logged(posted(last)));
-    is_told(&rt, trial.log(&rt, alloc, 0, 0, "b"), spent());
-    let report = trial.end(&rt);
-    has_totals(&rt, &report, 2, 1, 0);
-    has(&rt, &report, 0, b"a\n");
+fn the_last_tickets_of_pools(rt: HostRuntime) {
+    for row in &SPENT {
+        holds(&rt, rt.alloc(), *row);
+    }
 }
 
 // A pool makes 4,096 producers, and no further one. Its only ticket is used up, so that its worker ends; at the end all producers
@@ -117,10 +119,9 @@ fn the_last_ticket_of_a_pool(rt: HostRuntime) {
 #[test]
 fn no_4097th_producer(rt: HostRuntime) {
     let alloc = rt.alloc();
-    let last = (1 << 62) - 1;
-    let setup = setup_of(alloc, of(2, last, 1), &[&[0]], &[NEVER]);
+    let setup = setup_of(alloc, of(2, LAST, 1), &[&[0]], &[NEVER]);
     let mut trial = Trial::start(&rt, alloc, setup, OpenGate, PRODUCERS_MAX as usize);
-    is_told(&rt, trial.log(&rt, alloc, 0, 0, "a"), logged(posted(last)));
+    is_told(&rt, trial.log(&rt, alloc, 0, 0, "a"), logged(posted(LAST)));
     let report = trial.end_full(&rt);
     has_totals(&rt, &report, 1, 0, 0);
     has(&rt, &report, 0, b"a\n");

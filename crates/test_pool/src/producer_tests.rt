@@ -1,28 +1,53 @@
 //! What a producer is told, and the loggers that it lends.
-use crate::reports::{filtered, has, has_tickets, has_totals, is_told, logged, posted};
+use crate::reports::{filtered, has, has_totals, is_told, logged, posted};
+use crate::rows::{DUMPED, Deed, ONE, Row, Told, holds};
 use crate::trial::{NEVER, PLAIN, Plan, Trial, setup_of};
 use alog_msg::Level;
 use alog_pool::OpenGate;
 use alog_registry::Loggers;
 use std::process::Abort;
 
-// The fourth producer logs with and without waiting, is filtered, and flushes.
+// What producers are told.
+const PRODUCERS: [Row<'_>; 2] = [
+    // The fourth producer logs with and without waiting, is filtered, and flushes.
+    Row {
+        producers: 4,
+        deeds: &[
+            Deed::Logs(3, 0, Level::Info, "a", Told::Posted(0)),
+            Deed::LogsNow(3, Level::Error, "b", Told::Posted(1)),
+            Deed::LogsNow(3, Level::Debug, "c", Told::Below(Level::Info, false)),
+            Deed::Flushes(3, 2),
+        ],
+        totals: (3, 0),
+        tickets: &[0, 1, 2],
+        files: &[b"a\nb\n"],
+        ..ONE
+    },
+    // Below the level, three messages are kept, of which there is room for two. They are dumped once.
+    Row {
+        plan: Plan {
+            backtrace: 2,
+            ..PLAIN
+        },
+        deeds: &[
+            Deed::Logs(0, 0, Level::Debug, "m1", Told::Below(Level::Info, true)),
+            Deed::LogsNow(0, Level::Debug, "m2", Told::Below(Level::Info, true)),
+            Deed::Logs(0, 0, Level::Debug, "m3", Told::Below(Level::Info, true)),
+            Deed::Dumps(0, 4),
+            Deed::Dumps(0, 0),
+        ],
+        totals: (4, 0),
+        tickets: &[0, 1, 2, 3],
+        files: &[DUMPED],
+        ..ONE
+    },
+];
+
 #[test]
-fn a_producer_logs_and_flushes(rt: HostRuntime) {
-    let alloc = rt.alloc();
-    let setup = setup_of(alloc, PLAIN, &[&[0]], &[NEVER]);
-    let mut trial = Trial::start(&rt, alloc, setup, OpenGate, 4);
-    let first = trial.log(&rt, alloc, 3, 0, "a");
-    let second = trial.log_now(&rt, alloc, 3, Level::Error, "b");
-    let below = trial.log_now(&rt, alloc, 3, Level::Debug, "c");
-    trial.flush(&rt, 3, 2);
-    let report = trial.end(&rt);
-    is_told(&rt, first, logged(posted(0)));
-    is_told(&rt, second, logged(posted(1)));
-    is_told(&rt, below, filtered(Level::Info, false));
-    has_totals(&rt, &report, 3, 0, 0);
-    has_tickets(&rt, &report, 0, &[0, 1, 2]);
-    has(&rt, &report, 0, b"a\nb\n");
+fn producers_are_told(rt: HostRuntime) {
+    for row in &PRODUCERS {
+        holds(&rt, rt.alloc(), *row);
+    }
 }
 
 // In a queue of two places a hundred flushes find room one after another: each that finds none waits.
@@ -37,32 +62,6 @@ fn flushes_wait_for_room(rt: HostRuntime) {
     }
     let report = trial.end(&rt);
     has_totals(&rt, &report, 100, 0, 0);
-}
-
-// What a dump of two messages writes.
-const DUMPED: &[u8] = b"=== backtrace start ===\nm2\nm3\n=== backtrace end ===\n";
-
-// Below the level, three messages are kept, of which there is room for two. They are dumped once.
-#[test]
-fn a_producer_dumps_what_it_kept(rt: HostRuntime) {
-    let alloc = rt.alloc();
-    let plan = Plan {
-        backtrace: 2,
-        ..PLAIN
-    };
-    let setup = setup_of(alloc, plan, &[&[0]], &[NEVER]);
-    let mut trial = Trial::start(&rt, alloc, setup, OpenGate, 1);
-    let first = trial.log_at(&rt, alloc, 0, 0, Level::Debug, "m1");
-    let second = trial.log_now(&rt, alloc, 0, Level::Debug, "m2");
-    let third = trial.log_at(&rt, alloc, 0, 0, Level::Debug, "m3");
-    trial.dump(&rt, alloc, 0, 4);
-    trial.dump(&rt, alloc, 0, 0);
-    let report = trial.end(&rt);
-    is_told(&rt, first, filtered(Level::Info, true));
-    is_told(&rt, second, filtered(Level::Info, true));
-    is_told(&rt, third, filtered(Level::Info, true));
-    has_totals(&rt, &report, 4, 0, 0);
-    has(&rt, &report, 0, DUMPED);
 }
 
 // The level of the second logger is set so, and read so.

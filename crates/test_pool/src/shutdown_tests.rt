@@ -1,42 +1,103 @@
 //! Pools that are ended.
-use crate::reports::{
-    file_of, has, has_faults, has_first_tickets, has_lines, has_tickets, has_totals,
-};
+use crate::reports::{file_of, has_first_tickets, has_lines, has_totals};
+use crate::rows::{DUMPED, Deed, ONE, Row, Told, holds};
 use crate::trial::{Files, NEVER, PLAIN, Plan, Trial, setup_of};
 use alog_msg::Level;
 use alog_pool::{OpenGate, Report};
 use std::alloc::Global;
 use std::process::Abort;
 use std::sync::Wait;
+use std::thread::Threads;
 use std::time::Clock;
 
-/// What a dump of two messages writes.
-const DUMPED: &[u8] = b"=== backtrace start ===\nm2\nm3\n=== backtrace end ===\n";
+// Pools that are ended.
+const ENDED: [Row<'_>; 6] = [
+    // A worker writes and stops.
+    Row {
+        deeds: &[Deed::Logs(0, 0, Level::Info, "a", Told::Posted(0))],
+        totals: (1, 0),
+        tickets: &[0],
+        files: &[b"a\n"],
+        ..ONE
+    },
+    // Two producers come back.
+    Row {
+        producers: 2,
+        deeds: &[
+            Deed::Logs(0, 0, Level::Info, "a", Told::Posted(0)),
+            Deed::Logs(1, 0, Level::Info, "b", Told::Posted(1)),
+            Deed::Logs(0, 0, Level::Info, "c", Told::Posted(2)),
+        ],
+        totals: (3, 0),
+        tickets: &[0, 1, 2],
+        files: &[b"a\nb\nc\n"],
+        ..ONE
+    },
+    // Sixty-four workers end.
+    Row {
+        plan: Plan {
+            workers: 64,
+            ..PLAIN
+        },
+        producers: 0,
+        ..ONE
+    },
+    // Sinks come back in order.
+    Row {
+        routes: &[&[1], &[0]],
+        fuses: &[NEVER, NEVER],
+        deeds: &[
+            Deed::Logs(0, 0, Level::Info, "second", Told::Posted(0)),
+            Deed::Logs(0, 1, Level::Info, "first", Told::Posted(1)),
+        ],
+        totals: (2, 0),
+        tickets: &[0, 1],
+        faults: &[0, 0],
+        files: &[b"first\n", b"second\n"],
+        ..ONE
+    },
+    // The second call of a store fails, after the first three bytes of its line: its sink is broken, and the turn and the next one
+    // are answered by a fault. The other sink has all lines.
+    Row {
+        routes: &[&[0, 1]],
+        fuses: &[NEVER, 1],
+        deeds: &[
+            Deed::Logs(0, 0, Level::Info, "one", Told::Posted(0)),
+            Deed::Logs(0, 0, Level::Info, "two", Told::Posted(1)),
+            Deed::Logs(0, 0, Level::Info, "six", Told::Posted(2)),
+        ],
+        totals: (3, 0),
+        tickets: &[0, 1, 2],
+        faults: &[0, 2],
+        files: &[b"one\ntwo\nsix\n", b"one\ntwo"],
+        ..ONE
+    },
+    // A logger below whose level all messages are kept dumps the last two, between two lines. A flush comes after.
+    Row {
+        plan: Plan {
+            level: Level::Warning,
+            backtrace: 2,
+            ..PLAIN
+        },
+        deeds: &[
+            Deed::Logs(0, 0, Level::Info, "m1", Told::Below(Level::Warning, true)),
+            Deed::Logs(0, 0, Level::Info, "m2", Told::Below(Level::Warning, true)),
+            Deed::Logs(0, 0, Level::Info, "m3", Told::Below(Level::Warning, true)),
+            Deed::Dumps(0, 4),
+            Deed::Flushes(0, 4),
+        ],
+        totals: (5, 0),
+        tickets: &[0, 1, 2, 3, 4],
+        files: &[DUMPED],
+        ..ONE
+    },
+];
 
 #[test]
-fn a_worker_writes_and_stops(rt: HostRuntime) {
-    let alloc = rt.alloc();
-    let setup = setup_of(alloc, PLAIN, &[&[0]], &[NEVER]);
-    let mut trial = Trial::start(&rt, alloc, setup, OpenGate, 1);
-    trial.say(&rt, alloc, 0, "a");
-    let report = trial.end(&rt);
-    has_totals(&rt, &report, 1, 0, 0);
-    has_tickets(&rt, &report, 0, &[0]);
-    has(&rt, &report, 0, b"a\n");
-}
-
-#[test]
-fn two_producers_come_back(rt: HostRuntime) {
-    let alloc = rt.alloc();
-    let setup = setup_of(alloc, PLAIN, &[&[0]], &[NEVER]);
-    let mut trial = Trial::start(&rt, alloc, setup, OpenGate, 2);
-    trial.say(&rt, alloc, 0, "a");
-    trial.say(&rt, alloc, 1, "b");
-    trial.say(&rt, alloc, 0, "c");
-    let report = trial.end(&rt);
-    has_totals(&rt, &report, 3, 0, 0);
-    has_faults(&rt, &report, &[0]);
-    has(&rt, &report, 0, b"a\nb\nc\n");
+fn pools_are_ended(rt: HostRuntime) {
+    for row in &ENDED {
+        holds(&rt, rt.alloc(), *row);
+    }
 }
 
 // So many workers answer as many empty lists.
@@ -57,31 +118,6 @@ fn a_producer_is_out_and_comes_back(rt: HostRuntime) {
     let report = Trial::start(&rt, alloc, setup, OpenGate, 2).end_late(&rt);
     has_totals(&rt, &report, 0, 0, 0);
     has_empty_lists(&rt, &report, 3);
-}
-
-#[test]
-fn sinks_come_back_in_order(rt: HostRuntime) {
-    let alloc = rt.alloc();
-    let setup = setup_of(alloc, PLAIN, &[&[1], &[0]], &[NEVER, NEVER]);
-    let mut trial = Trial::start(&rt, alloc, setup, OpenGate, 1);
-    trial.log(&rt, alloc, 0, 0, "second");
-    trial.log(&rt, alloc, 0, 1, "first");
-    let report = trial.end(&rt);
-    has_faults(&rt, &report, &[0, 0]);
-    has(&rt, &report, 0, b"first\n");
-    has(&rt, &report, 1, b"second\n");
-}
-
-#[test]
-fn sixty_four_workers_end(rt: HostRuntime) {
-    let alloc = rt.alloc();
-    let plan = Plan {
-        workers: 64,
-        ..PLAIN
-    };
-    let setup = setup_of(alloc, plan, &[&[0]], &[NEVER]);
-    let report = Trial::start(&rt, alloc, setup, OpenGate, 0).end(&rt);
-    has_empty_lists(&rt, &report, 64);
 }
 
 // A text of this producer.
@@ -119,32 +155,29 @@ fn has_all_in_order(rt: &impl Abort, alloc: Global, report: &Report<Files>, coun
     assert!(rt; rest.is_empty());
 }
 
-#[test]
-fn one_worker_handles_all_in_order(rt: HostRuntime) {
-    let alloc = rt.alloc();
-    let setup = setup_of(alloc, PLAIN, &[&[0]], &[NEVER]);
-    let mut trial = Trial::start(&rt, alloc, setup, OpenGate, 4);
-    talk_in_turn(&rt, alloc, &mut trial, 400);
-    let report = trial.end(&rt);
-    has_totals(&rt, &report, 400, 0, 0);
-    has_first_tickets(&rt, &report, 0, 400);
-    has_all_in_order(&rt, alloc, &report, 400);
-}
-
-#[test]
-fn the_first_tickets_are_told(rt: HostRuntime) {
-    let alloc = rt.alloc();
+// One worker handles so many messages in order, and tells so many of their tickets at most.
+fn handles_in_order<R>(rt: &R, alloc: Global, tickets_max: usize, count: usize)
+where
+    R: Abort + Threads + Wait + Clock + Clone + Drop + Send + 'static,
+{
     let plan = Plan {
-        tickets_max: 3,
+        tickets_max,
         ..PLAIN
     };
     let setup = setup_of(alloc, plan, &[&[0]], &[NEVER]);
-    let mut trial = Trial::start(&rt, alloc, setup, OpenGate, 4);
-    talk_in_turn(&rt, alloc, &mut trial, 20);
-    let report = trial.end(&rt);
-    has_totals(&rt, &report, 20, 0, 0);
-    has_tickets(&rt, &report, 0, &[0, 1, 2]);
-    has_all_in_order(&rt, alloc, &report, 20);
+    let mut trial = Trial::start(rt, alloc, setup, OpenGate, 4);
+    talk_in_turn(rt, alloc, &mut trial, count);
+    let report = trial.end(rt);
+    has_totals(rt, &report, count as u64, 0, 0);
+    has_first_tickets(rt, &report, 0, tickets_max.min(count));
+    has_all_in_order(rt, alloc, &report, count);
+}
+
+#[test]
+fn one_worker_handles_all_in_order(rt: HostRuntime) {
+    for (tickets_max, count) in [(400, 400), (3, 20)] {
+        handles_in_order(&rt, rt.alloc(), tickets_max, count);
+    }
 }
 
 // Two workers handle what two loggers give to both sinks, in opposite orders.
@@ -167,43 +200,4 @@ fn opposite_routes(rt: HostRuntime) {
     has_lines(&rt, &report, 0, b"b", 2_000);
     has_lines(&rt, &report, 1, b"a", 2_000);
     has_lines(&rt, &report, 1, b"b", 2_000);
-}
-
-// The second call of a store fails, after the first three bytes of its line: its sink is broken, and the turn and the next one
-// are answered by a fault. The other sink has all lines.
-#[test]
-fn one_of_two_stores_fails(rt: HostRuntime) {
-    let alloc = rt.alloc();
-    let setup = setup_of(alloc, PLAIN, &[&[0, 1]], &[NEVER, 1]);
-    let mut trial = Trial::start(&rt, alloc, setup, OpenGate, 1);
-    trial.say(&rt, alloc, 0, "one");
-    trial.say(&rt, alloc, 0, "two");
-    trial.say(&rt, alloc, 0, "six");
-    let report = trial.end(&rt);
-    has_totals(&rt, &report, 3, 0, 0);
-    has_faults(&rt, &report, &[0, 2]);
-    has(&rt, &report, 0, b"one\ntwo\nsix\n");
-    has(&rt, &report, 1, b"one\ntwo");
-}
-
-// A logger below whose level all messages are kept dumps the last two, between two lines. A flush and a text come after.
-#[test]
-fn a_dump_and_a_flush_are_handled(rt: HostRuntime) {
-    let alloc = rt.alloc();
-    let plan = Plan {
-        level: Level::Warning,
-        backtrace: 2,
-        ..PLAIN
-    };
-    let setup = setup_of(alloc, plan, &[&[0]], &[NEVER]);
-    let mut trial = Trial::start(&rt, alloc, setup, OpenGate, 1);
-    trial.say(&rt, alloc, 0, "m1");
-    trial.say(&rt, alloc, 0, "m2");
-    trial.say(&rt, alloc, 0, "m3");
-    trial.dump(&rt, alloc, 0, 4);
-    trial.flush(&rt, 0, 4);
-    let report = trial.end(&rt);
-    has_totals(&rt, &report, 5, 0, 0);
-    has_tickets(&rt, &report, 0, &[0, 1, 2, 3, 4]);
-    has(&rt, &report, 0, DUMPED);
 }
