@@ -1,0 +1,8 @@
+//! Tests of configurations and of the stepped system that no command shows: what is said of a fault that is none of the document's, and
+//! the law over whole runs at a store.
+#![tactic(auto)]
+
+#[cfg(test)]
+mod fault_tests;
+#[cfg(test)]
+mod law_tests;
