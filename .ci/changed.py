@@ -2,7 +2,7 @@
 
 For each crate whose files changed since COMMIT (the one that .gate names as passed, else that of main), and for each above it, lowest
 first: the layout, its proof, its tests and its program, run as the gate runs them (in an empty folder, as nobody); the edits of
-must-fail/ of those whose own files changed; and, where `alog` was built, its sessions. It is no gate: it trusts what is kept in out/. The
+refused/ of those whose own files changed; and, where `alog` was built, its sessions. It is no gate: it trusts what is kept in out/. The
 last line is 'N passed, M failed'.
 """
 import os
@@ -125,8 +125,8 @@ def steps(crate, home, is_own):
         yield "proof", ran.returncode == 0, ran.stdout
     if has_tests(home):
         yield "tests", *try_tests(crate, home)
-    if is_own and os.path.isdir(f"{home}/must-fail"):
-        ran = told("rt", "must-fail", crate)
+    if is_own and os.path.isdir(f"{home}/refused"):
+        ran = told(sys.executable, ".ci/gate.py", "refused", crate)
         yield "edits", ran.returncode == 0, ran.stdout
 
 

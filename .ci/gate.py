@@ -1,14 +1,17 @@
 """What `check` needs beside `rt ci`: processor seconds by crate and phase, and the wrong bodies that no gate tries.
 
 gate.py run FILE WORD..   runs a command, and writes to FILE, each minute and at its end, what it and each prover below it have used
+gate.py also FILE WORD..  the same for a further command of the same gate
 gate.py times FILE        prints the processor seconds of the last gate by crate and phase, beside the budget
 gate.py applies           says which wrong bodies no longer apply, and which crates have more edits than the gate tries or a file
                           that is not laid out
-gate.py wrong [NAME..]    tries the wrong bodies of these crates, or of all, on a copy of the repository: many at once, each in a
-                          function of its own (rounds.py), and alone what was not refused so
+gate.py refused [NAME..]  tries the edits of crates/NAME/refused, the named wrong bodies that the gate tries: many at once, each in a function
+                          of its own (rounds.py), over the libraries that the gate built (prover.py)
+gate.py wrong [NAME..]    the same for the further ones, of crates/NAME/wrong
 gate.py planted           tries the bodies that no contract refuses, crates/NAME/planted, on a copy: a test of that crate must fail, or one of
                           the sessions that lines `session: NAME` of the edit name
 """
+import concurrent.futures as futures
 import glob
 import json
 import os
@@ -22,6 +25,7 @@ import time
 
 sys.dont_write_bytecode = True
 import rounds
+from prover import Prover
 
 # processor seconds: of all of alog, of a crate's proof with its tests, of its edits
 BUDGET, SHARE, EDITS_SHARE = 12_500, 600, 400
@@ -66,11 +70,13 @@ def below(top):
     return found
 
 
-def run(file, words):
+def run(file, words, is_more=False):
     """Runs a command and samples what its provers use, and writes it each minute. What ends between two samples is in the sum of all alone.
 
-    A gate proves again only what changed since one that passed: of the rest the file keeps what it told before."""
-    before = told_in(file)
+    A gate proves again only what changed since one that passed: of the rest the file keeps what it told before. A further command of the same
+    gate adds to the sum of all."""
+    before, others = told_in(file)
+    others *= is_more
     ran = subprocess.Popen(words, stdin=subprocess.DEVNULL)
     labels, used, due = {}, {}, 0
     while ran.poll() is None:
@@ -79,32 +85,33 @@ def run(file, words):
             if label:
                 labels[pid, start], used[pid, start] = label, seconds
         if time.monotonic() > due:
-            write(file, before, labels, used, sum(used.values()))
+            write(file, before, labels, used, others)
             due = time.monotonic() + 60
         time.sleep(0.2)
     spent = resource.getrusage(resource.RUSAGE_CHILDREN)
-    write(file, before, labels, used, spent.ru_utime + spent.ru_stime)
+    write(file, before, labels, used, others + spent.ru_utime + spent.ru_stime - sum(used.values()))
     return ran.returncode
 
 
 def told_in(file):
-    """Returns the seconds that a file tells of each crate by phase, of crates that are there still."""
+    """Returns the seconds that a file tells of each crate by phase, of crates that are there still, and of all that was no prover's."""
     try:
         with open(file) as it:
-            return {crate: by for crate, by in json.load(it)["crates"].items() if os.path.isdir(f"crates/{crate}")}
+            told = json.load(it)
+        others = told["all"] - sum(sum(by.values()) for by in told["crates"].values())
+        return {crate: by for crate, by in told["crates"].items() if os.path.isdir(f"crates/{crate}")}, others
     except (OSError, ValueError):
-        return {}
+        return {}, 0
 
 
-def write(file, before, labels, used, spent):
-    """Writes what the provers have used, by crate and phase, and what all has."""
+def write(file, before, labels, used, others):
+    """Writes what the provers have used, by crate and phase, and what all has: `others` was not theirs."""
     now = {}
     for process, seconds in used.items():
         crate, phase = labels[process]
         by = now.setdefault(crate, {})
         by[phase] = by.get(phase, 0.0) + seconds
     crates = {crate: {**dict.fromkeys(PHASES, 0.0), **before.get(crate, {}), **now.get(crate, {})} for crate in {*before, *now}}
-    others = spent - sum(used.values())
     with open(file, "w") as it:
         json.dump({"crates": crates, "all": sum(sum(by.values()) for by in crates.values()) + others}, it)
 
@@ -158,7 +165,7 @@ def fault_of(edit, crate):
 
 def stale(crates):
     """Returns what is said of each wrong or planted body that no longer applies."""
-    edits = [(edit, fault_of(edit, crate)) for crate in crates for edit in edits_in(f"{crate}/wrong") + edits_in(f"{crate}/planted")]
+    edits = [(edit, fault_of(edit, crate)) for crate in crates for edit in edits_in(f"{crate}/refused") + edits_in(f"{crate}/wrong") + edits_in(f"{crate}/planted")]
     return [f"{edit}: {why}" for edit, why in edits if why]
 
 
@@ -192,57 +199,82 @@ def tell(faults):
 
 def applies():
     crates = sorted(glob.glob("crates/*"))
-    counts = [(crate, len(edits_in(f"{crate}/must-fail"))) for crate in crates]
-    many = [f"{crate}/must-fail has {count} edits: at most {MOST_EDITS} stand there, the others in {crate}/wrong" for crate, count in counts if count > MOST_EDITS]
+    counts = [(crate, len(edits_in(f"{crate}/refused"))) for crate in crates]
+    many = [f"{crate}/refused has {count} edits: at most {MOST_EDITS} stand there, the others in {crate}/wrong" for crate, count in counts if count > MOST_EDITS]
     return tell(many + stale(crates) + badly_laid_out(crates) + aborting(crates))
 
 
-def one_by_one(crate, room, edits):
-    """Tries edits of a crate each alone, as the gate does with those of must-fail, and returns how many are refused, and how many of them
-    only since a proof file names what the edit took away, which says little of a contract."""
-    must_fail = f"{room}/crates/{crate}/must-fail"
-    shutil.rmtree(must_fail, ignore_errors=True)
-    os.mkdir(must_fail)
+def lanes():
+    """Returns how many checks run side by side: as many as the gate's own."""
+    jobs = os.environ.get("RT_JOBS", "")
+    return int(jobs) if jobs.isdigit() and int(jobs) else len(os.sched_getaffinity(0))
+
+
+def tried_over_libraries(name, edits, prover):
+    """Yields the verdict on each edit of a crate, by checks of the functions that they turn over the libraries that the last gate left."""
+    new = []
     for edit in edits:
-        shutil.copy(edit, must_fail)
-    ran = subprocess.Popen(["rt", "must-fail", crate], cwd=room, stdout=subprocess.PIPE, stderr=subprocess.STDOUT, text=True, errors="replace")
-    refused = by_names = 0
-    for line in ran.stdout:
-        print(line.replace("must-fail ", "wrong ", 1), end="", flush=True)
-        refused += ": refused, as it must be" in line
-        by_names += ": refused, as it must be (only because a proof file names" in line
-    ran.wait()
-    return refused, by_names
+        told = prover.earlier(name, edit)
+        if told:
+            yield edit, f"{told} (by an earlier run, of the same files)"
+        else:
+            new.append(edit)
+    room = prover.room(name)
+    try:
+        for edit, verdict in rounds.verdicts_of(name, room, new, lambda home, only: prover.check(name, home, only)):
+            if verdict in (rounds.REFUSED, rounds.BY_NAMES):
+                prover.keep(name, edit, verdict)
+            yield edit, verdict
+    finally:
+        shutil.rmtree(room, ignore_errors=True)
 
 
-def wrong(names):
-    crates = [os.path.basename(os.path.dirname(it)) for it in sorted(glob.glob("crates/*/wrong"))]
-    unknown = [it for it in names if it not in crates]
-    if unknown:
-        print(f"check: no wrong bodies of {' '.join(unknown)}")
-        return 2
-    if tell(stale(f"crates/{it}" for it in names or crates)):
-        return 1
-    refused, by_names, others = 0, 0, []
+def tried_by_checks(name, edits):
+    """Yields the verdict on each edit of a crate, by checks of the whole crate on a copy of the repository, whose libraries are built there."""
     with tempfile.TemporaryDirectory(prefix="alog-wrong-") as room:
         shutil.copytree("crates", f"{room}/crates", symlinks=True)
         for it in ("crates.txt", "HANDLES"):
             shutil.copy(it, room)
-        for crate in names or crates:
-            home, count = f"{room}/crates/{crate}", 0
-            edits = edits_in(f"{home}/wrong")
-            together = rounds.refused_of(crate, home, edits)
-            alone = [it for it in edits if it not in together]
-            refused += len(together)
-            if alone:
-                count, named = one_by_one(crate, room, alone)
-                refused += count
-                by_names += named
-            if count != len(alone):
-                others.append(crate)
-    names = f", {by_names} of them only since a proof file names what the edit took away" if by_names else ""
-    print(f"{refused} wrong bodies refused{names}" + (f"; not all of {' '.join(others)}" if others else ""))
-    return 1 if others else 0
+
+        def check(home, _):
+            ran = subprocess.run(["rt", "check"], cwd=home, stdout=subprocess.PIPE, stderr=subprocess.STDOUT, text=True, errors="replace")
+            return ran.returncode, ran.stdout
+
+        yield from rounds.verdicts_of(name, f"{room}/crates/{name}", edits, check)
+
+
+def try_crate(kind, name, prover):
+    """Tries a crate's edits, tells of each, and returns how many are refused, how many of these by names alone, and what is let through."""
+    edits = edits_in(f"crates/{name}/{kind}")
+    tried = tried_over_libraries(name, edits, prover) if prover and prover.serves(name) else tried_by_checks(name, edits)
+    good = by_names = 0
+    bad = []
+    for edit, verdict in tried:
+        print(f"{kind} {name}/{os.path.basename(edit)}: {verdict}", flush=True)
+        if verdict.startswith(rounds.REFUSED):
+            good += 1
+            by_names += verdict.startswith(rounds.BY_NAMES)
+        else:
+            bad.append(f"{name}/{os.path.basename(edit)}")
+    return good, by_names, bad
+
+
+def try_edits(kind, names):
+    """Tries the edits of these crates' folders of that kind, or of all, as many crates side by side as the gate does, those first that take longest."""
+    crates = [os.path.basename(os.path.dirname(it)) for it in sorted(glob.glob(f"crates/*/{kind}"))]
+    unknown = [it for it in names if it not in crates]
+    if unknown:
+        print(f"check: no edits in crates/NAME/{kind} of {' '.join(unknown)}")
+        return 2
+    if tell(stale(f"crates/{it}" for it in names or crates)):
+        return 1
+    prover, start, own = Prover.found(), time.monotonic(), sorted(names or crates, key=lambda it: -len(edits_in(f"crates/{it}/{kind}")))
+    with futures.ThreadPoolExecutor(lanes()) as pool:
+        found = list(pool.map(lambda it: try_crate(kind, it, prover), own))
+    good, by_names, bad = sum(it[0] for it in found), sum(it[1] for it in found), [edit for it in found for edit in it[2]]
+    print(f"{good} wrong bodies refused, {by_names} of them by names alone, in {time.monotonic() - start:.0f} seconds" + (f"; FAILED: {' '.join(bad)}" if bad else ""))
+    print(f"{good} passed, {len(bad)} failed")
+    return 1 if bad else 0
 
 
 def tested(home):
@@ -299,14 +331,14 @@ def planted():
 
 
 def main(words):
-    if words[:1] == ["run"] and len(words) > 2:
-        return run(words[1], words[2:])
+    if words[:1] in (["run"], ["also"]) and len(words) > 2:
+        return run(words[1], words[2:], words[0] == "also")
     if words[:1] == ["times"] and len(words) == 2:
         return times(words[1])
     if words == ["applies"]:
         return applies()
-    if words[:1] == ["wrong"]:
-        return wrong(words[1:])
+    if words[:1] in (["refused"], ["wrong"]):
+        return try_edits(words[0], words[1:])
     if words == ["planted"]:
         return planted()
     print(__doc__, end="", file=sys.stderr)

@@ -2,14 +2,20 @@
 import os
 import re
 import shutil
-import subprocess
 
 HEADER = re.compile(r"^\s*(?:pub(?:\([a-z]+\))? )?(?:const )?(?:unsafe )?fn (\w+)")
 VERDICT = re.compile(r"^fn ([^ ]+): (.*)$")
 # a goal of a function that is not proved; what is said of a function's proof files, and what is said where they name what is gone
 UNPROVED = re.compile(r"^note: (src/[^:]+):(\d+):\d+: it is not proved", re.MULTILINE)
 PROOF_ERROR = re.compile(r"^(?:\./)?proofs/(\S+)/[^/:]+\.antt:\d+:\d+: error: (.*)$", re.MULTILINE)
+VERDICT_LINE = re.compile(r"^fn [^ ]+: ", re.MULTILINE)
 GONE = re.compile(r"has no field|is not in scope|has no `|was not admitted")
+
+# what a round says of an edit; the third is a refusal that says little of a clause: a stored proof names a step that the edit took away
+REFUSED = "refused, as it must be"
+PROVED = "NOT REFUSED"
+BY_NAMES = "refused, as it must be (only because a proof file names what the edit took away: change a value and keep the names)"
+UNTRIED = "NOT TRIED"
 
 
 def pairs_of(edit):
@@ -77,11 +83,12 @@ def functions_of(crate, room, edit):
 
 
 def rounds_of(crate, room, edits):
-    """Deals the edits out to rounds, in which no function is turned twice. What is in no function is in no round."""
-    rounds = []
+    """Deals the edits out to rounds, in which no function is turned twice. What is in no function is a round of its own."""
+    rounds, alone = [], []
     for edit in edits:
         functions = functions_of(crate, room, edit)
         if not functions:
+            alone.append([(edit, set())])
             continue
         for taken, members in rounds:
             if not {it[1:] for it in taken} & {it[1:] for it in functions}:
@@ -91,7 +98,7 @@ def rounds_of(crate, room, edits):
             rounds.append((taken, members))
         taken |= functions
         members.append((edit, functions))
-    return [members for _, members in rounds]
+    return [members for _, members in rounds] + alone
 
 
 def is_refusal(verdict):
@@ -144,43 +151,58 @@ def turn(room, edit):
             it.write(text.replace(old, new))
 
 
-def checked(crate, room, members):
-    """Turns the functions of a round in a crate's folder, and returns what a check of it prints, and the functions of which a goal is not proved."""
-    kept = f"{room}/src-as-it-was"
-    shutil.copytree(f"{room}/src", kept)
+def names_of(functions):
+    """Returns the ends of the functions' paths by which a check finds them."""
+    for module, (type_name, trait), name in functions:
+        inner = module.partition("::")[2]
+        yield name if trait else f"{type_name}::{name}" if type_name else f"{inner}::{name}" if inner else name
+
+
+def checked(crate, room, members, check):
+    """Turns the functions of a round in a crate's folder, and returns the status of a check of them, what it prints, and the functions of
+    which a goal is not proved."""
+    kept = {part: f"{room}/{part}-as-it-was" for part in ("src", "specs", "proofs") if os.path.isdir(f"{room}/{part}")}
+    for part, to in kept.items():
+        shutil.copytree(f"{room}/{part}", to)
     try:
         for edit, _ in members:
             turn(room, edit)
-        ran = subprocess.run(["rt", "check"], cwd=room, stdout=subprocess.PIPE, stderr=subprocess.STDOUT, text=True, errors="replace")
-        unproved = unproved_in(crate, room, ran.stdout)
+        status, printed = check(room, [it for _, functions in members for it in names_of(functions)])
+        unproved = unproved_in(crate, room, printed)
     finally:
-        shutil.rmtree(f"{room}/src")
-        os.rename(kept, f"{room}/src")
-    return ran.stdout, unproved
+        for part, to in kept.items():
+            shutil.rmtree(f"{room}/{part}")
+            os.rename(to, f"{room}/{part}")
+    return status, printed, unproved
 
 
-def refused_in(crate, room, members):
-    """Returns the edits of a round that are refused by a clause. Where one of them does not compile there is no verdict on any, and each half is a round.
+def verdict_of(edit, functions, refused, said):
+    """Returns what a round says of one edit: `said` is what its check printed, and `refused` the paths that it refused."""
+    status, printed, unproved = said
+    if not functions:
+        return REFUSED if status == 1 and "logic=not-proved" in printed else PROVED if status == 0 else UNTRIED
+    own = [(path, it) for it in functions for path in refused if is_at(path, it)]
+    if not own:
+        return PROVED if VERDICT_LINE.search(printed) and status in (0, 1) else UNTRIED
+    return BY_NAMES if all(is_by_names(path, it, printed, unproved) for path, it in own) else REFUSED
 
-    What is refused only by the names of a stored proof is left: it is tried alone, and `rt must-fail` says so."""
-    printed, unproved = checked(crate, room, members)
-    if len(members) > 1 and not any(VERDICT.match(line) for line in printed.split("\n")):
+
+def verdicts_in(crate, room, members, check):
+    """Yields the verdict on each edit of a round. Where one of them does not compile there is none on any, and each half is a round."""
+    said = checked(crate, room, members, check)
+    if len(members) > 1 and not VERDICT_LINE.search(said[1]):
         half = len(members) // 2
-        return refused_in(crate, room, members[:half]) + refused_in(crate, room, members[half:])
-    refused = refused_by(printed, crate)
-    return [
-        edit
-        for edit, functions in members
-        if any(is_at(path, it) and not is_by_names(path, it, printed, unproved) for it in functions for path in refused)
-    ]
+        yield from verdicts_in(crate, room, members[:half], check)
+        yield from verdicts_in(crate, room, members[half:], check)
+        return
+    refused = refused_by(said[1], crate)
+    for edit, functions in members:
+        found = verdict_of(edit, functions, refused, said)
+        yield edit, found if found != UNTRIED else f"{UNTRIED}: {' '.join(said[1].split())[-300:]}"
 
 
-def refused_of(crate, room, edits):
-    """Returns those of a crate's edits that are refused in rounds, and tells of each."""
-    refused = []
+def verdicts_of(crate, room, edits, check):
+    """Yields the verdict on each of a crate's edits, by `check`, which is given the crate's folder and the functions that are turned, and
+    returns a status and what was printed."""
     for members in rounds_of(crate, room, edits):
-        found = refused_in(crate, room, members)
-        for edit in found:
-            print(f"wrong {crate} {os.path.basename(edit)}: refused, as it must be", flush=True)
-        refused += found
-    return refused
+        yield from verdicts_in(crate, room, members, check)
