@@ -26,6 +26,7 @@ import time
 sys.dont_write_bytecode = True
 import rounds
 from prover import Prover
+from unproved import built_unproved
 
 # processor seconds: of all of alog, of a crate's proof with its tests, of its edits
 BUDGET, SHARE, EDITS_SHARE = 12_500, 600, 400
@@ -283,23 +284,10 @@ def tested(home):
     return re.findall(r"(?m)^test (\S+) \.\.\. FAILED", ran.stdout), ran.stdout.strip().splitlines()[-1:]
 
 
-def built_unproved(home):
-    """Builds the program of a crate unproved. `rt try` runs it once and removes it, so it gets another name while it is there."""
-    with tempfile.TemporaryDirectory(prefix="alog-try-", dir=home) as room:
-        ran = subprocess.Popen(["rt", "try", "--", "--version"], cwd=home, env={**os.environ, "TMPDIR": room}, stdin=subprocess.DEVNULL, stdout=subprocess.DEVNULL, stderr=subprocess.DEVNULL)
-        kept = f"{home}/program"
-        while ran.poll() is None:
-            for it in glob.glob(f"{room}/*/*/program*"):
-                if os.access(it, os.X_OK) and not os.path.exists(kept):
-                    os.link(it, kept)
-            time.sleep(0.01)
-        return kept if os.path.exists(kept) else None
-
-
 def played(home, sessions):
     """Plays sessions on the program of a crate, built unproved, and returns which fail, and the last line of what was said."""
-    program = built_unproved(home)
-    if not program:
+    program = os.path.abspath(f"{home}/unproved")
+    if not built_unproved(home, program):
         return [], ["it was not built"]
     words = [sys.executable, ".ci/sessions.py", *sessions]
     ran = subprocess.run(words, env={**os.environ, "ALOG": program}, stdout=subprocess.PIPE, stderr=subprocess.STDOUT, text=True, errors="replace")
