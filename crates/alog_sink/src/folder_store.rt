@@ -1,7 +1,9 @@
 //! Files of a folder.
-ghost use Rattle.std.specs.Prelude.{◌≡◌, ◌<◌, IfOk, length};
+ghost use Rattle.std.specs.Prelude.{◌≡◌, ◌<◌, ◌≤◌, IfErr, IfOk, OnOk, length, take};
+ghost use Rattle.std.specs.Io.KnownBytes.{Appends};
 ghost use Rattle.alog_sink.specs.Calls.{Counts};
 
+use crate::resume::{AppendError, Resumes};
 use crate::store::{Store, StoreError, counted};
 use std::alloc::{AllocError, Global};
 use std::fmt::{self, Debug, Formatter};
@@ -42,13 +44,13 @@ impl<R: Files + Drop> FolderStore<R> {
         ensures { IfOk result (λ s. ⟦<FolderStore<R> as Store>⟧.failures s ≡ 0) }
     {
         let path = PathBuf::from_str(alloc, path)?;
-        let open = Vec::new(alloc);
+        let open_files = Vec::new(alloc);
         Ok(FolderStore {
             folder: Folder {
                 alloc,
                 files,
                 path,
-                open,
+                open_files,
             },
             failures: 0,
             reason: None,
@@ -90,7 +92,7 @@ struct Folder<R: Files> {
     files: R,
     path: PathBuf,
     /// In the order in which they were opened.
-    open: Vec<Kept<R::File>>,
+    open_files: Vec<Kept<R::File>>,
 }
 
 impl<R: Files> Folder<R> {
@@ -113,10 +115,10 @@ impl<R: Files> Folder<R> {
 
     /// The place of a file among the open ones. It is opened where it is not there.
     fn place_of(&mut self, name: &str) -> io::Result<usize>
-        ensures { IfOk result (λ at. at < length self.new.open.items) }
+        ensures { IfOk result (λ at. at < length self.new.open_files.items) }
     {
         match self
-            .open
+            .open_files
             .iter()
             .rposition(|kept| kept.name.as_str() == name)
         {
@@ -127,12 +129,12 @@ impl<R: Files> Folder<R> {
 
     /// Opens a file behind the open ones, and tells its place.
     fn open_file(&mut self, name: &str) -> io::Result<usize>
-        ensures { IfOk result (λ at. at < length self.new.open.items) }
+        ensures { IfOk result (λ at. at < length self.new.open_files.items) }
     {
-        self.open.reserve(1)?;
+        self.open_files.reserve(1)?;
         let kept = self.opened(name)?;
-        let at = self.open.len();
-        self.open.push(kept)?;
+        let at = self.open_files.len();
+        self.open_files.push(kept)?;
         Ok(at)
     }
 
@@ -148,14 +150,23 @@ impl<R: Files> Folder<R> {
         Ok(Kept { name, writer })
     }
 
-    fn append(&mut self, name: &str, bytes: &[u8]) -> io::Result<()> {
-        let at = self.place_of(name)?;
-        self.open[at].writer.write_all(bytes)
+    /// Appends to a file, and tells how many bytes its buffer or the system took.
+    fn append(&mut self, name: &str, bytes: &[u8]) -> (usize, io::Result<()>)
+        ensures { result.0 ≤ length bytes.now }
+    {
+        match self.place_of(name) {
+            Ok(at) => write_counted(&mut self.open_files[at].writer, bytes),
+            Err(error) => (0, Err(error)),
+        }
     }
 
     /// Writes the buffer of a file, where it is open.
     fn write_out(&mut self, name: &str) -> io::Result<()> {
-        match self.open.iter_mut().find(|kept| kept.name.as_str() == name) {
+        match self
+            .open_files
+            .iter_mut()
+            .find(|kept| kept.name.as_str() == name)
+        {
             Some(kept) => kept.writer.flush(),
             None => Ok(()),
         }
@@ -163,7 +174,7 @@ impl<R: Files> Folder<R> {
 
     /// Closes a file, where it is open.
     fn close(&mut self, name: &str) {
-        self.open.retain(|kept| kept.name.as_str() != name);
+        self.open_files.retain(|kept| kept.name.as_str() != name);
     }
 
     fn rename(&mut self, from: &str, to: &str) -> io::Result<()> {
@@ -227,6 +238,27 @@ impl<R: Files> Folder<R> {
     }
 }
 
+/// Writes these bytes, and tells how many were taken, which are all where none failed.
+fn write_counted<W: Write>(writer: &mut W, bytes: &[u8]) -> (usize, io::Result<()>)
+    ensures within { result.0 ≤ length bytes.now }
+    ensures done { OnOk result.1 (result.0 ≡ length bytes.now) }
+    ensures taken { Appends (W.contents writer.old) (W.contents writer.new) (take result.0 bytes.now) }
+{
+    let mut taken = 0;
+    for _ in 0..u64::MAX {
+        if taken == bytes.len() {
+            return (taken, Ok(()));
+        }
+        match writer.write(&bytes[taken..]) {
+            Ok(0) => return (taken, Err(ErrorKind::WriteZero.into())),
+            Ok(count) => taken += count,
+            Err(error) if error.kind() == ErrorKind::Interrupted => {}
+            Err(error) => return (taken, Err(error)),
+        }
+    }
+    (taken, Err(ErrorKind::TimedOut.into()))
+}
+
 // Whether a call found its file; that it did not is no failure.
 fn is_done(answer: io::Result<()>) -> io::Result<bool> {
     match answer {
@@ -247,7 +279,7 @@ impl<R: Files> Store for FolderStore<R> {
     ghost failures = { λ s. s.failures };
 
     fn append(&mut self, name: &str, bytes: &[u8]) -> Result<(), StoreError> {
-        let answer = self.folder.append(name, bytes);
+        let (_, answer) = self.folder.append(name, bytes);
         self.told(answer)
     }
 
@@ -273,5 +305,15 @@ impl<R: Files> Store for FolderStore<R> {
 
     fn reason(&self) -> Option<io::Error> {
         self.reason
+    }
+}
+
+impl<R: Files> Resumes for FolderStore<R> {
+    fn append_some(&mut self, name: &str, bytes: &[u8]) -> Result<(), AppendError> {
+        let (taken, answer) = self.folder.append(name, bytes);
+        match self.told(answer) {
+            Ok(()) => Ok(()),
+            Err(StoreError) => Err(AppendError { taken }),
+        }
     }
 }

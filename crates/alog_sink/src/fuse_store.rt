@@ -2,6 +2,7 @@
 ghost use Rattle.std.specs.Prelude.{◌≡◌, ◌↔◌, IsTrue};
 ghost use Rattle.alog_sink.specs.Fuse.{burnt};
 
+use crate::resume::{AppendError, Resumes};
 use crate::store::{Store, StoreError};
 use std::io;
 
@@ -177,5 +178,40 @@ impl<S: Store> Store for FuseStore<S> {
 
     fn reason(&self) -> Option<io::Error> {
         self.store.reason()
+    }
+}
+
+impl<S: Resumes> Resumes for FuseStore<S> {
+    ghost use Rattle.std.specs.Prelude.{◌≡◌, ◌≢◌, ◌+◌, ◌≤◌, min, true, length, IfErr, IsErr, OnOk};
+    ghost use Rattle.alog_sink.specs.Files.{AreSame, appended};
+    ghost use Rattle.alog_sink.specs.Calls.{Counts, TakesFront};
+    ghost use Rattle.alog_sink.specs.Fuse.{own_failures, Passes};
+
+    fn append_some(&mut self, name: &str, bytes: &[u8]) -> Result<(), AppendError>
+        ensures done { S.tells ≡ true
+            → OnOk result (AreSame (appended name.now bytes.now (S.files self.old.store)) (S.files self.new.store)) }
+        ensures failed { S.tells ≡ true
+            → IfErr result (λ e. TakesFront e.taken name.now bytes.now (S.files self.old.store) (S.files self.new.store)) }
+        ensures within { IfErr result (λ e. e.taken ≤ length bytes.now) }
+        ensures counted { Counts (S.failures self.old.store + own_failures self.old.fuse)
+            (S.failures self.new.store + own_failures self.new.fuse) result }
+        ensures fails { (self.old.fuse ≡ Fuse.Left 0) → IsErr result }
+        ensures part { (self.old.fuse ≡ Fuse.Left 0) → (self.new.fuse ≡ Fuse.Burnt)
+            → IfErr result (λ e. e.taken ≡ min self.old.part (length bytes.now)) }
+        ensures passes { (self.old.fuse ≢ Fuse.Left 0)
+            → Passes self.old.fuse self.new.fuse (S.failures self.old.store) (S.failures self.new.store) result }
+        ensures limit { self.new.part ≡ self.old.part }
+    {
+        if burns(&mut self.fuse) {
+            let part = self.part.min(bytes.len());
+            return match self.store.append_some(name, &bytes[..part]) {
+                Ok(()) => Err(AppendError { taken: part }),
+                Err(error) => {
+                    self.fuse = Fuse::Spared;
+                    Err(error)
+                }
+            };
+        }
+        self.store.append_some(name, bytes)
     }
 }

@@ -4,6 +4,7 @@ ghost use Rattle.alog_sink.specs.Files.{AreSame, no_files, with_file};
 ghost use Rattle.alog_sink.specs.Listed.{entries_of, files_in, AreInOrder};
 ghost use Rattle.alog_sink.specs.Memory.{listing};
 
+use crate::resume::{AppendError, Resumes};
 use crate::sorted_files::SortedFiles;
 use crate::store::{Store, StoreError, counted};
 use indexmap::IndexMap;
@@ -85,5 +86,14 @@ impl Store for MemStore {
 
     fn flush(&mut self, _name: &str) -> Result<(), StoreError> {
         Ok(())
+    }
+}
+
+impl Resumes for MemStore {
+    fn append_some(&mut self, name: &str, bytes: &[u8]) -> Result<(), AppendError> {
+        match counted(self.files.append(name, bytes), &mut self.failures) {
+            Ok(()) => Ok(()),
+            Err(StoreError) => Err(AppendError { taken: 0 }),
+        }
     }
 }

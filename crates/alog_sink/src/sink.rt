@@ -88,8 +88,7 @@ impl<S: Store> Sink<S> {
     }
 
     /// Why the last call of its store that failed did, where the system said so; of a fan, of the first member of which that is
-    /// known. Nothing is claimed of it. The test `a_fault_stands_behind_the_totals` of
-    /// `test_commands` shows it.
+    /// known. Nothing is claimed of it; sessions show it.
     pub fn reason(&self) -> Option<io::Error> {
         match self {
             Sink::Leaf(leaf) => leaf.store().reason(),

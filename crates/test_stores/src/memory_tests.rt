@@ -102,7 +102,7 @@ const BURNING: [Burning<'_>; 3] = [
 ];
 
 /// These files, of which it is noted whether a call of theirs fails.
-fn noting(files: MemStore) -> Noting {
+pub fn noting(files: MemStore) -> Noting {
     Noting {
         files,
         has_failed: false,
@@ -110,7 +110,7 @@ fn noting(files: MemStore) -> Noting {
 }
 
 /// Whether these files are just that. It is an error of the test where there was no memory for them.
-fn are_just(noting: &Noting, files: &[(&str, &[u8])]) -> Result<bool, StoreError> {
+pub fn are_just(noting: &Noting, files: &[(&str, &[u8])]) -> Result<bool, StoreError> {
     if noting.has_failed {
         return Err(StoreError);
     }

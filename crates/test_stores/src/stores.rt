@@ -1,5 +1,5 @@
 //! A store that the tests put behind a fuse. It meets the law of `Store`, as those of `alog_sink` do.
-use alog_sink::{MemStore, Store, StoreError};
+use alog_sink::{AppendError, MemStore, Resumes, Store, StoreError};
 
 /// Files in memory that note whether a call of theirs failed, which they do where there is no memory: behind a fuse that is to fail the
 /// same call nobody else would tell.
@@ -42,5 +42,13 @@ impl Store for Noting {
 
     fn flush(&mut self, name: &str) -> Result<(), StoreError> {
         self.files.flush(name)
+    }
+}
+
+impl Resumes for Noting {
+    fn append_some(&mut self, name: &str, bytes: &[u8]) -> Result<(), AppendError> {
+        let answer = self.files.append_some(name, bytes);
+        self.has_failed |= answer.is_err();
+        answer
     }
 }
