@@ -9,7 +9,7 @@ use Rattle.alog_lines.specs.Front.{Begins, IsLine}
 use Rattle.alog_lines.specs.Lines.{lines_of, IsUnbroken}
 use Rattle.alog_lines.specs.Pieces.{Piece, pieces_in, pieces_of}
 use Rattle.alog_lines.specs.declared.front.Front.TheVariants as front
-use Rattle.alog_lines.proofs.LineLemmas.{first_in, lines_of-nil, others_in, unbroken-drop}
+use Rattle.alog_lines.proofs.SharedLines.{first_in, lines_of-nil, others_in, unbroken-drop}
 use Rattle.alog_lines.proofs.PieceLemmas.{of_begun, of_last, of_line, short_line}
 
 -- bytes that begin with a line, which goes before the lines of the others

@@ -1,4 +1,3 @@
-mod LineLemmas
 mod WindowLemmas
 mod CharLemmas
 mod PieceLemmas
@@ -6,3 +5,4 @@ mod BuildLemmas
 mod CutLemmas
 mod LawLemmas
 pub mod SharedCutting
+pub mod SharedLines

@@ -9,7 +9,7 @@ use Rattle.std.proofs.lemmas.List.{append-nil}
 use Rattle.alog_lines.specs.Lines.{lines_of, IsUnbroken}
 use Rattle.alog_lines.specs.Pieces.{Piece, nothing, with_char, ending, pieces_behind, pieces_in, pieces_of}
 use Rattle.alog_lines.proofs.CharLemmas.{chars_in-encode}
-use Rattle.alog_lines.proofs.LineLemmas.{line_then, line_begun, last_line, first_in, others_in}
+use Rattle.alog_lines.proofs.SharedLines.{line_then, line_begun, last_line, first_in, others_in}
 
 pub behind-nil : (limit : ℕ) (p : Piece) → pieces_behind limit p [] ≡ ending p ∷ []
 unfolding pieces_behind

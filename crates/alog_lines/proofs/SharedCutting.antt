@@ -4,7 +4,7 @@ use Rattle.std.specs.List.{flat_map}
 use Rattle.std.proofs.lemmas.List.{append-nil}
 use Rattle.alog_lines.specs.Cutting.{Cutting, HasCut, IsSame, LacksPiece, MayCome, Reads, Takes}
 use Rattle.alog_lines.specs.Pieces.{Piece, pieces_in, pieces_of}
-use Rattle.alog_lines.proofs.LineLemmas.{lines_of-nil}
+use Rattle.alog_lines.proofs.SharedLines.{lines_of-nil}
 
 -- nothing was read
 pub begins : (limit : ℕ) (s : Cutting) → s.limit ≡ limit → s.pending ≡ [] → HasCut limit [] [] s

@@ -11,7 +11,8 @@ use Rattle.alog_replay.specs.Reading.{FindsLine, IsNextLine, MovesPiece}
 use Rattle.alog_replay.specs.declared.lines.Line.{Line}
 use Rattle.alog_replay.specs.declared.lines.Line.TheVariants as next
 use Rattle.alog_replay.specs.declared.lines.Piece.TheVariants as piece
-use Rattle.alog_replay.proofs.LineLemmas.{lines_of-nil, takes_ended, takes_last, begins_too_long, unbroken-append}
+use Rattle.alog_lines.proofs.SharedLines.{lines_of-nil}
+use Rattle.alog_replay.proofs.LineLemmas.{takes_ended, takes_last, begins_too_long, unbroken-append}
 
 -- what is taken in two parts
 pub consumes_more : (old mid new : Option (List ℕ)) (line more : List ℕ) → Consumes old mid line → Consumes mid new more

@@ -1,50 +1,10 @@
 -- The first line of a script, by the bytes that it takes.
-use Rattle.std.proofs.Common.{◌≡◌, ◌≢◌, ◌≤◌, ◌<◌, ℕ, List, [], ◌∷◌, ◌++◌, length, Bool, true, false, cond, eqb, refl, sym, ◌∙◌}
+use Rattle.std.proofs.Common.{◌≡◌, ◌≤◌, ◌<◌, ℕ, List, [], ◌∷◌, ◌++◌, length, sym, ◌∙◌}
 use Rattle.std.proofs.Common.{ap, arith, append_assoc, length-append}
-use Rattle.std.proofs.lemmas.Bool.{eqb-true}
 use Rattle.std.proofs.lemmas.List.{append-nil}
+use Rattle.alog_lines.proofs.SharedLines.{first_in, last_line, line_begun, line_then, lines_of-nil, others_in}
 use Rattle.alog_replay.specs.declared.limits.TheConstants.{SCRIPT_LINE_MAX}
-use Rattle.alog_replay.specs.Lines.{lines_of, begin_line, IsUnbroken, TakesLine, BeginsTooLong}
-
--- a byte that is no newline begins the first line
-begins_test : (b : ℕ) (t : Bool) → eqb b 10 ≡ t → b ≢ 10 → (x y : List (List ℕ)) → cond t x y ≡ y
-begins_test b true e h x y = absurd (h (eqb-true b 10 e))
-begins_test b false e h x y = refl
-
-pub lines_of-cons : (b : ℕ) (script : List ℕ) → b ≢ 10 → lines_of (b ∷ script) ≡ begin_line b (lines_of script)
-unfolding lines_of
-lines_of-cons b script h = begins_test b (eqb b 10) refl h _ _
-
-pub lines_of-newline : (script : List ℕ) → lines_of (10 ∷ script) ≡ [] ∷ lines_of script
-unfolding lines_of
-lines_of-newline script = refl
-
-pub lines_of-nil : lines_of [] ≡ []
-unfolding lines_of
-lines_of-nil = refl
-
--- a line and its newline
-pub line_then : (line x : List ℕ) → IsUnbroken line → lines_of (line ++ 10 ∷ x) ≡ line ∷ lines_of x
-line_then [] x h = lines_of-newline x
-line_then (b ∷ line) x h = lines_of-cons b (line ++ 10 ∷ x) h.0 ∙ ap (begin_line b) (line_then line x h.1)
-
--- a line without one
-pub last_line : (line : List ℕ) → IsUnbroken line → 0 < length line → lines_of line ≡ line ∷ []
-last_line [] h more = absurd (omega arith)
-last_line (b ∷ []) h more = lines_of-cons b [] h.0 ∙ ap (begin_line b) lines_of-nil
-last_line (b ∷ c ∷ line) h more = lines_of-cons b (c ∷ line) h.0 ∙ ap (begin_line b) (last_line (c ∷ line) h.1 (omega arith))
-
--- bytes with no newline begin the first line
-begins : (b : ℕ) (lines : List (List ℕ)) → (l : List ℕ) × (ls : List (List ℕ)) × (begin_line b lines ≡ (b ∷ l) ∷ ls)
-begins b [] = ([], [], refl)
-begins b (l ∷ ls) = (l, ls, refl)
-
-pub begins_first : (w x : List ℕ) → IsUnbroken w → 0 < length w → (l : List ℕ) × (ls : List (List ℕ)) × (lines_of (w ++ x) ≡ (w ++ l) ∷ ls)
-begins_first [] x h more = absurd (omega arith)
-begins_first (b ∷ []) x h more = let p = begins b (lines_of x) in (p.0, p.1, lines_of-cons b x h.0 ∙ p.2)
-begins_first (b ∷ c ∷ w) x h more =
-    let p = begins_first (c ∷ w) x h.1 (omega arith) in
-    (p.0, p.1, lines_of-cons b ((c ∷ w) ++ x) h.0 ∙ ap (begin_line b) p.2)
+use Rattle.alog_replay.specs.Lines.{lines_of, IsUnbroken, TakesLine, BeginsTooLong}
 
 -- a line that its newline ends is taken
 pub takes_ended : (script line after : List ℕ) → IsUnbroken line → script ≡ line ++ 10 ∷ after → length line ≤ SCRIPT_LINE_MAX
@@ -75,8 +35,8 @@ takes_last script line h more e fits = record {
 -- a first line of more bytes than a line may have
 pub begins_too_long : (script w x : List ℕ) → IsUnbroken w → SCRIPT_LINE_MAX < length w → script ≡ w ++ x → BeginsTooLong script
 begins_too_long script w x h over e =
-    let p = begins_first w x h (omega arith) in
-    (w ++ p.0, p.1, ap lines_of e ∙ p.2, omega (arith, length-append w p.0))
+    let first = first_in (lines_of x) in
+    (w ++ first, others_in (lines_of x), ap lines_of e ∙ line_begun w x h (omega arith), omega (arith, length-append w first))
 
 -- bytes with no newline, one after the other
 pub unbroken-append : (v w : List ℕ) → IsUnbroken v → IsUnbroken w → IsUnbroken (v ++ w)

@@ -4,6 +4,7 @@ ghost use Rattle.alog_replay.specs.LineState.{rest_of, work_left};
 ghost use Rattle.alog_replay.specs.Lines.{IsUnbroken};
 
 use crate::limits::{CHUNK, READS_MAX, SCRIPT_LINE_MAX};
+use memchr::memchr;
 use std::alloc::{AllocError, Global};
 use std::io::{ErrorKind, Read};
 use std::marker::Model;
@@ -190,10 +191,5 @@ fn unbroken_len(bytes: &[u8]) -> usize
     ensures unbroken { (k : ℕ) → k < result → slice_index bytes.now k ≢ 10 }
     ensures newline { result < length bytes.now → slice_index bytes.now result ≡ 10 }
 {
-    for (i, b) in bytes.iter().enumerate() {
-        if *b == b'\n' {
-            return i;
-        }
-    }
-    bytes.len()
+    memchr(b'\n', bytes).unwrap_or(bytes.len())
 }
