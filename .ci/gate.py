@@ -222,7 +222,7 @@ def tried_over_libraries(name, edits, prover):
             new.append(edit)
     room = prover.room(name)
     try:
-        for edit, verdict in rounds.verdicts_of(name, room, new, lambda home, only: prover.check(name, home, only)):
+        for edit, verdict in rounds.verdicts_of(name, room, new, lambda home, functions: prover.check(name, home, functions)):
             if verdict in (rounds.REFUSED, rounds.BY_NAMES):
                 prover.keep(name, edit, verdict)
             yield edit, verdict

@@ -14,6 +14,8 @@ import subprocess
 import sys
 import tempfile
 
+import rounds
+
 
 def kit():
     """Returns the kit's `rt` as a module."""
@@ -53,14 +55,23 @@ class Prover:
     def words(self, name, only):
         return self.crates[name].words(["--jobs", "1", *(word for it in only for word in ("--only", it))], keeps=False)
 
-    def check(self, name, home, only):
+    def check(self, name, home, functions):
         """Checks these functions of a crate whose files are in a folder, or all where none is named, and returns the status and what was printed."""
         how = {"cwd": home, "stdin": subprocess.DEVNULL, "stdout": subprocess.PIPE, "stderr": subprocess.STDOUT, "text": True, "errors": "replace"}
-        ran = subprocess.run([*self.guard, self.rattle, "check", *self.words(name, only)], **how)
-        unknown = re.search(r"has no function `([^`]+)`", ran.stdout)
-        if ran.returncode == 2 and unknown and "::" in unknown[1]:
-            # (a method stands in another file than its type: its name alone)
-            return self.check(name, home, [unknown[1].rpartition("::")[2] if it == unknown[1] else it for it in only])
+        names = {end: [end] for end in map(rounds.end_of, functions)}
+        for _ in range(3 * len(names) + 1):
+            only = [it for found in names.values() for it in found]
+            ran = subprocess.run([*self.guard, self.rattle, "check", *self.words(name, only)], **how)
+            unknown = re.search(r"has no function `([^`]+)`|several functions are named `([^`]+)`: help: write one of (.*)", ran.stdout)
+            # (a name that was looked up is not looked up again)
+            end = unknown and next((it for it, found in names.items() if found == [unknown[1] or unknown[2]]), None)
+            if ran.returncode != 2 or end is None or unknown[1] and "::" not in unknown[1]:
+                break
+            own = [it for it in functions if rounds.end_of(it) == end]
+            # a method stands in another file than its type: its name alone; or it is that of several traits or types
+            named = re.findall(r"`([^`]+)`", unknown[3] or "")
+            named = [it for it in named if any(rounds.is_at(it.split("::"), function) for function in own)] or named
+            names[end] = named or [end.rpartition("::")[2]]
         return ran.returncode, ran.stdout
 
     def room(self, name):

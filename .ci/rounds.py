@@ -151,11 +151,11 @@ def turn(room, edit):
             it.write(text.replace(old, new))
 
 
-def names_of(functions):
-    """Returns the ends of the functions' paths by which a check finds them."""
-    for module, (type_name, trait), name in functions:
-        inner = module.partition("::")[2]
-        yield name if trait else f"{type_name}::{name}" if type_name else f"{inner}::{name}" if inner else name
+def end_of(function):
+    """Returns the end of a function's path, by which a check finds it."""
+    module, (type_name, trait), name = function
+    inner = module.partition("::")[2]
+    return name if trait else f"{type_name}::{name}" if type_name else f"{inner}::{name}" if inner else name
 
 
 def checked(crate, room, members, check):
@@ -167,7 +167,7 @@ def checked(crate, room, members, check):
     try:
         for edit, _ in members:
             turn(room, edit)
-        status, printed = check(room, [it for _, functions in members for it in names_of(functions)])
+        status, printed = check(room, [it for _, functions in members for it in functions])
         unproved = unproved_in(crate, room, printed)
     finally:
         for part, to in kept.items():
