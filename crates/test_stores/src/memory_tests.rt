@@ -6,13 +6,13 @@ use std::alloc::Global;
 use std::test::Fail;
 
 /// A store with one file, which was put there twice.
-fn opened(alloc: Global) -> Result<MemStore, Fail> {
+pub fn opened(alloc: Global) -> Result<MemStore, Fail> {
     let store = MemStore::new(alloc).with("a", b"old")?;
     Ok(store.with("a", b"abc")?)
 }
 
 /// The files that each call once has left.
-const LEFT: [(&str, &[u8]); 2] = [("b", b"abcde"), ("d", b"xy")];
+pub const LEFT: [(&str, &[u8]); 2] = [("b", b"abcde"), ("d", b"xy")];
 
 /// Whether each call once is answered by files in memory as it says, and leaves those.
 fn of_memory(alloc: Global) -> Result<bool, Fail> {

@@ -1,0 +1,3 @@
+mod Fronts
+mod Rows
+pub mod SharedPatientCrosses
