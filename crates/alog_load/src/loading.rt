@@ -1,16 +1,17 @@
 //! A whole load.
-ghost use Rattle.std.specs.Prelude.{◌≡◌, ◌↔◌, IfErr, IfOk, IsErrAnd, IsErrOf, count_by, length};
-ghost use Rattle.std.specs.List.{Any};
+ghost use Rattle.std.specs.Prelude.{◌≡◌, ◌≤◌, ◌↔◌, IfErr, IfOk, IsErrAnd, IsErrOf, IsTrue, count_by, length};
+ghost use Rattle.std.specs.List.{AllByRecursion, Any};
 ghost use Rattle.alog_config.specs.Built.{HasFailed};
 ghost use Rattle.alog_config.specs.Sinks.{is_leaf};
 ghost use Rattle.alog_load.specs.Load.{AreBad, NamesRotating, IsStoreRefusal, Loads};
+ghost use Rattle.alog_pool.specs.Report.{Ends};
 
 use crate::error::LoadError;
 use crate::producers::run_all;
 use crate::setup::setup_of;
 use crate::{LOAD_MESSAGES_MAX, LOAD_PRODUCERS_MAX};
 use alog_config::Config;
-use alog_pool::{Gate, Pool, Report, StartError};
+use alog_pool::{Gate, Pool, Producer, Report, StartError};
 use alog_sink::Store;
 use std::alloc::Global;
 use std::sync::Wait;
@@ -56,6 +57,21 @@ pub fn load<
     };
     let loggers = config.loggers.len();
     let (back, done) = run_all(rt, alloc, &mut pool, producers, loggers, messages);
+    ended(rt, pool, back, done)
+}
+
+/// Ends a pool that has all its producers back. There is no report where one of them had no memory for a message.
+fn ended<R: Threads + Wait + Clock, S: Store + Drop + Send + 'static>(
+    rt: &R,
+    pool: Pool<S>,
+    back: Vec<Producer>,
+    done: bool,
+) -> Result<Report<S>, LoadError>
+    requires own { AllByRecursion (λ p. p.shared ≡ pool.shared) back.items }
+    requires all { pool.made ≤ length back.items }
+    ensures ends { IfOk result (λ r. IsTrue done × Ends S.tells S.files S.failures pool back.items r) }
+    ensures refused { IfErr result (λ e. e ≡ LoadError.OutOfMemory) }
+{
     match pool.shutdown(rt, back) {
         Ok(report) if done => Ok(report),
         Ok(_) => Err(LoadError::OutOfMemory),

@@ -1,4 +1,5 @@
-use Rattle.std.proofs.Common.{◌≡◌, ℕ, List, length, refl, sym, ap, subst, arith}
+use Rattle.std.proofs.Common.{◌≡◌, ℕ, List, length, Result, Ok, Err, sym, ap, subst, arith}
+use Rattle.std.specs.Prelude.{IfOk}
 use Rattle.alog_config.specs.Built.{IsLoggerOf}
 use Rattle.alog_config.proofs.SharedPicking.{each_is_long}
 use Rattle.alog_load.proofs.loading.load.Goals as goal
@@ -19,27 +20,32 @@ run_all-back-requires-clause-loggers g c κs within =
     let few = config.sound.few_loggers in
     (omega (arith, long, same, c.len-loggers.ensures, config.loggers.ok.0), omega (arith, few, c.len-loggers.ensures, config.loggers.ok.0))
 
-pub shutdown-requires-clause-own : goal.shutdown-requires-clause-own
-shutdown-requires-clause-own g c κs within =
+pub ended-requires-clause-own : goal.ended-requires-clause-own
+ended-requires-clause-own g c κs within =
     let run = c.run_all-back.ensures in
     let shared = makes_shared c.in-Ok.pool c.run_all-back.new.pool run.begun run.makes in
     subst (λ (s : Shared). AreOf s c.run_all-back.result.0.items) (sym shared.0) run.own
 
-pub unreachable-requires-in-Err : goal.unreachable-requires-in-Err
-unreachable-requires-in-Err g c =
+pub ended-requires-clause-all : goal.ended-requires-clause-all
+ended-requires-clause-all g c =
     let run = c.run_all-back.ensures in
     let count = makes_count c.in-Ok.pool c.run_all-back.new.pool run.begun run.makes in
     let none = c.in-Ok.ensures.started.made in
     let many = run.many in
-    let fewer = c.in-Err.ensures.out.0 refl in
-    omega (arith, fewer, count, none, many)
+    omega (arith, count, none, many)
 
-pub returns-in-Ok-shutdown-clause-loads : goal.returns-in-Ok-shutdown-clause-loads
-returns-in-Ok-shutdown-clause-loads g c =
+if_ok : {T E : Type 0} {P Q : T → Type 0} (r : Result T E) → ((t : T) → P t → Q t) → IfOk r P → IfOk r Q
+if_ok (Ok t) f h = f t h
+if_ok (Err e) f h = tt
+
+pub returns-clause-loads : goal.returns-clause-loads
+returns-clause-loads g c =
     let config = c.args.config.now in
     let run = c.run_all-back.ensures in
-    let each = run.each c.if-done.true in
     let loggers : c.len-loggers.result ≡ length config.loggers.items = omega (arith, c.len-loggers.ensures, config.loggers.ok.0) in
+    if_ok c.ended.result
+    (λ r h.
+    let each = run.each h.0 in
     record {
       setup = c.in_ok-setup.setup;
       given = c.in_ok-setup.ensures.given;
@@ -51,5 +57,6 @@ returns-in-Ok-shutdown-clause-loads g c =
       makes = run.makes;
       ended = c.run_all-back.result.0.items;
       served = subst (λ (n : ℕ). Each2 (HasServed n c.args.messages) run.begun c.run_all-back.result.0.items) loggers each.1;
-      ends = c.in-Ok-shutdown.ensures.ends;
-    }
+      ends = h.1;
+    })
+    c.ended.ensures.ends
