@@ -2,6 +2,7 @@
 use Rattle.std.proofs.Common.{◌≡◌, ℕ, ◌+◌, Option, List, [], ◌∷◌, ◌++◌, inl, refl, sym, ap, subst, ◌∙◌, append_assoc, arith}
 use Rattle.std.specs.Io.KnownBytes.{Appends}
 use Rattle.alog_replay.specs.Known.{WhereKnown}
+use Rattle.alog_lines.proofs.SharedLines.{lines_of-nil}
 use Rattle.alog_replay.specs.Lines.{lines_of, TakesLine, BeginsTooLong}
 use Rattle.alog_replay.specs.Reading.{FindsLine}
 use Rattle.alog_replay.specs.Scene.{Scene, Done, Refused}
@@ -35,10 +36,6 @@ behind_twice x y (RefusedAt n text) = ap (RefusedAt n) (sym (append_assoc x y te
 pub text_behind : (x : List ℕ) (t : Told) → text_of (told_behind x t) ≡ x ++ text_of t
 text_behind x (Whole text n) = refl
 text_behind x (RefusedAt n text) = refl
-
-pub no_lines_of : lines_of [] ≡ []
-unfolding lines_of
-no_lines_of = refl
 
 module _ {S : Type 0} (scene : Scene S) where
   -- The script is what was read and this rest; what was written is this text; and whatever front of the rest is told
@@ -103,7 +100,7 @@ module _ {S : Type 0} (scene : Scene S) where
 
   -- nothing is left
   pub no_lines : (s : S) (n : ℕ) → Tells scene s n (lines_of []) (Whole (scene.files s) n)
-  no_lines s n = subst (λ (ls : List (List ℕ)). Tells scene s n ls (Whole (scene.files s) n)) (sym no_lines_of) (no_line_told s n)
+  no_lines s n = subst (λ (ls : List (List ℕ)). Tells scene s n ls (Whole (scene.files s) n)) (sym lines_of-nil) (no_line_told s n)
 
   -- a line too long, first of what is left
   pub too_long_told : (s : S) (n : ℕ) (rest : List ℕ) → BeginsTooLong rest → Tells scene s n (lines_of rest) (RefusedAt (n + 1) [])
