@@ -11,7 +11,7 @@ use Rattle.alog_config.specs.declared.logger_fields.LoggerFields.{LoggerFields}
 use Rattle.alog_config.specs.declared.sink_fields.SinkFields.{SinkFields}
 use Rattle.alog_config.specs.declared.top.TopFields.{TopFields}
 use Rattle.alog_config.specs.declared.words.Key.{Key}
-use Rattle.alog_config.specs.declared.words.Key.TheVariants.{Queue, Workers, Text, Offset, Zone, Process, Sink, Logger, Name, Kind, Level}
+use Rattle.alog_config.specs.declared.words.Key.TheVariants.{Queue, Workers, Text, Offset, Zone, Process, Retry, Sink, Logger, Name, Kind, Level}
 use Rattle.alog_config.specs.declared.words.Key.TheVariants.{Pattern, File, MaxSize, MaxFiles, Hour, Minute, Of, Policy, Sinks}
 use Rattle.alog_config.specs.declared.words.Key.TheVariants.{FlushOn, Backtrace}
 use Rattle.alog_config.specs.Keys.{IsOneOf, keys_of}
@@ -27,6 +27,7 @@ name_of Text = codes "text"
 name_of Offset = codes "offset"
 name_of Zone = codes "zone"
 name_of Process = codes "process"
+name_of Retry = codes "retry"
 name_of Sink = codes "sink"
 name_of Logger = codes "logger"
 name_of Name = codes "name"
@@ -57,7 +58,7 @@ IsOtherKey owner (member key d rest) found =
 
 -- The top: its keys, in the order in which they are looked at, and which has a bad value, or no table.
 abbrev pub top_order : List Key
-top_order = Queue ∷ Workers ∷ Text ∷ Offset ∷ Zone ∷ Process ∷ Sink ∷ Logger ∷ []
+top_order = Queue ∷ Workers ∷ Text ∷ Offset ∷ Zone ∷ Process ∷ Retry ∷ Sink ∷ Logger ∷ []
 
 abbrev pub IsBadTopKey : TopFields → Key → Type 0
 IsBadTopKey f Queue = f.queue ≡ Bad
@@ -66,6 +67,7 @@ IsBadTopKey f Text = f.text ≡ Bad
 IsBadTopKey f Offset = f.offset ≡ Bad
 IsBadTopKey f Zone = HasBadZoneKey f
 IsBadTopKey f Process = f.process ≡ Bad
+IsBadTopKey f Retry = f.retry ≡ Bad
 IsBadTopKey f Sink = f.sinks ≡ Bad
 IsBadTopKey f Logger = f.loggers ≡ Bad
 IsBadTopKey f _ = ⊥

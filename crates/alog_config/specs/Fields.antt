@@ -32,6 +32,7 @@ pub record AreTopFields (t : Members) (f : TopFields) : Type 0 where
   pub offset : IsField IsMinutes (get_member (codes "offset") t) f.offset
   pub zone : IsField (Spelled IsRuleOf) (get_member (codes "zone") t) f.zone
   pub process : IsField (IsNumber 0 4294967295) (get_member (codes "process") t) f.process
+  pub retry : IsField (IsNumber 0 1000000) (get_member (codes "retry") t) f.retry
   pub sinks : IsField IsTableArray (get_member (codes "sink") t) f.sinks
   pub loggers : IsField IsTableArray (get_member (codes "logger") t) f.loggers
 

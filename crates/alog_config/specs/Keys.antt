@@ -9,7 +9,7 @@ use Rattle.toml.specs.Data.{Members, no_members, member}
 abbrev pub top_keys : List (List ℕ)
 top_keys =
     codes "queue" ∷ codes "workers" ∷ codes "text" ∷ codes "offset" ∷ codes "zone" ∷ codes "process"
-    ∷ codes "sink" ∷ codes "logger" ∷ []
+    ∷ codes "retry" ∷ codes "sink" ∷ codes "logger" ∷ []
 
 abbrev pub logger_keys : List (List ℕ)
 logger_keys = codes "name" ∷ codes "level" ∷ codes "policy" ∷ codes "sinks" ∷ codes "flush_on" ∷ codes "backtrace" ∷ []

@@ -23,7 +23,7 @@ use Rattle.alog_config.specs.declared.reading.TableFault.{TableFault}
 use Rattle.alog_config.specs.declared.reading.TableFault.TheVariants as table_faults
 use Rattle.alog_config.specs.declared.sink_fields.SinkFields.{SinkFields}
 use Rattle.alog_config.specs.declared.top.TopFields.{TopFields}
-use Rattle.alog_config.specs.Fields.{AreLoggerFields, AreSinkFields, AreTopFields, file_of}
+use Rattle.alog_config.specs.Fields.{AreLoggerFields, AreSinkFields, AreTopFields, file_of, given}
 use Rattle.alog_config.specs.Rules.{IsFirst, LoggerBreaks, SinkBreaks, TopBreaks, order}
 use Rattle.alog_config.specs.Values.{LentTables, given_or, tables_in}
 use Rattle.alog_format.specs.declared.context.Zone.{Zone}
@@ -143,6 +143,7 @@ pub record Says (t : Members) (c : Config) : Type 0 where
   pub text : c.text ≡ limit_of fields
   pub zone : c.zone ≡ zone_of fields
   pub process : c.process ≡ given_or 0 fields.process
+  pub retry : c.retry ≡ given fields.retry
   pub sinks : AreSinks c.text [] sink_tables c.sinks.items
   pub loggers : AreLoggers c.sinks.items [] logger_tables c.loggers.items
 

@@ -45,9 +45,11 @@ LacksTables (Given tables) = tables_in tables ≡ []
 abbrev pub HasBadZoneKey : TopFields → Type 0
 HasBadZoneKey f = (f.zone ≡ Bad) ⊎ ((¬ (f.zone ≡ Absent)) × (¬ (f.offset ≡ Absent)))
 
+abbrev pub HasBadNumber : TopFields → Type 0
+HasBadNumber f = (f.queue ≡ Bad) ⊎ (f.workers ≡ Bad) ⊎ (f.text ≡ Bad) ⊎ (f.process ≡ Bad) ⊎ (f.retry ≡ Bad)
+
 abbrev pub HasBadTopField : TopFields → Type 0
-HasBadTopField f = (f.queue ≡ Bad) ⊎ (f.workers ≡ Bad) ⊎ (f.text ≡ Bad) ⊎ (f.offset ≡ Bad) ⊎ HasBadZoneKey f ⊎ (f.process ≡ Bad)
-    ⊎ (f.sinks ≡ Bad) ⊎ (f.loggers ≡ Bad)
+HasBadTopField f = HasBadNumber f ⊎ (f.offset ≡ Bad) ⊎ HasBadZoneKey f ⊎ (f.sinks ≡ Bad) ⊎ (f.loggers ≡ Bad)
 
 abbrev pub TopBreaks : TopFields → Rule → Type 0
 TopBreaks f UnknownKey = f.other_key ≡ true

@@ -22,6 +22,8 @@ pub struct Config {
     pub zone: Zone,
     /// The number of the process that lines show.
     pub process: u32,
+    /// How often a failed call of a sink's store is tried again, 0 to 1,000,000, where that is said.
+    pub retry: Option<u32>,
     /// The sinks by number, 1 to 256.
     pub sinks: Vec<SinkConfig>,
     /// The loggers by number, 1 to 256.

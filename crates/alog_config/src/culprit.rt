@@ -51,6 +51,7 @@ impl TopFields<'_> {
             (Key::Offset, self.offset.is_bad()),
             (Key::Zone, self.has_bad_zone_key()),
             (Key::Process, self.process.is_bad()),
+            (Key::Retry, self.retry.is_bad()),
             (Key::Sink, self.sinks.is_bad()),
             (Key::Logger, self.loggers.is_bad()),
         ])

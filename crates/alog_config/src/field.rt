@@ -1,5 +1,6 @@
 //! What a table has at a key.
 ghost use Rattle.std.specs.Prelude.{◌≡◌, ◌↔◌, IsTrue};
+ghost use Rattle.alog_config.specs.Fields.{given};
 ghost use Rattle.alog_config.specs.Values.{given_or};
 
 /// What a table has at a key that is read in some way.
@@ -26,6 +27,18 @@ impl<T> Field<T> {
         ensures { IsTrue result ↔ (self.now ≡ Field.Bad) }
     {
         matches!(self, Field::Bad)
+    }
+}
+
+impl<T> Field<T> {
+    /// What is given, if something is.
+    pub(crate) fn given(self) -> Option<T>
+        ensures { result ≡ given self }
+    {
+        match self {
+            Field::Given(value) => Some(value),
+            Field::Absent | Field::Bad => None,
+        }
     }
 }
 

@@ -30,7 +30,7 @@ fn is_top_key(key: &str) -> bool
 {
     matches!(
         key,
-        "queue" | "workers" | "text" | "offset" | "zone" | "process" | "sink" | "logger"
+        "queue" | "workers" | "text" | "offset" | "zone" | "process" | "retry" | "sink" | "logger"
     )
 }
 

@@ -88,6 +88,7 @@ fn read_top(alloc: Global, table: &Table) -> Result<Config, ConfigFault>
         text,
         zone: clock_of(top.offset, top.zone),
         process: top.process.or(0),
+        retry: top.retry.given(),
         sinks,
         loggers,
     })

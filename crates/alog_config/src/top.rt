@@ -1,7 +1,7 @@
 //! The top of a document.
 ghost use Rattle.std.specs.Prelude.{◌≡◌, ◌↔◌, IfOk, IsTrue};
 ghost use Rattle.alog_config.specs.Fields.{AreTopFields};
-ghost use Rattle.alog_config.specs.Rules.{HasBadZoneKey, IsFirst, LacksTables, TopBreaks, has, order};
+ghost use Rattle.alog_config.specs.Rules.{HasBadNumber, HasBadZoneKey, IsFirst, LacksTables, TopBreaks, has, order};
 ghost use Rattle.toml.specs.View.{table_view};
 
 use crate::broken::Broken;
@@ -26,6 +26,7 @@ pub(crate) struct TopFields<'t> {
     pub offset: Field<i16>,
     pub zone: Field<Zone>,
     pub process: Field<u32>,
+    pub retry: Field<u32>,
     pub sinks: Field<Vec<&'t Table>>,
     pub loggers: Field<Vec<&'t Table>>,
 }
@@ -53,6 +54,7 @@ pub(crate) fn top_fields<'t>(alloc: Global, table: &'t Table) -> Result<TopField
         offset: minutes_at(table, "offset"),
         zone: zone_at(table, "zone"),
         process: count_at(table, "process", 0, u32::MAX),
+        retry: count_at(table, "retry", 0, 1_000_000),
         sinks,
         loggers,
     })
@@ -90,16 +92,24 @@ pub(crate) fn top_fault(top: &TopFields<'_>) -> Option<Rule>
     broken.first()
 }
 
-/// Whether a key of the top has a bad value.
-fn has_bad_value(top: &TopFields<'_>) -> bool
-    ensures { IsTrue result ↔ TopBreaks top.now Rule.BadValue }
+/// Whether a number of the top is a bad value.
+fn has_bad_number(top: &TopFields<'_>) -> bool
+    ensures { IsTrue result ↔ HasBadNumber top.now }
 {
     top.queue.is_bad()
         || top.workers.is_bad()
         || top.text.is_bad()
+        || top.process.is_bad()
+        || top.retry.is_bad()
+}
+
+/// Whether a key of the top has a bad value.
+fn has_bad_value(top: &TopFields<'_>) -> bool
+    ensures { IsTrue result ↔ TopBreaks top.now Rule.BadValue }
+{
+    has_bad_number(top)
         || top.offset.is_bad()
         || top.has_bad_zone_key()
-        || top.process.is_bad()
         || top.sinks.is_bad()
         || top.loggers.is_bad()
 }

@@ -13,6 +13,7 @@ pub(crate) enum Key {
     Offset,
     Zone,
     Process,
+    Retry,
     Sink,
     Logger,
     Name,
@@ -43,6 +44,7 @@ impl Key {
             Key::Offset => "offset",
             Key::Zone => "zone",
             Key::Process => "process",
+            Key::Retry => "retry",
             Key::Sink => "sink",
             Key::Logger => "logger",
             Key::Name => "name",
@@ -72,6 +74,7 @@ impl Key {
             Key::Zone =>
                 "a POSIX rule of 1 to 64 bytes, as CET-1CEST,M3.5.0,M10.5.0/3, and no offset beside it",
             Key::Process => "a number, 0 to 4294967295",
+            Key::Retry => "a number, 0 to 1000000",
             Key::Sink | Key::Logger => "1 to 256 tables",
             Key::Name => "1 to 64 bytes, and not the name of an earlier table of the same array",
             Key::Kind => "memory, rotating, daily or fan",
@@ -98,7 +101,7 @@ impl Key {
 /// The keys that a table of this owner may have.
 pub(crate) fn known_keys(owner: Owner) -> &'static str {
     match owner {
-        Owner::Top => "queue, workers, text, offset, zone, process, sink and logger",
+        Owner::Top => "queue, workers, text, offset, zone, process, retry, sink and logger",
         Owner::Logger => "name, level, policy, sinks, flush_on and backtrace",
         Owner::Sink(None) => {
             "name, kind, level, pattern, file, max_size, max_files, hour, minute and of"

@@ -86,6 +86,7 @@ returns c =
       text = c.or-text.ensures;
       zone = c.clock_of.ensures;
       process = c.or-3.ensures;
+      retry = c.given.ensures;
       sinks = said;
       loggers = known;
     }
