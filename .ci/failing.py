@@ -47,7 +47,7 @@ CONFIG = b'queue = 8\n[[sink]]\nname = "out"\nkind = "rotating"\nfile = "a.log"\
 TOTALS = b"asked 40\nposted 40\ndiscarded 0\noverrun 0\nhandled 40\n"
 LINES = b"".join(b"0 %d\n" % number for number in range(40))
 FILES = [f"a.{number}.log" for number in range(9, 0, -1)] + ["a.log"]
-# what a pipe of these lines says where it reads them all, and what of any front: a flush is posted behind each read, and at the end
+# what a pipe of these lines says where it reads them all, and what of any front: a flush is posted behind the pieces of a read
 PIPED = re.compile(rb"lines 40\nbytes %d\nmended 0\ncut 0\nmissing 0\nasked (\d+)\nposted \1\ndiscarded 0\noverrun 0\nhandled \1\n" % (len(LINES) - 40))
 PIPED_FRONT = re.compile(rb"lines \d+\nbytes \d+\nmended 0\ncut 0\nmissing 0\nasked (\d+)\nposted \1\ndiscarded 0\noverrun 0\nhandled \1\n")
 NO_INPUT = re.compile(rb"alog: standard input cannot be read: " + WHY)

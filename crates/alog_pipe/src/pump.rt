@@ -48,7 +48,7 @@ impl Pump {
         unreachable!()
     }
 
-    /// Logs what a read brought, at the time that it is, and posts a flush.
+    /// Logs what a read brought, at the time that it is, and posts a flush where it brought a piece.
     fn log_read<R: Wait + Clock>(&mut self, rt: &R, alloc: Global)
         requires { IsReady self.old.lines.limit self.old.log }
         ensures pumps { PumpsRead self.old self.new }
@@ -56,21 +56,25 @@ impl Pump {
     {
         let time = time_of(rt).unwrap_or(self.time);
         self.time = time;
-        self.log_pending(rt, alloc, time);
-        self.log.flush(rt);
+        if self.log_pending(rt, alloc, time) {
+            self.log.flush(rt);
+        }
     }
 
-    /// Logs each piece of what was read, at this time.
-    fn log_pending<R: Wait + Clock>(&mut self, rt: &R, alloc: Global, time: i64)
+    /// Logs each piece of what was read, at this time, and answers whether there was one.
+    fn log_pending<R: Wait + Clock>(&mut self, rt: &R, alloc: Global, time: i64) -> bool
         requires { IsReady self.old.lines.limit self.old.log }
-        ensures pumps { PumpsAll time self.old self.new }
+        ensures pumps { PumpsAll time result self.old self.new }
         ensures same { IsSame self.old.log.producer self.new.log.producer }
     {
+        let mut any = false;
         while let Some(cut) = self.lines.next() {
             let text = self.lines.text();
             self.counts.see(cut, text);
             self.log.log(rt, alloc, time, text);
+            any = true;
         }
+        any
     }
 }
 

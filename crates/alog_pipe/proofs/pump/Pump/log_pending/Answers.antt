@@ -4,7 +4,7 @@ use Rattle.alog_pipe.specs.Counted.{with_piece}
 use Rattle.alog_pipe.specs.Logged.{LogsPiece}
 use Rattle.alog_pipe.specs.declared.counts.Counts.{Counts}
 use Rattle.alog_pipe.proofs.Logging.{piece_logger, ready_on, same_on}
-use Rattle.alog_pipe.proofs.Pumping.{counted_more, one_more, takes_same}
+use Rattle.alog_pipe.proofs.Pumping.{any_more, counted_more, one_more, takes_same}
 use Rattle.alog_pipe.proofs.pump.Pump.log_pending.Goals as goal
 
 pub log-requires : goal.log-requires
@@ -24,6 +24,7 @@ loop-cut-preserved g c =
     let text : c.text-text.result.now ≡ p.text = c.text-text.ensures in
     record {
       pieces = i.pieces ++ p ∷ [];
+      any_is = any_more i.pieces p;
       taken = one_more _ i.pieces p _ _ _ i.taken (c.in-Some.ensures.found, c.in-Some.ensures.same);
       logged = one_more _ i.pieces p _ _ _ i.logged
           (subst (λ (t : List ℕ). LogsPiece (to_z w64 (of_z w64 c.args.time)) t c.loop-cut.self.log c.log.new.self) text c.log.ensures);
