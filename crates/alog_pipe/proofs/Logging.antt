@@ -1,8 +1,11 @@
 -- What becomes of one piece, and of the line that says that some are missing.
-use Rattle.std.proofs.Common.{◌≡◌, ◌⊎◌, ◌≤◌, ℕ, ℤ, Bool, true, false, List, length, None, refl, sym, ap, subst, ◌∙◌, arith, inl, inr}
+use Rattle.std.proofs.Common.{◌≡◌, ◌⊎◌, ◌≤◌, ℕ, ℤ, List, length, None, refl, sym, ap, subst, ◌∙◌, arith, inl, inr}
 use Rattle.alog_msg.specs.declared.message.MessageError.{MessageError}
 use Rattle.alog_msg.specs.declared.message.MessageError.TheVariants as message
-use Rattle.alog_pipe.specs.Logged.{IsReady, KeepsPiece, LogsFound, LogsPiece, LogsPieceAt, LogsText, LosesPiece, Tells, by, is_kept, missed_by}
+use Rattle.alog_pipe.specs.Logged.{HidesPiece, IsReady, LogsFound, LogsPiece, LogsPieceAt, LogsText, LosesPiece, PostsPiece, Tells}
+use Rattle.alog_pipe.specs.Logged.{below_by, by, fate_of, missed_by}
+use Rattle.alog_pipe.specs.declared.piece_log.Fate.{Fate}
+use Rattle.alog_pipe.specs.declared.piece_log.Fate.TheVariants as fate
 use Rattle.alog_pipe.specs.declared.piece_log.PieceLog.{PieceLog}
 use Rattle.alog_pipe.specs.declared.piece_log.Told.TheVariants as told
 use Rattle.alog_pool.specs.Producer.{ProducerView, IsSame}
@@ -31,36 +34,43 @@ ready_on {limit} old new h logger same =
     (omega (arith, h.0, logger, loggers), omega (arith, h.1, most))
 
 -- a piece that was answered
-pub found_of : (time : ℤ) (text : List ℕ) (log : PieceLog) (p : ProducerView) (answer : LogReply) (kept : Bool) → kept ≡ is_kept answer
-    → LogsText log.logger log.level time text answer log.producer p → LogsFound time text kept log (by p log)
-found_of time text log p answer true is t = ((answer, t, sym is), refl)
-found_of time text log p answer false is t = (inl (answer, t, sym is), refl)
+pub found_of : (time : ℤ) (text : List ℕ) (log : PieceLog) (p : ProducerView) (answer : LogReply) (f : Fate) → f ≡ fate_of answer
+    → LogsText log.logger log.level time text answer log.producer p → LogsFound time text f log (by p log)
+found_of time text log p answer fate.Posted is t = ((answer, t, sym is), refl)
+found_of time text log p answer fate.Below is t = ((answer, t, sym is), refl)
+found_of time text log p answer fate.Missing is t = (inl (answer, t, sym is), refl)
 
 module _ {time : ℤ} {text : List ℕ} {old mid found : PieceLog} (tells : Tells time told.All old mid) (before : IsSame old.producer mid.producer)
     (after : IsSame mid.producer found.producer) where
-  pub kept_piece : LogsFound time text true mid found → LogsPiece time text old found
-  kept_piece h = record { mid = mid; logged = inl (tells, inl h); same = same_on before after }
+  pub posted_piece : LogsFound time text fate.Posted mid found → LogsPiece time text old found
+  posted_piece h = record { mid = mid; logged = inl (tells, inl h); same = same_on before after }
 
-  pub lost_piece : {new : PieceLog} → LogsFound time text false mid found → new ≡ missed_by found.producer found → LogsPiece time text old new
+  pub hidden_piece : {new : PieceLog} → LogsFound time text fate.Below mid found → new ≡ below_by found.producer found → LogsPiece time text old new
+  hidden_piece h is =
+      subst (LogsPiece time text old) (sym (is ∙ ap (below_by found.producer) h.1))
+      (record { mid = mid; logged = inl (tells, inr (inl (h.0, refl))); same = same_on before after })
+
+  pub lost_piece : {new : PieceLog} → LogsFound time text fate.Missing mid found → new ≡ missed_by found.producer found → LogsPiece time text old new
   lost_piece h is =
       subst (LogsPiece time text old) (sym (is ∙ ap (missed_by found.producer) h.1))
-      (record { mid = mid; logged = inl (tells, inr (h.0, refl)); same = same_on before after })
+      (record { mid = mid; logged = inl (tells, inr (inr (h.0, refl))); same = same_on before after })
 
 -- the same logger
 pub told_logger : {time : ℤ} {old mid : PieceLog} → Tells time told.All old mid → mid.logger ≡ old.logger
 told_logger (inl h) = ap (λ (l : PieceLog). l.logger) h.1
 told_logger (inr h) = ap (λ (l : PieceLog). l.logger) h.2
 
-piece_kept : {time : ℤ} {text : List ℕ} {mid new : PieceLog}
-    → ((KeepsPiece time text mid new.producer × (new ≡ by new.producer mid)) ⊎ (LosesPiece time text mid new.producer × (new ≡ missed_by new.producer mid)))
-    → new.logger ≡ mid.logger
-piece_kept (inl h) = ap (λ (l : PieceLog). l.logger) h.1
-piece_kept (inr h) = ap (λ (l : PieceLog). l.logger) h.1
+found_logger : {time : ℤ} {text : List ℕ} {mid new : PieceLog}
+    → ((PostsPiece time text mid new.producer × (new ≡ by new.producer mid)) ⊎ (HidesPiece time text mid new.producer × (new ≡ below_by new.producer mid))
+    ⊎ (LosesPiece time text mid new.producer × (new ≡ missed_by new.producer mid))) → new.logger ≡ mid.logger
+found_logger (inl h) = ap (λ (l : PieceLog). l.logger) h.1
+found_logger (inr (inl h)) = ap (λ (l : PieceLog). l.logger) h.1
+found_logger (inr (inr h)) = ap (λ (l : PieceLog). l.logger) h.1
 
 untold_logger : {time : ℤ} {old mid : PieceLog} → (Tells time told.NoRoom old mid ⊎ Tells time told.NoMemory old mid) → mid.logger ≡ old.logger
 untold_logger (inl h) = ap (λ (l : PieceLog). l.logger) h.2
 untold_logger (inr h) = ap (λ (l : PieceLog). l.logger) h.1
 
 pub piece_logger : {time : ℤ} {text : List ℕ} {old mid new : PieceLog} → LogsPieceAt time text old mid new → new.logger ≡ old.logger
-piece_logger (inl h) = piece_kept h.1 ∙ told_logger h.0
+piece_logger (inl h) = found_logger h.1 ∙ told_logger h.0
 piece_logger (inr h) = ap (λ (l : PieceLog). l.logger) h.1 ∙ untold_logger h.0

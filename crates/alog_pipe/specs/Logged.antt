@@ -1,9 +1,11 @@
 -- What becomes of pieces of lines that are logged, and what says that some are missing.
-use Rattle.std.specs.Prelude.{◌≡◌, ◌≢◌, ◌⊎◌, ◌+◌, ◌-◌, ◌^◌, ◌%◌, ◌≤◌, ◌<◌, ℕ, ℤ, Bool, true, false, List, ◌++◌, length, None, Some, codes, min}
+use Rattle.std.specs.Prelude.{◌≡◌, ◌≢◌, ◌⊎◌, ◌+◌, ◌-◌, ◌^◌, ◌%◌, ◌≤◌, ◌<◌, ℕ, ℤ, List, ◌++◌, length, None, Some, codes, min}
 use Rattle.std.specs.Fmt.{decimal}
 use Rattle.alog_msg.specs.declared.item.Item.TheVariants.{Flush}
 use Rattle.alog_msg.specs.declared.level.Level.{Level}
 use Rattle.alog_msg.specs.declared.level.Level.TheVariants.{Warning}
+use Rattle.alog_pipe.specs.declared.piece_log.Fate.{Fate}
+use Rattle.alog_pipe.specs.declared.piece_log.Fate.TheVariants as fate
 use Rattle.alog_pipe.specs.declared.piece_log.PieceLog.{PieceLog}
 use Rattle.alog_pipe.specs.declared.piece_log.Told.{Told}
 use Rattle.alog_pipe.specs.declared.piece_log.Told.TheVariants as told
@@ -30,16 +32,16 @@ pub record LogsText (logger : ℕ) (level : Level) (time : ℤ) (text : List ℕ
   pub log : Lent old new logger (λ p k q l. Logs SwapDid KeepsByTurn NeverPasses spec.policy spec
       (message_with logger level time old.number text None) p k answer q l)
 
--- nothing of a text that was answered so is missing: it was posted, or it is below the logger's level
-abbrev pub is_kept : LogReply → Bool
-is_kept (reply.Filtered level kept) = true
-is_kept (reply.Logged (Posted ticket overran) kept) = true
-is_kept (reply.Logged (Discarded value why overran) kept) = false
+-- what became of a text that was answered so
+abbrev pub fate_of : LogReply → Fate
+fate_of (reply.Filtered level kept) = fate.Below
+fate_of (reply.Logged (Posted ticket overran) kept) = fate.Posted
+fate_of (reply.Logged (Discarded value why overran) kept) = fate.Missing
 
--- a text was logged, and it is kept or it is not
-abbrev pub Brings : ℕ → Level → ℤ → List ℕ → Bool → ProducerView → ProducerView → Type 0
-Brings logger level time text kept old new =
-    (answer : LogReply) × LogsText logger level time text answer old new × (is_kept answer ≡ kept)
+-- a text was logged, and by its answer this became of it
+abbrev pub Brings : ℕ → Level → ℤ → List ℕ → Fate → ProducerView → ProducerView → Type 0
+Brings logger level time text fate old new =
+    (answer : LogReply) × LogsText logger level time text answer old new × (fate_of answer ≡ fate)
 
 -- nothing was logged: the logger keeps copies for a backtrace, and there was no memory for one
 abbrev pub LacksMemory : ℕ → ProducerView → ProducerView → Type 0
@@ -50,7 +52,7 @@ LacksMemory logger old new =
 abbrev pub hole_text : ℕ → List ℕ
 hole_text n = decimal n ++ codes " lines are missing here"
 
--- with its producer as it is now; where besides all is said that is missing; where one more is missing
+-- with its producer as it is now; where besides all is said that is missing; where one more is missing; where one more is below the level
 abbrev pub by : ProducerView → PieceLog → PieceLog
 by p log = record log { producer = p }
 
@@ -60,23 +62,31 @@ told_by p log = record log { producer = p; hole = 0 }
 abbrev pub missed_by : ProducerView → PieceLog → PieceLog
 missed_by p log = record log { producer = p; hole = min (log.hole + 1) (2 ^ 64 - 1); missing = (log.missing + 1) % 2 ^ 64 }
 
+abbrev pub below_by : ProducerView → PieceLog → PieceLog
+below_by p log = record log { producer = p; below = (log.below + 1) % 2 ^ 64 }
+
 -- the logger is one of the producer's, which takes texts of so many bytes
 abbrev pub IsReady : ℕ → PieceLog → Type 0
 IsReady limit log = (log.logger < length log.producer.shared.loggers) × (limit ≤ log.producer.limit)
 
--- a piece was logged, and it is kept; it is not
-abbrev pub KeepsPiece : ℤ → List ℕ → PieceLog → ProducerView → Type 0
-KeepsPiece time text log p = Brings log.logger log.level time text true log.producer p
+-- a piece was logged: it was posted; it is below the level that the logger had; it is missing
+abbrev pub PostsPiece : ℤ → List ℕ → PieceLog → ProducerView → Type 0
+PostsPiece time text log p = Brings log.logger log.level time text fate.Posted log.producer p
+
+abbrev pub HidesPiece : ℤ → List ℕ → PieceLog → ProducerView → Type 0
+HidesPiece time text log p = Brings log.logger log.level time text fate.Below log.producer p
 
 abbrev pub LosesPiece : ℤ → List ℕ → PieceLog → ProducerView → Type 0
-LosesPiece time text log p = Brings log.logger log.level time text false log.producer p ⊎ LacksMemory log.logger log.producer p
+LosesPiece time text log p = Brings log.logger log.level time text fate.Missing log.producer p ⊎ LacksMemory log.logger log.producer p
 
--- the line that says how many are missing was logged, and it is kept; there was no room for it
+-- the line that says how many are missing was logged, and it is kept, since it was posted or is below the level; there was no room for it
 abbrev pub TellsHole : ℤ → PieceLog → ProducerView → Type 0
-TellsHole time log p = Brings log.logger Warning time (hole_text log.hole) true log.producer p
+TellsHole time log p =
+    Brings log.logger Warning time (hole_text log.hole) fate.Posted log.producer p
+    ⊎ Brings log.logger Warning time (hole_text log.hole) fate.Below log.producer p
 
 abbrev pub HasNoRoom : ℤ → PieceLog → ProducerView → Type 0
-HasNoRoom time log p = Brings log.logger Warning time (hole_text log.hole) false log.producer p
+HasNoRoom time log p = Brings log.logger Warning time (hole_text log.hole) fate.Missing log.producer p
 
 -- what was done for that line
 abbrev pub Tells : ℤ → Told → PieceLog → PieceLog → Type 0
@@ -86,16 +96,19 @@ Tells time told.NoRoom old new = (0 < old.hole) × HasNoRoom time old new.produc
 Tells time told.NoMemory old new = (0 < old.hole) × (new ≡ old)
 
 -- what was done for a piece where all is said that is missing before it
-abbrev pub LogsFound : ℤ → List ℕ → Bool → PieceLog → PieceLog → Type 0
-LogsFound time text true old new = KeepsPiece time text old new.producer × (new ≡ by new.producer old)
-LogsFound time text false old new = LosesPiece time text old new.producer × (new ≡ by new.producer old)
+abbrev pub LogsFound : ℤ → List ℕ → Fate → PieceLog → PieceLog → Type 0
+LogsFound time text fate.Posted old new = PostsPiece time text old new.producer × (new ≡ by new.producer old)
+LogsFound time text fate.Below old new = HidesPiece time text old new.producer × (new ≡ by new.producer old)
+LogsFound time text fate.Missing old new = LosesPiece time text old new.producer × (new ≡ by new.producer old)
 
--- A piece was logged. Where some before it are missing, the line that says how many goes before it. The piece is kept, or it is missing
--- too; it is missing, and nothing of it was logged, where that line is not kept.
+-- A piece was logged. Where some before it are missing, the line that says how many goes before it. The piece was posted; or it is below
+-- the level, and is counted as one that is; or it is missing, and is counted as one that is. It is missing, and nothing of it was logged,
+-- where that line is not kept.
 abbrev pub LogsPieceAt : ℤ → List ℕ → PieceLog → PieceLog → PieceLog → Type 0
 LogsPieceAt time text old mid new =
     (Tells time told.All old mid
-    × ((KeepsPiece time text mid new.producer × (new ≡ by new.producer mid))
+    × ((PostsPiece time text mid new.producer × (new ≡ by new.producer mid))
+    ⊎ (HidesPiece time text mid new.producer × (new ≡ below_by new.producer mid))
     ⊎ (LosesPiece time text mid new.producer × (new ≡ missed_by new.producer mid))))
     ⊎ ((Tells time told.NoRoom old mid ⊎ Tells time told.NoMemory old mid) × (new ≡ missed_by mid.producer mid))
 

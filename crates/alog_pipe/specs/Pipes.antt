@@ -20,9 +20,10 @@ module _ {S : Type 0} (tells : Bool) (files : S → Files) (failures : S → ℕ
     pub pool : PoolView S
     pub makes : Makes start pool begun
     pub log : PieceLog
-    pub pumps : PumpsOut limit before after (record { producer = begun; logger = logger; level = level; hole = 0; missing = 0 }) log p.counts
+    pub pumps : PumpsOut limit before after (record { producer = begun; logger = logger; level = level; hole = 0; missing = 0; below = 0 }) log p.counts
         (is_none p.fault)
     pub missing : p.missing ≡ log.missing
+    pub below : p.below ≡ log.below
     pub ends : Ends tells files failures pool (log.producer ∷ []) p.report
 
   -- The pool is of what the configuration gives, and its texts are as long as those of its configuration.

@@ -1,6 +1,6 @@
 //! What a pipe logs with.
 ghost use Rattle.std.specs.Prelude.{◌≡◌, ◌≤◌, length};
-ghost use Rattle.alog_pipe.specs.Logged.{Flushes, IsReady, LogsFound, LogsPiece, Tells, is_kept, missed_by};
+ghost use Rattle.alog_pipe.specs.Logged.{Flushes, IsReady, LogsFound, LogsPiece, Tells, below_by, fate_of, missed_by};
 ghost use Rattle.alog_pipe.specs.Piped.{Finishes};
 ghost use Rattle.alog_pool.specs.Producer.{IsSame};
 
@@ -15,6 +15,16 @@ use std::time::{Clock, Duration};
 
 /// How many milliseconds the end waits for room for the line that says what is missing, from one try to the next.
 const NAP_MILLIS: u64 = 1;
+
+/// What became of a message.
+#[derive(Clone, Copy, Debug, PartialEq, Eq)]
+pub(crate) enum Fate {
+    Posted,
+    /// It is below the logger's level.
+    Below,
+    /// Its post was discarded, or there was no memory for its copy.
+    Missing,
+}
 
 /// Whether the log says what is missing.
 #[derive(Clone, Copy, Debug, PartialEq, Eq)]
@@ -36,6 +46,8 @@ pub(crate) struct PieceLog {
     pub(crate) hole: u64,
     /// How many are missing in all, modulo 2^64.
     pub(crate) missing: u64,
+    /// How many were below the level that the logger had, modulo 2^64.
+    pub(crate) below: u64,
 }
 
 impl PieceLog {
@@ -46,11 +58,11 @@ impl PieceLog {
         ensures { LogsPiece time text.now self.old self.new }
     {
         match self.tell_hole(rt, alloc, time) {
-            Told::All => {
-                if !self.log_found(rt, alloc, time, text) {
-                    self.miss();
-                }
-            }
+            Told::All => match self.log_found(rt, alloc, time, text) {
+                Fate::Posted => {}
+                Fate::Below => self.count_below(),
+                Fate::Missing => self.miss(),
+            },
             Told::NoRoom | Told::NoMemory => self.miss(),
         }
     }
@@ -86,8 +98,15 @@ impl PieceLog {
         self.missing = self.missing.wrapping_add(1);
     }
 
-    /// Logs a piece where all is said that is missing before it, and answers whether it is kept.
-    fn log_found<R: Wait + Clock>(&mut self, rt: &R, alloc: Global, time: i64, text: &str) -> bool
+    /// Counts a piece that is below the level.
+    fn count_below(&mut self)
+        ensures { self.new ≡ below_by self.old.producer self.old }
+    {
+        self.below = self.below.wrapping_add(1);
+    }
+
+    /// Logs a piece where all is said that is missing before it, and answers what became of it.
+    fn log_found<R: Wait + Clock>(&mut self, rt: &R, alloc: Global, time: i64, text: &str) -> Fate
         requires { IsReady (length text.now) self.old }
         ensures found { LogsFound time text.now result self.old self.new }
         ensures same { IsSame self.old.producer self.new.producer }
@@ -97,8 +116,8 @@ impl PieceLog {
             .producer
             .log(rt, alloc, logger, level, time, text, None)
         {
-            Ok(reply) => is_kept(&reply),
-            Err(_) => false,
+            Ok(reply) => fate_of(&reply),
+            Err(_) => Fate::Missing,
         }
     }
 
@@ -120,22 +139,27 @@ impl PieceLog {
             .producer
             .log(rt, alloc, logger, level, time, text.as_str(), None)
         {
-            Ok(reply) if is_kept(&reply) => {
-                self.hole = 0;
-                Told::All
-            }
-            Ok(_) => Told::NoRoom,
+            Ok(reply) => match fate_of(&reply) {
+                Fate::Posted | Fate::Below => {
+                    self.hole = 0;
+                    Told::All
+                }
+                Fate::Missing => Told::NoRoom,
+            },
             Err(_) => Told::NoMemory,
         }
     }
 }
 
-/// Whether nothing of a message is missing: it was posted, or is below the logger's level.
-fn is_kept(reply: &LogReply) -> bool
-    ensures { result ≡ is_kept reply.now }
+/// What became of a message that was answered so.
+fn fate_of(reply: &LogReply) -> Fate
+    ensures { result ≡ fate_of reply.now }
 {
     match reply {
-        LogReply::Filtered { .. } => true,
-        LogReply::Logged { outcome, .. } => matches!(outcome, Outcome::Posted { .. }),
+        LogReply::Filtered { .. } => Fate::Below,
+        LogReply::Logged { outcome, .. } => match outcome {
+            Outcome::Posted { .. } => Fate::Posted,
+            Outcome::Discarded { .. } => Fate::Missing,
+        },
     }
 }

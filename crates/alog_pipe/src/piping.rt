@@ -31,6 +31,9 @@ pub struct Piped<S: Store> {
     /// line that says what is missing before them was not kept, and then they were not posted. Such a line is posted before the next
     /// piece, or at the end, unless there is no memory to write it; where it is below the level of the logger or of a sink, no file has it.
     pub missing: u64,
+    /// How many pieces were below the level that the logger had when they were logged, modulo 2^64: they were not posted, and are not
+    /// missing. Lines that say what is missing are none of them.
+    pub below: u64,
     /// Why the reader could not be read to its end, where it could not.
     pub fault: Option<io::Error>,
 }
@@ -101,6 +104,7 @@ fn pipe_through<R: Threads + Wait + Clock, S: Store + Drop + Send + 'static, I: 
         level,
         hole: 0,
         missing: 0,
+        below: 0,
     };
     let (log, counts, fault) = pump_all(rt, alloc, lines, log, input);
     let PieceLog {
@@ -109,6 +113,7 @@ fn pipe_through<R: Threads + Wait + Clock, S: Store + Drop + Send + 'static, I: 
         level: _,
         hole: _,
         missing,
+        below,
     } = log;
     back.push_reserved(producer);
     let report = end(rt, pool, back);
@@ -116,6 +121,7 @@ fn pipe_through<R: Threads + Wait + Clock, S: Store + Drop + Send + 'static, I: 
         report,
         counts,
         missing,
+        below,
         fault,
     })
 }

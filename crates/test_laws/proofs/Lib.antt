@@ -5,6 +5,7 @@ mod Dues
 mod Held
 mod OneText
 mod Posts
+mod PieceCounts
 mod Pieces
 mod Texts
 mod Opening

@@ -1,6 +1,6 @@
--- What the producer of a pipe put in, where nothing is missing in the end.
-use Rattle.std.proofs.Common.{◌≡◌, ◌⊎◌, ◌<◌, ◌≤◌, ◌+◌, ◌%◌, ◌^◌, ℕ, zero, suc, ℤ, Bool, true, false, None, List, [], ◌∷◌, ◌++◌, length, length-append}
-use Rattle.std.proofs.Common.{refl, sym, ap, subst, ◌∙◌, append_assoc, append-nil, inl, inr, mod-eq_of_lt, arith}
+-- What the producer of a pipe put in, where nothing is missing or below the level in the end.
+use Rattle.std.proofs.Common.{◌≡◌, ◌⊎◌, ◌<◌, ◌+◌, ◌%◌, ◌^◌, ℕ, zero, suc, ℤ, Bool, None, List, [], ◌∷◌, ◌++◌, length}
+use Rattle.std.proofs.Common.{refl, sym, ap, subst, ◌∙◌, append_assoc, append-nil, inl, inr, arith}
 use Rattle.std.specs.List.{AllByRecursion}
 use Rattle.alog_config.specs.Built.{EachIs}
 use Rattle.alog_core.specs.Accounts.{claims}
@@ -11,99 +11,39 @@ use Rattle.alog_msg.specs.declared.level.Level.{Level}
 use Rattle.alog_msg.specs.declared.level.Level.TheVariants.{Warning}
 use Rattle.alog_msg.specs.declared.message.Message.{Message}
 use Rattle.alog_pipe.specs.InTurn.{InTurn}
-use Rattle.alog_pipe.specs.Logged.{Flushes, HasNoRoom, LogsPiece, LogsPieceAt, LogsText, TellsHole, by, hole_text, is_kept, told_by}
+use Rattle.alog_pipe.specs.Logged.{Flushes, HasNoRoom, LogsPieceAt, LogsText, PostsPiece, hole_text}
 use Rattle.alog_pipe.specs.Piped.{Finishes, LogsAll, LogsRead, Naps, all_of}
 use Rattle.alog_policy.specs.declared.policy.Outcome.{Outcome}
 use Rattle.alog_policy.specs.declared.policy.Outcome.TheVariants.{Posted, Discarded}
 use Rattle.alog_pool.specs.OneWorker.{texts_in}
 use Rattle.alog_pool.specs.Producer.{ProducerView, IsSame}
 use Rattle.alog_registry.specs.Given.{message_with}
-use Rattle.alog_registry.specs.Logging.{IsLogged}
-use Rattle.alog_registry.specs.declared.logging.LogReply.{LogReply}
 use Rattle.alog_registry.specs.declared.logging.LogReply.TheVariants as reply
 use Rattle.alog_ring.proofs.SharedLists.{each_append}
-use Rattle.test_laws.specs.PipedLines.{Along, AllPass, IsOf, PassesAt, PieceLog, PiecePasses}
+use Rattle.test_laws.specs.PipedLines.{IsOf}
 use Rattle.test_laws.proofs.Claims.{Given}
 use Rattle.test_laws.proofs.Dues.{IsFor, texts_more}
+use Rattle.test_laws.proofs.PieceCounts.{CountsUp, HasRoom, LacksMemory, PieceLog, SameCounts, TellsAll}
+use Rattle.test_laws.proofs.PieceCounts.{equal_counts, group_counts, group_long, less_room, piece_counts, pieces_count, reads_count, room_behind, told_counts}
 use Rattle.test_laws.proofs.Posts.{post_claims, put_of}
-
--- what `Tells` says where all is told, and where there was no room or no memory for it
-abbrev TellsAll : ℤ → PieceLog → PieceLog → Type 0
-TellsAll time old new = ((old.hole ≡ 0) × (new ≡ old)) ⊎ ((0 < old.hole) × TellsHole time old new.producer × (new ≡ told_by new.producer old))
-
-abbrev LacksRoom : ℤ → PieceLog → PieceLog → Type 0
-LacksRoom time old new = (0 < old.hole) × HasNoRoom time old new.producer × (new ≡ by new.producer old)
-
-abbrev LacksMemory : PieceLog → PieceLog → Type 0
-LacksMemory old new = (0 < old.hole) × (new ≡ old)
 
 -- what the producer put in so far
 abbrev pub puts_by : PieceLog → List Given
 puts_by log = claims log.producer.pass.known.own
 
--- What is missing: it is counted up.
-abbrev UpTo : ℕ → PieceLog → PieceLog → Type 0
-UpTo n old new = (old.missing ≤ new.missing) × (new.missing ≤ old.missing + n)
+-- what was answered of a piece that was posted, and of a line for which there was no room
+posted_text : (time : ℤ) (text : List ℕ) (log : PieceLog) (p : ProducerView) → PostsPiece time text log p
+    → (t k : ℕ) × (kept : Bool) × LogsText log.logger log.level time text (reply.Logged (Posted t k) kept) log.producer p
+posted_text time text log p (reply.Filtered level kept, logged, is) = absurd (cc is)
+posted_text time text log p (reply.Logged (Posted t k) kept, logged, is) = (t, k, kept, logged)
+posted_text time text log p (reply.Logged (Discarded v why k) kept, logged, is) = absurd (cc is)
 
-none_more : (old new : PieceLog) → new.missing ≡ old.missing → UpTo 0 old new
-none_more old new same = (omega (arith, same), omega (arith, same))
-
-one_more : (old new : PieceLog) (m : ℕ) → m ≡ old.missing → new.missing ≡ (m + 1) % 2 ^ 64 → old.missing + 1 < 2 ^ 64 → UpTo 1 old new
-one_more old new m same is few =
-    let low : m + 1 < 2 ^ 64 = omega (arith, same, few) in
-    let next : (m + 1) % 2 ^ 64 ≡ m + 1 = mod-eq_of_lt low in
-    let more : new.missing ≡ m + 1 = is ∙ next in (omega (arith, same, more), omega (arith, same, more))
-
-told_missing : (time : ℤ) (old mid : PieceLog) → TellsAll time old mid → mid.missing ≡ old.missing
-told_missing time old mid (inl h) = ap (λ (l : PieceLog). l.missing) h.1
-told_missing time old mid (inr h) = ap (λ (l : PieceLog). l.missing) h.2
-
-untold_missing : (time : ℤ) (old mid : PieceLog) → LacksRoom time old mid ⊎ LacksMemory old mid → mid.missing ≡ old.missing
-untold_missing time old mid (inl h) = ap (λ (l : PieceLog). l.missing) h.2
-untold_missing time old mid (inr h) = ap (λ (l : PieceLog). l.missing) h.1
-
-piece_more : (time : ℤ) (text : List ℕ) (old mid new : PieceLog) → LogsPieceAt time text old mid new → old.missing + 1 < 2 ^ 64 → UpTo 1 old new
-piece_more time text old mid new (inl (tells, inl (kept, is))) few =
-    let same : new.missing ≡ old.missing = ap (λ (l : PieceLog). l.missing) is ∙ told_missing time old mid tells in
-    (omega (arith, same), omega (arith, same))
-piece_more time text old mid new (inl (tells, inr (lost, is))) few =
-    one_more old new mid.missing (told_missing time old mid tells) (ap (λ (l : PieceLog). l.missing) is) few
-piece_more time text old mid new (inr (untold, is)) few =
-    one_more old new mid.missing (untold_missing time old mid untold) (ap (λ (l : PieceLog). l.missing) is) few
-
-pieces_more : (time : ℤ) (ps : List Piece) (old new : PieceLog) → LogsAll time ps old new → old.missing + length ps < 2 ^ 64
-    → UpTo (length ps) old new
-pieces_more time [] old new same few = none_more old new (ap (λ (l : PieceLog). l.missing) same)
-pieces_more time (p ∷ ps) old new all few =
-    let first = piece_more time p.text old all.1.mid all.0 all.1.logged (omega (arith, few)) in
-    let rest = pieces_more time ps all.0 new all.2 (omega (arith, few, first.1)) in
-    (omega (arith, first.0, rest.0), omega (arith, first.1, rest.1))
-
-group_long : (ps : List Piece) (reads : List (List Piece)) → length (all_of (ps ∷ reads)) ≡ length ps + length (all_of reads)
-group_long ps reads = length-append ps (all_of reads)
-
-reads_more : (reads : List (List Piece)) (old new : PieceLog) → InTurn LogsRead reads old new → old.missing + length (all_of reads) < 2 ^ 64
-    → UpTo (length (all_of reads)) old new
-reads_more [] old new same few = none_more old new (ap (λ (l : PieceLog). l.missing) same)
-reads_more (ps ∷ reads) old new all few =
-    let long = group_long ps reads in
-    let first = pieces_more all.1.time ps old all.1.mid all.1.logged (omega (arith, few, long)) in
-    let flush : all.0.missing ≡ all.1.mid.missing = ap (λ (l : PieceLog). l.missing) all.1.flushed.rest in
-    let rest = reads_more reads all.0 new all.2 (omega (arith, few, long, first.1, flush)) in
-    (omega (arith, first.0, flush, rest.0), omega (arith, first.1, flush, rest.1, long))
-
--- what was answered of a text that is kept and was not below the level, and of one that is not kept
-kept_answer : (answer : LogReply) → is_kept answer ≡ true → IsLogged answer
-    → (t k : ℕ) × (kept : Bool) × (answer ≡ reply.Logged (Posted t k) kept)
-kept_answer (reply.Filtered level kept) is logged = absurd logged
-kept_answer (reply.Logged (Posted t k) kept) is logged = (t, k, kept, refl)
-kept_answer (reply.Logged (Discarded v why k) kept) is logged = let wrong : false ≡ true = is in absurd (cc wrong)
-
-lost_answer : (answer : LogReply) → is_kept answer ≡ false
-    → (o : Outcome (Unit {0})) × (kept : Bool) × (answer ≡ reply.Logged o kept) × ((x : Item) → put_of x o ≡ [])
-lost_answer (reply.Filtered level kept) is = let wrong : true ≡ false = is in absurd (cc wrong)
-lost_answer (reply.Logged (Posted t k) kept) is = let wrong : true ≡ false = is in absurd (cc wrong)
-lost_answer (reply.Logged (Discarded v why k) kept) is = (Discarded v why k, kept, refl, λ x. refl)
+lost_text : (time : ℤ) (log : PieceLog) (p : ProducerView) → HasNoRoom time log p
+    → (o : Outcome (Unit {0})) × (kept : Bool) × LogsText log.logger Warning time (hole_text log.hole) (reply.Logged o kept) log.producer p
+    × ((x : Item) → put_of x o ≡ [])
+lost_text time log p (reply.Filtered level kept, logged, is) = absurd (cc is)
+lost_text time log p (reply.Logged (Posted t k) kept, logged, is) = absurd (cc is)
+lost_text time log p (reply.Logged (Discarded v why k) kept, logged, is) = (Discarded v why k, kept, logged, λ x. refl)
 
 text_puts : {logger : ℕ} {level : Level} {time : ℤ} {text : List ℕ} {o : Outcome (Unit {0})} {kept : Bool} {old new : ProducerView}
     → LogsText logger level time text (reply.Logged o kept) old new
@@ -119,13 +59,30 @@ each_is_on R (p ∷ ps) qs [] ns first then = absurd first
 each_is_on R (p ∷ ps) qs (m ∷ ms) ns first then = (first.0, each_is_on R ps qs ms ns first.1 then)
 
 module _ (logger : ℕ) (level : Level) where
-  -- a pipe logs to this logger at this level, with a pool's first producer, and nothing is missing so far
+  -- a pipe logs to this logger at this level, with a pool's first producer, and nothing is missing or below the level so far
   pub record Stands (log : PieceLog) : Type 0 where
     pub logger_is : log.logger ≡ logger
     pub level_is : log.level ≡ level
     pub number_is : log.producer.number ≡ 0
     pub hole_is : log.hole ≡ 0
     pub missing_is : log.missing ≡ 0
+    pub below_is : log.below ≡ 0
+
+  -- the counts have room for as many as they can tell
+  room_of : (n : ℕ) {log : PieceLog} → Stands log → n < 2 ^ 64 → HasRoom n log
+  room_of n st few =
+      let missing = st.missing_is in
+      let below = st.below_is in
+      record { missing = omega (arith, missing, few); below = omega (arith, below, few) }
+
+  -- nothing is missing or below the level
+  abbrev IsClean : PieceLog → Type 0
+  IsClean log = (log.missing ≡ 0) × (log.below ≡ 0)
+
+  clean_before : {n : ℕ} {old new : PieceLog} → CountsUp n old new → IsClean new → IsClean old
+  clean_before up clean =
+      let missing = up.missing.0 in
+      let below = up.below.0 in (omega (arith, missing, clean.0), omega (arith, below, clean.1))
 
   -- for each of these pieces one text was put in, in order, beside flushes of the logger
   pub record Goes (ps : List Piece) (old new : PieceLog) : Type 0 where
@@ -158,14 +115,17 @@ module _ (logger : ℕ) (level : Level) where
   all_told time old mid (inl h) none = h.1
   all_told time old mid (inr h) none = absurd (omega (arith, h.0, none))
 
-  -- a piece, where none is missing behind it
-  piece_goes : (time : ℤ) (p : Piece) (old mid new : PieceLog) → Stands old → IsSame old.producer new.producer → new.missing ≡ 0
-      → (h : LogsPieceAt time p.text old mid new) → PassesAt time p.text old mid new h → Goes (p ∷ []) old new
-  piece_goes time p old mid new st same none (inl (tells, inl (kept, is))) passes =
+  one_more : (n : ℕ) → n ≡ 0 → (n + 1) % 2 ^ 64 ≡ 1
+  one_more n none = ap (λ m. (m + 1) % 2 ^ 64) none
+
+  -- a piece, where none is missing or below the level behind it
+  piece_goes : (time : ℤ) (p : Piece) (old mid new : PieceLog) → Stands old → IsSame old.producer new.producer → IsClean new
+      → LogsPieceAt time p.text old mid new → Goes (p ∷ []) old new
+  piece_goes time p old mid new st same clean (inl (tells, inl (posted, is))) =
       let first : mid ≡ old = all_told time old mid tells st.hole_is in
-      let answer = kept_answer kept.0 kept.2 passes in
-      let text = subst (λ (v : PieceLog × LogReply). LogsText v.0.logger v.0.level time p.text v.1 v.0.producer new.producer)
-      (λ i. (first i, answer.3 i)) kept.1 in
+      let answer = posted_text time p.text mid new.producer posted in
+      let text = subst (λ (l : PieceLog). LogsText l.logger l.level time p.text (reply.Logged (Posted answer.0 answer.1) answer.2) l.producer new.producer)
+      first answer.3 in
       let m : Message = message_with old.logger old.level time old.producer.number p.text None in
       record {
         stands = record {
@@ -173,31 +133,32 @@ module _ (logger : ℕ) (level : Level) where
           level_is = ap (λ (l : PieceLog). l.level) is ∙ ap (λ (l : PieceLog). l.level) first ∙ st.level_is;
           number_is = same.number ∙ st.number_is;
           hole_is = ap (λ (l : PieceLog). l.hole) is ∙ ap (λ (l : PieceLog). l.hole) first ∙ st.hole_is;
-          missing_is = none;
+          missing_is = clean.0;
+          below_is = clean.1;
         };
         puts = (answer.0, Text m) ∷ [];
         puts_are = text_puts text;
         texts = ((time, λ i. message_with (st.logger_is i) (st.level_is i) time (st.number_is i) p.text None), tt);
         own = (st.logger_is, tt);
       }
-  piece_goes time p old mid new st same none (inl (tells, inr (lost, is))) passes =
+  piece_goes time p old mid new st same clean (inl (tells, inr (inl (hidden, is)))) =
+      let more : new.below ≡ (mid.below + 1) % 2 ^ 64 = ap (λ (l : PieceLog). l.below) is in
+      let one = one_more mid.below ((told_counts time old mid tells).1 ∙ st.below_is) in absurd (omega (arith, more, one, clean.1))
+  piece_goes time p old mid new st same clean (inl (tells, inr (inr (lost, is)))) =
       let more : new.missing ≡ (mid.missing + 1) % 2 ^ 64 = ap (λ (l : PieceLog). l.missing) is in
-      let zero : mid.missing ≡ 0 = told_missing time old mid tells ∙ st.missing_is in
-      let one : (mid.missing + 1) % 2 ^ 64 ≡ 1 = ap (λ n. (n + 1) % 2 ^ 64) zero in absurd (omega (arith, more, one, none))
-  piece_goes time p old mid new st same none (inr (inl h, is)) passes = absurd (omega (arith, h.0, st.hole_is))
-  piece_goes time p old mid new st same none (inr (inr h, is)) passes = absurd (omega (arith, h.0, st.hole_is))
+      let one = one_more mid.missing ((told_counts time old mid tells).0 ∙ st.missing_is) in absurd (omega (arith, more, one, clean.0))
+  piece_goes time p old mid new st same clean (inr (inl h, is)) = absurd (omega (arith, h.0, st.hole_is))
+  piece_goes time p old mid new st same clean (inr (inr h, is)) = absurd (omega (arith, h.0, st.hole_is))
 
-  pieces_go : (time : ℤ) (ps : List Piece) (old new : PieceLog) (all : LogsAll time ps old new)
-      → Along {A = Piece} {S = PieceLog} (λ (p : Piece) s t. LogsPiece time p.text s t) (PiecePasses time) ps old new all
-      → Stands old → new.missing ≡ 0 → length ps < 2 ^ 64 → Goes ps old new
-  pieces_go time [] old new same passes st none few = goes_none st same
-  pieces_go time (p ∷ ps) old new all passes st none few =
-      let zero = st.missing_is in
-      let first = piece_more time p.text old all.1.mid all.0 all.1.logged (omega (arith, few, zero)) in
-      let rest = pieces_more time ps all.0 new all.2 (omega (arith, few, zero, first.1)) in
-      let here : all.0.missing ≡ 0 = omega (arith, rest.0, none) in
-      let goes = piece_goes time p old all.1.mid all.0 st all.1.same here all.1.logged passes.0 in
-      goes_on {ps = p ∷ []} {qs = ps} goes (pieces_go time ps all.0 new all.2 passes.1 goes.stands none (omega (arith, few)))
+  pieces_go : (time : ℤ) (ps : List Piece) (old new : PieceLog) → LogsAll time ps old new → Stands old → IsClean new → length ps < 2 ^ 64
+      → Goes ps old new
+  pieces_go time [] old new same st clean few = goes_none st same
+  pieces_go time (p ∷ ps) old new all st clean few =
+      let room = room_of (length (p ∷ ps)) st few in
+      let first = piece_counts time p.text old all.1.mid all.0 all.1.logged (less_room 1 room (omega arith)) in
+      let rest = pieces_count time ps all.0 new all.2 (room_behind (length ps) room first (omega arith)) in
+      let goes = piece_goes time p old all.1.mid all.0 st all.1.same (clean_before rest clean) all.1.logged in
+      goes_on {ps = p ∷ []} {qs = ps} goes (pieces_go time ps all.0 new all.2 goes.stands clean (omega (arith, few)))
 
   flush_texts : (k : ℕ) (o : Outcome (Unit {0})) → texts_in (put_of (Flush k) o) ≡ []
   flush_texts k (Posted t n) = refl
@@ -215,6 +176,7 @@ module _ (logger : ℕ) (level : Level) where
       number_is = f.same.number ∙ st.number_is;
       hole_is = ap (λ (l : PieceLog). l.hole) f.rest ∙ st.hole_is;
       missing_is = ap (λ (l : PieceLog). l.missing) f.rest ∙ st.missing_is;
+      below_is = ap (λ (l : PieceLog). l.below) f.rest ∙ st.below_is;
     };
     puts = put_of (Flush old.logger) f.outcome;
     puts_are = post_claims f.lent f.left f.post;
@@ -222,46 +184,46 @@ module _ (logger : ℕ) (level : Level) where
     own = flush_own old.logger f.outcome st.logger_is;
   }
 
-  -- all that was read, where nothing is missing in the end
-  pub reads_go : (reads : List (List Piece)) (old new : PieceLog) (all : InTurn LogsRead reads old new) → AllPass reads old new all → Stands old
-      → new.missing ≡ 0 → length (all_of reads) < 2 ^ 64 → Goes (all_of reads) old new
-  reads_go [] old new same passes st none few = goes_none st same
-  reads_go (ps ∷ reads) old new all passes st none few =
-      let zero = st.missing_is in
+  -- all that was read, where nothing is missing or below the level in the end
+  pub reads_go : (reads : List (List Piece)) (old new : PieceLog) → InTurn LogsRead reads old new → Stands old → IsClean new
+      → length (all_of reads) < 2 ^ 64 → Goes (all_of reads) old new
+  reads_go [] old new same st clean few = goes_none st same
+  reads_go (ps ∷ reads) old new all st clean few =
       let long = group_long ps reads in
-      let first = pieces_more all.1.time ps old all.1.mid all.1.logged (omega (arith, few, long, zero)) in
-      let flush : all.0.missing ≡ all.1.mid.missing = ap (λ (l : PieceLog). l.missing) all.1.flushed.rest in
-      let rest = reads_more reads all.0 new all.2 (omega (arith, few, long, zero, first.1, flush)) in
-      let here : all.1.mid.missing ≡ 0 = omega (arith, rest.0, none, flush) in
-      let pieces = pieces_go all.1.time ps old all.1.mid all.1.logged passes.0 st here (omega (arith, few, long)) in
+      let room = room_of (length (all_of (ps ∷ reads))) st few in
+      let first = group_counts all.1 (less_room (length ps) room (omega (arith, long))) in
+      let rest = reads_count reads all.0 new all.2 (room_behind (length (all_of reads)) room first (omega (arith, long))) in
+      let here = clean_before rest clean in
+      let missing : all.0.missing ≡ all.1.mid.missing = ap (λ (l : PieceLog). l.missing) all.1.flushed.rest in
+      let below : all.0.below ≡ all.1.mid.below = ap (λ (l : PieceLog). l.below) all.1.flushed.rest in
+      let pieces = pieces_go all.1.time ps old all.1.mid all.1.logged st (sym missing ∙ here.0, sym below ∙ here.1) (omega (arith, few, long)) in
       let flushed = flush_goes pieces.stands all.1.flushed in
-      goes_on {ps = ps} {qs = all_of reads} pieces (goes_on {ps = []} {qs = all_of reads} flushed (reads_go reads all.0 new all.2 passes.1 flushed.stands none (omega (arith, few, long))))
+      goes_on {ps = ps} {qs = all_of reads} pieces
+      (goes_on {ps = []} {qs = all_of reads} flushed (reads_go reads all.0 new all.2 flushed.stands clean (omega (arith, few, long))))
 
 -- What stays while the end waits for room, and what its last line leaves.
 naps_same : (n : ℕ) (time : ℤ) (old new : PieceLog) → Naps n time old new
-    → (new.missing ≡ old.missing) × (new.hole ≡ old.hole) × (puts_by new ≡ puts_by old)
-naps_same zero time old new same =
-    (ap (λ (l : PieceLog). l.missing) same, ap (λ (l : PieceLog). l.hole) same, ap (λ (l : PieceLog). puts_by l) same)
+    → SameCounts old new × (new.hole ≡ old.hole) × (puts_by new ≡ puts_by old)
+naps_same zero time old new same = (equal_counts same, ap (λ (l : PieceLog). l.hole) same, ap (λ (l : PieceLog). puts_by l) same)
 naps_same (suc n) time old new all =
     let mid = all.0 in
     let before = naps_same n time old mid all.1 in
-    let answer = lost_answer all.2.0 all.2.2 in
-    let text = subst (λ (v : LogReply). LogsText mid.logger Warning time (hole_text mid.hole) v mid.producer new.producer) answer.2 all.2.1 in
+    let answer = lost_text time mid new.producer all.2 in
     let x : Item = Text (message_with mid.logger Warning time mid.producer.number (hole_text mid.hole) None) in (
-      ap (λ (l : PieceLog). l.missing) all.3 ∙ before.0,
+      (ap (λ (l : PieceLog). l.missing) all.3 ∙ before.0.0, ap (λ (l : PieceLog). l.below) all.3 ∙ before.0.1),
       ap (λ (l : PieceLog). l.hole) all.3 ∙ before.1,
-      text_puts text ∙ ap (λ (is : List Given). puts_by mid ++ is) (answer.3 x) ∙ append-nil (puts_by mid) ∙ before.2,
+      text_puts answer.2 ∙ ap (λ (is : List Given). puts_by mid ++ is) (answer.3 x) ∙ append-nil (puts_by mid) ∙ before.2,
     )
 
 ends_same : (time : ℤ) (mid new : PieceLog) → TellsAll time mid new ⊎ LacksMemory mid new
-    → (new.missing ≡ mid.missing) × (mid.hole ≡ 0 → puts_by new ≡ puts_by mid)
-ends_same time mid new (inl (inl h)) = (ap (λ (l : PieceLog). l.missing) h.1, λ none. ap (λ (l : PieceLog). puts_by l) h.1)
-ends_same time mid new (inl (inr h)) = (ap (λ (l : PieceLog). l.missing) h.2, λ none. absurd (omega (arith, h.0, none)))
-ends_same time mid new (inr h) = (ap (λ (l : PieceLog). l.missing) h.1, λ none. ap (λ (l : PieceLog). puts_by l) h.1)
+    → SameCounts mid new × (mid.hole ≡ 0 → puts_by new ≡ puts_by mid)
+ends_same time mid new (inl (inl h)) = (equal_counts h.1, λ none. ap (λ (l : PieceLog). puts_by l) h.1)
+ends_same time mid new (inl (inr h)) = (told_counts time mid new (inr h), λ none. absurd (omega (arith, h.0, none)))
+ends_same time mid new (inr h) = (equal_counts h.1, λ none. ap (λ (l : PieceLog). puts_by l) h.1)
 
 pub finish_same : {time : ℤ} {old new : PieceLog} → Finishes time old new
-    → (new.missing ≡ old.missing) × (old.hole ≡ 0 → puts_by new ≡ puts_by old)
+    → SameCounts old new × (old.hole ≡ 0 → puts_by new ≡ puts_by old)
 finish_same {time} {old} {new} f =
     let naps = naps_same f.tries time old f.mid f.naps in
     let last = ends_same time f.mid new f.last in
-    (last.0 ∙ naps.0, λ none. last.1 (naps.1 ∙ none) ∙ naps.2)
+    ((last.0.0 ∙ naps.0.0, last.0.1 ∙ naps.0.1), λ none. last.1 (naps.1 ∙ none) ∙ naps.2)

@@ -24,12 +24,13 @@ use Rattle.alog_registry.specs.Listed.{spec_at}
 use Rattle.alog_registry.specs.declared.logger.Logger.{Logger}
 use Rattle.alog_sink.specs.Files.{Files}
 use Rattle.alog_sink.specs.declared.sink.Sink.{Sink}
-use Rattle.test_laws.specs.PipedLines.{FlowsTo, HoldsPieces, PieceLog}
+use Rattle.test_laws.specs.PipedLines.{FlowsTo, HoldsPieces}
 use Rattle.test_laws.proofs.Bounds.{took_none}
 use Rattle.test_laws.proofs.Claims.{Given}
 use Rattle.test_laws.proofs.Dues.{IsFor}
 use Rattle.test_laws.proofs.Held.{EndsAlone, Held, texts_held}
 use Rattle.test_laws.proofs.Opening.{Fills, at_map, stands_over}
+use Rattle.test_laws.proofs.PieceCounts.{PieceLog}
 use Rattle.test_laws.proofs.Texts.{copied}
 use Rattle.test_laws.proofs.Pieces.{Goes, Stands, finish_same, puts_by, reads_go}
 
@@ -45,6 +46,7 @@ module _ {S : Type 0} (tells : Bool) (files : S → Files) (failures : S → ℕ
     number_is = h.through.makes.number ∙ h.starts.made;
     hole_is = refl;
     missing_is = refl;
+    below_is = refl;
   })
 
   put_nothing : puts_by h.through.pumps.start.log ≡ []
@@ -66,14 +68,16 @@ module _ {S : Type 0} (tells : Bool) (files : S → Files) (failures : S → ℕ
         subst (λ (o : Option (List ℕ)). IfSome o (λ (given : List ℕ). all_of reads ≡ pieces_of c.text given)) f.had
         (Consumes-whole before after pumps.bytes (λ (given : List ℕ). all_of reads ≡ pieces_of c.text given) pumps.taken end.0 end.1)
 
-    none_missing : h.through.pumps.last.log.missing ≡ 0
-    none_missing = sym (finish_same h.through.pumps.finished).0 ∙ sym h.through.missing ∙ f.none_missing
+    none_missing : (h.through.pumps.last.log.missing ≡ 0) × (h.through.pumps.last.log.below ≡ 0)
+    none_missing =
+        let same = (finish_same h.through.pumps.finished).0 in
+        (sym same.0 ∙ sym h.through.missing ∙ f.none_missing, sym same.1 ∙ sym h.through.below ∙ f.none_below)
 
     goes : Goes logger level (pieces_of c.text bytes) h.through.pumps.start.log h.through.pumps.last.log
     goes =
         let few = subst (λ (ps : List Piece). length ps < 2 ^ 64) (sym pieces_are) f.few in
         subst (λ (ps : List Piece). Goes logger level ps h.through.pumps.start.log h.through.pumps.last.log) pieces_are
-        (reads_go logger level reads h.through.pumps.start.log h.through.pumps.last.log h.through.pumps.pumps.logged f.passes begins none_missing few)
+        (reads_go logger level reads h.through.pumps.start.log h.through.pumps.last.log h.through.pumps.pumps.logged begins none_missing few)
 
     puts_are : puts_by h.through.log ≡ goes.puts
     puts_are = (finish_same h.through.pumps.finished).1 goes.stands.hole_is ∙ goes.puts_are ∙ ap (λ (is : List Given). is ++ goes.puts) put_nothing

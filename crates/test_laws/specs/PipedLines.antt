@@ -1,6 +1,5 @@
 -- What a sink holds of the lines that a pipe logged.
 use Rattle.std.specs.Prelude.{◌≡◌, ◌≤◌, ◌<◌, ◌^◌, ◌==◌, ℕ, ℤ, Bool, true, Option, None, Some, is_none, List, [], ◌∷◌, ◌++◌, count_by, length, slice_get}
-use Rattle.std.proofs.Common.{inl, inr}
 use Rattle.std.specs.List.{AllByRecursion, concat, flat_map}
 use Rattle.std.specs.Str.{IsUtf8}
 use Rattle.alog_config.specs.Built.{EachIs}
@@ -11,15 +10,11 @@ use Rattle.alog_msg.specs.declared.level.Level.{Level}
 use Rattle.alog_msg.specs.declared.message.Message.{Message}
 use Rattle.alog_pattern.specs.declared.flags.Flag.TheVariants.{Text}
 use Rattle.alog_pattern.specs.declared.items.Item.TheVariants.{Flag}
-use Rattle.alog_pipe.specs.InTurn.{InTurn}
-use Rattle.alog_pipe.specs.Logged.{LogsPiece, LogsPieceAt, by}
-use Rattle.alog_pipe.specs.Piped.{LogsRead}
 use Rattle.alog_pipe.specs.Pipes.{Pipes}
 use Rattle.alog_pipe.specs.declared.piping.Piped.{Piped}
 use Rattle.alog_pool.specs.OneWorker.{HoldsMore}
 use Rattle.alog_registry.specs.Given.{message_with}
 use Rattle.alog_registry.specs.Listed.{spec_at}
-use Rattle.alog_registry.specs.Logging.{IsLogged}
 use Rattle.alog_registry.specs.declared.logger.Spec.{Spec}
 use Rattle.alog_sink.specs.Files.{Files, bytes_of}
 use Rattle.alog_sink.specs.Lines.{admits}
@@ -31,39 +26,9 @@ use Rattle.alog_sink.specs.declared.sink.Sink.TheVariants.{Leaf}
 use Rattle.alog_sink.specs.declared.target.Target.{Target}
 use Rattle.alog_sink.specs.declared.target.Target.TheVariants.{Daily, Memory, Rotating}
 
--- What a pipe logs with. Its crate has no name for others to call this type by: it is the one that `by` takes.
-abbrev pub second_of : {A B C : Type 0} → (A → B → C) → Type 0
-second_of {A} {B} {C} f = B
-
-abbrev pub PieceLog : Type 0
-PieceLog = second_of by
-
 -- a message of this logger and level, of the pool's first thread, with exactly this piece's text; its time is some
 abbrev pub IsOf : ℕ → Level → Piece → Message → Type 0
 IsOf logger level p m = (time : ℤ) × (m ≡ message_with logger level time 0 p.text None)
-
--- a piece that is kept was posted, and so was not below the level that its logger had then
-abbrev pub PassesAt : (time : ℤ) (text : List ℕ) (old mid new : PieceLog) → LogsPieceAt time text old mid new → Type 0
-PassesAt time text old mid new (inl (told, inl keeps)) = IsLogged keeps.0.0
-PassesAt time text old mid new (inl (told, inr loses)) = Unit {0}
-PassesAt time text old mid new (inr missed) = Unit {0}
-
--- each of these deeds, one after the other, is such
-abbrev pub Along : {A S : Type 0} (step : A → S → S → Type 0) (Is : (x : A) (s t : S) → step x s t → Type 0) (xs : List A) (s t : S)
-    → InTurn step xs s t → Type 0
-Along step Is [] s t done = Unit {0}
-Along step Is (x ∷ xs) s t done = Is x s done.0 done.1 × Along step Is xs done.0 t done.2
-
-abbrev pub PiecePasses : (time : ℤ) (p : Piece) (old new : PieceLog) → LogsPiece time p.text old new → Type 0
-PiecePasses time p old new l = PassesAt time p.text old l.mid new l.logged
-
-abbrev pub GroupPasses : (ps : List Piece) (old new : PieceLog) → LogsRead ps old new → Type 0
-GroupPasses ps old new r =
-    Along {A = Piece} {S = PieceLog} (λ (p : Piece) s t. LogsPiece r.time p.text s t) (PiecePasses r.time) ps old r.mid r.logged
-
--- no piece that is kept was below the level that its logger had when it was logged
-abbrev pub AllPass : (reads : List (List Piece)) (old new : PieceLog) → InTurn LogsRead reads old new → Type 0
-AllPass reads old new logged = Along LogsRead GroupPasses reads old new logged
 
 -- the texts of these pieces, each with a newline
 abbrev pub text_lines : List Piece → List ℕ
@@ -119,8 +84,8 @@ module _ {S : Type 0} (files : S → Files) where
 
 module _ {S : Type 0} (tells : Bool) (files : S → Files) (failures : S → ℕ) where
   -- A pipe, by this account of it, of a reader that had these bytes and was read to its end: through a pool of one worker, to a logger
-  -- among whose sinks that of this number stands once. The store of that sink tells its files, and no turn there met a fault. No piece is
-  -- missing, nothing was overrun, and no piece was below the level that the logger had when it was logged.
+  -- among whose sinks that of this number stands once. The store of that sink tells its files, and no turn there met a fault. It counts that
+  -- no piece is missing, that none was below the level that the logger had when it was logged, and that nothing was overrun.
   pub record FlowsTo (n : ℕ) (bytes : List ℕ) {c : Config} {stores : List S} {logger : ℕ} {level : Level} {before after : Option (List ℕ)}
       {p : Piped S} (h : Pipes tells files failures c stores logger level before after p) : Type 0 where
     pub had : before ≡ Some bytes
@@ -133,5 +98,5 @@ module _ {S : Type 0} (tells : Bool) (files : S → Files) (failures : S → ℕ
     pub told : tells ≡ true
     pub faultless : slice_get p.report.faults.items n ≡ Some 0
     pub none_missing : p.missing ≡ 0
+    pub none_below : p.below ≡ 0
     pub none_overrun : p.report.totals.overrun ≡ 0
-    pub passes : AllPass h.through.pumps.pumps.reads h.through.pumps.start.log h.through.pumps.last.log h.through.pumps.pumps.logged

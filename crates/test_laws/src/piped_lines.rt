@@ -16,9 +16,9 @@ use std::sync::Wait;
 use std::thread::Threads;
 use std::time::Clock;
 
-/// Logs each line of a reader, as `pipe` does, which answers for it. Where its pool has one worker, the reader came to its end, no piece of a
-/// line is missing or was below the logger's level, and nothing was overrun, each sink of the logger where no turn met a fault and whose
-/// store tells its files holds, behind what it held, exactly one message for each piece of the reader's lines, in their order, with their
+/// Logs each line of a reader, as `pipe` does, which answers for it. Where its pool has one worker, the reader came to its end, and the
+/// answer counts no piece of a line that is missing or was below the logger's level, and nothing overrun, each sink of the logger where no
+/// turn met a fault and whose store tells its files holds, behind what it held, exactly one message for each piece of the reader's lines, in their order, with their
 /// texts, of this logger and level. If it is no fan it was opened over one of the stores, and its files are those of that store with the
 /// lines of these messages. Where these are the texts alone, its file, or the runs of its files one behind the other, are what was there
 /// and then these texts; and where the reader's lines are short and in UTF-8, these are the reader's bytes.

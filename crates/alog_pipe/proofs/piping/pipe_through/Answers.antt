@@ -22,6 +22,7 @@ returns-clause-piped g c =
       log = c.pump_all-log.result.0;
       pumps = c.pump_all-log.ensures;
       missing = refl;
+      below = refl;
       ends = subst (λ (l : List ProducerView). Ends g.S.Store.tells g.S.Store.files g.S.Store.failures c.producer.new.self l c.end-report.result)
           back c.end-report.ensures;
     }

@@ -8,7 +8,7 @@ pub returns-in-Ok-clause-found : goal.returns-in-Ok-clause-found
 returns-in-Ok-clause-found g c =
     let old = c.args.self.now in
     let s = spec_there old.producer.shared.loggers old.logger c.requires.0 in
-    found_of c.args.time c.args.text.now old c.log.new.self c.in-Ok.reply c.is_kept.result c.is_kept.ensures (record {
+    found_of c.args.time c.args.text.now old c.log.new.self c.in-Ok.reply c.fate_of.result c.fate_of.ensures (record {
       spec = s.0;
       found = s.1;
       log = simp (to_z-of_z, c.ranges.time) at (c.in-Ok.ensures.logs s.0 s.1);
