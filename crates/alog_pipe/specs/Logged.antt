@@ -25,12 +25,14 @@ use Rattle.alog_registry.specs.declared.logger.Spec.{Spec}
 use Rattle.alog_registry.specs.declared.logging.LogReply.{LogReply}
 use Rattle.alog_registry.specs.declared.logging.LogReply.TheVariants as reply
 
--- The producer logged this text to the logger of this number, at this level and time, and was answered so.
+-- The producer logged this text to the logger of this number, at this level and time, and was answered so. It stays the same producer, of the
+-- same loggers.
 pub record LogsText (logger : ℕ) (level : Level) (time : ℤ) (text : List ℕ) (answer : LogReply) (old new : ProducerView) : Type 0 where
   pub spec : Spec
   pub found : spec_at old.shared.loggers logger ≡ Some spec
   pub log : Lent old new logger (λ p k q l. Logs SwapDid KeepsByTurn NeverPasses spec.policy spec
       (message_with logger level time old.number text None) p k answer q l)
+  pub same : IsSame old new
 
 -- what became of a text that was answered so
 abbrev pub fate_of : LogReply → Fate

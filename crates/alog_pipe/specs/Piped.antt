@@ -6,7 +6,7 @@ use Rattle.alog_lines.specs.Cutting.{Cutting, HasCut, IsSame as IsSameCut, Lacks
 use Rattle.alog_lines.specs.Pieces.{Piece, pieces_of}
 use Rattle.alog_pipe.specs.Counted.{counted}
 use Rattle.alog_pipe.specs.InTurn.{InTurn}
-use Rattle.alog_pipe.specs.Logged.{Flushes, HasNoRoom, LogsPiece, Tells, by}
+use Rattle.alog_pipe.specs.Logged.{Flushes, LogsPiece, Tells}
 use Rattle.alog_pipe.specs.declared.counts.Counts.{Counts}
 use Rattle.alog_pipe.specs.declared.piece_log.PieceLog.{PieceLog}
 use Rattle.alog_pipe.specs.declared.piece_log.Told.TheVariants as told
@@ -74,11 +74,10 @@ pub record Pumps (limit : ℕ) (before after : Option (List ℕ)) (all : Bool) (
   pub end : all ≡ true → IsAtEnd after × (all_of reads ≡ pieces_of limit bytes)
   pub counted_is : new.counts ≡ counted (all_of reads) old.counts
 
--- So often there was no room for the line that says how many pieces are missing.
+-- So often some pieces were missing, and there was no room for the line that says how many.
 abbrev pub Naps : ℕ → ℤ → PieceLog → PieceLog → Type 0
 Naps zero time old new = new ≡ old
-Naps (suc n) time old new =
-    (mid : PieceLog) × Naps n time old mid × HasNoRoom time mid new.producer × (new ≡ by new.producer mid)
+Naps (suc n) time old new = (mid : PieceLog) × Naps n time old mid × Tells time told.NoRoom mid new
 
 -- Then it was logged and kept, or there was no memory for it; or none was missing.
 pub record Finishes (time : ℤ) (old new : PieceLog) : Type 0 where

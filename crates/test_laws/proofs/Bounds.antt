@@ -96,3 +96,11 @@ module _ {S : Type 0} (tells : Bool) (files : S → Files) (failures : S → ℕ
       let sum : sum_by took_out (p ∷ []) ≡ taken of_all p.pass.known.own = omega (arith, single) in
       let rest : taken of_all p.pass.known.own % 2 ^ 64 ≡ 0 = ap (λ n. n % 2 ^ 64) (sym sum) ∙ sym ends.totals.overrun ∙ none in
       weigh_none (takes p.pass.known.own) (sym (mod-eq_of_lt low) ∙ rest)
+
+  -- and where it took nothing out, the report tells that nothing was overrun
+  pub none_overrun : takes p.pass.known.own ≡ [] → r.totals.overrun ≡ 0
+  none_overrun none =
+      let single : sum_by took_out (p ∷ []) ≡ took_out p + sum_by took_out [] = sum_by-cons took_out p [] in
+      let zero : took_out p ≡ 0 = ap (λ (ps : List (ℕ × Item)). weigh of_all ps) none in
+      let sum : sum_by took_out (p ∷ []) ≡ 0 = omega (arith, single, zero) in
+      ends.totals.overrun ∙ ap (λ n. n % 2 ^ 64) sum

@@ -6,6 +6,7 @@ mod Held
 mod OneText
 mod Posts
 mod PieceCounts
+mod Overruns
 mod Pieces
 mod Texts
 mod Opening

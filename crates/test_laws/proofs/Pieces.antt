@@ -208,10 +208,10 @@ naps_same zero time old new same = (equal_counts same, ap (λ (l : PieceLog). l.
 naps_same (suc n) time old new all =
     let mid = all.0 in
     let before = naps_same n time old mid all.1 in
-    let answer = lost_text time mid new.producer all.2 in
+    let answer = lost_text time mid new.producer all.2.1 in
     let x : Item = Text (message_with mid.logger Warning time mid.producer.number (hole_text mid.hole) None) in (
-      (ap (λ (l : PieceLog). l.missing) all.3 ∙ before.0.0, ap (λ (l : PieceLog). l.below) all.3 ∙ before.0.1),
-      ap (λ (l : PieceLog). l.hole) all.3 ∙ before.1,
+      (ap (λ (l : PieceLog). l.missing) all.2.2 ∙ before.0.0, ap (λ (l : PieceLog). l.below) all.2.2 ∙ before.0.1),
+      ap (λ (l : PieceLog). l.hole) all.2.2 ∙ before.1,
       text_puts answer.2 ∙ ap (λ (is : List Given). puts_by mid ++ is) (answer.3 x) ∙ append-nil (puts_by mid) ∙ before.2,
     )
 

@@ -1,11 +1,11 @@
 -- From what a pipe logged to what its sink holds.
-use Rattle.std.proofs.Common.{◌≡◌, ◌<◌, ◌^◌, ℕ, Bool, Option, Some, Result, Ok, Err, List, [], ◌++◌, map, length}
+use Rattle.std.proofs.Common.{◌≡◌, ◌≢◌, ◌<◌, ◌^◌, ℕ, Bool, Option, Some, Result, Ok, Err, List, [], ◌++◌, map, length}
 use Rattle.std.proofs.Common.{refl, sym, ap, subst, ◌∙◌}
 use Rattle.std.proofs.KnownBytes.{Consumes-whole}
 use Rattle.std.specs.Prelude.{IfOk, IfSome, slice_get}
 use Rattle.std.specs.List.{AllByRecursion}
 use Rattle.alog_config.specs.declared.config.Config.{Config}
-use Rattle.alog_core.specs.Accounts.{claims}
+use Rattle.alog_core.specs.Accounts.{claims, takes}
 use Rattle.alog_core.specs.History.{Entry}
 use Rattle.alog_lane.specs.Calls.{LaneId}
 use Rattle.alog_lines.specs.Laws.{ShortLinesAreWhole}
@@ -15,6 +15,8 @@ use Rattle.alog_msg.specs.declared.level.Level.{Level}
 use Rattle.alog_pipe.specs.Piped.{all_of}
 use Rattle.alog_pipe.specs.Pipes.{Pipes}
 use Rattle.alog_pipe.specs.declared.piping.Piped.{Piped}
+use Rattle.alog_policy.specs.declared.policy.Policy.{Policy}
+use Rattle.alog_policy.specs.declared.policy.Policy.TheVariants.{Block, DiscardNew, OverrunOldest}
 use Rattle.alog_pool.specs.OneWorker.{OneWorkerWritesInOrder, texts_in}
 use Rattle.alog_pool.specs.Pool.{lanes_of}
 use Rattle.alog_pool.specs.declared.shared.Shared.{Shared}
@@ -22,17 +24,25 @@ use Rattle.alog_pool.specs.declared.worker.Worker.{Worker}
 use Rattle.alog_registry.specs.BlockPort.{block_note}
 use Rattle.alog_registry.specs.Listed.{spec_at}
 use Rattle.alog_registry.specs.declared.logger.Logger.{Logger}
+use Rattle.alog_registry.specs.declared.logger.Spec.{Spec}
 use Rattle.alog_sink.specs.Files.{Files}
 use Rattle.alog_sink.specs.declared.sink.Sink.{Sink}
-use Rattle.test_laws.specs.PipedLines.{FlowsTo, HoldsPieces}
-use Rattle.test_laws.proofs.Bounds.{took_none}
+use Rattle.test_laws.specs.PipedLines.{FlowsTo, HoldsPieces, OverrunsNone}
+use Rattle.test_laws.proofs.Bounds.{none_overrun, took_none}
 use Rattle.test_laws.proofs.Claims.{Given}
 use Rattle.test_laws.proofs.Dues.{IsFor}
 use Rattle.test_laws.proofs.Held.{EndsAlone, Held, texts_held}
 use Rattle.test_laws.proofs.Opening.{Fills, at_map, stands_over}
+use Rattle.test_laws.proofs.Overruns.{IsWith, finish_spares, reads_spare, takes_by_now}
 use Rattle.test_laws.proofs.PieceCounts.{PieceLog}
 use Rattle.test_laws.proofs.Texts.{copied}
 use Rattle.test_laws.proofs.Pieces.{Goes, Stands, finish_same, puts_by, reads_go}
+
+-- what is so under the policy that overruns the oldest, and under each other one
+by_policy : {P : Type 0} (q : Policy) → (q ≡ OverrunOldest → P) → (q ≢ OverrunOldest → P) → P
+by_policy Block over other = other (λ e. absurd (cc e))
+by_policy OverrunOldest over other = over refl
+by_policy DiscardNew over other = other (λ e. absurd (cc e))
 
 module _ {S : Type 0} (tells : Bool) (files : S → Files) (failures : S → ℕ) {c : Config} {stores : List S} {logger : ℕ} {level : Level}
     {before after : Option (List ℕ)} {p : Piped S} (h : Pipes tells files failures c stores logger level before after p) where
@@ -53,8 +63,28 @@ module _ {S : Type 0} (tells : Bool) (files : S → Files) (failures : S → ℕ
   put_nothing = ap (λ (l : PieceLog). puts_by l) h.through.pumps.log_is
       ∙ ap (λ (own : List (Entry Item block_note)). claims own) h.through.makes.entries.0
 
+  begun_loggers : h.through.begun.shared.loggers ≡ h.setup.loggers
+  begun_loggers = ap (λ (v : Shared). v.loggers) h.through.makes.shared ∙ h.starts.loggers
+
   loggers_are : h.through.pool.shared.loggers ≡ h.setup.loggers
   loggers_are = ap (λ (v : Shared). v.loggers) h.through.makes.same.0 ∙ h.starts.loggers
+
+  -- what a logger that does not overrun the oldest takes out, and what is overrun by it
+  module _ (spec : Spec) (found : spec_at h.setup.loggers logger ≡ Some spec) (never : spec.policy ≢ OverrunOldest) where
+    took_nothing : takes h.through.log.producer.pass.known.own ≡ []
+    took_nothing =
+        let start : IsWith spec never h.through.pumps.start.log =
+        subst (λ (l : PieceLog). IsWith spec never l) (sym h.through.pumps.log_is)
+        (subst (λ (ls : List Logger). spec_at ls logger ≡ Some spec) (sym begun_loggers) found) in
+        let none : takes_by_now h.through.pumps.start.log ≡ [] =
+        ap (λ (l : PieceLog). takes_by_now l) h.through.pumps.log_is
+        ∙ ap (λ (own : List (Entry Item block_note)). takes own) h.through.makes.entries.0 in
+        let read = reads_spare spec never reads h.through.pumps.start.log h.through.pumps.last.log h.through.pumps.pumps.logged start in
+        let ended = finish_spares spec never h.through.pumps.finished read.0 in
+        ended.1 ∙ read.1 ∙ none
+
+  pub overruns_none : OverrunsNone tells files failures h
+  overruns_none spec found never = none_overrun tells files failures h.through.ends (took_nothing spec found never)
 
   sinks_are : map (λ (l : LaneId (Sink S)). l.first) (lanes_of h.through.pool.sink_seats) ≡ h.setup.sinks.items
   sinks_are = ap (λ (ls : List (LaneId (Sink S))). map (λ (l : LaneId (Sink S)). l.first) ls) h.through.makes.lanes ∙ h.starts.sinks
@@ -90,7 +120,7 @@ module _ {S : Type 0} (tells : Bool) (files : S → Files) (failures : S → ℕ
       found = subst (λ (ls : List Logger). spec_at ls logger ≡ Some f.spec) (sym loggers_are) f.found;
       once = f.once;
       own = subst (λ (is : List Given). AllByRecursion (λ (i : Given). IsFor logger i.1) is) (sym puts_are) goes.own;
-      took = took_none tells files failures h.through.ends f.none_overrun;
+      took = by_policy f.spec.policy (λ over. took_none tells files failures h.through.ends (f.none_overrun over)) (took_nothing f.spec f.found);
       told = f.told;
       faultless = f.faultless;
     }

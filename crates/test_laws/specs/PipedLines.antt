@@ -1,5 +1,5 @@
 -- What a sink holds of the lines that a pipe logged.
-use Rattle.std.specs.Prelude.{◌≡◌, ◌≤◌, ◌<◌, ◌^◌, ◌==◌, ℕ, ℤ, Bool, true, Option, None, Some, is_none, List, [], ◌∷◌, ◌++◌, count_by, length, slice_get}
+use Rattle.std.specs.Prelude.{◌≡◌, ◌≢◌, ◌≤◌, ◌<◌, ◌^◌, ◌==◌, ℕ, ℤ, Bool, true, Option, None, Some, is_none, List, [], ◌∷◌, ◌++◌, count_by, length, slice_get}
 use Rattle.std.specs.List.{AllByRecursion, concat, flat_map}
 use Rattle.std.specs.Str.{IsUtf8}
 use Rattle.alog_config.specs.Built.{EachIs}
@@ -12,6 +12,7 @@ use Rattle.alog_pattern.specs.declared.flags.Flag.TheVariants.{Text}
 use Rattle.alog_pattern.specs.declared.items.Item.TheVariants.{Flag}
 use Rattle.alog_pipe.specs.Pipes.{Pipes}
 use Rattle.alog_pipe.specs.declared.piping.Piped.{Piped}
+use Rattle.alog_policy.specs.declared.policy.Policy.TheVariants.{OverrunOldest}
 use Rattle.alog_pool.specs.OneWorker.{HoldsMore}
 use Rattle.alog_registry.specs.Given.{message_with}
 use Rattle.alog_registry.specs.Listed.{spec_at}
@@ -83,9 +84,16 @@ module _ {S : Type 0} (files : S → Files) where
     pub whole : AreTexts limit bytes → text_lines (pieces_of limit bytes) ≡ bytes
 
 module _ {S : Type 0} (tells : Bool) (files : S → Files) (failures : S → ℕ) where
+  -- Where the logger of a pipe does not overrun the oldest, nothing was overrun, whatever is missing.
+  abbrev pub OverrunsNone : {c : Config} {stores : List S} {logger : ℕ} {level : Level} {before after : Option (List ℕ)} {p : Piped S}
+      → Pipes tells files failures c stores logger level before after p → Type 0
+  OverrunsNone {logger = logger} {p = p} h =
+      (s : Spec) → spec_at h.setup.loggers logger ≡ Some s → s.policy ≢ OverrunOldest → p.report.totals.overrun ≡ 0
+
   -- A pipe, by this account of it, of a reader that had these bytes and was read to its end: through a pool of one worker, to a logger
   -- among whose sinks that of this number stands once. The store of that sink tells its files, and no turn there met a fault. It counts that
-  -- no piece is missing, that none was below the level that the logger had when it was logged, and that nothing was overrun.
+  -- no piece is missing, that none was below the level that the logger had when it was logged, and, where the logger overruns the oldest, that
+  -- nothing was overrun.
   pub record FlowsTo (n : ℕ) (bytes : List ℕ) {c : Config} {stores : List S} {logger : ℕ} {level : Level} {before after : Option (List ℕ)}
       {p : Piped S} (h : Pipes tells files failures c stores logger level before after p) : Type 0 where
     pub had : before ≡ Some bytes
@@ -99,4 +107,4 @@ module _ {S : Type 0} (tells : Bool) (files : S → Files) (failures : S → ℕ
     pub faultless : slice_get p.report.faults.items n ≡ Some 0
     pub none_missing : p.missing ≡ 0
     pub none_below : p.below ≡ 0
-    pub none_overrun : p.report.totals.overrun ≡ 0
+    pub none_overrun : spec.policy ≡ OverrunOldest → p.report.totals.overrun ≡ 0

@@ -2,7 +2,7 @@
 ghost use Rattle.std.specs.Prelude.{◌≡◌, ◌<◌, ℕ, IfOk, List, count_by, length};
 ghost use Rattle.alog_config.specs.Sinks.{is_leaf};
 ghost use Rattle.alog_pipe.specs.Pipes.{Pipes};
-ghost use Rattle.test_laws.specs.PipedLines.{FlowsTo, HoldsPieces};
+ghost use Rattle.test_laws.specs.PipedLines.{FlowsTo, HoldsPieces, OverrunsNone};
 
 use alog_config::{BuildError, Config};
 use alog_lines::laws::short_lines_are_whole;
@@ -17,11 +17,13 @@ use std::thread::Threads;
 use std::time::Clock;
 
 /// Logs each line of a reader, as `pipe` does, which answers for it. Where its pool has one worker, the reader came to its end, and the
-/// answer counts no piece of a line that is missing or was below the logger's level, and nothing overrun, each sink of the logger where no
-/// turn met a fault and whose store tells its files holds, behind what it held, exactly one message for each piece of the reader's lines, in their order, with their
-/// texts, of this logger and level. If it is no fan it was opened over one of the stores, and its files are those of that store with the
-/// lines of these messages. Where these are the texts alone, its file, or the runs of its files one behind the other, are what was there
-/// and then these texts; and where the reader's lines are short and in UTF-8, these are the reader's bytes.
+/// answer counts no piece of a line that is missing or was below the logger's level, each sink of the logger where no turn met a fault and
+/// whose store tells its files holds, behind what it held, exactly one message for each piece of the reader's lines, in their order, with
+/// their texts, of this logger and level. If it is no fan it was opened over one of the stores, and its files are those of that store with
+/// the lines of these messages. Where these are the texts alone, its file, or the runs of its files one behind the other, are what was
+/// there and then these texts; and where the reader's lines are short and in UTF-8, these are the reader's bytes.
+///
+/// Where the logger overruns the oldest, this is so if nothing was overrun; under the other policies nothing is, whatever is missing.
 pub fn pipe_lines<R, S, I>(
     rt: &R,
     alloc: Global,
@@ -39,6 +41,8 @@ where
     requires known { logger < length config.now.loggers.items }
     ensures piped { IfOk result (λ p. Pipes S.tells S.files S.failures config.now stores.items logger level (I.remaining input.old)
         (I.remaining input.new) p) }
+    ensures spared { IfOk result (λ p. (h : Pipes S.tells S.files S.failures config.now stores.items logger level (I.remaining input.old)
+        (I.remaining input.new) p) → OverrunsNone S.tells S.files S.failures h) }
     ensures held { IfOk result (λ p. (h : Pipes S.tells S.files S.failures config.now stores.items logger level (I.remaining input.old)
         (I.remaining input.new) p) (n : ℕ) (bytes : List ℕ) → FlowsTo S.tells S.files S.failures n bytes h
         → HoldsPieces S.files logger level n stores.items h.setup.sinks.items p.report.sinks.items config.now.text bytes) }

@@ -1,5 +1,9 @@
-use Rattle.test_laws.proofs.PipedLines.{lines_held, on_ok}
+use Rattle.test_laws.proofs.PipedLines.{lines_held, on_ok, overruns_none}
 use Rattle.test_laws.proofs.piped_lines.pipe_lines.Goals as goal
+
+pub returns-clause-spared : goal.returns-clause-spared
+returns-clause-spared g c =
+    on_ok _ (λ p h. overruns_none g.S.Store.tells g.S.Store.files g.S.Store.failures h) c.pipe-piped.result
 
 pub returns-clause-held : goal.returns-clause-held
 returns-clause-held g c =

@@ -9,7 +9,7 @@ loop-preserved g c =
     let told = c.in-NoRoom.ensures.tells in
     record {
       tries = suc i.tries;
-      naps = (c.loop.self, i.naps, told.1, told.2);
+      naps = (c.loop.self, i.naps, told);
       logger = ap (λ (l : PieceLog). l.logger) told.2 ∙ i.logger;
       same = same_on i.same c.tell_hole.ensures.same;
     }

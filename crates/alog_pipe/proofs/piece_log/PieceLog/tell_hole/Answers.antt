@@ -15,6 +15,7 @@ returns-in-Posted-clause-tells g c =
       spec = s.0;
       found = s.1;
       log = simp (to_z-of_z, c.ranges.time) at (c.in-Ok-log.ensures.logs s.0 s.1);
+      same = c.log.ensures.same;
     }) in
     inr (
       omega (arith, c.if-number-eq0.false),
@@ -37,6 +38,7 @@ returns-in-Ok-log-clause-tells g c =
           spec = s.0;
           found = s.1;
           log = simp (to_z-of_z, c.ranges.time) at (c.in-Ok-log.ensures.logs s.0 s.1);
+          same = c.log.ensures.same;
         }),
         sym c.fate_of.ensures ∙ c.in-Missing.is,
       ),
