@@ -6,7 +6,7 @@ at each byte of the input and of what is printed. Where the script cannot be rea
 status 3, the two lines of its refusal and a front of what it prints otherwise; where a configuration cannot be read, with status 3 and
 one line that names it; where standard error cannot be written, with its status. Whatever is short or interrupted changes nothing. In a
 load or a pipe to a folder what fails must be told, by status 3 and lines of their forms, and the files have a front of the lines, in their
-order; a pipe's input is read in part, and a pipe that ends early tells what it read.
+order; a pipe's input is read in part, and a pipe that ends early tells what it read. A pipe that tries again has all lines, and says so.
 Needs a C compiler, `cc`.
 """
 import collections
@@ -51,8 +51,13 @@ FILES = [f"a.{number}.log" for number in range(9, 0, -1)] + ["a.log"]
 PIPED = re.compile(rb"lines 40\nbytes %d\nmended 0\ncut 0\nmissing 0\nasked (\d+)\nposted \1\ndiscarded 0\noverrun 0\nhandled \1\n" % (len(LINES) - 40))
 PIPED_FRONT = re.compile(rb"lines \d+\nbytes \d+\nmended 0\ncut 0\nmissing 0\nasked (\d+)\nposted \1\ndiscarded 0\noverrun 0\nhandled \1\n")
 NO_INPUT = re.compile(rb"alog: standard input cannot be read: " + WHY)
-# the commands that are tried on a folder: their first word, what more words they have, and what they are given
-COMMANDS = {"load": (["--messages=40"], b""), "pipe": (["--totals"], LINES)}
+RETRIED = re.compile(rb"alog: file [^\n]+: a call failed and is tried again(?:: " + WHY[:-2] + rb")?\nalog: file [^\n]+: it goes on\n")
+# the commands that are tried on a folder: their words, their configuration, and what they are given
+COMMANDS = {
+    "load": (["load", "--messages=40"], CONFIG, b""),
+    "pipe": (["pipe", "--totals"], b"retry = 0\n" + CONFIG, LINES),
+    "pipe that tries again": (["pipe", "--totals"], CONFIG, LINES),
+}
 
 
 def run(words, given, room, kind, number, how, by_bytes=False):
@@ -163,19 +168,27 @@ def pipe_outcome(ran, kind, how, descriptor, lines, others):
     return "refused" if (ran.returncode, ran.stdout) == (3, b"") and is_refused and not lines else None
 
 
-OUTCOMES = {"load": folder_outcome, "pipe": pipe_outcome}
+def patient_outcome(ran, kind, how, descriptor, lines, others):
+    """Returns in words what came of a pipe to a folder that tries again, or None where it is none of what may come."""
+    if ran.returncode == 0 and PIPED.fullmatch(ran.stdout) and RETRIED.fullmatch(ran.stderr) and lines == LINES and not others:
+        return "tried again"
+    came = pipe_outcome(ran, kind, how, descriptor, lines, others)
+    return None if came == "a fault" else came
+
+
+OUTCOMES = {"load": folder_outcome, "pipe": pipe_outcome, "pipe that tries again": patient_outcome}
 
 
 def sweep_folder(room, command, kind, how):
     """Makes each call of this kind of a command on a folder fail so. Returns how many there were, what came, and where all was not well."""
     found, bad = collections.Counter(), []
-    more, given = COMMANDS[command]
+    first, config, given = COMMANDS[command]
     with tempfile.TemporaryDirectory(dir=room) as place:
         with open(f"{place}/it.toml", "wb") as it:
-            it.write(CONFIG)
+            it.write(config)
         for number in itertools.count(1):
             folder = tempfile.mkdtemp(dir=place)
-            words = [command, f"{place}/it.toml", *more, "--folder", folder]
+            words = [first[0], f"{place}/it.toml", *first[1:], "--folder", folder]
             ran, descriptor = run(words, given, room, kind, number, how)
             came = OUTCOMES[command](ran, kind, how, descriptor, *lines_in(folder))
             bad += [number] * (came is None)

@@ -244,7 +244,8 @@ A configuration is a document in TOML. Its tables, keys, values and defaults:
 
   top        queue (a power of two from 2 to 65536) [8192], workers (1 to 64) [1], text (64 to 8192) [2048],
              offset (minutes, -1439 to 1439) [0], or in its place zone (a POSIX rule of 1 to 64 bytes, as
-             CET-1CEST,M3.5.0,M10.5.0/3), process (0 to 4294967295) [0]
+             CET-1CEST,M3.5.0,M10.5.0/3), process (0 to 4294967295) [0], retry (0 to 1000000) [of a pipe
+             without end, else 0]
   [[sink]]   name, kind (memory, rotating, daily, fan), level [trace]
     no fan   pattern [%+], file [for memory the name of the sink]
     rotating max_size (1 to 1099511627776), max_files (0 to 1000)

@@ -18,7 +18,7 @@ use crate::totals::write_totals;
 use alog_config::{Config, explain_unopened, leaves, read};
 use alog_load::{LOAD_MESSAGES_MAX, LOAD_PRODUCERS_MAX, LoadError, load};
 use alog_pool::Report;
-use alog_server::{Folders, Hold, folder_stores, hold_folder};
+use alog_server::{Folders, Hold, Patience, folder_stores, hold_folder, patience_of};
 use alog_sink::{MemStore, Store};
 use std::alloc::{AllocError, Global};
 use std::io::{self, Write};
@@ -135,7 +135,8 @@ where
     if let Some(status) = refused_folder(rt, path, config, request, &mut lock, errors) {
         return status;
     }
-    match folder_stores(rt, rt.alloc(), path, leaves(config)) {
+    let patience = patience_of(config, Patience::Times(0));
+    match folder_stores(rt, rt.alloc(), path, leaves(config), patience) {
         Ok(stores) => load_over(rt, config, stores, request, output, errors),
         Err(_) => refuse_load(LoadError::OutOfMemory, errors),
     }

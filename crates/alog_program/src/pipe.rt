@@ -18,7 +18,7 @@ use alog_config::{BuildError, Config, LoggerConfig, leaves, read};
 use alog_load::LoadError;
 use alog_pipe::{Counts, Piped, pipe};
 use alog_pool::{Report, Totals};
-use alog_server::{Folders, Hold, folder_stores, hold_folder};
+use alog_server::{Folders, Hold, Patience, folder_stores, hold_folder, patience_of};
 use alog_sink::Store;
 use std::io::{self, Read, Write};
 use std::rt::Files;
@@ -160,7 +160,8 @@ where
     ensures { PipesOn R.Folder.tells R.Folder.files R.Folder.failures config.now request.now result
         (I.remaining input.old) (I.remaining input.new) (O.contents output.old) (O.contents output.new) }
 {
-    match folder_stores(rt, rt.alloc(), request.folder, leaves(config)) {
+    let patience = patience_of(config, Patience::Endless);
+    match folder_stores(rt, rt.alloc(), request.folder, leaves(config), patience) {
         Ok(stores) => pipe_over(rt, config, stores, request, logger, input, output, errors),
         Err(_) => refuse_load(LoadError::OutOfMemory, errors),
     }

@@ -1,13 +1,17 @@
 //! The stores of a folder, and what holds it.
-ghost use Rattle.std.specs.Prelude.{◌≡◌, All, length, IfOk};
+ghost use Rattle.std.specs.Prelude.{◌≡◌, All, MatchOption, length, IfOk};
 ghost use Rattle.alog_server.specs.Stores.{IsNew};
 
+use alog_config::Config;
+use alog_patient::{Patience, PatientStore};
 use alog_sink::{FolderStore, Store};
 use std::alloc::{AllocError, Global};
 use std::fs::{File, OpenOptions};
 use std::io;
 use std::path::Path;
 use std::rt::Files;
+use std::sync::Wait;
+use std::time::Clock;
 
 /// The file of a folder by which the folder is held.
 pub(crate) const LOCK_FILE: &str = ".alog.lock";
@@ -22,8 +26,13 @@ pub trait Folders {
     /// What holds a folder until it is dropped, or its process ends.
     type Lock: Drop + Send + 'static;
 
-    /// A store over the folder with this path.
-    fn folder(&self, alloc: Global, path: &str) -> Result<Self::Folder, AllocError>
+    /// A store over the folder with this path, which tries a failed call again so often.
+    fn folder(
+        &self,
+        alloc: Global,
+        path: &str,
+        patience: Patience,
+    ) -> Result<Self::Folder, AllocError>
         ensures { IfOk result (λ s. IsNew Self.Folder.tells Self.Folder.files Self.Folder.failures s) };
 
     /// Holds the folder with this path, by a lock on its file `.alog.lock`, which is made where it is absent, and stays. An error of
@@ -43,17 +52,24 @@ impl Host for HostRuntime {
     }
 }
 
-impl<R: Host + Clone + Drop + Send + 'static> Folders for R
+impl<R> Folders for R
 where
+    R: Host + Wait + Clock + Eprint + Clone + Drop + Send + 'static,
     R::File: Send + 'static,
 {
-    type Folder = FolderStore<R>;
+    type Folder = PatientStore<FolderStore<R>, R>;
 
     type Lock = R::File;
 
-    fn folder(&self, alloc: Global, path: &str) -> Result<FolderStore<R>, AllocError> {
-        let own: R = self.clone()?;
-        FolderStore::new(alloc, own, path)
+    fn folder(
+        &self,
+        alloc: Global,
+        path: &str,
+        patience: Patience,
+    ) -> Result<PatientStore<FolderStore<R>, R>, AllocError> {
+        let (files, waits): (R, R) = (self.clone()?, self.clone()?);
+        let store = FolderStore::new(alloc, files, path)?;
+        Ok(PatientStore::new(waits, store, patience))
     }
 
     fn hold(&self, alloc: Global, path: &str) -> io::Result<R::File> {
@@ -67,19 +83,30 @@ where
     }
 }
 
-/// So many stores over the folder with this path.
+/// How often a failed call of a store is tried again: as often as a configuration says, and else so.
+pub fn patience_of(config: &Config, default: Patience) -> Patience
+    ensures { MatchOption config.now.retry (result ≡ default) (λ times. result ≡ Patience.Times times) }
+{
+    match config.retry {
+        Some(times) => Patience::Times(times),
+        None => default,
+    }
+}
+
+/// So many stores over the folder with this path, each of which tries a failed call again so often.
 pub fn folder_stores<R: Folders>(
     rt: &R,
     alloc: Global,
     path: &str,
     count: usize,
+    patience: Patience,
 ) -> Result<Vec<R::Folder>, AllocError>
     ensures many { IfOk result (λ v. length v.items ≡ count) }
     ensures fresh { IfOk result (λ v. All (IsNew R.Folder.tells R.Folder.files R.Folder.failures) v.items) }
 {
     let mut stores = Vec::with_capacity(alloc, count)?;
     for _number in 0..count {
-        stores.push_reserved(rt.folder(alloc, path)?);
+        stores.push_reserved(rt.folder(alloc, path, patience)?);
     }
     Ok(stores)
 }

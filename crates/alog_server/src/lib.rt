@@ -34,9 +34,10 @@ mod sink_end;
 mod work;
 mod writable;
 
+pub use alog_patient::Patience;
 pub use client::Client;
 pub use error::{LogError, RunError, StartError};
-pub use folders::{Folders, folder_stores};
+pub use folders::{Folders, folder_stores, patience_of};
 pub use home::Home;
 pub use logger::Logger;
 pub use opening::start;

@@ -4,10 +4,11 @@ ghost use Rattle.alog_config.specs.Meaning.{Reads};
 ghost use Rattle.alog_server.specs.Starting.{IsServerOn, IsOfFault, IsReasonFor};
 
 use crate::error::StartError;
-use crate::folders::{Folders, folder_stores};
+use crate::folders::{Folders, folder_stores, patience_of};
 use crate::server::Server;
 use crate::writable::{Hold, hold_folder};
 use alog_config::{Config, ConfigFault, Place, explain, leaves, read};
+use alog_patient::Patience;
 use std::alloc::{AllocError, Global};
 use std::rt::Files;
 use std::sync::Wait;
@@ -16,7 +17,8 @@ use std::time::Clock;
 
 /// Starts a server of the configuration that is in this document, with the files of its sinks in this folder, which has to be there
 /// and to take them: that is looked at first. The folder is held until what the server's run answers is dropped, when the last buffers of
-/// its files are written: no other server or load gets it before.
+/// its files are written: no other server or load gets it before. A failed call on a file is tried again as often as the key `retry` says, and
+/// not at all where it says nothing.
 pub fn start<R: Files + Folders + Threads + Wait + Clock + Clone + Drop + Send + 'static>(
     rt: &R,
     alloc: Global,
@@ -47,7 +49,8 @@ fn start_with<R: Files + Folders + Threads + Wait + Clock + Clone + Drop + Send 
         Hold::Held(lock) => lock,
         Hold::Refused(text) => return Err(StartError::Unwritable { text }),
     };
-    let stores = folder_stores(rt, alloc, folder, leaves(config))?;
+    let patience = patience_of(config, Patience::Times(0));
+    let stores = folder_stores(rt, alloc, folder, leaves(config), patience)?;
     Server::holding(rt, alloc, config, stores, lock)
 }
 

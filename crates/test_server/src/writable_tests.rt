@@ -1,7 +1,7 @@
 //! Starts that are refused since no lines can be written.
 use crate::server_tests::{HELLO, ran, started};
 use alog_config::{leaves, read};
-use alog_server::{LogError, Ran, RunError, Server, StartError, folder_stores};
+use alog_server::{LogError, Patience, Ran, RunError, Server, StartError, folder_stores};
 use alog_sink::Store;
 use std::os::unix::fs::symlink;
 use std::path::PathBuf;
@@ -162,7 +162,8 @@ fn ran_over<R: Host>(
 /// What is said where no server of this document is started over the stores of this folder, since a store failed.
 fn unopened<R: Host>(rt: &R, document: &str, folder: &str) -> Option<String> {
     let config = read(rt.alloc(), document.as_bytes()).ok()?;
-    let stores = folder_stores(rt, rt.alloc(), folder, leaves(&config)).ok()?;
+    let patience = Patience::Times(0);
+    let stores = folder_stores(rt, rt.alloc(), folder, leaves(&config), patience).ok()?;
     match Server::over(rt, rt.alloc(), &config, stores) {
         Ok(server) => {
             is_well(ran_over(rt, server));
