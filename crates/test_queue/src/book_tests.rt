@@ -2,30 +2,12 @@ ghost use Rattle.std.specs.Prelude.{◌≡◌, ◌+◌, ◌*◌, ◌^◌, ◌<�
 ghost use Rattle.alog_policy.specs.BookAdds.{items_in, posts_in};
 ghost use Rattle.alog_policy.specs.BookCalls.{IsSeatOf};
 
+use crate::lane_tests::{is_so_many, says};
+use crate::port_tests::{closes, has_lost, new_book};
 use alog_policy::{ALL_PARTS, BookSeat, Counts, LossBook, SeatsOut};
 use std::alloc::{AllocError, Global};
 use std::process::Abort;
-use std::test::Fail;
 use std::thread::{self, Threads};
-
-fn losses(overrun: u64, discarded: u64) -> Counts {
-    Counts { overrun, discarded }
-}
-
-// A book counts so many losses.
-fn has(rt: &impl Abort, book: &LossBook, seat: &mut BookSeat, wanted: Counts)
-    requires { IsSeatOf book.now seat.old }
-    ensures { IsSeatOf book.now seat.new }
-{
-    assert!(rt; book.counts(seat) == wanted);
-}
-
-// It is closed with so many.
-fn closes(rt: &impl Abort, book: LossBook, seat: BookSeat, wanted: Counts)
-    requires { IsSeatOf book seat }
-{
-    assert!(rt; book.close(seat).ok() == Some(wanted));
-}
 
 // A seat is out, and so it is not closed.
 fn stays(rt: &impl Abort, alloc: Global, book: LossBook, seat: BookSeat) -> (LossBook, BookSeat)
@@ -36,60 +18,56 @@ fn stays(rt: &impl Abort, alloc: Global, book: LossBook, seat: BookSeat) -> (Los
     match book.close(seat) {
         Ok(_) => panic!(rt; "a seat is out"),
         Err(out) => {
-            is_told(rt, alloc, &out);
+            says(
+                rt,
+                format!(in alloc; "{out}: {out:?}"),
+                "not all seats are here: SeatsOut { .. }",
+            );
             let SeatsOut { book, seat } = out;
             (book, seat)
         }
     }
 }
 
-fn is_told(rt: &impl Abort, alloc: Global, out: &SeatsOut) {
-    match (format!(in alloc; "{out}"), format!(in alloc; "{out:?}")) {
-        (Ok(shown), Ok(debug)) => {
-            let is = shown.as_str() == "not all seats are here";
-            assert!(rt; is && debug.as_str() == "SeatsOut { .. }");
-        }
-        _ => panic!(rt; "out of memory"),
+// A book counts so much.
+fn is_counted(
+    rt: &impl Abort,
+    found: Result<Option<Counts>, AllocError>,
+    overrun: u64,
+    discarded: u64,
+) {
+    match found {
+        Ok(counts) => assert!(rt; counts == Some(Counts { overrun, discarded })),
+        Err(AllocError) => panic!(rt; "out of memory"),
     }
 }
 
-// The seats have so many parts.
-fn have_parts(rt: &impl Abort, seats: &[&BookSeat], wanted: &[u64]) {
-    assert!(rt;
-        seats
-            .iter()
-            .map(|seat| seat.parts())
-            .eq(wanted.iter().copied())
-    );
-}
-
 #[test]
-fn counts_losses(rt: HostRuntime) -> Result<(), Fail> {
-    let (book, mut seat) = LossBook::new(rt.alloc())?;
-    have_parts(&rt, &[&seat], &[ALL_PARTS]);
-    has(&rt, &book, &mut seat, losses(0, 0));
+fn counts_losses(rt: HostRuntime) {
+    let (book, mut seat) = new_book(&rt, rt.alloc());
+    is_so_many(&rt, seat.parts(), ALL_PARTS);
+    has_lost(&rt, &book, &mut seat, (0, 0));
     book.overran(&mut seat);
-    has(&rt, &book, &mut seat, losses(1, 0));
+    has_lost(&rt, &book, &mut seat, (1, 0));
     book.discarded(&mut seat);
     book.discarded(&mut seat);
-    has(&rt, &book, &mut seat, losses(1, 2));
-    closes(&rt, book, seat, losses(1, 2));
-    Ok(())
+    has_lost(&rt, &book, &mut seat, (1, 2));
+    closes(&rt, book, seat, (1, 2));
 }
 
 #[test]
-fn seats_split_and_join(rt: HostRuntime) -> Result<(), Fail> {
-    let (book, mut seat) = LossBook::new(rt.alloc())?;
+fn seats_split_and_join(rt: HostRuntime) {
+    let (book, mut seat) = new_book(&rt, rt.alloc());
     let mut other = book.split(&mut seat, 1);
-    have_parts(&rt, &[&seat, &other], &[ALL_PARTS - 1, 1]);
+    is_so_many(&rt, seat.parts(), ALL_PARTS - 1);
+    is_so_many(&rt, other.parts(), 1);
     book.overran(&mut seat);
     book.discarded(&mut other);
-    has(&rt, &book, &mut other, losses(1, 1));
+    has_lost(&rt, &book, &mut other, (1, 1));
     let (book, mut seat) = stays(&rt, rt.alloc(), book, seat);
     book.join(&mut seat, other);
-    have_parts(&rt, &[&seat], &[ALL_PARTS]);
-    closes(&rt, book, seat, losses(1, 1));
-    Ok(())
+    is_so_many(&rt, seat.parts(), ALL_PARTS);
+    closes(&rt, book, seat, (1, 1));
 }
 
 // Counts so many overrun items and twice as many discarded posts.
@@ -140,29 +118,20 @@ fn added_by_two(rt: &impl Threads, alloc: Global, items: u64) -> Result<Option<C
 }
 
 #[test]
-fn two_threads_add(rt: HostRuntime) -> Result<(), Fail> {
-    assert_eq!(rt;
-        added_by_two(&rt, rt.alloc(), 10_000)?,
-        Some(losses(20_000, 40_000))
-    );
-    Ok(())
+fn two_threads_add(rt: HostRuntime) {
+    let found = added_by_two(&rt, rt.alloc(), 10_000);
+    is_counted(&rt, found, 20_000, 40_000);
 }
 
 // Where one seat has all parts, what its book counts is known from the contracts alone.
-fn counted_alone(alloc: Global) -> Result<Counts, AllocError>
-    ensures { IfOk result (λ c. c ≡ record { overrun = 1; discarded = 2 }) }
+fn counted_alone(alloc: Global) -> Result<Option<Counts>, AllocError>
+    ensures { IfOk result (λ c. c ≡ Some (record { overrun = 1; discarded = 2 })) }
 {
     let (book, mut seat) = LossBook::new(alloc)?;
     book.overran(&mut seat);
     book.discarded(&mut seat);
     book.discarded(&mut seat);
-    Ok(book.counts(&mut seat))
-}
-
-#[test]
-fn a_lone_seat_counts_its_own(rt: HostRuntime) -> Result<(), Fail> {
-    assert_eq!(rt; counted_alone(rt.alloc())?, losses(1, 2));
-    Ok(())
+    Ok(Some(book.counts(&mut seat)))
 }
 
 // A book to which nothing was added has no losses: its contracts say so.
@@ -174,7 +143,7 @@ fn closed_at_once(alloc: Global) -> Result<Option<Counts>, AllocError>
 }
 
 #[test]
-fn a_new_book_has_no_losses(rt: HostRuntime) -> Result<(), Fail> {
-    assert_eq!(rt; closed_at_once(rt.alloc())?, Some(losses(0, 0)));
-    Ok(())
+fn a_lone_seat_counts_its_own(rt: HostRuntime) {
+    is_counted(&rt, counted_alone(rt.alloc()), 1, 2);
+    is_counted(&rt, closed_at_once(rt.alloc()), 0, 0);
 }

@@ -42,73 +42,6 @@ fn pop_until<T>(rt: &impl Wait, ring: &Ring<T>, pass: &mut Pass<T>) -> T
     unreachable!()
 }
 
-// A ring, and a pass of it.
-#[derive(Drop)]
-struct Worker<'a, T> {
-    ring: &'a Ring<T>,
-    pass: Pass<T>,
-    ghost fits: { IsPassOf ring.now pass },
-}
-
-// Pushes the numbers from `from` to `to`, and answers their tickets.
-fn push_all(
-    rt: &impl Wait,
-    alloc: Global,
-    worker: Worker<u64>,
-    from: u64,
-    to: u64,
-) -> Result<Vec<u64>, AllocError> {
-    let Worker { ring, mut pass } = worker;
-    let mut tickets = Vec::new(alloc);
-    for value in from..to {
-        tickets.push(push_until(rt, ring, &mut pass, value))?;
-    }
-    Ok(tickets)
-}
-
-// Pops so many values.
-fn pop_all(
-    rt: &impl Wait,
-    alloc: Global,
-    worker: Worker<u64>,
-    count: u64,
-) -> Result<Vec<u64>, AllocError> {
-    let Worker { ring, mut pass } = worker;
-    let mut values = Vec::new(alloc);
-    for _ in 0..count {
-        values.push(pop_until(rt, ring, &mut pass))?;
-    }
-    Ok(values)
-}
-
-// These are the numbers below `count`, each once.
-fn are_all_below(
-    rt: &impl Abort,
-    one: Result<Vec<u64>, AllocError>,
-    two: Result<Vec<u64>, AllocError>,
-    count: u64,
-) {
-    match sorted(one, two) {
-        Ok(all) => assert!(rt; all.iter().copied().eq(0..count)),
-        Err(_) => panic!(rt; "out of memory"),
-    }
-}
-
-fn sorted(
-    one: Result<Vec<u64>, AllocError>,
-    two: Result<Vec<u64>, AllocError>,
-) -> Result<Vec<u64>, AllocError> {
-    let mut all = one?;
-    all.extend_from_slice(two?.as_slice())?;
-    all.sort()?;
-    Ok(all)
-}
-
-// All values were pushed.
-fn are_pushed(rt: &impl Abort, pushed: &[bool]) {
-    assert!(rt; pushed.iter().all(|is| *is));
-}
-
 #[test]
 fn two_threads_share_a_ring(rt: HostRuntime) -> Result<(), Fail> {
     let (ring, mut pass) = Ring::<u64>::new(rt.alloc(), 1024, 0)?;
@@ -122,99 +55,46 @@ fn two_threads_share_a_ring(rt: HostRuntime) -> Result<(), Fail> {
     Ok(())
 }
 
-// What both workers of one kind answer.
-type Both = (Result<Vec<u64>, AllocError>, Result<Vec<u64>, AllocError>);
-
-// Two threads push so many numbers each, from 0 on, and answer their tickets.
-fn push_both(
-    rt: &(impl Threads + Wait + Sync),
-    alloc: Global,
-    one: Worker<u64>,
-    two: Worker<u64>,
-    each: u64,
-) -> Both {
-    thread::join(
-        rt,
-        || push_all(rt, alloc, one, 0, each),
-        || push_all(rt, alloc, two, each, each.saturating_mul(2)),
-    )
+/// A ring, and a pass of it.
+#[derive(Drop)]
+pub(crate) struct Worker<'a, T> {
+    pub(crate) ring: &'a Ring<T>,
+    pub(crate) pass: Pass<T>,
+    ghost fits: { IsPassOf ring.now pass },
 }
 
-// Two threads pop so many values each.
-fn pop_both(
-    rt: &(impl Threads + Wait + Sync),
-    alloc: Global,
-    one: Worker<u64>,
-    two: Worker<u64>,
-    each: u64,
-) -> Both {
-    thread::join(
-        rt,
-        || pop_all(rt, alloc, one, each),
-        || pop_all(rt, alloc, two, each),
-    )
+/// Whether a thread pushes, from which number on, and how many numbers it pushes or pops. Each lies in a list of its own.
+type Part = (bool, u64, u64);
+
+/// A worker, and what it does.
+#[derive(Drop)]
+struct Job<'a> {
+    worker: Worker<'a, Vec<u64>>,
+    part: Part,
 }
 
-#[test]
-fn two_threads_push(rt: HostRuntime) {
-    let alloc = rt.alloc();
-    let (ring, mut pass) = ring_of::<u64>(&rt, alloc, 1024, 0);
-    let ring = &ring;
-    let other = Worker {
-        ring,
-        pass: ring.split(&mut pass, 1 << 31),
-    };
-    let worker = Worker { ring, pass };
-    let (one, two) = push_both(&rt, alloc, worker, other, 500);
-    are_all_below(&rt, one, two, 1000);
-}
-
-#[test]
-fn two_threads_push_and_two_pop(rt: HostRuntime) {
-    let alloc = rt.alloc();
-    let (ring, mut pass) = ring_of::<u64>(&rt, alloc, 8, (1 << 62) - 4000);
-    let ring = &ring;
-    let second = Worker {
-        ring,
-        pass: ring.split(&mut pass, 1),
-    };
-    let third = Worker {
-        ring,
-        pass: ring.split(&mut pass, 1),
-    };
-    let fourth = Worker {
-        ring,
-        pass: ring.split(&mut pass, 1),
-    };
-    let first = Worker { ring, pass };
-    let (pushes, pops) = thread::join(
-        &rt,
-        || push_both(&rt, alloc, first, second, 1000),
-        || pop_both(&rt, alloc, third, fourth, 1000),
-    );
-    are_pushed(&rt, &[pushes.0.is_ok(), pushes.1.is_ok()]);
-    are_all_below(&rt, pops.0, pops.1, 2000);
-}
-
-// Pushes the numbers below `count`, each in a list of its own.
-fn push_lists(
+/// Pushes so many numbers, and answers their tickets.
+fn push_all(
     rt: &impl Wait,
     alloc: Global,
-    worker: Worker<Vec<u64>>,
+    worker: Worker<'_, Vec<u64>>,
+    from: u64,
     count: u64,
-) -> Result<(), AllocError> {
+) -> Result<Vec<u64>, AllocError> {
     let Worker { ring, mut pass } = worker;
-    for number in 0..count {
-        push_until(rt, ring, &mut pass, vec![in alloc; number; 1]?);
+    let mut tickets = Vec::new(alloc);
+    for number in from..from.saturating_add(count) {
+        let list = vec![in alloc; number; 1]?;
+        tickets.push(push_until(rt, ring, &mut pass, list))?;
     }
-    Ok(())
+    Ok(tickets)
 }
 
-// Pops so many lists, and joins them.
-fn pop_lists(
+/// Pops so many, and answers them.
+fn pop_all(
     rt: &impl Wait,
     alloc: Global,
-    worker: Worker<Vec<u64>>,
+    worker: Worker<'_, Vec<u64>>,
     count: u64,
 ) -> Result<Vec<u64>, AllocError> {
     let Worker { ring, mut pass } = worker;
@@ -226,21 +106,144 @@ fn pop_lists(
     Ok(numbers)
 }
 
-#[test]
-fn lists_go_from_thread_to_thread(rt: HostRuntime) {
-    let alloc = rt.alloc();
-    let (ring, mut pass) = ring_of::<Vec<u64>>(&rt, alloc, 2, 0);
+/// Does a job.
+fn work(rt: &impl Wait, alloc: Global, job: Job<'_>) -> Result<Vec<u64>, AllocError> {
+    let Job {
+        worker,
+        part: (is_pushing, from, count),
+    } = job;
+    if is_pushing {
+        push_all(rt, alloc, worker, from, count)
+    } else {
+        pop_all(rt, alloc, worker, count)
+    }
+}
+
+/// What a thread answers.
+pub(crate) type Numbers = Result<Vec<u64>, AllocError>;
+
+/// What four threads answer that do these parts on a ring of so many places.
+fn answers(
+    rt: &(impl Abort + Threads + Wait + Sync),
+    alloc: Global,
+    (places, first): (usize, u64),
+    [one, two, three, four]: [Part; 4],
+) -> Result<Vec<Numbers>, AllocError> {
+    let (ring, mut pass) = ring_of(rt, alloc, places, first);
     let ring = &ring;
-    let other = Worker {
+    let second = Worker {
+        ring,
+        pass: ring.split(&mut pass, 1 << 31),
+    };
+    let third = Worker {
         ring,
         pass: ring.split(&mut pass, 1),
     };
-    let worker = Worker { ring, pass };
-    let (pushed, popped) = thread::join(
-        &rt,
-        || push_lists(&rt, alloc, worker, 1000),
-        || pop_lists(&rt, alloc, other, 1000),
-    );
-    are_pushed(&rt, &[pushed.is_ok()]);
-    are_all_below(&rt, popped, Ok(Vec::new(alloc)), 1000);
+    let fourth = Worker {
+        ring,
+        pass: ring.split(&mut pass, 1),
+    };
+    let first = Worker { ring, pass };
+    let jobs = vec![in alloc;
+        Job {
+            worker: first,
+            part: one
+        },
+        Job {
+            worker: second,
+            part: two
+        },
+        Job {
+            worker: third,
+            part: three
+        },
+        Job {
+            worker: fourth,
+            part: four
+        },
+    ]?;
+    thread::map_vec(rt, jobs, &|job: Job<'_>| work(rt, alloc, job))
+}
+
+/// The numbers of all these threads, in order.
+pub(crate) fn gathered(rt: &impl Abort, alloc: Global, answers: &[Numbers]) -> Vec<u64> {
+    let mut all = Vec::new(alloc);
+    for answer in answers {
+        let is_added = match answer {
+            Ok(numbers) => all.extend_from_slice(numbers).is_ok(),
+            Err(_) => false,
+        };
+        assert!(rt; is_added, "out of memory");
+    }
+    all.sort_unstable();
+    all
+}
+
+/// These are so many numbers from this one on.
+pub(crate) fn are_from(rt: &impl Abort, numbers: &[u64], from: u64, count: usize) {
+    let mut next = from;
+    let mut rise = true;
+    for number in numbers {
+        rise = rise && *number == next;
+        next = next.wrapping_add(1);
+    }
+    assert!(rt; rise && numbers.len() == count);
+}
+
+/// The places of a ring and its first ticket, what four threads do on it, those that push first, how many these are, and how many numbers
+/// are pushed and popped in all. Each ticket is given once, and each number comes once where all are popped.
+type Row = ((usize, u64), [Part; 4], usize, (usize, usize));
+
+const ROWS: [Row; 3] = [
+    (
+        (1024, 0),
+        [
+            (true, 0, 500),
+            (true, 500, 500),
+            (false, 0, 0),
+            (false, 0, 0),
+        ],
+        2,
+        (1000, 0),
+    ),
+    (
+        (8, (1 << 62) - 4000),
+        [
+            (true, 0, 1000),
+            (true, 1000, 1000),
+            (false, 0, 1000),
+            (false, 0, 1000),
+        ],
+        2,
+        (2000, 2000),
+    ),
+    (
+        (2, 0),
+        [
+            (true, 0, 1000),
+            (false, 0, 1000),
+            (false, 0, 0),
+            (false, 0, 0),
+        ],
+        1,
+        (1000, 1000),
+    ),
+];
+
+/// A row is so.
+fn crosses<R: Abort + Threads + Wait + Sync>(rt: &R, alloc: Global, row: Row) {
+    let (ring, parts, pushers, counts) = row;
+    let Ok(answers) = answers(rt, alloc, ring, parts) else {
+        panic!(rt; "out of memory")
+    };
+    let (tickets, popped) = answers.split_at(pushers.min(answers.len()));
+    are_from(rt, &gathered(rt, alloc, tickets), ring.1, counts.0);
+    are_from(rt, &gathered(rt, alloc, popped), 0, counts.1);
+}
+
+#[test]
+fn lists_go_from_thread_to_thread(rt: HostRuntime) {
+    for row in &ROWS {
+        crosses(&rt, rt.alloc(), *row);
+    }
 }

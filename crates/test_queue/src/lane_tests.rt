@@ -1,17 +1,18 @@
+//! Values behind a lock: turns, alone and of several threads, what is printed, and what is dropped.
 ghost use Rattle.alog_lane.specs.Calls.{IsSeatOf};
+ghost use Rattle.alog_lane.specs.Seats.{first_known};
 ghost use Rattle.std.specs.Prelude.{◌≡◌, ◌+◌, ◌%◌, ◌^◌, IfOk, Some};
 
-use crate::ring_tests::is_so;
+use crate::step_tests::{LOOKS, is_raised};
 use alog_lane::{ALL_PARTS, Held, Lane, LaneSeat, SeatsOut, Turn};
 use std::alloc::{AllocError, Global};
 use std::process::Abort;
 use std::sync::atomic::{AtomicBool, AtomicU64, Ordering};
 use std::sync::{Arc, Wait};
-use std::test::Fail;
 use std::thread::{self, Threads};
 
 // A number to which each turn adds its item. It replies with the sum.
-#[derive(Debug, PartialEq, Eq, Drop)]
+#[derive(PartialEq, Drop)]
 struct Sum(u64);
 
 impl Turn for Sum {
@@ -31,22 +32,30 @@ impl Turn for Sum {
     }
 }
 
-// A turn adds so much, and has this index and sum.
-fn adds(rt: &impl Abort, lane: &Lane<Sum>, seat: &mut LaneSeat<Sum>, item: u64, wanted: (u64, u64))
+// A lane over this value, and its first seat.
+fn lane_of<T: Turn + Drop>(rt: &impl Abort, alloc: Global, value: T) -> (Lane<T>, LaneSeat<T>)
+    ensures seat { IsSeatOf result.0 result.1 }
+    ensures known { result.1.known ≡ first_known }
+{
+    match Lane::new(alloc, value) {
+        Ok(made) => made,
+        Err(_) => panic!(rt; "out of memory"),
+    }
+}
+
+// Turns add so much, and have these indexes and sums.
+fn add(rt: &impl Abort, lane: &Lane<Sum>, seat: &mut LaneSeat<Sum>, turns: &[(u64, (u64, u64))])
     requires { IsSeatOf lane.now seat.old }
     ensures { IsSeatOf lane.now seat.new }
 {
-    assert!(rt; lane.turn_once(seat, 0, &item, &mut ()) == Ok(wanted));
+    for (item, wanted) in turns {
+        assert!(rt; lane.turn_once(seat, 0, item, &mut ()) == Ok(*wanted));
+    }
 }
 
-// The seats have so many parts.
-fn have_parts(rt: &impl Abort, seats: &[&LaneSeat<Sum>], wanted: &[u64]) {
-    assert!(rt;
-        seats
-            .iter()
-            .map(|seat| seat.parts())
-            .eq(wanted.iter().copied())
-    );
+// A seat has so many parts.
+pub(crate) fn is_so_many(rt: &impl Abort, parts: u64, wanted: u64) {
+    assert!(rt; parts == wanted);
 }
 
 // A seat is out, and so the lane is not closed.
@@ -62,33 +71,33 @@ fn stays(rt: &impl Abort, lane: Lane<Sum>, seat: LaneSeat<Sum>) -> (Lane<Sum>, L
 }
 
 // The lane is closed, and gives this sum back.
-fn closes(rt: &impl Abort, lane: Lane<Sum>, seat: LaneSeat<Sum>, wanted: Sum)
+fn closes(rt: &impl Abort, lane: Lane<Sum>, seat: LaneSeat<Sum>, wanted: u64)
     requires { IsSeatOf lane seat }
 {
     match lane.close(seat) {
-        Ok(sum) => assert!(rt; sum == wanted),
+        Ok(Sum(sum)) => assert!(rt; sum == wanted),
         Err(_) => panic!(rt; "no seat is out"),
     }
 }
 
+const TURNS: [(u64, (u64, u64)); 3] = [(5, (0, 5)), (7, (1, 12)), (3, (2, 15))];
+
 #[test]
-fn a_lane_over_a_sum(rt: HostRuntime) -> Result<(), Fail> {
-    let (lane, mut seat) = Lane::new(rt.alloc(), Sum(0))?;
-    have_parts(&rt, &[&seat], &[4_294_967_296]);
+fn a_lane_over_a_sum(rt: HostRuntime) {
+    let (lane, mut seat) = lane_of(&rt, rt.alloc(), Sum(0));
+    is_so_many(&rt, seat.parts(), 4_294_967_296);
     let other = lane.split(&mut seat, 1);
-    have_parts(&rt, &[&seat, &other], &[ALL_PARTS - 1, 1]);
-    adds(&rt, &lane, &mut seat, 5, (0, 5));
-    adds(&rt, &lane, &mut seat, 7, (1, 12));
-    adds(&rt, &lane, &mut seat, 3, (2, 15));
+    is_so_many(&rt, seat.parts(), ALL_PARTS - 1);
+    is_so_many(&rt, other.parts(), 1);
+    add(&rt, &lane, &mut seat, &TURNS);
     let (lane, mut seat) = stays(&rt, lane, seat);
     lane.join(&mut seat, other);
-    have_parts(&rt, &[&seat], &[ALL_PARTS]);
-    closes(&rt, lane, seat, Sum(15));
-    Ok(())
+    is_so_many(&rt, seat.parts(), ALL_PARTS);
+    closes(&rt, lane, seat, 15);
 }
 
-// An error says this.
-fn says(rt: &impl Abort, shown: Result<String, AllocError>, wanted: &str) {
+// This is said.
+pub(crate) fn says(rt: &impl Abort, shown: Result<String, AllocError>, wanted: &str) {
     match shown {
         Ok(shown) => assert!(rt; shown.as_str() == wanted),
         Err(_) => panic!(rt; "out of memory"),
@@ -106,25 +115,13 @@ fn is_told(rt: &impl Abort, alloc: Global, lane: Lane<Sum>, seat: LaneSeat<Sum>)
 }
 
 #[test]
-fn tells_the_errors(rt: HostRuntime) -> Result<(), Fail> {
-    let (lane, mut seat) = Lane::new(rt.alloc(), Sum(0))?;
+fn tells_the_errors(rt: HostRuntime) {
+    let (lane, mut seat) = lane_of(&rt, rt.alloc(), Sum(0));
+    let shown = format!(in rt.alloc(); "{lane:?}: {Held}");
+    says(&rt, shown, "Lane { .. }: another seat has the lock");
     let other = lane.split(&mut seat, 1);
     is_told(&rt, rt.alloc(), lane, seat);
     drop(other);
-    says(
-        &rt,
-        format!(in rt.alloc(); "{Held}"),
-        "another seat has the lock",
-    );
-    Ok(())
-}
-
-#[test]
-fn what_is_printed_of_a_lane(rt: HostRuntime) -> Result<(), Fail> {
-    let (lane, seat) = Lane::new(rt.alloc(), Sum(0))?;
-    says(&rt, format!(in rt.alloc(); "{lane:?}"), "Lane { .. }");
-    closes(&rt, lane, seat, Sum(0));
-    Ok(())
 }
 
 // A lane that took no turn gives back the value that it was made with: its contracts say so.
@@ -138,13 +135,14 @@ fn closed_at_once(alloc: Global, value: Sum) -> Result<Option<Sum>, AllocError>
 }
 
 #[test]
-fn gives_back_what_it_was_given(rt: HostRuntime) -> Result<(), Fail> {
-    assert_eq!(rt; closed_at_once(rt.alloc(), Sum(9))?, Some(Sum(9)));
-    Ok(())
+fn gives_back_what_it_was_given(rt: HostRuntime) {
+    match closed_at_once(rt.alloc(), Sum(9)) {
+        Ok(given) => assert!(rt; given == Some(Sum(9))),
+        Err(AllocError) => panic!(rt; "out of memory"),
+    }
 }
 
-// A value that notes how often it was dropped.
-#[derive(Debug)]
+// A value that notes how often it was dropped. A turn puts its item behind the digits in the scratch.
 struct Noted<'a>(&'a AtomicU64);
 
 impl<'a> Drop for Noted<'a> {
@@ -159,65 +157,62 @@ impl<'a> Turn for Noted<'a> {
 
     type Reply = u64;
 
-    type Scratch = Vec<u64>;
+    type Scratch = u64;
 
     ghost turns = { λ v before i r w after. Unit {0} };
 
     ghost may_turn = { λ v i s. Unit {0} };
 
-    fn turn(&mut self, item: &u64, scratch: &mut Vec<u64>) -> u64 {
-        if scratch.push(*item).is_err() {
-            return 0;
-        }
+    fn turn(&mut self, item: &u64, scratch: &mut u64) -> u64 {
+        *scratch = scratch.wrapping_mul(10).wrapping_add(*item);
         *item
     }
-}
-
-// It was dropped so often.
-fn has_dropped(rt: &impl Abort, drops: &AtomicU64, times: u64) {
-    assert!(rt; drops.load(Ordering::SeqCst) == times);
 }
 
 // Two turns put their items into the scratch and answer them, the second with waiting.
 fn take_two_turns<'a>(
     rt: &(impl Abort + Wait),
-    alloc: Global,
     lane: &Lane<Noted<'a>>,
     seat: &mut LaneSeat<Noted<'a>>,
 )
     requires { IsSeatOf lane.now seat.old }
     ensures { IsSeatOf lane.now seat.new }
 {
-    let mut scratch = Vec::new(alloc);
+    let mut scratch = 0;
     let once = lane.turn_once(seat, 3, &8, &mut scratch);
     let waited = lane.turn(rt, seat, 4, &9, &mut scratch);
-    assert!(rt; scratch.len() == 2, "out of memory");
-    assert!(rt; once == Ok((0, 8)) && waited == (1, 9));
-    assert!(rt; scratch.as_slice() == [8, 9].as_slice());
+    assert!(rt; once == Ok((0, 8)) && waited == (1, 9) && scratch == 89);
+}
+
+// A lane drops its value once, or gives it back at its end.
+fn drops_once(rt: &(impl Abort + Wait), alloc: Global, is_closed: bool) {
+    let drops = AtomicU64::new(0);
+    let (lane, mut seat) = lane_of(rt, alloc, Noted(&drops));
+    take_two_turns(rt, &lane, &mut seat);
+    let before = drops.load(Ordering::SeqCst);
+    if is_closed {
+        drop(lane.close(seat));
+    } else {
+        drop(lane);
+        drop(seat);
+    }
+    assert!(rt; (before, drops.load(Ordering::SeqCst)) == (0, 1));
 }
 
 #[test]
-fn drops_its_value_once(rt: HostRuntime) -> Result<(), Fail> {
-    let drops = AtomicU64::new(0);
-    let (lane, mut seat) = Lane::new(rt.alloc(), Noted(&drops))?;
-    take_two_turns(&rt, rt.alloc(), &lane, &mut seat);
-    has_dropped(&rt, &drops, 0);
-    drop(lane);
-    drop(seat);
-    has_dropped(&rt, &drops, 1);
-    Ok(())
+fn drops_its_value_once(rt: HostRuntime) {
+    for is_closed in [false, true] {
+        drops_once(&rt, rt.alloc(), is_closed);
+    }
 }
 
-#[test]
-fn drops_what_it_gives_back(rt: HostRuntime) -> Result<(), Fail> {
-    let drops = AtomicU64::new(0);
-    let (lane, seat) = Lane::new(rt.alloc(), Noted(&drops))?;
-    drop(lane.close(seat));
-    has_dropped(&rt, &drops, 1);
-    Ok(())
+// A lane, and a seat of it.
+#[derive(Drop)]
+struct Seated<'a, T: Turn> {
+    lane: &'a Lane<T>,
+    seat: LaneSeat<T>,
+    ghost fits: { IsSeatOf lane.now seat },
 }
-
-const LOOKS: u32 = 1_000_000;
 
 // Adds 1, as soon as the lock is free at one of so many looks, and answers the index of the turn.
 fn add_one(lane: &Lane<Sum>, seat: &mut LaneSeat<Sum>) -> Option<u64>
@@ -234,9 +229,8 @@ fn add_one(lane: &Lane<Sum>, seat: &mut LaneSeat<Sum>) -> Option<u64>
 }
 
 // Adds 1 so many times: whether the indexes of the turns rose, and their sum.
-fn add_ones(lane: &Lane<Sum>, mut seat: LaneSeat<Sum>, count: u64) -> (bool, u64)
-    requires { IsSeatOf lane.now seat }
-{
+fn add_ones(seated: Seated<'_, Sum>, count: u64) -> (bool, u64) {
+    let Seated { lane, mut seat } = seated;
     let mut rose = true;
     let mut last = None;
     let mut sum = 0u64;
@@ -259,68 +253,54 @@ fn all_rose(rt: &impl Abort, threads: &[(bool, u64)]) {
     assert!(rt; sum == 20_000 * 39_999);
 }
 
-// Two threads add 1 so many times each.
-fn add_by_two(
-    rt: &impl Threads,
+// What threads answer that add 1 so many times each.
+fn turns_of(
+    rt: &(impl Abort + Threads + Sync),
+    alloc: Global,
     lane: &Lane<Sum>,
-    one: LaneSeat<Sum>,
-    two: LaneSeat<Sum>,
-    count: u64,
-) -> ((bool, u64), (bool, u64))
-    requires { IsSeatOf lane.now one × IsSeatOf lane.now two }
+    seat: &mut LaneSeat<Sum>,
+    counts: [u64; 4],
+) -> Result<Vec<(bool, u64)>, AllocError>
+    requires seat { IsSeatOf lane.now seat.old }
+    requires known { seat.old.known ≡ first_known }
+    ensures { IsSeatOf lane.now seat.new }
 {
-    thread::join(
+    let [one, two, three, four] = counts;
+    let first = lane.split(seat, 1);
+    let second = lane.split(seat, 1);
+    let third = lane.split(seat, 1);
+    let fourth = lane.split(seat, 1);
+    let jobs = vec![in alloc;
+        (Seated { lane, seat: first }, one),
+        (Seated { lane, seat: second }, two),
+        (Seated { lane, seat: third }, three),
+        (Seated { lane, seat: fourth }, four),
+    ]?;
+    thread::map_vec(
         rt,
-        ||
-            requires { IsSeatOf lane.now one }
-        { add_ones(lane, one, count) },
-        ||
-            requires { IsSeatOf lane.now two }
-        { add_ones(lane, two, count) },
+        jobs,
+        &|(seated, count): (Seated<'_, Sum>, u64)| add_ones(seated, count),
     )
 }
 
-#[test]
-fn two_threads_take_turns(rt: HostRuntime) -> Result<(), Fail> {
-    let (lane, mut seat) = Lane::new(rt.alloc(), Sum(0))?;
-    let first = lane.split(&mut seat, 1);
-    let second = lane.split(&mut seat, 1);
-    let (one, two) = add_by_two(&rt, &lane, first, second, 20_000);
-    all_rose(&rt, &[one, two]);
-    adds(&rt, &lane, &mut seat, 0, (40_000, 40_000));
-    Ok(())
+// Threads take so many turns each, 40,000 in all.
+fn take_turns(rt: &(impl Abort + Threads + Sync), alloc: Global, counts: [u64; 4]) {
+    let (lane, mut seat) = lane_of(rt, alloc, Sum(0));
+    match turns_of(rt, alloc, &lane, &mut seat, counts) {
+        Ok(told) => all_rose(rt, &told),
+        Err(_) => panic!(rt; "out of memory"),
+    }
+    add(rt, &lane, &mut seat, &[(0, (40_000, 40_000))]);
 }
 
 #[test]
-fn four_threads_take_turns(rt: HostRuntime) -> Result<(), Fail> {
-    let (lane, mut seat) = Lane::new(rt.alloc(), Sum(0))?;
-    let lane = &lane;
-    let one = lane.split(&mut seat, 1);
-    let two = lane.split(&mut seat, 1);
-    let three = lane.split(&mut seat, 1);
-    let four = lane.split(&mut seat, 1);
-    let (one, (two, (three, four))) = thread::join(
-        &rt,
-        ||
-            requires { IsSeatOf lane.now one }
-        { add_ones(lane, one, 10_000) },
-        ||
-            requires { IsSeatOf lane.now two × IsSeatOf lane.now three × IsSeatOf lane.now four }
-        {
-            thread::join(
-                &rt,
-                ||
-                    requires { IsSeatOf lane.now two }
-                { add_ones(lane, two, 10_000) },
-                ||
-                    requires { IsSeatOf lane.now three × IsSeatOf lane.now four }
-                { add_by_two(&rt, lane, three, four, 10_000) },
-            )
-        },
-    );
-    all_rose(&rt, &[one, two, three, four]);
-    adds(&rt, lane, &mut seat, 0, (40_000, 40_000));
-    Ok(())
+fn two_threads_take_turns(rt: HostRuntime) {
+    take_turns(&rt, rt.alloc(), [20_000, 20_000, 0, 0]);
+}
+
+#[test]
+fn four_threads_take_turns(rt: HostRuntime) {
+    take_turns(&rt, rt.alloc(), [10_000; 4]);
 }
 
 // Whether a turn has begun, and whether another thread has met it.
@@ -333,17 +313,6 @@ struct Flags {
 // A value whose turn lasts until another thread has met it, or for so many looks at most.
 #[derive(Drop)]
 struct Slow(Arc<Flags>);
-
-// Whether the flag was up, at one of so many looks.
-fn is_raised(flag: &AtomicBool) -> bool {
-    for _ in 0..LOOKS {
-        if flag.load(Ordering::SeqCst) {
-            return true;
-        }
-        thread::yield_now();
-    }
-    false
-}
 
 impl Turn for Slow {
     type Item = ();
@@ -362,53 +331,47 @@ impl Turn for Slow {
     }
 }
 
-// Tries while a turn is under way, and then waits for one: whether it saw the turn begin, and both answers.
-fn visit(
-    rt: &impl Wait,
-    lane: &Lane<Slow>,
-    mut seat: LaneSeat<Slow>,
-    flags: &Flags,
-) -> (bool, Result<(u64, bool), Held>, (u64, bool))
-    requires { IsSeatOf lane.now seat }
-{
+// Tries while a turn is under way, and then waits for one: whether it saw the turn begin, and both answers are as they are to be.
+fn visit(rt: &impl Wait, seated: Seated<'_, Slow>, flags: &Flags) -> bool {
+    let Seated { lane, mut seat } = seated;
     let has_begun = is_raised(&flags.begun);
     let was_held = lane.turn_once(&mut seat, 0, &(), &mut ());
     flags.met.store(true, Ordering::SeqCst);
-    (
-        has_begun,
-        was_held,
-        lane.turn(rt, &mut seat, 0, &(), &mut ()),
-    )
+    let waited = lane.turn(rt, &mut seat, 0, &(), &mut ());
+    has_begun && was_held == Err(Held) && waited == (1, true)
 }
 
-// Takes one turn, if the lock is free.
-fn enter(lane: &Lane<Slow>, mut seat: LaneSeat<Slow>) -> Result<(u64, bool), Held>
-    requires { IsSeatOf lane.now seat }
-{
-    lane.turn_once(&mut seat, 0, &(), &mut ())
+// Takes one turn, if the lock is free: whether that is the first, and was met.
+fn enter(seated: Seated<'_, Slow>) -> bool {
+    let Seated { lane, mut seat } = seated;
+    lane.turn_once(&mut seat, 0, &(), &mut ()) == Ok((0, true))
 }
 
-#[test]
-fn a_held_lock_is_told(rt: HostRuntime) -> Result<(), Fail> {
+// Flags that are down, shared.
+fn lowered(rt: &impl Abort, alloc: Global) -> (Arc<Flags>, Arc<Flags>) {
     let flags = Flags {
         begun: AtomicBool::new(false),
         met: AtomicBool::new(false),
     };
-    let flags = Arc::new(rt.alloc(), flags)?;
-    let (lane, mut seat) = Lane::new(rt.alloc(), Slow(Arc::try_clone(&flags)?))?;
-    let lane = &lane;
-    let flags = &*flags;
-    let second = lane.split(&mut seat, 1);
-    let (was_met, visit) = thread::join(
-        &rt,
-        ||
-            requires { IsSeatOf lane.now seat }
-        { enter(lane, seat) },
-        ||
-            requires { IsSeatOf lane.now second }
-        { visit(&rt, lane, second, flags) },
-    );
-    is_so(&rt, was_met == Ok((0, true)));
-    is_so(&rt, visit == (true, Err(Held), (1, true)));
-    Ok(())
+    let Ok(flags) = Arc::new(alloc, flags) else {
+        panic!(rt; "out of memory")
+    };
+    match Arc::try_clone(&flags) {
+        Ok(same) => (flags, same),
+        Err(_) => panic!(rt; "out of memory"),
+    }
+}
+
+#[test]
+fn a_held_lock_is_told(rt: HostRuntime) {
+    let (flags, same) = lowered(&rt, rt.alloc());
+    let (lane, mut seat) = lane_of(&rt, rt.alloc(), Slow(same));
+    let (lane, flags) = (&lane, &*flags);
+    let second = Seated {
+        lane,
+        seat: lane.split(&mut seat, 1),
+    };
+    let first = Seated { lane, seat };
+    let (was_met, is_told) = thread::join(&rt, || enter(first), || visit(&rt, second, flags));
+    assert!(rt; was_met && is_told);
 }

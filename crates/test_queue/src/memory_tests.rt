@@ -1,9 +1,9 @@
 //! Want of memory of the stepped queue, and where a swap ring is made.
 ghost use Rattle.alog_ring.specs.Known.{IsPassOf};
 
-use crate::queue_tests::{pops, pushes, world};
-use crate::swap_ring_tests::{leaves, swaps_in, swaps_out};
-use alog_core::{Mark, World};
+use crate::queue_tests::{Row, goes_on, world};
+use crate::swap_ring_tests::{self, Deed, leaves};
+use alog_core::{Call, CellView, Mark, Said, World};
 use alog_ring::{NewError, SwapNewError, SwapPass, SwapRing};
 use std::alloc::{AllocError, Global};
 use std::process::Abort;
@@ -23,13 +23,14 @@ fn world_at_last(rt: &impl Abort, alloc: Global, wanting: &mut bool) -> World<u6
     world(rt, alloc, 4, 5)
 }
 
-// The queue has one written cell, where memory may be wanting once.
+// The queue shows one written cell, where memory may be wanting once.
 fn shows_its_cell(rt: &impl Abort, alloc: Global, world: &World<u64>, wanting: &mut bool) {
+    let written = CellView {
+        ticket: 5,
+        mark: Mark::Written,
+    };
     match world.cells(alloc) {
-        Ok(cells) => {
-            let shown = cells.iter().map(|cell| (cell.ticket, cell.mark));
-            assert!(rt; shown.eq([(5, Mark::Written)].iter().copied()));
-        }
+        Ok(cells) => assert!(rt; cells.as_slice() == [written].as_slice()),
         Err(AllocError) => is_wanting(rt, wanting),
     }
 }
@@ -42,19 +43,32 @@ fn shows_its_words(rt: &impl Abort, alloc: Global, world: &World<u64>, wanting: 
     }
 }
 
+const PUSH: [Row<'_>; 1] = [(
+    Call::Push(1, 10),
+    &[Said::Nothing, Said::Nothing, Said::Claim(5), Said::Write(5)],
+)];
+
+const POP: [Row<'_>; 1] = [(
+    Call::Pop(2),
+    &[
+        Said::Nothing,
+        Said::Nothing,
+        Said::Grab(5),
+        Said::Take(5, 10),
+    ],
+)];
+
 // Where memory is wanting once, one of these calls has no answer, and the next finds the queue as it was.
 #[test]
 fn want_of_memory(rt: HostRuntime) {
     let mut wanting = false;
     let mut world = world_at_last(&rt, rt.alloc(), &mut wanting);
-    pushes(&rt, &mut world, 1, 10, 5);
+    goes_on(&rt, &mut world, &PUSH);
     for _ in 0..2 {
         shows_its_cell(&rt, rt.alloc(), &world, &mut wanting);
-    }
-    for _ in 0..2 {
         shows_its_words(&rt, rt.alloc(), &world, &mut wanting);
     }
-    pops(&rt, &mut world, 2, 5, 10);
+    goes_on(&rt, &mut world, &POP);
 }
 
 // Two spares, where memory may be wanting once.
@@ -92,13 +106,14 @@ fn swap_ring_at_last(
     }
 }
 
+const SWAPS: [Deed; 2] = [Deed::In(7, Ok((5, 101))), Deed::Out(102, Ok((5, 7)))];
+
 // Where memory is wanting once as a swap ring is made, its spares come back, and it is made of them.
 #[test]
 fn want_of_memory_for_a_swap_ring(rt: HostRuntime) {
     let mut wanting = false;
     let spares = spares_at_last(&rt, rt.alloc(), &mut wanting);
     let (ring, mut pass) = swap_ring_at_last(&rt, rt.alloc(), spares, &mut wanting);
-    swaps_in(&rt, &ring, &mut pass, 7, (5, 101));
-    swaps_out(&rt, &ring, &mut pass, 102, (5, 7));
+    swap_ring_tests::goes_on(&rt, &ring, &mut pass, &SWAPS);
     leaves(&rt, ring, pass, &[], &[100, 102]);
 }

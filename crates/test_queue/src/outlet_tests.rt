@@ -60,30 +60,40 @@ fn post_outrun(is_full: bool, refusal: PopError, policy: Policy) -> (Outcome<u64
     (outcome, [outlet.pushes, outlet.pops, outlet.discarded])
 }
 
-fn discarded(why: Why) -> Outcome<u64> {
-    Outcome::Discarded {
+const BEATEN: PopError = PopError::Busy { seen: 7 };
+
+const EMPTY: PopError = PopError::Empty { next: 7 };
+
+const IDLE: PopError = PopError::Idle { next: 9 };
+
+// Whether the queue is full, how it refuses a pop, the policy, why the post is discarded, and how many pushes, pops and discarded posts are
+// counted.
+type Row = (bool, PopError, Policy, Why, [u64; 3]);
+
+const ROWS: [Row; 6] = [
+    (false, BEATEN, Policy::Block, Why::Busy, [64, 0, 1]),
+    (false, BEATEN, Policy::OverrunOldest, Why::Busy, [64, 0, 1]),
+    (false, BEATEN, Policy::DiscardNew, Why::Busy, [64, 0, 1]),
+    (true, BEATEN, Policy::OverrunOldest, Why::Busy, [64, 64, 1]),
+    // There is nothing to take.
+    (true, EMPTY, Policy::OverrunOldest, Why::Stalled, [1, 1, 1]),
+    (true, IDLE, Policy::OverrunOldest, Why::Stalled, [1, 1, 1]),
+];
+
+// Whether a post ends so.
+fn is_right(row: &Row) -> bool {
+    let (is_full, refusal, policy, why, counts) = *row;
+    let wanted = Outcome::Discarded {
         value: 7,
         why,
         overran: 0,
-    }
+    };
+    post_outrun(is_full, refusal, policy) == (wanted, counts)
 }
 
 #[test]
 fn gives_up_where_others_are_always_faster(rt: HostRuntime) {
-    for policy in [Policy::Block, Policy::OverrunOldest, Policy::DiscardNew] {
-        let told = post_outrun(false, BEATEN, policy);
-        assert_eq!(rt; told, (discarded(Why::Busy), [64, 0, 1]));
-    }
-    let told = post_outrun(true, BEATEN, Policy::OverrunOldest);
-    assert_eq!(rt; told, (discarded(Why::Busy), [64, 64, 1]));
-}
-
-const BEATEN: PopError = PopError::Busy { seen: 7 };
-
-#[test]
-fn stalls_where_there_is_nothing_to_take(rt: HostRuntime) {
-    for refusal in [PopError::Empty { next: 7 }, PopError::Idle { next: 9 }] {
-        let told = post_outrun(true, refusal, Policy::OverrunOldest);
-        assert_eq!(rt; told, (discarded(Why::Stalled), [1, 1, 1]));
+    for row in &ROWS {
+        assert!(rt; is_right(row));
     }
 }

@@ -1,53 +1,39 @@
+//! Posts on a running ring, with a loss book.
 ghost use Rattle.std.specs.Prelude.{◌≡◌};
 ghost use Rattle.alog_lane.specs.Seats.{first_known as first_seat_known};
 ghost use Rattle.alog_ring.specs.Known.{IsPassOf, first_known};
 ghost use Rattle.alog_policy.specs.BookCalls.{IsSeatOf};
 
+use crate::crossing_tests::Worker;
+use crate::ring_tests::{Deed, goes_on, leaves, ring_of};
 use alog_core::TICKET_END;
 use alog_policy::{
-    BookSeat, Counts, LossBook, Outcome, Policy, Port, SeatsOut, Why, post_from, post_now,
-    post_wait,
+    BookSeat, Counts, LossBook, Outcome, Policy, Port, Why, post_from, post_now, post_wait,
 };
-use alog_ring::{NewError, Pass, Ring};
+use alog_ring::{Pass, Ring};
 use std::alloc::Global;
 use std::process::Abort;
 use std::sync::Wait;
-use std::thread;
+use std::thread::{self, Threads};
 use std::time::Clock;
 
-pub(crate) fn losses(overrun: u64, discarded: u64) -> Counts {
-    Counts { overrun, discarded }
+/// How a value is posted.
+#[derive(Clone, Copy)]
+enum Way {
+    Now,
+    /// With waiting, where the policy has it.
+    Waiting,
+    /// The same out of a hand.
+    FromHand,
 }
 
-fn posted(ticket: u64, overran: u64) -> Outcome<u64> {
-    Outcome::Posted { ticket, overran }
-}
+/// How a post ends: with a ticket after so many overrun, or without one.
+type End = Result<(u64, u64), Why>;
 
-fn gone(ticket: u64, overran: u64) -> Outcome<()> {
-    Outcome::Posted { ticket, overran }
-}
+/// A post, and how it ends.
+type Row = (Way, Policy, u64, End);
 
-pub(crate) fn discarded(value: u64, why: Why) -> Outcome<u64> {
-    Outcome::Discarded {
-        value,
-        why,
-        overran: 0,
-    }
-}
-
-// A ring of two places, and its first pass.
-fn ring_of_two(rt: &impl Abort, alloc: Global, first: u64) -> (Ring<u64>, Pass<u64>)
-    ensures ring { IsPassOf result.0 result.1 }
-    ensures first { result.1.known ≡ first_known 2 first }
-{
-    match Ring::new(alloc, 2, first) {
-        Ok(made) => made,
-        Err(NewError::OutOfMemory) => panic!(rt; "out of memory"),
-        Err(_) => panic!(rt; "no ring from {first}"),
-    }
-}
-
-// A loss book, and its first seat.
+/// A loss book, and its first seat.
 pub(crate) fn new_book(rt: &impl Abort, alloc: Global) -> (LossBook, BookSeat)
     ensures seat { IsSeatOf result.0 result.1 }
     ensures first { result.1.known ≡ first_seat_known }
@@ -58,17 +44,37 @@ pub(crate) fn new_book(rt: &impl Abort, alloc: Global) -> (LossBook, BookSeat)
     }
 }
 
-// A post on a ring, whose losses a book counts, ends so, with waiting where there may be.
-fn waits(
-    rt: &(impl Abort + Wait + Clock),
+/// What a hand with this value tells of a post: it is empty where the value was posted, and keeps what is discarded.
+fn told_of_hand(outcome: Outcome<()>, hand: Option<u64>) -> Option<Outcome<u64>> {
+    match (outcome, hand) {
+        (Outcome::Posted { ticket, overran }, None) => Some(Outcome::Posted { ticket, overran }),
+        (
+            Outcome::Discarded {
+                value: (),
+                why,
+                overran,
+            },
+            Some(value),
+        ) => Some(Outcome::Discarded {
+            value,
+            why,
+            overran,
+        }),
+        _ => None,
+    }
+}
+
+/// A post on a ring, whose losses a book counts: how it ends.
+fn post(
+    rt: &(impl Wait + Clock),
     ring: &Ring<u64>,
     pass: &mut Pass<u64>,
     book: &LossBook,
     seat: &mut BookSeat,
+    way: Way,
     policy: Policy,
     value: u64,
-    wanted: Outcome<u64>,
-)
+) -> Option<Outcome<u64>>
     requires { IsPassOf ring.now pass.old × IsSeatOf book.now seat.old }
     ensures { IsPassOf ring.now pass.new × IsSeatOf book.now seat.new }
 {
@@ -78,380 +84,291 @@ fn waits(
         book,
         seat,
     };
-    let outcome = post_wait(rt, &mut port, policy, value);
-    assert!(rt; outcome == wanted);
-}
-
-// A post that never waits ends so.
-pub(crate) fn goes(
-    rt: &impl Abort,
-    ring: &Ring<u64>,
-    pass: &mut Pass<u64>,
-    book: &LossBook,
-    seat: &mut BookSeat,
-    policy: Policy,
-    value: u64,
-    wanted: Outcome<u64>,
-)
-    requires { IsPassOf ring.now pass.old × IsSeatOf book.now seat.old }
-    ensures { IsPassOf ring.now pass.new × IsSeatOf book.now seat.new }
-{
-    assert!(rt; post(ring, pass, book, seat, policy, value) == wanted);
-}
-
-// So much was lost.
-pub(crate) fn has_lost(rt: &impl Abort, book: &LossBook, seat: &mut BookSeat, wanted: Counts)
-    requires { IsSeatOf book.now seat.old }
-    ensures { IsSeatOf book.now seat.new }
-{
-    assert!(rt; book.counts(seat) == wanted);
-}
-
-// A seat is out, and so the book is not closed.
-fn stays(rt: &impl Abort, book: LossBook, seat: BookSeat) -> (LossBook, BookSeat)
-    requires { IsSeatOf book seat }
-    ensures same { result.0 ≡ book }
-    ensures seat { IsSeatOf result.0 result.1 }
-{
-    match book.close(seat) {
-        Ok(_) => panic!(rt; "a seat is out"),
-        Err(SeatsOut { book, seat }) => (book, seat),
-    }
-}
-
-// The book is closed with so much lost.
-fn closes(rt: &impl Abort, book: LossBook, seat: BookSeat, wanted: Counts)
-    requires { IsSeatOf book seat }
-{
-    assert!(rt; book.close(seat).ok() == Some(wanted));
-}
-
-// No pass is out, and this is left in the ring.
-fn leaves(rt: &impl Abort, ring: Ring<u64>, pass: Pass<u64>, wanted: &[(u64, u64)])
-    requires { IsPassOf ring pass }
-{
-    match ring.close(pass) {
-        Ok(left) => assert!(rt; left.as_slice() == wanted),
-        Err(_) => panic!(rt; "no pass is out"),
-    }
-}
-
-// How a post of this value ends: with a ticket and so many overrun, or without room.
-fn ended(value: u64, end: Option<(u64, u64)>) -> Outcome<u64> {
-    match end {
-        Some((ticket, overran)) => posted(ticket, overran),
-        None => discarded(value, Why::Full),
-    }
-}
-
-// Posts on a ring of two places: whether one may wait, its policy, its value, and its ticket with how many it overran; there is none
-// where the ring has no room.
-const POSTS: [(bool, Policy, u64, Option<(u64, u64)>); 5] = [
-    (true, Policy::Block, 7, Some((0, 0))),
-    (true, Policy::DiscardNew, 8, Some((1, 0))),
-    (false, Policy::DiscardNew, 9, None),
-    (true, Policy::OverrunOldest, 9, Some((2, 1))),
-    (false, Policy::OverrunOldest, 10, Some((3, 1))),
-];
-
-fn post_each(
-    rt: &(impl Abort + Wait + Clock),
-    ring: &Ring<u64>,
-    pass: &mut Pass<u64>,
-    book: &LossBook,
-    seat: &mut BookSeat,
-)
-    requires { IsPassOf ring.now pass.old × IsSeatOf book.now seat.old }
-    ensures { IsPassOf ring.now pass.new × IsSeatOf book.now seat.new }
-{
-    for (may_wait, policy, value, end) in POSTS {
-        let wanted = ended(value, end);
-        if may_wait {
-            waits(rt, ring, pass, book, seat, policy, value, wanted);
-        } else {
-            goes(rt, ring, pass, book, seat, policy, value, wanted);
+    match way {
+        Way::Now => Some(post_now(&mut port, policy, value)),
+        Way::Waiting => Some(post_wait(rt, &mut port, policy, value)),
+        Way::FromHand => {
+            let mut hand = Some(value);
+            let outcome = post_from(rt, &mut port, policy, &mut hand);
+            told_of_hand(outcome, hand)
         }
     }
 }
 
-#[test]
-fn a_lone_port_posts(rt: HostRuntime) {
-    let (ring, mut pass) = ring_of_two(&rt, rt.alloc(), 0);
-    let (book, mut seat) = new_book(&rt, rt.alloc());
-    let other = book.split(&mut seat, 1);
-    post_each(&rt, &ring, &mut pass, &book, &mut seat);
-    has_lost(&rt, &book, &mut seat, losses(2, 1));
-    let (book, mut seat) = stays(&rt, book, seat);
-    book.join(&mut seat, other);
-    closes(&rt, book, seat, losses(2, 1));
-    leaves(&rt, ring, pass, &[(2, 9), (3, 10)]);
+/// The outcome of a post of this value that ends so.
+fn outcome_of(value: u64, end: End) -> Outcome<u64> {
+    match end {
+        Ok((ticket, overran)) => Outcome::Posted { ticket, overran },
+        Err(why) => Outcome::Discarded {
+            value,
+            why,
+            overran: 0,
+        },
+    }
 }
 
-// One post on a ring, whose losses a book counts.
-fn post(
-    ring: &Ring<u64>,
-    pass: &mut Pass<u64>,
-    book: &LossBook,
-    seat: &mut BookSeat,
-    policy: Policy,
-    value: u64,
-) -> Outcome<u64>
-    requires { IsPassOf ring.now pass.old × IsSeatOf book.now seat.old }
-    ensures { IsPassOf ring.now pass.new × IsSeatOf book.now seat.new }
-{
-    let mut port = Port {
-        ring,
-        pass,
-        book,
-        seat,
-    };
-    post_now(&mut port, policy, value)
-}
-
-// A post of a value in a hand ends so, and this is left in the hand: it keeps what is discarded.
-fn hands(
+/// Posts end so, one after another.
+fn go_on(
     rt: &(impl Abort + Wait + Clock),
     ring: &Ring<u64>,
     pass: &mut Pass<u64>,
     book: &LossBook,
     seat: &mut BookSeat,
-    policy: Policy,
-    value: u64,
-    wanted: (Outcome<()>, Option<u64>),
+    rows: &[Row],
 )
     requires { IsPassOf ring.now pass.old × IsSeatOf book.now seat.old }
     ensures { IsPassOf ring.now pass.new × IsSeatOf book.now seat.new }
 {
-    let mut port = Port {
-        ring,
-        pass,
-        book,
-        seat,
-    };
-    let mut hand = Some(value);
-    let outcome = post_from(rt, &mut port, policy, &mut hand);
-    assert!(rt; (outcome, hand) == wanted);
-}
-
-fn no_room() -> Outcome<()> {
-    Outcome::Discarded {
-        value: (),
-        why: Why::Full,
-        overran: 0,
+    for (way, policy, value, end) in rows {
+        let told = post(rt, ring, pass, book, seat, *way, *policy, *value);
+        assert!(rt; told == Some(outcome_of(*value, *end)));
     }
 }
 
-// How a post of this value out of a hand ends, and what is in the hand then.
-fn left(value: u64, end: Option<(u64, u64)>) -> (Outcome<()>, Option<u64>) {
-    match end {
-        Some((ticket, overran)) => (gone(ticket, overran), None),
-        None => (no_room(), Some(value)),
-    }
+/// So much was lost.
+pub(crate) fn has_lost(rt: &impl Abort, book: &LossBook, seat: &mut BookSeat, lost: (u64, u64))
+    requires { IsSeatOf book.now seat.old }
+    ensures { IsSeatOf book.now seat.new }
+{
+    let (overrun, discarded) = lost;
+    assert!(rt; book.counts(seat) == Counts { overrun, discarded });
 }
 
-// Posts out of a hand on a ring of two places: the policy, the value, and its ticket with how many it overran; there is none where
-// the ring has no room.
-const HANDED: [(Policy, u64, Option<(u64, u64)>); 4] = [
-    (Policy::Block, 7, Some((0, 0))),
-    (Policy::DiscardNew, 8, Some((1, 0))),
-    (Policy::DiscardNew, 9, None),
-    (Policy::OverrunOldest, 9, Some((2, 1))),
+/// A post that never waits is discarded for this reason, and counted so.
+pub(crate) fn is_discarded(
+    rt: &(impl Abort + Wait + Clock),
+    alloc: Global,
+    ring: &Ring<u64>,
+    pass: &mut Pass<u64>,
+    policy: Policy,
+    why: Why,
+)
+    requires { IsPassOf ring.now pass.old }
+    ensures { IsPassOf ring.now pass.new }
+{
+    let (book, mut seat) = new_book(rt, alloc);
+    let row = (Way::Now, policy, 9, Err(why));
+    go_on(rt, ring, pass, &book, &mut seat, &[row]);
+    has_lost(rt, &book, &mut seat, (0, 1));
+}
+
+/// The book is closed with so much lost.
+pub(crate) fn closes(rt: &impl Abort, book: LossBook, seat: BookSeat, lost: (u64, u64))
+    requires { IsSeatOf book seat }
+{
+    let (overrun, discarded) = lost;
+    assert!(rt; book.close(seat).ok() == Some(Counts { overrun, discarded }));
+}
+
+/// Posts on a ring of two places from this ticket on end so, lose so much, and leave this in the ring.
+fn posts(
+    rt: &(impl Abort + Wait + Clock),
+    alloc: Global,
+    first: u64,
+    rows: &[Row],
+    lost: (u64, u64),
+    left: &[(u64, u64)],
+) {
+    let (ring, mut pass) = ring_of(rt, alloc, 2, first);
+    let (book, mut seat) = new_book(rt, alloc);
+    go_on(rt, &ring, &mut pass, &book, &mut seat, rows);
+    closes(rt, book, seat, lost);
+    leaves(rt, ring, pass, left);
+}
+
+const POSTS: [Row; 5] = [
+    (Way::Waiting, Policy::Block, 7, Ok((0, 0))),
+    (Way::Waiting, Policy::DiscardNew, 8, Ok((1, 0))),
+    (Way::Now, Policy::DiscardNew, 9, Err(Why::Full)),
+    (Way::Waiting, Policy::OverrunOldest, 9, Ok((2, 1))),
+    (Way::Now, Policy::OverrunOldest, 10, Ok((3, 1))),
 ];
 
-fn hand_each(
-    rt: &(impl Abort + Wait + Clock),
-    ring: &Ring<u64>,
-    pass: &mut Pass<u64>,
-    book: &LossBook,
-    seat: &mut BookSeat,
-)
-    requires { IsPassOf ring.now pass.old × IsSeatOf book.now seat.old }
-    ensures { IsPassOf ring.now pass.new × IsSeatOf book.now seat.new }
-{
-    for (policy, value, end) in HANDED {
-        hands(rt, ring, pass, book, seat, policy, value, left(value, end));
-    }
+#[test]
+fn a_lone_port_posts(rt: HostRuntime) {
+    posts(&rt, rt.alloc(), 0, &POSTS, (2, 1), &[(2, 9), (3, 10)]);
 }
+
+const HANDED: [Row; 4] = [
+    (Way::FromHand, Policy::Block, 7, Ok((0, 0))),
+    (Way::FromHand, Policy::DiscardNew, 8, Ok((1, 0))),
+    (Way::FromHand, Policy::DiscardNew, 9, Err(Why::Full)),
+    (Way::FromHand, Policy::OverrunOldest, 9, Ok((2, 1))),
+];
 
 #[test]
 fn a_hand_keeps_what_is_discarded(rt: HostRuntime) {
-    let (ring, mut pass) = ring_of_two(&rt, rt.alloc(), 0);
-    let (book, mut seat) = new_book(&rt, rt.alloc());
-    hand_each(&rt, &ring, &mut pass, &book, &mut seat);
-    has_lost(&rt, &book, &mut seat, losses(1, 1));
+    posts(&rt, rt.alloc(), 0, &HANDED, (1, 1), &[(1, 8), (2, 9)]);
 }
 
-// Under this policy the last ticket is given, and then none is left.
-fn is_spent(rt: &(impl Abort + Wait + Clock), alloc: Global, policy: Policy) {
-    let (ring, mut pass) = ring_of_two(rt, alloc, TICKET_END - 1);
-    let (book, mut seat) = new_book(rt, alloc);
-    let last = posted(TICKET_END - 1, 0);
-    goes(rt, &ring, &mut pass, &book, &mut seat, policy, 7, last);
-    goes(
-        rt,
-        &ring,
-        &mut pass,
-        &book,
-        &mut seat,
-        policy,
-        8,
-        discarded(8, Why::Spent),
-    );
-    waits(
-        rt,
-        &ring,
-        &mut pass,
-        &book,
-        &mut seat,
-        policy,
-        9,
-        discarded(9, Why::Spent),
-    );
-    has_lost(rt, &book, &mut seat, losses(0, 2));
-}
+const LAST: u64 = TICKET_END - 1;
 
+// Under each policy the last ticket is given, and then none is left.
 #[test]
 fn a_port_without_a_ticket(rt: HostRuntime) {
     for policy in [Policy::Block, Policy::OverrunOldest, Policy::DiscardNew] {
-        is_spent(&rt, rt.alloc(), policy);
+        let rows = [
+            (Way::Now, policy, 7, Ok((LAST, 0))),
+            (Way::Now, policy, 8, Err(Why::Spent)),
+            (Way::Waiting, policy, 9, Err(Why::Spent)),
+        ];
+        posts(&rt, rt.alloc(), LAST, &rows, (0, 2), &[(LAST, 7)]);
     }
 }
 
-// How posts went, and how many values were popped beside them.
+/// What a thread posts with on a ring.
+#[derive(Drop)]
+struct Poster<'a> {
+    ring: &'a Ring<u64>,
+    pass: Pass<u64>,
+    book: &'a LossBook,
+    seat: BookSeat,
+    ghost fits: { IsPassOf ring.now pass × IsSeatOf book.now seat },
+}
+
+/// How posts went: how many were posted and discarded, how many values were overrun, and how many popped beside them.
 #[derive(Clone, Copy)]
 struct Tally {
     posted: u64,
-    overran: u64,
     discarded: u64,
+    overran: u64,
     popped: u64,
 }
 
 impl Tally {
-    fn new() -> Tally {
-        Tally {
-            posted: 0,
-            overran: 0,
-            discarded: 0,
-            popped: 0,
-        }
-    }
-
-    fn count(&mut self, outcome: &Outcome<u64>) {
-        let overran = match outcome {
-            Outcome::Posted { overran, .. } => {
+    /// One more post ended so.
+    fn count(&mut self, outcome: &Option<Outcome<u64>>) {
+        match outcome {
+            Some(Outcome::Posted { overran, .. }) => {
                 self.posted = self.posted.wrapping_add(1);
-                *overran
+                self.overran = self.overran.wrapping_add(*overran);
             }
-            Outcome::Discarded { overran, .. } => {
+            Some(Outcome::Discarded { overran, .. }) => {
                 self.discarded = self.discarded.wrapping_add(1);
-                *overran
+                self.overran = self.overran.wrapping_add(*overran);
             }
-        };
-        self.overran = self.overran.wrapping_add(overran);
-    }
-
-    fn with(self, other: Tally) -> Tally {
-        Tally {
-            posted: self.posted.wrapping_add(other.posted),
-            overran: self.overran.wrapping_add(other.overran),
-            discarded: self.discarded.wrapping_add(other.discarded),
-            popped: self.popped.wrapping_add(other.popped),
+            None => {}
         }
     }
 }
 
-// Posts so many values, each of which overruns the oldest, and pops one after every fourth.
-fn post_many(
-    ring: &Ring<u64>,
-    book: &LossBook,
-    mut pass: Pass<u64>,
-    mut seat: BookSeat,
-    count: u64,
-) -> (Pass<u64>, BookSeat, Tally)
-    requires { IsPassOf ring.now pass × IsSeatOf book.now seat }
-    ensures { IsPassOf ring.now result.0 × IsSeatOf book.now result.1 }
-{
-    let mut tally = Tally::new();
+/// Posts so many values, each of which overruns the oldest, and pops one after every fourth.
+fn post_many<'a>(rt: &(impl Wait + Clock), poster: Poster<'a>, count: u64) -> (Poster<'a>, Tally) {
+    let Poster {
+        ring,
+        mut pass,
+        book,
+        mut seat,
+    } = poster;
+    let over = Policy::OverrunOldest;
+    let mut tally = Tally {
+        posted: 0,
+        discarded: 0,
+        overran: 0,
+        popped: 0,
+    };
     for value in 0..count {
-        let outcome = post(
-            ring,
-            &mut pass,
-            book,
-            &mut seat,
-            Policy::OverrunOldest,
-            value,
-        );
+        let outcome = post(rt, ring, &mut pass, book, &mut seat, Way::Now, over, value);
         tally.count(&outcome);
         if value % 4 == 3 && ring.pop_once(&mut pass).is_ok() {
             tally.popped = tally.popped.wrapping_add(1);
         }
     }
-    (pass, seat, tally)
+    let poster = Poster {
+        ring,
+        pass,
+        book,
+        seat,
+    };
+    (poster, tally)
 }
 
-// How many values are left in a ring, of which no pass is out.
-fn left_in_ring(rt: &impl Abort, ring: Ring<u64>, pass: Pass<u64>) -> u64
-    requires { IsPassOf ring pass }
-{
-    match ring.close(pass) {
-        Ok(left) => left.len() as u64,
-        Err(_) => panic!(rt; "no pass is out"),
+/// Each of 20,000 posts was posted or discarded, and what was posted was overrun or popped, or is left. The book has counted it.
+fn adds_up(rt: &impl Abort, poster: Poster<'_>, one: Tally, two: Tally) {
+    let Poster {
+        ring,
+        mut pass,
+        book,
+        mut seat,
+    } = poster;
+    let posted = one.posted.wrapping_add(two.posted);
+    let discarded = one.discarded.wrapping_add(two.discarded);
+    let overran = one.overran.wrapping_add(two.overran);
+    let mut gone = overran.wrapping_add(one.popped).wrapping_add(two.popped);
+    for _ in 0..2 {
+        if ring.pop_once(&mut pass).is_ok() {
+            gone = gone.wrapping_add(1);
+        }
     }
+    assert!(rt; posted.wrapping_add(discarded) == 20_000 && posted == gone);
+    has_lost(rt, book, &mut seat, (overran, discarded));
 }
 
-// Each post was posted or discarded, and what was posted was overrun or popped, or is left.
-fn adds_up(rt: &impl Abort, tally: Tally, left: u64) {
-    let gone = tally.overran.wrapping_add(tally.popped);
-    assert!(rt; tally.posted.wrapping_add(tally.discarded) == 20_000);
-    assert!(rt; tally.posted == gone.wrapping_add(left));
+/// A ring of two places and a loss book, and two threads that post on it, each so many values.
+fn overrun_each_other<R: Abort + Threads + Wait + Clock + Sync>(rt: &R, alloc: Global) {
+    let (ring, mut pass) = ring_of(rt, alloc, 2, 0);
+    let (book, mut seat) = new_book(rt, alloc);
+    let (ring, book) = (&ring, &book);
+    let second = Poster {
+        ring,
+        pass: ring.split(&mut pass, 1),
+        book,
+        seat: book.split(&mut seat, 1),
+    };
+    let first = Poster {
+        ring,
+        pass,
+        book,
+        seat,
+    };
+    let ((_, one), (poster, two)) = thread::join(
+        rt,
+        || post_many(rt, first, 10_000),
+        || post_many(rt, second, 10_000),
+    );
+    adds_up(rt, poster, one, two);
 }
 
 #[test]
 fn two_threads_overrun_each_other(rt: HostRuntime) {
-    let (ring, mut pass) = ring_of_two(&rt, rt.alloc(), 0);
-    let (book, mut seat) = new_book(&rt, rt.alloc());
-    let (shared, counting) = (&ring, &book);
-    let other_pass = shared.split(&mut pass, 1);
-    let other_seat = counting.split(&mut seat, 1);
-    let (one, two) = thread::join(
-        &rt,
-        || -> (Pass<u64>, BookSeat, Tally)
-            requires { IsPassOf shared.now pass × IsSeatOf counting.now seat }
-            ensures { IsPassOf shared.entry.now result.0 × IsSeatOf counting.entry.now result.1 }
-        { post_many(shared, counting, pass, seat, 10_000) },
-        || -> (Pass<u64>, BookSeat, Tally)
-            requires { IsPassOf shared.now other_pass × IsSeatOf counting.now other_seat }
-            ensures { IsPassOf shared.entry.now result.0 × IsSeatOf counting.entry.now result.1 }
-        { post_many(shared, counting, other_pass, other_seat, 10_000) },
-    );
-    let (mut pass, mut seat, mine) = one;
-    let (other_pass, other_seat, others) = two;
-    shared.join(&mut pass, other_pass);
-    counting.join(&mut seat, other_seat);
-    let tally = mine.with(others);
-    let counts = losses(tally.overran, tally.discarded);
-    closes(&rt, book, seat, counts);
-    let left = left_in_ring(&rt, ring, pass);
-    adds_up(&rt, tally, left);
+    overrun_each_other(&rt, rt.alloc());
 }
+
+/// A post of 9 waits for room, and gets ticket 2.
+fn waits(rt: &(impl Abort + Wait + Clock), poster: Poster<'_>) {
+    let Poster {
+        ring,
+        mut pass,
+        book,
+        mut seat,
+    } = poster;
+    let row = (Way::Waiting, Policy::Block, 9, Ok((2, 0)));
+    go_on(rt, ring, &mut pass, book, &mut seat, &[row]);
+}
+
+/// A pop takes the first value.
+fn takes(rt: &impl Abort, worker: Worker<'_, u64>) {
+    let Worker { ring, mut pass } = worker;
+    goes_on(rt, ring, &mut pass, &[Deed::Pop(Ok((0, 7)))]);
+}
+
+const TWO_POSTS: [Deed; 2] = [Deed::Push(7, Ok(0)), Deed::Push(8, Ok(1))];
 
 #[test]
 fn a_port_waits_for_room(rt: HostRuntime) {
-    let (ring, mut pass) = ring_of_two(&rt, rt.alloc(), 0);
-    let (book, mut seat) = new_book(&rt, rt.alloc());
-    let mut other = ring.split(&mut pass, 1);
-    post(&ring, &mut pass, &book, &mut seat, Policy::DiscardNew, 7);
-    post(&ring, &mut pass, &book, &mut seat, Policy::DiscardNew, 8);
-    let mut port = Port {
-        ring: &ring,
-        pass: &mut pass,
-        book: &book,
-        seat: &mut seat,
+    let (ring, mut pass) = ring_of(&rt, rt.alloc(), 2, 0);
+    let (book, seat) = new_book(&rt, rt.alloc());
+    let (ring, book) = (&ring, &book);
+    let worker = Worker {
+        ring,
+        pass: ring.split(&mut pass, 1),
     };
-    let (outcome, popped) = thread::join(
-        &rt,
-        || post_wait(&rt, &mut port, Policy::Block, 9),
-        || ring.pop_once(&mut other),
-    );
-    assert!(rt; outcome == posted(2, 0) && popped == Ok((0, 7)));
+    goes_on(&rt, ring, &mut pass, &TWO_POSTS);
+    let poster = Poster {
+        ring,
+        pass,
+        book,
+        seat,
+    };
+    thread::join(&rt, || waits(&rt, poster), || takes(&rt, worker));
 }

@@ -6,24 +6,31 @@ use std::alloc::Global;
 use std::process::Abort;
 use std::sync::Wait;
 use std::sync::atomic::{AtomicU64, Ordering};
-use std::test::Fail;
+
+/// Why there is no such ring, if there is none.
+fn refusal(alloc: Global, places: usize, first: u64) -> Option<NewError> {
+    Ring::<u64>::new(alloc, places, first).err()
+}
+
+/// Places and first tickets, and why there is no such ring.
+const SIZES: [(usize, u64, Option<NewError>); 9] = [
+    (0, 0, Some(NewError::BadSize)),
+    (1, 0, Some(NewError::BadSize)),
+    (3, 0, Some(NewError::BadSize)),
+    (131_072, 0, Some(NewError::BadSize)),
+    (3, 1 << 62, Some(NewError::BadSize)),
+    (2, 1 << 62, Some(NewError::BadFirst)),
+    (2, (1 << 62) - 1, None),
+    (32_768, 0, None),
+    (65_536, 0, None),
+];
 
 #[test]
 fn takes_sizes_and_first_tickets(rt: HostRuntime) {
-    for (places, first, refused) in [
-        (0, 0, Some(NewError::BadSize)),
-        (1, 0, Some(NewError::BadSize)),
-        (3, 0, Some(NewError::BadSize)),
-        (131_072, 0, Some(NewError::BadSize)),
-        (3, 1 << 62, Some(NewError::BadSize)),
-        (2, 1 << 62, Some(NewError::BadFirst)),
-        (2, (1 << 62) - 1, None),
-        (32_768, 0, None),
-        (65_536, 0, None),
-    ] {
-        let found = Ring::<u64>::new(rt.alloc(), places, first).err();
+    for (places, first, refused) in &SIZES {
+        let found = refusal(rt.alloc(), *places, *first);
         assert!(rt; found != Some(NewError::OutOfMemory), "out of memory");
-        assert!(rt; found == refused, "{found:?} and not {refused:?}");
+        assert!(rt; found == *refused);
     }
 }
 
@@ -40,51 +47,69 @@ pub(crate) fn ring_of<T>(
     match Ring::new(alloc, places, first) {
         Ok(made) => made,
         Err(NewError::OutOfMemory) => panic!(rt; "out of memory"),
-        Err(_) => panic!(rt; "no ring of {places} places from {first}"),
+        Err(_) => panic!(rt; "no such ring"),
     }
 }
 
-// Ends the test where that is not so. A call of it is no way out of the function that makes it.
-pub(crate) fn is_so(rt: &impl Abort, is: bool) {
-    assert!(rt; is);
+/// What a push answers: its ticket, or the next ticket of a ring that is full, or none where none is left. The value comes back.
+pub(crate) type Pushed = Result<u64, Option<u64>>;
+
+/// What is brought, and what is answered; or what a pop answers.
+#[derive(Clone, Copy)]
+pub(crate) enum Deed {
+    Push(u64, Pushed),
+    Pop(Result<(u64, u64), PopError>),
 }
 
-// One round of a push gets this ticket.
-pub(crate) fn pushes(
+/// Whether a push of this value answers so.
+pub(crate) fn is_told(answer: &Result<u64, PushError<u64>>, own: u64, wanted: Pushed) -> bool {
+    match (answer, wanted) {
+        (Ok(ticket), Ok(wanted)) => *ticket == wanted,
+        (Err(PushError::Full { value, next }), Err(Some(wanted))) => {
+            *value == own && *next == wanted
+        }
+        (Err(PushError::Spent { value }), Err(None)) => *value == own,
+        _ => false,
+    }
+}
+
+/// One round of a push answers so.
+fn pushes(rt: &impl Abort, ring: &Ring<u64>, pass: &mut Pass<u64>, value: u64, wanted: Pushed)
+    requires { IsPassOf ring.now pass.old }
+    ensures { IsPassOf ring.now pass.new }
+{
+    let answer = ring.push_once(pass, value);
+    assert!(rt; is_told(&answer, value, wanted));
+}
+
+/// One round of a pop answers so.
+fn pops(
     rt: &impl Abort,
     ring: &Ring<u64>,
     pass: &mut Pass<u64>,
-    value: u64,
-    ticket: u64,
+    wanted: Result<(u64, u64), PopError>,
 )
     requires { IsPassOf ring.now pass.old }
     ensures { IsPassOf ring.now pass.new }
 {
-    assert!(rt; matches!(ring.push_once(pass, value), Ok(got) if got == ticket));
+    assert!(rt; ring.pop_once(pass) == wanted);
 }
 
-// The ring is full, and the next ticket is this one.
-pub(crate) fn is_full(rt: &impl Abort, ring: &Ring<u64>, pass: &mut Pass<u64>, at: u64)
+/// Rounds of pushes and pops answer so.
+pub(crate) fn goes_on(rt: &impl Abort, ring: &Ring<u64>, pass: &mut Pass<u64>, deeds: &[Deed])
     requires { IsPassOf ring.now pass.old }
     ensures { IsPassOf ring.now pass.new }
 {
-    let full = matches!(
-        ring.push_once(pass, 9),
-        Err(PushError::Full { value: 9, next }) if next == at
-    );
-    assert!(rt; full);
-}
-
-// One round of a pop takes this value with this ticket.
-pub(crate) fn pops(rt: &impl Abort, ring: &Ring<u64>, pass: &mut Pass<u64>, ticket: u64, value: u64)
-    requires { IsPassOf ring.now pass.old }
-    ensures { IsPassOf ring.now pass.new }
-{
-    assert!(rt; ring.pop_once(pass) == Ok((ticket, value)));
+    for deed in deeds {
+        match *deed {
+            Deed::Push(value, wanted) => pushes(rt, ring, pass, value, wanted),
+            Deed::Pop(wanted) => pops(rt, ring, pass, wanted),
+        }
+    }
 }
 
 // A pass is out, and so the ring is not closed.
-pub(crate) fn stays(rt: &impl Abort, ring: Ring<u64>, pass: Pass<u64>) -> (Ring<u64>, Pass<u64>)
+fn stays(rt: &impl Abort, ring: Ring<u64>, pass: Pass<u64>) -> (Ring<u64>, Pass<u64>)
     requires { IsPassOf ring pass }
     ensures same { result.0 ≡ ring }
     ensures pass { IsPassOf result.0 result.1 }
@@ -111,21 +136,31 @@ pub(crate) fn leaves<L: Limit<u64> + Drop>(
 }
 
 // The pass has so many parts of its ring, and has all of them or not.
-pub(crate) fn has_parts(rt: &impl Abort, ring: &Ring<u64>, pass: &mut Pass<u64>, parts: u64)
+fn has_parts(rt: &impl Abort, ring: &Ring<u64>, pass: &mut Pass<u64>, parts: u64)
     requires { IsPassOf ring.now pass.old }
     ensures { IsPassOf ring.now pass.new }
 {
     assert!(rt; pass.parts() == parts && ring.is_whole(pass) == (parts == ALL_PARTS));
 }
 
+/// The ring has so many places.
+fn has_places(rt: &impl Abort, ring: &Ring<u64>, places: usize) {
+    assert!(rt; ring.places() == places);
+}
+
+const ROUNDS: [Deed; 4] = [
+    Deed::Push(7, Ok(5)),
+    Deed::Push(8, Ok(6)),
+    Deed::Push(9, Err(Some(7))),
+    Deed::Pop(Ok((5, 7))),
+];
+
 #[test]
 fn a_ring_of_two(rt: HostRuntime) {
     let (ring, mut pass) = ring_of(&rt, rt.alloc(), 2, 5);
     let mut other = ring.split(&mut pass, 1);
-    pushes(&rt, &ring, &mut pass, 7, 5);
-    pushes(&rt, &ring, &mut pass, 8, 6);
-    is_full(&rt, &ring, &mut pass, 7);
-    pops(&rt, &ring, &mut pass, 5, 7);
+    has_places(&rt, &ring, 2);
+    goes_on(&rt, &ring, &mut pass, &ROUNDS);
     ring.meet(&mut pass, &mut other);
     has_parts(&rt, &ring, &mut pass, ALL_PARTS - 1);
     has_parts(&rt, &ring, &mut other, 1);
@@ -135,30 +170,25 @@ fn a_ring_of_two(rt: HostRuntime) {
     leaves(&rt, ring, pass, &[(6, 8)]);
 }
 
-#[test]
-fn a_ring_tells_its_places(rt: HostRuntime) {
-    let (ring, _pass) = ring_of::<u64>(&rt, rt.alloc(), 2, 5);
-    let places = ring.places();
-    drop(ring);
-    assert!(rt; places == 2);
-}
-
-// Pushes with waiting: the last ticket of all is given, and then there is none.
+/// Pushes with waiting: the last ticket of all is given, and then there is none.
 fn push_at_last(rt: &(impl Abort + Wait), ring: &Ring<u64>, pass: &mut Pass<u64>, last: u64)
     requires { IsPassOf ring.now pass.old }
     ensures { IsPassOf ring.now pass.new }
 {
-    assert!(rt; matches!(ring.push(rt, pass, 1), Ok(ticket) if ticket == last));
-    assert!(rt; matches!(ring.push(rt, pass, 2), Err(PushError::Spent { value: 2 })));
+    for (value, wanted) in [(1, Ok(last)), (2, Err(None))] {
+        let answer = ring.push(rt, pass, value);
+        assert!(rt; is_told(&answer, value, wanted));
+    }
 }
 
-// Pops with waiting: the value of the last ticket, and then none.
+/// Pops with waiting: the value of the last ticket, and then none.
 fn pop_at_last(rt: &(impl Abort + Wait), ring: &Ring<u64>, pass: &mut Pass<u64>, last: u64)
     requires { IsPassOf ring.now pass.old }
     ensures { IsPassOf ring.now pass.new }
 {
-    assert!(rt; ring.pop(rt, pass) == Ok((last, 1)));
-    assert!(rt; ring.pop(rt, pass) == Err(PopError::Idle { next: 1 << 62 }));
+    for wanted in [Ok((last, 1)), Err(PopError::Idle { next: 1 << 62 })] {
+        assert!(rt; ring.pop(rt, pass) == wanted);
+    }
 }
 
 #[test]
@@ -200,99 +230,104 @@ fn one_value_left(
     }
 }
 
+/// This is left in a ring.
+fn has_left(rt: &impl Abort, left: Result<Vec<(u64, u64)>, NewError>, wanted: &[(u64, u64)]) {
+    match left {
+        Ok(left) => assert!(rt; left.as_slice() == wanted),
+        Err(NewError::OutOfMemory) => panic!(rt; "out of memory"),
+        Err(_) => panic!(rt; "no such ring"),
+    }
+}
+
 #[test]
-fn a_lone_pass_closes_what_it_made(rt: HostRuntime) -> Result<(), Fail> {
-    let left = made_and_closed(rt.alloc(), 2, 7)?;
-    assert!(rt; left.is_empty());
-    let left = one_value_left(rt.alloc(), 2, 7, 40)?;
-    assert!(rt; left.as_slice() == [(7, 40)].as_slice());
-    Ok(())
+fn a_lone_pass_closes_what_it_made(rt: HostRuntime) {
+    has_left(&rt, made_and_closed(rt.alloc(), 2, 7), &[]);
+    has_left(&rt, one_value_left(rt.alloc(), 2, 7, 40), &[(7, 40)]);
 }
 
-// Pushes the value out of a hand, and answers the ticket and whether the hand is empty.
-fn pushed_from(ring: &Ring<u64>, pass: &mut Pass<u64>, hand: &mut Option<u64>) -> Option<u64>
-    requires ring { IsPassOf ring.now pass.old }
-    requires there { IsSome hand.old }
-    ensures ring { IsPassOf ring.now pass.new }
-    ensures emptied { IfSome result (λ t. hand.new ≡ None) }
-    ensures left { IfNone result (hand.new ≡ hand.old) }
-{
-    ring.push_from(pass, hand).ok()
-}
-
-// Pushes this value out of a hand, which is empty then.
-fn empties(rt: &impl Abort, ring: &Ring<u64>, pass: &mut Pass<u64>, value: u64, ticket: u64)
+/// Whether a push of this value out of a hand gets this ticket, or finds the ring full, with this next ticket: the hand is empty then, or
+/// keeps it.
+fn hands_in(ring: &Ring<u64>, pass: &mut Pass<u64>, value: u64, wanted: Result<u64, u64>) -> bool
     requires { IsPassOf ring.now pass.old }
     ensures { IsPassOf ring.now pass.new }
 {
     let mut hand = Some(value);
-    let pushed = pushed_from(ring, pass, &mut hand);
-    assert!(rt; pushed == Some(ticket) && hand.is_none());
+    match (ring.push_from(pass, &mut hand), wanted) {
+        (Ok(ticket), Ok(wanted)) => ticket == wanted && hand.is_none(),
+        (Err(PushError::Full { value: (), next }), Err(wanted)) => {
+            next == wanted && hand == Some(value)
+        }
+        _ => false,
+    }
 }
 
-// The ring is full, the next ticket is this one, and the hand keeps its value.
-fn keeps(rt: &impl Abort, ring: &Ring<u64>, pass: &mut Pass<u64>, at: u64)
+fn hand_in_each(rt: &impl Abort, ring: &Ring<u64>, pass: &mut Pass<u64>)
     requires { IsPassOf ring.now pass.old }
     ensures { IsPassOf ring.now pass.new }
 {
-    let mut hand = Some(9);
-    let full = matches!(
-        ring.push_from(pass, &mut hand),
-        Err(PushError::Full { value: (), next }) if next == at
-    );
-    assert!(rt; full && hand == Some(9));
+    for (value, wanted) in [(7, Ok(5)), (8, Ok(6)), (9, Err(7))] {
+        assert!(rt; hands_in(ring, pass, value, wanted));
+    }
 }
 
 #[test]
 fn a_hand_is_emptied_once(rt: HostRuntime) {
     let (ring, mut pass) = ring_of(&rt, rt.alloc(), 2, 5);
-    empties(&rt, &ring, &mut pass, 7, 5);
-    empties(&rt, &ring, &mut pass, 8, 6);
-    keeps(&rt, &ring, &mut pass, 7);
+    hand_in_each(&rt, &ring, &mut pass);
     leaves(&rt, ring, pass, &[(5, 7), (6, 8)]);
 }
 
-// Pops into a hand that is empty, and answers the ticket; the hand has a value just where there is one.
-fn popped_into(ring: &Ring<u64>, pass: &mut Pass<u64>, hand: &mut Option<u64>) -> Option<u64>
-    requires ring { IsPassOf ring.now pass.old }
-    requires empty { hand.old ≡ None }
-    ensures ring { IsPassOf ring.now pass.new }
-    ensures some { IfSome result (λ t. IsSome hand.new) }
-    ensures none { IfNone result (hand.new ≡ None) }
-{
-    ring.pop_once_into(pass, hand).ok()
-}
-
-// A pop, of which the hand gets this value, if any.
-fn fills(rt: &impl Abort, ring: &Ring<u64>, pass: &mut Pass<u64>, wanted: Option<(u64, u64)>)
+/// Whether a pop into a hand, with or without waiting, gets this ticket and value, or none.
+fn hands_out(
+    rt: &impl Wait,
+    ring: &Ring<u64>,
+    pass: &mut Pass<u64>,
+    is_waiting: bool,
+    wanted: Result<(u64, u64), PopError>,
+) -> bool
     requires { IsPassOf ring.now pass.old }
     ensures { IsPassOf ring.now pass.new }
 {
     let mut hand = None;
-    let ticket = popped_into(ring, pass, &mut hand);
-    assert!(rt; (ticket, hand) == (wanted.map(|it| it.0), wanted.map(|it| it.1)));
+    let told = if is_waiting {
+        ring.pop_into(rt, pass, &mut hand)
+    } else {
+        ring.pop_once_into(pass, &mut hand)
+    };
+    match wanted {
+        Ok((ticket, value)) => told == Ok(ticket) && hand == Some(value),
+        Err(error) => told == Err(error) && hand.is_none(),
+    }
 }
 
-// The same with waiting: a value, and then none.
-fn fills_at_last(rt: &(impl Abort + Wait), ring: &Ring<u64>, pass: &mut Pass<u64>)
+/// Whether pops wait, and what they get.
+type Handed = (bool, Result<(u64, u64), PopError>);
+
+fn hand_out_each(rt: &(impl Abort + Wait), ring: &Ring<u64>, pass: &mut Pass<u64>, pops: &[Handed])
     requires { IsPassOf ring.now pass.old }
     ensures { IsPassOf ring.now pass.new }
 {
-    let (mut second, mut third) = (None, None);
-    let some = ring.pop_into(rt, pass, &mut second);
-    let none = ring.pop_into(rt, pass, &mut third);
-    assert!(rt; some == Ok(6) && second == Some(8));
-    assert!(rt; none == Err(PopError::Idle { next: 7 }) && third.is_none());
+    for (is_waiting, wanted) in pops {
+        assert!(rt; hands_out(rt, ring, pass, *is_waiting, *wanted));
+    }
 }
+
+const TWO_PUSHES: [Deed; 2] = [Deed::Push(7, Ok(5)), Deed::Push(8, Ok(6))];
+
+const NO_POP: [Handed; 1] = [(false, Err(PopError::Idle { next: 5 }))];
+
+const POPS: [Handed; 3] = [
+    (false, Ok((5, 7))),
+    (true, Ok((6, 8))),
+    (true, Err(PopError::Idle { next: 7 })),
+];
 
 #[test]
 fn a_hand_is_filled(rt: HostRuntime) {
     let (ring, mut pass) = ring_of(&rt, rt.alloc(), 2, 5);
-    fills(&rt, &ring, &mut pass, None);
-    pushes(&rt, &ring, &mut pass, 7, 5);
-    pushes(&rt, &ring, &mut pass, 8, 6);
-    fills(&rt, &ring, &mut pass, Some((5, 7)));
-    fills_at_last(&rt, &ring, &mut pass);
+    hand_out_each(&rt, &ring, &mut pass, &NO_POP);
+    goes_on(&rt, &ring, &mut pass, &TWO_PUSHES);
+    hand_out_each(&rt, &ring, &mut pass, &POPS);
 }
 
 // A drop writes its digit behind those of the drops before.
@@ -312,6 +347,7 @@ impl<'a> Drop for Noted<'a> {
 // Three values are brought to a ring of two, which refuses the third, and the first is taken.
 fn bring_three<'a>(ring: &Ring<Noted<'a>>, pass: &mut Pass<Noted<'a>>, drops: &'a AtomicU64) -> u64
     requires { IsPassOf ring.now pass.old }
+    ensures { IsPassOf ring.now pass.new }
 {
     drop(ring.push_once(pass, Noted(drops, 1)));
     drop(ring.push_once(pass, Noted(drops, 2)));
@@ -321,63 +357,25 @@ fn bring_three<'a>(ring: &Ring<Noted<'a>>, pass: &mut Pass<Noted<'a>>, drops: &'
     refused
 }
 
-#[test]
-fn drops_each_value_once(rt: HostRuntime) {
+// What is left is dropped with its ring, or given back at its end.
+fn drops_once(rt: &impl Abort, alloc: Global, is_closed: bool) {
     let drops = AtomicU64::new(0);
-    let (ring, mut pass) = ring_of(&rt, rt.alloc(), 2, 0);
+    let (ring, mut pass) = ring_of(rt, alloc, 2, 0);
     let refused = bring_three(&ring, &mut pass, &drops);
     let taken = drops.load(Ordering::SeqCst);
-    drop(ring);
+    if is_closed {
+        drop(ring.close(pass));
+    } else {
+        drop(ring);
+    }
     assert!(rt; (refused, taken, drops.load(Ordering::SeqCst)) == (3, 31, 312));
 }
 
-// A text is pushed.
-fn push_text(
-    rt: &impl Abort,
-    alloc: Global,
-    ring: &Ring<String>,
-    pass: &mut Pass<String>,
-    text: &str,
-)
-    requires { IsPassOf ring.now pass.old }
-    ensures { IsPassOf ring.now pass.new }
-{
-    let Ok(text) = String::from_str(alloc, text) else {
-        panic!(rt; "out of memory")
-    };
-    assert!(rt; ring.push_once(pass, text).is_ok());
-}
-
-// The first text is taken.
-fn pop_text(rt: &impl Abort, ring: &Ring<String>, pass: &mut Pass<String>, wanted: &str)
-    requires { IsPassOf ring.now pass.old }
-    ensures { IsPassOf ring.now pass.new }
-{
-    match ring.pop_once(pass) {
-        Ok((0, text)) => assert!(rt; text.as_str() == wanted),
-        _ => panic!(rt; "there is a text"),
-    }
-}
-
-// Texts of these lengths are left, with these tickets.
-fn leaves_texts(rt: &impl Abort, ring: Ring<String>, pass: Pass<String>, wanted: &[(u64, usize)])
-    requires { IsPassOf ring pass }
-{
-    let Ok(left) = ring.close(pass) else {
-        panic!(rt; "no pass is out")
-    };
-    let lengths = left.iter().map(|(ticket, text)| (*ticket, text.len()));
-    assert!(rt; lengths.eq(wanted.iter().copied()));
-}
-
 #[test]
-fn keeps_values_that_own_memory(rt: HostRuntime) {
-    let (ring, mut pass) = ring_of(&rt, rt.alloc(), 4, 0);
-    push_text(&rt, rt.alloc(), &ring, &mut pass, "a");
-    push_text(&rt, rt.alloc(), &ring, &mut pass, "bc");
-    push_text(&rt, rt.alloc(), &ring, &mut pass, "def");
-    pop_text(&rt, &ring, &mut pass, "a");
-    leaves_texts(&rt, ring, pass, &[(1, 2), (2, 3)]);
+fn drops_each_value_once(rt: HostRuntime) {
+    for is_closed in [false, true] {
+        drops_once(&rt, rt.alloc(), is_closed);
+    }
 }
 
 // Numbers of one digit.

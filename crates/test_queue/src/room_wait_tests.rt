@@ -40,20 +40,22 @@ fn sleeps_so_long(rt: &impl Abort, places: usize, nap: u64) {
     }
     let sleeps = clock.sleeps.load(Ordering::SeqCst);
     let nanos = clock.nanos.load(Ordering::SeqCst);
-    assert!(rt; sleeps == 96, "{sleeps} sleeps");
-    assert!(rt;
-        nanos.checked_div(96) == Some(nap),
-        "{nanos} nanoseconds in all"
-    );
+    assert!(rt; sleeps == 96 && nanos.checked_div(96) == Some(nap));
 }
+
+/// Places, and the nanoseconds of a sleep. From 8,000 places on it is the longest nap.
+const NAPS: [(usize, u64); 6] = [
+    (2, 250),
+    (256, 32_000),
+    (4_096, 512_000),
+    (7_999, 999_875),
+    (8_001, 1_000_000),
+    (65_536, 1_000_000),
+];
 
 #[test]
 fn a_post_sleeps_by_the_places(rt: HostRuntime) {
-    sleeps_so_long(&rt, 2, 250);
-    sleeps_so_long(&rt, 256, 32_000);
-    sleeps_so_long(&rt, 4_096, 512_000);
-    // From 8,000 places on it is the longest nap.
-    sleeps_so_long(&rt, 7_999, 999_875);
-    sleeps_so_long(&rt, 8_001, 1_000_000);
-    sleeps_so_long(&rt, 65_536, 1_000_000);
+    for (places, nap) in &NAPS {
+        sleeps_so_long(&rt, *places, *nap);
+    }
 }

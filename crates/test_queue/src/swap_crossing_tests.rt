@@ -1,13 +1,12 @@
 //! Values that go from thread to thread through a swap ring, and the spares that are got for them.
-ghost use Rattle.std.specs.Prelude.{◌≡◌};
 ghost use Rattle.alog_ring.specs.Known.{IsPassOf};
 
+use crate::crossing_tests::{Numbers, are_from, gathered};
 use crate::swap_ring_tests::swap_ring_of;
 use alog_ring::{PushError, SwapPass, SwapPopError, SwapRing};
 use std::alloc::{AllocError, Global};
 use std::process::Abort;
 use std::sync::Wait;
-use std::test::Fail;
 use std::thread::{self, Threads};
 
 // How many values each thread brings, and the spares that are there: those that are brought, and behind them one for each place.
@@ -81,74 +80,39 @@ fn swap_out_until(
     unreachable!()
 }
 
-// Pushes the numbers from `from` on, and answers the spares that it got for them.
-fn swap_all_in(
-    rt: &impl Wait,
-    alloc: Global,
-    worker: Worker,
+/// A worker, whether it brings values or spares, and the first of these.
+#[derive(Drop)]
+struct Job<'a> {
+    worker: Worker<'a>,
+    is_pushing: bool,
     from: u64,
-) -> Result<Vec<u64>, AllocError> {
+}
+
+/// Does a job.
+fn work(rt: &impl Wait, alloc: Global, job: Job<'_>) -> Numbers {
+    let Job {
+        worker,
+        is_pushing,
+        from,
+    } = job;
     let Worker { ring, mut pass } = worker;
-    let mut spares = Vec::new(alloc);
-    for value in from..from.saturating_add(COUNT) {
-        match swap_in_until(rt, ring, &mut pass, value) {
-            Some(spare) => spares.push(spare)?,
+    let mut all = Vec::new(alloc);
+    for number in from..from.saturating_add(COUNT) {
+        let got = if is_pushing {
+            swap_in_until(rt, ring, &mut pass, number)
+        } else {
+            swap_out_until(rt, ring, &mut pass, number)
+        };
+        match got {
+            Some(got) => all.push(got)?,
             None => break,
         }
     }
-    Ok(spares)
+    Ok(all)
 }
 
-// Brings the spares from `from` on, and answers the values that it got for them.
-fn swap_all_out(
-    rt: &impl Wait,
-    alloc: Global,
-    worker: Worker,
-    from: u64,
-) -> Result<Vec<u64>, AllocError> {
-    let Worker { ring, mut pass } = worker;
-    let mut values = Vec::new(alloc);
-    for spare in from..from.saturating_add(COUNT) {
-        match swap_out_until(rt, ring, &mut pass, spare) {
-            Some(value) => values.push(value)?,
-            None => break,
-        }
-    }
-    Ok(values)
-}
-
-// The numbers of both lists, in order.
-fn sorted(
-    rt: &impl Abort,
-    one: Result<Vec<u64>, AllocError>,
-    two: Result<Vec<u64>, AllocError>,
-) -> Vec<u64> {
-    let (Ok(mut all), Ok(two)) = (one, two) else {
-        panic!(rt; "out of memory");
-    };
-    match all.extend_from_slice(two.as_slice()) {
-        Ok(()) => {}
-        Err(_) => panic!(rt; "out of memory"),
-    }
-    match all.sort() {
-        Ok(()) => all,
-        Err(_) => panic!(rt; "out of memory"),
-    }
-}
-
-// Spares are got once each, of those that were brought, and all that lay in the places at first.
-fn are_spares(rt: &impl Abort, got: &[u64]) {
-    let rise = got
-        .windows(2)
-        .all(|pair| matches!(pair, [one, two] if one < two));
-    assert!(rt; rise && got.len() == 2 * COUNT as usize);
-    assert!(rt; got.iter().all(|spare| *spare >= BROUGHT));
-    let firsts = got.iter().copied().filter(|spare| *spare >= FIRSTS);
-    assert!(rt; firsts.eq(FIRSTS..FIRSTS + PLACES));
-}
-
-// The spares that lie in the places at first.
-fn first_spares(alloc: Global) -> Result<Vec<u64>, AllocError> {
+/// The spares that lie in the places at first.
+fn first_spares(alloc: Global) -> Numbers {
     let mut spares = Vec::new(alloc);
     for spare in FIRSTS..FIRSTS + PLACES {
         spares.push(spare)?;
@@ -156,47 +120,12 @@ fn first_spares(alloc: Global) -> Result<Vec<u64>, AllocError> {
     Ok(spares)
 }
 
-// What both workers of one kind answer.
-type Both = (Result<Vec<u64>, AllocError>, Result<Vec<u64>, AllocError>);
-
-// Two threads bring the values, and answer their spares.
-fn swap_in_both(
-    rt: &(impl Threads + Wait + Sync),
+/// What four threads get: two bring values, and two spares.
+fn answers(
+    rt: &(impl Abort + Threads + Wait + Sync),
     alloc: Global,
-    one: Worker,
-    two: Worker,
-) -> Both {
-    thread::join(
-        rt,
-        || swap_all_in(rt, alloc, one, 0),
-        || swap_all_in(rt, alloc, two, COUNT),
-    )
-}
-
-// Two threads bring the spares, and answer their values.
-fn swap_out_both(
-    rt: &(impl Threads + Wait + Sync),
-    alloc: Global,
-    one: Worker,
-    two: Worker,
-) -> Both {
-    thread::join(
-        rt,
-        || swap_all_out(rt, alloc, one, BROUGHT),
-        || swap_all_out(rt, alloc, two, BROUGHT + COUNT),
-    )
-}
-
-// Each value was got once.
-fn are_values(rt: &impl Abort, got: &[u64]) {
-    assert!(rt; got.iter().copied().eq(0..2 * COUNT));
-}
-
-#[test]
-fn two_threads_swap_in_and_two_swap_out(rt: HostRuntime) -> Result<(), Fail> {
-    let alloc = rt.alloc();
-    let spares = first_spares(alloc)?;
-    let (ring, mut pass) = swap_ring_of(&rt, 8, (1 << 62) - 4000, spares, alloc);
+) -> Result<Vec<Numbers>, AllocError> {
+    let (ring, mut pass) = swap_ring_of(rt, 8, (1 << 62) - 4000, first_spares(alloc)?, alloc);
     let ring = &ring;
     let second = Worker {
         ring,
@@ -211,12 +140,52 @@ fn two_threads_swap_in_and_two_swap_out(rt: HostRuntime) -> Result<(), Fail> {
         pass: ring.split(&mut pass, 1),
     };
     let first = Worker { ring, pass };
-    let (spares, values) = thread::join(
-        &rt,
-        || swap_in_both(&rt, alloc, first, second),
-        || swap_out_both(&rt, alloc, third, fourth),
-    );
-    are_values(&rt, sorted(&rt, values.0, values.1).as_slice());
-    are_spares(&rt, sorted(&rt, spares.0, spares.1).as_slice());
-    Ok(())
+    let jobs = vec![in alloc;
+        Job {
+            worker: first,
+            is_pushing: true,
+            from: 0
+        },
+        Job {
+            worker: second,
+            is_pushing: true,
+            from: COUNT
+        },
+        Job {
+            worker: third,
+            is_pushing: false,
+            from: BROUGHT
+        },
+        Job {
+            worker: fourth,
+            is_pushing: false,
+            from: BROUGHT + COUNT
+        },
+    ]?;
+    thread::map_vec(rt, jobs, &|job: Job<'_>| work(rt, alloc, job))
+}
+
+/// Spares are got once each, of those that were brought, and all that lay in the places at first.
+fn are_spares(rt: &impl Abort, got: &[u64]) {
+    let mut least = BROUGHT;
+    let mut firsts = 0_u64;
+    for spare in got {
+        assert!(rt; *spare >= least);
+        least = spare.wrapping_add(1);
+        if *spare >= FIRSTS {
+            firsts = firsts.wrapping_add(1);
+        }
+    }
+    assert!(rt; got.len() == 2 * COUNT as usize && (firsts, least) == (PLACES, FIRSTS + PLACES));
+}
+
+#[test]
+fn two_threads_swap_in_and_two_swap_out(rt: HostRuntime) {
+    let alloc = rt.alloc();
+    let Ok(answers) = answers(&rt, alloc) else {
+        panic!(rt; "out of memory")
+    };
+    let (spares, values) = answers.split_at(answers.len() / 2);
+    are_spares(&rt, &gathered(&rt, alloc, spares));
+    are_from(&rt, &gathered(&rt, alloc, values), 0, 2 * COUNT as usize);
 }

@@ -8,7 +8,6 @@ use alog_ring::{
 };
 use std::alloc::Global;
 use std::process::Abort;
-use std::test::Fail;
 
 // A swap ring with these spares, and its first pass.
 pub(crate) fn swap_ring_of(
@@ -29,60 +28,50 @@ pub(crate) fn swap_ring_of(
                 ..
             },
         ) => panic!(rt; "out of memory"),
-        Err(_) => panic!(rt; "no swap ring of {places} places from {first}"),
+        Err(_) => panic!(rt; "no such swap ring"),
     }
 }
 
-// A push gets this ticket and this spare.
-pub(crate) fn swaps_in(
+/// What is brought, and what is got for it: a ticket and the spare or the value; or the next ticket of a full ring, or the front ticket of
+/// an idle one. What is refused comes back.
+#[derive(Clone, Copy)]
+pub(crate) enum Deed {
+    In(u64, Result<(u64, u64), u64>),
+    Out(u64, Result<(u64, u64), u64>),
+}
+
+/// Whether a round answers so.
+fn is_told(ring: &SwapRing<u64>, pass: &mut SwapPass<u64>, deed: Deed) -> bool
+    requires { IsPassOf ring.now.ring pass.old }
+    ensures { IsPassOf ring.now.ring pass.new }
+{
+    match deed {
+        Deed::In(own, wanted) => match ring.push_swap(pass, own) {
+            Ok(got) => wanted == Ok(got),
+            Err(PushError::Full { value, next }) => value == own && wanted == Err(next),
+            Err(_) => false,
+        },
+        Deed::Out(own, wanted) => match ring.pop_swap(pass, own) {
+            Ok(got) => wanted == Ok(got),
+            Err(SwapPopError::Idle { next, spare }) => spare == own && wanted == Err(next),
+            Err(_) => false,
+        },
+    }
+}
+
+/// Rounds answer so, one after another.
+pub(crate) fn goes_on(
     rt: &impl Abort,
     ring: &SwapRing<u64>,
     pass: &mut SwapPass<u64>,
-    value: u64,
-    wanted: (u64, u64),
+    deeds: &[Deed],
 )
     requires { IsPassOf ring.now.ring pass.old }
     ensures { IsPassOf ring.now.ring pass.new }
 {
-    assert!(rt; matches!(ring.push_swap(pass, value), Ok(got) if got == wanted));
-}
-
-// The ring is full, the next ticket is this one, and the value comes back.
-fn is_full(rt: &impl Abort, ring: &SwapRing<u64>, pass: &mut SwapPass<u64>, at: u64)
-    requires { IsPassOf ring.now.ring pass.old }
-    ensures { IsPassOf ring.now.ring pass.new }
-{
-    let full = matches!(
-        ring.push_swap(pass, 9),
-        Err(PushError::Full { value: 9, next }) if next == at
-    );
-    assert!(rt; full);
-}
-
-// A pop that brings this spare takes this value with this ticket.
-pub(crate) fn swaps_out(
-    rt: &impl Abort,
-    ring: &SwapRing<u64>,
-    pass: &mut SwapPass<u64>,
-    spare: u64,
-    wanted: (u64, u64),
-)
-    requires { IsPassOf ring.now.ring pass.old }
-    ensures { IsPassOf ring.now.ring pass.new }
-{
-    assert!(rt; matches!(ring.pop_swap(pass, spare), Ok(got) if got == wanted));
-}
-
-// There is no value, and none is on its way: the spare comes back.
-fn is_idle(rt: &impl Abort, ring: &SwapRing<u64>, pass: &mut SwapPass<u64>, at: u64)
-    requires { IsPassOf ring.now.ring pass.old }
-    ensures { IsPassOf ring.now.ring pass.new }
-{
-    let idle = matches!(
-        ring.pop_swap(pass, 77),
-        Err(SwapPopError::Idle { next, spare: 77 }) if next == at
-    );
-    assert!(rt; idle);
+    for deed in deeds {
+        assert!(rt; is_told(ring, pass, *deed));
+    }
 }
 
 // The pass has so many parts of its ring, and has all of them or not.
@@ -127,8 +116,16 @@ pub(crate) fn leaves(
     }
 }
 
-// Why there is no such ring; the spares come back.
-fn refused(
+/// These numbers.
+pub(crate) fn list(rt: &impl Abort, alloc: Global, numbers: &[u64]) -> Vec<u64> {
+    match Vec::from_slice(alloc, numbers) {
+        Ok(list) => list,
+        Err(_) => panic!(rt; "out of memory"),
+    }
+}
+
+/// Why there is no ring with these spares, and how many come back, if there is none.
+fn refusal(
     places: usize,
     first: u64,
     spares: Vec<u64>,
@@ -140,37 +137,44 @@ fn refused(
     }
 }
 
-#[test]
-fn a_swap_ring_takes_a_spare_for_each_place(rt: HostRuntime) -> Result<(), Fail> {
-    for (places, first, count, why) in [
-        (2, 5, 1, Some(NewError::BadSize)),
-        (2, 5, 3, Some(NewError::BadSize)),
-        (3, 5, 3, Some(NewError::BadSize)),
-        (2, 1 << 62, 1, Some(NewError::BadSize)),
-        (2, 1 << 62, 2, Some(NewError::BadFirst)),
-        (2, (1 << 62) - 1, 2, None),
-    ] {
-        let spares = Vec::from_elem(rt.alloc(), 100, count)?;
-        let wanted = why.map(|why| (why, count));
-        let found = refused(places, first, spares, rt.alloc());
-        assert!(rt;
-            found != Some((NewError::OutOfMemory, count)),
-            "out of memory"
-        );
-        assert!(rt; found == wanted);
-    }
-    Ok(())
-}
+/// Places, first tickets and spares, and why there is no such ring.
+const SIZES: [(usize, u64, &[u64], Option<(NewError, usize)>); 6] = [
+    (2, 5, &[100], Some((NewError::BadSize, 1))),
+    (2, 5, &[100, 100, 100], Some((NewError::BadSize, 3))),
+    (3, 5, &[100, 100, 100], Some((NewError::BadSize, 3))),
+    (2, 1 << 62, &[100], Some((NewError::BadSize, 1))),
+    (2, 1 << 62, &[100, 100], Some((NewError::BadFirst, 2))),
+    (2, (1 << 62) - 1, &[100, 100], None),
+];
 
 #[test]
-fn a_swap_ring_of_two(rt: HostRuntime) -> Result<(), Fail> {
-    let spares = vec![in rt.alloc(); 100, 101]?;
+fn a_swap_ring_takes_a_spare_for_each_place(rt: HostRuntime) {
+    for (places, first, spares, refused) in &SIZES {
+        let spares = list(&rt, rt.alloc(), spares);
+        let found = refusal(*places, *first, spares, rt.alloc());
+        assert!(rt; found == *refused);
+    }
+}
+
+/// The ring has so many places.
+fn has_places(rt: &impl Abort, ring: &SwapRing<u64>, places: usize) {
+    assert!(rt; ring.places() == places);
+}
+
+const ROUNDS: [Deed; 4] = [
+    Deed::In(7, Ok((5, 101))),
+    Deed::In(8, Ok((6, 100))),
+    Deed::In(9, Err(7)),
+    Deed::Out(102, Ok((5, 7))),
+];
+
+#[test]
+fn a_swap_ring_of_two(rt: HostRuntime) {
+    let spares = list(&rt, rt.alloc(), &[100, 101]);
     let (ring, mut pass) = swap_ring_of(&rt, 2, 5, spares, rt.alloc());
+    has_places(&rt, &ring, 2);
     let mut other = ring.split(&mut pass, 1);
-    swaps_in(&rt, &ring, &mut pass, 7, (5, 101));
-    swaps_in(&rt, &ring, &mut pass, 8, (6, 100));
-    is_full(&rt, &ring, &mut pass, 7);
-    swaps_out(&rt, &ring, &mut pass, 102, (5, 7));
+    goes_on(&rt, &ring, &mut pass, &ROUNDS);
     ring.meet(&mut pass, &mut other);
     has_parts(&rt, &ring, &mut pass, ALL_PARTS - 1);
     has_parts(&rt, &ring, &mut other, 1);
@@ -178,81 +182,85 @@ fn a_swap_ring_of_two(rt: HostRuntime) -> Result<(), Fail> {
     ring.join(&mut pass, other);
     has_parts(&rt, &ring, &mut pass, ALL_PARTS);
     leaves(&rt, ring, pass, &[(6, 8)], &[102]);
-    Ok(())
 }
 
-// The ring has so many places.
-fn has_places(rt: &impl Abort, ring: &SwapRing<u64>, places: usize) {
-    assert!(rt; ring.places() == places);
-}
+const GOING_ROUND: [Deed; 8] = [
+    Deed::Out(77, Err(6)),
+    Deed::In(1, Ok((6, 102))),
+    Deed::In(2, Ok((7, 103))),
+    Deed::In(3, Ok((8, 100))),
+    Deed::Out(200, Ok((6, 1))),
+    Deed::Out(201, Ok((7, 2))),
+    Deed::In(4, Ok((9, 101))),
+    Deed::In(5, Ok((10, 200))),
+];
 
-#[test]
-fn spares_go_round(rt: HostRuntime) -> Result<(), Fail> {
-    let spares = vec![in rt.alloc(); 100, 101, 102, 103]?;
-    let (ring, mut pass) = swap_ring_of(&rt, 4, 6, spares, rt.alloc());
-    has_places(&rt, &ring, 4);
-    is_idle(&rt, &ring, &mut pass, 6);
-    swaps_in(&rt, &ring, &mut pass, 1, (6, 102));
-    swaps_in(&rt, &ring, &mut pass, 2, (7, 103));
-    swaps_in(&rt, &ring, &mut pass, 3, (8, 100));
-    swaps_out(&rt, &ring, &mut pass, 200, (6, 1));
-    swaps_out(&rt, &ring, &mut pass, 201, (7, 2));
-    swaps_in(&rt, &ring, &mut pass, 4, (9, 101));
-    swaps_in(&rt, &ring, &mut pass, 5, (10, 200));
-    leaves(&rt, ring, pass, &[(8, 3), (9, 4), (10, 5)], &[201]);
-    Ok(())
-}
+/// The first ticket of a ring of four places, what is done with it, and which cells and spares are left in it.
+type Row<'a> = (u64, &'a [Deed], &'a [(u64, u64)], &'a [u64]);
+
+const ROWS: [Row<'_>; 2] = [
+    (6, &GOING_ROUND, &[(8, 3), (9, 4), (10, 5)], &[201]),
+    // One that nobody touches gives its spares back.
+    (7, &[], &[], &[100, 101, 102, 103]),
+];
 
 #[test]
-fn an_untouched_swap_ring_gives_its_spares_back(rt: HostRuntime) -> Result<(), Fail> {
-    let spares = vec![in rt.alloc(); 100, 101, 102, 103]?;
-    let (ring, pass) = swap_ring_of(&rt, 4, 7, spares, rt.alloc());
-    leaves(&rt, ring, pass, &[], &[100, 101, 102, 103]);
-    Ok(())
+fn spares_go_round(rt: HostRuntime) {
+    for (first, deeds, cells, left) in &ROWS {
+        let spares = list(&rt, rt.alloc(), &[100, 101, 102, 103]);
+        let (ring, mut pass) = swap_ring_of(&rt, 4, *first, spares, rt.alloc());
+        has_places(&rt, &ring, 4);
+        goes_on(&rt, &ring, &mut pass, deeds);
+        leaves(&rt, ring, pass, cells, left);
+    }
 }
 
-// A push of what lies in the hand gets this ticket, if any, and leaves this in the hand: the spare, where it went through.
-fn hand_in(
+/// With what lies in the hand a push or a pop is made, which gets this ticket, if any, and leaves this in the hand.
+type Handed = (bool, Option<u64>, u64);
+
+fn hands(
     rt: &impl Abort,
     ring: &SwapRing<u64>,
     pass: &mut SwapPass<u64>,
     hand: &mut u64,
-    wanted: (Option<u64>, u64),
+    handed: Handed,
 )
     requires { IsPassOf ring.now.ring pass.old }
     ensures { IsPassOf ring.now.ring pass.new }
 {
-    let ticket = ring.push_swap_from(pass, hand).ok();
-    assert!(rt; (ticket, *hand) == wanted);
+    let (is_push, ticket, left) = handed;
+    let told = if is_push {
+        ring.push_swap_from(pass, hand).ok()
+    } else {
+        ring.pop_swap_into(pass, hand).ok()
+    };
+    assert!(rt; (told, *hand) == (ticket, left));
 }
 
-// A pop that brings what lies in the hand gets this ticket, if any, and leaves this in the hand: the value, where there was one.
-fn hand_out(
-    rt: &impl Abort,
-    ring: &SwapRing<u64>,
-    pass: &mut SwapPass<u64>,
-    hand: &mut u64,
-    wanted: (Option<u64>, u64),
-)
+const HANDED: [Handed; 5] = [
+    (false, None, 7),
+    (true, Some(5), 101),
+    (true, Some(6), 100),
+    (true, None, 100),
+    (false, Some(5), 7),
+];
+
+fn hand_each(rt: &impl Abort, ring: &SwapRing<u64>, pass: &mut SwapPass<u64>)
     requires { IsPassOf ring.now.ring pass.old }
     ensures { IsPassOf ring.now.ring pass.new }
 {
-    let ticket = ring.pop_swap_into(pass, hand).ok();
-    assert!(rt; (ticket, *hand) == wanted);
-}
-
-#[test]
-fn a_hand_is_swapped(rt: HostRuntime) -> Result<(), Fail> {
-    let spares = vec![in rt.alloc(); 100, 101]?;
-    let (ring, mut pass) = swap_ring_of(&rt, 2, 5, spares, rt.alloc());
     let mut hand = 7;
-    hand_out(&rt, &ring, &mut pass, &mut hand, (None, 7));
-    hand_in(&rt, &ring, &mut pass, &mut hand, (Some(5), 101));
-    hand_in(&rt, &ring, &mut pass, &mut hand, (Some(6), 100));
-    hand_in(&rt, &ring, &mut pass, &mut hand, (None, 100));
-    hand_out(&rt, &ring, &mut pass, &mut hand, (Some(5), 7));
+    for handed in HANDED {
+        hands(rt, ring, pass, &mut hand, handed);
+    }
+}
+
+#[test]
+fn a_hand_is_swapped(rt: HostRuntime) {
+    let spares = list(&rt, rt.alloc(), &[100, 101]);
+    let (ring, mut pass) = swap_ring_of(&rt, 2, 5, spares, rt.alloc());
+    hand_each(&rt, &ring, &mut pass);
     leaves(&rt, ring, pass, &[(6, 101)], &[100]);
-    Ok(())
 }
 
 // Numbers of one digit.
@@ -297,12 +305,13 @@ fn goes_through(
 }
 
 #[test]
-fn a_swap_ring_of_small_numbers(rt: HostRuntime) -> Result<(), Fail> {
-    let spares = vec![in rt.alloc(); 1, 2]?;
+fn a_swap_ring_of_small_numbers(rt: HostRuntime) {
+    let Ok(spares) = vec![in rt.alloc(); 1, 2] else {
+        panic!(rt; "out of memory")
+    };
     let Ok((ring, mut pass)) = SwapRing::limited(rt.alloc(), 2, 0, spares, Small) else {
         panic!(rt; "out of memory")
     };
     goes_through(&rt, &ring, &mut pass, 9, 1);
     goes_through(&rt, &ring, &mut pass, 3, 2);
-    Ok(())
 }

@@ -1,49 +1,9 @@
-//! The words of a queue: worked rows, and 1,000 schedules on which words and places answer as the plain list does.
+//! 1,000 schedules on which words and places answer as the plain list does, and show the same.
 use crate::plain::Plain;
-use crate::queue_tests::{FULL_AT_2, LAST, pop_says, pops, push_says, pushes, says, world};
-use alog_core::{Answer, Call, Said, World};
+use crate::queue_tests::{LAST, world};
+use alog_core::{Answer, Call, World};
 use std::alloc::{AllocError, Global};
 use std::process::Abort;
-use std::test::Fail;
-
-/// The words of a queue are these.
-fn has_words(rt: &impl Abort, alloc: Global, world: &World<u64>, wanted: &[u64]) {
-    match world.words(alloc) {
-        Ok(words) => assert!(rt; words.as_slice() == wanted),
-        Err(_) => panic!(rt; "out of memory"),
-    }
-}
-
-#[test]
-fn words_of_a_queue(rt: HostRuntime) {
-    let mut world = world(&rt, rt.alloc(), 2, 5);
-    has_words(&rt, rt.alloc(), &world, &[5, 5, 6, 5]);
-    let claimed = [Said::Nothing, Said::Nothing, Said::Claim(5)];
-    push_says(&rt, &mut world, 1, 10, &claimed);
-    has_words(&rt, rt.alloc(), &world, &[6, 5, 6, 5]);
-    says(&rt, &mut world, 1, &[Said::Write(5)]);
-    has_words(&rt, rt.alloc(), &world, &[6, 5, 6, 6]);
-    pops(&rt, &mut world, 2, 5, 10);
-    has_words(&rt, rt.alloc(), &world, &[6, 6, 6, 7]);
-}
-
-#[test]
-fn words_of_a_full_queue(rt: HostRuntime) {
-    let mut world = world(&rt, rt.alloc(), 2, 0);
-    pushes(&rt, &mut world, 1, 10, 0);
-    pushes(&rt, &mut world, 2, 20, 1);
-    let grabbed = [Said::Nothing, Said::Nothing, Said::Grab(0)];
-    pop_says(&rt, &mut world, 3, &grabbed);
-    pops(&rt, &mut world, 4, 1, 20);
-    push_says(&rt, &mut world, 5, 30, &FULL_AT_2);
-    has_words(&rt, rt.alloc(), &world, &[2, 2, 1, 3]);
-}
-
-#[test]
-fn words_at_the_last_ticket(rt: HostRuntime) {
-    let world = world(&rt, rt.alloc(), 2, LAST);
-    has_words(&rt, rt.alloc(), &world, &[LAST, LAST, LAST + 1, LAST]);
-}
 
 /// Numbers in a fixed order (Steele, Lea and Flood's SplitMix64).
 #[derive(Drop)]
@@ -84,69 +44,97 @@ impl Numbers {
     }
 }
 
-/// Plays the same calls on both, and tells whether both answered alike.
-fn answer_alike(
-    alloc: Global,
-    world: &mut World<u64>,
-    plain: &mut Plain<u64>,
-    seed: u64,
-    actors: u64,
-) -> Result<bool, AllocError> {
-    let (mut numbers, mut again) = (Numbers(seed), Numbers(seed));
+/// How many calls a run has.
+const CALLS: usize = 60;
+
+/// The calls of a run, of so many actors.
+fn calls_of(alloc: Global, seed: u64, actors: u64) -> Result<Vec<Call<u64>>, AllocError> {
+    let mut numbers = Numbers(seed);
     let mut calls = Vec::new(alloc);
-    let mut wanted: Vec<Answer<u64>> = Vec::new(alloc);
-    for _ in 0..60 {
+    for _ in 0..CALLS {
         calls.push(numbers.call(actors))?;
-        wanted.push(plain.answer(again.call(actors))?)?;
     }
-    let Ok(answers) = world.run(alloc, calls) else {
-        return Err(AllocError);
-    };
-    Ok(answers == wanted)
+    Ok(calls)
 }
 
-/// Whether both show the same cells and words.
-fn show_alike(alloc: Global, world: &World<u64>, plain: &Plain<u64>) -> Result<bool, AllocError> {
-    let cells = world.cells(alloc)? == plain.cells(alloc)?;
-    Ok(cells && world.words(alloc)? == plain.words(alloc)?)
+/// What the queue answers to these calls.
+fn answers_of(
+    rt: &impl Abort,
+    alloc: Global,
+    world: &mut World<u64>,
+    calls: Result<Vec<Call<u64>>, AllocError>,
+) -> Vec<Answer<u64>> {
+    let Ok(calls) = calls else {
+        panic!(rt; "out of memory")
+    };
+    match world.run(alloc, calls) {
+        Ok(answers) => answers,
+        Err(_) => panic!(rt; "out of memory"),
+    }
+}
+
+/// Whether the plain list answers the calls of a run so.
+fn answers_alike(plain: &mut Plain, seed: u64, actors: u64, answers: &[Answer<u64>]) -> bool {
+    let mut numbers = Numbers(seed);
+    for answer in answers {
+        if plain.answer(&numbers.call(actors)) != *answer {
+            return false;
+        }
+    }
+    answers.len() == CALLS
+}
+
+/// Whether the plain list shows the cells and words of the queue.
+fn shows_alike(rt: &impl Abort, alloc: Global, world: &World<u64>, plain: &Plain) -> bool {
+    let (Ok(cells), Ok(words)) = (world.cells(alloc), world.words(alloc)) else {
+        panic!(rt; "out of memory")
+    };
+    plain.has_cells(&cells) && plain.has_words(&words)
 }
 
 /// Plays eight runs on both, and tells whether both were alike after each.
 fn are_alike(
-    alloc: Global,
-    world: &mut World<u64>,
-    plain: &mut Plain<u64>,
-    numbers: &mut Numbers,
-    actors: u64,
-) -> Result<bool, AllocError> {
-    let mut alike = true;
-    for _ in 0..8 {
-        let answers = answer_alike(alloc, world, plain, numbers.next(), actors)?;
-        alike = alike && answers && show_alike(alloc, world, plain)?;
-    }
-    Ok(alike)
-}
-
-/// A queue of one of a few sizes and first tickets, and the same as a plain list, are alike.
-fn schedule_is_alike(
     rt: &impl Abort,
     alloc: Global,
+    world: &mut World<u64>,
+    plain: &mut Plain,
     numbers: &mut Numbers,
-) -> Result<bool, AllocError> {
-    let places = numbers.one_of(&[2, 4, 8, 16]);
-    let first = numbers.one_of(&[0, 1, 5, 14, LAST - 40, LAST - 9, LAST - 2, LAST]);
-    let actors = numbers.one_of(&[1, 2, 4, 8, 16, 32, 64, 64]);
-    let mut plain = Plain::new(alloc, places, first)?;
-    let mut world = world(rt, alloc, places as usize, first);
-    are_alike(alloc, &mut world, &mut plain, numbers, actors)
+    actors: u64,
+) -> bool {
+    for _ in 0..8 {
+        let seed = numbers.next();
+        let answers = answers_of(rt, alloc, world, calls_of(alloc, seed, actors));
+        let alike = answers_alike(plain, seed, actors, &answers);
+        if !alike || !shows_alike(rt, alloc, world, plain) {
+            return false;
+        }
+    }
+    true
+}
+
+const PLACES: [u64; 4] = [2, 4, 8, 16];
+
+const FIRSTS: [u64; 8] = [0, 1, 5, 14, LAST - 40, LAST - 9, LAST - 2, LAST];
+
+const ACTORS: [u64; 8] = [1, 2, 4, 8, 16, 32, 64, 64];
+
+/// A queue of one of a few sizes and first tickets, and the same as a plain list, are alike.
+fn schedule_is_alike(rt: &impl Abort, alloc: Global, numbers: &mut Numbers) -> bool {
+    let places = numbers.one_of(&PLACES) as usize;
+    let first = numbers.one_of(&FIRSTS);
+    let actors = numbers.one_of(&ACTORS);
+    let Ok(mut plain) = Plain::new(alloc, places, first) else {
+        panic!(rt; "out of memory")
+    };
+    let mut world = world(rt, alloc, places, first);
+    are_alike(rt, alloc, &mut world, &mut plain, numbers, actors)
 }
 
 #[test]
-fn a_plain_list_answers_alike(rt: HostRuntime) -> Result<(), Fail> {
+fn a_plain_list_answers_alike(rt: HostRuntime) {
     let mut numbers = Numbers(1);
     for schedule in 0..1000 {
-        let alike = schedule_is_alike(&rt, rt.alloc(), &mut numbers)?;
+        let alike = schedule_is_alike(&rt, rt.alloc(), &mut numbers);
         assert!(rt; alike, "schedule {schedule}");
     }
-    Ok(())
 }

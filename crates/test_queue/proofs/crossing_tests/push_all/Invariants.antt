@@ -1,5 +1,5 @@
 use Rattle.alog_ring.specs.Known.{IsPassOf}
 use Rattle.test_queue.proofs.crossing_tests.push_all.Given as goal
 
-abbrev pub invariant-loop-value : goal.invariant-loop-value
-invariant-loop-value g l = IsPassOf l.ring l.pass
+abbrev pub invariant-loop-number : goal.invariant-loop-number
+invariant-loop-number g l = IsPassOf l.ring l.pass

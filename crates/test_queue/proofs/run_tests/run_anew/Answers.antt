@@ -4,7 +4,7 @@ use Rattle.alog_core.specs.World.{Machine, fresh}
 use Rattle.alog_core.specs.Run.{GoesOn, entries_of_run}
 use Rattle.alog_core.proofs.SharedFronts.{leads_start}
 use Rattle.alog_core.proofs.SharedRuns.{places_after_calls}
-use Rattle.test_queue.proofs.queue_tests.run_anew.Goals as goal
+use Rattle.test_queue.proofs.run_tests.run_anew.Goals as goal
 
 -- the empty history leads to the new queue, so it goes on with the entries of the run
 pub returns-clause-stands : goal.returns-clause-stands

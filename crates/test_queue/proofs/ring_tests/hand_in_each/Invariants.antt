@@ -1,0 +1,5 @@
+use Rattle.alog_ring.specs.Known.{IsPassOf}
+use Rattle.test_queue.proofs.ring_tests.hand_in_each.Given as goal
+
+abbrev pub invariant-loop-value : goal.invariant-loop-value
+invariant-loop-value g l = IsPassOf l.ring l.pass

@@ -1,6 +1,0 @@
-use Rattle.alog_ring.specs.Known.{IsPassOf}
-use Rattle.alog_policy.specs.BookCalls.{IsSeatOf}
-use Rattle.test_queue.proofs.swap_port_tests.post_each.Given as goal
-
-abbrev pub invariant-loop-policy : goal.invariant-loop-policy
-invariant-loop-policy g l = IsPassOf l.ring.ring l.pass × IsSeatOf l.book l.seat
