@@ -109,7 +109,7 @@ pub(crate) fn goes_on(rt: &impl Abort, ring: &Ring<u64>, pass: &mut Pass<u64>, d
 }
 
 // A pass is out, and so the ring is not closed.
-fn stays(rt: &impl Abort, ring: Ring<u64>, pass: Pass<u64>) -> (Ring<u64>, Pass<u64>)
+pub(crate) fn stays(rt: &impl Abort, ring: Ring<u64>, pass: Pass<u64>) -> (Ring<u64>, Pass<u64>)
     requires { IsPassOf ring pass }
     ensures same { result.0 ≡ ring }
     ensures pass { IsPassOf result.0 result.1 }
@@ -136,7 +136,7 @@ pub(crate) fn leaves<L: Limit<u64> + Drop>(
 }
 
 // The pass has so many parts of its ring, and has all of them or not.
-fn has_parts(rt: &impl Abort, ring: &Ring<u64>, pass: &mut Pass<u64>, parts: u64)
+pub(crate) fn has_parts(rt: &impl Abort, ring: &Ring<u64>, pass: &mut Pass<u64>, parts: u64)
     requires { IsPassOf ring.now pass.old }
     ensures { IsPassOf ring.now pass.new }
 {

@@ -1,11 +1,12 @@
 //! What other threads meet while a push, a pop or a pass of a running ring is held, and which steps a gate is told.
+ghost use Rattle.std.specs.Prelude.{◌≡◌};
 ghost use Rattle.alog_ring.specs.Known.{IsPassOf};
 
 use crate::crossing_tests::Worker;
 use crate::port_tests::is_discarded;
-use crate::ring_tests::{Deed, goes_on, is_told, ring_of};
+use crate::ring_tests::{Deed, goes_on, has_parts, is_told, leaves, ring_of, stays};
 use alog_policy::{Policy, Why};
-use alog_ring::{Pass, PopError, Ring, StepGate};
+use alog_ring::{ALL_PARTS, Pass, PopError, Ring, StepGate};
 use std::alloc::Global;
 use std::process::Abort;
 use std::sync::Wait;
@@ -285,4 +286,60 @@ fn posts_beside_a_held_push_and_beaten_calls(rt: HostRuntime) {
     for row in OTHERS {
         holds(&rt, rt.alloc(), row);
     }
+}
+
+/// A thread has a pass until it is let go on.
+fn keeps(pass: Pass<u64>, hold: &Hold) -> Pass<u64>
+    ensures { result ≡ pass }
+{
+    hold.stay();
+    pass
+}
+
+/// While another thread has a pass, the ring is not whole, and not closed.
+fn is_kept_open(
+    rt: &impl Abort,
+    ring: Ring<u64>,
+    mut pass: Pass<u64>,
+    hold: &Hold,
+) -> (Ring<u64>, Pass<u64>)
+    requires { IsPassOf ring pass }
+    ensures same { result.0 ≡ ring }
+    ensures pass { IsPassOf result.0 result.1 }
+{
+    assert!(rt; is_raised(&hold.reached));
+    has_parts(rt, &ring, &mut pass, ALL_PARTS - 1);
+    let (ring, pass) = stays(rt, ring, pass);
+    hold.open();
+    (ring, pass)
+}
+
+/// What the ring is given before it: two values, of which one is taken.
+const TWO_AND_ONE_TAKEN: [Deed; 4] = [
+    Deed::Push(7, Ok(5)),
+    Deed::Push(8, Ok(6)),
+    Deed::Push(9, Err(Some(7))),
+    Deed::Pop(Ok((5, 7))),
+];
+
+#[test]
+fn a_pass_of_another_thread_keeps_a_ring_open(rt: HostRuntime) {
+    let (ring, mut pass) = ring_of(&rt, rt.alloc(), 2, 5);
+    let other = ring.split(&mut pass, 1);
+    goes_on(&rt, &ring, &mut pass, &TWO_AND_ONE_TAKEN);
+    let hold = Hold::before(0);
+    let (other, (ring, mut pass)) = thread::join(
+        &rt,
+        || -> Pass<u64>
+            ensures { result ≡ other }
+        { keeps(other, &hold) },
+        || -> (Ring<u64>, Pass<u64>)
+            requires { IsPassOf ring pass }
+            ensures same { result.0 ≡ ring }
+            ensures pass { IsPassOf result.0 result.1 }
+        { is_kept_open(&rt, ring, pass, &hold) },
+    );
+    hold.went_on(&rt, 0);
+    ring.join(&mut pass, other);
+    leaves(&rt, ring, pass, &[(6, 8)]);
 }
