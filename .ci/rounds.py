@@ -188,7 +188,8 @@ def verdict_of(edit, functions, refused, said):
 
 
 def verdicts_in(crate, room, members, check):
-    """Yields the verdict on each edit of a round. Where one of them does not compile there is none on any, and each half is a round."""
+    """Yields the verdict on each edit of a round. Where one of them does not compile there is none on any, and each half is a round; what is
+    not refused is tried alone."""
     said = checked(crate, room, members, check)
     if len(members) > 1 and not VERDICT_LINE.search(said[1]):
         half = len(members) // 2
@@ -198,7 +199,11 @@ def verdicts_in(crate, room, members, check):
     refused = refused_by(said[1], crate)
     for edit, functions in members:
         found = verdict_of(edit, functions, refused, said)
-        yield edit, found if found != UNTRIED else f"{UNTRIED}: {' '.join(said[1].split())[-300:]}"
+        if found in (PROVED, UNTRIED) and len(members) > 1:
+            # (of a function that calls another one of the round nothing is said but that)
+            yield from verdicts_in(crate, room, [(edit, functions)], check)
+        else:
+            yield edit, found if found != UNTRIED else f"{UNTRIED}: {' '.join(said[1].split())[-300:]}"
 
 
 def verdicts_of(crate, room, edits, check):
