@@ -24,7 +24,7 @@ use crate::load::idle::print_idle;
 use crate::load::null_store::NullStore;
 use crate::load::run::{Run, print_run, run_on};
 use crate::outputs::{FILE, remove_all};
-use alog_server::Folders;
+use alog_server::{Folders, Patience};
 use alog_sink::MemStore;
 use anyhow::Result;
 use std::alloc::Global;
@@ -48,7 +48,7 @@ where
 
 /// A store over the folder with this path, which may go to other threads, and from which the file of a run is removed.
 fn folder<R: Folders>(rt: &R, alloc: Global, path: &str) -> Result<R::Folder> {
-    let mut store = rt.folder(alloc, path)?;
+    let mut store = rt.folder(alloc, path, Patience::Times(0))?;
     remove_all(&mut store, &[FILE])?;
     Ok(store)
 }
