@@ -1,86 +1,178 @@
-//! Servers: starts that are refused, runs of threads, and what a client answers.
-use crate::works::told_of_works;
-use alog_server::{Client, Home, LogError, Ran, RunError, Server, StartError, Work, start};
-use alog_sink::Store;
-use std::sync::Wait;
-use std::time::Clock;
+//! Servers: starts that are refused, runs of threads, and what is told of them.
+use crate::answers::{SinkRow, Wanted, is_right};
+use crate::asks::{Ask, HELLO, Talk, Told, tell};
+use crate::places::Place;
+use alog_server::LogError;
+use std::process::Abort;
 use std::{fs, io};
-use test_runs::{Host, SHORT, SMALL, folder, lines_in};
+use test_runs::{SHORT, SMALL, folder, lines_in};
 
-/// A thread that logs this text to this logger, so many times.
-pub(crate) struct Talk {
-    logger: &'static str,
-    text: &'static str,
-    messages: usize,
+/// What lies at the path of its folder, the document of a server, what it is asked, and what it is to tell.
+type Row<'a> = (Place, &'a str, Ask<'a>, Wanted<'a>);
+
+/// It tells so.
+fn is_told(rt: &impl Abort, told: &Told, folder: &str, wanted: Wanted<'_>, number: usize) {
+    assert!(rt; is_right(told, folder, wanted), "row {number}");
 }
 
-impl<R: Wait + Clock> Work<R> for Talk {
-    type Error = LogError;
+/// One sink, whose files have names by dates.
+const DAILY: &str = "queue = 8\n\n[[sink]]\nname = \"out\"\nkind = \"daily\"\nfile = \"out\"\n\n\
+                     [[logger]]\nname = \"net\"\nsinks = [\"out\"]\n";
 
-    fn work<H: Home>(
-        &self,
-        rt: &R,
-        _thread: usize,
-        client: &mut Client<H>,
-    ) -> Result<(), LogError> {
-        let logger = client.logger(self.logger)?;
-        for _ in 0..self.messages {
-            client.info(rt, &logger, self.text)?;
-        }
-        Ok(())
-    }
-}
+/// One that rotates two files.
+const ROTATING: &str =
+    "queue = 8\n\n[[sink]]\nname = \"out\"\nkind = \"rotating\"\nfile = \"out\"\nmax_size = 100\nmax_files = 2\n\n\
+                        [[logger]]\nname = \"net\"\nsinks = [\"out\"]\n";
 
-pub(crate) const HELLO: Talk = Talk {
-    logger: "net",
+/// One, whose file would be that by which the folder is held.
+const ON_THE_LOCK: &str =
+    "[[sink]]\nname = \"out\"\nkind = \"memory\"\nfile = \".alog.lock\"\n\n[[logger]]\nname = \"net\"\nsinks = [\"out\"]\n";
+
+/// Two sinks for each message, both flushed behind it: a file to which nothing can be written, and a fan of two files.
+const FAULTY: &str = "queue = 8\n\n[[sink]]\nname = \"a\"\nkind = \"memory\"\nfile = \"a.log\"\n\n\
+                      [[sink]]\nname = \"lost\"\nkind = \"memory\"\nfile = \"lost.log\"\nlevel = \"info\"\n\n\
+                      [[sink]]\nname = \"b\"\nkind = \"daily\"\nfile = \"b.log\"\n\n\
+                      [[sink]]\nname = \"both\"\nkind = \"fan\"\nof = [\"b\", \"a\"]\n\n\
+                      [[logger]]\nname = \"net\"\nsinks = [\"both\", \"lost\"]\nflush_on = \"info\"\n";
+
+/// What is told of the sinks where three hundred messages were logged to each: those that are no fan's member, in the order of the
+/// configuration. The first line waits in its buffer, and fails at its flush.
+const TOLD: [SinkRow; 2] = [
+    ("lost", 599, &["lost.log"]),
+    ("both", 0, &["b.log", "a.log"]),
+];
+
+/// A thread that logs to a logger that is not there, and one whose text is too long.
+const STRAY: Talk = Talk {
+    logger: "disk",
     text: "hello",
-    messages: 100,
+    messages: 1,
 };
 
-/// Starts a server. What `start` promises is told to no test by it.
-pub(crate) fn started<R: Host>(
-    rt: &R,
-    document: &str,
-    folder: &str,
-) -> Result<Server<R::Folder, R::Lock>, StartError> {
-    start(rt, rt.alloc(), document.as_bytes(), folder)
-}
+const LONG: Talk = Talk {
+    logger: "net",
+    text: "a text of more than sixty-four bytes, which is over the text limit",
+    messages: 1,
+};
 
-/// Lets so many threads do this work. What `Server::run` promises is told to no test by it.
-pub(crate) fn ran<R: Host>(
-    rt: &R,
-    server: Server<R::Folder, R::Lock>,
-    threads: usize,
-    work: &Talk,
-) -> Result<Ran<R::Folder, LogError, R::Lock>, RunError> {
-    server.run(rt, threads, work)
-}
+/// What is said of a file that is a link to itself.
+const LOOPS: &str =
+    "sink 0, out: the size of its file cannot be read: Too many levels of symbolic links (os error 40)";
 
-/// Whether a run says that it handled so many messages, and why a work ended early.
-fn tells<S: Store + Drop, L: Drop>(
-    ran: Result<Ran<S, LogError, L>, RunError>,
-    (messages, early): (u64, Option<LogError>),
-) -> bool {
-    match ran {
-        Ok(ran) => {
-            let totals = ran.report.totals;
-            totals.asked == messages && totals.handled == messages && ran.error == early
-        }
-        Err(_) => false,
+/// What is to be printed, as derived implementations print it.
+const PRINTED: &str =
+    "Server { pool: Pool { workers: 1, producers: 0, .. }, sinks: [SinkEnd { name: \"out\", faults: 0, \
+    files: NameList { texts: [\"out\"] } }], .. }\n\
+    Ok(Ran { report: Report { totals: Totals { asked: 0, posted: 0, discarded: 0, overrun: 0, handled: 0 }, tickets: [[]], \
+    faults: [0], .. }, sinks: [SinkEnd { name: \"out\", faults: 0, \
+    files: NameList { texts: [\"out\"] } }], \
+    error: Some(\"Client { producer: Producer { number: 0, .. }, .. }, Logger { number: 0, .. }\"), .. })";
+
+const ONE: Ask<'_> = Ask::Run(1, &HELLO);
+
+const RAN: Wanted<'_> = Wanted::Run(100, None);
+
+const ROWS: [Row<'_>; 10] = [
+    // Works that end early end the pool all the same.
+    (
+        Place::Folder,
+        SHORT,
+        Ask::Run(2, &STRAY),
+        Wanted::Run(0, Some(LogError::NoLogger)),
+    ),
+    (
+        Place::Folder,
+        SHORT,
+        Ask::Run(2, &LONG),
+        Wanted::Run(0, Some(LogError::TextTooLong)),
+    ),
+    // A server has 1 to 4,096 threads.
+    (
+        Place::Folder,
+        SMALL,
+        Ask::Run(0, &HELLO),
+        Wanted::BadThreads,
+    ),
+    (
+        Place::Folder,
+        SMALL,
+        Ask::Run(4_097, &HELLO),
+        Wanted::BadThreads,
+    ),
+    // Documents that are no configurations.
+    (
+        Place::Absent,
+        "queue = \"8",
+        ONE,
+        Wanted::NoConfig("refused 28: the document is not TOML: line 1: invalid string"),
+    ),
+    (
+        Place::Absent,
+        "queue = 3",
+        ONE,
+        Wanted::NoConfig(
+            "refused 30 in top: queue = 3: a value that its key can not have; it may have a power of two, 2 to 65536",
+        ),
+    ),
+    (
+        Place::Absent,
+        "",
+        ONE,
+        Wanted::NoConfig("refused 31 in top: sink: a key is missing; it may have 1 to 256 tables"),
+    ),
+    // What is no obstacle is passed over.
+    (Place::UsedFolder, DAILY, ONE, RAN),
+    // Sinks are told with their faults and files.
+    (
+        Place::FullFolder,
+        FAULTY,
+        Ask::Run(3, &HELLO),
+        Wanted::Sinks(&TOLD),
+    ),
+    (Place::Folder, SMALL, Ask::Print, Wanted::Printed(PRINTED)),
+];
+
+#[test]
+fn what_servers_tell(rt: HostRuntime) -> io::Result<()> {
+    for (number, (place, document, ask, wanted)) in ROWS.iter().enumerate() {
+        let folder = place.made(&rt)?;
+        let told = tell(&rt, rt.alloc(), (document, folder.as_str()), *ask);
+        is_told(&rt, &told, folder.as_str(), *wanted, number);
+        place.remove(&rt, &folder)?;
     }
+    Ok(())
 }
 
-/// Whether a run of a server of this document, with its files in this folder, tells so.
-fn runs<R: Host>(
-    rt: &R,
-    (document, folder): (&str, &str),
-    (threads, work): (usize, &Talk),
-    told: (u64, Option<LogError>),
-) -> bool {
-    match started(rt, document, folder) {
-        Ok(server) => tells(ran(rt, server, threads, work), told),
-        Err(_) => false,
+/// Places that take no lines.
+const NO_FILES: Wanted<'_> = Wanted::NoLines("no files can be written to ", ": ");
+
+const NO_FOLDER: Wanted<'_> = Wanted::NoLines("", " is no folder");
+
+const NO_FILE: Wanted<'_> = Wanted::NoLines("", "/out cannot be written: ");
+
+const UNWRITABLE: [Row<'_>; 11] = [
+    (Place::Absent, SMALL, ONE, NO_FILES),
+    (Place::Proc, SMALL, ONE, NO_FILES),
+    (Place::File, SMALL, ONE, NO_FOLDER),
+    (Place::Absent, DAILY, ONE, NO_FILES),
+    (Place::Proc, DAILY, ONE, NO_FILES),
+    (Place::File, DAILY, ONE, NO_FOLDER),
+    (Place::Absent, ROTATING, ONE, NO_FILES),
+    (Place::Proc, ROTATING, ONE, NO_FILES),
+    (Place::File, ROTATING, ONE, NO_FOLDER),
+    (Place::TakenFolder, SMALL, ONE, NO_FILE),
+    (Place::TakenFolder, ROTATING, ONE, NO_FILE),
+];
+
+#[test]
+fn what_cannot_be_written_is_refused_at_the_start(rt: HostRuntime) -> io::Result<()> {
+    for (number, (place, document, ask, wanted)) in UNWRITABLE.iter().enumerate() {
+        let folder = place.made(&rt)?;
+        let told = tell(&rt, rt.alloc(), (document, folder.as_str()), *ask);
+        is_told(&rt, &told, folder.as_str(), *wanted, number);
+        place.remove(&rt, &folder)?;
     }
+    Ok(())
 }
 
 /// Whether this is so many lines, and all are this one.
@@ -88,128 +180,43 @@ fn has_lines(text: &str, count: usize, wanted: &str) -> bool {
     text.lines().count() == count && text.lines().all(|line| line == wanted)
 }
 
+/// Servers over one folder, one after another: three threads of the first log to one file, and one of the second behind them.
+const HOLDING: [(&str, Ask<'_>, Wanted<'_>); 4] = [
+    (SMALL, Ask::Run(3, &HELLO), Wanted::Run(300, None)),
+    (SMALL, Ask::Hold, Wanted::Held),
+    (DAILY, ONE, RAN),
+    (
+        ON_THE_LOCK,
+        ONE,
+        Wanted::NoLines("", "/.alog.lock is the lock of the folder"),
+    ),
+];
+
 #[test]
-fn threads_of_a_server_log_to_one_file(rt: HostRuntime) -> io::Result<()> {
+fn a_folder_is_held_by_one_server(rt: HostRuntime) -> io::Result<()> {
     let folder = folder(&rt)?;
-    assert!(rt; runs(&rt, (SMALL, folder.as_str()), (3, &HELLO), (300, None)));
+    for (number, (document, ask, wanted)) in HOLDING.iter().enumerate() {
+        let told = tell(&rt, rt.alloc(), (document, folder.as_str()), *ask);
+        is_told(&rt, &told, folder.as_str(), *wanted, number);
+    }
     let lines = lines_in(&rt, &folder)?;
-    assert!(rt; has_lines(lines.as_str(), 300, "net I hello"));
+    assert!(rt; has_lines(lines.as_str(), 400, "net I hello"));
     Ok(())
 }
 
-/// Works that end early, and why.
-const EARLY: [(Talk, LogError); 2] = [
-    (
-        Talk {
-            logger: "disk",
-            text: "hello",
-            messages: 1,
-        },
-        LogError::NoLogger,
-    ),
-    (
-        Talk {
-            logger: "net",
-            text: "a text of more than sixty-four bytes, which is over the text limit",
-            messages: 1,
-        },
-        LogError::TextTooLong,
-    ),
+/// A rotating sink over the stores of a folder that is empty, and of one where its file is a link to itself.
+const OVER: [(Place, Wanted<'_>); 2] = [
+    (Place::Folder, RAN),
+    (Place::LoopFolder, Wanted::NoStore(LOOPS)),
 ];
 
-/// Whether a run of two threads that do this work handles nothing, and tells this error.
-fn ends_early<R: Host>(rt: &R, folder: &str, work: &Talk, error: LogError) -> bool {
-    runs(rt, (SHORT, folder), (2, work), (0, Some(error)))
-}
-
 #[test]
-fn works_that_end_early_end_the_pool_all_the_same(rt: HostRuntime) -> io::Result<()> {
-    let folder = folder(&rt)?;
-    for (work, error) in &EARLY {
-        assert!(rt; ends_early(&rt, folder.as_str(), work, *error), "{error}");
+fn a_sink_that_cannot_be_opened_is_told(rt: HostRuntime) -> io::Result<()> {
+    for (number, (place, wanted)) in OVER.iter().enumerate() {
+        let folder = place.made(&rt)?;
+        let told = tell(&rt, rt.alloc(), (ROTATING, folder.as_str()), Ask::Over);
+        is_told(&rt, &told, folder.as_str(), *wanted, number);
+        place.remove(&rt, &folder)?;
     }
-    fs::remove_dir_all(&rt, folder.as_str())
-}
-
-/// Whether a run was refused for the number of its threads.
-fn has_bad_threads<S: Store + Drop, L: Drop>(ran: Result<Ran<S, LogError, L>, RunError>) -> bool {
-    matches!(ran, Err(RunError::BadThreads))
-}
-
-/// Whether a server refuses so many threads.
-fn refuses_threads<R: Host>(rt: &R, folder: &str, threads: usize) -> bool {
-    match started(rt, SMALL, folder) {
-        Ok(server) => has_bad_threads(ran(rt, server, threads, &HELLO)),
-        Err(_) => false,
-    }
-}
-
-#[test]
-fn a_server_has_1_to_4096_threads(rt: HostRuntime) -> io::Result<()> {
-    let folder = folder(&rt)?;
-    for threads in [0, 4_097] {
-        assert!(rt; refuses_threads(&rt, folder.as_str(), threads), "{threads}");
-    }
-    fs::remove_dir_all(&rt, folder.as_str())
-}
-
-/// Documents that are no configurations, and what is said of them.
-const NO_SERVERS: [(&str, &str); 3] = [
-    (
-        "queue = \"8",
-        "refused 28: the document is not TOML: line 1: invalid string",
-    ),
-    (
-        "queue = 3",
-        "refused 30 in top: queue = 3: a value that its key can not have; it may have a power of two, 2 to 65536",
-    ),
-    (
-        "",
-        "refused 31 in top: sink: a key is missing; it may have 1 to 256 tables",
-    ),
-];
-
-/// Whether an error says this of a configuration.
-fn says(error: &StartError, why: &str) -> bool {
-    match error {
-        StartError::Config { text, .. } => text.as_str() == why,
-        _ => false,
-    }
-}
-
-/// Whether no server is started of this document, for this reason. One that is started has to be ended.
-fn refuses<R: Host>(rt: &R, document: &str, why: &str) -> bool {
-    match started(rt, document, "") {
-        Ok(server) => {
-            drop(ran(rt, server, 1, &HELLO));
-            false
-        }
-        Err(error) => says(&error, why),
-    }
-}
-
-#[test]
-fn documents_of_no_server(rt: HostRuntime) {
-    for (document, why) in &NO_SERVERS {
-        assert!(rt; refuses(&rt, document, why), "{why}");
-    }
-}
-
-/// Whether a run of so many threads, of which all but the first two end early, tells this error.
-fn tells_late<R: Host>(rt: &R, folder: &str, threads: usize, error: Option<usize>) -> bool {
-    match started(rt, SMALL, folder) {
-        Ok(server) => match told_of_works(rt, server, threads) {
-            Ok(ran) => ran.error == error,
-            Err(_) => false,
-        },
-        Err(_) => false,
-    }
-}
-
-#[test]
-fn the_first_thread_that_ends_early_is_told(rt: HostRuntime) -> io::Result<()> {
-    let folder = folder(&rt)?;
-    assert!(rt; tells_late(&rt, folder.as_str(), 5, Some(2)));
-    assert!(rt; tells_late(&rt, folder.as_str(), 2, None));
-    fs::remove_dir_all(&rt, folder.as_str())
+    Ok(())
 }
