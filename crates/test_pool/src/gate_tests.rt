@@ -69,8 +69,8 @@ const HELD: [(u64, &[&str], &[u64], &[u8]); 2] = [
 
 #[test]
 fn a_held_ticket_is_written_last(rt: HostRuntime) {
-    for (until, texts, others, bytes) in HELD {
-        goes_on(&rt, rt.alloc(), until, texts, others, bytes);
+    for (until, texts, others, bytes) in &HELD {
+        goes_on(&rt, rt.alloc(), *until, texts, others, bytes);
     }
 }
 
@@ -115,7 +115,7 @@ where
 // the lines.
 type AtFull<'a> = (Policy, &'a [Deed<'a>], (u64, u64, u64), &'a [u64], &'a [u8]);
 
-const FULL: [AtFull<'_>; 4] = [
+static FULL: [AtFull<'static>; 4] = [
     (
         Policy::OverrunOldest,
         &[
@@ -165,9 +165,13 @@ const FULL: [AtFull<'_>; 4] = [
     ),
 ];
 
+fn full() -> &'static [AtFull<'static>] {
+    &FULL
+}
+
 #[test]
 fn policies_of_a_full_queue(rt: HostRuntime) {
-    for (policy, deeds, totals, tickets, bytes) in FULL {
-        is_full(&rt, rt.alloc(), policy, deeds, totals, tickets, bytes);
+    for (policy, deeds, totals, tickets, bytes) in full() {
+        is_full(&rt, rt.alloc(), *policy, deeds, *totals, tickets, bytes);
     }
 }

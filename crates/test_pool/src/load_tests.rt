@@ -3,14 +3,13 @@ use crate::reports::{count_of_lines, file_named, has_faults, has_first_tickets, 
 use crate::thread_tests::has_each_ticket_once;
 use crate::trial::{Files, NEVER};
 use alog_config::{Config, leaves, read};
-use alog_load::{LoadError, load};
-use alog_pool::{Gate, OpenGate, Report};
+use alog_load::LoadError;
+use alog_pool::{Gate, Report};
 use alog_sink::{FuseStore, MemStore};
 use std::alloc::Global;
 use std::process::Abort;
 use std::sync::atomic::{AtomicU64, Ordering};
 use std::sync::{Arc, Wait};
-use std::test::Fail;
 use std::thread::Threads;
 use std::time::Clock;
 
@@ -79,248 +78,6 @@ fn stores_of(rt: &impl Abort, alloc: Global, count: usize, fails: u64) -> Vec<Fi
     stores
 }
 
-// What a load answers with this gate, where the last store fails its call of this number.
-fn answer_of<
-    R: Abort + Threads + Wait + Clock + Clone + Drop + Send + Sync + 'static,
-    G: Gate + Send + Sync + Drop + 'static,
->(
-    rt: &R,
-    alloc: Global,
-    config: &Config,
-    fails: u64,
-    gate: G,
-    producers: u64,
-    messages: u64,
-) -> Result<Report<Files>, LoadError> {
-    let count = leaves(config);
-    let stores = stores_of(rt, alloc, count, fails);
-    assert!(rt; stores.len() == count);
-    load(rt, alloc, config, stores, gate, producers, messages)
-}
-
-// What a load of this configuration answers.
-fn answered<R: Abort + Threads + Wait + Clock + Clone + Drop + Send + Sync + 'static>(
-    rt: &R,
-    alloc: Global,
-    document: &str,
-    fails: u64,
-    producers: u64,
-    messages: u64,
-) -> Result<Report<Files>, LoadError> {
-    let config = config_of(rt, alloc, document);
-    answer_of(rt, alloc, &config, fails, OpenGate, producers, messages)
-}
-
-// The report that was answered.
-fn reported(rt: &impl Abort, answer: Result<Report<Files>, LoadError>) -> Report<Files> {
-    match answer {
-        Ok(report) => report,
-        Err(_) => panic!(rt; "no report"),
-    }
-}
-
-// The report of a load of this configuration.
-fn report_of<R: Abort + Threads + Wait + Clock + Clone + Drop + Send + Sync + 'static>(
-    rt: &R,
-    alloc: Global,
-    document: &str,
-    producers: u64,
-    messages: u64,
-) -> Report<Files> {
-    reported(
-        rt,
-        answered(rt, alloc, document, NEVER, producers, messages),
-    )
-}
-
-#[test]
-fn one_list_of_tickets(rt: HostRuntime) {
-    let report = report_of(&rt, rt.alloc(), ONE_LOGGER, 4, 100);
-    has_totals(&rt, &report, 400, 0, 0);
-    has_workers(&rt, &report, 1);
-    has_first_tickets(&rt, &report, 0, 400);
-    has_faults(&rt, &report, &[0]);
-}
-
-const EIGHT_WORKERS: &str = "
-queue = 8
-workers = 8
-
-[[sink]]
-name = \"out\"
-kind = \"memory\"
-pattern = \"%n %L %v\"
-
-[[logger]]
-name = \"net\"
-sinks = [\"out\"]
-";
-
-// There are so many workers.
-fn has_workers(rt: &impl Abort, report: &Report<Files>, count: usize) {
-    assert!(rt; report.tickets.len() == count);
-}
-
-// The file of this name, in the sink at this place, has one of these.
-fn has_one_of(rt: &impl Abort, report: &Report<Files>, place: usize, name: &str, wanted: &[&[u8]]) {
-    let file = file_named(rt, report, place, name);
-    assert!(rt; wanted.iter().any(|bytes| file == *bytes));
-}
-
-// Of one producer: a configuration, how many messages, and which lines the first sink's file of this name may have.
-const LINES: [(&str, u64, &str, &[&[u8]]); 2] = [
-    (
-        ONE_LOGGER,
-        3,
-        "out",
-        &[b"net I 0 0\nnet I 0 1\nnet I 0 2\n"],
-    ),
-    // The time is the number; two workers write in either order.
-    (
-        TWO_LOGGERS,
-        2,
-        "all",
-        &[
-            b"net 0 0 0000000000\nnet 0 1 0000000001\n",
-            b"net 0 1 0000000001\nnet 0 0 0000000000\n",
-        ],
-    ),
-];
-
-#[test]
-fn lines_of_one_producer(rt: HostRuntime) {
-    for (document, messages, name, wanted) in LINES {
-        let report = report_of(&rt, rt.alloc(), document, 1, messages);
-        has_totals(&rt, &report, messages, 0, 0);
-        has_one_of(&rt, &report, 0, name, wanted);
-    }
-}
-
-// The store of the sink at this place has this file with so many lines, or no file where that is none.
-fn has_count(rt: &impl Abort, report: &Report<Files>, place: usize, name: &str, count: usize) {
-    let store = report.sinks.get(place).and_then(|sink| sink.store());
-    let files = if count > 0 { 1 } else { 0 };
-    assert!(rt; store.is_some_and(|store| store.store().files().len() == files));
-    assert!(rt; count_of_lines(file_named(rt, report, place, name)) == count);
-}
-
-// A load of so many producers, of so many messages each; how many of all are asked, by how many workers they are handled, and how
-// many lines each sink's file has.
-#[derive(Clone, Copy)]
-struct Loaded<'a> {
-    document: &'a str,
-    producers: u64,
-    messages: u64,
-    asked: u64,
-    workers: usize,
-    files: &'a [(&'a str, usize)],
-}
-
-const LOADS: [Loaded<'_>; 4] = [
-    Loaded {
-        document: EIGHT_WORKERS,
-        producers: 4,
-        messages: 1_000,
-        asked: 4_000,
-        workers: 8,
-        files: &[("out", 4_000)],
-    },
-    // The loggers are met in turn: of four producers two log to `net`, whose number is 0, one to `db` and one to `quiet`, which
-    // filters all. What is filtered is not asked for.
-    Loaded {
-        document: TWO_LOGGERS,
-        producers: 4,
-        messages: 50,
-        asked: 150,
-        workers: 2,
-        files: &[("all", 150), ("own.log", 100)],
-    },
-    // The most producers.
-    Loaded {
-        document: ONE_LOGGER,
-        producers: 64,
-        messages: 5,
-        asked: 320,
-        workers: 1,
-        files: &[("out", 320)],
-    },
-    // No messages.
-    Loaded {
-        document: ONE_LOGGER,
-        producers: 2,
-        messages: 0,
-        asked: 0,
-        workers: 1,
-        files: &[("out", 0)],
-    },
-];
-
-// The report of a load says so. The tickets of each worker rise, and all have together each that was handled once.
-fn is_told(rt: &impl Abort, alloc: Global, report: &Report<Files>, load: Loaded<'_>) {
-    has_totals(rt, report, load.asked, 0, 0);
-    has_each_ticket_once(rt, alloc, report, load.workers);
-    for (place, (name, count)) in load.files.iter().enumerate() {
-        has_count(rt, report, place, name, *count);
-    }
-}
-
-#[test]
-fn loads_and_their_reports(rt: HostRuntime) {
-    let alloc = rt.alloc();
-    for load in &LOADS {
-        let report = report_of(&rt, alloc, load.document, load.producers, load.messages);
-        is_told(&rt, alloc, &report, *load);
-    }
-}
-
-// Why a load was refused.
-fn refusal(rt: &impl Abort, answer: Result<Report<Files>, LoadError>) -> LoadError {
-    match answer {
-        Ok(_) => panic!(rt; "a report"),
-        Err(error) => error,
-    }
-}
-
-#[test]
-fn numbers_out_of_bounds(rt: HostRuntime) {
-    for (producers, messages) in [(0, 1), (65, 1), (1, 1_000_001)] {
-        let answer = answered(&rt, rt.alloc(), ONE_LOGGER, NEVER, producers, messages);
-        assert!(rt; matches!(refusal(&rt, answer), LoadError::BadValue));
-    }
-}
-
-// A load whose last store fails is refused, or so many turns on its sink are answered by a fault.
-fn is_faulty(rt: &impl Abort, answer: Result<Report<Files>, LoadError>, faults: Option<u64>) {
-    match faults {
-        Some(faults) => {
-            let report = reported(rt, answer);
-            has_totals(rt, &report, 10, 0, 0);
-            has_faults(rt, &report, &[0, faults]);
-        }
-        None => {
-            let why = refusal(rt, answer);
-            assert!(rt;
-                matches!(
-                    why,
-                    LoadError::Store {
-                        sink: 1,
-                        reason: None
-                    }
-                )
-            );
-        }
-    }
-}
-
-// A store fails as its sink is opened, or at its fourth call.
-#[test]
-fn a_store_that_fails(rt: HostRuntime) {
-    for (call, faults) in [(0, None), (3, Some(8))] {
-        let answer = answered(&rt, rt.alloc(), TWO_LOGGERS, call, 1, 10);
-        is_faulty(&rt, answer, faults);
-    }
-}
-
 // What the workers of a load told their gate.
 #[derive(Drop)]
 struct Seen {
@@ -369,23 +126,296 @@ impl Gate for Counting {
     }
 }
 
-// So many texts began, and each ended behind that.
+// What a load of this configuration answers, where the last store fails its call of this number.
+fn answered<R: Abort + Threads + Wait + Clock + Clone + Drop + Send + Sync + 'static>(
+    rt: &R,
+    alloc: Global,
+    load: &Loaded<'_>,
+    gate: Counting,
+) -> Result<Report<Files>, LoadError> {
+    let config = config_of(rt, alloc, load.document);
+    let count = leaves(&config);
+    let stores = stores_of(rt, alloc, count, load.fails);
+    assert!(rt; stores.len() == count);
+    alog_load::load(
+        rt,
+        alloc,
+        &config,
+        stores,
+        gate,
+        load.producers,
+        load.messages,
+    )
+}
+
+const EIGHT_WORKERS: &str = "
+queue = 8
+workers = 8
+
+[[sink]]
+name = \"out\"
+kind = \"memory\"
+pattern = \"%n %L %v\"
+
+[[logger]]
+name = \"net\"
+sinks = [\"out\"]
+";
+
+// The file of this name, in the sink at this place, has one of these.
+fn has_one_of(rt: &impl Abort, report: &Report<Files>, place: usize, name: &str, wanted: &[&[u8]]) {
+    let file = file_named(rt, report, place, name);
+    assert!(rt; wanted.iter().any(|bytes| file == *bytes));
+}
+
+// The store of the sink at this place has this file with so many lines, or no file where that is none.
+fn has_count(rt: &impl Abort, report: &Report<Files>, place: usize, name: &str, count: usize) {
+    let store = report.sinks.get(place).and_then(|sink| sink.store());
+    let files = if count > 0 { 1 } else { 0 };
+    assert!(rt; store.is_some_and(|store| store.store().files().len() == files));
+    assert!(rt; count_of_lines(file_named(rt, report, place, name)) == count);
+}
+
+// Why there is no load: a number is out of bounds, or the store of the second sink failed as it was opened.
+#[derive(Clone, Copy)]
+enum Fault {
+    BadValue,
+    SecondStore,
+}
+
+// A load of so many producers, of so many messages each, where the last store fails its call of this number.
+#[derive(Clone, Copy)]
+struct Loaded<'a> {
+    document: &'a str,
+    producers: u64,
+    messages: u64,
+    fails: u64,
+    /// How many messages of all are asked, and by how many workers they are handled; or why there is no load.
+    told: Result<(u64, usize), Fault>,
+    /// How many turns at each sink are answered by a fault.
+    faults: &'a [u64],
+    /// How many lines each sink's file has.
+    files: &'a [(&'a str, usize)],
+    /// Which lines the first sink's file of its name may have, where they are looked at.
+    lines: &'a [&'a [u8]],
+}
+
+const ONE: Loaded<'_> = Loaded {
+    document: ONE_LOGGER,
+    producers: 1,
+    messages: 1,
+    fails: NEVER,
+    told: Err(Fault::BadValue),
+    faults: &[0],
+    files: &[],
+    lines: &[],
+};
+
+const ONE_LIST: Loaded<'_> = Loaded {
+    producers: 4,
+    messages: 100,
+    told: Ok((400, 1)),
+    files: &[("out", 400)],
+    ..ONE
+};
+
+const TWO: Loaded<'_> = Loaded {
+    document: TWO_LOGGERS,
+    faults: &[0, 0],
+    ..ONE
+};
+
+static LOADS: [Loaded<'static>; 12] = [
+    Loaded {
+        messages: 3,
+        told: Ok((3, 1)),
+        files: &[("out", 3)],
+        lines: &[b"net I 0 0\nnet I 0 1\nnet I 0 2\n"],
+        ..ONE
+    },
+    // The time is the number; two workers write in either order.
+    Loaded {
+        messages: 2,
+        told: Ok((2, 2)),
+        files: &[("all", 2), ("own.log", 2)],
+        lines: &[
+            b"net 0 0 0000000000\nnet 0 1 0000000001\n",
+            b"net 0 1 0000000001\nnet 0 0 0000000000\n",
+        ],
+        ..TWO
+    },
+    Loaded {
+        document: EIGHT_WORKERS,
+        producers: 4,
+        messages: 1_000,
+        told: Ok((4_000, 8)),
+        files: &[("out", 4_000)],
+        ..ONE
+    },
+    // The loggers are met in turn: of four producers two log to `net`, whose number is 0, one to `db` and one to `quiet`, which
+    // filters all. What is filtered is not asked for.
+    Loaded {
+        producers: 4,
+        messages: 50,
+        told: Ok((150, 2)),
+        files: &[("all", 150), ("own.log", 100)],
+        ..TWO
+    },
+    // The most producers.
+    Loaded {
+        producers: 64,
+        messages: 5,
+        told: Ok((320, 1)),
+        files: &[("out", 320)],
+        ..ONE
+    },
+    // No messages.
+    Loaded {
+        producers: 2,
+        messages: 0,
+        told: Ok((0, 1)),
+        files: &[("out", 0)],
+        ..ONE
+    },
+    // Three of four producers log twenty texts that are handled.
+    Loaded {
+        producers: 4,
+        messages: 20,
+        told: Ok((60, 2)),
+        files: &[("all", 60), ("own.log", 40)],
+        ..TWO
+    },
+    // Numbers out of bounds.
+    Loaded {
+        producers: 0,
+        ..ONE
+    },
+    Loaded {
+        producers: 65,
+        ..ONE
+    },
+    Loaded {
+        messages: 1_000_001,
+        ..ONE
+    },
+    // A store that fails as its sink is opened, or at its fourth call.
+    Loaded {
+        messages: 10,
+        fails: 0,
+        told: Err(Fault::SecondStore),
+        ..TWO
+    },
+    Loaded {
+        messages: 10,
+        fails: 3,
+        told: Ok((10, 2)),
+        faults: &[0, 8],
+        ..TWO
+    },
+];
+
+// So many texts began, and each ended behind that. Where there are no more than have a bit, none is open, and none was a stray.
 fn has_seen(rt: &impl Abort, seen: &Seen, texts: u64) {
-    let words = [&seen.begun, &seen.ended, &seen.open, &seen.strays];
-    for (word, wanted) in words.iter().zip([texts, texts, 0, 0]) {
-        assert!(rt; word.load(Ordering::SeqCst) == wanted);
+    for word in [&seen.begun, &seen.ended] {
+        assert!(rt; word.load(Ordering::SeqCst) == texts);
+    }
+    if texts <= 64 {
+        for word in [&seen.open, &seen.strays] {
+            assert!(rt; word.load(Ordering::SeqCst) == 0);
+        }
     }
 }
 
-// Three of four producers log twenty texts that are handled.
+// The report of a load says so. The tickets of each worker rise, and all have together each that was handled once; those of one worker
+// are the first.
+fn is_reported(
+    rt: &impl Abort,
+    alloc: Global,
+    report: &Report<Files>,
+    load: &Loaded<'_>,
+    told: (u64, usize),
+) {
+    let (asked, workers) = told;
+    has_totals(rt, report, asked, 0, 0);
+    has_faults(rt, report, load.faults);
+    has_each_ticket_once(rt, alloc, report, workers);
+    if workers == 1 {
+        has_first_tickets(rt, report, 0, asked as usize);
+    }
+    for (place, (name, count)) in load.files.iter().enumerate() {
+        has_count(rt, report, place, name, *count);
+    }
+    if let ([(name, _), ..], [_, ..]) = (load.files, load.lines) {
+        has_one_of(rt, report, 0, name, load.lines);
+    }
+}
+
+// A load answers so.
+fn is_told(
+    rt: &impl Abort,
+    alloc: Global,
+    answer: Result<Report<Files>, LoadError>,
+    load: &Loaded<'_>,
+) {
+    match (answer, load.told) {
+        (Ok(report), Ok(told)) => is_reported(rt, alloc, &report, load, told),
+        (Err(LoadError::BadValue), Err(Fault::BadValue)) => {}
+        (
+            Err(
+                LoadError::Store {
+                    sink: 1,
+                    reason: None,
+                },
+            ),
+            Err(Fault::SecondStore),
+        ) => {}
+        _ => panic!(rt; "another answer"),
+    }
+}
+
+// What a gate notes, shared with it.
+fn shared(rt: &impl Abort, alloc: Global) -> (Arc<Seen>, Counting) {
+    let Ok(seen) = Arc::new(alloc, unseen()) else {
+        panic!(rt; "out of memory")
+    };
+    match Arc::try_clone(&seen) {
+        Ok(same) => (seen, Counting(same)),
+        Err(_) => panic!(rt; "out of memory"),
+    }
+}
+
+// A load does so.
+fn goes<R: Abort + Threads + Wait + Clock + Clone + Drop + Send + Sync + 'static>(
+    rt: &R,
+    alloc: Global,
+    load: &Loaded<'_>,
+) {
+    let (seen, gate) = shared(rt, alloc);
+    let answer = answered(rt, alloc, load, gate);
+    is_told(rt, alloc, answer, load);
+    has_seen(rt, &seen, texts_of(load.told));
+}
+
+// How many texts are handled where this is told.
+fn texts_of(told: Result<(u64, usize), Fault>) -> u64 {
+    match told {
+        Ok((asked, _)) => asked,
+        Err(_) => 0,
+    }
+}
+
 #[test]
-fn the_gate_is_called_round_each_text(rt: HostRuntime) -> Result<(), Fail> {
-    let alloc = rt.alloc();
-    let seen = Arc::new(alloc, unseen())?;
-    let gate = Counting(Arc::try_clone(&seen)?);
-    let config = config_of(&rt, alloc, TWO_LOGGERS);
-    let report = reported(&rt, answer_of(&rt, alloc, &config, NEVER, gate, 4, 20));
-    has_totals(&rt, &report, 60, 0, 0);
-    has_seen(&rt, &seen, 60);
-    Ok(())
+fn one_list_of_tickets(rt: HostRuntime) {
+    goes(&rt, rt.alloc(), &ONE_LIST);
+}
+
+fn loads() -> &'static [Loaded<'static>] {
+    &LOADS
+}
+
+#[test]
+fn loads_and_their_reports(rt: HostRuntime) {
+    for load in loads() {
+        goes(&rt, rt.alloc(), load);
+    }
 }

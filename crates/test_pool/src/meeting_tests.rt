@@ -1,21 +1,18 @@
 //! A pool whose sinks wait for each other.
-ghost use Rattle.std.specs.Prelude.{◌≡◌, IfOk};
+ghost use Rattle.std.specs.Prelude.{IfOk};
 ghost use Rattle.std.specs.List.{AllByRecursion};
 ghost use Rattle.alog_pattern.specs.declared.patterns.TheConstants.{LINE_MAX};
-ghost use Rattle.alog_pool.specs.Pool.{Fits};
 ghost use Rattle.alog_sink.specs.Sinks.{Suits};
 ghost use Rattle.test_pool.specs.declared.sinks.TheConstants.{TEXT_LIMIT};
 
-use crate::sinks::{TEXT_LIMIT, face, sink};
-use crate::trial::{PLAIN, loggers};
-use alog_msg::Level;
-use alog_pool::{OpenGate, Pool, Report, Setup};
+use crate::sinks::two_sinks;
+use crate::trial::{PLAIN, Plan, Trial, setup_over};
+use alog_pool::{OpenGate, Report};
 use alog_sink::{Sink, Store, StoreError};
 use std::alloc::{AllocError, Global};
 use std::process::Abort;
 use std::sync::atomic::{AtomicBool, Ordering};
 use std::sync::{Arc, Wait};
-use std::test::Fail;
 use std::thread;
 use std::thread::Threads;
 use std::time::Clock;
@@ -121,57 +118,26 @@ fn sinks(alloc: Global) -> Result<Vec<Sink<Meeting>>, AllocError>
     let called = Arc::new(alloc, AtomicBool::new(false))?;
     let waiting = store(Arc::try_clone(&called)?, true, b"a\n");
     let meeting = store(called, false, b"b\n");
-    let mut sinks = Vec::with_capacity(alloc, 2)?;
-    sinks.push_reserved(sink(alloc, face(alloc)?, waiting)?);
-    sinks.push_reserved(sink(alloc, face(alloc)?, meeting)?);
-    Ok(sinks)
+    two_sinks(alloc, waiting, meeting)
 }
 
 // Two workers, and two loggers with a sink each.
-fn setup(alloc: Global) -> Result<Setup<Meeting>, AllocError>
-    ensures { IfOk result Fits }
-{
-    Ok(Setup {
-        queue: PLAIN.queue,
-        first: 0,
-        workers: 2,
-        tickets_max: 0,
-        text_limit: TEXT_LIMIT,
-        loggers: loggers(alloc, PLAIN, &[&[0], &[1]])?,
-        sinks: sinks(alloc)?,
-    })
-}
+const BOTH: Plan = Plan {
+    workers: 2,
+    tickets_max: 0,
+    ..PLAIN
+};
 
 // A text is logged to each logger, and the pool is ended.
-fn ended<R: Abort + Threads + Wait + Clock + Clone + Drop + Send + 'static>(
+fn reported<R: Abort + Threads + Wait + Clock + Clone + Drop + Send + 'static>(
     rt: &R,
     alloc: Global,
-) -> Result<Report<Meeting>, Fail> {
-    let Ok(mut pool) = Pool::start(rt, alloc, setup(alloc)?, OpenGate) else {
-        panic!(rt; "no pool")
-    };
-    let Ok(mut producer) = pool.producer() else {
-        panic!(rt; "no producer")
-    };
-    assert!(rt; producer.loggers().len() == 2);
-    assert!(rt;
-        producer
-            .log(rt, alloc, 0, Level::Info, 0, "a", None)
-            .is_ok()
-    );
-    assert!(rt;
-        producer
-            .log(rt, alloc, 1, Level::Info, 0, "b", None)
-            .is_ok()
-    );
-    let Ok(mut producers) = Vec::with_capacity(alloc, 1) else {
-        panic!(rt; "no memory")
-    };
-    producers.push_reserved(producer);
-    match pool.shutdown(rt, producers) {
-        Ok(report) => Ok(report),
-        Err(_) => panic!(rt; "a producer is out"),
-    }
+) -> Report<Meeting> {
+    let setup = setup_over(alloc, BOTH, &[&[0], &[1]], sinks(alloc));
+    let mut trial = Trial::start(rt, alloc, setup, OpenGate, 1);
+    trial.log(rt, alloc, 0, 0, "a");
+    trial.log(rt, alloc, 0, 1, "b");
+    trial.end(rt)
 }
 
 // The store of this sink got its line and no other call, and did not wait in vain.
@@ -179,16 +145,13 @@ fn has_met(rt: &impl Abort, report: &Report<Meeting>, sink: usize) {
     let Some(store) = report.sinks.get(sink).and_then(|sink| sink.store()) else {
         panic!(rt; "no such sink")
     };
-    assert!(rt; (store.lines, store.others) == (1, 0));
-    assert!(rt; store.looks < LOOKS);
+    assert!(rt; (store.lines, store.others) == (1, 0) && store.looks < LOOKS);
 }
 
 // While one worker is in the store of its sink, another writes to another sink: no lock is round both.
 #[test]
-fn a_store_waits_for_another(rt: HostRuntime) -> Result<(), Fail> {
-    let alloc = rt.alloc();
-    let report = ended(&rt, alloc)?;
+fn a_store_waits_for_another(rt: HostRuntime) {
+    let report = reported(&rt, rt.alloc());
     has_met(&rt, &report, 0);
     has_met(&rt, &report, 1);
-    Ok(())
 }

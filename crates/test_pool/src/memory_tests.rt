@@ -113,6 +113,21 @@ fn is_whole(file: &[u8]) -> bool {
     file.len() == bytes
 }
 
+/// What such a pool reports when its producers have logged, flushed and dumped.
+fn reported<R: Abort + Threads + Wait + Clock + Clone + Drop + Send + 'static>(
+    rt: &R,
+    alloc: Global,
+) -> Report<Files> {
+    let mut trial = pool_again(rt, alloc);
+    trial.say(rt, alloc, 0, TEXT);
+    trial.log_now(rt, alloc, 1, Level::Error, TEXT);
+    trial.log_at(rt, alloc, 0, 0, Level::Debug, TEXT);
+    trial.flush(rt, 1, 2);
+    trial.dump(rt, alloc, 0, 4);
+    trial.say(rt, alloc, 1, TEXT);
+    trial.end(rt)
+}
+
 /// The file of each sink is whole, unless a line made a fault.
 fn are_told(rt: &impl Abort, report: &Report<Files>) {
     assert!(rt; report.faults.len() == 2 && report.sinks.len() == 2);
@@ -123,15 +138,7 @@ fn are_told(rt: &impl Abort, report: &Report<Files>) {
 
 #[test]
 fn want_of_memory(rt: HostRuntime) {
-    let alloc = rt.alloc();
-    let mut trial = pool_again(&rt, alloc);
-    trial.say(&rt, alloc, 0, TEXT);
-    trial.log_now(&rt, alloc, 1, Level::Error, TEXT);
-    trial.log_at(&rt, alloc, 0, 0, Level::Debug, TEXT);
-    trial.flush(&rt, 1, 2);
-    trial.dump(&rt, alloc, 0, 4);
-    trial.say(&rt, alloc, 1, TEXT);
-    let report = trial.end(&rt);
+    let report = reported(&rt, rt.alloc());
     has_totals(&rt, &report, 8, 0, 0);
     are_told(&rt, &report);
 }

@@ -1,17 +1,16 @@
 //! In which order one worker makes the turns at several sinks: those of one text after those of another, and for each text the
 //! lines at the sinks of its logger, in the logger's order, and then the flushes in the same.
-ghost use Rattle.std.specs.Prelude.{◌≡◌, IfOk};
+ghost use Rattle.std.specs.Prelude.{IfOk};
 ghost use Rattle.std.specs.List.{AllByRecursion};
 ghost use Rattle.alog_pattern.specs.declared.patterns.TheConstants.{LINE_MAX};
-ghost use Rattle.alog_pool.specs.Pool.{Fits};
 ghost use Rattle.alog_sink.specs.Sinks.{Suits};
 ghost use Rattle.test_pool.specs.declared.sinks.TheConstants.{TEXT_LIMIT};
 
-use crate::gates::{HoldsFirst, has_begun, holds_until, lowered, open};
-use crate::sinks::{TEXT_LIMIT, face, sink};
-use crate::trial::{PLAIN, loggers};
+use crate::gates::{has_begun, holds_until, lowered, open};
+use crate::sinks::two_sinks;
+use crate::trial::{PLAIN, Trial, setup_over};
 use alog_msg::Level;
-use alog_pool::{Pool, Producer, Report, Setup};
+use alog_pool::Report;
 use alog_sink::{Sink, Store, StoreError};
 use std::alloc::{AllocError, Global};
 use std::process::Abort;
@@ -21,7 +20,7 @@ use std::thread::Threads;
 use std::time::Clock;
 
 /// A call of a store.
-#[derive(Clone, Copy, Debug, PartialEq, Eq, Drop)]
+#[derive(Clone, Copy, PartialEq, Drop)]
 enum Call {
     /// The first byte of the line.
     Append(u8),
@@ -31,7 +30,7 @@ enum Call {
 }
 
 /// A call at the sink of this number.
-#[derive(Clone, Copy, Debug, PartialEq, Eq, Drop)]
+#[derive(Clone, Copy, PartialEq, Drop)]
 struct At(usize, Call);
 
 /// Notes its calls, each with the number that it has among the calls of all stores that share the clock.
@@ -105,108 +104,29 @@ fn sinks(alloc: Global) -> Result<Vec<Sink<Scribe>>, AllocError>
         clock,
         calls: Vec::new(alloc),
     };
-    let mut sinks = Vec::with_capacity(alloc, 2)?;
-    sinks.push_reserved(sink(alloc, face(alloc)?, first)?);
-    sinks.push_reserved(sink(alloc, face(alloc)?, second)?);
-    Ok(sinks)
-}
-
-/// One worker, and two loggers, which give to both sinks in opposite orders, and flush them at errors.
-fn setup(alloc: Global) -> Result<Setup<Scribe>, AllocError>
-    ensures { IfOk result Fits }
-{
-    Ok(Setup {
-        queue: PLAIN.queue,
-        first: 0,
-        workers: 1,
-        tickets_max: 0,
-        text_limit: TEXT_LIMIT,
-        loggers: loggers(alloc, PLAIN, &[&[0, 1], &[1, 0]])?,
-        sinks: sinks(alloc)?,
-    })
-}
-
-/// A pool of it, behind this gate.
-fn started<R: Abort + Threads + Wait + Clock + Clone + Drop + Send + 'static>(
-    rt: &R,
-    alloc: Global,
-    gate: HoldsFirst,
-) -> Pool<Scribe> {
-    let Ok(setup) = setup(alloc) else {
-        panic!(rt; "no memory")
-    };
-    match Pool::start(rt, alloc, setup, gate) {
-        Ok(pool) => pool,
-        Err(_) => panic!(rt; "no pool"),
-    }
+    two_sinks(alloc, first, second)
 }
 
 /// A text for a logger.
 type Given<'a> = (u32, Level, &'a str);
 
-/// The producer logs this text.
-fn log(rt: &(impl Abort + Wait + Clock), alloc: Global, producer: &mut Producer, given: Given<'_>)
-    ensures { producer.new.shared ≡ producer.old.shared }
-{
-    let (logger, level, text) = given;
-    assert!(rt; (logger as usize) < producer.loggers().len());
-    assert!(rt;
-        producer
-            .log(rt, alloc, logger, level, 0, text, None)
-            .is_ok()
-    );
-}
-
-/// It logs these.
-fn log_all(
-    rt: &(impl Abort + Wait + Clock),
-    alloc: Global,
-    producer: Producer,
-    texts: &[Given<'_>],
-) -> Producer
-    ensures { result.shared ≡ producer.shared }
-{
-    let mut producer = producer;
-    for given in texts {
-        log(rt, alloc, &mut producer, *given);
-    }
-    producer
-}
-
-/// What the pool reports at its end, of which this is the only producer.
-fn ended<R: Abort + Threads + Wait + Clock>(
-    rt: &R,
-    alloc: Global,
-    pool: Pool<Scribe>,
-    producer: Producer,
-) -> Report<Scribe>
-    requires { producer.shared ≡ pool.shared }
-{
-    let Ok(mut producers) = Vec::with_capacity(alloc, 1) else {
-        panic!(rt; "no memory")
-    };
-    producers.push_reserved(producer);
-    match pool.shutdown(rt, producers) {
-        Ok(report) => report,
-        Err(_) => panic!(rt; "a producer is out"),
-    }
-}
-
-/// What the pool reports when a producer has logged these texts, while its worker was held at the first.
+/// What a pool of one worker reports when these texts were logged, while it was held at the first. Two loggers give to both sinks in
+/// opposite orders, and flush them at errors.
 fn reported<R: Abort + Threads + Wait + Clock + Clone + Drop + Send + 'static>(
     rt: &R,
     alloc: Global,
     texts: &[Given<'_>],
 ) -> Report<Scribe> {
     let flags = lowered(rt, alloc);
-    let mut pool = started(rt, alloc, holds_until(rt, &flags, u64::MAX));
-    let Ok(producer) = pool.producer() else {
-        panic!(rt; "no producer")
-    };
-    let producer = log_all(rt, alloc, producer, texts);
+    let gate = holds_until(rt, &flags, u64::MAX);
+    let setup = setup_over(alloc, PLAIN, &[&[0, 1], &[1, 0]], sinks(alloc));
+    let mut trial = Trial::start(rt, alloc, setup, gate, 1);
+    for (logger, level, text) in texts {
+        trial.log_at(rt, alloc, 0, *logger, *level, text);
+    }
     has_begun(rt, &flags);
     open(&flags);
-    ended(rt, alloc, pool, producer)
+    trial.end(rt)
 }
 
 /// The call of this number at one of these sinks.
@@ -245,7 +165,9 @@ fn calls<R: Abort + Threads + Wait + Clock + Clone + Drop + Send + 'static>(
 }
 
 /// Texts, and the calls that they make.
-const ORDERS: [(&[Given<'_>], &[At]); 3] = [
+type Order<'a> = (&'a [Given<'a>], &'a [At]);
+
+static ORDERS: [Order<'static>; 3] = [
     // All lines come before all flushes.
     (
         &[(0, Level::Error, "a")],
@@ -291,9 +213,13 @@ const ORDERS: [(&[Given<'_>], &[At]); 3] = [
     ),
 ];
 
+fn orders() -> &'static [Order<'static>] {
+    &ORDERS
+}
+
 #[test]
 fn lines_and_flushes_are_in_order(rt: HostRuntime) {
-    for (texts, wanted) in ORDERS {
+    for (texts, wanted) in orders() {
         calls(&rt, rt.alloc(), texts, wanted);
     }
 }

@@ -1,13 +1,13 @@
 //! A pool that is refused, and pools at their limits.
-use crate::reports::{has, has_totals, is_told, logged, posted};
-use crate::rows::{Deed, ONE, Row, Told, holds};
-use crate::trial::{NEVER, PLAIN, Plan, Trial, setup_of};
+use crate::producer_tests::of_producers;
+use crate::rows::{Deed, End, ONE, Row, Told, holds};
+use crate::shutdown_tests::ended;
+use crate::trial::{NEVER, PLAIN, Plan, setup_of};
 use alog_msg::Level;
 use alog_pool::{OpenGate, PRODUCERS_MAX, Pool, StartError};
 use std::alloc::Global;
 use std::process::Abort;
 use std::sync::Wait;
-use std::test::Fail;
 use std::thread::Threads;
 use std::time::Clock;
 
@@ -27,33 +27,33 @@ fn is_refused<R: Abort + Threads + Wait + Clock + Clone + Drop + Send + 'static>
     alloc: Global,
     plan: Plan,
     wanted: StartError,
-) -> Result<(), Fail> {
-    let setup = setup_of(alloc, plan, &[&[0]], &[NEVER])?;
+) {
+    let Ok(setup) = setup_of(alloc, plan, &[&[0]], &[NEVER]) else {
+        panic!(rt; "out of memory")
+    };
     match Pool::start(rt, alloc, setup, OpenGate) {
         Ok(_) => panic!(rt; "a pool"),
         Err(error) => assert!(rt; error == wanted),
     }
-    Ok(())
 }
 
 #[test]
-fn refused_pools(rt: HostRuntime) -> Result<(), Fail> {
+fn refused_pools(rt: HostRuntime) {
     for (queue, first, workers, wanted) in [
         (3, 1 << 62, 0, StartError::BadWorkers),
         (2, 0, 65, StartError::BadWorkers),
         (3, 1 << 62, 64, StartError::BadSize),
         (2, 1 << 62, 1, StartError::BadFirst),
     ] {
-        is_refused(&rt, rt.alloc(), of(queue, first, workers), wanted)?;
+        is_refused(&rt, rt.alloc(), of(queue, first, workers), wanted);
     }
-    Ok(())
 }
 
 // The last ticket of all.
 const LAST: u64 = (1 << 62) - 1;
 
 // Pools whose tickets come to their end.
-const SPENT: [Row<'_>; 3] = [
+static SPENT: [Row<'static>; 4] = [
     // The queue has two places and tickets for four texts, so the last two are posted only where a worker takes items. It ends when
     // no ticket is left.
     Row {
@@ -105,24 +105,34 @@ const SPENT: [Row<'_>; 3] = [
         files: &[b"a\n"],
         ..ONE
     },
+    // A pool makes 4,096 producers, and no further one. Its only ticket is used up, so that its worker ends; at the end all producers
+    // come back.
+    Row {
+        plan: Plan {
+            queue: 2,
+            first: LAST,
+            ..PLAIN
+        },
+        producers: PRODUCERS_MAX as usize,
+        deeds: &[Deed::Logs(0, 0, Level::Info, "a", Told::Posted(LAST))],
+        totals: (1, 0),
+        tickets: &[LAST],
+        files: &[b"a\n"],
+        end: End::Full,
+        ..ONE
+    },
 ];
 
-#[test]
-fn the_last_tickets_of_pools(rt: HostRuntime) {
-    for row in &SPENT {
-        holds(&rt, rt.alloc(), *row);
-    }
+fn spent() -> &'static [Row<'static>] {
+    &SPENT
 }
 
-// A pool makes 4,096 producers, and no further one. Its only ticket is used up, so that its worker ends; at the end all producers
-// come back.
+// Pools by all rows. A function that holds a table is dear where it does more.
 #[test]
-fn no_4097th_producer(rt: HostRuntime) {
-    let alloc = rt.alloc();
-    let setup = setup_of(alloc, of(2, LAST, 1), &[&[0]], &[NEVER]);
-    let mut trial = Trial::start(&rt, alloc, setup, OpenGate, PRODUCERS_MAX as usize);
-    is_told(&rt, trial.log(&rt, alloc, 0, 0, "a"), logged(posted(LAST)));
-    let report = trial.end_full(&rt);
-    has_totals(&rt, &report, 1, 0, 0);
-    has(&rt, &report, 0, b"a\n");
+fn pools_and_their_reports(rt: HostRuntime) {
+    for rows in [spent(), of_producers(), ended()] {
+        for row in rows {
+            holds(&rt, rt.alloc(), row);
+        }
+    }
 }

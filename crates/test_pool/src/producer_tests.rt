@@ -1,14 +1,10 @@
 //! What a producer is told, and the loggers that it lends.
-use crate::reports::{filtered, has, has_totals, is_told, logged, posted};
-use crate::rows::{DUMPED, Deed, ONE, Row, Told, holds};
-use crate::trial::{NEVER, PLAIN, Plan, Trial, setup_of};
+use crate::rows::{DUMPED, Deed, ONE, Row, Told};
+use crate::trial::{PLAIN, Plan};
 use alog_msg::Level;
-use alog_pool::OpenGate;
-use alog_registry::Loggers;
-use std::process::Abort;
 
 // What producers are told.
-const PRODUCERS: [Row<'_>; 2] = [
+static PRODUCERS: [Row<'static>; 4] = [
     // The fourth producer logs with and without waiting, is filtered, and flushes.
     Row {
         producers: 4,
@@ -41,59 +37,40 @@ const PRODUCERS: [Row<'_>; 2] = [
         files: &[DUMPED],
         ..ONE
     },
+    // In a queue of two places a hundred flushes find room one after another: each that finds none waits.
+    Row {
+        plan: Plan {
+            queue: 2,
+            tickets_max: 0,
+            ..PLAIN
+        },
+        deeds: &[Deed::FlushesWaiting(0, 100)],
+        totals: (100, 0),
+        ..ONE
+    },
+    // While two workers run, the pool's loggers and a producer's let the level of one be set, for all producers. The other keeps its
+    // own.
+    Row {
+        plan: Plan {
+            workers: 2,
+            ..PLAIN
+        },
+        routes: &[&[0], &[0]],
+        producers: 2,
+        deeds: &[
+            Deed::Logs(0, 1, Level::Debug, "a", Told::Below(Level::Info, false)),
+            Deed::Sets(None, Level::Debug),
+            Deed::Logs(0, 1, Level::Debug, "b", Told::Posted(0)),
+            Deed::Logs(0, 0, Level::Debug, "c", Told::Below(Level::Info, false)),
+            Deed::Sets(Some(1), Level::Error),
+            Deed::Logs(0, 1, Level::Warning, "d", Told::Below(Level::Error, false)),
+        ],
+        totals: (1, 0),
+        files: &[b"b\n"],
+        ..ONE
+    },
 ];
 
-#[test]
-fn producers_are_told(rt: HostRuntime) {
-    for row in &PRODUCERS {
-        holds(&rt, rt.alloc(), *row);
-    }
-}
-
-// In a queue of two places a hundred flushes find room one after another: each that finds none waits.
-#[test]
-fn flushes_wait_for_room(rt: HostRuntime) {
-    let alloc = rt.alloc();
-    let plan = Plan { queue: 2, ..PLAIN };
-    let setup = setup_of(alloc, plan, &[&[0]], &[NEVER]);
-    let mut trial = Trial::start(&rt, alloc, setup, OpenGate, 1);
-    for ticket in 0..100 {
-        trial.flush_wait(&rt, 0, ticket);
-    }
-    let report = trial.end(&rt);
-    has_totals(&rt, &report, 100, 0, 0);
-}
-
-// The level of the second logger is set so, and read so.
-fn sets(rt: &impl Abort, loggers: &Loggers, level: Level) {
-    let Some(number) = loggers.find("1") else {
-        panic!(rt; "no logger")
-    };
-    assert!(rt; loggers.set_level(number, level));
-    assert!(rt; loggers.level(number) == Some(level));
-}
-
-// While two workers run, the pool's loggers and a producer's let the level of one be set, for all producers. The other keeps its own.
-#[test]
-fn a_level_is_set_while_workers_run(rt: HostRuntime) {
-    let alloc = rt.alloc();
-    let plan = Plan {
-        workers: 2,
-        ..PLAIN
-    };
-    let setup = setup_of(alloc, plan, &[&[0], &[0]], &[NEVER]);
-    let mut trial = Trial::start(&rt, alloc, setup, OpenGate, 2);
-    let below = trial.log_at(&rt, alloc, 0, 1, Level::Debug, "a");
-    sets(&rt, trial.pool.loggers(), Level::Debug);
-    let above = trial.log_at(&rt, alloc, 0, 1, Level::Debug, "b");
-    let other = trial.log_at(&rt, alloc, 0, 0, Level::Debug, "c");
-    sets(&rt, trial.loggers(&rt, 1), Level::Error);
-    let under = trial.log_at(&rt, alloc, 0, 1, Level::Warning, "d");
-    let report = trial.end(&rt);
-    is_told(&rt, below, filtered(Level::Info, false));
-    is_told(&rt, above, logged(posted(0)));
-    is_told(&rt, other, filtered(Level::Info, false));
-    is_told(&rt, under, filtered(Level::Error, false));
-    has_totals(&rt, &report, 1, 0, 0);
-    has(&rt, &report, 0, b"b\n");
+pub(crate) fn of_producers() -> &'static [Row<'static>] {
+    &PRODUCERS
 }

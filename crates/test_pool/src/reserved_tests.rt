@@ -5,19 +5,19 @@
 ghost use Rattle.std.specs.Prelude.{◌≡◌, IfOk, length};
 ghost use Rattle.std.specs.List.{AllByRecursion};
 ghost use Rattle.alog_pattern.specs.declared.patterns.TheConstants.{LINE_MAX};
-ghost use Rattle.alog_pool.specs.Pool.{Fits};
 ghost use Rattle.alog_sink.specs.Sinks.{Suits};
 ghost use Rattle.test_pool.specs.declared.sinks.TheConstants.{TEXT_LIMIT};
 
 use crate::reports::has_totals;
-use crate::sinks::{TEXT_LIMIT, face, sink};
-use crate::trial::{PLAIN, Trial, loggers};
+use crate::sinks::{face, sink};
+use crate::trial::{PLAIN, Plan, Trial, setup_over};
 use alog_msg::SourceRef;
-use alog_pool::{OpenGate, Report, Setup};
+use alog_pool::{OpenGate, Report};
 use alog_sink::{Sink, Store, StoreError};
 use std::alloc::{AllocError, Global};
 use std::process::Abort;
 use std::sync::Wait;
+use std::thread::Threads;
 use std::time::Clock;
 
 const PRODUCERS: usize = 4;
@@ -82,19 +82,10 @@ fn sinks(alloc: Global) -> Result<Vec<Sink<Reserved>>, AllocError>
 }
 
 /// One worker, a queue of eight places, and one logger, which waits for room.
-fn setup(alloc: Global) -> Result<Setup<Reserved>, AllocError>
-    ensures { IfOk result Fits }
-{
-    Ok(Setup {
-        queue: PLAIN.queue,
-        first: 0,
-        workers: 1,
-        tickets_max: PRODUCERS * EACH,
-        text_limit: TEXT_LIMIT,
-        loggers: loggers(alloc, PLAIN, &[&[0]])?,
-        sinks: sinks(alloc)?,
-    })
-}
+const RESERVED: Plan = Plan {
+    tickets_max: PRODUCERS * EACH,
+    ..PLAIN
+};
 
 /// The texts, round by round a text of each producer: in each second round of more bytes than lie in a message itself.
 fn texts(alloc: Global) -> Result<Vec<String>, AllocError> {
@@ -137,6 +128,18 @@ fn log_all(
     }
 }
 
+/// What a pool reports whose producers have.
+fn reported<R: Abort + Threads + Wait + Clock + Clone + Drop + Send + 'static>(
+    rt: &R,
+    alloc: Global,
+    texts: &[String],
+) -> Report<Reserved> {
+    let setup = setup_over(alloc, RESERVED, &[&[0]], sinks(alloc));
+    let mut trial = Trial::start(rt, alloc, setup, OpenGate, PRODUCERS);
+    log_all(rt, alloc, &mut trial, texts);
+    trial.end(rt)
+}
+
 /// The file has these bytes, and no turn met a fault.
 fn is_told(rt: &impl Abort, report: &Report<Reserved>, bytes: &[u8]) {
     assert!(rt; report.faults.as_slice() == [0].as_slice());
@@ -155,9 +158,7 @@ fn posting_takes_no_memory(rt: HostRuntime) {
     let Ok(wanted) = lines(alloc, &texts) else {
         panic!(rt; "out of memory")
     };
-    let mut trial = Trial::start(&rt, alloc, setup(alloc), OpenGate, PRODUCERS);
-    log_all(&rt, alloc, &mut trial, &texts);
-    let report = trial.end(&rt);
+    let report = reported(&rt, alloc, &texts);
     has_totals(&rt, &report, 400, 0, 0);
     is_told(&rt, &report, &wanted);
 }

@@ -1,10 +1,12 @@
 //! Pools by rows: what the producers of one do, and what it reports at its end.
-use crate::reports::{filtered, has, has_faults, has_tickets, has_totals, is_told, logged, posted};
+use crate::reports::{
+    filtered, has, has_faults, has_lines, has_tickets, has_totals, is_told, logged, posted,
+};
 use crate::trial::{Files, NEVER, PLAIN, Plan, Trial, setup_of};
 use alog_msg::Level;
 use alog_policy::{Outcome, Why};
 use alog_pool::{OpenGate, Report};
-use alog_registry::LogReply;
+use alog_registry::{LogReply, Loggers};
 use std::alloc::Global;
 use std::process::Abort;
 use std::sync::Wait;
@@ -37,6 +39,23 @@ pub enum Deed<'a> {
     Dumps(usize, usize),
     /// It posts a flush of the first logger, under this ticket.
     Flushes(usize, u64),
+    /// It posts so many with waiting, under the tickets from 0 on.
+    FlushesWaiting(usize, u64),
+    /// It logs `a` to the first logger and `b` to the second, so many times.
+    LogsToBoth(usize, usize),
+    /// By its loggers, or those that the pool lends, the level of the second is set so, and read so.
+    Sets(Option<usize>, Level),
+}
+
+/// How a pool is ended.
+#[derive(Clone, Copy)]
+pub enum End {
+    /// With all producers.
+    Plain,
+    /// When its last producer is back, without which it does not end.
+    Late,
+    /// After it made no producer more.
+    Full,
 }
 
 /// A pool, what its producers do, and what it reports.
@@ -55,9 +74,15 @@ pub struct Row<'a> {
     pub tickets: &'a [u64],
     /// At each sink, how many turns were answered by a fault.
     pub faults: &'a [u64],
-    /// The file of each sink.
+    /// The file of each sink, where the order of its lines is known.
     pub files: &'a [&'a [u8]],
+    /// How many lines of each sink's file are one, and how many another.
+    pub counts: &'a [Counts<'a>],
+    pub end: End,
 }
+
+/// Two lines, and how often each stands in a file.
+pub type Counts<'a> = [(&'a [u8], usize); 2];
 
 /// A pool of one producer and one sink, of which nothing is asked.
 pub const ONE: Row<'_> = Row {
@@ -70,6 +95,8 @@ pub const ONE: Row<'_> = Row {
     tickets: &[],
     faults: &[0],
     files: &[b""],
+    counts: &[],
+    end: End::Plain,
 };
 
 /// What a dump of two messages writes.
@@ -108,7 +135,28 @@ fn does(rt: &(impl Abort + Wait + Clock), alloc: Global, trial: &mut Trial<Files
         }
         Deed::Dumps(producer, posts) => trial.dump(rt, alloc, producer, posts),
         Deed::Flushes(producer, ticket) => trial.flush(rt, producer, ticket),
+        Deed::FlushesWaiting(producer, count) => {
+            for ticket in 0..count {
+                trial.flush_wait(rt, producer, ticket);
+            }
+        }
+        Deed::LogsToBoth(producer, times) => {
+            for _ in 0..times {
+                trial.log(rt, alloc, producer, 0, "a");
+                trial.log(rt, alloc, producer, 1, "b");
+            }
+        }
+        Deed::Sets(Some(producer), level) => sets(rt, trial.loggers(rt, producer), level),
+        Deed::Sets(None, level) => sets(rt, trial.pool.loggers(), level),
     }
+}
+
+/// The level of the second logger is set so, and read so.
+fn sets(rt: &impl Abort, loggers: &Loggers, level: Level) {
+    let Some(number) = loggers.find("1") else {
+        panic!(rt; "no logger")
+    };
+    assert!(rt; loggers.set_level(number, level) && loggers.level(number) == Some(level));
 }
 
 /// They do all these, one after another.
@@ -123,21 +171,22 @@ pub fn do_all(
     }
 }
 
-/// There are so many workers, who tell a ticket for each text and flush that was handled.
-fn has_workers(rt: &impl Abort, report: &Report<Files>, workers: usize) {
-    assert!(rt; report.tickets.len() == workers);
+/// The workers tell a ticket for each text and flush that was handled, as many as the plan has.
+fn has_workers(rt: &impl Abort, report: &Report<Files>, plan: Plan) {
+    assert!(rt; report.tickets.len() == plan.workers);
     let mut told = 0_u64;
     for tickets in &report.tickets {
         told = told.saturating_add(tickets.len() as u64);
     }
-    assert!(rt; told == report.totals.handled);
+    let most = plan.tickets_max.saturating_mul(plan.workers) as u64;
+    assert!(rt; told == report.totals.handled.min(most));
 }
 
 /// The report says what the row does.
-fn is_reported(rt: &impl Abort, report: &Report<Files>, row: Row<'_>) {
+fn is_reported(rt: &impl Abort, report: &Report<Files>, row: &Row<'_>) {
     let (asked, discarded) = row.totals;
     has_totals(rt, report, asked, discarded, 0);
-    has_workers(rt, report, row.plan.workers);
+    has_workers(rt, report, row.plan);
     if row.plan.workers == 1 {
         has_tickets(rt, report, 0, row.tickets);
     }
@@ -145,16 +194,24 @@ fn is_reported(rt: &impl Abort, report: &Report<Files>, row: Row<'_>) {
     for (sink, bytes) in row.files.iter().enumerate() {
         has(rt, report, sink, bytes);
     }
+    for (sink, [one, other]) in row.counts.iter().enumerate() {
+        has_lines(rt, report, sink, one.0, one.1);
+        has_lines(rt, report, sink, other.0, other.1);
+    }
 }
 
 /// A pool of this row does and reports what it says.
-pub fn holds<R>(rt: &R, alloc: Global, row: Row<'_>)
+pub fn holds<R>(rt: &R, alloc: Global, row: &Row<'_>)
 where
     R: Abort + Threads + Wait + Clock + Clone + Drop + Send + 'static,
 {
     let setup = setup_of(alloc, row.plan, row.routes, row.fuses);
     let mut trial = Trial::start(rt, alloc, setup, OpenGate, row.producers);
     do_all(rt, alloc, &mut trial, row.deeds);
-    let report = trial.end(rt);
+    let report = match row.end {
+        End::Plain => trial.end(rt),
+        End::Late => trial.end_late(rt),
+        End::Full => trial.end_full(rt),
+    };
     is_reported(rt, &report, row);
 }

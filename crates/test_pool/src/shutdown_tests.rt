@@ -1,6 +1,6 @@
 //! Pools that are ended.
-use crate::reports::{file_of, has_first_tickets, has_lines, has_totals};
-use crate::rows::{DUMPED, Deed, ONE, Row, Told, holds};
+use crate::reports::{file_of, has_first_tickets, has_totals};
+use crate::rows::{DUMPED, Deed, End, ONE, Row, Told};
 use crate::trial::{Files, NEVER, PLAIN, Plan, Trial, setup_of};
 use alog_msg::Level;
 use alog_pool::{OpenGate, Report};
@@ -11,7 +11,7 @@ use std::thread::Threads;
 use std::time::Clock;
 
 // Pools that are ended.
-const ENDED: [Row<'_>; 6] = [
+static ENDED: [Row<'static>; 8] = [
     // A worker writes and stops.
     Row {
         deeds: &[Deed::Logs(0, 0, Level::Info, "a", Told::Posted(0))],
@@ -91,33 +91,38 @@ const ENDED: [Row<'_>; 6] = [
         files: &[DUMPED],
         ..ONE
     },
+    // A pool whose second producer is out does not end, and ends when it has come back: nothing was logged.
+    Row {
+        plan: Plan {
+            workers: 3,
+            ..PLAIN
+        },
+        producers: 2,
+        end: End::Late,
+        ..ONE
+    },
+    // Two workers handle what two loggers give to both sinks, in opposite orders.
+    Row {
+        plan: Plan {
+            workers: 2,
+            ..PLAIN
+        },
+        routes: &[&[0, 1], &[1, 0]],
+        fuses: &[NEVER, NEVER],
+        deeds: &[Deed::LogsToBoth(0, 2_000)],
+        totals: (4_000, 0),
+        faults: &[0, 0],
+        files: &[],
+        counts: &[
+            [(b"a", 2_000), (b"b", 2_000)],
+            [(b"a", 2_000), (b"b", 2_000)],
+        ],
+        ..ONE
+    },
 ];
 
-#[test]
-fn pools_are_ended(rt: HostRuntime) {
-    for row in &ENDED {
-        holds(&rt, rt.alloc(), *row);
-    }
-}
-
-// So many workers answer as many empty lists.
-fn has_empty_lists(rt: &impl Abort, report: &Report<Files>, workers: usize) {
-    assert!(rt; report.tickets.len() == workers);
-    assert!(rt; report.tickets.iter().all(|list| list.is_empty()));
-}
-
-// A pool whose second producer is out does not end, and ends when it has come back: nothing was logged.
-#[test]
-fn a_producer_is_out_and_comes_back(rt: HostRuntime) {
-    let alloc = rt.alloc();
-    let plan = Plan {
-        workers: 3,
-        ..PLAIN
-    };
-    let setup = setup_of(alloc, plan, &[&[0]], &[NEVER]);
-    let report = Trial::start(&rt, alloc, setup, OpenGate, 2).end_late(&rt);
-    has_totals(&rt, &report, 0, 0, 0);
-    has_empty_lists(&rt, &report, 3);
+pub(crate) fn ended() -> &'static [Row<'static>] {
+    &ENDED
 }
 
 // A text of this producer.
@@ -178,26 +183,4 @@ fn one_worker_handles_all_in_order(rt: HostRuntime) {
     for (tickets_max, count) in [(400, 400), (3, 20)] {
         handles_in_order(&rt, rt.alloc(), tickets_max, count);
     }
-}
-
-// Two workers handle what two loggers give to both sinks, in opposite orders.
-#[test]
-fn opposite_routes(rt: HostRuntime) {
-    let alloc = rt.alloc();
-    let plan = Plan {
-        workers: 2,
-        ..PLAIN
-    };
-    let setup = setup_of(alloc, plan, &[&[0, 1], &[1, 0]], &[NEVER, NEVER]);
-    let mut trial = Trial::start(&rt, alloc, setup, OpenGate, 1);
-    for _ in 0..2_000 {
-        trial.log(&rt, alloc, 0, 0, "a");
-        trial.log(&rt, alloc, 0, 1, "b");
-    }
-    let report = trial.end(&rt);
-    has_totals(&rt, &report, 4_000, 0, 0);
-    has_lines(&rt, &report, 0, b"a", 2_000);
-    has_lines(&rt, &report, 0, b"b", 2_000);
-    has_lines(&rt, &report, 1, b"a", 2_000);
-    has_lines(&rt, &report, 1, b"b", 2_000);
 }

@@ -1,5 +1,6 @@
 //! A sink in memory, whose lines are the texts.
 ghost use Rattle.std.specs.Prelude.{◌≡◌, IfOk};
+ghost use Rattle.std.specs.List.{AllByRecursion};
 ghost use Rattle.alog_pattern.specs.declared.patterns.TheConstants.{LINE_MAX};
 ghost use Rattle.alog_sink.specs.Sinks.{Suits};
 ghost use Rattle.test_pool.specs.declared.sinks.TheConstants.{TEXT_LIMIT};
@@ -40,4 +41,18 @@ pub fn sink<S: Store + Drop>(alloc: Global, face: Face, store: S) -> Result<Sink
         return Err(AllocError);
     };
     Ok(sink)
+}
+
+/// Two sinks over these stores.
+pub fn two_sinks<S: Store + Drop>(
+    alloc: Global,
+    one: S,
+    other: S,
+) -> Result<Vec<Sink<S>>, AllocError>
+    ensures { IfOk result (λ v. AllByRecursion (Suits TEXT_LIMIT LINE_MAX) v.items) }
+{
+    let mut sinks = Vec::with_capacity(alloc, 2)?;
+    sinks.push_reserved(sink(alloc, face(alloc)?, one)?);
+    sinks.push_reserved(sink(alloc, face(alloc)?, other)?);
+    Ok(sinks)
 }

@@ -102,7 +102,29 @@ fn sinks(alloc: Global, fuses: &[u64]) -> Result<Vec<Sink<Files>>, AllocError>
     Ok(sinks)
 }
 
-/// A setup of this plan, with a logger for each route and a sink for each fuse.
+/// A setup of this plan over these sinks, with a logger for each route.
+pub fn setup_over<S: Store + Drop>(
+    alloc: Global,
+    plan: Plan,
+    routes: &[&[u32]],
+    sinks: Result<Vec<Sink<S>>, AllocError>,
+) -> Result<Setup<S>, AllocError>
+    requires { IfOk sinks (λ v. AllByRecursion (Suits TEXT_LIMIT LINE_MAX) v.items) }
+    ensures { IfOk result Fits }
+{
+    let sinks = sinks?;
+    Ok(Setup {
+        queue: plan.queue,
+        first: plan.first,
+        workers: plan.workers,
+        tickets_max: plan.tickets_max,
+        text_limit: TEXT_LIMIT,
+        loggers: loggers(alloc, plan, routes)?,
+        sinks,
+    })
+}
+
+/// The same, with a sink for each fuse.
 pub fn setup_of(
     alloc: Global,
     plan: Plan,
@@ -111,17 +133,7 @@ pub fn setup_of(
 ) -> Result<Setup<Files>, AllocError>
     ensures { IfOk result Fits }
 {
-    let loggers = self::loggers(alloc, plan, routes)?;
-    let sinks = sinks(alloc, fuses)?;
-    Ok(Setup {
-        queue: plan.queue,
-        first: plan.first,
-        workers: plan.workers,
-        tickets_max: plan.tickets_max,
-        text_limit: TEXT_LIMIT,
-        loggers,
-        sinks,
-    })
+    setup_over(alloc, plan, routes, sinks(alloc, fuses))
 }
 
 /// Its next producer. Where memory was wanting, it is made again.

@@ -154,6 +154,11 @@ fn has_the_last(rt: &impl Abort, ring: &Queue, pass: &mut QueuePass, spare: &mut
     }
 }
 
+// It handled the first item alone.
+fn has_handled(rt: &impl Abort, handled: u64, tickets: &[u64]) {
+    assert!(rt; handled == 1 && tickets == [0].as_slice());
+}
+
 #[test]
 fn a_worker_ends_at_its_stop(rt: HostRuntime) -> Result<(), Fail> {
     let alloc = rt.alloc();
@@ -162,8 +167,7 @@ fn a_worker_ends_at_its_stop(rt: HostRuntime) -> Result<(), Fail> {
     let shared = shared(&rt, alloc, ring, loggers(alloc, PLAIN, &[&[0]])?);
     let same = Arc::try_clone(&shared)?;
     let worker = worker(&rt, alloc, shared, pass)?.work(&rt, &OpenGate);
-    assert_eq!(rt; worker.handled, 1);
-    assert!(rt; worker.tickets.as_slice() == [0].as_slice());
+    has_handled(&rt, worker.handled, worker.tickets.as_slice());
     has_the_last(&rt, &same.ring, &mut other, &mut spare);
     Ok(())
 }
