@@ -5,7 +5,7 @@ and builds those tests first, where they are not.
 Where one fails, the program must end with status 4, its one line on standard error, and a front of what it prints otherwise; or as
 it ends otherwise, but that from some line on each turn of one sink is a fault, or that a refusal is told by its number and general words
 alone. A load prints nothing with status 4, or with status 3 where there was no memory to open a sink; else with status 3 it prints all
-that it prints otherwise, and its one line on standard error: then a sink had no memory for a line. A test must pass, or end by an error
+that it prints otherwise, and its one line on standard error: then a sink had no memory for a line. A pipe's store is tried again, and says so. A test must pass, or end by an error
 or a message that says want of memory, or a fault of a store, and nothing else: so a wrong answer is seen. Of a test that makes many
 allocations each of the first is tried, and so many spread over the others. What has threads is run so many times for each failure, since
 threads go on in another order each time, and a test with threads is not tried but for two of pools. It says how many allocations of
@@ -21,6 +21,7 @@ import sys
 import tempfile
 
 sys.dont_write_bytecode = True
+from failing import RETRIED
 from rows import Row, bytes_of, rows
 
 PROGRAM = "crates/alog/out/alog"
@@ -119,6 +120,8 @@ def load_outcome(ran, row):
         return "a fault"
     if (ran.returncode, ran.stdout) == (3, b"") and UNOPENED.fullmatch(ran.stderr):
         return "a sink that is not opened"
+    if (ran.returncode, ran.stdout) == (0, row.printed) and RETRIED.fullmatch(ran.stderr):
+        return "tried again"
     found = ran.returncode, ran.stdout, ran.stderr
     return {(4, b"", REFUSED): "no memory", (0, row.printed, b""): "nothing"}.get(found)
 
