@@ -151,7 +151,12 @@ const SIZES: [(usize, u64, &[u64], Option<(NewError, usize)>); 6] = [
 fn a_swap_ring_takes_a_spare_for_each_place(rt: HostRuntime) {
     for (places, first, spares, refused) in &SIZES {
         let spares = list(&rt, rt.alloc(), spares);
+        let count = spares.len();
         let found = refusal(*places, *first, spares, rt.alloc());
+        assert!(rt;
+            found != Some((NewError::OutOfMemory, count)),
+            "out of memory"
+        );
         assert!(rt; found == *refused);
     }
 }
