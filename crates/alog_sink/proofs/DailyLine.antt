@@ -9,7 +9,7 @@ use Rattle.alog_sink.specs.Lines.{Written}
 use Rattle.alog_sink.specs.Names.{dated}
 use Rattle.alog_sink.specs.declared.names.Date.{Date}
 use Rattle.alog_sink.proofs.DailyOn.{days_alike, stands_more}
-use Rattle.alog_sink.proofs.RotatedDoes.{HasDone, all_are_done, breaks_off_before, does_err, does_ok, one_done, one_failed}
+use Rattle.alog_sink.proofs.RotatedDoes.{HasDone, all_are_done, does_err, does_ok, one_done, one_failed, unbegun}
 
 -- a period that begins
 module _ (d : Days) (w : Written) (period : ℤ) (date : Date) (later : is_later d.latest period ≡ true)
@@ -17,11 +17,12 @@ module _ (d : Days) (w : Written) (period : ℤ) (date : Date) (later : is_later
   its_later : is_later d.latest (entry_of d.limits w).period ≡ true
   its_later = sym (ap (is_later d.latest) is_period) ∙ later
 
-  pub begins_does : {A E : Type 0} {r : Result A E} (old new : Files) → Does (makes_way_for d (dated d.limits.file date)) old new r
-      → Does (deeds_before d (entry_of d.limits w)) old new r
-  begins_does {A} {E} {r} old new does =
-      subst (λ b. Does (cond b (makes_way_for d (dated d.limits.file (date_of w.at))) []) old new r) (sym its_later)
-      (subst (λ x. Does (makes_way_for d (dated d.limits.file x)) old new r) is_date does)
+  pub begins_done : {A E : Type 0} (r : Result A E) (old new : Files)
+      → OnOk r (AreSame (all_done (makes_way_for d (dated d.limits.file date)) old) new)
+      → OnOk r (AreSame (all_done (deeds_before d (entry_of d.limits w)) old) new)
+  begins_done r old new done =
+      subst (λ b. OnOk r (AreSame (all_done (cond b (makes_way_for d (dated d.limits.file (date_of w.at))) []) old) new)) (sym its_later)
+      (subst (λ x. OnOk r (AreSame (all_done (makes_way_for d (dated d.limits.file x)) old) new)) is_date done)
 
   abbrev begun : ℤ → Date → Days
   begun p x = record { limits = d.limits; latest = Some p; names = with_opened d.limits.max_files d.names (dated d.limits.file x) }
@@ -42,10 +43,8 @@ module _ (d : Days) (w : Written) (period : ℤ) (date : Date) (later : is_later
       ap (λ (x : Days). record { limits = x.limits; latest = Some p; names = x.names }) (is ∙ opened) ∙ (ap (λ q. begun q date) same ∙ begins_with)
 
 -- its line
-pub line_breaks : (d : Days) (entry : Entry) (old new : Files) → BreaksOff (deeds_before d entry) old new
-    → BreaksOff (deeds_of d entry) old new
-line_breaks d entry old new broken =
-    breaks_off_before (deeds_before d entry) (Append (last_name (with_entry d entry).names) entry.line ∷ []) old new broken
+pub line_breaks : (d : Days) (entry : Entry) {old new : Files} → AreSame old new → BreaksOff (deeds_of d entry) old new
+line_breaks d entry same = unbegun (deeds_before d entry) (Append (last_name (with_entry d entry).names) entry.line) same
 
 module _ {A E : Type 0} (d : Days) (entry : Entry) (name line : List ℕ) (is_name : name ≡ last_name (with_entry d entry).names)
     (is_line : entry.line ≡ line) (old mid new : Files) (same : AreSame (all_done (deeds_before d entry) old) mid) (r : Result A E)

@@ -1,6 +1,6 @@
 -- The names of a daily_files's dates, and the calls that bring a line to its file.
-use Rattle.std.proofs.Common.{◌≡◌, ◌≢◌, ℕ, zero, suc, ◌-◌, ◌≤◌, Bool, true, false, cond, eqb, ◌&&◌, None, Some, Result, Ok}
-use Rattle.std.proofs.Common.{List, [], ◌∷◌, ◌++◌, length, get_or, slice_get, drop, map, refl, sym, ap, ◌∙◌, subst, inl, inr, OnOk, OnErr, arith}
+use Rattle.std.proofs.Common.{◌≡◌, ◌≢◌, ℕ, zero, suc, ◌-◌, ◌≤◌, Bool, true, false, cond, eqb, ◌&&◌, None, Some, Result, Ok, Err}
+use Rattle.std.proofs.Common.{List, [], ◌∷◌, ◌++◌, length, get_or, slice_get, drop, map, refl, sym, ap, ◌∙◌, subst, inl, inr, OnOk, arith}
 use Rattle.std.specs.List.{All}
 use Rattle.std.specs.Str.{bytes_eq}
 use Rattle.std.proofs.lemmas.List.{drop-map, length-map, map_push, length_push, get_or_push}
@@ -10,7 +10,7 @@ use Rattle.std.proofs.lemmas.List.Elements.{All-drop, All-push, All-pop}
 use Rattle.circular_buffer.specs.Buffer.{keep_last, last_item}
 use Rattle.alog_sink.specs.Daily.{is_last, last_name}
 use Rattle.alog_sink.specs.DailyDeeds.{makes_way}
-use Rattle.alog_sink.specs.Deeds.{Remove, Does}
+use Rattle.alog_sink.specs.Deeds.{Remove, all_done}
 use Rattle.alog_sink.specs.DailyFiles.{Days, makes_way_for, names_known, with_opened}
 use Rattle.alog_sink.specs.Files.{Files, AreSame, removed}
 use Rattle.alog_sink.specs.Names.{IsDate, dated}
@@ -18,7 +18,8 @@ use Rattle.alog_sink.specs.declared.names.Date.{Date}
 use Rattle.alog_sink.proofs.DailyFiles.{last_pushed, test_same, test_other}
 use Rattle.alog_sink.proofs.DailyKnown.{keep_all, length_kept, known_last, is_last_pushed, test_less}
 use Rattle.alog_sink.proofs.NamesDated.{dated_names_differ, same_dates}
-use Rattle.alog_sink.proofs.RotatedDoes.{removed_only, does_ok}
+use Rattle.alog_sink.proofs.RotatedDoes.{same_then}
+use Rattle.alog_sink.proofs.RotatedFiles.{all_alike}
 use Rattle.alog_sink.proofs.RotatedRuns.{by_last}
 
 kept_map : {X Y : Type 0} (f : X → Y) (n : ℕ) (xs : List X) → map f (keep_last n xs) ≡ keep_last n (map f xs)
@@ -120,26 +121,30 @@ first_of file n (x ∷ dates) oldest full first =
     ap (λ b. cond b (Remove (get_or names (length names - suc n) []) ∷ []) []) (test_less n (length names) (omega arith))
     ∙ (ap (λ k. Remove (get_or names k []) ∷ []) place ∙ ap (λ d. Remove (dated file d) ∷ []) is)
 
-pub way_does : {A E : Type 0} (file : List ℕ) {max : ℕ} (dates : List Date) {oldest : Date} {name : List ℕ} → max ≢ 0
-    → length dates ≡ names_known max → slice_get dates 0 ≡ Some oldest → name ≡ dated file oldest → {old new : Files} {r : Result A E}
-    → OnOk r (AreSame (removed name old) new) → OnErr r (AreSame old new)
-    → Does (makes_way max (map (dated file) dates)) old new r
-way_does file {max = zero} dates some full first is done failed = absurd (some refl)
-way_does file {max = suc n} dates {oldest} {name} some full first is {old} {new} {r} done failed =
-    subst (λ deeds. Does deeds old new r) (sym (first_of file n dates oldest full first ∙ ap (λ m. Remove m ∷ []) (sym is)))
-    (removed_only {file = name} {name = name} {n = 0} refl refl {old = old} {new = new} {r = r} done failed)
+pub way_done : {A E : Type 0} (file : List ℕ) {max : ℕ} (dates : List Date) {oldest : Date} {name : List ℕ} → max ≢ 0
+    → length dates ≡ names_known max → slice_get dates 0 ≡ Some oldest → name ≡ dated file oldest → (old new : Files) (r : Result A E)
+    → OnOk r (AreSame (removed name old) new) → OnOk r (AreSame (all_done (makes_way max (map (dated file) dates)) old) new)
+way_done file {max = zero} dates some full first is old new r done = absurd (some refl)
+way_done file {max = suc n} dates {oldest} {name} some full first is old new r done =
+    subst (λ deeds. OnOk r (AreSame (all_done deeds old) new))
+    (sym (first_of file n dates oldest full first ∙ ap (λ m. Remove m ∷ []) (sym is))) done
 
 pub test_is : (a b : ℕ) → eqb a b ≡ true → a ≡ b
 test_is a b h = grind (arith, nat_tests)
 
 -- what makes way for a name that is the last one, and for another
-pub way_of_last : {E : Type 0} (d : Days) (name : List ℕ) → is_last name d.names ≡ true → (files : Files)
-    → Does {A = Unit {0}} {E = E} (makes_way_for d name) files files (Ok tt)
-way_of_last {E} d name e files =
-    subst (λ b. Does {A = Unit {0}} {E = E} (cond b [] (makes_way d.limits.max_files d.names)) files files (Ok tt)) (sym e)
-    (does_ok [] files files tt (λ n. refl))
+pub way_of_last : (d : Days) (name : List ℕ) → is_last name d.names ≡ true → makes_way_for d name ≡ []
+way_of_last d name e = ap (λ b. cond b [] (makes_way d.limits.max_files d.names)) e
 
-pub way_of_other : {A E : Type 0} {r : Result A E} (d : Days) (name : List ℕ) → is_last name d.names ≡ false → (old new : Files)
-    → Does (makes_way d.limits.max_files d.names) old new r → Does (makes_way_for d name) old new r
-way_of_other {A} {E} {r} d name e old new does =
-    subst (λ b. Does (cond b [] (makes_way d.limits.max_files d.names)) old new r) (sym e) does
+pub way_of_other : (d : Days) (name : List ℕ) → is_last name d.names ≡ false → makes_way_for d name ≡ makes_way d.limits.max_files d.names
+way_of_other d name e = ap (λ b. cond b [] (makes_way d.limits.max_files d.names)) e
+
+-- what makes way behind a call that left the files as they were
+pub way_behind : {A E : Type 0} (r : Result A E) (d : Days) (name : List ℕ) → is_last name d.names ≡ false → (old mid new : Files)
+    → AreSame old mid → OnOk r (AreSame (all_done (makes_way d.limits.max_files d.names) mid) new)
+    → OnOk r (AreSame (all_done (makes_way_for d name) old) new)
+way_behind (Ok x) d name e old mid new same done =
+    subst (λ deeds. AreSame (all_done deeds old) new) (sym (way_of_other d name e))
+    (same_then (all_done (makes_way d.limits.max_files d.names) old) (all_done (makes_way d.limits.max_files d.names) mid) new
+    (all_alike (makes_way d.limits.max_files d.names) old mid same) done)
+way_behind (Err x) d name e old mid new same done = tt

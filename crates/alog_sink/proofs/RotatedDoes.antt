@@ -25,6 +25,22 @@ fails_alike (Append name bytes) files others new same (inr w) =
 fails_alike (Rename from to) files others new same stays = same_then files others new same stays
 fails_alike (Remove name) files others new same stays = same_then files others new same stays
 
+-- deeds of which the first failed
+pub fails_same : (deed : Deed) {old new : Files} → AreSame old new → Fails deed old new
+fails_same (Append name bytes) same = inl same
+fails_same (Rename from to) same = same
+fails_same (Remove name) same = same
+
+pub unbegun : (deeds : List Deed) (last : Deed) {old new : Files} → AreSame old new → BreaksOff (deeds ++ last ∷ []) old new
+unbegun [] last same = record { before = []; failed = last; after = []; are = refl; leaves = fails_same last same }
+unbegun (deed ∷ deeds) last same = record {
+  before = [];
+  failed = deed;
+  after = deeds ++ last ∷ [];
+  are = refl;
+  leaves = fails_same deed same;
+}
+
 -- Of some deeds a first part is done, and what is left of them.
 pub record HasDone (deeds left : List Deed) (old new : Files) : Type 0 where
   pub before : List Deed

@@ -1,12 +1,12 @@
 //! Files by days.
 ghost use Rattle.std.specs.Prelude.{◌≡◌, ◌≤◌, ◌≤ℤ◌, pos, true, List, None, [], ◌∷◌, ◌++◌};
-ghost use Rattle.std.specs.Prelude.{IfOk, IsOk, OnOk, length};
+ghost use Rattle.std.specs.Prelude.{IfOk, IsOk, OnErr, OnOk, length};
 ghost use Rattle.jiff_core.specs.declared.civil.datetime.DateTime.{DateTime};
 ghost use Rattle.alog_format.specs.Civil.{IsZone};
 ghost use Rattle.alog_sink.specs.Calls.{Counts};
 ghost use Rattle.alog_sink.specs.Daily.{is_last};
 ghost use Rattle.alog_sink.specs.DailyDeeds.{makes_way};
-ghost use Rattle.alog_sink.specs.Deeds.{Does};
+ghost use Rattle.alog_sink.specs.Deeds.{Does, all_done};
 ghost use Rattle.alog_sink.specs.DailyFiles.{StandsFor, change_at, date_of, deeds_before, deeds_of, entry_of, is_later, makes_way_for};
 ghost use Rattle.alog_sink.specs.DailyFiles.{period_of, with_entry, with_opened};
 ghost use Rattle.alog_sink.specs.Files.{AreSame, Files};
@@ -106,8 +106,8 @@ impl DailyFiles {
     /// Brings a line to the file of its message's period.
     ///
     /// A message of a period later than all before opens the file of its date in the zone. Where that is not the last opened
-    /// one, and `max_files` is not 0, the file that is then not one of the last `max_files` opened is removed first. The line
-    /// of any other message goes to the last opened file.
+    /// one, this one is flushed first, and then, where `max_files` is not 0, the file that is then not one of the last `max_files`
+    /// opened is removed. The line of any other message goes to the last opened file.
     pub(crate) fn put<S: Store>(
         &mut self,
         store: &mut S,
@@ -150,7 +150,7 @@ impl DailyFiles {
         }
     }
 
-    // Opens the file of a message whose period is later than all before.
+    // Opens the file of a message whose period is later than all before. Where that fails, the files are as they were.
     fn begin<S: Store>(
         &mut self,
         store: &mut S,
@@ -158,8 +158,9 @@ impl DailyFiles {
         message: &Message,
     ) -> Result<(), StoreError>
         requires { IsZone zone.now }
-        ensures does { S.tells ≡ true → (w : Written) → IsShownTo zone.now message.now w.at
-            → Does (deeds_before self.old (entry_of self.old.limits w)) (S.files store.old) (S.files store.new) result }
+        ensures done { S.tells ≡ true → (w : Written) → IsShownTo zone.now message.now w.at
+            → OnOk result (AreSame (all_done (deeds_before self.old (entry_of self.old.limits w)) (S.files store.old)) (S.files store.new)) }
+        ensures failed { S.tells ≡ true → OnErr result (AreSame (S.files store.old) (S.files store.new)) }
         ensures year { (w : Written) → IsShownTo zone.now message.now w.at → pos 0 ≤ℤ w.at.date.year }
         ensures begun { (w : Written) → IsShownTo zone.now message.now w.at
             → OnOk result (self.new ≡ with_entry self.old (entry_of self.old.limits w)) }
@@ -175,11 +176,13 @@ impl DailyFiles {
         Ok(())
     }
 
-    // Opens the file of a date, unless it is the last one.
+    // Opens the file of a date, unless it is the last one, which is flushed first: nothing asks for it again. Where that fails, the files
+    // are as they were.
     fn open_date<S: Store>(&mut self, store: &mut S, date: Date) -> Result<(), StoreError>
         requires { IsDate date }
-        ensures does { S.tells ≡ true → Does (makes_way_for self.old (dated self.old.limits.file date))
-            (S.files store.old) (S.files store.new) result }
+        ensures done { S.tells ≡ true → OnOk result
+            (AreSame (all_done (makes_way_for self.old (dated self.old.limits.file date)) (S.files store.old)) (S.files store.new)) }
+        ensures failed { S.tells ≡ true → OnErr result (AreSame (S.files store.old) (S.files store.new)) }
         ensures opened { OnOk result (self.new ≡ record {
           limits = self.old.limits;
           latest = self.old.latest;
@@ -191,6 +194,7 @@ impl DailyFiles {
         if self.is_last(date) {
             return Ok(());
         }
+        self.flush(store)?;
         self.make_way(store)?;
         self.dates.push_back(date);
         write_dated(&mut self.name, self.file.as_str(), date);
@@ -212,8 +216,9 @@ impl DailyFiles {
 
     // Removes the file that is not one of the last `max_files` opened once another is opened, if there is one.
     fn make_way<S: Store>(&mut self, store: &mut S) -> Result<(), StoreError>
-        ensures does { S.tells ≡ true
-            → Does (makes_way self.old.limits.max_files self.old.names) (S.files store.old) (S.files store.new) result }
+        ensures done { S.tells ≡ true → OnOk result
+            (AreSame (all_done (makes_way self.old.limits.max_files self.old.names) (S.files store.old)) (S.files store.new)) }
+        ensures failed { S.tells ≡ true → OnErr result (AreSame (S.files store.old) (S.files store.new)) }
         ensures same { self.new ≡ self.old }
         ensures counted { Counts (S.failures store.old) (S.failures store.new) result }
     {

@@ -1,5 +1,5 @@
 //! Files of a folder.
-ghost use Rattle.std.specs.Prelude.{◌≡◌, ◌<◌, ◌≤◌, IfErr, IfOk, OnOk, length, take};
+ghost use Rattle.std.specs.Prelude.{◌≡◌, ◌<◌, ◌≤◌, IfOk, OnOk, length, take};
 ghost use Rattle.std.specs.Io.KnownBytes.{Appends};
 ghost use Rattle.alog_sink.specs.Calls.{Counts};
 
@@ -21,16 +21,17 @@ const ASIDE: (&str, &str) = (".", ".replaced");
 /// The files of one folder of a file system.
 ///
 /// A file is opened by the first append to it, which makes it where it is absent, and stays open, with a buffer of 64 KiB,
-/// until it is renamed or removed. Its buffer is written when it is full, before a rename to or from its name, a removal
-/// and a size, at a flush, and when the store is dropped, which tells no failure. A call fails where the system refuses
-/// what it asks, a write of the buffer among it, where memory is wanting, and where a name leads out of the folder or is of
-/// the form `.X.replaced`; why the last one that failed did is kept. What could not be written stays in the buffer, and the next
-/// call on that file tries it again.
+/// until it is renamed or removed. Its buffer is written when it is full, before a rename of it and a size, at a flush, and when
+/// the store is dropped, which tells no failure. Before a removal, and a rename to its name, it is not: where there is no room for
+/// it, these make some. A call fails where the system refuses what it asks, a write of the buffer among it, where memory is wanting,
+/// and where a name leads out of the folder or is of the form `.X.replaced`; why the last one that failed did is kept. What could not
+/// be written stays in the buffer, and the next call on that file tries it again.
 ///
 /// The system may change files as it likes, so this store does not tell what it holds. A rename to `X` sets aside what had
 /// that name, as `.X.replaced`, and removes it when the file has its new name: some file systems, ext4 among them, write a
 /// file out before it may replace another. Where the system refuses one of these steps, those before it are undone. A
-/// process that is ended within a rename may leave `.X.replaced`, which the next rename to `X` removes.
+/// process that is ended within a rename may leave `.X.replaced`, as a rename does to which the system refuses both the last step and
+/// its undoing, which then is done; the next rename to `X` removes it.
 #[derive(Drop)]
 pub struct FolderStore<R: Files> {
     folder: Folder<R>,
@@ -177,9 +178,9 @@ impl<R: Files> Folder<R> {
         self.open_files.retain(|kept| kept.name.as_str() != name);
     }
 
+    /// Renames a file. What had the new name is not written out first, since it goes.
     fn rename(&mut self, from: &str, to: &str) -> io::Result<()> {
         self.write_out(from)?;
-        self.write_out(to)?;
         if self.rename_file(from, to)? {
             self.close(from);
             self.close(to);
@@ -206,21 +207,23 @@ impl<R: Files> Folder<R> {
         answer
     }
 
-    /// Renames a file to a name that is free, and removes what was set aside; where that is refused it has its old name
-    /// again. Tells whether the file was there.
+    /// Renames a file to a name that is free, and removes what was set aside, and tells whether the file was there. Where it answers
+    /// anything else than that, the name is free again: a file whose old name it cannot have back keeps the new one, and what was set
+    /// aside stays, as after a process that is ended within a rename.
     fn replace_aside(&self, old: &PathBuf, new: &PathBuf, aside: &PathBuf) -> io::Result<bool> {
         if !is_done(fs::rename(&self.files, old, new))? {
             return Ok(false);
         }
         if let Err(e) = is_done(fs::remove_file(&self.files, aside)) {
-            fs::rename(&self.files, new, old)?;
-            return Err(e);
+            if fs::rename(&self.files, new, old).is_ok() {
+                return Err(e);
+            }
         }
         Ok(true)
     }
 
+    /// Removes a file, which is not written out first.
     fn remove(&mut self, name: &str) -> io::Result<()> {
-        self.write_out(name)?;
         let path = self.path_of(name)?;
         if is_done(fs::remove_file(&self.files, path))? {
             self.close(name);

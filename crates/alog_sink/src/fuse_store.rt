@@ -182,10 +182,11 @@ impl<S: Store> Store for FuseStore<S> {
 }
 
 impl<S: Resumes> Resumes for FuseStore<S> {
-    ghost use Rattle.std.specs.Prelude.{◌≡◌, ◌≢◌, ◌+◌, ◌≤◌, min, true, length, IfErr, IsErr, OnOk};
+    ghost use Rattle.std.specs.Prelude.{◌≡◌, ◌≢◌, ◌+◌, ◌<◌, ◌≤◌, ◌⊎◌, min, true, length, IfErr, IsErr, OnOk};
     ghost use Rattle.alog_sink.specs.Files.{AreSame, appended};
     ghost use Rattle.alog_sink.specs.Calls.{Counts, TakesFront};
     ghost use Rattle.alog_sink.specs.Fuse.{own_failures, Passes};
+    ghost use Rattle.alog_sink.specs.declared.TheConstants.{FAILURES_MAX};
 
     fn append_some(&mut self, name: &str, bytes: &[u8]) -> Result<(), AppendError>
         ensures done { S.tells ≡ true
@@ -196,6 +197,9 @@ impl<S: Resumes> Resumes for FuseStore<S> {
         ensures counted { Counts (S.failures self.old.store + own_failures self.old.fuse)
             (S.failures self.new.store + own_failures self.new.fuse) result }
         ensures fails { (self.old.fuse ≡ Fuse.Left 0) → IsErr result }
+        ensures ends { (self.old.fuse ≡ Fuse.Left 0) → ((self.new.fuse ≡ Fuse.Burnt) ⊎ (self.new.fuse ≡ Fuse.Spared)) }
+        ensures spared { (self.old.fuse ≡ Fuse.Left 0) → (self.new.fuse ≡ Fuse.Spared)
+            → (S.failures self.old.store < FAILURES_MAX) → S.failures self.new.store ≡ S.failures self.old.store + 1 }
         ensures part { (self.old.fuse ≡ Fuse.Left 0) → (self.new.fuse ≡ Fuse.Burnt)
             → IfErr result (λ e. e.taken ≡ min self.old.part (length bytes.now)) }
         ensures passes { (self.old.fuse ≢ Fuse.Left 0)

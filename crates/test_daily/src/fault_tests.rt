@@ -18,8 +18,8 @@ fn fails_within(
     text: &str,
 ) {
     gives(rt, sink, START, "aaa", where_it_fails(k, 0, 0));
-    gives(rt, sink, START + DAY, "bbb", where_it_fails(k, 1, 2));
-    flushes(rt, sink, where_it_fails(k, 3, 3).map(|_| ()));
+    gives(rt, sink, START + DAY, "bbb", where_it_fails(k, 1, 3));
+    flushes(rt, sink, where_it_fails(k, 4, 4).map(|_| ()));
     has_only(rt, files(rt, sink), &[(file, text)]);
 }
 
@@ -33,7 +33,7 @@ fn flushes_again(
     text: &str,
 ) {
     fails_within(rt, &mut sink, k, file, text);
-    let after = if k < 4 {
+    let after = if k < 5 {
         Err(SinkError::Broken)
     } else {
         Ok(())
@@ -63,12 +63,13 @@ fn where_it_fails(k: u64, first: u64, last: u64) -> Result<Taken, SinkError> {
     }
 }
 
-// Which call fails, and what is left in the one file.
-const FUSED: [(u64, &str, &str); 5] = [
+// Which call fails, and what is left in the one file: before another day's is opened the last one is flushed, and then removed.
+const FUSED: [(u64, &str, &str); 6] = [
     (0, "day_2024-02-28.log", "aa"),
     (1, "day_2024-02-28.log", "aaa\n"),
-    (2, "day_2024-02-29.log", "bb"),
-    (3, "day_2024-02-29.log", "bbb\n"),
+    (2, "day_2024-02-28.log", "aaa\n"),
+    (3, "day_2024-02-29.log", "bb"),
+    (4, "day_2024-02-29.log", "bbb\n"),
     (9, "day_2024-02-29.log", "bbb\n"),
 ];
 
@@ -145,12 +146,14 @@ fn each_call(
 
 const TWO_DAYS: [Given<'_>; 3] = [
     (1_709_251_199_999_999_999, "aaa", 0, 0),
-    (1_709_251_200_000_000_000, "bbb", 1, 1),
-    (1_709_247_600_000_000_000, "ccc", 2, 2),
+    (1_709_251_200_000_000_000, "bbb", 1, 2),
+    (1_709_247_600_000_000_000, "ccc", 3, 3),
 ];
 
-const LEFT_OF_TWO_DAYS: [Left<'_>; 5] = [
+// The first day's file is flushed before the second one's is made.
+const LEFT_OF_TWO_DAYS: [Left<'_>; 6] = [
     &[("day_2024-02-29.log", "aa")],
+    &[("day_2024-02-29.log", "aaa\n")],
     &[
         ("day_2024-02-29.log", "aaa\n"),
         ("day_2024-03-01.log", "bb"),
@@ -170,19 +173,20 @@ const BOTH_DAYS: Left<'_> = &[
 
 #[test]
 fn each_call_of_two_days_failing(rt: HostRuntime) -> Result<(), Fail> {
-    each_call(&rt, PLAIN, &TWO_DAYS, 3, &LEFT_OF_TWO_DAYS)
+    each_call(&rt, PLAIN, &TWO_DAYS, 4, &LEFT_OF_TWO_DAYS)
 }
 
 const MAKING_WAY: [Given<'_>; 3] = [
     (1_709_269_200_000_000_000, "aaa", 0, 0),
     (1_709_276_400_000_000_000, "bbb", 1, 1),
-    (1_709_362_800_000_000_000, "ccc", 2, 3),
+    (1_709_362_800_000_000_000, "ccc", 2, 4),
 ];
 
-// The file that makes way is removed before the next one is made.
-const LEFT_OF_MAKING_WAY: [Left<'_>; 6] = [
+// The file that makes way is flushed and removed before the next one is made.
+const LEFT_OF_MAKING_WAY: [Left<'_>; 7] = [
     &[("day_2024-03-01.log", "aa")],
     &[("day_2024-03-01.log", "aaa\nbb")],
+    &[("day_2024-03-01.log", "aaa\nbbb\n")],
     &[("day_2024-03-01.log", "aaa\nbbb\n")],
     &[("day_2024-03-02.log", "cc")],
     &[("day_2024-03-02.log", "ccc\n")],
@@ -196,7 +200,7 @@ fn each_call_of_a_file_that_makes_way_failing(rt: HostRuntime) -> Result<(), Fai
         max_files: 1,
         ..PLAIN
     };
-    each_call(&rt, plan, &MAKING_WAY, 4, &LEFT_OF_MAKING_WAY)
+    each_call(&rt, plan, &MAKING_WAY, 5, &LEFT_OF_MAKING_WAY)
 }
 
 // Whether a file has just so many bytes of a line.

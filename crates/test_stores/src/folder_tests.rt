@@ -191,7 +191,8 @@ fn what_is_refused(rt: HostRuntime) -> Result<(), Fail> {
     Ok(())
 }
 
-/// Whether the calls are refused on files to which nothing can be written, but an append that stays in the buffer.
+/// Whether the calls are refused on files to which nothing can be written, but an append that stays in the buffer, a rename to such a
+/// file's name, and its removal.
 fn refuses_calls<S: Store>(store: &mut S, bytes: &[u8]) -> Result<bool, StoreError> {
     let calls = [
         Call::Appends("a", bytes, false),
@@ -204,8 +205,8 @@ fn refuses_calls<S: Store>(store: &mut S, bytes: &[u8]) -> Result<bool, StoreErr
         Call::Appends("b", bytes, false),
         Call::Sizes("c", Err(StoreError)),
         Call::Renames("d", "f", false),
-        Call::Renames("f", "d", false),
-        Call::Removes("e", false),
+        Call::Renames("f", "d", true),
+        Call::Removes("e", true),
     ];
     answers_all(store, &calls)
 }
@@ -219,7 +220,7 @@ fn writes_others(
 ) -> Result<bool, Fail> {
     Ok(
         refuses_calls(store, bytes)?
-            && count(rt, path.as_str())? == 5
+            && count(rt, path.as_str())? == 4
             && answers(store, Call::Appends("log", b"x", true))?,
     )
 }

@@ -1,34 +1,27 @@
-use Rattle.std.proofs.Common.{◌≡◌, ◌∙◌, false, [], ◌∷◌, ◌++◌, length, map, ap, sym, subst, arith}
-use Rattle.std.proofs.lemmas.Result.{err_from_is_err_and}
+use Rattle.std.proofs.Common.{◌≡◌, ◌∙◌, Ok, false, List, [], ◌∷◌, ◌++◌, length, map, refl, ap, sym, subst, arith}
 use Rattle.std.specs.List.{All}
 use Rattle.circular_buffer.specs.Buffer.{Buffer, keep_last}
 use Rattle.alog_sink.specs.Daily.{is_last, last_name}
-use Rattle.alog_sink.specs.DailyFiles.{Days, names_known, makes_way_for, with_opened}
+use Rattle.alog_sink.specs.DailyFiles.{Days, names_known, with_opened}
+use Rattle.alog_sink.specs.Deeds.{Deed, all_done}
+use Rattle.alog_sink.specs.Files.{AreSame}
 use Rattle.alog_sink.specs.Names.{IsDate, dated}
 use Rattle.alog_sink.specs.declared.names.Date.{Date}
+use Rattle.alog_sink.specs.declared.store.StoreError.{StoreError}
 use Rattle.alog_sink.specs.contracts.daily_files.DailyFiles.{the_view}
-use Rattle.alog_sink.proofs.DailyPut.{more_opened, more_last, more_few, more_dates, way_of_last, way_of_other}
-use Rattle.alog_sink.proofs.RotatedDoes.{does_err}
+use Rattle.alog_sink.proofs.DailyPut.{more_opened, more_last, more_few, more_dates, way_behind, way_of_last}
 use Rattle.alog_sink.proofs.daily_files.DailyFiles.open_date.Goals as goal
 
-pub returns-then-is_last-clause-does : goal.returns-then-is_last-clause-does
-returns-then-is_last-clause-does g c = λ tells.
-    way_of_last c.args.self.now (dated c.args.self.now.limits.file c.args.date) (sym c.is_last.ensures.last ∙ c.if-is_last.true)
-    (g.S.Store.files c.args.store.now)
+pub returns-then-is_last-clause-done : goal.returns-then-is_last-clause-done
+returns-then-is_last-clause-done g c = λ tells.
+    let d = c.args.self.now in
+    subst (λ (deeds : List Deed). AreSame (all_done deeds (g.S.Store.files c.args.store.now)) (g.S.Store.files c.args.store.now))
+    (sym (way_of_last d (dated d.limits.file c.args.date) (sym c.is_last.ensures.last ∙ c.if-is_last.true))) (λ n. refl)
 
 pub returns-then-is_last-clause-opened : goal.returns-then-is_last-clause-opened
 returns-then-is_last-clause-opened g c =
     let d = c.args.self.now in
     ap (λ ns. record { limits = d.limits; latest = d.latest; names = ns }) (c.is_last.ensures.again c.if-is_last.true)
-
-pub returns-in_err-make_way-clause-does : goal.returns-in_err-make_way-clause-does
-returns-in_err-make_way-clause-does g c = λ tells.
-    let p = err_from_is_err_and c.from_residual.result c.from_residual.ensures.1 in
-    let d = c.args.self.now in
-    let name = dated d.limits.file c.args.date in
-    does_err (makes_way_for d name) (g.S.Store.files c.args.store.now) (g.S.Store.files c.make_way.new.store) c.from_residual.result p.0 p.1
-    (way_of_other d name (sym c.is_last.ensures.last ∙ c.if-is_last.false) (g.S.Store.files c.args.store.now)
-    (g.S.Store.files c.make_way.new.store) (c.in_err-make_way.ensures.does tells)).failed
 
 pub invariant_of-self : goal.invariant_of-self
 invariant_of-self g c =
@@ -47,11 +40,12 @@ invariant_of-self g c =
       subst (All IsDate) (sym items) (more_dates i.file i.max_files i.dates.items c.args.date c.self.invariant.5 c.requires),
     )
 
-pub returns-clause-does : goal.returns-clause-does
-returns-clause-does g c = λ tells.
+pub returns-clause-done : goal.returns-clause-done
+returns-clause-done g c = λ tells.
     let d = c.args.self.now in
-    way_of_other d (dated d.limits.file c.args.date) (sym c.is_last.ensures.last ∙ c.if-is_last.false) (g.S.Store.files c.args.store.now)
-    (g.S.Store.files c.make_way.new.store) (record { done = (c.in_ok-make_way.ensures.does tells).done; failed = tt })
+    way_behind {A = Unit {0}} {E = StoreError} (Ok tt) d (dated d.limits.file c.args.date) (sym c.is_last.ensures.last ∙ c.if-is_last.false)
+    (g.S.Store.files c.args.store.now) (g.S.Store.files c.flush.new.store) (g.S.Store.files c.make_way.new.store)
+    (c.in_ok-flush.ensures.same tells) (c.in_ok-make_way.ensures.done tells)
 
 pub returns-clause-opened : goal.returns-clause-opened
 returns-clause-opened g c =

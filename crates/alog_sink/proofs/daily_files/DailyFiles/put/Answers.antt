@@ -12,8 +12,7 @@ returns-in_err-begin-clause-does g c = λ tells w shown line.
     let p = err_from_is_err_and c.from_residual.result c.from_residual.ensures.1 in
     does_err (deeds_of d (entry_of d.limits w)) (g.S.Store.files c.args.store.now) (g.S.Store.files c.begin.new.store)
     c.from_residual.result p.0 p.1
-    (line_breaks d (entry_of d.limits w) (g.S.Store.files c.args.store.now) (g.S.Store.files c.begin.new.store)
-    (c.in_err-begin.ensures.does tells w shown).failed)
+    (line_breaks d (entry_of d.limits w) (c.in_err-begin.ensures.failed tells))
 
 pub returns-clause-does : goal.returns-clause-does
 returns-clause-does g c = λ tells w shown line.
@@ -22,7 +21,7 @@ returns-clause-does g c = λ tells w shown line.
     c.as_str.ensures.value ∙ (c.self.invariant.0
     ∙ ap (λ (x : Days). last_name x.names) (c.self.view_is ∙ c.in_ok-begin.ensures.begun w shown)) in
     line_does d (entry_of d.limits w) c.as_str.result.now c.args.line.now name line (g.S.Store.files c.args.store.now)
-    (g.S.Store.files c.begin.new.store) (g.S.Store.files c.append.new.self) (c.in_ok-begin.ensures.does tells w shown).done
+    (g.S.Store.files c.begin.new.store) (g.S.Store.files c.append.new.self) (c.in_ok-begin.ensures.done tells w shown)
     c.append.result (c.append.ensures.done tells) (c.append.ensures.failed tells)
 
 pub returns-clause-kept : goal.returns-clause-kept
