@@ -129,9 +129,10 @@ def play_document(document, bin):
     env = {**os.environ, "PATH": f"{bin}:{os.environ['PATH']}"}
     with tempfile.TemporaryDirectory(prefix="alog-document-") as room:
         os.symlink(os.path.abspath("examples"), f"{room}/examples")
-        for command, wanted in shown_in(document):
-            # (what is built without proof is built by the script itself)
-            words = command.replace("./alog --unproved", f"{os.path.abspath('alog')} --unproved").replace("./alog", "alog").replace("/tmp/logs", f"{room}/logs")
+        for place, (command, wanted) in enumerate(shown_in(document)):
+            # (README's first command is run as a newcomer's is, whose program is built without proof)
+            first = f"{os.path.abspath('alog')} --unproved" if (document, place) == ("README.md", 0) else "alog"
+            words = command.replace("./alog", first).replace("/tmp/logs", f"{room}/logs")
             ran = subprocess.run(["sh", "-c", words], stdin=subprocess.DEVNULL, stdout=subprocess.PIPE, stderr=subprocess.STDOUT, cwd=room, env=env, timeout=BUILD_SECONDS)
             seen = re.sub(r"\Aalog: building .*\n", "", of_bytes(ran.stdout)).replace(f"{room}/logs", "/tmp/logs")
             passed += seen == wanted
