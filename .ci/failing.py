@@ -212,7 +212,7 @@ def sweep_folders(room, pool):
 
 
 def main():
-    subprocess.run(["./alog", "check", "examples/one_file.toml"], stdout=subprocess.DEVNULL, check=True)
+    subprocess.run(["./alog", "--prove", "check", "examples/one_file.toml"], stdout=subprocess.DEVNULL, check=True)
     with tempfile.TemporaryDirectory(prefix="alog-io-") as room, futures.ThreadPoolExecutor(os.cpu_count()) as pool:
         subprocess.run(["cc", "-shared", "-fPIC", "-O1", "-o", f"{room}/fail_io.so", ".ci/fail_io.c", "-ldl"], check=True)
         sweeps = [sweep_rows(room, pool), sweep_folders(room, pool)]

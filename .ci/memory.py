@@ -259,7 +259,7 @@ def main(words):
     if words not in ([], ["build"]):
         print("usage: ./check memory [build]")
         return 2
-    subprocess.run(["./alog", "check", "examples/one_file.toml"], stdout=subprocess.DEVNULL, check=True)
+    subprocess.run(["./alog", "--prove", "check", "examples/one_file.toml"], stdout=subprocess.DEVNULL, check=True)
     with tempfile.TemporaryDirectory(prefix="alog-memory-") as room:
         subprocess.run(["cc", "-shared", "-fPIC", "-O1", "-o", f"{room}/fail_alloc.so", ".ci/fail_alloc.c", "-ldl"], check=True)
         tests, threaded, unbuilt = sweep_tests(room, bool(words))
