@@ -16,7 +16,7 @@ use Rattle.alog_pool.specs.Places.{Each3}
 use Rattle.alog_pool.specs.Pool.{IsUnused, lanes_of}
 use Rattle.alog_pool.specs.Report.{AreClosed, IsClosed}
 use Rattle.alog_pool.specs.Rows.{heads, tails}
-use Rattle.alog_pool.proofs.SharedBack.{sum_mod}
+use Rattle.alog_pool.proofs.SharedBack.{sum_capped}
 use Rattle.alog_sink.specs.Files.{Files}
 use Rattle.alog_sink.specs.Sinks.{Turns}
 use Rattle.alog_sink.specs.declared.sink.Sink.{Sink}
@@ -82,7 +82,7 @@ module _ {S : Type 0} where
           own = back.seats.own ∙ unused.own;
           members = back.seats.joined ∙ ap (λ (l : M). l ++ map f column) unused.joined;
           faults_are = closing.faults_are ∙ back.faults
-              ∙ sum_mod (λ (p : SinkSeatView S). p.faults) (λ (p : SinkSeatView S). faults_in p.seat.known.own) column counted;
+              ∙ sum_capped (λ (p : SinkSeatView S). p.faults) (λ (p : SinkSeatView S). faults_in p.seat.known.own) column counted;
         }
 
     -- The places of the workers came back to places that were never used, and each fault at them was counted.

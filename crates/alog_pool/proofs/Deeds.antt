@@ -1,20 +1,19 @@
 -- Turns that were made, over several calls.
-use Rattle.std.proofs.Common.{◌≡◌, ◌≢◌, ℕ, zero, suc, ◌+◌, ◌%◌, ◌^◌, ◌<◌, ◌≤◌, cond, Some, None, Option, List, [], ◌∷◌, ◌++◌, map, take, set, length, refl, sym, ap, subst, ◌∙◌, arith, append_assoc, append-nil}
+use Rattle.std.proofs.Common.{◌≡◌, ◌≢◌, ℕ, zero, suc, ◌+◌, ◌-◌, ◌^◌, ◌<◌, ◌≤◌, cond, min, inl, inr, Some, None, Option, List, [], ◌∷◌, ◌++◌, map, take, set, length, refl, sym, ap, subst, ◌∙◌, arith, append_assoc, append-nil}
 use Rattle.std.specs.Option.{option_map}
 use Rattle.std.specs.Prelude.{slice_index_or, slice_get}
-use Rattle.std.proofs.lemmas.List.{map-append}
 use Rattle.std.proofs.lemmas.Option.{slice_get-map}
-use Rattle.std.proofs.Math.Nat.{mod-add-mod}
 use Rattle.alog_core.proofs.SharedCells.{on_test, at_same, at_other}
 use Rattle.alog_format.specs.Buffer.{Buffer}
 use Rattle.alog_lane.specs.Seats.{Entry}
 use Rattle.alog_lane.specs.Turns.{Turned}
 use Rattle.alog_core.specs.Accounts.{takes}
+use Rattle.alog_core.specs.Queue.{last}
 use Rattle.alog_msg.specs.declared.item.Item.{Item}
-use Rattle.alog_msg.specs.declared.item.Item.TheVariants.{Stop}
+use Rattle.alog_msg.specs.declared.item.Item.TheVariants.{Flush, Stop}
 use Rattle.alog_pool.specs.Accounts.{Moved}
 use Rattle.alog_pool.specs.SinkSeat.{Answer, SinkSeatView, Serves, fault_in}
-use Rattle.alog_pool.specs.Deeds.{Due, due_by, dues_by, dues_of, all_dues, dues_on, faults_in, HasMade, HaveMade}
+use Rattle.alog_pool.specs.Deeds.{Due, due_by, dues_by, dues_of, all_dues, dues_on, faults_in, HasDone, HasMade, HaveMade}
 use Rattle.alog_pool.proofs.Worked.{moved_gots}
 use Rattle.alog_registry.specs.Work.{turns_of}
 use Rattle.alog_registry.specs.declared.logger.Logger.{Logger}
@@ -78,36 +77,54 @@ dues_whole o spec logger ticket x k is at =
     subst (λ (z : Option Spec). take k (dues_by z logger ticket x) ≡ dues_by z logger ticket x) is
     (take_whole (map f (turns_of spec ticket x)) k none)
 
+-- turns behind others
+done_then : (h g : List Deed) (first second : List (ℕ × Item)) → HasDone h first → HasDone g second → HasDone (h ++ g) (first ++ second)
+done_then [] g first second one two = subst (λ (l : List (ℕ × Item)). HasDone g (l ++ second)) (sym one) two
+done_then (x ∷ h) g first second (inl own) two = inl (own.0, done_then h g first second own.1 two)
+done_then (x ∷ h) g first second (inr due) two =
+    inr (due.0 ++ second, ap (λ (l : List (ℕ × Item)). l ++ second) due.1, done_then h g due.0 second due.2 two)
+
 module _ {S : Type 0} where
-  none_made : (b : SinkSeatView S) → HasMade b b []
-  none_made b = record { number = refl; entries = []; own = sym (append-nil b.seat.known.own); turns_are = refl; counted = λ is. is }
+  pub none_made : (b : SinkSeatView S) → HasMade b b []
+  none_made b = record { number = refl; entries = []; own = sym (append-nil b.seat.known.own); done = refl; counted = λ is. is }
 
   made_then : (a b c : SinkSeatView S) (first second : List (ℕ × Item)) → HasMade a b first → HasMade b c second → HasMade a c (first ++ second)
   made_then a b c first second one two = record {
     number = two.number ∙ one.number;
     entries = one.entries ++ two.entries;
     own = two.own ∙ ap (λ (l : List Deed). l ++ two.entries) one.own ∙ append_assoc a.seat.known.own one.entries two.entries;
-    turns_are = map-append _ one.entries two.entries ∙ (λ i. one.turns_are i ++ two.turns_are i);
+    done = done_then one.entries two.entries first second one.done two.done;
     counted = λ is. two.counted (one.counted is);
   }
 
-  -- one turn
-  pub made_one : (tells : _) (files : S → Files) (failures : S → ℕ) (old new : SinkSeatView S) (tag : ℕ) (item : Item)
-      → Serves tells files failures old tag item new → HasMade old new ((tag, item) ∷ [])
-  made_one tells files failures old new tag item s =
-      let entry : Deed = record { seat = old.seat.known.seat; deed = s.deed } in
-      let own : new.seat.known.own ≡ old.seat.known.own ++ entry ∷ [] = s.turn.made.own in
-      let more : faults_in new.seat.known.own ≡ faults_in old.seat.known.own + fault_in s.deed.reply =
-      ap (λ (l : List Deed). faults_in l) own ∙ faults_in-append old.seat.known.own (entry ∷ [])
-      ∙ (let e : fault_in s.deed.reply + 0 ≡ fault_in s.deed.reply = omega arith in ap (λ n. faults_in old.seat.known.own + n) e) in
-      record {
-        number = s.turn.made.seat;
-        entries = entry ∷ [];
-        own = own;
-        turns_are = λ i. (s.tag_is i, s.item_is i) ∷ [];
-        counted = λ is. s.faults ∙ ap (λ n. (n + fault_in s.deed.reply) % 2 ^ 64) is
-            ∙ mod-add-mod (faults_in old.seat.known.own) (2 ^ 64) (fault_in s.deed.reply) ∙ ap (λ n. n % 2 ^ 64) (sym more);
-      }
+  module _ (tells : _) (files : S → Files) (failures : S → ℕ) (old new : SinkSeatView S) where
+    -- one turn, whichever it is
+    made_turn : (tag : ℕ) (item : Item) (turns : List (ℕ × Item)) (s : Serves tells files failures old tag item new)
+        → HasDone (record { seat = old.seat.known.seat; deed = s.deed } ∷ []) turns → HasMade old new turns
+    made_turn tag item turns s done =
+        let entry : Deed = record { seat = old.seat.known.seat; deed = s.deed } in
+        let own : new.seat.known.own ≡ old.seat.known.own ++ entry ∷ [] = s.turn.made.own in
+        let more : faults_in new.seat.known.own ≡ faults_in old.seat.known.own + fault_in s.deed.reply =
+        ap (λ (l : List Deed). faults_in l) own ∙ faults_in-append old.seat.known.own (entry ∷ [])
+        ∙ (let e : fault_in s.deed.reply + 0 ≡ fault_in s.deed.reply = omega arith in ap (λ n. faults_in old.seat.known.own + n) e) in
+        let capped : min (min (faults_in old.seat.known.own) (2 ^ 64 - 1) + fault_in s.deed.reply) (2 ^ 64 - 1)
+            ≡ min (faults_in old.seat.known.own + fault_in s.deed.reply) (2 ^ 64 - 1) = omega arith in
+        record {
+          number = s.turn.made.seat;
+          entries = entry ∷ [];
+          own = own;
+          done = done;
+          counted = λ is. s.faults ∙ ap (λ n. min (n + fault_in s.deed.reply) (2 ^ 64 - 1)) is ∙ capped
+              ∙ ap (λ n. min n (2 ^ 64 - 1)) (sym more);
+        }
+
+    -- one that is due
+    pub made_one : (tag : ℕ) (item : Item) → Serves tells files failures old tag item new → HasMade old new ((tag, item) ∷ [])
+    made_one tag item s = made_turn tag item ((tag, item) ∷ []) s (inr ([], (λ i. (sym s.tag_is i, sym s.item_is i) ∷ []), refl))
+
+    -- an own flush
+    pub made_own : Serves tells files failures old last (Flush 0) new → HasMade old new []
+    made_own s = made_turn last (Flush 0) [] s (inl ((s.tag_is, s.item_is), refl))
 
   pub have_none : (s : ℕ) (bs : List (SinkSeatView S)) → HaveMade s bs bs []
   have_none s [] = tt
@@ -125,6 +142,22 @@ module _ {S : Type 0} where
         (made_then o b c (dues_on s first) (dues_on s second) one.0 two.0),
     have_then (s + 1) os bs cs first second one.1 two.1,
   )
+
+  -- own flushes behind other turns
+  pub have_own : (os bs cs : List (SinkSeatView S)) (dues : List Due) → HaveMade 0 os bs dues → HaveMade 0 bs cs [] → HaveMade 0 os cs dues
+  have_own os bs cs dues made own =
+      subst (λ (l : List Due). HaveMade 0 os cs l) (append-nil dues) (have_then 0 os bs cs dues [] made own)
+
+  own_at : (s i : ℕ) (bs : List (SinkSeatView S)) {c : SinkSeatView S} (d : SinkSeatView S) → i < length bs
+      → HasMade (slice_index_or bs i d) c [] → HaveMade s bs (set bs i c) []
+  own_at s i [] d low made = absurd (omega (arith, low))
+  own_at s zero (b ∷ bs) d low made = (made, have_none (s + 1) bs)
+  own_at s (suc i) (b ∷ bs) d low made = (none_made b, own_at (s + 1) i bs d (omega (arith, low)) made)
+
+  -- those at one more of the places
+  pub own_more : {os bs : List (SinkSeatView S)} {i : ℕ} {c : SinkSeatView S} (d : SinkSeatView S) → HaveMade 0 os bs [] → i < length bs
+      → HasMade (slice_index_or bs i d) c [] → HaveMade 0 os (set bs i c) []
+  own_more {os} {bs} {i} {c} d made low own = have_own os bs (set bs i c) [] made (own_at 0 i bs d low own)
 
   -- a turn on a sink that is none of these
   made_elsewhere : (s : ℕ) (b : SinkSeatView S) (due : Due) → due.sink ≢ s → HasMade b b (dues_on s (due ∷ []))

@@ -1,8 +1,6 @@
 -- What a sink holds after turns that met no fault.
-use Rattle.std.proofs.Common.{◌≡◌, ℕ, ◌%◌, ◌^◌, ◌<◌, ◌≤◌, Bool, true, is_ok, List, [], ◌∷◌, length, Ok, Err, refl, sym, ap, subst, ◌∙◌, arith}
+use Rattle.std.proofs.Common.{◌≡◌, ℕ, ◌-◌, ◌^◌, Bool, true, is_ok, min, List, [], ◌∷◌, Ok, Err, inl, inr, refl, sym, ap, subst, ◌∙◌, arith}
 use Rattle.std.specs.List.{AllByRecursion}
-use Rattle.std.proofs.Math.Nat.{mod-eq_of_lt}
-use Rattle.std.proofs.lemmas.List.{length-map}
 use Rattle.std.proofs.lemmas.List.Elements.{All-from_recursion}
 use Rattle.alog_format.specs.Buffer.{Buffer}
 use Rattle.alog_lane.specs.Seats.{Entry}
@@ -11,7 +9,7 @@ use Rattle.alog_msg.specs.declared.item.Item.{Item}
 use Rattle.alog_msg.specs.declared.item.Item.TheVariants.{Text, Flush, Stop}
 use Rattle.alog_msg.specs.declared.message.Message.{Message}
 use Rattle.alog_pool.specs.SinkSeat.{Answer, fault_in}
-use Rattle.alog_pool.specs.Deeds.{faults_in, told}
+use Rattle.alog_pool.specs.Deeds.{HasDone, faults_in}
 use Rattle.alog_pool.specs.OneWorker.{HoldsMore, texts_in}
 use Rattle.alog_sink.proofs.SharedLaneRuns.{fan_writes, leaf_writes}
 use Rattle.alog_sink.specs.Files.{Files}
@@ -24,19 +22,12 @@ use Rattle.alog_sink.specs.declared.sink.Sink.TheVariants.{Fan, Leaf}
 abbrev pub Turn : Type 0
 Turn = Entry (Turned Item Buffer Answer)
 
--- the texts of some turns, by their items
-texts_told : (h : List Turn) → texts_of h ≡ texts_in (told h)
-texts_told [] = refl
-texts_told (x ∷ h) = ap (λ (ms : List Message). with_text x.deed.item ms) (texts_told h)
-
--- a turn has at most one fault
-few_faults : (a : Answer) → fault_in a ≤ 1
-few_faults (Ok served) = omega arith
-few_faults (Err e) = omega arith
-
-faults_below : (h : List Turn) → faults_in h ≤ length h
-faults_below [] = omega arith
-faults_below (x ∷ h) = let one = few_faults x.deed.reply in let rest = faults_below h in omega (arith, one, rest)
+-- the texts of a history are those of the turns that were due: an own flush has none
+texts_done : (h : List Turn) (turns : List (ℕ × Item)) → HasDone h turns → texts_of h ≡ texts_in turns
+texts_done [] turns done = ap (λ (ts : List (ℕ × Item)). texts_in ts) (sym done)
+texts_done (x ∷ h) turns (inl own) = ap (λ (i : Item). with_text i (texts_of h)) own.0.1 ∙ texts_done h turns own.1
+texts_done (x ∷ h) turns (inr due) = ap (λ (ms : List Message). with_text x.deed.item ms) (texts_done h due.0 due.2)
+    ∙ ap (λ (ts : List (ℕ × Item)). texts_in ts) (sym due.1)
 
 no_fault : (a : Answer) → fault_in a ≡ 0 → is_ok a ≡ true
 no_fault (Ok served) none = refl
@@ -49,14 +40,10 @@ each_served (x ∷ h) none =
     let rest : faults_in h ≡ 0 = omega (arith, none) in
     (no_fault x.deed.reply first, each_served h rest)
 
--- so few turns, of which none is told to have met a fault, met none
-pub are_served : (h : List Turn) (f : ℕ) (turns : List (ℕ × Item)) → told h ≡ turns → f ≡ faults_in h % 2 ^ 64 → f ≡ 0
-    → length turns < 2 ^ 64 → AreServed h
-are_served h f turns same counted none few =
-    let long : length turns ≡ length h = ap length (sym same) ∙ length-map h (λ (x : Turn). (x.deed.tag, x.deed.item)) in
-    let below = faults_below h in
-    let low : faults_in h < 2 ^ 64 = omega (arith, long, below, few) in
-    let zero : faults_in h ≡ 0 = sym (mod-eq_of_lt low) ∙ (sym counted ∙ none) in
+-- turns of which none is told to have met a fault met none
+are_served : (h : List Turn) (f : ℕ) → f ≡ min (faults_in h) (2 ^ 64 - 1) → f ≡ 0 → AreServed h
+are_served h f counted none =
+    let zero : faults_in h ≡ 0 = omega (arith, counted, none) in
     All-from_recursion (λ (x : Turn). is_ok x.deed.reply ≡ true) h (each_served h zero)
 
 module _ {S : Type 0} (tells : Bool) (files : S → Files) (failures : S → ℕ) where
@@ -100,8 +87,8 @@ module _ {S : Type 0} (tells : Bool) (files : S → Files) (failures : S → ℕ
   more_held tell (Leaf o) (Fan n) h leads served = leaf_stays o n h leads
   more_held tell (Fan o) (Leaf n) h leads served = fan_stays o n h leads
 
-  pub texts_held : (first last : Sink S) (h : List Turn) {f : ℕ} → Leads Given first h last → f ≡ faults_in h % 2 ^ 64 → tells ≡ true
-      → f ≡ 0 → length (told h) < 2 ^ 64 → HoldsMore files first last (texts_in (told h))
-  texts_held first last h {f} leads counted tell none few =
-      subst (λ (ms : List Message). HoldsMore files first last ms) (texts_told h)
-      (more_held tell first last h leads (are_served h f (told h) refl counted none few))
+  pub texts_held : (first last : Sink S) (h : List Turn) (turns : List (ℕ × Item)) {f : ℕ} → HasDone h turns → Leads Given first h last
+      → f ≡ min (faults_in h) (2 ^ 64 - 1) → tells ≡ true → f ≡ 0 → HoldsMore files first last (texts_in turns)
+  texts_held first last h turns {f} done leads counted tell none =
+      subst (λ (ms : List Message). HoldsMore files first last ms) (texts_done h turns done)
+      (more_held tell first last h leads (are_served h f counted none))

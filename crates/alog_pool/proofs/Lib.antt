@@ -1,6 +1,7 @@
 mod Moves
 mod Turning
 mod Deeds
+mod Flushed
 mod Worked
 mod Sums
 mod Leaving

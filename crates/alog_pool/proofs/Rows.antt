@@ -12,7 +12,7 @@ use Rattle.alog_pool.specs.Collected.{HasPlacesBack, HaveBack, TakesBack}
 use Rattle.alog_pool.specs.Places.{Each2, Each3, IsSameLane}
 use Rattle.alog_pool.specs.Pool.{IsNew, IsUnused, lanes_of}
 use Rattle.alog_pool.specs.Rows.{heads, tails}
-use Rattle.alog_pool.proofs.SharedBack.{seats_start, seats_one, sum_more}
+use Rattle.alog_pool.proofs.SharedBack.{seats_start, seats_one, sum_capped_more}
 
 module _ {A : Type 0} where
   pub heads_more : (rows : List (List A)) (x : A) (xs : List A) → heads (rows ++ (x ∷ xs) ∷ []) ≡ heads rows ++ x ∷ []
@@ -46,7 +46,7 @@ module _ {S : Type 0} where
         seats = subst (λ (ms : List (lane.Member (Turned Item Buffer Answer))). HasSeatsBack b.seat.known d.seat.known ms)
             (sym (map-append f column (w ∷ [])))
             (seats_one w.seat.known {l = d.seat.known} back.seats takes.joined one.1 one.0);
-        faults = takes.faults ∙ sum_more (λ (p : SinkSeatView S). p.faults) column w c.faults back.faults;
+        faults = takes.faults ∙ sum_capped_more (λ (p : SinkSeatView S). p.faults) column w c.faults back.faults;
       }
 
   pub rows_more : (bs cs ds ws : List (SinkSeatView S)) (rows : List (List (SinkSeatView S))) → HaveBack bs cs rows → Each3 TakesBack cs ds ws

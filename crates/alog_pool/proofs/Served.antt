@@ -1,5 +1,5 @@
 -- What a worker served, told of its whole time at work.
-use Rattle.std.proofs.Common.{◌≡◌, ◌<◌, ◌≤◌, inl, ℕ, zero, suc, ◌+◌, ◌%◌, ◌^◌, List, [], ◌∷◌, ◌++◌, map, take, length, refl, sym, ap, subst, ◌∙◌, append-nil, arith}
+use Rattle.std.proofs.Common.{◌≡◌, ◌<◌, ◌≤◌, inl, ℕ, zero, suc, ◌+◌, ◌-◌, ◌%◌, ◌^◌, min, List, [], ◌∷◌, ◌++◌, map, take, length, refl, sym, ap, subst, ◌∙◌, append-nil, arith}
 use Rattle.std.proofs.lemmas.List.{length-map}
 use Rattle.std.specs.Prelude.{slice_index_or}
 use Rattle.std.specs.List.{AllByRecursion, AllPairs}
@@ -16,7 +16,7 @@ use Rattle.alog_msg.specs.declared.item.Item.TheVariants.{Text, Flush, Stop}
 use Rattle.alog_pool.specs.Accounts.{work_tickets}
 use Rattle.alog_pool.specs.Back.{worker_member}
 use Rattle.alog_pool.specs.SinkSeat.{Answer, SinkSeatView}
-use Rattle.alog_pool.specs.Deeds.{Due, all_dues, faults_in, told, HaveMade, IsCounted}
+use Rattle.alog_pool.specs.Deeds.{Due, all_dues, dues_on, faults_in, HasDone, HaveMade, IsCounted}
 use Rattle.alog_pool.specs.Ended.{PutNothing}
 use Rattle.alog_pool.specs.Ending.{HasEndedAmong}
 use Rattle.alog_pool.specs.Places.{Each2}
@@ -92,10 +92,10 @@ module _ {S : Type 0} where
   made_all s (b ∷ bs) (c ∷ cs) dues made new =
       let own : c.seat.known.own ≡ made.0.entries =
       made.0.own ∙ ap (λ (l : List Turn). l ++ made.0.entries) new.0.1.own in
-      (ap (λ (l : List Turn). told l) own ∙ made.0.turns_are, made_all (s + 1) bs cs dues made.1 new.1)
+      (subst (λ (l : List Turn). HasDone l (dues_on s dues)) (sym own) made.0.done, made_all (s + 1) bs cs dues made.1 new.1)
 
   counted_new : (b : SinkSeatView S) → IsNew b → IsCounted b
-  counted_new b new = subst (λ (l : List Turn). b.faults ≡ faults_in l % 2 ^ 64) (sym new.1.own) new.1.faults
+  counted_new b new = subst (λ (l : List Turn). b.faults ≡ min (faults_in l) (2 ^ 64 - 1)) (sym new.1.own) new.1.faults
 
   made_counted : (s : ℕ) (bs cs : List (SinkSeatView S)) (dues : List Due) → HaveMade s bs cs dues → AllByRecursion IsNew bs
       → AllByRecursion IsCounted cs
@@ -122,6 +122,7 @@ module _ {S : Type 0} where
           lanes_are = place_lanes h.sink_seats.items k.sink_seats.items w.places ∙ b.lanes_are;
           turns = subst (λ (l : List Due). MadeAll 0 k.sink_seats.items l) dues
               (made_all 0 h.sink_seats.items k.sink_seats.items _ w.turns.turns b.seats);
+          flushed = w.flushed;
         }
 
     pub all_served : (hs ks : List (Worker S)) → AllByRecursion (Begins shared lanes most) hs → Each2 HasWorked hs ks

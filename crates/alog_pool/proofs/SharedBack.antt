@@ -1,5 +1,5 @@
 -- What comes back to a pool, one by one, and sums over lists.
-use Rattle.std.proofs.Common.{◌≡◌, ℕ, ◌+◌, ◌%◌, ◌^◌, List, [], ◌∷◌, ◌++◌, map, length, length-append, refl, sym, ap, subst, ◌∙◌, append_assoc, append-nil, arith}
+use Rattle.std.proofs.Common.{◌≡◌, ℕ, ◌+◌, ◌-◌, ◌%◌, ◌^◌, min, List, [], ◌∷◌, ◌++◌, map, length, length-append, refl, sym, ap, subst, ◌∙◌, append_assoc, append-nil, arith}
 use Rattle.std.specs.List.{AllByRecursion, sum_by}
 use mathlib.Core.List.{IsPrefix}
 use Rattle.std.proofs.Math.Nat.{mod-add-mod}
@@ -47,6 +47,23 @@ sum_mod f g (x ∷ xs) all =
     ∙ ap (λ k. (k + sum_by g xs) % 2 ^ 64) all.0
     ∙ mod-add-mod (g x) (2 ^ 64) (sum_by g xs)
     ∙ ap (λ k. k % 2 ^ 64) two
+
+-- a sum up to 2^64 - 1, with one more
+pub sum_capped_more : {A : Type 0} (f : A → ℕ) (xs : List A) (x : A) (n : ℕ) → n ≡ min (sum_by f xs) (2 ^ 64 - 1)
+    → min (n + f x) (2 ^ 64 - 1) ≡ min (sum_by f (xs ++ x ∷ [])) (2 ^ 64 - 1)
+sum_capped_more f xs x n is =
+    let more : sum_by f (xs ++ x ∷ []) ≡ sum_by f xs + sum_by f (x ∷ []) = sum_by-append f xs (x ∷ []) in
+    let last : sum_by f (x ∷ []) ≡ f x + sum_by f [] = sum_by-cons f x [] in omega (arith, is, more, last)
+
+-- where each is known up to 2^64 - 1, so is the sum
+pub sum_capped : {A : Type 0} (f g : A → ℕ) (xs : List A) → AllByRecursion (λ (x : A). f x ≡ min (g x) (2 ^ 64 - 1)) xs
+    → min (sum_by f xs) (2 ^ 64 - 1) ≡ min (sum_by g xs) (2 ^ 64 - 1)
+sum_capped f g [] all = refl
+sum_capped f g (x ∷ xs) all =
+    let first = all.0 in
+    let rest = sum_capped f g xs all.1 in
+    let one : sum_by f (x ∷ xs) ≡ f x + sum_by f xs = sum_by-cons f x xs in
+    let two : sum_by g (x ∷ xs) ≡ g x + sum_by g xs = sum_by-cons g x xs in omega (arith, first, rest, one, two)
 
 pub back_starts : (k : Known Item block_note) → IsFaithful k → HasBack k k []
 back_starts k faithful = record {

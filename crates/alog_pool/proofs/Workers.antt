@@ -1,5 +1,5 @@
 -- A pool of any number of workers: the turns on a sink are those of all workers, merged.
-use Rattle.std.proofs.Common.{◌≡◌, ◌⊎◌, ℕ, ◌+◌, ◌%◌, ◌^◌, Bool, cond, List, [], ◌∷◌, map, take, inl, inr, refl, sym, ap, subst, ◌∙◌, arith}
+use Rattle.std.proofs.Common.{◌≡◌, ◌⊎◌, ℕ, ◌+◌, ◌-◌, ◌^◌, Bool, cond, List, [], ◌∷◌, map, min, take, inl, inr, refl, sym, ap, subst, ◌∙◌, arith}
 use Rattle.std.specs.List.{AllByRecursion, sum_by}
 use Rattle.std.proofs.lemmas.List.{length-map}
 use Rattle.std.proofs.lemmas.List.Sums.{sum_by-cons}
@@ -12,7 +12,7 @@ use Rattle.alog_lane.specs.Turns.{Turned}
 use Rattle.alog_msg.specs.declared.item.Item.{Item}
 use Rattle.alog_pool.specs.Back.{seat_member}
 use Rattle.alog_pool.specs.SinkSeat.{Answer, SinkSeatView, fault_in}
-use Rattle.alog_pool.specs.Deeds.{Due, all_dues, dues_on, faults_in, told}
+use Rattle.alog_pool.specs.Deeds.{Due, HasDone, IsOwnFlush, all_dues, dues_on, faults_in}
 use Rattle.alog_pool.specs.OneWorker.{IsWritten}
 use Rattle.alog_pool.specs.Places.{Each2}
 use Rattle.alog_pool.specs.Pool.{lanes_of}
@@ -35,34 +35,42 @@ One = Member (Turned Item Buffer Answer)
 abbrev Given : Type 0
 Given = ℕ × Item
 
--- lists that are merged, each item by a function
-module _ {A B : Type 0} (f : A → B) where
-  each_row : List (List A) → List (List B)
-  each_row rows = map (λ (row : List A). map f row) rows
+-- the first of merged turns is an own flush, or the first of what is due of one of the rows
+due_next : (x : Turn) (rows rests : List (List Turn)) (dues : List (List Given)) → IsNext x rows rests → Each2 HasDone rows dues
+    → (IsOwnFlush x.deed × Each2 HasDone rests dues)
+    ⊎ ((left : List (List Given)) × IsNext (x.deed.tag, x.deed.item) dues left × Each2 HasDone rests left)
+due_next x [] [] dues is each = absurd is
+due_next x [] (rest ∷ rests) dues is each = absurd is
+due_next x (row ∷ rows) [] dues is each = absurd is
+due_next x (row ∷ rows) (rest ∷ rests) [] is each = absurd each
+due_next x (row ∷ rows) (rest ∷ rests) (ds ∷ dues) (inl is) each =
+    let others = subst (λ (ls : List (List Turn)). Each2 HasDone ls dues) is.1 each.1 in
+    let first : HasDone (x ∷ rest) ds = subst (λ (l : List Turn). HasDone l ds) is.0 each.0 in
+    elim first [ inl own ↦ inl (own.0, (own.1, others)) | inr due ↦ inr (due.0 ∷ dues, inl (due.1, refl), (due.2, others)) ]
+due_next x (row ∷ rows) (rest ∷ rests) (ds ∷ dues) (inr is) each =
+    let first : HasDone rest ds = subst (λ (l : List Turn). HasDone l ds) is.0 each.0 in
+    elim (due_next x rows rests dues is.1 each.1) [
+      | inl own ↦ inl (own.0, (first, own.1))
+      | inr due ↦ inr (ds ∷ due.0, inr (refl, due.1), (first, due.2))
+    ]
 
-  next_map : (x : A) (rows rests : List (List A)) → IsNext x rows rests → IsNext (f x) (each_row rows) (each_row rests)
-  unfolding each_row
-  next_map x [] [] is = absurd is
-  next_map x [] (rest ∷ rests) is = absurd is
-  next_map x (row ∷ rows) [] is = absurd is
-  next_map x (row ∷ rows) (rest ∷ rests) (inl is) =
-      inl (ap (λ (l : List A). map f l) is.0, ap (λ (ls : List (List A)). map (λ (l : List A). map f l) ls) is.1)
-  next_map x (row ∷ rows) (rest ∷ rests) (inr is) = inr (ap (λ (l : List A). map f l) is.0, next_map x rows rests is.1)
+none_due : (rows : List (List Turn)) (dues : List (List Given)) → AllByRecursion (λ (row : List Turn). row ≡ []) rows
+    → Each2 HasDone rows dues → AllByRecursion (λ (ds : List Given). ds ≡ []) dues
+none_due [] [] none each = tt
+none_due [] (ds ∷ dues) none each = absurd each
+none_due (row ∷ rows) [] none each = absurd each
+none_due (row ∷ rows) (ds ∷ dues) none each = (subst (λ (l : List Turn). HasDone l ds) none.0 each.0, none_due rows dues none.1 each.1)
 
-  none_map : (rows : List (List A)) → AllByRecursion (λ (row : List A). row ≡ []) rows
-      → AllByRecursion (λ (row : List B). row ≡ []) (each_row rows)
-  unfolding each_row
-  none_map [] none = tt
-  none_map (row ∷ rows) none = (ap (λ (l : List A). map f l) none.0, none_map rows none.1)
-
-  merged_map : (xs : List A) (rows : List (List A)) → IsMerged xs rows → IsMerged (map f xs) (each_row rows)
-  merged_map [] rows is = none_map rows is
-  merged_map (x ∷ xs) rows is = (each_row is.0, next_map x rows is.0 is.1, merged_map xs is.0 is.2)
-
-  pub merged_each : (xs : List A) (rows : List (List A)) → IsMerged xs rows
-      → IsMerged (map f xs) (map (λ (row : List A). map f row) rows)
-  unfolding each_row
-  merged_each xs rows is = merged_map xs rows is
+-- of merged turns those that are due are what is due of each row, merged
+merged_due : (h : List Turn) (rows : List (List Turn)) (dues : List (List Given)) → IsMerged h rows → Each2 HasDone rows dues
+    → (turns : List Given) × IsMerged turns dues × HasDone h turns
+merged_due [] rows dues is each = ([], none_due rows dues is each, refl)
+merged_due (x ∷ h) rows dues is each =
+    elim (due_next x rows is.0 dues is.1 each) [
+      | inl own ↦ let more = merged_due h is.0 dues is.2 own.1 in (more.0, more.1, inl (own.0, more.2))
+      | inr due ↦ let more = merged_due h is.0 due.0 is.2 due.2 in
+          ((x.deed.tag, x.deed.item) ∷ more.0, (due.0, due.1, more.1), inr (more.0, refl, more.2))
+    ]
 
 -- one list alone
 pub merged_alone : {A : Type 0} (xs row : List A) → IsMerged xs (row ∷ []) → xs ≡ row
@@ -149,11 +157,16 @@ module _ {S : Type 0} (tells : Bool) (files : S → Files) (failures : S → ℕ
   exact_rows [] h exact = refl
   exact_rows (b ∷ bs) h exact = λ i. sym exact.0 i ∷ exact_rows bs h exact.1 i
 
-  told_rows : (bs : List (SinkSeatView S)) → map (λ (l : List Turn). told l) (own_rows bs)
-      ≡ map (λ (b : SinkSeatView S). told b.seat.known.own) bs
+  -- the place's seat did these turns
+  abbrev DidAt : SinkSeatView S → List Given → Type 0
+  DidAt b turns = HasDone b.seat.known.own turns
+
+  done_rows : (bs : List (SinkSeatView S)) (dues : List (List Given)) → Each2 DidAt bs dues → Each2 HasDone (own_rows bs) dues
   unfolding own_rows
-  told_rows [] = refl
-  told_rows (b ∷ bs) = ap (λ (rows : List (List Given)). told b.seat.known.own ∷ rows) (told_rows bs)
+  done_rows [] [] each = tt
+  done_rows [] (ds ∷ dues) each = absurd each
+  done_rows (b ∷ bs) [] each = absurd each
+  done_rows (b ∷ bs) (ds ∷ dues) each = (each.0, done_rows bs dues each.1)
 
   row_faults : (bs : List (SinkSeatView S)) → sum_by faults_in (own_rows bs)
       ≡ sum_by (λ (b : SinkSeatView S). faults_in b.seat.known.own) bs
@@ -165,8 +178,7 @@ module _ {S : Type 0} (tells : Bool) (files : S → Files) (failures : S → ℕ
       (turns : List Given) × IsMerged turns rows × IsWritten tells files failures first last faults turns
 
   closed_lane : (l : LaneId (Sink S)) (bs : List (SinkSeatView S)) (k : Sink S) (f : ℕ) (rows : List (List Given))
-      → IsClosed tells files failures l bs k f → map (λ (b : SinkSeatView S). told b.seat.known.own) bs ≡ rows
-      → IsWrittenBy l.first k f rows
+      → IsClosed tells files failures l bs k f → Each2 DidAt bs rows → IsWrittenBy l.first k f rows
   closed_lane l bs k f rows c made =
       let h : List Turn = c.end.seen in
       let ms : List One = map (λ (b : SinkSeatView S). seat_member b) bs in
@@ -180,16 +192,16 @@ module _ {S : Type 0} (tells : Bool) (files : S → Files) (failures : S → ℕ
       (merged ms h distinct (not_mine c.end.seat ms h mine whole)) in
       let all : faults_in h ≡ sum_by (λ (b : SinkSeatView S). faults_in b.seat.known.own) bs =
       merged_faults h (own_rows bs) merge ∙ row_faults bs in
-      let counted : f ≡ faults_in h % 2 ^ 64 = c.faults_are ∙ ap (λ (n : ℕ). n % 2 ^ 64) (sym all) in (
-        told h,
-        subst (λ (rs : List (List Given)). IsMerged (told h) rs) (told_rows bs ∙ made)
-            (merged_each (λ (x : Turn). (x.deed.tag, x.deed.item)) h (own_rows bs) merge),
+      let counted : f ≡ min (faults_in h) (2 ^ 64 - 1) = c.faults_are ∙ ap (λ (n : ℕ). min n (2 ^ 64 - 1)) (sym all) in
+      let due = merged_due h (own_rows bs) rows merge (done_rows bs rows made) in (
+        due.0,
+        due.1,
         record {
           history = h;
-          turns_are = refl;
+          done = due.2;
           leads = c.closes.leads;
           faults_are = counted;
-          holds = texts_held tells files failures l.first k h c.closes.leads counted;
+          holds = texts_held tells files failures l.first k h due.0 due.2 c.closes.leads counted;
         },
       )
 
@@ -198,13 +210,12 @@ module _ {S : Type 0} (tells : Bool) (files : S → Files) (failures : S → ℕ
   IsRow s ls row dues = (lanes_of row ≡ ls) × MadeAll s row dues
 
   heads_made : (s : ℕ) (l : LaneId (Sink S)) (ls : List (LaneId (Sink S))) (rows : List (List (SinkSeatView S))) (dues : List (List Due))
-      → Each2 (IsRow s (l ∷ ls)) rows dues
-      → map (λ (b : SinkSeatView S). told b.seat.known.own) (heads rows) ≡ map (λ (ds : List Due). dues_on s ds) dues
-  heads_made s l ls [] [] each = refl
+      → Each2 (IsRow s (l ∷ ls)) rows dues → Each2 DidAt (heads rows) (map (λ (ds : List Due). dues_on s ds) dues)
+  heads_made s l ls [] [] each = tt
   heads_made s l ls [] (d ∷ dues) each = absurd each
   heads_made s l ls (row ∷ rows) [] each = absurd each
   heads_made s l ls ([] ∷ rows) (d ∷ dues) each = let bad = each.0.0 in absurd (cc bad)
-  heads_made s l ls ((b ∷ bs) ∷ rows) (d ∷ dues) each = λ i. each.0.1.0 i ∷ heads_made s l ls rows dues each.1 i
+  heads_made s l ls ((b ∷ bs) ∷ rows) (d ∷ dues) each = (each.0.1.0, heads_made s l ls rows dues each.1)
 
   tails_made : (s : ℕ) (l : LaneId (Sink S)) (ls : List (LaneId (Sink S))) (rows : List (List (SinkSeatView S))) (dues : List (List Due))
       → Each2 (IsRow s (l ∷ ls)) rows dues → Each2 (IsRow (s + 1) ls) (tails rows) dues

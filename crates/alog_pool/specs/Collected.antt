@@ -1,5 +1,5 @@
 -- What a pool has when its workers have come back.
-use Rattle.std.specs.Prelude.{◌≡◌, ℕ, ◌+◌, ◌%◌, ◌^◌, Bool, List, [], ◌∷◌, map, Vec}
+use Rattle.std.specs.Prelude.{◌≡◌, ℕ, ◌+◌, ◌-◌, ◌%◌, ◌^◌, Bool, List, [], ◌∷◌, map, min, Vec}
 use Rattle.std.specs.List.{sum_by}
 use Rattle.std.specs.declared.alloc.Global.{Global}
 use Rattle.alog_lane.specs.Calls.{Closes}
@@ -22,13 +22,13 @@ pub record TakesBack {S : Type 0} (old new place : SinkSeatView S) : Type 0 wher
   pub lane : new.lane ≡ old.lane
   pub limit : new.limit ≡ old.limit
   pub joined : IsJoined old.seat.known place.seat.known new.seat.known
-  pub faults : new.faults ≡ (old.faults + place.faults) % 2 ^ 64
+  pub faults : new.faults ≡ min (old.faults + place.faults) (2 ^ 64 - 1)
 
 -- A place that had counted no fault took all these back.
 pub record HasPlacesBack {S : Type 0} (old new : SinkSeatView S) (places : List (SinkSeatView S)) : Type 0 where
   pub lane : new.lane ≡ old.lane
   pub seats : HasSeatsBack old.seat.known new.seat.known (map (λ (b : SinkSeatView S). seat_member b) places)
-  pub faults : new.faults ≡ sum_by (λ (b : SinkSeatView S). b.faults) places % 2 ^ 64
+  pub faults : new.faults ≡ min (sum_by (λ (b : SinkSeatView S). b.faults) places) (2 ^ 64 - 1)
 
 -- each place took back what stands at its place in these rows
 abbrev pub HaveBack : {S : Type 0} → List (SinkSeatView S) → List (SinkSeatView S) → List (List (SinkSeatView S)) → Type 0

@@ -1,5 +1,6 @@
 -- The turns of a worker: those that are due for the items that it took, and those that its seats made.
-use Rattle.std.specs.Prelude.{◌≡◌, ℕ, ◌+◌, ◌%◌, ◌^◌, ◌==◌, if◌then◌else◌, List, [], ◌∷◌, ◌++◌, map, Option, Some, None}
+use Rattle.std.specs.Prelude.{◌≡◌, ◌⊎◌, ℕ, ◌+◌, ◌-◌, ◌^◌, ◌==◌, if◌then◌else◌, min, List, [], ◌∷◌, ◌++◌, map, Option, Some, None}
+use Rattle.alog_core.specs.Queue.{last}
 use Rattle.alog_format.specs.Buffer.{Buffer}
 use Rattle.alog_lane.specs.Seats.{Entry}
 use Rattle.alog_lane.specs.Turns.{Turned}
@@ -49,9 +50,15 @@ abbrev pub dues_on : ℕ → List Due → List (ℕ × Item)
 dues_on s [] = []
 dues_on s (d ∷ ds) = if d.sink == s then (d.tag, d.item) ∷ dues_on s ds else dues_on s ds
 
--- the tags and items of a seat's turns
-abbrev pub told : List (Entry (Turned Item Buffer Answer)) → List (ℕ × Item)
-told h = map (λ (x : Entry (Turned Item Buffer Answer)). (x.deed.tag, x.deed.item)) h
+-- a flush that a worker made of its own accord, before it rested: its tag is one that no item has
+abbrev pub IsOwnFlush : Turned Item Buffer Answer → Type 0
+IsOwnFlush d = (d.tag ≡ last) × (d.item ≡ Flush 0)
+
+-- turns of exactly these tags and items, in this order, and beside them workers' own flushes and nothing else
+abbrev pub HasDone : List (Entry (Turned Item Buffer Answer)) → List (ℕ × Item) → Type 0
+HasDone [] turns = turns ≡ []
+HasDone (x ∷ h) turns = (IsOwnFlush x.deed × HasDone h turns)
+    ⊎ ((rest : List (ℕ × Item)) × (turns ≡ (x.deed.tag, x.deed.item) ∷ rest) × HasDone h rest)
 
 -- how many of them were answered by a fault
 abbrev pub faults_in : List (Entry (Turned Item Buffer Answer)) → ℕ
@@ -59,20 +66,20 @@ faults_in [] = 0
 faults_in (x ∷ h) = fault_in x.deed.reply + faults_in h
 
 module _ {S : Type 0} where
-  -- the place counts, modulo 2^64, those of its seat's own turns that were answered by a fault
+  -- the place counts, up to 2^64 - 1, those of its seat's own turns that were answered by a fault
   abbrev pub IsCounted : SinkSeatView S → Type 0
-  IsCounted b = b.faults ≡ faults_in b.seat.known.own % 2 ^ 64
+  IsCounted b = b.faults ≡ min (faults_in b.seat.known.own) (2 ^ 64 - 1)
 
-  -- The seat made exactly turns of these tags and items, in this order. A count of its faults stays one.
+  -- The seat made exactly turns of these tags and items, in this order, and own flushes. A count of its faults stays one.
   pub record HasMade (old new : SinkSeatView S) (turns : List (ℕ × Item)) : Type 0 where
     pub number : new.seat.known.seat ≡ old.seat.known.seat
     pub entries : List (Entry (Turned Item Buffer Answer))
     pub own : new.seat.known.own ≡ old.seat.known.own ++ entries
-    pub turns_are : told entries ≡ turns
+    pub done : HasDone entries turns
     pub counted : IsCounted old → IsCounted new
 
   -- At each of these places, of which the first is that of the sink of this number, the seat made exactly the turns that were
-  -- due on its sink.
+  -- due on its sink, and own flushes.
   abbrev pub HaveMade : ℕ → List (SinkSeatView S) → List (SinkSeatView S) → List Due → Type 0
   HaveMade s [] [] dues = Unit {0}
   HaveMade s (b ∷ bs) (c ∷ cs) dues = HasMade b c (dues_on s dues) × HaveMade (s + 1) bs cs dues

@@ -1,5 +1,5 @@
 -- A pool of one worker: each sink was given its turns in the order of their tickets, and holds their lines.
-use Rattle.std.specs.Prelude.{◌≡◌, ℕ, ◌+◌, ◌%◌, ◌^◌, ◌<◌, Bool, true, List, [], ◌∷◌, ◌++◌, length, map}
+use Rattle.std.specs.Prelude.{◌≡◌, ℕ, ◌+◌, ◌-◌, ◌^◌, Bool, true, List, [], ◌∷◌, ◌++◌, length, map, min}
 use Rattle.std.specs.List.{sum_by}
 use Rattle.alog_core.specs.Accounts.{claimed, taken, weigh}
 use Rattle.alog_format.specs.Buffer.{Buffer}
@@ -10,7 +10,7 @@ use Rattle.alog_msg.specs.declared.item.Item.{Item}
 use Rattle.alog_msg.specs.declared.item.Item.TheVariants.{Stop}
 use Rattle.alog_msg.specs.declared.message.Message.{Message}
 use Rattle.alog_pool.specs.SinkSeat.{Answer}
-use Rattle.alog_pool.specs.Deeds.{Due, all_dues, dues_on, faults_in, told}
+use Rattle.alog_pool.specs.Deeds.{Due, HasDone, all_dues, dues_on, faults_in}
 use Rattle.alog_pool.specs.Pool.{PoolView, lanes_of}
 use Rattle.alog_pool.specs.Posted.{ArePosted, tickets_of}
 use Rattle.alog_pool.specs.Producer.{ProducerView}
@@ -40,14 +40,15 @@ module _ {S : Type 0} (files : S → Files) where
   HoldsMore _ _ ms = ⊥
 
 module _ {S : Type 0} (tells : Bool) (files : S → Files) (failures : S → ℕ) where
-  -- Turns of exactly these tags and items, in this order, led from one sink to the other, and so many were answered by a fault, modulo
-  -- 2^64. Where none was, of fewer than that, over a store that tells its bytes, the sink holds the lines of their texts.
+  -- Turns of exactly these tags and items, in this order, and beside them workers' own flushes and nothing else, led from one sink to the
+  -- other, and so many were answered by a fault, or at least 2^64 - 1. Where none was, over a store that tells its bytes, the sink holds
+  -- the lines of their texts.
   pub record IsWritten (first last : Sink S) (faults : ℕ) (turns : List (ℕ × Item)) : Type 0 where
     pub history : List (Entry (Turned Item Buffer Answer))
-    pub turns_are : told history ≡ turns
+    pub done : HasDone history turns
     pub leads : Leads (Turns tells files failures) first history last
-    pub faults_are : faults ≡ faults_in history % 2 ^ 64
-    pub holds : tells ≡ true → faults ≡ 0 → length turns < 2 ^ 64 → HoldsMore files first last (texts_in turns)
+    pub faults_are : faults ≡ min (faults_in history) (2 ^ 64 - 1)
+    pub holds : tells ≡ true → faults ≡ 0 → HoldsMore files first last (texts_in turns)
 
   -- at each sink, of which the first has this number, the turns that are due there
   abbrev pub AreWritten : ℕ → List (LaneId (Sink S)) → List (Sink S) → List ℕ → List Due → Type 0

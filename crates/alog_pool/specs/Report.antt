@@ -1,5 +1,5 @@
 -- What a pool answers at its end.
-use Rattle.std.specs.Prelude.{◌≡◌, ◌<◌, ℕ, ◌+◌, ◌%◌, ◌^◌, Bool, List, [], ◌∷◌, ◌++◌, length, map, Vec}
+use Rattle.std.specs.Prelude.{◌≡◌, ◌<◌, ℕ, ◌+◌, ◌-◌, ◌%◌, ◌^◌, Bool, List, [], ◌∷◌, ◌++◌, length, map, min, Vec}
 use Rattle.std.specs.List.{AllByRecursion, sum_by}
 use Rattle.std.specs.declared.alloc.Global.{Global}
 use Rattle.alog_core.specs.Accounts.{claims, takes, claimed, taken, handed_out}
@@ -13,8 +13,8 @@ use Rattle.alog_policy.specs.BookAdds.{posts_in}
 use Rattle.alog_policy.specs.declared.counts.Counts.{Counts}
 use Rattle.alog_pool.specs.Accounts.{of_all, of_work}
 use Rattle.alog_pool.specs.Back.{worker_member, pass_member, seat_member}
-use Rattle.alog_pool.specs.SinkSeat.{Answer, SinkSeatView}
-use Rattle.alog_pool.specs.Deeds.{Due, all_dues, dues_on, faults_in, told}
+use Rattle.alog_pool.specs.SinkSeat.{Answer, AreFlushed, SinkSeatView}
+use Rattle.alog_pool.specs.Deeds.{Due, HasDone, all_dues, dues_on, faults_in}
 use Rattle.alog_pool.specs.Pool.{PoolView, lanes_of}
 use Rattle.alog_pool.specs.Producer.{ProducerView}
 use Rattle.alog_pool.specs.Rows.{heads, tails}
@@ -62,10 +62,11 @@ pub record AreTotals {S : Type 0} (t : Totals) (producers : List ProducerView) (
   pub asked : t.asked ≡ (t.posted + t.discarded) % 2 ^ 64
   pub balance : t.posted ≡ (t.overrun + t.handled) % 2 ^ 64
 
--- at each place of a worker, of which the first is that at the sink of this number, the seat made exactly the turns that are due there
+-- at each place of a worker, of which the first is that at the sink of this number, the seat made exactly the turns that are due there,
+-- and own flushes
 abbrev pub MadeAll : {S : Type 0} → ℕ → List (SinkSeatView S) → List Due → Type 0
 MadeAll s [] dues = Unit {0}
-MadeAll s (b ∷ bs) dues = (told b.seat.known.own ≡ dues_on s dues) × MadeAll (s + 1) bs dues
+MadeAll s (b ∷ bs) dues = HasDone b.seat.known.own (dues_on s dues) × MadeAll (s + 1) bs dues
 
 -- each ticket is below each later one
 abbrev pub IsRising : List ℕ → Type 0
@@ -74,7 +75,7 @@ IsRising (t ∷ ts) = AllByRecursion (λ (u : ℕ). t < u) ts × IsRising ts
 
 -- A worker that ended: the tickets that it took rise, and it recorded those of its first texts and flushes, at most so many. It
 -- ended at its first stop or where no ticket was left, and at each sink it made exactly the turns that were due there for what it
--- took, in that order.
+-- took, in that order, and own flushes, one of them or one that was due behind each line that it wrote.
 pub record HasServed {S : Type 0} (loggers : List Logger) (lanes : List (LaneId (Sink S))) (most : ℕ) (h : Worker S) : Type 0 where
   pub work : IsWorkOf most h.pass.known h.tickets.items h.handled
   pub rising : IsRising (handed_out h.pass.known.own)
@@ -82,6 +83,7 @@ pub record HasServed {S : Type 0} (loggers : List Logger) (lanes : List (LaneId 
   pub ended : HasEnded h.pass.known.own
   pub lanes_are : lanes_of h.sink_seats.items ≡ lanes
   pub turns : MadeAll 0 h.sink_seats.items (all_dues loggers (takes h.pass.known.own))
+  pub flushed : AreFlushed h.sink_seats.items
 
 -- By whatever weight that gives nothing to stops: what the producers put in, they took out themselves, or the workers did. So each
 -- text and each flush that was posted was overrun or handled, once.
@@ -92,13 +94,13 @@ AllCameOut {S} producers crew = (w : ℕ → Item → ℕ) → ((t : ℕ) → w 
 
 module _ {S : Type 0} (tells : Bool) (files : S → Files) (failures : S → ℕ) where
   -- The end of a sink: its lane's one history has turns of these places and no others, and led to this sink. The faults are those
-  -- turns that were answered by one, modulo 2^64.
+  -- turns that were answered by one, at most 2^64 - 1.
   pub record IsClosed (at : LaneId (Sink S)) (places : List (SinkSeatView S)) (sink : Sink S) (faults : ℕ) : Type 0 where
     pub end : lane.Known (Turned Item Buffer Answer)
     pub closes : Closes (Turns tells files failures) at.first end sink
     pub own : end.own ≡ []
     pub members : end.joined ≡ map (λ (b : SinkSeatView S). seat_member b) places
-    pub faults_are : faults ≡ sum_by (λ (b : SinkSeatView S). faults_in b.seat.known.own) places % 2 ^ 64
+    pub faults_are : faults ≡ min (sum_by (λ (b : SinkSeatView S). faults_in b.seat.known.own) places) (2 ^ 64 - 1)
 
   -- the same at each sink, with what stands at its place in these rows of places
   abbrev pub AreClosed : List (LaneId (Sink S)) → List (List (SinkSeatView S)) → List (Sink S) → List ℕ → Type 0

@@ -1,17 +1,19 @@
 -- A place at a sink under its lock.
-use Rattle.std.specs.Prelude.{◌≡◌, ℕ, ◌+◌, ◌%◌, ◌^◌, ◌≤◌, Bool, List, length, map, Result, Ok, Err}
+use Rattle.std.specs.Prelude.{◌≡◌, ℕ, ◌+◌, ◌-◌, ◌^◌, ◌≤◌, ◌||◌, Bool, true, false, List, [], ◌∷◌, length, map, min, Result, Ok, Err}
 use Rattle.std.specs.List.{AllByRecursion}
 use Rattle.alog_format.specs.Buffer.{Buffer}
 use Rattle.alog_lane.specs.Calls.{LaneId, SeatView, TakesTurn}
-use Rattle.alog_lane.specs.Seats.{Member}
+use Rattle.alog_lane.specs.Seats.{Entry, Member}
 use Rattle.alog_lane.specs.Turns.{Turned}
 use Rattle.alog_msg.specs.declared.item.Item.{Item}
 use Rattle.alog_msg.specs.declared.item.Item.TheVariants.{Text, Flush, Stop}
 use Rattle.alog_sink.specs.Files.{Files}
 use Rattle.alog_sink.specs.Sinks.{Turns}
 use Rattle.alog_sink.specs.declared.leaf.SinkError.{SinkError}
+use Rattle.alog_sink.specs.declared.leaf.Taken.TheVariants.{Below, Written}
 use Rattle.alog_sink.specs.declared.sink.Sink.{Sink}
 use Rattle.alog_sink.specs.declared.turn.Served.{Served}
+use Rattle.alog_sink.specs.declared.turn.Served.TheVariants.{Flushed, Taken as Took}
 
 -- what a turn on a sink answers
 abbrev pub Answer : Type 0
@@ -52,6 +54,32 @@ abbrev pub fault_in : Answer → ℕ
 fault_in (Ok served) = 0
 fault_in (Err e) = 1
 
+-- the turn wrote a line
+abbrev pub is_written : Answer → Bool
+is_written (Ok (Took Written)) = true
+is_written (Ok (Took Below)) = false
+is_written (Ok Flushed) = false
+is_written (Err e) = false
+
+-- whether a line is unflushed after a turn at this item, which was answered so
+abbrev pub unflushed_by : Bool → Item → Answer → Bool
+unflushed_by before (Text m) reply = before || is_written reply
+unflushed_by before (Flush n) reply = false
+unflushed_by before Stop reply = false
+
+-- whether it is after these turns
+abbrev pub unflushed_after : Bool → List (Entry (Turned Item Buffer Answer)) → Bool
+unflushed_after before [] = before
+unflushed_after before (x ∷ h) = unflushed_after (unflushed_by before x.deed.item x.deed.reply) h
+
+-- The seat wrote a line behind which it made no flush.
+abbrev pub is_unflushed : {S : Type 0} → SinkSeatView S → Bool
+is_unflushed b = unflushed_after false b.seat.known.own
+
+-- each place has flushed what it wrote
+abbrev pub AreFlushed : {S : Type 0} → List (SinkSeatView S) → Type 0
+AreFlushed {S} bs = AllByRecursion (λ (b : SinkSeatView S). is_unflushed b ≡ false) bs
+
 module _ {S : Type 0} (tells : Bool) (files : S → Files) (failures : S → ℕ) where
   -- The seat made one turn, of this tag, at this item. Its fault, if it was one, is counted.
   pub record Serves (old : SinkSeatView S) (tag : ℕ) (item : Item) (new : SinkSeatView S) : Type 0 where
@@ -62,4 +90,4 @@ module _ {S : Type 0} (tells : Bool) (files : S → Files) (failures : S → ℕ
     pub item_is : deed.item ≡ item
     pub index : ℕ
     pub turn : TakesTurn (Turns tells files failures) old.lane.first old.seat.known new.seat.known deed index
-    pub faults : new.faults ≡ (old.faults + fault_in deed.reply) % 2 ^ 64
+    pub faults : new.faults ≡ min (old.faults + fault_in deed.reply) (2 ^ 64 - 1)

@@ -7,18 +7,26 @@ use Rattle.alog_core.specs.Accounts.{claims, takes, grabbed, handed_out, taken}
 use Rattle.alog_msg.specs.declared.item.Item.{Item}
 use Rattle.alog_pattern.specs.declared.patterns.TheConstants.{LINE_MAX}
 use Rattle.alog_pool.specs.Accounts.{of_work, of_stops, work_tickets, Moved, SawEnd}
-use Rattle.alog_pool.specs.SinkSeat.{Place, places_of}
+use Rattle.alog_pool.specs.SinkSeat.{AreFlushed, Place, places_of}
 use Rattle.alog_pool.specs.Deeds.{HaveMade, all_dues}
 use Rattle.alog_pool.specs.declared.worker.Worker.{Worker}
 use Rattle.alog_registry.specs.Limit.{KeepsTo, HoldsTo}
 use Rattle.alog_ring.specs.Known.{Known, IsPassOf}
 use Rattle.alog_registry.specs.BlockPort.{block_note}
 use Rattle.alog_ring.specs.Made.{IsFaithful}
+use Rattle.alog_ring.specs.declared.pop.PopError.{PopError}
+use Rattle.alog_ring.specs.declared.pop.PopError.TheVariants.{Busy, Empty, Idle}
 
 -- what a worker that looks for an item finds: it took this item under this ticket, or no ticket is left
 abbrev pub Finds : ℕ → Known Item block_note → Known Item block_note → Option ℕ → Item → Type 0
 Finds limit old new None x = Moved old new [] [] × SawEnd new.own
 Finds limit old new (Some t) x = Moved old new [] ((t, x) ∷ []) × KeepsTo limit x
+
+-- a pop found that nothing is there, and nothing on its way
+abbrev pub is_idle : PopError → Bool
+is_idle (Idle next) = true
+is_idle (Empty next) = false
+is_idle (Busy seen) = false
 
 -- A worker's account: it has one part and put nothing in. It recorded the tickets of its first texts and flushes, at most so many,
 -- and counted its texts and flushes modulo 2^64.
@@ -65,19 +73,20 @@ pub record IsAtWork {S : Type 0} (start now : Worker S) : Type 0 where
   pub limits : AreLimited (arc_value start.shared).ring.ring.limit.most (places_of start.sink_seats.items)
 
 -- What a worker made, since it began with the first of these workers: it took these items, and at each of its places its seat made
--- exactly the turns that were due for them on that sink, in their order.
+-- exactly the turns that were due for them on that sink, in their order, and own flushes.
 pub record HasTurned {S : Type 0} (start now : Worker S) : Type 0 where
   pub gots : List (ℕ × Item)
   pub took : takes now.pass.known.own ≡ takes start.pass.known.own ++ gots
   pub turns : HaveMade 0 start.sink_seats.items now.sink_seats.items (all_dues (arc_value start.shared).loggers gots)
 
--- What became of a worker.
+-- What became of a worker. It flushed what it wrote before it ended.
 pub record HasWorked {S : Type 0} (start end : Worker S) : Type 0 where
   pub number : end.number ≡ start.number
   pub ring : IsPassOf (arc_value start.shared).ring.ring end.pass
   pub work : IsWorkOf start.most end.pass.known end.tickets.items end.handled
   pub ended : HasEnded end.pass.known.own
   pub turns : HasTurned start end
+  pub flushed : AreFlushed end.sink_seats.items
   pub places : places_of end.sink_seats.items ≡ places_of start.sink_seats.items
 
 -- Whether it goes on: it is at work and made its turns, or it has worked.

@@ -6,9 +6,10 @@
 //! handles items until the first stop, or until no ticket is left, and says in terms of the pass's own entries what was taken
 //! (`specs/Working.antt`, over `specs/Accounts.antt`): nothing was put in, the recorded tickets are the first ones of its texts
 //! and flushes, their number is counted, and it ended at its first stop or at the end of tickets. At each place the seat's own
-//! turns are those that the definition of the work gives for the items that were taken, in their order and by their tags, and
-//! the place's faults count those of them that were answered by one (`specs/Deeds.antt`); `SinkSeat` says of one turn what it is
-//! (`specs/SinkSeat.antt`).
+//! turns are those that the definition of the work gives for the items that were taken, in their order and by their tags, and beside
+//! them flushes of its own, under a tag that no item has; the place's faults count those that were answered by one
+//! (`specs/Deeds.antt`); `SinkSeat` says of one turn what it is (`specs/SinkSeat.antt`). A worker that finds the queue idle flushes
+//! each sink to which its seat wrote a line behind its last flush, and then rests; so does one that ends.
 //!
 //! A `Producer` has a pass of the ring, two blocks, a seat of the loss book and a place at the backtrace of each logger
 //! (`BacktraceSeat`). Each of its calls is one of `Loggers` on what it lends (`specs/Producer.antt`, `BacktraceSeat.antt`). The law

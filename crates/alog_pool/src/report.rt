@@ -30,7 +30,7 @@ pub struct Report<S: Store> {
     pub totals: Totals,
     /// The tickets of the first texts and flushes of each worker, rising, at most as many of each as the setup said.
     pub tickets: Vec<Vec<u64>>,
-    /// How many turns at each sink were answered by a fault, modulo 2^64.
+    /// How many turns at each sink were answered by a fault, at most 2^64 - 1.
     pub faults: Vec<u64>,
     /// The sinks, in the order of the setup.
     pub sinks: Vec<Sink<S>>,

@@ -1,45 +1,50 @@
 //! A worker's place at a sink.
-ghost use Rattle.std.specs.Prelude.{◌≡◌, ◌+◌, ◌%◌, ◌^◌, ◌<◌, IfOk, OnErr};
+ghost use Rattle.std.specs.Prelude.{◌≡◌, ◌+◌, ◌-◌, ◌^◌, ◌<◌, false, [], min, IfOk, OnErr};
 ghost use Rattle.alog_lane.specs.Calls.{Closes};
 ghost use Rattle.alog_lane.specs.Seats.{IsJoined};
 ghost use Rattle.alog_lane.specs.declared.seat.TheConstants.{ALL_PARTS};
 ghost use Rattle.alog_pattern.specs.declared.patterns.TheConstants.{LINE_MAX};
-ghost use Rattle.alog_pool.specs.SinkSeat.{IsServable, Serves, fault_in};
+ghost use Rattle.alog_pool.specs.SinkSeat.{IsServable, Serves, fault_in, is_unflushed, place_of, unflushed_by};
+ghost use Rattle.alog_pool.specs.Deeds.{HasMade};
 ghost use Rattle.alog_pool.specs.Places.{IsFirst, IsPart};
 ghost use Rattle.alog_sink.specs.Sinks.{Suits, Turns};
 
 use crate::alone::alone;
+use alog_core::TICKET_END;
 use alog_format::LineBuf;
 use alog_lane::{Lane, LaneSeat};
 use alog_msg::Item;
-use alog_sink::{Served, Sink, SinkError, Store};
+use alog_sink::{Served, Sink, SinkError, Store, Taken};
 use std::alloc::{AllocError, Global};
 use std::marker::Model;
 use std::sync::{Arc, Wait};
 
-/// A sink under its lock, a seat of that, and how many of the seat's turns were answered by a fault, modulo 2^64.
+/// A sink under its lock, a seat of that, and how many of the seat's turns were answered by a fault, at most 2^64 - 1.
 #[derive(Drop)]
 pub struct SinkSeat<S: Store> {
     pub(crate) lane: Arc<Lane<Sink<S>>>,
     pub(crate) seat: LaneSeat<Sink<S>>,
     pub(crate) faults: u64,
+    /// Whether the seat wrote a line since it flushed last.
+    unflushed: bool,
     /// The most bytes of a text.
     pub(crate) text_limit: usize,
 }
 
 impl<S: Store> Model for SinkSeat<S> {
-    ghost use Rattle.std.specs.Prelude.{◌≡◌};
+    ghost use Rattle.std.specs.Prelude.{◌≡◌, false};
     ghost use Rattle.std.specs.Arc.{arc_value};
     ghost use Rattle.alog_lane.specs.Calls.{IsSeatOf};
     ghost use Rattle.alog_pattern.specs.declared.patterns.TheConstants.{LINE_MAX};
-    ghost use Rattle.alog_pool.specs.SinkSeat.{SinkSeatView};
+    ghost use Rattle.alog_pool.specs.SinkSeat.{SinkSeatView, unflushed_after};
     ghost use Rattle.alog_sink.specs.Sinks.{Suits};
 
     ghost Value = { SinkSeatView S };
 
     ghost view = { λ b. record { lane = arc_value b.lane; seat = b.seat; faults = b.faults; limit = b.text_limit } };
 
-    ghost invariant = { λ b. IsSeatOf (arc_value b.lane) b.seat × Suits b.text_limit LINE_MAX (arc_value b.lane).first };
+    ghost invariant = { λ b. IsSeatOf (arc_value b.lane) b.seat × Suits b.text_limit LINE_MAX (arc_value b.lane).first
+        × (b.unflushed ≡ unflushed_after false b.seat.known.own) };
 }
 
 impl<S: Store> SinkSeat<S> {
@@ -51,7 +56,23 @@ impl<S: Store> SinkSeat<S> {
         ensures line { line.new.capacity ≡ LINE_MAX }
     {
         let (_, reply) = self.lane.turn(rt, &mut self.seat, tag, item, line);
-        self.faults = self.faults.wrapping_add(fault_in(&reply));
+        self.faults = self.faults.saturating_add(fault_in(&reply));
+        self.unflushed = is_unflushed(self.unflushed, item, &reply);
+    }
+
+    /// Flushes the sink, if the seat wrote a line since it flushed last.
+    pub(crate) fn flush_written(&mut self, rt: &impl Wait, line: &mut LineBuf)
+        requires line { line.old.capacity ≡ LINE_MAX }
+        ensures made { HasMade self.old self.new [] }
+        ensures flushed { is_unflushed self.new ≡ false }
+        ensures once { is_unflushed self.old ≡ false → self.new ≡ self.old }
+        ensures place { place_of self.new ≡ place_of self.old }
+        ensures line { line.new.capacity ≡ LINE_MAX }
+    {
+        if self.unflushed {
+            let flush = Item::Flush(0);
+            self.serve(rt, TICKET_END, &flush, line);
+        }
     }
 }
 
@@ -62,6 +83,16 @@ fn fault_in(reply: &Result<Served, SinkError>) -> u64
     match reply {
         Ok(_) => 0,
         Err(_) => 1,
+    }
+}
+
+/// Whether a line is unflushed after a turn at this item that was answered so.
+fn is_unflushed(before: bool, item: &Item, reply: &Result<Served, SinkError>) -> bool
+    ensures { result ≡ unflushed_by before item.now reply.now }
+{
+    match item {
+        Item::Text(_) => before || matches!(reply, Ok(Served::Taken(Taken::Written))),
+        Item::Flush(_) | Item::Stop => false,
     }
 }
 
@@ -83,6 +114,7 @@ impl<S: Store + Drop> SinkSeat<S> {
                 lane,
                 seat,
                 faults: 0,
+                unflushed: false,
                 text_limit,
             }),
             Err(_) => Err(AllocError),
@@ -101,6 +133,7 @@ impl<S: Store + Drop> SinkSeat<S> {
             lane,
             seat,
             faults: 0,
+            unflushed: false,
             text_limit: self.text_limit,
         })
     }
@@ -110,16 +143,17 @@ impl<S: Store + Drop> SinkSeat<S> {
         requires { place.lane ≡ self.old.lane }
         ensures same { (self.new.lane ≡ self.old.lane) × (self.new.limit ≡ self.old.limit) }
         ensures joined { IsJoined self.old.seat.known place.seat.known self.new.seat.known }
-        ensures faults { self.new.faults ≡ (self.old.faults + place.faults) % 2 ^ 64 }
+        ensures faults { self.new.faults ≡ min (self.old.faults + place.faults) (2 ^ 64 - 1) }
     {
         let SinkSeat {
             lane: _,
             seat,
             faults,
+            unflushed: _,
             text_limit: _,
         } = place;
         self.lane.join(&mut self.seat, seat);
-        self.faults = self.faults.wrapping_add(faults);
+        self.faults = self.faults.saturating_add(faults);
     }
 
     /// The sink, when all seats have come back.
@@ -131,6 +165,7 @@ impl<S: Store + Drop> SinkSeat<S> {
             lane,
             seat,
             faults: _,
+            unflushed: _,
             text_limit: _,
         } = self;
         let lane = alone(rt, lane);

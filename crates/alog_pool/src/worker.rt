@@ -1,11 +1,11 @@
 //! A worker.
-ghost use Rattle.std.specs.Prelude.{◌≡◌, ◌↔◌, ◌≤◌, ◌∷◌, ◌++◌, [], IsTrue, take, length, vec_capacity};
+ghost use Rattle.std.specs.Prelude.{◌≡◌, ◌↔◌, ◌≤◌, ◌∷◌, ◌++◌, [], IsTrue, None, true, false, take, length, vec_capacity};
 ghost use Rattle.alog_core.specs.Queue.{last};
 ghost use Rattle.alog_msg.specs.declared.item.Item.TheVariants.{Stop};
 ghost use Rattle.alog_pattern.specs.declared.patterns.TheConstants.{LINE_MAX};
-ghost use Rattle.alog_pool.specs.SinkSeat.{AreServable, places_of};
+ghost use Rattle.alog_pool.specs.SinkSeat.{AreFlushed, AreServable, places_of};
 ghost use Rattle.alog_pool.specs.Deeds.{Due, HaveMade, dues_by, dues_of};
-ghost use Rattle.alog_pool.specs.Working.{Finds, GoesOn, HasTurned, HasWorked, IsAtWork};
+ghost use Rattle.alog_pool.specs.Working.{Finds, GoesOn, HasTurned, HasWorked, IsAtWork, is_idle};
 ghost use Rattle.alog_registry.specs.Limit.{HoldsTo};
 ghost use Rattle.alog_registry.specs.Listed.{spec_at};
 ghost use Rattle.alog_ring.specs.Known.{IsPassOf};
@@ -60,7 +60,7 @@ impl<S: Store> Worker<S> {
     }
 
     /// Handles the next item as soon as there is one, and answers whether the worker goes on: it does not after a stop, nor where no
-    /// ticket is left.
+    /// ticket is left, and then has flushed what it wrote.
     fn goes_on<R: Wait + Clock, G: Gate>(&mut self, rt: &R, gate: &G) -> bool
         requires { (start : Worker S) × IsAtWork start self.old }
         ensures { (start : Worker S) → IsAtWork start self.old → HasTurned start self.old → GoesOn start self.new result }
@@ -71,10 +71,13 @@ impl<S: Store> Worker<S> {
             &mut self.pass,
             self.workers,
             &mut self.block,
+            &mut self.sink_seats,
+            &mut self.line,
         ) else {
             return false;
         };
         if is_stop(self.block.item()) {
+            flush_all(rt, &mut self.sink_seats, &mut self.line);
             return false;
         }
         self.handled = self.handled.wrapping_add(1);
@@ -195,26 +198,34 @@ fn serve_at<S: Store>(
 }
 
 /// Takes the next item as soon as there is one, and answers its ticket: it lies in the block then, and what lay there in the item's
-/// place. Or none, where no ticket is left and none will come.
-fn take_waiting<R: Wait + Clock>(
+/// place. Or none, where no ticket is left and none will come. Where the queue is idle, the sinks are flushed before it waits.
+fn take_waiting<S: Store, R: Wait + Clock>(
     rt: &R,
     shared: &Shared,
     pass: &mut QueuePass,
     workers: u32,
     block: &mut Block,
+    sink_seats: &mut Vec<SinkSeat<S>>,
+    line: &mut LineBuf,
 ) -> Option<u64>
     requires ring { IsPassOf shared.now.ring.ring pass.old }
     requires faithful { IsFaithful pass.old.known }
     requires block { HoldsTo shared.now.ring.ring.limit block.old }
+    requires line { line.old.capacity ≡ LINE_MAX }
     ensures ring { IsPassOf shared.now.ring.ring pass.new }
     ensures block { HoldsTo shared.now.ring.ring.limit block.new }
     ensures finds { Finds shared.now.ring.ring.limit.most pass.old.known pass.new.known result block.new.item }
+    ensures turns { HaveMade 0 sink_seats.old.items sink_seats.new.items [] }
+    ensures flushed { result ≡ None → AreFlushed sink_seats.new.items }
+    ensures places { places_of sink_seats.new.items ≡ places_of sink_seats.old.items }
+    ensures line { line.new.capacity ≡ LINE_MAX }
 {
     let mut pause = ItemWait::new(workers);
     for _ in rt.forever() {
         match shared.ring.pop_swap_into(pass, block) {
             Ok(ticket) => return Some(ticket),
             Err(error) => {
+                flush_if_idle(rt, error, sink_seats, line);
                 if is_end(error) {
                     return None;
                 }
@@ -223,6 +234,49 @@ fn take_waiting<R: Wait + Clock>(
         }
     }
     unreachable!()
+}
+
+/// After a pop that found the queue idle, flushes each sink to which the place wrote a line since it flushed last.
+fn flush_if_idle<S: Store>(
+    rt: &impl Wait,
+    error: PopError,
+    sink_seats: &mut Vec<SinkSeat<S>>,
+    line: &mut LineBuf,
+)
+    requires line { line.old.capacity ≡ LINE_MAX }
+    ensures turns { HaveMade 0 sink_seats.old.items sink_seats.new.items [] }
+    ensures idle { is_idle error ≡ true → AreFlushed sink_seats.new.items }
+    ensures busy { is_idle error ≡ false → sink_seats.new.items ≡ sink_seats.old.items }
+    ensures places { places_of sink_seats.new.items ≡ places_of sink_seats.old.items }
+    ensures line { line.new.capacity ≡ LINE_MAX }
+{
+    if is_idle(error) {
+        flush_all(rt, sink_seats, line);
+    }
+}
+
+/// Flushes each sink to which the place wrote a line since it flushed last.
+fn flush_all<S: Store>(rt: &impl Wait, sink_seats: &mut Vec<SinkSeat<S>>, line: &mut LineBuf)
+    requires line { line.old.capacity ≡ LINE_MAX }
+    ensures turns { HaveMade 0 sink_seats.old.items sink_seats.new.items [] }
+    ensures flushed { AreFlushed sink_seats.new.items }
+    ensures once { AreFlushed sink_seats.old.items → sink_seats.new.items ≡ sink_seats.old.items }
+    ensures places { places_of sink_seats.new.items ≡ places_of sink_seats.old.items }
+    ensures line { line.new.capacity ≡ LINE_MAX }
+{
+    for number in 0..sink_seats.len() {
+        sink_seats[number].flush_written(rt, line);
+    }
+}
+
+/// Whether a pop found that nothing is there and nothing on its way.
+fn is_idle(error: PopError) -> bool
+    ensures { result ≡ is_idle error }
+{
+    match error {
+        PopError::Idle { next: _ } => true,
+        PopError::Empty { next: _ } | PopError::Busy { seen: _ } => false,
+    }
 }
 
 /// Whether a pop found that no ticket is left and none will come: the queue is idle at 2^62. Where it is idle or empty at a

@@ -14,7 +14,7 @@ use std::alloc::{AllocError, Global};
 pub struct SinkEnd {
     /// Its name in the configuration.
     pub name: Text,
-    /// How many turns at it were answered by a fault, modulo 2^64.
+    /// How many turns at it were answered by a fault, at most 2^64 - 1.
     pub faults: u64,
     /// The files that the configuration names for it: its own, or those of the members of a fan, in their order. Files with numbers
     /// and dates have names made of these.

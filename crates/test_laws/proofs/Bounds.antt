@@ -1,5 +1,5 @@
--- How many items the one producer of a pool that has ended put in, and took out.
-use Rattle.std.proofs.Common.{◌≡◌, ℕ, ◌+◌, ◌-◌, ◌%◌, ◌^◌, ◌<◌, ◌≤◌, cond, Bool, List, [], ◌∷◌, length, refl, sym, ap, subst, ◌∙◌, mod-eq_of_lt, arith}
+-- How many items the one producer of a pool that has ended took out.
+use Rattle.std.proofs.Common.{◌≡◌, ℕ, ◌+◌, ◌-◌, ◌%◌, ◌^◌, ◌<◌, ◌≤◌, cond, Bool, List, [], ◌∷◌, refl, sym, ap, subst, ◌∙◌, mod-eq_of_lt, arith}
 use Rattle.std.specs.List.{sum_by}
 use Rattle.std.proofs.lemmas.List.Sums.{sum_by-cons}
 use Rattle.alog_core.specs.Accounts.{put_by, got_by, claims, takes, weigh, claimed, taken}
@@ -22,10 +22,6 @@ abbrev Deed : Type 0
 Deed = Entry Item block_note
 
 -- each weighs one
-weigh_long : (ps : List (ℕ × Item)) → weigh of_all ps ≡ length ps
-weigh_long [] = refl
-weigh_long (p ∷ ps) = omega (arith, weigh_long ps)
-
 weigh_none : (ps : List (ℕ × Item)) → weigh of_all ps ≡ 0 → ps ≡ []
 weigh_none [] none = refl
 weigh_none (p ∷ ps) none = absurd (omega (arith, none))
@@ -52,46 +48,36 @@ claims_few n q (x ∷ h) legal =
     let first = step_few n q x.actor x.event legal.0 in
     omega (arith, weigh-append of_all (put_by x.event) (claims h), first, rest)
 
--- an actor claims and takes no more than all do
-own_less : (a : ℕ) (h : List Deed) → (claimed of_all (own_of a h) ≤ claimed of_all h) × (taken of_all (own_of a h) ≤ taken of_all h)
-own_less a [] = (omega arith, omega arith)
+-- an actor takes no more than all do
+own_less : (a : ℕ) (h : List Deed) → taken of_all (own_of a h) ≤ taken of_all h
+own_less a [] = omega arith
 own_less a (x ∷ h) =
     let rest = own_less a h in
-    let put = weigh-append of_all (put_by x.event) (claims h) in
-    let own_put = weigh-append of_all (put_by x.event) (claims (own_of a h)) in
     let got = weigh-append of_all (got_by x.event) (takes h) in
     let own_got = weigh-append of_all (got_by x.event) (takes (own_of a h)) in
-    on_test (λ b. (claimed of_all (cond b (x ∷ own_of a h) (own_of a h)) ≤ claimed of_all (x ∷ h))
-    × (taken of_all (cond b (x ∷ own_of a h) (own_of a h)) ≤ taken of_all (x ∷ h))) x.actor a
-    (λ _. (omega (arith, put, own_put, rest.0), omega (arith, got, own_got, rest.1)))
-    (λ _. (omega (arith, put, rest.0), omega (arith, got, rest.1)))
+    on_test (λ b. taken of_all (cond b (x ∷ own_of a h) (own_of a h)) ≤ taken of_all (x ∷ h)) x.actor a
+    (λ _. omega (arith, got, own_got, rest)) (λ _. omega (arith, got, rest))
 
 module _ {S : Type 0} (tells : Bool) (files : S → Files) (failures : S → ℕ) {pool : PoolView S} {p : ProducerView} {r : Report S}
     (ends : Ends tells files failures pool (p ∷ []) r) where
   own_is : p.pass.known.own ≡ own_of p.pass.known.actor ends.end.seen
   own_is = (subst (λ (ms : List (Member Item block_note)). AreExact ms ends.end.seen) ends.members ends.whole.faithful.joined).0
 
-  own_few : (claimed of_all p.pass.known.own ≤ last) × (taken of_all p.pass.known.own ≤ last)
+  own_few : taken of_all p.pass.known.own ≤ last
   own_few =
       let seen = ends.end.seen in
       let legal = ends.whole.faithful.legal in
       let fewer = own_less p.pass.known.actor seen in
       let all = claims_few ends.end.places (start ends.end.first) seen legal.0 in
       let balance = accounts_balance Item block_note ends.end.places ends.end.first seen of_all legal in
-      let put : claimed of_all p.pass.known.own ≡ claimed of_all (own_of p.pass.known.actor seen) =
-      ap (λ (h : List Deed). claimed of_all h) own_is in
       let got : taken of_all p.pass.known.own ≡ taken of_all (own_of p.pass.known.actor seen) =
       ap (λ (h : List Deed). taken of_all h) own_is in
-      (omega (arith, fewer.0, all, put), omega (arith, fewer.1, all, balance, got))
-
-  -- it put in at most as many as there are tickets
-  pub few_claims : length (claims p.pass.known.own) ≤ last
-  few_claims = omega (arith, weigh_long (claims p.pass.known.own), own_few.0)
+      omega (arith, fewer, all, balance, got)
 
   -- where the report tells that nothing was overrun, it took nothing out
   pub took_none : r.totals.overrun ≡ 0 → takes p.pass.known.own ≡ []
   took_none none =
-      let low : taken of_all p.pass.known.own < 2 ^ 64 = omega (arith, own_few.1) in
+      let low : taken of_all p.pass.known.own < 2 ^ 64 = omega (arith, own_few) in
       let single : sum_by took_out (p ∷ []) ≡ took_out p + sum_by took_out [] = sum_by-cons took_out p [] in
       let sum : sum_by took_out (p ∷ []) ≡ taken of_all p.pass.known.own = omega (arith, single) in
       let rest : taken of_all p.pass.known.own % 2 ^ 64 ≡ 0 = ap (λ n. n % 2 ^ 64) (sym sum) ∙ sym ends.totals.overrun ∙ none in

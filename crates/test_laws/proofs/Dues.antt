@@ -1,5 +1,5 @@
 -- The turns that are due on a sink of a logger for texts and flushes of it.
-use Rattle.std.proofs.Common.{◌≡◌, ◌≢◌, ℕ, ◌+◌, ◌≤◌, ◌==◌, Bool, true, false, cond, Option, Some, List, [], ◌∷◌, ◌++◌, map, count_by, length, length-append}
+use Rattle.std.proofs.Common.{◌≡◌, ◌≢◌, ℕ, ◌+◌, ◌==◌, Bool, true, false, cond, Option, Some, List, [], ◌∷◌, ◌++◌, map, count_by}
 use Rattle.std.proofs.Common.{refl, sym, ap, subst, ◌∙◌, arith}
 use Rattle.std.specs.List.{AllByRecursion}
 use Rattle.std.proofs.lemmas.List.{map-append}
@@ -86,7 +86,7 @@ module _ (n : ℕ) where
 
   -- turns that give the sink just this item's text, if it is one
   abbrev IsGood : Item → List Given → Type 0
-  IsGood x turns = (texts_in turns ≡ with_text x []) × (length turns ≤ 2)
+  IsGood x turns = texts_in turns ≡ with_text x []
 
   abbrev turns_at : ℕ → List ℕ → Bool → List SinkTurn
   turns_at t sinks due = turns_on sinks t deed.Take ++ cond due (turns_on sinks t deed.Flush) []
@@ -105,13 +105,13 @@ module _ (n : ℕ) where
       behind : (due : Bool)
           → IsGood (Text m) ((t, Text m) ∷ dues_on n (map (λ (u : SinkTurn). due_by m.logger (Text m) u) (cond due (turns_on sinks t deed.Flush) [])))
       behind true =
-          subst (λ (l : List Given). IsGood (Text m) ((t, Text m) ∷ l)) (sym (once_given m.logger t (Text m) deed.Flush sinks once)) (refl, omega arith)
-      behind false = (refl, omega arith)
+          subst (λ (l : List Given). IsGood (Text m) ((t, Text m) ∷ l)) (sym (once_given m.logger t (Text m) deed.Flush sinks once)) refl
+      behind false = refl
 
   good_flush : (t k : ℕ) (sinks : List ℕ) → often sinks ≡ 1
       → IsGood (Flush k) (dues_on n (map (λ (u : SinkTurn). due_by k (Flush k) u) (turns_on sinks t deed.Flush)))
   good_flush t k sinks once =
-      subst (λ (l : List Given). IsGood (Flush k) l) (sym (once_given k t (Flush k) deed.Flush sinks once)) (refl, omega arith)
+      subst (λ (l : List Given). IsGood (Flush k) l) (sym (once_given k t (Flush k) deed.Flush sinks once)) refl
 
 module _ (loggers : List Logger) (logger n : ℕ) (s : Spec) (found : spec_at loggers logger ≡ Some s) (once : often n s.sinks.items ≡ 1) where
   spec_of : (k : ℕ) → k ≡ logger → spec_at loggers k ≡ Some s
@@ -126,20 +126,14 @@ module _ (loggers : List Logger) (logger n : ℕ) (s : Spec) (found : spec_at lo
       (good_flush n t k s.sinks.items once)
   good_item t Stop is = absurd is
 
-  -- for all of them it is given their texts, by at most two turns each
+  -- for all of them it is given their texts
   pub due_texts : (items : List Given) → AllByRecursion (λ (i : Given). IsFor logger i.1) items
-      → (texts_in (dues_on n (all_dues loggers items)) ≡ texts_in items)
-      × (length (dues_on n (all_dues loggers items)) ≤ length items + length items)
-  due_texts [] all = (refl, omega arith)
+      → texts_in (dues_on n (all_dues loggers items)) ≡ texts_in items
+  due_texts [] all = refl
   due_texts (i ∷ items) all =
       let here = good_item i.0 i.1 all.0 in
       let rest = due_texts items all.1 in
       let now : List Given = dues_on n (dues_of loggers i.0 i.1) in
       let then : List Given = dues_on n (all_dues loggers items) in
       let parts : dues_on n (all_dues loggers (i ∷ items)) ≡ now ++ then = dues_more n (dues_of loggers i.0 i.1) (all_dues loggers items) in
-      let long : length (dues_on n (all_dues loggers (i ∷ items))) ≡ length now + length then =
-      ap (λ (l : List Given). length l) parts ∙ length-append now then in (
-        ap (λ (l : List Given). texts_in l) parts ∙ texts_more now then ∙ (λ j. here.0 j ++ rest.0 j)
-            ∙ sym (with_more i.1 [] (texts_in items)),
-        omega (arith, long, here.1, rest.1),
-      )
+      ap (λ (l : List Given). texts_in l) parts ∙ texts_more now then ∙ (λ j. here j ++ rest j) ∙ sym (with_more i.1 [] (texts_in items))

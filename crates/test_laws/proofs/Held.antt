@@ -1,9 +1,8 @@
 -- What the one worker of a pool wrote of all that one producer put in.
-use Rattle.std.proofs.Common.{◌≡◌, ◌<◌, ◌≤◌, ◌^◌, ℕ, zero, suc, ◌+◌, ◌==◌, Bool, true, Some, List, [], ◌∷◌, count_by, length, refl, subst, arith}
+use Rattle.std.proofs.Common.{◌≡◌, ℕ, zero, suc, ◌+◌, ◌==◌, Bool, true, Some, List, [], ◌∷◌, count_by, length, refl, subst, arith}
 use Rattle.std.specs.Prelude.{slice_get}
 use Rattle.std.specs.List.{AllByRecursion}
 use Rattle.alog_core.specs.Accounts.{claims, takes}
-use Rattle.alog_core.specs.Queue.{last}
 use Rattle.alog_format.specs.Buffer.{Buffer}
 use Rattle.alog_lane.specs.Calls.{LaneId}
 use Rattle.alog_lane.specs.Seats.{Entry}
@@ -22,13 +21,8 @@ use Rattle.alog_registry.specs.declared.logger.Spec.{Spec}
 use Rattle.alog_sink.specs.Files.{Files}
 use Rattle.alog_sink.specs.Sinks.{Turns}
 use Rattle.alog_sink.specs.declared.sink.Sink.{Sink}
-use Rattle.test_laws.proofs.Bounds.{few_claims}
 use Rattle.test_laws.proofs.Claims.{Given, posted_are}
 use Rattle.test_laws.proofs.Dues.{IsFor, due_texts, no_stops}
-
--- twice the tickets are fewer than a count of turns tells apart
-twice_few : (turns items : ℕ) → turns ≤ items + items → items ≤ last → turns < 2 ^ 64
-twice_few turns items few less = omega (arith, few, less)
 
 module _ {S : Type 0} (tells : Bool) (files : S → Files) (failures : S → ℕ) where
   -- the sink of a number among those that were written: its lane, what it is now, and what led there
@@ -106,7 +100,6 @@ module _ {S : Type 0} (tells : Bool) (files : S → Files) (failures : S → ℕ
       let it = subst (λ (j : ℕ). WrittenAt n lanes r.sinks.items 0 (dues_on j dues)) same
       (written_at 0 n lanes r.sinks.items r.faults.items dues written e.faultless) in
       let due = due_texts loggers logger n e.spec e.found e.once all e.own in
-      let few = twice_few (length (dues_on n dues)) (length all) due.1 (few_claims tells files failures e.ends) in
       record {
         lane = it.lane;
         sink = it.sink;
@@ -114,5 +107,5 @@ module _ {S : Type 0} (tells : Bool) (files : S → Files) (failures : S → ℕ
         sink_is = it.sink_is;
         history = it.written.history;
         leads = it.written.leads;
-        holds = subst (λ (ms : List Message). HoldsMore files it.lane.first it.sink ms) due.0 (it.written.holds e.told refl few);
+        holds = subst (λ (ms : List Message). HoldsMore files it.lane.first it.sink ms) due (it.written.holds e.told refl);
       }

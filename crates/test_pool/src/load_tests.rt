@@ -26,6 +26,23 @@ name = \"net\"
 sinks = [\"out\"]
 ";
 
+const FLUSHING: &str = "
+queue = 8
+
+[[sink]]
+name = \"out\"
+kind = \"rotating\"
+file = \"out.log\"
+max_size = 1_024
+max_files = 3
+pattern = \"%v\"
+
+[[logger]]
+name = \"net\"
+flush_on = \"info\"
+sinks = [\"out\"]
+";
+
 const TWO_LOGGERS: &str = "
 queue = 8
 workers = 2
@@ -225,7 +242,7 @@ const TWO: Loaded<'_> = Loaded {
     ..ONE
 };
 
-static LOADS: [Loaded<'static>; 12] = [
+static LOADS: [Loaded<'static>; 13] = [
     Loaded {
         messages: 3,
         told: Ok((3, 1)),
@@ -298,7 +315,7 @@ static LOADS: [Loaded<'static>; 12] = [
         messages: 1_000_001,
         ..ONE
     },
-    // A store that fails as its sink is opened, or at its fourth call.
+    // A store that fails as its sink is opened, or at its first line, or at its second one, where each is flushed.
     Loaded {
         messages: 10,
         fails: 0,
@@ -307,10 +324,18 @@ static LOADS: [Loaded<'static>; 12] = [
     },
     Loaded {
         messages: 10,
-        fails: 3,
+        fails: 1,
         told: Ok((10, 2)),
-        faults: &[0, 8],
+        faults: &[0, 10],
         ..TWO
+    },
+    Loaded {
+        document: FLUSHING,
+        messages: 10,
+        fails: 3,
+        told: Ok((10, 1)),
+        faults: &[18],
+        ..ONE
     },
 ];
 

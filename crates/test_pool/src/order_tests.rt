@@ -1,5 +1,6 @@
 //! In which order one worker makes the turns at several sinks: those of one text after those of another, and for each text the
-//! lines at the sinks of its logger, in the logger's order, and then the flushes in the same.
+//! lines at the sinks of its logger, in the logger's order, and then the flushes in the same; and that it flushes what it wrote before it
+//! rests or ends.
 ghost use Rattle.std.specs.Prelude.{IfOk};
 ghost use Rattle.std.specs.List.{AllByRecursion};
 ghost use Rattle.alog_pattern.specs.declared.patterns.TheConstants.{LINE_MAX};
@@ -10,14 +11,14 @@ use crate::gates::{has_begun, holds_until, lowered, open};
 use crate::sinks::two_sinks;
 use crate::trial::{PLAIN, Trial, setup_over};
 use alog_msg::Level;
-use alog_pool::Report;
+use alog_pool::{OpenGate, Report};
 use alog_sink::{Sink, Store, StoreError};
 use std::alloc::{AllocError, Global};
 use std::process::Abort;
 use std::sync::atomic::{AtomicU64, Ordering};
 use std::sync::{Arc, Wait};
-use std::thread::Threads;
-use std::time::Clock;
+use std::thread::{self, Threads};
+use std::time::{Clock, Duration};
 
 /// A call of a store.
 #[derive(Clone, Copy, PartialEq, Drop)]
@@ -91,17 +92,24 @@ impl Store for Scribe {
     }
 }
 
-/// Two sinks over stores with one clock.
-fn sinks(alloc: Global) -> Result<Vec<Sink<Scribe>>, AllocError>
+/// A clock for stores, at which no call was made.
+fn clock(rt: &impl Abort, alloc: Global) -> Arc<AtomicU64> {
+    match Arc::new(alloc, AtomicU64::new(0)) {
+        Ok(clock) => clock,
+        Err(_) => panic!(rt; "no memory"),
+    }
+}
+
+/// Two sinks over stores with this clock.
+fn sinks(alloc: Global, clock: &Arc<AtomicU64>) -> Result<Vec<Sink<Scribe>>, AllocError>
     ensures { IfOk result (λ v. AllByRecursion (Suits TEXT_LIMIT LINE_MAX) v.items) }
 {
-    let clock = Arc::new(alloc, AtomicU64::new(0))?;
     let first = Scribe {
-        clock: Arc::try_clone(&clock)?,
+        clock: Arc::try_clone(clock)?,
         calls: Vec::new(alloc),
     };
     let second = Scribe {
-        clock,
+        clock: Arc::try_clone(clock)?,
         calls: Vec::new(alloc),
     };
     two_sinks(alloc, first, second)
@@ -119,7 +127,8 @@ fn reported<R: Abort + Threads + Wait + Clock + Clone + Drop + Send + 'static>(
 ) -> Report<Scribe> {
     let flags = lowered(rt, alloc);
     let gate = holds_until(rt, &flags, u64::MAX);
-    let setup = setup_over(alloc, PLAIN, &[&[0, 1], &[1, 0]], sinks(alloc));
+    let sinks = sinks(alloc, &clock(rt, alloc));
+    let setup = setup_over(alloc, PLAIN, &[&[0, 1], &[1, 0]], sinks);
     let mut trial = Trial::start(rt, alloc, setup, gate, 1);
     for (logger, level, text) in texts {
         trial.log_at(rt, alloc, 0, *logger, *level, text);
@@ -150,18 +159,12 @@ fn count_calls(sinks: &[Sink<Scribe>]) -> usize {
     found
 }
 
-/// The calls of these texts are these, in this order, and no others.
-fn calls<R: Abort + Threads + Wait + Clock + Clone + Drop + Send + 'static>(
-    rt: &R,
-    alloc: Global,
-    texts: &[Given<'_>],
-    wanted: &[At],
-) {
-    let report = reported(rt, alloc, texts);
+/// The calls of these sinks are these, in this order, and no others.
+fn are_calls(rt: &impl Abort, sinks: &[Sink<Scribe>], wanted: &[At]) {
     for (number, call) in wanted.iter().enumerate() {
-        assert!(rt; call_at(rt, &report.sinks, number as u64) == *call);
+        assert!(rt; call_at(rt, sinks, number as u64) == *call);
     }
-    assert!(rt; count_calls(&report.sinks) == wanted.len());
+    assert!(rt; count_calls(sinks) == wanted.len());
 }
 
 /// Texts, and the calls that they make.
@@ -188,7 +191,7 @@ static ORDERS: [Order<'static>; 3] = [
             At(0, Call::Flush),
         ],
     ),
-    // A text comes behind the one before it.
+    // A text comes behind the one before it. The worker flushes the last one before it rests or ends, the sinks in their order.
     (
         &[
             (0, Level::Info, "a"),
@@ -209,6 +212,8 @@ static ORDERS: [Order<'static>; 3] = [
             At(0, Call::Flush),
             At(0, Call::Append(b'd')),
             At(1, Call::Append(b'd')),
+            At(0, Call::Flush),
+            At(1, Call::Flush),
         ],
     ),
 ];
@@ -220,6 +225,40 @@ fn orders() -> &'static [Order<'static>] {
 #[test]
 fn lines_and_flushes_are_in_order(rt: HostRuntime) {
     for (texts, wanted) in orders() {
-        calls(&rt, rt.alloc(), texts, wanted);
+        let report = reported(&rt, rt.alloc(), texts);
+        are_calls(&rt, &report.sinks, wanted);
     }
+}
+
+/// So many calls are made soon, and no call more for a while.
+fn comes_to(rt: &(impl Abort + Clock), clock: &AtomicU64, calls: u64) {
+    for _ in 0..10_000 {
+        if clock.load(Ordering::SeqCst) >= calls {
+            break;
+        }
+        thread::sleep(rt, Duration::from_millis(1));
+    }
+    thread::sleep(rt, Duration::from_millis(20));
+    assert!(rt; clock.load(Ordering::SeqCst) == calls);
+}
+
+static FLUSHED: [At; 4] = [
+    At(0, Call::Append(b'a')),
+    At(0, Call::Flush),
+    At(1, Call::Append(b'b')),
+    At(1, Call::Flush),
+];
+
+// Each of two loggers has a sink of its own, and nobody asks for a flush.
+#[test]
+fn what_was_written_is_flushed_before_a_pool_rests(rt: HostRuntime) {
+    let alloc = rt.alloc();
+    let clock = clock(&rt, alloc);
+    let setup = setup_over(alloc, PLAIN, &[&[0], &[1]], sinks(alloc, &clock));
+    let mut trial = Trial::start(&rt, alloc, setup, OpenGate, 1);
+    trial.log(&rt, alloc, 0, 0, "a");
+    comes_to(&rt, &clock, 2);
+    trial.log(&rt, alloc, 0, 1, "b");
+    comes_to(&rt, &clock, 4);
+    are_calls(&rt, &trial.end(&rt).sinks, &FLUSHED);
 }

@@ -56,19 +56,19 @@ static ENDED: [Row<'static>; 8] = [
         files: &[b"first\n", b"second\n"],
         ..ONE
     },
-    // The second call of a store fails, after the first three bytes of its line: its sink is broken, and the turn and the next one
-    // are answered by a fault. The other sink has all lines.
+    // The third call of a store fails, after the first three bytes of its line, which is the second one, since each is flushed: its
+    // sink is broken, and this turn and all behind it are answered by a fault. The other sink has all lines.
     Row {
         routes: &[&[0, 1]],
-        fuses: &[NEVER, 1],
+        fuses: &[NEVER, 2],
         deeds: &[
-            Deed::Logs(0, 0, Level::Info, "one", Told::Posted(0)),
-            Deed::Logs(0, 0, Level::Info, "two", Told::Posted(1)),
-            Deed::Logs(0, 0, Level::Info, "six", Told::Posted(2)),
+            Deed::Logs(0, 0, Level::Error, "one", Told::Posted(0)),
+            Deed::Logs(0, 0, Level::Error, "two", Told::Posted(1)),
+            Deed::Logs(0, 0, Level::Error, "six", Told::Posted(2)),
         ],
         totals: (3, 0),
         tickets: &[0, 1, 2],
-        faults: &[0, 2],
+        faults: &[0, 4],
         files: &[b"one\ntwo\nsix\n", b"one\ntwo"],
         ..ONE
     },

@@ -2,8 +2,8 @@ use Rattle.std.proofs.Common.{◌≡◌, ◌≤◌, ◌+◌, ◌%◌, ◌^◌, t
 use Rattle.std.specs.Arc.{arc_value}
 use Rattle.alog_msg.specs.declared.item.Item.{Item}
 use Rattle.alog_pool.specs.SinkSeat.{AreServable, places_of}
-use Rattle.alog_pool.specs.Deeds.{HaveMade, dues_of}
-use Rattle.alog_pool.proofs.Deeds.{made_for, made_for_stop, took_more, took_no_more}
+use Rattle.alog_pool.specs.Deeds.{HaveMade, all_dues, dues_of}
+use Rattle.alog_pool.proofs.Deeds.{have_own, made_for, made_for_stop, took_more, took_no_more}
 use Rattle.alog_pool.specs.declared.shared.Shared.{Shared}
 use Rattle.alog_pool.proofs.Worked.{took_nothing, took_work, took_stop, few_tickets, all_servable}
 use Rattle.alog_pool.specs.Working.{IsWorkOf}
@@ -24,6 +24,12 @@ take_waiting-requires-clause-block g c =
     let at_work = c.requires.1 in
     subst (λ (s : Shared). HoldsTo s.ring.ring.limit c.args.self.now.block) (sym (c.deref.ensures ∙ at_work.shared)) at_work.block
 
+pub take_waiting-requires-clause-line : goal.take_waiting-requires-clause-line
+take_waiting-requires-clause-line g c = c.requires.1.line
+
+pub flush_all-requires-clause-line : goal.flush_all-requires-clause-line
+flush_all-requires-clause-line g c = c.take_waiting.ensures.line
+
 pub note-requires-clause-room : goal.note-requires-clause-room
 note-requires-clause-room g c =
     let at_work = c.requires.1 in
@@ -42,8 +48,8 @@ handle-requires-clause-servable g c =
     let at_work = c.requires.1 in
     let keeps = subst (λ (s : Shared). KeepsTo s.ring.ring.limit.most x) (c.deref.ensures ∙ at_work.shared) found.1 in
     let fits = all_servable _ x _ at_work.limits keeps (λ is. let e : false ≡ true = c.if-is_stop.ensures.1 (c.item.ensures ∙ is) in cc) in
-    subst (λ (y : Item). AreServable y (places_of c.args.self.now.sink_seats.items)) (sym c.item-2.ensures)
-    (subst (λ (ps : _). AreServable x ps) (sym at_work.places) fits)
+    subst (λ (y : Item). AreServable y (places_of c.take_waiting.new.sink_seats.items)) (sym c.item-2.ensures)
+    (subst (λ (ps : _). AreServable x ps) (sym (c.take_waiting.ensures.places ∙ at_work.places)) fits)
 
 pub returns-in_default : goal.returns-in_default
 returns-in_default g c = λ start at_work turned.
@@ -57,9 +63,11 @@ returns-in_default g c = λ start at_work turned.
       turns = record {
         gots = turned.gots;
         took = took_no_more start.pass.known c.args.self.now.pass.known c.take_waiting.new.pass.known turned.gots turned.took ended.0;
-        turns = turned.turns;
+        turns = have_own start.sink_seats.items c.args.self.now.sink_seats.items c.take_waiting.new.sink_seats.items
+            (all_dues (arc_value start.shared).loggers turned.gots) turned.turns c.take_waiting.ensures.turns;
       };
-      places = at_work.places;
+      flushed = c.take_waiting.ensures.flushed refl;
+      places = c.take_waiting.ensures.places ∙ at_work.places;
     }
 
 pub returns-then-is_stop : goal.returns-then-is_stop
@@ -68,6 +76,7 @@ returns-then-is_stop g c = λ start at_work turned.
     let x = c.take_waiting.new.block.item in
     let found = c.in-Some.ensures.finds in
     let is = sym c.item.ensures ∙ c.if-is_stop.ensures.0 refl in
+    let dues = all_dues (arc_value start.shared).loggers turned.gots in
     let w = took_stop at_work.work at_work.stops found.0 is in
     record {
       number = at_work.number;
@@ -78,10 +87,13 @@ returns-then-is_stop g c = λ start at_work turned.
         gots = turned.gots ++ (t, x) ∷ [];
         took = took_more start.pass.known c.args.self.now.pass.known c.take_waiting.new.pass.known turned.gots ((t, x) ∷ []) turned.took
             found.0;
-        turns = made_for_stop (arc_value start.shared).loggers start.sink_seats.items c.args.self.now.sink_seats.items turned.gots t x
-            is turned.turns;
+        turns = made_for_stop (arc_value start.shared).loggers start.sink_seats.items c.flush_all.new.sink_seats.items turned.gots t x is
+            (have_own start.sink_seats.items c.take_waiting.new.sink_seats.items c.flush_all.new.sink_seats.items dues
+            (have_own start.sink_seats.items c.args.self.now.sink_seats.items c.take_waiting.new.sink_seats.items dues turned.turns
+            c.take_waiting.ensures.turns) c.flush_all.ensures.turns);
       };
-      places = at_work.places;
+      flushed = c.flush_all.ensures.flushed;
+      places = c.flush_all.ensures.places ∙ (c.take_waiting.ensures.places ∙ at_work.places);
     }
 
 pub returns : goal.returns
@@ -89,6 +101,7 @@ returns g c = λ start at_work turned.
     let t = c.in-Some.ticket in
     let x = c.take_waiting.new.block.item in
     let old = c.args.self.now in
+    let seats = c.take_waiting.new.sink_seats.items in
     let found = c.in-Some.ensures.finds in
     let w = took_work at_work.work at_work.stops found.0
     (λ is. let e : false ≡ true = c.if-is_stop.ensures.1 (c.item.ensures ∙ is) in cc) in (
@@ -105,14 +118,16 @@ returns g c = λ start at_work turned.
         line = c.handle.ensures.line;
         block = subst (λ (s : Shared). HoldsTo s.ring.ring.limit c.take_waiting.new.block) (c.deref.ensures ∙ at_work.shared)
             c.take_waiting.ensures.block;
-        places = c.handle.ensures.places ∙ at_work.places;
+        places = c.handle.ensures.places ∙ (c.take_waiting.ensures.places ∙ at_work.places);
         limits = at_work.limits;
       },
       record {
         gots = turned.gots ++ (t, x) ∷ [];
         took = took_more start.pass.known old.pass.known c.take_waiting.new.pass.known turned.gots ((t, x) ∷ []) turned.took found.0;
-        turns = made_for (arc_value start.shared).loggers start.sink_seats.items old.sink_seats.items c.handle.new.sink_seats.items turned.gots (t, x)
-            turned.turns (subst (λ (z : Shared × Item). HaveMade 0 old.sink_seats.items c.handle.new.sink_seats.items (dues_of z.0.loggers t z.1))
+        turns = made_for (arc_value start.shared).loggers start.sink_seats.items seats c.handle.new.sink_seats.items turned.gots (t, x)
+            (have_own start.sink_seats.items old.sink_seats.items seats (all_dues (arc_value start.shared).loggers turned.gots) turned.turns
+            c.take_waiting.ensures.turns)
+            (subst (λ (z : Shared × Item). HaveMade 0 seats c.handle.new.sink_seats.items (dues_of z.0.loggers t z.1))
             (λ i. ((c.deref-2.ensures ∙ at_work.shared) i, c.item-2.ensures i)) c.handle.ensures.turns);
       },
     )

@@ -1,0 +1,38 @@
+-- Places that have flushed what they wrote, one after another.
+use Rattle.std.proofs.Common.{◌≡◌, ◌<◌, ◌≤◌, ℕ, zero, suc, Bool, false, List, [], ◌∷◌, ◌++◌, set, take, length, refl, sym, ap, subst, ◌∙◌, arith}
+use Rattle.std.specs.Prelude.{slice_index_or}
+use Rattle.alog_format.specs.Buffer.{Buffer}
+use Rattle.alog_lane.specs.Seats.{Entry}
+use Rattle.alog_lane.specs.Turns.{Turned}
+use Rattle.alog_msg.specs.declared.item.Item.{Item}
+use Rattle.alog_pool.specs.SinkSeat.{Answer, AreFlushed, SinkSeatView, is_unflushed, unflushed_after, unflushed_by}
+
+-- after one turn more
+pub unflushed-more : (before : Bool) (h : List (Entry (Turned Item Buffer Answer))) (x : Entry (Turned Item Buffer Answer))
+    → unflushed_after before (h ++ x ∷ []) ≡ unflushed_by (unflushed_after before h) x.deed.item x.deed.reply
+unflushed-more before [] x = refl
+unflushed-more before (y ∷ h) x = unflushed-more (unflushed_by before y.deed.item y.deed.reply) h x
+
+module _ {S : Type 0} where
+  pub more_flushed : (n : ℕ) (bs : List (SinkSeatView S)) (c : SinkSeatView S) → n < length bs → AreFlushed (take n bs)
+      → is_unflushed c ≡ false → AreFlushed (take (suc n) (set bs n c))
+  more_flushed n [] c low all is = absurd (omega (arith, low))
+  more_flushed zero (b ∷ bs) c low all is = (is, tt)
+  more_flushed (suc n) (b ∷ bs) c low all is = (all.0, more_flushed n bs c (omega (arith, low)) all.1 is)
+
+  pub flushed_at : (n : ℕ) (bs : List (SinkSeatView S)) (d : SinkSeatView S) → n < length bs → AreFlushed bs
+      → is_unflushed (slice_index_or bs n d) ≡ false
+  flushed_at n [] d low all = absurd (omega (arith, low))
+  flushed_at zero (b ∷ bs) d low all = all.0
+  flushed_at (suc n) (b ∷ bs) d low all = flushed_at n bs d (omega (arith, low)) all.1
+
+  pub same_set : (n : ℕ) (bs : List (SinkSeatView S)) {c : SinkSeatView S} (d : SinkSeatView S) → n < length bs
+      → c ≡ slice_index_or bs n d → set bs n c ≡ bs
+  same_set n [] d low is = absurd (omega (arith, low))
+  same_set zero (b ∷ bs) d low is = ap (λ (x : SinkSeatView S). x ∷ bs) is
+  same_set (suc n) (b ∷ bs) d low is = ap (λ (l : List (SinkSeatView S)). b ∷ l) (same_set n bs d (omega (arith, low)) is)
+
+  pub all_flushed : (n : ℕ) (bs : List (SinkSeatView S)) → length bs ≤ n → AreFlushed (take n bs) → AreFlushed bs
+  all_flushed n [] many all = tt
+  all_flushed zero (b ∷ bs) many all = absurd (omega (arith, many))
+  all_flushed (suc n) (b ∷ bs) many all = (all.0, all_flushed n bs (omega (arith, many)) all.1)

@@ -1,0 +1,66 @@
+use Rattle.std.proofs.Common.{◌≡◌, ◌≢◌, ◌<◌, ◌≤◌, ¬◌, ℕ, zero, suc, ◌+◌, false, List, [], ◌∷◌, map, set, take, length, refl, sym, subst, ap, ◌∙◌, arith}
+use Rattle.std.proofs.Math.Seq.{map-set_same}
+use Rattle.std.proofs.lemmas.List.{length-map}
+use Rattle.std.specs.Prelude.{slice_index_or}
+use Rattle.alog_pool.specs.Deeds.{HasMade}
+use Rattle.alog_pool.specs.SinkSeat.{AreFlushed, Place, SinkSeatView, is_unflushed, place_of}
+use Rattle.alog_pool.proofs.Deeds.{have_none, own_more}
+use Rattle.alog_pool.proofs.Flushed.{all_flushed, flushed_at, more_flushed, same_set}
+use Rattle.alog_pool.proofs.worker.flush_all.Goals as goal
+
+pub loop-number-init : goal.loop-number-init
+loop-number-init g c = record {
+  turns = have_none 0 c.args.sink_seats.now.items;
+  flushed = tt;
+  once = λ all. refl;
+  places = refl;
+  line = c.requires.line;
+  end = c.len.ensures;
+}
+
+-- so many places as at first
+long : {A B : Type 0} (f : A → B) (xs ys : List A) → map f xs ≡ map f ys → length xs ≡ length ys
+long f xs ys same = sym (length-map xs f) ∙ ap length same ∙ length-map ys f
+
+low : {A B : Type 0} (f : A → B) (xs ys : List A) (i end : ℕ) → map f xs ≡ map f ys → end ≡ length ys → i < end → i < length xs
+low f xs ys i end same is less = let e = long f xs ys same in omega (arith, e, is, less)
+
+pub index_mut-requires : goal.index_mut-requires
+index_mut-requires g c =
+    let i = c.loop-number.invariant in
+    low (λ (b : SinkSeatView g.row.S.Denot). place_of b) c.loop-number.sink_seats.items c.args.sink_seats.now.items c.loop-number.number
+    c.loop-number.number-end i.places i.end c.loop-number-test.true
+
+pub loop-number-preserved : goal.loop-number-preserved
+loop-number-preserved g c =
+    let B : Type 0 = SinkSeatView g.row.S.Denot in
+    let i = c.loop-number.invariant in
+    let n = c.loop-number.number in
+    let bs = c.loop-number.sink_seats.items in
+    let at = c.index_mut.result.now in
+    let new = c.flush_written.new.self in
+    let below = low (λ (b : B). place_of b) bs c.args.sink_seats.now.items n c.loop-number.number-end i.places i.end
+    c.loop-number-test.true in
+    let next : suc n ≡ n + 1 = omega arith in
+    record {
+      turns = own_more at i.turns below (subst (λ (b : B). HasMade b new []) c.index_mut.ensures.value c.flush_written.ensures.made);
+      flushed = subst (λ k. AreFlushed (take k (set bs n new))) next (more_flushed n bs new below i.flushed c.flush_written.ensures.flushed);
+      once = λ all.
+          let same = i.once all in
+          let here : is_unflushed at ≡ false =
+          subst (λ (b : B). is_unflushed b ≡ false) (sym c.index_mut.ensures.value)
+          (flushed_at n bs at below (subst (λ (l : List B). AreFlushed l) (sym same) all)) in
+          same_set n bs at below (c.flush_written.ensures.once here ∙ c.index_mut.ensures.value) ∙ same;
+      places = map-set_same place_of bs n new at (c.flush_written.ensures.place ∙ ap (λ (b : B). place_of b) c.index_mut.ensures.value) ∙ i.places;
+      line = c.flush_written.ensures.line;
+      end = i.end;
+    }
+
+pub returns-clause-flushed : goal.returns-clause-flushed
+returns-clause-flushed g c =
+    let i = c.loop-number.invariant in
+    let bs = c.loop-number.sink_seats.items in
+    let same = long (λ (b : SinkSeatView g.row.S.Denot). place_of b) bs c.args.sink_seats.now.items i.places in
+    let past = c.loop-number-test.false in
+    let end = i.end in
+    all_flushed c.loop-number.number bs (omega (arith, same, past, end)) i.flushed
