@@ -108,7 +108,7 @@ module _ {S : Type 0} where
         ap (λ (l : List Deed). faults_in l) own ∙ faults_in-append old.seat.known.own (entry ∷ [])
         ∙ (let e : fault_in s.deed.reply + 0 ≡ fault_in s.deed.reply = omega arith in ap (λ n. faults_in old.seat.known.own + n) e) in
         let capped : min (min (faults_in old.seat.known.own) (2 ^ 64 - 1) + fault_in s.deed.reply) (2 ^ 64 - 1)
-            ≡ min (faults_in old.seat.known.own + fault_in s.deed.reply) (2 ^ 64 - 1) = omega arith in
+        ≡ min (faults_in old.seat.known.own + fault_in s.deed.reply) (2 ^ 64 - 1) = omega arith in
         record {
           number = s.turn.made.seat;
           entries = entry ∷ [];
