@@ -155,9 +155,9 @@ module _ {S : Type 0} where
   own_at s (suc i) (b ∷ bs) d low made = (none_made b, own_at (s + 1) i bs d (omega (arith, low)) made)
 
   -- those at one more of the places
-  pub own_more : {os bs : List (SinkSeatView S)} {i : ℕ} {c : SinkSeatView S} (d : SinkSeatView S) → HaveMade 0 os bs [] → i < length bs
+  pub own_more : (os bs : List (SinkSeatView S)) (i : ℕ) {c : SinkSeatView S} (d : SinkSeatView S) → HaveMade 0 os bs [] → i < length bs
       → HasMade (slice_index_or bs i d) c [] → HaveMade 0 os (set bs i c) []
-  own_more {os} {bs} {i} {c} d made low own = have_own os bs (set bs i c) [] made (own_at 0 i bs d low own)
+  own_more os bs i {c} d made low own = have_own os bs (set bs i c) [] made (own_at 0 i bs d low own)
 
   -- a turn on a sink that is none of these
   made_elsewhere : (s : ℕ) (b : SinkSeatView S) (due : Due) → due.sink ≢ s → HasMade b b (dues_on s (due ∷ []))

@@ -5,7 +5,9 @@ use Rattle.alog_format.specs.Buffer.{Buffer}
 use Rattle.alog_lane.specs.Seats.{Entry}
 use Rattle.alog_lane.specs.Turns.{Turned}
 use Rattle.alog_msg.specs.declared.item.Item.{Item}
-use Rattle.alog_pool.specs.SinkSeat.{Answer, AreFlushed, SinkSeatView, is_unflushed, unflushed_after, unflushed_by}
+use Rattle.alog_msg.specs.declared.item.Item.TheVariants.{Flush}
+use Rattle.alog_pool.specs.SinkSeat.{Answer, AreFlushed, Serves, SinkSeatView, is_unflushed, unflushed_after, unflushed_by}
+use Rattle.alog_sink.specs.Files.{Files}
 
 -- after one turn more
 pub unflushed-more : (before : Bool) (h : List (Entry (Turned Item Buffer Answer))) (x : Entry (Turned Item Buffer Answer))
@@ -14,6 +16,14 @@ unflushed-more before [] x = refl
 unflushed-more before (y ∷ h) x = unflushed-more (unflushed_by before y.deed.item y.deed.reply) h x
 
 module _ {S : Type 0} where
+  -- a flush leaves nothing unflushed
+  pub own_flushed : (tells : _) (files : S → Files) (failures : S → ℕ) (old new : SinkSeatView S) (tag n : ℕ)
+      → Serves tells files failures old tag (Flush n) new → is_unflushed new ≡ false
+  own_flushed tells files failures old new tag n s =
+      let entry : Entry (Turned Item Buffer Answer) = record { seat = old.seat.known.seat; deed = s.deed } in
+      ap (λ (h : List (Entry (Turned Item Buffer Answer))). unflushed_after false h) s.turn.made.own
+      ∙ unflushed-more false old.seat.known.own entry ∙ ap (λ (i : Item). unflushed_by (is_unflushed old) i s.deed.reply) s.item_is
+
   pub more_flushed : (n : ℕ) (bs : List (SinkSeatView S)) (c : SinkSeatView S) → n < length bs → AreFlushed (take n bs)
       → is_unflushed c ≡ false → AreFlushed (take (suc n) (set bs n c))
   more_flushed n [] c low all is = absurd (omega (arith, low))

@@ -1,4 +1,4 @@
-use Rattle.std.proofs.Common.{◌≡◌, ◌≢◌, ◌<◌, ◌≤◌, ¬◌, ℕ, zero, suc, ◌+◌, false, List, [], ◌∷◌, map, set, take, length, refl, sym, subst, ap, ◌∙◌, arith}
+use Rattle.std.proofs.Common.{◌≡◌, ◌≢◌, ◌<◌, ◌≤◌, ℕ, zero, suc, ◌+◌, false, List, [], ◌∷◌, map, set, take, length, refl, sym, subst, ap, ◌∙◌, arith}
 use Rattle.std.proofs.Math.Seq.{map-set_same}
 use Rattle.std.proofs.lemmas.List.{length-map}
 use Rattle.std.specs.Prelude.{slice_index_or}
@@ -15,7 +15,7 @@ loop-number-init g c = record {
   once = λ all. refl;
   places = refl;
   line = c.requires.line;
-  end = c.len.ensures;
+  end = omega (arith, c.len-number-end.ensures, c.args.sink_seats.now.ok.0);
 }
 
 -- so many places as at first
@@ -28,8 +28,9 @@ low f xs ys i end same is less = let e = long f xs ys same in omega (arith, e, i
 pub index_mut-requires : goal.index_mut-requires
 index_mut-requires g c =
     let i = c.loop-number.invariant in
-    low (λ (b : SinkSeatView g.row.S.Denot). place_of b) c.loop-number.sink_seats.items c.args.sink_seats.now.items c.loop-number.number
-    c.loop-number.number-end i.places i.end c.loop-number-test.true
+    let below = low (λ (b : SinkSeatView g.row.S.Denot). place_of b) c.loop-number.sink_seats.items c.args.sink_seats.now.items
+    c.loop-number.number _ i.places i.end c.loop-number-test.true in
+    omega (arith, below, c.loop-number.sink_seats.ok.0)
 
 pub loop-number-preserved : goal.loop-number-preserved
 loop-number-preserved g c =
@@ -39,11 +40,10 @@ loop-number-preserved g c =
     let bs = c.loop-number.sink_seats.items in
     let at = c.index_mut.result.now in
     let new = c.flush_written.new.self in
-    let below = low (λ (b : B). place_of b) bs c.args.sink_seats.now.items n c.loop-number.number-end i.places i.end
-    c.loop-number-test.true in
+    let below = low (λ (b : B). place_of b) bs c.args.sink_seats.now.items n _ i.places i.end c.loop-number-test.true in
     let next : suc n ≡ n + 1 = omega arith in
     record {
-      turns = own_more at i.turns below (subst (λ (b : B). HasMade b new []) c.index_mut.ensures.value c.flush_written.ensures.made);
+      turns = own_more c.args.sink_seats.now.items bs n at i.turns below (subst (λ (b : B). HasMade b new []) c.index_mut.ensures.value c.flush_written.ensures.made);
       flushed = subst (λ k. AreFlushed (take k (set bs n new))) next (more_flushed n bs new below i.flushed c.flush_written.ensures.flushed);
       once = λ all.
           let same = i.once all in

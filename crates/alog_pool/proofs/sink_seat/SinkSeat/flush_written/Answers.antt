@@ -1,14 +1,11 @@
-use Rattle.alog_pool.proofs.Deeds.{made_own, none_made}
-use Rattle.alog_pool.proofs.Turning.{place_same}
+use Rattle.alog_pool.proofs.Deeds.{made_own}
+use Rattle.alog_pool.proofs.Flushed.{own_flushed}
 use Rattle.alog_pool.proofs.sink_seat.SinkSeat.flush_written.Goals as goal
 
-pub returns-then-unflushed-clause-made : goal.returns-then-unflushed-clause-made
-returns-then-unflushed-clause-made g c =
+pub returns-then-self-clause-made : goal.returns-then-self-clause-made
+returns-then-self-clause-made g c =
     made_own g.S.Store.tells g.S.Store.files g.S.Store.failures _ _ c.serve.ensures.serves
 
-pub returns-else-unflushed-clause-made : goal.returns-else-unflushed-clause-made
-returns-else-unflushed-clause-made g c = none_made _
-
-pub returns-then-unflushed-clause-place : goal.returns-then-unflushed-clause-place
-returns-then-unflushed-clause-place g c =
-    place_same g.S.Store.tells g.S.Store.files g.S.Store.failures _ _ _ _ c.serve.ensures.serves
+pub returns-then-self-clause-flushed : goal.returns-then-self-clause-flushed
+returns-then-self-clause-flushed g c =
+    own_flushed g.S.Store.tells g.S.Store.files g.S.Store.failures _ _ _ _ c.serve.ensures.serves

@@ -1,11 +1,21 @@
-use Rattle.std.proofs.Common.{◌%◌, ◌^◌, ◌+◌, refl, subst, ◌∙◌, ap}
+use Rattle.std.proofs.Common.{◌≡◌, ◌-◌, ◌^◌, ◌+◌, min, false, rules, refl, sym, subst, ◌∙◌, ap}
 use Rattle.std.specs.Arc.{arc_value}
 use Rattle.alog_lane.specs.Calls.{LaneId, TakesTurn}
 use Rattle.alog_sink.specs.Sinks.{Turns}
 use Rattle.alog_sink.specs.declared.sink.Sink.{Sink}
-use Rattle.alog_pool.specs.SinkSeat.{SinkSeatView, Serves}
+use Rattle.alog_pool.specs.SinkSeat.{SinkSeatView, Serves, unflushed_after, unflushed_by}
+use Rattle.alog_pool.proofs.Flushed.{unflushed-more}
 use Rattle.alog_pool.proofs.Turning.{same_capacity}
 use Rattle.alog_pool.proofs.sink_seat.SinkSeat.serve.Goals as goal
+
+pub invariant_of-self : goal.invariant_of-self
+invariant_of-self g c =
+    let i = c.self.inside in
+    let made = c.turn-reply.ensures.turn.made.own in
+    let more = ap (λ h. unflushed_after false h) made ∙ unflushed-more false i.seat.known.own _ in
+    let owes = c.is_unflushed-self-inside.ensures
+        ∙ ap (λ b. unflushed_by b c.args.item.now c.turn-reply.result.1) c.self.invariant.2 ∙ sym more in
+    search (rules, owes)
 
 pub returns-clause-serves : goal.returns-clause-serves
 returns-clause-serves g c =
@@ -15,7 +25,7 @@ returns-clause-serves g c =
     record {
       lane = arc_value i.lane;
       seat = c.turn-reply.new.seat;
-      faults = (i.faults + c.fault_in.result) % 2 ^ 64;
+      faults = c.saturating_add-self-inside.result;
       limit = i.text_limit;
     } in
     subst (λ (v : SinkSeatView g.row.S.Denot). Serves g.S.Store.tells g.S.Store.files g.S.Store.failures v c.args.tag c.args.item.now new) c.self.view_is
@@ -29,7 +39,7 @@ returns-clause-serves g c =
       turn = subst (λ (l : LaneId (Sink g.row.S.Denot)). TakesTurn T l.first i.seat.known c.turn-reply.new.seat.known
           (record { tag = c.args.tag; item = c.args.item.now; before = c.args.line.now; reply = c.turn-reply.result.1; after = c.turn-reply.new.scratch })
           c.turn-reply.result.0) c.deref.ensures c.turn-reply.ensures.turn;
-      faults = ap (λ n. (i.faults + n) % 2 ^ 64) c.fault_in.ensures;
+      faults = c.saturating_add-self-inside.ensures ∙ ap (λ n. min (i.faults + n) (2 ^ 64 - 1)) c.fault_in.ensures;
     })
 
 pub returns-clause-line : goal.returns-clause-line
