@@ -4,7 +4,7 @@
 //! texts), `totals.rt` (what a pool has to report, as a plain program), `trial.rt` (a pool that is tried, with its producers),
 //! `reports.rt` (what is wanted of replies and reports) and `rows.rt` (pools by rows). Then `worker_tests.rt` (a worker alone),
 //! `wait_tests.rt` (how it waits), `producer_tests.rt`, `pool_tests.rt` and `shutdown_tests.rt`; `gates.rt` (a gate that holds a
-//! worker), `gate_tests.rt` and `order_tests.rt` (which turn comes before which); `meeting_tests.rt` (sinks that wait for each
+//! worker), `gate_tests.rt` and `order_tests.rt` (which turn comes before which, and what a worker flushes of its own); `meeting_tests.rt` (sinks that wait for each
 //! other), `thread_tests.rt` (producers on threads of their own), `memory_tests.rt` (want of memory) and `reserved_tests.rt` (that
 //! posting takes none); last `load_tests.rt` (loads of small configurations). A test that calls a function over any host is dear,
 //! whatever it does: so what differs by numbers and texts alone stands in rows.
