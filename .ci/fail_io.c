@@ -1,7 +1,7 @@
 /* Loaded before the C library: of the calls of the kind FAIL_CALL (read, write, open, rename, unlink or statx) the one with the number
    FAIL_AT, from 1, fails by the error FAIL_HOW; or it takes no byte where that is 0, and only one where it is -1. The descriptor that it
-   was made on is then written to the file FAILED. Where ONE_BYTE is set, each read and each write takes one byte. DELAY is how many
-   microseconds pass before each write. */
+   was made on is then written to the file FAILED. Where FAIL_THEN is set, the next call of that kind fails behind it, too. Where ONE_BYTE
+   is set, each read and each write takes one byte. DELAY is how many microseconds pass before each write. */
 #define _GNU_SOURCE
 #include <dlfcn.h>
 #include <errno.h>
@@ -16,6 +16,7 @@
 #include <time.h>
 
 static atomic_long calls;
+static atomic_int is_second;
 
 static long number_of(const char *name)
 {
@@ -23,12 +24,15 @@ static long number_of(const char *name)
     return number ? atol(number) : 0;
 }
 
-/* Whether this call, of this kind and on this descriptor, is the one that fails. */
+/* Whether this call, of this kind and on this descriptor, is one that fails. */
 static int fails(const char *kind, int descriptor)
 {
-    const char *counted = getenv("FAIL_CALL"), *name = getenv("FAILED");
+    const char *counted = getenv("FAIL_CALL"), *then = getenv("FAIL_THEN"), *name = getenv("FAILED");
+    if (then && !strcmp(then, kind) && atomic_exchange(&is_second, 0))
+        return 1;
     if (!counted || strcmp(counted, kind) || atomic_fetch_add(&calls, 1) + 1 != number_of("FAIL_AT"))
         return 0;
+    atomic_store(&is_second, 1);
     FILE *told = name ? fopen(name, "w") : NULL;
     if (told) {
         fprintf(told, "%d\n", descriptor);

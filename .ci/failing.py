@@ -7,6 +7,7 @@ status 3, the two lines of its refusal and a front of what it prints otherwise; 
 one line that names it; where standard error cannot be written, with its status. Whatever is short or interrupted changes nothing. In a
 load or a pipe to a folder what fails must be told, by status 3 and lines of their forms, and the files have a front of the lines, in their
 order; a pipe's input is read in part, and a pipe that ends early tells what it read. A pipe that tries again has all lines, and says so.
+Where a removal fails, and the rename behind it, too, nothing is told: what the one was to remove stays, and the lines are whole.
 Needs a C compiler, `cc`.
 """
 import collections
@@ -28,6 +29,9 @@ NONE, SHORT = 0, -1
 WAYS = {"read": [errno.EIO, errno.EINTR, SHORT], "write": [errno.EIO, errno.EPIPE, NONE, errno.EINTR, SHORT]}
 FILE_WAYS = {"read": WAYS["read"], "write": [errno.EIO, errno.ENOSPC, NONE, errno.EINTR, SHORT]}
 FILE_WAYS.update({it: [errno.EIO, errno.EACCES] for it in ("open", "rename", "unlink", "statx")})
+# a call that fails and, behind it, the next one of another kind
+PAIR = "unlink, rename"
+FILE_WAYS[PAIR] = [errno.EIO]
 # of what has more bytes only each so many-th is tried
 MOST_BYTES, STRIDE = 8_192, 16
 
@@ -47,24 +51,37 @@ CONFIG = b'queue = 8\n[[sink]]\nname = "out"\nkind = "rotating"\nfile = "a.log"\
 TOTALS = b"asked 40\nposted 40\ndiscarded 0\noverrun 0\nhandled 40\n"
 LINES = b"".join(b"0 %d\n" % number for number in range(40))
 FILES = [f"a.{number}.log" for number in range(9, 0, -1)] + ["a.log"]
+# the same where a rotation replaces its oldest file, and the lines of the files that are left
+FEW_FILES = CONFIG.replace(b"max_files = 9", b"max_files = 2")
+FULL_FILES = [b""]
+for line in LINES.splitlines(keepends=True):
+    FULL_FILES += [b""] * (len(FULL_FILES[-1] + line) > 30)
+    FULL_FILES[-1] += line
+LAST_LINES = b"".join(FULL_FILES[-3:])
 # what a pipe of these lines says where it reads them all, and what of any front: a flush is posted behind the pieces of a read
 PIPED = re.compile(rb"lines 40\nbytes %d\nmended 0\ncut 0\nmissing 0\nasked (\d+)\nposted \1\ndiscarded 0\noverrun 0\nhandled \1\n" % (len(LINES) - 40))
 PIPED_FRONT = re.compile(rb"lines \d+\nbytes \d+\nmended 0\ncut 0\nmissing 0\nasked (\d+)\nposted \1\ndiscarded 0\noverrun 0\nhandled \1\n")
 NO_INPUT = re.compile(rb"alog: standard input cannot be read: " + WHY)
 RETRIED = re.compile(rb"alog: file [^\n]+: a call failed and is tried again(?:: " + WHY[:-2] + rb")?\nalog: file [^\n]+: it goes on\n")
-# the commands that are tried on a folder: their words, their configuration, and what they are given
+ASIDE = re.compile(r"\.(?:probe|a\.[12]\.log)\.replaced")
+# the commands that are tried on a folder: their words, their configuration, what they are given, and the lines that they leave
 COMMANDS = {
-    "load": (["load", "--messages=40"], CONFIG, b""),
-    "pipe": (["pipe", "--totals"], b"retry = 0\n" + CONFIG, LINES),
-    "pipe that tries again": (["pipe", "--totals"], CONFIG, LINES),
+    "load": (["load", "--messages=40"], CONFIG, b"", LINES),
+    "pipe": (["pipe", "--totals"], b"retry = 0\n" + CONFIG, LINES, LINES),
+    "pipe that tries again": (["pipe", "--totals"], CONFIG, LINES, LINES),
+    "load that replaces": (["load", "--messages=40"], FEW_FILES, b"", LAST_LINES),
+    "pipe that replaces": (["pipe", "--totals"], b"retry = 0\n" + FEW_FILES, LINES, LAST_LINES),
 }
+# what is in a folder: whether the files have these lines, or a part of the lines in their order, or none, and what else is there
+Left = collections.namedtuple("Left", "is_whole is_part is_none others")
 
 
 def run(words, given, room, kind, number, how, by_bytes=False):
     """Runs the program so that the call of this kind and number fails so; returns what it did, and on which descriptor the call was made:
     None where there was no such call."""
     told = tempfile.mktemp(dir=room)
-    env = {**os.environ, "LD_PRELOAD": f"{room}/fail_io.so", "FAIL_CALL": kind, "FAIL_AT": str(number), "FAIL_HOW": str(how), "FAILED": told}
+    first, _, then = kind.partition(", ")
+    env = {**os.environ, "LD_PRELOAD": f"{room}/fail_io.so", "FAIL_CALL": first, "FAIL_THEN": then, "FAIL_AT": str(number), "FAIL_HOW": str(how), "FAILED": told}
     if by_bytes:
         env["ONE_BYTE"] = "1"
     ran = subprocess.run([PROGRAM, *words], input=given, capture_output=True, env=env, timeout=60)
@@ -129,60 +146,66 @@ def in_words(counts):
     return ", ".join(f"{count} {what}" for what, count in sorted(counts.items(), key=str) if what)
 
 
-def lines_in(folder):
-    """Returns the lines of the files of a folder, the oldest first, and the names of what else is there, but its lock."""
+def left_in(folder, kept):
+    """Returns what is left in a folder of which these lines are to be kept: of all a front, or, where a rotation replaces, some in a row."""
     lines = b"".join(bytes_of(f"{folder}/{it}") or b"" for it in FILES)
-    return lines, sorted(set(os.listdir(folder)) - {*FILES, LOCK})
+    is_part = LINES.startswith(lines) if kept == LINES else b"\n" + lines in b"\n" + LINES
+    return Left(lines == kept, is_part, not lines, sorted(set(os.listdir(folder)) - {*FILES, LOCK}))
 
 
-def folder_outcome(ran, kind, how, descriptor, lines, others):
+def is_tidy(kind, others):
+    """Whether nothing is in a folder but its files and, behind a removal that failed, what it was to remove."""
+    is_probe = kind == "unlink" and others == [".probe.replaced"]
+    return not others or is_probe or kind == PAIR and len(others) == 1 and ASIDE.fullmatch(others[0])
+
+
+def folder_outcome(ran, kind, how, descriptor, left):
     """Returns in words what came of a load to a folder, or None where it is none of what may come."""
-    found, is_whole, is_front = (ran.returncode, ran.stdout), lines == LINES, LINES.startswith(lines)
-    if others and (kind, others) != ("unlink", [".probe.replaced"]):
+    found = ran.returncode, ran.stdout
+    if not is_tidy(kind, left.others):
         return None
-    if found == (0, TOTALS) and not ran.stderr and is_whole:
+    if found == (0, TOTALS) and not ran.stderr and left.is_whole:
         return "nothing"
     if kind == "write" and descriptor in (1, 2) and ran.returncode in (0, 3):
-        return "told" if is_whole and TOTALS.startswith(ran.stdout) and (UNWRITTEN.fullmatch(ran.stderr) or descriptor == 2) else None
-    if found == (3, TOTALS) and SINK_FAILED.fullmatch(ran.stderr) and is_front:
+        return "told" if left.is_whole and TOTALS.startswith(ran.stdout) and (UNWRITTEN.fullmatch(ran.stderr) or descriptor == 2) else None
+    if found == (3, TOTALS) and SINK_FAILED.fullmatch(ran.stderr) and left.is_part:
         return "a fault"
     is_refused = any(it.fullmatch(ran.stderr) for it in (NO_FILE, NO_FOLDER, NO_LOCK, UNOPENED))
-    return "refused" if found == (3, b"") and is_refused and not lines else None
+    return "refused" if found == (3, b"") and is_refused and left.is_none else None
 
 
-def pipe_outcome(ran, kind, how, descriptor, lines, others):
+def pipe_outcome(ran, kind, how, descriptor, left):
     """Returns in words what came of a pipe to a folder, or None where it is none of what may come."""
-    is_whole, is_front = lines == LINES, LINES.startswith(lines)
-    if others and (kind, others) != ("unlink", [".probe.replaced"]):
+    if not is_tidy(kind, left.others):
         return None
-    if ran.returncode == 0 and PIPED.fullmatch(ran.stdout) and not ran.stderr and is_whole:
+    if ran.returncode == 0 and PIPED.fullmatch(ran.stdout) and not ran.stderr and left.is_whole:
         return "nothing"
     if kind == "write" and descriptor in (1, 2) and ran.returncode in (0, 3):
-        return "told" if is_whole and (UNWRITTEN.fullmatch(ran.stderr) or descriptor == 2) else None
-    is_told = ran.returncode == 3 and PIPED_FRONT.fullmatch(ran.stdout) and is_front
+        return "told" if left.is_whole and (UNWRITTEN.fullmatch(ran.stderr) or descriptor == 2) else None
+    is_told = ran.returncode == 3 and PIPED_FRONT.fullmatch(ran.stdout) and left.is_part
     if is_told and SINK_FAILED.fullmatch(ran.stderr):
         return "a fault"
     if is_told and kind == "read" and descriptor == 0 and NO_INPUT.fullmatch(ran.stderr):
         return "a front"
     is_refused = any(it.fullmatch(ran.stderr) for it in (NO_FILE, NO_FOLDER, NO_LOCK, UNOPENED))
-    return "refused" if (ran.returncode, ran.stdout) == (3, b"") and is_refused and not lines else None
+    return "refused" if (ran.returncode, ran.stdout) == (3, b"") and is_refused and left.is_none else None
 
 
-def patient_outcome(ran, kind, how, descriptor, lines, others):
+def patient_outcome(ran, kind, how, descriptor, left):
     """Returns in words what came of a pipe to a folder that tries again, or None where it is none of what may come."""
-    if ran.returncode == 0 and PIPED.fullmatch(ran.stdout) and RETRIED.fullmatch(ran.stderr) and lines == LINES and not others:
+    if ran.returncode == 0 and PIPED.fullmatch(ran.stdout) and RETRIED.fullmatch(ran.stderr) and left.is_whole and not left.others:
         return "tried again"
-    came = pipe_outcome(ran, kind, how, descriptor, lines, others)
+    came = pipe_outcome(ran, kind, how, descriptor, left)
     return None if came == "a fault" else came
 
 
-OUTCOMES = {"load": folder_outcome, "pipe": pipe_outcome, "pipe that tries again": patient_outcome}
+OUTCOMES = {"pipe": pipe_outcome, "pipe that tries again": patient_outcome, "pipe that replaces": pipe_outcome}
 
 
 def sweep_folder(room, command, kind, how):
     """Makes each call of this kind of a command on a folder fail so. Returns how many there were, what came, and where all was not well."""
     found, bad = collections.Counter(), []
-    first, config, given = COMMANDS[command]
+    first, config, given, kept = COMMANDS[command]
     with tempfile.TemporaryDirectory(dir=room) as place:
         with open(f"{place}/it.toml", "wb") as it:
             it.write(config)
@@ -190,7 +213,7 @@ def sweep_folder(room, command, kind, how):
             folder = tempfile.mkdtemp(dir=place)
             words = [first[0], f"{place}/it.toml", *first[1:], "--folder", folder]
             ran, descriptor = run(words, given, room, kind, number, how)
-            came = OUTCOMES[command](ran, kind, how, descriptor, *lines_in(folder))
+            came = OUTCOMES.get(command, folder_outcome)(ran, kind, how, descriptor, left_in(folder, kept))
             bad += [number] * (came is None)
             if descriptor is None:
                 return number - 1, found, bad

@@ -1,5 +1,9 @@
 -- How often a call of the store below is tried.
-use Rattle.std.specs.Prelude.{◌≡◌, ℕ, zero, suc, ◌+◌, ◌-◌, ◌<◌, ◌≤◌, Bool, true, false, OnOk, OnErr, Result}
+use Rattle.std.specs.Prelude.{◌≡◌, ℕ, zero, suc, ◌+◌, ◌-◌, ◌<◌, ◌≤◌, Bool, true, false, Option, None, Some, OnOk, OnErr, Result}
+use Rattle.std.specs.IoError.{error_kind}
+use Rattle.std.specs.declared.io.Error.{Error}
+use Rattle.std.specs.declared.io.ErrorKind.{ErrorKind}
+use Rattle.std.specs.declared.io.ErrorKind.TheVariants.{InvalidFilename, InvalidInput}
 use Rattle.alog_sink.specs.declared.TheConstants.{FAILURES_MAX}
 use Rattle.alog_patient.specs.declared.patience.Patience.{Patience}
 use Rattle.alog_patient.specs.declared.patience.Patience.TheVariants.{Endless, Times}
@@ -14,8 +18,20 @@ abbrev pub fewer : Patience → Patience
 fewer Endless = Endless
 fewer (Times n) = Times (n - 1)
 
+-- What no change on the disk mends: the name is none that a file of the folder, or of any, may have.
+abbrev pub is_of_name : ErrorKind → Bool
+is_of_name InvalidInput = true
+is_of_name InvalidFilename = true
+is_of_name _ = false
+
+abbrev pub is_hopeless : Option Error → Bool
+is_hopeless None = false
+is_hopeless (Some error) = is_of_name (error_kind error)
+
 -- A call that is tried again at most n times failed at most n times where it is done, and once more where it is given up; one that is
--- tried without end is done. The numbers are the failures that the store below counts before and after.
-pub record Tried {A E : Type 0} (patience : Patience) (old new : ℕ) (answer : Result A E) : Type 0 where
+-- tried without end is done. Only where the last failure is hopeless it is given up before, behind one failure or more. The numbers are
+-- the failures that the store below counts before and after, and the reason is that of a call that is given up.
+pub record Tried {A E : Type 0} (patience : Patience) (old new : ℕ) (reason : Option Error) (answer : Result A E) : Type 0 where
   pub done : (n : ℕ) → patience ≡ Times n → old + n < FAILURES_MAX → OnOk answer (new ≤ old + n)
-  pub given_up : OnErr answer ((n : ℕ) × (patience ≡ Times n) × (old + n < FAILURES_MAX → new ≡ old + suc n))
+  pub given_up : is_hopeless reason ≡ false → OnErr answer ((n : ℕ) × (patience ≡ Times n) × (old + n < FAILURES_MAX → new ≡ old + suc n))
+  pub hopeless : (n : ℕ) → patience ≡ Times n → old + n < FAILURES_MAX → OnErr answer ((old < new) × (new ≤ old + suc n))

@@ -23,6 +23,8 @@ pub struct PatientStore<S, R> {
     pub store: S,
     /// How often each is tried again.
     pub patience: Patience,
+    /// Why the last call that was given up failed, where the store below knew it.
+    pub reason: Option<io::Error>,
     rt: R,
     given_up: u64,
 }
@@ -37,6 +39,7 @@ impl<S: Resumes, R: Wait + Clock + Eprint> PatientStore<S, R> {
         PatientStore {
             store,
             patience,
+            reason: None,
             rt,
             given_up: 0,
         }
@@ -50,7 +53,7 @@ impl<S: Resumes, R: Wait + Clock + Eprint> PatientStore<S, R> {
             → IfErr result (λ e. TakesFront e.taken name.now bytes.now (S.files self.old.store) (S.files self.new.store)) }
         ensures within { IfErr result (λ e. e.taken ≤ length bytes.now) }
         ensures counted { Counts self.old.given_up self.new.given_up result }
-        ensures tried { Tried self.old.patience (S.failures self.old.store) (S.failures self.new.store) result }
+        ensures tried { Tried self.old.patience (S.failures self.old.store) (S.failures self.new.store) self.new.reason result }
         ensures patience { self.new.patience ≡ self.old.patience }
     {
         let mut row = Row::new(name, self.patience);
@@ -63,8 +66,10 @@ impl<S: Resumes, R: Wait + Clock + Eprint> PatientStore<S, R> {
                 }
                 Err(error) => taken += error.taken,
             }
-            if !row.goes_on(&self.rt, self.store.reason()) {
+            let reason = self.store.reason();
+            if !row.goes_on(&self.rt, reason) {
                 self.given_up = self.given_up.saturating_add(1);
+                self.reason = reason;
                 return Err(AppendError { taken });
             }
         }
@@ -99,7 +104,7 @@ impl<S: Resumes, R: Wait + Clock + Eprint> Store for PatientStore<S, R> {
             → OnOk result (AreSame (appended name.now bytes.now (S.files self.old.store)) (S.files self.new.store)) }
         ensures failed { S.tells ≡ true → OnErr result (LeavesFront name.now bytes.now (S.files self.old.store) (S.files self.new.store)) }
         ensures counted { Counts self.old.given_up self.new.given_up result }
-        ensures tried { Tried self.old.patience (S.failures self.old.store) (S.failures self.new.store) result }
+        ensures tried { Tried self.old.patience (S.failures self.old.store) (S.failures self.new.store) self.new.reason result }
         ensures patience { self.new.patience ≡ self.old.patience }
     {
         match self.append_rest(name, bytes) {
@@ -112,7 +117,7 @@ impl<S: Resumes, R: Wait + Clock + Eprint> Store for PatientStore<S, R> {
         ensures done { S.tells ≡ true → OnOk result (AreSame (renamed from.now to.now (S.files self.old.store)) (S.files self.new.store)) }
         ensures failed { S.tells ≡ true → OnErr result (AreSame (S.files self.old.store) (S.files self.new.store)) }
         ensures counted { Counts self.old.given_up self.new.given_up result }
-        ensures tried { Tried self.old.patience (S.failures self.old.store) (S.failures self.new.store) result }
+        ensures tried { Tried self.old.patience (S.failures self.old.store) (S.failures self.new.store) self.new.reason result }
         ensures patience { self.new.patience ≡ self.old.patience }
     {
         let mut row = Row::new(from, self.patience);
@@ -121,8 +126,10 @@ impl<S: Resumes, R: Wait + Clock + Eprint> Store for PatientStore<S, R> {
                 row.end(&self.rt);
                 return Ok(());
             }
-            if !row.goes_on(&self.rt, self.store.reason()) {
+            let reason = self.store.reason();
+            if !row.goes_on(&self.rt, reason) {
                 self.given_up = self.given_up.saturating_add(1);
+                self.reason = reason;
                 return Err(StoreError);
             }
         }
@@ -133,7 +140,7 @@ impl<S: Resumes, R: Wait + Clock + Eprint> Store for PatientStore<S, R> {
         ensures done { S.tells ≡ true → OnOk result (AreSame (removed name.now (S.files self.old.store)) (S.files self.new.store)) }
         ensures failed { S.tells ≡ true → OnErr result (AreSame (S.files self.old.store) (S.files self.new.store)) }
         ensures counted { Counts self.old.given_up self.new.given_up result }
-        ensures tried { Tried self.old.patience (S.failures self.old.store) (S.failures self.new.store) result }
+        ensures tried { Tried self.old.patience (S.failures self.old.store) (S.failures self.new.store) self.new.reason result }
         ensures patience { self.new.patience ≡ self.old.patience }
     {
         let mut row = Row::new(name, self.patience);
@@ -142,8 +149,10 @@ impl<S: Resumes, R: Wait + Clock + Eprint> Store for PatientStore<S, R> {
                 row.end(&self.rt);
                 return Ok(());
             }
-            if !row.goes_on(&self.rt, self.store.reason()) {
+            let reason = self.store.reason();
+            if !row.goes_on(&self.rt, reason) {
                 self.given_up = self.given_up.saturating_add(1);
+                self.reason = reason;
                 return Err(StoreError);
             }
         }
@@ -154,7 +163,7 @@ impl<S: Resumes, R: Wait + Clock + Eprint> Store for PatientStore<S, R> {
         ensures size { S.tells ≡ true → IfOk result (λ size. size ≡ option_map length (S.files self.old.store name.now)) }
         ensures same { S.tells ≡ true → AreSame (S.files self.old.store) (S.files self.new.store) }
         ensures counted { Counts self.old.given_up self.new.given_up result }
-        ensures tried { Tried self.old.patience (S.failures self.old.store) (S.failures self.new.store) result }
+        ensures tried { Tried self.old.patience (S.failures self.old.store) (S.failures self.new.store) self.new.reason result }
         ensures patience { self.new.patience ≡ self.old.patience }
     {
         let mut row = Row::new(name, self.patience);
@@ -163,8 +172,10 @@ impl<S: Resumes, R: Wait + Clock + Eprint> Store for PatientStore<S, R> {
                 row.end(&self.rt);
                 return Ok(size);
             }
-            if !row.goes_on(&self.rt, self.store.reason()) {
+            let reason = self.store.reason();
+            if !row.goes_on(&self.rt, reason) {
                 self.given_up = self.given_up.saturating_add(1);
+                self.reason = reason;
                 return Err(StoreError);
             }
         }
@@ -174,7 +185,7 @@ impl<S: Resumes, R: Wait + Clock + Eprint> Store for PatientStore<S, R> {
     fn flush(&mut self, name: &str) -> Result<(), StoreError>
         ensures same { S.tells ≡ true → AreSame (S.files self.old.store) (S.files self.new.store) }
         ensures counted { Counts self.old.given_up self.new.given_up result }
-        ensures tried { Tried self.old.patience (S.failures self.old.store) (S.failures self.new.store) result }
+        ensures tried { Tried self.old.patience (S.failures self.old.store) (S.failures self.new.store) self.new.reason result }
         ensures patience { self.new.patience ≡ self.old.patience }
     {
         let mut row = Row::new(name, self.patience);
@@ -183,16 +194,20 @@ impl<S: Resumes, R: Wait + Clock + Eprint> Store for PatientStore<S, R> {
                 row.end(&self.rt);
                 return Ok(());
             }
-            if !row.goes_on(&self.rt, self.store.reason()) {
+            let reason = self.store.reason();
+            if !row.goes_on(&self.rt, reason) {
                 self.given_up = self.given_up.saturating_add(1);
+                self.reason = reason;
                 return Err(StoreError);
             }
         }
         unreachable!()
     }
 
-    fn reason(&self) -> Option<io::Error> {
-        self.store.reason()
+    fn reason(&self) -> Option<io::Error>
+        ensures { result ≡ self.now.reason }
+    {
+        self.reason
     }
 }
 

@@ -1,10 +1,11 @@
 //! Failures of one call in a row.
-ghost use Rattle.std.specs.Prelude.{◌≡◌};
-ghost use Rattle.alog_patient.specs.Tried.{fewer, has_more};
+ghost use Rattle.std.specs.Prelude.{◌≡◌, true, false, cond};
+ghost use Rattle.alog_patient.specs.Tried.{fewer, has_more, is_hopeless};
 
 use crate::patience::Patience;
+use std::io::{self, ErrorKind};
+use std::thread;
 use std::time::{Clock, Duration};
-use std::{io, thread};
 
 /// The first pause of a row, in seconds. Each is twice as long as the one before.
 const FIRST_PAUSE: u64 = 1;
@@ -39,16 +40,15 @@ impl<'a> Row<'a> {
     /// Lets a pause pass behind a failure, where the call is tried again, and answers whether it is. The first failure is told, with its
     /// reason, and the last one.
     pub(crate) fn goes_on<R: Clock + Eprint>(&mut self, rt: &R, reason: Option<io::Error>) -> bool
-        ensures again { result ≡ has_more self.old.left }
-        ensures left { self.new.left ≡ fewer self.old.left }
+        ensures again { result ≡ cond (is_hopeless reason) false (has_more self.old.left) }
+        ensures left { result ≡ true → self.new.left ≡ fewer self.old.left }
     {
-        match self.left {
-            Patience::Endless => {}
-            Patience::Times(0) => {
-                self.give_up(rt);
-                return false;
-            }
-            Patience::Times(times) => self.left = Patience::Times(times - 1),
+        if is_hopeless(reason) || self.left == Patience::Times(0) {
+            self.give_up(rt);
+            return false;
+        }
+        if let Patience::Times(times) = self.left {
+            self.left = Patience::Times(times - 1);
         }
         self.tell(rt, reason);
         thread::sleep(rt, Duration::from_secs(self.pause));
@@ -87,5 +87,18 @@ impl<'a> Row<'a> {
             let file = self.file;
             let _ = eprintln!(rt; "alog: file {file}: it goes on");
         }
+    }
+}
+
+/// Whether no change on the disk mends what failed so.
+fn is_hopeless(reason: Option<io::Error>) -> bool
+    ensures { result ≡ is_hopeless reason }
+{
+    match reason {
+        Some(error) => matches!(
+            error.kind(),
+            ErrorKind::InvalidInput | ErrorKind::InvalidFilename
+        ),
+        None => false,
     }
 }

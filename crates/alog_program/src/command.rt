@@ -312,8 +312,9 @@ warning in their place, before the next line that it takes or at the end: `N lin
 overrun_oldest takes out of the queue it says nothing.
 
 The files of the sinks are files of the folder DIR, which has to be there, and is held by one pipe, load or
-server at a time; lines are written behind what a file has. To let a service end, close its output: with
-`trap '' INT TERM` before it a pipe goes on to the end of its input.
+server at a time; lines are written behind what a file has. A call on a file that fails, as where the disk is
+full, is tried again, without end or as often as the key `retry` says; standard error says so. To let a service
+end, close its output: with `trap '' INT TERM` before it a pipe goes on to the end of its input.
 
 At the end it prints, on standard error:
 

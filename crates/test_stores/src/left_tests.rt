@@ -28,12 +28,12 @@ const BUFFERS: Row<'_> = Row {
         Step::Has("moved", None),
         Step::Has("new", Some(b"one\n")),
         Step::Calls(Call::Renames("none", "replaced", true)),
-        Step::Has("replaced", Some(b"one\n")),
+        Step::Has("replaced", Some(b"")),
         Step::Calls(Call::Removes("removed", true)),
         Step::Has("removed", None),
         Step::Has("kept", Some(b"")),
     ]],
-    after: &[("kept", Some(b"one\n"))],
+    after: &[("kept", Some(b"one\n")), ("replaced", Some(b"one\n"))],
     count: 5,
 };
 

@@ -4,11 +4,16 @@ ghost use Rattle.alog_sink.specs.Calls.{Counts};
 
 use crate::stores::Noting;
 use alog_sink::{AppendError, Resumes, Store, StoreError};
+use std::alloc::Global;
 use std::fmt::Display;
-use std::io;
+use std::io::{self, ErrorKind};
 use std::sync::Wait;
 use std::sync::atomic::{AtomicU64, Ordering};
 use std::time::{Clock, Duration};
+
+/// How often each call fails before it is done, how many bytes an append that fails takes, or all of fewer, and of what kind a failure
+/// is, where that is told.
+pub type Failing = (u32, usize, Option<ErrorKind>);
 
 /// Files in memory, each call of which fails so many times before it is done; each append that fails takes some first bytes. It tells
 /// nothing of its files, so that it may do so.
@@ -16,20 +21,21 @@ use std::time::{Clock, Duration};
 pub struct Flaky {
     /// the files
     pub files: Noting,
-    failing: u32,
-    part: usize,
+    /// the names of the flushes that were done, a blank behind each
+    pub flushed: String,
+    failing: Failing,
     left: u32,
     failures: u64,
 }
 
 impl Flaky {
-    /// These files, whose calls fail so many times, and whose failing appends take so many bytes, or all of fewer.
-    pub fn new(files: Noting, failing: u32, part: usize) -> Flaky {
+    /// These files, whose calls fail so.
+    pub fn new(alloc: Global, files: Noting, failing: Failing) -> Flaky {
         Flaky {
             files,
+            flushed: String::new(alloc),
             failing,
-            part,
-            left: failing,
+            left: failing.0,
             failures: 0,
         }
     }
@@ -39,7 +45,7 @@ impl Flaky {
         ensures { self.new.failures ≡ self.old.failures }
     {
         if self.left == 0 {
-            self.left = self.failing;
+            self.left = self.failing.0;
             return false;
         }
         self.left -= 1;
@@ -57,6 +63,14 @@ impl Flaky {
         answer
     }
 
+    /// Notes the name of a flush.
+    fn note(&mut self, name: &str)
+        ensures { self.new.failures ≡ self.old.failures }
+    {
+        let is_noted = self.flushed.push_str(name).is_ok() && self.flushed.push(' ').is_ok();
+        self.files.has_failed |= !is_noted;
+    }
+
     /// Appends to a file, or some first bytes where the call fails.
     fn take(&mut self, name: &str, bytes: &[u8]) -> Result<(), AppendError>
         ensures within { IfErr result (λ e. e.taken ≤ length bytes.now) }
@@ -66,7 +80,7 @@ impl Flaky {
             let answer = self.files.append_some(name, bytes);
             return self.told(answer);
         }
-        let taken = self.part.min(bytes.len());
+        let taken = self.failing.1.min(bytes.len());
         let _ = self.files.append(name, &bytes[..taken]);
         self.told(Err(AppendError { taken }))
     }
@@ -117,8 +131,16 @@ impl Store for Flaky {
         if self.fails() {
             return self.told(Err(StoreError));
         }
+        self.note(name);
         let answer = self.files.flush(name);
         self.told(answer)
+    }
+
+    fn reason(&self) -> Option<io::Error> {
+        match self.failing.2 {
+            Some(kind) => Some(kind.into()),
+            None => None,
+        }
     }
 }
 

@@ -1,33 +1,56 @@
-//! A store that tries again: what it leaves, how long it pauses, and how often it says so.
+//! A store that tries again: what it leaves, how long it pauses, how often it says so, and what it does not try again.
 use crate::calls::{EACH, answers_all};
 use crate::memory_tests::{LEFT, are_just, noting, opened};
-use crate::patient::{Asked, Counting, Flaky};
+use crate::patient::{Asked, Counting, Failing, Flaky};
 use alog_patient::{Patience, PatientStore};
 use alog_sink::{MemStore, Store, StoreError};
 use std::alloc::Global;
+use std::io::ErrorKind;
 use std::sync::Wait;
 use std::test::Fail;
 
-/// How often an append of five bytes fails, and how many bytes it takes each time.
-type Failing = (u32, usize);
-
-/// A patience, and such an append; whether it is done, what was asked of the runtime, and what the file has then.
+/// A patience, and an append of five bytes; whether it is done, what was asked of the runtime, and what the file has then.
 type Trying<'a> = (Patience, Failing, bool, Asked, &'a [u8]);
 
-const TRYING: [Trying<'_>; 6] = [
-    (Patience::Endless, (0, 1), true, (0, 0, 0), b"line\n"),
-    (Patience::Endless, (1, 5), true, (1, 1, 2), b"line\n"),
-    (Patience::Endless, (8, 1), true, (8, 121, 2), b"line\n"),
-    (Patience::Times(3), (3, 2), true, (3, 7, 2), b"line\n"),
-    (Patience::Times(3), (4, 1), false, (3, 7, 2), b"line"),
-    (Patience::Times(0), (1, 3), false, (0, 0, 0), b"lin"),
+/// A full disk, which is told as such.
+const FULL: Option<ErrorKind> = Some(ErrorKind::StorageFull);
+
+/// Names that are none of a file, of which the one is refused here, and the other by the system.
+const OUTSIDE: Option<ErrorKind> = Some(ErrorKind::InvalidInput);
+
+const TOO_LONG: Option<ErrorKind> = Some(ErrorKind::InvalidFilename);
+
+const TRYING: [Trying<'_>; 10] = [
+    (Patience::Endless, (0, 1, None), true, (0, 0, 0), b"line\n"),
+    (Patience::Endless, (1, 5, None), true, (1, 1, 2), b"line\n"),
+    (
+        Patience::Endless,
+        (8, 1, FULL),
+        true,
+        (8, 121, 2),
+        b"line\n",
+    ),
+    (Patience::Times(3), (3, 2, None), true, (3, 7, 2), b"line\n"),
+    (Patience::Times(3), (4, 1, FULL), false, (3, 7, 2), b"line"),
+    (Patience::Times(0), (1, 3, None), false, (0, 0, 0), b"lin"),
+    // What no change on the disk mends is not tried again.
+    (Patience::Endless, (1, 3, OUTSIDE), false, (0, 0, 0), b"lin"),
+    (Patience::Endless, (1, 0, TOO_LONG), false, (0, 0, 0), b""),
+    (Patience::Times(3), (1, 1, OUTSIDE), false, (0, 0, 0), b"l"),
+    (
+        Patience::Times(3),
+        (0, 1, OUTSIDE),
+        true,
+        (0, 0, 0),
+        b"line\n",
+    ),
 ];
 
 /// Whether a row holds.
 fn tries<R: Wait>(rt: &R, alloc: Global, row: &Trying<'_>) -> Result<bool, StoreError> {
-    let (patience, (failing, part), is_done, asked, left) = *row;
+    let (patience, failing, is_done, asked, left) = *row;
     let counting = Counting::new(rt);
-    let flaky = Flaky::new(noting(MemStore::new(alloc)), failing, part);
+    let flaky = Flaky::new(alloc, noting(MemStore::new(alloc)), failing);
     let mut store = PatientStore::new(&counting, flaky, patience);
     let was_done = store.append("log", b"line\n").is_ok();
     let is_left = are_just(&store.store.files, &[("log", left)])?;
@@ -42,14 +65,15 @@ fn appends_that_are_tried_again(rt: HostRuntime) -> Result<(), Fail> {
     Ok(())
 }
 
-/// Whether each call once, of which each fails twice, is answered as it says, and leaves what it leaves.
+/// Whether each call once, of which each fails twice, is answered as it says, and leaves what it leaves, with each flush asked for.
 fn tries_each<R: Wait>(rt: &R, alloc: Global) -> Result<bool, Fail> {
     let counting = Counting::new(rt);
-    let flaky = Flaky::new(noting(opened(alloc)?), 2, 1);
+    let flaky = Flaky::new(alloc, noting(opened(alloc)?), (2, 1, FULL));
     let mut store = PatientStore::new(&counting, flaky, Patience::Endless);
     let are_right = answers_all(&mut store, &EACH)?;
     let are_left = are_just(&store.store.files, &LEFT)?;
-    Ok(are_left && are_right && counting.asked() == (34, 51, 34))
+    let are_flushed = store.store.flushed.as_str() == "none b ";
+    Ok(are_left && are_right && are_flushed && counting.asked() == (34, 51, 34))
 }
 
 #[test]
