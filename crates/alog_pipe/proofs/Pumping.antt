@@ -1,5 +1,5 @@
 -- Pieces that are found and logged one after the other.
-use Rattle.std.proofs.Common.{◌≡◌, ℕ, ℤ, true, false, List, [], ◌∷◌, ◌++◌, length, Option, None, Some, refl, sym, ap, subst, ◌∙◌, arith, append_assoc}
+use Rattle.std.proofs.Common.{◌≡◌, ℕ, true, false, List, [], ◌∷◌, ◌++◌, length, Option, None, Some, refl, sym, ap, subst, ◌∙◌, arith, append_assoc}
 use Rattle.std.specs.Io.KnownBytes.{Consumes, IsAtEnd}
 use Rattle.std.proofs.lemmas.List.{append-nil}
 use Rattle.alog_lines.proofs.SharedCutting.{begins, ends_whole, reads_on, takes_on}
@@ -9,8 +9,7 @@ use Rattle.alog_lines.specs.Pieces.{Piece}
 use Rattle.alog_pipe.specs.Counted.{counted, with_piece}
 use Rattle.alog_pipe.specs.InTurn.{InTurn}
 use Rattle.alog_pipe.proofs.Logging.{piece_logger}
-use Rattle.alog_pipe.specs.Logged.{Flushes}
-use Rattle.alog_pipe.specs.Piped.{HasAny, LogsAll, LogsBrought, LogsRead, Pumps, PumpsRead, TakesAll, all_of}
+use Rattle.alog_pipe.specs.Piped.{LogsAll, Pumps, PumpsRead, TakesAll}
 use Rattle.alog_pipe.specs.declared.counts.Counts.{Counts}
 use Rattle.alog_pipe.specs.declared.piece_log.PieceLog.{PieceLog}
 use Rattle.alog_pipe.specs.declared.pump.Pump.{Pump}
@@ -29,25 +28,11 @@ pub counted_all : (ps qs : List Piece) (c : Counts) → counted (ps ++ qs) c ≡
 counted_all [] qs c = refl
 counted_all (p ∷ ps) qs c = counted_all ps qs (with_piece c p)
 
-pub all_more : (reads : List (List Piece)) (ps : List Piece) → all_of (reads ++ ps ∷ []) ≡ all_of reads ++ ps
-all_more [] ps = append-nil ps
-all_more (qs ∷ reads) ps = ap (λ l. qs ++ l) (all_more reads ps) ∙ sym (append_assoc qs (all_of reads) ps)
-
--- one more is any
-pub any_more : (ps : List Piece) (p : Piece) → HasAny (ps ++ p ∷ []) true
-any_more [] p = refl
-any_more (q ∷ ps) p = refl
-
--- the pieces of a read, with a flush behind them where there are any
-pub brought_some : (time : ℤ) (ps : List Piece) (old mid new : PieceLog) → HasAny ps true → LogsAll time ps old mid → Flushes mid new
-    → LogsBrought ps old new
-brought_some time [] old mid new any all flushed = absurd (cc any)
-brought_some time (p ∷ ps) old mid new any all flushed =
-    record { some = omega arith; time = time; mid = mid; logged = all; flushed = flushed }
-
-pub brought_none : (time : ℤ) (ps : List Piece) (old new : PieceLog) → HasAny ps false → LogsAll time ps old new → LogsBrought ps old new
-brought_none time [] old new any same = same
-brought_none time (p ∷ ps) old new any all = absurd (cc any)
+-- what follows what was done
+pub turns_on : {A S : Type 0} (step : A → S → S → Type 0) (xs ys : List A) (s m t : S) → InTurn step xs s m → InTurn step ys m t
+    → InTurn step (xs ++ ys) s t
+turns_on {A} {S} step [] ys s m t same rest = subst (λ (o : S). InTurn step ys o t) same rest
+turns_on step (x ∷ xs) ys s m t all rest = (all.0, all.1, turns_on step xs ys all.0 m t all.2 rest)
 
 -- the pieces that were taken follow those before
 pub takes_all : {limit : ℕ} {bytes : List ℕ} {before : List Piece} (ps : List Piece) (old new : Cutting) → HasCut limit bytes before old
@@ -77,20 +62,9 @@ nothing_taken None = tt
 nothing_taken (Some x) = refl
 
 -- the logger stays
-pub logs_logger : (time : ℤ) (ps : List Piece) (old new : PieceLog) → LogsAll time ps old new → new.logger ≡ old.logger
-logs_logger time [] old new same = ap (λ (l : PieceLog). l.logger) same
-logs_logger time (p ∷ ps) old new all = logs_logger time ps all.0 new all.2 ∙ piece_logger all.1.logged
-
-read_logger : {ps : List Piece} {old new : PieceLog} → LogsRead ps old new → new.logger ≡ old.logger
-read_logger {ps} {old} {new} r = ap (λ (l : PieceLog). l.logger) r.flushed.rest ∙ logs_logger r.time ps old r.mid r.logged
-
-pub brought_logger : (ps : List Piece) (old new : PieceLog) → LogsBrought ps old new → new.logger ≡ old.logger
-brought_logger [] old new same = ap (λ (l : PieceLog). l.logger) same
-brought_logger (p ∷ ps) old new r = read_logger r
-
-pub reads_logger : (reads : List (List Piece)) (old new : PieceLog) → InTurn LogsRead reads old new → new.logger ≡ old.logger
-reads_logger [] old new same = ap (λ (l : PieceLog). l.logger) same
-reads_logger (ps ∷ reads) old new all = reads_logger reads all.0 new all.2 ∙ read_logger all.1
+pub logs_logger : (ps : List Piece) (old new : PieceLog) → LogsAll ps old new → new.logger ≡ old.logger
+logs_logger [] old new same = ap (λ (l : PieceLog). l.logger) same
+logs_logger (p ∷ ps) old new all = logs_logger ps all.0 new all.2 ∙ piece_logger all.1.1.logged
 
 -- where nothing came, no piece is left
 pub lacks_on : {old new : Cutting} → LacksPiece old → new.pending ≡ old.pending → new.limit ≡ old.limit → new.ended ≡ false → LacksPiece new
@@ -107,11 +81,11 @@ lacks_on {old} {new} h pending limit ended =
 pub record HasPumped (limit : ℕ) (before after : Option (List ℕ)) (old new : Pump) : Type 0 where
   pub bytes : List ℕ
   pub taken : Consumes before after bytes
-  pub reads : List (List Piece)
-  pub logged : InTurn LogsRead reads old.log new.log
-  pub found : HasCut limit bytes (all_of reads) new.lines
+  pub pieces : List Piece
+  pub logged : LogsAll pieces old.log new.log
+  pub found : HasCut limit bytes pieces new.lines
   pub left : LacksPiece new.lines
-  pub counted_is : new.counts ≡ counted (all_of reads) old.counts
+  pub counted_is : new.counts ≡ counted pieces old.counts
 
 module _ {limit : ℕ} {before after last : Option (List ℕ)} {old mid : Pump} (h : HasPumped limit before after old mid) {lines : Cutting}
     (read : Reads after last mid.lines lines) (reading : mid.lines.ended ≡ false) where
@@ -123,7 +97,7 @@ module _ {limit : ℕ} {before after last : Option (List ℕ)} {old mid : Pump} 
   nothing_came pending ended = record {
     bytes = h.bytes ++ read.came.bytes;
     taken = consumes_on before after last h.bytes read.came.bytes h.taken read.came.taken;
-    reads = h.reads;
+    pieces = h.pieces;
     logged = h.logged;
     found = reads_on h.found read stays;
     left = lacks_on h.left pending read.limit ended;
@@ -131,33 +105,16 @@ module _ {limit : ℕ} {before after last : Option (List ℕ)} {old mid : Pump} 
   }
 
   -- what a read brought was logged
-  came : {new : Pump} (ps : List Piece) → TakesAll ps lines new.lines → LacksPiece new.lines → LogsBrought ps mid.log new.log
-      → new.counts ≡ counted ps mid.counts → HasPumped limit before last old new
-  came {new} [] taken left same counts = record {
+  pub some_came : {new : Pump} → PumpsRead (record mid { lines = lines }) new → HasPumped limit before last old new
+  some_came {new} p = record {
     bytes = h.bytes ++ read.came.bytes;
     taken = consumes_on before after last h.bytes read.came.bytes h.taken read.came.taken;
-    reads = h.reads;
-    logged = subst (λ (l : PieceLog). InTurn LogsRead h.reads old.log l) (sym same) h.logged;
-    found = subst (λ (s : Cutting). HasCut limit (h.bytes ++ read.came.bytes) (all_of h.reads) s) (sym taken) (reads_on h.found read stays);
-    left = left;
-    counted_is = counts ∙ h.counted_is;
+    pieces = h.pieces ++ p.pieces;
+    logged = turns_on _ h.pieces p.pieces old.log mid.log new.log h.logged p.logged;
+    found = takes_all p.pieces lines new.lines (reads_on h.found read stays) p.taken;
+    left = p.left;
+    counted_is = p.counted_is ∙ ap (counted p.pieces) h.counted_is ∙ sym (counted_all h.pieces p.pieces old.counts);
   }
-  came {new} (p ∷ ps) taken left logged counts =
-      let group : List Piece = p ∷ ps in
-      record {
-        bytes = h.bytes ++ read.came.bytes;
-        taken = consumes_on before after last h.bytes read.came.bytes h.taken read.came.taken;
-        reads = h.reads ++ group ∷ [];
-        logged = one_more LogsRead h.reads group old.log mid.log new.log h.logged logged;
-        found = subst (λ (ps : List Piece). HasCut limit (h.bytes ++ read.came.bytes) ps new.lines) (sym (all_more h.reads group))
-            (takes_all group lines new.lines (reads_on h.found read stays) taken);
-        left = left;
-        counted_is = counts ∙ ap (counted group) h.counted_is ∙ sym (counted_all (all_of h.reads) group old.counts)
-            ∙ ap (λ (ps : List Piece). counted ps old.counts) (sym (all_more h.reads group));
-      }
-
-  pub some_came : {new : Pump} → PumpsRead (record mid { lines = lines }) new → HasPumped limit before last old new
-  some_came p = came p.pieces p.taken p.left p.logged p.counted_is
 
 -- nothing was read
 pub starts : (limit : ℕ) (before : Option (List ℕ)) (p : Pump) → p.lines.limit ≡ limit → p.lines.pending ≡ [] → p.lines.ended ≡ false
@@ -165,7 +122,7 @@ pub starts : (limit : ℕ) (before : Option (List ℕ)) (p : Pump) → p.lines.l
 starts limit before p same none reading = record {
   bytes = [];
   taken = nothing_taken before;
-  reads = [];
+  pieces = [];
   logged = refl;
   found = begins limit p.lines same none;
   left = record {
@@ -182,7 +139,7 @@ pub at_end : {limit : ℕ} {before after : Option (List ℕ)} {old new : Pump} �
 at_end h ended end = record {
   bytes = h.bytes;
   taken = h.taken;
-  reads = h.reads;
+  pieces = h.pieces;
   logged = h.logged;
   found = h.found;
   left = h.left;
@@ -196,7 +153,7 @@ pub not_at_end : {limit : ℕ} {before after : Option (List ℕ)} {old new : Pum
 not_at_end h = record {
   bytes = h.bytes;
   taken = h.taken;
-  reads = h.reads;
+  pieces = h.pieces;
   logged = h.logged;
   found = h.found;
   left = h.left;

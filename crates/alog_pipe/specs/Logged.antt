@@ -1,7 +1,6 @@
 -- What becomes of pieces of lines that are logged, and what says that some are missing.
 use Rattle.std.specs.Prelude.{◌≡◌, ◌≢◌, ◌⊎◌, ◌+◌, ◌-◌, ◌^◌, ◌%◌, ◌≤◌, ◌<◌, ℕ, ℤ, List, ◌++◌, length, None, Some, codes, min}
 use Rattle.std.specs.Fmt.{decimal}
-use Rattle.alog_msg.specs.declared.item.Item.TheVariants.{Flush}
 use Rattle.alog_msg.specs.declared.level.Level.{Level}
 use Rattle.alog_msg.specs.declared.level.Level.TheVariants.{Warning}
 use Rattle.alog_pipe.specs.declared.piece_log.Fate.{Fate}
@@ -9,15 +8,10 @@ use Rattle.alog_pipe.specs.declared.piece_log.Fate.TheVariants as fate
 use Rattle.alog_pipe.specs.declared.piece_log.PieceLog.{PieceLog}
 use Rattle.alog_pipe.specs.declared.piece_log.Told.{Told}
 use Rattle.alog_pipe.specs.declared.piece_log.Told.TheVariants as told
-use Rattle.alog_policy.specs.Outlet.{IsPostedOrSpent}
 use Rattle.alog_policy.specs.SwapPort.{SwapDid}
-use Rattle.alog_policy.specs.declared.policy.Outcome.{Outcome}
 use Rattle.alog_policy.specs.declared.policy.Outcome.TheVariants.{Posted, Discarded}
-use Rattle.alog_policy.specs.declared.policy.Policy.TheVariants as under
-use Rattle.alog_pool.specs.Producer.{ProducerView, IsPortOf, IsSame, Lent}
-use Rattle.alog_registry.specs.BlockPort.{BlockPort}
+use Rattle.alog_pool.specs.Producer.{ProducerView, IsSame, Lent}
 use Rattle.alog_registry.specs.Given.{message_with}
-use Rattle.alog_registry.specs.ItemOutlet.{PostsItem}
 use Rattle.alog_registry.specs.LaneKeeper.{KeepsByTurn, NeverPasses}
 use Rattle.alog_registry.specs.Listed.{spec_at}
 use Rattle.alog_registry.specs.Logging.{Logs}
@@ -118,19 +112,3 @@ pub record LogsPiece (time : ℤ) (text : List ℕ) (old new : PieceLog) : Type 
   pub mid : PieceLog
   pub logged : LogsPieceAt time text old mid new
   pub same : IsSame old.producer new.producer
-
--- A flush of the logger was posted under its policy: where that is to block it waited for room, so that it is in the queue unless no ticket is
--- left; elsewhere there may have been no room for it. Nothing else was posted, and no piece is missing for it.
-pub record Flushes (old new : PieceLog) : Type 0 where
-  pub spec : Spec
-  pub found : spec_at old.producer.shared.loggers old.logger ≡ Some spec
-  pub outcome : Outcome (Unit {0})
-  pub port : BlockPort
-  pub after : BlockPort
-  pub lent : IsPortOf old.producer port
-  pub left : IsPortOf new.producer after
-  pub post : PostsItem SwapDid spec.policy (Flush old.logger) port after outcome
-  pub blocks : spec.policy ≡ under.Block → IsPostedOrSpent outcome
-  pub others : new.producer.backtrace_seats ≡ old.producer.backtrace_seats
-  pub same : IsSame old.producer new.producer
-  pub rest : new ≡ by new.producer old

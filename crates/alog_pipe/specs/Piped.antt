@@ -1,78 +1,44 @@
 -- What a pipe does with what its reader gives.
-use Rattle.std.specs.Prelude.{◌≡◌, ◌⊎◌, ◌<◌, ℕ, zero, suc, ℤ, Bool, true, false, List, [], ◌∷◌, length, Option}
+use Rattle.std.specs.Prelude.{◌≡◌, ◌⊎◌, ℕ, zero, suc, ℤ, Bool, true, List, Option}
 use Rattle.std.specs.Io.KnownBytes.{Consumes, IsAtEnd}
-use Rattle.std.specs.List.{flat_map}
 use Rattle.alog_lines.specs.Cutting.{Cutting, HasCut, IsSame as IsSameCut, LacksPiece, Takes}
 use Rattle.alog_lines.specs.Pieces.{Piece, pieces_of}
 use Rattle.alog_pipe.specs.Counted.{counted}
 use Rattle.alog_pipe.specs.InTurn.{InTurn}
-use Rattle.alog_pipe.specs.Logged.{Flushes, LogsPiece, Tells}
+use Rattle.alog_pipe.specs.Logged.{LogsPiece, Tells}
 use Rattle.alog_pipe.specs.declared.counts.Counts.{Counts}
 use Rattle.alog_pipe.specs.declared.piece_log.PieceLog.{PieceLog}
 use Rattle.alog_pipe.specs.declared.piece_log.Told.TheVariants as told
 use Rattle.alog_pipe.specs.declared.pump.Pump.{Pump}
 use Rattle.alog_pool.specs.Producer.{IsSame}
 
--- the pieces of these groups
-abbrev pub all_of : List (List Piece) → List Piece
-all_of reads = flat_map (λ (ps : List Piece). ps) reads
-
 -- each piece was taken from the front of what was pending
 abbrev pub TakesAll : List Piece → Cutting → Cutting → Type 0
 TakesAll ps old new = InTurn (λ (p : Piece) s t. Takes s t p × IsSameCut s t) ps old new
 
--- each was logged, at one time
-abbrev pub LogsAll : ℤ → List Piece → PieceLog → PieceLog → Type 0
-LogsAll time ps old new = InTurn (λ (p : Piece) s t. LogsPiece time p.text s t) ps old new
+-- each was logged, at some time
+abbrev pub LogsAll : List Piece → PieceLog → PieceLog → Type 0
+LogsAll ps old new = InTurn (λ (p : Piece) s t. (time : ℤ) × LogsPiece time p.text s t) ps old new
 
--- A group of pieces, of which there are some: each was logged at one time, and behind them one flush was posted. Nothing says that it is
--- what one read brought.
-pub record LogsRead (ps : List Piece) (old new : PieceLog) : Type 0 where
-  pub some : 0 < length ps
-  pub time : ℤ
-  pub mid : PieceLog
-  pub logged : LogsAll time ps old mid
-  pub flushed : Flushes mid new
-
--- Where a read brought no piece, nothing was logged and nothing was posted; where it brought some, they are one group.
-abbrev pub LogsBrought : List Piece → PieceLog → PieceLog → Type 0
-LogsBrought [] old new = new ≡ old
-LogsBrought (p ∷ ps) old new = LogsRead (p ∷ ps) old new
-
--- whether there are any
-abbrev pub HasAny : List Piece → Bool → Type 0
-HasAny [] any = any ≡ false
-HasAny (p ∷ ps) any = any ≡ true
-
--- What was pending was logged at this time: no piece is left, and each was counted. It is told whether there was one.
-pub record PumpsAll (time : ℤ) (any : Bool) (old new : Pump) : Type 0 where
-  pub pieces : List Piece
-  pub any_is : HasAny pieces any
-  pub taken : TakesAll pieces old.lines new.lines
-  pub left : LacksPiece new.lines
-  pub logged : LogsAll time pieces old.log new.log
-  pub counted_is : new.counts ≡ counted pieces old.counts
-
--- What was pending was logged: as one group, at some time and with one flush behind it, where it had a piece.
+-- What was pending was logged: no piece is left, and each was counted.
 pub record PumpsRead (old new : Pump) : Type 0 where
   pub pieces : List Piece
   pub taken : TakesAll pieces old.lines new.lines
   pub left : LacksPiece new.lines
-  pub logged : LogsBrought pieces old.log new.log
+  pub logged : LogsAll pieces old.log new.log
   pub counted_is : new.counts ≡ counted pieces old.counts
 
--- The reader gave some bytes. What was logged are their pieces, in their order, each once, in groups of at least one, of which nothing says
--- that each is what one read brought: all of them where the reader is at its end, and else those that were found, with the others still
--- pending. Each was counted.
+-- The reader gave some bytes. What was logged are their pieces, in their order, each once: all of them where the reader is at its end, and
+-- else those that were found, with the others still pending. Each was counted.
 pub record Pumps (limit : ℕ) (before after : Option (List ℕ)) (all : Bool) (old new : Pump) : Type 0 where
   pub bytes : List ℕ
   pub taken : Consumes before after bytes
-  pub reads : List (List Piece)
-  pub logged : InTurn LogsRead reads old.log new.log
-  pub found : HasCut limit bytes (all_of reads) new.lines
+  pub pieces : List Piece
+  pub logged : LogsAll pieces old.log new.log
+  pub found : HasCut limit bytes pieces new.lines
   pub left : LacksPiece new.lines
-  pub end : all ≡ true → IsAtEnd after × (all_of reads ≡ pieces_of limit bytes)
-  pub counted_is : new.counts ≡ counted (all_of reads) old.counts
+  pub end : all ≡ true → IsAtEnd after × (pieces ≡ pieces_of limit bytes)
+  pub counted_is : new.counts ≡ counted pieces old.counts
 
 -- So often some pieces were missing, and there was no room for the line that says how many.
 abbrev pub Naps : ℕ → ℤ → PieceLog → PieceLog → Type 0

@@ -1,6 +1,6 @@
 //! What a pipe logs with.
 ghost use Rattle.std.specs.Prelude.{◌≡◌, ◌≤◌, length};
-ghost use Rattle.alog_pipe.specs.Logged.{Flushes, IsReady, LogsFound, LogsPiece, Tells, below_by, fate_of, missed_by};
+ghost use Rattle.alog_pipe.specs.Logged.{IsReady, LogsFound, LogsPiece, Tells, below_by, fate_of, missed_by};
 ghost use Rattle.alog_pipe.specs.Piped.{Finishes};
 ghost use Rattle.alog_pool.specs.Producer.{IsSame};
 
@@ -65,14 +65,6 @@ impl PieceLog {
             },
             Told::NoRoom | Told::NoMemory => self.miss(),
         }
-    }
-
-    /// Posts a flush of the logger. Under `block` it waits for room; where there is none under another policy, nothing is flushed.
-    pub(crate) fn flush<R: Wait + Clock>(&mut self, rt: &R)
-        requires { IsReady 0 self.old }
-        ensures { Flushes self.old self.new }
-    {
-        let _ = self.producer.flush_wait(rt, self.logger);
     }
 
     /// Waits until the log says what is missing, unless there is no memory to say it.

@@ -1,7 +1,7 @@
 //! A pipe while it runs.
 ghost use Rattle.std.specs.Prelude.{◌≡◌, [], false, is_none};
 ghost use Rattle.alog_pipe.specs.Logged.{IsReady};
-ghost use Rattle.alog_pipe.specs.Piped.{Pumps, PumpsAll, PumpsOut, PumpsRead};
+ghost use Rattle.alog_pipe.specs.Piped.{Pumps, PumpsOut, PumpsRead};
 ghost use Rattle.alog_pool.specs.Producer.{IsSame};
 
 use crate::counts::Counts;
@@ -48,33 +48,18 @@ impl Pump {
         unreachable!()
     }
 
-    /// Logs what a read brought, at the time that it is, and posts a flush where it brought a piece.
+    /// Logs each piece of what a read brought, at the time that it is.
     fn log_read<R: Wait + Clock>(&mut self, rt: &R, alloc: Global)
         requires { IsReady self.old.lines.limit self.old.log }
         ensures pumps { PumpsRead self.old self.new }
         ensures same { IsSame self.old.log.producer self.new.log.producer }
     {
-        let time = time_of(rt).unwrap_or(self.time);
-        self.time = time;
-        if self.log_pending(rt, alloc, time) {
-            self.log.flush(rt);
-        }
-    }
-
-    /// Logs each piece of what was read, at this time, and answers whether there was one.
-    fn log_pending<R: Wait + Clock>(&mut self, rt: &R, alloc: Global, time: i64) -> bool
-        requires { IsReady self.old.lines.limit self.old.log }
-        ensures pumps { PumpsAll time result self.old self.new }
-        ensures same { IsSame self.old.log.producer self.new.log.producer }
-    {
-        let mut any = false;
+        self.time = time_of(rt).unwrap_or(self.time);
         while let Some(cut) = self.lines.next() {
             let text = self.lines.text();
             self.counts.see(cut, text);
-            self.log.log(rt, alloc, time, text);
-            any = true;
+            self.log.log(rt, alloc, self.time, text);
         }
-        any
     }
 }
 

@@ -7,9 +7,8 @@ use Rattle.alog_core.specs.Queue.{Event}
 use Rattle.alog_lines.specs.Pieces.{Piece}
 use Rattle.alog_msg.specs.declared.item.Item.{Item}
 use Rattle.alog_msg.specs.declared.level.Level.{Level}
-use Rattle.alog_pipe.specs.InTurn.{InTurn}
-use Rattle.alog_pipe.specs.Logged.{Flushes, LogsPieceAt, LogsText}
-use Rattle.alog_pipe.specs.Piped.{Finishes, LogsAll, LogsRead, Naps}
+use Rattle.alog_pipe.specs.Logged.{LogsPieceAt, LogsText}
+use Rattle.alog_pipe.specs.Piped.{Finishes, LogsAll, Naps}
 use Rattle.alog_policy.specs.Post.{Round, PushBeaten, Overran, PopBeaten, Waited, IsRoundUnder, events_of_round, events_of_rounds}
 use Rattle.alog_policy.specs.Post.{End, Wrote, OutOfTickets, NoRoom, NothingToTake, AllGrabbed, OutOfRounds, events_of_end, IsPost}
 use Rattle.alog_policy.specs.SwapPort.{AreBy, SwapMade, SwapDid}
@@ -179,23 +178,10 @@ module _ (spec : Spec) (never : spec.policy ≢ OverrunOldest) where
       spares_on old mid new (untold_spares time old mid untold)
       (spares_same mid new (ap (λ (l : PieceLog). l.producer) is) (ap (λ (l : PieceLog). l.logger) is))
 
-  pieces_spare : (time : ℤ) (ps : List Piece) (old new : PieceLog) → LogsAll time ps old new → Spares old new
-  pieces_spare time [] old new same = spares_equal old new same
-  pieces_spare time (p ∷ ps) old new all =
-      spares_on old all.0 new (piece_spares time p.text old all.1.mid all.0 all.1.logged) (pieces_spare time ps all.0 new all.2)
-
-  flush_spares : (old new : PieceLog) → Flushes old new → Spares old new
-  flush_spares old new f is =
-      let here : f.spec ≡ spec = same_spec old f.spec f.found is in (
-        stays_with old new f.same.shared (ap (λ (l : PieceLog). l.logger) f.rest) is,
-        post_takes (subst (λ (s : Spec). s.policy ≢ OverrunOldest) (sym here) never) f.lent f.left f.post,
-      )
-
-  pub reads_spare : (reads : List (List Piece)) (old new : PieceLog) → InTurn LogsRead reads old new → Spares old new
-  reads_spare [] old new same = spares_equal old new same
-  reads_spare (ps ∷ reads) old new all =
-      spares_on old all.1.mid new (pieces_spare all.1.time ps old all.1.mid all.1.logged)
-      (spares_on all.1.mid all.0 new (flush_spares all.1.mid all.0 all.1.flushed) (reads_spare reads all.0 new all.2))
+  pub pieces_spare : (ps : List Piece) (old new : PieceLog) → LogsAll ps old new → Spares old new
+  pieces_spare [] old new same = spares_equal old new same
+  pieces_spare (p ∷ ps) old new all =
+      spares_on old all.0 new (piece_spares all.1.0 p.text old all.1.1.mid all.0 all.1.1.logged) (pieces_spare ps all.0 new all.2)
 
   -- the end
   naps_spare : (n : ℕ) (time : ℤ) (old new : PieceLog) → Naps n time old new → Spares old new

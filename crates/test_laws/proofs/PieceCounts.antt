@@ -1,9 +1,8 @@
 -- How many pieces of a pipe are missing, and how many were below the level: both are counted up, and nothing counts them down.
-use Rattle.std.proofs.Common.{◌≡◌, ◌⊎◌, ◌<◌, ◌≤◌, ◌+◌, ◌%◌, ◌^◌, ℕ, ℤ, List, [], ◌∷◌, length, length-append, ap, ◌∙◌, inl, inr, mod-eq_of_lt, arith}
+use Rattle.std.proofs.Common.{◌≡◌, ◌⊎◌, ◌<◌, ◌≤◌, ◌+◌, ◌%◌, ◌^◌, ℕ, ℤ, List, [], ◌∷◌, length, ap, ◌∙◌, inl, inr, mod-eq_of_lt, arith}
 use Rattle.alog_lines.specs.Pieces.{Piece}
-use Rattle.alog_pipe.specs.InTurn.{InTurn}
 use Rattle.alog_pipe.specs.Logged.{HasNoRoom, LogsPieceAt, TellsHole, by, told_by}
-use Rattle.alog_pipe.specs.Piped.{LogsAll, LogsRead, all_of}
+use Rattle.alog_pipe.specs.Piped.{LogsAll}
 
 -- What a pipe logs with. Its crate has no name for others to call this type by: it is the one that `by` takes.
 abbrev second_of : {A B C : Type 0} → (A → B → C) → Type 0
@@ -106,30 +105,9 @@ up_on m up more less = record {
   below = (omega (arith, up.below.0, more.below.0), omega (arith, up.below.1, more.below.1, less));
 }
 
-pub pieces_count : (time : ℤ) (ps : List Piece) (old new : PieceLog) → LogsAll time ps old new → HasRoom (length ps) old
-    → CountsUp (length ps) old new
-pieces_count time [] old new same room = same_counts 0 old new (equal_counts same)
-pieces_count time (p ∷ ps) old new all room =
-    let first = piece_counts time p.text old all.1.mid all.0 all.1.logged (less_room 1 room (omega arith)) in
-    let rest = pieces_count time ps all.0 new all.2 (room_behind (length ps) room first (omega arith)) in
+pub pieces_count : (ps : List Piece) (old new : PieceLog) → LogsAll ps old new → HasRoom (length ps) old → CountsUp (length ps) old new
+pieces_count [] old new same room = same_counts 0 old new (equal_counts same)
+pieces_count (p ∷ ps) old new all room =
+    let first = piece_counts all.1.0 p.text old all.1.1.mid all.0 all.1.1.logged (less_room 1 room (omega arith)) in
+    let rest = pieces_count ps all.0 new all.2 (room_behind (length ps) room first (omega arith)) in
     up_on (length (p ∷ ps)) first rest (omega arith)
-
-pub group_long : (ps : List Piece) (reads : List (List Piece)) → length (all_of (ps ∷ reads)) ≡ length ps + length (all_of reads)
-group_long ps reads = length-append ps (all_of reads)
-
-pub group_counts : {ps : List Piece} {old new : PieceLog} → LogsRead ps old new → HasRoom (length ps) old
-    → CountsUp (length ps) old new
-group_counts {ps} {old} {new} r room =
-    let up = pieces_count r.time ps old r.mid r.logged room in
-    let missing : new.missing ≡ r.mid.missing = ap (λ (l : PieceLog). l.missing) r.flushed.rest in
-    let below : new.below ≡ r.mid.below = ap (λ (l : PieceLog). l.below) r.flushed.rest in
-    up_on (length ps) up (same_counts 0 r.mid new (missing, below)) (omega arith)
-
-pub reads_count : (reads : List (List Piece)) (old new : PieceLog) → InTurn LogsRead reads old new → HasRoom (length (all_of reads)) old
-    → CountsUp (length (all_of reads)) old new
-reads_count [] old new same room = same_counts 0 old new (equal_counts same)
-reads_count (ps ∷ reads) old new all room =
-    let long = group_long ps reads in
-    let first = group_counts all.1 (less_room (length ps) room (omega (arith, long))) in
-    let rest = reads_count reads all.0 new all.2 (room_behind (length (all_of reads)) room first (omega (arith, long))) in
-    up_on (length (all_of (ps ∷ reads))) first rest (omega (arith, long))

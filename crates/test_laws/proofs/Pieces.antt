@@ -6,13 +6,12 @@ use Rattle.alog_config.specs.Built.{EachIs}
 use Rattle.alog_core.specs.Accounts.{claims}
 use Rattle.alog_lines.specs.Pieces.{Piece}
 use Rattle.alog_msg.specs.declared.item.Item.{Item}
-use Rattle.alog_msg.specs.declared.item.Item.TheVariants.{Flush, Text}
+use Rattle.alog_msg.specs.declared.item.Item.TheVariants.{Text}
 use Rattle.alog_msg.specs.declared.level.Level.{Level}
 use Rattle.alog_msg.specs.declared.level.Level.TheVariants.{Warning}
 use Rattle.alog_msg.specs.declared.message.Message.{Message}
-use Rattle.alog_pipe.specs.InTurn.{InTurn}
-use Rattle.alog_pipe.specs.Logged.{Flushes, HasNoRoom, LogsPieceAt, LogsText, PostsPiece, hole_text}
-use Rattle.alog_pipe.specs.Piped.{Finishes, LogsAll, LogsRead, Naps, all_of}
+use Rattle.alog_pipe.specs.Logged.{HasNoRoom, LogsPieceAt, LogsText, PostsPiece, hole_text}
+use Rattle.alog_pipe.specs.Piped.{Finishes, LogsAll, Naps}
 use Rattle.alog_policy.specs.declared.policy.Outcome.{Outcome}
 use Rattle.alog_policy.specs.declared.policy.Outcome.TheVariants.{Posted, Discarded}
 use Rattle.alog_pool.specs.OneWorker.{texts_in}
@@ -24,7 +23,7 @@ use Rattle.test_laws.specs.PipedLines.{IsOf}
 use Rattle.test_laws.proofs.Claims.{Given}
 use Rattle.test_laws.proofs.Dues.{IsFor, texts_more}
 use Rattle.test_laws.proofs.PieceCounts.{CountsUp, HasRoom, LacksMemory, PieceLog, SameCounts, TellsAll}
-use Rattle.test_laws.proofs.PieceCounts.{equal_counts, group_counts, group_long, less_room, piece_counts, pieces_count, reads_count, room_behind, told_counts}
+use Rattle.test_laws.proofs.PieceCounts.{equal_counts, less_room, piece_counts, pieces_count, room_behind, told_counts}
 use Rattle.test_laws.proofs.Posts.{post_claims, put_of}
 
 -- what the producer put in so far
@@ -84,7 +83,7 @@ module _ (logger : ℕ) (level : Level) where
       let missing = up.missing.0 in
       let below = up.below.0 in (omega (arith, missing, clean.0), omega (arith, below, clean.1))
 
-  -- for each of these pieces one text was put in, in order, beside flushes of the logger
+  -- for each of these pieces one text of the logger was put in, in order
   pub record Goes (ps : List Piece) (old new : PieceLog) : Type 0 where
     pub stands : Stands new
     pub puts : List Given
@@ -150,56 +149,15 @@ module _ (logger : ℕ) (level : Level) where
   piece_goes time p old mid new st same clean (inr (inl h, is)) = absurd (omega (arith, h.0, st.hole_is))
   piece_goes time p old mid new st same clean (inr (inr h, is)) = absurd (omega (arith, h.0, st.hole_is))
 
-  pieces_go : (time : ℤ) (ps : List Piece) (old new : PieceLog) → LogsAll time ps old new → Stands old → IsClean new → length ps < 2 ^ 64
-      → Goes ps old new
-  pieces_go time [] old new same st clean few = goes_none st same
-  pieces_go time (p ∷ ps) old new all st clean few =
-      let room = room_of (length (p ∷ ps)) st few in
-      let first = piece_counts time p.text old all.1.mid all.0 all.1.logged (less_room 1 room (omega arith)) in
-      let rest = pieces_count time ps all.0 new all.2 (room_behind (length ps) room first (omega arith)) in
-      let goes = piece_goes time p old all.1.mid all.0 st all.1.same (clean_before rest clean) all.1.logged in
-      goes_on {ps = p ∷ []} {qs = ps} goes (pieces_go time ps all.0 new all.2 goes.stands clean (omega (arith, few)))
-
-  flush_texts : (k : ℕ) (o : Outcome (Unit {0})) → texts_in (put_of (Flush k) o) ≡ []
-  flush_texts k (Posted t n) = refl
-  flush_texts k (Discarded v why n) = refl
-
-  flush_own : (k : ℕ) (o : Outcome (Unit {0})) → k ≡ logger → AllByRecursion (λ (i : Given). IsFor logger i.1) (put_of (Flush k) o)
-  flush_own k (Posted t n) is = (is, tt)
-  flush_own k (Discarded v why n) is = tt
-
-  flush_goes : {old new : PieceLog} → Stands old → Flushes old new → Goes [] old new
-  flush_goes {old} {new} st f = record {
-    stands = record {
-      logger_is = ap (λ (l : PieceLog). l.logger) f.rest ∙ st.logger_is;
-      level_is = ap (λ (l : PieceLog). l.level) f.rest ∙ st.level_is;
-      number_is = f.same.number ∙ st.number_is;
-      hole_is = ap (λ (l : PieceLog). l.hole) f.rest ∙ st.hole_is;
-      missing_is = ap (λ (l : PieceLog). l.missing) f.rest ∙ st.missing_is;
-      below_is = ap (λ (l : PieceLog). l.below) f.rest ∙ st.below_is;
-    };
-    puts = put_of (Flush old.logger) f.outcome;
-    puts_are = post_claims f.lent f.left f.post;
-    texts = subst (λ (ms : List Message). EachIs (IsOf logger level) [] ms) (sym (flush_texts old.logger f.outcome)) tt;
-    own = flush_own old.logger f.outcome st.logger_is;
-  }
-
   -- all that was read, where nothing is missing or below the level in the end
-  pub reads_go : (reads : List (List Piece)) (old new : PieceLog) → InTurn LogsRead reads old new → Stands old → IsClean new
-      → length (all_of reads) < 2 ^ 64 → Goes (all_of reads) old new
-  reads_go [] old new same st clean few = goes_none st same
-  reads_go (ps ∷ reads) old new all st clean few =
-      let long = group_long ps reads in
-      let room = room_of (length (all_of (ps ∷ reads))) st few in
-      let first = group_counts all.1 (less_room (length ps) room (omega (arith, long))) in
-      let rest = reads_count reads all.0 new all.2 (room_behind (length (all_of reads)) room first (omega (arith, long))) in
-      let here = clean_before rest clean in
-      let missing : all.0.missing ≡ all.1.mid.missing = ap (λ (l : PieceLog). l.missing) all.1.flushed.rest in
-      let below : all.0.below ≡ all.1.mid.below = ap (λ (l : PieceLog). l.below) all.1.flushed.rest in
-      let pieces = pieces_go all.1.time ps old all.1.mid all.1.logged st (sym missing ∙ here.0, sym below ∙ here.1) (omega (arith, few, long)) in
-      let flushed = flush_goes pieces.stands all.1.flushed in
-      goes_on {ps = ps} {qs = all_of reads} pieces
-      (goes_on {ps = []} {qs = all_of reads} flushed (reads_go reads all.0 new all.2 flushed.stands clean (omega (arith, few, long))))
+  pub pieces_go : (ps : List Piece) (old new : PieceLog) → LogsAll ps old new → Stands old → IsClean new → length ps < 2 ^ 64 → Goes ps old new
+  pieces_go [] old new same st clean few = goes_none st same
+  pieces_go (p ∷ ps) old new all st clean few =
+      let room = room_of (length (p ∷ ps)) st few in
+      let first = piece_counts all.1.0 p.text old all.1.1.mid all.0 all.1.1.logged (less_room 1 room (omega arith)) in
+      let rest = pieces_count ps all.0 new all.2 (room_behind (length ps) room first (omega arith)) in
+      let goes = piece_goes all.1.0 p old all.1.1.mid all.0 st all.1.1.same (clean_before rest clean) all.1.1.logged in
+      goes_on {ps = p ∷ []} {qs = ps} goes (pieces_go ps all.0 new all.2 goes.stands clean (omega (arith, few)))
 
 -- What stays while the end waits for room, and what its last line leaves.
 naps_same : (n : ℕ) (time : ℤ) (old new : PieceLog) → Naps n time old new

@@ -12,7 +12,6 @@ use Rattle.alog_lines.specs.Laws.{ShortLinesAreWhole}
 use Rattle.alog_lines.specs.Pieces.{Piece, pieces_of}
 use Rattle.alog_msg.specs.declared.item.Item.{Item}
 use Rattle.alog_msg.specs.declared.level.Level.{Level}
-use Rattle.alog_pipe.specs.Piped.{all_of}
 use Rattle.alog_pipe.specs.Pipes.{Pipes}
 use Rattle.alog_pipe.specs.declared.piping.Piped.{Piped}
 use Rattle.alog_policy.specs.declared.policy.Policy.{Policy}
@@ -33,10 +32,10 @@ use Rattle.test_laws.proofs.Claims.{Given}
 use Rattle.test_laws.proofs.Dues.{IsFor}
 use Rattle.test_laws.proofs.Held.{EndsAlone, Held, texts_held}
 use Rattle.test_laws.proofs.Opening.{Fills, at_map, stands_over}
-use Rattle.test_laws.proofs.Overruns.{IsWith, finish_spares, reads_spare, takes_by_now}
+use Rattle.test_laws.proofs.Overruns.{IsWith, finish_spares, pieces_spare, takes_by_now}
 use Rattle.test_laws.proofs.PieceCounts.{PieceLog}
 use Rattle.test_laws.proofs.Texts.{copied}
-use Rattle.test_laws.proofs.Pieces.{Goes, Stands, finish_same, puts_by, reads_go}
+use Rattle.test_laws.proofs.Pieces.{Goes, Stands, finish_same, pieces_go, puts_by}
 
 -- what is so under the policy that overruns the oldest, and under each other one
 by_policy : {P : Type 0} (q : Policy) → (q ≡ OverrunOldest → P) → (q ≢ OverrunOldest → P) → P
@@ -46,8 +45,8 @@ by_policy DiscardNew over other = other (λ e. absurd (cc e))
 
 module _ {S : Type 0} (tells : Bool) (files : S → Files) (failures : S → ℕ) {c : Config} {stores : List S} {logger : ℕ} {level : Level}
     {before after : Option (List ℕ)} {p : Piped S} (h : Pipes tells files failures c stores logger level before after p) where
-  abbrev reads : List (List Piece)
-  reads = h.through.pumps.pumps.reads
+  abbrev pieces : List Piece
+  pieces = h.through.pumps.pumps.pieces
 
   begins : Stands logger level h.through.pumps.start.log
   begins = subst (λ (l : PieceLog). Stands logger level l) (sym h.through.pumps.log_is) (record {
@@ -79,7 +78,7 @@ module _ {S : Type 0} (tells : Bool) (files : S → Files) (failures : S → ℕ
         let none : takes_by_now h.through.pumps.start.log ≡ [] =
         ap (λ (l : PieceLog). takes_by_now l) h.through.pumps.log_is
         ∙ ap (λ (own : List (Entry Item block_note)). takes own) h.through.makes.entries.0 in
-        let read = reads_spare spec never reads h.through.pumps.start.log h.through.pumps.last.log h.through.pumps.pumps.logged start in
+        let read = pieces_spare spec never pieces h.through.pumps.start.log h.through.pumps.last.log h.through.pumps.pumps.logged start in
         let ended = finish_spares spec never h.through.pumps.finished read.0 in
         ended.1 ∙ read.1 ∙ none
 
@@ -91,12 +90,12 @@ module _ {S : Type 0} (tells : Bool) (files : S → Files) (failures : S → ℕ
 
   module _ {n : ℕ} {bytes : List ℕ} (f : FlowsTo tells files failures n bytes h) where
     -- the pieces that were logged are those of all bytes
-    pieces_are : all_of reads ≡ pieces_of c.text bytes
+    pieces_are : pieces ≡ pieces_of c.text bytes
     pieces_are =
         let pumps = h.through.pumps.pumps in
         let end = pumps.end f.whole in
-        subst (λ (o : Option (List ℕ)). IfSome o (λ (given : List ℕ). all_of reads ≡ pieces_of c.text given)) f.had
-        (Consumes-whole before after pumps.bytes (λ (given : List ℕ). all_of reads ≡ pieces_of c.text given) pumps.taken end.0 end.1)
+        subst (λ (o : Option (List ℕ)). IfSome o (λ (given : List ℕ). pieces ≡ pieces_of c.text given)) f.had
+        (Consumes-whole before after pumps.bytes (λ (given : List ℕ). pieces ≡ pieces_of c.text given) pumps.taken end.0 end.1)
 
     none_missing : (h.through.pumps.last.log.missing ≡ 0) × (h.through.pumps.last.log.below ≡ 0)
     none_missing =
@@ -107,7 +106,7 @@ module _ {S : Type 0} (tells : Bool) (files : S → Files) (failures : S → ℕ
     goes =
         let few = subst (λ (ps : List Piece). length ps < 2 ^ 64) (sym pieces_are) f.few in
         subst (λ (ps : List Piece). Goes logger level ps h.through.pumps.start.log h.through.pumps.last.log) pieces_are
-        (reads_go logger level reads h.through.pumps.start.log h.through.pumps.last.log h.through.pumps.pumps.logged begins none_missing few)
+        (pieces_go logger level pieces h.through.pumps.start.log h.through.pumps.last.log h.through.pumps.pumps.logged begins none_missing few)
 
     puts_are : puts_by h.through.log ≡ goes.puts
     puts_are = (finish_same h.through.pumps.finished).1 goes.stands.hole_is ∙ goes.puts_are ∙ ap (λ (is : List Given). is ++ goes.puts) put_nothing

@@ -1,41 +1,35 @@
-use Rattle.std.proofs.Common.{arith, subst}
-use Rattle.alog_pipe.proofs.Logging.{ready_on, same_on}
-use Rattle.alog_pipe.proofs.Pumping.{brought_none, brought_some, logs_logger}
-use Rattle.alog_pipe.specs.Piped.{HasAny}
+use Rattle.std.proofs.Common.{◌≡◌, [], ◌∷◌, ◌++◌, ℕ, List, length, sym, ap, subst, ◌∙◌, arith}
+use Rattle.alog_lines.specs.Cutting.{piece_of}
+use Rattle.alog_pipe.specs.Counted.{with_piece}
+use Rattle.alog_pipe.specs.Logged.{LogsPiece}
+use Rattle.alog_pipe.specs.declared.counts.Counts.{Counts}
+use Rattle.alog_pipe.proofs.Logging.{piece_logger, ready_on, same_on}
+use Rattle.alog_pipe.proofs.Pumping.{counted_more, one_more, takes_same}
 use Rattle.alog_pipe.proofs.pump.Pump.log_read.Goals as goal
 
-pub flush-requires : goal.flush-requires
-flush-requires g c =
-    let h = c.log_pending.ensures.pumps in
-    let old = c.args.self.now.log in
-    let new = c.log_pending.new.self.log in
-    let ready = ready_on old new c.requires (logs_logger _ h.pieces old new h.logged) c.log_pending.ensures.same in
-    (ready.0, omega arith)
+pub log-requires : goal.log-requires
+log-requires g c =
+    let i = c.loop-cut.invariant in
+    let limit = (takes_same i.pieces _ _ i.taken).0 in
+    let ready = ready_on c.args.self.now.log c.loop-cut.self.log c.requires i.logger i.same in
+    let fits = c.in-Some.ensures.found.fits in
+    let size = ap length c.text-text.ensures in
+    (ready.0, omega (arith, ready.1, limit, fits, size))
 
-pub returns-then-log_pending : goal.returns-then-log_pending
-returns-then-log_pending g c =
-    let h = c.log_pending.ensures.pumps in
+pub loop-cut-preserved : goal.loop-cut-preserved
+loop-cut-preserved g c =
+    let i = c.loop-cut.invariant in
+    let cut = c.in-Some.cut in
+    let p = piece_of c.next.new.self cut in
+    let text : c.text-text.result.now ≡ p.text = c.text-text.ensures in
     record {
-      pumps = record {
-        pieces = h.pieces;
-        taken = h.taken;
-        left = h.left;
-        logged = brought_some _ h.pieces _ _ _ (subst (HasAny h.pieces) c.if-log_pending.true h.any_is) h.logged c.flush.ensures;
-        counted_is = h.counted_is;
-      };
-      same = same_on c.log_pending.ensures.same c.flush.ensures.same;
-    }
-
-pub returns-else-log_pending : goal.returns-else-log_pending
-returns-else-log_pending g c =
-    let h = c.log_pending.ensures.pumps in
-    record {
-      pumps = record {
-        pieces = h.pieces;
-        taken = h.taken;
-        left = h.left;
-        logged = brought_none _ h.pieces _ _ (subst (HasAny h.pieces) c.if-log_pending.false h.any_is) h.logged;
-        counted_is = h.counted_is;
-      };
-      same = c.log_pending.ensures.same;
+      pieces = i.pieces ++ p ∷ [];
+      taken = one_more _ i.pieces p _ _ _ i.taken (c.in-Some.ensures.found, c.in-Some.ensures.same);
+      logged = one_more _ i.pieces p _ _ _ i.logged
+          (_, subst (λ (t : List ℕ). LogsPiece _ t c.loop-cut.self.log c.log.new.self) text c.log.ensures);
+      counted_is = c.see.ensures
+          ∙ ap (λ (t : List ℕ). with_piece c.loop-cut.self.counts (record { text = t; mended = cut.mended; ends = cut.ends })) text
+          ∙ ap (λ (n : Counts). with_piece n p) i.counted_is ∙ sym (counted_more i.pieces p c.args.self.now.counts);
+      logger = piece_logger c.log.ensures.logged ∙ i.logger;
+      same = same_on i.same c.log.ensures.same;
     }
