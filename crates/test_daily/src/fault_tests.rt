@@ -279,37 +279,53 @@ impl Store for Flushes {
     }
 }
 
-// This many flushes of that file were made, and this many other calls.
-fn has_made(rt: &impl Abort, sink: &Sink<Flushes>, flushed: u64, others: u64) {
+// How many flushes of a file were made, and how many other calls.
+type Made = (u64, u64);
+
+fn has_made(rt: &impl Abort, sink: &Sink<Flushes>, wanted: Made) {
     let made = sink.store().map(|store| (store.flushed, store.others));
-    assert!(rt; made == Some((flushed, others)), "{made:?}");
+    assert!(rt; made == Some(wanted), "{made:?}");
 }
 
 // A sink flushes nothing before its first line. Then it writes to the files of two days.
-fn flushes_none(rt: &(impl Abort + AllocGlobal), sink: &mut Sink<Flushes>) {
+fn writes_two_days(rt: &(impl Abort + AllocGlobal), sink: &mut Sink<Flushes>, made: Made) {
     flushes(rt, sink, Ok(()));
-    has_made(rt, sink, 0, 0);
+    has_made(rt, sink, (0, 0));
     writes(rt, sink, START, "a");
     writes(rt, sink, START + DAY, "b");
     writes(rt, sink, START, "c");
-    has_made(rt, sink, 0, 3);
+    has_made(rt, sink, made);
 }
 
-// It flushes the file of the later day then.
-fn flushes_current(rt: &(impl Abort + AllocGlobal), mut sink: Sink<Flushes>) {
-    flushes_none(rt, &mut sink);
+// And then it is flushed.
+fn flushes_current(
+    rt: &(impl Abort + AllocGlobal),
+    mut sink: Sink<Flushes>,
+    before: Made,
+    after: Made,
+) {
+    writes_two_days(rt, &mut sink, before);
     flushes(rt, &mut sink, Ok(()));
-    has_made(rt, &sink, 1, 3);
+    has_made(rt, &sink, after);
 }
+
+// Of each day's file what was made before the sink is flushed, and then: the first one is flushed when the next day begins, the current
+// one by the flush.
+const OF_TWO_DAYS: [(&str, Made, Made); 2] = [
+    ("day_2024-02-28.log", (1, 3), (1, 4)),
+    ("day_2024-02-29.log", (0, 4), (1, 4)),
+];
 
 #[test]
 fn flushes_of_the_current_file(rt: HostRuntime) -> Result<(), Fail> {
-    let store = Flushes {
-        name: "day_2024-02-29.log",
-        flushed: 0,
-        others: 0,
-    };
-    flushes_current(&rt, opened(rt.alloc(), store, PLAIN)?);
+    for (name, before, after) in &OF_TWO_DAYS {
+        let store = Flushes {
+            name: *name,
+            flushed: 0,
+            others: 0,
+        };
+        flushes_current(&rt, opened(rt.alloc(), store, PLAIN)?, *before, *after);
+    }
     Ok(())
 }
 
