@@ -1,4 +1,4 @@
-use Rattle.std.proofs.Common.{◌≡◌, ◌-◌, ◌^◌, ◌+◌, min, false, rules, refl, sym, subst, ◌∙◌, ap}
+use Rattle.std.proofs.Common.{◌-◌, ◌^◌, ◌+◌, min, false, rules, refl, sym, subst, ◌∙◌, ap}
 use Rattle.std.specs.Arc.{arc_value}
 use Rattle.alog_lane.specs.Calls.{LaneId, TakesTurn}
 use Rattle.alog_sink.specs.Sinks.{Turns}
