@@ -115,7 +115,7 @@ module _ (S : RattleType) (g : Ghosts S.Denot) where
 
   sink_seat_inside_send : IsSend S → IsSend (SinkSeatInside.the_row S g)
   sink_seat_inside_send s = recorded_send (SinkSeatInside.the_field S g).row _ _ (SinkSeatInside.the_type S g).to_one (struct_send
-      (shape (SinkSeatInside.the_type S g)) (sink_lane_send s, (sink_lane_seat_send s, (search sendable, (search sendable, tt)))))
+      (shape (SinkSeatInside.the_type S g)) (sink_lane_send s, (sink_lane_seat_send s, (search sendable, (search sendable, (search sendable, tt))))))
 
   pub sink_seat_send : IsSend S → IsSend (SinkSeat.the_row S g)
   sink_seat_send s = view_send _ _ _ _ _ (sink_seat_inside_send s)

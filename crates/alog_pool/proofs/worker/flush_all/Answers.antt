@@ -1,9 +1,8 @@
-use Rattle.std.proofs.Common.{◌≡◌, ◌≢◌, ◌<◌, ◌≤◌, ℕ, zero, suc, ◌+◌, false, List, [], ◌∷◌, map, set, take, length, refl, sym, subst, ap, ◌∙◌, arith}
+use Rattle.std.proofs.Common.{◌≡◌, ◌<◌, ℕ, suc, ◌+◌, false, List, [], map, set, take, length, refl, sym, subst, ap, ◌∙◌, arith}
 use Rattle.std.proofs.Math.Seq.{map-set_same}
 use Rattle.std.proofs.lemmas.List.{length-map}
-use Rattle.std.specs.Prelude.{slice_index_or}
 use Rattle.alog_pool.specs.Deeds.{HasMade}
-use Rattle.alog_pool.specs.SinkSeat.{AreFlushed, Place, SinkSeatView, is_unflushed, place_of}
+use Rattle.alog_pool.specs.SinkSeat.{AreFlushed, SinkSeatView, is_unflushed, place_of}
 use Rattle.alog_pool.proofs.Deeds.{have_none, own_more}
 use Rattle.alog_pool.proofs.Flushed.{all_flushed, flushed_at, more_flushed, same_set}
 use Rattle.alog_pool.proofs.worker.flush_all.Goals as goal

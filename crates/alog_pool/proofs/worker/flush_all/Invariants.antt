@@ -1,4 +1,4 @@
-use Rattle.std.specs.Prelude.{◌≡◌, ◌≤◌, false, [], take, length}
+use Rattle.std.specs.Prelude.{◌≡◌, [], take, length}
 use Rattle.alog_pattern.specs.declared.patterns.TheConstants.{LINE_MAX}
 use Rattle.alog_pool.specs.Deeds.{HaveMade}
 use Rattle.alog_pool.specs.SinkSeat.{AreFlushed, places_of}

@@ -1,4 +1,4 @@
-use Rattle.std.proofs.Common.{◌≡◌, ◌-◌, ◌^◌, ◌+◌, min, false, rules, refl, sym, subst, ◌∙◌, ap}
+use Rattle.std.proofs.Common.{◌-◌, ◌^◌, ◌+◌, min, false, rules, refl, sym, subst, ◌∙◌, ap}
 use Rattle.std.specs.Arc.{arc_value}
 use Rattle.alog_lane.specs.Calls.{LaneId, TakesTurn}
 use Rattle.alog_sink.specs.Sinks.{Turns}
@@ -14,7 +14,7 @@ invariant_of-self g c =
     let made = c.turn-reply.ensures.turn.made.own in
     let more = ap (λ h. unflushed_after false h) made ∙ unflushed-more false i.seat.known.own _ in
     let owes = c.is_unflushed-self-inside.ensures
-        ∙ ap (λ b. unflushed_by b c.args.item.now c.turn-reply.result.1) c.self.invariant.2 ∙ sym more in
+    ∙ ap (λ b. unflushed_by b c.args.item.now c.turn-reply.result.1) c.self.invariant.2 ∙ sym more in
     search (rules, owes)
 
 pub returns-clause-serves : goal.returns-clause-serves

@@ -27,8 +27,8 @@ take_waiting-requires-clause-block g c =
 pub take_waiting-requires-clause-line : goal.take_waiting-requires-clause-line
 take_waiting-requires-clause-line g c = c.requires.1.line
 
-pub flush_all-requires-clause-line : goal.flush_all-requires-clause-line
-flush_all-requires-clause-line g c = c.take_waiting.ensures.line
+pub flush_all-requires : goal.flush_all-requires
+flush_all-requires g c = record { line = c.take_waiting.ensures.line }
 
 pub note-requires-clause-room : goal.note-requires-clause-room
 note-requires-clause-room g c =
@@ -66,7 +66,7 @@ returns-in_default g c = λ start at_work turned.
         turns = have_own start.sink_seats.items c.args.self.now.sink_seats.items c.take_waiting.new.sink_seats.items
             (all_dues (arc_value start.shared).loggers turned.gots) turned.turns c.take_waiting.ensures.turns;
       };
-      flushed = c.take_waiting.ensures.flushed refl;
+      flushed = c.in_default.ensures.flushed refl;
       places = c.take_waiting.ensures.places ∙ at_work.places;
     }
 
