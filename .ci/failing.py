@@ -7,7 +7,7 @@ status 3, the two lines of its refusal and a front of what it prints otherwise; 
 one line that names it; where standard error cannot be written, with its status. Whatever is short or interrupted changes nothing. In a
 load or a pipe to a folder what fails must be told, by status 3 and lines of their forms, and the files have a front of the lines, in their
 order; a pipe's input is read in part, and a pipe that ends early tells what it read. A pipe that tries again has all lines, and says so.
-Where a removal fails, and the rename behind it, too, nothing is told: what the one was to remove stays, and the lines are whole.
+Two calls fail in a row, too: a removal or a rename, and the rename behind it, by which a rename is undone.
 Needs a C compiler, `cc`.
 """
 import collections
@@ -29,9 +29,9 @@ NONE, SHORT = 0, -1
 WAYS = {"read": [errno.EIO, errno.EINTR, SHORT], "write": [errno.EIO, errno.EPIPE, NONE, errno.EINTR, SHORT]}
 FILE_WAYS = {"read": WAYS["read"], "write": [errno.EIO, errno.ENOSPC, NONE, errno.EINTR, SHORT]}
 FILE_WAYS.update({it: [errno.EIO, errno.EACCES] for it in ("open", "rename", "unlink", "statx")})
-# a call that fails and, behind it, the next one of another kind
-PAIR = "unlink, rename"
-FILE_WAYS[PAIR] = [errno.EIO]
+# a call that fails, and the next one of a kind behind it
+PAIRS = ["unlink, rename", "rename, rename"]
+FILE_WAYS.update({it: [errno.EIO] for it in PAIRS})
 # of what has more bytes only each so many-th is tried
 MOST_BYTES, STRIDE = 8_192, 16
 
@@ -154,9 +154,9 @@ def left_in(folder, kept):
 
 
 def is_tidy(kind, others):
-    """Whether nothing is in a folder but its files and, behind a removal that failed, what it was to remove."""
+    """Whether nothing is in a folder but its files and, behind a removal or two calls that failed, what a rename had set aside."""
     is_probe = kind == "unlink" and others == [".probe.replaced"]
-    return not others or is_probe or kind == PAIR and len(others) == 1 and ASIDE.fullmatch(others[0])
+    return not others or is_probe or kind in PAIRS and len(others) == 1 and ASIDE.fullmatch(others[0])
 
 
 def folder_outcome(ran, kind, how, descriptor, left):
