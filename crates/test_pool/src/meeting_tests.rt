@@ -20,7 +20,7 @@ use std::time::Clock;
 // How often a store looks whether the other one was called.
 const LOOKS: u32 = 1_000_000;
 
-// Takes lines, and counts those that it is to get, and all other calls. A line of one that waits is taken when the other one was
+// Takes lines, and counts those that it is to get, flushes, and all other calls. A line of one that waits is taken when the other one was
 // called, or after so many looks.
 #[derive(Drop)]
 struct Meeting {
@@ -29,6 +29,7 @@ struct Meeting {
     line: &'static [u8],
     looks: u32,
     lines: u32,
+    flushes: u32,
     others: u32,
 }
 
@@ -83,7 +84,7 @@ impl Store for Meeting {
     }
 
     fn flush(&mut self, _name: &str) -> Result<(), StoreError> {
-        self.note(b"");
+        self.flushes = self.flushes.saturating_add(1);
         Ok(())
     }
 }
@@ -107,6 +108,7 @@ fn store(called: Arc<AtomicBool>, waits: bool, line: &'static [u8]) -> Meeting {
         line,
         looks: 0,
         lines: 0,
+        flushes: 0,
         others: 0,
     }
 }
@@ -140,12 +142,13 @@ fn reported<R: Abort + Threads + Wait + Clock + Clone + Drop + Send + 'static>(
     trial.end(rt)
 }
 
-// The store of this sink got its line and no other call, and did not wait in vain.
+// The store of this sink got its line, one flush of the worker that wrote it, and no other call, and did not wait in vain.
 fn has_met(rt: &impl Abort, report: &Report<Meeting>, sink: usize) {
     let Some(store) = report.sinks.get(sink).and_then(|sink| sink.store()) else {
         panic!(rt; "no such sink")
     };
-    assert!(rt; (store.lines, store.others) == (1, 0) && store.looks < LOOKS);
+    assert!(rt; (store.lines, store.flushes, store.others) == (1, 1, 0));
+    assert!(rt; store.looks < LOOKS);
 }
 
 // While one worker is in the store of its sink, another writes to another sink: no lock is round both.
