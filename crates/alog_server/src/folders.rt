@@ -18,13 +18,10 @@ pub(crate) const LOCK_FILE: &str = ".alog.lock";
 
 /// What holds a folder and opens its stores, both of which may go to other threads.
 pub trait Folders {
-    ghost use Rattle.std.specs.Prelude.{◌≡◌, IfOk};
+    ghost use Rattle.std.specs.Prelude.{IfOk};
     ghost use Rattle.alog_server.specs.Stores.{IsNew};
 
     type Folder: Store + Drop + Send + 'static;
-
-    /// How often a failed call of a store is tried again.
-    ghost patience: { Self.Folder → Patience };
 
     /// What holds a folder until it is dropped, or its process ends.
     type Lock: Drop + Send + 'static;
@@ -36,8 +33,7 @@ pub trait Folders {
         path: &str,
         patience: Patience,
     ) -> Result<Self::Folder, AllocError>
-        ensures fresh { IfOk result (λ s. IsNew Self.Folder.tells Self.Folder.files Self.Folder.failures s) }
-        ensures patience { IfOk result (λ s. Self.patience s ≡ patience) };
+        ensures { IfOk result (λ s. IsNew Self.Folder.tells Self.Folder.files Self.Folder.failures s) };
 
     /// Holds the folder with this path, by a lock on its file `.alog.lock`, which is made where it is absent, and stays. An error of
     /// the kind `WouldBlock` says that another holds it: a process, or a server of this one.
@@ -62,8 +58,6 @@ where
     R::File: Send + 'static,
 {
     type Folder = PatientStore<FolderStore<R>, R>;
-
-    ghost patience = { λ s. s.patience };
 
     type Lock = R::File;
 
@@ -109,7 +103,6 @@ pub fn folder_stores<R: Folders>(
 ) -> Result<Vec<R::Folder>, AllocError>
     ensures many { IfOk result (λ v. length v.items ≡ count) }
     ensures fresh { IfOk result (λ v. All (IsNew R.Folder.tells R.Folder.files R.Folder.failures) v.items) }
-    ensures patience { IfOk result (λ v. All (λ s. R.patience s ≡ patience) v.items) }
 {
     let mut stores = Vec::with_capacity(alloc, count)?;
     for _number in 0..count {
