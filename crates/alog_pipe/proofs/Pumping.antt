@@ -1,5 +1,5 @@
 -- Pieces that are found and logged one after the other.
-use Rattle.std.proofs.Common.{◌≡◌, ℕ, true, false, List, [], ◌∷◌, ◌++◌, length, Option, None, Some, refl, sym, ap, subst, ◌∙◌, arith, append_assoc}
+use Rattle.std.proofs.Common.{◌≡◌, ℕ, ℤ, true, false, List, [], ◌∷◌, ◌++◌, length, Option, None, Some, refl, sym, ap, subst, ◌∙◌, arith, append_assoc}
 use Rattle.std.specs.Io.KnownBytes.{Consumes, IsAtEnd}
 use Rattle.std.proofs.lemmas.List.{append-nil}
 use Rattle.alog_lines.proofs.SharedCutting.{begins, ends_whole, reads_on, takes_on}
@@ -9,6 +9,7 @@ use Rattle.alog_lines.specs.Pieces.{Piece}
 use Rattle.alog_pipe.specs.Counted.{counted, with_piece}
 use Rattle.alog_pipe.specs.InTurn.{InTurn}
 use Rattle.alog_pipe.proofs.Logging.{piece_logger}
+use Rattle.alog_pipe.specs.Logged.{LogsPiece}
 use Rattle.alog_pipe.specs.Piped.{LogsAll, Pumps, PumpsRead, TakesAll}
 use Rattle.alog_pipe.specs.declared.counts.Counts.{Counts}
 use Rattle.alog_pipe.specs.declared.piece_log.PieceLog.{PieceLog}
@@ -19,6 +20,10 @@ pub one_more : {A S : Type 0} (step : A → S → S → Type 0) (xs : List A) (x
     → InTurn step (xs ++ x ∷ []) s t
 one_more {A} {S} step [] x s m t all last = (t, subst (λ (o : S). step x o t) all last, refl)
 one_more step (y ∷ xs) x s m t all last = (all.0, all.1, one_more step xs x all.0 m t all.2 last)
+
+-- a piece that was logged at some time
+pub timed : {time : ℤ} {s t : List ℕ} {old new : PieceLog} → s ≡ t → LogsPiece time s old new → (at : ℤ) × LogsPiece at t old new
+timed {time} {old} {new} same l = (time, subst (λ (x : List ℕ). LogsPiece time x old new) same l)
 
 pub counted_more : (ps : List Piece) (p : Piece) (c : Counts) → counted (ps ++ p ∷ []) c ≡ with_piece (counted ps c) p
 counted_more [] p c = refl
