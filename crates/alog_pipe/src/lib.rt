@@ -2,10 +2,10 @@
 //!
 //! `pipe` builds what a configuration names (`alog_server::setup_of`), starts a pool of it, and makes one producer, with which the thread
 //! of its caller logs each piece of each line (`alog_lines`) that the reader gives: at the time of the read that brought its end, to one
-//! logger, at one level. Behind the pieces of a read that brought some it posts a flush. When the reader is at its end, or failed, the pool
-//! is ended.
+//! logger, at one level. The pool's workers flush what they wrote when they find nothing to do. When the reader is at its end, or failed, the
+//! pool is ended.
 //!
-//! Under `block` a piece and a flush wait for room. Under the other policies none does; a piece that is refused is counted, and before the
+//! Under `block` a piece waits for room. Under the other policies none does; a piece that is refused is counted, and before the
 //! next one is posted a line at level warning says how many are missing there. What `overrun_oldest` took out of the queue is in the report
 //! alone.
 //!

@@ -1,5 +1,5 @@
 //! What a pipe logs with.
-ghost use Rattle.std.specs.Prelude.{◌≡◌, ◌≤◌, length};
+ghost use Rattle.std.specs.Prelude.{◌≡◌, length};
 ghost use Rattle.alog_pipe.specs.Logged.{IsReady, LogsFound, LogsPiece, Tells, below_by, fate_of, missed_by};
 ghost use Rattle.alog_pipe.specs.Piped.{Finishes};
 ghost use Rattle.alog_pool.specs.Producer.{IsSame};

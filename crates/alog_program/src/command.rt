@@ -304,17 +304,17 @@ const PIPE_HELP: &str = "Log each line of standard input, up to its end.
 CONFIG is a configuration, of which `alog check --help` has the keys. Each line is logged to the logger, at the
 level and at the time of the read that brought its end; the last line may lack its newline. What is not UTF-8
 becomes U+FFFD, and a line that is longer than the text limit goes in pieces, cut before a character that does
-not fit. Behind what each read brought a flush is posted, which writes its lines to the files.
+not fit. Lines are in the files as soon as nothing is left to write.
 
-Under the policy block a line and a flush wait for room in the queue. Under the others none waits: where a flush
-is refused, its lines are in the files with the next one; where lines are refused, the log has a line at level
-warning in their place, before the next line that it takes or at the end: `N lines are missing here`. Of what
-overrun_oldest takes out of the queue it says nothing.
+Under the policy block a line waits for room in the queue. Under the others none waits: where lines are refused,
+the log has a line at level warning in their place, before the next line that it takes or at the end:
+`N lines are missing here`. Of what overrun_oldest takes out of the queue it says nothing.
 
 The files of the sinks are files of the folder DIR, which has to be there, and is held by one pipe, load or
 server at a time; lines are written behind what a file has. A call on a file that fails, as where the disk is
-full, is tried again, without end or as often as the key `retry` says; standard error says so. To let a service
-end, close its output: with `trap '' INT TERM` before it a pipe goes on to the end of its input.
+full, is tried again, without end or as often as the key `retry` says, and standard error says so; a name that
+the system refuses is not. To let a service end, close its output: with `trap '' INT TERM` before it a pipe goes
+on to the end of its input.
 
 At the end it prints, on standard error:
 
@@ -324,8 +324,8 @@ At the end it prints, on standard error:
   cut N                         cuts of lines that were too long
   missing N                     lines or pieces that were refused, or had no memory for a copy
 
-and behind them the five totals that `alog load --help` has. Here they count flushes, and the lines that say
-what is missing, too. A line below the logger's level counts in the first four numbers alone.
+and behind them the five totals that `alog load --help` has. Here they count the lines that say what is missing,
+too. A line below the logger's level counts in the first four numbers alone.
 
 Exit status: 0 all was read, no store failed and the files were flushed, whatever the policy lost, 1 a wrong
 command line or a logger that is not there, 2 a refused configuration, 3 a file that cannot be read, a folder
