@@ -58,7 +58,7 @@ for line in LINES.splitlines(keepends=True):
     FULL_FILES += [b""] * (len(FULL_FILES[-1] + line) > 30)
     FULL_FILES[-1] += line
 LAST_LINES = b"".join(FULL_FILES[-3:])
-# what a pipe of these lines says where it reads them all, and what of any front: a flush is posted behind the pieces of a read
+# what a pipe of these lines says where it reads them all, and what of any front
 PIPED = re.compile(rb"lines 40\nbytes %d\nmended 0\ncut 0\nmissing 0\nasked (\d+)\nposted \1\ndiscarded 0\noverrun 0\nhandled \1\n" % (len(LINES) - 40))
 PIPED_FRONT = re.compile(rb"lines \d+\nbytes \d+\nmended 0\ncut 0\nmissing 0\nasked (\d+)\nposted \1\ndiscarded 0\noverrun 0\nhandled \1\n")
 NO_INPUT = re.compile(rb"alog: standard input cannot be read: " + WHY)
