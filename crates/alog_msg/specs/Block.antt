@@ -29,6 +29,10 @@ abbrev pub room_in : {A : Type 0} → Option (String A) → ℕ
 room_in None = 0
 room_in (Some room) = string_capacity room
 
+-- where a limit lets long texts through, there is a room for the shortest of them
+abbrev pub IsSmallRoom : {A : Type 0} → ℕ → Option (String A) → Type 0
+IsSmallRoom limit room = SHORT_TEXT_MAX < limit → SMALL_ROOM ≤ room_in room
+
 -- while a text of this length lies in the room that it needs, the other rooms that texts up to the limit may need are here
 pub record HasRooms (lent : ℕ) (spare : Spare) : Type 0 where
   pub small : SHORT_TEXT_MAX < spare.limit → (lent ≤ SHORT_TEXT_MAX) ⊎ (SMALL_ROOM < lent) → SMALL_ROOM ≤ room_in spare.small

@@ -2,10 +2,10 @@ ghost use Rattle.std.specs.Prelude.{◌≡◌, ◌≤◌, ◌<◌, ◌↔◌, If
 
 use crate::item::Item;
 use crate::level::Level;
-use crate::limits::{FILE_MAX, FUNCTION_MAX, SHORT_TEXT_MAX, TEXT_LIMIT_MAX, TEXT_LIMIT_MIN};
+use crate::limits::{SHORT_TEXT_MAX, TEXT_LIMIT_MAX, TEXT_LIMIT_MIN};
 use crate::message::Message;
-use crate::source::SourceRef;
-use crate::spare::Spare;
+use crate::source::{SourceRef, has_long_field};
+use crate::spare::{Spare, small_room, small_rooms};
 use std::alloc::{AllocError, Global};
 use std::marker::Model;
 use std::mem::{self, size_of};
@@ -55,6 +55,8 @@ impl Model for Block {
 }
 
 impl Block {
+    ghost use Rattle.std.specs.List.{AllByRecursion};
+    ghost use Rattle.alog_msg.specs.Block.{IsSmallRoom};
     ghost use Rattle.alog_msg.specs.Message.{source_of, HasLongField};
 
     /// Takes memory for a text, a file and a function at their limits. A text limit is 64 to 8,192 bytes. The item is `Stop`.
@@ -62,7 +64,35 @@ impl Block {
         requires { (TEXT_LIMIT_MIN ≤ limit) × (limit ≤ TEXT_LIMIT_MAX) }
         ensures { IfOk result (λ b. b ≡ record { limit = limit; item = Item.Stop }) }
     {
-        let spare = Spare::new(alloc, limit)?;
+        let room = small_room(alloc, limit)?;
+        Block::in_room(alloc, limit, room)
+    }
+
+    /// Makes so many blocks, each as `new` does, for a queue that goes through them in this order.
+    ///
+    /// Their rooms for texts of up to 256 bytes are taken before all else of them, one after another, so that who writes block
+    /// after block finds them near each other.
+    ///
+    /// The test `blocks_made_together` shows it.
+    pub fn many(alloc: Global, count: usize, limit: usize) -> Result<Vec<Block>, AllocError>
+        requires { (TEXT_LIMIT_MIN ≤ limit) × (limit ≤ TEXT_LIMIT_MAX) }
+        ensures each { IfOk result (λ v. AllByRecursion (λ b. b ≡ record { limit = limit; item = Item.Stop }) v.items) }
+        ensures count { IfOk result (λ v. length v.items ≡ count) }
+    {
+        let mut blocks = Vec::with_capacity(alloc, count)?;
+        for room in small_rooms(alloc, count, limit)? {
+            blocks.push_reserved(Block::in_room(alloc, limit, room)?);
+        }
+        Ok(blocks)
+    }
+
+    /// A block with this small room.
+    fn in_room(alloc: Global, limit: usize, room: Option<String>) -> Result<Block, AllocError>
+        requires limit { (TEXT_LIMIT_MIN ≤ limit) × (limit ≤ TEXT_LIMIT_MAX) }
+        requires room { IsSmallRoom limit room }
+        ensures { IfOk result (λ b. b ≡ record { limit = limit; item = Item.Stop }) }
+    {
+        let spare = Spare::new(alloc, limit, room)?;
         Ok(Block {
             item: Item::Stop,
             spare: Box::new(alloc, spare)?,
@@ -111,7 +141,42 @@ impl Block {
             ((length text.now ≤ self.old.limit) × HasLongField source.entry) }
         ensures err { OnErr result (self.new ≡ self.old) }
     {
-        self.check(text, source)?;
+        if text.len() > SHORT_TEXT_MAX && text.len() > self.spare.limit {
+            return Err(WriteError::TextTooLong);
+        }
+        if has_long_field(source) {
+            return Err(WriteError::FieldTooLong);
+        }
+        self.write_within(logger, level, time, thread, text, source);
+        Ok(())
+    }
+
+    /// Writes what `write` writes, where text and source are known not to be too long. It takes no memory.
+    ///
+    /// It does not look at the limit, which lies beside the block.
+    pub fn write_within(
+        &mut self,
+        logger: u32,
+        level: Level,
+        time: i64,
+        thread: u64,
+        text: &str,
+        source: Option<SourceRef<'_>>,
+    )
+        requires text { length text.now ≤ self.old.limit }
+        requires source { ¬ (HasLongField source) }
+        ensures { self.new ≡ record {
+          limit = self.old.limit;
+          item = Item.Text (record {
+            logger = logger;
+            level = level;
+            time = time;
+            thread = thread;
+            text = text.now;
+            source = source_of source.entry;
+          });
+        } }
+    {
         match &mut self.item {
             Item::Text(message) => {
                 message.logger = logger;
@@ -132,24 +197,6 @@ impl Block {
                 });
             }
         }
-        Ok(())
-    }
-
-    /// Refuses what is too long for this block. To a short text the limit, which lies elsewhere, does not matter.
-    fn check(&self, text: &str, source: Option<SourceRef<'_>>) -> Result<(), WriteError>
-        ensures text_too_long { IsErrOf result WriteError.TextTooLong ↔ (self.now.limit < length text.now) }
-        ensures field_too_long { IsErrOf result WriteError.FieldTooLong ↔
-            ((length text.now ≤ self.now.limit) × HasLongField source.entry) }
-    {
-        if text.len() > SHORT_TEXT_MAX && text.len() > self.spare.limit {
-            return Err(WriteError::TextTooLong);
-        }
-        if let Some(source) = source
-            && (source.file.len() > FILE_MAX || source.function.len() > FUNCTION_MAX)
-        {
-            return Err(WriteError::FieldTooLong);
-        }
-        Ok(())
     }
 
     /// Writes that the sinks of the logger of this number are to be flushed. It takes no memory.

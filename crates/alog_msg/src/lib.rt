@@ -28,5 +28,5 @@ pub use limits::{
     TEXT_LIMIT_MIN,
 };
 pub use message::{Message, MessageError};
-pub use source::{Source, SourceRef};
+pub use source::{Source, SourceRef, has_long_field};
 pub use text::Text;

@@ -23,7 +23,7 @@ pub const SHORT_TEXT_MAX: usize = 64;
 
 /// The least room in which memory is taken for a longer text: a text takes the first of these three rooms that has as many
 /// bytes as it, so that what is known of its length tells how much room there is where it lies.
-pub(crate) const SMALL_ROOM: usize = 512;
+pub(crate) const SMALL_ROOM: usize = 256;
 
 /// The room for longer texts than those, up to the default limit.
 pub(crate) const MIDDLE_ROOM: usize = 2_048;

@@ -2,8 +2,8 @@ ghost use Rattle.std.specs.Prelude.{◌≡◌, ◌↔◌, ◌<◌, ◌≤◌, If
 ghost use Rattle.alog_msg.specs.declared.message.MessageError.TheVariants.{OutOfMemory};
 
 use crate::level::Level;
-use crate::limits::{FILE_MAX, FUNCTION_MAX, TEXT_LIMIT_MAX, TEXT_LIMIT_MIN};
-use crate::source::{Source, SourceRef};
+use crate::limits::{TEXT_LIMIT_MAX, TEXT_LIMIT_MIN};
+use crate::source::{Source, SourceRef, has_long_field};
 use crate::text::Text;
 use std::alloc::{AllocError, Global};
 use thiserror::Error;
@@ -87,9 +87,7 @@ impl Message {
         if text.len() > text_limit {
             return Err(MessageError::TextTooLong);
         }
-        if let Some(source) = source
-            && (source.file.len() > FILE_MAX || source.function.len() > FUNCTION_MAX)
-        {
+        if has_long_field(source) {
             return Err(MessageError::FieldTooLong);
         }
         let source = match source {

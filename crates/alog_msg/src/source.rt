@@ -1,4 +1,5 @@
-ghost use Rattle.std.specs.Prelude.{◌≡◌, ◌≤◌, IfOk, length};
+ghost use Rattle.std.specs.Prelude.{◌≡◌, ◌≤◌, ◌↔◌, IfOk, IsTrue, length};
+ghost use Rattle.alog_msg.specs.Message.{HasLongField};
 
 use crate::limits::{FILE_MAX, FUNCTION_MAX};
 use arrayvec::ArrayString;
@@ -11,6 +12,18 @@ pub struct SourceRef<'a> {
     pub file: &'a str,
     pub line: u32,
     pub function: &'a str,
+}
+
+/// A source is lent that is too long for a message: its file has more than 256 bytes, or its function more than 128.
+///
+/// The tests `source_at_its_limits` and `sources_of_a_block_at_their_limits` show it.
+pub fn has_long_field(source: Option<SourceRef<'_>>) -> bool
+    ensures { IsTrue result ↔ HasLongField source.entry }
+{
+    match source {
+        Some(source) => source.file.len() > FILE_MAX || source.function.len() > FUNCTION_MAX,
+        None => false,
+    }
 }
 
 /// The place in a program that a message comes from: a file of at most 256 bytes, a line, and a function of at

@@ -1,6 +1,7 @@
 ghost use Rattle.std.specs.Prelude.{◌≡◌, ◌<◌, ◌≤◌, ◌⊎◌, ℕ, IfOk, IsSome, length};
+ghost use Rattle.std.specs.List.{AllByRecursion};
 ghost use Rattle.alog_msg.specs.Message.{fields_of, source_of, HasLongField};
-ghost use Rattle.alog_msg.specs.Block.{room_in, HasRooms};
+ghost use Rattle.alog_msg.specs.Block.{room_in, HasRooms, IsSmallRoom};
 
 use crate::limits::{
     FILE_MAX, FUNCTION_MAX, LARGE_ROOM, MIDDLE_ROOM, SHORT_TEXT_MAX, SMALL_ROOM, TEXT_LIMIT_MAX,
@@ -37,16 +38,40 @@ fn new_room(
     Ok(Some(String::with_capacity(alloc, room)?))
 }
 
+/// The room for the shortest of the long texts, where a limit lets long ones through.
+pub(crate) fn small_room(alloc: Global, limit: usize) -> Result<Option<String>, AllocError>
+    ensures { IfOk result (IsSmallRoom limit) }
+{
+    new_room(alloc, limit, SHORT_TEXT_MAX, SMALL_ROOM)
+}
+
+/// So many such rooms, taken one after another.
+pub(crate) fn small_rooms(
+    alloc: Global,
+    count: usize,
+    limit: usize,
+) -> Result<Vec<Option<String>>, AllocError>
+    ensures each { IfOk result (λ v. AllByRecursion (IsSmallRoom limit) v.items) }
+    ensures count { IfOk result (λ v. length v.items ≡ count) }
+{
+    let mut rooms = Vec::with_capacity(alloc, count)?;
+    for _made in 0..count {
+        rooms.push_reserved(small_room(alloc, limit)?);
+    }
+    Ok(rooms)
+}
+
 impl Spare {
-    /// Takes memory for all texts of at most so many bytes, and for a source.
-    pub fn new(alloc: Global, limit: usize) -> Result<Spare, AllocError>
+    /// Takes memory for all texts of at most so many bytes, but for those of the small room, which is given, and for a source.
+    pub fn new(alloc: Global, limit: usize, small: Option<String>) -> Result<Spare, AllocError>
+        requires { IsSmallRoom limit small }
         ensures limit { IfOk result (λ s. s.limit ≡ limit) }
         ensures rooms { IfOk result (HasRooms 0) }
         ensures source { IfOk result (λ s. IsSome s.source) }
     {
         Ok(Spare {
             limit,
-            small: new_room(alloc, limit, SHORT_TEXT_MAX, SMALL_ROOM)?,
+            small,
             middle: new_room(alloc, limit, SMALL_ROOM, MIDDLE_ROOM)?,
             large: new_room(alloc, limit, MIDDLE_ROOM, LARGE_ROOM)?,
             source: Some(Source::blank(alloc)?),

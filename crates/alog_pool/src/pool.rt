@@ -203,11 +203,7 @@ fn blocks_of(alloc: Global, count: usize, text_limit: usize) -> Result<Vec<Block
     ensures each { IfOk result (λ v. AllByRecursion (HoldsTo (record { most = text_limit })) v.items) }
     ensures count { IfOk result (λ v. length v.items ≡ count) }
 {
-    let mut blocks = Vec::with_capacity(alloc, count)?;
-    for _made in 0..count {
-        blocks.push_reserved(Block::new(alloc, text_limit)?);
-    }
-    Ok(blocks)
+    Block::many(alloc, count, text_limit)
 }
 
 /// The blocks of a producer.

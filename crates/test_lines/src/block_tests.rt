@@ -136,7 +136,7 @@ fn items_of_a_block(rt: HostRuntime) {
 }
 
 /// The lengths at which a text lies elsewhere, and those beside them.
-const LENGTHS: [usize; 8] = [1, 64, 65, 512, 513, 2_048, 2_049, 8_192];
+const LENGTHS: [usize; 8] = [1, 64, 65, 256, 257, 2_048, 2_049, 8_192];
 
 /// Writes and checks a text with each source and without, after which another text follows.
 fn each_source(rt: &impl Abort, block: &mut Block, logger: u8, text: &str, following: &str) {
@@ -193,7 +193,7 @@ fn keeps_to_its_limit(rt: &impl Abort, block: &mut Block, text: &str, long: &str
     }
 }
 
-const LIMITS: [usize; 7] = [64, 65, 512, 513, 2_048, 2_049, 8_192];
+const LIMITS: [usize; 7] = [64, 65, 256, 257, 2_048, 2_049, 8_192];
 
 #[test]
 fn blocks_at_their_limit(rt: HostRuntime) {
@@ -202,6 +202,35 @@ fn blocks_at_their_limit(rt: HostRuntime) {
         let long = letters(&rt, limit + 1);
         let mut block = block(&rt, limit);
         keeps_to_its_limit(&rt, &mut block, text.as_str(), long.as_str());
+    }
+}
+
+/// Three blocks with this limit, made together.
+fn three(rt: &(impl Abort + AllocGlobal), limit: usize) -> Vec<Block>
+    requires { (64 ≤ limit) × (limit ≤ 8_192) }
+{
+    match Block::many(rt.alloc(), 3, limit) {
+        Ok(blocks) => blocks,
+        Err(_) => panic!(rt; "out of memory"),
+    }
+}
+
+/// Each of the blocks holds a stop, and is one in which three messages of a text are written, and a longer one is refused.
+fn keep_to_their_limit(rt: &impl Abort, blocks: &mut [Block], text: &str, long: &str) {
+    for block in blocks {
+        assert!(rt; matches!(block.item(), Item::Stop));
+        keeps_to_its_limit(rt, block, text, long);
+    }
+}
+
+#[test]
+fn blocks_made_together(rt: HostRuntime) {
+    for limit in LIMITS {
+        let text = letters(&rt, limit);
+        let long = letters(&rt, limit + 1);
+        let mut blocks = three(&rt, limit);
+        assert!(rt; blocks.len() == 3);
+        keep_to_their_limit(&rt, &mut blocks, text.as_str(), long.as_str());
     }
 }
 
