@@ -1,12 +1,14 @@
 -- What a post on a swap ring leaves.
-use Rattle.std.proofs.Common.{arith, ◌≡◌, ◌⊎◌, ◌<◌, ◌+◌, ℕ, Option, List, inl, inr, sym, ap, subst, ◌∙◌, zero-add}
+use Rattle.std.proofs.Common.{arith, ◌≡◌, ◌⊎◌, ◌<◌, ◌+◌, ℕ, Option, None, Some, List, inl, inr, sym, ap, subst, ◌∙◌, zero-add}
+use Rattle.std.specs.Prelude.{IsSome, MatchOption}
 use Rattle.alog_core.specs.Queue.{Event}
-use Rattle.alog_policy.specs.Outlet.{Posts}
+use Rattle.alog_policy.specs.Outlet.{Posts, left_in}
 use Rattle.alog_policy.specs.Post.{writes_in, events_of_rounds, events_of_end, outcome_of, takes_in, IsPost}
 use Rattle.alog_policy.specs.Post.{End, Wrote, OutOfTickets, NoRoom, NothingToTake, AllGrabbed, OutOfRounds}
 use Rattle.alog_policy.specs.SwapPort.{IsThere, HandDid, HandLeft, SwapPortDid}
 use Rattle.alog_policy.specs.declared.policy.Policy.{Policy}
 use Rattle.alog_policy.specs.declared.policy.Outcome.{Outcome}
+use Rattle.alog_policy.specs.declared.policy.Outcome.TheVariants.{Posted, Discarded}
 use Rattle.alog_policy.specs.declared.swap_port.SwapPort.{SwapPort}
 use Rattle.alog_policy.proofs.Posts.{writes_in-append, rounds_write_nothing}
 
@@ -48,3 +50,14 @@ module _ {B T W L V : Type 0} (admits : L → B → Type 0) (p : Policy) (x : T)
   -- what a post leaves in the hand
   pub hand_left : HandLeft (admits a.ring.now.ring.limit) a.hand.now o b.hand.now
   hand_left = post_leaves (admits a.ring.now.ring.limit) a.hand.now b.hand.now p x v post.events o post.post post.done.1
+
+-- what was taken out of a hand for a post, and put back where it was not posted
+pub left_with : {B : Type 0} (admits : B → Type 0) (o : Outcome (Unit {0})) (old kept between now new : Option B) → IsSome old
+    → kept ≡ left_in o old → MatchOption kept (new ≡ now) (λ b. new ≡ Some b) → HandLeft admits between o now
+    → HandLeft admits old o new
+left_with admits (Posted t k) old kept between now new there left comes done =
+    let M : Option _ → Type 0 = λ h. MatchOption h (new ≡ now) (λ b. new ≡ Some b) in
+    subst (λ h. IsThere admits h) (sym (subst M left comes)) done
+left_with admits (Discarded u w k) None kept between now new there left comes done = absurd (cc)
+left_with admits (Discarded u w k) (Some y) kept between now new there left comes done =
+    let M : Option _ → Type 0 = λ h. MatchOption h (new ≡ now) (λ b. new ≡ Some b) in subst M left comes

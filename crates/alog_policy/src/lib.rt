@@ -11,7 +11,8 @@
 //! `specs/Desk.antt` for the desk, and `specs/Runs.antt` for what is true of whole runs; then `policy.rt`, `progress.rt`,
 //! `outlet.rt` and `posting.rt` (`post_now`), `desk.rt` with `following.rt` (what follows in a post after a step of it),
 //! and `desk_outlet.rt` with `rounds.rt` (rounds whose steps are made at once); `port.rt` with `specs/Port.antt`,
-//! `swap_port.rt` with `specs/SwapPort.antt`, and `waiting.rt` (`post_wait`) with `room_wait.rt` (how it waits).
+//! `swap_port.rt` with `specs/SwapPort.antt`, `waiting.rt` (`post_wait`) with `room_wait.rt` (how it waits), and `hand.rt`
+//! (`post_hand` and `post_hand_now`, which post the block in a port's hand).
 //!
 //! Of the loss book contracts see one history of adds, each with its seat; what `counts` and `close` answer are sums of
 //! such histories. Read `specs/BookAdds.antt` and `specs/BookCalls.antt`, then `loss_book.rt` (a book, adds and counts),
@@ -28,6 +29,7 @@ mod counts;
 mod desk;
 mod desk_outlet;
 mod following;
+mod hand;
 pub mod laws;
 mod loss_book;
 mod outlet;
@@ -47,6 +49,7 @@ pub use book_seat::BookSeat;
 pub use counts::Counts;
 pub use desk::Desk;
 pub use desk_outlet::DeskOutlet;
+pub use hand::{post_hand, post_hand_now};
 pub use loss_book::LossBook;
 pub use outlet::{Outlet, RoomyOutlet};
 pub use policy::{Outcome, Policy, Why};

@@ -1,11 +1,12 @@
 //! A port on a ring of blocks: its messages are written into the block in its hand, so that a post takes no memory.
-ghost use Rattle.std.specs.Prelude.{◌≡◌, ◌≤◌, None, Some, MatchOption, length};
+ghost use Rattle.std.specs.Prelude.{◌≡◌, ◌≤◌, length};
+ghost use Rattle.alog_policy.specs.Outlet.{left_in};
 
 use crate::given::MessageRef;
 use crate::item_outlet::{ItemOutlet, WaitingItemOutlet};
 use crate::limit::TextLimit;
-use alog_msg::{Block, Item, Message, MessageError, Source, WriteError};
-use alog_policy::{Outcome, Policy, SwapPort, post_from, post_now};
+use alog_msg::{Block, Item, Message, MessageError, Source, has_long_field};
+use alog_policy::{Outcome, Policy, SwapPort, post_hand, post_hand_now};
 use alog_ring::Shows;
 use std::alloc::Global;
 use std::sync::Wait;
@@ -56,21 +57,21 @@ impl ItemOutlet for SwapPort<'_, Block, Item, Contents, TextLimit> {
         if given.text.len() > text_limit {
             return Err(MessageError::TextTooLong);
         }
+        if has_long_field(given.source) {
+            return Err(MessageError::FieldTooLong);
+        }
         let Some(block) = self.hand.as_mut() else {
             unreachable!()
         };
-        match block.write(
+        block.write_within(
             given.logger,
             given.level,
             given.time,
             given.thread,
             given.text,
             given.source,
-        ) {
-            Ok(()) => Ok(InHand),
-            Err(WriteError::TextTooLong) => Err(MessageError::TextTooLong),
-            Err(WriteError::FieldTooLong) => Err(MessageError::FieldTooLong),
-        }
+        );
+        Ok(InHand)
     }
 
     fn message(&mut self, message: Message) -> InHand {
@@ -90,24 +91,7 @@ impl ItemOutlet for SwapPort<'_, Block, Item, Contents, TextLimit> {
     }
 
     fn post_now(&mut self, policy: Policy, _value: InHand) -> Outcome<()> {
-        let Some(block) = self.hand.take() else {
-            unreachable!()
-        };
-        match post_now(self, policy, block) {
-            Outcome::Posted { ticket, overran } => Outcome::Posted { ticket, overran },
-            Outcome::Discarded {
-                value,
-                why,
-                overran,
-            } => {
-                put(self.hand, value);
-                Outcome::Discarded {
-                    value: (),
-                    why,
-                    overran,
-                }
-            }
-        }
+        post_hand_now(self, policy)
     }
 
     ghost together = { did_both };
@@ -122,27 +106,18 @@ impl WaitingItemOutlet for SwapPort<'_, Block, Item, Contents, TextLimit> {
         policy: Policy,
         hand: &mut Option<InHand>,
     ) -> Outcome<()> {
-        let mut block = self.hand.take();
-        let outcome = post_from(rt, self, policy, &mut block);
-        settle(self.hand, hand, block);
+        let outcome = post_hand(rt, self, policy);
+        take_posted(&outcome, hand);
         outcome
     }
 }
 
-/// Puts a block into a hand.
-fn put(hand: &mut Option<Block>, block: Block)
-    ensures { hand.new ≡ Some block }
+/// Leaves in the hand what was discarded, and nothing where it was posted.
+fn take_posted(outcome: &Outcome<()>, hand: &mut Option<InHand>)
+    ensures { hand.new ≡ left_in outcome.now hand.old }
 {
-    *hand = Some(block);
-}
-
-/// Puts a block that was not posted back into the port's hand; or empties the hand that told of it.
-fn settle(home: &mut Option<Block>, hand: &mut Option<InHand>, block: Option<Block>)
-    ensures { MatchOption block ((home.new ≡ home.old) × (hand.new ≡ None)) (λ b. (home.new ≡ Some b) × (hand.new ≡ hand.old)) }
-{
-    match block {
-        Some(block) => put(home, block),
-        None => *hand = None,
+    if let Outcome::Posted { .. } = outcome {
+        *hand = None;
     }
 }
 
@@ -151,7 +126,7 @@ fn copy_into(block: &mut Block, message: &Message)
     requires { length message.now.text ≤ block.old.limit }
     ensures { block.new ≡ record { limit = block.old.limit; item = Item.Text message.now } }
 {
-    let written = block.write(
+    block.write_within(
         message.logger,
         message.level,
         message.time,
@@ -159,7 +134,4 @@ fn copy_into(block: &mut Block, message: &Message)
         message.text.as_str(),
         message.source.as_ref().map(Source::lend),
     );
-    if written.is_err() {
-        unreachable!()
-    }
 }

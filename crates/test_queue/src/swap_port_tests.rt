@@ -5,7 +5,10 @@ ghost use Rattle.alog_policy.specs.BookCalls.{IsSeatOf};
 use crate::port_tests::{has_lost, new_book};
 use crate::swap_ring_tests::{leaves, list, swap_ring_of};
 use alog_core::TICKET_END;
-use alog_policy::{BookSeat, LossBook, Outcome, Policy, SwapPort, Why, post_now, post_wait};
+use alog_policy::{
+    BookSeat, LossBook, Outcome, Policy, SwapPort, Why, post_hand, post_hand_now, post_now,
+    post_wait,
+};
 use alog_ring::{SwapPass, SwapRing};
 use std::alloc::Global;
 use std::process::Abort;
@@ -122,6 +125,103 @@ fn a_swap_port_posts(rt: HostRuntime) {
     posts(&rt, rt.alloc(), 0, &ROWS, (2, 1), left);
 }
 
+/// How a post of what lies in the hand ends, and the hand and the spare then: what is discarded lies in the hand still.
+type LeftByHand = (Outcome<()>, Option<u64>, Option<u64>);
+
+/// What a post of its hand leaves by a port that is made out of nothing but its parts.
+fn post_of_hand(
+    rt: &(impl Wait + Clock),
+    ring: &SwapRing<u64>,
+    pass: &mut SwapPass<u64>,
+    book: &LossBook,
+    seat: &mut BookSeat,
+    policy: Policy,
+    is_waiting: bool,
+    brought: (u64, u64),
+) -> LeftByHand
+    requires { IsPassOf ring.now.ring pass.old × IsSeatOf book.now seat.old }
+    ensures { IsPassOf ring.now.ring pass.new × IsSeatOf book.now seat.new }
+{
+    let (mut hand, mut spare) = (Some(brought.0), Some(brought.1));
+    let mut port = SwapPort {
+        ring,
+        pass,
+        book,
+        seat,
+        hand: &mut hand,
+        spare: &mut spare,
+    };
+    let outcome = if is_waiting {
+        post_hand(rt, &mut port, policy)
+    } else {
+        post_hand_now(&mut port, policy)
+    };
+    (outcome, hand, spare)
+}
+
+/// What the post of a row is to leave whose value lies in the hand.
+fn wanted_by_hand((_, _, (value, spare), end): Row) -> LeftByHand {
+    match end {
+        Ok((ticket, overran, hand, spare)) => (
+            Outcome::Posted { ticket, overran },
+            Some(hand),
+            Some(spare),
+        ),
+        Err(why) => (
+            Outcome::Discarded {
+                value: (),
+                why,
+                overran: 0,
+            },
+            Some(value),
+            Some(spare),
+        ),
+    }
+}
+
+/// Posts of what lies in the hand end so, one after another.
+fn go_on_by_hand(
+    rt: &(impl Abort + Wait + Clock),
+    ring: &SwapRing<u64>,
+    pass: &mut SwapPass<u64>,
+    book: &LossBook,
+    seat: &mut BookSeat,
+    rows: &[Row],
+)
+    requires { IsPassOf ring.now.ring pass.old × IsSeatOf book.now seat.old }
+    ensures { IsPassOf ring.now.ring pass.new × IsSeatOf book.now seat.new }
+{
+    for row in rows {
+        let (policy, is_waiting, brought, _) = *row;
+        let left = post_of_hand(rt, ring, pass, book, seat, policy, is_waiting, brought);
+        assert!(rt; left == wanted_by_hand(*row));
+    }
+}
+
+/// Posts of what lies in the hand, on a swap ring of two places from this ticket on, end so, lose so much, and leave these cells
+/// and spares.
+fn posts_by_hand(
+    rt: &(impl Abort + Wait + Clock),
+    alloc: Global,
+    first: u64,
+    rows: &[Row],
+    lost: (u64, u64),
+    (cells, spares): (&[(u64, u64)], &[u64]),
+) {
+    let blocks = list(rt, alloc, &[100, 101]);
+    let (ring, mut pass) = swap_ring_of(rt, 2, first, blocks, alloc);
+    let (book, mut seat) = new_book(rt, alloc);
+    go_on_by_hand(rt, &ring, &mut pass, &book, &mut seat, rows);
+    has_lost(rt, &book, &mut seat, lost);
+    leaves(rt, ring, pass, cells, spares);
+}
+
+#[test]
+fn a_port_posts_its_hand(rt: HostRuntime) {
+    let left: (&[(u64, u64)], &[u64]) = (&[(2, 9), (3, 10)], &[]);
+    posts_by_hand(&rt, rt.alloc(), 0, &ROWS, (2, 1), left);
+}
+
 const LAST: u64 = TICKET_END - 1;
 
 /// The posts under this policy that find one ticket left.
@@ -139,5 +239,14 @@ fn a_swap_port_without_a_ticket(rt: HostRuntime) {
     let left: (&[(u64, u64)], &[u64]) = (&[(LAST, 7)], &[100]);
     for policy in [Policy::Block, Policy::OverrunOldest, Policy::DiscardNew] {
         posts(&rt, rt.alloc(), LAST, &at_last(policy), (0, 2), left);
+    }
+}
+
+// And then the hand keeps what it has.
+#[test]
+fn a_hand_without_a_ticket(rt: HostRuntime) {
+    let left: (&[(u64, u64)], &[u64]) = (&[(LAST, 7)], &[100]);
+    for policy in [Policy::Block, Policy::OverrunOldest, Policy::DiscardNew] {
+        posts_by_hand(&rt, rt.alloc(), LAST, &at_last(policy), (0, 2), left);
     }
 }
