@@ -17,11 +17,11 @@ kept_send F f = search (sendable, crosses, Vec-send) depth 20
 folder_send : (R F D : RattleType) → IsSend R → IsSend F → IsSend (Folder.the_field R F D).row
 folder_send R F D r f = search (sendable, crosses, Vec-send, kept_send) depth 20
 
-error_send : IsSend Error.the_row
+pub error_send : IsSend Error.the_row
 error_send = recorded_send Error.the_field.row _ _ Error.the_type.to_one (struct_send (shape Error.the_type)
     (search sendable, (search sendable, (search sendable, (search sendable, (search sendable depth 60, tt))))))
 
-reason_send : IsSend (Option.the_field Error.the_row).row
+pub reason_send : IsSend (Option.the_field Error.the_row).row
 reason_send = search (sendable, error_send) depth 20
 
 pub folder_store_send : (R F D : RattleType) → IsSend R → IsSend F → IsSend (FolderStore.the_row R F D)

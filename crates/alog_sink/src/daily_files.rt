@@ -106,8 +106,8 @@ impl DailyFiles {
     /// Brings a line to the file of its message's period.
     ///
     /// A message of a period later than all before opens the file of its date in the zone. Where that is not the last opened
-    /// one, this one is flushed first, and then, where `max_files` is not 0, the file that is then not one of the last `max_files`
-    /// opened is removed. The line of any other message goes to the last opened file.
+    /// one, this one is flushed first, unless `max_files` is 1, and then, where `max_files` is not 0, the file that is then not
+    /// one of the last `max_files` opened is removed. The line of any other message goes to the last opened file.
     pub(crate) fn put<S: Store>(
         &mut self,
         store: &mut S,
@@ -176,8 +176,18 @@ impl DailyFiles {
         Ok(())
     }
 
-    // Opens the file of a date, unless it is the last one, which is flushed first: nothing asks for it again. Where that fails, the files
-    // are as they were.
+    // Flushes the last opened file, for which nothing asks again once another is opened; unless it is the one that is removed then.
+    fn leave<S: Store>(&self, store: &mut S) -> Result<(), StoreError>
+        ensures same { S.tells ≡ true → AreSame (S.files store.old) (S.files store.new) }
+        ensures counted { Counts (S.failures store.old) (S.failures store.new) result }
+    {
+        if self.max_files == 1 {
+            return Ok(());
+        }
+        self.flush(store)
+    }
+
+    // Opens the file of a date, unless it is the last one. Where that fails, the files are as they were.
     fn open_date<S: Store>(&mut self, store: &mut S, date: Date) -> Result<(), StoreError>
         requires { IsDate date }
         ensures done { S.tells ≡ true → OnOk result
@@ -194,7 +204,7 @@ impl DailyFiles {
         if self.is_last(date) {
             return Ok(());
         }
-        self.flush(store)?;
+        self.leave(store)?;
         self.make_way(store)?;
         self.dates.push_back(date);
         write_dated(&mut self.name, self.file.as_str(), date);

@@ -18,8 +18,8 @@ fn fails_within(
     text: &str,
 ) {
     gives(rt, sink, START, "aaa", where_it_fails(k, 0, 0));
-    gives(rt, sink, START + DAY, "bbb", where_it_fails(k, 1, 3));
-    flushes(rt, sink, where_it_fails(k, 4, 4).map(|_| ()));
+    gives(rt, sink, START + DAY, "bbb", where_it_fails(k, 1, 2));
+    flushes(rt, sink, where_it_fails(k, 3, 3).map(|_| ()));
     has_only(rt, files(rt, sink), &[(file, text)]);
 }
 
@@ -33,7 +33,7 @@ fn flushes_again(
     text: &str,
 ) {
     fails_within(rt, &mut sink, k, file, text);
-    let after = if k < 5 {
+    let after = if k < 4 {
         Err(SinkError::Broken)
     } else {
         Ok(())
@@ -63,13 +63,12 @@ fn where_it_fails(k: u64, first: u64, last: u64) -> Result<Taken, SinkError> {
     }
 }
 
-// Which call fails, and what is left in the one file: before another day's is opened the last one is flushed, and then removed.
-const FUSED: [(u64, &str, &str); 6] = [
+// Which call fails, and what is left in the one file: before another day's is opened the last one is removed, and not flushed for it.
+const FUSED: [(u64, &str, &str); 5] = [
     (0, "day_2024-02-28.log", "aa"),
     (1, "day_2024-02-28.log", "aaa\n"),
-    (2, "day_2024-02-28.log", "aaa\n"),
-    (3, "day_2024-02-29.log", "bb"),
-    (4, "day_2024-02-29.log", "bbb\n"),
+    (2, "day_2024-02-29.log", "bb"),
+    (3, "day_2024-02-29.log", "bbb\n"),
     (9, "day_2024-02-29.log", "bbb\n"),
 ];
 
@@ -179,14 +178,13 @@ fn each_call_of_two_days_failing(rt: HostRuntime) -> Result<(), Fail> {
 const MAKING_WAY: [Given<'_>; 3] = [
     (1_709_269_200_000_000_000, "aaa", 0, 0),
     (1_709_276_400_000_000_000, "bbb", 1, 1),
-    (1_709_362_800_000_000_000, "ccc", 2, 4),
+    (1_709_362_800_000_000_000, "ccc", 2, 3),
 ];
 
-// The file that makes way is flushed and removed before the next one is made.
-const LEFT_OF_MAKING_WAY: [Left<'_>; 7] = [
+// The file that makes way is removed, and not flushed for it, before the next one is made.
+const LEFT_OF_MAKING_WAY: [Left<'_>; 6] = [
     &[("day_2024-03-01.log", "aa")],
     &[("day_2024-03-01.log", "aaa\nbb")],
-    &[("day_2024-03-01.log", "aaa\nbbb\n")],
     &[("day_2024-03-01.log", "aaa\nbbb\n")],
     &[("day_2024-03-02.log", "cc")],
     &[("day_2024-03-02.log", "ccc\n")],
@@ -200,7 +198,7 @@ fn each_call_of_a_file_that_makes_way_failing(rt: HostRuntime) -> Result<(), Fai
         max_files: 1,
         ..PLAIN
     };
-    each_call(&rt, plan, &MAKING_WAY, 5, &LEFT_OF_MAKING_WAY)
+    each_call(&rt, plan, &MAKING_WAY, 4, &LEFT_OF_MAKING_WAY)
 }
 
 // Whether a file has just so many bytes of a line.
@@ -309,22 +307,30 @@ fn flushes_current(
     has_made(rt, &sink, after);
 }
 
-// Of each day's file what was made before the sink is flushed, and then: the first one is flushed when the next day begins, the current
-// one by the flush.
-const OF_TWO_DAYS: [(&str, Made, Made); 2] = [
-    ("day_2024-02-28.log", (1, 3), (1, 4)),
-    ("day_2024-02-29.log", (0, 4), (1, 4)),
+// How many files a sink keeps, and of each day's file what was made before the sink is flushed, and then: the first one is flushed when the
+// next day begins, but where it is removed then; the current one by the flush.
+const OF_TWO_DAYS: [(usize, &str, Made, Made); 6] = [
+    (0, "day_2024-02-28.log", (1, 3), (1, 4)),
+    (0, "day_2024-02-29.log", (0, 4), (1, 4)),
+    (1, "day_2024-02-28.log", (0, 4), (0, 5)),
+    (1, "day_2024-02-29.log", (0, 4), (1, 4)),
+    (2, "day_2024-02-28.log", (1, 3), (1, 4)),
+    (2, "day_2024-02-29.log", (0, 4), (1, 4)),
 ];
 
 #[test]
 fn flushes_of_the_current_file(rt: HostRuntime) -> Result<(), Fail> {
-    for (name, before, after) in &OF_TWO_DAYS {
+    for (max_files, name, before, after) in &OF_TWO_DAYS {
         let store = Flushes {
             name: *name,
             flushed: 0,
             others: 0,
         };
-        flushes_current(&rt, opened(rt.alloc(), store, PLAIN)?, *before, *after);
+        let plan = Plan {
+            max_files: *max_files,
+            ..PLAIN
+        };
+        flushes_current(&rt, opened(rt.alloc(), store, plan)?, *before, *after);
     }
     Ok(())
 }

@@ -44,8 +44,8 @@ pub returns-clause-done : goal.returns-clause-done
 returns-clause-done g c = λ tells.
     let d = c.args.self.now in
     way_behind {A = Unit {0}} {E = StoreError} (Ok tt) d (dated d.limits.file c.args.date) (sym c.is_last.ensures.last ∙ c.if-is_last.false)
-    (g.S.Store.files c.args.store.now) (g.S.Store.files c.flush.new.store) (g.S.Store.files c.make_way.new.store)
-    (c.in_ok-flush.ensures.same tells) (c.in_ok-make_way.ensures.done tells)
+    (g.S.Store.files c.args.store.now) (g.S.Store.files c.leave.new.store) (g.S.Store.files c.make_way.new.store)
+    (c.in_ok-leave.ensures.same tells) (c.in_ok-make_way.ensures.done tells)
 
 pub returns-clause-opened : goal.returns-clause-opened
 returns-clause-opened g c =
