@@ -29,9 +29,14 @@ is_hopeless None = false
 is_hopeless (Some error) = is_of_name (error_kind error)
 
 -- A call that is tried again at most n times failed at most n times where it is done, and once more where it is given up; one that is
--- tried without end is done. Only where the last failure is hopeless it is given up before, behind one failure or more. The numbers are
--- the failures that the store below counts before and after, and the reason is that of a call that is given up.
-pub record Tried {A E : Type 0} (patience : Patience) (old new : ℕ) (reason : Option Error) (answer : Result A E) : Type 0 where
-  pub done : (n : ℕ) → patience ≡ Times n → old + n < FAILURES_MAX → OnOk answer (new ≤ old + n)
-  pub given_up : is_hopeless reason ≡ false → OnErr answer ((n : ℕ) × (patience ≡ Times n) × (old + n < FAILURES_MAX → new ≡ old + suc n))
-  pub hopeless : (n : ℕ) → patience ≡ Times n → old + n < FAILURES_MAX → OnErr answer ((old < new) × (new ≤ old + suc n))
+-- tried without end is done. Only where the last failure is hopeless it is given up before, behind one failure or more. Whatever a call
+-- is given up for, the last that was asked of the store below, in some state of it, failed. The states are those of the store below before
+-- and after, whose failures are the numbers, and the reason is that of a call that is given up.
+pub record Tried {S A E : Type 0} (failures : S → ℕ) (patience : Patience) (old new : S) (reason : Option Error) (answer : Result A E) : Type 0
+  where
+    pub done : (n : ℕ) → patience ≡ Times n → failures old + n < FAILURES_MAX → OnOk answer (failures new ≤ failures old + n)
+    pub given_up : is_hopeless reason ≡ false
+        → OnErr answer ((n : ℕ) × (patience ≡ Times n) × (failures old + n < FAILURES_MAX → failures new ≡ failures old + suc n))
+    pub hopeless : (n : ℕ) → patience ≡ Times n → failures old + n < FAILURES_MAX
+        → OnErr answer ((failures old < failures new) × (failures new ≤ failures old + suc n))
+    pub failed : OnErr answer ((last : S) × (failures last < FAILURES_MAX → failures new ≡ failures last + 1))

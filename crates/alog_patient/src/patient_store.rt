@@ -53,7 +53,7 @@ impl<S: Resumes, R: Wait + Clock + Eprint> PatientStore<S, R> {
             → IfErr result (λ e. TakesFront e.taken name.now bytes.now (S.files self.old.store) (S.files self.new.store)) }
         ensures within { IfErr result (λ e. e.taken ≤ length bytes.now) }
         ensures counted { Counts self.old.given_up self.new.given_up result }
-        ensures tried { Tried self.old.patience (S.failures self.old.store) (S.failures self.new.store) self.new.reason result }
+        ensures tried { Tried S.failures self.old.patience self.old.store self.new.store self.new.reason result }
         ensures patience { self.new.patience ≡ self.old.patience }
     {
         let mut row = Row::new(name, self.patience);
@@ -104,7 +104,7 @@ impl<S: Resumes, R: Wait + Clock + Eprint> Store for PatientStore<S, R> {
             → OnOk result (AreSame (appended name.now bytes.now (S.files self.old.store)) (S.files self.new.store)) }
         ensures failed { S.tells ≡ true → OnErr result (LeavesFront name.now bytes.now (S.files self.old.store) (S.files self.new.store)) }
         ensures counted { Counts self.old.given_up self.new.given_up result }
-        ensures tried { Tried self.old.patience (S.failures self.old.store) (S.failures self.new.store) self.new.reason result }
+        ensures tried { Tried S.failures self.old.patience self.old.store self.new.store self.new.reason result }
         ensures patience { self.new.patience ≡ self.old.patience }
     {
         match self.append_rest(name, bytes) {
@@ -117,7 +117,7 @@ impl<S: Resumes, R: Wait + Clock + Eprint> Store for PatientStore<S, R> {
         ensures done { S.tells ≡ true → OnOk result (AreSame (renamed from.now to.now (S.files self.old.store)) (S.files self.new.store)) }
         ensures failed { S.tells ≡ true → OnErr result (AreSame (S.files self.old.store) (S.files self.new.store)) }
         ensures counted { Counts self.old.given_up self.new.given_up result }
-        ensures tried { Tried self.old.patience (S.failures self.old.store) (S.failures self.new.store) self.new.reason result }
+        ensures tried { Tried S.failures self.old.patience self.old.store self.new.store self.new.reason result }
         ensures patience { self.new.patience ≡ self.old.patience }
     {
         let mut row = Row::new(from, self.patience);
@@ -140,7 +140,7 @@ impl<S: Resumes, R: Wait + Clock + Eprint> Store for PatientStore<S, R> {
         ensures done { S.tells ≡ true → OnOk result (AreSame (removed name.now (S.files self.old.store)) (S.files self.new.store)) }
         ensures failed { S.tells ≡ true → OnErr result (AreSame (S.files self.old.store) (S.files self.new.store)) }
         ensures counted { Counts self.old.given_up self.new.given_up result }
-        ensures tried { Tried self.old.patience (S.failures self.old.store) (S.failures self.new.store) self.new.reason result }
+        ensures tried { Tried S.failures self.old.patience self.old.store self.new.store self.new.reason result }
         ensures patience { self.new.patience ≡ self.old.patience }
     {
         let mut row = Row::new(name, self.patience);
@@ -163,7 +163,7 @@ impl<S: Resumes, R: Wait + Clock + Eprint> Store for PatientStore<S, R> {
         ensures size { S.tells ≡ true → IfOk result (λ size. size ≡ option_map length (S.files self.old.store name.now)) }
         ensures same { S.tells ≡ true → AreSame (S.files self.old.store) (S.files self.new.store) }
         ensures counted { Counts self.old.given_up self.new.given_up result }
-        ensures tried { Tried self.old.patience (S.failures self.old.store) (S.failures self.new.store) self.new.reason result }
+        ensures tried { Tried S.failures self.old.patience self.old.store self.new.store self.new.reason result }
         ensures patience { self.new.patience ≡ self.old.patience }
     {
         let mut row = Row::new(name, self.patience);
@@ -185,7 +185,7 @@ impl<S: Resumes, R: Wait + Clock + Eprint> Store for PatientStore<S, R> {
     fn flush(&mut self, name: &str) -> Result<(), StoreError>
         ensures same { S.tells ≡ true → AreSame (S.files self.old.store) (S.files self.new.store) }
         ensures counted { Counts self.old.given_up self.new.given_up result }
-        ensures tried { Tried self.old.patience (S.failures self.old.store) (S.failures self.new.store) self.new.reason result }
+        ensures tried { Tried S.failures self.old.patience self.old.store self.new.store self.new.reason result }
         ensures patience { self.new.patience ≡ self.old.patience }
     {
         let mut row = Row::new(name, self.patience);

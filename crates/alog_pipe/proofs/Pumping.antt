@@ -10,7 +10,7 @@ use Rattle.alog_pipe.specs.Counted.{counted, with_piece}
 use Rattle.alog_pipe.specs.InTurn.{InTurn}
 use Rattle.alog_pipe.proofs.Logging.{piece_logger}
 use Rattle.alog_pipe.specs.Logged.{LogsPiece}
-use Rattle.alog_pipe.specs.Piped.{LogsAll, Pumps, PumpsRead, TakesAll}
+use Rattle.alog_pipe.specs.Piped.{LogsAll, LogsAt, Pumps, PumpsRead, TakesAll}
 use Rattle.alog_pipe.specs.declared.counts.Counts.{Counts}
 use Rattle.alog_pipe.specs.declared.piece_log.PieceLog.{PieceLog}
 use Rattle.alog_pipe.specs.declared.pump.Pump.{Pump}
@@ -21,9 +21,14 @@ pub one_more : {A S : Type 0} (step : A → S → S → Type 0) (xs : List A) (x
 one_more {A} {S} step [] x s m t all last = (t, subst (λ (o : S). step x o t) all last, refl)
 one_more step (y ∷ xs) x s m t all last = (all.0, all.1, one_more step xs x all.0 m t all.2 last)
 
--- a piece that was logged at some time
-pub timed : {time : ℤ} {s t : List ℕ} {old new : PieceLog} → s ≡ t → LogsPiece time s old new → (at : ℤ) × LogsPiece at t old new
-timed {time} {old} {new} same l = (time, subst (λ (x : List ℕ). LogsPiece time x old new) same l)
+-- a piece that was logged
+pub logged_as : {a time : ℤ} {s t : List ℕ} {old new : PieceLog} → a ≡ time → s ≡ t → LogsPiece a s old new → LogsPiece time t old new
+logged_as {old} {new} then same l = subst (λ (x : ℤ × List ℕ). LogsPiece x.0 x.1 old new) (λ i. (then i, same i)) l
+
+-- what was logged at one time was logged at some time
+pub logs_all : (time : ℤ) (ps : List Piece) (old new : PieceLog) → LogsAt time ps old new → LogsAll ps old new
+logs_all time [] old new same = same
+logs_all time (p ∷ ps) old new all = (all.0, (time, all.1), logs_all time ps all.0 new all.2)
 
 pub counted_more : (ps : List Piece) (p : Piece) (c : Counts) → counted (ps ++ p ∷ []) c ≡ with_piece (counted ps c) p
 counted_more [] p c = refl
@@ -115,7 +120,7 @@ module _ {limit : ℕ} {before after last : Option (List ℕ)} {old mid : Pump} 
     bytes = h.bytes ++ read.came.bytes;
     taken = consumes_on before after last h.bytes read.came.bytes h.taken read.came.taken;
     pieces = h.pieces ++ p.pieces;
-    logged = turns_on _ h.pieces p.pieces old.log mid.log new.log h.logged p.logged;
+    logged = turns_on _ h.pieces p.pieces old.log mid.log new.log h.logged (logs_all new.time p.pieces mid.log new.log p.logged);
     found = takes_all p.pieces lines new.lines (reads_on h.found read stays) p.taken;
     left = p.left;
     counted_is = p.counted_is ∙ ap (counted p.pieces) h.counted_is ∙ sym (counted_all h.pieces p.pieces old.counts);

@@ -20,12 +20,16 @@ TakesAll ps old new = InTurn (λ (p : Piece) s t. Takes s t p × IsSameCut s t) 
 abbrev pub LogsAll : List Piece → PieceLog → PieceLog → Type 0
 LogsAll ps old new = InTurn (λ (p : Piece) s t. (time : ℤ) × LogsPiece time p.text s t) ps old new
 
--- What was pending was logged: no piece is left, and each was counted.
+-- each was logged at this time
+abbrev pub LogsAt : ℤ → List Piece → PieceLog → PieceLog → Type 0
+LogsAt time ps old new = InTurn (λ (p : Piece) s t. LogsPiece time p.text s t) ps old new
+
+-- What was pending was logged, all at one time: no piece is left, and each was counted.
 pub record PumpsRead (old new : Pump) : Type 0 where
   pub pieces : List Piece
   pub taken : TakesAll pieces old.lines new.lines
   pub left : LacksPiece new.lines
-  pub logged : LogsAll pieces old.log new.log
+  pub logged : LogsAt new.time pieces old.log new.log
   pub counted_is : new.counts ≡ counted pieces old.counts
 
 -- The reader gave some bytes. What was logged are their pieces, in their order, each once: all of them where the reader is at its end, and

@@ -59,6 +59,7 @@ module _ {S : Type 0} (tells : Bool) (files : S → Files) (failures : S → ℕ
   -- There are items with rising tickets, which are exactly the texts and flushes that the producers put in and did not take out
   -- themselves, and by whatever weight they weigh as much; and each sink was given exactly the turns that are due for them, in their order,
   -- and holds their lines.
+  -- Beside these turns a sink may have been given the worker's own flushes, which write no line and are due for no item.
   pub record WritesInOrder (pool : PoolView S) (producers : List ProducerView) (r : Report S) : Type 0 where
     pub items : List (ℕ × Item)
     pub rise : IsRising (tickets_of items)

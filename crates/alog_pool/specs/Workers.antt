@@ -42,6 +42,7 @@ module _ {S : Type 0} (tells : Bool) (files : S → Files) (failures : S → ℕ
   -- Each worker, in the order of their numbers, handled some of the texts and flushes that were posted and not overrun, under rising tickets,
   -- of which the report lists the first ones; all workers together handled each of them once. Each sink was given exactly the turns that are
   -- due for them, each worker's in the order of its tickets, and holds their lines.
+  -- Beside these turns a sink may have been given workers' own flushes, which write no line and are due for no item.
   pub record AllWrite (pool : PoolView S) (producers : List ProducerView) (r : Report S) : Type 0 where
     pub works : List (List (ℕ × Item))
     pub count : length works ≡ length pool.crew

@@ -86,14 +86,13 @@ impl<S: Store> Worker<S> {
             shared,
             sink_seats,
             line,
-            number,
             block,
             ..
         } = self;
         handle(
             rt,
             gate,
-            *number,
+            self.number,
             &shared.loggers,
             sink_seats,
             line,

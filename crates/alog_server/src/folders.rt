@@ -17,11 +17,16 @@ use std::time::Clock;
 pub(crate) const LOCK_FILE: &str = ".alog.lock";
 
 /// What holds a folder and opens its stores, both of which may go to other threads.
+///
+/// Its ghost member `tries` is how often a store tries a failed call again.
 pub trait Folders {
-    ghost use Rattle.std.specs.Prelude.{IfOk};
+    ghost use Rattle.std.specs.Prelude.{◌≡◌, IfOk};
+    ghost use Rattle.alog_patient.specs.declared.patience.Patience.{Patience};
     ghost use Rattle.alog_server.specs.Stores.{IsNew};
 
     type Folder: Store + Drop + Send + 'static;
+
+    ghost tries: { Self.Folder → Patience };
 
     /// What holds a folder until it is dropped, or its process ends.
     type Lock: Drop + Send + 'static;
@@ -33,7 +38,8 @@ pub trait Folders {
         path: &str,
         patience: Patience,
     ) -> Result<Self::Folder, AllocError>
-        ensures { IfOk result (λ s. IsNew Self.Folder.tells Self.Folder.files Self.Folder.failures s) };
+        ensures fresh { IfOk result (λ s. IsNew Self.Folder.tells Self.Folder.files Self.Folder.failures s) }
+        ensures tries { IfOk result (λ s. tries s ≡ patience) };
 
     /// Holds the folder with this path, by a lock on its file `.alog.lock`, which is made where it is absent, and stays. An error of
     /// the kind `WouldBlock` says that another holds it: a process, or a server of this one.
@@ -60,6 +66,8 @@ where
     type Folder = PatientStore<FolderStore<R>, R>;
 
     type Lock = R::File;
+
+    ghost tries = { λ s. s.patience };
 
     fn folder(
         &self,
@@ -103,6 +111,7 @@ pub fn folder_stores<R: Folders>(
 ) -> Result<Vec<R::Folder>, AllocError>
     ensures many { IfOk result (λ v. length v.items ≡ count) }
     ensures fresh { IfOk result (λ v. All (IsNew R.Folder.tells R.Folder.files R.Folder.failures) v.items) }
+    ensures tries { IfOk result (λ v. All (λ s. R.tries s ≡ patience) v.items) }
 {
     let mut stores = Vec::with_capacity(alloc, count)?;
     for _number in 0..count {

@@ -1,6 +1,6 @@
 use Rattle.std.proofs.Common.{refl, ◌∙◌}
 use Rattle.alog_pipe.proofs.Logging.{same_as, same_on}
-use Rattle.alog_pipe.proofs.Pumping.{at_end, logs_logger, not_at_end, nothing_came, some_came, starts, takes_same}
+use Rattle.alog_pipe.proofs.Pumping.{at_end, logs_all, logs_logger, not_at_end, nothing_came, some_came, starts, takes_same}
 use Rattle.alog_pipe.proofs.pump.Pump.run.Goals as goal
 
 pub loop-init : goal.loop-init
@@ -30,7 +30,7 @@ loop-preserved g c =
     record {
       pumped = some_came i.pumped c.fill.ensures.read i.reading p;
       reading = (takes_same p.pieces _ _ p.taken).1 ∙ brings.1;
-      logger = logs_logger p.pieces _ _ p.logged ∙ i.logger;
+      logger = logs_logger p.pieces _ _ (logs_all _ p.pieces _ _ p.logged) ∙ i.logger;
       same = same_on i.same c.log_read.ensures.same;
     }
 
