@@ -40,10 +40,12 @@ def owner_of(header):
         depth += (c == "<") - (c == ">")
         if depth == 0 and c != ">":
             bare.append(c)
-    words = re.findall(r"[\w:]+", "".join(bare).replace("&", " "))
+    words = re.findall(r"[\w:]+", re.sub(r"'\w+", " ", "".join(bare)).replace("&", " "))
     last = [it.split("::")[-1] for it in words]
     if "for" in last[1:-1]:
-        return last[last.index("for") + 1], last[0]
+        type_name = last[last.index("for") + 1]
+        # (where it is for a parameter, for any type, a check calls it by the trait: `AnyHost`)
+        return "Any" if re.search(rf"[<,]\s*{type_name}\b", header) else type_name, last[0]
     return (last[0] if last else ""), ""
 
 
