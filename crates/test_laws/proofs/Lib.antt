@@ -5,9 +5,10 @@ mod Dues
 mod Held
 mod OneText
 mod Posts
-mod PieceCounts
+mod PieceLogs
 mod Overruns
-mod Pieces
+mod Answered
+mod Stretches
 mod Texts
 mod Opening
 mod PipedLines

@@ -2,22 +2,20 @@
 use Rattle.std.proofs.Common.{◌≡◌, ℕ, zero, suc, Bool, true, Some, List, [], ◌∷◌, map, take, count_by, refl, ap, subst, inl, inr}
 use Rattle.std.specs.Prelude.{slice_get}
 use Rattle.alog_config.proofs.SharedPicking.{Has, picked_in}
-use Rattle.alog_config.specs.Built.{Built, EachIs, IsBuiltAs, IsPlace}
+use Rattle.alog_config.specs.Built.{Built, IsBuiltAs, IsPlace}
 use Rattle.alog_config.specs.Sinks.{IsMember, is_leaf}
 use Rattle.alog_config.specs.declared.config.Config.{Config}
 use Rattle.alog_config.specs.declared.config.SinkKind.{SinkKind}
 use Rattle.alog_config.specs.declared.config.SinkKind.TheVariants as kinds
-use Rattle.alog_lines.specs.Pieces.{Piece}
 use Rattle.alog_msg.specs.declared.level.Level.{Level}
 use Rattle.alog_msg.specs.declared.message.Message.{Message}
 use Rattle.alog_pool.specs.OneWorker.{HoldsMore}
 use Rattle.alog_registry.specs.declared.logger.Logger.{Logger}
 use Rattle.alog_sink.specs.Files.{Files}
-use Rattle.alog_sink.specs.Turn.{LeafView, StandsFor}
+use Rattle.alog_sink.specs.Turn.{LeafView}
 use Rattle.alog_sink.specs.declared.sink.Sink.{Sink}
 use Rattle.alog_sink.specs.declared.sink.Sink.TheVariants.{Leaf}
-use Rattle.test_laws.specs.PipedLines.{IsOf, StandsOver, text_lines}
-use Rattle.test_laws.proofs.Texts.{files_have}
+use Rattle.test_laws.specs.PipedLines.{StandsOn}
 
 -- A sink that was built, with its part of the configuration. Its crate has no name for others to call this type by: it is what names have
 -- places among.
@@ -45,8 +43,8 @@ place_of {A} (y ∷ xs) x (inl same) = (zero, ap (λ (z : A). Some z) same)
 place_of (y ∷ xs) x (inr has) = let there = place_of xs x has in (suc there.0, there.1)
 
 module _ {S : Type 0} (tells : Bool) (files : S → Files) (failures : S → ℕ) where
-  -- A sink that was built of a configuration over these stores holds one message more for each of these pieces.
-  pub record Fills (level : Level) (stores : List S) (ms : List Message) (ps : List Piece) (new : Sink S) : Type 0 where
+  -- A sink that was built of a configuration over these stores holds these messages more.
+  pub record Fills (stores : List S) (ms : List Message) (new : Sink S) : Type 0 where
     pub config : Config
     pub loggers : List Logger
     pub sinks : List (Sink S)
@@ -55,34 +53,25 @@ module _ {S : Type 0} (tells : Bool) (files : S → Files) (failures : S → ℕ
     pub old : Sink S
     pub old_is : slice_get sinks n ≡ Some old
     pub told : tells ≡ true
-    pub logger : ℕ
-    pub each : EachIs (IsOf logger level) ps ms
     pub holds : HoldsMore files old new ms
 
-  module _ {level : Level} {stores : List S} {ms : List Message} {ps : List Piece} {new : Sink S} (f : Fills level stores ms ps new)
-      (leaf : LeafView S) (is : new ≡ Leaf leaf) where
-    -- over this store
-    stands_on : (store : S) (k : ℕ) → slice_get stores k ≡ Some store → StandsFor files leaf (files store) ms
-        → StandsOver files level stores ms (text_lines ps) leaf
-    stands_on store k at stands = record {
-      store = store;
-      place = k;
-      store_is = at;
-      stands = stands;
-      plain = λ plain. files_have files f.logger ps plain f.each stands;
-    }
-
+  module _ {stores : List S} {ms : List Message} {new : Sink S} (f : Fills stores ms new) (leaf : LeafView S) (is : new ≡ Leaf leaf) where
     built_stands : (k : ℕ) (least : Level) (kind : SinkKind) → IsBuiltAs tells files failures f.config stores f.built.parts k least kind f.old
-        → StandsOver files level stores ms (text_lines ps) leaf
+        → StandsOn files stores ms leaf
     built_stands k least (kinds.Lines file pattern upkeep) built =
         let opened = built.2.opened in
         let more = subst (λ (v : Sink S × Sink S). HoldsMore files v.0 v.1 ms) (λ i. (opened.is i, is i)) f.holds in
-        stands_on built.0 (count_by is_leaf (take k f.config.sinks.items)) built.1 (more (files built.0) [] (opened.stands f.told))
+        record {
+          store = built.0;
+          place = count_by is_leaf (take k f.config.sinks.items);
+          store_is = built.1;
+          stands = more (files built.0) [] (opened.stands f.told);
+        }
     built_stands k least (kinds.Fan of) built =
         absurd (subst (λ (v : Sink S × Sink S). HoldsMore files v.0 v.1 ms) (λ i. (built.2 i, is i)) f.holds)
 
-    pub stands_over : StandsOver files level stores ms (text_lines ps) leaf
-    stands_over =
+    pub stands_on : StandsOn files stores ms leaf
+    stands_on =
         let at = subst (λ (ss : List (Sink S)). slice_get ss f.n ≡ Some f.old) f.built.sinks f.old_is in
         let sunk = of_map (λ (q : Part S). q.sink) f.built.tops f.n f.old at in
         let q : Part S = sunk.0 in

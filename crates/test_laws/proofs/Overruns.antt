@@ -25,7 +25,7 @@ use Rattle.alog_registry.specs.declared.logging.LogReply.{LogReply}
 use Rattle.alog_registry.specs.declared.logging.LogReply.TheVariants as reply
 use Rattle.alog_ring.specs.Known.{PassView}
 use Rattle.test_laws.proofs.Claims.{Given}
-use Rattle.test_laws.proofs.PieceCounts.{LacksMemory, LacksRoom, PieceLog, TellsAll}
+use Rattle.test_laws.proofs.PieceLogs.{LacksMemory, LacksRoom, PieceLog, TellsAll}
 
 abbrev Deed : Type 0
 Deed = Entry Item block_note

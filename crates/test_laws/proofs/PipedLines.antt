@@ -1,9 +1,10 @@
 -- From what a pipe logged to what its sink holds.
 use Rattle.std.proofs.Common.{◌≡◌, ◌≢◌, ◌<◌, ◌^◌, ℕ, Bool, Option, Some, Result, Ok, Err, List, [], ◌++◌, map, length}
-use Rattle.std.proofs.Common.{refl, sym, ap, subst, ◌∙◌}
+use Rattle.std.proofs.Common.{◌+◌, ◌∷◌, refl, sym, ap, subst, ◌∙◌, append-nil, arith}
 use Rattle.std.proofs.KnownBytes.{Consumes-whole}
 use Rattle.std.specs.Prelude.{IfOk, IfSome, slice_get}
-use Rattle.std.specs.List.{AllByRecursion}
+use Rattle.std.specs.List.{AllByRecursion, flat_map}
+use Rattle.alog_config.specs.Built.{EachIs}
 use Rattle.alog_config.specs.declared.config.Config.{Config}
 use Rattle.alog_core.specs.Accounts.{claims, takes}
 use Rattle.alog_core.specs.History.{Entry}
@@ -26,16 +27,22 @@ use Rattle.alog_registry.specs.declared.logger.Logger.{Logger}
 use Rattle.alog_registry.specs.declared.logger.Spec.{Spec}
 use Rattle.alog_sink.specs.Files.{Files}
 use Rattle.alog_sink.specs.declared.sink.Sink.{Sink}
-use Rattle.test_laws.specs.PipedLines.{FlowsTo, HoldsPieces, OverrunsNone}
+use Rattle.test_laws.specs.PipedLines.{FlowsTo, HoldsPieces, IsOf, LosesNone, OverrunsNone}
+use Rattle.test_laws.specs.Stretches.{HoldsStretches, below_in, missing_in, pieces_of_stretch}
+use Rattle.test_laws.proofs.Answered.{puts_of}
 use Rattle.test_laws.proofs.Bounds.{none_overrun, took_none}
 use Rattle.test_laws.proofs.Claims.{Given}
 use Rattle.test_laws.proofs.Dues.{IsFor}
 use Rattle.test_laws.proofs.Held.{EndsAlone, Held, texts_held}
-use Rattle.test_laws.proofs.Opening.{Fills, at_map, stands_over}
+use Rattle.test_laws.proofs.Opening.{Fills, at_map, stands_on}
 use Rattle.test_laws.proofs.Overruns.{IsWith, finish_spares, pieces_spare, takes_by_now}
-use Rattle.test_laws.proofs.PieceCounts.{PieceLog}
-use Rattle.test_laws.proofs.Texts.{copied}
-use Rattle.test_laws.proofs.Pieces.{Goes, Stands, finish_same, pieces_go, puts_by}
+use Rattle.test_laws.proofs.PieceLogs.{PieceLog}
+use Rattle.test_laws.proofs.Stretches.{Goes, HasRun, finish_goes, goes_on, none_lost, pieces_go, run_behind}
+use Rattle.test_laws.proofs.Texts.{copied, files_have}
+
+none_left : (ps : List Piece) → length ps ≡ 0 → ps ≡ []
+none_left [] none = refl
+none_left (p ∷ ps) none = absurd (omega (arith, none))
 
 -- what is so under the policy that overruns the oldest, and under each other one
 by_policy : {P : Type 0} (q : Policy) → (q ≡ OverrunOldest → P) → (q ≢ OverrunOldest → P) → P
@@ -48,18 +55,17 @@ module _ {S : Type 0} (tells : Bool) (files : S → Files) (failures : S → ℕ
   abbrev pieces : List Piece
   pieces = h.through.pumps.pumps.pieces
 
-  begins : Stands logger level h.through.pumps.start.log
-  begins = subst (λ (l : PieceLog). Stands logger level l) (sym h.through.pumps.log_is) (record {
-    logger_is = refl;
-    level_is = refl;
-    number_is = h.through.makes.number ∙ h.starts.made;
+  begins : length pieces < 2 ^ 64 → HasRun logger level [] (length pieces) h.through.pumps.start.log
+  begins few = subst (λ (l : PieceLog). HasRun logger level [] (length pieces) l) (sym h.through.pumps.log_is) (record {
+    stands = record { logger_is = refl; level_is = refl; number_is = h.through.makes.number ∙ h.starts.made };
     hole_is = refl;
-    missing_is = refl;
-    below_is = refl;
+    counted = omega arith;
+    missing = omega (arith, few);
+    below = omega (arith, few);
   })
 
-  put_nothing : puts_by h.through.pumps.start.log ≡ []
-  put_nothing = ap (λ (l : PieceLog). puts_by l) h.through.pumps.log_is
+  put_nothing : puts_of h.through.pumps.start.log.producer ≡ []
+  put_nothing = ap (λ (l : PieceLog). puts_of l.producer) h.through.pumps.log_is
       ∙ ap (λ (own : List (Entry Item block_note)). claims own) h.through.makes.entries.0
 
   begun_loggers : h.through.begun.shared.loggers ≡ h.setup.loggers
@@ -97,19 +103,33 @@ module _ {S : Type 0} (tells : Bool) (files : S → Files) (failures : S → ℕ
         subst (λ (o : Option (List ℕ)). IfSome o (λ (given : List ℕ). pieces ≡ pieces_of c.text given)) f.had
         (Consumes-whole before after pumps.bytes (λ (given : List ℕ). pieces ≡ pieces_of c.text given) pumps.taken end.0 end.1)
 
-    none_missing : (h.through.pumps.last.log.missing ≡ 0) × (h.through.pumps.last.log.below ≡ 0)
-    none_missing =
-        let same = (finish_same h.through.pumps.finished).0 in
-        (sym same.0 ∙ sym h.through.missing ∙ f.none_missing, sym same.1 ∙ sym h.through.below ∙ f.none_below)
-
-    goes : Goes logger level (pieces_of c.text bytes) h.through.pumps.start.log h.through.pumps.last.log
+    -- all that was logged: the pieces, and what is missing at the end
+    goes : Goes logger level [] (pieces_of c.text bytes) h.through.pumps.start.log h.through.log
     goes =
         let few = subst (λ (ps : List Piece). length ps < 2 ^ 64) (sym pieces_are) f.few in
-        subst (λ (ps : List Piece). Goes logger level ps h.through.pumps.start.log h.through.pumps.last.log) pieces_are
-        (pieces_go logger level pieces h.through.pumps.start.log h.through.pumps.last.log h.through.pumps.pumps.logged begins none_missing few)
+        let has = begins few in
+        let read = pieces_go logger level pieces [] h.through.pumps.start.log h.through.pumps.last.log h.through.pumps.pumps.logged has in
+        let end = finish_goes logger level h.through.pumps.finished (run_behind logger level {ps = pieces} 0 has read (omega arith)) in
+        subst (λ (ps : List Piece). Goes logger level [] ps h.through.pumps.start.log h.through.log) (append-nil pieces ∙ pieces_are)
+        (goes_on logger level {ps = pieces} {qs = []} read end)
 
-    puts_are : puts_by h.through.log ≡ goes.puts
-    puts_are = (finish_same h.through.pumps.finished).1 goes.stands.hole_is ∙ goes.puts_are ∙ ap (λ (is : List Given). is ++ goes.puts) put_nothing
+    puts_are : puts_of h.through.log.producer ≡ goes.puts
+    puts_are = goes.puts_are ∙ ap (λ (is : List Given). is ++ goes.puts) put_nothing
+
+    start_counts : (h.through.pumps.start.log.missing ≡ 0) × (h.through.pumps.start.log.below ≡ 0)
+    start_counts = (ap (λ (l : PieceLog). l.missing) h.through.pumps.log_is, ap (λ (l : PieceLog). l.below) h.through.pumps.log_is)
+
+    missing_are : p.missing ≡ missing_in goes.stretches + length goes.rest
+    missing_are =
+        let first = start_counts.0 in
+        let all = goes.missing_is in
+        let told = h.through.missing in omega (arith, first, all, told)
+
+    below_are : p.below ≡ below_in goes.stretches
+    below_are =
+        let first = start_counts.1 in
+        let all = goes.below_is in
+        let told = h.through.below in omega (arith, first, all, told)
 
     alone : EndsAlone tells files failures logger n h.through.pool h.through.log.producer p.report
     alone = record {
@@ -124,36 +144,73 @@ module _ {S : Type 0} (tells : Bool) (files : S → Files) (failures : S → ℕ
       faultless = f.faultless;
     }
 
-    pub lines_held : OneWorkerWritesInOrder tells files failures → ShortLinesAreWhole
-        → HoldsPieces files logger level n stores h.setup.sinks.items p.report.sinks.items c.text bytes
-    lines_held law whole =
-        let held = subst (λ (is : List Given). Held tells files failures n (lanes_of h.through.pool.sink_seats) p.report.sinks.items (texts_in is)) puts_are
-        (texts_held tells files failures law alone) in
-        let old : slice_get h.setup.sinks.items n ≡ Some held.lane.first =
-        subst (λ (ss : List (Sink S)). slice_get ss n ≡ Some held.lane.first) sinks_are
-        (at_map (λ (l : LaneId (Sink S)). l.first) (lanes_of h.through.pool.sink_seats) n held.lane held.lane_is) in
-        let fills : Fills tells files failures level stores (texts_in goes.puts) (pieces_of c.text bytes) held.sink = record {
-          config = c;
-          loggers = h.setup.loggers;
-          sinks = h.setup.sinks.items;
-          built = h.given.built;
-          n = n;
-          old = held.lane.first;
-          old_is = old;
-          told = f.told;
-          logger = logger;
-          each = goes.texts;
-          holds = held.holds;
-        } in
-        record {
+    module _ (law : OneWorkerWritesInOrder tells files failures) where
+      held : Held tells files failures n (lanes_of h.through.pool.sink_seats) p.report.sinks.items (texts_in goes.puts)
+      held = subst (λ (is : List Given). Held tells files failures n (lanes_of h.through.pool.sink_seats) p.report.sinks.items (texts_in is)) puts_are
+          (texts_held tells files failures law alone)
+
+      old_is : slice_get h.setup.sinks.items n ≡ Some held.lane.first
+      old_is = subst (λ (ss : List (Sink S)). slice_get ss n ≡ Some held.lane.first) sinks_are
+          (at_map (λ (l : LaneId (Sink S)). l.first) (lanes_of h.through.pool.sink_seats) n held.lane held.lane_is)
+
+      fills : Fills tells files failures stores (texts_in goes.puts) held.sink
+      fills = record {
+        config = c;
+        loggers = h.setup.loggers;
+        sinks = h.setup.sinks.items;
+        built = h.given.built;
+        n = n;
+        old = held.lane.first;
+        old_is = old_is;
+        told = f.told;
+        holds = held.holds;
+      }
+
+      pub lines_told : HoldsStretches files logger level n stores h.setup.sinks.items p.report.sinks.items c.text bytes p.missing p.below
+          h.through.log.hole
+      lines_told = record {
+        stretches = goes.stretches;
+        rest = goes.rest;
+        pieces_are = goes.pieces_are;
+        missing_are = missing_are;
+        below_are = below_are;
+        untold_are = goes.hole_is;
+        messages = texts_in goes.puts;
+        told = goes.tells;
+        old = held.lane.first;
+        new = held.sink;
+        old_is = old_is;
+        new_is = held.sink_is;
+        holds = held.holds;
+        stands = λ leaf is. stands_on tells files failures fills leaf is;
+      }
+
+      module _ (none : LosesNone p) where
+        each : EachIs (IsOf logger level) (pieces_of c.text bytes) (texts_in goes.puts)
+        each =
+            let missing = missing_are in
+            let below = below_are in
+            let short : length goes.rest ≡ 0 = omega (arith, missing, none.0) in
+            let rest : goes.rest ≡ [] = none_left goes.rest short in
+            let all : pieces_of c.text bytes ≡ flat_map pieces_of_stretch goes.stretches =
+            goes.pieces_are ∙ ap (λ (l : List Piece). flat_map pieces_of_stretch goes.stretches ++ l) rest
+            ∙ append-nil (flat_map pieces_of_stretch goes.stretches) in
+            subst (λ (ps : List Piece). EachIs (IsOf logger level) ps (texts_in goes.puts)) (sym all)
+            (none_lost logger level goes.stretches (texts_in goes.puts) goes.tells (omega (arith, missing, none.0)) (omega (arith, below, none.1)))
+
+        pub lines_held : ShortLinesAreWhole
+            → HoldsPieces files logger level n stores h.setup.sinks.items p.report.sinks.items c.text bytes
+        lines_held whole = record {
           messages = texts_in goes.puts;
-          each = goes.texts;
+          each = each;
           old = held.lane.first;
           new = held.sink;
-          old_is = old;
+          old_is = old_is;
           new_is = held.sink_is;
           holds = held.holds;
-          stands = λ leaf is. stands_over tells files failures fills leaf is;
+          stands = λ leaf is.
+              let opened = stands_on tells files failures fills leaf is in
+              record { opened = opened; plain = λ plain. files_have files logger (pieces_of c.text bytes) plain each opened.stands };
           whole = λ texts. copied whole texts;
         }
 

@@ -61,13 +61,17 @@ HasBytes (Daily d) opening now bytes = Unit {0}
 
 module _ {S : Type 0} (files : S → Files) where
   -- A sink was opened over one of these stores, and stands for that store's files and these messages: its files are what its kind makes of
-  -- the files that were there and of the messages' lines. Where these are the texts alone, they are these bytes.
-  pub record StandsOver (level : Level) (stores : List S) (messages : List Message) (bytes : List ℕ) (leaf : LeafView S) : Type 0 where
+  -- the files that were there and of the messages' lines.
+  pub record StandsOn (stores : List S) (messages : List Message) (leaf : LeafView S) : Type 0 where
     pub store : S
     pub place : ℕ
     pub store_is : slice_get stores place ≡ Some store
     pub stands : StandsFor files leaf (files store) messages
-    pub plain : IsPlain level leaf → HasBytes leaf.target (files store) (files leaf.store) bytes
+
+  -- Where these lines are the texts alone, they are these bytes.
+  pub record StandsOver (level : Level) (stores : List S) (messages : List Message) (bytes : List ℕ) (leaf : LeafView S) : Type 0 where
+    pub opened : StandsOn stores messages leaf
+    pub plain : IsPlain level leaf → HasBytes leaf.target (files opened.store) (files leaf.store) bytes
 
   -- Of these sinks that of this number holds, behind what it held at first, exactly one message for each piece of these bytes, in their order.
   -- If it is no fan it stands for them over one of these stores. The texts of the pieces are the bytes, where these are lines of texts.
@@ -83,6 +87,10 @@ module _ {S : Type 0} (files : S → Files) where
     pub stands : (leaf : LeafView S) → new ≡ Leaf leaf → StandsOver level stores messages (text_lines (pieces_of limit bytes)) leaf
     pub whole : AreTexts limit bytes → text_lines (pieces_of limit bytes) ≡ bytes
 
+-- A pipe counts that no piece is missing, and that none was below the level that the logger had when it was logged.
+abbrev pub LosesNone : {S : Type 0} → Piped S → Type 0
+LosesNone p = (p.missing ≡ 0) × (p.below ≡ 0)
+
 module _ {S : Type 0} (tells : Bool) (files : S → Files) (failures : S → ℕ) where
   -- Where the logger of a pipe does not overrun the oldest, nothing was overrun, whatever is missing.
   abbrev pub OverrunsNone : {c : Config} {stores : List S} {logger : ℕ} {level : Level} {before after : Option (List ℕ)} {p : Piped S}
@@ -91,9 +99,8 @@ module _ {S : Type 0} (tells : Bool) (files : S → Files) (failures : S → ℕ
       (s : Spec) → spec_at h.setup.loggers logger ≡ Some s → s.policy ≢ OverrunOldest → p.report.totals.overrun ≡ 0
 
   -- A pipe, by this account of it, of a reader that had these bytes and was read to its end: through a pool of one worker, to a logger
-  -- among whose sinks that of this number stands once. The store of that sink tells its files, and no turn there met a fault. It counts that
-  -- no piece is missing, that none was below the level that the logger had when it was logged, and, where the logger overruns the oldest, that
-  -- nothing was overrun.
+  -- among whose sinks that of this number stands once. The store of that sink tells its files, and no turn there met a fault. Where the logger
+  -- overruns the oldest, it counts that nothing was overrun.
   pub record FlowsTo (n : ℕ) (bytes : List ℕ) {c : Config} {stores : List S} {logger : ℕ} {level : Level} {before after : Option (List ℕ)}
       {p : Piped S} (h : Pipes tells files failures c stores logger level before after p) : Type 0 where
     pub had : before ≡ Some bytes
@@ -105,6 +112,4 @@ module _ {S : Type 0} (tells : Bool) (files : S → Files) (failures : S → ℕ
     pub once : count_by (λ (s : ℕ). s == n) spec.sinks.items ≡ 1
     pub told : tells ≡ true
     pub faultless : slice_get p.report.faults.items n ≡ Some 0
-    pub none_missing : p.missing ≡ 0
-    pub none_below : p.below ≡ 0
     pub none_overrun : spec.policy ≡ OverrunOldest → p.report.totals.overrun ≡ 0

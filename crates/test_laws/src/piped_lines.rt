@@ -2,7 +2,8 @@
 ghost use Rattle.std.specs.Prelude.{◌≡◌, ◌<◌, ℕ, IfOk, List, count_by, length};
 ghost use Rattle.alog_config.specs.Sinks.{is_leaf};
 ghost use Rattle.alog_pipe.specs.Pipes.{Pipes};
-ghost use Rattle.test_laws.specs.PipedLines.{FlowsTo, HoldsPieces, OverrunsNone};
+ghost use Rattle.test_laws.specs.PipedLines.{FlowsTo, HoldsPieces, LosesNone, OverrunsNone};
+ghost use Rattle.test_laws.specs.Stretches.{HoldsStretches};
 
 use alog_config::{BuildError, Config};
 use alog_lines::laws::short_lines_are_whole;
@@ -16,12 +17,16 @@ use std::sync::Wait;
 use std::thread::Threads;
 use std::time::Clock;
 
-/// Logs each line of a reader, as `pipe` does, which answers for it. Where its pool has one worker, the reader came to its end, and the
-/// answer counts no piece of a line that is missing or was below the logger's level, each sink of the logger where no turn met a fault and
-/// whose store tells its files holds, behind what it held, exactly one message for each piece of the reader's lines, in their order, with
-/// their texts, of this logger and level. If it is no fan it was opened over one of the stores, and its files are those of that store with
-/// the lines of these messages. Where these are the texts alone, its file, or the runs of its files one behind the other, are what was
-/// there and then these texts; and where the reader's lines are short and in UTF-8, these are the reader's bytes.
+/// Logs each line of a reader, as `pipe` does, which answers for it. Where its pool has one worker, and the reader came to its end, each
+/// sink of the logger where no turn met a fault and whose store tells its files holds, behind what it held, one message for each piece of the
+/// reader's lines, in their order, with their texts, of this logger and level, but for those that are missing or were below the logger's
+/// level, of which there are as many as the answer counts. In place of missing ones that follow each other there is a message that says how
+/// many they are, unless it is below that level; of the last ones there is none where there was no memory for it. If the sink is no fan it was
+/// opened over one of the stores, and its files are those of that store with the lines of these messages.
+///
+/// Where the answer counts no piece that is missing or was below the level, there is exactly one message for each. Where their lines are the
+/// texts alone, the sink's file, or the runs of its files one behind the other, are what was there and then these texts; and where the
+/// reader's lines are short and in UTF-8, these are the reader's bytes.
 ///
 /// Where the logger overruns the oldest, this is so if nothing was overrun; under the other policies nothing is, whatever is missing.
 pub fn pipe_lines<R, S, I>(
@@ -43,8 +48,12 @@ where
         (I.remaining input.new) p) }
     ensures spared { IfOk result (λ p. (h : Pipes S.tells S.files S.failures config.now stores.items logger level (I.remaining input.old)
         (I.remaining input.new) p) → OverrunsNone S.tells S.files S.failures h) }
-    ensures held { IfOk result (λ p. (h : Pipes S.tells S.files S.failures config.now stores.items logger level (I.remaining input.old)
+    ensures told { IfOk result (λ p. (h : Pipes S.tells S.files S.failures config.now stores.items logger level (I.remaining input.old)
         (I.remaining input.new) p) (n : ℕ) (bytes : List ℕ) → FlowsTo S.tells S.files S.failures n bytes h
+        → HoldsStretches S.files logger level n stores.items h.setup.sinks.items p.report.sinks.items config.now.text bytes p.missing p.below
+        h.through.log.hole) }
+    ensures held { IfOk result (λ p. (h : Pipes S.tells S.files S.failures config.now stores.items logger level (I.remaining input.old)
+        (I.remaining input.new) p) (n : ℕ) (bytes : List ℕ) → FlowsTo S.tells S.files S.failures n bytes h → LosesNone p
         → HoldsPieces S.files logger level n stores.items h.setup.sinks.items p.report.sinks.items config.now.text bytes) }
 {
     let piped = pipe(rt, alloc, config, stores, input, logger, level);
