@@ -49,7 +49,7 @@ module _ {B T W L : Type 0} (admits : L → B → Type 0) (a b : SwapPort B T W 
 
   module _ (ring_is : b.ring ≡ a.ring) (book_is : b.book ≡ a.book) (pass_is : b.pass.ghost_name ≡ a.pass.ghost_name)
       (lent : b.seat.ghost_name ≡ a.seat.ghost_name) (hand_is : b.hand.ghost_name ≡ a.hand.ghost_name)
-      (spare_is : b.spare.ghost_name ≡ a.spare.ghost_name) (new : IsPassOf a.ring.now.ring b.pass.now) where
+      (spare_is : b.spare.ghost_name ≡ a.spare.ghost_name) (pace_is : b.pace.ghost_name ≡ a.pace.ghost_name) (new : IsPassOf a.ring.now.ring b.pass.now) where
     module _ (seat_is : b.seat.now ≡ a.seat.now) (es : List (Event T)) (entries : List (Entry T (Option B)))
         (by : AreBy a.pass.now.known.actor es entries) (made : Made a.pass.now.known b.pass.now.known entries)
         (rounds : Rounds a.pass.now.known es b.pass.now.known)
@@ -63,6 +63,7 @@ module _ {B T W L : Type 0} (admits : L → B → Type 0) (a b : SwapPort B T W 
           seat_lent = lent;
           hand_lent = hand_is;
           spare_lent = spare_is;
+          pace_lent = pace_is;
           pass = inr (record { table = new.table ∙ sym fit.0.table; entries = entries; by = by; made = made; rounds = rounds });
           seat = inl (refl, refl, seat_is);
         },
@@ -119,6 +120,7 @@ module _ {B T W L : Type 0} (admits : L → B → Type 0) (a b : SwapPort B T W 
           seat_lent = lent;
           hand_lent = hand_is;
           spare_lent = spare_is;
+          pace_lent = pace_is;
           pass = inr (record {
             table = new.table ∙ sym fit.0.table;
             entries = _;

@@ -9,10 +9,7 @@ use Rattle.alog_ring.specs.Made.{Made, EndsWith, entry, Adds, next_seen, front_s
 use Rattle.alog_lane.specs.Seats as lane
 use Rattle.alog_policy.specs.BookAdds.{Add, Overran, Discarded, items_in, posts_in}
 use Rattle.alog_policy.specs.BookCalls.{IsSeatOf, SeatView}
-use Rattle.alog_policy.specs.Outlet.{Posts}
 use Rattle.alog_policy.specs.Rounds.{entries_by}
-use Rattle.alog_policy.specs.declared.policy.Policy.{Policy}
-use Rattle.alog_policy.specs.declared.policy.Outcome.{Outcome}
 use Rattle.alog_policy.specs.declared.port.Port.{Port}
 
 -- the pass made an entry of this event and nothing else, and what it has seen ends with it

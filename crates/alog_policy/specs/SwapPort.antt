@@ -1,4 +1,4 @@
--- A port on a swap ring: what it did. Its hand has the block that a post left, and its spare the one that a pop is to bring.
+-- A port on a swap ring: what it did. Its hand has the block that a post left, and that the next one from the hand posts, and its spare the one that a pop is to bring.
 use Rattle.std.specs.Prelude.{◌≡◌, ◌<◌, ◌⊎◌, ℕ, List, [], ◌∷◌, Option, IsSome, IfSome}
 use Rattle.alog_core.specs.Queue.{Event}
 use Rattle.alog_core.specs.History.{Entry}
@@ -42,7 +42,7 @@ module _ {B : Type 0} (admits : B → Type 0) where
   HandLeft old (Discarded v w k) new = new ≡ old
 
 -- The port made exactly these events, counted so many overrun items and so many discarded posts, and lends the same parts. A
--- pass without events, and a seat without losses, is as it was. Of the two blocks it says nothing.
+-- pass without events, and a seat without losses, is as it was. Of the two blocks and of the pace it says nothing.
 pub record SwapDid {B T W L : Type 0} (old : SwapPort B T W L) (es : List (Event T)) (items posts : ℕ) (new : SwapPort B T W L)
     : Type 0 where
   pub ring : new.ring ≡ old.ring
@@ -51,6 +51,7 @@ pub record SwapDid {B T W L : Type 0} (old : SwapPort B T W L) (es : List (Event
   pub seat_lent : new.seat.ghost_name ≡ old.seat.ghost_name
   pub hand_lent : new.hand.ghost_name ≡ old.hand.ghost_name
   pub spare_lent : new.spare.ghost_name ≡ old.spare.ghost_name
+  pub pace_lent : new.pace.ghost_name ≡ old.pace.ghost_name
   pub pass : ((es ≡ []) × (new.pass.now ≡ old.pass.now)) ⊎ SwapMade old.pass.now es new.pass.now
   pub seat : ((items ≡ 0) × (posts ≡ 0) × (new.seat.now ≡ old.seat.now)) ⊎ SeatCounted old.seat.now items posts new.seat.now
 

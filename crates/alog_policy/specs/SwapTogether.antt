@@ -69,6 +69,7 @@ module _ {B T W L : Type 0} where
     seat_lent = then.seat_lent ∙ first.seat_lent;
     hand_lent = then.hand_lent ∙ first.hand_lent;
     spare_lent = then.spare_lent ∙ first.spare_lent;
+    pace_lent = then.pace_lent ∙ first.pace_lent;
     pass = pass_both a.pass.now b.pass.now c.pass.now es fs first.pass then.pass;
     seat = seat_after a.seat.now b.seat.now c.seat.now k l m n first.seat then.seat;
   }

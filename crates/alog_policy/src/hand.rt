@@ -32,10 +32,7 @@ pub fn post_hand<B: Drop, T, W: Shows<B, T>, L: Limit<B>>(
     ensures blocks { policy ≡ under.Block → IsPostedOrSpent result }
 {
     match policy {
-        Policy::Block => {
-            let room = RoomWait::new(port.ring.places());
-            post_hand_blocking(rt, port, room)
-        }
+        Policy::Block => post_hand_blocking(rt, port),
         Policy::OverrunOldest | Policy::DiscardNew => post_hand_now(port, policy),
     }
 }
@@ -73,7 +70,6 @@ fn put_back<B: Drop>(home: &mut Option<B>, kept: Option<B>)
 fn post_hand_blocking<B: Drop, T, W: Shows<B, T>, L: Limit<B>>(
     rt: &(impl Wait + Clock),
     port: &mut SwapPort<'_, B, T, W, L>,
-    mut room: RoomWait,
 ) -> Outcome<()>
     requires fit { IsSwapFit L.admits port.old }
     requires there { IsThere (L.admits port.old.ring.now.ring.limit) port.old.hand.now }
@@ -81,10 +77,11 @@ fn post_hand_blocking<B: Drop, T, W: Shows<B, T>, L: Limit<B>>(
     ensures fit { IsSwapFit L.admits port.new }
     ensures blocks { IsPostedOrSpent result }
 {
+    let mut room = RoomWait::new();
     for _ in rt.forever() {
         match push_hand(port) {
             Ok(ticket) => return Outcome::Posted { ticket, overran: 0 },
-            Err(PushError::Full { value: (), next: _ }) => room.wait(rt),
+            Err(PushError::Full { value: (), next }) => room.wait(rt, port.pace, next),
             Err(PushError::Busy { value: (), seen: _ }) => room.give_way(),
             Err(PushError::Spent { value: () }) => {
                 port.count_discarded();

@@ -3,8 +3,9 @@
 //! `post_now` makes a post that never waits, on any `Outlet`, and answers its `Outcome`. A `Desk` is the stepped queue of
 //! `alog_core` whose actors also make posts, one atomic step at a time, and which counts what they lose; `Desk::outlet`
 //! lends it to one actor for posts that are made at once. A `LossBook` counts losses for any number of threads, and a
-//! `Port` posts on a running ring, a `SwapPort` on a swap ring; `post_wait` waits there under `Block`, as does `post_from`. The tests
-//! `overruns_the_oldest`, `posts_at_once`, `a_lone_port_posts` and `a_swap_port_posts` of `test_queue` are examples.
+//! `Port` posts on a running ring, a `SwapPort` on a swap ring; `post_wait` waits there under `Block`, as do `post_from` and
+//! `post_hand`. The tests `overruns_the_oldest`, `posts_at_once`, `a_lone_port_posts`, `a_swap_port_posts` and
+//! `a_port_posts_its_hand` of `test_queue` are examples.
 //!
 //! What a post is, is told by its actor's events alone: rounds that go on, and then one end. Read `specs/Post.antt` for that
 //! definition, `specs/Progress.antt` for the same as a machine, `specs/Outlet.antt` for what an outlet promises,
@@ -57,7 +58,7 @@ pub use port::Port;
 pub use post::{Post, Stepped};
 pub use posting::post_now;
 pub use progress::{Lost, Progress, Side};
-pub use room_wait::RoomWait;
+pub use room_wait::{Pace, RoomWait};
 pub use swap_port::SwapPort;
 pub use waiting::{post_from, post_wait};
 

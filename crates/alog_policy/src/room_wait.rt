@@ -7,42 +7,89 @@ use std::time::{Clock, Duration};
 /// system.
 const ROOM_SPINS: u32 = 4;
 
-/// Then it sleeps so many nanoseconds for each place of the queue, in which a worker makes some half of them free: the posts
-/// that come then need not wait. A post that looked again and again instead would take the words of the queue from the worker
-/// that is to make room, and cost it half of its time.
+/// Then it sleeps. The first sleep takes so many nanoseconds for each place of the queue, in which a worker makes some half of
+/// them free.
 const NAP_PER_PLACE: u64 = 125;
 
 /// But at most so many nanoseconds.
-const ROOM_NAP_MAX: u64 = 1_000_000;
+const FIRST_NAP_MAX: u64 = 1_000_000;
 
-/// What a post waits with until there is room: its own, from its first look on.
+/// A later one takes at least this part of the first.
+const SHORTEST_PART: u64 = 8;
+
+/// And at most so many nanoseconds.
+const ROOM_NAP_MAX: u64 = 10_000_000;
+
+/// How long the posts of a thread sleep where the queue is full: its own, from post to post.
 ///
-/// Of how long it waits no contract says anything. The test `a_port_waits_for_room` waits with it.
+/// From one sleep to the next some three quarters of the queue's places are to be claimed, by all threads, so that few posts
+/// sleep, and the worker still finds items meanwhile. So a sleep is longer than the last one where fewer were claimed, and
+/// shorter where more were: at most twice as long, and at least half. A post that looked again and again instead would take the
+/// words of the queue from the worker that is to make room, and cost it half of its time.
+///
+/// Of how long a post sleeps no contract says anything. The test `naps_follow_the_worker` shows it.
+#[derive(Clone, Copy, Debug)]
+pub struct Pace {
+    /// How many tickets are to be claimed from one sleep to the next.
+    aim: u64,
+    /// The nanoseconds of the shortest sleep.
+    least: u64,
+    /// Those of the last sleep, and before it of the first one.
+    nap: u64,
+    /// The ticket that found no room before the last sleep.
+    seen: Option<u64>,
+}
+
+impl Pace {
+    /// For a queue of so many places, which no post found full.
+    pub fn new(places: usize) -> Pace {
+        let places = places as u64;
+        let nap = NAP_PER_PLACE.saturating_mul(places).min(FIRST_NAP_MAX);
+        Pace {
+            aim: places - places / 4,
+            least: nap / SHORTEST_PART,
+            nap,
+            seen: None,
+        }
+    }
+
+    /// The nanoseconds of the next sleep, where this ticket found no room.
+    fn nap_at(&mut self, ticket: u64) -> u64 {
+        if let Some(seen) = self.seen {
+            let claimed = ticket.saturating_sub(seen).max(1);
+            let fit = self.nap.saturating_mul(self.aim) / claimed;
+            let least = self.least.max(self.nap / 2);
+            let most = ROOM_NAP_MAX.min(self.nap.saturating_mul(2));
+            self.nap = fit.max(least).min(most);
+        }
+        self.seen = Some(ticket);
+        self.nap
+    }
+}
+
+/// What a post waits with until there is room: its own, from its first look on. The test `a_port_waits_for_room` waits with it.
 #[derive(Drop)]
 pub struct RoomWait {
     backoff: Backoff,
     looks: u32,
-    places: usize,
 }
 
 impl RoomWait {
-    /// For a queue of so many places, which a post has not looked at.
-    pub fn new(places: usize) -> RoomWait {
+    /// For a post that has not looked.
+    pub fn new() -> RoomWait {
         RoomWait {
             backoff: Backoff::new(),
             looks: 0,
-            places,
         }
     }
 
-    /// Waits a little where there was no room.
-    pub fn wait(&mut self, clock: &impl Clock) {
+    /// Waits a little where this ticket found no room: where it sleeps, at the pace of the post's thread.
+    pub fn wait(&mut self, clock: &impl Clock, pace: &mut Pace, ticket: u64) {
         if self.looks < ROOM_SPINS {
             self.looks += 1;
             self.backoff.spin();
         } else {
-            let nap = NAP_PER_PLACE.saturating_mul(self.places as u64);
-            thread::sleep(clock, Duration::from_nanos(nap.min(ROOM_NAP_MAX)));
+            thread::sleep(clock, Duration::from_nanos(pace.nap_at(ticket)));
         }
     }
 

@@ -2,12 +2,13 @@
 use crate::book_seat::BookSeat;
 use crate::loss_book::LossBook;
 use crate::outlet::{Outlet, RoomyOutlet};
+use crate::room_wait::Pace;
 use alog_ring::{Limit, NoLimit, PopError, PushError, Shows, SwapPass, SwapRing, Whole};
 use std::mem;
 
-/// What a thread posts with on a running swap ring: it lends the ring, a pass of it, a loss book and a seat of that, and two
-/// blocks. Contracts ask that the pass belongs to the ring and the seat to the book, that a spare is there, and at a post that
-/// the hand is empty. The test `a_swap_port_posts` shows it.
+/// What a thread posts with on a running swap ring: it lends the ring, a pass of it, a loss book and a seat of that, two blocks,
+/// and a pace. Contracts ask that the pass belongs to the ring and the seat to the book, that a spare is there, at a post of another
+/// value that the hand is empty, and at `post_hand` that a block is in it. The test `a_swap_port_posts` shows it.
 ///
 /// A block that is posted leaves the one that lay in its place in the hand: so who posts has always one to write the next
 /// message into. What a post overruns is taken for the spare, and is the next one. Nothing is made or dropped.
@@ -21,10 +22,12 @@ pub struct SwapPort<'a, B, T = B, W: Shows<B, T> = Whole, L: Limit<B> = NoLimit>
     pub book: &'a LossBook,
     /// The seat that counts them.
     pub seat: &'a mut BookSeat,
-    /// What a post leaves: the block that lay in the place of its ticket.
+    /// What `post_hand` posts, and what a post leaves: the block that lay in the place of its ticket.
     pub hand: &'a mut Option<B>,
     /// What a pop brings.
     pub spare: &'a mut Option<B>,
+    /// How long `post_hand` sleeps where there is no room.
+    pub pace: &'a mut Pace,
 }
 
 impl<B: Drop, T, W: Shows<B, T>, L: Limit<B>> Outlet for SwapPort<'_, B, T, W, L> {

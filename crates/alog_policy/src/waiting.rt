@@ -6,7 +6,7 @@ ghost use Rattle.alog_policy.specs.declared.policy.Policy.TheVariants as under;
 use crate::outlet::{Outlet, RoomyOutlet};
 use crate::policy::{Outcome, Policy, Why};
 use crate::posting::{handed_back, post_at_once};
-use crate::room_wait::RoomWait;
+use crate::room_wait::{Pace, RoomWait};
 use alog_ring::PushError;
 use std::sync::Wait;
 use std::time::Clock;
@@ -53,8 +53,8 @@ pub fn post_from<O: RoomyOutlet>(
 {
     match policy {
         Policy::Block => {
-            let room = RoomWait::new(outlet.places());
-            post_blocking(rt, outlet, room, hand)
+            let pace = Pace::new(outlet.places());
+            post_blocking(rt, outlet, pace, hand)
         }
         Policy::OverrunOldest | Policy::DiscardNew => post_at_once(outlet, policy, hand),
     }
@@ -64,7 +64,7 @@ pub fn post_from<O: RoomyOutlet>(
 fn post_blocking<O: Outlet>(
     rt: &(impl Wait + Clock),
     outlet: &mut O,
-    mut room: RoomWait,
+    mut pace: Pace,
     hand: &mut Option<O::Value>,
 ) -> Outcome<()>
     requires fit { O.is_fit outlet.old }
@@ -75,10 +75,11 @@ fn post_blocking<O: Outlet>(
     ensures fit { O.is_fit outlet.new }
     ensures blocks { IsPostedOrSpent result }
 {
+    let mut room = RoomWait::new();
     for _ in rt.forever() {
         match outlet.push_from(hand) {
             Ok(ticket) => return Outcome::Posted { ticket, overran: 0 },
-            Err(PushError::Full { value: (), next: _ }) => room.wait(rt),
+            Err(PushError::Full { value: (), next }) => room.wait(rt, &mut pace, next),
             Err(PushError::Busy { value: (), seen: _ }) => room.give_way(),
             Err(PushError::Spent { value: () }) => {
                 outlet.count_discarded();

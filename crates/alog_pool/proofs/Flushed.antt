@@ -6,14 +6,14 @@ use Rattle.alog_lane.specs.Seats.{Entry}
 use Rattle.alog_lane.specs.Turns.{Turned}
 use Rattle.alog_msg.specs.declared.item.Item.{Item}
 use Rattle.alog_msg.specs.declared.item.Item.TheVariants.{Flush}
-use Rattle.alog_pool.specs.SinkSeat.{Answer, AreFlushed, Serves, SinkSeatView, is_unflushed, unflushed_after, unflushed_by}
+use Rattle.alog_pool.specs.SinkSeat.{Answer, AreFlushed, Serves, SinkSeatView, is_fan, is_unflushed, unflushed_after, unflushed_by}
 use Rattle.alog_sink.specs.Files.{Files}
 
 -- after one turn more
-pub unflushed-more : (before : Bool) (h : List (Entry (Turned Item Buffer Answer))) (x : Entry (Turned Item Buffer Answer))
-    → unflushed_after before (h ++ x ∷ []) ≡ unflushed_by (unflushed_after before h) x.deed.item x.deed.reply
-unflushed-more before [] x = refl
-unflushed-more before (y ∷ h) x = unflushed-more (unflushed_by before y.deed.item y.deed.reply) h x
+pub unflushed-more : (fan before : Bool) (h : List (Entry (Turned Item Buffer Answer))) (x : Entry (Turned Item Buffer Answer))
+    → unflushed_after fan before (h ++ x ∷ []) ≡ unflushed_by fan (unflushed_after fan before h) x.deed.item x.deed.reply
+unflushed-more fan before [] x = refl
+unflushed-more fan before (y ∷ h) x = unflushed-more fan (unflushed_by fan before y.deed.item y.deed.reply) h x
 
 module _ {S : Type 0} where
   -- a flush leaves nothing unflushed
@@ -21,8 +21,10 @@ module _ {S : Type 0} where
       → Serves tells files failures old tag (Flush n) new → is_unflushed new ≡ false
   own_flushed tells files failures old new tag n s =
       let entry : Entry (Turned Item Buffer Answer) = record { seat = old.seat.known.seat; deed = s.deed } in
-      ap (λ (h : List (Entry (Turned Item Buffer Answer))). unflushed_after false h) s.turn.made.own
-      ∙ unflushed-more false old.seat.known.own entry ∙ ap (λ (i : Item). unflushed_by (is_unflushed old) i s.deed.reply) s.item_is
+      let fan = is_fan new.lane.first in
+      ap (λ (h : List (Entry (Turned Item Buffer Answer))). unflushed_after fan false h) s.turn.made.own
+      ∙ unflushed-more fan false old.seat.known.own entry
+      ∙ ap (λ (i : Item). unflushed_by fan (unflushed_after fan false old.seat.known.own) i s.deed.reply) s.item_is
 
   pub more_flushed : (n : ℕ) (bs : List (SinkSeatView S)) (c : SinkSeatView S) → n < length bs → AreFlushed (take n bs)
       → is_unflushed c ≡ false → AreFlushed (take (suc n) (set bs n c))

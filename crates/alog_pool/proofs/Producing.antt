@@ -47,6 +47,7 @@ same_port a b e = record {
   seat = ap (λ (p : Queueing). p.seat.ghost_name) e;
   hand = ap (λ (p : Queueing). p.hand.ghost_name) e;
   spare = ap (λ (p : Queueing). p.spare.ghost_name) e;
+  pace = ap (λ (p : Queueing). p.pace.ghost_name) e;
   account = λ is. subst (λ (p : Queueing). IsAccountOf p.pass.now.known p.seat.now.known) (sym e) is;
 }
 
@@ -59,6 +60,7 @@ posts_port p x a b o none posts = record {
   seat = posts.done.seat_lent;
   hand = posts.done.hand_lent;
   spare = posts.done.spare_lent;
+  pace = posts.done.pace_lent;
   account =
       account_after posts.done (post_stops p x tt posts.events o posts.post a.pass.now.known.actor none)
       (post_takes p x tt posts.events o posts.post);
@@ -72,6 +74,7 @@ then_port a b c one two = record {
   seat = two.seat ∙ one.seat;
   hand = two.hand ∙ one.hand;
   spare = two.spare ∙ one.spare;
+  pace = two.pace ∙ one.pace;
   account = λ is. two.account (one.account is);
 }
 

@@ -17,6 +17,7 @@ use Rattle.alog_msg.proofs.SharedCrosses.{block_send, block_sync}
 use Rattle.alog_msg.specs.contracts.block.Block as Block
 use Rattle.alog_msg.specs.contracts.item.Item as Item
 use Rattle.alog_policy.proofs.SharedCrosses.{book_seat_send, book_send, book_sync}
+use Rattle.alog_policy.specs.contracts.room_wait.Pace as Pace
 use Rattle.alog_registry.proofs.SharedCrosses.{backtrace_send, loggers_send, loggers_sync, scratch_send}
 use Rattle.alog_registry.specs.contracts.backtrace.Backtrace as Backtrace
 use Rattle.alog_registry.specs.contracts.limit.TextLimit as TextLimit
@@ -79,6 +80,12 @@ backtrace_seat_send = view_send _ _ _ _ _ backtrace_seat_inside_send
 option_block_send : IsSend (Option.the_field Block.the_row).row
 option_block_send = search (sendable, block_send) depth 9
 
+ticket_send : IsSend (Option.the_field u64).row
+ticket_send = search sendable depth 9
+
+pace_send : IsSend (Pace.the_field).row
+pace_send = struct_send (shape Pace.the_type) (search sendable, (search sendable, (search sendable, (ticket_send, tt))))
+
 producer_inside_send : IsSend ProducerInside.the_row
 producer_inside_send = recorded_send (ProducerInside.the_field).row _ _ (ProducerInside.the_type).to_one (struct_send
     (shape ProducerInside.the_type) (
@@ -89,7 +96,7 @@ producer_inside_send = recorded_send (ProducerInside.the_field).row _ _ (Produce
           option_block_send,
           (
             option_block_send,
-            (book_seat_send, (Vec-send BacktraceSeat.the_row backtrace_seat_send, (search sendable, (search sendable, tt)))),
+            (pace_send, (book_seat_send, (Vec-send BacktraceSeat.the_row backtrace_seat_send, (search sendable, (search sendable, tt))))),
           ),
         ),
       ),
@@ -115,7 +122,7 @@ module _ (S : RattleType) (g : Ghosts S.Denot) where
 
   sink_seat_inside_send : IsSend S → IsSend (SinkSeatInside.the_row S g)
   sink_seat_inside_send s = recorded_send (SinkSeatInside.the_field S g).row _ _ (SinkSeatInside.the_type S g).to_one (struct_send
-      (shape (SinkSeatInside.the_type S g)) (sink_lane_send s, (sink_lane_seat_send s, (search sendable, (search sendable, (search sendable, tt))))))
+      (shape (SinkSeatInside.the_type S g)) (sink_lane_send s, (sink_lane_seat_send s, (search sendable, (search sendable, (search sendable, (search sendable, tt)))))))
 
   pub sink_seat_send : IsSend S → IsSend (SinkSeat.the_row S g)
   sink_seat_send s = view_send _ _ _ _ _ (sink_seat_inside_send s)

@@ -18,7 +18,7 @@ pub record IsAccountOf (pass : Known Item block_note) (seat : lane.Known Add) : 
   pub no_stop : claimed of_stops pass.own ≡ 0
   pub counted : items_in seat.own ≡ taken of_all pass.own
 
--- Both lend the same ring and book, and by the same references a pass and a seat, whose account stays one, and two blocks.
+-- Both lend the same ring and book, and by the same references a pass and a seat, whose account stays one, two blocks, and a pace.
 pub record LendsAlike (p q : BlockPort) : Type 0 where
   pub ring : q.ring ≡ p.ring
   pub book : q.book ≡ p.book
@@ -26,4 +26,5 @@ pub record LendsAlike (p q : BlockPort) : Type 0 where
   pub seat : q.seat.ghost_name ≡ p.seat.ghost_name
   pub hand : q.hand.ghost_name ≡ p.hand.ghost_name
   pub spare : q.spare.ghost_name ≡ p.spare.ghost_name
+  pub pace : q.pace.ghost_name ≡ p.pace.ghost_name
   pub account : IsAccountOf p.pass.now.known p.seat.now.known → IsAccountOf q.pass.now.known q.seat.now.known

@@ -12,6 +12,7 @@ use Rattle.alog_sink.specs.Sinks.{Turns}
 use Rattle.alog_sink.specs.declared.leaf.SinkError.{SinkError}
 use Rattle.alog_sink.specs.declared.leaf.Taken.TheVariants.{Below, Written}
 use Rattle.alog_sink.specs.declared.sink.Sink.{Sink}
+use Rattle.alog_sink.specs.declared.sink.Sink.TheVariants.{Fan, Leaf}
 use Rattle.alog_sink.specs.declared.turn.Served.{Served}
 use Rattle.alog_sink.specs.declared.turn.Served.TheVariants.{Flushed, Taken as Took}
 
@@ -54,27 +55,31 @@ abbrev pub fault_in : Answer → ℕ
 fault_in (Ok served) = 0
 fault_in (Err e) = 1
 
--- the turn wrote a line
-abbrev pub is_written : Answer → Bool
-is_written (Ok (Took Written)) = true
-is_written (Ok (Took Below)) = false
-is_written (Ok Flushed) = false
-is_written (Err e) = false
+abbrev pub is_fan : {S : Type 0} → Sink S → Bool
+is_fan (Leaf l) = false
+is_fan (Fan f) = true
 
--- whether a line is unflushed after a turn at this item, which was answered so
-abbrev pub unflushed_by : Bool → Item → Answer → Bool
-unflushed_by before (Text m) reply = before || is_written reply
-unflushed_by before (Flush n) reply = false
-unflushed_by before Stop reply = false
+-- The turn on a fan, or on another sink, wrote a line, or may have: where a fan answers by a fault, others of its members may have written.
+abbrev pub may_write : Bool → Answer → Bool
+may_write fan (Ok (Took Written)) = true
+may_write fan (Ok (Took Below)) = false
+may_write fan (Ok Flushed) = false
+may_write fan (Err e) = fan
 
--- whether it is after these turns
-abbrev pub unflushed_after : Bool → List (Entry (Turned Item Buffer Answer)) → Bool
-unflushed_after before [] = before
-unflushed_after before (x ∷ h) = unflushed_after (unflushed_by before x.deed.item x.deed.reply) h
+-- whether a line may be unflushed after a turn at this item, which was answered so
+abbrev pub unflushed_by : Bool → Bool → Item → Answer → Bool
+unflushed_by fan before (Text m) reply = before || may_write fan reply
+unflushed_by fan before (Flush n) reply = false
+unflushed_by fan before Stop reply = false
 
--- The seat wrote a line behind which it made no flush.
+-- whether one may be after these turns
+abbrev pub unflushed_after : Bool → Bool → List (Entry (Turned Item Buffer Answer)) → Bool
+unflushed_after fan before [] = before
+unflushed_after fan before (x ∷ h) = unflushed_after fan (unflushed_by fan before x.deed.item x.deed.reply) h
+
+-- The seat wrote a line, or may have, behind which it made no flush.
 abbrev pub is_unflushed : {S : Type 0} → SinkSeatView S → Bool
-is_unflushed b = unflushed_after false b.seat.known.own
+is_unflushed b = unflushed_after (is_fan b.lane.first) false b.seat.known.own
 
 -- each place has flushed what it wrote
 abbrev pub AreFlushed : {S : Type 0} → List (SinkSeatView S) → Type 0

@@ -1,17 +1,20 @@
 //! How a worker waits for an item.
 use alog_ring::PopError;
 use crossbeam_utils::Backoff;
-use std::thread;
 use std::time::{Clock, Duration};
+use std::{hint, thread};
 
 /// A worker that finds an item on its way looks again at once, so many times: its producer has only to write it. A producer
 /// that has not written it by then was most likely preempted, and a worker that went on could keep it from a processor: from
 /// then on it yields before each look. A look took 7 ns on a machine of 2.5 GHz, so these take less than a microsecond.
 const LOOKS: u32 = 100;
 
-/// A worker that finds the queue idle spins so many steps of the backoff first: an item that comes meanwhile costs no call of
-/// the system.
-const ITEM_SPINS: u32 = 7;
+/// A worker that finds the queue idle rests so many times first: an item that comes meanwhile costs no call of the system.
+const RESTS: u32 = 7;
+
+/// Each of these rests is so many spins, some microseconds. A worker that looked sooner would be behind each item of a producer at
+/// once, and take the words of the queue from it with each look; so several items come meanwhile.
+const REST_SPINS: u32 = 64;
 
 /// Then it yields so many times, which lets a producer on its processor get on.
 const YIELDS: u32 = 8;
@@ -32,11 +35,10 @@ const ITEM_NAP_MAX: u64 = 2_000;
 pub struct ItemWait {
     /// Looks since the queue was idle last, each of which found an item on its way, as far as they are counted.
     looks: u32,
-    /// Spins and yields while the queue was idle.
+    /// Rests and yields while the queue was idle.
     rests: u32,
     nap: u64,
     longest: u64,
-    backoff: Backoff,
     /// Spins after pops that another was faster at.
     beaten: Backoff,
 }
@@ -49,7 +51,6 @@ impl ItemWait {
             rests: 0,
             nap: FIRST_NAP,
             longest: ITEM_NAP_MAX.saturating_mul(workers as u64),
-            backoff: Backoff::new(),
             beaten: Backoff::new(),
         }
     }
@@ -76,9 +77,9 @@ impl ItemWait {
     /// Nothing is there.
     fn rest(&mut self, clock: &impl Clock) {
         self.looks = 0;
-        if self.rests < ITEM_SPINS {
-            self.backoff.spin();
-        } else if self.rests < ITEM_SPINS + YIELDS {
+        if self.rests < RESTS {
+            spin();
+        } else if self.rests < RESTS + YIELDS {
             thread::yield_now();
         } else {
             thread::sleep(clock, Duration::from_micros(self.nap));
@@ -86,5 +87,12 @@ impl ItemWait {
             return;
         }
         self.rests += 1;
+    }
+}
+
+/// Spins for some microseconds.
+fn spin() {
+    for _ in 0..REST_SPINS {
+        hint::spin_loop();
     }
 }

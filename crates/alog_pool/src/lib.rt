@@ -9,7 +9,7 @@
 //! turns are those that the definition of the work gives for the items that were taken, in their order and by their tags, and beside
 //! them flushes of its own, under a tag that no item has; the place's faults count those that were answered by one
 //! (`specs/Deeds.antt`); `SinkSeat` says of one turn what it is (`specs/SinkSeat.antt`). A worker that finds the queue idle flushes
-//! each sink to which its seat wrote a line behind its last flush, and then rests; so does one that ends.
+//! each sink to which its seat wrote a line, or may have, behind its last flush, and then rests; so does one that ends.
 //!
 //! A `Producer` has a pass of the ring, two blocks, a seat of the loss book and a place at the backtrace of each logger
 //! (`BacktraceSeat`). Each of its calls is one of `Loggers` on what it lends (`specs/Producer.antt`, `BacktraceSeat.antt`). The law

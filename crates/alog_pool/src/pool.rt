@@ -23,7 +23,7 @@ use crate::shared::{Queue, QueuePass, Shared};
 use crate::sink_seat::SinkSeat;
 use alog_core::{TICKET_END, is_size};
 use alog_msg::Block;
-use alog_policy::BookSeat;
+use alog_policy::{BookSeat, Pace};
 use alog_registry::{Loggers, TextLimit};
 use alog_ring::SwapRing;
 use alog_sink::Store;
@@ -155,6 +155,7 @@ impl<S: Store + Drop + Send + 'static> Pool<S> {
             pass: shared.ring.split(&mut self.pass, 1),
             hand: Some(hand),
             spare: Some(spare),
+            pace: Pace::new(shared.ring.places()),
             losses: shared.book.split(&mut self.losses, 1),
             shared,
             backtrace_seats,

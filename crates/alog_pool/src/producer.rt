@@ -19,7 +19,7 @@ ghost use Rattle.alog_registry.specs.declared.logger.Spec.{Spec};
 use crate::backtrace_seat::BacktraceSeat;
 use crate::shared::{QueuePass, Shared};
 use alog_msg::{Block, Level, MessageError, SourceRef};
-use alog_policy::{BookSeat, Outcome};
+use alog_policy::{BookSeat, Outcome, Pace};
 use alog_registry::{BlockPort, LogReply, Loggers, MessageRef};
 use std::alloc::{AllocError, Global};
 use std::fmt;
@@ -38,6 +38,7 @@ macro_rules! port_of {
             seat: &mut $producer.losses,
             hand: &mut $producer.hand,
             spare: &mut $producer.spare,
+            pace: &mut $producer.pace,
         }
     };
 }
@@ -53,6 +54,8 @@ pub struct Producer {
     /// The block that its next message is written into, and the one that its next pop brings.
     pub(crate) hand: Option<Block>,
     pub(crate) spare: Option<Block>,
+    /// How long its posts sleep where the queue is full.
+    pub(crate) pace: Pace,
     /// Its seat of the loss book.
     pub(crate) losses: BookSeat,
     /// Its place at the backtrace of each logger.

@@ -121,6 +121,7 @@ fn gather(shared: &Shared, pass: &mut QueuePass, losses: &mut BookSeat, producer
             pass: own,
             hand: _,
             spare: _,
+            pace: _,
             losses: seat,
             backtrace_seats: _,
             number: _,

@@ -4,7 +4,7 @@ ghost use Rattle.alog_lane.specs.Calls.{Closes};
 ghost use Rattle.alog_lane.specs.Seats.{IsJoined};
 ghost use Rattle.alog_lane.specs.declared.seat.TheConstants.{ALL_PARTS};
 ghost use Rattle.alog_pattern.specs.declared.patterns.TheConstants.{LINE_MAX};
-ghost use Rattle.alog_pool.specs.SinkSeat.{IsServable, Serves, fault_in, is_unflushed, place_of, unflushed_by};
+ghost use Rattle.alog_pool.specs.SinkSeat.{IsServable, Serves, fault_in, is_fan, is_unflushed, may_write, place_of, unflushed_by};
 ghost use Rattle.alog_pool.specs.Deeds.{HasMade};
 ghost use Rattle.alog_pool.specs.Places.{IsFirst, IsPart};
 ghost use Rattle.alog_sink.specs.Sinks.{Suits, Turns};
@@ -25,7 +25,9 @@ pub struct SinkSeat<S: Store> {
     pub(crate) lane: Arc<Lane<Sink<S>>>,
     pub(crate) seat: LaneSeat<Sink<S>>,
     pub(crate) faults: u64,
-    /// Whether the seat wrote a line since it flushed last.
+    /// Whether the sink is a fan.
+    fan: bool,
+    /// Whether the seat wrote a line since it flushed last, or may have.
     unflushed: bool,
     /// The most bytes of a text.
     pub(crate) text_limit: usize,
@@ -36,7 +38,7 @@ impl<S: Store> Model for SinkSeat<S> {
     ghost use Rattle.std.specs.Arc.{arc_value};
     ghost use Rattle.alog_lane.specs.Calls.{IsSeatOf};
     ghost use Rattle.alog_pattern.specs.declared.patterns.TheConstants.{LINE_MAX};
-    ghost use Rattle.alog_pool.specs.SinkSeat.{SinkSeatView, unflushed_after};
+    ghost use Rattle.alog_pool.specs.SinkSeat.{SinkSeatView, is_fan, unflushed_after};
     ghost use Rattle.alog_sink.specs.Sinks.{Suits};
 
     ghost Value = { SinkSeatView S };
@@ -44,7 +46,7 @@ impl<S: Store> Model for SinkSeat<S> {
     ghost view = { λ b. record { lane = arc_value b.lane; seat = b.seat; faults = b.faults; limit = b.text_limit } };
 
     ghost invariant = { λ b. IsSeatOf (arc_value b.lane) b.seat × Suits b.text_limit LINE_MAX (arc_value b.lane).first
-        × (b.unflushed ≡ unflushed_after false b.seat.known.own) };
+        × (b.fan ≡ is_fan (arc_value b.lane).first) × (b.unflushed ≡ unflushed_after (is_fan (arc_value b.lane).first) false b.seat.known.own) };
 }
 
 impl<S: Store> SinkSeat<S> {
@@ -57,10 +59,10 @@ impl<S: Store> SinkSeat<S> {
     {
         let (_, reply) = self.lane.turn(rt, &mut self.seat, tag, item, line);
         self.faults = self.faults.saturating_add(fault_in(&reply));
-        self.unflushed = is_unflushed(self.unflushed, item, &reply);
+        self.unflushed = is_unflushed(self.fan, self.unflushed, item, &reply);
     }
 
-    /// Flushes the sink, if the seat wrote a line since it flushed last.
+    /// Flushes the sink, if the seat wrote a line since it flushed last, or may have.
     pub(crate) fn flush_written(&mut self, rt: &impl Wait, line: &mut LineBuf)
         requires line { line.old.capacity ≡ LINE_MAX }
         ensures made { HasMade self.old self.new [] }
@@ -86,12 +88,30 @@ fn fault_in(reply: &Result<Served, SinkError>) -> u64
     }
 }
 
-/// Whether a line is unflushed after a turn at this item that was answered so.
-fn is_unflushed(before: bool, item: &Item, reply: &Result<Served, SinkError>) -> bool
-    ensures { result ≡ unflushed_by before item.now reply.now }
+/// Whether a sink is a fan.
+fn is_fan<S: Store>(sink: &Sink<S>) -> bool
+    ensures { result ≡ is_fan sink.now }
+{
+    matches!(sink, Sink::Fan(_))
+}
+
+/// Whether a turn that was answered so wrote a line, or may have: a fan answers a fault of one of its members, and the others write.
+fn may_write(fan: bool, reply: &Result<Served, SinkError>) -> bool
+    ensures { result ≡ may_write fan reply.now }
+{
+    match reply {
+        Ok(Served::Taken(Taken::Written)) => true,
+        Ok(Served::Taken(Taken::Below) | Served::Flushed) => false,
+        Err(_) => fan,
+    }
+}
+
+/// Whether a line may be unflushed after a turn at this item that was answered so.
+fn is_unflushed(fan: bool, before: bool, item: &Item, reply: &Result<Served, SinkError>) -> bool
+    ensures { result ≡ unflushed_by fan before item.now reply.now }
 {
     match item {
-        Item::Text(_) => before || matches!(reply, Ok(Served::Taken(Taken::Written))),
+        Item::Text(_) => before || may_write(fan, reply),
         Item::Flush(_) | Item::Stop => false,
     }
 }
@@ -106,6 +126,7 @@ impl<S: Store + Drop> SinkSeat<S> {
         requires { Suits text_limit LINE_MAX sink }
         ensures { IfOk result (λ b. IsFirst text_limit sink b) }
     {
+        let fan = is_fan(&sink);
         let Ok((lane, seat)) = Lane::new(alloc, sink) else {
             return Err(AllocError);
         };
@@ -114,6 +135,7 @@ impl<S: Store + Drop> SinkSeat<S> {
                 lane,
                 seat,
                 faults: 0,
+                fan,
                 unflushed: false,
                 text_limit,
             }),
@@ -133,6 +155,7 @@ impl<S: Store + Drop> SinkSeat<S> {
             lane,
             seat,
             faults: 0,
+            fan: self.fan,
             unflushed: false,
             text_limit: self.text_limit,
         })
@@ -149,6 +172,7 @@ impl<S: Store + Drop> SinkSeat<S> {
             lane: _,
             seat,
             faults,
+            fan: _,
             unflushed: _,
             text_limit: _,
         } = place;
@@ -165,6 +189,7 @@ impl<S: Store + Drop> SinkSeat<S> {
             lane,
             seat,
             faults: _,
+            fan: _,
             unflushed: _,
             text_limit: _,
         } = self;

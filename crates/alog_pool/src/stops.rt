@@ -7,7 +7,7 @@ ghost use Rattle.alog_ring.specs.Made.{IsFaithful};
 
 use crate::shared::{Queue, QueuePass};
 use alog_msg::Block;
-use alog_policy::RoomWait;
+use alog_policy::{Pace, RoomWait};
 use alog_ring::PushError;
 use std::sync::Wait;
 use std::time::Clock;
@@ -44,12 +44,14 @@ fn post_stop(rt: &(impl Wait + Clock), ring: &Queue, pass: &mut QueuePass, hand:
     ensures hand { HoldsTo ring.now.ring.limit hand.new }
     ensures did { DidPost pass.old.known pass.new.known result }
 {
-    let mut room = RoomWait::new(ring.places());
+    let mut room = RoomWait::new();
     for _ in rt.forever() {
         if let Some(posted) = try_stop(ring, pass, hand) {
             return posted;
         }
-        room.wait(rt);
+        // A stop waits for one place alone, so each of its sleeps is as long as a first one.
+        let mut pace = Pace::new(ring.places());
+        room.wait(rt, &mut pace, 0);
     }
     unreachable!()
 }

@@ -235,7 +235,7 @@ fn take_waiting<S: Store, R: Wait + Clock>(
     unreachable!()
 }
 
-/// After a pop that found the queue idle, flushes each sink to which the place wrote a line since it flushed last.
+/// After a pop that found the queue idle, flushes each sink to which the place wrote a line, or may have, since it flushed last.
 fn flush_if_idle<S: Store>(
     rt: &impl Wait,
     error: PopError,
@@ -254,7 +254,7 @@ fn flush_if_idle<S: Store>(
     }
 }
 
-/// Flushes each sink to which the place wrote a line since it flushed last.
+/// Flushes each sink to which the place wrote a line, or may have, since it flushed last.
 fn flush_all<S: Store>(rt: &impl Wait, sink_seats: &mut Vec<SinkSeat<S>>, line: &mut LineBuf)
     requires line { line.old.capacity ≡ LINE_MAX }
     ensures turns { HaveMade 0 sink_seats.old.items sink_seats.new.items [] }

@@ -76,7 +76,7 @@ pub trait ItemOutlet {
         ensures made { shows self.new result ≡ Flush number }
         ensures fit { is_fit self.new result × did self.old [] 0 0 self.new };
 
-    /// Posts the value, as `alog_policy::post_now` does. Nothing is handed back of a discarded one.
+    /// Posts the value, as `alog_policy::post_now` or `post_hand_now` does. Nothing is handed back of a discarded one.
     fn post_now(&mut self, policy: Policy, value: Self::Value) -> Outcome<()>
         requires { is_fit self.old value }
         ensures post { PostsItemNow did policy (shows self.old value) self.old self.new result }
@@ -97,8 +97,8 @@ pub trait WaitingItemOutlet: ItemOutlet {
     ghost use Rattle.alog_policy.specs.declared.policy.Policy.TheVariants as under;
     ghost use Rattle.alog_registry.specs.ItemOutlet.{PostsItem};
 
-    /// Posts the value that lies in the hand, as `alog_policy::post_from` does: under `Block` it waits until there is room. A
-    /// discarded value is left in the hand. That it returns is not promised.
+    /// Posts the value that lies in the hand, as `alog_policy::post_from` or `post_hand` does: under `Block` it waits until there is
+    /// room. A discarded value is left in the hand. That it returns is not promised.
     fn post_waiting(
         &mut self,
         rt: &(impl Wait + Clock),

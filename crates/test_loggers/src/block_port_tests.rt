@@ -10,7 +10,7 @@ use crate::trial::{
     TEXT_LIMIT, discarded, dump_twice, is_outcome, keep_three, log_to_a_full, one, overran, posted,
 };
 use alog_msg::{Block, Item};
-use alog_policy::{Outcome, Policy};
+use alog_policy::{Outcome, Pace, Policy};
 use alog_registry::{Backtrace, BlockPort, Contents, ItemOutlet, Loggers, TextLimit};
 use alog_ring::{NewError, SwapNewError, SwapPass, SwapRing};
 use std::alloc::{AllocError, Global};
@@ -138,6 +138,7 @@ fn keep_on_blocks(
     let (book, mut losses) = new_book(rt, alloc);
     let mut hand = Some(block_of(rt, alloc));
     let mut spare = Some(block_of(rt, alloc));
+    let mut pace = Pace::new(ring.places());
     let mut port = BlockPort {
         ring,
         pass,
@@ -145,6 +146,7 @@ fn keep_on_blocks(
         seat: &mut losses,
         hand: &mut hand,
         spare: &mut spare,
+        pace: &mut pace,
     };
     keep_dump_and_flush(rt, loggers, alloc, &mut port, backtrace);
     are_there(rt, &hand, &spare);
@@ -185,6 +187,7 @@ fn log_to_full_blocks(
     let (book, mut losses) = new_book(rt, alloc);
     let mut hand = Some(block_of(rt, alloc));
     let mut spare = Some(block_of(rt, alloc));
+    let mut pace = Pace::new(ring.places());
     let mut port = BlockPort {
         ring,
         pass,
@@ -192,6 +195,7 @@ fn log_to_full_blocks(
         seat: &mut losses,
         hand: &mut hand,
         spare: &mut spare,
+        pace: &mut pace,
     };
     log_to_a_full(rt, loggers, alloc, &mut port, outcome);
     are_there(rt, &hand, &spare);

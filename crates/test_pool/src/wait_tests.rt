@@ -54,7 +54,7 @@ fn rests_where_the_queue_is_idle_alone(rt: HostRuntime) {
     let mut wait = ItemWait::new(1);
     has_slept(&rt, &mut wait, &clock, PopError::Empty { next: 7 }, (0, 0));
     has_slept(&rt, &mut wait, &clock, PopError::Busy { seen: 7 }, (0, 0));
-    // Seven spins and eight yields come before the first sleep, of 50 microseconds; the seventh and all behind it take two thousand.
+    // Seven rests and eight yields come before the first sleep, of 50 microseconds; the seventh and all behind it take two thousand.
     let slept = (985, 1_961_150);
     has_slept(&rt, &mut wait, &clock, PopError::Idle { next: 7 }, slept);
     has_slept(&rt, &mut wait, &clock, PopError::Empty { next: 7 }, slept);

@@ -1,5 +1,5 @@
 //! How a post waits for room.
-use alog_policy::RoomWait;
+use alog_policy::{Pace, RoomWait};
 use std::io;
 use std::process::Abort;
 use std::sync::atomic::{AtomicU64, Ordering};
@@ -10,6 +10,29 @@ use std::time::{Clock, Duration};
 struct Stopped {
     sleeps: AtomicU64,
     nanos: AtomicU64,
+}
+
+impl Stopped {
+    fn new() -> Stopped {
+        Stopped {
+            sleeps: AtomicU64::new(0),
+            nanos: AtomicU64::new(0),
+        }
+    }
+
+    /// So many sleeps, of so many nanoseconds in all, were asked for.
+    fn was_asked(&self, rt: &impl Abort, sleeps: u64, nanos: u64) {
+        let asked = (
+            self.sleeps.load(Ordering::SeqCst),
+            self.nanos.load(Ordering::SeqCst),
+        );
+        assert!(rt;
+            asked == (sleeps, nanos),
+            "{} sleeps of {} ns",
+            asked.0,
+            asked.1
+        );
+    }
 }
 
 impl Clock for Stopped {
@@ -28,34 +51,99 @@ impl Clock for Stopped {
     }
 }
 
-/// Of a hundred waits at a queue of so many places, all but the first four are sleeps of so many nanoseconds.
-fn sleeps_so_long(rt: &impl Abort, places: usize, nap: u64) {
-    let clock = Stopped {
-        sleeps: AtomicU64::new(0),
-        nanos: AtomicU64::new(0),
-    };
-    let mut wait = RoomWait::new(places);
-    for _ in 0..100 {
-        wait.wait(&clock);
+/// A post whose ticket finds no room looks four times again, and then sleeps so many nanoseconds.
+fn sleeps_so_long(rt: &impl Abort, pace: &mut Pace, ticket: u64, nap: u64) {
+    let clock = Stopped::new();
+    let mut room = RoomWait::new();
+    for _ in 0..4 {
+        room.wait(&clock, pace, ticket);
     }
-    let sleeps = clock.sleeps.load(Ordering::SeqCst);
-    let nanos = clock.nanos.load(Ordering::SeqCst);
-    assert!(rt; sleeps == 96 && nanos.checked_div(96) == Some(nap));
+    clock.was_asked(rt, 0, 0);
+    room.wait(&clock, pace, ticket);
+    clock.was_asked(rt, 1, nap);
 }
 
-/// Places, and the nanoseconds of a sleep. From 8,000 places on it is the longest nap.
-const NAPS: [(usize, u64); 6] = [
-    (2, 250),
-    (256, 32_000),
-    (4_096, 512_000),
-    (7_999, 999_875),
-    (8_001, 1_000_000),
+/// The tickets of a thread's posts that find no room, one after another, and the nanoseconds that each of these posts sleeps.
+type Naps = &'static [(u64, u64)];
+
+/// At 8,192 places 6,144 tickets are to be claimed from one sleep to the next.
+const OF_MANY: Naps = &[
+    // The first, and none claimed since: each sleep is twice as long, up to 10 ms.
+    (8_192, 1_000_000),
+    (8_192, 2_000_000),
+    (8_192, 4_000_000),
+    (8_192, 8_000_000),
+    (8_192, 10_000_000),
+    (8_192, 10_000_000),
+    // As many as are to be, and one more than that: a sleep is as long, and then a little shorter.
+    (14_336, 10_000_000),
+    (20_481, 9_998_372),
+    // Twice as many, and more: it is half as long, but not less than an eighth of the first.
+    (32_769, 4_999_186),
+    (1_000_000, 2_499_593),
+    (2_000_000, 1_249_796),
+    (3_000_000, 624_898),
+    (4_000_000, 312_449),
+    (5_000_000, 156_224),
+    (6_000_000, 125_000),
+    (7_000_000, 125_000),
+    // Three quarters of them, half of them, and fewer.
+    (7_004_608, 166_666),
+    (7_007_680, 333_332),
+    (7_007_681, 666_664),
+];
+
+/// At two places two.
+const OF_TWO: Naps = &[
+    (1_000, 250),
+    (1_002, 250),
+    (1_003, 500),
+    (1_006, 333),
+    (1_016, 166),
+    (1_026, 83),
+    (1_036, 41),
+    (1_046, 31),
+    (1_056, 31),
+    (1_056, 62),
+];
+
+/// At 65,536 places 49,152.
+const OF_MOST: Naps = &[
     (65_536, 1_000_000),
+    (114_688, 1_000_000),
+    (180_224, 750_000),
+    (212_992, 1_125_000),
+];
+
+/// How many places a queue has, and the naps of a thread that posts there. From 8,000 places on the first takes a millisecond.
+const ROWS: [(usize, Naps); 7] = [
+    (2, OF_TWO),
+    (256, &[(256, 32_000)]),
+    (4_096, &[(4_096, 512_000)]),
+    (7_999, &[(0, 999_875)]),
+    (8_001, &[(0, 1_000_000)]),
+    (8_192, OF_MANY),
+    (65_536, OF_MOST),
 ];
 
 #[test]
-fn a_post_sleeps_by_the_places(rt: HostRuntime) {
-    for (places, nap) in &NAPS {
-        sleeps_so_long(&rt, *places, *nap);
+fn naps_follow_the_worker(rt: HostRuntime) {
+    for (places, naps) in &ROWS {
+        let mut pace = Pace::new(*places);
+        for (ticket, nap) in *naps {
+            sleeps_so_long(&rt, &mut pace, *ticket, *nap);
+        }
     }
+}
+
+// A post that goes on finding no room sleeps at each look from the fifth on.
+#[test]
+fn a_post_sleeps_again_and_again(rt: HostRuntime) {
+    let clock = Stopped::new();
+    let mut pace = Pace::new(8_192);
+    let mut room = RoomWait::new();
+    for _ in 0..100 {
+        room.wait(&clock, &mut pace, 8_192);
+    }
+    clock.was_asked(&rt, 96, 935_000_000);
 }

@@ -20,9 +20,9 @@ const PLACES: u64 = 8;
 
 // A ring, and a pass of it.
 #[derive(Drop)]
-struct Worker<'a> {
-    ring: &'a SwapRing<u64>,
-    pass: SwapPass<u64>,
+pub(crate) struct Worker<'a> {
+    pub(crate) ring: &'a SwapRing<u64>,
+    pub(crate) pass: SwapPass<u64>,
     ghost fits: { IsPassOf ring.now.ring pass },
 }
 

@@ -3,17 +3,20 @@ ghost use Rattle.alog_ring.specs.Known.{IsPassOf};
 ghost use Rattle.alog_policy.specs.BookCalls.{IsSeatOf};
 
 use crate::port_tests::{has_lost, new_book};
-use crate::swap_ring_tests::{leaves, list, swap_ring_of};
+use crate::swap_crossing_tests::Worker;
+use crate::swap_ring_tests::{Deed, goes_on, leaves, list, swap_ring_of};
 use alog_core::TICKET_END;
 use alog_policy::{
-    BookSeat, LossBook, Outcome, Policy, SwapPort, Why, post_hand, post_hand_now, post_now,
+    BookSeat, LossBook, Outcome, Pace, Policy, SwapPort, Why, post_hand, post_hand_now, post_now,
     post_wait,
 };
 use alog_ring::{SwapPass, SwapRing};
 use std::alloc::Global;
 use std::process::Abort;
 use std::sync::Wait;
-use std::time::Clock;
+use std::sync::atomic::{AtomicU64, Ordering};
+use std::time::{Clock, Duration};
+use std::{io, thread};
 
 /// A post: its policy, whether it may wait, its value, and the spare that a pop of it would bring; and how it ends: with a ticket after so
 /// many overrun, and with this block in the hand and this spare, or without a ticket.
@@ -39,6 +42,7 @@ fn post(
 {
     let (value, spare) = brought;
     let (mut hand, mut spare) = (None, Some(spare));
+    let mut pace = Pace::new(ring.places());
     let mut port = SwapPort {
         ring,
         pass,
@@ -46,6 +50,7 @@ fn post(
         seat,
         hand: &mut hand,
         spare: &mut spare,
+        pace: &mut pace,
     };
     let outcome = if is_waiting {
         post_wait(rt, &mut port, policy, value)
@@ -143,6 +148,7 @@ fn post_of_hand(
     ensures { IsPassOf ring.now.ring pass.new × IsSeatOf book.now seat.new }
 {
     let (mut hand, mut spare) = (Some(brought.0), Some(brought.1));
+    let mut pace = Pace::new(ring.places());
     let mut port = SwapPort {
         ring,
         pass,
@@ -150,6 +156,7 @@ fn post_of_hand(
         seat,
         hand: &mut hand,
         spare: &mut spare,
+        pace: &mut pace,
     };
     let outcome = if is_waiting {
         post_hand(rt, &mut port, policy)
@@ -249,4 +256,96 @@ fn a_hand_without_a_ticket(rt: HostRuntime) {
     for policy in [Policy::Block, Policy::OverrunOldest, Policy::DiscardNew] {
         posts_by_hand(&rt, rt.alloc(), LAST, &at_last(policy), (0, 2), left);
     }
+}
+
+/// A runtime that counts the sleeps that it is asked for, and sleeps as this one does.
+#[derive(Drop)]
+struct Napping<'a, R> {
+    rt: &'a R,
+    naps: &'a AtomicU64,
+}
+
+impl<R: Wait> Wait for Napping<'_, R> {}
+
+impl<R: Clock> Clock for Napping<'_, R> {
+    fn monotonic(&self) -> io::Result<Duration> {
+        self.rt.monotonic()
+    }
+
+    fn since_1970(&self) -> io::Result<Duration> {
+        self.rt.since_1970()
+    }
+
+    fn sleep(&self, duration: Duration) {
+        self.naps.fetch_add(1, Ordering::SeqCst);
+        self.rt.sleep(duration);
+    }
+}
+
+/// What a thread posts with on a swap ring.
+#[derive(Drop)]
+struct Poster<'a> {
+    ring: &'a SwapRing<u64>,
+    pass: SwapPass<u64>,
+    book: &'a LossBook,
+    seat: BookSeat,
+    ghost fits: { IsPassOf ring.now.ring pass × IsSeatOf book.now seat },
+}
+
+/// A post of 9, which lies in the hand, waits for room, and gets ticket 2.
+fn waits(rt: &(impl Abort + Wait + Clock), poster: Poster<'_>, naps: &AtomicU64) {
+    let Poster {
+        ring,
+        mut pass,
+        book,
+        mut seat,
+    } = poster;
+    let napping = Napping { rt, naps };
+    let row = (Policy::Block, true, (9, 50), Ok((2, 0, 60, 50)));
+    let (policy, is_waiting, brought, _) = row;
+    let left = post_of_hand(
+        &napping, ring, &mut pass, book, &mut seat, policy, is_waiting, brought,
+    );
+    assert!(rt; left == wanted_by_hand(row));
+}
+
+/// Takes the first value out once the post has slept three times, for which it waits ten seconds at most.
+fn makes_room(rt: &(impl Abort + Clock), worker: Worker<'_>, naps: &AtomicU64) {
+    for _ in 0..10_000 {
+        if naps.load(Ordering::SeqCst) > 2 {
+            break;
+        }
+        thread::sleep(rt, Duration::from_millis(1));
+    }
+    let slept = naps.load(Ordering::SeqCst);
+    let Worker { ring, mut pass } = worker;
+    goes_on(rt, ring, &mut pass, &[Deed::Out(60, Ok((0, 7)))]);
+    assert!(rt; slept > 2);
+}
+
+// A post that finds no room sleeps, and looks again.
+#[test]
+fn a_post_of_its_hand_sleeps(rt: HostRuntime) {
+    let alloc = rt.alloc();
+    let (ring, mut pass) = swap_ring_of(&rt, 2, 0, list(&rt, alloc, &[100, 101]), alloc);
+    let (book, seat) = new_book(&rt, alloc);
+    let naps = AtomicU64::new(0);
+    let (ring, book, naps) = (&ring, &book, &naps);
+    let worker = Worker {
+        ring,
+        pass: ring.split(&mut pass, 1),
+    };
+    let full = [Deed::In(7, Ok((0, 100))), Deed::In(8, Ok((1, 101)))];
+    goes_on(&rt, ring, &mut pass, &full);
+    let poster = Poster {
+        ring,
+        pass,
+        book,
+        seat,
+    };
+    thread::join(
+        &rt,
+        || waits(&rt, poster, naps),
+        || makes_room(&rt, worker, naps),
+    );
 }

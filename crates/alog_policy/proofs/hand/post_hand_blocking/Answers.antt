@@ -56,10 +56,27 @@ loop-preserved-in-Err-Full g c =
           (subst (λ h. IsThere (admits c.loop.port.ring.now.ring.limit) h) (sym left) c.loop.invariant.there);
       posting = λ b is.
           let now = c.loop.invariant.posting b is in
+          let d = refused.1.0.0 in
           posting_goes_on (SwapPortDid admits) (IsSwapFit admits) (swap_together admits) Block (g.W.Shows.shows b) (tt {0}) c.args.port.now
-          c.loop.port new (begun Block) now (begun Block)
-          (full_leads (SwapPortDid admits) (IsSwapFit admits) (g.W.Shows.shows b) (tt {0}) (begun Block) c.loop.port new now.kept _
-          c.in-Err-Full.field-0-1 refl refl refused.1);
+          c.loop.port _ (begun Block) now (begun Block)
+          (full_leads (SwapPortDid admits) (IsSwapFit admits) (g.W.Shows.shows b) (tt {0}) (begun Block) c.loop.port _ now.kept _
+          c.in-Err-Full.next refl refl (
+            (
+              record {
+                ring = d.ring;
+                book = d.book;
+                pass_lent = d.pass_lent;
+                seat_lent = d.seat_lent;
+                hand_lent = d.hand_lent;
+                spare_lent = d.spare_lent;
+                pace_lent = d.pace_lent;
+                pass = d.pass;
+                seat = d.seat;
+              },
+              refused.1.0.1,
+            ),
+            refused.1.1,
+          ));
     }
 
 pub loop-preserved : goal.loop-preserved

@@ -26,6 +26,7 @@ returns-clause-post g c =
         seat_lent = d.seat_lent;
         hand_lent = d.hand_lent;
         spare_lent = d.spare_lent;
+        pace_lent = d.pace_lent;
         pass = d.pass;
         seat = d.seat;
       };

@@ -16,7 +16,7 @@ returns-clause-pushed g c =
     (λ (t : ℕ) pushed.
     for_value (λ b. SwapPortDid admits a (Claim t (g.W.Shows.shows b) ∷ Write t ∷ []) 0 0 _) a.hand.now c.in-Some.block.now
     (sym c.in-Some.ensures.value)
-    (swap_pushed admits a _ c.requires.fit refl refl refl refl refl refl c.push_swap_from.ensures.ring refl t _ pushed.0
+    (swap_pushed admits a _ c.requires.fit refl refl refl refl refl refl refl c.push_swap_from.ensures.ring refl t _ pushed.0
     (refl, c.push_swap_from.ensures.limit))) c.push_swap_from.ensures.pushed
 
 -- what follows of an error from two facts of it
@@ -28,5 +28,5 @@ pub returns-clause-refused : goal.returns-clause-refused
 returns-clause-refused g c =
     err_both _ _ _ c.push_swap_from.result
     (λ (e : PushError (Unit {0})) is left.
-    swap_push_refused g.L.Limit.admits c.args.port.now _ c.requires.fit refl refl refl refl refl refl c.push_swap_from.ensures.ring refl
+    swap_push_refused g.L.Limit.admits c.args.port.now _ c.requires.fit refl refl refl refl refl refl refl c.push_swap_from.ensures.ring refl
     (ap Some left ∙ c.in-Some.ensures.value) c.requires.fit.2 (tt {0}) e is) c.push_swap_from.ensures.refused c.push_swap_from.ensures.left

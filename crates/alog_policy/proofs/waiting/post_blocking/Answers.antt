@@ -62,7 +62,7 @@ loop-preserved-in-Err-Full g c =
           posting_goes_on o.did o.is_fit g.met.O.Outlet.together Block (o.shows v) (tt {0}) c.args.outlet.now c.loop.outlet
           c.push_from.new.self (begun Block) now (begun Block)
           (full_leads o.did o.is_fit (o.shows v) (tt {0}) (begun Block) c.loop.outlet c.push_from.new.self now.kept _
-          c.in-Err-Full.field-0-1 refl refl refused.1);
+          c.in-Err-Full.next refl refl refused.1);
     }
 
 pub loop-preserved : goal.loop-preserved

@@ -1,6 +1,6 @@
 use Rattle.std.proofs.Common.{◌≡◌, ◌<◌, ◌≤◌, Option, None, Some, length, set, set-set, sym, ap, subst, ◌∙◌, arith}
 use Rattle.alog_core.specs.Run.{GoesOn, entries_of_step}
-use Rattle.alog_core.specs.World.{Machine, round_of, stepped, told, next_move}
+use Rattle.alog_core.specs.World.{Machine, round_of, stepped, next_move}
 use Rattle.alog_core.specs.declared.TheConstants.{ACTORS}
 use Rattle.alog_core.specs.declared.said.Said.{Said}
 use Rattle.alog_policy.specs.Desk.{DeskView, post_of, Turn, desk_told, desk_stepped, PostGoesOn, said_in_post}

@@ -13,10 +13,10 @@ returns-in-Ok-clause-pushed g c =
     let P : g.row.B.Denot → Type 0 =
     λ v. SwapPortDid g.L.Limit.admits c.args.self.now (Claim c.in-Ok.ticket (g.W.Shows.shows v) ∷ Write c.in-Ok.ticket ∷ []) 0 0 _ in
     for_value P c.args.hand.now c.in-Some.block.now (sym c.in-Some.ensures.value)
-    (swap_pushed g.L.Limit.admits c.args.self.now _ c.requires.fit refl refl refl refl refl refl c.in-Ok.ensures.ring refl _ _
+    (swap_pushed g.L.Limit.admits c.args.self.now _ c.requires.fit refl refl refl refl refl refl refl c.in-Ok.ensures.ring refl _ _
     c.in-Ok.ensures.pushed.0 there)
 
 pub returns-in-Err-clause-refused : goal.returns-in-Err-clause-refused
 returns-in-Err-clause-refused g c =
-    swap_push_refused g.L.Limit.admits c.args.self.now _ c.requires.fit refl refl refl refl refl refl c.in-Err.ensures.ring refl refl
+    swap_push_refused g.L.Limit.admits c.args.self.now _ c.requires.fit refl refl refl refl refl refl refl c.in-Err.ensures.ring refl refl
     c.requires.fit.2 (tt {0}) c.in-Err.error c.in-Err.ensures.refused

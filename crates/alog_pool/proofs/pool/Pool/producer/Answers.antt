@@ -31,7 +31,7 @@ invariant_of-producer g c =
     ap (λ (s : Shared). s.ring.ring.limit.most) c.in-Ok.ensures ∙ left.queued in (
       record {
         pass = subst (λ (s : Shared). IsPassOf s.ring.ring c.split.result) c.deref-2.ensures c.split.ensures.ring.1;
-        losses_are = subst (λ (s : Shared). IsSeatOf s.book c.split-2.result) c.deref-3.ensures c.split-2.ensures.seat.1;
+        losses_are = subst (λ (s : Shared). IsSeatOf s.book c.split-2.result) c.deref-4.ensures c.split-2.ensures.seat.1;
         each = (each3_lengths IsBacktraceSeatPart old new given each).1 ∙ left.each ∙ ap (λ (s : Shared). length s.loggers) (sym c.in-Ok.ensures);
         kept = (backtrace_seats_limits inside.text_limit old new given each left.kept).1;
         queued = ap (λ (s : Shared). s.ring.ring.limit.most) c.in-Ok.ensures ∙ left.queued;
@@ -67,7 +67,7 @@ invariant_of-self g c =
           pass_faithful = kept_faithful inside.pass c.split.new.pass c.split.result c.split.ensures.split left.pass_faithful;
           some_places = left.some_places;
           pass_parts = omega (arith, less);
-          losses_are = subst (λ (s : Shared). IsSeatOf s.book c.split-2.new.seat) (c.deref-3.ensures ∙ c.in-Ok.ensures) c.split-2.ensures.seat.0;
+          losses_are = subst (λ (s : Shared). IsSeatOf s.book c.split-2.new.seat) (c.deref-4.ensures ∙ c.in-Ok.ensures) c.split-2.ensures.seat.0;
           losses_parts = omega (arith, losses, kept_parts, more);
           sink_seat_parts = left.sink_seat_parts;
           sink_seat_limits = left.sink_seat_limits;

@@ -21,7 +21,7 @@ shape_of-self-inside g c =
     (sym (ap (λ (x : Shared). x.loggers) c.deref-shared.ensures ∙ ap (λ (w : ProducerView). w.shared.loggers) c.self.view_is)) c.requires.known in
     let s = spec_there c.deref-shared.result.now.loggers c.args.number known in
     let alike = posts_port _ _ _ c.flush_wait.new.outlet c.flush_wait.result refl (c.flush_wait.ensures.post s.0 s.1) in
-    sym alike.spare
+    sym alike.pace
 
 pub shape_of-self-inside-2 : goal.shape_of-self-inside-2
 shape_of-self-inside-2 g c =
@@ -30,7 +30,7 @@ shape_of-self-inside-2 g c =
     (sym (ap (λ (x : Shared). x.loggers) c.deref-shared.ensures ∙ ap (λ (w : ProducerView). w.shared.loggers) c.self.view_is)) c.requires.known in
     let s = spec_there c.deref-shared.result.now.loggers c.args.number known in
     let alike = posts_port _ _ _ c.flush_wait.new.outlet c.flush_wait.result refl (c.flush_wait.ensures.post s.0 s.1) in
-    sym alike.hand
+    sym alike.spare
 
 pub shape_of-self-inside-3 : goal.shape_of-self-inside-3
 shape_of-self-inside-3 g c =
@@ -39,10 +39,19 @@ shape_of-self-inside-3 g c =
     (sym (ap (λ (x : Shared). x.loggers) c.deref-shared.ensures ∙ ap (λ (w : ProducerView). w.shared.loggers) c.self.view_is)) c.requires.known in
     let s = spec_there c.deref-shared.result.now.loggers c.args.number known in
     let alike = posts_port _ _ _ c.flush_wait.new.outlet c.flush_wait.result refl (c.flush_wait.ensures.post s.0 s.1) in
-    sym alike.seat
+    sym alike.hand
 
 pub shape_of-self-inside-4 : goal.shape_of-self-inside-4
 shape_of-self-inside-4 g c =
+    let known : c.args.number < length c.deref-shared.result.now.loggers =
+    subst (λ (l : List Logger). c.args.number < length l)
+    (sym (ap (λ (x : Shared). x.loggers) c.deref-shared.ensures ∙ ap (λ (w : ProducerView). w.shared.loggers) c.self.view_is)) c.requires.known in
+    let s = spec_there c.deref-shared.result.now.loggers c.args.number known in
+    let alike = posts_port _ _ _ c.flush_wait.new.outlet c.flush_wait.result refl (c.flush_wait.ensures.post s.0 s.1) in
+    sym alike.seat
+
+pub shape_of-self-inside-5 : goal.shape_of-self-inside-5
+shape_of-self-inside-5 g c =
     let known : c.args.number < length c.deref-shared.result.now.loggers =
     subst (λ (l : List Logger). c.args.number < length l)
     (sym (ap (λ (x : Shared). x.loggers) c.deref-shared.ensures ∙ ap (λ (w : ProducerView). w.shared.loggers) c.self.view_is)) c.requires.known in

@@ -3,7 +3,7 @@ use Rattle.std.specs.Arc.{arc_value}
 use Rattle.alog_lane.specs.Calls.{LaneId, TakesTurn}
 use Rattle.alog_sink.specs.Sinks.{Turns}
 use Rattle.alog_sink.specs.declared.sink.Sink.{Sink}
-use Rattle.alog_pool.specs.SinkSeat.{SinkSeatView, Serves, unflushed_after, unflushed_by}
+use Rattle.alog_pool.specs.SinkSeat.{SinkSeatView, Serves, is_fan, unflushed_after, unflushed_by}
 use Rattle.alog_pool.proofs.Flushed.{unflushed-more}
 use Rattle.alog_pool.proofs.Turning.{same_capacity}
 use Rattle.alog_pool.proofs.sink_seat.SinkSeat.serve.Goals as goal
@@ -12,9 +12,10 @@ pub invariant_of-self : goal.invariant_of-self
 invariant_of-self g c =
     let i = c.self.inside in
     let made = c.turn-reply.ensures.turn.made.own in
-    let more = ap (λ h. unflushed_after false h) made ∙ unflushed-more false i.seat.known.own _ in
+    let fan = is_fan (arc_value i.lane).first in
+    let more = ap (λ h. unflushed_after fan false h) made ∙ unflushed-more fan false i.seat.known.own _ in
     let owes = c.is_unflushed-self-inside.ensures
-    ∙ ap (λ b. unflushed_by b c.args.item.now c.turn-reply.result.1) c.self.invariant.2 ∙ sym more in
+    ∙ (λ j. unflushed_by (c.self.invariant.2 j) (c.self.invariant.3 j) c.args.item.now c.turn-reply.result.1) ∙ sym more in
     search (rules, owes)
 
 pub returns-clause-serves : goal.returns-clause-serves

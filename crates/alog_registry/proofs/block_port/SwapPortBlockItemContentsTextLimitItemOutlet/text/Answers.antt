@@ -29,6 +29,7 @@ returns-clause-fit c =
         seat_lent = refl;
         hand_lent = refl;
         spare_lent = refl;
+        pace_lent = refl;
         pass = inl (refl, refl);
         seat = inl (refl, refl, refl);
       },
