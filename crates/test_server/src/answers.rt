@@ -1,6 +1,7 @@
 //! Whether what a server tells is what it is to tell.
-use crate::asks::Told;
+use crate::asks::{Ask, Host, Told, tell};
 use alog_server::{LogError, RunError, SinkEnd, StartError};
+use std::alloc::Global;
 
 /// What a server is to tell.
 #[derive(Clone, Copy)]
@@ -84,7 +85,7 @@ fn is_reason(error: &StartError, folder: &str, wanted: Wanted<'_>) -> bool {
 }
 
 /// Whether a server over this folder tells so.
-pub(crate) fn is_right(told: &Told, folder: &str, wanted: Wanted<'_>) -> bool {
+fn is_right(told: &Told, folder: &str, wanted: Wanted<'_>) -> bool {
     match (told, wanted) {
         (Told::Refused(error), wanted) => is_reason(error, folder, wanted),
         (Told::Unrun(RunError::BadThreads), Wanted::BadThreads) => true,
@@ -98,4 +99,16 @@ pub(crate) fn is_right(told: &Told, folder: &str, wanted: Wanted<'_>) -> bool {
         (Told::Printed(text), Wanted::Printed(words)) => text.as_str() == words,
         _ => false,
     }
+}
+
+/// Whether a server of this document tells so, with its files in this folder. What is told is alive in here alone: no test has to drop it.
+pub(crate) fn tells<R: Host>(
+    rt: &R,
+    alloc: Global,
+    (document, folder): (&str, &str),
+    ask: Ask<'_>,
+    wanted: Wanted<'_>,
+) -> bool {
+    let told = tell(rt, alloc, (document, folder), ask);
+    is_right(&told, folder, wanted)
 }

@@ -1,8 +1,8 @@
 //! What a server is asked, and what it tells: values that know nothing of its stores.
 //!
-//! A test that calls a function over any host is dear, whatever it does, and so is each such function: there is one that tests call, `tell`,
-//! and each of them calls it in one place.
-use alog_config::{leaves, read};
+//! A function over any host is dear, whatever it does, and so is a test that calls one: there is one that tests call, `tells` of
+//! `answers.rt`, which answers a `bool`, and each of them calls it in one place.
+use alog_config::{Config, leaves, read};
 use alog_server::{
     Client, Folders, Home, LogError, Patience, Ran, RunError, Server, SinkEnd, StartError, Work,
     folder_stores, start,
@@ -175,25 +175,70 @@ fn held<R: Host>(
     Told::Held(before, behind)
 }
 
-/// What is printed of a server and of its run.
-fn printed<R: Host>(
+/// What is printed of a server.
+fn server_text<S: Store, L>(alloc: Global, server: &Server<S, L>) -> Result<String, AllocError> {
+    format!(in alloc; "{server:?}")
+}
+
+/// What is printed of a run.
+fn run_text<S: Store + Drop, L: Drop>(
+    alloc: Global,
+    ran: Result<Ran<S, String, L>, RunError>,
+) -> Result<String, AllocError> {
+    format!(in alloc; "{ran:?}")
+}
+
+/// Two texts, a line each.
+fn two_lines(
+    alloc: Global,
+    first: Result<String, AllocError>,
+    second: Result<String, AllocError>,
+) -> Result<String, AllocError> {
+    format!(in alloc; "{}\n{}", first?, second?)
+}
+
+/// Lets one thread print. What `Server::run` promises is told to no test by it.
+fn ran_printing<R: Threads + Wait + Clock + Sync, S: Store + Drop + Send + 'static, L: Drop>(
     rt: &R,
     alloc: Global,
-    server: Server<R::Folder, R::Lock>,
+    server: Server<S, L>,
+) -> Result<Ran<S, String, L>, RunError> {
+    server.run(rt, 1, &Print(alloc))
+}
+
+/// What is printed of a server and of its run.
+fn printed<R: Threads + Wait + Clock + Sync, S: Store + Drop + Send + 'static, L: Drop>(
+    rt: &R,
+    alloc: Global,
+    server: Server<S, L>,
 ) -> Result<String, AllocError> {
-    let before = format!(in alloc; "{server:?}");
-    let ran = server.run(rt, 1, &Print(alloc));
-    format!(in alloc; "{}\n{ran:?}", before?)
+    let before = server_text(alloc, &server);
+    let behind = run_text(alloc, ran_printing(rt, alloc, server));
+    two_lines(alloc, before, behind)
+}
+
+/// A server of this configuration, over the stores of a folder.
+fn over_stores<R: Host>(
+    rt: &R,
+    alloc: Global,
+    config: &Config,
+    folder: &str,
+) -> Result<Server<R::Folder>, StartError> {
+    match folder_stores(rt, alloc, folder, leaves(config), Patience::Times(0)) {
+        Ok(stores) => Server::over(rt, alloc, config, stores),
+        Err(error) => Err(StartError::from(error)),
+    }
 }
 
 /// What a server over the stores of a folder tells.
-fn over<R: Host>(rt: &R, alloc: Global, document: &str, folder: &str) -> Option<Told> {
-    let config = read(alloc, document.as_bytes()).ok()?;
-    let stores = folder_stores(rt, alloc, folder, leaves(&config), Patience::Times(0)).ok()?;
-    Some(match Server::over(rt, alloc, &config, stores) {
+fn over<R: Host>(rt: &R, alloc: Global, document: &str, folder: &str) -> Told {
+    let Ok(config) = read(alloc, document.as_bytes()) else {
+        return Told::Refused(StartError::OutOfMemory);
+    };
+    match over_stores(rt, alloc, &config, folder) {
         Ok(server) => told_of(alloc, ran(rt, server, 1, &HELLO)),
         Err(error) => Told::Refused(error),
-    })
+    }
 }
 
 /// What a server tells that is started.
@@ -222,10 +267,7 @@ pub(crate) fn tell<R: Host>(
     ask: Ask<'_>,
 ) -> Told {
     if matches!(ask, Ask::Over) {
-        return match over(rt, alloc, document, folder) {
-            Some(told) => told,
-            None => Told::Refused(StartError::OutOfMemory),
-        };
+        return over(rt, alloc, document, folder);
     }
     match started(rt, alloc, document, folder) {
         Ok(server) => told_by(rt, alloc, server, (document, folder), ask),

@@ -51,21 +51,25 @@ impl Place {
             Place::TakenFolder => fs::create_dir(rt, folder.join(alloc, "out")?),
             Place::FullFolder => symlink(rt, "/dev/full", folder.join(alloc, "lost.log")?),
             Place::LoopFolder => symlink(rt, "out", folder.join(alloc, "out")?),
-            Place::UsedFolder => {
-                fs::write(rt, folder.join(alloc, ".probe.replaced")?, "")?;
-                symlink(rt, "/dev/full", folder.join(alloc, "full")?)?;
-                fs::create_dir(rt, folder.join(alloc, "out")?)
-            }
+            Place::UsedFolder => use_folder(rt, folder),
             Place::Absent | Place::Proc | Place::File | Place::Folder => Ok(()),
         }
     }
 
     /// What was made is removed.
-    pub(crate) fn remove(self, rt: &HostRuntime, path: &PathBuf) -> io::Result<()> {
+    pub(crate) fn remove(self, rt: &HostRuntime, path: PathBuf) -> io::Result<()> {
         match self {
             Place::Absent | Place::Proc => Ok(()),
             Place::File => fs::remove_file(rt, path.as_str()),
             _ => fs::remove_dir_all(rt, path.as_str()),
         }
     }
+}
+
+/// Fills a folder with what a server passes over.
+fn use_folder(rt: &HostRuntime, folder: &PathBuf) -> io::Result<()> {
+    let alloc = rt.alloc();
+    fs::write(rt, folder.join(alloc, ".probe.replaced")?, "")?;
+    symlink(rt, "/dev/full", folder.join(alloc, "full")?)?;
+    fs::create_dir(rt, folder.join(alloc, "out")?)
 }

@@ -1,18 +1,19 @@
 //! Servers: starts that are refused, runs of threads, and what is told of them.
-use crate::answers::{SinkRow, Wanted, is_right};
-use crate::asks::{Ask, HELLO, Talk, Told, tell};
+use crate::answers::{SinkRow, Wanted, tells};
+use crate::asks::{Ask, HELLO, Talk};
 use crate::places::Place;
 use alog_server::LogError;
+use std::io;
+use std::path::PathBuf;
 use std::process::Abort;
-use std::{fs, io};
 use test_runs::{SHORT, SMALL, folder, lines_in};
 
 /// What lies at the path of its folder, the document of a server, what it is asked, and what it is to tell.
 type Row<'a> = (Place, &'a str, Ask<'a>, Wanted<'a>);
 
-/// It tells so.
-fn is_told(rt: &impl Abort, told: &Told, folder: &str, wanted: Wanted<'_>, number: usize) {
-    assert!(rt; is_right(told, folder, wanted), "row {number}");
+/// What the row of this number wants is so.
+fn is_so(rt: &impl Abort, so: bool, number: usize) {
+    assert!(rt; so, "row {number}");
 }
 
 /// One sink, whose files have names by dates.
@@ -72,7 +73,7 @@ const ONE: Ask<'_> = Ask::Run(1, &HELLO);
 
 const RAN: Wanted<'_> = Wanted::Run(100, None);
 
-const ROWS: [Row<'_>; 10] = [
+static ROWS: [Row<'static>; 10] = [
     // Works that end early end the pool all the same.
     (
         Place::Folder,
@@ -132,13 +133,18 @@ const ROWS: [Row<'_>; 10] = [
     (Place::Folder, SMALL, Ask::Print, Wanted::Printed(PRINTED)),
 ];
 
+// A function that holds a table is dear where it does more.
+fn rows() -> &'static [Row<'static>] {
+    &ROWS
+}
+
 #[test]
 fn what_servers_tell(rt: HostRuntime) -> io::Result<()> {
-    for (number, (place, document, ask, wanted)) in ROWS.iter().enumerate() {
+    for (number, (place, document, ask, wanted)) in rows().iter().enumerate() {
         let folder = place.made(&rt)?;
-        let told = tell(&rt, rt.alloc(), (document, folder.as_str()), *ask);
-        is_told(&rt, &told, folder.as_str(), *wanted, number);
-        place.remove(&rt, &folder)?;
+        let so = tells(&rt, rt.alloc(), (document, folder.as_str()), *ask, *wanted);
+        place.remove(&rt, folder)?;
+        is_so(&rt, so, number);
     }
     Ok(())
 }
@@ -150,7 +156,7 @@ const NO_FOLDER: Wanted<'_> = Wanted::NoLines("", " is no folder");
 
 const NO_FILE: Wanted<'_> = Wanted::NoLines("", "/out cannot be written: ");
 
-const UNWRITABLE: [Row<'_>; 11] = [
+static UNWRITABLE: [Row<'static>; 11] = [
     (Place::Absent, SMALL, ONE, NO_FILES),
     (Place::Proc, SMALL, ONE, NO_FILES),
     (Place::File, SMALL, ONE, NO_FOLDER),
@@ -164,24 +170,37 @@ const UNWRITABLE: [Row<'_>; 11] = [
     (Place::TakenFolder, ROTATING, ONE, NO_FILE),
 ];
 
+fn unwritable() -> &'static [Row<'static>] {
+    &UNWRITABLE
+}
+
 #[test]
 fn what_cannot_be_written_is_refused_at_the_start(rt: HostRuntime) -> io::Result<()> {
-    for (number, (place, document, ask, wanted)) in UNWRITABLE.iter().enumerate() {
+    for (number, (place, document, ask, wanted)) in unwritable().iter().enumerate() {
         let folder = place.made(&rt)?;
-        let told = tell(&rt, rt.alloc(), (document, folder.as_str()), *ask);
-        is_told(&rt, &told, folder.as_str(), *wanted, number);
-        place.remove(&rt, &folder)?;
+        let so = tells(&rt, rt.alloc(), (document, folder.as_str()), *ask, *wanted);
+        place.remove(&rt, folder)?;
+        is_so(&rt, so, number);
     }
     Ok(())
 }
 
 /// Whether this is so many lines, and all are this one.
-fn has_lines(text: &str, count: usize, wanted: &str) -> bool {
+fn are_lines(text: &str, count: usize, wanted: &str) -> bool {
     text.lines().count() == count && text.lines().all(|line| line == wanted)
 }
 
+/// Whether the file `out` of this folder has so many lines, and all are this one. The folder is removed.
+fn has_lines(rt: &HostRuntime, folder: &PathBuf, count: usize, wanted: &str) -> io::Result<bool> {
+    let lines = lines_in(rt, folder)?;
+    Ok(are_lines(lines.as_str(), count, wanted))
+}
+
+/// The document of a server, what it is asked, and what it is to tell.
+type Turn<'a> = (&'a str, Ask<'a>, Wanted<'a>);
+
 /// Servers over one folder, one after another: three threads of the first log to one file, and one of the second behind them.
-const HOLDING: [(&str, Ask<'_>, Wanted<'_>); 4] = [
+static HOLDING: [Turn<'static>; 4] = [
     (SMALL, Ask::Run(3, &HELLO), Wanted::Run(300, None)),
     (SMALL, Ask::Hold, Wanted::Held),
     (DAILY, ONE, RAN),
@@ -192,31 +211,39 @@ const HOLDING: [(&str, Ask<'_>, Wanted<'_>); 4] = [
     ),
 ];
 
+fn holding() -> &'static [Turn<'static>] {
+    &HOLDING
+}
+
 #[test]
 fn a_folder_is_held_by_one_server(rt: HostRuntime) -> io::Result<()> {
     let folder = folder(&rt)?;
-    for (number, (document, ask, wanted)) in HOLDING.iter().enumerate() {
-        let told = tell(&rt, rt.alloc(), (document, folder.as_str()), *ask);
-        is_told(&rt, &told, folder.as_str(), *wanted, number);
+    for (number, (document, ask, wanted)) in holding().iter().enumerate() {
+        let so = tells(&rt, rt.alloc(), (document, folder.as_str()), *ask, *wanted);
+        is_so(&rt, so, number);
     }
-    let lines = lines_in(&rt, &folder)?;
-    assert!(rt; has_lines(lines.as_str(), 400, "net I hello"));
+    assert!(rt; has_lines(&rt, &folder, 400, "net I hello")?);
     Ok(())
 }
 
 /// A rotating sink over the stores of a folder that is empty, and of one where its file is a link to itself.
-const OVER: [(Place, Wanted<'_>); 2] = [
+static OVER: [(Place, Wanted<'static>); 2] = [
     (Place::Folder, RAN),
     (Place::LoopFolder, Wanted::NoStore(LOOPS)),
 ];
 
+fn over() -> &'static [(Place, Wanted<'static>)] {
+    &OVER
+}
+
 #[test]
 fn a_sink_that_cannot_be_opened_is_told(rt: HostRuntime) -> io::Result<()> {
-    for (number, (place, wanted)) in OVER.iter().enumerate() {
+    for (number, (place, wanted)) in over().iter().enumerate() {
         let folder = place.made(&rt)?;
-        let told = tell(&rt, rt.alloc(), (ROTATING, folder.as_str()), Ask::Over);
-        is_told(&rt, &told, folder.as_str(), *wanted, number);
-        place.remove(&rt, &folder)?;
+        let at = (ROTATING, folder.as_str());
+        let so = tells(&rt, rt.alloc(), at, Ask::Over, *wanted);
+        place.remove(&rt, folder)?;
+        is_so(&rt, so, number);
     }
     Ok(())
 }
