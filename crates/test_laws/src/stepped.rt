@@ -40,6 +40,20 @@ fn steps<S: Store + Drop>(system: &mut System<S>, actor: u32) -> bool
     system.step(actor).is_ok()
 }
 
+/// Whether an actor, 0 to 63, began this deed, and then made a step of it.
+fn begins_and_steps<S: Store + Drop>(
+    alloc: Global,
+    system: &mut System<S>,
+    actor: u32,
+    deed: Deed<'_>,
+) -> bool
+    requires { IsKnown system.old.roster deed }
+    ensures { IsTrue result → MayBegin system.old actor deed.entry × (told : Stepped) × (actor < ACTORS)
+        × SystemSteps S.tells S.files S.failures (begun system.old actor deed.entry) actor told system.new }
+{
+    begins(alloc, system, actor, deed) && steps(system, actor)
+}
+
 /// A system of these loggers and sinks, after actor 1 began a log and made a step of it, and then actor 2 began a work and made
 /// a step of that; `None` where memory is out, or the text is longer than 64 bytes. It is a run of exactly these calls.
 pub fn a_log_and_a_work<S: Store + Drop>(
@@ -64,10 +78,9 @@ pub fn a_log_and_a_work<S: Store + Drop>(
         level: Level::Info,
         text,
     };
-    if !begins(alloc, &mut system, 1, log) || !steps(&mut system, 1) {
-        return None;
-    }
-    if !begins(alloc, &mut system, 2, Deed::Work) || !steps(&mut system, 2) {
+    if !begins_and_steps(alloc, &mut system, 1, log)
+        || !begins_and_steps(alloc, &mut system, 2, Deed::Work)
+    {
         return None;
     }
     runs_of_a_system::<S>();
