@@ -109,8 +109,12 @@ fn has_letter(rt: &impl Abort, bytes: &[u8], indexes: &[u64], letter: u8) {
     }
 }
 
+// The indexes of the turns of each of two threads, and the sink to which they wrote.
+type Written = (Vec<u64>, Vec<u64>, Sink<Yielding>);
+
 // The file has the lines of both, each at the index of its turn.
-fn has_lines(rt: &impl Abort, sink: &Sink<Yielding>, one: &[u64], two: &[u64]) {
+fn has_lines(rt: &impl Abort, written: &Written) {
+    let (one, two, sink) = written;
     let file = sink.store().and_then(|store| store.0.files().get("log"));
     let Some(bytes) = file else {
         panic!(rt; "no file")
@@ -132,6 +136,11 @@ fn draft_of(alloc: Global, text: &str) -> Result<Draft, Fail> {
     let text = Item::Text(message(alloc, Level::Info, text)?);
     let line = LineBuf::new(alloc, 128)?;
     Ok(Draft { text, line })
+}
+
+// Two of them.
+fn drafts(alloc: Global) -> Result<(Draft, Draft), Fail> {
+    Ok((draft_of(alloc, "a")?, draft_of(alloc, "b")?))
 }
 
 // Whether a sink may be given this.
@@ -165,7 +174,7 @@ fn lane_over<S: Store + Drop>(
     }
 }
 
-// Both write, each with a seat of its own. The indexes of the turns of each, and the sink.
+// Both write, each with a seat of its own.
 fn write(
     rt: &(impl Abort + Threads),
     alloc: Global,
@@ -173,7 +182,7 @@ fn write(
     seat: LaneSeat<Sink<Yielding>>,
     one: Draft,
     two: Draft,
-) -> (Vec<u64>, Vec<u64>, Sink<Yielding>)
+) -> Written
     requires seat { IsSeatOf lane seat }
     requires known { seat.known ≡ first_known }
     requires turns { MayTurn lane.first one.text one.line × MayTurn lane.first two.text two.line }
@@ -200,15 +209,45 @@ fn write(
     }
 }
 
+// The same with a lane over this sink.
+fn write_over(
+    rt: &(impl Abort + Threads),
+    alloc: Global,
+    sink: Sink<Yielding>,
+    one: Draft,
+    two: Draft,
+) -> Written {
+    let (lane, seat) = lane_over(rt, alloc, sink, &one, &two);
+    write(rt, alloc, lane, seat, one, two)
+}
+
+// The same with a sink of its own.
+fn write_to_a_sink(
+    rt: &(impl Abort + Threads),
+    alloc: Global,
+    one: Draft,
+    two: Draft,
+) -> Result<Written, Fail> {
+    let sink = Plan::MEMORY.opened(alloc, Yielding(MemStore::new(alloc)))?;
+    Ok(write_over(rt, alloc, sink, one, two))
+}
+
+// Both write, and the file has the lines of both.
+fn write_lines(
+    rt: &(impl Abort + Threads),
+    alloc: Global,
+    one: Draft,
+    two: Draft,
+) -> Result<(), Fail> {
+    let written = write_to_a_sink(rt, alloc, one, two)?;
+    has_lines(rt, &written);
+    Ok(())
+}
+
 #[test]
 fn two_threads_write_lines(rt: HostRuntime) -> Result<(), Fail> {
-    let alloc = rt.alloc();
-    let (one, two) = (draft_of(alloc, "a")?, draft_of(alloc, "b")?);
-    let sink = Plan::MEMORY.opened(alloc, Yielding(MemStore::new(alloc)))?;
-    let (lane, seat) = lane_over(&rt, alloc, sink, &one, &two);
-    let (first, second, sink) = write(&rt, alloc, lane, seat, one, two);
-    has_lines(&rt, &sink, &first, &second);
-    Ok(())
+    let (one, two) = drafts(rt.alloc())?;
+    write_lines(&rt, rt.alloc(), one, two)
 }
 
 // A text is written by a turn, and flushed by the next. The sink then.

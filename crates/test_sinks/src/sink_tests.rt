@@ -193,10 +193,19 @@ fn elapses_for_each(alloc: Global) -> Result<bool, Fail> {
     )
 }
 
+/// Whether both rows hold.
+fn elapses(alloc: Global) -> Result<bool, Fail> {
+    holds(alloc, &ELAPSING)
+}
+
+fn elapses_over_files(alloc: Global) -> Result<bool, Fail> {
+    holds(alloc, &ELAPSING_FILES)
+}
+
 #[test]
 fn the_time_since_the_line_before(rt: HostRuntime) -> Result<(), Fail> {
-    assert!(rt; holds(rt.alloc(), &ELAPSING)?, "a level");
-    assert!(rt; holds(rt.alloc(), &ELAPSING_FILES)?, "files");
+    assert!(rt; elapses(rt.alloc())?, "a level");
+    assert!(rt; elapses_over_files(rt.alloc())?, "files");
     assert!(rt; elapses_for_each(rt.alloc())?, "a fan");
     Ok(())
 }
@@ -350,9 +359,9 @@ fn sizes_of_fans(rt: HostRuntime) -> Result<(), Fail> {
 
 /// Whether a fan of a fan is refused.
 fn refuses_a_fan(alloc: Global) -> Result<bool, Fail> {
-    let mut members = Vec::with_capacity(alloc, 1)?;
-    members.push(fan_of_two(alloc, MemStore::new(alloc), MemStore::new(alloc))?)?;
-    Ok(Sink::fan(alloc, Level::Info, members).is_err())
+    let fan = fan_of_two(alloc, MemStore::new(alloc), MemStore::new(alloc))?;
+    let members = vec![in alloc; fan]?;
+    Ok(fan_of(alloc, members).is_err())
 }
 
 #[test]
@@ -361,9 +370,10 @@ fn a_fan_of_a_fan_is_refused(rt: HostRuntime) -> Result<(), Fail> {
     Ok(())
 }
 
-/// The message of an error.
-fn text_of(alloc: Global, error: &impl Error) -> Result<String, Fail> {
-    Ok(format!(in alloc; "{error}")?)
+/// Whether this is the message of an error.
+fn says(alloc: Global, error: &impl Error, wanted: &str) -> Result<bool, Fail> {
+    let text = format!(in alloc; "{error}")?;
+    Ok(text.as_str() == wanted)
 }
 
 /// The refusal of a sink with a bad name.
@@ -382,11 +392,20 @@ fn no_fan(alloc: Global) -> Result<NoFan<MemStore>, Fail> {
     }
 }
 
+/// Whether these are their messages.
+fn unopened_says(alloc: Global, wanted: &str) -> Result<bool, Fail> {
+    says(alloc, &unopened(alloc)?, wanted)
+}
+
+fn no_fan_says(alloc: Global, wanted: &str) -> Result<bool, Fail> {
+    says(alloc, &no_fan(alloc)?, wanted)
+}
+
 #[test]
 fn refusals_are_errors(rt: HostRuntime) -> Result<(), Fail> {
-    let text = text_of(rt.alloc(), &unopened(rt.alloc())?)?;
-    assert!(rt; text.as_str() == "the sink was not opened: no file can have this name");
-    let text = text_of(rt.alloc(), &no_fan(rt.alloc())?)?;
-    assert!(rt; text.as_str() == "the fan was not made: a limit of the sink is out of its bounds");
+    let wanted = "the sink was not opened: no file can have this name";
+    assert!(rt; unopened_says(rt.alloc(), wanted)?);
+    let wanted = "the fan was not made: a limit of the sink is out of its bounds";
+    assert!(rt; no_fan_says(rt.alloc(), wanted)?);
     Ok(())
 }
