@@ -2,10 +2,10 @@
 #![tactic(auto)]
 
 pub use alog_program::run;
-use alog_program::{Screen, collect_words, refuse_arguments};
+use alog_program::{ReadAside, Screen, TimedRead, collect_words, refuse_arguments};
 use alog_server::Folders;
 use std::convert::AsStr;
-use std::io::{Read, Write};
+use std::io::{Stdin, Write};
 use std::process::ExitCode;
 use std::rt::Files;
 use std::sync::Wait;
@@ -18,7 +18,7 @@ fn main(rt: HostRuntime) -> ExitCode {
         Ok(words) => run_on(
             &rt,
             words.as_slice(),
-            &mut rt.stdin(),
+            &mut input_for(&rt, words.as_slice(), rt.stdin()),
             &mut rt.stdout(),
             &mut rt.stderr(),
         ),
@@ -27,9 +27,21 @@ fn main(rt: HostRuntime) -> ExitCode {
     ExitCode::from(status)
 }
 
+/// Standard input, which a thread reads for a pipe that has something else to do. Where no thread can be had the pipe waits.
+fn input_for<R, S: AsStr>(rt: &R, words: &[S], input: Stdin) -> ReadAside<R, Stdin>
+where
+    R: AllocGlobal + Threads + Wait + Copy + Drop + Send + 'static,
+{
+    let mut input = ReadAside::new(*rt, input);
+    if words.get(1).is_some_and(|word| word.as_str() == "pipe") {
+        let _ = input.start(rt);
+    }
+    input
+}
+
 /// Runs the program by `run`, and answers its status. What `run` promises it does not repeat: the proof of `main` would carry that at the
 /// type of the host, and has no use for it.
-fn run_on<R, S: AsStr, I: Read, O: Write, E: Write>(
+fn run_on<R, S: AsStr, I: TimedRead, O: Write, E: Write>(
     rt: &R,
     words: &[S],
     input: &mut I,

@@ -4,9 +4,11 @@ use Rattle.alog_msg.specs.declared.message.MessageError.{MessageError}
 use Rattle.alog_msg.specs.declared.message.MessageError.TheVariants as message
 use Rattle.alog_pipe.specs.Logged.{HidesPiece, IsReady, LogsFound, LogsPiece, LogsPieceAt, LogsText, LosesPiece, PostsPiece, Tells}
 use Rattle.alog_pipe.specs.Logged.{below_by, by, fate_of, missed_by}
+use Rattle.alog_pipe.specs.Piped.{TriesToTell}
 use Rattle.alog_pipe.specs.declared.piece_log.Fate.{Fate}
 use Rattle.alog_pipe.specs.declared.piece_log.Fate.TheVariants as fate
 use Rattle.alog_pipe.specs.declared.piece_log.PieceLog.{PieceLog}
+use Rattle.alog_pipe.specs.declared.piece_log.Told.{Told}
 use Rattle.alog_pipe.specs.declared.piece_log.Told.TheVariants as told
 use Rattle.alog_pool.specs.Producer.{ProducerView, IsSame}
 use Rattle.alog_pool.specs.declared.shared.Shared.{Shared}
@@ -70,6 +72,16 @@ found_logger (inr (inr h)) = ap (λ (l : PieceLog). l.logger) h.1
 untold_logger : {time : ℤ} {old mid : PieceLog} → (Tells time told.NoRoom old mid ⊎ Tells time told.NoMemory old mid) → mid.logger ≡ old.logger
 untold_logger (inl h) = ap (λ (l : PieceLog). l.logger) h.2
 untold_logger (inr h) = ap (λ (l : PieceLog). l.logger) h.1
+
+-- whatever was answered, it was tried to tell
+pub tried : (told : Told) {time : ℤ} {old new : PieceLog} → Tells time told old new → TriesToTell time old new
+tried told.All tells = inl tells
+tried told.NoRoom tells = inr (inl tells)
+tried told.NoMemory tells = inr (inr tells)
+
+pub tries_logger : {time : ℤ} {old new : PieceLog} → TriesToTell time old new → new.logger ≡ old.logger
+tries_logger (inl h) = told_logger h
+tries_logger (inr h) = untold_logger h
 
 pub piece_logger : {time : ℤ} {text : List ℕ} {old mid new : PieceLog} → LogsPieceAt time text old mid new → new.logger ≡ old.logger
 piece_logger (inl h) = found_logger h.1 ∙ told_logger h.0

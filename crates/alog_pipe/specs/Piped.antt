@@ -16,9 +16,25 @@ use Rattle.alog_pool.specs.Producer.{IsSame}
 abbrev pub TakesAll : List Piece → Cutting → Cutting → Type 0
 TakesAll ps old new = InTurn (λ (p : Piece) s t. Takes s t p × IsSameCut s t) ps old new
 
--- each was logged, at some time
-abbrev pub LogsAll : List Piece → PieceLog → PieceLog → Type 0
-LogsAll ps old new = InTurn (λ (p : Piece) s t. (time : ℤ) × LogsPiece time p.text s t) ps old new
+-- the line that says what is missing was logged and kept, where some is; or there was no room or no memory for it
+abbrev pub TriesToTell : ℤ → PieceLog → PieceLog → Type 0
+TriesToTell time old new = Tells time told.All old new ⊎ Tells time told.NoRoom old new ⊎ Tells time told.NoMemory old new
+
+-- so many such tries, one behind the other, and nothing else
+abbrev pub Rests : ℕ → PieceLog → PieceLog → Type 0
+Rests zero old new = new ≡ old
+Rests (suc n) old new = (mid : PieceLog) × Rests n old mid × ((time : ℤ) × TriesToTell time mid new)
+
+-- some such tries, and then the piece was logged, at some time
+abbrev pub LogsNext : Piece → PieceLog → PieceLog → Type 0
+LogsNext p old new = (mid : PieceLog) × ((rests : ℕ) × Rests rests old mid) × ((time : ℤ) × LogsPiece time p.text mid new)
+
+-- Each was logged, with some such tries before it; and some came behind the last one.
+pub record LogsAll (ps : List Piece) (old new : PieceLog) : Type 0 where
+  pub mid : PieceLog
+  pub pieces : InTurn LogsNext ps old mid
+  pub rests : ℕ
+  pub rested : Rests rests mid new
 
 -- each was logged at this time
 abbrev pub LogsAt : ℤ → List Piece → PieceLog → PieceLog → Type 0

@@ -5,19 +5,23 @@
 //! logger, at one level. The pool's workers flush what they wrote when they find nothing to do. When the reader is at its end, or failed, the
 //! pool is ended.
 //!
-//! Under `block` a piece waits for room. Under the other policies none does; a piece that is refused is counted, and before the
-//! next one is posted a line at level warning says how many are missing there. What `overrun_oldest` took out of the queue is in the report
-//! alone.
+//! Under `block` a piece waits for room. Under the other policies none does; a piece that is refused is counted, and as soon as there is
+//! room, before the next one is posted, a line at level warning says how many are missing there. Meanwhile reads do not wait for ever
+//! (`TimedRead`), and where nothing comes that line is tried again. What `overrun_oldest` took out of the queue is in the report alone.
 //!
 //! `specs/Piped.antt` says what was logged of what the reader gave, `specs/Logged.antt` what becomes of each piece.
 //!
-//! Read `piping.rt`, `pump.rt`, `piece_log.rt`, `counts.rt`.
+//! Read `piping.rt`, `pump.rt`, `piece_log.rt`, `counts.rt`, `timed_read.rt`, `read_aside.rt`.
 #![tactic(auto)]
 
 mod counts;
 mod piece_log;
 mod piping;
 mod pump;
+mod read_aside;
+mod timed_read;
 
 pub use counts::Counts;
 pub use piping::{Piped, pipe};
+pub use read_aside::ReadAside;
+pub use timed_read::TimedRead;

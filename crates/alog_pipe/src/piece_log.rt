@@ -114,7 +114,7 @@ impl PieceLog {
     }
 
     /// Logs the line that says how many pieces are missing, where some are.
-    fn tell_hole<R: Wait + Clock>(&mut self, rt: &R, alloc: Global, time: i64) -> Told
+    pub(crate) fn tell_hole<R: Wait + Clock>(&mut self, rt: &R, alloc: Global, time: i64) -> Told
         requires { IsReady 0 self.old }
         ensures tells { Tells time result self.old self.new }
         ensures same { IsSame self.old.producer self.new.producer }

@@ -9,6 +9,7 @@ ghost use Rattle.alog_pool.specs.Report.{Ends};
 use crate::counts::Counts;
 use crate::piece_log::PieceLog;
 use crate::pump::pump_all;
+use crate::timed_read::TimedRead;
 use alog_config::{BuildError, Config};
 use alog_lines::LineCutter;
 use alog_msg::Level;
@@ -16,7 +17,7 @@ use alog_pool::{OpenGate, Pool, Producer, Report, StartError};
 use alog_server::setup_of;
 use alog_sink::Store;
 use std::alloc::{AllocError, Global};
-use std::io::{self, Read};
+use std::io;
 use std::sync::Wait;
 use std::thread::Threads;
 use std::time::Clock;
@@ -28,8 +29,9 @@ pub struct Piped<S: Store> {
     pub report: Report<S>,
     pub counts: Counts,
     /// How many pieces of lines are missing, modulo 2^64: their posts were discarded, or there was no memory for their copies, or the
-    /// line that says what is missing before them was not kept, and then they were not posted. Such a line is posted before the next
-    /// piece, or at the end, unless there is no memory to write it; where it is below the level of the logger or of a sink, no file has it.
+    /// line that says what is missing before them was not kept, and then they were not posted. Such a line is posted as soon as there is
+    /// room, before the next piece, or at the end, unless there is no memory to write it; where it is below the level of the logger or of
+    /// a sink, no file has it.
     pub missing: u64,
     /// How many pieces were below the level that the logger had when they were logged, modulo 2^64: they were not posted, and are not
     /// missing. Lines that say what is missing are none of them.
@@ -52,7 +54,7 @@ pub fn pipe<R, S, I>(
 where
     R: Threads + Wait + Clock + Clone + Drop + Send + 'static,
     S: Store + Drop + Send + 'static,
-    I: Read,
+    I: TimedRead,
     requires many { length stores.items ≡ count_by is_leaf config.now.sinks.items }
     requires known { logger < length config.now.loggers.items }
     ensures piped { IfOk result (λ p. Pipes S.tells S.files S.failures config.now stores.items logger level (I.remaining input.old)
@@ -73,7 +75,7 @@ where
 }
 
 /// Logs each line of a reader through this pool, which made no producer yet, and ends it.
-fn pipe_through<R: Threads + Wait + Clock, S: Store + Drop + Send + 'static, I: Read>(
+fn pipe_through<R: Threads + Wait + Clock, S: Store + Drop + Send + 'static, I: TimedRead>(
     rt: &R,
     alloc: Global,
     pool: Pool<S>,

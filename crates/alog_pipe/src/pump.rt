@@ -1,16 +1,21 @@
 //! A pipe while it runs.
-ghost use Rattle.std.specs.Prelude.{◌≡◌, [], false, is_none};
+ghost use Rattle.std.specs.Prelude.{◌≡◌, [], false, is_none, IfOk, OnErr};
+ghost use Rattle.alog_lines.specs.Cutting.{Brings, Reads};
 ghost use Rattle.alog_pipe.specs.Logged.{IsReady};
-ghost use Rattle.alog_pipe.specs.Piped.{Pumps, PumpsOut, PumpsRead};
+ghost use Rattle.alog_pipe.specs.Piped.{Pumps, PumpsOut, PumpsRead, TriesToTell};
 ghost use Rattle.alog_pool.specs.Producer.{IsSame};
 
 use crate::counts::Counts;
 use crate::piece_log::PieceLog;
+use crate::timed_read::TimedRead;
 use alog_lines::{Fill, LineCutter};
 use std::alloc::Global;
-use std::io::{self, Read};
+use std::io::{self, ErrorKind};
 use std::sync::Wait;
-use std::time::Clock;
+use std::time::{Clock, Duration};
+
+/// How many milliseconds a read waits at most, while some pieces are missing of which the log does not say so yet.
+const WAIT_MAX_MILLIS: u64 = 64;
 
 /// What cuts the lines of a reader, and what logs them.
 pub(crate) struct Pump {
@@ -19,11 +24,13 @@ pub(crate) struct Pump {
     /// The time of the last read, or of an earlier one where the clock could not be read.
     pub(crate) time: i64,
     pub(crate) counts: Counts,
+    /// How many milliseconds the next read waits then: one where bytes came, and twice as many as before where nothing did.
+    pub(crate) wait: u64,
 }
 
 impl Pump {
     /// Logs all lines of a reader, up to its end or its first error, which is answered.
-    pub(crate) fn run<R: Wait + Clock, I: Read>(
+    pub(crate) fn run<R: Wait + Clock, I: TimedRead>(
         &mut self,
         rt: &R,
         alloc: Global,
@@ -35,17 +42,49 @@ impl Pump {
         ensures same { IsSame self.old.log.producer self.new.log.producer }
     {
         for _ in rt.forever() {
-            match self.lines.fill(input) {
+            match self.fill(input) {
                 Ok(Fill::Nothing) => {}
                 Ok(Fill::Bytes) => self.log_read(rt, alloc),
                 Ok(Fill::End) => {
                     self.log_read(rt, alloc);
                     return None;
                 }
-                Err(error) => return Some(error),
+                Err(error) => {
+                    if error.kind() != ErrorKind::WouldBlock {
+                        return Some(error);
+                    }
+                    self.rest(rt, alloc);
+                }
             }
         }
         unreachable!()
+    }
+
+    /// Reads once. While some pieces are missing of which the log does not say so yet, the read does not wait for ever.
+    fn fill<I: TimedRead>(&mut self, input: &mut I) -> io::Result<Fill>
+        ensures read { Reads (I.remaining input.old) (I.remaining input.new) self.old.lines self.new.lines }
+        ensures brings { IfOk result (λ fill. Brings fill self.old.lines self.new.lines) }
+        ensures err { OnErr result ((self.new.lines.pending ≡ self.old.lines.pending) × (self.new.lines.ended ≡ false)) }
+        ensures same { (self.new.log ≡ self.old.log) × (self.new.counts ≡ self.old.counts) }
+    {
+        let timeout = if self.log.hole > 0 {
+            Some(Duration::from_millis(self.wait))
+        } else {
+            None
+        };
+        input.set_read_timeout(timeout);
+        self.lines.fill(input)
+    }
+
+    /// Where nothing came: says what is missing, if there is room.
+    fn rest<R: Wait + Clock>(&mut self, rt: &R, alloc: Global)
+        requires { IsReady 0 self.old.log }
+        ensures tries { TriesToTell self.old.time self.old.log self.new.log }
+        ensures kept { (self.new.lines ≡ self.old.lines) × (self.new.counts ≡ self.old.counts) }
+        ensures same { IsSame self.old.log.producer self.new.log.producer }
+    {
+        self.log.tell_hole(rt, alloc, self.time);
+        self.wait = self.wait.saturating_mul(2).min(WAIT_MAX_MILLIS);
     }
 
     /// Logs each piece of what a read brought, at the time that it is.
@@ -55,6 +94,7 @@ impl Pump {
         ensures same { IsSame self.old.log.producer self.new.log.producer }
     {
         self.time = time_of(rt).unwrap_or(self.time);
+        self.wait = 1;
         while let Some(cut) = self.lines.next() {
             let text = self.lines.text();
             self.counts.see(cut, text);
@@ -65,7 +105,7 @@ impl Pump {
 
 /// Logs the lines of a reader, and waits until the log says what is missing. Answers what it logged with, what was counted, and why the
 /// reader could not be read to its end, where it could not.
-pub(crate) fn pump_all<R: Wait + Clock, I: Read>(
+pub(crate) fn pump_all<R: Wait + Clock, I: TimedRead>(
     rt: &R,
     alloc: Global,
     lines: LineCutter,
@@ -81,6 +121,7 @@ pub(crate) fn pump_all<R: Wait + Clock, I: Read>(
         log,
         time: 0,
         counts: Counts::new(),
+        wait: 1,
     };
     let fault = pump.run(rt, alloc, input);
     pump.log.finish(rt, alloc, pump.time);
@@ -89,6 +130,7 @@ pub(crate) fn pump_all<R: Wait + Clock, I: Read>(
         log,
         time: _,
         counts,
+        wait: _,
     } = pump;
     (log, counts, fault)
 }

@@ -2,6 +2,7 @@
 use Rattle.std.proofs.Common.{◌≡◌, ℕ, Bool, Option, List, codes, arith, inl, inr, refl, subst}
 use Rattle.std.proofs.KnownBytes.{Keeps-refl}
 use Rattle.clap.specs.Words.{Row, Text}
+use Rattle.alog_patient.specs.declared.patience.Patience.{Patience}
 use Rattle.alog_sink.specs.Files.{Files}
 use Rattle.alog_sink.specs.declared.mem_store.MemStore.{MemStore}
 use Rattle.alog_program.proofs.CommandLines.{one_row, replay_lacks_memory, replay_no_format, replay_no_check, replay_no_config, replay_no_load, format_is_no_check}
@@ -22,9 +23,9 @@ use Rattle.alog_program.specs.declared.words.WordsError.{WordsError}
 use Rattle.alog_program.specs.declared.words.WordsError.TheVariants.{Clap, Value, LoadValue}
 
 module _ {F : Type 0} (tells : Bool) (files : MemStore → Files) (failures : MemStore → ℕ) (tells2 : Bool) (files2 : F → Files)
-    (failures2 : F → ℕ) (words : List Text) (status : ℕ) (before after old new : Option (List ℕ)) where
+    (failures2 : F → ℕ) (tries2 : F → Patience) (words : List Text) (status : ℕ) (before after old new : Option (List ℕ)) where
   abbrev pub Made : Request → Type 0
-  Made r = Makes tells files failures tells2 files2 failures2 r status before after old new
+  Made r = Makes tells files failures tells2 files2 failures2 tries2 r status before after old new
 
   -- the words ask for a request, which was made
   pub made_replays : (r : Request) → Asks words r → Made r → AsksReplay words → Replays status before after old new
@@ -77,14 +78,14 @@ module _ {F : Type 0} (tells : Bool) (files : MemStore → Files) (failures : Me
   made_loads (Pipe r) asked made rows asks = absurd (pipe_is_no_load words asked.0 rows asked.1.1 asks.1)
 
   pub made_pipes : (r : Request) → Asks words r → Made r → (rows : List Row) → AsksPipe words rows
-      → PipesBy tells2 files2 failures2 (values_in rows) status before after old new
+      → PipesBy tells2 files2 failures2 tries2 (values_in rows) status before after old new
   made_pipes Replay asked made rows asks = absurd (asked.4 rows asks.1)
   made_pipes (ReplayConfig file) asked made rows asks = absurd (pipe_is_no_replay words rows asked.0 asks.1 asked.1.1)
   made_pipes (Format r) asked made rows asks = absurd (pipe_is_no_format words rows asked.0 asks.1 asked.1.1)
   made_pipes (Check file) asked made rows asks = absurd (pipe_is_no_check words rows asked.0 asks.1 asked.1.1)
   made_pipes (Load r) asked made rows asks = absurd (pipe_is_no_load words rows asked.0 asks.1 asked.1.1)
   made_pipes (Pipe r) asked made rows asks =
-      pipe_made tells2 files2 failures2 status before after old new words asked.0 rows r asked.1.1 asks.1 asked.2 made
+      pipe_made tells2 files2 failures2 tries2 status before after old new words asked.0 rows r asked.1.1 asks.1 asked.2 made
 
 -- the words are refused, and that was answered
 module _ (words : List Text) (status : ℕ) (before old new : Option (List ℕ)) where
@@ -149,15 +150,15 @@ module _ (words : List Text) (status : ℕ) (before old new : Option (List ℕ))
         ]
     refused_configured (LoadValue fault) refused answer rows asks = absurd (load_is_no_replay words refused.0 rows refused.1.1 asks.0.1)
 
-  module _ {F : Type 0} (tells : Bool) (files : F → Files) (failures : F → ℕ) where
+  module _ {F : Type 0} (tells : Bool) (files : F → Files) (failures : F → ℕ) (tries : F → Patience) where
     pub refused_pipes : (e : WordsError) → IsRefusedBy words e → IsAnswerTo e status old new → (rows : List Row)
-        → AsksPipe words rows → PipesBy tells files failures (values_in rows) status before before old new
+        → AsksPipe words rows → PipesBy tells files failures tries (values_in rows) status before before old new
     refused_pipes (Clap error) refused answer rows asks =
         let four : status ≡ 4 = answer.0.1 (lacks_memory words error asks.0 refused) in inr (inr (four, (Keeps-refl before, answer.1 four)))
     refused_pipes (Value fault) refused answer rows asks =
         elim refused.1 [
           | inl format ↦ absurd (pipe_is_no_format words rows refused.0 asks.1 format.0.1)
-          | inr pipe ↦ pipe_refused tells files failures status before before old new words fault pipe.0.1 asks.1 pipe.1 answer.0
+          | inr pipe ↦ pipe_refused tells files failures tries status before before old new words fault pipe.0.1 asks.1 pipe.1 answer.0
               (Keeps-refl before, answer.1)
         ]
     refused_pipes (LoadValue fault) refused answer rows asks = absurd (pipe_is_no_load words rows refused.0 asks.1 refused.1.1)

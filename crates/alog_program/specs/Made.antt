@@ -3,6 +3,7 @@ use Rattle.std.specs.Prelude.{◌≡◌, ◌≢◌, ◌↔◌, ℕ, Bool, List, 
 use Rattle.std.specs.Io.KnownBytes.{Keeps}
 use Rattle.clap.specs.Words.{kind_of}
 use Rattle.clap.specs.declared.error.kind.ErrorKind.TheVariants.{OutOfMemory}
+use Rattle.alog_patient.specs.declared.patience.Patience.{Patience}
 use Rattle.alog_sink.specs.Files.{Files}
 use Rattle.alog_sink.specs.declared.mem_store.MemStore.{MemStore}
 use Rattle.alog_program.specs.Checks.{ChecksFile}
@@ -15,9 +16,9 @@ use Rattle.alog_program.specs.declared.request.Request.TheVariants.{Replay, Repl
 use Rattle.alog_program.specs.declared.words.WordsError.{WordsError}
 use Rattle.alog_program.specs.declared.words.WordsError.TheVariants.{Clap, Value, LoadValue}
 
--- over stores in memory and those of a folder, by what they tell, their files and their failures
+-- over stores in memory and those of a folder, by what they tell, their files and their failures, and how often those of the folder try again
 module _ {F : Type 0} (tells : Bool) (files : MemStore → Files) (failures : MemStore → ℕ) (tells2 : Bool) (files2 : F → Files)
-    (failures2 : F → ℕ) where
+    (failures2 : F → ℕ) (tries2 : F → Patience) where
   -- by the exit status, what a request asks for was made
   abbrev pub Makes : Request → ℕ → (before after old new : Option (List ℕ)) → Type 0
   Makes Replay status before after old new = Replays status before after old new
@@ -27,7 +28,7 @@ module _ {F : Type 0} (tells : Bool) (files : MemStore → Files) (failures : Me
   Makes (Check file) status before after old new = ChecksFile status old new
   Makes (Load r) status before after old new =
       MatchOption r.folder (LoadsFile tells files failures r status old new) (λ _. LoadsFile tells2 files2 failures2 r status old new)
-  Makes (Pipe r) status before after old new = PipesFile tells2 files2 failures2 r status before after old new
+  Makes (Pipe r) status before after old new = PipesFile tells2 files2 failures2 tries2 r status before after old new
 
 -- a refused value has status 1, and what `clap` says has 4 for want of memory alone; at both nothing was written
 abbrev pub IsAnswerTo : WordsError → ℕ → (old new : Option (List ℕ)) → Type 0

@@ -1,5 +1,5 @@
 -- What `alog pipe` does.
-use Rattle.std.specs.Prelude.{◌≡◌, ◌≢◌, ◌≤◌, ◌⊎◌, ℕ, All, Bool, true, false, List, [], Option, None, Some, IsNone, Ok, codes}
+use Rattle.std.specs.Prelude.{◌≡◌, ◌≢◌, ◌≤◌, ◌⊎◌, ℕ, All, Bool, true, false, List, Option, None, Some, IsNone, Ok, codes}
 use Rattle.std.specs.Io.KnownBytes.{Appends, Keeps}
 use Rattle.std.specs.List.{position}
 use Rattle.std.specs.Option.{option_map}
@@ -7,6 +7,8 @@ use Rattle.std.specs.Str.{bytes_eq}
 use Rattle.alog_config.specs.Meaning.{Reads}
 use Rattle.alog_config.specs.declared.config.Config.{Config}
 use Rattle.alog_config.specs.declared.config.LoggerConfig.{LoggerConfig}
+use Rattle.alog_patient.specs.declared.patience.Patience.{Patience}
+use Rattle.alog_patient.specs.declared.patience.Patience.TheVariants.{Endless, Times}
 use Rattle.alog_pipe.specs.Pipes.{Pipes}
 use Rattle.alog_pipe.specs.declared.counts.Counts.{Counts}
 use Rattle.alog_pipe.specs.declared.piping.Piped.{Piped}
@@ -44,12 +46,18 @@ told_text c missing t =
 abbrev pub IsUntouched : (before after old new : Option (List ℕ)) → Type 0
 IsUntouched before after old new = Keeps before after × Keeps old new
 
--- over stores of this type, by what they tell, their files and their failures
-module _ {S : Type 0} (tells : Bool) (files : S → Files) (failures : S → ℕ) where
-  -- What came of a pipe, as it was asked for, of a configuration, over new stores.
+-- how often a failed call on a file is tried again: as often as the configuration says, or without end
+abbrev pub patience_of : Option ℕ → Patience
+patience_of None = Endless
+patience_of (Some times) = Times times
+
+-- over stores of this type, by what they tell, their files, their failures and how often they try a failed call again
+module _ {S : Type 0} (tells : Bool) (files : S → Files) (failures : S → ℕ) (tries : S → Patience) where
+  -- What came of a pipe, as it was asked for, of a configuration, over new stores that try again as often as that says.
   pub record IsPipeOf (c : Config) (r : PipeRequest) (before after : Option (List ℕ)) (p : Piped S) : Type 0 where
     pub stores : List S
     pub fresh : All (IsNew tells files failures) stores
+    pub patient : All (λ s. tries s ≡ patience_of c.retry) stores
     pub logger : ℕ
     pub named : logger_in c (name_in r) ≡ Some logger
     pub pipes : Pipes tells files failures c stores logger r.level before after p

@@ -307,7 +307,7 @@ becomes U+FFFD, and a line that is longer than the text limit goes in pieces, cu
 not fit. Lines are in the files as soon as nothing is left to write.
 
 Under the policy block a line waits for room in the queue. Under the others none waits: where lines are refused,
-the log has a line at level warning in their place, before the next line that it takes or at the end:
+the log has a line at level warning in their place, as soon as there is room and before the next line:
 `N lines are missing here`. Of what overrun_oldest takes out of the queue it says nothing.
 
 The files of the sinks are files of the folder DIR, which has to be there, and is held by one pipe, load or

@@ -35,6 +35,7 @@ mod totals;
 mod traced;
 mod words;
 
+pub use alog_pipe::{ReadAside, TimedRead};
 pub use arguments::{ArgumentsError, collect_words};
 pub use program::{refuse_arguments, run};
 pub use progress::{Progress, Screen};

@@ -6,7 +6,7 @@ ghost use Rattle.std.specs.Option.{option_map};
 ghost use Rattle.alog_config.specs.Sinks.{is_leaf};
 ghost use Rattle.alog_server.specs.Stores.{IsNew};
 ghost use Rattle.alog_program.specs.Loaded.{HasNoFault};
-ghost use Rattle.alog_program.specs.Piped.{PipesDocument, PipesFile, PipesOn, is_asked, logger_in, name_in, told_text};
+ghost use Rattle.alog_program.specs.Piped.{PipesDocument, PipesFile, PipesOn, is_asked, logger_in, name_in, patience_of, told_text};
 
 use crate::configuration::{read_document, refuse};
 use crate::ended::fail_to_write;
@@ -16,18 +16,18 @@ use crate::sinks::say_faults;
 use crate::totals::write_totals;
 use alog_config::{BuildError, Config, LoggerConfig, leaves, read};
 use alog_load::LoadError;
-use alog_pipe::{Counts, Piped, pipe};
+use alog_pipe::{Counts, Piped, TimedRead, pipe};
 use alog_pool::{Report, Totals};
 use alog_server::{Folders, Hold, Patience, folder_stores, hold_folder, patience_of};
 use alog_sink::Store;
-use std::io::{self, Read, Write};
+use std::io::{self, Write};
 use std::rt::Files;
 use std::sync::Wait;
 use std::thread::Threads;
 use std::time::Clock;
 
 /// `alog pipe`: logs the lines of the input where the file has a configuration, and else says what is wrong with the file.
-pub(crate) fn pipe_command<R, I: Read, O: Write, E: Write>(
+pub(crate) fn pipe_command<R, I: TimedRead, O: Write, E: Write>(
     rt: &R,
     request: &PipeRequest<'_>,
     input: &mut I,
@@ -37,7 +37,7 @@ pub(crate) fn pipe_command<R, I: Read, O: Write, E: Write>(
 where
     R: AllocGlobal + Files + Folders + Threads + Wait + Clock,
     R: Clone + Drop + Send + Sync + 'static,
-    ensures { PipesFile R.Folder.tells R.Folder.files R.Folder.failures request.now result
+    ensures { PipesFile R.Folder.tells R.Folder.files R.Folder.failures R.tries request.now result
         (I.remaining input.old) (I.remaining input.new) (O.contents output.old) (O.contents output.new) }
 {
     match read_document(rt, request.file, errors) {
@@ -47,7 +47,7 @@ where
 }
 
 /// Logs the lines through the configuration of a document, or says what is wrong with the document.
-fn pipe_document<R, I: Read, O: Write, E: Write>(
+fn pipe_document<R, I: TimedRead, O: Write, E: Write>(
     rt: &R,
     document: &[u8],
     request: &PipeRequest<'_>,
@@ -58,7 +58,7 @@ fn pipe_document<R, I: Read, O: Write, E: Write>(
 where
     R: AllocGlobal + Files + Folders + Threads + Wait + Clock,
     R: Clone + Drop + Send + Sync + 'static,
-    ensures { PipesDocument R.Folder.tells R.Folder.files R.Folder.failures document.now request.now result
+    ensures { PipesDocument R.Folder.tells R.Folder.files R.Folder.failures R.tries document.now request.now result
         (I.remaining input.old) (I.remaining input.new) (O.contents output.old) (O.contents output.new) }
 {
     match read(rt.alloc(), document) {
@@ -68,7 +68,7 @@ where
 }
 
 /// Logs the lines through this configuration, or says that it has no logger that is asked for.
-fn pipe_with<R, I: Read, O: Write, E: Write>(
+fn pipe_with<R, I: TimedRead, O: Write, E: Write>(
     rt: &R,
     config: &Config,
     request: &PipeRequest<'_>,
@@ -79,7 +79,7 @@ fn pipe_with<R, I: Read, O: Write, E: Write>(
 where
     R: AllocGlobal + Files + Folders + Threads + Wait + Clock,
     R: Clone + Drop + Send + Sync + 'static,
-    ensures { PipesOn R.Folder.tells R.Folder.files R.Folder.failures config.now request.now result
+    ensures { PipesOn R.Folder.tells R.Folder.files R.Folder.failures R.tries config.now request.now result
         (I.remaining input.old) (I.remaining input.new) (O.contents output.old) (O.contents output.new) }
 {
     match logger_of(config, request.logger) {
@@ -118,7 +118,7 @@ fn logger_of(config: &Config, name: Option<&str>) -> Option<usize>
 }
 
 /// Logs the lines to the logger of this number, over the files of the folder, which is held for them.
-fn pipe_to<R, I: Read, O: Write, E: Write>(
+fn pipe_to<R, I: TimedRead, O: Write, E: Write>(
     rt: &R,
     config: &Config,
     request: &PipeRequest<'_>,
@@ -131,7 +131,7 @@ where
     R: AllocGlobal + Files + Folders + Threads + Wait + Clock,
     R: Clone + Drop + Send + Sync + 'static,
     requires named { logger_in config.now (name_in request.now) ≡ Some logger }
-    ensures { PipesOn R.Folder.tells R.Folder.files R.Folder.failures config.now request.now result
+    ensures { PipesOn R.Folder.tells R.Folder.files R.Folder.failures R.tries config.now request.now result
         (I.remaining input.old) (I.remaining input.new) (O.contents output.old) (O.contents output.new) }
 {
     match hold_folder(rt, rt.alloc(), request.folder, config) {
@@ -145,7 +145,7 @@ where
 }
 
 /// Logs the lines to the logger of this number, over the files of the folder that is held.
-fn pipe_held<R, I: Read, O: Write, E: Write>(
+fn pipe_held<R, I: TimedRead, O: Write, E: Write>(
     rt: &R,
     config: &Config,
     request: &PipeRequest<'_>,
@@ -157,7 +157,7 @@ fn pipe_held<R, I: Read, O: Write, E: Write>(
 where
     R: AllocGlobal + Folders + Threads + Wait + Clock + Clone + Drop + Send + Sync + 'static,
     requires named { logger_in config.now (name_in request.now) ≡ Some logger }
-    ensures { PipesOn R.Folder.tells R.Folder.files R.Folder.failures config.now request.now result
+    ensures { PipesOn R.Folder.tells R.Folder.files R.Folder.failures R.tries config.now request.now result
         (I.remaining input.old) (I.remaining input.new) (O.contents output.old) (O.contents output.new) }
 {
     let patience = patience_of(config, Patience::Endless);
@@ -168,10 +168,10 @@ where
 }
 
 /// Logs the lines over these stores, and writes what came of it.
-fn pipe_over<R, S: Store + Drop + Send + 'static, I: Read, O: Write, E: Write>(
+fn pipe_over<R, I: TimedRead, O: Write, E: Write>(
     rt: &R,
     config: &Config,
-    stores: Vec<S>,
+    stores: Vec<R::Folder>,
     request: &PipeRequest<'_>,
     logger: usize,
     input: &mut I,
@@ -179,11 +179,12 @@ fn pipe_over<R, S: Store + Drop + Send + 'static, I: Read, O: Write, E: Write>(
     errors: &mut E,
 ) -> u8
 where
-    R: AllocGlobal + Threads + Wait + Clock + Clone + Drop + Send + Sync + 'static,
+    R: AllocGlobal + Folders + Threads + Wait + Clock + Clone + Drop + Send + Sync + 'static,
     requires many { length stores.items ≡ count_by is_leaf config.now.sinks.items }
-    requires fresh { All (IsNew S.tells S.files S.failures) stores.items }
+    requires fresh { All (IsNew R.Folder.tells R.Folder.files R.Folder.failures) stores.items }
+    requires patient { All (λ s. R.tries s ≡ patience_of config.now.retry) stores.items }
     requires named { logger_in config.now (name_in request.now) ≡ Some logger }
-    ensures { PipesOn S.tells S.files S.failures config.now request.now result
+    ensures { PipesOn R.Folder.tells R.Folder.files R.Folder.failures R.tries config.now request.now result
         (I.remaining input.old) (I.remaining input.new) (O.contents output.old) (O.contents output.new) }
 {
     let (logger, level) = (logger as u32, request.level);

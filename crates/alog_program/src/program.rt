@@ -25,6 +25,7 @@ use crate::request::{LineRequest, Request};
 use crate::status::{number_of, status_of};
 use crate::traced::{TracedReader, TracedWriter};
 use crate::words::{WordsError, read};
+use alog_pipe::TimedRead;
 use alog_replay::{ReplayError, replay};
 use alog_server::Folders;
 use alog_sink::{MemStore, Store};
@@ -47,8 +48,9 @@ use std::time::Clock;
 /// a file, as `replay_config` does; where that file has none, nothing is read of the script and nothing is written on
 /// `output`. `alog format` writes the line that its arguments ask for. `alog load` makes a load, as `alog_load::load` does,
 /// and writes its totals; while it goes on, a terminal that standard error goes to shows how many messages were handled. `alog pipe`
-/// logs the lines of `input`, as `alog_pipe::pipe` does, and writes its totals. No other command starts threads.
-pub fn run<R, S: AsStr, I: Read, O: Write, E: Write>(
+/// logs the lines of `input`, as `alog_pipe::pipe` does, and writes its totals; it alone asks the reader not to wait, while the log does not
+/// say yet that some are missing. No other command starts threads.
+pub fn run<R, S: AsStr, I: TimedRead, O: Write, E: Write>(
     rt: &R,
     words: &[S],
     input: &mut I,
@@ -74,7 +76,7 @@ where
         (values_in rows) result (O.contents output.old) (O.contents output.new))
         (λ _. LoadsBy R.Folder.tells R.Folder.files
         R.Folder.failures (values_in rows) result (O.contents output.old) (O.contents output.new)) }
-    ensures pipes { (rows : List Row) → AsksPipe (map S.text words.now) rows → PipesBy R.Folder.tells R.Folder.files R.Folder.failures
+    ensures pipes { (rows : List Row) → AsksPipe (map S.text words.now) rows → PipesBy R.Folder.tells R.Folder.files R.Folder.failures R.tries
         (values_in rows) result (I.remaining input.old) (I.remaining input.new) (O.contents output.old) (O.contents output.new) }
 {
     match read(rt.alloc(), words) {
@@ -84,7 +86,7 @@ where
 }
 
 /// Does what a command line asks for, and answers the exit status.
-fn make<R, I: Read, O: Write, E: Write>(
+fn make<R, I: TimedRead, O: Write, E: Write>(
     rt: &R,
     request: &Request<'_>,
     input: &mut I,
@@ -97,7 +99,7 @@ where
     ensures status { result ≤ 4 }
     ensures usage { result ≡ 1 → Keeps (O.contents output.old) (O.contents output.new) }
     ensures made { Makes ⟦<MemStore as Store>⟧.tells ⟦<MemStore as Store>⟧.files ⟦<MemStore as Store>⟧.failures
-        R.Folder.tells R.Folder.files R.Folder.failures request.now result
+        R.Folder.tells R.Folder.files R.Folder.failures R.tries request.now result
         (I.remaining input.old) (I.remaining input.new) (O.contents output.old) (O.contents output.new) }
 {
     match request {

@@ -1,7 +1,9 @@
 //! The reader and the writer of all runs, each of which may fail.
+use alog_program::TimedRead;
 use std::alloc::{AllocError, Global};
 use std::io;
 use std::io::{Error, ErrorKind, Read, Write};
+use std::time::Duration;
 
 /// Gives its bytes one at a time.
 #[derive(Drop)]
@@ -42,6 +44,10 @@ impl Read for Input<'_> {
             _ => Ok(0),
         }
     }
+}
+
+impl TimedRead for Input<'_> {
+    fn set_read_timeout(&mut self, _timeout: Option<Duration>) {}
 }
 
 /// Takes so many bytes, one at a time, and then no more.

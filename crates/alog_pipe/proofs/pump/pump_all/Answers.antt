@@ -1,18 +1,17 @@
 use Rattle.std.proofs.Common.{refl, arith}
 use Rattle.alog_pipe.proofs.Logging.{ready_on, same_on}
-use Rattle.alog_pipe.proofs.Pumping.{logs_logger}
+use Rattle.alog_pipe.proofs.Pumping.{all_logger}
 use Rattle.alog_pipe.proofs.pump.pump_all.Goals as goal
 
 pub finish-requires : goal.finish-requires
 finish-requires g c =
-    let p = c.run-fault.ensures.pumps in
     let new = c.run-fault.new.self.log in
-    let ready = ready_on c.args.log new c.requires.ready (logs_logger p.pieces c.args.log new p.logged) c.run-fault.ensures.same in
+    let ready = ready_on c.args.log new c.requires.ready (all_logger c.run-fault.ensures.pumps.logged) c.run-fault.ensures.same in
     (ready.0, omega arith)
 
 pub returns : goal.returns
 returns g c = record {
-  start = record { lines = c.args.lines; log = c.args.log; time = _; counts = c.new.result };
+  start = record { lines = c.args.lines; log = c.args.log; time = _; counts = c.new.result; wait = _ };
   last = c.run-fault.new.self;
   log_is = refl;
   counts_are = c.new.ensures;

@@ -5,10 +5,11 @@ use Rattle.alog_program.proofs.pipe.pipe_over.Goals as goal
 pub returns-in-Ok : goal.returns-in-Ok
 returns-in-Ok g c =
     let told = c.tell.ensures in
-    let made : IsPipeOf g.S.Store.tells g.S.Store.files g.S.Store.failures c.args.config.now c.args.request.now
+    let made : IsPipeOf g.R.Folder.Store.tells g.R.Folder.Store.files g.R.Folder.Store.failures g.R.Folders.tries c.args.config.now c.args.request.now
     (g.I.Read.remaining c.args.input.now) (g.I.Read.remaining c.pipe.new.input) c.in-Ok.piped = record {
       stores = c.args.stores.items;
       fresh = c.requires.fresh;
+      patient = c.requires.patient;
       logger = c.args.logger;
       named = c.requires.named;
       pipes = c.in-Ok.ensures.piped;
