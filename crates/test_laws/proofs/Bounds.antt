@@ -8,11 +8,13 @@ use Rattle.alog_core.specs.Queue.{Queue, Event, Claim, Write, Grab, Take, Full, 
 use Rattle.alog_core.proofs.SharedAccounts.{accounts_balance, weigh-append}
 use Rattle.alog_core.proofs.SharedCells.{on_test}
 use Rattle.alog_msg.specs.declared.item.Item.{Item}
-use Rattle.alog_pool.specs.Accounts.{of_all}
+use Rattle.alog_msg.specs.declared.item.Item.TheVariants.{Flush, Stop, Text}
+use Rattle.alog_pool.specs.Accounts.{of_all, of_work}
 use Rattle.alog_pool.specs.Pool.{PoolView}
 use Rattle.alog_pool.specs.Producer.{ProducerView}
-use Rattle.alog_pool.specs.Report.{Ends, took_out}
+use Rattle.alog_pool.specs.Report.{Ends, handled_by, put_in, took_out}
 use Rattle.alog_pool.specs.declared.report.Report.{Report}
+use Rattle.alog_pool.specs.declared.worker.Worker.{Worker}
 use Rattle.alog_registry.specs.BlockPort.{block_note}
 use Rattle.alog_ring.specs.Known.{Member}
 use Rattle.alog_ring.specs.Made.{AreExact}
@@ -25,6 +27,13 @@ Deed = Entry Item block_note
 weigh_none : (ps : List (ℕ × Item)) → weigh of_all ps ≡ 0 → ps ≡ []
 weigh_none [] none = refl
 weigh_none (p ∷ ps) none = absurd (omega (arith, none))
+
+-- and texts and flushes no more than that
+work_less : (ps : List (ℕ × Item)) → weigh of_work ps ≤ weigh of_all ps
+work_less [] = omega arith
+work_less ((t, Text m) ∷ ps) = let rest = work_less ps in omega (arith, rest)
+work_less ((t, Flush k) ∷ ps) = let rest = work_less ps in omega (arith, rest)
+work_less ((t, Stop) ∷ ps) = let rest = work_less ps in omega (arith, rest)
 
 -- a claim takes one of the tickets that are left
 step_few : (n : ℕ) (q : Queue Item) (a : ℕ) (e : Event Item) → Allows n q a e
@@ -90,3 +99,14 @@ module _ {S : Type 0} (tells : Bool) (files : S → Files) (failures : S → ℕ
       let zero : took_out p ≡ 0 = ap (λ (ps : List (ℕ × Item)). weigh of_all ps) none in
       let sum : sum_by took_out (p ∷ []) ≡ 0 = omega (arith, single, zero) in
       ends.totals.overrun ∙ ap (λ n. n % 2 ^ 64) sum
+
+  -- what it overran, as the report tells it, are texts and flushes
+  pub overrun_is : r.totals.overrun ≡ taken of_work p.pass.known.own
+  overrun_is =
+      let crew : ℕ = sum_by (λ (h : Worker S). handled_by h) ends.crew in
+      let put = sum_by-cons put_in p [] in
+      let over = sum_by-cons took_out p [] in
+      let own = sum_by-cons (λ (q : ProducerView). taken of_work q.pass.known.own) p [] in
+      let out = ends.out of_work (λ t. refl) in
+      let less = work_less (takes p.pass.known.own) in
+      omega (arith, put, over, own, out, less, own_few, ends.totals.posted, ends.totals.overrun, ends.totals.handled, ends.totals.balance)

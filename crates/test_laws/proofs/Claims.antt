@@ -8,6 +8,7 @@ use Rattle.alog_msg.specs.declared.item.Item.TheVariants.{Stop}
 use Rattle.alog_pool.specs.Posted.{ArePosted, IsOverrun, tickets_of}
 use Rattle.alog_pool.specs.Producer.{ProducerView}
 use Rattle.alog_pool.specs.Report.{IsRising}
+use Rattle.test_laws.specs.Stretches.{Leaves}
 
 -- a ticket and the item under it
 abbrev pub Given : Type 0
@@ -76,18 +77,52 @@ same_items (x ∷ xs) (y ∷ ys) rise climb to fro =
     let rest : xs ≡ ys = same_items xs ys rise.1 climb.1 (without_first x y xs ys same rise to) (without_first y x ys xs (sym same) climb fro) in
     λ i. sym same i ∷ rest i
 
+-- a list with rising tickets whose items stand in another one is that one without some of its items
+behind_first : (x y : Given) (xs ys : List Given) → IsRising (tickets_of (x ∷ xs)) → IsRising (tickets_of (y ∷ ys)) → Contains ys x
+    → ((i : Given) → Contains (x ∷ xs) i → Contains (y ∷ ys) i) → (i : Given) → Contains (x ∷ xs) i → Contains ys i
+behind_first x y xs ys rise climb later to i c =
+    elim (at_cases i y ys (to i c)) [
+      | inl at ↦
+          let low : y.0 ≡ i.0 = ap (λ (j : Given). j.0) at in
+          let high = above y.0 ys x climb.0 later in
+          elim (at_cases i x xs c) [
+            | inl same ↦ let is : x.0 ≡ i.0 = ap (λ (j : Given). j.0) same in absurd (omega (arith, low, high, is))
+            | inr other ↦ let more = above x.0 xs i rise.0 other in absurd (omega (arith, low, high, more))
+          ]
+      | inr behind ↦ behind
+    ]
+
+pub left_of : (xs ys : List Given) → IsRising (tickets_of xs) → IsRising (tickets_of ys)
+    → ((i : Given) → Contains xs i → Contains ys i) → Leaves ys xs
+left_of [] [] rise climb to = tt
+left_of (x ∷ xs) [] rise climb to = let bad = to x (first_at x xs) in absurd (omega (arith, bad.1))
+left_of [] (y ∷ ys) rise climb to = inl (left_of [] ys rise climb.1 (λ i c. absurd (omega (arith, c.1))))
+left_of (x ∷ xs) (y ∷ ys) rise climb to =
+    elim (at_cases x y ys (to x (first_at x xs))) [
+      | inl same ↦ inr (xs, (λ i. sym same i ∷ xs), left_of xs ys rise.1 climb.1 (without_first x y xs ys same rise to))
+      | inr later ↦ inl (left_of (x ∷ xs) ys rise climb.1 (behind_first x y xs ys rise climb later to))
+    ]
+
+-- what holds of each item of a list holds of those of one whose items stand there
+pub all_of : (P : Given → Type 0) (xs ys : List Given) → AllByRecursion P ys → ((i : Given) → Contains xs i → Contains ys i)
+    → AllByRecursion P xs
+all_of P [] ys all to = tt
+all_of P (x ∷ xs) ys all to = (all_at P ys x all (to x (first_at x xs)), all_of P xs ys all (λ i c. to i (later_at i x xs c)))
+
+-- what one producer posted it put in
+pub put_there : (p : ProducerView) (items : List Given) → ArePosted (p ∷ []) items → (i : Given) → Contains items i
+    → Contains (claims p.pass.known.own) i
+put_there p items are i at =
+    let put = ((are.each i).0 at).1 in
+    let same : p ≡ put.0 = alone_is put.0 p put.1 in
+    subst (λ (q : ProducerView). Contains (claims q.pass.known.own) i) (sym same) put.2
+
 -- what one producer posted, which took nothing out and put no stop in
 pub posted_are : (p : ProducerView) (items : List Given) → IsRising (tickets_of items) → ArePosted (p ∷ []) items → takes p.pass.known.own ≡ []
     → AllByRecursion (λ (i : Given). i.1 ≢ Stop) (claims p.pass.known.own) → items ≡ claims p.pass.known.own
 posted_are p items rise are took work =
-    same_items items (claims p.pass.known.own) rise are.in_order.0 to fro
+    same_items items (claims p.pass.known.own) rise are.in_order.0 (put_there p items are) fro
   where
-    to : (i : Given) → Contains items i → Contains (claims p.pass.known.own) i
-    to i at =
-        let put = ((are.each i).0 at).1 in
-        let same : p ≡ put.0 = alone_is put.0 p put.1 in
-        subst (λ (q : ProducerView). Contains (claims q.pass.known.own) i) (sym same) put.2
-
     kept : (i : Given) → ¬ IsOverrun (p ∷ []) i
     kept i lost =
         let same : p ≡ lost.0 = alone_is lost.0 p lost.1 in

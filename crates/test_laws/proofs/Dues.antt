@@ -1,13 +1,15 @@
--- The turns that are due on a sink of a logger for texts and flushes of it.
-use Rattle.std.proofs.Common.{◌≡◌, ◌≢◌, ℕ, ◌+◌, ◌==◌, Bool, true, false, cond, Option, Some, List, [], ◌∷◌, ◌++◌, map, count_by}
-use Rattle.std.proofs.Common.{refl, sym, ap, subst, ◌∙◌, arith}
+-- The turns that are due on a sink of a logger for texts of it.
+use Rattle.std.proofs.Common.{◌≡◌, ◌≢◌, ℕ, ◌+◌, ◌==◌, Bool, true, false, cond, Option, Some, List, [], ◌∷◌, ◌++◌, length, map, count_by}
+use Rattle.std.proofs.Common.{refl, sym, ap, subst, ◌∙◌, inl, inr, arith}
 use Rattle.std.specs.List.{AllByRecursion}
 use Rattle.std.proofs.lemmas.List.{map-append}
 use Rattle.std.proofs.lemmas.List.Sums.{sum_by-cons}
 use Rattle.alog_core.proofs.SharedCells.{on_test}
+use Rattle.alog_core.specs.Accounts.{weigh}
 use Rattle.alog_msg.specs.declared.item.Item.{Item}
 use Rattle.alog_msg.specs.declared.item.Item.TheVariants.{Flush, Stop, Text}
 use Rattle.alog_msg.specs.declared.message.Message.{Message}
+use Rattle.alog_pool.specs.Accounts.{of_work}
 use Rattle.alog_pool.specs.Deeds.{Due, all_dues, due_by, dues_by, dues_of, dues_on, given_by}
 use Rattle.alog_pool.specs.OneWorker.{texts_in}
 use Rattle.alog_registry.specs.Listed.{spec_at}
@@ -18,17 +20,18 @@ use Rattle.alog_registry.specs.declared.work.SinkDeed.{SinkDeed}
 use Rattle.alog_registry.specs.declared.work.SinkDeed.TheVariants as deed
 use Rattle.alog_registry.specs.declared.work.SinkTurn.{SinkTurn}
 use Rattle.alog_sink.specs.LaneRuns.{with_text}
+use Rattle.test_laws.specs.Stretches.{Leaves}
 use Rattle.test_laws.proofs.Claims.{Given}
 
--- a text of this logger, or a flush of it
+-- a text of this logger
 abbrev pub IsFor : ℕ → Item → Type 0
 IsFor logger (Text m) = m.logger ≡ logger
-IsFor logger (Flush k) = k ≡ logger
+IsFor logger (Flush k) = ⊥
 IsFor logger Stop = ⊥
 
 no_stop : (logger : ℕ) (x : Item) → IsFor logger x → x ≢ Stop
 no_stop logger (Text m) is same = absurd (cc same)
-no_stop logger (Flush k) is same = absurd (cc same)
+no_stop logger (Flush k) is same = is
 no_stop logger Stop is same = is
 
 pub no_stops : (logger : ℕ) (items : List Given) → AllByRecursion (λ (i : Given). IsFor logger i.1) items
@@ -41,6 +44,28 @@ with_more : (x : Item) (ms ns : List Message) → with_text x (ms ++ ns) ≡ wit
 with_more (Text m) ms ns = refl
 with_more (Flush k) ms ns = refl
 with_more Stop ms ns = refl
+
+-- of texts as many as weigh one each
+pub count_texts : (logger : ℕ) (items : List Given) → AllByRecursion (λ (i : Given). IsFor logger i.1) items
+    → length (texts_in items) ≡ weigh of_work items
+count_texts logger [] all = refl
+count_texts logger ((t, Text m) ∷ items) all = let rest = count_texts logger items all.1 in omega (arith, rest)
+count_texts logger ((t, Flush k) ∷ items) all = absurd all.0
+count_texts logger ((t, Stop) ∷ items) all = absurd all.0
+
+-- those of items that were left
+pub texts_leave : (xs ys : List Given) → Leaves xs ys → Leaves (texts_in xs) (texts_in ys)
+texts_leave [] [] left = tt
+texts_leave [] (y ∷ ys) left = absurd left
+texts_leave ((t, Text m) ∷ xs) ys (inl left) = inl (texts_leave xs ys left)
+texts_leave ((t, Text m) ∷ xs) ys (inr left) =
+    inr (texts_in left.0, ap (λ (zs : List Given). texts_in zs) left.1, texts_leave xs left.0 left.2)
+texts_leave ((t, Flush k) ∷ xs) ys (inl left) = texts_leave xs ys left
+texts_leave ((t, Flush k) ∷ xs) ys (inr left) =
+    subst (λ (zs : List Given). Leaves (texts_in xs) (texts_in zs)) (sym left.1) (texts_leave xs left.0 left.2)
+texts_leave ((t, Stop) ∷ xs) ys (inl left) = texts_leave xs ys left
+texts_leave ((t, Stop) ∷ xs) ys (inr left) =
+    subst (λ (zs : List Given). Leaves (texts_in xs) (texts_in zs)) (sym left.1) (texts_leave xs left.0 left.2)
 
 pub texts_more : (xs ys : List Given) → texts_in (xs ++ ys) ≡ texts_in xs ++ texts_in ys
 texts_more [] ys = refl
@@ -108,11 +133,6 @@ module _ (n : ℕ) where
           subst (λ (l : List Given). IsGood (Text m) ((t, Text m) ∷ l)) (sym (once_given m.logger t (Text m) deed.Flush sinks once)) refl
       behind false = refl
 
-  good_flush : (t k : ℕ) (sinks : List ℕ) → often sinks ≡ 1
-      → IsGood (Flush k) (dues_on n (map (λ (u : SinkTurn). due_by k (Flush k) u) (turns_on sinks t deed.Flush)))
-  good_flush t k sinks once =
-      subst (λ (l : List Given). IsGood (Flush k) l) (sym (once_given k t (Flush k) deed.Flush sinks once)) refl
-
 module _ (loggers : List Logger) (logger n : ℕ) (s : Spec) (found : spec_at loggers logger ≡ Some s) (once : often n s.sinks.items ≡ 1) where
   spec_of : (k : ℕ) → k ≡ logger → spec_at loggers k ≡ Some s
   spec_of k is = subst (λ (j : ℕ). spec_at loggers j ≡ Some s) (sym is) found
@@ -121,9 +141,7 @@ module _ (loggers : List Logger) (logger n : ℕ) (s : Spec) (found : spec_at lo
   good_item t (Text m) is =
       subst (λ (o : Option Spec). IsGood n (Text m) (dues_on n (dues_by o m.logger t (Text m)))) (sym (spec_of m.logger is))
       (good_text n t m s.sinks.items (is_flush_due s m.level) once)
-  good_item t (Flush k) is =
-      subst (λ (o : Option Spec). IsGood n (Flush k) (dues_on n (dues_by o k t (Flush k)))) (sym (spec_of k is))
-      (good_flush n t k s.sinks.items once)
+  good_item t (Flush k) is = absurd is
   good_item t Stop is = absurd is
 
   -- for all of them it is given their texts

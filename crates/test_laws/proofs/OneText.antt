@@ -35,7 +35,7 @@ use Rattle.alog_sink.specs.declared.sink.Sink.{Sink}
 use Rattle.test_laws.specs.Written.{EndsWith, HoldsAt}
 use Rattle.test_laws.proofs.Claims.{Given}
 use Rattle.test_laws.proofs.Dues.{IsFor, once_alone}
-use Rattle.test_laws.proofs.Held.{EndsAlone, Held, texts_held}
+use Rattle.test_laws.proofs.Held.{EndsAlone, Held, handled, texts_are, texts_held}
 use Rattle.test_laws.proofs.LastLine.{ends_with}
 
 module _ {S : Type 0} (tells : Bool) (files : S → Files) (failures : S → ℕ) where
@@ -98,11 +98,12 @@ module _ {S : Type 0} (tells : Bool) (files : S → Files) (failures : S → ℕ
         found = there;
         once = ap (λ (is : List ℕ). count_by (λ (s : ℕ). s == n) is) logger.sinks ∙ once_alone n;
         own = subst (λ (is : List Given). AllByRecursion (λ (i : Given). IsFor number i.1) is) (sym puts) (refl, tt);
-        took = took;
         told = tell;
         faultless = none;
       } in
-      let held = subst (λ (is : List Given). Held tells files failures n (lanes_of once.pool.sink_seats) r.sinks.items (texts_in is)) puts
+      let all : handled tells files failures law alone ≡ m ∷ [] =
+      texts_are tells files failures law alone took ∙ ap (λ (is : List Given). texts_in is) puts in
+      let held = subst (λ (ms : List Message). Held tells files failures n (lanes_of once.pool.sink_seats) r.sinks.items ms) all
       (texts_held tells files failures law alone) in
       let zero : once.made.number ≡ 0 = once.makes.number ∙ once.new in
       subst (λ (v : List (LaneId (Sink S)) × ℕ). HoldsAt files n v.0 r.sinks.items (message_with number level time v.1 text None))

@@ -8,7 +8,8 @@ use Rattle.alog_lines.specs.Pieces.{Piece}
 use Rattle.alog_msg.specs.declared.item.Item.{Item}
 use Rattle.alog_msg.specs.declared.level.Level.{Level}
 use Rattle.alog_pipe.specs.Logged.{LogsPieceAt, LogsText}
-use Rattle.alog_pipe.specs.Piped.{Finishes, LogsAll, Naps}
+use Rattle.alog_pipe.specs.InTurn.{InTurn}
+use Rattle.alog_pipe.specs.Piped.{Finishes, LogsAll, LogsNext, Naps, Rests, TriesToTell}
 use Rattle.alog_policy.specs.Post.{Round, PushBeaten, Overran, PopBeaten, Waited, IsRoundUnder, events_of_round, events_of_rounds}
 use Rattle.alog_policy.specs.Post.{End, Wrote, OutOfTickets, NoRoom, NothingToTake, AllGrabbed, OutOfRounds, events_of_end, IsPost}
 use Rattle.alog_policy.specs.SwapPort.{AreBy, SwapMade, SwapDid}
@@ -178,10 +179,24 @@ module _ (spec : Spec) (never : spec.policy ≢ OverrunOldest) where
       spares_on old mid new (untold_spares time old mid untold)
       (spares_same mid new (ap (λ (l : PieceLog). l.producer) is) (ap (λ (l : PieceLog). l.logger) is))
 
+  -- while nothing came
+  tries_spare : (time : ℤ) (old new : PieceLog) → TriesToTell time old new → Spares old new
+  tries_spare time old new (inl all) = told_spares time old new all
+  tries_spare time old new (inr none) = untold_spares time old new none
+
+  rests_spare : (n : ℕ) (old new : PieceLog) → Rests n old new → Spares old new
+  rests_spare zero old new same = spares_equal old new same
+  rests_spare (suc n) old new all = spares_on old all.0 new (rests_spare n old all.0 all.1) (tries_spare all.2.0 all.0 new all.2.1)
+
+  next_spare : (ps : List Piece) (old new : PieceLog) → InTurn LogsNext ps old new → Spares old new
+  next_spare [] old new same = spares_equal old new same
+  next_spare (p ∷ ps) old new all =
+      let next = all.1 in
+      spares_on old next.0 new (rests_spare next.1.0 old next.0 next.1.1)
+      (spares_on next.0 all.0 new (piece_spares next.2.0 p.text next.0 next.2.1.mid all.0 next.2.1.logged) (next_spare ps all.0 new all.2))
+
   pub pieces_spare : (ps : List Piece) (old new : PieceLog) → LogsAll ps old new → Spares old new
-  pieces_spare [] old new same = spares_equal old new same
-  pieces_spare (p ∷ ps) old new all =
-      spares_on old all.0 new (piece_spares all.1.0 p.text old all.1.1.mid all.0 all.1.1.logged) (pieces_spare ps all.0 new all.2)
+  pieces_spare ps old new l = spares_on old l.mid new (next_spare ps old l.mid l.pieces) (rests_spare l.rests l.mid new l.rested)
 
   -- the end
   naps_spare : (n : ℕ) (time : ℤ) (old new : PieceLog) → Naps n time old new → Spares old new

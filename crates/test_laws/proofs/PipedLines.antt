@@ -13,6 +13,7 @@ use Rattle.alog_lines.specs.Laws.{ShortLinesAreWhole}
 use Rattle.alog_lines.specs.Pieces.{Piece, pieces_of}
 use Rattle.alog_msg.specs.declared.item.Item.{Item}
 use Rattle.alog_msg.specs.declared.level.Level.{Level}
+use Rattle.alog_msg.specs.declared.message.Message.{Message}
 use Rattle.alog_pipe.specs.Pipes.{Pipes}
 use Rattle.alog_pipe.specs.declared.piping.Piped.{Piped}
 use Rattle.alog_policy.specs.declared.policy.Policy.{Policy}
@@ -27,13 +28,13 @@ use Rattle.alog_registry.specs.declared.logger.Logger.{Logger}
 use Rattle.alog_registry.specs.declared.logger.Spec.{Spec}
 use Rattle.alog_sink.specs.Files.{Files}
 use Rattle.alog_sink.specs.declared.sink.Sink.{Sink}
-use Rattle.test_laws.specs.PipedLines.{FlowsTo, HoldsPieces, IsOf, LosesNone, OverrunsNone}
-use Rattle.test_laws.specs.Stretches.{HoldsStretches, below_in, missing_in, pieces_of_stretch}
+use Rattle.test_laws.specs.PipedLines.{FlowsTo, HoldsPieces, IsOf, KeepsAll, LosesNone, OverrunsNone}
+use Rattle.test_laws.specs.Stretches.{AreTold, Holds, HoldsKept, HoldsStretches, Leaves, below_in, missing_in, pieces_of_stretch}
 use Rattle.test_laws.proofs.Answered.{puts_of}
 use Rattle.test_laws.proofs.Bounds.{none_overrun, took_none}
 use Rattle.test_laws.proofs.Claims.{Given}
 use Rattle.test_laws.proofs.Dues.{IsFor}
-use Rattle.test_laws.proofs.Held.{EndsAlone, Held, texts_held}
+use Rattle.test_laws.proofs.Held.{EndsAlone, Held, handled, texts_are, texts_held, texts_left, texts_lost}
 use Rattle.test_laws.proofs.Opening.{Fills, at_map, stands_on}
 use Rattle.test_laws.proofs.Overruns.{IsWith, finish_spares, pieces_spare, takes_by_now}
 use Rattle.test_laws.proofs.PieceLogs.{PieceLog}
@@ -139,21 +140,22 @@ module _ {S : Type 0} (tells : Bool) (files : S → Files) (failures : S → ℕ
       found = subst (λ (ls : List Logger). spec_at ls logger ≡ Some f.spec) (sym loggers_are) f.found;
       once = f.once;
       own = subst (λ (is : List Given). AllByRecursion (λ (i : Given). IsFor logger i.1) is) (sym puts_are) goes.own;
-      took = by_policy f.spec.policy (λ over. took_none tells files failures h.through.ends (f.none_overrun over)) (took_nothing f.spec f.found);
       told = f.told;
       faultless = f.faultless;
     }
 
     module _ (law : OneWorkerWritesInOrder tells files failures) where
-      held : Held tells files failures n (lanes_of h.through.pool.sink_seats) p.report.sinks.items (texts_in goes.puts)
-      held = subst (λ (is : List Given). Held tells files failures n (lanes_of h.through.pool.sink_seats) p.report.sinks.items (texts_in is)) puts_are
-          (texts_held tells files failures law alone)
+      abbrev written : List Message
+      written = handled tells files failures law alone
+
+      held : Held tells files failures n (lanes_of h.through.pool.sink_seats) p.report.sinks.items written
+      held = texts_held tells files failures law alone
 
       old_is : slice_get h.setup.sinks.items n ≡ Some held.lane.first
       old_is = subst (λ (ss : List (Sink S)). slice_get ss n ≡ Some held.lane.first) sinks_are
           (at_map (λ (l : LaneId (Sink S)). l.first) (lanes_of h.through.pool.sink_seats) n held.lane held.lane_is)
 
-      fills : Fills tells files failures stores (texts_in goes.puts) held.sink
+      fills : Fills tells files failures stores written held.sink
       fills = record {
         config = c;
         loggers = h.setup.loggers;
@@ -166,17 +168,8 @@ module _ {S : Type 0} (tells : Bool) (files : S → Files) (failures : S → ℕ
         holds = held.holds;
       }
 
-      pub lines_told : HoldsStretches files logger level n stores h.setup.sinks.items p.report.sinks.items c.text bytes p.missing p.below
-          h.through.log.hole
-      lines_told = record {
-        stretches = goes.stretches;
-        rest = goes.rest;
-        pieces_are = goes.pieces_are;
-        missing_are = missing_are;
-        below_are = below_are;
-        untold_are = goes.hole_is;
-        messages = texts_in goes.puts;
-        told = goes.tells;
+      sink_holds : Holds files n stores h.setup.sinks.items p.report.sinks.items written
+      sink_holds = record {
         old = held.lane.first;
         new = held.sink;
         old_is = old_is;
@@ -185,34 +178,72 @@ module _ {S : Type 0} (tells : Bool) (files : S → Files) (failures : S → ℕ
         stands = λ leaf is. stands_on tells files failures fills leaf is;
       }
 
-      module _ (none : LosesNone p) where
-        each : EachIs (IsOf logger level) (pieces_of c.text bytes) (texts_in goes.puts)
-        each =
-            let missing = missing_are in
-            let below = below_are in
-            let short : length goes.rest ≡ 0 = omega (arith, missing, none.0) in
-            let rest : goes.rest ≡ [] = none_left goes.rest short in
-            let all : pieces_of c.text bytes ≡ flat_map pieces_of_stretch goes.stretches =
-            goes.pieces_are ∙ ap (λ (l : List Piece). flat_map pieces_of_stretch goes.stretches ++ l) rest
-            ∙ append-nil (flat_map pieces_of_stretch goes.stretches) in
-            subst (λ (ps : List Piece). EachIs (IsOf logger level) ps (texts_in goes.puts)) (sym all)
-            (none_lost logger level goes.stretches (texts_in goes.puts) goes.tells (omega (arith, missing, none.0)) (omega (arith, below, none.1)))
+      are_told : AreTold logger level c.text bytes p.missing p.below h.through.log.hole (texts_in goes.puts)
+      are_told = record {
+        stretches = goes.stretches;
+        rest = goes.rest;
+        pieces_are = goes.pieces_are;
+        missing_are = missing_are;
+        below_are = below_are;
+        untold_are = goes.hole_is;
+        told = goes.tells;
+      }
 
-        pub lines_held : ShortLinesAreWhole
-            → HoldsPieces files logger level n stores h.setup.sinks.items p.report.sinks.items c.text bytes
-        lines_held whole = record {
-          messages = texts_in goes.puts;
-          each = each;
-          old = held.lane.first;
-          new = held.sink;
-          old_is = old_is;
-          new_is = held.sink_is;
-          holds = held.holds;
-          stands = λ leaf is.
-              let opened = stands_on tells files failures fills leaf is in
-              record { opened = opened; plain = λ plain. files_have files logger (pieces_of c.text bytes) plain each opened.stands };
-          whole = λ texts. copied whole texts;
+      pub lines_kept : HoldsKept files logger level n stores h.setup.sinks.items p.report.sinks.items c.text bytes p.missing p.below
+          h.through.log.hole p.report.totals.overrun
+      lines_kept = record {
+        posted = texts_in goes.puts;
+        are = are_told;
+        messages = written;
+        left = subst (λ (is : List Given). Leaves (texts_in is) written) puts_are (texts_left tells files failures law alone);
+        lost = subst (λ (is : List Given). length (texts_in is) ≡ length written + p.report.totals.overrun) puts_are
+            (texts_lost tells files failures law alone);
+        held = sink_holds;
+      }
+
+      module _ (keeps : KeepsAll tells files failures f) where
+        took : takes h.through.log.producer.pass.known.own ≡ []
+        took = by_policy f.spec.policy (λ over. took_none tells files failures h.through.ends (keeps over)) (took_nothing f.spec f.found)
+
+        written_is : written ≡ texts_in goes.puts
+        written_is = texts_are tells files failures law alone took ∙ ap (λ (is : List Given). texts_in is) puts_are
+
+        pub lines_told : HoldsStretches files logger level n stores h.setup.sinks.items p.report.sinks.items c.text bytes p.missing p.below
+            h.through.log.hole
+        lines_told = record {
+          messages = written;
+          are = subst (λ (ms : List Message). AreTold logger level c.text bytes p.missing p.below h.through.log.hole ms) (sym written_is) are_told;
+          held = sink_holds;
         }
+
+        module _ (none : LosesNone p) where
+          each : EachIs (IsOf logger level) (pieces_of c.text bytes) written
+          each =
+              let missing = missing_are in
+              let below = below_are in
+              let short : length goes.rest ≡ 0 = omega (arith, missing, none.0) in
+              let rest : goes.rest ≡ [] = none_left goes.rest short in
+              let all : pieces_of c.text bytes ≡ flat_map pieces_of_stretch goes.stretches =
+              goes.pieces_are ∙ ap (λ (l : List Piece). flat_map pieces_of_stretch goes.stretches ++ l) rest
+              ∙ append-nil (flat_map pieces_of_stretch goes.stretches) in
+              subst (λ (v : List Piece × List Message). EachIs (IsOf logger level) v.0 v.1) (λ i. (sym all i, sym written_is i))
+              (none_lost logger level goes.stretches (texts_in goes.puts) goes.tells (omega (arith, missing, none.0)) (omega (arith, below, none.1)))
+
+          pub lines_held : ShortLinesAreWhole
+              → HoldsPieces files logger level n stores h.setup.sinks.items p.report.sinks.items c.text bytes
+          lines_held whole = record {
+            messages = written;
+            each = each;
+            old = held.lane.first;
+            new = held.sink;
+            old_is = old_is;
+            new_is = held.sink_is;
+            holds = held.holds;
+            stands = λ leaf is.
+                let opened = stands_on tells files failures fills leaf is in
+                record { opened = opened; plain = λ plain. files_have files logger (pieces_of c.text bytes) plain each opened.stands };
+            whole = λ texts. copied whole texts;
+          }
 
 -- what holds of each value that may be answered holds of the answer
 pub on_ok : {A E : Type 0} (P : A → Type 0) → ((a : A) → P a) → (r : Result A E) → IfOk r P

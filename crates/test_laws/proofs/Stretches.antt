@@ -12,7 +12,8 @@ use Rattle.alog_msg.specs.declared.level.Level.{Level}
 use Rattle.alog_msg.specs.declared.level.Level.TheVariants.{Warning}
 use Rattle.alog_msg.specs.declared.message.Message.{Message}
 use Rattle.alog_pipe.specs.Logged.{HidesPiece, LogsPieceAt, LosesPiece, PostsPiece, below_by, by, hole_text, missed_by}
-use Rattle.alog_pipe.specs.Piped.{Finishes, LogsAll, Naps}
+use Rattle.alog_pipe.specs.InTurn.{InTurn}
+use Rattle.alog_pipe.specs.Piped.{Finishes, LogsAll, LogsNext, Naps, Rests, TriesToTell}
 use Rattle.alog_pool.specs.OneWorker.{texts_in}
 use Rattle.alog_pool.specs.Producer.{ProducerView, IsSame}
 use Rattle.alog_registry.specs.Given.{message_with}
@@ -334,12 +335,34 @@ module _ (logger : ℕ) (level : Level) where
       (missed p kept_run.rest mid new (run_behind {ps = []} (suc n) has kept_run (omega arith)) (same_puts mid.producer new.producer same)
       (is ∙ ap (λ (q : ProducerView). missed_by q mid) (sym same)))
 
+  -- while nothing came
+  tries_go : {n : ℕ} (time : ℤ) (run : List Piece) (old new : PieceLog) → TriesToTell time old new → HasRun run n old → Goes run [] old new
+  tries_go time run old new (inl all) has = (tells_run time run old new has all).goes
+  tries_go time run old new (inr none) has = keeps_run time run old new has none
+
+  rests_go : {k : ℕ} (n : ℕ) (run : List Piece) (old new : PieceLog) → Rests n old new → HasRun run k old → Goes run [] old new
+  rests_go zero run old new same has = (idles_at has same).goes
+  rests_go {k} (suc n) run old new all has =
+      let before = rests_go n run old all.0 all.1 has in
+      goes_on {ps = []} {qs = []} before
+      (tries_go all.2.0 before.rest all.0 new all.2.1 (run_behind {ps = []} k has before (omega arith)))
+
   -- all that was read
+  next_go : (ps run : List Piece) (old new : PieceLog) → InTurn LogsNext ps old new → HasRun run (length ps) old → Goes run ps old new
+  next_go [] run old new same has = (idles_at has same).goes
+  next_go (p ∷ ps) run old new all has =
+      let next = all.1 in
+      let rested = rests_go next.1.0 run old next.0 next.1.1 has in
+      let piece = piece_goes {n = length ps} next.2.0 p rested.rest next.0 next.2.1.mid all.0
+      (run_behind {ps = []} (suc (length ps)) has rested (omega arith)) next.2.1.logged in
+      let first = goes_on {ps = []} {qs = p ∷ []} rested piece in
+      goes_on {ps = p ∷ []} {qs = ps} first (next_go ps first.rest all.0 new all.2 (run_behind {ps = p ∷ []} (length ps) has first (omega arith)))
+
   pub pieces_go : (ps run : List Piece) (old new : PieceLog) → LogsAll ps old new → HasRun run (length ps) old → Goes run ps old new
-  pieces_go [] run old new same has = (idles_at has same).goes
-  pieces_go (p ∷ ps) run old new all has =
-      let first = piece_goes {n = length ps} all.1.0 p run old all.1.1.mid all.0 has all.1.1.logged in
-      goes_on {ps = p ∷ []} {qs = ps} first (pieces_go ps first.rest all.0 new all.2 (run_behind {ps = p ∷ []} (length ps) has first (omega arith)))
+  pieces_go ps run old new l has =
+      let pieces = next_go ps run old l.mid l.pieces has in
+      subst (λ (qs : List Piece). Goes run qs old new) (append-nil ps)
+      (goes_on {ps = ps} {qs = []} pieces (rests_go l.rests pieces.rest l.mid new l.rested (run_behind {ps = ps} 0 has pieces (omega arith))))
 
   -- while the end waits for room, and what its last line leaves
   naps_go : (n : ℕ) (time : ℤ) (run : List Piece) (old new : PieceLog) → Naps n time old new → HasRun run 0 old → Goes run [] old new

@@ -99,8 +99,7 @@ module _ {S : Type 0} (tells : Bool) (files : S → Files) (failures : S → ℕ
       (s : Spec) → spec_at h.setup.loggers logger ≡ Some s → s.policy ≢ OverrunOldest → p.report.totals.overrun ≡ 0
 
   -- A pipe, by this account of it, of a reader that had these bytes and was read to its end: through a pool of one worker, to a logger
-  -- among whose sinks that of this number stands once. The store of that sink tells its files, and no turn there met a fault. Where the logger
-  -- overruns the oldest, it counts that nothing was overrun.
+  -- among whose sinks that of this number stands once. The store of that sink tells its files, and no turn there met a fault.
   pub record FlowsTo (n : ℕ) (bytes : List ℕ) {c : Config} {stores : List S} {logger : ℕ} {level : Level} {before after : Option (List ℕ)}
       {p : Piped S} (h : Pipes tells files failures c stores logger level before after p) : Type 0 where
     pub had : before ≡ Some bytes
@@ -112,4 +111,8 @@ module _ {S : Type 0} (tells : Bool) (files : S → Files) (failures : S → ℕ
     pub once : count_by (λ (s : ℕ). s == n) spec.sinks.items ≡ 1
     pub told : tells ≡ true
     pub faultless : slice_get p.report.faults.items n ≡ Some 0
-    pub none_overrun : spec.policy ≡ OverrunOldest → p.report.totals.overrun ≡ 0
+
+  -- Where its logger overruns the oldest, such a pipe counts that nothing was overrun.
+  abbrev pub KeepsAll : {n : ℕ} {bytes : List ℕ} {c : Config} {stores : List S} {logger : ℕ} {level : Level} {before after : Option (List ℕ)}
+      {p : Piped S} {h : Pipes tells files failures c stores logger level before after p} → FlowsTo n bytes h → Type 0
+  KeepsAll {p = p} f = f.spec.policy ≡ OverrunOldest → p.report.totals.overrun ≡ 0

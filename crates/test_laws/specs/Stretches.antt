@@ -1,5 +1,5 @@
 -- What a sink holds of the lines that a pipe logged, where some are missing: in place of those that follow each other a line says how many.
-use Rattle.std.specs.Prelude.{◌≡◌, ◌<◌, ◌+◌, ℕ, ℤ, None, Some, List, [], ◌∷◌, ◌++◌, length, codes, slice_get}
+use Rattle.std.specs.Prelude.{◌≡◌, ◌⊎◌, ◌<◌, ◌+◌, ℕ, ℤ, None, Some, List, [], ◌∷◌, ◌++◌, length, codes, slice_get}
 use Rattle.std.specs.Fmt.{decimal}
 use Rattle.std.specs.List.{flat_map}
 use Rattle.alog_lines.specs.Pieces.{Piece, pieces_of}
@@ -61,24 +61,48 @@ Tells logger level (Below own p ∷ ss) ms = IsBelow level own × Tells logger l
 Tells logger level (Hidden own ps ∷ ss) ms = (0 < length ps) × IsBelow Warning own × Tells logger level ss ms
 Tells logger level _ _ = ⊥
 
+-- Messages tell stretches of the pieces of these bytes. These stretches, and behind them what is missing at the end and so many are, of
+-- which no line tells, are all pieces, in their order. So of them there are messages for all but as many as are missing, and as are below
+-- the level; and of those that are missing, but for the last, messages tell, unless these are below the level, too.
+pub record AreTold (logger : ℕ) (level : Level) (limit : ℕ) (bytes : List ℕ) (missing below untold : ℕ) (messages : List Message) : Type 0 where
+  pub stretches : List Stretch
+  pub rest : List Piece
+  pub pieces_are : pieces_of limit bytes ≡ flat_map pieces_of_stretch stretches ++ rest
+  pub missing_are : missing ≡ missing_in stretches + length rest
+  pub below_are : below ≡ below_in stretches
+  pub untold_are : untold ≡ length rest
+  pub told : Tells logger level stretches messages
+
+-- the second list is the first without some of its members
+abbrev pub Leaves : {A : Type 0} → List A → List A → Type 0
+Leaves [] [] = Unit {0}
+Leaves [] (y ∷ ys) = ⊥
+Leaves {A} (x ∷ xs) ys = Leaves xs ys ⊎ ((zs : List A) × (ys ≡ x ∷ zs) × Leaves xs zs)
+
 module _ {S : Type 0} (files : S → Files) where
-  -- Of these sinks that of this number holds, behind what it held at first, messages that tell stretches of the pieces of these bytes. These
-  -- stretches, and behind them what is missing at the end and so many are, of which no line tells, are all pieces, in their order. So what
-  -- the sink holds of them is all but as many as are missing, and as are below the level, and its lines tell of all these but the last. If it
-  -- is no fan it stands for its messages over one of these stores.
-  pub record HoldsStretches (logger : ℕ) (level : Level) (n : ℕ) (stores : List S) (first last : List (Sink S)) (limit : ℕ) (bytes : List ℕ)
-      (missing below untold : ℕ) : Type 0 where
-    pub stretches : List Stretch
-    pub rest : List Piece
-    pub pieces_are : pieces_of limit bytes ≡ flat_map pieces_of_stretch stretches ++ rest
-    pub missing_are : missing ≡ missing_in stretches + length rest
-    pub below_are : below ≡ below_in stretches
-    pub untold_are : untold ≡ length rest
-    pub messages : List Message
-    pub told : Tells logger level stretches messages
+  -- Of these sinks that of this number holds, behind what it held at first, these messages. If it is no fan it stands for them over one of
+  -- these stores.
+  pub record Holds (n : ℕ) (stores : List S) (first last : List (Sink S)) (messages : List Message) : Type 0 where
     pub old : Sink S
     pub new : Sink S
     pub old_is : slice_get first n ≡ Some old
     pub new_is : slice_get last n ≡ Some new
     pub holds : HoldsMore files old new messages
     pub stands : (leaf : LeafView S) → new ≡ Leaf leaf → StandsOn files stores messages leaf
+
+  -- It holds messages that tell of all pieces of these bytes.
+  pub record HoldsStretches (logger : ℕ) (level : Level) (n : ℕ) (stores : List S) (first last : List (Sink S)) (limit : ℕ) (bytes : List ℕ)
+      (missing below untold : ℕ) : Type 0 where
+    pub messages : List Message
+    pub are : AreTold logger level limit bytes missing below untold messages
+    pub held : Holds n stores first last messages
+
+  -- It holds such messages but for some, in their order: it lacks as many as were overrun.
+  pub record HoldsKept (logger : ℕ) (level : Level) (n : ℕ) (stores : List S) (first last : List (Sink S)) (limit : ℕ) (bytes : List ℕ)
+      (missing below untold overrun : ℕ) : Type 0 where
+    pub posted : List Message
+    pub are : AreTold logger level limit bytes missing below untold posted
+    pub messages : List Message
+    pub left : Leaves posted messages
+    pub lost : length posted ≡ length messages + overrun
+    pub held : Holds n stores first last messages

@@ -2,17 +2,16 @@
 ghost use Rattle.std.specs.Prelude.{◌≡◌, ◌<◌, ℕ, IfOk, List, count_by, length};
 ghost use Rattle.alog_config.specs.Sinks.{is_leaf};
 ghost use Rattle.alog_pipe.specs.Pipes.{Pipes};
-ghost use Rattle.test_laws.specs.PipedLines.{FlowsTo, HoldsPieces, LosesNone, OverrunsNone};
-ghost use Rattle.test_laws.specs.Stretches.{HoldsStretches};
+ghost use Rattle.test_laws.specs.PipedLines.{FlowsTo, HoldsPieces, KeepsAll, LosesNone, OverrunsNone};
+ghost use Rattle.test_laws.specs.Stretches.{HoldsKept, HoldsStretches};
 
 use alog_config::{BuildError, Config};
 use alog_lines::laws::short_lines_are_whole;
 use alog_msg::Level;
-use alog_pipe::{Piped, pipe};
+use alog_pipe::{Piped, TimedRead, pipe};
 use alog_pool::laws::one_worker_writes_in_order;
 use alog_sink::Store;
 use std::alloc::Global;
-use std::io::Read;
 use std::sync::Wait;
 use std::thread::Threads;
 use std::time::Clock;
@@ -28,7 +27,8 @@ use std::time::Clock;
 /// texts alone, the sink's file, or the runs of its files one behind the other, are what was there and then these texts; and where the
 /// reader's lines are short and in UTF-8, these are the reader's bytes.
 ///
-/// Where the logger overruns the oldest, this is so if nothing was overrun; under the other policies nothing is, whatever is missing.
+/// Where the logger overruns the oldest, this is so if nothing was overrun; and if something was, the sink holds those messages but for as many
+/// as the answer counts, in their order. Under the other policies nothing is overrun, whatever is missing.
 pub fn pipe_lines<R, S, I>(
     rt: &R,
     alloc: Global,
@@ -41,20 +41,24 @@ pub fn pipe_lines<R, S, I>(
 where
     R: Threads + Wait + Clock + Clone + Drop + Send + 'static,
     S: Store + Drop + Send + 'static,
-    I: Read,
+    I: TimedRead,
     requires many { length stores.items ≡ count_by is_leaf config.now.sinks.items }
     requires known { logger < length config.now.loggers.items }
     ensures piped { IfOk result (λ p. Pipes S.tells S.files S.failures config.now stores.items logger level (I.remaining input.old)
         (I.remaining input.new) p) }
     ensures spared { IfOk result (λ p. (h : Pipes S.tells S.files S.failures config.now stores.items logger level (I.remaining input.old)
         (I.remaining input.new) p) → OverrunsNone S.tells S.files S.failures h) }
-    ensures told { IfOk result (λ p. (h : Pipes S.tells S.files S.failures config.now stores.items logger level (I.remaining input.old)
+    ensures kept { IfOk result (λ p. (h : Pipes S.tells S.files S.failures config.now stores.items logger level (I.remaining input.old)
         (I.remaining input.new) p) (n : ℕ) (bytes : List ℕ) → FlowsTo S.tells S.files S.failures n bytes h
-        → HoldsStretches S.files logger level n stores.items h.setup.sinks.items p.report.sinks.items config.now.text bytes p.missing p.below
+        → HoldsKept S.files logger level n stores.items h.setup.sinks.items p.report.sinks.items config.now.text bytes p.missing p.below
+        h.through.log.hole p.report.totals.overrun) }
+    ensures told { IfOk result (λ p. (h : Pipes S.tells S.files S.failures config.now stores.items logger level (I.remaining input.old)
+        (I.remaining input.new) p) (n : ℕ) (bytes : List ℕ) (f : FlowsTo S.tells S.files S.failures n bytes h)
+        → KeepsAll S.tells S.files S.failures f → HoldsStretches S.files logger level n stores.items h.setup.sinks.items p.report.sinks.items config.now.text bytes p.missing p.below
         h.through.log.hole) }
     ensures held { IfOk result (λ p. (h : Pipes S.tells S.files S.failures config.now stores.items logger level (I.remaining input.old)
-        (I.remaining input.new) p) (n : ℕ) (bytes : List ℕ) → FlowsTo S.tells S.files S.failures n bytes h → LosesNone p
-        → HoldsPieces S.files logger level n stores.items h.setup.sinks.items p.report.sinks.items config.now.text bytes) }
+        (I.remaining input.new) p) (n : ℕ) (bytes : List ℕ) (f : FlowsTo S.tells S.files S.failures n bytes h)
+        → KeepsAll S.tells S.files S.failures f → LosesNone p → HoldsPieces S.files logger level n stores.items h.setup.sinks.items p.report.sinks.items config.now.text bytes) }
 {
     let piped = pipe(rt, alloc, config, stores, input, logger, level);
     one_worker_writes_in_order::<S>();

@@ -1,44 +1,31 @@
 //! Reads that a thread makes while its caller has something else to do.
 use alog_program::{ReadAside, TimedRead};
-use std::alloc::AllocError;
+use std::alloc::{AllocError, Global};
 use std::io::{self, Error, ErrorKind, Read};
-use std::sync::atomic::{AtomicU64, Ordering};
+use std::sync::atomic::{AtomicUsize, Ordering};
 use std::sync::{Arc, Wait};
 use std::thread::{self, Threads};
 use std::time::{Clock, Duration};
 
-/// A reader of the bytes 0, 1 and so on up to 250, and again.
+/// A reader of some bytes.
 #[derive(Drop)]
-struct Counted<R> {
+struct Slow<R> {
     rt: R,
-    /// How many bytes are there. A read waits for one more, or for the last.
-    there: Arc<AtomicU64>,
-    given: u64,
-    all: u64,
+    bytes: Vec<u8>,
+    /// How many of them are there. A read waits for one more, or for the last.
+    there: Arc<AtomicUsize>,
+    given: usize,
     /// Where a read fails once.
-    fails_at: Option<u64>,
+    fails_at: Option<usize>,
 }
 
-impl<R> Counted<R> {
-    /// A reader of so many bytes, which fails once at this place.
-    fn of(rt: R, there: Arc<AtomicU64>, all: u64, fails_at: Option<u64>) -> Counted<R> {
-        Counted {
-            rt,
-            there,
-            given: 0,
-            all,
-            fails_at,
-        }
-    }
-}
-
-impl<R: Wait + Clock> Counted<R> {
-    /// How many bytes a read can give.
-    fn ready(&self) -> u64 {
+impl<R: Wait + Clock> Slow<R> {
+    /// How many bytes there are when a read has something to give.
+    fn ready(&self) -> usize {
         for _ in self.rt.forever() {
             let there = self.there.load(Ordering::SeqCst);
-            if there > self.given || there >= self.all {
-                return there.saturating_sub(self.given);
+            if there > self.given || there >= self.bytes.len() {
+                return there.min(self.bytes.len());
             }
             thread::sleep(&self.rt, Duration::from_millis(1));
         }
@@ -46,25 +33,28 @@ impl<R: Wait + Clock> Counted<R> {
     }
 }
 
-impl<R: Wait + Clock> Read for Counted<R> {
+impl<R: Wait + Clock> Read for Slow<R> {
     fn read(&mut self, buf: &mut [u8]) -> io::Result<usize> {
         if self.fails_at == Some(self.given) {
             self.fails_at = None;
             return Err(Error::from(ErrorKind::TimedOut));
         }
-        let mut left = self.ready();
-        let mut count = 0;
-        for place in buf.iter_mut() {
-            if left == 0 || self.fails_at == Some(self.given) {
-                break;
-            }
-            *place = byte_at(self.given);
-            self.given = self.given.saturating_add(1);
-            left = left.saturating_sub(1);
-            count += 1;
-        }
+        let end = self.fails_at.unwrap_or(usize::MAX).min(self.ready());
+        let bytes = self.bytes.as_slice();
+        let mut left = bytes.get(self.given..end).unwrap_or(&[]);
+        let count = left.read(buf)?;
+        self.given = self.given.saturating_add(count);
         Ok(count)
     }
+}
+
+/// So many bytes: 0, 1 and so on up to 250, and again.
+fn counted_up(alloc: Global, count: u64) -> Result<Vec<u8>, AllocError> {
+    let mut bytes = Vec::new(alloc);
+    for place in 0..count {
+        bytes.push(byte_at(place))?;
+    }
+    Ok(bytes)
 }
 
 /// The byte of this place.
@@ -131,32 +121,63 @@ fn timeout_of(waits: bool) -> Option<Duration> {
     if waits { None } else { moment() }
 }
 
-#[test]
-fn a_read_that_may_not_wait_fails_where_nothing_comes(rt: HostRuntime) -> io::Result<()> {
-    let there = Arc::new(rt.alloc(), AtomicU64::new(3))?;
-    let mut reader = ReadAside::new(rt, Counted::of(rt, Arc::try_clone(&there)?, 10, None));
+/// Reads of so many bytes, of which some are there, by a thread where they may not wait for ever.
+fn reads_of<R>(
+    rt: R,
+    there: Arc<AtomicUsize>,
+    all: u64,
+    fails_at: Option<usize>,
+) -> Result<ReadAside<R, Slow<R>>, AllocError>
+where
+    R: AllocGlobal + Threads + Wait + Clock + Clone + Copy + Drop + Send + 'static,
+{
+    let bytes = counted_up(rt.alloc(), all)?;
+    let input = Slow {
+        rt,
+        bytes,
+        there,
+        given: 0,
+        fails_at,
+    };
+    let mut reader = ReadAside::new(rt, input);
     reader.start(&rt)?;
+    Ok(reader)
+}
+
+/// What was seen of ten bytes when the first three were read, behind one read more, and when all were there.
+fn halted<R>(rt: R, there: Arc<AtomicUsize>) -> Result<(Seen, Seen, Seen), AllocError>
+where
+    R: AllocGlobal + Threads + Wait + Clock + Clone + Copy + Drop + Send + 'static,
+{
+    let mut reader = reads_of(rt, Arc::try_clone(&there)?, 10, None)?;
     let mut seen = Seen::nothing();
     reader.set_read_timeout(moment());
     seen.read_up_to(&mut reader, 3);
-    let before = seen.refused;
-    let is_end = seen.read(&mut reader);
-    assert!(rt; !is_end && seen.bytes == 3 && seen.refused == before.saturating_add(1));
+    let three = seen;
+    seen.read(&mut reader);
+    let none = seen;
     there.store(10, Ordering::SeqCst);
     reader.set_read_timeout(None);
     seen.read_up_to(&mut reader, 11);
-    let refused = before.saturating_add(1);
-    assert!(rt; seen.bytes == 10 && seen.in_order && seen.failed == 0 && seen.refused == refused);
+    Ok((three, none, seen))
+}
+
+#[test]
+fn a_read_that_may_not_wait_fails_where_nothing_comes(rt: HostRuntime) -> io::Result<()> {
+    let there = Arc::new(rt.alloc(), AtomicUsize::new(3))?;
+    let (three, none, all) = halted(rt, there)?;
+    assert!(rt; three.bytes == 3 && three.in_order && three.failed == 0);
+    assert!(rt; none.bytes == 3 && none.refused == three.refused.saturating_add(1));
+    assert!(rt; all.bytes == 10 && all.in_order && all.failed == 0 && all.refused == none.refused);
     Ok(())
 }
 
 /// Reads all of 200,000 bytes, and an error among them, where each so many-th read may wait for ever.
-fn read_all<R>(rt: R, there: Arc<AtomicU64>, waits: u32) -> Result<Seen, AllocError>
+fn read_all<R>(rt: R, there: Arc<AtomicUsize>, waits: u32) -> Result<Seen, AllocError>
 where
     R: AllocGlobal + Threads + Wait + Clock + Clone + Copy + Drop + Send + 'static,
 {
-    let mut reader = ReadAside::new(rt, Counted::of(rt, there, 200_000, Some(100_001)));
-    reader.start(&rt)?;
+    let mut reader = reads_of(rt, there, 200_000, Some(100_001))?;
     let mut seen = Seen::nothing();
     for turn in 0..30_000u32 {
         reader.set_read_timeout(timeout_of(turn.checked_rem(waits) == Some(0)));
@@ -170,7 +191,7 @@ where
 #[test]
 fn all_bytes_are_given_in_their_order_whoever_reads(rt: HostRuntime) -> io::Result<()> {
     for waits in [1, 2, 3, u32::MAX] {
-        let there = Arc::new(rt.alloc(), AtomicU64::new(200_000))?;
+        let there = Arc::new(rt.alloc(), AtomicUsize::new(200_000))?;
         let seen = read_all(rt, there, waits)?;
         assert!(rt;
             seen.bytes == 200_000 && seen.in_order && seen.failed == 1,
@@ -182,11 +203,11 @@ fn all_bytes_are_given_in_their_order_whoever_reads(rt: HostRuntime) -> io::Resu
 
 /// A reader that has nothing and does not wait, so many times.
 #[derive(Drop)]
-struct Hasty {
+struct Impatient {
     reads: u64,
 }
 
-impl Read for Hasty {
+impl Read for Impatient {
     fn read(&mut self, _buf: &mut [u8]) -> io::Result<usize> {
         if self.reads == 0 {
             return Ok(0);
@@ -196,15 +217,24 @@ impl Read for Hasty {
     }
 }
 
+/// What was seen of a reader that has nothing fifty times.
+fn hasty<R>(rt: R, timeout: Option<Duration>) -> Result<Seen, AllocError>
+where
+    R: AllocGlobal + Threads + Wait + Clock + Clone + Copy + Drop + Send + 'static,
+{
+    let mut reader = ReadAside::new(rt, Impatient { reads: 50 });
+    reader.start(&rt)?;
+    reader.set_read_timeout(timeout);
+    let mut seen = Seen::nothing();
+    seen.read_up_to(&mut reader, 1);
+    Ok(seen)
+}
+
 #[test]
 fn a_reader_that_does_not_wait_is_read_once_a_millisecond(rt: HostRuntime) -> io::Result<()> {
     for timeout in [None, moment()] {
-        let mut reader = ReadAside::new(rt, Hasty { reads: 50 });
-        reader.start(&rt)?;
-        let mut seen = Seen::nothing();
-        reader.set_read_timeout(timeout);
         let before = rt.monotonic()?;
-        seen.read_up_to(&mut reader, 1);
+        let seen = hasty(rt, timeout)?;
         let past = rt.monotonic()?.saturating_sub(before);
         assert!(rt; seen.refused >= 50 && past >= Duration::from_millis(50));
     }
