@@ -10,7 +10,7 @@ use Rattle.alog_lane.specs.Turns.{Turned}
 use Rattle.alog_core.specs.Accounts.{takes}
 use Rattle.alog_core.specs.Queue.{last}
 use Rattle.alog_msg.specs.declared.item.Item.{Item}
-use Rattle.alog_msg.specs.declared.item.Item.TheVariants.{Flush, Stop}
+use Rattle.alog_msg.specs.declared.item.Item.TheVariants.{Flush}
 use Rattle.alog_pool.specs.Accounts.{Moved}
 use Rattle.alog_pool.specs.SinkSeat.{Answer, SinkSeatView, Serves, fault_in}
 use Rattle.alog_pool.specs.Deeds.{Due, due_by, dues_by, dues_of, all_dues, dues_on, faults_in, HasDone, HasMade, HaveMade}
@@ -37,7 +37,7 @@ dues_on-append s (d ∷ ds) es =
     ≡ cond b ((d.tag, d.item) ∷ dues_on s ds) (dues_on s ds) ++ dues_on s es) d.sink s
     (λ _. ap (λ (r : List (ℕ × Item)). (d.tag, d.item) ∷ r) (dues_on-append s ds es)) (λ _. dues_on-append s ds es)
 
-all_dues-append : (loggers : List Logger) (ps qs : List (ℕ × Item)) → all_dues loggers (ps ++ qs)
+pub all_dues-append : (loggers : List Logger) (ps qs : List (ℕ × Item)) → all_dues loggers (ps ++ qs)
     ≡ all_dues loggers ps ++ all_dues loggers qs
 all_dues-append loggers [] qs = refl
 all_dues-append loggers (p ∷ ps) qs = ap (λ (l : List Due). dues_of loggers p.0 p.1 ++ l) (all_dues-append loggers ps qs)
@@ -192,22 +192,6 @@ module _ {S : Type 0} where
   pub have_past : (bs : List (SinkSeatView S)) (i tag : ℕ) (item : Item) → length bs ≤ i
       → HaveMade 0 bs bs (record { sink = i; tag = tag; item = item } ∷ [])
   have_past bs i tag item high = past 0 bs (record { sink = i; tag = tag; item = item }) (omega (arith, high))
-
-  -- the turns for the items of a worker's takes, after one more
-  pub made_for_stop : (loggers : List Logger) (bs cs : List (SinkSeatView S)) (gots : List (ℕ × Item)) (t : ℕ) (x : Item) → x ≡ Stop
-      → HaveMade 0 bs cs (all_dues loggers gots) → HaveMade 0 bs cs (all_dues loggers (gots ++ (t, x) ∷ []))
-  made_for_stop loggers bs cs gots t x is made =
-      subst (λ (z : Item). HaveMade 0 bs cs (all_dues loggers (gots ++ (t, z) ∷ []))) (sym is)
-      (subst (λ (l : List Due). HaveMade 0 bs cs l) (sym (all_dues-append loggers gots ((t, Stop) ∷ [])))
-      (have_then 0 bs cs cs (all_dues loggers gots) [] made (have_none 0 cs)))
-
-  pub made_for : (loggers : List Logger) (bs cs ds : List (SinkSeatView S)) (gots : List (ℕ × Item)) (got : ℕ × Item)
-      → HaveMade 0 bs cs (all_dues loggers gots) → HaveMade 0 cs ds (dues_of loggers got.0 got.1)
-      → HaveMade 0 bs ds (all_dues loggers (gots ++ got ∷ []))
-  made_for loggers bs cs ds gots got made more =
-      subst (λ (l : List Due). HaveMade 0 bs ds l) (sym (all_dues-append loggers gots (got ∷ [])))
-      (have_then 0 bs cs ds (all_dues loggers gots) (all_dues loggers (got ∷ [])) made
-      (subst (λ (l : List Due). HaveMade 0 cs ds l) (sym (append-nil (dues_of loggers got.0 got.1))) more))
 
 -- the items of a worker's takes since it began
 pub took_more : (k l m : Known Item block_note) (gots g : List (ℕ × Item)) → takes l.own ≡ takes k.own ++ gots → Moved l m [] g

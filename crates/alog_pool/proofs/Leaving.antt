@@ -65,7 +65,7 @@ got_below n q a (PopBusy t) p sound may c = absurd (omega (arith, c.1))
 got_below n q a Spent p sound may c = absurd (omega (arith, c.1))
 
 -- what a legal history claims is from its first ticket on and below its last one, and below the last of all
-claims_between : (n : ℕ) (q : Queue Item) (h : List Deed) (p : ℕ × Item) → IsLegalFrom n q h → Contains (claims h) p
+pub claims_between : (n : ℕ) (q : Queue Item) (h : List Deed) (p : ℕ × Item) → IsLegalFrom n q h → Contains (claims h) p
     → (q.next ≤ p.0) × (p.0 < (left_by q h).next) × (p.0 < last)
 claims_between n q [] p legal c = absurd (omega (arith, c.1))
 claims_between n q (x ∷ h) p legal c =

@@ -1,6 +1,7 @@
 mod Moves
 mod Turning
 mod Deeds
+pub mod SharedGaps
 mod Flushed
 mod Worked
 mod Sums
@@ -21,6 +22,7 @@ mod Closed
 mod Totalled
 mod Held
 mod Posted
+mod InARow
 mod Workers
 mod OneWorker
 mod Logged

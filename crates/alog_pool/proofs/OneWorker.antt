@@ -8,20 +8,22 @@ use Rattle.alog_msg.specs.declared.item.Item.{Item}
 use Rattle.alog_msg.specs.declared.item.Item.TheVariants.{Stop}
 use Rattle.alog_pool.specs.Back.{pass_member, worker_member}
 use Rattle.alog_pool.specs.Deeds.{Due, all_dues, dues_on}
+use Rattle.alog_pool.specs.Gaps.{with_gaps}
 use Rattle.alog_pool.specs.OneWorker.{AreWritten, IsWritten, OneWorkerWritesInOrder, WritesInOrder}
 use Rattle.alog_pool.specs.Pool.{PoolView, lanes_of}
-use Rattle.alog_pool.specs.Posted.{ArePosted}
+use Rattle.alog_pool.specs.Ending.{IsEnd}
+use Rattle.alog_pool.specs.Posted.{AreInARow, ArePosted}
 use Rattle.alog_pool.specs.Producer.{ProducerView}
 use Rattle.alog_pool.specs.Report.{AllCameOut, AreClosed, HasServed}
 use Rattle.alog_pool.specs.Stops.{AreStops}
 use Rattle.alog_pool.specs.Workers.{AreAllWritten}
 use Rattle.alog_pool.specs.declared.worker.Worker.{Worker}
 use Rattle.alog_pool.specs.declared.report.Report.{Report}
+use Rattle.alog_pool.proofs.InARow.{in_a_row}
 use Rattle.alog_pool.proofs.Posted.{posted, work_by, work_weighs}
 use Rattle.alog_pool.proofs.Workers.{closed_all, merged_alone, put_nothing, rows_made, works_rise}
 use Rattle.alog_registry.specs.BlockPort.{block_note}
 use Rattle.alog_ring.specs.Known.{Known}
-use Rattle.alog_ring.specs.Share.{IsWhole}
 use Rattle.alog_sink.specs.Files.{Files}
 use Rattle.alog_sink.specs.declared.sink.Sink.{Sink}
 
@@ -52,30 +54,33 @@ module _ {S : Type 0} (tells : Bool) (files : S → Files) (failures : S → ℕ
       let works = work_weighs w (takes h.pass.known.own) nothing in omega (arith, all, single, works)
 
   by_one : {pool : PoolView S} {producers : List ProducerView} {r : Report S} (crew : List (Worker S)) {end : Known Item block_note}
-      → length crew ≡ 1 → AllByRecursion (HasServed pool.shared.loggers (lanes_of pool.sink_seats) pool.most) crew → IsWhole end
+      → length crew ≡ 1 → AllByRecursion (HasServed pool.shared (lanes_of pool.sink_seats) pool.most) crew → IsEnd end
+      → end.first ≡ pool.shared.ring.ring.first
       → end.joined ≡ map pass_member producers ++ map (λ (h : Worker S). worker_member h) crew → AreStops (claims end.own)
       → AllCameOut producers crew
       → AreClosed tells files failures (lanes_of pool.sink_seats) (map (λ (h : Worker S). h.sink_seats.items) crew) r.sinks.items r.faults.items
       → WritesInOrder tells files failures pool producers r
-  by_one [] single served whole members stops out closed = absurd (omega (arith, single))
-  by_one (h ∷ k ∷ hs) single served whole members stops out closed = absurd (omega (arith, single))
-  by_one {pool} {producers} {r} (h ∷ []) {end} single served whole members stops out closed =
-      let loggers = pool.shared.loggers in
+  by_one [] single served moment first members stops out closed = absurd (omega (arith, single))
+  by_one (h ∷ k ∷ hs) single served moment first members stops out closed = absurd (omega (arith, single))
+  by_one {pool} {producers} {r} (h ∷ []) {end} single served moment first members stops out closed =
+      let shared = pool.shared in
       let lanes = lanes_of pool.sink_seats in
-      let dues : List Due = all_dues loggers (work_by h) in
-      let rises = works_rise tells files failures loggers lanes pool.most (h ∷ []) served in
-      let idle = put_nothing tells files failures loggers lanes pool.most (h ∷ []) served in
+      let dues : List Due = all_dues shared.loggers (with_gaps shared.gaps (work_by h)) in
+      let rises = works_rise tells files failures shared lanes pool.most (h ∷ []) served in
+      let idle = put_nothing tells files failures shared lanes pool.most (h ∷ []) served in
       record {
         items = work_by h;
         rise = rises.0;
         are = subst (λ (items : List (ℕ × Item)). ArePosted producers items) (append-nil (work_by h))
-            (posted producers (h ∷ []) end whole members stops idle out);
+            (posted producers (h ∷ []) end moment.whole members stops idle out);
+        row = subst (λ (f : ℕ). AreInARow f producers) first (in_a_row producers (h ∷ []) end moment members stops idle out);
         posted = posted_weighs producers h out;
         written = written_alone 0 lanes r.sinks.items r.faults.items dues
             (closed_all tells files failures 0 lanes (h.sink_seats.items ∷ []) r.sinks.items r.faults.items (dues ∷ []) closed
-            (rows_made tells files failures loggers lanes pool.most (h ∷ []) served));
+            (rows_made tells files failures shared lanes pool.most (h ∷ []) served));
       }
 
   pub one_worker_writes_in_order : OneWorkerWritesInOrder tells files failures
   one_worker_writes_in_order pool producers r ends single =
-      by_one {pool = pool} {producers = producers} {r = r} ends.crew (ends.count ∙ single) ends.served ends.whole ends.members ends.stops.0 ends.out ends.sinks
+      by_one {pool = pool} {producers = producers} {r = r} ends.crew (ends.count ∙ single) ends.served ends.moment ends.ring.1
+      ends.members ends.stops.0 ends.out ends.sinks

@@ -1,5 +1,5 @@
 -- What the producers of a pool posted and none of them overran is what its workers took.
-use Rattle.std.proofs.Common.{◌≡◌, ◌≢◌, ◌⊎◌, ℕ, zero, suc, ◌+◌, ◌<◌, ◌≤◌, ◌==◌, cond, List, [], ◌∷◌, ◌++◌, map, Contains}
+use Rattle.std.proofs.Common.{◌≡◌, ◌≢◌, ◌⊎◌, ℕ, zero, suc, ◌+◌, ◌<◌, ◌≤◌, ◌==◌, cond, Option, List, [], ◌∷◌, ◌++◌, map, Contains}
 use Rattle.std.proofs.Common.{inl, inr, refl, sym, ap, subst, ◌∙◌, arith}
 use Rattle.std.specs.List.{AllByRecursion, sum_by}
 use Rattle.std.proofs.lemmas.Bool.Decides.{leb_tells}
@@ -16,13 +16,15 @@ use Rattle.alog_msg.specs.declared.item.Item.{Item}
 use Rattle.alog_msg.specs.declared.item.Item.TheVariants.{Text, Flush, Stop}
 use Rattle.alog_pool.specs.Accounts.{work_tickets}
 use Rattle.alog_pool.specs.Back.{pass_member, worker_member}
-use Rattle.alog_pool.specs.Deeds.{Due, all_dues, dues_of}
+use Rattle.alog_pool.specs.Deeds.{all_dues}
+use Rattle.alog_pool.specs.Gaps.{gap_at, next_after, with_gaps}
 use Rattle.alog_pool.specs.Posted.{ArePosted, IsOverrun, IsPutIn, tickets_of}
 use Rattle.alog_pool.specs.Producer.{ProducerView}
 use Rattle.alog_pool.specs.Report.{AllCameOut, IsRising}
 use Rattle.alog_pool.specs.Stops.{AreStops}
 use Rattle.alog_pool.specs.Workers.{together}
 use Rattle.alog_pool.specs.declared.worker.Worker.{Worker}
+use Rattle.alog_pool.proofs.SharedGaps.{dues_behind, stop_gap, stop_next}
 use Rattle.alog_pool.proofs.SharedBack.{sum_of_map}
 use Rattle.alog_pool.proofs.Sums.{whole_taken}
 use Rattle.alog_registry.specs.declared.logger.Logger.{Logger}
@@ -50,7 +52,7 @@ module _ {A : Type 0} where
   first_at : (x : A) (xs : List A) → Contains (x ∷ xs) x
   first_at x xs = (0, omega arith, refl)
 
-  later_at : (x y : A) (xs : List A) → Contains xs x → Contains (y ∷ xs) x
+  pub later_at : (x y : A) (xs : List A) → Contains xs x → Contains (y ∷ xs) x
   later_at x y xs c = Contains-append_right (y ∷ []) xs x c
 
   all_at : (P : A → Type 0) (xs : List A) (x : A) → AllByRecursion P xs → Contains xs x → P x
@@ -87,7 +89,7 @@ module _ {A B : Type 0} where
         | inr later ↦ later_at (f x) (f y) (map f xs) (at_map f xs x later)
       ]
 
-  of_map : (f : A → B) (xs : List A) (z : B) → Contains (map f xs) z → (x : A) × Contains xs x × (f x ≡ z)
+  pub of_map : (f : A → B) (xs : List A) (z : B) → Contains (map f xs) z → (x : A) × Contains xs x × (f x ≡ z)
   of_map f [] z c = absurd (omega (arith, c.1))
   of_map f (y ∷ xs) z c =
       elim (at_cases z (f y) (map f xs) c) [
@@ -205,11 +207,16 @@ work_tickets_are ((u, Text m) ∷ ps) = ap (λ (us : List ℕ). u ∷ us) (work_
 work_tickets_are ((u, Flush n) ∷ ps) = ap (λ (us : List ℕ). u ∷ us) (work_tickets_are ps)
 work_tickets_are ((u, Stop) ∷ ps) = work_tickets_are ps
 
-pub work_dues : (loggers : List Logger) (ps : List Given) → all_dues loggers ps ≡ all_dues loggers (works_in ps)
-work_dues loggers [] = refl
-work_dues loggers ((u, Text m) ∷ ps) = ap (λ (ds : List Due). dues_of loggers u (Text m) ++ ds) (work_dues loggers ps)
-work_dues loggers ((u, Flush n) ∷ ps) = ap (λ (ds : List Due). dues_of loggers u (Flush n) ++ ds) (work_dues loggers ps)
-work_dues loggers ((u, Stop) ∷ ps) = work_dues loggers ps
+pub work_dues : (loggers : List Logger) (next : Option ℕ) (ps : List Given)
+    → all_dues loggers (with_gaps next ps) ≡ all_dues loggers (with_gaps next (works_in ps))
+work_dues loggers next [] = refl
+work_dues loggers next ((u, Text m) ∷ ps) =
+    dues_behind loggers (gap_at next u (Text m)) (u, Text m) _ _ (work_dues loggers (next_after next u (Text m)) ps)
+work_dues loggers next ((u, Flush n) ∷ ps) =
+    dues_behind loggers (gap_at next u (Flush n)) (u, Flush n) _ _ (work_dues loggers (next_after next u (Flush n)) ps)
+work_dues loggers next ((u, Stop) ∷ ps) =
+    ap (λ (l : List Given). all_dues loggers (l ++ (u, Stop) ∷ with_gaps (next_after next u Stop) ps)) (stop_gap next u)
+    ∙ ap (λ (o : Option ℕ). all_dues loggers (with_gaps o ps)) (stop_next next u) ∙ work_dues loggers next ps
 
 pub work_weighs : (w : ℕ → Item → ℕ) (ps : List Given) → ((t : ℕ) → w t Stop ≡ 0) → weigh w ps ≡ weigh w (works_in ps)
 work_weighs w [] nothing = refl
@@ -357,7 +364,7 @@ module _ {S : Type 0} (producers : List ProducerView) (crew : List (Worker S)) (
       exact (worker_member h)
       (Contains-append_right made_by workers (worker_member h) (at_map (λ (k : Worker S). worker_member k) crew h at))
 
-  put_seen : (i : Given) → IsPutIn producers i → Contains (claims end.seen) i
+  pub put_seen : (i : Given) → IsPutIn producers i → Contains (claims end.seen) i
   put_seen i put =
       own_in put_by (λ (h : List Deed). claims h) refl (λ x h. refl) put.0.pass.known.actor end.seen i
       (subst (λ (h : List Deed). Contains (claims h) i) (by_producer put.0 put.1) put.2)
@@ -388,7 +395,7 @@ module _ {S : Type 0} (producers : List ProducerView) (crew : List (Worker S)) (
             absurd (of_worker h.0 i h.1 (subst (λ (v : One). Contains (claims v.own) i) (sym h.2) c))
       ]
 
-  seen_put : (i : Given) → i.1 ≢ Stop → Contains (claims end.seen) i → IsPutIn producers i
+  pub seen_put : (i : Given) → i.1 ≢ Stop → Contains (claims end.seen) i → IsPutIn producers i
   seen_put i work c =
       let m = whose put_by (λ (h : List Deed). claims h) refl (λ x h. refl) (members_of end) end.seen i whole.actors c in
       elim (at_cases m.0 me end.joined m.1) [

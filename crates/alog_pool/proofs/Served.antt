@@ -20,6 +20,7 @@ use Rattle.alog_pool.specs.Deeds.{Due, all_dues, dues_on, faults_in, HasDone, Ha
 use Rattle.alog_pool.specs.Ended.{PutNothing}
 use Rattle.alog_pool.specs.Ending.{HasEndedAmong}
 use Rattle.alog_pool.specs.Places.{Each2}
+use Rattle.alog_pool.specs.Gaps.{next_of, with_gaps}
 use Rattle.alog_pool.specs.Pool.{Begins, IsNew, lanes_of}
 use Rattle.alog_pool.specs.Report.{HasServed, IsRising, MadeAll, handled_by}
 use Rattle.alog_pool.specs.Working.{HasWorked, IsWorkOf, numbers_of}
@@ -106,13 +107,14 @@ module _ {S : Type 0} where
       (made.0.counted (counted_new b new.0), made_counted (s + 1) bs cs dues made.1 new.1)
 
   module _ (shared : Shared) (lanes : List (LaneId (Sink S))) (most : ℕ) where
-    served_one : (h k : Worker S) → Begins shared lanes most h → HasWorked h k → HasServed shared.loggers lanes most k
+    served_one : (h k : Worker S) → Begins shared lanes most h → HasWorked h k → HasServed shared lanes most k
     served_one h k b w =
         let none : takes h.pass.known.own ≡ [] = ap (λ (l : List (Entry Item block_note)). takes l) b.fresh.own in
         let gots : takes k.pass.known.own ≡ w.turns.gots =
         w.turns.took ∙ ap (λ (l : List (ℕ × Item)). l ++ w.turns.gots) none in
-        let dues : all_dues (arc_value h.shared).loggers w.turns.gots ≡ all_dues shared.loggers (takes k.pass.known.own) =
-        (λ i. all_dues (b.shares i).loggers (sym gots i)) in
+        let dues : all_dues (arc_value h.shared).loggers (with_gaps (next_of h.gaps) w.turns.gots)
+        ≡ all_dues shared.loggers (with_gaps shared.gaps (takes k.pass.known.own)) =
+        (λ i. all_dues (b.shares i).loggers (with_gaps (b.gaps_are i) (sym gots i))) in
         let work = subst (λ n. IsWorkOf n k.pass.known k.tickets.items k.handled) b.most_is w.work in
         record {
           work = work;
@@ -126,7 +128,7 @@ module _ {S : Type 0} where
         }
 
     pub all_served : (hs ks : List (Worker S)) → AllByRecursion (Begins shared lanes most) hs → Each2 HasWorked hs ks
-        → AllByRecursion (HasServed shared.loggers lanes most) ks
+        → AllByRecursion (HasServed shared lanes most) ks
     all_served [] [] began worked = tt
     all_served [] (k ∷ ks) began worked = absurd worked
     all_served (h ∷ hs) [] began worked = absurd worked

@@ -35,6 +35,7 @@ use Rattle.alog_sink.specs.contracts.sink.Sink as Sink
 use Rattle.alog_sink.specs.contracts.turn.Served as Served
 use Rattle.alog_sink.specs.contracts.turn.SinkTurn.TheImpl as Turn
 use Rattle.alog_sink.specs.declared.store.Store.{Ghosts}
+use Rattle.alog_pool.specs.contracts.gaps.Gaps as Gaps
 use Rattle.alog_pool.specs.contracts.sink_seat.SinkSeat as SinkSeat
 use Rattle.alog_pool.specs.contracts.sink_seat.SinkSeat.TheInside as SinkSeatInside
 use Rattle.alog_pool.specs.contracts.worker.Worker as Worker
@@ -44,16 +45,22 @@ use Rattle.alog_pool.specs.contracts.producer.Producer as Producer
 use Rattle.alog_pool.specs.contracts.producer.Producer.TheInside as ProducerInside
 use Rattle.alog_pool.specs.contracts.shared.Shared as Shared
 
+ticket_send : IsSend (Option.the_field u64).row
+ticket_send = search sendable depth 9
+
+ticket_sync : IsSync (Option.the_field u64).row
+ticket_sync = search sendable depth 9
+
 pub shared_send : IsSend Shared.the_row
 shared_send = recorded_send (Shared.the_field).row _ _ (Shared.the_type).to_one (struct_send (shape Shared.the_type) (
   swap_ring_send Block.the_row Item.the_row Contents.the_row TextLimit.the_row shows_ghosts limit_ghosts block_send,
-  (book_send, (loggers_send, tt)),
+  (book_send, (loggers_send, (ticket_send, tt))),
 ))
 
 pub shared_sync : IsSync Shared.the_row
 shared_sync = recorded_sync (Shared.the_field).row _ _ (Shared.the_type).to_one (struct_sync (shape Shared.the_type) (
   swap_ring_sync Block.the_row Item.the_row Contents.the_row TextLimit.the_row shows_ghosts limit_ghosts block_send block_sync,
-  (book_sync, (loggers_sync, tt)),
+  (book_sync, (loggers_sync, (ticket_sync, tt))),
 ))
 
 pub arc_shared_send : IsSend (Arc.the_row Shared.the_row Global.the_row alloc_ghosts)
@@ -80,9 +87,6 @@ backtrace_seat_send = view_send _ _ _ _ _ backtrace_seat_inside_send
 option_block_send : IsSend (Option.the_field Block.the_row).row
 option_block_send = search (sendable, block_send) depth 9
 
-ticket_send : IsSend (Option.the_field u64).row
-ticket_send = search sendable depth 9
-
 pace_send : IsSend (Pace.the_field).row
 pace_send = struct_send (shape Pace.the_type) (search sendable, (search sendable, (search sendable, (ticket_send, tt))))
 
@@ -104,6 +108,12 @@ producer_inside_send = recorded_send (ProducerInside.the_field).row _ _ (Produce
 
 pub producer_send : IsSend Producer.the_row
 producer_send = view_send _ _ _ _ _ producer_inside_send
+
+gaps_send : IsSend Gaps.the_row
+gaps_send = recorded_send (Gaps.the_field).row _ _ (Gaps.the_type).to_one (struct_send (shape Gaps.the_type) (search sendable, (block_send, tt)))
+
+option_gaps_send : IsSend (Option.the_field Gaps.the_row).row
+option_gaps_send = search (sendable, gaps_send) depth 9
 
 abbrev Answer : RattleType
 Answer = Result.the_row Served.the_row SinkError.the_row
@@ -145,7 +155,7 @@ module _ (S : RattleType) (g : Ghosts S.Denot) where
                     search sendable,
                     (
                       Vec-send u64 (search sendable),
-                      (search sendable, (search sendable, tt)),
+                      (search sendable, (search sendable, (option_gaps_send, tt))),
                     ),
                   ),
                 ),

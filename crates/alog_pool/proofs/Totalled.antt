@@ -23,7 +23,8 @@ use Rattle.alog_pool.specs.Working.{HasWorked}
 use Rattle.alog_pool.specs.declared.worker.Worker.{Worker}
 use Rattle.alog_pool.specs.declared.report.Totals.{Totals}
 use Rattle.alog_pool.proofs.SharedBack.{sum_mod, sum_of_map}
-use Rattle.alog_pool.proofs.Ended.{all_came_out, ending_moved, ending_starts, overrun_or_handled}
+use Rattle.alog_pool.proofs.Ended.{all_came_out, ending_moved, ending_starts, is_end, overrun_or_handled}
+use Rattle.alog_pool.specs.Ending.{IsEnd}
 use Rattle.alog_pool.proofs.Halting.{no_work_in_stops}
 use Rattle.alog_pool.proofs.Served.{all_handled, one_ended, put_nothing}
 use Rattle.alog_pool.proofs.SharedSharing.{each2_length}
@@ -144,6 +145,10 @@ module _ {S : Type 0} (a j k l : Known Item block_note) (producers : List Produc
       omega (arith, all, many, before, enough, most)
 
   module _ (whole : IsWhole l) (places : 1 ≤ l.places) where
+    -- no stop was put in before all producers had come back, and nothing but stops after it
+    pub moment : IsEnd l
+    moment = is_end j l gathered ended whole places
+
     pub out : AllCameOut producers crew
     unfolding ended
     out w nothing =

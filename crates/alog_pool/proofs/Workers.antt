@@ -13,19 +13,21 @@ use Rattle.alog_msg.specs.declared.item.Item.{Item}
 use Rattle.alog_pool.specs.Back.{seat_member}
 use Rattle.alog_pool.specs.SinkSeat.{Answer, SinkSeatView, fault_in}
 use Rattle.alog_pool.specs.Deeds.{Due, HasDone, IsOwnFlush, all_dues, dues_on, faults_in}
+use Rattle.alog_pool.specs.Gaps.{with_gaps}
 use Rattle.alog_pool.specs.OneWorker.{IsWritten}
 use Rattle.alog_pool.specs.Places.{Each2}
 use Rattle.alog_pool.specs.Pool.{lanes_of}
-use Rattle.alog_pool.specs.Posted.{tickets_of}
+use Rattle.alog_pool.specs.Posted.{AreInARow, tickets_of}
 use Rattle.alog_pool.specs.Report.{AreClosed, HasServed, IsClosed, IsRising, MadeAll}
 use Rattle.alog_pool.specs.Rows.{heads, tails}
 use Rattle.alog_pool.specs.Workers.{AreAllWritten, IsMerged, IsNext, WorkersWriteWhatWasPosted}
 use Rattle.alog_pool.specs.declared.worker.Worker.{Worker}
 use Rattle.alog_pool.proofs.SharedBack.{sum_of_map}
 use Rattle.alog_pool.proofs.Held.{Turn, texts_held}
+use Rattle.alog_pool.proofs.InARow.{in_a_row}
 use Rattle.alog_pool.proofs.Posted.{posted, work_by, work_dues, work_tickets_are}
 use Rattle.alog_pool.proofs.Served.{rising_works}
-use Rattle.alog_registry.specs.declared.logger.Logger.{Logger}
+use Rattle.alog_pool.specs.declared.shared.Shared.{Shared}
 use Rattle.alog_sink.specs.Files.{Files}
 use Rattle.alog_sink.specs.declared.sink.Sink.{Sink}
 
@@ -241,20 +243,21 @@ module _ {S : Type 0} (tells : Bool) (files : S → Files) (failures : S → ℕ
   )
 
   -- what the workers of a pool served
-  module _ (loggers : List Logger) (lanes : List (LaneId (Sink S))) (most : ℕ) where
-    pub rows_made : (hs : List (Worker S)) → AllByRecursion (HasServed loggers lanes most) hs
+  module _ (shared : Shared) (lanes : List (LaneId (Sink S))) (most : ℕ) where
+    pub rows_made : (hs : List (Worker S)) → AllByRecursion (HasServed shared lanes most) hs
         → Each2 (IsRow 0 lanes) (map (λ (h : Worker S). h.sink_seats.items) hs)
-        (map (λ (work : List Given). all_dues loggers work) (map (λ (h : Worker S). work_by h) hs))
+        (map (λ (work : List Given). all_dues shared.loggers (with_gaps shared.gaps work)) (map (λ (h : Worker S). work_by h) hs))
     rows_made [] served = tt
     rows_made (h ∷ hs) served = (
       (
         served.0.lanes_are,
-        subst (λ (ds : List Due). MadeAll 0 h.sink_seats.items ds) (work_dues loggers (takes h.pass.known.own)) served.0.turns,
+        subst (λ (ds : List Due). MadeAll 0 h.sink_seats.items ds) (work_dues shared.loggers shared.gaps (takes h.pass.known.own))
+            served.0.turns,
       ),
       rows_made hs served.1,
     )
 
-    pub works_rise : (hs : List (Worker S)) → AllByRecursion (HasServed loggers lanes most) hs
+    pub works_rise : (hs : List (Worker S)) → AllByRecursion (HasServed shared lanes most) hs
         → AllByRecursion (λ (work : List Given). IsRising (tickets_of work)) (map (λ (h : Worker S). work_by h) hs)
     works_rise [] served = tt
     works_rise (h ∷ hs) served = (
@@ -263,7 +266,7 @@ module _ {S : Type 0} (tells : Bool) (files : S → Files) (failures : S → ℕ
       works_rise hs served.1,
     )
 
-    works_listed : (hs : List (Worker S)) → AllByRecursion (HasServed loggers lanes most) hs
+    works_listed : (hs : List (Worker S)) → AllByRecursion (HasServed shared lanes most) hs
         → map (λ (h : Worker S). h.tickets.items) hs
         ≡ map (λ (work : List Given). take most (tickets_of work)) (map (λ (h : Worker S). work_by h) hs)
     works_listed [] served = refl
@@ -271,23 +274,25 @@ module _ {S : Type 0} (tells : Bool) (files : S → Files) (failures : S → ℕ
         let first = served.0.work.tickets_are ∙ ap (λ (ts : List ℕ). take most ts) (work_tickets_are (takes h.pass.known.own)) in
         λ i. first i ∷ works_listed hs served.1 i
 
-    pub put_nothing : (hs : List (Worker S)) → AllByRecursion (HasServed loggers lanes most) hs
+    pub put_nothing : (hs : List (Worker S)) → AllByRecursion (HasServed shared lanes most) hs
         → AllByRecursion (λ (h : Worker S). claims h.pass.known.own ≡ []) hs
     put_nothing [] served = tt
     put_nothing (h ∷ hs) served = (served.0.work.puts, put_nothing hs served.1)
 
   pub workers_write : WorkersWriteWhatWasPosted tells files failures
   workers_write pool producers r ends =
-      let loggers = pool.shared.loggers in
+      let shared = pool.shared in
       let lanes = lanes_of pool.sink_seats in
       record {
         works = map (λ (h : Worker S). work_by h) ends.crew;
         count = length-map ends.crew (λ (h : Worker S). work_by h) ∙ ends.count;
-        rise = works_rise loggers lanes pool.most ends.crew ends.served;
-        listed = ends.tickets ∙ works_listed loggers lanes pool.most ends.crew ends.served;
+        rise = works_rise shared lanes pool.most ends.crew ends.served;
+        listed = ends.tickets ∙ works_listed shared lanes pool.most ends.crew ends.served;
+        row = subst (λ (f : ℕ). AreInARow f producers) ends.ring.1 (in_a_row producers ends.crew ends.end ends.moment ends.members ends.stops.0
+            (put_nothing shared lanes pool.most ends.crew ends.served) ends.out);
         posted = posted producers ends.crew ends.end ends.whole ends.members ends.stops.0
-            (put_nothing loggers lanes pool.most ends.crew ends.served) ends.out;
+            (put_nothing shared lanes pool.most ends.crew ends.served) ends.out;
         written = closed_all 0 lanes (map (λ (h : Worker S). h.sink_seats.items) ends.crew) r.sinks.items r.faults.items
-            (map (λ (work : List Given). all_dues loggers work) (map (λ (h : Worker S). work_by h) ends.crew)) ends.sinks
-            (rows_made loggers lanes pool.most ends.crew ends.served);
+            (map (λ (work : List Given). all_dues shared.loggers (with_gaps shared.gaps work)) (map (λ (h : Worker S). work_by h) ends.crew)) ends.sinks
+            (rows_made shared lanes pool.most ends.crew ends.served);
       }

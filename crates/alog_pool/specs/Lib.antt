@@ -1,6 +1,7 @@
 pub mod Accounts
 pub mod SinkSeat
 pub mod Deeds
+pub mod Gaps
 pub mod BacktraceSeat
 pub mod Lending
 pub mod Producer

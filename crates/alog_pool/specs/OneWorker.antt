@@ -11,8 +11,9 @@ use Rattle.alog_msg.specs.declared.item.Item.TheVariants.{Stop}
 use Rattle.alog_msg.specs.declared.message.Message.{Message}
 use Rattle.alog_pool.specs.SinkSeat.{Answer}
 use Rattle.alog_pool.specs.Deeds.{Due, HasDone, all_dues, dues_on, faults_in}
+use Rattle.alog_pool.specs.Gaps.{with_gaps}
 use Rattle.alog_pool.specs.Pool.{PoolView, lanes_of}
-use Rattle.alog_pool.specs.Posted.{ArePosted, tickets_of}
+use Rattle.alog_pool.specs.Posted.{AreInARow, ArePosted, tickets_of}
 use Rattle.alog_pool.specs.Producer.{ProducerView}
 use Rattle.alog_pool.specs.Report.{Ends, IsRising}
 use Rattle.alog_pool.specs.declared.report.Report.{Report}
@@ -56,18 +57,20 @@ module _ {S : Type 0} (tells : Bool) (files : S → Files) (failures : S → ℕ
   AreWritten s (l ∷ ls) (k ∷ ks) (f ∷ fs) dues = IsWritten l.first k f (dues_on s dues) × AreWritten (s + 1) ls ks fs dues
   AreWritten s _ _ _ dues = ⊥
 
-  -- There are items with rising tickets, which are exactly the texts and flushes that the producers put in and did not take out
-  -- themselves, and by whatever weight they weigh as much; and each sink was given exactly the turns that are due for them, in their order,
-  -- and holds their lines.
+  -- There are items with rising tickets, which are exactly the texts and flushes that the producers put in, under all tickets in a row,
+  -- and did not take out themselves, and by whatever weight they weigh as much; and each sink was given exactly the turns that are due for them, in their order,
+  -- and, where the pool tells gaps, for the texts that say how many are missing where, and holds their lines.
   -- Beside these turns a sink may have been given the worker's own flushes, which write no line and are due for no item.
   pub record WritesInOrder (pool : PoolView S) (producers : List ProducerView) (r : Report S) : Type 0 where
     pub items : List (ℕ × Item)
     pub rise : IsRising (tickets_of items)
     pub are : ArePosted producers items
+    pub row : AreInARow pool.shared.ring.ring.first producers
     pub posted : (w : ℕ → Item → ℕ) → ((t : ℕ) → w t Stop ≡ 0)
         → sum_by (λ (p : ProducerView). claimed w p.pass.known.own) producers
         ≡ sum_by (λ (p : ProducerView). taken w p.pass.known.own) producers + weigh w items
-    pub written : AreWritten 0 (lanes_of pool.sink_seats) r.sinks.items r.faults.items (all_dues pool.shared.loggers items)
+    pub written : AreWritten 0 (lanes_of pool.sink_seats) r.sinks.items r.faults.items
+        (all_dues pool.shared.loggers (with_gaps pool.shared.gaps items))
 
   abbrev pub OneWorkerWritesInOrder : Type 0
   OneWorkerWritesInOrder = (pool : PoolView S) (producers : List ProducerView) (r : Report S)

@@ -10,6 +10,7 @@ use Rattle.alog_pattern.specs.declared.patterns.TheConstants.{LINE_MAX}
 use Rattle.alog_policy.specs.BookCalls as book
 use Rattle.alog_pool.specs.SinkSeat.{SinkSeatView}
 use Rattle.alog_pool.specs.BacktraceSeat.{BacktraceSeatView}
+use Rattle.alog_pool.specs.Gaps.{next_of, told_from}
 use Rattle.alog_pool.specs.Producer.{ProducerView, AreBacktraceSeats}
 use Rattle.alog_pool.specs.Working.{IsAtWork, IsFresh, numbers_of}
 use Rattle.alog_pool.specs.declared.pool_parts.PoolParts.{PoolParts}
@@ -88,12 +89,13 @@ pub record HasLeft {S : Type 0} (shared : Shared) (pass : PassView Item block_no
   pub sink_seats_unused : AllByRecursion IsUnused sink_seats
   pub backtrace_seats_unused : AllByRecursion IsIdleSeat backtrace_seats
 
--- A worker of this pool that begins: it shares what all share, has a place at each sink, and made nothing.
+-- A worker of this pool that begins: it shares what all share, has a place at each sink, tells gaps where the pool does, and made nothing.
 pub record Begins {S : Type 0} (shared : Shared) (lanes : List (LaneId (Sink S))) (most : ℕ) (h : Worker S) : Type 0 where
   pub at_work : IsAtWork h h
   pub fresh : IsFresh h.pass.known
   pub shares : arc_value h.shared ≡ shared
   pub most_is : h.most ≡ most
+  pub gaps_are : next_of h.gaps ≡ shared.gaps
   pub lanes_are : lanes_of h.sink_seats.items ≡ lanes
   pub seats : AllByRecursion IsNew h.sink_seats.items
 
@@ -136,6 +138,7 @@ module _ {S : Type 0} where
     pub block : HasBlock g
     pub ring_is : (arc_value g.shared).ring.ring ≡ ring
     pub loggers : (arc_value g.shared).loggers ≡ setup.loggers
+    pub gaps : (arc_value g.shared).gaps ≡ told_from setup
     pub pass : g.pass.known ≡ first_known ring.places ring.first
     pub sinks : map (λ (l : LaneId (Sink S)). l.first) (lanes_of g.sink_seats.items) ≡ setup.sinks.items
     pub rooms : map (λ (k : BacktraceSeatView). k.lane.first) g.backtrace_seats.items ≡ rooms_of setup
@@ -175,10 +178,12 @@ module _ {S : Type 0} where
     pub numbers : numbers_of p.crew ≡ range_with_len 0 g.workers
 
   -- A pool of this setup: its queue is as large and begins at the ticket that were asked for, its loggers and its sinks are those that
-  -- it was given, in their order, as many workers work for it, numbered from 0 on, and it made no producer.
+  -- it was given, in their order, as many workers work for it, numbered from 0 on, of which one alone tells gaps where it is to, and it made
+  -- no producer.
   pub record Starts (setup : Setup S) (p : PoolView S) : Type 0 where
     pub queue : (p.shared.ring.ring.places ≡ setup.queue) × (p.shared.ring.ring.first ≡ setup.first)
     pub loggers : p.shared.loggers ≡ setup.loggers
+    pub gaps : p.shared.gaps ≡ told_from setup
     pub sinks : map (λ (l : LaneId (Sink S)). l.first) (lanes_of p.sink_seats) ≡ setup.sinks.items
     pub rooms : map (λ (k : BacktraceSeatView). k.lane.first) p.backtrace_seats ≡ rooms_of setup
     pub made : p.made ≡ 0

@@ -1,7 +1,8 @@
 -- What the producers of a pool posted, item by item: what they put in, and did not take out again.
-use Rattle.std.specs.Prelude.{◌≡◌, ◌≢◌, ◌⊎◌, ◌↔◌, ℕ, Bool, List, [], ◌∷◌, ◌++◌, map}
+use Rattle.std.specs.Prelude.{◌≡◌, ◌≢◌, ◌⊎◌, ◌↔◌, ◌≤◌, ◌<◌, ℕ, Bool, List, [], ◌∷◌, ◌++◌, map}
 use Rattle.std.specs.List.{AllByRecursion, AllPairs, Contains}
 use Rattle.alog_core.specs.Accounts.{claims, issued, takes}
+use Rattle.alog_core.specs.Queue.{last}
 use Rattle.alog_msg.specs.declared.item.Item.{Item}
 use Rattle.alog_msg.specs.declared.item.Item.TheVariants.{Stop, Text}
 use Rattle.alog_msg.specs.declared.message.Message.{Message}
@@ -34,6 +35,12 @@ pub record ArePosted (producers : List ProducerView) (items : List (ℕ × Item)
   pub each : (i : ℕ × Item) → Contains items i ↔ ((i.1 ≢ Stop) × IsPutIn producers i × ¬ IsOverrun producers i)
   pub once : AllPairs (λ t u. t ≢ u) (tickets_of items)
   pub in_order : AllByRecursion (λ (p : ProducerView). IsRising (issued p.pass.known.own)) producers
+
+-- The texts and flushes that these producers put in have all tickets from the first one on up to an end, and no other.
+pub record AreInARow (first : ℕ) (producers : List ProducerView) : Type 0 where
+  pub end : ℕ
+  pub few : first < end → end ≤ last
+  pub tickets : (t : ℕ) → ((x : Item) × (x ≢ Stop) × IsPutIn producers (t, x)) ↔ ((first ≤ t) × (t < end))
 
 -- The producer put this text in under this ticket, as the last of its own so far. It took nothing out, unless its policy is to overrun.
 abbrev pub PutsTextIn : Policy → ProducerView → ℕ → Message → ProducerView → Type 0

@@ -15,6 +15,8 @@ use Rattle.alog_pool.specs.Accounts.{of_all, of_work}
 use Rattle.alog_pool.specs.Back.{worker_member, pass_member, seat_member}
 use Rattle.alog_pool.specs.SinkSeat.{Answer, AreFlushed, SinkSeatView}
 use Rattle.alog_pool.specs.Deeds.{Due, HasDone, all_dues, dues_on, faults_in}
+use Rattle.alog_pool.specs.Ending.{IsEnd}
+use Rattle.alog_pool.specs.Gaps.{with_gaps}
 use Rattle.alog_pool.specs.Pool.{PoolView, lanes_of}
 use Rattle.alog_pool.specs.Producer.{ProducerView}
 use Rattle.alog_pool.specs.Rows.{heads, tails}
@@ -23,7 +25,7 @@ use Rattle.alog_pool.specs.Working.{HasEnded, IsWorkOf, numbers_of}
 use Rattle.alog_pool.specs.declared.worker.Worker.{Worker}
 use Rattle.alog_pool.specs.declared.report.Report.{Report}
 use Rattle.alog_pool.specs.declared.report.Totals.{Totals}
-use Rattle.alog_registry.specs.declared.logger.Logger.{Logger}
+use Rattle.alog_pool.specs.declared.shared.Shared.{Shared}
 use Rattle.alog_registry.specs.BlockPort.{block_note}
 use Rattle.alog_ring.specs.Known.{Known}
 use Rattle.alog_ring.specs.Share.{IsWhole}
@@ -75,14 +77,14 @@ IsRising (t ∷ ts) = AllByRecursion (λ (u : ℕ). t < u) ts × IsRising ts
 
 -- A worker that ended: the tickets that it took rise, and it recorded those of its first texts and flushes, at most so many. It
 -- ended at its first stop or where no ticket was left, and at each sink it made exactly the turns that were due there for what it
--- took, in that order, and own flushes, one of them or one that was due behind each line that it wrote.
-pub record HasServed {S : Type 0} (loggers : List Logger) (lanes : List (LaneId (Sink S))) (most : ℕ) (h : Worker S) : Type 0 where
+-- took and told of gaps, in that order, and own flushes, one of them or one that was due behind each line that it wrote.
+pub record HasServed {S : Type 0} (shared : Shared) (lanes : List (LaneId (Sink S))) (most : ℕ) (h : Worker S) : Type 0 where
   pub work : IsWorkOf most h.pass.known h.tickets.items h.handled
   pub rising : IsRising (handed_out h.pass.known.own)
   pub tickets_rise : IsRising h.tickets.items
   pub ended : HasEnded h.pass.known.own
   pub lanes_are : lanes_of h.sink_seats.items ≡ lanes
-  pub turns : MadeAll 0 h.sink_seats.items (all_dues loggers (takes h.pass.known.own))
+  pub turns : MadeAll 0 h.sink_seats.items (all_dues shared.loggers (with_gaps shared.gaps (takes h.pass.known.own)))
   pub flushed : AreFlushed h.sink_seats.items
 
 -- By whatever weight that gives nothing to stops: what the producers put in, they took out themselves, or the workers did. So each
@@ -109,14 +111,15 @@ module _ {S : Type 0} (tells : Bool) (files : S → Files) (failures : S → ℕ
   AreClosed _ rows _ _ = ⊥
 
   -- The end of a pool with these producers. There is one legal history of its queue, made by the producers, the workers, and the
-  -- pool itself, which put in nothing but stops, one for each worker or as many as there were tickets left.
+  -- pool itself, which put in nothing but stops, when all producers had come back, one for each worker or as many as there were tickets left.
   pub record Ends (pool : PoolView S) (producers : List ProducerView) (r : Report S) : Type 0 where
     pub crew : List (Worker S)
     pub count : length crew ≡ length pool.crew
     pub numbers : numbers_of crew ≡ numbers_of pool.crew
-    pub served : AllByRecursion (HasServed pool.shared.loggers (lanes_of pool.sink_seats) pool.most) crew
+    pub served : AllByRecursion (HasServed pool.shared (lanes_of pool.sink_seats) pool.most) crew
     pub end : Known Item block_note
     pub whole : IsWhole end
+    pub moment : IsEnd end
     pub ring : (end.places ≡ pool.shared.ring.ring.places) × (end.first ≡ pool.shared.ring.ring.first)
     pub members : end.joined ≡ map pass_member producers ++ map (λ (h : Worker S). worker_member h) crew
     pub stops : AreStops (claims end.own) × AreEnough (length pool.crew) (claims end.own) end.own

@@ -7,8 +7,9 @@ use Rattle.alog_lane.specs.Calls.{LaneId}
 use Rattle.alog_msg.specs.declared.item.Item.{Item}
 use Rattle.alog_pool.specs.Deeds.{Due, all_dues, dues_on}
 use Rattle.alog_pool.specs.OneWorker.{IsWritten}
+use Rattle.alog_pool.specs.Gaps.{with_gaps}
 use Rattle.alog_pool.specs.Pool.{PoolView, lanes_of}
-use Rattle.alog_pool.specs.Posted.{ArePosted, tickets_of}
+use Rattle.alog_pool.specs.Posted.{AreInARow, ArePosted, tickets_of}
 use Rattle.alog_pool.specs.Producer.{ProducerView}
 use Rattle.alog_pool.specs.Report.{Ends, IsRising}
 use Rattle.alog_pool.specs.declared.report.Report.{Report}
@@ -41,7 +42,7 @@ module _ {S : Type 0} (tells : Bool) (files : S → Files) (failures : S → ℕ
 
   -- Each worker, in the order of their numbers, handled some of the texts and flushes that were posted and not overrun, under rising tickets,
   -- of which the report lists the first ones; all workers together handled each of them once. Each sink was given exactly the turns that are
-  -- due for them, each worker's in the order of its tickets, and holds their lines.
+  -- due for them, and for what one worker told of gaps, each worker's in the order of its tickets, and holds their lines.
   -- Beside these turns a sink may have been given workers' own flushes, which write no line and are due for no item.
   pub record AllWrite (pool : PoolView S) (producers : List ProducerView) (r : Report S) : Type 0 where
     pub works : List (List (ℕ × Item))
@@ -49,8 +50,9 @@ module _ {S : Type 0} (tells : Bool) (files : S → Files) (failures : S → ℕ
     pub rise : AllByRecursion (λ (work : List (ℕ × Item)). IsRising (tickets_of work)) works
     pub listed : map (λ (v : Vec ℕ Global). v.items) r.tickets.items ≡ map (λ (work : List (ℕ × Item)). take pool.most (tickets_of work)) works
     pub posted : ArePosted producers (together works)
+    pub row : AreInARow pool.shared.ring.ring.first producers
     pub written : AreAllWritten 0 (lanes_of pool.sink_seats) r.sinks.items r.faults.items
-        (map (λ (work : List (ℕ × Item)). all_dues pool.shared.loggers work) works)
+        (map (λ (work : List (ℕ × Item)). all_dues pool.shared.loggers (with_gaps pool.shared.gaps work)) works)
 
   abbrev pub WorkersWriteWhatWasPosted : Type 0
   WorkersWriteWhatWasPosted = (pool : PoolView S) (producers : List ProducerView) (r : Report S)

@@ -9,6 +9,7 @@ use Rattle.alog_pattern.specs.declared.patterns.TheConstants.{LINE_MAX}
 use Rattle.alog_pool.specs.Accounts.{of_work, of_stops, work_tickets, Moved, SawEnd}
 use Rattle.alog_pool.specs.SinkSeat.{AreFlushed, Place, places_of}
 use Rattle.alog_pool.specs.Deeds.{HaveMade, all_dues}
+use Rattle.alog_pool.specs.Gaps.{CanTell, next_behind, next_of, with_gaps}
 use Rattle.alog_pool.specs.declared.worker.Worker.{Worker}
 use Rattle.alog_registry.specs.Limit.{KeepsTo, HoldsTo}
 use Rattle.alog_ring.specs.Known.{Known, IsPassOf}
@@ -71,13 +72,16 @@ pub record IsAtWork {S : Type 0} (start now : Worker S) : Type 0 where
   pub block : HoldsTo (arc_value start.shared).ring.ring.limit now.block
   pub places : places_of now.sink_seats.items ≡ places_of start.sink_seats.items
   pub limits : AreLimited (arc_value start.shared).ring.ring.limit.most (places_of start.sink_seats.items)
+  pub tells : CanTell (arc_value start.shared).ring.ring.limit.most now.gaps
 
 -- What a worker made, since it began with the first of these workers: it took these items, and at each of its places its seat made
--- exactly the turns that were due for them on that sink, in their order, and own flushes.
+-- exactly the turns that were due for them, and for what it told of gaps, on that sink, in their order, and own flushes.
 pub record HasTurned {S : Type 0} (start now : Worker S) : Type 0 where
   pub gots : List (ℕ × Item)
   pub took : takes now.pass.known.own ≡ takes start.pass.known.own ++ gots
-  pub turns : HaveMade 0 start.sink_seats.items now.sink_seats.items (all_dues (arc_value start.shared).loggers gots)
+  pub next : next_of now.gaps ≡ next_behind (next_of start.gaps) gots
+  pub turns : HaveMade 0 start.sink_seats.items now.sink_seats.items
+      (all_dues (arc_value start.shared).loggers (with_gaps (next_of start.gaps) gots))
 
 -- What became of a worker. It flushed what it wrote before it ended.
 pub record HasWorked {S : Type 0} (start end : Worker S) : Type 0 where

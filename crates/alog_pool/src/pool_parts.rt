@@ -1,14 +1,16 @@
 //! What a pool stands on before it has workers.
-ghost use Rattle.std.specs.Prelude.{◌≡◌, ◌≤◌, ◌<◌, ◌+◌, ℕ, [], length, map, IfOk, OnOk};
+ghost use Rattle.std.specs.Prelude.{◌≡◌, ◌≤◌, ◌<◌, ◌+◌, ℕ, [], length, map, vec_capacity, IfOk, Ok, OnOk};
 ghost use Rattle.std.specs.Arc.{arc_value};
 ghost use Rattle.std.specs.List.{AllByRecursion, range_with_len};
 ghost use Rattle.alog_core.specs.World.{is_size};
 ghost use Rattle.alog_lane.specs.Seats.{first_known as first_seat};
 ghost use Rattle.alog_lane.specs.declared.seat.TheConstants.{ALL_PARTS as ALL_SEATS};
+ghost use Rattle.alog_msg.specs.declared.item.Item.TheVariants.{Stop};
 ghost use Rattle.alog_msg.specs.declared.limits.TheConstants.{TEXT_LIMIT_MIN, TEXT_LIMIT_MAX};
 ghost use Rattle.alog_pattern.specs.declared.patterns.TheConstants.{LINE_MAX};
 ghost use Rattle.alog_policy.specs.BookCalls.{IsSeatOf};
 ghost use Rattle.alog_pool.specs.BacktraceSeat.{BacktraceSeatView};
+ghost use Rattle.alog_pool.specs.Gaps.{CanTell, next_of, told_from};
 ghost use Rattle.alog_pool.specs.Places.{AreSpare, Each2, Each3, IsFirst, IsBacktraceSeatOf, IsPart};
 ghost use Rattle.alog_pool.specs.Pool.{Begins, Fits, HasBlock, HasQueue, AreParts, Staffs, Stands, Crews, Hires, lanes_of};
 ghost use Rattle.alog_pool.specs.Room.{HasRoom};
@@ -18,6 +20,7 @@ ghost use Rattle.alog_ring.specs.Known.{IsPassOf, first_known};
 ghost use Rattle.alog_sink.specs.Sinks.{Suits};
 
 use crate::backtrace_seat::BacktraceSeat;
+use crate::gaps::{Gaps, gaps_from};
 use crate::gate::Gate;
 use crate::pool::Pool;
 use crate::report::Blank;
@@ -72,6 +75,7 @@ impl<S: Store + Drop + Send + 'static> PoolParts<S> {
         requires places { 1 ≤ ring.ring.places }
         ensures { IfOk result (λ g. AreParts setup ring.ring g) }
     {
+        let gaps = told_from(&setup);
         let Setup {
             text_limit,
             tickets_max,
@@ -80,7 +84,7 @@ impl<S: Store + Drop + Send + 'static> PoolParts<S> {
             workers,
             ..
         } = setup;
-        let (shared, losses) = shared_of(alloc, ring, loggers)?;
+        let (shared, losses) = shared_of(alloc, ring, loggers, gaps)?;
         let backtrace_seats = backtrace_seats_of(alloc, &shared.loggers, text_limit)?;
         let sink_seats = sink_seats_of(alloc, sinks, text_limit)?;
         let block = Block::new(alloc, text_limit)?;
@@ -233,11 +237,15 @@ impl<S: Store + Drop + Send + 'static> PoolParts<S> {
         ensures block { HasBlock self.new }
     {
         let shared = Arc::try_clone(&self.shared)?;
-        let line = LineBuf::new(self.alloc, LINE_MAX)?;
-        let tickets = Vec::with_capacity(self.alloc, self.tickets_max)?;
-        let block = Block::new(self.alloc, self.text_limit)?;
+        let tools = Tools::new(self.alloc, self.text_limit, self.tickets_max, shared.gaps)?;
         let sink_seats = parts_of(self.alloc, &mut self.sink_seats)?;
         let pass = self.shared.ring.split(&mut self.pass, 1);
+        let Tools {
+            line,
+            block,
+            tickets,
+            gaps,
+        } = tools;
         Ok(Worker {
             shared,
             pass,
@@ -249,6 +257,7 @@ impl<S: Store + Drop + Send + 'static> PoolParts<S> {
             tickets,
             most: self.tickets_max,
             handled: 0,
+            gaps,
         })
     }
 }
@@ -265,7 +274,7 @@ fn set_to_work<
     let promise = Works {
         start: Snapshot::of(&worker),
     };
-    let handle = thread::spawn_with(
+    let answer = thread::spawn_with(
         rt,
         promise,
         move || -> Worker<S>
@@ -273,7 +282,59 @@ fn set_to_work<
             ensures { HasWorked worker result }
         { work_alone(own, gate, worker) },
     );
-    match handle {
+    handle_of(answer)
+}
+
+/// What a worker writes with, and has to itself.
+#[derive(Drop)]
+struct Tools {
+    line: LineBuf,
+    block: Block,
+    tickets: Vec<u64>,
+    gaps: Option<Gaps>,
+}
+
+impl Tools {
+    /// With room for so many tickets, for a worker that tells gaps from this ticket on, or tells none.
+    fn new(
+        alloc: Global,
+        text_limit: usize,
+        tickets_max: usize,
+        first: Option<u64>,
+    ) -> Result<Tools, AllocError>
+        requires { (TEXT_LIMIT_MIN ≤ text_limit) × (text_limit ≤ TEXT_LIMIT_MAX) }
+        ensures line { IfOk result (λ t. t.line.capacity ≡ LINE_MAX) }
+        ensures block { IfOk result (λ t. t.block ≡ record { limit = text_limit; item = Stop }) }
+        ensures tickets { IfOk result (λ t. (t.tickets.items ≡ []) × (tickets_max ≤ vec_capacity t.tickets)) }
+        ensures gaps { IfOk result (λ t. (next_of t.gaps ≡ first) × CanTell text_limit t.gaps) }
+    {
+        Ok(Tools {
+            line: LineBuf::new(alloc, LINE_MAX)?,
+            block: Block::new(alloc, text_limit)?,
+            tickets: Vec::with_capacity(alloc, tickets_max)?,
+            gaps: gaps_from(alloc, first)?,
+        })
+    }
+}
+
+/// From which ticket on the worker of a pool of this setup tells gaps, where it does.
+fn told_from<S: Store>(setup: &Setup<S>) -> Option<u64>
+    ensures { result ≡ told_from setup.now }
+{
+    if setup.tells_gaps && setup.workers == 1 {
+        Some(setup.first)
+    } else {
+        None
+    }
+}
+
+/// The handle of a worker's thread. Where there is none, what was to run on it is dropped.
+fn handle_of<S: Store + Drop + Send + 'static, E: Drop>(
+    answer: Result<WorkerHandle<S>, E>,
+) -> Result<WorkerHandle<S>, AllocError>
+    ensures { IfOk result (λ h. answer ≡ Ok h) }
+{
+    match answer {
         Ok(handle) => Ok(handle),
         Err(_) => Err(AllocError),
     }
@@ -293,9 +354,11 @@ fn shared_of(
     alloc: Global,
     ring: Queue,
     loggers: Loggers,
+    gaps: Option<u64>,
 ) -> Result<(Arc<Shared>, BookSeat), AllocError>
     ensures ring { IfOk result (λ r. (arc_value r.0).ring ≡ ring) }
     ensures loggers { IfOk result (λ r. (arc_value r.0).loggers ≡ loggers) }
+    ensures gaps { IfOk result (λ r. (arc_value r.0).gaps ≡ gaps) }
     ensures seat { IfOk result (λ r. IsSeatOf (arc_value r.0).book r.1) }
     ensures known { IfOk result (λ r. r.1.known ≡ first_seat) }
 {
@@ -304,6 +367,7 @@ fn shared_of(
         ring,
         book,
         loggers,
+        gaps,
     };
     match Arc::new(alloc, shared) {
         Ok(shared) => Ok((shared, losses)),

@@ -14,6 +14,9 @@ pub struct Setup<S: Store> {
     pub workers: usize,
     /// How many tickets of each worker the report tells.
     pub tickets_max: usize,
+    /// Whether a pool of one worker tells gaps: in front of a text the worker writes one that says how many texts and flushes are missing
+    /// there, since posts overran them: a warning of that text's logger and time. With more workers nothing says so.
+    pub tells_gaps: bool,
     /// The most bytes of a text, 64 to 8,192.
     pub text_limit: usize,
     pub loggers: Loggers,
@@ -27,6 +30,7 @@ impl<S: Store> fmt::Debug for Setup<S> {
             .field("first", &self.first)
             .field("workers", &self.workers)
             .field("tickets_max", &self.tickets_max)
+            .field("tells_gaps", &self.tells_gaps)
             .field("text_limit", &self.text_limit)
             .finish_non_exhaustive()
     }

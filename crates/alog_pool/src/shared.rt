@@ -16,4 +16,6 @@ pub struct Shared {
     pub ring: Queue,
     pub book: LossBook,
     pub loggers: Loggers,
+    /// The ticket from which on its worker tells gaps, where it does.
+    pub gaps: Option<u64>,
 }

@@ -166,6 +166,7 @@ fn collect<R: Threads, S: Store + Drop + Send + 'static>(
             tickets: noted,
             most: _,
             handled,
+            gaps: _,
         } = worker.join(rt);
         shared.ring.join(pass, own);
         take_all_back(sink_seats, places);
@@ -197,6 +198,7 @@ fn close_book(rt: &impl Wait, shared: Arc<Shared>, losses: BookSeat) -> Counts
         ring: _,
         book,
         loggers: _,
+        gaps: _,
     } = alone(rt, shared);
     match book.close(losses) {
         Ok(lost) => lost,

@@ -12,6 +12,7 @@ ghost use Rattle.alog_ring.specs.Known.{IsPassOf};
 ghost use Rattle.alog_ring.specs.Made.{IsFaithful};
 ghost use Rattle.alog_ring.specs.declared.pop.PopError.TheVariants.{Idle};
 
+use crate::gaps::{Gaps, tell_gap};
 use crate::gate::Gate;
 use crate::item_wait::ItemWait;
 use crate::shared::{QueuePass, Shared};
@@ -42,6 +43,8 @@ pub struct Worker<S: Store> {
     pub most: usize,
     /// Its texts and flushes, modulo 2^64.
     pub handled: u64,
+    /// Where it tells gaps, what it tells them with.
+    pub gaps: Option<Gaps>,
 }
 
 impl<S: Store> Worker<S> {
@@ -87,8 +90,11 @@ impl<S: Store> Worker<S> {
             sink_seats,
             line,
             block,
+            gaps,
             ..
         } = self;
+        let item = block.item();
+        tell_gap(rt, &shared.loggers, sink_seats, line, gaps, ticket, item);
         handle(
             rt,
             gate,
@@ -97,7 +103,7 @@ impl<S: Store> Worker<S> {
             sink_seats,
             line,
             ticket,
-            block.item(),
+            item,
         );
         true
     }
@@ -144,7 +150,7 @@ fn handle<S: Store, R: Wait, G: Gate>(
 }
 
 /// Makes the turns of an item of this logger, one after another.
-fn make_turns<S: Store>(
+pub(crate) fn make_turns<S: Store>(
     rt: &impl Wait,
     loggers: &Loggers,
     logger: u32,

@@ -14,8 +14,8 @@ use alog_pool::Setup;
 use alog_sink::Store;
 use std::alloc::{AllocError, Global};
 
-/// What the configuration gives, over these stores, for a pool whose report tells so many tickets of each worker. The first ticket
-/// is 0. There are as many stores as `alog_config::leaves` tells. The test `one_list_of_tickets` shows it.
+/// What the configuration gives, over these stores, for a pool whose report tells so many tickets of each worker, and that tells no
+/// gaps. The first ticket is 0. There are as many stores as `alog_config::leaves` tells. The test `one_list_of_tickets` shows it.
 pub fn setup_of<S: Store + Drop>(
     alloc: Global,
     config: &Config,
@@ -34,6 +34,7 @@ pub fn setup_of<S: Store + Drop>(
         first: 0,
         workers: config.workers,
         tickets_max,
+        tells_gaps: false,
         text_limit: config.text,
         loggers,
         sinks,

@@ -27,9 +27,10 @@ fn has_both(rt: &impl Abort, report: &Report<Files>, first: &[u64], second: &[u6
     has_tickets(rt, report, 1, second);
 }
 
-// Two workers.
+// Two workers, of which none tells gaps, though the setup asks for it.
 const BOTH: Plan = Plan {
     workers: 2,
+    tells_gaps: true,
     ..PLAIN
 };
 
@@ -74,10 +75,11 @@ fn a_held_ticket_is_written_last(rt: HostRuntime) {
     }
 }
 
-// A queue of two places, and one worker.
-fn narrow(policy: Policy) -> Plan {
+// A queue of two places, and one worker, which tells gaps or not.
+fn narrow(policy: Policy, tells_gaps: bool) -> Plan {
     Plan {
         queue: 2,
+        tells_gaps,
         policy,
         ..PLAIN
     }
@@ -87,7 +89,7 @@ fn narrow(policy: Policy) -> Plan {
 fn is_full<R>(
     rt: &R,
     alloc: Global,
-    policy: Policy,
+    plan: Plan,
     deeds: &[Deed<'_>],
     totals: (u64, u64, u64),
     tickets: &[u64],
@@ -98,7 +100,7 @@ where
 {
     let flags = lowered(rt, alloc);
     let gate = holds_until(rt, &flags, 0);
-    let setup = setup_of(alloc, narrow(policy), &[&[0]], &[NEVER]);
+    let setup = setup_of(alloc, plan, &[&[0]], &[NEVER]);
     let mut trial = Trial::start(rt, alloc, setup, gate, 1);
     trial.say(rt, alloc, 0, "a");
     has_begun(rt, &flags);
@@ -111,13 +113,21 @@ where
     has(rt, &report, 0, bytes);
 }
 
-// The policy, what is done where two texts find room, how many are asked, discarded and overrun, the tickets that are handled, and
-// the lines.
-type AtFull<'a> = (Policy, &'a [Deed<'a>], (u64, u64, u64), &'a [u64], &'a [u8]);
+// The policy, whether gaps are told, what is done where two texts find room, how many are asked, discarded and overrun, the tickets that
+// are handled, and the lines.
+type AtFull<'a> = (
+    Policy,
+    bool,
+    &'a [Deed<'a>],
+    (u64, u64, u64),
+    &'a [u64],
+    &'a [u8],
+);
 
-static FULL: [AtFull<'static>; 4] = [
+static FULL: [AtFull<'static>; 7] = [
     (
         Policy::OverrunOldest,
+        false,
         &[
             Deed::Logs(0, 0, Level::Info, "b", Told::Posted(1)),
             Deed::Logs(0, 0, Level::Info, "c", Told::Posted(2)),
@@ -130,6 +140,7 @@ static FULL: [AtFull<'static>; 4] = [
     ),
     (
         Policy::DiscardNew,
+        false,
         &[
             Deed::Logs(0, 0, Level::Info, "b", Told::Posted(1)),
             Deed::Logs(0, 0, Level::Info, "c", Told::Posted(2)),
@@ -143,6 +154,7 @@ static FULL: [AtFull<'static>; 4] = [
     // Without waiting.
     (
         Policy::OverrunOldest,
+        false,
         &[
             Deed::LogsNow(0, Level::Info, "b", Told::Posted(1)),
             Deed::LogsNow(0, Level::Info, "c", Told::Posted(2)),
@@ -154,6 +166,7 @@ static FULL: [AtFull<'static>; 4] = [
     ),
     (
         Policy::DiscardNew,
+        false,
         &[
             Deed::LogsNow(0, Level::Info, "b", Told::Posted(1)),
             Deed::LogsNow(0, Level::Info, "c", Told::Posted(2)),
@@ -163,6 +176,44 @@ static FULL: [AtFull<'static>; 4] = [
         &[0, 1, 2],
         b"a\nb\nc\n",
     ),
+    // With what says how many are missing: a text, a text and a flush, and none.
+    (
+        Policy::OverrunOldest,
+        true,
+        &[
+            Deed::Logs(0, 0, Level::Info, "b", Told::Posted(1)),
+            Deed::Logs(0, 0, Level::Info, "c", Told::Posted(2)),
+            Deed::Logs(0, 0, Level::Info, "d", Told::Overran(3)),
+        ],
+        (4, 0, 1),
+        &[0, 2, 3],
+        b"a\n1 lines are missing here\nc\nd\n",
+    ),
+    (
+        Policy::OverrunOldest,
+        true,
+        &[
+            Deed::Logs(0, 0, Level::Info, "b", Told::Posted(1)),
+            Deed::Flushes(0, 2),
+            Deed::Logs(0, 0, Level::Info, "c", Told::Overran(3)),
+            Deed::Logs(0, 0, Level::Info, "d", Told::Overran(4)),
+        ],
+        (5, 0, 2),
+        &[0, 3, 4],
+        b"a\n2 lines are missing here\nc\nd\n",
+    ),
+    (
+        Policy::DiscardNew,
+        true,
+        &[
+            Deed::Logs(0, 0, Level::Info, "b", Told::Posted(1)),
+            Deed::Flushes(0, 2),
+            Deed::Logs(0, 0, Level::Info, "c", Told::Full),
+        ],
+        (4, 1, 0),
+        &[0, 1, 2],
+        b"a\nb\n",
+    ),
 ];
 
 fn full() -> &'static [AtFull<'static>] {
@@ -171,7 +222,8 @@ fn full() -> &'static [AtFull<'static>] {
 
 #[test]
 fn policies_of_a_full_queue(rt: HostRuntime) {
-    for (policy, deeds, totals, tickets, bytes) in full() {
-        is_full(&rt, rt.alloc(), *policy, deeds, *totals, tickets, bytes);
+    for (policy, tells_gaps, deeds, totals, tickets, bytes) in full() {
+        let plan = narrow(*policy, *tells_gaps);
+        is_full(&rt, rt.alloc(), plan, deeds, *totals, tickets, bytes);
     }
 }

@@ -109,6 +109,7 @@ fn shared(rt: &impl Abort, alloc: Global, ring: Queue, loggers: Loggers) -> Arc<
         ring,
         book,
         loggers,
+        gaps: None,
     };
     match Arc::new(alloc, shared) {
         Ok(shared) => shared,
@@ -139,6 +140,7 @@ fn worker(
         tickets: Vec::with_capacity(alloc, 4)?,
         most: 4,
         handled: 0,
+        gaps: None,
     })
 }
 

@@ -70,6 +70,7 @@ fn setup<S: Store + Drop>(
         first: 0,
         workers,
         tickets_max: 0,
+        tells_gaps: false,
         text_limit: TEXT_LIMIT,
         loggers: loggers(alloc)?,
         sinks,

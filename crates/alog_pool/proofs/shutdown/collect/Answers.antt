@@ -99,14 +99,14 @@ loop-worker-preserved g c =
     let V : Type 0 = Vec ℕ Global in
     let room = c.loop-worker.invariant.room in
     record {
-      ring = c.join-in-loop-worker.ensures.ring;
+      ring = c.join-in-loop-worker-2.ensures.ring;
       collects = record {
         crew = crew ++ worker ∷ [];
         worked = subst (λ (l : List (Worker S)). Each2 HasWorked l (crew ++ worker ∷ [])) (sym (map-append f yielded (c.in-Some.worker ∷ [])))
             (each2_more HasWorked (map f yielded) crew (f c.in-Some.worker) worker collected.worked c.join-own.ensures);
-        passes = subst (λ (l : List M). HasBack c.args.pass.now.known c.join-in-loop-worker.new.pass.known l)
+        passes = subst (λ (l : List M). HasBack c.args.pass.now.known c.join-in-loop-worker-2.new.pass.known l)
             (sym (map-append (λ (h : Worker S). worker_member h) crew (worker ∷ [])))
-            (back_one collected.passes c.join-in-loop-worker.ensures.joined c.join-own.ensures.work.joined c.join-own.ensures.work.parts);
+            (back_one collected.passes c.join-in-loop-worker-2.ensures.joined c.join-own.ensures.work.joined c.join-own.ensures.work.parts);
         places = subst (λ (l : List (List (SinkSeatView S))). HaveBack c.args.sink_seats.now.items c.take_all_back.new.sink_seats.items l)
             (sym (map-append (λ (h : Worker S). h.sink_seats.items) crew (worker ∷ [])))
             (rows_more c.args.sink_seats.now.items c.loop-worker.sink_seats.items c.take_all_back.new.sink_seats.items worker.sink_seats.items

@@ -13,6 +13,7 @@ returns-clause-given g c = record {
   workers = refl;
   limit = refl;
   most_is = refl;
+  no_gaps = refl;
 }
 
 pub returns-clause-fits : goal.returns-clause-fits

@@ -17,7 +17,7 @@ use Rattle.alog_pool.proofs.Closed.{all_back, all_closed}
 use Rattle.alog_pool.proofs.Rows.{rows_lanes}
 use Rattle.alog_pool.proofs.Served.{all_served, rows_counted, rows_even, same_numbers}
 use Rattle.alog_pool.proofs.SharedSharing.{each2_length}
-use Rattle.alog_pool.proofs.Totalled.{all_came_back, all_parts, members, only_stops, out, took_none, totals}
+use Rattle.alog_pool.proofs.Totalled.{all_came_back, all_parts, members, moment, only_stops, out, took_none, totals}
 use Rattle.alog_pool.proofs.pool.Pool.end.Goals as goal
 use Rattle.alog_core.specs.Accounts.{claims}
 use Rattle.alog_ring.specs.Known.{IsPassOf}
@@ -139,6 +139,8 @@ returns-clause-ends g c =
       served = all_served shared (lanes_of inside.sink_seats.items) inside.tickets_max starts crew pool.began collected.worked;
       end = l;
       whole = whole;
+      moment = moment a j k l producers starts crew count own none gather accounts stops collected.passes collected.worked pool.some whole
+          places;
       ring = (ring.places, ring.first);
       members = members a j k l producers starts crew count own none gather accounts stops collected.passes collected.worked pool.some;
       stops = (halted.0, subst (λ n. AreEnough n (claims l.own) l.own) every halted.1);

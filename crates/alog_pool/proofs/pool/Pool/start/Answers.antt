@@ -16,6 +16,7 @@ returns-in-Ok-clause-started g c =
     record {
       queue = (ap (λ r. r.places) ring ∙ shape.0, ap (λ r. r.first) ring ∙ shape.1);
       loggers = ap (λ (s : Shared). s.loggers) staffed.shared ∙ parts.loggers;
+      gaps = ap (λ (s : Shared). s.gaps) staffed.shared ∙ parts.gaps;
       sinks = ap (λ (l : List (LaneId (Sink g.row.S.Denot))). map (λ (i : LaneId (Sink g.row.S.Denot)). i.first) l) staffed.lanes ∙ parts.sinks;
       rooms = ap (λ (ks : List BacktraceSeatView). map (λ (k : BacktraceSeatView). k.lane.first) ks) staffed.backtrace_seats ∙ parts.rooms;
       made = staffed.made;

@@ -49,6 +49,7 @@ returns g c =
           (sym queued, tt);
       ring_is = ap (λ (r : SwapId TextLimit BlockFields). r.ring) shared.ring;
       loggers = shared.loggers;
+      gaps = shared.gaps ∙ c.told_from-gaps.ensures;
       pass = known;
       sinks = first_lanes setup.text_limit setup.sinks.items c.in_ok-sink_seats.sink_seats.items first;
       rooms = backtrace_seats_rooms setup.text_limit setup.loggers c.in_ok-backtrace_seats.backtrace_seats.items backtrace_seats;

@@ -4,6 +4,7 @@ use Rattle.alog_core.specs.Accounts.{taken}
 use Rattle.alog_core.specs.History.{Entry}
 use Rattle.alog_msg.specs.declared.item.Item.{Item}
 use Rattle.alog_pool.specs.Accounts.{of_stops}
+use Rattle.alog_pool.specs.Gaps.{CanTell}
 use Rattle.alog_pool.specs.Working.{IsWorkOf}
 use Rattle.alog_pool.specs.declared.shared.Shared.{Shared}
 use Rattle.alog_pool.proofs.Hiring.{fresh_part, fresh_work, kept_faithful, limited, one_less, still_own}
@@ -28,9 +29,10 @@ returns-clause-hires g c = λ n stands few.
     let limits = sink_seat_limits now.text_limit old new given each stands.sink_seat_limits in
     let fresh = fresh_part now.pass c.split-pass.new.pass c.split-pass.result split in
     let parts = stands.pass_parts in
-    let ring = subst (λ (s : Shared). IsPassOf s.ring.ring c.split-pass.new.pass) c.deref.ensures c.split-pass.ensures.ring.0 in
-    let given_ring = subst (λ (s : Shared). IsPassOf s.ring.ring c.split-pass.result) c.deref.ensures c.split-pass.ensures.ring.1 in
+    let ring = subst (λ (s : Shared). IsPassOf s.ring.ring c.split-pass.new.pass) c.deref-2.ensures c.split-pass.ensures.ring.0 in
+    let given_ring = subst (λ (s : Shared). IsPassOf s.ring.ring c.split-pass.result) c.deref-2.ensures c.split-pass.ensures.ring.1 in
     let left = one_less now.pass c.split-pass.new.pass c.split-pass.result n ALL_PARTS split (omega (arith, few, parts)) (omega (arith, parts)) in
+    let queued = ap (λ (s : Shared). s.ring.ring.limit.most) c.in_ok-shared.ensures ∙ stands.queued in
     record {
       stands = record {
         pass_is = ring;
@@ -60,21 +62,23 @@ returns-clause-hires g c = λ n stands few.
         at_work = record {
           shared = refl;
           ring = subst (λ (s : Shared). IsPassOf s.ring.ring c.split-pass.result) (sym c.in_ok-shared.ensures) given_ring;
-          work = subst (λ l. IsWorkOf now.tickets_max c.split-pass.result.known l 0) (sym c.in_ok-tickets.ensures.items)
+          work = subst (λ l. IsWorkOf now.tickets_max c.split-pass.result.known l 0) (sym c.in_ok-tools.ensures.tickets.0)
               (fresh_work now.tickets_max c.split-pass.result.known fresh);
           stops = ap (λ (h : List (Entry Item block_note)). taken of_stops h) fresh.own;
           most = refl;
           number = refl;
-          room = c.in_ok-tickets.ensures.capacity;
-          line = c.in_ok-line.ensures.capacity;
-          block = subst (λ (b : BlockFields). HoldsTo (arc_value c.in_ok-shared.shared).ring.ring.limit b) (sym c.in_ok-block.ensures)
-              (sym (ap (λ (s : Shared). s.ring.ring.limit.most) c.in_ok-shared.ensures ∙ stands.queued), tt);
+          room = c.in_ok-tools.ensures.tickets.1;
+          line = c.in_ok-tools.ensures.line;
+          block = subst (λ (b : BlockFields). HoldsTo (arc_value c.in_ok-shared.shared).ring.ring.limit b) (sym c.in_ok-tools.ensures.block)
+              (sym queued, tt);
           places = refl;
-          limits = limited _ now.text_limit given (ap (λ (s : Shared). s.ring.ring.limit.most) c.in_ok-shared.ensures ∙ stands.queued) limits.1;
+          limits = limited _ now.text_limit given queued limits.1;
+          tells = subst (λ n. CanTell n c.in_ok-tools.tools.gaps) (sym queued) c.in_ok-tools.ensures.gaps.1;
         };
         fresh = fresh;
         shares = c.in_ok-shared.ensures;
         most_is = refl;
+        gaps_are = c.in_ok-tools.ensures.gaps.0 ∙ ap (λ (s : Shared). s.gaps) (c.deref.ensures ∙ c.in_ok-shared.ensures);
         lanes_are = (same_lanes old new given each).1;
         seats = given_new old new given each;
       };
@@ -85,6 +89,6 @@ returns-clause-queue g c =
     let stands = c.requires.stands.1 in
     let now = c.args.self.now in
     let split = c.split-pass.ensures.split in (
-      subst (λ (s : Shared). IsPassOf s.ring.ring c.split-pass.new.pass) c.deref.ensures c.split-pass.ensures.ring.0,
+      subst (λ (s : Shared). IsPassOf s.ring.ring c.split-pass.new.pass) c.deref-2.ensures c.split-pass.ensures.ring.0,
       kept_faithful now.pass c.split-pass.new.pass c.split-pass.result split stands.pass_faithful,
     )

@@ -1,4 +1,4 @@
-use Rattle.std.proofs.Common.{append-nil, [], sym}
+use Rattle.std.proofs.Common.{append-nil, [], refl, sym}
 use Rattle.alog_core.specs.Accounts.{takes}
 use Rattle.alog_pool.proofs.Deeds.{have_none}
 use Rattle.alog_pool.proofs.worker.Worker.work.Goals as goal
@@ -8,6 +8,7 @@ loop-init g c = record {
   at_work = c.requires;
   turns = record {
     gots = [];
+    next = refl;
     took = sym (append-nil (takes c.args.self.pass.known.own));
     turns = have_none 0 c.args.self.sink_seats.items;
   };
