@@ -1,2 +1,3 @@
+mod Giving
 mod Logging
 mod Pumping

@@ -3,3 +3,4 @@ pub mod Logged
 pub mod Counted
 pub mod Piped
 pub mod Pipes
+pub mod Aside

@@ -9,7 +9,8 @@
 //! room, before the next one is posted, a line at level warning says how many are missing there. Meanwhile reads do not wait for ever
 //! (`TimedRead`), and where nothing comes that line is tried again. What `overrun_oldest` took out of the queue is in the report alone.
 //!
-//! `specs/Piped.antt` says what was logged of what the reader gave, `specs/Logged.antt` what becomes of each piece.
+//! `specs/Piped.antt` says what was logged of what the reader gave, `specs/Logged.antt` what becomes of each piece, `specs/Aside.antt` what is
+//! known of a reader that a thread reads at times.
 //!
 //! Read `piping.rt`, `pump.rt`, `piece_log.rt`, `counts.rt`, `timed_read.rt`, `read_aside.rt`.
 #![tactic(auto)]

@@ -150,16 +150,20 @@ where
     R: AllocGlobal + Threads + Wait + Clock + Clone + Copy + Drop + Send + 'static,
 {
     let mut reader = reads_of(rt, Arc::try_clone(&there)?, 10, None)?;
+    Ok(halt(&mut reader, &there))
+}
+
+fn halt(reader: &mut impl TimedRead, there: &AtomicUsize) -> (Seen, Seen, Seen) {
     let mut seen = Seen::nothing();
     reader.set_read_timeout(moment());
-    seen.read_up_to(&mut reader, 3);
+    seen.read_up_to(reader, 3);
     let three = seen;
-    seen.read(&mut reader);
+    seen.read(reader);
     let none = seen;
     there.store(10, Ordering::SeqCst);
     reader.set_read_timeout(None);
-    seen.read_up_to(&mut reader, 11);
-    Ok((three, none, seen))
+    seen.read_up_to(reader, 11);
+    (three, none, seen)
 }
 
 #[test]
@@ -169,6 +173,41 @@ fn a_read_that_may_not_wait_fails_where_nothing_comes(rt: HostRuntime) -> io::Re
     assert!(rt; three.bytes == 3 && three.in_order && three.failed == 0);
     assert!(rt; none.bytes == 3 && none.refused == three.refused.saturating_add(1));
     assert!(rt; all.bytes == 10 && all.in_order && all.failed == 0 && all.refused == none.refused);
+    Ok(())
+}
+
+/// What was seen of ten bytes, of which three were there when the thread was started again, while it had the reader.
+fn started_twice<R>(rt: R, there: Arc<AtomicUsize>) -> Result<Seen, AllocError>
+where
+    R: AllocGlobal + Threads + Wait + Clock + Clone + Copy + Drop + Send + 'static,
+{
+    let mut reader = reads_of(rt, Arc::try_clone(&there)?, 10, None)?;
+    start_again(&rt, &mut reader, &there)
+}
+
+fn start_again<R>(
+    rt: &R,
+    reader: &mut ReadAside<R, Slow<R>>,
+    there: &AtomicUsize,
+) -> Result<Seen, AllocError>
+where
+    R: AllocGlobal + Threads + Wait + Clock + Clone + Copy + Drop + Send + 'static,
+{
+    let mut seen = Seen::nothing();
+    reader.set_read_timeout(moment());
+    seen.read_up_to(reader, 3);
+    seen.read(reader);
+    reader.start(rt)?;
+    there.store(10, Ordering::SeqCst);
+    seen.read_up_to(reader, 11);
+    Ok(seen)
+}
+
+#[test]
+fn a_second_start_leaves_the_reader_with_the_thread(rt: HostRuntime) -> io::Result<()> {
+    let there = Arc::new(rt.alloc(), AtomicUsize::new(3))?;
+    let seen = started_twice(rt, there)?;
+    assert!(rt; seen.bytes == 10 && seen.in_order && seen.failed == 0);
     Ok(())
 }
 
