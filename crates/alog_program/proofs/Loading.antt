@@ -9,6 +9,7 @@ use Rattle.alog_config.specs.declared.config.Config.{Config}
 use Rattle.alog_load.specs.Load.{AreBad}
 use Rattle.alog_load.specs.declared.error.LoadError.{LoadError}
 use Rattle.alog_load.specs.declared.error.LoadError.TheVariants.{BadValue, OutOfMemory, Store}
+use Rattle.alog_patient.specs.declared.patience.Patience.{Patience}
 use Rattle.alog_pool.specs.declared.report.Report.{Report}
 use Rattle.alog_sink.specs.Files.{Files}
 use Rattle.alog_program.proofs.CommandLines.{one_row}
@@ -40,9 +41,9 @@ pub match_across : {T U : Type 0} (f : T → U) (o : Option T) {p : Option U} {A
 match_across f None {A = A} {A2 = A2} B B2 is a b m = subst (λ q. MatchOption q A2 B2) is (a m)
 match_across f (Some x) {A = A} {A2 = A2} B B2 is a b m = subst (λ q. MatchOption q A2 B2) is (b x m)
 
-module _ {S : Type 0} (tells : Bool) (files : S → Files) (failures : S → ℕ) (c : Config) (r : LoadRequest) where
+module _ {S : Type 0} (tells : Bool) (files : S → Files) (failures : S → ℕ) (tries : Option (S → Patience)) (c : Config) (r : LoadRequest) where
   -- where there is no memory, nothing is written
-  pub no_memory : (status : ℕ) (old : Option (List ℕ)) → status ≡ load_status_of OutOfMemory → LoadsOn tells files failures c r status old old
+  pub no_memory : (status : ℕ) (old : Option (List ℕ)) → status ≡ load_status_of OutOfMemory → LoadsOn tells files failures tries c r status old old
   no_memory status old e = record {
     done = λ zero. absurd (omega (arith, e, zero));
     bad = λ one. absurd (omega (arith, e, one));
@@ -54,7 +55,7 @@ module _ {S : Type 0} (tells : Bool) (files : S → Files) (failures : S → ℕ
   }
 
   -- where there is no folder to write to, for a load by numbers within their bounds, nothing is written
-  no_folder : (old : Option (List ℕ)) → ¬ AreBad r.producers r.messages → LoadsOn tells files failures c r 3 old old
+  no_folder : (old : Option (List ℕ)) → ¬ AreBad r.producers r.messages → LoadsOn tells files failures tries c r 3 old old
   no_folder old within = record {
     done = λ zero. absurd (omega (arith, zero));
     bad = λ one. absurd (omega (arith, one));
@@ -67,13 +68,13 @@ module _ {S : Type 0} (tells : Bool) (files : S → Files) (failures : S → ℕ
 
   -- where no folder is held for such a load, or there is no memory to ask for it, nothing is written
   pub folder_refused : (status : ℕ) (old : Option (List ℕ))
-      → (status ≡ load_status_of OutOfMemory) ⊎ ((status ≡ 3) × (¬ AreBad r.producers r.messages)) → LoadsOn tells files failures c r status old old
+      → (status ≡ load_status_of OutOfMemory) ⊎ ((status ≡ 3) × (¬ AreBad r.producers r.messages)) → LoadsOn tells files failures tries c r status old old
   folder_refused status old (inl none) = no_memory status old none
-  folder_refused status old (inr lacks) = subst (λ s. LoadsOn tells files failures c r s old old) (sym lacks.0) (no_folder old lacks.1)
+  folder_refused status old (inr lacks) = subst (λ s. LoadsOn tells files failures tries c r s old old) (sym lacks.0) (no_folder old lacks.1)
 
   -- a load by numbers that are out of their bounds is refused as such, and no other
   pub loads_fault : (fault : LoadError) (status : ℕ) (old : Option (List ℕ)) → status ≡ load_status_of fault
-      → (IsErrOf {T = Report S} (Err fault) BadValue ↔ AreBad r.producers r.messages) → LoadsOn tells files failures c r status old old
+      → (IsErrOf {T = Report S} (Err fault) BadValue ↔ AreBad r.producers r.messages) → LoadsOn tells files failures tries c r status old old
   loads_fault BadValue status old e bad = record {
     done = λ zero. absurd (omega (arith, e, zero));
     bad = λ one. (bad.0 refl, Keeps-refl old);
@@ -96,20 +97,20 @@ module _ {S : Type 0} (tells : Bool) (files : S → Files) (failures : S → ℕ
 
 -- Over two types of stores, the second for a folder.
 module _ {S F : Type 0} (tells : Bool) (files : S → Files) (failures : S → ℕ) (tells2 : Bool) (files2 : F → Files) (failures2 : F → ℕ)
-    (status : ℕ) (old new : Option (List ℕ)) where
+    (tries2 : F → Patience) (status : ℕ) (old new : Option (List ℕ)) where
   abbrev pub Loads2 : List Row → Type 0
-  Loads2 rows = MatchOption (folder_in rows) (LoadsBy tells files failures (values_in rows) status old new)
-      (λ _. LoadsBy tells2 files2 failures2 (values_in rows) status old new)
+  Loads2 rows = MatchOption (folder_in rows) (LoadsBy tells files failures None (values_in rows) status old new)
+      (λ _. LoadsBy tells2 files2 failures2 (Some tries2) (values_in rows) status old new)
 
   -- what the words ask for was made
   pub load_made : (words : List Text) (rows others : List Row) (r : LoadRequest) → Names (codes "load") words rows
       → Names (codes "load") words others → AsksForLoad (values_in rows) r
-      → MatchOption r.folder (LoadsFile tells files failures r status old new) (λ _. LoadsFile tells2 files2 failures2 r status old new)
+      → MatchOption r.folder (LoadsFile tells files failures None r status old new) (λ _. LoadsFile tells2 files2 failures2 (Some tries2) r status old new)
       → Loads2 others
   load_made words rows others r one other asks made =
       subst Loads2 (one_row (codes "load") words rows others one other) (match_across (λ f. f.now) r.folder
-      {A = LoadsFile tells files failures r status old new} {A2 = LoadsBy tells files failures (values_in rows) status old new}
-      (λ _. LoadsFile tells2 files2 failures2 r status old new) (λ _. LoadsBy tells2 files2 failures2 (values_in rows) status old new)
+      {A = LoadsFile tells files failures None r status old new} {A2 = LoadsBy tells files failures None (values_in rows) status old new}
+      (λ _. LoadsFile tells2 files2 failures2 (Some tries2) r status old new) (λ _. LoadsBy tells2 files2 failures2 (Some tries2) (values_in rows) status old new)
       asks.folder (λ l. inl (r, asks, l)) (λ x l. inl (r, asks, l)) made)
 
   -- a value was refused
@@ -117,12 +118,12 @@ module _ {S F : Type 0} (tells : Bool) (files : S → Files) (failures : S → �
       → Names (codes "load") words others → IsFirstUnread (values_in rows) fault → status ≡ 1 → Keeps old new → Loads2 others
   load_unread words {rows} {others} {fault} one other unread is kept =
       subst Loads2 (one_row (codes "load") words rows others one other) (match_both (folder_in rows)
-      (LoadsBy tells files failures (values_in rows) status old new)
-      (λ _. LoadsBy tells2 files2 failures2 (values_in rows) status old new)
+      (LoadsBy tells files failures None (values_in rows) status old new)
+      (λ _. LoadsBy tells2 files2 failures2 (Some tries2) (values_in rows) status old new)
       (inr (inl (is, (fault, unread), kept))) (λ x. inr (inl (is, (fault, unread), kept))))
 
   -- there was no memory to read the words
   pub load_unasked : (rows : List Row) → status ≡ 4 → Keeps old new → Loads2 rows
   load_unasked rows is kept =
-      match_both (folder_in rows) (LoadsBy tells files failures (values_in rows) status old new)
-      (λ _. LoadsBy tells2 files2 failures2 (values_in rows) status old new) (inr (inr (is, kept))) (λ x. inr (inr (is, kept)))
+      match_both (folder_in rows) (LoadsBy tells files failures None (values_in rows) status old new)
+      (λ _. LoadsBy tells2 files2 failures2 (Some tries2) (values_in rows) status old new) (inr (inr (is, kept))) (λ x. inr (inr (is, kept)))

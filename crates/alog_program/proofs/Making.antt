@@ -68,13 +68,13 @@ module _ {F : Type 0} (tells : Bool) (files : MemStore → Files) (failures : Me
   made_checks (Pipe r) asked made rows asks = absurd (pipe_is_no_check words asked.0 rows asked.1.1 asks.1)
 
   pub made_loads : (r : Request) → Asks words r → Made r → (rows : List Row) → AsksLoad words rows
-      → Loads2 tells files failures tells2 files2 failures2 status old new rows
+      → Loads2 tells files failures tells2 files2 failures2 tries2 status old new rows
   made_loads Replay asked made rows asks = absurd (asked.3 rows asks.1)
   made_loads (ReplayConfig file) asked made rows asks = absurd (load_is_no_replay words rows asked.0 asks.1 asked.1.1)
   made_loads (Format r) asked made rows asks = absurd (load_is_no_format words rows asked.0 asks.1 asked.1.1)
   made_loads (Check file) asked made rows asks = absurd (load_is_no_check words rows asked.0 asks.1 asked.1.1)
   made_loads (Load r) asked made rows asks =
-      load_made tells files failures tells2 files2 failures2 status old new words asked.0 rows r asked.1.1 asks.1 asked.2 made
+      load_made tells files failures tells2 files2 failures2 tries2 status old new words asked.0 rows r asked.1.1 asks.1 asked.2 made
   made_loads (Pipe r) asked made rows asks = absurd (pipe_is_no_load words asked.0 rows asked.1.1 asks.1)
 
   pub made_pipes : (r : Request) → Asks words r → Made r → (rows : List Row) → AsksPipe words rows
@@ -164,16 +164,16 @@ module _ (words : List Text) (status : ℕ) (before old new : Option (List ℕ))
     refused_pipes (LoadValue fault) refused answer rows asks = absurd (pipe_is_no_load words rows refused.0 asks.1 refused.1.1)
 
   module _ {F : Type 0} (tells : Bool) (files : MemStore → Files) (failures : MemStore → ℕ) (tells2 : Bool) (files2 : F → Files)
-      (failures2 : F → ℕ) where
+      (failures2 : F → ℕ) (tries2 : F → Patience) where
     pub refused_loads : (e : WordsError) → IsRefusedBy words e → IsAnswerTo e status old new → (rows : List Row)
-        → AsksLoad words rows → Loads2 tells files failures tells2 files2 failures2 status old new rows
+        → AsksLoad words rows → Loads2 tells files failures tells2 files2 failures2 tries2 status old new rows
     refused_loads (Clap error) refused answer rows asks =
         let four : status ≡ 4 = answer.0.1 (lacks_memory words error asks.0 refused) in
-        load_unasked tells files failures tells2 files2 failures2 status old new rows four (answer.1 four)
+        load_unasked tells files failures tells2 files2 failures2 tries2 status old new rows four (answer.1 four)
     refused_loads (Value fault) refused answer rows asks =
         elim refused.1 [
           | inl format ↦ absurd (load_is_no_format words rows refused.0 asks.1 format.0.1)
           | inr pipe ↦ absurd (pipe_is_no_load words refused.0 rows pipe.0.1 asks.1)
         ]
     refused_loads (LoadValue fault) refused answer rows asks =
-        load_unread tells files failures tells2 files2 failures2 status old new words refused.1.1 asks.1 refused.2 answer.0 answer.1
+        load_unread tells files failures tells2 files2 failures2 tries2 status old new words refused.1.1 asks.1 refused.2 answer.0 answer.1

@@ -1,22 +1,16 @@
 -- What holds of a pipe by the words that ask for it.
-use Rattle.std.proofs.Common.{◌≡◌, ℕ, Bool, Option, Some, None, MatchOption, List, codes, inl, inr, subst}
+use Rattle.std.proofs.Common.{◌≡◌, ℕ, Bool, Option, List, codes, inl, inr, subst}
 use Rattle.clap.specs.Words.{Row, Text}
 use Rattle.alog_patient.specs.declared.patience.Patience.{Patience}
-use Rattle.alog_patient.specs.declared.patience.Patience.TheVariants.{Endless, Times}
 use Rattle.alog_sink.specs.Files.{Files}
 use Rattle.alog_program.proofs.CommandLines.{one_row}
 use Rattle.alog_program.specs.CommandLine.{Names, values_in}
 use Rattle.alog_program.specs.Options.{Refuses}
 use Rattle.alog_program.specs.PipeOptions.{AsksForPipe}
-use Rattle.alog_program.specs.Piped.{IsUntouched, PipesBy, PipesFile, patience_of}
+use Rattle.alog_program.specs.Piped.{IsUntouched, PipesBy, PipesFile}
 use Rattle.alog_program.specs.declared.options.FormatOption.TheVariants as option
 use Rattle.alog_program.specs.declared.options.ValueError.{ValueError}
 use Rattle.alog_program.specs.declared.request.PipeRequest.{PipeRequest}
-
--- what was told of a patience in two cases
-pub patience_is : (retry : Option ℕ) {p : Patience} → MatchOption retry (p ≡ Endless) (λ times. p ≡ Times times) → p ≡ patience_of retry
-patience_is None is = is
-patience_is (Some times) is = is
 
 module _ {S : Type 0} (tells : Bool) (files : S → Files) (failures : S → ℕ) (tries : S → Patience) (status : ℕ)
     (before after old new : Option (List ℕ)) where

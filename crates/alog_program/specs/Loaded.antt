@@ -1,13 +1,15 @@
 -- What `alog load` does.
-use Rattle.std.specs.Prelude.{◌≡◌, ◌≢◌, ◌≤◌, ◌⊎◌, ℕ, All, Bool, List, [], ◌∷◌, ◌++◌, Option, Ok, codes}
+use Rattle.std.specs.Prelude.{◌≡◌, ◌≢◌, ◌≤◌, ◌⊎◌, ℕ, All, Bool, List, [], ◌∷◌, ◌++◌, Option, IfSome, Ok, codes}
 use Rattle.std.specs.Fmt.{decimal}
 use Rattle.std.specs.Io.KnownBytes.{Appends, Keeps}
 use Rattle.alog_config.specs.Meaning.{Reads}
 use Rattle.alog_config.specs.declared.config.Config.{Config}
 use Rattle.alog_load.specs.Load.{AreBad, Loads}
+use Rattle.alog_patient.specs.declared.patience.Patience.{Patience}
+use Rattle.alog_patient.specs.declared.patience.Patience.TheVariants.{Times}
 use Rattle.alog_pool.specs.declared.report.Report.{Report}
 use Rattle.alog_pool.specs.declared.report.Totals.{Totals}
-use Rattle.alog_server.specs.Stores.{IsNew}
+use Rattle.alog_server.specs.Stores.{IsNew, patience_of}
 use Rattle.alog_sink.specs.Files.{Files}
 use Rattle.alog_program.specs.Documents.{IsNoConfiguration}
 use Rattle.alog_program.specs.LoadOptions.{AsksForLoad, IsFirstUnread}
@@ -29,12 +31,17 @@ totals_text t =
 abbrev pub HasNoFault : {S : Type 0} → Report S → Type 0
 HasNoFault report = All (λ n. n ≡ 0) report.faults.items
 
--- over stores of this type, by what they tell, their files and their failures
-module _ {S : Type 0} (tells : Bool) (files : S → Files) (failures : S → ℕ) where
-  -- The report of a load, as it was asked for, of a configuration, over new stores.
+-- stores that try a failed call again do so as often as the configuration says, or not at all; those in memory have no such number
+abbrev pub ArePatient : {S : Type 0} → Option (S → Patience) → Config → List S → Type 0
+ArePatient tries c stores = IfSome tries (λ t. All (λ s. t s ≡ patience_of (Times 0) c.retry) stores)
+
+-- over stores of this type, by what they tell, their files, their failures, and how often they try a failed call again, if they do
+module _ {S : Type 0} (tells : Bool) (files : S → Files) (failures : S → ℕ) (tries : Option (S → Patience)) where
+  -- The report of a load, as it was asked for, of a configuration, over new stores that try again as often as that says.
   pub record IsReportOf (c : Config) (r : LoadRequest) (report : Report S) : Type 0 where
     pub stores : List S
     pub fresh : All (IsNew tells files failures) stores
+    pub patient : ArePatient tries c stores
     pub loads : Loads tells files failures c stores r.producers r.messages report
 
   -- By the exit status, of a configuration: a load was made, no fault was counted, and its totals were written; or the numbers are out

@@ -1,5 +1,5 @@
 -- What is made of a command line that was understood, and what is answered to one that was not.
-use Rattle.std.specs.Prelude.{◌≡◌, ◌≢◌, ◌↔◌, ℕ, Bool, List, Option, MatchOption}
+use Rattle.std.specs.Prelude.{◌≡◌, ◌≢◌, ◌↔◌, ℕ, Bool, List, Option, None, Some, MatchOption}
 use Rattle.std.specs.Io.KnownBytes.{Keeps}
 use Rattle.clap.specs.Words.{kind_of}
 use Rattle.clap.specs.declared.error.kind.ErrorKind.TheVariants.{OutOfMemory}
@@ -27,7 +27,8 @@ module _ {F : Type 0} (tells : Bool) (files : MemStore → Files) (failures : Me
       (status ≢ 1) × (status ≡ 0 → WritesLineOf r old new) × (status ≡ 2 → IsRefused r × Keeps old new)
   Makes (Check file) status before after old new = ChecksFile status old new
   Makes (Load r) status before after old new =
-      MatchOption r.folder (LoadsFile tells files failures r status old new) (λ _. LoadsFile tells2 files2 failures2 r status old new)
+      MatchOption r.folder (LoadsFile tells files failures None r status old new)
+      (λ _. LoadsFile tells2 files2 failures2 (Some tries2) r status old new)
   Makes (Pipe r) status before after old new = PipesFile tells2 files2 failures2 tries2 r status before after old new
 
 -- a refused value has status 1, and what `clap` says has 4 for want of memory alone; at both nothing was written

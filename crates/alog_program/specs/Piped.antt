@@ -8,12 +8,12 @@ use Rattle.alog_config.specs.Meaning.{Reads}
 use Rattle.alog_config.specs.declared.config.Config.{Config}
 use Rattle.alog_config.specs.declared.config.LoggerConfig.{LoggerConfig}
 use Rattle.alog_patient.specs.declared.patience.Patience.{Patience}
-use Rattle.alog_patient.specs.declared.patience.Patience.TheVariants.{Endless, Times}
+use Rattle.alog_patient.specs.declared.patience.Patience.TheVariants.{Endless}
 use Rattle.alog_pipe.specs.Pipes.{Pipes}
 use Rattle.alog_pipe.specs.declared.counts.Counts.{Counts}
 use Rattle.alog_pipe.specs.declared.piping.Piped.{Piped}
 use Rattle.alog_pool.specs.declared.report.Totals.{Totals}
-use Rattle.alog_server.specs.Stores.{IsNew}
+use Rattle.alog_server.specs.Stores.{IsNew, patience_of}
 use Rattle.alog_sink.specs.Files.{Files}
 use Rattle.alog_program.specs.Documents.{IsNoConfiguration}
 use Rattle.alog_program.specs.Loaded.{HasNoFault, total_line, totals_text}
@@ -46,18 +46,13 @@ told_text c missing t =
 abbrev pub IsUntouched : (before after old new : Option (List ℕ)) → Type 0
 IsUntouched before after old new = Keeps before after × Keeps old new
 
--- how often a failed call on a file is tried again: as often as the configuration says, or without end
-abbrev pub patience_of : Option ℕ → Patience
-patience_of None = Endless
-patience_of (Some times) = Times times
-
 -- over stores of this type, by what they tell, their files, their failures and how often they try a failed call again
 module _ {S : Type 0} (tells : Bool) (files : S → Files) (failures : S → ℕ) (tries : S → Patience) where
-  -- What came of a pipe, as it was asked for, of a configuration, over new stores that try again as often as that says.
+  -- What came of a pipe, as it was asked for, of a configuration, over new stores that try again as often as that says, or without end.
   pub record IsPipeOf (c : Config) (r : PipeRequest) (before after : Option (List ℕ)) (p : Piped S) : Type 0 where
     pub stores : List S
     pub fresh : All (IsNew tells files failures) stores
-    pub patient : All (λ s. tries s ≡ patience_of c.retry) stores
+    pub patient : All (λ s. tries s ≡ patience_of Endless c.retry) stores
     pub logger : ℕ
     pub named : logger_in c (name_in r) ≡ Some logger
     pub pipes : Pipes tells files failures c stores logger r.level before after p

@@ -1,9 +1,10 @@
 //! `alog load`: a load through the loggers and sinks of a configuration.
-ghost use Rattle.std.specs.Prelude.{◌≡◌, ◌↔◌, ◌⊎◌, IfSome, IsTrue, All, MatchOption, count_by, length};
+ghost use Rattle.std.specs.Prelude.{◌≡◌, ◌↔◌, ◌⊎◌, IfSome, IsTrue, All, MatchOption, None, Option, Some, count_by, length};
 ghost use Rattle.std.specs.Io.KnownBytes.{Appends};
 ghost use Rattle.alog_config.specs.Sinks.{is_leaf};
 ghost use Rattle.alog_load.specs.Load.{AreBad};
-ghost use Rattle.alog_program.specs.Loaded.{HasNoFault, LoadsDocument, LoadsFile, LoadsOn, totals_text};
+ghost use Rattle.alog_patient.specs.declared.patience.Patience.{Patience};
+ghost use Rattle.alog_program.specs.Loaded.{ArePatient, HasNoFault, LoadsDocument, LoadsFile, LoadsOn, totals_text};
 ghost use Rattle.alog_program.specs.Status.{load_status_of};
 ghost use Rattle.alog_server.specs.Stores.{IsNew};
 
@@ -39,9 +40,9 @@ where
     R: Clone + Drop + Send + Sync + 'static,
     ensures { MatchOption request.now.folder
         (LoadsFile ⟦<MemStore as Store>⟧.tells ⟦<MemStore as Store>⟧.files ⟦<MemStore as Store>⟧.failures
-        request.now result (O.contents output.old) (O.contents output.new))
+        None request.now result (O.contents output.old) (O.contents output.new))
         (λ _. LoadsFile R.Folder.tells R.Folder.files
-        R.Folder.failures request.now result (O.contents output.old) (O.contents output.new)) }
+        R.Folder.failures (Some R.tries) request.now result (O.contents output.old) (O.contents output.new)) }
 {
     match read_document(rt, request.file, errors) {
         Ok(document) => load_document(rt, document.as_slice(), request, output, errors),
@@ -62,9 +63,9 @@ where
     R: Clone + Drop + Send + Sync + 'static,
     ensures { MatchOption request.now.folder
         (LoadsDocument ⟦<MemStore as Store>⟧.tells ⟦<MemStore as Store>⟧.files ⟦<MemStore as Store>⟧.failures
-        document.now request.now result (O.contents output.old) (O.contents output.new))
+        None document.now request.now result (O.contents output.old) (O.contents output.new))
         (λ _. LoadsDocument R.Folder.tells R.Folder.files
-        R.Folder.failures document.now request.now result
+        R.Folder.failures (Some R.tries) document.now request.now result
         (O.contents output.old) (O.contents output.new)) }
 {
     match read(rt.alloc(), document) {
@@ -86,9 +87,9 @@ where
     R: Clone + Drop + Send + Sync + 'static,
     ensures { MatchOption request.now.folder
         (LoadsOn ⟦<MemStore as Store>⟧.tells ⟦<MemStore as Store>⟧.files ⟦<MemStore as Store>⟧.failures
-        config.now request.now result (O.contents output.old) (O.contents output.new))
+        None config.now request.now result (O.contents output.old) (O.contents output.new))
         (λ _. LoadsOn R.Folder.tells R.Folder.files
-        R.Folder.failures config.now request.now result
+        R.Folder.failures (Some R.tries) config.now request.now result
         (O.contents output.old) (O.contents output.new)) }
 {
     match request.folder {
@@ -108,7 +109,7 @@ fn load_in_memory<R, O: Write, E: Write>(
 where
     R: AllocGlobal + Screen + Threads + Wait + Clock + Clone + Drop + Send + Sync + 'static,
     ensures { LoadsOn ⟦<MemStore as Store>⟧.tells ⟦<MemStore as Store>⟧.files ⟦<MemStore as Store>⟧.failures
-        config.now request.now result (O.contents output.old) (O.contents output.new) }
+        None config.now request.now result (O.contents output.old) (O.contents output.new) }
 {
     match memory_stores(rt.alloc(), leaves(config)) {
         Ok(stores) => load_over(rt, config, stores, request, output, errors),
@@ -128,7 +129,7 @@ fn load_to_folder<R, O: Write, E: Write>(
 where
     R: AllocGlobal + Files + Folders + Screen + Threads + Wait + Clock,
     R: Clone + Drop + Send + Sync + 'static,
-    ensures { LoadsOn R.Folder.tells R.Folder.files R.Folder.failures
+    ensures { LoadsOn R.Folder.tells R.Folder.files R.Folder.failures (Some R.tries)
         config.now request.now result (O.contents output.old) (O.contents output.new) }
 {
     let mut lock = None;
@@ -155,7 +156,8 @@ where
     R: AllocGlobal + Screen + Threads + Wait + Clock + Clone + Drop + Send + Sync + 'static,
     requires many { length stores.items ≡ count_by is_leaf config.now.sinks.items }
     requires fresh { All (IsNew S.tells S.files S.failures) stores.items }
-    ensures { LoadsOn S.tells S.files S.failures config.now request.now result (O.contents output.old) (O.contents output.new) }
+    ensures { (tries : Option (S → Patience)) → ArePatient tries config.now stores.items
+        → LoadsOn S.tells S.files S.failures tries config.now request.now result (O.contents output.old) (O.contents output.new) }
 {
     let LoadRequest {
         producers,

@@ -4,9 +4,9 @@ ghost use Rattle.std.specs.Io.KnownBytes.{Appends, Keeps};
 ghost use Rattle.std.specs.List.{position};
 ghost use Rattle.std.specs.Option.{option_map};
 ghost use Rattle.alog_config.specs.Sinks.{is_leaf};
-ghost use Rattle.alog_server.specs.Stores.{IsNew};
+ghost use Rattle.alog_server.specs.Stores.{IsNew, patience_of};
 ghost use Rattle.alog_program.specs.Loaded.{HasNoFault};
-ghost use Rattle.alog_program.specs.Piped.{PipesDocument, PipesFile, PipesOn, is_asked, logger_in, name_in, patience_of, told_text};
+ghost use Rattle.alog_program.specs.Piped.{PipesDocument, PipesFile, PipesOn, is_asked, logger_in, name_in, told_text};
 
 use crate::configuration::{read_document, refuse};
 use crate::ended::fail_to_write;
@@ -182,7 +182,7 @@ where
     R: AllocGlobal + Folders + Threads + Wait + Clock + Clone + Drop + Send + Sync + 'static,
     requires many { length stores.items ≡ count_by is_leaf config.now.sinks.items }
     requires fresh { All (IsNew R.Folder.tells R.Folder.files R.Folder.failures) stores.items }
-    requires patient { All (λ s. R.tries s ≡ patience_of config.now.retry) stores.items }
+    requires patient { All (λ s. R.tries s ≡ patience_of Patience.Endless config.now.retry) stores.items }
     requires named { logger_in config.now (name_in request.now) ≡ Some logger }
     ensures { PipesOn R.Folder.tells R.Folder.files R.Folder.failures R.tries config.now request.now result
         (I.remaining input.old) (I.remaining input.new) (O.contents output.old) (O.contents output.new) }

@@ -1,5 +1,5 @@
 //! The whole program over any reader and two writers.
-ghost use Rattle.std.specs.Prelude.{◌≡◌, ◌≤◌, ◌⊎◌, ◌↔◌, List, map, MatchOption, OnOk};
+ghost use Rattle.std.specs.Prelude.{◌≡◌, ◌≤◌, ◌⊎◌, ◌↔◌, List, None, Some, map, MatchOption, OnOk};
 ghost use Rattle.std.specs.Io.KnownBytes.{Appends, Keeps};
 ghost use Rattle.clap.specs.Words.{Row, kind_of};
 ghost use Rattle.alog_program.specs.Checks.{ChecksFile};
@@ -73,9 +73,9 @@ where
         → ChecksFile result (O.contents output.old) (O.contents output.new) }
     ensures loads { (rows : List Row) → AsksLoad (map S.text words.now) rows → MatchOption (folder_in rows)
         (LoadsBy ⟦<MemStore as Store>⟧.tells ⟦<MemStore as Store>⟧.files ⟦<MemStore as Store>⟧.failures
-        (values_in rows) result (O.contents output.old) (O.contents output.new))
+        None (values_in rows) result (O.contents output.old) (O.contents output.new))
         (λ _. LoadsBy R.Folder.tells R.Folder.files
-        R.Folder.failures (values_in rows) result (O.contents output.old) (O.contents output.new)) }
+        R.Folder.failures (Some R.tries) (values_in rows) result (O.contents output.old) (O.contents output.new)) }
     ensures pipes { (rows : List Row) → AsksPipe (map S.text words.now) rows → PipesBy R.Folder.tells R.Folder.files R.Folder.failures R.tries
         (values_in rows) result (I.remaining input.old) (I.remaining input.new) (O.contents output.old) (O.contents output.new) }
 {

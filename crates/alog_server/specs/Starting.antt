@@ -5,12 +5,14 @@ use Rattle.alog_config.specs.Meaning.{Reads}
 use Rattle.alog_config.specs.Sinks.{Rotates}
 use Rattle.alog_config.specs.declared.config.Config.{Config}
 use Rattle.alog_config.specs.declared.fault.ConfigFault.{ConfigFault}
+use Rattle.alog_patient.specs.declared.patience.Patience.{Patience}
+use Rattle.alog_patient.specs.declared.patience.Patience.TheVariants.{Times}
 use Rattle.alog_pool.specs.Pool.{PoolView, Starts}
 use Rattle.alog_pool.specs.declared.setup.Setup.{Setup}
 use Rattle.alog_sink.specs.Files.{Files}
 use Rattle.alog_server.specs.Setting.{IsSetupOf}
 use Rattle.alog_server.specs.SinkEnds.{TellsSinks}
-use Rattle.alog_server.specs.Stores.{IsNew}
+use Rattle.alog_server.specs.Stores.{IsNew, patience_of}
 use Rattle.alog_server.specs.declared.error.StartError.{StartError}
 use Rattle.alog_server.specs.declared.error.StartError.TheVariants as start
 use Rattle.alog_server.specs.declared.sink_end.SinkEnd.{SinkEnd}
@@ -45,10 +47,12 @@ module _ {S : Type 0} (tells : Bool) (files : S → Files) (failures : S → ℕ
     pub starts : Starts setup pool
     pub told : TellsSinks c sinks
 
-  -- It was started with what the document says, over new stores.
-  pub record IsServerOn (document : List ℕ) (pool : PoolView S) (sinks : List SinkEnd) : Type 0 where
+  -- It was started with what the document says, over new stores, each of which tries a failed call again as often as that says, or not at
+  -- all.
+  pub record IsServerOn (tries : S → Patience) (document : List ℕ) (pool : PoolView S) (sinks : List SinkEnd) : Type 0 where
     pub config : Config
     pub reads : Reads document (Ok config)
     pub stores : List S
     pub fresh : All (IsNew tells files failures) stores
+    pub patient : All (λ s. tries s ≡ patience_of (Times 0) config.retry) stores
     pub server : IsServerOf config stores pool sinks

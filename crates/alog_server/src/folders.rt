@@ -1,6 +1,6 @@
 //! The stores of a folder, and what holds it.
-ghost use Rattle.std.specs.Prelude.{◌≡◌, All, MatchOption, length, IfOk};
-ghost use Rattle.alog_server.specs.Stores.{IsNew};
+ghost use Rattle.std.specs.Prelude.{◌≡◌, All, length, IfOk};
+ghost use Rattle.alog_server.specs.Stores.{IsNew, patience_of};
 
 use alog_config::Config;
 use alog_patient::{Patience, PatientStore};
@@ -93,7 +93,7 @@ where
 
 /// How often a failed call of a store is tried again: as often as a configuration says, and else so.
 pub fn patience_of(config: &Config, default: Patience) -> Patience
-    ensures { MatchOption config.now.retry (result ≡ default) (λ times. result ≡ Patience.Times times) }
+    ensures { result ≡ patience_of default config.now.retry }
 {
     match config.retry {
         Some(times) => Patience::Times(times),

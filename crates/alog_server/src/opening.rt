@@ -25,7 +25,7 @@ pub fn start<R: Files + Folders + Threads + Wait + Clock + Clone + Drop + Send +
     document: &[u8],
     folder: &str,
 ) -> Result<Server<R::Folder, R::Lock>, StartError>
-    ensures started { IfOk result (λ s. IsServerOn R.Folder.tells R.Folder.files R.Folder.failures document.now s.pool s.sinks.items) }
+    ensures started { IfOk result (λ s. IsServerOn R.Folder.tells R.Folder.files R.Folder.failures R.tries document.now s.pool s.sinks.items) }
     ensures refused { IfErr result (IsReasonFor document.now) }
 {
     match read(alloc, document) {
@@ -42,7 +42,7 @@ fn start_with<R: Files + Folders + Threads + Wait + Clock + Clone + Drop + Send 
     folder: &str,
 ) -> Result<Server<R::Folder, R::Lock>, StartError>
     ensures started { (document : List ℕ) → Reads document (Ok config.now)
-        → IfOk result (λ s. IsServerOn R.Folder.tells R.Folder.files R.Folder.failures document s.pool s.sinks.items) }
+        → IfOk result (λ s. IsServerOn R.Folder.tells R.Folder.files R.Folder.failures R.tries document s.pool s.sinks.items) }
     ensures refused { (document : List ℕ) → Reads document (Ok config.now) → IfErr result (IsReasonFor document) }
 {
     let lock = match hold_folder(rt, alloc, folder, config)? {

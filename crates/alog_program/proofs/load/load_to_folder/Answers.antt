@@ -2,8 +2,8 @@ use Rattle.alog_program.proofs.Loading.{folder_refused, no_memory}
 use Rattle.alog_program.proofs.load.load_to_folder.Goals as goal
 
 pub returns-in-Some : goal.returns-in-Some
-returns-in-Some g c = folder_refused _ _ _ c.args.config.now c.args.request.now _ _ c.in-Some.ensures
+returns-in-Some g c = folder_refused _ _ _ _ c.args.config.now c.args.request.now _ _ c.in-Some.ensures
 
 pub returns : goal.returns
 returns g c =
-    no_memory _ _ _ c.args.config.now c.args.request.now c.refuse_load.result (g.O.Write.contents c.args.output.now) c.refuse_load.ensures
+    no_memory _ _ _ _ c.args.config.now c.args.request.now c.refuse_load.result (g.O.Write.contents c.args.output.now) c.refuse_load.ensures

@@ -70,7 +70,7 @@ pub returns-in-Err-clause-loads : goal.returns-in-Err-clause-loads
 returns-in-Err-clause-loads g c =
     λ rows asks.
     refused_loads (map g.S.AsStr.text c.args.words.now) c.refuse_words.result (g.I.Read.remaining c.args.input.now)
-    (g.O.Write.contents c.args.output.now) (g.O.Write.contents c.refuse_words.new.output) _ _ _ _ _ _ c.in-Err.error c.in-Err.ensures.refused
+    (g.O.Write.contents c.args.output.now) (g.O.Write.contents c.refuse_words.new.output) _ _ _ _ _ _ _ c.in-Err.error c.in-Err.ensures.refused
     c.refuse_words.ensures.refused rows asks
 
 pub returns-in-Ok-clause-pipes : goal.returns-in-Ok-clause-pipes

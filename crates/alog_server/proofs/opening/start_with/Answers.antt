@@ -1,4 +1,6 @@
+use Rattle.std.proofs.Common.{◌≡◌, All, subst}
 use Rattle.std.proofs.lemmas.Result.{IfOk-weaker, MatchResult-weaker}
+use Rattle.alog_patient.specs.declared.patience.Patience.{Patience}
 use Rattle.alog_server.proofs.Refusing.{of_stores}
 use Rattle.alog_server.proofs.opening.start_with.Goals as goal
 
@@ -10,6 +12,8 @@ returns-clause-started g c =
       reads = reads;
       stores = c.in_ok-stores.stores.items;
       fresh = c.in_ok-stores.ensures.fresh;
+      patient = subst (λ (p : Patience). All (λ s. g.R.Folders.tries s ≡ p) c.in_ok-stores.stores.items) c.patience_of-patience.ensures
+          c.in_ok-stores.ensures.tries;
       server = h;
     }) c.holding.ensures.started
 
