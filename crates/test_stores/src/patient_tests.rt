@@ -8,6 +8,7 @@ use std::alloc::Global;
 use std::io::ErrorKind;
 use std::sync::Wait;
 use std::test::Fail;
+use std::time::Clock;
 
 /// A patience, and an append of five bytes; whether it is done, what was asked of the runtime, and what the file has then.
 type Trying<'a> = (Patience, Failing, bool, Asked, &'a [u8]);
@@ -46,15 +47,32 @@ const TRYING: [Trying<'_>; 10] = [
     ),
 ];
 
+/// Whether a store that tries again does the append of a row or not, as it says, and leaves what it says.
+fn appends<R: Wait + Clock + Eprint>(
+    store: &mut PatientStore<Flaky, &R>,
+    row: &Trying<'_>,
+) -> Result<bool, StoreError> {
+    let was_done = store.append("log", b"line\n").is_ok();
+    let is_left = are_just(&store.store.files, &[("log", row.4)])?;
+    Ok(is_left && was_done == row.2)
+}
+
+/// The same of a store of its own.
+fn appends_once<R: Wait + Clock + Eprint>(
+    rt: &R,
+    flaky: Flaky,
+    row: &Trying<'_>,
+) -> Result<bool, StoreError> {
+    let mut store = PatientStore::new(rt, flaky, row.0);
+    appends(&mut store, row)
+}
+
 /// Whether a row holds.
 fn tries<R: Wait>(rt: &R, alloc: Global, row: &Trying<'_>) -> Result<bool, StoreError> {
-    let (patience, failing, is_done, asked, left) = *row;
+    let flaky = Flaky::new(alloc, noting(MemStore::new(alloc)), row.1);
     let counting = Counting::new(rt);
-    let flaky = Flaky::new(alloc, noting(MemStore::new(alloc)), failing);
-    let mut store = PatientStore::new(&counting, flaky, patience);
-    let was_done = store.append("log", b"line\n").is_ok();
-    let is_left = are_just(&store.store.files, &[("log", left)])?;
-    Ok(is_left && was_done == is_done && counting.asked() == asked)
+    let is_right = appends_once(&counting, flaky, row)?;
+    Ok(is_right && counting.asked() == row.3)
 }
 
 #[test]
@@ -65,15 +83,27 @@ fn appends_that_are_tried_again(rt: HostRuntime) -> Result<(), Fail> {
     Ok(())
 }
 
-/// Whether each call once, of which each fails twice, is answered as it says, and leaves what it leaves, with each flush asked for.
-fn tries_each<R: Wait>(rt: &R, alloc: Global) -> Result<bool, Fail> {
-    let counting = Counting::new(rt);
-    let flaky = Flaky::new(alloc, noting(opened(alloc)?), (2, 1, FULL));
-    let mut store = PatientStore::new(&counting, flaky, Patience::Endless);
-    let are_right = answers_all(&mut store, &EACH)?;
+/// Whether a store that tries again answers each call once as it says, and leaves what that leaves, with each flush asked for.
+fn answers_each<R: Wait + Clock + Eprint>(
+    store: &mut PatientStore<Flaky, &R>,
+) -> Result<bool, StoreError> {
+    let are_right = answers_all(store, &EACH)?;
     let are_left = are_just(&store.store.files, &LEFT)?;
-    let are_flushed = store.store.flushed.as_str() == "none b ";
-    Ok(are_left && are_right && are_flushed && counting.asked() == (34, 51, 34))
+    Ok(are_left && are_right && store.store.flushed.as_str() == "none b ")
+}
+
+/// The same of a store of its own.
+fn answers_each_once<R: Wait + Clock + Eprint>(rt: &R, flaky: Flaky) -> Result<bool, StoreError> {
+    let mut store = PatientStore::new(rt, flaky, Patience::Endless);
+    answers_each(&mut store)
+}
+
+/// The same where each call fails twice before it is done, for which the runtime is asked so.
+fn tries_each<R: Wait>(rt: &R, alloc: Global) -> Result<bool, Fail> {
+    let flaky = Flaky::new(alloc, noting(opened(alloc)?), (2, 1, FULL));
+    let counting = Counting::new(rt);
+    let is_right = answers_each_once(&counting, flaky)?;
+    Ok(is_right && counting.asked() == (34, 51, 34))
 }
 
 #[test]
