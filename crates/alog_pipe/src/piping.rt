@@ -3,8 +3,9 @@ ghost use Rattle.std.specs.Prelude.{◌≡◌, ◌≤◌, ◌<◌, [], false, If
 ghost use Rattle.std.specs.Io.KnownBytes.{Keeps};
 ghost use Rattle.std.specs.List.{AllByRecursion};
 ghost use Rattle.alog_config.specs.Sinks.{is_leaf};
-ghost use Rattle.alog_pipe.specs.Pipes.{Pipes, PipesThrough};
+ghost use Rattle.alog_pipe.specs.Pipes.{Pipes, PipesThrough, overruns_of};
 ghost use Rattle.alog_pool.specs.Report.{Ends};
+ghost use Rattle.alog_registry.specs.Listed.{spec_at};
 
 use crate::counts::Counts;
 use crate::piece_log::PieceLog;
@@ -13,7 +14,9 @@ use crate::timed_read::TimedRead;
 use alog_config::{BuildError, Config};
 use alog_lines::LineCutter;
 use alog_msg::Level;
+use alog_policy::Policy;
 use alog_pool::{OpenGate, Pool, Producer, Report, StartError};
+use alog_registry::Loggers;
 use alog_server::setup_of;
 use alog_sink::Store;
 use std::alloc::{AllocError, Global};
@@ -41,7 +44,8 @@ pub struct Piped<S: Store> {
 }
 
 /// Logs each line of a reader to the logger of this number, at this level, through a pool of this configuration over these stores, and
-/// ends the pool. There are as many stores as `alog_config::leaves` tells. Where it fails nothing was read.
+/// ends the pool. Where that logger overruns the oldest and there is one worker, the log says in their place how many messages were
+/// overrun. There are as many stores as `alog_config::leaves` tells. Where it fails nothing was read.
 pub fn pipe<R, S, I>(
     rt: &R,
     alloc: Global,
@@ -62,7 +66,8 @@ where
     ensures unread { OnErr result (Keeps (I.remaining input.old) (I.remaining input.new)) }
 {
     let lines = LineCutter::new(alloc, config.text)?;
-    let setup = setup_of(alloc, config, stores, 0)?;
+    let mut setup = setup_of(alloc, config, stores, 0)?;
+    setup.tells_gaps = overruns(&setup.loggers, logger);
     let pool = match Pool::start(rt, alloc, setup, OpenGate) {
         Ok(pool) => pool,
         Err(StartError::OutOfMemory) => return Err(BuildError::OutOfMemory),
@@ -71,6 +76,16 @@ where
     match pipe_through(rt, alloc, pool, lines, input, logger, level) {
         Ok(piped) => Ok(piped),
         Err(AllocError) => Err(BuildError::OutOfMemory),
+    }
+}
+
+/// Whether the logger of this number, if there is one, overruns the oldest where there is no room.
+fn overruns(loggers: &Loggers, number: u32) -> bool
+    ensures { result ≡ overruns_of (spec_at loggers.now number) }
+{
+    match loggers.spec(number) {
+        Some(spec) => matches!(spec.policy, Policy::OverrunOldest),
+        None => false,
     }
 }
 

@@ -8,31 +8,53 @@ use Rattle.alog_msg.specs.declared.item.Item.TheVariants.{Stop}
 use Rattle.alog_pool.specs.Posted.{ArePosted, IsOverrun, tickets_of}
 use Rattle.alog_pool.specs.Producer.{ProducerView}
 use Rattle.alog_pool.specs.Report.{IsRising}
-use Rattle.test_laws.specs.Stretches.{Leaves}
 
 -- a ticket and the item under it
 abbrev pub Given : Type 0
 Given = ℕ × Item
 
+-- the second list is the first without some of its members
+abbrev pub Leaves : {A : Type 0} → List A → List A → Type 0
+Leaves [] [] = Unit {0}
+Leaves [] (y ∷ ys) = ⊥
+Leaves {A} (x ∷ xs) ys = Leaves xs ys ⊎ ((zs : List A) × (ys ≡ x ∷ zs) × Leaves xs zs)
+
 -- what stands in a list
 module _ {A : Type 0} where
-  at_cases : (x y : A) (xs : List A) → Contains (y ∷ xs) x → (y ≡ x) ⊎ Contains xs x
+  pub at_cases : (x y : A) (xs : List A) → Contains (y ∷ xs) x → (y ≡ x) ⊎ Contains xs x
   at_cases x y xs (zero, l, e) = inl e
   at_cases x y xs (suc k, l, e) = inr (k, omega (arith, l), e)
 
-  first_at : (x : A) (xs : List A) → Contains (x ∷ xs) x
+  pub first_at : (x : A) (xs : List A) → Contains (x ∷ xs) x
   first_at x xs = (0, omega arith, refl)
 
-  later_at : (x y : A) (xs : List A) → Contains xs x → Contains (y ∷ xs) x
+  pub later_at : (x y : A) (xs : List A) → Contains xs x → Contains (y ∷ xs) x
   later_at x y xs c = Contains-append_right (y ∷ []) xs x c
 
-  all_at : (P : A → Type 0) (xs : List A) (x : A) → AllByRecursion P xs → Contains xs x → P x
+  pub all_at : (P : A → Type 0) (xs : List A) (x : A) → AllByRecursion P xs → Contains xs x → P x
   all_at P [] x all c = absurd (omega (arith, c.1))
   all_at P (y ∷ xs) x all c =
       elim (at_cases x y xs c) [ inl same ↦ subst P same all.0 | inr later ↦ all_at P xs x all.1 later ]
 
-  alone_is : (x y : A) → Contains (y ∷ []) x → y ≡ x
+  pub alone_is : (x y : A) → Contains (y ∷ []) x → y ≡ x
   alone_is x y c = elim (at_cases x y [] c) [ inl same ↦ same | inr none ↦ absurd (omega (arith, none.1)) ]
+
+-- the tickets of items
+pub at_tickets : (items : List Given) (i : Given) → Contains items i → Contains (tickets_of items) i.0
+at_tickets [] i c = absurd (omega (arith, c.1))
+at_tickets (j ∷ items) i c =
+    elim (at_cases i j items c) [
+      | inl same ↦ subst (λ (k : Given). Contains (tickets_of (j ∷ items)) k.0) same (first_at j.0 (tickets_of items))
+      | inr later ↦ later_at i.0 j.0 (tickets_of items) (at_tickets items i later)
+    ]
+
+pub of_tickets : (items : List Given) (t : ℕ) → Contains (tickets_of items) t → (i : Given) × Contains items i × (i.0 ≡ t)
+of_tickets [] t c = absurd (omega (arith, c.1))
+of_tickets (j ∷ items) t c =
+    elim (at_cases t j.0 (tickets_of items) c) [
+      | inl same ↦ (j, first_at j items, same)
+      | inr later ↦ let is = of_tickets items t later in (is.0, later_at is.0 j items is.1, is.2)
+    ]
 
 -- what stands behind a ticket is above it
 above : (t : ℕ) (xs : List Given) (i : Given) → AllByRecursion (λ (u : ℕ). t < u) (tickets_of xs) → Contains xs i → t < i.0

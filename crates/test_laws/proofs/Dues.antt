@@ -1,6 +1,6 @@
 -- The turns that are due on a sink of a logger for texts of it.
 use Rattle.std.proofs.Common.{◌≡◌, ◌≢◌, ℕ, ◌+◌, ◌==◌, Bool, true, false, cond, Option, Some, List, [], ◌∷◌, ◌++◌, length, map, count_by}
-use Rattle.std.proofs.Common.{refl, sym, ap, subst, ◌∙◌, inl, inr, arith}
+use Rattle.std.proofs.Common.{refl, sym, ap, subst, ◌∙◌, arith}
 use Rattle.std.specs.List.{AllByRecursion}
 use Rattle.std.proofs.lemmas.List.{map-append}
 use Rattle.std.proofs.lemmas.List.Sums.{sum_by-cons}
@@ -20,7 +20,6 @@ use Rattle.alog_registry.specs.declared.work.SinkDeed.{SinkDeed}
 use Rattle.alog_registry.specs.declared.work.SinkDeed.TheVariants as deed
 use Rattle.alog_registry.specs.declared.work.SinkTurn.{SinkTurn}
 use Rattle.alog_sink.specs.LaneRuns.{with_text}
-use Rattle.test_laws.specs.Stretches.{Leaves}
 use Rattle.test_laws.proofs.Claims.{Given}
 
 -- a text of this logger
@@ -52,20 +51,6 @@ count_texts logger [] all = refl
 count_texts logger ((t, Text m) ∷ items) all = let rest = count_texts logger items all.1 in omega (arith, rest)
 count_texts logger ((t, Flush k) ∷ items) all = absurd all.0
 count_texts logger ((t, Stop) ∷ items) all = absurd all.0
-
--- those of items that were left
-pub texts_leave : (xs ys : List Given) → Leaves xs ys → Leaves (texts_in xs) (texts_in ys)
-texts_leave [] [] left = tt
-texts_leave [] (y ∷ ys) left = absurd left
-texts_leave ((t, Text m) ∷ xs) ys (inl left) = inl (texts_leave xs ys left)
-texts_leave ((t, Text m) ∷ xs) ys (inr left) =
-    inr (texts_in left.0, ap (λ (zs : List Given). texts_in zs) left.1, texts_leave xs left.0 left.2)
-texts_leave ((t, Flush k) ∷ xs) ys (inl left) = texts_leave xs ys left
-texts_leave ((t, Flush k) ∷ xs) ys (inr left) =
-    subst (λ (zs : List Given). Leaves (texts_in xs) (texts_in zs)) (sym left.1) (texts_leave xs left.0 left.2)
-texts_leave ((t, Stop) ∷ xs) ys (inl left) = texts_leave xs ys left
-texts_leave ((t, Stop) ∷ xs) ys (inr left) =
-    subst (λ (zs : List Given). Leaves (texts_in xs) (texts_in zs)) (sym left.1) (texts_leave xs left.0 left.2)
 
 pub texts_more : (xs ys : List Given) → texts_in (xs ++ ys) ≡ texts_in xs ++ texts_in ys
 texts_more [] ys = refl

@@ -2,6 +2,7 @@ mod LastLine
 mod Bounds
 mod Claims
 mod Dues
+mod Gaps
 mod Held
 mod OneText
 mod Posts

@@ -13,6 +13,7 @@ use Rattle.alog_msg.specs.declared.message.MessageError.{MessageError}
 use Rattle.alog_policy.specs.SwapPort.{SwapDid}
 use Rattle.alog_policy.specs.declared.policy.Outcome.TheVariants.{Posted}
 use Rattle.alog_policy.specs.declared.policy.Policy.TheVariants.{Block, OverrunOldest}
+use Rattle.alog_pool.specs.Gaps.{CountsFromFirst}
 use Rattle.alog_pool.specs.OneWorker.{HoldsMore, OneWorkerWritesInOrder, texts_in}
 use Rattle.alog_pool.specs.Pool.{Makes, PoolView, lanes_of}
 use Rattle.alog_pool.specs.Posted.{PostedLogsPutTheirTextIn}
@@ -34,8 +35,9 @@ use Rattle.alog_sink.specs.Files.{Files}
 use Rattle.alog_sink.specs.declared.sink.Sink.{Sink}
 use Rattle.test_laws.specs.Written.{EndsWith, HoldsAt}
 use Rattle.test_laws.proofs.Claims.{Given}
-use Rattle.test_laws.proofs.Dues.{IsFor, once_alone}
-use Rattle.test_laws.proofs.Held.{EndsAlone, Held, handled, texts_are, texts_held}
+use Rattle.test_laws.proofs.Dues.{once_alone}
+use Rattle.test_laws.proofs.Gaps.{IsFirsts}
+use Rattle.test_laws.proofs.Held.{EndsAlone, Held, texts_are, texts_held, written}
 use Rattle.test_laws.proofs.LastLine.{ends_with}
 
 module _ {S : Type 0} (tells : Bool) (files : S → Files) (failures : S → ℕ) where
@@ -72,10 +74,10 @@ module _ {S : Type 0} (tells : Bool) (files : S → Files) (failures : S → ℕ
     pub sinks : spec.sinks.items ≡ n ∷ []
 
   pub logged_alone : OneWorkerWritesInOrder tells files failures → PostedLogsPutTheirTextIn → {before : PoolView S} {number : ℕ} {level : Level}
-      {time : ℤ} {text : List ℕ} {r : Report S} → LoggedOnce before number level time text r → length before.crew ≡ 1 → tells ≡ true
+      {time : ℤ} {text : List ℕ} {r : Report S} → LoggedOnce before number level time text r → length before.crew ≡ 1 → tells ≡ true → CountsFromFirst before.shared
       → {n : ℕ} → WritesToOne before.shared.loggers number n → slice_get r.faults.items n ≡ Some 0
       → HoldsAt files n (lanes_of before.sink_seats) r.sinks.items (message_with number level time 0 text None)
-  logged_alone law texts {number} {level} {time} {text} {r} once single tell {n} logger none =
+  logged_alone law texts {number} {level} {time} {text} {r} once single tell counts {n} logger none =
       let s = logger.spec in
       let m : Message = message_with number level time once.made.number text None in
       let t = once.posted.0 in
@@ -91,20 +93,21 @@ module _ {S : Type 0} (tells : Bool) (files : S → Files) (failures : S → ℕ
       let crew : length once.pool.crew ≡ 1 = ap (λ (hs : List (Worker S)). length hs) once.makes.same.3 ∙ single in
       let there : spec_at once.pool.shared.loggers number ≡ Some s =
       subst (λ (v : Shared). spec_at v.loggers number ≡ Some s) (sym once.makes.same.0) logger.found in
+      let zero : once.made.number ≡ 0 = once.makes.number ∙ once.new in
       let alone : EndsAlone tells files failures number n once.pool once.last r = record {
         ends = subst (λ (ps : List ProducerView). Ends tells files failures once.pool ps r) once.all once.ends;
         single = crew;
         spec = s;
         found = there;
         once = ap (λ (is : List ℕ). count_by (λ (s : ℕ). s == n) is) logger.sinks ∙ once_alone n;
-        own = subst (λ (is : List Given). AllByRecursion (λ (i : Given). IsFor number i.1) is) (sym puts) (refl, tt);
+        firsts = subst (λ (is : List Given). AllByRecursion (λ (i : Given). IsFirsts number i.1) is) (sym puts) ((refl, zero), tt);
         told = tell;
         faultless = none;
+        counts = subst (λ (v : Shared). CountsFromFirst v) (sym once.makes.same.0) counts;
       } in
-      let all : handled tells files failures law alone ≡ m ∷ [] =
+      let all : written tells files failures law alone ≡ m ∷ [] =
       texts_are tells files failures law alone took ∙ ap (λ (is : List Given). texts_in is) puts in
       let held = subst (λ (ms : List Message). Held tells files failures n (lanes_of once.pool.sink_seats) r.sinks.items ms) all
       (texts_held tells files failures law alone) in
-      let zero : once.made.number ≡ 0 = once.makes.number ∙ once.new in
       subst (λ (v : List (LaneId (Sink S)) × ℕ). HoldsAt files n v.0 r.sinks.items (message_with number level time v.1 text None))
       (λ i. (once.makes.lanes i, zero i)) (held_at held)

@@ -2,7 +2,7 @@
 use Rattle.std.proofs.Common.{◌≡◌, ◌≢◌, ◌<◌, ◌^◌, ℕ, Bool, Option, Some, Result, Ok, Err, List, [], ◌++◌, map, length}
 use Rattle.std.proofs.Common.{◌+◌, ◌∷◌, refl, sym, ap, subst, ◌∙◌, append-nil, arith}
 use Rattle.std.proofs.KnownBytes.{Consumes-whole}
-use Rattle.std.specs.Prelude.{IfOk, IfSome, slice_get}
+use Rattle.std.specs.Prelude.{◌&&◌, ◌==◌, if◌then◌else◌, true, None, IfOk, IfSome, slice_get}
 use Rattle.std.specs.List.{AllByRecursion, flat_map}
 use Rattle.alog_config.specs.Built.{EachIs}
 use Rattle.alog_config.specs.declared.config.Config.{Config}
@@ -14,10 +14,12 @@ use Rattle.alog_lines.specs.Pieces.{Piece, pieces_of}
 use Rattle.alog_msg.specs.declared.item.Item.{Item}
 use Rattle.alog_msg.specs.declared.level.Level.{Level}
 use Rattle.alog_msg.specs.declared.message.Message.{Message}
-use Rattle.alog_pipe.specs.Pipes.{Pipes}
+use Rattle.alog_pipe.specs.Pipes.{Pipes, for_pipe, overruns, overruns_of}
 use Rattle.alog_pipe.specs.declared.piping.Piped.{Piped}
 use Rattle.alog_policy.specs.declared.policy.Policy.{Policy}
 use Rattle.alog_policy.specs.declared.policy.Policy.TheVariants.{Block, DiscardNew, OverrunOldest}
+use Rattle.alog_pool.proofs.SharedGaps.{starts_counting}
+use Rattle.alog_pool.specs.Gaps.{CountsFromFirst, told_from}
 use Rattle.alog_pool.specs.OneWorker.{OneWorkerWritesInOrder, texts_in}
 use Rattle.alog_pool.specs.Pool.{lanes_of}
 use Rattle.alog_pool.specs.declared.shared.Shared.{Shared}
@@ -29,12 +31,12 @@ use Rattle.alog_registry.specs.declared.logger.Spec.{Spec}
 use Rattle.alog_sink.specs.Files.{Files}
 use Rattle.alog_sink.specs.declared.sink.Sink.{Sink}
 use Rattle.test_laws.specs.PipedLines.{FlowsTo, HoldsPieces, IsOf, KeepsAll, LosesNone, OverrunsNone}
-use Rattle.test_laws.specs.Stretches.{AreTold, Holds, HoldsKept, HoldsStretches, Leaves, below_in, missing_in, pieces_of_stretch}
+use Rattle.test_laws.specs.Stretches.{AreTold, Holds, HoldsKept, HoldsStretches, TellsLost, below_in, missing_in, pieces_of_stretch}
 use Rattle.test_laws.proofs.Answered.{puts_of}
 use Rattle.test_laws.proofs.Bounds.{none_overrun, took_none}
 use Rattle.test_laws.proofs.Claims.{Given}
-use Rattle.test_laws.proofs.Dues.{IsFor}
-use Rattle.test_laws.proofs.Held.{EndsAlone, Held, handled, texts_are, texts_held, texts_left, texts_lost}
+use Rattle.test_laws.proofs.Gaps.{IsFirsts, all_kept, firsts_of, tells_firsts}
+use Rattle.test_laws.proofs.Held.{EndsAlone, Held, texts_are, texts_held, texts_kept, written}
 use Rattle.test_laws.proofs.Opening.{Fills, at_map, stands_on}
 use Rattle.test_laws.proofs.Overruns.{IsWith, finish_spares, pieces_spare, takes_by_now}
 use Rattle.test_laws.proofs.PieceLogs.{PieceLog}
@@ -139,23 +141,26 @@ module _ {S : Type 0} (tells : Bool) (files : S → Files) (failures : S → ℕ
       spec = f.spec;
       found = subst (λ (ls : List Logger). spec_at ls logger ≡ Some f.spec) (sym loggers_are) f.found;
       once = f.once;
-      own = subst (λ (is : List Given). AllByRecursion (λ (i : Given). IsFor logger i.1) is) (sym puts_are) goes.own;
+      firsts = subst (λ (is : List Given). AllByRecursion (λ (i : Given). IsFirsts logger i.1) is) (sym puts_are)
+          (firsts_of logger goes.puts goes.own (tells_firsts logger level goes.stretches (texts_in goes.puts) goes.tells));
       told = f.told;
       faultless = f.faultless;
+      counts = subst (λ (v : Shared). CountsFromFirst v) (sym h.through.makes.same.0)
+          (starts_counting (for_pipe logger h.setup) h.start h.starts);
     }
 
     module _ (law : OneWorkerWritesInOrder tells files failures) where
-      abbrev written : List Message
-      written = handled tells files failures law alone
+      abbrev wrote : List Message
+      wrote = written tells files failures law alone
 
-      held : Held tells files failures n (lanes_of h.through.pool.sink_seats) p.report.sinks.items written
+      held : Held tells files failures n (lanes_of h.through.pool.sink_seats) p.report.sinks.items wrote
       held = texts_held tells files failures law alone
 
       old_is : slice_get h.setup.sinks.items n ≡ Some held.lane.first
       old_is = subst (λ (ss : List (Sink S)). slice_get ss n ≡ Some held.lane.first) sinks_are
           (at_map (λ (l : LaneId (Sink S)). l.first) (lanes_of h.through.pool.sink_seats) n held.lane held.lane_is)
 
-      fills : Fills tells files failures stores written held.sink
+      fills : Fills tells files failures stores wrote held.sink
       fills = record {
         config = c;
         loggers = h.setup.loggers;
@@ -168,7 +173,7 @@ module _ {S : Type 0} (tells : Bool) (files : S → Files) (failures : S → ℕ
         holds = held.holds;
       }
 
-      sink_holds : Holds files n stores h.setup.sinks.items p.report.sinks.items written
+      sink_holds : Holds files n stores h.setup.sinks.items p.report.sinks.items wrote
       sink_holds = record {
         old = held.lane.first;
         new = held.sink;
@@ -189,15 +194,38 @@ module _ {S : Type 0} (tells : Bool) (files : S → Files) (failures : S → ℕ
         told = goes.tells;
       }
 
+      -- the pool tells gaps where its logger overruns the oldest
+      gaps_are : f.spec.policy ≡ OverrunOldest → h.through.pool.shared.gaps ≡ Some h.through.pool.shared.ring.ring.first
+      gaps_are over =
+          let one : h.setup.workers ≡ 1 = h.given.workers ∙ f.alone in
+          let told : overruns_of (spec_at h.setup.loggers logger) ≡ true =
+          ap (λ (o : Option Spec). overruns_of o) f.found ∙ ap (λ (q : Policy). overruns q) over in
+          let from : told_from (for_pipe logger h.setup) ≡ Some h.setup.first =
+          (λ i. if told i && (one i == 1) then Some h.setup.first else None) in
+          let start : h.start.shared.gaps ≡ Some h.start.shared.ring.ring.first =
+          h.starts.gaps ∙ from ∙ ap (λ n. Some n) (sym h.starts.queue.1) in
+          subst (λ (v : Shared). v.gaps ≡ Some v.ring.ring.first) (sym h.through.makes.same.0) start
+
+      over_gaps : f.spec.policy ≡ OverrunOldest → TellsLost logger (texts_in goes.puts) wrote p.report.totals.overrun
+      over_gaps over =
+          subst (λ (is : List Given). TellsLost logger (texts_in is) wrote p.report.totals.overrun) puts_are
+          (texts_kept tells files failures law alone (gaps_are over))
+
+      all_there : takes h.through.log.producer.pass.known.own ≡ [] → TellsLost logger (texts_in goes.puts) wrote p.report.totals.overrun
+      all_there took =
+          let same : wrote ≡ texts_in goes.puts =
+          texts_are tells files failures law alone took ∙ ap (λ (is : List Given). texts_in is) puts_are in
+          let none : p.report.totals.overrun ≡ 0 = none_overrun tells files failures h.through.ends took in
+          subst (λ (v : List Message × ℕ). TellsLost logger (texts_in goes.puts) v.0 v.1) (λ i. (sym same i, sym none i))
+          (all_kept logger (texts_in goes.puts))
+
       pub lines_kept : HoldsKept files logger level n stores h.setup.sinks.items p.report.sinks.items c.text bytes p.missing p.below
           h.through.log.hole p.report.totals.overrun
       lines_kept = record {
         posted = texts_in goes.puts;
         are = are_told;
-        messages = written;
-        left = subst (λ (is : List Given). Leaves (texts_in is) written) puts_are (texts_left tells files failures law alone);
-        lost = subst (λ (is : List Given). length (texts_in is) ≡ length written + p.report.totals.overrun) puts_are
-            (texts_lost tells files failures law alone);
+        messages = wrote;
+        kept = by_policy f.spec.policy over_gaps (λ never. all_there (took_nothing f.spec f.found never));
         held = sink_holds;
       }
 
@@ -205,19 +233,19 @@ module _ {S : Type 0} (tells : Bool) (files : S → Files) (failures : S → ℕ
         took : takes h.through.log.producer.pass.known.own ≡ []
         took = by_policy f.spec.policy (λ over. took_none tells files failures h.through.ends (keeps over)) (took_nothing f.spec f.found)
 
-        written_is : written ≡ texts_in goes.puts
+        written_is : wrote ≡ texts_in goes.puts
         written_is = texts_are tells files failures law alone took ∙ ap (λ (is : List Given). texts_in is) puts_are
 
         pub lines_told : HoldsStretches files logger level n stores h.setup.sinks.items p.report.sinks.items c.text bytes p.missing p.below
             h.through.log.hole
         lines_told = record {
-          messages = written;
+          messages = wrote;
           are = subst (λ (ms : List Message). AreTold logger level c.text bytes p.missing p.below h.through.log.hole ms) (sym written_is) are_told;
           held = sink_holds;
         }
 
         module _ (none : LosesNone p) where
-          each : EachIs (IsOf logger level) (pieces_of c.text bytes) written
+          each : EachIs (IsOf logger level) (pieces_of c.text bytes) wrote
           each =
               let missing = missing_are in
               let below = below_are in
@@ -232,7 +260,7 @@ module _ {S : Type 0} (tells : Bool) (files : S → Files) (failures : S → ℕ
           pub lines_held : ShortLinesAreWhole
               → HoldsPieces files logger level n stores h.setup.sinks.items p.report.sinks.items c.text bytes
           lines_held whole = record {
-            messages = written;
+            messages = wrote;
             each = each;
             old = held.lane.first;
             new = held.sink;

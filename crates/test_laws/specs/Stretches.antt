@@ -73,11 +73,14 @@ pub record AreTold (logger : ℕ) (level : Level) (limit : ℕ) (bytes : List �
   pub untold_are : untold ≡ length rest
   pub told : Tells logger level stretches messages
 
--- the second list is the first without some of its members
-abbrev pub Leaves : {A : Type 0} → List A → List A → Type 0
-Leaves [] [] = Unit {0}
-Leaves [] (y ∷ ys) = ⊥
-Leaves {A} (x ∷ xs) ys = Leaves xs ys ⊎ ((zs : List A) × (ys ≡ x ∷ zs) × Leaves xs zs)
+-- The second list are these messages, in their order, but for so many that are missing. In place of missing ones that follow each other it
+-- has a message that says how many; of those at the end it may have none.
+abbrev pub TellsLost : ℕ → List Message → List Message → ℕ → Type 0
+TellsLost logger posted [] n = length posted ≡ n
+TellsLost logger posted (m ∷ ms) n =
+    ((rest : List Message) × (posted ≡ m ∷ rest) × TellsLost logger rest ms n)
+    ⊎ ((lost : List Message) × (rest : List Message) × (others : ℕ) × (posted ≡ lost ++ rest) × (0 < length lost)
+    × SaysMissing logger (length lost) m × TellsLost logger rest ms others × (length lost + others ≡ n))
 
 module _ {S : Type 0} (files : S → Files) where
   -- Of these sinks that of this number holds, behind what it held at first, these messages. If it is no fan it stands for them over one of
@@ -97,12 +100,11 @@ module _ {S : Type 0} (files : S → Files) where
     pub are : AreTold logger level limit bytes missing below untold messages
     pub held : Holds n stores first last messages
 
-  -- It holds such messages but for some, in their order: it lacks as many as were overrun.
+  -- It holds such messages but for as many as were overrun, in their order, and says in their place how many they are.
   pub record HoldsKept (logger : ℕ) (level : Level) (n : ℕ) (stores : List S) (first last : List (Sink S)) (limit : ℕ) (bytes : List ℕ)
       (missing below untold overrun : ℕ) : Type 0 where
     pub posted : List Message
     pub are : AreTold logger level limit bytes missing below untold posted
     pub messages : List Message
-    pub left : Leaves posted messages
-    pub lost : length posted ≡ length messages + overrun
+    pub kept : TellsLost logger posted messages overrun
     pub held : Holds n stores first last messages

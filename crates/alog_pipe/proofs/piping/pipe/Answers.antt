@@ -1,9 +1,11 @@
+use Rattle.std.specs.Prelude.{Bool}
 use Rattle.std.proofs.Common.{List, length, ap, subst, ◌∙◌, arith}
 use Rattle.alog_lines.specs.Cutting.{Cutting}
 use Rattle.alog_config.specs.Built.{IsLoggerOf}
 use Rattle.alog_config.proofs.SharedPicking.{each_is_long}
 use Rattle.alog_pipe.proofs.piping.pipe.Goals as goal
 use Rattle.alog_pipe.specs.Pipes.{PipesThrough}
+use Rattle.alog_pool.specs.Pool.{Starts}
 use Rattle.alog_registry.specs.declared.logger.Logger.{Logger}
 
 pub pipe_through-requires-clause-ready : goal.pipe_through-requires-clause-ready
@@ -25,7 +27,8 @@ returns-in-Ok-pipe_through-clause-piped g c =
       setup = c.in_ok-setup.setup;
       given = c.in_ok-setup.ensures.given;
       start = c.in-Ok.pool;
-      starts = c.in-Ok.ensures.started;
+      starts = subst (λ (tells : Bool). Starts (record c.in_ok-setup.setup { tells_gaps = tells }) c.in-Ok.pool)
+          c.overruns.ensures c.in-Ok.ensures.started;
       through = subst (λ n. PipesThrough g.S.Store.tells g.S.Store.files g.S.Store.failures n c.in-Ok.pool c.args.logger c.args.level
           (g.I.Read.remaining c.args.input.now) (g.I.Read.remaining c.pipe_through.new.input) c.in-Ok-pipe_through.piped) limit c.in-Ok-pipe_through.ensures.piped;
     }
