@@ -122,6 +122,32 @@ fn reply_of(told: Told) -> LogReply {
     }
 }
 
+/// The producer of this number posts so many flushes with waiting, under the tickets from 0 on.
+fn flushes_waiting(
+    rt: &(impl Abort + Wait + Clock),
+    trial: &mut Trial<Files>,
+    producer: usize,
+    count: u64,
+) {
+    for ticket in 0..count {
+        trial.flush_wait(rt, producer, ticket);
+    }
+}
+
+/// The producer of this number logs `a` to the first logger and `b` to the second, so many times.
+fn logs_to_both(
+    rt: &(impl Abort + Wait + Clock),
+    alloc: Global,
+    trial: &mut Trial<Files>,
+    producer: usize,
+    times: usize,
+) {
+    for _ in 0..times {
+        trial.log(rt, alloc, producer, 0, "a");
+        trial.log(rt, alloc, producer, 1, "b");
+    }
+}
+
 /// A producer does so.
 fn does(rt: &(impl Abort + Wait + Clock), alloc: Global, trial: &mut Trial<Files>, deed: Deed<'_>) {
     match deed {
@@ -135,17 +161,8 @@ fn does(rt: &(impl Abort + Wait + Clock), alloc: Global, trial: &mut Trial<Files
         }
         Deed::Dumps(producer, posts) => trial.dump(rt, alloc, producer, posts),
         Deed::Flushes(producer, ticket) => trial.flush(rt, producer, ticket),
-        Deed::FlushesWaiting(producer, count) => {
-            for ticket in 0..count {
-                trial.flush_wait(rt, producer, ticket);
-            }
-        }
-        Deed::LogsToBoth(producer, times) => {
-            for _ in 0..times {
-                trial.log(rt, alloc, producer, 0, "a");
-                trial.log(rt, alloc, producer, 1, "b");
-            }
-        }
+        Deed::FlushesWaiting(producer, count) => flushes_waiting(rt, trial, producer, count),
+        Deed::LogsToBoth(producer, times) => logs_to_both(rt, alloc, trial, producer, times),
         Deed::Sets(Some(producer), level) => sets(rt, trial.loggers(rt, producer), level),
         Deed::Sets(None, level) => sets(rt, trial.pool.loggers(), level),
     }

@@ -196,6 +196,55 @@ fn made<S: Store + Drop + Send + 'static>(
     all
 }
 
+/// This producer logs this text, of this level, to this logger. Where memory was wanting, it logs it again.
+fn log_again(
+    rt: &(impl Abort + Wait + Clock),
+    alloc: Global,
+    producer: &mut Producer,
+    logger: u32,
+    level: Level,
+    text: &str,
+) -> Result<LogReply, MessageError>
+    ensures { producer.new.shared ≡ producer.old.shared }
+{
+    assert!(rt; (logger as usize) < producer.loggers().len());
+    match producer.log(rt, alloc, logger, level, 0, text, None) {
+        Err(MessageError::OutOfMemory) => producer.log(rt, alloc, logger, level, 0, text, None),
+        answer => answer,
+    }
+}
+
+/// By how many posts this producer dumps the backtrace of the first logger. Where memory was wanting, it dumps it again.
+fn dump_again(rt: &(impl Abort + Wait + Clock), alloc: Global, producer: &mut Producer) -> usize
+    ensures { producer.new.shared ≡ producer.old.shared }
+{
+    assert!(rt; producer.loggers().len() > 0);
+    let answer = match producer.dump_backtrace(rt, alloc, 0, 0) {
+        Err(_) => producer.dump_backtrace(rt, alloc, 0, 0),
+        answer => answer,
+    };
+    match answer {
+        Ok(outcomes) => outcomes.len(),
+        Err(_) => panic!(rt; "no memory"),
+    }
+}
+
+/// A pool of which a producer is out does not end: it comes back as it was, with the others.
+fn kept<S: Store + Drop + Send + 'static>(
+    rt: &(impl Abort + Threads + Wait + Clock),
+    pool: Pool<S>,
+    producers: Vec<Producer>,
+) -> ProducersOut<S>
+    requires { AllByRecursion (λ p. p.shared ≡ pool.shared) producers.items }
+    ensures pool { result.pool ≡ pool }
+    ensures producers { result.producers ≡ producers }
+{
+    match pool.shutdown(rt, producers) {
+        Ok(_) => panic!(rt; "a producer is out"),
+        Err(out) => out,
+    }
+}
+
 impl<S: Store + Drop + Send + 'static> Trial<S> {
     /// Starts a pool of this setup, and makes so many producers.
     pub fn start<
@@ -239,14 +288,7 @@ impl<S: Store + Drop + Send + 'static> Trial<S> {
     ) -> LogReply {
         assert!(rt; number < self.producers.len());
         let producer = &mut self.producers[number];
-        assert!(rt; (logger as usize) < producer.loggers().len());
-        let answer = match producer.log(rt, alloc, logger, level, 0, text, None) {
-            Err(MessageError::OutOfMemory) => {
-                producer.log(rt, alloc, logger, level, 0, text, None)
-            }
-            answer => answer,
-        };
-        match answer {
+        match log_again(rt, alloc, producer, logger, level, text) {
             Ok(reply) => reply,
             Err(_) => panic!(rt; "no memory"),
         }
@@ -340,15 +382,7 @@ impl<S: Store + Drop + Send + 'static> Trial<S> {
     ) {
         assert!(rt; number < self.producers.len());
         let producer = &mut self.producers[number];
-        assert!(rt; producer.loggers().len() > 0);
-        let answer = match producer.dump_backtrace(rt, alloc, 0, 0) {
-            Err(_) => producer.dump_backtrace(rt, alloc, 0, 0),
-            answer => answer,
-        };
-        match answer {
-            Ok(outcomes) => assert!(rt; outcomes.len() == posts),
-            Err(_) => panic!(rt; "no memory"),
-        }
+        assert!(rt; dump_again(rt, alloc, producer) == posts);
     }
 
     /// The loggers, as the producer of this number lends them.
@@ -378,14 +412,12 @@ impl<S: Store + Drop + Send + 'static> Trial<S> {
             panic!(rt; "no producer")
         };
         let others = producers.len();
-        let Err(out) = pool.shutdown(rt, producers) else {
-            panic!(rt; "a producer is out")
-        };
+        assert!(rt; late.number() == others as u64);
         let ProducersOut {
             pool,
             mut producers,
-        } = out;
-        assert!(rt; producers.len() == others && late.number() == others as u64);
+        } = kept(rt, pool, producers);
+        assert!(rt; producers.len() == others);
         add(rt, &mut producers, late);
         Trial { pool, producers }.end(rt)
     }
