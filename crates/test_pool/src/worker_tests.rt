@@ -19,8 +19,9 @@ use alog_ring::SwapRing;
 use alog_sink::MemStore;
 use std::alloc::Global;
 use std::process::Abort;
-use std::sync::Arc;
+use std::sync::{Arc, Wait};
 use std::test::Fail;
+use std::time::Clock;
 
 // A block for texts of the limit.
 fn block(rt: &impl Abort, alloc: Global) -> Block
@@ -161,15 +162,53 @@ fn has_handled(rt: &impl Abort, handled: u64, tickets: &[u64]) {
     assert!(rt; handled == 1 && tickets == [0].as_slice());
 }
 
+// The same, of a pool with one logger.
+fn shared_of(rt: &impl Abort, alloc: Global, ring: Queue) -> Result<Arc<Shared>, Fail>
+    ensures { IfOk result (λ s. (arc_value s).ring ≡ ring) }
+{
+    let loggers = loggers(alloc, PLAIN, &[&[0]])?;
+    Ok(shared(rt, alloc, ring, loggers))
+}
+
+// A worker of this pool ends when it handled the first item alone.
+fn works(
+    rt: &(impl Abort + Wait + Clock),
+    alloc: Global,
+    shared: &Arc<Shared>,
+    pass: QueuePass,
+) -> Result<(), Fail>
+    requires ring { IsPassOf (arc_value shared.now).ring.ring pass }
+    requires limit { (arc_value shared.now).ring.ring.limit ≡ record { most = TEXT_LIMIT } }
+    requires fresh { IsFresh pass.known }
+{
+    let same = Arc::try_clone(shared)?;
+    let worker = worker(rt, alloc, same, pass)?.work(rt, &OpenGate);
+    has_handled(rt, worker.handled, worker.tickets.as_slice());
+    Ok(())
+}
+
+// It does, and the text behind its stop is left to another pass.
+fn ends(
+    rt: &(impl Abort + Wait + Clock),
+    alloc: Global,
+    shared: Arc<Shared>,
+    pass: QueuePass,
+    mut other: QueuePass,
+) -> Result<(), Fail>
+    requires ring { IsPassOf (arc_value shared).ring.ring pass }
+    requires limit { (arc_value shared).ring.ring.limit ≡ record { most = TEXT_LIMIT } }
+    requires fresh { IsFresh pass.known }
+    requires other { IsPassOf (arc_value shared).ring.ring other }
+{
+    works(rt, alloc, &shared, pass)?;
+    let mut spare = block(rt, alloc);
+    has_the_last(rt, &shared.ring, &mut other, &mut spare);
+    Ok(())
+}
+
 #[test]
 fn a_worker_ends_at_its_stop(rt: HostRuntime) -> Result<(), Fail> {
-    let alloc = rt.alloc();
-    let (ring, pass, mut other) = queue(&rt, alloc)?;
-    let mut spare = block(&rt, alloc);
-    let shared = shared(&rt, alloc, ring, loggers(alloc, PLAIN, &[&[0]])?);
-    let same = Arc::try_clone(&shared)?;
-    let worker = worker(&rt, alloc, shared, pass)?.work(&rt, &OpenGate);
-    has_handled(&rt, worker.handled, worker.tickets.as_slice());
-    has_the_last(&rt, &same.ring, &mut other, &mut spare);
-    Ok(())
+    let (ring, pass, other) = queue(&rt, rt.alloc())?;
+    let shared = shared_of(&rt, rt.alloc(), ring)?;
+    ends(&rt, rt.alloc(), shared, pass, other)
 }
