@@ -33,7 +33,7 @@ ready_on {limit} old new h logger same =
     let loggers : length new.producer.shared.loggers ≡ length old.producer.shared.loggers =
     ap (λ (s : Shared). length s.loggers) same.shared in
     let most = same.limit in
-    (omega (arith, h.0, logger, loggers), omega (arith, h.1, most))
+    ((omega (arith, h.0.0, logger, loggers), omega (arith, h.0.1, most)), omega (arith, h.1, most))
 
 -- a piece that was answered
 pub found_of : (time : ℤ) (text : List ℕ) (log : PieceLog) (p : ProducerView) (answer : LogReply) (f : Fate) → f ≡ fate_of answer

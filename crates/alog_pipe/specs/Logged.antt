@@ -1,8 +1,8 @@
 -- What becomes of pieces of lines that are logged, and what says that some are missing.
-use Rattle.std.specs.Prelude.{◌≡◌, ◌≢◌, ◌⊎◌, ◌+◌, ◌-◌, ◌^◌, ◌%◌, ◌≤◌, ◌<◌, ℕ, ℤ, List, ◌++◌, length, None, Some, codes, min}
-use Rattle.std.specs.Fmt.{decimal}
+use Rattle.std.specs.Prelude.{◌≡◌, ◌≢◌, ◌⊎◌, ◌+◌, ◌-◌, ◌^◌, ◌%◌, ◌≤◌, ◌<◌, ℕ, ℤ, List, length, None, Some, min}
 use Rattle.alog_msg.specs.declared.level.Level.{Level}
 use Rattle.alog_msg.specs.declared.level.Level.TheVariants.{Warning}
+use Rattle.alog_msg.specs.declared.limits.TheConstants.{TEXT_LIMIT_MIN}
 use Rattle.alog_pipe.specs.declared.piece_log.Fate.{Fate}
 use Rattle.alog_pipe.specs.declared.piece_log.Fate.TheVariants as fate
 use Rattle.alog_pipe.specs.declared.piece_log.PieceLog.{PieceLog}
@@ -10,6 +10,7 @@ use Rattle.alog_pipe.specs.declared.piece_log.Told.{Told}
 use Rattle.alog_pipe.specs.declared.piece_log.Told.TheVariants as told
 use Rattle.alog_policy.specs.SwapPort.{SwapDid}
 use Rattle.alog_policy.specs.declared.policy.Outcome.TheVariants.{Posted, Discarded}
+use Rattle.alog_pool.specs.Gaps.{gap_text}
 use Rattle.alog_pool.specs.Producer.{ProducerView, IsSame, Lent}
 use Rattle.alog_registry.specs.Given.{message_with}
 use Rattle.alog_registry.specs.LaneKeeper.{KeepsByTurn, NeverPasses}
@@ -39,14 +40,13 @@ abbrev pub Brings : ℕ → Level → ℤ → List ℕ → Fate → ProducerView
 Brings logger level time text fate old new =
     (answer : LogReply) × LogsText logger level time text answer old new × (fate_of answer ≡ fate)
 
--- nothing was logged: the logger keeps copies for a backtrace, and there was no memory for one
-abbrev pub LacksMemory : ℕ → ProducerView → ProducerView → Type 0
-LacksMemory logger old new =
-    (new ≡ old) × ((spec : Spec) × (spec_at old.shared.loggers logger ≡ Some spec) × (spec.backtrace ≢ 0))
+-- the logger keeps copies for a backtrace
+abbrev pub KeepsCopies : ℕ → ProducerView → Type 0
+KeepsCopies logger p = (spec : Spec) × (spec_at p.shared.loggers logger ≡ Some spec) × (spec.backtrace ≢ 0)
 
--- the line that says that so many are missing
-abbrev pub hole_text : ℕ → List ℕ
-hole_text n = decimal n ++ codes " lines are missing here"
+-- nothing was logged, since there was no memory for such a copy
+abbrev pub LacksMemory : ℕ → ProducerView → ProducerView → Type 0
+LacksMemory logger old new = (new ≡ old) × KeepsCopies logger old
 
 -- with its producer as it is now; where besides all is said that is missing; where one more is missing; where one more is below the level
 abbrev pub by : ProducerView → PieceLog → PieceLog
@@ -61,9 +61,13 @@ missed_by p log = record log { producer = p; hole = min (log.hole + 1) (2 ^ 64 -
 abbrev pub below_by : ProducerView → PieceLog → PieceLog
 below_by p log = record log { producer = p; below = (log.below + 1) % 2 ^ 64 }
 
--- the logger is one of the producer's, which takes texts of so many bytes
+-- the logger is one of the producer's, which takes any line that says how many are missing
+abbrev pub CanSay : PieceLog → Type 0
+CanSay log = (log.logger < length log.producer.shared.loggers) × (TEXT_LIMIT_MIN ≤ log.producer.limit)
+
+-- and which takes texts of so many bytes
 abbrev pub IsReady : ℕ → PieceLog → Type 0
-IsReady limit log = (log.logger < length log.producer.shared.loggers) × (limit ≤ log.producer.limit)
+IsReady limit log = CanSay log × (limit ≤ log.producer.limit)
 
 -- a piece was logged: it was posted; it is below the level that the logger had; it is missing
 abbrev pub PostsPiece : ℤ → List ℕ → PieceLog → ProducerView → Type 0
@@ -78,18 +82,18 @@ LosesPiece time text log p = Brings log.logger log.level time text fate.Missing 
 -- the line that says how many are missing was logged, and it is kept, since it was posted or is below the level; there was no room for it
 abbrev pub TellsHole : ℤ → PieceLog → ProducerView → Type 0
 TellsHole time log p =
-    Brings log.logger Warning time (hole_text log.hole) fate.Posted log.producer p
-    ⊎ Brings log.logger Warning time (hole_text log.hole) fate.Below log.producer p
+    Brings log.logger Warning time (gap_text log.hole) fate.Posted log.producer p
+    ⊎ Brings log.logger Warning time (gap_text log.hole) fate.Below log.producer p
 
 abbrev pub HasNoRoom : ℤ → PieceLog → ProducerView → Type 0
-HasNoRoom time log p = Brings log.logger Warning time (hole_text log.hole) fate.Missing log.producer p
+HasNoRoom time log p = Brings log.logger Warning time (gap_text log.hole) fate.Missing log.producer p
 
 -- what was done for that line
 abbrev pub Tells : ℤ → Told → PieceLog → PieceLog → Type 0
 Tells time told.All old new =
     ((old.hole ≡ 0) × (new ≡ old)) ⊎ ((0 < old.hole) × TellsHole time old new.producer × (new ≡ told_by new.producer old))
 Tells time told.NoRoom old new = (0 < old.hole) × HasNoRoom time old new.producer × (new ≡ by new.producer old)
-Tells time told.NoMemory old new = (0 < old.hole) × (new ≡ old)
+Tells time told.NoMemory old new = (0 < old.hole) × KeepsCopies old.logger old.producer × (new ≡ old)
 
 -- what was done for a piece where all is said that is missing before it
 abbrev pub LogsFound : ℤ → List ℕ → Fate → PieceLog → PieceLog → Type 0

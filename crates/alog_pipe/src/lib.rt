@@ -7,7 +7,8 @@
 //!
 //! Under `block` a piece waits for room. Under the other policies none does; a piece that is refused is counted, and as soon as there is
 //! room, before the next one is posted, a line at level warning says how many are missing there. Meanwhile reads do not wait for ever
-//! (`TimedRead`), and where nothing comes that line is tried again. What `overrun_oldest` took out of the queue is in the report alone.
+//! (`TimedRead`), and where nothing comes that line is tried again. What `overrun_oldest` takes out of the queue the worker tells, if there is one alone,
+//! in front of the next line that is there.
 //!
 //! `specs/Piped.antt` says what was logged of what the reader gave, `specs/Logged.antt` what becomes of each piece, `specs/Aside.antt` what is
 //! known of a reader that a thread reads at times.

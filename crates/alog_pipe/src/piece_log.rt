@@ -1,12 +1,12 @@
 //! What a pipe logs with.
 ghost use Rattle.std.specs.Prelude.{◌≡◌, length};
-ghost use Rattle.alog_pipe.specs.Logged.{IsReady, LogsFound, LogsPiece, Tells, below_by, fate_of, missed_by};
+ghost use Rattle.alog_pipe.specs.Logged.{CanSay, IsReady, LogsFound, LogsPiece, Tells, below_by, fate_of, missed_by};
 ghost use Rattle.alog_pipe.specs.Piped.{Finishes};
 ghost use Rattle.alog_pool.specs.Producer.{IsSame};
 
 use alog_msg::Level;
 use alog_policy::Outcome;
-use alog_pool::Producer;
+use alog_pool::{Producer, gap_text};
 use alog_registry::LogReply;
 use std::alloc::Global;
 use std::sync::Wait;
@@ -32,7 +32,7 @@ pub(crate) enum Told {
     All,
     /// There was no room in the queue for the line that says it.
     NoRoom,
-    /// There was no memory for it.
+    /// The logger keeps copies for a backtrace, and there was no memory for one.
     NoMemory,
 }
 
@@ -67,9 +67,9 @@ impl PieceLog {
         }
     }
 
-    /// Waits until the log says what is missing, unless there is no memory to say it.
+    /// Waits until the log says what is missing, unless the logger keeps copies and there is no memory for one.
     pub(crate) fn finish<R: Wait + Clock>(&mut self, rt: &R, alloc: Global, time: i64)
-        requires { IsReady 0 self.old }
+        requires { CanSay self.old }
         ensures finished { Finishes time self.old self.new }
         ensures same { IsSame self.old.producer self.new.producer }
     {
@@ -113,9 +113,9 @@ impl PieceLog {
         }
     }
 
-    /// Logs the line that says how many pieces are missing, where some are.
+    /// Logs the line that says how many pieces are missing, where some are. Memory is taken for its copy alone, where the logger keeps copies.
     pub(crate) fn tell_hole<R: Wait + Clock>(&mut self, rt: &R, alloc: Global, time: i64) -> Told
-        requires { IsReady 0 self.old }
+        requires { CanSay self.old }
         ensures tells { Tells time result self.old self.new }
         ensures same { IsSame self.old.producer self.new.producer }
     {
@@ -123,9 +123,7 @@ impl PieceLog {
         if number == 0 {
             return Told::All;
         }
-        let Ok(text) = format!(in alloc; "{number} lines are missing here") else {
-            return Told::NoMemory;
-        };
+        let text = gap_text(number);
         let (logger, level) = (self.logger, Level::Warning);
         match self
             .producer

@@ -3,6 +3,7 @@ ghost use Rattle.std.specs.Prelude.{◌≡◌, ◌≤◌, ◌<◌, [], false, If
 ghost use Rattle.std.specs.Io.KnownBytes.{Keeps};
 ghost use Rattle.std.specs.List.{AllByRecursion};
 ghost use Rattle.alog_config.specs.Sinks.{is_leaf};
+ghost use Rattle.alog_msg.specs.declared.limits.TheConstants.{TEXT_LIMIT_MIN};
 ghost use Rattle.alog_pipe.specs.Pipes.{Pipes, PipesThrough, overruns_of};
 ghost use Rattle.alog_pool.specs.Report.{Ends};
 ghost use Rattle.alog_registry.specs.Listed.{spec_at};
@@ -33,8 +34,8 @@ pub struct Piped<S: Store> {
     pub counts: Counts,
     /// How many pieces of lines are missing, modulo 2^64: their posts were discarded, or there was no memory for their copies, or the
     /// line that says what is missing before them was not kept, and then they were not posted. Such a line is posted as soon as there is
-    /// room, before the next piece, or at the end, unless there is no memory to write it; where it is below the level of the logger or of
-    /// a sink, no file has it.
+    /// room, before the next piece, or at the end, unless there is no memory for its copy, where the logger keeps copies; where it is below
+    /// the level of the logger or of a sink, no file has it.
     pub missing: u64,
     /// How many pieces were below the level that the logger had when they were logged, modulo 2^64: they were not posted, and are not
     /// missing. Lines that say what is missing are none of them.
@@ -100,7 +101,7 @@ fn pipe_through<R: Threads + Wait + Clock, S: Store + Drop + Send + 'static, I: 
     level: Level,
 ) -> Result<Piped<S>, AllocError>
     requires none { pool.made ≡ 0 }
-    requires ready { (logger < length pool.shared.loggers) × (lines.limit ≤ pool.limit) }
+    requires ready { (logger < length pool.shared.loggers) × (TEXT_LIMIT_MIN ≤ pool.limit) × (lines.limit ≤ pool.limit) }
     requires fresh { (lines.pending ≡ []) × (lines.ended ≡ false) }
     ensures piped { IfOk result (λ p. PipesThrough S.tells S.files S.failures lines.limit pool logger level (I.remaining input.old)
         (I.remaining input.new) p) }

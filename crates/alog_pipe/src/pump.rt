@@ -1,7 +1,7 @@
 //! A pipe while it runs.
 ghost use Rattle.std.specs.Prelude.{◌≡◌, [], false, is_none, IfOk, OnErr};
 ghost use Rattle.alog_lines.specs.Cutting.{Brings, Reads};
-ghost use Rattle.alog_pipe.specs.Logged.{IsReady};
+ghost use Rattle.alog_pipe.specs.Logged.{CanSay, IsReady};
 ghost use Rattle.alog_pipe.specs.Piped.{Pumps, PumpsOut, PumpsRead, TriesToTell};
 ghost use Rattle.alog_pool.specs.Producer.{IsSame};
 
@@ -78,7 +78,7 @@ impl Pump {
 
     /// Where nothing came: says what is missing, if there is room.
     fn rest<R: Wait + Clock>(&mut self, rt: &R, alloc: Global)
-        requires { IsReady 0 self.old.log }
+        requires { CanSay self.old.log }
         ensures tries { TriesToTell self.old.time self.old.log self.new.log }
         ensures kept { (self.new.lines ≡ self.old.lines) × (self.new.counts ≡ self.old.counts) }
         ensures same { IsSame self.old.log.producer self.new.log.producer }

@@ -6,9 +6,9 @@ use Rattle.alog_msg.specs.declared.item.Item.TheVariants.{Stop}
 use Rattle.alog_msg.specs.declared.message.Message.{Message}
 use Rattle.alog_pool.specs.SinkSeat.{SinkSeatView}
 use Rattle.alog_pool.specs.Deeds.{Due, HaveMade, all_dues, dues_of}
-use Rattle.alog_pool.specs.Gaps.{gap_at, gap_item, gap_of, next_after, next_behind, with_gaps, CountsFromFirst}
-use Rattle.alog_pool.specs.Pool.{PoolView, Starts}
+use Rattle.alog_pool.specs.Gaps.{gap_at, gap_item, gap_of, next_after, next_behind, told_from, with_gaps, CountsFromFirst}
 use Rattle.alog_pool.specs.declared.setup.Setup.{Setup}
+use Rattle.alog_pool.specs.declared.shared.Shared.{Shared}
 use Rattle.alog_pool.proofs.Deeds.{all_dues-append, have_none, have_then}
 use Rattle.alog_registry.specs.declared.logger.Logger.{Logger}
 
@@ -35,13 +35,14 @@ pub none_told : (ps : List (ℕ × Item)) → with_gaps None ps ≡ ps
 none_told [] = refl
 none_told (p ∷ ps) = ap (λ (l : List (ℕ × Item)). p ∷ l) (none_told ps)
 
--- a pool that was started tells gaps from its first ticket on, or none
-pub starts_counting : {S : Type 0} (setup : Setup S) (p : PoolView S) → Starts setup p → CountsFromFirst p.shared
-starts_counting setup p starts = counted (setup.tells_gaps && (setup.workers == 1)) starts.gaps
+-- a pool of a setup tells gaps from its first ticket on, or none
+pub counts_from : {S : Type 0} (setup : Setup S) (shared : Shared) → shared.gaps ≡ told_from setup → shared.ring.ring.first ≡ setup.first
+    → CountsFromFirst shared
+counts_from setup shared gaps first = counted (setup.tells_gaps && (setup.workers == 1)) gaps
   where
-    counted : (tells : Bool) → p.shared.gaps ≡ (if tells then Some setup.first else None) → CountsFromFirst p.shared
-    counted true gaps = inr (gaps ∙ ap (λ n. Some n) (sym starts.queue.1))
-    counted false gaps = inl gaps
+    counted : (tells : Bool) → shared.gaps ≡ (if tells then Some setup.first else None) → CountsFromFirst shared
+    counted true told = inr (told ∙ ap (λ n. Some n) (sym first))
+    counted false told = inl told
 
 -- one item more
 next_behind-more : (next : Option ℕ) (ps : List (ℕ × Item)) (p : ℕ × Item)

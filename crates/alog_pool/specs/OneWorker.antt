@@ -58,8 +58,8 @@ module _ {S : Type 0} (tells : Bool) (files : S → Files) (failures : S → ℕ
   AreWritten s _ _ _ dues = ⊥
 
   -- There are items with rising tickets, which are exactly the texts and flushes that the producers put in, under all tickets in a row,
-  -- and did not take out themselves, and by whatever weight they weigh as much; and each sink was given exactly the turns that are due for them, in their order,
-  -- and, where the pool tells gaps, for the texts that say how many are missing where, and holds their lines.
+  -- and did not take out themselves, and by whatever weight they weigh as much; and each sink was given exactly the turns that are due
+  -- for them, in their order, and, where the pool tells gaps, for the texts that say how many are missing where, and holds their lines.
   -- Beside these turns a sink may have been given the worker's own flushes, which write no line and are due for no item.
   pub record WritesInOrder (pool : PoolView S) (producers : List ProducerView) (r : Report S) : Type 0 where
     pub items : List (ℕ × Item)

@@ -10,7 +10,7 @@ use Rattle.alog_pattern.specs.declared.patterns.TheConstants.{LINE_MAX}
 use Rattle.alog_policy.specs.BookCalls as book
 use Rattle.alog_pool.specs.SinkSeat.{SinkSeatView}
 use Rattle.alog_pool.specs.BacktraceSeat.{BacktraceSeatView}
-use Rattle.alog_pool.specs.Gaps.{next_of, told_from}
+use Rattle.alog_pool.specs.Gaps.{next_of, told_from, CountsFromFirst}
 use Rattle.alog_pool.specs.Producer.{ProducerView, AreBacktraceSeats}
 use Rattle.alog_pool.specs.Working.{IsAtWork, IsFresh, numbers_of}
 use Rattle.alog_pool.specs.declared.pool_parts.PoolParts.{PoolParts}
@@ -82,6 +82,7 @@ pub record HasLeft {S : Type 0} (shared : Shared) (pass : PassView Item block_no
   pub each : length backtrace_seats ≡ length shared.loggers
   pub kept : AreBacktraceSeats limit backtrace_seats
   pub queued : shared.ring.ring.limit.most ≡ limit
+  pub counts : CountsFromFirst shared
   pub limits : (TEXT_LIMIT_MIN ≤ limit) × (limit ≤ TEXT_LIMIT_MAX)
   pub few : (made ≤ PRODUCERS_MAX) × (hired ≤ WORKERS_MAX)
   pub pass_unused : (pass.known.own ≡ []) × (pass.known.joined ≡ [])

@@ -16,7 +16,7 @@ use Rattle.alog_pool.specs.Back.{worker_member, pass_member, seat_member}
 use Rattle.alog_pool.specs.SinkSeat.{Answer, AreFlushed, SinkSeatView}
 use Rattle.alog_pool.specs.Deeds.{Due, HasDone, all_dues, dues_on, faults_in}
 use Rattle.alog_pool.specs.Ending.{IsEnd}
-use Rattle.alog_pool.specs.Gaps.{with_gaps}
+use Rattle.alog_pool.specs.Gaps.{with_gaps, CountsFromFirst}
 use Rattle.alog_pool.specs.Pool.{PoolView, lanes_of}
 use Rattle.alog_pool.specs.Producer.{ProducerView}
 use Rattle.alog_pool.specs.Rows.{heads, tails}
@@ -120,6 +120,7 @@ module _ {S : Type 0} (tells : Bool) (files : S → Files) (failures : S → ℕ
     pub end : Known Item block_note
     pub whole : IsWhole end
     pub moment : IsEnd end
+    pub counts : CountsFromFirst pool.shared
     pub ring : (end.places ≡ pool.shared.ring.ring.places) × (end.first ≡ pool.shared.ring.ring.first)
     pub members : end.joined ≡ map pass_member producers ++ map (λ (h : Worker S). worker_member h) crew
     pub stops : AreStops (claims end.own) × AreEnough (length pool.crew) (claims end.own) end.own

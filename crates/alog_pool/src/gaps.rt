@@ -1,9 +1,9 @@
 //! What a worker tells of the items that others took.
-ghost use Rattle.std.specs.Prelude.{◌≡◌, ◌≤◌, ◌-◌, ℕ, Some, IfOk};
+ghost use Rattle.std.specs.Prelude.{◌≡◌, ◌≤◌, ◌-◌, ℕ, Some, IfOk, length};
 ghost use Rattle.alog_msg.specs.declared.limits.TheConstants.{TEXT_LIMIT_MIN};
 ghost use Rattle.alog_pattern.specs.declared.patterns.TheConstants.{LINE_MAX};
 ghost use Rattle.alog_pool.specs.Deeds.{HaveMade, all_dues};
-ghost use Rattle.alog_pool.specs.Gaps.{CanTell, gap_at, gap_item, gap_of, next_after, next_of};
+ghost use Rattle.alog_pool.specs.Gaps.{CanTell, gap_at, gap_item, gap_of, gap_text, next_after, next_of};
 ghost use Rattle.alog_pool.specs.SinkSeat.{places_of};
 ghost use Rattle.alog_pool.specs.Working.{AreLimited};
 ghost use Rattle.alog_registry.specs.Limit.{KeepsTo};
@@ -95,9 +95,7 @@ impl Gaps {
         ensures fits { KeepsTo TEXT_LIMIT_MIN (gap_item missing message.now) }
         ensures next { self.new.next ≡ self.old.next }
     {
-        let mut text = ArrayString::<TEXT_LIMIT_MIN>::new();
-        text.push_str(Buffer::new().format(missing));
-        text.push_str(" lines are missing here");
+        let text = gap_text(missing);
         self.block.write_within(
             message.logger,
             Level::Warning,
@@ -107,6 +105,18 @@ impl Gaps {
             None,
         );
     }
+}
+
+/// The text that says that so many lines are missing: `17 lines are missing here`. It takes no memory, and is as long as any queue's
+/// text limit allows.
+pub fn gap_text(missing: u64) -> ArrayString<TEXT_LIMIT_MIN>
+    ensures text { result.bytes ≡ gap_text missing.now }
+    ensures fits { length (gap_text missing.now) ≤ TEXT_LIMIT_MIN }
+{
+    let mut text = ArrayString::<TEXT_LIMIT_MIN>::new();
+    text.push_str(Buffer::new().format(missing));
+    text.push_str(" lines are missing here");
+    text
 }
 
 /// What a worker tells gaps with that counts from this ticket on; nothing, where it tells none.

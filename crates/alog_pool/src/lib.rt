@@ -23,10 +23,9 @@
 //! it has all parts, so that it knows the whole history (`specs/Report.antt`; what is known on the way stands in
 //! `specs/Ended.antt`). The law `one_worker_writes_in_order` says what a pool of one worker wrote (`specs/OneWorker.antt`).
 //!
-//! Read `gate.rt`, `shared.rt`; then `worker.rt`, `sink_seat.rt`, `gaps.rt` (what it says of items that
-//! others took), `item_wait.rt` (how it waits); then `producer.rt`, `backtrace_seat.rt`; then
-//! `setup.rt`, `pool_parts.rt`, `works.rt`, `pool.rt`; then `stops.rt`, `alone.rt`, `report.rt`, `shutdown.rt`. The tests are in
-//! `test_pool`.
+//! Read `gate.rt`, `shared.rt`; then `worker.rt`, `sink_seat.rt`, `gaps.rt` (what a worker says of items that others took),
+//! `item_wait.rt` (how it waits); then `producer.rt`, `backtrace_seat.rt`; then `setup.rt`, `pool_parts.rt`, `works.rt`, `pool.rt`;
+//! then `stops.rt`, `alone.rt`, `report.rt`, `shutdown.rt`. The tests are in `test_pool`.
 #![tactic(auto)]
 
 mod alone;
@@ -49,7 +48,7 @@ mod worker;
 mod works;
 
 pub use error::{ProducerError, ProducersOut, StartError};
-pub use gaps::Gaps;
+pub use gaps::{Gaps, gap_text};
 pub use gate::{Gate, OpenGate};
 pub use item_wait::ItemWait;
 pub use pool::{PRODUCERS_MAX, Pool, WORKERS_MAX};

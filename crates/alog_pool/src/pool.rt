@@ -233,6 +233,7 @@ fn start_workers<
     requires workers { HasWorkers setup }
     requires ring { IsPassOf ring.ring pass × (ring.ring.limit.most ≡ setup.text_limit) }
     requires pass { pass.known ≡ first_known ring.ring.places ring.ring.first }
+    requires first { ring.ring.first ≡ setup.first }
     requires places { 1 ≤ ring.ring.places }
     ensures { IfOk result (λ p. (g : PoolParts S) × AreParts setup ring.ring g × Staffs g p) }
 {

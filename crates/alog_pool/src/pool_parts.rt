@@ -72,6 +72,7 @@ impl<S: Store + Drop + Send + 'static> PoolParts<S> {
         requires fits { Fits setup }
         requires ring { IsPassOf ring.ring pass × (ring.ring.limit.most ≡ setup.text_limit) }
         requires pass { pass.known ≡ first_known ring.ring.places ring.ring.first }
+        requires first { ring.ring.first ≡ setup.first }
         requires places { 1 ≤ ring.ring.places }
         ensures { IfOk result (λ g. AreParts setup ring.ring g) }
     {

@@ -4,9 +4,10 @@ use Rattle.alog_core.specs.Accounts.{claims}
 use Rattle.alog_msg.specs.declared.item.Item.TheVariants.{Text}
 use Rattle.alog_msg.specs.declared.level.Level.{Level}
 use Rattle.alog_msg.specs.declared.level.Level.TheVariants.{Warning}
-use Rattle.alog_pipe.specs.Logged.{HasNoRoom, HidesPiece, LogsText, LosesPiece, PostsPiece, TellsHole, hole_text}
+use Rattle.alog_pipe.specs.Logged.{HasNoRoom, HidesPiece, LogsText, LosesPiece, PostsPiece, TellsHole}
 use Rattle.alog_policy.specs.declared.policy.Outcome.{Outcome}
 use Rattle.alog_policy.specs.declared.policy.Outcome.TheVariants.{Posted, Discarded}
+use Rattle.alog_pool.specs.Gaps.{gap_text}
 use Rattle.alog_pool.specs.Producer.{ProducerView, IsSame}
 use Rattle.alog_registry.specs.BlockPort.{BlockPort, block_note}
 use Rattle.alog_registry.specs.Given.{message_with}
@@ -90,7 +91,7 @@ lost_piece time text log p (inr none) = same_puts log.producer p none.0
 
 -- the line that says how many are missing: it was posted, or it is below the level; there was no room for it
 pub told_hole : (time : ℤ) (log : PieceLog) (p : ProducerView) → TellsHole time log p
-    → Puts log.logger Warning time (hole_text log.hole) log.producer p ⊎ Hides Warning log.producer p
+    → Puts log.logger Warning time (gap_text log.hole) log.producer p ⊎ Hides Warning log.producer p
 told_hole time log p (inl (reply.Filtered own kept, logged, is)) = absurd (cc is)
 told_hole time log p (inl (reply.Logged (Posted t k) kept, logged, is)) = inl (posted_puts logged)
 told_hole time log p (inl (reply.Logged (Discarded v why k) kept, logged, is)) = absurd (cc is)

@@ -14,7 +14,7 @@ use Rattle.alog_msg.specs.declared.message.Message.{Message}
 use Rattle.alog_pool.specs.Accounts.{of_work}
 use Rattle.alog_pool.specs.Deeds.{Due, all_dues, dues_on}
 use Rattle.alog_pool.proofs.SharedGaps.{none_told}
-use Rattle.alog_pool.specs.Gaps.{CountsFromFirst, with_gaps}
+use Rattle.alog_pool.specs.Gaps.{with_gaps}
 use Rattle.alog_pool.specs.OneWorker.{AreWritten, HoldsMore, IsWritten, OneWorkerWritesInOrder, WritesInOrder, texts_in}
 use Rattle.alog_pool.specs.Pool.{PoolView, lanes_of}
 use Rattle.alog_pool.specs.Posted.{tickets_of}
@@ -71,8 +71,7 @@ module _ {S : Type 0} (tells : Bool) (files : S → Files) (failures : S → ℕ
       }
 
   -- A pool of one worker was ended with one producer, which put in texts of one logger and nothing else. The sink of this number stands once
-  -- among the logger's, its store tells its files, and no turn there met a fault. The pool tells gaps
-  -- from its first ticket on, or none.
+  -- among the logger's, its store tells its files, and no turn there met a fault.
   pub record EndsAlone (logger n : ℕ) (pool : PoolView S) (p : ProducerView) (r : Report S) : Type 0 where
     pub ends : Ends tells files failures pool (p ∷ []) r
     pub single : length pool.crew ≡ 1
@@ -82,7 +81,6 @@ module _ {S : Type 0} (tells : Bool) (files : S → Files) (failures : S → ℕ
     pub firsts : AllByRecursion (λ (i : Given). IsFirsts logger i.1) (claims p.pass.known.own)
     pub told : tells ≡ true
     pub faultless : slice_get r.faults.items n ≡ Some 0
-    pub counts : CountsFromFirst pool.shared
 
   -- Of these sinks that of a number holds these messages more than it did when its lane was made, by turns that led there.
   pub record Held (n : ℕ) (lanes : List (LaneId (Sink S))) (sinks : List (Sink S)) (ms : List Message) : Type 0 where
@@ -187,7 +185,7 @@ module _ {S : Type 0} (tells : Bool) (files : S → Files) (failures : S → ℕ
     texts_are took =
         let same : wrote.items ≡ put = posted_are p wrote.items wrote.rise wrote.are took (no_stops logger put all_own) in
         let none : with_gaps pool.shared.gaps put ≡ put =
-        elim e.counts [
+        elim e.ends.counts [
           | inl never ↦ ap (λ (next : Option ℕ). with_gaps next put) never ∙ none_told put
           | inr from ↦ ap (λ (next : Option ℕ). with_gaps next put) from
               ∙ none_missing logger pool.shared.ring.ring.first put row e.firsts

@@ -13,7 +13,6 @@ use Rattle.alog_msg.specs.declared.message.MessageError.{MessageError}
 use Rattle.alog_policy.specs.SwapPort.{SwapDid}
 use Rattle.alog_policy.specs.declared.policy.Outcome.TheVariants.{Posted}
 use Rattle.alog_policy.specs.declared.policy.Policy.TheVariants.{Block, OverrunOldest}
-use Rattle.alog_pool.specs.Gaps.{CountsFromFirst}
 use Rattle.alog_pool.specs.OneWorker.{HoldsMore, OneWorkerWritesInOrder, texts_in}
 use Rattle.alog_pool.specs.Pool.{Makes, PoolView, lanes_of}
 use Rattle.alog_pool.specs.Posted.{PostedLogsPutTheirTextIn}
@@ -74,10 +73,10 @@ module _ {S : Type 0} (tells : Bool) (files : S → Files) (failures : S → ℕ
     pub sinks : spec.sinks.items ≡ n ∷ []
 
   pub logged_alone : OneWorkerWritesInOrder tells files failures → PostedLogsPutTheirTextIn → {before : PoolView S} {number : ℕ} {level : Level}
-      {time : ℤ} {text : List ℕ} {r : Report S} → LoggedOnce before number level time text r → length before.crew ≡ 1 → tells ≡ true → CountsFromFirst before.shared
+      {time : ℤ} {text : List ℕ} {r : Report S} → LoggedOnce before number level time text r → length before.crew ≡ 1 → tells ≡ true
       → {n : ℕ} → WritesToOne before.shared.loggers number n → slice_get r.faults.items n ≡ Some 0
       → HoldsAt files n (lanes_of before.sink_seats) r.sinks.items (message_with number level time 0 text None)
-  logged_alone law texts {number} {level} {time} {text} {r} once single tell counts {n} logger none =
+  logged_alone law texts {number} {level} {time} {text} {r} once single tell {n} logger none =
       let s = logger.spec in
       let m : Message = message_with number level time once.made.number text None in
       let t = once.posted.0 in
@@ -103,7 +102,6 @@ module _ {S : Type 0} (tells : Bool) (files : S → Files) (failures : S → ℕ
         firsts = subst (λ (is : List Given). AllByRecursion (λ (i : Given). IsFirsts number i.1) is) (sym puts) ((refl, zero), tt);
         told = tell;
         faultless = none;
-        counts = subst (λ (v : Shared). CountsFromFirst v) (sym once.makes.same.0) counts;
       } in
       let all : written tells files failures law alone ≡ m ∷ [] =
       texts_are tells files failures law alone took ∙ ap (λ (is : List Given). texts_in is) puts in

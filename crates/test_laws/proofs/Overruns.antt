@@ -160,7 +160,7 @@ module _ (spec : Spec) (never : spec.policy ≢ OverrunOldest) where
 
   untold_spares : (time : ℤ) (old new : PieceLog) → LacksRoom time old new ⊎ LacksMemory old new → Spares old new
   untold_spares time old new (inl h) = no_room_spares time old new h
-  untold_spares time old new (inr h) = spares_equal old new h.1
+  untold_spares time old new (inr h) = spares_equal old new h.2
 
   -- a piece
   piece_spares : (time : ℤ) (text : List ℕ) (old mid new : PieceLog) → LogsPieceAt time text old mid new → Spares old new
@@ -206,7 +206,7 @@ module _ (spec : Spec) (never : spec.policy ≢ OverrunOldest) where
 
   ends_spare : (time : ℤ) (mid new : PieceLog) → TellsAll time mid new ⊎ LacksMemory mid new → Spares mid new
   ends_spare time mid new (inl h) = told_spares time mid new h
-  ends_spare time mid new (inr h) = spares_equal mid new h.1
+  ends_spare time mid new (inr h) = spares_equal mid new h.2
 
   pub finish_spares : {time : ℤ} {old new : PieceLog} → Finishes time old new → Spares old new
   finish_spares {time} {old} {new} f = spares_on old f.mid new (naps_spare f.tries time old f.mid f.naps) (ends_spare time f.mid new f.last)

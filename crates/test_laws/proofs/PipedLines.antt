@@ -18,8 +18,7 @@ use Rattle.alog_pipe.specs.Pipes.{Pipes, for_pipe, overruns, overruns_of}
 use Rattle.alog_pipe.specs.declared.piping.Piped.{Piped}
 use Rattle.alog_policy.specs.declared.policy.Policy.{Policy}
 use Rattle.alog_policy.specs.declared.policy.Policy.TheVariants.{Block, DiscardNew, OverrunOldest}
-use Rattle.alog_pool.proofs.SharedGaps.{starts_counting}
-use Rattle.alog_pool.specs.Gaps.{CountsFromFirst, told_from}
+use Rattle.alog_pool.specs.Gaps.{told_from}
 use Rattle.alog_pool.specs.OneWorker.{OneWorkerWritesInOrder, texts_in}
 use Rattle.alog_pool.specs.Pool.{lanes_of}
 use Rattle.alog_pool.specs.declared.shared.Shared.{Shared}
@@ -30,7 +29,7 @@ use Rattle.alog_registry.specs.declared.logger.Logger.{Logger}
 use Rattle.alog_registry.specs.declared.logger.Spec.{Spec}
 use Rattle.alog_sink.specs.Files.{Files}
 use Rattle.alog_sink.specs.declared.sink.Sink.{Sink}
-use Rattle.test_laws.specs.PipedLines.{FlowsTo, HoldsPieces, IsOf, KeepsAll, LosesNone, OverrunsNone}
+use Rattle.test_laws.specs.PipedLines.{FlowsTo, HoldsPieces, IsOf, KeepsAll, LeavesNone, LosesNone, OverrunsNone}
 use Rattle.test_laws.specs.Stretches.{AreTold, Holds, HoldsKept, HoldsStretches, TellsLost, below_in, missing_in, pieces_of_stretch}
 use Rattle.test_laws.proofs.Answered.{puts_of}
 use Rattle.test_laws.proofs.Bounds.{none_overrun, took_none}
@@ -39,7 +38,7 @@ use Rattle.test_laws.proofs.Gaps.{IsFirsts, all_kept, firsts_of, tells_firsts}
 use Rattle.test_laws.proofs.Held.{EndsAlone, Held, texts_are, texts_held, texts_kept, written}
 use Rattle.test_laws.proofs.Opening.{Fills, at_map, stands_on}
 use Rattle.test_laws.proofs.Overruns.{IsWith, finish_spares, pieces_spare, takes_by_now}
-use Rattle.test_laws.proofs.PieceLogs.{PieceLog}
+use Rattle.test_laws.proofs.PieceLogs.{PieceLog, finish_told}
 use Rattle.test_laws.proofs.Stretches.{Goes, HasRun, finish_goes, goes_on, none_lost, pieces_go, run_behind}
 use Rattle.test_laws.proofs.Texts.{copied, files_have}
 
@@ -128,6 +127,14 @@ module _ {S : Type 0} (tells : Bool) (files : S → Files) (failures : S → ℕ
         let all = goes.missing_is in
         let told = h.through.missing in omega (arith, first, all, told)
 
+    pub none_untold : LeavesNone tells files failures f
+    none_untold none =
+        let shared : h.through.log.producer.shared.loggers ≡ h.setup.loggers =
+        ap (λ (v : Shared). v.loggers) h.through.pumps.same.shared ∙ begun_loggers in
+        let found : spec_at h.through.log.producer.shared.loggers h.through.log.logger ≡ Some f.spec =
+        (λ i. spec_at (shared i) (goes.stands.logger_is i)) ∙ f.found in
+        finish_told h.through.pumps.finished found none
+
     below_are : p.below ≡ below_in goes.stretches
     below_are =
         let first = start_counts.1 in
@@ -145,8 +152,6 @@ module _ {S : Type 0} (tells : Bool) (files : S → Files) (failures : S → ℕ
           (firsts_of logger goes.puts goes.own (tells_firsts logger level goes.stretches (texts_in goes.puts) goes.tells));
       told = f.told;
       faultless = f.faultless;
-      counts = subst (λ (v : Shared). CountsFromFirst v) (sym h.through.makes.same.0)
-          (starts_counting (for_pipe logger h.setup) h.start h.starts);
     }
 
     module _ (law : OneWorkerWritesInOrder tells files failures) where

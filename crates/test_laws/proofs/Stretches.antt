@@ -11,9 +11,10 @@ use Rattle.alog_msg.specs.declared.item.Item.TheVariants.{Text}
 use Rattle.alog_msg.specs.declared.level.Level.{Level}
 use Rattle.alog_msg.specs.declared.level.Level.TheVariants.{Warning}
 use Rattle.alog_msg.specs.declared.message.Message.{Message}
-use Rattle.alog_pipe.specs.Logged.{HidesPiece, LogsPieceAt, LosesPiece, PostsPiece, below_by, by, hole_text, missed_by}
+use Rattle.alog_pipe.specs.Logged.{HidesPiece, LogsPieceAt, LosesPiece, PostsPiece, below_by, by, missed_by}
 use Rattle.alog_pipe.specs.InTurn.{InTurn}
 use Rattle.alog_pipe.specs.Piped.{Finishes, LogsAll, LogsNext, Naps, Rests, TriesToTell}
+use Rattle.alog_pool.specs.Gaps.{gap_text}
 use Rattle.alog_pool.specs.OneWorker.{texts_in}
 use Rattle.alog_pool.specs.Producer.{ProducerView, IsSame}
 use Rattle.alog_registry.specs.Given.{message_with}
@@ -207,9 +208,9 @@ module _ (logger : ℕ) (level : Level) where
             missing_few = omega (arith, m);
             below_is = omega (arith, b);
             below_few = omega (arith, b);
-            puts = (put.ticket, Text (message_with old.logger Warning time old.producer.number (hole_text old.hole) None)) ∷ [];
+            puts = (put.ticket, Text (message_with old.logger Warning time old.producer.number (gap_text old.hole) None)) ∷ [];
             puts_are = put.puts;
-            tells = (full, (time, λ i. message_with (has.stands.logger_is i) Warning time (has.stands.number_is i) (hole_text (has.hole_is i)) None), tt);
+            tells = (full, (time, λ i. message_with (has.stands.logger_is i) Warning time (has.stands.number_is i) (gap_text (has.hole_is i)) None), tt);
             own = (has.stands.logger_is, tt);
           };
           none = refl;
@@ -238,7 +239,7 @@ module _ (logger : ℕ) (level : Level) where
   keeps_run : {n : ℕ} (time : ℤ) (run : List Piece) (old new : PieceLog) → HasRun run n old → LacksRoom time old new ⊎ LacksMemory old new
       → Goes run [] old new
   keeps_run time run old new has (inl h) = (idles_by has (lost_hole time old new.producer h.1) h.2).goes
-  keeps_run time run old new has (inr h) = (idles_at has h.1).goes
+  keeps_run time run old new has (inr h) = (idles_at has h.2).goes
 
   -- a piece of which nothing was logged: the run is longer
   missed : {n : ℕ} (p : Piece) (run : List Piece) (old new : PieceLog) → HasRun run (suc n) old → PutsNothing old.producer new.producer

@@ -112,6 +112,11 @@ module _ {S : Type 0} (tells : Bool) (files : S → Files) (failures : S → ℕ
     pub told : tells ≡ true
     pub faultless : slice_get p.report.faults.items n ≡ Some 0
 
+  -- Where its logger keeps no copies for a backtrace, such a pipe has told of all that is missing: none is left of which no line was logged.
+  abbrev pub LeavesNone : {n : ℕ} {bytes : List ℕ} {c : Config} {stores : List S} {logger : ℕ} {level : Level} {before after : Option (List ℕ)}
+      {p : Piped S} {h : Pipes tells files failures c stores logger level before after p} → FlowsTo n bytes h → Type 0
+  LeavesNone {h = h} f = f.spec.backtrace ≡ 0 → h.through.log.hole ≡ 0
+
   -- Where its logger overruns the oldest, such a pipe counts that nothing was overrun.
   abbrev pub KeepsAll : {n : ℕ} {bytes : List ℕ} {c : Config} {stores : List S} {logger : ℕ} {level : Level} {before after : Option (List ℕ)}
       {p : Piped S} {h : Pipes tells files failures c stores logger level before after p} → FlowsTo n bytes h → Type 0

@@ -1,11 +1,11 @@
 -- What a sink holds of the lines that a pipe logged, where some are missing: in place of those that follow each other a line says how many.
-use Rattle.std.specs.Prelude.{◌≡◌, ◌⊎◌, ◌<◌, ◌+◌, ℕ, ℤ, None, Some, List, [], ◌∷◌, ◌++◌, length, codes, slice_get}
-use Rattle.std.specs.Fmt.{decimal}
+use Rattle.std.specs.Prelude.{◌≡◌, ◌⊎◌, ◌<◌, ◌+◌, ℕ, ℤ, None, Some, List, [], ◌∷◌, ◌++◌, length, slice_get}
 use Rattle.std.specs.List.{flat_map}
 use Rattle.alog_lines.specs.Pieces.{Piece, pieces_of}
 use Rattle.alog_msg.specs.declared.level.Level.{Level}
 use Rattle.alog_msg.specs.declared.level.Level.TheVariants.{Warning}
 use Rattle.alog_msg.specs.declared.message.Message.{Message}
+use Rattle.alog_pool.specs.Gaps.{gap_text}
 use Rattle.alog_pool.specs.OneWorker.{HoldsMore}
 use Rattle.alog_registry.specs.Given.{message_with}
 use Rattle.alog_registry.specs.Logging.{IsBelow}
@@ -49,7 +49,7 @@ below_in (Hidden own ps ∷ ss) = below_in ss
 
 -- a message of this logger at level warning, of the pool's first thread, that says that so many are missing; its time is some
 abbrev pub SaysMissing : ℕ → ℕ → Message → Type 0
-SaysMissing logger n m = (time : ℤ) × (m ≡ message_with logger Warning time 0 (decimal n ++ codes " lines are missing here") None)
+SaysMissing logger n m = (time : ℤ) × (m ≡ message_with logger Warning time 0 (gap_text n) None)
 
 -- These messages tell these stretches, in their order: of a piece that was posted there is one with its text, of those that are missing, of
 -- which there are some, one that says how many. Of what is below the level there is none.

@@ -2,7 +2,7 @@
 ghost use Rattle.std.specs.Prelude.{◌≡◌, ◌<◌, ℕ, IfOk, List, count_by, length};
 ghost use Rattle.alog_config.specs.Sinks.{is_leaf};
 ghost use Rattle.alog_pipe.specs.Pipes.{Pipes};
-ghost use Rattle.test_laws.specs.PipedLines.{FlowsTo, HoldsPieces, KeepsAll, LosesNone, OverrunsNone};
+ghost use Rattle.test_laws.specs.PipedLines.{FlowsTo, HoldsPieces, KeepsAll, LeavesNone, LosesNone, OverrunsNone};
 ghost use Rattle.test_laws.specs.Stretches.{HoldsKept, HoldsStretches};
 
 use alog_config::{BuildError, Config};
@@ -17,18 +17,19 @@ use std::thread::Threads;
 use std::time::Clock;
 
 /// Logs each line of a reader, as `pipe` does, which answers for it. Where its pool has one worker, and the reader came to its end, each
-/// sink of the logger where no turn met a fault and whose store tells its files holds, behind what it held, one message for each piece of the
-/// reader's lines, in their order, with their texts, of this logger and level, but for those that are missing or were below the logger's
-/// level, of which there are as many as the answer counts. In place of missing ones that follow each other there is a message that says how
-/// many they are, unless it is below that level; of the last ones there is none where there was no memory for it. If the sink is no fan it was
-/// opened over one of the stores, and its files are those of that store with the lines of these messages.
+/// sink of the logger where no turn met a fault and whose store tells its files holds, behind what it held, one message for each piece of
+/// the reader's lines, in their order, with their texts, of this logger and level, but for those that are missing or were below the
+/// logger's level, of which there are as many as the answer counts. In place of missing ones that follow each other there is a message that
+/// says how many they are, unless it is below that level; of the last ones there is none where the logger keeps copies for a backtrace and
+/// there was no memory for one. If the sink is no fan it was opened over one of the stores, and its files are those of that store with the
+/// lines of these messages.
 ///
-/// Where the answer counts no piece that is missing or was below the level, there is exactly one message for each. Where their lines are the
-/// texts alone, the sink's file, or the runs of its files one behind the other, are what was there and then these texts; and where the
+/// Where the answer counts no piece that is missing or was below the level, there is exactly one message for each. Where their lines are
+/// the texts alone, the sink's file, or the runs of its files one behind the other, are what was there and then these texts; and where the
 /// reader's lines are short and in UTF-8, these are the reader's bytes.
 ///
-/// Where the logger overruns the oldest, this is so if nothing was overrun; and if something was, the sink holds those messages but for as many
-/// as the answer counts, in their order. Under the other policies nothing is overrun, whatever is missing.
+/// Where the logger overruns the oldest, this is so if nothing was overrun; and if something was, the sink holds those messages but for as
+/// many as the answer counts, in their order. Under the other policies nothing is overrun, whatever is missing.
 pub fn pipe_lines<R, S, I>(
     rt: &R,
     alloc: Global,
@@ -48,6 +49,9 @@ where
         (I.remaining input.new) p) }
     ensures spared { IfOk result (λ p. (h : Pipes S.tells S.files S.failures config.now stores.items logger level (I.remaining input.old)
         (I.remaining input.new) p) → OverrunsNone S.tells S.files S.failures h) }
+    ensures said { IfOk result (λ p. (h : Pipes S.tells S.files S.failures config.now stores.items logger level (I.remaining input.old)
+        (I.remaining input.new) p) (n : ℕ) (bytes : List ℕ) (f : FlowsTo S.tells S.files S.failures n bytes h)
+        → LeavesNone S.tells S.files S.failures f) }
     ensures kept { IfOk result (λ p. (h : Pipes S.tells S.files S.failures config.now stores.items logger level (I.remaining input.old)
         (I.remaining input.new) p) (n : ℕ) (bytes : List ℕ) → FlowsTo S.tells S.files S.failures n bytes h
         → HoldsKept S.files logger level n stores.items h.setup.sinks.items p.report.sinks.items config.now.text bytes p.missing p.below

@@ -3,7 +3,6 @@ ghost use Rattle.std.specs.Prelude.{◌≡◌, ◌<◌, ℕ, Bool, [], ◌∷◌
 ghost use Rattle.std.specs.List.{AllByRecursion};
 ghost use Rattle.alog_policy.specs.declared.policy.Outcome.TheVariants.{Posted};
 ghost use Rattle.alog_policy.specs.declared.policy.Policy.TheVariants.{Block};
-ghost use Rattle.alog_pool.specs.Gaps.{CountsFromFirst};
 ghost use Rattle.alog_pool.specs.Pool.{lanes_of};
 ghost use Rattle.alog_pool.specs.Report.{Ends};
 ghost use Rattle.alog_registry.specs.Given.{message_with};
@@ -52,10 +51,10 @@ fn end<R: Threads + Wait + Clock, S: Store + Drop + Send + 'static>(
     }
 }
 
-/// Logs one message in a pool that made no producer yet, and ends the pool: its report, or `None` where memory is wanting or the
-/// message was not posted. In a pool of one worker, started as `Pool::start` does, whose logger waits for room and writes to one sink, where no turn on that sink met a
-/// fault and its store tells its files, the sink holds exactly that message behind what it held; and where it is a memory sink whose level the message passes, its file ends with
-/// that message's line.
+/// Logs one message in a pool that made no producer yet, and ends the pool: its report, or `None` where memory is wanting or the message
+/// was not posted. In a pool of one worker whose logger waits for room and writes to one sink, where no turn on that sink met a fault and
+/// its store tells its files, the sink holds exactly that message behind what it held; and where it is a memory sink whose level the
+/// message passes, its file ends with that message's line.
 pub fn log_alone<R: Threads + Wait + Clock, S: Store + Drop + Send + 'static>(
     rt: &R,
     alloc: Global,
@@ -67,7 +66,7 @@ pub fn log_alone<R: Threads + Wait + Clock, S: Store + Drop + Send + 'static>(
 ) -> Option<Report<S>>
     requires new { pool.made ≡ 0 }
     requires known { number < length pool.shared.loggers }
-    ensures { IfSome result (λ r. length pool.crew ≡ 1 → S.tells ≡ true → CountsFromFirst pool.shared → (s : Spec) (n : ℕ)
+    ensures { IfSome result (λ r. length pool.crew ≡ 1 → S.tells ≡ true → (s : Spec) (n : ℕ)
         → spec_at pool.shared.loggers number ≡ Some s → s.policy ≡ Block → s.sinks.items ≡ n ∷ [] → slice_get r.faults.items n ≡ Some 0
         → HoldsAt S.files n (lanes_of pool.sink_seats) r.sinks.items (message_with number level time 0 text.now None)) }
 {

@@ -5,7 +5,7 @@ use crate::rows::{Deed, Told, do_all};
 use crate::trial::{Files, NEVER, PLAIN, Plan, Trial, setup_of};
 use alog_msg::Level;
 use alog_policy::Policy;
-use alog_pool::Report;
+use alog_pool::{Report, gap_text};
 use std::alloc::Global;
 use std::process::Abort;
 use std::sync::Wait;
@@ -226,4 +226,12 @@ fn policies_of_a_full_queue(rt: HostRuntime) {
         let plan = narrow(*policy, *tells_gaps);
         is_full(&rt, rt.alloc(), plan, deeds, *totals, tickets, bytes);
     }
+}
+
+// The text of a gap, of the smallest number but for none and of the largest.
+#[test]
+fn texts_of_gaps(rt: HostRuntime) {
+    assert!(rt; gap_text(1).as_str() == "1 lines are missing here");
+    assert!(rt; gap_text(17).as_str() == "17 lines are missing here");
+    assert!(rt; gap_text(u64::MAX).as_str() == "18446744073709551615 lines are missing here");
 }

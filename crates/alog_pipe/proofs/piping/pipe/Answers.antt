@@ -18,7 +18,8 @@ pipe_through-requires-clause-ready g c κs within =
     let same = ap (λ (l : List Logger). length l) started.loggers in
     let limit = ap (λ (s : Cutting). s.limit) c.in_ok-lines.ensures in
     let most = started.limit ∙ given.limit in
-    (omega (arith, c.requires.known, long, same), omega (arith, limit, most))
+    let room = c.in_ok-setup.ensures.fits.limits.0 in
+    (omega (arith, c.requires.known, long, same), omega (arith, room, started.limit), omega (arith, limit, most))
 
 pub returns-in-Ok-pipe_through-clause-piped : goal.returns-in-Ok-pipe_through-clause-piped
 returns-in-Ok-pipe_through-clause-piped g c =

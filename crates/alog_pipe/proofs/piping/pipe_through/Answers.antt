@@ -8,8 +8,10 @@ pub pump_all-log-requires-clause-ready : goal.pump_all-log-requires-clause-ready
 pump_all-log-requires-clause-ready g c =
     let made = c.in-Ok-producer.ensures.made in
     let loggers = ap (λ (s : Shared). length s.loggers) made.shared in
-    let most = made.limit in
-    (omega (arith, c.requires.ready.0, loggers), omega (arith, c.requires.ready.1, most))
+    let most = made.limit in (
+      (omega (arith, c.requires.ready.0, loggers), omega (arith, c.requires.ready.1.0, most)),
+      omega (arith, c.requires.ready.1.1, most),
+    )
 
 pub returns-clause-piped : goal.returns-clause-piped
 returns-clause-piped g c =

@@ -7,7 +7,7 @@ pub finish-requires : goal.finish-requires
 finish-requires g c =
     let new = c.run-fault.new.self.log in
     let ready = ready_on c.args.log new c.requires.ready (all_logger c.run-fault.ensures.pumps.logged) c.run-fault.ensures.same in
-    (ready.0, omega arith)
+    ready.0
 
 pub returns : goal.returns
 returns g c = record {

@@ -1,9 +1,13 @@
-use Rattle.test_laws.proofs.PipedLines.{lines_held, lines_kept, lines_told, on_ok, overruns_none}
+use Rattle.test_laws.proofs.PipedLines.{lines_held, lines_kept, lines_told, none_untold, on_ok, overruns_none}
 use Rattle.test_laws.proofs.piped_lines.pipe_lines.Goals as goal
 
 pub returns-clause-spared : goal.returns-clause-spared
 returns-clause-spared g c =
     on_ok _ (λ p h. overruns_none g.S.Store.tells g.S.Store.files g.S.Store.failures h) c.pipe-piped.result
+
+pub returns-clause-said : goal.returns-clause-said
+returns-clause-said g c =
+    on_ok _ (λ p h n bytes f. none_untold g.S.Store.tells g.S.Store.files g.S.Store.failures h f) c.pipe-piped.result
 
 pub returns-clause-kept : goal.returns-clause-kept
 returns-clause-kept g c =

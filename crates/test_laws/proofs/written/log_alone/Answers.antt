@@ -24,6 +24,6 @@ returns-then-is_posted g c =
       ends = c.end-report.ensures;
       posted = c.is_posted.ensures c.if-is_posted.true;
     } in
-    λ single tell counts s n found waits sinks none.
+    λ single tell s n found waits sinks none.
     logged_alone g.S.Store.tells g.S.Store.files g.S.Store.failures c.one_worker_writes_in_order.ensures c.posted_logs_put_their_text_in.ensures
-    once single tell counts (record { spec = s; found = found; waits = waits; sinks = sinks }) none
+    once single tell (record { spec = s; found = found; waits = waits; sinks = sinks }) none

@@ -7,7 +7,7 @@ use Rattle.alog_pipe.proofs.piece_log.PieceLog.log_found.Goals as goal
 pub returns-in-Ok-clause-found : goal.returns-in-Ok-clause-found
 returns-in-Ok-clause-found g c =
     let old = c.args.self.now in
-    let s = spec_there old.producer.shared.loggers old.logger c.requires.0 in
+    let s = spec_there old.producer.shared.loggers old.logger c.requires.0.0 in
     found_of c.args.time c.args.text.now old c.log.new.self c.in-Ok.reply c.fate_of.result c.fate_of.ensures (record {
       spec = s.0;
       found = s.1;
@@ -18,7 +18,7 @@ returns-in-Ok-clause-found g c =
 pub returns-in-Err-clause-found : goal.returns-in-Err-clause-found
 returns-in-Err-clause-found g c =
     let old = c.args.self.now in
-    let s = spec_there old.producer.shared.loggers old.logger c.requires.0 in
+    let s = spec_there old.producer.shared.loggers old.logger c.requires.0.0 in
     let reason = wants_memory old.producer.limit c.args.text.now c.in-Err.field-0 c.requires.1 c.in-Err.ensures.reason in (
       inr (c.in-Err.ensures.err, (s.0, s.1, c.in-Err.ensures.memory s.0 s.1 (ap Err reason))),
       refl,

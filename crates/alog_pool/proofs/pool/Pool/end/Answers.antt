@@ -141,6 +141,7 @@ returns-clause-ends g c =
       whole = whole;
       moment = moment a j k l producers starts crew count own none gather accounts stops collected.passes collected.worked pool.some whole
           places;
+      counts = left.counts;
       ring = (ring.places, ring.first);
       members = members a j k l producers starts crew count own none gather accounts stops collected.passes collected.worked pool.some;
       stops = (halted.0, subst (λ n. AreEnough n (claims l.own) l.own) every halted.1);

@@ -75,6 +75,7 @@ invariant_of-self g c =
           each = (each3_lengths IsBacktraceSeatPart old new given each).0 ∙ left.each;
           kept = (backtrace_seats_limits inside.text_limit old new given each left.kept).0;
           queued = left.queued;
+          counts = left.counts;
           limits = left.limits;
           few = (omega (arith, more), hired);
           pass_unused = (own.0 ∙ left.pass_unused.0, own.1 ∙ left.pass_unused.1);

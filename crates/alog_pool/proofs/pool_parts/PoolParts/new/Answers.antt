@@ -1,6 +1,7 @@
 use Rattle.std.proofs.Common.{◌≤◌, List, length, ap, refl, sym, subst, ◌∙◌, arith}
 use Rattle.std.specs.Arc.{arc_value}
 use Rattle.alog_pool.proofs.FirstParts.{first_lanes, first_limits, first_parts, first_unused, backtrace_seats_idle, backtrace_seats_kept, backtrace_seats_parts, backtrace_seats_rooms}
+use Rattle.alog_pool.proofs.SharedGaps.{counts_from}
 use Rattle.alog_pool.proofs.SharedSharing.{each2_length}
 use Rattle.alog_pool.specs.Places.{Each2, IsBacktraceSeatOf}
 use Rattle.alog_pool.specs.declared.shared.Shared.{Shared}
@@ -37,6 +38,8 @@ returns g c =
             ∙ ap (λ (ls : List Logger). length ls) (sym shared.loggers);
         kept = backtrace_seats_kept setup.text_limit setup.loggers c.in_ok-backtrace_seats.backtrace_seats.items backtrace_seats;
         queued = queued;
+        counts = counts_from setup (arc_value c.in_ok-shared.shared) (shared.gaps ∙ c.told_from-gaps.ensures)
+            (ap (λ (r : SwapId TextLimit BlockFields). r.ring.first) shared.ring ∙ c.requires.first);
         limits = c.requires.fits.limits;
         few = (omega arith, omega arith);
         pass_unused = (ap (λ k. k.own) known, ap (λ k. k.joined) known);

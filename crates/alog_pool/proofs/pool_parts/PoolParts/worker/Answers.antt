@@ -47,6 +47,7 @@ returns-clause-hires g c = λ n stands few.
         each = stands.each;
         kept = stands.kept;
         queued = stands.queued;
+        counts = stands.counts;
         limits = stands.limits;
         few = (stands.few.0, omega (arith, few));
         pass_unused = (own.0 ∙ stands.pass_unused.0, own.1 ∙ stands.pass_unused.1);
