@@ -10,12 +10,13 @@ use Rattle.alog_pipe.specs.declared.piece_log.Told.{Told}
 use Rattle.alog_pipe.specs.declared.piece_log.Told.TheVariants as told
 use Rattle.alog_policy.specs.SwapPort.{SwapDid}
 use Rattle.alog_policy.specs.declared.policy.Outcome.TheVariants.{Posted, Discarded}
+use Rattle.alog_policy.specs.declared.policy.Policy.TheVariants.{Block}
 use Rattle.alog_pool.specs.Gaps.{gap_text}
 use Rattle.alog_pool.specs.Producer.{ProducerView, IsSame, Lent}
 use Rattle.alog_registry.specs.Given.{message_with}
 use Rattle.alog_registry.specs.LaneKeeper.{KeepsByTurn, NeverPasses}
 use Rattle.alog_registry.specs.Listed.{spec_at}
-use Rattle.alog_registry.specs.Logging.{Logs}
+use Rattle.alog_registry.specs.Logging.{IsLoggedOrSpent, Logs}
 use Rattle.alog_registry.specs.declared.logger.Spec.{Spec}
 use Rattle.alog_registry.specs.declared.logging.LogReply.{LogReply}
 use Rattle.alog_registry.specs.declared.logging.LogReply.TheVariants as reply
@@ -27,6 +28,7 @@ pub record LogsText (logger : ℕ) (level : Level) (time : ℤ) (text : List ℕ
   pub found : spec_at old.shared.loggers logger ≡ Some spec
   pub log : Lent old new logger (λ p k q l. Logs SwapDid KeepsByTurn NeverPasses spec.policy spec
       (message_with logger level time old.number text None) p k answer q l)
+  pub waits : spec.policy ≡ Block → IsLoggedOrSpent answer
   pub same : IsSame old new
 
 -- what became of a text that was answered so

@@ -4,6 +4,7 @@ ghost use Rattle.alog_lane.specs.Seats.{first_known};
 ghost use Rattle.alog_msg.specs.declared.limits.TheConstants.{TEXT_LIMIT_MIN, TEXT_LIMIT_MAX};
 ghost use Rattle.alog_policy.specs.SwapPort.{SwapDid};
 ghost use Rattle.alog_policy.specs.Progress.{without_waiting};
+ghost use Rattle.alog_policy.specs.declared.policy.Policy.TheVariants as under;
 ghost use Rattle.alog_pool.specs.BacktraceSeat.{Keeps, empty_scratch};
 ghost use Rattle.alog_pool.specs.Lending.{LendsAlike};
 ghost use Rattle.alog_pool.specs.Places.{IsBacktraceSeatPart, IsSpareOf};
@@ -13,7 +14,7 @@ ghost use Rattle.alog_registry.specs.Dumping.{PostsEach, posted_of};
 ghost use Rattle.alog_registry.specs.Given.{message_of, IsReason, IsWithin};
 ghost use Rattle.alog_registry.specs.LaneKeeper.{DumpsByTurn, KeepsByTurn, NeverPasses, Passes};
 ghost use Rattle.alog_registry.specs.Listed.{spec_at};
-ghost use Rattle.alog_registry.specs.Logging.{Logs, IsUnread};
+ghost use Rattle.alog_registry.specs.Logging.{IsLoggedOrSpent, Logs, IsUnread};
 ghost use Rattle.alog_registry.specs.declared.logger.Spec.{Spec};
 
 use alog_lane::{Lane, LaneSeat};
@@ -133,6 +134,8 @@ impl BacktraceSeat {
         ensures logs { (s : Spec) → spec_at loggers.now given.entry.logger ≡ Some s
             → IfOk result (λ r. Keeps self.old self.new (λ k l. Logs SwapDid KeepsByTurn NeverPasses s.policy s
             (message_of given.entry) port.old k r port.new l)) }
+        ensures blocks { (s : Spec) → spec_at loggers.now given.entry.logger ≡ Some s → s.policy ≡ under.Block
+            → IfOk result IsLoggedOrSpent }
         ensures within { (s : Spec) → spec_at loggers.now given.entry.logger ≡ Some s
             → IfOk result (λ r. IsUnread s r ⊎ IsWithin self.old.lane.first.limit given.entry.text.now given.entry.source) }
         ensures reason { IfErr result (IsReason self.old.lane.first.limit given.entry.text.now given.entry.source) }

@@ -13,7 +13,7 @@ ghost use Rattle.alog_registry.specs.Dumping.{PostsEach, posted_of};
 ghost use Rattle.alog_registry.specs.Given.{message_with, IsReason, IsWithin};
 ghost use Rattle.alog_registry.specs.LaneKeeper.{DumpsByTurn, KeepsByTurn, NeverPasses, Passes};
 ghost use Rattle.alog_registry.specs.Listed.{spec_at};
-ghost use Rattle.alog_registry.specs.Logging.{Logs, IsUnread};
+ghost use Rattle.alog_registry.specs.Logging.{IsLoggedOrSpent, Logs, IsUnread};
 ghost use Rattle.alog_registry.specs.declared.logger.Spec.{Spec};
 
 use crate::backtrace_seat::BacktraceSeat;
@@ -107,8 +107,8 @@ impl Producer {
         &self.shared.loggers
     }
 
-    /// Logs a message to the logger of this number, as `Loggers::log` does: under `Block` it waits for room, and where the
-    /// logger has a backtrace it waits for its lock. The copy for a backtrace takes memory, and nothing else does.
+    /// Logs a message to the logger of this number, as `Loggers::log` does: under `Block` it waits for room, so that it is discarded
+    /// only where no ticket is left, and where the logger has a backtrace it waits for its lock. The copy for a backtrace takes memory, and nothing else does.
     pub fn log(
         &mut self,
         rt: &(impl Wait + Clock),
@@ -123,6 +123,8 @@ impl Producer {
         ensures logs { (s : Spec) → spec_at self.old.shared.loggers number ≡ Some s
             → IfOk result (λ r. Lent self.old self.new number (λ p k q l. Logs SwapDid KeepsByTurn NeverPasses s.policy s
             (message_with number level time self.old.number text.now source.entry) p k r q l)) }
+        ensures blocks { (s : Spec) → spec_at self.old.shared.loggers number ≡ Some s → s.policy ≡ under.Block
+            → IfOk result IsLoggedOrSpent }
         ensures within { (s : Spec) → spec_at self.old.shared.loggers number ≡ Some s
             → IfOk result (λ r. IsUnread s r ⊎ IsWithin self.old.limit text.now source.entry) }
         ensures reason { IfErr result (IsReason self.old.limit text.now source.entry) }

@@ -5,7 +5,7 @@ use Rattle.alog_msg.specs.declared.item.Item.{Item}
 use Rattle.alog_msg.specs.declared.item.Item.TheVariants.{Text}
 use Rattle.alog_msg.specs.declared.level.Level.{Level}
 use Rattle.alog_msg.specs.declared.message.Message.{Message}
-use Rattle.alog_policy.specs.Outlet.{Doing}
+use Rattle.alog_policy.specs.Outlet.{Doing, IsPostedOrSpent}
 use Rattle.alog_policy.specs.declared.policy.Policy.{Policy}
 use Rattle.alog_registry.specs.ItemOutlet.{PostsItem}
 use Rattle.alog_registry.specs.Keep.{KeptOr}
@@ -59,6 +59,11 @@ module _ {S : Type 0} (did : Doing S Item) where
 abbrev pub IsLogged : LogReply → Type 0
 IsLogged (reply.Filtered level kept) = ⊥
 IsLogged (reply.Logged outcome kept) = Unit {0}
+
+-- what is answered where the post waits for room: it is discarded only where no ticket is left
+abbrev pub IsLoggedOrSpent : LogReply → Type 0
+IsLoggedOrSpent (reply.Filtered level kept) = Unit {0}
+IsLoggedOrSpent (reply.Logged outcome kept) = IsPostedOrSpent outcome
 
 -- what an answer says of the message's being kept
 abbrev pub kept_by : LogReply → Bool

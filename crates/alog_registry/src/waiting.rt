@@ -13,7 +13,7 @@ ghost use Rattle.alog_registry.specs.ItemOutlet.{PostsItem};
 ghost use Rattle.alog_registry.specs.LaneKeeper.{IsSeated, HasList, KeepsByTurn, DumpsByTurn, NeverPasses};
 ghost use Rattle.alog_registry.specs.Limit.{AdmitsShort, IsShort};
 ghost use Rattle.alog_registry.specs.Listed.{spec_at};
-ghost use Rattle.alog_registry.specs.Logging.{IsBelow, IsBrought, IsLogged, Logs, IsUnread};
+ghost use Rattle.alog_registry.specs.Logging.{IsBelow, IsBrought, IsLogged, IsLoggedOrSpent, Logs, IsUnread};
 ghost use Rattle.alog_registry.specs.declared.logger.Spec.{Spec};
 
 use crate::dumped::Dumped;
@@ -31,8 +31,8 @@ use std::sync::Wait;
 use std::time::Clock;
 
 impl Loggers {
-    /// Logs a message as `log_now` does, but waits: under `Block` until there is room, and for the lock of the
-    /// backtrace, so that it is always kept where there is one. That it returns is not promised. The test `logs_with_waiting`
+    /// Logs a message as `log_now` does, but waits: under `Block` until there is room, so that it is discarded only where no
+    /// ticket is left, and for the lock of the backtrace, so that it is always kept where there is one. That it returns is not promised. The test `logs_with_waiting`
     /// shows it.
     pub fn log<O: WaitingItemOutlet>(
         &self,
@@ -60,6 +60,7 @@ impl Loggers {
         ensures reason { IfErr result (IsReason text_limit text.now source.entry) }
         ensures memory { (s : Spec) → spec_at self.now number ≡ Some s → IsErrOf result MessageError.OutOfMemory
             → O.wants_memory ⊎ (s.backtrace ≢ 0) }
+        ensures blocks { (s : Spec) → spec_at self.now number ≡ Some s → s.policy ≡ under.Block → IfOk result IsLoggedOrSpent }
         ensures err { OnErr result ((outlet.new ≡ outlet.old) × (keeper.new ≡ keeper.old)) }
         ensures ready { O.is_ready outlet.new × IsSeated keeper.new }
         ensures list { HasList keeper.old → HasList keeper.new }
@@ -99,6 +100,8 @@ impl Loggers {
         ensures reason { IfErr result (IsReason text_limit given.entry.text.now given.entry.source) }
         ensures memory { (s : Spec) → spec_at self.now given.entry.logger ≡ Some s → IsErrOf result MessageError.OutOfMemory
             → O.wants_memory ⊎ (s.backtrace ≢ 0) }
+        ensures blocks { (s : Spec) → spec_at self.now given.entry.logger ≡ Some s → s.policy ≡ under.Block
+            → IfOk result IsLoggedOrSpent }
         ensures err { OnErr result ((outlet.new ≡ outlet.old) × (keeper.new ≡ keeper.old)) }
         ensures ready { O.is_ready outlet.new × IsSeated keeper.new }
         ensures list { HasList keeper.old → HasList keeper.new }
@@ -200,6 +203,7 @@ fn bring<O: WaitingItemOutlet>(
     requires limit { (TEXT_LIMIT_MIN ≤ text_limit) × (text_limit ≤ TEXT_LIMIT_MAX) }
     requires ready { O.is_ready outlet.old × AdmitsShort O.admits text_limit outlet.old }
     ensures brought { IfOk result (λ r. IsBrought O.did own policy kept (message_of given.entry) outlet.old r outlet.new) }
+    ensures blocks { policy ≡ under.Block → IfOk result IsLoggedOrSpent }
     ensures within { IfOk result (λ r. IsLogged r → IsWithin text_limit given.entry.text.now given.entry.source) }
     ensures reason { IfErr result (IsReason text_limit given.entry.text.now given.entry.source) }
     ensures err { OnErr result (outlet.new ≡ outlet.old) }
@@ -234,6 +238,7 @@ fn bring_and_keep<O: WaitingItemOutlet>(
     requires outlet { O.is_ready outlet.old × AdmitsShort O.admits text_limit outlet.old }
     requires keeper { IsSeated keeper.old × (text_limit ≤ keeper.old.lane.now.first.limit) }
     ensures brought { IfOk result (λ r. IsBrought O.did own policy true (message_of given.entry) outlet.old r outlet.new) }
+    ensures blocks { policy ≡ under.Block → IfOk result IsLoggedOrSpent }
     ensures kept { IfOk result (λ _. KeepsByTurn keeper.old (message_of given.entry) keeper.new) }
     ensures within { IfOk result (λ _. IsWithin text_limit given.entry.text.now given.entry.source) }
     ensures reason { IfErr result (IsReason text_limit given.entry.text.now given.entry.source) }

@@ -10,6 +10,7 @@ use Rattle.alog_policy.specs.SwapPort.{SwapDid}
 use Rattle.alog_policy.specs.Progress.{without_waiting}
 use Rattle.alog_policy.specs.declared.policy.Outcome.{Outcome}
 use Rattle.alog_policy.specs.declared.policy.Policy.{Policy}
+use Rattle.alog_policy.specs.declared.policy.Policy.TheVariants.{Block}
 use Rattle.alog_registry.specs.BlockPort.{BlockPort}
 use Rattle.alog_pool.specs.Producer.{ProducerView, IsPortOf, IsSame, Lent}
 use Rattle.alog_registry.specs.Backtrace.{Room}
@@ -18,7 +19,7 @@ use Rattle.alog_registry.specs.Dumping.{PostsEach, posted_of}
 use Rattle.alog_registry.specs.Given.{message_with, IsWithin, IsTooLongField}
 use Rattle.alog_registry.specs.LaneKeeper.{DumpsByTurn, KeepsByTurn, NeverPasses, Passes}
 use Rattle.alog_registry.specs.Listed.{spec_at}
-use Rattle.alog_registry.specs.Logging.{Logs, IsUnread}
+use Rattle.alog_registry.specs.Logging.{IsLoggedOrSpent, Logs, IsUnread}
 use Rattle.alog_registry.specs.declared.keep.LaneKeeper.{LaneKeeper}
 use Rattle.alog_registry.specs.declared.logger.Spec.{Spec}
 use Rattle.alog_registry.specs.declared.logging.LogReply.{LogReply}
@@ -35,11 +36,17 @@ abbrev pub LogsSo : How → Spec → Message → BlockPort → LaneKeeper → Lo
 LogsSo Waiting s m p k reply q l = Logs SwapDid KeepsByTurn NeverPasses s.policy s m p k reply q l
 LogsSo AtOnce s m p k reply q l = Logs SwapDid KeepsByTurn Passes (without_waiting s.policy) s m p k reply q l
 
+-- what it answers under a policy that blocks, if the call may wait: its post is discarded only where no ticket is left
+abbrev pub WaitsSo : How → Spec → LogReply → Type 0
+WaitsSo Waiting s reply = s.policy ≡ Block → IsLoggedOrSpent reply
+WaitsSo AtOnce s reply = Unit {0}
+
 -- The producer logged the message with these fields and its own number to the logger of this number, which answered so.
 pub record HasLogged (time : ℤ) (how : How) (number : ℕ) (level : Level) (text : List ℕ) (source : Option SourceRef) (old : ProducerView)
     (reply : LogReply) (new : ProducerView) : Type 0 where
   pub logs : (s : Spec) → spec_at old.shared.loggers number ≡ Some s
       → Lent old new number (λ p k q l. LogsSo how s (message_with number level time old.number text source) p k reply q l)
+  pub waits : (s : Spec) → spec_at old.shared.loggers number ≡ Some s → WaitsSo how s reply
   pub within : (s : Spec) → spec_at old.shared.loggers number ≡ Some s → IsUnread s reply ⊎ IsWithin old.limit text source
   pub same : IsSame old new
 

@@ -19,6 +19,7 @@ returns-in-Posted-clause-tells g c =
       spec = s.0;
       found = s.1;
       log = simp (to_z-of_z, c.ranges.time) at (c.in-Ok.ensures.logs s.0 s.1);
+      waits = c.in-Ok.ensures.blocks s.0 s.1;
       same = c.log.ensures.same;
     }) in
     inr (
@@ -42,6 +43,7 @@ returns-in-Ok-clause-tells g c =
           spec = s.0;
           found = s.1;
           log = simp (to_z-of_z, c.ranges.time) at (c.in-Ok.ensures.logs s.0 s.1);
+          waits = c.in-Ok.ensures.blocks s.0 s.1;
           same = c.log.ensures.same;
         }),
         sym c.fate_of.ensures ∙ c.in-Missing.is,

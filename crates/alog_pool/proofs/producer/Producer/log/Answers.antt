@@ -4,6 +4,7 @@ use Rattle.std.specs.Arc.{arc_value}
 use Rattle.std.proofs.lemmas.Int.{to_z-of_z}
 use Rattle.std.proofs.lemmas.Option.{slice_get_read}
 use Rattle.alog_policy.specs.SwapPort.{SwapDid}
+use Rattle.alog_policy.specs.declared.policy.Policy.TheVariants as under
 use Rattle.alog_pool.specs.BacktraceSeat.{BacktraceSeatView}
 use Rattle.alog_pool.specs.Producer.{ProducerView, Lent}
 use Rattle.alog_pool.specs.declared.shared.Shared.{Shared}
@@ -11,7 +12,7 @@ use Rattle.alog_pool.proofs.Producing.{lent_log, kept_at, port_after}
 use Rattle.alog_registry.specs.Given.{message_with, IsWithin}
 use Rattle.alog_registry.specs.LaneKeeper.{KeepsByTurn, NeverPasses}
 use Rattle.alog_registry.specs.Listed.{spec_at}
-use Rattle.alog_registry.specs.Logging.{Logs, IsUnread}
+use Rattle.alog_registry.specs.Logging.{IsLoggedOrSpent, Logs, IsUnread}
 use Rattle.alog_registry.specs.declared.logger.Spec.{Spec}
 use Rattle.alog_pool.proofs.producer.Producer.log.Goals as goal
 
@@ -79,3 +80,10 @@ returns-clause-within g c =
     subst P c.self.view_is (λ s e.
     subst (λ n. IfOk c.log.result (λ r. IsUnread s r ⊎ IsWithin n c.args.text.now c.args.source)) limit
     (c.log.ensures.within s (ap (λ (x : Shared). spec_at x.loggers c.args.number) c.deref-shared.ensures ∙ e)))
+
+pub returns-clause-blocks : goal.returns-clause-blocks
+returns-clause-blocks g c =
+    let P : ProducerView → Type 0 = λ w. (s : Spec) → spec_at w.shared.loggers c.args.number ≡ Some s → s.policy ≡ under.Block
+    → IfOk c.log.result IsLoggedOrSpent in
+    subst P c.self.view_is (λ s e b.
+    c.log.ensures.blocks s (ap (λ (x : Shared). spec_at x.loggers c.args.number) c.deref-shared.ensures ∙ e) b)
