@@ -134,22 +134,25 @@ pub(crate) fn has_lost(rt: &impl Abort, book: &LossBook, seat: &mut BookSeat, lo
     assert!(rt; book.counts(seat) == Counts { overrun, discarded });
 }
 
-/// A post that never waits is discarded for this reason, and counted so.
-pub(crate) fn is_discarded(
+/// Posts that never wait are discarded, each under its policy for its reason, and one book counts each.
+pub(crate) fn are_discarded(
     rt: &(impl Abort + Wait + Clock),
     alloc: Global,
     ring: &Ring<u64>,
     pass: &mut Pass<u64>,
-    policy: Policy,
-    why: Why,
+    posts: &[(Policy, Why)],
 )
     requires { IsPassOf ring.now pass.old }
     ensures { IsPassOf ring.now pass.new }
 {
     let (book, mut seat) = new_book(rt, alloc);
-    let row = (Way::Now, policy, 9, Err(why));
-    go_on(rt, ring, pass, &book, &mut seat, &[row]);
-    has_lost(rt, &book, &mut seat, (0, 1));
+    let mut discarded = 0_u64;
+    for (policy, why) in posts {
+        let row = (Way::Now, *policy, 9, Err(*why));
+        go_on(rt, ring, pass, &book, &mut seat, &[row]);
+        discarded = discarded.wrapping_add(1);
+        has_lost(rt, &book, &mut seat, (0, discarded));
+    }
 }
 
 /// The book is closed with so much lost.

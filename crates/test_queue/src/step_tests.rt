@@ -3,7 +3,7 @@ ghost use Rattle.std.specs.Prelude.{◌≡◌};
 ghost use Rattle.alog_ring.specs.Known.{IsPassOf};
 
 use crate::crossing_tests::Worker;
-use crate::port_tests::is_discarded;
+use crate::port_tests::are_discarded;
 use crate::ring_tests::{Deed, goes_on, has_parts, is_told, leaves, ring_of, stays};
 use alog_policy::{Policy, Why};
 use alog_ring::{ALL_PARTS, Pass, PopError, Ring, StepGate};
@@ -152,7 +152,7 @@ struct Held<'a> {
     call: Deed,
     step: u32,
     steps: u64,
-    /// What another thread meets meanwhile, which of its posts are discarded there, and what it meets then.
+    /// What another thread meets meanwhile, which of its posts are discarded there, counted by one book, and what it meets then.
     beside: &'a [Deed],
     discarded: &'a [(Policy, Why)],
     after: &'a [Deed],
@@ -175,9 +175,7 @@ fn goes_beside<'a>(
     assert!(rt; is_raised(&hold.reached));
     let Worker { ring, mut pass } = worker;
     goes_on(rt, ring, &mut pass, row.beside);
-    for (policy, why) in row.discarded {
-        is_discarded(rt, alloc, ring, &mut pass, *policy, *why);
-    }
+    are_discarded(rt, alloc, ring, &mut pass, row.discarded);
     hold.open();
     Worker { ring, pass }
 }
