@@ -110,8 +110,8 @@ impl Gaps {
 /// The text that says that so many lines are missing: `17 lines are missing here`. It takes no memory, and is as long as any queue's
 /// text limit allows.
 pub fn gap_text(missing: u64) -> ArrayString<TEXT_LIMIT_MIN>
-    ensures text { result.bytes ≡ gap_text missing.now }
-    ensures fits { length (gap_text missing.now) ≤ TEXT_LIMIT_MIN }
+    ensures text { result.bytes ≡ gap_text missing }
+    ensures fits { length (gap_text missing) ≤ TEXT_LIMIT_MIN }
 {
     let mut text = ArrayString::<TEXT_LIMIT_MIN>::new();
     text.push_str(Buffer::new().format(missing));
