@@ -71,7 +71,7 @@ found_logger (inr (inr h)) = ap (λ (l : PieceLog). l.logger) h.1
 
 untold_logger : {time : ℤ} {old mid : PieceLog} → (Tells time told.NoRoom old mid ⊎ Tells time told.NoMemory old mid) → mid.logger ≡ old.logger
 untold_logger (inl h) = ap (λ (l : PieceLog). l.logger) h.2
-untold_logger (inr h) = ap (λ (l : PieceLog). l.logger) h.1
+untold_logger (inr h) = ap (λ (l : PieceLog). l.logger) h.2
 
 -- whatever was answered, it was tried to tell
 pub tried : (told : Told) {time : ℤ} {old new : PieceLog} → Tells time told old new → TriesToTell time old new

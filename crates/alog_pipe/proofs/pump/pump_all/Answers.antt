@@ -1,4 +1,4 @@
-use Rattle.std.proofs.Common.{refl, arith}
+use Rattle.std.proofs.Common.{refl}
 use Rattle.alog_pipe.proofs.Logging.{ready_on, same_on}
 use Rattle.alog_pipe.proofs.Pumping.{all_logger}
 use Rattle.alog_pipe.proofs.pump.pump_all.Goals as goal

@@ -13,7 +13,7 @@ pub returns-in-Posted-clause-tells : goal.returns-in-Posted-clause-tells
 returns-in-Posted-clause-tells g c =
     let old = c.args.self.now in
     let s = spec_there old.producer.shared.loggers old.logger c.requires.0 in
-    let text : c.as_str.result.now ≡ gap_text old.hole = c.as_str.ensures ∙ c.gap_text-text.ensures.text in
+    let text : c.as_str.result.now ≡ gap_text old.hole = c.as_str.ensures.value ∙ c.gap_text-text.ensures.text in
     let logged =
     subst (λ (t : List ℕ). LogsText old.logger Warning c.args.time t c.in-Ok.reply old.producer c.log.new.self) text (record {
       spec = s.0;
@@ -31,11 +31,11 @@ returns-in-Posted-clause-tells g c =
       refl,
     )
 
-pub returns-in-Ok-clause-tells : goal.returns-in-Ok-clause-tells
-returns-in-Ok-clause-tells g c =
+pub returns-in-Missing-clause-tells : goal.returns-in-Missing-clause-tells
+returns-in-Missing-clause-tells g c =
     let old = c.args.self.now in
     let s = spec_there old.producer.shared.loggers old.logger c.requires.0 in
-    let text : c.as_str.result.now ≡ gap_text old.hole = c.as_str.ensures ∙ c.gap_text-text.ensures.text in (
+    let text : c.as_str.result.now ≡ gap_text old.hole = c.as_str.ensures.value ∙ c.gap_text-text.ensures.text in (
       omega (arith, c.if-number-eq0.false),
       (
         c.in-Ok.reply,
@@ -55,7 +55,7 @@ pub returns-in-Err-clause-tells : goal.returns-in-Err-clause-tells
 returns-in-Err-clause-tells g c =
     let old = c.args.self.now in
     let s = spec_there old.producer.shared.loggers old.logger c.requires.0 in
-    let text : c.as_str.result.now ≡ gap_text old.hole = c.as_str.ensures ∙ c.gap_text-text.ensures.text in
+    let text : c.as_str.result.now ≡ gap_text old.hole = c.as_str.ensures.value ∙ c.gap_text-text.ensures.text in
     let short : length c.as_str.result.now ≤ TEXT_LIMIT_MIN =
     subst (λ (t : List ℕ). length t ≤ TEXT_LIMIT_MIN) (sym text) c.gap_text-text.ensures.fits in
     let room = c.requires.1 in
