@@ -10,6 +10,7 @@ use Rattle.alog_msg.specs.declared.source.SourceRef.{SourceRef}
 use Rattle.alog_policy.specs.SwapPort.{SwapDid}
 use Rattle.alog_policy.specs.Progress.{without_waiting}
 use Rattle.alog_policy.specs.declared.policy.Outcome.{Outcome}
+use Rattle.alog_policy.specs.declared.policy.Policy.TheVariants.{Block}
 use Rattle.alog_pool.specs.Producer.{ProducerView, IsSame, Lent}
 use Rattle.alog_registry.specs.Backtrace.{Room}
 use Rattle.alog_registry.specs.Dumping.{PostsEach, posted_of}
@@ -17,11 +18,11 @@ use Rattle.alog_registry.specs.Given.{message_with, IsWithin}
 use Rattle.alog_registry.specs.Given as given
 use Rattle.alog_registry.specs.LaneKeeper.{DumpsByTurn}
 use Rattle.alog_registry.specs.Listed.{spec_at}
-use Rattle.alog_registry.specs.Logging.{IsUnread}
+use Rattle.alog_registry.specs.Logging.{IsLoggedOrSpent, IsUnread}
 use Rattle.alog_registry.specs.declared.logger.Spec.{Spec}
 use Rattle.alog_registry.specs.declared.logging.LogReply.{LogReply}
 use Rattle.alog_server.specs.Reasons.{answer_of, outcomes_of, told}
-use Rattle.alog_server.specs.Says.{How, LogsSo, IsReason, WantsForBacktrace, SaysAt, DumpsAt}
+use Rattle.alog_server.specs.Says.{How, Waiting, AtOnce, LogsSo, WaitsSo, IsReason, WantsForBacktrace, SaysAt, DumpsAt}
 
 abbrev Answer : Type 0
 Answer = Result LogReply MessageError
@@ -44,15 +45,25 @@ pub record Did (time : ℤ) (how : How) (number : ℕ) (level : Level) (text : L
     (r : Answer) : Type 0 where
   pub logs : (s : Spec) → spec_at old.shared.loggers number ≡ Some s → IfOk r (λ reply. Lent old new number
       (λ p k q l. LogsSo how s (message_with number level time old.number text source) p k reply q l))
+  pub waits : (s : Spec) → spec_at old.shared.loggers number ≡ Some s → IfOk r (λ reply. WaitsSo how s reply)
   pub within : (s : Spec) → spec_at old.shared.loggers number ≡ Some s → IfOk r (λ reply. IsUnread s reply ⊎ IsWithin old.limit text source)
   pub why : IfErr r (given.IsReason old.limit text source)
   pub memory : (s : Spec) → spec_at old.shared.loggers number ≡ Some s → IsErrOf r message.OutOfMemory → s.backtrace ≢ 0
   pub left : OnErr r (new ≡ old)
   pub same : IsSame old new
 
+-- what a log answers under block, if it may wait, and if it may not
+pub may_wait : (s : Spec) (r : Answer) → (s.policy ≡ Block → IfOk r IsLoggedOrSpent) → IfOk r (λ reply. WaitsSo Waiting s reply)
+may_wait s (Ok reply) blocks = blocks
+may_wait s (Err e) blocks = tt
+
+pub at_once : (s : Spec) (r : Answer) → IfOk r (λ reply. WaitsSo AtOnce s reply)
+at_once s (Ok reply) = tt
+at_once s (Err e) = tt
+
 pub said : {time : ℤ} {how : How} {number : ℕ} {level : Level} {text : List ℕ} {source : Option SourceRef} {old new : ProducerView}
     (r : Answer) → Did time how number level text source old new r → SaysAt time how number level text source old (answer_of r) new
-said (Ok reply) did = record { logs = did.logs; within = did.within; same = did.same }
+said (Ok reply) did = record { logs = did.logs; waits = did.waits; within = did.within; same = did.same }
 said {number} {text} {source} {old} (Err e) did =
     (did.left, reason old.limit text source e did.why, for_backtrace number old e (λ s at is. did.memory s at (ap Err is)))
 

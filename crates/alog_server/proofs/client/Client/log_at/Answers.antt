@@ -4,7 +4,7 @@ use Rattle.alog_pool.specs.Producer.{ProducerView}
 use Rattle.alog_registry.specs.declared.logging.LogReply.{LogReply}
 use Rattle.alog_server.specs.Says.{SaysAt, Waiting}
 use Rattle.alog_server.specs.declared.error.LogError.{LogError}
-use Rattle.alog_server.proofs.Saying.{Did, said}
+use Rattle.alog_server.proofs.Saying.{Did, may_wait, said}
 use Rattle.alog_server.proofs.client.Client.log_at.Goals as goal
 
 pub returns : goal.returns
@@ -16,6 +16,7 @@ returns g c =
     let logs = simp (to_z-of_z, c.ranges.time) at does.logs in
     let did : Did c.args.time Waiting n c.args.level c.args.text.now c.args.source old new c.log-answer.result = record {
       logs = logs;
+      waits = λ s at. may_wait s c.log-answer.result (does.blocks s at);
       within = does.within;
       why = does.reason;
       memory = does.memory;

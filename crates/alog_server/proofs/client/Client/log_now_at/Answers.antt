@@ -4,7 +4,7 @@ use Rattle.alog_pool.specs.Producer.{ProducerView}
 use Rattle.alog_registry.specs.declared.logging.LogReply.{LogReply}
 use Rattle.alog_server.specs.Says.{SaysAt, AtOnce}
 use Rattle.alog_server.specs.declared.error.LogError.{LogError}
-use Rattle.alog_server.proofs.Saying.{Did, said}
+use Rattle.alog_server.proofs.Saying.{Did, at_once, said}
 use Rattle.alog_server.proofs.client.Client.log_now_at.Goals as goal
 
 pub returns : goal.returns
@@ -16,6 +16,7 @@ returns g c =
     let logs = simp (to_z-of_z, c.ranges.time) at does.logs in
     let did : Did c.args.time AtOnce n c.args.level c.args.text.now None old new c.log_now-answer.result = record {
       logs = logs;
+      waits = λ s at. at_once s c.log_now-answer.result;
       within = does.within;
       why = does.reason;
       memory = does.memory;
