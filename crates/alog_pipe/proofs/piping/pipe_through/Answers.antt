@@ -9,8 +9,8 @@ pump_all-log-requires-clause-ready g c =
     let made = c.in-Ok-producer.ensures.made in
     let loggers = ap (λ (s : Shared). length s.loggers) made.shared in
     let most = made.limit in (
-      (omega (arith, c.requires.ready.0, loggers), omega (arith, c.requires.ready.1.0, most)),
-      omega (arith, c.requires.ready.1.1, most),
+      (omega (arith, c.requires.ready.0, loggers), omega (arith, c.requires.ready.1, most)),
+      omega (arith, c.requires.ready.2, most),
     )
 
 pub returns-clause-piped : goal.returns-clause-piped
