@@ -85,6 +85,20 @@ fn narrow(policy: Policy, tells_gaps: bool) -> Plan {
     }
 }
 
+// So many were asked, discarded and overrun, and the one worker has these tickets and wrote these lines.
+fn was_full(
+    rt: &impl Abort,
+    report: &Report<Files>,
+    totals: (u64, u64, u64),
+    tickets: &[u64],
+    bytes: &[u8],
+) {
+    let (asked, discarded, overrun) = totals;
+    has_totals(rt, report, asked, discarded, overrun);
+    has_tickets(rt, report, 0, tickets);
+    has(rt, report, 0, bytes);
+}
+
 // A text is logged to a queue of two places, whose worker is held at it until its producer has done this.
 fn is_full<R>(
     rt: &R,
@@ -107,10 +121,8 @@ where
     do_all(rt, alloc, &mut trial, deeds);
     open(&flags);
     let report = trial.end(rt);
-    let (asked, discarded, overrun) = totals;
-    has_totals(rt, &report, asked, discarded, overrun);
-    has_tickets(rt, &report, 0, tickets);
-    has(rt, &report, 0, bytes);
+    assert!(rt; holder(rt, &flags) == 0);
+    was_full(rt, &report, totals, tickets, bytes);
 }
 
 // The policy, whether gaps are told, what is done where two texts find room, how many are asked, discarded and overrun, the tickets that

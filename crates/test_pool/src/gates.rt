@@ -1,4 +1,4 @@
-//! A gate that holds a worker.
+//! A gate that holds a worker, and flags by which a thread is held.
 use alog_pool::Gate;
 use std::alloc::Global;
 use std::process::Abort;
@@ -9,8 +9,8 @@ use std::thread;
 /// How often a flag is looked at.
 const LOOKS: u32 = 1_000_000;
 
-/// Whether the turns of the first ticket are about to begin, which worker makes them, whether it may go on, and whether it waited
-/// for that in vain.
+/// Whether a thread is held, by which number it said so, whether it may go on, and whether it waited for that in vain: of a gate the
+/// worker that is about to begin the turns of the first ticket.
 #[derive(Drop)]
 pub struct Flags {
     begun: AtomicBool,
@@ -44,20 +44,28 @@ fn is_raised(flag: &AtomicBool) -> bool {
     false
 }
 
-/// The turns of the first ticket are about to begin.
+/// A thread is held.
 pub fn has_begun(rt: &impl Abort, flags: &Flags) {
     assert!(rt; is_raised(&flags.begun));
 }
 
-/// Its worker may go on.
+/// It may go on.
 pub fn open(flags: &Flags) {
     flags.open.store(true, Ordering::SeqCst);
 }
 
-/// The worker of the first ticket, which was let go on.
+/// The number of the thread that was held, which was let go on.
 pub fn holder(rt: &impl Abort, flags: &Flags) -> u32 {
     assert!(rt; flags.open.load(Ordering::SeqCst) && !flags.in_vain.load(Ordering::SeqCst));
     flags.holder.load(Ordering::SeqCst)
+}
+
+/// The thread of this number waits to be let go on.
+pub fn stay(flags: &Flags, number: u32) {
+    flags.holder.store(number, Ordering::SeqCst);
+    flags.begun.store(true, Ordering::SeqCst);
+    let is_open = is_raised(&flags.open);
+    flags.in_vain.store(!is_open, Ordering::SeqCst);
 }
 
 /// A gate that holds the worker of the first ticket until this ticket was handled, or a test opens it.
@@ -78,10 +86,7 @@ pub fn holds_until(rt: &impl Abort, flags: &Arc<Flags>, until: u64) -> HoldsFirs
 impl Gate for HoldsFirst {
     fn before(&self, worker: u32, ticket: u64) {
         if ticket == 0 {
-            self.flags.holder.store(worker, Ordering::SeqCst);
-            self.flags.begun.store(true, Ordering::SeqCst);
-            let is_open = is_raised(&self.flags.open);
-            self.flags.in_vain.store(!is_open, Ordering::SeqCst);
+            stay(&self.flags, worker);
         }
     }
 

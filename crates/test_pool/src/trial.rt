@@ -168,7 +168,7 @@ fn room(rt: &impl Abort, alloc: Global, count: usize) -> Vec<Producer>
 }
 
 /// Adds a producer to those.
-fn add(rt: &impl Abort, all: &mut Vec<Producer>, producer: Producer)
+pub fn add(rt: &impl Abort, all: &mut Vec<Producer>, producer: Producer)
     ensures { all.new.items ≡ all.old.items ++ producer ∷ [] }
 {
     match all.push(producer) {
@@ -197,7 +197,7 @@ fn made<S: Store + Drop + Send + 'static>(
 }
 
 /// This producer logs this text, of this level, to this logger. Where memory was wanting, it logs it again.
-fn log_again(
+pub fn log_again(
     rt: &(impl Abort + Wait + Clock),
     alloc: Global,
     producer: &mut Producer,
@@ -230,7 +230,7 @@ fn dump_again(rt: &(impl Abort + Wait + Clock), alloc: Global, producer: &mut Pr
 }
 
 /// A pool of which a producer is out does not end: it comes back as it was, with the others.
-fn kept<S: Store + Drop + Send + 'static>(
+pub fn kept<S: Store + Drop + Send + 'static>(
     rt: &(impl Abort + Threads + Wait + Clock),
     pool: Pool<S>,
     producers: Vec<Producer>,
