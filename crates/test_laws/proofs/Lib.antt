@@ -7,7 +7,10 @@ mod Held
 mod OneText
 mod Posts
 mod PieceLogs
+mod Throughout
 mod Overruns
+mod Spent
+mod Tickets
 mod Answered
 mod Stretches
 mod Texts

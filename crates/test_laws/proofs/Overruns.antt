@@ -1,5 +1,5 @@
 -- What a pipe takes out of the queue: nothing, where the policy of its logger does not overrun the oldest.
-use Rattle.std.proofs.Common.{◌≡◌, ◌≢◌, ◌⊎◌, ℕ, zero, suc, ℤ, Some, List, [], ◌∷◌, ◌++◌, refl, sym, ap, subst, ◌∙◌, append_assoc, append-nil, inl, inr}
+use Rattle.std.proofs.Common.{◌≡◌, ◌≢◌, ◌⊎◌, ℕ, ℤ, List, [], ◌∷◌, ◌++◌, refl, sym, ap, subst, ◌∙◌, append_assoc, append-nil, inl, inr}
 use Rattle.std.specs.List.{AllByRecursion}
 use Rattle.alog_core.specs.Accounts.{got_by, takes}
 use Rattle.alog_core.specs.History.{Entry}
@@ -7,9 +7,8 @@ use Rattle.alog_core.specs.Queue.{Event}
 use Rattle.alog_lines.specs.Pieces.{Piece}
 use Rattle.alog_msg.specs.declared.item.Item.{Item}
 use Rattle.alog_msg.specs.declared.level.Level.{Level}
-use Rattle.alog_pipe.specs.Logged.{LogsPieceAt, LogsText}
-use Rattle.alog_pipe.specs.InTurn.{InTurn}
-use Rattle.alog_pipe.specs.Piped.{Finishes, LogsAll, LogsNext, Naps, Rests, TriesToTell}
+use Rattle.alog_pipe.specs.Logged.{LogsText}
+use Rattle.alog_pipe.specs.Piped.{Finishes, LogsAll}
 use Rattle.alog_policy.specs.Post.{Round, PushBeaten, Overran, PopBeaten, Waited, IsRoundUnder, events_of_round, events_of_rounds}
 use Rattle.alog_policy.specs.Post.{End, Wrote, OutOfTickets, NoRoom, NothingToTake, AllGrabbed, OutOfRounds, events_of_end, IsPost}
 use Rattle.alog_policy.specs.SwapPort.{AreBy, SwapMade, SwapDid}
@@ -17,16 +16,15 @@ use Rattle.alog_policy.specs.declared.policy.Outcome.{Outcome}
 use Rattle.alog_policy.specs.declared.policy.Policy.{Policy}
 use Rattle.alog_policy.specs.declared.policy.Policy.TheVariants.{OverrunOldest}
 use Rattle.alog_pool.specs.Producer.{ProducerView, IsPortOf}
-use Rattle.alog_pool.specs.declared.shared.Shared.{Shared}
 use Rattle.alog_registry.specs.BlockPort.{BlockPort, block_note}
 use Rattle.alog_registry.specs.ItemOutlet.{PostsItem}
-use Rattle.alog_registry.specs.Listed.{spec_at}
 use Rattle.alog_registry.specs.declared.logger.Spec.{Spec}
 use Rattle.alog_registry.specs.declared.logging.LogReply.{LogReply}
 use Rattle.alog_registry.specs.declared.logging.LogReply.TheVariants as reply
 use Rattle.alog_ring.specs.Known.{PassView}
 use Rattle.test_laws.proofs.Claims.{Given}
-use Rattle.test_laws.proofs.PieceLogs.{LacksMemory, LacksRoom, PieceLog, TellsAll}
+use Rattle.test_laws.proofs.PieceLogs.{PieceLog}
+use Rattle.test_laws.proofs.Throughout.{IsWith, LogsOne, finish_keeps, pieces_keep}
 
 abbrev Deed : Type 0
 Deed = Entry Item block_note
@@ -99,114 +97,29 @@ module _ {q : Policy} (never : q ≢ OverrunOldest) where
 abbrev pub takes_by_now : PieceLog → List Given
 takes_by_now log = takes log.producer.pass.known.own
 
-module _ (spec : Spec) (never : spec.policy ≢ OverrunOldest) where
-  -- the logger is this one
-  abbrev pub IsWith : PieceLog → Type 0
-  IsWith log = spec_at log.producer.shared.loggers log.logger ≡ Some spec
+-- a text
+text_takes : (logger : ℕ) (level : Level) (time : ℤ) (text : List ℕ) (answer : LogReply) (old new : ProducerView)
+    → (l : LogsText logger level time text answer old new) → l.spec.policy ≢ OverrunOldest → takes new.pass.known.own ≡ takes old.pass.known.own
+text_takes logger level time text (reply.Filtered own kept) old new l other =
+    let still : l.log.after ≡ l.log.port = l.log.kept.called.1 in
+    ap (λ (u : Pass). takes u.known.own) (sym l.log.left.pass ∙ ap (λ (q : BlockPort). q.pass.now) still ∙ l.log.lent.pass)
+text_takes logger level time text (reply.Logged outcome kept) old new l other = post_takes other l.log.lent l.log.left l.log.kept.called.0
 
-  same_spec : (log : PieceLog) (s : Spec) → spec_at log.producer.shared.loggers log.logger ≡ Some s
-      → spec_at log.producer.shared.loggers log.logger ≡ Some spec → s ≡ spec
-  same_spec log s found is = cc
+module _ (spec : Spec) (never : spec.policy ≢ OverrunOldest) (so_far : List Given) where
+  -- that and no more was taken out
+  abbrev pub Took : PieceLog → Type 0
+  Took log = takes_by_now log ≡ so_far
 
-  -- with it nothing was taken out, and it stays
-  abbrev pub Spares : PieceLog → PieceLog → Type 0
-  Spares old new = IsWith old → IsWith new × (takes_by_now new ≡ takes_by_now old)
+  one_took : (old new : PieceLog) (l : LogsOne old new) → l.logged.spec ≡ spec → Took old → Took new
+  one_took old new l here took =
+      text_takes old.logger l.level l.time l.text l.answer old.producer new.producer l.logged
+      (subst (λ (s : Spec). s.policy ≢ OverrunOldest) (sym here) never) ∙ took
 
-  spares_on : (a b c : PieceLog) → Spares a b → Spares b c → Spares a c
-  spares_on a b c first then with_a =
-      let one = first with_a in
-      let two = then one.0 in (two.0, two.1 ∙ one.1)
+  none_took : (old new : PieceLog) → spec.backtrace ≢ 0 → new.producer ≡ old.producer → Took old → Took new
+  none_took old new some producer took = ap (λ (p : ProducerView). takes p.pass.known.own) producer ∙ took
 
-  stays_with : (old new : PieceLog) → new.producer.shared ≡ old.producer.shared → new.logger ≡ old.logger → IsWith old → IsWith new
-  stays_with old new shared logger is =
-      subst (λ (v : Shared × ℕ). spec_at v.0.loggers v.1 ≡ Some spec) (λ i. (sym shared i, sym logger i)) is
+  pub pieces_spare : (ps : List Piece) (old new : PieceLog) → LogsAll ps old new → IsWith spec old × Took old → IsWith spec new × Took new
+  pieces_spare ps old new l before = pieces_keep spec Took one_took none_took ps old new l before
 
-  spares_same : (old new : PieceLog) → new.producer ≡ old.producer → new.logger ≡ old.logger → Spares old new
-  spares_same old new producer logger is = (
-    stays_with old new (ap (λ (p : ProducerView). p.shared) producer) logger is,
-    ap (λ (p : ProducerView). takes p.pass.known.own) producer,
-  )
-
-  spares_equal : (old new : PieceLog) → new ≡ old → Spares old new
-  spares_equal old new same = spares_same old new (ap (λ (l : PieceLog). l.producer) same) (ap (λ (l : PieceLog). l.logger) same)
-
-  -- a text
-  text_takes : (logger : ℕ) (level : Level) (time : ℤ) (text : List ℕ) (answer : LogReply) (old new : ProducerView)
-      → (l : LogsText logger level time text answer old new) → l.spec.policy ≢ OverrunOldest → takes new.pass.known.own ≡ takes old.pass.known.own
-  text_takes logger level time text (reply.Filtered own kept) old new l other =
-      let still : l.log.after ≡ l.log.port = l.log.kept.called.1 in
-      ap (λ (u : Pass). takes u.known.own) (sym l.log.left.pass ∙ ap (λ (q : BlockPort). q.pass.now) still ∙ l.log.lent.pass)
-  text_takes logger level time text (reply.Logged outcome kept) old new l other = post_takes other l.log.lent l.log.left l.log.kept.called.0
-
-  text_spares : (old new : PieceLog) (level : Level) (time : ℤ) (text : List ℕ) (answer : LogReply)
-      → LogsText old.logger level time text answer old.producer new.producer → new.logger ≡ old.logger → Spares old new
-  text_spares old new level time text answer l logger is =
-      let here : l.spec ≡ spec = same_spec old l.spec l.found is in (
-        stays_with old new l.same.shared logger is,
-        text_takes old.logger level time text answer old.producer new.producer l
-            (subst (λ (s : Spec). s.policy ≢ OverrunOldest) (sym here) never),
-      )
-
-  -- the line that says how many are missing
-  told_spares : (time : ℤ) (old new : PieceLog) → TellsAll time old new → Spares old new
-  told_spares time old new (inl h) = spares_equal old new h.1
-  told_spares time old new (inr (some, inl posted, is)) =
-      text_spares old new _ time _ posted.0 posted.1 (ap (λ (l : PieceLog). l.logger) is)
-  told_spares time old new (inr (some, inr hidden, is)) =
-      text_spares old new _ time _ hidden.0 hidden.1 (ap (λ (l : PieceLog). l.logger) is)
-
-  no_room_spares : (time : ℤ) (old new : PieceLog) → LacksRoom time old new → Spares old new
-  no_room_spares time old new h = text_spares old new _ time _ h.1.0 h.1.1 (ap (λ (l : PieceLog). l.logger) h.2)
-
-  untold_spares : (time : ℤ) (old new : PieceLog) → LacksRoom time old new ⊎ LacksMemory old new → Spares old new
-  untold_spares time old new (inl h) = no_room_spares time old new h
-  untold_spares time old new (inr h) = spares_equal old new h.2
-
-  -- a piece
-  piece_spares : (time : ℤ) (text : List ℕ) (old mid new : PieceLog) → LogsPieceAt time text old mid new → Spares old new
-  piece_spares time text old mid new (inl (tells, inl (posted, is))) =
-      spares_on old mid new (told_spares time old mid tells)
-      (text_spares mid new _ time text posted.0 posted.1 (ap (λ (l : PieceLog). l.logger) is))
-  piece_spares time text old mid new (inl (tells, inr (inl (hidden, is)))) =
-      spares_on old mid new (told_spares time old mid tells)
-      (text_spares mid new _ time text hidden.0 hidden.1 (ap (λ (l : PieceLog). l.logger) is))
-  piece_spares time text old mid new (inl (tells, inr (inr (inl lost, is)))) =
-      spares_on old mid new (told_spares time old mid tells)
-      (text_spares mid new _ time text lost.0 lost.1 (ap (λ (l : PieceLog). l.logger) is))
-  piece_spares time text old mid new (inl (tells, inr (inr (inr none, is)))) =
-      spares_on old mid new (told_spares time old mid tells) (spares_same mid new none.0 (ap (λ (l : PieceLog). l.logger) is))
-  piece_spares time text old mid new (inr (untold, is)) =
-      spares_on old mid new (untold_spares time old mid untold)
-      (spares_same mid new (ap (λ (l : PieceLog). l.producer) is) (ap (λ (l : PieceLog). l.logger) is))
-
-  -- while nothing came
-  tries_spare : (time : ℤ) (old new : PieceLog) → TriesToTell time old new → Spares old new
-  tries_spare time old new (inl all) = told_spares time old new all
-  tries_spare time old new (inr none) = untold_spares time old new none
-
-  rests_spare : (n : ℕ) (old new : PieceLog) → Rests n old new → Spares old new
-  rests_spare zero old new same = spares_equal old new same
-  rests_spare (suc n) old new all = spares_on old all.0 new (rests_spare n old all.0 all.1) (tries_spare all.2.0 all.0 new all.2.1)
-
-  next_spare : (ps : List Piece) (old new : PieceLog) → InTurn LogsNext ps old new → Spares old new
-  next_spare [] old new same = spares_equal old new same
-  next_spare (p ∷ ps) old new all =
-      let next = all.1 in
-      spares_on old next.0 new (rests_spare next.1.0 old next.0 next.1.1)
-      (spares_on next.0 all.0 new (piece_spares next.2.0 p.text next.0 next.2.1.mid all.0 next.2.1.logged) (next_spare ps all.0 new all.2))
-
-  pub pieces_spare : (ps : List Piece) (old new : PieceLog) → LogsAll ps old new → Spares old new
-  pieces_spare ps old new l = spares_on old l.mid new (next_spare ps old l.mid l.pieces) (rests_spare l.rests l.mid new l.rested)
-
-  -- the end
-  naps_spare : (n : ℕ) (time : ℤ) (old new : PieceLog) → Naps n time old new → Spares old new
-  naps_spare zero time old new same = spares_equal old new same
-  naps_spare (suc n) time old new all =
-      spares_on old all.0 new (naps_spare n time old all.0 all.1) (no_room_spares time all.0 new all.2)
-
-  ends_spare : (time : ℤ) (mid new : PieceLog) → TellsAll time mid new ⊎ LacksMemory mid new → Spares mid new
-  ends_spare time mid new (inl h) = told_spares time mid new h
-  ends_spare time mid new (inr h) = spares_equal mid new h.2
-
-  pub finish_spares : {time : ℤ} {old new : PieceLog} → Finishes time old new → Spares old new
-  finish_spares {time} {old} {new} f = spares_on old f.mid new (naps_spare f.tries time old f.mid f.naps) (ends_spare time f.mid new f.last)
+  pub finish_spares : {time : ℤ} {old new : PieceLog} → Finishes time old new → IsWith spec old × Took old → IsWith spec new × Took new
+  finish_spares f before = finish_keeps spec Took one_took none_took f before

@@ -1,5 +1,5 @@
 -- What a pipe logs with, and what is done for the line that says what is missing.
-use Rattle.std.proofs.Common.{◌≡◌, ◌⊎◌, ◌<◌, ℤ, Some, inl, inr, sym, ap, ◌∙◌}
+use Rattle.std.proofs.Common.{◌≡◌, ◌⊎◌, ◌<◌, ℤ, Some, inl, inr, ap, ◌∙◌}
 use Rattle.alog_pipe.specs.Logged.{HasNoRoom, KeepsCopies, TellsHole, by, told_by}
 use Rattle.alog_pipe.specs.Piped.{Finishes}
 use Rattle.alog_registry.specs.Listed.{spec_at}

@@ -1,9 +1,10 @@
 -- From what a pipe logged to what its sink holds.
 use Rattle.std.proofs.Common.{◌≡◌, ◌≢◌, ◌<◌, ◌^◌, ℕ, Bool, Option, Some, Result, Ok, Err, List, [], ◌++◌, map, length}
-use Rattle.std.proofs.Common.{◌+◌, ◌∷◌, refl, sym, ap, subst, ◌∙◌, append-nil, arith}
+use Rattle.std.proofs.Common.{◌+◌, ◌≤◌, ◌∷◌, refl, sym, ap, subst, ◌∙◌, append-nil, inl, inr, arith}
 use Rattle.std.proofs.KnownBytes.{Consumes-whole}
 use Rattle.std.specs.Prelude.{◌&&◌, ◌==◌, if◌then◌else◌, true, None, IfOk, IfSome, slice_get}
 use Rattle.std.specs.List.{AllByRecursion, flat_map}
+use Rattle.std.proofs.lemmas.List.{length-append}
 use Rattle.alog_config.specs.Built.{EachIs}
 use Rattle.alog_config.specs.declared.config.Config.{Config}
 use Rattle.alog_core.specs.Accounts.{claims, takes}
@@ -29,18 +30,21 @@ use Rattle.alog_registry.specs.declared.logger.Logger.{Logger}
 use Rattle.alog_registry.specs.declared.logger.Spec.{Spec}
 use Rattle.alog_sink.specs.Files.{Files}
 use Rattle.alog_sink.specs.declared.sink.Sink.{Sink}
-use Rattle.test_laws.specs.PipedLines.{FlowsTo, HoldsPieces, IsOf, KeepsAll, LeavesNone, LosesNone, OverrunsNone}
+use Rattle.test_laws.specs.PipedLines.{BlocksLoseNone, FlowsTo, HoldsPieces, IsOf, KeepsAll, LeavesNone, LosesNone, OverrunsNone}
 use Rattle.test_laws.specs.Stretches.{AreTold, Holds, HoldsKept, HoldsStretches, TellsLost, below_in, missing_in, pieces_of_stretch}
 use Rattle.test_laws.proofs.Answered.{puts_of}
 use Rattle.test_laws.proofs.Bounds.{none_overrun, took_none}
 use Rattle.test_laws.proofs.Claims.{Given}
-use Rattle.test_laws.proofs.Gaps.{IsFirsts, all_kept, firsts_of, tells_firsts}
+use Rattle.test_laws.proofs.Gaps.{IsFirsts, all_kept, firsts_of, tells_firsts, texts_length}
 use Rattle.test_laws.proofs.Held.{EndsAlone, Held, texts_are, texts_held, texts_kept, written}
 use Rattle.test_laws.proofs.Opening.{Fills, at_map, stands_on}
-use Rattle.test_laws.proofs.Overruns.{IsWith, finish_spares, pieces_spare, takes_by_now}
+use Rattle.test_laws.proofs.Overruns.{finish_spares, pieces_spare, takes_by_now}
 use Rattle.test_laws.proofs.PieceLogs.{PieceLog, finish_told}
-use Rattle.test_laws.proofs.Stretches.{Goes, HasRun, finish_goes, goes_on, none_lost, pieces_go, run_behind}
+use Rattle.test_laws.proofs.Spent.{finish_seen, pieces_seen}
+use Rattle.test_laws.proofs.Stretches.{Goes, HasRun, finish_goes, goes_on, none_lost, pieces_go, run_behind, tells_few}
 use Rattle.test_laws.proofs.Texts.{copied, files_have}
+use Rattle.test_laws.proofs.Throughout.{IsWith}
+use Rattle.test_laws.proofs.Tickets.{nearly_all}
 
 none_left : (ps : List Piece) → length ps ≡ 0 → ps ≡ []
 none_left [] none = refl
@@ -76,19 +80,22 @@ module _ {S : Type 0} (tells : Bool) (files : S → Files) (failures : S → ℕ
   loggers_are : h.through.pool.shared.loggers ≡ h.setup.loggers
   loggers_are = ap (λ (v : Shared). v.loggers) h.through.makes.same.0 ∙ h.starts.loggers
 
+  -- the logger that it begins with
+  starts_with : (spec : Spec) → spec_at h.setup.loggers logger ≡ Some spec → IsWith spec h.through.pumps.start.log
+  starts_with spec found =
+      subst (λ (l : PieceLog). IsWith spec l) (sym h.through.pumps.log_is)
+      (subst (λ (ls : List Logger). spec_at ls logger ≡ Some spec) (sym begun_loggers) found)
+
   -- what a logger that does not overrun the oldest takes out, and what is overrun by it
   module _ (spec : Spec) (found : spec_at h.setup.loggers logger ≡ Some spec) (never : spec.policy ≢ OverrunOldest) where
     took_nothing : takes h.through.log.producer.pass.known.own ≡ []
     took_nothing =
-        let start : IsWith spec never h.through.pumps.start.log =
-        subst (λ (l : PieceLog). IsWith spec never l) (sym h.through.pumps.log_is)
-        (subst (λ (ls : List Logger). spec_at ls logger ≡ Some spec) (sym begun_loggers) found) in
         let none : takes_by_now h.through.pumps.start.log ≡ [] =
         ap (λ (l : PieceLog). takes_by_now l) h.through.pumps.log_is
         ∙ ap (λ (own : List (Entry Item block_note)). takes own) h.through.makes.entries.0 in
-        let read = pieces_spare spec never pieces h.through.pumps.start.log h.through.pumps.last.log h.through.pumps.pumps.logged start in
-        let ended = finish_spares spec never h.through.pumps.finished read.0 in
-        ended.1 ∙ read.1 ∙ none
+        let read = pieces_spare spec never [] pieces h.through.pumps.start.log h.through.pumps.last.log h.through.pumps.pumps.logged
+        (starts_with spec found, none) in
+        (finish_spares spec never [] h.through.pumps.finished read).1
 
   pub overruns_none : OverrunsNone tells files failures h
   overruns_none spec found never = none_overrun tells files failures h.through.ends (took_nothing spec found never)
@@ -153,6 +160,32 @@ module _ {S : Type 0} (tells : Bool) (files : S → Files) (failures : S → ℕ
       told = f.told;
       faultless = f.faultless;
     }
+
+    -- no more was put in than a message for each piece
+    puts_few : length (claims h.through.log.producer.pass.known.own) ≤ length (pieces_of c.text bytes)
+    puts_few =
+        let put : List Given = claims h.through.log.producer.pass.known.own in
+        let many : length (texts_in put) ≡ length put = texts_length logger put alone.firsts in
+        let same : length (texts_in put) ≡ length (texts_in goes.puts) = ap (λ (is : List Given). length (texts_in is)) puts_are in
+        let told = tells_few logger level goes.stretches (texts_in goes.puts) goes.tells in
+        let all : length (pieces_of c.text bytes) ≡ length (flat_map pieces_of_stretch goes.stretches ++ goes.rest) =
+        ap (λ (ps : List Piece). length ps) goes.pieces_are in
+        let both = length-append (flat_map pieces_of_stretch goes.stretches) goes.rest in omega (arith, many, same, told, all, both)
+
+    -- where a piece is missing no ticket was left, for which there are too few pieces
+    pub blocks_lose_none : BlocksLoseNone tells files failures f
+    blocks_lose_none waits none few =
+        let read = pieces_seen f.spec waits none pieces h.through.pumps.start.log h.through.pumps.last.log h.through.pumps.pumps.logged
+        (starts_with f.spec f.found, inl start_counts.0) in
+        elim (finish_seen f.spec waits none h.through.pumps.finished read).1 [
+          | inl is ↦ h.through.missing ∙ is
+          | inr saw ↦
+              let all = nearly_all tells files failures h.through.ends saw in
+              let first : h.through.pool.shared.ring.ring.first ≡ 0 =
+              ap (λ (v : Shared). v.ring.ring.first) h.through.makes.same.0 ∙ h.starts.queue.1 ∙ h.given.first in
+              let single = alone.single in
+              let put = puts_few in absurd (omega (arith, all, first, single, put, few))
+        ]
 
     module _ (law : OneWorkerWritesInOrder tells files failures) where
       abbrev wrote : List Message

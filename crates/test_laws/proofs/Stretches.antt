@@ -383,6 +383,21 @@ module _ (logger : ℕ) (level : Level) where
       goes_on {ps = []} {qs = []} naps
       (ends_go time naps.rest f.mid new f.last (run_behind {ps = []} 0 has naps (omega arith)))
 
+  -- there are no more messages than pieces
+  pub tells_few : (ss : List Stretch) (ms : List Message) → Tells logger level ss ms → length ms ≤ length (flat_map pieces_of_stretch ss)
+  tells_few [] [] tells = omega arith
+  tells_few [] (m ∷ ms) tells = absurd tells
+  tells_few (Kept p ∷ ss) [] tells = absurd tells
+  tells_few (Kept p ∷ ss) (m ∷ ms) tells = let rest = tells_few ss ms tells.1 in omega (arith, rest)
+  tells_few (Told ps ∷ ss) [] tells = absurd tells
+  tells_few (Told ps ∷ ss) (m ∷ ms) tells =
+      let rest = tells_few ss ms tells.2 in
+      let both = length-append ps (flat_map pieces_of_stretch ss) in omega (arith, tells.0, rest, both)
+  tells_few (Below own p ∷ ss) ms tells = let rest = tells_few ss ms tells.1 in omega (arith, rest)
+  tells_few (Hidden own ps ∷ ss) ms tells =
+      let rest = tells_few ss ms tells.2 in
+      let both = length-append ps (flat_map pieces_of_stretch ss) in omega (arith, rest, both)
+
   -- where nothing is missing or below the level there is a message for each piece
   pub none_lost : (ss : List Stretch) (ms : List Message) → Tells logger level ss ms → missing_in ss ≡ 0 → below_in ss ≡ 0
       → EachIs (IsOf logger level) (flat_map pieces_of_stretch ss) ms

@@ -1,9 +1,10 @@
 -- What a sink holds of the lines that a pipe logged.
-use Rattle.std.specs.Prelude.{◌≡◌, ◌≢◌, ◌≤◌, ◌<◌, ◌^◌, ◌==◌, ℕ, ℤ, Bool, true, Option, None, Some, is_none, List, [], ◌∷◌, ◌++◌, count_by, length, slice_get}
+use Rattle.std.specs.Prelude.{◌≡◌, ◌≢◌, ◌≤◌, ◌<◌, ◌+◌, ◌^◌, ◌==◌, ℕ, ℤ, Bool, true, Option, None, Some, is_none, List, [], ◌∷◌, ◌++◌, count_by, length, slice_get}
 use Rattle.std.specs.List.{AllByRecursion, concat, flat_map}
 use Rattle.std.specs.Str.{IsUtf8}
 use Rattle.alog_config.specs.Built.{EachIs}
 use Rattle.alog_config.specs.declared.config.Config.{Config}
+use Rattle.alog_core.specs.declared.TheConstants.{TICKET_END}
 use Rattle.alog_lines.specs.Lines.{lines_of}
 use Rattle.alog_lines.specs.Pieces.{Piece, pieces_of}
 use Rattle.alog_msg.specs.declared.level.Level.{Level}
@@ -12,7 +13,7 @@ use Rattle.alog_pattern.specs.declared.flags.Flag.TheVariants.{Text}
 use Rattle.alog_pattern.specs.declared.items.Item.TheVariants.{Flag}
 use Rattle.alog_pipe.specs.Pipes.{Pipes}
 use Rattle.alog_pipe.specs.declared.piping.Piped.{Piped}
-use Rattle.alog_policy.specs.declared.policy.Policy.TheVariants.{OverrunOldest}
+use Rattle.alog_policy.specs.declared.policy.Policy.TheVariants.{Block, OverrunOldest}
 use Rattle.alog_pool.specs.OneWorker.{HoldsMore}
 use Rattle.alog_registry.specs.Given.{message_with}
 use Rattle.alog_registry.specs.Listed.{spec_at}
@@ -116,6 +117,13 @@ module _ {S : Type 0} (tells : Bool) (files : S → Files) (failures : S → ℕ
   abbrev pub LeavesNone : {n : ℕ} {bytes : List ℕ} {c : Config} {stores : List S} {logger : ℕ} {level : Level} {before after : Option (List ℕ)}
       {p : Piped S} {h : Pipes tells files failures c stores logger level before after p} → FlowsTo n bytes h → Type 0
   LeavesNone {h = h} f = f.spec.backtrace ≡ 0 → h.through.log.hole ≡ 0
+
+  -- Where its logger waits for room and keeps no copies for a backtrace, such a pipe of fewer pieces than a queue has tickets loses none. (One
+  -- ticket may be the pool's, for its stop.)
+  abbrev pub BlocksLoseNone : {n : ℕ} {bytes : List ℕ} {c : Config} {stores : List S} {logger : ℕ} {level : Level} {before after : Option (List ℕ)}
+      {p : Piped S} {h : Pipes tells files failures c stores logger level before after p} → FlowsTo n bytes h → Type 0
+  BlocksLoseNone {bytes = bytes} {c = c} {p = p} f =
+      f.spec.policy ≡ Block → f.spec.backtrace ≡ 0 → length (pieces_of c.text bytes) + 1 < TICKET_END → p.missing ≡ 0
 
   -- Where its logger overruns the oldest, such a pipe counts that nothing was overrun.
   abbrev pub KeepsAll : {n : ℕ} {bytes : List ℕ} {c : Config} {stores : List S} {logger : ℕ} {level : Level} {before after : Option (List ℕ)}

@@ -2,7 +2,7 @@
 ghost use Rattle.std.specs.Prelude.{◌≡◌, ◌<◌, ℕ, IfOk, List, count_by, length};
 ghost use Rattle.alog_config.specs.Sinks.{is_leaf};
 ghost use Rattle.alog_pipe.specs.Pipes.{Pipes};
-ghost use Rattle.test_laws.specs.PipedLines.{FlowsTo, HoldsPieces, KeepsAll, LeavesNone, LosesNone, OverrunsNone};
+ghost use Rattle.test_laws.specs.PipedLines.{BlocksLoseNone, FlowsTo, HoldsPieces, KeepsAll, LeavesNone, LosesNone, OverrunsNone};
 ghost use Rattle.test_laws.specs.Stretches.{HoldsKept, HoldsStretches};
 
 use alog_config::{BuildError, Config};
@@ -30,6 +30,9 @@ use std::time::Clock;
 ///
 /// Where the logger overruns the oldest, this is so if nothing was overrun; and if something was, the sink holds those messages but for as
 /// many as the answer counts, in their order. Under the other policies nothing is overrun, whatever is missing.
+///
+/// Where the logger waits for room and keeps no copies for a backtrace, none is missing of fewer than 2^62 - 1 pieces: a queue has 2^62
+/// tickets, of which the pool's stop may take one.
 pub fn pipe_lines<R, S, I>(
     rt: &R,
     alloc: Global,
@@ -52,6 +55,9 @@ where
     ensures said { IfOk result (λ p. (h : Pipes S.tells S.files S.failures config.now stores.items logger level (I.remaining input.old)
         (I.remaining input.new) p) (n : ℕ) (bytes : List ℕ) (f : FlowsTo S.tells S.files S.failures n bytes h)
         → LeavesNone S.tells S.files S.failures f) }
+    ensures waits { IfOk result (λ p. (h : Pipes S.tells S.files S.failures config.now stores.items logger level (I.remaining input.old)
+        (I.remaining input.new) p) (n : ℕ) (bytes : List ℕ) (f : FlowsTo S.tells S.files S.failures n bytes h)
+        → BlocksLoseNone S.tells S.files S.failures f) }
     ensures kept { IfOk result (λ p. (h : Pipes S.tells S.files S.failures config.now stores.items logger level (I.remaining input.old)
         (I.remaining input.new) p) (n : ℕ) (bytes : List ℕ) → FlowsTo S.tells S.files S.failures n bytes h
         → HoldsKept S.files logger level n stores.items h.setup.sinks.items p.report.sinks.items config.now.text bytes p.missing p.below

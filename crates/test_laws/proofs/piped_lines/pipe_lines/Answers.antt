@@ -1,4 +1,4 @@
-use Rattle.test_laws.proofs.PipedLines.{lines_held, lines_kept, lines_told, none_untold, on_ok, overruns_none}
+use Rattle.test_laws.proofs.PipedLines.{blocks_lose_none, lines_held, lines_kept, lines_told, none_untold, on_ok, overruns_none}
 use Rattle.test_laws.proofs.piped_lines.pipe_lines.Goals as goal
 
 pub returns-clause-spared : goal.returns-clause-spared
@@ -8,6 +8,10 @@ returns-clause-spared g c =
 pub returns-clause-said : goal.returns-clause-said
 returns-clause-said g c =
     on_ok _ (λ p h n bytes f. none_untold g.S.Store.tells g.S.Store.files g.S.Store.failures h f) c.pipe-piped.result
+
+pub returns-clause-waits : goal.returns-clause-waits
+returns-clause-waits g c =
+    on_ok _ (λ p h n bytes f. blocks_lose_none g.S.Store.tells g.S.Store.files g.S.Store.failures h f) c.pipe-piped.result
 
 pub returns-clause-kept : goal.returns-clause-kept
 returns-clause-kept g c =
