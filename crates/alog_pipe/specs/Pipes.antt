@@ -26,9 +26,9 @@ abbrev pub overruns_of : Option Spec → Bool
 overruns_of None = false
 overruns_of (Some spec) = overruns spec.policy
 
--- a setup whose pool tells gaps where the logger of this number overruns the oldest
+-- a setup whose pool has one worker, and tells gaps where the logger of this number overruns the oldest
 abbrev pub for_pipe : {S : Type 0} → ℕ → Setup S → Setup S
-for_pipe logger setup = record setup { tells_gaps = overruns_of (spec_at setup.loggers logger) }
+for_pipe logger setup = record setup { workers = 1; tells_gaps = overruns_of (spec_at setup.loggers logger) }
 
 module _ {S : Type 0} (tells : Bool) (files : S → Files) (failures : S → ℕ) where
   -- The pool made one producer, which logged what the reader gave to the logger of this number at this level, and nothing else; with it
@@ -44,8 +44,8 @@ module _ {S : Type 0} (tells : Bool) (files : S → Files) (failures : S → ℕ
     pub below : p.below ≡ log.below
     pub ends : Ends tells files failures pool (log.producer ∷ []) p.report
 
-  -- The pool is of what the configuration gives, and its texts are as long as those of its configuration; it tells gaps, if it has one
-  -- worker, where the logger overruns the oldest.
+  -- The pool is of what the configuration gives, and its texts are as long as those of its configuration; but it has one worker, whatever
+  -- the configuration says, and tells gaps where the logger overruns the oldest.
   pub record Pipes (c : Config) (stores : List S) (logger : ℕ) (level : Level) (before after : Option (List ℕ)) (p : Piped S) : Type 0 where
     pub setup : Setup S
     pub given : IsSetupOf tells files failures c stores 0 setup

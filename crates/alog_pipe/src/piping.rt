@@ -45,8 +45,9 @@ pub struct Piped<S: Store> {
 }
 
 /// Logs each line of a reader to the logger of this number, at this level, through a pool of this configuration over these stores, and
-/// ends the pool. Where that logger overruns the oldest and there is one worker, the log says in their place how many messages were
-/// overrun. There are as many stores as `alog_config::leaves` tells. Where it fails nothing was read.
+/// ends the pool. It has one worker, whatever the configuration says: several would write lines in another order than they were read, and
+/// each line goes to the same sinks. Where that logger overruns the oldest, the log says in their place how many messages were overrun.
+/// There are as many stores as `alog_config::leaves` tells. Where it fails nothing was read.
 pub fn pipe<R, S, I>(
     rt: &R,
     alloc: Global,
@@ -68,6 +69,7 @@ where
 {
     let lines = LineCutter::new(alloc, config.text)?;
     let mut setup = setup_of(alloc, config, stores, 0)?;
+    setup.workers = 1;
     setup.tells_gaps = overruns(&setup.loggers, logger);
     let pool = match Pool::start(rt, alloc, setup, OpenGate) {
         Ok(pool) => pool,

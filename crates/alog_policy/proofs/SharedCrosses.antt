@@ -49,4 +49,4 @@ ticket_send = search sendable depth 9
 
 pub pace_send : IsSend Pace.the_row
 pace_send = recorded_send (Pace.the_field).row _ _ (Pace.the_type).to_one (struct_send
-    (shape Pace.the_type) (number_send, (number_send, (number_send, (ticket_send, tt)))))
+    (shape Pace.the_type) (number_send, (number_send, (number_send, (number_send, (ticket_send, tt))))))

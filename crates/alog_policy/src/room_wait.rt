@@ -7,7 +7,7 @@ use std::time::{Clock, Duration};
 /// system.
 const ROOM_SPINS: u32 = 4;
 
-/// Then it sleeps. The first sleep takes so many nanoseconds for each place of the queue, in which a worker makes some half of
+/// Then it rests. The first rest takes so many nanoseconds for each place of the queue, in which a worker makes some half of
 /// them free.
 const NAP_PER_PLACE: u64 = 125;
 
@@ -17,26 +17,38 @@ const FIRST_NAP_MAX: u64 = 1_000_000;
 /// A later one takes at least this part of the first.
 const SHORTEST_PART: u64 = 8;
 
-/// And at most so many nanoseconds.
-const ROOM_NAP_MAX: u64 = 10_000_000;
+/// And at most so many times as long as the first: a worker that has no room by then is slow, and a post that looks so often
+/// costs it nothing.
+const LONGEST_TIMES: u64 = 10;
 
-/// How long the posts of a thread sleep where the queue is full: its own, from post to post.
+/// Or so many nanoseconds, where that is more: a queue of few places is full again behind each write of a slow file.
+const LONGEST_LEAST: u64 = 500_000;
+
+/// A sleep takes so many nanoseconds longer than it is asked to, in which a worker empties a queue of some hundred places and
+/// then has nothing to do. So a rest that is to be shorter than this is no sleep.
+const SLEEP_LEAST: u64 = 55_000;
+
+/// It is yields, one for so many nanoseconds: some half a microsecond where no other thread wants the processor.
+const NANOS_PER_YIELD: u64 = 500;
+
+/// How long the posts of a thread rest where the queue is full: its own, from post to post.
 ///
-/// From one sleep to the next some three quarters of the queue's places are to be claimed, by all threads, so that few posts
-/// sleep, and the worker still finds items meanwhile. So a sleep is longer than the last one where fewer were claimed, and
+/// From one rest to the next some three quarters of the queue's places are to be claimed, by all threads, so that few posts
+/// rest, and the worker still finds items meanwhile. So a rest is longer than the last one where fewer were claimed, and
 /// shorter where more were: at most twice as long, and at least half. A post that looked again and again instead would take the
 /// words of the queue from the worker that is to make room, and cost it half of its time.
 ///
-/// Of how long a post sleeps no contract says anything. The test `naps_follow_the_worker` shows it.
+/// Of how long a post rests no contract says anything. The test `naps_follow_the_worker` shows it.
 #[derive(Clone, Copy, Debug)]
 pub struct Pace {
-    /// How many tickets are to be claimed from one sleep to the next.
+    /// How many tickets are to be claimed from one rest to the next.
     aim: u64,
-    /// The nanoseconds of the shortest sleep.
+    /// The nanoseconds of the shortest rest, and of the longest.
     least: u64,
-    /// Those of the last sleep, and before it of the first one.
+    most: u64,
+    /// Those of the last rest, and before it of the first one.
     nap: u64,
-    /// The ticket that found no room before the last sleep.
+    /// The ticket that found no room before the last rest.
     seen: Option<u64>,
 }
 
@@ -46,20 +58,26 @@ impl Pace {
         let places = places as u64;
         let nap = NAP_PER_PLACE.saturating_mul(places).min(FIRST_NAP_MAX);
         Pace {
-            aim: places - places / 4,
+            aim: (places / 2 + places / 4).max(1),
             least: nap / SHORTEST_PART,
+            most: (nap * LONGEST_TIMES).max(LONGEST_LEAST),
             nap,
             seen: None,
         }
     }
 
-    /// The nanoseconds of the next sleep, where this ticket found no room.
+    /// The nanoseconds of the next rest, where this ticket found no room.
     fn nap_at(&mut self, ticket: u64) -> u64 {
         if let Some(seen) = self.seen {
-            let claimed = ticket.saturating_sub(seen).max(1);
-            let fit = self.nap.saturating_mul(self.aim) / claimed;
+            let claimed = ticket.saturating_sub(seen);
+            let twice = self.nap.saturating_mul(2);
+            let fit = if claimed == 0 {
+                twice
+            } else {
+                self.nap.saturating_mul(self.aim) / claimed
+            };
             let least = self.least.max(self.nap / 2);
-            let most = ROOM_NAP_MAX.min(self.nap.saturating_mul(2));
+            let most = self.most.min(twice);
             self.nap = fit.max(least).min(most);
         }
         self.seen = Some(ticket);
@@ -83,18 +101,29 @@ impl RoomWait {
         }
     }
 
-    /// Waits a little where this ticket found no room: where it sleeps, at the pace of the post's thread.
+    /// Waits a little where this ticket found no room: where it rests, at the pace of the post's thread.
     pub fn wait(&mut self, clock: &impl Clock, pace: &mut Pace, ticket: u64) {
         if self.looks < ROOM_SPINS {
             self.looks += 1;
             self.backoff.spin();
         } else {
-            thread::sleep(clock, Duration::from_nanos(pace.nap_at(ticket)));
+            rest(clock, pace.nap_at(ticket));
         }
     }
 
     /// Lets another push get on that was faster.
     pub(crate) fn give_way(&self) {
         self.backoff.spin();
+    }
+}
+
+/// Rests so many nanoseconds: sleeps, or yields where a sleep would take too long.
+fn rest(clock: &impl Clock, nanos: u64) {
+    if nanos >= SLEEP_LEAST {
+        thread::sleep(clock, Duration::from_nanos(nanos));
+        return;
+    }
+    for _ in 0..=nanos / NANOS_PER_YIELD {
+        thread::yield_now();
     }
 }

@@ -88,7 +88,8 @@ option_block_send : IsSend (Option.the_field Block.the_row).row
 option_block_send = search (sendable, block_send) depth 9
 
 pace_send : IsSend (Pace.the_field).row
-pace_send = struct_send (shape Pace.the_type) (search sendable, (search sendable, (search sendable, (ticket_send, tt))))
+pace_send = struct_send (shape Pace.the_type)
+    (search sendable, (search sendable, (search sendable, (search sendable, (ticket_send, tt)))))
 
 producer_inside_send : IsSend ProducerInside.the_row
 producer_inside_send = recorded_send (ProducerInside.the_field).row _ _ (ProducerInside.the_type).to_one (struct_send

@@ -107,8 +107,8 @@ impl Gaps {
     }
 }
 
-/// The text that says that so many lines are missing: `17 lines are missing here`. It takes no memory, and is as long as any queue's
-/// text limit allows.
+/// The text that says that so many lines are missing: `17 lines are missing here`. It takes no memory, and is no longer than any
+/// pool's text limit allows.
 pub fn gap_text(missing: u64) -> ArrayString<TEXT_LIMIT_MIN>
     ensures text { result.bytes ≡ gap_text missing }
     ensures fits { length (gap_text missing) ≤ TEXT_LIMIT_MIN }

@@ -108,7 +108,8 @@ impl Producer {
     }
 
     /// Logs a message to the logger of this number, as `Loggers::log` does: under `Block` it waits for room, so that it is discarded
-    /// only where no ticket is left, and where the logger has a backtrace it waits for its lock. The copy for a backtrace takes memory, and nothing else does.
+    /// only where no ticket is left, and where the logger has a backtrace it waits for its lock. The copy for a backtrace takes
+    /// memory, and nothing else does.
     pub fn log(
         &mut self,
         rt: &(impl Wait + Clock),

@@ -309,7 +309,7 @@ not fit. Lines are in the files as soon as nothing is left to write.
 Under the policy block a line waits for room in the queue. Under the others none waits: where lines are refused,
 the log has a line at level warning in their place, as soon as there is room and before the next line:
 `N lines are missing here`. Where overrun_oldest takes lines out of the queue, such a line says so in front of
-the next one that is there, unless there is more than one worker.
+the next one that is there. One worker writes, whatever `workers` says, so lines stand in the order they came in.
 
 The files of the sinks are files of the folder DIR, which has to be there, and is held by one pipe, load or
 server at a time; lines are written behind what a file has. A call on a file that fails, as where the disk is

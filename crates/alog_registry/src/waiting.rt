@@ -32,8 +32,8 @@ use std::time::Clock;
 
 impl Loggers {
     /// Logs a message as `log_now` does, but waits: under `Block` until there is room, so that it is discarded only where no
-    /// ticket is left, and for the lock of the backtrace, so that it is always kept where there is one. That it returns is not promised. The test `logs_with_waiting`
-    /// shows it.
+    /// ticket is left, and for the lock of the backtrace, so that it is always kept where there is one. That it returns is not
+    /// promised. The test `logs_with_waiting` shows it.
     pub fn log<O: WaitingItemOutlet>(
         &self,
         rt: &(impl Wait + Clock),

@@ -151,7 +151,7 @@ module _ {S : Type 0} (tells : Bool) (files : S → Files) (failures : S → ℕ
     alone : EndsAlone tells files failures logger n h.through.pool h.through.log.producer p.report
     alone = record {
       ends = h.through.ends;
-      single = ap (λ (hs : List (Worker S)). length hs) h.through.makes.same.3 ∙ h.starts.crew ∙ h.given.workers ∙ f.alone;
+      single = ap (λ (hs : List (Worker S)). length hs) h.through.makes.same.3 ∙ h.starts.crew;
       spec = f.spec;
       found = subst (λ (ls : List Logger). spec_at ls logger ≡ Some f.spec) (sym loggers_are) f.found;
       once = f.once;
@@ -235,11 +235,10 @@ module _ {S : Type 0} (tells : Bool) (files : S → Files) (failures : S → ℕ
       -- the pool tells gaps where its logger overruns the oldest
       gaps_are : f.spec.policy ≡ OverrunOldest → h.through.pool.shared.gaps ≡ Some h.through.pool.shared.ring.ring.first
       gaps_are over =
-          let one : h.setup.workers ≡ 1 = h.given.workers ∙ f.alone in
           let told : overruns_of (spec_at h.setup.loggers logger) ≡ true =
           ap (λ (o : Option Spec). overruns_of o) f.found ∙ ap (λ (q : Policy). overruns q) over in
           let from : told_from (for_pipe logger h.setup) ≡ Some h.setup.first =
-          (λ i. if told i && (one i == 1) then Some h.setup.first else None) in
+          (λ i. if told i && (1 == 1) then Some h.setup.first else None) in
           let start : h.start.shared.gaps ≡ Some h.start.shared.ring.ring.first =
           h.starts.gaps ∙ from ∙ ap (λ n. Some n) (sym h.starts.queue.1) in
           subst (λ (v : Shared). v.gaps ≡ Some v.ring.ring.first) (sym h.through.makes.same.0) start

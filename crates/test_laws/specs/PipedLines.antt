@@ -99,14 +99,13 @@ module _ {S : Type 0} (tells : Bool) (files : S → Files) (failures : S → ℕ
   OverrunsNone {logger = logger} {p = p} h =
       (s : Spec) → spec_at h.setup.loggers logger ≡ Some s → s.policy ≢ OverrunOldest → p.report.totals.overrun ≡ 0
 
-  -- A pipe, by this account of it, of a reader that had these bytes and was read to its end: through a pool of one worker, to a logger
-  -- among whose sinks that of this number stands once. The store of that sink tells its files, and no turn there met a fault.
+  -- A pipe, by this account of it, of a reader that had these bytes and was read to its end, to a logger among whose sinks that of this
+  -- number stands once. The store of that sink tells its files, and no turn there met a fault.
   pub record FlowsTo (n : ℕ) (bytes : List ℕ) {c : Config} {stores : List S} {logger : ℕ} {level : Level} {before after : Option (List ℕ)}
       {p : Piped S} (h : Pipes tells files failures c stores logger level before after p) : Type 0 where
     pub had : before ≡ Some bytes
     pub few : length (pieces_of c.text bytes) < 2 ^ 64
     pub whole : is_none p.fault ≡ true
-    pub alone : c.workers ≡ 1
     pub spec : Spec
     pub found : spec_at h.setup.loggers logger ≡ Some spec
     pub once : count_by (λ (s : ℕ). s == n) spec.sinks.items ≡ 1

@@ -16,13 +16,13 @@ use std::sync::Wait;
 use std::thread::Threads;
 use std::time::Clock;
 
-/// Logs each line of a reader, as `pipe` does, which answers for it. Where its pool has one worker, and the reader came to its end, each
-/// sink of the logger where no turn met a fault and whose store tells its files holds, behind what it held, one message for each piece of
-/// the reader's lines, in their order, with their texts, of this logger and level, but for those that are missing or were below the
-/// logger's level, of which there are as many as the answer counts. In place of missing ones that follow each other there is a message that
-/// says how many they are, unless it is below that level; of the last ones there is none where the logger keeps copies for a backtrace and
-/// there was no memory for one. If the sink is no fan it was opened over one of the stores, and its files are those of that store with the
-/// lines of these messages.
+/// Logs each line of a reader, as `pipe` does, which answers for it. Where the reader came to its end, each sink of the logger where no
+/// turn met a fault and whose store tells its files holds, behind what it held, one message for each piece of the reader's lines, in
+/// their order, with their texts, of this logger and level, but for those that are missing or were below the logger's level, of which
+/// there are as many as the answer counts. In place of missing ones that follow each other there is a message that says how many they
+/// are, unless it is below that level; of the last ones there is none where the logger keeps copies for a backtrace and there was no
+/// memory for one. If the sink is no fan it was opened over one of the stores, and its files are those of that store with the lines of
+/// these messages.
 ///
 /// Where the answer counts no piece that is missing or was below the level, there is exactly one message for each. Where their lines are
 /// the texts alone, the sink's file, or the runs of its files one behind the other, are what was there and then these texts; and where the

@@ -51,8 +51,8 @@ impl Clock for Stopped {
     }
 }
 
-/// A post whose ticket finds no room looks four times again, and then sleeps so many nanoseconds.
-fn sleeps_so_long(rt: &impl Abort, pace: &mut Pace, ticket: u64, nap: u64) {
+/// A post whose ticket finds no room looks four times again, and then sleeps so many nanoseconds, or yields where these are none.
+fn rests_so_long(rt: &impl Abort, pace: &mut Pace, ticket: u64, nap: u64) {
     let clock = Stopped::new();
     let mut room = RoomWait::new();
     for _ in 0..4 {
@@ -60,10 +60,11 @@ fn sleeps_so_long(rt: &impl Abort, pace: &mut Pace, ticket: u64, nap: u64) {
     }
     clock.was_asked(rt, 0, 0);
     room.wait(&clock, pace, ticket);
-    clock.was_asked(rt, 1, nap);
+    clock.was_asked(rt, u64::from(nap > 0), nap);
 }
 
-/// The tickets of a thread's posts that find no room, one after another, and the nanoseconds that each of these posts sleeps.
+/// The tickets of a thread's posts that find no room, one after another, and the nanoseconds that each of these posts sleeps: none
+/// where it yields.
 type Naps = &'static [(u64, u64)];
 
 /// At 8,192 places 6,144 tickets are to be claimed from one sleep to the next.
@@ -93,18 +94,61 @@ const OF_MANY: Naps = &[
     (7_007_681, 666_664),
 ];
 
-/// At two places two.
+/// At two places one. Rests of less than 55 microseconds, from 250 nanoseconds on, are yields.
 const OF_TWO: Naps = &[
-    (1_000, 250),
-    (1_002, 250),
-    (1_003, 500),
-    (1_006, 333),
-    (1_016, 166),
-    (1_026, 83),
-    (1_036, 41),
-    (1_046, 31),
-    (1_056, 31),
-    (1_056, 62),
+    (1_000, 0),
+    (1_000, 0),
+    (1_000, 0),
+    (1_000, 0),
+    (1_000, 0),
+    (1_000, 0),
+    (1_000, 0),
+    (1_000, 0),
+    // The ninth takes 64 microseconds, and none is longer than half a millisecond.
+    (1_000, 64_000),
+    (1_000, 128_000),
+    (1_000, 256_000),
+    (1_000, 500_000),
+    (1_000, 500_000),
+    // One that is claimed keeps it, and two that are halve it.
+    (1_001, 500_000),
+    (1_003, 250_000),
+    (1_103, 125_000),
+    (1_203, 62_500),
+    (1_303, 0),
+    (2_303, 0),
+    (3_303, 0),
+    (4_303, 0),
+    (5_303, 0),
+    (6_303, 0),
+    (7_303, 0),
+    (8_303, 0),
+    (9_303, 0),
+    // From 122 nanoseconds on, where none is claimed.
+    (9_303, 0),
+    (9_303, 0),
+    (9_303, 0),
+    (9_303, 0),
+    (9_303, 0),
+    (9_303, 0),
+    (9_303, 0),
+    (9_303, 0),
+    (9_303, 62_464),
+];
+
+/// At eight places six.
+const OF_EIGHT: Naps = &[
+    (8, 0),
+    (8, 0),
+    (8, 0),
+    (8, 0),
+    (8, 0),
+    (8, 0),
+    (8, 64_000),
+    // Six claimed, four, and nine.
+    (14, 64_000),
+    (18, 96_000),
+    (27, 64_000),
 ];
 
 /// At 65,536 places 49,152.
@@ -115,10 +159,13 @@ const OF_MOST: Naps = &[
     (212_992, 1_125_000),
 ];
 
-/// How many places a queue has, and the naps of a thread that posts there. From 8,000 places on the first takes a millisecond.
-const ROWS: [(usize, Naps); 7] = [
+/// How many places a queue has, and the naps of a thread that posts there. From 440 places on the first is a sleep, and from 8,000 on
+/// it takes a millisecond.
+const ROWS: [(usize, Naps); 9] = [
     (2, OF_TWO),
-    (256, &[(256, 32_000)]),
+    (8, OF_EIGHT),
+    (256, &[(256, 0), (256, 64_000)]),
+    (512, &[(512, 64_000), (896, 64_000), (1_664, 0)]),
     (4_096, &[(4_096, 512_000)]),
     (7_999, &[(0, 999_875)]),
     (8_001, &[(0, 1_000_000)]),
@@ -131,7 +178,7 @@ fn naps_follow_the_worker(rt: HostRuntime) {
     for (places, naps) in &ROWS {
         let mut pace = Pace::new(*places);
         for (ticket, nap) in *naps {
-            sleeps_so_long(&rt, &mut pace, *ticket, *nap);
+            rests_so_long(&rt, &mut pace, *ticket, *nap);
         }
     }
 }

@@ -28,7 +28,7 @@ returns-in-Ok-pipe_through-clause-piped g c =
       setup = c.in_ok-setup.setup;
       given = c.in_ok-setup.ensures.given;
       start = c.in-Ok.pool;
-      starts = subst (λ (tells : Bool). Starts (record c.in_ok-setup.setup { tells_gaps = tells }) c.in-Ok.pool)
+      starts = subst (λ (tells : Bool). Starts (record c.in_ok-setup.setup { workers = 1; tells_gaps = tells }) c.in-Ok.pool)
           c.overruns.ensures c.in-Ok.ensures.started;
       through = subst (λ n. PipesThrough g.S.Store.tells g.S.Store.files g.S.Store.failures n c.in-Ok.pool c.args.logger c.args.level
           (g.I.Read.remaining c.args.input.now) (g.I.Read.remaining c.pipe_through.new.input) c.in-Ok-pipe_through.piped) limit c.in-Ok-pipe_through.ensures.piped;
