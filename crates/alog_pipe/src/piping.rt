@@ -1,7 +1,8 @@
 //! A whole pipe.
-ghost use Rattle.std.specs.Prelude.{◌≡◌, ◌≤◌, ◌<◌, [], false, IfOk, OnErr, count_by, length};
+ghost use Rattle.std.specs.Prelude.{◌≡◌, ◌≤◌, ◌<◌, [], false, IfErr, IfOk, IsErrAnd, OnErr, count_by, length};
 ghost use Rattle.std.specs.Io.KnownBytes.{Keeps};
-ghost use Rattle.std.specs.List.{AllByRecursion};
+ghost use Rattle.std.specs.List.{AllByRecursion, Any};
+ghost use Rattle.alog_config.specs.Built.{HasFailed, IsOfRotating, IsStoreFault};
 ghost use Rattle.alog_config.specs.Sinks.{is_leaf};
 ghost use Rattle.alog_msg.specs.declared.limits.TheConstants.{TEXT_LIMIT_MIN};
 ghost use Rattle.alog_pipe.specs.Pipes.{Pipes, PipesThrough, overruns_of};
@@ -47,7 +48,8 @@ pub struct Piped<S: Store> {
 /// Logs each line of a reader to the logger of this number, at this level, through a pool of this configuration over these stores, and
 /// ends the pool. It has one worker, whatever the configuration says: several would write lines in another order than they were read, and
 /// each line goes to the same sinks. Where that logger overruns the oldest, the log says in their place how many messages were overrun.
-/// There are as many stores as `alog_config::leaves` tells. Where it fails nothing was read.
+/// There are as many stores as `alog_config::leaves` tells. It fails for want of memory, or since the store of a sink that rotates failed
+/// as it was opened; then nothing was read.
 pub fn pipe<R, S, I>(
     rt: &R,
     alloc: Global,
@@ -65,6 +67,8 @@ where
     requires known { logger < length config.now.loggers.items }
     ensures piped { IfOk result (λ p. Pipes S.tells S.files S.failures config.now stores.items logger level (I.remaining input.old)
         (I.remaining input.new) p) }
+    ensures failed { IsErrAnd result IsStoreFault → Any (HasFailed S.failures) stores.items }
+    ensures rotates { IfErr result (IsOfRotating config.now.sinks.items) }
     ensures unread { OnErr result (Keeps (I.remaining input.old) (I.remaining input.new)) }
 {
     let lines = LineCutter::new(alloc, config.text)?;

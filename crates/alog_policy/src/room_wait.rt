@@ -21,15 +21,22 @@ const SHORTEST_PART: u64 = 8;
 /// costs it nothing.
 const LONGEST_TIMES: u64 = 10;
 
-/// Or so many nanoseconds, where that is more: a queue of few places is full again behind each write of a slow file.
-const LONGEST_LEAST: u64 = 500_000;
-
 /// A sleep takes so many nanoseconds longer than it is asked to, in which a worker empties a queue of some hundred places and
 /// then has nothing to do. So a rest that is to be shorter than this is no sleep.
 const SLEEP_LEAST: u64 = 55_000;
 
 /// It is yields, one for so many nanoseconds: some half a microsecond where no other thread wants the processor.
 const NANOS_PER_YIELD: u64 = 500;
+
+/// Where the first rest is no sleep, none takes more nanoseconds than the first or than this: a worker that has emptied a queue of
+/// few places looks for some 25 microseconds before it sleeps, and a post that rested longer would come too late each time.
+const FEW_PLACES_MOST: u64 = 8_000;
+
+/// A post yields through so many rests, which together take longer than the first sleep of a worker that had nothing to do.
+const YIELDED_RESTS: u32 = 32;
+
+/// Then the worker is slow, and each further rest of that post is a sleep of at least so many nanoseconds.
+const SLEEP_OF_MANY: u64 = 500_000;
 
 /// How long the posts of a thread rest where the queue is full: its own, from post to post.
 ///
@@ -38,7 +45,10 @@ const NANOS_PER_YIELD: u64 = 500;
 /// shorter where more were: at most twice as long, and at least half. A post that looked again and again instead would take the
 /// words of the queue from the worker that is to make room, and cost it half of its time.
 ///
-/// Of how long a post rests no contract says anything. The test `naps_follow_the_worker` shows it.
+/// On a queue of few places each rest is short, and yields: `FEW_PLACES_MOST` says why.
+///
+/// Of how long a post rests no contract says anything. The tests `naps_follow_the_worker` and
+/// `a_post_of_few_places_yields_before_it_sleeps` show it.
 #[derive(Clone, Copy, Debug)]
 pub struct Pace {
     /// How many tickets are to be claimed from one rest to the next.
@@ -57,10 +67,15 @@ impl Pace {
     pub fn new(places: usize) -> Pace {
         let places = places as u64;
         let nap = NAP_PER_PLACE.saturating_mul(places).min(FIRST_NAP_MAX);
+        let most = if nap < SLEEP_LEAST {
+            nap.max(FEW_PLACES_MOST)
+        } else {
+            nap * LONGEST_TIMES
+        };
         Pace {
             aim: (places / 2 + places / 4).max(1),
             least: nap / SHORTEST_PART,
-            most: (nap * LONGEST_TIMES).max(LONGEST_LEAST),
+            most,
             nap,
             seen: None,
         }
@@ -106,8 +121,16 @@ impl RoomWait {
         if self.looks < ROOM_SPINS {
             self.looks += 1;
             self.backoff.spin();
+            return;
+        }
+        let nap = pace.nap_at(ticket);
+        if nap >= SLEEP_LEAST {
+            sleep(clock, nap);
+        } else if self.looks < ROOM_SPINS + YIELDED_RESTS {
+            self.looks += 1;
+            give_way_for(nap);
         } else {
-            rest(clock, pace.nap_at(ticket));
+            sleep(clock, SLEEP_OF_MANY);
         }
     }
 
@@ -117,12 +140,13 @@ impl RoomWait {
     }
 }
 
-/// Rests so many nanoseconds: sleeps, or yields where a sleep would take too long.
-fn rest(clock: &impl Clock, nanos: u64) {
-    if nanos >= SLEEP_LEAST {
-        thread::sleep(clock, Duration::from_nanos(nanos));
-        return;
-    }
+/// Sleeps so many nanoseconds, and as long as a sleep takes besides.
+fn sleep(clock: &impl Clock, nanos: u64) {
+    thread::sleep(clock, Duration::from_nanos(nanos));
+}
+
+/// Yields for some so many nanoseconds.
+fn give_way_for(nanos: u64) {
     for _ in 0..=nanos / NANOS_PER_YIELD {
         thread::yield_now();
     }

@@ -23,12 +23,12 @@ const YIELDS: u32 = 8;
 const FIRST_NAP: u64 = 50;
 
 /// Each sleep is twice as long as the one before, up to so many microseconds for each worker of the pool, so that an idle pool
-/// wakes at most five hundred times a second, whatever its number of workers is.
-const ITEM_NAP_MAX: u64 = 2_000;
+/// wakes at most two hundred and fifty times a second, whatever its number of workers is.
+const ITEM_NAP_MAX: u64 = 4_000;
 
 /// How a thread that takes items waits: what a worker of a pool does after each pop that took nothing, from one item to the next.
 ///
-/// Where the queue is idle it spins, then yields, and then sleeps, each time twice as long, from 50 microseconds up to two
+/// Where the queue is idle it spins, then yields, and then sleeps, each time twice as long, from 50 microseconds up to four
 /// milliseconds for each worker. Where it is empty, so that an item is on its way, it looks again at once, a hundred times, and
 /// then yields before each look; it never sleeps then. The test `rests_where_the_queue_is_idle_alone` of `test_pool` shows it.
 #[derive(Drop)]

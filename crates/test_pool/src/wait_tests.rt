@@ -54,8 +54,8 @@ fn rests_where_the_queue_is_idle_alone(rt: HostRuntime) {
     let mut wait = ItemWait::new(1);
     has_slept(&rt, &mut wait, &clock, PopError::Empty { next: 7 }, (0, 0));
     has_slept(&rt, &mut wait, &clock, PopError::Busy { seen: 7 }, (0, 0));
-    // Seven rests and eight yields come before the first sleep, of 50 microseconds; the seventh and all behind it take two thousand.
-    let slept = (985, 1_961_150);
+    // Seven rests and eight yields come before the first sleep, of 50 microseconds; the eighth and all behind it take four thousand.
+    let slept = (985, 3_918_350);
     has_slept(&rt, &mut wait, &clock, PopError::Idle { next: 7 }, slept);
     has_slept(&rt, &mut wait, &clock, PopError::Empty { next: 7 }, slept);
 }

@@ -94,8 +94,8 @@ const OF_MANY: Naps = &[
     (7_007_681, 666_664),
 ];
 
-/// At two places one. Rests of less than 55 microseconds, from 250 nanoseconds on, are yields.
-const OF_TWO: Naps = &[
+/// At two places one, and at eight six: each rest is yields, however many tickets were claimed.
+const OF_FEW: Naps = &[
     (1_000, 0),
     (1_000, 0),
     (1_000, 0),
@@ -104,51 +104,24 @@ const OF_TWO: Naps = &[
     (1_000, 0),
     (1_000, 0),
     (1_000, 0),
-    // The ninth takes 64 microseconds, and none is longer than half a millisecond.
-    (1_000, 64_000),
-    (1_000, 128_000),
-    (1_000, 256_000),
-    (1_000, 500_000),
-    (1_000, 500_000),
-    // One that is claimed keeps it, and two that are halve it.
-    (1_001, 500_000),
-    (1_003, 250_000),
-    (1_103, 125_000),
-    (1_203, 62_500),
-    (1_303, 0),
-    (2_303, 0),
-    (3_303, 0),
-    (4_303, 0),
-    (5_303, 0),
-    (6_303, 0),
-    (7_303, 0),
-    (8_303, 0),
-    (9_303, 0),
-    // From 122 nanoseconds on, where none is claimed.
-    (9_303, 0),
-    (9_303, 0),
-    (9_303, 0),
-    (9_303, 0),
-    (9_303, 0),
-    (9_303, 0),
-    (9_303, 0),
-    (9_303, 0),
-    (9_303, 62_464),
+    (1_000, 0),
+    (1_000, 0),
+    (1_000, 0),
+    (1_000, 0),
+    (1_001, 0),
+    (1_003, 0),
+    (1_103, 0),
+    (1_103, 0),
 ];
 
-/// At eight places six.
-const OF_EIGHT: Naps = &[
-    (8, 0),
-    (8, 0),
-    (8, 0),
-    (8, 0),
-    (8, 0),
-    (8, 0),
-    (8, 64_000),
-    // Six claimed, four, and nine.
-    (14, 64_000),
-    (18, 96_000),
-    (27, 64_000),
+/// At 439 places 328, and at 440 places 330: there the first rest takes 55 microseconds, and is a sleep.
+const OF_439: Naps = &[(439, 0), (439, 0), (439, 0), (767, 0)];
+
+const OF_440: Naps = &[
+    (440, 55_000),
+    (440, 110_000),
+    (770, 110_000),
+    (1_430, 55_000),
 ];
 
 /// At 65,536 places 49,152.
@@ -161,10 +134,12 @@ const OF_MOST: Naps = &[
 
 /// How many places a queue has, and the naps of a thread that posts there. From 440 places on the first is a sleep, and from 8,000 on
 /// it takes a millisecond.
-const ROWS: [(usize, Naps); 9] = [
-    (2, OF_TWO),
-    (8, OF_EIGHT),
-    (256, &[(256, 0), (256, 64_000)]),
+const ROWS: [(usize, Naps); 11] = [
+    (2, OF_FEW),
+    (8, OF_FEW),
+    (256, OF_FEW),
+    (439, OF_439),
+    (440, OF_440),
     (512, &[(512, 64_000), (896, 64_000), (1_664, 0)]),
     (4_096, &[(4_096, 512_000)]),
     (7_999, &[(0, 999_875)]),
@@ -193,4 +168,22 @@ fn a_post_sleeps_again_and_again(rt: HostRuntime) {
         room.wait(&clock, &mut pace, 8_192);
     }
     clock.was_asked(&rt, 96, 935_000_000);
+}
+
+// On a queue of few places a post that goes on finding no room yields at 32 looks, and then sleeps half a millisecond at each.
+#[test]
+fn a_post_of_few_places_yields_before_it_sleeps(rt: HostRuntime) {
+    for places in [2, 8, 64, 439] {
+        let clock = Stopped::new();
+        let mut pace = Pace::new(places);
+        let mut room = RoomWait::new();
+        for _ in 0..36 {
+            room.wait(&clock, &mut pace, 8);
+        }
+        clock.was_asked(&rt, 0, 0);
+        for _ in 0..10 {
+            room.wait(&clock, &mut pace, 8);
+        }
+        clock.was_asked(&rt, 10, 5_000_000);
+    }
 }
