@@ -28,15 +28,16 @@ const SLEEP_LEAST: u64 = 55_000;
 /// It is yields, one for so many nanoseconds: some half a microsecond where no other thread wants the processor.
 const NANOS_PER_YIELD: u64 = 500;
 
-/// Where the first rest is no sleep, none takes more nanoseconds than the first or than this: a worker that has emptied a queue of
-/// few places looks for some 25 microseconds before it sleeps, and a post that rested longer would come too late each time.
+/// Where the first rest is no sleep, the queue has few places, and no rest takes more nanoseconds than the first or than this: a
+/// worker that has emptied such a queue looks for some 25 microseconds before it sleeps, and a post that rested longer would come too
+/// late each time.
 const FEW_PLACES_MOST: u64 = 8_000;
 
-/// A post yields through so many rests, which together take longer than the first sleep of a worker that had nothing to do.
-const YIELDED_RESTS: u32 = 32;
+/// There a post yields through so many rests, which together take longer than the first sleep of a worker that had nothing to do.
+const FEW_PLACES_RESTS: u32 = 32;
 
-/// Then the worker is slow, and each further rest of that post is a sleep of at least so many nanoseconds.
-const SLEEP_OF_MANY: u64 = 500_000;
+/// Then the worker is slow, and the post sleeps so many nanoseconds in place of each further rest.
+const FEW_PLACES_SLEEP: u64 = 500_000;
 
 /// How long the posts of a thread rest where the queue is full: its own, from post to post.
 ///
@@ -45,10 +46,11 @@ const SLEEP_OF_MANY: u64 = 500_000;
 /// shorter where more were: at most twice as long, and at least half. A post that looked again and again instead would take the
 /// words of the queue from the worker that is to make room, and cost it half of its time.
 ///
-/// On a queue of few places each rest is short, and yields: `FEW_PLACES_MOST` says why.
+/// On a queue of few places each rest is short, and is yields: `FEW_PLACES_MOST` says why. A post that rested there again and again
+/// sleeps.
 ///
-/// Of how long a post rests no contract says anything. The tests `naps_follow_the_worker` and
-/// `a_post_of_few_places_yields_before_it_sleeps` show it.
+/// Of how long a post rests no contract says anything. The tests `naps_follow_the_worker`,
+/// `a_post_of_few_places_yields_before_it_sleeps` and `a_post_of_many_places_yields_on` show it.
 #[derive(Clone, Copy, Debug)]
 pub struct Pace {
     /// How many tickets are to be claimed from one rest to the next.
@@ -73,7 +75,7 @@ impl Pace {
             nap * LONGEST_TIMES
         };
         Pace {
-            aim: (places / 2 + places / 4).max(1),
+            aim: places / 2 + places / 4,
             least: nap / SHORTEST_PART,
             most,
             nap,
@@ -81,8 +83,13 @@ impl Pace {
         }
     }
 
-    /// The nanoseconds of the next rest, where this ticket found no room.
-    fn nap_at(&mut self, ticket: u64) -> u64 {
+    /// Whether the queue has so few places, fewer than 440, that the longest rest is no sleep.
+    fn is_of_few_places(&self) -> bool {
+        self.most < SLEEP_LEAST
+    }
+
+    /// The nanoseconds of the next rest, where this ticket found no room. The test `naps_follow_the_worker` shows them.
+    pub fn next_nap(&mut self, ticket: u64) -> u64 {
         if let Some(seen) = self.seen {
             let claimed = ticket.saturating_sub(seen);
             let twice = self.nap.saturating_mul(2);
@@ -123,14 +130,14 @@ impl RoomWait {
             self.backoff.spin();
             return;
         }
-        let nap = pace.nap_at(ticket);
+        let nap = pace.next_nap(ticket);
         if nap >= SLEEP_LEAST {
             sleep(clock, nap);
-        } else if self.looks < ROOM_SPINS + YIELDED_RESTS {
-            self.looks += 1;
-            give_way_for(nap);
+        } else if pace.is_of_few_places() && self.looks >= ROOM_SPINS + FEW_PLACES_RESTS {
+            sleep(clock, FEW_PLACES_SLEEP);
         } else {
-            sleep(clock, SLEEP_OF_MANY);
+            self.looks = self.looks.saturating_add(1);
+            give_way_for(nap);
         }
     }
 

@@ -26,7 +26,7 @@ pub struct SwapPort<'a, B, T = B, W: Shows<B, T> = Whole, L: Limit<B> = NoLimit>
     pub hand: &'a mut Option<B>,
     /// What a pop brings.
     pub spare: &'a mut Option<B>,
-    /// How long `post_hand` sleeps where there is no room.
+    /// How long `post_hand` rests where there is no room.
     pub pace: &'a mut Pace,
 }
 

@@ -49,7 +49,7 @@ fn post_stop(rt: &(impl Wait + Clock), ring: &Queue, pass: &mut QueuePass, hand:
         if let Some(posted) = try_stop(ring, pass, hand) {
             return posted;
         }
-        // A stop waits for one place alone, so each of its sleeps is as long as a first one.
+        // A stop waits for one place alone, so each of its rests is a first one.
         let mut pace = Pace::new(ring.places());
         room.wait(rt, &mut pace, 0);
     }

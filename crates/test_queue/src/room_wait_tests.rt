@@ -51,7 +51,8 @@ impl Clock for Stopped {
     }
 }
 
-/// A post whose ticket finds no room looks four times again, and then sleeps so many nanoseconds, or yields where these are none.
+/// A post whose ticket finds no room looks four times again, and then rests so many nanoseconds: it sleeps, or yields where these are
+/// less than 55 microseconds.
 fn rests_so_long(rt: &impl Abort, pace: &mut Pace, ticket: u64, nap: u64) {
     let clock = Stopped::new();
     let mut room = RoomWait::new();
@@ -59,12 +60,18 @@ fn rests_so_long(rt: &impl Abort, pace: &mut Pace, ticket: u64, nap: u64) {
         room.wait(&clock, pace, ticket);
     }
     clock.was_asked(rt, 0, 0);
+    let mut twin = *pace;
+    let next = twin.next_nap(ticket);
+    assert!(rt;
+        next == nap,
+        "a rest of {next} ns where ticket {ticket} found no room"
+    );
     room.wait(&clock, pace, ticket);
-    clock.was_asked(rt, u64::from(nap > 0), nap);
+    let slept = if nap < 55_000 { 0 } else { nap };
+    clock.was_asked(rt, u64::from(slept > 0), slept);
 }
 
-/// The tickets of a thread's posts that find no room, one after another, and the nanoseconds that each of these posts sleeps: none
-/// where it yields.
+/// The tickets of a thread's posts that find no room, one after another, and the nanoseconds that each of these posts rests.
 type Naps = &'static [(u64, u64)];
 
 /// At 8,192 places 6,144 tickets are to be claimed from one sleep to the next.
@@ -94,34 +101,57 @@ const OF_MANY: Naps = &[
     (7_007_681, 666_664),
 ];
 
-/// At two places one, and at eight six: each rest is yields, however many tickets were claimed.
-const OF_FEW: Naps = &[
-    (1_000, 0),
-    (1_000, 0),
-    (1_000, 0),
-    (1_000, 0),
-    (1_000, 0),
-    (1_000, 0),
-    (1_000, 0),
-    (1_000, 0),
-    (1_000, 0),
-    (1_000, 0),
-    (1_000, 0),
-    (1_000, 0),
-    (1_001, 0),
-    (1_003, 0),
-    (1_103, 0),
-    (1_103, 0),
+/// At two places one ticket is to be claimed from one rest to the next: rests of 250 ns to 8 microseconds.
+const OF_TWO: Naps = &[
+    (1_000, 250),
+    (1_000, 500),
+    (1_000, 1_000),
+    (1_000, 2_000),
+    (1_000, 4_000),
+    (1_000, 8_000),
+    (1_000, 8_000),
+    (1_001, 8_000),
+    (1_004, 4_000),
+    (1_010, 2_000),
+    (1_110, 1_000),
+    (1_110, 2_000),
+];
+
+/// At eight places six.
+const OF_EIGHT: Naps = &[
+    (1_000, 1_000),
+    (1_000, 2_000),
+    (1_000, 4_000),
+    (1_000, 8_000),
+    (1_000, 8_000),
+    (1_006, 8_000),
+    (1_016, 4_800),
+    (1_116, 2_400),
+    (1_116, 4_800),
+    (1_120, 7_200),
+];
+
+/// At 64 places 48, and at 256 places 192: no rest takes longer than the first.
+const OF_64: Naps = &[(64, 8_000), (64, 8_000), (160, 4_000), (196, 5_333)];
+
+const OF_256: Naps = &[
+    (256, 32_000),
+    (256, 32_000),
+    (448, 32_000),
+    (832, 16_000),
+    (4_096, 8_000),
+    (4_096, 16_000),
 ];
 
 /// At 439 places 328, and at 440 places 330: there the first rest takes 55 microseconds, and is a sleep.
-const OF_439: Naps = &[(439, 0), (439, 0), (439, 0), (767, 0)];
+const OF_439: Naps = &[(439, 54_875), (439, 54_875), (767, 54_875), (1_423, 27_437)];
 
 const OF_440: Naps = &[
     (440, 55_000),
     (440, 110_000),
     (770, 110_000),
     (1_430, 55_000),
+    (2_090, 27_500),
 ];
 
 /// At 65,536 places 49,152.
@@ -134,13 +164,14 @@ const OF_MOST: Naps = &[
 
 /// How many places a queue has, and the naps of a thread that posts there. From 440 places on the first is a sleep, and from 8,000 on
 /// it takes a millisecond.
-const ROWS: [(usize, Naps); 11] = [
-    (2, OF_FEW),
-    (8, OF_FEW),
-    (256, OF_FEW),
+const ROWS: [(usize, Naps); 12] = [
+    (2, OF_TWO),
+    (8, OF_EIGHT),
+    (64, OF_64),
+    (256, OF_256),
     (439, OF_439),
     (440, OF_440),
-    (512, &[(512, 64_000), (896, 64_000), (1_664, 0)]),
+    (512, &[(512, 64_000), (896, 64_000), (1_664, 32_000)]),
     (4_096, &[(4_096, 512_000)]),
     (7_999, &[(0, 999_875)]),
     (8_001, &[(0, 1_000_000)]),
@@ -185,5 +216,19 @@ fn a_post_of_few_places_yields_before_it_sleeps(rt: HostRuntime) {
             room.wait(&clock, &mut pace, 8);
         }
         clock.was_asked(&rt, 10, 5_000_000);
+    }
+}
+
+// On a queue of more places whose tickets are claimed fast, a post sleeps at its first rest, and then yields at each look.
+#[test]
+fn a_post_of_many_places_yields_on(rt: HostRuntime) {
+    for (places, first) in [(440, 55_000), (512, 64_000)] {
+        let clock = Stopped::new();
+        let mut pace = Pace::new(places);
+        let mut room = RoomWait::new();
+        for look in 0..1_000 {
+            room.wait(&clock, &mut pace, look * 4_096);
+        }
+        clock.was_asked(&rt, 1, first);
     }
 }
