@@ -1,10 +1,10 @@
 -- Stores that are handed out, and what is made of all parts.
-use Rattle.std.proofs.Common.{◌≡◌, ◌+◌, ◌<◌, ℕ, zero, suc, Bool, true, false, cond, inr, List, [], ◌∷◌, ◌++◌, length, take, drop, map, slice_get}
-use Rattle.std.proofs.Common.{Result, Ok, Err, IfOk, Some, count_by, refl, sym, ap, subst, ◌∙◌, arith, length-drop}
+use Rattle.std.proofs.Common.{◌≡◌, ◌+◌, ◌<◌, ℕ, zero, suc, Bool, true, false, cond, List, [], ◌∷◌, ◌++◌, length, take, drop, map, slice_get}
+use Rattle.std.proofs.Common.{Result, Ok, Err, IfErr, IfOk, Option, Some, count_by, refl, sym, ap, subst, ◌∙◌, arith, length-drop}
 use Rattle.std.proofs.Math.Seq.{take-length}
 use Rattle.std.proofs.lemmas.List.{length-map}
 use Rattle.std.proofs.lemmas.List.Sums.{sum_by-append}
-use Rattle.std.specs.List.{Any}
+use Rattle.std.specs.declared.io.Error.{Error}
 use Rattle.alog_config.specs.declared.building.BuildError.{BuildError}
 use Rattle.alog_config.specs.declared.building.BuildError.TheVariants as faults
 use Rattle.alog_config.specs.declared.config.Config.{Config}
@@ -12,14 +12,17 @@ use Rattle.alog_config.specs.declared.config.SinkConfig.{SinkConfig}
 use Rattle.alog_config.specs.declared.config.SinkKind.{SinkKind}
 use Rattle.alog_config.specs.declared.config.SinkKind.TheVariants as kinds
 use Rattle.alog_config.specs.declared.parts.Part.{Part}
-use Rattle.alog_config.specs.Built.{ArePicked, Built, EachIs, IsLoggerOf, IsOfNumber, IsOfRotating, IsStoreFault}
+use Rattle.alog_config.specs.Built.{ArePicked, Built, EachIs, IsFaultOf, IsFaultOfNext, IsFaultOver, IsLoggerOf, IsStoreFault, TellsFault}
 use Rattle.alog_config.specs.Parts.{AreBuilt, Makes, MayLog, MayMake}
 use Rattle.alog_config.specs.Sinks.{AnyMember, AnyUnknown, IsMember, Rotates, is_leaf, is_lines}
 use Rattle.alog_config.specs.Sound.{IsSound, IsSoundKind}
 use Rattle.alog_config.proofs.Parting.{IsNext, all_known, config_of, logger_sound_at, name_of, next_fan, next_leaf, no_built_fan, sound_at}
-use Rattle.alog_config.proofs.SharedPicking.{Has, any_has, has_any, picked_short, split_at, take_one_more}
+use Rattle.alog_config.proofs.SharedPicking.{picked_short, split_at, take_one_more}
 use Rattle.alog_registry.specs.declared.logger.Logger.{Logger}
 use Rattle.alog_sink.specs.Files.{Files}
+use Rattle.alog_sink.specs.Refused.{FailsAs}
+use Rattle.alog_sink.specs.declared.open.OpenError.{OpenError}
+use Rattle.alog_sink.specs.declared.open.OpenError.TheVariants as openings
 use Rattle.alog_sink.specs.declared.sink.Sink.{Sink}
 
 -- how many stores the sinks up to one need
@@ -55,20 +58,38 @@ next_store {S} (s ∷ ss) (suc k) store rest e =
     let next : suc k + 1 ≡ suc (k + 1) = omega arith in
     (r.0, ap (λ n. drop n (s ∷ ss)) next ∙ r.1)
 
-has_dropped : {A : Type 0} (P : A → Type 0) (k : ℕ) (xs : List A) → Has P (drop k xs) → Has P xs
-has_dropped P zero xs h = h
-has_dropped P (suc k) [] h = h
-has_dropped P (suc k) (x ∷ xs) h = inr (has_dropped P k xs h)
+-- a fault over a store is that of a refused opening that left it so
+pub over_store : {S : Type 0} (failures : S → ℕ) (why : S → Option Error) (number : ℕ) (store after : S) (error : OpenError) (b : BuildError)
+    → FailsAs (failures store) (failures after) error → (IsStoreFault b → error ≡ openings.Store) → TellsFault number (why after) b
+    → IsFaultOver failures why number store b
+over_store failures why number store after error faults.OutOfMemory counted store_told told = tt
+over_store failures why number store after error (faults.Store sink reason) counted store_told told =
+    (told.0, (after, subst (λ (e : OpenError). FailsAs (failures store) (failures after) e) (store_told tt) counted, told.1))
 
-pub any_dropped : {A : Type 0} (P : A → Type 0) (k : ℕ) (xs ys : List A) → ys ≡ drop k xs → Any P ys → Any P xs
-any_dropped {A} P k xs ys e h =
-    has_any P xs (has_dropped P k xs (subst (λ (zs : List A). Has P zs) e (any_has P ys h)))
+-- a fault over the first of these stores
+pub of_next : {S T : Type 0} (failures : S → ℕ) (why : S → Option Error) (number : ℕ) (store : S) (stores rest : List S)
+    (r : Result T BuildError)
+    → stores ≡ store ∷ rest → IfErr r (IsFaultOver failures why number store) → IfErr r (IsFaultOfNext failures why number stores)
+of_next failures why number store stores rest (Ok t) first is = tt
+of_next failures why number store stores rest (Err faults.OutOfMemory) first is = tt
+of_next failures why number store stores rest (Err (faults.Store sink reason)) first is = (is.0, store, rest, first, is.1)
 
--- a fault of the sink of this number among these is that of one that rotates
-pub of_rotating : (sinks : List SinkConfig) (number : ℕ) (s : SinkConfig) (b : BuildError) → slice_get sinks number ≡ Some s
-    → IsOfNumber number b → (IsStoreFault b → Rotates s) → IsOfRotating sinks b
-of_rotating sinks number s faults.OutOfMemory at own rotates = tt
-of_rotating sinks number s (faults.Store sink reason) at own rotates = (s, rw own at, rotates tt)
+-- the fault of the next sink is told of the one that was to have the store
+pub fault_of : {S : Type 0} (failures : S → ℕ) (why : S → Option Error) (sinks : List SinkConfig) (stores here : List S) (number : ℕ)
+    (s : SinkConfig) (b : BuildError)
+    → slice_get sinks number ≡ Some s → here ≡ drop (count_by is_leaf (take number sinks)) stores
+    → IsFaultOfNext failures why number here b → (IsStoreFault b → Rotates s) → IsFaultOf failures why sinks stores b
+fault_of failures why sinks stores here number s faults.OutOfMemory at e is rotates = tt
+fault_of failures why sinks stores here number s (faults.Store sink reason) at e is rotates =
+    let found = next_store stores (count_by is_leaf (take number sinks)) is.1 is.2 (sym e ∙ is.3) in
+    record {
+      sink = s;
+      at = rw is.0 at;
+      rotates = rotates tt;
+      store = is.1;
+      own = rw is.0 found.0;
+      failed = is.4;
+    }
 
 -- what is known of a value in two ways
 pub if_ok_both : {T E : Type 0} (r : Result T E) (P Q R : T → Type 0) → ((t : T) → P t → Q t → R t) → IfOk r P → IfOk r Q → IfOk r R

@@ -1,6 +1,7 @@
 -- What is built of a configuration over stores: the loggers that it names, and the sinks.
 use Rattle.std.specs.Prelude.{◌≡◌, ◌⊎◌, ◌+◌, ◌<◌, ℕ, Bool, List, [], ◌∷◌, map, take, slice_get, count_by, Option, Some, option_map, IfSome}
 use Rattle.std.specs.List.{Any}
+use Rattle.std.specs.declared.io.Error.{Error}
 use Rattle.alog_config.specs.declared.building.BuildError.{BuildError}
 use Rattle.alog_config.specs.declared.building.BuildError.TheVariants as faults
 use Rattle.alog_config.specs.declared.config.Config.{Config}
@@ -77,19 +78,41 @@ abbrev pub IsStoreFault : BuildError → Type 0
 IsStoreFault (faults.Store sink reason) = Unit {0}
 IsStoreFault faults.OutOfMemory = ⊥
 
--- and then the sink has this number
-abbrev pub IsOfNumber : ℕ → BuildError → Type 0
-IsOfNumber number (faults.Store sink reason) = sink ≡ number
-IsOfNumber number faults.OutOfMemory = Unit {0}
+-- A call of a store failed, as it counts, and for this reason, as it says.
+abbrev pub HasFailed : {S : Type 0} → (S → ℕ) → (S → Option Error) → S → Option Error → Type 0
+HasFailed {S} failures why store reason =
+    (after : S) × (failures store < FAILURES_MAX → failures after ≡ failures store + 1) × (reason ≡ why after)
 
--- and then the sink of the number that is told, among these, rotates its file by size
-abbrev pub IsOfRotating : List SinkConfig → BuildError → Type 0
-IsOfRotating sinks (faults.Store sink reason) = (s : SinkConfig) × (slice_get sinks sink ≡ Some s) × Rotates s
-IsOfRotating sinks faults.OutOfMemory = Unit {0}
+-- a store's fault is told of the sink of this number, for this reason
+abbrev pub TellsFault : ℕ → Option Error → BuildError → Type 0
+TellsFault number reason (faults.Store sink own) = (sink ≡ number) × (own ≡ reason)
+TellsFault number reason faults.OutOfMemory = Unit {0}
 
--- A store failed, where it counts its failures.
-abbrev pub HasFailed : {S : Type 0} → (S → ℕ) → S → Type 0
-HasFailed {S} failures store = (after : S) × (failures store < FAILURES_MAX → failures after ≡ failures store + 1)
+-- a store's fault is told of the sink of this number, and is that of this store
+abbrev pub IsFaultOver : {S : Type 0} → (S → ℕ) → (S → Option Error) → ℕ → S → BuildError → Type 0
+IsFaultOver failures why number store (faults.Store sink reason) = (sink ≡ number) × HasFailed failures why store reason
+IsFaultOver failures why number store faults.OutOfMemory = Unit {0}
+
+-- a store's fault is told of the sink of this number, and is that of the first of these stores
+abbrev pub IsFaultOfNext : {S : Type 0} → (S → ℕ) → (S → Option Error) → ℕ → List S → BuildError → Type 0
+IsFaultOfNext {S} failures why number stores (faults.Store sink reason) =
+    (sink ≡ number) × (store : S) × (rest : List S) × (stores ≡ store ∷ rest) × HasFailed failures why store reason
+IsFaultOfNext failures why number stores faults.OutOfMemory = Unit {0}
+
+-- The sink of this number rotates its file by size, and the store of its number among those that need one failed for this reason.
+pub record IsUnopened {S : Type 0} (failures : S → ℕ) (why : S → Option Error) (sinks : List SinkConfig) (stores : List S) (number : ℕ)
+    (reason : Option Error) : Type 0 where
+  pub sink : SinkConfig
+  pub at : slice_get sinks number ≡ Some sink
+  pub rotates : Rotates sink
+  pub store : S
+  pub own : slice_get stores (count_by is_leaf (take number sinks)) ≡ Some store
+  pub failed : HasFailed failures why store reason
+
+-- why nothing was built: a store's fault is told of the sink that was to have that store
+abbrev pub IsFaultOf : {S : Type 0} → (S → ℕ) → (S → Option Error) → List SinkConfig → List S → BuildError → Type 0
+IsFaultOf failures why sinks stores (faults.Store sink reason) = IsUnopened failures why sinks stores sink reason
+IsFaultOf failures why sinks stores faults.OutOfMemory = Unit {0}
 
 module _ {S : Type 0} (tells : Bool) (files : S → Files) (failures : S → ℕ) where
   -- the store that a sink has is the one that it was given, which did not fail

@@ -1,7 +1,7 @@
 //! Building what a configuration names.
 ghost use Rattle.std.specs.Prelude.{◌≡◌, [], ◌∷◌, ◌++◌, IfErr, IfOk, IsErrAnd, OnOk, count_by, length};
-ghost use Rattle.std.specs.List.{All, Any};
-ghost use Rattle.alog_config.specs.Built.{Built, EachIs, HasFailed, IsLoggerOf, IsOfNumber, IsOfRotating, IsStoreFault};
+ghost use Rattle.std.specs.List.{All};
+ghost use Rattle.alog_config.specs.Built.{Built, EachIs, IsFaultOf, IsFaultOfNext, IsLoggerOf, IsStoreFault};
 ghost use Rattle.alog_config.specs.Fits.{LoggerFits};
 ghost use Rattle.alog_config.specs.Parts.{AreBuilt, Makes, MayLog, MayMake};
 ghost use Rattle.alog_config.specs.Sinks.{Rotates, is_leaf};
@@ -24,12 +24,12 @@ pub enum BuildError {
     /// A growth was refused.
     #[error("out of memory")]
     OutOfMemory,
-    /// A store failed, which a sink that rotates its file had asked for a size.
+    /// The store of a sink that rotates its file failed, as it was asked for the file's size.
     #[error("a store failed")]
     Store {
         /// The sink's number in the configuration, from 0.
         sink: usize,
-        /// What the system said of the store's call, where it did.
+        /// Why the store's call failed, where the store tells it.
         reason: Option<io::Error>,
     },
 }
@@ -60,8 +60,7 @@ pub fn build<S: Store + Drop>(
     // Each logger's sinks are there, and each sink takes the texts of the configuration, in lines that a buffer of `LINE_MAX` holds.
     ensures fits { IfOk result (λ b. All (LoggerFits (length b.1.items)) b.0) }
     ensures suits { IfOk result (λ b. All (λ s. Suits config.now.text LINE_MAX s) b.1.items) }
-    ensures failed { IsErrAnd result IsStoreFault → Any (HasFailed S.failures) stores.items }
-    ensures rotates { IfErr result (IsOfRotating config.now.sinks.items) }
+    ensures fault { IfErr result (IsFaultOf S.failures S.why config.now.sinks.items stores.items) }
 {
     let parts = parts_of(alloc, config, stores)?;
     let loggers = loggers_of(alloc, &config.loggers, parts.as_slice())?;
@@ -77,8 +76,7 @@ fn parts_of<'c, S: Store + Drop>(
 ) -> Result<Vec<Part<'c, S>>, BuildError>
     requires { length stores.items ≡ count_by is_leaf config.now.sinks.items }
     ensures built { IfOk result (λ v. AreBuilt S.tells S.files S.failures config.now stores.items (length config.now.sinks.items) v.items) }
-    ensures failed { IsErrAnd result IsStoreFault → Any (HasFailed S.failures) stores.items }
-    ensures rotates { IfErr result (IsOfRotating config.now.sinks.items) }
+    ensures fault { IfErr result (IsFaultOf S.failures S.why config.now.sinks.items stores.items) }
 {
     let mut stores = VecDeque::from_vec(stores);
     let mut parts = Vec::new(alloc);
@@ -118,9 +116,8 @@ fn made<S: Store + Drop>(
     requires { MayMake config.now.text sink.now.kind stores.old.items parts.old.items }
     ensures made { IfOk result (λ s. Makes S.tells S.files S.failures config.now sink.now.level sink.now.kind stores.old.items parts.old.items
         s stores.new.items parts.new.items) }
-    ensures failed { IsErrAnd result IsStoreFault → Any (HasFailed S.failures) stores.old.items }
+    ensures fault { IfErr result (IsFaultOfNext S.failures S.why number stores.old.items) }
     ensures rotates { IsErrAnd result IsStoreFault → Rotates sink.now }
-    ensures number { IfErr result (IsOfNumber number) }
 {
     match &sink.kind {
         SinkKind::Lines {

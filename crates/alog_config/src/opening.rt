@@ -1,6 +1,6 @@
 //! Opening the sinks that have a store of their own.
 ghost use Rattle.std.specs.Prelude.{◌≡◌, ◌↔◌, ◌⊎◌, IfErr, IfOk, IsErrAnd, map};
-ghost use Rattle.alog_config.specs.Built.{HasFailed, IsFaceOf, IsOfNumber, IsOver, IsStoreFault, IsTargetOf};
+ghost use Rattle.alog_config.specs.Built.{IsFaceOf, IsFaultOver, IsOver, IsStoreFault, IsTargetOf, TellsFault};
 ghost use Rattle.alog_config.specs.Sinks.{IsBySize};
 ghost use Rattle.alog_config.specs.Sound.{IsSoundUpkeep};
 ghost use Rattle.alog_config.specs.Values.{IsPattern};
@@ -70,9 +70,8 @@ pub(crate) fn opened<S: Store + Drop>(
     requires upkeep { IsSoundUpkeep upkeep }
     ensures opened { IfOk result (Opened S.tells S.files face (IsTargetOf file.now upkeep) (S.files store)) }
     ensures over { IfOk result (λ s. IsOver S.tells S.files S.failures upkeep store (store_of s)) }
-    ensures failed { IsErrAnd result IsStoreFault → HasFailed S.failures store }
+    ensures fault { IfErr result (IsFaultOver S.failures S.why number store) }
     ensures rotates { IsErrAnd result IsStoreFault → IsBySize upkeep }
-    ensures number { IfErr result (IsOfNumber number) }
 {
     match upkeep {
         Upkeep::Never => match Sink::memory(alloc, face, store, file) {
@@ -101,7 +100,7 @@ pub(crate) fn opened<S: Store + Drop>(
 fn why<S: Store + Drop>(number: usize, unopened: Unopened<S>) -> BuildError
     requires { (unopened.error ≡ OpenError.OutOfMemory) ⊎ (unopened.error ≡ OpenError.Store) }
     ensures store { IsStoreFault result ↔ (unopened.error ≡ OpenError.Store) }
-    ensures number { IsOfNumber number result }
+    ensures told { TellsFault number (S.why unopened.store) result }
 {
     match unopened.error {
         OpenError::OutOfMemory => BuildError::OutOfMemory,

@@ -1,7 +1,8 @@
 -- What a load is: what is asked for, what a configuration gives, what each producer logs, and what is answered.
-use Rattle.std.specs.Prelude.{◌≡◌, ◌<◌, ◌⊎◌, ◌*◌, ◌%◌, ℕ, zero, suc, pos, Bool, List, ◌∷◌, ◌++◌, length, slice_get, Some, None, true}
+use Rattle.std.specs.Prelude.{◌≡◌, ◌<◌, ◌⊎◌, ◌*◌, ◌%◌, ℕ, zero, suc, pos, Bool, List, Option, ◌∷◌, ◌++◌, length, Some, None, true}
 use Rattle.std.specs.Fmt.{decimal}
-use Rattle.alog_config.specs.Sinks.{Rotates}
+use Rattle.std.specs.declared.io.Error.{Error}
+use Rattle.alog_config.specs.Built.{IsUnopened}
 use Rattle.alog_config.specs.declared.building.BuildError.{BuildError}
 use Rattle.alog_config.specs.declared.building.BuildError.TheVariants as built
 use Rattle.alog_config.specs.declared.config.Config.{Config}
@@ -38,17 +39,11 @@ abbrev pub IsOfBuild : BuildError → LoadError → Type 0
 IsOfBuild built.OutOfMemory e = e ≡ refused.OutOfMemory
 IsOfBuild (built.Store sink reason) e = e ≡ refused.Store sink reason
 
--- a store failed when its sink was opened
-abbrev pub IsStoreRefusal : LoadError → Type 0
-IsStoreRefusal refused.BadValue = ⊥
-IsStoreRefusal (refused.Store sink reason) = Unit {0}
-IsStoreRefusal refused.OutOfMemory = ⊥
-
--- and then the sink of the number that is told, among these, rotates its file by size
-abbrev pub NamesRotating : List SinkConfig → LoadError → Type 0
-NamesRotating sinks refused.BadValue = Unit {0}
-NamesRotating sinks (refused.Store sink reason) = (s : SinkConfig) × (slice_get sinks sink ≡ Some s) × Rotates s
-NamesRotating sinks refused.OutOfMemory = Unit {0}
+-- why there was no load: a store's fault is told of the sink that was to have that store, which rotates its file by size
+abbrev pub IsRefusalOf : {S : Type 0} → (S → ℕ) → (S → Option Error) → List SinkConfig → List S → LoadError → Type 0
+IsRefusalOf failures why sinks stores refused.BadValue = Unit {0}
+IsRefusalOf failures why sinks stores (refused.Store sink reason) = IsUnopened failures why sinks stores sink reason
+IsRefusalOf failures why sinks stores refused.OutOfMemory = Unit {0}
 
 -- What the producer of this number is sent off for: the producers go round among so many loggers. Where there is none, nothing is
 -- logged.

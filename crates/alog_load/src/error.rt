@@ -15,7 +15,7 @@ pub enum LoadError {
     Store {
         /// The sink's number in the configuration, from 0.
         sink: usize,
-        /// What the system said of the store's call, where it did.
+        /// Why the store's call failed, where the store tells it.
         reason: Option<io::Error>,
     },
     /// There was no memory, or a thread could not be started.

@@ -1,9 +1,8 @@
 //! A whole load.
-ghost use Rattle.std.specs.Prelude.{◌≡◌, ◌≤◌, ◌↔◌, IfErr, IfOk, IsErrAnd, IsErrOf, IsTrue, count_by, length};
-ghost use Rattle.std.specs.List.{AllByRecursion, Any};
-ghost use Rattle.alog_config.specs.Built.{HasFailed};
+ghost use Rattle.std.specs.Prelude.{◌≡◌, ◌≤◌, ◌↔◌, IfErr, IfOk, IsErrOf, IsTrue, count_by, length};
+ghost use Rattle.std.specs.List.{AllByRecursion};
 ghost use Rattle.alog_config.specs.Sinks.{is_leaf};
-ghost use Rattle.alog_load.specs.Load.{AreBad, NamesRotating, IsStoreRefusal, Loads};
+ghost use Rattle.alog_load.specs.Load.{AreBad, IsRefusalOf, Loads};
 ghost use Rattle.alog_pool.specs.Report.{Ends};
 
 use crate::error::LoadError;
@@ -42,8 +41,7 @@ pub fn load<
 ) -> Result<Report<S>, LoadError>
     requires { length stores.items ≡ count_by is_leaf config.now.sinks.items }
     ensures bad_value { IsErrOf result LoadError.BadValue ↔ AreBad producers messages }
-    ensures failed { IsErrAnd result IsStoreRefusal → Any (HasFailed S.failures) stores.items }
-    ensures rotates { IfErr result (NamesRotating config.now.sinks.items) }
+    ensures refused { IfErr result (IsRefusalOf S.failures S.why config.now.sinks.items stores.items) }
     ensures loads { IfOk result (λ r. Loads S.tells S.files S.failures config.now stores.items producers messages r) }
 {
     if producers < 1 || producers > LOAD_PRODUCERS_MAX || messages > LOAD_MESSAGES_MAX {

@@ -1,9 +1,7 @@
 //! What a configuration gives to start the pool of a load with.
-ghost use Rattle.std.specs.Prelude.{◌≡◌, IfErr, IfOk, IsErrAnd, IsErrOf, count_by, length};
-ghost use Rattle.std.specs.List.{Any};
-ghost use Rattle.alog_config.specs.Built.{HasFailed};
+ghost use Rattle.std.specs.Prelude.{◌≡◌, IfErr, IfOk, IsErrOf, count_by, length};
 ghost use Rattle.alog_config.specs.Sinks.{is_leaf};
-ghost use Rattle.alog_load.specs.Load.{NamesRotating, IsStoreRefusal};
+ghost use Rattle.alog_load.specs.Load.{IsRefusalOf};
 ghost use Rattle.alog_pool.specs.Pool.{Fits};
 ghost use Rattle.alog_server.specs.Setting.{IsSetupOf};
 
@@ -23,8 +21,7 @@ pub(crate) fn setup_of<S: Store + Drop>(
     requires { length stores.items ≡ count_by is_leaf config.now.sinks.items }
     ensures given { IfOk result (λ s. IsSetupOf S.tells S.files S.failures config.now stores.items tickets_max s) }
     ensures fits { IfOk result (λ s. Fits s) }
-    ensures failed { IsErrAnd result IsStoreRefusal → Any (HasFailed S.failures) stores.items }
-    ensures rotates { IfErr result (NamesRotating config.now.sinks.items) }
+    ensures refused { IfErr result (IsRefusalOf S.failures S.why config.now.sinks.items stores.items) }
     ensures bounds { IsErrOf result LoadError.BadValue → ⊥ }
 {
     Ok(alog_server::setup_of(alloc, config, stores, tickets_max)?)

@@ -1,5 +1,5 @@
 //! A store over another one, whose failed calls it tries again.
-ghost use Rattle.std.specs.Prelude.{◌≡◌, ◌≤◌, true, length, IfErr, OnOk};
+ghost use Rattle.std.specs.Prelude.{◌≡◌, ◌≤◌, true, length, IfErr, OnErr, OnOk};
 ghost use Rattle.alog_sink.specs.Calls.{Counts, TakesFront};
 ghost use Rattle.alog_sink.specs.Files.{AreSame, appended};
 ghost use Rattle.alog_patient.specs.Tried.{Tried};
@@ -54,6 +54,7 @@ impl<S: Resumes, R: Wait + Clock + Eprint> PatientStore<S, R> {
         ensures within { IfErr result (λ e. e.taken ≤ length bytes.now) }
         ensures counted { Counts self.old.given_up self.new.given_up result }
         ensures tried { Tried S.failures self.old.patience self.old.store self.new.store self.new.reason result }
+        ensures told { OnErr result (self.new.reason ≡ S.why self.new.store) }
         ensures patience { self.new.patience ≡ self.old.patience }
     {
         let mut row = Row::new(name, self.patience);
@@ -99,12 +100,15 @@ impl<S: Resumes, R: Wait + Clock + Eprint> Store for PatientStore<S, R> {
 
     ghost failures = { λ s. s.given_up };
 
+    ghost why = { λ s. s.reason };
+
     fn append(&mut self, name: &str, bytes: &[u8]) -> Result<(), StoreError>
         ensures done { S.tells ≡ true
             → OnOk result (AreSame (appended name.now bytes.now (S.files self.old.store)) (S.files self.new.store)) }
         ensures failed { S.tells ≡ true → OnErr result (LeavesFront name.now bytes.now (S.files self.old.store) (S.files self.new.store)) }
         ensures counted { Counts self.old.given_up self.new.given_up result }
         ensures tried { Tried S.failures self.old.patience self.old.store self.new.store self.new.reason result }
+        ensures told { OnErr result (self.new.reason ≡ S.why self.new.store) }
         ensures patience { self.new.patience ≡ self.old.patience }
     {
         match self.append_rest(name, bytes) {
@@ -118,6 +122,7 @@ impl<S: Resumes, R: Wait + Clock + Eprint> Store for PatientStore<S, R> {
         ensures failed { S.tells ≡ true → OnErr result (AreSame (S.files self.old.store) (S.files self.new.store)) }
         ensures counted { Counts self.old.given_up self.new.given_up result }
         ensures tried { Tried S.failures self.old.patience self.old.store self.new.store self.new.reason result }
+        ensures told { OnErr result (self.new.reason ≡ S.why self.new.store) }
         ensures patience { self.new.patience ≡ self.old.patience }
     {
         let mut row = Row::new(from, self.patience);
@@ -141,6 +146,7 @@ impl<S: Resumes, R: Wait + Clock + Eprint> Store for PatientStore<S, R> {
         ensures failed { S.tells ≡ true → OnErr result (AreSame (S.files self.old.store) (S.files self.new.store)) }
         ensures counted { Counts self.old.given_up self.new.given_up result }
         ensures tried { Tried S.failures self.old.patience self.old.store self.new.store self.new.reason result }
+        ensures told { OnErr result (self.new.reason ≡ S.why self.new.store) }
         ensures patience { self.new.patience ≡ self.old.patience }
     {
         let mut row = Row::new(name, self.patience);
@@ -164,6 +170,7 @@ impl<S: Resumes, R: Wait + Clock + Eprint> Store for PatientStore<S, R> {
         ensures same { S.tells ≡ true → AreSame (S.files self.old.store) (S.files self.new.store) }
         ensures counted { Counts self.old.given_up self.new.given_up result }
         ensures tried { Tried S.failures self.old.patience self.old.store self.new.store self.new.reason result }
+        ensures told { OnErr result (self.new.reason ≡ S.why self.new.store) }
         ensures patience { self.new.patience ≡ self.old.patience }
     {
         let mut row = Row::new(name, self.patience);
@@ -186,6 +193,7 @@ impl<S: Resumes, R: Wait + Clock + Eprint> Store for PatientStore<S, R> {
         ensures same { S.tells ≡ true → AreSame (S.files self.old.store) (S.files self.new.store) }
         ensures counted { Counts self.old.given_up self.new.given_up result }
         ensures tried { Tried S.failures self.old.patience self.old.store self.new.store self.new.reason result }
+        ensures told { OnErr result (self.new.reason ≡ S.why self.new.store) }
         ensures patience { self.new.patience ≡ self.old.patience }
     {
         let mut row = Row::new(name, self.patience);

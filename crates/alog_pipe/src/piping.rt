@@ -1,8 +1,8 @@
 //! A whole pipe.
-ghost use Rattle.std.specs.Prelude.{◌≡◌, ◌≤◌, ◌<◌, [], false, IfErr, IfOk, IsErrAnd, OnErr, count_by, length};
+ghost use Rattle.std.specs.Prelude.{◌≡◌, ◌≤◌, ◌<◌, [], false, IfErr, IfOk, OnErr, count_by, length};
 ghost use Rattle.std.specs.Io.KnownBytes.{Keeps};
-ghost use Rattle.std.specs.List.{AllByRecursion, Any};
-ghost use Rattle.alog_config.specs.Built.{HasFailed, IsOfRotating, IsStoreFault};
+ghost use Rattle.std.specs.List.{AllByRecursion};
+ghost use Rattle.alog_config.specs.Built.{IsFaultOf};
 ghost use Rattle.alog_config.specs.Sinks.{is_leaf};
 ghost use Rattle.alog_msg.specs.declared.limits.TheConstants.{TEXT_LIMIT_MIN};
 ghost use Rattle.alog_pipe.specs.Pipes.{Pipes, PipesThrough, overruns_of};
@@ -67,8 +67,7 @@ where
     requires known { logger < length config.now.loggers.items }
     ensures piped { IfOk result (λ p. Pipes S.tells S.files S.failures config.now stores.items logger level (I.remaining input.old)
         (I.remaining input.new) p) }
-    ensures failed { IsErrAnd result IsStoreFault → Any (HasFailed S.failures) stores.items }
-    ensures rotates { IfErr result (IsOfRotating config.now.sinks.items) }
+    ensures fault { IfErr result (IsFaultOf S.failures S.why config.now.sinks.items stores.items) }
     ensures unread { OnErr result (Keeps (I.remaining input.old) (I.remaining input.new)) }
 {
     let lines = LineCutter::new(alloc, config.text)?;

@@ -1,9 +1,11 @@
 -- Answers and the reasons of refusals that are passed on.
-use Rattle.std.specs.Prelude.{Result, Ok, Err, Vec}
+use Rattle.std.specs.Prelude.{ℕ, List, Option, Result, Ok, Err, Vec}
 use Rattle.std.specs.declared.alloc.Global.{Global}
 use Rattle.std.specs.declared.alloc.AllocError.{AllocError}
-use Rattle.alog_config.specs.Built.{IsStoreFault}
+use Rattle.std.specs.declared.io.Error.{Error}
+use Rattle.alog_config.specs.Built.{IsStoreFault, IsUnopened}
 use Rattle.alog_config.specs.declared.building.BuildError.{BuildError}
+use Rattle.alog_config.specs.declared.config.SinkConfig.{SinkConfig}
 use Rattle.alog_msg.specs.declared.message.MessageError.{MessageError}
 use Rattle.alog_msg.specs.declared.message.MessageError.TheVariants as message
 use Rattle.alog_policy.specs.declared.policy.Outcome.{Outcome}
@@ -25,6 +27,10 @@ IsStoreRefusal (start.Config fault text) = ⊥
 IsStoreRefusal (start.Unwritable text) = ⊥
 IsStoreRefusal (start.Store text) = Unit {0}
 IsStoreRefusal start.OutOfMemory = ⊥
+
+-- one of these sinks rotates its file by size, and the store that it was to have failed
+abbrev pub SomeUnopened : {S : Type 0} → (S → ℕ) → (S → Option Error) → List SinkConfig → List S → Type 0
+SomeUnopened failures why sinks stores = (number : ℕ) × (reason : Option Error) × IsUnopened failures why sinks stores number reason
 
 -- why nothing was built, as a start tells it, or that there was no memory to tell it
 abbrev pub IsBuildTold : BuildError → StartError → Type 0

@@ -1,10 +1,8 @@
 //! A server's pool, and a run of its threads.
 ghost use Rattle.std.specs.Prelude.{◌≡◌, ◌↔◌, ◌≤◌, IfOk, IfErr, IsErrAnd, IsErrOf, count_by, length};
-ghost use Rattle.std.specs.List.{Any};
-ghost use Rattle.alog_config.specs.Built.{HasFailed};
 ghost use Rattle.alog_config.specs.Sinks.{is_leaf};
 ghost use Rattle.alog_server.specs.Ends.{AllEnd, IsToldOf, TellsError};
-ghost use Rattle.alog_server.specs.Reasons.{IsStoreRefusal};
+ghost use Rattle.alog_server.specs.Reasons.{IsStoreRefusal, SomeUnopened};
 ghost use Rattle.alog_server.specs.Running.{AreBad, HasThreads, Runs, Works};
 ghost use Rattle.alog_server.specs.SinkEnds.{AreWithFaults};
 ghost use Rattle.alog_server.specs.Starting.{IsOfStores, IsServerOf};
@@ -82,7 +80,7 @@ impl<S: Store + Drop + Send + 'static> Server<S> {
     ) -> Result<Server<S>, StartError>
         requires { length stores.items ≡ count_by is_leaf config.now.sinks.items }
         ensures started { IfOk result (λ s. IsServerOf S.tells S.files S.failures config.now stores.items s.pool s.sinks.items) }
-        ensures failed { IsErrAnd result IsStoreRefusal → Any (HasFailed S.failures) stores.items }
+        ensures failed { IsErrAnd result IsStoreRefusal → SomeUnopened S.failures S.why config.now.sinks.items stores.items }
         ensures refused { IfErr result (IsOfStores config.now) }
     {
         Server::holding(rt, alloc, config, stores, ())
@@ -100,7 +98,7 @@ impl<S: Store + Drop + Send + 'static, L: Drop> Server<S, L> {
     ) -> Result<Server<S, L>, StartError>
         requires { length stores.items ≡ count_by is_leaf config.now.sinks.items }
         ensures started { IfOk result (λ s. IsServerOf S.tells S.files S.failures config.now stores.items s.pool s.sinks.items) }
-        ensures failed { IsErrAnd result IsStoreRefusal → Any (HasFailed S.failures) stores.items }
+        ensures failed { IsErrAnd result IsStoreRefusal → SomeUnopened S.failures S.why config.now.sinks.items stores.items }
         ensures refused { IfErr result (IsOfStores config.now) }
     {
         let sinks = ends_of(alloc, config)?;

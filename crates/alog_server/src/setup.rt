@@ -1,10 +1,9 @@
 //! What a configuration gives to start a pool with.
 ghost use Rattle.std.specs.Prelude.{◌≡◌, IfErr, IfOk, IsErrAnd, count_by, length};
-ghost use Rattle.std.specs.List.{Any};
-ghost use Rattle.alog_config.specs.Built.{HasFailed, IsOfRotating, IsStoreFault};
+ghost use Rattle.alog_config.specs.Built.{IsFaultOf};
 ghost use Rattle.alog_config.specs.Sinks.{is_leaf};
 ghost use Rattle.alog_pool.specs.Pool.{Fits};
-ghost use Rattle.alog_server.specs.Reasons.{IsBuildTold, IsStoreRefusal};
+ghost use Rattle.alog_server.specs.Reasons.{IsBuildTold, IsStoreRefusal, SomeUnopened};
 ghost use Rattle.alog_server.specs.Setting.{IsSetupOf};
 ghost use Rattle.alog_server.specs.Starting.{IsOfStores};
 
@@ -25,8 +24,7 @@ pub fn setup_of<S: Store + Drop>(
     requires { length stores.items ≡ count_by is_leaf config.now.sinks.items }
     ensures given { IfOk result (λ s. IsSetupOf S.tells S.files S.failures config.now stores.items tickets_max s) }
     ensures fits { IfOk result (λ s. Fits s) }
-    ensures failed { IsErrAnd result IsStoreFault → Any (HasFailed S.failures) stores.items }
-    ensures rotates { IfErr result (IsOfRotating config.now.sinks.items) }
+    ensures fault { IfErr result (IsFaultOf S.failures S.why config.now.sinks.items stores.items) }
 {
     let (loggers, sinks) = build(alloc, config, stores)?;
     Ok(Setup {
@@ -50,7 +48,7 @@ pub(crate) fn setup_for<S: Store + Drop>(
     requires { length stores.items ≡ count_by is_leaf config.now.sinks.items }
     ensures given { IfOk result (λ s. IsSetupOf S.tells S.files S.failures config.now stores.items 0 s) }
     ensures fits { IfOk result (λ s. Fits s) }
-    ensures failed { IsErrAnd result IsStoreRefusal → Any (HasFailed S.failures) stores.items }
+    ensures failed { IsErrAnd result IsStoreRefusal → SomeUnopened S.failures S.why config.now.sinks.items stores.items }
     ensures refused { IfErr result (IsOfStores config.now) }
 {
     match setup_of(alloc, config, stores, 0) {

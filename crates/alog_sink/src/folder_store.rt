@@ -281,6 +281,8 @@ impl<R: Files> Store for FolderStore<R> {
 
     ghost failures = { λ s. s.failures };
 
+    ghost why = { λ s. s.reason };
+
     fn append(&mut self, name: &str, bytes: &[u8]) -> Result<(), StoreError> {
         let (_, answer) = self.folder.append(name, bytes);
         self.told(answer)

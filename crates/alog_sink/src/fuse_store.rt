@@ -95,6 +95,8 @@ impl<S: Store> Store for FuseStore<S> {
 
     ghost failures = { λ s. S.failures s.store + own_failures s.fuse };
 
+    ghost why = { λ s. S.why s.store };
+
     fn append(&mut self, name: &str, bytes: &[u8]) -> Result<(), StoreError>
         ensures done { S.tells ≡ true
             → OnOk result (AreSame (appended name.now bytes.now (S.files self.old.store)) (S.files self.new.store)) }
@@ -176,6 +178,7 @@ impl<S: Store> Store for FuseStore<S> {
         self.store.flush(name)
     }
 
+    /// Why the last call of the store below that failed did: a fuse that burns has no reason of its own.
     fn reason(&self) -> Option<io::Error> {
         self.store.reason()
     }

@@ -9,6 +9,7 @@ use crate::sorted_files::SortedFiles;
 use crate::store::{Store, StoreError, counted};
 use indexmap::IndexMap;
 use std::alloc::{AllocFailed, Global};
+use std::io;
 
 /// Files in memory, in order of their names. An append costs the bytes appended, and a search where it is not to the file
 /// that was asked for last.
@@ -58,7 +59,7 @@ impl MemStore {
 }
 
 impl Store for MemStore {
-    ghost use Rattle.std.specs.Prelude.{true};
+    ghost use Rattle.std.specs.Prelude.{true, None};
     ghost use Rattle.alog_sink.specs.Listed.{files_in};
 
     ghost files = { λ s. files_in s.files };
@@ -66,6 +67,8 @@ impl Store for MemStore {
     ghost tells = { true };
 
     ghost failures = { λ s. s.failures };
+
+    ghost why = { λ _. None };
 
     fn append(&mut self, name: &str, bytes: &[u8]) -> Result<(), StoreError> {
         counted(self.files.append(name, bytes), &mut self.failures)
@@ -86,6 +89,10 @@ impl Store for MemStore {
 
     fn flush(&mut self, _name: &str) -> Result<(), StoreError> {
         Ok(())
+    }
+
+    fn reason(&self) -> Option<io::Error> {
+        None
     }
 }
 

@@ -12,12 +12,13 @@ pub struct StoreError;
 
 /// A folder of files by name. A name is the bytes of its text.
 ///
-/// Its meaning is `files`, what each name has; `tells`, whether anything is claimed of the files at all; and
-/// `failures`, how many calls have failed. The law of each call: what it leaves where it answers, what where it fails, and that a
-/// failed call, and no other, is counted.
+/// Its meaning is `files`, what each name has; `tells`, whether anything is claimed of the files at all; `failures`, how many
+/// calls have failed; and `why`, the reason that it tells of the last one. The law of each call: what it leaves where it answers, what
+/// where it fails, and that a failed call, and no other, is counted.
 pub trait Store {
-    ghost use Rattle.std.specs.Prelude.{◌≡◌, ℕ, Bool, true, IfOk, OnOk, OnErr, length};
+    ghost use Rattle.std.specs.Prelude.{◌≡◌, ℕ, Bool, true, Option, IfOk, OnOk, OnErr, length};
     ghost use Rattle.std.specs.Option.{option_map};
+    ghost use Rattle.std.specs.declared.io.Error.{Error};
     ghost use Rattle.alog_sink.specs.Files.{Files, AreSame, appended, renamed, removed};
     ghost use Rattle.alog_sink.specs.Calls.{LeavesFront, Counts};
 
@@ -26,6 +27,8 @@ pub trait Store {
     ghost tells: { Bool };
 
     ghost failures: { Self → ℕ };
+
+    ghost why: { Self → Option Error };
 
     /// Appends to a file, which is made where it is absent. A failure may leave some of the first bytes appended.
     fn append(&mut self, name: &str, bytes: &[u8]) -> Result<(), StoreError>
@@ -59,10 +62,9 @@ pub trait Store {
         ensures same { tells ≡ true → AreSame (files self.old) (files self.new) }
         ensures counted { Counts (failures self.old) (failures self.new) result };
 
-    /// Why the last call that failed did, where the system said so. Nothing is claimed of it.
-    fn reason(&self) -> Option<io::Error> {
-        None
-    }
+    /// Why the last call that failed did, where the system said so. No law says that it is that call's reason; sessions show it.
+    fn reason(&self) -> Option<io::Error>
+        ensures { result ≡ why self.now };
 }
 
 /// A store's answer to what it was answered itself. A failure is counted.

@@ -6,6 +6,7 @@ use crate::stores::Noting;
 use alog_sink::{
     Face, FuseStore, MemStore, OpenError, Sink, SinkError, Store, StoreError, Taken, Unopened,
 };
+use std::io;
 use std::process::Abort;
 use std::test::Fail;
 
@@ -238,7 +239,7 @@ struct Flushes {
 }
 
 impl Store for Flushes {
-    ghost use Rattle.std.specs.Prelude.{false};
+    ghost use Rattle.std.specs.Prelude.{false, None};
     ghost use Rattle.alog_sink.specs.Files.{no_files};
 
     ghost files = { λ s. no_files };
@@ -246,6 +247,8 @@ impl Store for Flushes {
     ghost tells = { false };
 
     ghost failures = { λ s. 0 };
+
+    ghost why = { λ _. None };
 
     fn append(&mut self, _name: &str, _bytes: &[u8]) -> Result<(), StoreError> {
         self.others = self.others.saturating_add(1);
@@ -274,6 +277,10 @@ impl Store for Flushes {
             self.others = self.others.saturating_add(1);
         }
         Ok(())
+    }
+
+    fn reason(&self) -> Option<io::Error> {
+        None
     }
 }
 

@@ -1,5 +1,6 @@
 //! A store that the tests of daily sinks put behind a fuse. It meets the law of `Store`, as those of `alog_sink` do.
 use alog_sink::{MemStore, Store, StoreError};
+use std::io;
 
 /// Files in memory that note whether a call of theirs failed, which they do where there is no memory: behind a fuse that is to fail the
 /// same call nobody else would tell.
@@ -19,6 +20,8 @@ impl Store for Noting {
     ghost tells = { true };
 
     ghost failures = { λ s. ⟦<MemStore as Store>⟧.failures s.files };
+
+    ghost why = { λ s. ⟦<MemStore as Store>⟧.why s.files };
 
     fn append(&mut self, name: &str, bytes: &[u8]) -> Result<(), StoreError> {
         let answer = self.files.append(name, bytes);
@@ -42,5 +45,9 @@ impl Store for Noting {
 
     fn flush(&mut self, name: &str) -> Result<(), StoreError> {
         self.files.flush(name)
+    }
+
+    fn reason(&self) -> Option<io::Error> {
+        self.files.reason()
     }
 }

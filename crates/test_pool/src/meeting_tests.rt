@@ -13,9 +13,9 @@ use std::alloc::{AllocError, Global};
 use std::process::Abort;
 use std::sync::atomic::{AtomicBool, Ordering};
 use std::sync::{Arc, Wait};
-use std::thread;
 use std::thread::Threads;
 use std::time::Clock;
+use std::{io, thread};
 
 // How often a store looks whether the other one was called.
 const LOOKS: u32 = 1_000_000;
@@ -54,7 +54,7 @@ impl Meeting {
 }
 
 impl Store for Meeting {
-    ghost use Rattle.std.specs.Prelude.{false};
+    ghost use Rattle.std.specs.Prelude.{false, None};
     ghost use Rattle.alog_sink.specs.Files.{no_files};
 
     ghost files = { λ s. no_files };
@@ -62,6 +62,8 @@ impl Store for Meeting {
     ghost tells = { false };
 
     ghost failures = { λ s. 0 };
+
+    ghost why = { λ _. None };
 
     fn append(&mut self, _name: &str, bytes: &[u8]) -> Result<(), StoreError> {
         self.meet();
@@ -86,6 +88,10 @@ impl Store for Meeting {
     fn flush(&mut self, _name: &str) -> Result<(), StoreError> {
         self.flushes = self.flushes.saturating_add(1);
         Ok(())
+    }
+
+    fn reason(&self) -> Option<io::Error> {
+        None
     }
 }
 

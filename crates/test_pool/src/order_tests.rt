@@ -14,6 +14,7 @@ use alog_msg::Level;
 use alog_pool::{OpenGate, Report};
 use alog_sink::{Sink, Store, StoreError};
 use std::alloc::{AllocError, Global};
+use std::io;
 use std::process::Abort;
 use std::sync::atomic::{AtomicU64, Ordering};
 use std::sync::{Arc, Wait};
@@ -56,7 +57,7 @@ impl Scribe {
 }
 
 impl Store for Scribe {
-    ghost use Rattle.std.specs.Prelude.{false};
+    ghost use Rattle.std.specs.Prelude.{false, None};
     ghost use Rattle.alog_sink.specs.Files.{no_files};
 
     ghost files = { λ s. no_files };
@@ -64,6 +65,8 @@ impl Store for Scribe {
     ghost tells = { false };
 
     ghost failures = { λ s. 0 };
+
+    ghost why = { λ _. None };
 
     fn append(&mut self, _name: &str, bytes: &[u8]) -> Result<(), StoreError> {
         let first = bytes.first().copied().unwrap_or(0);
@@ -89,6 +92,10 @@ impl Store for Scribe {
     fn flush(&mut self, _name: &str) -> Result<(), StoreError> {
         self.note(Call::Flush);
         Ok(())
+    }
+
+    fn reason(&self) -> Option<io::Error> {
+        None
     }
 }
 

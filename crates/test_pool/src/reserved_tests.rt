@@ -15,6 +15,7 @@ use alog_msg::SourceRef;
 use alog_pool::{OpenGate, Report};
 use alog_sink::{Sink, Store, StoreError};
 use std::alloc::{AllocError, Global};
+use std::io;
 use std::process::Abort;
 use std::sync::Wait;
 use std::thread::Threads;
@@ -40,7 +41,7 @@ const SOURCE: SourceRef<'static> = SourceRef {
 struct Reserved(Vec<u8>);
 
 impl Store for Reserved {
-    ghost use Rattle.std.specs.Prelude.{false};
+    ghost use Rattle.std.specs.Prelude.{false, None};
     ghost use Rattle.alog_sink.specs.Files.{no_files};
 
     ghost files = { λ _. no_files };
@@ -48,6 +49,8 @@ impl Store for Reserved {
     ghost tells = { false };
 
     ghost failures = { λ _. 0 };
+
+    ghost why = { λ _. None };
 
     fn append(&mut self, _name: &str, bytes: &[u8]) -> Result<(), StoreError> {
         drop(self.0.extend_from_slice(bytes));
@@ -68,6 +71,10 @@ impl Store for Reserved {
 
     fn flush(&mut self, _name: &str) -> Result<(), StoreError> {
         Ok(())
+    }
+
+    fn reason(&self) -> Option<io::Error> {
+        None
     }
 }
 

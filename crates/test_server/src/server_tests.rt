@@ -25,6 +25,13 @@ const ROTATING: &str =
     "queue = 8\n\n[[sink]]\nname = \"out\"\nkind = \"rotating\"\nfile = \"out\"\nmax_size = 100\nmax_files = 2\n\n\
                         [[logger]]\nname = \"net\"\nsinks = [\"out\"]\n";
 
+/// Three, of which the second is a fan of the first: the third is that of the second store.
+const TWO_ROTATING: &str = "queue = 8\n\n\
+    [[sink]]\nname = \"first\"\nkind = \"rotating\"\nfile = \"first\"\nmax_size = 100\nmax_files = 2\n\n\
+    [[sink]]\nname = \"all\"\nkind = \"fan\"\nof = [\"first\"]\n\n\
+    [[sink]]\nname = \"out\"\nkind = \"rotating\"\nfile = \"out\"\nmax_size = 100\nmax_files = 2\n\n\
+    [[logger]]\nname = \"net\"\nsinks = [\"all\", \"out\"]\n";
+
 /// One, whose file would be that by which the folder is held.
 const ON_THE_LOCK: &str =
     "[[sink]]\nname = \"out\"\nkind = \"memory\"\nfile = \".alog.lock\"\n\n[[logger]]\nname = \"net\"\nsinks = [\"out\"]\n";
@@ -56,9 +63,12 @@ const LONG: Talk = Talk {
     messages: 1,
 };
 
-/// What is said of a file that is a link to itself.
+/// What is said of a file that is a link to itself, where its sink is the first, and where it is the third.
 const LOOPS: &str =
     "sink 0, out: the size of its file cannot be read: Too many levels of symbolic links (os error 40)";
+
+const THIRD_LOOPS: &str =
+    "sink 2, out: the size of its file cannot be read: Too many levels of symbolic links (os error 40)";
 
 /// What is to be printed, as derived implementations print it.
 const PRINTED: &str =
@@ -226,21 +236,27 @@ fn a_folder_is_held_by_one_server(rt: HostRuntime) -> io::Result<()> {
     Ok(())
 }
 
-/// A rotating sink over the stores of a folder that is empty, and of one where its file is a link to itself.
-static OVER: [(Place, Wanted<'static>); 2] = [
-    (Place::Folder, RAN),
-    (Place::LoopFolder, Wanted::NoStore(LOOPS)),
+/// Sinks that rotate over the stores of a folder that is empty, and of one where the file of one of them is a link to itself.
+static OVER: [(Place, &str, Wanted<'static>); 4] = [
+    (Place::Folder, ROTATING, RAN),
+    (Place::LoopFolder, ROTATING, Wanted::NoStore(LOOPS)),
+    (Place::Folder, TWO_ROTATING, RAN),
+    (
+        Place::LoopFolder,
+        TWO_ROTATING,
+        Wanted::NoStore(THIRD_LOOPS),
+    ),
 ];
 
-fn over() -> &'static [(Place, Wanted<'static>)] {
+fn over() -> &'static [(Place, &'static str, Wanted<'static>)] {
     &OVER
 }
 
 #[test]
 fn a_sink_that_cannot_be_opened_is_told(rt: HostRuntime) -> io::Result<()> {
-    for (number, (place, wanted)) in over().iter().enumerate() {
+    for (number, (place, document, wanted)) in over().iter().enumerate() {
         let folder = place.made(&rt)?;
-        let at = (ROTATING, folder.as_str());
+        let at = (*document, folder.as_str());
         let so = tells(&rt, rt.alloc(), at, Ask::Over, *wanted);
         place.remove(&rt, folder)?;
         is_so(&rt, so, number);

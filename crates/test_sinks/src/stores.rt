@@ -3,7 +3,7 @@ use alog_sink::{MemStore, Store, StoreError};
 use std::alloc::Global;
 use std::sync::Arc;
 use std::sync::atomic::{AtomicU64, Ordering};
-use std::thread;
+use std::{io, thread};
 
 /// Files in memory, where each call lets other threads go on first. The test `two_threads_write_lines` shows it.
 #[derive(Debug, Drop)]
@@ -17,6 +17,8 @@ impl Store for Yielding {
     ghost tells = { true };
 
     ghost failures = { λ s. ⟦<MemStore as Store>⟧.failures s.0 };
+
+    ghost why = { λ s. ⟦<MemStore as Store>⟧.why s.0 };
 
     fn append(&mut self, name: &str, bytes: &[u8]) -> Result<(), StoreError> {
         thread::yield_now();
@@ -41,6 +43,10 @@ impl Store for Yielding {
     fn flush(&mut self, name: &str) -> Result<(), StoreError> {
         thread::yield_now();
         self.0.flush(name)
+    }
+
+    fn reason(&self) -> Option<io::Error> {
+        self.0.reason()
     }
 }
 
@@ -75,6 +81,8 @@ impl Store for Noting {
 
     ghost failures = { λ s. ⟦<MemStore as Store>⟧.failures s.files };
 
+    ghost why = { λ s. ⟦<MemStore as Store>⟧.why s.files };
+
     fn append(&mut self, name: &str, bytes: &[u8]) -> Result<(), StoreError> {
         let answer = self.files.append(name, bytes);
         self.has_failed |= answer.is_err();
@@ -100,6 +108,10 @@ impl Store for Noting {
         self.has_failed |= self.flushed.push_str(" ").is_err();
         self.files.flush(name)
     }
+
+    fn reason(&self) -> Option<io::Error> {
+        self.files.reason()
+    }
 }
 
 /// Notes each append and each flush in a number that several stores share: one digit more, its own. The test
@@ -121,7 +133,7 @@ impl Marking {
 }
 
 impl Store for Marking {
-    ghost use Rattle.std.specs.Prelude.{false};
+    ghost use Rattle.std.specs.Prelude.{false, None};
     ghost use Rattle.alog_sink.specs.Files.{no_files};
 
     ghost files = { λ s. no_files };
@@ -129,6 +141,8 @@ impl Store for Marking {
     ghost tells = { false };
 
     ghost failures = { λ s. 0 };
+
+    ghost why = { λ _. None };
 
     fn append(&mut self, _name: &str, _bytes: &[u8]) -> Result<(), StoreError> {
         self.mark();
@@ -150,5 +164,9 @@ impl Store for Marking {
     fn flush(&mut self, _name: &str) -> Result<(), StoreError> {
         self.mark();
         Ok(())
+    }
+
+    fn reason(&self) -> Option<io::Error> {
+        None
     }
 }

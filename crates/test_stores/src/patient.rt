@@ -24,6 +24,7 @@ pub struct Flaky {
     /// the names of the flushes that were done, a blank behind each
     pub flushed: String,
     failing: Failing,
+    reason: Option<io::Error>,
     left: u32,
     failures: u64,
 }
@@ -31,10 +32,15 @@ pub struct Flaky {
 impl Flaky {
     /// These files, whose calls fail so.
     pub fn new(alloc: Global, files: Noting, failing: Failing) -> Flaky {
+        let reason = match failing.2 {
+            Some(kind) => Some(kind.into()),
+            None => None,
+        };
         Flaky {
             files,
             flushed: String::new(alloc),
             failing,
+            reason,
             left: failing.0,
             failures: 0,
         }
@@ -96,6 +102,8 @@ impl Store for Flaky {
 
     ghost failures = { λ s. s.failures };
 
+    ghost why = { λ s. s.reason };
+
     fn append(&mut self, name: &str, bytes: &[u8]) -> Result<(), StoreError> {
         match self.take(name, bytes) {
             Ok(()) => Ok(()),
@@ -137,10 +145,7 @@ impl Store for Flaky {
     }
 
     fn reason(&self) -> Option<io::Error> {
-        match self.failing.2 {
-            Some(kind) => Some(kind.into()),
-            None => None,
-        }
+        self.reason
     }
 }
 

@@ -1,12 +1,13 @@
 //! A store that keeps nothing.
 use alog_sink::{Store, StoreError};
+use std::io;
 
 /// A store that drops what it is given, and never fails.
 #[derive(Drop)]
 pub struct NullStore;
 
 impl Store for NullStore {
-    ghost use Rattle.std.specs.Prelude.{false};
+    ghost use Rattle.std.specs.Prelude.{false, None};
     ghost use Rattle.alog_sink.specs.Files.{no_files};
 
     ghost files = { λ _. no_files };
@@ -14,6 +15,8 @@ impl Store for NullStore {
     ghost tells = { false };
 
     ghost failures = { λ _. 0 };
+
+    ghost why = { λ _. None };
 
     fn append(&mut self, _name: &str, _bytes: &[u8]) -> Result<(), StoreError> {
         Ok(())
@@ -33,5 +36,9 @@ impl Store for NullStore {
 
     fn flush(&mut self, _name: &str) -> Result<(), StoreError> {
         Ok(())
+    }
+
+    fn reason(&self) -> Option<io::Error> {
+        None
     }
 }

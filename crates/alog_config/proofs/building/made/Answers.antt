@@ -2,7 +2,7 @@ use Rattle.std.proofs.Common.{IfOk, refl, sym, subst}
 use Rattle.alog_config.specs.Built.{IsFaceOf, IsOver, IsTargetOf}
 use Rattle.alog_config.specs.Parts.{Makes}
 use Rattle.alog_config.specs.declared.config.SinkKind.{SinkKind}
-use Rattle.alog_config.proofs.Handing.{if_ok_both}
+use Rattle.alog_config.proofs.Handing.{if_ok_both, of_next}
 use Rattle.alog_sink.specs.Opened.{Opened, store_of}
 use Rattle.alog_sink.specs.declared.sink.Sink.{Sink}
 use Rattle.alog_config.proofs.building.made.Goals as goal
@@ -33,3 +33,8 @@ returns-in_ok-face-in-Lines-clause-made g c =
       },
     ))
     c.opened.ensures.opened c.opened.ensures.over)
+
+pub returns-in_ok-face-in-Lines-clause-fault : goal.returns-in_ok-face-in-Lines-clause-fault
+returns-in_ok-face-in-Lines-clause-fault g c =
+    of_next g.S.Store.failures g.S.Store.why c.args.number c.in-Some.store c.args.stores.now.items c.pop_front.new.self.items c.opened.result
+    c.in-Some.ensures.items c.opened.ensures.fault

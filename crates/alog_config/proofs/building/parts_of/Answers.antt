@@ -1,9 +1,7 @@
-use Rattle.std.proofs.Common.{◌≡◌, List, count_by, length, slice_get, take, Some, refl, subst}
+use Rattle.std.proofs.Common.{◌≡◌, List, length, slice_get, Some, refl, subst}
 use Rattle.std.proofs.lemmas.Option.{slice_get_read}
-use Rattle.alog_config.specs.Built.{HasFailed}
-use Rattle.alog_config.specs.Sinks.{is_leaf}
 use Rattle.alog_config.specs.declared.config.SinkConfig.{SinkConfig}
-use Rattle.alog_config.proofs.Handing.{any_dropped, may_make, next_left, next_made, of_rotating}
+use Rattle.alog_config.proofs.Handing.{fault_of, may_make, next_left, next_made}
 use Rattle.alog_config.proofs.Parting.{IsNext}
 use Rattle.alog_config.proofs.building.parts_of.Goals as goal
 
@@ -21,19 +19,15 @@ made-requires g c =
     } in
     may_make g.S.Store.tells g.S.Store.files g.S.Store.failures next c.requires c.loop-number.invariant.left
 
-pub returns-in-Err-clause-failed : goal.returns-in-Err-clause-failed
-returns-in-Err-clause-failed g c = λ e.
-    any_dropped (HasFailed g.S.Store.failures) (count_by is_leaf (take c.loop-number.number c.args.config.now.sinks.items))
-    c.args.stores.items c.loop-number.stores.items c.loop-number.invariant.left (c.in-Err.ensures.failed e)
-
-pub returns-in-Err-clause-rotates : goal.returns-in-Err-clause-rotates
-returns-in-Err-clause-rotates g c =
+pub returns-in-Err-clause-fault : goal.returns-in-Err-clause-fault
+returns-in-Err-clause-fault g c =
     let items = c.as_slice-sinks.result.now in
     let i = c.loop-number.number in
     let s = c.index-sinks-number.result in
     let here = slice_get_read items (length items) i s refl c.loop-number-test.true c.index-sinks-number.is in
     let at = subst (λ (ss : List SinkConfig). slice_get ss i ≡ Some s) c.as_slice-sinks.ensures.value here in
-    of_rotating c.args.config.now.sinks.items i s c.in-Err.error at c.in-Err.ensures.number c.in-Err.ensures.rotates
+    fault_of g.S.Store.failures g.S.Store.why c.args.config.now.sinks.items c.args.stores.items c.loop-number.stores.items i s c.in-Err.error
+    at c.loop-number.invariant.left c.in-Err.ensures.fault c.in-Err.ensures.rotates
 
 pub loop-number-preserved : goal.loop-number-preserved
 loop-number-preserved g c =
