@@ -5,7 +5,8 @@ pub use alog_program::run;
 use alog_program::{ReadAside, Screen, TimedRead, collect_words, refuse_arguments};
 use alog_server::Folders;
 use std::convert::AsStr;
-use std::io::{Stdin, Write};
+use std::fs::File;
+use std::io::{self, Stdin, Write};
 use std::process::ExitCode;
 use std::rt::Files;
 use std::sync::Wait;
@@ -14,6 +15,7 @@ use std::time::Clock;
 
 /// Collects the words, and hands `run` these and the standard streams.
 fn main(rt: HostRuntime) -> ExitCode {
+    let _held = (held(&rt), held(&rt), held(&rt));
     let status = match collect_words(rt.alloc(), &rt) {
         Ok(words) => run_on(
             &rt,
@@ -25,6 +27,13 @@ fn main(rt: HostRuntime) -> ExitCode {
         Err(error) => refuse_arguments(error, &mut rt.stderr()),
     };
     ExitCode::from(status)
+}
+
+/// Takes the number of a standard stream that was closed before the program began, if there is one: else the next file that is opened
+/// would get it, and the program's words would be written there. What it is taken for can neither be read nor written.
+/// `sessions/pipes.session` shows it.
+fn held<R: Files>(files: &R) -> io::Result<R::File> {
+    File::open(files, "/")
 }
 
 /// Standard input, which a thread reads for a pipe that has something else to do. Where no thread can be had the pipe waits.
