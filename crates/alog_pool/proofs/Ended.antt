@@ -17,7 +17,7 @@ use Rattle.alog_pool.specs.Ended.{PutNoStop, PutNothing, HasGathered, IsEndingFr
 use Rattle.alog_pool.specs.Ending.{HasEndedAmong, IsEnd}
 use Rattle.alog_pool.specs.Whole.{claimed_among, taken_among, claimed_by, taken_by}
 use Rattle.alog_pool.proofs.Leaving.{none_weighs, stops_weigh_nothing, no_work_is_left}
-use Rattle.alog_pool.proofs.Sums.{claimed-append, claimed_by_actors}
+use Rattle.alog_pool.proofs.SharedSums.{claimed-append, claimed_by_actors}
 use Rattle.alog_registry.specs.BlockPort.{block_note}
 use Rattle.alog_ring.specs.Known.{Known, Member, IsAmong, AreDistinct}
 use Rattle.alog_ring.specs.Made.{AreExact, Made}

@@ -7,7 +7,7 @@ use Rattle.alog_msg.specs.declared.item.Item.{Item}
 use Rattle.alog_msg.specs.declared.item.Item.TheVariants.{Stop}
 use Rattle.alog_pool.specs.Accounts.{Moved, work, of_work}
 use Rattle.alog_pool.specs.Stops.{AreStops, DidPost, IsSpent, PutsStops, SawSpent}
-use Rattle.alog_pool.proofs.Moves.{answer_moved, moved_more, not_moved}
+use Rattle.alog_pool.proofs.SharedMoves.{answer_moved, moved_more, not_moved}
 use Rattle.alog_pool.proofs.SharedSharing.{all_more}
 use Rattle.std.specs.Prelude.{None}
 use Rattle.alog_registry.specs.BlockPort.{block_note}

@@ -18,7 +18,7 @@ use Rattle.alog_pool.specs.Report.{AllCameOut}
 use Rattle.alog_pool.specs.Stops.{AreStops}
 use Rattle.alog_pool.specs.declared.worker.Worker.{Worker}
 use Rattle.alog_pool.proofs.Leaving.{claims_between, none_weighs}
-use Rattle.alog_pool.proofs.Moves.{claims-append}
+use Rattle.alog_pool.proofs.SharedMoves.{claims-append}
 use Rattle.alog_pool.proofs.Posted.{later_at, of_map, put_seen, seen_put}
 use Rattle.alog_registry.specs.BlockPort.{block_note}
 use Rattle.alog_ring.specs.Known.{Known}

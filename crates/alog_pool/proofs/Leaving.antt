@@ -17,8 +17,8 @@ use Rattle.alog_msg.specs.declared.item.Item.TheVariants.{Text, Flush, Stop}
 use Rattle.alog_pool.specs.Accounts.{work, of_work, stop, of_stops, SawEnd}
 use Rattle.alog_pool.specs.Ending.{NoWorkIsLeft, HasEndedAmong}
 use Rattle.alog_pool.specs.Working.{HasEnded}
-use Rattle.alog_pool.proofs.Moves.{claims-append}
-use Rattle.alog_pool.proofs.Sums.{members_balance}
+use Rattle.alog_pool.proofs.SharedMoves.{claims-append}
+use Rattle.alog_pool.proofs.SharedSums.{members_balance}
 use Rattle.alog_registry.specs.BlockPort.{block_note}
 use Rattle.alog_ring.specs.Known.{Member, members_of}
 use Rattle.alog_ring.specs.Made.{AreExact}

@@ -1,28 +1,28 @@
-mod Moves
-mod Turning
-mod Deeds
+pub mod SharedMoves
+pub mod SharedTurning
+pub mod SharedDeeds
 pub mod SharedGaps
-mod Flushed
-mod Worked
-mod Sums
+pub mod SharedFlushed
+pub mod SharedWorked
+pub mod SharedSums
 mod Leaving
 mod Ended
-mod Posting
-mod Producing
+pub mod SharedPosting
+pub mod SharedProducing
 pub mod SharedSharing
-mod Parts
+pub mod SharedParts
 pub mod SharedCrosses
-mod Hiring
-mod FirstParts
+pub mod SharedHiring
+pub mod SharedFirstParts
 pub mod SharedBack
 mod Halting
-mod Rows
-mod Served
-mod Closed
-mod Totalled
-mod Held
+pub mod SharedRows
+pub mod SharedServed
+pub mod SharedClosed
+pub mod SharedTotalled
+pub mod SharedHeld
 mod Posted
 mod InARow
-mod Workers
+pub mod SharedWorkers
 mod OneWorker
 mod Logged

@@ -17,8 +17,8 @@ use Rattle.alog_policy.specs.declared.policy.Policy.{Policy}
 use Rattle.alog_policy.specs.declared.policy.Policy.TheVariants.{OverrunOldest}
 use Rattle.alog_pool.specs.Posted.{PostedLogsPutTheirTextIn, PutsTextIn}
 use Rattle.alog_pool.specs.Producer.{ProducerView, IsPortOf}
-use Rattle.alog_pool.proofs.Moves.{claims-append, takes-append}
-use Rattle.alog_pool.proofs.Posting.{rounds_claim, claims_by, takes_by}
+use Rattle.alog_pool.proofs.SharedMoves.{claims-append, takes-append}
+use Rattle.alog_pool.proofs.SharedPosting.{rounds_claim, claims_by, takes_by}
 use Rattle.alog_registry.specs.ItemOutlet.{PostsItem}
 use Rattle.alog_registry.specs.BlockPort.{BlockPort, block_note}
 use Rattle.alog_ring.specs.Known.{PassView}

@@ -26,7 +26,7 @@ use Rattle.alog_pool.specs.Workers.{together}
 use Rattle.alog_pool.specs.declared.worker.Worker.{Worker}
 use Rattle.alog_pool.proofs.SharedGaps.{dues_behind, stop_gap, stop_next}
 use Rattle.alog_pool.proofs.SharedBack.{sum_of_map}
-use Rattle.alog_pool.proofs.Sums.{whole_taken}
+use Rattle.alog_pool.proofs.SharedSums.{whole_taken}
 use Rattle.alog_registry.specs.declared.logger.Logger.{Logger}
 use Rattle.alog_registry.specs.BlockPort.{block_note}
 use Rattle.alog_ring.specs.Known.{Member, Known, members_of, IsAmong}

@@ -9,7 +9,7 @@ use Rattle.alog_pool.specs.Deeds.{Due, HaveMade, all_dues, dues_of}
 use Rattle.alog_pool.specs.Gaps.{gap_at, gap_item, gap_of, next_after, next_behind, told_from, with_gaps, CountsFromFirst}
 use Rattle.alog_pool.specs.declared.setup.Setup.{Setup}
 use Rattle.alog_pool.specs.declared.shared.Shared.{Shared}
-use Rattle.alog_pool.proofs.Deeds.{all_dues-append, have_none, have_then}
+use Rattle.alog_pool.proofs.SharedDeeds.{all_dues-append, have_none, have_then}
 use Rattle.alog_registry.specs.declared.logger.Logger.{Logger}
 
 -- some are missing, or none

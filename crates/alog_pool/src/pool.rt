@@ -168,7 +168,7 @@ impl<S: Store + Drop + Send + 'static> Pool<S> {
 }
 
 /// The queue of a pool, and the first pass of it.
-fn queue_of(
+pub fn queue_of(
     alloc: Global,
     places: usize,
     first: u64,
@@ -208,7 +208,7 @@ fn blocks_of(alloc: Global, count: usize, text_limit: usize) -> Result<Vec<Block
 }
 
 /// The blocks of a producer.
-fn two_blocks(alloc: Global, text_limit: usize) -> Result<(Block, Block), AllocError>
+pub fn two_blocks(alloc: Global, text_limit: usize) -> Result<(Block, Block), AllocError>
     requires { (TEXT_LIMIT_MIN ≤ text_limit) × (text_limit ≤ TEXT_LIMIT_MAX) }
     ensures { IfOk result (λ r. (r.0.limit ≡ text_limit) × (r.0.item ≡ Stop) × (r.1.limit ≡ text_limit) × (r.1.item ≡ Stop)) }
 {

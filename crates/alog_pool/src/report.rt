@@ -48,7 +48,7 @@ impl<S: Store> fmt::Debug for Report<S> {
 
 impl Totals {
     /// The totals of so many losses, and so many texts and flushes that were handled.
-    pub(crate) fn of(lost: Counts, handled: u64) -> Totals
+    pub fn of(lost: Counts, handled: u64) -> Totals
         ensures { AreSums lost handled result }
     {
         let posted = lost.overrun.wrapping_add(handled);

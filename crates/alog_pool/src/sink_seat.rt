@@ -79,7 +79,7 @@ impl<S: Store> SinkSeat<S> {
 }
 
 /// One for a fault.
-fn fault_in(reply: &Result<Served, SinkError>) -> u64
+pub fn fault_in(reply: &Result<Served, SinkError>) -> u64
     ensures { result ≡ fault_in reply.now }
 {
     match reply {
@@ -89,7 +89,7 @@ fn fault_in(reply: &Result<Served, SinkError>) -> u64
 }
 
 /// Whether a sink is a fan.
-fn is_fan<S: Store>(sink: &Sink<S>) -> bool
+pub fn is_fan<S: Store>(sink: &Sink<S>) -> bool
     ensures { result ≡ is_fan sink.now }
 {
     matches!(sink, Sink::Fan(_))
@@ -106,8 +106,8 @@ fn may_write(fan: bool, reply: &Result<Served, SinkError>) -> bool
     }
 }
 
-/// Whether a line may be unflushed after a turn at this item that was answered so.
-fn is_unflushed(fan: bool, before: bool, item: &Item, reply: &Result<Served, SinkError>) -> bool
+/// Whether a line may be unflushed after a turn at this item that was answered so, on a sink that is a fan or is none.
+pub fn is_unflushed(fan: bool, before: bool, item: &Item, reply: &Result<Served, SinkError>) -> bool
     ensures { result ≡ unflushed_by fan before item.now reply.now }
 {
     match item {

@@ -3,7 +3,7 @@ use Rattle.std.specs.Prelude.{Option}
 use Rattle.alog_pool.specs.Deeds.{HaveMade, all_dues}
 use Rattle.alog_pool.specs.Gaps.{gap_at, next_of}
 use Rattle.alog_pool.specs.declared.gaps.Gaps.{Gaps}
-use Rattle.alog_pool.proofs.Deeds.{have_none}
+use Rattle.alog_pool.proofs.SharedDeeds.{have_none}
 use Rattle.alog_pool.proofs.gaps.tell_gap.Goals as goal
 
 pub returns-in-None-clause-turns : goal.returns-in-None-clause-turns

@@ -1,4 +1,4 @@
-use Rattle.alog_pool.proofs.Sums.{members_balance}
+use Rattle.alog_pool.proofs.SharedSums.{members_balance}
 use Rattle.alog_pool.proofs.laws.members_balance.Goals as goal
 
 pub returns : goal.returns

@@ -1,4 +1,4 @@
-use Rattle.alog_pool.proofs.Workers.{workers_write}
+use Rattle.alog_pool.proofs.SharedWorkers.{workers_write}
 use Rattle.alog_pool.proofs.laws.workers_write_what_was_posted.Goals as goal
 
 pub returns : goal.returns

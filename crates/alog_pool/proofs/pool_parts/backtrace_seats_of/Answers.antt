@@ -1,7 +1,7 @@
 use Rattle.std.proofs.Common.{◌≡◌, ◌+◌, suc, List, [], ◌∷◌, ◌++◌, length, slice_get, ap, sym, subst, ◌∙◌, arith}
 use Rattle.alog_pool.specs.BacktraceSeat.{BacktraceSeatView}
 use Rattle.alog_pool.specs.Places.{IsBacktraceSeatOf}
-use Rattle.alog_pool.proofs.FirstParts.{found_by}
+use Rattle.alog_pool.proofs.SharedFirstParts.{found_by}
 use Rattle.alog_pool.proofs.SharedSharing.{Matching, match_all, match_one, matched_length}
 use Rattle.alog_pool.proofs.pool_parts.backtrace_seats_of.Goals as goal
 use Rattle.alog_registry.specs.Backtrace.{room_for}

@@ -6,7 +6,7 @@ use Rattle.alog_lane.specs.declared.seat.TheConstants.{ALL_PARTS}
 use Rattle.alog_pool.specs.SinkSeat.{SinkSeatView}
 use Rattle.alog_pool.specs.Collected.{IsClosing}
 use Rattle.alog_pool.specs.Places.{Each3}
-use Rattle.alog_pool.proofs.Parts.{each3_lengths}
+use Rattle.alog_pool.proofs.SharedParts.{each3_lengths}
 use Rattle.alog_pool.proofs.SharedSharing.{all_next, each3_more}
 use Rattle.alog_pool.proofs.shutdown.close_sink_seats.Goals as goal
 

@@ -17,7 +17,7 @@ use Rattle.alog_pool.specs.declared.worker.Worker.{Worker}
 use Rattle.alog_pool.specs.declared.shared.Shared.{Shared}
 use Rattle.alog_pool.specs.declared.works.Works.{Works}
 use Rattle.alog_pool.proofs.SharedBack.{back_starts, back_one, sum_more}
-use Rattle.alog_pool.proofs.Rows.{each_lane, ones, place_lanes, rows_lanes, rows_more, rows_start}
+use Rattle.alog_pool.proofs.SharedRows.{each_lane, ones, place_lanes, rows_lanes, rows_more, rows_start}
 use Rattle.alog_pool.proofs.SharedSharing.{all_map_next, each2_length, each2_more}
 use Rattle.alog_pool.proofs.shutdown.collect.Goals as goal
 use Rattle.alog_registry.specs.BlockPort.{block_note}

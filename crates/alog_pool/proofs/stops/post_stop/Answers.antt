@@ -1,5 +1,5 @@
 use Rattle.alog_pool.proofs.Halting.{did_more}
-use Rattle.alog_pool.proofs.Moves.{moved_more, not_moved}
+use Rattle.alog_pool.proofs.SharedMoves.{moved_more, not_moved}
 use Rattle.alog_pool.proofs.stops.post_stop.Goals as goal
 
 pub loop-init : goal.loop-init

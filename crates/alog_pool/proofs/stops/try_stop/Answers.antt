@@ -3,7 +3,7 @@ use Rattle.alog_msg.specs.Block.{BlockFields}
 use Rattle.alog_msg.specs.declared.item.Item.{Item}
 use Rattle.alog_pool.specs.Accounts.{Moved}
 use Rattle.alog_pool.proofs.Halting.{refused_idles, refused_spent}
-use Rattle.alog_pool.proofs.Moves.{pushed_moved}
+use Rattle.alog_pool.proofs.SharedMoves.{pushed_moved}
 use Rattle.alog_pool.proofs.stops.try_stop.Goals as goal
 
 pub returns-in-Ok-clause-tried : goal.returns-in-Ok-clause-tried

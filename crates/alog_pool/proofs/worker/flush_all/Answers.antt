@@ -3,8 +3,8 @@ use Rattle.std.proofs.Math.Seq.{map-set_same}
 use Rattle.std.proofs.lemmas.List.{length-map}
 use Rattle.alog_pool.specs.Deeds.{HasMade}
 use Rattle.alog_pool.specs.SinkSeat.{AreFlushed, SinkSeatView, is_unflushed, place_of}
-use Rattle.alog_pool.proofs.Deeds.{have_none, own_more}
-use Rattle.alog_pool.proofs.Flushed.{all_flushed, flushed_at, more_flushed, same_set}
+use Rattle.alog_pool.proofs.SharedDeeds.{have_none, own_more}
+use Rattle.alog_pool.proofs.SharedFlushed.{all_flushed, flushed_at, more_flushed, same_set}
 use Rattle.alog_pool.proofs.worker.flush_all.Goals as goal
 
 pub loop-number-init : goal.loop-number-init

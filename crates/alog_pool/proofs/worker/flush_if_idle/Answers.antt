@@ -1,4 +1,4 @@
-use Rattle.alog_pool.proofs.Deeds.{have_none}
+use Rattle.alog_pool.proofs.SharedDeeds.{have_none}
 use Rattle.alog_pool.proofs.worker.flush_if_idle.Goals as goal
 
 pub returns-else-is_idle-clause-turns : goal.returns-else-is_idle-clause-turns

@@ -2,8 +2,8 @@ use Rattle.std.proofs.Common.{◌≡◌, ◌∷◌, [], List, refl, sym, subst, 
 use Rattle.alog_msg.specs.declared.item.Item.{Item}
 use Rattle.alog_pool.specs.SinkSeat.{AreServable, places_of}
 use Rattle.alog_pool.specs.Deeds.{Due, HaveMade, dues_by, given_by}
-use Rattle.alog_pool.proofs.Deeds.{have_none, have_then, dues_next, dues_whole}
-use Rattle.alog_pool.proofs.Turning.{flush_servable}
+use Rattle.alog_pool.proofs.SharedDeeds.{have_none, have_then, dues_next, dues_whole}
+use Rattle.alog_pool.proofs.SharedTurning.{flush_servable}
 use Rattle.alog_registry.specs.declared.logger.Spec.{Spec}
 use Rattle.alog_registry.specs.declared.work.SinkDeed.{SinkDeed}
 use Rattle.std.specs.Prelude.{Option}

@@ -2,8 +2,8 @@ use Rattle.std.proofs.Common.{◌∷◌, [], arith, sym, subst, ap, ◌∙◌}
 use Rattle.std.proofs.Math.Seq.{map-set_same}
 use Rattle.alog_pool.specs.SinkSeat.{SinkSeatView, IsServable, place_of}
 use Rattle.alog_pool.specs.Deeds.{HasMade}
-use Rattle.alog_pool.proofs.Deeds.{made_one, have_one, have_past}
-use Rattle.alog_pool.proofs.Turning.{servable_at, place_same}
+use Rattle.alog_pool.proofs.SharedDeeds.{made_one, have_one, have_past}
+use Rattle.alog_pool.proofs.SharedTurning.{servable_at, place_same}
 use Rattle.alog_pool.proofs.worker.serve_at.Goals as goal
 
 pub serve-requires-clause-item : goal.serve-requires-clause-item

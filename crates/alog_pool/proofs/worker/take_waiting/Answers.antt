@@ -1,7 +1,7 @@
 use Rattle.std.proofs.Common.{[], refl, ap, ◌∙◌}
 use Rattle.alog_pool.specs.Working.{is_idle}
-use Rattle.alog_pool.proofs.Deeds.{have_none, have_own}
-use Rattle.alog_pool.proofs.Moves.{moved_more, not_moved, refused_moved, refused_last, finds_there}
+use Rattle.alog_pool.proofs.SharedDeeds.{have_none, have_own}
+use Rattle.alog_pool.proofs.SharedMoves.{moved_more, not_moved, refused_moved, refused_last, finds_there}
 use Rattle.alog_pool.proofs.worker.take_waiting.Goals as goal
 
 pub loop-init : goal.loop-init

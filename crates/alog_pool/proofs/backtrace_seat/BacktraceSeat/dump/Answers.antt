@@ -3,7 +3,7 @@ use Rattle.std.proofs.lemmas.Int.{to_z-of_z}
 use Rattle.alog_lane.specs.Calls.{LaneId}
 use Rattle.alog_policy.specs.Progress.{without_waiting}
 use Rattle.alog_pool.specs.BacktraceSeat.{BacktraceSeatView}
-use Rattle.alog_pool.proofs.Producing.{dump_leaves, keeps_dump}
+use Rattle.alog_pool.proofs.SharedProducing.{dump_leaves, keeps_dump}
 use Rattle.alog_registry.specs.Backtrace.{Room}
 use Rattle.alog_pool.proofs.backtrace_seat.BacktraceSeat.dump.Goals as goal
 

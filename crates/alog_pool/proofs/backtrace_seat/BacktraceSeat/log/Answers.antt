@@ -2,7 +2,7 @@ use Rattle.std.proofs.Common.{◌≡◌, ◌⊎◌, Bor, Some, refl, sym, ap, su
 use Rattle.std.specs.Prelude.{IfOk}
 use Rattle.alog_lane.specs.Calls.{LaneId}
 use Rattle.alog_pool.specs.BacktraceSeat.{BacktraceSeatView}
-use Rattle.alog_pool.proofs.Producing.{log_leaves, keeps_log}
+use Rattle.alog_pool.proofs.SharedProducing.{log_leaves, keeps_log}
 use Rattle.alog_registry.specs.Backtrace.{Room}
 use Rattle.alog_registry.specs.Given.{IsWithin}
 use Rattle.alog_registry.specs.Listed.{spec_at}

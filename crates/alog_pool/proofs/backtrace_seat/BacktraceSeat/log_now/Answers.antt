@@ -3,7 +3,7 @@ use Rattle.std.specs.Prelude.{IfOk}
 use Rattle.alog_lane.specs.Calls.{LaneId}
 use Rattle.alog_policy.specs.Progress.{without_waiting}
 use Rattle.alog_pool.specs.BacktraceSeat.{BacktraceSeatView}
-use Rattle.alog_pool.proofs.Producing.{log_now_leaves, keeps_log, still_seated}
+use Rattle.alog_pool.proofs.SharedProducing.{log_now_leaves, keeps_log, still_seated}
 use Rattle.alog_registry.specs.Backtrace.{Room}
 use Rattle.alog_registry.specs.Given.{IsWithin}
 use Rattle.alog_registry.specs.Listed.{spec_at}

@@ -4,9 +4,9 @@ use Rattle.alog_msg.specs.declared.item.Item.{Item}
 use Rattle.alog_pool.specs.Deeds.{HaveMade, all_dues}
 use Rattle.alog_pool.specs.Gaps.{gap_item, gap_text}
 use Rattle.alog_pool.specs.SinkSeat.{AreServable, places_of}
-use Rattle.alog_pool.proofs.Deeds.{have_none}
+use Rattle.alog_pool.proofs.SharedDeeds.{have_none}
 use Rattle.alog_pool.proofs.SharedGaps.{no_gap}
-use Rattle.alog_pool.proofs.Worked.{all_servable}
+use Rattle.alog_pool.proofs.SharedWorked.{all_servable}
 use Rattle.alog_pool.proofs.gaps.Gaps.say.Goals as goal
 
 pub returns-then-missing-eq0-clause-turns : goal.returns-then-missing-eq0-clause-turns

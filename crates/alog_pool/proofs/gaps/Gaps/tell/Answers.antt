@@ -2,7 +2,7 @@ use Rattle.std.proofs.Common.{Some, sym, subst}
 use Rattle.alog_msg.specs.declared.item.Item.{Item}
 use Rattle.alog_pool.specs.Deeds.{HaveMade, all_dues}
 use Rattle.alog_pool.specs.Gaps.{gap_at}
-use Rattle.alog_pool.proofs.Deeds.{have_none}
+use Rattle.alog_pool.proofs.SharedDeeds.{have_none}
 use Rattle.alog_pool.proofs.gaps.Gaps.tell.Goals as goal
 
 pub returns-in-Flush-clause-turns : goal.returns-in-Flush-clause-turns

@@ -13,11 +13,11 @@ use Rattle.alog_pool.specs.declared.worker.Worker.{Worker}
 use Rattle.alog_pool.specs.declared.report.Report.{Report}
 use Rattle.alog_pool.specs.declared.shared.Shared.{Shared}
 use Rattle.alog_pool.specs.declared.works.Works.{Works}
-use Rattle.alog_pool.proofs.Closed.{all_back, all_closed}
-use Rattle.alog_pool.proofs.Rows.{rows_lanes}
-use Rattle.alog_pool.proofs.Served.{all_served, rows_counted, rows_even, same_numbers}
+use Rattle.alog_pool.proofs.SharedClosed.{all_back, all_closed}
+use Rattle.alog_pool.proofs.SharedRows.{rows_lanes}
+use Rattle.alog_pool.proofs.SharedServed.{all_served, rows_counted, rows_even, same_numbers}
 use Rattle.alog_pool.proofs.SharedSharing.{each2_length}
-use Rattle.alog_pool.proofs.Totalled.{all_came_back, all_parts, members, moment, only_stops, out, took_none, totals}
+use Rattle.alog_pool.proofs.SharedTotalled.{all_came_back, all_parts, members, moment, only_stops, out, took_none, totals}
 use Rattle.alog_pool.proofs.pool.Pool.end.Goals as goal
 use Rattle.alog_core.specs.Accounts.{claims}
 use Rattle.alog_ring.specs.Known.{IsPassOf}

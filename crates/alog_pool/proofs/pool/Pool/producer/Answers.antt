@@ -7,9 +7,9 @@ use Rattle.alog_pool.specs.declared.worker.Worker.{Worker}
 use Rattle.alog_pool.specs.declared.works.Works.{Works}
 use Rattle.alog_pool.specs.Places.{IsBacktraceSeatPart}
 use Rattle.alog_pool.specs.declared.shared.Shared.{Shared}
-use Rattle.alog_pool.proofs.Hiring.{fresh_part, kept_faithful, one_less, still_own}
-use Rattle.alog_pool.proofs.Parts.{each3_lengths, backtrace_seat_parts_left, backtrace_seats_limits, same_backtrace_seats, still_idle}
-use Rattle.alog_pool.proofs.Posting.{new_account}
+use Rattle.alog_pool.proofs.SharedHiring.{fresh_part, kept_faithful, one_less, still_own}
+use Rattle.alog_pool.proofs.SharedParts.{each3_lengths, backtrace_seat_parts_left, backtrace_seats_limits, same_backtrace_seats, still_idle}
+use Rattle.alog_pool.proofs.SharedPosting.{new_account}
 use Rattle.alog_pool.proofs.pool.Pool.producer.Goals as goal
 use Rattle.alog_policy.specs.BookCalls.{IsSeatOf}
 use Rattle.alog_registry.specs.Limit.{KeepsTo}

@@ -1,6 +1,6 @@
 use Rattle.std.proofs.Common.{◌≤◌, List, map, refl, sym, subst, ap, ◌∙◌}
 use Rattle.std.specs.List.{range_with_len}
-use Rattle.alog_pool.proofs.Hiring.{some_size}
+use Rattle.alog_pool.proofs.SharedHiring.{some_size}
 use Rattle.alog_lane.specs.Calls.{LaneId}
 use Rattle.alog_pool.specs.BacktraceSeat.{BacktraceSeatView}
 use Rattle.alog_pool.specs.declared.shared.Shared.{Shared}

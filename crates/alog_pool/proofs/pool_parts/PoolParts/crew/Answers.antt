@@ -4,7 +4,7 @@ use Rattle.std.specs.Arc.{arc_value}
 use Rattle.std.specs.List.{AllByRecursion, range_with_len}
 use Rattle.alog_pool.specs.Pool.{Begins, Stands, lanes_of}
 use Rattle.alog_pool.specs.Working.{numbers_of}
-use Rattle.alog_pool.proofs.Hiring.{number_more}
+use Rattle.alog_pool.proofs.SharedHiring.{number_more}
 use Rattle.alog_pool.proofs.SharedSharing.{all_map_more}
 use Rattle.alog_pool.proofs.pool_parts.PoolParts.crew.Goals as goal
 

@@ -1,6 +1,6 @@
 use Rattle.std.proofs.Common.{◌≤◌, List, length, ap, refl, sym, subst, ◌∙◌, arith}
 use Rattle.std.specs.Arc.{arc_value}
-use Rattle.alog_pool.proofs.FirstParts.{first_lanes, first_limits, first_parts, first_unused, backtrace_seats_idle, backtrace_seats_kept, backtrace_seats_parts, backtrace_seats_rooms}
+use Rattle.alog_pool.proofs.SharedFirstParts.{first_lanes, first_limits, first_parts, first_unused, backtrace_seats_idle, backtrace_seats_kept, backtrace_seats_parts, backtrace_seats_rooms}
 use Rattle.alog_pool.proofs.SharedGaps.{counts_from}
 use Rattle.alog_pool.proofs.SharedSharing.{each2_length}
 use Rattle.alog_pool.specs.Places.{Each2, IsBacktraceSeatOf}

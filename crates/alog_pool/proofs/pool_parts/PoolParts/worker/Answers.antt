@@ -7,8 +7,8 @@ use Rattle.alog_pool.specs.Accounts.{of_stops}
 use Rattle.alog_pool.specs.Gaps.{CanTell}
 use Rattle.alog_pool.specs.Working.{IsWorkOf}
 use Rattle.alog_pool.specs.declared.shared.Shared.{Shared}
-use Rattle.alog_pool.proofs.Hiring.{fresh_part, fresh_work, kept_faithful, limited, one_less, still_own}
-use Rattle.alog_pool.proofs.Parts.{sink_seat_limits, sink_seat_parts_left, given_new, same_lanes, still_unused}
+use Rattle.alog_pool.proofs.SharedHiring.{fresh_part, fresh_work, kept_faithful, limited, one_less, still_own}
+use Rattle.alog_pool.proofs.SharedParts.{sink_seat_limits, sink_seat_parts_left, given_new, same_lanes, still_unused}
 use Rattle.alog_pool.proofs.pool_parts.PoolParts.worker.Goals as goal
 use Rattle.alog_msg.specs.Block.{BlockFields}
 use Rattle.alog_registry.specs.BlockPort.{block_note}

@@ -7,7 +7,7 @@ use Rattle.alog_policy.specs.SwapPort.{SwapDid}
 use Rattle.alog_policy.specs.Progress.{without_waiting}
 use Rattle.alog_pool.specs.Producer.{ProducerView, Lent}
 use Rattle.alog_pool.specs.declared.shared.Shared.{Shared}
-use Rattle.alog_pool.proofs.Producing.{lent_dump, port_after}
+use Rattle.alog_pool.proofs.SharedProducing.{lent_dump, port_after}
 use Rattle.alog_registry.specs.Backtrace.{Room}
 use Rattle.alog_registry.specs.Dumping.{PostsEach, posted_of}
 use Rattle.alog_registry.specs.LaneKeeper.{DumpsByTurn}

@@ -5,7 +5,7 @@ use Rattle.alog_policy.specs.SwapPort.{SwapDid}
 use Rattle.alog_pool.specs.Producer.{ProducerView, IsPortOf}
 use Rattle.alog_pool.specs.declared.shared.Shared.{Shared}
 use Rattle.alog_registry.proofs.SharedListing.{spec_there}
-use Rattle.alog_pool.proofs.Producing.{Queueing, posts_port, still_blocks, still_producer, port_after}
+use Rattle.alog_pool.proofs.SharedProducing.{Queueing, posts_port, still_blocks, still_producer, port_after}
 use Rattle.alog_registry.specs.ItemOutlet.{PostsItemNow}
 use Rattle.alog_registry.specs.Listed.{spec_at}
 use Rattle.alog_registry.specs.declared.logger.Logger.{Logger}

@@ -8,7 +8,7 @@ use Rattle.alog_policy.specs.SwapPort.{SwapDid}
 use Rattle.alog_pool.specs.BacktraceSeat.{BacktraceSeatView}
 use Rattle.alog_pool.specs.Producer.{ProducerView, Lent}
 use Rattle.alog_pool.specs.declared.shared.Shared.{Shared}
-use Rattle.alog_pool.proofs.Producing.{lent_log, kept_at, port_after}
+use Rattle.alog_pool.proofs.SharedProducing.{lent_log, kept_at, port_after}
 use Rattle.alog_registry.specs.Given.{message_with, IsWithin}
 use Rattle.alog_registry.specs.LaneKeeper.{KeepsByTurn, Passes}
 use Rattle.alog_registry.specs.Listed.{spec_at}

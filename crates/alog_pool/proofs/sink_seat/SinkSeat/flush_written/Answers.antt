@@ -1,5 +1,5 @@
-use Rattle.alog_pool.proofs.Deeds.{made_own}
-use Rattle.alog_pool.proofs.Flushed.{own_flushed}
+use Rattle.alog_pool.proofs.SharedDeeds.{made_own}
+use Rattle.alog_pool.proofs.SharedFlushed.{own_flushed}
 use Rattle.alog_pool.proofs.sink_seat.SinkSeat.flush_written.Goals as goal
 
 pub returns-then-self-clause-made : goal.returns-then-self-clause-made

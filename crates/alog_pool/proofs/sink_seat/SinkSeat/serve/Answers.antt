@@ -4,8 +4,8 @@ use Rattle.alog_lane.specs.Calls.{LaneId, TakesTurn}
 use Rattle.alog_sink.specs.Sinks.{Turns}
 use Rattle.alog_sink.specs.declared.sink.Sink.{Sink}
 use Rattle.alog_pool.specs.SinkSeat.{SinkSeatView, Serves, is_fan, unflushed_after, unflushed_by}
-use Rattle.alog_pool.proofs.Flushed.{unflushed-more}
-use Rattle.alog_pool.proofs.Turning.{same_capacity}
+use Rattle.alog_pool.proofs.SharedFlushed.{unflushed-more}
+use Rattle.alog_pool.proofs.SharedTurning.{same_capacity}
 use Rattle.alog_pool.proofs.sink_seat.SinkSeat.serve.Goals as goal
 
 pub invariant_of-self : goal.invariant_of-self

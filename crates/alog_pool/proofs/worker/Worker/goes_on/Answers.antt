@@ -4,10 +4,10 @@ use Rattle.alog_msg.specs.declared.item.Item.{Item}
 use Rattle.alog_pool.specs.SinkSeat.{AreServable, places_of}
 use Rattle.alog_pool.specs.Deeds.{HaveMade, all_dues, dues_of}
 use Rattle.alog_pool.specs.Gaps.{gap_at, next_after, next_of, with_gaps}
-use Rattle.alog_pool.proofs.Deeds.{have_own, took_more, took_no_more}
+use Rattle.alog_pool.proofs.SharedDeeds.{have_own, took_more, took_no_more}
 use Rattle.alog_pool.proofs.SharedGaps.{made_for, made_for_stop, next_more, next_stop}
 use Rattle.alog_pool.specs.declared.shared.Shared.{Shared}
-use Rattle.alog_pool.proofs.Worked.{took_nothing, took_work, took_stop, few_tickets, all_servable}
+use Rattle.alog_pool.proofs.SharedWorked.{took_nothing, took_work, took_stop, few_tickets, all_servable}
 use Rattle.alog_pool.specs.Working.{AreLimited, IsWorkOf}
 use Rattle.alog_registry.specs.Limit.{KeepsTo, HoldsTo}
 use Rattle.alog_ring.specs.Known.{IsPassOf}

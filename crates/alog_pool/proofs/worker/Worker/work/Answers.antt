@@ -1,6 +1,6 @@
 use Rattle.std.proofs.Common.{append-nil, [], refl, sym}
 use Rattle.alog_core.specs.Accounts.{takes}
-use Rattle.alog_pool.proofs.Deeds.{have_none}
+use Rattle.alog_pool.proofs.SharedDeeds.{have_none}
 use Rattle.alog_pool.proofs.worker.Worker.work.Goals as goal
 
 pub loop-init : goal.loop-init

@@ -10,8 +10,8 @@ use Rattle.alog_msg.specs.declared.item.Item.TheVariants.{Text, Flush, Stop}
 use Rattle.alog_pool.specs.Accounts.{of_work, of_stops, work_tickets, Moved}
 use Rattle.alog_pool.specs.SinkSeat.{Place, AreServable}
 use Rattle.alog_pool.specs.Working.{AreLimited, IsWorkOf}
-use Rattle.alog_pool.proofs.Moves.{claims-append, takes-append, grabbed-append, tickets-append}
-use Rattle.alog_pool.proofs.Turning.{flush_servable}
+use Rattle.alog_pool.proofs.SharedMoves.{claims-append, takes-append, grabbed-append, tickets-append}
+use Rattle.alog_pool.proofs.SharedTurning.{flush_servable}
 use Rattle.alog_registry.specs.Limit.{KeepsTo}
 use Rattle.alog_ring.specs.Known.{Known}
 use Rattle.alog_registry.specs.BlockPort.{block_note}
@@ -80,42 +80,51 @@ stops_after : (k l : Known Item block_note) (g : List (ℕ × Item)) → Moved k
 stops_after k l g m = ap (λ (q : List (ℕ × Item)). weigh of_stops q) (moved_gots k l [] g m) ∙ weigh-append of_stops (takes k.own) g
 
 -- it took nothing
+pub account_of_nothing : {most : ℕ} {k l : Known Item block_note} {ts : List ℕ} {hs : ℕ} → IsWorkOf most k ts hs → Moved k l [] []
+    → IsWorkOf most l ts hs
+account_of_nothing {most} {k} w m =
+    let same : takes k.own ++ [] ≡ takes k.own = append-nil (takes k.own) in
+    work_after w m (w.tickets_are ∙ ap (λ (q : List (ℕ × Item)). take most (work_tickets q)) (sym same))
+    (w.handled_is ∙ ap (λ (q : List (ℕ × Item)). weigh of_work q % 2 ^ 64) (sym same))
+
 pub took_nothing : (most : ℕ) (k l : Known Item block_note) (ts : List ℕ) (hs : ℕ) → IsWorkOf most k ts hs → taken of_stops k.own ≡ 0
     → Moved k l [] [] → IsWorkOf most l ts hs × (taken of_stops l.own ≡ 0)
-took_nothing most k l ts hs w none m =
-    let same : takes k.own ++ [] ≡ takes k.own = append-nil (takes k.own) in (
-      work_after w m (w.tickets_are ∙ ap (λ (q : List (ℕ × Item)). take most (work_tickets q)) (sym same))
-          (w.handled_is ∙ ap (λ (q : List (ℕ × Item)). weigh of_work q % 2 ^ 64) (sym same)),
-      (let s = stops_after k l [] m in omega (arith, s, none)),
-    )
+took_nothing most k l ts hs w none m = (account_of_nothing w m, (let s = stops_after k l [] m in omega (arith, s, none)))
 
 -- it took a text or a flush
+pub account_of_work : {most : ℕ} {k l : Known Item block_note} {t : ℕ} {x : Item} {ts : List ℕ} {hs : ℕ} → IsWorkOf most k ts hs
+    → Moved k l [] ((t, x) ∷ []) → x ≢ Stop → IsWorkOf most l (take most (ts ++ t ∷ [])) ((hs + 1) % 2 ^ 64)
+account_of_work {most} {k} {t} {x} w m other =
+    let one : weigh of_work (takes k.own ++ (t, x) ∷ []) ≡ weigh of_work (takes k.own) + 1 =
+    weigh-append of_work (takes k.own) ((t, x) ∷ []) ∙ ap (λ n. weigh of_work (takes k.own) + n) (one_work t x other) in
+    work_after w m
+    (ap (λ (q : List ℕ). take most (q ++ t ∷ [])) w.tickets_are ∙ take_take most (work_tickets (takes k.own)) (t ∷ [])
+    ∙ ap (λ (q : List ℕ). take most (work_tickets (takes k.own) ++ q)) (sym (one_ticket t x other))
+    ∙ ap (λ (q : List ℕ). take most q) (sym (work_tickets-append (takes k.own) ((t, x) ∷ []))))
+    (ap (λ n. (n + 1) % 2 ^ 64) w.handled_is ∙ mod-add-mod (weigh of_work (takes k.own)) (2 ^ 64) 1 ∙ ap (λ n. n % 2 ^ 64) (sym one))
+
 pub took_work : {most : ℕ} {k l : Known Item block_note} {t : ℕ} {x : Item} {ts : List ℕ} {hs : ℕ} → IsWorkOf most k ts hs
     → taken of_stops k.own ≡ 0 → Moved k l [] ((t, x) ∷ []) → x ≢ Stop
     → IsWorkOf most l (take most (ts ++ t ∷ [])) ((hs + 1) % 2 ^ 64) × (taken of_stops l.own ≡ 0)
-took_work {most} {k} {l} {t} {x} {ts} {hs} w none m other =
-    let one : weigh of_work (takes k.own ++ (t, x) ∷ []) ≡ weigh of_work (takes k.own) + 1 =
-    weigh-append of_work (takes k.own) ((t, x) ∷ []) ∙ ap (λ n. weigh of_work (takes k.own) + n) (one_work t x other) in (
-      work_after w m
-          (ap (λ (q : List ℕ). take most (q ++ t ∷ [])) w.tickets_are ∙ take_take most (work_tickets (takes k.own)) (t ∷ [])
-          ∙ ap (λ (q : List ℕ). take most (work_tickets (takes k.own) ++ q)) (sym (one_ticket t x other))
-          ∙ ap (λ (q : List ℕ). take most q) (sym (work_tickets-append (takes k.own) ((t, x) ∷ []))))
-          (ap (λ n. (n + 1) % 2 ^ 64) w.handled_is ∙ mod-add-mod (weigh of_work (takes k.own)) (2 ^ 64) 1 ∙ ap (λ n. n % 2 ^ 64) (sym one)),
-      (let s = stops_after k l ((t, x) ∷ []) m in let z = no_stop t x other in omega (arith, s, z, none)),
-    )
+took_work {k} {l} {t} {x} w none m other =
+    (account_of_work w m other, (let s = stops_after k l ((t, x) ∷ []) m in let z = no_stop t x other in omega (arith, s, z, none)))
 
 -- it took a stop
-pub took_stop : {most : ℕ} {k l : Known Item block_note} {t : ℕ} {x : Item} {ts : List ℕ} {hs : ℕ} → IsWorkOf most k ts hs
-    → taken of_stops k.own ≡ 0 → Moved k l [] ((t, x) ∷ []) → x ≡ Stop → IsWorkOf most l ts hs × (taken of_stops l.own ≡ 1)
-took_stop {most} {k} {l} {t} {ts} {hs} w none moved is =
+pub account_of_stop : {most : ℕ} {k l : Known Item block_note} {t : ℕ} {x : Item} {ts : List ℕ} {hs : ℕ} → IsWorkOf most k ts hs
+    → Moved k l [] ((t, x) ∷ []) → x ≡ Stop → IsWorkOf most l ts hs
+account_of_stop {most} {k} {l} {t} w moved is =
     let m : Moved k l [] ((t, Stop) ∷ []) = subst (λ (z : Item). Moved k l [] ((t, z) ∷ [])) is moved in
     let more : work_tickets (takes k.own ++ (t, Stop) ∷ []) ≡ work_tickets (takes k.own) =
     work_tickets-append (takes k.own) ((t, Stop) ∷ []) ∙ append-nil (work_tickets (takes k.own)) in
     let same : weigh of_work (takes k.own ++ (t, Stop) ∷ []) ≡ weigh of_work (takes k.own) =
-    (let a = weigh-append of_work (takes k.own) ((t, Stop) ∷ []) in omega (arith, a)) in (
-      work_after w m (w.tickets_are ∙ ap (λ (q : List ℕ). take most q) (sym more)) (w.handled_is ∙ ap (λ n. n % 2 ^ 64) (sym same)),
-      (let s = stops_after k l ((t, Stop) ∷ []) m in omega (arith, s, none)),
-    )
+    (let a = weigh-append of_work (takes k.own) ((t, Stop) ∷ []) in omega (arith, a)) in
+    work_after w m (w.tickets_are ∙ ap (λ (q : List ℕ). take most q) (sym more)) (w.handled_is ∙ ap (λ n. n % 2 ^ 64) (sym same))
+
+pub took_stop : {most : ℕ} {k l : Known Item block_note} {t : ℕ} {x : Item} {ts : List ℕ} {hs : ℕ} → IsWorkOf most k ts hs
+    → taken of_stops k.own ≡ 0 → Moved k l [] ((t, x) ∷ []) → x ≡ Stop → IsWorkOf most l ts hs × (taken of_stops l.own ≡ 1)
+took_stop {k} {l} {t} w none moved is =
+    let m : Moved k l [] ((t, Stop) ∷ []) = subst (λ (z : Item). Moved k l [] ((t, z) ∷ [])) is moved in
+    (account_of_stop w moved is, (let s = stops_after k l ((t, Stop) ∷ []) m in omega (arith, s, none)))
 
 -- no more tickets than are asked for
 pub few_tickets : (most : ℕ) (k : Known Item block_note) (ts : List ℕ) (hs : ℕ) → IsWorkOf most k ts hs → length ts ≤ most

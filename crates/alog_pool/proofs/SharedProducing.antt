@@ -16,7 +16,7 @@ use Rattle.alog_pool.specs.BacktraceSeat.{BacktraceSeatView, LaneSeatView, IsBac
 use Rattle.alog_pool.specs.Lending.{IsAccountOf, LendsAlike}
 use Rattle.alog_pool.specs.Producer.{ProducerView, AreBacktraceSeats, HasBlocks, IsProducer, IsPortOf, Lent}
 use Rattle.alog_pool.specs.declared.shared.Shared.{Shared}
-use Rattle.alog_pool.proofs.Posting.{post_stops, post_takes, account_after}
+use Rattle.alog_pool.proofs.SharedPosting.{post_stops, post_takes, account_after}
 use Rattle.alog_registry.specs.ItemOutlet.{PostsItem}
 use Rattle.alog_registry.specs.Backtrace.{Room}
 use Rattle.alog_registry.specs.Dumping.{PostsEach, posted_of}

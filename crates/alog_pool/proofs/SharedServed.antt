@@ -26,7 +26,7 @@ use Rattle.alog_pool.specs.Report.{HasServed, IsRising, MadeAll, handled_by}
 use Rattle.alog_pool.specs.Working.{HasWorked, IsWorkOf, numbers_of}
 use Rattle.alog_pool.specs.declared.worker.Worker.{Worker}
 use Rattle.alog_pool.specs.declared.shared.Shared.{Shared}
-use Rattle.alog_pool.proofs.Rows.{place_lanes}
+use Rattle.alog_pool.proofs.SharedRows.{place_lanes}
 use Rattle.alog_registry.specs.BlockPort.{block_note}
 use Rattle.alog_ring.specs.Known.{Known}
 use Rattle.alog_sink.specs.declared.sink.Sink.{Sink}
@@ -86,7 +86,7 @@ Turn = lane.Entry (Turned Item Buffer Answer)
 
 module _ {S : Type 0} where
   -- a seat that had made nothing made all that it has
-  made_all : (s : ℕ) (bs cs : List (SinkSeatView S)) (dues : List Due) → HaveMade s bs cs dues → AllByRecursion IsNew bs → MadeAll s cs dues
+  pub made_all : (s : ℕ) (bs cs : List (SinkSeatView S)) (dues : List Due) → HaveMade s bs cs dues → AllByRecursion IsNew bs → MadeAll s cs dues
   made_all s [] [] dues made new = tt
   made_all s [] (c ∷ cs) dues made new = absurd made
   made_all s (b ∷ bs) [] dues made new = absurd made
@@ -95,10 +95,10 @@ module _ {S : Type 0} where
       made.0.own ∙ ap (λ (l : List Turn). l ++ made.0.entries) new.0.1.own in
       (subst (λ (l : List Turn). HasDone l (dues_on s dues)) (sym own) made.0.done, made_all (s + 1) bs cs dues made.1 new.1)
 
-  counted_new : (b : SinkSeatView S) → IsNew b → IsCounted b
+  pub counted_new : (b : SinkSeatView S) → IsNew b → IsCounted b
   counted_new b new = subst (λ (l : List Turn). b.faults ≡ min (faults_in l) (2 ^ 64 - 1)) (sym new.1.own) new.1.faults
 
-  made_counted : (s : ℕ) (bs cs : List (SinkSeatView S)) (dues : List Due) → HaveMade s bs cs dues → AllByRecursion IsNew bs
+  pub made_counted : (s : ℕ) (bs cs : List (SinkSeatView S)) (dues : List Due) → HaveMade s bs cs dues → AllByRecursion IsNew bs
       → AllByRecursion IsCounted cs
   made_counted s [] [] dues made new = tt
   made_counted s [] (c ∷ cs) dues made new = absurd made

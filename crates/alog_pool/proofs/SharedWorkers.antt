@@ -23,18 +23,18 @@ use Rattle.alog_pool.specs.Rows.{heads, tails}
 use Rattle.alog_pool.specs.Workers.{AreAllWritten, IsMerged, IsNext, WorkersWriteWhatWasPosted}
 use Rattle.alog_pool.specs.declared.worker.Worker.{Worker}
 use Rattle.alog_pool.proofs.SharedBack.{sum_of_map}
-use Rattle.alog_pool.proofs.Held.{Turn, texts_held}
+use Rattle.alog_pool.proofs.SharedHeld.{Turn, texts_held}
 use Rattle.alog_pool.proofs.InARow.{in_a_row}
 use Rattle.alog_pool.proofs.Posted.{posted, work_by, work_dues, work_tickets_are}
-use Rattle.alog_pool.proofs.Served.{rising_works}
+use Rattle.alog_pool.proofs.SharedServed.{rising_works}
 use Rattle.alog_pool.specs.declared.shared.Shared.{Shared}
 use Rattle.alog_sink.specs.Files.{Files}
 use Rattle.alog_sink.specs.declared.sink.Sink.{Sink}
 
-abbrev One : Type 0
+abbrev pub One : Type 0
 One = Member (Turned Item Buffer Answer)
 
-abbrev Given : Type 0
+abbrev pub Given : Type 0
 Given = ℕ × Item
 
 -- the first of merged turns is an own flush, or the first of what is due of one of the rows
@@ -64,7 +64,7 @@ none_due (row ∷ rows) [] none each = absurd each
 none_due (row ∷ rows) (ds ∷ dues) none each = (subst (λ (l : List Turn). HasDone l ds) none.0 each.0, none_due rows dues none.1 each.1)
 
 -- of merged turns those that are due are what is due of each row, merged
-merged_due : (h : List Turn) (rows : List (List Turn)) (dues : List (List Given)) → IsMerged h rows → Each2 HasDone rows dues
+pub merged_due : (h : List Turn) (rows : List (List Turn)) (dues : List (List Given)) → IsMerged h rows → Each2 HasDone rows dues
     → (turns : List Given) × IsMerged turns dues × HasDone h turns
 merged_due [] rows dues is each = ([], none_due rows dues is each, refl)
 merged_due (x ∷ h) rows dues is each =
@@ -84,7 +84,7 @@ merged_alone {A} (x ∷ xs) row (rest ∷ other ∷ rests, inl next, more) = let
 merged_alone {A} (x ∷ xs) row (rest ∷ other ∷ rests, inr next, more) = absurd next.1
 
 -- each member's own entries of a history
-abbrev rows_of : List One → List Turn → List (List Turn)
+abbrev pub rows_of : List One → List Turn → List (List Turn)
 rows_of ms h = map (λ (m : One). own_of m.seat h) ms
 
 unchanged : (ms : List One) (x : Turn) (h : List Turn) → ¬ IsAmong x.seat ms → rows_of ms (x ∷ h) ≡ rows_of ms h
@@ -106,7 +106,7 @@ none_of : (ms : List One) → AllByRecursion (λ (row : List Turn). row ≡ []) 
 none_of [] = tt
 none_of (m ∷ ms) = (refl, none_of ms)
 
-merged : (ms : List One) (h : List Turn) → AreDistinct ms → AllByRecursion (λ (x : Turn). IsAmong x.seat ms) h → IsMerged h (rows_of ms h)
+pub merged : (ms : List One) (h : List Turn) → AreDistinct ms → AllByRecursion (λ (x : Turn). IsAmong x.seat ms) h → IsMerged h (rows_of ms h)
 merged ms [] distinct each = none_of ms
 merged ms (x ∷ h) distinct each = (rows_of ms h, next_of ms x h distinct each.0, merged ms h distinct each.1)
 
@@ -143,39 +143,39 @@ no_faults (row ∷ rows) none =
     let whole : sum_by faults_in (row ∷ rows) ≡ faults_in row + sum_by faults_in rows = sum_by-cons faults_in row rows in
     let first : faults_in row ≡ 0 = ap (λ (l : List Turn). faults_in l) none.0 in omega (arith, whole, first, no_faults rows none.1)
 
-merged_faults : (h : List Turn) (rows : List (List Turn)) → IsMerged h rows → faults_in h ≡ sum_by faults_in rows
+pub merged_faults : (h : List Turn) (rows : List (List Turn)) → IsMerged h rows → faults_in h ≡ sum_by faults_in rows
 merged_faults [] rows is = sym (no_faults rows is)
 merged_faults (x ∷ h) rows is =
     let one = next_faults x rows is.0 is.1 in
     let rest = merged_faults h is.0 is.2 in omega (arith, one, rest)
 
 module _ {S : Type 0} (tells : Bool) (files : S → Files) (failures : S → ℕ) where
-  own_rows : List (SinkSeatView S) → List (List Turn)
+  pub own_rows : List (SinkSeatView S) → List (List Turn)
   own_rows bs = map (λ (b : SinkSeatView S). b.seat.known.own) bs
 
-  exact_rows : (bs : List (SinkSeatView S)) (h : List Turn) → AreExact (map (λ (b : SinkSeatView S). seat_member b) bs) h
+  pub exact_rows : (bs : List (SinkSeatView S)) (h : List Turn) → AreExact (map (λ (b : SinkSeatView S). seat_member b) bs) h
       → rows_of (map (λ (b : SinkSeatView S). seat_member b) bs) h ≡ own_rows bs
   unfolding own_rows
   exact_rows [] h exact = refl
   exact_rows (b ∷ bs) h exact = λ i. sym exact.0 i ∷ exact_rows bs h exact.1 i
 
   -- the place's seat did these turns
-  abbrev DidAt : SinkSeatView S → List Given → Type 0
+  abbrev pub DidAt : SinkSeatView S → List Given → Type 0
   DidAt b turns = HasDone b.seat.known.own turns
 
-  done_rows : (bs : List (SinkSeatView S)) (dues : List (List Given)) → Each2 DidAt bs dues → Each2 HasDone (own_rows bs) dues
+  pub done_rows : (bs : List (SinkSeatView S)) (dues : List (List Given)) → Each2 DidAt bs dues → Each2 HasDone (own_rows bs) dues
   unfolding own_rows
   done_rows [] [] each = tt
   done_rows [] (ds ∷ dues) each = absurd each
   done_rows (b ∷ bs) [] each = absurd each
   done_rows (b ∷ bs) (ds ∷ dues) each = (each.0, done_rows bs dues each.1)
 
-  row_faults : (bs : List (SinkSeatView S)) → sum_by faults_in (own_rows bs)
+  pub row_faults : (bs : List (SinkSeatView S)) → sum_by faults_in (own_rows bs)
       ≡ sum_by (λ (b : SinkSeatView S). faults_in b.seat.known.own) bs
   unfolding own_rows
   row_faults bs = sum_of_map (λ (b : SinkSeatView S). b.seat.known.own) faults_in bs
 
-  abbrev IsWrittenBy : Sink S → Sink S → ℕ → List (List Given) → Type 0
+  abbrev pub IsWrittenBy : Sink S → Sink S → ℕ → List (List Given) → Type 0
   IsWrittenBy first last faults rows =
       (turns : List Given) × IsMerged turns rows × IsWritten tells files failures first last faults turns
 
@@ -208,10 +208,10 @@ module _ {S : Type 0} (tells : Bool) (files : S → Files) (failures : S → ℕ
       )
 
   -- a worker's places, of which the first is that at the sink of this number, and what was due there
-  abbrev IsRow : ℕ → List (LaneId (Sink S)) → List (SinkSeatView S) → List Due → Type 0
+  abbrev pub IsRow : ℕ → List (LaneId (Sink S)) → List (SinkSeatView S) → List Due → Type 0
   IsRow s ls row dues = (lanes_of row ≡ ls) × MadeAll s row dues
 
-  heads_made : (s : ℕ) (l : LaneId (Sink S)) (ls : List (LaneId (Sink S))) (rows : List (List (SinkSeatView S))) (dues : List (List Due))
+  pub heads_made : (s : ℕ) (l : LaneId (Sink S)) (ls : List (LaneId (Sink S))) (rows : List (List (SinkSeatView S))) (dues : List (List Due))
       → Each2 (IsRow s (l ∷ ls)) rows dues → Each2 DidAt (heads rows) (map (λ (ds : List Due). dues_on s ds) dues)
   heads_made s l ls [] [] each = tt
   heads_made s l ls [] (d ∷ dues) each = absurd each
@@ -219,7 +219,7 @@ module _ {S : Type 0} (tells : Bool) (files : S → Files) (failures : S → ℕ
   heads_made s l ls ([] ∷ rows) (d ∷ dues) each = let bad = each.0.0 in absurd (cc bad)
   heads_made s l ls ((b ∷ bs) ∷ rows) (d ∷ dues) each = (each.0.1.0, heads_made s l ls rows dues each.1)
 
-  tails_made : (s : ℕ) (l : LaneId (Sink S)) (ls : List (LaneId (Sink S))) (rows : List (List (SinkSeatView S))) (dues : List (List Due))
+  pub tails_made : (s : ℕ) (l : LaneId (Sink S)) (ls : List (LaneId (Sink S))) (rows : List (List (SinkSeatView S))) (dues : List (List Due))
       → Each2 (IsRow s (l ∷ ls)) rows dues → Each2 (IsRow (s + 1) ls) (tails rows) dues
   tails_made s l ls [] [] each = tt
   tails_made s l ls [] (d ∷ dues) each = absurd each

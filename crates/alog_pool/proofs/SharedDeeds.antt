@@ -14,7 +14,7 @@ use Rattle.alog_msg.specs.declared.item.Item.TheVariants.{Flush}
 use Rattle.alog_pool.specs.Accounts.{Moved}
 use Rattle.alog_pool.specs.SinkSeat.{Answer, SinkSeatView, Serves, fault_in}
 use Rattle.alog_pool.specs.Deeds.{Due, due_by, dues_by, dues_of, all_dues, dues_on, faults_in, HasDone, HasMade, HaveMade}
-use Rattle.alog_pool.proofs.Worked.{moved_gots}
+use Rattle.alog_pool.proofs.SharedWorked.{moved_gots}
 use Rattle.alog_registry.specs.Work.{turns_of}
 use Rattle.alog_registry.specs.declared.logger.Logger.{Logger}
 use Rattle.alog_registry.specs.declared.logger.Spec.{Spec}
@@ -26,11 +26,11 @@ use Rattle.alog_sink.specs.Files.{Files}
 abbrev Deed : Type 0
 Deed = Entry (Turned Item Buffer Answer)
 
-faults_in-append : (h g : List Deed) → faults_in (h ++ g) ≡ faults_in h + faults_in g
+pub faults_in-append : (h g : List Deed) → faults_in (h ++ g) ≡ faults_in h + faults_in g
 faults_in-append [] g = omega arith
 faults_in-append (x ∷ h) g = let e = faults_in-append h g in omega (arith, e)
 
-dues_on-append : (s : ℕ) (ds es : List Due) → dues_on s (ds ++ es) ≡ dues_on s ds ++ dues_on s es
+pub dues_on-append : (s : ℕ) (ds es : List Due) → dues_on s (ds ++ es) ≡ dues_on s ds ++ dues_on s es
 dues_on-append s [] es = refl
 dues_on-append s (d ∷ ds) es =
     on_test (λ b. cond b ((d.tag, d.item) ∷ dues_on s (ds ++ es)) (dues_on s (ds ++ es))
@@ -78,7 +78,7 @@ dues_whole o spec logger ticket x k is at =
     (take_whole (map f (turns_of spec ticket x)) k none)
 
 -- turns behind others
-done_then : (h g : List Deed) (first second : List (ℕ × Item)) → HasDone h first → HasDone g second → HasDone (h ++ g) (first ++ second)
+pub done_then : (h g : List Deed) (first second : List (ℕ × Item)) → HasDone h first → HasDone g second → HasDone (h ++ g) (first ++ second)
 done_then [] g first second one two = subst (λ (l : List (ℕ × Item)). HasDone g (l ++ second)) (sym one) two
 done_then (x ∷ h) g first second (inl own) two = inl (own.0, done_then h g first second own.1 two)
 done_then (x ∷ h) g first second (inr due) two =

@@ -26,9 +26,9 @@ use Rattle.alog_pool.proofs.SharedBack.{sum_mod, sum_of_map}
 use Rattle.alog_pool.proofs.Ended.{all_came_out, ending_moved, ending_starts, is_end, overrun_or_handled}
 use Rattle.alog_pool.specs.Ending.{IsEnd}
 use Rattle.alog_pool.proofs.Halting.{no_work_in_stops}
-use Rattle.alog_pool.proofs.Served.{all_handled, one_ended, put_nothing}
+use Rattle.alog_pool.proofs.SharedServed.{all_handled, one_ended, put_nothing}
 use Rattle.alog_pool.proofs.SharedSharing.{each2_length}
-use Rattle.alog_pool.proofs.Worked.{moved_gots, moved_puts}
+use Rattle.alog_pool.proofs.SharedWorked.{moved_gots, moved_puts}
 use Rattle.alog_registry.specs.BlockPort.{block_note}
 use Rattle.alog_ring.specs.Known.{Known, Member}
 use Rattle.alog_ring.specs.Share.{IsWhole}
@@ -41,15 +41,15 @@ Deed = Entry Item block_note
 abbrev One : Type 0
 One = Member Item block_note
 
-no_stops : (ps : List ProducerView) → AreAccounts ps → AllByRecursion PutNoStop (map pass_member ps)
+pub no_stops : (ps : List ProducerView) → AreAccounts ps → AllByRecursion PutNoStop (map pass_member ps)
 no_stops [] all = tt
 no_stops (p ∷ ps) all = (all.0.no_stop, no_stops ps all.1)
 
-counted : (ps : List ProducerView) → AreAccounts ps → AreCounted (map pass_member ps) (map loss_member ps)
+pub counted : (ps : List ProducerView) → AreAccounts ps → AreCounted (map pass_member ps) (map loss_member ps)
 counted [] all = tt
 counted (p ∷ ps) all = (all.0.counted, counted ps all.1)
 
-overran : (ps : List ProducerView) → AreAccounts ps → sum_by (λ (p : ProducerView). items_in p.losses.known.own) ps ≡ sum_by took_out ps
+pub overran : (ps : List ProducerView) → AreAccounts ps → sum_by (λ (p : ProducerView). items_in p.losses.known.own) ps ≡ sum_by took_out ps
 overran [] all = refl
 overran (p ∷ ps) all =
     let f : ProducerView → ℕ = λ q. items_in q.losses.known.own in
@@ -59,7 +59,7 @@ overran (p ∷ ps) all =
     omega (arith, one, two, same, overran ps all.1)
 
 -- both summed modulo 2^64
-two_mods : (a b m n : ℕ) → a ≡ m % 2 ^ 64 → b ≡ n % 2 ^ 64 → (a + b) % 2 ^ 64 ≡ (m + n) % 2 ^ 64
+pub two_mods : (a b m n : ℕ) → a ≡ m % 2 ^ 64 → b ≡ n % 2 ^ 64 → (a + b) % 2 ^ 64 ≡ (m + n) % 2 ^ 64
 two_mods a b m n first second =
     let swap : m + b ≡ b + m = omega arith in
     let back : n + m ≡ m + n = omega arith in

@@ -20,7 +20,7 @@ use Rattle.alog_policy.specs.declared.policy.Policy.{Policy}
 use Rattle.alog_policy.proofs.SharedLosses.{overran_takes}
 use Rattle.alog_pool.specs.Accounts.{of_all, stop, of_stops}
 use Rattle.alog_pool.specs.Lending.{IsAccountOf}
-use Rattle.alog_pool.proofs.Sums.{claimed-append, taken-append}
+use Rattle.alog_pool.proofs.SharedSums.{claimed-append, taken-append}
 use Rattle.alog_registry.specs.BlockPort.{BlockPort, block_note}
 use Rattle.alog_ring.specs.Known.{Known, PassView}
 

@@ -10,7 +10,7 @@ use Rattle.alog_core.proofs.SharedCells.{on_test}
 use Rattle.alog_ring.specs.Known.{Member, Known, members_of, IsAmong, AreDistinct}
 use Rattle.alog_ring.specs.Made.{AreExact}
 use Rattle.alog_ring.specs.Share.{IsWhole}
-use Rattle.alog_pool.proofs.Moves.{claims-append, takes-append}
+use Rattle.alog_pool.proofs.SharedMoves.{claims-append, takes-append}
 use Rattle.alog_pool.specs.Whole.{claimed_by, taken_by, MembersBalance}
 
 module _ {T N : Type 0} (f : Entry T N → ℕ) where
