@@ -1,0 +1,12 @@
+mod Tries
+mod Handling
+mod Pushing
+mod Onces
+mod Lanes
+mod Closings
+mod AllEnded
+mod Disbanding
+mod Balanced
+mod Standing
+mod Lines
+pub mod SharedCrosses

@@ -1,0 +1,9 @@
+pub mod Lent
+pub mod Owed
+pub mod Workers
+pub mod Host
+pub mod Once
+pub mod Outfit
+pub mod Ends
+pub mod Closing
+pub mod Written
