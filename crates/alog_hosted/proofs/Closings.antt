@@ -11,7 +11,8 @@ use Rattle.alog_core.proofs.SharedCalls.{given_front}
 use Rattle.alog_format.specs.Buffer.{Buffer}
 use Rattle.alog_hosted.specs.Closing.{AreAtLimit, Collects, EndAll, halves_of, owed_in}
 use Rattle.alog_hosted.specs.Ends.{EndsPlace, WasWorker, all_owed, worker_member}
-use Rattle.alog_hosted.specs.Owed.{owed_of}
+use Rattle.alog_core.specs.Accounts.{takes}
+use Rattle.alog_hosted.specs.Owed.{OwesLast, owed_of}
 use Rattle.alog_hosted.specs.Workers.{IsWorker, WorkerView}
 use Rattle.alog_hosted.specs.declared.blank.Half.{Half}
 use Rattle.alog_hosted.specs.declared.owed.Owed.{Owed}
@@ -128,13 +129,14 @@ module _ {S : Type 0} where
       ap (λ (l : List Due). v.owed ++ l) (owed_more ws w) ∙ sym (append_assoc v.owed (all_owed ws) w.owed)
 
   pub was_worker : (w : WorkerView S) (block : BlockFields) → IsWorker w.shared w.pass block w.places w.tickets w.handled w.most w.owed
-      → WasWorker w
-  was_worker w block is = record {
+      → OwesLast w.shared.loggers (takes w.pass.known.own) w.owed → WasWorker w
+  was_worker w block is owes = record {
     work = is.work;
     ones = ones is.start w.places is.same is.began;
     counted = made_counted 0 is.start w.places is.made is.turns is.began;
     made = is.made;
     all = is.all;
+    owes = owes;
     turns = made_all 0 is.start w.places is.made is.turns is.began;
   }
 

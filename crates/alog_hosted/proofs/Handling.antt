@@ -3,7 +3,7 @@ use Rattle.std.proofs.Common.{◌≡◌, ◌≢◌, ℕ, ◌+◌, Some, None, Op
 use Rattle.std.specs.Prelude.{IfSome, drop}
 use Rattle.alog_core.specs.Accounts.{takes}
 use Rattle.alog_hosted.specs.Lent.{HostedView}
-use Rattle.alog_hosted.specs.Owed.{MakesPart, half_of, owed_of, rest_from}
+use Rattle.alog_hosted.specs.Owed.{IsLastOf, MakesPart, OwesLast, half_of, owed_of, rest_from}
 use Rattle.alog_hosted.specs.Workers.{HasEnded, IsPause, IsSameWorker, IsWorker, IsWorkerOf, SawIdle, SawSome, WasRefused, WorkerView}
 use Rattle.alog_hosted.specs.declared.worker.Pause.{Pause}
 use Rattle.alog_hosted.specs.declared.worker.Pause.TheVariants as pause
@@ -157,6 +157,17 @@ module _ {S : Type 0} where
 pub free_owes : (ls : List Logger) (owed : Option Owed) (x : Item) → half_of owed ≡ 0 → owed_of ls owed x ≡ []
 free_owes ls None x free = refl
 free_owes ls (Some o) x free = absurd (omega (arith, free))
+
+pub free_last : (taken : List (ℕ × Item)) (owed : Option Owed) (x : Item) → half_of owed ≡ 0 → IsLastOf taken owed x
+free_last taken None x free = tt
+free_last taken (Some o) x free = absurd (omega (arith, free))
+
+-- what is owed for an item that is half done
+pub owes_last : (loggers : List Logger) (taken : List (ℕ × Item)) (owed : Option Owed) (x : Item) → IsLastOf taken owed x
+    → OwesLast loggers taken (owed_of loggers owed x)
+owes_last loggers taken None x last = inl refl
+owes_last loggers taken (Some o) x last =
+    inr (record { before = last.0; ticket = o.ticket; item = x; place = o.place; last = last.1; rest = refl })
 
 -- a pass that moved nothing
 pub ended_none : {S : Type 0} (old new : WorkerView S) → Moved old.pass.known new.pass.known [] [] → new.half ≡ old.half → HasEnded old new 0

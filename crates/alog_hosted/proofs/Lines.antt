@@ -5,6 +5,7 @@ use Rattle.std.proofs.lemmas.List.Sums.{sum_by-cons}
 use Rattle.alog_core.specs.Accounts.{takes}
 use Rattle.alog_hosted.specs.Ends.{AreEnded, HasBeen, IsEnded, all_owed}
 use Rattle.alog_hosted.specs.Lent.{HostedView}
+use Rattle.alog_hosted.specs.Owed.{OwesLast}
 use Rattle.alog_hosted.specs.Workers.{WorkerView}
 use Rattle.alog_hosted.specs.Written.{HasMadeOf, HostedPoolsWriteAll}
 use Rattle.alog_lane.specs.Calls.{LaneId}
@@ -84,6 +85,7 @@ module _ {S : Type 0} (tells : Bool) (files : S → Files) (failures : S → ℕ
           (
             takes_rise w.most w.pass.known w.tickets w.handled was.work,
             subst (λ (s : Shared). all_dues s.loggers (takes w.pass.known.own) ≡ was.made ++ w.owed) been.0.of.shared was.all,
+            subst (λ (s : Shared). OwesLast s.loggers (takes w.pass.known.own) w.owed) been.0.of.shared was.owes,
           ),
           each_made ws been.1,
         )

@@ -8,6 +8,7 @@ use Rattle.alog_core.specs.Queue.{last, start}
 use Rattle.alog_format.specs.Buffer.{Buffer}
 use Rattle.alog_hosted.specs.Host.{HostView}
 use Rattle.alog_hosted.specs.Lent.{HostedView}
+use Rattle.alog_hosted.specs.Owed.{OwesLast}
 use Rattle.alog_hosted.specs.Workers.{IsWorkerOf, WorkerView}
 use Rattle.alog_lane.specs.Calls.{LaneId, Closes}
 use Rattle.alog_lane.specs.Seats as lane
@@ -49,13 +50,14 @@ abbrev pub IsOne : {S : Type 0} → SinkSeatView S → Type 0
 IsOne b = (b.seat.known.parts ≡ 1) × (b.seat.known.joined ≡ [])
 
 -- What is known of a worker that came back: it put nothing in and counted what it took, its places are of one part each, and counted their faults,
--- and there was made of its dues what it does not owe.
+-- and there was made of its dues what it does not owe, which are turns of the item that it took last.
 pub record WasWorker {S : Type 0} (w : WorkerView S) : Type 0 where
   pub work : IsWorkOf w.most w.pass.known w.tickets w.handled
   pub ones : AllByRecursion IsOne w.places
   pub counted : AllByRecursion IsCounted w.places
   pub made : List Due
   pub all : all_dues w.shared.loggers (takes w.pass.known.own) ≡ made ++ w.owed
+  pub owes : OwesLast w.shared.loggers (takes w.pass.known.own) w.owed
   pub turns : MadeAll 0 w.places made
 
 -- A worker of this pool that came back.

@@ -3,6 +3,7 @@ use Rattle.std.specs.Prelude.{◌≡◌, ℕ, Bool, List, ◌∷◌, ◌++◌}
 use Rattle.alog_core.specs.Accounts.{handed_out, takes}
 use Rattle.alog_hosted.specs.Ends.{Disbands, all_owed}
 use Rattle.alog_hosted.specs.Host.{HostView}
+use Rattle.alog_hosted.specs.Owed.{OwesLast}
 use Rattle.alog_hosted.specs.Workers.{WorkerView}
 use Rattle.alog_pool.specs.Deeds.{Due, all_dues}
 use Rattle.alog_pool.specs.Places.{Each2}
@@ -13,9 +14,10 @@ use Rattle.alog_pool.specs.declared.report.Report.{Report}
 use Rattle.alog_registry.specs.declared.logger.Logger.{Logger}
 use Rattle.alog_sink.specs.Files.{Files}
 
--- the worker made these turns: what it took under rising tickets made them due, but for those that it owes
+-- the worker made these turns: what it took under rising tickets made them due, but for those that it owes of the item that it took last
 abbrev pub HasMadeOf : {S : Type 0} → List Logger → WorkerView S → List Due → Type 0
 HasMadeOf loggers w made = IsRising (handed_out w.pass.known.own) × (all_dues loggers (takes w.pass.known.own) ≡ made ++ w.owed)
+    × OwesLast loggers (takes w.pass.known.own) w.owed
 
 module _ {S : Type 0} (tells : Bool) (files : S → Files) (failures : S → ℕ) where
   -- Each sink was given exactly the turns that the workers made, each worker's in the order of its tickets, and those that the pool made at its

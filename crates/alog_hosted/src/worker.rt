@@ -64,7 +64,8 @@ pub struct HostedWorker<S: Store> {
 
 impl<S: Store> Model for HostedWorker<S> {
     ghost use Rattle.std.specs.Prelude.{◌≡◌, ◌≤◌, vec_capacity};
-    ghost use Rattle.alog_hosted.specs.Owed.{half_of, owed_of};
+    ghost use Rattle.alog_core.specs.Accounts.{takes};
+    ghost use Rattle.alog_hosted.specs.Owed.{IsLastOf, half_of, owed_of};
     ghost use Rattle.alog_hosted.specs.Workers.{IsWorker, WorkerView};
     ghost use Rattle.alog_pattern.specs.declared.patterns.TheConstants.{LINE_MAX};
 
@@ -83,7 +84,8 @@ impl<S: Store> Model for HostedWorker<S> {
     } };
 
     ghost invariant = { λ w. IsWorker w.shared.value w.pass w.block w.places.items w.tickets.items w.handled w.most
-        (owed_of w.shared.value.loggers w.owed w.block.item) × (w.line.capacity ≡ LINE_MAX) × (w.most ≤ vec_capacity w.tickets) };
+        (owed_of w.shared.value.loggers w.owed w.block.item) × (w.line.capacity ≡ LINE_MAX) × (w.most ≤ vec_capacity w.tickets)
+        × IsLastOf (takes w.pass.known.own) w.owed w.block.item };
 }
 
 impl<S: Store> fmt::Debug for HostedWorker<S> {

@@ -14,6 +14,8 @@ use Rattle.alog_pool.proofs.SharedRows.{each_lane, rows_lanes, rows_start}
 use Rattle.alog_pool.proofs.SharedBack.{back_starts}
 use Rattle.alog_pool.proofs.SharedSharing.{all_next}
 use Rattle.alog_hosted.proofs.AllEnded.{took_limits}
+use Rattle.alog_core.specs.Accounts.{takes}
+use Rattle.alog_hosted.proofs.Handling.{owes_last}
 use Rattle.alog_hosted.proofs.Closings.{collects_more, few_halves, front_next, limit_halves, owed_halves, was_worker}
 use Rattle.alog_hosted.proofs.disband.collect.Goals as goal
 use Rattle.alog_registry.specs.Limit.{KeepsTo}
@@ -123,7 +125,8 @@ loop-worker-preserved g c =
       owed = owed_halves shared.loggers inside.block inside.owed
           ∙ sym (ap (λ (s : Shared). owed_of s.loggers inside.owed inside.block.item) same);
       limits = limit_halves shared.ring.ring.limit.most inside.block inside.owed keeps;
-      was = was_worker _ inside.block is;
+      was = was_worker _ inside.block is
+          (owes_last inside.shared.value.loggers (takes inside.pass.known.own) inside.owed inside.block.item c.worker.invariant.3);
     }) in
     let few = i.few in
     let halves_are = ap (λ (l : List Half). length l) c.keep_half.ensures.kept

@@ -49,6 +49,7 @@ invariant_of-worker g c =
       },
       tools.line,
       tools.tickets.1,
+      tt,
     )
 
 pub invariant_of-self : goal.invariant_of-self

@@ -1,5 +1,8 @@
-use Rattle.std.proofs.Common.{Some, None, inl, refl, sym, ap, ◌∙◌, arith}
+use Rattle.std.proofs.Common.{Some, None, Option, inl, refl, sym, ap, subst, ◌∙◌, arith}
+use Rattle.alog_core.specs.Accounts.{takes}
 use Rattle.alog_hosted.specs.Lent.{HostedView}
+use Rattle.alog_hosted.specs.Owed.{IsLastOf}
+use Rattle.alog_hosted.specs.declared.owed.Owed.{Owed}
 use Rattle.alog_hosted.specs.Workers.{WorkerView}
 use Rattle.alog_hosted.proofs.Handling.{ended_now, part_of, same_after, still_worker}
 use Rattle.alog_pool.specs.declared.shared.Shared.{Shared}
@@ -12,7 +15,7 @@ invariant_of-self g c =
     let shared = ap (λ (h : HostedView S). h.shared) c.hosted.view_is ∙ sym (ap (λ (v : WorkerView S). v.shared) c.self.view_is ∙ c.requires.of.shared) in
     let part = part_of c.in-Some.owed None (ap (λ (s : Shared). s.loggers) shared) c.in-Some.is
     c.item-item.ensures c.in-None.ensures.turns in
-    (still_worker c.self.invariant.0 c.in-None.ensures.places part, c.in-None.ensures.line, c.self.invariant.2)
+    (still_worker c.self.invariant.0 c.in-None.ensures.places part, c.in-None.ensures.line, c.self.invariant.2, tt)
 
 pub invariant_of-self-in-Some-make_turns : goal.invariant_of-self-in-Some-make_turns
 invariant_of-self-in-Some-make_turns g c =
@@ -20,8 +23,12 @@ invariant_of-self-in-Some-make_turns g c =
     let i = c.self.inside in
     let shared = ap (λ (h : HostedView S). h.shared) c.hosted.view_is ∙ sym (ap (λ (v : WorkerView S). v.shared) c.self.view_is ∙ c.requires.of.shared) in
     let part = part_of c.in-Some.owed (Some c.in-Some-make_turns.place)
-    (ap (λ (s : Shared). s.loggers) shared) c.in-Some.is c.item-item.ensures c.in-Some-make_turns.ensures.turns in
-    (still_worker c.self.invariant.0 c.in-Some-make_turns.ensures.places part, c.in-Some-make_turns.ensures.line, c.self.invariant.2)
+    (ap (λ (s : Shared). s.loggers) shared) c.in-Some.is c.item-item.ensures c.in-Some-make_turns.ensures.turns in (
+      still_worker c.self.invariant.0 c.in-Some-make_turns.ensures.places part,
+      c.in-Some-make_turns.ensures.line,
+      c.self.invariant.2,
+      subst (λ (q : Option Owed). IsLastOf (takes i.pass.known.own) q i.block.item) c.in-Some.is c.self.invariant.3,
+    )
 
 pub returns-in-None-clause-same : goal.returns-in-None-clause-same
 returns-in-None-clause-same g c = same_after c.self.view_is c.in-None.ensures.places

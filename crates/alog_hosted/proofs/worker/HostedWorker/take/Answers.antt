@@ -1,14 +1,15 @@
 use Rattle.std.proofs.Common.{◌≡◌, ◌≤◌, List, [], ◌∷◌, inl, inr, refl, sym, ap, subst, ◌∙◌, arith}
+use Rattle.alog_core.specs.Accounts.{takes}
 use Rattle.alog_hosted.specs.Lent.{HostedView}
 use Rattle.alog_hosted.specs.Owed.{half_of, owed_of}
 use Rattle.alog_hosted.specs.Workers.{IsWorker, WorkerView}
-use Rattle.alog_hosted.proofs.Handling.{ended_took, free_owes, moved_worker, refused_now, same_after, took_worker}
+use Rattle.alog_hosted.proofs.Handling.{ended_took, free_last, free_owes, moved_worker, refused_now, same_after, took_worker}
 use Rattle.alog_msg.specs.Block.{BlockFields}
 use Rattle.alog_pool.specs.Deeds.{Due}
 use Rattle.alog_pool.specs.declared.shared.Shared.{Shared}
 use Rattle.alog_pool.proofs.SharedDeeds.{have_none}
 use Rattle.alog_pool.proofs.SharedMoves.{popped_moved, refused_moved}
-use Rattle.alog_pool.proofs.SharedWorked.{account_of_nothing}
+use Rattle.alog_pool.proofs.SharedWorked.{account_of_nothing, moved_gots}
 use Rattle.alog_msg.specs.declared.item.Item.{Item}
 use Rattle.alog_pool.specs.Accounts.{Moved}
 use Rattle.alog_registry.specs.Limit.{HoldsTo}
@@ -33,6 +34,7 @@ invariant_of-self g c =
       took_worker {after = hand} {ts = c.count.new.tickets.items} {hs = c.count.new.handled} c.in-Ok.ticket w refl ring counted moved fits,
       c.self.invariant.1,
       subst (λ n. i.most ≤ n) (sym c.count.ensures.room) c.self.invariant.2,
+      (takes i.pass.known.own, moved_gots i.pass.known c.pop_swap_into.new.pass.known [] ((c.in-Ok.ticket, hand.item) ∷ []) moved),
     )
 
 pub invariant_of-self-in-Ok-flush_all : goal.invariant_of-self-in-Ok-flush_all
@@ -47,6 +49,7 @@ invariant_of-self-in-Ok-flush_all g c =
           (moved_worker c.self.invariant.0 ring (account_of_nothing c.self.invariant.0.work moved) moved c.flush_all.ensures.places c.flush_all.ensures.turns),
       c.flush_all.ensures.line,
       c.self.invariant.2,
+      free_last _ i.owed _ (ap (λ (v : WorkerView S). v.half) c.self.view_is ∙ c.requires.free),
     )
 
 pub returns-in-Ok-flush_all-clause-same : goal.returns-in-Ok-flush_all-clause-same
@@ -85,6 +88,7 @@ invariant_of-self-in-Err g c =
           (moved_worker c.self.invariant.0 ring (account_of_nothing c.self.invariant.0.work moved) moved c.flush_all.ensures.places c.flush_all.ensures.turns),
       c.flush_all.ensures.line,
       c.self.invariant.2,
+      free_last _ i.owed _ (ap (λ (v : WorkerView S). v.half) c.self.view_is ∙ c.requires.free),
     )
 
 pub returns-in-Err-clause-same : goal.returns-in-Err-clause-same
@@ -121,6 +125,7 @@ invariant_of-self-in-Err-Empty g c =
           (moved_worker c.self.invariant.0 ring (account_of_nothing c.self.invariant.0.work moved) moved refl (have_none 0 i.places.items)),
       c.self.invariant.1,
       c.self.invariant.2,
+      free_last _ i.owed _ (ap (λ (v : WorkerView S). v.half) c.self.view_is ∙ c.requires.free),
     )
 
 pub invariant_of-self-in-Err-Busy : goal.invariant_of-self-in-Err-Busy
@@ -135,6 +140,7 @@ invariant_of-self-in-Err-Busy g c =
           (moved_worker c.self.invariant.0 ring (account_of_nothing c.self.invariant.0.work moved) moved refl (have_none 0 i.places.items)),
       c.self.invariant.1,
       c.self.invariant.2,
+      free_last _ i.owed _ (ap (λ (v : WorkerView S). v.half) c.self.view_is ∙ c.requires.free),
     )
 
 pub returns-in-Ok-clause-took : goal.returns-in-Ok-clause-took
