@@ -1,11 +1,13 @@
 -- Lists that tell something of each place, as its lane.
 use Rattle.std.proofs.Common.{◌≡◌, ◌<◌, ℕ, zero, suc, List, [], ◌∷◌, ◌++◌, length, map, ap, refl, sym, subst, ◌∙◌, arith}
 use Rattle.std.proofs.lemmas.List.{length-map, map-append}
+use Rattle.std.specs.List.{AllByRecursion}
 use Rattle.std.specs.Prelude.{slice_index_or}
 use Rattle.alog_lane.specs.Calls.{LaneId}
 use Rattle.alog_pool.proofs.SharedSharing.{Sharing}
 use Rattle.alog_pool.specs.BacktraceSeat.{BacktraceSeatView}
-use Rattle.alog_pool.specs.Pool.{backtrace_seat_lanes}
+use Rattle.alog_pool.specs.Places.{Each3, IsBacktraceSeatPart}
+use Rattle.alog_pool.specs.Pool.{IsIdleSeat, backtrace_seat_lanes}
 use Rattle.alog_registry.specs.Backtrace.{Room}
 
 module _ {A L : Type 0} (f : A → L) where
@@ -41,3 +43,16 @@ pub rooms_at : (ks : List BacktraceSeatView)
     → map (λ (l : LaneId Room). l.first) (backtrace_seat_lanes ks) ≡ map (λ (k : BacktraceSeatView). k.lane.first) ks
 rooms_at [] = refl
 rooms_at (k ∷ ks) = λ i. k.lane.first ∷ rooms_at ks i
+
+-- places at backtraces that were given away kept nothing
+pub given_idle : (old new given : List BacktraceSeatView) → Each3 IsBacktraceSeatPart old new given → AllByRecursion IsIdleSeat given
+given_idle [] [] [] each = tt
+given_idle [] [] (d ∷ ds) each = absurd each
+given_idle [] (c ∷ cs) given each = absurd each
+given_idle (b ∷ bs) [] given each = absurd each
+given_idle (b ∷ bs) (c ∷ cs) [] each = absurd each
+given_idle (b ∷ bs) (c ∷ cs) (d ∷ ds) each =
+    let new_seat = each.0.split.new_seat in (
+      record { joined = ap (λ k. k.joined) new_seat; own = ap (λ k. k.own) new_seat },
+      given_idle bs cs ds each.1,
+    )

@@ -8,7 +8,7 @@ use Rattle.alog_lane.specs.Calls.{LaneId}
 use Rattle.alog_msg.specs.declared.item.Item.{Item}
 use Rattle.alog_policy.specs.BookCalls as book
 use Rattle.alog_pool.specs.BacktraceSeat.{BacktraceSeatView}
-use Rattle.alog_pool.specs.Pool.{HasLeft, IsNew, backtrace_seat_lanes, lanes_of, rooms_of}
+use Rattle.alog_pool.specs.Pool.{HasLeft, IsIdleSeat, IsNew, backtrace_seat_lanes, lanes_of, rooms_of}
 use Rattle.alog_pool.specs.Producer.{ProducerView}
 use Rattle.alog_pool.specs.SinkSeat.{SinkSeatView}
 use Rattle.alog_pool.specs.declared.pool.TheConstants.{WORKERS_MAX}
@@ -75,12 +75,13 @@ module _ {S : Type 0} where
     pub limit : new.limit ≡ old.limit
     pub most : new.most ≡ old.most
 
-  -- A producer was made: it is of this pool, has the next number, and put nothing in and lost nothing yet.
+  -- A producer was made: it is of this pool, has the next number, and put nothing in, lost nothing and kept nothing yet.
   pub record Makes (old new : HostView S) (p : ProducerView) : Type 0 where
     pub of : IsProducerOf old.hosted p
     pub number : p.number ≡ old.made
     pub limit : p.limit ≡ old.limit
     pub entries : (p.pass.known.own ≡ []) × (p.losses.known.own ≡ [])
+    pub idle : AllByRecursion IsIdleSeat p.backtrace_seats
     pub made : new.made ≡ old.made + 1
     pub hired : new.hired ≡ old.hired
     pub same : IsSameHost old new

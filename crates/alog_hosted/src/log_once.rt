@@ -1,5 +1,5 @@
 //! A log that never waits, and says where it would have to.
-ghost use Rattle.std.specs.Prelude.{◌≡◌, ◌≢◌, ◌⊎◌, ◌≤◌, ◌<◌, [], ◌∷◌, length, Some, IfOk, IfSome, OnErr, OnOk, IfErr, IsErrOf};
+ghost use Rattle.std.specs.Prelude.{◌≡◌, ◌≢◌, ◌⊎◌, ◌≤◌, ◌<◌, [], ◌∷◌, length, Some, IfOk, IfSome, OnErr, OnOk, IfErr, IsErrOf, IsOk};
 ghost use Rattle.alog_core.specs.Queue.{Claim, Write};
 ghost use Rattle.alog_hosted.specs.Once.{BringsAndKeepsOnce, BringsOnce, HasPushed, IsBlockedOrSpent, IsLoggedUnread, LogsOnce};
 ghost use Rattle.alog_msg.specs.declared.limits.TheConstants.{TEXT_LIMIT_MIN, TEXT_LIMIT_MAX};
@@ -12,6 +12,7 @@ ghost use Rattle.alog_registry.specs.Given.{message_of, IsReason, IsWithin};
 ghost use Rattle.alog_registry.specs.LaneKeeper.{HasList, IsSeated};
 ghost use Rattle.alog_registry.specs.Limit.{AdmitsShort, IsShort};
 ghost use Rattle.alog_registry.specs.Listed.{spec_at};
+ghost use Rattle.alog_registry.specs.Logging.{IsBelow};
 ghost use Rattle.alog_registry.specs.declared.logger.Spec.{Spec};
 
 use crate::once::Once;
@@ -77,6 +78,7 @@ fn bring_once(
     ensures reason { IfErr result (IsReason text_limit given.entry.text.now given.entry.source) }
     ensures err { OnErr result (port.new ≡ port.old) }
     ensures memory { ¬ IsErrOf result MessageError.OutOfMemory }
+    ensures unread { IsBelow given.entry.level own → IsOk result }
     ensures ready { IsReadyPort port.new }
 {
     if given.level.number() < own.number() {

@@ -1,4 +1,5 @@
 use Rattle.std.proofs.Common.{◌≡◌, ◌+◌, length, ap, refl, sym, subst, ◌∙◌, arith}
+use Rattle.alog_hosted.proofs.Lanes.{given_idle}
 use Rattle.alog_hosted.specs.Host.{HostView, Makes}
 use Rattle.alog_hosted.specs.Lent.{HostedView}
 use Rattle.alog_pool.specs.Places.{IsBacktraceSeatPart}
@@ -133,6 +134,7 @@ returns-clause-made g c =
       number = refl;
       limit = refl;
       entries = (fresh.own, ap (λ k. k.own) c.split-2.ensures.split.new_seat);
+      idle = given_idle old new given c.share_backtraces.ensures;
       made = refl;
       hired = refl;
       same = record { hosted = refl; workers = refl; limit = refl; most = refl };
