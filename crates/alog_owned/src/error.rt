@@ -1,0 +1,14 @@
+//! Why a log was refused.
+use alog_msg::MessageError;
+use thiserror::Error;
+
+/// Why nothing was logged. Nothing changed.
+#[derive(Clone, Copy, Debug, PartialEq, Eq, Drop, Error)]
+pub enum LogError {
+    /// There is no logger of this number.
+    #[error("there is no such logger")]
+    NoLogger,
+    /// The message was refused.
+    #[error("{0}")]
+    Refused(MessageError),
+}
