@@ -1,4 +1,4 @@
--- A hosted pool may be shared where its stores may go to other threads; its producers may go there, and so may its workers.
+-- A hosted pool may be shared where its stores may go to other threads; its producers may go there, and so may its workers and its host.
 use denote.RattleType.{RattleType}
 use denote.Builtin.{u64}
 use denote.Param.Send.{IsSend, IsSync, sendable, view_send, view_sync, struct_send, struct_sync, recorded_send, recorded_sync}
@@ -36,6 +36,10 @@ use Rattle.alog_sink.specs.contracts.turn.SinkTurn.TheImpl as Turn
 use Rattle.alog_sink.specs.declared.store.Store.{Ghosts}
 use Rattle.alog_hosted.specs.contracts.backtrace_place.BacktracePlace as BacktracePlace
 use Rattle.alog_hosted.specs.contracts.backtrace_place.BacktracePlace.TheInside as BacktracePlaceInside
+use Rattle.alog_hosted.specs.contracts.blank.Blank as Blank
+use Rattle.alog_hosted.specs.contracts.blank.Half as Half
+use Rattle.alog_hosted.specs.contracts.host.Host as Host
+use Rattle.alog_hosted.specs.contracts.host.Host.TheInside as HostInside
 use Rattle.alog_hosted.specs.contracts.hosted.Hosted as Hosted
 use Rattle.alog_hosted.specs.contracts.hosted.Hosted.TheInside as HostedInside
 use Rattle.alog_hosted.specs.contracts.owed.Owed as Owed
@@ -103,6 +107,10 @@ producer_send = view_send _ _ _ _ _ producer_inside_send
 option_owed_send : IsSend (Option.the_field Owed.the_row).row
 option_owed_send = search sendable depth 12
 
+half_send : IsSend Half.the_row
+half_send = recorded_send (Half.the_field).row _ _ (Half.the_type).to_one
+    (struct_send (shape Half.the_type) (block_send, (search sendable depth 12, tt)))
+
 abbrev Answer : RattleType
 Answer = Result.the_row Served.the_row SinkError.the_row
 
@@ -154,3 +162,37 @@ module _ (S : RattleType) (g : Ghosts S.Denot) where
 
   pub hosted_sync : IsSend S → IsSync (Hosted.the_row S g)
   hosted_sync s = view_sync _ _ _ _ _ (hosted_inside_sync s)
+
+  blank_field_send : IsSend S → IsSend (Blank.the_field S).row
+  blank_field_send s = struct_send (shape (Blank.the_type S)) (
+    Vec-send _ (Vec-send u64 (search sendable)),
+    (Vec-send Half.the_row half_send, (Vec-send u64 (search sendable), (Vec-send (Sink.the_row S) (sink_send S s), tt))),
+  )
+
+  host_inside_send : IsSend S → IsSend (HostInside.the_row S g)
+  host_inside_send s = recorded_send (HostInside.the_field S g).row _ _ (HostInside.the_type S g).to_one (struct_send
+      (shape (HostInside.the_type S g)) (
+        search (sendable, crosses) depth 9,
+        (
+          search (sendable, crosses) depth 9,
+          (
+            swap_pass_send Block.the_row Item.the_row block_send,
+            (
+              book_seat_send,
+              (
+                Vec-send (SinkPlace.the_row S g) (sink_place_send s),
+                (
+                  Vec-send BacktracePlace.the_row backtrace_place_send,
+                  (
+                    line_send,
+                    (search sendable, (search sendable, (search sendable, (search sendable, (search sendable, (blank_field_send s, tt)))))),
+                  ),
+                ),
+              ),
+            ),
+          ),
+        ),
+      ))
+
+  pub host_send : IsSend S → IsSend (Host.the_row S g)
+  host_send s = view_send _ _ _ _ _ (host_inside_send s)

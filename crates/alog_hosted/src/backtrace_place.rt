@@ -2,14 +2,19 @@
 ghost use Rattle.std.specs.Prelude.{◌≡◌, ◌≢◌, ◌⊎◌, ◌≤◌, ◌<◌, length, Some, IfOk, OnErr, IfErr, IsErrOf};
 ghost use Rattle.alog_hosted.specs.Once.{IsBlockedOrSpent, IsLoggedUnread, LogsOnce};
 ghost use Rattle.alog_lane.specs.Seats.{first_known};
+ghost use Rattle.alog_lane.specs.declared.seat.TheConstants.{ALL_PARTS};
 ghost use Rattle.alog_msg.specs.declared.limits.TheConstants.{TEXT_LIMIT_MIN, TEXT_LIMIT_MAX};
+ghost use Rattle.alog_policy.specs.Progress.{without_waiting};
+ghost use Rattle.alog_policy.specs.SwapPort.{SwapDid};
 ghost use Rattle.alog_policy.specs.declared.policy.Policy.TheVariants as under;
 ghost use Rattle.alog_pool.specs.BacktraceSeat.{Keeps, empty_scratch};
 ghost use Rattle.alog_pool.specs.Lending.{LendsAlike};
 ghost use Rattle.alog_pool.specs.Places.{IsBacktraceSeatPart};
-ghost use Rattle.alog_registry.specs.Backtrace.{room_for};
+ghost use Rattle.alog_registry.specs.Backtrace.{Room, room_for};
 ghost use Rattle.alog_registry.specs.BlockPort.{IsReadyPort};
+ghost use Rattle.alog_registry.specs.Dumping.{PostsEach, posted_of};
 ghost use Rattle.alog_registry.specs.Given.{message_of, IsReason, IsWithin};
+ghost use Rattle.alog_registry.specs.LaneKeeper.{DumpsByTurn};
 ghost use Rattle.alog_registry.specs.Listed.{spec_at};
 ghost use Rattle.alog_registry.specs.declared.logger.Spec.{Spec};
 
@@ -17,8 +22,9 @@ use crate::log_once::log_once;
 use crate::once::Once;
 use alog_lane::{Lane, LaneSeat};
 use alog_msg::MessageError;
+use alog_policy::Outcome;
 use alog_registry::{
-    Backtrace, BacktraceScratch, BlockPort, Dumped, LaneKeeper, Loggers, MessageRef,
+    Backtrace, BacktraceScratch, BlockPort, DumpError, Dumped, LaneKeeper, Loggers, MessageRef,
 };
 use std::alloc::{AllocError, Global};
 use std::marker::Model;
@@ -138,6 +144,36 @@ impl BacktracePlace {
             scratch: &mut self.scratch,
         };
         log_once(alloc, loggers, port, &mut keeper, self.text_limit, given)
+    }
+
+    /// Posts what was kept, as `Loggers::dump_shared_once` does, with this place as its keeper.
+    pub(crate) fn dump_once(
+        &mut self,
+        lane: &Lane<Backtrace>,
+        alloc: Global,
+        loggers: &Loggers,
+        port: &mut BlockPort<'_>,
+        number: u32,
+        time: i64,
+        thread: u64,
+    ) -> Result<Vec<Outcome<()>>, DumpError>
+        requires lane { lane.now ≡ self.old.lane }
+        requires known { number < length loggers.now }
+        requires fit { IsReadyPort port.old × (port.old.ring.now.ring.limit.most ≡ self.old.lane.first.limit) }
+        ensures dumped { (s : Spec) → spec_at loggers.now number ≡ Some s
+            → IfOk result (λ v. Keeps self.old self.new (λ k l. (d : Room) × DumpsByTurn k d l
+            × PostsEach SwapDid (without_waiting s.policy) (posted_of number time thread d.messages) port.old v.items port.new)) }
+        ensures held { IsErrOf result DumpError.Held → self.old.seat.known.parts ≢ ALL_PARTS }
+        ensures err { OnErr result ((self.new ≡ self.old) × (port.new ≡ port.old)) }
+        ensures lane { self.new.lane ≡ self.old.lane }
+        ensures port { IsReadyPort port.new × LendsAlike port.old port.new }
+    {
+        let mut keeper = LaneKeeper {
+            lane,
+            seat: &mut self.seat,
+            scratch: &mut self.scratch,
+        };
+        loggers.dump_shared_once(alloc, port, &mut keeper, number, time, thread)
     }
 }
 

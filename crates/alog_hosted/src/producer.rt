@@ -1,15 +1,21 @@
 //! Producers that are lent their pool.
-ghost use Rattle.std.specs.Prelude.{◌≡◌, ◌≢◌, ◌⊎◌, ◌<◌, length, Some, OnErr, IfOk, IfErr, IsErrOf};
+ghost use Rattle.std.specs.Prelude.{◌≡◌, ◌≢◌, ◌⊎◌, ◌<◌, length, Some, OnErr, IfOk, IfErr, IsErrOf, slice_get};
 ghost use Rattle.alog_hosted.specs.Lent.{IsProducerOf};
 ghost use Rattle.alog_hosted.specs.Once.{IsBlockedOrSpent, IsLoggedUnread, LogsOnce};
+ghost use Rattle.alog_lane.specs.declared.seat.TheConstants.{ALL_PARTS};
 ghost use Rattle.alog_msg.specs.declared.item.Item.TheVariants.{Flush};
+ghost use Rattle.alog_policy.specs.Progress.{without_waiting};
 ghost use Rattle.alog_policy.specs.SwapPort.{SwapDid};
 ghost use Rattle.alog_policy.specs.declared.policy.Policy.TheVariants as under;
+ghost use Rattle.alog_pool.specs.BacktraceSeat.{BacktraceSeatView};
 ghost use Rattle.alog_pool.specs.Pool.{backtrace_seat_lanes};
 ghost use Rattle.alog_pool.specs.Producer.{IsPortOf, IsSame, Lent};
+ghost use Rattle.alog_registry.specs.Backtrace.{Room};
 ghost use Rattle.alog_registry.specs.BlockPort.{BlockPort};
+ghost use Rattle.alog_registry.specs.Dumping.{PostsEach, posted_of};
 ghost use Rattle.alog_registry.specs.Given.{message_with, IsReason, IsWithin};
 ghost use Rattle.alog_registry.specs.ItemOutlet.{PostsItemNow};
+ghost use Rattle.alog_registry.specs.LaneKeeper.{DumpsByTurn};
 ghost use Rattle.alog_registry.specs.Listed.{spec_at};
 ghost use Rattle.alog_registry.specs.declared.logger.Spec.{Spec};
 
@@ -19,7 +25,7 @@ use crate::once::Once;
 use alog_msg::{Block, Level, MessageError, SourceRef};
 use alog_policy::{BookSeat, Outcome, Pace};
 use alog_pool::{QueuePass, Shared};
-use alog_registry::{BlockPort, MessageRef};
+use alog_registry::{BlockPort, DumpError, MessageRef};
 use alog_sink::Store;
 use std::alloc::Global;
 use std::fmt;
@@ -97,8 +103,8 @@ impl HostedProducer {
 
     /// Logs a message to the logger of this number, as `Loggers::log_now` does, and never waits; but a logger whose policy is to block makes one
     /// round of a push, and where there is no room, or another push was faster, the answer is that it would block: nothing was done then, and
-    /// nothing is counted. The copy for the backtrace of a logger that has one takes memory, and nothing else does; there is no call yet that
-    /// dumps a backtrace.
+    /// nothing is counted. The copy for the backtrace of a logger that has one takes memory, and nothing else does; `dump_once` posts what was
+    /// kept.
     pub fn log_once<S: Store>(
         &mut self,
         hosted: &Hosted<S>,
@@ -149,5 +155,39 @@ impl HostedProducer {
     {
         let mut port = port_of!(self, hosted);
         hosted.shared.loggers.flush(&mut port, number)
+    }
+    /// Posts what the backtrace of the logger of this number kept, as `Loggers::dump_shared_once` does, and never waits: it tries the lock of the
+    /// backtrace once, and where another thread has it, nothing is done, and the answer says so. Memory is taken for the markers and the outcomes
+    /// alone. The tests `dumps_between_markers` and `dumps_nothing` show it.
+    pub fn dump_once<S: Store>(
+        &mut self,
+        hosted: &Hosted<S>,
+        alloc: Global,
+        number: u32,
+        time: i64,
+    ) -> Result<Vec<Outcome<()>>, DumpError>
+        requires of { IsProducerOf hosted.now self.old }
+        requires known { number < length hosted.now.shared.loggers }
+        ensures dumped { (s : Spec) → spec_at hosted.now.shared.loggers number ≡ Some s
+            → IfOk result (λ v. Lent self.old self.new number (λ p k q l. (d : Room) × DumpsByTurn k d l
+            × PostsEach SwapDid (without_waiting s.policy) (posted_of number time self.old.number d.messages) p v.items q)) }
+        ensures held { (k : BacktraceSeatView) → slice_get self.old.backtrace_seats number ≡ Some k
+            → IsErrOf result DumpError.Held → k.seat.known.parts ≢ ALL_PARTS }
+        ensures err { OnErr result (self.new ≡ self.old) }
+        ensures same { IsSame self.old self.new × (backtrace_seat_lanes self.new.backtrace_seats ≡ backtrace_seat_lanes self.old.backtrace_seats) }
+    {
+        let mut port = port_of!(self, hosted);
+        let thread = self.number;
+        let at = number as usize;
+        let loggers = &hosted.shared.loggers;
+        self.backtraces[at].dump_once(
+            &hosted.backtraces[at],
+            alloc,
+            loggers,
+            &mut port,
+            number,
+            time,
+            thread,
+        )
     }
 }

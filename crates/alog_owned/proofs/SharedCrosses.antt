@@ -1,4 +1,4 @@
--- Producers, workers and what they share may go to other threads where the stores may.
+-- Pools, producers, workers and what they share may go to other threads where the stores may.
 use denote.RattleType.{RattleType}
 use denote.Param.Send.{IsSend, IsSync, sendable, view_send, struct_send, struct_sync, recorded_send, recorded_sync, enum_send}
 use denote.Struct.Declared.{shape}
@@ -18,7 +18,9 @@ use Rattle.std.specs.contracts.alloc.Global as Global
 use Rattle.std.specs.contracts.mem.ManuallyDrop as ManuallyDrop
 use Rattle.std.specs.contracts.result.Result as Result
 use Rattle.alog_format.specs.contracts.line_buf.LineBuf as LineBuf
-use Rattle.alog_hosted.proofs.SharedCrosses.{hosted_sync, producer_send, worker_send}
+use Rattle.alog_hosted.proofs.SharedCrosses.{host_send, hosted_sync, producer_send, worker_send}
+use Rattle.alog_hosted.specs.contracts.producer.HostedProducer as HostedProducer
+use Rattle.alog_hosted.specs.contracts.worker.HostedWorker as HostedWorker
 use Rattle.alog_hosted.specs.contracts.hosted.Hosted as Hosted
 use Rattle.alog_hosted.specs.contracts.hosted.Hosted.TheInside as HostedInside
 use Rattle.alog_lane.proofs.SharedCrosses.{lane_send}
@@ -51,6 +53,8 @@ use Rattle.alog_owned.specs.contracts.back.Back as Back
 use Rattle.alog_owned.specs.contracts.back.Back.TheInside as BackInside
 use Rattle.alog_owned.specs.contracts.back.Piece as Piece
 use Rattle.alog_owned.specs.contracts.common.Common as Common
+use Rattle.alog_owned.specs.contracts.pool.OwnedPool as OwnedPool
+use Rattle.alog_owned.specs.contracts.pool.OwnedPool.TheInside as PoolInside
 use Rattle.alog_owned.specs.contracts.producer.OwnedProducer as OwnedProducer
 use Rattle.alog_owned.specs.contracts.producer.OwnedProducer.TheInside as ProducerInside
 use Rattle.alog_owned.specs.contracts.worker.OwnedWorker as OwnedWorker
@@ -171,3 +175,25 @@ module _ (S : RattleType) (g : Ghosts S.Denot) where
 
   pub owned_worker_send : IsSend S → IsSend (OwnedWorker.the_row S g)
   owned_worker_send s = view_send _ _ _ _ _ (owned_worker_inside_send s)
+
+  owned_pool_inside_send : IsSend S → IsSend (PoolInside.the_row S g)
+  owned_pool_inside_send s = recorded_send (PoolInside.the_field S g).row _ _ (PoolInside.the_type S g).to_one (struct_send
+      (shape (PoolInside.the_type S g)) (
+        Arc-send (Common.the_row S g) (common_send s) (common_sync s),
+        (
+          table_seat_send Place Hand (place_send s),
+          (
+            host_send S g s,
+            (
+              Vec-send HostedProducer.the_row producer_send,
+              (
+                Vec-send (HostedWorker.the_row S g) (worker_send S g s),
+                (search sendable, (search sendable, (search sendable, (search sendable, tt)))),
+              ),
+            ),
+          ),
+        ),
+      ))
+
+  pub owned_pool_send : IsSend S → IsSend (OwnedPool.the_row S g)
+  owned_pool_send s = view_send _ _ _ _ _ (owned_pool_inside_send s)

@@ -17,7 +17,7 @@ mod pool;
 mod producer;
 mod worker;
 
-pub use error::LogError;
+pub use error::{LogError, OwnedDumpError};
 pub use pool::OwnedPool;
 pub use producer::OwnedProducer;
 pub use worker::OwnedWorker;

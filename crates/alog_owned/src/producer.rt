@@ -1,26 +1,34 @@
 //! A producer that owns its share of the pool.
-ghost use Rattle.std.specs.Prelude.{◌≡◌, ◌≢◌, ◌⊎◌, ◌↔◌, ◌≤◌, length, Some, IfOk, IfErr, IfSome, IsErrOf, IsNone, OnErr};
+ghost use Rattle.std.specs.Prelude.{◌≡◌, ◌≢◌, ◌⊎◌, ◌↔◌, ◌≤◌, length, Some, IfOk, IfErr, IfSome, IsErrOf, IsNone, OnErr, slice_get};
 ghost use Rattle.std.specs.Arc.{arc_value};
 ghost use Rattle.alog_hosted.specs.Lent.{IsProducerOf};
 ghost use Rattle.alog_hosted.specs.Once.{IsBlockedOrSpent, IsLoggedUnread, LogsOnce};
+ghost use Rattle.alog_lane.specs.declared.seat.TheConstants.{ALL_PARTS};
 ghost use Rattle.alog_msg.specs.declared.item.Item.TheVariants.{Flush};
 ghost use Rattle.alog_msg.specs.declared.message.MessageError.TheVariants as message;
 ghost use Rattle.alog_owned.specs.Desk.{IsPassAt};
 ghost use Rattle.alog_owned.specs.Owned.{IsRefusedFor};
 ghost use Rattle.alog_owned.specs.declared.error.LogError.TheVariants as owned;
+ghost use Rattle.alog_owned.specs.declared.error.OwnedDumpError.TheVariants as undumped;
+ghost use Rattle.alog_policy.specs.Progress.{without_waiting};
 ghost use Rattle.alog_policy.specs.SwapPort.{SwapDid};
 ghost use Rattle.alog_policy.specs.declared.policy.Policy.TheVariants as under;
+ghost use Rattle.alog_pool.specs.BacktraceSeat.{BacktraceSeatView};
 ghost use Rattle.alog_pool.specs.Producer.{IsPortOf, IsSame, Lent};
+ghost use Rattle.alog_registry.specs.Backtrace.{Room};
 ghost use Rattle.alog_registry.specs.BlockPort.{BlockPort};
+ghost use Rattle.alog_registry.specs.Dumping.{PostsEach, posted_of};
 ghost use Rattle.alog_registry.specs.Given.{message_with, IsWithin};
 ghost use Rattle.alog_registry.specs.ItemOutlet.{PostsItemNow};
+ghost use Rattle.alog_registry.specs.LaneKeeper.{DumpsByTurn};
 ghost use Rattle.alog_registry.specs.Listed.{spec_at};
+ghost use Rattle.alog_registry.specs.declared.error.DumpError.TheVariants as dump;
 ghost use Rattle.alog_registry.specs.declared.logger.Spec.{Spec};
 
 use crate::back::{Back, Piece};
 use crate::common::Common;
 use crate::desk::{DeskPass, lay};
-use crate::error::LogError;
+use crate::error::{LogError, OwnedDumpError};
 use alog_hosted::{Hosted, HostedProducer, Once};
 use alog_msg::{Level, SourceRef};
 use alog_policy::Outcome;
@@ -140,6 +148,32 @@ impl<S: Store> OwnedProducer<S> {
             return None;
         }
         Some(self.producer.flush(hosted, number))
+    }
+
+    /// Posts what the backtrace of the logger of this number kept, as `HostedProducer::dump_once` does, where there is such a logger.
+    pub fn dump_once(
+        &mut self,
+        alloc: Global,
+        number: u32,
+        time: i64,
+    ) -> Result<Vec<Outcome<()>>, OwnedDumpError>
+        ensures dumped { (s : Spec) → spec_at self.old.hosted.shared.loggers number ≡ Some s
+            → IfOk result (λ v. Lent self.old.producer self.new.producer number (λ p k q l. (d : Room) × DumpsByTurn k d l
+            × PostsEach SwapDid (without_waiting s.policy) (posted_of number time self.old.producer.number d.messages) p v.items q)) }
+        ensures unknown { IsErrOf result OwnedDumpError.NoLogger ↔ (length self.old.hosted.shared.loggers ≤ number) }
+        ensures held { (k : BacktraceSeatView) → slice_get self.old.producer.backtrace_seats number ≡ Some k
+            → IfErr result (λ e. e ≡ undumped.Refused dump.Held → k.seat.known.parts ≢ ALL_PARTS) }
+        ensures err { OnErr result (self.new ≡ self.old) }
+        ensures same { (self.new.hosted ≡ self.old.hosted) × IsSame self.old.producer self.new.producer }
+    {
+        let hosted: &Hosted<S> = &self.common.hosted;
+        if number as usize >= hosted.loggers().len() {
+            return Err(OwnedDumpError::NoLogger);
+        }
+        match self.producer.dump_once(hosted, alloc, number, time) {
+            Ok(outcomes) => return Ok(outcomes),
+            Err(error) => Err(OwnedDumpError::Refused(error)),
+        }
     }
 
     /// Gives it back to its pool. Where another thread gives something back at this moment, it is handed back: try again.

@@ -1,5 +1,6 @@
-//! Why a logger was not added.
+//! Why a logger was not added, and why a backtrace was not dumped.
 use crate::logger::Spec;
+use std::alloc::AllocError;
 use thiserror::Error;
 
 /// Why a logger was not added; the reasons are looked at in this order. The test `refusals_in_order` shows it.
@@ -29,4 +30,26 @@ pub struct RefusedSpec {
     pub fault: AddError,
     /// What it was to be.
     pub spec: Spec,
+}
+
+/// Why a shared backtrace was not dumped without waiting. The test `a_dump_that_is_held` shows the second.
+#[derive(Clone, Copy, Debug, PartialEq, Eq, Drop, Error)]
+pub enum DumpError {
+    /// There was no memory for what the dump needs.
+    #[error("out of memory")]
+    OutOfMemory,
+    /// Another thread is at the backtrace.
+    #[error("another thread is at the backtrace")]
+    Held,
+}
+
+impl From<AllocError> for DumpError {
+    ghost use Rattle.std.specs.Prelude.{◌≡◌};
+    ghost use Rattle.alog_registry.specs.declared.error.DumpError.TheVariants.{OutOfMemory};
+
+    ghost from_gives = { λ _ e. e ≡ OutOfMemory };
+
+    fn from(_error: AllocError) -> DumpError {
+        DumpError::OutOfMemory
+    }
 }

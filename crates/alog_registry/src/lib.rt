@@ -11,12 +11,13 @@
 //! `specs/Work.antt`. Then what is done with a message: `given.rt` with `specs/Given.antt`, `item_outlet.rt` with
 //! `specs/ItemOutlet.antt` (how a post's value is made), `block_port.rt` (the same of blocks, without memory), `keep.rt` with
 //! `specs/Keep.antt` and `LaneKeeper.antt` (who keeps messages), `logging.rt` with `specs/Logging.antt`, `dumping.rt` with
-//! `specs/Dumping.antt`, and `waiting.rt`, which does both with waiting. Below them are `lookup.rt` (a number by a name) and
-//! `level_word.rt`.
+//! `specs/Dumping.antt`, `waiting.rt`, which does both with waiting, and `dump_once.rt`, which dumps by one try at the lock.
+//! Below them are `lookup.rt` (a number by a name) and `level_word.rt`.
 #![tactic(auto)]
 
 mod backtrace;
 mod block_port;
+mod dump_once;
 mod dumped;
 mod dumping;
 mod error;
@@ -37,7 +38,7 @@ mod work;
 pub use backtrace::{Backtrace, BacktraceError};
 pub use block_port::{BlockPort, Contents, InHand};
 pub use dumped::Dumped;
-pub use error::{AddError, RefusedSpec};
+pub use error::{AddError, DumpError, RefusedSpec};
 pub use given::MessageRef;
 pub use item_outlet::{ItemOutlet, WaitingItemOutlet};
 pub use keep::{Keep, LaneKeeper};

@@ -1,6 +1,6 @@
 //! Want of memory, for runs in which one allocation fails, as `rt try --test --fail-alloc` makes it. Whichever that is, the call that meets it
 //! answers that memory is wanting and leaves all as it was, and the next one of its kind is as ever: the numbers of producers and workers go on, and
-//! the pool does and reports the same. Workers and the end of a pool take no memory, nor does a log that keeps nothing.
+//! the pool does and reports the same; what was kept is dumped whole. Workers and the end of a pool take no memory, nor does a log that keeps nothing.
 ghost use Rattle.std.specs.Prelude.{◌≡◌, IfOk};
 ghost use Rattle.std.specs.List.{AllByRecursion};
 ghost use Rattle.alog_pattern.specs.declared.patterns.TheConstants.{LINE_MAX};
@@ -24,7 +24,8 @@ const TEXT: &str = "a request of more than sixty-four bytes, which do not lie in
 
 /// The lines of each store.
 const LINES: &[u8] =
-    b"a request of more than sixty-four bytes, which do not lie in a message\nb\nc\n";
+    b"a request of more than sixty-four bytes, which do not lie in a message\nb\nc\n\
+=== backtrace start ===\nb\nc\n=== backtrace end ===\n";
 
 /// Three workers and a backtrace of two messages.
 const PLAN: Plan = Plan {
@@ -66,7 +67,7 @@ fn pool_again(rt: &impl Abort, alloc: Global) -> Trial<Reserved> {
 }
 
 /// What is done.
-static DEEDS: [Deed<'static>; 8] = [
+static DEEDS: [Deed<'static>; 9] = [
     Deed::HiresNone,
     Deed::Logs(0, 0, Level::Debug, TEXT, Told::Below(Level::Info, true)),
     Deed::Logs(1, 0, Level::Info, TEXT, Told::Kept(0)),
@@ -75,11 +76,21 @@ static DEEDS: [Deed<'static>; 8] = [
     Deed::Flushes(1, Told::Posted(2)),
     Deed::Works(0, 9, 2, Pause::Idle),
     Deed::Says(1, "c", Told::Kept(3)),
+    Deed::Dumps(
+        0,
+        0,
+        &[
+            Told::Posted(4),
+            Told::Posted(5),
+            Told::Posted(6),
+            Told::Posted(7),
+        ],
+    ),
 ];
 
 /// What such a pool reports.
 fn is_reported(rt: &impl Abort, report: &Report<Reserved>) {
-    has_totals(rt, report, (4, 0, 0));
+    has_totals(rt, report, (8, 0, 0));
     has_tickets(rt, report, &[&[1, 2], &[], &[0]]);
     has_faults(rt, report, &[0, 0]);
     has_lines(rt, report, 0, LINES, 2);

@@ -40,6 +40,8 @@ pub enum Deed<'a> {
     Says(usize, &'a str, Told),
     /// It posts a flush of the first logger, and is told so.
     Flushes(usize, Told),
+    /// It dumps the backtrace of this logger, and of each post is told so.
+    Dumps(usize, u32, &'a [Told]),
     /// The level of this logger is set.
     Sets(u32, Level),
     /// The worker of this number ends items, at most so many, and says how many it ended and why it stopped.
@@ -150,6 +152,34 @@ fn flushes<S: Store + Drop>(rt: &impl Abort, trial: &mut Trial<S>, producer: usi
     assert!(rt; answer == answer_of(told), "{answer:?}");
 }
 
+/// A post of a dump is told so.
+fn is_told(outcome: &Outcome<()>, told: Told) -> bool {
+    match told {
+        Told::Posted(ticket) => *outcome == posted(ticket),
+        Told::Overran(ticket) => *outcome == Outcome::Posted { ticket, overran: 1 },
+        Told::Full => *outcome == discarded(Why::Full),
+        _ => false,
+    }
+}
+
+/// It dumps the backtrace of this logger, and of each post is told so.
+fn dumps<S: Store + Drop>(
+    rt: &impl Abort,
+    alloc: Global,
+    trial: &mut Trial<S>,
+    producer: usize,
+    logger: u32,
+    told: &[Told],
+) {
+    let Ok(outcomes) = trial.dump(rt, alloc, producer, logger) else {
+        panic!(rt; "nobody else is at the backtrace")
+    };
+    assert!(rt; outcomes.len() == told.len(), "{outcomes:?}");
+    for (outcome, told) in outcomes.iter().zip(told) {
+        assert!(rt; is_told(outcome, *told), "{outcome:?}");
+    }
+}
+
 /// The worker of this number ends items, at most so many, and says this.
 fn works<S: Store + Drop>(
     rt: &impl Abort,
@@ -172,6 +202,7 @@ fn does<S: Store + Drop>(rt: &impl Abort, alloc: Global, trial: &mut Trial<S>, d
             logs(rt, alloc, trial, producer, 0, Level::Info, text, told)
         }
         Deed::Flushes(producer, told) => flushes(rt, trial, producer, told),
+        Deed::Dumps(producer, logger, told) => dumps(rt, alloc, trial, producer, logger, told),
         Deed::Sets(logger, level) => trial.set_level(rt, logger, level),
         Deed::Works(worker, most, items, pause) => {
             works(rt, trial, worker, most, Work { items, pause })

@@ -13,7 +13,7 @@ use alog_hosted::{Host, Hosted, HostedProducer, HostedWorker, Once, PartsOut, Wo
 use alog_msg::{Level, MessageError};
 use alog_policy::{Outcome, Policy};
 use alog_pool::{ProducerError, Report, Setup};
-use alog_registry::{Loggers, Registry, Spec};
+use alog_registry::{DumpError, Loggers, Registry, Spec};
 use alog_sink::{FuseStore, MemStore, Sink, Store};
 use std::alloc::{AllocError, Global};
 use std::marker::Model;
@@ -281,6 +281,24 @@ fn flush_first<S: Store>(
     producer.flush(hosted, 0)
 }
 
+/// A producer dumps, at time 5, the backtrace of this logger of its pool. Where memory was wanting, it dumps it again.
+fn dump_again<S: Store>(
+    rt: &impl Abort,
+    alloc: Global,
+    producer: &mut HostedProducer,
+    hosted: &Hosted<S>,
+    logger: u32,
+) -> Result<Vec<Outcome<()>>, DumpError>
+    requires { IsProducerOf hosted.now producer.old }
+    ensures { IsProducerOf hosted.now producer.new }
+{
+    assert!(rt; (logger as usize) < hosted.loggers().len());
+    match producer.dump_once(hosted, alloc, logger, 5) {
+        Err(DumpError::OutOfMemory) => producer.dump_once(hosted, alloc, logger, 5),
+        answer => answer,
+    }
+}
+
 /// A worker of this pool ends items, at most so many.
 pub fn work_some<S: Store>(worker: &mut HostedWorker<S>, hosted: &Hosted<S>, most: usize) -> Work
     requires { IsWorkerOf hosted.now worker.old }
@@ -372,6 +390,19 @@ impl<S: Store + Drop> Trial<S> {
     pub fn flush(&mut self, rt: &impl Abort, number: usize) -> Outcome<()> {
         assert!(rt; number < self.producers.len());
         flush_first(rt, &mut self.producers[number], &self.hosted)
+    }
+
+    /// It dumps the backtrace of this logger. Where memory was wanting, it dumps it again.
+    pub fn dump(
+        &mut self,
+        rt: &impl Abort,
+        alloc: Global,
+        number: usize,
+        logger: u32,
+    ) -> Result<Vec<Outcome<()>>, DumpError> {
+        assert!(rt; number < self.producers.len());
+        let producer = &mut self.producers[number];
+        dump_again(rt, alloc, producer, &self.hosted, logger)
     }
 
     /// The worker of this number ends items, at most so many.

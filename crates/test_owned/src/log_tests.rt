@@ -41,6 +41,8 @@ static UNKNOWN: Row<'static> = Row {
         Deed::Logs(0, u32::MAX, Level::Error, "c", Told::NoLogger),
         Deed::Flushes(0, 1, Told::NoLogger),
         Deed::Flushes(0, u32::MAX, Told::NoLogger),
+        Deed::DumpsNone(0, 1),
+        Deed::DumpsNone(0, u32::MAX),
         Deed::Says(0, "d", Told::Posted(1)),
         Deed::GivesProducer(0),
     ],
@@ -49,7 +51,7 @@ static UNKNOWN: Row<'static> = Row {
     file: b"a\nd\n",
 };
 
-/// Where there is no such logger, neither a log nor a flush does anything, or is counted.
+/// Where there is no such logger, neither a log nor a flush nor a dump does anything, or is counted.
 #[test]
 fn an_unknown_logger_is_refused(rt: HostRuntime) {
     holds(&rt, rt.alloc(), &UNKNOWN);
@@ -108,4 +110,39 @@ static FULL: Row<'static> = Row {
 #[test]
 fn a_log_that_would_block_goes_after_work(rt: HostRuntime) {
     holds(&rt, rt.alloc(), &FULL);
+}
+
+static KEPT: Row<'static> = Row {
+    plan: Plan {
+        producers: 2,
+        backtrace: 2,
+        ..ONE
+    },
+    deeds: &[
+        Deed::MakesProducer(0),
+        Deed::MakesProducer(1),
+        Deed::MakesWorker(0),
+        Deed::Dumps(0, 0, &[]),
+        Deed::Says(0, "a", Told::Kept(0)),
+        Deed::Logs(1, 0, Level::Debug, "b", Told::KeptBelow(Level::Info)),
+        Deed::Logs(0, 0, Level::Debug, "c", Told::KeptBelow(Level::Info)),
+        Deed::Dumps(1, 0, &[1, 2, 3, 4]),
+        Deed::Works(0, 9, 5, Pause::Idle),
+        Deed::GivesWorker(0),
+        Deed::Logs(1, 0, Level::Debug, "d", Told::KeptBelow(Level::Info)),
+        Deed::GivesProducer(1),
+        Deed::Dumps(0, 0, &[5, 6, 7]),
+        Deed::Dumps(0, 0, &[]),
+        Deed::GivesProducer(0),
+    ],
+    posted: 8,
+    tickets: &[&[0, 1, 2, 3, 4]],
+    file: b"a\n=== backtrace start ===\nb\nc\n=== backtrace end ===\n\
+=== backtrace start ===\nd\n=== backtrace end ===\n",
+};
+
+/// A dump writes what all producers kept since the last one, also one that was given back, between two markers, and nothing where nothing was.
+#[test]
+fn what_is_kept_is_dumped(rt: HostRuntime) {
+    holds(&rt, rt.alloc(), &KEPT);
 }

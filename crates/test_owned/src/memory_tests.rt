@@ -13,6 +13,7 @@ static WANT: Row<'static> = Row {
     plan: Plan {
         producers: 2,
         workers: 2,
+        backtrace: 2,
         ..ONE
     },
     deeds: &[
@@ -22,19 +23,20 @@ static WANT: Row<'static> = Row {
         Deed::NoWorker,
         Deed::MakesProducer(1),
         Deed::NoProducer,
-        Deed::Says(0, "a", Told::Posted(0)),
-        Deed::Says(1, "b", Told::Posted(1)),
+        Deed::Says(0, "a", Told::Kept(0)),
+        Deed::Says(1, "b", Told::Kept(1)),
         Deed::Works(1, 1, 1, Pause::Done),
         Deed::GivesWorker(1),
         Deed::GivesProducer(0),
         Deed::Stays,
-        Deed::Says(0, "c", Told::Posted(2)),
+        Deed::Says(0, "c", Told::Kept(2)),
+        Deed::Dumps(0, 0, &[3, 4, 5, 6]),
         Deed::GivesProducer(0),
         Deed::GivesWorker(0),
     ],
-    posted: 3,
+    posted: 7,
     tickets: &[&[0], &[]],
-    file: b"a\nb\nc\n",
+    file: b"a\nb\nc\n=== backtrace start ===\nb\nc\n=== backtrace end ===\n",
 };
 
 /// All lines are there, or from some line on each turn was answered by a fault.

@@ -3,7 +3,7 @@ use crate::sinks::file_of;
 use crate::trial::{Plan, Trial};
 use alog_hosted::{Once, Pause, Work};
 use alog_msg::{Level, MessageError};
-use alog_owned::LogError;
+use alog_owned::{LogError, OwnedDumpError};
 use alog_policy::Outcome;
 use alog_pool::{Report, Totals};
 use alog_registry::LogReply;
@@ -16,10 +16,14 @@ use std::process::Abort;
 pub enum Told {
     /// It was posted under this ticket.
     Posted(u64),
+    /// It was posted under this ticket, and kept.
+    Kept(u64),
     /// It would block.
     Blocks,
     /// It was below this level of the logger.
     Below(Level),
+    /// It was below this level of the logger, and kept.
+    KeptBelow(Level),
     /// There is no such logger.
     NoLogger,
     /// It is too long.
@@ -43,6 +47,10 @@ pub enum Deed<'a> {
     Says(usize, &'a str, Told),
     /// It posts a flush of this logger, and is told so.
     Flushes(usize, u32, Told),
+    /// It dumps the backtrace of this logger: each post has one of these tickets.
+    Dumps(usize, u32, &'a [u64]),
+    /// There is no such logger whose backtrace it could dump.
+    DumpsNone(usize, u32),
     /// The level of the first logger is set.
     Sets(Level),
     /// A worker ends items, at most so many, and says how many it ended and why it stopped.
@@ -67,11 +75,12 @@ pub struct Row<'a> {
     pub file: &'a [u8],
 }
 
-/// A queue of eight places, one producer and one worker.
+/// A queue of eight places, one producer and one worker, and no backtrace.
 pub const ONE: Plan = Plan {
     queue: 8,
     producers: 1,
     workers: 1,
+    backtrace: 0,
 };
 
 /// Posted under this ticket.
@@ -79,15 +88,25 @@ fn posted(ticket: u64) -> Outcome<()> {
     Outcome::Posted { ticket, overran: 0 }
 }
 
+/// Posted under this ticket, and kept or not.
+fn logged(ticket: u64, kept: bool) -> Result<Once, LogError> {
+    let outcome = posted(ticket);
+    Ok(Once::Logged(LogReply::Logged { outcome, kept }))
+}
+
+/// Below this level, and kept or not.
+fn filtered(level: Level, kept: bool) -> Result<Once, LogError> {
+    Ok(Once::Logged(LogReply::Filtered { level, kept }))
+}
+
 /// The answer to a log that tells this.
 fn answer_of(told: Told) -> Result<Once, LogError> {
     match told {
-        Told::Posted(ticket) => Ok(Once::Logged(LogReply::Logged {
-            outcome: posted(ticket),
-            kept: false,
-        })),
+        Told::Posted(ticket) => logged(ticket, false),
+        Told::Kept(ticket) => logged(ticket, true),
         Told::Blocks => Ok(Once::WouldBlock),
-        Told::Below(level) => Ok(Once::Logged(LogReply::Filtered { level, kept: false })),
+        Told::Below(level) => filtered(level, false),
+        Told::KeptBelow(level) => filtered(level, true),
         Told::NoLogger => Err(LogError::NoLogger),
         Told::TooLong => Err(LogError::Refused(MessageError::TextTooLong)),
     }
@@ -117,6 +136,30 @@ fn flushes(rt: &impl Abort, trial: &mut Trial, place: usize, logger: u32, told: 
     }
 }
 
+/// It dumps the backtrace of this logger: each post has one of these tickets.
+fn dumps(
+    rt: &impl Abort,
+    alloc: Global,
+    trial: &mut Trial,
+    place: usize,
+    logger: u32,
+    tickets: &[u64],
+) {
+    let Ok(outcomes) = trial.dump(rt, alloc, place, logger) else {
+        panic!(rt; "nobody else is at the backtrace")
+    };
+    assert!(rt; outcomes.len() == tickets.len(), "{outcomes:?}");
+    for (outcome, ticket) in outcomes.iter().zip(tickets) {
+        assert!(rt; *outcome == posted(*ticket), "{outcome:?}");
+    }
+}
+
+/// There is no such logger whose backtrace it could dump.
+fn dumps_none(rt: &impl Abort, alloc: Global, trial: &mut Trial, place: usize, logger: u32) {
+    let answer = trial.dump(rt, alloc, place, logger);
+    assert!(rt; matches!(answer, Err(OwnedDumpError::NoLogger)));
+}
+
 /// A worker ends items, at most so many, and says this.
 fn works(rt: &impl Abort, trial: &mut Trial, place: usize, most: usize, wanted: Work) {
     let work = trial.work(rt, place, most);
@@ -137,6 +180,10 @@ fn does(rt: &impl Abort, alloc: Global, mut trial: Trial, deed: Deed<'_>) -> Tri
             logs(rt, alloc, &mut trial, place, 0, Level::Info, text, told)
         }
         Deed::Flushes(place, logger, told) => flushes(rt, &mut trial, place, logger, told),
+        Deed::Dumps(place, logger, tickets) => {
+            dumps(rt, alloc, &mut trial, place, logger, tickets)
+        }
+        Deed::DumpsNone(place, logger) => dumps_none(rt, alloc, &mut trial, place, logger),
         Deed::Sets(level) => assert!(rt; trial.pool.loggers().set_level(0, level)),
         Deed::Works(place, most, items, pause) => {
             works(rt, &mut trial, place, most, Work { items, pause })

@@ -47,14 +47,15 @@ fn sink(alloc: Global, face: Face, store: MemStore) -> Result<Sink<MemStore>, Al
     Ok(sink)
 }
 
-/// One logger, `app`, of level info, which blocks where the queue is full, and whose messages go to the first sink.
-fn loggers(alloc: Global) -> Result<Loggers, AllocError> {
+/// One logger, `app`, of level info, which blocks where the queue is full, keeps so many messages for a backtrace, and whose messages go to the
+/// first sink.
+fn loggers(alloc: Global, backtrace: usize) -> Result<Loggers, AllocError> {
     let mut registry = Registry::new(alloc);
     let spec = Spec {
         level: Level::Info,
         policy: Policy::Block,
         flush_on: Level::Error,
-        backtrace: 0,
+        backtrace,
         sinks: Vec::from_slice(alloc, &[0])?,
     };
     if registry.add("app", spec).is_err() {
@@ -66,8 +67,13 @@ fn loggers(alloc: Global) -> Result<Loggers, AllocError> {
     }
 }
 
-/// A setup of one sink and one logger, with a queue of so many places, for up to so many workers.
-pub fn setup(alloc: Global, queue: usize, workers: usize) -> Result<Setup<MemStore>, AllocError>
+/// A setup of one sink and one logger that keeps so many messages, with a queue of so many places, for up to so many workers.
+pub fn setup(
+    alloc: Global,
+    queue: usize,
+    workers: usize,
+    backtrace: usize,
+) -> Result<Setup<MemStore>, AllocError>
     ensures { IfOk result Fits }
 {
     let sink = sink(alloc, face(alloc)?, MemStore::new(alloc))?;
@@ -80,7 +86,7 @@ pub fn setup(alloc: Global, queue: usize, workers: usize) -> Result<Setup<MemSto
         tickets_max: 400,
         tells_gaps: false,
         text_limit: TEXT_LIMIT,
-        loggers: loggers(alloc)?,
+        loggers: loggers(alloc, backtrace)?,
         sinks,
     })
 }

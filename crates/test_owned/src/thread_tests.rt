@@ -24,6 +24,7 @@ const PLAN: Plan = Plan {
     queue: 8,
     producers: 2,
     workers: 1,
+    backtrace: 0,
 };
 
 /// A producer logs this text until it would not block.

@@ -6,9 +6,10 @@ ghost use Rattle.alog_pool.specs.Pool.{Fits};
 use crate::sinks::setup;
 use alog_hosted::{Once, Work, WorkerError};
 use alog_msg::{Level, MessageError};
-use alog_owned::{LogError, OwnedPool, OwnedProducer, OwnedWorker};
+use alog_owned::{LogError, OwnedDumpError, OwnedPool, OwnedProducer, OwnedWorker};
 use alog_policy::Outcome;
 use alog_pool::{ProducerError, Report, Setup, StartError};
+use alog_registry::DumpError;
 use alog_sink::MemStore;
 use std::alloc::{AllocError, Global};
 use std::process::Abort;
@@ -22,12 +23,13 @@ pub type Talker = OwnedProducer<MemStore>;
 /// A worker of it.
 pub type Writer = OwnedWorker<MemStore>;
 
-/// How a pool is opened: its queue, and how many producers and workers it may make.
+/// How a pool is opened: its queue, how many producers and workers it may make, and how many messages its logger keeps.
 #[derive(Clone, Copy)]
 pub struct Plan {
     pub queue: usize,
     pub producers: usize,
     pub workers: usize,
+    pub backtrace: usize,
 }
 
 /// A pool, and its producers and workers that are out.
@@ -55,13 +57,13 @@ fn open_of(
 pub fn open(rt: &impl Abort, alloc: Global, plan: Plan) -> Pool {
     let answer = match open_of(
         alloc,
-        setup(alloc, plan.queue, plan.workers),
+        setup(alloc, plan.queue, plan.workers, plan.backtrace),
         plan.producers,
     ) {
         Err(StartError::OutOfMemory) => {
             open_of(
                 alloc,
-                setup(alloc, plan.queue, plan.workers),
+                setup(alloc, plan.queue, plan.workers, plan.backtrace),
                 plan.producers,
             )
         }
@@ -193,6 +195,24 @@ impl Trial {
     pub fn flush(&mut self, rt: &impl Abort, place: usize, logger: u32) -> Option<Outcome<()>> {
         assert!(rt; place < self.producers.len());
         self.producers[place].flush(logger)
+    }
+
+    /// It dumps the backtrace of this logger.
+    pub fn dump(
+        &mut self,
+        rt: &impl Abort,
+        alloc: Global,
+        place: usize,
+        logger: u32,
+    ) -> Result<Vec<Outcome<()>>, OwnedDumpError> {
+        assert!(rt; place < self.producers.len());
+        let producer = &mut self.producers[place];
+        match producer.dump_once(alloc, logger, 5) {
+            Err(OwnedDumpError::Refused(DumpError::OutOfMemory)) => {
+                producer.dump_once(alloc, logger, 5)
+            }
+            answer => answer,
+        }
     }
 
     /// The worker at this place ends items, at most so many.

@@ -1,5 +1,4 @@
 use Rattle.std.proofs.Common.{subst}
-use Rattle.alog_policy.specs.Progress.{without_waiting}
 use Rattle.alog_registry.specs.Given.{message_of}
 use Rattle.alog_registry.specs.Logging.{IsMade}
 use Rattle.alog_registry.proofs.Posting.{brought_by}

@@ -1,6 +1,5 @@
 use Rattle.std.proofs.Common.{◌∙◌}
 use Rattle.std.proofs.lemmas.Option.{same_Some}
-use Rattle.alog_msg.specs.declared.item.Item.TheVariants.{Flush}
 use Rattle.alog_policy.specs.Progress.{without_waiting}
 use Rattle.alog_registry.proofs.Posting.{posted_by}
 use Rattle.alog_registry.proofs.loggers.Loggers.flush.Goals as goal
