@@ -1,0 +1,3 @@
+mod Relaying
+mod Records
+pub mod SharedCrosses
