@@ -1,0 +1,4 @@
+pub mod Steps
+pub mod Boxed
+pub mod Crosses
+pub mod News

@@ -1,0 +1,20 @@
+use Rattle.std.proofs.Common.{refl}
+use Rattle.std.proofs.lemmas.Option.{slice_get_read}
+use Rattle.alog_ffi.proofs.files.take_at.Goals as goal
+
+pub returns-in-Ok-clause-taken : goal.returns-in-Ok-clause-taken
+returns-in-Ok-clause-taken c =
+    let e = c.in-Ok.ensures in (
+      record {
+        at = c.args.number;
+        was = c.index_mut.result.now;
+        now = c.take_into.new.self;
+        old_is = slice_get_read _ _ _ _ refl c.requires.number c.index_mut.ensures.value;
+        new_is = refl;
+        line = e.line;
+        got = e.taken;
+      },
+      e.rest,
+      e.some.0,
+      e.some.1,
+    )

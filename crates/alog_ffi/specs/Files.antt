@@ -1,0 +1,72 @@
+-- Calls of who does the calls on files, on handles.
+use Rattle.std.specs.Prelude.{◌≡◌, ◌⊎◌, ◌<◌, ◌≤◌, ◌++◌, ℕ, List, [], ◌∷◌, length, take, drop, slice_get, slice_set, Some, Vec}
+use Rattle.std.specs.Str.{IsUtf8}
+use Rattle.std.specs.String.{string_bytes}
+use Rattle.std.specs.declared.alloc.Global.{Global}
+use Rattle.alog_ffi.specs.declared.answer.Answer.{Answer}
+use Rattle.alog_ffi.specs.declared.answer.Answer.TheVariants as answer
+use Rattle.alog_ffi.specs.declared.part.Part.{Part}
+use Rattle.alog_ffi.specs.declared.part.Part.TheVariants.{Nothing, Found, Files}
+use Rattle.alog_outbox.specs.Views.{DrainView}
+use Rattle.alog_outbox.specs.declared.TheConstants.{AREA}
+use Rattle.alog_outbox.specs.declared.found.FoundFile.{FoundFile}
+
+-- this file is in the list now, at its end
+abbrev pub WithFile : List FoundFile → List ℕ → ℕ → List FoundFile → Type 0
+WithFile old name size new = (f : FoundFile) × (string_bytes f.name ≡ name) × (f.size ≡ size) × (new ≡ old ++ f ∷ [])
+
+-- a file was added to a list, or there was no memory
+abbrev pub AddsTo : List FoundFile → List ℕ → ℕ → Answer → List FoundFile → Type 0
+AddsTo old name size answer.Done new = WithFile old name size new
+AddsTo old name size a new = (new ≡ old) × (a ≡ answer.NoMemory)
+
+abbrev pub AnswersFirst : List ℕ → ℕ → Answer → Part → Type 0
+AnswersFirst name size answer.Done new = (fs : List FoundFile) × WithFile [] name size fs × (new ≡ Found fs)
+AnswersFirst name size a new = (new ≡ Nothing) × (a ≡ answer.NoMemory)
+
+-- A file was told, behind those that were told before, if nothing else is there; or there was no memory.
+abbrev pub AddsFile : Part → List ℕ → ℕ → Answer → Part → Type 0
+AddsFile Nothing name size a new = AnswersFirst name size a new
+AddsFile (Found fs) name size a new = (gs : List FoundFile) × (new ≡ Found gs) × AddsTo fs name size a gs
+AddsFile old name size a new = (new ≡ old) × (a ≡ answer.WrongHandle)
+
+-- A file was told; or it was not, which is the answer, and the handle holds what it held.
+abbrev pub AnswersFound : Part → List ℕ → ℕ → Answer → Part → Type 0
+AnswersFound old name size a new = ((a ≡ answer.NotUtf8) × (new ≡ old) × ¬ IsUtf8 name) ⊎ AddsFile old name size a new
+
+-- A call on what is to be done to files, and what is untouched where there is none of that.
+abbrev pub OnFiles : Part → Type 0 → (List DrainView → Answer → List DrainView → Type 0) → Answer → Part → Type 0
+OnFiles (Files ds) untouched f a new = (es : Vec DrainView Global) × (new ≡ Files es) × f ds.items a es.items
+OnFiles Nothing untouched f a new = (new ≡ Nothing) × (a ≡ answer.NoHandle) × untouched
+OnFiles old untouched f a new = (new ≡ old) × (a ≡ answer.WrongHandle) × untouched
+
+-- These bytes were taken, which come next of one sink; what comes next of all others stays.
+pub record TakesOne (old : List DrainView) (bytes : List ℕ) (new : List DrainView) : Type 0 where
+  pub at : ℕ
+  pub was : DrainView
+  pub now : DrainView
+  pub old_is : slice_get old at ≡ Some was
+  pub new_is : new ≡ slice_set old at now
+  pub line : now.line ≡ was.line
+  pub got : now.got ≡ was.got ++ bytes
+
+-- no bytes were told, and the memory is as it was
+abbrev pub IsUntaken : List ℕ → List ℕ → ℕ → Type 0
+IsUntaken to into count = (into ≡ to) × (count ≡ 0)
+
+-- Bytes were taken, and lie at the front of the memory, whose rest is as it was.
+abbrev pub AreTaken : List ℕ → List ℕ → ℕ → List DrainView → List DrainView → Type 0
+AreTaken to into count old new = TakesOne old (take count into) new × (drop count into ≡ drop count to) × (0 < count) × (count ≤ AREA)
+
+-- Bytes were taken; or there are none now; or the memory has no room for an area.
+abbrev pub AnswersTake : List ℕ → List ℕ → ℕ → List DrainView → Answer → List DrainView → Type 0
+AnswersTake to into count old a new = ((a ≡ answer.Done) × (AREA ≤ length to) × AreTaken to into count old new)
+    ⊎ ((a ≡ answer.Idle) × (AREA ≤ length to) × (new ≡ old) × IsUntaken to into count)
+    ⊎ ((a ≡ answer.TooShort) × (length to < AREA) × (new ≡ old) × IsUntaken to into count)
+
+-- Files were let go, and the handle is empty; or it held something else, and still does.
+abbrev pub AnswersClose : Part → Answer → Part → Type 0
+AnswersClose (Found fs) a new = (a ≡ answer.Done) × (new ≡ Nothing)
+AnswersClose (Files ds) a new = (a ≡ answer.Done) × (new ≡ Nothing)
+AnswersClose Nothing a new = (a ≡ answer.NoHandle) × (new ≡ Nothing)
+AnswersClose old a new = (a ≡ answer.WrongHandle) × (new ≡ old)

@@ -1,0 +1,12 @@
+pub mod Answers
+pub mod Said
+pub mod Stores
+pub mod Slots
+pub mod Held
+pub mod Handles
+pub mod Found
+pub mod Saying
+pub mod Opening
+pub mod Reports
+pub mod Files
+pub mod Calls

@@ -1,0 +1,68 @@
+-- How a pool is opened of a document.
+use Rattle.std.specs.Prelude.{◌≡◌, ◌≢◌, true, List, [], ◌∷◌, Result, Ok, Err, Vec}
+use Rattle.std.specs.declared.alloc.Global.{Global}
+use Rattle.alog_config.specs.Meaning.{Reads}
+use Rattle.alog_config.specs.declared.config.Config.{Config}
+use Rattle.alog_config.specs.declared.fault.ConfigFault.{ConfigFault}
+use Rattle.alog_config.specs.declared.fault.ConfigFault.TheVariants as config
+use Rattle.alog_ffi.specs.Stores.{Begins, failures_of}
+use Rattle.alog_ffi.specs.declared.answer.Answer.{Answer}
+use Rattle.alog_ffi.specs.declared.answer.Answer.TheVariants as answer
+use Rattle.alog_ffi.specs.declared.opening.Asked.{Asked}
+use Rattle.alog_ffi.specs.declared.part.Part.{Part}
+use Rattle.alog_ffi.specs.declared.part.Part.TheVariants.{Nothing, Pool, Found, Files}
+use Rattle.alog_outbox.specs.Views.{DrainView, OutboxView, files_of}
+use Rattle.alog_outbox.specs.declared.found.FoundFile.{FoundFile}
+use Rattle.alog_owned.specs.Owned.{OpensBy, OwnedPoolView}
+use Rattle.alog_pool.specs.declared.setup.Setup.{Setup}
+use Rattle.alog_server.specs.Setting.{IsSetupOf}
+
+-- So many new stores over a folder in which these files were found, each with its drain, of which nothing was taken.
+abbrev pub AreNew : List FoundFile → List OutboxView → List DrainView → Type 0
+AreNew found [] [] = Unit {0}
+AreNew found (s ∷ ss) (d ∷ ds) = Begins found s d × AreNew found ss ds
+AreNew found _ _ = ⊥
+
+-- A pool was opened of this configuration, over such stores.
+pub record OpensOf (c : Config) (asked : Asked) (found : List FoundFile) (p : OwnedPoolView OutboxView) (drains : List DrainView) : Type 0 where
+  pub stores : List OutboxView
+  pub new : AreNew found stores drains
+  pub setup : Setup OutboxView
+  pub set : IsSetupOf true files_of failures_of c stores 0 setup
+  pub opens : OpensBy setup asked.producers p
+
+-- A pool was opened of the configuration that the document says.
+pub record OpensFrom (asked : Asked) (found : List FoundFile) (p : OwnedPoolView OutboxView) (drains : List DrainView) : Type 0 where
+  pub config : Config
+  pub reads : Reads asked.document.now (Ok config)
+  pub opens : OpensOf config asked found p drains
+
+-- Why no pool was opened of a document: it is no configuration, the size of a sink's file could not be told, or there is no memory.
+abbrev pub IsUnopenedFor : Asked → Answer → Type 0
+IsUnopenedFor asked answer.BadConfig = (fault : ConfigFault) × Reads asked.document.now (Err fault) × (fault ≢ config.OutOfMemory)
+IsUnopenedFor asked answer.NoStore = (c : Config) × Reads asked.document.now (Ok c)
+IsUnopenedFor asked answer.NoMemory = Unit {0}
+IsUnopenedFor asked a = ⊥
+
+-- the answer, if there was memory for its words
+abbrev pub told_as : {X E : Type 0} → Answer → Result X E → Answer
+told_as a (Ok words) = a
+told_as a (Err e) = answer.NoMemory
+
+-- what was told of files, if nothing else is there
+abbrev pub IsTold : Part → List FoundFile → Type 0
+IsTold Nothing found = found ≡ []
+IsTold (Found fs) found = fs ≡ found
+IsTold other found = ⊥
+
+-- Why no pool was opened: its handle was in use, that of files held something else, or this is said of the document.
+abbrev pub IsUnopened : Part → Part → Asked → Answer → Type 0
+IsUnopened pool files asked answer.InUse = pool ≢ Nothing
+IsUnopened pool files asked answer.WrongHandle = (pool ≡ Nothing) × ((found : List FoundFile) → ¬ IsTold files found)
+IsUnopened pool files asked a = (pool ≡ Nothing) × ((found : List FoundFile) × IsTold files found) × IsUnopenedFor asked a
+
+-- A pool was opened over the files that were told, and both handles are filled; or none was, which is the answer, and both hold what they held.
+abbrev pub AnswersOpen : Part → Part → Asked → Answer → Part → Part → Type 0
+AnswersOpen pool files asked answer.Done new left = (pool ≡ Nothing) × (found : List FoundFile) × IsTold files found
+    × (p : OwnedPoolView OutboxView) × (new ≡ Pool p) × ((ds : Vec DrainView Global) × (left ≡ Files ds) × OpensFrom asked found p ds.items)
+AnswersOpen pool files asked a new left = (new ≡ pool) × (left ≡ files) × IsUnopened pool files asked a

@@ -1,0 +1,66 @@
+//! How what was said is heard.
+ghost use Rattle.std.specs.Prelude.{◌≡◌, ◌<◌, length, IfOk, IfErr, None};
+ghost use Rattle.std.specs.Str.{IsUtf8};
+ghost use Rattle.alog_ffi.specs.Said.{IsHeard, IsLevelOf, IsUnheard};
+ghost use Rattle.alog_ffi.specs.declared.answer.Answer.TheVariants as answer;
+
+use crate::answer::Answer;
+use crate::said::{Heard, Said};
+use alog_msg::{Level, SourceRef};
+use alog_registry::Loggers;
+use std::str;
+
+/// The level of this number.
+pub fn level_of(number: u32) -> Option<Level>
+    ensures { IsLevelOf number result }
+{
+    match number {
+        0 => Some(Level::Trace),
+        1 => Some(Level::Debug),
+        2 => Some(Level::Info),
+        3 => Some(Level::Warning),
+        4 => Some(Level::Error),
+        5 => Some(Level::Critical),
+        6 => Some(Level::Off),
+        _ => None,
+    }
+}
+
+/// What was said, or the first reason why it is no message of these loggers.
+pub(crate) fn hear<'a>(loggers: &Loggers, said: Said<'a>) -> Result<Heard<'a>, Answer>
+    ensures ok { IfOk result (IsHeard loggers.now said.entry) }
+    ensures err { IfErr result (IsUnheard loggers.now said.entry) }
+{
+    if said.logger as usize >= loggers.len() {
+        return Err(Answer::NoLogger);
+    }
+    let Some(level) = level_of(said.level) else {
+        return Err(Answer::NoLevel);
+    };
+    let text = text_of(said.text)?;
+    let source = match said.source {
+        Some(source) => Some(SourceRef {
+            file: text_of(source.file)?,
+            line: source.line,
+            function: text_of(source.function)?,
+        }),
+        None => None,
+    };
+    Ok(Heard {
+        logger: said.logger,
+        level,
+        text,
+        source,
+    })
+}
+
+/// These bytes as a text.
+fn text_of(bytes: &[u8]) -> Result<&str, Answer>
+    ensures text { IfOk result (λ t. t.now ≡ bytes.now) }
+    ensures refused { IfErr result (λ a. (a ≡ answer.NotUtf8) × ¬ IsUtf8 bytes.now) }
+{
+    match str::from_utf8(bytes) {
+        Ok(text) => Ok(text),
+        Err(_) => Err(Answer::NotUtf8),
+    }
+}
