@@ -13,7 +13,7 @@ Row = collections.namedtuple("Row", "name words given printed status errors")
 
 def rows(folder):
     """Returns the rows of a folder, by name."""
-    files = sorted({os.path.splitext(it)[0] for it in glob.glob(f"{folder}/*")})
+    files = sorted({os.path.splitext(it)[0] for it in glob.glob(f"{folder}/*") if os.path.isfile(it)})
     return [row(base) for base in files]
 
 

@@ -1,0 +1,257 @@
+"""Links programs in C and C++ with the static library, and runs them: c.py [unproved]. Prints what is not as it is to be, and how many
+passed and failed.
+
+Each compiler that is there, of gcc and clang, compiles the programs of crates/alog_c/tests and examples/c with its warnings as errors, the
+headers as C99 and as C++11 too, and with the sanitizers of addresses and of undefined behaviour on the C side; and once more for threads,
+where the library was built for that. A program runs in a folder of its own, and ends with 'N passed, M failed'. The library is the proved
+one, which is built first where it is not there; with the word it is built without proof, in some minutes, with checks at run time, and the
+programs that have threads are also run under a thread sanitizer. ALOG_C names a folder with libalog_c.a, and perhaps libalog_c_tsan.a, to
+take instead. Needs gcc or clang; ALOG_KIT names another folder of the kit's archives.
+"""
+import collections
+import os
+import re
+import shutil
+import signal
+import subprocess
+import sys
+import tempfile
+
+sys.dont_write_bytecode = True
+
+HEADERS, TESTS, EXAMPLES = "crates/alog_c/c", "crates/alog_c/tests", "examples/c"
+SECONDS, SANITIZED_SECONDS, COMPILE_SECONDS = 300, 900, 900
+WARNINGS = ["-Wall", "-Wextra", "-Wpedantic", "-Wconversion", "-Wsign-conversion", "-Wshadow", "-Werror"]
+ADDRESSES = ["-O1", "-g", "-fno-omit-frame-pointer", "-fsanitize=address,undefined", "-fno-sanitize-recover=all"]
+THREADS = ["-O1", "-g", "-fsanitize=thread"]
+COMPILERS = {"gcc": "g++", "clang": "clang++"}
+WRAPPED = "-Wl,--wrap=malloc,--wrap=realloc,--wrap=free"
+CALLS = "-Wl,--wrap=write,--wrap=openat,--wrap=renameat,--wrap=unlinkat,--wrap=fdatasync,--wrap=close"
+# where spdlog is, whose programs are left out where it is not there, and what its library wants, which is compiled faster than its headers
+SPDLOG = "/usr/include/spdlog/spdlog.h"
+SPDLOG_FLAGS, SPDLOG_LIBRARIES = ["-std=c++11", "-DSPDLOG_SHARED_LIB", "-DSPDLOG_COMPILED_LIB", "-DSPDLOG_FMT_EXTERNAL"], ["-lspdlog", "-lfmt"]
+# the programs, the words of their runs behind the folder, and what each is linked with beside the library
+Program = collections.namedtuple("Program", "name runs flags has_threads")
+MILLIONS = [["1", "block", "8192"], ["2", "block", "8192"], ["2", "block", "64"], ["2", "discard_new", "64"], ["2", "overrun_oldest", "64"]]
+PROGRAMS = [
+    Program("records", [[]], [], False),
+    Program("lines", [[]], [], False),
+    Program("areas", [[]], [], False),
+    Program("dumps", [[]], [], True),
+    Program("refusals", [[]], [], False),
+    Program("memory", [[]], [WRAPPED], False),
+    Program("threads", [[]], ["-Wl,--wrap=pthread_create"], False),
+    Program("files", [[]], [], True),
+    Program("faults", [[]], [], True),
+    Program("calls", [[]], [CALLS], False),
+    Program("gives", [[]], [], True),
+    Program("bells", [[]], [], True),
+    Program("million", MILLIONS, [], True),
+]
+ENDS = re.compile(r"(\d+) passed, (\d+) failed")
+# what clang's instructions call for blocks of memory, which the sanitizers of older compilers lack
+SHIM = """#include <string.h>
+void *__tsan_memcpy(void *to, const void *from, size_t size);
+void *__tsan_memmove(void *to, const void *from, size_t size);
+void *__tsan_memset(void *to, int byte, size_t size);
+void *__tsan_memcpy(void *to, const void *from, size_t size) { return memcpy(to, from, size); }
+void *__tsan_memmove(void *to, const void *from, size_t size) { return memmove(to, from, size); }
+void *__tsan_memset(void *to, int byte, size_t size) { return memset(to, byte, size); }
+"""
+
+
+class Count:
+    """How many passed and failed, and what is said of those that failed."""
+
+    def __init__(self):
+        self.passed = self.failed = 0
+
+    def note(self, is_well, words):
+        self.passed += is_well
+        self.failed += not is_well
+        if not is_well:
+            print(f"c: {words}", flush=True)
+
+    def ended(self, name, ran):
+        """Counts what a program of the tests counted."""
+        last = ran.stdout.strip().rsplit("\n", 1)[-1]
+        found = ENDS.fullmatch(last)
+        is_whole = found is not None and (ran.returncode == 0) == (found[2] == "0") and not ran.stderr
+        if found:
+            self.passed += int(found[1])
+            self.failed += int(found[2])
+        if not is_whole or found[2] != "0":
+            print(f"c: {name}: status {ran.returncode}\n{ran.stdout[-4000:]}{ran.stderr[-4000:]}", flush=True)
+        self.failed += not is_whole
+
+
+def kit():
+    """Returns the folder of the kit's archives."""
+    return os.environ.get("ALOG_KIT") or f"{os.path.dirname(os.path.dirname(os.path.realpath(shutil.which('rt') or '/opt/rattle/bin/rt')))}/c"
+
+
+def library(is_unproved, room):
+    """Returns the folder of the library, which is built where it is to be, or None where that failed."""
+    if os.environ.get("ALOG_C"):
+        return os.path.abspath(os.environ["ALOG_C"])
+    if is_unproved:
+        print("c: building the library without proof, which takes some minutes", flush=True)
+        built = subprocess.run([sys.executable, ".ci/static.py", room])
+        return None if built.returncode else room
+    print("c: proving and building the library, where its sources changed", flush=True)
+    built = subprocess.run(["rt", "lib"], cwd="crates/alog_c", stdin=subprocess.DEVNULL, stdout=subprocess.PIPE, stderr=subprocess.STDOUT, text=True, errors="replace")
+    if built.returncode:
+        print(built.stdout[-4000:], flush=True)
+    return None if built.returncode else os.path.abspath("crates/alog_c/out")
+
+
+def run(words, seconds, **more):
+    """Runs a command; one that takes too long is ended with all that it started, and has the status -1."""
+    ran = subprocess.Popen(words, stdout=subprocess.PIPE, stderr=subprocess.PIPE, stdin=subprocess.DEVNULL, text=True, errors="replace", start_new_session=True, **more)
+    try:
+        stdout, stderr = ran.communicate(timeout=seconds)
+        return subprocess.CompletedProcess(words, ran.returncode, stdout, stderr)
+    except subprocess.TimeoutExpired:
+        os.killpg(ran.pid, signal.SIGKILL)
+        stdout, _ = ran.communicate()
+        return subprocess.CompletedProcess(words, -1, stdout, f"it did not end in {seconds} seconds\n")
+
+
+def compiled(compiler, source, to, flags, archives, count):
+    """Compiles and links a program; answers whether that went without a word."""
+    words = [compiler, *WARNINGS, *flags, f"-I{HEADERS}", source, *archives, "-pthread", "-o", to]
+    ran = run(words, COMPILE_SECONDS)
+    is_well = ran.returncode == 0 and not ran.stderr
+    count.note(is_well, f"{' '.join(words)}\n{ran.stderr[-4000:]}")
+    return is_well
+
+
+def check_headers(compiler, room, count):
+    """Compiles each header alone, in each language."""
+    for header in ("alog.h", "alog_host.h"):
+        source = f"{room}/header.c"
+        with open(source, "w", encoding="utf-8") as it:
+            it.write(f'#include "{header}"\nint main(void) {{ return alog_says(ALOG_DONE)[0] == 0; }}\n')
+        for language, more, standards in (
+            (compiler, ["-D_POSIX_C_SOURCE=200809L"], ["c99", "c11", "gnu17"]),
+            (COMPILERS[compiler], ["-x", "c++", "-Wold-style-cast"], ["c++11", "c++17", "c++20"]),
+        ):
+            for standard in standards:
+                words = [language, f"-std={standard}", *WARNINGS, *more, "-fsyntax-only", f"-I{HEADERS}", source]
+                ran = run(words, SECONDS)
+                count.note(ran.returncode == 0 and not ran.stderr, f"{header}: {' '.join(words)}\n{ran.stderr[-4000:]}")
+
+
+def check_kinds(compiler, room, count):
+    """A handle of a wrong kind is refused by the compiler."""
+    calls = ["alog_log(&pool, 0, ALOG_INFO, 0, 0, 0, 0)", "alog_work(&producer, 1, 0)", "alog_give_worker(&producer)", "alog_shutdown(&worker, 0)", "alog_close(&pool)", "alog_take(&producer, 0, 0, 0)"]
+    for call in calls:
+        with open(f"{room}/kinds.c", "w", encoding="utf-8") as it:
+            it.write(f'#include "alog.h"\nint main(void) {{ alog_pool pool = {{0, 0}}; alog_producer producer = {{0, 0}}; alog_worker worker = {{0, 0}};\n(void)pool; (void)producer; (void)worker; return (int){call}; }}\n')
+        ran = run([compiler, *WARNINGS, "-fsyntax-only", f"-I{HEADERS}", f"{room}/kinds.c"], SECONDS)
+        count.note(ran.returncode != 0 and "incompatible" in ran.stderr, f"{compiler} takes {call}: {ran.stderr}")
+
+
+def run_program(it, path, room, count, seconds):
+    """Runs a program of the tests with each of its words, each time in a new folder."""
+    for words in it.runs:
+        with tempfile.TemporaryDirectory(dir=room) as folder:
+            count.ended(" ".join([path, *words]), run([path, folder, *words], seconds))
+
+
+def check_sink(compiler, archives, flags, name, room, count, seconds):
+    """Runs the test of the sink for spdlog, where that is there."""
+    path = f"{room}/{compiler}-{name}-sink"
+    if os.path.exists(SPDLOG) and compiled(COMPILERS[compiler], f"{TESTS}/sink.cpp", path, [*SPDLOG_FLAGS, *flags], [*archives, *SPDLOG_LIBRARIES], count):
+        run_program(Program("sink", [[]], [], True), path, room, count, seconds)
+
+
+def check_examples(compiler, archives, flags, room, count):
+    """Compiles and runs the examples: each request has its line, and the report is as the lines are."""
+    examples = [("server.c", compiler, ["-std=gnu11"], []), ("server.cpp", COMPILERS[compiler], ["-std=c++11"], [])]
+    if os.path.exists(SPDLOG):
+        examples.append(("spdlog.cpp", COMPILERS[compiler], SPDLOG_FLAGS, SPDLOG_LIBRARIES))
+    for source, language, own, libraries in examples:
+        path = f"{room}/example"
+        if not compiled(language, f"{EXAMPLES}/{source}", path, [*own, *flags], [*archives, *libraries], count):
+            continue
+        with tempfile.TemporaryDirectory(dir=room) as folder:
+            ran = run([path, f"{EXAMPLES}/server.toml", folder], SANITIZED_SECONDS)
+            wanted = "asked 4000\nposted 4000\ndiscarded 0\noverrun 0\nhandled 4000\nfaults 0\nfailures 0\n"
+            count.note((ran.returncode, ran.stdout, ran.stderr) == (0, wanted, ""), f"{source}: {ran}")
+            lines = sorted(it.split("] ", 3)[-1] for it in read(f"{folder}/server.log").splitlines())
+            count.note(lines == sorted(f"thread {t} served request {r}" for t in range(4) for r in range(1000)), f"{source}: its lines")
+            ran = run([path, f"{EXAMPLES}/server.c", folder], SECONDS)
+            count.note(ran.returncode == 1 and ran.stdout == "" and "no configuration" in ran.stderr, f"{source} without a configuration: {ran}")
+
+
+def check_makefile(compiler, home, room, count):
+    """Builds the examples by their Makefile, elsewhere."""
+    with tempfile.TemporaryDirectory(dir=room) as place:
+        shutil.copytree(EXAMPLES, f"{place}/c")
+        words = ["make", "-s", f"ALOG={home}", f"KIT={kit()}", f"HEADERS={os.path.abspath(HEADERS)}", f"CC={compiler}", f"CXX={COMPILERS[compiler]}"]
+        ran = run(words, COMPILE_SECONDS, cwd=f"{place}/c")
+        is_built = os.path.exists(f"{place}/c/server_c") and os.path.exists(f"{place}/c/server_cpp")
+        count.note(ran.returncode == 0 and is_built and not ran.stderr, f"{' '.join(words)}: {ran}")
+
+
+def read(path):
+    if not os.path.exists(path):
+        return ""
+    with open(path, encoding="utf-8") as it:
+        return it.read()
+
+
+def check_threads(compiler, archives, room, count):
+    """Runs the programs with threads under a thread sanitizer, which sees both sides, and one that it must refuse."""
+    with open(f"{room}/shim.c", "w", encoding="utf-8") as it:
+        it.write(SHIM)
+    flags = ["-std=gnu11", *THREADS, f"{room}/shim.c"]
+    for it in (it for it in PROGRAMS if it.has_threads):
+        path = f"{room}/{compiler}-threads-{it.name}"
+        if compiled(compiler, f"{TESTS}/{it.name}.c", path, [*flags, *it.flags], archives, count):
+            run_program(it, path, room, count, SANITIZED_SECONDS)
+    path = f"{room}/{compiler}-misuse"
+    if compiled(compiler, f"{TESTS}/misuse.c", path, flags, archives, count):
+        with tempfile.TemporaryDirectory(dir=room) as folder:
+            ran = run([path, folder], SANITIZED_SECONDS)
+            count.note("data race" in ran.stderr, f"{path}: two calls at once on one handle were not seen: {ran}")
+
+
+def check(compiler, home, room, count):
+    """Checks all with one compiler."""
+    rest = [f"{kit()}/libos_c.a", f"{kit()}/liblibc_c.a"]
+    archives = [f"{home}/libalog_c.a", *rest]
+    check_headers(compiler, room, count)
+    check_kinds(compiler, room, count)
+    check_makefile(compiler, home, room, count)
+    for name, flags, seconds in (("plain", ["-O2"], SECONDS), ("addresses", ADDRESSES, SANITIZED_SECONDS)):
+        for it in PROGRAMS:
+            path = f"{room}/{compiler}-{name}-{it.name}"
+            if compiled(compiler, f"{TESTS}/{it.name}.c", path, ["-std=gnu11", *flags, *it.flags], archives, count):
+                run_program(it, path, room, count, seconds)
+        check_sink(compiler, archives, flags, name, room, count, seconds)
+        check_examples(compiler, archives, flags, room, count)
+        print(f"c: {compiler}, {name}: {count.passed} passed, {count.failed} failed so far", flush=True)
+    if os.path.exists(f"{home}/libalog_c_tsan.a"):
+        check_threads(compiler, [f"{home}/libalog_c_tsan.a", *rest], room, count)
+        print(f"c: {compiler}, threads: {count.passed} passed, {count.failed} failed so far", flush=True)
+
+
+def main(words):
+    if words not in ([], ["unproved"]):
+        raise SystemExit(__doc__)
+    count = Count()
+    with tempfile.TemporaryDirectory(prefix="alog-c-") as room:
+        home = library(words == ["unproved"], room)
+        compilers = [it for it in COMPILERS if shutil.which(it) and shutil.which(COMPILERS[it])]
+        count.note(home is not None, "the library could not be built")
+        count.note(bool(compilers), "neither gcc with g++ nor clang with clang++ is there")
+        for compiler in compilers if home else []:
+            check(compiler, home, room, count)
+    print(f"{count.passed} passed, {count.failed} failed")
+    return 1 if count.failed else 0
+
+
+if __name__ == "__main__":
+    sys.exit(main(sys.argv[1:]))

@@ -1,0 +1,191 @@
+// A sink of spdlog that hands each message to alog. A program makes a host, and changes the line that makes its logger:
+//
+//     auto host = alog::make_host(document, folder, 2);
+//     spdlog::set_default_logger(alog::make_logger(host, "net"));
+//     ..
+//     spdlog::shutdown();
+//     alog_report report = host->stop();
+//
+// The logger of this name is one of the document, a configuration of alog: it has the sinks, the patterns and the policy, so a pattern that
+// is set by spdlog has no effect. A message goes on where the levels of both, of spdlog's logger and of alog's, let it: alog's is info where
+// the configuration says none. Each thread that logs has a client of its own, which goes to the next new thread when it ends.
+//
+// A message that alog refuses, as a text that is not UTF-8 or is too long, becomes a spdlog_ex, which spdlog hands to its error handler. What
+// is discarded since the queue is full is told by the report alone.
+//
+// C++11, and spdlog 1.5 or later.
+#ifndef ALOG_SPDLOG_H
+#define ALOG_SPDLOG_H
+
+#include "alog_host.h"
+
+#include <atomic>
+#include <chrono>
+#include <memory>
+#include <mutex>
+#include <string>
+#include <utility>
+#include <vector>
+
+#include <spdlog/logger.h>
+#include <spdlog/sinks/sink.h>
+
+namespace alog {
+
+// Throws what an answer says, where it is a refusal.
+inline void expect(alog_answer answer, const std::string &more = "") {
+    if (answer >= ALOG_NO_THREAD)
+        throw spdlog::spdlog_ex(std::string("alog: ") + alog_says(answer) + (more.empty() ? "" : " " + more));
+}
+
+// A pool with its workers' threads, and the clients of all threads that log. It is held by shared pointers, and ends with the last of them.
+class host : public std::enable_shared_from_this<host> {
+  public:
+    host(const std::string &document, const std::string &folder, const alog_options &options) : number_(next_number()) {
+        const alog_answer answer = alog_start_with(&host_, document.data(), document.size(), folder.c_str(), &options);
+        expect(answer, host_.told);
+    }
+
+    ~host() {
+        alog_report report;
+        close_all();
+        alog_stop(&host_, &report);
+    }
+
+    host(const host &) = delete;
+    host &operator=(const host &) = delete;
+
+    // Ends it, when all that was logged is written, and reports what became of it. No thread may log by it meanwhile; who does so later is
+    // refused.
+    alog_report stop() {
+        alog_report report{};
+        close_all();
+        expect(alog_stop(&host_, &report));
+        return report;
+    }
+
+    // How many calls on files failed since the start.
+    std::uint64_t failures() const { return alog_failures(&host_, nullptr); }
+
+    // The number of a logger.
+    std::uint32_t find(const std::string &name) {
+        std::uint32_t logger = 0;
+        expect(alog_find(&mine().producer, name.c_str(), &logger), name);
+        return logger;
+    }
+
+    // The client of this thread, which is opened at its first use.
+    alog_client &mine() {
+        for (const lease &it : leases().all)
+            if (it.number == number_)
+                return *it.client;
+        return lend();
+    }
+
+  private:
+    // A client that a thread has until it ends, of a host that may end before.
+    struct lease {
+        std::uint64_t number;
+        std::weak_ptr<host> from;
+        alog_client *client;
+    };
+
+    struct lease_list {
+        std::vector<lease> all;
+        ~lease_list() {
+            for (const lease &it : all)
+                if (const std::shared_ptr<host> from = it.from.lock())
+                    from->take_back(it.client);
+        }
+    };
+
+    static lease_list &leases() {
+        static thread_local lease_list list;
+        return list;
+    }
+
+    static std::uint64_t next_number() {
+        static std::atomic<std::uint64_t> next{0};
+        return next++;
+    }
+
+    alog_client &lend() {
+        const std::lock_guard<std::mutex> guard(lock_);
+        leases().all.reserve(leases().all.size() + 1);
+        if (free_.empty()) {
+            free_.reserve(clients_.size() + 1);
+            clients_.emplace_back(new alog_client{});
+            free_.push_back(clients_.back().get());
+        }
+        alog_client *client = free_.back();
+        if (client->host == nullptr)
+            expect(alog_client_open(&host_, client));
+        free_.pop_back();
+        leases().all.push_back({number_, shared_from_this(), client});
+        return *client;
+    }
+
+    void take_back(alog_client *client) {
+        const std::lock_guard<std::mutex> guard(lock_);
+        free_.push_back(client);
+    }
+
+    void close_all() {
+        const std::lock_guard<std::mutex> guard(lock_);
+        for (const std::unique_ptr<alog_client> &it : clients_)
+            alog_client_close(it.get());
+    }
+
+    const std::uint64_t number_;
+    std::mutex lock_;
+    // all clients, and those that no thread has, for all of which there is room
+    std::vector<std::unique_ptr<alog_client>> clients_;
+    std::vector<alog_client *> free_;
+    alog_host host_{};
+};
+
+// Hands messages to one logger of a host. Threads may use it side by side, and none waits for another.
+class spdlog_sink : public spdlog::sinks::sink {
+  public:
+    spdlog_sink(std::shared_ptr<host> to, const std::string &logger) : host_(std::move(to)), logger_(host_->find(logger)) {}
+
+    void log(const spdlog::details::log_msg &message) override {
+        const std::chrono::nanoseconds time = message.time.time_since_epoch();
+        const spdlog::source_loc &place = message.source;
+        const char *function = place.funcname == nullptr ? "" : place.funcname;
+        const alog_source source = {place.filename, static_cast<std::uint32_t>(place.line), function};
+        const alog_level level = static_cast<alog_level>(message.level);
+        const alog_source *from = place.empty() ? nullptr : &source;
+        const alog_message it = {logger_, level, time.count(), message.payload.data(), message.payload.size(), from};
+        expect(alog_post_wait(&host_->mine(), &it));
+    }
+
+    // Posts a flush: what was logged before is in its files when a worker comes to it.
+    void flush() override { expect(alog_flush_now(&host_->mine(), logger_)); }
+
+    void set_pattern(const std::string &) override {}
+    void set_formatter(std::unique_ptr<spdlog::formatter>) override {}
+
+  private:
+    const std::shared_ptr<host> host_;
+    const std::uint32_t logger_;
+};
+
+// Starts a host with a configuration, over the files of a folder.
+inline std::shared_ptr<host> make_host(const std::string &document, const std::string &folder, const alog_options &options) {
+    return std::make_shared<host>(document, folder, options);
+}
+
+// The same with so many workers.
+inline std::shared_ptr<host> make_host(const std::string &document, const std::string &folder, std::size_t workers) {
+    return make_host(document, folder, alog_options{workers, 0, 0, 0});
+}
+
+// A logger of spdlog whose messages go to the logger of this name.
+inline std::shared_ptr<spdlog::logger> make_logger(const std::shared_ptr<host> &to, const std::string &name) {
+    return std::make_shared<spdlog::logger>(name, std::make_shared<spdlog_sink>(to, name));
+}
+
+} // namespace alog
+
+#endif

@@ -1,0 +1,163 @@
+/* That workers sleep until something is logged, and wake then, and that a log that waits for room is woken: bells FOLDER. */
+#include "alog_host.h"
+#include "trial.h"
+
+enum { ROUNDS = 5000, MANY = 20000, SECONDS = 30 };
+
+static alog_host host;
+
+static int start(const char *folder, unsigned places, const char *policy)
+{
+    char config[512];
+    snprintf(config, sizeof config,
+             "queue = %u\nworkers = 2\n[[sink]]\nname = \"file\"\nkind = \"memory\"\nfile = \"log.txt\"\npattern = \"%%v\"\n"
+             "[[logger]]\nname = \"net\"\nsinks = [\"file\"]\npolicy = \"%s\"\n",
+             places, policy);
+    remove(path_of(folder, "log.txt"));
+    return EXPECT(alog_start(&host, config, strlen(config), folder, 2), ALOG_DONE);
+}
+
+/* Waits until the file has so many bytes. */
+static int comes(const char *path, long bytes)
+{
+    struct stat found;
+    int64_t end = alog_now() + SECONDS * (int64_t)1000000000;
+    do {
+        if (stat(path, &found) == 0 && found.st_size >= bytes)
+            return 1;
+        sched_yield();
+    } while (alog_now() < end);
+    return 0;
+}
+
+/* Each message is awaited before the next is logged, so the workers go to sleep all the time: one wake-up that is lost, and a line does not
+   come. */
+static void wake_ups(const char *folder)
+{
+    alog_client client = {NULL, {0, NULL}};
+    alog_report report;
+    long round;
+    start(folder, 8, "block");
+    EXPECT(alog_client_open(&host, &client), ALOG_DONE);
+    for (round = 1; round <= ROUNDS; round++) {
+        alog_log_wait(&client, 0, ALOG_INFO, "abc", 3);
+        if (!comes(path_of(folder, "log.txt"), 4 * round))
+            break;
+    }
+    EXPECT(round, ROUNDS + 1);
+    EXPECT(alog_stop(&host, &report), ALOG_PARTS_OUT);
+    EXPECT(alog_client_close(&client), ALOG_DONE);
+    EXPECT(alog_client_close(&client), ALOG_NO_HANDLE);
+    EXPECT(alog_stop(&host, &report), ALOG_DONE);
+    EXPECT(report.handled, ROUNDS);
+    EXPECT(alog_stop(&host, &report), ALOG_NO_HANDLE);
+}
+
+/* Workers that have nothing to do take no time of a processor. */
+static void rest(const char *folder)
+{
+    const struct timespec while_idle = {0, 500000000};
+    struct timespec before, behind;
+    alog_report report;
+    long long spent;
+    start(folder, 8, "block");
+    nanosleep(&while_idle, NULL);
+    clock_gettime(CLOCK_PROCESS_CPUTIME_ID, &before);
+    nanosleep(&while_idle, NULL);
+    clock_gettime(CLOCK_PROCESS_CPUTIME_ID, &behind);
+    spent = (behind.tv_sec - before.tv_sec) * 1000000000LL + behind.tv_nsec - before.tv_nsec;
+    /* (the two calls take some microseconds; a worker that looked each millisecond would take thousands) */
+    EXPECT(spent < 1000000, 1);
+    EXPECT(alog_stop(&host, &report), ALOG_DONE);
+    EXPECT(report.asked, 0);
+}
+
+static void *log_many(void *at)
+{
+    alog_client client = {NULL, {0, NULL}};
+    unsigned long *done = at;
+    int i;
+    if (alog_client_open(&host, &client) != ALOG_DONE)
+        return NULL;
+    for (i = 0; i < MANY; i++)
+        *done += alog_log_wait(&client, 0, ALOG_INFO, "abc", 3) == ALOG_DONE;
+    alog_client_close(&client);
+    return NULL;
+}
+
+/* Some threads and a queue of two places, which is full nearly always. One thread alone is woken by workers, or by nobody. */
+static void waits_for_room(const char *folder, unsigned count)
+{
+    pthread_t threads[8];
+    unsigned long done[8] = {0}, sum = 0;
+    alog_report report;
+    start(folder, 2, "block");
+    for (unsigned i = 0; i < count; i++)
+        EXPECT(pthread_create(&threads[i], NULL, log_many, &done[i]), 0);
+    for (unsigned i = 0; i < count; i++) {
+        pthread_join(threads[i], NULL);
+        sum += done[i];
+    }
+    EXPECT(alog_stop(&host, &report), ALOG_DONE);
+    EXPECT(sum, count * MANY);
+    EXPECT(report.handled, count * MANY);
+    EXPECT(report.discarded, 0);
+}
+
+static void refusals(const char *folder)
+{
+    static alog_host none;
+    alog_client client = {NULL, {0, NULL}};
+    alog_report report;
+    EXPECT(alog_start(NULL, "", 0, folder, 1), ALOG_NULL);
+    EXPECT(alog_start(&none, "queue = 3", 9, folder, 1), ALOG_BAD_CONFIG);
+    EXPECT_TEXT(none.told, "queue = 3: a value that its key can not have; it may have a power of two, 2 to 65536");
+    EXPECT(alog_start(&none, "", 0, folder, 0), ALOG_TOO_MANY);
+    EXPECT(alog_start(&none, "", 0, folder, 65), ALOG_TOO_MANY);
+    EXPECT(alog_start(&none, "", 0, NULL, 1), ALOG_NULL);
+    EXPECT(alog_start(&none, NULL, 1, folder, 1), ALOG_NULL);
+    EXPECT(alog_start_with(&none, "", 0, folder, NULL), ALOG_NULL);
+    EXPECT(alog_stop(&none, &report), ALOG_NO_HANDLE);
+    EXPECT(alog_client_open(&none, &client), ALOG_NO_HANDLE);
+    EXPECT(alog_client_open(NULL, &client), ALOG_NULL);
+    EXPECT(alog_client_close(&client), ALOG_NO_HANDLE);
+    EXPECT(alog_client_close(NULL), ALOG_NULL);
+    EXPECT(alog_log_wait(&client, 0, ALOG_INFO, "", 0), ALOG_NO_HANDLE);
+    EXPECT(alog_log_now(NULL, 0, ALOG_INFO, "", 0), ALOG_NULL);
+    EXPECT(alog_flush_now(&client, 0), ALOG_NO_HANDLE);
+    EXPECT(alog_dump_now(&client, 0), ALOG_NO_HANDLE);
+    EXPECT(alog_dump_now(NULL, 0), ALOG_NULL);
+    start(folder, 2, "block");
+    EXPECT(alog_start(&host, "", 0, folder, 1), ALOG_IN_USE);
+    EXPECT(alog_client_open(&host, &client), ALOG_DONE);
+    EXPECT(alog_client_open(&host, &client), ALOG_IN_USE);
+    EXPECT(alog_log_wait(&client, 0, ALOG_DEBUG, "", 0), ALOG_FILTERED);
+    EXPECT(alog_log_wait(&client, 1, ALOG_INFO, "", 0), ALOG_NO_LOGGER);
+    EXPECT(alog_client_close(&client), ALOG_DONE);
+    EXPECT(alog_stop(&host, NULL), ALOG_NULL);
+    EXPECT(alog_stop(&host, &report), ALOG_DONE);
+}
+
+/* More workers than the configuration has: those that were started end again, and the folder is free. */
+static void too_many_workers(const char *folder)
+{
+    static const char config[] = "queue = 2\nworkers = 2\n[[sink]]\nname = \"file\"\nkind = \"memory\"\n"
+                                 "[[logger]]\nname = \"net\"\nsinks = [\"file\"]\n";
+    alog_report report;
+    EXPECT(alog_start(&host, config, sizeof config - 1, folder, 3), ALOG_TOO_MANY);
+    EXPECT(alog_start(&host, config, sizeof config - 1, folder, 2), ALOG_DONE);
+    EXPECT(alog_stop(&host, &report), ALOG_DONE);
+}
+
+int main(int argc, char **argv)
+{
+    if (argc != 2)
+        return 2;
+    refusals(argv[1]);
+    too_many_workers(argv[1]);
+    rest(argv[1]);
+    wake_ups(argv[1]);
+    waits_for_room(argv[1], 1);
+    waits_for_room(argv[1], 8);
+    return trial_end();
+}

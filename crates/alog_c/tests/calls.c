@@ -1,0 +1,152 @@
+/* Each call of a host on its files fails in turn, is interrupted, or takes a byte less: calls FOLDER. It is linked with --wrap for write, openat,
+   renameat, unlinkat, fdatasync and close. A call that fails is counted once and the rest goes on; the others lose nothing. */
+#define _GNU_SOURCE
+#include "alog_host.h"
+#include "trial.h"
+
+#include <stdarg.h>
+
+enum { LINES = 12 };
+
+static const char config[] = "queue = 64\n"
+                             "[[sink]]\nname = \"a\"\nkind = \"rotating\"\nfile = \"a.txt\"\npattern = \"%v\"\nmax_size = 20\nmax_files = 1\n"
+                             "[[sink]]\nname = \"b\"\nkind = \"rotating\"\nfile = \"b.txt\"\npattern = \"%v\"\nmax_size = 20\nmax_files = 0\n"
+                             "[[sink]]\nname = \"c\"\nkind = \"memory\"\nfile = \"c.txt\"\npattern = \"%v\"\n"
+                             "[[logger]]\nname = \"net\"\nflush_on = \"info\"\nsinks = [\"a\", \"b\", \"c\"]\n";
+
+/* What becomes of a call: it fails, it is interrupted first, or it is a write that takes a byte. */
+enum way { FAILS, INTERRUPTED, SHORT };
+
+static alog_host host;
+/* whether calls are counted, how many there were, which of them it is, from 1 on, and what becomes of it */
+static int is_armed, calls, wanted;
+static enum way way;
+
+/* Whether this call is the one, and of a kind of which that may become. */
+static int is_it(int goes_on, int is_write)
+{
+    if (!is_armed || ++calls != wanted)
+        return 0;
+    return way == FAILS || (way == INTERRUPTED && goes_on) || (way == SHORT && is_write);
+}
+
+static int refuse(void)
+{
+    errno = way == INTERRUPTED ? EINTR : EIO;
+    return -1;
+}
+
+ssize_t __real_write(int descriptor, const void *bytes, size_t length);
+int __real_openat(int folder, const char *path, int flags, ...);
+int __real_renameat(int from_folder, const char *from, int to_folder, const char *to);
+int __real_unlinkat(int folder, const char *path, int flags);
+int __real_close(int descriptor);
+ssize_t __wrap_write(int descriptor, const void *bytes, size_t length);
+int __wrap_openat(int folder, const char *path, int flags, ...);
+int __wrap_renameat(int from_folder, const char *from, int to_folder, const char *to);
+int __wrap_unlinkat(int folder, const char *path, int flags);
+int __wrap_fdatasync(int descriptor);
+int __wrap_close(int descriptor);
+
+ssize_t __wrap_write(int descriptor, const void *bytes, size_t length)
+{
+    if (is_it(1, 1))
+        return way == SHORT ? __real_write(descriptor, bytes, 1) : refuse();
+    return __real_write(descriptor, bytes, length);
+}
+
+int __wrap_openat(int folder, const char *path, int flags, ...)
+{
+    mode_t mode = 0;
+    va_list more;
+    va_start(more, flags);
+    if (flags & O_CREAT)
+        mode = va_arg(more, mode_t);
+    va_end(more);
+    return is_it(1, 0) ? refuse() : __real_openat(folder, path, flags, mode);
+}
+
+int __wrap_renameat(int from_folder, const char *from, int to_folder, const char *to)
+{
+    return is_it(0, 0) ? refuse() : __real_renameat(from_folder, from, to_folder, to);
+}
+
+int __wrap_unlinkat(int folder, const char *path, int flags)
+{
+    return is_it(0, 0) ? refuse() : __real_unlinkat(folder, path, flags);
+}
+
+/* (that a disk has what it has is not tested) */
+int __wrap_fdatasync(int descriptor)
+{
+    (void)descriptor;
+    return is_it(1, 0) ? refuse() : 0;
+}
+
+/* (a close that fails has closed its file, and those of the folder and its lock are not counted) */
+int __wrap_close(int descriptor)
+{
+    const int is_file = descriptor != host.folder && descriptor != host.held, closed = __real_close(descriptor);
+    return is_file && is_it(0, 0) ? refuse() : closed;
+}
+
+static size_t length_of(const char *folder, const char *name)
+{
+    size_t length;
+    free(bytes_of(path_of(folder, name), &length));
+    return length;
+}
+
+/* Logs some lines, while the call of this number goes wrong; answers whether there was one. */
+static int run(const char *folder, int number)
+{
+    static const alog_options options = {1, 1, 0, 1};
+    alog_client client = {NULL, {0, NULL}};
+    alog_report report;
+    int failures;
+    static const char *const names[] = {"a.txt", "a.1.txt", "b.txt", "c.txt"};
+    for (size_t i = 0; i < sizeof names / sizeof names[0]; i++)
+        remove(path_of(folder, names[i]));
+    EXPECT(alog_start_with(&host, config, sizeof config - 1, folder, &options), ALOG_DONE);
+    EXPECT(alog_client_open(&host, &client), ALOG_DONE);
+    calls = 0;
+    wanted = number;
+    is_armed = 1;
+    for (int i = 0; i < LINES; i++)
+        EXPECT(alog_log_wait(&client, 0, ALOG_INFO, "of ten...", 9), ALOG_DONE);
+    EXPECT(alog_client_close(&client), ALOG_DONE);
+    EXPECT(alog_stop(&host, &report), ALOG_DONE);
+    is_armed = 0;
+    EXPECT(report.handled, LINES);
+    EXPECT(report.faults, 0);
+    if (calls < number)
+        return 0;
+    failures = way == FAILS;
+    if (!EXPECT(host.failures, failures))
+        printf("(call %d, way %d)\n", number, (int)way);
+    EXPECT(host.failed_errno, failures ? EIO : 0);
+    if (!failures) {
+        EXPECT(length_of(folder, "a.txt"), 20);
+        EXPECT(length_of(folder, "a.1.txt"), 20);
+        EXPECT(length_of(folder, "b.txt"), 20);
+    }
+    /* a line that was not written is missing, and no other one */
+    EXPECT(length_of(folder, "c.txt") + (failures && length_of(folder, "c.txt") < 10 * LINES ? 10 : 0), 10 * LINES);
+    return 1;
+}
+
+int main(int argc, char **argv)
+{
+    static const char *const ways[] = {"fail", "are interrupted", "take a byte less"};
+    if (argc != 2)
+        return 2;
+    for (int at = FAILS; at <= SHORT; at++) {
+        int number = 1;
+        way = (enum way)at;
+        while (run(argv[1], number) && trial_failed < 20)
+            number++;
+        printf("calls: %d calls %s in turn\n", number - 1, ways[at]);
+        EXPECT(number > 60, 1);
+    }
+    return trial_end();
+}

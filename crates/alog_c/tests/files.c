@@ -1,0 +1,240 @@
+/* What a host makes of the files of a folder: files FOLDER. Rotating files, over some starts, by a model that does what the configuration says;
+   files by days; and more files than are open at once. */
+#define _POSIX_C_SOURCE 200809L
+#include "alog_host.h"
+#include "trial.h"
+
+enum { NAMES = 20, KEPT = 3 };
+
+static alog_host host;
+static alog_client client;
+static char place[512];
+static uint32_t is_synced;
+
+static void start(const char *config)
+{
+    const alog_options options = {1, 1, 0, is_synced};
+    if (!EXPECT(alog_start_with(&host, config, strlen(config), place, &options), ALOG_DONE))
+        printf("told: %s\n", host.told);
+    EXPECT(alog_client_open(&host, &client), ALOG_DONE);
+    EXPECT(host.batch, 14);
+}
+
+static void stop(uint64_t messages)
+{
+    alog_report report;
+    EXPECT(alog_client_close(&client), ALOG_DONE);
+    EXPECT(alog_stop(&host, &report), ALOG_DONE);
+    EXPECT(report.handled, messages);
+    EXPECT(report.faults, 0);
+    EXPECT(host.failures, 0);
+}
+
+static void log_text(const char *text, int64_t time)
+{
+    const alog_message message = {0, ALOG_INFO, time, text, strlen(text), NULL};
+    EXPECT(alog_post_wait(&client, &message), ALOG_DONE);
+}
+
+static void expect_file(const char *name, const char *wanted)
+{
+    size_t length;
+    char *bytes = bytes_of(path_of(place, name), &length);
+    EXPECT(length, strlen(wanted));
+    if (!EXPECT_TEXT(bytes, wanted))
+        printf("(of %s)\n", name);
+    free(bytes);
+}
+
+static int is_there(const char *name)
+{
+    struct stat found;
+    return lstat(path_of(place, name), &found) == 0;
+}
+
+static void enter(const char *folder, const char *name)
+{
+    snprintf(place, sizeof place, "%s/%s", folder, name);
+    EXPECT(trial_folder(place), 0);
+}
+
+/* A file with three behind it, as they are to be. */
+static char model[KEPT + 1][2000];
+static const char *const numbered[KEPT + 1] = {"log.txt", "log.1.txt", "log.2.txt", "log.3.txt"};
+
+static void model_line(const char *text, size_t most)
+{
+    const size_t length = strlen(text) + 1;
+    if (model[0][0] != 0 && strlen(model[0]) + length > most) {
+        memmove(model[1], model[0], KEPT * sizeof model[0]);
+        model[0][0] = 0;
+    }
+    strcat(strcat(model[0], text), "\n");
+}
+
+/* So many lines, of lengths that go up and down. */
+static void rotate_some(int lines, size_t most)
+{
+    static int number;
+    for (int i = 0; i < lines; i++) {
+        char text[100];
+        snprintf(text, sizeof text, "%d %.*s", number, number * 7 % 60, "............................................................");
+        number++;
+        log_text(text, 0);
+        model_line(text, most);
+    }
+}
+
+/* A file is there when the first host starts, and each host goes on in the files of the one before, also in one that is too large. */
+static void rotations(const char *folder, const char *name)
+{
+    static const char config[] = "queue = 64\n[[sink]]\nname = \"a\"\nkind = \"rotating\"\nfile = \"log.txt\"\npattern = \"%v\"\n"
+                                 "max_size = 500\nmax_files = 3\n[[logger]]\nname = \"net\"\nsinks = [\"a\"]\n";
+    static const int lines[] = {3, 0, 1, 50, 7, 1, 200, 2};
+    FILE *file;
+    enter(folder, name);
+    memset(model, 0, sizeof model);
+    snprintf(model[0], sizeof model[0], "%0450d\n", 0);
+    file = fopen(path_of(place, "log.txt"), "w");
+    fputs(model[0], file);
+    fclose(file);
+    for (size_t round = 0; round < sizeof lines / sizeof lines[0]; round++) {
+        start(config);
+        rotate_some(lines[round], 500);
+        stop((uint64_t)lines[round]);
+        for (int i = 0; i <= KEPT; i++)
+            if (model[i][0] != 0)
+                expect_file(numbered[i], model[i]);
+    }
+    EXPECT(is_there("log.4.txt"), 0);
+    /* one that is too large when a host starts makes way for the first line, and one that is a link is not looked at */
+    snprintf(model[0], sizeof model[0], "%0900d\n", 0);
+    file = fopen(path_of(place, "log.txt"), "w");
+    fputs(model[0], file);
+    fclose(file);
+    start(config);
+    rotate_some(1, 500);
+    stop(1);
+    for (int i = 0; i <= KEPT; i++)
+        expect_file(numbered[i], model[i]);
+}
+
+/* A file that is removed when it is full. */
+static void removals(const char *folder)
+{
+    static const char config[] = "queue = 64\n[[sink]]\nname = \"a\"\nkind = \"rotating\"\nfile = \"log.txt\"\npattern = \"%v\"\n"
+                                 "max_size = 10\nmax_files = 0\n[[logger]]\nname = \"net\"\nsinks = [\"a\"]\n";
+    enter(folder, "removals");
+    start(config);
+    log_text("1234", 0);
+    log_text("5678", 0);
+    log_text("last", 0);
+    stop(3);
+    expect_file("log.txt", "last\n");
+    EXPECT(is_there("log.1.txt"), 0);
+}
+
+/* A message a day for twenty days: all files, and the last three. */
+static void days(const char *folder, const char *name, int kept)
+{
+    static const int64_t day = 86400000000000;
+    char config[512], file[40], text[40];
+    enter(folder, name);
+    snprintf(config, sizeof config,
+             "queue = 64\n[[sink]]\nname = \"a\"\nkind = \"daily\"\nfile = \"log.txt\"\npattern = \"%%v\"\nmax_files = %d\n"
+             "[[logger]]\nname = \"net\"\nsinks = [\"a\"]\n",
+             kept);
+    start(config);
+    for (int number = 0; number < NAMES; number++) {
+        snprintf(text, sizeof text, "day %d", number + 1);
+        log_text(text, number * day);
+        log_text("late", number * day - 1);
+    }
+    stop(2 * NAMES);
+    for (int number = 0; number < NAMES; number++) {
+        snprintf(file, sizeof file, "log_1970-01-%02d.txt", number + 1);
+        snprintf(text, sizeof text, "day %d\nlate\n", number + 1);
+        if (kept == 0 || number >= NAMES - kept)
+            expect_file(file, text);
+        else
+            EXPECT(is_there(file), 0);
+    }
+}
+
+/* Twenty files in turn, of which sixteen are open. */
+static void many_files(const char *folder, const char *name, unsigned lines)
+{
+    static char config[8192], wanted[10000];
+    size_t length = (size_t)snprintf(config, sizeof config, "queue = 64\n");
+    struct stat found;
+    enter(folder, name);
+    for (int number = 0; number < NAMES; number++)
+        length += (size_t)snprintf(config + length, sizeof config - length,
+                                   "[[sink]]\nname = \"f%d\"\nkind = \"memory\"\npattern = \"%%v\"\n", number);
+    length += (size_t)snprintf(config + length, sizeof config - length, "[[sink]]\nname = \"fan\"\nkind = \"fan\"\nof = [\"f0\"");
+    for (int number = 1; number < 16; number++)
+        length += (size_t)snprintf(config + length, sizeof config - length, ", \"f%d\"", number);
+    snprintf(config + length, sizeof config - length,
+             "]\n[[logger]]\nname = \"all\"\nflush_on = \"info\"\nsinks = [\"fan\", \"f16\", \"f17\", \"f18\", \"f19\"]\n");
+    start(config);
+    for (unsigned i = 0; i < lines; i++) {
+        char text[20];
+        snprintf(text, sizeof text, "line %u", i);
+        log_text(text, 0);
+        strcat(strcat(wanted, text), "\n");
+    }
+    stop(lines);
+    for (int number = 0; number < NAMES; number++) {
+        char file[20];
+        snprintf(file, sizeof file, "f%d", number);
+        expect_file(file, wanted);
+    }
+    EXPECT(stat(path_of(place, "f0"), &found), 0);
+    EXPECT(found.st_mode & 07777, 0644);
+    wanted[0] = 0;
+}
+
+/* What is in the folder and is no file of a sink stays as it is, whatever it is. */
+static void strangers(const char *folder)
+{
+    static const char config[] = "queue = 64\n[[sink]]\nname = \"a\"\nkind = \"rotating\"\nfile = \"log.txt\"\npattern = \"%v\"\n"
+                                 "max_size = 10\nmax_files = 3\n[[logger]]\nname = \"net\"\nsinks = [\"a\"]\n";
+    char longest[256];
+    enter(folder, "strangers");
+    memset(longest, 'n', 255);
+    longest[255] = 0;
+    fclose(fopen(path_of(place, longest), "w"));
+    fclose(fopen(path_of(place, "\xff\xfe"), "w"));
+    EXPECT(mkdir(path_of(place, "folder"), 0777), 0);
+    EXPECT(symlink("nowhere", path_of(place, "link")), 0);
+    EXPECT(symlink("link", path_of(place, "log.1.txt")), 0);
+    start(config);
+    log_text("1234567", 0);
+    log_text("second", 0);
+    log_text("third..", 0);
+    stop(3);
+    expect_file("log.txt", "third..\n");
+    expect_file("log.1.txt", "second\n");
+    expect_file("log.2.txt", "1234567\n");
+    EXPECT(is_there("log.3.txt"), 1);
+    EXPECT(is_there(longest) && is_there("\xff\xfe") && is_there("folder") && is_there("link"), 1);
+}
+
+int main(int argc, char **argv)
+{
+    if (argc != 2)
+        return 2;
+    umask(022);
+    rotations(argv[1], "rotations");
+    removals(argv[1]);
+    days(argv[1], "days", 0);
+    days(argv[1], "last_days", 3);
+    days(argv[1], "last_day", 1);
+    many_files(argv[1], "many", 300);
+    strangers(argv[1]);
+    is_synced = 1;
+    rotations(argv[1], "synced_rotations");
+    days(argv[1], "synced_days", 3);
+    many_files(argv[1], "synced_many", 5);
+    return trial_end();
+}

@@ -1,0 +1,196 @@
+/* The records of alog_next_record, whole and spoiled: records FOLDER. The folder is not used. */
+#include "alog.h"
+#include "trial.h"
+
+/* Bytes in memory of just their length, so that a read behind them is seen. */
+static char *made;
+static size_t made_length;
+
+static void start(void)
+{
+    free(made);
+    made = NULL;
+    made_length = 0;
+}
+
+static void add(const char *bytes, size_t length)
+{
+    char *longer = malloc(made_length + length);
+    if (longer == NULL)
+        abort();
+    if (made_length > 0)
+        memcpy(longer, made, made_length);
+    memcpy(longer + made_length, bytes, length);
+    free(made);
+    made = longer;
+    made_length += length;
+}
+
+static void add_number(uint32_t number)
+{
+    char bytes[4];
+    for (int place = 0; place < 4; place++)
+        bytes[place] = (char)(number >> 8 * place & 0xff);
+    add(bytes, 4);
+}
+
+static void add_record(uint32_t deed, const char *name, size_t name_length, const char *rest, size_t rest_length)
+{
+    add_number(deed);
+    add_number((uint32_t)name_length);
+    add_number((uint32_t)rest_length);
+    add_number(0);
+    add(name, name_length);
+    if (rest_length > 0)
+        add(rest, rest_length);
+}
+
+/* The answer for the record at the front, and where it ends. */
+static int first(size_t *at)
+{
+    alog_record it;
+    *at = 0;
+    return alog_next_record(made, made_length, at, &it);
+}
+
+/* One record is refused, and the place stays. */
+static void refused(uint32_t deed, const char *name, size_t name_length, const char *rest, size_t rest_length)
+{
+    size_t at;
+    start();
+    add_record(deed, name, name_length, rest, rest_length);
+    EXPECT(first(&at) == -1, 1);
+    EXPECT(at, 0);
+}
+
+static void whole(void)
+{
+    alog_record it;
+    size_t at = 0;
+    start();
+    add_record(ALOG_APPEND, "a.txt", 5, "x\0\n", 3);
+    add_record(ALOG_RENAME, "a.txt", 5, "a.1.txt", 7);
+    add_record(ALOG_REMOVE, "..a", 3, "", 0);
+    add_record(ALOG_FLUSH, ".a", 2, "", 0);
+    add_record(ALOG_APPEND, "\xc3\xbc", 2, "", 0);
+    EXPECT(alog_next_record(made, made_length, &at, &it), 1);
+    EXPECT(it.deed, ALOG_APPEND);
+    EXPECT(it.name_length, 5);
+    EXPECT(memcmp(it.name, "a.txt", 5), 0);
+    EXPECT(it.rest_length, 3);
+    EXPECT(memcmp(it.rest, "x\0\n", 3), 0);
+    EXPECT(at, 24);
+    EXPECT(alog_next_record(made, made_length, &at, &it), 1);
+    EXPECT(it.deed, ALOG_RENAME);
+    EXPECT(it.rest_length, 7);
+    EXPECT(memcmp(it.rest, "a.1.txt", 7), 0);
+    EXPECT(alog_next_record(made, made_length, &at, &it), 1);
+    EXPECT(it.deed, ALOG_REMOVE);
+    EXPECT(alog_next_record(made, made_length, &at, &it), 1);
+    EXPECT(it.deed, ALOG_FLUSH);
+    EXPECT(alog_next_record(made, made_length, &at, &it), 1);
+    EXPECT(it.rest_length, 0);
+    EXPECT(at, made_length);
+    EXPECT(alog_next_record(made, made_length, &at, &it), 0);
+    EXPECT(alog_next_record(made, made_length, &at, &it), 0);
+    at++;
+    EXPECT(alog_next_record(made, made_length, &at, &it) == -1, 1);
+    at = 0;
+    EXPECT(alog_next_record(NULL, made_length, &at, &it) == -1, 1);
+    EXPECT(alog_next_record(made, made_length, NULL, &it) == -1, 1);
+    EXPECT(alog_next_record(made, made_length, &at, NULL) == -1, 1);
+}
+
+/* The same with each number of bytes less: a record is whole or there is none. */
+static void cut(void)
+{
+    const size_t length = made_length;
+    for (size_t left = 0; left < length; left++) {
+        char *front = malloc(left == 0 ? 1 : left);
+        alog_record it;
+        size_t at = 0;
+        int found;
+        if (front == NULL)
+            abort();
+        memcpy(front, made, left);
+        while ((found = alog_next_record(front, left, &at, &it)) > 0)
+            EXPECT(it.rest + it.rest_length == front + at && at <= left, 1);
+        EXPECT(found == 0, at == left);
+        free(front);
+    }
+}
+
+static void wrong(void)
+{
+    char name[ALOG_NAME_MAX + 1];
+    size_t at;
+    memset(name, 'n', sizeof name);
+    refused(0, "a", 1, "", 0);
+    refused(5, "a", 1, "", 0);
+    refused(UINT32_MAX, "a", 1, "", 0);
+    refused(ALOG_APPEND, "", 0, "x", 1);
+    refused(ALOG_APPEND, ".", 1, "x", 1);
+    refused(ALOG_APPEND, "..", 2, "x", 1);
+    refused(ALOG_APPEND, "a/b", 3, "x", 1);
+    refused(ALOG_APPEND, "a\0b", 3, "x", 1);
+    refused(ALOG_APPEND, name, ALOG_NAME_MAX + 1, "x", 1);
+    refused(ALOG_RENAME, "a", 1, "", 0);
+    refused(ALOG_RENAME, "a", 1, "..", 2);
+    refused(ALOG_RENAME, "a", 1, "/b", 2);
+    refused(ALOG_RENAME, "a", 1, "b\0", 2);
+    refused(ALOG_RENAME, "a", 1, name, ALOG_NAME_MAX + 1);
+    refused(ALOG_REMOVE, "a", 1, "b", 1);
+    refused(ALOG_FLUSH, "a", 1, "b", 1);
+    start();
+    add_record(ALOG_APPEND, name, ALOG_NAME_MAX, "x", 1);
+    EXPECT(first(&at), 1);
+    made[12] = 1;
+    EXPECT(first(&at) == -1, 1);
+    /* lengths whose sum is more than a number holds */
+    start();
+    add_record(ALOG_APPEND, "a", 1, "x", 1);
+    memset(made + 8, 0xff, 4);
+    EXPECT(first(&at) == -1, 1);
+    memset(made + 4, 0xff, 4);
+    EXPECT(first(&at) == -1, 1);
+    memset(made + 8, 0, 4);
+    EXPECT(first(&at) == -1, 1);
+}
+
+/* Any bytes: it ends, and a record lies within them. */
+static void any(void)
+{
+    uint32_t state = 1;
+    for (int round = 0; round < 100000; round++) {
+        alog_record it;
+        size_t at = 0, length;
+        char *bytes;
+        state = state * 1664525 + 1013904223;
+        length = state >> 8 & 63;
+        bytes = malloc(length + 1);
+        if (bytes == NULL)
+            abort();
+        for (size_t i = 0; i < length; i++) {
+            state = state * 1664525 + 1013904223;
+            bytes[i] = (char)(i % 4 > 0 && i < 16 ? 0 : state >> 24 & (i < 16 ? 7 : 255));
+        }
+        while (alog_next_record(bytes, length, &at, &it) > 0)
+            if (at > length || it.name < bytes || it.rest + it.rest_length > bytes + length)
+                EXPECT(round, 0);
+        free(bytes);
+    }
+    EXPECT(1, 1);
+}
+
+int main(int argc, char **argv)
+{
+    (void)argv;
+    if (argc != 2)
+        return 2;
+    whole();
+    cut();
+    wrong();
+    any();
+    start();
+    return trial_end();
+}

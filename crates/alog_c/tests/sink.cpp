@@ -1,0 +1,105 @@
+// The sink for spdlog: threads that come and go, levels, sources, and what is refused: sink FOLDER
+#include "alog_spdlog.h"
+#include "trial.h"
+
+#include <string>
+#include <thread>
+#include <vector>
+
+namespace {
+
+const std::string config = "queue = 64\nworkers = 2\ntext = 100\n[[sink]]\nname = \"file\"\nkind = \"memory\"\nfile = \"log.txt\"\npattern = \"%n %L %s:%# %v\"\n"
+                           "[[logger]]\nname = \"net\"\nsinks = [\"file\"]\n[[logger]]\nname = \"disk\"\nlevel = \"error\"\nsinks = [\"file\"]\n";
+
+// What a call throws, or nothing.
+template <typename Call> std::string thrown(Call call) {
+    try {
+        call();
+    } catch (const spdlog::spdlog_ex &error) {
+        return error.what();
+    }
+    return "";
+}
+
+std::string content(const std::string &folder) {
+    std::size_t length = 0;
+    char *bytes = bytes_of(path_of(folder.c_str(), "log.txt"), &length);
+    const std::string text(bytes, length);
+    std::free(bytes);
+    return text;
+}
+
+// A hundred times four threads use four clients, since those of threads that ended go on.
+void threads_that_come_and_go(const std::string &folder) {
+    const auto host = alog::make_host(config, folder, alog_options{2, 5, 0, 0});
+    const auto logger = alog::make_logger(host, "net");
+    std::size_t errors = 0;
+    logger->set_error_handler([&errors](const std::string &) { errors++; });
+    for (int round = 0; round < 100; round++) {
+        std::vector<std::thread> threads;
+        for (int thread = 0; thread < 4; thread++)
+            threads.emplace_back([&logger] {
+                for (int i = 0; i < 10; i++)
+                    logger->info("x");
+            });
+        for (std::thread &it : threads)
+            it.join();
+    }
+    const alog_report report = host->stop();
+    EXPECT(errors, 0);
+    EXPECT(report.handled, 4000);
+    EXPECT(report.faults, 0);
+    EXPECT(host->failures(), 0);
+    EXPECT(content(folder).size(), 4000 * std::string("net I : x\n").size());
+    std::remove(path_of(folder.c_str(), "log.txt"));
+}
+
+void messages(const std::string &folder) {
+    const auto host = alog::make_host(config, folder, 1);
+    const auto net = alog::make_logger(host, "net"), disk = alog::make_logger(host, "disk");
+    std::vector<std::string> errors;
+    net->set_error_handler([&errors](const std::string &words) { errors.push_back(words); });
+    net->set_level(spdlog::level::trace);
+    net->debug("below the level of alog");
+    net->info("one {}", 1);
+    net->log(spdlog::source_loc{"src/a.cpp", 7, "f"}, spdlog::level::critical, "two");
+    disk->warn("below the level of alog");
+    disk->error("three");
+    net->set_level(spdlog::level::err);
+    net->info("below the level of spdlog");
+    net->error(std::string("\xff"));
+    net->error(std::string(101, 'x'));
+    net->flush();
+    disk->flush();
+    EXPECT(errors.size(), 2);
+    EXPECT(errors.empty() ? 0 : errors[0].find("UTF-8") != std::string::npos, 1);
+    EXPECT(alog::make_logger(host, "net")->level() == spdlog::level::info, 1);
+    EXPECT(thrown([&host] { alog::make_logger(host, "nobody"); }).find("no such logger") != std::string::npos, 1);
+    const alog_report report = host->stop();
+    EXPECT(report.handled, 3 + 2);
+    EXPECT_TEXT(content(folder).c_str(), "net I : one 1\nnet C a.cpp:7 two\ndisk E : three\n");
+    // behind the end each log is refused
+    net->error("late");
+    EXPECT(errors.size(), 3);
+    EXPECT(thrown([&host] { host->stop(); }).empty(), 0);
+}
+
+void refusals(const std::string &folder) {
+    EXPECT(thrown([&folder] { alog::make_host("queue = 3", folder, 1); }).find("it may have a power of two, 2 to 65536") != std::string::npos, 1);
+    EXPECT(thrown([&folder] { alog::make_host(config, folder + "/absent", 1); }).find("no files can be written") != std::string::npos, 1);
+    EXPECT(thrown([&folder] { alog::make_host(config, folder, 3); }).empty(), 0);
+    // a host that is let go without its end is ended
+    alog::make_host(config, folder, 1);
+    alog::make_host(config, folder, 1);
+}
+
+} // namespace
+
+int main(int argc, char **argv) {
+    if (argc != 2)
+        return 2;
+    threads_that_come_and_go(argv[1]);
+    messages(argv[1]);
+    refusals(argv[1]);
+    return trial_end();
+}
