@@ -1,0 +1,163 @@
+//! Sinks of each kind over a store that hands its calls out, beside the same sink over a store in memory: what is carried out is what that one has.
+use crate::host::{Host, opened};
+use alog_format::{Context, LineBuf, Zone};
+use alog_msg::{Level, Message};
+use alog_outbox::{Drain, Outbox};
+use alog_pattern::Pattern;
+use alog_sink::{Face, MemStore, Names, Sink, Store};
+use std::alloc::Global;
+use std::process::Abort;
+use std::test::Fail;
+
+/// A day in nanoseconds.
+const DAY: i64 = 86_400_000_000_000;
+
+/// How many areas.
+const AREAS: usize = 3;
+
+/// What a sink is.
+#[derive(Clone, Copy)]
+enum Kind {
+    Memory,
+    Rotating,
+    Daily,
+}
+
+fn face(alloc: Global) -> Result<Face, Fail> {
+    let mut names = Names::new(alloc);
+    names.push(alloc, "net")?;
+    Ok(Face {
+        level: Level::Info,
+        pattern: Pattern::compile(alloc, b"%l %v", 64)?,
+        context: Context {
+            zone: Zone::Fixed(0),
+            process: 7,
+        },
+        names,
+    })
+}
+
+fn sink_over<S: Store + Drop>(alloc: Global, kind: Kind, store: S) -> Result<Sink<S>, Fail> {
+    let face = face(alloc)?;
+    let opened = match kind {
+        Kind::Memory => Sink::memory(alloc, face, store, "log.txt"),
+        Kind::Rotating => Sink::rotating(alloc, face, store, "log.txt", 40, 2),
+        Kind::Daily => Sink::daily(alloc, face, store, "log.txt", 0, 0, 2),
+    };
+    match opened {
+        Ok(sink) => Ok(sink),
+        Err(unopened) => Err(unopened.error.into()),
+    }
+}
+
+/// Gives a sink the text of this time. It answers whether it took it.
+fn gives<S: Store>(
+    sink: &mut Sink<S>,
+    message: &Message,
+    line: &mut LineBuf,
+) -> Result<bool, Fail> {
+    if !sink.may_take(message, line) {
+        return Ok(false);
+    }
+    sink.take(message, line)?;
+    sink.flush()?;
+    Ok(true)
+}
+
+/// Both sinks take a few lines, and after each what was told is carried out.
+fn agrees(
+    alloc: Global,
+    near: &mut Sink<MemStore>,
+    far: &mut Sink<Outbox>,
+    drain: &mut Drain,
+    host: &mut Host,
+) -> Result<bool, Fail> {
+    let mut line = LineBuf::new(alloc, 256)?;
+    for number in 0..12_i64 {
+        let text = format!(in alloc; "text {number}")?;
+        let time = number.wrapping_mul(DAY / 3);
+        let message = Message::new(alloc, 64, 0, Level::Info, time, 1, text.as_str(), None)?;
+        if !gives(near, &message, &mut line)? || !gives(far, &message, &mut line)? {
+            return Ok(false);
+        }
+        if host.take_all(drain, 9)?.is_none() {
+            return Ok(false);
+        }
+        let Some(store) = near.store() else {
+            return Ok(false);
+        };
+        if !host.has_files_of(store) {
+            return Ok(false);
+        }
+    }
+    Ok(true)
+}
+
+/// Whether a sink of this kind is the same over both.
+fn is_same(alloc: Global, kind: Kind) -> Result<bool, Fail> {
+    let (store, mut drain) = opened(alloc, "other", 5, AREAS)?;
+    let mut host = Host::new(alloc)?;
+    let mut near = sink_over(alloc, kind, MemStore::new(alloc))?;
+    let mut far = sink_over(alloc, kind, store)?;
+    agrees(alloc, &mut near, &mut far, &mut drain, &mut host)
+}
+
+#[test]
+fn a_memory_sink(rt: HostRuntime) -> Result<(), Fail> {
+    assert!(rt; is_same(rt.alloc(), Kind::Memory)?);
+    Ok(())
+}
+
+#[test]
+fn a_rotating_sink(rt: HostRuntime) -> Result<(), Fail> {
+    assert!(rt; is_same(rt.alloc(), Kind::Rotating)?);
+    Ok(())
+}
+
+#[test]
+fn a_daily_sink(rt: HostRuntime) -> Result<(), Fail> {
+    assert!(rt; is_same(rt.alloc(), Kind::Daily)?);
+    Ok(())
+}
+
+/// A fan of two sinks over these stores.
+fn fan_over(alloc: Global, one: Outbox, two: Outbox) -> Result<Sink<Outbox>, Fail> {
+    let mut members = Vec::new(alloc);
+    members.push(sink_over(alloc, Kind::Memory, one)?)?;
+    members.push(sink_over(alloc, Kind::Rotating, two)?)?;
+    match Sink::fan(alloc, Level::Info, members) {
+        Ok(fan) => Ok(fan),
+        Err(refused) => Err(refused.error.into()),
+    }
+}
+
+/// Whether the sink takes a text, and flushes it.
+fn takes_text(alloc: Global, sink: &mut Sink<Outbox>) -> Result<bool, Fail> {
+    let mut line = LineBuf::new(alloc, 256)?;
+    let message = Message::new(alloc, 64, 0, Level::Info, 0, 1, "text", None)?;
+    gives(sink, &message, &mut line)
+}
+
+/// Whether what is taken here are an append and a flush, which give the file the line of that text.
+fn has_text(alloc: Global, drain: &mut Drain) -> Result<bool, Fail> {
+    let mut host = Host::new(alloc)?;
+    let taken = host.take_all(drain, 9)?;
+    Ok(taken == Some(2) && host.has_file("log.txt", b"info text\n"))
+}
+
+/// A fan of two sinks, each over a store of its own.
+fn fan(alloc: Global) -> Result<bool, Fail> {
+    let (one, mut drain_of_one) = opened(alloc, "other", 5, AREAS)?;
+    let (two, mut drain_of_two) = opened(alloc, "other", 5, AREAS)?;
+    let mut fan = fan_over(alloc, one, two)?;
+    if !takes_text(alloc, &mut fan)? {
+        return Ok(false);
+    }
+    Ok(has_text(alloc, &mut drain_of_one)? && has_text(alloc, &mut drain_of_two)?)
+}
+
+#[test]
+fn a_fan(rt: HostRuntime) -> Result<(), Fail> {
+    assert!(rt; fan(rt.alloc())?);
+    Ok(())
+}
