@@ -9,7 +9,10 @@ use Rattle.alog_ffi.specs.declared.said.Source.{Source}
 use Rattle.alog_msg.specs.Level.{row_of}
 use Rattle.alog_msg.specs.declared.level.Level.{Level}
 use Rattle.alog_msg.specs.declared.source.SourceRef.{SourceRef}
+use Rattle.alog_registry.specs.Listed.{spec_at}
+use Rattle.alog_registry.specs.Logging.{IsBelow}
 use Rattle.alog_registry.specs.declared.logger.Logger.{Logger}
+use Rattle.alog_registry.specs.declared.logger.Spec.{Spec}
 
 -- the level of this number, if there is one
 abbrev pub IsLevelOf : ℕ → Option Level → Type 0
@@ -41,3 +44,12 @@ IsUnheard loggers said answer.NoLogger = length loggers ≤ said.logger
 IsUnheard loggers said answer.NoLevel = (said.logger < length loggers) × (6 < said.level)
 IsUnheard loggers said answer.NotUtf8 = (said.logger < length loggers) × (said.level ≤ 6) × ¬ (IsUtf8 said.text.now × AreTexts said.source)
 IsUnheard loggers said _ = ⊥
+
+-- It is below this level of its logger, which keeps no backtrace, so that its text and its source are not looked at.
+pub record IsFiltered (loggers : List Logger) (said : Said) (own : Level) : Type 0 where
+  pub level : Level
+  pub is : (row_of level).number ≡ said.level
+  pub below : IsBelow level own
+  pub spec : Spec
+  pub of : spec_at loggers said.logger ≡ Some spec
+  pub plain : spec.backtrace ≡ 0

@@ -1,15 +1,17 @@
 -- What a producer logs of what was said.
-use Rattle.std.specs.Prelude.{◌≡◌, ◌⊎◌, ◌<◌, ◌≤◌, ℕ, ℤ, List, length, Some, Result, Ok, Err, Vec}
+use Rattle.std.specs.Prelude.{◌≡◌, ◌⊎◌, ◌<◌, ◌≤◌, ℕ, ℤ, false, List, length, Some, Result, Ok, Err, Vec}
 use Rattle.std.specs.declared.alloc.Global.{Global}
 use Rattle.alog_ffi.specs.Answers.{answer_of_refusal}
-use Rattle.alog_ffi.specs.Said.{IsHeard, IsUnheard}
+use Rattle.alog_ffi.specs.Said.{IsFiltered, IsHeard, IsUnheard}
 use Rattle.alog_ffi.specs.declared.answer.Answer.{Answer}
 use Rattle.alog_ffi.specs.declared.answer.Answer.TheVariants as answer
 use Rattle.alog_ffi.specs.declared.said.Heard.{Heard}
 use Rattle.alog_ffi.specs.declared.said.Said.{Said}
 use Rattle.alog_hosted.specs.Once.{IsBlockedOrSpent, IsLoggedUnread, LogsOnce}
 use Rattle.alog_hosted.specs.declared.once.Once.{Once}
+use Rattle.alog_hosted.specs.declared.once.Once.TheVariants.{Logged}
 use Rattle.alog_msg.specs.declared.item.Item.TheVariants.{Flush}
+use Rattle.alog_msg.specs.declared.level.Level.{Level}
 use Rattle.alog_msg.specs.declared.message.MessageError.{MessageError}
 use Rattle.alog_owned.specs.Owned.{OwnedProducerView}
 use Rattle.alog_policy.specs.Progress.{without_waiting}
@@ -25,6 +27,7 @@ use Rattle.alog_registry.specs.ItemOutlet.{PostsItemNow}
 use Rattle.alog_registry.specs.LaneKeeper.{DumpsByTurn}
 use Rattle.alog_registry.specs.Listed.{spec_at}
 use Rattle.alog_registry.specs.declared.logger.Spec.{Spec}
+use Rattle.alog_registry.specs.declared.logging.LogReply.TheVariants as reply
 
 module _ {S : Type 0} where
   -- it is the same producer of the same pool
@@ -44,6 +47,13 @@ module _ {S : Type 0} where
     pub within : (s : Spec) → spec_at old.hosted.shared.loggers heard.logger ≡ Some s
         → IsLoggedUnread s once ⊎ IsWithin old.producer.limit heard.text.now heard.source
 
+  -- It was filtered by the level that its logger had, before it was looked at, and nothing was done.
+  pub record WasFiltered (old : OwnedProducerView S) (said : Said) (once : Once) (new : OwnedProducerView S) : Type 0 where
+    pub own : Level
+    pub is : IsFiltered old.hosted.shared.loggers said own
+    pub told : once ≡ Logged (reply.Filtered own false)
+    pub same : new ≡ old
+
   -- It was heard and then refused for this reason.
   pub record WasRefused (old : OwnedProducerView S) (said : Said) (a : Answer) : Type 0 where
     pub heard : Heard
@@ -54,7 +64,7 @@ module _ {S : Type 0} where
 
   -- It logged what was said, or nothing was done, and this is why.
   abbrev pub LogsSo : OwnedProducerView S → Said → Result Once Answer → OwnedProducerView S → Type 0
-  LogsSo old said (Ok once) new = HasLogged old said once new
+  LogsSo old said (Ok once) new = WasFiltered old said once new ⊎ HasLogged old said once new
   LogsSo old said (Err a) new = (new ≡ old) × (IsUnheard old.hosted.shared.loggers said a ⊎ WasRefused old said a)
 
   -- A flush was posted, by the same producer.

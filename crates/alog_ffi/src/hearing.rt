@@ -1,7 +1,7 @@
 //! How what was said is heard.
-ghost use Rattle.std.specs.Prelude.{◌≡◌, ◌<◌, length, IfOk, IfErr, None};
+ghost use Rattle.std.specs.Prelude.{◌≡◌, ◌<◌, length, IfOk, IfErr, IfSome, None};
 ghost use Rattle.std.specs.Str.{IsUtf8};
-ghost use Rattle.alog_ffi.specs.Said.{IsHeard, IsLevelOf, IsUnheard};
+ghost use Rattle.alog_ffi.specs.Said.{IsFiltered, IsHeard, IsLevelOf, IsUnheard};
 ghost use Rattle.alog_ffi.specs.declared.answer.Answer.TheVariants as answer;
 
 use crate::answer::Answer;
@@ -23,6 +23,20 @@ pub fn level_of(number: u32) -> Option<Level>
         5 => Some(Level::Critical),
         6 => Some(Level::Off),
         _ => None,
+    }
+}
+
+/// The level of its logger, where that keeps no backtrace and what was said is below that level.
+pub(crate) fn filter_of(loggers: &Loggers, said: Said<'_>) -> Option<Level>
+    ensures { IfSome result (IsFiltered loggers.now said.entry) }
+{
+    let level = level_of(said.level)?;
+    let spec = loggers.spec(said.logger)?;
+    let own = loggers.level(said.logger)?;
+    if spec.backtrace == 0 && level.number() < own.number() {
+        Some(own)
+    } else {
+        None
     }
 }
 

@@ -3,16 +3,16 @@ ghost use Rattle.std.specs.Prelude.{◌≡◌};
 ghost use Rattle.alog_ffi.specs.Saying.{DumpsSo, FlushesSo, LogsSo};
 
 use crate::answer::Answer;
-use crate::hearing::hear;
+use crate::hearing::{filter_of, hear};
 use crate::said::Said;
 use alog_hosted::Once;
 use alog_outbox::Outbox;
 use alog_owned::{LogError, OwnedDumpError, OwnedProducer};
 use alog_policy::Outcome;
-use alog_registry::DumpError;
+use alog_registry::{DumpError, LogReply};
 use std::alloc::Global;
 
-/// Logs what was said, or tells why nothing was done.
+/// Logs what was said, or tells why nothing was done. What its logger filters and keeps no copy of is not looked at.
 pub(crate) fn say(
     producer: &mut OwnedProducer<Outbox>,
     alloc: Global,
@@ -20,6 +20,9 @@ pub(crate) fn say(
 ) -> Result<Once, Answer>
     ensures { LogsSo producer.old said.entry result producer.new }
 {
+    if let Some(level) = filter_of(producer.loggers(), said) {
+        return Ok(Once::Logged(LogReply::Filtered { level, kept: false }));
+    }
     let heard = hear(producer.loggers(), said)?;
     match producer.log_once(
         alloc,
