@@ -8,7 +8,7 @@ use Rattle.crossbeam_queue.specs.Fifo.{Pushes, Pops, Forks, Merges, Learns}
 use Rattle.crossbeam_queue.proofs.Lists.{at_set, at_snoc}
 use Rattle.alog_outbox.specs.declared.call.Call.{Call}
 use Rattle.alog_outbox.specs.declared.line.Log.{Log}
-use Rattle.alog_outbox.specs.Line.{getting, log, sending, Fits, Relayed}
+use Rattle.alog_outbox.specs.Line.{getting, log, sending, Fits, IsSent, Relayed}
 
 at_end : (l : List Log) (a b : Log) (j : ℕ) → get_elem? l j ≢ some b → get_elem? (l ++ a ∷ []) j ≡ some b → j ≡ length l
 at_end [] a b zero n e = refl
@@ -27,7 +27,7 @@ all_set : (F : ℕ → Log → Type 0) (views : List Log) (port : ℕ) (w : Log)
 all_set F views port w mine others j u e = ⊎_elim (λ (x : (j ≡ port) × (w ≡ u)). subst (λ (y : ℕ × Log). F y.0 y.1) (λ i. (sym x.0 i, x.1 i)) mine)
     (λ (x : (j ≢ port) × (get_elem? views j ≡ some u)). others j u x.0 x.1) (at_set views port j w u e)
 
-some_and : (items : List (List ℕ)) (x : List ℕ) → AllByRecursion (λ (a : List ℕ). a ≢ []) items → x ≢ [] → AllByRecursion (λ (a : List ℕ). a ≢ []) (items ++ x ∷ [])
+some_and : (items : List (List ℕ)) (x : List ℕ) → AllByRecursion IsSent items → IsSent x → AllByRecursion IsSent (items ++ x ∷ [])
 some_and [] x all full = (full, tt)
 some_and (y ∷ ys) x all full = (all.0, some_and ys x all.1 full)
 
@@ -46,7 +46,7 @@ begins = (
       (λ j u other e. absurd (other (at_end [] _ u j (λ x. some-ne-none u (sym x)) e))),
 )
 
-pub sends : (n port : ℕ) (v : Log) (x : List ℕ) → v.pushes ≡ true → x ≢ [] → Pushes Relayed n port v x (λ w. w ≡ sending x v)
+pub sends : (n port : ℕ) (v : Log) (x : List ℕ) → v.pushes ≡ true → IsSent x → Pushes Relayed n port v x (λ w. w ≡ sending x v)
 sends n port v x may full items views _ h at = let w : Log = sending x v in let mine = h.6 port v at in let sent = h.2 ++ x in (
   w,
   (
@@ -62,7 +62,7 @@ sends n port v x may full items views _ h at = let w : Log = sending x v in let 
   refl,
 )
 
-pub gets : (port : ℕ) (v : Log) → v.pops ≡ true → Pops Relayed port v (λ x w. (w ≡ getting x v) × (x ≢ []))
+pub gets : (port : ℕ) (v : Log) → v.pops ≡ true → Pops Relayed port v (λ x w. (w ≡ getting x v) × IsSent x)
 gets port v may x items views h at = let w : Log = getting x v in let mine = h.6 port v at in let got = h.3 ++ x in (
   w,
   (

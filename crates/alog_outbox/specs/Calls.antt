@@ -1,5 +1,5 @@
 -- The calls of a store: what they do to files, and how they are written down. A list of calls has the latest first.
-use Rattle.std.specs.Prelude.{ℕ, List, [], ◌∷◌, ◌++◌, length, replicate}
+use Rattle.std.specs.Prelude.{◌≡◌, ℕ, List, [], ◌∷◌, ◌++◌, length, replicate}
 use Rattle.std.specs.Int.{w32, to_le_bytes}
 use Rattle.std.specs.String.{string_bytes}
 use Rattle.alog_outbox.specs.declared.call.Call.{Call}
@@ -46,3 +46,7 @@ record_of c = number (number_of c.kind) ++ number (length c.name) ++ number (len
 abbrev pub encoded : List Call → List ℕ
 encoded [] = []
 encoded (c ∷ cs) = encoded cs ++ record_of c
+
+-- these bytes are records of calls, whole ones, one behind the other
+abbrev pub AreRecords : List ℕ → Type 0
+AreRecords bytes = (cs : List Call) × (bytes ≡ encoded cs)

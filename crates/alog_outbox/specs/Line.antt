@@ -3,6 +3,7 @@ use Rattle.std.specs.Prelude.{◌≡◌, ◌≢◌, ℕ, Bool, true, List, [], �
 use Rattle.std.specs.List.{AllByRecursion, concat}
 use mathlib.Core.Option.{some}
 use lib.ListN.{get_elem?}
+use Rattle.alog_outbox.specs.Calls.{AreRecords}
 use Rattle.alog_outbox.specs.declared.call.Call.{Call}
 use Rattle.alog_outbox.specs.declared.line.Log.{Log}
 use Rattle.crossbeam_queue.specs.Passes.{IsPassOf, Pass, view}
@@ -30,10 +31,14 @@ abbrev pub Fits : ℕ → ℕ → List ℕ → List ℕ → ℕ → Log → Type
 Fits writer reader sent got port v =
     (v.pushes ≡ true → (port ≡ writer) × (v.sent ≡ sent)) × (v.pops ≡ true → (port ≡ reader) × (v.got ≡ got))
 
--- What was sent is what was got, and then what lies there. No empty area lies there.
+-- an area that is sent: it is not empty, and in it are whole records
+abbrev pub IsSent : List ℕ → Type 0
+IsSent area = (area ≢ []) × AreRecords area
+
+-- What was sent is what was got, and then what lies there, area by area.
 abbrev pub Relayed : List (List ℕ) → List Log → Type 0
 Relayed items views = (writer : ℕ) × (reader : ℕ) × (sent : List ℕ) × (got : List ℕ) × (sent ≡ got ++ concat items)
-    × AllByRecursion (λ (a : List ℕ). a ≢ []) items
+    × AllByRecursion IsSent items
     × ((port : ℕ) (v : Log) → get_elem? views port ≡ some v → Fits writer reader sent got port v)
 
 module _ {Q A : Type 0} (line : Slotted (Option (List ℕ)) (Doing (List ℕ) Log) Q A) (pass : Pass (List ℕ) Log) where

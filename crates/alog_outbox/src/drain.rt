@@ -1,7 +1,7 @@
 //! Where the calls of a store come out.
 ghost use Rattle.std.specs.Prelude.{◌≡◌, ◌<◌, ◌≤◌, ◌++◌, ◌↔◌, drop, length, take, IfOk, IsErrOf, IsTrue, OnErr};
 ghost use Rattle.std.specs.Arc.{arc_value};
-ghost use Rattle.alog_outbox.specs.Calls.{encoded};
+ghost use Rattle.alog_outbox.specs.Calls.{encoded, AreRecords};
 ghost use Rattle.alog_outbox.specs.Line.{known, IsReader};
 
 use crate::AREA;
@@ -64,11 +64,13 @@ impl Drain {
         }
     }
 
-    /// Takes the next area: copies its records to the front, and answers how many bytes they are. The emptied area goes back to the store.
+    /// Takes the next area: copies its records, which are whole ones, to the front, and answers how many bytes they are. The emptied area goes back to
+    /// the store.
     pub fn take_into(&mut self, to: &mut [u8]) -> Result<usize, TakeError>
         ensures short { IsErrOf result TakeError.TooShort ↔ (length to.old < AREA) }
         ensures some { IfOk result (λ n. (0 < n) × (n ≤ AREA)) }
         ensures taken { IfOk result (λ n. self.new.got ≡ self.old.got ++ take n to.new) }
+        ensures records { IfOk result (λ n. AreRecords (take n to.new)) }
         ensures rest { IfOk result (λ n. drop n to.new ≡ drop n to.old) }
         ensures err { OnErr result ((self.new ≡ self.old) × (to.new ≡ to.old)) }
         ensures line { self.new.line ≡ self.old.line }

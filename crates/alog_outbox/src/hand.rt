@@ -1,6 +1,6 @@
 //! The area in hand: where the next record goes.
 ghost use Rattle.std.specs.Prelude.{◌≡◌, ◌+◌, ◌≤◌, ◌++◌, length, [], IfSome, IsNone, IsSome, IsTrue};
-ghost use Rattle.alog_outbox.specs.Calls.call;
+ghost use Rattle.alog_outbox.specs.Calls.{call, AreRecords};
 ghost use Rattle.alog_outbox.specs.Line.{known, IsWriter};
 ghost use Rattle.alog_outbox.specs.Views.{bytes_by, bytes_in, calls_by, HasRoom};
 
@@ -18,9 +18,13 @@ fn with_room(
 ) -> Option<Area>
     requires size { size ≤ AREA }
     requires pass { IsWriter common.now.line pass.old }
+    requires records { AreRecords (bytes_in hand.old) }
     ensures pass { IsWriter common.now.line pass.new }
     ensures calls { (known pass.new).calls ≡ (known pass.old).calls }
     ensures in_hand { HasRoom hand.old size → IsSome result }
+    ensures stays { HasRoom hand.old size → (known pass.new).sent ≡ (known pass.old).sent }
+    ensures records { IfSome result AreRecords }
+    ensures left { AreRecords (bytes_in hand.new) }
     ensures room { IfSome result (λ a. length a + size ≤ AREA) }
     ensures kept { IfSome result (λ a. (known pass.new).sent ++ a ≡ (known pass.old).sent ++ bytes_in hand.old) }
     ensures none { IsNone result → (known pass.new).sent ++ bytes_in hand.new ≡ (known pass.old).sent ++ bytes_in hand.old }
@@ -47,8 +51,11 @@ pub(crate) fn write(
     rest: &[u8],
 ) -> bool
     requires pass { IsWriter common.now.line pass.old }
+    requires records { AreRecords (bytes_in hand.old) }
     ensures pass { IsWriter common.now.line pass.new }
+    ensures records { AreRecords (bytes_in hand.new) }
     ensures room { HasRoom hand.old (HEADER + length name.now + length rest.now) → IsTrue result }
+    ensures stays { HasRoom hand.old (HEADER + length name.now + length rest.now) → (known pass.new).sent ≡ (known pass.old).sent }
     ensures calls { (known pass.new).calls ≡ calls_by result (call kind name.now rest.now) (known pass.old).calls }
     ensures bytes { (known pass.new).sent ++ bytes_in hand.new ≡ bytes_by result (call kind name.now rest.now) ((known pass.old).sent ++ bytes_in hand.old) }
 {
@@ -68,7 +75,9 @@ pub(crate) fn write(
 /// Sends the area in hand, where there is one.
 pub(crate) fn send_hand(common: &Common, pass: &mut LinePass, hand: &mut Option<Area>) -> bool
     requires pass { IsWriter common.now.line pass.old }
+    requires records { AreRecords (bytes_in hand.old) }
     ensures pass { IsWriter common.now.line pass.new }
+    ensures records { AreRecords (bytes_in hand.new) }
     ensures calls { (known pass.new).calls ≡ (known pass.old).calls }
     ensures bytes { (known pass.new).sent ++ bytes_in hand.new ≡ (known pass.old).sent ++ bytes_in hand.old }
     ensures all { IsTrue result → (known pass.new).sent ≡ (known pass.old).sent ++ bytes_in hand.old }

@@ -1,7 +1,7 @@
 //! The queues between a store and its drain: of full areas one way, and of empty ones the other.
-ghost use Rattle.std.specs.Prelude.{◌≡◌, ◌≢◌, ◌<◌, [], IfOk, IfErr, IfSome, IsTrue, OnOk, IsNone};
+ghost use Rattle.std.specs.Prelude.{◌≡◌, ◌<◌, [], IfOk, IfErr, IfSome, IsTrue, OnOk, IsNone};
 ghost use Rattle.alog_outbox.specs.Calls.{call};
-ghost use Rattle.alog_outbox.specs.Line.{getting, known, sending, telling, IsReader, IsWriter};
+ghost use Rattle.alog_outbox.specs.Line.{getting, known, sending, telling, IsReader, IsSent, IsWriter};
 
 use crate::area::Area;
 use crate::call::{Call, Kind};
@@ -21,7 +21,7 @@ pub(crate) struct Log {
     pub(crate) got: LinkedList<u8>,
 }
 
-/// The rule: what was pushed is what was popped and then what lies there, and no empty area lies there.
+/// The rule: what was pushed is what was popped and then what lies there, and in each area that lies there are whole records, and not none.
 pub(crate) struct InOrder;
 
 impl Protocol<Area, Log> for InOrder {
@@ -61,10 +61,10 @@ impl Outcome<Area, Log> for Sent {
 struct Got;
 
 impl Outcome<Area, Log> for Got {
-    ghost use Rattle.std.specs.Prelude.{◌≡◌, ◌≢◌, []};
-    ghost use Rattle.alog_outbox.specs.Line.{getting};
+    ghost use Rattle.std.specs.Prelude.{◌≡◌};
+    ghost use Rattle.alog_outbox.specs.Line.{getting, IsSent};
 
-    ghost then = { λ v x w. (w ≡ getting x v) × (x ≢ []) };
+    ghost then = { λ v x w. (w ≡ getting x v) × IsSent x };
 }
 
 /// One pass pushes, and the other pops.
@@ -156,7 +156,7 @@ pub(crate) fn line_for(
 /// Pushes an area. Where that does not go, it is handed back.
 pub(crate) fn send(line: &Line, pass: &mut LinePass, area: Area) -> Result<(), Area>
     requires pass { IsWriter line.now pass.old }
-    requires some { area ≢ [] }
+    requires some { IsSent area }
     ensures pass { IsWriter line.now pass.new }
     ensures sent { OnOk result (known pass.new ≡ sending area (known pass.old)) }
     ensures back { IfErr result (λ a. (a ≡ area) × (known pass.new ≡ known pass.old)) }
@@ -168,7 +168,7 @@ pub(crate) fn send(line: &Line, pass: &mut LinePass, area: Area) -> Result<(), A
 pub(crate) fn receive(line: &Line, pass: &mut LinePass) -> Option<Area>
     requires pass { IsReader line.now pass.old }
     ensures pass { IsReader line.now pass.new }
-    ensures got { IfSome result (λ a. (known pass.new ≡ getting a (known pass.old)) × (a ≢ [])) }
+    ensures got { IfSome result (λ a. (known pass.new ≡ getting a (known pass.old)) × IsSent a) }
     ensures none { IsNone result → known pass.new ≡ known pass.old }
 {
     line.try_pop_as::<Got>(pass)

@@ -35,7 +35,7 @@ pub struct Outbox {
 impl Model for Outbox {
     ghost use Rattle.std.specs.Prelude.{◌≡◌, ◌++◌};
     ghost use Rattle.std.specs.Arc.{arc_value};
-    ghost use Rattle.alog_outbox.specs.Calls.{encoded};
+    ghost use Rattle.alog_outbox.specs.Calls.{encoded, AreRecords};
     ghost use Rattle.alog_outbox.specs.Line.{known, IsWriter};
     ghost use Rattle.alog_outbox.specs.Views.{bytes_in, has_some, OutboxView};
 
@@ -52,6 +52,7 @@ impl Model for Outbox {
 
     ghost invariant = { λ o. IsWriter (arc_value o.common).line o.pass
         × ((known o.pass).sent ++ bytes_in o.hand ≡ encoded (known o.pass).calls)
+        × AreRecords (bytes_in o.hand)
         × (o.is_told ≡ has_some (known o.pass).calls) };
 }
 
@@ -96,6 +97,7 @@ impl Outbox {
 
     fn tell(&mut self, kind: Kind, name: &[u8], rest: &[u8]) -> Result<(), StoreError>
         ensures room { HasRoom self.old.hand (HEADER + length name.now + length rest.now) → IsOk result }
+        ensures stays { HasRoom self.old.hand (HEADER + length name.now + length rest.now) → self.new.sent ≡ self.old.sent }
         ensures told { OnOk result (self.new.calls ≡ call kind name.now rest.now ∷ self.old.calls) }
         ensures failed { OnErr result (self.new.calls ≡ self.old.calls) }
         ensures counted { Counts self.old.failures self.new.failures result }
@@ -146,6 +148,7 @@ impl Store for Outbox {
         ensures told { OnOk result (self.new.calls ≡ call Append name.now bytes.now ∷ self.old.calls) }
         ensures kept { OnErr result (self.new.calls ≡ self.old.calls) }
         ensures room { HasRoom self.old.hand (HEADER + length name.now + length bytes.now) → IsOk result }
+        ensures stays { HasRoom self.old.hand (HEADER + length name.now + length bytes.now) → self.new.sent ≡ self.old.sent }
         ensures over { IsSameOutbox self.old self.new }
     {
         self.tell(Kind::Append, name.as_bytes(), bytes)
@@ -158,6 +161,7 @@ impl Store for Outbox {
         ensures told { OnOk result (self.new.calls ≡ call Rename from.now to.now ∷ self.old.calls) }
         ensures kept { OnErr result (self.new.calls ≡ self.old.calls) }
         ensures room { HasRoom self.old.hand (HEADER + length from.now + length to.now) → IsOk result }
+        ensures stays { HasRoom self.old.hand (HEADER + length from.now + length to.now) → self.new.sent ≡ self.old.sent }
         ensures over { IsSameOutbox self.old self.new }
     {
         self.tell(Kind::Rename, from.as_bytes(), to.as_bytes())
@@ -170,6 +174,7 @@ impl Store for Outbox {
         ensures told { OnOk result (self.new.calls ≡ call Remove name.now [] ∷ self.old.calls) }
         ensures kept { OnErr result (self.new.calls ≡ self.old.calls) }
         ensures room { HasRoom self.old.hand (HEADER + length name.now + 0) → IsOk result }
+        ensures stays { HasRoom self.old.hand (HEADER + length name.now + 0) → self.new.sent ≡ self.old.sent }
         ensures over { IsSameOutbox self.old self.new }
     {
         self.tell(Kind::Remove, name.as_bytes(), &[])
