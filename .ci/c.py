@@ -5,8 +5,9 @@ Each compiler that is there, of gcc and clang, compiles the programs of crates/a
 headers as C99 and as C++11 too, and with the sanitizers of addresses and of undefined behaviour on the C side; and once more for threads,
 where the library was built for that. A program runs in a folder of its own, and ends with 'N passed, M failed'. The library is the proved
 one, which is built first where it is not there; with the word it is built without proof, in some minutes, with checks at run time, and the
-programs that have threads are also run under a thread sanitizer. ALOG_C names a folder with libalog_c.a, and perhaps libalog_c_tsan.a, to
-take instead. Needs gcc or clang; ALOG_KIT names another folder of the kit's archives.
+programs that have threads are also run under a thread sanitizer. The programs that docs/USING.md shows are compiled and run, too, and the
+example in Rust where rustc is there. ALOG_C names a folder with libalog_c.a, and perhaps libalog_c_tsan.a, to take instead. Needs gcc or
+clang; ALOG_KIT names another folder of the kit's archives.
 """
 import collections
 import os
@@ -19,14 +20,14 @@ import tempfile
 
 sys.dont_write_bytecode = True
 
-HEADERS, TESTS, EXAMPLES = "crates/alog_c/c", "crates/alog_c/tests", "examples/c"
+HEADERS, TESTS, EXAMPLES, DOCUMENT = "crates/alog_c/c", "crates/alog_c/tests", "examples/c", "docs/USING.md"
 SECONDS, SANITIZED_SECONDS, COMPILE_SECONDS = 300, 900, 900
 WARNINGS = ["-Wall", "-Wextra", "-Wpedantic", "-Wconversion", "-Wsign-conversion", "-Wshadow", "-Werror"]
 ADDRESSES = ["-O1", "-g", "-fno-omit-frame-pointer", "-fsanitize=address,undefined", "-fno-sanitize-recover=all"]
 THREADS = ["-O1", "-g", "-fsanitize=thread"]
 COMPILERS = {"gcc": "g++", "clang": "clang++"}
 WRAPPED = "-Wl,--wrap=malloc,--wrap=realloc,--wrap=free"
-CALLS = "-Wl,--wrap=write,--wrap=openat,--wrap=renameat,--wrap=unlinkat,--wrap=fdatasync,--wrap=close"
+CALLS = "-Wl,--wrap=write,--wrap=openat,--wrap=renameat,--wrap=unlinkat,--wrap=fdatasync,--wrap=fsync,--wrap=close"
 # where spdlog is, whose programs are left out where it is not there, and what its library wants, which is compiled faster than its headers
 SPDLOG = "/usr/include/spdlog/spdlog.h"
 SPDLOG_FLAGS, SPDLOG_LIBRARIES = ["-std=c++11", "-DSPDLOG_SHARED_LIB", "-DSPDLOG_COMPILED_LIB", "-DSPDLOG_FMT_EXTERNAL"], ["-lspdlog", "-lfmt"]
@@ -185,6 +186,51 @@ def check_examples(compiler, archives, flags, room, count):
             count.note(ran.returncode == 1 and ran.stdout == "" and "no configuration" in ran.stderr, f"{source} without a configuration: {ran}")
 
 
+def block_of(language):
+    """Returns the first block in this language of the document for users."""
+    return re.search(rf"^```{language}\n(.*?)^```$", read(DOCUMENT), re.M | re.S)[1]
+
+
+def check_document(compiler, archives, room, count):
+    """Compiles and runs the programs that the document shows, from the start and once more over the files that are there."""
+    shown = [("c", compiler, ["-std=c99"], [], "handled 2000 of 2000\n", 2000)]
+    if os.path.exists(SPDLOG):
+        shown.append(("cpp", COMPILERS[compiler], SPDLOG_FLAGS, SPDLOG_LIBRARIES, "", 1))
+    for language, it, flags, libraries, wanted, lines in shown:
+        with tempfile.TemporaryDirectory(dir=room) as folder:
+            os.mkdir(f"{folder}/logs")
+            with open(f"{folder}/shown.{language}", "w", encoding="utf-8") as source:
+                source.write(block_of(language))
+            if not compiled(it, f"{folder}/shown.{language}", f"{folder}/shown", flags, [*archives, *libraries], count):
+                continue
+            for times in (1, 2):
+                ran = run([f"{folder}/shown"], SECONDS, cwd=folder)
+                count.note((ran.returncode, ran.stdout, ran.stderr) == (0, wanted, ""), f"what {DOCUMENT} shows in {language}: {ran}")
+                written = "".join(read(f"{folder}/logs/{name}") for name in os.listdir(f"{folder}/logs"))
+                count.note(written.count("\n") == times * lines, f"what {DOCUMENT} shows in {language}: its lines")
+            os.rename(f"{folder}/logs", f"{folder}/other")
+            ran = run([f"{folder}/shown"], SECONDS, cwd=folder)
+            count.note(ran.returncode == 1 and "no files can be written to logs" in ran.stderr, f"what {DOCUMENT} shows in {language}, without a folder: {ran}")
+
+
+def check_rust(archives, room, count):
+    """Compiles and runs the example in Rust, where there is a compiler: each request has its line, and a second run goes on behind them."""
+    if not shutil.which("rustc"):
+        return
+    path = f"{room}/rust"
+    words = ["rustc", "--edition", "2021", "-O", "-D", "warnings", f"{EXAMPLES}/server.rs", *(f"-Clink-arg={it}" for it in archives), "-o", path]
+    ran = run(words, COMPILE_SECONDS)
+    count.note(ran.returncode == 0 and not ran.stderr, f"{' '.join(words)}: {ran}")
+    with tempfile.TemporaryDirectory(dir=room) as folder:
+        for times in (1, 2) if ran.returncode == 0 else ():
+            ran = run([path, f"{EXAMPLES}/server.toml", folder], SECONDS)
+            wanted = "asked 2000\nposted 2000\ndiscarded 0\noverrun 0\nhandled 2000\nfaults 0\n"
+            count.note((ran.returncode, ran.stdout, ran.stderr) == (0, wanted, ""), f"server.rs: {ran}")
+            lines = sorted(it.split("] ", 3)[-1] for it in read(f"{folder}/server.log").splitlines())
+            all_of = sorted(f"thread {t} served request {r}" for t in range(2) for r in range(1000) for _ in range(times))
+            count.note(lines == all_of, "server.rs: its lines")
+
+
 def check_makefile(compiler, home, room, count):
     """Builds the examples by their Makefile, elsewhere."""
     with tempfile.TemporaryDirectory(dir=room) as place:
@@ -225,6 +271,7 @@ def check(compiler, home, room, count):
     check_headers(compiler, room, count)
     check_kinds(compiler, room, count)
     check_makefile(compiler, home, room, count)
+    check_document(compiler, archives, room, count)
     for name, flags, seconds in (("plain", ["-O2"], SECONDS), ("addresses", ADDRESSES, SANITIZED_SECONDS)):
         for it in PROGRAMS:
             path = f"{room}/{compiler}-{name}-{it.name}"
@@ -249,6 +296,8 @@ def main(words):
         count.note(bool(compilers), "neither gcc with g++ nor clang with clang++ is there")
         for compiler in compilers if home else []:
             check(compiler, home, room, count)
+        if home:
+            check_rust([f"{home}/libalog_c.a", f"{kit()}/libos_c.a", f"{kit()}/liblibc_c.a"], room, count)
     print(f"{count.passed} passed, {count.failed} failed")
     return 1 if count.failed else 0
 

@@ -100,17 +100,18 @@ enum alog_answer {
     ALOG_TEXT_TOO_LONG = 23,
     /* The source's file is longer than 256 bytes, or its function longer than 128. Log it without its source. */
     ALOG_SOURCE_TOO_LONG = 24,
-    /* The pool made as many producers as it may in its life, or as many workers as its configuration says. */
+    /* The pool made as many producers as it may in its life, or as many workers as its configuration says. Or a host is to have more workers or
+       clients than it may, or no worker. */
     ALOG_TOO_MANY = 25,
     /* Not all producers and workers were given back, or one is being given back at this moment, or there is no memory to take them back.
        Give them back, and end the pool then. */
     ALOG_PARTS_OUT = 26,
     /* The document is no configuration: the words that were told say why. */
     ALOG_BAD_CONFIG = 27,
-    /* The folder takes no files, or another program holds it, or a sink cannot go on in its file: the words that were told say why, where
-       they are known. */
+    /* The folder takes no files, or another program holds it, or a sink cannot go on in its file or write to it: the words that were told say
+       why, where they are known. */
     ALOG_NO_STORE = 28,
-    /* The memory that was handed to alog_take has fewer than ALOG_AREA bytes. */
+    /* The memory that was handed to alog_take has fewer than ALOG_AREA bytes. Or a host is to have too few areas. */
     ALOG_TOO_SHORT = 29,
     /* Another thread gives a part back at this moment, and the handle still has its own: try again. */
     ALOG_BUSY_PART = 30
@@ -208,7 +209,8 @@ typedef struct alog_record {
 } alog_record;
 
 /* The most bytes that the text of a message may have, whatever the configuration; the bytes of an area; the bytes in front of a record; and
-   the most bytes of a file's name: a configuration gives at most 64, and a sink puts a number or a date behind them. */
+   the most bytes of a file's name in a record: those of a pool have at most 75, since a configuration gives at most 64, and a sink puts up to 5
+   of a number or 11 of a date to them. */
 enum { ALOG_TEXT_MAX = 8192, ALOG_AREA = 131072, ALOG_RECORD_HEADER = 16, ALOG_NAME_MAX = 255 };
 
 /* What the library exports. A slice is a pointer, which may not be null, and a length. Use the functions below, which test that. */
@@ -252,9 +254,9 @@ static inline enum alog_answer alog_found(alog_files *files, const char *name, u
 }
 
 /* Opens a pool of this configuration, a document in TOML of so many bytes, over the files that were found, which `files` says, or over none
-   where it holds nothing. The pool makes at most so many producers in its life, and never more than 4,096, and each sink has so many areas,
-   and never fewer than 1. Where that is refused, `files` is as it was, and `told` says why: words that end with a zero, cut to `room` bytes with
-   it; they are empty where nothing is to be told. `told` may be null where `room` is 0. */
+   where it holds nothing. The pool makes at most so many producers in its life; more than 4,096 are taken for 4,096, without a word. Each sink
+   has so many areas; 0 is taken for 1. Where that is refused, `files` is as it was, and `told` says why: words that end with a zero, cut to
+   `room` bytes with it; they are empty where nothing is to be told. `told` may be null where `room` is 0. */
 static inline enum alog_answer alog_open(alog_pool *pool, alog_files *files, const char *document, size_t length, size_t producers,
                                          size_t areas, char *told, size_t room)
 {
@@ -272,7 +274,8 @@ static inline enum alog_answer alog_open(alog_pool *pool, alog_files *files, con
     return alog_answer_of(answer);
 }
 
-/* Makes a producer of the pool, at most as many in its life as the open was told, into a handle that holds nothing. It has to come back by alog_give_producer. */
+/* Makes a producer of the pool, at most as many in its life as the open was told, into a handle that holds nothing. It has to come back by
+   alog_give_producer. */
 static inline enum alog_answer alog_make_producer(alog_pool *pool, alog_producer *producer)
 {
     return pool == NULL || producer == NULL ? ALOG_NULL : alog_answer_of(alog_c_producer(pool, producer));

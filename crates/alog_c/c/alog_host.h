@@ -15,11 +15,20 @@
    answers is in alog.h. POSIX threads, gcc or clang; a program in C says _POSIX_C_SOURCE 200809L before its first include, or is compiled
    for gnu99 or later. A process that forks starts its host in the child.
 
+   No call is made from a handler of a signal, no thread is cancelled within a call, and a child of a fork uses no host of its parent: it has
+   none of its threads. The threads of workers hold all signals back but those of a fault of their own, as SIGSEGV.
+
    Files. The folder has to be there. It is held by a lock on its file `.alog.lock`, as the program `alog` holds it: two that rotate the same
-   files would lose some. What a sink is to go on in is looked at once, at the start. Files are made with the mode 0644, are opened to
-   append, and have to be regular files; a link is not followed. A call of the system that fails is counted, its errno is kept where it is the
-   first, and the others go on: alog_failures tells both. A flush brings lines to the system, and, where the options say `sync`, to the
-   disk.
+   files would lose some. What a sink is to go on in is looked at once, at the start. A start is refused where a sink's file is there and cannot
+   be opened to append, or would be the lock: so it sees a folder of its name, a link and a file without permission. Of a sink by days it sees
+   none, since their names come with the days. Files are made with the mode 0644, are opened to append, and have to be regular files; a link is
+   not followed.
+
+   A call of the system that fails later is counted, its errno is kept where it is the first, and the others go on: alog_failures tells both.
+   What could not be written is missing, so the last line in front of it may be cut, and the next one then stands behind it without a new line.
+   Where a file of a rotation cannot be renamed, those that would come behind it keep their names, so that none is replaced, and the sink goes on
+   in the file that it has until a later rotation can be made. A flush brings lines to the system, and, where the options say `sync`, to the
+   disk, with the names of the folder; then a file is also brought there before it is closed or renamed.
 
    Areas. Each sink has so many areas of ALOG_AREA bytes (128 KiB), which workers fill and which are empty again when they were taken. A sink
    that finds none empty is broken for good, so there have to be enough. A worker's call ends so many messages as `batch` says, and behind it
@@ -73,9 +82,9 @@
 extern "C" {
 #endif
 
-/* The most workers of a pool, the most producers in the life of one, the areas of each sink for each worker where the options do not say, and
-   the files that are open at once. */
-enum { ALOG_WORKERS_MAX = 64, ALOG_PRODUCERS_MAX = 4096, ALOG_AREAS = 16, ALOG_OPEN_FILES = 16 };
+/* The most workers of a pool, the most producers in the life of one, the areas of each sink for each worker where the options do not say and
+   at the least, and the files that are open at once. */
+enum { ALOG_WORKERS_MAX = 64, ALOG_PRODUCERS_MAX = 4096, ALOG_AREAS = 16, ALOG_AREAS_MIN = 3, ALOG_OPEN_FILES = 16 };
 
 /* The most messages that a worker ends before it takes what it wrote, and how many it ends before it rings for room, if it finds so many. */
 enum { ALOG_BATCH = 16, ALOG_ROOM = 64 };
@@ -91,9 +100,9 @@ enum { ALOG_FOUND_MAX = 64 };
 typedef struct alog_options {
     /* how many workers, 1 to ALOG_WORKERS_MAX, and at most as many as the configuration says */
     size_t workers;
-    /* how many clients may be opened in its life; 0 for the most, ALOG_PRODUCERS_MAX */
+    /* how many clients may be opened in its life, at most ALOG_PRODUCERS_MAX; 0 for so many */
     size_t producers;
-    /* how many areas each sink has; 0 for ALOG_AREAS for each worker */
+    /* how many areas each sink has, at least ALOG_AREAS_MIN for each worker; 0 for ALOG_AREAS for each */
     size_t areas;
     /* whether a flush waits until the disk has what was written */
     uint32_t sync;
@@ -118,11 +127,13 @@ typedef struct alog_seat {
     size_t ended;
 } alog_seat;
 
-/* A file that is open, where its name has some bytes, and when it was used last. */
+/* A file that is open, where its name has some bytes, when it was used last, and whether something was written that was not brought to the
+   disk since. */
 typedef struct alog_open_file {
     uint64_t used;
     size_t name_length;
     int descriptor;
+    uint32_t is_dirty;
     char name[ALOG_NAME_MAX];
 } alog_open_file;
 
@@ -143,7 +154,11 @@ typedef struct alog_host {
     int held;
     uint64_t uses;
     alog_open_file open[ALOG_OPEN_FILES];
+    /* the name that a file kept, since its rename failed: no other one gets it before that file has another */
+    char kept[ALOG_NAME_MAX + 1];
+    /* whether a flush goes to the disk, and whether a file was made, renamed or removed since the names of the folder were brought there */
     uint32_t sync;
+    uint32_t is_changed;
     size_t workers;
     size_t batch;
     size_t clients;
@@ -260,13 +275,38 @@ static inline uint64_t alog_failures(const alog_host *host, int *first_errno)
     return failures;
 }
 
-/* Closes a file, if there is one at this place. */
+/* Opens what has this path in a folder, also where a signal comes meanwhile; -1 with its errno where that is refused. */
+static inline int alog_open_at(int folder, const char *path, int flags)
+{
+    int descriptor;
+    do
+        descriptor = openat(folder, path, flags | O_CLOEXEC, 0644);
+    while (descriptor < 0 && errno == EINTR);
+    return descriptor;
+}
+
+/* Brings what an open file has to the disk, or the names of an open folder; -1 with its errno where that fails. */
+static inline int alog_sync(int descriptor, int is_folder)
+{
+    int failed;
+    do
+        failed = is_folder ? fsync(descriptor) : fdatasync(descriptor);
+    while (failed != 0 && errno == EINTR);
+    return failed;
+}
+
+/* Closes a file, if there is one at this place, and brings it to the disk before, where that is asked for. */
 static inline void alog_file_close(alog_host *host, alog_open_file *file)
 {
-    if (file->name_length > 0 && close(file->descriptor) != 0 && errno != EINTR)
-        alog_failed(host, errno);
+    if (file->name_length > 0) {
+        if (host->sync && file->is_dirty && alog_sync(file->descriptor, 0) != 0)
+            alog_failed(host, errno);
+        if (close(file->descriptor) != 0 && errno != EINTR)
+            alog_failed(host, errno);
+    }
     file->name_length = 0;
     file->used = 0;
+    file->is_dirty = 0;
 }
 
 /* The open file of this name, or null. */
@@ -321,10 +361,7 @@ static inline int alog_file_open(alog_host *host, const char *name, size_t lengt
         errno = EBUSY;
         return -1;
     }
-    flags |= O_WRONLY | O_APPEND | O_CLOEXEC | O_NOFOLLOW | O_NOCTTY | O_NONBLOCK;
-    do
-        descriptor = openat(host->folder, path, flags, 0644);
-    while (descriptor < 0 && errno == EINTR);
+    descriptor = alog_open_at(host->folder, path, flags | O_WRONLY | O_APPEND | O_NOFOLLOW | O_NOCTTY | O_NONBLOCK);
     if (descriptor >= 0 && (fstat(descriptor, &found) != 0 || !S_ISREG(found.st_mode))) {
         close(descriptor);
         errno = EINVAL;
@@ -333,22 +370,26 @@ static inline int alog_file_open(alog_host *host, const char *name, size_t lengt
     return descriptor;
 }
 
-/* The descriptor of a file, which is opened where it is not; -1 with its errno where that is refused. */
-static inline int alog_file_of(alog_host *host, const char *name, size_t length, int flags)
+/* A file, which is opened where it is not, and made where it is absent and the flags say so; null with its errno where that is refused. */
+static inline alog_open_file *alog_file_of(alog_host *host, const char *name, size_t length, int flags)
 {
     alog_open_file *file = alog_file_find(host, name, length);
     if (file == NULL) {
         int descriptor;
         file = alog_file_place(host);
-        descriptor = alog_file_open(host, name, length, flags);
+        descriptor = alog_file_open(host, name, length, 0);
+        if (descriptor < 0 && errno == ENOENT && flags != 0) {
+            descriptor = alog_file_open(host, name, length, flags);
+            host->is_changed = 1;
+        }
         if (descriptor < 0)
-            return -1;
+            return NULL;
         file->descriptor = descriptor;
         file->name_length = length;
         memcpy(file->name, name, length);
     }
     file->used = ++host->uses;
-    return file->descriptor;
+    return file;
 }
 
 /* Writes all of these bytes; -1 with its errno where the system takes no more. */
@@ -372,21 +413,41 @@ static inline int alog_write_all(int descriptor, const char *bytes, size_t lengt
 /* Appends what one or more records have for a file. */
 static inline void alog_host_append(alog_host *host, const alog_record *run)
 {
-    const int descriptor = alog_file_of(host, run->name, run->name_length, O_CREAT);
-    if (descriptor < 0 || alog_write_all(descriptor, run->rest, run->rest_length) != 0)
+    alog_open_file *file = alog_file_of(host, run->name, run->name_length, O_CREAT);
+    if (file != NULL)
+        file->is_dirty = 1;
+    if (file == NULL || alog_write_all(file->descriptor, run->rest, run->rest_length) != 0)
         alog_failed(host, errno);
 }
 
-/* Brings a file to the disk, where it is there. */
+/* Brings a file to the disk, where it is there, and behind it the names of the folder, where these changed. (A system of files that has no such
+   call for folders says EINVAL.) */
 static inline int alog_host_sync(alog_host *host, const alog_record *record)
 {
-    const int descriptor = alog_file_of(host, record->name, record->name_length, 0);
-    int failed;
-    if (descriptor < 0)
+    alog_open_file *file = alog_file_of(host, record->name, record->name_length, 0);
+    if (file == NULL || alog_sync(file->descriptor, 0) != 0)
         return -1;
-    do
-        failed = fdatasync(descriptor);
-    while (failed != 0 && errno == EINTR);
+    file->is_dirty = 0;
+    if (!host->is_changed)
+        return 0;
+    host->is_changed = 0;
+    return alog_sync(host->folder, 1) != 0 && errno != EINVAL ? -1 : 0;
+}
+
+/* Renames a file. Where that fails it keeps its name, and so does the next one, which was to get that name: it would replace the one that
+   stayed. A rotation renames from the last file down, so that all files behind stay as they are. */
+static inline int alog_host_rename(alog_host *host, const char *name, const char *rest)
+{
+    int failed = 0;
+    if (strcmp(rest, host->kept) != 0) {
+        failed = renameat(host->folder, name, host->folder, rest);
+        if (failed == 0 || errno == ENOENT) {
+            if (strcmp(name, host->kept) == 0)
+                host->kept[0] = 0;
+            return failed;
+        }
+    }
+    memcpy(host->kept, name, strlen(name) + 1);
     return failed;
 }
 
@@ -404,11 +465,12 @@ static inline void alog_host_change(alog_host *host, const alog_record *record)
         alog_failed(host, EBUSY);
     } else {
         alog_file_leave(host, record->name, record->name_length);
+        host->is_changed = 1;
         if (record->deed == ALOG_REMOVE) {
             failed = unlinkat(host->folder, name, 0);
         } else {
             alog_file_leave(host, record->rest, record->rest_length);
-            failed = renameat(host->folder, name, host->folder, rest);
+            failed = alog_host_rename(host, name, rest);
         }
     }
     if (failed != 0 && errno != ENOENT)
@@ -477,11 +539,19 @@ static inline enum alog_answer alog_folder_refused(alog_host *host, const char *
     return ALOG_NO_STORE;
 }
 
+/* Refuses it for the sake of a file. */
+static inline enum alog_answer alog_file_refused(alog_host *host, const char *name, const char *folder, const char *behind, int error)
+{
+    alog_add_words(host, "the file ");
+    alog_add_words(host, name);
+    return alog_folder_refused(host, " of ", folder, behind, error);
+}
+
 /* Holds the folder by its lock. */
 static inline enum alog_answer alog_folder_hold(alog_host *host, const char *folder)
 {
     int failed;
-    host->held = openat(host->folder, ALOG_LOCK, O_RDWR | O_CREAT | O_CLOEXEC | O_NOFOLLOW | O_NOCTTY | O_NONBLOCK, 0644);
+    host->held = alog_open_at(host->folder, ALOG_LOCK, O_RDWR | O_CREAT | O_NOFOLLOW | O_NOCTTY | O_NONBLOCK);
     if (host->held < 0)
         return alog_folder_refused(host, "", folder, "/" ALOG_LOCK " cannot be locked: ", errno);
     do
@@ -500,7 +570,7 @@ static inline enum alog_answer alog_folder_tell_one(alog_host *host, const char 
     if (strlen(name) > ALOG_FOUND_MAX)
         return ALOG_DONE;
     if (fstatat(host->folder, name, &found, AT_SYMLINK_NOFOLLOW) != 0)
-        return errno == ENOENT ? ALOG_DONE : alog_folder_refused(host, "a file of ", folder, " cannot be looked at: ", errno);
+        return errno == ENOENT ? ALOG_DONE : alog_file_refused(host, name, folder, " cannot be looked at: ", errno);
     if (!S_ISREG(found.st_mode))
         return ALOG_DONE;
     answer = alog_found(&host->files, name, ALOG_CAST(uint64_t, found.st_size));
@@ -511,7 +581,7 @@ static inline enum alog_answer alog_folder_tell_one(alog_host *host, const char 
 static inline enum alog_answer alog_folder_tell(alog_host *host, const char *folder)
 {
     enum alog_answer answer = ALOG_DONE;
-    const int own = openat(host->folder, ".", O_RDONLY | O_DIRECTORY | O_CLOEXEC);
+    const int own = alog_open_at(host->folder, ".", O_RDONLY | O_DIRECTORY);
     DIR *list = own < 0 ? NULL : fdopendir(own);
     if (list == NULL) {
         answer = alog_folder_refused(host, "the files of ", folder, " cannot be listed: ", errno);
@@ -534,12 +604,46 @@ static inline enum alog_answer alog_folder_tell(alog_host *host, const char *fol
     return answer;
 }
 
+/* Looks at the file of a sink: it may not be the lock, and where it is there it can be opened to append. */
+static inline enum alog_answer alog_sink_look(alog_host *host, const alog_record *record, const char *folder)
+{
+    char name[ALOG_NAME_MAX + 1];
+    const int descriptor = alog_file_open(host, record->name, record->name_length, 0), error = errno;
+    alog_ended(name, record->name, record->name_length);
+    if (strcmp(name, ALOG_LOCK) == 0)
+        return alog_file_refused(host, name, folder, " is its lock, which no sink may have", 0);
+    if (descriptor >= 0) {
+        close(descriptor);
+        return ALOG_DONE;
+    }
+    if (error == EINVAL || error == ELOOP || error == ENXIO)
+        return alog_file_refused(host, name, folder, " is no regular file", 0);
+    return error == ENOENT ? ALOG_DONE : alog_file_refused(host, name, folder, " cannot be written: ", error);
+}
+
+/* Looks at the files of the sinks, which the library alone can tell: those of a pool of the same configuration that is opened and ended at once,
+   since the end of a pool flushes each sink. */
+static inline enum alog_answer alog_sinks_look(alog_host *host, const char *document, size_t length, const char *folder)
+{
+    alog_pool pool = {0, NULL};
+    alog_report report;
+    alog_record record;
+    size_t count = 0, at;
+    enum alog_answer answer = alog_open(&pool, &host->files, document, length, 0, 1, host->told, sizeof host->told);
+    if (answer == ALOG_DONE)
+        answer = alog_shutdown(&pool, &report);
+    while (answer == ALOG_DONE && alog_take(&host->files, host->area, ALOG_AREA, &count) == ALOG_DONE)
+        for (at = 0; answer == ALOG_DONE && alog_next_record(host->area, count, &at, &record) > 0;)
+            answer = alog_sink_look(host, &record, folder);
+    return answer == ALOG_DONE ? alog_close(&host->files) : answer;
+}
+
 /* Opens the folder, holds it, and tells the library what is in it. */
 static inline enum alog_answer alog_folder_open(alog_host *host, const char *folder)
 {
     enum alog_answer answer;
     host->held = -1;
-    host->folder = open(folder, O_RDONLY | O_DIRECTORY | O_CLOEXEC);
+    host->folder = alog_open_at(AT_FDCWD, folder, O_RDONLY | O_DIRECTORY);
     if (host->folder < 0 || faccessat(host->folder, ".", W_OK | X_OK, AT_EACCESS) != 0)
         return alog_folder_refused(host, "no files can be written to ", folder, ": ", errno);
     answer = alog_folder_hold(host, folder);
@@ -629,18 +733,28 @@ static inline void *alog_seat_run(void *at)
     }
 }
 
-/* Starts the thread of a worker, which takes no signals: those are the program's. */
+/* The signals that a worker's thread holds back, which are the program's: all but those by which a fault of the thread itself is told. */
+static inline void alog_signals_of_worker(sigset_t *to)
+{
+    static const int own[] = {SIGSEGV, SIGBUS, SIGFPE, SIGILL, SIGTRAP, SIGSYS, SIGABRT};
+    size_t number;
+    sigfillset(to);
+    for (number = 0; number < sizeof own / sizeof own[0]; number++)
+        sigdelset(to, own[number]);
+}
+
+/* Starts the thread of a worker. */
 static inline enum alog_answer alog_seat_start(alog_host *host, alog_seat *seat)
 {
-    sigset_t all, before;
+    sigset_t back, before;
     int failed;
     enum alog_answer answer = alog_make_worker(&host->pool, &seat->worker);
     if (answer != ALOG_DONE)
         return answer;
     seat->host = host;
     seat->ended = 0;
-    sigfillset(&all);
-    pthread_sigmask(SIG_SETMASK, &all, &before);
+    alog_signals_of_worker(&back);
+    pthread_sigmask(SIG_SETMASK, &back, &before);
     failed = pthread_create(&seat->thread, NULL, alog_seat_run, seat);
     pthread_sigmask(SIG_SETMASK, &before, NULL);
     if (failed) {
@@ -684,16 +798,37 @@ static inline enum alog_answer alog_host_open(alog_host *host, const char *docum
     const size_t most_producers = ALOG_PRODUCERS_MAX, most_batch = ALOG_BATCH;
     const size_t areas = options->areas > 0 ? options->areas : ALOG_AREAS * options->workers;
     const size_t producers = options->producers > 0 ? options->producers : most_producers;
-    const size_t share = areas / options->workers;
+    const size_t batch = areas / options->workers - 2;
     enum alog_answer answer;
-    host->batch = share < 3 ? 1 : share - 2 < most_batch ? share - 2 : most_batch;
+    host->batch = batch < most_batch ? batch : most_batch;
     host->sync = options->sync;
     host->area = ALOG_CAST(char *, malloc(ALOG_AREA));
     if (host->area == NULL)
         return ALOG_NO_MEMORY;
     answer = alog_folder_open(host, folder);
     if (answer == ALOG_DONE)
+        answer = alog_sinks_look(host, document, length, folder);
+    if (answer == ALOG_DONE)
+        answer = alog_folder_tell(host, folder);
+    if (answer == ALOG_DONE)
         answer = alog_open(&host->pool, &host->files, document, length, producers, areas, host->told, sizeof host->told);
+    return answer;
+}
+
+/* Tests what the options say; where that cannot be, the words say why. */
+static inline enum alog_answer alog_options_test(alog_host *host, const alog_options *options)
+{
+    enum alog_answer answer = ALOG_DONE;
+    if (options->workers < 1 || options->workers > ALOG_WORKERS_MAX) {
+        alog_add_words(host, "a host has 1 to 64 workers");
+        answer = ALOG_TOO_MANY;
+    } else if (options->producers > ALOG_PRODUCERS_MAX) {
+        alog_add_words(host, "a host has at most 4096 clients in its life");
+        answer = ALOG_TOO_MANY;
+    } else if (options->areas > 0 && options->areas / options->workers < ALOG_AREAS_MIN) {
+        alog_add_words(host, "each worker wants 3 areas of each sink or more");
+        answer = ALOG_TOO_SHORT;
+    }
     return answer;
 }
 
@@ -711,10 +846,13 @@ static inline enum alog_answer alog_start_with(alog_host *host, const char *docu
         return ALOG_IN_USE;
     host->told[0] = 0;
     host->folder = host->held = -1;
+    host->kept[0] = 0;
+    host->is_changed = 0;
     host->failures = 0;
     host->failed_errno = 0;
-    if (options->workers < 1 || options->workers > ALOG_WORKERS_MAX)
-        return ALOG_TOO_MANY;
+    answer = alog_options_test(host, options);
+    if (answer != ALOG_DONE)
+        return answer;
     answer = alog_host_open(host, document, length, folder, options);
     if (answer != ALOG_DONE) {
         alog_folder_close(host);
@@ -730,6 +868,8 @@ static inline enum alog_answer alog_start_with(alog_host *host, const char *docu
     host->is_open = 1;
     while (host->workers < options->workers && answer == ALOG_DONE)
         answer = alog_seat_start(host, &host->seats[host->workers]);
+    if (answer == ALOG_TOO_MANY)
+        alog_add_words(host, "the configuration says fewer workers");
     if (answer != ALOG_DONE)
         alog_host_end(host, &report);
     return answer;
@@ -767,7 +907,8 @@ static inline enum alog_answer alog_client_open(alog_host *host, alog_client *cl
     if (!host->is_open)
         return ALOG_NO_HANDLE;
     pthread_mutex_lock(&host->lock);
-    answer = alog_make_producer(&host->pool, &client->producer);
+    /* (one that did not end has no workers any more) */
+    answer = __atomic_load_n(&host->is_ending, __ATOMIC_SEQ_CST) ? ALOG_NO_HANDLE : alog_make_producer(&host->pool, &client->producer);
     if (answer == ALOG_DONE) {
         client->host = host;
         host->clients++;

@@ -10,8 +10,9 @@
 // is set by spdlog has no effect. A message goes on where the levels of both, of spdlog's logger and of alog's, let it: alog's is info where
 // the configuration says none. Each thread that logs has a client of its own, which goes to the next new thread when it ends.
 //
-// A message that alog refuses, as a text that is not UTF-8 or is too long, becomes a spdlog_ex, which spdlog hands to its error handler. What
-// is discarded since the queue is full is told by the report alone.
+// A message that alog refuses, as a text that is not UTF-8 or is too long, becomes a spdlog_ex, which spdlog hands to its error handler, and so
+// does what a thread logs when its thread-local objects are destroyed and its client is gone. A message whose source is too long goes without it.
+// What is discarded since the queue is full is told by the report alone.
 //
 // C++11, and spdlog 1.5 or later.
 #ifndef ALOG_SPDLOG_H
@@ -76,6 +77,8 @@ class host : public std::enable_shared_from_this<host> {
 
     // The client of this thread, which is opened at its first use.
     alog_client &mine() {
+        if (is_over())
+            throw spdlog::spdlog_ex("alog: this thread ends, and has no client any more");
         for (const lease &it : leases().all)
             if (it.number == number_)
                 return *it.client;
@@ -93,11 +96,18 @@ class host : public std::enable_shared_from_this<host> {
     struct lease_list {
         std::vector<lease> all;
         ~lease_list() {
+            is_over() = true;
             for (const lease &it : all)
                 if (const std::shared_ptr<host> from = it.from.lock())
                     from->take_back(it.client);
         }
     };
+
+    // Whether the list of this thread is destroyed; it has no destructor of its own, and so is there to the thread's end.
+    static bool &is_over() {
+        static thread_local bool over = false;
+        return over;
+    }
 
     static lease_list &leases() {
         static thread_local lease_list list;
@@ -152,12 +162,17 @@ class spdlog_sink : public spdlog::sinks::sink {
     void log(const spdlog::details::log_msg &message) override {
         const std::chrono::nanoseconds time = message.time.time_since_epoch();
         const spdlog::source_loc &place = message.source;
-        const char *function = place.funcname == nullptr ? "" : place.funcname;
-        const alog_source source = {place.filename, static_cast<std::uint32_t>(place.line), function};
+        const char *file = place.filename == nullptr ? "" : place.filename, *function = place.funcname == nullptr ? "" : place.funcname;
+        const alog_source source = {file, static_cast<std::uint32_t>(place.line), function};
         const alog_level level = static_cast<alog_level>(message.level);
         const alog_source *from = place.empty() ? nullptr : &source;
-        const alog_message it = {logger_, level, time.count(), message.payload.data(), message.payload.size(), from};
-        expect(alog_post_wait(&host_->mine(), &it));
+        alog_message it = {logger_, level, time.count(), message.payload.data(), message.payload.size(), from};
+        alog_answer answer = alog_post_wait(&host_->mine(), &it);
+        if (answer == ALOG_SOURCE_TOO_LONG) {
+            it.source = nullptr;
+            answer = alog_post_wait(&host_->mine(), &it);
+        }
+        expect(answer);
     }
 
     // Posts a flush: what was logged before is in its files when a worker comes to it.

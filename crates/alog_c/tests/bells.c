@@ -106,6 +106,7 @@ static void waits_for_room(const char *folder, unsigned count)
 
 static void refusals(const char *folder)
 {
+    static const alog_options many = {1, ALOG_PRODUCERS_MAX + 1, 0, 0}, few = {2, 1, 5, 0};
     static alog_host none;
     alog_client client = {NULL, {0, NULL}};
     alog_report report;
@@ -113,7 +114,12 @@ static void refusals(const char *folder)
     EXPECT(alog_start(&none, "queue = 3", 9, folder, 1), ALOG_BAD_CONFIG);
     EXPECT_TEXT(none.told, "queue = 3: a value that its key can not have; it may have a power of two, 2 to 65536");
     EXPECT(alog_start(&none, "", 0, folder, 0), ALOG_TOO_MANY);
+    EXPECT_TEXT(none.told, "a host has 1 to 64 workers");
     EXPECT(alog_start(&none, "", 0, folder, 65), ALOG_TOO_MANY);
+    EXPECT(alog_start_with(&none, "", 0, folder, &many), ALOG_TOO_MANY);
+    EXPECT_TEXT(none.told, "a host has at most 4096 clients in its life");
+    EXPECT(alog_start_with(&none, "", 0, folder, &few), ALOG_TOO_SHORT);
+    EXPECT_TEXT(none.told, "each worker wants 3 areas of each sink or more");
     EXPECT(alog_start(&none, "", 0, NULL, 1), ALOG_NULL);
     EXPECT(alog_start(&none, NULL, 1, folder, 1), ALOG_NULL);
     EXPECT(alog_start_with(&none, "", 0, folder, NULL), ALOG_NULL);
@@ -138,15 +144,20 @@ static void refusals(const char *folder)
     EXPECT(alog_stop(&host, &report), ALOG_DONE);
 }
 
-/* More workers than the configuration has: those that were started end again, and the folder is free. */
+/* More workers than the configuration has: those that were started end again, and the folder is free. The least of areas and the most clients
+   will do. */
 static void too_many_workers(const char *folder)
 {
+    static const alog_options bounds = {2, ALOG_PRODUCERS_MAX, 2 * ALOG_AREAS_MIN, 0};
     static const char config[] = "queue = 2\nworkers = 2\n[[sink]]\nname = \"file\"\nkind = \"memory\"\n"
                                  "[[logger]]\nname = \"net\"\nsinks = [\"file\"]\n";
     alog_report report;
     EXPECT(alog_start(&host, config, sizeof config - 1, folder, 3), ALOG_TOO_MANY);
-    EXPECT(alog_start(&host, config, sizeof config - 1, folder, 2), ALOG_DONE);
+    EXPECT_TEXT(host.told, "the configuration says fewer workers");
+    EXPECT(alog_start_with(&host, config, sizeof config - 1, folder, &bounds), ALOG_DONE);
+    EXPECT(host.batch, 1);
     EXPECT(alog_stop(&host, &report), ALOG_DONE);
+    EXPECT(report.faults, 0);
 }
 
 int main(int argc, char **argv)

@@ -1,12 +1,13 @@
 /* Each call of a host on its files fails in turn, is interrupted, or takes a byte less: calls FOLDER. It is linked with --wrap for write, openat,
-   renameat, unlinkat, fdatasync and close. A call that fails is counted once and the rest goes on; the others lose nothing. */
+   renameat, unlinkat, fdatasync, fsync and close. A call that fails is counted once and the rest goes on; the others lose nothing. Each open of a
+   start fails in turn, or is interrupted. And what was written is brought to the disk before its file is closed, and so are the folder's names. */
 #define _GNU_SOURCE
 #include "alog_host.h"
 #include "trial.h"
 
 #include <stdarg.h>
 
-enum { LINES = 12 };
+enum { LINES = 12, DESCRIPTORS = 1024 };
 
 static const char config[] = "queue = 64\n"
                              "[[sink]]\nname = \"a\"\nkind = \"rotating\"\nfile = \"a.txt\"\npattern = \"%v\"\nmax_size = 20\nmax_files = 1\n"
@@ -21,6 +22,10 @@ static alog_host host;
 /* whether calls are counted, how many there were, which of them it is, from 1 on, and what becomes of it */
 static int is_armed, calls, wanted;
 static enum way way;
+/* which descriptors have what was not brought to the disk, whether the folder has, how often a file was closed so, and whether the last call that
+   failed was an open */
+static char is_dirty[DESCRIPTORS];
+static int is_changed, closed_dirty, was_open;
 
 /* Whether this call is the one, and of a kind of which that may become. */
 static int is_it(int goes_on, int is_write)
@@ -46,10 +51,13 @@ int __wrap_openat(int folder, const char *path, int flags, ...);
 int __wrap_renameat(int from_folder, const char *from, int to_folder, const char *to);
 int __wrap_unlinkat(int folder, const char *path, int flags);
 int __wrap_fdatasync(int descriptor);
+int __wrap_fsync(int descriptor);
 int __wrap_close(int descriptor);
 
 ssize_t __wrap_write(int descriptor, const void *bytes, size_t length)
 {
+    if (descriptor < DESCRIPTORS)
+        is_dirty[descriptor] = 1;
     if (is_it(1, 1))
         return way == SHORT ? __real_write(descriptor, bytes, 1) : refuse();
     return __real_write(descriptor, bytes, length);
@@ -63,30 +71,54 @@ int __wrap_openat(int folder, const char *path, int flags, ...)
     if (flags & O_CREAT)
         mode = va_arg(more, mode_t);
     va_end(more);
-    return is_it(1, 0) ? refuse() : __real_openat(folder, path, flags, mode);
+    is_changed |= (flags & O_CREAT) != 0;
+    if (is_it(1, 0)) {
+        was_open = 1;
+        return refuse();
+    }
+    return __real_openat(folder, path, flags, mode);
 }
 
 int __wrap_renameat(int from_folder, const char *from, int to_folder, const char *to)
 {
+    is_changed = 1;
     return is_it(0, 0) ? refuse() : __real_renameat(from_folder, from, to_folder, to);
 }
 
 int __wrap_unlinkat(int folder, const char *path, int flags)
 {
+    is_changed = 1;
     return is_it(0, 0) ? refuse() : __real_unlinkat(folder, path, flags);
 }
 
 /* (that a disk has what it has is not tested) */
 int __wrap_fdatasync(int descriptor)
 {
-    (void)descriptor;
-    return is_it(1, 0) ? refuse() : 0;
+    if (is_it(1, 0))
+        return refuse();
+    if (descriptor < DESCRIPTORS)
+        is_dirty[descriptor] = 0;
+    return 0;
+}
+
+/* (only a folder is brought there by it) */
+int __wrap_fsync(int descriptor)
+{
+    EXPECT(descriptor, host.folder);
+    if (is_it(1, 0))
+        return refuse();
+    is_changed = 0;
+    return 0;
 }
 
 /* (a close that fails has closed its file, and those of the folder and its lock are not counted) */
 int __wrap_close(int descriptor)
 {
     const int is_file = descriptor != host.folder && descriptor != host.held, closed = __real_close(descriptor);
+    if (descriptor < DESCRIPTORS) {
+        closed_dirty += is_dirty[descriptor];
+        is_dirty[descriptor] = 0;
+    }
     return is_file && is_it(0, 0) ? refuse() : closed;
 }
 
@@ -112,6 +144,7 @@ static int run(const char *folder, int number)
     calls = 0;
     wanted = number;
     is_armed = 1;
+    is_changed = closed_dirty = 0;
     for (int i = 0; i < LINES; i++)
         EXPECT(alog_log_wait(&client, 0, ALOG_INFO, "of ten...", 9), ALOG_DONE);
     EXPECT(alog_client_close(&client), ALOG_DONE);
@@ -126,6 +159,7 @@ static int run(const char *folder, int number)
         printf("(call %d, way %d)\n", number, (int)way);
     EXPECT(host.failed_errno, failures ? EIO : 0);
     if (!failures) {
+        EXPECT(closed_dirty + is_changed, 0);
         EXPECT(length_of(folder, "a.txt"), 20);
         EXPECT(length_of(folder, "a.1.txt"), 20);
         EXPECT(length_of(folder, "b.txt"), 20);
@@ -133,6 +167,47 @@ static int run(const char *folder, int number)
     /* a line that was not written is missing, and no other one */
     EXPECT(length_of(folder, "c.txt") + (failures && length_of(folder, "c.txt") < 10 * LINES ? 10 : 0), 10 * LINES);
     return 1;
+}
+
+/* Many lines, and no flush but those of a worker that rests: each file that makes way is on the disk before. */
+static void flush_seldom(const char *folder)
+{
+    static const alog_options options = {1, 1, 0, 1};
+    static const char seldom[] = "queue = 64\n"
+                                 "[[sink]]\nname = \"a\"\nkind = \"rotating\"\nfile = \"a.txt\"\npattern = \"%v\"\nmax_size = 20\nmax_files = 1\n"
+                                 "[[logger]]\nname = \"net\"\nsinks = [\"a\"]\n";
+    alog_client client = {NULL, {0, NULL}};
+    alog_report report;
+    is_changed = closed_dirty = 0;
+    EXPECT(alog_start_with(&host, seldom, sizeof seldom - 1, folder, &options), ALOG_DONE);
+    EXPECT(alog_client_open(&host, &client), ALOG_DONE);
+    for (int i = 0; i < 1000; i++)
+        EXPECT(alog_log_wait(&client, 0, ALOG_INFO, "of ten...", 9), ALOG_DONE);
+    EXPECT(alog_client_close(&client), ALOG_DONE);
+    EXPECT(alog_stop(&host, &report), ALOG_DONE);
+    EXPECT(report.faults + host.failures, 0);
+    EXPECT(closed_dirty + is_changed, 0);
+    EXPECT(length_of(folder, "a.txt"), 20);
+    EXPECT(length_of(folder, "a.1.txt"), 20);
+}
+
+/* A start while the call of this number goes wrong; answers whether there was one. It is refused where that was an open that failed, and nothing
+   is left of it. */
+static int begin(const char *folder, int number)
+{
+    alog_report report;
+    alog_answer answer;
+    calls = was_open = 0;
+    wanted = number;
+    is_armed = 1;
+    answer = alog_start(&host, config, sizeof config - 1, folder, 1);
+    is_armed = 0;
+    EXPECT(answer, way == FAILS && was_open ? ALOG_NO_STORE : ALOG_DONE);
+    EXPECT(host.told[0] == 0, answer == ALOG_DONE);
+    if (answer == ALOG_DONE)
+        EXPECT(alog_stop(&host, &report), ALOG_DONE);
+    EXPECT(host.pool.kind + host.files.kind + host.is_open, 0);
+    return calls >= number;
 }
 
 int main(int argc, char **argv)
@@ -147,6 +222,15 @@ int main(int argc, char **argv)
             number++;
         printf("calls: %d calls %s in turn\n", number - 1, ways[at]);
         EXPECT(number > 60, 1);
+    }
+    flush_seldom(argv[1]);
+    for (int at = FAILS; at <= INTERRUPTED; at++) {
+        int number = 1;
+        way = (enum way)at;
+        while (begin(argv[1], number) && trial_failed < 20)
+            number++;
+        printf("calls: %d calls of a start %s in turn\n", number - 1, ways[at]);
+        EXPECT(number > 8, 1);
     }
     return trial_end();
 }

@@ -6,6 +6,8 @@
 #include <sys/mount.h>
 #include <sys/resource.h>
 
+enum { SECONDS = 10 };
+
 static alog_host host;
 static alog_client client;
 static alog_report report;
@@ -15,13 +17,12 @@ static const char two[] = "queue = 64\n"
                           "[[sink]]\nname = \"full\"\nkind = \"memory\"\nfile = \"full.txt\"\npattern = \"%v\"\n"
                           "[[sink]]\nname = \"good\"\nkind = \"memory\"\nfile = \"good.txt\"\npattern = \"%v\"\nlevel = \"error\"\n"
                           "[[logger]]\nname = \"both\"\nsinks = [\"full\", \"good\"]\n";
-static const char five[] = "queue = 64\n"
+static const char four[] = "queue = 64\n"
                            "[[sink]]\nname = \"folder\"\nkind = \"memory\"\npattern = \"%v\"\n"
                            "[[sink]]\nname = \"link\"\nkind = \"memory\"\npattern = \"%v\"\n"
                            "[[sink]]\nname = \"pipe\"\nkind = \"memory\"\npattern = \"%v\"\n"
-                           "[[sink]]\nname = \"lock\"\nkind = \"memory\"\nfile = \".alog.lock\"\npattern = \"%v\"\n"
                            "[[sink]]\nname = \"good\"\nkind = \"memory\"\npattern = \"%v\"\n"
-                           "[[logger]]\nname = \"all\"\nsinks = [\"folder\", \"link\", \"pipe\", \"lock\", \"good\"]\n";
+                           "[[logger]]\nname = \"all\"\nsinks = [\"folder\", \"link\", \"pipe\", \"good\"]\n";
 
 /* A folder in the folder of the test. */
 static const char *inner(const char *folder, const char *name)
@@ -139,22 +140,128 @@ static void full_file(const char *folder)
     EXPECT(length_of(place, "full.txt"), 1005);
 }
 
-/* Sinks whose files are a folder, a link, a pipe that nobody reads and the lock. What a link leads to stays as it is. */
+/* A start is refused for the sake of this file, in these words behind its folder, and nothing is left of it. */
+static void refused_file(const char *config, const char *name, const char *behind)
+{
+    char words[700];
+    const int before = descriptors();
+    snprintf(words, sizeof words, "the file %s of %s%s", name, place, behind);
+    EXPECT(alog_start(&host, config, strlen(config), place, 1), ALOG_NO_STORE);
+    EXPECT_TEXT(host.told, words);
+    EXPECT(host.pool.kind + host.files.kind + host.is_open, 0);
+    EXPECT(host.area == NULL, 1);
+    EXPECT(descriptors(), before);
+}
+
+/* Sinks whose files are a folder, a link and a pipe that nobody reads: a start is refused where they are there, and when they come later, their
+   lines are missing. What a link leads to stays as it is. */
 static void odd_files(const char *folder)
 {
     snprintf(place, sizeof place, "%s", inner(folder, "files"));
-    EXPECT(mkdir(path_of(place, "folder"), 0777), 0);
-    EXPECT(symlink("target", path_of(place, "link")), 0);
     fclose(fopen(path_of(place, "target"), "w"));
-    EXPECT(mkfifo(path_of(place, "pipe"), 0666), 0);
-    start(five, place);
+    for (int round = 0; round < 2; round++) {
+        if (round == 1)
+            start(four, place);
+        EXPECT(mkdir(path_of(place, "folder"), 0777), 0);
+        if (round == 0) {
+            refused_file(four, "folder", " cannot be written: Is a directory");
+            EXPECT(rmdir(path_of(place, "folder")), 0);
+        }
+        EXPECT(symlink("target", path_of(place, "link")), 0);
+        if (round == 0) {
+            refused_file(four, "link", " is no regular file");
+            EXPECT(unlink(path_of(place, "link")), 0);
+        }
+        EXPECT(mkfifo(path_of(place, "pipe"), 0666), 0);
+        if (round == 0) {
+            refused_file(four, "pipe", " is no regular file");
+            EXPECT(unlink(path_of(place, "pipe")), 0);
+        }
+    }
     EXPECT(alog_log_wait(&client, 0, ALOG_INFO, "line", 4), ALOG_DONE);
     stop();
-    EXPECT(host.failures, 4);
+    EXPECT(host.failures, 3);
     EXPECT(host.failed_errno == EISDIR || host.failed_errno == EINVAL, 1);
     EXPECT(length_of(place, "target"), 0);
-    EXPECT(length_of(place, ".alog.lock"), 0);
     EXPECT(length_of(place, "good"), 5);
+}
+
+/* No sink has the lock, however its name is spelled, nor has a member of a fan. A file without permission is refused, and so is nothing else that
+   is there. */
+static void looks(const char *folder)
+{
+    static const char locked[] = "queue = 64\n[[sink]]\nname = \"a\"\nkind = \"%s\"\nfile = \"%s\"\n%s"
+                                 "[[sink]]\nname = \"fan\"\nkind = \"fan\"\nof = [\"a\"]\n[[logger]]\nname = \"net\"\nsinks = [\"fan\"]\n";
+    static const char *const sized = "max_size = 100\nmax_files = 1\n";
+    static const char words[] = " is its lock, which no sink may have";
+    char config[600];
+    snprintf(place, sizeof place, "%s", inner(folder, "looks"));
+    snprintf(config, sizeof config, locked, "memory", ".alog.lock", "");
+    refused_file(config, ".alog.lock", words);
+    snprintf(config, sizeof config, locked, "memory", "\\u002ealog.loc\\u006b", "");
+    refused_file(config, ".alog.lock", words);
+    snprintf(config, sizeof config, locked, "rotating", ".alog.lock", sized);
+    refused_file(config, ".alog.lock", words);
+    snprintf(config, sizeof config, locked, "daily", ".alog.lock", "");
+    EXPECT(alog_start(&host, config, strlen(config), place, 1), ALOG_DONE);
+    EXPECT(alog_stop(&host, &report), ALOG_DONE);
+    fclose(fopen(path_of(place, "full.txt"), "w"));
+    EXPECT(chmod(path_of(place, "full.txt"), 0444), 0);
+    if (geteuid() != 0)
+        refused_file(two, "full.txt", " cannot be written: Permission denied");
+    EXPECT(chmod(path_of(place, "full.txt"), 0600), 0);
+    EXPECT(alog_start(&host, two, sizeof two - 1, place, 1), ALOG_DONE);
+    EXPECT(alog_stop(&host, &report), ALOG_DONE);
+    EXPECT(report.asked + report.faults + host.failures, 0);
+    EXPECT(length_of(place, "full.txt"), 0);
+}
+
+static void expect_file(const char *name, const char *wanted)
+{
+    size_t length;
+    char *bytes = bytes_of(path_of(place, name), &length);
+    EXPECT_TEXT(bytes, wanted);
+    free(bytes);
+}
+
+/* Logs a line, and waits until it is in its file. */
+static void log_into(const char *name, const char *text, size_t length)
+{
+    const int64_t end = alog_now() + SECONDS * (int64_t)1000000000;
+    EXPECT(alog_log_wait(&client, 0, ALOG_INFO, text, strlen(text)), ALOG_DONE);
+    while (length_of(place, name) != length && alog_now() < end)
+        sched_yield();
+    EXPECT(length_of(place, name), length);
+}
+
+/* A rotation whose second file cannot become the third, since a folder has that name: no file is replaced, the sink goes on in its first one,
+   and when the folder is gone, so does the rotation. */
+static void kept_files(const char *folder)
+{
+    static const char config[] = "queue = 64\n[[sink]]\nname = \"a\"\nkind = \"rotating\"\nfile = \"log.txt\"\npattern = \"%v\"\n"
+                                 "max_size = 10\nmax_files = 3\n[[logger]]\nname = \"net\"\nsinks = [\"a\"]\n";
+    snprintf(place, sizeof place, "%s", inner(folder, "kept"));
+    EXPECT(mkdir(path_of(place, "log.3.txt"), 0777), 0);
+    start(config, place);
+    log_into("log.txt", "1111111", 8);
+    log_into("log.txt", "22222222", 9);
+    log_into("log.txt", "333333333", 10);
+    EXPECT(alog_failures(&host, NULL), 0);
+    log_into("log.txt", "4444444", 18);
+    log_into("log.txt", "5555555", 26);
+    EXPECT(alog_failures(&host, NULL), 2);
+    expect_file("log.txt", "333333333\n4444444\n5555555\n");
+    expect_file("log.1.txt", "22222222\n");
+    expect_file("log.2.txt", "1111111\n");
+    EXPECT(rmdir(path_of(place, "log.3.txt")), 0);
+    log_into("log.txt", "66666", 6);
+    log_into("log.txt", "7777777", 8);
+    stop();
+    EXPECT(host.failures, 2);
+    expect_file("log.txt", "7777777\n");
+    expect_file("log.1.txt", "66666\n");
+    expect_file("log.2.txt", "333333333\n4444444\n5555555\n");
+    expect_file("log.3.txt", "22222222\n");
 }
 
 /* A folder that is removed while its host runs: what is to be made there is counted. */
@@ -194,6 +301,8 @@ int main(int argc, char **argv)
     folders(argv[1]);
     full_file(argv[1]);
     odd_files(argv[1]);
+    looks(argv[1]);
+    kept_files(argv[1]);
     removed(argv[1]);
     full_disk(argv[1]);
     return trial_end();

@@ -84,6 +84,44 @@ void messages(const std::string &folder) {
     EXPECT(thrown([&host] { host->stop(); }).empty(), 0);
 }
 
+// A source without names, and one that is too long, without which the message goes.
+void sources(const std::string &folder) {
+    const auto host = alog::make_host(config, folder, 1);
+    const auto net = alog::make_logger(host, "net");
+    const std::string file(257, 'f'), function(129, 'f');
+    std::size_t errors = 0;
+    net->set_error_handler([&errors](const std::string &) { errors++; });
+    std::remove(path_of(folder.c_str(), "log.txt"));
+    net->log(spdlog::source_loc{nullptr, 7, nullptr}, spdlog::level::info, "one");
+    net->log(spdlog::source_loc{file.c_str(), 7, "f"}, spdlog::level::info, "two");
+    net->log(spdlog::source_loc{"a.cpp", 7, function.c_str()}, spdlog::level::info, "three");
+    EXPECT(host->stop().handled, 3);
+    EXPECT(errors, 0);
+    EXPECT_TEXT(content(folder).c_str(), "net I :7 one\nnet I : two\nnet I : three\n");
+}
+
+// What logs when its thread ends, behind the client of the thread or before it.
+struct late {
+    const std::shared_ptr<spdlog::logger> to;
+    ~late() { to->info("late"); }
+};
+
+void ends_of_threads(const std::string &folder) {
+    const auto host = alog::make_host(config, folder, 1);
+    const auto net = alog::make_logger(host, "net");
+    std::vector<std::string> errors;
+    net->set_error_handler([&errors](const std::string &words) { errors.push_back(words); });
+    std::thread([&net] {
+        static thread_local const late behind{net};
+        net->info("{}", behind.to == net);
+        static thread_local const late before{net};
+        net->info("{}", before.to == net);
+    }).join();
+    EXPECT(errors.size(), 1);
+    EXPECT(errors.empty() ? 0 : errors[0].find("this thread ends") != std::string::npos, 1);
+    EXPECT(host->stop().handled, 3);
+}
+
 void refusals(const std::string &folder) {
     EXPECT(thrown([&folder] { alog::make_host("queue = 3", folder, 1); }).find("it may have a power of two, 2 to 65536") != std::string::npos, 1);
     EXPECT(thrown([&folder] { alog::make_host(config, folder + "/absent", 1); }).find("no files can be written") != std::string::npos, 1);
@@ -100,6 +138,8 @@ int main(int argc, char **argv) {
         return 2;
     threads_that_come_and_go(argv[1]);
     messages(argv[1]);
+    sources(argv[1]);
+    ends_of_threads(argv[1]);
     refusals(argv[1]);
     return trial_end();
 }

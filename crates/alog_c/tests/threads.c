@@ -1,5 +1,6 @@
 /* The system gives no thread for a worker: threads FOLDER. It is linked with --wrap for pthread_create. What was started ends again, nothing
-   is left of it, and a later start goes. */
+   is left of it, and a later start goes. And which signals a worker holds back. */
+#define _POSIX_C_SOURCE 200809L
 #include "alog_host.h"
 #include "trial.h"
 
@@ -14,8 +15,18 @@ static int calls, failing;
 int __real_pthread_create(pthread_t *made, const pthread_attr_t *attributes, void *(*run)(void *), void *at);
 int __wrap_pthread_create(pthread_t *made, const pthread_attr_t *attributes, void *(*run)(void *), void *at);
 
+/* That a signal of the program goes to its own threads, and one of a fault to whoever made it. */
+static void expect_signals(void)
+{
+    sigset_t now;
+    EXPECT(pthread_sigmask(SIG_SETMASK, NULL, &now), 0);
+    EXPECT(sigismember(&now, SIGTERM) && sigismember(&now, SIGINT) && sigismember(&now, SIGCHLD) && sigismember(&now, SIGUSR1), 1);
+    EXPECT(sigismember(&now, SIGSEGV) || sigismember(&now, SIGBUS) || sigismember(&now, SIGFPE) || sigismember(&now, SIGILL), 0);
+}
+
 int __wrap_pthread_create(pthread_t *made, const pthread_attr_t *attributes, void *(*run)(void *), void *at)
 {
+    expect_signals();
     return ++calls == failing ? 11 : __real_pthread_create(made, attributes, run, at);
 }
 
@@ -24,6 +35,7 @@ int main(int argc, char **argv)
     static alog_host host;
     alog_client client = {NULL, {0, NULL}};
     alog_report report;
+    sigset_t mask;
     if (argc != 2)
         return 2;
     for (failing = 1; failing <= WORKERS; failing++) {
@@ -42,5 +54,8 @@ int main(int argc, char **argv)
     EXPECT(alog_client_close(&client), ALOG_DONE);
     EXPECT(alog_stop(&host, &report), ALOG_DONE);
     EXPECT(report.handled, 1);
+    /* the thread that started the host has its own signals again */
+    EXPECT(pthread_sigmask(SIG_SETMASK, NULL, &mask), 0);
+    EXPECT(sigismember(&mask, SIGTERM), 0);
     return trial_end();
 }
