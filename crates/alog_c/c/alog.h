@@ -479,7 +479,7 @@ static inline const char *alog_says(enum alog_answer answer)
     case ALOG_TOO_MANY: return "The pool may make no more of these.";
     case ALOG_PARTS_OUT: return "Not all producers and workers were given back.";
     case ALOG_BAD_CONFIG: return "The document is no configuration.";
-    case ALOG_NO_STORE: return "The folder takes no files, or another program holds it, or a sink cannot go on in its file.";
+    case ALOG_NO_STORE: return "The folder takes no files, or another program holds it, or a sink cannot write to its file.";
     case ALOG_TOO_SHORT: return "The memory for what is to be done to the files is too short.";
     case ALOG_BUSY_PART: return "Another thread gives a part back: try again.";
     }
