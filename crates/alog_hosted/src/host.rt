@@ -95,7 +95,7 @@ impl<S: Store> fmt::Debug for Host<S> {
 
 impl<S: Store + Drop> Host<S> {
     /// Opens a pool over a new queue and these loggers and sinks, without a thread: what is lent to its producers and workers, and what its host
-    /// keeps. It tells no gaps, whatever the setup says. A backtrace of it can not be dumped yet.
+    /// keeps. It tells no gaps, whatever the setup says.
     ///
     /// The reasons for a refusal are looked at in the order of `StartError`; what was handed over is dropped then. Among the memory that it takes
     /// is a block for each place of the queue.

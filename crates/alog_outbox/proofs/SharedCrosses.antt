@@ -1,7 +1,7 @@
 -- A store may go to another thread, and so may its drain.
 use denote.RattleType.{RattleType}
 use denote.Builtin.{unit}
-use denote.Param.Send.{IsSend, IsSync, sendable, view_send, view_sync, struct_send, struct_sync, recorded_send, recorded_sync}
+use denote.Param.Send.{IsSend, IsSync, sendable, view_send, struct_send, struct_sync, recorded_send, recorded_sync}
 use denote.Struct.Declared.{shape}
 use Rattle.std.proofs.Crossing.{Arc-send, Vec-send, Vec-sync, frees, send as heap_send, sync as heap_sync}
 use Rattle.std.specs.contracts.alloc.Global as Global

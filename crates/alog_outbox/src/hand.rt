@@ -1,6 +1,6 @@
 //! The area in hand: where the next record goes.
 ghost use Rattle.std.specs.Prelude.{◌≡◌, ◌+◌, ◌≤◌, ◌++◌, length, [], IfSome, IsNone, IsSome, IsTrue};
-ghost use Rattle.alog_outbox.specs.Calls.{call, record_of};
+ghost use Rattle.alog_outbox.specs.Calls.call;
 ghost use Rattle.alog_outbox.specs.Line.{known, IsWriter};
 ghost use Rattle.alog_outbox.specs.Views.{bytes_by, bytes_in, calls_by, HasRoom};
 
