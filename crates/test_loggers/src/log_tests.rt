@@ -37,7 +37,14 @@ fn popped(rt: &impl Abort, desk: &mut Desk<Item>) -> Item {
 }
 
 // A pop takes a message of this level, time, thread and text.
-fn takes(rt: &impl Abort, desk: &mut Desk<Item>, level: Level, time: i64, thread: u64, text: &str) {
+pub(crate) fn takes(
+    rt: &impl Abort,
+    desk: &mut Desk<Item>,
+    level: Level,
+    time: i64,
+    thread: u64,
+    text: &str,
+) {
     let is = match popped(rt, desk) {
         Item::Text(message) => {
             message.text.as_str() == text

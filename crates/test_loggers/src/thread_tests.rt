@@ -112,7 +112,7 @@ impl Meeting {
 }
 
 /// A message of a thread at this time.
-fn short_message(alloc: Global, time: i64, thread: u64) -> Option<Message>
+pub(crate) fn short_message(alloc: Global, time: i64, thread: u64) -> Option<Message>
     ensures { IfSome result (IsShort TEXT_LIMIT) }
 {
     match Message::new(
@@ -138,7 +138,7 @@ fn is_short(message: &Message) -> bool
 }
 
 /// Keeps the message, where the lock is free, and answers whether it did.
-fn keep_one(
+pub(crate) fn keep_one(
     lane: &Lane<Backtrace>,
     seat: &mut LaneSeat<Backtrace>,
     scratch: &mut BacktraceScratch,
@@ -296,7 +296,7 @@ fn kept_until_held(
 }
 
 /// Whether the turn after so many that kept a message dumps: what was not kept made no turn.
-fn dumps_after(
+pub(crate) fn dumps_after(
     lane: &Lane<Backtrace>,
     seat: &mut LaneSeat<Backtrace>,
     list: Dumped,

@@ -8,32 +8,49 @@ use std::alloc::Global;
 use std::process::Abort;
 use std::test::Fail;
 
+/// The sizes of files, before anything is told.
+fn has_sizes(store: &mut Outbox) -> bool
+    ensures { store.new.line ≡ store.old.line }
+{
+    let found = store.size("a") == Ok(Some(3));
+    let absent = store.size("b") == Ok(None);
+    found && absent
+}
+
+/// Whether it is told each call but a flush, and afterwards no size.
+fn tells_each(store: &mut Outbox) -> bool
+    ensures { store.new.line ≡ store.old.line }
+{
+    let appended = [
+        store.append("b", b"one"),
+        store.append("c", b""),
+        store.append("b", b"two"),
+    ];
+    let moved = [store.rename("b", "d"), store.remove("c")];
+    let is_late = store.size("a") == Err(StoreError);
+    appended == [Ok(()); 3] && moved == [Ok(()); 2] && is_late
+}
+
+/// Whether six calls are sent by a flush, and all was taken only when they were.
+fn sends_all(store: &mut Outbox, drain: &mut Drain, host: &mut Host) -> bool
+    requires { drain.old.line ≡ store.old.line }
+{
+    let is_early = is_drained(store, drain);
+    let is_flushed = store.flush("d") == Ok(());
+    let is_sent = is_drained(store, drain);
+    let taken = host.take_all(drain, 3);
+    let is_over = is_drained(store, drain);
+    !is_early && is_flushed && !is_sent && taken == Ok(Some(6)) && is_over
+}
+
 /// Each call once, carried out.
 fn each_call(alloc: Global) -> Result<bool, Fail> {
-    let (mut store, mut drain) = opened(alloc, "a", 3, 2)?;
     let mut host = Host::new(alloc)?;
-    let sizes = store.size("a") == Ok(Some(3)) && store.size("b") == Ok(None);
-    store.append("b", b"one")?;
-    store.append("c", b"")?;
-    store.append("b", b"two")?;
-    store.rename("b", "d")?;
-    store.remove("c")?;
-    let is_early = is_drained(&mut store, &mut drain);
-    store.flush("d")?;
-    let is_sent = is_drained(&mut store, &mut drain);
-    let records = host.take_all(&mut drain, 3)?;
-    let is_over = is_drained(&mut store, &mut drain);
-    let is_late = store.size("a") == Err(StoreError);
-    Ok(
-        sizes
-            && !is_early
-            && !is_sent
-            && is_over
-            && is_late
-            && records == Some(6)
-            && host.has_file("d", b"onetwo")
-            && host.files.files().len() == 1,
-    )
+    let (mut store, mut drain) = opened(alloc, "a", 3, 2)?;
+    let is_told = has_sizes(&mut store) && tells_each(&mut store);
+    let is_sent = sends_all(&mut store, &mut drain, &mut host);
+    let is_carried_out = host.has_file("d", b"onetwo") && host.files.files().len() == 1;
+    Ok(is_told && is_sent && is_carried_out)
 }
 
 #[test]
@@ -54,28 +71,44 @@ fn flushes(store: &mut Outbox, most: usize) -> usize
     most
 }
 
+/// Whether two areas are sent, and then nothing can be told.
+fn runs_out(store: &mut Outbox) -> bool
+    ensures { store.new.line ≡ store.old.line }
+{
+    let sent = flushes(store, 5);
+    let appended = store.append("a", b"x");
+    sent == 2 && appended == Err(StoreError)
+}
+
+/// Whether one of the two comes back when it was taken, is sent again, and then both are taken.
+fn comes_back(store: &mut Outbox, drain: &mut Drain, host: &mut Host) -> bool
+    ensures store { store.new.line ≡ store.old.line }
+    ensures drain { drain.new.line ≡ drain.old.line }
+{
+    let first = host.take_all(drain, 1);
+    let sent = flushes(store, 5);
+    let rest = host.take_all(drain, 5);
+    first == Ok(Some(1)) && sent == 1 && rest == Ok(Some(2))
+}
+
+/// Whether it goes on as ever.
+fn goes_on(store: &mut Outbox, drain: &mut Drain, host: &mut Host) -> bool
+    requires { drain.old.line ≡ store.old.line }
+{
+    let told = [store.append("a", b"y"), store.flush("a")];
+    let taken = host.take_all(drain, 5);
+    let is_over = is_drained(store, drain);
+    told == [Ok(()); 2] && taken == Ok(Some(2)) && host.has_file("a", b"y") && is_over
+}
+
 /// Two areas, both sent, until one comes back.
 fn run_out(alloc: Global) -> Result<bool, Fail> {
-    let (mut store, mut drain) = opened(alloc, "a", 0, 2)?;
     let mut host = Host::new(alloc)?;
-    let first = flushes(&mut store, 5);
-    let is_full = store.append("a", b"x") == Err(StoreError);
-    let taken = host.take_all(&mut drain, 1)?;
-    let second = flushes(&mut store, 5);
-    let rest = host.take_all(&mut drain, 5)?;
-    store.append("a", b"y")?;
-    store.flush("a")?;
-    let last = host.take_all(&mut drain, 5)?;
-    Ok(
-        first == 2
-            && is_full
-            && taken == Some(1)
-            && second == 1
-            && rest == Some(2)
-            && last == Some(2)
-            && host.has_file("a", b"y")
-            && is_drained(&mut store, &mut drain),
-    )
+    let (mut store, mut drain) = opened(alloc, "a", 0, 2)?;
+    let is_out = runs_out(&mut store);
+    let is_back = comes_back(&mut store, &mut drain, &mut host);
+    let is_well = goes_on(&mut store, &mut drain, &mut host);
+    Ok(is_out && is_back && is_well)
 }
 
 #[test]

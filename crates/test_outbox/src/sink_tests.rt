@@ -145,15 +145,25 @@ fn has_text(alloc: Global, drain: &mut Drain) -> Result<bool, Fail> {
     Ok(taken == Some(2) && host.has_file("log.txt", b"info text\n"))
 }
 
-/// A fan of two sinks, each over a store of its own.
+/// A fan of two sinks, each over a store of its own, and what these hand out.
+fn fan_opened(alloc: Global) -> Result<(Sink<Outbox>, Drain, Drain), Fail> {
+    let (one, drain_of_one) = opened(alloc, "other", 5, AREAS)?;
+    let (two, drain_of_two) = opened(alloc, "other", 5, AREAS)?;
+    Ok((fan_over(alloc, one, two)?, drain_of_one, drain_of_two))
+}
+
+/// Whether a fan takes a text and flushes it. The fan is let go.
+fn ends_with_text(alloc: Global, fan: Sink<Outbox>) -> Result<bool, Fail> {
+    let mut fan = fan;
+    takes_text(alloc, &mut fan)
+}
+
+/// Whether each of the two was told that text.
 fn fan(alloc: Global) -> Result<bool, Fail> {
-    let (one, mut drain_of_one) = opened(alloc, "other", 5, AREAS)?;
-    let (two, mut drain_of_two) = opened(alloc, "other", 5, AREAS)?;
-    let mut fan = fan_over(alloc, one, two)?;
-    if !takes_text(alloc, &mut fan)? {
-        return Ok(false);
-    }
-    Ok(has_text(alloc, &mut drain_of_one)? && has_text(alloc, &mut drain_of_two)?)
+    let (fan, mut one, mut two) = fan_opened(alloc)?;
+    let is_taken = ends_with_text(alloc, fan)?;
+    let is_told = has_text(alloc, &mut one)? && has_text(alloc, &mut two)?;
+    Ok(is_taken && is_told)
 }
 
 #[test]

@@ -1,0 +1,5 @@
+use Rattle.alog_lane.specs.Calls.{IsSeatOf}
+use Rattle.test_loggers.proofs.dump_tests.Talker.keep_until_met.Given as goal
+
+abbrev pub invariant-loop-time : goal.invariant-loop-time
+invariant-loop-time l = IsSeatOf l.lane l.own.seat
